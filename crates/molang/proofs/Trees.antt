@@ -1,0 +1,62 @@
+-- Facts about forests that the laws of the passes share: which leaves stand in a forest, and what turning a gathered list round keeps.
+use Prim.Native.Nat.{ℕ}
+use mathlib.Core.Path.{_≡_, refl}
+use mathlib.Core.Bool.{Bool, true, false, _&&_, not, and-eq-true-iff, true≢false}
+use borrow.Author.Tests.{not-true}
+use Rattle.molang.specs.Forest.{Token, Forest, nil, node, turnedOnto}
+
+-- No leaf at any depth has an operator that passes P.
+unfoldable pub free : (ℕ → Bool) → Forest → Bool
+free P nil = true
+free P (node k nil rest) = not (P (k .op)) && free P rest
+free P (node k (node c cs r) rest) = free P (node c cs r) && free P rest
+
+-- No tree of the list itself is such a leaf.
+unfoldable pub clear : (ℕ → Bool) → Forest → Bool
+clear P nil = true
+clear P (node k nil rest) = not (P (k .op)) && clear P rest
+clear P (node k (node c cs r) rest) = clear P rest
+
+pub both : (a b : Bool) → (a && b) ≡ true → (a ≡ true) × (b ≡ true)
+both a b h = and-eq-true-iff a b .0 h
+
+pub and-true-true : (a b : Bool) → a ≡ true → b ≡ true → (a && b) ≡ true
+and-true-true a b p q = and-eq-true-iff a b .1 (p, q)
+
+module _ (P : ℕ → Bool) where
+  pub free-leaf : (k : Token) (rest : Forest) → free P (node k nil rest) ≡ true → (P (k .op) ≡ false) × (free P rest ≡ true)
+  unfolding free
+  free-leaf k rest h = let e = both (not (P (k .op))) (free P rest) h in (not-true (P (k .op)) (e .0), e .1)
+
+  pub free-tree : (k c : Token) (cs r rest : Forest) → free P (node k (node c cs r) rest) ≡ true → (free P (node c cs r) ≡ true) × (free P rest ≡ true)
+  unfolding free
+  free-tree k c cs r rest h = both (free P (node c cs r)) (free P rest) h
+
+  pub clear-leaf : (k : Token) (rest : Forest) → clear P (node k nil rest) ≡ true → (P (k .op) ≡ false) × (clear P rest ≡ true)
+  unfolding clear
+  clear-leaf k rest h = let e = both (not (P (k .op))) (clear P rest) h in (not-true (P (k .op)) (e .0), e .1)
+
+  pub leaf-clear : (k : Token) (rest : Forest) → P (k .op) ≡ false → clear P rest ≡ true → clear P (node k nil rest) ≡ true
+  unfolding clear
+  leaf-clear k rest e h = rw e h
+
+  pub free-clear : (f : Forest) → free P f ≡ true → clear P f ≡ true
+  unfolding clear
+  free-clear nil h = refl
+  free-clear (node k nil rest) h =
+      let e = free-leaf k rest h in
+      leaf-clear k rest (e .0) (free-clear rest (e .1))
+  free-clear (node k (node c cs r) rest) h = free-clear rest (free-tree k c cs r rest h .1)
+
+  pub clear-rest : (k : Token) (cs rest : Forest) → clear P (node k cs rest) ≡ true → clear P rest ≡ true
+  unfolding clear
+  clear-rest k nil rest h = clear-leaf k rest h .1
+  clear-rest k (node c cs r) rest h = h
+
+  pub clear-turned : (d f : Forest) → clear P d ≡ true → clear P f ≡ true → clear P (turnedOnto d f) ≡ true
+  unfolding turnedOnto clear
+  clear-turned nil f hd hf = hf
+  clear-turned (node k nil d) f hd hf =
+      let e = clear-leaf k d hd in
+      clear-turned d (node k nil f) (e .1) (leaf-clear k f (e .0) hf)
+  clear-turned (node k (node c cs r) d) f hd hf = clear-turned d (node k (node c cs r) f) hd hf
