@@ -1,3 +1,5 @@
 pub mod Computed
 pub mod Trees
 pub mod Inert
+pub mod Weight
+pub mod Light

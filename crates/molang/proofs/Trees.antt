@@ -2,6 +2,7 @@
 use Prim.Native.Nat.{ℕ}
 use mathlib.Core.Path.{_≡_, refl}
 use mathlib.Core.Bool.{Bool, true, false, _&&_, not, and-eq-true-iff, true≢false}
+use mathlib.Core.Option.{Option, none, some}
 use borrow.Author.Tests.{not-true}
 use Rattle.molang.specs.Forest.{Token, Forest, nil, node, turnedOnto}
 
@@ -16,6 +17,22 @@ unfoldable pub clear : (ℕ → Bool) → Forest → Bool
 clear P nil = true
 clear P (node k nil rest) = not (P (k .op)) && clear P rest
 clear P (node k (node c cs r) rest) = clear P rest
+
+unfoldable pub isNil : Forest → Bool
+isNil nil = true
+isNil (node k cs rest) = false
+
+-- What holds of both cases of a test holds of the test's outcome.
+pub decided : {A : Type 0} (Q : A → Type 0) (b : Bool) (x y : A) → (b ≡ true → Q x) → (b ≡ false → Q y) → Q (elim b [ true ↦ x | false ↦ y ])
+decided Q true x y p q = p refl
+decided Q false x y p q = q refl
+
+pub either : {A : Type 0} (Q : A → Type 0) (b : Bool) (x y : A) → Q x → Q y → Q (elim b [ true ↦ x | false ↦ y ])
+either Q b x y p q = decided Q b x y (λ e. p) (λ e. q)
+
+pub maybe : {A B : Type 0} (Q : A → Type 0) (o : Option B) (y : B → A) (x : A) → ((b : B) → Q (y b)) → Q x → Q (elim o [ some b ↦ y b | none ↦ x ])
+maybe Q none y x p q = q
+maybe Q (some b) y x p q = p b
 
 pub both : (a b : Bool) → (a && b) ≡ true → (a ≡ true) × (b ≡ true)
 both a b h = and-eq-true-iff a b .0 h

@@ -1,0 +1,140 @@
+-- Each pass is light: it raises no weight, and leaves no list empty that was not. For members and sections, which read the flat list, and
+-- for the unary pass, from the right, this is said by their own recursions.
+use Prim.Native.Nat.{ℕ, _+_, _*_, _≤_}
+use mathlib.Core.Path.{_≡_, refl, ap, sym}
+use mathlib.Core.Bool.{Bool, true, false, _||_, _&&_, not, true≢false, false≢true, or-true, or-false}
+use mathlib.Core.List.{List, [], _∷_}
+use mathlib.Core.Option.{Option, none, some}
+use native.Mathlib.Omega.{arith}
+use lib.Dec.{eqb}
+use borrow.Author.Tests.{not-true, eqb-true}
+use Rattle.molang.specs.Operator
+use Rattle.molang.specs.Operator.{any, isOneOf, isBracket}
+use Rattle.molang.specs.Forest.{Token, Forest, nil, node, turnedOnto, inOrder, renamed, bare}
+use Rattle.molang.specs.Message.{Message, Result, ok, fail}
+use Rattle.molang.specs.Level.{Step, stop, on, into, Level, walk, through, Gathered, gathered, waiting, nothing}
+use Rattle.molang.specs.Calls.{CallKind, queryOrLoop, math, calls, callLeaf, callStep, callResume, callFinish, callLevel, Indexing, unindexed, named, indexed, flushed, isIndex, startsWithIndex, emptyIndex, nextIndex, index, arrayStep, arrayResume, arrayFinish, arrayLevel}
+use Rattle.molang.specs.Binary.{firstLeaf, unfolded, joined, operatorAfter, binaryStep, binaryResume, binaryFinish, binaryLevel}
+use Rattle.molang.specs.Conditional.{isToken, startsWith, under, pairElse, scan, foldedFrom, dangling, undangled, conditionalStep, conditionalFinish, conditionalLevel}
+use Rattle.molang.specs.Unary.{returnStep, returnResume, returnFinish, returnLevel}
+use Rattle.molang.proofs.Trees.{free, clear, isNil, decided, either, maybe}
+use Rattle.molang.proofs.Inert.{scanned, scan-once}
+use Rattle.molang.proofs.Weight.{Weighing, weight, Ending, failed, fine, Onward, stops, goes, enters, Light, isNil-turned, isNil-inOrder, weight-inner, weight-tree, weight-turned, weight-inOrder, turned-fine}
+
+-- What a gathering level has so far, a token that waits among it.
+unfoldable pub shown : Gathered → Forest
+shown (gathered d) = d
+shown (waiting d q) = node q nil d
+
+module _ (W : Weighing) where
+  abbrev GatheredFits : Gathered → Forest → ℕ → Type 0
+  GatheredFits s f n = weight W (shown s) + weight W f ≤ n
+
+  abbrev gatheredFull : Gathered → Bool
+  gatheredFull s = not (isNil (shown s))
+
+  -- The children of a node start with nothing.
+  enters-gathered : (L : Level Gathered) (t : Gathered) (k c : Token) (cs r rest : Forest) (n : ℕ)
+    → ((kids : Forest) → isNil kids ≡ false → (weight W (shown (L .resume t k kids)) + weight W (node c cs r) + weight W rest ≤ n + weight W kids) × (gatheredFull (L .resume t k kids) ≡ true))
+    → Onward W L GatheredFits gatheredFull k (node c cs r) rest n (into t (gathered nil))
+  unfolding weight shown isNil
+  enters-gathered L t k c cs r rest n h =
+      enters {t = t} {u = gathered nil} (weight W (node c cs r)) (omega arith) refl λ kids w e. let z = h kids e in (omega arith, z .1)
+
+  abbrev CallOnward : CallKind → Token → Forest → Forest → ℕ → Step Gathered → Type 0
+  CallOnward kind k cs rest n = Onward W (callLevel kind) GatheredFits gatheredFull k cs rest n
+
+  call-kept : (kind : CallKind) (d : Forest) (k c : Token) (cs r rest : Forest) (n : ℕ) → weight W d + weight W (node k (node c cs r) rest) ≤ n → CallOnward kind k (node c cs r) rest n (into (gathered d) (gathered nil))
+  unfolding weight shown isNil callLevel callResume
+  call-kept kind d k c cs r rest n h = enters-gathered (callLevel kind) (gathered d) k c cs r rest n λ kids e. (omega (arith, weight-inner W k kids d e), refl)
+
+  call-takes : (kind : CallKind) (d : Forest) (q k c : Token) (cs r rest : Forest) (n : ℕ) → weight W (node q nil d) + weight W (node k (node c cs r) rest) ≤ n → CallOnward kind k (node c cs r) rest n (into (waiting d q) (gathered nil))
+  unfolding weight shown isNil callLevel callResume
+  call-takes kind d q k c cs r rest n h =
+      enters-gathered (callLevel kind) (waiting d q) k c cs r rest n λ kids e. (omega (arith, weight-inner W k kids nil e, W .lighter (q .op)), refl)
+
+  call-steps : (kind : CallKind) (s : Gathered) (k : Token) (cs rest : Forest) (n : ℕ) → GatheredFits s (node k cs rest) n → CallOnward kind k cs rest n (callStep kind s k cs)
+  unfolding callStep callLeaf weight shown isNil
+  call-steps kind (gathered d) k nil rest n h = either (CallOnward kind k nil rest n) (calls kind (k .op)) _ _ (goes (omega arith) refl) (goes (omega arith) refl)
+  call-steps kind (gathered d) k (node c cs r) rest n h = call-kept kind d k c cs r rest n h
+  call-steps queryOrLoop (waiting d q) k nil rest n h =
+      either (CallOnward queryOrLoop k nil rest n) (isBracket (k .op)) _ _ stops (either (CallOnward queryOrLoop k nil rest n) (calls queryOrLoop (k .op)) _ _ (goes (omega arith) refl) (goes (omega arith) refl))
+  call-steps queryOrLoop (waiting d q) k (node c cs r) rest n h =
+      either (CallOnward queryOrLoop k (node c cs r) rest n) (isBracket (k .op)) _ _ (call-takes queryOrLoop d q k c cs r rest n h) (call-kept queryOrLoop (node q nil d) k c cs r rest n h)
+  call-steps math (waiting d q) k nil rest n h = either (CallOnward math k nil rest n) (isBracket (k .op)) _ _ (goes (omega (arith, W .lighter (q .op))) refl) stops
+  call-steps math (waiting d q) k (node c cs r) rest n h = either (CallOnward math k (node c cs r) rest n) (isBracket (k .op)) _ _ (call-takes math d q k c cs r rest n h) stops
+
+  call-ends : (kind : CallKind) (s : Gathered) (n : ℕ) → GatheredFits s nil n → Ending W n (gatheredFull s) (callFinish kind s)
+  unfolding callFinish shown
+  call-ends kind (gathered d) n h = turned-fine W d n h
+  call-ends queryOrLoop (waiting d q) n h = turned-fine W (node q nil d) n h
+  call-ends math (waiting d q) n h = failed
+
+  pub call-light : (kind : CallKind) → Light W (callLevel kind)
+  unfolding callLevel nothing shown weight
+  call-light kind = record { Fits = GatheredFits; full = gatheredFull; begins = λ f. omega arith; steps = call-steps kind; ends = call-ends kind }
+
+  -- Binary levels.
+  abbrev BinaryOnward : List ℕ → Token → Forest → Forest → ℕ → Step Gathered → Type 0
+  BinaryOnward ops k cs rest n = Onward W (binaryLevel ops) GatheredFits gatheredFull k cs rest n
+
+  weight-joined : (d : Forest) (q k : Token) (cs : Forest) → weight W (joined d q k cs) ≤ W .inner + weight W (node k cs nil) + weight W d
+  unfolding joined weight
+  weight-joined nil q k cs = omega arith
+  weight-joined (node l ls d) q k cs = omega (arith, weight-tree W l ls d, weight-tree W l ls (node k cs nil))
+
+  full-joined : (d : Forest) (q k : Token) (cs : Forest) → isNil (joined d q k cs) ≡ false
+  unfolding joined isNil
+  full-joined nil q k cs = refl
+  full-joined (node l ls d) q k cs = refl
+
+  binary-kept : (ops : List ℕ) (d : Forest) (k c : Token) (cs r rest : Forest) (n : ℕ) → weight W d + weight W (node k (node c cs r) rest) ≤ n → BinaryOnward ops k (node c cs r) rest n (into (gathered d) (gathered nil))
+  unfolding weight shown isNil binaryLevel binaryResume
+  binary-kept ops d k c cs r rest n h = enters-gathered (binaryLevel ops) (gathered d) k c cs r rest n λ kids e. (omega (arith, weight-inner W k kids d e), refl)
+
+  binary-takes : (ops : List ℕ) (d : Forest) (q k c : Token) (cs r rest : Forest) (n : ℕ) → weight W (node q nil d) + weight W (node k (node c cs r) rest) ≤ n → BinaryOnward ops k (node c cs r) rest n (into (waiting d q) (gathered nil))
+  unfolding weight shown isNil binaryLevel binaryResume
+  binary-takes ops d q k c cs r rest n h =
+      enters-gathered (binaryLevel ops) (waiting d q) k c cs r rest n λ kids e. (omega (arith, weight-joined d q k kids, weight-inner W k kids nil e, W .lighter (q .op)), rw full-joined refl)
+
+  binary-steps : (ops : List ℕ) (s : Gathered) (k : Token) (cs rest : Forest) (n : ℕ) → GatheredFits s (node k cs rest) n → BinaryOnward ops k cs rest n (binaryStep ops s k cs)
+  unfolding binaryStep operatorAfter weight shown isNil
+  binary-steps ops (gathered nil) k nil rest n h = either (BinaryOnward ops k nil rest n) (isOneOf ops (k .op)) _ _ stops (goes (omega arith) refl)
+  binary-steps ops (gathered (node l ls d)) k nil rest n h = either (BinaryOnward ops k nil rest n) (isOneOf ops (k .op)) _ _ (goes (omega arith) refl) (goes (omega arith) refl)
+  binary-steps ops (gathered d) k (node c cs r) rest n h = binary-kept ops d k c cs r rest n h
+  binary-steps ops (waiting d q) k nil rest n h =
+      maybe (BinaryOnward ops k nil rest n) (unfolded ops d) _ _ (λ t. stops) (goes (omega (arith, weight-joined d q k nil, W .lighter (q .op))) (rw full-joined refl))
+  binary-steps ops (waiting d q) k (node c cs r) rest n h = maybe (BinaryOnward ops k (node c cs r) rest n) (unfolded ops d) _ _ (λ t. stops) (binary-takes ops d q k c cs r rest n h)
+
+  binary-ends : (s : Gathered) (n : ℕ) → GatheredFits s nil n → Ending W n (gatheredFull s) (binaryFinish s)
+  unfolding binaryFinish shown
+  binary-ends (gathered d) n h = turned-fine W d n h
+  binary-ends (waiting d q) n h = failed
+
+  pub binary-light : (ops : List ℕ) → Light W (binaryLevel ops)
+  unfolding binaryLevel nothing shown weight
+  binary-light ops = record { Fits = GatheredFits; full = gatheredFull; begins = λ f. omega arith; steps = binary-steps ops; ends = binary-ends }
+
+  -- Return.
+  abbrev ReturnOnward : Token → Forest → Forest → ℕ → Step Gathered → Type 0
+  ReturnOnward k cs rest n = Onward W returnLevel GatheredFits gatheredFull k cs rest n
+
+  return-kept : (d : Forest) (k c : Token) (cs r rest : Forest) (n : ℕ) → weight W d + weight W (node k (node c cs r) rest) ≤ n → ReturnOnward k (node c cs r) rest n (into (gathered d) (gathered nil))
+  unfolding weight shown isNil returnLevel returnResume
+  return-kept d k c cs r rest n h = enters-gathered returnLevel (gathered d) k c cs r rest n λ kids e. (omega (arith, weight-inner W k kids d e), refl)
+
+  return-steps : (s : Gathered) (k : Token) (cs rest : Forest) (n : ℕ) → GatheredFits s (node k cs rest) n → ReturnOnward k cs rest n (returnStep s k cs)
+  unfolding returnStep weight shown isNil
+  return-steps (gathered d) k nil rest n h = either (ReturnOnward k nil rest n) (eqb (k .op) Operator.return) _ _ (goes (omega arith) refl) (goes (omega arith) refl)
+  return-steps (gathered d) k (node c cs r) rest n h = return-kept d k c cs r rest n h
+  return-steps (waiting d q) k cs rest n h =
+      goes {t = gathered (node q (node k cs nil) d)} (omega (arith, weight-tree W k cs rest, W .lighter (q .op))) refl
+
+  return-ends : (s : Gathered) (n : ℕ) → GatheredFits s nil n → Ending W n (gatheredFull s) (returnFinish s)
+  unfolding returnFinish shown
+  return-ends (gathered d) n h = turned-fine W d n h
+  return-ends (waiting d q) n h = failed
+
+  pub return-light : Light W returnLevel
+  unfolding returnLevel nothing shown weight
+  return-light = record { Fits = GatheredFits; full = gatheredFull; begins = λ f. omega arith; steps = return-steps; ends = return-ends }
