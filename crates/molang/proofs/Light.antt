@@ -138,3 +138,92 @@ module _ (W : Weighing) where
   pub return-light : Light W returnLevel
   unfolding returnLevel nothing shown weight
   return-light = record { Fits = GatheredFits; full = gatheredFull; begins = λ f. omega arith; steps = return-steps; ends = return-ends }
+
+  -- The conditional: its fold only puts trees under leaves.
+  abbrev Folds : ℕ → Forest → Type 0
+  Folds n r = (weight W r ≤ n) × (isNil r ≡ false)
+
+  -- A token was a leaf, and may get children.
+  weight-token : (o : ℕ) (k : Token) (cs : Forest) → isToken o k cs ≡ true → W .inner ≤ weight W (node k cs nil)
+  unfolding isToken weight
+  weight-token o k nil e = omega (arith, W .lighter (k .op))
+  weight-token o k (node c cs r) e = omega arith
+
+  under-light : (k l : Token) (ls right : Forest) → Folds (W .inner + weight W (node l ls nil) + weight W right) (under k l ls right)
+  unfolding under weight isNil
+  under-light k l ls nil = (omega arith, refl)
+  under-light k l ls (node x xs r) = (omega (arith, weight-tree W l ls (node x xs nil), weight-tree W x xs r), refl)
+
+  pairElse-light : (f : Forest) (n : ℕ) → Folds n f → Folds n (pairElse f)
+  unfolding pairElse weight isNil
+  pairElse-light nil n h = h
+  pairElse-light (node f fs nil) n h = h
+  pairElse-light (node f fs (node c cs nil)) n h = h
+  pairElse-light (node f fs (node c cs (node x xs r))) n h =
+      decided (Folds n) (isToken Operator.conditionalElse c cs) _ _
+      (λ e. (omega (arith, h .0, weight-token Operator.conditionalElse c cs e, weight-tree W f fs (node x xs nil), weight-tree W f fs (node c cs (node x xs r)), weight-tree W c cs (node x xs r), weight-tree W x xs r), refl))
+      (λ e. h)
+
+  module _ (a : Token) (aa : Forest) (b : Token) (bs left right : Forest) (n : ℕ) (h : weight W (node a aa (node b bs left)) + weight W right ≤ n) where
+    -- Where a is a token, it and b go under it, before the rest.
+    taken-light : (o : ℕ) → isToken o a aa ≡ true → (weight W left + weight W (under a b bs right) ≤ n) × (isNil (under a b bs right) ≡ false)
+    taken-light o e =
+        let u = under-light a b bs right in
+        (omega (arith, u .0, weight-token o a aa e, weight-tree W a aa (node b bs left), weight-tree W b bs left), u .1)
+
+    kept-light : weight W (node b bs left) + weight W (node a aa right) ≤ n
+    kept-light = omega (arith, weight-tree W a aa (node b bs left), weight-tree W a aa right)
+
+    scanned-light : (x y z : Bool) → isToken Operator.conditional a aa ≡ x → isToken Operator.conditionalElse a aa ≡ y
+      → ((r : Forest) → weight W left + weight W r ≤ n → isNil r ≡ false → Folds n (scan left r))
+      → ((r : Forest) → weight W (node b bs left) + weight W r ≤ n → isNil r ≡ false → Folds n (scan (node b bs left) r))
+      → Folds n (scanned x y z a aa b bs left right)
+    unfolding scanned isNil
+    scanned-light true y true p q far near =
+        let u = under-light a b bs right in
+        let v = pairElse-light (under a b bs right) (W .inner + weight W (node b bs nil) + weight W right) u in
+        far (pairElse (under a b bs right)) (omega (arith, v .0, weight-token Operator.conditional a aa p, weight-tree W a aa (node b bs left), weight-tree W b bs left)) (v .1)
+    scanned-light true y false p q far near = let u = taken-light Operator.conditional p in far (under a b bs right) (u .0) (u .1)
+    scanned-light false true true p q far near = let u = taken-light Operator.conditionalElse q in far (under a b bs right) (u .0) (u .1)
+    scanned-light false true false p q far near = near (node a aa right) kept-light refl
+    scanned-light false false z p q far near = near (node a aa right) kept-light refl
+
+  scan-light : (left right : Forest) (n : ℕ) → weight W left + weight W right ≤ n → isNil right ≡ false → Folds n (scan left right)
+  unfolding scan weight isNil
+  scan-light nil right n h e = (omega arith, e)
+  scan-light (node a aa nil) right n h e = (omega (arith, weight-tree W a aa right), refl)
+  scan-light (node a aa (node b bs left)) right n h e =
+      rw (scan-once a aa b bs left right)
+      (scanned-light a aa b bs left right n h (isToken Operator.conditional a aa) (isToken Operator.conditionalElse a aa) (startsWith Operator.conditional left) refl refl
+      (λ r h e. scan-light left r n h e) (λ r h e. scan-light (node b bs left) r n h e))
+
+  folded-light : (d : Forest) (n : ℕ) → weight W d ≤ n → (weight W (foldedFrom d) ≤ n) × (isNil d ≡ false → isNil (foldedFrom d) ≡ false)
+  unfolding foldedFrom weight isNil
+  folded-light nil n h = (h, λ e. e)
+  folded-light (node a aa nil) n h = (h, λ e. e)
+  folded-light (node a aa (node b bs nil)) n h = (omega (arith, weight-tree W a aa (node b bs nil), weight-tree W b bs (node a aa nil)), λ e. refl)
+  folded-light (node a aa (node b bs (node c cs left))) n h =
+      let u = scan-light (node b bs (node c cs left)) (node a aa nil) n (omega (arith, weight-tree W a aa (node b bs (node c cs left)))) refl in
+      (u .0, λ e. u .1)
+
+  abbrev ForestFits : Forest → Forest → ℕ → Type 0
+  ForestFits d f n = weight W d + weight W f ≤ n
+
+  abbrev forestFull : Forest → Bool
+  forestFull d = not (isNil d)
+
+  conditional-steps : (d : Forest) (k : Token) (cs rest : Forest) (n : ℕ) → ForestFits d (node k cs rest) n → Onward W conditionalLevel ForestFits forestFull k cs rest n (conditionalStep d k cs)
+  unfolding conditionalLevel conditionalStep weight isNil
+  conditional-steps d k nil rest n h = goes {t = node k nil d} (omega arith) refl
+  conditional-steps d k (node c cs r) rest n h =
+      enters {t = d} {u = nil} (weight W (node c cs r)) (omega arith) refl λ kids w e. (omega (arith, weight-inner W k kids d e), refl)
+
+  conditional-ends : (d : Forest) (n : ℕ) → ForestFits d nil n → Ending W n (forestFull d) (conditionalFinish d)
+  unfolding conditionalFinish undangled weight
+  conditional-ends d n h =
+      let u = folded-light d n (omega arith) in
+      maybe (Ending W n (forestFull d)) (dangling (foldedFrom d)) _ _ (λ k. failed) (fine {g = foldedFrom d} (u .0) λ e. u .1 (not-true (isNil d) e))
+
+  pub conditional-light : Light W conditionalLevel
+  unfolding conditionalLevel weight
+  conditional-light = record { Fits = ForestFits; full = forestFull; begins = λ f. omega arith; steps = conditional-steps; ends = conditional-ends }
