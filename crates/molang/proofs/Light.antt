@@ -14,12 +14,13 @@ use Rattle.molang.specs.Forest.{Token, Forest, nil, node, turnedOnto, in
 use Rattle.molang.specs.Message.{Message, Result, ok, fail}
 use Rattle.molang.specs.Level.{Step, stop, on, into, Level, walk, through, Gathered, gathered, waiting, nothing}
 use Rattle.molang.specs.Calls.{CallKind, queryOrLoop, math, calls, callLeaf, callStep, callResume, callFinish, callLevel, Indexing, unindexed, named, indexed, flushed, isIndex, startsWithIndex, emptyIndex, nextIndex, index, arrayStep, arrayResume, arrayFinish, arrayLevel}
+use Rattle.molang.specs.Statements.{Split, unsplit, after, inside, splitOf, isEntered, gather, endStatement, enterSplit, statementStep, statementResume, statementFinish, statementLevel}
 use Rattle.molang.specs.Binary.{firstLeaf, unfolded, joined, operatorAfter, binaryStep, binaryResume, binaryFinish, binaryLevel}
 use Rattle.molang.specs.Conditional.{isToken, startsWith, under, pairElse, scan, foldedFrom, dangling, undangled, conditionalStep, conditionalFinish, conditionalLevel}
 use Rattle.molang.specs.Unary.{returnStep, returnResume, returnFinish, returnLevel}
 use Rattle.molang.proofs.Trees.{free, clear, isNil, decided, either, maybe}
-use Rattle.molang.proofs.Inert.{scanned, scan-once}
-use Rattle.molang.proofs.Weight.{Weighing, weight, Ending, failed, fine, Onward, stops, goes, enters, Light, isNil-turned, isNil-inOrder, weight-inner, weight-tree, weight-turned, weight-inOrder, turned-fine}
+use Rattle.molang.proofs.Inert.{isSemicolon, scanned, scan-once}
+use Rattle.molang.proofs.Weight.{Weighing, weight, Ending, failed, fine, Onward, stops, goes, enters, Light, isNil-turned-full, isNil-inOrder, weight-inner, weight-tree, weight-turned, weight-inOrder, turned-fine}
 
 -- What a gathering level has so far, a token that waits among it.
 unfoldable pub shown : Gathered → Forest
@@ -227,3 +228,161 @@ module _ (W : Weighing) where
   pub conditional-light : Light W conditionalLevel
   unfolding conditionalLevel weight
   conditional-light = record { Fits = ForestFits; full = forestFull; begins = λ f. omega arith; steps = conditional-steps; ends = conditional-ends }
+
+  -- Arrays. An array between two indices has contents.
+  abbrev hasContents : Indexing → Bool
+  hasContents (unindexed d) = true
+  hasContents (named d q) = true
+  hasContents (indexed d q contents) = not (isNil contents)
+
+  abbrev IndexingFits : Indexing → Forest → ℕ → Type 0
+  IndexingFits s f n = (weight W (flushed s) + weight W f ≤ n) × (hasContents s ≡ true)
+
+  abbrev indexingFull : Indexing → Bool
+  indexingFull s = not (isNil (flushed s))
+
+  abbrev ArrayOnward : Token → Forest → Forest → ℕ → Step Indexing → Type 0
+  ArrayOnward k cs rest n = Onward W arrayLevel IndexingFits indexingFull k cs rest n
+
+  weight-array : (d : Forest) (q : Token) (contents : Forest) → isNil contents ≡ false → weight W (flushed (indexed d q contents)) ≡ W .inner + weight W contents + weight W d
+  unfolding flushed
+  weight-array d q contents e = omega (arith, weight-inner W q (inOrder contents) d (isNil-inOrder contents e), weight-inOrder W contents)
+
+  empty-light : (s : Indexing) (k : Token) (rest : Forest) (n : ℕ) → IndexingFits s (node k nil rest) n → ArrayOnward k nil rest n (emptyIndex s k)
+  unfolding emptyIndex flushed weight isNil
+  empty-light (unindexed d) k rest n h = goes {t = unindexed (node k nil d)} (omega (arith, h .0), refl) refl
+  empty-light (named d q) k rest n h = stops
+  empty-light (indexed d q contents) k rest n h = stops
+
+  array-kept : (d : Forest) (k c : Token) (cs r rest : Forest) (n : ℕ) → weight W d + weight W (node k (node c cs r) rest) ≤ n → ArrayOnward k (node c cs r) rest n (into (unindexed d) (unindexed nil))
+  unfolding flushed weight isNil arrayLevel arrayResume
+  array-kept d k c cs r rest n h =
+      enters {t = unindexed d} {u = unindexed nil} (weight W (node c cs r)) (omega arith, refl) refl λ kids w e. ((omega (arith, weight-inner W k kids d e), refl), refl)
+
+  -- An index's contents, from the state u on, are added to those of the array so far.
+  array-appends : (d : Forest) (q : Token) (contents : Forest) (u : Indexing) (m : ℕ) (k c : Token) (cs r rest : Forest) (n : ℕ) → IndexingFits u (node c cs r) m
+    → W .inner + weight W contents + weight W d + m + weight W rest ≤ n → ArrayOnward k (node c cs r) rest n (into (indexed d q contents) u)
+  unfolding isNil flushed arrayLevel arrayResume
+  array-appends d q contents u m k c cs r rest n h b =
+      enters {t = indexed d q contents} {u = u} m h refl λ kids w e. let full = isNil-turned-full kids contents e in ((omega (arith, weight-array d q (turnedOnto kids contents) full, weight-turned W kids contents), rw full refl), refl)
+
+  next-light : (d : Forest) (q : Token) (contents : Forest) (k c : Token) (cs r rest : Forest) (n : ℕ) → W .inner + weight W contents + weight W d + weight W (node k (node c cs r) rest) ≤ n
+    → ArrayOnward k (node c cs r) rest n (nextIndex d q contents (node c cs r))
+  unfolding nextIndex flushed weight
+  next-light d q nil k c cs r rest n h = array-appends d q nil (unindexed nil) (weight W (node c cs r)) k c cs r rest n (omega arith, refl) (omega arith)
+  next-light d q (node l (node x xs y) contents) k c cs r rest n h = array-appends d q (node l (node x xs y) contents) (unindexed nil) (weight W (node c cs r)) k c cs r rest n (omega arith, refl) (omega arith)
+  next-light d q (node l nil contents) k c cs r rest n h =
+      either (ArrayOnward k (node c cs r) rest n) (eqb (l .op) Operator.arrayVariable) _ _
+      (either (ArrayOnward k (node c cs r) rest n) (startsWithIndex (node c cs r)) _ _ (array-appends d q contents (named nil l) (W .leaf (l .op) + weight W (node c cs r)) k c cs r rest n (omega arith, refl) (omega arith)) (array-appends d q (node l nil contents) (unindexed nil) (weight W (node c cs r)) k c cs r rest n (omega arith, refl) (omega arith)))
+      (array-appends d q (node l nil contents) (unindexed nil) (weight W (node c cs r)) k c cs r rest n (omega arith, refl) (omega arith))
+
+  index-light : (s : Indexing) (k c : Token) (cs r rest : Forest) (n : ℕ) → IndexingFits s (node k (node c cs r) rest) n → ArrayOnward k (node c cs r) rest n (index s (node c cs r))
+  unfolding index flushed weight
+  index-light (unindexed d) k c cs r rest n h = array-kept d k c cs r rest n (h .0)
+  index-light (named d q) k c cs r rest n h =
+      array-appends d (renamed Operator.array q) nil (unindexed nil) (weight W (node c cs r)) k c cs r rest n (omega arith, refl) (omega (arith, h .0, W .lighter (q .op)))
+  index-light (indexed d q contents) k c cs r rest n h = next-light d q contents k c cs r rest n (omega (arith, h .0, weight-array d q contents (not-true (isNil contents) (h .1))))
+
+  array-steps : (s : Indexing) (k : Token) (cs rest : Forest) (n : ℕ) → IndexingFits s (node k cs rest) n → ArrayOnward k cs rest n (arrayStep s k cs)
+  unfolding arrayStep weight isNil flushed
+  array-steps s k nil rest n h =
+      either (ArrayOnward k nil rest n) (isIndex k) _ _ (empty-light s k rest n h)
+      (either (ArrayOnward k nil rest n) (eqb (k .op) Operator.arrayVariable) _ _ (goes {t = named (flushed s) k} (omega (arith, h .0), refl) refl) (goes {t = unindexed (node k nil (flushed s))} (omega (arith, h .0), refl) refl))
+  array-steps s k (node c cs r) rest n h = either (ArrayOnward k (node c cs r) rest n) (isIndex k) _ _ (index-light s k c cs r rest n h) (array-kept (flushed s) k c cs r rest n (h .0))
+
+  array-ends : (s : Indexing) (n : ℕ) → IndexingFits s nil n → Ending W n (indexingFull s) (arrayFinish s)
+  unfolding arrayFinish
+  array-ends s n h = turned-fine W (flushed s) n (h .0)
+
+  pub array-light : Light W arrayLevel
+  unfolding arrayLevel flushed weight
+  array-light = record { Fits = IndexingFits; full = indexingFull; begins = λ f. (omega arith, refl); steps = array-steps; ends = array-ends }
+
+-- Statements, where a semicolon weighs as much as three nodes: the first one pays for the statement list and two statements, each other one
+-- for the statement after it.
+module _ (W : Weighing) (pays : 3 * W .inner ≤ W .leaf Operator.semicolon) where
+  -- What the finished statements have been paid for besides: the statement list and the open statement.
+  abbrev credit : Forest → ℕ
+  credit nil = 0
+  credit (node k cs done) = 2 * W .inner
+
+  -- Before the first statement ends, its semicolon is yet to come.
+  abbrev Owing : Forest → Forest → Type 0
+  Owing nil f = clear isSemicolon f ≡ false
+  Owing (node k cs done) f = Unit {0}
+
+  abbrev SplitFits : Split → Forest → ℕ → Type 0
+  SplitFits (unsplit d) f n = weight W d + weight W f ≤ n
+  SplitFits (after q done) f n = (credit done + weight W done + weight W f ≤ n) × Owing done f
+  SplitFits (inside q done s d) f n = (credit done + weight W done + weight W d + weight W f ≤ n) × Owing done f × (isNil d ≡ false)
+
+  abbrev splitFull : Split → Bool
+  splitFull (unsplit d) = not (isNil d)
+  splitFull (after q done) = true
+  splitFull (inside q done s d) = true
+
+  abbrev SplitOnward : Token → Forest → Forest → ℕ → Step Split → Type 0
+  SplitOnward k cs rest n = Onward W statementLevel SplitFits splitFull k cs rest n
+
+  split-fits : (f g : Forest) (n : ℕ) → weight W g ≤ n → (clear isSemicolon f ≡ false → clear isSemicolon g ≡ false) → SplitFits (splitOf f) g n
+  unfolding splitOf clear isSemicolon weight
+  split-fits nil g n h c = omega arith
+  split-fits (node k (node x xs y) rest) g n h c = split-fits rest g n h c
+  split-fits (node k nil rest) g n h c =
+      decided (λ s. SplitFits s g n) (eqb (k .op) Operator.semicolon) (after (bare Operator.semicolon k) nil) (splitOf rest) (λ e. (omega arith, c (rw e refl))) (λ e. split-fits rest g n h (λ z. c (rw (e, z) refl)))
+
+  owing-rest : (done : Forest) (k : Token) (cs rest : Forest) → (clear isSemicolon (node k cs rest) ≡ clear isSemicolon rest) → Owing done (node k cs rest) → Owing done rest
+  owing-rest nil k cs rest e o = rw e at o
+  owing-rest (node t ts done) k cs rest e o = o
+
+  gather-light : (m : Split) (k : Token) (kids cs rest : Forest) (n : ℕ) → SplitFits m (node k cs rest) n → weight W (node k kids nil) ≤ weight W (node k cs nil)
+    → (clear isSemicolon (node k cs rest) ≡ clear isSemicolon rest) → SplitFits (gather k kids m) rest n × (splitFull (gather k kids m) ≡ true)
+  unfolding gather isNil weight
+  gather-light (unsplit d) k kids cs rest n h w e = (omega (arith, weight-tree W k kids d, weight-tree W k cs rest), refl)
+  gather-light (after q done) k kids cs rest n h w e = ((omega (arith, h .0, weight-tree W k cs rest), owing-rest done k cs rest e (h .1), refl), refl)
+  gather-light (inside q done s d) k kids cs rest n h w e = ((omega (arith, h .0, weight-tree W k kids d, weight-tree W k cs rest), owing-rest done k cs rest e (h .1), refl), refl)
+
+  end-light : (k : Token) (m : Split) (rest : Forest) (n : ℕ) → eqb (k .op) Operator.semicolon ≡ true → SplitFits m (node k nil rest) n → SplitOnward k nil rest n (endStatement k m)
+  unfolding endStatement isNil weight
+  end-light k (unsplit d) rest n e h = goes {t = unsplit (node k nil d)} (omega arith) refl
+  end-light k (after q nil) rest n e h = stops
+  end-light k (after q (node t ts done)) rest n e h = goes {t = after q (node t ts done)} (omega (arith, h .0), tt) refl
+  end-light k (inside q nil s d) rest n e h =
+      goes {t = after q (node s (inOrder d) nil)} (omega (arith, h .0, pays, ap (W .leaf) (eqb-true (k .op) Operator.semicolon e), weight-inner W s (inOrder d) nil (isNil-inOrder d (h .2)), weight-inOrder W d), tt) refl
+  end-light k (inside q (node t ts done) s d) rest n e h =
+      goes {t = after q (node s (inOrder d) (node t ts done))} (omega (arith, h .0, pays, ap (W .leaf) (eqb-true (k .op) Operator.semicolon e), weight-inner W s (inOrder d) (node t ts done) (isNil-inOrder d (h .2)), weight-inOrder W d), tt) refl
+
+  -- A node's children, split for themselves, come back to it.
+  statement-enters : (m : Split) (k c : Token) (cs r rest : Forest) (n : ℕ) → SplitFits m (node k (node c cs r) rest) n → SplitOnward k (node c cs r) rest n (into m (splitOf (node c cs r)))
+  unfolding statementLevel statementResume isNil clear
+  statement-enters m k c cs r rest n h =
+      enters {t = m} {u = splitOf (node c cs r)} (weight W (node c cs r)) (split-fits (node c cs r) (node c cs r) (weight W (node c cs r)) (omega arith) (λ e. e)) refl λ kids w e. gather-light m k kids (node c cs r) rest n h (omega (arith, weight-inner W k kids nil e, weight-inner W k (node c cs r) nil refl)) refl
+
+  enter-light : (m : Split) (k c : Token) (cs r rest : Forest) (n : ℕ) → SplitFits m (node k (node c cs r) rest) n → SplitOnward k (node c cs r) rest n (enterSplit m k (node c cs r))
+  unfolding enterSplit clear
+  enter-light m k c cs r rest n h =
+      let g = gather-light m k (node c cs r) (node c cs r) rest n h (omega arith) refl in
+      either (SplitOnward k (node c cs r) rest n) (isEntered (k .op)) _ _ (statement-enters m k c cs r rest n h) (goes {t = gather k (node c cs r) m} (g .0) (g .1))
+
+  statement-steps : (m : Split) (k : Token) (cs rest : Forest) (n : ℕ) → SplitFits m (node k cs rest) n → SplitOnward k cs rest n (statementStep m k cs)
+  unfolding statementStep clear isSemicolon
+  statement-steps m k nil rest n h =
+      decided (SplitOnward k nil rest n) (eqb (k .op) Operator.semicolon) _ _ (λ e. end-light k m rest n e h) (λ e. let g = gather-light m k nil nil rest n h (omega arith) (rw e refl) in goes {t = gather k nil m} (g .0) (g .1))
+  statement-steps (unsplit d) k (node c cs r) rest n h = statement-enters (unsplit d) k c cs r rest n h
+  statement-steps (after q done) k (node c cs r) rest n h = enter-light (after q done) k c cs r rest n h
+  statement-steps (inside q done s d) k (node c cs r) rest n h = enter-light (inside q done s d) k c cs r rest n h
+
+  statement-ends : (m : Split) (n : ℕ) → SplitFits m nil n → Ending W n (splitFull m) (statementFinish m)
+  unfolding statementFinish clear weight isNil
+  statement-ends (unsplit d) n h = turned-fine W d n h
+  statement-ends (after q nil) n h = absurd (true≢false (h .1))
+  statement-ends (after q (node t ts done)) n h =
+      fine {g = node q (inOrder (node t ts done)) nil} (omega (arith, h .0, weight-inner W q (inOrder (node t ts done)) nil (isNil-inOrder (node t ts done) refl), weight-inOrder W (node t ts done))) λ e. refl
+  statement-ends (inside q nil s d) n h = absurd (true≢false (h .1))
+  statement-ends (inside q (node t ts done) s d) n h =
+      let l = node s (inOrder d) (node t ts done) in
+      fine {g = node q (inOrder l) nil} (omega (arith, h .0, weight-inner W q (inOrder l) nil (isNil-inOrder l refl), weight-inOrder W l, weight-inner W s (inOrder d) (node t ts done) (isNil-inOrder d (h .2)), weight-inOrder W d)) λ e. refl
+
+  pub statement-light : Light W statementLevel
+  unfolding statementLevel weight
+  statement-light = record { Fits = SplitFits; full = splitFull; begins = λ f. split-fits f f (weight W f) (omega arith) (λ e. e); steps = statement-steps; ends = statement-ends }

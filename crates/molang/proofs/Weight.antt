@@ -96,10 +96,14 @@ unfolding turnedOnto isNil
 isNil-turned nil f e = e
 isNil-turned (node k cs d) f e = isNil-turned d (node k cs f) refl
 
+pub isNil-turned-full : (d f : Forest) → isNil d ≡ false → isNil (turnedOnto d f) ≡ false
+unfolding turnedOnto isNil
+isNil-turned-full nil f e = absurd (true≢false e)
+isNil-turned-full (node k cs d) f e = isNil-turned d (node k cs f) refl
+
 pub isNil-inOrder : (d : Forest) → isNil d ≡ false → isNil (inOrder d) ≡ false
-unfolding inOrder turnedOnto isNil
-isNil-inOrder nil e = e
-isNil-inOrder (node k cs d) e = isNil-turned d (node k cs nil) refl
+unfolding inOrder
+isNil-inOrder d e = isNil-turned-full d nil e
 
 module _ (W : Weighing) where
   -- A node with children, whatever they are.
