@@ -3,3 +3,4 @@ pub mod Trees
 pub mod Inert
 pub mod Weight
 pub mod Light
+pub mod Unary

@@ -59,17 +59,17 @@ module _ (W : Weighing) where
   call-steps kind (gathered d) k nil rest n h = either (CallOnward kind k nil rest n) (calls kind (k .op)) _ _ (goes (omega arith) refl) (goes (omega arith) refl)
   call-steps kind (gathered d) k (node c cs r) rest n h = call-kept kind d k c cs r rest n h
   call-steps queryOrLoop (waiting d q) k nil rest n h =
-      either (CallOnward queryOrLoop k nil rest n) (isBracket (k .op)) _ _ stops (either (CallOnward queryOrLoop k nil rest n) (calls queryOrLoop (k .op)) _ _ (goes (omega arith) refl) (goes (omega arith) refl))
+      either (CallOnward queryOrLoop k nil rest n) (isBracket (k .op)) _ _ (stops refl) (either (CallOnward queryOrLoop k nil rest n) (calls queryOrLoop (k .op)) _ _ (goes (omega arith) refl) (goes (omega arith) refl))
   call-steps queryOrLoop (waiting d q) k (node c cs r) rest n h =
       either (CallOnward queryOrLoop k (node c cs r) rest n) (isBracket (k .op)) _ _ (call-takes queryOrLoop d q k c cs r rest n h) (call-kept queryOrLoop (node q nil d) k c cs r rest n h)
-  call-steps math (waiting d q) k nil rest n h = either (CallOnward math k nil rest n) (isBracket (k .op)) _ _ (goes (omega (arith, W .lighter (q .op))) refl) stops
-  call-steps math (waiting d q) k (node c cs r) rest n h = either (CallOnward math k (node c cs r) rest n) (isBracket (k .op)) _ _ (call-takes math d q k c cs r rest n h) stops
+  call-steps math (waiting d q) k nil rest n h = either (CallOnward math k nil rest n) (isBracket (k .op)) _ _ (goes (omega (arith, W .lighter (q .op))) refl) (stops refl)
+  call-steps math (waiting d q) k (node c cs r) rest n h = either (CallOnward math k (node c cs r) rest n) (isBracket (k .op)) _ _ (call-takes math d q k c cs r rest n h) (stops refl)
 
   call-ends : (kind : CallKind) (s : Gathered) (n : ℕ) → GatheredFits s nil n → Ending W n (gatheredFull s) (callFinish kind s)
   unfolding callFinish shown
   call-ends kind (gathered d) n h = turned-fine W d n h
   call-ends queryOrLoop (waiting d q) n h = turned-fine W (node q nil d) n h
-  call-ends math (waiting d q) n h = failed
+  call-ends math (waiting d q) n h = failed refl
 
   pub call-light : (kind : CallKind) → Light W (callLevel kind)
   unfolding callLevel nothing shown weight
@@ -100,17 +100,17 @@ module _ (W : Weighing) where
 
   binary-steps : (ops : List ℕ) (s : Gathered) (k : Token) (cs rest : Forest) (n : ℕ) → GatheredFits s (node k cs rest) n → BinaryOnward ops k cs rest n (binaryStep ops s k cs)
   unfolding binaryStep operatorAfter weight shown isNil
-  binary-steps ops (gathered nil) k nil rest n h = either (BinaryOnward ops k nil rest n) (isOneOf ops (k .op)) _ _ stops (goes (omega arith) refl)
+  binary-steps ops (gathered nil) k nil rest n h = either (BinaryOnward ops k nil rest n) (isOneOf ops (k .op)) _ _ (stops refl) (goes (omega arith) refl)
   binary-steps ops (gathered (node l ls d)) k nil rest n h = either (BinaryOnward ops k nil rest n) (isOneOf ops (k .op)) _ _ (goes (omega arith) refl) (goes (omega arith) refl)
   binary-steps ops (gathered d) k (node c cs r) rest n h = binary-kept ops d k c cs r rest n h
   binary-steps ops (waiting d q) k nil rest n h =
-      maybe (BinaryOnward ops k nil rest n) (unfolded ops d) _ _ (λ t. stops) (goes (omega (arith, weight-joined d q k nil, W .lighter (q .op))) (rw full-joined refl))
-  binary-steps ops (waiting d q) k (node c cs r) rest n h = maybe (BinaryOnward ops k (node c cs r) rest n) (unfolded ops d) _ _ (λ t. stops) (binary-takes ops d q k c cs r rest n h)
+      maybe (BinaryOnward ops k nil rest n) (unfolded ops d) _ _ (λ t. stops refl) (goes (omega (arith, weight-joined d q k nil, W .lighter (q .op))) (rw full-joined refl))
+  binary-steps ops (waiting d q) k (node c cs r) rest n h = maybe (BinaryOnward ops k (node c cs r) rest n) (unfolded ops d) _ _ (λ t. stops refl) (binary-takes ops d q k c cs r rest n h)
 
   binary-ends : (s : Gathered) (n : ℕ) → GatheredFits s nil n → Ending W n (gatheredFull s) (binaryFinish s)
   unfolding binaryFinish shown
   binary-ends (gathered d) n h = turned-fine W d n h
-  binary-ends (waiting d q) n h = failed
+  binary-ends (waiting d q) n h = failed refl
 
   pub binary-light : (ops : List ℕ) → Light W (binaryLevel ops)
   unfolding binaryLevel nothing shown weight
@@ -134,7 +134,7 @@ module _ (W : Weighing) where
   return-ends : (s : Gathered) (n : ℕ) → GatheredFits s nil n → Ending W n (gatheredFull s) (returnFinish s)
   unfolding returnFinish shown
   return-ends (gathered d) n h = turned-fine W d n h
-  return-ends (waiting d q) n h = failed
+  return-ends (waiting d q) n h = failed refl
 
   pub return-light : Light W returnLevel
   unfolding returnLevel nothing shown weight
@@ -223,7 +223,7 @@ module _ (W : Weighing) where
   unfolding conditionalFinish undangled weight
   conditional-ends d n h =
       let u = folded-light d n (omega arith) in
-      maybe (Ending W n (forestFull d)) (dangling (foldedFrom d)) _ _ (λ k. failed) (fine {g = foldedFrom d} (u .0) λ e. u .1 (not-true (isNil d) e))
+      maybe (Ending W n (forestFull d)) (dangling (foldedFrom d)) _ _ (λ k. failed refl) (fine {g = foldedFrom d} (u .0) λ e. u .1 (not-true (isNil d) e))
 
   pub conditional-light : Light W conditionalLevel
   unfolding conditionalLevel weight
@@ -251,8 +251,8 @@ module _ (W : Weighing) where
   empty-light : (s : Indexing) (k : Token) (rest : Forest) (n : ℕ) → IndexingFits s (node k nil rest) n → ArrayOnward k nil rest n (emptyIndex s k)
   unfolding emptyIndex flushed weight isNil
   empty-light (unindexed d) k rest n h = goes {t = unindexed (node k nil d)} (omega (arith, h .0), refl) refl
-  empty-light (named d q) k rest n h = stops
-  empty-light (indexed d q contents) k rest n h = stops
+  empty-light (named d q) k rest n h = stops refl
+  empty-light (indexed d q contents) k rest n h = stops refl
 
   array-kept : (d : Forest) (k c : Token) (cs r rest : Forest) (n : ℕ) → weight W d + weight W (node k (node c cs r) rest) ≤ n → ArrayOnward k (node c cs r) rest n (into (unindexed d) (unindexed nil))
   unfolding flushed weight isNil arrayLevel arrayResume
@@ -345,7 +345,7 @@ module _ (W : Weighing) (pays : 3 * W .inner ≤ W .leaf Operator.semicolon) whe
   end-light : (k : Token) (m : Split) (rest : Forest) (n : ℕ) → eqb (k .op) Operator.semicolon ≡ true → SplitFits m (node k nil rest) n → SplitOnward k nil rest n (endStatement k m)
   unfolding endStatement isNil weight
   end-light k (unsplit d) rest n e h = goes {t = unsplit (node k nil d)} (omega arith) refl
-  end-light k (after q nil) rest n e h = stops
+  end-light k (after q nil) rest n e h = stops refl
   end-light k (after q (node t ts done)) rest n e h = goes {t = after q (node t ts done)} (omega (arith, h .0), tt) refl
   end-light k (inside q nil s d) rest n e h =
       goes {t = after q (node s (inOrder d) nil)} (omega (arith, h .0, pays, ap (W .leaf) (eqb-true (k .op) Operator.semicolon e), weight-inner W s (inOrder d) nil (isNil-inOrder d (h .2)), weight-inOrder W d), tt) refl

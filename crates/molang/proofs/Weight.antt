@@ -8,6 +8,7 @@ use mathlib.Core.List.{List, [], _∷_}
 use mathlib.Core.Option.{Option, none, some}
 use native.Mathlib.Omega.{arith}
 use lib.Dec.{eqb}
+use lib.ListN.{length}
 use borrow.Author.Tests.{not-true}
 use Rattle.molang.specs.Operator
 use Rattle.molang.specs.Operator.{any, isOneOf, isBracket}
@@ -27,18 +28,18 @@ weight W nil = 0
 weight W (node k nil rest) = W .leaf (k .op) + weight W rest
 weight W (node k (node c cs r) rest) = W .inner + weight W (node c cs r) + weight W rest
 
--- The result is no heavier than n and, where that is said, not empty.
+-- The result is one message, or a list no heavier than n and, where that is said, not empty.
 pub data Ending (W : Weighing) (n : ℕ) (full : Bool) : Result → Type 0 where
-  failed : {m : List Message} → Ending W n full (fail m)
+  failed : {m : List Message} → length m ≡ 1 → Ending W n full (fail m)
   fine : {g : Forest} → weight W g ≤ n → (full ≡ true → isNil g ≡ false) → Ending W n full (ok g)
 
 weaker : (W : Weighing) (n : ℕ) {b c : Bool} {x : Result} → (b ≡ true → c ≡ true) → Ending W n c x → Ending W n b x
-weaker W n h failed = failed
+weaker W n h (failed o) = failed o
 weaker W n h (fine w e) = fine w λ b. e (h b)
 
 -- What a level's next step leaves of the bound n, in terms of what it says of a state and the rest of the list.
 pub data Onward (W : Weighing) {S : Type 0} (L : Level S) (Fits : S → Forest → ℕ → Type 0) (full : S → Bool) (k : Token) (cs rest : Forest) (n : ℕ) : Step S → Type 0 where
-  stops : {m : List Message} → Onward W L Fits full k cs rest n (stop m)
+  stops : {m : List Message} → length m ≡ 1 → Onward W L Fits full k cs rest n (stop m)
   goes : {t : S} → Fits t rest n → full t ≡ true → Onward W L Fits full k cs rest n (on t)
   enters : {t u : S} (m : ℕ) → Fits u cs m → isNil cs ≡ false
     → ((kids : Forest) → weight W kids ≤ m → isNil kids ≡ false → Fits (L .resume t k kids) rest n × (full (L .resume t k kids) ≡ true))
@@ -68,7 +69,7 @@ module _ (W : Weighing) {S : Type 0} (L : Level S) (A : Light W L) where
   back-light : (t : S) (k : Token) (rest : Forest) (n m : ℕ) {x : Result} → Ending W m true x
     → ((kids : Forest) → weight W kids ≤ m → isNil kids ≡ false → Ending W n true (walk L (L .resume t k kids) rest)) → Ending W n true (back t k rest x)
   unfolding back
-  back-light t k rest n m failed next = failed
+  back-light t k rest n m (failed o) next = failed o
   back-light t k rest n m (fine {g = kids} w e) next = next kids w (e refl)
 
   onward-light : (k : Token) (cs rest : Forest) (n : ℕ) {x : Step S} → Onward W L (A .Fits) (A .full) k cs rest n x
@@ -76,7 +77,7 @@ module _ (W : Weighing) {S : Type 0} (L : Level S) (A : Light W L) where
     → ((u : S) (m : ℕ) → A .Fits u cs m → isNil cs ≡ false → Ending W m true (walk L u cs))
     → Ending W n true (onward k cs rest x)
   unfolding onward
-  onward-light k cs rest n stops later below = failed
+  onward-light k cs rest n (stops o) later below = failed o
   onward-light k cs rest n (goes {t = t} h e) later below = later t h e
   onward-light k cs rest n (enters {t = t} {u = u} m h e next) later below =
       back-light t k rest n m (below u m h e) (λ kids w e. let z = next kids w e in later (L .resume t k kids) (z .0) (z .1))
