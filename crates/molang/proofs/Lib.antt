@@ -4,3 +4,4 @@ pub mod Inert
 pub mod Weight
 pub mod Light
 pub mod Unary
+pub mod Sections
