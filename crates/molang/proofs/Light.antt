@@ -223,7 +223,7 @@ module _ (W : Weighing) where
   unfolding conditionalFinish undangled weight
   conditional-ends d n h =
       let u = folded-light d n (omega arith) in
-      maybe (Ending W n (forestFull d)) (dangling (foldedFrom d)) _ _ (λ k. failed refl) (fine {g = foldedFrom d} (u .0) λ e. u .1 (not-true (isNil d) e))
+      maybe (Ending W n (forestFull d)) (dangling (foldedFrom d)) _ _ (λ k. failed refl) (fine {g = foldedFrom d} (u .0, λ e. u .1 (not-true (isNil d) e)))
 
   pub conditional-light : Light W conditionalLevel
   unfolding conditionalLevel weight
@@ -377,11 +377,11 @@ module _ (W : Weighing) (pays : 3 * W .inner ≤ W .leaf Operator.semicolon) whe
   statement-ends (unsplit d) n h = turned-fine W d n h
   statement-ends (after q nil) n h = absurd (true≢false (h .1))
   statement-ends (after q (node t ts done)) n h =
-      fine {g = node q (inOrder (node t ts done)) nil} (omega (arith, h .0, weight-inner W q (inOrder (node t ts done)) nil (isNil-inOrder (node t ts done) refl), weight-inOrder W (node t ts done))) λ e. refl
+      fine {g = node q (inOrder (node t ts done)) nil} (omega (arith, h .0, weight-inner W q (inOrder (node t ts done)) nil (isNil-inOrder (node t ts done) refl), weight-inOrder W (node t ts done)), λ e. refl)
   statement-ends (inside q nil s d) n h = absurd (true≢false (h .1))
   statement-ends (inside q (node t ts done) s d) n h =
       let l = node s (inOrder d) (node t ts done) in
-      fine {g = node q (inOrder l) nil} (omega (arith, h .0, weight-inner W q (inOrder l) nil (isNil-inOrder l refl), weight-inOrder W l, weight-inner W s (inOrder d) (node t ts done) (isNil-inOrder d (h .2)), weight-inOrder W d)) λ e. refl
+      fine {g = node q (inOrder l) nil} (omega (arith, h .0, weight-inner W q (inOrder l) nil (isNil-inOrder l refl), weight-inOrder W l, weight-inner W s (inOrder d) (node t ts done) (isNil-inOrder d (h .2)), weight-inOrder W d), λ e. refl)
 
   pub statement-light : Light W statementLevel
   unfolding statementLevel weight

@@ -14,7 +14,7 @@ use Rattle.molang.specs.Forest.{Token, Forest, nil, node, leaves, inOrde
 use Rattle.molang.specs.Message.{Message, closer, Result, ok, fail}
 use Rattle.molang.specs.Sections.{withMember, members, Open, outside, section, placed, position, outermost, Walked, going, mismatch, closing, bracket, closed, sections}
 use Rattle.molang.proofs.Trees.{isNil, decided, either, maybe, both, and-true-true}
-use Rattle.molang.proofs.Weight.{Weighing, weight, Ending, failed, fine, weight-inner, weight-tree, weight-inOrder}
+use Rattle.molang.proofs.Weight.{Weighing, weight, Outcome, failed, fine, weight-inner, weight-tree, weight-inOrder}
 
 unfoldable pub flat : Forest → Bool
 flat nil = true
@@ -45,14 +45,12 @@ flat-turned (node k (node c cs r) d) f hd hf =
     flat-turned d (node k (node c cs r) f) (e .1) (and-true-true _ _ (e .0) hf)
 
 -- One message, or a flat list no heavier than n.
-pub data Flat (W : Weighing) (n : ℕ) : Result → Type 0 where
-  unflat : {m : List Message} → length m ≡ 1 → Flat W n (fail m)
-  flatly : {g : Forest} → weight W g ≤ n → flat g ≡ true → Flat W n (ok g)
+abbrev pub Flat : Weighing → ℕ → Result → Type 0
+Flat W n = Outcome 1 (λ g. (weight W g ≤ n) × (flat g ≡ true))
 
 -- Two messages, or a list no heavier than n.
-pub data Sectioned (W : Weighing) (n : ℕ) : Result → Type 0 where
-  unsectioned : {m : List Message} → length m ≡ 2 → Sectioned W n (fail m)
-  sectioned : {g : Forest} → weight W g ≤ n → Sectioned W n (ok g)
+abbrev pub Sectioned : Weighing → ℕ → Result → Type 0
+Sectioned W n = Outcome 2 (λ g. weight W g ≤ n)
 
 -- The trees so far with one more member accessor.
 data Joined (W : Weighing) (n : ℕ) : Option Forest → Type 0 where
@@ -74,12 +72,12 @@ module _ (W : Weighing) where
 
   afterMember-light : (m : List Message) (rest : Forest) (n b : ℕ) {x : Option Forest} → length m ≡ 1 → Joined W b x → ((e : Forest) → weight W e ≤ b → flat e ≡ true → Flat W n (members e rest)) → Flat W n (afterMember m rest x)
   unfolding afterMember
-  afterMember-light m rest n b o unjoined next = unflat o
+  afterMember-light m rest n b o unjoined next = failed o
   afterMember-light m rest n b o (joinedTo {e = e} w h) next = next e w h
 
   pub members-light : (ks : List Token) (d : Forest) (n : ℕ) → weight W d + weight W (leaves ks) ≤ n → flat d ≡ true → Flat W n (members d (leaves ks))
   unfolding members leaves weight inOrder flat afterMember
-  members-light [] d n h f = flatly {g = inOrder d} (omega (arith, weight-inOrder W d)) (flat-turned d nil f refl)
+  members-light [] d n h f = fine {g = inOrder d} (omega (arith, weight-inOrder W d), flat-turned d nil f refl)
   members-light (k ∷ ks) d n h f =
       decided (Flat W n) (eqb (k .op) Operator.memberAccessor) _ _
       (λ e. afterMember-light _ (leaves ks) n (W .leaf (k .op) + weight W d) refl (member-light k d e f) (λ d w f. members-light ks d n (omega arith) f))
@@ -130,8 +128,8 @@ module _ (W : Weighing) where
 
   closed-light : (s : Open) (n : ℕ) → openWeight s ≤ n → Sectioned W n (closed s)
   unfolding closed openWeight
-  closed-light (outside d) n h = sectioned {g = inOrder d} (omega (arith, weight-inOrder W d))
-  closed-light (section o i d s) n h = unsectioned refl
+  closed-light (outside d) n h = fine {g = inOrder d} (omega (arith, weight-inOrder W d))
+  closed-light (section o i d s) n h = failed refl
 
   -- `sections` at a token, by what it makes of the open sections.
   afterBracket : ℕ → Forest → Walked → Result
@@ -140,7 +138,7 @@ module _ (W : Weighing) where
   afterBracket-light : (i : ℕ) (rest : Forest) (n b : ℕ) {x : Walked} → Walks b x → ((t : Open) → openWeight t ≤ b → Sectioned W n (sections i t rest)) → Sectioned W n (afterBracket i rest x)
   unfolding afterBracket
   afterBracket-light i rest n b (walks {s = t} h) next = next t h
-  afterBracket-light i rest n b (differs o) next = unsectioned o
+  afterBracket-light i rest n b (differs o) next = failed o
 
   open-light : (i : ℕ) (s : Open) (f : Forest) (n : ℕ) → openWeight s + weight W f ≤ n → flat f ≡ true → Sectioned W n (sections i s f)
   unfolding sections weight afterBracket

@@ -111,4 +111,4 @@ module _ (W : Weighing) (turns : W .leaf Operator.add + W .inner ≤ W .leaf Ope
     where
       pass : (x : Unary) → Reaches W (weight W f) (not (isNil f)) none x → Ending W (weight W f) (not (isNil f)) (elim x [ undone m ↦ fail m | done pair r ↦ ok r ])
       pass x (stuck o) = failed o
-      pass x (reached h e t) = fine h e
+      pass x (reached h e t) = fine (h, e)

@@ -28,14 +28,18 @@ weight W nil = 0
 weight W (node k nil rest) = W .leaf (k .op) + weight W rest
 weight W (node k (node c cs r) rest) = W .inner + weight W (node c cs r) + weight W rest
 
--- The result is one message, or a list no heavier than n and, where that is said, not empty.
-pub data Ending (W : Weighing) (n : ℕ) (full : Bool) : Result → Type 0 where
-  failed : {m : List Message} → length m ≡ 1 → Ending W n full (fail m)
-  fine : {g : Forest} → weight W g ≤ n → (full ≡ true → isNil g ≡ false) → Ending W n full (ok g)
+-- A pass ends in so many messages, or in a list of which Q holds.
+pub data Outcome (count : ℕ) (Q : Forest → Type 0) : Result → Type 0 where
+  failed : {m : List Message} → length m ≡ count → Outcome count Q (fail m)
+  fine : {g : Forest} → Q g → Outcome count Q (ok g)
+
+-- One message, or a list no heavier than n and, where that is said, not empty.
+abbrev pub Ending : Weighing → ℕ → Bool → Result → Type 0
+Ending W n full = Outcome 1 (λ g. (weight W g ≤ n) × (full ≡ true → isNil g ≡ false))
 
 weaker : (W : Weighing) (n : ℕ) {b c : Bool} {x : Result} → (b ≡ true → c ≡ true) → Ending W n c x → Ending W n b x
 weaker W n h (failed o) = failed o
-weaker W n h (fine w e) = fine w λ b. e (h b)
+weaker W n h (fine e) = fine (e .0, λ b. e .1 (h b))
 
 -- What a level's next step leaves of the bound n, in terms of what it says of a state and the rest of the list.
 pub data Onward (W : Weighing) {S : Type 0} (L : Level S) (Fits : S → Forest → ℕ → Type 0) (full : S → Bool) (k : Token) (cs rest : Forest) (n : ℕ) : Step S → Type 0 where
@@ -70,7 +74,7 @@ module _ (W : Weighing) {S : Type 0} (L : Level S) (A : Light W L) where
     → ((kids : Forest) → weight W kids ≤ m → isNil kids ≡ false → Ending W n true (walk L (L .resume t k kids) rest)) → Ending W n true (back t k rest x)
   unfolding back
   back-light t k rest n m (failed o) next = failed o
-  back-light t k rest n m (fine {g = kids} w e) next = next kids w (e refl)
+  back-light t k rest n m (fine {g = kids} e) next = next kids (e .0) (e .1 refl)
 
   onward-light : (k : Token) (cs rest : Forest) (n : ℕ) {x : Step S} → Onward W L (A .Fits) (A .full) k cs rest n x
     → ((t : S) → A .Fits t rest n → A .full t ≡ true → Ending W n true (walk L t rest))
@@ -131,4 +135,4 @@ module _ (W : Weighing) where
   -- The end of a level that gives what it has gathered.
   pub turned-fine : (d : Forest) (n : ℕ) → weight W d + weight W nil ≤ n → Ending W n (not (isNil d)) (ok (inOrder d))
   unfolding weight
-  turned-fine d n h = fine {g = inOrder d} (omega (arith, weight-inOrder d)) λ e. isNil-inOrder d (not-true (isNil d) e)
+  turned-fine d n h = fine {g = inOrder d} (omega (arith, weight-inOrder d), λ e. isNil-inOrder d (not-true (isNil d) e))
