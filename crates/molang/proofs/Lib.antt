@@ -5,3 +5,4 @@ pub mod Weight
 pub mod Light
 pub mod Unary
 pub mod Sections
+pub mod Passes
