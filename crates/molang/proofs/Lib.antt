@@ -6,3 +6,4 @@ pub mod Light
 pub mod Unary
 pub mod Sections
 pub mod Passes
+pub mod Bounds
