@@ -135,6 +135,10 @@ array-inert =
       ends = λ d h. refl;
     }
 
+pub array-walk-free : (d f : Forest) → clear isArrayName d ≡ true → free isArrayName f ≡ true → walk arrayLevel (unindexed d) f ≡ ok (turnedOnto d f)
+unfolding array-inert
+array-walk-free d f hd h = walk-free arrayLevel isArrayName array-inert d f hd h
+
 off-both : (a b : Bool) → (a || b) ≡ false → (a ≡ false) × (b ≡ false)
 off-both true b h = absurd (true≢false h)
 off-both false b h = (refl, h)
@@ -205,6 +209,25 @@ conditional-inert =
       takesBack = λ d k kids. refl;
       ends = end-clear;
     }
+
+-- THE PASSES
+pub call-free : (kind : CallKind) (f : Forest) → free (calls kind) f ≡ true → through (callLevel kind) f ≡ ok f
+call-free kind f h = through-free (callLevel kind) (calls kind) (call-inert kind) f h
+
+pub statement-free : (f : Forest) → free isSemicolon f ≡ true → through statementLevel f ≡ ok f
+statement-free f h = through-free statementLevel isSemicolon statement-inert f h
+
+pub array-free : (f : Forest) → free isArrayName f ≡ true → through arrayLevel f ≡ ok f
+array-free f h = through-free arrayLevel isArrayName array-inert f h
+
+pub binary-free : (ops : List ℕ) (f : Forest) → free (isOneOf ops) f ≡ true → through (binaryLevel ops) f ≡ ok f
+binary-free ops f h = through-free (binaryLevel ops) (isOneOf ops) (binary-inert ops) f h
+
+pub conditional-free : (f : Forest) → free isTernary f ≡ true → through conditionalLevel f ≡ ok f
+conditional-free f h = through-free conditionalLevel isTernary conditional-inert f h
+
+pub return-free : (f : Forest) → free isReturn f ≡ true → through returnLevel f ≡ ok f
+return-free f h = through-free returnLevel isReturn return-inert f h
 
 pub unary-free : (p : Option Token) (f : Forest) → free isPrefix f ≡ true → unary p f ≡ done false f
 unfolding unary unaryNode unaryLeaf turned isPrefix

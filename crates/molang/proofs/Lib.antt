@@ -7,3 +7,4 @@ pub mod Unary
 pub mod Sections
 pub mod Passes
 pub mod Bounds
+pub mod Entered
