@@ -18,7 +18,8 @@ use Rattle.molang.specs.Read.{Answer, tree, messages, rooted, endsReadin
 use Rattle.molang.specs.Words.{tokenWords, treeWords}
 use Rattle.molang.specs.Parse.{recordWords}
 use Rattle.molang.proofs.Trees.{decided, either, maybe, both}
-use Rattle.molang.proofs.Weight.{Weighing, weight, Outcome, failed, fine, Ending}
+use Rattle.molang.proofs.Walks.{Outcome, failed, fine}
+use Rattle.molang.proofs.Weight.{Weighing, weight, Ending}
 use Rattle.molang.proofs.Sections.{flat, leaves-flat, members-light, sections-light}
 use Rattle.molang.proofs.Passes.{isNested, apply-light, allNested, grouped-nil}
 

@@ -1,6 +1,7 @@
 pub mod Computed
 pub mod Trees
 pub mod Inert
+pub mod Walks
 pub mod Weight
 pub mod Light
 pub mod Unary

@@ -20,7 +20,8 @@ use Rattle.molang.specs.Conditional.{isToken, startsWith, under, pairEls
 use Rattle.molang.specs.Unary.{returnStep, returnResume, returnFinish, returnLevel}
 use Rattle.molang.proofs.Trees.{free, clear, isNil, decided, either, maybe}
 use Rattle.molang.proofs.Inert.{isSemicolon, scanned, scan-once}
-use Rattle.molang.proofs.Weight.{Weighing, weight, Ending, failed, fine, Onward, stops, goes, enters, Light, isNil-turned-full, isNil-inOrder, weight-inner, weight-tree, weight-turned, weight-inOrder, turned-fine}
+use Rattle.molang.proofs.Walks.{failed, fine, Onward, stops, goes, enters}
+use Rattle.molang.proofs.Weight.{Weighing, weight, Within, Ending, Light, isNil-turned-full, isNil-inOrder, weight-inner, weight-tree, weight-turned, weight-inOrder, turned-fine}
 
 -- What a gathering level has so far, a token that waits among it.
 unfoldable pub shown : Gathered → Forest
@@ -37,13 +38,13 @@ module _ (W : Weighing) where
   -- The children of a node start with nothing.
   enters-gathered : (L : Level Gathered) (t : Gathered) (k c : Token) (cs r rest : Forest) (n : ℕ)
     → ((kids : Forest) → isNil kids ≡ false → (weight W (shown (L .resume t k kids)) + weight W (node c cs r) + weight W rest ≤ n + weight W kids) × (gatheredFull (L .resume t k kids) ≡ true))
-    → Onward W L GatheredFits gatheredFull k (node c cs r) rest n (into t (gathered nil))
+    → Onward (Within W) L GatheredFits gatheredFull k (node c cs r) rest n (into t (gathered nil))
   unfolding weight shown isNil
   enters-gathered L t k c cs r rest n h =
       enters {t = t} {u = gathered nil} (weight W (node c cs r)) (omega arith) refl λ kids w e. let z = h kids e in (omega arith, z .1)
 
   abbrev CallOnward : CallKind → Token → Forest → Forest → ℕ → Step Gathered → Type 0
-  CallOnward kind k cs rest n = Onward W (callLevel kind) GatheredFits gatheredFull k cs rest n
+  CallOnward kind k cs rest n = Onward (Within W) (callLevel kind) GatheredFits gatheredFull k cs rest n
 
   call-kept : (kind : CallKind) (d : Forest) (k c : Token) (cs r rest : Forest) (n : ℕ) → weight W d + weight W (node k (node c cs r) rest) ≤ n → CallOnward kind k (node c cs r) rest n (into (gathered d) (gathered nil))
   unfolding weight shown isNil callLevel callResume
@@ -77,7 +78,7 @@ module _ (W : Weighing) where
 
   -- Binary levels.
   abbrev BinaryOnward : List ℕ → Token → Forest → Forest → ℕ → Step Gathered → Type 0
-  BinaryOnward ops k cs rest n = Onward W (binaryLevel ops) GatheredFits gatheredFull k cs rest n
+  BinaryOnward ops k cs rest n = Onward (Within W) (binaryLevel ops) GatheredFits gatheredFull k cs rest n
 
   weight-joined : (d : Forest) (q k : Token) (cs : Forest) → weight W (joined d q k cs) ≤ W .inner + weight W (node k cs nil) + weight W d
   unfolding joined weight
@@ -118,7 +119,7 @@ module _ (W : Weighing) where
 
   -- Return.
   abbrev ReturnOnward : Token → Forest → Forest → ℕ → Step Gathered → Type 0
-  ReturnOnward k cs rest n = Onward W returnLevel GatheredFits gatheredFull k cs rest n
+  ReturnOnward k cs rest n = Onward (Within W) returnLevel GatheredFits gatheredFull k cs rest n
 
   return-kept : (d : Forest) (k c : Token) (cs r rest : Forest) (n : ℕ) → weight W d + weight W (node k (node c cs r) rest) ≤ n → ReturnOnward k (node c cs r) rest n (into (gathered d) (gathered nil))
   unfolding weight shown isNil returnLevel returnResume
@@ -213,7 +214,7 @@ module _ (W : Weighing) where
   abbrev forestFull : Forest → Bool
   forestFull d = not (isNil d)
 
-  conditional-steps : (d : Forest) (k : Token) (cs rest : Forest) (n : ℕ) → ForestFits d (node k cs rest) n → Onward W conditionalLevel ForestFits forestFull k cs rest n (conditionalStep d k cs)
+  conditional-steps : (d : Forest) (k : Token) (cs rest : Forest) (n : ℕ) → ForestFits d (node k cs rest) n → Onward (Within W) conditionalLevel ForestFits forestFull k cs rest n (conditionalStep d k cs)
   unfolding conditionalLevel conditionalStep weight isNil
   conditional-steps d k nil rest n h = goes {t = node k nil d} (omega arith) refl
   conditional-steps d k (node c cs r) rest n h =
@@ -242,7 +243,7 @@ module _ (W : Weighing) where
   indexingFull s = not (isNil (flushed s))
 
   abbrev ArrayOnward : Token → Forest → Forest → ℕ → Step Indexing → Type 0
-  ArrayOnward k cs rest n = Onward W arrayLevel IndexingFits indexingFull k cs rest n
+  ArrayOnward k cs rest n = Onward (Within W) arrayLevel IndexingFits indexingFull k cs rest n
 
   weight-array : (d : Forest) (q : Token) (contents : Forest) → isNil contents ≡ false → weight W (flushed (indexed d q contents)) ≡ W .inner + weight W contents + weight W d
   unfolding flushed
@@ -322,7 +323,7 @@ module _ (W : Weighing) (pays : 3 * W .inner ≤ W .leaf Operator.semicolon) whe
   splitFull (inside q done s d) = true
 
   abbrev SplitOnward : Token → Forest → Forest → ℕ → Step Split → Type 0
-  SplitOnward k cs rest n = Onward W statementLevel SplitFits splitFull k cs rest n
+  SplitOnward k cs rest n = Onward (Within W) statementLevel SplitFits splitFull k cs rest n
 
   split-fits : (f g : Forest) (n : ℕ) → weight W g ≤ n → (clear isSemicolon f ≡ false → clear isSemicolon g ≡ false) → SplitFits (splitOf f) g n
   unfolding splitOf clear isSemicolon weight

@@ -20,7 +20,8 @@ use Rattle.molang.specs.Conditional.{foldedFrom, dangling, undangled, co
 use Rattle.molang.specs.Order.{Pass, lastToken, memberAccessors, sectioning, callPass, statements, arrays, pointer, mathCalls, unaryMinusAndNot, addition, ternary, returns, binary, runs, apply}
 use Rattle.molang.specs.Read.{Answer, tree, messages, rooted, endsReading, grouped}
 use Rattle.molang.proofs.Trees.{free, free-leaf, free-tree, isNil, decided, both, and-true-true}
-use Rattle.molang.proofs.Weight.{Weighing, weight, Outcome, failed, fine, Ending, Light, through-light}
+use Rattle.molang.proofs.Walks.{Outcome, failed, fine}
+use Rattle.molang.proofs.Weight.{Weighing, weight, Ending, Light, through-light}
 use Rattle.molang.proofs.Light.{call-light, binary-light, return-light, conditional-light, array-light, statement-light}
 use Rattle.molang.proofs.Unary.{unaryPass-light}
 

@@ -14,7 +14,8 @@ use Rattle.molang.specs.Forest.{Token, Forest, nil, node, leaves, inOrde
 use Rattle.molang.specs.Message.{Message, closer, Result, ok, fail}
 use Rattle.molang.specs.Sections.{withMember, members, Open, outside, section, placed, position, outermost, Walked, going, mismatch, closing, bracket, closed, sections}
 use Rattle.molang.proofs.Trees.{isNil, decided, either, maybe, both, and-true-true}
-use Rattle.molang.proofs.Weight.{Weighing, weight, Outcome, failed, fine, weight-inner, weight-tree, weight-inOrder}
+use Rattle.molang.proofs.Walks.{Outcome, failed, fine}
+use Rattle.molang.proofs.Weight.{Weighing, weight, weight-inner, weight-tree, weight-inOrder}
 
 unfoldable pub flat : Forest → Bool
 flat nil = true

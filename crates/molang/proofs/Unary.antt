@@ -14,7 +14,8 @@ use Rattle.molang.specs.Forest.{Token, Forest, nil, node, renamed, bare}
 use Rattle.molang.specs.Message.{Message, Result, ok, fail}
 use Rattle.molang.specs.Unary.{Unary, done, undone, minusAfter, notBefore, unaryLeaf, turned, unaryNode, unary, unaryPass}
 use Rattle.molang.proofs.Trees.{isNil, decided, either}
-use Rattle.molang.proofs.Weight.{Weighing, weight, Ending, failed, fine, weight-inner, weight-tree}
+use Rattle.molang.proofs.Walks.{failed, fine}
+use Rattle.molang.proofs.Weight.{Weighing, weight, Ending, weight-inner, weight-tree}
 
 unfoldable pub isMinus : Option Token → Bool
 isMinus none = false
