@@ -9,3 +9,4 @@ pub mod Sections
 pub mod Passes
 pub mod Bounds
 pub mod Entered
+pub mod Unfolded

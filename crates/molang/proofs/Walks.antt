@@ -39,21 +39,22 @@ pub record Keeps {I S : Type 0} (Good : I → Forest → Type 0) (bound : Forest
   pub steps : (s : S) (k : Token) (cs rest : Forest) (n : I) → Fits s (node k cs rest) n → Onward Good L Fits full k cs rest n (L .step s k cs)
   pub ends : (s : S) (n : I) → Fits s nil n → Ends Good n (full s) (L .finish s)
 
-module _ {I S : Type 0} (Good : I → Forest → Type 0) (bound : Forest → I) (L : Level S) (A : Keeps Good bound L) where
-  -- `walk` by what the next step and the children's list give.
-  back : S → Token → Forest → Result → Result
+-- `walk` by what the next step and the children's list give.
+module _ {S : Type 0} (L : Level S) where
+  unfoldable pub back : S → Token → Forest → Result → Result
   back t k rest x = elim x [ fail m ↦ fail m | ok kids ↦ walk L (L .resume t k kids) rest ]
 
-  onward : Token → Forest → Forest → Step S → Result
+  unfoldable pub onward : Token → Forest → Forest → Step S → Result
   unfolding back
   onward k cs rest x = elim x [ stop m ↦ fail m | on t ↦ walk L t rest | into t u ↦ back t k rest (walk L u cs) ]
 
-  walk-onward : (s : S) (k : Token) (cs rest : Forest) → walk L s (node k cs rest) ≡ onward k cs rest (L .step s k cs)
+  pub walk-onward : (s : S) (k : Token) (cs rest : Forest) → walk L s (node k cs rest) ≡ onward k cs rest (L .step s k cs)
   unfolding walk onward back
   walk-onward s k cs rest = refl
 
+module _ {I S : Type 0} (Good : I → Forest → Type 0) (bound : Forest → I) (L : Level S) (A : Keeps Good bound L) where
   back-keeps : (t : S) (k : Token) (rest : Forest) (n m : I) {x : Result} → Ends Good m true x
-    → ((kids : Forest) → Good m kids → isNil kids ≡ false → Ends Good n true (walk L (L .resume t k kids) rest)) → Ends Good n true (back t k rest x)
+    → ((kids : Forest) → Good m kids → isNil kids ≡ false → Ends Good n true (walk L (L .resume t k kids) rest)) → Ends Good n true (back L t k rest x)
   unfolding back
   back-keeps t k rest n m (failed o) next = failed o
   back-keeps t k rest n m (fine {g = kids} e) next = next kids (e .0) (e .1 refl)
@@ -61,7 +62,7 @@ module _ {I S : Type 0} (Good : I → Forest → Type 0) (bound : Forest → I) 
   onward-keeps : (k : Token) (cs rest : Forest) (n : I) {x : Step S} → Onward Good L (A .Fits) (A .full) k cs rest n x
     → ((t : S) → A .Fits t rest n → A .full t ≡ true → Ends Good n true (walk L t rest))
     → ((u : S) (m : I) → A .Fits u cs m → isNil cs ≡ false → Ends Good m true (walk L u cs))
-    → Ends Good n true (onward k cs rest x)
+    → Ends Good n true (onward L k cs rest x)
   unfolding onward
   onward-keeps k cs rest n (stops o) later below = failed o
   onward-keeps k cs rest n (goes {t = t} h e) later below = later t h e
@@ -72,7 +73,7 @@ module _ {I S : Type 0} (Good : I → Forest → Type 0) (bound : Forest → I) 
   unfolding walk isNil
   walk-keeps s nil n h b c = weaker Good n (λ e. rw or-false at (c e)) (A .ends s n h)
   walk-keeps s (node k cs rest) n h b c =
-      weaker Good n (λ e. refl) (rw walk-onward (onward-keeps k cs rest n (A .steps s k cs rest n h) (λ t h e. walk-keeps t rest n h true (λ z. rw e refl)) (λ u m h e. walk-keeps u cs m h true (λ z. rw (e, or-true) refl))))
+      weaker Good n (λ e. refl) (rw (walk-onward L) (onward-keeps k cs rest n (A .steps s k cs rest n h) (λ t h e. walk-keeps t rest n h true (λ z. rw e refl)) (λ u m h e. walk-keeps u cs m h true (λ z. rw (e, or-true) refl))))
 
   pub through-keeps : (f : Forest) → Ends Good (bound f) (not (isNil f)) (through L f)
   unfolding through
