@@ -10,3 +10,4 @@ pub mod Passes
 pub mod Bounds
 pub mod Entered
 pub mod Unfolded
+pub mod Words

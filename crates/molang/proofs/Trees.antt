@@ -3,6 +3,7 @@ use Prim.Native.Nat.{ℕ}
 use mathlib.Core.Path.{_≡_, refl}
 use mathlib.Core.Bool.{Bool, true, false, _&&_, not, and-eq-true-iff, true≢false}
 use mathlib.Core.Option.{Option, none, some}
+use native.Mathlib.Omega.{arith}
 use borrow.Author.Tests.{not-true}
 use Rattle.molang.specs.Forest.{Token, Forest, nil, node, turnedOnto}
 
@@ -33,6 +34,9 @@ either Q b x y p q = decided Q b x y (λ e. p) (λ e. q)
 pub maybe : {A B : Type 0} (Q : A → Type 0) (o : Option B) (y : B → A) (x : A) → ((b : B) → Q (y b)) → Q x → Q (elim o [ some b ↦ y b | none ↦ x ])
 maybe Q none y x p q = q
 maybe Q (some b) y x p q = p b
+
+pub some-none : {A B : Type 0} {a : A} → some a ≡ none → B
+some-none e = let z : _≡_ {A = ℕ} 0 1 = cc in absurd (omega arith)
 
 pub both : (a b : Bool) → (a && b) ≡ true → (a ≡ true) × (b ≡ true)
 both a b h = and-eq-true-iff a b .0 h

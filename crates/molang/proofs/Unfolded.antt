@@ -6,19 +6,15 @@ use mathlib.Core.Path.{_≡_, refl, ap, _∙_}
 use mathlib.Core.Bool.{Bool, true, false, not, true≢false, false≢true, or-true}
 use mathlib.Core.List.{List, [], _∷_}
 use mathlib.Core.Option.{Option, none, some}
-use native.Mathlib.Omega.{arith}
 use borrow.Author.Tests.{not-true}
 use Rattle.molang.specs.Operator.{isOneOf}
 use Rattle.molang.specs.Forest.{Token, Forest, nil, node, turnedOnto, inOrder}
 use Rattle.molang.specs.Message.{Message, binaryAtEnd, Result, ok, fail}
 use Rattle.molang.specs.Level.{Step, stop, on, into, Level, walk, through, Gathered, gathered, waiting, nothing}
 use Rattle.molang.specs.Binary.{firstLeaf, unfolded, joined, operatorAfter, binaryStep, binaryResume, binaryFinish, binaryLevel}
-use Rattle.molang.proofs.Trees.{free, free-leaf, free-tree, and-true-true, isNil, decided, maybe}
+use Rattle.molang.proofs.Trees.{free, free-leaf, free-tree, and-true-true, isNil, decided, maybe, some-none}
 use Rattle.molang.proofs.Walks.{Outcome, failed, fine, Ends, Onward, stops, goes, enters, Keeps, back, onward, walk-onward, walk-keeps}
 use Rattle.molang.proofs.Weight.{isNil-inOrder}
-
-some-none : {A B : Type 0} {a : A} → some a ≡ none → B
-some-none e = let z : _≡_ {A = ℕ} 0 1 = cc in absurd (omega arith)
 
 first-of-two : {A : Type 0} (o x : Option A) → _≡_ {A = Option A} (elim o [ some t ↦ some t | none ↦ x ]) none → (o ≡ none) × (x ≡ none)
 first-of-two none x h = (refl, h)

@@ -1,0 +1,219 @@
+-- Words and what they say, both ways: legal tokens and trees are read back from their words, and legal words are those of their tokens.
+use Prim.Native.Nat.{ℕ, zero, suc, _+_, _*_, _/_, _%_, _^_, _≤_, _<_}
+use mathlib.Core.Path.{_≡_, refl, ap, sym, _∙_}
+use mathlib.Core.Bool.{Bool, true, false}
+use mathlib.Core.List.{List, [], _∷_, _++_, append-assoc, append-nil}
+use mathlib.Core.Option.{Option, none, some}
+use native.Mathlib.Omega.{arith}
+use lib.Dec.{eqb, leb, ltb}
+use lib.ListN.{length}
+use borrow.Author.Tests.{eqb-true, eqb-false, leb-true, ltb-true}
+use Rattle.molang.specs.Forest.{Token, Forest, nil, node, count}
+use Rattle.molang.specs.Words.{word, kindOf, lowOf, tokenWords, tokenOf, tokensOf, listWords, treeWords, Slot, operatorSlot, startSlot, endSlot, upperSlot, lowerSlot, countSlot, slotKind, unless, lowFault, wordFault, variantAfter, nextInToken, Refusal, wordsRefusal}
+use Rattle.molang.proofs.Trees.{decided, some-none}
+use Rattle.molang.specs.WriteEntry.{firstTrees, otherTrees, treesOf}
+
+-- A token whose fields fit its words.
+pub record Legal (k : Token) : Type 0 where
+  pub op : k .op ≤ 110
+  pub variant : k .variant ≤ 12
+  pub value : k .value < 2 ^ 32
+  pub start : k .start < 2 ^ 29
+  pub end : k .end < 2 ^ 29
+  pub unpaid : k .variant ≡ 0 → k .value ≡ 0
+
+pub data LegalTokens : List Token → Type 0 where
+  noTokens : LegalTokens []
+  token : {k : Token} {ks : List Token} → Legal k → LegalTokens ks → LegalTokens (k ∷ ks)
+
+pub data LegalTrees : Forest → Type 0 where
+  noTrees : LegalTrees nil
+  tree : {k : Token} {cs rest : Forest} → Legal k → count cs < 2 ^ 14 → LegalTrees cs → LegalTrees rest → LegalTrees (node k cs rest)
+
+low-word : (kind low : ℕ) → low < 2 ^ 29 → lowOf (word kind low) ≡ low
+unfolding lowOf word
+low-word kind low h = omega arith
+
+kind-word : (kind low : ℕ) → low < 2 ^ 29 → kindOf (word kind low) ≡ kind
+unfolding kindOf word
+kind-word kind low h = omega arith
+
+high-part : (high low : ℕ) → low < 2 ^ 8 → (high * 2 ^ 8 + low) / 2 ^ 8 ≡ high
+high-part high low h = omega arith
+
+-- A token is read back from its words.
+token-back : (k : Token) → Legal k
+  → tokenOf (word 1 (k .variant * 2 ^ 8 + k .op)) (word 2 (k .start)) (word 3 (k .end)) (word 4 (k .value / 2 ^ 16)) (word 5 (k .value % 2 ^ 16)) ≡ k
+unfolding tokenOf
+token-back k h =
+    let first = low-word 1 (k .variant * 2 ^ 8 + k .op) (omega arith) in
+    let op : lowOf (word 1 (k .variant * 2 ^ 8 + k .op)) % 2 ^ 8 ≡ k .op = rw first (omega arith) in
+    let variant : lowOf (word 1 (k .variant * 2 ^ 8 + k .op)) / 2 ^ 8 % 2 ^ 4 ≡ k .variant = rw (first, high-part (k .variant) (k .op) (omega arith)) (omega arith) in
+    let value : lowOf (word 4 (k .value / 2 ^ 16)) % 2 ^ 16 * 2 ^ 16 + lowOf (word 5 (k .value % 2 ^ 16)) % 2 ^ 16 ≡ k .value =
+        rw (low-word 4 (k .value / 2 ^ 16) (omega arith), low-word 5 (k .value % 2 ^ 16) (omega arith)) (omega arith)
+    in
+    let start = low-word 2 (k .start) (h .start) in
+    let end = low-word 3 (k .end) (h .end) in
+    λ i. record { op = op i; variant = variant i; value = value i; start = start i; end = end i }
+
+pub tokens-back : (ks : List Token) → LegalTokens ks → tokensOf (listWords ks) ≡ ks
+unfolding tokensOf listWords tokenWords
+tokens-back [] noTokens = refl
+tokens-back (k ∷ ks) (token h hs) = rw (token-back k h, tokens-back ks hs) refl
+
+-- The trees of the first list before those of the second.
+unfoldable pub beside : Forest → Forest → Forest
+beside nil g = g
+beside (node k cs rest) g = node k cs (beside rest g)
+
+first-beside : (f g : Forest) → firstTrees (count f) (beside f g) ≡ f
+unfolding firstTrees count beside
+first-beside nil g = refl
+first-beside (node k cs rest) g = ap (node k cs) (first-beside rest g)
+
+other-beside : (f g : Forest) → otherTrees (count f) (beside f g) ≡ g
+unfolding otherTrees count beside
+other-beside nil g = refl
+other-beside (node k cs rest) g = other-beside rest g
+
+beside-nil : (f : Forest) → beside f nil ≡ f
+unfolding beside
+beside-nil nil = refl
+beside-nil (node k cs rest) = ap (node k cs) (beside-nil rest)
+
+trees-beside : {f : Forest} → LegalTrees f → (ws : List ℕ) → treesOf (treeWords f ++ ws) ≡ beside f (treesOf ws)
+unfolding treesOf treeWords tokenWords beside
+trees-beside noTrees ws = refl
+trees-beside (tree {k = k} {cs = cs} {rest = rest} h n below later) ws =
+    let trees : treesOf ((treeWords cs ++ treeWords rest) ++ ws) ≡ beside cs (beside rest (treesOf ws)) =
+        rw (append-assoc (treeWords cs) (treeWords rest) ws) (trees-beside below (treeWords rest ++ ws) ∙ ap (beside cs) (trees-beside later ws))
+    in
+    rw (token-back k h, low-word 6 (count cs) (omega arith), trees, first-beside, other-beside) refl
+
+-- Legal trees are read back from their words.
+pub trees-back : (f : Forest) → LegalTrees f → treesOf (treeWords f) ≡ f
+unfolding treesOf
+trees-back f h = ap treesOf (sym (append-nil (treeWords f))) ∙ (trees-beside h [] ∙ beside-nil f)
+
+-- What no test fails.
+unless-none : (b : Bool) (n : ℕ) (later : Option ℕ) → unless b n later ≡ none → (b ≡ true) × (later ≡ none)
+unfolding unless
+unless-none true n later e = (refl, e)
+unless-none false n later e = some-none e
+
+-- A word without fault: its kind, and its low bits.
+word-faultless : (slot : Slot) (v w : ℕ) → wordFault slot v w ≡ none → (kindOf w ≡ slotKind slot) × (lowFault slot v (lowOf w) ≡ none)
+unfolding wordFault
+word-faultless slot v w e =
+    let z = unless-none (eqb (kindOf w) (slotKind slot)) 8 (lowFault slot v (lowOf w)) e in
+    (eqb-true (kindOf w) (slotKind slot) (z .0), z .1)
+
+operator-faultless : (v low : ℕ) → lowFault operatorSlot v low ≡ none → (low % 2 ^ 8 ≤ 110) × (low / 2 ^ 8 % 2 ^ 4 ≤ 12) × (low < 2 ^ 12)
+unfolding lowFault
+operator-faultless v low e =
+    let x = unless-none (leb (low % 2 ^ 8) 110) 9 _ e in
+    let y = unless-none (leb (low / 2 ^ 8 % 2 ^ 4) 12) 10 _ (x .1) in
+    let z = unless-none (ltb low (2 ^ 12)) 11 none (y .1) in
+    (leb-true (low % 2 ^ 8) 110 (x .0), leb-true (low / 2 ^ 8 % 2 ^ 4) 12 (y .0), ltb-true low (2 ^ 12) (z .0))
+
+-- Half of a payload value, in a token of variant v.
+abbrev Half : ℕ → ℕ → Type 0
+Half v low = (low < 2 ^ 16) × (v ≡ 0 → low ≡ 0)
+
+half-bound : (v low : ℕ) → low < elim (eqb v 0) [ true ↦ 1 | false ↦ 2 ^ 16 ] → Half v low
+half-bound v low =
+    decided (λ bound. low < bound → Half v low) (eqb v 0) _ _ (λ e h. (omega arith, λ z. omega arith)) (λ e h. (omega arith, λ z. absurd (eqb-false v 0 e z)))
+
+upper-faultless : (v low : ℕ) → lowFault upperSlot v low ≡ none → Half v low
+unfolding lowFault
+upper-faultless v low e = half-bound v low (ltb-true low _ (unless-none _ 11 none e .0))
+
+lower-faultless : (v low : ℕ) → lowFault lowerSlot v low ≡ none → Half v low
+unfolding lowFault
+lower-faultless v low e = half-bound v low (ltb-true low _ (unless-none _ 11 none e .0))
+
+-- The five words of a token without fault.
+record FiveLegal (a b c d e : ℕ) : Type 0 where
+  operatorKind : kindOf a ≡ 1
+  startKind : kindOf b ≡ 2
+  endKind : kindOf c ≡ 3
+  upperKind : kindOf d ≡ 4
+  lowerKind : kindOf e ≡ 5
+  operator : lowOf a % 2 ^ 8 ≤ 110
+  variant : lowOf a / 2 ^ 8 % 2 ^ 4 ≤ 12
+  room : lowOf a < 2 ^ 12
+  upper : Half (lowOf a / 2 ^ 8 % 2 ^ 4) (lowOf d)
+  lower : Half (lowOf a / 2 ^ 8 % 2 ^ 4) (lowOf e)
+
+low-bound : (w : ℕ) → lowOf w < 2 ^ 29
+unfolding lowOf
+low-bound w = omega arith
+
+-- A word is its kind and its low bits.
+word-back : (kind w : ℕ) → kindOf w ≡ kind → word kind (lowOf w) ≡ w
+unfolding kindOf lowOf word
+word-back kind w h = omega arith
+
+module _ (a b c d e : ℕ) (h : FiveLegal a b c d e) where
+  five-legal : Legal (tokenOf a b c d e)
+  unfolding tokenOf
+  five-legal =
+      record {
+        op = h .operator;
+        variant = h .variant;
+        value = omega arith;
+        start = low-bound b;
+        end = low-bound c;
+        unpaid = λ z. omega (arith, h .upper .1 z, h .lower .1 z);
+      }
+
+  five-back : tokenWords (tokenOf a b c d e) ≡ a ∷ b ∷ c ∷ d ∷ e ∷ []
+  unfolding tokenWords tokenOf
+  five-back =
+      let first : lowOf a / 2 ^ 8 % 2 ^ 4 * 2 ^ 8 + lowOf a % 2 ^ 8 ≡ lowOf a = omega (arith, h .room) in
+      let upper : (lowOf d % 2 ^ 16 * 2 ^ 16 + lowOf e % 2 ^ 16) / 2 ^ 16 ≡ lowOf d = omega (arith, h .upper .0) in
+      let lower : (lowOf d % 2 ^ 16 * 2 ^ 16 + lowOf e % 2 ^ 16) % 2 ^ 16 ≡ lowOf e = omega (arith, h .lower .0) in
+      rw (first, upper, lower, word-back 1 a (h .operatorKind), word-back 2 b (h .startKind), word-back 3 c (h .endKind), word-back 4 d (h .upperKind), word-back 5 e (h .lowerKind)) refl
+
+refused-none : (o : Option ℕ) (refused : ℕ → Refusal) (later : Option Refusal) → _≡_ {A = Option Refusal} (elim o [ some n ↦ some (refused n) | none ↦ later ]) none → (o ≡ none) × (later ≡ none)
+refused-none none refused later e = (refl, e)
+refused-none (some n) refused later e = some-none e
+
+next-word : (i : ℕ) (slot : Slot) (v w : ℕ) (ws : List ℕ) → wordsRefusal i slot v (w ∷ ws) ≡ none → (wordFault slot v w ≡ none) × (wordsRefusal (suc i) (nextInToken slot) (variantAfter slot v w) ws ≡ none)
+unfolding wordsRefusal
+next-word i slot v w ws e = refused-none (wordFault slot v w) (λ n. record { number = n; place = i }) _ e
+
+pub words-back : (i v : ℕ) (ws : List ℕ) → wordsRefusal i operatorSlot v ws ≡ none → length ws % 5 ≡ 0 → (listWords (tokensOf ws) ≡ ws) × LegalTokens (tokensOf ws)
+unfolding tokensOf listWords nextInToken variantAfter slotKind
+words-back i v [] h n = (refl, noTokens)
+words-back i v (a ∷ []) h n = absurd (omega arith)
+words-back i v (a ∷ b ∷ []) h n = absurd (omega arith)
+words-back i v (a ∷ b ∷ c ∷ []) h n = absurd (omega arith)
+words-back i v (a ∷ b ∷ c ∷ d ∷ []) h n = absurd (omega arith)
+words-back i v (a ∷ b ∷ c ∷ d ∷ e ∷ ws) h n =
+    let u = lowOf a / 2 ^ 8 % 2 ^ 4 in
+    let ra = next-word i operatorSlot v a (b ∷ c ∷ d ∷ e ∷ ws) h in
+    let rb = next-word (suc i) startSlot u b (c ∷ d ∷ e ∷ ws) (ra .1) in
+    let rc = next-word (suc (suc i)) endSlot u c (d ∷ e ∷ ws) (rb .1) in
+    let rd = next-word (suc (suc (suc i))) upperSlot u d (e ∷ ws) (rc .1) in
+    let re = next-word (suc (suc (suc (suc i)))) lowerSlot u e ws (rd .1) in
+    let fa = word-faultless operatorSlot v a (ra .0) in
+    let fd = word-faultless upperSlot u d (rd .0) in
+    let fe = word-faultless lowerSlot u e (re .0) in
+    let o = operator-faultless v (lowOf a) (fa .1) in
+    let five : FiveLegal a b c d e =
+        record {
+          operatorKind = fa .0;
+          startKind = word-faultless startSlot u b (rb .0) .0;
+          endKind = word-faultless endSlot u c (rc .0) .0;
+          upperKind = fd .0;
+          lowerKind = fe .0;
+          operator = o .0;
+          variant = o .1;
+          room = o .2;
+          upper = upper-faultless u (lowOf d) (fd .1);
+          lower = lower-faultless u (lowOf e) (fe .1);
+        }
+    in
+    let later = words-back (suc (suc (suc (suc (suc i))))) u ws (re .1) (omega arith) in
+    (rw (five-back a b c d e five, later .0) refl, token (five-legal a b c d e five) (later .1))
