@@ -75,8 +75,8 @@ module _ (sourceLength : ℕ) (u : ℕ → Bool) (n : ℕ) where
   module _ (p : Pass) (ps : List Pass) (f : Forest) where
     -- A pass runs or not; it fails with so many messages, or gives a list of which Q holds.
     pass-bounded : (c : ℕ) (Q : Forest → Type 0) → Outcome c Q (apply sourceLength p f) → Bounded n (grouped sourceLength u ps [] f)
-      → ((m : List Message) → length m ≡ c → Bounded n (afterFail p ps m)) → ((g : Forest) → Q g → Bounded n (grouped sourceLength u ps [] g))
-      → Bounded n (grouped sourceLength u (p ∷ ps) [] f)
+        → ((m : List Message) → length m ≡ c → Bounded n (afterFail p ps m)) → ((g : Forest) → Q g → Bounded n (grouped sourceLength u ps [] g))
+        → Bounded n (grouped sourceLength u (p ∷ ps) [] f)
     unfolding grouped afterPass afterFail
     pass-bounded c Q o unrun unable able = either (Bounded n) (runs u p) _ _ (passed o) unrun
       where
@@ -110,7 +110,7 @@ module _ (sourceLength : ℕ) (u : ℕ → Bool) (n : ℕ) where
       pass-bounded memberAccessors (sectioning ∷ ps) (leaves ks) 1 _ (members-light nodeWeight ks nil n (omega arith) refl) (sections-bounded ps (leaves ks) e (leaves-flat ks) h) (λ m o. counted m (omega arith) (omega arith)) (λ g w. sections-bounded ps g e (w .1) (w .0))
 
   flat-bounded : (ps : List Pass) (ks : List Token) → allNested ps ≡ true → weight nodeWeight (leaves ks) ≤ n
-    → Bounded n (grouped sourceLength u (lastToken ∷ memberAccessors ∷ sectioning ∷ ps) [] (leaves ks))
+      → Bounded n (grouped sourceLength u (lastToken ∷ memberAccessors ∷ sectioning ∷ ps) [] (leaves ks))
   unfolding apply afterFail endsReading
   flat-bounded ps ks e h =
       let later = members-bounded ps ks e h in
@@ -189,9 +189,9 @@ treeWords-length nil = refl
 treeWords-length (node k cs rest) = omega (arith, length-append (treeWords cs) (treeWords rest), treeWords-length cs, treeWords-length rest)
 
 pub read-treeWords : (tokens : List Token) (u : ℕ → Bool) (version : ℤ) (sourceLength : ℕ) (k : Token) (cs : Forest) → read tokens u version sourceLength ≡ tree k cs
-  → length (treeWords (node k cs nil)) ≤ 18 * length tokens
+    → length (treeWords (node k cs nil)) ≤ 18 * length tokens
 read-treeWords ts u v l k cs e = omega (arith, treeWords-length (node k cs nil), read-tree ts u v l k cs e)
 
 pub read-recordWords : (tokens : List Token) (u : ℕ → Bool) (version : ℤ) (sourceLength : ℕ) (ms : List Message) → read tokens u version sourceLength ≡ messages ms
-  → length (recordWords ms) ≤ 16
+    → length (recordWords ms) ≤ 16
 read-recordWords ts u v l ms e = omega (arith, records-length ms, read-messages ts u v l ms e .1)

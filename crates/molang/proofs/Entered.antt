@@ -153,15 +153,15 @@ module _ (q : Token) (n : isArrayName (q .op) ≡ false) where
   clear-array (node c cs r) rest h = h
 
   leaf-completed : (b : Bool) (contents rest : Forest) (i : Token) → isIndex i ≡ b → isArrayName (i .op) ≡ false → free isArrayName rest ≡ true
-    → walk arrayLevel (indexed nil q contents) (node i nil rest) ≡ completed q contents (node i nil rest)
+      → walk arrayLevel (indexed nil q contents) (node i nil rest) ≡ completed q contents (node i nil rest)
   unfolding walk completed arrayLevel flushed inOrder turnedOnto clear
   leaf-completed true contents rest i e m h = rw (empty-fails nil q i e contents, walk) (rw (e, completed) refl)
   leaf-completed false contents rest i e m h =
       rw (leaf-ends (indexed nil q contents) i e m, walk) (rw (e, completed) (array-walk-free (node i nil (node q (inOrder contents) nil)) rest (leaf-clear isArrayName i (node q (inOrder contents) nil) m (clear-array (inOrder contents) nil refl)) h))
 
   tree-completed : (b : Bool) (contents rest : Forest) (i c : Token) (cs r : Forest) → isIndex i ≡ b → clear isArrayName contents ≡ true → free isArrayName (node c cs r) ≡ true → free isArrayName rest ≡ true
-    → walk arrayLevel (indexed nil q (turnedOnto (node c cs r) contents)) rest ≡ completed q (turnedOnto (node c cs r) contents) rest
-    → walk arrayLevel (indexed nil q contents) (node i (node c cs r) rest) ≡ completed q contents (node i (node c cs r) rest)
+      → walk arrayLevel (indexed nil q (turnedOnto (node c cs r) contents)) rest ≡ completed q (turnedOnto (node c cs r) contents) rest
+      → walk arrayLevel (indexed nil q contents) (node i (node c cs r) rest) ≡ completed q contents (node i (node c cs r) rest)
   unfolding walk completed arrayLevel arrayResume flushed inOrder turnedOnto clear
   tree-completed true contents rest i c cs r e hc hk h later =
       rw (index-enters nil q i e contents c cs r hc, walk) (rw (array-walk-free nil (node c cs r) refl hk) (rw (e, completed) later))

@@ -16,7 +16,7 @@ use Rattle.molang.specs.Statements.{Split, unsplit, splitOf, gather, sta
 use Rattle.molang.specs.Unary.{Unary, done, undone, unary, unaryPass, unaryNode, unaryLeaf, turned, returnStep, returnResume, returnFinish, returnLevel}
 use Rattle.molang.specs.Binary.{binaryStep, binaryResume, binaryFinish, binaryLevel}
 use Rattle.molang.specs.Conditional.{isToken, startsWith, under, pairElse, scan, foldedFrom, dangling, undangled, conditionalStep, conditionalFinish, conditionalLevel}
-use Rattle.molang.proofs.Trees.{free, clear, free-leaf, free-tree, leaf-clear, clear-leaf, clear-rest, clear-turned, free-clear}
+use Rattle.molang.proofs.Trees.{free, clear, free-leaf, free-tree, leaf-clear, clear-leaf, clear-rest, clear-turned, clear-tree, free-clear, isNil}
 
 -- How a level passes over what is none of its tokens: with the trees d so far, the last first, and nothing waiting, it keeps a leaf, enters
 -- a node with children and takes it back.
@@ -42,6 +42,39 @@ module _ {S : Type 0} (L : Level S) (P : ℕ → Bool) (I : Inert L P) where
   pub through-free : (f : Forest) → free P f ≡ true → through L f ≡ ok f
   unfolding through turnedOnto clear
   through-free f h = rw (I .begins f (free-clear P f h)) (walk-free nil f refl h)
+
+-- A list none of whose own trees is a token of the pass: each tree's children are gone through and put back, d holding the trees so far,
+-- the last first.
+unfoldable pub eachBelow : {S : Type 0} → Level S → Forest → Forest → Result
+eachBelow L d nil = ok (inOrder d)
+eachBelow L d (node k nil rest) = eachBelow L (node k nil d) rest
+eachBelow L d (node k (node c cs r) rest) = elim (through L (node c cs r)) [ fail m ↦ fail m | ok kids ↦ eachBelow L (node k kids d) rest ]
+
+-- A level that leaves no list empty that was not (Passes).
+abbrev pub Lasting : {S : Type 0} → Level S → Type 0
+Lasting L = (f g : Forest) → isNil f ≡ false → through L f ≡ ok g → isNil g ≡ false
+
+module _ {S : Type 0} (L : Level S) (P : ℕ → Bool) (I : Inert L P) (lasts : Lasting L) where
+  -- The children of the tree k have become x.
+  tree-clear : (d : Forest) (k c : Token) (cs r rest : Forest) (x : Result) → through L (node c cs r) ≡ x
+      → ((kids : Forest) → isNil kids ≡ false → walk L (I .idle (node k kids d)) rest ≡ eachBelow L (node k kids d) rest)
+      → walk L (I .idle d) (node k (node c cs r) rest) ≡ eachBelow L d (node k (node c cs r) rest)
+  unfolding walk eachBelow through isNil
+  tree-clear d k c cs r rest (fail m) e later = rw (I .enters d k c cs r, walk) (rw (e, walk, eachBelow) refl)
+  tree-clear d k c cs r rest (ok kids) e later = rw (I .enters d k c cs r, walk) (rw (e, walk, eachBelow) (rw (I .takesBack d k kids) (later kids (lasts (node c cs r) kids refl e))))
+
+  walk-clear : (d f : Forest) → clear P d ≡ true → clear P f ≡ true → walk L (I .idle d) f ≡ eachBelow L d f
+  unfolding walk eachBelow
+  walk-clear d nil hd h = I .ends d hd
+  walk-clear d (node k nil rest) hd h =
+      let e = clear-leaf P k rest h in
+      rw (I .keeps d k (e .0), walk) (walk-clear (node k nil d) rest (leaf-clear P k d (e .0) hd) (e .1))
+  walk-clear d (node k (node c cs r) rest) hd h =
+      tree-clear d k c cs r rest (through L (node c cs r)) refl λ kids e. walk-clear (node k kids d) rest (clear-tree P k kids d e hd) (clear-rest P k (node c cs r) rest h)
+
+  pub through-clear : (f : Forest) → clear P f ≡ true → through L f ≡ eachBelow L nil f
+  unfolding through clear
+  through-clear f h = rw (I .begins f h) (walk-clear nil f refl h)
 
 -- The operators of each pass.
 unfoldable pub isArrayName : ℕ → Bool

@@ -37,8 +37,8 @@ module _ (W : Weighing) where
 
   -- The children of a node start with nothing.
   enters-gathered : (L : Level Gathered) (t : Gathered) (k c : Token) (cs r rest : Forest) (n : ℕ)
-    → ((kids : Forest) → isNil kids ≡ false → (weight W (shown (L .resume t k kids)) + weight W (node c cs r) + weight W rest ≤ n + weight W kids) × (gatheredFull (L .resume t k kids) ≡ true))
-    → Onward (Within W) L GatheredFits gatheredFull k (node c cs r) rest n (into t (gathered nil))
+      → ((kids : Forest) → isNil kids ≡ false → (weight W (shown (L .resume t k kids)) + weight W (node c cs r) + weight W rest ≤ n + weight W kids) × (gatheredFull (L .resume t k kids) ≡ true))
+      → Onward (Within W) L GatheredFits gatheredFull k (node c cs r) rest n (into t (gathered nil))
   unfolding weight shown isNil
   enters-gathered L t k c cs r rest n h =
       enters {t = t} {u = gathered nil} (weight W (node c cs r)) (omega arith) refl λ kids w e. let z = h kids e in (omega arith, z .1)
@@ -177,9 +177,9 @@ module _ (W : Weighing) where
     kept-light = omega (arith, weight-tree W a aa (node b bs left), weight-tree W a aa right)
 
     scanned-light : (x y z : Bool) → isToken Operator.conditional a aa ≡ x → isToken Operator.conditionalElse a aa ≡ y
-      → ((r : Forest) → weight W left + weight W r ≤ n → isNil r ≡ false → Folds n (scan left r))
-      → ((r : Forest) → weight W (node b bs left) + weight W r ≤ n → isNil r ≡ false → Folds n (scan (node b bs left) r))
-      → Folds n (scanned x y z a aa b bs left right)
+        → ((r : Forest) → weight W left + weight W r ≤ n → isNil r ≡ false → Folds n (scan left r))
+        → ((r : Forest) → weight W (node b bs left) + weight W r ≤ n → isNil r ≡ false → Folds n (scan (node b bs left) r))
+        → Folds n (scanned x y z a aa b bs left right)
     unfolding scanned isNil
     scanned-light true y true p q far near =
         let u = under-light a b bs right in
@@ -262,13 +262,13 @@ module _ (W : Weighing) where
 
   -- An index's contents, from the state u on, are added to those of the array so far.
   array-appends : (d : Forest) (q : Token) (contents : Forest) (u : Indexing) (m : ℕ) (k c : Token) (cs r rest : Forest) (n : ℕ) → IndexingFits u (node c cs r) m
-    → W .inner + weight W contents + weight W d + m + weight W rest ≤ n → ArrayOnward k (node c cs r) rest n (into (indexed d q contents) u)
+      → W .inner + weight W contents + weight W d + m + weight W rest ≤ n → ArrayOnward k (node c cs r) rest n (into (indexed d q contents) u)
   unfolding isNil flushed arrayLevel arrayResume
   array-appends d q contents u m k c cs r rest n h b =
       enters {t = indexed d q contents} {u = u} m h refl λ kids w e. let full = isNil-turned-full kids contents e in ((omega (arith, weight-array d q (turnedOnto kids contents) full, weight-turned W kids contents), rw full refl), refl)
 
   next-light : (d : Forest) (q : Token) (contents : Forest) (k c : Token) (cs r rest : Forest) (n : ℕ) → W .inner + weight W contents + weight W d + weight W (node k (node c cs r) rest) ≤ n
-    → ArrayOnward k (node c cs r) rest n (nextIndex d q contents (node c cs r))
+      → ArrayOnward k (node c cs r) rest n (nextIndex d q contents (node c cs r))
   unfolding nextIndex flushed weight
   next-light d q nil k c cs r rest n h = array-appends d q nil (unindexed nil) (weight W (node c cs r)) k c cs r rest n (omega arith, refl) (omega arith)
   next-light d q (node l (node x xs y) contents) k c cs r rest n h = array-appends d q (node l (node x xs y) contents) (unindexed nil) (weight W (node c cs r)) k c cs r rest n (omega arith, refl) (omega arith)
@@ -337,7 +337,7 @@ module _ (W : Weighing) (pays : 3 * W .inner ≤ W .leaf Operator.semicolon) whe
   owing-rest (node t ts done) k cs rest e o = o
 
   gather-light : (m : Split) (k : Token) (kids cs rest : Forest) (n : ℕ) → SplitFits m (node k cs rest) n → weight W (node k kids nil) ≤ weight W (node k cs nil)
-    → (clear isSemicolon (node k cs rest) ≡ clear isSemicolon rest) → SplitFits (gather k kids m) rest n × (splitFull (gather k kids m) ≡ true)
+      → (clear isSemicolon (node k cs rest) ≡ clear isSemicolon rest) → SplitFits (gather k kids m) rest n × (splitFull (gather k kids m) ≡ true)
   unfolding gather isNil weight
   gather-light (unsplit d) k kids cs rest n h w e = (omega (arith, weight-tree W k kids d, weight-tree W k cs rest), refl)
   gather-light (after q done) k kids cs rest n h w e = ((omega (arith, h .0, weight-tree W k cs rest), owing-rest done k cs rest e (h .1), refl), refl)

@@ -20,6 +20,7 @@ use Rattle.molang.specs.Conditional.{foldedFrom, dangling, undangled, co
 use Rattle.molang.specs.Order.{Pass, lastToken, memberAccessors, sectioning, callPass, statements, arrays, pointer, mathCalls, unaryMinusAndNot, addition, ternary, returns, binary, runs, apply}
 use Rattle.molang.specs.Read.{Answer, tree, messages, rooted, endsReading, grouped}
 use Rattle.molang.proofs.Trees.{free, free-leaf, free-tree, isNil, decided, both, and-true-true}
+use Rattle.molang.proofs.Inert.{Lasting}
 use Rattle.molang.proofs.Walks.{Outcome, failed, fine}
 use Rattle.molang.proofs.Weight.{Weighing, weight, Ending, Light, through-light}
 use Rattle.molang.proofs.Light.{call-light, binary-light, return-light, conditional-light, array-light, statement-light}
@@ -109,6 +110,14 @@ module _ (P : ℕ → Bool) where
       covered true b t = omega (arith, ap one (t refl))
       covered false b t = omega arith
 
+-- No level leaves a list empty that was not.
+pub through-lasting : {S : Type 0} (L : Level S) → Light (leavesOf (λ n. false)) L → Lasting L
+through-lasting L A f g n e = kept (through-light (leavesOf (λ n. false)) L A f) e
+  where
+    kept : {x : Result} → Ending (leavesOf (λ n. false)) (weight (leavesOf (λ n. false)) f) (not (isNil f)) x → x ≡ ok g → isNil g ≡ false
+    kept (failed o) e = let z : _≡_ {A = ℕ} 0 1 = cc in absurd (omega arith)
+    kept (fine {g = r} w) e = let same : r ≡ g = cc in rw same at (w .1 (rw n refl))
+
 -- THE EMPTY LIST
 pub apply-nil : (sourceLength : ℕ) (p : Pass) → isNested p ≡ true → apply sourceLength p nil ≡ ok nil
 unfolding isNested apply through walk callLevel callFinish statementLevel splitOf statementFinish arrayLevel flushed arrayFinish binaryLevel binaryFinish unaryPass unary conditionalLevel conditionalFinish foldedFrom undangled dangling returnLevel returnFinish nothing inOrder turnedOnto
@@ -137,3 +146,8 @@ grouped-nil l u [] so-far h = refl
 grouped-nil l u (p ∷ ps) so-far h =
     let e = both (isNested p) (allNested ps) h in
     decided (λ a. a ≡ messages (so-far ++ (multipleRoots 0 l 0 ∷ []))) (runs u p) _ _ (λ r. rw (apply-nil l p (e .0)) (grouped-nil l u ps so-far (e .1))) (λ r. grouped-nil l u ps so-far (e .1))
+
+-- The pointer's failure is followed by message 1 with count 0, and by nothing else.
+pub pointer-fails : (sourceLength : ℕ) (u : ℕ → Bool) (ps : List Pass) (so-far m : List Message) (f : Forest) → allNested ps ≡ true → runs u pointer ≡ true → apply sourceLength pointer f ≡ fail m → grouped sourceLength u (pointer ∷ ps) so-far f ≡ messages ((so-far ++ m) ++ (multipleRoots 0 sourceLength 0 ∷ []))
+unfolding grouped endsReading
+pointer-fails l u ps so-far m f h r e = rw (r, grouped) (rw e (grouped-nil l u ps (so-far ++ m) h))

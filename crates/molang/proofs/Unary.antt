@@ -31,10 +31,10 @@ before-is-minus : (n : ℕ) → beforeMinus n ≡ minus → eqb n Operator.negat
 unfolding beforeMinus
 before-is-minus n =
     let unary : List ℕ =
-        Operator.leftBrace ∷ Operator.rightBrace ∷ Operator.logicalNot ∷ Operator.add ∷ Operator.div ∷ Operator.mul ∷ Operator.lessThan ∷ Operator.lessEqual
-        ∷ Operator.greaterEqual ∷ Operator.greaterThan ∷ Operator.logicalEqual ∷ Operator.logicalNotEqual ∷ Operator.logicalOr ∷ Operator.logicalAnd
-        ∷ Operator.nullCoalescing ∷ Operator.conditional ∷ Operator.conditionalElse ∷ Operator.loop ∷ Operator.forEach ∷ Operator.break
-        ∷ Operator.assignment ∷ Operator.semicolon ∷ Operator.return ∷ Operator.comma ∷ []
+    Operator.leftBrace ∷ Operator.rightBrace ∷ Operator.logicalNot ∷ Operator.add ∷ Operator.div ∷ Operator.mul ∷ Operator.lessThan ∷ Operator.lessEqual
+    ∷ Operator.greaterEqual ∷ Operator.greaterThan ∷ Operator.logicalEqual ∷ Operator.logicalNotEqual ∷ Operator.logicalOr ∷ Operator.logicalAnd
+    ∷ Operator.nullCoalescing ∷ Operator.conditional ∷ Operator.conditionalElse ∷ Operator.loop ∷ Operator.forEach ∷ Operator.break
+    ∷ Operator.assignment ∷ Operator.semicolon ∷ Operator.return ∷ Operator.comma ∷ []
     in
     decided NegateIf (eqb n Operator.negate) _ _ (λ e h. e)
     (λ e. either NegateIf (isOneOf (Operator.continue ∷ Operator.expressionArray ∷ []) n) _ _ (λ h. cc) (either NegateIf (isOneOf unary n) _ _ (λ h. cc) (λ h. cc)))
@@ -44,7 +44,7 @@ before-is-minus n =
 
 -- What holds after every kind of node before a minus holds after the node.
 beforeCases : {A : Type 0} (Q : A → Type 0) (b : BeforeMinus) (x y z w : A) → (b ≡ operator → Q x) → (b ≡ operand → Q y) → (b ≡ minus → Q z) → (b ≡ unknown → Q w)
-  → Q (elim b [ operator ↦ x | operand ↦ y | minus ↦ z | unknown ↦ w ])
+    → Q (elim b [ operator ↦ x | operand ↦ y | minus ↦ z | unknown ↦ w ])
 beforeCases Q operator x y z w a b c d = a refl
 beforeCases Q operand x y z w a b c d = b refl
 beforeCases Q minus x y z w a b c d = c refl
@@ -78,7 +78,7 @@ module _ (W : Weighing) (turns : W .leaf Operator.add + W .inner ≤ W .leaf Ope
       (λ e. either (Reaches W n b p) (eqb (k .op) Operator.logicalNot) _ _ (not-light p k r n b h) (reached {r = node k nil r} (omega arith) (λ f. refl) never))
 
   node-light : (p : Option Token) (k : Token) (pair : Bool) (cs kids r rest : Forest) (b : Bool) → weight W r ≤ weight W rest → (pair ≡ true → eqb (k .op) Operator.negate ≡ true)
-    → weight W kids ≤ weight W cs → (not (isNil cs) ≡ true → isNil kids ≡ false) → Reaches W (weight W (node k cs rest)) b p (unaryNode p (turned pair k) cs kids r)
+      → weight W kids ≤ weight W cs → (not (isNil cs) ≡ true → isNil kids ≡ false) → Reaches W (weight W (node k cs rest)) b p (unaryNode p (turned pair k) cs kids r)
   unfolding unaryNode turned weight isNil renamed
   node-light p k true nil kids r rest b h t w e =
       leaf-light p (renamed Operator.add k) r (weight W (node k nil rest)) b (omega (arith, ap (W .leaf) (eqb-true (k .op) Operator.negate (t refl)), turns))
@@ -95,7 +95,7 @@ module _ (W : Weighing) (turns : W .leaf Operator.add + W .inner ≤ W .leaf Ope
   atNode p k cs x y = elim x [ undone m ↦ undone m | done pair r ↦ inside p k cs pair r y ]
 
   atNode-light : (p : Option Token) (k : Token) (cs rest : Forest) (b : Bool) {x y : Unary} → Reaches W (weight W rest) (not (isNil rest)) (some k) x → Reaches W (weight W cs) (not (isNil cs)) none y
-    → Reaches W (weight W (node k cs rest)) b p (atNode p k cs x y)
+      → Reaches W (weight W (node k cs rest)) b p (atNode p k cs x y)
   unfolding atNode inside isMinus
   atNode-light p k cs rest b (stuck o) y = stuck o
   atNode-light p k cs rest b (reached {pair = pair} {r = r} h f t) (stuck o) = stuck o

@@ -64,8 +64,8 @@ module _ (ops : List ℕ) where
   last-fails (node l ls d) k e n = rw (waits l ls d k e, walk) (rw (e, firstLeaf) refl)
 
   tree-late : (o : Option Token) (d : Forest) (k c : Token) (cs r rest : Forest) → firstLeaf ops (node c cs r) ≡ o → walk (binaryLevel ops) (gathered nil) (node c cs r) ≡ atFirst (firstLeaf ops (node c cs r)) (node c cs r)
-    → walk (binaryLevel ops) (gathered (node k (node c cs r) d)) rest ≡ atFirst (firstLeaf ops rest) (turnedOnto (node k (node c cs r) d) rest)
-    → walk (binaryLevel ops) (gathered d) (node k (node c cs r) rest) ≡ atFirst (firstLeaf ops (node k (node c cs r) rest)) (turnedOnto (node k (node c cs r) d) rest)
+      → walk (binaryLevel ops) (gathered (node k (node c cs r) d)) rest ≡ atFirst (firstLeaf ops rest) (turnedOnto (node k (node c cs r) d) rest)
+      → walk (binaryLevel ops) (gathered d) (node k (node c cs r) rest) ≡ atFirst (firstLeaf ops (node k (node c cs r) rest)) (turnedOnto (node k (node c cs r) d) rest)
   unfolding walk binaryLevel binaryStep binaryResume firstLeaf atFirst
   tree-late none d k c cs r rest e below later = rw (e, firstLeaf) (rw (rw e at below, walk) later)
   tree-late (some t) d k c cs r rest e below later = rw (e, firstLeaf) (rw (rw e at below, walk) refl)
@@ -179,16 +179,16 @@ module _ (ops : List ℕ) where
   step-again (waiting d q) k cs h = step-waiting (unfolded ops d) d q k cs refl (again-kept d (h .0))
 
   back-again : (t : Gathered) (k : Token) (rest : Forest) {x : Result} → Ends GoodKept tt true x
-    → ((kids : Forest) → Kept kids → isNil kids ≡ false → walk againLevel (binaryResume t k kids) rest ≡ walk (binaryLevel ops) (binaryResume t k kids) rest)
-    → back againLevel t k rest x ≡ back (binaryLevel ops) t k rest x
+      → ((kids : Forest) → Kept kids → isNil kids ≡ false → walk againLevel (binaryResume t k kids) rest ≡ walk (binaryLevel ops) (binaryResume t k kids) rest)
+      → back againLevel t k rest x ≡ back (binaryLevel ops) t k rest x
   unfolding back againLevel binaryLevel
   back-again t k rest (failed o) later = refl
   back-again t k rest (fine {g = kids} e) later = later kids (e .0) (e .1 refl)
 
   onward-again : (k : Token) (cs rest : Forest) {x : Step Gathered} → KeptOnward k cs rest x
-    → ((t : Gathered) → KeptState t → walk againLevel t rest ≡ walk (binaryLevel ops) t rest)
-    → ((u : Gathered) → KeptState u → walk againLevel u cs ≡ walk (binaryLevel ops) u cs)
-    → onward againLevel k cs rest x ≡ onward (binaryLevel ops) k cs rest x
+      → ((t : Gathered) → KeptState t → walk againLevel t rest ≡ walk (binaryLevel ops) t rest)
+      → ((u : Gathered) → KeptState u → walk againLevel u cs ≡ walk (binaryLevel ops) u cs)
+      → onward againLevel k cs rest x ≡ onward (binaryLevel ops) k cs rest x
   unfolding onward binaryLevel binary-kept
   onward-again k cs rest (stops o) later below = refl
   onward-again k cs rest (goes {t = t} h e) later below = later t h

@@ -28,8 +28,8 @@ pub data Onward {I S : Type 0} (Good : I → Forest → Type 0) (L : Level S) (F
   stops : {m : List Message} → length m ≡ 1 → Onward Good L Fits full k cs rest n (stop m)
   goes : {t : S} → Fits t rest n → full t ≡ true → Onward Good L Fits full k cs rest n (on t)
   enters : {t u : S} (m : I) → Fits u cs m → isNil cs ≡ false
-    → ((kids : Forest) → Good m kids → isNil kids ≡ false → Fits (L .resume t k kids) rest n × (full (L .resume t k kids) ≡ true))
-    → Onward Good L Fits full k cs rest n (into t u)
+      → ((kids : Forest) → Good m kids → isNil kids ≡ false → Fits (L .resume t k kids) rest n × (full (L .resume t k kids) ≡ true))
+      → Onward Good L Fits full k cs rest n (into t u)
 
 -- `Fits s f n`: in the state s, before the list f, the level can only reach what is good for n. `full s`: it will reach something.
 pub record Keeps {I S : Type 0} (Good : I → Forest → Type 0) (bound : Forest → I) (L : Level S) : Type 1 where
@@ -54,15 +54,15 @@ module _ {S : Type 0} (L : Level S) where
 
 module _ {I S : Type 0} (Good : I → Forest → Type 0) (bound : Forest → I) (L : Level S) (A : Keeps Good bound L) where
   back-keeps : (t : S) (k : Token) (rest : Forest) (n m : I) {x : Result} → Ends Good m true x
-    → ((kids : Forest) → Good m kids → isNil kids ≡ false → Ends Good n true (walk L (L .resume t k kids) rest)) → Ends Good n true (back L t k rest x)
+      → ((kids : Forest) → Good m kids → isNil kids ≡ false → Ends Good n true (walk L (L .resume t k kids) rest)) → Ends Good n true (back L t k rest x)
   unfolding back
   back-keeps t k rest n m (failed o) next = failed o
   back-keeps t k rest n m (fine {g = kids} e) next = next kids (e .0) (e .1 refl)
 
   onward-keeps : (k : Token) (cs rest : Forest) (n : I) {x : Step S} → Onward Good L (A .Fits) (A .full) k cs rest n x
-    → ((t : S) → A .Fits t rest n → A .full t ≡ true → Ends Good n true (walk L t rest))
-    → ((u : S) (m : I) → A .Fits u cs m → isNil cs ≡ false → Ends Good m true (walk L u cs))
-    → Ends Good n true (onward L k cs rest x)
+      → ((t : S) → A .Fits t rest n → A .full t ≡ true → Ends Good n true (walk L t rest))
+      → ((u : S) (m : I) → A .Fits u cs m → isNil cs ≡ false → Ends Good m true (walk L u cs))
+      → Ends Good n true (onward L k cs rest x)
   unfolding onward
   onward-keeps k cs rest n (stops o) later below = failed o
   onward-keeps k cs rest n (goes {t = t} h e) later below = later t h e

@@ -43,14 +43,14 @@ high-part high low h = omega arith
 
 -- A token is read back from its words.
 token-back : (k : Token) → Legal k
-  → tokenOf (word 1 (k .variant * 2 ^ 8 + k .op)) (word 2 (k .start)) (word 3 (k .end)) (word 4 (k .value / 2 ^ 16)) (word 5 (k .value % 2 ^ 16)) ≡ k
+    → tokenOf (word 1 (k .variant * 2 ^ 8 + k .op)) (word 2 (k .start)) (word 3 (k .end)) (word 4 (k .value / 2 ^ 16)) (word 5 (k .value % 2 ^ 16)) ≡ k
 unfolding tokenOf
 token-back k h =
     let first = low-word 1 (k .variant * 2 ^ 8 + k .op) (omega arith) in
     let op : lowOf (word 1 (k .variant * 2 ^ 8 + k .op)) % 2 ^ 8 ≡ k .op = rw first (omega arith) in
     let variant : lowOf (word 1 (k .variant * 2 ^ 8 + k .op)) / 2 ^ 8 % 2 ^ 4 ≡ k .variant = rw (first, high-part (k .variant) (k .op) (omega arith)) (omega arith) in
     let value : lowOf (word 4 (k .value / 2 ^ 16)) % 2 ^ 16 * 2 ^ 16 + lowOf (word 5 (k .value % 2 ^ 16)) % 2 ^ 16 ≡ k .value =
-        rw (low-word 4 (k .value / 2 ^ 16) (omega arith), low-word 5 (k .value % 2 ^ 16) (omega arith)) (omega arith)
+    rw (low-word 4 (k .value / 2 ^ 16) (omega arith), low-word 5 (k .value % 2 ^ 16) (omega arith)) (omega arith)
     in
     let start = low-word 2 (k .start) (h .start) in
     let end = low-word 3 (k .end) (h .end) in
@@ -86,7 +86,7 @@ unfolding treesOf treeWords tokenWords beside
 trees-beside noTrees ws = refl
 trees-beside (tree {k = k} {cs = cs} {rest = rest} h n below later) ws =
     let trees : treesOf ((treeWords cs ++ treeWords rest) ++ ws) ≡ beside cs (beside rest (treesOf ws)) =
-        rw (append-assoc (treeWords cs) (treeWords rest) ws) (trees-beside below (treeWords rest ++ ws) ∙ ap (beside cs) (trees-beside later ws))
+    rw (append-assoc (treeWords cs) (treeWords rest) ws) (trees-beside below (treeWords rest ++ ws) ∙ ap (beside cs) (trees-beside later ws))
     in
     rw (token-back k h, low-word 6 (count cs) (omega arith), trees, first-beside, other-beside) refl
 
@@ -202,18 +202,18 @@ words-back i v (a ∷ b ∷ c ∷ d ∷ e ∷ ws) h n =
     let fe = word-faultless lowerSlot u e (re .0) in
     let o = operator-faultless v (lowOf a) (fa .1) in
     let five : FiveLegal a b c d e =
-        record {
-          operatorKind = fa .0;
-          startKind = word-faultless startSlot u b (rb .0) .0;
-          endKind = word-faultless endSlot u c (rc .0) .0;
-          upperKind = fd .0;
-          lowerKind = fe .0;
-          operator = o .0;
-          variant = o .1;
-          room = o .2;
-          upper = upper-faultless u (lowOf d) (fd .1);
-          lower = lower-faultless u (lowOf e) (fe .1);
-        }
+    record {
+      operatorKind = fa .0;
+      startKind = word-faultless startSlot u b (rb .0) .0;
+      endKind = word-faultless endSlot u c (rc .0) .0;
+      upperKind = fd .0;
+      lowerKind = fe .0;
+      operator = o .0;
+      variant = o .1;
+      room = o .2;
+      upper = upper-faultless u (lowOf d) (fd .1);
+      lower = lower-faultless u (lowOf e) (fe .1);
+    }
     in
     let later = words-back (suc (suc (suc (suc (suc i))))) u ws (re .1) (omega arith) in
     (rw (five-back a b c d e five, later .0) refl, token (five-legal a b c d e five) (later .1))
