@@ -29,11 +29,13 @@ nodesOf n = elim (eqb n Operator.semicolon) [ true ↦ 3 | false ↦ elim (eqb n
 
 nodes-some : (n : ℕ) → 1 ≤ nodesOf n
 unfolding nodesOf
-nodes-some n = either (λ m. 1 ≤ m) (eqb n Operator.semicolon) _ _ (omega arith) (either (λ m. 1 ≤ m) (eqb n Operator.negate) _ _ (omega arith) (omega arith))
+nodes-some n =
+    either (λ m. 1 ≤ m) (eqb n Operator.semicolon) _ _ (omega arith) (either (λ m. 1 ≤ m) (eqb n Operator.negate) _ _ (omega arith) (omega arith))
 
 nodes-few : (n : ℕ) → nodesOf n ≤ 3
 unfolding nodesOf
-nodes-few n = either (λ m. m ≤ 3) (eqb n Operator.semicolon) _ _ (omega arith) (either (λ m. m ≤ 3) (eqb n Operator.negate) _ _ (omega arith) (omega arith))
+nodes-few n =
+    either (λ m. m ≤ 3) (eqb n Operator.semicolon) _ _ (omega arith) (either (λ m. m ≤ 3) (eqb n Operator.negate) _ _ (omega arith) (omega arith))
 
 abbrev nodeWeight : Weighing
 nodeWeight = record { leaf = nodesOf; inner = 1; lighter = nodes-some }
@@ -90,31 +92,41 @@ module _ (sourceLength : ℕ) (u : ℕ → Bool) (n : ℕ) where
   grouped-bounded (p ∷ ps) f e h =
       let i = both (isNested p) (allNested ps) e in
       pass-bounded p ps f 1 _ (apply-light nodeWeight (omega arith) (omega arith) sourceLength p f (i .0)) (grouped-bounded ps f (i .1) h)
-      (λ m o. either (Bounded n) (endsReading p) _ _ (counted m (omega arith) (omega arith)) (rw (grouped-nil sourceLength u ps m (i .1)) (counted _ (omega (arith, length-append m (multipleRoots 0 sourceLength 0 ∷ []))) (omega (arith, length-append m (multipleRoots 0 sourceLength 0 ∷ []))))))
+      (λ m o. either (Bounded n) (endsReading p) _ _ (counted m (omega arith) (omega arith))
+      (rw (grouped-nil sourceLength u ps m (i .1))
+      (counted _ (omega (arith, length-append m (multipleRoots 0 sourceLength 0 ∷ [])))
+      (omega (arith, length-append m (multipleRoots 0 sourceLength 0 ∷ []))))))
       (λ g w. grouped-bounded ps g (i .1) (omega (arith, w .0)))
 
   -- The passes over the flat list come first.
   ends-outcome : (f : Forest) → Outcome 1 (λ g. g ≡ f) (endsWithSemicolon sourceLength f)
   unfolding endsWithSemicolon
   ends-outcome f =
-      maybe (Outcome 1 (λ g. g ≡ f)) (lastOf none f) _ _ (λ k. either (Outcome 1 (λ g. g ≡ f)) (eqb (k .op) Operator.semicolon) _ _ (fine refl) (failed refl)) (failed refl)
+      maybe (Outcome 1 (λ g. g ≡ f)) (lastOf none f) _ _
+      (λ k. either (Outcome 1 (λ g. g ≡ f)) (eqb (k .op) Operator.semicolon) _ _ (fine refl) (failed refl)) (failed refl)
 
-  sections-bounded : (ps : List Pass) (f : Forest) → allNested ps ≡ true → flat f ≡ true → weight nodeWeight f ≤ n → Bounded n (grouped sourceLength u (sectioning ∷ ps) [] f)
+  sections-bounded : (ps : List Pass) (f : Forest) → allNested ps ≡ true → flat f ≡ true → weight nodeWeight f ≤ n
+      → Bounded n (grouped sourceLength u (sectioning ∷ ps) [] f)
   unfolding apply afterFail endsReading
   sections-bounded ps f e i h =
-      pass-bounded sectioning ps f 2 _ (sections-light nodeWeight f i) (grouped-bounded ps f e h) (λ m o. counted m (omega arith) (omega arith)) (λ g w. grouped-bounded ps g e (omega arith))
+      pass-bounded sectioning ps f 2 _ (sections-light nodeWeight f i) (grouped-bounded ps f e h) (λ m o. counted m (omega arith) (omega arith))
+      (λ g w. grouped-bounded ps g e (omega arith))
 
-  members-bounded : (ps : List Pass) (ks : List Token) → allNested ps ≡ true → weight nodeWeight (leaves ks) ≤ n → Bounded n (grouped sourceLength u (memberAccessors ∷ sectioning ∷ ps) [] (leaves ks))
+  members-bounded : (ps : List Pass) (ks : List Token) → allNested ps ≡ true → weight nodeWeight (leaves ks) ≤ n
+      → Bounded n (grouped sourceLength u (memberAccessors ∷ sectioning ∷ ps) [] (leaves ks))
   unfolding apply afterFail endsReading weight flat
   members-bounded ps ks e h =
-      pass-bounded memberAccessors (sectioning ∷ ps) (leaves ks) 1 _ (members-light nodeWeight ks nil n (omega arith) refl) (sections-bounded ps (leaves ks) e (leaves-flat ks) h) (λ m o. counted m (omega arith) (omega arith)) (λ g w. sections-bounded ps g e (w .1) (w .0))
+      pass-bounded memberAccessors (sectioning ∷ ps) (leaves ks) 1 _ (members-light nodeWeight ks nil n (omega arith) refl)
+      (sections-bounded ps (leaves ks) e (leaves-flat ks) h) (λ m o. counted m (omega arith) (omega arith))
+      (λ g w. sections-bounded ps g e (w .1) (w .0))
 
   flat-bounded : (ps : List Pass) (ks : List Token) → allNested ps ≡ true → weight nodeWeight (leaves ks) ≤ n
       → Bounded n (grouped sourceLength u (lastToken ∷ memberAccessors ∷ sectioning ∷ ps) [] (leaves ks))
   unfolding apply afterFail endsReading
   flat-bounded ps ks e h =
       let later = members-bounded ps ks e h in
-      pass-bounded lastToken (memberAccessors ∷ sectioning ∷ ps) (leaves ks) 1 _ (ends-outcome (leaves ks)) later (λ m o. counted m (omega arith) (omega arith)) (λ g w. rw w later)
+      pass-bounded lastToken (memberAccessors ∷ sectioning ∷ ps) (leaves ks) 1 _ (ends-outcome (leaves ks)) later
+      (λ m o. counted m (omega arith) (omega arith)) (λ g w. rw w later)
 
 nested-append : (ps qs : List Pass) → allNested ps ≡ true → allNested qs ≡ true → allNested (ps ++ qs) ≡ true
 unfolding allNested
@@ -137,21 +149,25 @@ conditionals-nested true = refl
 conditionals-nested false = refl
 
 -- THE BOUND
-pub read-bounded : (tokens : List Token) (u : ℕ → Bool) (version : ℤ) (sourceLength : ℕ) → Bounded (3 * length tokens) (read tokens u version sourceLength)
+pub read-bounded : (tokens : List Token) (u : ℕ → Bool) (version : ℤ) (sourceLength : ℕ)
+    → Bounded (3 * length tokens) (read tokens u version sourceLength)
 unfolding read order allNested isNested
 read-bounded ts u v l =
     flat-bounded l u (3 * length ts) _ ts
     (nested-append (comparisons (rules v .comparisonsFirst)) _ (comparisons-nested (rules v .comparisonsFirst))
-    (nested-append (logic (rules v .andFirst)) _ (logic-nested (rules v .andFirst)) (nested-append (conditionals (rules v .pairsRight)) _ (conditionals-nested (rules v .pairsRight)) refl)))
+    (nested-append (logic (rules v .andFirst)) _ (logic-nested (rules v .andFirst))
+    (nested-append (conditionals (rules v .pairsRight)) _ (conditionals-nested (rules v .pairsRight)) refl)))
     (leaves-weight ts)
 
-pub read-tree : (tokens : List Token) (u : ℕ → Bool) (version : ℤ) (sourceLength : ℕ) (k : Token) (cs : Forest) → read tokens u version sourceLength ≡ tree k cs → size (node k cs nil) ≤ 3 * length tokens
+pub read-tree : (tokens : List Token) (u : ℕ → Bool) (version : ℤ) (sourceLength : ℕ) (k : Token) (cs : Forest)
+    → read tokens u version sourceLength ≡ tree k cs → size (node k cs nil) ≤ 3 * length tokens
 read-tree ts u v l k cs e = nodes (rw e at (read-bounded ts u v l))
   where
     nodes : {n : ℕ} → Bounded n (tree k cs) → size (node k cs nil) ≤ n
     nodes (fewNodes h) = h
 
-pub read-messages : (tokens : List Token) (u : ℕ → Bool) (version : ℤ) (sourceLength : ℕ) (ms : List Message) → read tokens u version sourceLength ≡ messages ms → (1 ≤ length ms) × (length ms ≤ 2)
+pub read-messages : (tokens : List Token) (u : ℕ → Bool) (version : ℤ) (sourceLength : ℕ) (ms : List Message)
+    → read tokens u version sourceLength ≡ messages ms → (1 ≤ length ms) × (length ms ≤ 2)
 read-messages ts u v l ms e = records (rw e at (read-bounded ts u v l))
   where
     records : {n : ℕ} → Bounded n (messages ms) → (1 ≤ length ms) × (length ms ≤ 2)
@@ -188,10 +204,12 @@ unfolding treeWords tokenWords size
 treeWords-length nil = refl
 treeWords-length (node k cs rest) = omega (arith, length-append (treeWords cs) (treeWords rest), treeWords-length cs, treeWords-length rest)
 
-pub read-treeWords : (tokens : List Token) (u : ℕ → Bool) (version : ℤ) (sourceLength : ℕ) (k : Token) (cs : Forest) → read tokens u version sourceLength ≡ tree k cs
+pub read-treeWords : (tokens : List Token) (u : ℕ → Bool) (version : ℤ) (sourceLength : ℕ) (k : Token) (cs : Forest)
+    → read tokens u version sourceLength ≡ tree k cs
     → length (treeWords (node k cs nil)) ≤ 18 * length tokens
 read-treeWords ts u v l k cs e = omega (arith, treeWords-length (node k cs nil), read-tree ts u v l k cs e)
 
-pub read-recordWords : (tokens : List Token) (u : ℕ → Bool) (version : ℤ) (sourceLength : ℕ) (ms : List Message) → read tokens u version sourceLength ≡ messages ms
+pub read-recordWords : (tokens : List Token) (u : ℕ → Bool) (version : ℤ) (sourceLength : ℕ) (ms : List Message)
+    → read tokens u version sourceLength ≡ messages ms
     → length (recordWords ms) ≤ 16
 read-recordWords ts u v l ms e = omega (arith, records-length ms, read-messages ts u v l ms e .1)

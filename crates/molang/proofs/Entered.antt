@@ -33,7 +33,8 @@ Starts {S} L = (s : S) (k : Token) (cs : Forest) → Hands (L .start cs) (L .ste
 handed : {S : Type 0} {v t u : S} → Hands v (into t u) → u ≡ v
 handed enters = refl
 
-pub entered-free : {S : Type 0} (L : Level S) (P : ℕ → Bool) → Inert L P → Starts L → (s t u : S) (k : Token) (cs : Forest) → L .step s k cs ≡ into t u → free P cs ≡ true → walk L u cs ≡ ok cs
+pub entered-free : {S : Type 0} (L : Level S) (P : ℕ → Bool) → Inert L P → Starts L → (s t u : S) (k : Token) (cs : Forest)
+    → L .step s k cs ≡ into t u → free P cs ≡ true → walk L u cs ≡ ok cs
 unfolding through
 entered-free L P I A s t u k cs e h = rw (handed (rw e at (A s k cs))) (through-free L P I cs h)
 
@@ -41,7 +42,8 @@ pub call-starts : (kind : CallKind) → Starts (callLevel kind)
 unfolding callLevel nothing callStep callLeaf
 call-starts kind (gathered d) k nil = either (Hands (gathered nil)) (calls kind (k .op)) _ _ goes goes
 call-starts kind (gathered d) k (node c cs r) = enters
-call-starts queryOrLoop (waiting d q) k nil = either (Hands (gathered nil)) (isBracket (k .op)) _ _ stops (either (Hands (gathered nil)) (calls queryOrLoop (k .op)) _ _ goes goes)
+call-starts queryOrLoop (waiting d q) k nil =
+    either (Hands (gathered nil)) (isBracket (k .op)) _ _ stops (either (Hands (gathered nil)) (calls queryOrLoop (k .op)) _ _ goes goes)
 call-starts queryOrLoop (waiting d q) k (node c cs r) = either (Hands (gathered nil)) (isBracket (k .op)) _ _ enters enters
 call-starts math (waiting d q) k nil = either (Hands (gathered nil)) (isBracket (k .op)) _ _ goes stops
 call-starts math (waiting d q) k (node c cs r) = either (Hands (gathered nil)) (isBracket (k .op)) _ _ enters stops
@@ -80,7 +82,8 @@ pub data Lends (cs : Forest) : Step Indexing → Type 0 where
   stopsAt : {m : List Message} → Lends cs (stop m)
   goesOn : {t : Indexing} → Lends cs (on t)
   entersWith : {t : Indexing} → Lends cs (into t (unindexed nil))
-  lends : {d : Forest} {q : Token} {contents : Forest} {l : Token} → isArrayName (l .op) ≡ true → startsWithIndex cs ≡ true → Lends cs (into (indexed d q contents) (named nil l))
+  lends : {d : Forest} {q : Token} {contents : Forest} {l : Token} → isArrayName (l .op) ≡ true → startsWithIndex cs ≡ true
+      → Lends cs (into (indexed d q contents) (named nil l))
 
 empty-lends : (s : Indexing) (k : Token) → Lends nil (emptyIndex s k)
 unfolding emptyIndex
@@ -93,7 +96,8 @@ unfolding nextIndex isArrayName
 next-lends d q nil cs = entersWith
 next-lends d q (node l (node x xs y) contents) cs = entersWith
 next-lends d q (node l nil contents) cs =
-    decided (Lends cs) (eqb (l .op) Operator.arrayVariable) _ _ (λ e. decided (Lends cs) (startsWithIndex cs) _ _ (λ i. lends e i) (λ i. entersWith)) (λ e. entersWith)
+    decided (Lends cs) (eqb (l .op) Operator.arrayVariable) _ _
+    (λ e. decided (Lends cs) (startsWithIndex cs) _ _ (λ i. lends e i) (λ i. entersWith)) (λ e. entersWith)
 
 index-lends : (s : Indexing) (cs : Forest) → Lends cs (index s cs)
 unfolding index
@@ -103,7 +107,8 @@ index-lends (indexed d q contents) cs = next-lends d q contents cs
 
 pub array-lends : (s : Indexing) (k : Token) (cs : Forest) → Lends cs (arrayStep s k cs)
 unfolding arrayStep
-array-lends s k nil = either (Lends nil) (isIndex k) _ _ (empty-lends s k) (either (Lends nil) (eqb (k .op) Operator.arrayVariable) _ _ goesOn goesOn)
+array-lends s k nil =
+    either (Lends nil) (isIndex k) _ _ (empty-lends s k) (either (Lends nil) (eqb (k .op) Operator.arrayVariable) _ _ goesOn goesOn)
 array-lends s k (node c cs r) = either (Lends (node c cs r)) (isIndex k) _ _ (index-lends s (node c cs r)) entersWith
 
 -- An array with its contents so far, the last first, before a list without array names: it takes the indices that stand in front.
@@ -136,13 +141,15 @@ module _ (d : Forest) (q i : Token) (e : isIndex i ≡ true) where
   named-fails = rw (e, arrayStep) refl
 
   -- Without a bare array name among the contents nothing is lent.
-  index-enters : (contents : Forest) (c : Token) (cs r : Forest) → clear isArrayName contents ≡ true → arrayStep (indexed d q contents) i (node c cs r) ≡ into (indexed d q contents) (unindexed nil)
+  index-enters : (contents : Forest) (c : Token) (cs r : Forest) → clear isArrayName contents ≡ true
+      → arrayStep (indexed d q contents) i (node c cs r) ≡ into (indexed d q contents) (unindexed nil)
   unfolding arrayStep index nextIndex isArrayName
   index-enters nil c cs r h = rw (e, arrayStep) refl
   index-enters (node l nil contents) c cs r h = rw (e, arrayStep) (rw (clear-leaf isArrayName l contents h .0, nextIndex) refl)
   index-enters (node l (node x xs y) contents) c cs r h = rw (e, arrayStep) refl
 
-  named-enters : (c : Token) (cs r : Forest) → arrayStep (named d q) i (node c cs r) ≡ into (indexed d (renamed Operator.array q) nil) (unindexed nil)
+  named-enters : (c : Token) (cs r : Forest)
+      → arrayStep (named d q) i (node c cs r) ≡ into (indexed d (renamed Operator.array q) nil) (unindexed nil)
   unfolding arrayStep index
   named-enters c cs r = rw (e, arrayStep) refl
 
@@ -157,18 +164,25 @@ module _ (q : Token) (n : isArrayName (q .op) ≡ false) where
   unfolding walk completed arrayLevel flushed inOrder turnedOnto clear
   leaf-completed true contents rest i e m h = rw (empty-fails nil q i e contents, walk) (rw (e, completed) refl)
   leaf-completed false contents rest i e m h =
-      rw (leaf-ends (indexed nil q contents) i e m, walk) (rw (e, completed) (array-walk-free (node i nil (node q (inOrder contents) nil)) rest (leaf-clear isArrayName i (node q (inOrder contents) nil) m (clear-array (inOrder contents) nil refl)) h))
+      rw (leaf-ends (indexed nil q contents) i e m, walk)
+      (rw (e, completed) (array-walk-free (node i nil (node q (inOrder contents) nil)) rest
+      (leaf-clear isArrayName i (node q (inOrder contents) nil) m (clear-array (inOrder contents) nil refl)) h))
 
-  tree-completed : (b : Bool) (contents rest : Forest) (i c : Token) (cs r : Forest) → isIndex i ≡ b → clear isArrayName contents ≡ true → free isArrayName (node c cs r) ≡ true → free isArrayName rest ≡ true
+  tree-completed : (b : Bool) (contents rest : Forest) (i c : Token) (cs r : Forest) → isIndex i ≡ b → clear isArrayName contents ≡ true
+      → free isArrayName (node c cs r) ≡ true → free isArrayName rest ≡ true
       → walk arrayLevel (indexed nil q (turnedOnto (node c cs r) contents)) rest ≡ completed q (turnedOnto (node c cs r) contents) rest
       → walk arrayLevel (indexed nil q contents) (node i (node c cs r) rest) ≡ completed q contents (node i (node c cs r) rest)
   unfolding walk completed arrayLevel arrayResume flushed inOrder turnedOnto clear
   tree-completed true contents rest i c cs r e hc hk h later =
       rw (index-enters nil q i e contents c cs r hc, walk) (rw (array-walk-free nil (node c cs r) refl hk) (rw (e, completed) later))
   tree-completed false contents rest i c cs r e hc hk h later =
-      rw (tree-ends (indexed nil q contents) i e c cs r, walk) (rw (array-walk-free nil (node c cs r) refl hk) (rw (e, completed) (array-walk-free (node i (node c cs r) (node q (inOrder contents) nil)) rest (clear-array (inOrder contents) nil refl) h)))
+      rw (tree-ends (indexed nil q contents) i e c cs r, walk)
+      (rw (array-walk-free nil (node c cs r) refl hk)
+      (rw (e, completed) (array-walk-free (node i (node c cs r) (node q (inOrder contents) nil)) rest
+      (clear-array (inOrder contents) nil refl) h)))
 
-  walk-completed : (contents f : Forest) → clear isArrayName contents ≡ true → free isArrayName f ≡ true → walk arrayLevel (indexed nil q contents) f ≡ completed q contents f
+  walk-completed : (contents f : Forest) → clear isArrayName contents ≡ true → free isArrayName f ≡ true
+      → walk arrayLevel (indexed nil q contents) f ≡ completed q contents f
   unfolding walk completed arrayLevel arrayFinish flushed inOrder turnedOnto
   walk-completed contents nil hc h = refl
   walk-completed contents (node i nil rest) hc h =
@@ -176,7 +190,9 @@ module _ (q : Token) (n : isArrayName (q .op) ≡ false) where
       leaf-completed (isIndex i) contents rest i refl (e .0) (e .1)
   walk-completed contents (node i (node c cs r) rest) hc h =
       let e = free-tree isArrayName i c cs r rest h in
-      tree-completed (isIndex i) contents rest i c cs r refl hc (e .0) (e .1) (walk-completed (turnedOnto (node c cs r) contents) rest (clear-turned isArrayName (node c cs r) contents (free-clear isArrayName (node c cs r) (e .0)) hc) (e .1))
+      tree-completed (isIndex i) contents rest i c cs r refl hc (e .0) (e .1)
+      (walk-completed (turnedOnto (node c cs r) contents) rest
+      (clear-turned isArrayName (node c cs r) contents (free-clear isArrayName (node c cs r) (e .0)) hc) (e .1))
 
 -- Contents without array names that are lent a name, and begin with an index.
 unfoldable pub lentTo : Token → Forest → Result
@@ -191,4 +207,6 @@ array-lent l (node i nil rest) e h = rw (named-fails nil l i e, walk) refl
 array-lent l (node i (node c cs r) rest) e h =
     let z = free-tree isArrayName i c cs r rest h in
     rw (named-enters nil l i e c cs r, walk)
-    (rw (array-walk-free nil (node c cs r) refl (z .0)) (walk-completed (renamed Operator.array l) refl (turnedOnto (node c cs r) nil) rest (clear-turned isArrayName (node c cs r) nil (free-clear isArrayName (node c cs r) (z .0)) refl) (z .1)))
+    (rw (array-walk-free nil (node c cs r) refl (z .0))
+    (walk-completed (renamed Operator.array l) refl (turnedOnto (node c cs r) nil) rest
+    (clear-turned isArrayName (node c cs r) nil (free-clear isArrayName (node c cs r) (z .0)) refl) (z .1)))

@@ -37,7 +37,9 @@ module _ {S : Type 0} (L : Level S) (P : ℕ → Bool) (I : Inert L P) where
       rw (I .keeps d k (e .0), walk) (walk-free (node k nil d) rest (leaf-clear P k d (e .0) hd) (e .1))
   walk-free d (node k (node c cs r) rest) hd h =
       let e = free-tree P k c cs r rest h in
-      rw (I .enters d k c cs r, walk) (rw (I .begins (node c cs r) (free-clear P (node c cs r) (e .0))) (rw (walk-free nil (node c cs r) refl (e .0)) (rw (I .takesBack d k (node c cs r)) (walk-free (node k (node c cs r) d) rest hd (e .1)))))
+      rw (I .enters d k c cs r, walk)
+      (rw (I .begins (node c cs r) (free-clear P (node c cs r) (e .0)))
+      (rw (walk-free nil (node c cs r) refl (e .0)) (rw (I .takesBack d k (node c cs r)) (walk-free (node k (node c cs r) d) rest hd (e .1)))))
 
   pub through-free : (f : Forest) → free P f ≡ true → through L f ≡ ok f
   unfolding through turnedOnto clear
@@ -61,7 +63,8 @@ module _ {S : Type 0} (L : Level S) (P : ℕ → Bool) (I : Inert L P) (lasts : 
       → walk L (I .idle d) (node k (node c cs r) rest) ≡ eachBelow L d (node k (node c cs r) rest)
   unfolding walk eachBelow through isNil
   tree-clear d k c cs r rest (fail m) e later = rw (I .enters d k c cs r, walk) (rw (e, walk, eachBelow) refl)
-  tree-clear d k c cs r rest (ok kids) e later = rw (I .enters d k c cs r, walk) (rw (e, walk, eachBelow) (rw (I .takesBack d k kids) (later kids (lasts (node c cs r) kids refl e))))
+  tree-clear d k c cs r rest (ok kids) e later =
+      rw (I .enters d k c cs r, walk) (rw (e, walk, eachBelow) (rw (I .takesBack d k kids) (later kids (lasts (node c cs r) kids refl e))))
 
   walk-clear : (d f : Forest) → clear P d ≡ true → clear P f ≡ true → walk L (I .idle d) f ≡ eachBelow L d f
   unfolding walk eachBelow
@@ -70,7 +73,8 @@ module _ {S : Type 0} (L : Level S) (P : ℕ → Bool) (I : Inert L P) (lasts : 
       let e = clear-leaf P k rest h in
       rw (I .keeps d k (e .0), walk) (walk-clear (node k nil d) rest (leaf-clear P k d (e .0) hd) (e .1))
   walk-clear d (node k (node c cs r) rest) hd h =
-      tree-clear d k c cs r rest (through L (node c cs r)) refl λ kids e. walk-clear (node k kids d) rest (clear-tree P k kids d e hd) (clear-rest P k (node c cs r) rest h)
+      tree-clear d k c cs r rest (through L (node c cs r)) refl λ kids e. walk-clear (node k kids d) rest (clear-tree P k kids d e hd)
+      (clear-rest P k (node c cs r) rest h)
 
   pub through-clear : (f : Forest) → clear P f ≡ true → through L f ≡ eachBelow L nil f
   unfolding through clear
@@ -146,12 +150,14 @@ statement-inert =
       ends = λ d h. refl;
     }
 
-keep-unindexed : (i : Bool) (d : Forest) (k : Token) → isIndex k ≡ i → isArrayName (k .op) ≡ false → arrayStep (unindexed d) k nil ≡ on (unindexed (node k nil d))
+keep-unindexed : (i : Bool) (d : Forest) (k : Token) → isIndex k ≡ i → isArrayName (k .op) ≡ false
+    → arrayStep (unindexed d) k nil ≡ on (unindexed (node k nil d))
 unfolding arrayStep emptyIndex flushed isArrayName
 keep-unindexed true d k i h = rw (i, arrayStep) refl
 keep-unindexed false d k i h = rw (i, arrayStep) (rw h refl)
 
-enter-unindexed : (i : Bool) (d : Forest) (k c : Token) (cs r : Forest) → isIndex k ≡ i → arrayStep (unindexed d) k (node c cs r) ≡ into (unindexed d) (unindexed nil)
+enter-unindexed : (i : Bool) (d : Forest) (k c : Token) (cs r : Forest) → isIndex k ≡ i
+    → arrayStep (unindexed d) k (node c cs r) ≡ into (unindexed d) (unindexed nil)
 unfolding arrayStep index flushed
 enter-unindexed true d k c cs r i = rw (i, arrayStep) refl
 enter-unindexed false d k c cs r i = rw (i, arrayStep) refl
@@ -168,7 +174,8 @@ array-inert =
       ends = λ d h. refl;
     }
 
-pub array-walk-free : (d f : Forest) → clear isArrayName d ≡ true → free isArrayName f ≡ true → walk arrayLevel (unindexed d) f ≡ ok (turnedOnto d f)
+pub array-walk-free : (d f : Forest) → clear isArrayName d ≡ true → free isArrayName f ≡ true
+    → walk arrayLevel (unindexed d) f ≡ ok (turnedOnto d f)
 unfolding array-inert
 array-walk-free d f hd h = walk-free arrayLevel isArrayName array-inert d f hd h
 
@@ -200,7 +207,8 @@ scanned x y z a aa b bs left right =
 
 pub scan-once : (a : Token) (aa : Forest) (b : Token) (bs left right : Forest)
     → scan (node a aa (node b bs left)) right
-    ≡ scanned (isToken Operator.conditional a aa) (isToken Operator.conditionalElse a aa) (startsWith Operator.conditional left) a aa b bs left right
+    ≡ scanned (isToken Operator.conditional a aa) (isToken Operator.conditionalElse a aa)
+    (startsWith Operator.conditional left) a aa b bs left right
 unfolding scan scanned
 scan-once a aa b bs left right = refl
 

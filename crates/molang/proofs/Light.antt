@@ -46,25 +46,36 @@ module _ (W : Weighing) where
   abbrev CallOnward : CallKind → Token → Forest → Forest → ℕ → Step Gathered → Type 0
   CallOnward kind k cs rest n = Onward (Within W) (callLevel kind) GatheredFits gatheredFull k cs rest n
 
-  call-kept : (kind : CallKind) (d : Forest) (k c : Token) (cs r rest : Forest) (n : ℕ) → weight W d + weight W (node k (node c cs r) rest) ≤ n → CallOnward kind k (node c cs r) rest n (into (gathered d) (gathered nil))
+  call-kept : (kind : CallKind) (d : Forest) (k c : Token) (cs r rest : Forest) (n : ℕ) → weight W d + weight W (node k (node c cs r) rest) ≤ n
+      → CallOnward kind k (node c cs r) rest n (into (gathered d) (gathered nil))
   unfolding weight shown isNil callLevel callResume
-  call-kept kind d k c cs r rest n h = enters-gathered (callLevel kind) (gathered d) k c cs r rest n λ kids e. (omega (arith, weight-inner W k kids d e), refl)
+  call-kept kind d k c cs r rest n h =
+      enters-gathered (callLevel kind) (gathered d) k c cs r rest n λ kids e. (omega (arith, weight-inner W k kids d e), refl)
 
-  call-takes : (kind : CallKind) (d : Forest) (q k c : Token) (cs r rest : Forest) (n : ℕ) → weight W (node q nil d) + weight W (node k (node c cs r) rest) ≤ n → CallOnward kind k (node c cs r) rest n (into (waiting d q) (gathered nil))
+  call-takes : (kind : CallKind) (d : Forest) (q k c : Token) (cs r rest : Forest) (n : ℕ)
+      → weight W (node q nil d) + weight W (node k (node c cs r) rest) ≤ n
+      → CallOnward kind k (node c cs r) rest n (into (waiting d q) (gathered nil))
   unfolding weight shown isNil callLevel callResume
   call-takes kind d q k c cs r rest n h =
-      enters-gathered (callLevel kind) (waiting d q) k c cs r rest n λ kids e. (omega (arith, weight-inner W k kids nil e, W .lighter (q .op)), refl)
+      enters-gathered (callLevel kind) (waiting d q) k c cs r rest n λ kids e.
+      (omega (arith, weight-inner W k kids nil e, W .lighter (q .op)), refl)
 
-  call-steps : (kind : CallKind) (s : Gathered) (k : Token) (cs rest : Forest) (n : ℕ) → GatheredFits s (node k cs rest) n → CallOnward kind k cs rest n (callStep kind s k cs)
+  call-steps : (kind : CallKind) (s : Gathered) (k : Token) (cs rest : Forest) (n : ℕ) → GatheredFits s (node k cs rest) n
+      → CallOnward kind k cs rest n (callStep kind s k cs)
   unfolding callStep callLeaf weight shown isNil
-  call-steps kind (gathered d) k nil rest n h = either (CallOnward kind k nil rest n) (calls kind (k .op)) _ _ (goes (omega arith) refl) (goes (omega arith) refl)
+  call-steps kind (gathered d) k nil rest n h =
+      either (CallOnward kind k nil rest n) (calls kind (k .op)) _ _ (goes (omega arith) refl) (goes (omega arith) refl)
   call-steps kind (gathered d) k (node c cs r) rest n h = call-kept kind d k c cs r rest n h
   call-steps queryOrLoop (waiting d q) k nil rest n h =
-      either (CallOnward queryOrLoop k nil rest n) (isBracket (k .op)) _ _ (stops refl) (either (CallOnward queryOrLoop k nil rest n) (calls queryOrLoop (k .op)) _ _ (goes (omega arith) refl) (goes (omega arith) refl))
+      either (CallOnward queryOrLoop k nil rest n) (isBracket (k .op)) _ _ (stops refl)
+      (either (CallOnward queryOrLoop k nil rest n) (calls queryOrLoop (k .op)) _ _ (goes (omega arith) refl) (goes (omega arith) refl))
   call-steps queryOrLoop (waiting d q) k (node c cs r) rest n h =
-      either (CallOnward queryOrLoop k (node c cs r) rest n) (isBracket (k .op)) _ _ (call-takes queryOrLoop d q k c cs r rest n h) (call-kept queryOrLoop (node q nil d) k c cs r rest n h)
-  call-steps math (waiting d q) k nil rest n h = either (CallOnward math k nil rest n) (isBracket (k .op)) _ _ (goes (omega (arith, W .lighter (q .op))) refl) (stops refl)
-  call-steps math (waiting d q) k (node c cs r) rest n h = either (CallOnward math k (node c cs r) rest n) (isBracket (k .op)) _ _ (call-takes math d q k c cs r rest n h) (stops refl)
+      either (CallOnward queryOrLoop k (node c cs r) rest n) (isBracket (k .op)) _ _ (call-takes queryOrLoop d q k c cs r rest n h)
+      (call-kept queryOrLoop (node q nil d) k c cs r rest n h)
+  call-steps math (waiting d q) k nil rest n h =
+      either (CallOnward math k nil rest n) (isBracket (k .op)) _ _ (goes (omega (arith, W .lighter (q .op))) refl) (stops refl)
+  call-steps math (waiting d q) k (node c cs r) rest n h =
+      either (CallOnward math k (node c cs r) rest n) (isBracket (k .op)) _ _ (call-takes math d q k c cs r rest n h) (stops refl)
 
   call-ends : (kind : CallKind) (s : Gathered) (n : ℕ) → GatheredFits s nil n → Ending W n (gatheredFull s) (callFinish kind s)
   unfolding callFinish shown
@@ -90,23 +101,33 @@ module _ (W : Weighing) where
   full-joined nil q k cs = refl
   full-joined (node l ls d) q k cs = refl
 
-  binary-kept : (ops : List ℕ) (d : Forest) (k c : Token) (cs r rest : Forest) (n : ℕ) → weight W d + weight W (node k (node c cs r) rest) ≤ n → BinaryOnward ops k (node c cs r) rest n (into (gathered d) (gathered nil))
+  binary-kept : (ops : List ℕ) (d : Forest) (k c : Token) (cs r rest : Forest) (n : ℕ) → weight W d + weight W (node k (node c cs r) rest) ≤ n
+      → BinaryOnward ops k (node c cs r) rest n (into (gathered d) (gathered nil))
   unfolding weight shown isNil binaryLevel binaryResume
-  binary-kept ops d k c cs r rest n h = enters-gathered (binaryLevel ops) (gathered d) k c cs r rest n λ kids e. (omega (arith, weight-inner W k kids d e), refl)
+  binary-kept ops d k c cs r rest n h =
+      enters-gathered (binaryLevel ops) (gathered d) k c cs r rest n λ kids e. (omega (arith, weight-inner W k kids d e), refl)
 
-  binary-takes : (ops : List ℕ) (d : Forest) (q k c : Token) (cs r rest : Forest) (n : ℕ) → weight W (node q nil d) + weight W (node k (node c cs r) rest) ≤ n → BinaryOnward ops k (node c cs r) rest n (into (waiting d q) (gathered nil))
+  binary-takes : (ops : List ℕ) (d : Forest) (q k c : Token) (cs r rest : Forest) (n : ℕ)
+      → weight W (node q nil d) + weight W (node k (node c cs r) rest) ≤ n
+      → BinaryOnward ops k (node c cs r) rest n (into (waiting d q) (gathered nil))
   unfolding weight shown isNil binaryLevel binaryResume
   binary-takes ops d q k c cs r rest n h =
-      enters-gathered (binaryLevel ops) (waiting d q) k c cs r rest n λ kids e. (omega (arith, weight-joined d q k kids, weight-inner W k kids nil e, W .lighter (q .op)), rw full-joined refl)
+      enters-gathered (binaryLevel ops) (waiting d q) k c cs r rest n λ kids e.
+      (omega (arith, weight-joined d q k kids, weight-inner W k kids nil e, W .lighter (q .op)), rw full-joined refl)
 
-  binary-steps : (ops : List ℕ) (s : Gathered) (k : Token) (cs rest : Forest) (n : ℕ) → GatheredFits s (node k cs rest) n → BinaryOnward ops k cs rest n (binaryStep ops s k cs)
+  binary-steps : (ops : List ℕ) (s : Gathered) (k : Token) (cs rest : Forest) (n : ℕ) → GatheredFits s (node k cs rest) n
+      → BinaryOnward ops k cs rest n (binaryStep ops s k cs)
   unfolding binaryStep operatorAfter weight shown isNil
-  binary-steps ops (gathered nil) k nil rest n h = either (BinaryOnward ops k nil rest n) (isOneOf ops (k .op)) _ _ (stops refl) (goes (omega arith) refl)
-  binary-steps ops (gathered (node l ls d)) k nil rest n h = either (BinaryOnward ops k nil rest n) (isOneOf ops (k .op)) _ _ (goes (omega arith) refl) (goes (omega arith) refl)
+  binary-steps ops (gathered nil) k nil rest n h =
+      either (BinaryOnward ops k nil rest n) (isOneOf ops (k .op)) _ _ (stops refl) (goes (omega arith) refl)
+  binary-steps ops (gathered (node l ls d)) k nil rest n h =
+      either (BinaryOnward ops k nil rest n) (isOneOf ops (k .op)) _ _ (goes (omega arith) refl) (goes (omega arith) refl)
   binary-steps ops (gathered d) k (node c cs r) rest n h = binary-kept ops d k c cs r rest n h
   binary-steps ops (waiting d q) k nil rest n h =
-      maybe (BinaryOnward ops k nil rest n) (unfolded ops d) _ _ (λ t. stops refl) (goes (omega (arith, weight-joined d q k nil, W .lighter (q .op))) (rw full-joined refl))
-  binary-steps ops (waiting d q) k (node c cs r) rest n h = maybe (BinaryOnward ops k (node c cs r) rest n) (unfolded ops d) _ _ (λ t. stops refl) (binary-takes ops d q k c cs r rest n h)
+      maybe (BinaryOnward ops k nil rest n) (unfolded ops d) _ _ (λ t. stops refl)
+      (goes (omega (arith, weight-joined d q k nil, W .lighter (q .op))) (rw full-joined refl))
+  binary-steps ops (waiting d q) k (node c cs r) rest n h =
+      maybe (BinaryOnward ops k (node c cs r) rest n) (unfolded ops d) _ _ (λ t. stops refl) (binary-takes ops d q k c cs r rest n h)
 
   binary-ends : (s : Gathered) (n : ℕ) → GatheredFits s nil n → Ending W n (gatheredFull s) (binaryFinish s)
   unfolding binaryFinish shown
@@ -121,13 +142,17 @@ module _ (W : Weighing) where
   abbrev ReturnOnward : Token → Forest → Forest → ℕ → Step Gathered → Type 0
   ReturnOnward k cs rest n = Onward (Within W) returnLevel GatheredFits gatheredFull k cs rest n
 
-  return-kept : (d : Forest) (k c : Token) (cs r rest : Forest) (n : ℕ) → weight W d + weight W (node k (node c cs r) rest) ≤ n → ReturnOnward k (node c cs r) rest n (into (gathered d) (gathered nil))
+  return-kept : (d : Forest) (k c : Token) (cs r rest : Forest) (n : ℕ) → weight W d + weight W (node k (node c cs r) rest) ≤ n
+      → ReturnOnward k (node c cs r) rest n (into (gathered d) (gathered nil))
   unfolding weight shown isNil returnLevel returnResume
-  return-kept d k c cs r rest n h = enters-gathered returnLevel (gathered d) k c cs r rest n λ kids e. (omega (arith, weight-inner W k kids d e), refl)
+  return-kept d k c cs r rest n h =
+      enters-gathered returnLevel (gathered d) k c cs r rest n λ kids e. (omega (arith, weight-inner W k kids d e), refl)
 
-  return-steps : (s : Gathered) (k : Token) (cs rest : Forest) (n : ℕ) → GatheredFits s (node k cs rest) n → ReturnOnward k cs rest n (returnStep s k cs)
+  return-steps : (s : Gathered) (k : Token) (cs rest : Forest) (n : ℕ) → GatheredFits s (node k cs rest) n
+      → ReturnOnward k cs rest n (returnStep s k cs)
   unfolding returnStep weight shown isNil
-  return-steps (gathered d) k nil rest n h = either (ReturnOnward k nil rest n) (eqb (k .op) Operator.return) _ _ (goes (omega arith) refl) (goes (omega arith) refl)
+  return-steps (gathered d) k nil rest n h =
+      either (ReturnOnward k nil rest n) (eqb (k .op) Operator.return) _ _ (goes (omega arith) refl) (goes (omega arith) refl)
   return-steps (gathered d) k (node c cs r) rest n h = return-kept d k c cs r rest n h
   return-steps (waiting d q) k cs rest n h =
       goes {t = gathered (node q (node k cs nil) d)} (omega (arith, weight-tree W k cs rest, W .lighter (q .op))) refl
@@ -163,7 +188,19 @@ module _ (W : Weighing) where
   pairElse-light (node f fs (node c cs nil)) n h = h
   pairElse-light (node f fs (node c cs (node x xs r))) n h =
       decided (Folds n) (isToken Operator.conditionalElse c cs) _ _
-      (λ e. (omega (arith, h .0, weight-token Operator.conditionalElse c cs e, weight-tree W f fs (node x xs nil), weight-tree W f fs (node c cs (node x xs r)), weight-tree W c cs (node x xs r), weight-tree W x xs r), refl))
+      (λ e. (
+        omega (
+          arith,
+          h .0,
+          weight-token Operator.conditionalElse c cs e,
+          weight-tree W f fs (node x xs nil),
+          weight-tree W f fs
+              (node c cs (node x xs r)),
+          weight-tree W c cs (node x xs r),
+          weight-tree W x xs r,
+        ),
+        refl,
+      ))
       (λ e. h)
 
   module _ (a : Token) (aa : Forest) (b : Token) (bs left right : Forest) (n : ℕ) (h : weight W (node a aa (node b bs left)) + weight W right ≤ n) where
@@ -184,7 +221,8 @@ module _ (W : Weighing) where
     scanned-light true y true p q far near =
         let u = under-light a b bs right in
         let v = pairElse-light (under a b bs right) (W .inner + weight W (node b bs nil) + weight W right) u in
-        far (pairElse (under a b bs right)) (omega (arith, v .0, weight-token Operator.conditional a aa p, weight-tree W a aa (node b bs left), weight-tree W b bs left)) (v .1)
+        far (pairElse (under a b bs right))
+        (omega (arith, v .0, weight-token Operator.conditional a aa p, weight-tree W a aa (node b bs left), weight-tree W b bs left)) (v .1)
     scanned-light true y false p q far near = let u = taken-light Operator.conditional p in far (under a b bs right) (u .0) (u .1)
     scanned-light false true true p q far near = let u = taken-light Operator.conditionalElse q in far (under a b bs right) (u .0) (u .1)
     scanned-light false true false p q far near = near (node a aa right) kept-light refl
@@ -196,14 +234,16 @@ module _ (W : Weighing) where
   scan-light (node a aa nil) right n h e = (omega (arith, weight-tree W a aa right), refl)
   scan-light (node a aa (node b bs left)) right n h e =
       rw (scan-once a aa b bs left right)
-      (scanned-light a aa b bs left right n h (isToken Operator.conditional a aa) (isToken Operator.conditionalElse a aa) (startsWith Operator.conditional left) refl refl
+      (scanned-light a aa b bs left right n h (isToken Operator.conditional a aa) (isToken Operator.conditionalElse a aa)
+      (startsWith Operator.conditional left) refl refl
       (λ r h e. scan-light left r n h e) (λ r h e. scan-light (node b bs left) r n h e))
 
   folded-light : (d : Forest) (n : ℕ) → weight W d ≤ n → (weight W (foldedFrom d) ≤ n) × (isNil d ≡ false → isNil (foldedFrom d) ≡ false)
   unfolding foldedFrom weight isNil
   folded-light nil n h = (h, λ e. e)
   folded-light (node a aa nil) n h = (h, λ e. e)
-  folded-light (node a aa (node b bs nil)) n h = (omega (arith, weight-tree W a aa (node b bs nil), weight-tree W b bs (node a aa nil)), λ e. refl)
+  folded-light (node a aa (node b bs nil)) n h =
+      (omega (arith, weight-tree W a aa (node b bs nil), weight-tree W b bs (node a aa nil)), λ e. refl)
   folded-light (node a aa (node b bs (node c cs left))) n h =
       let u = scan-light (node b bs (node c cs left)) (node a aa nil) n (omega (arith, weight-tree W a aa (node b bs (node c cs left)))) refl in
       (u .0, λ e. u .1)
@@ -214,7 +254,8 @@ module _ (W : Weighing) where
   abbrev forestFull : Forest → Bool
   forestFull d = not (isNil d)
 
-  conditional-steps : (d : Forest) (k : Token) (cs rest : Forest) (n : ℕ) → ForestFits d (node k cs rest) n → Onward (Within W) conditionalLevel ForestFits forestFull k cs rest n (conditionalStep d k cs)
+  conditional-steps : (d : Forest) (k : Token) (cs rest : Forest) (n : ℕ) → ForestFits d (node k cs rest) n
+      → Onward (Within W) conditionalLevel ForestFits forestFull k cs rest n (conditionalStep d k cs)
   unfolding conditionalLevel conditionalStep weight isNil
   conditional-steps d k nil rest n h = goes {t = node k nil d} (omega arith) refl
   conditional-steps d k (node c cs r) rest n h =
@@ -224,11 +265,13 @@ module _ (W : Weighing) where
   unfolding conditionalFinish undangled weight
   conditional-ends d n h =
       let u = folded-light d n (omega arith) in
-      maybe (Ending W n (forestFull d)) (dangling (foldedFrom d)) _ _ (λ k. failed refl) (fine {g = foldedFrom d} (u .0, λ e. u .1 (not-true (isNil d) e)))
+      maybe (Ending W n (forestFull d)) (dangling (foldedFrom d)) _ _ (λ k. failed refl)
+      (fine {g = foldedFrom d} (u .0, λ e. u .1 (not-true (isNil d) e)))
 
   pub conditional-light : Light W conditionalLevel
   unfolding conditionalLevel weight
-  conditional-light = record { Fits = ForestFits; full = forestFull; begins = λ f. omega arith; steps = conditional-steps; ends = conditional-ends }
+  conditional-light =
+      record { Fits = ForestFits; full = forestFull; begins = λ f. omega arith; steps = conditional-steps; ends = conditional-ends }
 
   -- Arrays. An array between two indices has contents.
   abbrev hasContents : Indexing → Bool
@@ -245,51 +288,71 @@ module _ (W : Weighing) where
   abbrev ArrayOnward : Token → Forest → Forest → ℕ → Step Indexing → Type 0
   ArrayOnward k cs rest n = Onward (Within W) arrayLevel IndexingFits indexingFull k cs rest n
 
-  weight-array : (d : Forest) (q : Token) (contents : Forest) → isNil contents ≡ false → weight W (flushed (indexed d q contents)) ≡ W .inner + weight W contents + weight W d
+  weight-array : (d : Forest) (q : Token) (contents : Forest) → isNil contents ≡ false
+      → weight W (flushed (indexed d q contents)) ≡ W .inner + weight W contents + weight W d
   unfolding flushed
   weight-array d q contents e = omega (arith, weight-inner W q (inOrder contents) d (isNil-inOrder contents e), weight-inOrder W contents)
 
-  empty-light : (s : Indexing) (k : Token) (rest : Forest) (n : ℕ) → IndexingFits s (node k nil rest) n → ArrayOnward k nil rest n (emptyIndex s k)
+  empty-light : (s : Indexing) (k : Token) (rest : Forest) (n : ℕ) → IndexingFits s (node k nil rest) n
+      → ArrayOnward k nil rest n (emptyIndex s k)
   unfolding emptyIndex flushed weight isNil
   empty-light (unindexed d) k rest n h = goes {t = unindexed (node k nil d)} (omega (arith, h .0), refl) refl
   empty-light (named d q) k rest n h = stops refl
   empty-light (indexed d q contents) k rest n h = stops refl
 
-  array-kept : (d : Forest) (k c : Token) (cs r rest : Forest) (n : ℕ) → weight W d + weight W (node k (node c cs r) rest) ≤ n → ArrayOnward k (node c cs r) rest n (into (unindexed d) (unindexed nil))
+  array-kept : (d : Forest) (k c : Token) (cs r rest : Forest) (n : ℕ) → weight W d + weight W (node k (node c cs r) rest) ≤ n
+      → ArrayOnward k (node c cs r) rest n (into (unindexed d) (unindexed nil))
   unfolding flushed weight isNil arrayLevel arrayResume
   array-kept d k c cs r rest n h =
-      enters {t = unindexed d} {u = unindexed nil} (weight W (node c cs r)) (omega arith, refl) refl λ kids w e. ((omega (arith, weight-inner W k kids d e), refl), refl)
+      enters {t = unindexed d} {u = unindexed nil} (weight W (node c cs r)) (omega arith, refl) refl λ kids w e.
+      ((omega (arith, weight-inner W k kids d e), refl), refl)
 
   -- An index's contents, from the state u on, are added to those of the array so far.
-  array-appends : (d : Forest) (q : Token) (contents : Forest) (u : Indexing) (m : ℕ) (k c : Token) (cs r rest : Forest) (n : ℕ) → IndexingFits u (node c cs r) m
+  array-appends : (d : Forest) (q : Token) (contents : Forest) (u : Indexing) (m : ℕ) (k c : Token) (cs r rest : Forest) (n : ℕ)
+      → IndexingFits u (node c cs r) m
       → W .inner + weight W contents + weight W d + m + weight W rest ≤ n → ArrayOnward k (node c cs r) rest n (into (indexed d q contents) u)
   unfolding isNil flushed arrayLevel arrayResume
   array-appends d q contents u m k c cs r rest n h b =
-      enters {t = indexed d q contents} {u = u} m h refl λ kids w e. let full = isNil-turned-full kids contents e in ((omega (arith, weight-array d q (turnedOnto kids contents) full, weight-turned W kids contents), rw full refl), refl)
+      enters {t = indexed d q contents} {u = u} m h refl λ kids w e. let full =
+      isNil-turned-full kids contents e in
+      ((omega (arith, weight-array d q (turnedOnto kids contents) full, weight-turned W kids contents), rw full refl), refl)
 
-  next-light : (d : Forest) (q : Token) (contents : Forest) (k c : Token) (cs r rest : Forest) (n : ℕ) → W .inner + weight W contents + weight W d + weight W (node k (node c cs r) rest) ≤ n
+  next-light : (d : Forest) (q : Token) (contents : Forest) (k c : Token) (cs r rest : Forest) (n : ℕ)
+      → W .inner + weight W contents + weight W d + weight W (node k (node c cs r) rest) ≤ n
       → ArrayOnward k (node c cs r) rest n (nextIndex d q contents (node c cs r))
   unfolding nextIndex flushed weight
-  next-light d q nil k c cs r rest n h = array-appends d q nil (unindexed nil) (weight W (node c cs r)) k c cs r rest n (omega arith, refl) (omega arith)
-  next-light d q (node l (node x xs y) contents) k c cs r rest n h = array-appends d q (node l (node x xs y) contents) (unindexed nil) (weight W (node c cs r)) k c cs r rest n (omega arith, refl) (omega arith)
+  next-light d q nil k c cs r rest n h =
+      array-appends d q nil (unindexed nil) (weight W (node c cs r)) k c cs r rest n (omega arith, refl) (omega arith)
+  next-light d q (node l (node x xs y) contents) k c cs r rest n h =
+      array-appends d q (node l (node x xs y) contents) (unindexed nil) (weight W (node c cs r)) k c cs r rest n (omega arith, refl) (omega arith)
   next-light d q (node l nil contents) k c cs r rest n h =
       either (ArrayOnward k (node c cs r) rest n) (eqb (l .op) Operator.arrayVariable) _ _
-      (either (ArrayOnward k (node c cs r) rest n) (startsWithIndex (node c cs r)) _ _ (array-appends d q contents (named nil l) (W .leaf (l .op) + weight W (node c cs r)) k c cs r rest n (omega arith, refl) (omega arith)) (array-appends d q (node l nil contents) (unindexed nil) (weight W (node c cs r)) k c cs r rest n (omega arith, refl) (omega arith)))
+      (either (ArrayOnward k (node c cs r) rest n) (startsWithIndex (node c cs r)) _ _
+      (array-appends d q contents (named nil l) (W .leaf (l .op) + weight W (node c cs r)) k c cs r rest n (omega arith, refl) (omega arith))
+      (array-appends d q (node l nil contents) (unindexed nil) (weight W (node c cs r)) k c cs r rest n (omega arith, refl) (omega arith)))
       (array-appends d q (node l nil contents) (unindexed nil) (weight W (node c cs r)) k c cs r rest n (omega arith, refl) (omega arith))
 
-  index-light : (s : Indexing) (k c : Token) (cs r rest : Forest) (n : ℕ) → IndexingFits s (node k (node c cs r) rest) n → ArrayOnward k (node c cs r) rest n (index s (node c cs r))
+  index-light : (s : Indexing) (k c : Token) (cs r rest : Forest) (n : ℕ) → IndexingFits s (node k (node c cs r) rest) n
+      → ArrayOnward k (node c cs r) rest n (index s (node c cs r))
   unfolding index flushed weight
   index-light (unindexed d) k c cs r rest n h = array-kept d k c cs r rest n (h .0)
   index-light (named d q) k c cs r rest n h =
-      array-appends d (renamed Operator.array q) nil (unindexed nil) (weight W (node c cs r)) k c cs r rest n (omega arith, refl) (omega (arith, h .0, W .lighter (q .op)))
-  index-light (indexed d q contents) k c cs r rest n h = next-light d q contents k c cs r rest n (omega (arith, h .0, weight-array d q contents (not-true (isNil contents) (h .1))))
+      array-appends d (renamed Operator.array q) nil (unindexed nil) (weight W (node c cs r)) k c cs r rest n (omega arith, refl)
+      (omega (arith, h .0, W .lighter (q .op)))
+  index-light (indexed d q contents) k c cs r rest n h =
+      next-light d q contents k c cs r rest n (omega (arith, h .0, weight-array d q contents (not-true (isNil contents) (h .1))))
 
-  array-steps : (s : Indexing) (k : Token) (cs rest : Forest) (n : ℕ) → IndexingFits s (node k cs rest) n → ArrayOnward k cs rest n (arrayStep s k cs)
+  array-steps : (s : Indexing) (k : Token) (cs rest : Forest) (n : ℕ) → IndexingFits s (node k cs rest) n
+      → ArrayOnward k cs rest n (arrayStep s k cs)
   unfolding arrayStep weight isNil flushed
   array-steps s k nil rest n h =
       either (ArrayOnward k nil rest n) (isIndex k) _ _ (empty-light s k rest n h)
-      (either (ArrayOnward k nil rest n) (eqb (k .op) Operator.arrayVariable) _ _ (goes {t = named (flushed s) k} (omega (arith, h .0), refl) refl) (goes {t = unindexed (node k nil (flushed s))} (omega (arith, h .0), refl) refl))
-  array-steps s k (node c cs r) rest n h = either (ArrayOnward k (node c cs r) rest n) (isIndex k) _ _ (index-light s k c cs r rest n h) (array-kept (flushed s) k c cs r rest n (h .0))
+      (either (ArrayOnward k nil rest n) (eqb (k .op) Operator.arrayVariable) _ _
+      (goes {t = named (flushed s) k} (omega (arith, h .0), refl) refl)
+      (goes {t = unindexed (node k nil (flushed s))} (omega (arith, h .0), refl) refl))
+  array-steps s k (node c cs r) rest n h =
+      either (ArrayOnward k (node c cs r) rest n) (isIndex k) _ _ (index-light s k c cs r rest n h)
+      (array-kept (flushed s) k c cs r rest n (h .0))
 
   array-ends : (s : Indexing) (n : ℕ) → IndexingFits s nil n → Ending W n (indexingFull s) (arrayFinish s)
   unfolding arrayFinish
@@ -330,45 +393,80 @@ module _ (W : Weighing) (pays : 3 * W .inner ≤ W .leaf Operator.semicolon) whe
   split-fits nil g n h c = omega arith
   split-fits (node k (node x xs y) rest) g n h c = split-fits rest g n h c
   split-fits (node k nil rest) g n h c =
-      decided (λ s. SplitFits s g n) (eqb (k .op) Operator.semicolon) (after (bare Operator.semicolon k) nil) (splitOf rest) (λ e. (omega arith, c (rw e refl))) (λ e. split-fits rest g n h (λ z. c (rw (e, z) refl)))
+      decided (λ s. SplitFits s g n) (eqb (k .op) Operator.semicolon) (after (bare Operator.semicolon k) nil) (splitOf rest)
+      (λ e. (omega arith, c (rw e refl))) (λ e. split-fits rest g n h (λ z. c (rw (e, z) refl)))
 
-  owing-rest : (done : Forest) (k : Token) (cs rest : Forest) → (clear isSemicolon (node k cs rest) ≡ clear isSemicolon rest) → Owing done (node k cs rest) → Owing done rest
+  owing-rest : (done : Forest) (k : Token) (cs rest : Forest) → (clear isSemicolon (node k cs rest) ≡ clear isSemicolon rest)
+      → Owing done (node k cs rest) → Owing done rest
   owing-rest nil k cs rest e o = rw e at o
   owing-rest (node t ts done) k cs rest e o = o
 
-  gather-light : (m : Split) (k : Token) (kids cs rest : Forest) (n : ℕ) → SplitFits m (node k cs rest) n → weight W (node k kids nil) ≤ weight W (node k cs nil)
+  gather-light : (m : Split) (k : Token) (kids cs rest : Forest) (n : ℕ) → SplitFits m (node k cs rest) n
+      → weight W (node k kids nil) ≤ weight W (node k cs nil)
       → (clear isSemicolon (node k cs rest) ≡ clear isSemicolon rest) → SplitFits (gather k kids m) rest n × (splitFull (gather k kids m) ≡ true)
   unfolding gather isNil weight
   gather-light (unsplit d) k kids cs rest n h w e = (omega (arith, weight-tree W k kids d, weight-tree W k cs rest), refl)
-  gather-light (after q done) k kids cs rest n h w e = ((omega (arith, h .0, weight-tree W k cs rest), owing-rest done k cs rest e (h .1), refl), refl)
-  gather-light (inside q done s d) k kids cs rest n h w e = ((omega (arith, h .0, weight-tree W k kids d, weight-tree W k cs rest), owing-rest done k cs rest e (h .1), refl), refl)
+  gather-light (after q done) k kids cs rest n h w e =
+      ((omega (arith, h .0, weight-tree W k cs rest), owing-rest done k cs rest e (h .1), refl), refl)
+  gather-light (inside q done s d) k kids cs rest n h w e =
+      ((omega (arith, h .0, weight-tree W k kids d, weight-tree W k cs rest), owing-rest done k cs rest e (h .1), refl), refl)
 
-  end-light : (k : Token) (m : Split) (rest : Forest) (n : ℕ) → eqb (k .op) Operator.semicolon ≡ true → SplitFits m (node k nil rest) n → SplitOnward k nil rest n (endStatement k m)
+  end-light : (k : Token) (m : Split) (rest : Forest) (n : ℕ) → eqb (k .op) Operator.semicolon ≡ true → SplitFits m (node k nil rest) n
+      → SplitOnward k nil rest n (endStatement k m)
   unfolding endStatement isNil weight
   end-light k (unsplit d) rest n e h = goes {t = unsplit (node k nil d)} (omega arith) refl
   end-light k (after q nil) rest n e h = stops refl
   end-light k (after q (node t ts done)) rest n e h = goes {t = after q (node t ts done)} (omega (arith, h .0), tt) refl
   end-light k (inside q nil s d) rest n e h =
-      goes {t = after q (node s (inOrder d) nil)} (omega (arith, h .0, pays, ap (W .leaf) (eqb-true (k .op) Operator.semicolon e), weight-inner W s (inOrder d) nil (isNil-inOrder d (h .2)), weight-inOrder W d), tt) refl
+      goes {t = after q (node s (inOrder d) nil)} (
+        omega (
+          arith,
+          h .0,
+          pays,
+          ap (W .leaf) (eqb-true (k .op) Operator.semicolon e),
+          weight-inner W s (inOrder d) nil
+              (isNil-inOrder d (h .2)),
+          weight-inOrder W d,
+        ),
+        tt,
+      ) refl
   end-light k (inside q (node t ts done) s d) rest n e h =
-      goes {t = after q (node s (inOrder d) (node t ts done))} (omega (arith, h .0, pays, ap (W .leaf) (eqb-true (k .op) Operator.semicolon e), weight-inner W s (inOrder d) (node t ts done) (isNil-inOrder d (h .2)), weight-inOrder W d), tt) refl
+      goes {t = after q (node s (inOrder d) (node t ts done))} (
+        omega (
+          arith,
+          h .0,
+          pays,
+          ap (W .leaf) (eqb-true (k .op) Operator.semicolon e),
+          weight-inner W s (inOrder d) (node t ts done)
+              (isNil-inOrder d (h .2)),
+          weight-inOrder W d,
+        ),
+        tt,
+      ) refl
 
   -- A node's children, split for themselves, come back to it.
-  statement-enters : (m : Split) (k c : Token) (cs r rest : Forest) (n : ℕ) → SplitFits m (node k (node c cs r) rest) n → SplitOnward k (node c cs r) rest n (into m (splitOf (node c cs r)))
+  statement-enters : (m : Split) (k c : Token) (cs r rest : Forest) (n : ℕ) → SplitFits m (node k (node c cs r) rest) n
+      → SplitOnward k (node c cs r) rest n (into m (splitOf (node c cs r)))
   unfolding statementLevel statementResume isNil clear
   statement-enters m k c cs r rest n h =
-      enters {t = m} {u = splitOf (node c cs r)} (weight W (node c cs r)) (split-fits (node c cs r) (node c cs r) (weight W (node c cs r)) (omega arith) (λ e. e)) refl λ kids w e. gather-light m k kids (node c cs r) rest n h (omega (arith, weight-inner W k kids nil e, weight-inner W k (node c cs r) nil refl)) refl
+      enters {t = m} {u = splitOf (node c cs r)} (weight W (node c cs r))
+      (split-fits (node c cs r) (node c cs r) (weight W (node c cs r)) (omega arith) (λ e. e)) refl λ kids w e. gather-light m k kids
+      (node c cs r) rest n h (omega (arith, weight-inner W k kids nil e, weight-inner W k (node c cs r) nil refl)) refl
 
-  enter-light : (m : Split) (k c : Token) (cs r rest : Forest) (n : ℕ) → SplitFits m (node k (node c cs r) rest) n → SplitOnward k (node c cs r) rest n (enterSplit m k (node c cs r))
+  enter-light : (m : Split) (k c : Token) (cs r rest : Forest) (n : ℕ) → SplitFits m (node k (node c cs r) rest) n
+      → SplitOnward k (node c cs r) rest n (enterSplit m k (node c cs r))
   unfolding enterSplit clear
   enter-light m k c cs r rest n h =
       let g = gather-light m k (node c cs r) (node c cs r) rest n h (omega arith) refl in
-      either (SplitOnward k (node c cs r) rest n) (isEntered (k .op)) _ _ (statement-enters m k c cs r rest n h) (goes {t = gather k (node c cs r) m} (g .0) (g .1))
+      either (SplitOnward k (node c cs r) rest n) (isEntered (k .op)) _ _ (statement-enters m k c cs r rest n h)
+      (goes {t = gather k (node c cs r) m} (g .0) (g .1))
 
-  statement-steps : (m : Split) (k : Token) (cs rest : Forest) (n : ℕ) → SplitFits m (node k cs rest) n → SplitOnward k cs rest n (statementStep m k cs)
+  statement-steps : (m : Split) (k : Token) (cs rest : Forest) (n : ℕ) → SplitFits m (node k cs rest) n
+      → SplitOnward k cs rest n (statementStep m k cs)
   unfolding statementStep clear isSemicolon
   statement-steps m k nil rest n h =
-      decided (SplitOnward k nil rest n) (eqb (k .op) Operator.semicolon) _ _ (λ e. end-light k m rest n e h) (λ e. let g = gather-light m k nil nil rest n h (omega arith) (rw e refl) in goes {t = gather k nil m} (g .0) (g .1))
+      decided (SplitOnward k nil rest n) (eqb (k .op) Operator.semicolon) _ _ (λ e. end-light k m rest n e h)
+      (λ e. let g = gather-light m k nil nil rest n h (omega arith) (rw e refl) in goes {t = gather k nil m} (g .0) (g .1))
   statement-steps (unsplit d) k (node c cs r) rest n h = statement-enters (unsplit d) k c cs r rest n h
   statement-steps (after q done) k (node c cs r) rest n h = enter-light (after q done) k c cs r rest n h
   statement-steps (inside q done s d) k (node c cs r) rest n h = enter-light (inside q done s d) k c cs r rest n h
@@ -378,12 +476,40 @@ module _ (W : Weighing) (pays : 3 * W .inner ≤ W .leaf Operator.semicolon) whe
   statement-ends (unsplit d) n h = turned-fine W d n h
   statement-ends (after q nil) n h = absurd (true≢false (h .1))
   statement-ends (after q (node t ts done)) n h =
-      fine {g = node q (inOrder (node t ts done)) nil} (omega (arith, h .0, weight-inner W q (inOrder (node t ts done)) nil (isNil-inOrder (node t ts done) refl), weight-inOrder W (node t ts done)), λ e. refl)
+      fine {g = node q (inOrder (node t ts done)) nil} (
+        omega (
+          arith,
+          h .0,
+          weight-inner W q (inOrder (node t ts done)) nil (isNil-inOrder (node t ts done) refl),
+          weight-inOrder W
+              (node t ts done),
+        ),
+        λ e. refl,
+      )
   statement-ends (inside q nil s d) n h = absurd (true≢false (h .1))
   statement-ends (inside q (node t ts done) s d) n h =
       let l = node s (inOrder d) (node t ts done) in
-      fine {g = node q (inOrder l) nil} (omega (arith, h .0, weight-inner W q (inOrder l) nil (isNil-inOrder l refl), weight-inOrder W l, weight-inner W s (inOrder d) (node t ts done) (isNil-inOrder d (h .2)), weight-inOrder W d), λ e. refl)
+      fine {g = node q (inOrder l) nil} (
+        omega (
+          arith,
+          h .0,
+          weight-inner W q (inOrder l) nil (isNil-inOrder l refl),
+          weight-inOrder W l,
+          weight-inner W s (inOrder d)
+              (node t ts done) (isNil-inOrder d (h .2)),
+          weight-inOrder W d,
+        ),
+        λ e. refl,
+      )
 
   pub statement-light : Light W statementLevel
   unfolding statementLevel weight
-  statement-light = record { Fits = SplitFits; full = splitFull; begins = λ f. split-fits f f (weight W f) (omega arith) (λ e. e); steps = statement-steps; ends = statement-ends }
+  statement-light =
+      record {
+        Fits = SplitFits;
+        full = splitFull;
+        begins = λ f. split-fits f f (weight W f) (omega arith)
+            (λ e. e);
+        steps = statement-steps;
+        ends = statement-ends;
+      }

@@ -46,7 +46,8 @@ never : {A : Type 0} → false ≡ true → A
 never e = absurd (false≢true e)
 
 module _ (W : Weighing) (pays : 3 * W .inner ≤ W .leaf Operator.semicolon) (turns : W .leaf Operator.add + W .inner ≤ W .leaf Operator.negate) where
-  pub apply-light : (sourceLength : ℕ) (p : Pass) (f : Forest) → isNested p ≡ true → Ending W (weight W f) (not (isNil f)) (apply sourceLength p f)
+  pub apply-light : (sourceLength : ℕ) (p : Pass) (f : Forest) → isNested p ≡ true
+      → Ending W (weight W f) (not (isNil f)) (apply sourceLength p f)
   unfolding isNested apply
   apply-light l lastToken f e = never e
   apply-light l memberAccessors f e = never e
@@ -91,18 +92,21 @@ module _ (P : ℕ → Bool) where
       unpassed false h = refl
   none-free (node k (node c cs r) rest) h = and-true-true _ _ (none-free (node c cs r) (omega arith)) (none-free rest (omega arith))
 
-  outcome-free : (f g : Forest) (full : Bool) {x : Result} → Ending (leavesOf P) (weight (leavesOf P) f) full x → free P f ≡ true → x ≡ ok g → free P g ≡ true
+  outcome-free : (f g : Forest) (full : Bool) {x : Result} → Ending (leavesOf P) (weight (leavesOf P) f) full x → free P f ≡ true → x ≡ ok g
+      → free P g ≡ true
   outcome-free f g full (failed o) h e = let z : _≡_ {A = ℕ} 0 1 = cc in absurd (omega arith)
   outcome-free f g full (fine {g = r} w) h e =
       let same : r ≡ g = cc in
       none-free g (omega (arith, w .0, free-none f h, ap (weight (leavesOf P)) same))
 
   -- NOTHING ELSE MAKES SUCH LEAVES: a level takes leaves out of a forest and puts none in.
-  pub through-keeps-free : {S : Type 0} (L : Level S) → Light (leavesOf P) L → (f g : Forest) → free P f ≡ true → through L f ≡ ok g → free P g ≡ true
+  pub through-keeps-free : {S : Type 0} (L : Level S) → Light (leavesOf P) L → (f g : Forest) → free P f ≡ true → through L f ≡ ok g
+      → free P g ≡ true
   through-keeps-free L A f g h e = outcome-free f g (not (isNil f)) (through-light (leavesOf P) L A f) h e
 
   -- The one exception, the unary pass turning `-` into `+`: whatever looks for `+` looks for `-` too.
-  pub apply-keeps-free : (sourceLength : ℕ) (p : Pass) (f g : Forest) → isNested p ≡ true → (P Operator.add ≡ true → P Operator.negate ≡ true) → free P f ≡ true → apply sourceLength p f ≡ ok g → free P g ≡ true
+  pub apply-keeps-free : (sourceLength : ℕ) (p : Pass) (f g : Forest) → isNested p ≡ true → (P Operator.add ≡ true → P Operator.negate ≡ true)
+      → free P f ≡ true → apply sourceLength p f ≡ ok g → free P g ≡ true
   apply-keeps-free l p f g n t h e =
       outcome-free f g (not (isNil f)) (apply-light (leavesOf P) (omega arith) (covered (P Operator.add) (P Operator.negate) t) l p f n) h e
     where
@@ -140,14 +144,18 @@ allNested [] = true
 allNested (p ∷ ps) = isNested p && allNested ps
 
 -- Whatever passes run on the empty list, it ends in message 1 with count 0.
-pub grouped-nil : (sourceLength : ℕ) (u : ℕ → Bool) (ps : List Pass) (so-far : List Message) → allNested ps ≡ true → grouped sourceLength u ps so-far nil ≡ messages (so-far ++ (multipleRoots 0 sourceLength 0 ∷ []))
+pub grouped-nil : (sourceLength : ℕ) (u : ℕ → Bool) (ps : List Pass) (so-far : List Message) → allNested ps ≡ true
+    → grouped sourceLength u ps so-far nil ≡ messages (so-far ++ (multipleRoots 0 sourceLength 0 ∷ []))
 unfolding grouped rooted allNested
 grouped-nil l u [] so-far h = refl
 grouped-nil l u (p ∷ ps) so-far h =
     let e = both (isNested p) (allNested ps) h in
-    decided (λ a. a ≡ messages (so-far ++ (multipleRoots 0 l 0 ∷ []))) (runs u p) _ _ (λ r. rw (apply-nil l p (e .0)) (grouped-nil l u ps so-far (e .1))) (λ r. grouped-nil l u ps so-far (e .1))
+    decided (λ a. a ≡ messages (so-far ++ (multipleRoots 0 l 0 ∷ []))) (runs u p) _ _
+    (λ r. rw (apply-nil l p (e .0)) (grouped-nil l u ps so-far (e .1))) (λ r. grouped-nil l u ps so-far (e .1))
 
 -- The pointer's failure is followed by message 1 with count 0, and by nothing else.
-pub pointer-fails : (sourceLength : ℕ) (u : ℕ → Bool) (ps : List Pass) (so-far m : List Message) (f : Forest) → allNested ps ≡ true → runs u pointer ≡ true → apply sourceLength pointer f ≡ fail m → grouped sourceLength u (pointer ∷ ps) so-far f ≡ messages ((so-far ++ m) ++ (multipleRoots 0 sourceLength 0 ∷ []))
+pub pointer-fails : (sourceLength : ℕ) (u : ℕ → Bool) (ps : List Pass) (so-far m : List Message) (f : Forest) → allNested ps ≡ true
+    → runs u pointer ≡ true → apply sourceLength pointer f ≡ fail m
+    → grouped sourceLength u (pointer ∷ ps) so-far f ≡ messages ((so-far ++ m) ++ (multipleRoots 0 sourceLength 0 ∷ []))
 unfolding grouped endsReading
 pointer-fails l u ps so-far m f h r e = rw (r, grouped) (rw e (grouped-nil l u ps (so-far ++ m) h))

@@ -59,29 +59,34 @@ data Joined (W : Weighing) (n : ℕ) : Option Forest → Type 0 where
   joinedTo : {e : Forest} → weight W e ≤ n → flat e ≡ true → Joined W n (some e)
 
 module _ (W : Weighing) where
-  member-light : (k : Token) (d : Forest) → eqb (k .op) Operator.memberAccessor ≡ true → flat d ≡ true → Joined W (W .leaf (k .op) + weight W d) (withMember k d)
+  member-light : (k : Token) (d : Forest) → eqb (k .op) Operator.memberAccessor ≡ true → flat d ≡ true
+      → Joined W (W .leaf (k .op) + weight W d) (withMember k d)
   unfolding withMember weight flat
   member-light k nil e h = unjoined
   member-light k (node x xs d) e h =
       either (Joined W (W .leaf (k .op) + weight W (node x xs d))) (hasMembers (x .op)) _ _
-      (joinedTo {e = node k (node x xs nil) d} (omega (arith, W .lighter (k .op), weight-tree W x xs d)) (and-true-true _ _ e (flat-rest x xs d h)))
+      (joinedTo {e = node k (node x xs nil) d} (omega (arith, W .lighter (k .op), weight-tree W x xs d))
+      (and-true-true _ _ e (flat-rest x xs d h)))
       (joinedTo {e = node k nil (node x xs d)} (omega arith) h)
 
   -- `members` at an accessor, by what it makes of the trees so far.
   afterMember : List Message → Forest → Option Forest → Result
   afterMember m rest x = elim x [ none ↦ fail m | some e ↦ members e rest ]
 
-  afterMember-light : (m : List Message) (rest : Forest) (n b : ℕ) {x : Option Forest} → length m ≡ 1 → Joined W b x → ((e : Forest) → weight W e ≤ b → flat e ≡ true → Flat W n (members e rest)) → Flat W n (afterMember m rest x)
+  afterMember-light : (m : List Message) (rest : Forest) (n b : ℕ) {x : Option Forest} → length m ≡ 1 → Joined W b x
+      → ((e : Forest) → weight W e ≤ b → flat e ≡ true → Flat W n (members e rest)) → Flat W n (afterMember m rest x)
   unfolding afterMember
   afterMember-light m rest n b o unjoined next = failed o
   afterMember-light m rest n b o (joinedTo {e = e} w h) next = next e w h
 
-  pub members-light : (ks : List Token) (d : Forest) (n : ℕ) → weight W d + weight W (leaves ks) ≤ n → flat d ≡ true → Flat W n (members d (leaves ks))
+  pub members-light : (ks : List Token) (d : Forest) (n : ℕ) → weight W d + weight W (leaves ks) ≤ n → flat d ≡ true
+      → Flat W n (members d (leaves ks))
   unfolding members leaves weight inOrder flat afterMember
   members-light [] d n h f = fine {g = inOrder d} (omega (arith, weight-inOrder W d), flat-turned d nil f refl)
   members-light (k ∷ ks) d n h f =
       decided (Flat W n) (eqb (k .op) Operator.memberAccessor) _ _
-      (λ e. afterMember-light _ (leaves ks) n (W .leaf (k .op) + weight W d) refl (member-light k d e f) (λ d w f. members-light ks d n (omega arith) f))
+      (λ e. afterMember-light _ (leaves ks) n (W .leaf (k .op) + weight W d) refl (member-light k d e f)
+      (λ d w f. members-light ks d n (omega arith) f))
       (λ e. members-light ks (node k nil d) n (omega arith) f)
 
   openWeight : Open → ℕ
@@ -113,19 +118,24 @@ module _ (W : Weighing) where
       (walks {s = placed o (inOrder d) s} (omega (arith, placed-light o (inOrder d) s, section-light o d))) (differs refl)
 
   -- What is no opener.
-  unopened-light : (k : Token) (cs : Forest) (i : ℕ) (s : Open) → Walks (weight W (node k cs nil) + openWeight s) (elim (isCloser (k .op)) [ true ↦ closing k cs i s | false ↦ going (placed k cs s) ])
+  unopened-light : (k : Token) (cs : Forest) (i : ℕ) (s : Open)
+      → Walks (weight W (node k cs nil) + openWeight s) (elim (isCloser (k .op)) [ true ↦ closing k cs i s | false ↦ going (placed k cs s) ])
   unopened-light k cs i s =
-      either (Walks (weight W (node k cs nil) + openWeight s)) (isCloser (k .op)) _ _ (closing-light k cs i s) (walks {s = placed k cs s} (omega (arith, placed-light k cs s)))
+      either (Walks (weight W (node k cs nil) + openWeight s)) (isCloser (k .op)) _ _ (closing-light k cs i s)
+      (walks {s = placed k cs s} (omega (arith, placed-light k cs s)))
 
   member-unopened : (k : Token) → eqb (k .op) Operator.memberAccessor ≡ true → closingOf (k .op) ≡ none
   unfolding closingOf
   member-unopened k e = rw (eqb-true (k .op) Operator.memberAccessor e) refl
 
-  bracket-light : (k : Token) (cs rest : Forest) (i : ℕ) (s : Open) → flat (node k cs rest) ≡ true → Walks (weight W (node k cs nil) + openWeight s) (bracket k cs i s)
+  bracket-light : (k : Token) (cs rest : Forest) (i : ℕ) (s : Open) → flat (node k cs rest) ≡ true
+      → Walks (weight W (node k cs nil) + openWeight s) (bracket k cs i s)
   unfolding bracket openWeight weight flat
   bracket-light k nil rest i s h =
-      maybe (Walks (weight W (node k nil nil) + openWeight s)) (closingOf (k .op)) _ _ (λ c. walks {s = section k (i + 1) nil s} (omega arith)) (unopened-light k nil i s)
-  bracket-light k (node c cs r) rest i s h = rw (member-unopened k (both (eqb (k .op) Operator.memberAccessor) (flat rest) h .0), bracket) (unopened-light k (node c cs r) i s)
+      maybe (Walks (weight W (node k nil nil) + openWeight s)) (closingOf (k .op)) _ _ (λ c. walks {s = section k (i + 1) nil s} (omega arith))
+      (unopened-light k nil i s)
+  bracket-light k (node c cs r) rest i s h =
+      rw (member-unopened k (both (eqb (k .op) Operator.memberAccessor) (flat rest) h .0), bracket) (unopened-light k (node c cs r) i s)
 
   closed-light : (s : Open) (n : ℕ) → openWeight s ≤ n → Sectioned W n (closed s)
   unfolding closed openWeight
@@ -136,7 +146,8 @@ module _ (W : Weighing) where
   afterBracket : ℕ → Forest → Walked → Result
   afterBracket i rest x = elim x [ going t ↦ sections i t rest | mismatch m ↦ fail m ]
 
-  afterBracket-light : (i : ℕ) (rest : Forest) (n b : ℕ) {x : Walked} → Walks b x → ((t : Open) → openWeight t ≤ b → Sectioned W n (sections i t rest)) → Sectioned W n (afterBracket i rest x)
+  afterBracket-light : (i : ℕ) (rest : Forest) (n b : ℕ) {x : Walked} → Walks b x
+      → ((t : Open) → openWeight t ≤ b → Sectioned W n (sections i t rest)) → Sectioned W n (afterBracket i rest x)
   unfolding afterBracket
   afterBracket-light i rest n b (walks {s = t} h) next = next t h
   afterBracket-light i rest n b (differs o) next = failed o
@@ -145,7 +156,9 @@ module _ (W : Weighing) where
   unfolding sections weight afterBracket
   open-light i s nil n h e = closed-light s n (omega arith)
   open-light i s (node k cs rest) n h e =
-      afterBracket-light (position i s) rest n (weight W (node k cs nil) + openWeight s) (bracket-light k cs rest (position i s) s e) λ t w. open-light (position i s) t rest n (omega (arith, weight-tree W k cs rest)) (flat-rest k cs rest e)
+      afterBracket-light (position i s) rest n (weight W (node k cs nil) + openWeight s)
+      (bracket-light k cs rest (position i s) s e) λ t w. open-light (position i s) t rest n (omega (arith, weight-tree W k cs rest))
+      (flat-rest k cs rest e)
 
   pub sections-light : (f : Forest) → flat f ≡ true → Sectioned W (weight W f) (sections 0 (outside nil) f)
   unfolding openWeight weight

@@ -31,7 +31,8 @@ decided Q false x y p q = q refl
 pub either : {A : Type 0} (Q : A → Type 0) (b : Bool) (x y : A) → Q x → Q y → Q (elim b [ true ↦ x | false ↦ y ])
 either Q b x y p q = decided Q b x y (λ e. p) (λ e. q)
 
-pub maybe : {A B : Type 0} (Q : A → Type 0) (o : Option B) (y : B → A) (x : A) → ((b : B) → Q (y b)) → Q x → Q (elim o [ some b ↦ y b | none ↦ x ])
+pub maybe : {A B : Type 0} (Q : A → Type 0) (o : Option B) (y : B → A) (x : A) → ((b : B) → Q (y b)) → Q x
+    → Q (elim o [ some b ↦ y b | none ↦ x ])
 maybe Q none y x p q = q
 maybe Q (some b) y x p q = p b
 
@@ -49,7 +50,8 @@ module _ (P : ℕ → Bool) where
   unfolding free
   free-leaf k rest h = let e = both (not (P (k .op))) (free P rest) h in (not-true (P (k .op)) (e .0), e .1)
 
-  pub free-tree : (k c : Token) (cs r rest : Forest) → free P (node k (node c cs r) rest) ≡ true → (free P (node c cs r) ≡ true) × (free P rest ≡ true)
+  pub free-tree : (k c : Token) (cs r rest : Forest) → free P (node k (node c cs r) rest) ≡ true
+      → (free P (node c cs r) ≡ true) × (free P rest ≡ true)
   unfolding free
   free-tree k c cs r rest h = both (free P (node c cs r)) (free P rest) h
 

@@ -24,7 +24,8 @@ isMinus (some p) = eqb (p .op) Operator.negate
 -- The list after the node p is one message, or a list no heavier than n and, where that is said, not empty; only a minus p makes a pair.
 data Reaches (W : Weighing) (n : ℕ) (full : Bool) (p : Option Token) : Unary → Type 0 where
   stuck : {m : List Message} → length m ≡ 1 → Reaches W n full p (undone m)
-  reached : {pair : Bool} {r : Forest} → weight W r ≤ n → (full ≡ true → isNil r ≡ false) → (pair ≡ true → isMinus p ≡ true) → Reaches W n full p (done pair r)
+  reached : {pair : Bool} {r : Forest} → weight W r ≤ n → (full ≡ true → isNil r ≡ false) → (pair ≡ true → isMinus p ≡ true)
+      → Reaches W n full p (done pair r)
 
 -- (The operators are those of `beforeMinus`.)
 before-is-minus : (n : ℕ) → beforeMinus n ≡ minus → eqb n Operator.negate ≡ true
@@ -37,13 +38,15 @@ before-is-minus n =
     ∷ Operator.assignment ∷ Operator.semicolon ∷ Operator.return ∷ Operator.comma ∷ []
     in
     decided NegateIf (eqb n Operator.negate) _ _ (λ e h. e)
-    (λ e. either NegateIf (isOneOf (Operator.continue ∷ Operator.expressionArray ∷ []) n) _ _ (λ h. cc) (either NegateIf (isOneOf unary n) _ _ (λ h. cc) (λ h. cc)))
+    (λ e. either NegateIf (isOneOf (Operator.continue ∷ Operator.expressionArray ∷ []) n) _ _ (λ h. cc)
+    (either NegateIf (isOneOf unary n) _ _ (λ h. cc) (λ h. cc)))
   where
     NegateIf : BeforeMinus → Type 0
     NegateIf b = b ≡ minus → eqb n Operator.negate ≡ true
 
 -- What holds after every kind of node before a minus holds after the node.
-beforeCases : {A : Type 0} (Q : A → Type 0) (b : BeforeMinus) (x y z w : A) → (b ≡ operator → Q x) → (b ≡ operand → Q y) → (b ≡ minus → Q z) → (b ≡ unknown → Q w)
+beforeCases : {A : Type 0} (Q : A → Type 0) (b : BeforeMinus) (x y z w : A) → (b ≡ operator → Q x) → (b ≡ operand → Q y) → (b ≡ minus → Q z)
+    → (b ≡ unknown → Q w)
     → Q (elim b [ operator ↦ x | operand ↦ y | minus ↦ z | unknown ↦ w ])
 beforeCases Q operator x y z w a b c d = a refl
 beforeCases Q operand x y z w a b c d = b refl
@@ -54,34 +57,43 @@ module _ (W : Weighing) (turns : W .leaf Operator.add + W .inner ≤ W .leaf Ope
   never : {A : Type 0} → false ≡ true → A
   never e = absurd (false≢true e)
 
-  minus-light : (p : Option Token) (k : Token) (r : Forest) (n : ℕ) (b : Bool) → eqb (k .op) Operator.negate ≡ true → W .leaf (k .op) + weight W r ≤ n → Reaches W n b p (minusAfter p k r)
+  minus-light : (p : Option Token) (k : Token) (r : Forest) (n : ℕ) (b : Bool) → eqb (k .op) Operator.negate ≡ true
+      → W .leaf (k .op) + weight W r ≤ n → Reaches W n b p (minusAfter p k r)
   unfolding minusAfter weight isNil isMinus renamed bare
   minus-light p k nil n b e h = stuck refl
-  minus-light none k (node x xs r) n b e h = reached {r = node k (node x xs nil) r} (omega (arith, W .lighter (k .op), weight-tree W x xs r)) (λ f. refl) (λ t. t)
+  minus-light none k (node x xs r) n b e h =
+      reached {r = node k (node x xs nil) r} (omega (arith, W .lighter (k .op), weight-tree W x xs r)) (λ f. refl) (λ t. t)
   minus-light (some p) k (node x xs r) n b e h =
       let w = ap (W .leaf) (eqb-true (k .op) Operator.negate e) in
       beforeCases (Reaches W n b (some p)) (beforeMinus (p .op)) _ _ _ _
       (λ q. reached {r = node k (node x xs nil) r} (omega (arith, W .lighter (k .op), weight-tree W x xs r)) (λ f. refl) never)
-      (λ q. reached {r = node (renamed Operator.add k) nil (node (bare Operator.negate k) (node x xs nil) r)} (omega (arith, w, turns, weight-tree W x xs r)) (λ f. refl) never)
+      (λ q. reached {r = node (renamed Operator.add k) nil (node (bare Operator.negate k) (node x xs nil) r)}
+      (omega (arith, w, turns, weight-tree W x xs r)) (λ f. refl) never)
       (λ q. reached {r = node x xs r} (omega arith) (λ f. refl) (λ t. before-is-minus (p .op) q))
       (λ q. stuck refl)
 
   not-light : (p : Option Token) (k : Token) (r : Forest) (n : ℕ) (b : Bool) → W .leaf (k .op) + weight W r ≤ n → Reaches W n b p (notBefore k r)
   unfolding notBefore weight isNil
   not-light p k nil n b h = stuck refl
-  not-light p k (node x xs r) n b h = reached {r = node k (node x xs nil) r} (omega (arith, W .lighter (k .op), weight-tree W x xs r)) (λ f. refl) never
+  not-light p k (node x xs r) n b h =
+      reached {r = node k (node x xs nil) r} (omega (arith, W .lighter (k .op), weight-tree W x xs r)) (λ f. refl) never
 
-  leaf-light : (p : Option Token) (k : Token) (r : Forest) (n : ℕ) (b : Bool) → W .leaf (k .op) + weight W r ≤ n → Reaches W n b p (unaryLeaf p k r)
+  leaf-light : (p : Option Token) (k : Token) (r : Forest) (n : ℕ) (b : Bool) → W .leaf (k .op) + weight W r ≤ n
+      → Reaches W n b p (unaryLeaf p k r)
   unfolding unaryLeaf weight isNil
   leaf-light p k r n b h =
       decided (Reaches W n b p) (eqb (k .op) Operator.negate) _ _ (λ e. minus-light p k r n b e h)
-      (λ e. either (Reaches W n b p) (eqb (k .op) Operator.logicalNot) _ _ (not-light p k r n b h) (reached {r = node k nil r} (omega arith) (λ f. refl) never))
+      (λ e. either (Reaches W n b p) (eqb (k .op) Operator.logicalNot) _ _ (not-light p k r n b h)
+      (reached {r = node k nil r} (omega arith) (λ f. refl) never))
 
-  node-light : (p : Option Token) (k : Token) (pair : Bool) (cs kids r rest : Forest) (b : Bool) → weight W r ≤ weight W rest → (pair ≡ true → eqb (k .op) Operator.negate ≡ true)
-      → weight W kids ≤ weight W cs → (not (isNil cs) ≡ true → isNil kids ≡ false) → Reaches W (weight W (node k cs rest)) b p (unaryNode p (turned pair k) cs kids r)
+  node-light : (p : Option Token) (k : Token) (pair : Bool) (cs kids r rest : Forest) (b : Bool) → weight W r ≤ weight W rest
+      → (pair ≡ true → eqb (k .op) Operator.negate ≡ true)
+      → weight W kids ≤ weight W cs → (not (isNil cs) ≡ true → isNil kids ≡ false)
+      → Reaches W (weight W (node k cs rest)) b p (unaryNode p (turned pair k) cs kids r)
   unfolding unaryNode turned weight isNil renamed
   node-light p k true nil kids r rest b h t w e =
-      leaf-light p (renamed Operator.add k) r (weight W (node k nil rest)) b (omega (arith, ap (W .leaf) (eqb-true (k .op) Operator.negate (t refl)), turns))
+      leaf-light p (renamed Operator.add k) r (weight W (node k nil rest)) b
+      (omega (arith, ap (W .leaf) (eqb-true (k .op) Operator.negate (t refl)), turns))
   node-light p k false nil kids r rest b h t w e = leaf-light p k r (weight W (node k nil rest)) b (omega arith)
   node-light p k pair (node c cs s) kids r rest b h t w e =
       reached {r = node (turned pair k) kids r} (omega (arith, weight-inner W (turned pair k) kids r (e refl))) (λ f. refl) never
@@ -94,7 +106,8 @@ module _ (W : Weighing) (turns : W .leaf Operator.add + W .inner ≤ W .leaf Ope
   unfolding inside
   atNode p k cs x y = elim x [ undone m ↦ undone m | done pair r ↦ inside p k cs pair r y ]
 
-  atNode-light : (p : Option Token) (k : Token) (cs rest : Forest) (b : Bool) {x y : Unary} → Reaches W (weight W rest) (not (isNil rest)) (some k) x → Reaches W (weight W cs) (not (isNil cs)) none y
+  atNode-light : (p : Option Token) (k : Token) (cs rest : Forest) (b : Bool) {x y : Unary}
+      → Reaches W (weight W rest) (not (isNil rest)) (some k) x → Reaches W (weight W cs) (not (isNil cs)) none y
       → Reaches W (weight W (node k cs rest)) b p (atNode p k cs x y)
   unfolding atNode inside isMinus
   atNode-light p k cs rest b (stuck o) y = stuck o
@@ -110,6 +123,7 @@ module _ (W : Weighing) (turns : W .leaf Operator.add + W .inner ≤ W .leaf Ope
   unfolding unaryPass
   unaryPass-light f = pass (unary none f) (unary-light none f)
     where
-      pass : (x : Unary) → Reaches W (weight W f) (not (isNil f)) none x → Ending W (weight W f) (not (isNil f)) (elim x [ undone m ↦ fail m | done pair r ↦ ok r ])
+      pass : (x : Unary) → Reaches W (weight W f) (not (isNil f)) none x
+          → Ending W (weight W f) (not (isNil f)) (elim x [ undone m ↦ fail m | done pair r ↦ ok r ])
       pass x (stuck o) = failed o
       pass x (reached h e t) = fine (h, e)

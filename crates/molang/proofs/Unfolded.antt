@@ -54,29 +54,34 @@ module _ (ops : List ℕ) where
   unfolding binaryStep
   keeps-leaf d k e = rw (e, binaryStep) refl
 
-  waits : (l : Token) (ls d : Forest) (k : Token) → isOneOf ops (k .op) ≡ true → binaryStep ops (gathered (node l ls d)) k nil ≡ on (waiting (node l ls d) k)
+  waits : (l : Token) (ls d : Forest) (k : Token) → isOneOf ops (k .op) ≡ true
+      → binaryStep ops (gathered (node l ls d)) k nil ≡ on (waiting (node l ls d) k)
   unfolding binaryStep operatorAfter
   waits l ls d k e = rw (e, binaryStep) refl
 
-  last-fails : (d : Forest) (k : Token) → isOneOf ops (k .op) ≡ true → isNil d ≡ false → walk (binaryLevel ops) (gathered d) (node k nil nil) ≡ atFirst (firstLeaf ops (node k nil nil)) (turnedOnto d (node k nil nil))
+  last-fails : (d : Forest) (k : Token) → isOneOf ops (k .op) ≡ true → isNil d ≡ false
+      → walk (binaryLevel ops) (gathered d) (node k nil nil) ≡ atFirst (firstLeaf ops (node k nil nil)) (turnedOnto d (node k nil nil))
   unfolding walk binaryLevel binaryFinish firstLeaf atFirst isNil
   last-fails nil k e n = absurd (true≢false n)
   last-fails (node l ls d) k e n = rw (waits l ls d k e, walk) (rw (e, firstLeaf) refl)
 
-  tree-late : (o : Option Token) (d : Forest) (k c : Token) (cs r rest : Forest) → firstLeaf ops (node c cs r) ≡ o → walk (binaryLevel ops) (gathered nil) (node c cs r) ≡ atFirst (firstLeaf ops (node c cs r)) (node c cs r)
+  tree-late : (o : Option Token) (d : Forest) (k c : Token) (cs r rest : Forest) → firstLeaf ops (node c cs r) ≡ o
+      → walk (binaryLevel ops) (gathered nil) (node c cs r) ≡ atFirst (firstLeaf ops (node c cs r)) (node c cs r)
       → walk (binaryLevel ops) (gathered (node k (node c cs r) d)) rest ≡ atFirst (firstLeaf ops rest) (turnedOnto (node k (node c cs r) d) rest)
       → walk (binaryLevel ops) (gathered d) (node k (node c cs r) rest) ≡ atFirst (firstLeaf ops (node k (node c cs r) rest)) (turnedOnto (node k (node c cs r) d) rest)
   unfolding walk binaryLevel binaryStep binaryResume firstLeaf atFirst
   tree-late none d k c cs r rest e below later = rw (e, firstLeaf) (rw (rw e at below, walk) later)
   tree-late (some t) d k c cs r rest e below later = rw (e, firstLeaf) (rw (rw e at below, walk) refl)
 
-  walk-late : {b : Bool} {f : Forest} (d : Forest) → Late b f → (b ≡ true → isNil d ≡ false) → walk (binaryLevel ops) (gathered d) f ≡ atFirst (firstLeaf ops f) (turnedOnto d f)
+  walk-late : {b : Bool} {f : Forest} (d : Forest) → Late b f → (b ≡ true → isNil d ≡ false)
+      → walk (binaryLevel ops) (gathered d) f ≡ atFirst (firstLeaf ops f) (turnedOnto d f)
   unfolding walk binaryLevel binaryFinish firstLeaf atFirst turnedOnto inOrder isNil
   walk-late d over n = refl
   walk-late d (leafThen {k = k} {rest = rest} e h) n = rw (keeps-leaf d k e, walk) (rw (e, firstLeaf) (walk-late (node k nil d) h (λ t. refl)))
   walk-late d (lastly {k = k} e) n = last-fails d k e (n refl)
   walk-late d (treeThen {k = k} {c = c} {cs = cs} {r = r} {rest = rest} below later) n =
-      tree-late (firstLeaf ops (node c cs r)) d k c cs r rest refl (walk-late nil below (λ t. absurd (false≢true t))) (walk-late (node k (node c cs r) d) later (λ t. refl))
+      tree-late (firstLeaf ops (node c cs r)) d k c cs r rest refl (walk-late nil below (λ t. absurd (false≢true t)))
+      (walk-late (node k (node c cs r) d) later (λ t. refl))
 
   -- The operands of an operator: the left one is no operator leaf, the right one may be.
   late-operand : (b : Bool) (k : Token) → isOneOf ops (k .op) ≡ b → Late true (node k nil nil)
@@ -122,15 +127,20 @@ module _ (ops : List ℕ) where
 
   kept-steps : (s : Gathered) (k : Token) (cs rest : Forest) (n : Unit {0}) → KeptState s → KeptOnward k cs rest (binaryStep ops s k cs)
   unfolding binaryLevel binaryStep binaryResume operatorAfter isNil
-  kept-steps (gathered nil) k nil rest n h = decided (KeptOnward k nil rest) (isOneOf ops (k .op)) _ _ (λ e. stops refl) (λ e. goes {t = gathered (node k nil nil)} (leafFirst e h) refl)
+  kept-steps (gathered nil) k nil rest n h =
+      decided (KeptOnward k nil rest) (isOneOf ops (k .op)) _ _ (λ e. stops refl) (λ e. goes {t = gathered (node k nil nil)} (leafFirst e h) refl)
   kept-steps (gathered (node l ls d)) k nil rest n h =
-      decided (KeptOnward k nil rest) (isOneOf ops (k .op)) _ _ (λ e. goes {t = waiting (node l ls d) k} (h, refl) refl) (λ e. goes {t = gathered (node k nil (node l ls d))} (leafFirst e h) refl)
+      decided (KeptOnward k nil rest) (isOneOf ops (k .op)) _ _ (λ e. goes {t = waiting (node l ls d) k} (h, refl) refl)
+      (λ e. goes {t = gathered (node k nil (node l ls d))} (leafFirst e h) refl)
   kept-steps (gathered d) k (node c cs r) rest n h =
       enters {t = gathered d} {u = gathered nil} tt empty refl λ kids w e. (kept-node d k kids h w e, refl)
   kept-steps (waiting d q) k nil rest n h =
-      maybe (KeptOnward k nil rest) (unfolded ops d) _ _ (λ t. stops refl) (goes {t = gathered (joined d q k nil)} (kept-joined d q k nil (h .0) (h .1) (late-right k nil empty)) (rw full-joined refl))
+      maybe (KeptOnward k nil rest) (unfolded ops d) _ _ (λ t. stops refl)
+      (goes {t = gathered (joined d q k nil)} (kept-joined d q k nil (h .0) (h .1) (late-right k nil empty)) (rw full-joined refl))
   kept-steps (waiting d q) k (node c cs r) rest n h =
-      maybe (KeptOnward k (node c cs r) rest) (unfolded ops d) _ _ (λ t. stops refl) (enters {t = waiting d q} {u = gathered nil} tt empty refl λ kids w e. (kept-joined d q k kids (h .0) (h .1) (late-right k kids w), rw full-joined refl))
+      maybe (KeptOnward k (node c cs r) rest) (unfolded ops d) _ _ (λ t. stops refl)
+      (enters {t = waiting d q} {u = gathered nil} tt empty refl λ kids w e.
+      (kept-joined d q k kids (h .0) (h .1) (late-right k kids w), rw full-joined refl))
 
   kept-ends : (s : Gathered) (n : Unit {0}) → KeptState s → Ends GoodKept n (keptFull s) (binaryFinish s)
   unfolding binaryFinish inOrder
@@ -155,7 +165,8 @@ module _ (ops : List ℕ) where
   unfoldable pub againLevel : Level Gathered
   againLevel = record { start = nothing; step = againStep; resume = binaryResume; finish = binaryFinish }
 
-  children-again : (o : Option Token) (l : Token) (ls d : Forest) → firstLeaf ops ls ≡ o → through (binaryLevel ops) ls ≡ atFirst (firstLeaf ops ls) ls → again (node l ls d) ≡ atFirst (firstLeaf ops ls) (node l ls d)
+  children-again : (o : Option Token) (l : Token) (ls d : Forest) → firstLeaf ops ls ≡ o
+      → through (binaryLevel ops) ls ≡ atFirst (firstLeaf ops ls) ls → again (node l ls d) ≡ atFirst (firstLeaf ops ls) (node l ls d)
   unfolding again atFirst
   children-again none l ls d e h = rw e (rw (rw e at h, again) refl)
   children-again (some t) l ls d e h = rw e (rw (rw e at h, again) refl)
@@ -163,10 +174,13 @@ module _ (ops : List ℕ) where
   again-kept : (d : Forest) → Kept d → again d ≡ atFirst (unfolded ops d) d
   unfolding unfolded through binaryLevel nothing turnedOnto
   again-kept nil empty = unfold again atFirst in refl
-  again-kept (node l nil d) (leafFirst e h) = children-again (firstLeaf ops nil) l nil d refl (walk-late nil (over {b = false}) (λ t. absurd (false≢true t)))
-  again-kept (node l (node c cs r) d) (treeFirst t h) = children-again (firstLeaf ops (node c cs r)) l (node c cs r) d refl (walk-late nil t (λ t. absurd (false≢true t)))
+  again-kept (node l nil d) (leafFirst e h) =
+      children-again (firstLeaf ops nil) l nil d refl (walk-late nil (over {b = false}) (λ t. absurd (false≢true t)))
+  again-kept (node l (node c cs r) d) (treeFirst t h) =
+      children-again (firstLeaf ops (node c cs r)) l (node c cs r) d refl (walk-late nil t (λ t. absurd (false≢true t)))
 
-  step-waiting : (o : Option Token) (d : Forest) (q k : Token) (cs : Forest) → unfolded ops d ≡ o → again d ≡ atFirst (unfolded ops d) d → againStep (waiting d q) k cs ≡ binaryStep ops (waiting d q) k cs
+  step-waiting : (o : Option Token) (d : Forest) (q k : Token) (cs : Forest) → unfolded ops d ≡ o → again d ≡ atFirst (unfolded ops d) d
+      → againStep (waiting d q) k cs ≡ binaryStep ops (waiting d q) k cs
   unfolding againStep binaryStep atFirst
   step-waiting none d q k nil e h = rw (rw e at h, againStep) (rw (e, binaryStep) refl)
   step-waiting none d q k (node c cs r) e h = rw (rw e at h, againStep) (rw (e, binaryStep) refl)
@@ -193,13 +207,16 @@ module _ (ops : List ℕ) where
   onward-again k cs rest (stops o) later below = refl
   onward-again k cs rest (goes {t = t} h e) later below = later t h
   onward-again k cs rest (enters {t = t} {u = u} n h e next) later below =
-      rw (below u h) (back-again t k rest (walk-keeps GoodKept (λ f. tt) (binaryLevel ops) binary-kept u cs tt h true (λ z. rw (e, or-true) refl)) λ kids w e. later (binaryResume t k kids) (next kids w e .0))
+      rw (below u h) (back-again t k rest
+      (walk-keeps GoodKept (λ f. tt) (binaryLevel ops) binary-kept u cs tt h true (λ z. rw (e, or-true) refl)) λ kids w e. later
+      (binaryResume t k kids) (next kids w e .0))
 
   walk-again : (s : Gathered) (f : Forest) → KeptState s → walk againLevel s f ≡ walk (binaryLevel ops) s f
   unfolding walk againLevel binaryLevel onward back
   walk-again s nil h = refl
   walk-again s (node k cs rest) h =
-      ap (onward againLevel k cs rest) (step-again s k cs h) ∙ onward-again k cs rest (kept-steps s k cs rest tt h) (λ t h. walk-again t rest h) (λ u h. walk-again u cs h)
+      ap (onward againLevel k cs rest) (step-again s k cs h) ∙ onward-again k cs rest (kept-steps s k cs rest tt h) (λ t h. walk-again t rest h)
+      (λ u h. walk-again u cs h)
 
   -- The second walk changes nothing: the definition's level is the Rust's.
   pub through-again : (f : Forest) → through againLevel f ≡ through (binaryLevel ops) f
@@ -221,7 +238,8 @@ module _ (ops : List ℕ) where
   unfolding firstLeaf free
   firstLeaf-free nil h = refl
   firstLeaf-free (node k nil rest) h =
-      decided (λ o. o ≡ none → free (isOneOf ops) (node k nil rest) ≡ true) (isOneOf ops (k .op)) (some k) (firstLeaf ops rest) (λ e z. some-none z) (λ e z. rw e (firstLeaf-free rest z)) h
+      decided (λ o. o ≡ none → free (isOneOf ops) (node k nil rest) ≡ true) (isOneOf ops (k .op)) (some k) (firstLeaf ops rest)
+      (λ e z. some-none z) (λ e z. rw e (firstLeaf-free rest z)) h
   firstLeaf-free (node k (node c cs r) rest) h =
       let e = first-of-two (firstLeaf ops (node c cs r)) (firstLeaf ops rest) h in
       and-true-true _ _ (firstLeaf-free (node c cs r) (e .0)) (firstLeaf-free rest (e .1))

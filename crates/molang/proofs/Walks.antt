@@ -54,7 +54,8 @@ module _ {S : Type 0} (L : Level S) where
 
 module _ {I S : Type 0} (Good : I → Forest → Type 0) (bound : Forest → I) (L : Level S) (A : Keeps Good bound L) where
   back-keeps : (t : S) (k : Token) (rest : Forest) (n m : I) {x : Result} → Ends Good m true x
-      → ((kids : Forest) → Good m kids → isNil kids ≡ false → Ends Good n true (walk L (L .resume t k kids) rest)) → Ends Good n true (back L t k rest x)
+      → ((kids : Forest) → Good m kids → isNil kids ≡ false → Ends Good n true (walk L (L .resume t k kids) rest))
+      → Ends Good n true (back L t k rest x)
   unfolding back
   back-keeps t k rest n m (failed o) next = failed o
   back-keeps t k rest n m (fine {g = kids} e) next = next kids (e .0) (e .1 refl)
@@ -69,11 +70,14 @@ module _ {I S : Type 0} (Good : I → Forest → Type 0) (bound : Forest → I) 
   onward-keeps k cs rest n (enters {t = t} {u = u} m h e next) later below =
       back-keeps t k rest n m (below u m h e) (λ kids w e. let z = next kids w e in later (L .resume t k kids) (z .0) (z .1))
 
-  pub walk-keeps : (s : S) (f : Forest) (n : I) → A .Fits s f n → (b : Bool) → (b ≡ true → (A .full s || not (isNil f)) ≡ true) → Ends Good n b (walk L s f)
+  pub walk-keeps : (s : S) (f : Forest) (n : I) → A .Fits s f n → (b : Bool) → (b ≡ true → (A .full s || not (isNil f)) ≡ true)
+      → Ends Good n b (walk L s f)
   unfolding walk isNil
   walk-keeps s nil n h b c = weaker Good n (λ e. rw or-false at (c e)) (A .ends s n h)
   walk-keeps s (node k cs rest) n h b c =
-      weaker Good n (λ e. refl) (rw (walk-onward L) (onward-keeps k cs rest n (A .steps s k cs rest n h) (λ t h e. walk-keeps t rest n h true (λ z. rw e refl)) (λ u m h e. walk-keeps u cs m h true (λ z. rw (e, or-true) refl))))
+      weaker Good n (λ e. refl) (rw (walk-onward L)
+      (onward-keeps k cs rest n (A .steps s k cs rest n h) (λ t h e. walk-keeps t rest n h true (λ z. rw e refl))
+      (λ u m h e. walk-keeps u cs m h true (λ z. rw (e, or-true) refl))))
 
   pub through-keeps : (f : Forest) → Ends Good (bound f) (not (isNil f)) (through L f)
   unfolding through

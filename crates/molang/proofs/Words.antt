@@ -122,7 +122,8 @@ Half v low = (low < 2 ^ 16) × (v ≡ 0 → low ≡ 0)
 
 half-bound : (v low : ℕ) → low < elim (eqb v 0) [ true ↦ 1 | false ↦ 2 ^ 16 ] → Half v low
 half-bound v low =
-    decided (λ bound. low < bound → Half v low) (eqb v 0) _ _ (λ e h. (omega arith, λ z. omega arith)) (λ e h. (omega arith, λ z. absurd (eqb-false v 0 e z)))
+    decided (λ bound. low < bound → Half v low) (eqb v 0) _ _ (λ e h. (omega arith, λ z. omega arith))
+    (λ e h. (omega arith, λ z. absurd (eqb-false v 0 e z)))
 
 upper-faultless : (v low : ℕ) → lowFault upperSlot v low ≡ none → Half v low
 unfolding lowFault
@@ -173,17 +174,30 @@ module _ (a b c d e : ℕ) (h : FiveLegal a b c d e) where
       let first : lowOf a / 2 ^ 8 % 2 ^ 4 * 2 ^ 8 + lowOf a % 2 ^ 8 ≡ lowOf a = omega (arith, h .room) in
       let upper : (lowOf d % 2 ^ 16 * 2 ^ 16 + lowOf e % 2 ^ 16) / 2 ^ 16 ≡ lowOf d = omega (arith, h .upper .0) in
       let lower : (lowOf d % 2 ^ 16 * 2 ^ 16 + lowOf e % 2 ^ 16) % 2 ^ 16 ≡ lowOf e = omega (arith, h .lower .0) in
-      rw (first, upper, lower, word-back 1 a (h .operatorKind), word-back 2 b (h .startKind), word-back 3 c (h .endKind), word-back 4 d (h .upperKind), word-back 5 e (h .lowerKind)) refl
+      rw (
+        first,
+        upper,
+        lower,
+        word-back 1 a (h .operatorKind),
+        word-back 2 b (h .startKind),
+        word-back 3 c (h .endKind),
+        word-back 4 d
+            (h .upperKind),
+        word-back 5 e (h .lowerKind),
+      ) refl
 
-refused-none : (o : Option ℕ) (refused : ℕ → Refusal) (later : Option Refusal) → _≡_ {A = Option Refusal} (elim o [ some n ↦ some (refused n) | none ↦ later ]) none → (o ≡ none) × (later ≡ none)
+refused-none : (o : Option ℕ) (refused : ℕ → Refusal) (later : Option Refusal)
+    → _≡_ {A = Option Refusal} (elim o [ some n ↦ some (refused n) | none ↦ later ]) none → (o ≡ none) × (later ≡ none)
 refused-none none refused later e = (refl, e)
 refused-none (some n) refused later e = some-none e
 
-next-word : (i : ℕ) (slot : Slot) (v w : ℕ) (ws : List ℕ) → wordsRefusal i slot v (w ∷ ws) ≡ none → (wordFault slot v w ≡ none) × (wordsRefusal (suc i) (nextInToken slot) (variantAfter slot v w) ws ≡ none)
+next-word : (i : ℕ) (slot : Slot) (v w : ℕ) (ws : List ℕ) → wordsRefusal i slot v (w ∷ ws) ≡ none
+    → (wordFault slot v w ≡ none) × (wordsRefusal (suc i) (nextInToken slot) (variantAfter slot v w) ws ≡ none)
 unfolding wordsRefusal
 next-word i slot v w ws e = refused-none (wordFault slot v w) (λ n. record { number = n; place = i }) _ e
 
-pub words-back : (i v : ℕ) (ws : List ℕ) → wordsRefusal i operatorSlot v ws ≡ none → length ws % 5 ≡ 0 → (listWords (tokensOf ws) ≡ ws) × LegalTokens (tokensOf ws)
+pub words-back : (i v : ℕ) (ws : List ℕ) → wordsRefusal i operatorSlot v ws ≡ none → length ws % 5 ≡ 0
+    → (listWords (tokensOf ws) ≡ ws) × LegalTokens (tokensOf ws)
 unfolding tokensOf listWords nextInToken variantAfter slotKind
 words-back i v [] h n = (refl, noTokens)
 words-back i v (a ∷ []) h n = absurd (omega arith)
