@@ -1,25 +1,24 @@
 -- What reading can give at most: three nodes for each token, and one or two messages. A leaf `;` may become three nodes and a leaf `-` two,
 -- so by that weight the bound follows from what each pass keeps.
-use Prim.Native.Nat.{ℕ, suc, _+_, _*_, _≤_}
-use mathlib.Core.Path.{_≡_, refl, ap, sym}
-use mathlib.Core.Bool.{Bool, true, false, _&&_, not}
+use Prim.Native.Nat.{ℕ, _*_, _≤_}
+use mathlib.Core.Path.{_≡_, refl}
+use mathlib.Core.Bool.{Bool, true, false}
 use mathlib.Core.List.{List, [], _∷_, _++_}
-use mathlib.Core.Option.{Option, none, some}
+use mathlib.Core.Option.{none}
 use native.Mathlib.Omega.{arith}
 use lib.Dec.{eqb}
 use lib.IntN.{ℤ}
 use lib.ListN.{length, length-append}
 use Rattle.molang.specs.Operator
 use Rattle.molang.specs.Forest.{Token, Forest, nil, node, leaves, size}
-use Rattle.molang.specs.Message.{Message, multipleRoots, complexMustEndWithSemicolon, leadingMemberAccessor, closingMismatch, sectionNotClosed, noClosingSymbol, emptyParameterList, mathAtEnd, mathWithoutParenthesis, leadingSemicolon, emptyArrayIndex, binaryAtEnd, negateWithoutOperand, notWithoutOperand, unknownOperation, unaryWithoutOperand, ternaryWithoutOperands, Result, ok, fail, messageRecord, record8, about}
-use Rattle.molang.specs.Sections.{members, outside, sections}
-use Rattle.molang.specs.Order.{Rules, rules, comparisons, logic, conditionals, order, Pass, lastToken, memberAccessors, sectioning, callPass, statements, arrays, pointer, mathCalls, unaryMinusAndNot, addition, ternary, returns, binary, runs, lastOf, endsWithSemicolon, apply}
+use Rattle.molang.specs.Message.{Message, multipleRoots, complexMustEndWithSemicolon, leadingMemberAccessor, closingMismatch, sectionNotClosed, noClosingSymbol, emptyParameterList, mathAtEnd, mathWithoutParenthesis, leadingSemicolon, emptyArrayIndex, binaryAtEnd, negateWithoutOperand, notWithoutOperand, unknownOperation, unaryWithoutOperand, ternaryWithoutOperands, Result, ok, fail, record8, about, messageRecord}
+use Rattle.molang.specs.Order.{rules, Pass, lastToken, memberAccessors, sectioning, comparisons, logic, conditionals, order, runs, lastOf, endsWithSemicolon, apply}
 use Rattle.molang.specs.Read.{Answer, tree, messages, rooted, endsReading, grouped, read}
 use Rattle.molang.specs.Words.{tokenWords, treeWords}
 use Rattle.molang.specs.Parse.{recordWords}
-use Rattle.molang.proofs.Trees.{decided, either, maybe, both}
+use Rattle.molang.proofs.Trees.{either, maybe, both}
 use Rattle.molang.proofs.Walks.{Outcome, failed, fine}
-use Rattle.molang.proofs.Weight.{Weighing, weight, Ending}
+use Rattle.molang.proofs.Weight.{Weighing, weight}
 use Rattle.molang.proofs.Sections.{flat, leaves-flat, members-light, sections-light}
 use Rattle.molang.proofs.Passes.{isNested, apply-light, allNested, grouped-nil}
 

@@ -1,30 +1,32 @@
 -- What holds of every pass after the sections: it raises no weight, makes no new leaves (so that a note of the classes below a node stays
 -- true for the rest of the reading), and leaves the empty list empty (so that the pointer's failure leads to exactly two messages).
-use Prim.Native.Nat.{ℕ, zero, suc, _+_, _*_, _≤_, zero-le}
-use mathlib.Core.Path.{_≡_, refl, ap, sym}
-use mathlib.Core.Bool.{Bool, true, false, _&&_, not, true≢false, false≢true}
+use Prim.Native.Nat.{ℕ, _+_, _*_, _≤_, zero-le}
+use mathlib.Core.Path.{_≡_, refl, ap}
+use mathlib.Core.Bool.{Bool, true, false, _&&_, not, false≢true}
 use mathlib.Core.List.{List, [], _∷_, _++_}
-use mathlib.Core.Option.{Option, none, some}
 use native.Mathlib.Omega.{arith}
-use lib.Dec.{eqb}
 use Rattle.molang.specs.Operator
-use Rattle.molang.specs.Operator.{isOneOf}
-use Rattle.molang.specs.Forest.{Token, Forest, nil, node, inOrder, turnedOnto}
+use Rattle.molang.specs.Forest.{Forest, nil, node, turnedOnto, inOrder}
 use Rattle.molang.specs.Message.{Message, multipleRoots, Result, ok, fail}
 use Rattle.molang.specs.Level.{Level, walk, through, nothing}
-use Rattle.molang.specs.Calls.{queryOrLoop, math, callLevel, callFinish, flushed, arrayFinish, arrayLevel}
+use Rattle.molang.specs.Calls.{queryOrLoop, math, callFinish, callLevel, flushed, arrayFinish, arrayLevel}
 use Rattle.molang.specs.Statements.{splitOf, statementFinish, statementLevel}
 use Rattle.molang.specs.Unary.{unary, unaryPass, returnFinish, returnLevel}
 use Rattle.molang.specs.Binary.{binaryFinish, binaryLevel}
 use Rattle.molang.specs.Conditional.{foldedFrom, dangling, undangled, conditionalFinish, conditionalLevel}
 use Rattle.molang.specs.Order.{Pass, lastToken, memberAccessors, sectioning, callPass, statements, arrays, pointer, mathCalls, unaryMinusAndNot, addition, ternary, returns, binary, runs, apply}
-use Rattle.molang.specs.Read.{Answer, tree, messages, rooted, endsReading, grouped}
-use Rattle.molang.proofs.Trees.{free, free-leaf, free-tree, isNil, decided, both, and-true-true}
+use Rattle.molang.specs.Read.{messages, rooted, endsReading, grouped}
+use Rattle.molang.proofs.Trees.{free, isNil, decided, both, and-true-true, free-leaf, free-tree}
 use Rattle.molang.proofs.Inert.{Lasting}
-use Rattle.molang.proofs.Walks.{Outcome, failed, fine}
+use Rattle.molang.proofs.Walks.{failed, fine}
 use Rattle.molang.proofs.Weight.{Weighing, weight, Ending, Light, through-light}
-use Rattle.molang.proofs.Light.{call-light, binary-light, return-light, conditional-light, array-light, statement-light}
+use Rattle.molang.proofs.Calls.{call-light}
+use Rattle.molang.proofs.Arrays.{array-light}
+use Rattle.molang.proofs.Statements.{statement-light}
 use Rattle.molang.proofs.Unary.{unaryPass-light}
+use Rattle.molang.proofs.Return.{return-light}
+use Rattle.molang.proofs.Binary.{binary-light}
+use Rattle.molang.proofs.Conditional.{conditional-light}
 
 -- The passes that go through every nested list.
 unfoldable pub isNested : Pass → Bool

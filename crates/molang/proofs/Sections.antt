@@ -1,7 +1,7 @@
 -- Members and sections raise no weight of a flat list: one in which only member accessors have children, so that every bracket is a leaf.
 use Prim.Native.Nat.{ℕ, _+_, _≤_}
-use mathlib.Core.Path.{_≡_, refl, ap}
-use mathlib.Core.Bool.{Bool, true, false, _&&_, not, true≢false, false≢true}
+use mathlib.Core.Path.{_≡_, refl}
+use mathlib.Core.Bool.{Bool, true, false, _&&_}
 use mathlib.Core.List.{List, [], _∷_}
 use mathlib.Core.Option.{Option, none, some}
 use native.Mathlib.Omega.{arith}
@@ -9,13 +9,13 @@ use lib.Dec.{eqb}
 use lib.ListN.{length}
 use borrow.Author.Tests.{eqb-true}
 use Rattle.molang.specs.Operator
-use Rattle.molang.specs.Operator.{hasMembers, closingOf, isCloser, isOneOf, any}
-use Rattle.molang.specs.Forest.{Token, Forest, nil, node, leaves, inOrder, turnedOnto, count}
-use Rattle.molang.specs.Message.{Message, closer, Result, ok, fail}
-use Rattle.molang.specs.Sections.{withMember, members, Open, outside, section, placed, position, outermost, Walked, going, mismatch, closing, bracket, closed, sections}
-use Rattle.molang.proofs.Trees.{isNil, decided, either, maybe, both, and-true-true}
+use Rattle.molang.specs.Operator.{hasMembers, closingOf, isCloser}
+use Rattle.molang.specs.Forest.{Token, Forest, nil, node, leaves, turnedOnto, inOrder}
+use Rattle.molang.specs.Message.{Message, Result, fail, closer}
+use Rattle.molang.specs.Sections.{withMember, members, Open, outside, section, placed, position, Walked, going, mismatch, closing, bracket, closed, sections}
+use Rattle.molang.proofs.Trees.{decided, either, maybe, both, and-true-true}
 use Rattle.molang.proofs.Walks.{Outcome, failed, fine}
-use Rattle.molang.proofs.Weight.{Weighing, weight, weight-inner, weight-tree, weight-inOrder}
+use Rattle.molang.proofs.Weight.{Weighing, weight, weight-tree, weight-inOrder}
 
 unfoldable pub flat : Forest → Bool
 flat nil = true

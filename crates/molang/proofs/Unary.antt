@@ -1,7 +1,8 @@
--- The unary pass raises no weight where a minus weighs as much as a plus and a node: a minus after an operand becomes both.
+-- The unary pass, from the right: what it leaves as it is, and that it raises no weight where a minus weighs as much as a plus and a node,
+-- since a minus after an operand becomes both.
 use Prim.Native.Nat.{ℕ, _+_, _≤_}
 use mathlib.Core.Path.{_≡_, refl, ap}
-use mathlib.Core.Bool.{Bool, true, false, not, true≢false, false≢true}
+use mathlib.Core.Bool.{Bool, true, false, _||_, not, false≢true}
 use mathlib.Core.List.{List, [], _∷_}
 use mathlib.Core.Option.{Option, none, some}
 use native.Mathlib.Omega.{arith}
@@ -9,13 +10,31 @@ use lib.Dec.{eqb}
 use lib.ListN.{length}
 use borrow.Author.Tests.{eqb-true}
 use Rattle.molang.specs.Operator
-use Rattle.molang.specs.Operator.{BeforeMinus, operand, operator, minus, unknown, beforeMinus, isOneOf}
+use Rattle.molang.specs.Operator.{isOneOf, BeforeMinus, operand, operator, minus, unknown, beforeMinus}
 use Rattle.molang.specs.Forest.{Token, Forest, nil, node, renamed, bare}
-use Rattle.molang.specs.Message.{Message, Result, ok, fail}
+use Rattle.molang.specs.Message.{Message, ok, fail}
 use Rattle.molang.specs.Unary.{Unary, done, undone, minusAfter, notBefore, unaryLeaf, turned, unaryNode, unary, unaryPass}
-use Rattle.molang.proofs.Trees.{isNil, decided, either}
+use Rattle.molang.proofs.Trees.{free, isNil, decided, either, off-both, free-leaf, free-tree}
 use Rattle.molang.proofs.Walks.{failed, fine}
 use Rattle.molang.proofs.Weight.{Weighing, weight, Ending, weight-inner, weight-tree}
+
+unfoldable pub isPrefix : ℕ → Bool
+isPrefix n = eqb n Operator.negate || eqb n Operator.logicalNot
+
+pub unary-free : (p : Option Token) (f : Forest) → free isPrefix f ≡ true → unary p f ≡ done false f
+unfolding unary unaryNode unaryLeaf turned isPrefix
+unary-free p nil h = refl
+unary-free p (node k nil rest) h =
+    let e = free-leaf isPrefix k rest h in
+    let o = off-both (eqb (k .op) Operator.negate) (eqb (k .op) Operator.logicalNot) (e .0) in
+    rw (unary-free (some k) rest (e .1), unary) (rw (o .0, unaryLeaf) (rw (o .1) refl))
+unary-free p (node k (node c cs r) rest) h =
+    let e = free-tree isPrefix k c cs r rest h in
+    rw (unary-free (some k) rest (e .1), unary) (rw (unary-free none (node c cs r) (e .0)) refl)
+
+pub unaryPass-free : (f : Forest) → free isPrefix f ≡ true → unaryPass f ≡ ok f
+unfolding unaryPass
+unaryPass-free f h = rw (unary-free none f h, unaryPass) refl
 
 unfoldable pub isMinus : Option Token → Bool
 isMinus none = false

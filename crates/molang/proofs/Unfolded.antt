@@ -9,12 +9,13 @@ use mathlib.Core.Option.{Option, none, some}
 use borrow.Author.Tests.{not-true}
 use Rattle.molang.specs.Operator.{isOneOf}
 use Rattle.molang.specs.Forest.{Token, Forest, nil, node, turnedOnto, inOrder}
-use Rattle.molang.specs.Message.{Message, binaryAtEnd, Result, ok, fail}
+use Rattle.molang.specs.Message.{binaryAtEnd, Result, ok, fail}
 use Rattle.molang.specs.Level.{Step, stop, on, into, Level, walk, through, Gathered, gathered, waiting, nothing}
 use Rattle.molang.specs.Binary.{firstLeaf, unfolded, joined, operatorAfter, binaryStep, binaryResume, binaryFinish, binaryLevel}
-use Rattle.molang.proofs.Trees.{free, free-leaf, free-tree, and-true-true, isNil, decided, maybe, some-none}
-use Rattle.molang.proofs.Walks.{Outcome, failed, fine, Ends, Onward, stops, goes, enters, Keeps, back, onward, walk-onward, walk-keeps}
+use Rattle.molang.proofs.Trees.{free, isNil, decided, maybe, some-none, and-true-true, free-leaf, free-tree}
+use Rattle.molang.proofs.Walks.{failed, fine, Ends, Onward, stops, goes, enters, Keeps, back, onward, walk-keeps}
 use Rattle.molang.proofs.Weight.{isNil-inOrder}
+use Rattle.molang.proofs.Binary.{full-joined}
 
 first-of-two : {A : Type 0} (o x : Option A) → _≡_ {A = Option A} (elim o [ some t ↦ some t | none ↦ x ]) none → (o ≡ none) × (x ≡ none)
 first-of-two none x h = (refl, h)
@@ -119,11 +120,6 @@ module _ (ops : List ℕ) where
 
   abbrev KeptOnward : Token → Forest → Forest → Step Gathered → Type 0
   KeptOnward k cs rest = Onward GoodKept (binaryLevel ops) KeptFits keptFull k cs rest tt
-
-  full-joined : (d : Forest) (q k : Token) (cs : Forest) → isNil (joined d q k cs) ≡ false
-  unfolding joined isNil
-  full-joined nil q k cs = refl
-  full-joined (node l ls d) q k cs = refl
 
   kept-steps : (s : Gathered) (k : Token) (cs rest : Forest) (n : Unit {0}) → KeptState s → KeptOnward k cs rest (binaryStep ops s k cs)
   unfolding binaryLevel binaryStep binaryResume operatorAfter isNil

@@ -1,5 +1,5 @@
 -- Words and what they say, both ways: legal tokens and trees are read back from their words, and legal words are those of their tokens.
-use Prim.Native.Nat.{ℕ, zero, suc, _+_, _*_, _/_, _%_, _^_, _≤_, _<_}
+use Prim.Native.Nat.{ℕ, suc, _+_, _*_, _/_, _%_, _^_, _≤_, _<_}
 use mathlib.Core.Path.{_≡_, refl, ap, sym, _∙_}
 use mathlib.Core.Bool.{Bool, true, false}
 use mathlib.Core.List.{List, [], _∷_, _++_, append-assoc, append-nil}
@@ -9,9 +9,9 @@ use lib.Dec.{eqb, leb, ltb}
 use lib.ListN.{length}
 use borrow.Author.Tests.{eqb-true, eqb-false, leb-true, ltb-true}
 use Rattle.molang.specs.Forest.{Token, Forest, nil, node, count}
-use Rattle.molang.specs.Words.{word, kindOf, lowOf, tokenWords, tokenOf, tokensOf, listWords, treeWords, Slot, operatorSlot, startSlot, endSlot, upperSlot, lowerSlot, countSlot, slotKind, unless, lowFault, wordFault, variantAfter, nextInToken, Refusal, wordsRefusal}
-use Rattle.molang.proofs.Trees.{decided, some-none}
+use Rattle.molang.specs.Words.{word, kindOf, lowOf, tokenWords, tokenOf, tokensOf, listWords, treeWords, Slot, operatorSlot, startSlot, endSlot, upperSlot, lowerSlot, slotKind, unless, lowFault, wordFault, variantAfter, nextInToken, Refusal, wordsRefusal}
 use Rattle.molang.specs.WriteEntry.{firstTrees, otherTrees, treesOf}
+use Rattle.molang.proofs.Trees.{decided, some-none}
 
 -- A token whose fields fit its words.
 pub record Legal (k : Token) : Type 0 where
