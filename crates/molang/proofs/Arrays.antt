@@ -15,7 +15,7 @@ use Rattle.molang.specs.Calls.{Indexing, unindexed, named, indexed, flus
 use Rattle.molang.proofs.Trees.{free, clear, isNil, decided, either, free-leaf, free-tree, clear-leaf, leaf-clear, free-clear, clear-turned}
 use Rattle.molang.proofs.Inert.{Inert, walk-free, through-free}
 use Rattle.molang.proofs.Walks.{Onward, stops, goes, enters}
-use Rattle.molang.proofs.Weight.{Weighing, weight, Within, Ending, Light, isNil-turned-full, isNil-inOrder, weight-inner, weight-turned, weight-inOrder, turned-fine}
+use Rattle.molang.proofs.Weight.{Weighing, weight, Within, Ending, Light, isNil-turned-full, weight-inner, weight-turned, weight-gathered, turned-fine}
 
 unfoldable pub isArrayName : ℕ → Bool
 isArrayName n = eqb n Operator.arrayVariable
@@ -187,7 +187,7 @@ array-lent l (node i (node c cs r) rest) e h =
     (clear-turned isArrayName (node c cs r) nil (free-clear isArrayName (node c cs r) (z .0)) refl) (z .1)))
 
 module _ (W : Weighing) where
-  -- Arrays. An array between two indices has contents.
+  -- An array between two indices has contents.
   abbrev hasContents : Indexing → Bool
   hasContents (unindexed d) = true
   hasContents (named d q) = true
@@ -201,11 +201,6 @@ module _ (W : Weighing) where
 
   abbrev ArrayOnward : Token → Forest → Forest → ℕ → Step Indexing → Type 0
   ArrayOnward k cs rest n = Onward (Within W) arrayLevel IndexingFits indexingFull k cs rest n
-
-  weight-array : (d : Forest) (q : Token) (contents : Forest) → isNil contents ≡ false
-      → weight W (flushed (indexed d q contents)) ≡ W .inner + weight W contents + weight W d
-  unfolding flushed
-  weight-array d q contents e = omega (arith, weight-inner W q (inOrder contents) d (isNil-inOrder contents e), weight-inOrder W contents)
 
   empty-light : (s : Indexing) (k : Token) (rest : Forest) (n : ℕ) → IndexingFits s (node k nil rest) n
       → ArrayOnward k nil rest n (emptyIndex s k)
@@ -227,9 +222,9 @@ module _ (W : Weighing) where
       → W .inner + weight W contents + weight W d + m + weight W rest ≤ n → ArrayOnward k (node c cs r) rest n (into (indexed d q contents) u)
   unfolding isNil flushed arrayLevel arrayResume
   array-appends d q contents u m k c cs r rest n h b =
-      enters {t = indexed d q contents} {u = u} m h refl λ kids w e. let full =
-      isNil-turned-full kids contents e in
-      ((omega (arith, weight-array d q (turnedOnto kids contents) full, weight-turned W kids contents), rw full refl), refl)
+      enters {t = indexed d q contents} {u = u} m h refl λ kids w e.
+      let full = isNil-turned-full kids contents e in
+      ((omega (arith, weight-gathered W q (turnedOnto kids contents) d full, weight-turned W kids contents), rw full refl), refl)
 
   next-light : (d : Forest) (q : Token) (contents : Forest) (k c : Token) (cs r rest : Forest) (n : ℕ)
       → W .inner + weight W contents + weight W d + weight W (node k (node c cs r) rest) ≤ n
@@ -254,7 +249,7 @@ module _ (W : Weighing) where
       array-appends d (renamed Operator.array q) nil (unindexed nil) (weight W (node c cs r)) k c cs r rest n (omega arith, refl)
       (omega (arith, h .0, W .lighter (q .op)))
   index-light (indexed d q contents) k c cs r rest n h =
-      next-light d q contents k c cs r rest n (omega (arith, h .0, weight-array d q contents (not-true (isNil contents) (h .1))))
+      next-light d q contents k c cs r rest n (omega (arith, h .0, weight-gathered W q contents d (not-true (isNil contents) (h .1))))
 
   array-steps : (s : Indexing) (k : Token) (cs rest : Forest) (n : ℕ) → IndexingFits s (node k cs rest) n
       → ArrayOnward k cs rest n (arrayStep s k cs)

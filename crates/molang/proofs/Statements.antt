@@ -13,7 +13,7 @@ use Rattle.molang.specs.Statements.{Split, unsplit, after, inside, split
 use Rattle.molang.proofs.Trees.{free, clear, isNil, decided, either, clear-leaf}
 use Rattle.molang.proofs.Inert.{Inert, through-free, Hands, halting, staying, entering, Starts}
 use Rattle.molang.proofs.Walks.{fine, Onward, stops, goes, enters}
-use Rattle.molang.proofs.Weight.{Weighing, weight, Within, Ending, Light, isNil-inOrder, weight-inner, weight-tree, weight-inOrder, turned-fine}
+use Rattle.molang.proofs.Weight.{Weighing, weight, Within, Ending, Light, weight-inner, weight-tree, weight-gathered, turned-fine}
 
 unfoldable pub isSemicolon : ℕ → Bool
 isSemicolon n = eqb n Operator.semicolon
@@ -105,40 +105,21 @@ module _ (W : Weighing) (pays : 3 * W .inner ≤ W .leaf Operator.semicolon) whe
   end-light k (after q nil) rest n e h = stops refl
   end-light k (after q (node t ts done)) rest n e h = goes {t = after q (node t ts done)} (omega (arith, h .0), tt) refl
   end-light k (inside q nil s d) rest n e h =
-      goes {t = after q (node s (inOrder d) nil)} (
-        omega (
-          arith,
-          h .0,
-          pays,
-          ap (W .leaf) (eqb-true (k .op) Operator.semicolon e),
-          weight-inner W s (inOrder d) nil
-              (isNil-inOrder d (h .2)),
-          weight-inOrder W d,
-        ),
-        tt,
-      ) refl
+      let semicolon = ap (W .leaf) (eqb-true (k .op) Operator.semicolon e) in
+      goes {t = after q (node s (inOrder d) nil)} (omega (arith, h .0, pays, semicolon, weight-gathered W s d nil (h .2)), tt) refl
   end-light k (inside q (node t ts done) s d) rest n e h =
-      goes {t = after q (node s (inOrder d) (node t ts done))} (
-        omega (
-          arith,
-          h .0,
-          pays,
-          ap (W .leaf) (eqb-true (k .op) Operator.semicolon e),
-          weight-inner W s (inOrder d) (node t ts done)
-              (isNil-inOrder d (h .2)),
-          weight-inOrder W d,
-        ),
-        tt,
-      ) refl
+      let semicolon = ap (W .leaf) (eqb-true (k .op) Operator.semicolon e) in
+      let finished = node t ts done in
+      goes {t = after q (node s (inOrder d) finished)} (omega (arith, h .0, pays, semicolon, weight-gathered W s d finished (h .2)), tt) refl
 
   -- A node's children, split for themselves, come back to it.
   statement-enters : (m : Split) (k c : Token) (cs r rest : Forest) (n : ℕ) → SplitFits m (node k (node c cs r) rest) n
       → SplitOnward k (node c cs r) rest n (into m (splitOf (node c cs r)))
   unfolding statementLevel statementResume isNil clear
   statement-enters m k c cs r rest n h =
-      enters {t = m} {u = splitOf (node c cs r)} (weight W (node c cs r))
-      (split-fits (node c cs r) (node c cs r) (weight W (node c cs r)) (omega arith) (λ e. e)) refl λ kids w e. gather-light m k kids
-      (node c cs r) rest n h (omega (arith, weight-inner W k kids nil e, weight-inner W k (node c cs r) nil refl)) refl
+      let kids-begin = split-fits (node c cs r) (node c cs r) (weight W (node c cs r)) (omega arith) (λ e. e) in
+      enters {t = m} {u = splitOf (node c cs r)} (weight W (node c cs r)) kids-begin refl
+      λ kids w e. gather-light m k kids (node c cs r) rest n h (omega (arith, weight-inner W k kids nil e, weight-inner W k (node c cs r) nil refl)) refl
 
   enter-light : (m : Split) (k c : Token) (cs r rest : Forest) (n : ℕ) → SplitFits m (node k (node c cs r) rest) n
       → SplitOnward k (node c cs r) rest n (enterSplit m k (node c cs r))
@@ -163,31 +144,13 @@ module _ (W : Weighing) (pays : 3 * W .inner ≤ W .leaf Operator.semicolon) whe
   statement-ends (unsplit d) n h = turned-fine W d n h
   statement-ends (after q nil) n h = absurd (true≢false (h .1))
   statement-ends (after q (node t ts done)) n h =
-      fine {g = node q (inOrder (node t ts done)) nil} (
-        omega (
-          arith,
-          h .0,
-          weight-inner W q (inOrder (node t ts done)) nil (isNil-inOrder (node t ts done) refl),
-          weight-inOrder W
-              (node t ts done),
-        ),
-        λ e. refl,
-      )
+      let finished = node t ts done in
+      fine {g = node q (inOrder finished) nil} (omega (arith, h .0, weight-gathered W q finished nil refl), λ e. refl)
   statement-ends (inside q nil s d) n h = absurd (true≢false (h .1))
   statement-ends (inside q (node t ts done) s d) n h =
-      let l = node s (inOrder d) (node t ts done) in
-      fine {g = node q (inOrder l) nil} (
-        omega (
-          arith,
-          h .0,
-          weight-inner W q (inOrder l) nil (isNil-inOrder l refl),
-          weight-inOrder W l,
-          weight-inner W s (inOrder d)
-              (node t ts done) (isNil-inOrder d (h .2)),
-          weight-inOrder W d,
-        ),
-        λ e. refl,
-      )
+      let finished = node s (inOrder d) (node t ts done) in
+      let last = weight-gathered W s d (node t ts done) (h .2) in
+      fine {g = node q (inOrder finished) nil} (omega (arith, h .0, weight-gathered W q finished nil refl, last), λ e. refl)
 
   pub statement-light : Light W statementLevel
   unfolding statementLevel weight
@@ -195,8 +158,7 @@ module _ (W : Weighing) (pays : 3 * W .inner ≤ W .leaf Operator.semicolon) whe
       record {
         Fits = SplitFits;
         full = splitFull;
-        begins = λ f. split-fits f f (weight W f) (omega arith)
-            (λ e. e);
+        begins = λ f. split-fits f f (weight W f) (omega arith) (λ e. e);
         steps = statement-steps;
         ends = statement-ends;
       }

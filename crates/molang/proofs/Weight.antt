@@ -73,6 +73,10 @@ module _ (W : Weighing) where
   unfolding weight inOrder
   weight-inOrder d = omega (arith, weight-turned d nil)
 
+  -- A node over trees that were gathered the last first.
+  pub weight-gathered : (k : Token) (d rest : Forest) → isNil d ≡ false → weight W (node k (inOrder d) rest) ≡ W .inner + weight W d + weight W rest
+  weight-gathered k d rest e = omega (arith, weight-inner k (inOrder d) rest (isNil-inOrder d e), weight-inOrder d)
+
   -- The end of a level that gives what it has gathered.
   pub turned-fine : (d : Forest) (n : ℕ) → weight W d + weight W nil ≤ n → Ending W n (not (isNil d)) (ok (inOrder d))
   unfolding weight
