@@ -1,0 +1,5 @@
+# The commands of the project; README.md says what each does.
+.PHONY: test
+
+test:
+	@tools/gate.sh

@@ -1,0 +1,17 @@
+pub mod Operator
+pub mod Forest
+pub mod Message
+pub mod Level
+pub mod Sections
+pub mod Calls
+pub mod Statements
+pub mod Unary
+pub mod Binary
+pub mod Conditional
+pub mod Order
+pub mod Read
+pub mod Words
+pub mod Parse
+pub mod Plain
+pub mod Write
+pub mod WriteEntry

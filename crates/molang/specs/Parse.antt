@@ -1,0 +1,106 @@
+-- The parse entry: what a call is given, where it is turned back (document 01, 'Where the entry turns a call back', answers 1-11 in the
+-- table's order), what it answers and what it leaves in each lent buffer.
+use Prim.Native.Nat.{ℕ, _+_, _*_, _/_, _%_, _^_}
+use mathlib.Core.Bool.{Bool, true, false}
+use mathlib.Core.List.{List, [], _∷_, _++_}
+use mathlib.Core.Option.{Option, none, some}
+use lib.Dec.{eqb, leb, ltb}
+use lib.IntN.{ℤ}
+use lib.ListN.{length, drop, replicate}
+use Rattle.molang.specs.Forest.{Token, Forest, nil, node, size}
+use Rattle.molang.specs.Message.{Message, messageRecord}
+use Rattle.molang.specs.Read.{Answer, tree, messages, read}
+use Rattle.molang.specs.Words.{Refusal, operatorSlot, wordsRefusal, tokensOf, treeWords}
+
+-- What a call is given.
+pub record Call : Type 0 where
+  pub list : List ℕ
+  pub tree : List ℕ
+  pub messages : List ℕ
+  pub work : List ℕ
+  pub sourceLength : ℕ
+  pub version : ℤ
+  pub usedLow : ℕ
+  pub usedHigh : ℕ
+
+-- The operator's bit in the used set's two halves of 64 bits.
+unfoldable pub inHalves : ℕ → ℕ → ℕ → Bool
+inHalves low high n = eqb ((high * 2 ^ 64 + low) / 2 ^ n % 2) 1
+
+abbrev pub mostTokens : ℕ
+mostTokens = 4096
+
+-- A refusal at place 0 where the test fails.
+unfoldable pub must : Bool → ℕ → Option Refusal
+must true n = none
+must false n = some (record { number = n; place = 0 })
+
+unfoldable pub firstOf : List (Option Refusal) → Option Refusal
+firstOf [] = none
+firstOf (none ∷ later) = firstOf later
+firstOf (some r ∷ later) = some r
+
+-- The table, from the top; the first failure wins.
+unfoldable pub refusal : Call → Option Refusal
+refusal c =
+    let tokens = length (c .list) / 5 in
+    firstOf
+    (must (eqb (length (c .list) % 5) 0) 1
+    ∷ must (leb tokens mostTokens) 2
+    ∷ must (leb (18 * tokens) (length (c .tree))) 3
+    ∷ must (leb 16 (length (c .messages))) 4
+    ∷ must (leb (64 * tokens + 64) (length (c .work))) 5
+    ∷ must (ltb (c .usedHigh * 2 ^ 64 + c .usedLow) (2 ^ 111)) 6
+    ∷ must (leb (c .sourceLength) 536870911) 7
+    ∷ wordsRefusal 0 operatorSlot 0 (c .list)
+    ∷ [])
+
+-- The reading of a list that is not turned back.
+unfoldable pub reading : Call → Answer
+reading c = read (tokensOf (c .list)) (inHalves (c .usedLow) (c .usedHigh)) (c .version) (c .sourceLength)
+
+unfoldable pub recordWords : List Message → List ℕ
+recordWords [] = []
+recordWords (m ∷ ms) = messageRecord m ++ recordWords ms
+
+-- What the caller is told: a tree with its node count, messages with their count, or a refusal.
+pub data Told : Type 0 where
+  aTree : ℕ → Told
+  someMessages : ℕ → Told
+  refused : ℕ → ℕ → Told
+
+unfoldable pub told : Option Refusal → Answer → Told
+told (some r) a = refused (r .number) (r .place)
+told none (tree k cs) = aTree (size (node k cs nil))
+told none (messages ms) = someMessages (length ms)
+
+unfoldable pub answered : Call → Told
+answered c = told (refusal c) (reading c)
+
+-- The words in front of a buffer, the rest as it was.
+unfoldable pub inFront : List ℕ → List ℕ → List ℕ
+inFront ws buffer = ws ++ drop (length ws) buffer
+
+unfoldable pub treeIn : Option Refusal → Answer → List ℕ → List ℕ
+treeIn (some r) a buffer = buffer
+treeIn none (tree k cs) buffer = inFront (treeWords (node k cs nil)) buffer
+treeIn none (messages ms) buffer = buffer
+
+unfoldable pub treeAfter : Call → List ℕ
+treeAfter c = treeIn (refusal c) (reading c) (c .tree)
+
+unfoldable pub messagesIn : Option Refusal → Answer → List ℕ → List ℕ
+messagesIn (some r) a buffer = buffer
+messagesIn none (tree k cs) buffer = buffer
+messagesIn none (messages ms) buffer = inFront (recordWords ms) buffer
+
+unfoldable pub messagesAfter : Call → List ℕ
+messagesAfter c = messagesIn (refusal c) (reading c) (c .messages)
+
+-- The work buffer is all zero after a tree or messages.
+unfoldable pub workIn : Option Refusal → List ℕ → List ℕ
+workIn (some r) buffer = buffer
+workIn none buffer = replicate (length buffer) 0
+
+unfoldable pub workAfter : Call → List ℕ
+workAfter c = workIn (refusal c) (c .work)

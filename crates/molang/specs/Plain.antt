@@ -1,0 +1,70 @@
+-- Document 01's 'plain': a tree each of whose nodes has one of the forms that can be written, judged by its own, its parent's and its
+-- children's operators. Answer 13's place is the number, in tree order, of the first node that has none.
+use Prim.Native.Nat.{ℕ, suc, _+_}
+use mathlib.Core.Bool.{Bool, true, false, _||_, _&&_}
+use mathlib.Core.List.{[], _∷_}
+use mathlib.Core.Option.{Option, none, some}
+use lib.Dec.{eqb}
+use Rattle.molang.specs.Operator
+use Rattle.molang.specs.Operator.{isOneOf, between, isMathCall, isBracket}
+use Rattle.molang.specs.Forest.{Token, Forest, nil, node, size}
+
+-- Where a node stands: as second child of 59, under a math call, or elsewhere.
+pub data Place : Type 0 where
+  elsewhere rightOfQuestion underMathCall : Place
+
+unfoldable pub isRightOfQuestion : Place → Bool
+isRightOfQuestion elsewhere = false
+isRightOfQuestion rightOfQuestion = true
+isRightOfQuestion underMathCall = false
+
+unfoldable pub isUnderMathCall : Place → Bool
+isUnderMathCall elsewhere = false
+isUnderMathCall rightOfQuestion = false
+isUnderMathCall underMathCall = true
+
+-- The place of the i-th child of p, counted from 0.
+unfoldable pub placeUnder : Token → ℕ → Place
+placeUnder p i =
+    elim (isMathCall (p .op)) [
+      | true ↦ underMathCall
+      | false ↦ elim (eqb (p .op) Operator.conditional && eqb i 1) [ true ↦ rightOfQuestion | false ↦ elsewhere ]
+    ]
+
+-- A leaf of 40, 42-44, 46-49, 61, 62 or 76.
+unfoldable pub isPlainLeaf : ℕ → Bool
+isPlainLeaf n = eqb n Operator.queryFunction || between 42 44 n || between 46 49 n || eqb n Operator.float || eqb n Operator.pi || eqb n Operator.this
+
+-- 9, 20, 31, 50-59 or 75, with two children.
+unfoldable pub isPlainBinary : ℕ → Bool
+isPlainBinary n = eqb n Operator.add || eqb n Operator.div || eqb n Operator.mul || between 50 59 n || eqb n Operator.comma
+
+-- 40 or a math call.
+unfoldable pub isCall : ℕ → Bool
+isCall n = eqb n Operator.queryFunction || isMathCall n
+
+-- The node k over its children has a plain form.
+unfoldable pub plainForm : Place → Token → Forest → Bool
+plainForm p k nil = isPlainLeaf (k .op) || (isBracket (k .op) && isUnderMathCall p)
+plainForm p k (node x xs nil) =
+    isOneOf (Operator.leftParenthesis ∷ Operator.negate ∷ Operator.logicalNot ∷ []) (k .op) || (isCall (k .op) && isBracket (x .op))
+plainForm p k (node x xs (node y ys nil)) = isPlainBinary (k .op) || (eqb (k .op) Operator.conditionalElse && isRightOfQuestion p)
+plainForm p k (node x xs (node y ys (node z zs r))) = false
+
+-- The place of the i-th child of a node, or of the root.
+unfoldable pub placeOf : Option Token → ℕ → Place
+placeOf none i = elsewhere
+placeOf (some p) i = placeUnder p i
+
+-- The number of the first node that is not plain among trees that stand from the i-th child of p on and are numbered from n.
+unfoldable pub unplain : Option Token → ℕ → ℕ → Forest → Option ℕ
+unplain p i n nil = none
+unplain p i n (node k cs rest) =
+    elim (plainForm (placeOf p i) k cs) [
+      | false ↦ some n
+      | true ↦ elim (unplain (some k) 0 (suc n) cs) [ some m ↦ some m | none ↦ unplain p (suc i) (suc n + size cs) rest ]
+    ]
+
+-- The tree k over cs is not plain at this node, or is plain.
+unfoldable pub unplainAt : Token → Forest → Option ℕ
+unplainAt k cs = unplain none 0 0 (node k cs nil)

@@ -1,0 +1,111 @@
+-- The word formats of document 01, 'The entry and its words': tokens of five words, tree nodes of six, which words are legal, and answers 8-11.
+use Prim.Native.Nat.{ℕ, _+_, _*_, _/_, _%_, _^_, suc}
+use mathlib.Core.Bool.{Bool, true, false}
+use mathlib.Core.List.{List, [], _∷_, _++_}
+use mathlib.Core.Option.{Option, none, some}
+use lib.Dec.{eqb, leb, ltb}
+use Rattle.molang.specs.Forest.{Token, Forest, nil, node, count}
+
+-- A word has its kind in the top three bits of 32 and its value in the low 29.
+unfoldable pub word : ℕ → ℕ → ℕ
+word kind low = kind * 2 ^ 29 + low
+
+unfoldable pub kindOf : ℕ → ℕ
+kindOf w = w / 2 ^ 29
+
+unfoldable pub lowOf : ℕ → ℕ
+lowOf w = w % 2 ^ 29
+
+-- A token's five words: operator and payload variant, span start, span end, upper and lower half of the payload value.
+unfoldable pub tokenWords : Token → List ℕ
+tokenWords k =
+    word 1 (k .variant * 2 ^ 8 + k .op) ∷ word 2 (k .start) ∷ word 3 (k .end) ∷ word 4 (k .value / 2 ^ 16) ∷ word 5 (k .value % 2 ^ 16) ∷ []
+
+unfoldable pub tokenOf : ℕ → ℕ → ℕ → ℕ → ℕ → Token
+tokenOf a b c d e =
+    record {
+      op = lowOf a % 2 ^ 8;
+      variant = lowOf a / 2 ^ 8 % 2 ^ 4;
+      value = lowOf d % 2 ^ 16 * 2 ^ 16 + lowOf e % 2 ^ 16;
+      start = lowOf b;
+      end = lowOf c;
+    }
+
+-- The tokens of a word list; words after the last whole token are left out.
+unfoldable pub tokensOf : List ℕ → List Token
+tokensOf [] = []
+tokensOf (a ∷ []) = []
+tokensOf (a ∷ b ∷ []) = []
+tokensOf (a ∷ b ∷ c ∷ []) = []
+tokensOf (a ∷ b ∷ c ∷ d ∷ []) = []
+tokensOf (a ∷ b ∷ c ∷ d ∷ e ∷ ws) = tokenOf a b c d e ∷ tokensOf ws
+
+unfoldable pub listWords : List Token → List ℕ
+listWords [] = []
+listWords (k ∷ ks) = tokenWords k ++ listWords ks
+
+-- The words of trees: each node's token and child count, parent first, children in order.
+unfoldable pub treeWords : Forest → List ℕ
+treeWords nil = []
+treeWords (node k cs rest) = tokenWords k ++ (word 6 (count cs) ∷ (treeWords cs ++ treeWords rest))
+
+-- Which word of a token or node is expected next.
+pub data Slot : Type 0 where
+  operatorSlot startSlot endSlot upperSlot lowerSlot countSlot : Slot
+
+unfoldable pub slotKind : Slot → ℕ
+slotKind operatorSlot = 1
+slotKind startSlot = 2
+slotKind endSlot = 3
+slotKind upperSlot = 4
+slotKind lowerSlot = 5
+slotKind countSlot = 6
+
+-- The first of the tests that fails gives the answer.
+unfoldable pub unless : Bool → ℕ → Option ℕ → Option ℕ
+unless true n later = later
+unless false n later = some n
+
+-- The answer to the low bits of a word of the right kind, in a token of payload variant v: 9, 10 or 11.
+unfoldable pub lowFault : Slot → ℕ → ℕ → Option ℕ
+lowFault operatorSlot v low = unless (leb (low % 2 ^ 8) 110) 9 (unless (leb (low / 2 ^ 8 % 2 ^ 4) 12) 10 (unless (ltb low (2 ^ 12)) 11 none))
+lowFault startSlot v low = none
+lowFault endSlot v low = none
+lowFault upperSlot v low = unless (ltb low (elim (eqb v 0) [ true ↦ 1 | false ↦ 2 ^ 16 ])) 11 none
+lowFault lowerSlot v low = unless (ltb low (elim (eqb v 0) [ true ↦ 1 | false ↦ 2 ^ 16 ])) 11 none
+lowFault countSlot v low = unless (ltb low (2 ^ 14)) 11 none
+
+-- The answer to a word: 8 for a wrong kind, else that to its low bits.
+unfoldable pub wordFault : Slot → ℕ → ℕ → Option ℕ
+wordFault slot v w = unless (eqb (kindOf w) (slotKind slot)) 8 (lowFault slot v (lowOf w))
+
+-- The payload variant of the token that a word belongs to, after the word.
+unfoldable pub variantAfter : Slot → ℕ → ℕ → ℕ
+variantAfter operatorSlot v w = lowOf w / 2 ^ 8 % 2 ^ 4
+variantAfter startSlot v w = v
+variantAfter endSlot v w = v
+variantAfter upperSlot v w = v
+variantAfter lowerSlot v w = v
+variantAfter countSlot v w = v
+
+unfoldable pub nextInToken : Slot → Slot
+nextInToken operatorSlot = startSlot
+nextInToken startSlot = endSlot
+nextInToken endSlot = upperSlot
+nextInToken upperSlot = lowerSlot
+nextInToken lowerSlot = operatorSlot
+nextInToken countSlot = operatorSlot
+
+-- An answer number with its place.
+pub record Refusal : Type 0 where
+  pub number : ℕ
+  pub place : ℕ
+
+-- The first word of a list that answers 8-11, i being the index of the next word.
+unfoldable pub wordsRefusal : ℕ → Slot → ℕ → List ℕ → Option Refusal
+wordsRefusal i slot v [] = none
+wordsRefusal i slot v (w ∷ ws) =
+    elim (wordFault slot v w) [
+      | some n ↦ some (record { number = n; place = i })
+      | none ↦ wordsRefusal (suc i) (nextInToken slot) (variantAfter slot v w) ws
+    ]

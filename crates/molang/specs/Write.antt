@@ -1,0 +1,71 @@
+-- Writing a plain tree out with brackets, and taking brackets away (document 01, 'Writing a plain tree').
+use Prim.Native.Nat.{ℕ, suc, _+_}
+use mathlib.Core.Bool.{Bool, true, false, _||_, _&&_, not}
+use mathlib.Core.List.{List, [], _∷_}
+use lib.Dec.{eqb}
+use Rattle.molang.specs.Operator
+use Rattle.molang.specs.Forest.{Token, Forest, nil, node, bare}
+use Rattle.molang.specs.Operator.{isBracket}
+use Rattle.molang.specs.Plain.{isCall}
+
+-- An added opener carries the operand node's own span and payload 0; a closer carries its opener's span and payload 0.
+unfoldable pub openerFor : Token → Token
+openerFor k = bare Operator.leftParenthesis k
+
+unfoldable pub closerFor : Token → Token
+closerFor k = bare Operator.rightParenthesis k
+
+-- An operand that is a leaf or a bracket gets no pair.
+unfoldable pub standsAlone : Token → Forest → Bool
+standsAlone k nil = true
+standsAlone k (node c cs r) = isBracket (k .op)
+
+-- As left operand of p, a comma that is a comma's left side gets no pair either.
+unfoldable pub standsLeft : Token → Token → Forest → Bool
+standsLeft p k cs = standsAlone k cs || (eqb (p .op) Operator.comma && eqb (k .op) Operator.comma)
+
+-- As right operand of p, the `:` right of its `?` gets no pair either.
+unfoldable pub standsRight : Token → Token → Forest → Bool
+standsRight p k cs = standsAlone k cs || (eqb (p .op) Operator.conditional && eqb (k .op) Operator.conditionalElse)
+
+-- An operand with the given root and tokens, before the tokens r: as it is, or in an added pair.
+unfoldable pub operandTokens : Bool → Token → (List Token → List Token) → List Token → List Token
+operandTokens true k tokens r = tokens r
+operandTokens false k tokens r = openerFor k ∷ tokens (closerFor k ∷ r)
+
+-- THE WRITING: the tokens of the node k over its children, before the tokens r. (No plain node has three children.)
+unfoldable pub written : Token → Forest → List Token → List Token
+written k nil r = elim (isBracket (k .op)) [ true ↦ k ∷ closerFor k ∷ r | false ↦ k ∷ r ]
+written k (node x xs nil) r =
+    elim (isBracket (k .op)) [ true ↦ k ∷ written x xs (closerFor k ∷ r) | false ↦ k ∷ operandTokens (standsAlone x xs) x (written x xs) r ]
+written k (node x xs (node y ys nil)) r =
+    operandTokens (standsLeft k x xs) x (written x xs) (k ∷ operandTokens (standsRight k y ys) y (written y ys) r)
+written k (node x xs (node y ys (node z zs more))) r = k ∷ r
+
+unfoldable pub operandCount : Bool → ℕ → ℕ
+operandCount true n = n
+operandCount false n = n + 2
+
+-- The written count.
+unfoldable pub writtenCount : Token → Forest → ℕ
+writtenCount k nil = elim (isBracket (k .op)) [ true ↦ 2 | false ↦ 1 ]
+writtenCount k (node x xs nil) =
+    elim (isBracket (k .op)) [ true ↦ writtenCount x xs + 2 | false ↦ 1 + operandCount (standsAlone x xs) (writtenCount x xs) ]
+writtenCount k (node x xs (node y ys nil)) =
+    operandCount (standsLeft k x xs) (writtenCount x xs) + 1 + operandCount (standsRight k y ys) (writtenCount y ys)
+writtenCount k (node x xs (node y ys (node z zs more))) = 1
+
+unfoldable pub isSingle : Forest → Bool
+isSingle nil = false
+isSingle (node k cs nil) = true
+isSingle (node k cs (node l ls r)) = false
+
+-- TAKING AWAY: trees before r without the brackets of exactly one child, each child standing in its bracket's place; the brackets of calls
+-- stay, `inCall` saying whether the trees stand under 40 or a math call in the tree as it was given.
+unfoldable pub takenAway : Bool → Forest → Forest → Forest
+takenAway inCall nil r = r
+takenAway inCall (node k cs rest) r =
+    elim (isBracket (k .op) && isSingle cs && not inCall) [
+      | true ↦ takenAway false cs (takenAway inCall rest r)
+      | false ↦ node k (takenAway (isCall (k .op)) cs nil) (takenAway inCall rest r)
+    ]

@@ -1,0 +1,133 @@
+-- The write entry: what a call is given, where it is turned back (answers 12-15), what it answers and what it leaves in the lent list.
+use Prim.Native.Nat.{ℕ, zero, suc, _+_, _-_, _*_, _/_}
+use mathlib.Core.Bool.{Bool, true, false, _&&_}
+use mathlib.Core.List.{List, [], _∷_}
+use mathlib.Core.Option.{Option, none, some}
+use lib.Dec.{eqb, leb}
+use lib.ListN.{length}
+use Rattle.molang.specs.Forest.{Token, Forest, nil, node}
+use Rattle.molang.specs.Words.{Slot, operatorSlot, startSlot, endSlot, upperSlot, lowerSlot, countSlot, wordFault, variantAfter, lowOf, tokenOf, listWords, Refusal}
+use Rattle.molang.specs.Parse.{mostTokens, inFront, must}
+use Rattle.molang.specs.Plain.{unplainAt}
+use Rattle.molang.specs.Write.{written, writtenCount}
+
+abbrev pub mostNodes : ℕ
+mostNodes = 12288
+
+unfoldable pub nextInNode : Slot → Slot
+nextInNode operatorSlot = startSlot
+nextInNode startSlot = endSlot
+nextInNode endSlot = upperSlot
+nextInNode upperSlot = lowerSlot
+nextInNode lowerSlot = countSlot
+nextInNode countSlot = operatorSlot
+
+-- How many nodes the words so far call for, and how many of them have begun.
+pub record Shape : Type 0 where
+  pub called : ℕ
+  pub begun : ℕ
+
+unfoldable pub shapeAfter : Slot → ℕ → Shape → Shape
+shapeAfter operatorSlot w s = record { called = s .called; begun = suc (s .begun) }
+shapeAfter startSlot w s = s
+shapeAfter endSlot w s = s
+shapeAfter upperSlot w s = s
+shapeAfter lowerSlot w s = s
+shapeAfter countSlot w s = record { called = s .called + lowOf w; begun = s .begun }
+
+-- The word can stand next in a tree of at most 12,288 nodes: it is legal, a node is still called for, and no more nodes are than fit.
+unfoldable pub continues : Slot → ℕ → Shape → ℕ → Bool
+continues slot v s w =
+    elim (wordFault slot v w) [
+      | some n ↦ false
+      | none ↦ leb (shapeAfter slot w s .begun) (s .called) && leb (shapeAfter slot w s .called) mostNodes
+    ]
+
+-- The words are a whole tree: a node has just ended and none is called for any more.
+unfoldable pub isWhole : Slot → Shape → Bool
+isWhole operatorSlot s = eqb (s .begun) (s .called)
+isWhole startSlot s = false
+isWhole endSlot s = false
+isWhole upperSlot s = false
+isWhole lowerSlot s = false
+isWhole countSlot s = false
+
+-- Answer 12's place: the first word that cannot continue a tree, or the word count where the words run out; i is the next word's index.
+unfoldable pub treeFault : ℕ → Slot → ℕ → Shape → List ℕ → Option ℕ
+treeFault i slot v s [] = elim (isWhole slot s) [ true ↦ none | false ↦ some i ]
+treeFault i slot v s (w ∷ ws) =
+    elim (continues slot v s w) [
+      | false ↦ some i
+      | true ↦ treeFault (suc i) (nextInNode slot) (variantAfter slot v w) (shapeAfter slot w s) ws
+    ]
+
+-- The first n trees of a list, and those after them.
+unfoldable pub firstTrees : ℕ → Forest → Forest
+firstTrees zero f = nil
+firstTrees (suc n) nil = nil
+firstTrees (suc n) (node k cs rest) = node k cs (firstTrees n rest)
+
+unfoldable pub otherTrees : ℕ → Forest → Forest
+otherTrees zero f = f
+otherTrees (suc n) nil = nil
+otherTrees (suc n) (node k cs rest) = otherTrees n rest
+
+-- The trees of node words: each node takes as many of the trees after it as its count says.
+unfoldable pub treesOf : List ℕ → Forest
+treesOf [] = nil
+treesOf (a ∷ []) = nil
+treesOf (a ∷ b ∷ []) = nil
+treesOf (a ∷ b ∷ c ∷ []) = nil
+treesOf (a ∷ b ∷ c ∷ d ∷ []) = nil
+treesOf (a ∷ b ∷ c ∷ d ∷ e ∷ []) = nil
+treesOf (a ∷ b ∷ c ∷ d ∷ e ∷ n ∷ ws) =
+    let after = treesOf ws in node (tokenOf a b c d e) (firstTrees (lowOf n) after) (otherTrees (lowOf n) after)
+
+-- A call's tree words and the list to fill.
+pub record WriteCall : Type 0 where
+  pub tree : List ℕ
+  pub list : List ℕ
+
+unfoldable pub refusedAt : ℕ → Option ℕ → Option Refusal → Option Refusal
+refusedAt n none later = later
+refusedAt n (some place) later = some (record { number = n; place = place })
+
+unfoldable pub orElse : Option Refusal → Option Refusal → Option Refusal
+orElse none later = later
+orElse (some r) later = some r
+
+-- Answers 13-15 to a tree.
+unfoldable pub forestRefusal : Forest → ℕ → Option Refusal
+forestRefusal nil room = none
+forestRefusal (node k cs rest) room =
+    refusedAt 13 (unplainAt k cs)
+    (orElse (must (leb (writtenCount k cs) mostTokens) 14) (must (leb (5 * writtenCount k cs) room) 15))
+
+-- The table's last four lines, in their order.
+unfoldable pub writeRefusal : WriteCall → Option Refusal
+writeRefusal c =
+    refusedAt 12 (treeFault 0 operatorSlot 0 (record { called = 1; begun = 0 }) (c .tree)) (forestRefusal (treesOf (c .tree)) (length (c .list)))
+
+-- The written words of a tree.
+unfoldable pub writtenTokens : Forest → List Token
+writtenTokens nil = []
+writtenTokens (node k cs rest) = written k cs []
+
+-- What the caller is told: the token count, or a refusal.
+pub data WriteTold : Type 0 where
+  tokens : ℕ → WriteTold
+  unwritten : ℕ → ℕ → WriteTold
+
+unfoldable pub writeTold : Option Refusal → Forest → WriteTold
+writeTold (some r) f = unwritten (r .number) (r .place)
+writeTold none f = tokens (length (writtenTokens f))
+
+unfoldable pub writeAnswered : WriteCall → WriteTold
+writeAnswered c = writeTold (writeRefusal c) (treesOf (c .tree))
+
+unfoldable pub listIn : Option Refusal → Forest → List ℕ → List ℕ
+listIn (some r) f buffer = buffer
+listIn none f buffer = inFront (listWords (writtenTokens f)) buffer
+
+unfoldable pub listAfter : WriteCall → List ℕ
+listAfter c = listIn (writeRefusal c) (treesOf (c .tree)) (c .list)
