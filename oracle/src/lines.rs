@@ -1,0 +1,339 @@
+//! Lists with answers known beforehand: the lines of document 01's section 'Lists and their
+//! trees' that a reader can answer, and what was found where document 01 can be read two ways.
+//!
+//! A list is written with a space between its tokens: `a` to `e` are floats (61), the other signs
+//! are Molang's, `.` is a member accessor (45) and a number is an operator's. The token at place i
+//! has the span i to i + 1. A tree is written as document 01 does: `9(a,6(b))`.
+
+use crate::words::{Answer, Case, Record, Token, TreeNode, bit, exact_set};
+
+/// The signs of the notation and their operator numbers.
+const SIGNS: [(&str, u8); 28] = [
+    ("{", 0),
+    ("}", 1),
+    ("[", 2),
+    ("]", 3),
+    ("(", 4),
+    (")", 5),
+    ("-", 6),
+    ("!", 7),
+    ("+", 9),
+    ("/", 20),
+    ("*", 31),
+    (".", 45),
+    ("<", 50),
+    ("<=", 51),
+    (">=", 52),
+    (">", 53),
+    ("==", 54),
+    ("!=", 55),
+    ("||", 56),
+    ("&&", 57),
+    ("??", 58),
+    ("?", 59),
+    (":", 60),
+    ("=", 71),
+    ("->", 72),
+    (";", 73),
+    ("return", 74),
+    (",", 75),
+];
+
+const FLOAT: u8 = 61;
+const LETTERS: &str = "abcde";
+
+/// At which raw versions a line holds.
+#[derive(Copy, Clone, Debug)]
+pub enum At {
+    Every,
+    Only(&'static [i16]),
+}
+
+/// What a line says.
+#[derive(Clone, Debug)]
+pub enum Says {
+    Tree(&'static str),
+    Messages(Vec<Record>),
+}
+
+/// A list and what is answered to it.
+#[derive(Clone, Debug)]
+pub struct Line {
+    pub story: &'static str,
+    /// The list, with the first version the line holds at.
+    pub case: Case,
+    pub at: At,
+    pub says: Says,
+}
+
+impl Line {
+    /// The case at another version.
+    pub fn at_version(&self, version: i16) -> Case {
+        Case {
+            version,
+            ..self.case.clone()
+        }
+    }
+
+    /// The versions under which the line is kept among the vectors.
+    pub fn kept_versions(&self) -> &'static [i16] {
+        match self.at {
+            At::Every => &[i16::MIN, -1, 4, 5, 6, 13, 14, i16::MAX],
+            At::Only(versions) => versions,
+        }
+    }
+
+    /// Whether `answer` is what the line says.
+    pub fn agrees(&self, answer: &Answer) -> bool {
+        match &self.says {
+            Says::Tree(tree) => notation(&answer.nodes()) == *tree,
+            Says::Messages(records) => answer.records() == records,
+        }
+    }
+}
+
+/// The operator number of a sign or number of the notation.
+pub fn op_of(sign: &str) -> u8 {
+    if LETTERS.contains(sign) {
+        return FLOAT;
+    }
+    SIGNS
+        .iter()
+        .find(|(known, _)| *known == sign)
+        .map_or_else(|| sign.parse().expect("a sign or a number"), |(_, op)| *op)
+}
+
+/// The tokens of a list in the notation.
+pub fn tokens_of(list: &str) -> Vec<Token> {
+    list.split_whitespace()
+        .enumerate()
+        .map(|(place, sign)| {
+            let letter = LETTERS.find(sign);
+            Token {
+                op: op_of(sign),
+                variant: u8::from(letter.is_some()),
+                value: letter.map_or(0, |letter| (letter as f32 + 1.0).to_bits()),
+                start: place as u32,
+                end: place as u32 + 1,
+            }
+        })
+        .collect()
+}
+
+/// The list with its exact used set and its length as source length, at version 6.
+pub fn case_of(list: &str) -> Case {
+    let tokens = tokens_of(list);
+    Case {
+        used: exact_set(&tokens),
+        source_len: tokens.len() as u32,
+        version: 6,
+        tokens,
+    }
+}
+
+/// A tree in the notation.
+pub fn notation(nodes: &[TreeNode]) -> String {
+    let mut text = String::new();
+    let mut awaited: Vec<u32> = Vec::new();
+    for node in nodes {
+        let letter = (0..LETTERS.len()).find(|&letter| {
+            let bits = (letter as f32 + 1.0).to_bits();
+            (node.token.op, node.token.variant, node.token.value) == (FLOAT, 1, bits)
+        });
+        match letter {
+            Some(letter) => text.push_str(&LETTERS[letter..=letter]),
+            None => text.push_str(&node.token.op.to_string()),
+        }
+        if node.children > 0 {
+            text.push('(');
+            awaited.push(node.children);
+            continue;
+        }
+        while let Some(left) = awaited.last_mut() {
+            *left -= 1;
+            if *left > 0 {
+                text.push(',');
+                break;
+            }
+            text.push(')');
+            awaited.pop();
+        }
+    }
+    text
+}
+
+fn record<const N: usize>(number: u32, span: (u32, u32), arguments: [u32; N]) -> Record {
+    let mut record = [0; 8];
+    (record[0], record[1], record[2]) = (number, span.0, span.1);
+    record[3..3 + N].copy_from_slice(&arguments);
+    record
+}
+
+fn line(list: &'static str, at: At, says: Says) -> Line {
+    let mut case = case_of(list);
+    if let At::Only(versions) = at {
+        case.version = versions[0];
+    }
+    Line {
+        story: list,
+        case,
+        at,
+        says,
+    }
+}
+
+fn tree(list: &'static str, tree: &'static str) -> Line {
+    line(list, At::Every, Says::Tree(tree))
+}
+
+fn tree_at(list: &'static str, versions: &'static [i16], tree: &'static str) -> Line {
+    line(list, At::Only(versions), Says::Tree(tree))
+}
+
+fn messages<const N: usize>(list: &'static str, records: [Record; N]) -> Line {
+    line(list, At::Every, Says::Messages(records.to_vec()))
+}
+
+const BELOW_5: &[i16] = &[4, i16::MIN, -7, -1, 0, 1, 2, 3];
+const TO_5: &[i16] = &[5, i16::MIN, -1, 0, 3, 4];
+const FROM_5: &[i16] = &[5, 6, 7, 12, 13, 14, i16::MAX];
+const FROM_6: &[i16] = &[6, 7, 12, 13, 14, i16::MAX];
+
+/// The lines of document 01 that a reader answers, in its order.
+pub fn lines() -> Vec<Line> {
+    let at_5 = |list, records: Record| line(list, At::Only(FROM_5), Says::Messages(vec![records]));
+    vec![
+        messages("", [record(1, (0, 0), [0])]),
+        tree("a", "a"),
+        messages("a b", [record(1, (0, 2), [2])]),
+        tree("a - b", "9(a,6(b))"),
+        tree("a - - b", "9(a,b)"),
+        messages("- - b", [record(12, (0, 1), [9])]),
+        tree("a * b / c", "31(a,20(b,c))"),
+        tree_at("a && b || c", TO_5, "57(a,56(b,c))"),
+        tree_at("a && b || c", FROM_6, "56(57(a,b),c)"),
+        tree_at("a > b == c", TO_5, "53(a,54(b,c))"),
+        tree_at("a > b == c", FROM_6, "54(53(a,b),c)"),
+        tree_at("a ? b : c ? d : e", BELOW_5, "59(59(a,60(b,c)),60(d,e))"),
+        tree_at("a ? b : c ? d : e", FROM_5, "59(a,60(b,59(c,60(d,e))))"),
+        tree("a + +", "9(a,9)"),
+        tree(")", "5"),
+        messages(
+            "( a ]",
+            [
+                record(4, (0, 3), [1, 4, 5, 3, 2]),
+                record(5, (0, 1), [5, 4]),
+            ],
+        ),
+        tree("( a b )", "4(a,b)"),
+        messages("a ->", [record(12, (1, 2), [72]), record(1, (0, 2), [0])]),
+        messages("40 ( )", [record(7, (0, 2), [40])]),
+        tree("36 ( )", "36(4)"),
+        tree_at("a : b", BELOW_5, "60(a,b)"),
+        at_5("a : b", record(17, (1, 2), [60])),
+        tree_at("a + b", FROM_6, "9(a,b)"),
+    ]
+}
+
+/// What was found where document 01 can be read two ways, each with its smallest list.
+pub fn findings() -> Vec<Line> {
+    vec![
+        return_keeps_its_operand(),
+        named(
+            "a brace with children makes the minus after it unary",
+            messages("{ a } - b", [record(1, (0, 5), [2])]),
+        ),
+        named(
+            "a bracket with children is an operand before a minus",
+            tree("( a ) - b", "9(4(a),6(b))"),
+        ),
+        named(
+            "a loop with children makes the minus after it unary",
+            with_used(
+                messages("67 ( a ) - b", [record(1, (0, 6), [2])]),
+                &[4, 5, 6, 61, 67],
+            ),
+        ),
+        named(
+            "return enters the operands that addition gathered",
+            tree("return + a", "9(74(a))"),
+        ),
+        named(
+            "addition enters the operands that multiplication gathered",
+            messages("a * +", [record(12, (2, 3), [9])]),
+        ),
+        named(
+            "an unfolded left side is walked again and fails at its operator",
+            messages("a + + + b", [record(12, (2, 3), [9])]),
+        ),
+        named(
+            "the outer operator's missing operand is seen before the left side is walked again",
+            messages("a + + +", [record(12, (3, 4), [9])]),
+        ),
+        named(
+            "in a list with semicolons a query's arguments keep theirs as leaves",
+            tree("40 ( a ; ) ;", "73(73(40(4(a,73))))"),
+        ),
+        named(
+            "in a list with semicolons an index keeps its own as leaves",
+            tree("[ a ; ] ;", "73(73(2(a,73)))"),
+        ),
+        named(
+            "in a list without semicolons a query's arguments are entered",
+            tree("( 40 ( a ; ) ) ;", "73(73(4(40(4(73(73(a)))))))"),
+        ),
+        named(
+            "with 67 alone in the used set the call pass does not run",
+            with_used(messages("67 (", [record(1, (0, 2), [2])]), &[67]),
+        ),
+        named(
+            "with a query beside it in the used set the call pass runs",
+            with_used(messages("67 (", [record(7, (0, 2), [67])]), &[40, 67]),
+        ),
+        named(
+            "counting roots leaves out what stands in brackets",
+            tree("( a b c )", "4(a,b,c)"),
+        ),
+        named(
+            "an array takes the contents of its sections",
+            tree("41 [ a ] [ b ]", "63(a,b)"),
+        ),
+        named(
+            "a math call that is the last token names its host function's value",
+            host_function(messages("109", [record(8, (0, 1), [109, 7])])),
+        ),
+        named(
+            "the payload's variant decides over the value, not the operator",
+            host_function(messages("36 a", [record(9, (0, 1), [36, 7])])),
+        ),
+        named(
+            "messages other than 8 and 9 do not give the host function's value",
+            host_function(messages("+ a", [record(12, (0, 1), [9])])),
+        ),
+    ]
+}
+
+fn return_keeps_its_operand() -> Line {
+    named(
+        "return takes its operand as it is",
+        tree("return ( return a ) ;", "73(73(74(4(74,a))))"),
+    )
+}
+
+fn named(story: &'static str, line: Line) -> Line {
+    Line { story, ..line }
+}
+
+fn with_used(mut line: Line, ops: &[u8]) -> Line {
+    line.case.used = ops.iter().fold((0, 0), |used, &op| {
+        let bit = bit(op);
+        (used.0 | bit.0, used.1 | bit.1)
+    });
+    line
+}
+
+/// The line with the first token's payload a host math function of value 7.
+fn host_function(mut line: Line) -> Line {
+    (line.case.tokens[0].variant, line.case.tokens[0].value) = (12, 7);
+    line
+}
