@@ -94,7 +94,7 @@ fn main() {
         write_table(&source, &out);
         copy_version(&source, &crate_folder, &out);
         for slip in &SLIPS {
-            plant(slip, &source, &out);
+            plant(slip, &source, &crate_folder, &out);
         }
     }
 }
@@ -149,7 +149,7 @@ fn copy_version(source: &Path, crate_folder: &Path, out: &Path) {
 }
 
 /// Copies the tree and pass files with the slip in its file and the paths moved to its module.
-fn plant(slip: &Slip, source: &Path, out: &Path) {
+fn plant(slip: &Slip, source: &Path, crate_folder: &Path, out: &Path) {
     let folder = out.join("slips").join(slip.name);
     let home = format!("crate::slips::{}::compile", slip.name);
     for file in UNCHANGED.iter().filter(|f| f.starts_with("compile/")) {
@@ -164,7 +164,8 @@ fn plant(slip: &Slip, source: &Path, out: &Path) {
         write(&folder.join(file), &text.replace("crate::compile", &home));
     }
     let compile = module("pub(crate) ", "ast", &folder.join("compile/ast.rs"))
-        + &module("", "parse", &folder.join("compile/parse/mod.rs"));
+        + &module("", "parse", &folder.join("compile/parse/mod.rs"))
+        + &module("", "cx", &crate_folder.join("src/shim/cx.rs"));
     write(&folder.join("compile.rs"), &compile);
 }
 
