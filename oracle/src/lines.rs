@@ -291,6 +291,31 @@ pub fn findings() -> Vec<Line> {
             with_used(messages("67 (", [record(7, (0, 2), [67])]), &[40, 67]),
         ),
         named(
+            "a bracket that was not made a section is an empty argument list",
+            with_used(tree("36 (", "36(4)"), &[36]),
+        ),
+        named(
+            "a bracket that was not made a section is an empty index",
+            with_used(messages("41 [", [record(11, (0, 2), [])]), &[41]),
+        ),
+        named(
+            "with an empty used set no pass runs",
+            with_used(messages("a - b", [record(1, (0, 3), [3])]), &[]),
+        ),
+        named(
+            "a used set with an assignment asks for a semicolon that the list has no use for",
+            with_used(messages("a", [record(2, (0, 1), [])]), &[71]),
+        ),
+        named(
+            "an empty list that should end with a semicolon is told so over the whole source",
+            with_used(messages("", [record(2, (0, 0), [])]), &[73]),
+        ),
+        named(
+            "a closer is in no extent",
+            messages("( a ) ( b )", [record(1, (0, 5), [2])]),
+        ),
+        backwards(),
+        named(
             "counting roots leaves out what stands in brackets",
             tree("( a b c )", "4(a,b,c)"),
         ),
@@ -318,6 +343,14 @@ fn return_keeps_its_operand() -> Line {
         "return takes its operand as it is",
         tree("return ( return a ) ;", "73(73(74(4(74,a))))"),
     )
+}
+
+/// The first root's start and the last one's end, as they are.
+fn backwards() -> Line {
+    let mut line = messages("a b", [record(1, (9, 1), [2])]);
+    (line.case.tokens[0].start, line.case.tokens[0].end) = (9, 7);
+    (line.case.tokens[1].start, line.case.tokens[1].end) = (4, 1);
+    named("the span of message 1 may run backwards", line)
 }
 
 fn named(story: &'static str, line: Line) -> Line {

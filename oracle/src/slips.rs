@@ -93,3 +93,18 @@ fn a_semicolon_pass_that_enters_every_node_is_exposed() {
     assert_eq!(without, "73(73(40(4(a,73))))");
     exposed(semicolons_everywhere::compile::answer);
 }
+
+/// Where the second walk makes a difference it is this one: it ends in message 12.
+#[test]
+fn the_second_walk_of_an_unfolded_left_side_never_succeeds() {
+    let mut different = 0;
+    for case in Mixed::new(3, 12).take(100_000) {
+        let answer = crate::answer_case(&case);
+        if no_second_walk::compile::answer(&case) != answer {
+            different += 1;
+            assert_eq!(answer.records()[0][0], 12, "{case:?}");
+        }
+    }
+    assert!(different > 50);
+    println!("{different} of 100000 lists have such a left side");
+}

@@ -191,3 +191,57 @@ pub fn exact_set(tokens: &[Token]) -> (u64, u64) {
 
 /// The used set of all 111 operators.
 pub const FULL_SET: (u64, u64) = (u64::MAX, (1 << 47) - 1);
+
+#[cfg(test)]
+mod tests {
+    use super::*;
+
+    fn node(op: u8, children: u32) -> TreeNode {
+        let token = Token {
+            op,
+            variant: 12,
+            value: 0xFFFE_0001,
+            start: LAST_PLACE,
+            end: 0,
+        };
+        TreeNode { token, children }
+    }
+
+    #[test]
+    fn a_token_is_its_five_words() {
+        let token = node(110, 0).token;
+        let words = [
+            0x2000_0C6E,
+            0x5FFF_FFFF,
+            0x6000_0000,
+            0x8000_FFFE,
+            0xA000_0001,
+        ];
+        assert_eq!(token.words(), words);
+        assert_eq!(Token::of_words(&words), Some(token));
+        assert_eq!(Token::of_words(&words[..4]), None);
+    }
+
+    #[test]
+    fn a_tree_is_exactly_as_many_nodes_as_its_counts_say() {
+        let nodes = [node(9, 2), node(61, 0), node(6, 1), node(61, 0)];
+        let words = tree_words(&nodes);
+        assert_eq!(words[5], 0xC000_0002);
+        assert_eq!(decode_tree(&words), Some(nodes.to_vec()));
+        for len in 0..words.len() {
+            assert_eq!(decode_tree(&words[..len]), None, "cut to {len} words");
+        }
+        let two = [&words[..], &words[..]].concat();
+        assert_eq!(decode_tree(&two), None);
+    }
+
+    #[test]
+    fn a_used_set_has_operator_0_lowest_and_110_highest() {
+        assert_eq!(bit(0), (1, 0));
+        assert_eq!(bit(63), (1 << 63, 0));
+        assert_eq!(bit(64), (0, 1));
+        assert!((0..=LAST_OP).all(|op| has(FULL_SET, op) && has(bit(op), op)));
+        let all: Vec<Token> = (0..=LAST_OP).map(|op| node(op, 0).token).collect();
+        assert_eq!(exact_set(&all), FULL_SET);
+    }
+}

@@ -54,8 +54,14 @@ fn lists_of_4095_and_4096_tokens_are_taken_and_of_4097_turned_back() {
 
 #[test]
 fn no_list_is_longer_than_asked_and_none_is_turned_back() {
-    for (seed, most) in [(1, 1), (2, 3), (3, 12), (4, 40), (5, 300)] {
-        for case in Mixed::new(seed, most).take(2_000) {
+    for (most, count) in [
+        (1, 2_000),
+        (3, 2_000),
+        (12, 2_000),
+        (300, 2_000),
+        (4096, 200),
+    ] {
+        for case in Mixed::new(most as u64, most).take(count) {
             assert!(case.tokens.len() <= most);
             assert_eq!(refusal(&Call::of(&case)), None, "{case:?}");
         }
@@ -101,11 +107,16 @@ fn the_mixed_lists_have_every_operator_payload_version_and_used_set() {
 fn damage_is_turned_back_where_it_was_done() {
     let mut rng = Rng::new(5);
     let mut numbers = [0; 12];
+    let mut fields = BTreeSet::new();
     for case in Mixed::new(6, 10).take(6_000) {
         let (call, expected) = damaged(&mut rng, &case);
         assert_eq!(refusal(&call), Some(expected), "{call:?}");
         numbers[expected.number as usize] += 1;
+        fields.insert((expected.number, expected.place % 5));
     }
+    let kinds = (0..5).map(|field| (8, field));
+    let bits = [(9, 0), (10, 0), (11, 0), (11, 3), (11, 4)];
+    assert!(kinds.chain(bits).all(|field| fields.contains(&field)));
     assert!(numbers[1..].iter().all(|&count| count > 50), "{numbers:?}");
 }
 
