@@ -10,7 +10,8 @@
 //!   beside them;
 //! - `slips/`, copies of the tree and pass files with one planted slip each, for the tests.
 //!
-//! Without it nothing is written and the crate is built without the comparison.
+//! Without it nothing is written and the crate is built without the comparison. A folder that has
+//! some of the files and not others stops the build, and so does a slip that finds no place.
 
 use std::fmt::Write as _;
 use std::path::{Path, PathBuf};
@@ -87,7 +88,11 @@ fn main() {
     for file in UNCHANGED {
         println!("cargo::rerun-if-changed={}", source.join(file).display());
     }
-    if UNCHANGED.iter().all(|file| source.join(file).is_file()) {
+    let missing: Vec<_> = UNCHANGED
+        .iter()
+        .filter(|file| !source.join(file).is_file())
+        .collect();
+    if missing.is_empty() {
         let source = source.canonicalize().expect("the source folder is there");
         println!("cargo::rustc-cfg=molangx");
         write_modules(&source, &out);
@@ -96,6 +101,9 @@ fn main() {
         for slip in &SLIPS {
             plant(slip, &source, &crate_folder, &out);
         }
+    } else if missing.len() < UNCHANGED.len() {
+        // Half a source is a mistake, not a source that is not at hand.
+        panic!("{} has no {missing:?}", source.display());
     }
 }
 
