@@ -6,6 +6,7 @@
 //! has the span i to i + 1. A tree is written as document 01 does: `9(a,6(b))`.
 
 use crate::words::{Answer, Case, Record, Token, TreeNode, bit, exact_set};
+use std::ops::RangeInclusive;
 
 /// The signs of the notation and their operator numbers.
 const SIGNS: [(&str, u8); 28] = [
@@ -39,15 +40,10 @@ const SIGNS: [(&str, u8); 28] = [
     (",", 75),
 ];
 
+const KEPT_VERSIONS: [i16; 12] = [i16::MIN, -1, 0, 3, 4, 5, 6, 7, 12, 13, 14, i16::MAX];
+
 const FLOAT: u8 = 61;
 const LETTERS: &str = "abcde";
-
-/// At which raw versions a line holds.
-#[derive(Copy, Clone, Debug)]
-pub enum At {
-    Every,
-    Only(&'static [i16]),
-}
 
 /// What a line says.
 #[derive(Clone, Debug)]
@@ -60,9 +56,10 @@ pub enum Says {
 #[derive(Clone, Debug)]
 pub struct Line {
     pub story: &'static str,
-    /// The list, with the first version the line holds at.
+    /// The list, at the version that the line names, or 6.
     pub case: Case,
-    pub at: At,
+    /// The raw versions at which it is answered like this.
+    pub versions: RangeInclusive<i16>,
     pub says: Says,
 }
 
@@ -75,12 +72,11 @@ impl Line {
         }
     }
 
-    /// The versions under which the line is kept among the vectors.
-    pub fn kept_versions(&self) -> &'static [i16] {
-        match self.at {
-            At::Every => &[i16::MIN, -1, 4, 5, 6, 13, 14, i16::MAX],
-            At::Only(versions) => versions,
-        }
+    /// The versions at which the line is kept among the vectors.
+    pub fn kept_versions(&self) -> impl Iterator<Item = i16> {
+        KEPT_VERSIONS
+            .into_iter()
+            .filter(|version| self.versions.contains(version))
     }
 
     /// Whether `answer` is what the line says.
@@ -169,39 +165,39 @@ fn record<const N: usize>(number: u32, span: (u32, u32), arguments: [u32; N]) ->
     record
 }
 
-fn line(list: &'static str, at: At, says: Says) -> Line {
-    let mut case = case_of(list);
-    if let At::Only(versions) = at {
-        case.version = versions[0];
-    }
+fn line(list: &'static str, says: Says) -> Line {
     Line {
         story: list,
-        case,
-        at,
+        case: case_of(list),
+        versions: i16::MIN..=i16::MAX,
         says,
     }
 }
 
 fn tree(list: &'static str, tree: &'static str) -> Line {
-    line(list, At::Every, Says::Tree(tree))
-}
-
-fn tree_at(list: &'static str, versions: &'static [i16], tree: &'static str) -> Line {
-    line(list, At::Only(versions), Says::Tree(tree))
+    line(list, Says::Tree(tree))
 }
 
 fn messages<const N: usize>(list: &'static str, records: [Record; N]) -> Line {
-    line(list, At::Every, Says::Messages(records.to_vec()))
+    line(list, Says::Messages(records.to_vec()))
 }
 
-const BELOW_5: &[i16] = &[4, i16::MIN, -7, -1, 0, 1, 2, 3];
-const TO_5: &[i16] = &[5, i16::MIN, -1, 0, 3, 4];
-const FROM_5: &[i16] = &[5, 6, 7, 12, 13, 14, i16::MAX];
-const FROM_6: &[i16] = &[6, 7, 12, 13, 14, i16::MAX];
+/// The line as it is answered up to a version.
+fn to(version: i16, mut line: Line) -> Line {
+    line.case.version = version;
+    line.versions = i16::MIN..=version;
+    line
+}
+
+/// The line as it is answered from a version on.
+fn from(version: i16, mut line: Line) -> Line {
+    line.case.version = version;
+    line.versions = version..=i16::MAX;
+    line
+}
 
 /// The lines of document 01 that a reader answers, in its order.
 pub fn lines() -> Vec<Line> {
-    let at_5 = |list, records: Record| line(list, At::Only(FROM_5), Says::Messages(vec![records]));
     vec![
         messages("", [record(1, (0, 0), [0])]),
         tree("a", "a"),
@@ -210,12 +206,12 @@ pub fn lines() -> Vec<Line> {
         tree("a - - b", "9(a,b)"),
         messages("- - b", [record(12, (0, 1), [9])]),
         tree("a * b / c", "31(a,20(b,c))"),
-        tree_at("a && b || c", TO_5, "57(a,56(b,c))"),
-        tree_at("a && b || c", FROM_6, "56(57(a,b),c)"),
-        tree_at("a > b == c", TO_5, "53(a,54(b,c))"),
-        tree_at("a > b == c", FROM_6, "54(53(a,b),c)"),
-        tree_at("a ? b : c ? d : e", BELOW_5, "59(59(a,60(b,c)),60(d,e))"),
-        tree_at("a ? b : c ? d : e", FROM_5, "59(a,60(b,59(c,60(d,e))))"),
+        to(5, tree("a && b || c", "57(a,56(b,c))")),
+        from(6, tree("a && b || c", "56(57(a,b),c)")),
+        to(5, tree("a > b == c", "53(a,54(b,c))")),
+        from(6, tree("a > b == c", "54(53(a,b),c)")),
+        to(4, tree("a ? b : c ? d : e", "59(59(a,60(b,c)),60(d,e))")),
+        from(5, tree("a ? b : c ? d : e", "59(a,60(b,59(c,60(d,e))))")),
         tree("a + +", "9(a,9)"),
         tree(")", "5"),
         messages(
@@ -229,9 +225,9 @@ pub fn lines() -> Vec<Line> {
         messages("a ->", [record(12, (1, 2), [72]), record(1, (0, 2), [0])]),
         messages("40 ( )", [record(7, (0, 2), [40])]),
         tree("36 ( )", "36(4)"),
-        tree_at("a : b", BELOW_5, "60(a,b)"),
-        at_5("a : b", record(17, (1, 2), [60])),
-        tree_at("a + b", FROM_6, "9(a,b)"),
+        to(4, tree("a : b", "60(a,b)")),
+        from(5, messages("a : b", [record(17, (1, 2), [60])])),
+        tree("a + b", "9(a,b)"),
     ]
 }
 

@@ -1,15 +1,14 @@
 //! Document 01's section 'Lists and their trees', and what was found beside it.
 
-#[cfg(molangx)]
-use oracle::lines::Line;
-use oracle::lines::{At, findings, lines, notation};
+use oracle::lines::{case_of, findings, lines, notation, tokens_of};
+use oracle::words::TreeNode;
 
 #[cfg(molangx)]
 mod with_the_rust {
     use super::*;
     use oracle::answer_case;
-    use oracle::lines::case_of;
-    use oracle::words::{Answer, TreeNode, decode_tree};
+    use oracle::lines::Line;
+    use oracle::words::{Answer, decode_tree};
 
     fn check(line: &Line, version: i16) {
         let answer = answer_case(&line.at_version(version));
@@ -26,9 +25,8 @@ mod with_the_rust {
     #[test]
     fn every_line_of_document_01_is_the_rusts_answer() {
         for line in lines() {
-            match line.at {
-                At::Every => (i16::MIN..=i16::MAX).for_each(|version| check(&line, version)),
-                At::Only(versions) => versions.iter().for_each(|&version| check(&line, version)),
+            for version in line.versions.clone() {
+                check(&line, version);
             }
         }
     }
@@ -36,7 +34,7 @@ mod with_the_rust {
     #[test]
     fn every_finding_is_the_rusts_answer() {
         for line in findings() {
-            for &version in line.kept_versions() {
+            for version in line.versions.clone() {
                 check(&line, version);
             }
         }
@@ -121,20 +119,37 @@ mod with_the_rust {
 #[test]
 fn the_comparison_with_the_rust_is_left_out_and_this_says_so() {
     use std::io::Write as _;
-    // Past the test harness, which keeps back what a passing test prints.
+    // Past the test harness, which keeps back what a passing test prints and may be in mid-line.
     let _ = writeln!(
         std::io::stderr(),
-        "oracle: the Rust source is not at hand (MOLANGX_SRC), the comparison with it was left out"
+        "\noracle: the Rust source is not at hand (MOLANGX_SRC), the comparison with it was left out"
     );
 }
 
 #[test]
-fn a_line_says_what_it_says_at_every_version_or_at_some() {
+fn a_line_holds_at_the_version_it_names_and_is_kept_there() {
     for line in lines().iter().chain(&findings()) {
-        assert!(!line.kept_versions().is_empty(), "{}", line.story);
-        if let At::Only(versions) = line.at {
-            assert_eq!(line.case.version, versions[0], "{}", line.story);
-        }
+        let named = line.case.version;
+        assert!(line.versions.contains(&named), "{}", line.story);
+        assert!(line.kept_versions().any(|version| version == named));
     }
-    assert_eq!(notation(&[]), "");
+}
+
+#[test]
+fn lists_and_trees_are_written_as_document_01_writes_them() {
+    let case = case_of("a ? ( 40 . ) : - b ;");
+    let ops: Vec<u8> = case.tokens.iter().map(|token| token.op).collect();
+    assert_eq!(ops, [61, 59, 4, 40, 45, 5, 60, 6, 61, 73]);
+    let node = |sign: &str, children| TreeNode {
+        token: tokens_of(sign)[0],
+        children,
+    };
+    let nodes = [
+        node("+", 3),
+        node("a", 0),
+        node("-", 1),
+        node("(", 0),
+        node("b", 0),
+    ];
+    assert_eq!(notation(&nodes), "9(a,6(4),b)");
 }

@@ -163,7 +163,7 @@ fn kept(line: &Line, version: i16, records: &[(Case, Answer)]) -> bool {
 fn every_line_of_document_01_and_every_finding_is_kept() {
     let records = answered();
     for line in lines().iter().chain(&findings()) {
-        for &version in line.kept_versions() {
+        for version in line.kept_versions() {
             assert!(
                 kept(line, version, &records),
                 "{} at {version}: {:?} is not kept",

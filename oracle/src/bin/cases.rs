@@ -1,6 +1,7 @@
 //! Prints cases with their answers as plain lines of numbers.
 
 use oracle::generate::dress;
+use oracle::lines::{Line, findings, lines};
 use oracle::vectors::{Stored, stored};
 use oracle::words::{Answer, Case, FULL_SET, Token, decode_tree, exact_set};
 use std::io::Write;
@@ -174,21 +175,19 @@ fn wanted() -> Vec<Wanted> {
 /// The lines of document 01 and the findings, as the kept answers have them.
 fn known(most: usize) -> Vec<(Case, Answer)> {
     let kept = stored();
-    let lines = oracle::lines::lines()
-        .into_iter()
-        .chain(oracle::lines::findings());
-    lines
-        .filter(|line| line.case.tokens.len() <= most)
-        .filter_map(|line| {
-            kept.iter().find_map(|stored| match stored {
-                Stored::Answered(case, answer)
-                    if *case == line.at_version(line.kept_versions()[0]) =>
-                {
-                    Some((case.clone(), answer.clone()))
-                }
-                _ => None,
-            })
+    let answer = |line: Line| {
+        kept.iter().find_map(|stored| match stored {
+            Stored::Answered(case, answer) if *case == line.case => {
+                Some((case.clone(), answer.clone()))
+            }
+            _ => None,
         })
+    };
+    lines()
+        .into_iter()
+        .chain(findings())
+        .filter(|line| line.case.tokens.len() <= most)
+        .filter_map(answer)
         .collect()
 }
 

@@ -43,8 +43,8 @@ fn plain(ops: &[u8], version: i16) -> Case {
 fn documented() -> Vec<Case> {
     let mut cases = Vec::new();
     for line in lines().iter().chain(&findings()) {
-        let versions = line.kept_versions().iter();
-        cases.extend(versions.map(|&version| line.at_version(version)));
+        let versions = line.kept_versions();
+        cases.extend(versions.map(|version| line.at_version(version)));
     }
     cases
 }
