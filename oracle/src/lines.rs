@@ -231,32 +231,40 @@ pub fn lines() -> Vec<Line> {
     ]
 }
 
-/// What was found where document 01 can be read two ways, each with its smallest list.
+/// What was found where document 01 can be read two ways, each with a smallest list.
 pub fn findings() -> Vec<Line> {
     vec![
-        return_keeps_its_operand(),
+        named(
+            "return takes its operand as it is",
+            tree("return ! return", "74(7(74))"),
+        ),
+        named(
+            "return takes a bracket as it is",
+            tree("return ( return a ) ;", "73(73(74(4(74,a))))"),
+        ),
         named(
             "a brace with children makes the minus after it unary",
             messages("{ a } - b", [record(1, (0, 5), [2])]),
+        ),
+        named(
+            "a loop with children makes the minus after it unary",
+            messages("67 ( a ) - b", [record(1, (0, 6), [2])]),
         ),
         named(
             "a bracket with children is an operand before a minus",
             tree("( a ) - b", "9(4(a),6(b))"),
         ),
         named(
-            "a loop with children makes the minus after it unary",
-            with_used(
-                messages("67 ( a ) - b", [record(1, (0, 6), [2])]),
-                &[4, 5, 6, 61, 67],
-            ),
+            "addition enters the operand that not took",
+            messages("! +", [record(12, (1, 2), [9])]),
         ),
         named(
-            "return enters the operands that addition gathered",
-            tree("return + a", "9(74(a))"),
-        ),
-        named(
-            "addition enters the operands that multiplication gathered",
+            "addition enters the operands that multiplication took",
             messages("a * +", [record(12, (2, 3), [9])]),
+        ),
+        named(
+            "return enters the operands that addition took",
+            tree("return + a", "9(74(a))"),
         ),
         named(
             "an unfolded left side is walked again and fails at its operator",
@@ -267,16 +275,28 @@ pub fn findings() -> Vec<Line> {
             messages("a + + +", [record(12, (3, 4), [9])]),
         ),
         named(
-            "in a list with semicolons a query's arguments keep theirs as leaves",
-            tree("40 ( a ; ) ;", "73(73(40(4(a,73))))"),
+            "in a list with semicolons an index keeps its own as leaves",
+            tree("[ ; ] ;", "73(73(2(73)))"),
         ),
         named(
-            "in a list with semicolons an index keeps its own as leaves",
-            tree("[ a ; ] ;", "73(73(2(a,73)))"),
+            "in a list with semicolons a query's arguments keep theirs as leaves",
+            tree("40 ( ; ) ;", "73(73(40(4(73))))"),
+        ),
+        named(
+            "in a list without semicolons an index is entered",
+            messages("( [ ; ] ) ;", [record(10, (2, 3), [])]),
         ),
         named(
             "in a list without semicolons a query's arguments are entered",
             tree("( 40 ( a ; ) ) ;", "73(73(4(40(4(73(73(a)))))))"),
+        ),
+        named(
+            "an array takes the contents of all its sections",
+            tree("41 [ a ] [ b ]", "63(a,b)"),
+        ),
+        named(
+            "an array's name that ends one section takes the section that begins the next",
+            tree("41 [ 41 ] [ [ a ] ]", "63(63(a))"),
         ),
         named(
             "with 67 alone in the used set the call pass does not run",
@@ -296,49 +316,38 @@ pub fn findings() -> Vec<Line> {
         ),
         named(
             "with an empty used set no pass runs",
-            with_used(messages("a - b", [record(1, (0, 3), [3])]), &[]),
-        ),
-        named(
-            "a used set with an assignment asks for a semicolon that the list has no use for",
-            with_used(messages("a", [record(2, (0, 1), [])]), &[71]),
+            with_used(tree("-", "6"), &[]),
         ),
         named(
             "an empty list that should end with a semicolon is told so over the whole source",
             with_used(messages("", [record(2, (0, 0), [])]), &[73]),
         ),
         named(
+            "a used set with an assignment asks for a semicolon that the list has no use for",
+            with_used(messages("a", [record(2, (0, 1), [])]), &[71]),
+        ),
+        named(
             "a closer is in no extent",
-            messages("( a ) ( b )", [record(1, (0, 5), [2])]),
+            messages("a ( )", [record(1, (0, 2), [2])]),
         ),
         backwards(),
-        named(
-            "counting roots leaves out what stands in brackets",
-            tree("( a b c )", "4(a,b,c)"),
-        ),
-        named(
-            "an array takes the contents of its sections",
-            tree("41 [ a ] [ b ]", "63(a,b)"),
-        ),
         named(
             "a math call that is the last token names its host function's value",
             host_function(messages("109", [record(8, (0, 1), [109, 7])])),
         ),
         named(
             "the payload's variant decides over the value, not the operator",
+            host_function(messages("36", [record(8, (0, 1), [36, 7])])),
+        ),
+        named(
+            "a math call without a bracket names its host function's value",
             host_function(messages("36 a", [record(9, (0, 1), [36, 7])])),
         ),
         named(
             "messages other than 8 and 9 do not give the host function's value",
-            host_function(messages("+ a", [record(12, (0, 1), [9])])),
+            host_function(messages("+", [record(12, (0, 1), [9])])),
         ),
     ]
-}
-
-fn return_keeps_its_operand() -> Line {
-    named(
-        "return takes its operand as it is",
-        tree("return ( return a ) ;", "73(73(74(4(74,a))))"),
-    )
 }
 
 /// The first root's start and the last one's end, as they are.

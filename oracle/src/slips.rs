@@ -1,10 +1,11 @@
 //! Four slips that a quick trial does not show, planted in copies of the pass files (`build.rs`
 //! makes them). The generator has to expose each within a few thousand lists.
 
-use crate::generate::Mixed;
+use crate::generate::alphabets::ONE_OF_EACH;
+use crate::generate::{Mixed, dress};
 use crate::lines::{case_of, notation};
 use crate::vectors::{Stored, stored};
-use crate::words::{Answer, Case};
+use crate::words::{Answer, Case, exact_set};
 
 macro_rules! slip {
     ($name:ident, $file:literal) => {
@@ -92,6 +93,34 @@ fn a_semicolon_pass_that_enters_every_node_is_exposed() {
     assert_eq!(with, "73(73(40(4(73(73(a))))))");
     assert_eq!(without, "73(73(40(4(a,73))))");
     exposed(semicolons_everywhere::compile::answer);
+}
+
+/// No list of fewer than `len` tokens shows the slip, whatever its operators.
+fn hidden_below(len: usize, slipped: Reader) {
+    for ops in ONE_OF_EACH.every_list(len - 1) {
+        let tokens = dress::plain(&ops);
+        let case = Case {
+            used: exact_set(&tokens),
+            source_len: ops.len() as u32,
+            version: 6,
+            tokens,
+        };
+        assert_eq!(slipped(&case), crate::answer_case(&case), "{ops:?}");
+    }
+}
+
+#[test]
+fn no_shorter_list_has_a_left_side_that_is_walked_again() {
+    let (with, without) = readings(no_second_walk::compile::answer, "a + + + b");
+    assert_ne!(with, without);
+    hidden_below(5, no_second_walk::compile::answer);
+}
+
+#[test]
+fn no_shorter_list_keeps_a_semicolon_as_a_leaf() {
+    let (with, without) = readings(semicolons_everywhere::compile::answer, "[ ; ] ;");
+    assert_ne!(with, without);
+    hidden_below(4, semicolons_everywhere::compile::answer);
 }
 
 /// Where the second walk makes a difference it is this one: it ends in message 12.

@@ -52,6 +52,15 @@ pub static ALPHABETS: [Alphabet; 16] = [
     alphabet("members", &[61, 43, 45, 40, 4, 5]),
 ];
 
+/// One operator of each kind that some pass tells from the others: for short lists of anything.
+pub static ONE_OF_EACH: Alphabet = alphabet(
+    "one of each",
+    &[
+        0, 1, 2, 3, 4, 5, 6, 7, 9, 20, 31, 36, 40, 41, 43, 45, 50, 54, 56, 57, 58, 59, 60, 61, 67,
+        70, 71, 72, 73, 74, 75,
+    ],
+);
+
 impl Alphabet {
     /// Every list of up to `most` operators before the ending, short ones first.
     pub fn every_list(&'static self, most: usize) -> impl Iterator<Item = Vec<u8>> {
