@@ -24,6 +24,9 @@ writeMark = 1000000001
 abbrev pub zerosMark : ℕ
 zerosMark = 1000000002
 
+abbrev pub repeatedMark : ℕ
+repeatedMark = 1000000003
+
 abbrev pub atMark : ℕ
 atMark = 1100000000
 
@@ -110,11 +113,19 @@ pub data Asked : Type 0 where
   write : WriteCall → Asked
   unclear : Asked
 
--- So many words 0, for a list that is turned back by its length.
+-- So many words 0.
 unfoldable pub zerosCall : List ℕ → Asked
 zerosCall [] = unclear
 zerosCall (n ∷ []) = parse (callFor (n / 5) (replicate n 0) 0 (pos 6) ∷ [])
 zerosCall (n ∷ m ∷ ms) = unclear
+
+-- So many tokens of one operator, all at the span 0 to 0.
+unfoldable pub repeatedCall : List ℕ → Asked
+repeatedCall [] = unclear
+repeatedCall (n ∷ []) = unclear
+repeatedCall (n ∷ o ∷ []) =
+    parse (callFor n (listWords (replicate n (record { op = o; variant = 0; value = 0; start = 0; end = 0 }))) (2 ^ o) (pos 6) ∷ [])
+repeatedCall (n ∷ o ∷ m ∷ ms) = unclear
 
 -- A line that names no version is read at 4, 5 and 6.
 unfoldable pub askedOf : Marked → Asked
@@ -124,7 +135,11 @@ askedOf m =
       | false ↦
           elim (eqb (m .mark) anyMark) [
             | true ↦ parse (listCall (m .items) (pos 4) ∷ listCall (m .items) (pos 5) ∷ listCall (m .items) (pos 6) ∷ [])
-            | false ↦ elim (eqb (m .mark) writeMark) [ true ↦ write (treeCall (m .items)) | false ↦ zerosCall (m .items) ]
+            | false ↦
+                elim (eqb (m .mark) writeMark) [
+                  | true ↦ write (treeCall (m .items))
+                  | false ↦ elim (eqb (m .mark) zerosMark) [ true ↦ zerosCall (m .items) | false ↦ repeatedCall (m .items) ]
+                ]
           ]
     ]
 

@@ -6,7 +6,7 @@
 // - `ANY`, operators: the list read at 4, 5 and 6 alike. `AT + v`, operators: read at version v, 16 bits in two's complement.
 //   The token at place i has span i to i + 1 and payload 0; the used set is exact, the source as long as the list.
 // - `WRITE`, nodes: the tree is written, into a list with room for three tokens a node.
-// - `ZEROS`, n: a list of n words 0, to be turned back by its length.
+// - `ZEROS`, n: a list of n words 0. `REPEATED`, n, operator: a list of n such tokens, all at the span 0 to 0. Both read at 6.
 // - `TREE`, nodes: op_c_ss_ee in decimal digits, that is operator, child count, span start, span end, parent first.
 // - `MESSAGE`, number_ss_ee, arguments up to the last that is not 0; once for each message.
 // - `LIST`, tokens: op_ss_ee. `REFUSED`, number, place.
@@ -20,6 +20,8 @@ const ANY: u32 = 1_000_000_000;
 const WRITE: u32 = 1_000_000_001;
 
 const ZEROS: u32 = 1_000_000_002;
+
+const REPEATED: u32 = 1_000_000_003;
 
 const AT: u32 = 1_100_000_000;
 
@@ -105,7 +107,7 @@ const RETURN: u32 = 74;
 
 const COMMA: u32 = 75;
 
-pub const COUNT: usize = 995;
+pub const COUNT: usize = 1002;
 
 const LINES: [u32; COUNT] = [
     // * empty: message 1
@@ -364,9 +366,17 @@ const LINES: [u32; COUNT] = [
     MESSAGE,
     17_01_02,
     60,
+    // 4,096 tokens are read: message 1
+    REPEATED,
+    4_096,
+    A,
+    MESSAGE,
+    1_00_00,
+    4_096,
     // 4,097 tokens: refused 2 0
-    ZEROS,
-    20_485,
+    REPEATED,
+    4_097,
+    A,
     REFUSED,
     2,
     0,
@@ -1211,7 +1221,7 @@ const LINES: [u32; COUNT] = [
 
 // The table, with each of its lines answered by the definition as it says.
 pub fn table() -> [u32; COUNT]
-    ensures { λ r. ⌜ Answered r × (lineCount r ≡ 104) ⌝ }
+    ensures { λ r. ⌜ Answered r × (lineCount r ≡ 105) ⌝ }
 {
     LINES
 }

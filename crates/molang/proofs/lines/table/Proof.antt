@@ -6,7 +6,7 @@ use Rattle.molang.proofs.lines.table.Tie as tie
 
 returns : tie.Need-returns
 unfolding computed
-returns c = (refl , refl)
+returns c = (refl, refl)
 
 pub table-spec : {M : Type 1} → statement M
 table-spec = tie.close (tie.spec returns)
