@@ -14,7 +14,6 @@ A case whose answer is changed by one must be found to differ, or the run fails:
 import argparse
 import os
 import re
-import shutil
 import subprocess
 import sys
 import time
@@ -23,7 +22,8 @@ from concurrent.futures import ThreadPoolExecutor
 from dataclasses import dataclass
 from pathlib import Path
 
-ROOT = Path(__file__).resolve().parent.parent
+from scratch import ROOT, crate, refused
+
 SCRATCH = ROOT / "target" / "definition-check"
 BATCH = 50
 
@@ -162,53 +162,30 @@ def covered(cases):
     ] + [f"{what} {count}" for what, count in others.items()]
 
 
-def crate(name, theorems):
-    """A scratch crate: the definition, and modules of theorems, each a list of equations."""
-    folder = SCRATCH / name / "molang"
-    shutil.rmtree(folder, ignore_errors=True)
-    shutil.copytree(ROOT / "crates" / "molang" / "specs", folder / "specs")
-    (folder / "src").mkdir()
-    (folder / "src" / "lib.rt").write_text("// Only the definition and its cases.\n")
-    proofs = folder / "proofs"
-    proofs.mkdir()
-    shutil.copy(ROOT / "crates" / "molang" / "proofs" / "Computed.antt", proofs)
-    (proofs / "Asked.antt").write_text(ASKED)
-    modules = ["Computed", "Asked"]
-    for number, equations in enumerate(theorems):
-        module = f"Cases{number}"
-        modules.append(module)
+def refused_batches(name, batches):
+    """The numbers of the batches of equations that the checker refuses."""
+    theorems = []
+    for equations in batches:
         left, right = zip(*equations)
-        text = f"\ncases : {listed(left)} ≡ {listed(right)}\nunfolding computed asked\ncases = refl\n"
-        (proofs / f"{module}.antt").write_text(HEAD + text)
-    (proofs / "Lib.antt").write_text("".join(f"pub mod {module}\n" for module in modules))
-    return folder
-
-
-def refused(folder):
-    """The numbers of the modules that the checker refuses; none where it proves the crate."""
-    done = subprocess.run(["rt", "check", str(folder)], text=True, stdout=subprocess.PIPE, stderr=subprocess.STDOUT)
-    (folder.parent / "log").write_text(done.stdout)
-    found = sorted({int(number) for number in re.findall(r"Cases(\d+)\.antt:\d+:\d+: error", done.stdout)})
-    if (done.returncode == 0) == bool(found) or (not found and "logic=proved" not in done.stdout):
-        sys.exit(f"definition-check: the checker's verdict is unclear; see {folder.parent / 'log'}")
-    return found
+        theorems.append(f"{HEAD}\ncases : {listed(left)} ≡ {listed(right)}\nunfolding computed asked\ncases = refl\n")
+    return refused(crate(SCRATCH / name, {"Asked": ASKED}, theorems))
 
 
 def differing(name, cases):
     """The cases among these whose two sides differ."""
     batches = [cases[i : i + BATCH] for i in range(0, len(cases), BATCH)]
-    bad = refused(crate(name, [[case.equation() for case in batch] for batch in batches]))
+    bad = refused_batches(name, [[case.equation() for case in batch] for batch in batches])
     suspects = [case for number in bad for case in batches[number]]
     if not suspects:
         return []
-    return [suspects[i] for i in refused(crate(f"{name}-alone", [[case.equation()] for case in suspects]))]
+    return [suspects[i] for i in refused_batches(f"{name}-alone", [[case.equation()] for case in suspects])]
 
 
 def planted(case):
     """The check refuses a case whose wanted words are off by one."""
     left, right = case.equation()
     wrong = re.sub(r"\d+", lambda found: str(int(found[0]) + 1), right, count=1)
-    if refused(crate("planted", [[(left, right)], [(left, wrong)]])) != [1]:
+    if refused_batches("planted", [[(left, right)], [(left, wrong)]]) != [1]:
         sys.exit("definition-check: a planted difference was not found")
 
 
