@@ -23,7 +23,7 @@ use Rattle.molang.specs.Lines.{Answered}
 def table():
     """The lines: each with its comment and its numbers."""
     text = (MOLANG / "src" / "lines.rt").read_text()
-    names = {name: int(number.replace("_", "")) for name, number in re.findall(r"^const (\w+): u32 = ([\d_]+);", text, re.M)}
+    names = {name: int(number.replace("_", "")) for name, number in re.findall(r"^(?:pub )?const (\w+): u32 = ([\d_]+);", text, re.M)}
     lines = []
     for row in re.search(r"^const LINES.*?= \[\n(.*?)^\];", text, re.M | re.S)[1].splitlines():
         row = row.strip()

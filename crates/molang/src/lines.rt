@@ -3,7 +3,8 @@
 //
 // A line is a mark that asks, its items, a mark that answers and its items (specs/Lines.antt says this as a definition):
 //
-// - `ANY`, operators: the list read at 4, 5 and 6 alike. `AT + v`, operators: read at version v, 16 bits in two's complement.
+// - `ANY`, operators: the list read at 4, 5 and 6 alike, and so at every version (proofs/Versions.antt). `AT + v`, operators: read at
+//   version v, 16 bits in two's complement.
 //   The token at place i has span i to i + 1 and payload 0; the used set is exact, the source as long as the list.
 // - `WRITE`, nodes: the tree is written, into a list with room for three tokens a node.
 // - `ZEROS`, n: a list of n words 0. `REPEATED`, n, operator: a list of n such tokens, all at the span 0 to 0. Both read at 6.
@@ -15,23 +16,23 @@
 ghost use mathlib.Core.Path.{_≡_};
 ghost use Rattle.molang.specs.Lines.{Answered, lineCount};
 
-const ANY: u32 = 1_000_000_000;
+pub const ANY: u32 = 1_000_000_000;
 
-const WRITE: u32 = 1_000_000_001;
+pub const WRITE: u32 = 1_000_000_001;
 
-const ZEROS: u32 = 1_000_000_002;
+pub const ZEROS: u32 = 1_000_000_002;
 
-const REPEATED: u32 = 1_000_000_003;
+pub const REPEATED: u32 = 1_000_000_003;
 
-const AT: u32 = 1_100_000_000;
+pub const AT: u32 = 1_100_000_000;
 
-const TREE: u32 = 2_000_000_000;
+pub const TREE: u32 = 2_000_000_000;
 
-const MESSAGE: u32 = 2_000_000_001;
+pub const MESSAGE: u32 = 2_000_000_001;
 
-const LIST: u32 = 2_000_000_002;
+pub const LIST: u32 = 2_000_000_002;
 
-const REFUSED: u32 = 2_000_000_003;
+pub const REFUSED: u32 = 2_000_000_003;
 
 const OPEN_BRACE: u32 = 0;
 
@@ -1219,7 +1220,8 @@ const LINES: [u32; COUNT] = [
     6,
 ];
 
-// The table, with each of its lines answered by the definition as it says.
+// The table, with each of its lines answered by the definition as it says. (A constant has no name in proofs/: what is shown of it is shown
+// of the function that hands it out.)
 pub fn table() -> [u32; COUNT]
     ensures { λ r. ⌜ Answered r × (lineCount r ≡ 105) ⌝ }
 {
