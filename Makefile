@@ -3,3 +3,5 @@
 
 test:
 	@tools/gate.sh
+
+include tools/definition-check.mk
