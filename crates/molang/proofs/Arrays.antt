@@ -111,7 +111,7 @@ module _ (d : Forest) (q i : Token) (e : isIndex i ≡ true) where
   unfolding arrayStep emptyIndex
   empty-fails contents = rw (e, arrayStep) refl
 
-  named-fails : arrayStep (named d q) i nil ≡ stop (emptyArrayIndex q i ∷ [])
+  named-fails : arrayStep (named d q) i nil ≡ stop (emptyArrayIndex (renamed Operator.array q) i ∷ [])
   unfolding arrayStep emptyIndex
   named-fails = rw (e, arrayStep) refl
 
@@ -170,21 +170,17 @@ module _ (q : Token) (n : isArrayName (q .op) ≡ false) where
       (clear-turned isArrayName (node c cs r) contents (free-clear isArrayName (node c cs r) (e .0)) hc) (e .1))
 
 -- Contents without array names that are lent a name, and begin with an index.
-unfoldable pub lentTo : Token → Forest → Result
-lentTo l nil = ok (node l nil nil)
-lentTo l (node i nil rest) = fail (emptyArrayIndex l i ∷ [])
-lentTo l (node i (node c cs r) rest) = completed (renamed Operator.array l) (turnedOnto (node c cs r) nil) rest
-
-pub array-lent : (l : Token) (f : Forest) → startsWithIndex f ≡ true → free isArrayName f ≡ true → walk arrayLevel (named nil l) f ≡ lentTo l f
-unfolding walk lentTo arrayLevel arrayResume startsWithIndex turnedOnto clear isArrayName renamed
+pub array-lent : (l : Token) (f : Forest) → startsWithIndex f ≡ true → free isArrayName f ≡ true
+    → walk arrayLevel (named nil l) f ≡ completed (renamed Operator.array l) nil f
+unfolding walk completed arrayLevel arrayResume startsWithIndex turnedOnto clear isArrayName renamed
 array-lent l nil e h = absurd (false≢true e)
-array-lent l (node i nil rest) e h = rw (named-fails nil l i e, walk) refl
+array-lent l (node i nil rest) e h = rw (named-fails nil l i e, walk) (rw (e, completed) refl)
 array-lent l (node i (node c cs r) rest) e h =
     let z = free-tree isArrayName i c cs r rest h in
+    let contents = clear-turned isArrayName (node c cs r) nil (free-clear isArrayName (node c cs r) (z .0)) refl in
     rw (named-enters nil l i e c cs r, walk)
     (rw (array-walk-free nil (node c cs r) refl (z .0))
-    (walk-completed (renamed Operator.array l) refl (turnedOnto (node c cs r) nil) rest
-    (clear-turned isArrayName (node c cs r) nil (free-clear isArrayName (node c cs r) (z .0)) refl) (z .1)))
+    (rw (e, completed) (walk-completed (renamed Operator.array l) refl (turnedOnto (node c cs r) nil) rest contents (z .1))))
 
 module _ (W : Weighing) where
   -- An array between two indices has contents.

@@ -9,18 +9,9 @@ use lib.Dec.{eqb, leb, ltb}
 use lib.ListN.{length}
 use borrow.Author.Tests.{eqb-true, eqb-false, leb-true, ltb-true}
 use Rattle.molang.specs.Forest.{Token, Forest, nil, node, count}
-use Rattle.molang.specs.Words.{word, kindOf, lowOf, tokenWords, tokenOf, tokensOf, listWords, treeWords, Slot, operatorSlot, startSlot, endSlot, upperSlot, lowerSlot, slotKind, unless, lowFault, wordFault, variantAfter, nextInToken, Refusal, wordsRefusal}
+use Rattle.molang.specs.Words.{word, kindOf, lowOf, tokenWords, tokenOf, Legal, tokensOf, listWords, treeWords, Slot, operatorSlot, startSlot, endSlot, upperSlot, lowerSlot, slotKind, unless, lowFault, wordFault, variantAfter, nextInToken, Refusal, wordsRefusal}
 use Rattle.molang.specs.WriteEntry.{firstTrees, otherTrees, treesOf}
 use Rattle.molang.proofs.Trees.{decided, some-none}
-
--- A token whose fields fit its words.
-pub record Legal (k : Token) : Type 0 where
-  pub op : k .op ≤ 110
-  pub variant : k .variant ≤ 12
-  pub value : k .value < 2 ^ 32
-  pub start : k .start < 2 ^ 29
-  pub end : k .end < 2 ^ 29
-  pub unpaid : k .variant ≡ 0 → k .value ≡ 0
 
 pub data LegalTokens : List Token → Type 0 where
   noTokens : LegalTokens []
@@ -165,7 +156,7 @@ module _ (a b c d e : ℕ) (h : FiveLegal a b c d e) where
         value = omega arith;
         start = low-bound b;
         end = low-bound c;
-        unpaid = λ z. omega (arith, h .upper .1 z, h .lower .1 z);
+        no-payload = λ z. omega (arith, h .upper .1 z, h .lower .1 z);
       }
 
   five-back : tokenWords (tokenOf a b c d e) ≡ a ∷ b ∷ c ∷ d ∷ e ∷ []
