@@ -26,7 +26,7 @@ use Rattle.molang.proofs.Passes.{isNested, apply-light, allNested, grou
 unfoldable pub nodesOf : ℕ → ℕ
 nodesOf n = elim (eqb n Operator.semicolon) [ true ↦ 3 | false ↦ elim (eqb n Operator.negate) [ true ↦ 2 | false ↦ 1 ] ]
 
-nodes-some : (n : ℕ) → 1 ≤ nodesOf n
+pub nodes-some : (n : ℕ) → 1 ≤ nodesOf n
 unfolding nodesOf
 nodes-some n =
     either (λ m. 1 ≤ m) (eqb n Operator.semicolon) _ _ (omega arith) (either (λ m. 1 ≤ m) (eqb n Operator.negate) _ _ (omega arith) (omega arith))
@@ -36,16 +36,16 @@ unfolding nodesOf
 nodes-few n =
     either (λ m. m ≤ 3) (eqb n Operator.semicolon) _ _ (omega arith) (either (λ m. m ≤ 3) (eqb n Operator.negate) _ _ (omega arith) (omega arith))
 
-abbrev nodeWeight : Weighing
+abbrev pub nodeWeight : Weighing
 nodeWeight = record { leaf = nodesOf; inner = 1; lighter = nodes-some }
 
-size-weight : (f : Forest) → size f ≤ weight nodeWeight f
+pub size-weight : (f : Forest) → size f ≤ weight nodeWeight f
 unfolding size weight
 size-weight nil = omega arith
 size-weight (node k nil rest) = omega (arith, size-weight rest, nodes-some (k .op))
 size-weight (node k (node c cs r) rest) = omega (arith, size-weight (node c cs r), size-weight rest)
 
-leaves-weight : (ks : List Token) → weight nodeWeight (leaves ks) ≤ 3 * length ks
+pub leaves-weight : (ks : List Token) → weight nodeWeight (leaves ks) ≤ 3 * length ks
 unfolding leaves weight
 leaves-weight [] = omega arith
 leaves-weight (k ∷ ks) = omega (arith, nodes-few (k .op), leaves-weight ks)

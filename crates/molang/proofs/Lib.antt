@@ -18,3 +18,4 @@ pub mod Sections
 pub mod Passes
 pub mod Bounds
 pub mod Words
+pub mod Every
