@@ -1,22 +1,31 @@
 -- What holds of every token of a list holds of every token of what a pass makes of it, if it holds of the new tokens too: those that get
 -- another operator, and those that get another's span. So the tree of a legal list is legal (Legal).
 -- Every token of the trees is Q.
-use Prim.Native.Nat.{ℕ}
+use Prim.Native.Nat.{ℕ, _+_}
+use mathlib.Core.Path.{_≡_}
 use mathlib.Core.Bool.{Bool, true, false}
-use mathlib.Core.List.{List}
+use mathlib.Core.List.{List, [], _∷_, _++_}
+use mathlib.Core.Option.{Option, none, some}
 use lib.Dec.{eqb}
+use lib.IntN.{ℤ}
 use Rattle.molang.specs.Operator
-use Rattle.molang.specs.Operator.{isOneOf, isBracket}
-use Rattle.molang.specs.Forest.{Token, Forest, nil, node, renamed, bare, turnedOnto, inOrder}
-use Rattle.molang.specs.Message.{Message, Result, ok, fail}
+use Rattle.molang.specs.Operator.{isOneOf, isBracket, hasMembers, closingOf, isCloser, beforeMinus}
+use Rattle.molang.specs.Forest.{Token, Forest, nil, node, renamed, bare, leaves, turnedOnto, inOrder}
+use Rattle.molang.specs.Message.{Message, Result, ok, fail, closer}
 use Rattle.molang.specs.Level.{Step, stop, on, into, Level, walk, through, Gathered, gathered, waiting, nothing}
-use Rattle.molang.specs.Calls.{CallKind, queryOrLoop, math, calls, callLeaf, callStep, callResume, callFinish, callLevel}
-use Rattle.molang.specs.Unary.{returnStep, returnResume, returnFinish, returnLevel}
+use Rattle.molang.specs.Sections.{withMember, members, Open, outside, section, placed, position, Walked, mismatch, closing, bracket, closed, sections}
+use Rattle.molang.specs.Calls.{CallKind, queryOrLoop, math, calls, callLeaf, callStep, callResume, callFinish, callLevel, Indexing, unindexed, named, indexed, flushed, isIndex, startsWithIndex, emptyIndex, nextIndex, index, arrayStep, arrayResume, arrayFinish, arrayLevel}
+use Rattle.molang.specs.Statements.{Split, unsplit, after, inside, splitOf, isEntered, gather, endStatement, enterSplit, statementStep, statementResume, statementFinish, statementLevel}
+use Rattle.molang.specs.Unary.{Unary, done, undone, minusAfter, notBefore, unaryLeaf, turned, unaryNode, unary, unaryPass, returnStep, returnResume, returnFinish, returnLevel}
 use Rattle.molang.specs.Binary.{unfolded, joined, operatorAfter, binaryStep, binaryResume, binaryFinish, binaryLevel}
 use Rattle.molang.specs.Conditional.{isToken, under, pairElse, scan, foldedFrom, dangling, undangled, conditionalStep, conditionalFinish, conditionalLevel}
+use Rattle.molang.specs.Order.{rules, Pass, lastToken, memberAccessors, sectioning, callPass, statements, arrays, pointer, mathCalls, unaryMinusAndNot, addition, ternary, returns, binary, order, runs, lastOf, endsWithSemicolon, apply}
+use Rattle.molang.specs.Read.{Answer, tree, messages, rooted, endsReading, grouped, read}
 use Rattle.molang.proofs.Trees.{either, maybe}
 use Rattle.molang.proofs.Walks.{back, onward, walk-onward}
+use Rattle.molang.proofs.Unary.{beforeCases, inNode, atNode}
 use Rattle.molang.proofs.Conditional.{scanned, scan-once}
+use Rattle.molang.proofs.Sections.{afterMember, afterBracket}
 
 pub data Every (Q : Token → Type 0) : Forest → Type 0 where
   nowhere : Every Q nil
@@ -217,3 +226,298 @@ module _ (Q : Token → Type 0) where
   conditional-carries : Carries Q conditionalLevel
   unfolding conditionalLevel
   conditional-carries = record { Holds = Every Q; begins = λ f h. nowhere; steps = conditional-steps; ends = conditional-ends }
+
+  module _ (N : Renewable Q) where
+    -- Arrays.
+    abbrev IndexingHolds : Indexing → Type 0
+    IndexingHolds (unindexed d) = Every Q d
+    IndexingHolds (named d q) = Every Q d × Q q
+    IndexingHolds (indexed d q contents) = Every Q d × Q q × Every Q contents
+
+    abbrev ArrayCarried : Token → Step Indexing → Type 0
+    ArrayCarried k = Carried Q arrayLevel IndexingHolds k
+
+    every-flushed : (s : Indexing) → IndexingHolds s → Every Q (flushed s)
+    unfolding flushed
+    every-flushed (unindexed d) h = h
+    every-flushed (named d q) h = at (h .1) nowhere (h .0)
+    every-flushed (indexed d q contents) h = at (h .1) (every-inOrder (h .2)) (h .0)
+
+    array-appends : (d : Forest) (q : Token) (contents : Forest) (u : Indexing) (k : Token) → Every Q d → Q q → Every Q contents → IndexingHolds u
+        → ArrayCarried k (into (indexed d q contents) u)
+    unfolding arrayLevel arrayResume
+    array-appends d q contents u k hd hq hc hu = entering {t = indexed d q contents} {u = u} hu λ kids e. (hd, hq, every-turned e hc)
+
+    array-node : (d : Forest) (k : Token) → Every Q d → Q k → ArrayCarried k (into (unindexed d) (unindexed nil))
+    unfolding arrayLevel arrayResume
+    array-node d k h q = entering {t = unindexed d} {u = unindexed nil} nowhere λ kids e. at q e h
+
+    empty-carried : (s : Indexing) (k : Token) → IndexingHolds s → Q k → ArrayCarried k (emptyIndex s k)
+    unfolding emptyIndex
+    empty-carried (unindexed d) k h q = going {t = unindexed (node k nil d)} (at q nowhere h)
+    empty-carried (named d p) k h q = stopped
+    empty-carried (indexed d p contents) k h q = stopped
+
+    next-carried : (d : Forest) (p : Token) (contents cs : Forest) (k : Token) → Every Q d → Q p → Every Q contents → ArrayCarried k (nextIndex d p contents cs)
+    unfolding nextIndex
+    next-carried d p nil cs k hd hp hc = array-appends d p nil (unindexed nil) k hd hp hc nowhere
+    next-carried d p (node l (node x xs y) contents) cs k hd hp hc = array-appends d p (node l (node x xs y) contents) (unindexed nil) k hd hp hc nowhere
+    next-carried d p (node l nil contents) cs k hd hp (at hl hls hc) =
+        let plain = array-appends d p (node l nil contents) (unindexed nil) k hd hp (at hl hls hc) nowhere in
+        either (ArrayCarried k) (eqb (l .op) Operator.arrayVariable) _ _
+        (either (ArrayCarried k) (startsWithIndex cs) _ _ (array-appends d p contents (named nil l) k hd hp hc (nowhere, hl)) plain) plain
+
+    index-carried : (s : Indexing) (cs : Forest) (k : Token) → IndexingHolds s → Q k → ArrayCarried k (index s cs)
+    unfolding index
+    index-carried (unindexed d) cs k h q = array-node d k h q
+    index-carried (named d p) cs k h q = array-appends d (renamed Operator.array p) nil (unindexed nil) k (h .0) (N .array p (h .1)) nowhere nowhere
+    index-carried (indexed d p contents) cs k h q = next-carried d p contents cs k (h .0) (h .1) (h .2)
+
+    array-steps : (s : Indexing) (k : Token) (cs : Forest) → IndexingHolds s → Q k → Every Q cs → ArrayCarried k (arrayStep s k cs)
+    unfolding arrayStep
+    array-steps s k nil h q c =
+        either (ArrayCarried k) (isIndex k) _ _ (empty-carried s k h q)
+        (either (ArrayCarried k) (eqb (k .op) Operator.arrayVariable) _ _ (going {t = named (flushed s) k} (every-flushed s h, q))
+        (going {t = unindexed (node k nil (flushed s))} (at q c (every-flushed s h))))
+    array-steps s k (node x xs y) h q c =
+        either (ArrayCarried k) (isIndex k) _ _ (index-carried s (node x xs y) k h q) (array-node (flushed s) k (every-flushed s h) q)
+
+    array-carries : Carries Q arrayLevel
+    unfolding arrayLevel arrayFinish
+    array-carries =
+        record { Holds = IndexingHolds; begins = λ f h. nowhere; steps = array-steps; ends = λ s h. gives (every-inOrder (every-flushed s h)) }
+
+    -- Statements.
+    abbrev SplitHolds : Split → Type 0
+    SplitHolds (unsplit d) = Every Q d
+    SplitHolds (after q ended) = Q q × Every Q ended
+    SplitHolds (inside q ended s d) = Q q × Every Q ended × Q s × Every Q d
+
+    abbrev SplitCarried : Token → Step Split → Type 0
+    SplitCarried k = Carried Q statementLevel SplitHolds k
+
+    every-split : (f : Forest) → Every Q f → SplitHolds (splitOf f)
+    unfolding splitOf
+    every-split nil nowhere = nowhere
+    every-split (node k (node c cs r) rest) (at q below h) = every-split rest h
+    every-split (node k nil rest) (at q below h) =
+        either SplitHolds (eqb (k .op) Operator.semicolon) (after (bare Operator.semicolon k) nil) (splitOf rest) (N .statement k q, nowhere) (every-split rest h)
+
+    every-gather : (k : Token) (cs : Forest) (m : Split) → Q k → Every Q cs → SplitHolds m → SplitHolds (gather k cs m)
+    unfolding gather
+    every-gather k cs (unsplit d) q c h = at q c h
+    every-gather k cs (after p ended) q c h = (h .0, h .1, N .statement k q, at q c nowhere)
+    every-gather k cs (inside p ended s d) q c h = (h .0, h .1, h .2, at q c (h .3))
+
+    end-carried : (k : Token) (m : Split) → Q k → SplitHolds m → SplitCarried k (endStatement k m)
+    unfolding endStatement
+    end-carried k (unsplit d) q h = going {t = unsplit (node k nil d)} (at q nowhere h)
+    end-carried k (after p nil) q h = stopped
+    end-carried k (after p (node t ts ended)) q h = going {t = after p (node t ts ended)} h
+    end-carried k (inside p ended s d) q h = going {t = after p (node s (inOrder d) ended)} (h .0, at (h .2) (every-inOrder (h .3)) (h .1))
+
+    statement-enters : (m : Split) (k : Token) (cs : Forest) → SplitHolds m → Q k → Every Q cs → SplitCarried k (into m (splitOf cs))
+    unfolding statementLevel statementResume
+    statement-enters m k cs h q c = entering {t = m} {u = splitOf cs} (every-split cs c) λ kids e. every-gather k kids m q e h
+
+    enter-carried : (m : Split) (k : Token) (cs : Forest) → SplitHolds m → Q k → Every Q cs → SplitCarried k (enterSplit m k cs)
+    unfolding enterSplit
+    enter-carried m k cs h q c =
+        either (SplitCarried k) (isEntered (k .op)) _ _ (statement-enters m k cs h q c) (going {t = gather k cs m} (every-gather k cs m q c h))
+
+    statement-steps : (m : Split) (k : Token) (cs : Forest) → SplitHolds m → Q k → Every Q cs → SplitCarried k (statementStep m k cs)
+    unfolding statementStep
+    statement-steps m k nil h q c =
+        either (SplitCarried k) (eqb (k .op) Operator.semicolon) _ _ (end-carried k m q h) (going {t = gather k nil m} (every-gather k nil m q c h))
+    statement-steps (unsplit d) k (node x xs y) h q c = statement-enters (unsplit d) k (node x xs y) h q c
+    statement-steps (after p ended) k (node x xs y) h q c = enter-carried (after p ended) k (node x xs y) h q c
+    statement-steps (inside p ended s d) k (node x xs y) h q c = enter-carried (inside p ended s d) k (node x xs y) h q c
+
+    statement-ends : (m : Split) → SplitHolds m → Gives Q (statementFinish m)
+    unfolding statementFinish
+    statement-ends (unsplit d) h = gives (every-inOrder h)
+    statement-ends (after q ended) h = gives (at (h .0) (every-inOrder (h .1)) nowhere)
+    statement-ends (inside q ended s d) h = gives (at (h .0) (every-inOrder (at (h .2) (every-inOrder (h .3)) (h .1))) nowhere)
+
+    statement-carries : Carries Q statementLevel
+    unfolding statementLevel
+    statement-carries = record { Holds = SplitHolds; begins = every-split; steps = statement-steps; ends = statement-ends }
+
+    -- The unary pass.
+    data UnaryGives : Unary → Type 0 where
+      none-given : {m : List Message} → UnaryGives (undone m)
+      given : {pair : Bool} {r : Forest} → Every Q r → UnaryGives (done pair r)
+
+    minus-gives : (p : Option Token) (k : Token) (r : Forest) → Q k → Every Q r → UnaryGives (minusAfter p k r)
+    unfolding minusAfter
+    minus-gives p k nil q h = none-given
+    minus-gives none k (node n ns r) q (at hn hns hr) = given (at q (at hn hns nowhere) hr)
+    minus-gives (some p) k (node n ns r) q (at hn hns hr) =
+        let taken = at q (at hn hns nowhere) hr in
+        beforeCases UnaryGives (beforeMinus (p .op)) _ _ _ _ (λ e. given taken)
+        (λ e. given (at (N .plus k q) nowhere (at (N .minus k q) (at hn hns nowhere) hr))) (λ e. given (at hn hns hr)) (λ e. none-given)
+
+    not-gives : (k : Token) (r : Forest) → Q k → Every Q r → UnaryGives (notBefore k r)
+    unfolding notBefore
+    not-gives k nil q h = none-given
+    not-gives k (node n ns r) q (at hn hns hr) = given (at q (at hn hns nowhere) hr)
+
+    every-turnedInto : (pair : Bool) (k : Token) → Q k → Q (turned pair k)
+    unfolding turned
+    every-turnedInto true k q = N .plus k q
+    every-turnedInto false k q = q
+
+    node-gives : (p : Option Token) (k : Token) (cs kids r : Forest) → Q k → Every Q kids → Every Q r → UnaryGives (unaryNode p k cs kids r)
+    unfolding unaryNode unaryLeaf
+    node-gives p k nil kids r q e h =
+        either UnaryGives (eqb (k .op) Operator.negate) _ _ (minus-gives p k r q h)
+        (either UnaryGives (eqb (k .op) Operator.logicalNot) _ _ (not-gives k r q h) (given (at q nowhere h)))
+    node-gives p k (node x xs y) kids r q e h = given (at q e h)
+
+    atNode-gives : (p : Option Token) (k : Token) (cs : Forest) {x y : Unary} → Q k → UnaryGives x → UnaryGives y → UnaryGives (atNode p k cs x y)
+    unfolding atNode inNode
+    atNode-gives p k cs q none-given y = none-given
+    atNode-gives p k cs q (given h) none-given = none-given
+    atNode-gives p k cs q (given {pair = pair} {r = r} h) (given {r = kids} e) = node-gives p (turned pair k) cs kids r (every-turnedInto pair k q) e h
+
+    unary-gives : (p : Option Token) (f : Forest) → Every Q f → UnaryGives (unary p f)
+    unfolding unary atNode inNode
+    unary-gives p nil nowhere = given nowhere
+    unary-gives p (node k cs rest) (at q below later) = atNode-gives p k cs q (unary-gives (some k) rest later) (unary-gives none cs below)
+
+    unaryPass-gives : (f : Forest) → Every Q f → Gives Q (unaryPass f)
+    unfolding unaryPass
+    unaryPass-gives f h = pass (unary-gives none f h)
+      where
+        pass : {x : Unary} → UnaryGives x → Gives Q (elim x [ undone m ↦ fail m | done pair r ↦ ok r ])
+        pass none-given = nothing-given
+        pass (given e) = gives e
+
+    -- Members and sections.
+    data MemberGives : Option Forest → Type 0 where
+      no-member : MemberGives none
+      member : {e : Forest} → Every Q e → MemberGives (some e)
+
+    member-gives : (k : Token) (d : Forest) → Q k → Every Q d → MemberGives (withMember k d)
+    unfolding withMember
+    member-gives k nil q h = no-member
+    member-gives k (node x xs d) q (at hx hxs hd) =
+        either MemberGives (hasMembers (x .op)) _ _ (member (at q (at hx hxs nowhere) hd)) (member (at q nowhere (at hx hxs hd)))
+
+    afterMember-gives : (m : List Message) (rest : Forest) {x : Option Forest} → MemberGives x → ((e : Forest) → Every Q e → Gives Q (members e rest))
+        → Gives Q (afterMember m rest x)
+    unfolding afterMember
+    afterMember-gives m rest no-member next = nothing-given
+    afterMember-gives m rest (member {e = e} h) next = next e h
+
+    members-gives : (d f : Forest) → Every Q d → Every Q f → Gives Q (members d f)
+    unfolding members afterMember
+    members-gives d nil h nowhere = gives (every-inOrder h)
+    members-gives d (node k cs rest) h (at q below later) =
+        either (Gives Q) (eqb (k .op) Operator.memberAccessor) _ _ (afterMember-gives _ rest (member-gives k d q h) (λ e z. members-gives e rest z later))
+        (members-gives (node k cs d) rest (at q below h) later)
+
+    abbrev OpenHolds : Open → Type 0
+    OpenHolds (outside d) = Every Q d
+    OpenHolds (section o i d s) = Q o × Every Q d × OpenHolds s
+
+    every-placed : (k : Token) (cs : Forest) (s : Open) → Q k → Every Q cs → OpenHolds s → OpenHolds (placed k cs s)
+    unfolding placed
+    every-placed k cs (outside d) q c h = at q c h
+    every-placed k cs (section o i d s) q c h = (h .0, at q c (h .1), h .2)
+
+    data WalkedGives : Walked → Type 0 where
+      differing : {m : List Message} → WalkedGives (mismatch m)
+      on-with : {s : Open} → OpenHolds s → WalkedGives (Walked.going s)
+
+    closing-gives : (k : Token) (cs : Forest) (i : ℕ) (s : Open) → Q k → Every Q cs → OpenHolds s → WalkedGives (closing k cs i s)
+    unfolding closing
+    closing-gives k cs i (outside d) q c h = on-with {s = outside (node k cs d)} (at q c h)
+    closing-gives k cs i (section o j d s) q c h =
+        either WalkedGives (eqb (closer o) (k .op)) _ _ (on-with {s = placed o (inOrder d) s} (every-placed o (inOrder d) s (h .0) (every-inOrder (h .1)) (h .2))) differing
+
+    bracket-gives : (k : Token) (cs : Forest) (i : ℕ) (s : Open) → Q k → Every Q cs → OpenHolds s → WalkedGives (bracket k cs i s)
+    unfolding bracket
+    bracket-gives k cs i s q c h =
+        maybe WalkedGives (closingOf (k .op)) _ _ (λ o. on-with {s = section k (i + 1) nil s} (q, nowhere, h))
+        (either WalkedGives (isCloser (k .op)) _ _ (closing-gives k cs i s q c h) (on-with {s = placed k cs s} (every-placed k cs s q c h)))
+
+    closed-gives : (s : Open) → OpenHolds s → Gives Q (closed s)
+    unfolding closed
+    closed-gives (outside d) h = gives (every-inOrder h)
+    closed-gives (section o i d s) h = nothing-given
+
+    afterBracket-gives : (i : ℕ) (rest : Forest) {x : Walked} → WalkedGives x → ((t : Open) → OpenHolds t → Gives Q (sections i t rest)) → Gives Q (afterBracket i rest x)
+    unfolding afterBracket
+    afterBracket-gives i rest differing next = nothing-given
+    afterBracket-gives i rest (on-with {s = t} h) next = next t h
+
+    sections-gives : (i : ℕ) (s : Open) (f : Forest) → OpenHolds s → Every Q f → Gives Q (sections i s f)
+    unfolding sections afterBracket
+    sections-gives i s nil h nowhere = closed-gives s h
+    sections-gives i s (node k cs rest) h (at q below later) =
+        afterBracket-gives (position i s) rest (bracket-gives k cs (position i s) s q below h) λ t z. sections-gives (position i s) t rest z later
+
+    ends-gives : (l : ℕ) (f : Forest) → Every Q f → Gives Q (endsWithSemicolon l f)
+    unfolding endsWithSemicolon
+    ends-gives l f h = maybe (Gives Q) (lastOf none f) _ _ (λ k. either (Gives Q) (eqb (k .op) Operator.semicolon) _ _ (gives h) nothing-given) nothing-given
+
+    -- EVERY PASS
+    pub apply-gives : (sourceLength : ℕ) (p : Pass) (f : Forest) → Every Q f → Gives Q (apply sourceLength p f)
+    unfolding apply
+    apply-gives l lastToken f h = ends-gives l f h
+    apply-gives l memberAccessors f h = members-gives nil f nowhere h
+    apply-gives l sectioning f h = sections-gives 0 (outside nil) f nowhere h
+    apply-gives l callPass f h = through-carries Q (callLevel queryOrLoop) (call-carries queryOrLoop) f h
+    apply-gives l statements f h = through-carries Q statementLevel statement-carries f h
+    apply-gives l arrays f h = through-carries Q arrayLevel array-carries f h
+    apply-gives l pointer f h = through-carries Q (binaryLevel (Operator.pointer ∷ [])) (binary-carries (Operator.pointer ∷ [])) f h
+    apply-gives l mathCalls f h = through-carries Q (callLevel math) (call-carries math) f h
+    apply-gives l unaryMinusAndNot f h = unaryPass-gives f h
+    apply-gives l addition f h = through-carries Q (binaryLevel (Operator.add ∷ [])) (binary-carries (Operator.add ∷ [])) f h
+    apply-gives l ternary f h = through-carries Q conditionalLevel conditional-carries f h
+    apply-gives l returns f h = through-carries Q returnLevel return-carries f h
+    apply-gives l (binary ops) f h = through-carries Q (binaryLevel ops) (binary-carries ops) f h
+
+    -- AND READING: messages, or a tree whose every token is Q.
+    data Reads : Answer → Type 0 where
+      messages-read : {ms : List Message} → Reads (messages ms)
+      tree-read : {k : Token} {cs : Forest} → Every Q (node k cs nil) → Reads (tree k cs)
+
+    rooted-reads : (l : ℕ) (so-far : List Message) (f : Forest) → Every Q f → Reads (rooted l so-far f)
+    unfolding rooted
+    rooted-reads l so-far nil h = messages-read
+    rooted-reads l so-far (node x xs nil) h = tree-read h
+    rooted-reads l so-far (node x xs (node y ys r)) h = messages-read
+
+    module _ (l : ℕ) (u : ℕ → Bool) where
+      -- `grouped` after a pass that runs.
+      afterRun : Pass → List Pass → List Message → Result → Answer
+      afterRun p ps so-far x =
+          elim x [
+            | ok g ↦ grouped l u ps so-far g
+            | fail m ↦ elim (endsReading p) [ true ↦ messages (so-far ++ m) | false ↦ grouped l u ps (so-far ++ m) nil ]
+          ]
+
+      afterRun-reads : (p : Pass) (ps : List Pass) (so-far : List Message) {x : Result} → Gives Q x
+          → ((so-far : List Message) (g : Forest) → Every Q g → Reads (grouped l u ps so-far g)) → Reads (afterRun p ps so-far x)
+      unfolding afterRun
+      afterRun-reads p ps so-far (nothing-given {m = m}) later = either Reads (endsReading p) _ _ messages-read (later (so-far ++ m) nil nowhere)
+      afterRun-reads p ps so-far (gives {g = g} h) later = later so-far g h
+
+      grouped-reads : (ps : List Pass) (so-far : List Message) (f : Forest) → Every Q f → Reads (grouped l u ps so-far f)
+      unfolding grouped afterRun
+      grouped-reads [] so-far f h = rooted-reads l so-far f h
+      grouped-reads (p ∷ ps) so-far f h =
+          either Reads (runs u p) _ _ (afterRun-reads p ps so-far (apply-gives l p f h) (λ so-far g e. grouped-reads ps so-far g e)) (grouped-reads ps so-far f h)
+
+    of-tree : {k : Token} {cs : Forest} → Reads (tree k cs) → Every Q (node k cs nil)
+    of-tree (tree-read h) = h
+
+    read-reads : (ts : List Token) (u : ℕ → Bool) (v : ℤ) (l : ℕ) → Every Q (leaves ts) → Reads (read ts u v l)
+    unfolding read
+    read-reads ts u v l h = grouped-reads l u (order (rules v)) [] (leaves ts) h
+
+    pub read-every : (tokens : List Token) (u : ℕ → Bool) (version : ℤ) (sourceLength : ℕ) (k : Token) (cs : Forest) → Every Q (leaves tokens)
+        → read tokens u version sourceLength ≡ tree k cs → Every Q (node k cs nil)
+    read-every ts u v l k cs h e = of-tree (rw e at (read-reads ts u v l h))

@@ -19,3 +19,4 @@ pub mod Passes
 pub mod Bounds
 pub mod Words
 pub mod Every
+pub mod Legal

@@ -53,6 +53,14 @@ Flat W n = Outcome 1 (λ g. (weight W g ≤ n) × (flat g ≡ true))
 abbrev pub Sectioned : Weighing → ℕ → Result → Type 0
 Sectioned W n = Outcome 2 (λ g. weight W g ≤ n)
 
+-- `members` at an accessor, by what it makes of the trees so far.
+unfoldable pub afterMember : List Message → Forest → Option Forest → Result
+afterMember m rest x = elim x [ none ↦ fail m | some e ↦ members e rest ]
+
+-- `sections` at a token, by what it makes of the open sections.
+unfoldable pub afterBracket : ℕ → Forest → Walked → Result
+afterBracket i rest x = elim x [ going t ↦ sections i t rest | mismatch m ↦ fail m ]
+
 -- The trees so far with one more member accessor.
 data Joined (W : Weighing) (n : ℕ) : Option Forest → Type 0 where
   unjoined : Joined W n none
@@ -68,10 +76,6 @@ module _ (W : Weighing) where
       (joinedTo {e = node k (node x xs nil) d} (omega (arith, W .lighter (k .op), weight-tree W x xs d))
       (and-true-true _ _ e (flat-rest x xs d h)))
       (joinedTo {e = node k nil (node x xs d)} (omega arith) h)
-
-  -- `members` at an accessor, by what it makes of the trees so far.
-  afterMember : List Message → Forest → Option Forest → Result
-  afterMember m rest x = elim x [ none ↦ fail m | some e ↦ members e rest ]
 
   afterMember-light : (m : List Message) (rest : Forest) (n b : ℕ) {x : Option Forest} → length m ≡ 1 → Joined W b x
       → ((e : Forest) → weight W e ≤ b → flat e ≡ true → Flat W n (members e rest)) → Flat W n (afterMember m rest x)
@@ -141,10 +145,6 @@ module _ (W : Weighing) where
   unfolding closed openWeight
   closed-light (outside d) n h = fine {g = inOrder d} (omega (arith, weight-inOrder W d))
   closed-light (section o i d s) n h = failed refl
-
-  -- `sections` at a token, by what it makes of the open sections.
-  afterBracket : ℕ → Forest → Walked → Result
-  afterBracket i rest x = elim x [ going t ↦ sections i t rest | mismatch m ↦ fail m ]
 
   afterBracket-light : (i : ℕ) (rest : Forest) (n b : ℕ) {x : Walked} → Walks b x
       → ((t : Open) → openWeight t ≤ b → Sectioned W n (sections i t rest)) → Sectioned W n (afterBracket i rest x)

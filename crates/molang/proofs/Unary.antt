@@ -64,13 +64,21 @@ before-is-minus n =
     NegateIf b = b ≡ minus → eqb n Operator.negate ≡ true
 
 -- What holds after every kind of node before a minus holds after the node.
-beforeCases : {A : Type 0} (Q : A → Type 0) (b : BeforeMinus) (x y z w : A) → (b ≡ operator → Q x) → (b ≡ operand → Q y) → (b ≡ minus → Q z)
+pub beforeCases : {A : Type 0} (Q : A → Type 0) (b : BeforeMinus) (x y z w : A) → (b ≡ operator → Q x) → (b ≡ operand → Q y) → (b ≡ minus → Q z)
     → (b ≡ unknown → Q w)
     → Q (elim b [ operator ↦ x | operand ↦ y | minus ↦ z | unknown ↦ w ])
 beforeCases Q operator x y z w a b c d = a refl
 beforeCases Q operand x y z w a b c d = b refl
 beforeCases Q minus x y z w a b c d = c refl
 beforeCases Q unknown x y z w a b c d = d refl
+
+-- `unary` at a node, by what the rest and the children have become.
+unfoldable pub inNode : Option Token → Token → Forest → Bool → Forest → Unary → Unary
+inNode p k cs pair r y = elim y [ undone m ↦ undone m | done inner kids ↦ unaryNode p (turned pair k) cs kids r ]
+
+unfoldable pub atNode : Option Token → Token → Forest → Unary → Unary → Unary
+unfolding inNode
+atNode p k cs x y = elim x [ undone m ↦ undone m | done pair r ↦ inNode p k cs pair r y ]
 
 module _ (W : Weighing) (turns : W .leaf Operator.add + W .inner ≤ W .leaf Operator.negate) where
   never : {A : Type 0} → false ≡ true → A
@@ -117,24 +125,16 @@ module _ (W : Weighing) (turns : W .leaf Operator.add + W .inner ≤ W .leaf Ope
   node-light p k pair (node c cs s) kids r rest b h t w e =
       reached {r = node (turned pair k) kids r} (omega (arith, weight-inner W (turned pair k) kids r (e refl))) (λ f. refl) never
 
-  -- `unary` at a node, by what the rest and the children have become.
-  inside : Option Token → Token → Forest → Bool → Forest → Unary → Unary
-  inside p k cs pair r y = elim y [ undone m ↦ undone m | done inner kids ↦ unaryNode p (turned pair k) cs kids r ]
-
-  atNode : Option Token → Token → Forest → Unary → Unary → Unary
-  unfolding inside
-  atNode p k cs x y = elim x [ undone m ↦ undone m | done pair r ↦ inside p k cs pair r y ]
-
   atNode-light : (p : Option Token) (k : Token) (cs rest : Forest) (b : Bool) {x y : Unary}
       → Reaches W (weight W rest) (not (isNil rest)) (some k) x → Reaches W (weight W cs) (not (isNil cs)) none y
       → Reaches W (weight W (node k cs rest)) b p (atNode p k cs x y)
-  unfolding atNode inside isMinus
+  unfolding atNode inNode isMinus
   atNode-light p k cs rest b (stuck o) y = stuck o
   atNode-light p k cs rest b (reached {pair = pair} {r = r} h f t) (stuck o) = stuck o
   atNode-light p k cs rest b (reached {pair = pair} {r = r} h f t) (reached {r = kids} w e s) = node-light p k pair cs kids r rest b h t w e
 
   unary-light : (p : Option Token) (f : Forest) → Reaches W (weight W f) (not (isNil f)) p (unary p f)
-  unfolding unary atNode inside weight isNil
+  unfolding unary atNode inNode weight isNil
   unary-light p nil = reached {r = nil} (omega arith) (λ e. absurd (false≢true e)) (λ e. absurd (false≢true e))
   unary-light p (node k cs rest) = atNode-light p k cs rest true (unary-light (some k) rest) (unary-light none cs)
 

@@ -1,0 +1,61 @@
+-- A legal list gives a legal tree, which is read back from its words: what stands between a first reading and the writer.
+-- A token with another operator, or with another's span and no payload, is legal.
+use Prim.Native.Nat.{ℕ, _^_, _≤_, _<_}
+use mathlib.Core.Path.{_≡_, refl}
+use mathlib.Core.Bool.{Bool}
+use mathlib.Core.List.{List}
+use native.Mathlib.Omega.{arith}
+use lib.IntN.{ℤ}
+use lib.ListN.{length}
+use Rattle.molang.specs.Operator
+use Rattle.molang.specs.Forest.{Token, Forest, nil, node, renamed, bare, leaves, count, size}
+use Rattle.molang.specs.Read.{Answer, read}
+use Rattle.molang.specs.Words.{Legal, treeWords}
+use Rattle.molang.specs.Parse.{mostTokens}
+use Rattle.molang.specs.WriteEntry.{treesOf}
+use Rattle.molang.proofs.Bounds.{read-tree}
+use Rattle.molang.proofs.Words.{LegalTokens, noTokens, token, LegalTrees, noTrees, trees-back}
+use Rattle.molang.proofs.Every.{Every, nowhere, at, Renewable, read-every}
+
+legal-renamed : (o : ℕ) (k : Token) → o ≤ 110 → Legal k → Legal (renamed o k)
+unfolding renamed
+legal-renamed o k b h =
+    record { op = b; variant = h .variant; value = h .value; no-payload = h .no-payload; start = h .start; end = h .end }
+
+legal-bare : (o : ℕ) (k : Token) → o ≤ 110 → Legal k → Legal (bare o k)
+unfolding bare
+legal-bare o k b h = record { op = b; variant = omega arith; value = omega arith; no-payload = λ e. refl; start = h .start; end = h .end }
+
+legal-new : Renewable Legal
+legal-new =
+    record {
+      plus = λ k h. legal-renamed Operator.add k (omega arith) h;
+      array = λ k h. legal-renamed Operator.array k (omega arith) h;
+      statement = λ k h. legal-bare Operator.semicolon k (omega arith) h;
+      minus = λ k h. legal-bare Operator.negate k (omega arith) h;
+    }
+
+legal-leaves : {ks : List Token} → LegalTokens ks → Every Legal (leaves ks)
+unfolding leaves
+legal-leaves noTokens = nowhere
+legal-leaves (token h hs) = at h nowhere (legal-leaves hs)
+
+count-size : (f : Forest) → count f ≤ size f
+unfolding count size
+count-size nil = omega arith
+count-size (node k cs rest) = omega (arith, count-size rest)
+
+legal-trees : {f : Forest} → Every Legal f → size f < 2 ^ 14 → LegalTrees f
+unfolding size
+legal-trees nowhere b = noTrees
+legal-trees (at {cs = cs} h below later) b = LegalTrees.tree {cs = cs} h (omega (arith, count-size cs)) (legal-trees below (omega arith)) (legal-trees later (omega arith))
+
+pub read-legal : (tokens : List Token) (u : ℕ → Bool) (version : ℤ) (sourceLength : ℕ) (k : Token) (cs : Forest) → LegalTokens tokens
+    → length tokens ≤ mostTokens → read tokens u version sourceLength ≡ Answer.tree k cs → LegalTrees (node k cs nil)
+read-legal ts u v l k cs h b e =
+    legal-trees (read-every Legal legal-new ts u v l k cs (legal-leaves h) e) (omega (arith, read-tree ts u v l k cs e))
+
+-- The writer reads the tree that the reader has given.
+pub read-back : (tokens : List Token) (u : ℕ → Bool) (version : ℤ) (sourceLength : ℕ) (k : Token) (cs : Forest) → LegalTokens tokens
+    → length tokens ≤ mostTokens → read tokens u version sourceLength ≡ Answer.tree k cs → treesOf (treeWords (node k cs nil)) ≡ node k cs nil
+read-back ts u v l k cs h b e = trees-back (node k cs nil) (read-legal ts u v l k cs h b e)
