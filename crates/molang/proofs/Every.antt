@@ -74,7 +74,8 @@ module _ (Q : Token → Type 0) {S : Type 0} (L : Level S) (A : Carries Q L) whe
   unfolding walk
   walk-carries s nil h nowhere = A .ends s h
   walk-carries s (node k cs rest) h (at q below later) =
-      rw (walk-onward L) (onward-carries k cs rest (A .steps s k cs h q below) (λ t h. walk-carries t rest h later) (λ u h. walk-carries u cs h below))
+      rw (walk-onward L) (onward-carries k cs rest (A .steps s k cs h q below) (λ t h. walk-carries t rest h later)
+      (λ u h. walk-carries u cs h below))
 
   through-carries : (f : Forest) → Every Q f → Gives Q (through L f)
   unfolding through
@@ -98,7 +99,8 @@ module _ (Q : Token → Type 0) where
   abbrev CallCarried : CallKind → Token → Step Gathered → Type 0
   CallCarried kind k = Carried Q (callLevel kind) GatheredHolds k
 
-  call-steps : (kind : CallKind) (s : Gathered) (k : Token) (cs : Forest) → GatheredHolds s → Q k → Every Q cs → CallCarried kind k (callStep kind s k cs)
+  call-steps : (kind : CallKind) (s : Gathered) (k : Token) (cs : Forest) → GatheredHolds s → Q k → Every Q cs
+      → CallCarried kind k (callStep kind s k cs)
   unfolding callLevel callResume callStep callLeaf
   call-steps kind (gathered d) k nil h q c =
       either (CallCarried kind k) (calls kind (k .op)) _ _ (going {t = waiting d k} (h, q)) (going {t = gathered (node k nil d)} (at q c h))
@@ -112,9 +114,11 @@ module _ (Q : Token → Type 0) where
       (entering {t = waiting d p} {u = gathered nil} nowhere λ kids e. at (h .1) (at q e nowhere) (h .0))
       (entering {t = gathered (node p nil d)} {u = gathered nil} nowhere λ kids e. at q e (at (h .1) nowhere (h .0)))
   call-steps math (waiting d p) k nil h q c =
-      either (CallCarried math k) (isBracket (k .op)) _ _ (going {t = gathered (node p (node k nil nil) d)} (at (h .1) (at q nowhere nowhere) (h .0))) stopped
+      either (CallCarried math k) (isBracket (k .op)) _ _
+      (going {t = gathered (node p (node k nil nil) d)} (at (h .1) (at q nowhere nowhere) (h .0))) stopped
   call-steps math (waiting d p) k (node x xs y) h q c =
-      either (CallCarried math k) (isBracket (k .op)) _ _ (entering {t = waiting d p} {u = gathered nil} nowhere λ kids e. at (h .1) (at q e nowhere) (h .0)) stopped
+      either (CallCarried math k) (isBracket (k .op)) _ _
+      (entering {t = waiting d p} {u = gathered nil} nowhere λ kids e. at (h .1) (at q e nowhere) (h .0)) stopped
 
   call-ends : (kind : CallKind) (s : Gathered) → GatheredHolds s → Gives Q (callFinish kind s)
   unfolding callFinish
@@ -141,10 +145,12 @@ module _ (Q : Token → Type 0) where
     binary-steps (gathered nil) k nil h q c =
         either (BinaryCarried k) (isOneOf ops (k .op)) _ _ stopped (going {t = gathered (node k nil nil)} (at q c h))
     binary-steps (gathered (node l ls d)) k nil h q c =
-        either (BinaryCarried k) (isOneOf ops (k .op)) _ _ (going {t = waiting (node l ls d) k} (h, q)) (going {t = gathered (node k nil (node l ls d))} (at q c h))
+        either (BinaryCarried k) (isOneOf ops (k .op)) _ _ (going {t = waiting (node l ls d) k} (h, q))
+        (going {t = gathered (node k nil (node l ls d))} (at q c h))
     binary-steps (gathered d) k (node x xs y) h q c = entering {t = gathered d} {u = gathered nil} nowhere λ kids e. at q e h
     binary-steps (waiting d p) k nil h q c =
-        maybe (BinaryCarried k) (unfolded ops d) _ _ (λ t. stopped) (going {t = gathered (joined d p k nil)} (every-joined d p k nil (h .0) (h .1) q c))
+        maybe (BinaryCarried k) (unfolded ops d) _ _ (λ t. stopped)
+        (going {t = gathered (joined d p k nil)} (every-joined d p k nil (h .0) (h .1) q c))
     binary-steps (waiting d p) k (node x xs y) h q c =
         maybe (BinaryCarried k) (unfolded ops d) _ _ (λ t. stopped)
         (entering {t = waiting d p} {u = gathered nil} nowhere λ kids e. every-joined d p k kids (h .0) (h .1) q e)
@@ -159,10 +165,12 @@ module _ (Q : Token → Type 0) where
     binary-carries = record { Holds = GatheredHolds; begins = λ f h. nowhere; steps = binary-steps; ends = binary-ends }
 
   -- Return.
-  return-steps : (s : Gathered) (k : Token) (cs : Forest) → GatheredHolds s → Q k → Every Q cs → Carried Q returnLevel GatheredHolds k (returnStep s k cs)
+  return-steps : (s : Gathered) (k : Token) (cs : Forest) → GatheredHolds s → Q k → Every Q cs
+      → Carried Q returnLevel GatheredHolds k (returnStep s k cs)
   unfolding returnLevel returnResume returnStep
   return-steps (gathered d) k nil h q c =
-      either (Carried Q returnLevel GatheredHolds k) (eqb (k .op) Operator.return) _ _ (going {t = waiting d k} (h, q)) (going {t = gathered (node k nil d)} (at q c h))
+      either (Carried Q returnLevel GatheredHolds k) (eqb (k .op) Operator.return) _ _ (going {t = waiting d k} (h, q))
+      (going {t = gathered (node k nil d)} (at q c h))
   return-steps (gathered d) k (node x xs y) h q c = entering {t = gathered d} {u = gathered nil} nowhere λ kids e. at q e h
   return-steps (waiting d p) k cs h q c = going {t = gathered (node p (node k cs nil) d)} (at (h .1) (at q c nowhere) (h .0))
 
@@ -187,9 +195,11 @@ module _ (Q : Token → Type 0) where
   every-pairElse (node f fs nil) h = h
   every-pairElse (node f fs (node c cs nil)) h = h
   every-pairElse (node f fs (node c cs (node x xs r))) (at hf hfs (at hc hcs (at hx hxs hr))) =
-      either (Every Q) (isToken Operator.conditionalElse c cs) _ _ (at hc (at hf hfs (at hx hxs nowhere)) hr) (at hf hfs (at hc hcs (at hx hxs hr)))
+      either (Every Q) (isToken Operator.conditionalElse c cs) _ _ (at hc (at hf hfs (at hx hxs nowhere)) hr)
+      (at hf hfs (at hc hcs (at hx hxs hr)))
 
-  every-scanned : (x y z : Bool) (a : Token) (aa : Forest) (b : Token) (bs left right : Forest) → Q a → Every Q aa → Q b → Every Q bs → Every Q right
+  every-scanned : (x y z : Bool) (a : Token) (aa : Forest) (b : Token) (bs left right : Forest) → Q a → Every Q aa → Q b → Every Q bs
+      → Every Q right
       → ((r : Forest) → Every Q r → Every Q (scan left r)) → ((r : Forest) → Every Q r → Every Q (scan (node b bs left) r))
       → Every Q (scanned x y z a aa b bs left right)
   unfolding scanned
@@ -205,16 +215,19 @@ module _ (Q : Token → Type 0) where
   every-scan (node a aa nil) right (at ha haa nowhere) h = at ha haa h
   every-scan (node a aa (node b bs left)) right (at ha haa (at hb hbs hl)) h =
       rw (scan-once a aa b bs left right)
-      (every-scanned _ _ _ a aa b bs left right ha haa hb hbs h (λ r e. every-scan left r hl e) (λ r e. every-scan (node b bs left) r (at hb hbs hl) e))
+      (every-scanned _ _ _ a aa b bs left right ha haa hb hbs h (λ r e. every-scan left r hl e)
+      (λ r e. every-scan (node b bs left) r (at hb hbs hl) e))
 
   every-folded : (d : Forest) → Every Q d → Every Q (foldedFrom d)
   unfolding foldedFrom
   every-folded nil h = h
   every-folded (node a aa nil) h = h
   every-folded (node a aa (node b bs nil)) (at ha haa (at hb hbs h)) = at hb hbs (at ha haa h)
-  every-folded (node a aa (node b bs (node c cs left))) (at ha haa h) = every-scan (node b bs (node c cs left)) (node a aa nil) h (at ha haa nowhere)
+  every-folded (node a aa (node b bs (node c cs left))) (at ha haa h) =
+      every-scan (node b bs (node c cs left)) (node a aa nil) h (at ha haa nowhere)
 
-  conditional-steps : (d : Forest) (k : Token) (cs : Forest) → Every Q d → Q k → Every Q cs → Carried Q conditionalLevel (Every Q) k (conditionalStep d k cs)
+  conditional-steps : (d : Forest) (k : Token) (cs : Forest) → Every Q d → Q k → Every Q cs
+      → Carried Q conditionalLevel (Every Q) k (conditionalStep d k cs)
   unfolding conditionalLevel conditionalStep
   conditional-steps d k nil h q c = going {t = node k nil d} (at q c h)
   conditional-steps d k (node x xs y) h q c = entering {t = d} {u = nil} nowhere λ kids e. at q e h
@@ -258,10 +271,12 @@ module _ (Q : Token → Type 0) where
     empty-carried (named d p) k h q = stopped
     empty-carried (indexed d p contents) k h q = stopped
 
-    next-carried : (d : Forest) (p : Token) (contents cs : Forest) (k : Token) → Every Q d → Q p → Every Q contents → ArrayCarried k (nextIndex d p contents cs)
+    next-carried : (d : Forest) (p : Token) (contents cs : Forest) (k : Token) → Every Q d → Q p → Every Q contents
+        → ArrayCarried k (nextIndex d p contents cs)
     unfolding nextIndex
     next-carried d p nil cs k hd hp hc = array-appends d p nil (unindexed nil) k hd hp hc nowhere
-    next-carried d p (node l (node x xs y) contents) cs k hd hp hc = array-appends d p (node l (node x xs y) contents) (unindexed nil) k hd hp hc nowhere
+    next-carried d p (node l (node x xs y) contents) cs k hd hp hc =
+        array-appends d p (node l (node x xs y) contents) (unindexed nil) k hd hp hc nowhere
     next-carried d p (node l nil contents) cs k hd hp (at hl hls hc) =
         let plain = array-appends d p (node l nil contents) (unindexed nil) k hd hp (at hl hls hc) nowhere in
         either (ArrayCarried k) (eqb (l .op) Operator.arrayVariable) _ _
@@ -270,7 +285,8 @@ module _ (Q : Token → Type 0) where
     index-carried : (s : Indexing) (cs : Forest) (k : Token) → IndexingHolds s → Q k → ArrayCarried k (index s cs)
     unfolding index
     index-carried (unindexed d) cs k h q = array-node d k h q
-    index-carried (named d p) cs k h q = array-appends d (renamed Operator.array p) nil (unindexed nil) k (h .0) (N .array p (h .1)) nowhere nowhere
+    index-carried (named d p) cs k h q =
+        array-appends d (renamed Operator.array p) nil (unindexed nil) k (h .0) (N .array p (h .1)) nowhere nowhere
     index-carried (indexed d p contents) cs k h q = next-carried d p contents cs k (h .0) (h .1) (h .2)
 
     array-steps : (s : Indexing) (k : Token) (cs : Forest) → IndexingHolds s → Q k → Every Q cs → ArrayCarried k (arrayStep s k cs)
@@ -301,7 +317,8 @@ module _ (Q : Token → Type 0) where
     every-split nil nowhere = nowhere
     every-split (node k (node c cs r) rest) (at q below h) = every-split rest h
     every-split (node k nil rest) (at q below h) =
-        either SplitHolds (eqb (k .op) Operator.semicolon) (after (bare Operator.semicolon k) nil) (splitOf rest) (N .statement k q, nowhere) (every-split rest h)
+        either SplitHolds (eqb (k .op) Operator.semicolon) (after (bare Operator.semicolon k) nil) (splitOf rest) (N .statement k q, nowhere)
+        (every-split rest h)
 
     every-gather : (k : Token) (cs : Forest) (m : Split) → Q k → Every Q cs → SplitHolds m → SplitHolds (gather k cs m)
     unfolding gather
@@ -328,7 +345,8 @@ module _ (Q : Token → Type 0) where
     statement-steps : (m : Split) (k : Token) (cs : Forest) → SplitHolds m → Q k → Every Q cs → SplitCarried k (statementStep m k cs)
     unfolding statementStep
     statement-steps m k nil h q c =
-        either (SplitCarried k) (eqb (k .op) Operator.semicolon) _ _ (end-carried k m q h) (going {t = gather k nil m} (every-gather k nil m q c h))
+        either (SplitCarried k) (eqb (k .op) Operator.semicolon) _ _ (end-carried k m q h)
+        (going {t = gather k nil m} (every-gather k nil m q c h))
     statement-steps (unsplit d) k (node x xs y) h q c = statement-enters (unsplit d) k (node x xs y) h q c
     statement-steps (after p ended) k (node x xs y) h q c = enter-carried (after p ended) k (node x xs y) h q c
     statement-steps (inside p ended s d) k (node x xs y) h q c = enter-carried (inside p ended s d) k (node x xs y) h q c
@@ -378,7 +396,8 @@ module _ (Q : Token → Type 0) where
     unfolding atNode inNode
     atNode-gives p k cs q none-given y = none-given
     atNode-gives p k cs q (given h) none-given = none-given
-    atNode-gives p k cs q (given {pair = pair} {r = r} h) (given {r = kids} e) = node-gives p (turned pair k) cs kids r (every-turnedInto pair k q) e h
+    atNode-gives p k cs q (given {pair = pair} {r = r} h) (given {r = kids} e) =
+        node-gives p (turned pair k) cs kids r (every-turnedInto pair k q) e h
 
     unary-gives : (p : Option Token) (f : Forest) → Every Q f → UnaryGives (unary p f)
     unfolding unary atNode inNode
@@ -404,7 +423,8 @@ module _ (Q : Token → Type 0) where
     member-gives k (node x xs d) q (at hx hxs hd) =
         either MemberGives (hasMembers (x .op)) _ _ (member (at q (at hx hxs nowhere) hd)) (member (at q nowhere (at hx hxs hd)))
 
-    afterMember-gives : (m : List Message) (rest : Forest) {x : Option Forest} → MemberGives x → ((e : Forest) → Every Q e → Gives Q (members e rest))
+    afterMember-gives : (m : List Message) (rest : Forest) {x : Option Forest} → MemberGives x
+        → ((e : Forest) → Every Q e → Gives Q (members e rest))
         → Gives Q (afterMember m rest x)
     unfolding afterMember
     afterMember-gives m rest no-member next = nothing-given
@@ -414,7 +434,8 @@ module _ (Q : Token → Type 0) where
     unfolding members afterMember
     members-gives d nil h nowhere = gives (every-inOrder h)
     members-gives d (node k cs rest) h (at q below later) =
-        either (Gives Q) (eqb (k .op) Operator.memberAccessor) _ _ (afterMember-gives _ rest (member-gives k d q h) (λ e z. members-gives e rest z later))
+        either (Gives Q) (eqb (k .op) Operator.memberAccessor) _ _
+        (afterMember-gives _ rest (member-gives k d q h) (λ e z. members-gives e rest z later))
         (members-gives (node k cs d) rest (at q below h) later)
 
     abbrev OpenHolds : Open → Type 0
@@ -434,7 +455,8 @@ module _ (Q : Token → Type 0) where
     unfolding closing
     closing-gives k cs i (outside d) q c h = on-with {s = outside (node k cs d)} (at q c h)
     closing-gives k cs i (section o j d s) q c h =
-        either WalkedGives (eqb (closer o) (k .op)) _ _ (on-with {s = placed o (inOrder d) s} (every-placed o (inOrder d) s (h .0) (every-inOrder (h .1)) (h .2))) differing
+        either WalkedGives (eqb (closer o) (k .op)) _ _
+        (on-with {s = placed o (inOrder d) s} (every-placed o (inOrder d) s (h .0) (every-inOrder (h .1)) (h .2))) differing
 
     bracket-gives : (k : Token) (cs : Forest) (i : ℕ) (s : Open) → Q k → Every Q cs → OpenHolds s → WalkedGives (bracket k cs i s)
     unfolding bracket
@@ -447,7 +469,8 @@ module _ (Q : Token → Type 0) where
     closed-gives (outside d) h = gives (every-inOrder h)
     closed-gives (section o i d s) h = nothing-given
 
-    afterBracket-gives : (i : ℕ) (rest : Forest) {x : Walked} → WalkedGives x → ((t : Open) → OpenHolds t → Gives Q (sections i t rest)) → Gives Q (afterBracket i rest x)
+    afterBracket-gives : (i : ℕ) (rest : Forest) {x : Walked} → WalkedGives x → ((t : Open) → OpenHolds t → Gives Q (sections i t rest))
+        → Gives Q (afterBracket i rest x)
     unfolding afterBracket
     afterBracket-gives i rest differing next = nothing-given
     afterBracket-gives i rest (on-with {s = t} h) next = next t h
@@ -460,7 +483,8 @@ module _ (Q : Token → Type 0) where
 
     ends-gives : (l : ℕ) (f : Forest) → Every Q f → Gives Q (endsWithSemicolon l f)
     unfolding endsWithSemicolon
-    ends-gives l f h = maybe (Gives Q) (lastOf none f) _ _ (λ k. either (Gives Q) (eqb (k .op) Operator.semicolon) _ _ (gives h) nothing-given) nothing-given
+    ends-gives l f h =
+        maybe (Gives Q) (lastOf none f) _ _ (λ k. either (Gives Q) (eqb (k .op) Operator.semicolon) _ _ (gives h) nothing-given) nothing-given
 
     -- EVERY PASS
     pub apply-gives : (sourceLength : ℕ) (p : Pass) (f : Forest) → Every Q f → Gives Q (apply sourceLength p f)
@@ -509,7 +533,8 @@ module _ (Q : Token → Type 0) where
       unfolding grouped afterRun
       grouped-reads [] so-far f h = rooted-reads l so-far f h
       grouped-reads (p ∷ ps) so-far f h =
-          either Reads (runs u p) _ _ (afterRun-reads p ps so-far (apply-gives l p f h) (λ so-far g e. grouped-reads ps so-far g e)) (grouped-reads ps so-far f h)
+          either Reads (runs u p) _ _ (afterRun-reads p ps so-far (apply-gives l p f h) (λ so-far g e. grouped-reads ps so-far g e))
+          (grouped-reads ps so-far f h)
 
     of-tree : {k : Token} {cs : Forest} → Reads (tree k cs) → Every Q (node k cs nil)
     of-tree (tree-read h) = h

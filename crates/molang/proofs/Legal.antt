@@ -4,17 +4,20 @@ use Prim.Native.Nat.{ℕ, _^_, _≤_, _<_}
 use mathlib.Core.Path.{_≡_, refl}
 use mathlib.Core.Bool.{Bool}
 use mathlib.Core.List.{List}
+use mathlib.Core.Option.{none}
 use native.Mathlib.Omega.{arith}
 use lib.IntN.{ℤ}
 use lib.ListN.{length}
 use Rattle.molang.specs.Operator
-use Rattle.molang.specs.Forest.{Token, Forest, nil, node, renamed, bare, leaves, count, size}
+use Rattle.molang.specs.Forest.{Token, Forest, nil, node, renamed, bare, leaves, size}
 use Rattle.molang.specs.Read.{Answer, read}
-use Rattle.molang.specs.Words.{Legal, treeWords}
+use Rattle.molang.specs.Words.{Legal, treeWords, operatorSlot}
 use Rattle.molang.specs.Parse.{mostTokens}
-use Rattle.molang.specs.WriteEntry.{treesOf}
+use Rattle.molang.specs.WriteEntry.{treeFault, treesOf}
+use Rattle.molang.proofs.Trees.{count-size}
 use Rattle.molang.proofs.Bounds.{read-tree}
-use Rattle.molang.proofs.Words.{LegalTokens, noTokens, token, LegalTrees, noTrees, trees-back}
+use Rattle.molang.proofs.Words.{LegalTokens, noTokens, token, LegalTrees, noTrees, legalTree, trees-back}
+use Rattle.molang.proofs.TreeWords.{tree-unfaulted}
 use Rattle.molang.proofs.Every.{Every, nowhere, at, Renewable, read-every}
 
 legal-renamed : (o : ℕ) (k : Token) → o ≤ 110 → Legal k → Legal (renamed o k)
@@ -40,15 +43,11 @@ unfolding leaves
 legal-leaves noTokens = nowhere
 legal-leaves (token h hs) = at h nowhere (legal-leaves hs)
 
-count-size : (f : Forest) → count f ≤ size f
-unfolding count size
-count-size nil = omega arith
-count-size (node k cs rest) = omega (arith, count-size rest)
-
 legal-trees : {f : Forest} → Every Legal f → size f < 2 ^ 14 → LegalTrees f
 unfolding size
 legal-trees nowhere b = noTrees
-legal-trees (at {cs = cs} h below later) b = LegalTrees.tree {cs = cs} h (omega (arith, count-size cs)) (legal-trees below (omega arith)) (legal-trees later (omega arith))
+legal-trees (at {cs = cs} h below later) b =
+    legalTree {cs = cs} h (omega (arith, count-size cs)) (legal-trees below (omega arith)) (legal-trees later (omega arith))
 
 pub read-legal : (tokens : List Token) (u : ℕ → Bool) (version : ℤ) (sourceLength : ℕ) (k : Token) (cs : Forest) → LegalTokens tokens
     → length tokens ≤ mostTokens → read tokens u version sourceLength ≡ Answer.tree k cs → LegalTrees (node k cs nil)
@@ -59,3 +58,9 @@ read-legal ts u v l k cs h b e =
 pub read-back : (tokens : List Token) (u : ℕ → Bool) (version : ℤ) (sourceLength : ℕ) (k : Token) (cs : Forest) → LegalTokens tokens
     → length tokens ≤ mostTokens → read tokens u version sourceLength ≡ Answer.tree k cs → treesOf (treeWords (node k cs nil)) ≡ node k cs nil
 read-back ts u v l k cs h b e = trees-back (node k cs nil) (read-legal ts u v l k cs h b e)
+
+-- Nor does it answer 12 to it.
+pub read-unfaulted : (tokens : List Token) (u : ℕ → Bool) (version : ℤ) (sourceLength : ℕ) (k : Token) (cs : Forest) → LegalTokens tokens
+    → length tokens ≤ mostTokens → read tokens u version sourceLength ≡ Answer.tree k cs
+    → treeFault 0 operatorSlot 0 (record { called = 1; begun = 0 }) (treeWords (node k cs nil)) ≡ none
+read-unfaulted ts u v l k cs h b e = tree-unfaulted k cs (read-legal ts u v l k cs h b e) (omega (arith, read-tree ts u v l k cs e))

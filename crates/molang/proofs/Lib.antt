@@ -18,5 +18,6 @@ pub mod Sections
 pub mod Passes
 pub mod Bounds
 pub mod Words
+pub mod TreeWords
 pub mod Every
 pub mod Legal

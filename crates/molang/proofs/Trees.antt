@@ -1,11 +1,11 @@
 -- Facts about forests that the laws of the passes share: which leaves stand in a forest, and what turning a gathered list round keeps.
-use Prim.Native.Nat.{ℕ}
+use Prim.Native.Nat.{ℕ, _≤_}
 use mathlib.Core.Path.{_≡_, refl, sym, _∙_}
 use mathlib.Core.Bool.{Bool, true, false, _||_, _&&_, not, and-eq-true-iff, true≢false}
 use mathlib.Core.Option.{Option, none, some}
 use native.Mathlib.Omega.{arith}
 use borrow.Author.Tests.{not-true}
-use Rattle.molang.specs.Forest.{Token, Forest, nil, node, turnedOnto}
+use Rattle.molang.specs.Forest.{Token, Forest, nil, node, turnedOnto, count, size}
 
 -- No leaf at any depth has an operator that passes P.
 unfoldable pub free : (ℕ → Bool) → Forest → Bool
@@ -38,6 +38,11 @@ maybe Q (some b) y x p q = p b
 
 pub some-none : {A B : Type 0} {a : A} → some a ≡ none → B
 some-none e = let z : _≡_ {A = ℕ} 0 1 = cc in absurd (omega arith)
+
+pub count-size : (f : Forest) → count f ≤ size f
+unfolding count size
+count-size nil = omega arith
+count-size (node k cs rest) = omega (arith, count-size rest)
 
 pub both : (a b : Bool) → (a && b) ≡ true → (a ≡ true) × (b ≡ true)
 both a b h = and-eq-true-iff a b .0 h

@@ -19,17 +19,17 @@ pub data LegalTokens : List Token → Type 0 where
 
 pub data LegalTrees : Forest → Type 0 where
   noTrees : LegalTrees nil
-  tree : {k : Token} {cs rest : Forest} → Legal k → count cs < 2 ^ 14 → LegalTrees cs → LegalTrees rest → LegalTrees (node k cs rest)
+  legalTree : {k : Token} {cs rest : Forest} → Legal k → count cs < 2 ^ 14 → LegalTrees cs → LegalTrees rest → LegalTrees (node k cs rest)
 
-low-word : (kind low : ℕ) → low < 2 ^ 29 → lowOf (word kind low) ≡ low
+pub low-word : (kind low : ℕ) → low < 2 ^ 29 → lowOf (word kind low) ≡ low
 unfolding lowOf word
 low-word kind low h = omega arith
 
-kind-word : (kind low : ℕ) → low < 2 ^ 29 → kindOf (word kind low) ≡ kind
+pub kind-word : (kind low : ℕ) → low < 2 ^ 29 → kindOf (word kind low) ≡ kind
 unfolding kindOf word
 kind-word kind low h = omega arith
 
-high-part : (high low : ℕ) → low < 2 ^ 8 → (high * 2 ^ 8 + low) / 2 ^ 8 ≡ high
+pub high-part : (high low : ℕ) → low < 2 ^ 8 → (high * 2 ^ 8 + low) / 2 ^ 8 ≡ high
 high-part high low h = omega arith
 
 -- A token is read back from its words.
@@ -75,7 +75,7 @@ beside-nil (node k cs rest) = ap (node k cs) (beside-nil rest)
 trees-beside : {f : Forest} → LegalTrees f → (ws : List ℕ) → treesOf (treeWords f ++ ws) ≡ beside f (treesOf ws)
 unfolding treesOf treeWords tokenWords beside
 trees-beside noTrees ws = refl
-trees-beside (tree {k = k} {cs = cs} {rest = rest} h n below later) ws =
+trees-beside (legalTree {k = k} {cs = cs} {rest = rest} h n below later) ws =
     let trees : treesOf ((treeWords cs ++ treeWords rest) ++ ws) ≡ beside cs (beside rest (treesOf ws)) =
     rw (append-assoc (treeWords cs) (treeWords rest) ws) (trees-beside below (treeWords rest ++ ws) ∙ ap (beside cs) (trees-beside later ws))
     in
