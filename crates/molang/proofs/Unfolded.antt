@@ -13,7 +13,7 @@ use Rattle.molang.specs.Message.{binaryAtEnd, Result, ok, fail}
 use Rattle.molang.specs.Level.{Step, stop, on, into, Level, walk, through, Gathered, gathered, waiting, nothing}
 use Rattle.molang.specs.Binary.{firstLeaf, unfolded, joined, operatorAfter, binaryStep, binaryResume, binaryFinish, binaryLevel}
 use Rattle.molang.proofs.Trees.{free, isNil, decided, maybe, some-none, and-true-true, free-leaf, free-tree}
-use Rattle.molang.proofs.Walks.{failed, fine, Ends, Onward, stops, goes, enters, Keeps, back, onward, walk-keeps}
+use Rattle.molang.proofs.Walks.{failed, fine, Ends, Onward, stops, goes, enters, Keeps, back, onward, walk-keeps, through-keeps}
 use Rattle.molang.proofs.Weight.{isNil-inOrder}
 use Rattle.molang.proofs.Binary.{full-joined}
 
@@ -23,14 +23,14 @@ first-of-two (some t) x h = some-none h
 
 module _ (ops : List ℕ) where
   -- A list after the level: an operator leaf stands last, with something before it (`true`: something stands before the list).
-  data Late : Bool → Forest → Type 0 where
+  pub data Late : Bool → Forest → Type 0 where
     over : {b : Bool} → Late b nil
     leafThen : {b : Bool} {k : Token} {rest : Forest} → isOneOf ops (k .op) ≡ false → Late true rest → Late b (node k nil rest)
     lastly : {k : Token} → isOneOf ops (k .op) ≡ true → Late true (node k nil nil)
     treeThen : {b : Bool} {k c : Token} {cs r rest : Forest} → Late false (node c cs r) → Late true rest → Late b (node k (node c cs r) rest)
 
   -- A list that the level itself gives: it holds no operator leaf of its own.
-  data Kept : Forest → Type 0 where
+  pub data Kept : Forest → Type 0 where
     empty : Kept nil
     leafFirst : {k : Token} {rest : Forest} → isOneOf ops (k .op) ≡ false → Kept rest → Kept (node k nil rest)
     treeFirst : {k c : Token} {cs r rest : Forest} → Late false (node c cs r) → Kept rest → Kept (node k (node c cs r) rest)
@@ -47,7 +47,7 @@ module _ (ops : List ℕ) where
   kept-turned (treeFirst c d) h = kept-turned d (treeFirst c h)
 
   -- What walking again comes to.
-  atFirst : Option Token → Forest → Result
+  unfoldable pub atFirst : Option Token → Forest → Result
   atFirst none f = ok f
   atFirst (some t) f = fail (binaryAtEnd t ∷ [])
 
@@ -74,7 +74,7 @@ module _ (ops : List ℕ) where
   tree-late none d k c cs r rest e below later = rw (e, firstLeaf) (rw (rw e at below, walk) later)
   tree-late (some t) d k c cs r rest e below later = rw (e, firstLeaf) (rw (rw e at below, walk) refl)
 
-  walk-late : {b : Bool} {f : Forest} (d : Forest) → Late b f → (b ≡ true → isNil d ≡ false)
+  pub walk-late : {b : Bool} {f : Forest} (d : Forest) → Late b f → (b ≡ true → isNil d ≡ false)
       → walk (binaryLevel ops) (gathered d) f ≡ atFirst (firstLeaf ops f) (turnedOnto d f)
   unfolding walk binaryLevel binaryFinish firstLeaf atFirst turnedOnto inOrder isNil
   walk-late d over n = refl
@@ -147,6 +147,14 @@ module _ (ops : List ℕ) where
   unfolding binaryLevel nothing
   binary-kept = record { Fits = KeptFits; full = keptFull; begins = λ f. empty; steps = kept-steps; ends = kept-ends }
 
+  -- After the level, no operator leaf of a list is its own, and one below stands last.
+  pub through-kept : (f g : Forest) → through (binaryLevel ops) f ≡ ok g → Kept g
+  unfolding binary-kept
+  through-kept f g e = of-list (rw e at (through-keeps GoodKept (λ f. tt) (binaryLevel ops) binary-kept f))
+    where
+      of-list : {full : Bool} → Ends GoodKept tt full (ok g) → Kept g
+      of-list (fine h) = h .0
+
   -- The trees so far, the last one's children gone through again, as the Rust does where they hold an unfolded operator.
   unfoldable pub again : Forest → Result
   again nil = ok nil
@@ -167,7 +175,7 @@ module _ (ops : List ℕ) where
   children-again none l ls d e h = rw e (rw (rw e at h, again) refl)
   children-again (some t) l ls d e h = rw e (rw (rw e at h, again) refl)
 
-  again-kept : (d : Forest) → Kept d → again d ≡ atFirst (unfolded ops d) d
+  pub again-kept : (d : Forest) → Kept d → again d ≡ atFirst (unfolded ops d) d
   unfolding unfolded through binaryLevel nothing turnedOnto
   again-kept nil empty = unfold again atFirst in refl
   again-kept (node l nil d) (leafFirst e h) =
