@@ -46,19 +46,12 @@ data Reaches (W : Weighing) (n : ℕ) (full : Bool) (p : Option Token) : Unary �
   reached : {pair : Bool} {r : Forest} → weight W r ≤ n → (full ≡ true → isNil r ≡ false) → (pair ≡ true → isMinus p ≡ true)
       → Reaches W n full p (done pair r)
 
--- (The operators are those of `beforeMinus`.)
 before-is-minus : (n : ℕ) → beforeMinus n ≡ minus → eqb n Operator.negate ≡ true
 unfolding beforeMinus
 before-is-minus n =
-    let unary : List ℕ =
-    Operator.leftBrace ∷ Operator.rightBrace ∷ Operator.logicalNot ∷ Operator.add ∷ Operator.div ∷ Operator.mul ∷ Operator.lessThan ∷ Operator.lessEqual
-    ∷ Operator.greaterEqual ∷ Operator.greaterThan ∷ Operator.logicalEqual ∷ Operator.logicalNotEqual ∷ Operator.logicalOr ∷ Operator.logicalAnd
-    ∷ Operator.nullCoalescing ∷ Operator.conditional ∷ Operator.conditionalElse ∷ Operator.loop ∷ Operator.forEach ∷ Operator.break
-    ∷ Operator.assignment ∷ Operator.semicolon ∷ Operator.return ∷ Operator.comma ∷ []
-    in
     decided NegateIf (eqb n Operator.negate) _ _ (λ e h. e)
     (λ e. either NegateIf (isOneOf (Operator.continue ∷ Operator.expressionArray ∷ []) n) _ _ (λ h. cc)
-    (either NegateIf (isOneOf unary n) _ _ (λ h. cc) (λ h. cc)))
+    (either NegateIf (isOneOf Operator.operatorsBefore n) _ _ (λ h. cc) (λ h. cc)))
   where
     NegateIf : BeforeMinus → Type 0
     NegateIf b = b ≡ minus → eqb n Operator.negate ≡ true

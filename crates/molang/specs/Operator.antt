@@ -193,19 +193,17 @@ isCloser n = isOneOf (rightBrace ∷ rightBracket ∷ rightParenthesis ∷ []) n
 pub data BeforeMinus : Type 0 where
   operand operator minus unknown : BeforeMinus
 
+-- The operators after which a minus is unary.
+abbrev pub operatorsBefore : List ℕ
+operatorsBefore =
+    leftBrace ∷ rightBrace ∷ logicalNot ∷ add ∷ div ∷ mul ∷ lessThan ∷ lessEqual ∷ greaterEqual ∷ greaterThan
+    ∷ logicalEqual ∷ logicalNotEqual ∷ logicalOr ∷ logicalAnd ∷ nullCoalescing ∷ conditional ∷ conditionalElse
+    ∷ loop ∷ forEach ∷ break ∷ assignment ∷ semicolon ∷ return ∷ comma ∷ []
+
 unfoldable pub beforeMinus : ℕ → BeforeMinus
 beforeMinus n =
     elim (eqb n negate) [
       | true ↦ minus
       | false ↦
-          elim (isOneOf (continue ∷ expressionArray ∷ []) n) [
-            | true ↦ unknown
-            | false ↦
-                elim
-                (isOneOf
-                (leftBrace ∷ rightBrace ∷ logicalNot ∷ add ∷ div ∷ mul ∷ lessThan ∷ lessEqual ∷ greaterEqual ∷ greaterThan
-                ∷ logicalEqual ∷ logicalNotEqual ∷ logicalOr ∷ logicalAnd ∷ nullCoalescing ∷ conditional ∷ conditionalElse
-                ∷ loop ∷ forEach ∷ break ∷ assignment ∷ semicolon ∷ return ∷ comma ∷ [])
-                n) [ true ↦ operator | false ↦ operand ]
-          ]
+          elim (isOneOf (continue ∷ expressionArray ∷ []) n) [ true ↦ unknown | false ↦ elim (isOneOf operatorsBefore n) [ true ↦ operator | false ↦ operand ] ]
     ]
