@@ -73,6 +73,12 @@ rust_tests() {
 }
 
 prove
+
+# The library that other programs link, once it is there.
+if grep -q '^sorbrudder:' crates.txt; then
+    step "the static library" rt staticlib sorbrudder
+fi
+
 for crate in oracle; do
     [ -d "$crate" ] && rust_tests "$crate"
 done
