@@ -1,0 +1,5 @@
+-- Demand 3 over the definitions.
+pub mod Role
+pub mod Expression
+pub mod Walk
+pub mod Binary

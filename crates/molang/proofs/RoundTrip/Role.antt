@@ -1,0 +1,220 @@
+-- The role that each operator plays in a written list: a device of these proofs, which lets one fact about an operator answer every test
+-- that the definition makes of it. Each law here ties one test of the definition to the role, by computing both for all 111 numbers.
+use Prim.Native.Nat.{ℕ, zero, suc, _≤_, _<_}
+use mathlib.Core.Path.{_≡_, refl, ap, sym, _∙_}
+use mathlib.Core.Bool.{Bool, true, false, _||_, _&&_, not, Bool·beq, true≢false, false≢true}
+use mathlib.Core.List.{List, [], _∷_}
+use mathlib.Core.Option.{Option, none, some}
+use native.Mathlib.Omega.{arith}
+use lib.Dec.{eqb, leb, ltb, lit<}
+use borrow.Author.Tests.{eqb-true, eqb-false, ne-eqb, lt-leb, le-leb, leb-true, leb-false, not-true, not-false}
+use Rattle.molang.specs.Operator
+use Rattle.molang.specs.Operator.{any, isOneOf, between, isMathCall, isBracket, isQueryOrLoop, closingOf, isCloser}
+use Rattle.molang.specs.Calls.{CallKind, queryOrLoop, math, calls}
+use Rattle.molang.specs.Order.{someBelow}
+use Rattle.molang.specs.Plain.{isPlainLeaf, isPlainBinary, isCall}
+use Rattle.molang.proofs.Computed.{computed}
+
+pub record Role : Type 0 where
+  pub code : ℕ
+
+abbrev pub aLeaf : Role
+aLeaf = record { code = 0 }
+
+abbrev pub aQuery : Role
+aQuery = record { code = 1 }
+
+abbrev pub aMathCall : Role
+aMathCall = record { code = 2 }
+
+abbrev pub aBracket : Role
+aBracket = record { code = 3 }
+
+abbrev pub aCloser : Role
+aCloser = record { code = 4 }
+
+abbrev pub aMinus : Role
+aMinus = record { code = 5 }
+
+abbrev pub aNot : Role
+aNot = record { code = 6 }
+
+abbrev pub aBinary : Role
+aBinary = record { code = 7 }
+
+abbrev pub aComma : Role
+aComma = record { code = 8 }
+
+abbrev pub aQuestion : Role
+aQuestion = record { code = 9 }
+
+abbrev pub aColon : Role
+aColon = record { code = 10 }
+
+abbrev pub aLoop : Role
+aLoop = record { code = 11 }
+
+abbrev pub another : Role
+another = record { code = 12 }
+
+-- The two roles are the same.
+abbrev pub is : Role → Role → Bool
+is a b = eqb (a .code) (b .code)
+
+pub is-same : (a b : Role) → is a b ≡ true → a ≡ b
+is-same a b h = λ i. record { code = eqb-true (a .code) (b .code) h i }
+
+abbrev pub isAmong : List Role → Role → Bool
+isAmong [] r = false
+isAmong (a ∷ rs) r = is a r || isAmong rs r
+
+-- What holds of each role of a list holds of every role among them.
+abbrev pub allOf : (Role → Bool) → List Role → Bool
+allOf f [] = true
+allOf f (a ∷ rs) = f a && allOf f rs
+
+pub among : (rs : List Role) (f : Role → Bool) → allOf f rs ≡ true → (r : Role) → isAmong rs r ≡ true → f r ≡ true
+among [] f h r m = absurd (false≢true m)
+among (a ∷ rs) f h r m = split (is a r) (f a) refl refl (among rs f)
+  where
+    split : (b c : Bool) → is a r ≡ b → f a ≡ c → (allOf f rs ≡ true → (r : Role) → isAmong rs r ≡ true → f r ≡ true) → f r ≡ true
+    split true true e g later = ap f (sym (is-same a r e)) ∙ g
+    split false true e g later = later (rw g at h) r (rw e at m)
+    split true false e g later = absurd (false≢true (rw g at h))
+    split false false e g later = absurd (false≢true (rw g at h))
+
+orElse : Bool → Role → Role → Role
+orElse true a b = a
+orElse false a b = b
+
+unfoldable pub role : ℕ → Role
+unfolding orElse
+role n =
+    orElse (not (leb n 110)) another
+    (orElse (isBracket n) aBracket
+    (orElse (eqb n Operator.rightParenthesis) aCloser
+    (orElse (eqb n Operator.negate) aMinus
+    (orElse (eqb n Operator.logicalNot) aNot
+    (orElse (eqb n Operator.comma) aComma
+    (orElse (eqb n Operator.conditional) aQuestion
+    (orElse (eqb n Operator.conditionalElse) aColon
+    (orElse (isMathCall n) aMathCall
+    (orElse (eqb n Operator.queryFunction) aQuery
+    (orElse (isPlainLeaf n) aLeaf
+    (orElse (isPlainBinary n) aBinary
+    (orElse (isQueryOrLoop n) aLoop another))))))))))))
+
+or-off : (a b : Bool) → (a || b) ≡ false → (a ≡ false) × (b ≡ false)
+or-off true b h = absurd (true≢false h)
+or-off false b h = (refl, h)
+
+-- What no number below m passes.
+pub none-below : (m : ℕ) (test : ℕ → Bool) → someBelow m test ≡ false → (n : ℕ) → n < m → test n ≡ false
+unfolding someBelow
+none-below zero test h n l = absurd (omega arith)
+none-below (suc m) test h n l = split (eqb n m) refl (none-below m test (or-off (test m) (someBelow m test) h .1) n)
+  where
+    split : (b : Bool) → eqb n m ≡ b → (n < m → test n ≡ false) → test n ≡ false
+    split true e earlier = ap test (eqb-true n m e) ∙ or-off (test m) (someBelow m test) h .0
+    split false e earlier = earlier (let q : ¬ (n ≡ m) = eqb-false n m e in omega arith)
+
+beq-eq : (a b : Bool) → not (Bool·beq a b) ≡ false → a ≡ b
+beq-eq true true h = refl
+beq-eq true false h = absurd (true≢false h)
+beq-eq false true h = absurd (true≢false h)
+beq-eq false false h = refl
+
+-- The numbers above 110 play no role.
+role-above : (n : ℕ) → 110 < n → role n ≡ another
+unfolding role orElse
+role-above n l = rw (lt-leb n 110 l) refl
+
+-- A test is told by the role: computed for the 111 numbers, and false of all others.
+by-role : (test : ℕ → Bool) (told : Role → Bool) → someBelow 111 (λ n. not (Bool·beq (test n) (told (role n)))) ≡ false
+    → ((n : ℕ) → 110 < n → test n ≡ told another) → (n : ℕ) → test n ≡ told (role n)
+by-role test told computed-below above n = split (leb n 110) refl
+  where
+    split : (b : Bool) → leb n 110 ≡ b → test n ≡ told (role n)
+    split true e =
+        beq-eq (test n) (told (role n))
+        (none-below 111 (λ n. not (Bool·beq (test n) (told (role n)))) computed-below n (let l = leb-true n 110 e in omega arith))
+    split false e = let l = leb-false n 110 e in above n l ∙ ap told (sym (role-above n l))
+
+not-one : (o : ℕ) → o < 111 → (n : ℕ) → 110 < n → eqb n o ≡ false
+not-one o small n l = ne-eqb n o (λ q. omega arith)
+
+not-between : (a b : ℕ) → b < 111 → (n : ℕ) → 110 < n → between a b n ≡ false
+unfolding between
+not-between a b small n l = rw (lt-leb n b (omega arith)) (and-off (leb a n))
+  where
+    and-off : (c : Bool) → (c && false) ≡ false
+    and-off true = refl
+    and-off false = refl
+
+pub role-bracket : (n : ℕ) → isBracket n ≡ is aBracket (role n)
+unfolding computed role orElse
+role-bracket = by-role isBracket (is aBracket) refl (not-one 4 (lit< tt))
+
+pub role-minus : (n : ℕ) → eqb n Operator.negate ≡ is aMinus (role n)
+unfolding computed role orElse
+role-minus = by-role (λ n. eqb n Operator.negate) (is aMinus) refl (not-one 6 (lit< tt))
+
+pub role-not : (n : ℕ) → eqb n Operator.logicalNot ≡ is aNot (role n)
+unfolding computed role orElse
+role-not = by-role (λ n. eqb n Operator.logicalNot) (is aNot) refl (not-one 7 (lit< tt))
+
+pub role-comma : (n : ℕ) → eqb n Operator.comma ≡ is aComma (role n)
+unfolding computed role orElse
+role-comma = by-role (λ n. eqb n Operator.comma) (is aComma) refl (not-one 75 (lit< tt))
+
+pub role-question : (n : ℕ) → eqb n Operator.conditional ≡ is aQuestion (role n)
+unfolding computed role orElse
+role-question = by-role (λ n. eqb n Operator.conditional) (is aQuestion) refl (not-one 59 (lit< tt))
+
+pub role-colon : (n : ℕ) → eqb n Operator.conditionalElse ≡ is aColon (role n)
+unfolding computed role orElse
+role-colon = by-role (λ n. eqb n Operator.conditionalElse) (is aColon) refl (not-one 60 (lit< tt))
+
+no-math : (n : ℕ) → 110 < n → isMathCall n ≡ false
+unfolding isMathCall
+no-math n l =
+    rw (not-one 8 (lit< tt) n l, not-between 10 19 (lit< tt) n l, not-between 21 30 (lit< tt) n l, not-between 32 39 (lit< tt) n l, not-between 78 110 (lit< tt) n l) refl
+
+pub role-math : (n : ℕ) → calls math n ≡ is aMathCall (role n)
+unfolding computed role orElse
+role-math = by-role (calls math) (is aMathCall) refl no-math
+
+pub role-query : (n : ℕ) → calls queryOrLoop n ≡ (is aQuery (role n) || is aLoop (role n))
+unfolding computed role orElse
+role-query = by-role (calls queryOrLoop) (λ r. is aQuery r || is aLoop r) refl
+    (λ n l. rw (not-one 40 (lit< tt) n l, not-one 67 (lit< tt) n l, not-one 68 (lit< tt) n l) refl)
+
+pub role-call : (n : ℕ) → isCall n ≡ (is aQuery (role n) || is aMathCall (role n))
+unfolding computed role orElse
+role-call = by-role isCall (λ r. is aQuery r || is aMathCall r) refl (λ n l. rw (not-one 40 (lit< tt) n l) (no-math n l))
+
+pub role-leaf : (n : ℕ) → isPlainLeaf n ≡ (is aLeaf (role n) || is aQuery (role n))
+unfolding computed role orElse
+role-leaf = by-role isPlainLeaf (λ r. is aLeaf r || is aQuery r) refl
+    (λ n l. rw (not-one 40 (lit< tt) n l, not-between 42 44 (lit< tt) n l, not-between 46 49 (lit< tt) n l, not-one 61 (lit< tt) n l, not-one 62 (lit< tt) n l, not-one 76 (lit< tt) n l) refl)
+
+pub role-binary : (n : ℕ) → isPlainBinary n ≡ (is aBinary (role n) || is aComma (role n) || is aQuestion (role n))
+unfolding computed role orElse
+role-binary = by-role isPlainBinary (λ r. is aBinary r || is aComma r || is aQuestion r) refl
+    (λ n l. rw (not-one 9 (lit< tt) n l, not-one 20 (lit< tt) n l, not-one 31 (lit< tt) n l, not-between 50 59 (lit< tt) n l, not-one 75 (lit< tt) n l) refl)
+
+pub role-single : (n : ℕ) → isOneOf (Operator.leftParenthesis ∷ Operator.negate ∷ Operator.logicalNot ∷ []) n ≡ (is aBracket (role n) || is aMinus (role n) || is aNot (role n))
+unfolding computed role orElse
+role-single =
+    by-role (isOneOf (Operator.leftParenthesis ∷ Operator.negate ∷ Operator.logicalNot ∷ [])) (λ r. is aBracket r || is aMinus r || is aNot r) refl
+    (λ n l. rw (not-one 4 (lit< tt) n l, not-one 6 (lit< tt) n l, not-one 7 (lit< tt) n l) refl)
+
+-- The operator of a role that only one plays.
+pub op-of-comma : (n : ℕ) (r : Role) → role n ≡ r → is aComma r ≡ true → n ≡ Operator.comma
+op-of-comma n r e h = eqb-true n Operator.comma (role-comma n ∙ ap (is aComma) e ∙ h)
+
+pub op-of-question : (n : ℕ) (r : Role) → role n ≡ r → is aQuestion r ≡ true → n ≡ Operator.conditional
+op-of-question n r e h = eqb-true n Operator.conditional (role-question n ∙ ap (is aQuestion) e ∙ h)
+
+pub op-of-colon : (n : ℕ) (r : Role) → role n ≡ r → is aColon r ≡ true → n ≡ Operator.conditionalElse
+op-of-colon n r e h = eqb-true n Operator.conditionalElse (role-colon n ∙ ap (is aColon) e ∙ h)
