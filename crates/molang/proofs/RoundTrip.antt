@@ -3,3 +3,4 @@ pub mod Role
 pub mod Expression
 pub mod Walk
 pub mod Binary
+pub mod Calls

@@ -14,7 +14,7 @@ use Rattle.molang.specs.Binary.{firstLeaf, unfolded, joined, operatorAft
 use Rattle.molang.proofs.Forests.{Turns}
 use Rattle.molang.proofs.RoundTrip.Role.{Role, aBracket, aComma, aQuestion, aColon, is, is-same, among, role, op-of-comma, op-of-question, op-of-colon}
 use Rattle.molang.proofs.RoundTrip.Expression.{Sort, Exp, empty, leaf, bracket, before, between, isOperand, isJoinedBy, leafRoles, prefixRoles, isLeaf, isPrefix, isJoining, isWhole, takes, joinsLeft, joinsRight, ahead, amid, form, also, turned-form}
-use Rattle.molang.proofs.RoundTrip.Walk.{walk-on, walk-into, Gathers, Carries, Passes, carry-both, carry-node, carry-whole}
+use Rattle.molang.proofs.RoundTrip.Walk.{walk-on, walk-into, Gathers, Carries, Passes, carry-both, carry-node, carry-token, carry-whole}
 
 -- When a level can come: its operators join operands and stand flat, and a `?` comes after its `:`.
 pub record Ready (σ : ℕ → Bool) (ops : List ℕ) : Type 0 where
@@ -69,9 +69,12 @@ module _ (σ : ℕ → Bool) (ops : List ℕ) (w : Ready σ ops) where
   whole : (F G : Forest → Forest) → Carried F G → walk level (gathered nil) (F nil) ≡ ok (G nil)
   whole F G c = carry-whole level gathered anything ends refl F G c
 
-  carry : (k : Token) (cs cs' : Forest) → isOneOf ops (k .op) ≡ false → walk level (gathered nil) cs ≡ ok cs' → Carried (node k cs) (node k cs')
+  passes : (k : Token) → isOneOf ops (k .op) ≡ false → Passes level gathered anything k
   unfolding binaryLevel binaryStep
-  carry k cs cs' q e = carry-node level gathered anything gathers k cs cs' (λ d. rw (q, binaryStep) refl) e
+  passes k q d = rw (q, binaryStep) refl
+
+  carry : (k : Token) (cs cs' : Forest) → isOneOf ops (k .op) ≡ false → walk level (gathered nil) cs ≡ ok cs' → Carried (node k cs) (node k cs')
+  carry k cs cs' q e = carry-node level gathered anything gathers k cs cs' (passes k q) e
 
   -- An operator of the level takes the node before it and the node after it.
   taken : (d : Forest) (l : Token) (ls : Forest) (k m : Token) (ms ms' r : Forest) → firstLeaf ops ls ≡ none → walk level (gathered nil) ms ≡ ok ms'
@@ -98,7 +101,7 @@ module _ (σ : ℕ → Bool) (ops : List ℕ) (w : Ready σ ops) where
   unfolding ahead turnedOnto
   carry-ahead a true k X X' q n x = absurd (true≢false n)
   carry-ahead true false k X X' q n x = carry k (X nil) (X' nil) q (whole X X' x)
-  carry-ahead false false k X X' q n x = carry-both level gathered anything (node k nil) (node k nil) X X' (carry k nil nil q (gathers .begins)) x (λ r d. refl) (λ r f. refl)
+  carry-ahead false false k X X' q n x = carry-token level gathered anything k X X' (passes k q) x
 
   carry-amid : (a b : Bool) (k : Token) (X X' Y Y' : Forest → Forest) → isOneOf ops (k .op) ≡ b → (b ≡ true → a ≡ false)
       → Carried X X' → Turns X' → Carried Y Y' → (b ≡ true → After X') → (b ≡ true → Single Y Y') → Carried (amid a k X Y) (amid (a || b) k X' Y')
@@ -109,7 +112,7 @@ module _ (σ : ℕ → Bool) (ops : List ℕ) (w : Ready σ ops) where
   carry-amid false true k X X' Y Y' q n x t y s o = unfold amid in fold k X X' Y Y' q x (s refl) (o refl)
   carry-amid false false k X X' Y Y' q n x t y s o =
       carry-both level gathered anything X X' (λ r. node k nil (Y r)) (λ r. node k nil (Y' r)) x
-      (carry-both level gathered anything (node k nil) (node k nil) Y Y' (carry k nil nil q (gathers .begins)) y (λ r d. refl) (λ r f. refl)) t (λ r f. refl)
+      (carry-token level gathered anything k Y Y' (passes k q) y) t (λ r f. refl)
 
   -- No operator of the level is left as a leaf.
   skip : (k : Token) (cs r : Forest) → isOneOf ops (k .op) ≡ false → firstLeaf ops cs ≡ none → firstLeaf ops (node k cs r) ≡ firstLeaf ops r
@@ -211,11 +214,10 @@ module _ (σ : ℕ → Bool) (ops : List ℕ) (w : Ready σ ops) where
       }
 
   -- The exceptions of document 01: what joins a list that is no operand has folded it.
-  excepted : (operand joining joined folded : Bool) → (operand || (joining && joined)) ≡ true → (joining ≡ true → folded ≡ true) → (operand || (joined && folded)) ≡ true
+  excepted : (operand joined joining folded : Bool) → (operand || (joined && joining)) ≡ true → (joining ≡ true → folded ≡ true) → (operand || (joined && folded)) ≡ true
   excepted true j b f h i = refl
-  excepted false true true f h i = i refl
-  excepted false true false f h i = h
-  excepted false false b f h i = absurd (false≢true h)
+  excepted false true b f h i = i h
+  excepted false false b f h i = h
 
   both-true : (a b : Bool) → (a && b) ≡ true → (a ≡ true) × (b ≡ true)
   both-true true b h = (refl, h)
@@ -230,10 +232,10 @@ module _ (σ : ℕ → Bool) (ops : List ℕ) (w : Ready σ ops) where
   unfolding form also
   folded-between {s} {t} k r e j l m x y i n =
       let left : isOneOf ops (k .op) ≡ true → After (form σ' x) = λ q.
-      i .after (excepted (isOperand s) (is aComma r) (isJoinedBy aComma s) (σ' Operator.comma) l
+      i .after (excepted (isOperand s) (isJoinedBy aComma s) (is aComma r) (σ' Operator.comma) l
       (λ c. or-true (σ Operator.comma) (isOneOf ops Operator.comma) (ap (isOneOf ops) (sym (op-of-comma (k .op) r e c)) ∙ q))) in
       let right : isOneOf ops (k .op) ≡ true → Single (form σ y) (form σ' y) = λ q.
-      n .single (excepted (isOperand t) (is aQuestion r) (isJoinedBy aColon t) (σ Operator.conditionalElse) m
+      n .single (excepted (isOperand t) (isJoinedBy aColon t) (is aQuestion r) (σ Operator.conditionalElse) m
       (λ c. w .paired (ap (isOneOf ops) (sym (op-of-question (k .op) r e c)) ∙ q))) in
       record {
         carried = carry-amid (σ (k .op)) (isOneOf ops (k .op)) k (form σ x) (form σ' x) (form σ y) (form σ' y) refl (w .flat (k .op))

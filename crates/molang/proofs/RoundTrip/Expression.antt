@@ -2,7 +2,7 @@
 -- the `:` right of its `?`). Writing a plain tree spells such an expression (Spelling), each pass of reading folds some of its operators.
 use Prim.Native.Nat.{ℕ}
 use mathlib.Core.Path.{_≡_, refl, ap, sym, _∙_}
-use mathlib.Core.Bool.{Bool, true, false, _||_, _&&_, not}
+use mathlib.Core.Bool.{Bool, true, false, _||_, _&&_, not, false≢true}
 use mathlib.Core.List.{List, [], _∷_}
 use Rattle.molang.specs.Forest.{Token, Forest, nil, node, turnedOnto, leaves}
 use Rattle.molang.specs.Write.{closerFor}
@@ -78,10 +78,10 @@ abbrev pub takes : Role → Sort → Bool
 takes r s = isOperand s && (not (is aMathCall r) || isBracketed s) && (not (is aQuery r) || isFilledBracket s)
 
 abbrev pub joinsLeft : Role → Sort → Bool
-joinsLeft r s = isOperand s || (is aComma r && isJoinedBy aComma s)
+joinsLeft r s = isOperand s || (isJoinedBy aComma s && is aComma r)
 
 abbrev pub joinsRight : Role → Sort → Bool
-joinsRight r s = isOperand s || (is aQuestion r && isJoinedBy aColon s)
+joinsRight r s = isOperand s || (isJoinedBy aColon s && is aQuestion r)
 
 pub data Exp : Sort → Type 0 where
   empty : Exp nothing
@@ -136,3 +136,35 @@ turned-form σ (between k _ _ _ _ _ x y) r d = turned-amid (σ (k .op)) k (form 
 -- The operators of σ and those of o.
 unfoldable pub also : (ℕ → Bool) → (ℕ → Bool) → ℕ → Bool
 also σ o n = σ n || o n
+
+-- The list has a first tree.
+pub record Filled (f : Forest) : Type 0 where
+  pub first : Token
+  pub below : Forest
+  pub rest : Forest
+  pub starts : f ≡ node first below rest
+
+filled-left : (r : Role) (s : Sort) → joinsLeft r s ≡ true → isFilled s ≡ true
+filled-left r nothing h = h
+filled-left r atom h = refl
+filled-left r prefixed h = refl
+filled-left r (bracketed s) h = refl
+filled-left r (joinedBy q) h = refl
+
+filled-ahead : (b : Bool) (k : Token) (X : Forest → Forest) (r : Forest) → Filled (ahead b k X r)
+unfolding ahead
+filled-ahead true k X r = record { first = k; below = X nil; rest = r; starts = refl }
+filled-ahead false k X r = record { first = k; below = nil; rest = X r; starts = refl }
+
+filled-amid : (b : Bool) (k : Token) (X Y : Forest → Forest) → ((r : Forest) → Filled (X r)) → (r : Forest) → Filled (amid b k X Y r)
+unfolding amid
+filled-amid true k X Y x r = record { first = k; below = X (Y nil); rest = r; starts = refl }
+filled-amid false k X Y x r = x (node k nil (Y r))
+
+pub filled-form : (σ : ℕ → Bool) {s : Sort} (e : Exp s) → isFilled s ≡ true → (r : Forest) → Filled (form σ e r)
+unfolding form
+filled-form σ empty h r = absurd (false≢true h)
+filled-form σ (leaf k _ _ _) h r = record { first = k; below = nil; rest = r; starts = refl }
+filled-form σ (bracket k _ _ x) h r = record { first = k; below = form σ x nil; rest = r; starts = refl }
+filled-form σ (before k _ _ _ _ x) h r = filled-ahead (σ (k .op)) k (form σ x) r
+filled-form σ (between {s} k q _ _ l _ x y) h r = filled-amid (σ (k .op)) k (form σ x) (form σ y) (filled-form σ x (filled-left q s l)) r

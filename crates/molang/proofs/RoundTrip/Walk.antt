@@ -17,6 +17,11 @@ module _ {S : Type 0} (L : Level S) where
   unfolding walk
   walk-into s t u k cs kids r e h = rw (e, walk) (rw h refl)
 
+  -- Two states that take the same step.
+  pub walk-same : (s t : S) (k : Token) (cs r : Forest) → L .step s k cs ≡ L .step t k cs → walk L s (node k cs r) ≡ walk L t (node k cs r)
+  unfolding walk
+  walk-same s t k cs r e = rw (e, walk) refl
+
 -- A level that gathers the trees so far in the state `at`, and goes through the children of every node.
 pub record Gathers {S : Type 0} (L : Level S) (at : Forest → S) : Type 0 where
   pub enters : (d : Forest) (k c : Token) (cs r : Forest) → L .step (at d) k (node c cs r) ≡ into (at d) (at nil)
@@ -44,6 +49,11 @@ module _ {S : Type 0} (L : Level S) (at : Forest → S) (next : Forest → Bool)
       ∙ ap (λ (c : Forest). walk L (at (node k c d)) r) (let n : ok nil ≡ ok cs' = sym (g .begins) ∙ e in cc)
   carry-node g k (node c cs rest) cs' p e d r f =
       walk-into L (at d) (at d) (at nil) k (node c cs rest) cs' r (g .enters d k c cs rest) e ∙ ap (λ (s : S). walk L s r) (g .resumes d k cs')
+
+  -- A token that is only gathered, whatever follows it.
+  pub carry-token : (k : Token) (X X' : Forest → Forest) → Passes k → Carries X X' → Carries (λ r. node k nil (X r)) (λ r. node k nil (X' r))
+  unfolding turnedOnto
+  carry-token k X X' p x d r f = walk-on L (at d) (at (node k nil d)) k nil (X r) (p d) ∙ x (node k nil d) r f
 
   -- A whole list, where the level ends with what it gathered.
   pub carry-whole : ((d : Forest) → L .finish (at d) ≡ ok (inOrder d)) → next nil ≡ true → (F G : Forest → Forest) → Carries F G
