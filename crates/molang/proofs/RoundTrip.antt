@@ -4,3 +4,4 @@ pub mod Expression
 pub mod Walk
 pub mod Binary
 pub mod Calls
+pub mod Unary

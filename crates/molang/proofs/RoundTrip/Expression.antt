@@ -168,3 +168,17 @@ filled-form σ (leaf k _ _ _) h r = record { first = k; below = nil; rest = r; s
 filled-form σ (bracket k _ _ x) h r = record { first = k; below = form σ x nil; rest = r; starts = refl }
 filled-form σ (before k _ _ _ _ x) h r = filled-ahead (σ (k .op)) k (form σ x) r
 filled-form σ (between {s} k q _ _ l _ x y) h r = filled-amid (σ (k .op)) k (form σ x) (form σ y) (filled-form σ x (filled-left q s l)) r
+
+-- The list is one tree.
+pub record Solid (F : Forest → Forest) : Type 0 where
+  pub label : Token
+  pub inside : Forest
+  pub becomes : (r : Forest) → F r ≡ node label inside r
+
+pub operand-solid : (σ : ℕ → Bool) {s : Sort} (e : Exp s) → isOperand s ≡ true → Solid (form σ e)
+unfolding form
+operand-solid σ empty h = absurd (false≢true h)
+operand-solid σ (leaf k _ _ _) h = record { label = k; inside = nil; becomes = λ r. refl }
+operand-solid σ (bracket k _ _ x) h = record { label = k; inside = form σ x nil; becomes = λ r. refl }
+operand-solid σ (before k _ _ _ _ x) h = absurd (false≢true h)
+operand-solid σ (between k _ _ _ _ _ x y) h = absurd (false≢true h)
