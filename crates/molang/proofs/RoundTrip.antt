@@ -5,3 +5,4 @@ pub mod Walk
 pub mod Binary
 pub mod Calls
 pub mod Unary
+pub mod Sections

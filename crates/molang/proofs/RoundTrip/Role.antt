@@ -2,7 +2,7 @@
 -- that the definition makes of it. Each law here ties one test of the definition to the role, by computing both for all 111 numbers.
 use Prim.Native.Nat.{ℕ, zero, suc, _≤_, _<_}
 use mathlib.Core.Path.{_≡_, refl, ap, sym, _∙_}
-use mathlib.Core.Bool.{Bool, true, false, _||_, _&&_, not, Bool·beq, true≢false, false≢true}
+use mathlib.Core.Bool.{Bool, true, false, _||_, _&&_, not, Bool·beq, true≢false, false≢true, and-eq-true-iff}
 use mathlib.Core.List.{List, [], _∷_}
 use mathlib.Core.Option.{Option, none, some}
 use native.Mathlib.Omega.{arith}
@@ -218,3 +218,24 @@ op-of-question n r e h = eqb-true n Operator.conditional (role-question n ∙ ap
 
 pub op-of-colon : (n : ℕ) (r : Role) → role n ≡ r → is aColon r ≡ true → n ≡ Operator.conditionalElse
 op-of-colon n r e h = eqb-true n Operator.conditionalElse (role-colon n ∙ ap (is aColon) e ∙ h)
+
+-- The roles of the tokens that the section pass leaves as they are.
+abbrev pub textRoles : List Role
+textRoles = aLeaf ∷ aQuery ∷ aMathCall ∷ aMinus ∷ aNot ∷ aBinary ∷ aComma ∷ aQuestion ∷ aColon ∷ []
+
+isNone : Option ℕ → Bool
+isNone none = true
+isNone (some c) = false
+
+none-of : (o : Option ℕ) → isNone o ≡ true → o ≡ none
+unfolding isNone
+none-of none h = refl
+none-of (some c) h = absurd (false≢true h)
+
+pub role-text : (n : ℕ) → isAmong textRoles (role n) ≡ true → (closingOf n ≡ none) × (isCloser n ≡ false)
+unfolding computed role orElse isNone
+role-text n h =
+    let told : (not (isAmong textRoles (role n)) || (isNone (closingOf n) && not (isCloser n))) ≡ true =
+        by-role (λ n. not (isAmong textRoles (role n)) || (isNone (closingOf n) && not (isCloser n))) (λ r. true) refl (λ n l. rw (role-above n l) refl) n in
+    let both = and-eq-true-iff (isNone (closingOf n)) (not (isCloser n)) .0 (rw h at told) in
+    (none-of (closingOf n) (both .0), not-true (isCloser n) (both .1))
