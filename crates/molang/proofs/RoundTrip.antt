@@ -6,3 +6,4 @@ pub mod Binary
 pub mod Calls
 pub mod Unary
 pub mod Sections
+pub mod Conditional

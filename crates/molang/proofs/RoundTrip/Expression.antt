@@ -182,3 +182,10 @@ operand-solid σ (leaf k _ _ _) h = record { label = k; inside = nil; becomes = 
 operand-solid σ (bracket k _ _ x) h = record { label = k; inside = form σ x nil; becomes = λ r. refl }
 operand-solid σ (before k _ _ _ _ x) h = absurd (false≢true h)
 operand-solid σ (between k _ _ _ _ _ x y) h = absurd (false≢true h)
+
+pub takes-operand : (r : Role) (s : Sort) → takes r s ≡ true → isOperand s ≡ true
+takes-operand r nothing h = h
+takes-operand r atom h = refl
+takes-operand r prefixed h = h
+takes-operand r (bracketed s) h = refl
+takes-operand r (joinedBy q) h = h

@@ -12,7 +12,7 @@ use Rattle.molang.specs.Forest.{Token, Forest, nil, node}
 use Rattle.molang.specs.Message.{Result, ok, fail}
 use Rattle.molang.specs.Unary.{done, undone, minusAfter, notBefore, unaryLeaf, turned, unaryNode, unary, unaryPass}
 use Rattle.molang.proofs.RoundTrip.Role.{Role, aBracket, aMinus, aNot, is, isAmong, allOf, among, role, role-minus, role-not}
-use Rattle.molang.proofs.RoundTrip.Expression.{Sort, nothing, atom, prefixed, bracketed, joinedBy, Exp, empty, leaf, bracket, before, between, isOperand, isJoinedBy, isBracketed, isFilledBracket, leafRoles, prefixRoles, joiningRoles, isLeaf, isPrefix, isJoining, isWhole, takes, joinsLeft, joinsRight, ahead, amid, form, also, Solid, operand-solid}
+use Rattle.molang.proofs.RoundTrip.Expression.{Sort, nothing, atom, prefixed, bracketed, joinedBy, Exp, empty, leaf, bracket, before, between, isOperand, isJoinedBy, isBracketed, isFilledBracket, leafRoles, prefixRoles, joiningRoles, isLeaf, isPrefix, isJoining, isWhole, takes, joinsLeft, joinsRight, ahead, amid, form, also, Solid, operand-solid, takes-operand}
 
 abbrev pub prefixes : ℕ → Bool
 prefixes n = isOneOf (Operator.negate ∷ Operator.logicalNot ∷ []) n
@@ -122,13 +122,6 @@ unbound n r rs e h m =
     or-last true b h = h
     or-last false true h = h
     or-last false false h = h
-
-takes-operand : (r : Role) (s : Sort) → takes r s ≡ true → isOperand s ≡ true
-takes-operand r nothing h = h
-takes-operand r atom h = refl
-takes-operand r prefixed h = h
-takes-operand r (bracketed s) h = refl
-takes-operand r (joinedBy q) h = h
 
 operand-stands : (s : Sort) (p : Option Token) → isOperand s ≡ true → stands s p ≡ true
 operand-stands nothing p h = refl
