@@ -7,3 +7,4 @@ pub mod Calls
 pub mod Unary
 pub mod Sections
 pub mod Conditional
+pub mod Order

@@ -125,7 +125,7 @@ beq-eq false true h = absurd (true≢false h)
 beq-eq false false h = refl
 
 -- The numbers above 110 play no role.
-role-above : (n : ℕ) → 110 < n → role n ≡ another
+pub role-above : (n : ℕ) → 110 < n → role n ≡ another
 unfolding role orElse
 role-above n l = rw (lt-leb n 110 l) refl
 
@@ -152,27 +152,27 @@ not-between a b small n l = rw (lt-leb n b (omega arith)) (and-off (leb a n))
     and-off false = refl
 
 pub role-bracket : (n : ℕ) → isBracket n ≡ is aBracket (role n)
-unfolding computed role orElse
+unfolding computed role
 role-bracket = by-role isBracket (is aBracket) refl (not-one 4 (lit< tt))
 
 pub role-minus : (n : ℕ) → eqb n Operator.negate ≡ is aMinus (role n)
-unfolding computed role orElse
+unfolding computed role
 role-minus = by-role (λ n. eqb n Operator.negate) (is aMinus) refl (not-one 6 (lit< tt))
 
 pub role-not : (n : ℕ) → eqb n Operator.logicalNot ≡ is aNot (role n)
-unfolding computed role orElse
+unfolding computed role
 role-not = by-role (λ n. eqb n Operator.logicalNot) (is aNot) refl (not-one 7 (lit< tt))
 
 pub role-comma : (n : ℕ) → eqb n Operator.comma ≡ is aComma (role n)
-unfolding computed role orElse
+unfolding computed role
 role-comma = by-role (λ n. eqb n Operator.comma) (is aComma) refl (not-one 75 (lit< tt))
 
 pub role-question : (n : ℕ) → eqb n Operator.conditional ≡ is aQuestion (role n)
-unfolding computed role orElse
+unfolding computed role
 role-question = by-role (λ n. eqb n Operator.conditional) (is aQuestion) refl (not-one 59 (lit< tt))
 
 pub role-colon : (n : ℕ) → eqb n Operator.conditionalElse ≡ is aColon (role n)
-unfolding computed role orElse
+unfolding computed role
 role-colon = by-role (λ n. eqb n Operator.conditionalElse) (is aColon) refl (not-one 60 (lit< tt))
 
 no-math : (n : ℕ) → 110 < n → isMathCall n ≡ false
@@ -181,30 +181,30 @@ no-math n l =
     rw (not-one 8 (lit< tt) n l, not-between 10 19 (lit< tt) n l, not-between 21 30 (lit< tt) n l, not-between 32 39 (lit< tt) n l, not-between 78 110 (lit< tt) n l) refl
 
 pub role-math : (n : ℕ) → calls math n ≡ is aMathCall (role n)
-unfolding computed role orElse
+unfolding computed role
 role-math = by-role (calls math) (is aMathCall) refl no-math
 
 pub role-query : (n : ℕ) → calls queryOrLoop n ≡ (is aQuery (role n) || is aLoop (role n))
-unfolding computed role orElse
+unfolding computed role
 role-query = by-role (calls queryOrLoop) (λ r. is aQuery r || is aLoop r) refl
     (λ n l. rw (not-one 40 (lit< tt) n l, not-one 67 (lit< tt) n l, not-one 68 (lit< tt) n l) refl)
 
 pub role-call : (n : ℕ) → isCall n ≡ (is aQuery (role n) || is aMathCall (role n))
-unfolding computed role orElse
+unfolding computed role
 role-call = by-role isCall (λ r. is aQuery r || is aMathCall r) refl (λ n l. rw (not-one 40 (lit< tt) n l) (no-math n l))
 
 pub role-leaf : (n : ℕ) → isPlainLeaf n ≡ (is aLeaf (role n) || is aQuery (role n))
-unfolding computed role orElse
+unfolding computed role
 role-leaf = by-role isPlainLeaf (λ r. is aLeaf r || is aQuery r) refl
     (λ n l. rw (not-one 40 (lit< tt) n l, not-between 42 44 (lit< tt) n l, not-between 46 49 (lit< tt) n l, not-one 61 (lit< tt) n l, not-one 62 (lit< tt) n l, not-one 76 (lit< tt) n l) refl)
 
 pub role-binary : (n : ℕ) → isPlainBinary n ≡ (is aBinary (role n) || is aComma (role n) || is aQuestion (role n))
-unfolding computed role orElse
+unfolding computed role
 role-binary = by-role isPlainBinary (λ r. is aBinary r || is aComma r || is aQuestion r) refl
     (λ n l. rw (not-one 9 (lit< tt) n l, not-one 20 (lit< tt) n l, not-one 31 (lit< tt) n l, not-between 50 59 (lit< tt) n l, not-one 75 (lit< tt) n l) refl)
 
 pub role-single : (n : ℕ) → isOneOf (Operator.leftParenthesis ∷ Operator.negate ∷ Operator.logicalNot ∷ []) n ≡ (is aBracket (role n) || is aMinus (role n) || is aNot (role n))
-unfolding computed role orElse
+unfolding computed role
 role-single =
     by-role (isOneOf (Operator.leftParenthesis ∷ Operator.negate ∷ Operator.logicalNot ∷ [])) (λ r. is aBracket r || is aMinus r || is aNot r) refl
     (λ n l. rw (not-one 4 (lit< tt) n l, not-one 6 (lit< tt) n l, not-one 7 (lit< tt) n l) refl)
@@ -233,7 +233,7 @@ none-of none h = refl
 none-of (some c) h = absurd (false≢true h)
 
 pub role-text : (n : ℕ) → isAmong textRoles (role n) ≡ true → (closingOf n ≡ none) × (isCloser n ≡ false)
-unfolding computed role orElse isNone
+unfolding computed role isNone
 role-text n h =
     let told : (not (isAmong textRoles (role n)) || (isNone (closingOf n) && not (isCloser n))) ≡ true =
         by-role (λ n. not (isAmong textRoles (role n)) || (isNone (closingOf n) && not (isCloser n))) (λ r. true) refl (λ n l. rw (role-above n l) refl) n in
