@@ -239,3 +239,7 @@ role-text n h =
         by-role (λ n. not (isAmong textRoles (role n)) || (isNone (closingOf n) && not (isCloser n))) (λ r. true) refl (λ n l. rw (role-above n l) refl) n in
     let both = and-eq-true-iff (isNone (closingOf n)) (not (isCloser n)) .0 (rw h at told) in
     (none-of (closingOf n) (both .0), not-true (isCloser n) (both .1))
+
+-- The roles of tokens that no writing has.
+abbrev pub isUnwritten : Role → Bool
+isUnwritten r = isAmong (aLoop ∷ another ∷ []) r
