@@ -254,6 +254,25 @@ or-off-behind : (a b : Bool) → (a || b) ≡ false → b ≡ false
 or-off-behind true b h = absurd (true≢false h)
 or-off-behind false b h = h
 
+or-off-before : (a b : Bool) → (a || b) ≡ false → a ≡ false
+or-off-before true b h = h
+or-off-before false b h = refl
+
+-- An operator that a test tells by its role plays one.
+plays-told : (test : ℕ → Bool) (told : Role → Bool) → ((n : ℕ) → test n ≡ told (role n)) → told another ≡ false → (n : ℕ) → test n ≡ true → is another (role n) ≡ false
+plays-told test told law o n h = split (is another (role n)) refl
+  where
+    split : (b : Bool) → is another (role n) ≡ b → is another (role n) ≡ false
+    split true p = absurd (true≢false (sym h ∙ law n ∙ ap told (sym (is-same another (role n) p)) ∙ o))
+    split false p = p
+
+final : (c a p : Bool) (n : ℕ) (r : Role) → role n ≡ r → (isPrefix r || isJoining r) ≡ true → afterAll nothingYet (laterPasses c a p) n ≡ true
+unfolding foldable
+final c a p n r e h =
+    let f : foldable (role n) ≡ true = ap foldable e ∙ h in
+    let plays = plays-told (λ n. foldable (role n)) foldable (λ n. refl) refl n f in
+    rw f at (below-all (λ n. not (foldable (role n)) || afterAll nothingYet (laterPasses c a p) n) (complete c a p) n plays)
+
 module _ {s : Sort} (e : Exp s) (w : isWhole s ≡ true) where
   u : ℕ → Bool
   u = uses (tokens e [])
@@ -328,14 +347,6 @@ module _ {s : Sort} (e : Exp s) (w : isWhole s ≡ true) where
       left-false false true h t = absurd (false≢true h)
       left-false false false h t = absurd (false≢true t)
 
-  -- An operator that a test tells by its role plays one.
-  plays-told : (test : ℕ → Bool) (told : Role → Bool) → ((n : ℕ) → test n ≡ told (role n)) → told another ≡ false → (n : ℕ) → test n ≡ true → is another (role n) ≡ false
-  plays-told test told law o n h = split (is another (role n)) refl
-    where
-      split : (b : Bool) → is another (role n) ≡ b → is another (role n) ≡ false
-      split true p = absurd (true≢false (sym h ∙ law n ∙ ap told (sym (is-same another (role n) p)) ∙ o))
-      split false p = p
-
   plays-call : (kind : CallKind) (n : ℕ) → calls kind n ≡ true → is another (role n) ≡ false
   plays-call queryOrLoop = plays-told (calls queryOrLoop) (λ r. is aQuery r || is aLoop r) role-query refl
   plays-call math = plays-told (calls math) (is aMathCall) role-math refl
@@ -388,3 +399,29 @@ module _ {s : Sort} (e : Exp s) (w : isWhole s ≡ true) where
       let parts = and-eq-true-iff (ready σ p) (allReady (also σ (folds p)) ps) .0 h in
       one-pass len p ps σ (parts .0) ∙ all-passes len ps (also σ (folds p)) (parts .1)
 
+
+  skipped : (sourceLength : ℕ) (p : Pass) (ps : List Pass) (f : Forest) → runs u p ≡ false → grouped sourceLength u (p ∷ ps) [] f ≡ grouped sourceLength u ps [] f
+  unfolding grouped
+  skipped len p ps f h = rw (h, grouped) refl
+
+  sectioned : (sourceLength : ℕ) (ps : List Pass) → grouped sourceLength u (sectioning ∷ ps) [] (leaves (tokens e [])) ≡ grouped sourceLength u ps [] (form nothingYet e nil)
+  unfolding grouped apply
+  sectioned len ps = split (runs u sectioning) refl
+    where
+      split : (b : Bool) → runs u sectioning ≡ b → grouped len u (sectioning ∷ ps) [] (leaves (tokens e [])) ≡ grouped len u ps [] (form nothingYet e nil)
+      split true h = rw (h, grouped) (rw (section-pass e) refl)
+      split false h =
+          rw (h, grouped)
+          (ap (grouped len u ps []) (sym (unfold leaves in bracketless u
+          (unfold runs any in or-off-before (u Operator.leftParenthesis) false (or-off-behind (u Operator.leftBracket) (u Operator.leftParenthesis || false) (or-off-behind (u Operator.leftBrace) (u Operator.leftBracket || (u Operator.leftParenthesis || false)) h)))
+          e used [])))
+
+  pub reading : (r : Rules) (sourceLength : ℕ) → grouped sourceLength (uses (tokens e [])) (order r) [] (leaves (tokens e [])) ≡ rooted sourceLength [] (form everything e nil)
+  unfolding order u runs
+  reading r len =
+      let ps = laterPasses (r .comparisonsFirst) (r .andFirst) (r .pairsRight) in
+      skipped len lastToken (memberAccessors ∷ sectioning ∷ ps) (leaves (tokens e [])) (any-foreign u unknown (Operator.assignment ∷ Operator.semicolon ∷ []) (unfold each isForeign computed role in refl))
+      ∙ skipped len memberAccessors (sectioning ∷ ps) (leaves (tokens e [])) (any-foreign u unknown (Operator.memberAccessor ∷ []) (unfold each isForeign computed role in refl))
+      ∙ sectioned len ps
+      ∙ all-passes len ps nothingYet (in-order (r .comparisonsFirst) (r .andFirst) (r .pairsRight))
+      ∙ ap (rooted len []) (finished (afterAll nothingYet ps) (final (r .comparisonsFirst) (r .andFirst) (r .pairsRight)) e nil)
