@@ -8,3 +8,4 @@ pub mod Unary
 pub mod Sections
 pub mod Conditional
 pub mod Order
+pub mod Spelling

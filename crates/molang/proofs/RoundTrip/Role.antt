@@ -189,24 +189,24 @@ unfolding computed role
 role-query = by-role (calls queryOrLoop) (λ r. is aQuery r || is aLoop r) refl
     (λ n l. rw (not-one 40 (lit< tt) n l, not-one 67 (lit< tt) n l, not-one 68 (lit< tt) n l) refl)
 
-pub role-call : (n : ℕ) → isCall n ≡ (is aQuery (role n) || is aMathCall (role n))
+pub role-call : (n : ℕ) → isCall n ≡ isAmong (aQuery ∷ aMathCall ∷ []) (role n)
 unfolding computed role
-role-call = by-role isCall (λ r. is aQuery r || is aMathCall r) refl (λ n l. rw (not-one 40 (lit< tt) n l) (no-math n l))
+role-call = by-role isCall (isAmong (aQuery ∷ aMathCall ∷ [])) refl (λ n l. rw (not-one 40 (lit< tt) n l) (no-math n l))
 
-pub role-leaf : (n : ℕ) → isPlainLeaf n ≡ (is aLeaf (role n) || is aQuery (role n))
+pub role-leaf : (n : ℕ) → isPlainLeaf n ≡ isAmong (aLeaf ∷ aQuery ∷ []) (role n)
 unfolding computed role
-role-leaf = by-role isPlainLeaf (λ r. is aLeaf r || is aQuery r) refl
+role-leaf = by-role isPlainLeaf (isAmong (aLeaf ∷ aQuery ∷ [])) refl
     (λ n l. rw (not-one 40 (lit< tt) n l, not-between 42 44 (lit< tt) n l, not-between 46 49 (lit< tt) n l, not-one 61 (lit< tt) n l, not-one 62 (lit< tt) n l, not-one 76 (lit< tt) n l) refl)
 
-pub role-binary : (n : ℕ) → isPlainBinary n ≡ (is aBinary (role n) || is aComma (role n) || is aQuestion (role n))
+pub role-binary : (n : ℕ) → isPlainBinary n ≡ isAmong (aBinary ∷ aComma ∷ aQuestion ∷ []) (role n)
 unfolding computed role
-role-binary = by-role isPlainBinary (λ r. is aBinary r || is aComma r || is aQuestion r) refl
+role-binary = by-role isPlainBinary (isAmong (aBinary ∷ aComma ∷ aQuestion ∷ [])) refl
     (λ n l. rw (not-one 9 (lit< tt) n l, not-one 20 (lit< tt) n l, not-one 31 (lit< tt) n l, not-between 50 59 (lit< tt) n l, not-one 75 (lit< tt) n l) refl)
 
-pub role-single : (n : ℕ) → isOneOf (Operator.leftParenthesis ∷ Operator.negate ∷ Operator.logicalNot ∷ []) n ≡ (is aBracket (role n) || is aMinus (role n) || is aNot (role n))
+pub role-single : (n : ℕ) → isOneOf (Operator.leftParenthesis ∷ Operator.negate ∷ Operator.logicalNot ∷ []) n ≡ isAmong (aBracket ∷ aMinus ∷ aNot ∷ []) (role n)
 unfolding computed role
 role-single =
-    by-role (isOneOf (Operator.leftParenthesis ∷ Operator.negate ∷ Operator.logicalNot ∷ [])) (λ r. is aBracket r || is aMinus r || is aNot r) refl
+    by-role (isOneOf (Operator.leftParenthesis ∷ Operator.negate ∷ Operator.logicalNot ∷ [])) (isAmong (aBracket ∷ aMinus ∷ aNot ∷ [])) refl
     (λ n l. rw (not-one 4 (lit< tt) n l, not-one 6 (lit< tt) n l, not-one 7 (lit< tt) n l) refl)
 
 -- The operator of a role that only one plays.
