@@ -12,7 +12,7 @@ use Rattle.molang.specs.Operator
 use Rattle.molang.specs.Operator.{isOneOf, isMathCall, isBracket}
 use Rattle.molang.specs.Forest.{Token, Forest, nil, node, size, bare}
 use Rattle.molang.specs.Calls.{math, calls}
-use Rattle.molang.specs.Plain.{Place, elsewhere, rightOfQuestion, underMathCall, isRightOfQuestion, isUnderMathCall, placeUnder, placeOf, isPlainLeaf, isPlainBinary, isCall, plainForm, unplain}
+use Rattle.molang.specs.Plain.{Place, elsewhere, rightOfQuestion, underMathCall, isRightOfQuestion, isUnderMathCall, placeUnder, placeOf, isPlainLeaf, isPlainBinary, isCall, plainForm, unplain, unplainAt}
 use Rattle.molang.specs.Write.{openerFor, closerFor, standsAlone, standsLeft, standsRight, operandTokens, written, isSingle, takenAway}
 use Rattle.molang.proofs.Computed.{computed}
 use Rattle.molang.proofs.RoundTrip.Role.{Role, aLeaf, aQuery, aMathCall, aBracket, aMinus, aNot, aBinary, aComma, aQuestion, aColon, is, is-same, isAmong, allOf, among, role, role-bracket, role-comma, role-question, role-colon, role-math, role-call, role-leaf, role-binary, role-single}
@@ -316,3 +316,114 @@ spell-call p k x xs h b y =
     spell-before p k x xs r refl (among callRoles isPrefix refl r (sym (role-call (k .op)) ∙ h))
     (part (takes r) (standsAlone x xs) (placeUnder k 0) x xs y (λ t. fits) (λ t. whole-left k x xs y) (λ t. absurd (true≢false (sym alone ∙ t))))
     (rw alone (or-true (not (isCall (k .op)))))
+
+-- A binary operator between its operands, with the two exceptions.
+joins-excepted : (a b c d : Bool) → (a || (b && c)) ≡ true → a ≡ d → (d || (c && b)) ≡ true
+joins-excepted true b c d h e = rw (← e) refl
+joins-excepted false true true d h e = rw (← e) refl
+joins-excepted false true false d h e = absurd (false≢true h)
+joins-excepted false false c d h e = absurd (false≢true h)
+
+left-part : (k x : Token) (xs : Forest) → Spelled (placeUnder k 0) x xs → Part (joinsLeft (role (k .op))) (standsLeft k x xs) x xs
+unfolding standsLeft
+left-part k x xs y =
+    part (joinsLeft (role (k .op))) (standsLeft k x xs) (placeUnder k 0) x xs y
+    (λ h. rw (role-comma (k .op), y .comma) at (joins-excepted (standsAlone x xs) (eqb (k .op) Operator.comma) (eqb (x .op) Operator.comma) (isOperand (y .sort)) h (y .alone)))
+    (λ h. whole-left k x xs y) (λ h. refl)
+
+right-part : (k x : Token) (xs : Forest) → Spelled (placeUnder k 1) x xs → Part (joinsRight (role (k .op))) (standsRight k x xs) x xs
+unfolding standsRight
+right-part k x xs y =
+    part (joinsRight (role (k .op))) (standsRight k x xs) (placeUnder k 1) x xs y
+    (λ h. rw (role-question (k .op), y .colon) at (joins-excepted (standsAlone x xs) (eqb (k .op) Operator.conditional) (eqb (x .op) Operator.conditionalElse) (isOperand (y .sort)) h (y .alone)))
+    (λ h. whole h (isJoinedBy aColon (y .sort)) refl) (λ h. refl)
+  where
+    whole : (standsAlone x xs || (eqb (k .op) Operator.conditional && eqb (x .op) Operator.conditionalElse)) ≡ false → (b : Bool) → isJoinedBy aColon (y .sort) ≡ b → isWhole (y .sort) ≡ true
+    whole h false c = ap not c
+    whole h true c = absurd (true≢false (sym (rw (right-place k (y .placed c), y .colon ∙ c) (or-true (standsAlone x xs))) ∙ h))
+
+spell-two : (p : Place) (k x : Token) (xs : Forest) (y : Token) (ys : Forest) → plainForm p k (node x xs (node y ys nil)) ≡ true
+    → Spelled (placeUnder k 0) x xs → Spelled (placeUnder k 1) y ys → Spelled p k (node x xs (node y ys nil))
+unfolding plainForm
+spell-two p k x xs y ys h a b = split (isPlainBinary (k .op)) refl
+  where
+    binaries : List Role
+    binaries = aBinary ∷ aComma ∷ aQuestion ∷ []
+
+    split : (t : Bool) → isPlainBinary (k .op) ≡ t → Spelled p k (node x xs (node y ys nil))
+    split true t =
+        let m : isAmong (aBinary ∷ aComma ∷ aQuestion ∷ []) (role (k .op)) ≡ true = sym (role-binary (k .op)) ∙ t in
+        spell-between p k x xs y ys (role (k .op)) refl (among (aBinary ∷ aComma ∷ aQuestion ∷ []) isJoining refl (role (k .op)) m)
+        (λ c. absurd (true≢false (sym c ∙ unlike aColon (aBinary ∷ aComma ∷ aQuestion ∷ []) refl (role (k .op)) m))) (left-part k x xs a) (right-part k y ys b)
+    split false t =
+        let parts = and-eq-true-iff (eqb (k .op) Operator.conditionalElse) (isRightOfQuestion p) .0 (rw t at h) in
+        spell-between p k x xs y ys (role (k .op)) refl (ap isJoining (role-is aColon (k .op) (eqb (k .op) Operator.conditionalElse) (role-colon (k .op)) (parts .0)))
+        (λ c. parts .1) (left-part k x xs a) (right-part k y ys b)
+
+spell-one : (p : Place) (k x : Token) (xs : Forest) → plainForm p k (node x xs nil) ≡ true → Spelled (placeUnder k 0) x xs → Spelled p k (node x xs nil)
+unfolding plainForm
+spell-one p k x xs h y = split (isBracket (k .op)) (isCall (k .op)) refl refl
+  where
+    call-single : isCall (k .op) ≡ true → isOneOf (Operator.leftParenthesis ∷ Operator.negate ∷ Operator.logicalNot ∷ []) (k .op) ≡ false
+    call-single c = role-single (k .op) ∙ not-true (isAmong (aBracket ∷ aMinus ∷ aNot ∷ []) (role (k .op))) (among callRoles (λ r. not (isAmong (aBracket ∷ aMinus ∷ aNot ∷ []) r)) refl (role (k .op)) (sym (role-call (k .op)) ∙ c))
+
+    or-left : (a b : Bool) → b ≡ false → (a || b) ≡ true → a ≡ true
+    or-left true b n h = refl
+    or-left false b n h = absurd (true≢false (sym h ∙ n))
+
+    split : (b c : Bool) → isBracket (k .op) ≡ b → isCall (k .op) ≡ c → Spelled p k (node x xs nil)
+    split true c m n = spell-bracket p (placeUnder k 0) k x xs (role-is aBracket (k .op) (isBracket (k .op)) (role-bracket (k .op)) m) y (whole-left k x xs y)
+    split false true m n = spell-call p k x xs n (rw (call-single n, n) at h) y
+    split false false m n =
+        let s : isAmong (aBracket ∷ aMinus ∷ aNot ∷ []) (role (k .op)) ≡ true =
+            sym (role-single (k .op)) ∙ or-left (isOneOf (Operator.leftParenthesis ∷ Operator.negate ∷ Operator.logicalNot ∷ []) (k .op)) (isCall (k .op) && isBracket (x .op)) (rw n refl) h in
+        spell-prefix p k x xs (rw (sym (role-bracket (k .op)) ∙ m) at s) y
+
+spell-none : (p : Place) (k : Token) → plainForm p k nil ≡ true → Spelled p k nil
+unfolding plainForm
+spell-none p k h = split (isPlainLeaf (k .op)) refl
+  where
+    split : (b : Bool) → isPlainLeaf (k .op) ≡ b → Spelled p k nil
+    split true l = spell-leaf p k (role (k .op)) refl (sym (role-leaf (k .op)) ∙ l)
+    split false l =
+        let parts = and-eq-true-iff (isBracket (k .op)) (isUnderMathCall p) .0 (rw l at h) in
+        spell-hollow p k (role-is aBracket (k .op) (isBracket (k .op)) (role-bracket (k .op)) (parts .0)) (parts .1)
+
+-- What is plain of a list of trees.
+record Plain (p : Option Token) (i n : ℕ) (k : Token) (cs rest : Forest) : Type 0 where
+  here : plainForm (placeOf p i) k cs ≡ true
+  below : unplain (some k) 0 (suc n) cs ≡ none
+  after : unplain p (suc i) (suc n + size cs) rest ≡ none
+
+plain-parts : (p : Option Token) (i n : ℕ) (k : Token) (cs rest : Forest) → unplain p i n (node k cs rest) ≡ none → Plain p i n k cs rest
+unfolding unplain
+plain-parts p i n k cs rest h = split (plainForm (placeOf p i) k cs) (unplain (some k) 0 (suc n) cs) refl refl
+  where
+    some-none : {m : ℕ} → some m ≡ none → ⊥
+    some-none p = let z : _≡_ {A = ℕ} 0 1 = cc in omega arith
+
+    split : (b : Bool) (o : Option ℕ) → plainForm (placeOf p i) k cs ≡ b → unplain (some k) 0 (suc n) cs ≡ o → Plain p i n k cs rest
+    split false o e f = absurd (some-none (rw (e, unplain) at h))
+    split true (some m) e f = absurd (some-none (rw (e, f, unplain) at h))
+    split true none e f = record { here = e; below = f; after = rw (e, f, unplain) at h }
+
+spelled : (p : Place) (n : ℕ) (k : Token) (cs : Forest) → plainForm p k cs ≡ true → unplain (some k) 0 n cs ≡ none → Spelled p k cs
+unfolding placeOf
+spelled p n k nil h u = spell-none p k h
+spelled p n k (node x xs nil) h u = let a = plain-parts (some k) 0 n x xs nil u in spell-one p k x xs h (spelled (placeUnder k 0) (suc n) x xs (a .here) (a .below))
+spelled p n k (node x xs (node y ys nil)) h u =
+    let a = plain-parts (some k) 0 n x xs (node y ys nil) u in
+    let b = plain-parts (some k) 1 (suc n + size xs) y ys nil (a .after) in
+    spell-two p k x xs y ys h (spelled (placeUnder k 0) (suc n) x xs (a .here) (a .below)) (spelled (placeUnder k 1) (suc (suc n + size xs)) y ys (b .here) (b .below))
+spelled p n k (node x xs (node y ys (node z zs r))) h u = absurd (false≢true (unfold plainForm in h))
+
+-- A plain tree is spelled as an expression that stands on its own.
+pub plain-spelled : (k : Token) (cs : Forest) → unplainAt k cs ≡ none → (e : Spelled elsewhere k cs) × (isWhole (e .sort) ≡ true)
+unfolding unplainAt placeOf isRightOfQuestion
+plain-spelled k cs h =
+    let a = plain-parts none 0 0 k cs nil h in
+    let e = spelled elsewhere 1 k cs (a .here) (a .below) in (e, whole (isJoinedBy aColon (e .sort)) e refl)
+  where
+    whole : (b : Bool) (e : Spelled elsewhere k cs) → isJoinedBy aColon (e .sort) ≡ b → isWhole (e .sort) ≡ true
+    whole true e c = absurd (false≢true (unfold isRightOfQuestion in e .placed c))
+    whole false e c = ap not c
