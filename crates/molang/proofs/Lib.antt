@@ -1,3 +1,5 @@
 pub mod Computed
 pub mod Forests
+pub mod PlainTrees
+pub mod Writing
 pub mod RoundTrip

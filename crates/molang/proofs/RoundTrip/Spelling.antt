@@ -15,6 +15,8 @@ use Rattle.molang.specs.Calls.{math, calls}
 use Rattle.molang.specs.Plain.{Place, elsewhere, rightOfQuestion, underMathCall, isRightOfQuestion, isUnderMathCall, placeUnder, placeOf, isPlainLeaf, isPlainBinary, isCall, plainForm, unplain, unplainAt}
 use Rattle.molang.specs.Write.{openerFor, closerFor, standsAlone, standsLeft, standsRight, operandTokens, written, isSingle, takenAway}
 use Rattle.molang.proofs.Computed.{computed}
+use Rattle.molang.proofs.PlainTrees.{plain-parts}
+use Rattle.molang.proofs.Writing.{written-none, written-one, written-two}
 use Rattle.molang.proofs.RoundTrip.Role.{Role, aLeaf, aQuery, aMathCall, aBracket, aMinus, aNot, aBinary, aComma, aQuestion, aColon, is, is-same, isAmong, allOf, among, role, role-bracket, role-comma, role-question, role-colon, role-math, role-call, role-leaf, role-binary, role-single}
 use Rattle.molang.proofs.RoundTrip.Expression.{Sort, nothing, atom, prefixed, bracketed, joinedBy, Exp, empty, leaf, bracket, before, between, isOperand, isJoinedBy, isWhole, isFilled, isBracketed, isFilledBracket, leafRoles, prefixRoles, joiningRoles, isLeaf, isPrefix, isJoining, takes, joinsLeft, joinsRight, tokens, ahead, amid, form, Solid}
 use Rattle.molang.proofs.RoundTrip.Order.{everything}
@@ -119,20 +121,6 @@ no-comma n r rs e h m = role-comma n ∙ ap (is aComma) e ∙ unlike aComma rs h
 
 no-colon : (n : ℕ) (r : Role) (rs : List Role) → role n ≡ r → allOf (λ r. not (is aColon r)) rs ≡ true → isAmong rs r ≡ true → eqb n Operator.conditionalElse ≡ false
 no-colon n r rs e h m = role-colon n ∙ ap (is aColon) e ∙ unlike aColon rs h r m
-
--- The writing of a node without children and with one, by whether it is a bracket.
-written-none : (b : Bool) (k : Token) (r : List Token) → isBracket (k .op) ≡ b
-    → written k nil r ≡ (elim b as (λ t. List Token) [ true ↦ k ∷ closerFor k ∷ r | false ↦ k ∷ r ])
-unfolding written
-written-none b k r h = rw (← h) refl
-
-written-one : (b : Bool) (k x : Token) (xs : Forest) (r : List Token) → isBracket (k .op) ≡ b
-    → written k (node x xs nil) r ≡ (elim b as (λ t. List Token) [
-      | true ↦ k ∷ written x xs (closerFor k ∷ r)
-      | false ↦ k ∷ operandTokens (standsAlone x xs) x (written x xs) r
-    ])
-unfolding written
-written-one b k x xs r h = rw (← h) refl
 
 spell-leaf : (p : Place) (k : Token) (r : Role) → role (k .op) ≡ r → isLeaf r ≡ true → Spelled p k nil
 unfolding tokens written form standsAlone
@@ -347,9 +335,6 @@ spell-two : (p : Place) (k x : Token) (xs : Forest) (y : Token) (ys : Forest) �
 unfolding plainForm
 spell-two p k x xs y ys h a b = split (isPlainBinary (k .op)) refl
   where
-    binaries : List Role
-    binaries = aBinary ∷ aComma ∷ aQuestion ∷ []
-
     split : (t : Bool) → isPlainBinary (k .op) ≡ t → Spelled p k (node x xs (node y ys nil))
     split true t =
         let m : isAmong (aBinary ∷ aComma ∷ aQuestion ∷ []) (role (k .op)) ≡ true = sym (role-binary (k .op)) ∙ t in
@@ -388,24 +373,6 @@ spell-none p k h = split (isPlainLeaf (k .op)) refl
     split false l =
         let parts = and-eq-true-iff (isBracket (k .op)) (isUnderMathCall p) .0 (rw l at h) in
         spell-hollow p k (role-is aBracket (k .op) (isBracket (k .op)) (role-bracket (k .op)) (parts .0)) (parts .1)
-
--- What is plain of a list of trees.
-record Plain (p : Option Token) (i n : ℕ) (k : Token) (cs rest : Forest) : Type 0 where
-  here : plainForm (placeOf p i) k cs ≡ true
-  below : unplain (some k) 0 (suc n) cs ≡ none
-  after : unplain p (suc i) (suc n + size cs) rest ≡ none
-
-plain-parts : (p : Option Token) (i n : ℕ) (k : Token) (cs rest : Forest) → unplain p i n (node k cs rest) ≡ none → Plain p i n k cs rest
-unfolding unplain
-plain-parts p i n k cs rest h = split (plainForm (placeOf p i) k cs) (unplain (some k) 0 (suc n) cs) refl refl
-  where
-    some-none : {m : ℕ} → some m ≡ none → ⊥
-    some-none p = let z : _≡_ {A = ℕ} 0 1 = cc in omega arith
-
-    split : (b : Bool) (o : Option ℕ) → plainForm (placeOf p i) k cs ≡ b → unplain (some k) 0 (suc n) cs ≡ o → Plain p i n k cs rest
-    split false o e f = absurd (some-none (rw (e, unplain) at h))
-    split true (some m) e f = absurd (some-none (rw (e, f, unplain) at h))
-    split true none e f = record { here = e; below = f; after = rw (e, f, unplain) at h }
 
 spelled : (p : Place) (n : ℕ) (k : Token) (cs : Forest) → plainForm p k cs ≡ true → unplain (some k) 0 n cs ≡ none → Spelled p k cs
 unfolding placeOf
