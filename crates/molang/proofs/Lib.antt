@@ -2,4 +2,5 @@ pub mod Computed
 pub mod Forests
 pub mod PlainTrees
 pub mod Writing
+pub mod TakingAway
 pub mod RoundTrip

@@ -297,8 +297,8 @@ module _ (σ : ℕ → Bool) (w : Unpaired σ) where
   unfolding amid
   carry-amid true k X M G Y N H x c t y d =
       let inner : walk conditionalLevel nil (X (Y nil)) ≡ ok (M (N nil)) =
-          finish-calm (λ r. X (Y r)) (λ r. M (N r)) (M (N nil)) (carry-both conditionalLevel gatheredIn anything X M Y N x y (turns-mid M G c t) (λ r f. refl)) refl
-          (ap dangling (c .stays (N nil)) ∙ c .free (N nil) ∙ ap dangling (d refl .stays nil) ∙ d refl .free nil ∙ none-left) in
+      finish-calm (λ r. X (Y r)) (λ r. M (N r)) (M (N nil)) (carry-both conditionalLevel gatheredIn anything X M Y N x y (turns-mid M G c t) (λ r f. refl)) refl
+      (ap dangling (c .stays (N nil)) ∙ c .free (N nil) ∙ ap dangling (d refl .stays nil) ∙ d refl .free nil ∙ none-left) in
       carry-node conditionalLevel gatheredIn anything gathers k (X (Y nil)) (M (N nil)) (passes k) inner
   carry-amid false k X M G Y N H x c t y d =
       carry-both conditionalLevel gatheredIn anything X M (λ r. node k nil (Y r)) (λ r. node k nil (N r)) x
@@ -353,10 +353,10 @@ module _ (σ : ℕ → Bool) (w : Unpaired σ) where
       let solid : is aComma r ≡ false → Solid (form σ' x) = λ f. operand-solid σ' x (operand-only (isOperand s) (isJoinedBy aComma s) (is aComma r) f l) in
       let operand : is aQuestion r ≡ false → isOperand t ≡ true = λ q. operand-only (isOperand t) (isJoinedBy aColon t) (is aQuestion r) q m in
       let c = carry-amid (σ (k .op)) k (form σ x) (mid x) (form σ' x) (form σ y) (mid y) (form σ' y) (i .carried) left (turned-form σ' x) (n .carried)
-          (λ h. n .calm (operand-calm t (operand (folded-other (k .op) r e h)))) in
+      (λ h. n .calm (operand-calm t (operand (folded-other (k .op) r e h)))) in
       let calm : isOther r ≡ true → Calm (amid (σ (k .op)) k (mid x) (mid y)) (amid (σ' (k .op)) k (form σ' x) (form σ' y)) = λ h.
-          calm-amid (σ (k .op)) (conditionals (k .op)) k (mid x) (form σ' x) (mid y) (form σ' y) (unconditional (k .op) r e h) (calm-node k r e h) left
-          (n .calm (operand-calm t (operand (other-neither (is aQuestion r) (is aColon r) h .0)))) in
+      calm-amid (σ (k .op)) (conditionals (k .op)) k (mid x) (form σ' x) (mid y) (form σ' y) (unconditional (k .op) r e h) (calm-node k r e h) left
+      (n .calm (operand-calm t (operand (other-neither (is aQuestion r) (is aColon r) h .0)))) in
       record {
         carried = c;
         calm = calm;

@@ -298,8 +298,10 @@ module _ {s : Sort} (e : Exp s) (w : isWhole s ≡ true) where
     where
       split : (b : Bool) → u Operator.queryFunction ≡ b → isOneOf (Operator.queryFunction ∷ Operator.loop ∷ Operator.forEach ∷ []) n ≡ false
       split true q =
-          absurd (true≢false (sym (rw (any-on u (Operator.leftBrace ∷ Operator.leftBracket ∷ Operator.leftParenthesis ∷ Operator.queryFunction ∷ Operator.arrayVariable ∷ Operator.semicolon ∷ []) Operator.queryFunction q refl,
-          any-on u (Operator.queryFunction ∷ Operator.loop ∷ Operator.forEach ∷ []) Operator.queryFunction q refl) refl) ∙ h))
+          absurd (true≢false (sym (rw (
+            any-on u (Operator.leftBrace ∷ Operator.leftBracket ∷ Operator.leftParenthesis ∷ Operator.queryFunction ∷ Operator.arrayVariable ∷ Operator.semicolon ∷ []) Operator.queryFunction q refl,
+            any-on u (Operator.queryFunction ∷ Operator.loop ∷ Operator.forEach ∷ []) Operator.queryFunction q refl,
+          ) refl) ∙ h))
       split false q = any-off u (Operator.queryFunction ∷ Operator.loop ∷ Operator.forEach ∷ []) (rw (q, unknown Operator.loop refl, unknown Operator.forEach refl) refl) n t
 
   no-math : runs u mathCalls ≡ false → (n : ℕ) → u n ≡ true → calls math n ≡ false
@@ -331,7 +333,7 @@ module _ {s : Sort} (e : Exp s) (w : isWhole s ≡ true) where
   flat-binary σ ops h =
       let parts = and-eq-true-iff (each (λ n. isJoining (role n) && not (σ n)) ops) (not (isOneOf ops Operator.conditional) || σ Operator.conditionalElse) .0 h in
       let both : (n : ℕ) → isOneOf ops n ≡ true → (isJoining (role n) ≡ true) × (not (σ n) ≡ true) =
-          λ n m. and-eq-true-iff (isJoining (role n)) (not (σ n)) .0 (each-one (λ n. isJoining (role n) && not (σ n)) ops (parts .0) n m) in
+      λ n m. and-eq-true-iff (isJoining (role n)) (not (σ n)) .0 (each-one (λ n. isJoining (role n) && not (σ n)) ops (parts .0) n m) in
       record {
         joining = λ n m. both n m .0;
         flat = λ n m. not-true (σ n) (both n m .1);
@@ -398,7 +400,6 @@ module _ {s : Sort} (e : Exp s) (w : isWhole s ≡ true) where
   all-passes len (p ∷ ps) σ h =
       let parts = and-eq-true-iff (ready σ p) (allReady (also σ (folds p)) ps) .0 h in
       one-pass len p ps σ (parts .0) ∙ all-passes len ps (also σ (folds p)) (parts .1)
-
 
   skipped : (sourceLength : ℕ) (p : Pass) (ps : List Pass) (f : Forest) → runs u p ≡ false → grouped sourceLength u (p ∷ ps) [] f ≡ grouped sourceLength u ps [] f
   unfolding grouped

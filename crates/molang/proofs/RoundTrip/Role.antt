@@ -236,7 +236,7 @@ pub role-text : (n : ℕ) → isAmong textRoles (role n) ≡ true → (closingOf
 unfolding computed role isNone
 role-text n h =
     let told : (not (isAmong textRoles (role n)) || (isNone (closingOf n) && not (isCloser n))) ≡ true =
-        by-role (λ n. not (isAmong textRoles (role n)) || (isNone (closingOf n) && not (isCloser n))) (λ r. true) refl (λ n l. rw (role-above n l) refl) n in
+    by-role (λ n. not (isAmong textRoles (role n)) || (isNone (closingOf n) && not (isCloser n))) (λ r. true) refl (λ n l. rw (role-above n l) refl) n in
     let both = and-eq-true-iff (isNone (closingOf n)) (not (isCloser n)) .0 (rw h at told) in
     (none-of (closingOf n) (both .0), not-true (isCloser n) (both .1))
 

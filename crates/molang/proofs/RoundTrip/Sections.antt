@@ -71,9 +71,11 @@ read-bracket : (k : Token) → k .op ≡ Operator.leftParenthesis → (F : List 
     → Reads (λ r. k ∷ F (closerFor k ∷ r)) (node k (G nil))
 unfolding leaves over
 read-bracket k h F G f i s r =
-    let a = f (position i s) (section k (position i s + 1) nil s) (closerFor k ∷ r) in
-    (a .0 + 1, opens k h i s _ ∙ a .1 ∙ shuts k h (turnedOnto (G nil) nil) (a .0) (position i s + 1) s (leaves r)
-    ∙ ap (λ (c : Forest). sections (a .0 + 1) (over (node k c nil) s) (leaves r)) (inOrder-turned (G nil)))
+    let a = f (position i s) (section k (position i s + 1) nil s) (closerFor k ∷ r) in (
+      a .0 + 1,
+      opens k h i s _ ∙ a .1 ∙ shuts k h (turnedOnto (G nil) nil) (a .0) (position i s + 1) s (leaves r)
+          ∙ ap (λ (c : Forest). sections (a .0 + 1) (over (node k c nil) s) (leaves r)) (inOrder-turned (G nil)),
+    )
 
 reads : {s : Sort} (e : Exp s) → Reads (tokens e) (form nothingYet e)
 unfolding tokens form ahead amid isBracket turnedOnto

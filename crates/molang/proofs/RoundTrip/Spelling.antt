@@ -16,6 +16,7 @@ use Rattle.molang.specs.Plain.{Place, elsewhere, rightOfQuestion, underM
 use Rattle.molang.specs.Write.{openerFor, closerFor, standsAlone, standsLeft, standsRight, operandTokens, written, isSingle, takenAway}
 use Rattle.molang.proofs.Computed.{computed}
 use Rattle.molang.proofs.PlainTrees.{plain-parts}
+use Rattle.molang.proofs.TakingAway.{taken-later, taken-kept, taken-call, taken-bracket}
 use Rattle.molang.proofs.Writing.{written-none, written-one, written-two}
 use Rattle.molang.proofs.RoundTrip.Role.{Role, aLeaf, aQuery, aMathCall, aBracket, aMinus, aNot, aBinary, aComma, aQuestion, aColon, is, is-same, isAmong, allOf, among, role, role-bracket, role-comma, role-question, role-colon, role-math, role-call, role-leaf, role-binary, role-single}
 use Rattle.molang.proofs.RoundTrip.Expression.{Sort, nothing, atom, prefixed, bracketed, joinedBy, Exp, empty, leaf, bracket, before, between, isOperand, isJoinedBy, isWhole, isFilled, isBracketed, isFilledBracket, leafRoles, prefixRoles, joiningRoles, isLeaf, isPrefix, isJoining, takes, joinsLeft, joinsRight, tokens, ahead, amid, form, Solid}
@@ -29,23 +30,6 @@ taken-form c (leaf k _ _ _) r R = refl
 taken-form c (bracket k _ _ x) r R = refl
 taken-form c (before k _ _ _ _ x) r R = refl
 taken-form c (between k _ _ _ _ _ x y) r R = refl
-
-taken-later : (c : Bool) (k : Token) (cs r R : Forest) → takenAway c (node k cs r) R ≡ takenAway c (node k cs nil) (takenAway c r R)
-unfolding takenAway
-taken-later c k cs r R = refl
-
--- A node that is no bracket stays, and so does a bracket under a call.
-taken-kept : (c : Bool) (k : Token) (cs R : Forest) → isBracket (k .op) ≡ false → takenAway c (node k cs nil) R ≡ node k (takenAway (isCall (k .op)) cs nil) R
-unfolding takenAway
-taken-kept c k cs R h = rw (h, takenAway) refl
-
-taken-call : (k : Token) (cs R : Forest) → takenAway true (node k cs nil) R ≡ node k (takenAway (isCall (k .op)) cs nil) R
-unfolding takenAway
-taken-call k cs R = rw (and-false (isBracket (k .op) && isSingle cs), takenAway) refl
-
-taken-bracket : (k x : Token) (xs R : Forest) → isBracket (k .op) ≡ true → takenAway false (node k (node x xs nil) nil) R ≡ takenAway false (node x xs nil) R
-unfolding takenAway isSingle
-taken-bracket k x xs R h = rw (h, takenAway) refl
 
 pub filled-solid : {s : Sort} (e : Exp s) → isFilled s ≡ true → Solid (form everything e)
 unfolding form ahead amid
@@ -300,7 +284,7 @@ spell-call p k x xs h b y =
     let bracketed : isBracketed (y .sort) ≡ true = sym (y .bracketing) ∙ b in
     let alone : standsAlone x xs ≡ true = y .alone ∙ bracketed-operand (y .sort) bracketed in
     let fits : takes r (y .sort) ≡ true = call-takes r (y .sort) bracketed
-        (λ q. y .full bracketed (argument-place k (role-math (k .op) ∙ ap (is aMathCall) (sym (is-same aQuery r q))))) in
+    (λ q. y .full bracketed (argument-place k (role-math (k .op) ∙ ap (is aMathCall) (sym (is-same aQuery r q))))) in
     spell-before p k x xs r refl (among callRoles isPrefix refl r (sym (role-call (k .op)) ∙ h))
     (part (takes r) (standsAlone x xs) (placeUnder k 0) x xs y (λ t. fits) (λ t. whole-left k x xs y) (λ t. absurd (true≢false (sym alone ∙ t))))
     (rw alone (or-true (not (isCall (k .op)))))
@@ -361,7 +345,7 @@ spell-one p k x xs h y = split (isBracket (k .op)) (isCall (k .op)) refl refl
     split false true m n = spell-call p k x xs n (rw (call-single n, n) at h) y
     split false false m n =
         let s : isAmong (aBracket ∷ aMinus ∷ aNot ∷ []) (role (k .op)) ≡ true =
-            sym (role-single (k .op)) ∙ or-left (isOneOf (Operator.leftParenthesis ∷ Operator.negate ∷ Operator.logicalNot ∷ []) (k .op)) (isCall (k .op) && isBracket (x .op)) (rw n refl) h in
+        sym (role-single (k .op)) ∙ or-left (isOneOf (Operator.leftParenthesis ∷ Operator.negate ∷ Operator.logicalNot ∷ []) (k .op)) (isCall (k .op) && isBracket (x .op)) (rw n refl) h in
         spell-prefix p k x xs (rw (sym (role-bracket (k .op)) ∙ m) at s) y
 
 spell-none : (p : Place) (k : Token) → plainForm p k nil ≡ true → Spelled p k nil
