@@ -28,6 +28,7 @@ pub mod Binary
 pub mod Conditional
 pub mod Order
 pub mod Spelling
+pub mod Examples
 
 -- Reading the writing of the tree k over cs with exactly its operators gives a tree, which is the same once brackets are taken away.
 pub record ReadsBack (k : Token) (cs : Forest) (version : ℤ) (sourceLength : ℕ) : Type 0 where
