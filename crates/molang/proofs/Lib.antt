@@ -1,4 +1,5 @@
 pub mod Computed
+pub mod Booleans
 pub mod Forests
 pub mod PlainTrees
 pub mod Writing

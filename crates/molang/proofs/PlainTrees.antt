@@ -2,8 +2,7 @@
 use Prim.Native.Nat.{ℕ, suc, _+_}
 use mathlib.Core.Path.{_≡_, refl}
 use mathlib.Core.Bool.{Bool, true, false}
-use mathlib.Core.Option.{Option, none, some}
-use native.Mathlib.Omega.{arith}
+use mathlib.Core.Option.{Option, none, some, Option·some-ne-none}
 use Rattle.molang.specs.Forest.{Token, Forest, nil, node, size}
 use Rattle.molang.specs.Plain.{plainForm, placeOf, unplain}
 
@@ -17,10 +16,7 @@ pub plain-parts : (p : Option Token) (i n : ℕ) (k : Token) (cs rest : Forest) 
 unfolding unplain
 plain-parts p i n k cs rest h = split (plainForm (placeOf p i) k cs) (unplain (some k) 0 (suc n) cs) refl refl
   where
-    some-none : {m : ℕ} → some m ≡ none → ⊥
-    some-none p = let z : _≡_ {A = ℕ} 0 1 = cc in omega arith
-
     split : (b : Bool) (o : Option ℕ) → plainForm (placeOf p i) k cs ≡ b → unplain (some k) 0 (suc n) cs ≡ o → Plain p i n k cs rest
-    split false o e f = absurd (some-none (rw (e, unplain) at h))
-    split true (some m) e f = absurd (some-none (rw (e, f, unplain) at h))
+    split false o e f = absurd (Option·some-ne-none n (rw (e, unplain) at h))
+    split true (some m) e f = absurd (Option·some-ne-none m (rw (e, f, unplain) at h))
     split true none e f = record { here = e; below = f; after = rw (e, f, unplain) at h }

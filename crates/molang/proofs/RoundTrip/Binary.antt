@@ -1,7 +1,7 @@
 -- A binary level takes an expression's list to the list in which its operators are folded too.
 use Prim.Native.Nat.{ℕ}
 use mathlib.Core.Path.{_≡_, refl, ap, sym, _∙_}
-use mathlib.Core.Bool.{Bool, true, false, _||_, _&&_, not, true≢false, false≢true}
+use mathlib.Core.Bool.{Bool, true, false, _||_, _&&_, not, true≢false, false≢true, and-eq-true-iff}
 use mathlib.Core.List.{List, [], _∷_}
 use mathlib.Core.Option.{Option, none, some}
 use borrow.Author.Tests.{eqb-true}
@@ -11,9 +11,10 @@ use Rattle.molang.specs.Forest.{Token, Forest, nil, node, turnedOnto, in
 use Rattle.molang.specs.Message.{Result, ok, fail}
 use Rattle.molang.specs.Level.{Step, stop, on, into, Level, walk, Gathered, gathered, waiting}
 use Rattle.molang.specs.Binary.{firstLeaf, unfolded, joined, operatorAfter, binaryStep, binaryResume, binaryFinish, binaryLevel}
+use Rattle.molang.proofs.Booleans.{never, or-second}
 use Rattle.molang.proofs.Forests.{Turns}
 use Rattle.molang.proofs.RoundTrip.Role.{Role, aBracket, aComma, aQuestion, aColon, is, is-same, among, role, op-of-comma, op-of-question, op-of-colon}
-use Rattle.molang.proofs.RoundTrip.Expression.{Sort, Exp, empty, leaf, bracket, before, between, isOperand, isJoinedBy, leafRoles, prefixRoles, isLeaf, isPrefix, isJoining, isWhole, takes, joinsLeft, joinsRight, ahead, amid, form, also, turned-form}
+use Rattle.molang.proofs.RoundTrip.Expression.{Sort, Exp, empty, leaf, bracket, before, between, isOperand, isJoinedBy, leafRoles, prefixRoles, isLeaf, isPrefix, isJoining, isWhole, takes, joinsLeft, joinsRight, excepted, ahead, amid, form, also, turned-form}
 use Rattle.molang.proofs.RoundTrip.Walk.{walk-on, walk-into, Gathers, Carries, Passes, carry-both, carry-node, carry-token, carry-whole}
 
 -- When a level can come: its operators join operands and stand flat, and a `?` comes after its `:`.
@@ -52,11 +53,7 @@ module _ (σ : ℕ → Bool) (ops : List ℕ) (w : Ready σ ops) where
     walked : walk level (gathered nil) before ≡ ok (after .inside)
 
   quiet : (n : ℕ) (r : Role) → role n ≡ r → not (isJoining r) ≡ true → isOneOf ops n ≡ false
-  quiet n r e q = split (isOneOf ops n) refl
-    where
-      split : (b : Bool) → isOneOf ops n ≡ b → isOneOf ops n ≡ false
-      split true t = absurd (false≢true (sym (ap not (sym (ap isJoining e) ∙ w .joining n t)) ∙ q))
-      split false t = t
+  quiet n r e q = never (isOneOf ops n) (λ t. false≢true (sym (ap not (sym (ap isJoining e) ∙ w .joining n t)) ∙ q))
 
   gathers : Gathers level gathered
   unfolding walk binaryLevel binaryStep binaryResume binaryFinish inOrder turnedOnto
@@ -213,27 +210,13 @@ module _ (σ : ℕ → Bool) (ops : List ℕ) (w : Ready σ ops) where
         single = λ h. absurd (false≢true h);
       }
 
-  -- The exceptions of document 01: what joins a list that is no operand has folded it.
-  excepted : (operand joined joining folded : Bool) → (operand || (joined && joining)) ≡ true → (joining ≡ true → folded ≡ true) → (operand || (joined && folded)) ≡ true
-  excepted true j b f h i = refl
-  excepted false true b f h i = i h
-  excepted false false b f h i = h
-
-  both-true : (a b : Bool) → (a && b) ≡ true → (a ≡ true) × (b ≡ true)
-  both-true true b h = (refl, h)
-  both-true false b h = absurd (false≢true h)
-
-  or-true : (a b : Bool) → b ≡ true → (a || b) ≡ true
-  or-true true b h = refl
-  or-true false b h = h
-
   folded-between : {s t : Sort} (k : Token) (r : Role) (e : role (k .op) ≡ r) (j : isJoining r ≡ true) (l : joinsLeft r s ≡ true) (m : joinsRight r t ≡ true)
       (x : Exp s) (y : Exp t) → Folded x → Folded y → Folded (between k r e j l m x y)
   unfolding form also
   folded-between {s} {t} k r e j l m x y i n =
       let left : isOneOf ops (k .op) ≡ true → After (form σ' x) = λ q.
       i .after (excepted (isOperand s) (isJoinedBy aComma s) (is aComma r) (σ' Operator.comma) l
-      (λ c. or-true (σ Operator.comma) (isOneOf ops Operator.comma) (ap (isOneOf ops) (sym (op-of-comma (k .op) r e c)) ∙ q))) in
+      (λ c. or-second (σ Operator.comma) (isOneOf ops Operator.comma) (ap (isOneOf ops) (sym (op-of-comma (k .op) r e c)) ∙ q))) in
       let right : isOneOf ops (k .op) ≡ true → Single (form σ y) (form σ' y) = λ q.
       n .single (excepted (isOperand t) (isJoinedBy aColon t) (is aQuestion r) (σ Operator.conditionalElse) m
       (λ c. w .paired (ap (isOneOf ops) (sym (op-of-question (k .op) r e c)) ∙ q))) in
@@ -241,9 +224,9 @@ module _ (σ : ℕ → Bool) (ops : List ℕ) (w : Ready σ ops) where
         carried = carry-amid (σ (k .op)) (isOneOf ops (k .op)) k (form σ x) (form σ' x) (form σ y) (form σ' y) refl (w .flat (k .op))
             (i .carried) (turned-form σ' x) (n .carried) left right;
         clean = clean-amid (σ (k .op)) (isOneOf ops (k .op)) k (form σ' x) (form σ' y) refl (i .clean) (n .clean) left;
-        after = λ h. let c = both-true (is aComma r) (σ' Operator.comma) h in
+        after = λ h. let c = and-eq-true-iff (is aComma r) (σ' Operator.comma) .0 h in
             after-amid (σ' (k .op)) k (form σ' x) (form σ' y) (ap σ' (op-of-comma (k .op) r e (c .0)) ∙ c .1) (i .clean) (n .clean);
-        single = λ h. let c = both-true (is aColon r) (σ Operator.conditionalElse) h in
+        single = λ h. let c = and-eq-true-iff (is aColon r) (σ Operator.conditionalElse) .0 h in
             single-amid (σ (k .op)) (isOneOf ops (k .op)) k (form σ x) (form σ' x) (form σ y) (form σ' y) (ap σ (op-of-colon (k .op) r e (c .0)) ∙ c .1)
             (i .carried) (turned-form σ' x) (n .carried) (i .clean) (n .clean);
       }

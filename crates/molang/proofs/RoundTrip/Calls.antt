@@ -1,7 +1,7 @@
 -- The call pass and the math call pass take an expression's list to the list in which their calls hold their brackets.
 use Prim.Native.Nat.{ℕ}
 use mathlib.Core.Path.{_≡_, refl, ap, sym, _∙_}
-use mathlib.Core.Bool.{Bool, true, false, _||_, _&&_, not, true≢false, false≢true}
+use mathlib.Core.Bool.{Bool, true, false, _||_, _&&_, not, true≢false, false≢true, and-eq-true-iff}
 use mathlib.Core.List.{List, [], _∷_}
 use native.Mathlib.Omega.{arith}
 use borrow.Author.Tests.{not-true}
@@ -10,6 +10,7 @@ use Rattle.molang.specs.Forest.{Token, Forest, nil, node, turnedOnto, in
 use Rattle.molang.specs.Message.{Result, ok, fail}
 use Rattle.molang.specs.Level.{Step, stop, on, into, Level, walk, Gathered, gathered, waiting}
 use Rattle.molang.specs.Calls.{CallKind, queryOrLoop, math, calls, callLeaf, callStep, callResume, callFinish, callLevel}
+use Rattle.molang.proofs.Booleans.{either, or-only-first}
 use Rattle.molang.proofs.Forests.{Turns}
 use Rattle.molang.proofs.RoundTrip.Role.{Role, aBracket, aQuery, aLoop, aMathCall, is, isAmong, allOf, among, role, role-bracket, role-math, role-query}
 use Rattle.molang.proofs.RoundTrip.Expression.{Sort, nothing, atom, prefixed, bracketed, joinedBy, Exp, empty, leaf, bracket, before, between, isOperand, isBracketed, isFilled, isFilledBracket, leafRoles, prefixRoles, joiningRoles, isLeaf, isPrefix, isJoining, isWhole, takes, joinsLeft, joinsRight, ahead, amid, form, also, turned-form, Filled, filled-form}
@@ -122,11 +123,7 @@ settles k q d r f = walk-on (callLevel queryOrLoop) (gathered d) (waiting d k) k
 
 leaf-settles : (kind : CallKind) (k : Token) (r : Role) → role (k .op) ≡ r → isLeaf r ≡ true → Carried kind (node k nil) (node k nil)
 leaf-settles math k r e l = carry math k nil nil (uncalled math (k .op) r leafRoles e refl l) (gathers math .begins)
-leaf-settles queryOrLoop k r e l = split (calls queryOrLoop (k .op)) refl
-  where
-    split : (b : Bool) → calls queryOrLoop (k .op) ≡ b → Carried queryOrLoop (node k nil) (node k nil)
-    split true q = settles k q
-    split false q = carry queryOrLoop k nil nil q (gathers queryOrLoop .begins)
+leaf-settles queryOrLoop k r e l = either (calls queryOrLoop (k .op)) (settles k) (λ q. carry queryOrLoop k nil nil q (gathers queryOrLoop .begins))
 
 take-bracket : (kind : CallKind) (b : Token) (cs cs' : Forest) → isBracket (b .op) ≡ true → (callable kind (bracketed nothing) ≡ false → Filled cs)
     → walk (callLevel kind) (gathered nil) cs ≡ ok cs' → Takes kind (node b cs) (node b cs')
@@ -143,24 +140,15 @@ take-bracket queryOrLoop b nil cs' h f e d k r = absurd (nil-starts (f refl .sta
 take-bracket queryOrLoop b (node c cs rest) cs' h f e d k r =
     walk-into (callLevel queryOrLoop) (waiting d k) (waiting d k) (gathered nil) b (node c cs rest) cs' r (rw (h, callStep) refl) e
 
-both-true : (a b : Bool) → (a && b) ≡ true → (a ≡ true) × (b ≡ true)
-both-true true b h = (refl, h)
-both-true false b h = absurd (false≢true h)
-
-or-left : (a b : Bool) → not b ≡ true → (a || b) ≡ true → a ≡ true
-or-left true b n h = refl
-or-left false true n h = absurd (false≢true n)
-or-left false false n h = h
-
 -- A call stands before what it takes.
 called-takes : (kind : CallKind) (r : Role) (s : Sort) → told kind r ≡ true → isPrefix r ≡ true → takes r s ≡ true → callable kind s ≡ true
 called-takes math r s m p t =
-    let u = both-true (isOperand s && (not (is aMathCall r) || isBracketed s)) (not (is aQuery r) || isFilledBracket s) t .0 in
-    let v = both-true (isOperand s) (not (is aMathCall r) || isBracketed s) u .1 in
+    let u = and-eq-true-iff (isOperand s && (not (is aMathCall r) || isBracketed s)) (not (is aQuery r) || isFilledBracket s) .0 t .0 in
+    let v = and-eq-true-iff (isOperand s) (not (is aMathCall r) || isBracketed s) .0 u .1 in
     let b : isBracketed s ≡ true = (rw m at v) in rw b refl
 called-takes queryOrLoop r s m p t =
-    let u = both-true (isOperand s && (not (is aMathCall r) || isBracketed s)) (not (is aQuery r) || isFilledBracket s) t .1 in
-    let q = or-left (is aQuery r) (is aLoop r) (among prefixRoles (λ r. not (is aLoop r)) refl r p) m in
+    let u = and-eq-true-iff (isOperand s && (not (is aMathCall r) || isBracketed s)) (not (is aQuery r) || isFilledBracket s) .0 t .1 in
+    let q = or-only-first (is aQuery r) (is aLoop r) (not-true (is aLoop r) (among prefixRoles (λ r. not (is aLoop r)) refl r p)) m in
     filled-bracket s (rw q at u)
   where
     filled-bracket : (s : Sort) → isFilledBracket s ≡ true → callable queryOrLoop s ≡ true

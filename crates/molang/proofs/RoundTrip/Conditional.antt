@@ -1,9 +1,9 @@
 -- The conditional pass from version 5 takes an expression's list to the list in which its conditionals are folded.
 use Prim.Native.Nat.{ℕ}
 use mathlib.Core.Path.{_≡_, refl, ap, sym, _∙_, fun-ext}
-use mathlib.Core.Bool.{Bool, true, false, _||_, _&&_, not, true≢false, false≢true, and-eq-true-iff, and-false, or-false}
+use mathlib.Core.Bool.{Bool, true, false, _||_, _&&_, not, true≢false, false≢true, and-eq-true-iff, and-true}
 use mathlib.Core.List.{List, [], _∷_}
-use mathlib.Core.Option.{Option, none, some}
+use mathlib.Core.Option.{Option, none, some, Option·some-ne-none}
 use native.Mathlib.Omega.{arith}
 use lib.Dec.{eqb}
 use borrow.Author.Tests.{not-true}
@@ -13,9 +13,10 @@ use Rattle.molang.specs.Forest.{Token, Forest, nil, node, turnedOnto, in
 use Rattle.molang.specs.Message.{Result, ok, fail}
 use Rattle.molang.specs.Level.{Step, stop, on, into, Level, walk}
 use Rattle.molang.specs.Conditional.{isToken, startsWith, under, pairElse, scan, foldedFrom, dangling, undangled, conditionalStep, conditionalFinish, conditionalLevel}
+use Rattle.molang.proofs.Booleans.{either, never}
 use Rattle.molang.proofs.Forests.{Turns, inOrder-turned}
 use Rattle.molang.proofs.RoundTrip.Role.{Role, aBracket, aComma, aQuestion, aColon, is, is-same, isAmong, allOf, among, role, role-question, role-colon, op-of-question, op-of-colon}
-use Rattle.molang.proofs.RoundTrip.Expression.{Sort, nothing, atom, prefixed, bracketed, joinedBy, Exp, empty, leaf, bracket, before, between, isOperand, isJoinedBy, isWhole, leafRoles, prefixRoles, joiningRoles, isLeaf, isPrefix, isJoining, takes, joinsLeft, joinsRight, ahead, amid, form, also, turned-form, Solid, operand-solid, takes-operand}
+use Rattle.molang.proofs.RoundTrip.Expression.{Sort, nothing, atom, prefixed, bracketed, joinedBy, Exp, empty, leaf, bracket, before, between, isOperand, isJoinedBy, isWhole, leafRoles, prefixRoles, joiningRoles, isLeaf, isPrefix, isJoining, takes, joinsLeft, joinsRight, excepted, operand-only, ahead, amid, form, also, turned-form, Solid, operand-solid, takes-operand}
 use Rattle.molang.proofs.RoundTrip.Walk.{walk-on, walk-into, Gathers, Carries, Passes, carry-both, carry-node, carry-token}
 
 abbrev pub conditionals : ℕ → Bool
@@ -34,13 +35,10 @@ token-back k cs r p q = rw (p, q, dangling) refl
 token-free : (k : Token) (cs r : Forest) → dangling (node k cs r) ≡ none → (isToken Operator.conditional k cs ≡ false) × (isToken Operator.conditionalElse k cs ≡ false) × (dangling r ≡ none)
 token-free k cs r h = split (isToken Operator.conditional k cs) (isToken Operator.conditionalElse k cs) refl refl
   where
-    some-none : {t : Token} → some t ≡ none → ⊥
-    some-none p = let z : _≡_ {A = ℕ} 0 1 = cc in omega arith
-
     split : (a b : Bool) → isToken Operator.conditional k cs ≡ a → isToken Operator.conditionalElse k cs ≡ b
         → (isToken Operator.conditional k cs ≡ false) × (isToken Operator.conditionalElse k cs ≡ false) × (dangling r ≡ none)
-    split true b p q = let d : dangling (node k cs r) ≡ some k = (unfold dangling in rw (p, dangling) refl) in absurd (some-none (sym d ∙ h))
-    split false true p q = let d : dangling (node k cs r) ≡ some k = (unfold dangling in rw (p, q, dangling) refl) in absurd (some-none (sym d ∙ h))
+    split true b p q = let d : dangling (node k cs r) ≡ some k = (unfold dangling in rw (p, dangling) refl) in absurd (Option·some-ne-none k (sym d ∙ h))
+    split false true p q = let d : dangling (node k cs r) ≡ some k = (unfold dangling in rw (p, q, dangling) refl) in absurd (Option·some-ne-none k (sym d ∙ h))
     split false false p q = (p, q, sym (token-back k cs r p q) ∙ h)
 
 calm-turned : (f o : Forest) → dangling f ≡ none → dangling o ≡ none → dangling (turnedOnto f o) ≡ none
@@ -167,16 +165,6 @@ left-calm r atom h = refl
 left-calm r prefixed h = refl
 left-calm r (bracketed s) h = refl
 left-calm r (joinedBy q) h = ap (λ (q : Role). isCalm (joinedBy q)) (sym (is-same aComma q (and-eq-true-iff (is aComma q) (is aComma r) .0 h .0)))
-
--- A list that is no operand stands only where document 01 excepts it.
-operand-only : (operand joined joining : Bool) → joining ≡ false → (operand || (joined && joining)) ≡ true → operand ≡ true
-operand-only true b c n h = refl
-operand-only false b c n h = rw (n, and-false b) at h
-
-excepted-right : (operand joined joining : Bool) → (operand || (joined && joining)) ≡ true → (operand || joined) ≡ true
-excepted-right true b c h = refl
-excepted-right false true c h = refl
-excepted-right false false c h = h
 
 module _ (σ : ℕ → Bool) (w : Unpaired σ) where
   abbrev σ' : ℕ → Bool
@@ -334,13 +322,9 @@ module _ (σ : ℕ → Bool) (w : Unpaired σ) where
       (ap (λ (f : Forest). conditionalFinish (turnedOnto f nil)) (x .stays (node q nil (N nil)) ∙ o .becomes (node q nil (N nil)))
       ∙ fold-right q (o .label) (o .inside) N H e y ∙ ap (λ (f : Forest). ok (node q f nil)) (sym (o .becomes (H nil))))
 
-  either : {A : Type 0} (b : Bool) → (b ≡ true → A) → (b ≡ false → A) → A
-  either true f g = f refl
-  either false f g = g refl
-
   -- A folded operator is no `?`.
   folded-other : (n : ℕ) (r : Role) → role n ≡ r → σ n ≡ true → is aQuestion r ≡ false
-  folded-other n r e h = either (is aQuestion r) (λ q. absurd (true≢false (sym h ∙ ap σ (op-of-question n r e q) ∙ w .question))) (λ q. q)
+  folded-other n r e h = never (is aQuestion r) (λ q. true≢false (sym h ∙ ap σ (op-of-question n r e q) ∙ w .question))
 
   conditional-op : (n o : ℕ) → n ≡ o → conditionals o ≡ true → conditionals n ≡ true
   conditional-op n o e h = ap conditionals e ∙ h
@@ -370,7 +354,7 @@ module _ (σ : ℕ → Bool) (w : Unpaired σ) where
             (λ q. let o = op-of-question (k .op) r e q in
             question-whole (σ (k .op)) (conditionals (k .op)) k (form σ x) (mid x) (form σ' x) (form σ y) (mid y) (form σ' y) (ap σ o ∙ w .question)
             (conditional-op (k .op) Operator.conditional o refl) (ap (λ (n : ℕ). eqb n Operator.conditional) o) c left (solid (ap (is aComma) (sym (is-same aQuestion r q))))
-            (n .right (excepted-right (isOperand t) (isJoinedBy aColon t) (is aQuestion r) m)))
+            (n .right (rw (and-true (isJoinedBy aColon t)) at (excepted (isOperand t) (isJoinedBy aColon t) (is aQuestion r) true m (λ h. refl)))))
             (λ q. let d = calm (rw q h) in finish-calm (amid (σ (k .op)) k (form σ x) (form σ y)) (amid (σ (k .op)) k (mid x) (mid y)) (amid (σ' (k .op)) k (form σ' x) (form σ' y) nil) c (d .stays nil) (d .free nil ∙ none-left));
       }
 

@@ -2,7 +2,7 @@
 -- the `:` right of its `?`). Writing a plain tree spells such an expression (Spelling), each pass of reading folds some of its operators.
 use Prim.Native.Nat.{ℕ}
 use mathlib.Core.Path.{_≡_, refl, ap, sym, _∙_}
-use mathlib.Core.Bool.{Bool, true, false, _||_, _&&_, not, false≢true}
+use mathlib.Core.Bool.{Bool, true, false, _||_, _&&_, not, false≢true, and-false}
 use mathlib.Core.List.{List, [], _∷_}
 use Rattle.molang.specs.Forest.{Token, Forest, nil, node, turnedOnto, leaves}
 use Rattle.molang.specs.Write.{closerFor}
@@ -82,6 +82,16 @@ joinsLeft r s = isOperand s || (isJoinedBy aComma s && is aComma r)
 
 abbrev pub joinsRight : Role → Sort → Bool
 joinsRight r s = isOperand s || (isJoinedBy aColon s && is aQuestion r)
+
+-- What stands beside an operator is an operand, unless document 01 excepts it.
+pub excepted : (operand joined joining b : Bool) → (operand || (joined && joining)) ≡ true → (joining ≡ true → b ≡ true) → (operand || (joined && b)) ≡ true
+excepted true j g b h i = refl
+excepted false true g b h i = i h
+excepted false false g b h i = h
+
+pub operand-only : (operand joined joining : Bool) → joining ≡ false → (operand || (joined && joining)) ≡ true → operand ≡ true
+operand-only true j g n h = refl
+operand-only false j g n h = rw (n, and-false j) at h
 
 pub data Exp : Sort → Type 0 where
   empty : Exp nothing

@@ -2,7 +2,7 @@
 -- that the definition makes of it. Each law here ties one test of the definition to the role, by computing both for all 111 numbers.
 use Prim.Native.Nat.{ℕ, zero, suc, _≤_, _<_}
 use mathlib.Core.Path.{_≡_, refl, ap, sym, _∙_}
-use mathlib.Core.Bool.{Bool, true, false, _||_, _&&_, not, Bool·beq, true≢false, false≢true, and-eq-true-iff}
+use mathlib.Core.Bool.{Bool, true, false, _||_, _&&_, not, Bool·beq, true≢false, false≢true, and-eq-true-iff, and-false}
 use mathlib.Core.List.{List, [], _∷_}
 use mathlib.Core.Option.{Option, none, some}
 use native.Mathlib.Omega.{arith}
@@ -13,6 +13,7 @@ use Rattle.molang.specs.Operator.{any, isOneOf, between, isMathCall, isB
 use Rattle.molang.specs.Calls.{CallKind, queryOrLoop, math, calls}
 use Rattle.molang.specs.Order.{someBelow}
 use Rattle.molang.specs.Plain.{isPlainLeaf, isPlainBinary, isCall}
+use Rattle.molang.proofs.Booleans.{either, or-neither}
 use Rattle.molang.proofs.Computed.{computed}
 
 pub record Role : Type 0 where
@@ -75,13 +76,10 @@ allOf f (a ∷ rs) = f a && allOf f rs
 
 pub among : (rs : List Role) (f : Role → Bool) → allOf f rs ≡ true → (r : Role) → isAmong rs r ≡ true → f r ≡ true
 among [] f h r m = absurd (false≢true m)
-among (a ∷ rs) f h r m = split (is a r) (f a) refl refl (among rs f)
-  where
-    split : (b c : Bool) → is a r ≡ b → f a ≡ c → (allOf f rs ≡ true → (r : Role) → isAmong rs r ≡ true → f r ≡ true) → f r ≡ true
-    split true true e g later = ap f (sym (is-same a r e)) ∙ g
-    split false true e g later = later (rw g at h) r (rw e at m)
-    split true false e g later = absurd (false≢true (rw g at h))
-    split false false e g later = absurd (false≢true (rw g at h))
+among (a ∷ rs) f h r m =
+    let parts = and-eq-true-iff (f a) (allOf f rs) .0 h in
+    let later : isAmong rs r ≡ true → f r ≡ true = among rs f (parts .1) r in
+    either (is a r) (λ e. ap f (sym (is-same a r e)) ∙ parts .0) (λ e. later (rw e at m))
 
 orElse : Bool → Role → Role → Role
 orElse true a b = a
@@ -104,19 +102,14 @@ role n =
     (orElse (isPlainBinary n) aBinary
     (orElse (isQueryOrLoop n) aLoop another))))))))))))
 
-or-off : (a b : Bool) → (a || b) ≡ false → (a ≡ false) × (b ≡ false)
-or-off true b h = absurd (true≢false h)
-or-off false b h = (refl, h)
-
 -- What no number below m passes.
 pub none-below : (m : ℕ) (test : ℕ → Bool) → someBelow m test ≡ false → (n : ℕ) → n < m → test n ≡ false
 unfolding someBelow
 none-below zero test h n l = absurd (omega arith)
-none-below (suc m) test h n l = split (eqb n m) refl (none-below m test (or-off (test m) (someBelow m test) h .1) n)
-  where
-    split : (b : Bool) → eqb n m ≡ b → (n < m → test n ≡ false) → test n ≡ false
-    split true e earlier = ap test (eqb-true n m e) ∙ or-off (test m) (someBelow m test) h .0
-    split false e earlier = earlier (let q : ¬ (n ≡ m) = eqb-false n m e in omega arith)
+none-below (suc m) test h n l =
+    let parts = or-neither (test m) (someBelow m test) h in
+    let earlier : n < m → test n ≡ false = none-below m test (parts .1) n in
+    either (eqb n m) (λ e. ap test (eqb-true n m e) ∙ parts .0) (λ e. earlier (let q : ¬ (n ≡ m) = eqb-false n m e in omega arith))
 
 beq-eq : (a b : Bool) → not (Bool·beq a b) ≡ false → a ≡ b
 beq-eq true true h = refl
@@ -132,24 +125,18 @@ role-above n l = rw (lt-leb n 110 l) refl
 -- A test is told by the role: computed for the 111 numbers, and false of all others.
 by-role : (test : ℕ → Bool) (told : Role → Bool) → someBelow 111 (λ n. not (Bool·beq (test n) (told (role n)))) ≡ false
     → ((n : ℕ) → 110 < n → test n ≡ told another) → (n : ℕ) → test n ≡ told (role n)
-by-role test told computed-below above n = split (leb n 110) refl
-  where
-    split : (b : Bool) → leb n 110 ≡ b → test n ≡ told (role n)
-    split true e =
-        beq-eq (test n) (told (role n))
-        (none-below 111 (λ n. not (Bool·beq (test n) (told (role n)))) computed-below n (let l = leb-true n 110 e in omega arith))
-    split false e = let l = leb-false n 110 e in above n l ∙ ap told (sym (role-above n l))
+by-role test told computed-below above n =
+    either (leb n 110)
+    (λ e. beq-eq (test n) (told (role n))
+    (none-below 111 (λ n. not (Bool·beq (test n) (told (role n)))) computed-below n (let l = leb-true n 110 e in omega arith)))
+    (λ e. let l = leb-false n 110 e in above n l ∙ ap told (sym (role-above n l)))
 
 not-one : (o : ℕ) → o < 111 → (n : ℕ) → 110 < n → eqb n o ≡ false
 not-one o small n l = ne-eqb n o (λ q. omega arith)
 
 not-between : (a b : ℕ) → b < 111 → (n : ℕ) → 110 < n → between a b n ≡ false
 unfolding between
-not-between a b small n l = rw (lt-leb n b (omega arith)) (and-off (leb a n))
-  where
-    and-off : (c : Bool) → (c && false) ≡ false
-    and-off true = refl
-    and-off false = refl
+not-between a b small n l = rw (lt-leb n b (omega arith)) (and-false (leb a n))
 
 pub role-bracket : (n : ℕ) → isBracket n ≡ is aBracket (role n)
 unfolding computed role
