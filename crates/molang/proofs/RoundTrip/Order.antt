@@ -23,6 +23,7 @@ use Rattle.molang.specs.Order.{Rules, Pass, lastToken, memberAccessors, 
 use Rattle.molang.specs.Order as Definition
 use Rattle.molang.specs.Read.{Answer, tree, messages, rooted, endsReading, grouped, uses}
 use Rattle.molang.specs.Write.{closerFor}
+use Rattle.molang.proofs.Booleans.{either, never, or-first, or-second, or-neither, or-only-first}
 use Rattle.molang.proofs.Computed.{computed}
 use Rattle.molang.proofs.RoundTrip.Role.{Role, aLeaf, aQuery, aMathCall, aBracket, aCloser, aMinus, aNot, aLoop, another, is, is-same, isUnwritten, isAmong, among, role, role-above, none-below, role-bracket, role-query, role-math, role-minus, role-not}
 use Rattle.molang.proofs.RoundTrip.Expression.{Sort, Exp, empty, leaf, bracket, before, between, isWhole, leafRoles, prefixRoles, joiningRoles, isPrefix, isJoining, tokens, ahead, amid, form, also}
@@ -53,11 +54,9 @@ below : (ℕ → Bool) → Bool
 below test = not (someBelow 111 (λ n. not (test n)))
 
 plays-below : (n : ℕ) → is another (role n) ≡ false → n < 111
-plays-below n h = split (leb n 110) refl
-  where
-    split : (b : Bool) → leb n 110 ≡ b → n < 111
-    split true e = let l = leb-true n 110 e in omega arith
-    split false e = absurd (true≢false (sym (ap (is another) (role-above n (leb-false n 110 e))) ∙ h))
+plays-below n h =
+    either (leb n 110) (λ e. let l = leb-true n 110 e in omega arith)
+    (λ e. absurd (true≢false (sym (ap (is another) (role-above n (leb-false n 110 e))) ∙ h)))
 
 below-all : (test : ℕ → Bool) → below test ≡ true → (n : ℕ) → is another (role n) ≡ false → test n ≡ true
 unfolding below
@@ -71,11 +70,10 @@ each test (o ∷ os) = test o && each test os
 each-one : (test : ℕ → Bool) (ops : List ℕ) → each test ops ≡ true → (n : ℕ) → isOneOf ops n ≡ true → test n ≡ true
 unfolding each isOneOf any
 each-one test [] h n m = absurd (false≢true m)
-each-one test (o ∷ os) h n m = split (eqb n o) refl (each-one test os (and-eq-true-iff (test o) (each test os) .0 h .1) n)
-  where
-    split : (b : Bool) → eqb n o ≡ b → (isOneOf os n ≡ true → test n ≡ true) → test n ≡ true
-    split true e later = ap test (eqb-true n o e) ∙ and-eq-true-iff (test o) (each test os) .0 h .0
-    split false e later = later (rw e at m)
+each-one test (o ∷ os) h n m =
+    let parts = and-eq-true-iff (test o) (each test os) .0 h in
+    let later : isOneOf os n ≡ true → test n ≡ true = each-one test os (parts .1) n in
+    either (eqb n o) (λ e. ap test (eqb-true n o e) ∙ parts .0) (λ e. later (rw e at m))
 
 -- No expression has such a token.
 isForeign : ℕ → Bool
@@ -152,20 +150,13 @@ Within u (between k _ _ _ _ _ x y) = (u (k .op) ≡ true) × Within u x × Withi
 abbrev Uses : (ℕ → Bool) → List Token → Type 0
 Uses u ks = (n : ℕ) → uses ks n ≡ true → u n ≡ true
 
-or-before : (a b : Bool) → a ≡ true → (a || b) ≡ true
-or-before a b h = rw h refl
-
-or-behind : (a b : Bool) → b ≡ true → (a || b) ≡ true
-or-behind true b h = refl
-or-behind false b h = h
-
 uses-first : (u : ℕ → Bool) (k : Token) (ks : List Token) → Uses u (k ∷ ks) → u (k .op) ≡ true
 unfolding uses
-uses-first u k ks h = h (k .op) (or-before (eqb (k .op) (k .op)) (uses ks (k .op)) (eq-eqb (k .op) (k .op) refl))
+uses-first u k ks h = h (k .op) (or-first (eqb (k .op) (k .op)) (uses ks (k .op)) (eq-eqb (k .op) (k .op) refl))
 
 uses-rest : (u : ℕ → Bool) (k : Token) (ks : List Token) → Uses u (k ∷ ks) → Uses u ks
 unfolding uses
-uses-rest u k ks h n t = h n (or-behind (eqb (k .op) n) (uses ks n) t)
+uses-rest u k ks h n t = h n (or-second (eqb (k .op) n) (uses ks n) t)
 
 within : (u : ℕ → Bool) {s : Sort} (e : Exp s) (r : List Token) → Uses u (tokens e r) → Within u e × Uses u r
 unfolding tokens
@@ -215,9 +206,9 @@ finished σ a empty r = refl
 finished σ a (leaf k _ _ _) r = refl
 finished σ a (bracket k _ _ x) r = ap (λ (f : Forest). node k f r) (finished σ a x nil)
 finished σ a (before k q e p t x) r =
-    rw (a (k .op) q e (or-before (isPrefix q) (isJoining q) p)) (ap (λ (X : Forest → Forest). ahead true k X r) (fun-ext (finished σ a x)))
+    rw (a (k .op) q e (or-first (isPrefix q) (isJoining q) p)) (ap (λ (X : Forest → Forest). ahead true k X r) (fun-ext (finished σ a x)))
 finished σ a (between k q e j l m x y) r =
-    rw (a (k .op) q e (or-behind (isPrefix q) (isJoining q) j)) (λ i. amid true k (fun-ext (finished σ a x) i) (fun-ext (finished σ a y) i) r)
+    rw (a (k .op) q e (or-second (isPrefix q) (isJoining q) j)) (λ i. amid true k (fun-ext (finished σ a x) i) (fun-ext (finished σ a y) i) r)
 
 -- A list with no bracket is its own section list.
 bracketless : (u : ℕ → Bool) → u Operator.leftParenthesis ≡ false → {s : Sort} (e : Exp s) → Within u e → (r : List Token) → form nothingYet e (leaves r) ≡ leaves (tokens e r)
@@ -232,11 +223,9 @@ bracketless u h (between k _ _ _ _ _ x y) w r = ap (λ (f : Forest). form nothin
 any-off : (u : ℕ → Bool) (ops : List ℕ) → any u ops ≡ false → (n : ℕ) → u n ≡ true → isOneOf ops n ≡ false
 unfolding any isOneOf
 any-off u [] h n t = refl
-any-off u (o ∷ os) h n t = split (u o) refl (λ h. any-off u os h n t)
-  where
-    split : (b : Bool) → u o ≡ b → (any u os ≡ false → isOneOf os n ≡ false) → isOneOf (o ∷ os) n ≡ false
-    split true e later = absurd (true≢false (sym (or-before (u o) (any u os) e) ∙ h))
-    split false e later = rw (ne-eqb n o (λ p. true≢false (sym t ∙ ap u p ∙ e))) (later (rw e at h))
+any-off u (o ∷ os) h n t =
+    let parts = or-neither (u o) (any u os) h in
+    rw (ne-eqb n o (λ p. true≢false (sym t ∙ ap u p ∙ parts .0))) (any-off u os (parts .1) n t)
 
 any-foreign : (u : ℕ → Bool) → ((n : ℕ) → isUnwritten (role n) ≡ true → u n ≡ false) → (ops : List ℕ) → each isForeign ops ≡ true → any u ops ≡ false
 unfolding any each isForeign
@@ -244,27 +233,11 @@ any-foreign u f [] h = refl
 any-foreign u f (o ∷ os) h = let b = and-eq-true-iff (isUnwritten (role o)) (each isForeign os) .0 h in rw (f o (b .0)) (any-foreign u f os (b .1))
 
 any-on : (u : ℕ → Bool) (ops : List ℕ) (o : ℕ) → u o ≡ true → isOneOf ops o ≡ true → any u ops ≡ true
-any-on u ops o t m = split (any u ops) refl
-  where
-    split : (b : Bool) → any u ops ≡ b → any u ops ≡ true
-    split true h = h
-    split false h = absurd (true≢false (sym m ∙ any-off u ops h o t))
-
-or-off-behind : (a b : Bool) → (a || b) ≡ false → b ≡ false
-or-off-behind true b h = absurd (true≢false h)
-or-off-behind false b h = h
-
-or-off-before : (a b : Bool) → (a || b) ≡ false → a ≡ false
-or-off-before true b h = h
-or-off-before false b h = refl
+any-on u ops o t m = either (any u ops) (λ h. h) (λ h. absurd (true≢false (sym m ∙ any-off u ops h o t)))
 
 -- An operator that a test tells by its role plays one.
 plays-told : (test : ℕ → Bool) (told : Role → Bool) → ((n : ℕ) → test n ≡ told (role n)) → told another ≡ false → (n : ℕ) → test n ≡ true → is another (role n) ≡ false
-plays-told test told law o n h = split (is another (role n)) refl
-  where
-    split : (b : Bool) → is another (role n) ≡ b → is another (role n) ≡ false
-    split true p = absurd (true≢false (sym h ∙ law n ∙ ap told (sym (is-same another (role n) p)) ∙ o))
-    split false p = p
+plays-told test told law o n h = never (is another (role n)) (λ p. true≢false (sym h ∙ law n ∙ ap told (sym (is-same another (role n) p)) ∙ o))
 
 final : (c a p : Bool) (n : ℕ) (r : Role) → role n ≡ r → (isPrefix r || isJoining r) ≡ true → afterAll nothingYet (laterPasses c a p) n ≡ true
 unfolding foldable
@@ -272,6 +245,14 @@ final c a p n r e h =
     let f : foldable (role n) ≡ true = ap foldable e ∙ h in
     let plays = plays-told (λ n. foldable (role n)) foldable (λ n. refl) refl n f in
     rw f at (below-all (λ n. not (foldable (role n)) || afterAll nothingYet (laterPasses c a p) n) (complete c a p) n plays)
+
+-- The operators that the call pass asks for (`runs`).
+abbrev callStarts : List ℕ
+callStarts =
+    Operator.leftBrace ∷ Operator.leftBracket ∷ Operator.leftParenthesis ∷ Operator.queryFunction ∷ Operator.arrayVariable ∷ Operator.semicolon ∷ []
+
+abbrev callers : List ℕ
+callers = Operator.queryFunction ∷ Operator.loop ∷ Operator.forEach ∷ []
 
 module _ {s : Sort} (e : Exp s) (w : isWhole s ≡ true) where
   u : ℕ → Bool
@@ -286,23 +267,16 @@ module _ {s : Sort} (e : Exp s) (w : isWhole s ≡ true) where
   unknown n h = foreign n h e []
 
   plays : (n : ℕ) → u n ≡ true → is another (role n) ≡ false
-  plays n t = split (is another (role n)) refl
-    where
-      split : (b : Bool) → is another (role n) ≡ b → is another (role n) ≡ false
-      split true h = absurd (true≢false (sym t ∙ unknown n (or-behind (is aLoop (role n)) (is another (role n) || false) (or-before (is another (role n)) false h))))
-      split false h = h
+  plays n t =
+      never (is another (role n))
+      (λ h. true≢false (sym t ∙ unknown n (or-second (is aLoop (role n)) (is another (role n) || false) (or-first (is another (role n)) false h))))
 
   no-query : runs u callPass ≡ false → (n : ℕ) → u n ≡ true → calls queryOrLoop n ≡ false
   unfolding computed role
-  no-query h n t = split (u Operator.queryFunction) refl
-    where
-      split : (b : Bool) → u Operator.queryFunction ≡ b → isOneOf (Operator.queryFunction ∷ Operator.loop ∷ Operator.forEach ∷ []) n ≡ false
-      split true q =
-          absurd (true≢false (sym (rw (
-            any-on u (Operator.leftBrace ∷ Operator.leftBracket ∷ Operator.leftParenthesis ∷ Operator.queryFunction ∷ Operator.arrayVariable ∷ Operator.semicolon ∷ []) Operator.queryFunction q refl,
-            any-on u (Operator.queryFunction ∷ Operator.loop ∷ Operator.forEach ∷ []) Operator.queryFunction q refl,
-          ) refl) ∙ h))
-      split false q = any-off u (Operator.queryFunction ∷ Operator.loop ∷ Operator.forEach ∷ []) (rw (q, unknown Operator.loop refl, unknown Operator.forEach refl) refl) n t
+  no-query h n t =
+      let q = never (u Operator.queryFunction)
+          (λ q. true≢false (sym (rw (any-on u callStarts Operator.queryFunction q refl, any-on u callers Operator.queryFunction q refl) refl) ∙ h)) in
+      any-off u callers (rw (q, unknown Operator.loop refl, unknown Operator.forEach refl) refl) n t
 
   no-math : runs u mathCalls ≡ false → (n : ℕ) → u n ≡ true → calls math n ≡ false
   unfolding runs calls
@@ -320,7 +294,7 @@ module _ {s : Sort} (e : Exp s) (w : isWhole s ≡ true) where
   left-out pointer h n t = any-off u (Operator.pointer ∷ []) h n t
   left-out mathCalls h n t = no-math h n t
   left-out unaryMinusAndNot h n t = any-off u (Operator.negate ∷ Operator.logicalNot ∷ []) h n t
-  left-out addition h n t = unfold isOneOf any in or-off-behind (eqb n Operator.negate) (isOneOf (Operator.add ∷ []) n) (any-off u (Operator.negate ∷ Operator.add ∷ []) h n t)
+  left-out addition h n t = any-off u (Operator.add ∷ []) (unfold any in or-neither (u Operator.negate) (u Operator.add || false) h .1) n t
   left-out ternary h n t = any-off u (Operator.conditional ∷ Operator.conditionalElse ∷ []) h n t
   left-out returns h n t = refl
   left-out (binary ops) h n t = any-off u ops h n t
@@ -342,12 +316,7 @@ module _ {s : Sort} (e : Exp s) (w : isWhole s ≡ true) where
 
   -- What is told of every operator, of those that a test finds.
   not-yet : (σ test : ℕ → Bool) → below (λ n. not (σ n) || not (test n)) ≡ true → (n : ℕ) → is another (role n) ≡ false → test n ≡ true → σ n ≡ false
-  not-yet σ test h n p t = not-true (σ n) (left-false (not (σ n)) (test n) (below-all (λ n. not (σ n) || not (test n)) h n p) t)
-    where
-      left-false : (a b : Bool) → (a || not b) ≡ true → b ≡ true → a ≡ true
-      left-false true b h t = refl
-      left-false false true h t = absurd (false≢true h)
-      left-false false false h t = absurd (false≢true t)
+  not-yet σ test h n p t = not-true (σ n) (or-only-first (not (σ n)) (not (test n)) (ap not t) (below-all (λ n. not (σ n) || not (test n)) h n p))
 
   plays-call : (kind : CallKind) (n : ℕ) → calls kind n ≡ true → is another (role n) ≡ false
   plays-call queryOrLoop = plays-told (calls queryOrLoop) (λ r. is aQuery r || is aLoop r) role-query refl
@@ -358,9 +327,9 @@ module _ {s : Sort} (e : Exp s) (w : isWhole s ≡ true) where
 
   uncalled : (σ : ℕ → Bool) (kind : CallKind) → below (λ n. not (σ n) || not (calls kind n || isJoining (role n))) ≡ true → Uncalled σ kind
   uncalled σ kind h = record {
-    flat = λ n c. not-yet σ (λ n. calls kind n || isJoining (role n)) h n (plays-call kind n c) (or-before (calls kind n) (isJoining (role n)) c);
+    flat = λ n c. not-yet σ (λ n. calls kind n || isJoining (role n)) h n (plays-call kind n c) (or-first (calls kind n) (isJoining (role n)) c);
     unjoined = λ n j. not-yet σ (λ n. calls kind n || isJoining (role n)) h n (plays-told (λ n. isJoining (role n)) isJoining (λ n. refl) refl n j)
-        (or-behind (calls kind n) (isJoining (role n)) j);
+        (or-second (calls kind n) (isJoining (role n)) j);
   }
 
   applied : (sourceLength : ℕ) (p : Pass) (σ : ℕ → Bool) → ready σ p ≡ true → runs u p ≡ true → apply sourceLength p (form σ e nil) ≡ ok (form (also σ (folds p)) e nil)
@@ -414,7 +383,8 @@ module _ {s : Sort} (e : Exp s) (w : isWhole s ≡ true) where
       split false h =
           rw (h, grouped)
           (ap (grouped len u ps []) (sym (unfold leaves in bracketless u
-          (unfold runs any in or-off-before (u Operator.leftParenthesis) false (or-off-behind (u Operator.leftBracket) (u Operator.leftParenthesis || false) (or-off-behind (u Operator.leftBrace) (u Operator.leftBracket || (u Operator.leftParenthesis || false)) h)))
+          (never (u Operator.leftParenthesis)
+          (λ t. true≢false (sym (any-on u (Operator.leftBrace ∷ Operator.leftBracket ∷ Operator.leftParenthesis ∷ []) Operator.leftParenthesis t (unfold isOneOf any in refl)) ∙ (unfold runs in h))))
           e used [])))
 
   pub reading : (r : Rules) (sourceLength : ℕ) → grouped sourceLength (uses (tokens e [])) (order r) [] (leaves (tokens e [])) ≡ rooted sourceLength [] (form everything e nil)

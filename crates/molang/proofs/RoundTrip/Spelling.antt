@@ -14,6 +14,7 @@ use Rattle.molang.specs.Forest.{Token, Forest, nil, node, size, bare}
 use Rattle.molang.specs.Calls.{math, calls}
 use Rattle.molang.specs.Plain.{Place, elsewhere, rightOfQuestion, underMathCall, isRightOfQuestion, isUnderMathCall, placeUnder, placeOf, isPlainLeaf, isPlainBinary, isCall, plainForm, unplain, unplainAt}
 use Rattle.molang.specs.Write.{openerFor, closerFor, standsAlone, standsLeft, standsRight, operandTokens, written, isSingle, takenAway}
+use Rattle.molang.proofs.Booleans.{either, never, or-only-first}
 use Rattle.molang.proofs.Computed.{computed}
 use Rattle.molang.proofs.PlainTrees.{plain-parts}
 use Rattle.molang.proofs.TakingAway.{taken-later, taken-kept, taken-call, taken-bracket}
@@ -92,6 +93,12 @@ part joins false p k cs x t f j = record {
 
 abbrev callRoles : List Role
 callRoles = aQuery ∷ aMathCall ∷ []
+
+abbrev singleRoles : List Role
+singleRoles = aBracket ∷ aMinus ∷ aNot ∷ []
+
+abbrev binaryRoles : List Role
+binaryRoles = aBinary ∷ aComma ∷ aQuestion ∷ []
 
 -- What the role tells of a token.
 unlike : (a : Role) (rs : List Role) → allOf (λ r. not (is a r)) rs ≡ true → (r : Role) → isAmong rs r ≡ true → is a r ≡ false
@@ -213,11 +220,9 @@ place-by false false k i h t = rw (h, placeUnder) (rw t refl)
 
 left-place : (k : Token) → isRightOfQuestion (placeUnder k 0) ≡ false
 unfolding isRightOfQuestion
-left-place k = split (isMathCall (k .op)) refl
-  where
-    split : (b : Bool) → isMathCall (k .op) ≡ b → isRightOfQuestion (placeUnder k 0) ≡ false
-    split true h = ap isRightOfQuestion (place-by true false k 0 h (and-false (eqb (k .op) Operator.conditional)))
-    split false h = ap isRightOfQuestion (place-by false false k 0 h (and-false (eqb (k .op) Operator.conditional)))
+left-place k =
+    let unquestioned = and-false (eqb (k .op) Operator.conditional) in
+    either (isMathCall (k .op)) (λ h. ap isRightOfQuestion (place-by true false k 0 h unquestioned)) (λ h. ap isRightOfQuestion (place-by false false k 0 h unquestioned))
 
 argument-place : (k : Token) → isMathCall (k .op) ≡ false → isUnderMathCall (placeUnder k 0) ≡ false
 unfolding isUnderMathCall
@@ -234,11 +239,7 @@ right-place k h = split (isMathCall (k .op)) (eqb (k .op) Operator.conditional) 
 
 -- Only right of its `?` is a node's expression held by a `:`.
 whole-left : (k x : Token) (xs : Forest) (y : Spelled (placeUnder k 0) x xs) → isWhole (y .sort) ≡ true
-whole-left k x xs y = split (isJoinedBy aColon (y .sort)) refl
-  where
-    split : (b : Bool) → isJoinedBy aColon (y .sort) ≡ b → isWhole (y .sort) ≡ true
-    split true h = absurd (true≢false (sym (y .placed h) ∙ left-place k))
-    split false h = ap not h
+whole-left k x xs y = ap not (never (isJoinedBy aColon (y .sort)) (λ h. true≢false (sym (y .placed h) ∙ left-place k)))
 
 role-is : (a : Role) (n : ℕ) (b : Bool) → b ≡ is a (role n) → b ≡ true → role n ≡ a
 role-is a n b law h = sym (is-same a (role n) (sym law ∙ h))
@@ -308,55 +309,46 @@ unfolding standsRight
 right-part k x xs y =
     part (joinsRight (role (k .op))) (standsRight k x xs) (placeUnder k 1) x xs y
     (λ h. rw (role-question (k .op), y .colon) at (joins-excepted (standsAlone x xs) (eqb (k .op) Operator.conditional) (eqb (x .op) Operator.conditionalElse) (isOperand (y .sort)) h (y .alone)))
-    (λ h. whole h (isJoinedBy aColon (y .sort)) refl) (λ h. refl)
-  where
-    whole : (standsAlone x xs || (eqb (k .op) Operator.conditional && eqb (x .op) Operator.conditionalElse)) ≡ false → (b : Bool) → isJoinedBy aColon (y .sort) ≡ b → isWhole (y .sort) ≡ true
-    whole h false c = ap not c
-    whole h true c = absurd (true≢false (sym (rw (right-place k (y .placed c), y .colon ∙ c) (or-true (standsAlone x xs))) ∙ h))
+    (λ h. ap not (never (isJoinedBy aColon (y .sort))
+    (λ c. true≢false (sym (rw (right-place k (y .placed c), y .colon ∙ c) (or-true (standsAlone x xs))) ∙ h)))) (λ h. refl)
 
 spell-two : (p : Place) (k x : Token) (xs : Forest) (y : Token) (ys : Forest) → plainForm p k (node x xs (node y ys nil)) ≡ true
     → Spelled (placeUnder k 0) x xs → Spelled (placeUnder k 1) y ys → Spelled p k (node x xs (node y ys nil))
 unfolding plainForm
-spell-two p k x xs y ys h a b = split (isPlainBinary (k .op)) refl
-  where
-    split : (t : Bool) → isPlainBinary (k .op) ≡ t → Spelled p k (node x xs (node y ys nil))
-    split true t =
-        let m : isAmong (aBinary ∷ aComma ∷ aQuestion ∷ []) (role (k .op)) ≡ true = sym (role-binary (k .op)) ∙ t in
-        spell-between p k x xs y ys (role (k .op)) refl (among (aBinary ∷ aComma ∷ aQuestion ∷ []) isJoining refl (role (k .op)) m)
-        (λ c. absurd (true≢false (sym c ∙ unlike aColon (aBinary ∷ aComma ∷ aQuestion ∷ []) refl (role (k .op)) m))) (left-part k x xs a) (right-part k y ys b)
-    split false t =
-        let parts = and-eq-true-iff (eqb (k .op) Operator.conditionalElse) (isRightOfQuestion p) .0 (rw t at h) in
-        spell-between p k x xs y ys (role (k .op)) refl (ap isJoining (role-is aColon (k .op) (eqb (k .op) Operator.conditionalElse) (role-colon (k .op)) (parts .0)))
-        (λ c. parts .1) (left-part k x xs a) (right-part k y ys b)
+spell-two p k x xs y ys h a b =
+    either (isPlainBinary (k .op))
+    (λ t. let m : isAmong binaryRoles (role (k .op)) ≡ true = sym (role-binary (k .op)) ∙ t in
+    spell-between p k x xs y ys (role (k .op)) refl (among binaryRoles isJoining refl (role (k .op)) m)
+    (λ c. absurd (true≢false (sym c ∙ unlike aColon binaryRoles refl (role (k .op)) m))) (left-part k x xs a) (right-part k y ys b))
+    (λ t. let parts = and-eq-true-iff (eqb (k .op) Operator.conditionalElse) (isRightOfQuestion p) .0 (rw t at h) in
+    spell-between p k x xs y ys (role (k .op)) refl
+    (ap isJoining (role-is aColon (k .op) (eqb (k .op) Operator.conditionalElse) (role-colon (k .op)) (parts .0))) (λ c. parts .1) (left-part k x xs a) (right-part k y ys b))
 
 spell-one : (p : Place) (k x : Token) (xs : Forest) → plainForm p k (node x xs nil) ≡ true → Spelled (placeUnder k 0) x xs → Spelled p k (node x xs nil)
 unfolding plainForm
 spell-one p k x xs h y = split (isBracket (k .op)) (isCall (k .op)) refl refl
   where
     call-single : isCall (k .op) ≡ true → isOneOf (Operator.leftParenthesis ∷ Operator.negate ∷ Operator.logicalNot ∷ []) (k .op) ≡ false
-    call-single c = role-single (k .op) ∙ not-true (isAmong (aBracket ∷ aMinus ∷ aNot ∷ []) (role (k .op))) (among callRoles (λ r. not (isAmong (aBracket ∷ aMinus ∷ aNot ∷ []) r)) refl (role (k .op)) (sym (role-call (k .op)) ∙ c))
-
-    or-left : (a b : Bool) → b ≡ false → (a || b) ≡ true → a ≡ true
-    or-left true b n h = refl
-    or-left false b n h = absurd (true≢false (sym h ∙ n))
+    call-single c =
+        role-single (k .op)
+        ∙ not-true (isAmong singleRoles (role (k .op))) (among callRoles (λ r. not (isAmong singleRoles r)) refl (role (k .op)) (sym (role-call (k .op)) ∙ c))
 
     split : (b c : Bool) → isBracket (k .op) ≡ b → isCall (k .op) ≡ c → Spelled p k (node x xs nil)
-    split true c m n = spell-bracket p (placeUnder k 0) k x xs (role-is aBracket (k .op) (isBracket (k .op)) (role-bracket (k .op)) m) y (whole-left k x xs y)
+    split true c m n =
+        spell-bracket p (placeUnder k 0) k x xs (role-is aBracket (k .op) (isBracket (k .op)) (role-bracket (k .op)) m) y (whole-left k x xs y)
     split false true m n = spell-call p k x xs n (rw (call-single n, n) at h) y
     split false false m n =
-        let s : isAmong (aBracket ∷ aMinus ∷ aNot ∷ []) (role (k .op)) ≡ true =
-        sym (role-single (k .op)) ∙ or-left (isOneOf (Operator.leftParenthesis ∷ Operator.negate ∷ Operator.logicalNot ∷ []) (k .op)) (isCall (k .op) && isBracket (x .op)) (rw n refl) h in
+        let s : isAmong singleRoles (role (k .op)) ≡ true =
+            sym (role-single (k .op))
+            ∙ or-only-first (isOneOf (Operator.leftParenthesis ∷ Operator.negate ∷ Operator.logicalNot ∷ []) (k .op)) (isCall (k .op) && isBracket (x .op)) (rw n refl) h in
         spell-prefix p k x xs (rw (sym (role-bracket (k .op)) ∙ m) at s) y
 
 spell-none : (p : Place) (k : Token) → plainForm p k nil ≡ true → Spelled p k nil
 unfolding plainForm
-spell-none p k h = split (isPlainLeaf (k .op)) refl
-  where
-    split : (b : Bool) → isPlainLeaf (k .op) ≡ b → Spelled p k nil
-    split true l = spell-leaf p k (role (k .op)) refl (sym (role-leaf (k .op)) ∙ l)
-    split false l =
-        let parts = and-eq-true-iff (isBracket (k .op)) (isUnderMathCall p) .0 (rw l at h) in
-        spell-hollow p k (role-is aBracket (k .op) (isBracket (k .op)) (role-bracket (k .op)) (parts .0)) (parts .1)
+spell-none p k h =
+    either (isPlainLeaf (k .op)) (λ l. spell-leaf p k (role (k .op)) refl (sym (role-leaf (k .op)) ∙ l))
+    (λ l. let parts = and-eq-true-iff (isBracket (k .op)) (isUnderMathCall p) .0 (rw l at h) in
+    spell-hollow p k (role-is aBracket (k .op) (isBracket (k .op)) (role-bracket (k .op)) (parts .0)) (parts .1))
 
 spelled : (p : Place) (n : ℕ) (k : Token) (cs : Forest) → plainForm p k cs ≡ true → unplain (some k) 0 n cs ≡ none → Spelled p k cs
 unfolding placeOf
@@ -373,8 +365,4 @@ pub plain-spelled : (k : Token) (cs : Forest) → unplainAt k cs ≡ none → (e
 unfolding unplainAt placeOf isRightOfQuestion
 plain-spelled k cs h =
     let a = plain-parts none 0 0 k cs nil h in
-    let e = spelled elsewhere 1 k cs (a .here) (a .below) in (e, whole (isJoinedBy aColon (e .sort)) e refl)
-  where
-    whole : (b : Bool) (e : Spelled elsewhere k cs) → isJoinedBy aColon (e .sort) ≡ b → isWhole (e .sort) ≡ true
-    whole true e c = absurd (false≢true (unfold isRightOfQuestion in e .placed c))
-    whole false e c = ap not c
+    let e = spelled elsewhere 1 k cs (a .here) (a .below) in (e, ap not (never (isJoinedBy aColon (e .sort)) (λ c. false≢true (e .placed c))))
