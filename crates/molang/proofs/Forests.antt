@@ -1,6 +1,6 @@
 -- Laws on lists of trees that the definition's passes use: turning round, and putting one list before another.
 use mathlib.Core.Path.{_≡_, refl, ap}
-use Rattle.molang.specs.Forest.{Token, Forest, nil, node, turnedOnto, inOrder}
+use Rattle.molang.specs.Forest.{Forest, nil, node, turnedOnto, inOrder}
 
 -- The trees of the first list, then those of the second.
 unfoldable pub followedBy : Forest → Forest → Forest

@@ -3,7 +3,7 @@ use Prim.Native.Nat.{ℕ, suc, _+_}
 use mathlib.Core.Path.{_≡_, refl}
 use mathlib.Core.Bool.{Bool, true, false}
 use mathlib.Core.Option.{Option, none, some, Option·some-ne-none}
-use Rattle.molang.specs.Forest.{Token, Forest, nil, node, size}
+use Rattle.molang.specs.Forest.{Token, Forest, node, size}
 use Rattle.molang.specs.Plain.{plainForm, placeOf, unplain}
 
 -- The first tree's root has a plain form, and there is no other node below it or in the trees after it.

@@ -2,22 +2,21 @@
 -- bracketed expression (Spelling); each pass takes the expression's list to one in which its operators are folded too (Sections, Calls, Unary,
 -- Binary, Conditional), and the passes come in an order that folds all of them, whatever the version (Order).
 use Prim.Native.Nat.{ℕ, _≤_}
-use mathlib.Core.Path.{_≡_, refl, ap, sym, _∙_}
+use mathlib.Core.Path.{_≡_, ap, sym, _∙_}
 use mathlib.Core.List.{List, []}
 use mathlib.Core.Bool.{Bool, false}
 use mathlib.Core.Option.{none}
 use lib.IntN.{ℤ}
 use lib.ListN.{length}
-use Rattle.molang.specs.Forest.{Token, Forest, nil, node, leaves}
+use Rattle.molang.specs.Forest.{Token, Forest, nil, node}
 use Rattle.molang.specs.Order.{rules}
-use Rattle.molang.specs.Read.{Answer, tree, rooted, read, uses}
+use Rattle.molang.specs.Read.{tree, rooted, read, uses}
 use Rattle.molang.specs.Words.{treeWords}
 use Rattle.molang.specs.Parse.{mostTokens}
 use Rattle.molang.specs.Plain.{unplainAt}
 use Rattle.molang.specs.Write.{written, takenAway}
-use Expression.{Solid, form, tokens}
-use Order.{everything, reading}
-use Spelling.{Spelled, filled-solid, plain-spelled}
+use Order.{reading}
+use Spelling.{filled-solid, plain-spelled}
 pub mod Role
 pub mod Expression
 pub mod Walk

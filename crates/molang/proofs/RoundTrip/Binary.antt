@@ -2,18 +2,17 @@
 use Prim.Native.Nat.{ℕ}
 use mathlib.Core.Path.{_≡_, refl, ap, sym, _∙_}
 use mathlib.Core.Bool.{Bool, true, false, _||_, _&&_, not, true≢false, false≢true, and-eq-true-iff}
-use mathlib.Core.List.{List, [], _∷_}
-use mathlib.Core.Option.{Option, none, some}
-use borrow.Author.Tests.{eqb-true}
+use mathlib.Core.List.{List}
+use mathlib.Core.Option.{none}
 use Rattle.molang.specs.Operator
 use Rattle.molang.specs.Operator.{isOneOf}
 use Rattle.molang.specs.Forest.{Token, Forest, nil, node, turnedOnto, inOrder}
-use Rattle.molang.specs.Message.{Result, ok, fail}
-use Rattle.molang.specs.Level.{Step, stop, on, into, Level, walk, Gathered, gathered, waiting}
+use Rattle.molang.specs.Message.{ok}
+use Rattle.molang.specs.Level.{Level, walk, Gathered, gathered, waiting}
 use Rattle.molang.specs.Binary.{firstLeaf, unfolded, joined, operatorAfter, binaryStep, binaryResume, binaryFinish, binaryLevel}
 use Rattle.molang.proofs.Booleans.{never, or-second}
 use Rattle.molang.proofs.Forests.{Turns}
-use Rattle.molang.proofs.RoundTrip.Role.{Role, aBracket, aComma, aQuestion, aColon, is, is-same, among, role, op-of-comma, op-of-question, op-of-colon}
+use Rattle.molang.proofs.RoundTrip.Role.{Role, aBracket, aComma, aQuestion, aColon, is, among, role, op-of-comma, op-of-question, op-of-colon}
 use Rattle.molang.proofs.RoundTrip.Expression.{Sort, Exp, empty, leaf, bracket, before, between, isOperand, isJoinedBy, leafRoles, prefixRoles, isLeaf, isPrefix, isJoining, isWhole, takes, joinsLeft, joinsRight, excepted, ahead, amid, form, also, turned-form}
 use Rattle.molang.proofs.RoundTrip.Walk.{walk-on, walk-into, Gathers, Carries, Passes, carry-both, carry-node, carry-token, carry-whole}
 

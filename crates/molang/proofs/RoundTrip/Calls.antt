@@ -2,18 +2,18 @@
 use Prim.Native.Nat.{ℕ}
 use mathlib.Core.Path.{_≡_, refl, ap, sym, _∙_}
 use mathlib.Core.Bool.{Bool, true, false, _||_, _&&_, not, true≢false, false≢true, and-eq-true-iff}
-use mathlib.Core.List.{List, [], _∷_}
+use mathlib.Core.List.{List}
 use native.Mathlib.Omega.{arith}
 use borrow.Author.Tests.{not-true}
 use Rattle.molang.specs.Operator.{isBracket}
 use Rattle.molang.specs.Forest.{Token, Forest, nil, node, turnedOnto, inOrder}
-use Rattle.molang.specs.Message.{Result, ok, fail}
-use Rattle.molang.specs.Level.{Step, stop, on, into, Level, walk, Gathered, gathered, waiting}
+use Rattle.molang.specs.Message.{ok}
+use Rattle.molang.specs.Level.{Level, walk, Gathered, gathered, waiting}
 use Rattle.molang.specs.Calls.{CallKind, queryOrLoop, math, calls, callLeaf, callStep, callResume, callFinish, callLevel}
 use Rattle.molang.proofs.Booleans.{either, or-only-first}
 use Rattle.molang.proofs.Forests.{Turns}
 use Rattle.molang.proofs.RoundTrip.Role.{Role, aBracket, aQuery, aLoop, aMathCall, is, isAmong, allOf, among, role, role-bracket, role-math, role-query}
-use Rattle.molang.proofs.RoundTrip.Expression.{Sort, nothing, atom, prefixed, bracketed, joinedBy, Exp, empty, leaf, bracket, before, between, isOperand, isBracketed, isFilled, isFilledBracket, leafRoles, prefixRoles, joiningRoles, isLeaf, isPrefix, isJoining, isWhole, takes, joinsLeft, joinsRight, ahead, amid, form, also, turned-form, Filled, filled-form}
+use Rattle.molang.proofs.RoundTrip.Expression.{Sort, nothing, atom, prefixed, bracketed, joinedBy, Exp, empty, leaf, bracket, before, between, isOperand, isBracketed, isFilled, isFilledBracket, leafRoles, prefixRoles, joiningRoles, isLeaf, isPrefix, isJoining, takes, ahead, amid, form, also, turned-form, Filled, filled-form}
 use Rattle.molang.proofs.RoundTrip.Walk.{walk-on, walk-into, walk-same, Gathers, Carries, Passes, carry-both, carry-node, carry-token, carry-whole}
 
 -- When a call pass can come: its calls and all that joins operands still stand flat.

@@ -1,23 +1,21 @@
 -- The conditional pass from version 5 takes an expression's list to the list in which its conditionals are folded.
 use Prim.Native.Nat.{ℕ}
-use mathlib.Core.Path.{_≡_, refl, ap, sym, _∙_, fun-ext}
-use mathlib.Core.Bool.{Bool, true, false, _||_, _&&_, not, true≢false, false≢true, and-eq-true-iff, and-true}
-use mathlib.Core.List.{List, [], _∷_}
-use mathlib.Core.Option.{Option, none, some, Option·some-ne-none}
-use native.Mathlib.Omega.{arith}
+use mathlib.Core.Path.{_≡_, refl, ap, sym, _∙_}
+use mathlib.Core.Bool.{Bool, true, false, _||_, not, true≢false, false≢true, and-eq-true-iff, and-true}
+use mathlib.Core.List.{[], _∷_}
+use mathlib.Core.Option.{none, some, Option·some-ne-none}
 use lib.Dec.{eqb}
-use borrow.Author.Tests.{not-true}
 use Rattle.molang.specs.Operator
 use Rattle.molang.specs.Operator.{any, isOneOf}
 use Rattle.molang.specs.Forest.{Token, Forest, nil, node, turnedOnto, inOrder}
-use Rattle.molang.specs.Message.{Result, ok, fail}
-use Rattle.molang.specs.Level.{Step, stop, on, into, Level, walk}
+use Rattle.molang.specs.Message.{ok}
+use Rattle.molang.specs.Level.{walk}
 use Rattle.molang.specs.Conditional.{isToken, startsWith, under, pairElse, scan, foldedFrom, dangling, undangled, conditionalStep, conditionalFinish, conditionalLevel}
 use Rattle.molang.proofs.Booleans.{either, never}
 use Rattle.molang.proofs.Forests.{Turns, inOrder-turned}
-use Rattle.molang.proofs.RoundTrip.Role.{Role, aBracket, aComma, aQuestion, aColon, is, is-same, isAmong, allOf, among, role, role-question, role-colon, op-of-question, op-of-colon}
-use Rattle.molang.proofs.RoundTrip.Expression.{Sort, nothing, atom, prefixed, bracketed, joinedBy, Exp, empty, leaf, bracket, before, between, isOperand, isJoinedBy, isWhole, leafRoles, prefixRoles, joiningRoles, isLeaf, isPrefix, isJoining, takes, joinsLeft, joinsRight, excepted, operand-only, ahead, amid, form, also, turned-form, Solid, operand-solid, takes-operand}
-use Rattle.molang.proofs.RoundTrip.Walk.{walk-on, walk-into, Gathers, Carries, Passes, carry-both, carry-node, carry-token}
+use Rattle.molang.proofs.RoundTrip.Role.{Role, aBracket, aComma, aQuestion, aColon, is, is-same, among, role, role-question, role-colon, op-of-question, op-of-colon}
+use Rattle.molang.proofs.RoundTrip.Expression.{Sort, nothing, atom, prefixed, bracketed, joinedBy, Exp, empty, leaf, bracket, before, between, isOperand, isJoinedBy, isWhole, leafRoles, prefixRoles, isLeaf, isPrefix, isJoining, takes, joinsLeft, joinsRight, excepted, operand-only, ahead, amid, form, also, turned-form, Solid, operand-solid, takes-operand}
+use Rattle.molang.proofs.RoundTrip.Walk.{Gathers, Carries, Passes, carry-both, carry-node, carry-token}
 
 abbrev pub conditionals : ℕ → Bool
 conditionals n = isOneOf (Operator.conditional ∷ Operator.conditionalElse ∷ []) n

@@ -7,7 +7,7 @@ use mathlib.Core.List.{List, [], _∷_}
 use mathlib.Core.Bool.{false}
 use mathlib.Core.Option.{Option, none}
 use native.Mathlib.Omega.{arith}
-use lib.IntN.{ℤ, pos}
+use lib.IntN.{pos}
 use Rattle.molang.specs.Operator
 use Rattle.molang.specs.Forest.{Token, Forest, nil, node}
 use Rattle.molang.specs.Read.{Answer, tree, messages, read, uses}
@@ -118,6 +118,19 @@ read-alike : readings
 unfolding computed readings
 read-alike = refl
 
+-- With brackets taken away each is what it was.
+abbrev left : Forest → Forest
+left f = takenAway false f nil
+
+remains : List Forest
+remains =
+    left (over Operator.conditional 9 firstInPair nil) ∷ left (over Operator.conditional 5 (secondInPair orInPair) nil)
+    ∷ left (over Operator.conditional 5 (secondInPair andInPair) nil) ∷ []
+
+agree-again : remains ≡ over Operator.conditional 9 pairedLeft nil ∷ over Operator.conditional 5 (pairedRight orFirst) nil ∷ over Operator.conditional 5 (pairedRight andFirst) nil ∷ []
+unfolding computed remains
+agree-again = refl
+
 -- Which tokens are written, by their operators.
 operators : List Token → List ℕ
 operators [] = []
@@ -154,9 +167,6 @@ usual-writing = refl
 -- What is left with brackets taken away.
 abbrev bracket : ℕ → Forest → Forest → Forest
 bracket i below rest = over Operator.leftParenthesis i below rest
-
-abbrev left : Forest → Forest
-left f = takenAway false f nil
 
 takings : List Forest
 takings =

@@ -4,10 +4,10 @@ use Prim.Native.Nat.{ℕ}
 use mathlib.Core.Path.{_≡_, refl, ap, sym, _∙_}
 use mathlib.Core.Bool.{Bool, true, false, _||_, _&&_, not, false≢true, and-false}
 use mathlib.Core.List.{List, [], _∷_}
-use Rattle.molang.specs.Forest.{Token, Forest, nil, node, turnedOnto, leaves}
+use Rattle.molang.specs.Forest.{Token, Forest, nil, node, turnedOnto}
 use Rattle.molang.specs.Write.{closerFor}
 use Rattle.molang.proofs.Forests.{Turns}
-use Rattle.molang.proofs.RoundTrip.Role.{Role, aLeaf, aQuery, aMathCall, aBracket, aCloser, aMinus, aNot, aBinary, aComma, aQuestion, aColon, aLoop, another, is, isAmong, role}
+use Rattle.molang.proofs.RoundTrip.Role.{Role, aLeaf, aQuery, aMathCall, aBracket, aMinus, aNot, aBinary, aComma, aQuestion, aColon, is, isAmong, role}
 
 -- What an expression's list looks like from outside: nothing at all, a leaf, a bracket and what stands in it, an operator before its operand,
 -- operands joined by an operator of some role.

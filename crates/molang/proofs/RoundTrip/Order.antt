@@ -1,37 +1,34 @@
 -- All passes in their order, gated by the operators of an expression's own tokens: its tokens are read to its tree, under every order that a
 -- version can ask for. A pass says which operators it folds and when it can come; that each order is in order is computed.
-use Prim.Native.Nat.{ℕ, suc, zero, _≤_, _<_}
+use Prim.Native.Nat.{ℕ, _<_}
 use mathlib.Core.Path.{_≡_, refl, ap, sym, _∙_, fun-ext}
 use mathlib.Core.Bool.{Bool, true, false, _||_, _&&_, not, true≢false, false≢true, and-eq-true-iff, or-false}
 use mathlib.Core.List.{List, [], _∷_, _++_}
-use mathlib.Core.Option.{Option, none, some}
 use native.Mathlib.Omega.{arith}
 use lib.Dec.{eqb, leb}
 use borrow.Author.Tests.{eqb-true, eq-eqb, ne-eqb, leb-true, leb-false, not-true, not-false}
 use Rattle.molang.specs.Operator
 use Rattle.molang.specs.Operator.{any, isOneOf, isBracket, isMathCall}
-use Rattle.molang.specs.Forest.{Token, Forest, nil, node, bare, leaves}
-use Rattle.molang.specs.Message.{Message, Result, ok, fail}
-use Rattle.molang.specs.Level.{Level, walk, through, gathered}
+use Rattle.molang.specs.Forest.{Token, Forest, nil, node, leaves}
+use Rattle.molang.specs.Message.{ok}
+use Rattle.molang.specs.Level.{walk, through, gathered}
 use Rattle.molang.specs.Level as Levels
-use Rattle.molang.specs.Sections.{sections, outside}
 use Rattle.molang.specs.Calls.{CallKind, queryOrLoop, math, calls, callLevel}
-use Rattle.molang.specs.Unary.{unaryPass}
 use Rattle.molang.specs.Binary.{binaryLevel}
 use Rattle.molang.specs.Conditional.{conditionalLevel}
 use Rattle.molang.specs.Order.{Rules, Pass, lastToken, memberAccessors, sectioning, callPass, statements, arrays, pointer, mathCalls, unaryMinusAndNot, addition, ternary, returns, binary, comparisons, logic, order, someBelow, runs, apply}
 use Rattle.molang.specs.Order as Definition
-use Rattle.molang.specs.Read.{Answer, tree, messages, rooted, endsReading, grouped, uses}
+use Rattle.molang.specs.Read.{rooted, grouped, uses}
 use Rattle.molang.specs.Write.{closerFor}
 use Rattle.molang.proofs.Booleans.{either, never, or-first, or-second, or-neither, or-only-first}
 use Rattle.molang.proofs.Computed.{computed}
-use Rattle.molang.proofs.RoundTrip.Role.{Role, aLeaf, aQuery, aMathCall, aBracket, aCloser, aMinus, aNot, aLoop, another, is, is-same, isUnwritten, isAmong, among, role, role-above, none-below, role-bracket, role-query, role-math, role-minus, role-not}
+use Rattle.molang.proofs.RoundTrip.Role.{Role, aQuery, aMathCall, aBracket, aCloser, aMinus, aNot, aLoop, another, is, is-same, isUnwritten, among, role, role-above, none-below, role-bracket, role-query, role-math, role-minus, role-not}
 use Rattle.molang.proofs.RoundTrip.Expression.{Sort, Exp, empty, leaf, bracket, before, between, isWhole, leafRoles, prefixRoles, joiningRoles, isPrefix, isJoining, tokens, ahead, amid, form, also}
 use Rattle.molang.proofs.RoundTrip.Sections.{nothingYet, section-pass}
 use Rattle.molang.proofs.RoundTrip.Calls.{Uncalled, call-pass}
-use Rattle.molang.proofs.RoundTrip.Unary.{prefixes, Unbound, unary-pass}
+use Rattle.molang.proofs.RoundTrip.Unary.{prefixes, unary-pass}
 use Rattle.molang.proofs.RoundTrip.Binary.{Ready, binary-pass}
-use Rattle.molang.proofs.RoundTrip.Conditional.{conditionals, Unpaired, conditional-pass}
+use Rattle.molang.proofs.RoundTrip.Conditional.{conditionals, conditional-pass}
 
 -- The operators that a pass folds.
 folds : Pass → ℕ → Bool
@@ -275,7 +272,7 @@ module _ {s : Sort} (e : Exp s) (w : isWhole s ≡ true) where
   unfolding computed role
   no-query h n t =
       let q = never (u Operator.queryFunction)
-          (λ q. true≢false (sym (rw (any-on u callStarts Operator.queryFunction q refl, any-on u callers Operator.queryFunction q refl) refl) ∙ h)) in
+      (λ q. true≢false (sym (rw (any-on u callStarts Operator.queryFunction q refl, any-on u callers Operator.queryFunction q refl) refl) ∙ h)) in
       any-off u callers (rw (q, unknown Operator.loop refl, unknown Operator.forEach refl) refl) n t
 
   no-math : runs u mathCalls ≡ false → (n : ℕ) → u n ≡ true → calls math n ≡ false

@@ -1,16 +1,16 @@
 -- The role that each operator plays in a written list: a device of these proofs, which lets one fact about an operator answer every test
 -- that the definition makes of it. Each law here ties one test of the definition to the role, by computing both for all 111 numbers.
-use Prim.Native.Nat.{ℕ, zero, suc, _≤_, _<_}
+use Prim.Native.Nat.{ℕ, zero, suc, _<_}
 use mathlib.Core.Path.{_≡_, refl, ap, sym, _∙_}
 use mathlib.Core.Bool.{Bool, true, false, _||_, _&&_, not, Bool·beq, true≢false, false≢true, and-eq-true-iff, and-false}
 use mathlib.Core.List.{List, [], _∷_}
 use mathlib.Core.Option.{Option, none, some}
 use native.Mathlib.Omega.{arith}
-use lib.Dec.{eqb, leb, ltb, lit<}
-use borrow.Author.Tests.{eqb-true, eqb-false, ne-eqb, lt-leb, le-leb, leb-true, leb-false, not-true, not-false}
+use lib.Dec.{eqb, leb, lit<}
+use borrow.Author.Tests.{eqb-true, eqb-false, ne-eqb, lt-leb, leb-true, leb-false, not-true}
 use Rattle.molang.specs.Operator
-use Rattle.molang.specs.Operator.{any, isOneOf, between, isMathCall, isBracket, isQueryOrLoop, closingOf, isCloser}
-use Rattle.molang.specs.Calls.{CallKind, queryOrLoop, math, calls}
+use Rattle.molang.specs.Operator.{isOneOf, between, isMathCall, isBracket, isQueryOrLoop, closingOf, isCloser}
+use Rattle.molang.specs.Calls.{queryOrLoop, math, calls}
 use Rattle.molang.specs.Order.{someBelow}
 use Rattle.molang.specs.Plain.{isPlainLeaf, isPlainBinary, isCall}
 use Rattle.molang.proofs.Booleans.{either, or-neither}

@@ -1,20 +1,20 @@
 -- The section pass takes an expression's tokens to the list in which its brackets hold their contents and nothing is folded yet.
 use Prim.Native.Nat.{ℕ, _+_}
 use mathlib.Core.Path.{_≡_, refl, ap, sym, _∙_}
-use mathlib.Core.Bool.{Bool, true, false, _||_, _&&_, not, false≢true}
+use mathlib.Core.Bool.{Bool, true, false}
 use mathlib.Core.List.{List, [], _∷_}
-use mathlib.Core.Option.{Option, none, some, Option·getD}
+use mathlib.Core.Option.{Option·getD}
 use lib.Dec.{eqb}
 use borrow.Author.Tests.{eqb-true}
 use Rattle.molang.specs.Operator
 use Rattle.molang.specs.Operator.{any, isOneOf, isBracket, closingOf, isCloser}
 use Rattle.molang.specs.Forest.{Token, Forest, nil, node, bare, leaves, turnedOnto, inOrder}
-use Rattle.molang.specs.Message.{Result, ok, fail, closer}
-use Rattle.molang.specs.Sections.{Open, outside, section, placed, position, going, mismatch, closing, closed, sections}
+use Rattle.molang.specs.Message.{ok, closer}
+use Rattle.molang.specs.Sections.{Open, outside, section, placed, position, closing, closed, sections}
 use Rattle.molang.specs.Sections as Definition
 use Rattle.molang.specs.Write.{closerFor}
 use Rattle.molang.proofs.Forests.{Turns, inOrder-turned}
-use Rattle.molang.proofs.RoundTrip.Role.{Role, aBracket, is, isAmong, among, role, role-bracket, textRoles, role-text}
+use Rattle.molang.proofs.RoundTrip.Role.{aBracket, is, isAmong, among, role, role-bracket, textRoles, role-text}
 use Rattle.molang.proofs.RoundTrip.Expression.{Sort, Exp, empty, leaf, bracket, before, between, leafRoles, prefixRoles, joiningRoles, tokens, ahead, amid, form, turned-form}
 
 abbrev pub nothingYet : ℕ → Bool

@@ -4,22 +4,21 @@ use Prim.Native.Nat.{ℕ, suc, _+_}
 use mathlib.Core.Path.{_≡_, refl, ap, sym, _∙_}
 use mathlib.Core.Bool.{Bool, true, false, _||_, _&&_, not, true≢false, false≢true, and-eq-true-iff, and-false, or-true}
 use mathlib.Core.List.{List, [], _∷_}
-use mathlib.Core.Option.{Option, none, some}
-use native.Mathlib.Omega.{arith}
+use mathlib.Core.Option.{none, some}
 use lib.Dec.{eqb}
-use borrow.Author.Tests.{eqb-true, not-true}
+use borrow.Author.Tests.{not-true}
 use Rattle.molang.specs.Operator
 use Rattle.molang.specs.Operator.{isOneOf, isMathCall, isBracket}
 use Rattle.molang.specs.Forest.{Token, Forest, nil, node, size, bare}
-use Rattle.molang.specs.Calls.{math, calls}
+use Rattle.molang.specs.Calls.{calls}
 use Rattle.molang.specs.Plain.{Place, elsewhere, rightOfQuestion, underMathCall, isRightOfQuestion, isUnderMathCall, placeUnder, placeOf, isPlainLeaf, isPlainBinary, isCall, plainForm, unplain, unplainAt}
-use Rattle.molang.specs.Write.{openerFor, closerFor, standsAlone, standsLeft, standsRight, operandTokens, written, isSingle, takenAway}
+use Rattle.molang.specs.Write.{openerFor, closerFor, standsAlone, standsLeft, standsRight, operandTokens, written, takenAway}
 use Rattle.molang.proofs.Booleans.{either, never, or-only-first}
 use Rattle.molang.proofs.Computed.{computed}
 use Rattle.molang.proofs.PlainTrees.{plain-parts}
 use Rattle.molang.proofs.TakingAway.{taken-later, taken-kept, taken-call, taken-bracket}
-use Rattle.molang.proofs.Writing.{written-none, written-one, written-two}
-use Rattle.molang.proofs.RoundTrip.Role.{Role, aLeaf, aQuery, aMathCall, aBracket, aMinus, aNot, aBinary, aComma, aQuestion, aColon, is, is-same, isAmong, allOf, among, role, role-bracket, role-comma, role-question, role-colon, role-math, role-call, role-leaf, role-binary, role-single}
+use Rattle.molang.proofs.Writing.{written-none, written-one}
+use Rattle.molang.proofs.RoundTrip.Role.{Role, aQuery, aMathCall, aBracket, aMinus, aNot, aBinary, aComma, aQuestion, aColon, is, is-same, isAmong, allOf, among, role, role-bracket, role-comma, role-question, role-colon, role-math, role-call, role-leaf, role-binary, role-single}
 use Rattle.molang.proofs.RoundTrip.Expression.{Sort, nothing, atom, prefixed, bracketed, joinedBy, Exp, empty, leaf, bracket, before, between, isOperand, isJoinedBy, isWhole, isFilled, isBracketed, isFilledBracket, leafRoles, prefixRoles, joiningRoles, isLeaf, isPrefix, isJoining, takes, joinsLeft, joinsRight, tokens, ahead, amid, form, Solid}
 use Rattle.molang.proofs.RoundTrip.Order.{everything}
 
@@ -339,8 +338,8 @@ spell-one p k x xs h y = split (isBracket (k .op)) (isCall (k .op)) refl refl
     split false true m n = spell-call p k x xs n (rw (call-single n, n) at h) y
     split false false m n =
         let s : isAmong singleRoles (role (k .op)) ≡ true =
-            sym (role-single (k .op))
-            ∙ or-only-first (isOneOf (Operator.leftParenthesis ∷ Operator.negate ∷ Operator.logicalNot ∷ []) (k .op)) (isCall (k .op) && isBracket (x .op)) (rw n refl) h in
+        sym (role-single (k .op))
+        ∙ or-only-first (isOneOf (Operator.leftParenthesis ∷ Operator.negate ∷ Operator.logicalNot ∷ []) (k .op)) (isCall (k .op) && isBracket (x .op)) (rw n refl) h in
         spell-prefix p k x xs (rw (sym (role-bracket (k .op)) ∙ m) at s) y
 
 spell-none : (p : Place) (k : Token) → plainForm p k nil ≡ true → Spelled p k nil

@@ -1,7 +1,7 @@
 -- The pass of unary minus and not, from the right, takes an expression's list to the list in which both hold their operands.
 use Prim.Native.Nat.{ℕ}
 use mathlib.Core.Path.{_≡_, refl, ap, sym, _∙_}
-use mathlib.Core.Bool.{Bool, true, false, _||_, _&&_, not, true≢false, false≢true, and-eq-true-iff}
+use mathlib.Core.Bool.{Bool, true, false, _||_, not, true≢false, false≢true}
 use mathlib.Core.List.{List, [], _∷_}
 use mathlib.Core.Option.{Option, none, some}
 use lib.Dec.{eqb}
@@ -9,10 +9,10 @@ use borrow.Author.Tests.{not-true}
 use Rattle.molang.specs.Operator
 use Rattle.molang.specs.Operator.{any, isOneOf}
 use Rattle.molang.specs.Forest.{Token, Forest, nil, node}
-use Rattle.molang.specs.Message.{Result, ok, fail}
-use Rattle.molang.specs.Unary.{done, undone, minusAfter, notBefore, unaryLeaf, turned, unaryNode, unary, unaryPass}
+use Rattle.molang.specs.Message.{ok}
+use Rattle.molang.specs.Unary.{done, minusAfter, notBefore, unaryLeaf, turned, unaryNode, unary, unaryPass}
 use Rattle.molang.proofs.RoundTrip.Role.{Role, aBracket, aMinus, aNot, is, isAmong, allOf, among, role, role-minus, role-not}
-use Rattle.molang.proofs.RoundTrip.Expression.{Sort, nothing, atom, prefixed, bracketed, joinedBy, Exp, empty, leaf, bracket, before, between, isOperand, isJoinedBy, isBracketed, isFilledBracket, leafRoles, prefixRoles, joiningRoles, isLeaf, isPrefix, isJoining, isWhole, takes, joinsLeft, joinsRight, ahead, amid, form, also, Solid, operand-solid, takes-operand}
+use Rattle.molang.proofs.RoundTrip.Expression.{Sort, nothing, atom, prefixed, bracketed, joinedBy, Exp, empty, leaf, bracket, before, between, isOperand, leafRoles, joiningRoles, joinsLeft, joinsRight, ahead, amid, form, also, Solid, operand-solid, takes-operand}
 
 abbrev pub prefixes : ℕ → Bool
 prefixes n = isOneOf (Operator.negate ∷ Operator.logicalNot ∷ []) n
