@@ -27,7 +27,8 @@ unfolding takenAway
 taken-later c k cs r R = refl
 
 -- A node that is no bracket stays, and so does a bracket under a call.
-pub taken-kept : (c : Bool) (k : Token) (cs R : Forest) → isBracket (k .op) ≡ false → takenAway c (node k cs nil) R ≡ node k (takenAway (isCall (k .op)) cs nil) R
+pub taken-kept : (c : Bool) (k : Token) (cs R : Forest) → isBracket (k .op) ≡ false
+    → takenAway c (node k cs nil) R ≡ node k (takenAway (isCall (k .op)) cs nil) R
 unfolding takenAway
 taken-kept c k cs R h = taken-by false c k cs nil R (rw h refl)
 
@@ -35,7 +36,8 @@ pub taken-call : (k : Token) (cs R : Forest) → takenAway true (node k cs nil) 
 unfolding takenAway
 taken-call k cs R = taken-by false true k cs nil R (and-false (isBracket (k .op) && isSingle cs))
 
-pub taken-bracket : (k x : Token) (xs R : Forest) → isBracket (k .op) ≡ true → takenAway false (node k (node x xs nil) nil) R ≡ takenAway false (node x xs nil) R
+pub taken-bracket : (k x : Token) (xs R : Forest) → isBracket (k .op) ≡ true
+    → takenAway false (node k (node x xs nil) nil) R ≡ takenAway false (node x xs nil) R
 unfolding takenAway isSingle
 taken-bracket k x xs R h = taken-by true false k (node x xs nil) nil R (rw h refl)
 
@@ -54,12 +56,15 @@ one-child (node k cs (node l ls r)) h = absurd (false≢true h)
 
 pub taken-count : (c : Bool) (f r : Forest) → count (takenAway c f r) ≡ count f + count r
 taken-count c nil r = unfold takenAway count in omega arith
-taken-count c (node k cs rest) r = split (isBracket (k .op) && isSingle cs && not c) refl (taken-count false cs (takenAway c rest r)) (taken-count c rest r)
+taken-count c (node k cs rest) r = split (isBracket (k .op) && isSingle cs && not c) refl (taken-count false cs (takenAway c rest r))
+    (taken-count c rest r)
   where
-    split : (b : Bool) → (isBracket (k .op) && isSingle cs && not c) ≡ b → count (takenAway false cs (takenAway c rest r)) ≡ count cs + count (takenAway c rest r)
+    split : (b : Bool) → (isBracket (k .op) && isSingle cs && not c) ≡ b
+        → count (takenAway false cs (takenAway c rest r)) ≡ count cs + count (takenAway c rest r)
         → count (takenAway c rest r) ≡ count rest + count r → count (takenAway c (node k cs rest) r) ≡ count (node k cs rest) + count r
     split true h i j =
-        let one = one-child cs (and-eq-true-iff (isBracket (k .op)) (isSingle cs) .0 (and-eq-true-iff (isBracket (k .op) && isSingle cs) (not c) .0 h .0) .1) in
+        let one = one-child cs (and-eq-true-iff (isBracket (k .op)) (isSingle cs) .0
+        (and-eq-true-iff (isBracket (k .op) && isSingle cs) (not c) .0 h .0) .1) in
         rw (taken-by true c k cs rest r h) (unfold count in omega arith)
     split false h i j = rw (taken-by false c k cs rest r h) (unfold count in omega arith)
 
@@ -73,16 +78,20 @@ taken-twice : (c : Bool) (f r R : Forest) → takenAway c (takenAway c f r) R �
 taken-twice c nil r R = unfold takenAway in refl
 taken-twice c (node k cs rest) r R = split c (isBracket (k .op) && isSingle cs && not c) refl (λ d. taken-twice d cs) (taken-twice c rest r R)
   where
-    split : (c b : Bool) → (isBracket (k .op) && isSingle cs && not c) ≡ b → ((d : Bool) (r R : Forest) → takenAway d (takenAway d cs r) R ≡ takenAway d cs (takenAway d r R))
-        → takenAway c (takenAway c rest r) R ≡ takenAway c rest (takenAway c r R) → takenAway c (takenAway c (node k cs rest) r) R ≡ takenAway c (node k cs rest) (takenAway c r R)
+    split : (c b : Bool) → (isBracket (k .op) && isSingle cs && not c) ≡ b
+        → ((d : Bool) (r R : Forest) → takenAway d (takenAway d cs r) R ≡ takenAway d cs (takenAway d r R))
+        → takenAway c (takenAway c rest r) R ≡ takenAway c rest (takenAway c r R)
+        → takenAway c (takenAway c (node k cs rest) r) R ≡ takenAway c (node k cs rest) (takenAway c r R)
     split true true h i j = absurd (false≢true (sym (and-false (isBracket (k .op) && isSingle cs)) ∙ h))
     split false true h i j =
         ap (λ (f : Forest). takenAway false f R) (taken-by true false k cs rest r h)
         ∙ i false (takenAway false rest r) R ∙ ap (takenAway false cs) j ∙ sym (taken-by true false k cs rest (takenAway false r R) h)
     split c false h i j =
         ap (λ (f : Forest). takenAway c f R) (taken-by false c k cs rest r h)
-        ∙ taken-by false c k (takenAway (isCall (k .op)) cs nil) (takenAway c rest r) R (ap (λ (s : Bool). isBracket (k .op) && s && not c) (single-kept (isCall (k .op)) cs) ∙ h)
-        ∙ ap (λ (f : Forest). node k f (takenAway c (takenAway c rest r) R)) (i (isCall (k .op)) nil nil ∙ ap (takenAway (isCall (k .op)) cs) (taken-nil (isCall (k .op))))
+        ∙ taken-by false c k (takenAway (isCall (k .op)) cs nil) (takenAway c rest r) R
+        (ap (λ (s : Bool). isBracket (k .op) && s && not c) (single-kept (isCall (k .op)) cs) ∙ h)
+        ∙ ap (λ (f : Forest). node k f (takenAway c (takenAway c rest r) R))
+        (i (isCall (k .op)) nil nil ∙ ap (takenAway (isCall (k .op)) cs) (taken-nil (isCall (k .op))))
         ∙ ap (node k (takenAway (isCall (k .op)) cs nil)) j
         ∙ sym (taken-by false c k cs rest (takenAway c r R) h)
 

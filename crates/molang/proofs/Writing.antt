@@ -39,20 +39,24 @@ unfolding writtenCount
 count-one b k x xs h = rw (← h) refl
 
 pub written-two : (k x : Token) (xs : Forest) (y : Token) (ys : Forest) (r : List Token)
-    → written k (node x xs (node y ys nil)) r ≡ operandTokens (standsLeft k x xs) x (written x xs) (k ∷ operandTokens (standsRight k y ys) y (written y ys) r)
+    → written k (node x xs (node y ys nil)) r ≡ operandTokens (standsLeft k x xs) x (written x xs)
+    (k ∷ operandTokens (standsRight k y ys) y (written y ys) r)
 unfolding written
 written-two k x xs y ys r = refl
 
 count-two : (k x : Token) (xs : Forest) (y : Token) (ys : Forest)
-    → writtenCount k (node x xs (node y ys nil)) ≡ operandCount (standsLeft k x xs) (writtenCount x xs) + 1 + operandCount (standsRight k y ys) (writtenCount y ys)
+    → writtenCount k (node x xs (node y ys nil)) ≡ operandCount (standsLeft k x xs) (writtenCount x xs) + 1 + operandCount (standsRight k y ys)
+    (writtenCount y ys)
 unfolding writtenCount
 count-two k x xs y ys = refl
 
-pub written-more : (k x : Token) (xs : Forest) (y : Token) (ys : Forest) (z : Token) (zs more : Forest) (r : List Token) → written k (node x xs (node y ys (node z zs more))) r ≡ k ∷ r
+pub written-more : (k x : Token) (xs : Forest) (y : Token) (ys : Forest) (z : Token) (zs more : Forest) (r : List Token)
+    → written k (node x xs (node y ys (node z zs more))) r ≡ k ∷ r
 unfolding written
 written-more k x xs y ys z zs more r = refl
 
-count-more : (k x : Token) (xs : Forest) (y : Token) (ys : Forest) (z : Token) (zs more : Forest) → writtenCount k (node x xs (node y ys (node z zs more))) ≡ 1
+count-more : (k x : Token) (xs : Forest) (y : Token) (ys : Forest) (z : Token) (zs more : Forest)
+    → writtenCount k (node x xs (node y ys (node z zs more))) ≡ 1
 unfolding writtenCount
 count-more k x xs y ys z zs more = refl
 
@@ -78,10 +82,12 @@ written-length k (node x xs nil) r = split (isBracket (k .op)) refl (written-len
         let a = count-operand (standsAlone x xs) x (written x xs) (writtenCount x xs) i r in
         rw (written-one false k x xs r h, count-one false k x xs h) (omega arith)
 written-length k (node x xs (node y ys nil)) r =
-    let a = count-operand (standsLeft k x xs) x (written x xs) (writtenCount x xs) (written-length x xs) (k ∷ operandTokens (standsRight k y ys) y (written y ys) r) in
+    let a = count-operand (standsLeft k x xs) x (written x xs) (writtenCount x xs) (written-length x xs)
+    (k ∷ operandTokens (standsRight k y ys) y (written y ys) r) in
     let b = count-operand (standsRight k y ys) y (written y ys) (writtenCount y ys) (written-length y ys) r in
     rw (written-two k x xs y ys r, count-two k x xs y ys) (omega arith)
-written-length k (node x xs (node y ys (node z zs more))) r = rw (written-more k x xs y ys z zs more r, count-more k x xs y ys z zs more) (omega arith)
+written-length k (node x xs (node y ys (node z zs more))) r = rw (written-more k x xs y ys z zs more r, count-more k x xs y ys z zs more)
+    (omega arith)
 
 -- The tree's own tokens, in the order of writing: each operator between or before its operands. (No plain node has three children.)
 unfoldable pub ownTokens : Token → Forest → List Token → List Token
@@ -118,7 +124,8 @@ adds k (node x xs nil) r r' a = split (isBracket (k .op)) refl (adds x xs)
     split false h i = rw (written-one false k x xs r' h) (own k (adds-operand (standsAlone x xs) x (ownTokens x xs) (written x xs) i r r' a))
 adds k (node x xs (node y ys nil)) r r' a =
     rw (written-two k x xs y ys r')
-    (adds-operand (standsLeft k x xs) x (ownTokens x xs) (written x xs) (adds x xs) (k ∷ ownTokens y ys r) (k ∷ operandTokens (standsRight k y ys) y (written y ys) r')
+    (adds-operand (standsLeft k x xs) x (ownTokens x xs) (written x xs) (adds x xs) (k ∷ ownTokens y ys r)
+    (k ∷ operandTokens (standsRight k y ys) y (written y ys) r')
     (own k (adds-operand (standsRight k y ys) y (ownTokens y ys) (written y ys) (adds y ys) r r' a)))
 adds k (node x xs (node y ys (node z zs more))) r r' a = rw (written-more k x xs y ys z zs more r') (own k a)
 
@@ -137,7 +144,8 @@ unfolding one
 inTrees test nil = 0
 inTrees test (node k cs rest) = one (test k) + inTrees test cs + inTrees test rest
 
-own-once : (test : Token → Bool) (p : Place) (n : ℕ) (k : Token) (cs : Forest) → plainForm p k cs ≡ true → unplain (some k) 0 n cs ≡ none → (r : List Token)
+own-once : (test : Token → Bool) (p : Place) (n : ℕ) (k : Token) (cs : Forest) → plainForm p k cs ≡ true → unplain (some k) 0 n cs ≡ none
+    → (r : List Token)
     → inList test (ownTokens k cs r) ≡ one (test k) + inTrees test cs + inList test r
 unfolding ownTokens inList inTrees placeOf
 own-once test p n k nil h u r = omega arith
@@ -175,6 +183,7 @@ others-once test o c (own k a) = ap (λ (n : ℕ). one (test k) + n) (others-onc
 others-once test o c (opener k a) = let i = others-once test o c a in rw (o k) (omega arith)
 others-once test o c (closer k a) = let i = others-once test o c a in rw (c k) (omega arith)
 
-pub written-once : (k : Token) (cs : Forest) → unplainAt k cs ≡ none → (test : Token → Bool) → ((k : Token) → test (openerFor k) ≡ false) → ((k : Token) → test (closerFor k) ≡ false)
+pub written-once : (k : Token) (cs : Forest) → unplainAt k cs ≡ none → (test : Token → Bool) → ((k : Token) → test (openerFor k) ≡ false)
+    → ((k : Token) → test (closerFor k) ≡ false)
     → inList test (written k cs []) ≡ inTrees test (node k cs nil)
 written-once k cs plain test o c = let p = put-in-once k cs plain in others-once test o c (p .bracketsAdded) ∙ p .eachOnce test

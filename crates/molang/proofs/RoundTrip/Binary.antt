@@ -82,7 +82,8 @@ module _ (σ : ℕ → Bool) (ops : List ℕ) (w : Ready σ ops) where
   taken d l ls k m (node c cs rest) ms' r n e =
       walk-into level (waiting (node l ls d) k) (waiting (node l ls d) k) (gathered nil) m (node c cs rest) ms' r (rw (n, binaryStep) refl) e
 
-  fold : (k : Token) (X X' Y Y' : Forest → Forest) → isOneOf ops (k .op) ≡ true → Carried X X' → After X' → Single Y Y' → Carried (amid false k X Y) (amid true k X' Y')
+  fold : (k : Token) (X X' Y Y' : Forest → Forest) → isOneOf ops (k .op) ≡ true → Carried X X' → After X' → Single Y Y'
+      → Carried (amid false k X Y) (amid true k X' Y')
   unfolding amid turnedOnto binaryLevel binaryStep operatorAfter
   fold k X X' Y Y' q x a y d r f =
       let l = a .label in let ls = a .inside in let m = y .after .label in let ms' = y .after .inside in
@@ -93,7 +94,8 @@ module _ (σ : ℕ → Bool) (ops : List ℕ) (w : Ready σ ops) where
       ∙ taken d l ls k m (y .before) ms' r (a .clean) (y .walked)
       ∙ ap (λ (t : Forest). walk level (gathered (node k t d)) r) (sym (a .becomes (Y' nil) ∙ ap (node l ls) (y .after .becomes nil)))
 
-  carry-ahead : (a b : Bool) (k : Token) (X X' : Forest → Forest) → isOneOf ops (k .op) ≡ b → b ≡ false → Carried X X' → Carried (ahead a k X) (ahead (a || b) k X')
+  carry-ahead : (a b : Bool) (k : Token) (X X' : Forest → Forest) → isOneOf ops (k .op) ≡ b → b ≡ false → Carried X X'
+      → Carried (ahead a k X) (ahead (a || b) k X')
   unfolding ahead turnedOnto
   carry-ahead a true k X X' q n x = absurd (true≢false n)
   carry-ahead true false k X X' q n x = carry k (X nil) (X' nil) q (whole X X' x)
@@ -129,7 +131,8 @@ module _ (σ : ℕ → Bool) (ops : List ℕ) (w : Ready σ ops) where
   clean-ahead true k X q x r = skip k (X nil) r q (x nil ∙ none-left)
   clean-ahead false k X q x r = skip k nil (X r) q none-left ∙ x r
 
-  clean-amid : (a b : Bool) (k : Token) (X Y : Forest → Forest) → isOneOf ops (k .op) ≡ b → Clean X → Clean Y → (b ≡ true → After X) → Clean (amid (a || b) k X Y)
+  clean-amid : (a b : Bool) (k : Token) (X Y : Forest → Forest) → isOneOf ops (k .op) ≡ b → Clean X → Clean Y → (b ≡ true → After X)
+      → Clean (amid (a || b) k X Y)
   unfolding Clean amid
   clean-amid a true k X Y q x y s r = below a
     where
@@ -175,7 +178,8 @@ module _ (σ : ℕ → Bool) (ops : List ℕ) (w : Ready σ ops) where
   folded-empty = record { carried = λ d r f. refl; clean = λ r. refl; after = λ h. absurd (false≢true h); single = λ h. absurd (false≢true h) }
 
   -- A leaf or a bracket k over x.
-  operand : (k : Token) (x x' : Forest) → isOneOf ops (k .op) ≡ false → walk level (gathered nil) x ≡ ok x' → firstLeaf ops x' ≡ none → Single (node k x) (node k x')
+  operand : (k : Token) (x x' : Forest) → isOneOf ops (k .op) ≡ false → walk level (gathered nil) x ≡ ok x' → firstLeaf ops x' ≡ none
+      → Single (node k x) (node k x')
   operand k x x' q e c = record { after = record { label = k; inside = x'; becomes = λ r. refl; clean = c }; before = x; was = λ r. refl; walked = e }
 
   folded-leaf : (k : Token) (r : Role) (e : role (k .op) ≡ r) (l : isLeaf r ≡ true) → Folded (leaf k r e l)
@@ -198,7 +202,8 @@ module _ (σ : ℕ → Bool) (ops : List ℕ) (w : Ready σ ops) where
         single = λ h. o;
       }
 
-  folded-before : {s : Sort} (k : Token) (r : Role) (e : role (k .op) ≡ r) (p : isPrefix r ≡ true) (t : takes r s ≡ true) (x : Exp s) → Folded x → Folded (before k r e p t x)
+  folded-before : {s : Sort} (k : Token) (r : Role) (e : role (k .op) ≡ r) (p : isPrefix r ≡ true) (t : takes r s ≡ true) (x : Exp s) → Folded x
+      → Folded (before k r e p t x)
   unfolding form also
   folded-before k r e p t x i =
       let q = quiet (k .op) r e (among prefixRoles (λ r. not (isJoining r)) refl r p) in
@@ -209,7 +214,8 @@ module _ (σ : ℕ → Bool) (ops : List ℕ) (w : Ready σ ops) where
         single = λ h. absurd (false≢true h);
       }
 
-  folded-between : {s t : Sort} (k : Token) (r : Role) (e : role (k .op) ≡ r) (j : isJoining r ≡ true) (l : joinsLeft r s ≡ true) (m : joinsRight r t ≡ true)
+  folded-between : {s t : Sort} (k : Token) (r : Role) (e : role (k .op) ≡ r) (j : isJoining r ≡ true) (l : joinsLeft r s ≡ true)
+      (m : joinsRight r t ≡ true)
       (x : Exp s) (y : Exp t) → Folded x → Folded y → Folded (between k r e j l m x y)
   unfolding form also
   folded-between {s} {t} k r e j l m x y i n =
@@ -226,7 +232,8 @@ module _ (σ : ℕ → Bool) (ops : List ℕ) (w : Ready σ ops) where
         after = λ h. let c = and-eq-true-iff (is aComma r) (σ' Operator.comma) .0 h in
             after-amid (σ' (k .op)) k (form σ' x) (form σ' y) (ap σ' (op-of-comma (k .op) r e (c .0)) ∙ c .1) (i .clean) (n .clean);
         single = λ h. let c = and-eq-true-iff (is aColon r) (σ Operator.conditionalElse) .0 h in
-            single-amid (σ (k .op)) (isOneOf ops (k .op)) k (form σ x) (form σ' x) (form σ y) (form σ' y) (ap σ (op-of-colon (k .op) r e (c .0)) ∙ c .1)
+            single-amid (σ (k .op)) (isOneOf ops (k .op)) k (form σ x) (form σ' x) (form σ y) (form σ' y)
+            (ap σ (op-of-colon (k .op) r e (c .0)) ∙ c .1)
             (i .carried) (turned-form σ' x) (n .carried) (i .clean) (n .clean);
       }
 

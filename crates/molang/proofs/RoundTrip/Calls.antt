@@ -47,7 +47,8 @@ calls-told : (kind : CallKind) (n : ℕ) (r : Role) → role n ≡ r → calls k
 calls-told queryOrLoop n r e = role-query n ∙ ap (told queryOrLoop) e
 calls-told math n r e = role-math n ∙ ap (told math) e
 
-uncalled : (kind : CallKind) (n : ℕ) (r : Role) (rs : List Role) → role n ≡ r → allOf (λ r. not (told kind r)) rs ≡ true → isAmong rs r ≡ true → calls kind n ≡ false
+uncalled : (kind : CallKind) (n : ℕ) (r : Role) (rs : List Role) → role n ≡ r → allOf (λ r. not (told kind r)) rs ≡ true → isAmong rs r ≡ true
+    → calls kind n ≡ false
 uncalled kind n r rs e h m = calls-told kind n r e ∙ not-true (told kind r) (among rs (λ r. not (told kind r)) h r m)
 
 uncalled-bracket : (kind : CallKind) (n : ℕ) → role n ≡ aBracket → calls kind n ≡ false
@@ -58,7 +59,8 @@ uncalled-joining : (kind : CallKind) (n : ℕ) (r : Role) → role n ≡ r → i
 uncalled-joining queryOrLoop n r e j = uncalled queryOrLoop n r joiningRoles e refl j
 uncalled-joining math n r e j = uncalled math n r joiningRoles e refl j
 
-not-bracket : (n : ℕ) (r : Role) (rs : List Role) → role n ≡ r → allOf (λ r. not (is aBracket r)) rs ≡ true → isAmong rs r ≡ true → not (isBracket n) ≡ true
+not-bracket : (n : ℕ) (r : Role) (rs : List Role) → role n ≡ r → allOf (λ r. not (is aBracket r)) rs ≡ true → isAmong rs r ≡ true
+    → not (isBracket n) ≡ true
 not-bracket n r rs e h m = ap not (role-bracket n ∙ ap (is aBracket) e) ∙ among rs (λ r. not (is aBracket r)) h r m
 
 module _ (kind : CallKind) where
@@ -95,31 +97,37 @@ module _ (kind : CallKind) where
   unfolding Takes ahead turnedOnto callLevel callStep callLeaf
   waits k X X' q x d r f = walk-on level (gathered d) (waiting d k) k nil (X r) (rw (q, callLeaf) refl) ∙ x d k r
 
-  carry-ahead : (a b : Bool) (k : Token) (X X' : Forest → Forest) → calls kind (k .op) ≡ b → (b ≡ true → a ≡ false) → Carried X X' → (b ≡ true → Takes X X') → Carried (ahead a k X) (ahead (a || b) k X')
+  carry-ahead : (a b : Bool) (k : Token) (X X' : Forest → Forest) → calls kind (k .op) ≡ b → (b ≡ true → a ≡ false) → Carried X X'
+      → (b ≡ true → Takes X X') → Carried (ahead a k X) (ahead (a || b) k X')
   unfolding ahead turnedOnto
   carry-ahead true true k X X' q n x t = absurd (true≢false (n refl))
   carry-ahead true false k X X' q n x t = carry k (X nil) (X' nil) q (whole X X' x)
   carry-ahead false true k X X' q n x t = unfold ahead in waits k X X' q (t refl)
   carry-ahead false false k X X' q n x t = carry-token level gathered noBracket k X X' (passes k q) x
 
-  carry-amid : (a b : Bool) (k : Token) (X X' Y Y' : Forest → Forest) → a ≡ false → calls kind (k .op) ≡ b → b ≡ false → not (isBracket (k .op)) ≡ true
+  carry-amid : (a b : Bool) (k : Token) (X X' Y Y' : Forest → Forest) → a ≡ false → calls kind (k .op) ≡ b → b ≡ false
+      → not (isBracket (k .op)) ≡ true
       → Carried X X' → Turns X' → Carried Y Y' → Carried (amid a k X Y) (amid (a || b) k X' Y')
   unfolding amid noBracket
   carry-amid true b k X X' Y Y' h q c n x t y = absurd (true≢false h)
   carry-amid false true k X X' Y Y' h q c n x t y = absurd (true≢false c)
   carry-amid false false k X X' Y Y' h q c n x t y =
-      carry-both level gathered noBracket X X' (λ r. node k nil (Y r)) (λ r. node k nil (Y' r)) x (carry-token level gathered noBracket k Y Y' (passes k q) y) t (λ r f. n)
+      carry-both level gathered noBracket X X' (λ r. node k nil (Y r)) (λ r. node k nil (Y' r)) x
+      (carry-token level gathered noBracket k Y Y' (passes k q) y) t (λ r f. n)
 
 -- A query that no bracket follows stays a leaf.
 settles : (k : Token) → calls queryOrLoop (k .op) ≡ true → Carried queryOrLoop (node k nil) (node k nil)
 unfolding turnedOnto callLevel callStep callLeaf
 settles k q d r f = walk-on (callLevel queryOrLoop) (gathered d) (waiting d k) k nil r (rw (q, callLeaf) refl) ∙ settled r f
   where
-    settled : (r : Forest) → noBracket r ≡ true → walk (callLevel queryOrLoop) (waiting d k) r ≡ walk (callLevel queryOrLoop) (gathered (node k nil d)) r
+    settled : (r : Forest) → noBracket r ≡ true → walk (callLevel queryOrLoop) (waiting d k) r ≡ walk (callLevel queryOrLoop)
+        (gathered (node k nil d)) r
     settled nil f = unfold walk callFinish in refl
-    settled (node b nil r) f = walk-same (callLevel queryOrLoop) (waiting d k) (gathered (node k nil d)) b nil r (rw (not-true (isBracket (b .op)) (unfold noBracket in f), callStep) refl)
+    settled (node b nil r) f = walk-same (callLevel queryOrLoop) (waiting d k) (gathered (node k nil d)) b nil r
+        (rw (not-true (isBracket (b .op)) (unfold noBracket in f), callStep) refl)
     settled (node b (node c cs rest) r) f =
-        walk-same (callLevel queryOrLoop) (waiting d k) (gathered (node k nil d)) b (node c cs rest) r (rw (not-true (isBracket (b .op)) (unfold noBracket in f), callStep) refl)
+        walk-same (callLevel queryOrLoop) (waiting d k) (gathered (node k nil d)) b (node c cs rest) r
+        (rw (not-true (isBracket (b .op)) (unfold noBracket in f), callStep) refl)
 
 leaf-settles : (kind : CallKind) (k : Token) (r : Role) → role (k .op) ≡ r → isLeaf r ≡ true → Carried kind (node k nil) (node k nil)
 leaf-settles math k r e l = carry math k nil nil (uncalled math (k .op) r leafRoles e refl l) (gathers math .begins)
@@ -186,8 +194,10 @@ module _ (σ : ℕ → Bool) (kind : CallKind) (w : Uncalled σ kind) where
       }
   called (between k r e j l m x y) =
       record {
-        carried = carry-amid kind (σ (k .op)) (calls kind (k .op)) k (form σ x) (form σ' x) (form σ y) (form σ' y) (w .unjoined (k .op) (ap isJoining e ∙ j)) refl
-            (uncalled-joining kind (k .op) r e j) (not-bracket (k .op) r joiningRoles e refl j) (called x .carried) (turned-form σ' x) (called y .carried);
+        carried = carry-amid kind (σ (k .op)) (calls kind (k .op)) k (form σ x) (form σ' x) (form σ y) (form σ' y)
+            (w .unjoined (k .op) (ap isJoining e ∙ j)) refl
+            (uncalled-joining kind (k .op) r e j) (not-bracket (k .op) r joiningRoles e refl j) (called x .carried) (turned-form σ' x)
+            (called y .carried);
         taken = λ h. absurd (false≢true h);
       }
 

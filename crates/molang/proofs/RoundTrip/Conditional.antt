@@ -26,17 +26,21 @@ pub record Unpaired (σ : ℕ → Bool) : Type 0 where
   pub colon : σ Operator.conditionalElse ≡ false
 
 -- Lists without a `?` or `:` token stay as they are.
-token-back : (k : Token) (cs r : Forest) → isToken Operator.conditional k cs ≡ false → isToken Operator.conditionalElse k cs ≡ false → dangling (node k cs r) ≡ dangling r
+token-back : (k : Token) (cs r : Forest) → isToken Operator.conditional k cs ≡ false → isToken Operator.conditionalElse k cs ≡ false
+    → dangling (node k cs r) ≡ dangling r
 unfolding dangling
 token-back k cs r p q = rw (p, q, dangling) refl
 
-token-free : (k : Token) (cs r : Forest) → dangling (node k cs r) ≡ none → (isToken Operator.conditional k cs ≡ false) × (isToken Operator.conditionalElse k cs ≡ false) × (dangling r ≡ none)
+token-free : (k : Token) (cs r : Forest) → dangling (node k cs r) ≡ none
+    → (isToken Operator.conditional k cs ≡ false) × (isToken Operator.conditionalElse k cs ≡ false) × (dangling r ≡ none)
 token-free k cs r h = split (isToken Operator.conditional k cs) (isToken Operator.conditionalElse k cs) refl refl
   where
     split : (a b : Bool) → isToken Operator.conditional k cs ≡ a → isToken Operator.conditionalElse k cs ≡ b
         → (isToken Operator.conditional k cs ≡ false) × (isToken Operator.conditionalElse k cs ≡ false) × (dangling r ≡ none)
-    split true b p q = let d : dangling (node k cs r) ≡ some k = (unfold dangling in rw (p, dangling) refl) in absurd (Option·some-ne-none k (sym d ∙ h))
-    split false true p q = let d : dangling (node k cs r) ≡ some k = (unfold dangling in rw (p, q, dangling) refl) in absurd (Option·some-ne-none k (sym d ∙ h))
+    split true b p q = let d : dangling (node k cs r) ≡ some k = (unfold dangling in rw (p, dangling) refl) in absurd
+        (Option·some-ne-none k (sym d ∙ h))
+    split false true p q = let d : dangling (node k cs r) ≡ some k = (unfold dangling in rw (p, q, dangling) refl) in absurd
+        (Option·some-ne-none k (sym d ∙ h))
     split false false p q = (p, q, sym (token-back k cs r p q) ∙ h)
 
 calm-turned : (f o : Forest) → dangling f ≡ none → dangling o ≡ none → dangling (turnedOnto f o) ≡ none
@@ -56,7 +60,8 @@ scanned question colon paired a aa b bs left right =
           ]
     ]
 
-scan-step : (question colon paired : Bool) (a : Token) (aa : Forest) (b : Token) (bs left right : Forest) → isToken Operator.conditional a aa ≡ question
+scan-step : (question colon paired : Bool) (a : Token) (aa : Forest) (b : Token) (bs left right : Forest)
+    → isToken Operator.conditional a aa ≡ question
     → isToken Operator.conditionalElse a aa ≡ colon → startsWith Operator.conditional left ≡ paired
     → scan (node a aa (node b bs left)) right ≡ scanned question colon paired a aa b bs left right
 unfolding scan scanned
@@ -68,14 +73,16 @@ calm-scan nil right h = refl
 calm-scan (node a aa nil) right h = refl
 calm-scan (node a aa (node b bs left)) right h =
     let t = token-free a aa (node b bs left) h in
-    scan-step false false (startsWith Operator.conditional left) a aa b bs left right (t .0) (t .1) refl ∙ calm-scan (node b bs left) (node a aa right) (t .2)
+    scan-step false false (startsWith Operator.conditional left) a aa b bs left right (t .0) (t .1) refl
+    ∙ calm-scan (node b bs left) (node a aa right) (t .2)
 
 calm-folded : (d : Forest) → dangling d ≡ none → foldedFrom d ≡ inOrder d
 unfolding foldedFrom inOrder turnedOnto
 calm-folded nil h = refl
 calm-folded (node a aa nil) h = refl
 calm-folded (node a aa (node b bs nil)) h = refl
-calm-folded (node a aa (node b bs (node c cs left))) h = calm-scan (node b bs (node c cs left)) (node a aa nil) (token-free a aa (node b bs (node c cs left)) h .2)
+calm-folded (node a aa (node b bs (node c cs left))) h = calm-scan (node b bs (node c cs left)) (node a aa nil)
+    (token-free a aa (node b bs (node c cs left)) h .2)
 
 undangled-calm : (f : Forest) → dangling f ≡ none → undangled f ≡ ok f
 unfolding undangled
@@ -96,11 +103,13 @@ unfolding conditionalFinish turnedOnto foldedFrom
 fold-question q hx x hy y e = ap undangled folds ∙ undangled-calm (node q (node hx x (node hy y nil)) nil) (question-token q x hx (node hy y nil))
   where
     folds : scan (node q nil (node hx x nil)) (node hy y nil) ≡ node q (node hx x (node hy y nil)) nil
-    folds = unfold scan scanned startsWith isToken under in scan-step true (eqb (q .op) Operator.conditionalElse) false q nil hx x nil (node hy y nil) e refl refl
+    folds = unfold scan scanned startsWith isToken under in scan-step true (eqb (q .op) Operator.conditionalElse) false q nil hx x nil
+        (node hy y nil) e refl refl
 
 fold-pair : (q c hx : Token) (x : Forest) (hy : Token) (y : Forest) (hz : Token) (z : Forest) → eqb (q .op) Operator.conditional ≡ true
     → eqb (c .op) Operator.conditional ≡ false → eqb (c .op) Operator.conditionalElse ≡ true
-    → conditionalFinish (turnedOnto (node hx x (node q nil (node hy y (node c nil (node hz z nil))))) nil) ≡ ok (node q (node hx x (node c (node hy y (node hz z nil)) nil)) nil)
+    → conditionalFinish (turnedOnto (node hx x (node q nil (node hy y (node c nil (node hz z nil))))) nil) ≡ ok
+    (node q (node hx x (node c (node hy y (node hz z nil)) nil)) nil)
 unfolding conditionalFinish turnedOnto foldedFrom
 fold-pair q c hx x hy y hz z e n h = ap undangled folds ∙ undangled-calm (node q (node hx x pair) nil) (question-token q x hx pair)
   where
@@ -125,13 +134,15 @@ calm-node : (k : Token) (r : Role) → role (k .op) ≡ r → isOther r ≡ true
 unfolding isToken
 calm-node k r e h nil rest =
     let n = other-neither (is aQuestion r) (is aColon r) h in
-    token-back k nil rest (unfold isToken in (role-question (k .op) ∙ ap (is aQuestion) e ∙ n .0)) (unfold isToken in (role-colon (k .op) ∙ ap (is aColon) e ∙ n .1))
+    token-back k nil rest (unfold isToken in (role-question (k .op) ∙ ap (is aQuestion) e ∙ n .0))
+    (unfold isToken in (role-colon (k .op) ∙ ap (is aColon) e ∙ n .1))
 calm-node k r e h (node c cs more) rest = token-back k (node c cs more) rest (unfold isToken in refl) (unfold isToken in refl)
 
 -- What stands right of a `?`: one tree, or two with a `:` between them, which the fold joins.
 data Right (M G : Forest → Forest) : Type 0 where
   one : (h : Token) (f : Forest) → ((r : Forest) → M r ≡ node h f r) → ((r : Forest) → G r ≡ node h f r) → Right M G
-  two : (c : Token) → eqb (c .op) Operator.conditional ≡ false → eqb (c .op) Operator.conditionalElse ≡ true → (hy : Token) (y : Forest) (hz : Token) (z : Forest)
+  two : (c : Token) → eqb (c .op) Operator.conditional ≡ false → eqb (c .op) Operator.conditionalElse ≡ true
+      → (hy : Token) (y : Forest) (hz : Token) (z : Forest)
       → ((r : Forest) → M r ≡ node hy y (node c nil (node hz z r))) → ((r : Forest) → G r ≡ node c (node hy y (node hz z nil)) r) → Right M G
 
 fold-right : (q hx : Token) (x : Forest) (M G : Forest → Forest) → eqb (q .op) Operator.conditional ≡ true → Right M G
@@ -193,7 +204,8 @@ module _ (σ : ℕ → Bool) (w : Unpaired σ) where
   unfolding conditionalLevel conditionalStep
   passes k d = refl
 
-  finish : (F M : Forest → Forest) (g : Forest) → Carried F M → conditionalFinish (turnedOnto (M nil) nil) ≡ ok g → walk conditionalLevel nil (F nil) ≡ ok g
+  finish : (F M : Forest → Forest) (g : Forest) → Carried F M → conditionalFinish (turnedOnto (M nil) nil) ≡ ok g
+      → walk conditionalLevel nil (F nil) ≡ ok g
   unfolding walk conditionalLevel
   finish F M g c e = c nil nil refl ∙ e
 
@@ -209,7 +221,8 @@ module _ (σ : ℕ → Bool) (w : Unpaired σ) where
   none-left = refl
 
   turns-mid : (M G : Forest → Forest) → Calm M G → Turns G → Turns M
-  turns-mid M G c t r d = ap (λ (f : Forest). turnedOnto f d) (c .stays r) ∙ t r d ∙ ap (λ (f : Forest). turnedOnto r (turnedOnto f d)) (sym (c .stays nil))
+  turns-mid M G c t r d = ap (λ (f : Forest). turnedOnto f d) (c .stays r) ∙ t r d
+      ∙ ap (λ (f : Forest). turnedOnto r (turnedOnto f d)) (sym (c .stays nil))
 
   record Paired {s : Sort} (e : Exp s) : Type 0 where
     carried : Carried (form σ e) (mid e)
@@ -227,7 +240,8 @@ module _ (σ : ℕ → Bool) (w : Unpaired σ) where
   }
 
   -- A leaf or a bracket k over x.
-  paired-operand : {s : Sort} (e : Exp s) (k : Token) (x x' : Forest) → Carried (form σ e) (mid e) → ((r : Forest) → mid e r ≡ node k x' r) → ((r : Forest) → form σ' e r ≡ node k x' r)
+  paired-operand : {s : Sort} (e : Exp s) (k : Token) (x x' : Forest) → Carried (form σ e) (mid e) → ((r : Forest) → mid e r ≡ node k x' r)
+      → ((r : Forest) → form σ' e r ≡ node k x' r)
       → ((r : Forest) → dangling (node k x' r) ≡ dangling r) → Paired e
   paired-operand e k x x' c m f n = record {
     carried = c;
@@ -249,12 +263,14 @@ module _ (σ : ℕ → Bool) (w : Unpaired σ) where
       (carry-node conditionalLevel gatheredIn anything gathers k (form σ x nil) (form σ' x nil) (passes k) (i .whole h))
       (λ r. refl) (λ r. refl) (calm-node k aBracket e refl (form σ' x nil))
 
-  carry-ahead : (a : Bool) (k : Token) (X M : Forest → Forest) → Carried X M → walk conditionalLevel nil (X nil) ≡ ok (M nil) → Carried (ahead a k X) (ahead a k M)
+  carry-ahead : (a : Bool) (k : Token) (X M : Forest → Forest) → Carried X M → walk conditionalLevel nil (X nil) ≡ ok (M nil)
+      → Carried (ahead a k X) (ahead a k M)
   unfolding ahead
   carry-ahead true k X M x e = carry-node conditionalLevel gatheredIn anything gathers k (X nil) (M nil) (passes k) e
   carry-ahead false k X M x e = carry-token conditionalLevel gatheredIn anything k X M (passes k) x
 
-  calm-ahead : (a b : Bool) (k : Token) (M G : Forest → Forest) → b ≡ false → ((cs r : Forest) → dangling (node k cs r) ≡ dangling r) → Calm M G → Calm (ahead a k M) (ahead (a || b) k G)
+  calm-ahead : (a b : Bool) (k : Token) (M G : Forest → Forest) → b ≡ false → ((cs r : Forest) → dangling (node k cs r) ≡ dangling r) → Calm M G
+      → Calm (ahead a k M) (ahead (a || b) k G)
   unfolding ahead
   calm-ahead a true k M G n t c = absurd (true≢false n)
   calm-ahead true false k M G n t c = record { stays = λ r. ap (λ (f : Forest). node k f r) (c .stays nil); free = λ r. t (G nil) r }
@@ -262,55 +278,69 @@ module _ (σ : ℕ → Bool) (w : Unpaired σ) where
 
   unconditional : (n : ℕ) (r : Role) → role n ≡ r → isOther r ≡ true → conditionals n ≡ false
   unfolding isOneOf any
-  unconditional n r e h = let o = other-neither (is aQuestion r) (is aColon r) h in rw (role-question n ∙ ap (is aQuestion) e ∙ o .0, role-colon n ∙ ap (is aColon) e ∙ o .1) refl
+  unconditional n r e h = let o = other-neither (is aQuestion r) (is aColon r) h in rw
+      (role-question n ∙ ap (is aQuestion) e ∙ o .0, role-colon n ∙ ap (is aColon) e ∙ o .1) refl
 
-  paired-before : {s : Sort} (k : Token) (r : Role) (e : role (k .op) ≡ r) (p : isPrefix r ≡ true) (t : takes r s ≡ true) (x : Exp s) → Paired x → Paired (before k r e p t x)
+  paired-before : {s : Sort} (k : Token) (r : Role) (e : role (k .op) ≡ r) (p : isPrefix r ≡ true) (t : takes r s ≡ true) (x : Exp s) → Paired x
+      → Paired (before k r e p t x)
   unfolding mid form also
   paired-before {s} k r e p t x i =
       let o = takes-operand r s t in
       let other = among prefixRoles isOther refl r p in
       let inner = i .calm (operand-calm s o) in
       let c = carry-ahead (σ (k .op)) k (form σ x) (mid x) (i .carried) (i .whole (operand-whole s o) ∙ ap ok (sym (inner .stays nil))) in
-      let calm = calm-ahead (σ (k .op)) (conditionals (k .op)) k (mid x) (form σ' x) (unconditional (k .op) r e other) (calm-node k r e other) inner in
+      let calm = calm-ahead (σ (k .op)) (conditionals (k .op)) k (mid x) (form σ' x) (unconditional (k .op) r e other)
+      (calm-node k r e other) inner in
       record {
         carried = c;
         calm = λ h. calm;
         right = λ h. absurd (false≢true h);
-        whole = λ h. finish-calm (ahead (σ (k .op)) k (form σ x)) (ahead (σ (k .op)) k (mid x)) (ahead (σ' (k .op)) k (form σ' x) nil) c (calm .stays nil) (calm .free nil ∙ none-left);
+        whole = λ h. finish-calm (ahead (σ (k .op)) k (form σ x)) (ahead (σ (k .op)) k (mid x)) (ahead (σ' (k .op)) k (form σ' x) nil) c
+            (calm .stays nil) (calm .free nil ∙ none-left);
       }
 
-  carry-amid : (a : Bool) (k : Token) (X M G Y N H : Forest → Forest) → Carried X M → Calm M G → Turns G → Carried Y N → (a ≡ true → Calm N H) → Carried (amid a k X Y) (amid a k M N)
+  carry-amid : (a : Bool) (k : Token) (X M G Y N H : Forest → Forest) → Carried X M → Calm M G → Turns G → Carried Y N → (a ≡ true → Calm N H)
+      → Carried (amid a k X Y) (amid a k M N)
   unfolding amid
   carry-amid true k X M G Y N H x c t y d =
       let inner : walk conditionalLevel nil (X (Y nil)) ≡ ok (M (N nil)) =
-      finish-calm (λ r. X (Y r)) (λ r. M (N r)) (M (N nil)) (carry-both conditionalLevel gatheredIn anything X M Y N x y (turns-mid M G c t) (λ r f. refl)) refl
+      finish-calm (λ r. X (Y r)) (λ r. M (N r)) (M (N nil))
+      (carry-both conditionalLevel gatheredIn anything X M Y N x y (turns-mid M G c t) (λ r f. refl)) refl
       (ap dangling (c .stays (N nil)) ∙ c .free (N nil) ∙ ap dangling (d refl .stays nil) ∙ d refl .free nil ∙ none-left) in
       carry-node conditionalLevel gatheredIn anything gathers k (X (Y nil)) (M (N nil)) (passes k) inner
   carry-amid false k X M G Y N H x c t y d =
       carry-both conditionalLevel gatheredIn anything X M (λ r. node k nil (Y r)) (λ r. node k nil (N r)) x
       (carry-token conditionalLevel gatheredIn anything k Y N (passes k) y) (turns-mid M G c t) (λ r f. refl)
 
-  calm-amid : (a b : Bool) (k : Token) (M G N H : Forest → Forest) → b ≡ false → ((cs r : Forest) → dangling (node k cs r) ≡ dangling r) → Calm M G → Calm N H
+  calm-amid : (a b : Bool) (k : Token) (M G N H : Forest → Forest) → b ≡ false → ((cs r : Forest) → dangling (node k cs r) ≡ dangling r) → Calm M G
+      → Calm N H
       → Calm (amid a k M N) (amid (a || b) k G H)
   unfolding amid
   calm-amid a true k M G N H n t c d = absurd (true≢false n)
   calm-amid true false k M G N H n t c d =
       record { stays = λ r. ap (λ (f : Forest). node k f r) (ap M (d .stays nil) ∙ c .stays (H nil)); free = λ r. t (G (H nil)) r }
   calm-amid false false k M G N H n t c d =
-      record { stays = λ r. ap (λ (f : Forest). M (node k nil f)) (d .stays r) ∙ c .stays (node k nil (H r)); free = λ r. c .free (node k nil (H r)) ∙ t nil (H r) ∙ d .free r }
+      record {
+        stays = λ r. ap (λ (f : Forest). M (node k nil f)) (d .stays r) ∙ c .stays (node k nil (H r));
+        free = λ r. c .free (node k nil (H r))
+            ∙ t nil (H r) ∙ d .free r;
+      }
 
   -- A `:` between two operands, right of its `?`.
-  colon-right : (a b : Bool) (c : Token) (M G N H : Forest → Forest) → a ≡ false → b ≡ true → eqb (c .op) Operator.conditional ≡ false → eqb (c .op) Operator.conditionalElse ≡ true
+  colon-right : (a b : Bool) (c : Token) (M G N H : Forest → Forest) → a ≡ false → b ≡ true → eqb (c .op) Operator.conditional ≡ false
+      → eqb (c .op) Operator.conditionalElse ≡ true
       → Calm M G → Solid G → Calm N H → Solid H → Right (amid a c M N) (amid (a || b) c G H)
   unfolding amid
   colon-right true b c M G N H n m q e x o y p = absurd (true≢false n)
   colon-right false false c M G N H n m q e x o y p = absurd (false≢true m)
   colon-right false true c M G N H n m q e x o y p =
       two c q e (o .label) (o .inside) (p .label) (p .inside)
-      (λ r. x .stays (node c nil (N r)) ∙ o .becomes (node c nil (N r)) ∙ ap (λ (f : Forest). node (o .label) (o .inside) (node c nil f)) (y .stays r ∙ p .becomes r))
+      (λ r. x .stays (node c nil (N r)) ∙ o .becomes (node c nil (N r))
+      ∙ ap (λ (f : Forest). node (o .label) (o .inside) (node c nil f)) (y .stays r ∙ p .becomes r))
       (λ r. ap (λ (f : Forest). node c f r) (o .becomes (H nil) ∙ ap (node (o .label) (o .inside)) (p .becomes nil)))
 
-  question-whole : (a b : Bool) (q : Token) (X M G Y N H : Forest → Forest) → a ≡ false → b ≡ true → eqb (q .op) Operator.conditional ≡ true → Carried (amid a q X Y) (amid a q M N)
+  question-whole : (a b : Bool) (q : Token) (X M G Y N H : Forest → Forest) → a ≡ false → b ≡ true → eqb (q .op) Operator.conditional ≡ true
+      → Carried (amid a q X Y) (amid a q M N)
       → Calm M G → Solid G → Right N H → walk conditionalLevel nil (amid a q X Y nil) ≡ ok (amid (a || b) q G H nil)
   unfolding amid
   question-whole true b q X M G Y N H n m e c x o y = absurd (true≢false n)
@@ -327,12 +357,14 @@ module _ (σ : ℕ → Bool) (w : Unpaired σ) where
   conditional-op : (n o : ℕ) → n ≡ o → conditionals o ≡ true → conditionals n ≡ true
   conditional-op n o e h = ap conditionals e ∙ h
 
-  paired-between : {s t : Sort} (k : Token) (r : Role) (e : role (k .op) ≡ r) (j : isJoining r ≡ true) (l : joinsLeft r s ≡ true) (m : joinsRight r t ≡ true)
+  paired-between : {s t : Sort} (k : Token) (r : Role) (e : role (k .op) ≡ r) (j : isJoining r ≡ true) (l : joinsLeft r s ≡ true)
+      (m : joinsRight r t ≡ true)
       (x : Exp s) (y : Exp t) → Paired x → Paired y → Paired (between k r e j l m x y)
   unfolding mid form also isOneOf any
   paired-between {s} {t} k r e j l m x y i n =
       let left = i .calm (left-calm r s l) in
-      let solid : is aComma r ≡ false → Solid (form σ' x) = λ f. operand-solid σ' x (operand-only (isOperand s) (isJoinedBy aComma s) (is aComma r) f l) in
+      let solid : is aComma r ≡ false → Solid (form σ' x) = λ f. operand-solid σ' x
+      (operand-only (isOperand s) (isJoinedBy aComma s) (is aComma r) f l) in
       let operand : is aQuestion r ≡ false → isOperand t ≡ true = λ q. operand-only (isOperand t) (isJoinedBy aColon t) (is aQuestion r) q m in
       let c = carry-amid (σ (k .op)) k (form σ x) (mid x) (form σ' x) (form σ y) (mid y) (form σ' y) (i .carried) left (turned-form σ' x) (n .carried)
       (λ h. n .calm (operand-calm t (operand (folded-other (k .op) r e h)))) in
@@ -346,14 +378,18 @@ module _ (σ : ℕ → Bool) (w : Unpaired σ) where
             let p : aColon ≡ r = is-same aColon r h in
             let o = op-of-colon (k .op) r e h in
             let f : isOperand t ≡ true = operand (ap (is aQuestion) (sym p)) in
-            colon-right (σ (k .op)) (conditionals (k .op)) k (mid x) (form σ' x) (mid y) (form σ' y) (ap σ o ∙ w .colon) (conditional-op (k .op) Operator.conditionalElse o refl)
-            (ap (λ (n : ℕ). eqb n Operator.conditional) o) (ap (λ (n : ℕ). eqb n Operator.conditionalElse) o) left (solid (ap (is aComma) (sym p))) (n .calm (operand-calm t f)) (operand-solid σ' y f);
+            colon-right (σ (k .op)) (conditionals (k .op)) k (mid x) (form σ' x) (mid y) (form σ' y) (ap σ o ∙ w .colon)
+            (conditional-op (k .op) Operator.conditionalElse o refl)
+            (ap (λ (n : ℕ). eqb n Operator.conditional) o) (ap (λ (n : ℕ). eqb n Operator.conditionalElse) o) left (solid (ap (is aComma) (sym p)))
+            (n .calm (operand-calm t f)) (operand-solid σ' y f);
         whole = λ h. either (is aQuestion r)
             (λ q. let o = op-of-question (k .op) r e q in
             question-whole (σ (k .op)) (conditionals (k .op)) k (form σ x) (mid x) (form σ' x) (form σ y) (mid y) (form σ' y) (ap σ o ∙ w .question)
-            (conditional-op (k .op) Operator.conditional o refl) (ap (λ (n : ℕ). eqb n Operator.conditional) o) c left (solid (ap (is aComma) (sym (is-same aQuestion r q))))
+            (conditional-op (k .op) Operator.conditional o refl) (ap (λ (n : ℕ). eqb n Operator.conditional) o) c left
+            (solid (ap (is aComma) (sym (is-same aQuestion r q))))
             (n .right (rw (and-true (isJoinedBy aColon t)) at (excepted (isOperand t) (isJoinedBy aColon t) (is aQuestion r) true m (λ h. refl)))))
-            (λ q. let d = calm (rw q h) in finish-calm (amid (σ (k .op)) k (form σ x) (form σ y)) (amid (σ (k .op)) k (mid x) (mid y)) (amid (σ' (k .op)) k (form σ' x) (form σ' y) nil) c (d .stays nil) (d .free nil ∙ none-left));
+            (λ q. let d = calm (rw q h) in finish-calm (amid (σ (k .op)) k (form σ x) (form σ y)) (amid (σ (k .op)) k (mid x) (mid y))
+            (amid (σ' (k .op)) k (form σ' x) (form σ' y) nil) c (d .stays nil) (d .free nil ∙ none-left));
       }
 
   paired : {s : Sort} (e : Exp s) → Paired e

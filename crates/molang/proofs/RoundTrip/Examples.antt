@@ -41,11 +41,13 @@ andFirst rest = over Operator.logicalOr 3 (over Operator.logicalAnd 1 (leaf 0 (l
 
 -- The children of the first `?` and of the second, paired to the left, and of the first `?` where the second is paired to the right.
 abbrev pairedLeft : Forest
-pairedLeft = over Operator.conditional 5 (orFirst (over Operator.conditionalElse 7 (leaf 6 (leaf 8 nil)) nil)) (over Operator.conditionalElse 11 (leaf 10 (leaf 12 nil)) nil)
+pairedLeft = over Operator.conditional 5 (orFirst (over Operator.conditionalElse 7 (leaf 6 (leaf 8 nil)) nil))
+    (over Operator.conditionalElse 11 (leaf 10 (leaf 12 nil)) nil)
 
 abbrev pairedRight : (Forest → Forest) → Forest
 pairedRight logic =
-    logic (over Operator.conditionalElse 7 (leaf 6 (over Operator.conditional 9 (leaf 8 (over Operator.conditionalElse 11 (leaf 10 (leaf 12 nil)) nil)) nil)) nil)
+    logic (over Operator.conditionalElse 7 (leaf 6 (over Operator.conditional 9
+    (leaf 8 (over Operator.conditionalElse 11 (leaf 10 (leaf 12 nil)) nil)) nil)) nil)
 
 abbrev readAt : ℕ → Answer
 readAt version = read list (uses list) (pos version) 13
@@ -53,7 +55,8 @@ readAt version = read list (uses list) (pos version) 13
 trees : List Answer
 trees = readAt 4 ∷ readAt 5 ∷ readAt 6 ∷ []
 
-three-trees : trees ≡ tree (at Operator.conditional 9) pairedLeft ∷ tree (at Operator.conditional 5) (pairedRight orFirst) ∷ tree (at Operator.conditional 5) (pairedRight andFirst) ∷ []
+three-trees : trees ≡ tree (at Operator.conditional 9) pairedLeft ∷ tree (at Operator.conditional 5) (pairedRight orFirst) ∷ tree
+    (at Operator.conditional 5) (pairedRight andFirst) ∷ []
 unfolding computed trees
 three-trees = refl
 
@@ -77,7 +80,8 @@ six-differs same = let operators : _≡_ {A = ℕ} Operator.logicalAnd Operator.
 
 -- Each is plain, and its writing is read alike at 4, 5 and 6.
 plains : List (Option ℕ)
-plains = unplainAt (at Operator.conditional 9) pairedLeft ∷ unplainAt (at Operator.conditional 5) (pairedRight orFirst) ∷ unplainAt (at Operator.conditional 5) (pairedRight andFirst) ∷ []
+plains = unplainAt (at Operator.conditional 9) pairedLeft ∷ unplainAt (at Operator.conditional 5) (pairedRight orFirst) ∷ unplainAt
+    (at Operator.conditional 5) (pairedRight andFirst) ∷ []
 
 all-plain : plains ≡ none ∷ none ∷ none ∷ []
 unfolding computed plains
@@ -98,10 +102,12 @@ andInPair rest = inPair 3 (over Operator.logicalOr 3 (inPair 1 (over Operator.lo
 
 abbrev secondInPair : (Forest → Forest) → Forest
 secondInPair logic =
-    logic (over Operator.conditionalElse 7 (leaf 6 (inPair 9 (over Operator.conditional 9 (leaf 8 (over Operator.conditionalElse 11 (leaf 10 (leaf 12 nil)) nil))) nil)) nil)
+    logic (over Operator.conditionalElse 7 (leaf 6 (inPair 9 (over Operator.conditional 9
+    (leaf 8 (over Operator.conditionalElse 11 (leaf 10 (leaf 12 nil)) nil))) nil)) nil)
 
 abbrev firstInPair : Forest
-firstInPair = inPair 5 (over Operator.conditional 5 (orInPair (over Operator.conditionalElse 7 (leaf 6 (leaf 8 nil)) nil))) (over Operator.conditionalElse 11 (leaf 10 (leaf 12 nil)) nil)
+firstInPair = inPair 5 (over Operator.conditional 5 (orInPair (over Operator.conditionalElse 7 (leaf 6 (leaf 8 nil)) nil)))
+    (over Operator.conditionalElse 11 (leaf 10 (leaf 12 nil)) nil)
 
 readings : List Answer
 readings =
@@ -127,7 +133,8 @@ remains =
     left (over Operator.conditional 9 firstInPair nil) ∷ left (over Operator.conditional 5 (secondInPair orInPair) nil)
     ∷ left (over Operator.conditional 5 (secondInPair andInPair) nil) ∷ []
 
-agree-again : remains ≡ over Operator.conditional 9 pairedLeft nil ∷ over Operator.conditional 5 (pairedRight orFirst) nil ∷ over Operator.conditional 5 (pairedRight andFirst) nil ∷ []
+agree-again : remains ≡ over Operator.conditional 9 pairedLeft nil ∷ over Operator.conditional 5
+    (pairedRight orFirst) nil ∷ over Operator.conditional 5 (pairedRight andFirst) nil ∷ []
 unfolding computed remains
 agree-again = refl
 
@@ -150,11 +157,14 @@ writings =
     -- a * (a + a), (a + a) * a
     written-operators Operator.mul (a (sum nil)) ∷ written-operators Operator.mul (sum (a nil))
     -- a ? a : a, a , a , a
-    ∷ written-operators Operator.conditional (a (over Operator.conditionalElse 2 (a (a nil)) nil)) ∷ written-operators Operator.comma (over Operator.comma 2 (a (a nil)) (a nil))
+    ∷ written-operators Operator.conditional (a (over Operator.conditionalElse 2 (a (a nil)) nil)) ∷ written-operators Operator.comma
+    (over Operator.comma 2 (a (a nil)) (a nil))
     -- - a, - (a + a), (a) * a
-    ∷ written-operators Operator.negate (a nil) ∷ written-operators Operator.negate (sum nil) ∷ written-operators Operator.mul (over Operator.leftParenthesis 2 (a nil) (a nil))
+    ∷ written-operators Operator.negate (a nil) ∷ written-operators Operator.negate (sum nil) ∷ written-operators Operator.mul
+    (over Operator.leftParenthesis 2 (a nil) (a nil))
     -- q (a + a), sin ()
-    ∷ written-operators Operator.queryFunction (over Operator.leftParenthesis 2 (sum nil) nil) ∷ written-operators 36 (over Operator.leftParenthesis 2 nil nil) ∷ []
+    ∷ written-operators Operator.queryFunction (over Operator.leftParenthesis 2 (sum nil) nil) ∷ written-operators 36
+    (over Operator.leftParenthesis 2 nil nil) ∷ []
 
 usual-writing : writings ≡
     (61 ∷ 31 ∷ 4 ∷ 61 ∷ 9 ∷ 61 ∷ 5 ∷ []) ∷ (4 ∷ 61 ∷ 9 ∷ 61 ∷ 5 ∷ 31 ∷ 61 ∷ [])
@@ -171,9 +181,11 @@ bracket i below rest = over Operator.leftParenthesis i below rest
 takings : List Forest
 takings =
     -- (a), ((a + a)), (a) + ((a))
-    left (bracket 2 (a nil) nil) ∷ left (bracket 3 (bracket 2 (sum nil) nil) nil) ∷ left (over Operator.add 1 (bracket 2 (a nil) (bracket 4 (bracket 3 (a nil) nil) nil)) nil)
+    left (bracket 2 (a nil) nil) ∷ left (bracket 3 (bracket 2 (sum nil) nil) nil) ∷ left
+    (over Operator.add 1 (bracket 2 (a nil) (bracket 4 (bracket 3 (a nil) nil) nil)) nil)
     -- q (a), q ((a)), sin (a), sin (): a call keeps its own bracket, and no other
-    ∷ left (over Operator.queryFunction 1 (bracket 2 (a nil) nil) nil) ∷ left (over Operator.queryFunction 1 (bracket 2 (bracket 3 (a nil) nil) nil) nil)
+    ∷ left (over Operator.queryFunction 1 (bracket 2 (a nil) nil) nil) ∷ left
+    (over Operator.queryFunction 1 (bracket 2 (bracket 3 (a nil) nil) nil) nil)
     ∷ left (over 36 1 (bracket 2 (a nil) nil) nil) ∷ left (over 36 1 (bracket 2 nil nil) nil)
     -- (a a): two children
     ∷ left (bracket 2 (a (a nil)) nil) ∷ []

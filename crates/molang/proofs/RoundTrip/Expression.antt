@@ -84,7 +84,8 @@ abbrev pub joinsRight : Role → Sort → Bool
 joinsRight r s = isOperand s || (isJoinedBy aColon s && is aQuestion r)
 
 -- What stands beside an operator is an operand, unless document 01 excepts it.
-pub excepted : (operand joined joining b : Bool) → (operand || (joined && joining)) ≡ true → (joining ≡ true → b ≡ true) → (operand || (joined && b)) ≡ true
+pub excepted : (operand joined joining b : Bool) → (operand || (joined && joining)) ≡ true → (joining ≡ true → b ≡ true)
+    → (operand || (joined && b)) ≡ true
 excepted true j g b h i = refl
 excepted false true g b h i = i h
 excepted false false g b h i = h
@@ -98,7 +99,8 @@ pub data Exp : Sort → Type 0 where
   leaf : (k : Token) (r : Role) → role (k .op) ≡ r → isLeaf r ≡ true → Exp atom
   bracket : {s : Sort} (k : Token) → role (k .op) ≡ aBracket → isWhole s ≡ true → Exp s → Exp (bracketed s)
   before : {s : Sort} (k : Token) (r : Role) → role (k .op) ≡ r → isPrefix r ≡ true → takes r s ≡ true → Exp s → Exp prefixed
-  between : {s t : Sort} (k : Token) (r : Role) → role (k .op) ≡ r → isJoining r ≡ true → joinsLeft r s ≡ true → joinsRight r t ≡ true → Exp s → Exp t → Exp (joinedBy r)
+  between : {s t : Sort} (k : Token) (r : Role) → role (k .op) ≡ r → isJoining r ≡ true → joinsLeft r s ≡ true → joinsRight r t ≡ true → Exp s
+      → Exp t → Exp (joinedBy r)
 
 -- The tokens of an expression, before those of r.
 unfoldable pub tokens : {s : Sort} → Exp s → List Token → List Token

@@ -166,9 +166,11 @@ within u (between k _ _ _ _ _ x y) r h =
     let i = within u x (k ∷ tokens y r) h in let j = within u y r (uses-rest u k _ (i .1)) in ((uses-first u k _ (i .1), i .0, j .0), j .1)
 
 -- A token of an expression is not foreign.
-skip : (n : ℕ) (k : Token) (r : Role) (ks : List Token) → isUnwritten (role n) ≡ true → role (k .op) ≡ r → not (isUnwritten r) ≡ true → uses (k ∷ ks) n ≡ uses ks n
+skip : (n : ℕ) (k : Token) (r : Role) (ks : List Token) → isUnwritten (role n) ≡ true → role (k .op) ≡ r → not (isUnwritten r) ≡ true
+    → uses (k ∷ ks) n ≡ uses ks n
 unfolding uses
-skip n k r ks h e q = rw (ne-eqb (k .op) n (λ p. true≢false (sym h ∙ ap (λ (n : ℕ). isUnwritten (role n)) (sym p) ∙ ap isUnwritten e ∙ not-true (isUnwritten r) q))) refl
+skip n k r ks h e q = rw (ne-eqb (k .op) n (λ p. true≢false (sym h ∙ ap (λ (n : ℕ). isUnwritten (role n)) (sym p) ∙ ap isUnwritten e ∙ not-true
+    (isUnwritten r) q))) refl
 
 closer-role : (k : Token) → role (closerFor k .op) ≡ aCloser
 unfolding computed role
@@ -178,17 +180,21 @@ foreign : (n : ℕ) → isUnwritten (role n) ≡ true → {s : Sort} (e : Exp s)
 unfolding tokens
 foreign n h empty r = refl
 foreign n h (leaf k q e l) r = skip n k q r h e (among leafRoles (λ r. not (isUnwritten r)) refl q l)
-foreign n h (bracket k e w x) r = skip n k aBracket _ h e refl ∙ foreign n h x (closerFor k ∷ r) ∙ skip n (closerFor k) aCloser r h (closer-role k) refl
+foreign n h (bracket k e w x) r = skip n k aBracket _ h e refl ∙ foreign n h x (closerFor k ∷ r)
+    ∙ skip n (closerFor k) aCloser r h (closer-role k) refl
 foreign n h (before k q e p t x) r = skip n k q _ h e (among prefixRoles (λ r. not (isUnwritten r)) refl q p) ∙ foreign n h x r
-foreign n h (between k q e j l m x y) r = foreign n h x (k ∷ tokens y r) ∙ skip n k q _ h e (among joiningRoles (λ r. not (isUnwritten r)) refl q j) ∙ foreign n h y r
+foreign n h (between k q e j l m x y) r = foreign n h x (k ∷ tokens y r) ∙ skip n k q _ h e (among joiningRoles (λ r. not (isUnwritten r)) refl q j)
+    ∙ foreign n h y r
 
 -- Operators that the expression does not have are folded or not, it is the same.
-agree : (u σ o : ℕ → Bool) → ((n : ℕ) → u n ≡ true → o n ≡ false) → {s : Sort} (e : Exp s) → Within u e → (r : Forest) → form (also σ o) e r ≡ form σ e r
+agree : (u σ o : ℕ → Bool) → ((n : ℕ) → u n ≡ true → o n ≡ false) → {s : Sort} (e : Exp s) → Within u e → (r : Forest)
+    → form (also σ o) e r ≡ form σ e r
 unfolding form also
 agree u σ o a empty w r = refl
 agree u σ o a (leaf k _ _ _) w r = refl
 agree u σ o a (bracket k _ _ x) w r = ap (λ (f : Forest). node k f r) (agree u σ o a x (w .1) nil)
-agree u σ o a (before k _ _ _ _ x) w r = rw (a (k .op) (w .0), or-false (σ (k .op))) (ap (λ (X : Forest → Forest). ahead (σ (k .op)) k X r) (fun-ext (agree u σ o a x (w .1))))
+agree u σ o a (before k _ _ _ _ x) w r = rw (a (k .op) (w .0), or-false (σ (k .op)))
+    (ap (λ (X : Forest → Forest). ahead (σ (k .op)) k X r) (fun-ext (agree u σ o a x (w .1))))
 agree u σ o a (between k _ _ _ _ _ x y) w r =
     rw (a (k .op) (w .0), or-false (σ (k .op)))
     (λ i. amid (σ (k .op)) k (fun-ext (agree u σ o a x (w .1)) i) (fun-ext (agree u σ o a y (w .2)) i) r)
@@ -197,7 +203,8 @@ agree u σ o a (between k _ _ _ _ _ x y) w r =
 abbrev pub everything : ℕ → Bool
 everything n = true
 
-finished : (σ : ℕ → Bool) → ((n : ℕ) (r : Role) → role n ≡ r → (isPrefix r || isJoining r) ≡ true → σ n ≡ true) → {s : Sort} (e : Exp s) (r : Forest) → form σ e r ≡ form everything e r
+finished : (σ : ℕ → Bool) → ((n : ℕ) (r : Role) → role n ≡ r → (isPrefix r || isJoining r) ≡ true → σ n ≡ true) → {s : Sort} (e : Exp s) (r : Forest)
+    → form σ e r ≡ form everything e r
 unfolding form
 finished σ a empty r = refl
 finished σ a (leaf k _ _ _) r = refl
@@ -208,14 +215,16 @@ finished σ a (between k q e j l m x y) r =
     rw (a (k .op) q e (or-second (isPrefix q) (isJoining q) j)) (λ i. amid true k (fun-ext (finished σ a x) i) (fun-ext (finished σ a y) i) r)
 
 -- A list with no bracket is its own section list.
-bracketless : (u : ℕ → Bool) → u Operator.leftParenthesis ≡ false → {s : Sort} (e : Exp s) → Within u e → (r : List Token) → form nothingYet e (leaves r) ≡ leaves (tokens e r)
+bracketless : (u : ℕ → Bool) → u Operator.leftParenthesis ≡ false → {s : Sort} (e : Exp s) → Within u e → (r : List Token)
+    → form nothingYet e (leaves r) ≡ leaves (tokens e r)
 unfolding form tokens leaves ahead amid isBracket
 bracketless u h empty w r = refl
 bracketless u h (leaf k _ _ _) w r = refl
 bracketless u h (bracket k e _ x) w r =
     absurd (true≢false (sym (w .0) ∙ ap u (eqb-true (k .op) Operator.leftParenthesis (role-bracket (k .op) ∙ ap (is aBracket) e)) ∙ h))
 bracketless u h (before k _ _ _ _ x) w r = ap (node k nil) (bracketless u h x (w .1) r)
-bracketless u h (between k _ _ _ _ _ x y) w r = ap (λ (f : Forest). form nothingYet x (node k nil f)) (bracketless u h y (w .2) r) ∙ bracketless u h x (w .1) (k ∷ tokens y r)
+bracketless u h (between k _ _ _ _ _ x y) w r = ap (λ (f : Forest). form nothingYet x (node k nil f)) (bracketless u h y (w .2) r)
+    ∙ bracketless u h x (w .1) (k ∷ tokens y r)
 
 any-off : (u : ℕ → Bool) (ops : List ℕ) → any u ops ≡ false → (n : ℕ) → u n ≡ true → isOneOf ops n ≡ false
 unfolding any isOneOf
@@ -233,7 +242,8 @@ any-on : (u : ℕ → Bool) (ops : List ℕ) (o : ℕ) → u o ≡ true → isOn
 any-on u ops o t m = either (any u ops) (λ h. h) (λ h. absurd (true≢false (sym m ∙ any-off u ops h o t)))
 
 -- An operator that a test tells by its role plays one.
-plays-told : (test : ℕ → Bool) (told : Role → Bool) → ((n : ℕ) → test n ≡ told (role n)) → told another ≡ false → (n : ℕ) → test n ≡ true → is another (role n) ≡ false
+plays-told : (test : ℕ → Bool) (told : Role → Bool) → ((n : ℕ) → test n ≡ told (role n)) → told another ≡ false → (n : ℕ) → test n ≡ true
+    → is another (role n) ≡ false
 plays-told test told law o n h = never (is another (role n)) (λ p. true≢false (sym h ∙ law n ∙ ap told (sym (is-same another (role n) p)) ∙ o))
 
 final : (c a p : Bool) (n : ℕ) (r : Role) → role n ≡ r → (isPrefix r || isJoining r) ≡ true → afterAll nothingYet (laterPasses c a p) n ≡ true
@@ -302,7 +312,8 @@ module _ {s : Sort} (e : Exp s) (w : isWhole s ≡ true) where
   flat-binary : (σ : ℕ → Bool) (ops : List ℕ) → flatJoining σ ops ≡ true → Ready σ ops
   unfolding flatJoining
   flat-binary σ ops h =
-      let parts = and-eq-true-iff (each (λ n. isJoining (role n) && not (σ n)) ops) (not (isOneOf ops Operator.conditional) || σ Operator.conditionalElse) .0 h in
+      let parts = and-eq-true-iff (each (λ n. isJoining (role n) && not (σ n)) ops)
+      (not (isOneOf ops Operator.conditional) || σ Operator.conditionalElse) .0 h in
       let both : (n : ℕ) → isOneOf ops n ≡ true → (isJoining (role n) ≡ true) × (not (σ n) ≡ true) =
       λ n m. and-eq-true-iff (isJoining (role n)) (not (σ n)) .0 (each-one (λ n. isJoining (role n) && not (σ n)) ops (parts .0) n m) in
       record {
@@ -329,7 +340,8 @@ module _ {s : Sort} (e : Exp s) (w : isWhole s ≡ true) where
         (or-second (calls kind n) (isJoining (role n)) j);
   }
 
-  applied : (sourceLength : ℕ) (p : Pass) (σ : ℕ → Bool) → ready σ p ≡ true → runs u p ≡ true → apply sourceLength p (form σ e nil) ≡ ok (form (also σ (folds p)) e nil)
+  applied : (sourceLength : ℕ) (p : Pass) (σ : ℕ → Bool) → ready σ p ≡ true → runs u p ≡ true
+      → apply sourceLength p (form σ e nil) ≡ ok (form (also σ (folds p)) e nil)
   unfolding apply through ready runs folds Levels.nothing callLevel binaryLevel conditionalLevel
   applied len lastToken σ r h = none-foreign (Operator.assignment ∷ Operator.semicolon ∷ []) (unfold each isForeign computed role in refl) h
   applied len memberAccessors σ r h = none-foreign (Operator.memberAccessor ∷ []) (unfold each isForeign computed role in refl) h
@@ -343,7 +355,11 @@ module _ {s : Sort} (e : Exp s) (w : isWhole s ≡ true) where
   applied len addition σ r h = binary-pass σ (Operator.add ∷ []) (flat-binary σ (Operator.add ∷ []) r) e
   applied len ternary σ r h =
       let parts = and-eq-true-iff (not (σ Operator.conditional)) (not (σ Operator.conditionalElse)) .0 r in
-      conditional-pass σ (record { question = not-true (σ Operator.conditional) (parts .0); colon = not-true (σ Operator.conditionalElse) (parts .1) }) e w
+      conditional-pass σ (record {
+        question = not-true (σ Operator.conditional) (parts .0);
+        colon = not-true (σ Operator.conditionalElse)
+            (parts .1);
+      }) e w
   applied len returns σ r h = none-foreign (Operator.return ∷ []) (unfold each isForeign computed role in refl) h
   applied len (binary ops) σ r h = split (each isForeign ops) refl
     where
@@ -360,36 +376,44 @@ module _ {s : Sort} (e : Exp s) (w : isWhole s ≡ true) where
       split true h = rw (h, grouped) (rw (applied len p σ r h) refl)
       split false h = rw (h, grouped) (ap (grouped len u ps []) (sym (agree u σ (folds p) (left-out p h) e used nil)))
 
-  all-passes : (sourceLength : ℕ) (ps : List Pass) (σ : ℕ → Bool) → allReady σ ps ≡ true → grouped sourceLength u ps [] (form σ e nil) ≡ rooted sourceLength [] (form (afterAll σ ps) e nil)
+  all-passes : (sourceLength : ℕ) (ps : List Pass) (σ : ℕ → Bool) → allReady σ ps ≡ true
+      → grouped sourceLength u ps [] (form σ e nil) ≡ rooted sourceLength [] (form (afterAll σ ps) e nil)
   unfolding allReady afterAll
   all-passes len [] σ h = unfold grouped in refl
   all-passes len (p ∷ ps) σ h =
       let parts = and-eq-true-iff (ready σ p) (allReady (also σ (folds p)) ps) .0 h in
       one-pass len p ps σ (parts .0) ∙ all-passes len ps (also σ (folds p)) (parts .1)
 
-  skipped : (sourceLength : ℕ) (p : Pass) (ps : List Pass) (f : Forest) → runs u p ≡ false → grouped sourceLength u (p ∷ ps) [] f ≡ grouped sourceLength u ps [] f
+  skipped : (sourceLength : ℕ) (p : Pass) (ps : List Pass) (f : Forest) → runs u p ≡ false
+      → grouped sourceLength u (p ∷ ps) [] f ≡ grouped sourceLength u ps [] f
   unfolding grouped
   skipped len p ps f h = rw (h, grouped) refl
 
-  sectioned : (sourceLength : ℕ) (ps : List Pass) → grouped sourceLength u (sectioning ∷ ps) [] (leaves (tokens e [])) ≡ grouped sourceLength u ps [] (form nothingYet e nil)
+  sectioned : (sourceLength : ℕ) (ps : List Pass) → grouped sourceLength u (sectioning ∷ ps) [] (leaves (tokens e [])) ≡ grouped sourceLength u ps []
+      (form nothingYet e nil)
   unfolding grouped apply
   sectioned len ps = split (runs u sectioning) refl
     where
-      split : (b : Bool) → runs u sectioning ≡ b → grouped len u (sectioning ∷ ps) [] (leaves (tokens e [])) ≡ grouped len u ps [] (form nothingYet e nil)
+      split : (b : Bool) → runs u sectioning ≡ b → grouped len u (sectioning ∷ ps) [] (leaves (tokens e [])) ≡ grouped len u ps []
+          (form nothingYet e nil)
       split true h = rw (h, grouped) (rw (section-pass e) refl)
       split false h =
           rw (h, grouped)
           (ap (grouped len u ps []) (sym (unfold leaves in bracketless u
           (never (u Operator.leftParenthesis)
-          (λ t. true≢false (sym (any-on u (Operator.leftBrace ∷ Operator.leftBracket ∷ Operator.leftParenthesis ∷ []) Operator.leftParenthesis t (unfold isOneOf any in refl)) ∙ (unfold runs in h))))
+          (λ t. true≢false (sym (any-on u (Operator.leftBrace ∷ Operator.leftBracket ∷ Operator.leftParenthesis ∷ []) Operator.leftParenthesis t
+          (unfold isOneOf any in refl)) ∙ (unfold runs in h))))
           e used [])))
 
-  pub reading : (r : Rules) (sourceLength : ℕ) → grouped sourceLength (uses (tokens e [])) (order r) [] (leaves (tokens e [])) ≡ rooted sourceLength [] (form everything e nil)
+  pub reading : (r : Rules) (sourceLength : ℕ) → grouped sourceLength (uses (tokens e [])) (order r) []
+      (leaves (tokens e [])) ≡ rooted sourceLength [] (form everything e nil)
   unfolding order u runs
   reading r len =
       let ps = laterPasses (r .comparisonsFirst) (r .andFirst) (r .pairsRight) in
-      skipped len lastToken (memberAccessors ∷ sectioning ∷ ps) (leaves (tokens e [])) (any-foreign u unknown (Operator.assignment ∷ Operator.semicolon ∷ []) (unfold each isForeign computed role in refl))
-      ∙ skipped len memberAccessors (sectioning ∷ ps) (leaves (tokens e [])) (any-foreign u unknown (Operator.memberAccessor ∷ []) (unfold each isForeign computed role in refl))
+      skipped len lastToken (memberAccessors ∷ sectioning ∷ ps) (leaves (tokens e []))
+      (any-foreign u unknown (Operator.assignment ∷ Operator.semicolon ∷ []) (unfold each isForeign computed role in refl))
+      ∙ skipped len memberAccessors (sectioning ∷ ps) (leaves (tokens e []))
+      (any-foreign u unknown (Operator.memberAccessor ∷ []) (unfold each isForeign computed role in refl))
       ∙ sectioned len ps
       ∙ all-passes len ps nothingYet (in-order (r .comparisonsFirst) (r .andFirst) (r .pairsRight))
       ∙ ap (rooted len []) (finished (afterAll nothingYet ps) (final (r .comparisonsFirst) (r .andFirst) (r .pairsRight)) e nil)

@@ -165,7 +165,14 @@ role-colon = by-role (λ n. eqb n Operator.conditionalElse) (is aColon) refl (no
 no-math : (n : ℕ) → 110 < n → isMathCall n ≡ false
 unfolding isMathCall
 no-math n l =
-    rw (not-one 8 (lit< tt) n l, not-between 10 19 (lit< tt) n l, not-between 21 30 (lit< tt) n l, not-between 32 39 (lit< tt) n l, not-between 78 110 (lit< tt) n l) refl
+    rw (
+      not-one 8 (lit< tt) n l,
+      not-between 10 19 (lit< tt) n l,
+      not-between 21 30 (lit< tt) n l,
+      not-between 32 39
+          (lit< tt) n l,
+      not-between 78 110 (lit< tt) n l,
+    ) refl
 
 pub role-math : (n : ℕ) → calls math n ≡ is aMathCall (role n)
 unfolding computed role
@@ -183,14 +190,30 @@ role-call = by-role isCall (isAmong (aQuery ∷ aMathCall ∷ [])) refl (λ n l.
 pub role-leaf : (n : ℕ) → isPlainLeaf n ≡ isAmong (aLeaf ∷ aQuery ∷ []) (role n)
 unfolding computed role
 role-leaf = by-role isPlainLeaf (isAmong (aLeaf ∷ aQuery ∷ [])) refl
-    (λ n l. rw (not-one 40 (lit< tt) n l, not-between 42 44 (lit< tt) n l, not-between 46 49 (lit< tt) n l, not-one 61 (lit< tt) n l, not-one 62 (lit< tt) n l, not-one 76 (lit< tt) n l) refl)
+    (λ n l. rw (
+      not-one 40 (lit< tt) n l,
+      not-between 42 44 (lit< tt) n l,
+      not-between 46 49 (lit< tt) n l,
+      not-one 61 (lit< tt) n l,
+      not-one 62
+          (lit< tt) n l,
+      not-one 76 (lit< tt) n l,
+    ) refl)
 
 pub role-binary : (n : ℕ) → isPlainBinary n ≡ isAmong (aBinary ∷ aComma ∷ aQuestion ∷ []) (role n)
 unfolding computed role
 role-binary = by-role isPlainBinary (isAmong (aBinary ∷ aComma ∷ aQuestion ∷ [])) refl
-    (λ n l. rw (not-one 9 (lit< tt) n l, not-one 20 (lit< tt) n l, not-one 31 (lit< tt) n l, not-between 50 59 (lit< tt) n l, not-one 75 (lit< tt) n l) refl)
+    (λ n l. rw (
+      not-one 9 (lit< tt) n l,
+      not-one 20 (lit< tt) n l,
+      not-one 31 (lit< tt) n l,
+      not-between 50 59 (lit< tt) n l,
+      not-one 75
+          (lit< tt) n l,
+    ) refl)
 
-pub role-single : (n : ℕ) → isOneOf (Operator.leftParenthesis ∷ Operator.negate ∷ Operator.logicalNot ∷ []) n ≡ isAmong (aBracket ∷ aMinus ∷ aNot ∷ []) (role n)
+pub role-single : (n : ℕ) → isOneOf (Operator.leftParenthesis ∷ Operator.negate ∷ Operator.logicalNot ∷ []) n ≡ isAmong
+    (aBracket ∷ aMinus ∷ aNot ∷ []) (role n)
 unfolding computed role
 role-single =
     by-role (isOneOf (Operator.leftParenthesis ∷ Operator.negate ∷ Operator.logicalNot ∷ [])) (isAmong (aBracket ∷ aMinus ∷ aNot ∷ [])) refl
@@ -223,7 +246,8 @@ pub role-text : (n : ℕ) → isAmong textRoles (role n) ≡ true → (closingOf
 unfolding computed role isNone
 role-text n h =
     let told : (not (isAmong textRoles (role n)) || (isNone (closingOf n) && not (isCloser n))) ≡ true =
-    by-role (λ n. not (isAmong textRoles (role n)) || (isNone (closingOf n) && not (isCloser n))) (λ r. true) refl (λ n l. rw (role-above n l) refl) n in
+    by-role (λ n. not (isAmong textRoles (role n)) || (isNone (closingOf n) && not (isCloser n))) (λ r. true) refl
+    (λ n l. rw (role-above n l) refl) n in
     let both = and-eq-true-iff (isNone (closingOf n)) (not (isCloser n)) .0 (rw h at told) in
     (none-of (closingOf n) (both .0), not-true (isCloser n) (both .1))
 

@@ -81,7 +81,8 @@ reads : {s : Sort} (e : Exp s) → Reads (tokens e) (form nothingYet e)
 unfolding tokens form ahead amid isBracket turnedOnto
 reads empty i s r = (i, ap (λ (t : Open). sections i t (leaves r)) (sym (over-nil s)))
 reads (leaf k q e l) i s r = read-token k (among leafRoles (isAmong textRoles) refl (role (k .op)) (ap (isAmong leafRoles) e ∙ l)) i s r
-reads (bracket k e h x) i s r = read-bracket k (eqb-true (k .op) Operator.leftParenthesis (role-bracket (k .op) ∙ ap (is aBracket) e)) (tokens x) (form nothingYet x) (reads x) i s r
+reads (bracket k e h x) i s r = read-bracket k (eqb-true (k .op) Operator.leftParenthesis (role-bracket (k .op) ∙ ap (is aBracket) e)) (tokens x)
+    (form nothingYet x) (reads x) i s r
 reads (before k q e p t x) i s r =
     read-both (λ r. k ∷ r) (tokens x) (node k nil) (form nothingYet x) (λ r d. refl)
     (read-token k (among prefixRoles (isAmong textRoles) refl (role (k .op)) (ap (isAmong prefixRoles) e ∙ p))) (reads x) i s r

@@ -23,7 +23,8 @@ use Rattle.molang.proofs.RoundTrip.Expression.{Sort, nothing, atom, pre
 use Rattle.molang.proofs.RoundTrip.Order.{everything}
 
 -- Taking away goes through a list tree by tree.
-taken-form : (c : Bool) {s : Sort} (e : Exp s) (r R : Forest) → takenAway c (form everything e r) R ≡ takenAway c (form everything e nil) (takenAway c r R)
+taken-form : (c : Bool) {s : Sort} (e : Exp s) (r R : Forest)
+    → takenAway c (form everything e r) R ≡ takenAway c (form everything e nil) (takenAway c r R)
 unfolding form ahead amid takenAway
 taken-form c empty r R = refl
 taken-form c (leaf k _ _ _) r R = refl
@@ -59,7 +60,8 @@ record Part (joins : Sort → Bool) (b : Bool) (k : Token) (cs : Forest) : Type 
   exp : Exp sort
   fits : joins sort ≡ true
   spells : (r : List Token) → tokens exp r ≡ operandTokens b k (written k cs) r
-  strips : (inCall : Bool) → (not inCall || b) ≡ true → (R : Forest) → takenAway inCall (form everything exp nil) R ≡ takenAway inCall (node k cs nil) R
+  strips : (inCall : Bool) → (not inCall || b) ≡ true → (R : Forest)
+      → takenAway inCall (form everything exp nil) R ≡ takenAway inCall (node k cs nil) R
 
 opener-role : (k : Token) → role (openerFor k .op) ≡ aBracket
 unfolding computed role
@@ -106,10 +108,12 @@ unlike a rs h r m = not-true (is a r) (among rs (λ r. not (is a r)) h r m)
 no-bracket : (n : ℕ) (r : Role) (rs : List Role) → role n ≡ r → allOf (λ r. not (is aBracket r)) rs ≡ true → isAmong rs r ≡ true → isBracket n ≡ false
 no-bracket n r rs e h m = role-bracket n ∙ ap (is aBracket) e ∙ unlike aBracket rs h r m
 
-no-comma : (n : ℕ) (r : Role) (rs : List Role) → role n ≡ r → allOf (λ r. not (is aComma r)) rs ≡ true → isAmong rs r ≡ true → eqb n Operator.comma ≡ false
+no-comma : (n : ℕ) (r : Role) (rs : List Role) → role n ≡ r → allOf (λ r. not (is aComma r)) rs ≡ true → isAmong rs r ≡ true
+    → eqb n Operator.comma ≡ false
 no-comma n r rs e h m = role-comma n ∙ ap (is aComma) e ∙ unlike aComma rs h r m
 
-no-colon : (n : ℕ) (r : Role) (rs : List Role) → role n ≡ r → allOf (λ r. not (is aColon r)) rs ≡ true → isAmong rs r ≡ true → eqb n Operator.conditionalElse ≡ false
+no-colon : (n : ℕ) (r : Role) (rs : List Role) → role n ≡ r → allOf (λ r. not (is aColon r)) rs ≡ true → isAmong rs r ≡ true
+    → eqb n Operator.conditionalElse ≡ false
 no-colon n r rs e h m = role-colon n ∙ ap (is aColon) e ∙ unlike aColon rs h r m
 
 spell-leaf : (p : Place) (k : Token) (r : Role) → role (k .op) ≡ r → isLeaf r ≡ true → Spelled p k nil
@@ -144,7 +148,8 @@ spell-hollow p k e m = record {
   full = λ h n. absurd (true≢false (sym m ∙ n));
 }
 
-spell-bracket : (p q : Place) (k x : Token) (xs : Forest) → role (k .op) ≡ aBracket → (y : Spelled q x xs) → isWhole (y .sort) ≡ true → Spelled p k (node x xs nil)
+spell-bracket : (p q : Place) (k x : Token) (xs : Forest) → role (k .op) ≡ aBracket → (y : Spelled q x xs) → isWhole (y .sort) ≡ true
+    → Spelled p k (node x xs nil)
 unfolding tokens written form standsAlone
 spell-bracket p q k x xs e y w = record {
   sort = bracketed (y .sort);
@@ -163,8 +168,10 @@ spell-bracket p q k x xs e y w = record {
     b : isBracket (k .op) ≡ true
     b = role-bracket (k .op) ∙ ap (is aBracket) e
 
-    away : (inCall : Bool) (R : Forest) → takenAway inCall (node k (form everything (y .exp) nil) nil) R ≡ takenAway inCall (node k (node x xs nil) nil) R
-    away true R = taken-call k (form everything (y .exp) nil) R ∙ ap (λ (f : Forest). node k f R) (y .strips (isCall (k .op)) nil) ∙ sym (taken-call k (node x xs nil) R)
+    away : (inCall : Bool) (R : Forest) → takenAway inCall (node k (form everything (y .exp) nil) nil) R ≡ takenAway inCall
+        (node k (node x xs nil) nil) R
+    away true R = taken-call k (form everything (y .exp) nil) R ∙ ap (λ (f : Forest). node k f R) (y .strips (isCall (k .op)) nil)
+        ∙ sym (taken-call k (node x xs nil) R)
     away false R = taken-section k (y .exp) (y .filled) b R ∙ y .strips false R ∙ sym (taken-bracket k x xs R b)
 
 spell-before : (p : Place) (k x : Token) (xs : Forest) (r : Role) → role (k .op) ≡ r → isPrefix r ≡ true → Part (takes r) (standsAlone x xs) x xs
@@ -176,7 +183,8 @@ spell-before p k x xs r e i y c =
       sort = prefixed;
       exp = before k r e i (y .fits) (y .exp);
       spells = λ t. ap (λ (ks : List Token). k ∷ ks) (y .spells t) ∙ sym (written-one false k x xs t b);
-      strips = λ inCall R. taken-kept inCall k (form everything (y .exp) nil) R b ∙ ap (λ (f : Forest). node k f R) (y .strips (isCall (k .op)) c nil) ∙ sym (taken-kept inCall k (node x xs nil) R b);
+      strips = λ inCall R. taken-kept inCall k (form everything (y .exp) nil) R b
+          ∙ ap (λ (f : Forest). node k f R) (y .strips (isCall (k .op)) c nil) ∙ sym (taken-kept inCall k (node x xs nil) R b);
       filled = refl;
       alone = b;
       comma = no-comma (k .op) r prefixRoles e refl i;
@@ -186,19 +194,23 @@ spell-before p k x xs r e i y c =
       full = λ h n. absurd (false≢true h);
     }
 
-spell-between : (p : Place) (k x : Token) (xs : Forest) (y : Token) (ys : Forest) (r : Role) → role (k .op) ≡ r → isJoining r ≡ true → (is aColon r ≡ true → isRightOfQuestion p ≡ true)
+spell-between : (p : Place) (k x : Token) (xs : Forest) (y : Token) (ys : Forest) (r : Role) → role (k .op) ≡ r → isJoining r ≡ true
+    → (is aColon r ≡ true → isRightOfQuestion p ≡ true)
     → Part (joinsLeft r) (standsLeft k x xs) x xs → Part (joinsRight r) (standsRight k y ys) y ys → Spelled p k (node x xs (node y ys nil))
 unfolding tokens written form amid standsAlone
 spell-between p k x xs y ys r e j c a z =
     let b = no-bracket (k .op) r joiningRoles e refl j in
-    let q : isCall (k .op) ≡ false = role-call (k .op) ∙ ap (isAmong callRoles) e ∙ not-true (isAmong callRoles r) (among joiningRoles (λ r. not (isAmong callRoles r)) refl r j) in
+    let q : isCall (k .op) ≡ false = role-call (k .op) ∙ ap (isAmong callRoles) e
+    ∙ not-true (isAmong callRoles r) (among joiningRoles (λ r. not (isAmong callRoles r)) refl r j) in
     record {
       sort = joinedBy r;
       exp = between k r e j (a .fits) (z .fits) (a .exp) (z .exp);
-      spells = λ t. a .spells (k ∷ tokens (z .exp) t) ∙ ap (λ (ks : List Token). operandTokens (standsLeft k x xs) x (written x xs) (k ∷ ks)) (z .spells t);
+      spells = λ t. a .spells (k ∷ tokens (z .exp) t) ∙ ap (λ (ks : List Token). operandTokens (standsLeft k x xs) x (written x xs) (k ∷ ks))
+          (z .spells t);
       strips = λ inCall R. taken-kept inCall k (form everything (a .exp) (form everything (z .exp) nil)) R b
           ∙ ap (λ (f : Forest). node k f R) (rw q (taken-form false (a .exp) (form everything (z .exp) nil) nil
-          ∙ a .strips false refl (takenAway false (form everything (z .exp) nil) nil) ∙ ap (takenAway false (node x xs nil)) (z .strips false refl nil) ∙ sym (taken-later false x xs (node y ys nil) nil)))
+          ∙ a .strips false refl (takenAway false (form everything (z .exp) nil) nil)
+          ∙ ap (takenAway false (node x xs nil)) (z .strips false refl nil) ∙ sym (taken-later false x xs (node y ys nil) nil)))
           ∙ sym (taken-kept inCall k (node x xs (node y ys nil)) R b);
       filled = refl;
       alone = b;
@@ -211,7 +223,11 @@ spell-between p k x xs y ys r e j c a z =
 
 -- Where a node's children stand.
 place-by : (m q : Bool) (k : Token) (i : ℕ) → isMathCall (k .op) ≡ m → (eqb (k .op) Operator.conditional && eqb i 1) ≡ q
-    → placeUnder k i ≡ (elim m as (λ t. Place) [ true ↦ underMathCall | false ↦ elim q as (λ t. Place) [ true ↦ rightOfQuestion | false ↦ elsewhere ] ])
+    → placeUnder k i ≡ (elim m as (λ t. Place) [
+      | true ↦ underMathCall
+      | false ↦ elim q as
+          (λ t. Place) [ true ↦ rightOfQuestion | false ↦ elsewhere ]
+    ])
 unfolding placeUnder
 place-by true q k i h t = rw (h, placeUnder) refl
 place-by false true k i h t = rw (h, placeUnder) (rw t refl)
@@ -221,7 +237,8 @@ left-place : (k : Token) → isRightOfQuestion (placeUnder k 0) ≡ false
 unfolding isRightOfQuestion
 left-place k =
     let unquestioned = and-false (eqb (k .op) Operator.conditional) in
-    either (isMathCall (k .op)) (λ h. ap isRightOfQuestion (place-by true false k 0 h unquestioned)) (λ h. ap isRightOfQuestion (place-by false false k 0 h unquestioned))
+    either (isMathCall (k .op)) (λ h. ap isRightOfQuestion (place-by true false k 0 h unquestioned))
+    (λ h. ap isRightOfQuestion (place-by false false k 0 h unquestioned))
 
 argument-place : (k : Token) → isMathCall (k .op) ≡ false → isUnderMathCall (placeUnder k 0) ≡ false
 unfolding isUnderMathCall
@@ -267,17 +284,20 @@ bracketed-operand (bracketed s) h = refl
 bracketed-operand (joinedBy r) h = h
 
 -- A prefix before its operand.
-spell-prefix : (p : Place) (k x : Token) (xs : Forest) → isAmong (aMinus ∷ aNot ∷ []) (role (k .op)) ≡ true → Spelled (placeUnder k 0) x xs → Spelled p k (node x xs nil)
+spell-prefix : (p : Place) (k x : Token) (xs : Forest) → isAmong (aMinus ∷ aNot ∷ []) (role (k .op)) ≡ true → Spelled (placeUnder k 0) x xs
+    → Spelled p k (node x xs nil)
 spell-prefix p k x xs h y =
     let r = role (k .op) in
-    let c : isCall (k .op) ≡ false = role-call (k .op) ∙ not-true (isAmong callRoles r) (among (aMinus ∷ aNot ∷ []) (λ r. not (isAmong callRoles r)) refl r h) in
+    let c : isCall (k .op) ≡ false = role-call (k .op) ∙ not-true (isAmong callRoles r)
+    (among (aMinus ∷ aNot ∷ []) (λ r. not (isAmong callRoles r)) refl r h) in
     spell-before p k x xs r refl (among (aMinus ∷ aNot ∷ []) isPrefix refl r h)
     (part (takes r) (standsAlone x xs) (placeUnder k 0) x xs y (λ t. prefix-takes r h (y .sort) (sym (y .alone) ∙ t)) (λ t. whole-left k x xs y)
     (λ t. prefix-takes r h (bracketed (y .sort)) refl))
     (rw c refl)
 
 -- A call before its bracket.
-spell-call : (p : Place) (k x : Token) (xs : Forest) → isCall (k .op) ≡ true → isBracket (x .op) ≡ true → Spelled (placeUnder k 0) x xs → Spelled p k (node x xs nil)
+spell-call : (p : Place) (k x : Token) (xs : Forest) → isCall (k .op) ≡ true → isBracket (x .op) ≡ true → Spelled (placeUnder k 0) x xs
+    → Spelled p k (node x xs nil)
 unfolding calls
 spell-call p k x xs h b y =
     let r = role (k .op) in
@@ -300,14 +320,16 @@ left-part : (k x : Token) (xs : Forest) → Spelled (placeUnder k 0) x xs → Pa
 unfolding standsLeft
 left-part k x xs y =
     part (joinsLeft (role (k .op))) (standsLeft k x xs) (placeUnder k 0) x xs y
-    (λ h. rw (role-comma (k .op), y .comma) at (joins-excepted (standsAlone x xs) (eqb (k .op) Operator.comma) (eqb (x .op) Operator.comma) (isOperand (y .sort)) h (y .alone)))
+    (λ h. rw (role-comma (k .op), y .comma) at (joins-excepted (standsAlone x xs) (eqb (k .op) Operator.comma) (eqb (x .op) Operator.comma)
+    (isOperand (y .sort)) h (y .alone)))
     (λ h. whole-left k x xs y) (λ h. refl)
 
 right-part : (k x : Token) (xs : Forest) → Spelled (placeUnder k 1) x xs → Part (joinsRight (role (k .op))) (standsRight k x xs) x xs
 unfolding standsRight
 right-part k x xs y =
     part (joinsRight (role (k .op))) (standsRight k x xs) (placeUnder k 1) x xs y
-    (λ h. rw (role-question (k .op), y .colon) at (joins-excepted (standsAlone x xs) (eqb (k .op) Operator.conditional) (eqb (x .op) Operator.conditionalElse) (isOperand (y .sort)) h (y .alone)))
+    (λ h. rw (role-question (k .op), y .colon) at (joins-excepted (standsAlone x xs) (eqb (k .op) Operator.conditional)
+    (eqb (x .op) Operator.conditionalElse) (isOperand (y .sort)) h (y .alone)))
     (λ h. ap not (never (isJoinedBy aColon (y .sort))
     (λ c. true≢false (sym (rw (right-place k (y .placed c), y .colon ∙ c) (or-true (standsAlone x xs))) ∙ h)))) (λ h. refl)
 
@@ -321,16 +343,19 @@ spell-two p k x xs y ys h a b =
     (λ c. absurd (true≢false (sym c ∙ unlike aColon binaryRoles refl (role (k .op)) m))) (left-part k x xs a) (right-part k y ys b))
     (λ t. let parts = and-eq-true-iff (eqb (k .op) Operator.conditionalElse) (isRightOfQuestion p) .0 (rw t at h) in
     spell-between p k x xs y ys (role (k .op)) refl
-    (ap isJoining (role-is aColon (k .op) (eqb (k .op) Operator.conditionalElse) (role-colon (k .op)) (parts .0))) (λ c. parts .1) (left-part k x xs a) (right-part k y ys b))
+    (ap isJoining (role-is aColon (k .op) (eqb (k .op) Operator.conditionalElse) (role-colon (k .op)) (parts .0))) (λ c. parts .1)
+    (left-part k x xs a) (right-part k y ys b))
 
-spell-one : (p : Place) (k x : Token) (xs : Forest) → plainForm p k (node x xs nil) ≡ true → Spelled (placeUnder k 0) x xs → Spelled p k (node x xs nil)
+spell-one : (p : Place) (k x : Token) (xs : Forest) → plainForm p k (node x xs nil) ≡ true → Spelled (placeUnder k 0) x xs
+    → Spelled p k (node x xs nil)
 unfolding plainForm
 spell-one p k x xs h y = split (isBracket (k .op)) (isCall (k .op)) refl refl
   where
     call-single : isCall (k .op) ≡ true → isOneOf (Operator.leftParenthesis ∷ Operator.negate ∷ Operator.logicalNot ∷ []) (k .op) ≡ false
     call-single c =
         role-single (k .op)
-        ∙ not-true (isAmong singleRoles (role (k .op))) (among callRoles (λ r. not (isAmong singleRoles r)) refl (role (k .op)) (sym (role-call (k .op)) ∙ c))
+        ∙ not-true (isAmong singleRoles (role (k .op))) (among callRoles (λ r. not (isAmong singleRoles r)) refl (role (k .op))
+        (sym (role-call (k .op)) ∙ c))
 
     split : (b c : Bool) → isBracket (k .op) ≡ b → isCall (k .op) ≡ c → Spelled p k (node x xs nil)
     split true c m n =
@@ -339,7 +364,8 @@ spell-one p k x xs h y = split (isBracket (k .op)) (isCall (k .op)) refl refl
     split false false m n =
         let s : isAmong singleRoles (role (k .op)) ≡ true =
         sym (role-single (k .op))
-        ∙ or-only-first (isOneOf (Operator.leftParenthesis ∷ Operator.negate ∷ Operator.logicalNot ∷ []) (k .op)) (isCall (k .op) && isBracket (x .op)) (rw n refl) h in
+        ∙ or-only-first (isOneOf (Operator.leftParenthesis ∷ Operator.negate ∷ Operator.logicalNot ∷ []) (k .op))
+        (isCall (k .op) && isBracket (x .op)) (rw n refl) h in
         spell-prefix p k x xs (rw (sym (role-bracket (k .op)) ∙ m) at s) y
 
 spell-none : (p : Place) (k : Token) → plainForm p k nil ≡ true → Spelled p k nil
@@ -352,11 +378,13 @@ spell-none p k h =
 spelled : (p : Place) (n : ℕ) (k : Token) (cs : Forest) → plainForm p k cs ≡ true → unplain (some k) 0 n cs ≡ none → Spelled p k cs
 unfolding placeOf
 spelled p n k nil h u = spell-none p k h
-spelled p n k (node x xs nil) h u = let a = plain-parts (some k) 0 n x xs nil u in spell-one p k x xs h (spelled (placeUnder k 0) (suc n) x xs (a .here) (a .below))
+spelled p n k (node x xs nil) h u = let a = plain-parts (some k) 0 n x xs nil u in spell-one p k x xs h
+    (spelled (placeUnder k 0) (suc n) x xs (a .here) (a .below))
 spelled p n k (node x xs (node y ys nil)) h u =
     let a = plain-parts (some k) 0 n x xs (node y ys nil) u in
     let b = plain-parts (some k) 1 (suc n + size xs) y ys nil (a .after) in
-    spell-two p k x xs y ys h (spelled (placeUnder k 0) (suc n) x xs (a .here) (a .below)) (spelled (placeUnder k 1) (suc (suc n + size xs)) y ys (b .here) (b .below))
+    spell-two p k x xs y ys h (spelled (placeUnder k 0) (suc n) x xs (a .here) (a .below))
+    (spelled (placeUnder k 1) (suc (suc n + size xs)) y ys (b .here) (b .below))
 spelled p n k (node x xs (node y ys (node z zs r))) h u = absurd (false≢true (unfold plainForm in h))
 
 -- A plain tree is spelled as an expression that stands on its own.

@@ -66,7 +66,8 @@ whole : (s : Sort) (F G : Forest → Forest) → Binds s F G → unary none (F n
 whole s F G b = b nil nil settled-nil none (stands-first s)
 
 -- A node that is neither of the operators.
-keep : (k : Token) (cs cs' r R : Forest) → prefixes (k .op) ≡ false → unary none cs ≡ done false cs' → Settled r R → Settled (node k cs r) (node k cs' R)
+keep : (k : Token) (cs cs' r R : Forest) → prefixes (k .op) ≡ false → unary none cs ≡ done false cs' → Settled r R
+    → Settled (node k cs r) (node k cs' R)
 unfolding unary unaryNode unaryLeaf turned isOneOf any
 keep k cs cs' r R q e s p = rw (s (some k), unary) (rw e (kept cs e (eqb (k .op) Operator.negate) (eqb (k .op) Operator.logicalNot) refl refl q))
   where
@@ -79,7 +80,8 @@ keep k cs cs' r R q e s p = rw (s (some k), unary) (rw e (kept cs e (eqb (k .op)
     kept (node c cs rest) e a b m n q = refl
 
 -- A minus or not that stands first takes the node after it.
-bind : (k h : Token) (f r R : Forest) → prefixes (k .op) ≡ true → Settled r (node h f R) → unary none (node k nil r) ≡ done false (node k (node h f nil) R)
+bind : (k h : Token) (f r R : Forest) → prefixes (k .op) ≡ true → Settled r (node h f R)
+    → unary none (node k nil r) ≡ done false (node k (node h f nil) R)
 unfolding unary unaryNode unaryLeaf turned minusAfter notBefore isOneOf any
 bind k h f r R q s = rw (s (some k), unary) (bound (eqb (k .op) Operator.negate) (eqb (k .op) Operator.logicalNot) refl refl q)
   where
@@ -109,10 +111,13 @@ bind-amid : (a b : Bool) (k : Token) (s : Sort) (X X' Y Y' : Forest → Forest) 
     → (r R : Forest) → Settled r R → Settled (amid a k X Y r) (amid (a || b) k X' Y' R)
 unfolding amid
 bind-amid a true k s X X' Y Y' q n x t y r R h p = absurd (true≢false n)
-bind-amid true false k s X X' Y Y' q n x t y r R h p = keep k (X (Y nil)) (X' (Y' nil)) r R q (x (Y nil) (Y' nil) (y nil nil settled-nil) none (t none)) h p
-bind-amid false false k s X X' Y Y' q n x t y r R h p = x (node k nil (Y r)) (node k nil (Y' R)) (keep k nil nil (Y r) (Y' R) q (settled-nil none) (y r R h)) p (t p)
+bind-amid true false k s X X' Y Y' q n x t y r R h p = keep k (X (Y nil)) (X' (Y' nil)) r R q
+    (x (Y nil) (Y' nil) (y nil nil settled-nil) none (t none)) h p
+bind-amid false false k s X X' Y Y' q n x t y r R h p = x (node k nil (Y r)) (node k nil (Y' R))
+    (keep k nil nil (Y r) (Y' R) q (settled-nil none) (y r R h)) p (t p)
 
-unbound : (n : ℕ) (r : Role) (rs : List Role) → role n ≡ r → allOf (λ r. not (is aMinus r || is aNot r)) rs ≡ true → isAmong rs r ≡ true → prefixes n ≡ false
+unbound : (n : ℕ) (r : Role) (rs : List Role) → role n ≡ r → allOf (λ r. not (is aMinus r || is aNot r)) rs ≡ true → isAmong rs r ≡ true
+    → prefixes n ≡ false
 unfolding isOneOf any
 unbound n r rs e h m =
     let u = not-true (is aMinus r || is aNot r) (among rs (λ r. not (is aMinus r || is aNot r)) h r m) in
