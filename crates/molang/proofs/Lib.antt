@@ -1,4 +1,6 @@
 pub mod Computed
+pub mod Versions
+pub mod Work
 pub mod Booleans
 pub mod Forests
 pub mod PlainTrees

@@ -66,7 +66,7 @@ startsWithIndex (node k cs r) = isIndex k
 -- An empty `[ ]` is an index only after an array or its name.
 unfoldable pub emptyIndex : Indexing → Token → Step Indexing
 emptyIndex (unindexed d) k = on (unindexed (node k nil d))
-emptyIndex (named d q) k = stop (emptyArrayIndex q k ∷ [])
+emptyIndex (named d q) k = stop (emptyArrayIndex (renamed array q) k ∷ [])
 emptyIndex (indexed d q contents) k = stop (emptyArrayIndex q k ∷ [])
 
 -- The contents of one index after another are children of the array. A bare array name that stands last in them so far is lent to the next

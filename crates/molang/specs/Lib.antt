@@ -15,3 +15,4 @@ pub mod Parse
 pub mod Plain
 pub mod Write
 pub mod WriteEntry
+pub mod Lines

@@ -1,0 +1,230 @@
+-- The table of lines: what the numbers of src/lines.rt say, and that each line is answered as it says. A line asks something of an entry and
+-- says what is answered. The calls are made and compared whole, words and lent buffers, as a program makes and compares them.
+use mathlib.Core.Path.{_≡_}
+use Prim.Native.Nat.{ℕ, zero, suc, _+_, _-_, _*_, _/_, _%_, _^_}
+use mathlib.Core.Bool.{true, false}
+use mathlib.Core.List.{List, [], _∷_, _++_}
+use lib.Dec.{eqb, leb, ltb}
+use lib.IntN.{ℤ, pos, negsuc}
+use lib.ListN.{length, take, replicate}
+use Rattle.molang.specs.Forest.{Token}
+use Rattle.molang.specs.Read.{uses}
+use Rattle.molang.specs.Words.{word, listWords}
+use Rattle.molang.specs.Parse.{Call, Told, aTree, someMessages, refused, answered, inFront, treeAfter, messagesAfter}
+use Rattle.molang.specs.WriteEntry.{WriteCall, WriteTold, tokens, unwritten, writeAnswered, listAfter}
+
+-- The marks, as src/lines.rt names them. A number from `anyMark` on is a mark, and the numbers after it up to the next mark are its items;
+-- a mark below `treeMark` asks, and the others answer.
+abbrev pub anyMark : ℕ
+anyMark = 1000000000
+
+abbrev pub writeMark : ℕ
+writeMark = 1000000001
+
+abbrev pub zerosMark : ℕ
+zerosMark = 1000000002
+
+abbrev pub repeatedMark : ℕ
+repeatedMark = 1000000003
+
+abbrev pub atMark : ℕ
+atMark = 1100000000
+
+abbrev pub treeMark : ℕ
+treeMark = 2000000000
+
+abbrev pub messageMark : ℕ
+messageMark = 2000000001
+
+abbrev pub listMark : ℕ
+listMark = 2000000002
+
+abbrev pub refusedMark : ℕ
+refusedMark = 2000000003
+
+pub record Marked : Type 0 where
+  pub mark : ℕ
+  pub items : List ℕ
+
+-- What is asked, and the answers, which are several marks for two messages.
+pub record Line : Type 0 where
+  pub asked : Marked
+  pub answers : List Marked
+
+unfoldable pub itemsOf : List ℕ → List ℕ
+itemsOf [] = []
+itemsOf (n ∷ ns) = elim (leb anyMark n) [ true ↦ [] | false ↦ n ∷ itemsOf ns ]
+
+unfoldable pub marksOf : List ℕ → List Marked
+marksOf [] = []
+marksOf (n ∷ ns) = elim (leb anyMark n) [ true ↦ record { mark = n; items = itemsOf ns } ∷ marksOf ns | false ↦ marksOf ns ]
+
+unfoldable pub answersOf : List Marked → List Marked
+answersOf [] = []
+answersOf (m ∷ ms) = elim (leb treeMark (m .mark)) [ true ↦ m ∷ answersOf ms | false ↦ [] ]
+
+unfoldable pub linesOf : List Marked → List Line
+linesOf [] = []
+linesOf (m ∷ ms) = elim (leb treeMark (m .mark)) [ true ↦ linesOf ms | false ↦ record { asked = m; answers = answersOf ms } ∷ linesOf ms ]
+
+-- WHAT IS ASKED. A list is given by its operators: payload 0, the i-th token at the span i to i + 1.
+unfoldable pub tokensFrom : ℕ → List ℕ → List Token
+tokensFrom i [] = []
+tokensFrom i (o ∷ os) = record { op = o; variant = 0; value = 0; start = i; end = i + 1 } ∷ tokensFrom (i + 1) os
+
+-- The exact used set as a number, of the operators below n.
+unfoldable pub usedBelow : ℕ → List Token → ℕ
+usedBelow zero ks = 0
+usedBelow (suc n) ks = elim (uses ks n) [ true ↦ 2 ^ n + usedBelow n ks | false ↦ usedBelow n ks ]
+
+-- A call for n tokens: buffers of zeros just as long as the entry asks, and a source of length n.
+unfoldable pub callFor : ℕ → List ℕ → ℕ → ℤ → Call
+callFor n list used version =
+    record {
+      list = list;
+      tree = replicate (18 * n) 0;
+      messages = replicate 16 0;
+      work = replicate (64 * n + 64) 0;
+      sourceLength = n;
+      version = version;
+      usedLow = used % 2 ^ 64;
+      usedHigh = used / 2 ^ 64;
+    }
+
+unfoldable pub listCall : List ℕ → ℤ → Call
+listCall os version = callFor (length os) (listWords (tokensFrom 0 os)) (usedBelow 111 (tokensFrom 0 os)) version
+
+-- A tree node is op_c_ss_ee in decimal digits: operator, child count (one digit), span start and end (two digits each); payload 0.
+unfoldable pub nodeWords : List ℕ → List ℕ
+nodeWords [] = []
+nodeWords (n ∷ ns) =
+    word 1 (n / 100000) ∷ word 2 (n / 100 % 100) ∷ word 3 (n % 100) ∷ word 4 0 ∷ word 5 0 ∷ word 6 (n / 10000 % 10) ∷ nodeWords ns
+
+-- A tree to be written, and room for the three tokens that a node can bring.
+unfoldable pub treeCall : List ℕ → WriteCall
+treeCall ns = record { tree = nodeWords ns; list = replicate (15 * length ns) 0 }
+
+-- A version is 16 bits in two's complement.
+unfoldable pub versionOf : ℕ → ℤ
+versionOf n = elim (ltb n 32768) [ true ↦ pos n | false ↦ negsuc (65535 - n) ]
+
+pub data Asked : Type 0 where
+  parse : List Call → Asked
+  write : WriteCall → Asked
+  unclear : Asked
+
+-- So many words 0.
+unfoldable pub zerosCall : List ℕ → Asked
+zerosCall [] = unclear
+zerosCall (n ∷ []) = parse (callFor (n / 5) (replicate n 0) 0 (pos 6) ∷ [])
+zerosCall (n ∷ m ∷ ms) = unclear
+
+-- So many tokens of one operator, all at the span 0 to 0.
+unfoldable pub repeatedCall : List ℕ → Asked
+repeatedCall [] = unclear
+repeatedCall (n ∷ []) = unclear
+repeatedCall (n ∷ o ∷ []) =
+    parse (callFor n (listWords (replicate n (record { op = o; variant = 0; value = 0; start = 0; end = 0 }))) (2 ^ o) (pos 6) ∷ [])
+repeatedCall (n ∷ o ∷ m ∷ ms) = unclear
+
+-- A line that names no version is read at 4, 5 and 6.
+unfoldable pub askedOf : Marked → Asked
+askedOf m =
+    elim (leb atMark (m .mark)) [
+      | true ↦ parse (listCall (m .items) (versionOf (m .mark - atMark)) ∷ [])
+      | false ↦
+          elim (eqb (m .mark) anyMark) [
+            | true ↦ parse (listCall (m .items) (pos 4) ∷ listCall (m .items) (pos 5) ∷ listCall (m .items) (pos 6) ∷ [])
+            | false ↦
+                elim (eqb (m .mark) writeMark) [
+                  | true ↦ write (treeCall (m .items))
+                  | false ↦ elim (eqb (m .mark) zerosMark) [ true ↦ zerosCall (m .items) | false ↦ repeatedCall (m .items) ]
+                ]
+          ]
+    ]
+
+-- WHAT IS ANSWERED: what the caller is told, and the words of the lent tree and message buffers or of the lent list.
+pub data Outcome : Type 0 where
+  parsed : Told → List ℕ → List ℕ → Outcome
+  wrote : WriteTold → List ℕ → Outcome
+  unreadable : Outcome
+
+-- A message is number_ss_ee, and after it the arguments up to the last that is not 0.
+unfoldable pub recordOf : List ℕ → List ℕ
+recordOf [] = []
+recordOf (n ∷ arguments) = n / 10000 ∷ n / 100 % 100 ∷ n % 100 ∷ take 5 (arguments ++ replicate 5 0)
+
+unfoldable pub recordsOf : List Marked → List ℕ
+recordsOf [] = []
+recordsOf (m ∷ ms) = recordOf (m .items) ++ recordsOf ms
+
+-- A written token is op_ss_ee.
+unfoldable pub writtenOf : List ℕ → List Token
+writtenOf [] = []
+writtenOf (n ∷ ns) = record { op = n / 10000; variant = 0; value = 0; start = n / 100 % 100; end = n % 100 } ∷ writtenOf ns
+
+-- A refusal is its number and place.
+unfoldable pub refusalOf : (ℕ → ℕ → Outcome) → List ℕ → Outcome
+refusalOf told [] = unreadable
+refusalOf told (n ∷ []) = unreadable
+refusalOf told (n ∷ place ∷ []) = told n place
+refusalOf told (n ∷ place ∷ m ∷ ms) = unreadable
+
+unfoldable pub wantedOf : List Marked → Call → Outcome
+wantedOf [] c = unreadable
+wantedOf (m ∷ ms) c =
+    elim (eqb (m .mark) treeMark) [
+      | true ↦ parsed (aTree (length (m .items))) (inFront (nodeWords (m .items)) (c .tree)) (c .messages)
+      | false ↦
+          elim (eqb (m .mark) messageMark) [
+            | true ↦ parsed (someMessages (length (m ∷ ms))) (c .tree) (inFront (recordsOf (m ∷ ms)) (c .messages))
+            | false ↦ refusalOf (λ n place. parsed (refused n place) (c .tree) (c .messages)) (m .items)
+          ]
+    ]
+
+unfoldable pub writeWantedOf : List Marked → WriteCall → Outcome
+writeWantedOf [] c = unreadable
+writeWantedOf (m ∷ ms) c =
+    elim (eqb (m .mark) listMark) [
+      | true ↦ wrote (tokens (length (m .items))) (inFront (listWords (writtenOf (m .items))) (c .list))
+      | false ↦ refusalOf (λ n place. wrote (unwritten n place) (c .list)) (m .items)
+    ]
+
+unfoldable pub parsedBy : Call → Outcome
+parsedBy c = parsed (answered c) (treeAfter c) (messagesAfter c)
+
+unfoldable pub wroteBy : WriteCall → Outcome
+wroteBy c = wrote (writeAnswered c) (listAfter c)
+
+-- An outcome of the definition beside the one that a line wants.
+pub record Compared : Type 0 where
+  pub given : Outcome
+  pub wanted : Outcome
+
+unfoldable pub comparedCalls : List Marked → List Call → List Compared
+comparedCalls ms [] = []
+comparedCalls ms (c ∷ cs) = record { given = parsedBy c; wanted = wantedOf ms c } ∷ comparedCalls ms cs
+
+unfoldable pub compared : List Marked → Asked → List Compared
+compared ms (parse cs) = comparedCalls ms cs
+compared ms (write c) = record { given = wroteBy c; wanted = writeWantedOf ms c } ∷ []
+compared ms unclear = record { given = unreadable; wanted = parsed (aTree 0) [] [] } ∷ []
+
+unfoldable pub allCompared : List Line → List Compared
+allCompared [] = []
+allCompared (l ∷ ls) = compared (l .answers) (askedOf (l .asked)) ++ allCompared ls
+
+unfoldable pub givens : List Compared → List Outcome
+givens [] = []
+givens (c ∷ cs) = c .given ∷ givens cs
+
+unfoldable pub wanteds : List Compared → List Outcome
+wanteds [] = []
+wanteds (c ∷ cs) = c .wanted ∷ wanteds cs
+
+unfoldable pub lineCount : List ℕ → ℕ
+lineCount table = length (linesOf (marksOf table))
+
+-- Every line of the table is answered as it says.
+unfoldable pub Answered : List ℕ → Type 0
+Answered table = givens (allCompared (linesOf (marksOf table))) ≡ wanteds (allCompared (linesOf (marksOf table)))

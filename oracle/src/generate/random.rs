@@ -1,0 +1,158 @@
+//! Random lists, weighted to what readers get wrong: brackets, minus runs, conditionals,
+//! semicolons, arrays, members, calls.
+
+use super::Rng;
+
+/// What a list may go on with.
+#[derive(Copy, Clone)]
+enum Next {
+    Atom,
+    Open,
+    Close,
+    Minus,
+    Not,
+    Binary,
+    Conditional,
+    Semicolon,
+    Array,
+    Member,
+    Call,
+    Pointer,
+    Word,
+}
+
+/// Each with its weight in every list; a list's theme counts eightfold.
+const NEXT: [(Next, usize); 13] = [
+    (Next::Atom, 12),
+    (Next::Open, 5),
+    (Next::Close, 6),
+    (Next::Minus, 3),
+    (Next::Not, 1),
+    (Next::Binary, 6),
+    (Next::Conditional, 3),
+    (Next::Semicolon, 2),
+    (Next::Array, 1),
+    (Next::Member, 1),
+    (Next::Call, 2),
+    (Next::Pointer, 1),
+    (Next::Word, 1),
+];
+
+pub(super) const ATOMS: [u8; 13] = [61, 61, 61, 61, 61, 43, 43, 44, 42, 46, 47, 62, 76];
+const RARE_ATOMS: [u8; 9] = [48, 49, 63, 64, 65, 66, 69, 70, 77];
+pub(super) const BINARY: [u8; 15] = [9, 31, 20, 50, 51, 52, 53, 54, 55, 56, 57, 58, 75, 71, 9];
+pub(super) const MATHS: [u8; 8] = [8, 10, 36, 30, 39, 78, 109, 110];
+const OPENERS: [u8; 6] = [4, 4, 4, 2, 0, 0];
+const CLOSERS: [u8; 3] = [5, 3, 1];
+
+fn atom(rng: &mut Rng) -> u8 {
+    if rng.chance(90) {
+        *rng.pick(&ATOMS)
+    } else {
+        *rng.pick(&RARE_ATOMS)
+    }
+}
+
+/// A list of about `len` operators.
+pub fn weighted(rng: &mut Rng, len: usize) -> Vec<u8> {
+    let mut weights = NEXT.map(|(_, weight)| weight);
+    weights[rng.below(NEXT.len())] *= 8;
+    let mut ops = Vec::with_capacity(len + 4);
+    let mut open: Vec<u8> = Vec::new();
+    while ops.len() < len {
+        match NEXT[rng.weighted(&weights)].0 {
+            Next::Atom => ops.push(atom(rng)),
+            Next::Open => {
+                let opener = *rng.pick(&OPENERS);
+                open.push(opener);
+                ops.push(opener);
+            }
+            Next::Close => {
+                let opener = open.pop();
+                ops.push(match opener {
+                    Some(opener) if rng.chance(93) => opener + 1,
+                    _ => *rng.pick(&CLOSERS),
+                });
+            }
+            Next::Minus => ops.extend(vec![6; 1 + rng.below(3)]),
+            Next::Not => ops.push(7),
+            Next::Binary => ops.push(*rng.pick(&BINARY)),
+            Next::Conditional => {
+                ops.push(*rng.pick(&[59, 60]));
+                if rng.chance(60) {
+                    ops.push(atom(rng));
+                }
+            }
+            Next::Semicolon => ops.push(73),
+            Next::Array => {
+                ops.push(41);
+                if rng.chance(80) {
+                    open.push(2);
+                    ops.push(2);
+                }
+            }
+            Next::Member => {
+                if rng.chance(70) {
+                    ops.push(*rng.pick(&[40, 42, 43, 44]));
+                }
+                ops.extend(vec![45; 1 + rng.below(2)]);
+            }
+            Next::Call => {
+                let math = *rng.pick(&MATHS);
+                ops.push(*rng.pick(&[40, 40, 67, 68, math]));
+                if rng.chance(80) {
+                    open.push(4);
+                    ops.push(4);
+                }
+            }
+            Next::Pointer => ops.push(72),
+            Next::Word => ops.push(*rng.pick(&[74, 69, 70, 77, 75])),
+        }
+    }
+    if rng.chance(75) {
+        ops.extend(open.iter().rev().map(|opener| opener + 1));
+    }
+    if rng.chance(90) && (ops.contains(&73) || ops.contains(&71)) {
+        ops.push(73);
+    }
+    ops
+}
+
+/// The list with one to three places changed: an operator lost, repeated, moved, replaced or new.
+pub fn mutated(rng: &mut Rng, mut ops: Vec<u8>) -> Vec<u8> {
+    for _ in 0..1 + rng.below(3) {
+        if ops.is_empty() {
+            return ops;
+        }
+        let place = rng.below(ops.len());
+        match rng.below(5) {
+            0 => {
+                ops.remove(place);
+            }
+            1 => {
+                let doubled = ops[place];
+                for _ in 0..1 + rng.below(2) {
+                    ops.insert(place, doubled);
+                }
+            }
+            2 => {
+                let other = rng.below(ops.len());
+                ops.swap(place, other);
+            }
+            3 => ops[place] = any(rng),
+            _ => ops.insert(place, any(rng)),
+        }
+    }
+    ops
+}
+
+fn any(rng: &mut Rng) -> u8 {
+    match rng.below(6) {
+        0 => *rng.pick(&BINARY),
+        1 => *rng.pick(&OPENERS),
+        2 => *rng.pick(&CLOSERS),
+        3 => *rng.pick(&[6, 7, 59, 60, 72, 73, 74, 45, 41, 40, 67, 36]),
+        4 => atom(rng),
+        _ => rng.below(111) as u8,
+    }
+}

@@ -1,0 +1,103 @@
+//! The oracle: what the Rust reader of Molang token lists answers, as words and numbers.
+//!
+//! The Rust's pass files are built as they stand, from a folder outside this repository (see
+//! `build.rs`), behind the stand-ins of `shim/`. Where that folder is not at hand the crate has no
+//! [`answer`], and everything else is built and tested without it:
+//!
+//! - [`words`]: the word format of document 01, cases and answers;
+//! - [`refusal`]: answers 1 to 11, written from document 01's table and not from the Rust;
+//! - [`generate`]: lists from a seed;
+//! - [`lines`]: the lines of document 01's section 'Lists and their trees', and what was found;
+//! - [`vectors`]: the answers that are kept in the repository.
+
+pub mod generate;
+pub mod lines;
+pub mod refusal;
+pub mod vectors;
+pub mod words;
+
+#[cfg(molangx)]
+#[path = "shim/bitmask.rs"]
+mod bitmask;
+#[cfg(molangx)]
+#[path = "shim/catalog.rs"]
+mod catalog;
+#[cfg(molangx)]
+#[path = "shim/compile.rs"]
+mod compile;
+#[cfg(molangx)]
+#[path = "shim/numeric.rs"]
+mod numeric;
+#[cfg(molangx)]
+#[path = "shim/ops.rs"]
+mod ops;
+#[cfg(all(test, molangx))]
+mod slips;
+
+#[cfg(molangx)]
+include!(concat!(env!("OUT_DIR"), "/plain.rs"));
+
+/// `version/mod.rs` names a version type of a crate `semver`; this crate takes that name too.
+#[cfg(molangx)]
+extern crate self as semver;
+
+/// Three numbers, compared in order. Only `version/mod.rs` asks for it, as `semver::Version`.
+#[cfg(molangx)]
+#[doc(hidden)]
+#[derive(Clone, Debug, PartialEq, Eq, Hash)]
+pub struct Version((u64, u64, u64));
+
+#[cfg(molangx)]
+impl Version {
+    const fn new(major: u64, minor: u64, patch: u64) -> Self {
+        Self((major, minor, patch))
+    }
+}
+
+pub use words::{Answer, Case, Token};
+
+/// Whether the Rust source was at hand when this was built.
+pub const COMPARED: bool = cfg!(molangx);
+
+/// What the Rust answers to a list that the entry does not turn back.
+///
+/// The list has any length here: the entry's bound of 4,096 tokens is not the Rust's.
+#[cfg(molangx)]
+pub fn answer(tokens: &[Token], used: (u64, u64), source_len: u32, version: i16) -> Answer {
+    answer_case(&Case {
+        tokens: tokens.to_vec(),
+        used,
+        source_len,
+        version,
+    })
+}
+
+/// [`answer`] of a case.
+#[cfg(molangx)]
+pub fn answer_case(case: &Case) -> Answer {
+    compile::answer(case)
+}
+
+/// What the Rust answers to a case, or `None` where its source was not at hand: for crates that
+/// compare with this one and are built either way.
+pub fn answer_if_at_hand(case: &Case) -> Option<Answer> {
+    #[cfg(molangx)]
+    return Some(answer_case(case));
+    #[cfg(not(molangx))]
+    {
+        let _ = case;
+        None
+    }
+}
+
+/// The version that the rules see for a raw one.
+#[cfg(molangx)]
+pub fn effective_version(raw: i16) -> i16 {
+    version::RawVersion(raw).effective().to_i16()
+}
+
+/// Whether the Rust, over the stand-in table, takes this operator for a math call.
+#[cfg(molangx)]
+pub fn is_math_call(op: u8) -> bool {
+    compile::is_math_call(op)
+}

@@ -1,0 +1,219 @@
+//! Where the entry turns a call back: answers 1 to 11 of document 01's table, from the top, the
+//! first failure winning. Written from the table; the Rust has no part of it.
+
+use crate::words::{
+    Case, LAST_OP, LAST_PLACE, LAST_VARIANT, MOST_TOKENS, TOKEN_WORDS, kind, list_words, low,
+};
+
+/// What the entry is lent and told. The lent buffers count only by their lengths.
+#[derive(Clone, Debug, PartialEq, Eq)]
+pub struct Call {
+    pub list: Vec<u32>,
+    pub tree_len: u64,
+    pub messages_len: u64,
+    pub work_len: u64,
+    pub used: (u64, u64),
+    pub source_len: u64,
+    pub version: i16,
+}
+
+/// The number of an answer and its place.
+#[derive(Copy, Clone, Debug, PartialEq, Eq)]
+pub struct Refusal {
+    pub number: u32,
+    pub place: u32,
+}
+
+impl Call {
+    /// The call of a case, with buffers of exactly the lengths that are asked for.
+    pub fn of(case: &Case) -> Self {
+        let tokens = case.tokens.len() as u64;
+        Self {
+            list: list_words(&case.tokens),
+            tree_len: 18 * tokens,
+            messages_len: 16,
+            work_len: 64 * tokens + 64,
+            used: case.used,
+            source_len: u64::from(case.source_len),
+            version: case.version,
+        }
+    }
+}
+
+/// The answer that turns the call back, if one does.
+pub fn refusal(call: &Call) -> Option<Refusal> {
+    let tokens = (call.list.len() / TOKEN_WORDS) as u64;
+    let whole: [(u32, bool); 7] = [
+        (1, !call.list.len().is_multiple_of(TOKEN_WORDS)),
+        (2, tokens > MOST_TOKENS as u64),
+        (3, call.tree_len < 18 * tokens),
+        (4, call.messages_len < 16),
+        (5, call.work_len < 64 * tokens + 64),
+        (6, call.used.1 >> (LAST_OP - 63) != 0),
+        (7, call.source_len > u64::from(LAST_PLACE)),
+    ];
+    if let Some(&(number, _)) = whole.iter().find(|(_, fails)| *fails) {
+        return Some(Refusal { number, place: 0 });
+    }
+    let mut variant = 0;
+    for (index, &word) in call.list.iter().enumerate() {
+        let place = index as u32;
+        let expected = (index % TOKEN_WORDS) as u32 + 1;
+        let bits = low(word);
+        if kind(word) != expected {
+            return Some(Refusal { number: 8, place });
+        }
+        let other_bits = match expected {
+            1 => {
+                variant = bits >> 8 & 0xF;
+                if bits & 0xFF > u32::from(LAST_OP) {
+                    return Some(Refusal { number: 9, place });
+                }
+                if variant > u32::from(LAST_VARIANT) {
+                    return Some(Refusal { number: 10, place });
+                }
+                bits >> 12 != 0
+            }
+            2 | 3 => false,
+            _ if variant == 0 => bits != 0,
+            _ => bits >> 16 != 0,
+        };
+        if other_bits {
+            return Some(Refusal { number: 11, place });
+        }
+    }
+    None
+}
+
+#[cfg(test)]
+mod tests {
+    use super::*;
+    use crate::words::{FULL_SET, Token, exact_set, word};
+
+    fn sound(tokens: usize) -> Call {
+        let token = Token {
+            op: 61,
+            variant: 1,
+            value: 0x1234_5678,
+            start: 7,
+            end: 3,
+        };
+        let tokens = vec![token; tokens];
+        Call::of(&Case {
+            used: exact_set(&tokens),
+            source_len: LAST_PLACE,
+            version: 6,
+            tokens,
+        })
+    }
+
+    fn answer(change: impl FnOnce(&mut Call)) -> Option<(u32, u32)> {
+        let mut call = sound(3);
+        change(&mut call);
+        refusal(&call).map(|refused| (refused.number, refused.place))
+    }
+
+    #[test]
+    fn a_sound_call_is_not_turned_back() {
+        for tokens in [0, 1, 2, 4095, 4096] {
+            assert_eq!(refusal(&sound(tokens)), None, "{tokens} tokens");
+        }
+        assert_eq!(answer(|call| call.used = FULL_SET), None);
+        assert_eq!(answer(|call| call.used = (0, 0)), None);
+    }
+
+    #[test]
+    fn two_words_answer_1_and_4097_tokens_answer_2() {
+        let mut short = sound(0);
+        short.list = vec![0; 2];
+        assert_eq!(
+            refusal(&short),
+            Some(Refusal {
+                number: 1,
+                place: 0
+            })
+        );
+        assert_eq!(
+            refusal(&sound(4097)),
+            Some(Refusal {
+                number: 2,
+                place: 0
+            })
+        );
+    }
+
+    #[test]
+    fn the_length_is_judged_before_the_count() {
+        let mut long = sound(4097);
+        long.list.push(0);
+        assert_eq!(
+            refusal(&long),
+            Some(Refusal {
+                number: 1,
+                place: 0
+            })
+        );
+    }
+
+    #[test]
+    fn each_buffer_is_one_word_too_short() {
+        assert_eq!(answer(|call| call.tree_len -= 1), Some((3, 0)));
+        assert_eq!(answer(|call| call.messages_len -= 1), Some((4, 0)));
+        assert_eq!(answer(|call| call.work_len -= 1), Some((5, 0)));
+    }
+
+    #[test]
+    fn a_used_bit_above_110_and_a_long_source() {
+        assert_eq!(answer(|call| call.used.1 |= 1 << 46), None);
+        assert_eq!(answer(|call| call.used.1 |= 1 << 47), Some((6, 0)));
+        assert_eq!(answer(|call| call.used.1 |= 1 << 63), Some((6, 0)));
+        assert_eq!(answer(|call| call.source_len = 536_870_912), Some((7, 0)));
+    }
+
+    #[test]
+    fn a_word_is_judged_by_kind_operator_variant_and_other_bits_in_this_order() {
+        assert_eq!(answer(|call| call.list[5] = word(2, !0 >> 3)), Some((8, 5)));
+        assert_eq!(answer(|call| call.list[5] = word(1, !0 >> 3)), Some((9, 5)));
+        assert_eq!(answer(|call| call.list[5] = word(1, 111)), Some((9, 5)));
+        let variant_13 = word(1, 110 | 13 << 8 | 1 << 12);
+        assert_eq!(answer(|call| call.list[5] = variant_13), Some((10, 5)));
+        let bit_12 = word(1, 110 | 12 << 8 | 1 << 12);
+        assert_eq!(answer(|call| call.list[5] = bit_12), Some((11, 5)));
+        assert_eq!(
+            answer(|call| call.list[8] = word(4, 1 << 16)),
+            Some((11, 8))
+        );
+        assert_eq!(
+            answer(|call| call.list[9] = word(5, 1 << 28)),
+            Some((11, 9))
+        );
+    }
+
+    #[test]
+    fn under_variant_0_both_value_halves_are_zero() {
+        let bare = word(1, 61);
+        assert_eq!(answer(|call| call.list[5] = bare), Some((11, 8)));
+        let lower_only = |call: &mut Call| {
+            call.list[5] = bare;
+            call.list[8] = word(4, 0);
+        };
+        assert_eq!(answer(lower_only), Some((11, 9)));
+    }
+
+    #[test]
+    fn the_first_failure_wins() {
+        let later_and_earlier = |call: &mut Call| {
+            call.list[3] = 0;
+            call.list[1] = 0;
+        };
+        assert_eq!(answer(later_and_earlier), Some((8, 1)));
+        let all = |call: &mut Call| {
+            call.list[0] = 0;
+            call.source_len = 1 << 40;
+            call.used.1 = u64::MAX;
+            call.work_len = 0;
+            call.messages_len = 0;
+        };
+        assert_eq!(answer(all), Some((4, 0)));
+    }
+}

@@ -1,0 +1,145 @@
+//! What is kept: chosen lists first, then lists from the seed, then calls that are turned back.
+
+use super::Stored;
+use crate::generate::alphabets::ALPHABETS;
+use crate::generate::damage::damaged;
+use crate::generate::shapes::SHAPES;
+use crate::generate::{Mixed, Rng, case, dress, grammar, patterns, random};
+use crate::lines::{findings, lines};
+use crate::refusal::{Call, Refusal};
+use crate::words::{Case, LAST_OP, exact_set};
+
+/// The records that a seed gives.
+pub fn made(seed: u64) -> Vec<Stored> {
+    let cases = [
+        documented(),
+        short_lists(),
+        single_operators(),
+        shaped(),
+        longest(),
+        long(seed),
+        Mixed::new(seed, 9).take(12_000).collect(),
+        Mixed::new(seed + 1, 24).take(6_000).collect(),
+    ];
+    let answered = cases.into_iter().flatten().map(|case| {
+        let answer = crate::answer_case(&case);
+        Stored::Answered(case, answer)
+    });
+    answered.chain(turned_back(seed + 2)).collect()
+}
+
+/// The list with usual payloads and spans, its exact used set and its length as source length.
+fn plain(ops: &[u8], version: i16) -> Case {
+    let tokens = dress::plain(ops);
+    Case {
+        used: exact_set(&tokens),
+        source_len: ops.len() as u32,
+        version,
+        tokens,
+    }
+}
+
+/// The lines of document 01 and what was found.
+fn documented() -> Vec<Case> {
+    let mut cases = Vec::new();
+    for line in lines().iter().chain(&findings()) {
+        let versions = line.kept_versions();
+        cases.extend(versions.map(|version| line.at_version(version)));
+    }
+    cases
+}
+
+/// Every list of up to three operators over each alphabet.
+fn short_lists() -> Vec<Case> {
+    let mut cases = Vec::new();
+    for alphabet in &ALPHABETS {
+        for (place, ops) in alphabet.every_list(3).enumerate() {
+            if alphabet.versions_differ {
+                cases.extend((4..=6).map(|version| plain(&ops, version)));
+            } else {
+                cases.push(plain(&ops, [4, 5, 6, -1, 13][place % 5]));
+            }
+        }
+    }
+    cases
+}
+
+/// Every operator in certain places, and every two between operands.
+fn single_operators() -> Vec<Case> {
+    let mut cases = Vec::new();
+    for op in 0..=LAST_OP {
+        for (place, ops) in patterns::around(op).enumerate() {
+            cases.push(plain(&ops, 4 + (place + op as usize) as i16 % 3));
+        }
+    }
+    for ops in patterns::pairs() {
+        cases.extend((4..=6).map(|version| plain(&ops, version)));
+    }
+    cases
+}
+
+/// Every shape at a few small lengths.
+fn shaped() -> Vec<Case> {
+    let lengths = [1, 2, 3, 4, 5, 6, 7, 8, 9, 11, 17, 40];
+    let mut cases = Vec::new();
+    for shape in &SHAPES {
+        for (place, &len) in lengths.iter().enumerate() {
+            cases.push(plain(&shape.ops(len), 4 + place as i16 % 3));
+        }
+    }
+    cases
+}
+
+/// Some shapes at the most tokens that are read, and one fewer.
+fn longest() -> Vec<Case> {
+    let chosen = [
+        ("flat sum", 4095, 6),
+        ("nested brackets", 4096, 5),
+        ("conditional ladder", 4095, 4),
+        ("conditional ladder", 4096, 5),
+        ("not run", 4096, 6),
+        ("nested loops", 4095, 6),
+        ("statements", 4096, 6),
+        ("openers", 4096, 5),
+    ];
+    let case = |(name, len, version)| {
+        let shape = SHAPES.iter().find(|shape| shape.name == name);
+        plain(&shape.expect("a shape has this name").ops(len), version)
+    };
+    chosen.map(case).into()
+}
+
+/// Expressions, scripts and weighted lists of one to four hundred tokens.
+fn long(seed: u64) -> Vec<Case> {
+    let mut rng = Rng::new(seed);
+    let mut cases = Vec::new();
+    for size in (100..400).step_by(10) {
+        for make in [grammar::expression, grammar::script, random::weighted] {
+            let ops = make(&mut rng, size);
+            cases.push(case(&mut rng, &ops));
+        }
+    }
+    cases
+}
+
+/// The lines of document 01 that are turned back, and two thousand damaged calls.
+fn turned_back(seed: u64) -> Vec<Stored> {
+    let two_words = Call {
+        list: vec![0; 2],
+        ..Call::of(&plain(&[], 6))
+    };
+    let too_long = Call::of(&plain(&SHAPES[0].ops(4097), 6));
+    let refused = |call, number| Stored::Refused(call, Refusal { number, place: 0 });
+    let mut records = vec![refused(two_words, 1), refused(too_long, 2)];
+    let mut rng = Rng::new(seed);
+    let mut too_long = 0;
+    for case in Mixed::new(seed, 12).take(2_000) {
+        let (call, refusal) = damaged(&mut rng, &case);
+        too_long += usize::from(refusal.number == 2);
+        // A list of 4,097 tokens is as large as a thousand others.
+        if refusal.number != 2 || too_long <= 4 {
+            records.push(Stored::Refused(call, refusal));
+        }
+    }
+    records
+}

@@ -1,0 +1,247 @@
+//! The word format of document 01: tokens, tree nodes and message records.
+//!
+//! A word has 32 bits, the top three its kind. A token is five words, of kinds 1 to 5: operator
+//! and payload variant, span start, span end, and the two halves of the payload value. A tree node
+//! is a token and a word of kind 6 with the number of its children.
+
+/// Words of a token.
+pub const TOKEN_WORDS: usize = 5;
+/// Words of a tree node.
+pub const NODE_WORDS: usize = 6;
+/// The largest operator number.
+pub const LAST_OP: u8 = 110;
+/// The largest payload variant.
+pub const LAST_VARIANT: u8 = 12;
+/// The largest span bound and source length.
+pub const LAST_PLACE: u32 = (1 << 29) - 1;
+/// The most tokens of a list.
+pub const MOST_TOKENS: usize = 4096;
+
+const KIND: u32 = 29;
+const LOW: u32 = (1 << KIND) - 1;
+
+/// A token: what a list is made of, and a node's own part.
+#[derive(Copy, Clone, Debug, Default, PartialEq, Eq, Hash)]
+pub struct Token {
+    /// Operator number of op.rs, 0 to 110.
+    pub op: u8,
+    /// Payload variant in the order of `Payload` in ast.rs, 0 to 12.
+    pub variant: u8,
+    /// Float bits, or an index into the caller's names; 0 under variant 0.
+    pub value: u32,
+    /// Span start, below 2^29.
+    pub start: u32,
+    /// Span end, below 2^29; may be less than the start.
+    pub end: u32,
+}
+
+/// A node of a tree in preorder.
+#[derive(Copy, Clone, Debug, PartialEq, Eq, Hash)]
+pub struct TreeNode {
+    pub token: Token,
+    /// How many children follow.
+    pub children: u32,
+}
+
+/// A message: number, span start, span end and five arguments.
+pub type Record = [u32; 8];
+
+/// What is asked: a list, a used set in two halves, a source length and a raw version.
+#[derive(Clone, Debug, PartialEq, Eq, Hash)]
+pub struct Case {
+    pub tokens: Vec<Token>,
+    /// Operator 0 is the lowest bit of the first half.
+    pub used: (u64, u64),
+    pub source_len: u32,
+    pub version: i16,
+}
+
+/// What is answered.
+#[derive(Clone, Debug, PartialEq, Eq, Hash)]
+pub enum Answer {
+    /// The words of the tree.
+    Tree(Vec<u32>),
+    /// One or two records.
+    Messages(Vec<Record>),
+}
+
+impl Answer {
+    /// The tree's nodes in preorder; none for messages.
+    pub fn nodes(&self) -> Vec<TreeNode> {
+        match self {
+            Self::Tree(words) => decode_tree(words).expect("an answer's words are one tree"),
+            Self::Messages(_) => Vec::new(),
+        }
+    }
+
+    /// The message records; none for a tree.
+    pub fn records(&self) -> &[Record] {
+        match self {
+            Self::Tree(_) => &[],
+            Self::Messages(records) => records,
+        }
+    }
+}
+
+/// A word of this kind.
+pub const fn word(kind: u32, low: u32) -> u32 {
+    kind << KIND | low
+}
+
+/// A word's kind.
+pub const fn kind(word: u32) -> u32 {
+    word >> KIND
+}
+
+/// A word's bits below its kind.
+pub const fn low(word: u32) -> u32 {
+    word & LOW
+}
+
+impl Token {
+    /// The token's five words.
+    pub fn words(&self) -> [u32; TOKEN_WORDS] {
+        [
+            word(1, u32::from(self.op) | u32::from(self.variant) << 8),
+            word(2, self.start),
+            word(3, self.end),
+            word(4, self.value >> 16),
+            word(5, self.value & 0xFFFF),
+        ]
+    }
+
+    /// The token of these words; `None` where one of answers 8 to 11 would be given.
+    pub fn of_words(words: &[u32]) -> Option<Self> {
+        let &[head, start, end, upper, lower] = words else {
+            return None;
+        };
+        let token = Self {
+            op: low(head) as u8,
+            variant: (low(head) >> 8 & 0xF) as u8,
+            value: low(upper) << 16 | low(lower),
+            start: low(start),
+            end: low(end),
+        };
+        let known = token.op <= LAST_OP && token.variant <= LAST_VARIANT;
+        let bare = token.variant != 0 || token.value == 0;
+        (known && bare && token.words() == words).then_some(token)
+    }
+}
+
+/// The words of a list.
+pub fn list_words(tokens: &[Token]) -> Vec<u32> {
+    tokens.iter().flat_map(Token::words).collect()
+}
+
+/// The tokens of a list's words.
+pub fn decode_list(words: &[u32]) -> Option<Vec<Token>> {
+    words.chunks(TOKEN_WORDS).map(Token::of_words).collect()
+}
+
+/// The words of a tree.
+pub fn tree_words(nodes: &[TreeNode]) -> Vec<u32> {
+    let mut words = Vec::with_capacity(nodes.len() * NODE_WORDS);
+    for node in nodes {
+        words.extend(node.token.words());
+        words.push(word(6, node.children));
+    }
+    words
+}
+
+/// The nodes of words that are exactly one tree, parent first.
+pub fn decode_tree(words: &[u32]) -> Option<Vec<TreeNode>> {
+    let mut nodes = Vec::with_capacity(words.len() / NODE_WORDS);
+    let mut awaited = 1;
+    for words in words.chunks(NODE_WORDS) {
+        let (&count, token) = words.split_last()?;
+        let token = Token::of_words(token)?;
+        if kind(count) != 6 || low(count) >= 1 << 14 || awaited == 0 {
+            return None;
+        }
+        awaited = awaited - 1 + low(count);
+        nodes.push(TreeNode {
+            token,
+            children: low(count),
+        });
+    }
+    (awaited == 0).then_some(nodes)
+}
+
+/// The bit of an operator in a used set.
+pub fn bit(op: u8) -> (u64, u64) {
+    match op {
+        0..64 => (1 << op, 0),
+        _ => (0, 1 << (op - 64)),
+    }
+}
+
+/// Whether a used set has an operator.
+pub fn has(used: (u64, u64), op: u8) -> bool {
+    let bit = bit(op);
+    used.0 & bit.0 != 0 || used.1 & bit.1 != 0
+}
+
+/// The used set with each operator of the tokens and no other.
+pub fn exact_set(tokens: &[Token]) -> (u64, u64) {
+    tokens.iter().fold((0, 0), |used, token| {
+        let bit = bit(token.op);
+        (used.0 | bit.0, used.1 | bit.1)
+    })
+}
+
+/// The used set of all 111 operators.
+pub const FULL_SET: (u64, u64) = (u64::MAX, (1 << 47) - 1);
+
+#[cfg(test)]
+mod tests {
+    use super::*;
+
+    fn node(op: u8, children: u32) -> TreeNode {
+        let token = Token {
+            op,
+            variant: 12,
+            value: 0xFFFE_0001,
+            start: LAST_PLACE,
+            end: 0,
+        };
+        TreeNode { token, children }
+    }
+
+    #[test]
+    fn a_token_is_its_five_words() {
+        let token = node(110, 0).token;
+        let words = [
+            0x2000_0C6E,
+            0x5FFF_FFFF,
+            0x6000_0000,
+            0x8000_FFFE,
+            0xA000_0001,
+        ];
+        assert_eq!(token.words(), words);
+        assert_eq!(Token::of_words(&words), Some(token));
+        assert_eq!(Token::of_words(&words[..4]), None);
+    }
+
+    #[test]
+    fn a_tree_is_exactly_as_many_nodes_as_its_counts_say() {
+        let nodes = [node(9, 2), node(61, 0), node(6, 1), node(61, 0)];
+        let words = tree_words(&nodes);
+        assert_eq!(words[5], 0xC000_0002);
+        assert_eq!(decode_tree(&words), Some(nodes.to_vec()));
+        for len in 0..words.len() {
+            assert_eq!(decode_tree(&words[..len]), None, "cut to {len} words");
+        }
+        let two = [&words[..], &words[..]].concat();
+        assert_eq!(decode_tree(&two), None);
+    }
+
+    #[test]
+    fn a_used_set_has_operator_0_lowest_and_110_highest() {
+        assert_eq!(bit(0), (1, 0));
+        assert_eq!(bit(63), (1 << 63, 0));
+        assert_eq!(bit(64), (0, 1));
+        assert!((0..=LAST_OP).all(|op| has(FULL_SET, op) && has(bit(op), op)));
+        let all: Vec<Token> = (0..=LAST_OP).map(|op| node(op, 0).token).collect();
+        assert_eq!(exact_set(&all), FULL_SET);
+    }
+}

@@ -1,0 +1,161 @@
+//! The generator: what it promises to make, it makes.
+
+use oracle::generate::alphabets::ALPHABETS;
+use oracle::generate::damage::damaged;
+use oracle::generate::shapes::SHAPES;
+use oracle::generate::{Mixed, Rng, dress};
+use oracle::refusal::{Call, refusal};
+use oracle::words::{Case, FULL_SET, Token, decode_list, exact_set, list_words};
+use std::collections::BTreeSet;
+
+#[test]
+fn the_same_seed_gives_the_same_lists() {
+    let lists = |seed| Mixed::new(seed, 30).take(500).collect::<Vec<_>>();
+    assert_eq!(lists(7), lists(7));
+    assert_ne!(lists(7), lists(8));
+}
+
+#[test]
+fn an_alphabet_gives_each_list_once() {
+    for alphabet in &ALPHABETS {
+        let mut lists: Vec<_> = alphabet.every_list(4).collect();
+        let count: usize = (0..=4).map(|len| alphabet.ops.len().pow(len)).sum();
+        assert_eq!(lists.len(), count, "{}", alphabet.name);
+        lists.sort_unstable();
+        lists.dedup();
+        assert_eq!(lists.len(), count, "{}", alphabet.name);
+    }
+}
+
+#[test]
+fn a_shape_has_exactly_the_length_that_is_asked_for() {
+    for shape in &SHAPES {
+        for len in (0..60).chain([4095, 4096, 4097]) {
+            assert_eq!(shape.ops(len).len(), len, "{}", shape.name);
+        }
+    }
+}
+
+#[test]
+fn lists_of_4095_and_4096_tokens_are_taken_and_of_4097_turned_back() {
+    for shape in &SHAPES {
+        for (len, number) in [(4095, None), (4096, None), (4097, Some(2))] {
+            let tokens = dress::plain(&shape.ops(len));
+            let call = Call::of(&Case {
+                used: exact_set(&tokens),
+                source_len: len as u32,
+                version: 6,
+                tokens,
+            });
+            assert_eq!(refusal(&call).map(|refused| refused.number), number);
+        }
+    }
+}
+
+#[test]
+fn no_list_is_longer_than_asked_and_none_is_turned_back() {
+    for (most, count) in [
+        (1, 2_000),
+        (3, 2_000),
+        (12, 2_000),
+        (300, 2_000),
+        (4096, 200),
+    ] {
+        for case in Mixed::new(most as u64, most).take(count) {
+            assert!(case.tokens.len() <= most);
+            assert_eq!(refusal(&Call::of(&case)), None, "{case:?}");
+        }
+    }
+}
+
+#[test]
+fn the_mixed_lists_have_every_operator_payload_version_and_used_set() {
+    let (mut ops, mut variants, mut values) = (BTreeSet::new(), BTreeSet::new(), BTreeSet::new());
+    let mut versions = BTreeSet::new();
+    let (mut exact, mut full, mut empty, mut other, mut backwards) = (0, 0, 0, 0, 0);
+    for case in Mixed::new(11, 16).take(20_000) {
+        for token in &case.tokens {
+            ops.insert(token.op);
+            variants.insert(token.variant);
+            values.insert(token.value);
+            backwards += usize::from(token.start > token.end);
+        }
+        versions.insert(case.version);
+        match case.used {
+            set if set == exact_set(&case.tokens) => exact += 1,
+            FULL_SET => full += 1,
+            (0, 0) => empty += 1,
+            _ => other += 1,
+        }
+    }
+    assert_eq!(ops, (0..=110).collect());
+    assert_eq!(variants, (0..=12).collect());
+    assert!(dress::VALUES.iter().all(|value| values.contains(value)));
+    assert!(
+        dress::VERSIONS
+            .iter()
+            .all(|version| versions.contains(version))
+    );
+    assert!(
+        [exact, full, empty, other, backwards]
+            .iter()
+            .all(|&count| count > 1_000)
+    );
+}
+
+#[test]
+fn damage_is_turned_back_where_it_was_done() {
+    let mut rng = Rng::new(5);
+    let mut numbers = [0; 12];
+    let mut fields = BTreeSet::new();
+    for case in Mixed::new(6, 10).take(6_000) {
+        let (call, expected) = damaged(&mut rng, &case);
+        assert_eq!(refusal(&call), Some(expected), "{call:?}");
+        numbers[expected.number as usize] += 1;
+        fields.insert((expected.number, expected.place % 5));
+    }
+    let kinds = (0..5).map(|field| (8, field));
+    let bits = [(9, 0), (10, 0), (11, 0), (11, 3), (11, 4)];
+    assert!(kinds.chain(bits).all(|field| fields.contains(&field)));
+    assert!(numbers[1..].iter().all(|&count| count > 50), "{numbers:?}");
+}
+
+/// Every bit of a token's five words, turned over by itself.
+#[test]
+fn one_bit_turned_over_is_another_sound_token_or_turned_back() {
+    let token = Token {
+        op: 46,
+        variant: 2,
+        value: 0x8001_7FFE,
+        start: 3,
+        end: 1,
+    };
+    let sound = list_words(&[token]);
+    for place in 0..sound.len() {
+        for bit in 0..32 {
+            let mut list = sound.clone();
+            list[place] ^= 1 << bit;
+            let call = Call {
+                list: list.clone(),
+                ..Call::of(&Case {
+                    tokens: vec![token],
+                    used: FULL_SET,
+                    source_len: 0,
+                    version: 0,
+                })
+            };
+            match (refusal(&call), decode_list(&list)) {
+                (None, Some(tokens)) => {
+                    assert_eq!(list_words(&tokens), list);
+                    assert_ne!(tokens, [token]);
+                }
+                // Without its variant the token has a value that it may not have.
+                (Some(refused), None) if refused.number == 11 => {
+                    assert!(refused.place as usize >= place);
+                }
+                (Some(refused), None) => assert_eq!(refused.place as usize, place),
+                (refused, tokens) => panic!("{refused:?} but {tokens:?}"),
+            }
+        }
+    }
+}
