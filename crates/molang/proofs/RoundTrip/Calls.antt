@@ -2,7 +2,7 @@
 use Prim.Native.Nat.{ℕ}
 use mathlib.Core.Path.{_≡_, refl, ap, sym, _∙_}
 use mathlib.Core.Bool.{Bool, true, false, _||_, _&&_, not, true≢false, false≢true, and-eq-true-iff}
-use mathlib.Core.List.{List}
+use mathlib.Core.List.{[], _∷_}
 use native.Mathlib.Omega.{arith}
 use borrow.Author.Tests.{not-true}
 use Rattle.molang.specs.Operator.{isBracket}
@@ -12,7 +12,7 @@ use Rattle.molang.specs.Level.{Level, walk, Gathered, gathered, waiting}
 use Rattle.molang.specs.Calls.{CallKind, queryOrLoop, math, calls, callLeaf, callStep, callResume, callFinish, callLevel}
 use Rattle.molang.proofs.Booleans.{either, or-only-first}
 use Rattle.molang.proofs.Forests.{Turns}
-use Rattle.molang.proofs.RoundTrip.Role.{Role, aBracket, aQuery, aLoop, aMathCall, is, isAmong, allOf, among, role, role-bracket, role-math, role-query}
+use Rattle.molang.proofs.RoundTrip.Role.{Role, aBracket, aQuery, aLoop, aMathCall, is, isAmong, among, role, role-bracket, role-math, role-query, ruled-out}
 use Rattle.molang.proofs.RoundTrip.Expression.{Sort, nothing, atom, prefixed, bracketed, joinedBy, Exp, empty, leaf, bracket, before, between, isOperand, isBracketed, isFilled, isFilledBracket, leafRoles, prefixRoles, joiningRoles, isLeaf, isPrefix, isJoining, takes, ahead, amid, form, also, turned-form, Filled, filled-form}
 use Rattle.molang.proofs.RoundTrip.Walk.{walk-on, walk-into, walk-same, Gathers, Carries, Passes, carry-both, carry-node, carry-token, carry-whole}
 
@@ -40,28 +40,20 @@ must-fill math s h n = absurd (true≢false n)
 
 -- The role of a token tells whether the pass calls it.
 abbrev told : CallKind → Role → Bool
-told queryOrLoop r = is aQuery r || is aLoop r
+told queryOrLoop r = isAmong (aQuery ∷ aLoop ∷ []) r
 told math r = is aMathCall r
 
-calls-told : (kind : CallKind) (n : ℕ) (r : Role) → role n ≡ r → calls kind n ≡ told kind r
-calls-told queryOrLoop n r e = role-query n ∙ ap (told queryOrLoop) e
-calls-told math n r e = role-math n ∙ ap (told math) e
-
-uncalled : (kind : CallKind) (n : ℕ) (r : Role) (rs : List Role) → role n ≡ r → allOf (λ r. not (told kind r)) rs ≡ true → isAmong rs r ≡ true
-    → calls kind n ≡ false
-uncalled kind n r rs e h m = calls-told kind n r e ∙ not-true (told kind r) (among rs (λ r. not (told kind r)) h r m)
+calls-told : (kind : CallKind) (n : ℕ) → calls kind n ≡ told kind (role n)
+calls-told queryOrLoop n = role-query n
+calls-told math n = role-math n
 
 uncalled-bracket : (kind : CallKind) (n : ℕ) → role n ≡ aBracket → calls kind n ≡ false
-uncalled-bracket queryOrLoop n e = calls-told queryOrLoop n aBracket e
-uncalled-bracket math n e = calls-told math n aBracket e
+uncalled-bracket queryOrLoop n e = role-query n ∙ ap (told queryOrLoop) e
+uncalled-bracket math n e = role-math n ∙ ap (told math) e
 
 uncalled-joining : (kind : CallKind) (n : ℕ) (r : Role) → role n ≡ r → isJoining r ≡ true → calls kind n ≡ false
-uncalled-joining queryOrLoop n r e j = uncalled queryOrLoop n r joiningRoles e refl j
-uncalled-joining math n r e j = uncalled math n r joiningRoles e refl j
-
-not-bracket : (n : ℕ) (r : Role) (rs : List Role) → role n ≡ r → allOf (λ r. not (is aBracket r)) rs ≡ true → isAmong rs r ≡ true
-    → not (isBracket n) ≡ true
-not-bracket n r rs e h m = ap not (role-bracket n ∙ ap (is aBracket) e) ∙ among rs (λ r. not (is aBracket r)) h r m
+uncalled-joining queryOrLoop = ruled-out (calls queryOrLoop) (told queryOrLoop) role-query joiningRoles refl
+uncalled-joining math = ruled-out (calls math) (told math) role-math joiningRoles refl
 
 module _ (kind : CallKind) where
   abbrev level : Level Gathered
@@ -130,7 +122,7 @@ settles k q d r f = walk-on (callLevel queryOrLoop) (gathered d) (waiting d k) k
         (rw (not-true (isBracket (b .op)) (unfold noBracket in f), callStep) refl)
 
 leaf-settles : (kind : CallKind) (k : Token) (r : Role) → role (k .op) ≡ r → isLeaf r ≡ true → Carried kind (node k nil) (node k nil)
-leaf-settles math k r e l = carry math k nil nil (uncalled math (k .op) r leafRoles e refl l) (gathers math .begins)
+leaf-settles math k r e l = carry math k nil nil (ruled-out (calls math) (is aMathCall) role-math leafRoles refl (k .op) r e l) (gathers math .begins)
 leaf-settles queryOrLoop k r e l = either (calls queryOrLoop (k .op)) (settles k) (λ q. carry queryOrLoop k nil nil q (gathers queryOrLoop .begins))
 
 take-bracket : (kind : CallKind) (b : Token) (cs cs' : Forest) → isBracket (b .op) ≡ true → (callable kind (bracketed nothing) ≡ false → Filled cs)
@@ -156,7 +148,8 @@ called-takes math r s m p t =
     let b : isBracketed s ≡ true = (rw m at v) in rw b refl
 called-takes queryOrLoop r s m p t =
     let u = and-eq-true-iff (isOperand s && (not (is aMathCall r) || isBracketed s)) (not (is aQuery r) || isFilledBracket s) .0 t .1 in
-    let q = or-only-first (is aQuery r) (is aLoop r) (not-true (is aLoop r) (among prefixRoles (λ r. not (is aLoop r)) refl r p)) m in
+    let l = not-true (is aLoop r) (among prefixRoles (λ r. not (is aLoop r)) refl r p) in
+    let q = or-only-first (is aQuery r) (is aLoop r || false) (rw l refl) m in
     filled-bracket s (rw q at u)
   where
     filled-bracket : (s : Sort) → isFilledBracket s ≡ true → callable queryOrLoop s ≡ true
@@ -189,14 +182,15 @@ module _ (σ : ℕ → Bool) (kind : CallKind) (w : Uncalled σ kind) where
   called (before {s} k r e p t x) =
       record {
         carried = carry-ahead kind (σ (k .op)) (calls kind (k .op)) k (form σ x) (form σ' x) refl (w .flat (k .op)) (called x .carried)
-            (λ c. called x .taken (called-takes kind r s (sym (calls-told kind (k .op) r e) ∙ c) p t));
+            (λ c. called x .taken (called-takes kind r s (sym (calls-told kind (k .op) ∙ ap (told kind) e) ∙ c) p t));
         taken = λ h. absurd (false≢true h);
       }
   called (between k r e j l m x y) =
       record {
         carried = carry-amid kind (σ (k .op)) (calls kind (k .op)) k (form σ x) (form σ' x) (form σ y) (form σ' y)
             (w .unjoined (k .op) (ap isJoining e ∙ j)) refl
-            (uncalled-joining kind (k .op) r e j) (not-bracket (k .op) r joiningRoles e refl j) (called x .carried) (turned-form σ' x)
+            (uncalled-joining kind (k .op) r e j) (ap not (ruled-out isBracket (is aBracket) role-bracket joiningRoles refl (k .op) r e j))
+            (called x .carried) (turned-form σ' x)
             (called y .carried);
         taken = λ h. absurd (false≢true h);
       }

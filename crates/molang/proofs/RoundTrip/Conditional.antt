@@ -5,6 +5,7 @@ use mathlib.Core.Bool.{Bool, true, false, _||_, not, true≢false, false≢true,
 use mathlib.Core.List.{[], _∷_}
 use mathlib.Core.Option.{none, some, Option·some-ne-none}
 use lib.Dec.{eqb}
+use borrow.Author.Tests.{not-true}
 use Rattle.molang.specs.Operator
 use Rattle.molang.specs.Operator.{any, isOneOf}
 use Rattle.molang.specs.Forest.{Token, Forest, nil, node, turnedOnto, inOrder}
@@ -13,7 +14,7 @@ use Rattle.molang.specs.Level.{walk}
 use Rattle.molang.specs.Conditional.{isToken, startsWith, under, pairElse, scan, foldedFrom, dangling, undangled, conditionalStep, conditionalFinish, conditionalLevel}
 use Rattle.molang.proofs.Booleans.{either, never}
 use Rattle.molang.proofs.Forests.{Turns, inOrder-turned}
-use Rattle.molang.proofs.RoundTrip.Role.{Role, aBracket, aComma, aQuestion, aColon, is, is-same, among, role, role-question, role-colon, op-of-question, op-of-colon}
+use Rattle.molang.proofs.RoundTrip.Role.{Role, aBracket, aComma, aQuestion, aColon, is, is-same, isAmong, among, role, role-conditional, role-question, role-colon, op-of-question, op-of-colon}
 use Rattle.molang.proofs.RoundTrip.Expression.{Sort, nothing, atom, prefixed, bracketed, joinedBy, Exp, empty, leaf, bracket, before, between, isOperand, isJoinedBy, isWhole, leafRoles, prefixRoles, isLeaf, isPrefix, isJoining, takes, joinsLeft, joinsRight, excepted, operand-only, ahead, amid, form, also, turned-form, Solid, operand-solid, takes-operand}
 use Rattle.molang.proofs.RoundTrip.Walk.{Gathers, Carries, Passes, carry-both, carry-node, carry-token}
 
@@ -123,9 +124,9 @@ fold-pair q c hx x hy y hz z e n h = ap undangled folds ∙ undangled-calm (node
 
 -- Neither a `?` nor a `:`.
 abbrev isOther : Role → Bool
-isOther r = not (is aQuestion r || is aColon r)
+isOther r = not (isAmong (aQuestion ∷ aColon ∷ []) r)
 
-other-neither : (a b : Bool) → not (a || b) ≡ true → (a ≡ false) × (b ≡ false)
+other-neither : (a b : Bool) → not (a || (b || false)) ≡ true → (a ≡ false) × (b ≡ false)
 other-neither true b h = absurd (false≢true h)
 other-neither false true h = absurd (false≢true h)
 other-neither false false h = (refl, refl)
@@ -152,7 +153,7 @@ fold-right q hx x M G e (two c n m hy y hz z was is-now) = rw (was nil, is-now n
 
 -- Lists in which no conditional stands flat.
 abbrev isCalm : Sort → Bool
-isCalm s = not (isJoinedBy aQuestion s || isJoinedBy aColon s)
+isCalm s = not (isJoinedBy aQuestion s || (isJoinedBy aColon s || false))
 
 operand-calm : (s : Sort) → isOperand s ≡ true → isCalm s ≡ true
 operand-calm nothing h = refl
@@ -277,9 +278,7 @@ module _ (σ : ℕ → Bool) (w : Unpaired σ) where
   calm-ahead false false k M G n t c = record { stays = λ r. ap (node k nil) (c .stays r); free = λ r. t nil (G r) ∙ c .free r }
 
   unconditional : (n : ℕ) (r : Role) → role n ≡ r → isOther r ≡ true → conditionals n ≡ false
-  unfolding isOneOf any
-  unconditional n r e h = let o = other-neither (is aQuestion r) (is aColon r) h in rw
-      (role-question n ∙ ap (is aQuestion) e ∙ o .0, role-colon n ∙ ap (is aColon) e ∙ o .1) refl
+  unconditional n r e h = role-conditional n ∙ ap (isAmong (aQuestion ∷ aColon ∷ [])) e ∙ not-true (isAmong (aQuestion ∷ aColon ∷ []) r) h
 
   paired-before : {s : Sort} (k : Token) (r : Role) (e : role (k .op) ≡ r) (p : isPrefix r ≡ true) (t : takes r s ≡ true) (x : Exp s) → Paired x
       → Paired (before k r e p t x)
@@ -388,7 +387,8 @@ module _ (σ : ℕ → Bool) (w : Unpaired σ) where
             (conditional-op (k .op) Operator.conditional o refl) (ap (λ (n : ℕ). eqb n Operator.conditional) o) c left
             (solid (ap (is aComma) (sym (is-same aQuestion r q))))
             (n .right (rw (and-true (isJoinedBy aColon t)) at (excepted (isOperand t) (isJoinedBy aColon t) (is aQuestion r) true m (λ h. refl)))))
-            (λ q. let d = calm (rw q h) in finish-calm (amid (σ (k .op)) k (form σ x) (form σ y)) (amid (σ (k .op)) k (mid x) (mid y))
+            (λ q. let d = calm (rw (q, not-true (is aColon r) h) refl) in
+            finish-calm (amid (σ (k .op)) k (form σ x) (form σ y)) (amid (σ (k .op)) k (mid x) (mid y))
             (amid (σ' (k .op)) k (form σ' x) (form σ' y) nil) c (d .stays nil) (d .free nil ∙ none-left));
       }
 

@@ -22,7 +22,7 @@ use Rattle.molang.specs.Read.{rooted, grouped, uses}
 use Rattle.molang.specs.Write.{closerFor}
 use Rattle.molang.proofs.Booleans.{either, never, or-first, or-second, or-neither, or-only-first}
 use Rattle.molang.proofs.Computed.{computed}
-use Rattle.molang.proofs.RoundTrip.Role.{Role, aQuery, aMathCall, aBracket, aCloser, aMinus, aNot, aLoop, another, is, is-same, isUnwritten, among, role, role-above, none-below, role-bracket, role-query, role-math, role-minus, role-not}
+use Rattle.molang.proofs.RoundTrip.Role.{Role, aQuery, aMathCall, aBracket, aCloser, aMinus, aNot, aLoop, another, is, is-same, isUnwritten, isAmong, among, role, role-above, none-below, role-bracket, role-query, role-math, role-prefix}
 use Rattle.molang.proofs.RoundTrip.Expression.{Sort, Exp, empty, leaf, bracket, before, between, isWhole, leafRoles, prefixRoles, joiningRoles, isPrefix, isJoining, tokens, ahead, amid, form, also}
 use Rattle.molang.proofs.RoundTrip.Sections.{nothingYet, section-pass}
 use Rattle.molang.proofs.RoundTrip.Calls.{Uncalled, call-pass}
@@ -327,11 +327,11 @@ module _ {s : Sort} (e : Exp s) (w : isWhole s ≡ true) where
   not-yet σ test h n p t = not-true (σ n) (or-only-first (not (σ n)) (not (test n)) (ap not t) (below-all (λ n. not (σ n) || not (test n)) h n p))
 
   plays-call : (kind : CallKind) (n : ℕ) → calls kind n ≡ true → is another (role n) ≡ false
-  plays-call queryOrLoop = plays-told (calls queryOrLoop) (λ r. is aQuery r || is aLoop r) role-query refl
+  plays-call queryOrLoop = plays-told (calls queryOrLoop) (isAmong (aQuery ∷ aLoop ∷ [])) role-query refl
   plays-call math = plays-told (calls math) (is aMathCall) role-math refl
 
   plays-prefix : (n : ℕ) → prefixes n ≡ true → is another (role n) ≡ false
-  plays-prefix = plays-told prefixes (λ r. is aMinus r || (is aNot r || false)) (λ n. unfold isOneOf any in rw (role-minus n, role-not n) refl) refl
+  plays-prefix = plays-told prefixes (isAmong (aMinus ∷ aNot ∷ [])) role-prefix refl
 
   uncalled : (σ : ℕ → Bool) (kind : CallKind) → below (λ n. not (σ n) || not (calls kind n || isJoining (role n))) ≡ true → Uncalled σ kind
   uncalled σ kind h = record {

@@ -142,13 +142,17 @@ pub role-bracket : (n : ℕ) → isBracket n ≡ is aBracket (role n)
 unfolding computed role
 role-bracket = by-role isBracket (is aBracket) refl (not-one 4 (lit< tt))
 
-pub role-minus : (n : ℕ) → eqb n Operator.negate ≡ is aMinus (role n)
+pub role-prefix : (n : ℕ) → isOneOf (Operator.negate ∷ Operator.logicalNot ∷ []) n ≡ isAmong (aMinus ∷ aNot ∷ []) (role n)
 unfolding computed role
-role-minus = by-role (λ n. eqb n Operator.negate) (is aMinus) refl (not-one 6 (lit< tt))
+role-prefix =
+    by-role (isOneOf (Operator.negate ∷ Operator.logicalNot ∷ [])) (isAmong (aMinus ∷ aNot ∷ [])) refl
+    (λ n l. rw (not-one 6 (lit< tt) n l, not-one 7 (lit< tt) n l) refl)
 
-pub role-not : (n : ℕ) → eqb n Operator.logicalNot ≡ is aNot (role n)
+pub role-conditional : (n : ℕ) → isOneOf (Operator.conditional ∷ Operator.conditionalElse ∷ []) n ≡ isAmong (aQuestion ∷ aColon ∷ []) (role n)
 unfolding computed role
-role-not = by-role (λ n. eqb n Operator.logicalNot) (is aNot) refl (not-one 7 (lit< tt))
+role-conditional =
+    by-role (isOneOf (Operator.conditional ∷ Operator.conditionalElse ∷ [])) (isAmong (aQuestion ∷ aColon ∷ [])) refl
+    (λ n l. rw (not-one 59 (lit< tt) n l, not-one 60 (lit< tt) n l) refl)
 
 pub role-comma : (n : ℕ) → eqb n Operator.comma ≡ is aComma (role n)
 unfolding computed role
@@ -178,9 +182,9 @@ pub role-math : (n : ℕ) → calls math n ≡ is aMathCall (role n)
 unfolding computed role
 role-math = by-role (calls math) (is aMathCall) refl no-math
 
-pub role-query : (n : ℕ) → calls queryOrLoop n ≡ (is aQuery (role n) || is aLoop (role n))
+pub role-query : (n : ℕ) → calls queryOrLoop n ≡ isAmong (aQuery ∷ aLoop ∷ []) (role n)
 unfolding computed role
-role-query = by-role (calls queryOrLoop) (λ r. is aQuery r || is aLoop r) refl
+role-query = by-role (calls queryOrLoop) (isAmong (aQuery ∷ aLoop ∷ [])) refl
     (λ n l. rw (not-one 40 (lit< tt) n l, not-one 67 (lit< tt) n l, not-one 68 (lit< tt) n l) refl)
 
 pub role-call : (n : ℕ) → isCall n ≡ isAmong (aQuery ∷ aMathCall ∷ []) (role n)
@@ -218,6 +222,11 @@ unfolding computed role
 role-single =
     by-role (isOneOf (Operator.leftParenthesis ∷ Operator.negate ∷ Operator.logicalNot ∷ [])) (isAmong (aBracket ∷ aMinus ∷ aNot ∷ [])) refl
     (λ n l. rw (not-one 4 (lit< tt) n l, not-one 6 (lit< tt) n l, not-one 7 (lit< tt) n l) refl)
+
+-- A test that a role tells fails of every operator whose role it does not tell.
+pub ruled-out : (test : ℕ → Bool) (told : Role → Bool) → ((n : ℕ) → test n ≡ told (role n)) → (rs : List Role) → allOf (λ r. not (told r)) rs ≡ true
+    → (n : ℕ) (r : Role) → role n ≡ r → isAmong rs r ≡ true → test n ≡ false
+ruled-out test told law rs h n r e m = law n ∙ ap told e ∙ not-true (told r) (among rs (λ r. not (told r)) h r m)
 
 -- The operator of a role that only one plays.
 pub op-of-comma : (n : ℕ) (r : Role) → role n ≡ r → is aComma r ≡ true → n ≡ Operator.comma

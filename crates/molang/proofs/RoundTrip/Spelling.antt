@@ -18,7 +18,7 @@ use Rattle.molang.proofs.Computed.{computed}
 use Rattle.molang.proofs.PlainTrees.{plain-parts}
 use Rattle.molang.proofs.TakingAway.{taken-later, taken-kept, taken-call, taken-bracket}
 use Rattle.molang.proofs.Writing.{written-none, written-one}
-use Rattle.molang.proofs.RoundTrip.Role.{Role, aQuery, aMathCall, aBracket, aMinus, aNot, aBinary, aComma, aQuestion, aColon, is, is-same, isAmong, allOf, among, role, role-bracket, role-comma, role-question, role-colon, role-math, role-call, role-leaf, role-binary, role-single}
+use Rattle.molang.proofs.RoundTrip.Role.{Role, aQuery, aMathCall, aBracket, aMinus, aNot, aBinary, aComma, aQuestion, aColon, is, is-same, isAmong, allOf, among, role, role-bracket, role-comma, role-question, role-colon, role-math, role-call, role-leaf, role-binary, role-single, ruled-out}
 use Rattle.molang.proofs.RoundTrip.Expression.{Sort, nothing, atom, prefixed, bracketed, joinedBy, Exp, empty, leaf, bracket, before, between, isOperand, isJoinedBy, isWhole, isFilled, isBracketed, isFilledBracket, leafRoles, prefixRoles, joiningRoles, isLeaf, isPrefix, isJoining, takes, joinsLeft, joinsRight, tokens, ahead, amid, form, Solid}
 use Rattle.molang.proofs.RoundTrip.Order.{everything}
 
@@ -102,33 +102,38 @@ abbrev binaryRoles : List Role
 binaryRoles = aBinary ∷ aComma ∷ aQuestion ∷ []
 
 -- What the role tells of a token.
+no-bracket : (rs : List Role) → allOf (λ r. not (is aBracket r)) rs ≡ true → (n : ℕ) (r : Role) → role n ≡ r → isAmong rs r ≡ true
+    → isBracket n ≡ false
+no-bracket = ruled-out isBracket (is aBracket) role-bracket
+
+no-comma : (rs : List Role) → allOf (λ r. not (is aComma r)) rs ≡ true → (n : ℕ) (r : Role) → role n ≡ r → isAmong rs r ≡ true
+    → eqb n Operator.comma ≡ false
+no-comma = ruled-out (λ n. eqb n Operator.comma) (is aComma) role-comma
+
+no-colon : (rs : List Role) → allOf (λ r. not (is aColon r)) rs ≡ true → (n : ℕ) (r : Role) → role n ≡ r → isAmong rs r ≡ true
+    → eqb n Operator.conditionalElse ≡ false
+no-colon = ruled-out (λ n. eqb n Operator.conditionalElse) (is aColon) role-colon
+
+no-call : (rs : List Role) → allOf (λ r. not (isAmong callRoles r)) rs ≡ true → (n : ℕ) (r : Role) → role n ≡ r → isAmong rs r ≡ true
+    → isCall n ≡ false
+no-call = ruled-out isCall (isAmong callRoles) role-call
+
 unlike : (a : Role) (rs : List Role) → allOf (λ r. not (is a r)) rs ≡ true → (r : Role) → isAmong rs r ≡ true → is a r ≡ false
 unlike a rs h r m = not-true (is a r) (among rs (λ r. not (is a r)) h r m)
-
-no-bracket : (n : ℕ) (r : Role) (rs : List Role) → role n ≡ r → allOf (λ r. not (is aBracket r)) rs ≡ true → isAmong rs r ≡ true → isBracket n ≡ false
-no-bracket n r rs e h m = role-bracket n ∙ ap (is aBracket) e ∙ unlike aBracket rs h r m
-
-no-comma : (n : ℕ) (r : Role) (rs : List Role) → role n ≡ r → allOf (λ r. not (is aComma r)) rs ≡ true → isAmong rs r ≡ true
-    → eqb n Operator.comma ≡ false
-no-comma n r rs e h m = role-comma n ∙ ap (is aComma) e ∙ unlike aComma rs h r m
-
-no-colon : (n : ℕ) (r : Role) (rs : List Role) → role n ≡ r → allOf (λ r. not (is aColon r)) rs ≡ true → isAmong rs r ≡ true
-    → eqb n Operator.conditionalElse ≡ false
-no-colon n r rs e h m = role-colon n ∙ ap (is aColon) e ∙ unlike aColon rs h r m
 
 spell-leaf : (p : Place) (k : Token) (r : Role) → role (k .op) ≡ r → isLeaf r ≡ true → Spelled p k nil
 unfolding tokens written form standsAlone
 spell-leaf p k r e l = record {
   sort = atom;
   exp = leaf k r e l;
-  spells = λ t. sym (written-none false k t (no-bracket (k .op) r leafRoles e refl l));
+  spells = λ t. sym (written-none false k t (no-bracket leafRoles refl (k .op) r e l));
   strips = λ c R. refl;
   filled = refl;
   alone = refl;
-  comma = no-comma (k .op) r leafRoles e refl l;
-  colon = no-colon (k .op) r leafRoles e refl l;
+  comma = no-comma leafRoles refl (k .op) r e l;
+  colon = no-colon leafRoles refl (k .op) r e l;
   placed = λ h. absurd (false≢true h);
-  bracketing = no-bracket (k .op) r leafRoles e refl l;
+  bracketing = no-bracket leafRoles refl (k .op) r e l;
   full = λ h n. absurd (false≢true h);
 }
 
@@ -178,7 +183,7 @@ spell-before : (p : Place) (k x : Token) (xs : Forest) (r : Role) → role (k .o
     → (not (isCall (k .op)) || standsAlone x xs) ≡ true → Spelled p k (node x xs nil)
 unfolding tokens written form ahead standsAlone
 spell-before p k x xs r e i y c =
-    let b = no-bracket (k .op) r prefixRoles e refl i in
+    let b = no-bracket prefixRoles refl (k .op) r e i in
     record {
       sort = prefixed;
       exp = before k r e i (y .fits) (y .exp);
@@ -187,8 +192,8 @@ spell-before p k x xs r e i y c =
           ∙ ap (λ (f : Forest). node k f R) (y .strips (isCall (k .op)) c nil) ∙ sym (taken-kept inCall k (node x xs nil) R b);
       filled = refl;
       alone = b;
-      comma = no-comma (k .op) r prefixRoles e refl i;
-      colon = no-colon (k .op) r prefixRoles e refl i;
+      comma = no-comma prefixRoles refl (k .op) r e i;
+      colon = no-colon prefixRoles refl (k .op) r e i;
       placed = λ h. absurd (false≢true h);
       bracketing = b;
       full = λ h n. absurd (false≢true h);
@@ -199,9 +204,8 @@ spell-between : (p : Place) (k x : Token) (xs : Forest) (y : Token) (ys : Forest
     → Part (joinsLeft r) (standsLeft k x xs) x xs → Part (joinsRight r) (standsRight k y ys) y ys → Spelled p k (node x xs (node y ys nil))
 unfolding tokens written form amid standsAlone
 spell-between p k x xs y ys r e j c a z =
-    let b = no-bracket (k .op) r joiningRoles e refl j in
-    let q : isCall (k .op) ≡ false = role-call (k .op) ∙ ap (isAmong callRoles) e
-    ∙ not-true (isAmong callRoles r) (among joiningRoles (λ r. not (isAmong callRoles r)) refl r j) in
+    let b = no-bracket joiningRoles refl (k .op) r e j in
+    let q = no-call joiningRoles refl (k .op) r e j in
     record {
       sort = joinedBy r;
       exp = between k r e j (a .fits) (z .fits) (a .exp) (z .exp);
@@ -288,8 +292,7 @@ spell-prefix : (p : Place) (k x : Token) (xs : Forest) → isAmong (aMinus ∷ a
     → Spelled p k (node x xs nil)
 spell-prefix p k x xs h y =
     let r = role (k .op) in
-    let c : isCall (k .op) ≡ false = role-call (k .op) ∙ not-true (isAmong callRoles r)
-    (among (aMinus ∷ aNot ∷ []) (λ r. not (isAmong callRoles r)) refl r h) in
+    let c = no-call (aMinus ∷ aNot ∷ []) refl (k .op) r refl h in
     spell-before p k x xs r refl (among (aMinus ∷ aNot ∷ []) isPrefix refl r h)
     (part (takes r) (standsAlone x xs) (placeUnder k 0) x xs y (λ t. prefix-takes r h (y .sort) (sym (y .alone) ∙ t)) (λ t. whole-left k x xs y)
     (λ t. prefix-takes r h (bracketed (y .sort)) refl))
@@ -353,9 +356,8 @@ spell-one p k x xs h y = split (isBracket (k .op)) (isCall (k .op)) refl refl
   where
     call-single : isCall (k .op) ≡ true → isOneOf (Operator.leftParenthesis ∷ Operator.negate ∷ Operator.logicalNot ∷ []) (k .op) ≡ false
     call-single c =
-        role-single (k .op)
-        ∙ not-true (isAmong singleRoles (role (k .op))) (among callRoles (λ r. not (isAmong singleRoles r)) refl (role (k .op))
-        (sym (role-call (k .op)) ∙ c))
+        ruled-out (isOneOf (Operator.leftParenthesis ∷ Operator.negate ∷ Operator.logicalNot ∷ [])) (isAmong singleRoles) role-single callRoles refl
+        (k .op) (role (k .op)) refl (sym (role-call (k .op)) ∙ c)
 
     split : (b c : Bool) → isBracket (k .op) ≡ b → isCall (k .op) ≡ c → Spelled p k (node x xs nil)
     split true c m n =

@@ -5,13 +5,12 @@ use mathlib.Core.Bool.{Bool, true, false, _||_, not, true≢false, false≢true}
 use mathlib.Core.List.{List, [], _∷_}
 use mathlib.Core.Option.{Option, none, some}
 use lib.Dec.{eqb}
-use borrow.Author.Tests.{not-true}
 use Rattle.molang.specs.Operator
 use Rattle.molang.specs.Operator.{any, isOneOf}
 use Rattle.molang.specs.Forest.{Token, Forest, nil, node}
 use Rattle.molang.specs.Message.{ok}
 use Rattle.molang.specs.Unary.{done, minusAfter, notBefore, unaryLeaf, turned, unaryNode, unary, unaryPass}
-use Rattle.molang.proofs.RoundTrip.Role.{Role, aBracket, aMinus, aNot, is, isAmong, allOf, among, role, role-minus, role-not}
+use Rattle.molang.proofs.RoundTrip.Role.{Role, aBracket, aMinus, aNot, isAmong, allOf, role, role-prefix, ruled-out}
 use Rattle.molang.proofs.RoundTrip.Expression.{Sort, nothing, atom, prefixed, bracketed, joinedBy, Exp, empty, leaf, bracket, before, between, isOperand, leafRoles, joiningRoles, joinsLeft, joinsRight, ahead, amid, form, also, Solid, operand-solid, takes-operand}
 
 abbrev pub prefixes : ℕ → Bool
@@ -116,17 +115,9 @@ bind-amid true false k s X X' Y Y' q n x t y r R h p = keep k (X (Y nil)) (X' (Y
 bind-amid false false k s X X' Y Y' q n x t y r R h p = x (node k nil (Y r)) (node k nil (Y' R))
     (keep k nil nil (Y r) (Y' R) q (settled-nil none) (y r R h)) p (t p)
 
-unbound : (n : ℕ) (r : Role) (rs : List Role) → role n ≡ r → allOf (λ r. not (is aMinus r || is aNot r)) rs ≡ true → isAmong rs r ≡ true
+unbound : (rs : List Role) → allOf (λ r. not (isAmong (aMinus ∷ aNot ∷ []) r)) rs ≡ true → (n : ℕ) (r : Role) → role n ≡ r → isAmong rs r ≡ true
     → prefixes n ≡ false
-unfolding isOneOf any
-unbound n r rs e h m =
-    let u = not-true (is aMinus r || is aNot r) (among rs (λ r. not (is aMinus r || is aNot r)) h r m) in
-    rw (role-minus n, role-not n, e) (or-last (is aMinus r) (is aNot r) u)
-  where
-    or-last : (a b : Bool) → (a || b) ≡ false → (a || (b || false)) ≡ false
-    or-last true b h = h
-    or-last false true h = h
-    or-last false false h = h
+unbound = ruled-out prefixes (isAmong (aMinus ∷ aNot ∷ [])) role-prefix
 
 operand-stands : (s : Sort) (p : Option Token) → isOperand s ≡ true → stands s p ≡ true
 operand-stands nothing p h = refl
@@ -142,15 +133,15 @@ module _ (σ : ℕ → Bool) (w : Unbound σ) where
   binds : {s : Sort} (e : Exp s) → Binds s (form σ e) (form σ' e)
   unfolding form also
   binds empty r R s p h = s p
-  binds (leaf k q e l) r R s p h = keep k nil nil r R (unbound (k .op) q leafRoles e refl l) (settled-nil none) s p
+  binds (leaf k q e l) r R s p h = keep k nil nil r R (unbound leafRoles refl (k .op) q e l) (settled-nil none) s p
   binds (bracket {s = t} k e c x) r R s p h =
-      keep k (form σ x nil) (form σ' x nil) r R (unbound (k .op) aBracket (aBracket ∷ []) e refl refl) (whole t (form σ x) (form σ' x) (binds x)) s p
+      keep k (form σ x nil) (form σ' x nil) r R (unbound (aBracket ∷ []) refl (k .op) aBracket e refl) (whole t (form σ x) (form σ' x) (binds x)) s p
   binds (before {s = t} k q e c u x) r R s p h =
       let o = takes-operand q t u in
       bind-ahead (σ (k .op)) (prefixes (k .op)) k (form σ x) (form σ' x) refl (w .flat (k .op))
       (λ r R s p. binds x r R s p (operand-stands t p o)) (operand-solid σ' x o) r R s p h
   binds (between {s = t} {t = u} k q e j l m x y) r R s p h =
-      bind-amid (σ (k .op)) (prefixes (k .op)) k t (form σ x) (form σ' x) (form σ y) (form σ' y) refl (unbound (k .op) q joiningRoles e refl j)
+      bind-amid (σ (k .op)) (prefixes (k .op)) k t (form σ x) (form σ' x) (form σ y) (form σ' y) refl (unbound joiningRoles refl (k .op) q e j)
       (binds x) (λ p. stands-left q t p l) (λ r R s p. binds y r R s p (stands-right q u p m)) r R s p
 
   pub unary-pass : {s : Sort} (e : Exp s) → unaryPass (form σ e nil) ≡ ok (form (also σ prefixes) e nil)
