@@ -3,9 +3,10 @@
 use Prim.Native.Nat.{ℕ, _<_}
 use mathlib.Core.Path.{_≡_, refl, ap, sym, _∙_, fun-ext}
 use mathlib.Core.Bool.{Bool, true, false, _||_, _&&_, not, true≢false, false≢true, and-eq-true-iff, or-false}
-use mathlib.Core.List.{List, [], _∷_, _++_}
+use mathlib.Core.List.{List, [], _∷_}
 use native.Mathlib.Omega.{arith}
 use lib.Dec.{eqb, leb}
+use lib.ListN.{drop}
 use borrow.Author.Tests.{eqb-true, eq-eqb, ne-eqb, leb-true, leb-false, not-true, not-false}
 use Rattle.molang.specs.Operator
 use Rattle.molang.specs.Operator.{any, isOneOf, isBracket, isMathCall}
@@ -16,8 +17,7 @@ use Rattle.molang.specs.Level as Levels
 use Rattle.molang.specs.Calls.{CallKind, queryOrLoop, math, calls, callLevel}
 use Rattle.molang.specs.Binary.{binaryLevel}
 use Rattle.molang.specs.Conditional.{conditionalLevel}
-use Rattle.molang.specs.Order.{Rules, Pass, lastToken, memberAccessors, sectioning, callPass, statements, arrays, pointer, mathCalls, unaryMinusAndNot, addition, ternary, returns, binary, comparisons, logic, order, someBelow, runs, apply}
-use Rattle.molang.specs.Order as Definition
+use Rattle.molang.specs.Order.{Rules, Pass, lastToken, memberAccessors, sectioning, callPass, statements, arrays, pointer, mathCalls, unaryMinusAndNot, addition, ternary, returns, binary, order, someBelow, runs, apply}
 use Rattle.molang.specs.Read.{rooted, grouped, uses}
 use Rattle.molang.specs.Write.{closerFor}
 use Rattle.molang.proofs.Booleans.{either, never, or-first, or-second, or-neither, or-only-first}
@@ -104,15 +104,15 @@ allReady σ [] = true
 allReady σ (p ∷ ps) = ready σ p && allReady (also σ (folds p)) ps
 
 -- The passes after the section pass.
-abbrev laterPasses : Bool → Bool → Bool → List Pass
-laterPasses comparisonsFirst andFirst pairsRight =
-    callPass ∷ statements ∷ arrays ∷ pointer ∷ mathCalls ∷ unaryMinusAndNot ∷ binary (Operator.div ∷ []) ∷ binary (Operator.mul ∷ []) ∷ addition
-    ∷ (comparisons comparisonsFirst ++ (logic andFirst ++ (Definition.conditionals pairsRight
-    ++ (binary (Operator.nullCoalescing ∷ []) ∷ binary (Operator.comma ∷ []) ∷ binary (Operator.assignment ∷ []) ∷ returns ∷ []))))
+laterPasses : Rules → List Pass
+laterPasses r = drop 3 (order r)
+
+abbrev ruled : Bool → Bool → Bool → Rules
+ruled c a p = record { comparisonsFirst = c; andFirst = a; pairsRight = p }
 
 -- Each order is in order, and folds every operator of an expression.
-in-order : (c a p : Bool) → allReady nothingYet (laterPasses c a p) ≡ true
-unfolding computed role allReady ready folds also below each flatJoining isForeign
+in-order : (c a p : Bool) → allReady nothingYet (laterPasses (ruled c a p)) ≡ true
+unfolding computed role laterPasses allReady ready folds also below each flatJoining isForeign
 in-order true true true = refl
 in-order true true false = refl
 in-order true false true = refl
@@ -125,8 +125,8 @@ in-order false false false = refl
 foldable : Role → Bool
 foldable r = isPrefix r || isJoining r
 
-complete : (c a p : Bool) → below (λ n. not (foldable (role n)) || afterAll nothingYet (laterPasses c a p) n) ≡ true
-unfolding computed role afterAll folds also below foldable
+complete : (c a p : Bool) → below (λ n. not (foldable (role n)) || afterAll nothingYet (laterPasses (ruled c a p)) n) ≡ true
+unfolding computed role laterPasses afterAll folds also below foldable
 complete true true true = refl
 complete true true false = refl
 complete true false true = refl
@@ -246,12 +246,12 @@ plays-told : (test : ℕ → Bool) (told : Role → Bool) → ((n : ℕ) → tes
     → is another (role n) ≡ false
 plays-told test told law o n h = never (is another (role n)) (λ p. true≢false (sym h ∙ law n ∙ ap told (sym (is-same another (role n) p)) ∙ o))
 
-final : (c a p : Bool) (n : ℕ) (r : Role) → role n ≡ r → (isPrefix r || isJoining r) ≡ true → afterAll nothingYet (laterPasses c a p) n ≡ true
+final : (c a p : Bool) (n : ℕ) (r : Role) → role n ≡ r → (isPrefix r || isJoining r) ≡ true → afterAll nothingYet (laterPasses (ruled c a p)) n ≡ true
 unfolding foldable
 final c a p n r e h =
     let f : foldable (role n) ≡ true = ap foldable e ∙ h in
     let plays = plays-told (λ n. foldable (role n)) foldable (λ n. refl) refl n f in
-    rw f at (below-all (λ n. not (foldable (role n)) || afterAll nothingYet (laterPasses c a p) n) (complete c a p) n plays)
+    rw f at (below-all (λ n. not (foldable (role n)) || afterAll nothingYet (laterPasses (ruled c a p)) n) (complete c a p) n plays)
 
 -- The operators that the call pass asks for (`runs`).
 abbrev callStarts : List ℕ
@@ -407,9 +407,9 @@ module _ {s : Sort} (e : Exp s) (w : isWhole s ≡ true) where
 
   pub reading : (r : Rules) (sourceLength : ℕ) → grouped sourceLength (uses (tokens e [])) (order r) []
       (leaves (tokens e [])) ≡ rooted sourceLength [] (form everything e nil)
-  unfolding order u runs
+  unfolding order laterPasses u runs
   reading r len =
-      let ps = laterPasses (r .comparisonsFirst) (r .andFirst) (r .pairsRight) in
+      let ps = laterPasses r in
       skipped len lastToken (memberAccessors ∷ sectioning ∷ ps) (leaves (tokens e []))
       (any-foreign u unknown (Operator.assignment ∷ Operator.semicolon ∷ []) (unfold each isForeign computed role in refl))
       ∙ skipped len memberAccessors (sectioning ∷ ps) (leaves (tokens e []))
