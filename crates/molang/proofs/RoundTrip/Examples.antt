@@ -133,15 +133,21 @@ remains =
     left (over Operator.conditional 9 firstInPair nil) ∷ left (over Operator.conditional 5 (secondInPair orInPair) nil)
     ∷ left (over Operator.conditional 5 (secondInPair andInPair) nil) ∷ []
 
-agree-again : remains ≡ over Operator.conditional 9 pairedLeft nil ∷ over Operator.conditional 5
-    (pairedRight orFirst) nil ∷ over Operator.conditional 5 (pairedRight andFirst) nil ∷ []
+agree-again : remains ≡
+    over Operator.conditional 9 pairedLeft nil
+    ∷ over Operator.conditional 5 (pairedRight orFirst) nil
+    ∷ over Operator.conditional 5 (pairedRight andFirst) nil
+    ∷ []
 unfolding computed remains
 agree-again = refl
 
--- Which tokens are written, by their operators.
+-- Which tokens are written, by their operators; 36 is a math call.
 operators : List Token → List ℕ
 operators [] = []
 operators (k ∷ ks) = k .op ∷ operators ks
+
+abbrev mathCall : ℕ
+mathCall = 36
 
 abbrev a : Forest → Forest
 a rest = leaf 0 rest
@@ -149,51 +155,70 @@ a rest = leaf 0 rest
 abbrev sum : Forest → Forest
 sum rest = over Operator.add 1 (a (a nil)) rest
 
-abbrev written-operators : ℕ → Forest → List ℕ
-written-operators o cs = operators (written (at o 1) cs [])
-
-writings : List (List ℕ)
-writings =
-    -- a * (a + a), (a + a) * a
-    written-operators Operator.mul (a (sum nil)) ∷ written-operators Operator.mul (sum (a nil))
-    -- a ? a : a, a , a , a
-    ∷ written-operators Operator.conditional (a (over Operator.conditionalElse 2 (a (a nil)) nil)) ∷ written-operators Operator.comma
-    (over Operator.comma 2 (a (a nil)) (a nil))
-    -- - a, - (a + a), (a) * a
-    ∷ written-operators Operator.negate (a nil) ∷ written-operators Operator.negate (sum nil) ∷ written-operators Operator.mul
-    (over Operator.leftParenthesis 2 (a nil) (a nil))
-    -- q (a + a), sin ()
-    ∷ written-operators Operator.queryFunction (over Operator.leftParenthesis 2 (sum nil) nil) ∷ written-operators 36
-    (over Operator.leftParenthesis 2 nil nil) ∷ []
-
-usual-writing : writings ≡
-    (61 ∷ 31 ∷ 4 ∷ 61 ∷ 9 ∷ 61 ∷ 5 ∷ []) ∷ (4 ∷ 61 ∷ 9 ∷ 61 ∷ 5 ∷ 31 ∷ 61 ∷ [])
-    ∷ (61 ∷ 59 ∷ 61 ∷ 60 ∷ 61 ∷ []) ∷ (61 ∷ 75 ∷ 61 ∷ 75 ∷ 61 ∷ [])
-    ∷ (6 ∷ 61 ∷ []) ∷ (6 ∷ 4 ∷ 61 ∷ 9 ∷ 61 ∷ 5 ∷ []) ∷ (4 ∷ 61 ∷ 5 ∷ 31 ∷ 61 ∷ [])
-    ∷ (40 ∷ 4 ∷ 61 ∷ 9 ∷ 61 ∷ 5 ∷ []) ∷ (36 ∷ 4 ∷ 5 ∷ []) ∷ []
-unfolding computed writings operators
-usual-writing = refl
-
--- What is left with brackets taken away.
 abbrev bracket : ℕ → Forest → Forest → Forest
 bracket i below rest = over Operator.leftParenthesis i below rest
 
+abbrev writes : ℕ → Forest → List ℕ
+writes o below = operators (written (at o 1) below [])
+
+abbrev x : ℕ
+x = Operator.float
+
+abbrev opener : ℕ
+opener = Operator.leftParenthesis
+
+abbrev closer : ℕ
+closer = Operator.rightParenthesis
+
+writings : List (List ℕ)
+writings =
+    writes Operator.mul (a (sum nil))
+    ∷ writes Operator.mul (sum (a nil))
+    ∷ writes Operator.conditional (a (over Operator.conditionalElse 2 (a (a nil)) nil))
+    ∷ writes Operator.comma (over Operator.comma 2 (a (a nil)) (a nil))
+    ∷ writes Operator.negate (a nil)
+    ∷ writes Operator.negate (sum nil)
+    ∷ writes Operator.mul (bracket 2 (a nil) (a nil))
+    ∷ writes Operator.queryFunction (bracket 2 (sum nil) nil)
+    ∷ writes mathCall (bracket 2 nil nil)
+    ∷ []
+
+usual-writing : writings ≡
+    (x ∷ Operator.mul ∷ opener ∷ x ∷ Operator.add ∷ x ∷ closer ∷ [])
+    ∷ (opener ∷ x ∷ Operator.add ∷ x ∷ closer ∷ Operator.mul ∷ x ∷ [])
+    ∷ (x ∷ Operator.conditional ∷ x ∷ Operator.conditionalElse ∷ x ∷ [])
+    ∷ (x ∷ Operator.comma ∷ x ∷ Operator.comma ∷ x ∷ [])
+    ∷ (Operator.negate ∷ x ∷ [])
+    ∷ (Operator.negate ∷ opener ∷ x ∷ Operator.add ∷ x ∷ closer ∷ [])
+    ∷ (opener ∷ x ∷ closer ∷ Operator.mul ∷ x ∷ [])
+    ∷ (Operator.queryFunction ∷ opener ∷ x ∷ Operator.add ∷ x ∷ closer ∷ [])
+    ∷ (mathCall ∷ opener ∷ closer ∷ [])
+    ∷ []
+unfolding computed writings operators
+usual-writing = refl
+
+-- What is left with brackets taken away: of `(a)`, `((a + a))`, `(a) + ((a))`; a call keeps its own bracket, and no other; `(a a)` has two.
 takings : List Forest
 takings =
-    -- (a), ((a + a)), (a) + ((a))
-    left (bracket 2 (a nil) nil) ∷ left (bracket 3 (bracket 2 (sum nil) nil) nil) ∷ left
-    (over Operator.add 1 (bracket 2 (a nil) (bracket 4 (bracket 3 (a nil) nil) nil)) nil)
-    -- q (a), q ((a)), sin (a), sin (): a call keeps its own bracket, and no other
-    ∷ left (over Operator.queryFunction 1 (bracket 2 (a nil) nil) nil) ∷ left
-    (over Operator.queryFunction 1 (bracket 2 (bracket 3 (a nil) nil) nil) nil)
-    ∷ left (over 36 1 (bracket 2 (a nil) nil) nil) ∷ left (over 36 1 (bracket 2 nil nil) nil)
-    -- (a a): two children
-    ∷ left (bracket 2 (a (a nil)) nil) ∷ []
+    left (bracket 2 (a nil) nil)
+    ∷ left (bracket 3 (bracket 2 (sum nil) nil) nil)
+    ∷ left (over Operator.add 1 (bracket 2 (a nil) (bracket 4 (bracket 3 (a nil) nil) nil)) nil)
+    ∷ left (over Operator.queryFunction 1 (bracket 2 (a nil) nil) nil)
+    ∷ left (over Operator.queryFunction 1 (bracket 2 (bracket 3 (a nil) nil) nil) nil)
+    ∷ left (over mathCall 1 (bracket 2 (a nil) nil) nil)
+    ∷ left (over mathCall 1 (bracket 2 nil nil) nil)
+    ∷ left (bracket 2 (a (a nil)) nil)
+    ∷ []
 
 what-is-left : takings ≡
-    a nil ∷ sum nil ∷ sum nil
-    ∷ over Operator.queryFunction 1 (bracket 2 (a nil) nil) nil ∷ over Operator.queryFunction 1 (bracket 2 (a nil) nil) nil
-    ∷ over 36 1 (bracket 2 (a nil) nil) nil ∷ over 36 1 (bracket 2 nil nil) nil
-    ∷ bracket 2 (a (a nil)) nil ∷ []
+    a nil
+    ∷ sum nil
+    ∷ sum nil
+    ∷ over Operator.queryFunction 1 (bracket 2 (a nil) nil) nil
+    ∷ over Operator.queryFunction 1 (bracket 2 (a nil) nil) nil
+    ∷ over mathCall 1 (bracket 2 (a nil) nil) nil
+    ∷ over mathCall 1 (bracket 2 nil nil) nil
+    ∷ bracket 2 (a (a nil)) nil
+    ∷ []
 unfolding computed takings
 what-is-left = refl
