@@ -21,3 +21,9 @@ pub mod Words
 pub mod TreeWords
 pub mod Every
 pub mod Legal
+pub mod Booleans
+pub mod Forests
+pub mod PlainTrees
+pub mod Writing
+pub mod TakingAway
+pub mod RoundTrip

@@ -1,0 +1,224 @@
+-- Computed examples. That demand 3 is not empty: a list with three different trees at 4, 5 and 6, each of which is plain and, once written, is
+-- read alike at all three. And what demand 3 alone would not notice, since it would change both of its sides: how a tree is written, and which
+-- brackets are taken away.
+use Prim.Native.Nat.{ℕ, _+_}
+use mathlib.Core.Path.{_≡_, refl, ap}
+use mathlib.Core.List.{List, [], _∷_}
+use mathlib.Core.Bool.{false}
+use mathlib.Core.Option.{Option, none}
+use native.Mathlib.Omega.{arith}
+use lib.IntN.{pos}
+use Rattle.molang.specs.Operator
+use Rattle.molang.specs.Forest.{Token, Forest, nil, node}
+use Rattle.molang.specs.Read.{Answer, tree, messages, read, uses}
+use Rattle.molang.specs.Plain.{unplainAt}
+use Rattle.molang.specs.Write.{written, takenAway}
+use Rattle.molang.proofs.Computed.{computed}
+
+-- The token at a position, and trees of it, before others.
+abbrev at : ℕ → ℕ → Token
+at o i = record { op = o; variant = 0; value = 0; start = i; end = i + 1 }
+
+abbrev leaf : ℕ → Forest → Forest
+leaf i rest = node (at Operator.float i) nil rest
+
+abbrev over : ℕ → ℕ → Forest → Forest → Forest
+over o i below rest = node (at o i) below rest
+
+-- `a && b || c ? d : e ? f : g`
+abbrev list : List Token
+list =
+    at Operator.float 0 ∷ at Operator.logicalAnd 1 ∷ at Operator.float 2 ∷ at Operator.logicalOr 3 ∷ at Operator.float 4
+    ∷ at Operator.conditional 5 ∷ at Operator.float 6 ∷ at Operator.conditionalElse 7 ∷ at Operator.float 8
+    ∷ at Operator.conditional 9 ∷ at Operator.float 10 ∷ at Operator.conditionalElse 11 ∷ at Operator.float 12 ∷ []
+
+-- The logic below 6, `a && (b || c)`, and from 6, `(a && b) || c`.
+abbrev orFirst : Forest → Forest
+orFirst rest = over Operator.logicalAnd 1 (leaf 0 (over Operator.logicalOr 3 (leaf 2 (leaf 4 nil)) nil)) rest
+
+abbrev andFirst : Forest → Forest
+andFirst rest = over Operator.logicalOr 3 (over Operator.logicalAnd 1 (leaf 0 (leaf 2 nil)) (leaf 4 nil)) rest
+
+-- The children of the first `?` and of the second, paired to the left, and of the first `?` where the second is paired to the right.
+abbrev pairedLeft : Forest
+pairedLeft = over Operator.conditional 5 (orFirst (over Operator.conditionalElse 7 (leaf 6 (leaf 8 nil)) nil))
+    (over Operator.conditionalElse 11 (leaf 10 (leaf 12 nil)) nil)
+
+abbrev pairedRight : (Forest → Forest) → Forest
+pairedRight logic =
+    logic (over Operator.conditionalElse 7 (leaf 6 (over Operator.conditional 9
+    (leaf 8 (over Operator.conditionalElse 11 (leaf 10 (leaf 12 nil)) nil)) nil)) nil)
+
+abbrev readAt : ℕ → Answer
+readAt version = read list (uses list) (pos version) 13
+
+trees : List Answer
+trees = readAt 4 ∷ readAt 5 ∷ readAt 6 ∷ []
+
+three-trees : trees ≡ tree (at Operator.conditional 9) pairedLeft ∷ tree (at Operator.conditional 5) (pairedRight orFirst) ∷ tree
+    (at Operator.conditional 5) (pairedRight andFirst) ∷ []
+unfolding computed trees
+three-trees = refl
+
+-- They differ: in the root's place, and in the operator of the condition.
+rootStart : Answer → ℕ
+rootStart (tree k cs) = k .start
+rootStart (messages ms) = 0
+
+firstOperator : Answer → ℕ
+firstOperator (tree k nil) = 0
+firstOperator (tree k (node x xs rest)) = x .op
+firstOperator (messages ms) = 0
+
+four-differs : readAt 4 ≡ readAt 5 → ⊥
+unfolding computed rootStart
+four-differs same = let starts : _≡_ {A = ℕ} 9 5 = ap rootStart same in omega arith
+
+six-differs : readAt 5 ≡ readAt 6 → ⊥
+unfolding computed firstOperator
+six-differs same = let operators : _≡_ {A = ℕ} Operator.logicalAnd Operator.logicalOr = ap firstOperator same in omega arith
+
+-- Each is plain, and its writing is read alike at 4, 5 and 6.
+plains : List (Option ℕ)
+plains = unplainAt (at Operator.conditional 9) pairedLeft ∷ unplainAt (at Operator.conditional 5) (pairedRight orFirst) ∷ unplainAt
+    (at Operator.conditional 5) (pairedRight andFirst) ∷ []
+
+all-plain : plains ≡ none ∷ none ∷ none ∷ []
+unfolding computed plains
+all-plain = refl
+
+abbrev again : ℕ → Forest → ℕ → Answer
+again i cs version = read (written (at Operator.conditional i) cs []) (uses (written (at Operator.conditional i) cs [])) (pos version) 13
+
+-- An added bracket over one tree.
+abbrev inPair : ℕ → (Forest → Forest) → Forest → Forest
+inPair i inside rest = over Operator.leftParenthesis i (inside nil) rest
+
+abbrev orInPair : Forest → Forest
+orInPair rest = inPair 1 (over Operator.logicalAnd 1 (leaf 0 (inPair 3 (over Operator.logicalOr 3 (leaf 2 (leaf 4 nil))) nil))) rest
+
+abbrev andInPair : Forest → Forest
+andInPair rest = inPair 3 (over Operator.logicalOr 3 (inPair 1 (over Operator.logicalAnd 1 (leaf 0 (leaf 2 nil))) (leaf 4 nil))) rest
+
+abbrev secondInPair : (Forest → Forest) → Forest
+secondInPair logic =
+    logic (over Operator.conditionalElse 7 (leaf 6 (inPair 9 (over Operator.conditional 9
+    (leaf 8 (over Operator.conditionalElse 11 (leaf 10 (leaf 12 nil)) nil))) nil)) nil)
+
+abbrev firstInPair : Forest
+firstInPair = inPair 5 (over Operator.conditional 5 (orInPair (over Operator.conditionalElse 7 (leaf 6 (leaf 8 nil)) nil)))
+    (over Operator.conditionalElse 11 (leaf 10 (leaf 12 nil)) nil)
+
+readings : List Answer
+readings =
+    again 9 pairedLeft 4 ∷ again 9 pairedLeft 5 ∷ again 9 pairedLeft 6
+    ∷ again 5 (pairedRight orFirst) 4 ∷ again 5 (pairedRight orFirst) 5 ∷ again 5 (pairedRight orFirst) 6
+    ∷ again 5 (pairedRight andFirst) 4 ∷ again 5 (pairedRight andFirst) 5 ∷ again 5 (pairedRight andFirst) 6 ∷ []
+
+abbrev thrice : Answer → List Answer → List Answer
+thrice a more = a ∷ a ∷ a ∷ more
+
+read-alike : readings
+    ≡ thrice (tree (at Operator.conditional 9) firstInPair)
+    (thrice (tree (at Operator.conditional 5) (secondInPair orInPair)) (thrice (tree (at Operator.conditional 5) (secondInPair andInPair)) []))
+unfolding computed readings
+read-alike = refl
+
+-- With brackets taken away each is what it was.
+abbrev left : Forest → Forest
+left f = takenAway false f nil
+
+remains : List Forest
+remains =
+    left (over Operator.conditional 9 firstInPair nil) ∷ left (over Operator.conditional 5 (secondInPair orInPair) nil)
+    ∷ left (over Operator.conditional 5 (secondInPair andInPair) nil) ∷ []
+
+agree-again : remains ≡
+    over Operator.conditional 9 pairedLeft nil
+    ∷ over Operator.conditional 5 (pairedRight orFirst) nil
+    ∷ over Operator.conditional 5 (pairedRight andFirst) nil
+    ∷ []
+unfolding computed remains
+agree-again = refl
+
+-- Which tokens are written, by their operators; 36 is a math call.
+operators : List Token → List ℕ
+operators [] = []
+operators (k ∷ ks) = k .op ∷ operators ks
+
+abbrev mathCall : ℕ
+mathCall = 36
+
+abbrev a : Forest → Forest
+a rest = leaf 0 rest
+
+abbrev sum : Forest → Forest
+sum rest = over Operator.add 1 (a (a nil)) rest
+
+abbrev bracket : ℕ → Forest → Forest → Forest
+bracket i below rest = over Operator.leftParenthesis i below rest
+
+abbrev writes : ℕ → Forest → List ℕ
+writes o below = operators (written (at o 1) below [])
+
+abbrev x : ℕ
+x = Operator.float
+
+abbrev opener : ℕ
+opener = Operator.leftParenthesis
+
+abbrev closer : ℕ
+closer = Operator.rightParenthesis
+
+writings : List (List ℕ)
+writings =
+    writes Operator.mul (a (sum nil))
+    ∷ writes Operator.mul (sum (a nil))
+    ∷ writes Operator.conditional (a (over Operator.conditionalElse 2 (a (a nil)) nil))
+    ∷ writes Operator.comma (over Operator.comma 2 (a (a nil)) (a nil))
+    ∷ writes Operator.negate (a nil)
+    ∷ writes Operator.negate (sum nil)
+    ∷ writes Operator.mul (bracket 2 (a nil) (a nil))
+    ∷ writes Operator.queryFunction (bracket 2 (sum nil) nil)
+    ∷ writes mathCall (bracket 2 nil nil)
+    ∷ []
+
+usual-writing : writings ≡
+    (x ∷ Operator.mul ∷ opener ∷ x ∷ Operator.add ∷ x ∷ closer ∷ [])
+    ∷ (opener ∷ x ∷ Operator.add ∷ x ∷ closer ∷ Operator.mul ∷ x ∷ [])
+    ∷ (x ∷ Operator.conditional ∷ x ∷ Operator.conditionalElse ∷ x ∷ [])
+    ∷ (x ∷ Operator.comma ∷ x ∷ Operator.comma ∷ x ∷ [])
+    ∷ (Operator.negate ∷ x ∷ [])
+    ∷ (Operator.negate ∷ opener ∷ x ∷ Operator.add ∷ x ∷ closer ∷ [])
+    ∷ (opener ∷ x ∷ closer ∷ Operator.mul ∷ x ∷ [])
+    ∷ (Operator.queryFunction ∷ opener ∷ x ∷ Operator.add ∷ x ∷ closer ∷ [])
+    ∷ (mathCall ∷ opener ∷ closer ∷ [])
+    ∷ []
+unfolding computed writings operators
+usual-writing = refl
+
+-- What is left with brackets taken away: of `(a)`, `((a + a))`, `(a) + ((a))`; a call keeps its own bracket, and no other; `(a a)` has two.
+takings : List Forest
+takings =
+    left (bracket 2 (a nil) nil)
+    ∷ left (bracket 3 (bracket 2 (sum nil) nil) nil)
+    ∷ left (over Operator.add 1 (bracket 2 (a nil) (bracket 4 (bracket 3 (a nil) nil) nil)) nil)
+    ∷ left (over Operator.queryFunction 1 (bracket 2 (a nil) nil) nil)
+    ∷ left (over Operator.queryFunction 1 (bracket 2 (bracket 3 (a nil) nil) nil) nil)
+    ∷ left (over mathCall 1 (bracket 2 (a nil) nil) nil)
+    ∷ left (over mathCall 1 (bracket 2 nil nil) nil)
+    ∷ left (bracket 2 (a (a nil)) nil)
+    ∷ []
+
+what-is-left : takings ≡
+    a nil
+    ∷ sum nil
+    ∷ sum nil
+    ∷ over Operator.queryFunction 1 (bracket 2 (a nil) nil) nil
+    ∷ over Operator.queryFunction 1 (bracket 2 (a nil) nil) nil
+    ∷ over mathCall 1 (bracket 2 (a nil) nil) nil
+    ∷ over mathCall 1 (bracket 2 nil nil) nil
+    ∷ bracket 2 (a (a nil)) nil
+    ∷ []
+unfolding computed takings
+what-is-left = refl

@@ -1,0 +1,189 @@
+-- Laws of writing: the written count is the length, and each token of the tree is put in once, with nothing added but brackets.
+use Prim.Native.Nat.{ℕ, suc, _+_}
+use mathlib.Core.Path.{_≡_, refl, ap, _∙_}
+use mathlib.Core.Bool.{Bool, true, false, false≢true}
+use mathlib.Core.List.{List, [], _∷_}
+use mathlib.Core.Option.{none, some}
+use native.Mathlib.Omega.{arith}
+use lib.ListN.{length}
+use Rattle.molang.specs.Operator.{isBracket}
+use Rattle.molang.specs.Forest.{Token, Forest, nil, node, size}
+use Rattle.molang.specs.Plain.{Place, elsewhere, placeUnder, plainForm, placeOf, unplain, unplainAt}
+use Rattle.molang.proofs.PlainTrees.{plain-parts}
+use Rattle.molang.specs.Write.{openerFor, closerFor, standsAlone, standsLeft, standsRight, operandTokens, written, operandCount, writtenCount}
+
+-- The writing of a node without children and with one, by whether it is a bracket.
+pub written-none : (b : Bool) (k : Token) (r : List Token) → isBracket (k .op) ≡ b
+    → written k nil r ≡ (elim b as (λ t. List Token) [ true ↦ k ∷ closerFor k ∷ r | false ↦ k ∷ r ])
+unfolding written
+written-none b k r h = rw (← h) refl
+
+pub written-one : (b : Bool) (k x : Token) (xs : Forest) (r : List Token) → isBracket (k .op) ≡ b
+    → written k (node x xs nil) r ≡ (elim b as (λ t. List Token) [
+      | true ↦ k ∷ written x xs (closerFor k ∷ r)
+      | false ↦ k ∷ operandTokens (standsAlone x xs) x (written x xs) r
+    ])
+unfolding written
+written-one b k x xs r h = rw (← h) refl
+
+count-none : (b : Bool) (k : Token) → isBracket (k .op) ≡ b → writtenCount k nil ≡ (elim b as (λ t. ℕ) [ true ↦ 2 | false ↦ 1 ])
+unfolding writtenCount
+count-none b k h = rw (← h) refl
+
+count-one : (b : Bool) (k x : Token) (xs : Forest) → isBracket (k .op) ≡ b
+    → writtenCount k (node x xs nil) ≡ (elim b as (λ t. ℕ) [
+      | true ↦ writtenCount x xs + 2
+      | false ↦ 1 + operandCount (standsAlone x xs) (writtenCount x xs)
+    ])
+unfolding writtenCount
+count-one b k x xs h = rw (← h) refl
+
+pub written-two : (k x : Token) (xs : Forest) (y : Token) (ys : Forest) (r : List Token)
+    → written k (node x xs (node y ys nil)) r ≡ operandTokens (standsLeft k x xs) x (written x xs)
+    (k ∷ operandTokens (standsRight k y ys) y (written y ys) r)
+unfolding written
+written-two k x xs y ys r = refl
+
+count-two : (k x : Token) (xs : Forest) (y : Token) (ys : Forest)
+    → writtenCount k (node x xs (node y ys nil)) ≡ operandCount (standsLeft k x xs) (writtenCount x xs) + 1 + operandCount (standsRight k y ys)
+    (writtenCount y ys)
+unfolding writtenCount
+count-two k x xs y ys = refl
+
+pub written-more : (k x : Token) (xs : Forest) (y : Token) (ys : Forest) (z : Token) (zs more : Forest) (r : List Token)
+    → written k (node x xs (node y ys (node z zs more))) r ≡ k ∷ r
+unfolding written
+written-more k x xs y ys z zs more r = refl
+
+count-more : (k x : Token) (xs : Forest) (y : Token) (ys : Forest) (z : Token) (zs more : Forest)
+    → writtenCount k (node x xs (node y ys (node z zs more))) ≡ 1
+unfolding writtenCount
+count-more k x xs y ys z zs more = refl
+
+count-operand : (b : Bool) (k : Token) (F : List Token → List Token) (n : ℕ) → ((r : List Token) → length (F r) ≡ n + length r)
+    → (r : List Token) → length (operandTokens b k F r) ≡ operandCount b n + length r
+unfolding operandTokens operandCount
+count-operand true k F n h r = h r
+count-operand false k F n h r = let a = h (closerFor k ∷ r) in omega arith
+
+-- THE WRITTEN COUNT: every tree's writing, before any tokens, is as long as the count says.
+pub written-length : (k : Token) (cs : Forest) (r : List Token) → length (written k cs r) ≡ writtenCount k cs + length r
+written-length k nil r = split (isBracket (k .op)) refl
+  where
+    split : (b : Bool) → isBracket (k .op) ≡ b → length (written k nil r) ≡ writtenCount k nil + length r
+    split true h = rw (written-none true k r h, count-none true k h) (omega arith)
+    split false h = rw (written-none false k r h, count-none false k h) (omega arith)
+written-length k (node x xs nil) r = split (isBracket (k .op)) refl (written-length x xs)
+  where
+    split : (b : Bool) → isBracket (k .op) ≡ b → ((r : List Token) → length (written x xs r) ≡ writtenCount x xs + length r)
+        → length (written k (node x xs nil) r) ≡ writtenCount k (node x xs nil) + length r
+    split true h i = let a = i (closerFor k ∷ r) in rw (written-one true k x xs r h, count-one true k x xs h) (omega arith)
+    split false h i =
+        let a = count-operand (standsAlone x xs) x (written x xs) (writtenCount x xs) i r in
+        rw (written-one false k x xs r h, count-one false k x xs h) (omega arith)
+written-length k (node x xs (node y ys nil)) r =
+    let a = count-operand (standsLeft k x xs) x (written x xs) (writtenCount x xs) (written-length x xs)
+    (k ∷ operandTokens (standsRight k y ys) y (written y ys) r) in
+    let b = count-operand (standsRight k y ys) y (written y ys) (writtenCount y ys) (written-length y ys) r in
+    rw (written-two k x xs y ys r, count-two k x xs y ys) (omega arith)
+written-length k (node x xs (node y ys (node z zs more))) r = rw (written-more k x xs y ys z zs more r, count-more k x xs y ys z zs more)
+    (omega arith)
+
+-- The tree's own tokens, in the order of writing: each operator between or before its operands. (No plain node has three children.)
+unfoldable pub ownTokens : Token → Forest → List Token → List Token
+ownTokens k nil r = k ∷ r
+ownTokens k (node x xs nil) r = k ∷ ownTokens x xs r
+ownTokens k (node x xs (node y ys nil)) r = ownTokens x xs (k ∷ ownTokens y ys r)
+ownTokens k (node x xs (node y ys (node z zs more))) r = k ∷ r
+
+-- The second list is the first, token by token, with brackets added: openers and closers with some token's span and payload 0.
+pub data Adds : List Token → List Token → Type 0 where
+  nothing : Adds [] []
+  own : (k : Token) {ks ls : List Token} → Adds ks ls → Adds (k ∷ ks) (k ∷ ls)
+  opener : (k : Token) {ks ls : List Token} → Adds ks ls → Adds ks (openerFor k ∷ ls)
+  closer : (k : Token) {ks ls : List Token} → Adds ks ls → Adds ks (closerFor k ∷ ls)
+
+adds-operand : (b : Bool) (k : Token) (F G : List Token → List Token) → ((r r' : List Token) → Adds r r' → Adds (F r) (G r'))
+    → (r r' : List Token) → Adds r r' → Adds (F r) (operandTokens b k G r')
+unfolding operandTokens
+adds-operand true k F G f r r' a = f r r' a
+adds-operand false k F G f r r' a = opener k (f r (closerFor k ∷ r') (closer k a))
+
+adds : (k : Token) (cs : Forest) (r r' : List Token) → Adds r r' → Adds (ownTokens k cs r) (written k cs r')
+unfolding ownTokens
+adds k nil r r' a = split (isBracket (k .op)) refl
+  where
+    split : (b : Bool) → isBracket (k .op) ≡ b → Adds (k ∷ r) (written k nil r')
+    split true h = rw (written-none true k r' h) (own k (closer k a))
+    split false h = rw (written-none false k r' h) (own k a)
+adds k (node x xs nil) r r' a = split (isBracket (k .op)) refl (adds x xs)
+  where
+    split : (b : Bool) → isBracket (k .op) ≡ b → ((r r' : List Token) → Adds r r' → Adds (ownTokens x xs r) (written x xs r'))
+        → Adds (k ∷ ownTokens x xs r) (written k (node x xs nil) r')
+    split true h i = rw (written-one true k x xs r' h) (own k (i r (closerFor k ∷ r') (closer k a)))
+    split false h i = rw (written-one false k x xs r' h) (own k (adds-operand (standsAlone x xs) x (ownTokens x xs) (written x xs) i r r' a))
+adds k (node x xs (node y ys nil)) r r' a =
+    rw (written-two k x xs y ys r')
+    (adds-operand (standsLeft k x xs) x (ownTokens x xs) (written x xs) (adds x xs) (k ∷ ownTokens y ys r)
+    (k ∷ operandTokens (standsRight k y ys) y (written y ys) r')
+    (own k (adds-operand (standsRight k y ys) y (ownTokens y ys) (written y ys) (adds y ys) r r' a)))
+adds k (node x xs (node y ys (node z zs more))) r r' a = rw (written-more k x xs y ys z zs more r') (own k a)
+
+-- How many tokens of a list, and how many nodes of trees, pass a test.
+one : Bool → ℕ
+one true = 1
+one false = 0
+
+unfoldable pub inList : (Token → Bool) → List Token → ℕ
+unfolding one
+inList test [] = 0
+inList test (k ∷ ks) = one (test k) + inList test ks
+
+unfoldable pub inTrees : (Token → Bool) → Forest → ℕ
+unfolding one
+inTrees test nil = 0
+inTrees test (node k cs rest) = one (test k) + inTrees test cs + inTrees test rest
+
+own-once : (test : Token → Bool) (p : Place) (n : ℕ) (k : Token) (cs : Forest) → plainForm p k cs ≡ true → unplain (some k) 0 n cs ≡ none
+    → (r : List Token)
+    → inList test (ownTokens k cs r) ≡ one (test k) + inTrees test cs + inList test r
+unfolding ownTokens inList inTrees placeOf
+own-once test p n k nil h u r = omega arith
+own-once test p n k (node x xs nil) h u r =
+    let a = plain-parts (some k) 0 n x xs nil u in
+    let i = own-once test (placeUnder k 0) (suc n) x xs (a .here) (a .below) r in omega arith
+own-once test p n k (node x xs (node y ys nil)) h u r =
+    let a = plain-parts (some k) 0 n x xs (node y ys nil) u in
+    let b = plain-parts (some k) 1 (suc n + size xs) y ys nil (a .after) in
+    let i = own-once test (placeUnder k 0) (suc n) x xs (a .here) (a .below) (k ∷ ownTokens y ys r) in
+    let j = own-once test (placeUnder k 1) (suc (suc n + size xs)) y ys (b .here) (b .below) r in omega arith
+own-once test p n k (node x xs (node y ys (node z zs more))) h u r = absurd (false≢true (unfold plainForm in h))
+
+-- NO TOKEN IS LOST OR INVENTED: the writing of a plain tree is its own tokens in order with added brackets between them, and its own tokens are
+-- those of its nodes, each as often as it stands in the tree (any test is passed by as many of the one as of the other).
+pub record PutInOnce (k : Token) (cs : Forest) : Type 0 where
+  pub bracketsAdded : Adds (ownTokens k cs []) (written k cs [])
+  pub eachOnce : (test : Token → Bool) → inList test (ownTokens k cs []) ≡ inTrees test (node k cs nil)
+
+pub put-in-once : (k : Token) (cs : Forest) → unplainAt k cs ≡ none → PutInOnce k cs
+unfolding unplainAt placeOf inList inTrees
+put-in-once k cs plain = record {
+  bracketsAdded = adds k cs [] [] nothing;
+  eachOnce = λ test.
+      let a = plain-parts none 0 0 k cs nil plain in
+      let i = own-once test elsewhere 1 k cs (a .here) (a .below) [] in omega arith;
+}
+
+-- So a token that is no such bracket stands in the writing as often as in the tree.
+others-once : (test : Token → Bool) → ((k : Token) → test (openerFor k) ≡ false) → ((k : Token) → test (closerFor k) ≡ false)
+    → {ks ls : List Token} → Adds ks ls → inList test ls ≡ inList test ks
+unfolding inList one
+others-once test o c nothing = refl
+others-once test o c (own k a) = ap (λ (n : ℕ). one (test k) + n) (others-once test o c a)
+others-once test o c (opener k a) = let i = others-once test o c a in rw (o k) (omega arith)
+others-once test o c (closer k a) = let i = others-once test o c a in rw (c k) (omega arith)
+
+pub written-once : (k : Token) (cs : Forest) → unplainAt k cs ≡ none → (test : Token → Bool) → ((k : Token) → test (openerFor k) ≡ false)
+    → ((k : Token) → test (closerFor k) ≡ false)
+    → inList test (written k cs []) ≡ inTrees test (node k cs nil)
+written-once k cs plain test o c = let p = put-in-once k cs plain in others-once test o c (p .bracketsAdded) ∙ p .eachOnce test
