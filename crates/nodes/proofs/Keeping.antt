@@ -1,0 +1,122 @@
+-- THE FRAME LAWS: a function that works on one list changes only the free slots of the list's interval, those of its ancestors not, and words of the
+-- stack from some place on. What stands beside the interval, the ancestors' own slots and the stack below that place are as they were.
+use Prim.Native.Nat.{ℕ, _+_, _*_, _-_, _≤_, _<_}
+use mathlib.Core.Path.{_≡_, _∙_}
+use mathlib.Core.Logic.{_⊎_, inl, inr, ⊎-elim}
+use mathlib.Core.List.{List, _∷_}
+use native.Mathlib.Omega.{arith}
+use native.Mathlib.Decide.{decLt}
+use lib.ListN.{length}
+use Rattle.molang.specs.Forest.{Token, Forest}
+use Rattle.nodes.specs.Store.{wd, TokenAt, Seg, Out, OffNext, RepF, ends, more, RepT, RepB, InArray, Free, Kept}
+use Rattle.nodes.specs.Slots.{Laid}
+use Rattle.nodes.specs.Children.{Given}
+use Rattle.nodes.proofs.Runs.{seg-keep}
+use Rattle.nodes.proofs.Tokens.{token-keep}
+use Rattle.nodes.proofs.Store.{reserve-pos, own-out, rep-le, rep-keep, tree-keep, back-keep}
+
+-- ---- words that are none of the free slots
+
+pub free-above : (X : List ℕ) (lo hi j : ℕ) → 8 * hi ≤ j → Free X lo hi j
+free-above X lo hi j h s o a b c d = omega arith
+
+pub free-beside : (X : List ℕ) (lo hi s o : ℕ) → o < 8 → (s < lo) ⊎ (hi ≤ s) → Free X lo hi (8 * s + o)
+free-beside X lo hi s o h (inl e) s' o' a b c d = omega arith
+free-beside X lo hi s o h (inr e) s' o' a b c d = omega arith
+
+pub free-own : (q : ℕ) (X : List ℕ) (lo hi o : ℕ) → o < 8 → Free (q ∷ X) lo hi (8 * q + o)
+free-own q X lo hi o h s o' a b c d = omega (arith, d .0)
+
+-- the free slots of a part of the interval, below one ancestor more
+pub free-inner : (q : ℕ) (X : List ℕ) (lo hi l m j : ℕ) → lo ≤ l → m ≤ hi → Free X lo hi j → Free (q ∷ X) l m j
+free-inner q X lo hi l m j low high f s o a b c d = f s o (omega arith) (omega arith) c (d .1)
+
+pub free-part : (X : List ℕ) (lo hi l m j : ℕ) → lo ≤ l → m ≤ hi → Free X lo hi j → Free X l m j
+free-part X lo hi l m j low high f s o a b c d = f s o (omega arith) (omega arith) c d
+
+-- ---- one change after another, and of a part
+
+pub kept-then : (W W' W'' X : List ℕ) (lo hi a b : ℕ) → Kept W W' X lo hi a b → Kept W' W'' X lo hi a b → Kept W W'' X lo hi a b
+kept-then W W' W'' X lo hi a b f g j h o = g j h o ∙ f j h o
+
+pub kept-part : (W W' X : List ℕ) (lo hi l m a b a' b' : ℕ) → lo ≤ l → m ≤ hi → a' ≤ a → b ≤ b' → Kept W W' X l m a b → Kept W W' X lo hi a' b'
+kept-part W W' X lo hi l m a b a' b' low high low' high' f j h o =
+    f j (free-part X lo hi l m j low high h) (⊎-elim (λ x. inl (omega arith)) (λ x. inr (omega arith)) o)
+
+pub kept-inner : (W W' : List ℕ) (q : ℕ) (X : List ℕ) (lo hi l m a b a' b' : ℕ) → lo ≤ l → m ≤ hi → a' ≤ a → b ≤ b' → Kept W W' (q ∷ X) l m a b
+    → Kept W W' X lo hi a' b'
+kept-inner W W' q X lo hi l m a b a' b' low high low' high' f j h o =
+    f j (free-inner q X lo hi l m j low high h) (⊎-elim (λ x. inl (omega arith)) (λ x. inr (omega arith)) o)
+
+-- ---- what stays, of a change that keeps all words below `top` but the free slots
+
+module _ (W W' X : List ℕ) (lo hi top : ℕ) (same : (j : ℕ) → Free X lo hi j → j < top → wd W' j ≡ wd W j) where
+  slot-beside : (a b s o : ℕ) → a ≤ s → s < b → o < 8 → 8 * b ≤ top → (b ≤ lo) ⊎ (hi ≤ a) → wd W' (8 * s + o) ≡ wd W (8 * s + o)
+  slot-beside a b s o x y z h e =
+      same (8 * s + o) (free-beside X lo hi s o z (⊎-elim (λ u. inl (omega arith)) (λ u. inr (omega arith)) e)) (omega arith)
+
+  -- what stands beside the interval
+  pub rep-beside : {Y : List ℕ} {a b : ℕ} {cs : List ℕ} {f : Forest} → 8 * b ≤ top → (b ≤ lo) ⊎ (hi ≤ a) → RepF W Y cs a b f → RepF W' Y cs a b f
+  rep-beside {a = a} {b} h e r = rep-keep W W' (λ s o x y z p n. slot-beside a b s o x y z h e) r
+
+  pub tree-beside : {Y : List ℕ} {b l m : ℕ} {t : Token} {k : Forest} → 8 * m ≤ top → (m ≤ lo) ⊎ (hi ≤ l) → RepT W Y b l m t k → RepT W' Y b l m t k
+  tree-beside {l = l} {m} h e v = tree-keep W W' (λ s o x y z p n. slot-beside l m s o x y z h e) v
+
+  pub back-beside : {Y : List ℕ} {a b : ℕ} {ds : List ℕ} {d : Forest} → 8 * b ≤ top → (b ≤ lo) ⊎ (hi ≤ a) → RepB W Y ds a b d → RepB W' Y ds a b d
+  back-beside {a = a} {b} h e r = back-keep W W' (λ s o x y z p n. slot-beside a b s o x y z h e) r
+
+  -- a list under work, whose array stands above the slots
+  pub array-beside : {Y : List ℕ} {at n a b : ℕ} {f : Forest} → 8 * hi ≤ at → at + n ≤ top → 8 * b ≤ top → (b ≤ lo) ⊎ (hi ≤ a)
+      → InArray W Y at n a b f → InArray W' Y at n a b f
+  array-beside {at = at} low high h e v =
+      record {
+        bs = v .bs;
+        seg = seg-keep W W' at (v .bs) (λ j x y. same j (free-above X lo hi j (omega arith)) (omega (arith, v .count))) (v .seg);
+        count = v .count;
+        rep = rep-beside h e (v .rep);
+      }
+
+-- of a change of the stack alone, from `top` on
+module _ (W W' : List ℕ) (top : ℕ) (same : (j : ℕ) → j < top → wd W' j ≡ wd W j) where
+  pub rep-low : {X : List ℕ} {lo hi : ℕ} {bs : List ℕ} {f : Forest} → 8 * hi ≤ top → RepF W X bs lo hi f → RepF W' X bs lo hi f
+  rep-low h r = rep-keep W W' (λ s o x y z p n. same (8 * s + o) (omega arith)) r
+
+  pub tree-low : {X : List ℕ} {b l m : ℕ} {t : Token} {k : Forest} → 8 * m ≤ top → RepT W X b l m t k → RepT W' X b l m t k
+  tree-low h v = tree-keep W W' (λ s o x y z p n. same (8 * s + o) (omega arith)) v
+
+  pub back-low : {X : List ℕ} {lo hi : ℕ} {ds : List ℕ} {d : Forest} → 8 * hi ≤ top → RepB W X ds lo hi d → RepB W' X ds lo hi d
+  back-low h r = back-keep W W' (λ s o x y z p n. same (8 * s + o) (omega arith)) r
+
+-- the token of the innermost ancestor
+pub owner-kept : (W W' : List ℕ) (q : ℕ) (X : List ℕ) (lo hi top : ℕ) {o : Token}
+    → ((j : ℕ) → Free (q ∷ X) lo hi j → j < top → wd W' j ≡ wd W j) → 8 * q + 8 ≤ top
+    → TokenAt W q o → TokenAt W' q o
+owner-kept W W' q X lo hi top same h t = token-keep W W' q (λ i e. same (8 * q + i) (free-own q X lo hi i (omega arith)) (omega arith)) t
+
+-- ---- what the functions keep
+
+pub roots-off : {W X : List ℕ} {lo hi : ℕ} {bs : List ℕ} {F : Forest} (j : ℕ) → RepF W X bs lo hi F → Free X lo hi j → OffNext bs j
+roots-off j (ends e) f = tt
+roots-off {X = X} {lo} {hi} j (more {b = b} {m = m} {t = t} {k = k} a c d z p tk n ch ks r) f =
+    let g = rep-le r in
+    let pos = reserve-pos t k in
+    (f b 6 (omega arith) (omega arith) (omega arith) (own-out b t k X p), roots-off j r (free-part X lo hi m hi j (omega arith) (omega arith) f))
+
+pub give-kept : {W W' X : List ℕ} {q from n lo hi : ℕ} {bs : List ℕ} {f : Forest} → Given W q from n W' → Seg W from bs → length bs ≡ n
+    → RepF W (q ∷ X) bs lo hi f
+    → lo ≤ q → q < hi → Out q X → (j : ℕ) → Free X lo hi j → wd W' j ≡ wd W j
+give-kept {X = X} {q = q} {lo = lo} {hi = hi} {bs = bs} w g e r low high out j f =
+    w .same bs g e j (f q 5 low high (omega arith) out) (f q 7 low high (omega arith) out)
+    (roots-off j r (free-inner q X lo hi lo hi j (omega arith) (omega arith) f))
+
+pub laid-kept : {W W' : List ℕ} {s a b c d e n : ℕ} (X : List ℕ) (lo hi : ℕ) → Laid W s a b c d e n W' → lo ≤ s → s < hi → Out s X
+    → (j : ℕ) → Free X lo hi j → wd W' j ≡ wd W j
+laid-kept {W} {W'} {s} X lo hi w low high out j f =
+    elim (decLt j (8 * s)) [
+      | yes h ↦ w .same j (inl h)
+      | no h ↦
+          elim (decLt j (8 * s + 8)) [
+            | yes h' ↦ absurd (f s (j - 8 * s) low high (omega arith) out (omega arith))
+            | no h' ↦ w .same j (inr (omega arith))
+          ]
+    ]

@@ -1,0 +1,10 @@
+-- Laws that belong to no one function.
+pub mod Runs
+pub mod Tokens
+pub mod Store
+pub mod Classes
+pub mod Trees
+pub mod Taking
+pub mod Giving
+pub mod Stores
+pub mod Keeping

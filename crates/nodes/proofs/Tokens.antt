@@ -1,0 +1,138 @@
+-- A slot's five token words, said of its token: what the fields are read from, that the words say which token it is, and what becomes of the
+-- token where some of the words are written.
+use Prim.Native.Nat.{ℕ, zero, suc, _+_, _*_, _/_, _%_, _^_, _≤_, _<_}
+use mathlib.Core.Path.{_≡_, refl, sym, _∙_}
+use mathlib.Core.List.{List}
+use native.Mathlib.Omega.{arith}
+use native.Mathlib.Nat.{add-zero}
+use lib.ListN.{length, getD, set}
+use Rattle.molang.specs.Forest.{Token, renamed, bare}
+use Rattle.molang.specs.Words.{word, lowOf, tokenWords, Legal}
+use Rattle.words.specs.Fields.{operatorOf, withOperator}
+use Rattle.nodes.specs.Store.{wd, TokenAt}
+use Rattle.nodes.specs.Slots.{opAt, startAt, endAt, Laid, Made}
+use Rattle.nodes.proofs.Runs.{set-same, set-other}
+
+pub token-keep : (W W' : List ℕ) (b : ℕ) {k : Token} → ((o : ℕ) → o < 5 → wd W' (8 * b + o) ≡ wd W (8 * b + o)) → TokenAt W b k → TokenAt W' b k
+token-keep W W' b h t = record { words = λ o w. h o w ∙ t .words o w; legal = t .legal }
+
+-- ---- the words of a token, one by one
+
+module _ {W : List ℕ} {s : ℕ} {k : Token} (t : TokenAt W s k) where
+  pub operator-word : wd W (8 * s) ≡ word 1 (k .variant * 2 ^ 8 + k .op)
+  unfolding tokenWords
+  operator-word = rw add-zero at (t .words 0 (omega arith))
+
+  pub start-word : wd W (8 * s + 1) ≡ word 2 (k .start)
+  unfolding tokenWords
+  start-word = t .words 1 (omega arith)
+
+  pub end-word : wd W (8 * s + 2) ≡ word 3 (k .end)
+  unfolding tokenWords
+  end-word = t .words 2 (omega arith)
+
+  pub upper-word : wd W (8 * s + 3) ≡ word 4 (k .value / 2 ^ 16)
+  unfolding tokenWords
+  upper-word = t .words 3 (omega arith)
+
+  pub lower-word : wd W (8 * s + 4) ≡ word 5 (k .value % 2 ^ 16)
+  unfolding tokenWords
+  lower-word = t .words 4 (omega arith)
+
+-- five words make a token
+pub token-of-words : {W : List ℕ} {s : ℕ} {k : Token}
+    → wd W (8 * s) ≡ word 1 (k .variant * 2 ^ 8 + k .op) → wd W (8 * s + 1) ≡ word 2 (k .start) → wd W (8 * s + 2) ≡ word 3 (k .end)
+    → wd W (8 * s + 3) ≡ word 4 (k .value / 2 ^ 16) → wd W (8 * s + 4) ≡ word 5 (k .value % 2 ^ 16) → Legal k
+    → TokenAt W s k
+unfolding tokenWords
+token-of-words {W} {s} {k} a b c d e l = record { words = by-place; legal = l }
+  where
+    by-place : (i : ℕ) → i < 5 → wd W (8 * s + i) ≡ getD (tokenWords k) i 0
+    by-place zero h = rw add-zero a
+    by-place (suc zero) h = b
+    by-place (suc (suc zero)) h = c
+    by-place (suc (suc (suc zero))) h = d
+    by-place (suc (suc (suc (suc zero)))) h = e
+    by-place (suc (suc (suc (suc (suc i))))) h = absurd (omega arith)
+
+-- ---- the fields
+
+pub token-op : {W : List ℕ} {s : ℕ} {k : Token} → TokenAt W s k → opAt W s ≡ k .op
+unfolding word lowOf operatorOf
+token-op t = omega (arith, operator-word t, t .legal .op, t .legal .variant)
+
+pub token-start : {W : List ℕ} {s : ℕ} {k : Token} → TokenAt W s k → startAt W s ≡ k .start
+unfolding word lowOf
+token-start t = omega (arith, start-word t, t .legal .start)
+
+pub token-end : {W : List ℕ} {s : ℕ} {k : Token} → TokenAt W s k → endAt W s ≡ k .end
+unfolding word lowOf
+token-end t = omega (arith, end-word t, t .legal .end)
+
+same-operator : (v o v' o' : ℕ) → o ≤ 110 → o' ≤ 110 → word 1 (v * 2 ^ 8 + o) ≡ word 1 (v' * 2 ^ 8 + o') → (v ≡ v') × (o ≡ o')
+unfolding word
+same-operator v o v' o' a b e = omega arith
+
+same-low : (kind x y : ℕ) → word kind x ≡ word kind y → x ≡ y
+unfolding word
+same-low kind x y e = omega arith
+
+same-value : (x y : ℕ) → x / 2 ^ 16 ≡ y / 2 ^ 16 → x % 2 ^ 16 ≡ y % 2 ^ 16 → x ≡ y
+same-value x y a b = omega arith
+
+-- the words say which token it is
+pub token-unique : {W : List ℕ} {s : ℕ} {k k' : Token} → TokenAt W s k → TokenAt W s k' → k ≡ k'
+token-unique {W} {s} {k} {k'} t u =
+    let o = same-operator (k .variant) (k .op) (k' .variant) (k' .op) (t .legal .op) (u .legal .op) (sym (operator-word t) ∙ operator-word u) in
+    let start = same-low 2 (k .start) (k' .start) (sym (start-word t) ∙ start-word u) in
+    let end = same-low 3 (k .end) (k' .end) (sym (end-word t) ∙ end-word u) in
+    let value = same-value (k .value) (k' .value) (same-low 4 _ _ (sym (upper-word t) ∙ upper-word u)) (same-low 5 _ _ (sym (lower-word t) ∙ lower-word u)) in
+    λ i. record { op = o .1 i; variant = o .0 i; value = value i; start = start i; end = end i }
+
+-- ---- tokens that the passes make
+
+pub legal-renamed : (o : ℕ) {k : Token} → o ≤ 110 → Legal k → Legal (renamed o k)
+unfolding renamed
+legal-renamed o h l = record { op = h; variant = l .variant; value = l .value; no-payload = l .no-payload; start = l .start; end = l .end }
+
+pub legal-bare : (o : ℕ) {k : Token} → o ≤ 110 → Legal k → Legal (bare o k)
+unfolding bare
+legal-bare o h l = record { op = h; variant = omega arith; value = omega arith; no-payload = λ e. refl; start = l .start; end = l .end }
+
+-- the operator word with another operator in it
+renamed-word : (v o p : ℕ) → o ≤ 110 → p ≤ 110 → withOperator (word 1 (v * 2 ^ 8 + o)) p ≡ word 1 (v * 2 ^ 8 + p)
+unfolding word withOperator
+renamed-word v o p a b = omega arith
+
+-- `set_operator` renames the token
+pub token-renamed : (W W' : List ℕ) (s o : ℕ) {k : Token} → W' ≡ set W (8 * s) (withOperator (wd W (8 * s)) o) → 8 * s + 8 ≤ length W → o ≤ 110
+    → TokenAt W s k → TokenAt W' s (renamed o k)
+unfolding renamed
+token-renamed W W' s o {k} e room h t =
+    let v = withOperator (wd W (8 * s)) o in
+    let other = set-other W W' (8 * s) v e in
+    token-of-words
+    (set-same W W' (8 * s) v e (omega arith) ∙ rw (operator-word t) (renamed-word (k .variant) (k .op) o (t .legal .op) h))
+    (other (8 * s + 1) (omega arith) ∙ start-word t)
+    (other (8 * s + 2) (omega arith) ∙ end-word t)
+    (other (8 * s + 3) (omega arith) ∙ upper-word t)
+    (other (8 * s + 4) (omega arith) ∙ lower-word t)
+    (legal-renamed o h (t .legal))
+
+bare-word : (o : ℕ) → o ≤ 110 → word 1 (o % 2 ^ 8) ≡ word 1 (0 * 2 ^ 8 + o)
+unfolding word
+bare-word o h = omega arith
+
+-- `make` lays down a bare token with the span of another
+pub token-made : {W W' : List ℕ} {s like o : ℕ} {k : Token} → Made W s o like W' → o ≤ 110 → TokenAt W like k → TokenAt W' s (bare o k)
+unfolding bare
+token-made {o = o} v h t =
+    token-of-words (v .operator-word ∙ bare-word o h) (v .start-word ∙ start-word t) (v .end-word ∙ end-word t) (v .upper-word) (v .lower-word) (legal-bare o h (t .legal))
+
+-- `set_leaf` of a token's words lays down that token
+pub token-laid : {W W' : List ℕ} {s n : ℕ} {k : Token} {a b c d e : ℕ} → Laid W s a b c d e n W' → Legal k
+    → a ≡ word 1 (k .variant * 2 ^ 8 + k .op) → b ≡ word 2 (k .start) → c ≡ word 3 (k .end) → d ≡ word 4 (k .value / 2 ^ 16)
+    → e ≡ word 5 (k .value % 2 ^ 16)
+    → TokenAt W' s k
+token-laid v l ea eb ec ed ee =
+    token-of-words (v .operator-word ∙ ea) (v .start-word ∙ eb) (v .end-word ∙ ec) (v .upper-word ∙ ed) (v .lower-word ∙ ee) l

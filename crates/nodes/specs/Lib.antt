@@ -1,0 +1,4 @@
+pub mod Store
+pub mod Slots
+pub mod Children
+pub mod Frames

@@ -1,0 +1,98 @@
+// Child lists: a chain of slots from a node's first child on. Taken from a chain to an array on the stack, given back from an
+// array to a chain. A node that is given children notes the classes of all of them. Leans on the slots.
+use crate::slots::classes_of;
+use crate::slots::next_of;
+use crate::slots::set_classes;
+use crate::slots::set_first;
+use crate::slots::set_next;
+use ops::classes::TokenClasses;
+ghost use mathlib.Core.Logic.{_≢_};
+ghost use Prim.Native.Nat.{_+_, _*_, _≤_};
+ghost use lib.ListN.{length};
+ghost use Rattle.nodes.specs.Children.{Attached, AttachedTwo, CanTake, Taken, CanGive, Given, CanFollow, Counted, IsLast};
+
+// `child` becomes the only child of `parent`.
+pub fn attach(work: &mut [u32], parent: u32, child: u32)
+    requires { ⌜ (8 * parent + 8 ≤ length (now work)) × (8 * child + 8 ≤ length (now work)) ⌝ }
+    ensures { λ _. ⌜ Attached (now (work .entry)) parent child (now (work .exit)) ⌝ }
+{
+    set_first(work, parent, child);
+    set_next(work, child, 0);
+    let below = classes_of(work, child);
+    set_classes(work, parent, below);
+}
+
+// `left` and `right` become the children of `parent`.
+pub fn attach_two(work: &mut [u32], parent: u32, left: u32, right: u32)
+    requires { ⌜ (8 * parent + 8 ≤ length (now work)) × (8 * left + 8 ≤ length (now work)) × (8 * right + 8 ≤ length (now work)) × (left ≢ right) ⌝ }
+    ensures { λ _. ⌜ AttachedTwo (now (work .entry)) parent left right (now (work .exit)) ⌝ }
+{
+    set_first(work, parent, left);
+    set_next(work, left, right);
+    set_next(work, right, 0);
+    let below = classes_of(work, left).union(classes_of(work, right));
+    set_classes(work, parent, below);
+}
+
+// Copies the slots of the chain from `first` on to the words from `to` on; their number.
+pub fn take_chain(work: &mut [u32], first: u32, to: usize) -> usize
+    requires { ⌜ CanTake (now work) first to ⌝ }
+    ensures { λ r. ⌜ Taken (now (work .entry)) first to r (now (work .exit)) ⌝ }
+{
+    let mut s = first;
+    let mut i = to;
+    while s != 0 {
+        work[i] = s;
+        i += 1;
+        s = next_of(work, s);
+    }
+    i - to
+}
+
+// The n slots that stand in the words from `from` on become the children of `parent`; with none it becomes a leaf of no class,
+// as an opener is.
+pub fn give_children(work: &mut [u32], parent: u32, from: usize, n: usize)
+    requires { ⌜ CanGive (now work) parent from n ⌝ }
+    ensures { λ _. ⌜ Given (now (work .entry)) parent from n (now (work .exit)) ⌝ }
+{
+    let mut i = n;
+    let mut head = 0u32;
+    let mut below = TokenClasses::NONE;
+    while 0 < i {
+        i -= 1;
+        let s = work[from + i];
+        set_next(work, s, head);
+        below = below.union(classes_of(work, s));
+        head = s;
+    }
+    set_first(work, parent, head);
+    set_classes(work, parent, below);
+}
+
+// How many slots the chain from `first` on has.
+pub fn count_chain(work: &[u32], first: u32) -> u32
+    requires { ⌜ CanFollow (now work) first ⌝ }
+    ensures { λ r. ⌜ Counted (now (work .entry)) first r ⌝ }
+{
+    let mut s = first;
+    let mut n = 0u32;
+    while s != 0 {
+        n += 1;
+        s = next_of(work, s);
+    }
+    n
+}
+
+// The last slot of the chain from `first` on, which is not empty.
+pub fn last_of_chain(work: &[u32], first: u32) -> u32
+    requires { ⌜ CanFollow (now work) first × (first ≢ 0) ⌝ }
+    ensures { λ r. ⌜ IsLast (now (work .entry)) first r ⌝ }
+{
+    let mut last = first;
+    let mut s = next_of(work, first);
+    while s != 0 {
+        last = s;
+        s = next_of(work, s);
+    }
+    last
+}

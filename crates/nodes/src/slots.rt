@@ -1,0 +1,220 @@
+// A slot is eight words of the work buffer: the five words of a token, the first child's slot, the next sibling's slot, the
+// classes of the leaves at or below it. Slot 0 owns the outermost list; as a child or a sibling 0 means none.
+// Token i stands at slot 3(i + 1), and the two slots after it are spare for nodes that the passes make right after it.
+use ops::classes::TokenClasses;
+use words::fields;
+ghost use mathlib.Core.Path.{_≡_};
+ghost use Prim.Native.Nat.{_+_, _*_, _^_, _≤_, _<_};
+ghost use lib.ListN.{length, set};
+ghost use Rattle.words.specs.Fields.{withOperator};
+ghost use Rattle.nodes.specs.Store.{wd};
+ghost use Rattle.nodes.specs.Slots.{opAt, startAt, endAt, isLeafAt, isTokenAt, Laid, Made};
+
+pub const ROOT: u32 = 0;
+
+// The slot of token i.
+pub fn slot_of(i: u32) -> u32
+    requires { ⌜ 3 * i + 3 < 2 ^ 32 ⌝ }
+    ensures { λ r. ⌜ r ≡ 3 * i + 3 ⌝ }
+{
+    3 * i + 3
+}
+
+// The first spare slot after s: the `-` of a binary minus, the statement list of an opener.
+pub fn spare(s: u32) -> u32
+    requires { ⌜ s + 1 < 2 ^ 32 ⌝ }
+    ensures { λ r. ⌜ r ≡ s + 1 ⌝ }
+{
+    s + 1
+}
+
+// The second spare slot after s: the statement that comes after an opener or a semicolon.
+pub fn second_spare(s: u32) -> u32
+    requires { ⌜ s + 2 < 2 ^ 32 ⌝ }
+    ensures { λ r. ⌜ r ≡ s + 2 ⌝ }
+{
+    s + 2
+}
+
+// The first word past the slots of n tokens: the stack starts there.
+pub fn stack_of(n: usize) -> usize
+    requires { ⌜ 24 * n + 24 < 2 ^ 64 ⌝ }
+    ensures { λ r. ⌜ r ≡ 24 * n + 24 ⌝ }
+{
+    24 * n + 24
+}
+
+// The words of slot s, one by one.
+
+pub fn operator_word_of(work: &[u32], s: u32) -> u32
+    requires { ⌜ 8 * s + 8 ≤ length (now work) ⌝ }
+    ensures { λ r. ⌜ r ≡ wd (now (work .entry)) (8 * s) ⌝ }
+{
+    work[8 * (s as usize)]
+}
+
+pub fn start_word_of(work: &[u32], s: u32) -> u32
+    requires { ⌜ 8 * s + 8 ≤ length (now work) ⌝ }
+    ensures { λ r. ⌜ r ≡ wd (now (work .entry)) (8 * s + 1) ⌝ }
+{
+    work[8 * (s as usize) + 1]
+}
+
+pub fn end_word_of(work: &[u32], s: u32) -> u32
+    requires { ⌜ 8 * s + 8 ≤ length (now work) ⌝ }
+    ensures { λ r. ⌜ r ≡ wd (now (work .entry)) (8 * s + 2) ⌝ }
+{
+    work[8 * (s as usize) + 2]
+}
+
+pub fn upper_word_of(work: &[u32], s: u32) -> u32
+    requires { ⌜ 8 * s + 8 ≤ length (now work) ⌝ }
+    ensures { λ r. ⌜ r ≡ wd (now (work .entry)) (8 * s + 3) ⌝ }
+{
+    work[8 * (s as usize) + 3]
+}
+
+pub fn lower_word_of(work: &[u32], s: u32) -> u32
+    requires { ⌜ 8 * s + 8 ≤ length (now work) ⌝ }
+    ensures { λ r. ⌜ r ≡ wd (now (work .entry)) (8 * s + 4) ⌝ }
+{
+    work[8 * (s as usize) + 4]
+}
+
+pub fn first_of(work: &[u32], s: u32) -> u32
+    requires { ⌜ 8 * s + 8 ≤ length (now work) ⌝ }
+    ensures { λ r. ⌜ r ≡ wd (now (work .entry)) (8 * s + 5) ⌝ }
+{
+    work[8 * (s as usize) + 5]
+}
+
+pub fn next_of(work: &[u32], s: u32) -> u32
+    requires { ⌜ 8 * s + 8 ≤ length (now work) ⌝ }
+    ensures { λ r. ⌜ r ≡ wd (now (work .entry)) (8 * s + 6) ⌝ }
+{
+    work[8 * (s as usize) + 6]
+}
+
+// The class of a leaf; of any other node the classes of all leaves below it.
+pub fn classes_of(work: &[u32], s: u32) -> TokenClasses
+    requires { ⌜ 8 * s + 8 ≤ length (now work) ⌝ }
+    ensures { λ r. ⌜ r .0 ≡ wd (now (work .entry)) (8 * s + 7) ⌝ }
+{
+    TokenClasses(work[8 * (s as usize) + 7])
+}
+
+pub fn set_first(work: &mut [u32], s: u32, v: u32)
+    requires { ⌜ 8 * s + 8 ≤ length (now work) ⌝ }
+    ensures { λ _. ⌜ now (work .exit) ≡ set (now (work .entry)) (8 * s + 5) v ⌝ }
+{
+    work[8 * (s as usize) + 5] = v;
+}
+
+pub fn set_next(work: &mut [u32], s: u32, v: u32)
+    requires { ⌜ 8 * s + 8 ≤ length (now work) ⌝ }
+    ensures { λ _. ⌜ now (work .exit) ≡ set (now (work .entry)) (8 * s + 6) v ⌝ }
+{
+    work[8 * (s as usize) + 6] = v;
+}
+
+pub fn set_classes(work: &mut [u32], s: u32, classes: TokenClasses)
+    requires { ⌜ 8 * s + 8 ≤ length (now work) ⌝ }
+    ensures { λ _. ⌜ now (work .exit) ≡ set (now (work .entry)) (8 * s + 7) (classes .0) ⌝ }
+{
+    work[8 * (s as usize) + 7] = classes.0;
+}
+
+// What the words say.
+
+pub fn operator_of(work: &[u32], s: u32) -> u32
+    requires { ⌜ 8 * s + 8 ≤ length (now work) ⌝ }
+    ensures { λ r. ⌜ r ≡ opAt (now (work .entry)) s ⌝ }
+{
+    fields::operator(operator_word_of(work, s))
+}
+
+pub fn start_of(work: &[u32], s: u32) -> u32
+    requires { ⌜ 8 * s + 8 ≤ length (now work) ⌝ }
+    ensures { λ r. ⌜ r ≡ startAt (now (work .entry)) s ⌝ }
+{
+    fields::low(start_word_of(work, s))
+}
+
+pub fn end_of(work: &[u32], s: u32) -> u32
+    requires { ⌜ 8 * s + 8 ≤ length (now work) ⌝ }
+    ensures { λ r. ⌜ r ≡ endAt (now (work .entry)) s ⌝ }
+{
+    fields::low(end_word_of(work, s))
+}
+
+pub fn is_leaf(work: &[u32], s: u32) -> bool
+    requires { ⌜ 8 * s + 8 ≤ length (now work) ⌝ }
+    ensures { λ r. ⌜ r ≡ isLeafAt (now (work .entry)) s ⌝ }
+{
+    first_of(work, s) == 0
+}
+
+// Whether slot s is a leaf of op.
+pub fn is_token(work: &[u32], s: u32, op: u32) -> bool
+    requires { ⌜ 8 * s + 8 ≤ length (now work) ⌝ }
+    ensures { λ r. ⌜ r ≡ isTokenAt (now (work .entry)) s op ⌝ }
+{
+    if first_of(work, s) != 0 {
+        return false;
+    }
+    operator_of(work, s) == op
+}
+
+// Slot s becomes a leaf of the five words that notes these classes.
+pub fn set_leaf(
+    work: &mut [u32],
+    s: u32,
+    first: u32,
+    start: u32,
+    end: u32,
+    upper: u32,
+    lower: u32,
+    classes: TokenClasses,
+)
+    requires { ⌜ 8 * s + 8 ≤ length (now work) ⌝ }
+    ensures { λ _. ⌜ Laid (now (work .entry)) s first start «end» upper lower (classes .0) (now (work .exit)) ⌝ }
+{
+    let at = 8 * (s as usize);
+    work[at] = first;
+    work[at + 1] = start;
+    work[at + 2] = end;
+    work[at + 3] = upper;
+    work[at + 4] = lower;
+    work[at + 5] = 0;
+    work[at + 6] = 0;
+    work[at + 7] = classes.0;
+}
+
+// Slot s becomes a node of op with the span of slot `like` and payload 0. It notes no class: it is to take children.
+pub fn make(work: &mut [u32], s: u32, op: u32, like: u32)
+    requires { ⌜ (8 * s + 8 ≤ length (now work)) × (8 * like + 8 ≤ length (now work)) ⌝ }
+    ensures { λ _. ⌜ Made (now (work .entry)) s op like (now (work .exit)) ⌝ }
+{
+    let start = start_word_of(work, like);
+    let end = end_word_of(work, like);
+    set_leaf(
+        work,
+        s,
+        fields::operator_word(op),
+        start,
+        end,
+        fields::no_upper(),
+        fields::no_lower(),
+        TokenClasses::NONE,
+    );
+}
+
+// The operator of slot s becomes op, its span and payload stay. Its classes are left to the caller.
+pub fn set_operator(work: &mut [u32], s: u32, op: u32)
+    requires { ⌜ 8 * s + 8 ≤ length (now work) ⌝ }
+    ensures { λ _. ⌜ now (work .exit) ≡ set (now (work .entry)) (8 * s) (withOperator (wd (now (work .entry)) (8 * s)) op) ⌝ }
+{
+    let at = 8 * (s as usize);
+    let w = work[at];
+    work[at] = fields::with_operator(w, op);
+}

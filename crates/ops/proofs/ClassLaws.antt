@@ -1,0 +1,131 @@
+-- The classes of operators: the bits of the table's entries and of an operator's own class, what sets of classes share, and the
+-- one test that says what a constant of the code stands for. Assumes nothing.
+use mathlib.Core.Path.{_≡_, refl, sym, ap, ap₂, _∙_}
+use mathlib.Core.Bool.{Bool, true, false, not, _&&_, _||_, and-comm, and-false, and-or-distrib-right}
+use mathlib.Core.List.{List, [], _∷_, _++_}
+use mathlib.Core.Logic.{⊎-elim}
+use Prim.Native.Nat.{ℕ, zero, suc, _<_, _≤_, _^_}
+use native.Mathlib.Nat.{le-of-suc-le-suc, not-suc-le-zero}
+use native.Mathlib.Omega.{arith}
+use lib.Dec.{T, eqb, leb, ltb, nleb→lt}
+use lib.ListN.{length, getD, List·getD-eq-default}
+use borrow.Author.Tests.{le-leb, lt-leb, ltb-true, ltb-false, ne-eqb}
+use Rattle.molang.specs.Operator.{any, isOneOf, isQueryOrLoop, isMathCall, between}
+use Rattle.molang.specs.Order.{someBelow}
+use Rattle.ops.specs.Classes.{passClasses, ownClasses, inClass, bitAt, shares, meets, bitsOf, upTo, classWord, classTable, ownWord}
+use Rattle.ops.proofs.OperatorLaws.{true-at, agree, agree-at, no-math}
+use Rattle.ops.proofs.BitLaws.{bit-zero, bits-of, nonzero, some-same, some-none, some-either}
+
+-- ---- No class but the 25, and no operator above 110
+
+class-below : (i n : ℕ) → 25 ≤ i → inClass i n ≡ false
+unfolding inClass passClasses ownClasses
+class-below i n high = ap (λ (f : ℕ → Bool). f n) (List·getD-eq-default (passClasses ++ ownClasses) (λ (n : ℕ). false) high)
+
+neither : (a b : Bool) → T (not (a || b)) → T (not a) × T (not b)
+neither true b t = absurd t
+neither false b t = (tt, t)
+
+low-only : (os : List ℕ) → T (not (any (leb 111) os)) → (n : ℕ) → 110 < n → isOneOf os n ≡ false
+unfolding any isOneOf
+low-only [] t n high = refl
+low-only (o ∷ os) t n high =
+    let both = neither (leb 111 o) (any (leb 111) os) t in
+    rw (ne-eqb n o (λ e. omega (arith, nleb→lt 111 o (both .0)))) (low-only os (both .1) n high)
+
+-- Each of the tests fails at n.
+abbrev NoneAt : List (ℕ → Bool) → ℕ → Type 0
+NoneAt [] n = Unit {0}
+NoneAt (f ∷ fs) n = (f n ≡ false) × NoneAt fs n
+
+none-at : (fs : List (ℕ → Bool)) (n : ℕ) → NoneAt fs n → (i : ℕ) → getD fs i (λ (n : ℕ). false) n ≡ false
+none-at [] n h i = refl
+none-at (f ∷ fs) n h zero = h .0
+none-at (f ∷ fs) n h (suc i) = none-at fs n (h .1) i
+
+no-class : (i n : ℕ) → 110 < n → inClass i n ≡ false
+unfolding inClass passClasses ownClasses isQueryOrLoop any
+no-class i n high =
+    let l : (os : List ℕ) → T (not (any (leb 111) os)) → isOneOf os n ≡ false = λ os t. low-only os t n high in
+    none-at (passClasses ++ ownClasses) n
+    (l _ tt, (l _ tt, (l _ tt, (l _ tt, (l _ tt, (l _ tt, (l _ tt, (l _ tt, (l _ tt, (l _ tt, (l _ tt, (l _ tt, (l _ tt, (l _ tt, (l _ tt, (l _ tt, (l _ tt, (l _ tt, (l _ tt, (l _ tt, (l _ tt, (no-math n high, (l _ tt, (l _ tt, (l _ tt, tt)))))))))))))))))))))))))
+    i
+
+-- ---- The bits of a leaf's classes
+
+up-to : (k : ℕ) (f : ℕ → ℕ) (n : ℕ) → n < k → getD (upTo k f) n 0 ≡ f n
+unfolding upTo
+up-to zero f n below = absurd (not-suc-le-zero below)
+up-to (suc k) f zero below = refl
+up-to (suc k) f (suc n) below = up-to k (λ i. f (suc i)) n (le-of-suc-le-suc below)
+
+-- A test that passes only below k.
+bounded : (k i : ℕ) (b : Bool) → (k ≤ i → b ≡ false) → (ltb i k && b) ≡ b
+bounded k i b none = go (ltb i k) refl
+  where
+    go : (t : Bool) → ltb i k ≡ t → (t && b) ≡ b
+    go true e = refl
+    go false e = sym (none (ltb-false i k e))
+
+own-class : (i n : ℕ) → 25 ≤ i → (leb 22 i && inClass i n) ≡ false
+own-class i n high = rw (class-below i n high, le-leb 22 i (omega arith))
+
+pub own-bits : (n i : ℕ) → bitAt (ownWord n) i ≡ (leb 22 i && inClass i n)
+unfolding ownWord
+own-bits n i = bits-of 25 (λ i. leb 22 i && inClass i n) i ∙ bounded 25 i (leb 22 i && inClass i n) (own-class i n)
+
+halves : (i : ℕ) (b : Bool) → (ltb i 22 && b || leb 22 i && b) ≡ b
+halves i b = go (ltb i 22) refl
+  where
+    or-false : (x : Bool) → (x || false) ≡ x
+    or-false true = refl
+    or-false false = refl
+
+    go : (t : Bool) → ltb i 22 ≡ t → (t && b || leb 22 i && b) ≡ b
+    go true e = rw (lt-leb 22 i (ltb-true i 22 e)) (or-false b)
+    go false e = rw (le-leb 22 i (ltb-false i 22 e))
+
+-- An entry of the table, and the 0 of a number that is no operator.
+pub table-bits : (n i : ℕ) → n < 111 → bitAt (getD classTable n 0) i ≡ (ltb i 22 && inClass i n)
+unfolding classTable classWord
+table-bits n i low = rw (up-to 111 classWord n low) (bits-of 22 (λ i. inClass i n) i)
+
+pub past-bits : (n i : ℕ) → 110 < n → bitAt 0 i ≡ (ltb i 22 && inClass i n)
+past-bits n i high = rw (bit-zero i, no-class i n high, and-false (ltb i 22))
+
+-- The classes of driver.rs and the own ones together.
+pub every-class : (i n : ℕ) → (ltb i 22 && inClass i n || leb 22 i && inClass i n) ≡ inClass i n
+every-class i n = halves i (inClass i n)
+
+-- ---- What sets share
+
+pub shares-none : (w : ℕ) → shares 0 w ≡ false
+unfolding shares
+shares-none w = some-same 32 (λ i. bitAt 0 i && bitAt w i) (λ i. false) (λ i below. rw (bit-zero i)) ∙ some-none 32
+
+pub shares-all : (w : ℕ) → w < 2 ^ 32 → shares 0xffff_ffff w ≡ not (eqb w 0)
+unfolding shares bitAt
+shares-all w small =
+    some-same 32 (λ i. bitAt 0xffff_ffff i && bitAt w i) (bitAt w)
+    (λ i below. rw (← true-at (bitAt 0xffff_ffff) 0 32 tt i (omega arith) (omega arith)))
+    ∙ sym (nonzero 32 w small)
+
+pub shares-union : (u v v′ w : ℕ) → ((i : ℕ) → bitAt u i ≡ (bitAt v i || bitAt v′ i)) → shares u w ≡ (shares v w || shares v′ w)
+unfolding shares
+shares-union u v v′ w union =
+    some-same 32 (λ i. bitAt u i && bitAt w i) (λ i. bitAt v i && bitAt w i || bitAt v′ i && bitAt w i)
+    (λ i below. rw (union i) (and-or-distrib-right (bitAt v i) (bitAt v′ i) (bitAt w i)))
+    ∙ some-either 32 (λ i. bitAt v i && bitAt w i) (λ i. bitAt v′ i && bitAt w i)
+
+-- The classes of a leaf and a pass's: the leaf's operator is one of the pass.
+pub shares-leaf : (u n w : ℕ) → ((i : ℕ) → bitAt u i ≡ inClass i n) → shares u w ≡ meets w n
+unfolding shares meets
+shares-leaf u n w leaf =
+    some-same 32 (λ i. bitAt u i && bitAt w i) (λ i. bitAt w i && inClass i n)
+    (λ i below. rw (leaf i) (and-comm (inClass i n) (bitAt w i)))
+
+-- ---- What a constant stands for
+
+-- ONE LEMMA FOR EVERY CONSTANT: `stands-for 0x100 (isOneOf (lessThan ∷ [])) tt`, under the definitions that the test computes.
+pub stands-for : (w : ℕ) (test : ℕ → Bool) → T (agree (meets w) test 111) → (n : ℕ) → n ≤ 110 → meets w n ≡ test n
+stands-for w test t n low = agree-at (meets w) test 111 t n (omega arith)

@@ -1,0 +1,74 @@
+-- What each constant of `TokenClasses` stands for: a leaf is in one of its classes where its operator is one of the pass's that the
+-- constant belongs to. One test over every operator number, which antt computes. Assumes nothing.
+use mathlib.Core.Path.{_≡_}
+use mathlib.Core.Bool.{Bool, true, false, _&&_}
+use mathlib.Core.List.{List, [], _∷_}
+use Prim.Native.Nat.{ℕ, _≤_}
+use lib.Dec.{T}
+use Rattle.molang.specs.Operator
+use Rattle.molang.specs.Operator.{any, isOneOf, between, isMathCall, isQueryOrLoop}
+use Rattle.molang.specs.Order.{someBelow}
+use Rattle.ops.specs.Classes.{passClasses, ownClasses, inClass, bitAt, meets}
+use Rattle.ops.proofs.OperatorLaws.{agree, and-left, and-right}
+use Rattle.ops.proofs.ClassLaws.{stands-for}
+
+-- A constant and its operators.
+pub record Constant : Type 0 where
+  pub word : ℕ
+  pub operators : ℕ → Bool
+
+abbrev only : ℕ → List ℕ → Constant
+only w os = record { word = w; operators = isOneOf os }
+
+-- In the order of src/classes.rt, from NONE to EQUALITIES; ALL, which is in no pass, has every class.
+abbrev pub constants : List Constant
+constants =
+    only 0 []
+    ∷ only 0x1 (Operator.queryFunction ∷ Operator.loop ∷ Operator.forEach ∷ [])
+    ∷ only 0x2 (Operator.semicolon ∷ [])
+    ∷ only 0x4 (Operator.arrayVariable ∷ [])
+    ∷ only 0x8 (Operator.pointer ∷ [])
+    ∷ only 0x10 (Operator.negate ∷ Operator.logicalNot ∷ [])
+    ∷ only 0x20 (Operator.div ∷ [])
+    ∷ only 0x40 (Operator.mul ∷ [])
+    ∷ only 0x80 (Operator.negate ∷ Operator.add ∷ [])
+    ∷ only 0x100 (Operator.lessThan ∷ [])
+    ∷ only 0x200 (Operator.lessEqual ∷ [])
+    ∷ only 0x400 (Operator.greaterEqual ∷ [])
+    ∷ only 0x800 (Operator.greaterThan ∷ [])
+    ∷ only 0x1000 (Operator.logicalEqual ∷ [])
+    ∷ only 0x2000 (Operator.logicalNotEqual ∷ [])
+    ∷ only 0x4000 (Operator.logicalOr ∷ [])
+    ∷ only 0x8000 (Operator.logicalAnd ∷ [])
+    ∷ only 0x1_0000 (Operator.conditional ∷ Operator.conditionalElse ∷ [])
+    ∷ only 0x2_0000 (Operator.nullCoalescing ∷ [])
+    ∷ only 0x4_0000 (Operator.comma ∷ [])
+    ∷ only 0x8_0000 (Operator.assignment ∷ [])
+    ∷ only 0x10_0000 (Operator.return ∷ [])
+    ∷ record { word = 0x20_0000; operators = isMathCall }
+    ∷ only 0x40_0000 (Operator.add ∷ [])
+    ∷ only 0x80_0000 (Operator.conditional ∷ [])
+    ∷ only 0x100_0000 (Operator.conditionalElse ∷ [])
+    ∷ only 0x40_0080 (Operator.negate ∷ Operator.add ∷ [])
+    ∷ only 0xf00 (Operator.lessThan ∷ Operator.lessEqual ∷ Operator.greaterEqual ∷ Operator.greaterThan ∷ [])
+    ∷ only 0x3000 (Operator.logicalEqual ∷ Operator.logicalNotEqual ∷ [])
+    ∷ []
+
+abbrev all-agree : List Constant → Bool
+all-agree [] = true
+all-agree (k ∷ ks) = agree (meets (k .word)) (k .operators) 111 && all-agree ks
+
+-- Each of the list, at each operator.
+abbrev pub Stand : List Constant → Type 0
+Stand [] = Unit {0}
+Stand (k ∷ ks) = ((n : ℕ) → n ≤ 110 → meets (k .word) n ≡ k .operators n) × Stand ks
+
+each-stands : (ks : List Constant) → T (all-agree ks) → Stand ks
+each-stands [] t = tt
+each-stands (k ∷ ks) t =
+    let here = agree (meets (k .word)) (k .operators) 111 in
+    (stands-for (k .word) (k .operators) (and-left here (all-agree ks) t), each-stands ks (and-right here (all-agree ks) t))
+
+pub constants-stand : Stand constants
+unfolding any isOneOf between isMathCall isQueryOrLoop someBelow passClasses ownClasses inClass bitAt meets
+constants-stand = each-stands constants tt

@@ -1,0 +1,28 @@
+-- `ops::classes::own_class` meets its contract: the three operators with a class of their own, and any other. Assumes nothing.
+use mathlib.Core.Path.{refl, sym}
+use borrow.Author.Tests.{ne-eqb}
+use Rattle.molang.specs.Operator.{any, isOneOf, between, isMathCall, isQueryOrLoop}
+use Rattle.ops.specs.Classes.{passClasses, ownClasses, inClass, bit, bitsOf, ownWord}
+use Rattle.ops.proofs.classes.own_class.Statement.{statement}
+use Rattle.ops.proofs.classes.own_class.Tie as tie
+
+returns : tie.Need-returns
+unfolding any isOneOf passClasses ownClasses inClass bit bitsOf ownWord
+returns c = rw (c .match .keys1)
+
+returns-2 : tie.Need-returns-2
+unfolding any isOneOf passClasses ownClasses inClass bit bitsOf ownWord
+returns-2 c = rw (c .match .keys2)
+
+returns-3 : tie.Need-returns-3
+unfolding any isOneOf passClasses ownClasses inClass bit bitsOf ownWord
+returns-3 c = rw (c .match .keys3)
+
+returns-4 : tie.Need-returns-4
+unfolding any isOneOf passClasses ownClasses inClass bit bitsOf ownWord
+returns-4 c =
+    rw
+    (ne-eqb (c .before .args .op) 9 (c .match .rest .0 .0 .1), ne-eqb (c .before .args .op) 59 (c .match .rest .0 .1), ne-eqb (c .before .args .op) 60 (c .match .rest .1))
+
+pub own-class-spec : {M : Type 1} → statement M
+own-class-spec = tie.close (tie.spec returns returns-2 returns-3 returns-4)

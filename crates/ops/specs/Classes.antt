@@ -1,0 +1,88 @@
+-- Token classes: which operators are in each (`class` of driver.rs, and three classes that the code adds), the numbers whose bits
+-- are sets of classes, and the table of the classes of each operator.
+use Prim.Native.Nat.{ℕ, zero, suc, _+_, _*_, _/_, _%_, _^_}
+use mathlib.Core.Bool.{Bool, true, false, _&&_}
+use mathlib.Core.List.{List, [], _∷_, _++_}
+use lib.Dec.{eqb, leb}
+use lib.ListN.{getD}
+use Rattle.molang.specs.Operator
+use Rattle.molang.specs.Operator.{isOneOf, isMathCall, isQueryOrLoop}
+use Rattle.molang.specs.Order.{someBelow}
+
+-- The classes of driver.rs, from class 0 on: one for each group of operators that one pass folds. The unary pass turns a binary `-`
+-- into `+`, which is why `-` is in the class of `+` too.
+unfoldable pub passClasses : List (ℕ → Bool)
+passClasses =
+    isQueryOrLoop
+    ∷ isOneOf (Operator.semicolon ∷ [])
+    ∷ isOneOf (Operator.arrayVariable ∷ [])
+    ∷ isOneOf (Operator.pointer ∷ [])
+    ∷ isOneOf (Operator.logicalNot ∷ Operator.negate ∷ [])
+    ∷ isOneOf (Operator.div ∷ [])
+    ∷ isOneOf (Operator.mul ∷ [])
+    ∷ isOneOf (Operator.add ∷ Operator.negate ∷ [])
+    ∷ isOneOf (Operator.lessThan ∷ [])
+    ∷ isOneOf (Operator.lessEqual ∷ [])
+    ∷ isOneOf (Operator.greaterEqual ∷ [])
+    ∷ isOneOf (Operator.greaterThan ∷ [])
+    ∷ isOneOf (Operator.logicalEqual ∷ [])
+    ∷ isOneOf (Operator.logicalNotEqual ∷ [])
+    ∷ isOneOf (Operator.logicalOr ∷ [])
+    ∷ isOneOf (Operator.logicalAnd ∷ [])
+    ∷ isOneOf (Operator.conditional ∷ Operator.conditionalElse ∷ [])
+    ∷ isOneOf (Operator.nullCoalescing ∷ [])
+    ∷ isOneOf (Operator.comma ∷ [])
+    ∷ isOneOf (Operator.assignment ∷ [])
+    ∷ isOneOf (Operator.return ∷ [])
+    ∷ isMathCall
+    ∷ []
+
+-- Classes 22 to 24, each of one operator that shares its class above with another.
+unfoldable pub ownClasses : List (ℕ → Bool)
+ownClasses =
+    isOneOf (Operator.add ∷ [])
+    ∷ isOneOf (Operator.conditional ∷ [])
+    ∷ isOneOf (Operator.conditionalElse ∷ [])
+    ∷ []
+
+-- The operator n is in class i.
+unfoldable pub inClass : ℕ → ℕ → Bool
+inClass i n = getD (passClasses ++ ownClasses) i (λ (n : ℕ). false) n
+
+-- Bit i of w, which says whether class i is in the set w.
+unfoldable pub bitAt : ℕ → ℕ → Bool
+bitAt w i = eqb (w / 2 ^ i % 2) 1
+
+-- The two sets share a class.
+unfoldable pub shares : ℕ → ℕ → Bool
+shares v w = someBelow 32 (λ i. bitAt v i && bitAt w i)
+
+-- The operator n is in a class of the set w.
+unfoldable pub meets : ℕ → ℕ → Bool
+meets w n = someBelow 32 (λ i. bitAt w i && inClass i n)
+
+unfoldable pub bit : Bool → ℕ
+bit true = 1
+bit false = 0
+
+-- The number whose bits below k are f.
+unfoldable pub bitsOf : ℕ → (ℕ → Bool) → ℕ
+bitsOf zero f = 0
+bitsOf (suc k) f = 2 * bitsOf k (λ i. f (suc i)) + bit (f 0)
+
+-- f at each number below k.
+unfoldable pub upTo : ℕ → (ℕ → ℕ) → List ℕ
+upTo zero f = []
+upTo (suc k) f = f 0 ∷ upTo k (λ i. f (suc i))
+
+-- The classes of driver.rs that the operator n is in.
+unfoldable pub classWord : ℕ → ℕ
+classWord n = bitsOf 22 (λ i. inClass i n)
+
+-- THE CLASS TABLE: those of each operator number.
+unfoldable pub classTable : List ℕ
+classTable = upTo 111 classWord
+
+-- Those of classes 22 to 24 that the operator n is in.
+unfoldable pub ownWord : ℕ → ℕ
+ownWord n = bitsOf 25 (λ i. leb 22 i && inClass i n)

@@ -1,0 +1,19 @@
+-- What the code's answers about operators mean in the definition: an opener is what has a closer, and each case of `BeforeMinus`
+-- is the definition's case of that name.
+use Prim.Native.Nat.{ℕ}
+use mathlib.Core.Bool.{Bool, true, false}
+use mathlib.Core.Option.{Option, none, some}
+use Rattle.molang.specs.Operator.{closingOf}
+use Rattle.molang.specs.Operator as definition
+use Rattle.ops.specs.declared.BeforeMinus.{BeforeMinus}
+use Rattle.ops.specs.declared.BeforeMinus.the-variants.{Operand, Operator, Minus, Unknown}
+
+-- The operator has a closer.
+unfoldable pub isOpener : ℕ → Bool
+isOpener n = elim (closingOf n) [ none ↦ false | some c ↦ true ]
+
+abbrev pub meant : BeforeMinus → definition.BeforeMinus
+meant Operand = definition.operand
+meant Operator = definition.operator
+meant Minus = definition.minus
+meant Unknown = definition.unknown

@@ -1,0 +1,113 @@
+// The check of each word of a token, answers 8 to 11 of document 01's table. Leans on the fields;
+// specs/Checks gives the number and the place of each case.
+use crate::fields;
+ghost use mathlib.Core.Path.{_≡_};
+ghost use mathlib.Core.List.{[], _∷_};
+ghost use Prim.Native.Nat.{_+_, _<_, _^_};
+ghost use mathlib.Core.Option.{none};
+ghost use lib.Dec.{eqb, ltb};
+ghost use Rattle.molang.specs.Words.{kindOf, lowOf, operatorSlot, startSlot, upperSlot, unless, lowFault, wordFault, wordsRefusal};
+ghost use Rattle.words.specs.Checks.{numberOf, refusalOf, placed};
+
+// What is wrong with a word.
+pub enum Word {
+    Good,
+    WrongKind,
+    HighOperator,
+    HighVariant,
+    OtherBit,
+}
+
+// The check of a token: good, or the answer's number and the place in the list of its first bad word.
+pub enum Checked {
+    Good,
+    Bad(u32, usize),
+}
+
+// Low bits that are to be below the limit.
+fn below(low: u32, limit: u32) -> Word
+    ensures { λ r. ⌜ numberOf r ≡ unless (ltb low limit) 11 none ⌝ }
+{
+    if limit <= low {
+        return Word::OtherBit;
+    }
+    Word::Good
+}
+
+// A word of kind 1: operator, then payload variant, then the other bits.
+pub fn operator_word(w: u32) -> Word
+    ensures { λ r. ⌜ numberOf r ≡ wordFault operatorSlot 0 w ⌝ }
+{
+    if fields::kind(w) != fields::OPERATOR {
+        return Word::WrongKind;
+    }
+    if fields::LAST_OPERATOR < fields::operator(w) {
+        return Word::HighOperator;
+    }
+    if fields::LAST_VARIANT < fields::variant(w) {
+        return Word::HighVariant;
+    }
+    below(fields::low(w), 4096)
+}
+
+// A word of kind 2 or 3, all of whose bits are used.
+pub fn span_word(w: u32, kind: u32) -> Word
+    ensures { λ r. ⌜ numberOf r ≡ unless (eqb (kindOf w) kind) 8 (lowFault startSlot 0 (lowOf w)) ⌝ }
+{
+    if fields::kind(w) != kind {
+        return Word::WrongKind;
+    }
+    Word::Good
+}
+
+// A word of kind 4 or 5 in a token of the given payload variant, under variant 0 of which it holds 0.
+pub fn half_word(w: u32, kind: u32, variant: u32) -> Word
+    ensures { λ r. ⌜ numberOf r ≡ unless (eqb (kindOf w) kind) 8 (lowFault upperSlot variant (lowOf w)) ⌝ }
+{
+    if fields::kind(w) != kind {
+        return Word::WrongKind;
+    }
+    if variant == 0 {
+        return below(fields::low(w), 1);
+    }
+    below(fields::low(w), 65536)
+}
+
+// The answer's number for a bad word, and its place.
+pub fn judged(word: Word, place: usize) -> Checked
+    ensures { λ r. ⌜ refusalOf r ≡ placed place (numberOf word) ⌝ }
+{
+    match word {
+        Word::Good => Checked::Good,
+        Word::WrongKind => Checked::Bad(8, place),
+        Word::HighOperator => Checked::Bad(9, place),
+        Word::HighVariant => Checked::Bad(10, place),
+        Word::OtherBit => Checked::Bad(11, place),
+    }
+}
+
+// The five words of a token, which stand from `at` on in the list: the first bad one. That the places are numbers of words is
+// the caller's to know, who read them out of the list.
+pub fn token(first: u32, start: u32, end: u32, upper: u32, lower: u32, at: usize) -> Checked
+    requires { ⌜ at + 4 < 2 ^ 64 ⌝ }
+    ensures { λ r. ⌜ refusalOf r ≡ wordsRefusal at operatorSlot 0 (first ∷ start ∷ end ∷ upper ∷ lower ∷ []) ⌝ }
+{
+    let one = operator_word(first);
+    let Word::Good = one else {
+        return judged(one, at);
+    };
+    let two = span_word(start, fields::START);
+    let Word::Good = two else {
+        return judged(two, at + 1);
+    };
+    let three = span_word(end, fields::END);
+    let Word::Good = three else {
+        return judged(three, at + 2);
+    };
+    let variant = fields::variant(first);
+    let four = half_word(upper, fields::UPPER, variant);
+    let Word::Good = four else {
+        return judged(four, at + 3);
+    };
+    judged(half_word(lower, fields::LOWER, variant), at + 4)
+}

@@ -1,0 +1,109 @@
+// Kinds and fields of words: the top three bits are the kind. A token is five words, a tree node those and its child count.
+// Leans on nothing; specs/Fields names the fields as the definition reads them.
+ghost use mathlib.Core.Path.{_≡_};
+ghost use Prim.Native.Nat.{_%_, _^_};
+ghost use Rattle.molang.specs.Words.{word, kindOf, lowOf};
+ghost use Rattle.words.specs.Fields.{operatorOf, variantOf, halfOf, valueOf, withOperator};
+
+// A word is its kind times this, and what stands in bits 0-28.
+pub const KIND: u32 = 0x2000_0000;
+
+pub const OPERATOR: u32 = 1;
+
+pub const START: u32 = 2;
+
+pub const END: u32 = 3;
+
+pub const UPPER: u32 = 4;
+
+pub const LOWER: u32 = 5;
+
+pub const CHILDREN: u32 = 6;
+
+pub const TOKEN_WORDS: usize = 5;
+
+pub const NODE_WORDS: usize = 6;
+
+pub const RECORD_WORDS: usize = 8;
+
+// The operators and the payload variants are those up to these.
+pub const LAST_OPERATOR: u32 = 110;
+
+pub const LAST_VARIANT: u32 = 12;
+
+// The payload variant of a host math function.
+pub const HOST_MATH: u32 = 12;
+
+pub fn kind(w: u32) -> u32
+    ensures { λ r. ⌜ r ≡ kindOf w ⌝ }
+{
+    w / KIND
+}
+
+// Bits 0-28: a span's start or end, or how many children a node has.
+pub fn low(w: u32) -> u32
+    ensures { λ r. ⌜ r ≡ lowOf w ⌝ }
+{
+    w % KIND
+}
+
+pub fn operator(w: u32) -> u32
+    ensures { λ r. ⌜ r ≡ operatorOf w ⌝ }
+{
+    w % 256
+}
+
+pub fn variant(w: u32) -> u32
+    ensures { λ r. ⌜ r ≡ variantOf w ⌝ }
+{
+    w / 256 % 16
+}
+
+// Bits 0-15: half of a payload value.
+pub fn half(w: u32) -> u32
+    ensures { λ r. ⌜ r ≡ halfOf w ⌝ }
+{
+    w % 65536
+}
+
+// A word of kind 1 for op, with payload variant 0.
+pub fn operator_word(op: u32) -> u32
+    ensures { λ r. ⌜ r ≡ word 1 (op % 2 ^ 8) ⌝ }
+{
+    OPERATOR * KIND + op % 256
+}
+
+// The word of kind 1 with op in place of its operator.
+pub fn with_operator(w: u32, op: u32) -> u32
+    ensures { λ r. ⌜ r ≡ withOperator w op ⌝ }
+{
+    w - w % 256 + op % 256
+}
+
+// A word of kind 6 for n children.
+pub fn children_word(n: u32) -> u32
+    ensures { λ r. ⌜ r ≡ word 6 (n % 2 ^ 14) ⌝ }
+{
+    CHILDREN * KIND + n % 16384
+}
+
+// The upper half of a payload value that is 0.
+pub fn no_upper() -> u32
+    ensures { λ r. ⌜ r ≡ word 4 0 ⌝ }
+{
+    UPPER * KIND
+}
+
+// The lower half of a payload value that is 0.
+pub fn no_lower() -> u32
+    ensures { λ r. ⌜ r ≡ word 5 0 ⌝ }
+{
+    LOWER * KIND
+}
+
+// The payload value of two halves.
+pub fn value(upper: u32, lower: u32) -> u32
+    ensures { λ r. ⌜ r ≡ valueOf upper lower ⌝ }
+{
+    half(upper) * 65536 + half(lower)
+}
