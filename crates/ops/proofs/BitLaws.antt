@@ -2,12 +2,12 @@
 -- `someBelow`, by which the definition says that two sets share something. Assumes nothing.
 use mathlib.Core.Path.{_≡_, refl, sym, ap, ap₂, _∙_}
 use mathlib.Core.Bool.{Bool, true, false, not, _&&_, _||_}
-use Prim.Native.Nat.{ℕ, zero, suc, _+_, _*_, _/_, _%_, _^_, _<_, _≤_, min, max}
+use Prim.Native.Nat.{ℕ, zero, suc, _+_, _*_, _/_, _%_, _^_, _<_, min, max}
 use native.Mathlib.Nat.{div-one, zero-div, pow-suc, div-lt-iff-lt-mul}
 use native.Mathlib.Numerals.{one-add}
 use native.Mathlib.Omega.{arith}
 use lib.Arith.{digits-mod}
-use lib.Dec.{eqb, leb, ltb, leb·zero, leb·suc-zero, leb·suc-suc, eqb·suc-zero, lit<}
+use lib.Dec.{eqb, ltb, leb·zero, leb·suc-zero, leb·suc-suc, eqb·suc-zero, lit<}
 use lib.Pow.{shr-shr}
 use lib.Bits.{bitAnd, bitOr, and-shr, or-shr, and-step, or-step}
 use borrow.Author.Tests.{ne-eqb}

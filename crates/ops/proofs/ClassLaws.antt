@@ -1,18 +1,16 @@
 -- The classes of operators: the bits of the table's entries and of an operator's own class, what sets of classes share, and the
 -- one test that says what a constant of the code stands for. Assumes nothing.
-use mathlib.Core.Path.{_≡_, refl, sym, ap, ap₂, _∙_}
+use mathlib.Core.Path.{_≡_, refl, sym, ap, _∙_}
 use mathlib.Core.Bool.{Bool, true, false, not, _&&_, _||_, and-comm, and-false, and-or-distrib-right}
 use mathlib.Core.List.{List, [], _∷_, _++_}
-use mathlib.Core.Logic.{⊎-elim}
 use Prim.Native.Nat.{ℕ, zero, suc, _<_, _≤_, _^_}
 use native.Mathlib.Nat.{le-of-suc-le-suc, not-suc-le-zero}
 use native.Mathlib.Omega.{arith}
 use lib.Dec.{T, eqb, leb, ltb, nleb→lt}
-use lib.ListN.{length, getD, List·getD-eq-default}
+use lib.ListN.{getD, drop, List·getD-eq-default}
 use borrow.Author.Tests.{le-leb, lt-leb, ltb-true, ltb-false, ne-eqb}
-use Rattle.molang.specs.Operator.{any, isOneOf, isQueryOrLoop, isMathCall, between}
-use Rattle.molang.specs.Order.{someBelow}
-use Rattle.ops.specs.Classes.{passClasses, ownClasses, inClass, bitAt, shares, meets, bitsOf, upTo, classWord, classTable, ownWord}
+use Rattle.molang.specs.Operator.{any, isOneOf, isQueryOrLoop}
+use Rattle.ops.specs.Classes.{passClasses, ownClasses, inClass, bitAt, shares, meets, upTo, classWord, classTable, ownWord}
 use Rattle.ops.proofs.OperatorLaws.{true-at, agree, agree-at, no-math}
 use Rattle.ops.proofs.BitLaws.{bit-zero, bits-of, nonzero, some-same, some-none, some-either}
 
@@ -47,8 +45,13 @@ no-class : (i n : ℕ) → 110 < n → inClass i n ≡ false
 unfolding inClass passClasses ownClasses isQueryOrLoop any
 no-class i n high =
     let l : (os : List ℕ) → T (not (any (leb 111) os)) → isOneOf os n ≡ false = λ os t. low-only os t n high in
+    let own : NoneAt ownClasses n = (l _ tt, (l _ tt, (l _ tt, tt))) in
+    let last : NoneAt (drop 16 (passClasses ++ ownClasses)) n =
+    (l _ tt, (l _ tt, (l _ tt, (l _ tt, (l _ tt, (no-math n high, own)))))) in
+    let middle : NoneAt (drop 8 (passClasses ++ ownClasses)) n =
+    (l _ tt, (l _ tt, (l _ tt, (l _ tt, (l _ tt, (l _ tt, (l _ tt, (l _ tt, last)))))))) in
     none-at (passClasses ++ ownClasses) n
-    (l _ tt, (l _ tt, (l _ tt, (l _ tt, (l _ tt, (l _ tt, (l _ tt, (l _ tt, (l _ tt, (l _ tt, (l _ tt, (l _ tt, (l _ tt, (l _ tt, (l _ tt, (l _ tt, (l _ tt, (l _ tt, (l _ tt, (l _ tt, (l _ tt, (no-math n high, (l _ tt, (l _ tt, (l _ tt, tt)))))))))))))))))))))))))
+    (l _ tt, (l _ tt, (l _ tt, (l _ tt, (l _ tt, (l _ tt, (l _ tt, (l _ tt, middle))))))))
     i
 
 -- ---- The bits of a leaf's classes

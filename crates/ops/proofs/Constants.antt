@@ -1,7 +1,7 @@
 -- What each constant of `TokenClasses` stands for: a leaf is in one of its classes where its operator is one of the pass's that the
 -- constant belongs to. One test over every operator number, which antt computes. Assumes nothing.
 use mathlib.Core.Path.{_≡_}
-use mathlib.Core.Bool.{Bool, true, false, _&&_}
+use mathlib.Core.Bool.{Bool, true, _&&_}
 use mathlib.Core.List.{List, [], _∷_}
 use Prim.Native.Nat.{ℕ, _≤_}
 use lib.Dec.{T}

@@ -2,7 +2,7 @@
 -- is the definition's case of that name.
 use Prim.Native.Nat.{ℕ}
 use mathlib.Core.Bool.{Bool, true, false}
-use mathlib.Core.Option.{Option, none, some}
+use mathlib.Core.Option.{none, some}
 use Rattle.molang.specs.Operator.{closingOf}
 use Rattle.molang.specs.Operator as definition
 use Rattle.ops.specs.declared.BeforeMinus.{BeforeMinus}

@@ -1,7 +1,6 @@
 -- The check of words in list order, one word at a time: the first bad word ends it, a good one hands it on; and the check of a list
 -- that opens with a token. Assumes nothing.
 use mathlib.Core.Path.{_≡_, refl, sym, _∙_}
-use mathlib.Core.Bool.{Bool, true, false}
 use mathlib.Core.List.{List, [], _∷_, _++_}
 use mathlib.Core.Logic.{⊎-elim}
 use mathlib.Core.Option.{Option, none, some}

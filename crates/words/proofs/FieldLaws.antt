@@ -1,7 +1,7 @@
 -- The fields of words that were made: a token's words give the token back, and the words that the reader changes or makes are those
 -- of the renamed and of the bare token. Assumes nothing.
-use mathlib.Core.Path.{_≡_, refl, ap, ap₂, _∙_}
-use Prim.Native.Nat.{ℕ, _+_, _*_, _/_, _%_, _^_, _<_}
+use mathlib.Core.Path.{_≡_, refl}
+use Prim.Native.Nat.{ℕ, _/_, _%_, _^_, _<_}
 use native.Mathlib.Omega.{arith}
 use lib.Pow.{low}
 use Rattle.molang.specs.Forest.{Token, renamed, bare}

@@ -1,13 +1,13 @@
 -- The words that the check lets pass are exactly those of a legal token. Assumes nothing.
-use mathlib.Core.Path.{_≡_, refl, sym, ap, ap₂, _∙_}
+use mathlib.Core.Path.{_≡_, refl, _∙_}
 use mathlib.Core.Bool.{Bool, true, false}
 use mathlib.Core.List.{[], _∷_}
-use mathlib.Core.Option.{Option, none, some}
+use mathlib.Core.Option.{Option, none}
 use Prim.Native.Nat.{ℕ, _+_, _*_, _/_, _%_, _^_, _<_}
 use native.Mathlib.Omega.{arith}
 use lib.Dec.{eqb, ltb}
 use borrow.Author.Tests.{eqb-true, eqb-false, leb-true, ltb-true}
-use Rattle.molang.specs.Words.{kindOf, lowOf, tokenWords, tokenOf, word, Legal, operatorSlot, startSlot, endSlot, upperSlot, lowerSlot, slotKind, unless, lowFault, wordFault}
+use Rattle.molang.specs.Words.{kindOf, lowOf, tokenWords, tokenOf, word, Legal, operatorSlot, upperSlot, slotKind, unless, lowFault, wordFault}
 use Rattle.words.specs.Fields.{operatorOf, variantOf}
 use Rattle.words.proofs.CheckLaws.{operator-tests, GoodToken}
 

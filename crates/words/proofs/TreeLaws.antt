@@ -86,7 +86,8 @@ from-nothing l = go (ltb (length l) 6) refl
     go true e = rw (no-tree l (ltb-true (length l) 6 e))
     go false e =
         rw (first-tree l (ltb-false (length l) 6 e))
-        (one-tree (tokenIn l) (firstTrees (lowOf (getD l 5 0)) (treesOf (drop 6 l))) (otherTrees (lowOf (getD l 5 0)) (treesOf (drop 6 l))) (omega arith))
+        (one-tree (tokenIn l) (firstTrees (lowOf (getD l 5 0)) (treesOf (drop 6 l)))
+        (otherTrees (lowOf (getD l 5 0)) (treesOf (drop 6 l))) (omega arith))
 
 -- ---- The words of trees
 

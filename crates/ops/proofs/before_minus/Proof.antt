@@ -12,7 +12,9 @@ single : (c : tie.At-match-rest) → Single (c .before .args .op)
 single c =
     let op = c .before .args .op in
     let r = c .match .rest in
-    ((r .0 .0 .0 .0 .1, none-of (continue ∷ expressionArray ∷ []) op (r .0 .0 .0 .1)), (r .0 .0 .1, none-of (add ∷ div ∷ mul ∷ []) op (r .0 .1)), (r .1, tt))
+    let unknown = none-of (continue ∷ expressionArray ∷ []) op (r .0 .0 .0 .1) in
+    let arithmetic = none-of (add ∷ div ∷ mul ∷ []) op (r .0 .1) in
+    ((r .0 .0 .0 .0 .1, unknown), (r .0 .0 .1, arithmetic), (r .1, tt))
 
 returns : tie.Need-returns
 unfolding any isOneOf beforeMinus
@@ -35,16 +37,16 @@ unfolding any isOneOf beforeMinus
 returns-5 c = operator-at 67 3 tt (c .before .before .before .before .before .before .args .op) (omega arith) (omega arith)
 
 returns-6 : tie.Need-returns-6
-returns-6 c = operand-apart (c .before .before .before .args .op) (single (c .before .before)) (omega arith)
+returns-6 c = let s = c .before .before in operand-apart (s .before .args .op) (single s) (omega arith)
 
 returns-7 : tie.Need-returns-7
-returns-7 c = operand-apart (c .before .before .before .before .before .args .op) (single (c .before .before .before .before)) (omega arith)
+returns-7 c = let s = c .before .before .before .before in operand-apart (s .before .args .op) (single s) (omega arith)
 
 returns-8 : tie.Need-returns-8
-returns-8 c = operand-apart (c .before .before .before .before .before .before .before .args .op) (single (c .before .before .before .before .before .before)) (omega arith)
+returns-8 c = let s = c .before .before .before .before .before .before in operand-apart (s .before .args .op) (single s) (omega arith)
 
 returns-9 : tie.Need-returns-9
-returns-9 c = operand-apart (c .before .before .before .before .before .before .before .before .args .op) (single (c .before .before .before .before .before .before .before)) (omega arith)
+returns-9 c = let s = c .before .before .before .before .before .before .before in operand-apart (s .before .args .op) (single s) (omega arith)
 
 returns-10 : tie.Need-returns-10
 unfolding any isOneOf beforeMinus

@@ -10,11 +10,17 @@ use Rattle.ops.proofs.holds_statements.Tie as tie
 
 returns : tie.Need-returns
 unfolding isEntered
-returns c = let keys = none-of (leftBrace ∷ leftParenthesis ∷ []) (c .before .before .args .op) (c .before .match .rest .1) in apart _ (c .before .before .args .op) (omega arith)
+returns c =
+    let op = c .before .before .args .op in
+    let keys = none-of (leftBrace ∷ leftParenthesis ∷ []) op (c .before .match .rest .1) in
+    apart _ op (omega arith)
 
 returns-2 : tie.Need-returns-2
 unfolding isEntered
-returns-2 c = let keys = none-of (leftBrace ∷ leftParenthesis ∷ []) (c .before .before .before .args .op) (c .before .before .match .rest .1) in apart _ (c .before .before .before .args .op) (omega arith)
+returns-2 c =
+    let op = c .before .before .before .args .op in
+    let keys = none-of (leftBrace ∷ leftParenthesis ∷ []) op (c .before .before .match .rest .1) in
+    apart _ op (omega arith)
 
 returns-3 : tie.Need-returns-3
 unfolding any isOneOf isEntered

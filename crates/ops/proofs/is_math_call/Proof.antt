@@ -13,19 +13,27 @@ returns c = rw (c .match .keys1)
 
 returns-2 : tie.Need-returns-2
 unfolding between isMathCall
-returns-2 c = true-at isMathCall 10 10 tt (c .before .before .before .args .op) (omega arith) (omega arith)
+returns-2 c =
+    let op = c .before .before .before .args .op in
+    true-at isMathCall 10 10 tt op (omega arith) (omega arith)
 
 returns-3 : tie.Need-returns-3
 unfolding between isMathCall
-returns-3 c = true-at isMathCall 21 10 tt (c .before .before .before .before .before .args .op) (omega arith) (omega arith)
+returns-3 c =
+    let op = c .before .before .before .before .before .args .op in
+    true-at isMathCall 21 10 tt op (omega arith) (omega arith)
 
 returns-4 : tie.Need-returns-4
 unfolding between isMathCall
-returns-4 c = true-at isMathCall 32 8 tt (c .before .before .before .before .before .before .before .args .op) (omega arith) (omega arith)
+returns-4 c =
+    let op = c .before .before .before .before .before .before .before .args .op in
+    true-at isMathCall 32 8 tt op (omega arith) (omega arith)
 
 returns-5 : tie.Need-returns-5
 unfolding between isMathCall
-returns-5 c = true-at isMathCall 78 33 tt (c .before .before .before .before .before .before .before .before .before .args .op) (omega arith) (omega arith)
+returns-5 c =
+    let op = c .before .before .before .before .before .before .before .before .before .args .op in
+    true-at isMathCall 78 33 tt op (omega arith) (omega arith)
 
 returns-6 : tie.Need-returns-6
 unfolding between isMathCall
@@ -41,15 +49,21 @@ returns-6 c =
 
 returns-7 : tie.Need-returns-7
 unfolding between isMathCall
-returns-7 c = false-at isMathCall 20 1 tt (c .before .before .before .before .args .op) (omega arith) (omega arith)
+returns-7 c =
+    let op = c .before .before .before .before .args .op in
+    false-at isMathCall 20 1 tt op (omega arith) (omega arith)
 
 returns-8 : tie.Need-returns-8
 unfolding between isMathCall
-returns-8 c = false-at isMathCall 31 1 tt (c .before .before .before .before .before .before .args .op) (omega arith) (omega arith)
+returns-8 c =
+    let op = c .before .before .before .before .before .before .args .op in
+    false-at isMathCall 31 1 tt op (omega arith) (omega arith)
 
 returns-9 : tie.Need-returns-9
 unfolding between isMathCall
-returns-9 c = false-at isMathCall 40 38 tt (c .before .before .before .before .before .before .before .before .args .op) (omega arith) (omega arith)
+returns-9 c =
+    let op = c .before .before .before .before .before .before .before .before .args .op in
+    false-at isMathCall 40 38 tt op (omega arith) (omega arith)
 
 returns-10 : tie.Need-returns-10
 returns-10 c = sym (no-math (c .before .before .before .before .before .before .before .before .before .args .op) (omega arith))

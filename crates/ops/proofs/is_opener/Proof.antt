@@ -13,7 +13,9 @@ returns c = ⊎-elim (λ e. rw e) (⊎-elim (λ e. rw e) (λ e. rw e)) (c .match
 
 returns-2 : tie.Need-returns-2
 unfolding isOpener
-returns-2 c = rw (no-closer (c .before .args .op) (none-of (leftBrace ∷ leftBracket ∷ leftParenthesis ∷ []) (c .before .args .op) (c .match .rest .1)), isOpener)
+returns-2 c =
+    let op = c .before .args .op in
+    rw (no-closer op (none-of (leftBrace ∷ leftBracket ∷ leftParenthesis ∷ []) op (c .match .rest .1)), isOpener)
 
 pub is-opener-spec : {M : Type 1} → statement M
 is-opener-spec = tie.close (tie.spec returns returns-2)

@@ -75,4 +75,6 @@ returns-4 c =
     )
 
 pub operator-word-spec : {M : Type 1} → statement M
-operator-word-spec = tie.close (tie.spec kind-requires returns operator-requires returns-2 variant-requires returns-3 low-requires below-requires returns-4)
+operator-word-spec =
+    tie.close
+    (tie.spec kind-requires returns operator-requires returns-2 variant-requires returns-3 low-requires below-requires returns-4)

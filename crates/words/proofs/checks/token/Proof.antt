@@ -26,7 +26,8 @@ first-good c =
 
 second-good : (c : tie.After-enum-told2)
     → let a = c .before .before .before .before .before .before .args in
-    wordsRefusal (a .at + 2) endSlot (variantOf (a .first)) (a .end ∷ a .upper ∷ a .lower ∷ []) ≡ whole (c .before .before .before .before .before .before)
+    wordsRefusal (a .at + 2) endSlot (variantOf (a .first)) (a .end ∷ a .upper ∷ a .lower ∷ [])
+    ≡ whole (c .before .before .before .before .before .before)
 second-good c =
     let a = c .before .before .before .before .before .before .args in
     after-start (a .at) (a .first) (a .start) (a .end) (a .upper) (a .lower) (variantOf (a .first))
@@ -35,7 +36,8 @@ second-good c =
 
 third-good : (c : tie.After-enum-told3)
     → let a = c .before .before .before .before .before .before .before .before .before .args in
-    wordsRefusal (a .at + 3) upperSlot (variantOf (a .first)) (a .upper ∷ a .lower ∷ []) ≡ whole (c .before .before .before .before .before .before .before .before .before)
+    wordsRefusal (a .at + 3) upperSlot (variantOf (a .first)) (a .upper ∷ a .lower ∷ [])
+    ≡ whole (c .before .before .before .before .before .before .before .before .before)
 third-good c =
     let a = c .before .before .before .before .before .before .before .before .before .args in
     after-end (a .at) (a .first) (a .start) (a .end) (a .upper) (a .lower) (variantOf (a .first))
@@ -56,7 +58,8 @@ returns c =
     let a = c .before .before .before .args in
     let one = c .before .before .operator-word in
     c .judged .ensures
-    ∙ first-bad (a .at) operatorSlot 0 (a .first) (a .start ∷ a .end ∷ a .upper ∷ a .lower ∷ []) (one .result) (c .before .match .keys2) (one .ensures)
+    ∙ first-bad (a .at) operatorSlot 0 (a .first) (a .start ∷ a .end ∷ a .upper ∷ a .lower ∷ []) (one .result)
+    (c .before .match .keys2) (one .ensures)
 
 span-word-requires : tie.Need-span-word-requires
 span-word-requires c κs = search needs

@@ -33,50 +33,78 @@ of-trees-at t = and 1 of-trees-kinds.ps (is 1 of-trees-kinds.ps μ-of-trees t) o
 abbrev of-trees-below : ℕ → In 1 of-trees-kinds.ps
 of-trees-below t = and 1 of-trees-kinds.ps (falls 1 of-trees-kinds.ps _<_ μ-of-trees t) of-trees.Pre
 
-of-trees-returns : (t : ℕ) → of-trees-lts.Need-returns (widened-reads.Asked, widened-reads.Learnt, low-reads.Asked, low-reads.Learnt, of-trees-below t, of-trees.Post) (of-trees-at t) of-trees.Post
+of-trees-returns : (t : ℕ)
+    → of-trees-lts.Need-returns
+    (widened-reads.Asked, widened-reads.Learnt, low-reads.Asked, low-reads.Learnt, of-trees-below t, of-trees.Post) (of-trees-at t) of-trees.Post
 unfolding firstTrees extentWith lowestStart highestEnd
 of-trees-returns t c = rw (c .if1 .taken)
 
-of-trees-returns-2 : (t : ℕ) → of-trees-lts.Need-returns-2 (widened-reads.Asked, widened-reads.Learnt, low-reads.Asked, low-reads.Learnt, of-trees-below t, of-trees.Post) (of-trees-at t) of-trees.Post
+of-trees-returns-2 : (t : ℕ)
+    → of-trees-lts.Need-returns-2
+    (widened-reads.Asked, widened-reads.Learnt, low-reads.Asked, low-reads.Learnt, of-trees-below t, of-trees.Post) (of-trees-at t) of-trees.Post
 unfolding extentWith lowestStart highestEnd
 of-trees-returns-2 t c =
     rw (no-tree (now (c .before .before .before .args .words)) (c .if2 .taken), none-first (c .before .before .before .args .trees))
 
-of-trees-shared-slice-read-widened : (t : ℕ) → of-trees-lts.Need-shared-slice-read-widened (widened-reads.Asked, widened-reads.Learnt, low-reads.Asked, low-reads.Learnt, of-trees-below t, of-trees.Post) (of-trees-at t) of-trees.Post
+of-trees-shared-slice-read-widened : (t : ℕ)
+    → of-trees-lts.Need-shared-slice-read-widened
+    (widened-reads.Asked, widened-reads.Learnt, low-reads.Asked, low-reads.Learnt, of-trees-below t, of-trees.Post) (of-trees-at t) of-trees.Post
 of-trees-shared-slice-read-widened t c = omega arith
 
-of-trees-shared-slice-read-widened-2 : (t : ℕ) → of-trees-lts.Need-shared-slice-read-widened-2 (widened-reads.Asked, widened-reads.Learnt, low-reads.Asked, low-reads.Learnt, of-trees-below t, of-trees.Post) (of-trees-at t) of-trees.Post
+of-trees-shared-slice-read-widened-2 : (t : ℕ)
+    → of-trees-lts.Need-shared-slice-read-widened-2
+    (widened-reads.Asked, widened-reads.Learnt, low-reads.Asked, low-reads.Learnt, of-trees-below t, of-trees.Post) (of-trees-at t) of-trees.Post
 of-trees-shared-slice-read-widened-2 t c = omega arith
 
-of-trees-widened-requires : (t : ℕ) → of-trees-lts.Need-widened-requires (widened-reads.Asked, widened-reads.Learnt, low-reads.Asked, low-reads.Learnt, of-trees-below t, of-trees.Post) (of-trees-at t) of-trees.Post
+of-trees-widened-requires : (t : ℕ)
+    → of-trees-lts.Need-widened-requires
+    (widened-reads.Asked, widened-reads.Learnt, low-reads.Asked, low-reads.Learnt, of-trees-below t, of-trees.Post) (of-trees-at t) of-trees.Post
 of-trees-widened-requires t c κs = search needs
 
-of-trees-shared-slice-read-low : (t : ℕ) → of-trees-lts.Need-shared-slice-read-low (widened-reads.Asked, widened-reads.Learnt, low-reads.Asked, low-reads.Learnt, of-trees-below t, of-trees.Post) (of-trees-at t) of-trees.Post
+of-trees-shared-slice-read-low : (t : ℕ)
+    → of-trees-lts.Need-shared-slice-read-low
+    (widened-reads.Asked, widened-reads.Learnt, low-reads.Asked, low-reads.Learnt, of-trees-below t, of-trees.Post) (of-trees-at t) of-trees.Post
 of-trees-shared-slice-read-low t c = omega arith
 
-of-trees-low-requires : (t : ℕ) → of-trees-lts.Need-low-requires (widened-reads.Asked, widened-reads.Learnt, low-reads.Asked, low-reads.Learnt, of-trees-below t, of-trees.Post) (of-trees-at t) of-trees.Post
+of-trees-low-requires : (t : ℕ)
+    → of-trees-lts.Need-low-requires
+    (widened-reads.Asked, widened-reads.Learnt, low-reads.Asked, low-reads.Learnt, of-trees-below t, of-trees.Post) (of-trees-at t) of-trees.Post
 of-trees-low-requires t c κs = search needs
 
-of-trees-cast-below : (t : ℕ) → of-trees-lts.Need-cast-below (widened-reads.Asked, widened-reads.Learnt, low-reads.Asked, low-reads.Learnt, of-trees-below t, of-trees.Post) (of-trees-at t) of-trees.Post
+of-trees-cast-below : (t : ℕ)
+    → of-trees-lts.Need-cast-below
+    (widened-reads.Asked, widened-reads.Learnt, low-reads.Asked, low-reads.Learnt, of-trees-below t, of-trees.Post) (of-trees-at t) of-trees.Post
 of-trees-cast-below t c = search needs
 
-of-trees-sub-of-trees : (t : ℕ) → of-trees-lts.Need-sub-of-trees (widened-reads.Asked, widened-reads.Learnt, low-reads.Asked, low-reads.Learnt, of-trees-below t, of-trees.Post) (of-trees-at t) of-trees.Post
+of-trees-sub-of-trees : (t : ℕ)
+    → of-trees-lts.Need-sub-of-trees
+    (widened-reads.Asked, widened-reads.Learnt, low-reads.Asked, low-reads.Learnt, of-trees-below t, of-trees.Post) (of-trees-at t) of-trees.Post
 of-trees-sub-of-trees t c = omega arith
 
-of-trees-part-of-trees-start : (t : ℕ) → of-trees-lts.Need-part-of-trees-start (widened-reads.Asked, widened-reads.Learnt, low-reads.Asked, low-reads.Learnt, of-trees-below t, of-trees.Post) (of-trees-at t) of-trees.Post
+of-trees-part-of-trees-start : (t : ℕ)
+    → of-trees-lts.Need-part-of-trees-start
+    (widened-reads.Asked, widened-reads.Learnt, low-reads.Asked, low-reads.Learnt, of-trees-below t, of-trees.Post) (of-trees-at t) of-trees.Post
 of-trees-part-of-trees-start t c = omega arith
 
-of-trees-part-of-trees-end : (t : ℕ) → of-trees-lts.Need-part-of-trees-end (widened-reads.Asked, widened-reads.Learnt, low-reads.Asked, low-reads.Learnt, of-trees-below t, of-trees.Post) (of-trees-at t) of-trees.Post
+of-trees-part-of-trees-end : (t : ℕ)
+    → of-trees-lts.Need-part-of-trees-end
+    (widened-reads.Asked, widened-reads.Learnt, low-reads.Asked, low-reads.Learnt, of-trees-below t, of-trees.Post) (of-trees-at t) of-trees.Post
 of-trees-part-of-trees-end t c = omega arith
 
-of-trees-sub-of-trees-2 : (t : ℕ) → of-trees-lts.Need-sub-of-trees-2 (widened-reads.Asked, widened-reads.Learnt, low-reads.Asked, low-reads.Learnt, of-trees-below t, of-trees.Post) (of-trees-at t) of-trees.Post
+of-trees-sub-of-trees-2 : (t : ℕ)
+    → of-trees-lts.Need-sub-of-trees-2
+    (widened-reads.Asked, widened-reads.Learnt, low-reads.Asked, low-reads.Learnt, of-trees-below t, of-trees.Post) (of-trees-at t) of-trees.Post
 of-trees-sub-of-trees-2 t c = omega arith
 
-of-trees-add-of-trees : (t : ℕ) → of-trees-lts.Need-add-of-trees (widened-reads.Asked, widened-reads.Learnt, low-reads.Asked, low-reads.Learnt, of-trees-below t, of-trees.Post) (of-trees-at t) of-trees.Post
+of-trees-add-of-trees : (t : ℕ)
+    → of-trees-lts.Need-add-of-trees
+    (widened-reads.Asked, widened-reads.Learnt, low-reads.Asked, low-reads.Learnt, of-trees-below t, of-trees.Post) (of-trees-at t) of-trees.Post
 unfolding lowOf
 of-trees-add-of-trees t c = omega (arith, c .before .low .ensures)
 
-of-trees-of-trees-requires : (t : ℕ) → of-trees-lts.Need-of-trees-requires (widened-reads.Asked, widened-reads.Learnt, low-reads.Asked, low-reads.Learnt, of-trees-below t, of-trees.Post) (of-trees-at t) of-trees.Post
+of-trees-of-trees-requires : (t : ℕ)
+    → of-trees-lts.Need-of-trees-requires
+    (widened-reads.Asked, widened-reads.Learnt, low-reads.Asked, low-reads.Learnt, of-trees-below t, of-trees.Post) (of-trees-at t) of-trees.Post
 unfolding lowOf
 of-trees-of-trees-requires t c κs =
     let l = now (c .before .before .before .before .before .before .before .before .before .args .words) in
@@ -84,7 +112,9 @@ of-trees-of-trees-requires t c κs =
     let whole = take-all (length l - 6) (drop 6 l) (le-of-eq fewer) in
     rw whole (rw fewer (omega arith), omega (arith, fewer, c .before .low .ensures))
 
-of-trees-returns-3 : (t : ℕ) → of-trees-lts.Need-returns-3 (widened-reads.Asked, widened-reads.Learnt, low-reads.Asked, low-reads.Learnt, of-trees-below t, of-trees.Post) (of-trees-at t) of-trees.Post
+of-trees-returns-3 : (t : ℕ)
+    → of-trees-lts.Need-returns-3
+    (widened-reads.Asked, widened-reads.Learnt, low-reads.Asked, low-reads.Learnt, of-trees-below t, of-trees.Post) (of-trees-at t) of-trees.Post
 of-trees-returns-3 t c =
     let a = c .before .before .before .before .before .before .before .before .before .before .args in
     let l = now (a .words) in
@@ -94,7 +124,8 @@ of-trees-returns-3 t c =
     c .of-trees .ensures ∙ rw (whole, c .before .before .before .before .widened .ensures, c .before .before .low .ensures) (rw more at step)
 
 pub +of-trees-spec : {M : Type 1} → statement M
-+of-trees-spec = close μ-of-trees λ t. of-trees-lts.spec (widened-reads.Asked, widened-reads.Learnt, low-reads.Asked, low-reads.Learnt, of-trees-below t, of-trees.Post)
++of-trees-spec = close μ-of-trees λ t. of-trees-lts.spec
+    (widened-reads.Asked, widened-reads.Learnt, low-reads.Asked, low-reads.Learnt, of-trees-below t, of-trees.Post)
     (of-trees-at t)
     of-trees.Post
     (of-trees-returns t)

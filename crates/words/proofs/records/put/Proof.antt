@@ -1,5 +1,4 @@
 -- `words::records::put` meets its contract: eight stores, one after another. Assumes nothing.
-use Prim.Native.Nat.{_+_}
 use native.Mathlib.Numerals.{towards-suc}
 use native.Mathlib.Omega.{arith}
 use lib.ListN.{length-set}
