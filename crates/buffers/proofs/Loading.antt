@@ -1,0 +1,178 @@
+-- Loading: what one token's stores leave, the loop over the tokens, and THE LOADED LIST (`load-done`): leaves in three slots each are the forest
+-- of the list's tokens, since a list without fault is the words of its tokens.
+use Prim.Native.Nat.{ℕ, zero, suc, _+_, _*_, _≤_, _<_}
+use mathlib.Core.Path.{_≡_, refl, sym, ap, _∙_}
+use mathlib.Core.Logic.{_≢_, _⊎_, inl, inr}
+use mathlib.Core.List.{List, [], _∷_}
+use native.Mathlib.Omega.{arith}
+use native.Mathlib.Nat.{add-zero, le-refl}
+use borrow.Author.Count.{below-more}
+use lib.ListN.{length, getD, drop, set, length-set}
+use lib.Seq.{getD-drop, drop-drop}
+use Rattle.molang.specs.Forest.{Token, nil, leaves}
+use Rattle.molang.specs.Words.{tokenWords, tokensOf, listWords}
+use Rattle.molang.proofs.Words.{LegalTokens, noTokens, token, words-back}
+use Rattle.words.specs.Fields.{operatorOf}
+use Rattle.ops.specs.Classes.{bitAt, inClass, classTable}
+use Rattle.nodes.specs.Store.{wd, TokenAt, Seg, RepF, ends, InArray}
+use Rattle.nodes.specs.Slots.{Laid}
+use Rattle.nodes.proofs.Runs.{wd-same, wd-other}
+use Rattle.nodes.proofs.Tokens.{token-op}
+use Rattle.nodes.proofs.Classes.{notes-leaf}
+use Rattle.nodes.proofs.Store.{reserve-most, tree-more}
+use Rattle.nodes.proofs.Trees.{leaf-tree}
+use Rattle.buffers.specs.Load.{tokenSlots, LeafAt, CanLoadToken, TokenLoaded, CanLoad, Loaded}
+
+-- ---- one token
+
+five-words : (W L : List ℕ) (x y : ℕ) → wd W x ≡ wd L y → wd W (x + 1) ≡ wd L (y + 1) → wd W (x + 2) ≡ wd L (y + 2) → wd W (x + 3) ≡ wd L (y + 3)
+    → wd W (x + 4) ≡ wd L (y + 4) → (o : ℕ) → o < 5 → wd W (x + o) ≡ wd L (y + o)
+five-words W L x y a b c d e zero h = rw (add-zero x, add-zero y) a
+five-words W L x y a b c d e (suc zero) h = b
+five-words W L x y a b c d e (suc (suc zero)) h = c
+five-words W L x y a b c d e (suc (suc (suc zero))) h = d
+five-words W L x y a b c d e (suc (suc (suc (suc zero)))) h = e
+five-words W L x y a b c d e (suc (suc (suc (suc (suc o))))) h = absurd (omega arith)
+
+module _ (list W table : List ℕ) (i stack : ℕ) (p : CanLoadToken list W table i stack) where
+  -- The token's words laid down at its slot, and the slot put on the stack.
+  pub token-stores : (W1 : List ℕ) (slot n op : ℕ) → slot ≡ 3 * i + 3
+      → Laid W slot (wd list (5 * i)) (wd list (5 * i + 1)) (wd list (5 * i + 2)) (wd list (5 * i + 3)) (wd list (5 * i + 4)) n W1
+      → op ≡ operatorOf (wd list (5 * i)) → ((c : ℕ) → bitAt n c ≡ inClass c op) → TokenLoaded list W i stack (set W1 (stack + i) slot)
+  token-stores W1 slot n op e v eo bits =
+      let at = 8 * (3 * i + 3) in
+      let u : Laid W (3 * i + 3) (wd list (5 * i)) (wd list (5 * i + 1)) (wd list (5 * i + 2)) (wd list (5 * i + 3)) (wd list (5 * i + 4)) n W1 = rw e at v in
+      let W2 = set W1 (stack + i) slot in
+      let below = p .below in
+      let other : (j : ℕ) → j ≢ stack + i → wd W2 j ≡ wd W1 j = λ j h. wd-other W1 (stack + i) slot j h in
+      let long = u .long in
+      let room = p .room in
+      let mark : wd W2 (at + 7) ≡ n = other (at + 7) (omega arith) ∙ u .classes in
+      record {
+        leaf = record {
+          words = five-words W2 list at (5 * i) (other at (omega arith) ∙ u .operator-word) (other (at + 1) (omega arith) ∙ u .start-word)
+              (other (at + 2) (omega arith) ∙ u .end-word) (other (at + 3) (omega arith) ∙ u .upper-word) (other (at + 4) (omega arith) ∙ u .lower-word);
+          first = other (at + 5) (omega arith) ∙ u .first;
+          classes = λ c. ap (λ (w : ℕ). bitAt w c) mark ∙ bits c ∙ ap (λ (o : ℕ). inClass c o) eo;
+        };
+        slot = wd-same W1 (stack + i) slot (omega arith) ∙ e;
+        same = λ j o h. other j h ∙ u .same j (apart j o);
+        long = length-set W1 (stack + i) slot ∙ long;
+      }
+    where
+      apart : (j : ℕ) → (j < 24 * i + 24) ⊎ (24 * i + 32 ≤ j) → (j < 8 * (3 * i + 3)) ⊎ (8 * (3 * i + 3) + 8 ≤ j)
+      apart j (inl h) = inl (omega arith)
+      apart j (inr h) = inr (omega arith)
+
+-- ---- the loop
+
+pub record LoadAt (list W : List ℕ) (n : ℕ) (Z : List ℕ) (i : ℕ) : Type 0 where
+  pub most : i ≤ n
+  pub leaf : (j : ℕ) → j < i → LeafAt list Z j
+  pub slot : (j : ℕ) → j < i → wd Z (24 * n + 24 + j) ≡ 3 * j + 3
+  pub same : (j : ℕ) → j < 24 → wd Z j ≡ wd W j
+  pub long : length Z ≡ length W
+
+pub load-start : (list W : List ℕ) (n : ℕ) → LoadAt list W n W 0
+load-start list W n = record { most = omega arith; leaf = λ j h. absurd (omega arith); slot = λ j h. absurd (omega arith); same = λ j h. refl; long = refl }
+
+pub load-in : {list W table : List ℕ} {n : ℕ} {Z : List ℕ} {i : ℕ} → CanLoad list W n → LoadAt list W n Z i → i < n → table ≡ classTable
+    → CanLoadToken list Z table i (24 * n + 24)
+load-in p v h e = record { classes = e; few = omega (arith, p .few); within = omega (arith, p .tokens); below = omega arith; room = omega (arith, p .room, v .long) }
+
+leaf-keep : (list Z Z' : List ℕ) (j : ℕ) → ((o : ℕ) → o < 8 → wd Z' (8 * (3 * j + 3) + o) ≡ wd Z (8 * (3 * j + 3) + o)) → LeafAt list Z j → LeafAt list Z' j
+leaf-keep list Z Z' j h v =
+    record {
+      words = λ o b. h o (omega arith) ∙ v .words o b;
+      first = h 5 (omega arith) ∙ v .first;
+      classes = λ c. ap (λ (w : ℕ). bitAt w c) (h 7 (omega arith)) ∙ v .classes c;
+    }
+
+pub load-step : {list W : List ℕ} {n : ℕ} {Z : List ℕ} {i : ℕ} {Z' : List ℕ} → LoadAt list W n Z i → i < n → TokenLoaded list Z i (24 * n + 24) Z'
+    → LoadAt list W n Z' (i + 1)
+load-step {list} {W} {n} {Z} {i} {Z'} v h w =
+    record {
+      most = omega arith;
+      leaf = below-more (λ (j : ℕ). LeafAt list Z' j) i
+          (λ j b. leaf-keep list Z Z' j (λ o c. w .same (8 * (3 * j + 3) + o) (inl (omega arith)) (omega arith)) (v .leaf j b)) (w .leaf);
+      slot = below-more (λ (j : ℕ). wd Z' (24 * n + 24 + j) ≡ 3 * j + 3) i
+          (λ j b. w .same (24 * n + 24 + j) (inr (omega arith)) (omega arith) ∙ v .slot j b) (w .slot);
+      same = λ j b. w .same j (inl (omega arith)) (omega arith) ∙ v .same j b;
+      long = w .long ∙ v .long;
+    }
+
+-- ---- the loaded list
+
+slots-seg : (W : List ℕ) (at i n : ℕ) → ((j : ℕ) → j < n → wd W (at + j) ≡ 3 * (i + j) + 3) → Seg W at (tokenSlots i n)
+unfolding tokenSlots
+slots-seg W at i zero h = tt
+slots-seg W at i (suc n) h =
+    let here : wd W at ≡ 3 * i + 3 = rw (add-zero at, add-zero i) at (h 0 (omega arith)) in
+    let later : (j : ℕ) → j < n → wd W (at + 1 + j) ≡ 3 * (suc i + j) + 3
+    = λ j b. let e : at + 1 + j ≡ at + suc j = omega arith in rw e (h (suc j) (omega arith) ∙ omega arith) in
+    (here, slots-seg W (at + 1) (suc i) n later)
+
+pub slots-length : (i n : ℕ) → length (tokenSlots i n) ≡ n
+unfolding tokenSlots
+slots-length i zero = refl
+slots-length i (suc n) = ap suc (slots-length (suc i) n)
+
+words-length : (ks : List Token) → length (listWords ks) ≡ 5 * length ks
+unfolding listWords tokenWords
+words-length [] = refl
+words-length (k ∷ ks) = omega (arith, words-length ks)
+
+-- A leaf at its slot is the token k where the list's words from there on begin with those of k.
+leaf-token : (list W : List ℕ) (i : ℕ) (k : Token) (ks : List Token) → drop (5 * i) list ≡ listWords (k ∷ ks) → LegalTokens (k ∷ ks) → LeafAt list W i
+    → TokenAt W (3 * i + 3) k
+unfolding listWords tokenWords
+leaf-token list W i k ks e (token legal later) v = record { words = λ o h. v .words o h ∙ sym (getD-drop (5 * i) list o 0) ∙ first-five o h; legal = legal }
+  where
+    first-five : (o : ℕ) → o < 5 → getD (drop (5 * i) list) o 0 ≡ getD (tokenWords k) o 0
+    first-five zero h = rw e refl
+    first-five (suc zero) h = rw e refl
+    first-five (suc (suc zero)) h = rw e refl
+    first-five (suc (suc (suc zero))) h = rw e refl
+    first-five (suc (suc (suc (suc zero)))) h = rw e refl
+    first-five (suc (suc (suc (suc (suc o))))) h = absurd (omega arith)
+
+drop-token : (list : List ℕ) (i : ℕ) (k : Token) (ks : List Token) → drop (5 * i) list ≡ listWords (k ∷ ks) → drop (5 * suc i) list ≡ listWords ks
+unfolding listWords tokenWords
+drop-token list i k ks e =
+    let g : 5 * suc i ≡ 5 * i + 5 = omega arith in
+    rw g (sym (drop-drop 5 (5 * i) list) ∙ ap (λ (l : List ℕ). drop 5 l) e)
+
+tokens-rep : (list W : List ℕ) (i : ℕ) (ks : List Token) → drop (5 * i) list ≡ listWords ks → LegalTokens ks → ((j : ℕ) → j < i + length ks → LeafAt list W j)
+    → RepF W (0 ∷ []) (tokenSlots i (length ks)) (3 * i + 3) (3 * (i + length ks) + 3) (leaves ks)
+unfolding tokenSlots leaves
+tokens-rep list W i [] e noTokens h = let g : 3 * i + 3 ≤ 3 * (i + 0) + 3 = omega arith in ends g
+tokens-rep list W i (k ∷ ks) e (token legal later) h =
+    let b = 3 * i + 3 in
+    let v = h i (omega arith) in
+    let t = leaf-token list W i k ks e (token legal later) v in
+    let most = reserve-most k nil in
+    let op : operatorOf (wd list (5 * i)) ≡ k .op
+    = ap operatorOf (sym (rw (add-zero (8 * b), add-zero (5 * i)) at (v .words 0 (omega arith)))) ∙ token-op t in
+    let leaf = leaf-tree {W = W} {X = 0 ∷ []} {b = b} {l = b} {m = 3 * suc i + 3} {t = k} (le-refl b) (omega arith) (omega arith) (λ s x y. (omega arith, tt)) t
+    (notes-leaf (λ c x. v .classes c ∙ ap (λ (o : ℕ). inClass c o) op)) (v .first) in
+    let g : 3 * (i + suc (length ks)) + 3 ≡ 3 * (suc i + length ks) + 3 = omega arith in
+    rw g (tree-more (le-refl b) leaf (tokens-rep list W (suc i) ks (drop-token list i k ks e) later (λ j x. h j (omega arith))))
+
+pub load-done : {list W : List ℕ} {n : ℕ} {Z : List ℕ} {i : ℕ} → CanLoad list W n → LoadAt list W n Z i → n ≤ i → Loaded list W n Z
+load-done {list} {W} {n} {Z} {i} p v h =
+    let ks = tokensOf list in
+    let whole = words-back 0 0 list (p .faultless) (omega (arith, p .tokens)) in
+    let count : length ks ≡ n = omega (arith, words-length ks, ap length (whole .0), p .tokens) in
+    let rep = tokens-rep list Z 0 ks (sym (whole .0)) (whole .1) (λ j x. v .leaf j (omega arith)) in
+    let here : RepF Z (0 ∷ []) (tokenSlots 0 (length ks)) 3 (3 * (0 + length ks) + 3) (leaves ks) = rep in
+    let z : 0 + length ks ≡ n = omega arith in
+    record {
+      seg = slots-seg Z (24 * n + 24) 0 n (λ j x. v .slot j (omega arith) ∙ omega arith);
+      rep = rw (z, count) at here;
+      same = v .same;
+      long = v .long;
+    }
+
+-- What is loaded is a list under work.
+pub loaded-array : {list W : List ℕ} {n : ℕ} {W' : List ℕ} → Loaded list W n W' → InArray W' (0 ∷ []) (24 * n + 24) n 3 (3 * n + 3) (leaves (tokensOf list))
+loaded-array {n = n} v = record { bs = tokenSlots 0 n; seg = v .seg; count = sym (slots-length 0 n); rep = v .rep }

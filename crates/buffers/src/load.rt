@@ -1,0 +1,38 @@
+// Loading: the tokens of a checked list become leaves of the node store, and their slots the flat list on the stack.
+// Leans on nodes, and on ops (the class table).
+use nodes::slots;
+use ops::classes::class_table;
+use ops::classes::leaf_classes;
+use words::fields;
+ghost use Rattle.buffers.specs.Load.{CanLoadToken, TokenLoaded, CanLoad, Loaded};
+
+// Token i becomes a leaf at its slot, and its slot the i-th word of the stack.
+fn load_token(list: &[u32], work: &mut [u32], table: &[u32; 111], i: usize, stack: usize)
+    requires { ⌜ CanLoadToken (now list) (now work) (now table) i stack ⌝ }
+    ensures { λ _. ⌜ TokenLoaded (now (list .entry)) (now (work .entry)) i stack (now (work .exit)) ⌝ }
+{
+    let at = 5 * i;
+    let slot = slots::slot_of(i as u32);
+    let first = list[at];
+    let start = list[at + 1];
+    let end = list[at + 2];
+    let upper = list[at + 3];
+    let lower = list[at + 4];
+    let classes = leaf_classes(table, fields::operator(first));
+    slots::set_leaf(work, slot, first, start, end, upper, lower, classes);
+    work[stack + i] = slot;
+}
+
+// The n tokens of a list.
+pub fn load(list: &[u32], work: &mut [u32], n: usize)
+    requires { ⌜ CanLoad (now list) (now work) n ⌝ }
+    ensures { λ _. ⌜ Loaded (now (list .entry)) (now (work .entry)) n (now (work .exit)) ⌝ }
+{
+    let table = class_table();
+    let stack = slots::stack_of(n);
+    let mut i = 0usize;
+    while i < n {
+        load_token(list, work, &table, i, stack);
+        i += 1;
+    }
+}

@@ -1,0 +1,4 @@
+-- Laws that belong to no one function.
+pub mod States
+pub mod Reading
+pub mod Seeking
