@@ -79,7 +79,7 @@ if grep -q '^sorbrudder:' crates.txt; then
     step "the static library" rt staticlib sorbrudder
 fi
 
-for crate in oracle; do
+for crate in oracle compare; do
     [ -d "$crate" ] && rust_tests "$crate"
 done
 
@@ -89,7 +89,7 @@ if [ ! -f "$source/src/compile/parse/mod.rs" ]; then
 fi
 
 step "layout of the Rattle and antt files" rt fmt --check
-for crate in oracle; do
+for crate in oracle compare; do
     [ -d "$crate" ] && step "layout of $crate" cargo fmt --manifest-path "$crate/Cargo.toml" --check
 done
 

@@ -87,13 +87,13 @@ unfolding treesOf
 trees-back f h = ap treesOf (sym (append-nil (treeWords f))) ∙ (trees-beside h [] ∙ beside-nil f)
 
 -- What no test fails.
-unless-none : (b : Bool) (n : ℕ) (later : Option ℕ) → unless b n later ≡ none → (b ≡ true) × (later ≡ none)
+pub unless-none : (b : Bool) (n : ℕ) (later : Option ℕ) → unless b n later ≡ none → (b ≡ true) × (later ≡ none)
 unfolding unless
 unless-none true n later e = (refl, e)
 unless-none false n later e = some-none e
 
 -- A word without fault: its kind, and its low bits.
-word-faultless : (slot : Slot) (v w : ℕ) → wordFault slot v w ≡ none → (kindOf w ≡ slotKind slot) × (lowFault slot v (lowOf w) ≡ none)
+pub word-faultless : (slot : Slot) (v w : ℕ) → wordFault slot v w ≡ none → (kindOf w ≡ slotKind slot) × (lowFault slot v (lowOf w) ≡ none)
 unfolding wordFault
 word-faultless slot v w e =
     let z = unless-none (eqb (kindOf w) (slotKind slot)) 8 (lowFault slot v (lowOf w)) e in
@@ -125,7 +125,7 @@ unfolding lowFault
 lower-faultless v low e = half-bound v low (ltb-true low _ (unless-none _ 11 none e .0))
 
 -- The five words of a token without fault.
-record FiveLegal (a b c d e : ℕ) : Type 0 where
+pub record FiveLegal (a b c d e : ℕ) : Type 0 where
   operatorKind : kindOf a ≡ 1
   startKind : kindOf b ≡ 2
   endKind : kindOf c ≡ 3
@@ -147,7 +147,7 @@ unfolding kindOf lowOf word
 word-back kind w h = omega arith
 
 module _ (a b c d e : ℕ) (h : FiveLegal a b c d e) where
-  five-legal : Legal (tokenOf a b c d e)
+  pub five-legal : Legal (tokenOf a b c d e)
   unfolding tokenOf
   five-legal =
       record {
@@ -159,7 +159,7 @@ module _ (a b c d e : ℕ) (h : FiveLegal a b c d e) where
         no-payload = λ z. omega (arith, h .upper .1 z, h .lower .1 z);
       }
 
-  five-back : tokenWords (tokenOf a b c d e) ≡ a ∷ b ∷ c ∷ d ∷ e ∷ []
+  pub five-back : tokenWords (tokenOf a b c d e) ≡ a ∷ b ∷ c ∷ d ∷ e ∷ []
   unfolding tokenWords tokenOf
   five-back =
       let first : lowOf a / 2 ^ 8 % 2 ^ 4 * 2 ^ 8 + lowOf a % 2 ^ 8 ≡ lowOf a = omega (arith, h .room) in
@@ -176,6 +176,32 @@ module _ (a b c d e : ℕ) (h : FiveLegal a b c d e) where
             (h .upperKind),
         word-back 5 e (h .lowerKind),
       ) refl
+
+-- Each of a token's five words is without fault.
+pub five-faultless : (v a b c d e : ℕ) → wordFault operatorSlot v a ≡ none → wordFault startSlot (lowOf a / 2 ^ 8 % 2 ^ 4) b ≡ none
+    → wordFault endSlot (lowOf a / 2 ^ 8 % 2 ^ 4) c ≡ none
+    → wordFault upperSlot (lowOf a / 2 ^ 8 % 2 ^ 4) d ≡ none
+    → wordFault lowerSlot (lowOf a / 2 ^ 8 % 2 ^ 4) e ≡ none
+    → FiveLegal a b c d e
+unfolding slotKind
+five-faultless v a b c d e ha hb hc hd he =
+    let u = lowOf a / 2 ^ 8 % 2 ^ 4 in
+    let fa = word-faultless operatorSlot v a ha in
+    let fd = word-faultless upperSlot u d hd in
+    let fe = word-faultless lowerSlot u e he in
+    let o = operator-faultless v (lowOf a) (fa .1) in
+    record {
+      operatorKind = fa .0;
+      startKind = word-faultless startSlot u b hb .0;
+      endKind = word-faultless endSlot u c hc .0;
+      upperKind = fd .0;
+      lowerKind = fe .0;
+      operator = o .0;
+      variant = o .1;
+      room = o .2;
+      upper = upper-faultless u (lowOf d) (fd .1);
+      lower = lower-faultless u (lowOf e) (fe .1);
+    }
 
 refused-none : (o : Option ℕ) (refused : ℕ → Refusal) (later : Option Refusal)
     → _≡_ {A = Option Refusal} (elim o [ some n ↦ some (refused n) | none ↦ later ]) none → (o ≡ none) × (later ≡ none)
@@ -202,23 +228,6 @@ words-back i v (a ∷ b ∷ c ∷ d ∷ e ∷ ws) h n =
     let rc = next-word (suc (suc i)) endSlot u c (d ∷ e ∷ ws) (rb .1) in
     let rd = next-word (suc (suc (suc i))) upperSlot u d (e ∷ ws) (rc .1) in
     let re = next-word (suc (suc (suc (suc i)))) lowerSlot u e ws (rd .1) in
-    let fa = word-faultless operatorSlot v a (ra .0) in
-    let fd = word-faultless upperSlot u d (rd .0) in
-    let fe = word-faultless lowerSlot u e (re .0) in
-    let o = operator-faultless v (lowOf a) (fa .1) in
-    let five : FiveLegal a b c d e =
-    record {
-      operatorKind = fa .0;
-      startKind = word-faultless startSlot u b (rb .0) .0;
-      endKind = word-faultless endSlot u c (rc .0) .0;
-      upperKind = fd .0;
-      lowerKind = fe .0;
-      operator = o .0;
-      variant = o .1;
-      room = o .2;
-      upper = upper-faultless u (lowOf d) (fd .1);
-      lower = lower-faultless u (lowOf e) (fe .1);
-    }
-    in
+    let five = five-faultless v a b c d e (ra .0) (rb .0) (rc .0) (rd .0) (re .0) in
     let later = words-back (suc (suc (suc (suc (suc i))))) u ws (re .1) (omega arith) in
     (rw (five-back a b c d e five, later .0) refl, token (five-legal a b c d e five) (later .1))

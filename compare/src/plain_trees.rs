@@ -1,0 +1,113 @@
+//! Trees from a seed: plain ones, plain ones with one thing changed, and those of a given shape.
+
+use oracle::generate::Rng;
+use oracle::words::{LAST_PLACE, Token, TreeNode};
+
+const LEAVES: [u8; 11] = [40, 42, 43, 44, 46, 47, 48, 49, 61, 62, 76];
+const BINARIES: [u8; 14] = [9, 20, 31, 50, 51, 52, 53, 54, 55, 56, 57, 58, 75, 75];
+const MATH_CALLS: [u8; 8] = [8, 10, 19, 21, 39, 78, 109, 110];
+
+/// A token of this operator with any payload and span.
+pub fn token(rng: &mut Rng, op: u8) -> Token {
+    let variant = rng.below(13) as u8;
+    let mut place = || match rng.below(4) {
+        0 => LAST_PLACE,
+        1 => 0,
+        _ => rng.below(1000) as u32,
+    };
+    let (start, end) = (place(), place());
+    let value = if variant == 0 { 0 } else { rng.bits() as u32 };
+    Token {
+        op,
+        variant,
+        value,
+        start,
+        end,
+    }
+}
+
+/// A node of this operator, payload 0 and span 0 to 0.
+pub fn bare(op: u8, children: u32) -> TreeNode {
+    let token = Token {
+        op,
+        ..Token::default()
+    };
+    TreeNode { token, children }
+}
+
+/// A plain tree of about `size` nodes.
+pub fn plain(rng: &mut Rng, size: usize) -> Vec<TreeNode> {
+    /// What may come next: an operand, the bracket of a call, or what stands right of `?`.
+    #[derive(Copy, Clone)]
+    enum Wanted {
+        Operand,
+        QueryBracket,
+        MathBracket,
+        RightOfQuestion,
+    }
+    use Wanted::{MathBracket, Operand, QueryBracket, RightOfQuestion};
+    let mut nodes = Vec::new();
+    let mut wanted = vec![Operand];
+    while let Some(next) = wanted.pop() {
+        let grows = nodes.len() + wanted.len() < size;
+        let (op, below): (u8, &[Wanted]) = match next {
+            MathBracket if !grows || rng.chance(30) => (4, &[]),
+            MathBracket | QueryBracket => (4, &[Operand]),
+            RightOfQuestion if rng.chance(70) => (60, &[Operand, Operand]),
+            _ if !grows => (*rng.pick(&LEAVES), &[]),
+            _ => match rng.below(12) {
+                0 => (*rng.pick(&LEAVES), &[]),
+                1 => (4, &[Operand]),
+                2 => (6, &[Operand]),
+                3 => (7, &[Operand]),
+                4 => (40, &[QueryBracket]),
+                5 => (*rng.pick(&MATH_CALLS), &[MathBracket]),
+                6 | 7 => (59, &[Operand, RightOfQuestion]),
+                _ => (*rng.pick(&BINARIES), &[Operand, Operand]),
+            },
+        };
+        let node = TreeNode {
+            token: token(rng, op),
+            children: below.len() as u32,
+        };
+        nodes.push(node);
+        wanted.extend(below.iter().rev());
+    }
+    nodes
+}
+
+/// The tree with one node's operator or child count changed, as often plain as not.
+pub fn disturbed(rng: &mut Rng, mut nodes: Vec<TreeNode>) -> Vec<TreeNode> {
+    let node = rng.below(nodes.len());
+    if rng.chance(80) {
+        nodes[node].token.op = match rng.below(3) {
+            0 => rng.below(111) as u8,
+            1 => *rng.pick(&[4, 40, 60, 75, 59, 8, 110]),
+            _ => *rng.pick(&LEAVES),
+        };
+    } else {
+        nodes[node].children = rng.below(4) as u32;
+    }
+    nodes
+}
+
+/// Brackets in brackets round a leaf.
+pub fn nested_brackets(levels: usize) -> Vec<TreeNode> {
+    let mut nodes = vec![bare(4, 1); levels];
+    nodes.push(bare(61, 0));
+    nodes
+}
+
+/// Commas each of which is the left side of the next, over leaves.
+pub fn comma_list(leaves: usize) -> Vec<TreeNode> {
+    let mut nodes = vec![bare(75, 2); leaves - 1];
+    nodes.extend(vec![bare(61, 0); leaves]);
+    nodes
+}
+
+/// Sums whose right side is a sum.
+pub fn right_sums(leaves: usize) -> Vec<TreeNode> {
+    let mut nodes = [bare(9, 2), bare(61, 0)].repeat(leaves - 1);
+    nodes.push(bare(61, 0));
+    nodes
+}

@@ -1,0 +1,321 @@
+//! The write entry: the model by itself over document 01's lines, then the library beside it.
+
+use compare::plain_trees::{self, bare};
+use compare::writer_model::{self, Tree, Written};
+use oracle::generate::{Mixed, Rng};
+use oracle::words::{
+    Answer, Case, Token, TreeNode, decode_list, decode_tree, exact_set, tree_words, word,
+};
+
+fn float(place: u32) -> TreeNode {
+    node(61, 0, place)
+}
+
+fn node(op: u8, children: u32, start: u32) -> TreeNode {
+    let mut node = bare(op, children);
+    node.token.start = start;
+    node.token.end = start + 1;
+    node
+}
+
+/// Operator and start of each token of a plain tree.
+fn written(nodes: &[TreeNode]) -> Vec<(u8, u32)> {
+    let list = Tree::of(nodes).written();
+    list.iter().map(|token| (token.op, token.start)).collect()
+}
+
+fn refusal(words: &[u32]) -> Written {
+    writer_model::write(words, usize::MAX).0
+}
+
+#[test]
+fn a_product_under_a_sum_gets_a_pair_with_the_products_span() {
+    let nodes = [node(9, 2, 1), float(0), node(31, 2, 3), float(2), float(4)];
+    let list = [(61, 0), (9, 1), (4, 3), (61, 2), (31, 3), (61, 4), (5, 3)];
+    assert_eq!(written(&nodes), list);
+}
+
+#[test]
+fn a_comma_left_of_a_comma_and_a_colon_right_of_its_question_stand_alone() {
+    let commas = [node(75, 2, 3), node(75, 2, 1), float(0), float(2), float(4)];
+    let list = [(61, 0), (75, 1), (61, 2), (75, 3), (61, 4)];
+    assert_eq!(written(&commas), list);
+    let conditional = [node(59, 2, 1), float(0), node(60, 2, 3), float(2), float(4)];
+    let list = [(61, 0), (59, 1), (61, 2), (60, 3), (61, 4)];
+    assert_eq!(written(&conditional), list);
+    let right = [node(75, 2, 1), float(0), node(75, 2, 3), float(2), float(4)];
+    assert_eq!(
+        written(&right).len(),
+        7,
+        "a comma right of a comma is paired"
+    );
+}
+
+#[test]
+fn a_lone_colon_is_not_plain() {
+    let nodes = [bare(60, 2), bare(61, 0), bare(61, 0)];
+    assert_eq!(refusal(&tree_words(&nodes)), Written::Refused(13, 0));
+}
+
+#[test]
+fn an_empty_bracket_is_plain_under_a_math_call_only() {
+    let calls = |op| tree_words(&[bare(op, 1), bare(4, 0)]);
+    assert_eq!(refusal(&calls(36)), Written::Tokens(3));
+    assert_eq!(refusal(&calls(40)), Written::Refused(13, 1));
+}
+
+#[test]
+fn words_that_are_not_one_tree_fail_where_no_tree_goes_on() {
+    let sum = tree_words(&[bare(9, 2), bare(61, 0), bare(61, 0)]);
+    assert_eq!(refusal(&[]), Written::Refused(12, 0));
+    for cut in 1..sum.len() {
+        assert_eq!(refusal(&sum[..cut]), Written::Refused(12, cut));
+    }
+    let longer = [&sum[..], &[0]].concat();
+    assert_eq!(
+        refusal(&longer),
+        Written::Refused(12, 18),
+        "a word after the tree"
+    );
+    let damaged = |place: usize, to: u32| {
+        let mut words = sum.clone();
+        words[place] = to;
+        refusal(&words)
+    };
+    let edges = [
+        (6, word(1, 111), "an operator above 110"),
+        (6, word(1, 13 << 8 | 61), "a variant above 12"),
+        (6, word(1, 1 << 12 | 61), "another bit"),
+        (7, word(3, 0), "a wrong kind"),
+        (9, word(4, 1), "an upper half under variant 0"),
+        (10, word(5, 1), "a lower half under variant 0"),
+        (11, word(6, 1 << 14), "a count of more than fourteen bits"),
+        (11, word(6, 12_286), "a count that calls for 12,289 nodes"),
+    ];
+    for (place, to, edge) in edges {
+        assert_eq!(damaged(place, to), Written::Refused(12, place), "{edge}");
+    }
+    assert_eq!(
+        damaged(11, word(6, 12_285)),
+        Written::Refused(12, 18),
+        "12,288 nodes may come"
+    );
+}
+
+#[test]
+fn the_limits_of_nodes_and_tokens() {
+    let deep = |levels| tree_words(&plain_trees::nested_brackets(levels));
+    assert_eq!(refusal(&deep(2_047)), Written::Tokens(4_095));
+    assert_eq!(refusal(&deep(2_048)), Written::Refused(14, 0));
+    assert_eq!(refusal(&deep(12_287)), Written::Refused(14, 0));
+    // The last bracket's count is one node too many.
+    assert_eq!(refusal(&deep(12_288)), Written::Refused(12, 6 * 12_287 + 5));
+    let not = [vec![bare(7, 1)], plain_trees::nested_brackets(2_047)].concat();
+    assert_eq!(refusal(&tree_words(&not)), Written::Tokens(4_096));
+    let commas = tree_words(&plain_trees::comma_list(2_048));
+    assert_eq!(refusal(&commas), Written::Tokens(4_095));
+}
+
+/// Reads a list at a version, if the Rust source is at hand.
+fn read_again(list: &[u32], version: i16) -> Option<Vec<TreeNode>> {
+    let tokens = decode_list(list).expect("written words are legal");
+    let case = Case {
+        used: exact_set(&tokens),
+        source_len: 7,
+        version,
+        tokens,
+    };
+    match oracle::answer_if_at_hand(&case)? {
+        Answer::Tree(words) => decode_tree(&words),
+        Answer::Messages(records) => panic!("{records:?} at {version} to {:?}", case.tokens),
+    }
+}
+
+/// The written list of a plain tree reads as the tree, brackets taken away, at three versions.
+fn reads_as_written(rng: &mut Rng, nodes: &[TreeNode], list: &[u32]) {
+    let away = Tree::of(nodes).taken_away();
+    for version in [4, 5, 6, rng.below(20) as i16 - 3] {
+        if let Some(again) = read_again(list, version) {
+            assert_eq!(Tree::of(&again).taken_away(), away, "at version {version}");
+        }
+    }
+}
+
+#[test]
+fn a_written_tree_reads_as_it_was() {
+    let mut rng = Rng::new(11);
+    for round in 0..20_000 {
+        let size = 1 + rng.below(if round % 50 == 0 { 900 } else { 24 });
+        let nodes = plain_trees::plain(&mut rng, size);
+        let (answer, list) = writer_model::write(&tree_words(&nodes), usize::MAX);
+        if let Written::Tokens(_) = answer {
+            reads_as_written(&mut rng, &nodes, &list);
+        } else {
+            assert_eq!(answer, Written::Refused(14, 0));
+        }
+    }
+}
+
+#[test]
+fn a_tree_that_was_read_and_is_plain_reads_as_it_was() {
+    let mut rng = Rng::new(12);
+    let mut plain = 0;
+    for case in Mixed::new(12, 24).take(60_000) {
+        let Some(Answer::Tree(words)) = oracle::answer_if_at_hand(&case) else {
+            continue;
+        };
+        let (answer, list) = writer_model::write(&words, usize::MAX);
+        if let Written::Tokens(_) = answer {
+            plain += 1;
+            reads_as_written(
+                &mut rng,
+                &decode_tree(&words).expect("an answer is a tree"),
+                &list,
+            );
+        }
+    }
+    assert!(
+        plain > 4_000 || !oracle::COMPARED,
+        "only {plain} plain trees"
+    );
+}
+
+#[cfg(library)]
+mod library {
+    use super::*;
+    use compare::library;
+
+    /// The library answers as the model does, and fills the list as that says.
+    fn agrees(rng: &mut Rng, words: &[u32]) -> Written {
+        let (_, full) = writer_model::write(words, usize::MAX);
+        let room = match rng.below(4) {
+            0 => full.len(),
+            1 => full.len().saturating_sub(1),
+            2 => full.len() + rng.below(9),
+            _ => rng.below(full.len() + 1),
+        };
+        let before: Vec<u32> = (0..room).map(|_| rng.bits() as u32).collect();
+        let mut list = before.clone();
+        let given = words.to_vec();
+        let answer = library::write(&given, &mut list);
+        let (expected, front) = writer_model::write(words, room);
+        assert_eq!(answer, expected, "room {room}, words {words:x?}");
+        let filled = [&front[..], &before[front.len()..]].concat();
+        assert_eq!(list, filled, "words {words:x?}");
+        assert_eq!(given, words);
+        answer
+    }
+
+    #[test]
+    fn plain_trees_and_disturbed_ones() {
+        let mut rng = Rng::new(21);
+        let mut answers = [0; 4];
+        for round in 0..60_000 {
+            let size = 1 + rng.below(if round % 50 == 0 { 6_000 } else { 20 });
+            let mut nodes = plain_trees::plain(&mut rng, size);
+            if rng.chance(60) {
+                nodes = plain_trees::disturbed(&mut rng, nodes);
+            }
+            match agrees(&mut rng, &tree_words(&nodes)) {
+                Written::Tokens(_) => answers[0] += 1,
+                Written::Refused(number, _) => answers[number as usize - 12] += 1,
+            }
+        }
+        assert!(answers.iter().all(|&n| n > 20), "{answers:?}");
+    }
+
+    #[test]
+    fn words_damaged_in_each_field() {
+        let mut rng = Rng::new(22);
+        for _ in 0..60_000 {
+            let size = 1 + rng.below(12);
+            let nodes = plain_trees::plain(&mut rng, size);
+            let mut words = tree_words(&nodes);
+            for _ in 0..1 + rng.below(2) {
+                let place = rng.below(words.len());
+                words[place] = match rng.below(4) {
+                    0 => words[place] ^ 1 << rng.below(32),
+                    1 => word(1 + rng.below(6) as u32, words[place] & 0x1FFF_FFFF),
+                    2 => word(6, *rng.pick(&[0, 1, 2, 3, 12_286, 12_287, 12_288, 16_383])),
+                    _ => rng.bits() as u32,
+                };
+            }
+            if rng.chance(20) {
+                words.truncate(rng.below(words.len() + 1));
+            }
+            if rng.chance(10) {
+                words.push(rng.bits() as u32);
+            }
+            agrees(&mut rng, &words);
+        }
+    }
+
+    #[test]
+    fn every_operator_over_every_child_count_under_every_parent() {
+        let mut rng = Rng::new(23);
+        for parent in 0..=110 {
+            for child in 0..=110 {
+                for (above, below) in [(1, 0), (1, 1), (2, 0), (2, 1), (2, 2), (3, 0)] {
+                    let mut nodes = vec![bare(parent, above)];
+                    for _ in 0..above {
+                        nodes.push(bare(child, below));
+                        nodes.extend(
+                            (0..below)
+                                .map(|_| bare(*[61, 4].get(below as usize % 2).unwrap_or(&61), 0)),
+                        );
+                    }
+                    agrees(&mut rng, &tree_words(&nodes));
+                }
+            }
+        }
+    }
+
+    #[test]
+    fn the_largest_trees() {
+        let mut rng = Rng::new(24);
+        let sizes = [
+            1, 2, 1_366, 2_047, 2_048, 2_049, 4_096, 6_144, 6_145, 12_287, 12_288,
+        ];
+        for size in sizes {
+            agrees(&mut rng, &tree_words(&plain_trees::nested_brackets(size)));
+            agrees(&mut rng, &tree_words(&plain_trees::comma_list(size)));
+            agrees(&mut rng, &tree_words(&plain_trees::right_sums(size)));
+            agrees(&mut rng, &tree_words(&vec![bare(7, 1); size]));
+        }
+    }
+
+    #[test]
+    fn trees_that_were_read() {
+        let mut rng = Rng::new(25);
+        for case in Mixed::new(25, 24).take(100_000) {
+            if let Some(Answer::Tree(words)) = oracle::answer_if_at_hand(&case) {
+                agrees(&mut rng, &words);
+            }
+        }
+    }
+
+    #[test]
+    fn tokens_are_copied_and_brackets_carry_the_span_alone() {
+        let paid = Token {
+            op: 31,
+            variant: 12,
+            value: 0xFFFE_0001,
+            start: 9,
+            end: 3,
+        };
+        let mut product = bare(31, 2);
+        product.token = paid;
+        let nodes = [bare(6, 1), product, bare(61, 0), bare(62, 0)];
+        let mut list = vec![0; 30];
+        let answer = library::write(&tree_words(&nodes), &mut list);
+        assert_eq!(answer, Written::Tokens(6));
+        let list = decode_list(&list).expect("the list is legal");
+        let bracket = |op| Token {
+            op,
+            variant: 0,
+            value: 0,
+            ..paid
+        };
+        assert_eq!((list[1], list[3], list[5]), (bracket(4), paid, bracket(5)));
+    }
+}

@@ -1,0 +1,31 @@
+// The numbers of the refusals of document 01's table that reading a list and writing a tree can meet. Leans on nothing.
+
+pub const LIST_NOT_WHOLE: u32 = 1;
+
+pub const TOO_MANY_TOKENS: u32 = 2;
+
+pub const SHORT_TREE_BUFFER: u32 = 3;
+
+pub const SHORT_MESSAGE_BUFFER: u32 = 4;
+
+pub const SHORT_WORK_BUFFER: u32 = 5;
+
+pub const USED_SET_TOO_HIGH: u32 = 6;
+
+pub const SOURCE_TOO_LONG: u32 = 7;
+
+pub const WRONG_KIND: u32 = 8;
+
+pub const HIGH_OPERATOR: u32 = 9;
+
+pub const HIGH_VARIANT: u32 = 10;
+
+pub const OTHER_BIT: u32 = 11;
+
+pub const NOT_ONE_TREE: u32 = 12;
+
+pub const NOT_PLAIN: u32 = 13;
+
+pub const WRITTEN_TOO_LONG: u32 = 14;
+
+pub const SHORT_LIST: u32 = 15;

@@ -1,0 +1,160 @@
+-- The entry's answers: what each of the three judgements makes of a call, and of the list that it lends.
+use Prim.Native.Nat.{ℕ, suc, _+_, _*_, _≤_, _<_}
+use mathlib.Core.Path.{_≡_, refl, ap, sym, _∙_}
+use mathlib.Core.Bool.{Bool, true, false, false≢true}
+use mathlib.Core.List.{List, [], _∷_, _++_}
+use mathlib.Core.Option.{Option, none, some}
+use native.Mathlib.Nat.{zero-add}
+use native.Mathlib.Omega.{arith}
+use lib.Dec.{leb}
+use lib.ListN.{length, length-append}
+use borrow.Author.Tests.{le-leb, lt-leb}
+use Rattle.molang.specs.Forest.{Token, Forest, nil, node, count, size}
+use Rattle.molang.specs.Plain.{placeOf, plainForm, unplain, unplainAt}
+use Rattle.molang.specs.Words.{operatorSlot, lowOf, tokenOf, listWords}
+use Rattle.molang.specs.Parse.{mostTokens, must, inFront}
+use Rattle.molang.specs.Write.{writtenCount}
+use Rattle.molang.specs.WriteEntry.{treeFault, firstTrees, otherTrees, treesOf, refusedAt, orElse, forestRefusal, writeRefusal, writtenTokens, unwritten, tokens, writeTold, writeAnswered, listIn, listAfter}
+use Rattle.molang.proofs.Trees.{some-none}
+use Rattle.molang.proofs.Writing.{written-length}
+use Rattle.write.specs.declared.plain.Place.{Place}
+use Rattle.write.specs.declared.plain.Place.the-variants.{Enclosed}
+use Rattle.write.specs.declared.plain.Judged.the-variants.{Plain, Unplain}
+use Rattle.write.specs.Answers.{shape, call, judgement, tooLong, filling, filled}
+use Rattle.write.specs.Places.{formPlace}
+use Rattle.write.specs.Shaped.{Shaped, noTrees, aNode, mostChildren, OneTree}
+use Rattle.write.specs.Spelling.{laid, Room, Writable}
+use Rattle.write.proofs.RowLaws.{Opened, opened, shaped-room, shaped-count, count-first, beside-split}
+use Rattle.write.proofs.JudgeLaws.{unplain-node, unlessPlain, orLater, rowUnplain, judgedBy, judgement-by, Stand, on-none, on-one, on-two, row-beside}
+use Rattle.write.proofs.SpellLaws.{list-words-length}
+
+-- FILLING THE LIST with a plain tree.
+module _ {tree : List ℕ} {n : ℕ} (w : Writable tree n) (list : List ℕ) where
+  root : Opened 2 1 tree
+  root = opened (w .shaped) (omega (arith, shaped-room (w .shaped)))
+
+  count-is : writtenCount (root .k) (root .cs) ≡ n
+  unfolding writtenTokens
+  count-is = omega (arith, written-length (root .k) (root .cs) [], w .counted, ap (λ (f : Forest). length (writtenTokens f)) (root .trees))
+
+  too-long : tooLong (treesOf tree) (length list) ≡ orElse (must (leb n mostTokens) 14) (must (leb (5 * n) (length list)) 15)
+  unfolding tooLong
+  too-long = rw (root .trees, count-is)
+
+  pub too-many : 4096 < n → (unwritten 14 0 ≡ filling (treesOf tree) list) × (list ≡ filled (treesOf tree) list)
+  unfolding filling filled writeTold listIn must orElse
+  too-many h = let e = lt-leb n 4096 h in (rw (too-long, e), rw (too-long, e))
+
+  pub too-short : n ≤ 4096 → length list < 5 * n → (unwritten 15 0 ≡ filling (treesOf tree) list) × (list ≡ filled (treesOf tree) list)
+  unfolding filling filled writeTold listIn must orElse
+  too-short a b =
+      let e = le-leb n 4096 a in
+      let f = lt-leb (5 * n) (length list) b in
+      (rw (too-long, e, f), rw (too-long, e, f))
+
+  module _ (a : n ≤ 4096) (b : 5 * n ≤ length list) where
+    pub list-room : Room writtenTokens tree list 0
+    list-room = record { others = 0; shaped = w .shaped; room = omega (arith, list-words-length (writtenTokens (treesOf tree)), w .counted) }
+
+    pub list-filled : (list' : List ℕ) → list' ≡ laid 0 (listWords (writtenTokens (treesOf tree))) list
+        → (tokens n ≡ filling (treesOf tree) list) × (list' ≡ filled (treesOf tree) list)
+    unfolding filling filled writeTold listIn must orElse laid inFront
+    list-filled list' e =
+        let f = le-leb n 4096 a in
+        let g = le-leb (5 * n) (length list) b in
+        (rw (too-long, f, g, ← w .counted), rw (too-long, f, g) (e ∙ rw zero-add))
+
+-- A PLAIN TREE has at most two children a node.
+plain-by-none : (b : Bool) (n : ℕ) (later : Option ℕ) → unlessPlain b n later ≡ none → (b ≡ true) × (later ≡ none)
+unfolding unlessPlain
+plain-by-none true n later e = (refl, e)
+plain-by-none false n later e = some-none e
+
+few-plain : (p : Place) (k : Token) (cs : Forest) → plainForm (formPlace p) k cs ≡ true → count cs ≤ 2
+unfolding plainForm count
+few-plain p k nil e = omega arith
+few-plain p k (node x xs nil) e = omega arith
+few-plain p k (node x xs (node y ys nil)) e = omega arith
+few-plain p k (node x xs (node y ys (node z zs r))) e = absurd (false≢true e)
+
+-- The children of a plain node stand at as many places.
+record Standing (k : Token) (cs : Forest) : Type 0 where
+  places : List Place
+  stand : Stand k 0 places cs
+  all : length places ≡ count cs
+
+standing : (p : Place) (k : Token) (cs : Forest) → plainForm (formPlace p) k cs ≡ true → Standing k cs
+unfolding count
+standing p k nil e = record { places = _; stand = on-none p k nil refl .0; all = refl }
+standing p k (node x xs nil) e = record { places = _; stand = on-one p k (node x xs nil) refl .0; all = refl }
+standing p k (node x xs (node y ys nil)) e = record { places = _; stand = on-two p k (node x xs (node y ys nil)) e refl .0; all = refl }
+standing p k (node x xs (node y ys (node z zs r))) e = absurd (omega (arith, few-plain p k (node x xs (node y ys (node z zs r))) e))
+
+slim : {p : ℕ} {ws : List ℕ} → Shaped mostChildren p ws → (ps : List Place) → length ps ≡ p → (n : ℕ) → rowUnplain ps n (treesOf ws) ≡ none
+    → Shaped 2 p ws
+unfolding treesOf rowUnplain
+slim noTrees ps h n e = noTrees
+slim (aNode five few later) [] h n e = absurd (omega arith)
+slim (aNode {trees = trees} {a = a} {b = b} {c = c} {d = d} {e = f} {n = m} {ws = ws} five few later) (q ∷ ps) h n e =
+    let g = treesOf ws in
+    let k = tokenOf a b c d f in
+    let cs = firstTrees (lowOf m) g in
+    let rest = otherTrees (lowOf m) g in
+    let x = plain-by-none (plainForm (formPlace q) k cs) n (orLater (unplain (some k) 0 (suc n) cs) (rowUnplain ps (suc n + size cs) rest)) e in
+    let counts : count cs ≡ lowOf m = count-first (lowOf m) g (omega (arith, shaped-count later)) in
+    let st = standing q k cs (x .0) in
+    let row : rowUnplain (st .places ++ ps) (suc n) g ≡ none =
+    ap (rowUnplain (st .places ++ ps) (suc n)) (sym (beside-split (lowOf m) g)) ∙ (row-beside (st .stand) ps (suc n) rest ∙ x .1)
+    in
+    let small : lowOf m ≤ 2 = omega (arith, few-plain q k cs (x .0)) in
+    aNode five small
+    (slim later (st .places ++ ps) (omega (arith, length-append (st .places) ps, st .all)) (suc n) row)
+
+-- What a judgement says.
+plain-says : (o : Option ℕ) (m n : ℕ) → Plain n ≡ judgedBy o m → (o ≡ none) × (n ≡ m)
+unfolding judgedBy
+plain-says none m n e = (refl, cc)
+plain-says (some i) m n e = let z : _≡_ {A = ℕ} 0 1 = cc in absurd (omega arith)
+
+unplain-says : (o : Option ℕ) (m i : ℕ) → Unplain i ≡ judgedBy o m → o ≡ some i
+unfolding judgedBy
+unplain-says none m i e = let z : _≡_ {A = ℕ} 0 1 = cc in absurd (omega arith)
+unplain-says (some j) m i e = cc
+
+-- THE ANSWERS, the first that holds.
+pub fault-answer : (tree list : List ℕ) (i : ℕ) → some i ≡ treeFault 0 operatorSlot 0 (shape 1 0) tree
+    → (unwritten 12 i ≡ writeAnswered (call tree list)) × (list ≡ listAfter (call tree list))
+unfolding writeAnswered listAfter writeRefusal refusedAt writeTold listIn
+fault-answer tree list i e = (rw (← e), rw (← e))
+
+module _ {tree : List ℕ} (list : List ℕ) (whole : none ≡ treeFault 0 operatorSlot 0 (shape 1 0) tree) (one : OneTree tree) where
+  top : Opened mostChildren 1 tree
+  top = opened (one .shaped) (omega (arith, shaped-room (one .shaped)))
+
+  judged : judgement (treesOf tree) ≡ judgedBy (unplainAt (top .k) (top .cs)) (writtenCount (top .k) (top .cs))
+  unfolding judgement
+  judged = rw (top .trees) (judgement-by (unplainAt (top .k) (top .cs)) (writtenCount (top .k) (top .cs)) _ refl)
+
+  pub unplain-answer : (i : ℕ) → Unplain i ≡ judgement (treesOf tree)
+      → (unwritten 13 i ≡ writeAnswered (call tree list)) × (list ≡ listAfter (call tree list))
+  unfolding writeAnswered listAfter writeRefusal refusedAt forestRefusal writeTold listIn
+  unplain-answer i e =
+      let u = unplain-says _ _ i (e ∙ judged) in
+      (rw (← whole, top .trees, u), rw (← whole, top .trees, u))
+
+  module _ (n : ℕ) (e : Plain n ≡ judgement (treesOf tree)) where
+    is-plain : (unplainAt (top .k) (top .cs) ≡ none) × (n ≡ writtenCount (top .k) (top .cs))
+    is-plain = plain-says (unplainAt (top .k) (top .cs)) _ n (e ∙ judged)
+
+    pub plain-writable : Writable tree n
+    unfolding rowUnplain unplainAt unplain placeOf writtenTokens
+    plain-writable =
+        let row : rowUnplain (Enclosed ∷ []) 0 (treesOf tree) ≡ none = rw (top .trees) (sym (unplain-node none 0 0 (top .k) (top .cs) nil) ∙ is-plain .0) in
+        record {
+          shaped = slim (one .shaped) (Enclosed ∷ []) refl 0 row;
+          counted = rw (top .trees) (omega (arith, written-length (top .k) (top .cs) [], is-plain .1));
+        }
+
+    pub plain-answer : (filling (treesOf tree) list ≡ writeAnswered (call tree list)) × (filled (treesOf tree) list ≡ listAfter (call tree list))
+    unfolding writeAnswered listAfter writeRefusal refusedAt forestRefusal filling filled tooLong
+    plain-answer = (rw (← whole, top .trees, is-plain .0), rw (← whole, top .trees, is-plain .0))

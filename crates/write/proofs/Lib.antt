@@ -1,0 +1,7 @@
+pub mod ShapeLaws
+pub mod RowLaws
+pub mod JudgeLaws
+pub mod SpellLaws
+pub mod CaseLaws
+pub mod StepLaws
+pub mod EntryLaws

@@ -1,0 +1,55 @@
+-- `write::plain::is_paired` meets its contract: by the node, then by its place. Assumes nothing.
+use borrow.Author.Tests.{eq-eqb, ne-eqb}
+use Rattle.molang.specs.Operator.{isBracket}
+use Rattle.write.specs.Places.{isPaired}
+use Rattle.write.proofs.CaseLaws.{operand-unspared}
+use borrow.Author.Needs.{needs}
+use Rattle.write.proofs.plain.is_paired.Statement.{statement}
+use Rattle.write.proofs.plain.is_paired.Tie as tie
+
+returns : tie.Need-returns
+unfolding isPaired isBracket
+returns c = rw (eq-eqb _ 0 (c .if1 .taken))
+
+returns-2 : tie.Need-returns-2
+unfolding isPaired isBracket
+returns-2 c = rw (ne-eqb _ 0 (c .before .if1 .left), eq-eqb _ 4 (c .if2 .taken))
+
+enum-told : tie.Need-enum-told
+enum-told c = search needs
+
+enum-told-2 : tie.Need-enum-told-2
+enum-told-2 c = search needs
+
+enum-told-3 : tie.Need-enum-told-3
+enum-told-3 c = search needs
+
+returns-3 : tie.Need-returns-3
+unfolding isPaired isBracket
+returns-3 c = rw (c .enum-told .given .1, ne-eqb _ 0 (c .before .before .before .if1 .left), ne-eqb _ 4 (c .before .before .if2 .left))
+
+returns-4 : tie.Need-returns-4
+unfolding isPaired isBracket
+returns-4 c = rw (c .enum-told2 .given .1, ne-eqb _ 0 (c .before .before .before .if1 .left), ne-eqb _ 4 (c .before .before .if2 .left))
+
+returns-5 : tie.Need-returns-5
+unfolding isPaired isBracket
+returns-5 c = rw (c .enum-told3 .given .1, ne-eqb _ 0 (c .before .before .before .if1 .left), ne-eqb _ 4 (c .before .before .if2 .left))
+
+returns-6 : tie.Need-returns-6
+unfolding isPaired isBracket
+returns-6 c = rw (operand-unspared _ _ (c .match .keys4), ne-eqb _ 0 (c .before .before .if1 .left), ne-eqb _ 4 (c .before .if2 .left))
+
+pub is-paired-spec : {M : Type 1} → statement M
+is-paired-spec =
+    tie.close
+    (tie.spec
+    returns
+    returns-2
+    enum-told
+    enum-told-2
+    enum-told-3
+    returns-3
+    returns-4
+    returns-5
+    returns-6)

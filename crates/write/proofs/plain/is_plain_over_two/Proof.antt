@@ -1,0 +1,27 @@
+-- `write::plain::is_plain_over_two` meets its contract: `:`, or a binary operator. Assumes nothing.
+use mathlib.Core.Bool.{or-false}
+use borrow.Author.Tests.{ne-eqb}
+use Rattle.molang.specs.Operator.{between}
+use Rattle.molang.specs.Plain.{isPlainBinary}
+use Rattle.write.specs.Places.{plainBy}
+use borrow.Author.Needs.{needs}
+use Rattle.write.proofs.plain.is_plain_over_two.Statement.{statement}
+use Rattle.write.proofs.plain.is_plain_over_two.Tie as tie
+
+is-right-of-question-requires : tie.Need-is-right-of-question-requires
+is-right-of-question-requires c κs = search needs
+
+returns : tie.Need-returns
+unfolding plainBy isPlainBinary between
+returns c = rw (c .before .if1 .taken) (c .is-right-of-question .ensures)
+
+is-plain-binary-requires : tie.Need-is-plain-binary-requires
+is-plain-binary-requires c κs = search needs
+
+returns-2 : tie.Need-returns-2
+unfolding plainBy
+returns-2 c = rw (ne-eqb _ 60 (c .before .if1 .left), or-false) (c .is-plain-binary .ensures)
+
+pub is-plain-over-two-spec : {M : Type 1} → statement M
+is-plain-over-two-spec =
+    tie.close (tie.spec is-right-of-question-requires returns is-plain-binary-requires returns-2)

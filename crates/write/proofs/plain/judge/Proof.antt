@@ -1,0 +1,195 @@
+-- `write::plain::judge` meets its contract. The loop's invariant is `Judging`; the measure is the nodes that are left. Assumes nothing.
+use Prim.Native.Nat.{_-_}
+use mathlib.Core.Path.{refl, sym, _∙_}
+use native.Mathlib.Omega.{arith}
+use borrow.Author.Needs.{needs}
+use borrow.Author.Tests.{not-true, not-false}
+use lib.ListN.{getD}
+use Rattle.write.specs.declared.plain.Place.the-variants.{Enclosed}
+use Rattle.write.proofs.JudgeLaws.{Judging, few-tokens, judging-begins, judging-room, judging-room-two, judging-refused, judging-none, judging-one, judging-two, judging-ends}
+use Rattle.write.proofs.JudgeLaws.{Judging, judging-begins, judging-room, judging-refused, judging-none, judging-one, judging-two, judging-ends}
+use Rattle.write.proofs.plain.judge.Statement.{statement}
+use Rattle.write.proofs.plain.judge.Tie as tie
+
+abbrev Inv-loop : tie.InvT-loop
+Inv-loop tree nodes waiting₀ top₀ tokens₀ node₀ waiting top tokens node = Judging tree waiting top tokens node
+
+abbrev μ-loop : tie.MeasureT-loop
+μ-loop tree nodes waiting₀ top₀ tokens₀ node₀ waiting top tokens node = nodes - node
+
+loop-holds : tie.Need-loop-holds Inv-loop μ-loop
+loop-holds c = judging-begins (c .before .args .tree .now) _ (c .before .pre) refl refl
+
+mul-at : tie.Need-mul-at Inv-loop μ-loop
+mul-at c = search needs
+
+mul-operator : tie.Need-mul-operator Inv-loop μ-loop
+mul-operator c = search needs
+
+shared-slice-read-operator : tie.Need-shared-slice-read-operator Inv-loop μ-loop
+shared-slice-read-operator c = search needs
+
+operator-requires : tie.Need-operator-requires Inv-loop μ-loop
+operator-requires c κs = search needs
+
+add-low : tie.Need-add-low Inv-loop μ-loop
+add-low c = search needs
+
+mul-low : tie.Need-mul-low Inv-loop μ-loop
+mul-low c = search needs
+
+shared-slice-read-low : tie.Need-shared-slice-read-low Inv-loop μ-loop
+shared-slice-read-low c = search needs
+
+low-requires : tie.Need-low-requires Inv-loop μ-loop
+low-requires c κs = search needs
+
+sub-top : tie.Need-sub-top Inv-loop μ-loop
+sub-top c = judging-room (c .before .before .before .before .before .before .before .pre) (c .before .before .before .before .before .loop .inv) (c .before .before .before .before .loop-test .taken) .1
+
+array-copy-out-place : tie.Need-array-copy-out-place Inv-loop μ-loop
+array-copy-out-place c = omega (arith, judging-room (c .before .before .before .before .before .before .before .pre) (c .before .before .before .before .before .loop .inv) (c .before .before .before .before .loop-test .taken) .2)
+
+operator-after-requires : tie.Need-operator-after-requires Inv-loop μ-loop
+operator-after-requires c κs = judging-room (c .before .before .before .before .before .before .before .before .pre) (c .before .before .before .before .before .before .loop .inv) (c .before .before .before .before .before .loop-test .taken) .0
+
+is-plain-requires : tie.Need-is-plain-requires Inv-loop μ-loop
+is-plain-requires c κs = search needs
+
+returns : tie.Need-returns Inv-loop μ-loop
+returns c =
+    let at = c .before in
+    let head = at .before .before .before .before .before .before .before .before in
+    judging-refused (head .before .before .pre) (head .loop .inv) (at .before .before .before .before .before .before .before .loop-test .taken)
+    (at .before .before .before .before .before .operator .ensures) (at .before .before .before .low .ensures)
+    (at .before .operator-after .ensures) refl (sym (at .is-plain .ensures) ∙ not-true _ (c .if1 .taken))
+
+add-node : tie.Need-add-node Inv-loop μ-loop
+add-node c = search needs
+
+tokens-for-requires : tie.Need-tokens-for-requires Inv-loop μ-loop
+tokens-for-requires c κs = search needs
+
+add-tokens : tie.Need-add-tokens Inv-loop μ-loop
+add-tokens c =
+    let at = c .before .before in
+    let head = at .before .before .before .before .before .before .before .before in
+    omega (
+      arith,
+      c .tokens-for .ensures,
+      head .loop .inv .few,
+      judging-room (c .before .before .before .before .before .before .before .before .before .before .before .before .pre) (c .before .before .before .before .before .before .before .before .before .before .loop .inv) (c .before .before .before .before .before .before .before .before .before .loop-test .taken) .2,
+      few-tokens (getD (head .loop .waiting) (head .loop .top - 1) Enclosed) (at .before .before .before .before .before .operator .result)
+          (at .before .before .before .low .result),
+    )
+
+place-of-only-requires : tie.Need-place-of-only-requires Inv-loop μ-loop
+place-of-only-requires c κs = search needs
+
+array-set-from-waiting : tie.Need-array-set-from-waiting Inv-loop μ-loop
+array-set-from-waiting c = omega (arith, judging-room (c .before .before .before .before .before .before .before .before .before .before .before .before .before .before .pre) (c .before .before .before .before .before .before .before .before .before .before .before .before .loop .inv) (c .before .before .before .before .before .before .before .before .before .before .before .loop-test .taken) .2)
+
+add-top : tie.Need-add-top Inv-loop μ-loop
+add-top c = omega (arith, judging-room (c .before .before .before .before .before .before .before .before .before .before .before .before .before .before .pre) (c .before .before .before .before .before .before .before .before .before .before .before .before .loop .inv) (c .before .before .before .before .before .before .before .before .before .before .before .loop-test .taken) .2)
+
+loop-less : tie.Need-loop-less Inv-loop μ-loop
+loop-less c = omega (arith, c .before .before .before .before .before .before .before .before .before .before .before .loop-test .taken)
+
+loop-again : tie.Need-loop-again Inv-loop μ-loop
+loop-again c =
+    rw (c .place-of-only .ensures, c .before .before .tokens-for .ensures)
+    (let at = c .before .before .before .before in
+    let head = at .before .before .before .before .before .before .before .before in
+    judging-one (head .before .before .pre) (head .loop .inv) (at .before .before .before .before .before .before .before .loop-test .taken)
+    (at .before .before .before .before .before .operator .ensures) (at .before .before .before .low .ensures)
+    (at .before .operator-after .ensures) refl (sym (at .is-plain .ensures) ∙ not-false _ (c .before .before .before .if1 .left)) (c .before .if2 .taken))
+
+place-of-right-requires : tie.Need-place-of-right-requires Inv-loop μ-loop
+place-of-right-requires c κs = search needs
+
+array-set-from-waiting-2 : tie.Need-array-set-from-waiting-2 Inv-loop μ-loop
+array-set-from-waiting-2 c = omega (arith, judging-room (c .before .before .before .before .before .before .before .before .before .before .before .before .before .before .before .pre) (c .before .before .before .before .before .before .before .before .before .before .before .before .before .loop .inv) (c .before .before .before .before .before .before .before .before .before .before .before .before .loop-test .taken) .2)
+
+place-of-left-requires : tie.Need-place-of-left-requires Inv-loop μ-loop
+place-of-left-requires c κs = search needs
+
+add-waiting : tie.Need-add-waiting Inv-loop μ-loop
+add-waiting c = omega (arith, judging-room (c .before .before .before .before .before .before .before .before .before .before .before .before .before .before .before .before .pre) (c .before .before .before .before .before .before .before .before .before .before .before .before .before .before .loop .inv) (c .before .before .before .before .before .before .before .before .before .before .before .before .before .loop-test .taken) .2)
+
+array-set-from-waiting-3 : tie.Need-array-set-from-waiting-3 Inv-loop μ-loop
+array-set-from-waiting-3 c =
+    let at = c .before .before .before .before .before .before in
+    let head = at .before .before .before .before .before .before .before .before in
+    judging-room-two (head .before .before .pre) (head .loop .inv) (at .before .before .before .before .before .before .before .loop-test .taken)
+    (at .before .before .before .before .before .operator .ensures) (at .before .before .before .low .ensures)
+    (at .before .operator-after .ensures) refl (c .before .before .if3 .taken)
+
+add-top-2 : tie.Need-add-top-2 Inv-loop μ-loop
+add-top-2 c = omega (arith, judging-room (c .before .before .before .before .before .before .before .before .before .before .before .before .before .before .before .before .pre) (c .before .before .before .before .before .before .before .before .before .before .before .before .before .before .loop .inv) (c .before .before .before .before .before .before .before .before .before .before .before .before .before .loop-test .taken) .2)
+
+loop-less-2 : tie.Need-loop-less-2 Inv-loop μ-loop
+loop-less-2 c = omega (arith, c .before .before .before .before .before .before .before .before .before .before .before .before .before .loop-test .taken)
+
+loop-again-2 : tie.Need-loop-again-2 Inv-loop μ-loop
+loop-again-2 c =
+    rw (c .place-of-left .ensures, c .before .place-of-right .ensures, c .before .before .before .before .tokens-for .ensures)
+    (let at = c .before .before .before .before .before .before in
+    let head = at .before .before .before .before .before .before .before .before in
+    judging-two (head .before .before .pre) (head .loop .inv) (at .before .before .before .before .before .before .before .loop-test .taken)
+    (at .before .before .before .before .before .operator .ensures) (at .before .before .before .low .ensures)
+    (at .before .operator-after .ensures) refl (sym (at .is-plain .ensures) ∙ not-false _ (c .before .before .before .before .before .if1 .left)) (c .before .before .if3 .taken))
+
+loop-less-3 : tie.Need-loop-less-3 Inv-loop μ-loop
+loop-less-3 c = omega (arith, c .before .before .before .before .before .before .before .before .before .before .before .loop-test .taken)
+
+loop-again-3 : tie.Need-loop-again-3 Inv-loop μ-loop
+loop-again-3 c =
+    rw (c .before .before .tokens-for .ensures)
+    (let at = c .before .before .before .before in
+    let head = at .before .before .before .before .before .before .before .before in
+    judging-none (head .before .before .pre) (head .loop .inv) (at .before .before .before .before .before .before .before .loop-test .taken)
+    (at .before .before .before .before .before .operator .ensures) (at .before .before .before .low .ensures)
+    (at .before .operator-after .ensures) refl (sym (at .is-plain .ensures) ∙ not-false _ (c .before .before .before .if1 .left)) (c .before .if2 .left) (c .if3 .left))
+
+returns-2 : tie.Need-returns-2 Inv-loop μ-loop
+returns-2 c = judging-ends (c .before .loop .inv) (c .loop-test .left)
+
+pub judge-spec : {M : Type 1} → statement M
+judge-spec =
+    tie.close
+    (tie.spec
+    Inv-loop
+    μ-loop
+    loop-holds
+    mul-at
+    mul-operator
+    shared-slice-read-operator
+    operator-requires
+    add-low
+    mul-low
+    shared-slice-read-low
+    low-requires
+    sub-top
+    array-copy-out-place
+    operator-after-requires
+    is-plain-requires
+    returns
+    add-node
+    tokens-for-requires
+    add-tokens
+    place-of-only-requires
+    array-set-from-waiting
+    add-top
+    loop-less
+    loop-again
+    place-of-right-requires
+    array-set-from-waiting-2
+    place-of-left-requires
+    add-waiting
+    array-set-from-waiting-3
+    add-top-2
+    loop-less-2
+    loop-again-2
+    loop-less-3
+    loop-again-3
+    returns-2)

@@ -1,0 +1,68 @@
+-- What each case of the crate's enums says: document 01's number and values for an answer, the definition's slot and place for the others.
+use Prim.Native.Nat.{ℕ, _*_}
+use mathlib.Core.Bool.{Bool, true, false}
+use mathlib.Core.List.{List}
+use mathlib.Core.Option.{Option, none, some}
+use lib.Dec.{leb}
+use lib.ListN.{length}
+use Rattle.molang.specs.Forest.{Forest, nil, node}
+use Rattle.molang.specs.Words as words
+use Rattle.molang.specs.Plain.{unplainAt}
+use Rattle.molang.specs.Parse.{mostTokens, must}
+use Rattle.molang.specs.Write.{writtenCount}
+use Rattle.molang.specs.WriteEntry.{Shape, WriteCall, WriteTold, tokens, unwritten, writeTold, orElse, listIn}
+use Rattle.write.specs.declared.Written.{Written}
+use Rattle.write.specs.declared.Written.the-variants.{Tokens, Refused}
+use Rattle.write.specs.declared.shape.Slot.{Slot}
+use Rattle.write.specs.declared.shape.Slot.the-variants.{Operator, Start, End, Upper, Lower, Count}
+use Rattle.write.specs.declared.shape.Fault.{Fault}
+use Rattle.write.specs.declared.shape.Fault.the-variants.{Nowhere, At}
+use Rattle.write.specs.declared.plain.Judged.{Judged}
+use Rattle.write.specs.declared.plain.Judged.the-variants.{Plain, Unplain}
+
+-- The write entry's answer.
+abbrev pub told : Written → WriteTold
+told (Tokens count) = tokens count
+told (Refused number place) = unwritten number place
+
+abbrev pub slotOf : Slot → words.Slot
+slotOf Operator = words.operatorSlot
+slotOf Start = words.startSlot
+slotOf End = words.endSlot
+slotOf Upper = words.upperSlot
+slotOf Lower = words.lowerSlot
+slotOf Count = words.countSlot
+
+-- Answer 12's place, if there is one.
+abbrev pub placeOf : Fault → Option ℕ
+placeOf Nowhere = none
+placeOf (At place) = some place
+
+-- A word without fault.
+abbrev pub isLegal : Option ℕ → Bool
+isLegal none = true
+isLegal (some n) = false
+
+abbrev pub shape : ℕ → ℕ → Shape
+shape called begun = record { called = called; begun = begun }
+
+-- Answer 13's place, or the written count of a plain tree.
+unfoldable pub judgement : Forest → Judged
+judgement nil = Plain 0
+judgement (node k cs rest) = elim (unplainAt k cs) [ some n ↦ Unplain n | none ↦ Plain (writtenCount k cs) ]
+
+-- A call of the write entry.
+abbrev pub call : List ℕ → List ℕ → WriteCall
+call tree list = record { tree = tree; list = list }
+
+-- Answers 14 and 15 to a plain tree.
+unfoldable pub tooLong : Forest → ℕ → Option words.Refusal
+tooLong nil room = none
+tooLong (node k cs rest) room = orElse (must (leb (writtenCount k cs) mostTokens) 14) (must (leb (5 * writtenCount k cs) room) 15)
+
+-- What is answered to a plain tree, and what the list holds after it.
+unfoldable pub filling : Forest → List ℕ → WriteTold
+filling f list = writeTold (tooLong f (length list)) f
+
+unfoldable pub filled : Forest → List ℕ → List ℕ
+filled f list = listIn (tooLong f (length list)) f list

@@ -1,0 +1,60 @@
+-- Where a node stands, as the code has it, and what follows from it: the plain forms and the added pairs by numbers alone.
+use Prim.Native.Nat.{ℕ, zero, suc, _+_}
+use mathlib.Core.Bool.{Bool, true, false, _||_, _&&_, not}
+use mathlib.Core.List.{[], _∷_}
+use lib.Dec.{eqb}
+use Rattle.molang.specs.Operator
+use Rattle.molang.specs.Operator.{isOneOf, isMathCall, isBracket}
+use Rattle.molang.specs.Plain as plain
+use Rattle.molang.specs.Plain.{isPlainLeaf, isPlainBinary, isCall, isRightOfQuestion, isUnderMathCall}
+use Rattle.write.specs.declared.plain.Place.{Place}
+use Rattle.write.specs.declared.plain.Place.the-variants.{Enclosed, UnderMathCall, LeftOfComma, RightOfQuestion, Operand}
+
+-- The place as the plain forms tell places apart.
+abbrev pub formPlace : Place → plain.Place
+formPlace Enclosed = plain.elsewhere
+formPlace UnderMathCall = plain.underMathCall
+formPlace LeftOfComma = plain.elsewhere
+formPlace RightOfQuestion = plain.rightOfQuestion
+formPlace Operand = plain.elsewhere
+
+-- The place of the one child of an operator, and those of its two children.
+unfoldable pub onlyPlace : ℕ → Place
+onlyPlace op = elim (isBracket op) [ true ↦ Enclosed | false ↦ elim (isMathCall op) [ true ↦ UnderMathCall | false ↦ Operand ] ]
+
+unfoldable pub leftPlace : ℕ → Place
+leftPlace op = elim (eqb op Operator.comma) [ true ↦ LeftOfComma | false ↦ Operand ]
+
+unfoldable pub rightPlace : ℕ → Place
+rightPlace op = elim (eqb op Operator.conditional) [ true ↦ RightOfQuestion | false ↦ Operand ]
+
+-- What stands before any one operand in a plain tree.
+unfoldable pub isPrefix : ℕ → Bool
+isPrefix op = isOneOf (Operator.leftParenthesis ∷ Operator.negate ∷ Operator.logicalNot ∷ []) op
+
+-- The plain forms, over a number of children of which the first has the operator `first`.
+unfoldable pub plainBy : Place → ℕ → ℕ → ℕ → Bool
+plainBy p op zero first = isPlainLeaf op || (isBracket op && isUnderMathCall (formPlace p))
+plainBy p op (suc zero) first = isPrefix op || (isCall op && isBracket first)
+plainBy p op (suc (suc zero)) first = isPlainBinary op || (eqb op Operator.conditionalElse && isRightOfQuestion (formPlace p))
+plainBy p op (suc (suc (suc n))) first = false
+
+-- The place spares a node of this operator its pair.
+abbrev pub isSpared : Place → ℕ → Bool
+isSpared Enclosed op = true
+isSpared UnderMathCall op = false
+isSpared LeftOfComma op = eqb op Operator.comma
+isSpared RightOfQuestion op = eqb op Operator.conditionalElse
+isSpared Operand op = false
+
+-- A node of this operator and so many children gets an added pair.
+unfoldable pub isPaired : Place → ℕ → ℕ → Bool
+isPaired p op children = not (eqb children 0 || (isBracket op || isSpared p op))
+
+abbrev pub ifTrue : Bool → ℕ → ℕ
+ifTrue true n = n
+ifTrue false n = 0
+
+-- The tokens that are written for a node alone: itself, a bracket's closer, an added pair.
+unfoldable pub tokensFor : Place → ℕ → ℕ → ℕ
+tokensFor p op children = 1 + ifTrue (isBracket op) 1 + ifTrue (isPaired p op children) 2

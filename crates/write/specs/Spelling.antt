@@ -1,0 +1,53 @@
+-- What writing leaves in the list, and the part of the tree words that a tree fills.
+use Prim.Native.Nat.{ℕ, suc, _+_, _%_, _^_, _≤_}
+use mathlib.Core.Path.{_≡_}
+use mathlib.Core.Bool.{not}
+use mathlib.Core.List.{List, [], _∷_, _++_}
+use mathlib.Core.Bool.{true, false}
+use lib.ListN.{length, take, drop, getD}
+use Rattle.molang.specs.Forest.{Token, Forest, nil, node, count, size}
+use Rattle.molang.specs.Operator
+use Rattle.molang.specs.Operator.{isBracket}
+use Rattle.molang.specs.Words.{word, listWords}
+use Rattle.words.specs.Fields.{operatorOf}
+use Rattle.molang.specs.Write.{written, operandTokens}
+use Rattle.molang.specs.WriteEntry.{treesOf, writtenTokens}
+use Rattle.write.specs.declared.plain.Place.{Place}
+use Rattle.write.specs.Places.{isPaired}
+use Rattle.write.specs.Shaped.{Shaped}
+
+-- The list with words put from a place on, the rest as it was.
+unfoldable pub laid : ℕ → List ℕ → List ℕ → List ℕ
+laid to ws list = take to list ++ (ws ++ drop (to + length ws) list)
+
+-- The token words that a list of words opens with; those of a bracket with the same span and payload 0; those of its closer, if it is
+-- a bracket.
+unfoldable pub firstFive : List ℕ → List ℕ
+firstFive ws = getD ws 0 0 ∷ getD ws 1 0 ∷ getD ws 2 0 ∷ getD ws 3 0 ∷ getD ws 4 0 ∷ []
+
+unfoldable pub bracketWords : ℕ → List ℕ → List ℕ
+bracketWords op ws = word 1 (op % 2 ^ 8) ∷ getD ws 1 0 ∷ getD ws 2 0 ∷ word 4 0 ∷ word 5 0 ∷ []
+
+unfoldable pub closerWords : List ℕ → List ℕ
+closerWords ws = elim (isBracket (operatorOf (getD ws 0 0))) [ true ↦ bracketWords Operator.rightParenthesis ws | false ↦ [] ]
+
+-- The nodes of the first tree.
+unfoldable pub firstSize : Forest → ℕ
+firstSize nil = 0
+firstSize (node k cs rest) = 1 + size cs
+
+-- The tokens of the first tree as an operand at a place.
+unfoldable pub operandOf : Place → Forest → List Token
+operandOf p nil = []
+operandOf p (node k cs rest) = operandTokens (not (isPaired p (k .op) (count cs))) k (written k cs) []
+
+-- The words open with a tree of at most two children a node, and the list has room for the tokens from a place on.
+pub record Room (tokens : Forest → List Token) (words list : List ℕ) (to : ℕ) : Type 0 where
+  pub others : ℕ
+  pub shaped : Shaped 2 (suc others) words
+  pub room : to + length (listWords (tokens (treesOf words))) ≤ length list
+
+-- The words are one plain tree that is written with so many tokens.
+pub record Writable (words : List ℕ) (tokens : ℕ) : Type 0 where
+  pub shaped : Shaped 2 1 words
+  pub counted : tokens ≡ length (writtenTokens (treesOf words))

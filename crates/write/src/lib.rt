@@ -1,0 +1,60 @@
+// The write entry: the words of a plain tree become the words of a token list. What turns a call back is found first, from the
+// table's top and without recursion, so a tree that cannot be written touches neither the list nor the call stack.
+// Leans on words and ops.
+mod plain;
+mod shape;
+mod spell;
+
+use crate::plain::Judged;
+use crate::plain::judge;
+use crate::shape::Fault;
+use crate::shape::first_fault;
+use crate::spell::write_node;
+use words::fields;
+use words::refusals;
+ghost use mathlib.Core.Path.{_≡_};
+ghost use Rattle.molang.specs.WriteEntry.{writeAnswered, listAfter, treesOf};
+ghost use Rattle.write.specs.Answers.{told, filling, filled, call};
+ghost use Rattle.write.specs.Spelling.{Writable};
+
+// The most tokens that a list can have.
+pub const MOST_TOKENS: usize = 4096;
+
+// What a call is answered: the number of tokens that were written, or a refusal's number and place.
+pub enum Written {
+    Tokens(usize),
+    Refused(u32, usize),
+}
+
+// Writes a plain tree of so many tokens, if the list has room for them.
+fn fill(tree: &[u32], list: &mut [u32], tokens: usize) -> Written
+    requires { ⌜ Writable (now tree) tokens ⌝ }
+    ensures { λ r. ⌜ told r ≡ filling (treesOf (now (tree .entry))) (now (list .entry)) ⌝ }
+    ensures { λ _. ⌜ now (list .exit) ≡ filled (treesOf (now (tree .entry))) (now (list .entry)) ⌝ }
+{
+    if MOST_TOKENS < tokens {
+        return Written::Refused(refusals::WRITTEN_TOO_LONG, 0);
+    }
+    if list.len() < fields::TOKEN_WORDS * tokens {
+        return Written::Refused(refusals::SHORT_LIST, 0);
+    }
+    let mut to = 0usize;
+    write_node(tree, list, &mut to);
+    Written::Tokens(tokens)
+}
+
+// The entry.
+pub fn write(tree: &[u32], list: &mut [u32]) -> Written
+    ensures { λ r. ⌜ told r ≡ writeAnswered (call (now (tree .entry)) (now (list .entry))) ⌝ }
+    ensures { λ _. ⌜ now (list .exit) ≡ listAfter (call (now (tree .entry)) (now (list .entry))) ⌝ }
+{
+    let found = first_fault(tree);
+    if let Fault::At(place) = found {
+        return Written::Refused(refusals::NOT_ONE_TREE, place);
+    }
+    let judged = judge(tree);
+    match judged {
+        Judged::Unplain(node) => Written::Refused(refusals::NOT_PLAIN, node),
+        Judged::Plain(tokens) => fill(tree, list, tokens),
+    }
+}

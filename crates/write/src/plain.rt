@@ -1,0 +1,250 @@
+// Answer 13 and the written count, in one loop over the nodes in tree order: a node is judged by its own operator, its place under
+// its parent and its first child's operator. The places of the nodes that are called for and have not come yet stand on a stack,
+// the next one on top. Leans on ops and words.
+use ops::is_math_call;
+use ops::op;
+use words::fields;
+ghost use mathlib.Core.Path.{_≡_};
+ghost use Prim.Native.Nat.{_+_, _≤_};
+ghost use lib.ListN.{length, getD};
+ghost use Rattle.molang.specs.Plain as plain;
+ghost use Rattle.molang.specs.WriteEntry.{treesOf};
+ghost use Rattle.words.specs.Fields.{operatorOf};
+ghost use Rattle.write.specs.Answers.{judgement};
+ghost use Rattle.write.specs.Places.{formPlace, onlyPlace, leftPlace, rightPlace, isPrefix, plainBy, isPaired, tokensFor};
+ghost use Rattle.write.specs.Shaped.{OneTree};
+
+// Where a node stands, as far as its form and its pair of brackets go by it.
+pub enum Place {
+    // The root, or a bracket's child.
+    Enclosed,
+    // The bracket under a math call.
+    UnderMathCall,
+    // The left side of a comma.
+    LeftOfComma,
+    // The second child of `?`.
+    RightOfQuestion,
+    // Any other operand.
+    Operand,
+}
+
+pub enum Judged {
+    // Every node is plain, and so many tokens are written.
+    Plain(usize),
+    // The number of the first node that is not plain.
+    Unplain(usize),
+}
+
+// The place of the one child of op.
+pub fn place_of_only(op: u32) -> Place
+    ensures { λ r. ⌜ r ≡ onlyPlace op ⌝ }
+{
+    if op == op::LEFT_PARENTHESIS {
+        return Place::Enclosed;
+    }
+    if is_math_call(op) {
+        return Place::UnderMathCall;
+    }
+    Place::Operand
+}
+
+// The places of the two children of op.
+pub fn place_of_left(op: u32) -> Place
+    ensures { λ r. ⌜ r ≡ leftPlace op ⌝ }
+{
+    if op == op::COMMA {
+        return Place::LeftOfComma;
+    }
+    Place::Operand
+}
+
+pub fn place_of_right(op: u32) -> Place
+    ensures { λ r. ⌜ r ≡ rightPlace op ⌝ }
+{
+    if op == op::CONDITIONAL {
+        return Place::RightOfQuestion;
+    }
+    Place::Operand
+}
+
+// The leaves of document 01's plain forms: 40, 42-44, 46-49, 61, 62 or 76.
+fn is_plain_leaf(op: u32) -> bool
+    ensures { λ r. ⌜ r ≡ plain.isPlainLeaf op ⌝ }
+{
+    match op {
+        op::QUERY_FUNCTION => true,
+        op::CONTEXT_VARIABLE..=op::TEMP_VARIABLE => true,
+        op::STRING_LITERAL..=op::TEXTURE_VARIABLE => true,
+        op::FLOAT | op::PI | op::THIS => true,
+        _ => false,
+    }
+}
+
+// The operators between two operands, but for `:`.
+fn is_plain_binary(op: u32) -> bool
+    ensures { λ r. ⌜ r ≡ plain.isPlainBinary op ⌝ }
+{
+    match op {
+        op::ADD | op::DIV | op::MUL | op::COMMA => true,
+        op::LESS_THAN..=op::CONDITIONAL => true,
+        _ => false,
+    }
+}
+
+fn is_call(op: u32) -> bool
+    ensures { λ r. ⌜ r ≡ plain.isCall op ⌝ }
+{
+    op == op::QUERY_FUNCTION || is_math_call(op)
+}
+
+fn is_under_math_call(place: Place) -> bool
+    ensures { λ r. ⌜ r ≡ plain.isUnderMathCall (formPlace place) ⌝ }
+{
+    match place {
+        Place::UnderMathCall => true,
+        _ => false,
+    }
+}
+
+fn is_right_of_question(place: Place) -> bool
+    ensures { λ r. ⌜ r ≡ plain.isRightOfQuestion (formPlace place) ⌝ }
+{
+    match place {
+        Place::RightOfQuestion => true,
+        _ => false,
+    }
+}
+
+// A leaf; a bracket may be empty under a math call.
+fn is_plain_without_children(place: Place, op: u32) -> bool
+    ensures { λ r. ⌜ r ≡ plainBy place op 0 0 ⌝ }
+{
+    if op == op::LEFT_PARENTHESIS {
+        return is_under_math_call(place);
+    }
+    is_plain_leaf(op)
+}
+
+// The operators that stand before any one operand: a bracket, `-` and `!`.
+fn is_prefix(op: u32) -> bool
+    ensures { λ r. ⌜ r ≡ isPrefix op ⌝ }
+{
+    match op {
+        op::LEFT_PARENTHESIS | op::NEGATE | op::LOGICAL_NOT => true,
+        _ => false,
+    }
+}
+
+// A prefix over anything; a call over its bracket.
+fn is_plain_over_one(op: u32, first: u32) -> bool
+    ensures { λ r. ⌜ r ≡ plainBy Place.Operand op 1 first ⌝ }
+{
+    if is_prefix(op) {
+        return true;
+    }
+    if first == op::LEFT_PARENTHESIS {
+        return is_call(op);
+    }
+    false
+}
+
+// A binary operator; `:` right of its `?` only.
+fn is_plain_over_two(place: Place, op: u32) -> bool
+    ensures { λ r. ⌜ r ≡ plainBy place op 2 0 ⌝ }
+{
+    if op == op::CONDITIONAL_ELSE {
+        return is_right_of_question(place);
+    }
+    is_plain_binary(op)
+}
+
+// Whether a node of op has a plain form; `first` is its first child's operator, if it has children.
+pub fn is_plain(place: Place, op: u32, children: u32, first: u32) -> bool
+    ensures { λ r. ⌜ r ≡ plainBy place op children first ⌝ }
+{
+    match children {
+        0 => is_plain_without_children(place, op),
+        1 => is_plain_over_one(op, first),
+        2 => is_plain_over_two(place, op),
+        _ => false,
+    }
+}
+
+// Whether an operand gets an added pair of brackets: not a leaf or a bracket, and not where its place spares it.
+pub fn is_paired(place: Place, op: u32, children: u32) -> bool
+    ensures { λ r. ⌜ r ≡ isPaired place op children ⌝ }
+{
+    if children == 0 {
+        return false;
+    }
+    if op == op::LEFT_PARENTHESIS {
+        return false;
+    }
+    match place {
+        Place::Enclosed => false,
+        Place::LeftOfComma => op != op::COMMA,
+        Place::RightOfQuestion => op != op::CONDITIONAL_ELSE,
+        _ => true,
+    }
+}
+
+// The tokens that are written for a node alone: itself, a bracket's closer, an added pair.
+fn tokens_for(place: Place, op: u32, children: u32) -> usize
+    ensures { λ r. ⌜ r ≡ tokensFor place op children ⌝ }
+{
+    if op == op::LEFT_PARENTHESIS {
+        return 2;
+    }
+    if is_paired(place, op, children) {
+        return 3;
+    }
+    1
+}
+
+// The operator of the node after the one that starts at `at`, 0 after the last.
+fn operator_after(tree: &[u32], at: usize) -> u32
+    requires { ⌜ at + 6 ≤ length (now tree) ⌝ }
+    ensures { λ r. ⌜ r ≡ operatorOf (getD (now (tree .entry)) (at + 6) 0) ⌝ }
+{
+    let next = at + fields::NODE_WORDS;
+    if next < tree.len() {
+        return fields::operator(tree[next]);
+    }
+    0
+}
+
+// The first node of a tree that is not plain, or the number of tokens that writing gives. A tree of at most 12,288 nodes never has
+// more than these waiting.
+pub fn judge(tree: &[u32]) -> Judged
+    requires { ⌜ OneTree (now tree) ⌝ }
+    ensures { λ r. ⌜ r ≡ judgement (treesOf (now (tree .entry))) ⌝ }
+{
+    let nodes = tree.len() / fields::NODE_WORDS;
+    let mut waiting = [Place::Enclosed; 12_288];
+    let mut top = 1usize;
+    let mut tokens = 0usize;
+    let mut node = 0usize;
+    while node < nodes {
+        let at = fields::NODE_WORDS * node;
+        let op = fields::operator(tree[at]);
+        let children = fields::low(tree[at + 5]);
+        top -= 1;
+        let place = waiting[top];
+        if !is_plain(place, op, children, operator_after(tree, at)) {
+            return Judged::Unplain(node);
+        }
+        node += 1;
+        tokens += tokens_for(place, op, children);
+        if children == 1 {
+            waiting[top] = place_of_only(op);
+            top += 1;
+            continue;
+        }
+        if children == 2 {
+            waiting[top] = place_of_right(op);
+            waiting[top + 1] = place_of_left(op);
+            top += 2;
+        }
+    }
+    Judged::Plain(tokens)
+}

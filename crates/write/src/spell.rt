@@ -1,0 +1,112 @@
+// The writing of a plain tree: each operator between or before its operands, copied as it came, with added pairs where an operand
+// needs them. `write_node` and `write_operand` call each other over the preorder words; each gives back the part of them that its
+// tree fills, so the next operand is known to start right after it. Leans on plain (places), ops and words.
+use crate::plain::Place;
+use crate::plain::is_paired;
+use crate::plain::place_of_left;
+use crate::plain::place_of_only;
+use crate::plain::place_of_right;
+use ops::op;
+use words::fields;
+ghost use mathlib.Core.Path.{_≡_};
+ghost use mathlib.Core.List.{[], _∷_};
+ghost use Prim.Native.Nat.{_+_, _*_, _≤_};
+ghost use lib.ListN.{length, take};
+ghost use Rattle.molang.specs.Words.{listWords};
+ghost use Rattle.molang.specs.WriteEntry.{treesOf, writtenTokens};
+ghost use Rattle.write.specs.Spelling.{laid, firstFive, bracketWords, closerWords, firstSize, operandOf, Room};
+
+// Puts a token's five words to the list's place `to`, which goes on behind them.
+fn put(list: &mut [u32], to: &mut usize, first: u32, start: u32, end: u32, upper: u32, lower: u32)
+    requires { ⌜ now to + 5 ≤ length (now list) ⌝ }
+    ensures { λ _. ⌜ now (list .exit) ≡ laid (now (to .entry)) (first ∷ start ∷ end ∷ upper ∷ lower ∷ []) (now (list .entry)) ⌝ }
+    ensures { λ _. ⌜ now (to .exit) ≡ now (to .entry) + 5 ⌝ }
+{
+    let at = *to;
+    list[at] = first;
+    list[at + 1] = start;
+    list[at + 2] = end;
+    list[at + 3] = upper;
+    list[at + 4] = lower;
+    *to = at + 5;
+}
+
+// The token of the node that the words open with, as it came.
+fn put_token(words: &[u32], list: &mut [u32], to: &mut usize)
+    requires { ⌜ (5 ≤ length (now words)) × (now to + 5 ≤ length (now list)) ⌝ }
+    ensures { λ _. ⌜ now (list .exit) ≡ laid (now (to .entry)) (firstFive (now (words .entry))) (now (list .entry)) ⌝ }
+    ensures { λ _. ⌜ now (to .exit) ≡ now (to .entry) + length (firstFive (now (words .entry))) ⌝ }
+{
+    put(list, to, words[0], words[1], words[2], words[3], words[4]);
+}
+
+// A bracket of op for the node that the words open with: the node's span, payload 0.
+fn put_bracket(op: u32, words: &[u32], list: &mut [u32], to: &mut usize)
+    requires { ⌜ (3 ≤ length (now words)) × (now to + 5 ≤ length (now list)) ⌝ }
+    ensures { λ _. ⌜ now (list .exit) ≡ laid (now (to .entry)) (bracketWords op (now (words .entry))) (now (list .entry)) ⌝ }
+    ensures { λ _. ⌜ now (to .exit) ≡ now (to .entry) + length (bracketWords op (now (words .entry))) ⌝ }
+{
+    put(
+        list,
+        to,
+        fields::operator_word(op),
+        words[1],
+        words[2],
+        fields::no_upper(),
+        fields::no_lower(),
+    );
+}
+
+// The closer of the node that the words open with, if it is a bracket.
+fn put_closer(words: &[u32], list: &mut [u32], to: &mut usize)
+    requires { ⌜ (3 ≤ length (now words)) × (now to + length (closerWords (now words)) ≤ length (now list)) ⌝ }
+    ensures { λ _. ⌜ now (list .exit) ≡ laid (now (to .entry)) (closerWords (now (words .entry))) (now (list .entry)) ⌝ }
+    ensures { λ _. ⌜ now (to .exit) ≡ now (to .entry) + length (closerWords (now (words .entry))) ⌝ }
+{
+    if fields::operator(words[0]) == op::LEFT_PARENTHESIS {
+        put_bracket(op::RIGHT_PARENTHESIS, words, list, to);
+    }
+}
+
+// Writes the tree that the words open with; gives back the words that it fills.
+pub fn write_node<'a>(words: &'a [u32], list: &mut [u32], to: &mut usize) -> &'a [u32]
+    requires { ⌜ Room writtenTokens (now words) (now list) (now to) ⌝ }
+    ensures { λ r. ⌜ now r ≡ take (6 * firstSize (treesOf (now (words .entry)))) (now (words .entry)) ⌝ }
+    ensures { λ _. ⌜ now (list .exit) ≡ laid (now (to .entry)) (listWords (writtenTokens (treesOf (now (words .entry))))) (now (list .entry)) ⌝ }
+    ensures { λ _. ⌜ now (to .exit) ≡ now (to .entry) + length (listWords (writtenTokens (treesOf (now (words .entry))))) ⌝ }
+{
+    let op = fields::operator(words[0]);
+    let children = fields::low(words[5]);
+    if children == 2 {
+        let left = write_operand(&words[6..], place_of_left(op), list, to);
+        put_token(words, list, to);
+        let next = 6 + left.len();
+        let right = write_operand(&words[next..], place_of_right(op), list, to);
+        return &words[..next + right.len()];
+    }
+    put_token(words, list, to);
+    if children == 0 {
+        put_closer(words, list, to);
+        return &words[..6];
+    }
+    let only = write_operand(&words[6..], place_of_only(op), list, to);
+    put_closer(words, list, to);
+    &words[..6 + only.len()]
+}
+
+// Writes the tree that the words open with as an operand at its place, in an added pair if it needs one; gives back the words
+// that it fills.
+fn write_operand<'a>(words: &'a [u32], place: Place, list: &mut [u32], to: &mut usize) -> &'a [u32]
+    requires { ⌜ Room (operandOf place) (now words) (now list) (now to) ⌝ }
+    ensures { λ r. ⌜ now r ≡ take (6 * firstSize (treesOf (now (words .entry)))) (now (words .entry)) ⌝ }
+    ensures { λ _. ⌜ now (list .exit) ≡ laid (now (to .entry)) (listWords ((operandOf place) (treesOf (now (words .entry))))) (now (list .entry)) ⌝ }
+    ensures { λ _. ⌜ now (to .exit) ≡ now (to .entry) + length (listWords ((operandOf place) (treesOf (now (words .entry))))) ⌝ }
+{
+    if !is_paired(place, fields::operator(words[0]), fields::low(words[5])) {
+        return write_node(words, list, to);
+    }
+    put_bracket(op::LEFT_PARENTHESIS, words, list, to);
+    let operand = write_node(words, list, to);
+    put_bracket(op::RIGHT_PARENTHESIS, words, list, to);
+    operand
+}
