@@ -27,3 +27,5 @@ pub mod PlainTrees
 pub mod Writing
 pub mod TakingAway
 pub mod RoundTrip
+pub mod ListWords
+pub mod UsedSet
