@@ -29,3 +29,4 @@ pub mod TakingAway
 pub mod RoundTrip
 pub mod ListWords
 pub mod UsedSet
+pub mod Entries

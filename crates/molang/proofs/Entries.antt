@@ -1,0 +1,250 @@
+-- DEMAND 3 OVER THE ENTRIES' DEFINITIONS: three calls, each of which gets what the one before left in its buffer. The second reading is not
+-- turned back and gives a tree; with brackets taken away it has the first tree's words.
+use Prim.Native.Nat.{ℕ, _+_, _*_, _/_, _%_, _^_, _≤_, _<_}
+use mathlib.Core.Path.{_≡_, refl, ap, sym, _∙_}
+use mathlib.Core.Bool.{Bool, true, false}
+use mathlib.Core.List.{List, [], _∷_, _++_}
+use mathlib.Core.Option.{Option, none, some}
+use native.Mathlib.Omega.{arith}
+use lib.Dec.{eqb, leb, ltb}
+use lib.ListN.{length, take, drop}
+use lib.Seq.{take-append-seam}
+use borrow.Author.Tests.{eqb-true, leb-true, eq-eqb, le-leb, lt-ltb}
+use Rattle.molang.specs.Forest.{Token, Forest, nil, node, size}
+use Rattle.molang.specs.Read.{Answer, tree, messages, read, uses}
+use Rattle.molang.specs.Words.{Refusal, operatorSlot, wordsRefusal, tokensOf, listWords, treeWords}
+use Rattle.molang.specs.Parse.{Call, inHalves, mostTokens, must, firstOf, refusal, reading, Told, aTree, told, answered, inFront, treeIn, treeAfter}
+use Rattle.molang.specs.Plain.{unplainAt}
+use Rattle.molang.specs.Write.{written, writtenCount, takenAway}
+use Rattle.molang.specs.WriteEntry.{treeFault, treesOf, WriteCall, refusedAt, orElse, forestRefusal, writeRefusal, writtenTokens, WriteTold, tokens, writeTold, writeAnswered, listIn, listAfter}
+use Rattle.molang.proofs.Trees.{some-none}
+use Rattle.molang.proofs.Bounds.{treeWords-length}
+use Rattle.molang.proofs.Words.{LegalTokens, noTokens, LegalTrees, legalTree, tokens-back, words-back}
+use Rattle.molang.proofs.Legal.{read-legal, read-back, read-unfaulted}
+use Rattle.molang.proofs.Writing.{written-length}
+use Rattle.molang.proofs.ListWords.{list-unrefused, listWords-length, uses-legal, written-legal}
+use Rattle.molang.proofs.UsedSet.{used-few}
+use Rattle.molang.proofs.RoundTrip.{ReadsBack, round-trip}
+
+-- The words in front of a buffer are found there.
+front-words : (ws buffer : List ℕ) (n : ℕ) → length ws ≡ n → take n (inFront ws buffer) ≡ ws
+unfolding inFront
+front-words ws buffer n h = ap (λ (m : ℕ). take m (ws ++ drop (length ws) buffer)) (sym h) ∙ take-append-seam ws (drop (length ws) buffer)
+
+-- A test of the table that is passed, and the tests after it.
+must-none : (b : Bool) (n : ℕ) → must b n ≡ none → b ≡ true
+unfolding must
+must-none true n h = refl
+must-none false n h = some-none h
+
+must-true : (b : Bool) (n : ℕ) → b ≡ true → must b n ≡ none
+unfolding must
+must-true b n h = rw h refl
+
+first-none : (o : Option Refusal) (later : List (Option Refusal)) → firstOf (o ∷ later) ≡ none → (o ≡ none) × (firstOf later ≡ none)
+unfolding firstOf
+first-none none later h = (refl, h)
+first-none (some r) later h = some-none h
+
+then-none : (o : Option Refusal) (later : List (Option Refusal)) → o ≡ none → firstOf later ≡ none → firstOf (o ∷ later) ≡ none
+unfolding firstOf
+then-none o later e h = rw e h
+
+all-none : firstOf [] ≡ none
+unfolding firstOf
+all-none = refl
+
+-- WHAT AN ACCEPTED CALL'S LIST IS: at most 4,096 legal tokens.
+pub record Accepted (c : Call) : Type 0 where
+  pub legal : LegalTokens (tokensOf (c .list))
+  pub few : length (tokensOf (c .list)) ≤ mostTokens
+
+pub call-accepted : (c : Call) → refusal c ≡ none → Accepted c
+unfolding refusal
+call-accepted c h =
+    let one = first-none _ _ h in
+    let two = first-none _ _ (one .1) in
+    let three = first-none _ _ (two .1) in
+    let four = first-none _ _ (three .1) in
+    let five = first-none _ _ (four .1) in
+    let six = first-none _ _ (five .1) in
+    let seven = first-none _ _ (six .1) in
+    let whole = eqb-true (length (c .list) % 5) 0 (must-none _ 1 (one .0)) in
+    let fits = leb-true (length (c .list) / 5) mostTokens (must-none _ 2 (two .0)) in
+    let back = words-back 0 0 (c .list) (first-none _ _ (seven .1) .0) whole in
+    let long = listWords-length (tokensOf (c .list)) in
+    let same = ap length (back .0) in
+    record { legal = back .1; few = omega arith }
+
+-- What a call needs not to be turned back, whatever its version: n legal tokens, and room for them by the table.
+pub record Acceptable (d : Call) (ks : List Token) : Type 0 where
+  pub list : d .list ≡ listWords ks
+  pub legal : LegalTokens ks
+  pub few : length ks ≤ mostTokens
+  pub tree : 18 * length ks ≤ length (d .tree)
+  pub messages : 16 ≤ length (d .messages)
+  pub work : 64 * length ks + 64 ≤ length (d .work)
+  pub used : d .usedHigh * 2 ^ 64 + d .usedLow < 2 ^ 111
+  pub sourceLength : d .sourceLength ≤ 536870911
+
+pub call-acceptable : (d : Call) (ks : List Token) → Acceptable d ks → refusal d ≡ none
+unfolding refusal
+call-acceptable d ks a =
+    let long : length (d .list) ≡ 5 * length ks = ap length (a .list) ∙ listWords-length ks in
+    let words : wordsRefusal 0 operatorSlot 0 (d .list) ≡ none = rw (a .list) (list-unrefused (a .legal) 0 0) in
+    let whole : length (d .list) % 5 ≡ 0 = omega arith in
+    let fits : length (d .list) / 5 ≤ mostTokens = omega arith in
+    let treeRoom : 18 * (length (d .list) / 5) ≤ length (d .tree) = omega arith in
+    let workRoom : 64 * (length (d .list) / 5) + 64 ≤ length (d .work) = omega arith in
+    then-none _ _ (must-true _ 1 (eq-eqb _ _ whole))
+    (then-none _ _ (must-true _ 2 (le-leb _ _ fits))
+    (then-none _ _ (must-true _ 3 (le-leb _ _ treeRoom))
+    (then-none _ _ (must-true _ 4 (le-leb _ _ (a .messages)))
+    (then-none _ _ (must-true _ 5 (le-leb _ _ workRoom))
+    (then-none _ _ (must-true _ 6 (lt-ltb _ _ (a .used)))
+    (then-none _ _ (must-true _ 7 (le-leb _ _ (a .sourceLength)))
+    (then-none _ _ words all-none)))))))
+
+refused-none : (o : Option ℕ) (n : ℕ) (later : Option Refusal) → refusedAt n o later ≡ none → (o ≡ none) × (later ≡ none)
+unfolding refusedAt
+refused-none none n later h = (refl, h)
+refused-none (some i) n later h = some-none h
+
+orElse-none : (o later : Option Refusal) → orElse o later ≡ none → (o ≡ none) × (later ≡ none)
+unfolding orElse
+orElse-none none later h = (refl, h)
+orElse-none (some r) later h = some-none h
+
+-- The writing of a legal tree, after which nothing stands.
+root-legal : (k : Token) (cs : Forest) → LegalTrees (node k cs nil) → LegalTokens (written k cs [])
+root-legal k cs (legalTree h n below after) = written-legal k cs h below [] noTokens
+
+-- A first call that ends with the tree k over cs.
+module _ (c : Call) (k : Token) (cs : Forest) (accepted : refusal c ≡ none) (reads : reading c ≡ tree k cs) where
+  -- It puts the tree's words in front of the tree buffer, six to a node.
+  pub tree-front : take (6 * size (node k cs nil)) (treeAfter c) ≡ treeWords (node k cs nil)
+  unfolding treeAfter treeIn
+  tree-front = rw (accepted, reads) (front-words (treeWords (node k cs nil)) (c .tree) (6 * size (node k cs nil)) (treeWords-length (node k cs nil)))
+
+  pub tree-told : answered c ≡ aTree (size (node k cs nil))
+  unfolding answered told
+  tree-told = rw (accepted, reads) refl
+
+  -- The tree is legal, and its words are read back and not answered 12.
+  tree-legal : LegalTrees (node k cs nil)
+  unfolding reading
+  tree-legal = let a = call-accepted c accepted in read-legal _ _ _ _ k cs (a .legal) (a .few) reads
+
+  tree-back : treesOf (treeWords (node k cs nil)) ≡ node k cs nil
+  unfolding reading
+  tree-back = let a = call-accepted c accepted in read-back _ _ _ _ k cs (a .legal) (a .few) reads
+
+  tree-faultless : treeFault 0 operatorSlot 0 (record { called = 1; begun = 0 }) (treeWords (node k cs nil)) ≡ none
+  unfolding reading
+  tree-faultless = let a = call-accepted c accepted in read-unfaulted _ _ _ _ k cs (a .legal) (a .few) reads
+
+  -- What the writer answers to these words: 13-15 to the tree itself.
+  write-refusal : (w : WriteCall) → w .tree ≡ treeWords (node k cs nil) → writeRefusal w ≡ forestRefusal (node k cs nil) (length (w .list))
+  unfolding writeRefusal refusedAt
+  write-refusal w h = rw (h, tree-faultless, tree-back) refl
+
+  -- A write call that is not turned back: the tree is plain, and its writing has at most 4,096 tokens.
+  record Writable : Type 0 where
+    plain : unplainAt k cs ≡ none
+    few : length (written k cs []) ≤ mostTokens
+
+  write-accepted : (w : WriteCall) → w .tree ≡ treeWords (node k cs nil) → writeRefusal w ≡ none → Writable
+  unfolding forestRefusal
+  write-accepted w h e =
+      let plain = refused-none _ 13 _ (sym (write-refusal w h) ∙ e) in
+      let room = orElse-none _ _ (plain .1) in
+      let few : writtenCount k cs ≤ mostTokens = leb-true _ _ (must-none _ 14 (room .0)) in
+      record { plain = plain .0; few = omega (arith, written-length k cs []) }
+
+  -- It leaves the written words in front of the list, five to a token, and tells their count.
+  pub list-front : (w : WriteCall) → w .tree ≡ treeWords (node k cs nil) → writeRefusal w ≡ none
+      → take (5 * length (written k cs [])) (listAfter w) ≡ listWords (written k cs [])
+  unfolding listAfter listIn writtenTokens
+  list-front w h e =
+      rw (e, h, tree-back)
+      (front-words (listWords (written k cs [])) (w .list) (5 * length (written k cs [])) (listWords-length (written k cs [])))
+
+  pub list-told : (w : WriteCall) → w .tree ≡ treeWords (node k cs nil) → writeRefusal w ≡ none
+      → writeAnswered w ≡ tokens (length (written k cs []))
+  unfolding writeAnswered writeTold writtenTokens
+  list-told w h e = rw (e, h, tree-back) refl
+
+-- THE THREE CALLS, the first of which reads the tree k over cs; nobody else writes the tree buffer or the list in between.
+pub record ThreeCalls (first : Call) (write : WriteCall) (second : Call) (k : Token) (cs : Forest) : Type 0 where
+  -- The first call is not turned back and ends with the tree.
+  pub accepted : refusal first ≡ none
+  pub reads : reading first ≡ tree k cs
+  -- The writer gets the words that the first call put into the tree buffer, six to a node, and is not turned back.
+  pub treeHanded : write .tree ≡ take (6 * size (node k cs nil)) (treeAfter first)
+  pub writes : writeRefusal write ≡ none
+  -- The second call gets exactly the words written, five to a token. Its used set has each operator of those tokens and no other.
+  pub listHanded : second .list ≡ take (5 * length (written k cs [])) (listAfter write)
+  pub usedExactly : (m : ℕ) → inHalves (second .usedLow) (second .usedHigh) m ≡ uses (written k cs []) m
+  -- Its buffers are long enough by the table, and its source length is legal. Its version is any.
+  pub treeRoom : 18 * length (written k cs []) ≤ length (second .tree)
+  pub messageRoom : 16 ≤ length (second .messages)
+  pub workRoom : 64 * length (written k cs []) + 64 ≤ length (second .work)
+  pub legalLength : second .sourceLength ≤ 536870911
+
+-- WHAT COMES OF THEM.
+pub record SameTrees (first : Call) (write : WriteCall) (second : Call) (k : Token) (cs : Forest) : Type 0 where
+  -- What was handed on: the first tree's words, and the words of its writing, whose token count the writer told.
+  pub treeGot : write .tree ≡ treeWords (node k cs nil)
+  pub told : writeAnswered write ≡ tokens (length (written k cs []))
+  pub listGot : second .list ≡ listWords (written k cs [])
+  -- The second call is not turned back and ends with a tree, whose words stand in front of its tree buffer.
+  pub accepted : refusal second ≡ none
+  pub root : Token
+  pub children : Forest
+  pub reads : reading second ≡ tree root children
+  pub answers : answered second ≡ aTree (size (node root children nil))
+  pub leaves : take (6 * size (node root children nil)) (treeAfter second) ≡ treeWords (node root children nil)
+  -- The two trees, with brackets taken away, have the same words in the same order.
+  pub words : treeWords (takenAway false (node root children nil) nil) ≡ treeWords (takenAway false (node k cs nil) nil)
+
+-- A call whose list is the words of legal tokens, and whose used set is exactly theirs, reads those tokens.
+reads-list : (d : Call) (ks : List Token) → d .list ≡ listWords ks → LegalTokens ks
+    → ((m : ℕ) → inHalves (d .usedLow) (d .usedHigh) m ≡ uses ks m) → reading d ≡ read ks (uses ks) (d .version) (d .sourceLength)
+unfolding reading
+reads-list d ks list legal used =
+    let same : inHalves (d .usedLow) (d .usedHigh) ≡ uses ks = λ i m. used m i in rw (list, tokens-back ks legal, same) refl
+
+-- DEMAND 3 OVER THE ENTRIES.
+pub three-calls : (first : Call) (write : WriteCall) (second : Call) (k : Token) (cs : Forest) → ThreeCalls first write second k cs
+    → SameTrees first write second k cs
+three-calls first write second k cs t =
+    let ks = written k cs [] in
+    let treeGot = t .treeHanded ∙ tree-front first k cs (t .accepted) (t .reads) in
+    let able = write-accepted first k cs (t .accepted) (t .reads) write treeGot (t .writes) in
+    let listGot = t .listHanded ∙ list-front first k cs (t .accepted) (t .reads) write treeGot (t .writes) in
+    let legal = root-legal k cs (tree-legal first k cs (t .accepted) (t .reads)) in
+    let used = used-few (second .usedLow) (second .usedHigh) (λ m above. t .usedExactly m ∙ uses-legal legal m above) in
+    let accepted = call-acceptable second ks (record {
+      list = listGot;
+      legal = legal;
+      few = able .few;
+      tree = t .treeRoom;
+      messages = t .messageRoom;
+      work = t .workRoom;
+      used = used;
+      sourceLength = t .legalLength;
+    }) in
+    let again = round-trip k cs (able .plain) (second .version) (second .sourceLength) in
+    let reads = reads-list second ks listGot legal (t .usedExactly) ∙ again .reads in
+    record {
+      treeGot = treeGot;
+      told = list-told first k cs (t .accepted) (t .reads) write treeGot (t .writes);
+      listGot = listGot;
+      accepted = accepted;
+      root = again .root;
+      children = again .children;
+      reads = reads;
+      answers = tree-told second (again .root) (again .children) accepted reads;
+      leaves = tree-front second (again .root) (again .children) accepted reads;
+      words = ap treeWords (again .agrees);
+    }
