@@ -9,14 +9,14 @@ use native.Mathlib.Omega.{arith}
 use lib.Dec.{eqb, leb, ltb}
 use lib.ListN.{length, take, drop}
 use lib.Seq.{take-append-seam}
-use borrow.Author.Tests.{eqb-true, leb-true, eq-eqb, le-leb, lt-ltb}
+use borrow.Author.Tests.{eqb-true, leb-true, eq-eqb, le-leb, lt-leb, lt-ltb}
 use Rattle.molang.specs.Forest.{Token, Forest, nil, node, size}
 use Rattle.molang.specs.Read.{Answer, tree, messages, read, uses}
 use Rattle.molang.specs.Words.{Refusal, operatorSlot, wordsRefusal, tokensOf, listWords, treeWords}
 use Rattle.molang.specs.Parse.{Call, inHalves, mostTokens, must, firstOf, refusal, reading, Told, aTree, told, answered, inFront, treeIn, treeAfter}
 use Rattle.molang.specs.Plain.{unplainAt}
 use Rattle.molang.specs.Write.{written, writtenCount, takenAway}
-use Rattle.molang.specs.WriteEntry.{treeFault, treesOf, WriteCall, refusedAt, orElse, forestRefusal, writeRefusal, writtenTokens, WriteTold, tokens, writeTold, writeAnswered, listIn, listAfter}
+use Rattle.molang.specs.WriteEntry.{treeFault, treesOf, WriteCall, refusedAt, orElse, forestRefusal, writeRefusal, writtenTokens, WriteTold, tokens, unwritten, writeTold, writeAnswered, listIn, listAfter}
 use Rattle.molang.proofs.Trees.{some-none}
 use Rattle.molang.proofs.Bounds.{treeWords-length}
 use Rattle.molang.proofs.Words.{LegalTokens, noTokens, LegalTrees, legalTree, tokens-back, words-back}
@@ -119,6 +119,20 @@ orElse-none (some r) later h = some-none h
 root-legal : (k : Token) (cs : Forest) → LegalTrees (node k cs nil) → LegalTokens (written k cs [])
 root-legal k cs (legalTree h n below after) = written-legal k cs h below [] noTokens
 
+-- What a write call that is not turned back says of its tree: it is plain, and its writing has at most 4,096 tokens.
+record Writable (k : Token) (cs : Forest) : Type 0 where
+  plain : unplainAt k cs ≡ none
+  few : length (written k cs []) ≤ mostTokens
+
+-- What the writer tells of the tree k over cs: never 12; 13 at the first node that is not plain; else by the written count and the lent list.
+pub record WriterTells (k : Token) (cs : Forest) (w : WriteCall) : Type 0 where
+  pub unplain : (n : ℕ) → unplainAt k cs ≡ some n → writeAnswered w ≡ unwritten 13 n
+  pub tooMany : unplainAt k cs ≡ none → mostTokens < length (written k cs []) → writeAnswered w ≡ unwritten 14 0
+  pub noRoom : unplainAt k cs ≡ none → length (written k cs []) ≤ mostTokens → length (w .list) < 5 * length (written k cs [])
+      → writeAnswered w ≡ unwritten 15 0
+  pub writes : unplainAt k cs ≡ none → length (written k cs []) ≤ mostTokens → 5 * length (written k cs []) ≤ length (w .list)
+      → writeAnswered w ≡ tokens (length (written k cs []))
+
 -- A first call that ends with the tree k over cs.
 module _ (c : Call) (k : Token) (cs : Forest) (accepted : refusal c ≡ none) (reads : reading c ≡ tree k cs) where
   -- It puts the tree's words in front of the tree buffer, six to a node.
@@ -148,12 +162,7 @@ module _ (c : Call) (k : Token) (cs : Forest) (accepted : refusal c ≡ none) (r
   unfolding writeRefusal refusedAt
   write-refusal w h = rw (h, tree-faultless, tree-back) refl
 
-  -- A write call that is not turned back: the tree is plain, and its writing has at most 4,096 tokens.
-  record Writable : Type 0 where
-    plain : unplainAt k cs ≡ none
-    few : length (written k cs []) ≤ mostTokens
-
-  write-accepted : (w : WriteCall) → w .tree ≡ treeWords (node k cs nil) → writeRefusal w ≡ none → Writable
+  write-accepted : (w : WriteCall) → w .tree ≡ treeWords (node k cs nil) → writeRefusal w ≡ none → Writable k cs
   unfolding forestRefusal
   write-accepted w h e =
       let plain = refused-none _ 13 _ (sym (write-refusal w h) ∙ e) in
@@ -173,6 +182,26 @@ module _ (c : Call) (k : Token) (cs : Forest) (accepted : refusal c ≡ none) (r
       → writeAnswered w ≡ tokens (length (written k cs []))
   unfolding writeAnswered writeTold writtenTokens
   list-told w h e = rw (e, h, tree-back) refl
+
+  -- And what it tells of the tree, whatever the list that it is lent.
+  pub writer-tells : (w : WriteCall) → w .tree ≡ treeWords (node k cs nil) → WriterTells k cs w
+  unfolding writeAnswered writeTold writtenTokens forestRefusal refusedAt orElse must
+  writer-tells w h =
+      let long = written-length k cs [] in
+      let trees : treesOf (w .tree) ≡ node k cs nil = ap treesOf h ∙ tree-back in
+      record {
+        unplain = λ n e. rw (write-refusal w h, e) refl;
+        tooMany = λ e m.
+            let over : leb (writtenCount k cs) mostTokens ≡ false = lt-leb (writtenCount k cs) mostTokens (omega arith) in rw (write-refusal w h, e, over) refl;
+        noRoom = λ e m b.
+            let fits : leb (writtenCount k cs) mostTokens ≡ true = le-leb (writtenCount k cs) mostTokens (omega arith) in
+            let short : leb (5 * writtenCount k cs) (length (w .list)) ≡ false = lt-leb (5 * writtenCount k cs) (length (w .list)) (omega arith) in
+            rw (write-refusal w h, e, fits, short) refl;
+        writes = λ e m b.
+            let fits : leb (writtenCount k cs) mostTokens ≡ true = le-leb (writtenCount k cs) mostTokens (omega arith) in
+            let room : leb (5 * writtenCount k cs) (length (w .list)) ≡ true = le-leb (5 * writtenCount k cs) (length (w .list)) (omega arith) in
+            rw (write-refusal w h, e, fits, room, trees) refl;
+      }
 
 -- THE THREE CALLS, the first of which reads the tree k over cs; nobody else writes the tree buffer or the list in between.
 pub record ThreeCalls (first : Call) (write : WriteCall) (second : Call) (k : Token) (cs : Forest) : Type 0 where
