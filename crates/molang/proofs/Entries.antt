@@ -133,6 +133,10 @@ pub record WriterTells (k : Token) (cs : Forest) (w : WriteCall) : Type 0 where
   pub writes : unplainAt k cs ≡ none → length (written k cs []) ≤ mostTokens → 5 * length (written k cs []) ≤ length (w .list)
       → writeAnswered w ≡ tokens (length (written k cs []))
 
+-- The words of a tree whose brackets are taken away, from the tree's words.
+unfoldable pub bracketless : List ℕ → List ℕ
+bracketless ws = treeWords (takenAway false (treesOf ws) nil)
+
 -- A first call that ends with the tree k over cs.
 module _ (c : Call) (k : Token) (cs : Forest) (accepted : refusal c ≡ none) (reads : reading c ≡ tree k cs) where
   -- It puts the tree's words in front of the tree buffer, six to a node.
@@ -152,6 +156,10 @@ module _ (c : Call) (k : Token) (cs : Forest) (accepted : refusal c ≡ none) (r
   tree-back : treesOf (treeWords (node k cs nil)) ≡ node k cs nil
   unfolding reading
   tree-back = let a = call-accepted c accepted in read-back _ _ _ _ k cs (a .legal) (a .few) reads
+
+  front-bracketless : bracketless (take (6 * size (node k cs nil)) (treeAfter c)) ≡ treeWords (takenAway false (node k cs nil) nil)
+  unfolding bracketless
+  front-bracketless = rw (tree-front, tree-back) refl
 
   tree-faultless : treeFault 0 operatorSlot 0 (record { called = 1; begun = 0 }) (treeWords (node k cs nil)) ≡ none
   unfolding reading
@@ -277,3 +285,91 @@ three-calls first write second k cs t =
       leaves = tree-front second (again .root) (again .children) accepted reads;
       words = ap treeWords (again .agrees);
     }
+
+-- THE SAME AS THE CALLER SEES IT, by the answers and the buffers alone.
+-- A call that answers a tree of n nodes has read one.
+record TreeTold (c : Call) (n : ℕ) : Type 0 where
+  root : Token
+  children : Forest
+  accepted : refusal c ≡ none
+  reads : reading c ≡ tree root children
+  nodes : n ≡ size (node root children nil)
+
+tree-of-told : (c : Call) (n : ℕ) → answered c ≡ aTree n → TreeTold c n
+unfolding answered told
+tree-of-told c n h = split (refusal c) (reading c) refl refl
+  where
+    split : (o : Option Refusal) (a : Answer) → refusal c ≡ o → reading c ≡ a → TreeTold c n
+    split (some r) a e f = let impossible : _≡_ {A = ℕ} 0 1 = cc (rw (e, told) at h) in absurd (omega arith)
+    split none (messages ms) e f = let impossible : _≡_ {A = ℕ} 0 1 = cc (rw (e, f, told) at h) in absurd (omega arith)
+    split none (tree k cs) e f =
+        let told = rw (e, f, told) at h in record { root = k; children = cs; accepted = e; reads = f; nodes = cc told }
+
+-- A write call that answers a token count is not turned back.
+write-of-told : (w : WriteCall) (n : ℕ) → writeAnswered w ≡ tokens n → writeRefusal w ≡ none
+unfolding writeAnswered writeTold
+write-of-told w n h = split (writeRefusal w) refl
+  where
+    split : (o : Option Refusal) → writeRefusal w ≡ o → writeRefusal w ≡ none
+    split none e = e
+    split (some r) e = let impossible : _≡_ {A = ℕ} 0 1 = cc (rw (e, writeTold) at h) in absurd (omega arith)
+
+-- The calls: the first answers a tree of `nodes` nodes, the writer gets the words of these and answers `count` tokens, the second call gets
+-- the words of those and no other, with exactly their operators.
+pub record HandedOn (first : Call) (write : WriteCall) (second : Call) (nodes count : ℕ) : Type 0 where
+  pub parsed : answered first ≡ aTree nodes
+  pub treeHanded : write .tree ≡ take (6 * nodes) (treeAfter first)
+  pub wrote : writeAnswered write ≡ tokens count
+  pub listHanded : second .list ≡ take (5 * count) (listAfter write)
+  pub usedExactly : (m : ℕ) → inHalves (second .usedLow) (second .usedHigh) m ≡ uses (tokensOf (second .list)) m
+  pub treeRoom : 18 * count ≤ length (second .tree)
+  pub messageRoom : 16 ≤ length (second .messages)
+  pub workRoom : 64 * count + 64 ≤ length (second .work)
+  pub legalLength : second .sourceLength ≤ 536870911
+
+-- The second call answers a tree too, and the two trees' words with brackets taken away are the same.
+pub record ReadAgain (first second : Call) (nodes : ℕ) : Type 0 where
+  pub again : ℕ
+  pub parsed : answered second ≡ aTree again
+  pub words : bracketless (take (6 * again) (treeAfter second)) ≡ bracketless (take (6 * nodes) (treeAfter first))
+
+again-from : (first : Call) (write : WriteCall) (second : Call) (nodes count : ℕ) → HandedOn first write second nodes count
+    → TreeTold first nodes → ReadAgain first second nodes
+again-from first write second nodes count h t =
+    let k = t .root in
+    let cs = t .children in
+    let front : take (6 * nodes) (treeAfter first) ≡ treeWords (node k cs nil) =
+    rw (t .nodes) (tree-front first k cs (t .accepted) (t .reads))
+    in
+    let writes = write-of-told write count (h .wrote) in
+    let treeGot = h .treeHanded ∙ front in
+    let told = list-told first k cs (t .accepted) (t .reads) write treeGot writes in
+    let wrote = h .wrote in
+    let counted : count ≡ length (written k cs []) = cc in
+    let legal = root-legal k cs (tree-legal first k cs (t .accepted) (t .reads)) in
+    let listHanded = rw counted at (h .listHanded) in
+    let listGot = listHanded ∙ list-front first k cs (t .accepted) (t .reads) write treeGot writes in
+    let treeRoom = h .treeRoom in
+    let workRoom = h .workRoom in
+    let same = three-calls first write second k cs (record {
+      accepted = t .accepted;
+      reads = t .reads;
+      treeHanded = rw (t .nodes) at (h .treeHanded);
+      writes = writes;
+      listHanded = listHanded;
+      usedExactly = λ m. rw (listGot, tokens-back (written k cs []) legal) at (h .usedExactly m);
+      treeRoom = omega arith;
+      messageRoom = h .messageRoom;
+      workRoom = omega arith;
+      legalLength = h .legalLength;
+    }) in
+    record {
+      again = size (node (same .root) (same .children) nil);
+      parsed = same .answers;
+      words = front-bracketless second (same .root) (same .children) (same .accepted) (same .reads) ∙ same .words
+          ∙ sym (ap (λ (n : ℕ). bracketless (take (6 * n) (treeAfter first))) (t .nodes) ∙ front-bracketless first k cs (t .accepted) (t .reads));
+    }
+
+pub read-again : (first : Call) (write : WriteCall) (second : Call) (nodes count : ℕ) → HandedOn first write second nodes count
+    → ReadAgain first second nodes
+read-again first write second nodes count h = again-from first write second nodes count h (tree-of-told first nodes (h .parsed))
