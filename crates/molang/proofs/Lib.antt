@@ -29,4 +29,6 @@ pub mod TakingAway
 pub mod RoundTrip
 pub mod ListWords
 pub mod UsedSet
+pub mod Accepted
+pub mod HandedTree
 pub mod Entries

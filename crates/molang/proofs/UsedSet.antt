@@ -21,6 +21,6 @@ used-few low high h =
     let u = high * 2 ^ 64 + low in
     let none = no-bits (u / 2 ^ 111) (u / 2 ^ 111) (omega arith)
     (λ j.
-        let bit = eqb-false (u / 2 ^ (111 + j) % 2) 1 (h (111 + j) (omega arith)) in
-        let gone : u / 2 ^ (111 + j) % 2 ≡ 0 = omega arith in ap (λ (m : ℕ). m % 2) (shr-shr u 111 j) ∙ gone) in
+    let bit = eqb-false (u / 2 ^ (111 + j) % 2) 1 (h (111 + j) (omega arith)) in
+    let gone : u / 2 ^ (111 + j) % 2 ≡ 0 = omega arith in ap (λ (m : ℕ). m % 2) (shr-shr u 111 j) ∙ gone) in
     omega arith
