@@ -6,18 +6,20 @@ use mathlib.Core.Bool.{false}
 use mathlib.Core.List.{List, []}
 use mathlib.Core.Option.{none}
 use native.Mathlib.Omega.{arith}
-use lib.ListN.{length, take}
+use lib.IntN.{ℤ}
+use lib.ListN.{length, take, replicate, length-replicate}
 use Rattle.molang.specs.Forest.{Token, Forest, nil, node, size}
 use Rattle.molang.specs.Read.{read, uses}
 use Rattle.molang.specs.Words.{tokensOf, listWords, treeWords}
-use Rattle.molang.specs.Parse.{Call, inHalves, reading, aTree, answered, treeAfter}
+use Rattle.molang.specs.Parse.{Call, inHalves, mostTokens, reading, aTree, answered, treeAfter}
+use Rattle.molang.specs.Plain.{unplainAt}
 use Rattle.molang.specs.Write.{written, takenAway}
 use Rattle.molang.specs.WriteEntry.{WriteCall, writeRefusal, tokens, writeAnswered, listAfter}
 use Rattle.molang.proofs.Words.{LegalTokens, tokens-back}
 use Rattle.molang.proofs.ListWords.{uses-legal}
-use Rattle.molang.proofs.UsedSet.{used-few}
+use Rattle.molang.proofs.UsedSet.{used-few, halves}
 use Rattle.molang.proofs.Accepted.{Acceptable, call-acceptable}
-use Rattle.molang.proofs.HandedTree.{Parsed, bracketless, tree-front, tree-told, front-bracketless, tree-written-legal, write-done, TreeTold, tree-of-told, write-of-told}
+use Rattle.molang.proofs.HandedTree.{Parsed, bracketless, tree-front, tree-told, front-bracketless, tree-written-legal, writer-tells, write-done, TreeTold, tree-of-told, write-of-told}
 use Rattle.molang.proofs.RoundTrip.{round-trip}
 
 -- THE THREE CALLS, the first of which reads the tree k over cs; nobody else writes the tree buffer or the list in between.
@@ -157,3 +159,56 @@ module _ (first : Call) (write : WriteCall) (second : Call) (nodes count : ℕ) 
   read-again =
       let t = tree-of-told first nodes (h .parsed) in
       seen-again t (three-calls first write second (t .root) (t .children) (handed-on t))
+
+-- THE CALLS CAN BE MADE: whatever plain tree the first call has read, if its writing has at most 4,096 tokens, there are a write call and a
+-- second call, at each version and legal source length, that go on from it.
+pub record CallsMade (first : Call) (k : Token) (cs : Forest) (version : ℤ) (sourceLength : ℕ) : Type 0 where
+  pub write : WriteCall
+  pub second : Call
+  pub three : ThreeCalls first write second k cs
+  pub atVersion : second .version ≡ version
+  pub atLength : second .sourceLength ≡ sourceLength
+
+-- A buffer of so many words.
+abbrev zeros : ℕ → List ℕ
+zeros n = replicate n 0
+
+zeros-long : (n : ℕ) → n ≤ length (zeros n)
+zeros-long n = omega (arith, length-replicate {A = ℕ} n 0)
+
+pub calls-made : (first : Call) (k : Token) (cs : Forest) → Parsed first k cs → unplainAt k cs ≡ none → length (written k cs []) ≤ mostTokens
+    → (version : ℤ) (sourceLength : ℕ) → sourceLength ≤ 536870911 → CallsMade first k cs version sourceLength
+calls-made first k cs p plain few version sourceLength legal =
+    let n = length (written k cs []) in
+    let set = halves (uses (written k cs [])) (uses-legal (tree-written-legal p)) in
+    let write : WriteCall = record { tree = take (6 * size (node k cs nil)) (treeAfter first); list = zeros (5 * n) } in
+    let second : Call =
+    record {
+      list = take (5 * n) (listAfter write);
+      tree = zeros (18 * n);
+      messages = zeros 16;
+      work = zeros (64 * n + 64);
+      sourceLength = sourceLength;
+      version = version;
+      usedLow = set .low;
+      usedHigh = set .high;
+    }
+    in
+    let told = writer-tells p write (tree-front p) .writes plain few (zeros-long (5 * n)) in
+    record {
+      write = write;
+      second = second;
+      three = record {
+        parsed = p;
+        treeHanded = refl;
+        writes = write-of-told write n told;
+        listHanded = refl;
+        usedExactly = set .exactly;
+        treeRoom = zeros-long (18 * n);
+        messageRoom = zeros-long 16;
+        workRoom = zeros-long (64 * n + 64);
+        legalLength = legal;
+      };
+      atVersion = refl;
+      atLength = refl;
+    }
