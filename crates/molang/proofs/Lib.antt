@@ -27,3 +27,8 @@ pub mod PlainTrees
 pub mod Writing
 pub mod TakingAway
 pub mod RoundTrip
+pub mod ListWords
+pub mod UsedSet
+pub mod Accepted
+pub mod HandedTree
+pub mod Entries

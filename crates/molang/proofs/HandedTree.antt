@@ -1,0 +1,171 @@
+-- Between a first reading and the writer: the words of the tree that a parse call leaves in front of its tree buffer, and what the write entry
+-- makes of them.
+use Prim.Native.Nat.{ℕ, _*_, _≤_, _<_}
+use mathlib.Core.Path.{_≡_, refl, ap, sym, _∙_}
+use mathlib.Core.Bool.{true, false}
+use mathlib.Core.List.{List, [], _++_}
+use mathlib.Core.Option.{Option, none, some}
+use native.Mathlib.Omega.{arith}
+use lib.Dec.{leb}
+use lib.ListN.{length, take, drop}
+use lib.Seq.{take-append-seam}
+use borrow.Author.Tests.{leb-true, le-leb, lt-leb}
+use Rattle.molang.specs.Forest.{Token, Forest, nil, node, size}
+use Rattle.molang.specs.Read.{Answer, tree, messages}
+use Rattle.molang.specs.Words.{Refusal, operatorSlot, listWords, treeWords}
+use Rattle.molang.specs.Parse.{Call, mostTokens, must, refusal, reading, aTree, told, answered, inFront, treeIn, treeAfter}
+use Rattle.molang.specs.Plain.{unplainAt}
+use Rattle.molang.specs.Write.{written, writtenCount, takenAway}
+use Rattle.molang.specs.WriteEntry.{treeFault, treesOf, WriteCall, refusedAt, orElse, forestRefusal, writeRefusal, writtenTokens, tokens, unwritten, writeTold, writeAnswered, listIn, listAfter}
+use Rattle.molang.proofs.Trees.{some-none}
+use Rattle.molang.proofs.Bounds.{treeWords-length}
+use Rattle.molang.proofs.Words.{LegalTokens, noTokens, LegalTrees, legalTree}
+use Rattle.molang.proofs.Legal.{read-legal, read-back, read-unfaulted}
+use Rattle.molang.proofs.Writing.{written-length}
+use Rattle.molang.proofs.ListWords.{listWords-length, written-legal}
+use Rattle.molang.proofs.Accepted.{must-none, call-accepted}
+
+-- A parse call that is not turned back and reads the tree k over cs.
+pub record Parsed (c : Call) (k : Token) (cs : Forest) : Type 0 where
+  pub accepted : refusal c ≡ none
+  pub reads : reading c ≡ tree k cs
+
+-- A tree's words with its brackets taken away.
+unfoldable pub bracketless : List ℕ → List ℕ
+bracketless ws = treeWords (takenAway false (treesOf ws) nil)
+
+-- The words in front of a buffer are found there.
+front-words : (ws buffer : List ℕ) (n : ℕ) → length ws ≡ n → take n (inFront ws buffer) ≡ ws
+unfolding inFront
+front-words ws buffer n h = ap (λ (m : ℕ). take m (ws ++ drop (length ws) buffer)) (sym h) ∙ take-append-seam ws (drop (length ws) buffer)
+
+-- Tests of the writer's table that are passed.
+refused-none : (o : Option ℕ) (n : ℕ) (later : Option Refusal) → refusedAt n o later ≡ none → (o ≡ none) × (later ≡ none)
+unfolding refusedAt
+refused-none none n later h = (refl, h)
+refused-none (some i) n later h = some-none h
+
+orElse-none : (o later : Option Refusal) → orElse o later ≡ none → (o ≡ none) × (later ≡ none)
+unfolding orElse
+orElse-none none later h = (refl, h)
+orElse-none (some r) later h = some-none h
+
+root-legal : (k : Token) (cs : Forest) → LegalTrees (node k cs nil) → LegalTokens (written k cs [])
+root-legal k cs (legalTree h n below after) = written-legal k cs h below [] noTokens
+
+module _ {c : Call} {k : Token} {cs : Forest} (p : Parsed c k cs) where
+  -- The call leaves the tree's words in front of the tree buffer, six to a node, and answers the node count.
+  pub tree-front : take (6 * size (node k cs nil)) (treeAfter c) ≡ treeWords (node k cs nil)
+  unfolding treeAfter treeIn
+  tree-front =
+      rw (p .accepted, p .reads)
+      (front-words (treeWords (node k cs nil)) (c .tree) (6 * size (node k cs nil)) (treeWords-length (node k cs nil)))
+
+  pub tree-told : answered c ≡ aTree (size (node k cs nil))
+  unfolding answered told
+  tree-told = rw (p .accepted, p .reads) refl
+
+  -- The writer reads the tree back from these words, and does not answer 12 to them.
+  tree-back : treesOf (treeWords (node k cs nil)) ≡ node k cs nil
+  unfolding reading
+  tree-back = let a = call-accepted c (p .accepted) in read-back _ _ _ _ k cs (a .legal) (a .few) (p .reads)
+
+  tree-unfaulted : treeFault 0 operatorSlot 0 (record { called = 1; begun = 0 }) (treeWords (node k cs nil)) ≡ none
+  unfolding reading
+  tree-unfaulted = let a = call-accepted c (p .accepted) in read-unfaulted _ _ _ _ k cs (a .legal) (a .few) (p .reads)
+
+  pub front-bracketless : bracketless (take (6 * size (node k cs nil)) (treeAfter c)) ≡ treeWords (takenAway false (node k cs nil) nil)
+  unfolding bracketless
+  front-bracketless = rw (tree-front, tree-back) refl
+
+  -- The tree's writing is legal.
+  pub tree-written-legal : LegalTokens (written k cs [])
+  unfolding reading
+  tree-written-legal =
+      let a = call-accepted c (p .accepted) in root-legal k cs (read-legal _ _ _ _ k cs (a .legal) (a .few) (p .reads))
+
+-- WHAT THE WRITER TELLS of the tree k over cs: 13 at the first node that is not plain, else 14 or 15 by the written count and the lent list,
+-- else that count; never 12.
+pub record WriterTells (k : Token) (cs : Forest) (w : WriteCall) : Type 0 where
+  pub unplain : (n : ℕ) → unplainAt k cs ≡ some n → writeAnswered w ≡ unwritten 13 n
+  pub tooMany : unplainAt k cs ≡ none → mostTokens < length (written k cs []) → writeAnswered w ≡ unwritten 14 0
+  pub noRoom : unplainAt k cs ≡ none → length (written k cs []) ≤ mostTokens → length (w .list) < 5 * length (written k cs [])
+      → writeAnswered w ≡ unwritten 15 0
+  pub writes : unplainAt k cs ≡ none → length (written k cs []) ≤ mostTokens → 5 * length (written k cs []) ≤ length (w .list)
+      → writeAnswered w ≡ tokens (length (written k cs []))
+
+-- What a write call that is not turned back says of the tree, tells and leaves: the written words in front of the list, five to a token.
+pub record Wrote (k : Token) (cs : Forest) (w : WriteCall) : Type 0 where
+  pub plain : unplainAt k cs ≡ none
+  pub few : length (written k cs []) ≤ mostTokens
+  pub told : writeAnswered w ≡ tokens (length (written k cs []))
+  pub front : take (5 * length (written k cs [])) (listAfter w) ≡ listWords (written k cs [])
+
+module _ {c : Call} {k : Token} {cs : Forest} (p : Parsed c k cs) (w : WriteCall) (handed : w .tree ≡ treeWords (node k cs nil)) where
+  trees-handed : treesOf (w .tree) ≡ node k cs nil
+  trees-handed = ap treesOf handed ∙ tree-back p
+
+  -- Answers 13-15 are all that these words may get.
+  write-refusal : writeRefusal w ≡ forestRefusal (node k cs nil) (length (w .list))
+  unfolding writeRefusal refusedAt
+  write-refusal = rw (handed, tree-unfaulted p, tree-back p) refl
+
+  pub writer-tells : WriterTells k cs w
+  unfolding writeAnswered writeTold writtenTokens forestRefusal refusedAt orElse must
+  writer-tells =
+      let n = writtenCount k cs in
+      let long = written-length k cs [] in
+      record {
+        unplain = λ i e. rw (write-refusal, e) refl;
+        tooMany = λ e over.
+            let fits : leb n mostTokens ≡ false = lt-leb n mostTokens (omega arith) in rw (write-refusal, e, fits) refl;
+        noRoom = λ e few short.
+            let fits : leb n mostTokens ≡ true = le-leb n mostTokens (omega arith) in
+            let room : leb (5 * n) (length (w .list)) ≡ false = lt-leb (5 * n) (length (w .list)) (omega arith) in
+            rw (write-refusal, e, fits, room) refl;
+        writes = λ e few long-enough.
+            let fits : leb n mostTokens ≡ true = le-leb n mostTokens (omega arith) in
+            let room : leb (5 * n) (length (w .list)) ≡ true = le-leb (5 * n) (length (w .list)) (omega arith) in
+            rw (write-refusal, e, fits, room, trees-handed) refl;
+      }
+
+  pub write-done : writeRefusal w ≡ none → Wrote k cs w
+  unfolding forestRefusal writeAnswered writeTold writtenTokens listAfter listIn
+  write-done e =
+      let ks = written k cs [] in
+      let plain = refused-none _ 13 _ (sym write-refusal ∙ e) in
+      let room = orElse-none _ _ (plain .1) in
+      let few : writtenCount k cs ≤ mostTokens = leb-true _ _ (must-none _ 14 (room .0)) in
+      record {
+        plain = plain .0;
+        few = omega (arith, written-length k cs []);
+        told = rw (e, trees-handed) refl;
+        front = rw (e, trees-handed) (front-words (listWords ks) (w .list) (5 * length ks) (listWords-length ks));
+      }
+
+-- A call that answers a tree of n nodes has read one.
+pub record TreeTold (c : Call) (n : ℕ) : Type 0 where
+  pub root : Token
+  pub children : Forest
+  pub parsed : Parsed c root children
+  pub nodes : n ≡ size (node root children nil)
+
+pub tree-of-told : (c : Call) (n : ℕ) → answered c ≡ aTree n → TreeTold c n
+unfolding answered told
+tree-of-told c n h = split (refusal c) (reading c) refl refl
+  where
+    split : (o : Option Refusal) (a : Answer) → refusal c ≡ o → reading c ≡ a → TreeTold c n
+    split (some r) a e f = let impossible : _≡_ {A = ℕ} 0 1 = cc (rw (e, told) at h) in absurd (omega arith)
+    split none (messages ms) e f = let impossible : _≡_ {A = ℕ} 0 1 = cc (rw (e, f, told) at h) in absurd (omega arith)
+    split none (tree k cs) e f =
+        let said = rw (e, f, told) at h in
+        record { root = k; children = cs; parsed = record { accepted = e; reads = f }; nodes = cc said }
+
+-- A write call that answers a token count is not turned back.
+pub write-of-told : (w : WriteCall) (n : ℕ) → writeAnswered w ≡ tokens n → writeRefusal w ≡ none
+unfolding writeAnswered writeTold
+write-of-told w n h = split (writeRefusal w) refl
+  where
+    split : (o : Option Refusal) → writeRefusal w ≡ o → writeRefusal w ≡ none
+    split none e = e
+    split (some r) e = let impossible : _≡_ {A = ℕ} 0 1 = cc (rw (e, writeTold) at h) in absurd (omega arith)

@@ -1,0 +1,119 @@
+-- The words of legal tokens answer none of 8-11, and what is written of a legal tree is legal: what stands between the writer and a second
+-- reading.
+use Prim.Native.Nat.{ℕ, suc, _+_, _*_, _/_, _%_, _^_, _≤_}
+use mathlib.Core.Path.{_≡_, refl, _∙_}
+use mathlib.Core.Bool.{Bool, true, false, true≢false, false≢true}
+use mathlib.Core.List.{List, [], _∷_, _++_}
+use mathlib.Core.Option.{Option, none, some}
+use native.Mathlib.Omega.{arith}
+use lib.Dec.{eqb, leb}
+use lib.ListN.{length}
+use borrow.Author.Tests.{ne-eqb}
+use Rattle.molang.specs.Operator
+use Rattle.molang.specs.Operator.{isBracket}
+use Rattle.molang.specs.Forest.{Token, Forest, nil, node, bare, count, size}
+use Rattle.molang.specs.Read.{uses}
+use Rattle.molang.specs.Words.{word, tokenWords, Legal, listWords, treeWords, Slot, operatorSlot, startSlot, endSlot, upperSlot, lowerSlot, wordFault, lowFault, variantAfter, nextInToken, Refusal, wordsRefusal}
+use Rattle.molang.specs.Write.{openerFor, closerFor, standsAlone, standsLeft, standsRight, operandTokens, written}
+use Rattle.molang.specs.WriteEntry.{mostNodes, nextInNode, Shape, shapeAfter, continues, treeFault}
+use Rattle.molang.proofs.Trees.{some-none}
+use Rattle.molang.proofs.Words.{LegalTokens, noTokens, token, LegalTrees, noTrees, legalTree}
+use Rattle.molang.proofs.TreeWords.{tree-unfaulted}
+use Rattle.molang.proofs.Writing.{written-none, written-one, written-two, written-more}
+
+-- A word of a tree that has no fault has none itself, nor have the words after it.
+tree-word : (i : ℕ) (slot : Slot) (v : ℕ) (s : Shape) (w : ℕ) (ws : List ℕ) → treeFault i slot v s (w ∷ ws) ≡ none
+    → (wordFault slot v w ≡ none) × (treeFault (suc i) (nextInNode slot) (variantAfter slot v w) (shapeAfter slot w s) ws ≡ none)
+unfolding treeFault continues
+tree-word i slot v s w ws h = split (wordFault slot v w) (continues slot v s w) refl refl
+  where
+    split : (o : Option ℕ) (b : Bool) → wordFault slot v w ≡ o → continues slot v s w ≡ b
+        → (wordFault slot v w ≡ none) × (treeFault (suc i) (nextInNode slot) (variantAfter slot v w) (shapeAfter slot w s) ws ≡ none)
+    split o false e f = some-none (rw (f, treeFault) at h)
+    split none true e f = (e, rw (f, treeFault) at h)
+    split (some n) true e f = absurd (false≢true (rw (e, continues) at f))
+
+-- Of a list, a word without fault leaves the answer to the words after it.
+list-word : (i : ℕ) (slot : Slot) (v w : ℕ) (ws : List ℕ) → wordFault slot v w ≡ none
+    → wordsRefusal i slot v (w ∷ ws) ≡ wordsRefusal (suc i) (nextInToken slot) (variantAfter slot v w) ws
+unfolding wordsRefusal
+list-word i slot v w ws h = rw (h, wordsRefusal) refl
+
+-- A legal token is a tree of one node, whose words have no fault; so they answer nothing in a list either.
+token-unrefused : (k : Token) → Legal k → (i v : ℕ) (ws : List ℕ) → ((i v : ℕ) → wordsRefusal i operatorSlot v ws ≡ none)
+    → wordsRefusal i operatorSlot v (tokenWords k ++ ws) ≡ none
+unfolding tokenWords treeWords count size variantAfter nextInNode nextInToken wordFault lowFault
+token-unrefused k h i v ws later =
+    let a = word 1 (k .variant * 2 ^ 8 + k .op) in
+    let b = word 2 (k .start) in
+    let c = word 3 (k .end) in
+    let d = word 4 (k .value / 2 ^ 16) in
+    let e = word 5 (k .value % 2 ^ 16) in
+    let n = word 6 0 ∷ [] in
+    let u = variantAfter operatorSlot v a in
+    let fault = tree-unfaulted k nil (legalTree h (omega arith) noTrees noTrees) (omega arith) in
+    let fa = tree-word 0 operatorSlot 0 _ a (b ∷ c ∷ d ∷ e ∷ n) fault in
+    let fb = tree-word 1 startSlot u _ b (c ∷ d ∷ e ∷ n) (fa .1) in
+    let fc = tree-word 2 endSlot u _ c (d ∷ e ∷ n) (fb .1) in
+    let fd = tree-word 3 upperSlot u _ d (e ∷ n) (fc .1) in
+    let fe = tree-word 4 lowerSlot u _ e n (fd .1) in
+    list-word i operatorSlot v a (b ∷ c ∷ d ∷ e ∷ ws) (fa .0)
+    ∙ list-word (suc i) startSlot u b (c ∷ d ∷ e ∷ ws) (fb .0)
+    ∙ list-word (suc (suc i)) endSlot u c (d ∷ e ∷ ws) (fc .0)
+    ∙ list-word (suc (suc (suc i))) upperSlot u d (e ∷ ws) (fd .0)
+    ∙ list-word (suc (suc (suc (suc i)))) lowerSlot u e ws (fe .0)
+    ∙ later (suc (suc (suc (suc (suc i))))) u
+
+-- The words of legal tokens answer none of 8-11.
+pub list-unrefused : {ks : List Token} → LegalTokens ks → (i v : ℕ) → wordsRefusal i operatorSlot v (listWords ks) ≡ none
+unfolding listWords wordsRefusal
+list-unrefused noTokens i v = refl
+list-unrefused (token {k = k} {ks = ks} h hs) i v = token-unrefused k h i v (listWords ks) (list-unrefused hs)
+
+-- They are five to a token.
+pub listWords-length : (ks : List Token) → length (listWords ks) ≡ 5 * length ks
+unfolding listWords tokenWords
+listWords-length [] = refl
+listWords-length (k ∷ ks) = let i = listWords-length ks in omega arith
+
+-- No legal token has an operator above 110.
+pub uses-legal : {ks : List Token} → LegalTokens ks → (m : ℕ) → 111 ≤ m → uses ks m ≡ false
+unfolding uses
+uses-legal noTokens m h = refl
+uses-legal (token {k = k} l ls) m h = rw (ne-eqb (k .op) m (λ e. omega (arith, l .op)), uses-legal ls m h) refl
+
+-- Added brackets are legal.
+opener-legal : (k : Token) → Legal k → Legal (openerFor k)
+unfolding openerFor bare
+opener-legal k h = record { op = omega arith; variant = omega arith; value = omega arith; no-payload = λ e. refl; start = h .start; end = h .end }
+
+closer-legal : (k : Token) → Legal k → Legal (closerFor k)
+unfolding closerFor bare
+closer-legal k h = record { op = omega arith; variant = omega arith; value = omega arith; no-payload = λ e. refl; start = h .start; end = h .end }
+
+-- F puts legal tokens before legal tokens.
+abbrev KeepsLegal : (List Token → List Token) → Type 0
+KeepsLegal F = (r : List Token) → LegalTokens r → LegalTokens (F r)
+
+operand-legal : (b : Bool) (k : Token) (F : List Token → List Token) → Legal k → KeepsLegal F → KeepsLegal (operandTokens b k F)
+unfolding operandTokens
+operand-legal true k F h f r l = f r l
+operand-legal false k F h f r l = token (opener-legal k h) (f (closerFor k ∷ r) (token (closer-legal k h) l))
+
+-- The writing of a legal tree is legal.
+pub written-legal : (k : Token) (cs : Forest) → Legal k → LegalTrees cs → KeepsLegal (written k cs)
+written-legal k nil h below r l = split (isBracket (k .op)) refl
+  where
+    split : (b : Bool) → isBracket (k .op) ≡ b → LegalTokens (written k nil r)
+    split true e = rw (written-none true k r e) (token h (token (closer-legal k h) l))
+    split false e = rw (written-none false k r e) (token h l)
+written-legal k (node x xs nil) h (legalTree hx n hxs noTrees) r l = split (isBracket (k .op)) refl (written-legal x xs hx hxs)
+  where
+    split : (b : Bool) → isBracket (k .op) ≡ b → KeepsLegal (written x xs) → LegalTokens (written k (node x xs nil) r)
+    split true e i = rw (written-one true k x xs r e) (token h (i (closerFor k ∷ r) (token (closer-legal k h) l)))
+    split false e i = rw (written-one false k x xs r e) (token h (operand-legal (standsAlone x xs) x (written x xs) hx i r l))
+written-legal k (node x xs (node y ys nil)) h (legalTree hx n hxs (legalTree hy m hys noTrees)) r l =
+    rw (written-two k x xs y ys r)
+    (operand-legal (standsLeft k x xs) x (written x xs) hx (written-legal x xs hx hxs) (k ∷ operandTokens (standsRight k y ys) y (written y ys) r)
+    (token h (operand-legal (standsRight k y ys) y (written y ys) hy (written-legal y ys hy hys) r l)))
+written-legal k (node x xs (node y ys (node z zs more))) h below r l = rw (written-more k x xs y ys z zs more r) (token h l)

@@ -1,0 +1,72 @@
+-- Numbers by their bits: a number without bits from the t-th on is below 2 ^ t. So a used set without operators above 110 is not turned back.
+use Prim.Native.Nat.{ℕ, zero, suc, _+_, _*_, _/_, _%_, _^_, _≤_, _<_}
+use mathlib.Core.Path.{_≡_, ap, sym, _∙_}
+use mathlib.Core.Bool.{Bool, true, false}
+use native.Mathlib.Omega.{arith}
+use lib.Dec.{eqb}
+use lib.Pow.{shr-shr, shr-le, shr-lt, split}
+use borrow.Author.Tests.{eqb-false, eq-eqb, ne-eqb}
+use Rattle.molang.specs.Parse.{inHalves}
+
+-- A number without bits is 0; n is at least the number.
+no-bits : (n q : ℕ) → q ≤ n → ((j : ℕ) → q / 2 ^ j % 2 ≡ 0) → q ≡ 0
+no-bits zero q b h = omega arith
+no-bits (suc n) q b h =
+    let half = no-bits n (q / 2 ^ 1) (omega arith) (λ j. ap (λ (m : ℕ). m % 2) (shr-shr q 1 j) ∙ h (1 + j)) in omega (arith, h 0)
+
+-- The used set's number is below 2 ^ 111 if it has no bit above operator 110.
+pub used-few : (low high : ℕ) → ((m : ℕ) → 111 ≤ m → inHalves low high m ≡ false) → high * 2 ^ 64 + low < 2 ^ 111
+unfolding inHalves
+used-few low high h =
+    let u = high * 2 ^ 64 + low in
+    let none = no-bits (u / 2 ^ 111) (u / 2 ^ 111) (omega arith)
+    (λ j.
+    let bit = eqb-false (u / 2 ^ (111 + j) % 2) 1 (h (111 + j) (omega arith)) in
+    let gone : u / 2 ^ (111 + j) % 2 ≡ 0 = omega arith in ap (λ (m : ℕ). m % 2) (shr-shr u 111 j) ∙ gone) in
+    omega arith
+
+-- The number whose first n bits are those of a set, and no others.
+unfoldable setNumber : (ℕ → Bool) → ℕ → ℕ
+setNumber f zero = 0
+setNumber f (suc n) = setNumber (λ m. f (suc m)) n * 2 + elim (f 0) [ true ↦ 1 | false ↦ 0 ]
+
+last-bit : (x : ℕ) (b : Bool) → eqb ((x * 2 + elim b [ true ↦ 1 | false ↦ 0 ]) / 2 ^ 0 % 2) 1 ≡ b
+last-bit x true = eq-eqb ((x * 2 + 1) / 2 ^ 0 % 2) 1 (omega arith)
+last-bit x false = ne-eqb ((x * 2 + 0) / 2 ^ 0 % 2) 1 (λ e. omega arith)
+
+other-bits : (x : ℕ) (b : Bool) → (x * 2 + elim b [ true ↦ 1 | false ↦ 0 ]) / 2 ^ 1 ≡ x
+other-bits x true = omega arith
+other-bits x false = omega arith
+
+set-bits : (f : ℕ → Bool) (n : ℕ) → ((m : ℕ) → n ≤ m → f m ≡ false) → (m : ℕ) → eqb (setNumber f n / 2 ^ m % 2) 1 ≡ f m
+unfolding setNumber
+set-bits f zero h m = ne-eqb (0 / 2 ^ m % 2) 1 (λ e. omega (arith, shr-le 0 m)) ∙ sym (h m (omega arith))
+set-bits f (suc n) h zero = last-bit (setNumber (λ m. f (suc m)) n) (f 0)
+set-bits f (suc n) h (suc m) =
+    let x = setNumber f (suc n) in
+    let next : suc m ≡ 1 + m = omega arith in
+    ap (λ (q : ℕ). eqb (q % 2) 1)
+    (ap (λ (j : ℕ). x / 2 ^ j) next ∙ sym (shr-shr x 1 m) ∙ ap (λ (q : ℕ). q / 2 ^ m) (other-bits (setNumber (λ m. f (suc m)) n) (f 0)))
+    ∙ set-bits (λ m. f (suc m)) n (λ m b. h (suc m) (omega arith)) m
+
+-- Every set of operators up to 110 is a used set in two halves.
+pub record Halves (f : ℕ → Bool) : Type 0 where
+  pub low : ℕ
+  pub high : ℕ
+  pub exactly : (m : ℕ) → inHalves low high m ≡ f m
+  pub lowFits : low < 2 ^ 64
+  pub highFits : high < 2 ^ 64
+
+high-small : {n : ℕ} → n < 2 ^ 47 → n < 2 ^ 64
+high-small h = omega arith
+
+pub halves : (f : ℕ → Bool) → ((m : ℕ) → 111 ≤ m → f m ≡ false) → Halves f
+unfolding inHalves
+halves f h =
+    let n = setNumber f 111 in
+    let whole = split n 64 in
+    let exactly : (m : ℕ) → inHalves (n % 2 ^ 64) (n / 2 ^ 64) m ≡ f m =
+    λ m. ap (λ (q : ℕ). eqb (q / 2 ^ m % 2) 1) whole ∙ set-bits f 111 h m
+    in
+    let few : n < 2 ^ 111 = rw whole at (used-few (n % 2 ^ 64) (n / 2 ^ 64) (λ m b. exactly m ∙ h m b)) in
+    record { low = n % 2 ^ 64; high = n / 2 ^ 64; exactly = exactly; lowFits = omega arith; highFits = high-small (shr-lt 47 64 few) }
