@@ -118,6 +118,7 @@ pub record ReadAgain (first second : Call) (nodes : ℕ) : Type 0 where
   pub parsed : answered second ≡ aTree again
   pub words : bracketless (take (6 * again) (treeAfter second)) ≡ bracketless (take (6 * nodes) (treeAfter first))
 
+-- Such calls are three calls on the tree that the first has read; and what comes of them is seen in the buffers.
 module _ (first : Call) (write : WriteCall) (second : Call) (nodes count : ℕ) (h : HandedOn first write second nodes count) where
   handed-on : (t : TreeTold first nodes) → ThreeCalls first write second (t .root) (t .children)
   handed-on t =
@@ -131,7 +132,7 @@ module _ (first : Call) (write : WriteCall) (second : Call) (nodes count : ℕ) 
       let answer = h .wrote in
       let counted : count ≡ length (written k cs []) = cc in
       let listHanded = rw counted at (h .listHanded) in
-      let tokens : tokensOf (second .list) ≡ written k cs [] =
+      let got : tokensOf (second .list) ≡ written k cs [] =
       ap tokensOf (listHanded ∙ wrote .front) ∙ tokens-back (written k cs []) (tree-written-legal p)
       in
       record {
@@ -139,7 +140,7 @@ module _ (first : Call) (write : WriteCall) (second : Call) (nodes count : ℕ) 
         treeHanded = treeHanded;
         writes = writes;
         listHanded = listHanded;
-        usedExactly = λ m. h .usedExactly m ∙ ap (λ (ks : List Token). uses ks m) tokens;
+        usedExactly = λ m. h .usedExactly m ∙ ap (λ (ks : List Token). uses ks m) got;
         treeRoom = rw counted at (h .treeRoom);
         messageRoom = h .messageRoom;
         workRoom = rw counted at (h .workRoom);
@@ -155,10 +156,18 @@ module _ (first : Call) (write : WriteCall) (second : Call) (nodes count : ℕ) 
             ∙ sym (ap (λ (n : ℕ). bracketless (take (6 * n) (treeAfter first))) (t .nodes) ∙ front-bracketless (t .parsed));
       }
 
+  -- DEMAND 3 BY ANSWERS AND BUFFERS.
   pub read-again : ReadAgain first second nodes
   read-again =
       let t = tree-of-told first nodes (h .parsed) in
       seen-again t (three-calls first write second (t .root) (t .children) (handed-on t))
+
+-- A buffer of so many words.
+abbrev zeros : ℕ → List ℕ
+zeros n = replicate n 0
+
+zeros-long : (n : ℕ) → n ≤ length (zeros n)
+zeros-long n = omega (arith, length-replicate {A = ℕ} n 0)
 
 -- THE CALLS CAN BE MADE: whatever plain tree the first call has read, if its writing has at most 4,096 tokens, there are a write call and a
 -- second call, at each version and legal source length, that go on from it.
@@ -169,14 +178,8 @@ pub record CallsMade (first : Call) (k : Token) (cs : Forest) (version : ℤ) (s
   pub atVersion : second .version ≡ version
   pub atLength : second .sourceLength ≡ sourceLength
 
--- A buffer of so many words.
-abbrev zeros : ℕ → List ℕ
-zeros n = replicate n 0
-
-zeros-long : (n : ℕ) → n ≤ length (zeros n)
-zeros-long n = omega (arith, length-replicate {A = ℕ} n 0)
-
-pub calls-made : (first : Call) (k : Token) (cs : Forest) → Parsed first k cs → unplainAt k cs ≡ none → length (written k cs []) ≤ mostTokens
+pub calls-made : (first : Call) (k : Token) (cs : Forest) → Parsed first k cs → unplainAt k cs ≡ none
+    → length (written k cs []) ≤ mostTokens
     → (version : ℤ) (sourceLength : ℕ) → sourceLength ≤ 536870911 → CallsMade first k cs version sourceLength
 calls-made first k cs p plain few version sourceLength legal =
     let n = length (written k cs []) in

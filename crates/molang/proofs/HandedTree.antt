@@ -2,14 +2,14 @@
 -- makes of them.
 use Prim.Native.Nat.{ℕ, _*_, _≤_, _<_}
 use mathlib.Core.Path.{_≡_, refl, ap, sym, _∙_}
-use mathlib.Core.Bool.{true, false}
+use mathlib.Core.Bool.{Bool, true, false}
 use mathlib.Core.List.{List, [], _++_}
 use mathlib.Core.Option.{Option, none, some}
 use native.Mathlib.Omega.{arith}
 use lib.Dec.{leb}
 use lib.ListN.{length, take, drop}
 use lib.Seq.{take-append-seam}
-use borrow.Author.Tests.{leb-true, le-leb, lt-leb}
+use borrow.Author.Tests.{leb-true, leb-false, le-leb, lt-leb}
 use Rattle.molang.specs.Forest.{Token, Forest, nil, node, size}
 use Rattle.molang.specs.Read.{Answer, tree, messages}
 use Rattle.molang.specs.Words.{Refusal, operatorSlot, listWords, treeWords}
@@ -128,6 +128,23 @@ module _ {c : Call} {k : Token} {cs : Forest} (p : Parsed c k cs) (w : WriteCall
             let room : leb (5 * n) (length (w .list)) ≡ true = le-leb (5 * n) (length (w .list)) (omega arith) in
             rw (write-refusal, e, fits, room, trees-handed) refl;
       }
+
+  -- So answer 12 is never given to what a parse call left.
+  pub never-12 : (place : ℕ) → writeAnswered w ≡ unwritten 12 place → ⊥
+  never-12 place h = split (unplainAt k cs) (leb n mostTokens) (leb (5 * n) (length (w .list))) refl refl refl
+    where
+      n : ℕ
+      n = length (written k cs [])
+
+      split : (o : Option ℕ) (a b : Bool) → unplainAt k cs ≡ o → leb n mostTokens ≡ a → leb (5 * n) (length (w .list)) ≡ b → ⊥
+      split (some i) a b e f g = let told = writer-tells .unplain i e in let same : _≡_ {A = ℕ} 13 12 = cc in omega arith
+      split none false b e f g = let told = writer-tells .tooMany e (leb-false n mostTokens f) in let same : _≡_ {A = ℕ} 14 12 = cc in omega arith
+      split none true false e f g =
+          let told = writer-tells .noRoom e (leb-true n mostTokens f) (leb-false (5 * n) (length (w .list)) g) in
+          let same : _≡_ {A = ℕ} 15 12 = cc in omega arith
+      split none true true e f g =
+          let told = writer-tells .writes e (leb-true n mostTokens f) (leb-true (5 * n) (length (w .list)) g) in
+          let same : _≡_ {A = ℕ} 0 1 = cc in omega arith
 
   pub write-done : writeRefusal w ≡ none → Wrote k cs w
   unfolding forestRefusal writeAnswered writeTold writtenTokens listAfter listIn

@@ -2,20 +2,18 @@
 -- reading.
 use Prim.Native.Nat.{ℕ, suc, _+_, _*_, _/_, _%_, _^_, _≤_}
 use mathlib.Core.Path.{_≡_, refl, _∙_}
-use mathlib.Core.Bool.{Bool, true, false, true≢false, false≢true}
+use mathlib.Core.Bool.{Bool, true, false, false≢true}
 use mathlib.Core.List.{List, [], _∷_, _++_}
 use mathlib.Core.Option.{Option, none, some}
 use native.Mathlib.Omega.{arith}
-use lib.Dec.{eqb, leb}
 use lib.ListN.{length}
 use borrow.Author.Tests.{ne-eqb}
-use Rattle.molang.specs.Operator
 use Rattle.molang.specs.Operator.{isBracket}
 use Rattle.molang.specs.Forest.{Token, Forest, nil, node, bare, count, size}
 use Rattle.molang.specs.Read.{uses}
-use Rattle.molang.specs.Words.{word, tokenWords, Legal, listWords, treeWords, Slot, operatorSlot, startSlot, endSlot, upperSlot, lowerSlot, wordFault, lowFault, variantAfter, nextInToken, Refusal, wordsRefusal}
+use Rattle.molang.specs.Words.{word, tokenWords, Legal, listWords, treeWords, Slot, operatorSlot, startSlot, endSlot, upperSlot, lowerSlot, wordFault, lowFault, variantAfter, nextInToken, wordsRefusal}
 use Rattle.molang.specs.Write.{openerFor, closerFor, standsAlone, standsLeft, standsRight, operandTokens, written}
-use Rattle.molang.specs.WriteEntry.{mostNodes, nextInNode, Shape, shapeAfter, continues, treeFault}
+use Rattle.molang.specs.WriteEntry.{nextInNode, Shape, shapeAfter, continues, treeFault}
 use Rattle.molang.proofs.Trees.{some-none}
 use Rattle.molang.proofs.Words.{LegalTokens, noTokens, token, LegalTrees, noTrees, legalTree}
 use Rattle.molang.proofs.TreeWords.{tree-unfaulted}

@@ -1,4 +1,5 @@
--- Numbers by their bits: a number without bits from the t-th on is below 2 ^ t. So a used set without operators above 110 is not turned back.
+-- Used sets by their bits: one without operators above 110 is a number below 2 ^ 111, which the entry does not turn back; and every set of
+-- operators up to 110 is one, in two halves.
 use Prim.Native.Nat.{ℕ, zero, suc, _+_, _*_, _/_, _%_, _^_, _≤_, _<_}
 use mathlib.Core.Path.{_≡_, ap, sym, _∙_}
 use mathlib.Core.Bool.{Bool, true, false}
