@@ -148,6 +148,11 @@ any-variant i v (w ∷ ws) = refl
 abbrev pub checkFrom : List ℕ → ℕ → Option Refusal
 checkFrom list at = wordsRefusal at operatorSlot 0 (drop at list)
 
+-- The first i of n tokens are without fault.
+pub record PassedTo (list : List ℕ) (n i : ℕ) : Type 0 where
+  pub within : i ≤ n
+  pub rest : checkFrom list 0 ≡ checkFrom list (5 * i)
+
 abbrev pub tokenAt : List ℕ → ℕ → List ℕ
 tokenAt list at = getD list at 0 ∷ getD list (at + 1) 0 ∷ getD list (at + 2) 0 ∷ getD list (at + 3) 0 ∷ getD list (at + 4) 0 ∷ []
 

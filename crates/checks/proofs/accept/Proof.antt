@@ -5,8 +5,6 @@ use borrow.Author.Needs.{needs}
 use Rattle.checks.proofs.AcceptLaws.{by-length, whole-tokens, by-lent, by-words}
 use Rattle.checks.proofs.accept.Statement.{statement}
 use Rattle.checks.proofs.accept.Tie as tie
-use Rattle.checks.proofs.accept.Reads as reads
-use Rattle.checks.proofs.accept.Lts as lts
 
 list-length-requires : tie.Need-list-length-requires
 list-length-requires c κs = search needs

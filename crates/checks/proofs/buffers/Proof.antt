@@ -10,9 +10,6 @@ use Rattle.molang.specs.Parse.{must, firstOf}
 use Rattle.checks.specs.Accepting.{lentRefusal}
 use Rattle.checks.proofs.buffers.Statement.{statement}
 use Rattle.checks.proofs.buffers.Tie as tie
-use Rattle.checks.proofs.buffers.Reads as reads
-use Rattle.checks.proofs.buffers.Lts as lts
-use Rattle.ops.proofs.sets.OpSet.is_legal.Reads as is-legal-reads
 
 mul-if1 : tie.Need-mul-if1
 mul-if1 c = search needs
@@ -55,7 +52,9 @@ returns-4 : tie.Need-returns-4
 unfolding lentRefusal firstOf must
 returns-4 c =
     let a = c .before .before .before .before .before .before .before .before .args in
-    let illegal : ltb (a .used .high * 2 ^ 64 + a .used .low) (2 ^ 111) ≡ false = sym (c .before .is-legal .ensures) ∙ not-true (c .before .is-legal .result) (c .if4 .taken) in
+    let illegal : ltb (a .used .high * 2 ^ 64 + a .used .low) (2 ^ 111) ≡ false =
+    sym (c .before .is-legal .ensures) ∙ not-true (c .before .is-legal .result) (c .if4 .taken)
+    in
     rw (
       le-leb (18 * a .n) (a .sizes .tree) (omega arith),
       le-leb 16 (a .sizes .messages) (omega arith),
@@ -67,7 +66,9 @@ returns-5 : tie.Need-returns-5
 unfolding lentRefusal firstOf must
 returns-5 c =
     let a = c .before .before .before .before .before .before .before .before .before .before .args in
-    let legal : ltb (a .used .high * 2 ^ 64 + a .used .low) (2 ^ 111) ≡ true = sym (c .before .before .before .is-legal .ensures) ∙ not-false (c .before .before .before .is-legal .result) (c .before .before .if4 .left) in
+    let legal : ltb (a .used .high * 2 ^ 64 + a .used .low) (2 ^ 111) ≡ true =
+    sym (c .before .before .before .is-legal .ensures) ∙ not-false (c .before .before .before .is-legal .result) (c .before .before .if4 .left)
+    in
     rw (
       le-leb (18 * a .n) (a .sizes .tree) (omega arith),
       le-leb 16 (a .sizes .messages) (omega arith),
@@ -80,7 +81,9 @@ returns-6 : tie.Need-returns-6
 unfolding lentRefusal firstOf must
 returns-6 c =
     let a = c .before .before .before .before .before .before .before .before .before .before .args in
-    let legal : ltb (a .used .high * 2 ^ 64 + a .used .low) (2 ^ 111) ≡ true = sym (c .before .before .before .is-legal .ensures) ∙ not-false (c .before .before .before .is-legal .result) (c .before .before .if4 .left) in
+    let legal : ltb (a .used .high * 2 ^ 64 + a .used .low) (2 ^ 111) ≡ true =
+    sym (c .before .before .before .is-legal .ensures) ∙ not-false (c .before .before .before .is-legal .result) (c .before .before .if4 .left)
+    in
     rw (
       le-leb (18 * a .n) (a .sizes .tree) (omega arith),
       le-leb 16 (a .sizes .messages) (omega arith),

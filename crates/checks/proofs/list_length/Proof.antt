@@ -6,8 +6,6 @@ use Rattle.molang.specs.Parse.{must, firstOf}
 use Rattle.checks.specs.Accepting.{lengthRefusal}
 use Rattle.checks.proofs.list_length.Statement.{statement}
 use Rattle.checks.proofs.list_length.Tie as tie
-use Rattle.checks.proofs.list_length.Reads as reads
-use Rattle.checks.proofs.list_length.Lts as lts
 
 returns : tie.Need-returns
 unfolding lengthRefusal firstOf must

@@ -1,0 +1,286 @@
+-- The passes that run, place by place: from place 0 on they are those of the definition's order after the sections, each place gives its
+-- own before the later ones, and after the last place there are none. What was chosen at a place is the pass that runs there. Assumes nothing.
+use mathlib.Core.Path.{_≡_, refl, sym, ap, _∙_}
+use mathlib.Core.Bool.{Bool, true, false, _&&_, true≢false}
+use mathlib.Core.List.{List, [], _∷_, _++_, append-assoc}
+use mathlib.Core.Option.{Option, none, some}
+use Prim.Native.Nat.{ℕ, zero, suc, _+_, _<_, _≤_}
+use native.Mathlib.Numerals.{add-one}
+use native.Mathlib.Omega.{arith}
+use lib.IntN.{ℤ}
+use lib.ListN.{length, drop, getD, length-append}
+use lib.Seq.{drop-cons, drop-length}
+use Rattle.molang.specs.Operator
+use Rattle.molang.specs.Forest.{Forest, nil}
+use Rattle.molang.specs.Message.{Message, Result, ok, fail}
+use Rattle.molang.specs.Calls.{queryOrLoop, math}
+use Rattle.molang.specs.Order.{Rules, rules, effective, isFrom, Pass, lastToken, memberAccessors, sectioning, callPass, statements, arrays, pointer, mathCalls, unaryMinusAndNot, addition, ternary, returns, binary, comparisons, logic, conditionals, order, runs, apply}
+use Rattle.molang.specs.Read.{Answer, messages, rooted, endsReading, grouped}
+use Rattle.molang.proofs.Work.{Kind, pass}
+use Rattle.molang.proofs.Work as kinds
+use Rattle.walks.specs.Passes.{Runs}
+use Rattle.walks.specs.Passes as walks
+use Rattle.walks.specs.declared.turns.Pass.{Pass as State}
+use Rattle.order.proofs.Choosing.{comparing-size, deciding-size, branching-size}
+use Rattle.order.specs.declared.Choice.{Choice}
+use Rattle.order.specs.declared.Choice.the-variants.{Run, Skip}
+use Rattle.order.specs.Places.{padded, comparing, deciding, branching, last, places, placeIn, rulesOf, Starts, call, plain, array, mathCall, unary, tern, prefix, point, plus, level, Chosen, empty, unused, used, running, runningIn, passesFrom, runningOf}
+
+-- ---- The order
+
+pub rules-of : (v : ℤ) → rules v ≡ rulesOf (effective v)
+unfolding rules
+rules-of v = refl
+
+module _ (u : ℕ → Bool) where
+  running-some : (p : Pass) (others : List Pass) → running u (some p) ++ runningOf u others ≡ runningOf u (p ∷ others)
+  unfolding running runningOf
+  running-some p others = go (runs u p) refl
+    where
+      go : (b : Bool) → runs u p ≡ b
+          → elim b [ true ↦ p ∷ [] | false ↦ [] ] ++ runningOf u others ≡ elim b [ true ↦ p ∷ runningOf u others | false ↦ runningOf u others ]
+      go true e = refl
+      go false e = refl
+
+  append-running : (ats others : List (Option Pass)) → runningIn u (ats ++ others) ≡ runningIn u ats ++ runningIn u others
+  unfolding runningIn
+  append-running [] others = refl
+  append-running (at ∷ ats) others =
+      ap (λ (l : List Pass). running u at ++ l) (append-running ats others) ∙ sym (append-assoc (running u at) (runningIn u ats) (runningIn u others))
+
+  append-running-of : (ps qs : List Pass) → runningOf u (ps ++ qs) ≡ runningOf u ps ++ runningOf u qs
+  unfolding runningOf
+  append-running-of [] qs = refl
+  append-running-of (p ∷ ps) qs =
+      sym (running-some p (ps ++ qs))
+      ∙ (ap (λ (l : List Pass). running u (some p) ++ l) (append-running-of ps qs)
+      ∙ (sym (append-assoc (running u (some p)) (runningOf u ps) (runningOf u qs)) ∙ ap (λ (l : List Pass). l ++ runningOf u qs) (running-some p ps)))
+
+  empty-places : (n : ℕ) → runningIn u (padded n []) ≡ []
+  unfolding runningIn running
+  empty-places zero = refl
+  empty-places (suc n) = empty-places n
+
+  -- Places that are as many as the passes or more.
+  pub padded-running : (n : ℕ) (ps : List Pass) → length ps ≤ n → runningIn u (padded n ps) ≡ runningOf u ps
+  unfolding runningIn running runningOf
+  padded-running n [] fits = empty-places n
+  padded-running zero (p ∷ ps) fits = absurd (omega arith)
+  padded-running (suc n) (p ∷ ps) fits =
+      ap (λ (l : List Pass). running u (some p) ++ l) (padded-running n ps (omega arith)) ∙ running-some p ps
+
+  -- A group before others.
+  group-running : (n : ℕ) (ps : List Pass) (others : List (Option Pass)) (qs : List Pass) → length ps ≤ n → runningIn u others ≡ runningOf u qs
+      → runningIn u (padded n ps ++ others) ≡ runningOf u (ps ++ qs)
+  group-running n ps others qs fits e =
+      append-running (padded n ps) others
+      ∙ (ap (λ (l : List Pass). l ++ runningIn u others) (padded-running n ps fits)
+      ∙ (ap (λ (l : List Pass). runningOf u ps ++ l) e ∙ sym (append-running-of ps qs)))
+
+comparisons-fit : (from6 : Bool) → length (comparisons from6) ≤ 6
+unfolding comparisons
+comparisons-fit true = omega arith
+comparisons-fit false = omega arith
+
+logic-fits : (from6 : Bool) → length (logic from6) ≤ 2
+unfolding logic
+logic-fits true = omega arith
+logic-fits false = omega arith
+
+conditionals-fit : (from5 : Bool) → length (conditionals from5) ≤ 2
+unfolding conditionals
+conditionals-fit true = omega arith
+conditionals-fit false = omega arith
+
+-- From place 0 on: the definition's order after the sections.
+pub passes-all : (u : ℕ → Bool) (r : Rules) → passesFrom u r 0 ≡ runningOf u (drop 3 (order r))
+unfolding passesFrom places order
+passes-all u r =
+    group-running u 3 (callPass ∷ statements ∷ arrays ∷ []) _ _ (omega arith)
+    (group-running u 6
+    (pointer ∷ mathCalls ∷ unaryMinusAndNot ∷ binary (Operator.div ∷ []) ∷ binary (Operator.mul ∷ []) ∷ addition ∷ []) _ _ (omega arith)
+    (group-running u 6 (comparisons (r .comparisonsFirst)) _ _ (comparisons-fit (r .comparisonsFirst))
+    (group-running u 2 (logic (r .andFirst)) _ _ (logic-fits (r .andFirst))
+    (group-running u 2 (conditionals (r .pairsRight)) _ _ (conditionals-fit (r .pairsRight))
+    (padded-running u 4
+    (binary (Operator.nullCoalescing ∷ []) ∷ binary (Operator.comma ∷ []) ∷ binary (Operator.assignment ∷ []) ∷ returns ∷ [])
+    (omega arith))))))
+
+places-size : (r : Rules) → length (places r) ≡ 23
+unfolding places
+places-size r =
+    rw (
+      length-append (comparing (r .comparisonsFirst)) (deciding (r .andFirst) ++ (branching (r .pairsRight) ++ last)),
+      length-append (deciding (r .andFirst)) (branching (r .pairsRight) ++ last),
+      length-append (branching (r .pairsRight)) last,
+      comparing-size (r .comparisonsFirst),
+      deciding-size (r .andFirst),
+      branching-size (r .pairsRight),
+    )
+
+-- A place before the later ones.
+pub passes-step : (u : ℕ → Bool) (r : Rules) (k : ℕ) → k < 23
+    → passesFrom u r k ≡ running u (placeIn (places r) k) ++ passesFrom u r (k + 1)
+unfolding passesFrom runningIn
+passes-step u r k below =
+    ap (runningIn u) (drop-cons (places r) k none (omega (arith, places-size r)))
+    ∙ ap (λ (n : ℕ). running u (placeIn (places r) k) ++ runningIn u (drop n (places r))) (sym (add-one k))
+
+-- After the last.
+pub passes-end : (u : ℕ → Bool) (r : Rules) → passesFrom u r 23 ≡ []
+unfolding passesFrom runningIn
+passes-end u r = ap (λ (n : ℕ). runningIn u (drop n (places r))) (sym (places-size r)) ∙ ap (runningIn u) (drop-length (places r))
+
+-- ---- What was chosen
+
+pub skipped : {u : ℕ → Bool} {at : Option Pass} → Chosen u at Skip → running u at ≡ []
+unfolding running
+skipped empty = refl
+skipped (unused e) = rw (e, running)
+
+-- The pass at a place runs from this state.
+pub record RunsFrom (u : ℕ → Bool) (at : Option Pass) (state : State) : Type 0 where
+  pub the-pass : Pass
+  pub stands : at ≡ some the-pass
+  pub runs-alone : running u at ≡ the-pass ∷ []
+  pub starts : Starts the-pass state
+
+pub chosen : {u : ℕ → Bool} {at : Option Pass} {state : State} → Chosen u at (Run state) → RunsFrom u at state
+unfolding running
+chosen (used {p = p} e s) = record { the-pass = p; stands = refl; runs-alone = rw (e, running); starts = s }
+
+-- A state of the walks' pass that does what the definition's pass does.
+pub record OfKind (p : Pass) (state : State) : Type 0 where
+  pub kind : Kind
+  pub runs-kind : Runs kind state
+  pub does : (sourceLength : ℕ) (f : Forest) → apply sourceLength p f ≡ pass kind f
+
+pub of-kind : {p : Pass} {state : State} → Starts p state → OfKind p state
+unfolding apply pass
+of-kind call = record { kind = kinds.calls queryOrLoop; runs-kind = walks.call; does = λ n f. refl }
+of-kind plain = record { kind = kinds.statements; runs-kind = walks.plain; does = λ n f. refl }
+of-kind array = record { kind = kinds.arrays; runs-kind = walks.array; does = λ n f. refl }
+of-kind mathCall = record { kind = kinds.calls math; runs-kind = walks.mathCall; does = λ n f. refl }
+of-kind unary = record { kind = kinds.unaries; runs-kind = walks.unary; does = λ n f. refl }
+of-kind tern = record { kind = kinds.ternary; runs-kind = walks.tern; does = λ n f. refl }
+of-kind prefix = record { kind = kinds.returns; runs-kind = walks.prefix; does = λ n f. refl }
+of-kind (point exact) = record { kind = kinds.binary (Operator.pointer ∷ []); runs-kind = walks.level exact; does = λ n f. refl }
+of-kind (plus exact) = record { kind = kinds.binary (Operator.add ∷ []); runs-kind = walks.level exact; does = λ n f. refl }
+of-kind (level {ops = ops} exact) = record { kind = kinds.binary ops; runs-kind = walks.level exact; does = λ n f. refl }
+
+-- ---- The pointer's place
+
+pub pointer-place : (r : Rules) → placeIn (places r) 3 ≡ some pointer
+unfolding places
+pointer-place r = refl
+
+ends-at : Option Pass → Bool
+ends-at none = true
+ends-at (some p) = endsReading p
+
+all-end : List (Option Pass) → Bool
+all-end [] = true
+all-end (at ∷ others) = ends-at at && all-end others
+
+and-true : (a b : Bool) → (a && b) ≡ true → (a ≡ true) × (b ≡ true)
+and-true true b e = (refl, e)
+and-true false b e = absurd (true≢false (sym e))
+
+end-each : (ats : List (Option Pass)) → all-end ats ≡ true → (k : ℕ) → ends-at (placeIn ats k) ≡ true
+unfolding all-end ends-at
+end-each [] e k = refl
+end-each (at ∷ others) e zero = and-true (ends-at at) (all-end others) e .0
+end-each (at ∷ others) e (suc k) = end-each others (and-true (ends-at at) (all-end others) e .1) k
+
+later-end : (a b c : Bool) → all-end (comparing a ++ (deciding b ++ (branching c ++ last))) ≡ true
+unfolding all-end ends-at endsReading comparisons logic conditionals
+later-end true true true = refl
+later-end true true false = refl
+later-end true false true = refl
+later-end true false false = refl
+later-end false true true = refl
+later-end false true false = refl
+later-end false false true = refl
+later-end false false false = refl
+
+place-ends : (r : Rules) (k : ℕ) → (k ≡ 3 → ⊥) → ends-at (placeIn (places r) k) ≡ true
+unfolding places all-end ends-at endsReading
+place-ends r zero other = refl
+place-ends r (suc zero) other = refl
+place-ends r (suc (suc zero)) other = refl
+place-ends r (suc (suc (suc zero))) other = absurd (other refl)
+place-ends r (suc (suc (suc (suc k)))) other =
+    end-each (drop 4 (places r)) (later-end (r .comparisonsFirst) (r .andFirst) (r .pairsRight)) k
+
+-- At every other place a failure ends the reading.
+pub ends-elsewhere : (r : Rules) (k : ℕ) (p : Pass) → (k ≡ 3 → ⊥) → placeIn (places r) k ≡ some p → endsReading p ≡ true
+unfolding ends-at
+ends-elsewhere r k p other e = sym (ap ends-at e) ∙ place-ends r k other
+
+-- ---- Reading by the passes that run
+
+module _ (n : ℕ) (u : ℕ → Bool) (p : Pass) (ps : List Pass) where
+  -- What follows a pass that runs, before the passes qs.
+  abbrev failed : List Pass → List Message → List Message → Bool → Answer
+  failed qs so-far m true = messages (so-far ++ m)
+  failed qs so-far m false = grouped n u qs (so-far ++ m) nil
+
+  abbrev next : List Pass → List Message → Result → Answer
+  next qs so-far (ok g) = grouped n u qs so-far g
+  next qs so-far (fail m) = failed qs so-far m (endsReading p)
+
+  run-first : runs u p ≡ true → (qs : List Pass) (so-far : List Message) (f : Forest)
+      → grouped n u (p ∷ qs) so-far f ≡ next qs so-far (apply n p f)
+  unfolding grouped
+  run-first e qs so-far f = rw (e, grouped) (go (apply n p f))
+    where
+      ended : (m : List Message) (b : Bool)
+          → _≡_ {A = Answer} (elim b [ true ↦ messages (so-far ++ m) | false ↦ grouped n u qs (so-far ++ m) nil ]) (failed qs so-far m b)
+      ended m true = refl
+      ended m false = refl
+
+      go : (x : Result)
+          → _≡_ {A = Answer}
+          (elim x [
+            | ok g ↦ grouped n u qs so-far g
+            | fail m ↦ elim (endsReading p) [ true ↦ messages (so-far ++ m) | false ↦ grouped n u qs (so-far ++ m) nil ]
+          ])
+          (next qs so-far x)
+      go (ok g) = refl
+      go (fail m) = ended m (endsReading p)
+
+  skip-first : runs u p ≡ false → (so-far : List Message) (f : Forest) → grouped n u (p ∷ ps) so-far f ≡ grouped n u ps so-far f
+  unfolding grouped
+  skip-first e so-far f = rw (e, grouped)
+
+  run-kept : runs u p ≡ true → runningOf u (p ∷ ps) ≡ p ∷ runningOf u ps
+  unfolding runningOf
+  run-kept e = rw (e, runningOf)
+
+  skip-dropped : runs u p ≡ false → runningOf u (p ∷ ps) ≡ runningOf u ps
+  unfolding runningOf
+  skip-dropped e = rw (e, runningOf)
+
+  module _ (same : (so-far : List Message) (f : Forest) → grouped n u ps so-far f ≡ grouped n u (runningOf u ps) so-far f) where
+    failed-same : (so-far m : List Message) (b : Bool) → failed ps so-far m b ≡ failed (runningOf u ps) so-far m b
+    failed-same so-far m true = refl
+    failed-same so-far m false = same (so-far ++ m) nil
+
+    next-same : (so-far : List Message) (x : Result) → next ps so-far x ≡ next (runningOf u ps) so-far x
+    next-same so-far (ok g) = same so-far g
+    next-same so-far (fail m) = failed-same so-far m (endsReading p)
+
+    first-same : (b : Bool) → runs u p ≡ b → (so-far : List Message) (f : Forest)
+        → grouped n u (p ∷ ps) so-far f ≡ grouped n u (runningOf u (p ∷ ps)) so-far f
+    first-same true e so-far f =
+        run-first e ps so-far f
+        ∙ (next-same so-far (apply n p f)
+        ∙ (sym (run-first e (runningOf u ps) so-far f) ∙ ap (λ (l : List Pass). grouped n u l so-far f) (sym (run-kept e))))
+    first-same false e so-far f =
+        skip-first e so-far f ∙ (same so-far f ∙ ap (λ (l : List Pass). grouped n u l so-far f) (sym (skip-dropped e)))
+
+pub grouped-running : (n : ℕ) (u : ℕ → Bool) (ps : List Pass) (so-far : List Message) (f : Forest)
+    → grouped n u ps so-far f ≡ grouped n u (runningOf u ps) so-far f
+unfolding runningOf
+grouped-running n u [] so-far f = refl
+grouped-running n u (p ∷ ps) so-far f = first-same n u p ps (grouped-running n u ps) (runs u p) refl so-far f

@@ -1,0 +1,104 @@
+-- `order::pointer_and_arithmetic` meets its contract: the arms in order. Assumes nothing.
+use native.Mathlib.Omega.{arith}
+use Rattle.molang.specs.Operator
+use Rattle.molang.specs.Order.{addition, mathCalls, pointer, runs, unaryMinusAndNot}
+use Rattle.order.specs.Places.{arithmetic, mathCall, plus, point, unary, usedBy}
+use Rattle.order.proofs.Choosing.{chosen-if, no-place, one-level, one-used}
+use Rattle.order.proofs.Exactness.{add-exact, pointer-exact, div-exact, mul-exact}
+use borrow.Author.Needs.{needs}
+use Rattle.order.proofs.pointer_and_arithmetic.Statement.{statement}
+use Rattle.order.proofs.pointer_and_arithmetic.Tie as tie
+
+level-of-requires : tie.Need-level-of-requires
+level-of-requires c κs = search needs
+
+has-math-call-requires : tie.Need-has-math-call-requires
+has-math-call-requires c κs = search needs
+
+when-requires : tie.Need-when-requires
+when-requires c κs = search needs
+
+uses-either-requires : tie.Need-uses-either-requires
+uses-either-requires c κs = search needs
+
+when-requires-2 : tie.Need-when-requires-2
+when-requires-2 c κs = search needs
+
+level-of-requires-2 : tie.Need-level-of-requires-2
+level-of-requires-2 c κs = search needs
+
+level-of-requires-3 : tie.Need-level-of-requires-3
+level-of-requires-3 c κs = search needs
+
+uses-either-requires-2 : tie.Need-uses-either-requires-2
+uses-either-requires-2 c κs = search needs
+
+level-requires : tie.Need-level-requires
+level-requires c κs = search needs
+
+returns : tie.Need-returns
+unfolding runs
+returns c =
+    rw (c .before .match .keys1)
+    (chosen-if (usedBy (c .before .before .args .used)) pointer _
+    (usedBy
+    (c .before .before .args .used) Operator.pointer) (one-used (usedBy (c .before .before .args .used)) Operator.pointer) (point pointer-exact)
+    (c .level-of .result) (c .level-of .ensures))
+
+returns-2 : tie.Need-returns-2
+unfolding runs
+returns-2 c =
+    let u = usedBy (c .before .before .before .args .used) in
+    rw (c .before .before .match .keys2)
+    (chosen-if u mathCalls _
+    (c .before .has-math-call .result) (c .before .has-math-call .ensures) mathCall (c .when .result) (c .when .ensures))
+
+returns-3 : tie.Need-returns-3
+unfolding runs
+returns-3 c =
+    let u = usedBy (c .before .before .before .args .used) in
+    rw (c .before .before .match .keys3)
+    (chosen-if u unaryMinusAndNot _
+    (c .before .uses-either .result) (c .before .uses-either .ensures) unary (c .when2 .result) (c .when2 .ensures))
+
+returns-4 : tie.Need-returns-4
+returns-4 c =
+    rw (c .before .match .keys4)
+    (one-level (usedBy (c .before .before .args .used)) Operator.div _ div-exact (c .level-of2 .result) (c .level-of2 .ensures))
+
+returns-5 : tie.Need-returns-5
+returns-5 c =
+    rw (c .before .match .keys5)
+    (one-level (usedBy (c .before .before .args .used)) Operator.mul _ mul-exact (c .level-of3 .result) (c .level-of3 .ensures))
+
+returns-6 : tie.Need-returns-6
+unfolding runs
+returns-6 c =
+    let u = usedBy (c .before .before .before .args .used) in
+    rw (c .before .before .match .keys6)
+    (chosen-if u addition _
+    (c .before .uses-either2 .result) (c .before .uses-either2 .ensures) (plus add-exact) (c .level .result) (c .level .ensures))
+
+returns-7 : tie.Need-returns-7
+returns-7 c = no-place (usedBy (c .before .args .used)) arithmetic (c .before .args .k) (omega (arith, c .match .rest))
+
+pub pointer-and-arithmetic-spec : {M : Type 1} → statement M
+pointer-and-arithmetic-spec =
+    tie.close
+    (tie.spec
+    level-of-requires
+    has-math-call-requires
+    when-requires
+    uses-either-requires
+    when-requires-2
+    level-of-requires-2
+    level-of-requires-3
+    uses-either-requires-2
+    level-requires
+    returns
+    returns-2
+    returns-3
+    returns-4
+    returns-5
+    returns-6
+    returns-7)

@@ -1,0 +1,121 @@
+-- The definition's order of passes laid out in places that are the same at every version, and what it means that the code chose the pass at
+-- a place: the state in which that pass starts where the pass runs, and nothing where it does not or the place is empty.
+use Prim.Native.Nat.{ℕ, zero, suc, _<_}
+use mathlib.Core.Path.{_≡_}
+use mathlib.Core.Bool.{Bool, true, false}
+use mathlib.Core.List.{List, [], _∷_, _++_}
+use mathlib.Core.Option.{Option, none, some}
+use lib.IntN.{ℤ}
+use lib.ListN.{getD, drop}
+use Rattle.molang.specs.Operator
+use Rattle.molang.specs.Operator.{isOneOf}
+use Rattle.molang.specs.Order.{Rules, isFrom, Pass, callPass, statements, arrays, pointer, mathCalls, unaryMinusAndNot, addition, ternary, returns, binary, comparisons, logic, conditionals, runs}
+use Rattle.molang.specs.Parse.{inHalves}
+use Rattle.ops.specs.declared.classes.TokenClasses.{TokenClasses}
+use Rattle.ops.specs.declared.sets.OpSet.{OpSet}
+use Rattle.walks.specs.Passes.{Exact}
+use Rattle.walks.specs.declared.turns.Pass.{Pass as State}
+use Rattle.walks.specs.declared.turns.Pass.the-variants.{Calls, Maths, Plain, Arrays, Unary, Binary, Ternary, Prefix}
+use Rattle.order.specs.declared.Choice.{Choice}
+use Rattle.order.specs.declared.Choice.the-variants.{Run, Skip}
+
+abbrev pub usedBy : OpSet → ℕ → Bool
+usedBy set n = inHalves (set .low) (set .high) n
+
+-- The first of the two tests around the call pass (`runs`).
+abbrev pub callGate : List ℕ
+callGate =
+    Operator.leftBrace ∷ Operator.leftBracket ∷ Operator.leftParenthesis ∷ Operator.queryFunction ∷ Operator.arrayVariable ∷ Operator.semicolon ∷ []
+
+abbrev pub choiceIf : Bool → State → Choice
+choiceIf true state = Run state
+choiceIf false state = Skip
+
+-- A binary level at its beginning.
+abbrev pub levelOf : TokenClasses → State
+levelOf classes = Binary classes 0
+
+-- `&&`, else `||`.
+abbrev pub andOr : Bool → ℕ
+andOr true = Operator.logicalAnd
+andOr false = Operator.logicalOr
+
+-- ---- The places
+
+-- n places, for these passes and none after them.
+abbrev pub padded : ℕ → List Pass → List (Option Pass)
+padded zero passes = []
+padded (suc n) [] = none ∷ padded n []
+padded (suc n) (p ∷ passes) = some p ∷ padded n passes
+
+abbrev pub calling : List (Option Pass)
+calling = padded 3 (callPass ∷ statements ∷ arrays ∷ [])
+
+abbrev pub arithmetic : List (Option Pass)
+arithmetic =
+    padded 6 (pointer ∷ mathCalls ∷ unaryMinusAndNot ∷ binary (Operator.div ∷ []) ∷ binary (Operator.mul ∷ []) ∷ addition ∷ [])
+
+abbrev pub comparing : Bool → List (Option Pass)
+comparing from6 = padded 6 (comparisons from6)
+
+abbrev pub deciding : Bool → List (Option Pass)
+deciding from6 = padded 2 (logic from6)
+
+abbrev pub branching : Bool → List (Option Pass)
+branching from5 = padded 2 (conditionals from5)
+
+abbrev pub last : List (Option Pass)
+last = padded 4 (binary (Operator.nullCoalescing ∷ []) ∷ binary (Operator.comma ∷ []) ∷ binary (Operator.assignment ∷ []) ∷ returns ∷ [])
+
+unfoldable pub places : Rules → List (Option Pass)
+places r = calling ++ (arithmetic ++ (comparing (r .comparisonsFirst) ++ (deciding (r .andFirst) ++ (branching (r .pairsRight) ++ last))))
+
+-- What stands at place k.
+abbrev pub placeIn : List (Option Pass) → ℕ → Option Pass
+placeIn group k = getD group k none
+
+-- The rules of a version as the rules use it: `rules v` of the definition is this at `effective v`.
+abbrev pub rulesOf : ℤ → Rules
+rulesOf version = record { comparisonsFirst = isFrom 6 version; andFirst = isFrom 6 version; pairsRight = isFrom 5 version }
+
+-- ---- What is chosen
+
+-- The state is that of the pass at its beginning.
+pub data Starts : Pass → State → Type 0 where
+  call : Starts callPass Calls
+  plain : Starts statements Plain
+  array : Starts arrays (Arrays 0 0)
+  mathCall : Starts mathCalls Maths
+  unary : Starts unaryMinusAndNot Unary
+  tern : Starts ternary (Ternary 0)
+  prefix : Starts returns Prefix
+  point : {classes : TokenClasses} → Exact (classes .0) (isOneOf (Operator.pointer ∷ [])) → Starts pointer (levelOf classes)
+  plus : {classes : TokenClasses} → Exact (classes .0) (isOneOf (Operator.add ∷ [])) → Starts addition (levelOf classes)
+  level : {ops : List ℕ} {classes : TokenClasses} → Exact (classes .0) (isOneOf ops) → Starts (binary ops) (levelOf classes)
+
+-- What is chosen at a place, under a used set.
+pub data Chosen (u : ℕ → Bool) : Option Pass → Choice → Type 0 where
+  empty : Chosen u none Skip
+  unused : {p : Pass} → runs u p ≡ false → Chosen u (some p) Skip
+  used : {p : Pass} {state : State} → runs u p ≡ true → Starts p state → Chosen u (some p) (Run state)
+
+-- ---- The passes that run
+
+-- The pass at a place, where it runs.
+unfoldable pub running : (ℕ → Bool) → Option Pass → List Pass
+running u none = []
+running u (some p) = elim (runs u p) [ true ↦ p ∷ [] | false ↦ [] ]
+
+-- Those at some places.
+unfoldable pub runningIn : (ℕ → Bool) → List (Option Pass) → List Pass
+runningIn u [] = []
+runningIn u (at ∷ others) = running u at ++ runningIn u others
+
+-- Those from place k on.
+unfoldable pub passesFrom : (ℕ → Bool) → Rules → ℕ → List Pass
+passesFrom u r k = runningIn u (drop k (places r))
+
+-- The passes of a list that run.
+unfoldable pub runningOf : (ℕ → Bool) → List Pass → List Pass
+runningOf u [] = []
+runningOf u (p ∷ passes) = elim (runs u p) [ true ↦ p ∷ runningOf u passes | false ↦ runningOf u passes ]
