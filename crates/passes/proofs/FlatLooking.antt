@@ -18,16 +18,17 @@ use Rattle.nodes.specs.Store.{wd, TokenAt, reserve, Seg, Out, RepF, RepT, Owned
 use Rattle.nodes.specs.Slots.{opAt}
 use Rattle.nodes.specs.Children.{CanGive, Given}
 use Rattle.nodes.proofs.Runs.{set-same, set-other, set-long}
-use Rattle.nodes.proofs.Store.{reserve-pos, rep-lower, rep-raise, tree-below, tree-out, back-avoid}
+use Rattle.nodes.proofs.Store.{reserve-pos, rep-lower, rep-raise, tree-below, tree-out, back-le, back-avoid}
 use Rattle.nodes.proofs.Keeping.{free-above, free-part, tree-beside, give-kept}
-use Rattle.nodes.proofs.Trees.{tree-op, array-give, gathered-array, owned-tree, owned-leaf, give-owned, give-token}
-use Rattle.passes.specs.Flat.{differing, Section, Standing, outer, inner, LookAt, Follows, on, ends, Closed, Named}
+use Rattle.nodes.proofs.Trees.{tree-op, array-give, owned-tree, owned-leaf, give-owned, give-token}
+use Rattle.passes.specs.Flat.{differing, Opener, Standing, outer, inner, LookAt, Follows, on, ends, Closed, Named}
 use Rattle.walks.specs.declared.failure.Unclosed.{Unclosed}
 use Rattle.passes.specs.declared.sections.Reached.{Reached}
 use Rattle.passes.specs.declared.sections.Bracket.{Bracket}
 use Rattle.passes.specs.declared.sections.Bracket.the-variants.{On, Differs}
 use Rattle.passes.proofs.FlatCases.{missed, other-closes, classless, opener-leaf, bracket-opens, bracket-closes, bracket-places, closing-takes, closing-differs}
-use Rattle.passes.proofs.FlatOpen.{standing-le, standing-depth, standing-position, standing-keep, standing-place, standing-open, section-le, innermost-place, innermost-slot, names}
+use Rattle.passes.proofs.FlatWritten.{written-array}
+use Rattle.passes.proofs.FlatOpen.{standing-le, standing-depth, standing-position, standing-keep, standing-place, standing-open, opener-le, innermost-place, innermost-slot, names}
 
 -- ---- `close_section`
 
@@ -62,16 +63,16 @@ section-taken {X = X} {l = l} {m = m} {hi = hi} {hi' = hi'} {o = o} {kids = kids
 pub close-in : {W X : List ℕ} {base marks lo l k w : ℕ} {s : Open} → Standing W X base marks lo l k w s → k ≢ 0 → (p : ℕ) → p ≡ wd W (marks + 2 * (k - 1)) → 8 * l ≤ base → base + w ≤ length W
     → (p < w) × (8 * wd W (base + p) + 8 ≤ base) × CanGive W (wd W (base + p)) (base + (p + 1)) (w - (p + 1))
 close-in (outer v e) n p ep below room = absurd (n e)
-close-in {w = w} (inner {w' = w'} st x) n p ep below room =
-    let b = section-le x in
-    let count : w - (w' + 1) ≡ length (x .es) = omega (arith, x .wrote) in
-    rw (ep ∙ innermost-place x, x .opener, count)
-    (omega (arith, x .wrote), omega (arith, b), array-give (gathered-array (x .contents) (x .run)) (omega (arith, b)) (omega arith) (omega (arith, x .wrote)))
+close-in {w = w} (inner {w' = w'} {v = r} st x v e) n p ep below room =
+    let b = opener-le x in
+    let c = back-le (v .done) in
+    let count : w - (w' + 1) ≡ r = omega arith in
+    rw (ep ∙ innermost-place x, x .slot, count) (omega arith, omega arith, array-give (written-array v) (omega arith) (omega arith) (omega arith))
 
 -- the opener's token
-innermost-op : {W X : List ℕ} {base marks l hi k' w' k w i : ℕ} {o : Token} {d : Forest} (z : Section W X base marks l hi k' w' k w o i d) (p : ℕ) → p ≡ wd W (marks + 2 * (k - 1))
+innermost-op : {W X : List ℕ} {base marks l m k' w' k i : ℕ} {o : Token} (x : Opener W X base marks l m k' w' k o i) (p : ℕ) → p ≡ wd W (marks + 2 * (k - 1))
     → opAt W (wd W (base + p)) ≡ o .op
-innermost-op z p ep = rw (ep, innermost-slot z) (tree-op (z .leaf))
+innermost-op x p ep = rw (ep, innermost-slot x) (tree-op (x .leaf))
 
 -- the closer is another one's
 pub close-differs : {W X : List ℕ} {base marks lo l m k w item : ℕ} {s : Open} {t : Token} {cs : Forest} → Standing W X base marks lo l k w s → k ≢ 0 → RepT W X item l m t cs
@@ -79,7 +80,7 @@ pub close-differs : {W X : List ℕ} {base marks lo l m k w item : ℕ} {s : Ope
     → Follows W X base marks lo m w i (Differs (record { opener = u .inner; start = u .start; closer = item; index = i; outer = u .outer })) (closing t cs i s)
 unfolding closer
 close-differs (outer v e) n tree p x y i u ep ex ey h a = absurd (n e)
-close-differs {t = t} {cs = cs} (inner {i = j} {o = o} {d = d} {s = s'} st z) n tree p x y i u ep ex ey h a =
+close-differs {t = t} {cs = cs} (inner {i = j} {o = o} {d = d} {s = s'} st z v e) n tree p x y i u ep ex ey h a =
     let b = names st z a in
     let apart : closer o ≢ t .op = λ e. h (ex ∙ ap (λ (q : ℕ). Option·getD (closingOf q) 0) (innermost-op z p ep) ∙ e ∙ sym (tree-op tree) ∙ sym ey) in
     let is : closing t cs i (section o j d s') ≡ mismatch (closingMismatch o (u .start) t i ∷ sectionNotClosed (outermost o s') ∷ [])
@@ -93,26 +94,25 @@ pub close-takes : {W X : List ℕ} {base marks lo l m k w item : ℕ} {s : Open}
     → Follows W' X base marks lo m w i (On (record { write = p + 1; depth = k - 1; index = i })) (closing t cs i s) × ((j : ℕ) → Free X lo m j → wd W' j ≡ wd W j)
 unfolding closer
 close-takes (outer v e) n tree below apart p x y i W' ep ex ey h a = absurd (n e)
-close-takes {W} {X} {base} {marks} {lo} {l} {m} {k} {w} {t = t} {cs = cs} (inner {l = l'} {k' = k'} {w' = w'} {i = j} {o = o} {d = d} {s = s'} st z) n tree below apart p x y i W' ep ex ey h a =
-    let b = section-le z in
+close-takes {W} {X} {base} {marks} {lo} {l} {m} {k} {w} {t = t} {cs = cs} (inner {l = l'} {m = m'} {k' = k'} {w' = w'} {v = r} {i = j} {o = o} {d = d} {s = s'} st z v e) n tree below apart p x y i W' ep ex ey h a =
+    let b = opener-le z in
+    let c = back-le (v .done) in
     let tl = tree .low in let th = tree-below tree in let sl = standing-le st in
-    let wrote = z .wrote in
     let place : p ≡ w' = ep ∙ innermost-place z in
-    let count : w - (w' + 1) ≡ length (z .es) = omega arith in
+    let count : w - (w' + 1) ≡ r = omega arith in
     let level : k - 1 ≡ k' = omega (arith, z .level) in
-    let given : Given W (z .q) (base + (w' + 1)) (length (z .es)) W' = rw (place, z .opener, count) at a in
-    let array : InArray W (z .q ∷ X) (base + (w' + 1)) (length (z .es)) (z .m) l (inOrder d)
-    = gathered-array (back-avoid (λ r u v q. (omega arith, q)) (z .contents)) (z .run) in
-    let v : Taken W X (z .q) l' m o (inOrder d) W'
-    = section-taken (array .bs) given (array .seg) (array .count) (array .rep) (z .leaf) (b .2) (omega arith) (z .opens) in
-    let above : (r : ℕ) → base ≤ r → wd W' r ≡ wd W r = λ r u. v .same r (free-above X l' m r (omega arith)) in
-    let low : (r : ℕ) → r < 8 * l' → wd W' r ≡ wd W r = λ r u. v .same r (λ g o' from to inside out. omega arith) in
-    let before : Standing W' X base marks lo l' k' w' s' = standing-keep W W' low (λ r u v. above r u) (λ r u v. above r (omega arith)) st in
-    let after : Standing W' X base marks lo m k' (w' + 1) (placed o (inOrder d) s') = standing-place before (v .tree) (above (base + w') (omega arith) ∙ z .opener) in
+    let given : Given W (z .q) (base + (w' + 1)) r W' = rw (place, z .slot, count) at a in
+    let array : InArray W (z .q ∷ X) (base + (w' + 1)) r m' l (inOrder d)
+    = written-array (record { ds = v .ds; done = back-avoid (λ s' from to out. (omega arith, out)) (v .done); run = v .run; wrote = v .wrote }) in
+    let taken : Taken W X (z .q) l' m o (inOrder d) W' = section-taken (array .bs) given (array .seg) (array .count) (array .rep) (z .leaf) c (omega arith) (z .opens) in
+    let above : (j : ℕ) → base ≤ j → wd W' j ≡ wd W j = λ j h. taken .same j (free-above X l' m j (omega arith)) in
+    let low : (j : ℕ) → j < 8 * l' → wd W' j ≡ wd W j = λ j h. taken .same j (λ s o from to inside out. omega arith) in
+    let before : Standing W' X base marks lo l' k' w' s' = standing-keep W W' low (λ j h h'. above j h) (λ j h h'. above j (omega arith)) st in
+    let after : Standing W' X base marks lo m k' (w' + 1) (placed o (inOrder d) s') = standing-place before (taken .tree) (above (base + w') (omega arith) ∙ z .slot) in
     let is : closer o ≡ t .op = sym (ap (λ (q : ℕ). Option·getD (closingOf q) 0) (innermost-op z p ep)) ∙ sym ex ∙ h ∙ ey ∙ tree-op tree in
     let all : Standing W' X base marks lo m (k - 1) (p + 1) (placed o (inOrder d) s') = rw (place, level) after in (
-      rw (closing-takes t o cs d i j s' is) (on all (standing-depth all) (fewer (length (z .es)) place wrote) refl),
-      λ r f. v .same r (free-part X lo m l' m r sl (le-refl m) f),
+      rw (closing-takes t o cs d i j s' is) (on all (standing-depth all) (fewer r place e) refl),
+      λ j f. taken .same j (free-part X lo m l' m j sl (le-refl m) f),
     )
 
 -- ---- `look`
@@ -124,7 +124,7 @@ unfolding bracket closing placed
 bracket-lone t cs i (outer {d = d} v e) z h =
     missed (closingOf (t .op)) (λ z. going (section t (i + 1) nil (outside d))) _ (other-closes (t .op) h)
     ∙ decided (λ b. b ≡ going (placed t cs (outside d))) (isCloser (t .op)) (closing t cs i (outside d)) (going (placed t cs (outside d))) (λ c. refl) (λ c. refl)
-bracket-lone t cs i (inner st x) z h = absurd (omega (arith, x .level))
+bracket-lone t cs i (inner st x v e) z h = absurd (omega (arith, x .level))
 
 module _ {W : List ℕ} {base marks write depth item : ℕ} (g : LookAt W base marks write depth item) where
   -- the token's slot is in the store

@@ -1,7 +1,7 @@
 -- The member pass: what `member` makes of the trees that are written and one accessor, and the loop of `members`. At its test the trees done, the last
 -- first, stand in the array's front, the tokens not read yet in its end, and the definition's answer from there on is that of the whole list.
 use Prim.Native.Nat.{ℕ, _+_, _*_, _-_, _≤_, _<_}
-use mathlib.Core.Path.{_≡_, refl, sym, ap, _∙_, subst}
+use mathlib.Core.Path.{_≡_, refl, sym, ap, _∙_}
 use mathlib.Core.Logic.{_≢_, inl, inr, ⊎-elim}
 use mathlib.Core.Bool.{true, false}
 use mathlib.Core.List.{List, [], _∷_}
@@ -13,39 +13,20 @@ use Rattle.molang.specs.Operator.{memberAccessor, hasMembers}
 use Rattle.molang.specs.Forest.{Token, Forest, nil, node, leaves, inOrder, count}
 use Rattle.molang.specs.Message.{leadingMemberAccessor}
 use Rattle.molang.specs.Sections.{withMember, members}
-use Rattle.nodes.specs.Store.{wd, Seg, SegB, RepF, RepT, RepB, begins, put, InArray, Free, Kept}
+use Rattle.nodes.specs.Store.{wd, Seg, SegB, RepF, RepT, RepB, begins, put, Free, Kept}
 use Rattle.nodes.specs.Slots.{opAt}
 use Rattle.nodes.specs.Children.{Attached}
 use Rattle.nodes.proofs.Runs.{set-same, set-other, set-long, seg-keep, segB-keep}
-use Rattle.nodes.proofs.Store.{rep-le, rep-count, tree-first, tree-below, tree-out, back-le, back-raise, back-count}
+use Rattle.nodes.proofs.Store.{rep-le, rep-count, tree-first, tree-below, tree-out, back-le, back-count}
 use Rattle.nodes.proofs.Keeping.{free-above, free-part, kept-then, kept-part, rep-beside, tree-beside, back-beside}
-use Rattle.nodes.proofs.Trees.{tree-under, tree-op, attach-tree, attach-kept, gathered-array}
+use Rattle.nodes.proofs.Trees.{tree-under, tree-op, attach-tree, attach-kept}
 use Rattle.passes.specs.Flat.{leading, Stands, Fails, CanJoin, MemberAt, Written, WithMember, Membered}
+use Rattle.passes.proofs.FlatWritten.{written-none, written-raise, written-more, store-kept, written-array}
 use Rattle.passes.proofs.FlatCases.{members-other, members-joined, members-leading, joined-under, joined-after}
 use Rattle.walks.specs.declared.failure.Failure.the-variants.{LeadingMemberAccessor}
 use Rattle.passes.specs.declared.sections.Flat.the-variants.{Fail}
 
 -- ---- what is written
-
--- one tree more is written after those that are
-pub written-more : (W W' : List ℕ) {X : List ℕ} {base lo l m q w : ℕ} {d cs : Forest} {t : Token} → W' ≡ set W (base + w) q → base + w < length W → 8 * m ≤ base
-    → Written W X base lo l d w → RepT W X q l m t cs → Written W' X base lo m (node t cs d) (w + 1)
-written-more W W' {X} {base} {lo} {l} {m} {q} {w} e room below v t =
-    let other = set-other W W' (base + w) q e in
-    let low : (j : ℕ) → j < base → wd W' j ≡ wd W j = λ j h. other j (omega arith) in
-    let tl = tree-below t in
-    let at : base + length (v .ds) ≡ base + w = omega (arith, v .wrote) in
-    record {
-      ds = q ∷ v .ds;
-      done = put (back-beside W W' [] 0 0 base (λ j f h. low j h) (omega (arith, t .low)) (inr (omega arith)) (v .done))
-          (tree-beside W W' [] 0 0 base (λ j f h. low j h) below (inr (omega arith)) t) (le-refl m);
-      run = (rw at (set-same W W' (base + w) q e room), segB-keep W W' base (v .ds) (λ j x y. other j (omega (arith, v .wrote))) (v .run));
-      wrote = omega (arith, v .wrote);
-    }
-
--- a store to the word after those that are written
-pub store-kept : (W W' X : List ℕ) (base lo hi w q : ℕ) → W' ≡ set W (base + w) q → Kept W W' X lo hi base (base + w + 1)
-store-kept W W' X base lo hi w q e j f o = set-other W W' (base + w) q e j (⊎-elim (λ h. omega arith) (λ h. omega arith) o)
 
 -- the last tree of some
 record Last (W X : List ℕ) (base lo hi : ℕ) (ds : List ℕ) (d : Forest) : Type 0 where
@@ -72,11 +53,11 @@ last base (put {b = b} {ds = rs} {l = l} {m = m} {d = e} {t = x} {k = xs} r t h)
 -- ---- `member`
 
 module _ {W : List ℕ} {base write item : ℕ} (g : MemberAt W base write item) where
-  before : Last W (g .X) base (g .lo) (g .l) (g .ds) (g .d)
-  before = last base (g .done) (g .run) (omega (arith, g .wrote, g .some))
+  before : Last W (g .X) base (g .lo) (g .l) (g .written .ds) (g .d)
+  before = last base (g .written .done) (g .written .run) (omega (arith, g .written .wrote, g .some))
 
   place : base + write - 1 ≡ base + length (before .rs)
-  place = omega (arith, before .count, g .wrote)
+  place = omega (arith, before .count, g .written .wrote)
 
   previous : wd W (base + write - 1) ≡ before .b
   previous = rw place (before .word)
@@ -102,7 +83,7 @@ module _ {W : List ℕ} {base write item : ℕ} (g : MemberAt W base write item)
       = λ j f. attach-kept w own (tree-out (g .tree)) (omega arith) th (omega arith) (omega arith) j f in
       let above : (j : ℕ) → base ≤ j → wd W1 j ≡ wd W j = λ j x. kept1 j (free-above (g .X) (v .l) (g .m) j (omega (arith, g .below))) in
       let other = set-other W1 W2 (base + write - 1) item e in
-      let wrote = g .wrote in let count = v .count in let some = g .some in
+      let wrote = g .written .wrote in let count = v .count in let some = g .some in
       let low2 : (j : ℕ) → j < base → wd W2 j ≡ wd W1 j = λ j x. other j (omega arith) in
       let wide = g .room in
       let below = g .below in
@@ -134,7 +115,7 @@ module _ {W : List ℕ} {base write item : ℕ} (g : MemberAt W base write item)
       record {
         e = node (g .k) nil (g .d);
         is = rw (v .is) (joined-after (g .k) (v .x) (v .xs) (v .e) is);
-        written = written-more W W2 e (g .room) (g .below) (record { ds = g .ds; done = g .done; run = g .run; wrote = g .wrote }) (g .tree);
+        written = written-more W W2 e (g .room) (g .below) (g .written) (g .tree);
       }
 
 -- ---- the loop of `members`
@@ -162,7 +143,7 @@ join-start {W} {base} {n} g = (
   record {
     m = g .lo;
     d = nil;
-    written = record { ds = []; done = begins (le-refl (g .lo)); run = tt; wrote = refl };
+    written = written-none (g .lo);
     left = g .array .rep;
     run = rw add-zero (g .array .seg);
     count = omega (arith, g .array .count);
@@ -190,9 +171,6 @@ pub record JoinTurn (W₀ : List ℕ) (base n : ℕ) (g : CanJoin W₀ base n) (
   pub answer : members d (node k nil (leaves rest)) ≡ members nil (leaves (g .ks))
   pub kept : Kept W₀ W (g .X) (g .lo) (g .hi) base (base + n)
   pub long : length W ≡ length W₀
-
-pub written-raise : {W X : List ℕ} {base lo hi hi' r : ℕ} {d : Forest} → hi ≤ hi' → Written W X base lo hi d r → Written W X base lo hi' d r
-written-raise h v = record { ds = v .ds; done = back-raise h (v .done); run = v .run; wrote = v .wrote }
 
 pub join-turn : {W₀ : List ℕ} {base n : ℕ} {g : CanJoin W₀ base n} {W : List ℕ} {read write : ℕ} (rs : List ℕ) (rest : List Token)
     → JoinAt W₀ base n g W read write rs rest → read < n → (item : ℕ) → item ≡ wd W (base + read) → JoinTurn W₀ base n g W read write item
@@ -252,12 +230,9 @@ module _ {W₀ : List ℕ} {base n : ℕ} {g : CanJoin W₀ base n} {W : List �
         lo = g .lo;
         l = v .l;
         m = v .m;
-        ds = v .written .ds;
         d = v .d;
         k = v .k;
-        done = v .written .done;
-        run = v .written .run;
-        wrote = v .written .wrote;
+        written = v .written;
         some = omega arith;
         tree = v .tree;
         accessor = sym (tree-op (v .tree)) ∙ o;
@@ -310,6 +285,6 @@ join-done {W₀} {base} {n} {g} {W} {read} {write} [] [] v h =
     record {
       forest = inOrder (v .d);
       is = sym (v .answer);
-      array = subst (λ (r : ℕ). InArray W (g .X) base r (g .lo) (g .hi) (inOrder (v .d))) (sym (w .wrote)) (gathered-array (w .done) (w .run));
+      array = written-array w;
       fewer = omega (arith, v .behind, v .count);
     }

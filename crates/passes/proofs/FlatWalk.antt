@@ -12,11 +12,10 @@ use Rattle.molang.specs.Forest.{Token, Forest, nil, node, leaves, inOrder, coun
 use Rattle.molang.specs.Message.{Message}
 use Rattle.molang.specs.Sections.{Open, outside, position, Walked, going, mismatch, sections}
 use Rattle.molang.proofs.Sections.{flat, leaves-flat}
-use Rattle.nodes.specs.Store.{wd, Seg, RepF, RepT, begins, InArray, Kept}
+use Rattle.nodes.specs.Store.{wd, Seg, RepF, RepT, Kept}
 use Rattle.nodes.proofs.Runs.{seg-keep}
 use Rattle.nodes.proofs.Store.{rep-le, rep-count, tree-first, back-count}
 use Rattle.nodes.proofs.Keeping.{free-above, free-part, kept-then, rep-beside}
-use Rattle.nodes.proofs.Trees.{gathered-array}
 use Rattle.passes.specs.Flat.{Tells, Stands, Fails, CanJoin, Joined, Standing, outer, inner, LookAt, Follows, on, ends, Looked, NamedAt, Named, CanSection}
 use Rattle.walks.specs.declared.failure.Mismatch.{Mismatch}
 use Rattle.walks.specs.declared.failure.Unclosed.{Unclosed}
@@ -25,7 +24,7 @@ use Rattle.passes.specs.declared.sections.Reached.{Reached}
 use Rattle.passes.specs.declared.sections.Bracket.{Bracket}
 use Rattle.passes.specs.declared.sections.Bracket.the-variants.{On, Differs}
 use Rattle.passes.proofs.FlatCases.{members-flat, flat-first, sections-go, sections-end}
-use Rattle.passes.proofs.FlatMembers.{written-raise}
+use Rattle.passes.proofs.FlatWritten.{written-none, written-raise, written-array}
 use Rattle.passes.proofs.FlatOpen.{standing-written, standing-raise, standing-named, standing-unclosed, standing-outside}
 
 -- ---- what a token leaves
@@ -54,7 +53,7 @@ ended {W} m (ends {m = b} {ms = ms} t) e =
 position-near : {W X : List ℕ} {base marks lo hi k w i read : ℕ} {s : Open} → Standing W X base marks lo hi k w s → w ≤ read → i ≤ read → position i s ≤ read + 1
 unfolding position
 position-near (outer v e) a b = omega (arith, v .wrote, back-count (v .done))
-position-near (inner st x) a b = omega arith
+position-near (inner st x v e) a b = omega arith
 
 -- ---- the loops
 
@@ -103,7 +102,7 @@ walk-start {W} {base} {n} g = (
   record {
     m = g .lo;
     s = outside nil;
-    standing = outer (record { ds = []; done = begins (le-refl (g .lo)); run = tt; wrote = refl }) refl;
+    standing = outer (written-none (g .lo)) refl;
     left = g .array .rep;
     run = rw add-zero (g .array .seg);
     count = omega (arith, g .array .count);
@@ -243,7 +242,7 @@ module _ {W₀ : List ℕ} {base n : ℕ} {g : CanSection W₀ base n} {W : List
       record {
         forest = inOrder (o .0);
         is = sym (v .answer) ∙ o .1;
-        array = subst (λ (r : ℕ). InArray W (g .X) base r (g .lo) (g .hi) (inOrder (o .0))) (sym (w .wrote)) (gathered-array (w .done) (w .run));
+        array = written-array w;
         fewer = omega (arith, v .behind, v .count);
       }
 

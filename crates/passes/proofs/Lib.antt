@@ -1,5 +1,6 @@
 -- Laws that belong to no one function.
 pub mod FlatCases
+pub mod FlatWritten
 pub mod FlatMembers
 pub mod FlatOpen
 pub mod FlatLooking

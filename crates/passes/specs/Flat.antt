@@ -6,7 +6,7 @@ use mathlib.Core.Logic.{_⊎_}
 use mathlib.Core.Bool.{true}
 use mathlib.Core.List.{List, [], _∷_}
 use mathlib.Core.Option.{some}
-use lib.ListN.{length}
+use lib.ListN.{length, set}
 use Rattle.molang.specs.Operator.{memberAccessor}
 use Rattle.molang.specs.Forest.{Token, Forest, nil, node, leaves}
 use Rattle.molang.specs.Message.{Message, leadingMemberAccessor, closingMismatch, sectionNotClosed, noClosingSymbol, Result, ok, fail}
@@ -69,30 +69,27 @@ pub record Joined (W : List ℕ) (base n : ℕ) (r : Flat) (W' : List ℕ) : Typ
   pub kept : (g : CanJoin W base n) → Kept W W' (g .X) (g .lo) (g .hi) base (base + n)
   pub long : length W' ≡ length W
 
--- The accessor k is a leaf at the slot `item`, after the trees of d, one at least, whose slots are written from `base` on.
-pub record MemberAt (W : List ℕ) (base write item : ℕ) : Type 0 where
-  pub X : List ℕ
-  pub lo : ℕ
-  pub l : ℕ
-  pub m : ℕ
-  pub ds : List ℕ
-  pub d : Forest
-  pub k : Token
-  pub done : RepB W X ds lo l d
-  pub run : SegB W base ds
-  pub wrote : write ≡ length ds
-  pub some : 0 < write
-  pub tree : RepT W X item l m k nil
-  pub accessor : k .op ≡ memberAccessor
-  pub below : 8 * m ≤ base
-  pub room : base + write < length W
-
 -- The trees of e are written from `base` on, r of them.
 pub record Written (W X : List ℕ) (base lo hi : ℕ) (e : Forest) (r : ℕ) : Type 0 where
   pub ds : List ℕ
   pub done : RepB W X ds lo hi e
   pub run : SegB W base ds
   pub wrote : r ≡ length ds
+
+-- The accessor k is a leaf at the slot `item`, after the trees of d, one at least, which are written.
+pub record MemberAt (W : List ℕ) (base write item : ℕ) : Type 0 where
+  pub X : List ℕ
+  pub lo : ℕ
+  pub l : ℕ
+  pub m : ℕ
+  pub d : Forest
+  pub k : Token
+  pub written : Written W X base lo l d write
+  pub some : 0 < write
+  pub tree : RepT W X item l m k nil
+  pub accessor : k .op ≡ memberAccessor
+  pub below : 8 * m ≤ base
+  pub room : base + write < length W
 
 -- The accessor is joined to those trees as in the definition.
 pub record WithMember (W X : List ℕ) (base lo hi : ℕ) (k : Token) (d : Forest) (r : ℕ) : Type 0 where
@@ -108,18 +105,13 @@ pub record Membered (W : List ℕ) (base write item r : ℕ) (W' : List ℕ) : T
 
 -- ---- the open sections
 
--- The innermost open section, at the place w' of the array and k' in the marks: its opener o, a leaf, and after it the trees of d, the last first.
--- With it, w items are written and k sections are open.
-pub record Section (W X : List ℕ) (base marks l hi k' w' k w : ℕ) (o : Token) (i : ℕ) (d : Forest) : Type 0 where
+-- The opener o of the innermost open section is a leaf, written at the place w' of the array, with the marks k' of its place and its position i. With it,
+-- k sections are open.
+pub record Opener (W X : List ℕ) (base marks l m k' w' k : ℕ) (o : Token) (i : ℕ) : Type 0 where
   pub q : ℕ
-  pub m : ℕ
-  pub es : List ℕ
-  pub opener : wd W (base + w') ≡ q
+  pub slot : wd W (base + w') ≡ q
   pub leaf : RepT W X q l m o nil
   pub opens : isOpener (o .op) ≡ true
-  pub contents : RepB W X es m hi d
-  pub run : SegB W (base + (w' + 1)) es
-  pub wrote : w ≡ w' + 1 + length es
   pub level : k ≡ k' + 1
   pub place : wd W (marks + 2 * k') ≡ w'
   pub start : wd W (marks + 2 * k' + 1) ≡ i
@@ -128,8 +120,8 @@ pub record Section (W X : List ℕ) (base marks l hi k' w' k w : ℕ) (o : Token
 -- k sections are open.
 pub data Standing (W X : List ℕ) (base marks lo : ℕ) : ℕ → ℕ → ℕ → Open → Type 0 where
   outer : {hi k w : ℕ} {d : Forest} → Written W X base lo hi d w → k ≡ 0 → Standing W X base marks lo hi k w (outside d)
-  inner : {l hi k' w' k w i : ℕ} {o : Token} {d : Forest} {s : Open} → Standing W X base marks lo l k' w' s
-      → Section W X base marks l hi k' w' k w o i d → Standing W X base marks lo hi k w (section o i d s)
+  inner : {l m hi k' w' v k w i : ℕ} {o : Token} {d : Forest} {s : Open} → Standing W X base marks lo l k' w' s → Opener W X base marks l m k' w' k o i
+      → Written W X (base + (w' + 1)) m hi d v → w ≡ w' + 1 + v → Standing W X base marks lo hi k w (section o i d s)
 
 -- How many sections are open.
 unfoldable pub depthOf : Open → ℕ
@@ -137,6 +129,20 @@ depthOf (outside d) = 0
 depthOf (section o i d s) = suc (depthOf s)
 
 -- ---- one token
+
+-- There is room for one item, and for the marks of one section more.
+pub record CanOpen (W : List ℕ) (base marks write depth index : ℕ) : Type 0 where
+  pub apart : base + write < marks
+  pub room : marks + 2 * depth + 2 ≤ length W
+  pub place : write < 2 ^ 32
+  pub start : index + 1 < 2 ^ 32
+
+-- The opener is written, and its place and its position are marked.
+pub record Opened (W : List ℕ) (base marks write depth index opener : ℕ) (r : Reached) (W' : List ℕ) : Type 0 where
+  pub more : r .write ≡ write + 1
+  pub deeper : r .depth ≡ depth + 1
+  pub at : r .index ≡ index
+  pub words : W' ≡ set (set (set W (base + write) opener) (marks + 2 * depth) write) (marks + 2 * depth + 1) (index + 1)
 
 -- The open sections s stand in the words, and after them the token k, which has children only as an accessor. There is room to write it, and to
 -- mark one section more.
@@ -162,11 +168,13 @@ pub data Follows (W X : List ℕ) (base marks lo hi w i : ℕ) : Bracket → Wal
       → Follows W X base marks lo hi w i (On a) (going t)
   ends : {m : Mismatch} {ms : List Message} → Tells W (Mismatched m) ms → Follows W X base marks lo hi w i (Differs m) (mismatch ms)
 
+-- A closer where a section is open: no word changes but those of the list's own slots.
 pub record Closed (W : List ℕ) (base marks write depth index item : ℕ) (r : Bracket) (W' : List ℕ) : Type 0 where
   pub answer : (g : LookAt W base marks write depth item) → Follows W' (g .X) base marks (g .lo) (g .m) write index r (closing (g .k) (g .cs) index (g .s))
   pub same : (g : LookAt W base marks write depth item) (j : ℕ) → Free (g .X) (g .lo) (g .m) j → wd W' j ≡ wd W j
   pub long : length W' ≡ length W
 
+-- Any token: besides, the next word of the array and the marks of one section more can change.
 pub record Looked (W : List ℕ) (base marks write depth index item : ℕ) (r : Bracket) (W' : List ℕ) : Type 0 where
   pub answer : (g : LookAt W base marks write depth item)
       → Follows W' (g .X) base marks (g .lo) (g .m) write (position index (g .s)) r (bracket (g .k) (g .cs) (position index (g .s)) (g .s))
@@ -189,7 +197,7 @@ pub record Named (W : List ℕ) (base marks depth : ℕ) (u : Unclosed) : Type 0
 -- ---- `sections`
 
 -- A flat list, in which only accessors have children, stands in the n words from `base` on, which lie above all its slots; after them there is
--- room for two words for each section.
+-- room for two words for each section. Places and positions fit a word.
 pub record CanSection (W : List ℕ) (base n : ℕ) : Type 0 where
   pub X : List ℕ
   pub lo : ℕ

@@ -14,9 +14,9 @@ use walks::failure::Unclosed;
 ghost use mathlib.Core.Path.{_≡_};
 ghost use mathlib.Core.Logic.{_≢_};
 ghost use Prim.Native.Nat.{_+_, _*_, _-_, _^_, _≤_, _<_};
-ghost use lib.ListN.{length, set};
+ghost use lib.ListN.{length};
 ghost use Rattle.nodes.specs.Store.{wd};
-ghost use Rattle.passes.specs.Flat.{CanJoin, Joined, MemberAt, Membered, CanSection, Sectioned, LookAt, Looked, Closed, NamedAt, Named};
+ghost use Rattle.passes.specs.Flat.{CanJoin, Joined, MemberAt, Membered, CanSection, Sectioned, CanOpen, Opened, LookAt, Looked, Closed, NamedAt, Named};
 
 // What a flat pass leaves: how many items, or why it fails.
 pub enum Flat {
@@ -115,8 +115,8 @@ fn still_open(work: &[u32], base: usize, marks: usize, depth: usize) -> Unclosed
 
 // An opener opens a section: it is written, and its place and its index plus one are marked.
 fn open_section(work: &mut [u32], base: usize, marks: usize, at: Reached, opener: u32) -> Reached
-    requires { ⌜ (base + at .write < marks) × (marks + 2 * at .depth + 2 ≤ length (now work)) × (at .write < 2 ^ 32) × (at .index + 1 < 2 ^ 32) ⌝ }
-    ensures { λ r. ⌜ (r .write ≡ at .write + 1) × (r .depth ≡ at .depth + 1) × (r .index ≡ at .index) × (now (work .exit) ≡ set (set (set (now (work .entry)) (base + at .write) opener) (marks + 2 * at .depth) (at .write)) (marks + 2 * at .depth + 1) (at .index + 1)) ⌝ }
+    requires { ⌜ CanOpen (now work) base marks (at .write) (at .depth) (at .index) ⌝ }
+    ensures { λ r. ⌜ Opened (now (work .entry)) base marks (at .write) (at .depth) (at .index) opener r (now (work .exit)) ⌝ }
 {
     let write = at.write;
     let depth = at.depth;

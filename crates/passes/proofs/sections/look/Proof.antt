@@ -26,7 +26,7 @@ is-opener-requires : tie.Need-is-opener-requires
 is-opener-requires c κs = search needs
 
 open-section-requires : tie.Need-open-section-requires
-open-section-requires c κs = let s = c .before .before .before .before .before .before .before in let g = s .pre .0 in (g .apart, g .room, omega (arith, s .pre .1), small (c .before .before .before .before .before))
+open-section-requires c κs = let s = c .before .before .before .before .before .before .before in let g = s .pre .0 in record { apart = g .apart; room = g .room; place = omega (arith, s .pre .1); start = small (c .before .before .before .before .before) }
 
 same-length : tie.Need-same-length
 same-length c = search needs
@@ -41,9 +41,9 @@ returns c =
     record {
       answer = λ g.
           look-position g (s .args .at .index) (e .result) _ (r .last .0) (e .ensures .0) (e .ensures .1)
-          (look-opens g (o .result) (e .result) (r .result) (r .last .0) (o .ensures) h (r .ensures .3) (r .ensures .0) (r .ensures .1) (r .ensures .2));
+          (look-opens g (o .result) (e .result) (r .result) (r .last .0) (o .ensures) h (r .ensures .words) (r .ensures .more) (r .ensures .deeper) (r .ensures .at));
       same = λ g j f x y.
-          opens-same (s .args .work .now) (r .last .0) (s .args .base) (s .args .marks) (s .args .at .write) (s .args .at .depth) (s .args .item) (e .result) (r .ensures .3) j x y;
+          opens-same (s .args .work .now) (r .last .0) (s .args .base) (s .args .marks) (s .args .at .write) (s .args .at .depth) (s .args .item) (e .result) (r .ensures .words) j x y;
       long = r .kept .0;
     }
 

@@ -5,7 +5,8 @@ use native.Mathlib.Omega.{arith}
 use borrow.Author.Needs.{needs}
 use lib.ListN.{length-set}
 use Rattle.molang.specs.Operator.{hasMembers}
-use Rattle.passes.proofs.FlatMembers.{member-in, member-under, member-after, store-kept}
+use Rattle.passes.proofs.FlatWritten.{store-kept}
+use Rattle.passes.proofs.FlatMembers.{member-in, member-under, member-after}
 use Rattle.passes.proofs.sections.member.Statement.{statement}
 use Rattle.passes.proofs.sections.member.Tie as tie
 
