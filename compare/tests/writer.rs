@@ -4,7 +4,7 @@ use compare::plain_trees::{self, bare};
 use compare::writer_model::{self, Tree, Written};
 use oracle::generate::{Mixed, Rng};
 use oracle::words::{
-    Answer, Case, Token, TreeNode, decode_list, decode_tree, exact_set, tree_words, word,
+    Answer, Case, TreeNode, decode_list, decode_tree, exact_set, tree_words, word,
 };
 
 fn float(place: u32) -> TreeNode {
@@ -184,6 +184,7 @@ fn a_tree_that_was_read_and_is_plain_reads_as_it_was() {
 mod library {
     use super::*;
     use compare::library;
+    use oracle::words::Token;
 
     /// The library answers as the model does, and fills the list as that says.
     fn agrees(rng: &mut Rng, words: &[u32]) -> Written {

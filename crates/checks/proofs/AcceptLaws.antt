@@ -3,13 +3,12 @@
 use mathlib.Core.Path.{_≡_, refl, sym, ap, _∙_}
 use mathlib.Core.Bool.{Bool, true, false}
 use mathlib.Core.List.{List, [], _∷_, _++_}
-use mathlib.Core.Logic.{⊎-elim}
 use mathlib.Core.Option.{Option, none, some}
-use Prim.Native.Nat.{ℕ, suc, _+_, _*_, _/_, _%_, _^_, _≤_, _<_}
+use Prim.Native.Nat.{ℕ, _+_, _*_, _/_, _%_, _^_, _≤_, _<_}
 use native.Mathlib.Numerals.{add-one}
 use native.Mathlib.Omega.{arith}
 use lib.Dec.{eqb, leb, ltb}
-use lib.ListN.{length, drop, getD, replicate, length-replicate}
+use lib.ListN.{length, drop, getD, length-replicate}
 use lib.Seq.{drop-cons, drop-length}
 use borrow.Author.Tests.{eqb-true, leb-true, ltb-true}
 use types.Run.{OneOf}
@@ -18,7 +17,7 @@ use Rattle.molang.specs.Words.{Refusal, operatorSlot, wordFault, lowFault, vari
 use Rattle.molang.specs.Parse.{Call, mostTokens, must, firstOf, refusal}
 use Rattle.ops.specs.declared.sets.OpSet.{OpSet}
 use Rattle.words.specs.Fields.{variantOf}
-use Rattle.words.proofs.CheckLaws.{GoodToken, good-token, token-refused, token-passed}
+use Rattle.words.proofs.CheckLaws.{good-token, token-refused, token-passed}
 use Rattle.checks.specs.declared.Sizes.{Sizes}
 use Rattle.checks.specs.declared.Accepted.{Accepted}
 use Rattle.checks.specs.declared.Accepted.the-variants.{Tokens, Refused}
@@ -226,3 +225,25 @@ readable c e =
       source = leb-true (c .sourceLength) 536870911 (seven .0);
       good = sym (last-row (wordsRefusal 0 operatorSlot 0 (c .list))) ∙ seven .1;
     }
+
+-- What the answer of the checks says of the call: it is read, or this is its refusal.
+abbrev pub checked : Call → Accepted
+checked c =
+    answerFor (length (c .list) / 5)
+    (refusal
+    (callOf (c .list)
+    (record { tree = length (c .tree); messages = length (c .messages); work = length (c .work); source = c .sourceLength })
+    (record { low = c .usedLow; high = c .usedHigh })))
+
+pub reads-call : (c : Call) (n : ℕ) → Tokens n ≡ checked c → (refusal c ≡ none) × Readable c n
+reads-call c n e =
+    let told = accepted n _ _ e in
+    let none-refused = sym (same-refusal c) ∙ told .1 in
+    (none-refused, rw (told .0) (readable c none-refused))
+
+pub refuses-call : (c : Call) (number place : ℕ) → Refused number place ≡ checked c → refusal c ≡ some (record { number = number; place = place })
+refuses-call c number place e = sym (same-refusal c) ∙ refused-as _ _ e
+  where
+    refused-as : (n : ℕ) (row : Option Refusal) → Refused number place ≡ answerFor n row → row ≡ some (record { number = number; place = place })
+    refused-as n none d = absurd (let z : _≡_ {A = ℕ} 0 1 = cc in omega arith)
+    refused-as n (some r) d = let same-number : r .number ≡ number = cc in let same-place : r .place ≡ place = cc in λ i. some (record { number = same-number i; place = same-place i })

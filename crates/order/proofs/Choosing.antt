@@ -6,7 +6,7 @@ use mathlib.Core.List.{List, [], _∷_, _++_}
 use mathlib.Core.Option.{Option, none, some}
 use Prim.Native.Nat.{ℕ, zero, suc, _+_, _-_, _<_, _≤_}
 use native.Mathlib.Omega.{arith}
-use lib.ListN.{length, getD, List·getD-append, List·getD-eq-default}
+use lib.ListN.{length, List·getD-append, List·getD-eq-default}
 use lib.Seq.{getD-append-add}
 use Rattle.molang.specs.Operator.{any, isOneOf}
 use Rattle.molang.specs.Order.{Rules, Pass, binary, comparisons, logic, conditionals, runs}
@@ -14,7 +14,7 @@ use Rattle.ops.specs.declared.classes.TokenClasses.{TokenClasses}
 use Rattle.walks.specs.Passes.{Exact}
 use Rattle.walks.specs.declared.turns.Pass.{Pass as State}
 use Rattle.order.specs.declared.Choice.{Choice}
-use Rattle.order.specs.declared.Choice.the-variants.{Run, Skip}
+use Rattle.order.specs.declared.Choice.the-variants.{Skip}
 use Rattle.order.specs.Places.{choiceIf, levelOf, andOr, padded, calling, arithmetic, comparing, deciding, branching, last, places, placeIn, Starts, level, Chosen, empty, unused, used}
 
 -- ---- Gates

@@ -2,3 +2,4 @@
 pub mod Exactness
 pub mod Choosing
 pub mod Running
+pub mod Folding

@@ -8,21 +8,21 @@ use Prim.Native.Nat.{ℕ, zero, suc, _+_, _<_, _≤_}
 use native.Mathlib.Numerals.{add-one}
 use native.Mathlib.Omega.{arith}
 use lib.IntN.{ℤ}
-use lib.ListN.{length, drop, getD, length-append}
+use lib.ListN.{length, drop, length-append}
 use lib.Seq.{drop-cons, drop-length}
 use Rattle.molang.specs.Operator
 use Rattle.molang.specs.Forest.{Forest, nil}
 use Rattle.molang.specs.Message.{Message, Result, ok, fail}
 use Rattle.molang.specs.Calls.{queryOrLoop, math}
-use Rattle.molang.specs.Order.{Rules, rules, effective, isFrom, Pass, lastToken, memberAccessors, sectioning, callPass, statements, arrays, pointer, mathCalls, unaryMinusAndNot, addition, ternary, returns, binary, comparisons, logic, conditionals, order, runs, apply}
-use Rattle.molang.specs.Read.{Answer, messages, rooted, endsReading, grouped}
+use Rattle.molang.specs.Order.{Rules, rules, effective, Pass, callPass, statements, arrays, pointer, mathCalls, unaryMinusAndNot, addition, ternary, returns, binary, comparisons, logic, conditionals, order, runs, apply}
+use Rattle.molang.specs.Read.{Answer, messages, endsReading, grouped}
+use Rattle.molang.proofs.Passes.{isNested, allNested}
 use Rattle.molang.proofs.Work.{Kind, pass}
 use Rattle.molang.proofs.Work as kinds
 use Rattle.walks.specs.Passes.{Runs}
 use Rattle.walks.specs.Passes as walks
 use Rattle.walks.specs.declared.turns.Pass.{Pass as State}
 use Rattle.order.proofs.Choosing.{comparing-size, deciding-size, branching-size}
-use Rattle.order.specs.declared.Choice.{Choice}
 use Rattle.order.specs.declared.Choice.the-variants.{Run, Skip}
 use Rattle.order.specs.Places.{padded, comparing, deciding, branching, last, places, placeIn, rulesOf, Starts, call, plain, array, mathCall, unary, tern, prefix, point, plus, level, Chosen, empty, unused, used, running, runningIn, passesFrom, runningOf}
 
@@ -142,12 +142,13 @@ skipped (unused e) = rw (e, running)
 pub record RunsFrom (u : ℕ → Bool) (at : Option Pass) (state : State) : Type 0 where
   pub the-pass : Pass
   pub stands : at ≡ some the-pass
+  pub runs-so : runs u the-pass ≡ true
   pub runs-alone : running u at ≡ the-pass ∷ []
   pub starts : Starts the-pass state
 
 pub chosen : {u : ℕ → Bool} {at : Option Pass} {state : State} → Chosen u at (Run state) → RunsFrom u at state
 unfolding running
-chosen (used {p = p} e s) = record { the-pass = p; stands = refl; runs-alone = rw (e, running); starts = s }
+chosen (used {p = p} e s) = record { the-pass = p; stands = refl; runs-so = e; runs-alone = rw (e, running); starts = s }
 
 -- A state of the walks' pass that does what the definition's pass does.
 pub record OfKind (p : Pass) (state : State) : Type 0 where
@@ -174,62 +175,124 @@ pub pointer-place : (r : Rules) → placeIn (places r) 3 ≡ some pointer
 unfolding places
 pointer-place r = refl
 
-ends-at : Option Pass → Bool
-ends-at none = true
-ends-at (some p) = endsReading p
+-- The pass at a place, if any, passes the test; so at every one of some places.
+abbrev pub atPlace : (Pass → Bool) → Option Pass → Bool
+atPlace test none = true
+atPlace test (some p) = test p
 
-all-end : List (Option Pass) → Bool
-all-end [] = true
-all-end (at ∷ others) = ends-at at && all-end others
+abbrev atEach : (Pass → Bool) → List (Option Pass) → Bool
+atEach test [] = true
+atEach test (at ∷ others) = atPlace test at && atEach test others
 
 and-true : (a b : Bool) → (a && b) ≡ true → (a ≡ true) × (b ≡ true)
 and-true true b e = (refl, e)
 and-true false b e = absurd (true≢false (sym e))
 
-end-each : (ats : List (Option Pass)) → all-end ats ≡ true → (k : ℕ) → ends-at (placeIn ats k) ≡ true
-unfolding all-end ends-at
-end-each [] e k = refl
-end-each (at ∷ others) e zero = and-true (ends-at at) (all-end others) e .0
-end-each (at ∷ others) e (suc k) = end-each others (and-true (ends-at at) (all-end others) e .1) k
+module _ (test : Pass → Bool) where
+  at-place : (ats : List (Option Pass)) → atEach test ats ≡ true → (k : ℕ) → atPlace test (placeIn ats k) ≡ true
+  at-place [] e k = refl
+  at-place (at ∷ others) e zero = and-true (atPlace test at) (atEach test others) e .0
+  at-place (at ∷ others) e (suc k) = at-place others (and-true (atPlace test at) (atEach test others) e .1) k
 
-later-end : (a b c : Bool) → all-end (comparing a ++ (deciding b ++ (branching c ++ last))) ≡ true
-unfolding all-end ends-at endsReading comparisons logic conditionals
-later-end true true true = refl
-later-end true true false = refl
-later-end true false true = refl
-later-end true false false = refl
-later-end false true true = refl
-later-end false true false = refl
-later-end false false true = refl
-later-end false false false = refl
+  at-later : (ats : List (Option Pass)) → atEach test ats ≡ true → (k : ℕ) → atEach test (drop k ats) ≡ true
+  at-later ats e zero = e
+  at-later [] e (suc k) = refl
+  at-later (at ∷ others) e (suc k) = at-later others (and-true (atPlace test at) (atEach test others) e .1) k
 
-place-ends : (r : Rules) (k : ℕ) → (k ≡ 3 → ⊥) → ends-at (placeIn (places r) k) ≡ true
-unfolding places all-end ends-at endsReading
+  -- What holds in each group holds in the places of every version.
+  at-groups : ((from6 : Bool) → atEach test (comparing from6) ≡ true) → ((from6 : Bool) → atEach test (deciding from6) ≡ true)
+      → ((from5 : Bool) → atEach test (branching from5) ≡ true) → atEach test last ≡ true
+      → (r : Rules) → atEach test (comparing (r .comparisonsFirst) ++ (deciding (r .andFirst) ++ (branching (r .pairsRight) ++ last))) ≡ true
+  at-groups compared decided branched ended r =
+      at-both (comparing (r .comparisonsFirst)) _ (compared (r .comparisonsFirst))
+      (at-both (deciding (r .andFirst)) _ (decided (r .andFirst)) (at-both (branching (r .pairsRight)) last (branched (r .pairsRight)) ended))
+    where
+      at-both : (ats others : List (Option Pass)) → atEach test ats ≡ true → atEach test others ≡ true → atEach test (ats ++ others) ≡ true
+      at-both [] others e d = d
+      at-both (at ∷ ats) others e d =
+          let both = and-true (atPlace test at) (atEach test ats) e in
+          rw (both .0) (at-both ats others (both .1) d)
+
+comparing-ends : (from6 : Bool) → atEach endsReading (comparing from6) ≡ true
+unfolding endsReading comparisons
+comparing-ends true = refl
+comparing-ends false = refl
+
+deciding-ends : (from6 : Bool) → atEach endsReading (deciding from6) ≡ true
+unfolding endsReading logic
+deciding-ends true = refl
+deciding-ends false = refl
+
+branching-ends : (from5 : Bool) → atEach endsReading (branching from5) ≡ true
+unfolding endsReading conditionals
+branching-ends true = refl
+branching-ends false = refl
+
+place-ends : (r : Rules) (k : ℕ) → (k ≡ 3 → ⊥) → atPlace endsReading (placeIn (places r) k) ≡ true
+unfolding places endsReading
 place-ends r zero other = refl
 place-ends r (suc zero) other = refl
 place-ends r (suc (suc zero)) other = refl
 place-ends r (suc (suc (suc zero))) other = absurd (other refl)
 place-ends r (suc (suc (suc (suc k)))) other =
-    end-each (drop 4 (places r)) (later-end (r .comparisonsFirst) (r .andFirst) (r .pairsRight)) k
+    at-place endsReading (drop 4 (places r)) (at-groups endsReading comparing-ends deciding-ends branching-ends refl r) k
 
 -- At every other place a failure ends the reading.
 pub ends-elsewhere : (r : Rules) (k : ℕ) (p : Pass) → (k ≡ 3 → ⊥) → placeIn (places r) k ≡ some p → endsReading p ≡ true
-unfolding ends-at
-ends-elsewhere r k p other e = sym (ap ends-at e) ∙ place-ends r k other
+ends-elsewhere r k p other e = sym (ap (atPlace endsReading) e) ∙ place-ends r k other
+
+-- ---- The passes go through nested lists
+
+comparing-nested : (from6 : Bool) → atEach isNested (comparing from6) ≡ true
+unfolding isNested comparisons
+comparing-nested true = refl
+comparing-nested false = refl
+
+deciding-nested : (from6 : Bool) → atEach isNested (deciding from6) ≡ true
+unfolding isNested logic
+deciding-nested true = refl
+deciding-nested false = refl
+
+branching-nested : (from5 : Bool) → atEach isNested (branching from5) ≡ true
+unfolding isNested conditionals
+branching-nested true = refl
+branching-nested false = refl
+
+places-nested : (r : Rules) → atEach isNested (places r) ≡ true
+unfolding places isNested
+places-nested r = at-groups isNested comparing-nested deciding-nested branching-nested refl r
+
+running-nested : (u : ℕ → Bool) (ats : List (Option Pass)) → atEach isNested ats ≡ true → allNested (runningIn u ats) ≡ true
+unfolding runningIn running allNested
+running-nested u [] e = refl
+running-nested u (none ∷ others) e = running-nested u others e
+running-nested u (some p ∷ others) e =
+    let both = and-true (isNested p) (atEach isNested others) e in
+    go (runs u p) (both .0) (running-nested u others (both .1))
+  where
+    go : (b : Bool) → isNested p ≡ true → allNested (runningIn u others) ≡ true
+        → allNested (elim b [ true ↦ p ∷ [] | false ↦ [] ] ++ runningIn u others) ≡ true
+    go true n later = rw n later
+    go false n later = later
+
+-- So what the pointer's failure leaves, the empty list, ends in message 1 (`grouped-nil`, `pointer-fails` of the definition's laws).
+pub passes-nested : (u : ℕ → Bool) (r : Rules) (k : ℕ) → allNested (passesFrom u r k) ≡ true
+unfolding passesFrom
+passes-nested u r k = running-nested u (drop k (places r)) (at-later isNested (places r) (places-nested r) k)
 
 -- ---- Reading by the passes that run
 
 module _ (n : ℕ) (u : ℕ → Bool) (p : Pass) (ps : List Pass) where
   -- What follows a pass that runs, before the passes qs.
-  abbrev failed : List Pass → List Message → List Message → Bool → Answer
+  abbrev pub failed : List Pass → List Message → List Message → Bool → Answer
   failed qs so-far m true = messages (so-far ++ m)
   failed qs so-far m false = grouped n u qs (so-far ++ m) nil
 
-  abbrev next : List Pass → List Message → Result → Answer
+  abbrev pub next : List Pass → List Message → Result → Answer
   next qs so-far (ok g) = grouped n u qs so-far g
   next qs so-far (fail m) = failed qs so-far m (endsReading p)
 
-  run-first : runs u p ≡ true → (qs : List Pass) (so-far : List Message) (f : Forest)
+  pub run-first : runs u p ≡ true → (qs : List Pass) (so-far : List Message) (f : Forest)
       → grouped n u (p ∷ qs) so-far f ≡ next qs so-far (apply n p f)
   unfolding grouped
   run-first e qs so-far f = rw (e, grouped) (go (apply n p f))

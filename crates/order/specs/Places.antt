@@ -1,6 +1,6 @@
 -- The definition's order of passes laid out in places that are the same at every version, and what it means that the code chose the pass at
 -- a place: the state in which that pass starts where the pass runs, and nothing where it does not or the place is empty.
-use Prim.Native.Nat.{ℕ, zero, suc, _<_}
+use Prim.Native.Nat.{ℕ, zero, suc}
 use mathlib.Core.Path.{_≡_}
 use mathlib.Core.Bool.{Bool, true, false}
 use mathlib.Core.List.{List, [], _∷_, _++_}

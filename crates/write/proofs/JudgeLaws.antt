@@ -410,94 +410,113 @@ module _ {tree : List ℕ} {waiting : List Place} {top tokens n : ℕ} (one : On
   next-words : drop 6 (drop (6 * n) tree) ≡ drop (6 * (n + 1)) tree
   next-words = let six : 6 * n + 6 ≡ 6 * (n + 1) = omega arith in drop-drop 6 (6 * n) tree ∙ ap (λ (m : ℕ). drop m tree) six
 
-  module _ {op children first : ℕ} {p : Place} (isOp : op ≡ operatorOf (getD tree (6 * n) 0)) (isCount : children ≡ lowOf (getD tree (6 * n + 5) 0))
-      (isFirst : first ≡ operatorOf (getD tree (6 * n + 6) 0)) (isPlace : p ≡ getD waiting (top - 1) Enclosed) where
-    here-op : node-at .k .op ≡ op
-    here-op =
-        node-at .op ∙ (ap operatorOf (getD-drop (6 * n) tree 0 0 ∙ ap (λ (m : ℕ). getD tree m 0) (add-zero (6 * n))) ∙ sym isOp)
+-- A turn of the loop: what stands at the node, as it was read.
+pub record Turn (tree : List ℕ) (waiting : List Place) (top tokens n op children first : ℕ) (p : Place) : Type 0 where
+  pub one : OneTree tree
+  pub inv : Judging tree waiting top tokens n
+  pub within : n < length tree / 6
+  pub isOp : op ≡ operatorOf (getD tree (6 * n) 0)
+  pub isCount : children ≡ lowOf (getD tree (6 * n + 5) 0)
+  pub isFirst : first ≡ operatorOf (getD tree (6 * n + 6) 0)
+  pub isPlace : p ≡ getD waiting (top - 1) Enclosed
 
-    here-count : count (node-at .cs) ≡ children
-    here-count = node-at .children ∙ (ap lowOf (getD-drop (6 * n) tree 5 0) ∙ sym isCount)
+module _ {tree : List ℕ} {waiting : List Place} {top tokens n op children first : ℕ} {p : Place}
+    (t : Turn tree waiting top tokens n op children first p) where
+  here : Opened mostChildren top (drop (6 * n) tree)
+  here = node-at (t .one) (t .inv) (t .within)
 
-    here-first : firstOperator (beside (node-at .cs) (node-at .rest)) ≡ first
-    here-first =
-        ap firstOperator (sym (node-at .below))
-        ∙ (first-operator (node-at .shaped)
-        ∙ (ap operatorOf (getD-drop 6 (drop (6 * n) tree) 0 0 ∙ getD-drop (6 * n) tree 6 0) ∙ sym isFirst))
+  bounds : (6 * n + 6 ≤ length tree) × (1 ≤ top) × (top + n ≤ mostNodes)
+  bounds = judging-room (t .one) (t .inv) (t .within)
 
-    here-plain : plainForm (formPlace p) (node-at .k) (node-at .cs) ≡ plainBy p op children first
-    here-plain = plain-by p (node-at .k) (node-at .cs) (node-at .rest) ∙ rw (here-op, here-count, here-first)
+  next : drop 6 (drop (6 * n) tree) ≡ drop (6 * (n + 1)) tree
+  next = next-words (t .one) (t .inv) (t .within)
 
-    still : judging (p ∷ pending waiting (top - 1)) tokens n (node (node-at .k) (node-at .cs) (node-at .rest)) ≡ judgement (treesOf tree)
-    unfolding pending
-    still =
-        let left : top ≡ suc (top - 1) = omega (arith, node-at .isTop) in
-        let places : pending waiting top ≡ p ∷ pending waiting (top - 1) =
-        ap (pending waiting) left ∙ ap (λ (q : Place). q ∷ pending waiting (top - 1)) (sym isPlace)
-        in
-        rw (places, node-at .trees) at (j .same)
+  here-op : here .k .op ≡ op
+  here-op =
+      here .op ∙ (ap operatorOf (getD-drop (6 * n) tree 0 0 ∙ ap (λ (m : ℕ). getD tree m 0) (add-zero (6 * n))) ∙ sym (t .isOp))
 
-    pub judging-refused : plainBy p op children first ≡ false → Unplain n ≡ judgement (treesOf tree)
-    judging-refused e =
-        sym (judging-unplain p (pending waiting (top - 1)) tokens n (node-at .k) (node-at .cs) (node-at .rest) (here-plain ∙ e)) ∙ still
+  here-count : count (here .cs) ≡ children
+  here-count = here .children ∙ (ap lowOf (getD-drop (6 * n) tree 5 0) ∙ sym (t .isCount))
 
-    later-shaped : {m : ℕ} → Shaped mostChildren m (drop 6 (drop (6 * n) tree)) → m ≡ children + (top - 1)
-        → Shaped mostChildren (children + (top - 1)) (drop 6 (drop (6 * n) tree))
-    later-shaped s e = rw e at s
+  here-first : firstOperator (beside (here .cs) (here .rest)) ≡ first
+  here-first =
+      ap firstOperator (sym (here .below))
+      ∙ (first-operator (here .shaped)
+      ∙ (ap operatorOf (getD-drop 6 (drop (6 * n) tree) 0 0 ∙ getD-drop (6 * n) tree 6 0) ∙ sym (t .isFirst)))
 
-    -- The state after a plain node whose children stand at these places.
-    passed : {waiting' : List Place} {top' : ℕ} (qs : List Place) → plainBy p op children first ≡ true → Goes p (node-at .k) qs (node-at .cs)
-        → length waiting' ≡ mostNodes
-        → top' ≡ children + (top - 1)
-        → pending waiting' top' ≡ qs ++ pending waiting (top - 1)
-        → Judging tree waiting' top' (tokens + tokensFor p op children) (n + 1)
-    passed {waiting' = waiting'} qs plain goes room height places =
-        let on = judged-on p (pending waiting (top - 1)) qs tokens n (node-at .k) (node-at .cs) (node-at .rest) (here-plain ∙ plain) (goes .0) (goes .1) in
-        record {
-          within = omega (arith, judging-room .0);
-          shaped = rw (height, ← next-words) (later-shaped (node-at .shaped) (omega (arith, node-at .isTop, node-at .children, here-count)));
-          few = omega (arith, few-tokens p op children);
-          room = room;
-          same = rw (places, ← next-words, node-at .below, add-one) (rw (here-op, here-count) at (sym on) ∙ still);
-        }
+  here-plain : plainForm (formPlace p) (here .k) (here .cs) ≡ plainBy p op children first
+  here-plain = plain-by p (here .k) (here .cs) (here .rest) ∙ rw (here-op, here-count, here-first)
 
-    pub judging-none : plainBy p op children first ≡ true → (children ≡ 1 → ⊥) → (children ≡ 2 → ⊥)
-        → Judging tree waiting (top - 1) (tokens + tokensFor p op children) (n + 1)
-    judging-none plain a b =
-        let zero-children = plain-few p op children first plain a b in
-        passed [] plain (on-none p (node-at .k) (node-at .cs) (here-count ∙ zero-children)) (j .room) (omega arith) refl
+  still : judging (p ∷ pending waiting (top - 1)) tokens n (node (here .k) (here .cs) (here .rest)) ≡ judgement (treesOf tree)
+  unfolding pending
+  still =
+      let left : top ≡ suc (top - 1) = omega (arith, here .isTop) in
+      let places : pending waiting top ≡ p ∷ pending waiting (top - 1) =
+      ap (pending waiting) left ∙ ap (λ (q : Place). q ∷ pending waiting (top - 1)) (sym (t .isPlace))
+      in
+      rw (places, here .trees) at (t .inv .same)
 
-    pub judging-one : plainBy p op children first ≡ true → children ≡ 1
-        → Judging tree (set waiting (top - 1) (onlyPlace op)) (top - 1 + 1) (tokens + tokensFor p op children) (n + 1)
-    judging-one plain e =
-        let below : top - 1 < length waiting = omega (arith, j .room, judging-room .1, judging-room .2) in
-        passed (onlyPlace (node-at .k .op) ∷ []) plain (on-one p (node-at .k) (node-at .cs) (here-count ∙ e))
-        (length-set waiting (top - 1) (onlyPlace op) ∙ j .room) (omega arith)
-        (rw (add-one, here-op) (pushed waiting (top - 1) (onlyPlace op) below))
+  pub judging-refused : plainBy p op children first ≡ false → Unplain n ≡ judgement (treesOf tree)
+  judging-refused e =
+      sym (judging-unplain p (pending waiting (top - 1)) tokens n (here .k) (here .cs) (here .rest) (here-plain ∙ e)) ∙ still
 
-    pub judging-room-two : children ≡ 2 → top - 1 + 1 < mostNodes
-    judging-room-two e =
-        omega (
-          arith,
-          shaped-room (node-at .shaped),
-          node-at .isTop,
-          node-at .children,
-          here-count,
-          length-drop 6 (drop (6 * n) tree),
-          length-drop (6 * n) tree,
-          one .small,
-        )
+  later-shaped : {m : ℕ} → Shaped mostChildren m (drop 6 (drop (6 * n) tree)) → m ≡ children + (top - 1)
+      → Shaped mostChildren (children + (top - 1)) (drop 6 (drop (6 * n) tree))
+  later-shaped s e = rw e at s
 
-    pub judging-two : plainBy p op children first ≡ true → children ≡ 2
-        → Judging tree (set (set waiting (top - 1) (rightPlace op)) (top - 1 + 1) (leftPlace op)) (top - 1 + 2)
-        (tokens + tokensFor p op children) (n + 1)
-    judging-two plain e =
-        let bottom = set waiting (top - 1) (rightPlace op) in
-        let room : length bottom ≡ mostNodes = length-set waiting (top - 1) (rightPlace op) ∙ j .room in
-        let left : top - 1 < length waiting = omega (arith, j .room, judging-room .1, judging-room .2) in
-        let right : suc (top - 1) < length bottom = omega (arith, room, judging-room-two e) in
-        let height : top - 1 + 2 ≡ suc (suc (top - 1)) = omega arith in
-        passed (leftPlace (node-at .k .op) ∷ rightPlace (node-at .k .op) ∷ []) plain
-        (on-two p (node-at .k) (node-at .cs) (here-plain ∙ plain) (here-count ∙ e))
-        (length-set bottom (top - 1 + 1) (leftPlace op) ∙ room) (omega arith)
-        (rw (height, add-one, here-op, pushed bottom (suc (top - 1)) (leftPlace op) right, pushed waiting (top - 1) (rightPlace op) left))
+  -- The state after a plain node whose children stand at these places.
+  passed : {waiting' : List Place} {top' : ℕ} (qs : List Place) → plainBy p op children first ≡ true → Goes p (here .k) qs (here .cs)
+      → length waiting' ≡ mostNodes
+      → top' ≡ children + (top - 1)
+      → pending waiting' top' ≡ qs ++ pending waiting (top - 1)
+      → Judging tree waiting' top' (tokens + tokensFor p op children) (n + 1)
+  passed {waiting' = waiting'} qs plain goes room height places =
+      let on = judged-on p (pending waiting (top - 1)) qs tokens n (here .k) (here .cs) (here .rest) (here-plain ∙ plain) (goes .0) (goes .1) in
+      record {
+        within = omega (arith, bounds .0);
+        shaped = rw (height, ← next) (later-shaped (here .shaped) (omega (arith, here .isTop, here .children, here-count)));
+        few = omega (arith, few-tokens p op children);
+        room = room;
+        same = rw (places, ← next, here .below, add-one) (rw (here-op, here-count) at (sym on) ∙ still);
+      }
+
+  pub judging-none : plainBy p op children first ≡ true → (children ≡ 1 → ⊥) → (children ≡ 2 → ⊥)
+      → Judging tree waiting (top - 1) (tokens + tokensFor p op children) (n + 1)
+  judging-none plain a b =
+      let zero-children = plain-few p op children first plain a b in
+      passed [] plain (on-none p (here .k) (here .cs) (here-count ∙ zero-children)) (t .inv .room) (omega arith) refl
+
+  pub judging-one : plainBy p op children first ≡ true → children ≡ 1
+      → Judging tree (set waiting (top - 1) (onlyPlace op)) (top - 1 + 1) (tokens + tokensFor p op children) (n + 1)
+  judging-one plain e =
+      let below : top - 1 < length waiting = omega (arith, t .inv .room, bounds .1, bounds .2) in
+      passed (onlyPlace (here .k .op) ∷ []) plain (on-one p (here .k) (here .cs) (here-count ∙ e))
+      (length-set waiting (top - 1) (onlyPlace op) ∙ t .inv .room) (omega arith)
+      (rw (add-one, here-op) (pushed waiting (top - 1) (onlyPlace op) below))
+
+  pub judging-room-two : children ≡ 2 → top - 1 + 1 < mostNodes
+  judging-room-two e =
+      omega (
+        arith,
+        shaped-room (here .shaped),
+        here .isTop,
+        here .children,
+        here-count,
+        length-drop 6 (drop (6 * n) tree),
+        length-drop (6 * n) tree,
+        t .one .small,
+      )
+
+  pub judging-two : plainBy p op children first ≡ true → children ≡ 2
+      → Judging tree (set (set waiting (top - 1) (rightPlace op)) (top - 1 + 1) (leftPlace op)) (top - 1 + 2)
+      (tokens + tokensFor p op children) (n + 1)
+  judging-two plain e =
+      let bottom = set waiting (top - 1) (rightPlace op) in
+      let room : length bottom ≡ mostNodes = length-set waiting (top - 1) (rightPlace op) ∙ t .inv .room in
+      let left : top - 1 < length waiting = omega (arith, t .inv .room, bounds .1, bounds .2) in
+      let right : suc (top - 1) < length bottom = omega (arith, room, judging-room-two e) in
+      let height : top - 1 + 2 ≡ suc (suc (top - 1)) = omega arith in
+      passed (leftPlace (here .k .op) ∷ rightPlace (here .k .op) ∷ []) plain
+      (on-two p (here .k) (here .cs) (here-plain ∙ plain) (here-count ∙ e))
+      (length-set bottom (top - 1 + 1) (leftPlace op) ∙ room) (omega arith)
+      (rw (height, add-one, here-op, pushed bottom (suc (top - 1)) (leftPlace op) right, pushed waiting (top - 1) (rightPlace op) left))

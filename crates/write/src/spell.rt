@@ -78,20 +78,20 @@ pub fn write_node<'a>(words: &'a [u32], list: &mut [u32], to: &mut usize) -> &'a
     let op = fields::operator(words[0]);
     let children = fields::low(words[5]);
     if children == 2 {
-        let left = write_operand(&words[6..], place_of_left(op), list, to);
+        let left = write_operand(&words[fields::NODE_WORDS..], place_of_left(op), list, to);
         put_token(words, list, to);
-        let next = 6 + left.len();
+        let next = fields::NODE_WORDS + left.len();
         let right = write_operand(&words[next..], place_of_right(op), list, to);
         return &words[..next + right.len()];
     }
     put_token(words, list, to);
     if children == 0 {
         put_closer(words, list, to);
-        return &words[..6];
+        return &words[..fields::NODE_WORDS];
     }
-    let only = write_operand(&words[6..], place_of_only(op), list, to);
+    let only = write_operand(&words[fields::NODE_WORDS..], place_of_only(op), list, to);
     put_closer(words, list, to);
-    &words[..6 + only.len()]
+    &words[..fields::NODE_WORDS + only.len()]
 }
 
 // Writes the tree that the words open with as an operand at its place, in an added pair if it needs one; gives back the words

@@ -1,6 +1,5 @@
 -- `checks::accept` meets its contract: the parts of the table in order. Assumes nothing.
 use mathlib.Core.Path.{sym, _∙_}
-use native.Mathlib.Omega.{arith}
 use borrow.Author.Needs.{needs}
 use Rattle.checks.proofs.AcceptLaws.{by-length, whole-tokens, by-lent, by-words}
 use Rattle.checks.proofs.accept.Statement.{statement}

@@ -1,13 +1,15 @@
 -- `write::plain::judge` meets its contract. The loop's invariant is `Judging`; the measure is the nodes that are left. Assumes nothing.
-use Prim.Native.Nat.{_-_}
-use mathlib.Core.Path.{refl, sym, _∙_}
+use Prim.Native.Nat.{_+_, _-_, _*_, _≤_}
+use mathlib.Core.Path.{_≡_, refl, sym, _∙_}
+use mathlib.Core.Bool.{true}
 use native.Mathlib.Omega.{arith}
 use borrow.Author.Needs.{needs}
 use borrow.Author.Tests.{not-true, not-false}
-use lib.ListN.{getD}
+use lib.ListN.{length, getD}
+use Rattle.molang.specs.WriteEntry.{mostNodes}
 use Rattle.write.specs.declared.plain.Place.the-variants.{Enclosed}
-use Rattle.write.proofs.JudgeLaws.{Judging, few-tokens, judging-begins, judging-room, judging-room-two, judging-refused, judging-none, judging-one, judging-two, judging-ends}
-use Rattle.write.proofs.JudgeLaws.{Judging, judging-begins, judging-room, judging-refused, judging-none, judging-one, judging-two, judging-ends}
+use Rattle.write.specs.Places.{plainBy}
+use Rattle.write.proofs.JudgeLaws.{Judging, Turn, few-tokens, judging-begins, judging-room, judging-room-two, judging-refused, judging-none, judging-one, judging-two, judging-ends}
 use Rattle.write.proofs.plain.judge.Statement.{statement}
 use Rattle.write.proofs.plain.judge.Tie as tie
 
@@ -16,6 +18,34 @@ Inv-loop tree nodes waiting₀ top₀ tokens₀ node₀ waiting top tokens node 
 
 abbrev μ-loop : tie.MeasureT-loop
 μ-loop tree nodes waiting₀ top₀ tokens₀ node₀ waiting top tokens node = nodes - node
+
+-- In a turn: the room that there is, what was read of the node, and that it is plain.
+room : (c : tie.In-loop Inv-loop μ-loop)
+    → (6 * c .before .loop .node + 6 ≤ length (c .before .before .before .args .tree .now))
+    × (1 ≤ c .before .loop .top)
+    × (c .before .loop .top + c .before .loop .node ≤ mostNodes)
+room c = judging-room (c .before .before .before .pre) (c .before .loop .inv) (c .loop-test .taken)
+
+turn : (c : tie.After-operator-after Inv-loop μ-loop)
+    → Turn (c .before .before .before .before .before .before .before .before .before .args .tree .now) (c .before .before .before .before .before .before .before .loop .waiting) (c .before .before .before .before .before .before .before .loop .top) (c .before .before .before .before .before .before .before .loop .tokens) (c .before .before .before .before .before .before .before .loop .node)
+    (c .before .before .before .before .operator .result) (c .before .before .low .result) (c .operator-after .result)
+    (getD (c .before .before .before .before .before .before .before .loop .waiting) (c .before .before .before .before .before .before .before .loop .top - 1) Enclosed)
+turn c =
+    record {
+      one = c .before .before .before .before .before .before .before .before .before .pre;
+      inv = c .before .before .before .before .before .before .before .loop .inv;
+      within = c .before .before .before .before .before .before .loop-test .taken;
+      isOp = c .before .before .before .before .operator .ensures;
+      isCount = c .before .before .low .ensures;
+      isFirst = c .operator-after .ensures;
+      isPlace = refl;
+    }
+
+plain : (c : tie.Else1 Inv-loop μ-loop)
+    → plainBy (getD (c .before .before .before .before .before .before .before .before .before .loop .waiting) (c .before .before .before .before .before .before .before .before .before .loop .top - 1) Enclosed) (c .before .before .before .before .before .before .operator .result) (c .before .before .before .before .low .result)
+    (c .before .before .operator-after .result)
+    ≡ true
+plain c = sym (c .before .is-plain .ensures) ∙ not-false _ (c .if1 .left)
 
 loop-holds : tie.Need-loop-holds Inv-loop μ-loop
 loop-holds c = judging-begins (c .before .args .tree .now) _ (c .before .pre) refl refl
@@ -45,24 +75,19 @@ low-requires : tie.Need-low-requires Inv-loop μ-loop
 low-requires c κs = search needs
 
 sub-top : tie.Need-sub-top Inv-loop μ-loop
-sub-top c = judging-room (c .before .before .before .before .before .before .before .pre) (c .before .before .before .before .before .loop .inv) (c .before .before .before .before .loop-test .taken) .1
+sub-top c = room (c .before .before .before .before) .1
 
 array-copy-out-place : tie.Need-array-copy-out-place Inv-loop μ-loop
-array-copy-out-place c = omega (arith, judging-room (c .before .before .before .before .before .before .before .pre) (c .before .before .before .before .before .loop .inv) (c .before .before .before .before .loop-test .taken) .2)
+array-copy-out-place c = omega (arith, room (c .before .before .before .before) .2)
 
 operator-after-requires : tie.Need-operator-after-requires Inv-loop μ-loop
-operator-after-requires c κs = judging-room (c .before .before .before .before .before .before .before .before .pre) (c .before .before .before .before .before .before .loop .inv) (c .before .before .before .before .before .loop-test .taken) .0
+operator-after-requires c κs = room (c .before .before .before .before .before) .0
 
 is-plain-requires : tie.Need-is-plain-requires Inv-loop μ-loop
 is-plain-requires c κs = search needs
 
 returns : tie.Need-returns Inv-loop μ-loop
-returns c =
-    let at = c .before in
-    let head = at .before .before .before .before .before .before .before .before in
-    judging-refused (head .before .before .pre) (head .loop .inv) (at .before .before .before .before .before .before .before .loop-test .taken)
-    (at .before .before .before .before .before .operator .ensures) (at .before .before .before .low .ensures)
-    (at .before .operator-after .ensures) refl (sym (at .is-plain .ensures) ∙ not-true _ (c .if1 .taken))
+returns c = judging-refused (turn (c .before .before)) (sym (c .before .is-plain .ensures) ∙ not-true _ (c .if1 .taken))
 
 add-node : tie.Need-add-node Inv-loop μ-loop
 add-node c = search needs
@@ -72,60 +97,49 @@ tokens-for-requires c κs = search needs
 
 add-tokens : tie.Need-add-tokens Inv-loop μ-loop
 add-tokens c =
-    let at = c .before .before in
-    let head = at .before .before .before .before .before .before .before .before in
+    let head = c .before .before .before .before .before .before .before .before .before .before in
+    let place = getD (head .loop .waiting) (head .loop .top - 1) Enclosed in
     omega (
       arith,
       c .tokens-for .ensures,
       head .loop .inv .few,
-      judging-room (c .before .before .before .before .before .before .before .before .before .before .before .before .pre) (c .before .before .before .before .before .before .before .before .before .before .loop .inv) (c .before .before .before .before .before .before .before .before .before .loop-test .taken) .2,
-      few-tokens (getD (head .loop .waiting) (head .loop .top - 1) Enclosed) (at .before .before .before .before .before .operator .result)
-          (at .before .before .before .low .result),
+      room (c .before .before .before .before .before .before .before .before .before) .2,
+      few-tokens place (c .before .before .before .before .before .before .before .operator .result) (c .before .before .before .before .before .low .result),
     )
 
 place-of-only-requires : tie.Need-place-of-only-requires Inv-loop μ-loop
 place-of-only-requires c κs = search needs
 
 array-set-from-waiting : tie.Need-array-set-from-waiting Inv-loop μ-loop
-array-set-from-waiting c = omega (arith, judging-room (c .before .before .before .before .before .before .before .before .before .before .before .before .before .before .pre) (c .before .before .before .before .before .before .before .before .before .before .before .before .loop .inv) (c .before .before .before .before .before .before .before .before .before .before .before .loop-test .taken) .2)
+array-set-from-waiting c = omega (arith, room (c .before .before .before .before .before .before .before .before .before .before .before) .2)
 
 add-top : tie.Need-add-top Inv-loop μ-loop
-add-top c = omega (arith, judging-room (c .before .before .before .before .before .before .before .before .before .before .before .before .before .before .pre) (c .before .before .before .before .before .before .before .before .before .before .before .before .loop .inv) (c .before .before .before .before .before .before .before .before .before .before .before .loop-test .taken) .2)
+add-top c = omega (arith, room (c .before .before .before .before .before .before .before .before .before .before .before) .2)
 
 loop-less : tie.Need-loop-less Inv-loop μ-loop
 loop-less c = omega (arith, c .before .before .before .before .before .before .before .before .before .before .before .loop-test .taken)
 
 loop-again : tie.Need-loop-again Inv-loop μ-loop
 loop-again c =
-    rw (c .place-of-only .ensures, c .before .before .tokens-for .ensures)
-    (let at = c .before .before .before .before in
-    let head = at .before .before .before .before .before .before .before .before in
-    judging-one (head .before .before .pre) (head .loop .inv) (at .before .before .before .before .before .before .before .loop-test .taken)
-    (at .before .before .before .before .before .operator .ensures) (at .before .before .before .low .ensures)
-    (at .before .operator-after .ensures) refl (sym (at .is-plain .ensures) ∙ not-false _ (c .before .before .before .if1 .left)) (c .before .if2 .taken))
+    rw (c .place-of-only .ensures, c .before .before .tokens-for .ensures) (judging-one (turn (c .before .before .before .before .before)) (plain (c .before .before .before)) (c .before .if2 .taken))
 
 place-of-right-requires : tie.Need-place-of-right-requires Inv-loop μ-loop
 place-of-right-requires c κs = search needs
 
 array-set-from-waiting-2 : tie.Need-array-set-from-waiting-2 Inv-loop μ-loop
-array-set-from-waiting-2 c = omega (arith, judging-room (c .before .before .before .before .before .before .before .before .before .before .before .before .before .before .before .pre) (c .before .before .before .before .before .before .before .before .before .before .before .before .before .loop .inv) (c .before .before .before .before .before .before .before .before .before .before .before .before .loop-test .taken) .2)
+array-set-from-waiting-2 c = omega (arith, room (c .before .before .before .before .before .before .before .before .before .before .before .before) .2)
 
 place-of-left-requires : tie.Need-place-of-left-requires Inv-loop μ-loop
 place-of-left-requires c κs = search needs
 
 add-waiting : tie.Need-add-waiting Inv-loop μ-loop
-add-waiting c = omega (arith, judging-room (c .before .before .before .before .before .before .before .before .before .before .before .before .before .before .before .before .pre) (c .before .before .before .before .before .before .before .before .before .before .before .before .before .before .loop .inv) (c .before .before .before .before .before .before .before .before .before .before .before .before .before .loop-test .taken) .2)
+add-waiting c = omega (arith, room (c .before .before .before .before .before .before .before .before .before .before .before .before .before) .2)
 
 array-set-from-waiting-3 : tie.Need-array-set-from-waiting-3 Inv-loop μ-loop
-array-set-from-waiting-3 c =
-    let at = c .before .before .before .before .before .before in
-    let head = at .before .before .before .before .before .before .before .before in
-    judging-room-two (head .before .before .pre) (head .loop .inv) (at .before .before .before .before .before .before .before .loop-test .taken)
-    (at .before .before .before .before .before .operator .ensures) (at .before .before .before .low .ensures)
-    (at .before .operator-after .ensures) refl (c .before .before .if3 .taken)
+array-set-from-waiting-3 c = judging-room-two (turn (c .before .before .before .before .before .before .before)) (c .before .before .if3 .taken)
 
 add-top-2 : tie.Need-add-top-2 Inv-loop μ-loop
-add-top-2 c = omega (arith, judging-room (c .before .before .before .before .before .before .before .before .before .before .before .before .before .before .before .before .pre) (c .before .before .before .before .before .before .before .before .before .before .before .before .before .before .loop .inv) (c .before .before .before .before .before .before .before .before .before .before .before .before .before .loop-test .taken) .2)
+add-top-2 c = omega (arith, room (c .before .before .before .before .before .before .before .before .before .before .before .before .before) .2)
 
 loop-less-2 : tie.Need-loop-less-2 Inv-loop μ-loop
 loop-less-2 c = omega (arith, c .before .before .before .before .before .before .before .before .before .before .before .before .before .loop-test .taken)
@@ -133,23 +147,14 @@ loop-less-2 c = omega (arith, c .before .before .before .before .before .before 
 loop-again-2 : tie.Need-loop-again-2 Inv-loop μ-loop
 loop-again-2 c =
     rw (c .place-of-left .ensures, c .before .place-of-right .ensures, c .before .before .before .before .tokens-for .ensures)
-    (let at = c .before .before .before .before .before .before in
-    let head = at .before .before .before .before .before .before .before .before in
-    judging-two (head .before .before .pre) (head .loop .inv) (at .before .before .before .before .before .before .before .loop-test .taken)
-    (at .before .before .before .before .before .operator .ensures) (at .before .before .before .low .ensures)
-    (at .before .operator-after .ensures) refl (sym (at .is-plain .ensures) ∙ not-false _ (c .before .before .before .before .before .if1 .left)) (c .before .before .if3 .taken))
+    (judging-two (turn (c .before .before .before .before .before .before .before)) (plain (c .before .before .before .before .before)) (c .before .before .if3 .taken))
 
 loop-less-3 : tie.Need-loop-less-3 Inv-loop μ-loop
 loop-less-3 c = omega (arith, c .before .before .before .before .before .before .before .before .before .before .before .loop-test .taken)
 
 loop-again-3 : tie.Need-loop-again-3 Inv-loop μ-loop
 loop-again-3 c =
-    rw (c .before .before .tokens-for .ensures)
-    (let at = c .before .before .before .before in
-    let head = at .before .before .before .before .before .before .before .before in
-    judging-none (head .before .before .pre) (head .loop .inv) (at .before .before .before .before .before .before .before .loop-test .taken)
-    (at .before .before .before .before .before .operator .ensures) (at .before .before .before .low .ensures)
-    (at .before .operator-after .ensures) refl (sym (at .is-plain .ensures) ∙ not-false _ (c .before .before .before .if1 .left)) (c .before .if2 .left) (c .if3 .left))
+    rw (c .before .before .tokens-for .ensures) (judging-none (turn (c .before .before .before .before .before)) (plain (c .before .before .before)) (c .before .if2 .left) (c .if3 .left))
 
 returns-2 : tie.Need-returns-2 Inv-loop μ-loop
 returns-2 c = judging-ends (c .before .loop .inv) (c .loop-test .left)
