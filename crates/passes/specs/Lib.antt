@@ -1,1 +1,8 @@
 pub mod Flat
+pub mod TokenTurns
+pub mod CallTurns
+pub mod BinaryTurns
+pub mod Statements
+pub mod Arrays
+pub mod UnaryTurns
+pub mod Folding

@@ -1,12 +1,11 @@
 -- Lists under work, read from the left: the next unread item as a tree, what the tests of an item say, an item that goes to the done ones, and what a
 -- change of words leaves of either side.
-use Prim.Native.Nat.{ℕ, zero, suc, _+_, _*_, _≤_, _<_}
+use Prim.Native.Nat.{ℕ, _+_, _*_, _≤_, _<_}
 use mathlib.Core.Path.{_≡_, refl, sym, ap, _∙_, subst, subst₂}
-use mathlib.Core.Logic.{_≢_, _⊎_, inl, inr}
+use mathlib.Core.Logic.{_≢_}
 use mathlib.Core.Bool.{Bool, true, false, not, _&&_, true≢false}
-use mathlib.Core.List.{List, [], _∷_}
+use mathlib.Core.List.{List, _∷_}
 use native.Mathlib.Omega.{arith}
-use native.Mathlib.Nat.{le-refl}
 use native.Mathlib.Decide.{ℕ-discrete}
 use lib.ListN.{length}
 use lib.Dec.{eqb}
@@ -14,7 +13,7 @@ use borrow.Author.Tests.{eq-eqb, ne-eqb}
 use Rattle.molang.specs.Forest.{Token, Forest, nil, node}
 use Rattle.molang.proofs.Trees.{free, isNil}
 use Rattle.ops.specs.Classes.{shares}
-use Rattle.nodes.specs.Store.{wd, Seg, SegB, Out, RepF, ends, more, RepT, RepB, put, InArray}
+use Rattle.nodes.specs.Store.{wd, Seg, Out, RepF, ends, more, RepT, put, InArray}
 use Rattle.nodes.specs.Slots.{opAt, isLeafAt}
 use Rattle.nodes.specs.declared.frames.List.{List as Items}
 use Rattle.nodes.proofs.Runs.{seg-keep, segB-keep}

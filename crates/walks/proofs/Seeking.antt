@@ -1,24 +1,23 @@
 -- The loop of `next_token`: what holds at its test, a turn that passes over an item, and where it stops.
-use Prim.Native.Nat.{ℕ, zero, suc, _+_, _*_, _^_, _≤_, _<_}
-use mathlib.Core.Path.{_≡_, refl, sym, ap, _∙_, subst}
-use mathlib.Core.Logic.{_≢_, _⊎_, inl, inr, ⊎-elim}
+use Prim.Native.Nat.{ℕ, _+_, _*_, _^_, _≤_, _<_}
+use mathlib.Core.Path.{_≡_, refl, sym, _∙_, subst}
+use mathlib.Core.Logic.{_⊎_, ⊎-elim}
 use mathlib.Core.Bool.{Bool, true, false, true≢false}
-use mathlib.Core.List.{List, [], _∷_}
+use mathlib.Core.List.{List, []}
 use native.Mathlib.Omega.{arith}
 use native.Mathlib.Nat.{le-refl}
 use lib.ListN.{length, set}
 use Rattle.molang.specs.Forest.{Token, Forest, nil, node}
 use Rattle.molang.proofs.Trees.{free, isNil}
 use Rattle.ops.specs.Classes.{shares, meets}
-use Rattle.nodes.specs.Store.{wd, RepF, ends, RepT, InArray}
+use Rattle.nodes.specs.Store.{wd, ends, RepT}
 use Rattle.nodes.specs.Slots.{isLeafAt}
 use Rattle.nodes.specs.declared.frames.List.{List as Items}
 use Rattle.nodes.proofs.Runs.{set-same, set-other, set-long}
-use Rattle.nodes.proofs.Store.{rep-le, tree-below, back-le, back-raise}
+use Rattle.nodes.proofs.Store.{tree-below, back-raise}
 use Rattle.nodes.proofs.Trees.{leaf-test}
 use Rattle.walks.specs.Passes.{movedTo, Exact}
 use Rattle.walks.specs.Items.{BackArray, Ahead, CanSeek, Passed, here, over, Seen, SoughtTo, none, leaf, tree, Sought}
-use Rattle.walks.specs.declared.items.Found.{Found}
 use Rattle.walks.specs.declared.items.Found.the-variants.{Nothing, Children, Token as Leaf}
 use Rattle.walks.proofs.Reading.{AheadTo, item, ahead-item, ahead-end, ahead-le, ahead-keep, array-put, tree-free, tree-unfree, unfree-leaf, unfree-tree}
 

@@ -6,7 +6,7 @@ use mathlib.Core.Bool.{Bool, true, false}
 use mathlib.Core.List.{List}
 use lib.Dec.{eqb}
 use Rattle.molang.specs.Operator.{isOneOf}
-use Rattle.molang.specs.Calls.{queryOrLoop, math, Indexing, unindexed, named, indexed, calls as isCall}
+use Rattle.molang.specs.Calls.{queryOrLoop, math, unindexed, named, indexed, calls as isCall}
 use Rattle.molang.proofs.Arrays.{isArrayName}
 use Rattle.molang.proofs.Statements.{isSemicolon}
 use Rattle.molang.proofs.Unary.{isPrefix}

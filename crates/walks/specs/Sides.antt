@@ -1,9 +1,9 @@
 -- What a pass holds of a list while it works on it. The list's trees stand in the slots from lo to hi that are not in X, the owner's and its ancestors':
 -- from the left what is done below l, what is unread from m on; from the right (the unary pass) the other way round. In between, from l to m, stands
 -- the item whose children are out, if any. Each pass says in its own terms what its state keeps of the done side.
-use Prim.Native.Nat.{ℕ, _+_, _*_, _^_, _≤_, _<_}
+use Prim.Native.Nat.{ℕ, _+_, _*_, _≤_, _<_}
 use mathlib.Core.Path.{_≡_}
-use mathlib.Core.Logic.{_≢_, _⊎_}
+use mathlib.Core.Logic.{_⊎_}
 use mathlib.Core.Bool.{Bool, true, false}
 use mathlib.Core.List.{List, [], _∷_}
 use mathlib.Core.Option.{none, some}

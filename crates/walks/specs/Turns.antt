@@ -2,17 +2,17 @@
 -- between what is left of the pass before and after (`work`) that the pass's result never changes.
 use Prim.Native.Nat.{ℕ, _+_, _*_, _^_, _≤_, _<_}
 use mathlib.Core.Path.{_≡_}
-use mathlib.Core.Bool.{Bool, true, false}
-use mathlib.Core.List.{List, [], _∷_}
+use mathlib.Core.Bool.{true, false}
+use mathlib.Core.List.{List, _∷_}
 use lib.ListN.{length}
-use Rattle.molang.specs.Forest.{Token, Forest, nil, node, count, size}
+use Rattle.molang.specs.Forest.{Token, Forest, nil, count, size}
 use Rattle.molang.specs.Message.{Message, ok, fail}
 use Rattle.molang.specs.Calls.{indexed, startsWithIndex}
 use Rattle.molang.proofs.Trees.{isNil}
 use Rattle.molang.proofs.Work.{Kind, arrays, statements, State, work, begins, inReading, takes, andThen}
 use Rattle.nodes.specs.Store.{RepT, InArray, Kept}
 use Rattle.nodes.specs.declared.frames.List.{List as Items}
-use Rattle.walks.specs.Passes.{walkOf, classesOf, Runs, waits}
+use Rattle.walks.specs.Passes.{classesOf, waits}
 use Rattle.walks.specs.Sides.{OpenArray, Holds, Waits}
 use Rattle.walks.specs.Failures.{Tells}
 use Rattle.walks.specs.declared.failure.Failure.{Failure}
@@ -79,7 +79,7 @@ pub data TurnTo (κ : Kind) (W' X : List ℕ) (lo hi : ℕ) (w : Walk) (s : Stat
   enters : {w' : Walk} {b l n m : ℕ} {t u : State κ} {rest' : Forest} {k : Token} {cs : Forest} → SameList w w' → Waits κ W' X lo l m hi w' t rest'
       → RepT W' X b n m k cs → isNil cs ≡ false → Begins W' (b ∷ X) l n cs κ (w' .pass) u
       → work κ s rest ≡ andThen (work κ u (inReading κ cs)) (λ kids. work κ (takes κ t k kids) rest')
-      → count rest' ≤ count rest → count rest ≤ count rest' + 2 → 1 + size cs + size rest' ≤ size rest → waits κ t + waits κ u ≤ waits κ s + 1
+      → count rest' ≤ count rest → size cs + size rest' + count rest ≤ size rest + count rest' + 1 → 1 + size cs + size rest' ≤ size rest → waits κ t + waits κ u ≤ waits κ s + 1
       → TurnTo κ W' X lo hi w s rest (Enter w' b)
   ends : {w' : Walk} {s' : State κ} → SameList w w' → Holds κ W' X lo hi w' s' nil → waits κ s' ≡ 0
       → work κ s rest ≡ work κ s' nil

@@ -2,7 +2,6 @@
 use native.Mathlib.Omega.{arith}
 use Rattle.walks.proofs.Reading.{next-if-end, next-if-found, next-if-other}
 use mathlib.Core.Path.{sym, _∙_}
-use borrow.Author.Tests.{eq-eqb, ne-eqb}
 use borrow.Author.Needs.{needs}
 use Rattle.walks.proofs.items.next_if.Statement.{statement}
 use Rattle.walks.proofs.items.next_if.Tie as tie

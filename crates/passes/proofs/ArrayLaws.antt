@@ -1,0 +1,129 @@
+-- The array pass as laws: what the trees between array names change, and what the pass makes of a name, of its next index and of a bare name at the end
+-- of an array's contents.
+use Prim.Native.Nat.{ℕ}
+use mathlib.Core.Path.{_≡_, refl, sym, ap, _∙_}
+use mathlib.Core.Bool.{Bool, true, false, true≢false}
+use mathlib.Core.List.{List, [], _∷_}
+use lib.Dec.{eqb}
+use Rattle.molang.specs.Operator.{isOneOf, any, array, arrayVariable}
+use Rattle.molang.specs.Forest.{Token, Forest, nil, node, renamed, turnedOnto}
+use Rattle.molang.specs.Message.{Message, emptyArrayIndex, Result, ok, fail}
+use Rattle.molang.specs.Level.{on, into, stop, walk, through}
+use Rattle.molang.specs.Order.{someBelow}
+use Rattle.molang.specs.Calls.{Indexing, unindexed, named, indexed, flushed, isIndex, startsWithIndex, emptyIndex, nextIndex, index, arrayStep, arrayResume, arrayFinish, arrayLevel}
+use Rattle.molang.proofs.Trees.{free, isNil, free-leaf, free-tree}
+use Rattle.molang.proofs.Arrays.{isArrayName, array-free}
+use Rattle.molang.proofs.Work.{arrays, work, begins, inReading, takes, andThen}
+use Rattle.molang.proofs.Walks.{onward, back, walk-onward}
+use Rattle.ops.proofs.ClassLaws.{stands-for}
+use Rattle.ops.specs.Classes.{meets, bitAt, inClass, passClasses}
+use Rattle.walks.specs.Passes.{Exact}
+use Rattle.walks.specs.Items.{Passed, here, over}
+
+pub array-class : Exact 0x4 isArrayName
+unfolding isArrayName meets someBelow bitAt inClass passClasses isOneOf any
+array-class = stands-for 0x4 isArrayName tt
+
+-- ---- one step of the walk
+
+module _ (s : Indexing) (k : Token) (cs rest : Forest) where
+  walk-step : work arrays s (node k cs rest) ≡ onward arrayLevel k cs rest (arrayStep s k cs)
+  unfolding work arrayLevel
+  walk-step = walk-onward arrayLevel s k cs rest
+
+  pub array-on : (t : Indexing) → arrayStep s k cs ≡ on t → work arrays s (node k cs rest) ≡ work arrays t rest
+  unfolding onward work
+  array-on t e = walk-step ∙ ap (onward arrayLevel k cs rest) e
+
+  pub array-stop : (m : List Message) → arrayStep s k cs ≡ stop m → work arrays s (node k cs rest) ≡ fail m
+  unfolding onward
+  array-stop m e = walk-step ∙ ap (onward arrayLevel k cs rest) e
+
+  back-then : (t : Indexing) (x : Result) → back arrayLevel t k rest x ≡ andThen x (λ kids. work arrays (takes arrays t k kids) rest)
+  unfolding back andThen work takes
+  back-then t (ok kids) = refl
+  back-then t (fail m) = refl
+
+  -- the children begin in the state u
+  pub array-in : (t u : Indexing) → arrayStep s k cs ≡ into t u
+      → work arrays s (node k cs rest) ≡ andThen (work arrays u (inReading arrays cs)) (λ kids. work arrays (takes arrays t k kids) rest)
+  unfolding onward inReading work
+  array-in t u e = walk-step ∙ ap (onward arrayLevel k cs rest) e ∙ back-then t (walk arrayLevel u cs)
+
+-- ---- trees without an array name
+
+keep-leaf : (i : Bool) (d : Forest) (k : Token) → isIndex k ≡ i → isArrayName (k .op) ≡ false → arrayStep (unindexed d) k nil ≡ on (unindexed (node k nil d))
+unfolding arrayStep emptyIndex flushed isArrayName
+keep-leaf true d k i h = rw (i, arrayStep) refl
+keep-leaf false d k i h = rw (i, arrayStep) (rw h refl)
+
+enter-tree : (i : Bool) (d : Forest) (k c : Token) (cs r : Forest) → isIndex k ≡ i → arrayStep (unindexed d) k (node c cs r) ≡ into (unindexed d) (unindexed nil)
+unfolding arrayStep index flushed
+enter-tree true d k c cs r i = rw (i, arrayStep) refl
+enter-tree false d k c cs r i = rw (i, arrayStep) refl
+
+-- a tree of a list with no array before it is entered
+pub unindexed-in : (d : Forest) (k : Token) (cs : Forest) → isNil cs ≡ false → arrayStep (unindexed d) k cs ≡ into (unindexed d) (unindexed nil)
+unfolding isNil
+unindexed-in d k nil e = absurd (true≢false e)
+unindexed-in d k (node c cs r) e = enter-tree (isIndex k) d k c cs r refl
+
+pub walk-past : (d : Forest) (k : Token) (cs rest : Forest) → free isArrayName (node k cs nil) ≡ true → work arrays (unindexed d) (node k cs rest) ≡ work arrays (unindexed (node k cs d)) rest
+unfolding inReading work through arrayLevel andThen takes arrayResume isNil
+walk-past d k nil rest h = array-on (unindexed d) k nil rest (unindexed (node k nil d)) (keep-leaf (isIndex k) d k refl (free-leaf isArrayName k nil h .0))
+walk-past d k (node c cs r) rest h =
+    array-in (unindexed d) k (node c cs r) rest (unindexed d) (unindexed nil) (unindexed-in d k (node c cs r) refl)
+    ∙ ap (λ (x : Result). andThen x (λ kids. work arrays (takes arrays (unindexed d) k kids) rest)) (array-free (node c cs r) (free-tree isArrayName k c cs r nil h .0))
+
+pub passed-unindexed : {d rest d' rest' : Forest} → Passed isArrayName d rest d' rest' → work arrays (unindexed d) rest ≡ work arrays (unindexed d') rest'
+passed-unindexed here = refl
+passed-unindexed {d = d} (over {rest = r} {cs = cs} {k = k} f p) = walk-past d k cs r f ∙ passed-unindexed p
+
+-- ---- a name, and an array's next index
+
+name-leaf : (i : Bool) (d : Forest) (k : Token) → isIndex k ≡ i → isArrayName (k .op) ≡ true → isIndex k ≡ false → arrayStep (unindexed d) k nil ≡ on (named d k)
+unfolding arrayStep flushed isArrayName
+name-leaf i d k e h n = rw (n, arrayStep) (rw h refl)
+
+-- a name waits for its index
+pub name-waits : (d : Forest) (k : Token) → isArrayName (k .op) ≡ true → isIndex k ≡ false → arrayStep (unindexed d) k nil ≡ on (named d k)
+name-waits d k h n = name-leaf (isIndex k) d k refl h n
+
+module _ (d : Forest) (q k : Token) (e : isIndex k ≡ true) where
+  -- an empty index is an error, of the name as an array and of an array
+  pub named-empty : arrayStep (named d q) k nil ≡ stop (emptyArrayIndex (renamed array q) k ∷ [])
+  unfolding arrayStep emptyIndex
+  named-empty = rw (e, arrayStep) refl
+
+  pub indexed-empty : (contents : Forest) → arrayStep (indexed d q contents) k nil ≡ stop (emptyArrayIndex q k ∷ [])
+  unfolding arrayStep emptyIndex
+  indexed-empty contents = rw (e, arrayStep) refl
+
+  -- the first index
+  pub named-in : (cs : Forest) → isNil cs ≡ false → arrayStep (named d q) k cs ≡ into (indexed d (renamed array q) nil) (unindexed nil)
+  unfolding arrayStep index isNil
+  named-in nil n = absurd (true≢false n)
+  named-in (node c cs r) n = rw (e, arrayStep) refl
+
+  -- a further one, where the last of the contents is no bare name that it completes, and where it is
+  pub indexed-in : (contents cs : Forest) → isNil cs ≡ false → nextIndex d q contents cs ≡ into (indexed d q contents) (unindexed nil)
+      → arrayStep (indexed d q contents) k cs ≡ into (indexed d q contents) (unindexed nil)
+  unfolding arrayStep index isNil
+  indexed-in contents nil n h = absurd (true≢false n)
+  indexed-in contents (node c cs r) n h = rw (e, arrayStep) h
+
+  pub indexed-lends : (l : Token) (contents cs : Forest) → isNil cs ≡ false → isArrayName (l .op) ≡ true → startsWithIndex cs ≡ true
+      → arrayStep (indexed d q (node l nil contents)) k cs ≡ into (indexed d q contents) (named nil l)
+  unfolding arrayStep index nextIndex isNil isArrayName
+  indexed-lends l contents nil n h i = absurd (true≢false n)
+  indexed-lends l contents (node c cs r) n h i = rw (e, arrayStep) (rw (h, nextIndex) (rw (i, nextIndex) refl))
+
+-- a name that is lent to a list that begins with its index is an array there already
+pub lent-indexed : (d : Forest) (l : Token) (f : Forest) → startsWithIndex f ≡ true → work arrays (named d l) f ≡ work arrays (indexed d (renamed array l) nil) f
+unfolding startsWithIndex nextIndex isNil
+lent-indexed d l nil e = absurd (true≢false (sym e))
+lent-indexed d l (node k nil rest) e =
+    array-stop (named d l) k nil rest _ (named-empty d l k e) ∙ sym (array-stop (indexed d (renamed array l) nil) k nil rest _ (indexed-empty d (renamed array l) k e nil))
+lent-indexed d l (node k (node c cs r) rest) e =
+    array-in (named d l) k (node c cs r) rest _ _ (named-in d l k e (node c cs r) refl)
+    ∙ sym (array-in (indexed d (renamed array l) nil) k (node c cs r) rest _ _ (indexed-in d (renamed array l) k e nil (node c cs r) refl refl))

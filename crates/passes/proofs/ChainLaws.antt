@@ -1,0 +1,155 @@
+-- A chain turned round, as the array pass gathers an index's children and puts an array's in order: slot by slot the next one is linked to what is turned
+-- already. The chain from s on is left, the one from `head` on is turned.
+use Prim.Native.Nat.{ℕ, _+_, _*_, _-_, _≤_, _<_}
+use mathlib.Core.Path.{_≡_, refl, sym, ap, _∙_, subst}
+use mathlib.Core.Bool.{true, false}
+use mathlib.Core.Logic.{_≢_, _⊎_, inl, inr}
+use lib.Dec.{eqb}
+use borrow.Author.Tests.{eq-eqb, ne-eqb}
+use mathlib.Core.List.{List, [], _∷_}
+use native.Mathlib.Omega.{arith}
+use lib.ListN.{length, set}
+use Rattle.nodes.specs.Store.{wd, Chain, Inc, Out, OffNext, onto}
+use Rattle.passes.specs.Arrays.{Apart, CanGather, Gathered}
+use Rattle.nodes.proofs.Runs.{set-same, set-other, set-long, inc-le, chain-keep}
+
+apart-more : (c lo hi : ℕ) (left back : List ℕ) → c < lo → Inc lo hi left → Apart left back → Apart left (c ∷ back)
+apart-more c lo hi [] back h i a = tt
+apart-more c lo hi (d ∷ left) back h i a = ((omega (arith, i .0), a .0), apart-more c (d + 1) hi left back (omega (arith, i .0)) (i .1) (a .1))
+
+-- a link of a slot beside the chain
+beside-chain : (W W' : List ℕ) (c v f : ℕ) (cs : List ℕ) → W' ≡ set W (8 * c + 6) v → Out c cs → Chain W f cs → Chain W' f cs
+beside-chain W W' c v f [] e o p = p
+beside-chain W W' c v f (d ∷ cs) e o p =
+    let n : c ≢ d = o .0 in
+    let same : wd W (8 * d + 6) ≡ wd W' (8 * d + 6) = sym (set-other W W' (8 * c + 6) v e (8 * d + 6) (omega arith)) in
+    (p .0, p .1, subst (λ (x : ℕ). Chain W' x cs) same (beside-chain W W' c v (wd W (8 * d + 6)) cs e (o .1) (p .2)))
+
+-- a `first` word is no link
+first-chain : (W W' : List ℕ) (c v f : ℕ) (cs : List ℕ) → W' ≡ set W (8 * c + 5) v → Chain W f cs → Chain W' f cs
+first-chain W W' c v f [] e p = p
+first-chain W W' c v f (d ∷ cs) e p =
+    let same : wd W (8 * d + 6) ≡ wd W' (8 * d + 6) = sym (set-other W W' (8 * c + 5) v e (8 * d + 6) (omega arith)) in
+    (p .0, p .1, subst (λ (x : ℕ). Chain W' x cs) same (first-chain W W' c v (wd W (8 * d + 6)) cs e (p .2)))
+
+-- What holds at the loop's test, of the chain cs that is turned onto ds.
+pub record Turning (W : List ℕ) (cs ds Z : List ℕ) (head s hi : ℕ) : Type 0 where
+  pub left : List ℕ
+  pub back : List ℕ
+  pub lo : ℕ
+  pub ahead : Chain Z s left
+  pub turned : Chain Z head back
+  pub whole : onto left back ≡ onto cs ds
+  pub inc : Inc lo hi left
+  pub apart : Apart left back
+  pub same : (j : ℕ) → OffNext cs j → wd Z j ≡ wd W j
+  pub links : (j : ℕ) → OffNext cs j → OffNext left j
+  pub long : length Z ≡ length W
+
+pub turn-start : {W : List ℕ} {head s hi : ℕ} (cs ds : List ℕ) → Chain W s cs → Chain W head ds → Inc 1 hi cs → Apart cs ds → Turning W cs ds W head s hi
+turn-start cs ds c d i a =
+    record { left = cs; back = ds; lo = 1; ahead = c; turned = d; whole = refl; inc = i; apart = a; same = λ j o. refl; links = λ j o. o; long = refl }
+
+-- the slot that a turn links
+pub turn-slot : {W cs ds Z : List ℕ} {head s hi : ℕ} → Turning W cs ds Z head s hi → s ≢ 0 → s < hi
+turn-slot {W} {cs} {ds} {Z} {head} {s} {hi} v n = go (v .lo) (v .left) (v .ahead) (v .inc)
+  where
+    go : (lo : ℕ) (left : List ℕ) → Chain Z s left → Inc lo hi left → s < hi
+    go lo [] c i = absurd (n c)
+    go lo (d ∷ left) c i = omega (arith, c .0, inc-le left (i .1))
+
+pub turn-step : {W cs ds Z : List ℕ} {head s hi : ℕ} (Z' : List ℕ) → Turning W cs ds Z head s hi → s ≢ 0 → Z' ≡ set Z (8 * s + 6) head → 8 * s + 8 ≤ length Z
+    → Turning W cs ds Z' s (wd Z (8 * s + 6)) hi
+turn-step {W} {cs} {ds} {Z} {head} {s} {hi} Z' v n e room = go (v .lo) (v .left) (v .ahead) (v .inc) (v .apart) (v .whole) (v .links)
+  where
+    go : (lo : ℕ) (left : List ℕ) → Chain Z s left → Inc lo hi left → Apart left (v .back) → onto left (v .back) ≡ onto cs ds → ((j : ℕ) → OffNext cs j → OffNext left j)
+        → Turning W cs ds Z' s (wd Z (8 * s + 6)) hi
+    go lo [] c i a w l = absurd (n c)
+    go lo (d ∷ left) c i a w l =
+        let at : s ≡ d = c .0 in
+        let links : Chain Z (wd Z (8 * s + 6)) left = subst (λ (x : ℕ). Chain Z (wd Z (8 * x + 6)) left) (sym at) (c .2) in
+        let out : Out s (v .back) = subst (λ (x : ℕ). Out x (v .back)) (sym at) (a .0) in
+        record {
+          left = left;
+          back = s ∷ v .back;
+          lo = d + 1;
+          ahead = chain-keep Z Z' (wd Z (8 * s + 6)) left (d + 1) hi (i .1) (λ x y z. set-other Z Z' (8 * s + 6) head e (8 * x + 6) (omega arith)) links;
+          turned = (refl, omega (arith, c .1), subst (λ (x : ℕ). Chain Z' x (v .back)) (sym (set-same Z Z' (8 * s + 6) head e (omega arith))) (beside-chain Z Z' s head head (v .back) e out (v .turned)));
+          whole = subst (λ (x : ℕ). onto left (x ∷ v .back) ≡ onto cs ds) (sym at) w;
+          inc = i .1;
+          apart = subst (λ (x : ℕ). Apart left (x ∷ v .back)) (sym at) (apart-more d (d + 1) hi left (v .back) (omega arith) (i .1) (a .1));
+          same = λ j o. set-other Z Z' (8 * s + 6) head e j (λ h. l j o .0 (subst (λ (x : ℕ). j ≡ 8 * x + 6) at h)) ∙ v .same j o;
+          links = λ j o. l j o .1;
+          long = set-long Z Z' (8 * s + 6) head e ∙ v .long;
+        }
+
+pub turn-done : {W cs ds Z : List ℕ} {head s hi : ℕ} → Turning W cs ds Z head s hi → s ≡ 0 → Chain Z head (onto cs ds)
+turn-done {W} {cs} {ds} {Z} {head} {s} {hi} v e = go (v .left) (v .ahead) (v .whole)
+  where
+    go : (left : List ℕ) → Chain Z s left → onto left (v .back) ≡ onto cs ds → Chain Z head (onto cs ds)
+    go [] c w = subst (λ (x : List ℕ). Chain Z head x) w (v .turned)
+    go (d ∷ left) c w = absurd (omega (arith, c .0, c .1))
+
+-- ---- `gather`
+
+pub record Gathering (W : List ℕ) (array index : ℕ) (Z : List ℕ) (head s : ℕ) : Type 0 where
+  pub at : (g : CanGather W array index) → Turning W (g .cs) (g .ds) Z head s (g .hi)
+  pub long : length Z ≡ length W
+
+pub gather-start : {W : List ℕ} {array index head s : ℕ} → head ≡ wd W (8 * array + 5) → s ≡ wd W (8 * index + 5) → Gathering W array index W head s
+gather-start {W} a b =
+    record {
+      at = λ g. turn-start (g .cs) (g .ds) (subst (λ (x : ℕ). Chain W x (g .cs)) (sym b) (g .chain)) (subst (λ (x : ℕ). Chain W x (g .ds)) (sym a) (g .gathered)) (g .inc) (g .apart);
+      long = refl;
+    }
+
+module _ {W : List ℕ} {array index : ℕ} {Z : List ℕ} {head s : ℕ} (v : Gathering W array index Z head s) where
+  pub gather-in : CanGather W array index → s ≢ 0 → 8 * s + 8 ≤ length Z
+  gather-in g n = omega (arith, turn-slot (v .at g) n, g .within, v .long)
+
+  pub gather-step : (Z' : List ℕ) (next : ℕ) → CanGather W array index → s ≢ 0 → Z' ≡ set Z (8 * s + 6) head → next ≡ wd Z (8 * s + 6) → Gathering W array index Z' s next
+  gather-step Z' next g0 n e is =
+      record {
+        at = λ g. subst (λ (x : ℕ). Turning W (g .cs) (g .ds) Z' s x (g .hi)) (sym is) (turn-step Z' (v .at g) n e (gather-in g n));
+        long = set-long Z Z' (8 * s + 6) head e ∙ v .long;
+      }
+
+  pub gather-done : (Z' : List ℕ) → s ≡ 0 → Z' ≡ set Z (8 * array + 5) head → Gathered W array index Z'
+  gather-done Z' n e =
+      record {
+        linked = λ g.
+            subst (λ (x : ℕ). Chain Z' x (onto (g .cs) (g .ds))) (sym (set-same Z Z' (8 * array + 5) head e (omega (arith, g .own, g .within, v .long))))
+            (first-chain Z Z' array head head (onto (g .cs) (g .ds)) e (turn-done (v .at g) n));
+        same = λ g j a o. set-other Z Z' (8 * array + 5) head e j a ∙ v .at g .same j o;
+        long = set-long Z Z' (8 * array + 5) head e ∙ v .long;
+      }
+
+-- what is left of a chain that rises below n: nothing at its end
+unfoldable pub toTurn : ℕ → ℕ → ℕ
+toTurn n s = elim (eqb s 0) [ true ↦ 0 | false ↦ n - s ]
+
+turn-ended : (n s : ℕ) → s ≡ 0 → toTurn n s ≡ 0
+unfolding toTurn
+turn-ended n s e = rw (eq-eqb s 0 e, toTurn) refl
+
+turn-left : (n s : ℕ) → s ≢ 0 → toTurn n s ≡ n - s
+unfolding toTurn
+turn-left n s e = rw (ne-eqb s 0 e, toTurn) refl
+
+falls : (n hi s next : ℕ) → s ≢ 0 → s < hi → 8 * hi ≤ n → (next ≡ 0) ⊎ (s < next) → toTurn n next < toTurn n s
+falls n hi s next e h w (inl z) = omega (arith, turn-ended n next z, turn-left n s e)
+falls n hi s next e h w (inr z) = omega (arith, turn-left n next (omega arith), turn-left n s e)
+
+pub gather-falls : {W : List ℕ} {array index : ℕ} {Z : List ℕ} {head s : ℕ} (next : ℕ) → Gathering W array index Z head s → CanGather W array index → s ≢ 0 → next ≡ wd Z (8 * s + 6)
+    → toTurn (length W) next < toTurn (length W) s
+gather-falls {W} {Z = Z} {head = head} {s = s} next v g n e =
+    let t = v .at g in
+    falls (length W) (g .hi) s next n (turn-slot t n) (g .within) (go (t .lo) (t .left) (t .ahead) (t .inc))
+  where
+    after-it : (d : ℕ) (left : List ℕ) → next ≡ wd Z (8 * s + 6) → s ≡ d → Chain Z (wd Z (8 * d + 6)) left → Inc (d + 1) (g .hi) left → (next ≡ 0) ⊎ (s < next)
+    after-it d [] e' at c i = inl (e' ∙ ap (λ (x : ℕ). wd Z (8 * x + 6)) at ∙ c)
+    after-it d (f ∷ left) e' at c i = let same : next ≡ f = e' ∙ ap (λ (x : ℕ). wd Z (8 * x + 6)) at ∙ c .0 in inr (omega (arith, i .0))
+
+    go : (lo : ℕ) (left : List ℕ) → Chain Z s left → Inc lo (g .hi) left → (next ≡ 0) ⊎ (s < next)
+    go lo [] c i = absurd (n c)
+    go lo (d ∷ left) c i = after-it d left e (c .0) (c .2) (i .1)

@@ -1,0 +1,343 @@
+-- The conditional pass before its fold: an item goes to the gathered ones as it is, or is entered; a list without a `?` and a `:` is left as it is. The
+-- loop of `step`.
+use Prim.Native.Nat.{ℕ, zero, suc, _+_, _*_, _-_, _^_, _≤_, _<_}
+use mathlib.Core.Path.{_≡_, refl, sym, ap, _∙_, subst}
+use mathlib.Core.Logic.{_≢_, _⊎_, inl, inr, ⊎-elim}
+use mathlib.Core.Bool.{Bool, true, false, true≢false}
+use mathlib.Core.List.{List, [], _∷_}
+use native.Mathlib.Omega.{arith}
+use native.Mathlib.Nat.{le-refl}
+use lib.ListN.{length}
+use Rattle.molang.specs.Operator
+use Rattle.molang.specs.Operator.{any, isOneOf, isQueryOrLoop, isMathCall}
+use Rattle.molang.specs.Order.{someBelow}
+use Rattle.molang.specs.Forest.{Token, Forest, nil, node, inOrder, count, size}
+use Rattle.molang.specs.Message.{Result, ok, fail}
+use Rattle.molang.specs.Level.{walk, through}
+use Rattle.molang.specs.Conditional.{conditionalStep, conditionalFinish, conditionalLevel}
+use Rattle.molang.proofs.Trees.{free, clear, isNil, free-leaf, free-tree, decided, leaf-clear}
+use Rattle.molang.proofs.Conditional.{isTernary, conditional-free, conditional-inert}
+use Rattle.molang.proofs.Work.{Kind, State, ternary, work, begins, inReading, takes, andThen}
+use Rattle.ops.specs.Classes.{passClasses, ownClasses, inClass, bitAt, meets, shares}
+use Rattle.ops.proofs.ClassLaws.{stands-for}
+use Rattle.nodes.specs.Store.{wd, RepT, InArray}
+use Rattle.nodes.specs.Slots.{isLeafAt}
+use Rattle.nodes.specs.declared.frames.List.{List as Items}
+use Rattle.nodes.proofs.Store.{tree-below, back-le, back-raise, back-count, rep-le}
+use Rattle.nodes.proofs.Trees.{leaf-test}
+use Rattle.walks.specs.Passes.{walkOf, movedTo, Exact, Runs, tern, waits}
+use Rattle.walks.specs.Items.{BackArray, Ahead}
+use Rattle.walks.specs.Sides.{tokensIn, TernarySide, all, Sides, Holds}
+use Rattle.walks.specs.Turns.{SameList, Within, CanTurn, turnsLeft, afresh}
+use Rattle.walks.specs.declared.turns.Pass.the-variants.{Ternary}
+use Rattle.walks.specs.declared.turns.Turn.{Turn}
+use Rattle.walks.specs.declared.turns.Turn.the-variants.{Enter, Over}
+use Rattle.walks.proofs.Reading.{AheadTo, item, ahead-item, ahead-end, ahead-le, array-put, tree-free, tree-unfree, unfree-leaf}
+use Rattle.walks.specs.Turns.{TurnTo, enters, ends, Turned}
+
+-- ---- one item
+
+leaf-gathers : (k : Token) (d rest : Forest) → walk conditionalLevel d (node k nil rest) ≡ walk conditionalLevel (node k nil d) rest
+unfolding walk conditionalLevel conditionalStep
+leaf-gathers k d rest = refl
+
+children-first : (k : Token) (d rest : Forest) (u : Result)
+    → elim u [ fail m ↦ fail m | ok kids ↦ walk conditionalLevel (node k kids d) rest ] ≡ andThen u (λ kids. walk conditionalLevel (node k kids d) rest)
+unfolding andThen
+children-first k d rest (ok f) = refl
+children-first k d rest (fail m) = refl
+
+tree-enters : (k c : Token) (cs r d rest : Forest)
+    → walk conditionalLevel d (node k (node c cs r) rest) ≡ andThen (walk conditionalLevel nil (node c cs r)) (λ kids. walk conditionalLevel (node k kids d) rest)
+unfolding walk conditionalLevel conditionalStep
+tree-enters k c cs r d rest = children-first k d rest (walk conditionalLevel nil (node c cs r))
+
+tree-gathers : (k c : Token) (cs r d rest : Forest) → free isTernary (node c cs r) ≡ true → walk conditionalLevel d (node k (node c cs r) rest) ≡ walk conditionalLevel (node k (node c cs r) d) rest
+unfolding through conditionalLevel andThen
+tree-gathers k c cs r d rest h =
+    tree-enters k c cs r d rest ∙ ap (λ (u : Result). andThen u (λ kids. walk conditionalLevel (node k kids d) rest)) (conditional-free (node c cs r) h)
+
+-- ---- how many tokens there are
+
+tokens-leaf : (k : Token) (d : Forest) → isTernary (k .op) ≡ true → tokensIn isTernary (node k nil d) ≡ tokensIn isTernary d + 1
+unfolding tokensIn
+tokens-leaf k d h = rw (h, tokensIn) (omega arith)
+
+tokens-free : (k : Token) (cs d : Forest) → free isTernary (node k cs nil) ≡ true → tokensIn isTernary (node k cs d) ≡ tokensIn isTernary d
+unfolding tokensIn
+tokens-free k nil d h = rw (free-leaf isTernary k nil h .0, tokensIn) refl
+tokens-free k (node c cs r) d h = refl
+
+tokens-few : (P : ℕ → Bool) (d : Forest) → tokensIn P d ≤ count d
+unfolding tokensIn count
+tokens-few P nil = omega arith
+tokens-few P (node k nil d) = decided (λ n. n ≤ suc (count d)) (P (k .op)) (1 + tokensIn P d) (tokensIn P d) (λ e. omega (arith, tokens-few P d)) (λ e. omega (arith, tokens-few P d))
+tokens-few P (node k (node c cs r) d) = omega (arith, tokens-few P d)
+
+-- none: the list is left as it is
+pub tokens-clear : (P : ℕ → Bool) (d : Forest) → tokensIn P d ≡ 0 → clear P d ≡ true
+unfolding tokensIn clear
+tokens-clear P nil h = refl
+tokens-clear P (node k nil d) h = go (P (k .op)) refl (λ e. tokens-clear P d e)
+  where
+    go : (b : Bool) → P (k .op) ≡ b → (tokensIn P d ≡ 0 → clear P d ≡ true) → clear P (node k nil d) ≡ true
+    go true e c = absurd (omega (arith, rw (e, tokensIn) at h))
+    go false e c = leaf-clear P k d e (c (rw (e, tokensIn) at h))
+tokens-clear P (node k (node c cs r) d) h = tokens-clear P d h
+
+-- (the idle states of the level are its lists)
+idle-list : (d : Forest) → conditional-inert .idle d ≡ d
+unfolding clear conditionalLevel
+idle-list nil = sym (conditional-inert .begins nil refl)
+idle-list (node k cs d) = sym (conditional-inert .takesBack d k cs) ∙ ap (node k cs) (idle-list d)
+
+pub nothing-folds : (d : Forest) → tokensIn isTernary d ≡ 0 → work ternary d nil ≡ ok (inOrder d)
+unfolding work walk conditionalLevel
+nothing-folds d h = subst (λ (x : Forest). conditionalFinish x ≡ ok (inOrder d)) (idle-list d) (conditional-inert .ends d (tokens-clear isTernary d h))
+
+-- ---- the classes
+
+pub ternary-exact : Exact 0x1_0000 isTernary
+unfolding isTernary meets someBelow bitAt inClass passClasses ownClasses isOneOf any isQueryOrLoop isMathCall
+ternary-exact = stands-for 0x1_0000 isTernary tt
+
+pub ternary-test : {w u : ℕ} {t : Bool} → u ≡ w → t ≡ shares u 0x1_0000 → shares w 0x1_0000 ≡ t
+ternary-test e h = ap (λ (x : ℕ). shares x 0x1_0000) (sym e) ∙ sym h
+
+-- ---- the list
+
+-- The gathered items d in the slots from lo to l, the unread ones in those from m to hi; `tokens` of the gathered ones are `?` or `:`.
+pub record LeftList (W X : List ℕ) (lo l m hi : ℕ) (v : Items) (tokens : ℕ) (d rest : Forest) : Type 0 where
+  pub counted : tokens ≡ tokensIn isTernary d
+  pub done : BackArray W X (v .base) (v .write) lo l d
+  pub unread : Ahead W X (v .base) (v .read) (v .len) m hi rest
+  pub mid : l ≤ m
+  pub below : 8 * hi ≤ v .base
+  pub within : v .base + v .len ≤ length W
+  pub small : length W < 2 ^ 32
+
+left-sides : {W X : List ℕ} {lo l m hi tokens : ℕ} {v : Items} {d rest : Forest} → LeftList W X lo l m hi v tokens d rest
+    → Sides ternary W X lo l m hi (walkOf v (Ternary tokens)) d rest
+left-sides r =
+    record {
+      runs = tern;
+      done = all (r .counted) (r .done);
+      unread = r .unread;
+      agrees = tt;
+      low = back-le (r .done .rep);
+      mid = r .mid;
+      high = ahead-le (r .unread) .0;
+      below = r .below;
+      within = r .within;
+    }
+
+of-count : {W X : List ℕ} {base write lo l tokens : ℕ} {s : Forest} → TernarySide W X base write lo l (Ternary tokens) s → (tokens ≡ tokensIn isTernary s) × BackArray W X base write lo l s
+of-count (all e v) = (e, v)
+
+-- A list that the pass holds is one of the conditional pass.
+pub of-ternary : {W X : List ℕ} {lo l m hi tokens : ℕ} {v : Items} {rest : Forest} {κ : Kind} → Runs κ (Ternary tokens) → (s : State κ)
+    → Sides κ W X lo l m hi (walkOf v (Ternary tokens)) s rest → length W < 2 ^ 32
+    → (Q : (κ : Kind) → State κ → Type 0) → ((d : Forest) → LeftList W X lo l m hi v tokens d rest → Q ternary d) → Q κ s
+of-ternary tern s sides small Q f =
+    let side = of-count (sides .done) in
+    f s (record { counted = side .0; done = side .1; unread = sides .unread; mid = sides .mid; below = sides .below; within = sides .within; small = small })
+
+-- ---- the loop of `step`
+
+pub record CanGather (W : List ℕ) (v : Items) (tokens : ℕ) : Type 0 where
+  pub X : List ℕ
+  pub lo : ℕ
+  pub l : ℕ
+  pub m : ℕ
+  pub hi : ℕ
+  pub d : Forest
+  pub rest : Forest
+  pub list : LeftList W X lo l m hi v tokens d rest
+  pub together : v .write ≡ v .read
+
+pub can-gather : {W : List ℕ} {v : Items} {tokens : ℕ} → CanTurn W (walkOf v (Ternary tokens)) → CanGather W v tokens
+can-gather {W} {v} {tokens} g =
+    of-ternary (g .holds .sides .runs) (g .s) (g .holds .sides) (g .small) (λ κ s. CanGather W v tokens)
+    (λ d list. record { X = g .X; lo = g .lo; l = g .holds .l; m = g .holds .m; hi = g .hi; d = d; rest = g .rest; list = list; together = g .holds .turning })
+
+pub record GatherAt (W : List ℕ) (v : Items) (tokens : ℕ) (g : CanGather W v tokens) (read seen : ℕ) : Type 0 where
+  pub l : ℕ
+  pub m : ℕ
+  pub d : Forest
+  pub rest : Forest
+  pub list : LeftList W (g .X) (g .lo) l m (g .hi) (movedTo v read read) seen d rest
+  pub same : walk conditionalLevel (g .d) (g .rest) ≡ walk conditionalLevel d rest
+  pub fewer : count rest ≤ count (g .rest)
+  pub smaller : size rest + count (g .rest) ≤ size (g .rest) + count rest
+
+pub record Gathering (W : List ℕ) (v : Items) (tokens read seen : ℕ) : Type 0 where
+  pub at : (g : CanGather W v tokens) → GatherAt W v tokens g read seen
+  pub few : seen ≤ read
+  pub within : read ≤ v .len
+
+pub gather-start : {W : List ℕ} (v : Items) (tokens : ℕ) → CanGather W v tokens → Gathering W v tokens (v .read) tokens
+gather-start {W} v tokens h =
+    record {
+      at = λ g.
+          record {
+            l = g .l;
+            m = g .m;
+            d = g .d;
+            rest = g .rest;
+            list = record {
+              counted = g .list .counted;
+              done = subst (λ (i : ℕ). BackArray W (g .X) (v .base) i (g .lo) (g .l) (g .d)) (g .together) (g .list .done);
+              unread = g .list .unread;
+              mid = g .list .mid;
+              below = g .list .below;
+              within = g .list .within;
+              small = g .list .small;
+            };
+            same = refl;
+            fewer = omega arith;
+            smaller = omega arith;
+          };
+      few = omega (arith, h .list .counted, tokens-few isTernary (h .d), back-count (h .list .done .rep), h .list .done .count, h .together);
+      within = ahead-le (h .list .unread) .1;
+    }
+
+enter-item : {W : List ℕ} {v : Items} {tokens : ℕ} {g : CanGather W v tokens} {read seen a m b : ℕ} (s : GatherAt W v tokens g read seen) (k : Token) (cs rest : Forest) → isNil cs ≡ false
+    → s .m ≤ a → RepT W (g .X) b a m k cs → Ahead W (g .X) (v .base) (read + 1) (v .len) m (g .hi) rest
+    → walk conditionalLevel (g .d) (g .rest) ≡ walk conditionalLevel (s .d) (node k cs rest)
+    → count (node k cs rest) ≤ count (g .rest) → size (node k cs rest) + count (g .rest) ≤ size (g .rest) + count (node k cs rest)
+    → TurnTo ternary W (g .X) (g .lo) (g .hi) (walkOf v (Ternary tokens)) (g .d) (g .rest) (Enter (walkOf (movedTo v (read + 1) read) (Ternary seen)) b)
+unfolding work waits begins inReading takes conditionalLevel count size isNil
+enter-item s k nil rest n low t r e c z = absurd (true≢false n)
+enter-item {W} {v} {tokens} {g} {read} {seen} {a} {m} {b} s k (node x xs y) rest n low t r e c z =
+    let mid = s .list .mid in
+    let high = tree-below t in
+    let own = t .low in
+    enters (record { owner = refl; base = refl; len = refl; classes = refl })
+    (record {
+      sides = left-sides
+          (record { counted = s .list .counted; done = s .list .done; unread = r; mid = omega arith; below = s .list .below; within = s .list .within; small = s .list .small });
+      framed = refl;
+    })
+    t refl (afresh refl (omega arith)) (e ∙ tree-enters k x xs y (s .d) rest) (omega arith) (omega arith) (omega arith) (omega arith)
+
+module _ {W : List ℕ} {v : Items} {tokens : ℕ} {g : CanGather W v tokens} {read seen : ℕ} (s : GatherAt W v tokens g read seen) (h : read < v .len) where
+  gather-slot : 8 * wd W (v .base + read) + 8 ≤ v .base
+  gather-slot = go (ahead-item (wd W (v .base + read)) refl h (s .list .unread))
+    where
+      go : {f : Forest} → AheadTo W (g .X) (v .base) read (v .len) (s .m) (g .hi) (wd W (v .base + read)) f → 8 * wd W (v .base + read) + 8 ≤ v .base
+      go (item low t r) = omega (arith, tree-below t, ahead-le r .0, s .list .below)
+
+  -- an item that is gathered as it is
+  gather-item : {a m : ℕ} (k : Token) (cs rest : Forest) (seen' : ℕ) → s .m ≤ a → RepT W (g .X) (wd W (v .base + read)) a m k cs → Ahead W (g .X) (v .base) (read + 1) (v .len) m (g .hi) rest
+      → walk conditionalLevel (g .d) (g .rest) ≡ walk conditionalLevel (s .d) (node k cs rest) → count (node k cs rest) ≤ count (g .rest)
+      → size (node k cs rest) + count (g .rest) ≤ size (g .rest) + count (node k cs rest)
+      → walk conditionalLevel (s .d) (node k cs rest) ≡ walk conditionalLevel (node k cs (s .d)) rest → seen' ≡ tokensIn isTernary (node k cs (s .d))
+      → GatherAt W v tokens g (read + 1) seen'
+  unfolding count size
+  gather-item {a} {m} k cs rest seen' low t r e f z w n =
+      record {
+        l = m;
+        m = m;
+        d = node k cs (s .d);
+        rest = rest;
+        list = record {
+          counted = n;
+          done = array-put W W (s .list .done) t (omega (arith, s .list .mid)) (le-refl m) (λ x o y u q j. refl) (λ j y u. refl) refl;
+          unread = r;
+          mid = le-refl m;
+          below = s .list .below;
+          within = s .list .within;
+          small = s .list .small;
+        };
+        same = e ∙ w;
+        fewer = omega arith;
+        smaller = omega arith;
+      }
+
+  gather-free : shares (wd W (8 * wd W (v .base + read) + 7)) 0x1_0000 ≡ false → GatherAt W v tokens g (read + 1) seen
+  gather-free f = go (s .same) (s .fewer) (s .smaller) (ahead-item (wd W (v .base + read)) refl h (s .list .unread))
+    where
+      stays : (k : Token) (cs d rest : Forest) → free isTernary (node k cs nil) ≡ true → walk conditionalLevel d (node k cs rest) ≡ walk conditionalLevel (node k cs d) rest
+      stays k nil d rest e = leaf-gathers k d rest
+      stays k (node c cs r) d rest e = tree-gathers k c cs r d rest (free-tree isTernary k c cs r nil e .0)
+
+      go : {rest : Forest} → walk conditionalLevel (g .d) (g .rest) ≡ walk conditionalLevel (s .d) rest → count rest ≤ count (g .rest)
+          → size rest + count (g .rest) ≤ size (g .rest) + count rest → AheadTo W (g .X) (v .base) read (v .len) (s .m) (g .hi) (wd W (v .base + read)) rest
+          → GatherAt W v tokens g (read + 1) seen
+      go e c z (item {k = k} {cs = cs} {rest = rest} low t r) =
+          let none = tree-free 0x1_0000 isTernary ternary-exact t f in
+          gather-item k cs rest seen low t r e c z (stays k cs (s .d) rest none) (s .list .counted ∙ sym (tokens-free k cs (s .d) none))
+
+  gather-token : shares (wd W (8 * wd W (v .base + read) + 7)) 0x1_0000 ≡ true → isLeafAt W (wd W (v .base + read)) ≡ true → GatherAt W v tokens g (read + 1) (seen + 1)
+  unfolding isNil
+  gather-token f leafy = go (s .same) (s .fewer) (s .smaller) (ahead-item (wd W (v .base + read)) refl h (s .list .unread))
+    where
+      at : {a m : ℕ} (k : Token) (cs rest : Forest) → isNil cs ≡ true → walk conditionalLevel (g .d) (g .rest) ≡ walk conditionalLevel (s .d) (node k cs rest)
+          → count (node k cs rest) ≤ count (g .rest) → size (node k cs rest) + count (g .rest) ≤ size (g .rest) + count (node k cs rest)
+          → s .m ≤ a → RepT W (g .X) (wd W (v .base + read)) a m k cs → Ahead W (g .X) (v .base) (read + 1) (v .len) m (g .hi) rest
+          → GatherAt W v tokens g (read + 1) (seen + 1)
+      at k nil rest n e c z low t r =
+          let passes = unfree-leaf isTernary k (tree-unfree 0x1_0000 isTernary ternary-exact t f) in
+          gather-item k nil rest (seen + 1) low t r e c z (leaf-gathers k (s .d) rest) (ap (λ (x : ℕ). x + 1) (s .list .counted) ∙ sym (tokens-leaf k (s .d) passes))
+      at k (node x xs y) rest n e c z low t r = absurd (true≢false (sym n))
+
+      go : {rest : Forest} → walk conditionalLevel (g .d) (g .rest) ≡ walk conditionalLevel (s .d) rest → count rest ≤ count (g .rest)
+          → size rest + count (g .rest) ≤ size (g .rest) + count rest → AheadTo W (g .X) (v .base) read (v .len) (s .m) (g .hi) (wd W (v .base + read)) rest
+          → GatherAt W v tokens g (read + 1) (seen + 1)
+      go e c z (item {k = k} {cs = cs} {rest = rest} low t r) = at k cs rest (sym (leaf-test cs t) ∙ leafy) e c z low t r
+
+  -- a node with tokens below it
+  gather-enter : isLeafAt W (wd W (v .base + read)) ≡ false
+      → TurnTo ternary W (g .X) (g .lo) (g .hi) (walkOf v (Ternary tokens)) (g .d) (g .rest) (Enter (walkOf (movedTo v (read + 1) read) (Ternary seen)) (wd W (v .base + read)))
+  gather-enter leafy = go (s .same) (s .fewer) (s .smaller) (ahead-item (wd W (v .base + read)) refl h (s .list .unread))
+    where
+      go : {rest : Forest} → walk conditionalLevel (g .d) (g .rest) ≡ walk conditionalLevel (s .d) rest → count rest ≤ count (g .rest)
+          → size rest + count (g .rest) ≤ size (g .rest) + count rest → AheadTo W (g .X) (v .base) read (v .len) (s .m) (g .hi) (wd W (v .base + read)) rest
+          → TurnTo ternary W (g .X) (g .lo) (g .hi) (walkOf v (Ternary tokens)) (g .d) (g .rest) (Enter (walkOf (movedTo v (read + 1) read) (Ternary seen)) (wd W (v .base + read)))
+      go e c z (item {k = k} {cs = cs} {rest = rest} low t r) = enter-item s k cs rest (sym (leaf-test cs t) ∙ leafy) low t r e c z
+
+-- at the end
+gather-over : {W : List ℕ} {v : Items} {tokens : ℕ} {g : CanGather W v tokens} {read seen : ℕ} → GatherAt W v tokens g read seen → v .len ≤ read
+    → TurnTo ternary W (g .X) (g .lo) (g .hi) (walkOf v (Ternary tokens)) (g .d) (g .rest) (Over (walkOf (movedTo v read read) (Ternary seen)))
+unfolding work waits
+gather-over {W} {v} {tokens} {g} {read} {seen} s h =
+    let over = ahead-end (s .rest) h (s .list .unread) in
+    let list = subst (λ (f : Forest). LeftList W (g .X) (g .lo) (s .l) (s .m) (g .hi) (movedTo v read read) seen (s .d) f) over (s .list) in
+    ends (record { owner = refl; base = refl; len = refl; classes = refl }) (record { l = s .l; m = s .m; sides = left-sides list; turning = refl }) refl
+    (s .same ∙ ap (λ (f : Forest). walk conditionalLevel (s .d) f) over)
+
+module _ {W : List ℕ} {v : Items} {tokens read seen : ℕ} (s : Gathering W v tokens read seen) where
+  pub gather-in : CanGather W v tokens → read < v .len → (v .base + read < length W) × (8 * wd W (v .base + read) + 8 ≤ length W) × (length W < 2 ^ 32)
+  gather-in g h =
+      let slot = gather-slot (s .at g) h in
+      let within = g .list .within in
+      let small = g .list .small in
+      (omega arith, omega arith, small)
+
+  pub gather-passes : read < v .len → shares (wd W (8 * wd W (v .base + read) + 7)) 0x1_0000 ≡ false → Gathering W v tokens (read + 1) seen
+  gather-passes h f = let few = s .few in record { at = λ g. gather-free (s .at g) h f; few = omega arith; within = omega arith }
+
+  pub gather-counts : read < v .len → shares (wd W (8 * wd W (v .base + read) + 7)) 0x1_0000 ≡ true → isLeafAt W (wd W (v .base + read)) ≡ true → Gathering W v tokens (read + 1) (seen + 1)
+  gather-counts h f leafy = let few = s .few in record { at = λ g. gather-token (s .at g) h f leafy; few = omega arith; within = omega arith }
+
+-- ---- what `step` ensures
+
+turned-by : {W : List ℕ} {v : Items} {tokens : ℕ} {t : Turn}
+    → ((g : CanGather W v tokens) → TurnTo ternary W (g .X) (g .lo) (g .hi) (walkOf v (Ternary tokens)) (g .d) (g .rest) t) → Turned W (walkOf v (Ternary tokens)) t W
+turned-by {W} {v} {tokens} {t} f =
+    record {
+      to = λ g.
+          of-ternary (g .holds .sides .runs) (g .s) (g .holds .sides) (g .small) (λ κ s. TurnTo κ W (g .X) (g .lo) (g .hi) (walkOf v (Ternary tokens)) s (g .rest) t)
+          (λ d list. f (record { X = g .X; lo = g .lo; l = g .holds .l; m = g .holds .m; hi = g .hi; d = d; rest = g .rest; list = list; together = g .holds .turning }));
+      within = λ g. record { kept = λ j h o. refl; long = refl };
+    }
+
+module _ {W : List ℕ} {v : Items} {tokens read seen : ℕ} {t : Turn} (s : Gathering W v tokens read seen) where
+  pub step-enter : read < v .len → isLeafAt W (wd W (v .base + read)) ≡ false → (v' : Items) → v' ≡ movedTo v (read + 1) (read + 1 - 1)
+      → t ≡ Enter (walkOf v' (Ternary seen)) (wd W (v .base + read)) → Turned W (walkOf v (Ternary tokens)) t W
+  step-enter h leafy v' ev et =
+      let back : read + 1 - 1 ≡ read = omega arith in
+      rw (et, ev, back) (turned-by (λ g. gather-enter (s .at g) h leafy))
+
+  pub step-over : v .len ≤ read → (v' : Items) → v' ≡ movedTo v read read → t ≡ Over (walkOf v' (Ternary seen)) → Turned W (walkOf v (Ternary tokens)) t W
+  step-over h v' ev et = rw (et, ev) (turned-by (λ g. gather-over (s .at g) h))

@@ -1,0 +1,512 @@
+-- The statement pass as laws: which semicolons a list has, what the trees between them change, and what a finished statement's words say of trees.
+use Prim.Native.Nat.{ℕ, zero, suc, _+_, _*_, _^_, _≤_, _<_}
+use mathlib.Core.Path.{_≡_, refl, sym, ap, _∙_, subst}
+use mathlib.Core.Logic.{_≢_, _⊎_, inl, inr, ⊎-elim}
+use mathlib.Core.Bool.{Bool, true, false, not, true≢false}
+use mathlib.Core.List.{List, [], _∷_}
+use mathlib.Core.Option.{none, some}
+use native.Mathlib.Omega.{arith}
+use native.Mathlib.Nat.{le-refl}
+use lib.Dec.{eqb}
+use lib.ListN.{length, set}
+use Rattle.molang.specs.Operator.{semicolon, isOneOf, any}
+use Rattle.molang.specs.Forest.{Token, Forest, nil, node, bare, inOrder, turnedOnto, count, size}
+use Rattle.molang.specs.Message.{Message, Result, ok, fail}
+use Rattle.molang.specs.Level.{on, into, stop, walk, through}
+use Rattle.molang.specs.Conditional.{isToken}
+use Rattle.molang.specs.Order.{lastOf, someBelow}
+use Rattle.molang.specs.Statements.{Split, unsplit, after, inside, splitOf, isEntered, gather, endStatement, enterSplit, statementStep, statementResume, statementFinish, statementLevel}
+use Rattle.molang.proofs.Trees.{free, clear, isNil, some-none, free-leaf, free-tree, clear-leaf}
+use Rattle.molang.proofs.Statements.{isSemicolon, statement-free}
+use Rattle.molang.proofs.Work.{Kind, statements, State, work, begins, inReading, takes, andThen}
+use Rattle.molang.proofs.Walks.{onward, back, walk-onward}
+use Rattle.ops.proofs.ClassLaws.{stands-for}
+use Rattle.ops.specs.Classes.{meets, bitAt, inClass, passClasses}
+use Rattle.nodes.specs.Store.{wd, RepT, InArray}
+use Rattle.nodes.specs.Store.{begins as begins-with}
+use Rattle.nodes.specs.Slots.{isTokenAt}
+use Rattle.nodes.specs.declared.frames.List.{List as Items}
+use Rattle.nodes.proofs.Runs.{inc-le, seg-keep, set-same, set-other, set-long}
+use Rattle.nodes.proofs.Store.{tree-below, back-le, back-raise}
+use Rattle.nodes.proofs.Trees.{token-test}
+use Rattle.walks.specs.Passes.{walkOf, movedTo, classesOf, Exact, Runs, plain, split, waits}
+use Rattle.walks.specs.Items.{BackArray, Ahead, CanSeek, Passed, here, over, Seen, SoughtTo, none as found-none, leaf, tree, Sought}
+use Rattle.walks.specs.Sides.{StatementSide, whole, closed, current, EndedAt, OpenAt, Ended, nothing, statement, DoneSide, UnreadSide, Holds, Waits}
+use Rattle.nodes.specs.Store.{Seg, Inc}
+use Rattle.nodes.specs.Slots.{Laid}
+use Rattle.nodes.specs.Children.{CanGive, Given}
+use Rattle.walks.specs.Turns.{SameList, Within, CanTurn, TurnTo, goes, enters, ends, fails, Turned, Begins, afresh, CanStart, Started}
+use Rattle.walks.specs.declared.items.Found.{Found}
+use Rattle.walks.specs.declared.items.Found.the-variants.{Nothing, Children, Token as Leaf}
+use Rattle.walks.specs.declared.turns.Pass.{Pass}
+use Rattle.walks.specs.declared.turns.Pass.the-variants.{Plain, Split as SplitAt}
+use Rattle.walks.specs.declared.turns.Walk.{Walk}
+use Rattle.walks.specs.declared.turns.Turn.{Turn}
+use Rattle.walks.specs.declared.turns.Turn.the-variants.{On, Enter, Over, Fail}
+use Rattle.passes.specs.Statements.{HasSemicolon}
+use Rattle.walks.proofs.Reading.{AheadTo, item, ahead-item, ahead-end, ahead-le, ahead-keep, array-put}
+
+-- ---- which semicolons a list has
+
+pub semicolon-class : Exact 0x2 isSemicolon
+unfolding isSemicolon meets someBelow bitAt inClass passClasses isOneOf any
+semicolon-class = stands-for 0x2 isSemicolon tt
+
+-- What holds at the test of the loop of `has_semicolon`, whatever forest the list is.
+pub record LookAt (W : List ℕ) (v : Items) (g : CanStart W v) (i : ℕ) : Type 0 where
+  pub rest : Forest
+  pub m : ℕ
+  pub ahead : Ahead W (g .X) (v .base) i (v .len) m (g .hi) rest
+  pub same : clear isSemicolon (g .f) ≡ clear isSemicolon rest
+
+pub record Looking (W : List ℕ) (v : Items) (i : ℕ) : Type 0 where
+  pub at : (g : CanStart W v) → LookAt W v g i
+  pub within : i ≤ v .len
+
+module _ {W : List ℕ} {v : Items} where
+  pub look-start : Looking W v 0
+  look-start =
+      record {
+        at = λ g. record { rest = g .f; m = g .lo; ahead = record { n = v .len; count = omega arith; array = subst (λ (x : ℕ). InArray W (g .X) x (v .len) (g .lo) (g .hi) (g .f)) (omega arith) (g .array) }; same = refl };
+        within = omega arith;
+      }
+
+  -- the item that a turn reads: its slot is below the stack
+  pub look-slot : {i : ℕ} (g : CanStart W v) → Looking W v i → i < v .len → 8 * wd W (v .base + i) + 8 ≤ v .base
+  look-slot {i} g l h = go (ahead-item (wd W (v .base + i)) refl h (l .at g .ahead))
+    where
+      go : {f : Forest} → AheadTo W (g .X) (v .base) i (v .len) (l .at g .m) (g .hi) (wd W (v .base + i)) f → 8 * wd W (v .base + i) + 8 ≤ v .base
+      go (item low t r) = omega (arith, tree-below t, ahead-le r .0, g .below)
+
+leaf-token : (k : Token) (cs rest : Forest) → isToken semicolon k cs ≡ true → clear isSemicolon (node k cs rest) ≡ false
+unfolding isToken clear isSemicolon isNil
+leaf-token k nil rest h = rw h refl
+leaf-token k (node c cs r) rest h = absurd (true≢false (sym h))
+
+other-token : (k : Token) (cs rest : Forest) → isToken semicolon k cs ≡ false → clear isSemicolon (node k cs rest) ≡ clear isSemicolon rest
+unfolding isToken clear isSemicolon isNil
+other-token k nil rest h = rw h refl
+other-token k (node c cs r) rest h = refl
+
+module _ {W : List ℕ} {v : Items} {i : ℕ} (l : Looking W v i) (h : i < v .len) where
+  pub look-found : isTokenAt W (wd W (v .base + i)) semicolon ≡ true → HasSemicolon W v true
+  look-found e = record { answer = λ g. go g (ahead-item (wd W (v .base + i)) refl h (l .at g .ahead)) (l .at g .same) }
+    where
+      go : (g : CanStart W v) {m : ℕ} {f : Forest} → AheadTo W (g .X) (v .base) i (v .len) m (g .hi) (wd W (v .base + i)) f
+          → clear isSemicolon (g .f) ≡ clear isSemicolon f → true ≡ not (clear isSemicolon (g .f))
+      go g (item {k = k} {cs = cs} {rest = rest} low t r) s = rw (s ∙ leaf-token k cs rest (sym (token-test semicolon cs t) ∙ e)) refl
+
+  pub look-next : isTokenAt W (wd W (v .base + i)) semicolon ≡ false → Looking W v (i + 1)
+  look-next e = record { at = λ g. go g (ahead-item (wd W (v .base + i)) refl h (l .at g .ahead)) (l .at g .same); within = omega arith }
+    where
+      go : (g : CanStart W v) {m : ℕ} {f : Forest} → AheadTo W (g .X) (v .base) i (v .len) m (g .hi) (wd W (v .base + i)) f
+          → clear isSemicolon (g .f) ≡ clear isSemicolon f → LookAt W v g (i + 1)
+      go g (item {m = m} {k = k} {cs = cs} {rest = rest} low t r) s =
+          record { rest = rest; m = m; ahead = r; same = s ∙ other-token k cs rest (sym (token-test semicolon cs t) ∙ e) }
+
+pub look-done : {W : List ℕ} {v : Items} {i : ℕ} → Looking W v i → v .len ≤ i → HasSemicolon W v false
+unfolding clear
+look-done l h = record { answer = λ g. let e = l .at g .same ∙ ap (clear isSemicolon) (ahead-end (l .at g .rest) h (l .at g .ahead)) in rw e refl }
+
+-- ---- the list's first semicolon
+
+pub split-none : (f : Forest) → clear isSemicolon f ≡ true → splitOf f ≡ unsplit nil
+unfolding splitOf clear isSemicolon
+split-none nil h = refl
+split-none (node k nil rest) h = let e = clear-leaf isSemicolon k rest h in rw (e .0, splitOf) (split-none rest (e .1))
+split-none (node k (node c cs r) rest) h = split-none rest h
+
+pub split-some : (f : Forest) → clear isSemicolon f ≡ false → (q : Token) × (splitOf f ≡ after q nil)
+unfolding splitOf clear isSemicolon
+split-some nil h = absurd (true≢false h)
+split-some (node k nil rest) h = go (eqb (k .op) semicolon) refl (λ e. split-some rest (rw e at h))
+  where
+    go : (b : Bool) → eqb (k .op) semicolon ≡ b → (eqb (k .op) semicolon ≡ false → (q : Token) × (splitOf rest ≡ after q nil))
+        → (q : Token) × (splitOf (node k nil rest) ≡ after q nil)
+    go true e later = (bare semicolon k, rw (e, splitOf) refl)
+    go false e later = let z = later e in (z .0, rw (e, splitOf) (z .1))
+split-some (node k (node c cs r) rest) h = split-some rest h
+
+split-past : (k : Token) (cs rest : Forest) → free isSemicolon (node k cs nil) ≡ true → splitOf (node k cs rest) ≡ splitOf rest
+unfolding splitOf isSemicolon
+split-past k nil rest h = rw (free-leaf isSemicolon k nil h .0, splitOf) refl
+split-past k (node c cs r) rest h = refl
+
+-- ---- one step of the walk
+
+pub step-leaf : (s : Split) (k : Token) → isSemicolon (k .op) ≡ false → statementStep s k nil ≡ on (gather k nil s)
+unfolding statementStep isSemicolon
+step-leaf s k h = rw (h, statementStep) refl
+
+pub step-end : (s : Split) (k : Token) → isSemicolon (k .op) ≡ true → statementStep s k nil ≡ endStatement k s
+unfolding statementStep isSemicolon
+step-end s k h = rw (h, statementStep) refl
+
+pub enter-in : (s : Split) (k : Token) (cs : Forest) → isEntered (k .op) ≡ true → enterSplit s k cs ≡ into s (splitOf cs)
+unfolding enterSplit
+enter-in s k cs h = rw (h, enterSplit) refl
+
+pub enter-over : (s : Split) (k : Token) (cs : Forest) → isEntered (k .op) ≡ false → enterSplit s k cs ≡ on (gather k cs s)
+unfolding enterSplit
+enter-over s k cs h = rw (h, enterSplit) refl
+
+module _ (s : Split) (k : Token) (cs rest : Forest) where
+  walk-step : work statements s (node k cs rest) ≡ onward statementLevel k cs rest (statementStep s k cs)
+  unfolding work statementLevel
+  walk-step = walk-onward statementLevel s k cs rest
+
+  pub walk-on : (t : Split) → statementStep s k cs ≡ on t → work statements s (node k cs rest) ≡ work statements t rest
+  unfolding onward work
+  walk-on t e = walk-step ∙ ap (onward statementLevel k cs rest) e
+
+  pub walk-stop : (m : List Message) → statementStep s k cs ≡ stop m → work statements s (node k cs rest) ≡ fail m
+  unfolding onward
+  walk-stop m e = walk-step ∙ ap (onward statementLevel k cs rest) e
+
+  back-then : (x : Result) → back statementLevel s k rest x ≡ andThen x (λ kids. work statements (takes statements s k kids) rest)
+  unfolding back andThen work takes
+  back-then (ok kids) = refl
+  back-then (fail m) = refl
+
+  pub walk-in : statementStep s k cs ≡ into s (splitOf cs)
+      → work statements s (node k cs rest) ≡ andThen (work statements (begins statements cs) (inReading statements cs)) (λ kids. work statements (takes statements s k kids) rest)
+  unfolding onward begins inReading statementLevel work
+  walk-in e = walk-step ∙ ap (onward statementLevel k cs rest) e ∙ back-then (walk statementLevel (splitOf cs) cs)
+
+  walk-skip : statementStep s k cs ≡ into s (splitOf cs) → free isSemicolon cs ≡ true → work statements s (node k cs rest) ≡ work statements (gather k cs s) rest
+  unfolding begins inReading statementLevel work through andThen takes statementResume
+  walk-skip e h = walk-in e ∙ ap (λ (x : Result). andThen x (λ kids. work statements (takes statements s k kids) rest)) (statement-free cs h)
+
+-- ---- trees without a semicolon
+
+enter-skip : (s : Split) (k : Token) (cs rest : Forest) → statementStep s k cs ≡ enterSplit s k cs → free isSemicolon cs ≡ true
+    → work statements s (node k cs rest) ≡ work statements (gather k cs s) rest
+enter-skip s k cs rest e h = go (isEntered (k .op)) refl
+  where
+    go : (b : Bool) → isEntered (k .op) ≡ b → work statements s (node k cs rest) ≡ work statements (gather k cs s) rest
+    go true i = walk-skip s k cs rest (e ∙ enter-in s k cs i) h
+    go false i = walk-on s k cs rest (gather k cs s) (e ∙ enter-over s k cs i)
+
+-- a tree without a semicolon is gathered, whatever the state
+pub walk-gather : (s : Split) (k : Token) (cs rest : Forest) → free isSemicolon (node k cs nil) ≡ true → work statements s (node k cs rest) ≡ work statements (gather k cs s) rest
+unfolding statementStep
+walk-gather s k nil rest h = walk-on s k nil rest (gather k nil s) (step-leaf s k (free-leaf isSemicolon k nil h .0))
+walk-gather (unsplit d) k (node c cs r) rest h = walk-skip (unsplit d) k (node c cs r) rest refl (free-tree isSemicolon k c cs r nil h .0)
+walk-gather (after q done) k (node c cs r) rest h = enter-skip (after q done) k (node c cs r) rest refl (free-tree isSemicolon k c cs r nil h .0)
+walk-gather (inside q done s d) k (node c cs r) rest h = enter-skip (inside q done s d) k (node c cs r) rest refl (free-tree isSemicolon k c cs r nil h .0)
+
+-- ---- a split list as its finished statements and the trees after them
+
+unfoldable pub earliest : Token → Forest → Token
+earliest k nil = k
+earliest k (node t ts d) = earliest t d
+
+-- The statement list q with the statements `done` and the trees d of the open one, the last first; with none it is not begun.
+unfoldable pub openOn : Token → Forest → Forest → Split
+openOn q done nil = after q done
+openOn q done (node k cs d) = inside q done (bare semicolon (earliest k d)) (node k cs d)
+
+pub gather-open : (q : Token) (done d : Forest) (k : Token) (cs : Forest) → gather k cs (openOn q done d) ≡ openOn q done (node k cs d)
+unfolding gather openOn earliest
+gather-open q done nil k cs = refl
+gather-open q done (node t ts d) k cs = refl
+
+pub last-earliest : (k : Token) (d : Forest) → lastOf (some k) d ≡ some (earliest k d)
+unfolding lastOf earliest
+last-earliest k nil = refl
+last-earliest k (node t ts d) = last-earliest t d
+
+-- the state of the definition, where a statement is open
+pub open-inside : (q : Token) (done : Forest) (s : Token) (d : Forest) (first : Token) → lastOf none d ≡ some first → s ≡ bare semicolon first → inside q done s d ≡ openOn q done d
+unfolding openOn lastOf
+open-inside q done s nil first e n = some-none (sym e)
+open-inside q done s (node k cs d) first e n =
+    let f : first ≡ earliest k d = cc (sym e ∙ last-earliest k d) in
+    rw (n, f) refl
+
+-- ---- what passing over trees leaves
+
+pub passed-counts : {P : ℕ → Bool} {d rest d' rest' : Forest} → Passed P d rest d' rest' → (count rest' ≤ count rest) × (size rest' + count rest ≤ size rest + count rest') × (size rest' ≤ size rest)
+unfolding count size
+passed-counts here = (omega arith, omega arith, omega arith)
+passed-counts (over f p) = let e = passed-counts p in (omega (arith, e .0), omega (arith, e .1), omega (arith, e .2))
+
+pub passed-unsplit : {d rest d' rest' : Forest} → Passed isSemicolon d rest d' rest' → work statements (unsplit d) rest ≡ work statements (unsplit d') rest'
+unfolding gather
+passed-unsplit here = refl
+passed-unsplit {d = d} (over {rest = r} {cs = cs} {k = k} f p) = walk-gather (unsplit d) k cs r f ∙ passed-unsplit p
+
+pub passed-open : {d rest d' rest' : Forest} (q : Token) (done : Forest) → Passed isSemicolon d rest d' rest' → work statements (openOn q done d) rest ≡ work statements (openOn q done d') rest'
+passed-open q done here = refl
+passed-open {d = d} q done (over {rest = r} {cs = cs} {k = k} f p) =
+    walk-gather (openOn q done d) k cs r f ∙ ap (λ (s : Split). work statements s r) (gather-open q done d k cs) ∙ passed-open q done p
+
+-- the first semicolon is still to come
+pub passed-split : {d rest d' rest' : Forest} → Passed isSemicolon d rest d' rest' → splitOf rest ≡ splitOf rest'
+passed-split here = refl
+passed-split (over {rest = r} {cs = cs} {k = k} f p) = split-past k cs r f ∙ passed-split p
+
+-- ---- a list begins
+
+not-on : (b : Bool) → true ≡ not b → b ≡ false
+not-on true e = absurd (true≢false e)
+not-on false e = refl
+
+not-off : (b : Bool) → false ≡ not b → b ≡ true
+not-off true e = refl
+not-off false e = absurd (true≢false (sym e))
+
+plain-holds : {W X : List ℕ} {lo hi m m' : ℕ} {l : Items} {d rest : Forest} → BackArray W X (l .base) (l .write) lo m d → Ahead W X (l .base) (l .read) (l .len) m' hi rest → m ≤ m'
+    → l .write ≤ l .read → 8 * hi ≤ l .base → l .base + l .len ≤ length W → Holds statements W X lo hi (walkOf l Plain) (unsplit d) rest
+plain-holds {m = m} {m' = m'} b u e t below within =
+    record { l = m; m = m'; sides = record { runs = plain; done = whole b; unread = u; agrees = tt; low = back-le (b .rep); mid = e; high = ahead-le u .0; below = below; within = within }; turning = t }
+
+module _ {W : List ℕ} {v : Items} where
+  start-ahead : (g : CanStart W v) → Ahead W (g .X) (v .base) (v .read) (v .len) (g .lo) (g .hi) (g .f)
+  start-ahead g =
+      record {
+        n = v .len;
+        count = omega (arith, g .unread);
+        array = subst (λ (x : ℕ). InArray W (g .X) x (v .len) (g .lo) (g .hi) (g .f)) (omega (arith, g .unread)) (g .array);
+      }
+
+  start-none : (g : CanStart W v) → BackArray W (g .X) (v .base) (v .write) (g .lo) (g .lo) nil
+  start-none g = record { ds = []; seg = tt; count = g .unwritten; rep = begins-with (le-refl (g .lo)) }
+
+  start-split : (g : CanStart W v) (q : Token) → splitOf (g .f) ≡ after q nil → Holds statements W (g .X) (g .lo) (g .hi) (walkOf v (SplitAt 0)) (after q nil) (g .f)
+  unfolding isNil
+  start-split g q e =
+      let lo = g .lo in
+      let none : EndedAt W (g .X) (v .base) (v .write) lo lo q nil
+      = record { ds = []; seg = tt; count = g .unwritten; rep = nothing (le-refl lo); list = λ z. absurd (true≢false z) } in
+      let side : StatementSide W (g .X) (v .base) (v .write) lo lo (SplitAt 0) (after q nil)
+      = subst (λ (x : ℕ). StatementSide W (g .X) (v .base) (v .write) lo lo (SplitAt x) (after q nil)) (g .unwritten) (closed none) in
+      let ahead = start-ahead g in
+      record {
+        l = lo;
+        m = lo;
+        sides = record { runs = split; done = side; unread = ahead; agrees = e; low = le-refl lo; mid = le-refl lo; high = ahead-le ahead .0; below = g .below; within = g .within };
+        turning = omega (arith, g .unwritten);
+      }
+
+  pub started-split : HasSemicolon W v true → Started W v (walkOf v (SplitAt 0))
+  unfolding begins statementLevel
+  started-split h =
+      record {
+        list = refl;
+        holds = λ g.
+            let e = split-some (g .f) (not-on (clear isSemicolon (g .f)) (h .answer g)) in
+            subst (λ (s : Split). Holds statements W (g .X) (g .lo) (g .hi) (walkOf v (SplitAt 0)) s (g .f)) (sym (e .1)) (start-split g (e .0) (e .1));
+      }
+
+  pub started-plain : HasSemicolon W v false → Started W v (walkOf v Plain)
+  unfolding begins statementLevel
+  started-plain h =
+      record {
+        list = refl;
+        holds = λ g.
+            let e = split-none (g .f) (not-off (clear isSemicolon (g .f)) (h .answer g)) in
+            subst (λ (s : Split). Holds statements W (g .X) (g .lo) (g .hi) (walkOf v Plain) s (g .f)) (sym e)
+            (plain-holds (start-none g) (start-ahead g) (le-refl (g .lo)) (omega (arith, g .unwritten)) (g .below) (g .within));
+      }
+
+-- ---- a list without semicolons, at a turn
+
+-- The same items of a list read and written further.
+pub record Moved (l l' : Items) : Type 0 where
+  pub owner : l' .owner ≡ l .owner
+  pub base : l' .base ≡ l .base
+  pub len : l' .len ≡ l .len
+
+pub moved-same : {l l' : Items} → l' ≡ movedTo l (l' .read) (l' .write) → Moved l l'
+moved-same e = record { owner = ap (λ (x : Items). x .owner) e; base = ap (λ (x : Items). x .base) e; len = ap (λ (x : Items). x .len) e }
+
+back-at : {W X : List ℕ} {at n at' n' lo m : ℕ} {d : Forest} → at ≡ at' → n ≡ n' → BackArray W X at n lo m d → BackArray W X at' n' lo m d
+back-at {W} {X} {at} {n} {at'} {n'} {lo} {m} {d} e h v = subst (λ (x : ℕ). BackArray W X at' x lo m d) h (subst (λ (x : ℕ). BackArray W X x n lo m d) e v)
+
+ahead-at : {W X : List ℕ} {base base' read len len' lo hi : ℕ} {f : Forest} → base ≡ base' → len ≡ len' → Ahead W X base read len lo hi f → Ahead W X base' read len' lo hi f
+ahead-at {W} {X} {base} {base'} {read} {len} {len'} {lo} {hi} {f} e h v =
+    subst (λ (x : ℕ). Ahead W X base' read x lo hi f) h (subst (λ (x : ℕ). Ahead W X x read len lo hi f) e v)
+
+pub data PlainView (W X : List ℕ) (lo hi : ℕ) (l : Items) : (κ : Kind) → State κ → Forest → Type 0 where
+  plainly : {d rest : Forest} {m m' : ℕ} → BackArray W X (l .base) (l .write) lo m d → Ahead W X (l .base) (l .read) (l .len) m' hi rest → m ≤ m'
+      → l .write ≤ l .read → 8 * hi ≤ l .base → l .base + l .len ≤ length W → PlainView W X lo hi l statements (unsplit d) rest
+
+pub plain-view : {W X : List ℕ} {lo hi : ℕ} {l : Items} {κ : Kind} {s : State κ} {rest : Forest} → Holds κ W X lo hi (walkOf l Plain) s rest → PlainView W X lo hi l κ s rest
+plain-view {W} {X} {lo} {hi} {l} h = go (h .sides .runs) (h .sides .done) (h .sides .unread) (h .sides .mid) (h .turning) (h .sides .below) (h .sides .within)
+  where
+    go : {κ : Kind} {s : State κ} {rest : Forest} {m m' : ℕ} → Runs κ Plain → DoneSide κ W X lo m m' hi (walkOf l Plain) s → UnreadSide κ W X lo m m' hi l rest → m ≤ m'
+        → l .write ≤ l .read → 8 * hi ≤ l .base → l .base + l .len ≤ length W → PlainView W X lo hi l κ s rest
+    go plain (whole b) u e t below within = plainly b u e t below within
+
+module _ {W X : List ℕ} {lo hi : ℕ} {l : Items} where
+  abbrev seek-plain : {d rest : Forest} {m m' : ℕ} → BackArray W X (l .base) (l .write) lo m d → Ahead W X (l .base) (l .read) (l .len) m' hi rest → m ≤ m'
+      → l .write ≤ l .read → 8 * hi ≤ l .base → l .base + l .len ≤ length W → length W < 2 ^ 32 → CanSeek W l
+  seek-plain {d} {rest} {m} {m'} b u e t below within small =
+      record {
+        X = X;
+        lo = lo;
+        m = m';
+        hi = hi;
+        at = l .base;
+        n = l .write;
+        d = d;
+        rest = rest;
+        done = record { ds = b .ds; seg = b .seg; count = b .count; rep = back-raise e (b .rep) };
+        reached = refl;
+        started = le-refl (l .base);
+        ahead = u;
+        behind = t;
+        below = below;
+        within = within;
+        small = small;
+      }
+
+  pub plain-seek : {κ : Kind} {s : State κ} {rest : Forest} → length W < 2 ^ 32 → PlainView W X lo hi l κ s rest → CanSeek W l
+  plain-seek small (plainly b u e t below within) = seek-plain b u e t below within small
+
+-- ---- a turn on a list without semicolons
+
+unsplit-in : (d : Forest) (k : Token) (cs : Forest) → isNil cs ≡ false → statementStep (unsplit d) k cs ≡ into (unsplit d) (splitOf cs)
+unfolding statementStep isNil
+unsplit-in d k nil e = absurd (true≢false e)
+unsplit-in d k (node c cs r) e = refl
+
+unsplit-end : (d : Forest) (k : Token) → isSemicolon (k .op) ≡ true → statementStep (unsplit d) k nil ≡ on (unsplit (node k nil d))
+unfolding endStatement
+unsplit-end d k e = step-end (unsplit d) k e
+
+pub same-list : {l l' : Items} (p p' : Pass) → classesOf p' ≡ classesOf p → Moved l l' → SameList (walkOf l p) (walkOf l' p')
+same-list p p' e m = record { owner = m .owner; base = m .base; len = m .len; classes = e }
+
+-- what reading on changes
+pub sought-within : {W W' X : List ℕ} {lo hi c : ℕ} {l : Items} {r : Found} → Sought W l c r W' → Within W W' X lo hi l
+sought-within q = record { kept = λ j f o. q .same j (⊎-elim (λ x. inl (omega arith)) (λ x. inr x) o); long = q .long }
+
+module _ {W W' X : List ℕ} {lo hi : ℕ} {l l' : Items} (small : length W < 2 ^ 32) where
+  plain-over : {κ : Kind} {s : State κ} {rest : Forest} → Sought W l 0x2 (Nothing l') W' → PlainView W X lo hi l κ s rest
+      → TurnTo κ W' X lo hi (walkOf l Plain) s rest (Over (walkOf l' Plain))
+  unfolding waits
+  plain-over q (plainly {d = d} {rest = rest} b u e t below within) = go (q .to (seek-plain b u e t below within small) isSemicolon semicolon-class)
+    where
+      go : SoughtTo W' X l (l .base) lo hi isSemicolon d rest (Nothing l') → TurnTo statements W' X lo hi (walkOf l Plain) (unsplit d) rest (Over (walkOf l' Plain))
+      go (found-none moved behind passed seen) =
+          let m : Moved l l' = moved-same moved in
+          let mb = m .base in let ml = m .len in let long = q .long in
+          ends (same-list Plain Plain refl m)
+          (plain-holds (back-at (sym mb) (omega (arith, seen .reached)) (seen .done)) (seen .ahead) (le-refl hi) behind (omega arith) (omega arith))
+          refl (passed-unsplit passed)
+
+  plain-enter : {κ : Kind} {s : State κ} {rest : Forest} {b : ℕ} → Sought W l 0x2 (Children l' b) W' → PlainView W X lo hi l κ s rest
+      → TurnTo κ W' X lo hi (walkOf l Plain) s rest (Enter (walkOf l' Plain) b)
+  unfolding waits count size
+  plain-enter {b = b} q (plainly {d = d} {rest = rest} v u e t below within) = go (q .to (seek-plain v u e t below within small) isSemicolon semicolon-class)
+    where
+      go : SoughtTo W' X l (l .base) lo hi isSemicolon d rest (Children l' b) → TurnTo statements W' X lo hi (walkOf l Plain) (unsplit d) rest (Enter (walkOf l' Plain) b)
+      go (tree {d' = d'} {rest' = rest'} {cs = cs} {a = a} {m = hm} {k = k} moved before passed full unfree t seen) =
+          let m : Moved l l' = moved-same moved in
+          let mb = m .base in let ml = m .len in let long = q .long in
+          let c = passed-counts passed in
+          enters {t = unsplit d'} {u = begins statements cs} (same-list Plain Plain refl m)
+          (record {
+            sides =
+                record {
+                  runs = plain;
+                  done = whole (back-at (sym mb) (omega (arith, seen .reached)) (seen .done));
+                  unread = seen .ahead;
+                  agrees = tt;
+                  low = back-le (seen .done .rep);
+                  mid = omega (arith, t .low, tree-below t);
+                  high = ahead-le (seen .ahead) .0;
+                  below = omega arith;
+                  within = omega arith;
+                };
+            framed = before;
+          })
+          t full (afresh refl (le-refl a)) (passed-unsplit passed ∙ walk-in (unsplit d') k cs rest' (unsplit-in d' k cs full))
+          (omega (arith, c .0)) (omega (arith, c .1)) (omega (arith, c .2)) (omega arith)
+
+  plain-on : {κ : Kind} {s : State κ} {rest : Forest} {b : ℕ} (W'' : List ℕ) → Sought W l 0x2 (Leaf l' b) W' → W'' ≡ set W' (l' .base + l' .write) b → PlainView W X lo hi l κ s rest
+      → TurnTo κ W'' X lo hi (walkOf l Plain) s rest (On (walkOf (movedTo l' (l' .read) (l' .write + 1)) Plain))
+  unfolding waits count size
+  plain-on {b = b} W'' q w (plainly {d = d} {rest = rest} v u e t below within) = go (q .to (seek-plain v u e t below within small) isSemicolon semicolon-class)
+    where
+      go : SoughtTo W' X l (l .base) lo hi isSemicolon d rest (Leaf l' b)
+          → TurnTo statements W'' X lo hi (walkOf l Plain) (unsplit d) rest (On (walkOf (movedTo l' (l' .read) (l' .write + 1)) Plain))
+      go (leaf {d' = d'} {rest' = rest'} {a = a} {m = hm} {k = k} moved before passed is t seen) =
+          let m : Moved l l' = moved-same moved in
+          let mb = m .base in let ml = m .len in let long = q .long in
+          let c = passed-counts passed in
+          let al = ahead-le (seen .ahead) in
+          let other = set-other W' W'' (l' .base + l' .write) b w in
+          let keep : BackArray W'' X (l .base) (seen .n + 1) lo hm (node k nil d')
+          = array-put W' W'' (seen .done) t (le-refl a) (le-refl hm) (λ s o x y z p. other (8 * s + o) (omega arith)) (λ j x y. other j (omega (arith, seen .reached)))
+          (ap (wd W'') (seen .reached) ∙ set-same W' W'' (l' .base + l' .write) b w (omega arith)) in
+          goes {w' = walkOf (movedTo l' (l' .read) (l' .write + 1)) Plain} {s' = unsplit (node k nil d')} (same-list Plain Plain refl (record { owner = m .owner; base = mb; len = ml }))
+          (plain-holds {l = movedTo l' (l' .read) (l' .write + 1)} (back-at (sym mb) (omega (arith, seen .reached)) keep)
+          (ahead-keep W' W'' (λ s o x y z p. other (8 * s + o) (omega arith)) (λ j x y. other j (omega arith)) (seen .ahead))
+          (le-refl hm) (omega arith) (omega arith) (omega (arith, set-long W' W'' (l' .base + l' .write) b w)))
+          (passed-unsplit passed ∙ walk-on (unsplit d') k nil rest' (unsplit (node k nil d')) (unsplit-end d' k is))
+          (omega (arith, c .0)) (omega (arith, c .1)) (omega (arith, c .2))
+
+  plain-place : {κ : Kind} {s : State κ} {rest : Forest} {b : ℕ} → Sought W l 0x2 (Leaf l' b) W' → PlainView W X lo hi l κ s rest
+      → (l .base ≤ l' .base + l' .write) × (l' .base + l' .write < l .base + l .len) × (l .base + l .len ≤ length W')
+  plain-place {b = b} q (plainly {d = d} {rest = rest} v u e t below within) = go (q .to (seek-plain v u e t below within small) isSemicolon semicolon-class)
+    where
+      go : SoughtTo W' X l (l .base) lo hi isSemicolon d rest (Leaf l' b)
+          → (l .base ≤ l' .base + l' .write) × (l' .base + l' .write < l .base + l .len) × (l .base + l .len ≤ length W')
+      go (leaf moved before passed is t seen) =
+          let m : Moved l l' = moved-same moved in
+          let mb = m .base in let ml = m .len in let long = q .long in let al = ahead-le (seen .ahead) in
+          (omega arith, omega arith, omega arith)
+
+module _ {W W' : List ℕ} {l l' : Items} where
+  pub turned-plain-over : Sought W l 0x2 (Nothing l') W' → Turned W (walkOf l Plain) (Over (walkOf l' Plain)) W'
+  turned-plain-over q = record { to = λ g. plain-over (g .small) q (plain-view (g .holds)); within = λ g. sought-within q }
+
+  pub turned-plain-enter : {b : ℕ} → Sought W l 0x2 (Children l' b) W' → Turned W (walkOf l Plain) (Enter (walkOf l' Plain) b) W'
+  turned-plain-enter q = record { to = λ g. plain-enter (g .small) q (plain-view (g .holds)); within = λ g. sought-within q }
+
+  -- an item has room behind the done ones
+  pub plain-room : {b : ℕ} → Sought W l 0x2 (Leaf l' b) W' → CanTurn W (walkOf l Plain) → l' .base + l' .write < length W'
+  plain-room q g = let p = plain-place (g .small) q (plain-view (g .holds)) in omega (arith, p .1, p .2)
+
+  pub turned-plain-on : {b : ℕ} (W'' : List ℕ) → Sought W l 0x2 (Leaf l' b) W' → W'' ≡ set W' (l' .base + l' .write) b
+      → Turned W (walkOf l Plain) (On (walkOf (movedTo l' (l' .read) (l' .write + 1)) Plain)) W''
+  turned-plain-on {b} W'' q w =
+      record {
+        to = λ g. plain-on (g .small) W'' q w (plain-view (g .holds));
+        within = λ g.
+            let p = plain-place (g .small) q (plain-view (g .holds)) in
+            let p0 = p .0 in let p1 = p .1 in
+            record {
+              kept = λ j f o. set-other W' W'' (l' .base + l' .write) b w j (⊎-elim (λ x. omega arith) (λ x. omega arith) o) ∙ q .same j (⊎-elim (λ x. inl (omega arith)) (λ x. inr x) o);
+              long = set-long W' W'' (l' .base + l' .write) b w ∙ q .long;
+            };
+      }
+
+-- ---- a statement's words
+
+module _ {W : List ℕ} {p from n : ℕ} where
+  -- the first item's slot is below the stack
+  pub give-first : (g : CanGive W p from n) → 0 < n → wd W from < g .hi
+  give-first g h = go (g .cs) (g .seg) (g .count) (g .inc)
+    where
+      go : (cs : List ℕ) → Seg W from cs → length cs ≡ n → Inc 1 (g .hi) cs → wd W from < g .hi
+      go [] s e i = absurd (omega arith)
+      go (c ∷ cs) s e i = omega (arith, s .0, inc-le cs (i .1))
+
+  -- a new node's slot is none of the stack's words
+  pub give-made : {W' : List ℕ} {a b c d e k : ℕ} → Laid W p a b c d e k W' → CanGive W p from n → CanGive W' p from n
+  give-made {W'} w g =
+      let own = g .own in let below = g .below in
+      record {
+        hi = g .hi;
+        cs = g .cs;
+        seg = seg-keep W W' from (g .cs) (λ j x y. w .same j (inr (omega arith))) (g .seg);
+        count = g .count;
+        inc = g .inc;
+        own = own;
+        below = below;
+        room = omega (arith, w .long, g .room);
+      }

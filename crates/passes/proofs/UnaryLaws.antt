@@ -1,0 +1,161 @@
+-- The unary pass from the right, as an equation between what is left of it before and after each step of the code: an item without a prefix operator
+-- is passed over, a node is entered, and a minus or a not takes the next done tree, by what stands before it.
+use Prim.Native.Nat.{ℕ, _+_, _≤_}
+use mathlib.Core.Path.{_≡_, refl, sym, ap, _∙_}
+use mathlib.Core.Bool.{Bool, true, false, _||_, true≢false}
+use mathlib.Core.List.{List, [], _∷_}
+use mathlib.Core.Option.{Option, none, some}
+use native.Mathlib.Omega.{arith}
+use lib.Dec.{eqb}
+use borrow.Author.Tests.{eq-eqb, ne-eqb, eqb-true}
+use Rattle.molang.specs.Operator
+use Rattle.molang.specs.Operator.{operand, operator, minus, unknown, beforeMinus, any, isOneOf, isQueryOrLoop, isMathCall}
+use Rattle.molang.specs.Order.{someBelow}
+use Rattle.molang.specs.Forest.{Token, Forest, nil, node, renamed, bare, inOrder, count, size}
+use Rattle.molang.specs.Message.{Message, Result, ok, fail, negateWithoutOperand, notWithoutOperand, unknownOperation}
+use Rattle.molang.specs.Unary.{Unary, done, undone, minusAfter, notBefore, unaryLeaf, turned, unaryNode, unary, unaryPass}
+use Rattle.molang.proofs.Trees.{free, isNil, off-both, free-leaf, free-tree}
+use Rattle.molang.proofs.Unary.{isPrefix, unary-free}
+use Rattle.molang.proofs.Work.{Right, right, before, fromRight, leftOf, work, begins, inReading, takes, pass, unaries, andThen, pass-begins}
+use Rattle.ops.specs.Classes.{passClasses, ownClasses, inClass, bitAt, meets}
+use Rattle.ops.proofs.ClassLaws.{stands-for}
+use Rattle.walks.specs.Passes.{Exact}
+use Rattle.passes.specs.UnaryTurns.{Moved}
+
+-- ---- one item
+
+-- What is left after a step that gave u.
+after-step : (left : Forest) (u : Unary) → elim u [ undone m ↦ fail m | done p s ↦ fromRight (right p s) left ] ≡ leftOf left u
+unfolding leftOf
+after-step left (undone m) = refl
+after-step left (done p s) = refl
+
+pub at-leaf : (k : Token) (d left : Forest) → fromRight (right false d) (node k nil left) ≡ leftOf left (unaryLeaf (before left) k d)
+unfolding fromRight unary unaryNode turned
+at-leaf k d left = after-step left (unaryLeaf (before left) k d)
+
+-- The children come first.
+into : (d left : Forest) (k c : Token) (cs r : Forest) (u : Unary)
+    → elim u [
+      | undone m ↦ fail m
+      | done inner kids ↦ fromRight (right false (node k kids d)) left
+    ] ≡ andThen (elim u [ undone m ↦ fail m | done p s ↦ ok s ]) (λ kids. fromRight (right false (node k kids d)) left)
+unfolding andThen
+into d left k c cs r (undone m) = refl
+into d left k c cs r (done p s) = refl
+
+at-node : (k c : Token) (cs r d left : Forest)
+    → fromRight (right false d) (node k (node c cs r) left) ≡ andThen (unaryPass (node c cs r)) (λ kids. fromRight (right false (node k kids d)) left)
+unfolding fromRight unaryNode turned unaryPass
+at-node k c cs r d left = into d left k c cs r (unary none (node c cs r))
+
+pub at-tree : (k : Token) (cs d left : Forest) → isNil cs ≡ false
+    → work unaries (right false d) (node k cs left) ≡ andThen (work unaries (right false nil) (inReading unaries cs)) (λ kids. work unaries (takes unaries (right false d) k kids) left)
+unfolding isNil work takes turned inReading pass begins
+at-tree k nil d left e = absurd (true≢false e)
+at-tree k (node c cs r) d left e =
+    at-node k c cs r d left ∙ ap (λ (u : Result). andThen u (λ kids. fromRight (right false (node k kids d)) left)) (pass-begins unaries (node c cs r))
+
+-- An item without a minus or a not stays as it is.
+kept-node : (k c : Token) (cs r d left : Forest) → unary none (node c cs r) ≡ done false (node c cs r)
+    → andThen (unaryPass (node c cs r)) (λ kids. fromRight (right false (node k kids d)) left) ≡ fromRight (right false (node k (node c cs r) d)) left
+unfolding unaryPass andThen
+kept-node k c cs r d left e = rw (e, unaryPass, andThen) refl
+
+pub passed-over : (k : Token) (cs d left : Forest) → free isPrefix (node k cs nil) ≡ true → fromRight (right false d) (node k cs left) ≡ fromRight (right false (node k cs d)) left
+unfolding leftOf unaryLeaf isPrefix
+passed-over k nil d left h =
+    let o = off-both (eqb (k .op) Operator.negate) (eqb (k .op) Operator.logicalNot) (free-leaf isPrefix k nil h .0) in
+    at-leaf k d left ∙ rw (o .0, unaryLeaf) (rw (o .1) refl)
+passed-over k (node c cs r) d left h =
+    at-node k c cs r d left ∙ kept-node k c cs r d left (unary-free none (node c cs r) (free-tree isPrefix k c cs r nil h .0))
+
+-- ---- a minus
+
+module _ (k : Token) (e : k .op ≡ Operator.negate) where
+  minus-leaf : (p : Option Token) (r : Forest) → unaryLeaf p k r ≡ minusAfter p k r
+  unfolding unaryLeaf
+  minus-leaf p r = rw (eq-eqb (k .op) Operator.negate e, unaryLeaf) refl
+
+  at-minus : (d left : Forest) → fromRight (right false d) (node k nil left) ≡ leftOf left (minusAfter (before left) k d)
+  at-minus d left = at-leaf k d left ∙ ap (leftOf left) (minus-leaf (before left) d)
+
+  -- with nothing after it
+  pub minus-alone : (left : Forest) → fromRight (right false nil) (node k nil left) ≡ fail (negateWithoutOperand k ∷ [])
+  unfolding minusAfter leftOf
+  minus-alone left = at-minus nil left
+
+  -- at the start of the list
+  pub minus-first : (n : Token) (ns r : Forest) → fromRight (right false (node n ns r)) (node k nil nil) ≡ fromRight (right false (node k (node n ns nil) r)) nil
+  unfolding minusAfter leftOf before
+  minus-first n ns r = at-minus (node n ns r) nil
+
+  module _ (n : Token) (ns r : Forest) (p : Token) (ps left : Forest) where
+    after : leftOf (node p ps left) (minusAfter (some p) k (node n ns r)) ≡ fromRight (right false (node n ns r)) (node k nil (node p ps left))
+    unfolding before
+    after = sym (at-minus (node n ns r) (node p ps left))
+
+    -- after an operator
+    pub minus-operator : beforeMinus (p .op) ≡ operator
+        → fromRight (right false (node n ns r)) (node k nil (node p ps left)) ≡ fromRight (right false (node k (node n ns nil) r)) (node p ps left)
+    unfolding minusAfter leftOf
+    minus-operator b = sym after ∙ rw (b, minusAfter, leftOf) refl
+
+    -- after an operand
+    pub minus-operand : beforeMinus (p .op) ≡ operand
+        → fromRight (right false (node n ns r)) (node k nil (node p ps left))
+        ≡ fromRight (right false (node (renamed Operator.add k) nil (node (bare Operator.negate k) (node n ns nil) r))) (node p ps left)
+    unfolding minusAfter leftOf
+    minus-operand b = sym after ∙ rw (b, minusAfter, leftOf) refl
+
+    -- after a minus, which becomes `+` at once
+    pub minus-minus : beforeMinus (p .op) ≡ minus
+        → fromRight (right false (node n ns r)) (node k nil (node p ps left)) ≡ fromRight (right false (node n ns r)) (node (renamed Operator.add p) ps left)
+    unfolding minusAfter leftOf fromRight turned
+    minus-minus b = sym after ∙ rw (b, minusAfter, leftOf) refl
+
+    -- after what no minus can stand after
+    pub minus-unknown : beforeMinus (p .op) ≡ unknown
+        → fromRight (right false (node n ns r)) (node k nil (node p ps left)) ≡ fail (unknownOperation k p ∷ [])
+    unfolding minusAfter leftOf
+    minus-unknown b = sym after ∙ rw (b, minusAfter, leftOf) refl
+
+-- ---- a not
+
+prefix-not : (a b : Bool) → (a || b) ≡ true → a ≡ false → b ≡ true
+prefix-not true b h e = absurd (true≢false e)
+prefix-not false b h e = h
+
+module _ (k : Token) (h : isPrefix (k .op) ≡ true) (e : k .op ≡ Operator.negate → ⊥) where
+  at-not : (d left : Forest) → fromRight (right false d) (node k nil left) ≡ leftOf left (notBefore k d)
+  unfolding isPrefix unaryLeaf
+  at-not d left =
+      let other = ne-eqb (k .op) Operator.negate e in
+      at-leaf k d left
+      ∙ ap (leftOf left) (rw (other, unaryLeaf) (rw (prefix-not (eqb (k .op) Operator.negate) (eqb (k .op) Operator.logicalNot) h other) refl))
+
+  pub not-alone : (left : Forest) → fromRight (right false nil) (node k nil left) ≡ fail (notWithoutOperand k ∷ [])
+  unfolding notBefore leftOf
+  not-alone left = at-not nil left
+
+  pub not-takes : (n : Token) (ns r left : Forest) → fromRight (right false (node n ns r)) (node k nil left) ≡ fromRight (right false (node k (node n ns nil) r)) left
+  unfolding notBefore leftOf
+  not-takes n ns r left = at-not (node n ns r) left
+
+-- ---- the items passed over
+
+pub moved-none : (d rest : Forest) → Moved d rest d rest
+moved-none d rest = record { same = refl; fewer = omega arith; smaller = omega arith }
+
+pub moved-more : {d rest d' : Forest} (k : Token) (cs rest' : Forest) → Moved d rest d' (node k cs rest') → free isPrefix (node k cs nil) ≡ true → Moved d rest (node k cs d') rest'
+unfolding count size
+moved-more {d' = d'} k cs rest' m h =
+    let fewer = m .fewer in
+    let smaller = m .smaller in
+    record { same = m .same ∙ passed-over k cs d' rest' h; fewer = omega arith; smaller = omega arith }
+
+-- ---- the classes
+
+pub unary-exact : Exact 0x10 isPrefix
+unfolding isPrefix meets someBelow bitAt inClass passClasses ownClasses isOneOf any isQueryOrLoop isMathCall
+unary-exact = stands-for 0x10 isPrefix tt

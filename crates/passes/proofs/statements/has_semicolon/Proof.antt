@@ -1,0 +1,68 @@
+use Prim.Native.Nat.{_-_}
+use mathlib.Core.Path.{_≡_, refl, sym, _∙_}
+use native.Mathlib.Omega.{arith}
+use borrow.Author.Needs.{needs}
+use Rattle.nodes.specs.declared.frames.List.{List as Items}
+use Rattle.passes.proofs.StatementLaws.{Looking, look-start, look-slot, look-found, look-next, look-done}
+use Rattle.passes.proofs.statements.has_semicolon.Statement.{statement}
+use Rattle.passes.proofs.statements.has_semicolon.Tie as tie
+
+abbrev Inv-loop : tie.InvT-loop
+Inv-loop work base len i₀ i = (v : Items) → v .base ≡ base → v .len ≡ len → Looking work v i
+
+abbrev μ-loop : tie.MeasureT-loop
+μ-loop work base len i₀ i = len - i
+
+loop-holds : tie.Need-loop-holds Inv-loop μ-loop
+loop-holds c = λ v b l. look-start
+
+add-item : tie.Need-add-item Inv-loop μ-loop
+add-item c = search needs
+
+mul-item : tie.Need-mul-item Inv-loop μ-loop
+mul-item c = search needs
+
+shared-slice-read-item : tie.Need-shared-slice-read-item Inv-loop μ-loop
+shared-slice-read-item c = omega (arith, c .before .loop-test .taken, c .before .before .before .before .pre .within)
+
+add-i : tie.Need-add-i Inv-loop μ-loop
+add-i c = search needs
+
+is-token-requires : tie.Need-is-token-requires Inv-loop μ-loop
+is-token-requires c κs =
+    let start = c .before .before .before .before in
+    omega (arith, look-slot (start .pre) (c .before .before .loop .inv (start .args .list) refl refl) (c .before .loop-test .taken), start .pre .within)
+
+returns : tie.Need-returns Inv-loop μ-loop
+returns c =
+    let start = c .before .before .before .before .before .before in
+    look-found (c .before .before .before .before .loop .inv (start .args .list) refl refl) (c .before .before .before .loop-test .taken) (sym (c .before .is-token .ensures) ∙ c .if1 .taken)
+
+loop-less : tie.Need-loop-less Inv-loop μ-loop
+loop-less c = search needs
+
+loop-again : tie.Need-loop-again Inv-loop μ-loop
+loop-again c =
+    λ v b l. look-next (c .before .before .before .before .loop .inv v b l) (omega (arith, c .before .before .before .loop-test .taken)) (rw b (sym (c .before .is-token .ensures) ∙ c .if1 .left))
+
+returns-2 : tie.Need-returns-2 Inv-loop μ-loop
+returns-2 c =
+    let start = c .before .before .before in
+    look-done (c .before .loop .inv (start .args .list) refl refl) (c .loop-test .left)
+
+pub has-semicolon-spec : {M : Type 1} → statement M
+has-semicolon-spec =
+    tie.close
+    (tie.spec
+    Inv-loop
+    μ-loop
+    loop-holds
+    add-item
+    mul-item
+    shared-slice-read-item
+    add-i
+    is-token-requires
+    returns
+    loop-less
+    loop-again
+    returns-2)

@@ -1,0 +1,65 @@
+-- A level that goes from the left has read an item of its list: what the functions on that item ask and ensure. The trees of d are done, those of
+-- `rest` unread; the item's own tree stands between the two.
+use Prim.Native.Nat.{ℕ, _+_, _*_, _^_, _≤_, _<_}
+use mathlib.Core.Path.{_≡_}
+use mathlib.Core.Bool.{Bool, true, false}
+use mathlib.Core.List.{List}
+use lib.ListN.{length}
+use Rattle.molang.specs.Operator.{isOneOf}
+use Rattle.molang.specs.Forest.{Token, Forest, nil, node}
+use Rattle.molang.specs.Level.{Gathered, gathered}
+use Rattle.molang.specs.Calls.{CallKind, queryOrLoop, math, calls as isCall}
+use Rattle.molang.proofs.Trees.{clear}
+use Rattle.molang.proofs.Return.{isReturn}
+use Rattle.molang.proofs.Work.{Kind, calls, returns, binary, State}
+use Rattle.nodes.specs.Store.{RepT}
+use Rattle.nodes.specs.declared.frames.List.{List as Items}
+use Rattle.ops.specs.declared.classes.TokenClasses.{TokenClasses}
+use Rattle.walks.specs.Passes.{walkOf, Exact}
+use Rattle.walks.specs.Items.{BackArray, Ahead}
+use Rattle.walks.specs.Turns.{Within, TurnTo}
+use Rattle.walks.specs.declared.turns.Pass.{Pass}
+use Rattle.walks.specs.declared.turns.Pass.the-variants.{Calls, Maths, Binary, Prefix}
+use Rattle.walks.specs.declared.turns.Walk.{Walk}
+use Rattle.walks.specs.declared.turns.Turn.{Turn}
+
+-- The item at the slot b, the tree k over cs, was read and is not done yet.
+pub record AtItem (W X : List ℕ) (l : Items) (b lo hi : ℕ) (d : Forest) (k : Token) (cs rest : Forest) : Type 0 where
+  pub a : ℕ
+  pub m : ℕ
+  pub done : BackArray W X (l .base) (l .write) lo a d
+  pub tree : RepT W X b a m k cs
+  pub ahead : Ahead W X (l .base) (l .read) (l .len) m hi rest
+  pub behind : l .write < l .read
+  pub below : 8 * hi ≤ l .base
+  pub within : l .base + l .len ≤ length W
+  pub small : length W < 2 ^ 32
+
+-- It is a leaf.
+pub record AtToken (W : List ℕ) (l : Items) (b : ℕ) : Type 0 where
+  pub X : List ℕ
+  pub lo : ℕ
+  pub hi : ℕ
+  pub d : Forest
+  pub k : Token
+  pub rest : Forest
+  pub item : AtItem W X l b lo hi d k nil rest
+
+-- The turn goes on from there, where the token is one of the pass (P) and the trees before it are as the pass leaves them (good).
+pub record TokenTurned (κ : Kind) (idle : Forest → State κ) (P : ℕ → Bool) (good : Forest → Bool) (W : List ℕ) (w : Walk) (b : ℕ) (r : Turn) (W' : List ℕ) : Type 0 where
+  pub to : (g : AtToken W (w .list) b) → P (g .k .op) ≡ true → good (g .d) ≡ true
+      → TurnTo κ W' (g .X) (g .lo) (g .hi) w (idle (g .d)) (node (g .k) nil (g .rest)) r
+  pub within : (g : AtToken W (w .list) b) → Within W W' (g .X) (g .lo) (g .hi) (w .list)
+
+-- Calls and `return` ask nothing of the trees before a token.
+abbrev pub any : Forest → Bool
+any d = true
+
+abbrev pub ReturnTurned : List ℕ → Items → ℕ → Turn → List ℕ → Type 0
+ReturnTurned W l b r W' = TokenTurned returns gathered isReturn any W (walkOf l Prefix) b r W'
+
+abbrev pub CallTurned : CallKind → Pass → List ℕ → Items → ℕ → Turn → List ℕ → Type 0
+CallTurned kind p W l b r W' = TokenTurned (calls kind) gathered (isCall kind) any W (walkOf l p) b r W'
+
+abbrev pub LevelTurned : List ℕ → TokenClasses → List ℕ → Items → ℕ → Turn → List ℕ → Type 0
+LevelTurned ops classes W l b r W' = TokenTurned (binary ops) gathered (isOneOf ops) (clear (isOneOf ops)) W (walkOf l (Binary classes 0)) b r W'
