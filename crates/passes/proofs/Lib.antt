@@ -27,3 +27,14 @@ pub mod DanglingLaws
 pub mod ScanLaws
 pub mod PairLaws
 pub mod ScanLoop
+pub mod SideLaws
+pub mod StackLaws
+pub mod StartLaws
+pub mod ResumeLaws
+pub mod EndLaws
+pub mod TurnLaws
+pub mod Lasting
+pub mod DescendLaws
+pub mod CloseLaws
+pub mod AdvanceLaws
+pub mod RunLaws

@@ -6,3 +6,4 @@ pub mod Statements
 pub mod Arrays
 pub mod UnaryTurns
 pub mod Folding
+pub mod Driver

@@ -4,6 +4,7 @@ pub mod arrays;
 pub mod binary;
 pub mod calls;
 pub mod conditional;
+pub mod driver;
 pub mod prefix;
 pub mod sections;
 pub mod statements;

@@ -1,0 +1,185 @@
+-- What a change of words leaves of a list under work (`sides-keep`): where the slots of its done and its unread side and the list's own words are as they
+-- were, it is as it was, whatever its pass.
+use Prim.Native.Nat.{ℕ, _+_, _*_, _≤_, _<_}
+use mathlib.Core.Path.{_≡_, refl}
+use mathlib.Core.Bool.{false, true≢false}
+use mathlib.Core.List.{List}
+use native.Mathlib.Omega.{arith}
+use native.Mathlib.Nat.{add-zero, le-refl}
+use lib.ListN.{length}
+use Rattle.molang.specs.Forest.{Token, Forest}
+use Rattle.molang.proofs.Trees.{isNil}
+use Rattle.molang.specs.Level.{Gathered}
+use Rattle.molang.specs.Calls.{Indexing}
+use Rattle.molang.specs.Statements.{Split}
+use Rattle.molang.proofs.Work.{Kind, calls, statements, arrays, unaries, ternary, returns, binary, Right, State}
+use Rattle.nodes.specs.Store.{wd, Chain, SegB, Out, OutFrom, RepB, begins, put}
+use Rattle.nodes.specs.declared.frames.List.{List as Items}
+use Rattle.nodes.proofs.Runs.{segB-keep}
+use Rattle.nodes.proofs.Tokens.{token-keep}
+use Rattle.nodes.proofs.Store.{tree-below, tree-out, tree-keep, back-le, back-keep}
+use Rattle.walks.specs.Sides.{GatherSide, LevelSide, TernarySide, Ended, nothing, statement, EndedAt, OpenAt, StatementSide, OpenArray, ArraySide, RightSide, DoneSide, UnreadSide, Sides}
+use Rattle.walks.specs.declared.turns.Pass.{Pass}
+use Rattle.walks.specs.declared.turns.Walk.{Walk}
+use Rattle.walks.proofs.Reading.{SameSlots, SameWords, back-array-keep, array-keep, ahead-keep}
+
+-- ---- finished statements
+
+pub ended-le : {W X ds : List ℕ} {lo l : ℕ} {d : Forest} → Ended W X ds lo l d → lo ≤ l
+ended-le (nothing h) = h
+ended-le (statement r t o h) = omega (arith, ended-le r, t .low)
+
+-- the first of them stands in the first word of the list, with the two slots behind it
+pub ended-first : {W X ds : List ℕ} {lo l : ℕ} {d : Forest} (base : ℕ) → Ended W X ds lo l d → SegB W base ds → isNil d ≡ false
+    → (lo ≤ wd W base) × (wd W base + 3 ≤ l) × OutFrom (wd W base) 3 X
+unfolding isNil
+ended-first base (nothing h) g e = absurd (true≢false e)
+ended-first {W} {X} base (statement {b = b} (nothing h) t o high) g e =
+    let here : wd W base ≡ b = rw add-zero at (g .0) in
+    rw here (omega (arith, t .low), high, o)
+ended-first base (statement (statement r t' o' high') t o high) g e =
+    let first = ended-first base (statement r t' o' high') (g .1) refl in
+    (first .0, omega (arith, first .1, t .low), first .2)
+
+ended-some : {W X ds : List ℕ} {lo l : ℕ} {d : Forest} → Ended W X ds lo l d → isNil d ≡ false → 0 < length ds
+unfolding isNil
+ended-some (nothing h) e = absurd (true≢false e)
+ended-some (statement r t o h) e = omega arith
+
+module _ (W W' : List ℕ) where
+  pub ended-keep : {X ds : List ℕ} {lo l : ℕ} {d : Forest} → SameSlots W W' X lo l → Ended W X ds lo l d → Ended W' X ds lo l d
+  ended-keep h (nothing e) = nothing e
+  ended-keep h (statement {b = b} {m = m} r t o high) =
+      let le = ended-le r in
+      statement (ended-keep (λ s i x y z u. h s i x (omega (arith, t .low)) z u) r)
+      (tree-keep W W' (λ s i x y z u n. h s i (omega arith) (omega arith) z u) t) o high
+
+  pub ended-at-keep : {X : List ℕ} {base n lo l : ℕ} {q : Token} {done : Forest} → SameSlots W W' X lo l → SameWords W W' base (base + n)
+      → EndedAt W X base n lo l q done → EndedAt W' X base n lo l q done
+  ended-at-keep {X} {base} {n} {lo} {l} {q} {done} slots words v =
+      record {
+        ds = v .ds;
+        seg = segB-keep W W' base (v .ds) (λ j x y. words j x (omega (arith, v .count))) (v .seg);
+        count = v .count;
+        rep = ended-keep slots (v .rep);
+        list = λ e.
+            let first = ended-first base (v .rep) (v .seg) e in
+            let here : wd W' base ≡ wd W base = words base (le-refl base) (omega (arith, ended-some (v .rep) e, v .count)) in
+            rw here (token-keep W W' (wd W base + 2) (λ o x. slots (wd W base + 2) o (omega (arith, first .0)) (omega (arith, first .1)) (omega arith) (first .2 (wd W base + 2) (omega arith) (omega arith)))
+            (v .list e));
+      }
+
+  -- ---- a chain from the last child on
+
+  pub back-links : {X ds : List ℕ} {lo hi : ℕ} {d : Forest} (f : ℕ) → RepB W X ds lo hi d
+      → ((s : ℕ) → lo ≤ s → s < hi → Out s X → wd W' (8 * s + 6) ≡ wd W (8 * s + 6)) → Chain W f ds → Chain W' f ds
+  back-links f (begins e) h p = p
+  back-links {X} f (put {b = b} {l = l} {m = m} r t e) h p =
+      let le = back-le r in
+      let tl = t .low in
+      let below = tree-below t in
+      (p .0, p .1, rw (h b (omega arith) (omega arith) (tree-out t)) (back-links (wd W (8 * b + 6)) r (λ s x y o. h s x (omega arith) o) (p .2)))
+
+  pub open-array-keep : {X : List ℕ} {a lo l : ℕ} {q : Token} {contents : Forest} → SameSlots W W' X lo l → OpenArray W X a lo l q contents → OpenArray W' X a lo l q contents
+  open-array-keep {X} {a} {lo} {l} slots v =
+      let own : (o : ℕ) → o < 8 → wd W' (8 * a + o) ≡ wd W (8 * a + o) = λ o x. slots a o (v .low) (v .high) x (v .out) in
+      record {
+        cs = v .cs;
+        low = v .low;
+        high = v .high;
+        pos = v .pos;
+        out = v .out;
+        token = token-keep W W' a (λ o x. own o (omega arith)) (v .token);
+        isArray = v .isArray;
+        chain = rw (own 5 (omega arith)) (back-links (wd W (8 * a + 5)) (v .kids) (λ s x y o. slots s 6 x y (omega arith) (o .1)) (v .chain));
+        kids = back-keep W W' (λ s o x y z u n. slots s o x y z (u .1)) (v .kids);
+      }
+
+  -- ---- the done side of each pass
+
+  module _ {X : List ℕ} {base write lo l : ℕ} (slots : SameSlots W W' X lo l) (words : SameWords W W' base (base + write)) where
+    gather-keep : {s : Gathered} → GatherSide W X base write lo l s → GatherSide W' X base write lo l s
+    gather-keep (GatherSide.all v) = GatherSide.all (back-array-keep W W' slots words v)
+
+    level-keep : {ops : List ℕ} {p : Pass} {s : Gathered} → LevelSide W X base write lo l ops p s → LevelSide W' X base write lo l ops p s
+    level-keep (LevelSide.all e v) = LevelSide.all e (back-array-keep W W' slots words v)
+    level-keep (LevelSide.operator {m = m} e v n u t) =
+        let le = back-le (v .rep) in
+        let below = tree-below t in
+        LevelSide.operator e (back-array-keep W W' (λ s o x y z h. slots s o x (omega (arith, t .low)) z h) words v) n u
+        (tree-keep W W' (λ s o x y z h i. slots s o (omega arith) y z h) t)
+
+    ternary-keep : {p : Pass} {s : Forest} → TernarySide W X base write lo l p s → TernarySide W' X base write lo l p s
+    ternary-keep (TernarySide.all e v) = TernarySide.all e (back-array-keep W W' slots words v)
+
+    open-at-keep : {n m : ℕ} {s : Token} {d : Forest} → lo ≤ m → OpenAt W X base n write m l s d → OpenAt W' X base n write m l s d
+    open-at-keep {n} {m} low v =
+        record {
+          first = v .first;
+          earliest = v .earliest;
+          named = v .named;
+          count = v .count;
+          reached = v .reached;
+          items = back-array-keep W W' (λ s o x y z h. slots s o (omega arith) y z h) (λ j x y. words j (omega arith) (omega (arith, v .reached))) (v .items);
+        }
+
+    statement-keep : {p : Pass} {s : Split} → StatementSide W X base write lo l p s → StatementSide W' X base write lo l p s
+    statement-keep (StatementSide.whole v) = StatementSide.whole (back-array-keep W W' slots words v)
+    statement-keep (StatementSide.closed v) = StatementSide.closed (ended-at-keep slots words v)
+    statement-keep (StatementSide.current {m = m} v o) =
+        let low = ended-le (v .rep) in
+        let high = back-le (o .items .rep) in
+        StatementSide.current
+        (ended-at-keep (λ s i x y z h. slots s i x (omega arith) z h) (λ j x y. words j x (omega (arith, o .reached))) v)
+        (open-at-keep low o)
+
+    array-side-keep : {p : Pass} {s : Indexing} → ArraySide W X base write lo l p s → ArraySide W' X base write lo l p s
+    array-side-keep (ArraySide.all v) = ArraySide.all (back-array-keep W W' slots words v)
+    array-side-keep (ArraySide.growing {m = m} v a) =
+        let low = back-le (v .rep) in
+        let in-low = a .low in
+        let in-high = a .high in
+        ArraySide.growing (back-array-keep W W' (λ s i x y z h. slots s i x (omega arith) z h) words v)
+        (open-array-keep (λ s i x y z h. slots s i (omega arith) y z h) a)
+
+  right-keep : {X : List ℕ} {base write len m hi : ℕ} {s : Right} → SameSlots W W' X m hi → SameWords W W' (base + write) (base + len)
+      → RightSide W X base write len m hi s → RightSide W' X base write len m hi s
+  right-keep slots words (RightSide.all e v) = RightSide.all e (array-keep W W' slots (λ j x y. words j x (omega arith)) v)
+
+  -- ---- both sides
+
+  module _ (X : List ℕ) (lo l m hi : ℕ) (left : SameSlots W W' X lo l) (right : SameSlots W W' X m hi) where
+    pub done-keep : (κ : Kind) (w : Walk) (s : State κ) → w .list .write ≤ w .list .len → SameWords W W' (w .list .base) (w .list .base + w .list .len)
+        → DoneSide κ W X lo l m hi w s → DoneSide κ W' X lo l m hi w s
+    done-keep (calls kind) w s h words v = gather-keep left (λ j x y. words j x (omega arith)) v
+    done-keep statements w s h words v = statement-keep left (λ j x y. words j x (omega arith)) v
+    done-keep arrays w s h words v = array-side-keep left (λ j x y. words j x (omega arith)) v
+    done-keep unaries w s h words v = right-keep right (λ j x y. words j (omega arith) y) v
+    done-keep ternary w s h words v = ternary-keep left (λ j x y. words j x (omega arith)) v
+    done-keep returns w s h words v = gather-keep left (λ j x y. words j x (omega arith)) v
+    done-keep (binary ops) w s h words v = level-keep left (λ j x y. words j x (omega arith)) v
+
+    pub unread-keep : (κ : Kind) (v : Items) (rest : Forest) → v .read ≤ v .len → SameWords W W' (v .base) (v .base + v .len)
+        → UnreadSide κ W X lo l m hi v rest → UnreadSide κ W' X lo l m hi v rest
+    unread-keep (calls kind) i rest h words v = ahead-keep W W' right (λ j x y. words j (omega arith) y) v
+    unread-keep statements i rest h words v = ahead-keep W W' right (λ j x y. words j (omega arith) y) v
+    unread-keep arrays i rest h words v = ahead-keep W W' right (λ j x y. words j (omega arith) y) v
+    unread-keep unaries i rest h words v = back-array-keep W W' left (λ j x y. words j x (omega arith)) v
+    unread-keep ternary i rest h words v = ahead-keep W W' right (λ j x y. words j (omega arith) y) v
+    unread-keep returns i rest h words v = ahead-keep W W' right (λ j x y. words j (omega arith) y) v
+    unread-keep (binary ops) i rest h words v = ahead-keep W W' right (λ j x y. words j (omega arith) y) v
+
+    pub sides-keep : {κ : Kind} {w : Walk} {s : State κ} {rest : Forest} → w .list .write ≤ w .list .len → w .list .read ≤ w .list .len
+        → SameWords W W' (w .list .base) (w .list .base + w .list .len) → length W' ≡ length W → Sides κ W X lo l m hi w s rest → Sides κ W' X lo l m hi w s rest
+    sides-keep {κ} {w} {s} {rest} write read words long v =
+        record {
+          runs = v .runs;
+          done = done-keep κ w s write words (v .done);
+          unread = unread-keep κ (w .list) rest read words (v .unread);
+          agrees = v .agrees;
+          low = v .low;
+          mid = v .mid;
+          high = v .high;
+          below = v .below;
+          within = rw long (v .within);
+        }
