@@ -1,6 +1,8 @@
 // A slot is eight words of the work buffer: the five words of a token, the first child's slot, the next sibling's slot, the
 // classes of the leaves at or below it. Slot 0 owns the outermost list; as a child or a sibling 0 means none.
 // Token i stands at slot 3(i + 1), and the two slots after it are spare for nodes that the passes make right after it.
+// What is asked of a slot, that its words lie within the buffer, the callers have from the store (specs/Store): its slots stand
+// below the stack.
 use ops::classes::TokenClasses;
 use words::fields;
 ghost use mathlib.Core.Path.{_≡_};
