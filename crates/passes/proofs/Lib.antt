@@ -27,6 +27,7 @@ pub mod DanglingLaws
 pub mod ScanLaws
 pub mod PairLaws
 pub mod ScanLoop
+pub mod ConditionalEnd
 pub mod SideLaws
 pub mod StackLaws
 pub mod StartLaws

@@ -14,7 +14,7 @@ use Rattle.nodes.specs.Store.{wd, TokenAt, Kept}
 use Rattle.nodes.specs.Slots.{isTokenAt}
 use Rattle.nodes.specs.Children.{AttachedTwo}
 use Rattle.nodes.specs.declared.frames.List.{List as Items}
-use Rattle.walks.specs.Items.{Ahead}
+use Rattle.walks.specs.Items.{BackArray, Ahead}
 use Rattle.passes.specs.UnaryTurns.{RightList}
 use Rattle.passes.specs.declared.conditional.Scan.{Scan}
 
@@ -124,4 +124,23 @@ pub record FoldedNext (W : List ℕ) (base len left right : ℕ) (r : Scan) (W' 
   pub to : (g : CanScan W base len left right) → ScanTo W' (g .X) (g .lo) (g .hi) base len (g .L) (g .R) (r .left) (r .right)
   pub kept : (g : CanScan W base len left right) → Kept W W' (g .X) (g .lo) (g .hi) base (base + len)
   pub less : r .left < left
+  pub long : length W' ≡ length W
+
+-- ---- `fold_conditionals`
+
+-- The items d, the last first.
+pub record CanFold (W : List ℕ) (base len : ℕ) : Type 0 where
+  pub X : List ℕ
+  pub lo : ℕ
+  pub hi : ℕ
+  pub d : Forest
+  pub items : BackArray W X base len lo hi d
+  pub below : 8 * hi ≤ base
+  pub within : base + len ≤ length W
+  pub small : length W < 2 ^ 32
+
+-- From r on stands what the fold makes of them.
+pub record FoldedAll (W : List ℕ) (base len r : ℕ) (W' : List ℕ) : Type 0 where
+  pub to : (g : CanFold W base len) → Ahead W' (g .X) base r len (g .lo) (g .hi) (definition.foldedFrom (g .d))
+  pub kept : (g : CanFold W base len) → Kept W W' (g .X) (g .lo) (g .hi) base (base + len)
   pub long : length W' ≡ length W

@@ -5,13 +5,15 @@ use nodes::frames::List;
 use nodes::slots;
 use ops::classes::TokenClasses;
 use ops::op;
+use walks::failure::Failure;
 use walks::items;
 use walks::turns;
+use walks::turns::Finished;
 use walks::turns::Pass;
 use walks::turns::Turn;
 ghost use Rattle.walks.specs.Passes.{walkOf};
-ghost use Rattle.walks.specs.Turns.{CanTurn, Turned};
-ghost use Rattle.passes.specs.Folding.{CanFoldLast, FoldedLast, CanDangle, Dangles, CanLook, IsElse, CanFoldElse, ElseFolded, CanFoldNext, FoldedNext};
+ghost use Rattle.walks.specs.Turns.{CanTurn, Turned, CanFinish, Ends};
+ghost use Rattle.passes.specs.Folding.{CanFoldLast, FoldedLast, CanDangle, Dangles, CanLook, IsElse, CanFoldElse, ElseFolded, CanFoldNext, FoldedNext, CanFold, FoldedAll};
 
 // Where the scan is.
 pub struct Scan {
@@ -131,6 +133,29 @@ fn fold_next(work: &mut [u32], base: usize, len: usize, left: usize, right: usiz
     }
 }
 
+// Scans a list, which has to have three items for a fold; where its done items start.
+fn fold_conditionals(work: &mut [u32], base: usize, len: usize) -> usize
+    requires { ⌜ CanFold (now work) base len ⌝ }
+    ensures { λ r. ⌜ FoldedAll (now (work .entry)) base len r (now (work .exit)) ⌝ }
+{
+    if len < 3 {
+        return 0;
+    }
+    let mut left = len - 1;
+    let mut right = len - 1;
+    while 2 <= left {
+        let on = fold_next(work, base, len, left, right);
+        left = on.left;
+        right = on.right;
+    }
+    if left == 0 {
+        return right;
+    }
+    let first = work[base];
+    work[base + (right - 1)] = first;
+    right - 1
+}
+
 // The first `?` or `:` among the items from `from` to `len` that nothing is under, or 0.
 fn dangling(work: &[u32], base: usize, from: usize, len: usize) -> u32
     requires { ⌜ CanDangle (now work) base from len ⌝ }
@@ -148,4 +173,22 @@ fn dangling(work: &[u32], base: usize, from: usize, len: usize) -> u32
         i += 1;
     }
     0
+}
+
+// The end of a list of the conditional pass.
+pub fn finish(work: &mut [u32], list: List, tokens: u32) -> Finished
+    requires { ⌜ CanFinish (now work) (walkOf list (Pass.Ternary tokens)) ⌝ }
+    ensures { λ r. ⌜ Ends (now (work .entry)) (walkOf list (Pass.Ternary tokens)) r (now (work .exit)) ⌝ }
+{
+    let base = list.base;
+    let len = list.len;
+    if tokens == 0 {
+        return Finished::At(base, len);
+    }
+    let from = fold_conditionals(work, base, len);
+    let left = dangling(work, base, from, len);
+    if left != 0 {
+        return Finished::Fail(Failure::TernaryWithoutOperands(left));
+    }
+    Finished::At(base + from, len - from)
 }
