@@ -1,13 +1,12 @@
 -- The end of a list of the conditional pass: nothing to fold; or what the fold leaves, in which a `?` or a `:` may be without operands.
-use Prim.Native.Nat.{ℕ, _+_, _*_, _-_, _^_, _≤_, _<_}
+use Prim.Native.Nat.{ℕ, _+_, _-_}
 use mathlib.Core.Path.{_≡_, refl, sym, _∙_, subst}
 use mathlib.Core.Logic.{_≢_}
 use mathlib.Core.List.{List, _∷_, []}
 use mathlib.Core.Option.{Option, none, some}
 use native.Mathlib.Omega.{arith}
 use native.Mathlib.Nat.{le-refl}
-use lib.ListN.{length}
-use Rattle.molang.specs.Forest.{Token, Forest, nil, count, inOrder}
+use Rattle.molang.specs.Forest.{Token, Forest, nil, count}
 use Rattle.molang.specs.Message.{ok, fail, ternaryWithoutOperands}
 use Rattle.molang.specs.Level.{walk}
 use Rattle.molang.specs.Conditional.{foldedFrom, dangling, undangled, conditionalFinish, conditionalLevel}
@@ -24,7 +23,6 @@ use Rattle.walks.specs.Failures.{Tells}
 use Rattle.walks.specs.Turns.{Within, CanFinish, FinishTo, gives, fails, Ends}
 use Rattle.walks.specs.declared.failure.Failure.the-variants.{TernaryWithoutOperands}
 use Rattle.walks.specs.declared.turns.Pass.the-variants.{Ternary}
-use Rattle.walks.specs.declared.turns.Finished.{Finished}
 use Rattle.walks.specs.declared.turns.Finished.the-variants.{At, Fail as Failed}
 use Rattle.walks.proofs.Reading.{ahead-le}
 use Rattle.passes.specs.Folding.{CanDangle, DanglesAt, nowhere, here, Dangles, CanFold, FoldedAll}
@@ -48,7 +46,8 @@ all-gathered list e =
 
 module _ {W : List ℕ} {v : Items} {tokens : ℕ} (g : CanFinish W (walkOf v (Ternary tokens))) where
   -- A list that ends is one of the conditional pass.
-  at-end : (Q : (κ : Kind) → State κ → Type 0) → ((d : Forest) → tokens ≡ tokensIn isTernary d → BackArray W (g .X) (v .base) (v .len) (g .lo) (g .hi) d → Q ternary d) → Q (g .κ) (g .s)
+  at-end : (Q : (κ : Kind) → State κ → Type 0) → ((d : Forest) → tokens ≡ tokensIn isTernary d → BackArray W (g .X) (v .base) (v .len) (g .lo) (g .hi) d → Q ternary d)
+      → Q (g .κ) (g .s)
   at-end Q f = of-ternary (g .holds .sides .runs) (g .s) (g .holds .sides) (g .small) Q (λ d list. f d (list .counted) (all-gathered list (g .holds .turning)))
 
   abbrev folding : (d : Forest) → BackArray W (g .X) (v .base) (v .len) (g .lo) (g .hi) d → CanFold W (v .base) (v .len)

@@ -1,14 +1,12 @@
 -- The conditional pass before its fold: an item goes to the gathered ones as it is, or is entered; a list without a `?` and a `:` is left as it is. The
 -- loop of `step`.
-use Prim.Native.Nat.{ℕ, zero, suc, _+_, _*_, _-_, _^_, _≤_, _<_}
+use Prim.Native.Nat.{ℕ, suc, _+_, _*_, _-_, _^_, _≤_, _<_}
 use mathlib.Core.Path.{_≡_, refl, sym, ap, _∙_, subst}
-use mathlib.Core.Logic.{_≢_, _⊎_, inl, inr, ⊎-elim}
 use mathlib.Core.Bool.{Bool, true, false, true≢false}
-use mathlib.Core.List.{List, [], _∷_}
+use mathlib.Core.List.{List}
 use native.Mathlib.Omega.{arith}
 use native.Mathlib.Nat.{le-refl}
 use lib.ListN.{length}
-use Rattle.molang.specs.Operator
 use Rattle.molang.specs.Operator.{any, isOneOf, isQueryOrLoop, isMathCall}
 use Rattle.molang.specs.Order.{someBelow}
 use Rattle.molang.specs.Forest.{Token, Forest, nil, node, inOrder, count, size}
@@ -20,15 +18,15 @@ use Rattle.molang.proofs.Conditional.{isTernary, conditional-free, conditional-
 use Rattle.molang.proofs.Work.{Kind, State, ternary, work, begins, inReading, takes, andThen}
 use Rattle.ops.specs.Classes.{passClasses, ownClasses, inClass, bitAt, meets, shares}
 use Rattle.ops.proofs.ClassLaws.{stands-for}
-use Rattle.nodes.specs.Store.{wd, RepT, InArray}
+use Rattle.nodes.specs.Store.{wd, RepT}
 use Rattle.nodes.specs.Slots.{isLeafAt}
 use Rattle.nodes.specs.declared.frames.List.{List as Items}
-use Rattle.nodes.proofs.Store.{tree-below, back-le, back-raise, back-count, rep-le}
+use Rattle.nodes.proofs.Store.{tree-below, back-le, back-count}
 use Rattle.nodes.proofs.Trees.{leaf-test}
 use Rattle.walks.specs.Passes.{walkOf, movedTo, Exact, Runs, tern, waits}
 use Rattle.walks.specs.Items.{BackArray, Ahead}
-use Rattle.walks.specs.Sides.{tokensIn, TernarySide, all, Sides, Holds}
-use Rattle.walks.specs.Turns.{SameList, Within, CanTurn, turnsLeft, afresh}
+use Rattle.walks.specs.Sides.{tokensIn, TernarySide, all, Sides}
+use Rattle.walks.specs.Turns.{CanTurn, afresh}
 use Rattle.walks.specs.declared.turns.Pass.the-variants.{Ternary}
 use Rattle.walks.specs.declared.turns.Turn.{Turn}
 use Rattle.walks.specs.declared.turns.Turn.the-variants.{Enter, Over}
@@ -75,7 +73,7 @@ tokens-few P (node k nil d) = decided (λ n. n ≤ suc (count d)) (P (k .op)) (1
 tokens-few P (node k (node c cs r) d) = omega (arith, tokens-few P d)
 
 -- none: the list is left as it is
-pub tokens-clear : (P : ℕ → Bool) (d : Forest) → tokensIn P d ≡ 0 → clear P d ≡ true
+tokens-clear : (P : ℕ → Bool) (d : Forest) → tokensIn P d ≡ 0 → clear P d ≡ true
 unfolding tokensIn clear
 tokens-clear P nil h = refl
 tokens-clear P (node k nil d) h = go (P (k .op)) refl (λ e. tokens-clear P d e)

@@ -1,15 +1,15 @@
 -- The loop of `dangling`: the first `?` or `:` that nothing is under.
-use Prim.Native.Nat.{ℕ, _+_, _*_, _-_, _^_, _≤_, _<_}
-use mathlib.Core.Path.{_≡_, refl, sym, ap, _∙_, subst}
+use Prim.Native.Nat.{ℕ, _+_, _*_, _^_, _≤_, _<_}
+use mathlib.Core.Path.{_≡_, refl, sym, ap, _∙_}
 use mathlib.Core.Bool.{Bool, true, false, _||_}
 use mathlib.Core.List.{List}
-use mathlib.Core.Option.{none, some}
+use mathlib.Core.Option.{some}
 use native.Mathlib.Omega.{arith}
 use lib.ListN.{length}
 use Rattle.molang.specs.Operator
-use Rattle.molang.specs.Forest.{Token, Forest, nil, node}
+use Rattle.molang.specs.Forest.{Token, Forest, node}
 use Rattle.molang.specs.Conditional.{isToken, dangling}
-use Rattle.nodes.specs.Store.{wd, RepT}
+use Rattle.nodes.specs.Store.{wd}
 use Rattle.nodes.specs.Slots.{isTokenAt}
 use Rattle.nodes.proofs.Store.{tree-below}
 use Rattle.nodes.proofs.Trees.{token-test}

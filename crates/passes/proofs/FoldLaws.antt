@@ -1,28 +1,25 @@
 -- The conditional's fold: one step of the scan as an equation, and what a fold of two trees under an operator between them does to the words.
-use Prim.Native.Nat.{ℕ, zero, suc, _+_, _*_, _-_, _^_, _≤_, _<_}
-use mathlib.Core.Path.{_≡_, refl, sym, ap, _∙_, subst}
-use mathlib.Core.Logic.{_≢_, _⊎_, inl, inr, ⊎-elim}
-use mathlib.Core.Bool.{Bool, true, false, true≢false}
-use mathlib.Core.List.{List, [], _∷_}
+use Prim.Native.Nat.{ℕ, _+_, _*_, _-_, _≤_, _<_}
+use mathlib.Core.Path.{_≡_, refl, _∙_, subst}
+use mathlib.Core.Logic.{_≢_, inl, inr}
+use mathlib.Core.Bool.{true, false}
+use mathlib.Core.List.{List}
 use native.Mathlib.Omega.{arith}
 use native.Mathlib.Nat.{le-refl}
-use lib.Dec.{eqb}
 use borrow.Author.Tests.{eqb-true, ne-eqb}
 use lib.ListN.{length, set}
 use Rattle.molang.specs.Operator
 use Rattle.molang.specs.Forest.{Token, Forest, nil, node}
 use Rattle.molang.specs.Conditional.{isToken, startsWith, under, pairElse, scan}
-use Rattle.molang.proofs.Trees.{isNil}
 use Rattle.molang.proofs.Conditional.{scanned, scan-once}
 use Rattle.nodes.specs.Store.{wd, TokenAt, Out, RepT, Free}
-use Rattle.nodes.specs.declared.frames.List.{List as Items}
 use Rattle.nodes.proofs.Runs.{set-same, set-other, set-long}
 use Rattle.nodes.proofs.Store.{tree-below, tree-out, tree-keep, tree-widen}
 use Rattle.nodes.proofs.Trees.{tree-under, attach-two-trees, attach-two-kept}
 use Rattle.walks.specs.Items.{BackArray, Ahead}
 use Rattle.walks.proofs.Reading.{AheadTo, item, ahead-item, ahead-keep, ahead-le, back-array-keep}
 use Rattle.passes.specs.UnaryTurns.{RightList}
-use Rattle.passes.specs.Folding.{scanAt, Grouped, CanFoldLast, FoldedLast}
+use Rattle.passes.specs.Folding.{scanAt, Grouped, FoldedLast}
 use Rattle.passes.proofs.RightLaws.{LastUnread, last, unread-last, ahead-cons}
 
 -- ---- one step of the scan
@@ -66,7 +63,7 @@ module _ (a : Token) (aa : Forest) (b : Token) (bs left right : Forest) where
 
 module _ {W W' X : List ℕ} {q b c at l m l' m' : ℕ} {t u : Token} {k j : Forest} (w : Grouped W q b c at W') (v : RepT W X b l m t k) (x : RepT W X c l' m' u j)
     (before : m ≤ q) (after : q < l') (out : Out q X) where
-  pub group-tree : {o : Token} → TokenAt W q o → 0 < q → 8 * m' ≤ at → RepT W' X q l m' o (node t k (node u j nil))
+  group-tree : {o : Token} → TokenAt W q o → 0 < q → 8 * m' ≤ at → RepT W' X q l m' o (node t k (node u j nil))
   group-tree {o} token pos above =
       let vl = v .low in
       let vh = tree-below v in
@@ -85,7 +82,7 @@ module _ {W W' X : List ℕ} {q b c at l m l' m' : ℕ} {t u : Token} {k j : For
       set-other (w .Z) W' at q (w .stored) i n
       ∙ attach-two-kept (w .attached) (tree-under q (inr before) v) (tree-under q (inl after) x) (omega arith) out (omega arith) (omega arith) low high i f
 
-pub group-same : {W W' : List ℕ} {q b c at : ℕ} → Grouped W q b c at W' → (i : ℕ) → i ≢ at → i ≢ 8 * q + 5 → i ≢ 8 * b + 6 → i ≢ 8 * c + 6 → i ≢ 8 * q + 7 → wd W' i ≡ wd W i
+group-same : {W W' : List ℕ} {q b c at : ℕ} → Grouped W q b c at W' → (i : ℕ) → i ≢ at → i ≢ 8 * q + 5 → i ≢ 8 * b + 6 → i ≢ 8 * c + 6 → i ≢ 8 * q + 7 → wd W' i ≡ wd W i
 group-same {W' = W'} {q = q} {at = at} w i n e f g h = set-other (w .Z) W' at q (w .stored) i n ∙ w .attached .same i e f g h
 
 pub group-long : {W W' : List ℕ} {q b c at : ℕ} → Grouped W q b c at W' → length W' ≡ length W

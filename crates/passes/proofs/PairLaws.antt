@@ -1,11 +1,10 @@
 -- A folded `?` in the scan: `fold_else` after `fold_last`.
-use Prim.Native.Nat.{ℕ, zero, suc, _+_, _*_, _-_, _^_, _≤_, _<_}
+use Prim.Native.Nat.{ℕ, _+_, _-_, _≤_, _<_}
 use mathlib.Core.Path.{_≡_, refl, sym, ap, _∙_, subst}
-use mathlib.Core.Logic.{_≢_, _⊎_, inl, inr, ⊎-elim}
+use mathlib.Core.Logic.{_≢_, ⊎-elim}
 use mathlib.Core.Bool.{Bool, true, false, true≢false}
 use mathlib.Core.List.{List}
 use native.Mathlib.Omega.{arith}
-use native.Mathlib.Nat.{le-refl}
 use lib.ListN.{length}
 use Rattle.molang.specs.Operator
 use Rattle.molang.specs.Forest.{Token, Forest, nil, node, count}
@@ -14,7 +13,7 @@ use Rattle.nodes.specs.Store.{wd, RepT, Kept}
 use Rattle.nodes.specs.Slots.{isTokenAt}
 use Rattle.nodes.proofs.Store.{rep-count, tree-below, tree-out, back-le}
 use Rattle.nodes.proofs.Trees.{token-test}
-use Rattle.walks.specs.Items.{BackArray, Ahead}
+use Rattle.walks.specs.Items.{Ahead}
 use Rattle.walks.proofs.Reading.{AheadTo, item, ahead-item, ahead-le}
 use Rattle.passes.specs.UnaryTurns.{RightList}
 use Rattle.passes.specs.Folding.{scanAt, Grouped, FoldedLast, CanFoldElse, ElseFolded, start, short, noIf, noElse, pair, CanScan, ScanTo, FoldedNext}
@@ -172,7 +171,7 @@ module _ {W W1 : List ℕ} {base len left right : ℕ} (g : CanScan W base len l
           first : {R : Forest} → AheadTo W1 (g .X) base right len d (g .hi) (wd W1 (base + right)) R → wd W1 (base + right) ≢ wd W1 (base + (right + 2))
           first (item low u r) = let later = done-slot r (right + 2) (omega arith) h in omega (arith, tree-below u)
 
-  pub scanned-if : {W' : List ℕ} {r : ℕ} → ElseFolded W1 base len (left - 2) right r W' → ScanTo W' (g .X) (g .lo) (g .hi) base len (g .L) (g .R) (left - 2) r
+  scanned-if : {W' : List ℕ} {r : ℕ} → ElseFolded W1 base len (left - 2) right r W' → ScanTo W' (g .X) (g .lo) (g .hi) base len (g .L) (g .R) (left - 2) r
   scanned-if {W'} {r} o =
       with-fold (λ L. ScanTo W' (g .X) (g .lo) (g .hi) base len L (g .R) (left - 2) r)
       (λ a b bs rest d t list.

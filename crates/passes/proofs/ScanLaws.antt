@@ -1,27 +1,27 @@
 -- One step of the scan on the list's trees: what each path of `fold_next` leads to.
-use Prim.Native.Nat.{ℕ, zero, suc, _+_, _*_, _-_, _^_, _≤_, _<_}
+use Prim.Native.Nat.{ℕ, zero, suc, _+_, _-_, _≤_, _<_}
 use mathlib.Core.Path.{_≡_, refl, sym, ap, _∙_, subst}
-use mathlib.Core.Logic.{_≢_, _⊎_, inl, inr, ⊎-elim}
+use mathlib.Core.Logic.{⊎-elim}
 use mathlib.Core.Bool.{Bool, true, false, true≢false}
-use mathlib.Core.List.{List, [], _∷_}
+use mathlib.Core.List.{List}
 use native.Mathlib.Omega.{arith}
 use native.Mathlib.Nat.{le-refl}
 use native.Mathlib.Decide.{ℕ-discrete}
 use lib.ListN.{length, set}
 use Rattle.molang.specs.Operator
 use Rattle.molang.specs.Forest.{Token, Forest, nil, node}
-use Rattle.molang.specs.Conditional.{isToken, startsWith, under, pairElse, scan}
-use Rattle.nodes.specs.Store.{wd, Seg, SegB, RepT, RepF, ends, more, RepB, begins, put, Free, Kept}
+use Rattle.molang.specs.Conditional.{isToken, startsWith, under, scan}
+use Rattle.nodes.specs.Store.{wd, Seg, SegB, RepT, RepF, ends, more, RepB, begins, put, Kept}
 use Rattle.nodes.specs.Slots.{isTokenAt}
 use Rattle.nodes.proofs.Runs.{set-other, set-long}
 use Rattle.nodes.proofs.Store.{reserve-pos, rep-le, tree-below, tree-out, back-le}
 use Rattle.nodes.proofs.Trees.{token-test}
 use Rattle.walks.specs.Items.{BackArray, Ahead}
-use Rattle.walks.proofs.Reading.{AheadTo, item, ahead-item, ahead-end, ahead-le}
+use Rattle.walks.proofs.Reading.{AheadTo, item, ahead-item, ahead-le}
 use Rattle.passes.specs.UnaryTurns.{RightList}
-use Rattle.passes.specs.Folding.{scanAt, Grouped, CanFoldLast, FoldedLast, CanLook, IsElse, few, other, looked, CanFoldElse, ElseFolded, CanScan, ScanTo, CanFoldNext, FoldedNext}
+use Rattle.passes.specs.Folding.{scanAt, CanFoldLast, FoldedLast, CanLook, IsElse, few, other, looked, CanScan, ScanTo, FoldedNext}
 use Rattle.passes.proofs.RightLaws.{LastUnread, last, unread-last, unread-none}
-use Rattle.passes.proofs.FoldLaws.{scan-else, scan-pair, scan-if, scan-on, scan-stray, group-kept, group-long, LastTwo, two, last-two, FoldedTo, folded, fold-last, KeptTo, kept, keep-last}
+use Rattle.passes.proofs.FoldLaws.{scan-else, scan-on, scan-stray, group-kept, group-long, LastTwo, two, last-two, FoldedTo, folded, fold-last, KeptTo, kept, keep-last}
 
 -- ---- the items are slots
 
@@ -99,7 +99,7 @@ module _ {W : List ℕ} {base len left right : ℕ} (g : CanScan W base len left
       record { two = z; behind = behind; place = omega arith; own = omega arith; first = omega arith; second = omega arith; apart = omega arith }
 
   -- `? then : else` is folded under the `:`
-  pub scanned-else : {W' : List ℕ} → 2 ≤ left → IsElse W base left true → FoldedLast W base left right W' → ScanTo W' (g .X) (g .lo) (g .hi) base len (g .L) (g .R) (left - 2) right
+  scanned-else : {W' : List ℕ} → 2 ≤ left → IsElse W base left true → FoldedLast W base left right W' → ScanTo W' (g .X) (g .lo) (g .hi) base len (g .L) (g .R) (left - 2) right
   scanned-else {W'} z (looked h e q) w = go (g .list) (last-two (g .list .unread) z)
     where
       three : left - 2 - 1 ≡ left - 3
@@ -137,7 +137,7 @@ module _ {W : List ℕ} {base len left right : ℕ} (g : CanScan W base len left
           group-kept w tb t (omega (arith, ta .low)) (omega (arith, tree-below ta)) (tree-out ta) (back-le (r .rep)) (ahead-le after .0) j f (⊎-elim (λ x. omega arith) (λ x. omega arith) o)
 
   -- the item stays as it is
-  pub scanned-on : {W' : List ℕ} → 2 ≤ left → IsElse W base left false → isTokenAt W (wd W (base + (left - 1))) Operator.conditional ≡ false
+  scanned-on : {W' : List ℕ} → 2 ≤ left → IsElse W base left false → isTokenAt W (wd W (base + (left - 1))) Operator.conditional ≡ false
       → W' ≡ set W (base + (right - 1)) (wd W (base + (left - 1))) → ScanTo W' (g .X) (g .lo) (g .hi) base len (g .L) (g .R) (left - 1) (right - 1)
   scanned-on {W'} z no-else no-if ew = go (last-two (g .list .unread) z) (keep-last (g .list) (omega arith) (g .behind) ew)
     where

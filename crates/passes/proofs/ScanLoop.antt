@@ -1,14 +1,15 @@
--- The loop of `fold_conditionals`: how the scan begins, and where it ends.
-use Prim.Native.Nat.{ℕ, zero, suc, _+_, _*_, _-_, _^_, _≤_, _<_}
+-- The loop of `fold_conditionals`: how the scan begins, that each step keeps what it leads to, and where it ends. Leans on FoldLaws for an item that
+-- stays as it is, and on RightLaws for the unread items.
+use Prim.Native.Nat.{ℕ, _+_, _*_, _-_, _^_, _≤_, _<_}
 use mathlib.Core.Path.{_≡_, refl, sym, ap, _∙_, subst}
 use mathlib.Core.Logic.{⊎-elim}
-use mathlib.Core.List.{List, [], _∷_}
+use mathlib.Core.List.{List, []}
 use native.Mathlib.Omega.{arith}
-use native.Mathlib.Nat.{add-zero, le-refl}
+use native.Mathlib.Nat.{le-refl}
 use lib.ListN.{length, set}
 use Rattle.molang.specs.Forest.{Token, Forest, nil, node, turnedOnto, inOrder, count}
 use Rattle.molang.specs.Conditional.{scan, foldedFrom}
-use Rattle.nodes.specs.Store.{wd, RepT, RepF, ends, Kept}
+use Rattle.nodes.specs.Store.{wd, RepT, ends, Kept}
 use Rattle.nodes.proofs.Runs.{set-other, set-long}
 use Rattle.nodes.proofs.Store.{rep-lower, back-le, back-count}
 use Rattle.nodes.proofs.Trees.{gathered-array}
@@ -29,9 +30,6 @@ scan-begins : {W X : List ℕ} {lo hi base len : ℕ} {d : Forest} → BackArray
 unfolding foldedFrom
 scan-begins {W} {X} {lo} {hi} {base} {len} v h below within small = go (unread-last v (omega arith))
   where
-    all : len - 1 + 1 ≡ len
-    all = omega arith
-
     at : {a c : ℕ} {k : Token} {ks rest : Forest} → RepT W X (wd W (base + (len - 1))) a c k ks → c ≤ hi → BackArray W X base (len - 1) lo a rest → LastTwo W X base (len - 1) lo a rest
         → BeganWith W X lo hi base len (node k ks rest)
     at {a} {c} {k} {ks} t y r (two ta q tb f s) =
@@ -47,18 +45,30 @@ scan-none : {W X : List ℕ} {lo l m hi base len left right : ℕ} {L R : Forest
 unfolding scan
 scan-none {L = L} {R = R} list e = ap (λ (f : Forest). scan f R) (unread-none L (list .unread) e)
 
--- one item is
-data EndedWith (W' X : List ℕ) (lo hi base len right : ℕ) (L R : Forest) : Type 0 where
-  ended : {f rest : Forest} {e : ℕ} → RightList W' X lo e e hi (scanAt base len 0 (right - 1)) f rest → scan L R ≡ f → EndedWith W' X lo hi base len right L R
+-- the done items, as the list's interval has them
+all-done : {W X : List ℕ} {lo l m hi base len left right : ℕ} {f rest : Forest} → RightList W X lo l m hi (scanAt base len left right) f rest → Ahead W X base right len lo hi f
+all-done list =
+    let mid = list .mid in
+    let v = list .done in
+    record {
+      n = v .n;
+      count = v .count;
+      array = record { bs = v .array .bs; seg = v .array .seg; count = v .array .count; rep = rep-lower (omega (arith, back-le (list .unread .rep))) (v .array .rep) };
+    }
 
-scan-one : {W W' X : List ℕ} {lo l m hi base len right : ℕ} {L R : Forest} → RightList W X lo l m hi (scanAt base len 1 right) R L → 1 ≤ right
-    → W' ≡ set W (base + (right - 1)) (wd W (base + 0)) → EndedWith W' X lo hi base len right L R
+-- one item is unread, and stands before the done ones then
+scan-one : {W W' X : List ℕ} {lo l m hi base len left right : ℕ} {L R : Forest} → RightList W X lo l m hi (scanAt base len left right) R L → left ≡ 1 → left ≤ right
+    → W' ≡ set W (base + (right - 1)) (wd W base) → Ahead W' X base (right - 1) len lo hi (scan L R)
 unfolding scan
-scan-one {W} {W'} {X} {lo} {l} {m} {hi} {base} {len} {right} {L} {R} list behind ew = go (keep-last list (omega arith) behind ew)
+scan-one {W} {W'} {X} {lo} {l} {m} {hi} {base} {len} {left} {right} {L} {R} list one behind ew =
+    go (keep-last list (omega arith) behind (ew ∙ ap (λ (i : ℕ). set W (base + (right - 1)) (wd W i)) first))
   where
-    go : {L : Forest} → KeptTo W' X lo hi base len 1 right R L → EndedWith W' X lo hi base len right L R
-    go (kept {a = a} {aa = aa} {rest = rest} {e = e} list') =
-        ended list' (ap (λ (f : Forest). scan (node a aa f) R) (unread-none rest (list' .unread) refl))
+    first : base ≡ base + (left - 1)
+    first = omega arith
+
+    go : {L : Forest} → KeptTo W' X lo hi base len left right R L → Ahead W' X base (right - 1) len lo hi (scan L R)
+    go (kept {a = a} {aa = aa} {rest = rest} list') =
+        subst (λ (f : Forest). Ahead W' X base (right - 1) len lo hi (scan (node a aa f) R)) (sym (unread-none rest (list' .unread) (omega arith))) (all-done list')
 
 -- ---- the loop
 
@@ -136,17 +146,6 @@ folded-few {W} {base} {len} h =
       long = refl;
     }
 
--- the done items, as the list's interval has them
-all-done : {W X : List ℕ} {lo l m hi base len left right : ℕ} {f rest : Forest} → RightList W X lo l m hi (scanAt base len left right) f rest → Ahead W X base right len lo hi f
-all-done list =
-    let mid = list .mid in
-    let v = list .done in
-    record {
-      n = v .n;
-      count = v .count;
-      array = record { bs = v .array .bs; seg = v .array .seg; count = v .array .count; rep = rep-lower (omega (arith, back-le (list .unread .rep))) (v .array .rep) };
-    }
-
 module _ {W : List ℕ} {base len : ℕ} {Z : List ℕ} {left right : ℕ} (s : Scanning W base len Z left right) where
   pub folded-none : left ≡ 0 → FoldedAll W base len right Z
   folded-none e =
@@ -159,11 +158,7 @@ module _ {W : List ℕ} {base len : ℕ} {Z : List ℕ} {left right : ℕ} (s : 
   pub folded-one : {Z' : List ℕ} → left ≡ 1 → Z' ≡ set Z (base + (right - 1)) (wd Z base) → FoldedAll W base len (right - 1) Z'
   folded-one {Z'} e ez =
       record {
-        to = λ g.
-            let v = s .at g in
-            let n = v .to in
-            rw (v .same ∙ n .same)
-            (go (scan-one (subst (λ (i : ℕ). RightList Z (g .X) (g .lo) (n .l) (n .m) (g .hi) (scanAt base len i right) (n .R') (n .L')) e (n .list)) (omega (arith, n .behind)) (rw (add-zero) ez)));
+        to = λ g. let v = s .at g in rw (v .same ∙ v .to .same) (scan-one (v .to .list) e (v .to .behind) ez);
         kept = λ g.
             let v = s .at g in
             let behind = v .to .behind in
@@ -172,6 +167,3 @@ module _ {W : List ℕ} {base len : ℕ} {Z : List ℕ} {left right : ℕ} (s : 
             (λ j f o. set-other Z Z' (base + (right - 1)) (wd Z base) ez j (⊎-elim (λ x. omega arith) (λ x. omega arith) o));
         long = set-long Z Z' (base + (right - 1)) (wd Z base) ez ∙ s .long;
       }
-    where
-      go : {X : List ℕ} {lo hi : ℕ} {L R : Forest} → EndedWith Z' X lo hi base len right L R → Ahead Z' X base (right - 1) len lo hi (scan L R)
-      go (ended list same) = rw same (all-done list)

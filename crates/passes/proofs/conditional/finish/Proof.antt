@@ -1,6 +1,4 @@
 -- `passes::conditional::finish` meets its contract.
-use Prim.Native.Nat.{ℕ, _+_, _≤_, _<_}
-use mathlib.Core.Path.{_≡_}
 use native.Mathlib.Omega.{arith}
 use borrow.Author.Needs.{needs}
 use Rattle.passes.proofs.ConditionalEnd.{can-fold, can-dangle, ends-idle, ends-folded, ends-dangling}

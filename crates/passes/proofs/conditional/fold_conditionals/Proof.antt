@@ -1,10 +1,8 @@
 -- `passes::conditional::fold_conditionals` meets its contract.
-use Prim.Native.Nat.{ℕ, _+_, _*_, _-_, _^_, _≤_, _<_}
-use mathlib.Core.Path.{_≡_, refl, _∙_}
+use Prim.Native.Nat.{_+_, _^_, _≤_, _<_}
+use mathlib.Core.Path.{_≡_, refl}
 use native.Mathlib.Omega.{arith}
 use lib.ListN.{length}
-use Rattle.nodes.proofs.Runs.{set-long}
-use Rattle.nodes.specs.Store.{wd}
 use Rattle.passes.specs.Folding.{CanFold}
 use Rattle.passes.proofs.ScanLoop.{Scanning, scan-start, scan-in, next-can, scan-next, folded-few, folded-none, folded-one}
 use Rattle.passes.proofs.conditional.fold_conditionals.Statement.{statement}

@@ -1,5 +1,5 @@
 -- `passes::conditional::fold_else` meets its contract.
-use Prim.Native.Nat.{ℕ, _+_, _*_, _-_, _≤_, _<_}
+use Prim.Native.Nat.{_+_, _-_, _<_}
 use mathlib.Core.Path.{refl, sym, _∙_}
 use native.Mathlib.Omega.{arith}
 use Rattle.passes.specs.Folding.{start, short, noIf, noElse, pair}

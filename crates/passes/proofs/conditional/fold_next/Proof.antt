@@ -1,6 +1,6 @@
 -- `passes::conditional::fold_next` meets its contract.
 use Rattle.passes.proofs.PairLaws.{else-can, next-if}
-use Prim.Native.Nat.{ℕ, _+_, _*_, _-_, _≤_, _<_}
+use Prim.Native.Nat.{_-_}
 use mathlib.Core.Path.{refl, sym, _∙_}
 use native.Mathlib.Omega.{arith}
 use Rattle.passes.proofs.ScanLaws.{scan-look, scan-fold, next-else, next-on}

@@ -1,6 +1,6 @@
 -- `passes::conditional::is_else` meets its contract.
-use Prim.Native.Nat.{ℕ, _+_, _*_, _-_, _≤_, _<_}
-use mathlib.Core.Path.{refl, sym, _∙_}
+use Prim.Native.Nat.{_-_, _≤_}
+use mathlib.Core.Path.{sym, _∙_}
 use native.Mathlib.Omega.{arith}
 use Rattle.passes.specs.Folding.{few, other, looked}
 use borrow.Author.Needs.{needs}
