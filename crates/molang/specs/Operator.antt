@@ -30,14 +30,101 @@ negate = 6
 abbrev pub logicalNot : ℕ
 logicalNot = 7
 
+abbrev pub abs : ℕ
+abs = 8
+
 abbrev pub add : ℕ
 add = 9
+
+abbrev pub acos : ℕ
+acos = 10
+
+abbrev pub asin : ℕ
+asin = 11
+
+abbrev pub atan : ℕ
+atan = 12
+
+abbrev pub atan2 : ℕ
+atan2 = 13
+
+abbrev pub ceil : ℕ
+ceil = 14
+
+abbrev pub clamp : ℕ
+clamp = 15
+
+abbrev pub copySign : ℕ
+copySign = 16
+
+abbrev pub cos : ℕ
+cos = 17
+
+abbrev pub dieRoll : ℕ
+dieRoll = 18
+
+abbrev pub dieRollInt : ℕ
+dieRollInt = 19
 
 abbrev pub div : ℕ
 div = 20
 
+abbrev pub exp : ℕ
+exp = 21
+
+abbrev pub floor : ℕ
+floor = 22
+
+abbrev pub hermiteBlend : ℕ
+hermiteBlend = 23
+
+abbrev pub lerp : ℕ
+lerp = 24
+
+abbrev pub lerpRotate : ℕ
+lerpRotate = 25
+
+abbrev pub ln : ℕ
+ln = 26
+
+abbrev pub max : ℕ
+max = 27
+
+abbrev pub min : ℕ
+min = 28
+
+abbrev pub minAngle : ℕ
+minAngle = 29
+
+abbrev pub «mod» : ℕ
+«mod» = 30
+
 abbrev pub mul : ℕ
 mul = 31
+
+abbrev pub pow : ℕ
+pow = 32
+
+abbrev pub random : ℕ
+random = 33
+
+abbrev pub randomInt : ℕ
+randomInt = 34
+
+abbrev pub round : ℕ
+round = 35
+
+abbrev pub sin : ℕ
+sin = 36
+
+abbrev pub sign : ℕ
+sign = 37
+
+abbrev pub sqrt : ℕ
+sqrt = 38
+
+abbrev pub trunc : ℕ
+trunc = 39
 
 abbrev pub queryFunction : ℕ
 queryFunction = 40
@@ -111,6 +198,15 @@ pi = 62
 abbrev pub array : ℕ
 array = 63
 
+abbrev pub geometry : ℕ
+geometry = 64
+
+abbrev pub material : ℕ
+material = 65
+
+abbrev pub texture : ℕ
+texture = 66
+
 abbrev pub loop : ℕ
 loop = 67
 
@@ -144,6 +240,105 @@ this = 76
 abbrev pub expressionArray : ℕ
 expressionArray = 77
 
+abbrev pub inverseLerp : ℕ
+inverseLerp = 78
+
+abbrev pub easeInQuad : ℕ
+easeInQuad = 79
+
+abbrev pub easeOutQuad : ℕ
+easeOutQuad = 80
+
+abbrev pub easeInOutQuad : ℕ
+easeInOutQuad = 81
+
+abbrev pub easeInCubic : ℕ
+easeInCubic = 82
+
+abbrev pub easeOutCubic : ℕ
+easeOutCubic = 83
+
+abbrev pub easeInOutCubic : ℕ
+easeInOutCubic = 84
+
+abbrev pub easeInQuart : ℕ
+easeInQuart = 85
+
+abbrev pub easeOutQuart : ℕ
+easeOutQuart = 86
+
+abbrev pub easeInOutQuart : ℕ
+easeInOutQuart = 87
+
+abbrev pub easeInQuint : ℕ
+easeInQuint = 88
+
+abbrev pub easeOutQuint : ℕ
+easeOutQuint = 89
+
+abbrev pub easeInOutQuint : ℕ
+easeInOutQuint = 90
+
+abbrev pub easeInSine : ℕ
+easeInSine = 91
+
+abbrev pub easeOutSine : ℕ
+easeOutSine = 92
+
+abbrev pub easeInOutSine : ℕ
+easeInOutSine = 93
+
+abbrev pub easeInExpo : ℕ
+easeInExpo = 94
+
+abbrev pub easeOutExpo : ℕ
+easeOutExpo = 95
+
+abbrev pub easeInOutExpo : ℕ
+easeInOutExpo = 96
+
+abbrev pub easeInCirc : ℕ
+easeInCirc = 97
+
+abbrev pub easeOutCirc : ℕ
+easeOutCirc = 98
+
+abbrev pub easeInOutCirc : ℕ
+easeInOutCirc = 99
+
+abbrev pub easeInBounce : ℕ
+easeInBounce = 100
+
+abbrev pub easeOutBounce : ℕ
+easeOutBounce = 101
+
+abbrev pub easeInOutBounce : ℕ
+easeInOutBounce = 102
+
+abbrev pub easeInBack : ℕ
+easeInBack = 103
+
+abbrev pub easeOutBack : ℕ
+easeOutBack = 104
+
+abbrev pub easeInOutBack : ℕ
+easeInOutBack = 105
+
+abbrev pub easeInElastic : ℕ
+easeInElastic = 106
+
+abbrev pub easeOutElastic : ℕ
+easeOutElastic = 107
+
+abbrev pub easeInOutElastic : ℕ
+easeInOutElastic = 108
+
+abbrev pub hostMath : ℕ
+hostMath = 109
+
+abbrev pub hostMathVolatile : ℕ
+hostMathVolatile = 110
+
 -- Some operator of the list passes the test.
 unfoldable pub any : (ℕ → Bool) → List ℕ → Bool
 any test [] = false
@@ -157,9 +352,9 @@ isOneOf os n = any (eqb n) os
 unfoldable pub between : ℕ → ℕ → ℕ → Bool
 between a b n = leb a n && leb n b
 
--- The math calls of document 01: 8, 10-19, 21-30, 32-39, 78-110 (`is_math_call` in mod.rs).
+-- The math calls of document 01: 8, 10-19, 21-30, 32-39, 78-110, here by the names at the ends (`is_math_call` in mod.rs).
 unfoldable pub isMathCall : ℕ → Bool
-isMathCall n = eqb n 8 || between 10 19 n || between 21 30 n || between 32 39 n || between 78 110 n
+isMathCall n = eqb n abs || between acos dieRollInt n || between exp «mod» n || between pow trunc n || between inverseLerp hostMathVolatile n
 
 -- The brackets of document 01 are round.
 unfoldable pub isBracket : ℕ → Bool

@@ -33,11 +33,14 @@ placeUnder p i =
 
 -- A leaf of 40, 42-44, 46-49, 61, 62 or 76.
 unfoldable pub isPlainLeaf : ℕ → Bool
-isPlainLeaf n = eqb n Operator.queryFunction || between 42 44 n || between 46 49 n || eqb n Operator.float || eqb n Operator.pi || eqb n Operator.this
+isPlainLeaf n =
+    eqb n Operator.queryFunction || between Operator.contextVariable Operator.tempVariable n
+    || between Operator.stringLiteral Operator.textureVariable n || eqb n Operator.float || eqb n Operator.pi || eqb n Operator.this
 
 -- 9, 20, 31, 50-59 or 75, with two children.
 unfoldable pub isPlainBinary : ℕ → Bool
-isPlainBinary n = eqb n Operator.add || eqb n Operator.div || eqb n Operator.mul || between 50 59 n || eqb n Operator.comma
+isPlainBinary n =
+    eqb n Operator.add || eqb n Operator.div || eqb n Operator.mul || between Operator.lessThan Operator.conditional n || eqb n Operator.comma
 
 -- 40 or a math call.
 unfoldable pub isCall : ℕ → Bool
