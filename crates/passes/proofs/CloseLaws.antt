@@ -16,9 +16,10 @@ use Rattle.molang.proofs.Work.{Kind, calls, statements, arrays, unaries, ternar
 use Rattle.ops.specs.declared.classes.TokenClasses.{TokenClasses}
 use Rattle.nodes.specs.Store.{wd, TokenAt, Out, RepT, Owned, InArray, Free}
 use Rattle.nodes.specs.Children.{CanGive, Given}
-use Rattle.nodes.specs.Frames.{CanPop}
+use Rattle.nodes.specs.Frames.{FrameAt, CanPop}
 use Rattle.passes.specs.Driver.{FrameWords}
 use Rattle.nodes.specs.declared.frames.List.{List as Items}
+use Rattle.nodes.specs.declared.frames.Held.{Held as Words}
 use Rattle.nodes.specs.declared.frames.Frame.{Frame}
 use Rattle.nodes.proofs.Runs.{off-word}
 use Rattle.nodes.proofs.Trees.{array-give, array-owned, owned-tree}
@@ -343,6 +344,13 @@ module _ {W W1 : List ℕ} {w : Walk} {base0 from n : ℕ} (g : CanClose W w bas
           beyond3 = beyond-then beyond2 (top-beyond base0 (g .hi0) below-bounds same3 (within3 .long))
 
 -- ---- `close`
+
+-- What `pop` ensures, word by word.
+pub popped : {W : List ℕ} {top : ℕ} {l : Items} {h : Words} → FrameAt W top l h → FrameWords W top (l .owner) (l .base) (l .read) (l .write) (h .first) (h .second)
+popped f = record { owner-word = f .owner-word; base-word = f .base-word; read-word = f .read-word; write-word = f .write-word; first-word = f .first-word; second-word = f .second-word }
+
+pub popped-len : {W : List ℕ} {top : ℕ} {l : Items} {h : Words} → FrameAt W top l h → l .len ≡ top - l .base
+popped-len f = let above = f .above in omega arith
 
 pub ended-at : {W W1 : List ℕ} {w : Walk} (r q : Finished) → r ≡ q → Ends W w r W1 → Ends W w q W1
 ended-at {W} {W1} {w} r q e x = subst (λ (y : Finished). Ends W w y W1) e x

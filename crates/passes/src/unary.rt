@@ -22,7 +22,7 @@ ghost use Rattle.walks.specs.Turns.{Turned};
 ghost use Rattle.passes.specs.UnaryTurns.{CanSeekBack, SoughtBack, CanTakeToken, CanTakeMinus, TokenTaken, CanPrefix, Prefixed, Added, CanSubtract, Subtracted};
 
 // The list with `item` before its done items.
-fn keep_right(work: &mut [u32], list: List, item: u32) -> List
+pub fn keep_right(work: &mut [u32], list: List, item: u32) -> List
     requires { ⌜ (0 < list .write) × (list .base + list .write < length (now work) + 1) ⌝ }
     ensures { λ r. ⌜ (r ≡ movedTo list (list .read) (list .write - 1)) × (now (work .exit) ≡ set (now (work .entry)) (list .base + (list .write - 1)) item) ⌝ }
 {
