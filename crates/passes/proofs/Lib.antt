@@ -39,3 +39,4 @@ pub mod DescendLaws
 pub mod CloseLaws
 pub mod AdvanceLaws
 pub mod RunLaws
+pub mod GateLaws

@@ -7,3 +7,4 @@ pub mod Arrays
 pub mod UnaryTurns
 pub mod Folding
 pub mod Driver
+pub mod Choice

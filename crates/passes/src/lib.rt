@@ -5,6 +5,7 @@ pub mod binary;
 pub mod calls;
 pub mod conditional;
 pub mod driver;
+pub mod group;
 pub mod prefix;
 pub mod sections;
 pub mod statements;
