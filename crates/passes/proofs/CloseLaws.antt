@@ -17,9 +17,7 @@ use Rattle.ops.specs.declared.classes.TokenClasses.{TokenClasses}
 use Rattle.nodes.specs.Store.{wd, TokenAt, Out, RepT, Owned, InArray, Free}
 use Rattle.nodes.specs.Children.{CanGive, Given}
 use Rattle.nodes.specs.Frames.{FrameAt, CanPop}
-use Rattle.passes.specs.Driver.{FrameWords}
 use Rattle.nodes.specs.declared.frames.List.{List as Items}
-use Rattle.nodes.specs.declared.frames.Held.{Held as Words}
 use Rattle.nodes.specs.declared.frames.Frame.{Frame}
 use Rattle.nodes.proofs.Runs.{off-word}
 use Rattle.nodes.proofs.Trees.{array-give, array-owned, owned-tree}
@@ -242,14 +240,12 @@ module _ {W W1 : List ℕ} {w : Walk} {base0 from n : ℕ} (g : CanClose W w bas
 
       -- ---- the frame's words are that list
 
-      module _ (fr : Frame) (p : Pass)
-          (words : FrameWords W2 (w .list .base - 6) (fr .list .owner) (fr .list .base) (fr .list .read) (fr .list .write) (fr .held .first) (fr .held .second))
-          (len : fr .list .len ≡ w .list .base - 6 - fr .list .base) (ep : p ≡ resumedWith (w .pass) (fr .held)) where
+      module _ (fr : Frame) (p : Pass) (words : FrameAt W2 (w .list .base - 6) (fr .list) (fr .held)) (ep : p ≡ resumedWith (w .pass) (fr .held)) where
         at-frame : w .list .base - 6 ≡ top .wait .list .base + top .wait .list .len
         at-frame = omega (arith, top .above)
 
-        words-at : FrameWords W2 (top .wait .list .base + top .wait .list .len) (fr .list .owner) (fr .list .base) (fr .list .read) (fr .list .write) (fr .held .first) (fr .held .second)
-        words-at = subst (λ (x : ℕ). FrameWords W2 x (fr .list .owner) (fr .list .base) (fr .list .read) (fr .list .write) (fr .held .first) (fr .held .second)) at-frame words
+        words-at : FrameAt W2 (top .wait .list .base + top .wait .list .len) (fr .list) (fr .held)
+        words-at = subst (λ (x : ℕ). FrameAt W2 x (fr .list) (fr .held)) at-frame words
 
         same-list : fr .list ≡ top .wait .list
         same-list =
@@ -258,7 +254,7 @@ module _ {W W1 : List ℕ} {w : Walk} {base0 from n : ℕ} (g : CanClose W w bas
             let base : fr .list .base ≡ top .wait .list .base = sym (words-at .base-word) ∙ f .base-word in
             let read = sym (words-at .read-word) ∙ f .read-word in
             let write = sym (words-at .write-word) ∙ f .write-word in
-            let long : fr .list .len ≡ top .wait .list .len = omega (arith, len, at-frame) in
+            let long : fr .list .len ≡ top .wait .list .len = omega (arith, words-at .above) in
             λ i. record { owner = owner i; base = base i; len = long i; read = read i; write = write i }
 
         same-held : fr .held ≡ heldOf (top .wait .pass)
@@ -345,13 +341,6 @@ module _ {W W1 : List ℕ} {w : Walk} {base0 from n : ℕ} (g : CanClose W w bas
 
 -- ---- `close`
 
--- What `pop` ensures, word by word.
-pub popped : {W : List ℕ} {top : ℕ} {l : Items} {h : Words} → FrameAt W top l h → FrameWords W top (l .owner) (l .base) (l .read) (l .write) (h .first) (h .second)
-popped f = record { owner-word = f .owner-word; base-word = f .base-word; read-word = f .read-word; write-word = f .write-word; first-word = f .first-word; second-word = f .second-word }
-
-pub popped-len : {W : List ℕ} {top : ℕ} {l : Items} {h : Words} → FrameAt W top l h → l .len ≡ top - l .base
-popped-len f = let above = f .above in omega arith
-
 pub ended-at : {W W1 : List ℕ} {w : Walk} (r q : Finished) → r ≡ q → Ends W w r W1 → Ends W w q W1
 ended-at {W} {W1} {w} r q e x = subst (λ (y : Finished). Ends W w y W1) e x
 
@@ -359,8 +348,7 @@ pub closed-done : {W W1 W2 : List ℕ} {w : Walk} {base0 from n : ℕ} → Ends 
 closed-done ended gv e = record { to = λ g. next-done g ended gv e; beyond = λ g. beyond2 g ended gv }
 
 pub closed-on : {W W1 W2 W3 : List ℕ} {w w3 : Walk} {base0 from n : ℕ} → Ends W w (At from n) W1 → Given W1 (w .list .owner) from n W2 → w .list .base ≢ base0 → (fr : Frame) (p : Pass)
-    → FrameWords W2 (w .list .base - 6) (fr .list .owner) (fr .list .base) (fr .list .read) (fr .list .write) (fr .held .first) (fr .held .second)
-    → fr .list .len ≡ w .list .base - 6 - fr .list .base → p ≡ resumedWith (w .pass) (fr .held) → Resumed W2 (walkOf (fr .list) p) (w .list .owner) w3 W3
+    → FrameAt W2 (w .list .base - 6) (fr .list) (fr .held) → p ≡ resumedWith (w .pass) (fr .held) → Resumed W2 (walkOf (fr .list) p) (w .list .owner) w3 W3
     → Closed W w base0 (On w3) W3
-closed-on ended gv inner fr p words len ep back =
-    record { to = λ g. next-on g ended gv inner fr p words len ep back; beyond = λ g. beyond3 g ended gv inner fr p words len ep back }
+closed-on ended gv inner fr p words ep back =
+    record { to = λ g. next-on g ended gv inner fr p words ep back; beyond = λ g. beyond3 g ended gv inner fr p words ep back }

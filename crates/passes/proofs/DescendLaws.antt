@@ -12,9 +12,6 @@ use Rattle.molang.proofs.Trees.{isNil, count-size}
 use Rattle.molang.proofs.Work.{Kind, State, work, inReading, held}
 use Rattle.nodes.specs.Store.{wd, RepT, Owned}
 use Rattle.nodes.specs.Frames.{CanPush, Pushed}
-use Rattle.nodes.specs.declared.frames.List.{List as WorkList}
-use Rattle.nodes.specs.declared.frames.Held.{Held as HeldWords}
-use Rattle.passes.specs.Driver.{WroteFrame}
 use Rattle.nodes.specs.declared.frames.List.{List as Items}
 use Rattle.nodes.specs.declared.frames.Held.{Held as Words}
 use Rattle.nodes.proofs.Store.{tree-below, tree-out, tree-keep}
@@ -142,8 +139,7 @@ module _ {W : List ℕ} {w : Walk} {item : ℕ} (g : CanDescend W w item) where
       let inner = g .inner in
       record { room = omega arith; small = g .small; read = omega arith; write = omega arith }
 
-  module _ (W1 : List ℕ) (h : Words) (eh : h ≡ heldOf (w .pass))
-      (pushed : WroteFrame W (w .list .base + w .list .len) (w .list .owner) (w .list .base) (w .list .read) (w .list .write) (h .first) (h .second) W1) where
+  module _ (W1 : List ℕ) (h : Words) (eh : h ≡ heldOf (w .pass)) {after : ℕ} (pushed : Pushed W (w .list) h after W1) where
     slots-pushed : (s o : ℕ) → s < g .hi → o < 8 → wd W1 (8 * s + o) ≡ wd W (8 * s + o)
     slots-pushed s o x y = pushed .same (8 * s + o) (inl (omega (arith, g .waiting .sides .below)))
 
@@ -205,6 +201,7 @@ module _ {W : List ℕ} {w : Walk} {item : ℕ} (g : CanDescend W w item) where
             pos = g .tree .pos;
             out = tree-out (g .tree);
             words = record {
+              above = refl;
               owner-word = opened .same top (inl (omega arith)) ∙ f .owner-word;
               base-word = frame-word 1 (omega arith) ∙ f .base-word;
               read-word = frame-word 2 (omega arith) ∙ f .read-word;
@@ -252,19 +249,7 @@ module _ {W : List ℕ} {w : Walk} {item : ℕ} (g : CanDescend W w item) where
           let bounds = stack-bounds some-slot (g .stack) in
           top-beyond (g .base0) (g .hi0) bounds (λ j x y. same-below j (omega arith)) long-opened
 
-pub descended : {W W1 W2 : List ℕ} {w w' : Walk} {item : ℕ} (h : Words) → h ≡ heldOf (w .pass)
-    → WroteFrame W (w .list .base + w .list .len) (w .list .owner) (w .list .base) (w .list .read) (w .list .write) (h .first) (h .second) W1
+pub descended : {W W1 W2 : List ℕ} {w w' : Walk} {item : ℕ} (h : Words) → h ≡ heldOf (w .pass) → {after : ℕ} → Pushed W (w .list) h after W1
     → Opened W1 item (w .list .base + w .list .len + 6) (w .pass) w' W2 → Descended W w item w' W2
 descended {W1 = W1} {W2} {w' = w'} h eh pushed opened =
     record { going = λ g. descended-going g W1 h eh pushed w' W2 opened; beyond = λ g. descended-beyond g W1 h eh pushed w' W2 opened }
-
--- What `push` ensures, word by word.
-pub wrote : {W W' : List ℕ} {l : WorkList} {h : HeldWords} {after : ℕ} → Pushed W l h after W'
-    → WroteFrame W (l .base + l .len) (l .owner) (l .base) (l .read) (l .write) (h .first) (h .second) W'
-wrote p =
-    let f = p .frame in
-    record {
-      frame = record { owner-word = f .owner-word; base-word = f .base-word; read-word = f .read-word; write-word = f .write-word; first-word = f .first-word; second-word = f .second-word };
-      same = p .same;
-      long = p .long;
-    }

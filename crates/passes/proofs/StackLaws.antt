@@ -92,6 +92,7 @@ module _ (W W' : List ℕ) {κ : Kind} {classes : ℕ} where
         pos = v .pos;
         out = v .out;
         words = record {
+          above = f .above;
           owner-word = word top (omega arith) (omega arith) ∙ f .owner-word;
           base-word = word (top + 1) (omega arith) (omega arith) ∙ f .base-word;
           read-word = word (top + 2) (omega arith) (omega arith) ∙ f .read-word;

@@ -11,6 +11,7 @@ use Rattle.molang.specs.Message.{Message, Result, ok, fail}
 use Rattle.molang.proofs.Trees.{isNil}
 use Rattle.molang.proofs.Work.{Kind, State, work, pass, inReading, takes, andThen, Held, held, unwound}
 use Rattle.nodes.specs.Store.{wd, TokenAt, Out, RepT, Owned, Free}
+use Rattle.nodes.specs.Frames.{FrameAt}
 use Rattle.nodes.specs.declared.frames.List.{List as Items}
 use Rattle.walks.specs.Passes.{classesOf, heldOf, Runs, waits}
 use Rattle.walks.specs.Sides.{Holds, Waits}
@@ -31,21 +32,6 @@ use Rattle.passes.specs.declared.driver.Ran.the-variants.{Done as Throug
 abbrev pub Room : List ℕ → Items → Forest → Type 0
 Room W v rest = v .base + v .len + 8 * size rest ≤ length W + count rest
 
--- The six words of a frame, from `top` on.
-pub record FrameWords (W : List ℕ) (top owner base read write first second : ℕ) : Type 0 where
-  pub owner-word : wd W top ≡ owner
-  pub base-word : wd W (top + 1) ≡ base
-  pub read-word : wd W (top + 2) ≡ read
-  pub write-word : wd W (top + 3) ≡ write
-  pub first-word : wd W (top + 4) ≡ first
-  pub second-word : wd W (top + 5) ≡ second
-
--- A frame was written there, and all else is as it was.
-pub record WroteFrame (W : List ℕ) (top owner base read write first second : ℕ) (W' : List ℕ) : Type 0 where
-  pub frame : FrameWords W' top owner base read write first second
-  pub same : (j : ℕ) → (j < top) ⊎ (top + 6 ≤ j) → wd W' j ≡ wd W j
-  pub long : length W' ≡ length W
-
 -- A list that waits for the children of its item b, the token k, which has the slots from l to m: its state, and its frame right above it.
 pub record FrameOf (κ : Kind) (classes : ℕ) (W X : List ℕ) (lo l m hi : ℕ) (w : Walk) (b : ℕ) (t : State κ) (k : Token) (rest : Forest) : Type 0 where
   pub waiting : Waits κ W X lo l m hi w t rest
@@ -56,7 +42,7 @@ pub record FrameOf (κ : Kind) (classes : ℕ) (W X : List ℕ) (lo l m hi : ℕ
   pub high : b < m
   pub pos : 0 < b
   pub out : Out b X
-  pub words : FrameWords W (w .list .base + w .list .len) (w .list .owner) (w .list .base) (w .list .read) (w .list .write) (heldOf (w .pass) .first) (heldOf (w .pass) .second)
+  pub words : FrameAt W (w .list .base + w .list .len) (w .list) (heldOf (w .pass))
   pub room : Room W (w .list) rest
 
 -- The lists that wait below the list of `owner` at base, which has the slots from lo to hi that are neither the owner nor in X. The outermost list is

@@ -1,6 +1,6 @@
 -- `close`: the list's end, its owner's children, and the list below it, if any.
 use mathlib.Core.Path.{_∙_}
-use Rattle.passes.proofs.CloseLaws.{close-can-finish, closed-failed, close-can-give, close-can-pop, close-can-resume, popped, popped-len, ended-at, closed-done, closed-on}
+use Rattle.passes.proofs.CloseLaws.{close-can-finish, closed-failed, close-can-give, close-can-pop, close-can-resume, ended-at, closed-done, closed-on}
 use borrow.Author.Needs.{needs}
 use Rattle.passes.proofs.driver.close.Statement.{statement}
 use Rattle.passes.proofs.driver.close.Tie as tie
@@ -31,7 +31,7 @@ resumed-requires c κs = search needs
 
 resume-requires : tie.Need-resume-requires
 resume-requires c κs = let pop = c .before .before .before .pop in
-    close-can-resume (c .before .before .before .before .before .before .before .before .before .before .before .before .before .before .before .before .before .before .before .pre) (ended-at (c .before .before .before .before .before .before .before .before .before .before .before .before .before .before .before .before .finish .result) _ (c .before .before .before .before .before .before .before .before .before .before .before .before .finished2 .given .1) (c .before .before .before .before .before .before .before .before .before .before .before .before .before .before .before .before .finish .ensures)) (c .before .before .before .before .before .before .before .before .give-children .ensures) (c .before .before .before .before .before .if1 .left) (pop .result) (c .before .resumed .result) (popped (pop .ensures)) (popped-len (pop .ensures)) (c .before .resumed .ensures)
+    close-can-resume (c .before .before .before .before .before .before .before .before .before .before .before .before .before .before .before .before .before .before .before .pre) (ended-at (c .before .before .before .before .before .before .before .before .before .before .before .before .before .before .before .before .finish .result) _ (c .before .before .before .before .before .before .before .before .before .before .before .before .finished2 .given .1) (c .before .before .before .before .before .before .before .before .before .before .before .before .before .before .before .before .finish .ensures)) (c .before .before .before .before .before .before .before .before .give-children .ensures) (c .before .before .before .before .before .if1 .left) (pop .result) (c .before .resumed .result) (pop .ensures) (c .before .resumed .ensures)
 
 same-length-2 : tie.Need-same-length-2
 same-length-2 c = search needs
@@ -44,7 +44,7 @@ same-length-3 c = c .before .before .resume .kept .0 ∙ c .before .before .befo
 
 returns-3 : tie.Need-returns-3
 returns-3 c = let pop = c .before .before .before .before .before .before .pop in
-    closed-on (ended-at (c .before .before .before .before .before .before .before .before .before .before .before .before .before .before .before .before .before .before .before .finish .result) _ (c .before .before .before .before .before .before .before .before .before .before .before .before .before .before .before .finished2 .given .1) (c .before .before .before .before .before .before .before .before .before .before .before .before .before .before .before .before .before .before .before .finish .ensures)) (c .before .before .before .before .before .before .before .before .before .before .before .give-children .ensures) (c .before .before .before .before .before .before .before .before .if1 .left) (pop .result) (c .before .before .before .before .resumed .result) (popped (pop .ensures)) (popped-len (pop .ensures)) (c .before .before .before .before .resumed .ensures) (c .before .before .resume .ensures)
+    closed-on (ended-at (c .before .before .before .before .before .before .before .before .before .before .before .before .before .before .before .before .before .before .before .finish .result) _ (c .before .before .before .before .before .before .before .before .before .before .before .before .before .before .before .finished2 .given .1) (c .before .before .before .before .before .before .before .before .before .before .before .before .before .before .before .before .before .before .before .finish .ensures)) (c .before .before .before .before .before .before .before .before .before .before .before .give-children .ensures) (c .before .before .before .before .before .before .before .before .if1 .left) (pop .result) (c .before .before .before .before .resumed .result) (pop .ensures) (c .before .before .before .before .resumed .ensures) (c .before .before .resume .ensures)
 
 pub close-spec : {M : Type 1} → statement M
 close-spec =

@@ -2,7 +2,7 @@
 use Prim.Native.Nat.{ℕ}
 use mathlib.Core.Path.{sym, subst}
 use Rattle.passes.specs.Driver.{CanOpen, Opened}
-use Rattle.passes.proofs.DescendLaws.{descend-can-push, descend-can-open, descended, wrote}
+use Rattle.passes.proofs.DescendLaws.{descend-can-push, descend-can-open, descended}
 use borrow.Author.Needs.{needs}
 use Rattle.passes.proofs.driver.descend.Statement.{statement}
 use Rattle.passes.proofs.driver.descend.Tie as tie
@@ -16,14 +16,14 @@ push-requires c κs = descend-can-push (c .before .before .before .before .pre)
 open-requires : tie.Need-open-requires
 open-requires c κs = let push = c .before .before .before .push in let s = c .before .before .before .before .before .before .before .before in
     subst (λ (x : ℕ). CanOpen (push .last .0) (s .args .item) x (s .args .waiting .pass)) (sym (push .ensures .past))
-    (descend-can-open (s .pre) _ (c .before .before .before .before .held .result) (c .before .before .before .before .held .ensures) (wrote (push .ensures)))
+    (descend-can-open (s .pre) _ (c .before .before .before .before .held .result) (c .before .before .before .before .held .ensures) (push .ensures))
 
 same-length : tie.Need-same-length
 same-length c = search needs
 
 returns : tie.Need-returns
 returns c = let push = c .before .before .before .before .before .before .push in let s = c .before .before .before .before .before .before .before .before .before .before .before in let inner = c .before .before .«open» in
-    descended (c .before .before .before .before .before .before .before .held .result) (c .before .before .before .before .before .before .before .held .ensures) (wrote (push .ensures))
+    descended (c .before .before .before .before .before .before .before .held .result) (c .before .before .before .before .before .before .before .held .ensures) (push .ensures)
     (subst (λ (x : ℕ). Opened (push .last .0) (s .args .item) x (s .args .waiting .pass) (inner .result) (inner .last .0)) (push .ensures .past) (inner .ensures))
 
 pub descend-spec : {M : Type 1} → statement M
