@@ -1,5 +1,5 @@
-// The driver that every level runs on: one loop over lists and frames on the stack of the work buffer. A node with no leaf of the pass below it is not
-// entered. Leans on the levels (step, resume, finish of each), on slots, chains and frames.
+// The driver that every level runs on: one loop over lists and frames on the stack of the work buffer. A node with no leaf of
+// the pass below it is not entered. Leans on the levels (step, resume, finish of each), on slots, chains and frames.
 use crate::arrays;
 use crate::binary;
 use crate::calls;

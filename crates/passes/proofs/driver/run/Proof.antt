@@ -32,25 +32,34 @@ loop-less : tie.Need-loop-less Inv-loop μ-loop
 loop-less c = omega (arith, c .before .before .before .before .before .before .before .loop-test .taken)
 
 loop-again : tie.Need-loop-again Inv-loop μ-loop
-loop-again c = (run-again (c .before .before .before .before .before .advance .result) _ (c .before .before .before .before .before .before .before .before .loop .inv .0) (c .before .before .before .before .before .advance .ensures) (c .before .next .given .1) (omega (arith, c .before .before .before .before .before .before .before .loop-test .taken)) (c .before .before .before .before .before .advance .kept .0), c .before .before .before .before .before .before .before .before .loop .inv .1)
+loop-again c =
+    let loop = c .before .before .before .before .before .before .before .before .loop in
+    let advance = c .before .before .before .before .before .advance in
+    (run-again (advance .result) _ (loop .inv .0) (advance .ensures) (c .before .next .given .1) (omega (arith, c .before .before .before .before .before .before .before .loop-test .taken)) (advance .kept .0), loop .inv .1)
 
 enum-told : tie.Need-enum-told Inv-loop μ-loop
 enum-told c = search needs
 
 same-length : tie.Need-same-length Inv-loop μ-loop
-same-length c = c .before .before .before .before .advance .kept .0 ∙ c .before .before .before .before .before .before .before .loop .inv .0 .long ∙ c .before .before .before .before .before .before .before .before .before .before .«open» .kept .0
+same-length c =
+    c .before .before .before .before .advance .kept .0 ∙ c .before .before .before .before .before .before .before .loop .inv .0 .long ∙ c .before .before .before .before .before .before .before .before .before .before .«open» .kept .0
 
 returns : tie.Need-returns Inv-loop μ-loop
-returns c = ran-done (c .before .before .before .before .before .before .before .before .before .before .«open» .ensures) (c .before .before .before .before .before .before .before .loop .inv .0) (c .before .before .before .before .advance .result) (c .before .before .before .before .advance .ensures) (c .enum-told .given .1)
+returns c =
+    let advance = c .before .before .before .before .advance in
+    ran-done (c .before .before .before .before .before .before .before .before .before .before .«open» .ensures) (c .before .before .before .before .before .before .before .loop .inv .0) (advance .result) (advance .ensures) (c .enum-told .given .1)
 
 enum-known-next-2 : tie.Need-enum-known-next-2 Inv-loop μ-loop
 enum-known-next-2 c = search needs
 
 same-length-2 : tie.Need-same-length-2 Inv-loop μ-loop
-same-length-2 c = c .before .before .before .before .before .advance .kept .0 ∙ c .before .before .before .before .before .before .before .before .loop .inv .0 .long ∙ c .before .before .before .before .before .before .before .before .before .before .before .«open» .kept .0
+same-length-2 c =
+    c .before .before .before .before .before .advance .kept .0 ∙ c .before .before .before .before .before .before .before .before .loop .inv .0 .long ∙ c .before .before .before .before .before .before .before .before .before .before .before .«open» .kept .0
 
 returns-2 : tie.Need-returns-2 Inv-loop μ-loop
-returns-2 c = ran-failed (c .before .before .before .before .before .before .before .before .before .before .before .«open» .ensures) (c .before .before .before .before .before .before .before .before .loop .inv .0) (c .before .before .before .before .before .advance .result) (c .before .before .before .before .before .advance .ensures) _ (c .before .next2 .given .1)
+returns-2 c =
+    let advance = c .before .before .before .before .before .advance in
+    ran-failed (c .before .before .before .before .before .before .before .before .before .before .before .«open» .ensures) (c .before .before .before .before .before .before .before .before .loop .inv .0) (advance .result) (advance .ensures) _ (c .before .next2 .given .1)
 
 same-length-3 : tie.Need-same-length-3 Inv-loop μ-loop
 same-length-3 c = c .before .loop .inv .0 .long ∙ c .before .before .before .before .«open» .kept .0
