@@ -26,12 +26,12 @@ use Rattle.nodes.proofs.Store.{rep-legal}
 use Rattle.nodes.proofs.Classes.{notes-meet}
 use Rattle.walks.specs.Passes.{classesOf, operators, Exact, Runs, call, mathCall, plain, split, array, unary, level, tern, prefix}
 use Rattle.walks.specs.declared.turns.Pass.{Pass}
+use Rattle.order.specs.declared.Choice.{Choice}
+use Rattle.order.specs.declared.Choice.the-variants.{Run, Skip}
 use Rattle.passes.specs.Driver.{CanRun, done, HasRun}
 use Rattle.passes.specs.Choice.{CanChoose, Chosen}
 use Rattle.passes.specs.declared.driver.Ran.{Ran}
 use Rattle.passes.specs.declared.driver.Ran.the-variants.{Done}
-use Rattle.order.specs.declared.Choice.{Choice}
-use Rattle.order.specs.declared.Choice.the-variants.{Run, Skip}
 
 pub pass-free : (κ : Kind) (f : Forest) → free (operators κ) f ≡ true → pass κ f ≡ ok f
 unfolding pass operators

@@ -1,4 +1,5 @@
-// A pass behind its gates. Leans on the driver and on order (which pass is chosen).
+// The passes in the order that is chosen (mod.rs), so far one of them behind its gates. Leans on the driver, on slots and on
+// order (which pass stands at a place).
 use crate::driver::Ran;
 use crate::driver::run;
 use nodes::slots;
