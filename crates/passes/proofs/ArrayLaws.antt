@@ -79,6 +79,19 @@ pub passed-unindexed : {d rest d' rest' : Forest} → Passed isArrayName d rest 
 passed-unindexed here = refl
 passed-unindexed {d = d} (over {rest = r} {cs = cs} {k = k} f p) = walk-past d k cs r f ∙ passed-unindexed p
 
+-- ---- a name or an array that no index follows
+
+flush-step : (s : Indexing) (k : Token) (cs : Forest) → isIndex k ≡ false → arrayStep s k cs ≡ arrayStep (unindexed (flushed s)) k cs
+unfolding arrayStep flushed
+flush-step s k nil e = rw (e, arrayStep) refl
+flush-step s k (node c cs r) e = rw (e, arrayStep) refl
+
+-- it is done
+pub flush : (s : Indexing) (rest : Forest) → startsWithIndex rest ≡ false → work arrays s rest ≡ work arrays (unindexed (flushed s)) rest
+unfolding startsWithIndex work walk arrayLevel arrayFinish flushed
+flush s nil e = refl
+flush s (node k cs rest) e = walk-step s k cs rest ∙ ap (onward arrayLevel k cs rest) (flush-step s k cs e) ∙ sym (walk-step (unindexed (flushed s)) k cs rest)
+
 -- ---- a name, and an array's next index
 
 name-leaf : (i : Bool) (d : Forest) (k : Token) → isIndex k ≡ i → isArrayName (k .op) ≡ true → isIndex k ≡ false → arrayStep (unindexed d) k nil ≡ on (named d k)

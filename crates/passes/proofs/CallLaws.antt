@@ -283,7 +283,8 @@ module _ {kind : CallKind} {pass : Pass} (L : LeftLevel (calls kind) pass (isCal
 
 -- ---- a query's turn
 
-next-of : {W X : List ℕ} {v : Items} {lo hi : ℕ} {rest : Forest} (op c : ℕ) → c ≡ nextIf W v op → Ahead W X (v .base) (v .read) (v .len) lo hi rest → NextTo W X v lo hi op c rest
+-- what `next_if` found
+pub next-of : {W X : List ℕ} {v : Items} {lo hi : ℕ} {rest : Forest} (op c : ℕ) → c ≡ nextIf W v op → Ahead W X (v .base) (v .read) (v .len) lo hi rest → NextTo W X v lo hi op c rest
 next-of {W} {X} {v} {lo} {hi} {rest} op c e a = subst (λ (x : ℕ). NextTo W X v lo hi op x rest) (sym e) (next-to v op a)
 
 query-called : {W W' X : List ℕ} {v : Items} {b lo m hi : ℕ} {d : Forest} {k : Token} {rest : Forest} {r : Turn} (c : ℕ) → c ≢ 0 → isLeafAt W c ≡ false → wd W (v .base + v .read) ≡ c → v .read < v .len

@@ -1,17 +1,21 @@
--- A chain turned round, as the array pass gathers an index's children and puts an array's in order: slot by slot the next one is linked to what is turned
--- already. The chain from s on is left, the one from `head` on is turned.
+-- A chain turned round, as the array pass gathers an index's children, which rise (`Turning`), and puts an array's in order, which fall (`RoundAt`): slot
+-- by slot the next one is linked to what is turned already. The chain from s on is left, the one from `head` on is turned.
 use Prim.Native.Nat.{ℕ, _+_, _*_, _-_, _≤_, _<_}
-use mathlib.Core.Path.{_≡_, refl, sym, ap, _∙_, subst}
-use mathlib.Core.Bool.{true, false}
+use mathlib.Core.Path.{_≡_, refl, sym, ap, ap₂, _∙_, subst}
+use mathlib.Core.Bool.{Bool, true, false, _||_}
 use mathlib.Core.Logic.{_≢_, _⊎_, inl, inr}
 use lib.Dec.{eqb}
 use borrow.Author.Tests.{eq-eqb, ne-eqb}
 use mathlib.Core.List.{List, [], _∷_}
 use native.Mathlib.Omega.{arith}
+use native.Mathlib.Nat.{le-refl}
 use lib.ListN.{length, set}
 use Rattle.nodes.specs.Store.{wd, Chain, Inc, Out, OffNext, onto}
-use Rattle.passes.specs.Arrays.{Apart, CanGather, Gathered}
-use Rattle.nodes.proofs.Runs.{set-same, set-other, set-long, inc-le, chain-keep}
+use Rattle.ops.specs.Classes.{bitAt}
+use Rattle.nodes.specs.Children.{someNotes}
+use Rattle.passes.specs.Arrays.{Apart, CanGather, Gathered, Dec, CanRound, Rounded}
+use Rattle.nodes.proofs.Runs.{set-same, set-other, set-long, inc-le, inc-lower, out-below, off-word, chain-keep}
+use Rattle.nodes.proofs.Classes.{no-bit}
 
 apart-more : (c lo hi : ℕ) (left back : List ℕ) → c < lo → Inc lo hi left → Apart left back → Apart left (c ∷ back)
 apart-more c lo hi [] back h i a = tt
@@ -153,3 +157,133 @@ gather-falls {W} {Z = Z} {head = head} {s = s} next v g n e =
     go : (lo : ℕ) (left : List ℕ) → Chain Z s left → Inc lo (g .hi) left → (next ≡ 0) ⊎ (s < next)
     go lo [] c i = absurd (n c)
     go lo (d ∷ left) c i = after-it d left e (c .0) (c .2) (i .1)
+
+-- ---- `turn_round`
+
+pub dec-out : (cs : List ℕ) (top s : ℕ) → Dec top cs → top ≤ s → Out s cs
+dec-out [] top s h e = tt
+dec-out (c ∷ cs) top s h e = (omega (arith, h .0), dec-out cs c s (h .1) (omega (arith, h .0)))
+
+or-comm : (a b : Bool) → (a || b) ≡ (b || a)
+or-comm true true = refl
+or-comm true false = refl
+or-comm false true = refl
+or-comm false false = refl
+
+-- What holds at the loop's test, of the chain cs that falls: what is turned rises above what is left, and its classes are gathered.
+pub record RoundAt (W cs Z : List ℕ) (head classes s hi : ℕ) : Type 0 where
+  pub left : List ℕ
+  pub back : List ℕ
+  pub top : ℕ
+  pub ahead : Chain Z s left
+  pub turned : Chain Z head back
+  pub whole : onto left back ≡ onto cs []
+  pub falls : Dec top left
+  pub rises : Inc top hi back
+  pub noted : (i : ℕ) → bitAt classes i ≡ someNotes W back i
+  pub same : (j : ℕ) → OffNext back j → wd Z j ≡ wd W j
+
+pub record Rounding (W : List ℕ) (a : ℕ) (Z : List ℕ) (head classes s : ℕ) : Type 0 where
+  pub at : (g : CanRound W a) → RoundAt W (g .cs) Z head classes s (g .hi)
+  pub long : length Z ≡ length W
+
+pub round-start : {W : List ℕ} {a s : ℕ} → s ≡ wd W (8 * a + 5) → Rounding W a W 0 0 s
+unfolding someNotes
+round-start {W} e =
+    record {
+      at = λ g.
+          record {
+            left = g .cs;
+            back = [];
+            top = g .hi;
+            ahead = subst (λ (x : ℕ). Chain W x (g .cs)) (sym e) (g .chain);
+            turned = refl;
+            whole = refl;
+            falls = g .falls;
+            rises = le-refl (g .hi);
+            noted = λ i. no-bit i;
+            same = λ j o. refl;
+          };
+      long = refl;
+    }
+
+module _ {W : List ℕ} {a : ℕ} {Z : List ℕ} {head classes s : ℕ} (v : Rounding W a Z head classes s) where
+  pub round-in : CanRound W a → s ≢ 0 → 8 * s + 8 ≤ length Z
+  round-in g n = go (v .at g .left) (v .at g .ahead) (v .at g .falls)
+    where
+      go : (left : List ℕ) → Chain Z s left → Dec (v .at g .top) left → 8 * s + 8 ≤ length Z
+      go [] c f = absurd (n c)
+      go (d ∷ left) c f = omega (arith, c .0, f .0, inc-le (v .at g .back) (v .at g .rises), g .within, v .long)
+
+  -- the chain falls
+  pub round-less : (next : ℕ) → CanRound W a → s ≢ 0 → next ≡ wd Z (8 * s + 6) → next < s
+  round-less next g n e = go (v .at g .left) (v .at g .ahead) (v .at g .falls)
+    where
+      after-it : (d : ℕ) (left : List ℕ) → s ≡ d → Chain Z (wd Z (8 * d + 6)) left → Dec d left → next < s
+      after-it d [] at c f = let z : next ≡ 0 = e ∙ ap (λ (x : ℕ). wd Z (8 * x + 6)) at ∙ c in omega arith
+      after-it d (h ∷ left) at c f = let z : next ≡ h = e ∙ ap (λ (x : ℕ). wd Z (8 * x + 6)) at ∙ c .0 in omega (arith, f .0)
+
+      go : (left : List ℕ) → Chain Z s left → Dec (v .at g .top) left → next < s
+      go [] c f = absurd (n c)
+      go (d ∷ left) c f = after-it d left (c .0) (c .2) (f .1)
+
+  pub round-step : (Z' : List ℕ) (next classes' : ℕ) → CanRound W a → s ≢ 0 → Z' ≡ set Z (8 * s + 6) head → next ≡ wd Z (8 * s + 6)
+      → ((i : ℕ) → bitAt classes' i ≡ (bitAt classes i || bitAt (wd Z' (8 * s + 7)) i)) → Rounding W a Z' s classes' next
+  unfolding someNotes
+  round-step Z' next classes' g0 n e is ec =
+      record { at = λ g. go g (v .at g) (v .at g .left) (v .at g .ahead) (v .at g .falls) (v .at g .whole); long = set-long Z Z' (8 * s + 6) head e ∙ v .long }
+    where
+      go : (g : CanRound W a) (t : RoundAt W (g .cs) Z head classes s (g .hi)) (left : List ℕ) → Chain Z s left → Dec (t .top) left → onto left (t .back) ≡ onto (g .cs) []
+          → RoundAt W (g .cs) Z' s classes' next (g .hi)
+      go g t [] c f w = absurd (n c)
+      go g t (d ∷ left) c f w =
+          let at : s ≡ d = c .0 in
+          let low : d < t .top = f .0 in
+          let other = set-other Z Z' (8 * s + 6) head e in
+          let link : wd Z' (8 * s + 6) ≡ head = set-same Z Z' (8 * s + 6) head e (omega (arith, round-in g n)) in
+          let word : wd Z' (8 * s + 7) ≡ wd W (8 * d + 7)
+          = other (8 * s + 7) (omega arith) ∙ t .same (8 * s + 7) (off-word (t .back) s 7 (omega arith) (omega arith)) ∙ ap (λ (x : ℕ). wd W (8 * x + 7)) at in
+          let next' : wd Z (8 * d + 6) ≡ next = sym (is ∙ ap (λ (x : ℕ). wd Z (8 * x + 6)) at) in
+          let kept : Chain Z' head (t .back) = beside-chain Z Z' s head head (t .back) e (out-below (t .back) (t .top) (g .hi) (t .rises) (omega arith)) (t .turned) in
+          record {
+            left = left;
+            back = d ∷ t .back;
+            top = d;
+            ahead = subst (λ (x : ℕ). Chain Z' x left) next' (beside-chain Z Z' s head (wd Z (8 * d + 6)) left e (dec-out left d s (f .1) (omega arith)) (c .2));
+            turned = (at, c .1, subst (λ (x : ℕ). Chain Z' (wd Z' (8 * x + 6)) (t .back)) at (subst (λ (x : ℕ). Chain Z' x (t .back)) (sym link) kept));
+            whole = w;
+            falls = f .1;
+            rises = (le-refl d, inc-lower (t .back) (g .hi) (omega arith) (t .rises));
+            noted = λ i. ec i ∙ ap₂ (λ (x : Bool) (y : Bool). x || y) (t .noted i) (ap (λ (x : ℕ). bitAt x i) word) ∙ or-comm (someNotes W (t .back) i) (bitAt (wd W (8 * d + 7)) i);
+            same = λ j o. other j (λ h. o .0 (subst (λ (x : ℕ). j ≡ 8 * x + 6) at h)) ∙ t .same j (o .1);
+          }
+
+  pub round-done : (Y Y' : List ℕ) → s ≡ 0 → Y ≡ set Z (8 * a + 5) head → Y' ≡ set Y (8 * a + 7) classes → Rounded W a Y'
+  round-done Y Y' n ey ey' =
+      record {
+        linked = λ g.
+            subst (λ (x : List ℕ). Chain Y' (wd Y' (8 * a + 5)) x) (all g)
+            (subst (λ (x : ℕ). Chain Y' x (v .at g .back)) (sym (first g)) (noted-chain (v .at g .back) head (first-chain Z Y a head head (v .at g .back) ey (v .at g .turned))));
+        classes = λ g i. ap (λ (x : ℕ). bitAt x i) (word g) ∙ v .at g .noted i ∙ ap (λ (x : List ℕ). someNotes W x i) (all g);
+        same = λ g j p q o. set-other Y Y' (8 * a + 7) classes ey' j q ∙ set-other Z Y (8 * a + 5) head ey j p ∙ v .at g .same j (subst (λ (x : List ℕ). OffNext x j) (sym (all g)) o);
+        long = set-long Y Y' (8 * a + 7) classes ey' ∙ set-long Z Y (8 * a + 5) head ey ∙ v .long;
+      }
+    where
+      none-left : (left back : List ℕ) (all : List ℕ) → Chain Z s left → onto left back ≡ all → back ≡ all
+      none-left [] back all c w = w
+      none-left (d ∷ left) back all c w = absurd (omega (arith, c .0, c .1))
+
+      all : (g : CanRound W a) → v .at g .back ≡ onto (g .cs) []
+      all g = none-left (v .at g .left) (v .at g .back) (onto (g .cs) []) (v .at g .ahead) (v .at g .whole)
+
+      word : (g : CanRound W a) → wd Y' (8 * a + 7) ≡ classes
+      word g = set-same Y Y' (8 * a + 7) classes ey' (omega (arith, g .own, g .within, v .long, set-long Z Y (8 * a + 5) head ey))
+
+      first : (g : CanRound W a) → wd Y' (8 * a + 5) ≡ head
+      first g = set-other Y Y' (8 * a + 7) classes ey' (8 * a + 5) (omega arith) ∙ set-same Z Y (8 * a + 5) head ey (omega (arith, g .own, g .within, v .long))
+
+      noted-chain : (cs : List ℕ) (f : ℕ) → Chain Y f cs → Chain Y' f cs
+      noted-chain [] f p = p
+      noted-chain (d ∷ cs) f p =
+          let same : wd Y (8 * d + 6) ≡ wd Y' (8 * d + 6) = sym (set-other Y Y' (8 * a + 7) classes ey' (8 * d + 6) (omega arith)) in
+          (p .0, p .1, subst (λ (x : ℕ). Chain Y' x cs) same (noted-chain cs (wd Y (8 * d + 6)) (p .2)))

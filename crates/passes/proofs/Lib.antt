@@ -17,6 +17,8 @@ pub mod SemicolonLaws
 pub mod FinishLaws
 pub mod ArrayLaws
 pub mod ChainLaws
+pub mod GrowingLaws
+pub mod ArrayTurns
 pub mod UnaryLaws
 pub mod RightLaws
 pub mod PrefixLaws

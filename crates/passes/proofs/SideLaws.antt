@@ -91,8 +91,8 @@ module _ (W W' : List ℕ) where
         out = v .out;
         token = token-keep W W' a (λ o x. own o (omega arith)) (v .token);
         isArray = v .isArray;
-        chain = rw (own 5 (omega arith)) (back-links (wd W (8 * a + 5)) (v .kids) (λ s x y o. slots s 6 x y (omega arith) (o .1)) (v .chain));
-        kids = back-keep W W' (λ s o x y z u n. slots s o x y z (u .1)) (v .kids);
+        chain = rw (own 5 (omega arith)) (back-links (wd W (8 * a + 5)) (v .kids) (λ s x y o. slots s 6 (omega (arith, v .low)) y (omega arith) (o .1)) (v .chain));
+        kids = back-keep W W' (λ s o x y z u n. slots s o (omega (arith, v .low)) y z (u .1)) (v .kids);
       }
 
   -- ---- the done side of each pass

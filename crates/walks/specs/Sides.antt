@@ -86,7 +86,7 @@ pub data StatementSide (W X : List ℕ) (base write lo l : ℕ) : Pass → Split
 
 -- ---- arrays
 
--- The array q at the slot a, its contents, the last first, a chain from its last child on. Its classes are not noted yet.
+-- The array q at the slot a, its contents in the slots after it, the last first, a chain from its last child on. Its classes are not noted yet.
 pub record OpenArray (W X : List ℕ) (a lo l : ℕ) (q : Token) (contents : Forest) : Type 0 where
   pub cs : List ℕ
   pub low : lo ≤ a
@@ -96,7 +96,7 @@ pub record OpenArray (W X : List ℕ) (a lo l : ℕ) (q : Token) (contents : For
   pub token : TokenAt W a q
   pub isArray : q .op ≡ array
   pub chain : Chain W (wd W (8 * a + 5)) cs
-  pub kids : RepB W (a ∷ X) cs lo l contents
+  pub kids : RepB W (a ∷ X) cs (a + 1) l contents
 
 pub data ArraySide (W X : List ℕ) (base write lo l : ℕ) : Pass → Indexing → Type 0 where
   all : {d : Forest} {lent : ℕ} → BackArray W X base write lo l d → ArraySide W X base write lo l (Arrays 0 lent) (unindexed d)
