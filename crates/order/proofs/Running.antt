@@ -312,7 +312,7 @@ module _ (n : ℕ) (u : ℕ → Bool) (p : Pass) (ps : List Pass) where
       go (ok g) = refl
       go (fail m) = ended m (endsReading p)
 
-  skip-first : runs u p ≡ false → (so-far : List Message) (f : Forest) → grouped n u (p ∷ ps) so-far f ≡ grouped n u ps so-far f
+  pub skip-first : runs u p ≡ false → (so-far : List Message) (f : Forest) → grouped n u (p ∷ ps) so-far f ≡ grouped n u ps so-far f
   unfolding grouped
   skip-first e so-far f = rw (e, grouped)
 

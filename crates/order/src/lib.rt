@@ -69,13 +69,13 @@ fn level_of(used: OpSet, op: u32, classes: TokenClasses) -> Choice
     level(used.contains(op), classes)
 }
 
-fn uses_either(used: OpSet, a: u32, b: u32) -> bool
+pub fn uses_either(used: OpSet, a: u32, b: u32) -> bool
     ensures { λ r. ⌜ r ≡ any (usedBy used) (a ∷ b ∷ []) ⌝ }
 {
     used.contains(a) || used.contains(b)
 }
 
-fn uses_some(used: OpSet, a: u32, b: u32, c: u32) -> bool
+pub fn uses_some(used: OpSet, a: u32, b: u32, c: u32) -> bool
     ensures { λ r. ⌜ r ≡ any (usedBy used) (a ∷ b ∷ c ∷ []) ⌝ }
 {
     used.contains(a) || uses_either(used, b, c)

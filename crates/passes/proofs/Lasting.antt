@@ -1,10 +1,10 @@
--- No pass empties a list (`begun-full`), and a failure goes through every list that waits (`unwound-fail`).
-use Prim.Native.Nat.{ℕ, _+_, zero-le}
+-- No pass raises a weight (`pass-light`) or empties a list (`begun-full`), and a failure goes through every list that waits (`unwound-fail`).
+use Prim.Native.Nat.{ℕ, _+_, _*_, _≤_, zero-le}
 use mathlib.Core.Path.{_≡_, refl, sym, ap, _∙_, subst}
 use mathlib.Core.Bool.{Bool, true, false, not, true≢false}
 use mathlib.Core.List.{List, [], _∷_}
 use native.Mathlib.Omega.{arith}
-use Rattle.molang.specs.Operator.{array, arrayVariable}
+use Rattle.molang.specs.Operator.{semicolon, add, negate, array, arrayVariable}
 use Rattle.molang.specs.Forest.{Token, Forest, nil, node, renamed, count, size, turnedOnto, inOrder}
 use Rattle.molang.specs.Message.{Message, Result, ok, fail}
 use Rattle.molang.specs.Level.{Step, walk, through}
@@ -15,7 +15,8 @@ use Rattle.molang.specs.Binary.{binaryLevel}
 use Rattle.molang.specs.Conditional.{conditionalLevel}
 use Rattle.molang.proofs.Trees.{isNil}
 use Rattle.molang.proofs.Walks.{failed, fine, onward, walk-onward}
-use Rattle.molang.proofs.Weight.{Weighing, Ending, through-light}
+use Rattle.molang.proofs.Weight.{Weighing, weight, Ending, through-light}
+use Rattle.molang.proofs.Bounds.{nodesOf, nodeWeight}
 use Rattle.molang.proofs.Calls.{call-light}
 use Rattle.molang.proofs.Arrays.{array-light}
 use Rattle.molang.proofs.Statements.{statement-light}
@@ -65,7 +66,28 @@ reading-count ternary f = refl
 reading-count returns f = refl
 reading-count (binary ops) f = refl
 
--- ---- no pass empties a list
+-- ---- no pass raises a weight, or empties a list
+
+-- no pass raises a weight in which a `;` outweighs three nodes, and a `-` a `+` and a node
+pub pass-light : (W : Weighing) → 3 * W .inner ≤ W .leaf semicolon → W .leaf add + W .inner ≤ W .leaf negate → (κ : Kind) (f : Forest)
+    → Ending W (weight W f) (not (isNil f)) (pass κ f)
+unfolding pass
+pass-light W pays turns (calls kind) f = through-light W (callLevel kind) (call-light W kind) f
+pass-light W pays turns statements f = through-light W statementLevel (statement-light W pays) f
+pass-light W pays turns arrays f = through-light W arrayLevel (array-light W) f
+pass-light W pays turns unaries f = unaryPass-light W turns f
+pass-light W pays turns ternary f = through-light W conditionalLevel (conditional-light W) f
+pass-light W pays turns returns f = through-light W returnLevel (return-light W) f
+pass-light W pays turns (binary ops) f = through-light W (binaryLevel ops) (binary-light W ops) f
+
+-- so a list keeps within three nodes for each token
+pub pass-nodes : (κ : Kind) (f g : Forest) → pass κ f ≡ ok g → weight nodeWeight g ≤ weight nodeWeight f
+unfolding nodesOf
+pass-nodes κ f g e = within (pass-light nodeWeight (omega arith) (omega arith) κ f) e
+  where
+    within : {n : ℕ} {b : Bool} {r : Result} → Ending nodeWeight n b r → r ≡ ok g → weight nodeWeight g ≤ n
+    within (failed e) q = let z : _≡_ {A = ℕ} 0 1 = cc in absurd (omega arith)
+    within (fine {g = f} e) q = let same : f ≡ g = cc in omega (arith, ap (weight nodeWeight) same, e .0)
 
 weightless : Weighing
 weightless = record { leaf = λ n. 0; inner = 0; lighter = λ n. zero-le }
@@ -75,14 +97,8 @@ full-of (failed e) h q = let z : _≡_ {A = ℕ} 0 1 = cc in absurd (omega arith
 full-of {g = g} (fine {g = f} e) h q = let same : f ≡ g = cc in subst (λ (x : Forest). isNil x ≡ false) same (e .1 h)
 
 pub pass-full : (κ : Kind) (f g : Forest) → isNil f ≡ false → pass κ f ≡ ok g → isNil g ≡ false
-unfolding pass weightless
-pass-full (calls kind) f g h e = full-of (through-light weightless (callLevel kind) (call-light weightless kind) f) (ap not h) e
-pass-full statements f g h e = full-of (through-light weightless statementLevel (statement-light weightless zero-le) f) (ap not h) e
-pass-full arrays f g h e = full-of (through-light weightless arrayLevel (array-light weightless) f) (ap not h) e
-pass-full unaries f g h e = full-of (unaryPass-light weightless zero-le f) (ap not h) e
-pass-full ternary f g h e = full-of (through-light weightless conditionalLevel (conditional-light weightless) f) (ap not h) e
-pass-full returns f g h e = full-of (through-light weightless returnLevel (return-light weightless) f) (ap not h) e
-pass-full (binary ops) f g h e = full-of (through-light weightless (binaryLevel ops) (binary-light weightless ops) f) (ap not h) e
+unfolding weightless
+pass-full κ f g h e = full-of (pass-light weightless zero-le zero-le κ f) (ap not h) e
 
 pub begun-full : (κ : Kind) (f g : Forest) → isNil f ≡ false → work κ (begins κ f) (inReading κ f) ≡ ok g → isNil g ≡ false
 begun-full κ f g h e = pass-full κ f g h (pass-begins κ f ∙ e)

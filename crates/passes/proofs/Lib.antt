@@ -5,6 +5,7 @@ pub mod FlatMembers
 pub mod FlatOpen
 pub mod FlatLooking
 pub mod FlatWalk
+pub mod FlatOrder
 pub mod GatherLaws
 pub mod ReturnLaws
 pub mod CallLaws
@@ -42,3 +43,4 @@ pub mod CloseLaws
 pub mod AdvanceLaws
 pub mod RunLaws
 pub mod GateLaws
+pub mod LevelLaws

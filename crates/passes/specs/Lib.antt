@@ -8,3 +8,4 @@ pub mod UnaryTurns
 pub mod Folding
 pub mod Driver
 pub mod Choice
+pub mod Group
