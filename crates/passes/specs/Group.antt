@@ -36,6 +36,7 @@ pub record CanGroup (W : List ℕ) (base n : ℕ) : Type 0 where
   pub few : n ≤ 4096
   pub small : length W < 2 ^ 32
 
+-- What is left stands for the definition's reading of those tokens, whatever the length of the source.
 pub record HasGrouped (W : List ℕ) (base n : ℕ) (used : OpSet) (version : ℤ) (r : Grouped) (W' : List ℕ) : Type 0 where
   pub to : (g : CanGroup W base n) (sourceLength : ℕ)
       → StandsFor W' (3 * n + 3) n sourceLength r (grouped sourceLength (usedBy used) (Order.order (rulesOf version)) [] (leaves (g .tokens)))
@@ -43,7 +44,7 @@ pub record HasGrouped (W : List ℕ) (base n : ℕ) (used : OpSet) (version : �
 
 -- ---- the flat passes
 
--- What the passes that have run make of the reading: a list, no heavier than n tokens, from which the passes ps go on; or a failure.
+-- The answer is what the passes ps make of the list in the m words from `base` on, which is no heavier than n tokens.
 pub record Listed (W : List ℕ) (base n sourceLength : ℕ) (u : ℕ → Bool) (ps : List Pass) (answer : Answer) (m : ℕ) : Type 0 where
   pub forest : Forest
   pub is : answer ≡ grouped sourceLength u ps [] forest
@@ -51,6 +52,7 @@ pub record Listed (W : List ℕ) (base n sourceLength : ℕ) (u : ℕ → Bool) 
   pub fewer : m ≤ n
   pub light : weight nodeWeight forest ≤ 3 * n
 
+-- Such a list in m words, or the answer that the failure stands for.
 abbrev pub FlatTo : List ℕ → ℕ → ℕ → ℕ → (ℕ → Bool) → List Pass → Answer → Flat → Type 0
 FlatTo W base n sourceLength u ps answer (Done m) = Listed W base n sourceLength u ps answer m
 FlatTo W base n sourceLength u ps answer (Fail f) = StandsFor W (3 * n + 3) n sourceLength (GroupFailed f) answer
@@ -67,20 +69,24 @@ pub data EndsTo (W : List ℕ) (sourceLength : ℕ) (x : Result) (f : Forest) : 
   ended : {m : ℕ} → x ≡ ok f → EndsTo W sourceLength x f (Done m)
   unended : {q : Failure} {ms : List Message} → x ≡ fail ms → Says W sourceLength q ms → EndsTo W sourceLength x f (Fail q)
 
+-- It is done where it is due.
 pub record EndsRight (W : List ℕ) (base n : ℕ) (used : OpSet) (r : Flat) : Type 0 where
   pub to : (g : CanGroup W base n) (sourceLength : ℕ)
       → EndsTo W sourceLength (ifRun (runs (usedBy used) lastToken) (endsWithSemicolon sourceLength) (leaves (g .tokens))) (leaves (g .tokens)) r
 
+-- The members are joined where that pass runs.
 pub record JoinedIf (W : List ℕ) (base n : ℕ) (used : OpSet) (r : Flat) (W' : List ℕ) : Type 0 where
   pub answer : (g : CanJoin W base n)
       → Answers W' (g .X) base (g .lo) (g .hi) n (ifRun (runs (usedBy used) memberAccessors) (members nil) (leaves (g .ks))) r
   pub long : length W' ≡ length W
 
+-- The sections are made where that pass runs.
 pub record SectionedIf (W : List ℕ) (base n : ℕ) (used : OpSet) (r : Flat) (W' : List ℕ) : Type 0 where
   pub answer : (g : CanSection W base n)
       → Answers W' (g .X) base (g .lo) (g .hi) n (ifRun (runs (usedBy used) sectioning) (sections 0 (outside nil)) (g .f)) r
   pub long : length W' ≡ length W
 
+-- The three flat passes have run, and any passes ps come after them.
 pub record Flattened (W : List ℕ) (base n : ℕ) (used : OpSet) (r : Flat) (W' : List ℕ) : Type 0 where
   pub to : (g : CanGroup W base n) (sourceLength : ℕ) (ps : List Pass)
       → FlatTo W' base n sourceLength (usedBy used) ps
@@ -99,6 +105,7 @@ pub record CanLevel (W : List ℕ) (base : ℕ) : Type 0 where
   pub room : 64 * n + 64 ≤ length W
   pub small : length W < 2 ^ 32
 
+-- What is left stands for what the passes after the sections make of that list.
 pub record Levelled (W : List ℕ) (base : ℕ) (used : OpSet) (version : ℤ) (r : Grouped) (W' : List ℕ) : Type 0 where
   pub to : (g : CanLevel W base) (sourceLength : ℕ)
       → StandsFor W' (3 * (g .n) + 3) (g .n) sourceLength r (grouped sourceLength (usedBy used) (drop 3 (Order.order (rulesOf version))) [] (g .F))
