@@ -1,12 +1,14 @@
 -- Used sets by their bits: one without operators above 110 is a number below 2 ^ 111, which the entry does not turn back; and every set of
 -- operators up to 110 is one, in two halves.
 use Prim.Native.Nat.{ℕ, zero, suc, _+_, _*_, _/_, _%_, _^_, _≤_, _<_}
-use mathlib.Core.Path.{_≡_, ap, sym, _∙_}
-use mathlib.Core.Bool.{Bool, true, false}
+use mathlib.Core.Path.{_≡_, refl, ap, sym, _∙_}
+use mathlib.Core.Bool.{Bool, true, false, false≢true}
+use native.Mathlib.Nat.{div-one}
 use native.Mathlib.Omega.{arith}
 use lib.Dec.{eqb}
 use lib.Pow.{shr-shr, shr-le, shr-lt, split}
 use borrow.Author.Tests.{eqb-false, eq-eqb, ne-eqb}
+use Rattle.molang.specs.Read.{setNumber}
 use Rattle.molang.specs.Parse.{inHalves}
 
 -- A number without bits is 0; n is at least the number.
@@ -26,11 +28,7 @@ used-few low high h =
     let gone : u / 2 ^ (111 + j) % 2 ≡ 0 = omega arith in ap (λ (m : ℕ). m % 2) (shr-shr u 111 j) ∙ gone) in
     omega arith
 
--- The number whose first n bits are those of a set, and no others.
-unfoldable setNumber : (ℕ → Bool) → ℕ → ℕ
-setNumber f zero = 0
-setNumber f (suc n) = setNumber (λ m. f (suc m)) n * 2 + elim (f 0) [ true ↦ 1 | false ↦ 0 ]
-
+-- The bits of a set's number.
 last-bit : (x : ℕ) (b : Bool) → eqb ((x * 2 + elim b [ true ↦ 1 | false ↦ 0 ]) / 2 ^ 0 % 2) 1 ≡ b
 last-bit x true = eq-eqb ((x * 2 + 1) / 2 ^ 0 % 2) 1 (omega arith)
 last-bit x false = ne-eqb ((x * 2 + 0) / 2 ^ 0 % 2) 1 (λ e. omega arith)
@@ -50,6 +48,45 @@ set-bits f (suc n) h (suc m) =
     (ap (λ (j : ℕ). x / 2 ^ j) next ∙ sym (shr-shr x 1 m) ∙ ap (λ (q : ℕ). q / 2 ^ m) (other-bits (setNumber (λ m. f (suc m)) n) (f 0)))
     ∙ set-bits (λ m. f (suc m)) n (λ m b. h (suc m) (omega arith)) m
 
+-- In two halves too.
+pub halves-exact : (f : ℕ → Bool) → ((m : ℕ) → 111 ≤ m → f m ≡ false)
+    → (m : ℕ) → inHalves (setNumber f 111 % 2 ^ 64) (setNumber f 111 / 2 ^ 64) m ≡ f m
+unfolding inHalves
+halves-exact f h m = ap (λ (q : ℕ). eqb (q / 2 ^ m % 2) 1) (split (setNumber f 111) 64) ∙ set-bits f 111 h m
+
+-- Numbers with the same bits are the same; n is at least either.
+same-bits : (n p q : ℕ) → p ≤ n → q ≤ n → ((j : ℕ) → eqb (p / 2 ^ j % 2) 1 ≡ eqb (q / 2 ^ j % 2) 1) → p ≡ q
+same-bits zero p q a b h = omega arith
+same-bits (suc n) p q a b h =
+    let half : p / 2 ^ 1 ≡ q / 2 ^ 1 =
+    same-bits n (p / 2 ^ 1) (q / 2 ^ 1) (omega arith) (omega arith)
+    (λ j. ap (λ (m : ℕ). eqb (m % 2) 1) (shr-shr p 1 j) ∙ (h (1 + j) ∙ sym (ap (λ (m : ℕ). eqb (m % 2) 1) (shr-shr q 1 j))))
+    in
+    let last : p % 2 ≡ q % 2 = same-digit (p % 2) (q % 2) (omega arith) (omega arith) (sym (first p) ∙ (h 0 ∙ first q)) in omega arith
+  where
+    first : (m : ℕ) → eqb (m / 2 ^ 0 % 2) 1 ≡ eqb (m % 2) 1
+    first m = ap (λ (k : ℕ). eqb (k % 2) 1) (div-one m)
+
+    same-digit : (a b : ℕ) → a < 2 → b < 2 → eqb a 1 ≡ eqb b 1 → a ≡ b
+    same-digit zero zero l r e = refl
+    same-digit zero (suc zero) l r e = absurd (false≢true e)
+    same-digit zero (suc (suc b)) l r e = absurd (omega arith)
+    same-digit (suc zero) zero l r e = absurd (false≢true (sym e))
+    same-digit (suc zero) (suc zero) l r e = refl
+    same-digit (suc zero) (suc (suc b)) l r e = absurd (omega arith)
+    same-digit (suc (suc a)) b l r e = absurd (omega arith)
+
+-- Two halves with exactly a set's operators are the halves of its number.
+pub exact-halves : (low high : ℕ) (f : ℕ → Bool) → low < 2 ^ 64 → ((m : ℕ) → 111 ≤ m → f m ≡ false)
+    → ((m : ℕ) → inHalves low high m ≡ f m)
+    → (low ≡ setNumber f 111 % 2 ^ 64) × (high ≡ setNumber f 111 / 2 ^ 64)
+unfolding inHalves
+exact-halves low high f fits few exactly =
+    let n = setNumber f 111 in
+    let u = high * 2 ^ 64 + low in
+    let same : u ≡ n = same-bits (u + n) u n (omega arith) (omega arith) (λ j. exactly j ∙ sym (set-bits f 111 few j)) in
+    (omega arith, omega arith)
+
 -- Every set of operators up to 110 is a used set in two halves.
 pub record Halves (f : ℕ → Bool) : Type 0 where
   pub low : ℕ
@@ -66,8 +103,6 @@ unfolding inHalves
 halves f h =
     let n = setNumber f 111 in
     let whole = split n 64 in
-    let exactly : (m : ℕ) → inHalves (n % 2 ^ 64) (n / 2 ^ 64) m ≡ f m =
-    λ m. ap (λ (q : ℕ). eqb (q / 2 ^ m % 2) 1) whole ∙ set-bits f 111 h m
-    in
+    let exactly = halves-exact f h in
     let few : n < 2 ^ 111 = rw whole at (used-few (n % 2 ^ 64) (n / 2 ^ 64) (λ m b. exactly m ∙ h m b)) in
     record { low = n % 2 ^ 64; high = n / 2 ^ 64; exactly = exactly; lowFits = omega arith; highFits = high-small (shr-lt 47 64 few) }

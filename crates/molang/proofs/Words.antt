@@ -208,7 +208,8 @@ refused-none : (o : Option ℕ) (refused : ℕ → Refusal) (later : Option Refu
 refused-none none refused later e = (refl, e)
 refused-none (some n) refused later e = some-none e
 
-next-word : (i : ℕ) (slot : Slot) (v w : ℕ) (ws : List ℕ) → wordsRefusal i slot v (w ∷ ws) ≡ none
+-- Of words that are not refused the first has no fault, and the others are not refused.
+pub next-word : (i : ℕ) (slot : Slot) (v w : ℕ) (ws : List ℕ) → wordsRefusal i slot v (w ∷ ws) ≡ none
     → (wordFault slot v w ≡ none) × (wordsRefusal (suc i) (nextInToken slot) (variantAfter slot v w) ws ≡ none)
 unfolding wordsRefusal
 next-word i slot v w ws e = refused-none (wordFault slot v w) (λ n. record { number = n; place = i }) _ e

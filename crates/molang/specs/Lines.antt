@@ -8,7 +8,7 @@ use lib.Dec.{eqb, leb, ltb}
 use lib.IntN.{ℤ, pos, negsuc}
 use lib.ListN.{length, take, replicate}
 use Rattle.molang.specs.Forest.{Token}
-use Rattle.molang.specs.Read.{uses}
+use Rattle.molang.specs.Read.{uses, setNumber}
 use Rattle.molang.specs.Words.{word, listWords}
 use Rattle.molang.specs.Parse.{Call, Told, aTree, someMessages, refused, answered, inFront, treeAfter, messagesAfter}
 use Rattle.molang.specs.WriteEntry.{WriteCall, WriteTold, tokens, unwritten, writeAnswered, listAfter}
@@ -72,11 +72,6 @@ unfoldable pub tokensFrom : ℕ → List ℕ → List Token
 tokensFrom i [] = []
 tokensFrom i (o ∷ os) = record { op = o; variant = 0; value = 0; start = i; end = i + 1 } ∷ tokensFrom (i + 1) os
 
--- The exact used set as a number, of the operators below n.
-unfoldable pub usedBelow : ℕ → List Token → ℕ
-usedBelow zero ks = 0
-usedBelow (suc n) ks = elim (uses ks n) [ true ↦ 2 ^ n + usedBelow n ks | false ↦ usedBelow n ks ]
-
 -- A call for n tokens: buffers of zeros just as long as the entry asks, and a source of length n.
 unfoldable pub callFor : ℕ → List ℕ → ℕ → ℤ → Call
 callFor n list used version =
@@ -92,7 +87,7 @@ callFor n list used version =
     }
 
 unfoldable pub listCall : List ℕ → ℤ → Call
-listCall os version = callFor (length os) (listWords (tokensFrom 0 os)) (usedBelow 111 (tokensFrom 0 os)) version
+listCall os version = callFor (length os) (listWords (tokensFrom 0 os)) (setNumber (uses (tokensFrom 0 os)) 111) version
 
 -- A tree node is op_c_ss_ee in decimal digits: operator, child count (one digit), span start and end (two digits each); payload 0.
 unfoldable pub nodeWords : List ℕ → List ℕ

@@ -1,5 +1,5 @@
 -- Reading: a token list, an operator set, a version and a source length give a tree or messages (`group_tokens` in mod.rs).
-use Prim.Native.Nat.{ℕ, suc, _+_, min, max}
+use Prim.Native.Nat.{ℕ, zero, suc, _+_, _*_, min, max}
 use mathlib.Core.Bool.{Bool, true, false, _||_}
 use mathlib.Core.List.{List, [], _∷_, _++_}
 use lib.Dec.{eqb}
@@ -71,3 +71,8 @@ read tokens u version sourceLength = grouped sourceLength u (order (rules versio
 unfoldable pub uses : List Token → ℕ → Bool
 uses [] n = false
 uses (k ∷ ks) n = eqb (k .op) n || uses ks n
+
+-- The number whose first n bits are those of a set, operator 0 being the lowest, and no others.
+unfoldable pub setNumber : (ℕ → Bool) → ℕ → ℕ
+setNumber u zero = 0
+setNumber u (suc n) = setNumber (λ m. u (suc m)) n * 2 + elim (u 0) [ true ↦ 1 | false ↦ 0 ]
