@@ -1,0 +1,54 @@
+-- The two entries' answers as one number, as the exports give them: bits 0-31 a count or a refusal's place, bits 32-39 a refusal's number, else
+-- 0, bits 40-47 the kind of the answer: 0 a tree or tokens, 1 messages, 2 a refusal. And the way back.
+use Prim.Native.Nat.{ℕ, zero, suc, _+_, _*_, _/_, _%_, _^_, _<_}
+use Rattle.molang.specs.Parse.{Told, aTree, someMessages, refused}
+use Rattle.molang.specs.WriteEntry.{WriteTold, tokens, unwritten}
+
+-- A number by its three fields.
+abbrev pub packed : ℕ → ℕ → ℕ → ℕ
+packed kind number low = kind * 2 ^ 40 + number * 2 ^ 32 + low
+
+abbrev pub kindIn : ℕ → ℕ
+kindIn n = n / 2 ^ 40
+
+abbrev pub numberIn : ℕ → ℕ
+numberIn n = n / 2 ^ 32 % 2 ^ 8
+
+abbrev pub lowIn : ℕ → ℕ
+lowIn n = n % 2 ^ 32
+
+-- THE PARSE ENTRY'S ANSWER, and the answer that a number stands for.
+abbrev pub toldNumber : Told → ℕ
+toldNumber (aTree nodes) = packed 0 0 nodes
+toldNumber (someMessages records) = packed 1 0 records
+toldNumber (refused number place) = packed 2 number place
+
+abbrev pub toldOfKind : ℕ → ℕ → ℕ → Told
+toldOfKind zero number low = aTree low
+toldOfKind (suc zero) number low = someMessages low
+toldOfKind (suc (suc k)) number low = refused number low
+
+abbrev pub toldBack : ℕ → Told
+toldBack n = toldOfKind (kindIn n) (numberIn n) (lowIn n)
+
+-- THE WRITE ENTRY'S ANSWER, and the answer that a number stands for.
+abbrev pub writeNumber : WriteTold → ℕ
+writeNumber (tokens count) = packed 0 0 count
+writeNumber (unwritten number place) = packed 2 number place
+
+abbrev pub writeOfKind : ℕ → ℕ → ℕ → WriteTold
+writeOfKind zero number low = tokens low
+writeOfKind (suc k) number low = unwritten number low
+
+abbrev pub writeBack : ℕ → WriteTold
+writeBack n = writeOfKind (kindIn n) (numberIn n) (lowIn n)
+
+-- An answer whose values fit the fields.
+abbrev pub FitsTold : Told → Type 0
+FitsTold (aTree nodes) = nodes < 2 ^ 32
+FitsTold (someMessages records) = records < 2 ^ 32
+FitsTold (refused number place) = (number < 2 ^ 8) × (place < 2 ^ 32)
+
+abbrev pub FitsWritten : WriteTold → Type 0
+FitsWritten (tokens count) = count < 2 ^ 32
+FitsWritten (unwritten number place) = (number < 2 ^ 8) × (place < 2 ^ 32)

@@ -1,0 +1,53 @@
+/* Sorbrudder by the C convention: Molang token lists read into trees, and plain trees written as token lists.
+ *
+ * Buffers are lent as a pointer to 32-bit words, aligned as a uint32_t is, and their number of words. A buffer that is written overlaps no
+ * other buffer of the call, and nobody else writes any of them while the call runs. A pointer is never null, not even beside a length of 0.
+ *
+ * An answer is one number. Bits 0-31: the count of nodes, tokens or messages, or a refusal's place. Bits 32-39: a refusal's number, else 0.
+ * Bits 40-47: 0 for a tree or a written list, 1 for messages, 2 for a refusal. The functions at the end take it apart.
+ */
+#ifndef SORBRUDDER_H
+#define SORBRUDDER_H
+
+#include <stddef.h>
+#include <stdint.h>
+
+#ifdef __cplusplus
+extern "C" {
+#endif
+
+/* What an answer is (`sorbrudder_kind`). */
+#define SORBRUDDER_DONE 0
+#define SORBRUDDER_MESSAGES 1
+#define SORBRUDDER_REFUSED 2
+
+/* Words of a token, of a tree node and of a message. */
+#define SORBRUDDER_TOKEN_WORDS 5
+#define SORBRUDDER_NODE_WORDS 6
+#define SORBRUDDER_MESSAGE_WORDS 8
+
+/* The most tokens of a list, and the buffers that reading n tokens asks for, in words. */
+#define SORBRUDDER_MOST_TOKENS 4096
+#define SORBRUDDER_TREE_BUFFER(n) (18 * (size_t)(n))
+#define SORBRUDDER_MESSAGE_BUFFER 16
+#define SORBRUDDER_WORK_BUFFER(n) (64 * (size_t)(n) + 64)
+
+/* Writes the plain tree whose words are `tree` as a list of tokens into the front of `list`; the words after it stay as they were.
+ * Done: the number of tokens, five words each. Refused, the list unchanged: 12 not one tree (place: the word), 13 a node that is not plain
+ * (place: its number in tree order), 14 more than 4,096 tokens, 15 the list is too short. */
+uint64_t sorbrudder_write(const uint32_t *tree, size_t tree_words, uint32_t *list, size_t list_words);
+
+/* The parts of an answer. */
+static inline unsigned sorbrudder_kind(uint64_t answer) { return (unsigned)(answer >> 40); }
+
+/* The count of nodes, tokens or messages; of a refusal, its place. */
+static inline uint32_t sorbrudder_count(uint64_t answer) { return (uint32_t)answer; }
+
+/* Of a refusal: its number, 1-15. */
+static inline unsigned sorbrudder_refusal(uint64_t answer) { return (unsigned)(answer >> 32) & 0xff; }
+
+#ifdef __cplusplus
+}
+#endif
+
+#endif
