@@ -1,7 +1,16 @@
 # The commands of the project; README.md says what each does.
-.PHONY: test
+.PHONY: test library compare
 
 test:
 	@tools/gate.sh
+
+# The proved static library, where it is not there yet or its sources changed: target/staticlib/libsorbrudder.a.
+library:
+	@rt staticlib sorbrudder
+
+LISTS ?= 5000000
+
+compare: library
+	@cd compare && cargo run --release --offline --quiet --bin compare $(LISTS) $(SEED)
 
 include tools/definition-check.mk

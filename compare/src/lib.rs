@@ -1,6 +1,14 @@
-//! What the library's entries answer, beside models that were written from document 01 alone.
+//! What the library's entries answer, beside the Rust (through `oracle`) and models that were written from document 01 alone.
 
+pub mod calls;
+#[cfg(library)]
+pub mod comparison;
 #[cfg(library)]
 pub mod library;
 pub mod plain_trees;
+#[cfg(library)]
+pub mod reading;
+#[cfg(library)]
+pub mod rereading;
+pub mod smallest;
 pub mod writer_model;

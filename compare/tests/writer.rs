@@ -183,10 +183,18 @@ fn a_tree_that_was_read_and_is_plain_reads_as_it_was() {
 #[cfg(library)]
 mod library {
     use super::*;
-    use compare::library;
+    use compare::{library, rereading};
     use oracle::words::Token;
 
-    /// The library answers as the model does, and fills the list as that says.
+    /// The library answers as the model does, and fills a list of so many words as that says.
+    fn agrees_in(rng: &mut Rng, words: &[u32], room: usize) -> Written {
+        match rereading::write(rng, words, room) {
+            Ok((answer, _)) => answer,
+            Err(difference) => panic!("room {room}: {difference}"),
+        }
+    }
+
+    /// The same in a list that has room, or none, or one word less.
     fn agrees(rng: &mut Rng, words: &[u32]) -> Written {
         let (_, full) = writer_model::write(words, usize::MAX);
         let room = match rng.below(4) {
@@ -195,16 +203,67 @@ mod library {
             2 => full.len() + rng.below(9),
             _ => rng.below(full.len() + 1),
         };
-        let before: Vec<u32> = (0..room).map(|_| rng.bits() as u32).collect();
-        let mut list = before.clone();
-        let given = words.to_vec();
-        let answer = library::write(&given, &mut list);
-        let (expected, front) = writer_model::write(words, room);
-        assert_eq!(answer, expected, "room {room}, words {words:x?}");
-        let filled = [&front[..], &before[front.len()..]].concat();
-        assert_eq!(list, filled, "words {words:x?}");
-        assert_eq!(given, words);
-        answer
+        agrees_in(rng, words, room)
+    }
+
+    #[test]
+    fn every_refusal_at_its_limits() {
+        let mut rng = Rng::new(26);
+        let not = |levels| [vec![bare(7, 1)], plain_trees::nested_brackets(levels)].concat();
+        // 14: 4,096 tokens are written, 4,097 are not; 15: the room for them, one word less, none.
+        let longest = tree_words(&not(2_047));
+        let longer = tree_words(&plain_trees::nested_brackets(2_048));
+        for (room, answer) in [
+            (20_480, Written::Tokens(4_096)),
+            (20_481, Written::Tokens(4_096)),
+            (20_479, Written::Refused(15, 0)),
+            (0, Written::Refused(15, 0)),
+        ] {
+            assert_eq!(agrees_in(&mut rng, &longest, room), answer);
+            assert_eq!(agrees_in(&mut rng, &longer, room), Written::Refused(14, 0));
+        }
+        let leaf = tree_words(&[bare(61, 0)]);
+        for (room, answer) in [
+            (5, Written::Tokens(1)),
+            (4, Written::Refused(15, 0)),
+            (0, Written::Refused(15, 0)),
+        ] {
+            assert_eq!(agrees_in(&mut rng, &leaf, room), answer);
+        }
+        // 13: the first, the last and any node between is the one that is not plain.
+        let plain = not(40);
+        for place in 0..plain.len() {
+            let mut nodes = plain.clone();
+            nodes[place].token.op = 63;
+            let answer = agrees_in(&mut rng, &tree_words(&nodes), 1_000);
+            assert_eq!(answer, Written::Refused(13, place));
+        }
+        // 12: no words, one word less, one word more.
+        assert_eq!(agrees_in(&mut rng, &[], 9), Written::Refused(12, 0));
+        let (less, more) = (&longest[..longest.len() - 1], [&longest[..], &[0]].concat());
+        let cut = Written::Refused(12, less.len());
+        assert_eq!(agrees_in(&mut rng, less, 20_480), cut);
+        let grown = Written::Refused(12, longest.len());
+        assert_eq!(agrees_in(&mut rng, &more, 20_480), grown);
+    }
+
+    #[test]
+    fn each_bit_of_each_word_of_a_tree() {
+        let mut rng = Rng::new(27);
+        let nodes = plain_trees::plain(&mut rng, 12);
+        let deep = plain_trees::nested_brackets(12_287);
+        for (nodes, first) in [(&nodes, 0), (&deep, deep.len() - 2)] {
+            let words = tree_words(nodes);
+            let last = (words.len() - 6..words.len()).chain(0..6);
+            let places = (6 * first..words.len()).chain(last);
+            for place in places {
+                for bit in 0..32 {
+                    let mut damaged = words.clone();
+                    damaged[place] ^= 1 << bit;
+                    agrees_in(&mut rng, &damaged, 300);
+                }
+            }
+        }
     }
 
     #[test]

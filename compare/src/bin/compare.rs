@@ -1,0 +1,180 @@
+//! The long comparison (`make compare`): reading through the C convention beside the Rust, then reading, writing and
+//! reading again beside the second writer. The last line is `N lists, 0 differences`; a difference ends the run with a
+//! status that is not 0, after the smallest list that shows it.
+//!
+//!     compare [LISTS] [SEED]
+
+use std::process::ExitCode;
+
+#[cfg(not(library))]
+fn main() -> ExitCode {
+    eprintln!("compare: the static library is not built; run: rt staticlib sorbrudder");
+    ExitCode::FAILURE
+}
+
+#[cfg(library)]
+fn main() -> ExitCode {
+    let mut arguments = std::env::args().skip(1);
+    let mut number = |usual: u64| match arguments.next() {
+        None => Ok(usual),
+        Some(word) => word.parse::<u64>(),
+    };
+    let (Ok(lists), Ok(seed)) = (number(5_000_000), number(1)) else {
+        eprintln!("usage: compare [LISTS] [SEED]");
+        return ExitCode::FAILURE;
+    };
+    if !oracle::COMPARED {
+        eprintln!("compare: the Rust source is not at hand; name its folder in MOLANGX_SRC");
+        return ExitCode::FAILURE;
+    }
+    match run::all(lists, seed) {
+        Ok(compared) => {
+            println!("{compared} lists, 0 differences");
+            ExitCode::SUCCESS
+        }
+        Err((compared, difference)) => {
+            println!("{difference}");
+            println!("{compared} lists, 1 difference");
+            ExitCode::FAILURE
+        }
+    }
+}
+
+#[cfg(library)]
+mod run {
+    use compare::calls;
+    use compare::comparison::Comparison;
+    use compare::reading::Desk;
+    use compare::rereading::{Lists, Reread, reread};
+    use oracle::generate::Rng;
+    use oracle::refusal::Call;
+    use std::io::{IsTerminal as _, Write as _};
+    use std::time::{Duration, Instant};
+
+    /// The progress line: over itself on a terminal, else a line of its own now and then.
+    struct Progress {
+        part: &'static str,
+        done: u64,
+        since: Instant,
+        told: Instant,
+    }
+
+    impl Progress {
+        fn new(part: &'static str) -> Self {
+            let since = Instant::now();
+            Self {
+                part,
+                done: 0,
+                since,
+                told: since,
+            }
+        }
+
+        fn one_more(&mut self) {
+            self.done += 1;
+            if !self.done.is_multiple_of(1 << 10) {
+                return;
+            }
+            let mut out = std::io::stderr();
+            let (wait, end) = if out.is_terminal() {
+                (1, '\r')
+            } else {
+                (10, '\n')
+            };
+            if self.told.elapsed() < Duration::from_secs(wait) {
+                return;
+            }
+            self.told = Instant::now();
+            let seconds = self.since.elapsed().as_secs();
+            let _ = write!(
+                out,
+                "{}: {} lists, {seconds} s ..{end}",
+                self.part, self.done
+            );
+        }
+
+        fn end(self, told: &str) {
+            let seconds = self.since.elapsed().as_secs();
+            println!("{}: {} lists, {seconds} s ({told})", self.part, self.done);
+        }
+    }
+
+    /// How many lists were compared; the difference that ended it, where one did.
+    pub fn all(lists: u64, seed: u64) -> Result<u64, (u64, String)> {
+        let mut done = 0;
+        let mut part = |name, calls: &mut dyn Iterator<Item = Call>| {
+            let read = reading(name, calls);
+            let (Ok(count) | Err((count, _))) = read;
+            done += count;
+            read.map_err(|(_, difference)| (done, difference))
+        };
+        let lists = lists as usize;
+        let generated = |number, most| calls::generated(seed + number, most);
+        let short = &mut generated(0, 24).take(lists);
+        part("generated lists of up to 24 tokens", short)?;
+        let long = &mut generated(1, 300).take(lists / 100);
+        part("generated lists of up to 300 tokens", long)?;
+        let longest = &mut generated(2, 4_096).take(lists / 5_000);
+        part("generated lists of up to 4,096 tokens", longest)?;
+        let eights = &mut calls::over_eights(5);
+        part(
+            "every list of up to 5 over three alphabets of 8, at 4, 5 and 6",
+            eights,
+        )?;
+        let alphabets = &mut calls::over_alphabets(5);
+        part(
+            "every list of up to 5 over the generator's alphabets, at 4, 5 and 6",
+            alphabets,
+        )?;
+        part(
+            "used sets that are not exact",
+            &mut calls::used_sets(seed, 1_500),
+        )?;
+        let lens = [4_096, 4_095, 1_000, 100, 9];
+        let shapes = &mut lens.into_iter().flat_map(calls::shapes);
+        part("every shape, at 4, 5 and 6", shapes)?;
+        part("every refusal at its limits", &mut calls::limits())?;
+        match rereading(lists as u64 / 5, seed) {
+            Ok(count) => Ok(done + count),
+            Err((count, difference)) => Err((done + count, difference)),
+        }
+    }
+
+    fn reading(
+        name: &'static str,
+        calls: &mut dyn Iterator<Item = Call>,
+    ) -> Result<u64, (u64, String)> {
+        let mut progress = Progress::new(name);
+        let mut comparison = Comparison::default();
+        let ended = comparison.all(calls, || progress.one_more());
+        let tally = comparison.tally;
+        ended.map_err(|difference| (tally.calls, difference))?;
+        progress.end(&format!(
+            "{} trees, {} with messages, {} turned back",
+            tally.trees, tally.messages, tally.refused
+        ));
+        Ok(tally.calls)
+    }
+
+    /// Goes on until `count` lists were written and read again.
+    fn rereading(count: u64, seed: u64) -> Result<u64, (u64, String)> {
+        let mut progress = Progress::new("lists read, written and read again at three versions");
+        let (mut desk, mut rng) = (Desk::new(), Rng::new(seed));
+        let mut refused = 0;
+        for case in Lists::new(seed) {
+            match reread(&mut desk, &mut rng, &case) {
+                Ok(Reread::Again) => progress.one_more(),
+                Ok(Reread::Refused) => refused += 1,
+                Ok(Reread::Messages) => {}
+                Err(difference) => {
+                    return Err((progress.done, format!("{difference}\nof {case:?}")));
+                }
+            }
+            if progress.done == count {
+                break;
+            }
+        }
+        progress.end(&format!("{refused} more trees are not plain or too long"));
+        Ok(count + refused)
+    }
+}

@@ -1,0 +1,239 @@
+//! The calls that the parse entry is compared over.
+
+use oracle::generate::alphabets::{ALPHABETS, Alphabet};
+use oracle::generate::shapes::SHAPES;
+use oracle::generate::{Mixed, Rng, damage, dress};
+use oracle::lines;
+use oracle::refusal::Call;
+use oracle::words::{
+    Case, FULL_SET, LAST_OP, LAST_PLACE, MOST_TOKENS, TOKEN_WORDS, Token, bit, exact_set, low, word,
+};
+
+/// Eight operators each, whose lists meet in the same passes.
+pub static EIGHTS: [Alphabet; 3] = [
+    eight(
+        "sums, products, prefixes, brackets",
+        &[61, 9, 6, 31, 20, 7, 4, 5],
+    ),
+    eight(
+        "conditionals, logic, comparisons",
+        &[61, 59, 60, 56, 57, 53, 54, 58],
+    ),
+    eight(
+        "calls, statements, assignment, return",
+        &[43, 73, 71, 74, 40, 36, 4, 5],
+    ),
+];
+
+const fn eight(name: &'static str, ops: &'static [u8]) -> Alphabet {
+    Alphabet {
+        name,
+        ops,
+        ending: &[],
+        versions_differ: true,
+    }
+}
+
+/// Generated lists of at most `most` tokens, one in twelve with a spoiled call, half with more room than asked for.
+pub fn generated(seed: u64, most: usize) -> impl Iterator<Item = Call> {
+    let mut rng = Rng::new(seed ^ 0x5EED);
+    Mixed::new(seed, most).map(move |case| {
+        if rng.chance(8) {
+            return damage::damaged(&mut rng, &case).0;
+        }
+        let mut call = Call::of(&case);
+        if rng.chance(50) {
+            call.tree_len += rng.below(20) as u64;
+            call.messages_len += rng.below(20) as u64;
+            call.work_len += rng.below(200) as u64;
+        }
+        call
+    })
+}
+
+fn exact(ops: &[u8], version: i16) -> Case {
+    let tokens = dress::plain(ops);
+    Case {
+        used: exact_set(&tokens),
+        source_len: tokens.len() as u32,
+        version,
+        tokens,
+    }
+}
+
+fn at_each_version(ops: &[u8]) -> [Call; 3] {
+    [4, 5, 6].map(|version| Call::of(&exact(ops, version)))
+}
+
+/// Every list of up to `most` operators over the alphabets of eight, at versions 4, 5 and 6.
+pub fn over_eights(most: usize) -> impl Iterator<Item = Call> {
+    EIGHTS
+        .iter()
+        .flat_map(move |alphabet| alphabet.every_list(most))
+        .flat_map(|ops| at_each_version(&ops))
+}
+
+/// Every list of up to `most` operators over the generator's small alphabets, at versions 4, 5 and 6.
+pub fn over_alphabets(most: usize) -> impl Iterator<Item = Call> {
+    ALPHABETS
+        .iter()
+        .flat_map(move |alphabet| alphabet.every_list(most))
+        .flat_map(|ops| at_each_version(&ops))
+}
+
+/// Every shape of so many tokens at versions 4, 5 and 6, with the exact used set and with the full one.
+pub fn shapes(len: usize) -> impl Iterator<Item = Call> {
+    SHAPES.iter().flat_map(move |shape| {
+        let cases = [4, 5, 6].map(|version| exact(&shape.ops(len), version));
+        let full = cases.clone().map(|case| Case {
+            used: FULL_SET,
+            ..case
+        });
+        cases.into_iter().chain(full).map(|case| Call::of(&case))
+    })
+}
+
+/// Lists with the full used set, the empty one, and the exact one with each of its operators taken out and each other one
+/// put in: document 01's lines and findings, and `count` generated lists.
+pub fn used_sets(seed: u64, count: usize) -> impl Iterator<Item = Call> {
+    let stored = lines::lines().into_iter().chain(lines::findings());
+    let cases = stored.map(|line| line.case);
+    cases
+        .chain(Mixed::new(seed, 12).take(count))
+        .flat_map(|case| {
+            let exact = exact_set(&case.tokens);
+            let flipped = (0..=LAST_OP).map(move |op| (exact.0 ^ bit(op).0, exact.1 ^ bit(op).1));
+            let sets = flipped.chain([FULL_SET, (0, 0), exact]);
+            sets.map(move |used| {
+                Call::of(&Case {
+                    used,
+                    ..case.clone()
+                })
+            })
+        })
+}
+
+/// A sound call of so many tokens, with a payload under each variant.
+fn sound(tokens: usize) -> Call {
+    let token = |place: usize| Token {
+        op: 61,
+        variant: (place % 13) as u8,
+        value: if place.is_multiple_of(13) {
+            0
+        } else {
+            0xFFFF_FFFF
+        },
+        start: LAST_PLACE,
+        end: 0,
+    };
+    let tokens: Vec<Token> = (0..tokens).map(token).collect();
+    Call::of(&Case {
+        used: exact_set(&tokens),
+        source_len: LAST_PLACE,
+        version: 6,
+        tokens,
+    })
+}
+
+/// What is changed of a sound call.
+type Change = Box<dyn Fn(&mut Call)>;
+
+/// Answers 1 to 7, each on both sides of its limit.
+fn at_limits() -> Vec<Change> {
+    let mut changes: Vec<Change> = vec![Box::new(|_| {})];
+    changes.push(Box::new(|call| call.list.push(word(1, 61))));
+    changes.push(Box::new(|call| {
+        call.list.pop();
+    }));
+    for more in [-1, 0, 1] {
+        let moved = move |len: u64| len.saturating_add_signed(more);
+        changes.push(Box::new(move |call| call.tree_len = moved(call.tree_len)));
+        changes.push(Box::new(move |call| {
+            call.messages_len = moved(call.messages_len)
+        }));
+        changes.push(Box::new(move |call| call.work_len = moved(call.work_len)));
+        changes.push(Box::new(move |call| {
+            call.source_len = moved(call.source_len)
+        }));
+    }
+    for zero in 0..3 {
+        changes.push(Box::new(move |call| {
+            *[
+                &mut call.tree_len,
+                &mut call.messages_len,
+                &mut call.work_len,
+            ][zero] = 0;
+        }));
+    }
+    changes.push(Box::new(|call| call.source_len = u64::MAX));
+    for bit in 44..64 {
+        changes.push(Box::new(move |call| call.used.1 |= 1 << bit));
+    }
+    changes
+}
+
+/// Each way to damage the word at `place`: every other kind, every other bit, operators and variants at their limits.
+fn damages(call: &Call, place: usize) -> Vec<u32> {
+    let given = call.list[place];
+    let mut words: Vec<u32> = (0..32).map(|bit| given ^ 1 << bit).collect();
+    words.extend((0..8).map(|kind| word(kind, low(given))));
+    if place.is_multiple_of(TOKEN_WORDS) {
+        words.extend([110, 111, 127, 128, 255].map(|op| given & !0xFF | op));
+        words.extend([0, 12, 13, 14, 15].map(|variant| given & !0xF00 | variant << 8));
+    }
+    words.extend([0, !0]);
+    words
+}
+
+/// Every refusal at its limits: the whole call's for lists of several lengths, each alone and each two together; each
+/// field of every word of a short list, and of the first and last words of the longest.
+pub fn limits() -> impl Iterator<Item = Call> {
+    let lengths = [
+        0,
+        1,
+        2,
+        13,
+        14,
+        MOST_TOKENS - 1,
+        MOST_TOKENS,
+        MOST_TOKENS + 1,
+    ];
+    let whole = lengths.into_iter().flat_map(|tokens| {
+        let changes = at_limits();
+        let sound = sound(tokens);
+        let mut calls = Vec::new();
+        for (place, change) in changes.iter().enumerate() {
+            let mut changed = sound.clone();
+            change(&mut changed);
+            let others = if tokens > 14 {
+                &[][..]
+            } else {
+                &changes[place + 1..]
+            };
+            for other in others {
+                let mut both = changed.clone();
+                other(&mut both);
+                calls.push(both);
+            }
+            calls.push(changed);
+        }
+        calls
+    });
+    let words = [
+        (14, 0..70),
+        (MOST_TOKENS, 0..5),
+        (MOST_TOKENS, 20_475..20_480),
+    ];
+    let damaged = words.into_iter().flat_map(|(tokens, places)| {
+        let sound = sound(tokens);
+        places.flat_map(move |place| {
+            let sound = sound.clone();
+            damages(&sound, place).into_iter().map(move |word| {
+                let mut call = sound.clone();
+                call.list[place] = word;
+                call
+            })
+        })
+    });
+    whole.chain(damaged)
+}

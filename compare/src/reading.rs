@@ -1,0 +1,192 @@
+//! A call of the parse entry beside what it has to leave: the answer, every word of the tree and of the messages, the
+//! work buffer zero, and all other words as they were, those around the lent slices too.
+
+use crate::library::{self, Read, Told};
+use oracle::refusal::{Call, refusal};
+use oracle::words::{Answer, Case, NODE_WORDS, Record, decode_list};
+
+/// What a call has to leave.
+#[derive(Clone, Debug, PartialEq, Eq)]
+pub enum Expected {
+    Tree(Vec<u32>),
+    Messages(Vec<Record>),
+    Refused(u32, usize),
+    /// A tree or messages; which ones is not known, since the Rust is not at hand.
+    Something,
+}
+
+impl From<Answer> for Expected {
+    fn from(answer: Answer) -> Self {
+        match answer {
+            Answer::Tree(words) => Self::Tree(words),
+            Answer::Messages(records) => Self::Messages(records),
+        }
+    }
+}
+
+/// What document 01's table and the Rust say to a call.
+pub fn expected(call: &Call) -> Expected {
+    if let Some(refused) = refusal(call) {
+        return Expected::Refused(refused.number, refused.place as usize);
+    }
+    let case = Case {
+        tokens: decode_list(&call.list).expect("the table lets only tokens pass"),
+        used: call.used,
+        source_len: call.source_len as u32,
+        version: call.version,
+    };
+    match oracle::answer_if_at_hand(&case) {
+        Some(answer) => answer.into(),
+        None => Expected::Something,
+    }
+}
+
+/// Words before and after each lent slice.
+const GUARD: usize = 16;
+/// By how much the noise is moved from call to call.
+const MOVES: usize = 1 << 10;
+
+/// A lent slice between its guards.
+#[derive(Default)]
+struct Lent {
+    words: Vec<u32>,
+    len: usize,
+}
+
+impl Lent {
+    /// A slice of `len` words filled with noise, as its guards are.
+    fn fill(&mut self, noise: &[u32], len: usize) {
+        self.len = len;
+        self.words.clear();
+        self.words.extend_from_slice(&noise[..len + 2 * GUARD]);
+    }
+
+    fn slice(&mut self) -> &mut [u32] {
+        &mut self.words[GUARD..GUARD + self.len]
+    }
+
+    /// The place in the slice of the first word that is neither `front`'s nor as it was; before it, it is negative.
+    fn changed(&self, noise: &[u32], front: &[u32]) -> Option<isize> {
+        let (before, rest) = self.words.split_at(GUARD);
+        let (filled, after) = rest.split_at(front.len());
+        let from = GUARD + front.len();
+        let same = before == &noise[..GUARD]
+            && filled == front
+            && after == &noise[from..from + after.len()];
+        if same {
+            return None;
+        }
+        let wanted = noise[..GUARD].iter().chain(front).chain(&noise[from..]);
+        let place = self
+            .words
+            .iter()
+            .zip(wanted)
+            .position(|(is, was)| is != was)?;
+        Some(place as isize - GUARD as isize)
+    }
+}
+
+/// The buffers that calls are lent, one call after the other.
+pub struct Desk {
+    noise: Vec<u32>,
+    moved: usize,
+    tree: Lent,
+    messages: Lent,
+    work: Lent,
+    zeros: Vec<u32>,
+}
+
+impl Default for Desk {
+    fn default() -> Self {
+        Self::new()
+    }
+}
+
+impl Desk {
+    pub fn new() -> Self {
+        Self {
+            noise: Vec::new(),
+            moved: 0,
+            tree: Lent::default(),
+            messages: Lent::default(),
+            work: Lent::default(),
+            zeros: Vec::new(),
+        }
+    }
+
+    /// Makes the noise long enough for a slice of `len` words, wherever it starts.
+    fn stretch(&mut self, len: usize) {
+        let mut rng = oracle::generate::Rng::new(self.noise.len() as u64);
+        while self.noise.len() < len + 2 * GUARD + MOVES {
+            // Never 0, which the work buffer is cleared to.
+            self.noise.push(rng.bits() as u32 | 1);
+        }
+        self.zeros.resize(self.zeros.len().max(len), 0);
+    }
+
+    /// Makes the call; what it answers, or how what it left differs from what is expected.
+    pub fn call(&mut self, call: &Call, expected: &Expected) -> Result<Read, String> {
+        let lens = [call.tree_len, call.messages_len, call.work_len].map(|len| len as usize);
+        self.stretch(*lens.iter().max().expect("there are three"));
+        self.moved = (self.moved + 1) % MOVES;
+        let noise = &self.noise[self.moved..];
+        let lents = [&mut self.tree, &mut self.messages, &mut self.work];
+        for (lent, len) in lents.into_iter().zip(lens) {
+            lent.fill(noise, len);
+        }
+        let told = Told {
+            source_len: call.source_len,
+            version: call.version,
+            used: call.used,
+        };
+        let (tree, messages) = (self.tree.slice(), self.messages.slice());
+        let answer = library::parse(&call.list, tree, messages, self.work.slice(), told);
+        self.judge(answer, expected)?;
+        Ok(answer)
+    }
+
+    /// The words that the last call put in front of the tree buffer, for an answer of so many nodes.
+    pub fn tree(&mut self, nodes: usize) -> &[u32] {
+        &self.tree.slice()[..NODE_WORDS * nodes]
+    }
+
+    fn judge(&mut self, answer: Read, expected: &Expected) -> Result<(), String> {
+        let (tree, messages) = match (answer, expected) {
+            (Read::Tree(nodes), Expected::Tree(words)) if NODE_WORDS * nodes == words.len() => {
+                (words.clone(), Vec::new())
+            }
+            (Read::Messages(count), Expected::Messages(records)) if count == records.len() => {
+                (Vec::new(), records.concat())
+            }
+            (Read::Refused(..), Expected::Refused(number, place))
+                if answer == Read::Refused(*number, *place) =>
+            {
+                (Vec::new(), Vec::new())
+            }
+            (Read::Tree(nodes), Expected::Something) if NODE_WORDS * nodes <= self.tree.len => {
+                (self.tree(nodes).to_vec(), Vec::new())
+            }
+            (Read::Messages(count @ 1..=2), Expected::Something) => {
+                (Vec::new(), self.messages.slice()[..8 * count].to_vec())
+            }
+            _ => return Err(format!("the answer is {answer:?} and not {expected:?}")),
+        };
+        let noise = &self.noise[self.moved..];
+        let work = match answer {
+            Read::Refused(..) => &[],
+            _ => &self.zeros[..self.work.len],
+        };
+        let parts = [
+            ("tree", &self.tree, &tree[..]),
+            ("message", &self.messages, &messages[..]),
+            ("work", &self.work, work),
+        ];
+        for (name, lent, front) in parts {
+            if let Some(place) = lent.changed(noise, front) {
+                let is = lent.words[(place + GUARD as isize) as usize];
+                return Err(format!("word {place} of the {name} buffer is {is:#x}"));
+            }
+        }
+        Ok(())
+    }
+}

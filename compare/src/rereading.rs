@@ -1,0 +1,147 @@
+//! A list read, written, and the written list read again at three versions, all by the library, beside the second writer.
+
+use crate::library;
+use crate::library::Read;
+use crate::plain_trees;
+use crate::reading::{Desk, Expected};
+use crate::writer_model::{self, Tree, Written};
+use oracle::generate::{Mixed, Rng};
+use oracle::refusal::Call;
+use oracle::words::{Case, Token, TreeNode, decode_list, decode_tree, exact_set};
+
+/// What became of a list.
+#[derive(Copy, Clone, Debug, PartialEq, Eq)]
+pub enum Reread {
+    /// It is no tree.
+    Messages,
+    /// Its tree is turned back by the writer.
+    Refused,
+    /// It was written and read again.
+    Again,
+}
+
+/// Lists whose trees are often plain: half generated, half written from a plain tree with most brackets lost again, so
+/// that the versions read them differently.
+pub struct Lists {
+    rng: Rng,
+    mixed: Mixed,
+}
+
+impl Lists {
+    pub fn new(seed: u64) -> Self {
+        Self {
+            rng: Rng::new(seed),
+            mixed: Mixed::new(seed, 24),
+        }
+    }
+
+    /// The tokens of a plain tree, written, without some of its brackets.
+    fn unbracketed(&mut self) -> Vec<Token> {
+        let size = 1 + self
+            .rng
+            .below(if self.rng.clone().chance(2) { 300 } else { 20 });
+        let nodes = plain_trees::plain(&mut self.rng, size);
+        let lost = self.rng.below(100);
+        let list = Tree::of(&nodes).written();
+        let mut stays = vec![true; list.len()];
+        let mut open = Vec::new();
+        for (place, token) in list.iter().enumerate() {
+            match token.op {
+                4 => open.push(place),
+                5 => {
+                    let opener = open.pop().expect("written brackets match");
+                    let called = opener > 0 && is_called(list[opener - 1].op);
+                    let stay = called || !self.rng.chance(lost);
+                    (stays[opener], stays[place]) = (stay, stay);
+                }
+                _ => {}
+            }
+        }
+        let kept = list.into_iter().zip(stays).filter(|(_, stays)| *stays);
+        kept.map(|(token, _)| token).collect()
+    }
+}
+
+fn is_called(op: u8) -> bool {
+    matches!(op, 40 | 8 | 10..=19 | 21..=30 | 32..=39 | 78..=110)
+}
+
+impl Iterator for Lists {
+    type Item = Case;
+
+    fn next(&mut self) -> Option<Case> {
+        if self.rng.chance(20) {
+            return self.mixed.next();
+        }
+        let tokens = self.unbracketed();
+        Some(Case {
+            used: exact_set(&tokens),
+            source_len: 9,
+            version: self.rng.below(18) as i16 - 2,
+            tokens,
+        })
+    }
+}
+
+/// The nodes that the parse entry makes of a case, or none where it has messages.
+fn read(desk: &mut Desk, case: &Case) -> Result<Option<Vec<u32>>, String> {
+    match desk.call(&Call::of(case), &Expected::Something)? {
+        Read::Tree(nodes) => Ok(Some(desk.tree(nodes).to_vec())),
+        _ => Ok(None),
+    }
+}
+
+/// Writes a tree by the library and by the model, into a list of `room` words; the answer and the written tokens' words.
+pub fn write(rng: &mut Rng, words: &[u32], room: usize) -> Result<(Written, Vec<u32>), String> {
+    let before: Vec<u32> = (0..room + 8).map(|_| rng.bits() as u32).collect();
+    let mut list = before.clone();
+    let given = words.to_vec();
+    let answer = library::write(&given, &mut list[4..room + 4]);
+    let (wanted, front) = writer_model::write(words, room);
+    let after = [&before[..4], &front, &before[4 + front.len()..]].concat();
+    if answer != wanted {
+        return Err(format!("{answer:?} and not {wanted:?} to write {words:x?}"));
+    }
+    if list != after || given != words {
+        return Err(format!("other words after writing {words:x?}"));
+    }
+    Ok((answer, front))
+}
+
+/// Reads, writes and reads again; what became of the list, or a difference.
+pub fn reread(desk: &mut Desk, rng: &mut Rng, case: &Case) -> Result<Reread, String> {
+    let Some(words) = read(desk, case)? else {
+        return Ok(Reread::Messages);
+    };
+    let room = 5 * (4 * words.len() / 6).min(writer_model::MOST_TOKENS);
+    let (answer, list) = write(rng, &words, room)?;
+    if let Written::Refused(..) = answer {
+        return Ok(Reread::Refused);
+    }
+    let first = decode_tree(&words).ok_or("the tree's words are no tree")?;
+    let away = Tree::of(&first).taken_away();
+    let tokens = decode_list(&list).ok_or("the written words are no list")?;
+    for _ in 0..3 {
+        let again = Case {
+            used: exact_set(&tokens),
+            source_len: rng.below(1 << 29) as u32,
+            version: if rng.chance(20) {
+                rng.bits() as i16
+            } else {
+                rng.below(12) as i16
+            },
+            tokens: tokens.clone(),
+        };
+        reads_as(desk, &again, &away)?;
+    }
+    Ok(Reread::Again)
+}
+
+fn reads_as(desk: &mut Desk, case: &Case, away: &[TreeNode]) -> Result<(), String> {
+    let words = read(desk, case)?.ok_or_else(|| format!("messages to the written {case:?}"))?;
+    let nodes = decode_tree(&words).ok_or("the second tree's words are no tree")?;
+    if Tree::of(&nodes).taken_away() != away {
+        return Err(format!("another tree of the written {case:?}"));
+    }
+    Ok(())
+}

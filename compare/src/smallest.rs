@@ -1,0 +1,117 @@
+//! The smallest call that still shows a difference, found by taking tokens out and making the rest plain.
+
+use oracle::refusal::Call;
+use oracle::words::{TOKEN_WORDS, exact_set, low, word};
+
+/// Takes out runs of tokens and makes the others plain for as long as the call still differs.
+pub fn smallest(mut call: Call, mut differs: impl FnMut(&Call) -> bool) -> Call {
+    loop {
+        let before = call.clone();
+        call = fewer_tokens(call, &mut differs);
+        call = plainer(call, &mut differs);
+        if call == before {
+            return call;
+        }
+    }
+}
+
+fn fewer_tokens(mut call: Call, differs: &mut impl FnMut(&Call) -> bool) -> Call {
+    let mut run = (call.list.len() / TOKEN_WORDS).max(1);
+    while run > 0 {
+        let mut at = 0;
+        while (at + run) * TOKEN_WORDS <= call.list.len() {
+            let mut less = call.clone();
+            less.list.drain(at * TOKEN_WORDS..(at + run) * TOKEN_WORDS);
+            less.tree_len = less.tree_len.saturating_sub(18 * run as u64);
+            less.work_len = less.work_len.saturating_sub(64 * run as u64);
+            if differs(&less) {
+                call = less;
+            } else {
+                at += 1;
+            }
+        }
+        run /= 2;
+    }
+    call
+}
+
+fn plainer(mut call: Call, differs: &mut impl FnMut(&Call) -> bool) -> Call {
+    let mut change = |call: &mut Call, make: &dyn Fn(&mut Call)| {
+        let mut changed = call.clone();
+        make(&mut changed);
+        if changed != *call && differs(&changed) {
+            *call = changed;
+        }
+    };
+    for token in 0..call.list.len() / TOKEN_WORDS {
+        let at = token * TOKEN_WORDS;
+        let place = token as u32;
+        change(&mut call, &|call| {
+            call.list[at] = word(1, low(call.list[at]) & 0xFF);
+            call.list[at + 3] = word(4, 0);
+            call.list[at + 4] = word(5, 0);
+        });
+        change(&mut call, &|call| {
+            call.list[at + 1] = word(2, place);
+            call.list[at + 2] = word(3, place + 1);
+        });
+    }
+    change(&mut call, &|call| {
+        if let Some(tokens) = oracle::words::decode_list(&call.list) {
+            call.used = exact_set(&tokens);
+        }
+    });
+    change(&mut call, &|call| {
+        call.source_len = (call.list.len() / TOKEN_WORDS) as u64
+    });
+    for version in [4, 5, 6] {
+        change(&mut call, &|call| call.version = version);
+    }
+    call
+}
+
+/// The call as a person reads it.
+pub fn shown(call: &Call) -> String {
+    let ops: Vec<u32> = call
+        .list
+        .iter()
+        .step_by(TOKEN_WORDS)
+        .map(|word| low(*word) & 0xFF)
+        .collect();
+    format!(
+        "operators {ops:?} at version {}, used set {:#x} {:#x}, source length {},\n\
+         buffers of {}, {} and {} words, list words {:x?}",
+        call.version,
+        call.used.0,
+        call.used.1,
+        call.source_len,
+        call.tree_len,
+        call.messages_len,
+        call.work_len,
+        call.list,
+    )
+}
+
+#[cfg(test)]
+mod tests {
+    use super::*;
+    use oracle::generate::Mixed;
+
+    #[test]
+    fn only_what_makes_the_difference_is_left() {
+        let minuses = |call: &Call| {
+            let first_words = call.list.iter().step_by(TOKEN_WORDS);
+            first_words.filter(|word| low(**word) & 0xFF == 6).count()
+        };
+        let calls = Mixed::new(3, 40).map(|case| Call::of(&case));
+        for call in calls.filter(|call| minuses(call) >= 2).take(50) {
+            let least = smallest(call, |call| minuses(call) >= 2);
+            assert_eq!(least.list.len(), 2 * TOKEN_WORDS);
+            assert_eq!((least.tree_len, least.work_len), (36, 192));
+            assert_eq!(
+                (least.used, least.source_len, least.version),
+                ((64, 0), 2, 6)
+            );
+        }
+    }
+}

@@ -1,0 +1,140 @@
+//! The parse entry through the C convention, beside document 01's table and the Rust. Without the static library nothing
+//! of this is built (build.rs says so); without the Rust only what does not need it is run, and a line says so.
+#![cfg(library)]
+
+use compare::calls;
+use compare::comparison::Comparison;
+use compare::reading::{Desk, Expected};
+use compare::rereading::{self, Lists, Reread};
+use oracle::generate::Rng;
+use oracle::refusal::Call;
+use oracle::vectors::{Stored, stored};
+use std::io::Write as _;
+
+/// Compares all calls; the counts of trees, messages and refusals.
+fn compared(calls: impl Iterator<Item = Call>) -> (u64, u64, u64) {
+    let mut comparison = Comparison::default();
+    if let Err(difference) = comparison.all(calls, || {}) {
+        panic!("{difference}");
+    }
+    let tally = comparison.tally;
+    (tally.trees, tally.messages, tally.refused)
+}
+
+/// Whether the Rust is at hand; says so where it is not.
+fn rust_is_at_hand(what: &str) -> bool {
+    if !oracle::COMPARED {
+        // Not by the macro, whose lines a passing test keeps to itself.
+        let line = format!("{what}: left out, since the Rust source is not at hand\n");
+        let _ = std::io::stderr().write_all(line.as_bytes());
+    }
+    oracle::COMPARED
+}
+
+#[test]
+fn every_kept_answer() {
+    let mut comparison = Comparison::default();
+    for record in stored() {
+        let (call, expected) = match record {
+            Stored::Answered(case, answer) => (Call::of(&case), Expected::from(answer)),
+            Stored::Refused(call, refusal) => {
+                let place = refusal.place as usize;
+                (call, Expected::Refused(refusal.number, place))
+            }
+        };
+        if let Err(difference) = comparison.call_expecting(&call, &expected) {
+            panic!("{difference}");
+        }
+    }
+    assert!(comparison.tally.calls > 20_000);
+}
+
+#[test]
+fn every_refusal_at_its_limits() {
+    let (_, _, refused) = compared(calls::limits());
+    assert!(refused > 3_000, "only {refused} calls were turned back");
+}
+
+#[test]
+fn generated_lists() {
+    if rust_is_at_hand("200,000 generated lists") {
+        let (trees, messages, refused) = compared(calls::generated(1, 24).take(200_000));
+        assert!(trees > 50_000 && messages > 50_000 && refused > 10_000);
+    }
+}
+
+#[test]
+fn long_generated_lists() {
+    if rust_is_at_hand("long generated lists") {
+        compared(calls::generated(2, 300).take(10_000));
+        compared(calls::generated(3, 4_096).take(300));
+    }
+}
+
+#[test]
+fn every_list_of_up_to_five_operators_of_eight() {
+    if rust_is_at_hand("every list of up to five operators of eight") {
+        let (trees, messages, _) = compared(calls::over_eights(5));
+        assert_eq!(
+            trees + messages,
+            3 * 3 * (1 + 8 + 64 + 512 + 4_096 + 32_768)
+        );
+    }
+}
+
+#[test]
+fn every_shape_of_4096_tokens() {
+    if rust_is_at_hand("every shape of 4,096 tokens") {
+        for len in [4_096, 4_095, 512, 33] {
+            compared(calls::shapes(len));
+        }
+    }
+}
+
+#[test]
+fn used_sets_that_are_not_exact() {
+    if rust_is_at_hand("used sets that are not exact") {
+        let (trees, messages, refused) = compared(calls::used_sets(4, 300));
+        assert!(trees > 5_000 && messages > 5_000 && refused == 0);
+    }
+}
+
+#[test]
+fn a_written_list_reads_as_the_same_tree_at_three_versions() {
+    let mut desk = Desk::new();
+    let mut rng = Rng::new(5);
+    let mut again = 0;
+    for case in Lists::new(5).take(60_000) {
+        match rereading::reread(&mut desk, &mut rng, &case) {
+            Ok(Reread::Again) => again += 1,
+            Ok(_) => {}
+            Err(difference) => panic!("{difference}\nof {case:?}"),
+        }
+    }
+    assert!(again > 20_000, "only {again} lists were read again");
+}
+
+#[test]
+fn a_reader_keeps_nothing_from_call_to_call() {
+    // The same calls in another order, between calls that are turned back.
+    let cases: Vec<Call> = calls::generated(6, 24).take(2_000).collect();
+    let forward: Vec<_> = answers(cases.iter());
+    let mut backward = answers(cases.iter().rev());
+    backward.reverse();
+    assert_eq!(forward, backward);
+}
+
+fn answers<'c>(calls: impl Iterator<Item = &'c Call>) -> Vec<String> {
+    let mut desk = Desk::new();
+    let answer = |call: &Call| {
+        let refused = oracle::refusal::refusal(call);
+        let expected = refused.map_or(Expected::Something, |refused| {
+            Expected::Refused(refused.number, refused.place as usize)
+        });
+        match desk.call(call, &expected) {
+            Ok(read) => format!("{read:?}"),
+            Err(difference) => panic!("{difference}"),
+        }
+    };
+    calls.map(answer).collect()
+}
