@@ -1,5 +1,5 @@
 # The commands of the project; README.md says what each does.
-.PHONY: test library compare
+.PHONY: test library compare bench
 
 test:
 	@tools/gate.sh
@@ -12,5 +12,8 @@ LISTS ?= 5000000
 
 compare: library
 	@cd compare && cargo run --release --offline --quiet --bin compare $(LISTS) $(SEED)
+
+bench: library
+	@cd compare && cargo run --release --offline --quiet --bin bench
 
 include tools/definition-check.mk

@@ -11,4 +11,5 @@ pub mod reading;
 #[cfg(library)]
 pub mod rereading;
 pub mod smallest;
+pub mod workloads;
 pub mod writer_model;

@@ -90,6 +90,18 @@ pub fn answer_if_at_hand(case: &Case) -> Option<Answer> {
     }
 }
 
+/// Builds the Rust's list of a case, groups it and drops what came of it: what is timed of the Rust. Whether it is a
+/// tree, or `None` where the source was not at hand. No token of the case has payload variant 12.
+pub fn grouped_if_at_hand(case: &Case) -> Option<bool> {
+    #[cfg(molangx)]
+    return Some(compile::is_tree(case));
+    #[cfg(not(molangx))]
+    {
+        let _ = case;
+        None
+    }
+}
+
 /// The version that the rules see for a raw one.
 #[cfg(molangx)]
 pub fn effective_version(raw: i16) -> i16 {

@@ -4,4 +4,4 @@ include!(concat!(env!("OUT_DIR"), "/compile.rs"));
 
 mod cx;
 
-pub(crate) use cx::{Cx, Failed, Pass, answer, is_math_call};
+pub(crate) use cx::{Cx, Failed, Pass, answer, is_math_call, is_tree};

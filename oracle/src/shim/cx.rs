@@ -29,6 +29,16 @@ pub(crate) struct Cx<'o> {
 }
 
 impl<'o> Cx<'o> {
+    fn new(math: &'o MathCatalog, case: &Case) -> Self {
+        Self {
+            math,
+            version: RawVersion(case.version),
+            whole: Span::new(0, case.source_len),
+            records: Vec::new(),
+            printed: String::new(),
+        }
+    }
+
     pub(super) fn version(&self) -> MolangVersion {
         self.version.effective()
     }
@@ -177,22 +187,27 @@ pub(crate) fn answer(case: &Case) -> Answer {
     for token in case.tokens.iter().filter(|token| token.variant == 12) {
         math.declare(token.value);
     }
-    let mut cx = Cx {
-        math: &math,
-        version: RawVersion(case.version),
-        whole: Span::new(0, case.source_len),
-        records: Vec::new(),
-        printed: String::new(),
-    };
-    let list = case.tokens.iter().map(leaf).collect();
-    let used = OpSet::from_words([case.used.0, case.used.1]);
-    match parse::group_tokens(&mut cx, list, used) {
+    let mut cx = Cx::new(&math, case);
+    match grouped(&mut cx, case) {
         Some(root) => {
             assert!(cx.records.is_empty(), "a tree comes without a message");
             Answer::Tree(tree_words(&preorder(&root)))
         }
         None => Answer::Messages(cx.records),
     }
+}
+
+/// Builds the list, groups it and drops what came of it, with nothing around the Rust: for its timing. Whether it is a
+/// tree. No host math function is declared, so no message may have to name one.
+pub(crate) fn is_tree(case: &Case) -> bool {
+    let math = MathCatalog::default();
+    grouped(&mut Cx::new(&math, case), case).is_some()
+}
+
+fn grouped(cx: &mut Cx, case: &Case) -> Option<Node> {
+    let list = case.tokens.iter().map(leaf).collect();
+    let used = OpSet::from_words([case.used.0, case.used.1]);
+    parse::group_tokens(cx, list, used)
 }
 
 /// Whether the pass of math calls takes this operator.
