@@ -1,5 +1,5 @@
 # The commands of the project; README.md says what each does.
-.PHONY: test library compare bench
+.PHONY: test library compare bench host demo
 
 test:
 	@tools/gate.sh
@@ -15,5 +15,11 @@ compare: library
 
 bench: library
 	@cd compare && cargo run --release --offline --quiet --bin bench
+
+host: library
+	@cd host && cargo test --release --offline
+
+demo: library
+	@cd host && cargo run --release --offline --quiet --example versions
 
 include tools/definition-check.mk

@@ -1,0 +1,135 @@
+//! Lifting: a list of one version becomes one that another version reads as the same tree.
+
+use crate::{ReadError, Reader, Token, Tokens, Tree, WriteError, Writer};
+use std::fmt;
+
+/// A list that two versions read as the same tree.
+///
+/// ```
+/// use sorbrudder::{Tokens, lift};
+///
+/// let list: Tokens = "a + b".parse().unwrap();
+/// let lifted = lift(&list, 4, 6).unwrap();
+/// assert!(!lifted.changed && lifted.tokens == list);
+/// ```
+#[derive(Clone, Debug, PartialEq, Eq)]
+pub struct Lifted {
+    /// The list. Every version reads it as the same tree, unless it did not have to change.
+    pub tokens: Tokens,
+    /// Whether the list had to change: the new version read the given one as another tree, or not at all.
+    pub changed: bool,
+    /// The tree that both versions agree on, with the brackets taken away that only group.
+    pub tree: Tree,
+}
+
+/// Why a list is not lifted.
+///
+/// ```
+/// use sorbrudder::{LiftError, Tokens, WriteError, lift};
+///
+/// let list: Tokens = "a : b".parse().unwrap();
+/// let unplain = WriteError::NotPlain { node: 0 };
+/// assert_eq!(lift(&list, 4, 5), Err(LiftError::Write(unplain)));
+/// ```
+#[derive(Copy, Clone, Debug, PartialEq, Eq)]
+pub enum LiftError {
+    /// It is no tree at the old version, or the call was turned back.
+    Read(ReadError),
+    /// The new version reads it otherwise, and its tree cannot be written.
+    Write(WriteError),
+}
+
+impl fmt::Display for LiftError {
+    fn fmt(&self, f: &mut fmt::Formatter<'_>) -> fmt::Result {
+        match self {
+            Self::Read(why) => write!(f, "not a tree at the old version: {why}"),
+            Self::Write(why) => {
+                write!(
+                    f,
+                    "the versions differ, and the tree cannot be written: {why}"
+                )
+            }
+        }
+    }
+}
+
+impl std::error::Error for LiftError {
+    fn source(&self) -> Option<&(dyn std::error::Error + 'static)> {
+        match self {
+            Self::Read(why) => Some(why),
+            Self::Write(why) => Some(why),
+        }
+    }
+}
+
+/// Lifts lists one after the other, with one reader and one writer.
+///
+/// ```
+/// use sorbrudder::{Lifter, Tokens};
+///
+/// let mut lifter = Lifter::new();
+/// let list: Tokens = "a && b || c".parse().unwrap();
+/// assert!(lifter.lift(&list, 5, 6).unwrap().changed);
+/// assert!(!lifter.lift(&list, 4, 5).unwrap().changed);
+/// ```
+#[derive(Clone, Debug, Default)]
+pub struct Lifter {
+    reader: Reader,
+    writer: Writer,
+}
+
+impl Lifter {
+    /// A lifter whose buffers are still to grow.
+    ///
+    /// ```
+    /// assert!(sorbrudder::Lifter::new().lift(&[], 4, 6).is_err());
+    /// ```
+    pub fn new() -> Self {
+        Self::default()
+    }
+
+    /// Reads the list at version `from`; where version `to` reads another tree, writes it with brackets and reads that at
+    /// `to`. That the two trees are then the same, brackets taken away, is proved of the library for every list.
+    ///
+    /// ```
+    /// use sorbrudder::{Lifter, Tokens};
+    ///
+    /// let list: Tokens = "a > b == c".parse().unwrap();
+    /// let lifted = Lifter::new().lift(&list, 5, 6).unwrap();
+    /// assert_eq!(lifted.tokens.to_string(), "a > (b == c)");
+    /// ```
+    pub fn lift(&mut self, tokens: &[Token], from: i16, to: i16) -> Result<Lifted, LiftError> {
+        let old = self.reader.read(tokens, from).map_err(LiftError::Read)?;
+        let tree = old.without_brackets();
+        if self.reader.read(tokens, to).is_ok_and(|new| new == old) {
+            return Ok(Lifted {
+                tokens: tokens.iter().copied().collect(),
+                changed: false,
+                tree,
+            });
+        }
+        let written = self.writer.write(&old).map_err(LiftError::Write)?;
+        let again = self.reader.read(&written, to).map_err(LiftError::Read)?;
+        debug_assert_eq!(again.without_brackets(), tree);
+        Ok(Lifted {
+            tokens: written,
+            changed: true,
+            tree,
+        })
+    }
+}
+
+/// Lifts one list: [`Lifter::lift`] with buffers of its own.
+///
+/// ```
+/// use sorbrudder::{Tokens, lift};
+///
+/// let list: Tokens = "a ? b : c ? d : e".parse().unwrap();
+/// let lifted = lift(&list, 4, 6).unwrap();
+/// assert!(lifted.changed);
+/// assert_eq!(lifted.tokens.to_string(), "(a ? b : c) ? d : e");
+/// assert_eq!(lifted.tree.to_string(), "59(59(a,60(b,c)),60(d,e))");
+/// ```
+pub fn lift(tokens: &[Token], from: i16, to: i16) -> Result<Lifted, LiftError> {
+    Lifter::new().lift(tokens, from, to)
+}

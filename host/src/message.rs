@@ -1,0 +1,424 @@
+//! What the reader has to say of a list that is no tree, and which calls it turns back.
+
+use crate::{Op, Span};
+use std::fmt;
+
+/// Why a list is no tree. The names are those of the Rust parser's messages.
+///
+/// ```
+/// use sorbrudder::{Message, Op, Reader, ReadError, Tokens};
+///
+/// let list: Tokens = "a + b c".parse().unwrap();
+/// let Err(ReadError::Messages(messages)) = Reader::new().read(&list, 6) else {
+///     panic!("two roots are no tree");
+/// };
+/// assert!(matches!(messages[0], Message::MultipleRoots { roots: 2, .. }));
+/// assert_eq!(messages[0].span().of("a + b c"), Some("a + b c"));
+/// ```
+#[derive(Copy, Clone, Debug, PartialEq, Eq)]
+#[allow(missing_docs)] // Of the fields: a span is where the message points, the others are named for what they are.
+pub enum Message {
+    /// Several roots are left, or none.
+    MultipleRoots { span: Span, roots: u32 },
+    /// A list with `=` or `;` ends with a semicolon.
+    ComplexMustEndWithSemicolon { span: Span },
+    /// A member accessor has nothing before it.
+    LeadingMemberAccessor { span: Span },
+    /// A closer does not match its opener. The place of the opener counts from 1, that of the closer from 0.
+    ClosingMismatch {
+        span: Span,
+        opened_at: u32,
+        opener: Op,
+        wanted: Op,
+        found: Op,
+        found_at: u32,
+    },
+    /// A section has no closer; follows [`Message::ClosingMismatch`] and [`Message::NoClosingSymbol`].
+    SectionNotClosed { span: Span, wanted: Op, opener: Op },
+    /// The list ends within a section. The place of the opener counts from 1.
+    NoClosingSymbol {
+        span: Span,
+        opened_at: u32,
+        opener: Op,
+        wanted: Op,
+    },
+    /// A call has brackets with nothing in them.
+    EmptyParameterList { span: Span, call: Op },
+    /// A math function is the last of its list.
+    MathAtEnd { span: Span, function: Op, host: u32 },
+    /// A math function is not followed by brackets.
+    MathWithoutParenthesis { span: Span, function: Op, host: u32 },
+    /// A list begins with a semicolon.
+    LeadingSemicolon { span: Span },
+    /// An array has an index with nothing in it.
+    EmptyArrayIndex { span: Span },
+    /// A binary operator lacks a side.
+    BinaryAtEnd { span: Span, operator: Op },
+    /// A minus lacks its operand.
+    NegateWithoutOperand { span: Span },
+    /// A not lacks its operand.
+    NotWithoutOperand { span: Span },
+    /// A minus stands after something that it cannot follow.
+    UnknownOperation { span: Span, before: Op },
+    /// `return` lacks its operand.
+    UnaryWithoutOperand { span: Span, operator: Op },
+    /// A `?` or `:` is left over.
+    TernaryWithoutOperands { span: Span, operator: Op },
+}
+
+impl Message {
+    /// The message of a record of eight words.
+    pub(crate) fn from_record(record: &[u32]) -> Option<Self> {
+        let &[number, start, end, a, b, c, d, e] = record else {
+            return None;
+        };
+        let span = Span::new(start, end)?;
+        let op = |argument: u32| Op::new(u8::try_from(argument).ok()?);
+        Some(match number {
+            1 => Self::MultipleRoots { span, roots: a },
+            2 => Self::ComplexMustEndWithSemicolon { span },
+            3 => Self::LeadingMemberAccessor { span },
+            4 => Self::ClosingMismatch {
+                span,
+                opened_at: a,
+                opener: op(b)?,
+                wanted: op(c)?,
+                found: op(d)?,
+                found_at: e,
+            },
+            5 => Self::SectionNotClosed {
+                span,
+                wanted: op(a)?,
+                opener: op(b)?,
+            },
+            6 => Self::NoClosingSymbol {
+                span,
+                opened_at: a,
+                opener: op(b)?,
+                wanted: op(c)?,
+            },
+            7 => Self::EmptyParameterList { span, call: op(a)? },
+            8 => Self::MathAtEnd {
+                span,
+                function: op(a)?,
+                host: b,
+            },
+            9 => Self::MathWithoutParenthesis {
+                span,
+                function: op(a)?,
+                host: b,
+            },
+            10 => Self::LeadingSemicolon { span },
+            11 => Self::EmptyArrayIndex { span },
+            12 => Self::BinaryAtEnd {
+                span,
+                operator: op(a)?,
+            },
+            13 => Self::NegateWithoutOperand { span },
+            14 => Self::NotWithoutOperand { span },
+            15 => Self::UnknownOperation {
+                span,
+                before: op(a)?,
+            },
+            16 => Self::UnaryWithoutOperand {
+                span,
+                operator: op(a)?,
+            },
+            17 => Self::TernaryWithoutOperands {
+                span,
+                operator: op(a)?,
+            },
+            _ => return None,
+        })
+    }
+
+    /// The message's number, 1 to 17, and its arguments.
+    fn numbers(&self) -> (u32, [u32; 5]) {
+        let op = |op: Op| u32::from(op.number());
+        match *self {
+            Self::MultipleRoots { roots, .. } => (1, [roots, 0, 0, 0, 0]),
+            Self::ComplexMustEndWithSemicolon { .. } => (2, [0; 5]),
+            Self::LeadingMemberAccessor { .. } => (3, [0; 5]),
+            Self::ClosingMismatch {
+                opened_at,
+                opener,
+                wanted,
+                found,
+                found_at,
+                ..
+            } => (4, [opened_at, op(opener), op(wanted), op(found), found_at]),
+            Self::SectionNotClosed { wanted, opener, .. } => (5, [op(wanted), op(opener), 0, 0, 0]),
+            Self::NoClosingSymbol {
+                opened_at,
+                opener,
+                wanted,
+                ..
+            } => (6, [opened_at, op(opener), op(wanted), 0, 0]),
+            Self::EmptyParameterList { call, .. } => (7, [op(call), 0, 0, 0, 0]),
+            Self::MathAtEnd { function, host, .. } => (8, [op(function), host, 0, 0, 0]),
+            Self::MathWithoutParenthesis { function, host, .. } => {
+                (9, [op(function), host, 0, 0, 0])
+            }
+            Self::LeadingSemicolon { .. } => (10, [0; 5]),
+            Self::EmptyArrayIndex { .. } => (11, [0; 5]),
+            Self::BinaryAtEnd { operator, .. } => (12, [op(operator), 0, 0, 0, 0]),
+            Self::NegateWithoutOperand { .. } => (13, [0; 5]),
+            Self::NotWithoutOperand { .. } => (14, [0; 5]),
+            Self::UnknownOperation { before, .. } => (15, [op(before), 0, 0, 0, 0]),
+            Self::UnaryWithoutOperand { operator, .. } => (16, [op(operator), 0, 0, 0, 0]),
+            Self::TernaryWithoutOperands { operator, .. } => (17, [op(operator), 0, 0, 0, 0]),
+        }
+    }
+
+    /// The message's number, 1 to 17.
+    ///
+    /// ```
+    /// use sorbrudder::{Message, Span};
+    ///
+    /// let span = Span::default();
+    /// assert_eq!(Message::LeadingSemicolon { span }.number(), 10);
+    /// ```
+    pub fn number(&self) -> u32 {
+        self.numbers().0
+    }
+
+    /// Where the message points.
+    ///
+    /// ```
+    /// use sorbrudder::{Message, Span};
+    ///
+    /// let span = Span::new(2, 3).unwrap();
+    /// assert_eq!(Message::LeadingSemicolon { span }.span(), span);
+    /// ```
+    pub fn span(&self) -> Span {
+        match *self {
+            Self::MultipleRoots { span, .. }
+            | Self::ComplexMustEndWithSemicolon { span }
+            | Self::LeadingMemberAccessor { span }
+            | Self::ClosingMismatch { span, .. }
+            | Self::SectionNotClosed { span, .. }
+            | Self::NoClosingSymbol { span, .. }
+            | Self::EmptyParameterList { span, .. }
+            | Self::MathAtEnd { span, .. }
+            | Self::MathWithoutParenthesis { span, .. }
+            | Self::LeadingSemicolon { span }
+            | Self::EmptyArrayIndex { span }
+            | Self::BinaryAtEnd { span, .. }
+            | Self::NegateWithoutOperand { span }
+            | Self::NotWithoutOperand { span }
+            | Self::UnknownOperation { span, .. }
+            | Self::UnaryWithoutOperand { span, .. }
+            | Self::TernaryWithoutOperands { span, .. } => span,
+        }
+    }
+
+    /// The record that the message came as: number, start, end and five arguments.
+    ///
+    /// ```
+    /// use sorbrudder::{Message, Op, Span};
+    ///
+    /// let span = Span::new(0, 1).unwrap();
+    /// let message = Message::BinaryAtEnd { span, operator: Op::ADD };
+    /// assert_eq!(message.record(), [12, 0, 1, 9, 0, 0, 0, 0]);
+    /// ```
+    pub fn record(&self) -> [u32; 8] {
+        let (number, [a, b, c, d, e]) = self.numbers();
+        let span = self.span();
+        [number, span.start(), span.end(), a, b, c, d, e]
+    }
+}
+
+impl fmt::Display for Message {
+    fn fmt(&self, f: &mut fmt::Formatter<'_>) -> fmt::Result {
+        match *self {
+            Self::MultipleRoots { roots: 0, .. } => write!(f, "there is nothing to read"),
+            Self::MultipleRoots { roots, .. } => {
+                write!(
+                    f,
+                    "{roots} operands stand side by side with no operator between them"
+                )
+            }
+            Self::ComplexMustEndWithSemicolon { .. } => {
+                write!(f, "a list with `=` or `;` has to end with `;`")
+            }
+            Self::LeadingMemberAccessor { .. } => {
+                write!(f, "a member accessor has nothing before it")
+            }
+            Self::ClosingMismatch {
+                opener,
+                wanted,
+                found,
+                ..
+            } => write!(f, "`{opener}` is closed by `{found}` and not by `{wanted}`"),
+            Self::SectionNotClosed { wanted, opener, .. } => {
+                write!(f, "no `{wanted}` closes this `{opener}`")
+            }
+            Self::NoClosingSymbol { opener, wanted, .. } => {
+                write!(
+                    f,
+                    "the list ends within this `{opener}`, before its `{wanted}`"
+                )
+            }
+            Self::EmptyParameterList { call, .. } => {
+                write!(f, "`{call}` is called with empty brackets")
+            }
+            Self::MathAtEnd { function, .. } => {
+                write!(
+                    f,
+                    "`{function}` stands at the end, with nothing to be called with"
+                )
+            }
+            Self::MathWithoutParenthesis { function, .. } => {
+                write!(f, "`{function}` is not followed by brackets")
+            }
+            Self::LeadingSemicolon { .. } => write!(f, "a list begins with `;`"),
+            Self::EmptyArrayIndex { .. } => write!(f, "an array's index is empty"),
+            Self::BinaryAtEnd { operator, .. } => write!(f, "`{operator}` lacks a side"),
+            Self::NegateWithoutOperand { .. } => write!(f, "`-` lacks its operand"),
+            Self::NotWithoutOperand { .. } => write!(f, "`!` lacks its operand"),
+            Self::UnknownOperation { before, .. } => write!(f, "`-` cannot follow `{before}`"),
+            Self::UnaryWithoutOperand { operator, .. } => {
+                write!(f, "`{operator}` lacks its operand")
+            }
+            Self::TernaryWithoutOperands { operator, .. } => {
+                write!(f, "`{operator}` lacks what belongs to it")
+            }
+        }
+    }
+}
+
+impl std::error::Error for Message {}
+
+/// The one or two messages of a list that is no tree.
+///
+/// ```
+/// use sorbrudder::{ReadError, Reader, Tokens};
+///
+/// let list: Tokens = "(a]".parse().unwrap();
+/// let Err(ReadError::Messages(messages)) = Reader::new().read(&list, 6) else {
+///     panic!("the brackets do not match");
+/// };
+/// assert_eq!(messages.len(), 2);
+/// assert_eq!(messages.to_string().split("; ").next(), Some("`(` is closed by `]` and not by `)` (at 0-3)"));
+/// ```
+#[derive(Copy, Clone, Debug, PartialEq, Eq)]
+pub struct Messages {
+    first: [Message; 2],
+    count: usize,
+}
+
+impl Messages {
+    /// The messages of the records in front of the message buffer.
+    pub(crate) fn from_records(records: &[u32], count: usize) -> Option<Self> {
+        let mut parsed = records.chunks(8).take(count).map(Message::from_record);
+        let first = parsed.next()??;
+        let second = match parsed.next() {
+            Some(second) => second?,
+            None => first,
+        };
+        Some(Self {
+            first: [first, second],
+            count,
+        })
+    }
+}
+
+impl std::ops::Deref for Messages {
+    type Target = [Message];
+
+    fn deref(&self) -> &[Message] {
+        &self.first[..self.count.min(2)]
+    }
+}
+
+impl fmt::Display for Messages {
+    fn fmt(&self, f: &mut fmt::Formatter<'_>) -> fmt::Result {
+        for (place, message) in self.iter().enumerate() {
+            let before = if place > 0 { "; " } else { "" };
+            write!(f, "{before}{message} (at {})", message.span())?;
+        }
+        Ok(())
+    }
+}
+
+impl std::error::Error for Messages {}
+
+/// A call that is turned back before a list is read. Words are counted from 0.
+///
+/// The library's other refusals cannot happen here: 3, 4 and 5 are about buffers, which the reader owns and keeps long
+/// enough, and 6 is about bits that a [`Used`](crate::Used) cannot have.
+///
+/// ```
+/// use sorbrudder::{ReadError, Reader, Refusal, Used};
+///
+/// let mut reader = Reader::new();
+/// let refused = reader.parse_words(&[0; 5], 6, Used::EMPTY, 0);
+/// assert_eq!(refused, Err(ReadError::Refused(Refusal::WrongKind { word: 0 })));
+/// ```
+#[derive(Copy, Clone, Debug, PartialEq, Eq)]
+#[allow(missing_docs)] // Of the fields: each is the place of the word.
+pub enum Refusal {
+    /// The words are not a multiple of five. Only words can be this; tokens cannot.
+    NotWhole,
+    /// More than 4,096 tokens.
+    TooManyTokens,
+    /// A source length above [`Span::LAST`].
+    SourceTooLong,
+    /// A word is of another kind than its place asks for. Only words can be this.
+    WrongKind { word: usize },
+    /// A word names an operator above 110. Only words can be this.
+    UnknownOperator { word: usize },
+    /// A word has a payload variant above 12. Only words can be this.
+    UnknownPayload { word: usize },
+    /// A word has a bit set that has to be 0. Only words can be this.
+    OtherBits { word: usize },
+}
+
+impl Refusal {
+    /// The library's number for it.
+    ///
+    /// ```
+    /// assert_eq!(sorbrudder::Refusal::TooManyTokens.number(), 2);
+    /// ```
+    pub const fn number(self) -> u32 {
+        match self {
+            Self::NotWhole => 1,
+            Self::TooManyTokens => 2,
+            Self::SourceTooLong => 7,
+            Self::WrongKind { .. } => 8,
+            Self::UnknownOperator { .. } => 9,
+            Self::UnknownPayload { .. } => 10,
+            Self::OtherBits { .. } => 11,
+        }
+    }
+
+    /// The refusal of a number and a place.
+    pub(crate) fn of(number: u32, word: usize) -> Option<Self> {
+        Some(match number {
+            1 => Self::NotWhole,
+            2 => Self::TooManyTokens,
+            7 => Self::SourceTooLong,
+            8 => Self::WrongKind { word },
+            9 => Self::UnknownOperator { word },
+            10 => Self::UnknownPayload { word },
+            11 => Self::OtherBits { word },
+            _ => return None,
+        })
+    }
+}
+
+impl fmt::Display for Refusal {
+    fn fmt(&self, f: &mut fmt::Formatter<'_>) -> fmt::Result {
+        match self {
+            Self::NotWhole => write!(f, "the words are not whole tokens"),
+            Self::TooManyTokens => write!(f, "the list has more than 4,096 tokens"),
+            Self::SourceTooLong => write!(f, "the source length is above {}", Span::LAST),
+            Self::WrongKind { word } => write!(f, "word {word} is of a wrong kind"),
+            Self::UnknownOperator { word } => write!(f, "word {word} names no operator"),
+            Self::UnknownPayload { word } => write!(f, "word {word} names no payload"),
+            Self::OtherBits { word } => write!(f, "word {word} has a bit that has to be 0"),
+        }
+    }
+}
+
+impl std::error::Error for Refusal {}

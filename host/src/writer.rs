@@ -1,0 +1,135 @@
+//! The writer: a plain tree becomes a token list that every version reads the same.
+
+use crate::entries::{self, Answer};
+use crate::reader::MOST_TOKENS;
+use crate::tree::depth_of;
+use crate::{Token, Tokens, Tree};
+use std::fmt;
+
+/// Writes trees as token lists with brackets round every operand that is not a leaf. It owns the list that the library
+/// fills and uses it again.
+///
+/// A tree is plain if all its nodes are operands, operators with their operands, brackets with one child, conditionals
+/// with both sides, queries and math calls; statements, assignments, arrays, members and pointers are not.
+///
+/// Writing recurses in the library, 350 bytes of stack a level. A tree of more than 256 levels is written on a thread of its
+/// own with stack enough, so the caller's needs no more than 128 KiB.
+///
+/// ```
+/// use sorbrudder::{Reader, Tokens, Writer};
+///
+/// let list: Tokens = "a ? b : c ? d : e".parse().unwrap();
+/// let tree = Reader::new().read(&list, 4).unwrap();
+/// let written = Writer::new().write(&tree).unwrap();
+/// assert_eq!(written.to_string(), "(a ? b : c) ? d : e");
+/// ```
+#[derive(Clone, Debug, Default)]
+pub struct Writer {
+    list: Vec<u32>,
+}
+
+/// Why a tree is not written.
+///
+/// The library's refusal 15, a list with too little room, cannot happen: the writer's own list has room for 4,096 tokens.
+///
+/// ```
+/// use sorbrudder::{Reader, Tokens, WriteError, Writer};
+///
+/// let list: Tokens = "a = b;".parse().unwrap();
+/// let tree = Reader::new().read(&list, 6).unwrap();
+/// let why = Writer::new().write(&tree).unwrap_err();
+/// assert_eq!(why, WriteError::NotPlain { node: 0 });
+/// assert_eq!(why.to_string(), "node 0 has no plain form");
+/// ```
+#[derive(Copy, Clone, Debug, PartialEq, Eq)]
+pub enum WriteError {
+    /// The words are not one tree. Only words can be this; a [`Tree`] cannot.
+    NotATree {
+        /// The first word that cannot continue a tree, or the word count where they run out.
+        word: usize,
+    },
+    /// A node has no plain form.
+    NotPlain {
+        /// The first such node's number in preorder.
+        node: usize,
+    },
+    /// The list would have more than 4,096 tokens.
+    TooLong,
+    /// The tree is deeper than 256 levels, and the system gives no thread to write it on.
+    NoThread,
+}
+
+impl fmt::Display for WriteError {
+    fn fmt(&self, f: &mut fmt::Formatter<'_>) -> fmt::Result {
+        match self {
+            Self::NotATree { word } => write!(f, "the words are not one tree: word {word}"),
+            Self::NotPlain { node } => write!(f, "node {node} has no plain form"),
+            Self::TooLong => write!(f, "the written list has more than 4,096 tokens"),
+            Self::NoThread => write!(f, "there is no thread to write so deep a tree on"),
+        }
+    }
+}
+
+impl std::error::Error for WriteError {}
+
+/// The levels that are written on the caller's stack, and the stack that the deepest tree is given.
+const LEVELS: usize = 256;
+const STACK: usize = 2 << 20;
+
+impl Writer {
+    /// A writer whose list is still to grow.
+    ///
+    /// ```
+    /// assert!(sorbrudder::Writer::new().write_words(&[]).is_err());
+    /// ```
+    pub fn new() -> Self {
+        Self::default()
+    }
+
+    /// Writes a tree.
+    ///
+    /// ```
+    /// use sorbrudder::{Reader, Tokens, WriteError, Writer};
+    ///
+    /// let list: Tokens = "a : b".parse().unwrap();
+    /// let tree = Reader::new().read(&list, 4).unwrap();
+    /// assert_eq!(Writer::new().write(&tree), Err(WriteError::NotPlain { node: 0 }));
+    /// ```
+    pub fn write(&mut self, tree: &Tree) -> Result<Tokens, WriteError> {
+        let words = self.write_to_depth(tree.words(), tree.depth())?;
+        Ok(Tokens::from_words(words).expect("the library writes tokens"))
+    }
+
+    /// Writes a tree's words, for those who have words already; the list's words stand in the writer until its next tree.
+    ///
+    /// ```
+    /// use sorbrudder::{WriteError, Writer};
+    ///
+    /// assert_eq!(Writer::new().write_words(&[]), Err(WriteError::NotATree { word: 0 }));
+    /// ```
+    pub fn write_words(&mut self, tree: &[u32]) -> Result<&[u32], WriteError> {
+        self.write_to_depth(tree, depth_of(tree))
+    }
+
+    fn write_to_depth(&mut self, tree: &[u32], depth: usize) -> Result<&[u32], WriteError> {
+        self.list.resize(Token::WORDS * MOST_TOKENS, 0);
+        let list = &mut self.list;
+        let answer = if depth <= LEVELS {
+            entries::write(tree, list)
+        } else {
+            std::thread::scope(|scope| {
+                let thread = std::thread::Builder::new().stack_size(STACK);
+                let written = thread.spawn_scoped(scope, || entries::write(tree, list));
+                let written = written.map_err(|_| WriteError::NoThread)?;
+                written.join().map_err(|_| WriteError::NoThread)
+            })?
+        };
+        match answer {
+            Answer::Refused(12, word) => Err(WriteError::NotATree { word }),
+            Answer::Refused(13, node) => Err(WriteError::NotPlain { node }),
+            Answer::Filled(tokens) => Ok(&self.list[..Token::WORDS * tokens]),
+            // 14; the list has room for every written one, so 15 is never answered.
+            _ => Err(WriteError::TooLong),
+        }
+    }
+}

@@ -1,0 +1,277 @@
+//! The crate at its limits: small stacks, many threads, lists that are too long, every refusal, words of any kind.
+
+use sorbrudder::{
+    Lifter, MOST_TOKENS, Message, Op, ReadError, Reader, Refusal, Span, Token, Tokens, Tree, Used,
+    WriteError, Writer,
+};
+
+/// Numbers from a seed (splitmix64).
+struct Rng(u64);
+
+impl Rng {
+    fn bits(&mut self) -> u64 {
+        self.0 = self.0.wrapping_add(0x9E37_79B9_7F4A_7C15);
+        let mut mixed = self.0;
+        mixed = (mixed ^ mixed >> 30).wrapping_mul(0xBF58_476D_1CE4_E5B9);
+        mixed = (mixed ^ mixed >> 27).wrapping_mul(0x94D0_49BB_1331_11EB);
+        mixed ^ mixed >> 31
+    }
+
+    fn below(&mut self, bound: usize) -> usize {
+        (self.bits() % bound as u64) as usize
+    }
+}
+
+/// `steps`, the middle, as many `backs`, and what comes after, of at most 4,096 tokens.
+fn nest(step: &str, middle: &str, back: &str, after: &str) -> Tokens {
+    let tokens = |text: &str| text.parse::<Tokens>().expect("the notation").into_vec();
+    let (step, middle, back) = (tokens(step), tokens(middle), tokens(back));
+    let after = tokens(after);
+    let times = (MOST_TOKENS - middle.len() - after.len()) / (step.len() + back.len());
+    [step.repeat(times), middle, back.repeat(times), after]
+        .concat()
+        .into()
+}
+
+fn on_stack<T: Send>(kib: usize, run: impl FnOnce() -> T + Send) -> T {
+    std::thread::scope(|scope| {
+        let thread = std::thread::Builder::new().stack_size(kib << 10);
+        let run = thread.spawn_scoped(scope, run).expect("a thread");
+        run.join().expect("nothing panics")
+    })
+}
+
+#[test]
+fn deep_lists_are_read_on_256_kib_of_stack() {
+    let lists = [
+        nest("(", "a", ")", ""),
+        nest("!", "a", "", ""),
+        nest("-(", "a", ")", ""),
+        nest("a + (", "a", ")", ""),
+        nest("(", "a", "+ a)", ""),
+        nest("a ? b :", "c", "", ""),
+        nest("a ? b : (", "c", ")", ""),
+        nest("a ?", "b", ": c", ""),
+        nest("query_function(", "a", ")", ""),
+        nest("array_variable[", "a", "]", ""),
+        nest("{", "a;", "};", ""),
+        nest("return", "a;", "", ""),
+    ];
+    on_stack(256, || {
+        let mut reader = Reader::new();
+        for (list, version) in lists.iter().flat_map(|list| [4, 5, 6].map(|v| (list, v))) {
+            assert!(list.len() > MOST_TOKENS - 8, "{}", list.len());
+            let tree = reader.read(list, version).expect("a tree");
+            assert!(2 * tree.len() <= 3 * list.len());
+        }
+    });
+}
+
+#[test]
+fn several_deep_roots_are_named_on_512_kib_of_stack() {
+    // The one recursion of reading: 48 bytes for each node of the first and of the last root.
+    let lists = [
+        nest("a -", "a", "", "b"),
+        nest("a +", "a", "", "b"),
+        nest("!", "a", "", "b"),
+        nest("(", "a", ")", "b"),
+        nest("a ? b :", "c", "", "d"),
+        nest("a", "a", "", ""),
+    ];
+    on_stack(512, || {
+        let mut reader = Reader::new();
+        for list in &lists {
+            let Err(ReadError::Messages(messages)) = reader.read(list, 6) else {
+                panic!("several roots are no tree");
+            };
+            assert!(matches!(
+                messages[..],
+                [Message::MultipleRoots { roots: 2.., .. }]
+            ));
+        }
+    });
+}
+
+#[test]
+fn deep_trees_are_written_and_lifted_on_256_kib_of_stack() {
+    let lists = [
+        nest("(", "a", ")", ""),
+        nest("!(", "a", ")", ""),
+        nest("sin(", "a", ")", ""),
+        nest("a + (", "a", ")", ""),
+        nest("(a ? b : c) ? (", "d", ") : e", ""),
+        nest("a,", "a", "", ""),
+    ];
+    on_stack(256, || {
+        let (mut reader, mut writer, mut lifter) = (Reader::new(), Writer::new(), Lifter::new());
+        for list in &lists {
+            let tree = reader.read(list, 6).expect("a tree");
+            let written = writer.write(&tree).expect("the tree is plain");
+            let again = reader.read(&written, 4).expect("a written list is a tree");
+            assert_eq!(again.without_brackets(), tree.without_brackets());
+            assert_eq!(writer.write_words(tree.words()), Ok(&written.words()[..]));
+            assert!(lifter.lift(list, 6, 4).is_ok());
+        }
+        // Deeper than any list that could be written, and too long.
+        let bare = |op| Token::bare(op, Span::default());
+        let deep = vec![(bare(Op::LEFT_PARENTHESIS), 1); 12_287];
+        let deep = deep.into_iter().chain([(bare(Op::FLOAT), 0)]);
+        let tree = Tree::from_nodes(deep).expect("12,288 nodes are a tree");
+        assert_eq!((tree.len(), tree.depth()), (12_288, 12_288));
+        assert_eq!(writer.write(&tree), Err(WriteError::TooLong));
+        assert_eq!(tree.without_brackets().to_string(), "a");
+    });
+}
+
+#[test]
+fn lists_that_are_too_long_are_turned_back() {
+    let mut reader = Reader::new();
+    let token = Token::bare(Op::FLOAT, Span::default());
+    let refused = Err(ReadError::Refused(Refusal::TooManyTokens));
+    for len in [MOST_TOKENS + 1, 100_000, 3_000_000] {
+        assert_eq!(reader.read(&vec![token; len], 6), refused);
+    }
+    let words = vec![0; 5 * (MOST_TOKENS + 1)];
+    assert_eq!(
+        reader.parse_words(&words, 6, Used::EMPTY, 0).err(),
+        refused.err()
+    );
+    let longest = reader.read(&vec![token; MOST_TOKENS], 6);
+    assert!(
+        matches!(longest, Err(ReadError::Messages(_))),
+        "4,096 tokens are read"
+    );
+}
+
+#[test]
+fn many_readers_in_parallel() {
+    let lists: Vec<Tokens> = (0..400)
+        .map(|seed| random_list(&mut Rng(seed), 40))
+        .collect();
+    let read = |reader: &mut Reader| -> Vec<_> {
+        let calls = lists
+            .iter()
+            .flat_map(|list| [4, 5, 6].map(|version| (list, version)));
+        calls
+            .map(|(list, version)| reader.read(list, version))
+            .collect()
+    };
+    let alone = read(&mut Reader::new());
+    assert!(alone.iter().filter(|read| read.is_ok()).count() > 100);
+    std::thread::scope(|scope| {
+        let threads: Vec<_> = (0..8)
+            .map(|_| scope.spawn(|| read(&mut Reader::new())))
+            .collect();
+        for thread in threads {
+            assert!(thread.join().expect("nothing panics") == alone);
+        }
+    });
+}
+
+/// A list of operands and operators, often a tree.
+fn random_list(rng: &mut Rng, most: usize) -> Tokens {
+    let between = [
+        "+", "-", "*", "/", "<", "==", "&&", "||", "??", "?", ":", ",", "- -", "!",
+    ];
+    let mut text = String::from("a");
+    for _ in 0..rng.below(most / 2) {
+        let operator = between[rng.below(between.len())];
+        let operand = ["a", "!b", "-c", "(d)", "sin(e)", "query_function(a, b)"];
+        let operand = operand[rng.below(operand.len())];
+        text += &format!(" {operator} {operand}");
+    }
+    text.parse().expect("the notation")
+}
+
+/// A list, and the words of one of its tokens.
+fn words_with(change: impl Fn(&mut Vec<u32>)) -> Result<(), ReadError> {
+    let list: Tokens = "a + b".parse().expect("the notation");
+    let mut words = list.words();
+    let used = Used::exact(&list);
+    change(&mut words);
+    Reader::new().parse_words(&words, 6, used, 5).map(|_| ())
+}
+
+#[test]
+fn every_refusal_is_mapped_or_cannot_happen() {
+    let refused = |refusal| Err(ReadError::Refused(refusal));
+    assert_eq!(words_with(|_| {}), Ok(()));
+    // 1: words only; a token has five.
+    let cut = words_with(|words| words.truncate(14));
+    assert_eq!(cut, refused(Refusal::NotWhole));
+    // 2: above. 3 to 5: the buffers are the reader's own. 6: a used set cannot have another bit.
+    assert_eq!(Used::from_halves(0, 1 << 47), None);
+    assert_eq!(Used::from_halves(u64::MAX, (1 << 47) - 1), Some(Used::FULL));
+    // 7: the source length is the caller's number.
+    let list: Tokens = "a".parse().expect("the notation");
+    let mut reader = Reader::new();
+    let mut long = |source_len| reader.parse(&list, 6, Used::exact(&list), source_len);
+    assert!(long(Span::LAST).is_ok());
+    assert_eq!(
+        long(Span::LAST + 1).err(),
+        refused(Refusal::SourceTooLong).err()
+    );
+    assert_eq!(long(u32::MAX).err(), refused(Refusal::SourceTooLong).err());
+    let huge = Reader::new()
+        .parse_words(&[], 6, Used::EMPTY, u64::MAX)
+        .err();
+    assert_eq!(huge, refused(Refusal::SourceTooLong).err());
+    // 8 to 11: words only; an operator, a payload and a span are always such as a word can hold.
+    let kind = words_with(|words| words[6] = 0);
+    assert_eq!(kind, refused(Refusal::WrongKind { word: 6 }));
+    let operator = words_with(|words| words[5] = 1 << 29 | 111);
+    assert_eq!(operator, refused(Refusal::UnknownOperator { word: 5 }));
+    let payload = words_with(|words| words[5] |= 13 << 8);
+    assert_eq!(payload, refused(Refusal::UnknownPayload { word: 5 }));
+    let other = words_with(|words| words[13] |= 1);
+    assert_eq!(other, refused(Refusal::OtherBits { word: 13 }));
+    assert_eq!((Op::new(111), Span::new(0, 1 << 29)), (None, None));
+    // 12 to 14; 15: the writer's list has room for every list that is written.
+    let mut writer = Writer::new();
+    let mut write = |words: &[u32]| writer.write_words(words).map(|_| ());
+    assert_eq!(write(&[0]), Err(WriteError::NotATree { word: 0 }));
+    let bare = |op| Token::bare(op, Span::default());
+    let array = Tree::from_nodes([(bare(Op::NEGATE), 1), (bare(Op::ARRAY), 0)]);
+    let array = array.expect("one tree");
+    assert_eq!(write(array.words()), Err(WriteError::NotPlain { node: 1 }));
+    let counted = Tree::from_nodes([(bare(Op::FLOAT), usize::MAX)]);
+    assert_eq!(counted.map_err(|why| why.word), Err(5));
+}
+
+#[test]
+fn nothing_panics_on_words_of_any_kind() {
+    let mut rng = Rng(7);
+    let (mut reader, mut writer) = (Reader::new(), Writer::new());
+    let mut trees = 0;
+    for round in 0..60_000 {
+        let len = rng.below(if round % 100 == 0 { 3_000 } else { 60 });
+        let kinds = 5 + rng.below(2);
+        let mut word = |place: usize| {
+            let kind = place % kinds + 1;
+            // Value halves without a value, so that now and then all of it is sound.
+            let low = if matches!(kind, 4 | 5) {
+                0
+            } else {
+                rng.below(3)
+            };
+            (kind << 29 | low) as u32
+        };
+        let mut words: Vec<u32> = (0..len).map(&mut word).collect();
+        if rng.below(2) == 0 && len > 0 {
+            words[rng.below(len)] = rng.bits() as u32;
+        }
+        let used = Used::exact_words(&words);
+        let version = rng.bits() as i16;
+        let _ = reader.parse_words(&words, version, used, rng.bits() >> 34);
+        let _ = writer.write_words(&words);
+        if let Ok(tree) = Tree::from_words(words) {
+            trees += 1;
+            assert_eq!(
+                tree.nodes().filter(|node| node.parent().is_none()).count(),
+                1
+            );
+            let _ = (tree.to_string(), tree.without_brackets());
+        }
+    }
+    assert!(trees > 50, "only {trees} trees");
+}

@@ -1,0 +1,45 @@
+//! A C program that includes the header, links the library and reads one list.
+
+use std::path::{Path, PathBuf};
+use std::process::Command;
+
+/// The folder of the static library, as build.rs finds it.
+fn library() -> PathBuf {
+    match std::env::var_os("SORBRUDDER_LIB") {
+        Some(folder) => folder.into(),
+        None => Path::new(env!("CARGO_MANIFEST_DIR")).join("../target/staticlib"),
+    }
+}
+
+#[test]
+fn a_c_program_reads_one_list() {
+    let host = Path::new(env!("CARGO_MANIFEST_DIR"));
+    let program = Path::new(env!("CARGO_TARGET_TMPDIR")).join("read_one");
+    let compiler = std::env::var("CC").unwrap_or_else(|_| "cc".to_string());
+    let built = Command::new(compiler)
+        .args([
+            "-std=c11",
+            "-Wall",
+            "-Wextra",
+            "-Wpedantic",
+            "-Werror",
+            "-O1",
+        ])
+        .arg("-I")
+        .arg(host.join("../include"))
+        .arg(host.join("tests/c/read_one.c"))
+        .arg(library().join("libsorbrudder.a"))
+        .arg("-o")
+        .arg(&program)
+        .output()
+        .expect("a C compiler: cc, or the one that CC names");
+    assert!(
+        built.status.success(),
+        "{}",
+        String::from_utf8_lossy(&built.stderr)
+    );
+    let run = Command::new(&program).output().expect("the program runs");
+    let printed = String::from_utf8_lossy(&run.stdout);
+    assert!(run.status.success(), "{printed}");
+    assert_eq!(printed, "tree 3\n9 2 1 2\n61 0 0 1\n61 0 2 3\ntokens 3\n");
+}

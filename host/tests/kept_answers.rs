@@ -1,0 +1,100 @@
+//! The kept answers of the Rust parser (vectors/vectors.bin) through the safe interface: every tree's words, every message's
+//! record, every refusal that a list can have.
+
+use sorbrudder::{ReadError, Reader, Tokens, Tree, Used};
+
+/// The file's numbers, as vectors/README.md describes them.
+struct Bytes<'b>(&'b [u8]);
+
+impl Bytes<'_> {
+    fn byte(&mut self) -> u8 {
+        let (first, rest) = self.0.split_first().expect("the file is whole");
+        self.0 = rest;
+        *first
+    }
+
+    fn number(&mut self) -> u64 {
+        let (mut number, mut shift) = (0, 0);
+        loop {
+            let byte = self.byte();
+            number |= u64::from(byte & 0x7F) << shift;
+            shift += 7;
+            if byte < 0x80 {
+                return number;
+            }
+        }
+    }
+
+    fn words(&mut self, len: u64, kinds: u64) -> Vec<u32> {
+        let word = |place| self.number() as u32 ^ (place % kinds + 1) as u32 * (1 << 29);
+        (0..len).map(word).collect()
+    }
+}
+
+#[test]
+fn every_kept_answer() {
+    let path = concat!(env!("CARGO_MANIFEST_DIR"), "/../vectors/vectors.bin");
+    let file = std::fs::read(path).expect("vectors/vectors.bin");
+    let mut bytes = Bytes(&file[12..]);
+    let mut reader = Reader::new();
+    let mut counts = [0; 3];
+    while !bytes.0.is_empty() {
+        let head = bytes.byte();
+        let len = bytes.number();
+        let list = bytes.words(len, 5);
+        let used = match head >> 4 {
+            0 => {
+                let low = bytes.number();
+                Used::from_halves(low, bytes.number())
+            }
+            1 => Some(Used::exact_words(&list)),
+            _ => Some(Used::FULL),
+        };
+        let source_len = bytes.number();
+        let version = i16::from_le_bytes([bytes.byte(), bytes.byte()]);
+        let mut read = |used| {
+            reader
+                .parse_words(&list, version, used, source_len)
+                .map(<[u32]>::to_vec)
+        };
+        counts[usize::from(head & 3)] += 1;
+        match head & 3 {
+            0 => {
+                let nodes = bytes.number();
+                let words = bytes.words(6 * nodes, 6);
+                assert_eq!(read(used.expect("a legal set")), Ok(words.clone()));
+                let tree = Tree::from_words(words.clone()).expect("an answer is a tree");
+                let tokens = Tokens::from_words(&list).expect("a list that is read");
+                let typed = reader.parse(&tokens, version, used.unwrap(), source_len as u32);
+                assert_eq!(typed, Ok(tree.clone()));
+                let nodes = tree.nodes().map(|node| (node.token(), node.child_count()));
+                assert_eq!(
+                    Tree::from_nodes(nodes).expect("the same tree").words(),
+                    words
+                );
+            }
+            1 => {
+                let count = bytes.number();
+                let records: Vec<u32> = (0..8 * count).map(|_| bytes.number() as u32).collect();
+                let Err(ReadError::Messages(messages)) = read(used.expect("a legal set")) else {
+                    panic!("a tree of {list:x?}");
+                };
+                let given = messages.iter().flat_map(|message| message.record());
+                assert_eq!(given.collect::<Vec<u32>>(), records);
+            }
+            _ => {
+                let lent = [bytes.number(), bytes.number(), bytes.number()];
+                let (number, place) = (bytes.number() as u32, bytes.number());
+                let _ = lent;
+                // 3 to 6 are about the buffers and the set, which are the reader's and legal.
+                if let (Some(used), 1 | 2 | 7..) = (used, number) {
+                    let Err(ReadError::Refused(refusal)) = read(used) else {
+                        panic!("{list:x?} was read");
+                    };
+                    assert_eq!(refusal.number(), number, "place {place}");
+                }
+            }
+        }
+    }
+    assert!(counts.iter().all(|count| *count > 1_000), "{counts:?}");
+}

@@ -1,0 +1,129 @@
+//! Document 01's lines through the notation, and lists lifted between versions.
+
+use sorbrudder::{LiftError, Lifter, ReadError, Reader, Tokens, WriteError, Writer, lift};
+
+fn read(text: &str, version: i16) -> String {
+    let list: Tokens = text.parse().expect("the notation");
+    match Reader::new().read(&list, version) {
+        Ok(tree) => tree.to_string(),
+        Err(ReadError::Messages(messages)) => {
+            let numbers: Vec<String> = messages.iter().map(|m| m.number().to_string()).collect();
+            format!("messages {}", numbers.join(" "))
+        }
+        Err(ReadError::Refused(refusal)) => format!("refused {}", refusal.number()),
+    }
+}
+
+#[test]
+fn the_lines_of_document_01() {
+    let lines = [
+        ("", 6, "messages 1"),
+        ("a", 6, "a"),
+        ("a b", 6, "messages 1"),
+        ("a-b", 6, "9(a,6(b))"),
+        ("a--b", 6, "9(a,b)"),
+        ("--b", 6, "messages 12"),
+        ("a*b/c", 6, "31(a,20(b,c))"),
+        ("a&&b||c", 5, "57(a,56(b,c))"),
+        ("a&&b||c", 6, "56(57(a,b),c)"),
+        ("a>b==c", 5, "53(a,54(b,c))"),
+        ("a>b==c", 6, "54(53(a,b),c)"),
+        ("a?b:c?d:e", 4, "59(59(a,60(b,c)),60(d,e))"),
+        ("a?b:c?d:e", 5, "59(a,60(b,59(c,60(d,e))))"),
+        ("a++", 6, "9(a,9)"),
+        (")", 6, "5"),
+        ("(a]", 6, "messages 4 5"),
+        ("(a b)", 6, "4(a,b)"),
+        ("a->", 6, "messages 12 1"),
+        ("40()", 6, "messages 7"),
+        ("36()", 6, "36(4)"),
+        ("a:b", 4, "60(a,b)"),
+        ("a:b", 5, "messages 17"),
+    ];
+    for (text, version, answer) in lines {
+        assert_eq!(read(text, version), answer, "{text} at {version}");
+    }
+}
+
+#[test]
+fn a_product_under_a_sum_is_written_in_brackets() {
+    let list: Tokens = "a + b * c".parse().expect("the notation");
+    let tree = Reader::new().read(&list, 6).expect("a tree");
+    let written = Writer::new().write(&tree).expect("a plain tree");
+    assert_eq!(written.to_string(), "a + (b * c)");
+    assert_eq!(
+        written[2].span, written[4].span,
+        "a pair has its operand's span"
+    );
+}
+
+#[test]
+fn a_list_that_versions_agree_on_is_left_alone() {
+    let list: Tokens = "return {a = b;} ;".parse().expect("the notation");
+    let lifted = lift(&list, 4, 6).expect("both read it alike");
+    assert!(!lifted.changed && lifted.tokens == list);
+}
+
+#[test]
+fn what_cannot_be_lifted_says_why() {
+    let list: Tokens = "a : b".parse().expect("the notation");
+    let unplain = Err(LiftError::Write(WriteError::NotPlain { node: 0 }));
+    assert_eq!(lift(&list, 4, 5), unplain);
+    let list: Tokens = "a +".parse().expect("the notation");
+    let Err(LiftError::Read(ReadError::Messages(messages))) = lift(&list, 4, 5) else {
+        panic!("no tree is lifted");
+    };
+    assert_eq!(messages[0].number(), 12);
+}
+
+/// Every list of five operators between operands, over those that versions read differently, and with brackets in places.
+fn lists() -> impl Iterator<Item = String> {
+    let between = ["?", ":", "&&", "||", "==", ">", "??", "+"];
+    (0..8usize.pow(4)).map(move |number| {
+        let operators = (0..4).map(|place| between[number / 8usize.pow(place) % 8]);
+        let mut text = String::from(if number % 3 == 0 { "(a" } else { "a" });
+        for (place, operator) in operators.enumerate() {
+            text += &format!(" {operator} {}", ["-b", "c", "!d", "e"][place]);
+            if number % 3 == 0 && place == number % 4 {
+                text += ")";
+            }
+        }
+        text
+    })
+}
+
+#[test]
+fn a_lifted_list_is_one_tree_at_every_version() {
+    let (mut reader, mut lifter) = (Reader::new(), Lifter::new());
+    let (mut changed, mut unchanged) = (0, 0);
+    for text in lists() {
+        let list: Tokens = text.parse().expect("the notation");
+        for (from, to) in [(4, 5), (5, 6), (6, 4), (4, 6)] {
+            let lifted = match lifter.lift(&list, from, to) {
+                Ok(lifted) => lifted,
+                Err(LiftError::Read(ReadError::Messages(_)) | LiftError::Write(_)) => continue,
+                Err(why) => panic!("{text}: {why}"),
+            };
+            let old = reader.read(&list, from).expect("it was lifted");
+            assert_eq!(lifted.tree, old.without_brackets(), "{text}");
+            let versions = if lifted.changed {
+                vec![0, 4, 5, 6, 13]
+            } else {
+                vec![from, to]
+            };
+            for version in versions {
+                let again = reader.read(&lifted.tokens, version).expect("a lifted list");
+                assert_eq!(again.without_brackets(), lifted.tree, "{text} at {version}");
+            }
+            if lifted.changed {
+                changed += 1;
+            } else {
+                unchanged += 1;
+            }
+        }
+    }
+    assert!(
+        changed > 200 && unchanged > 200,
+        "{changed} changed, {unchanged} not"
+    );
+}
