@@ -12,9 +12,9 @@ impl Rng {
     fn bits(&mut self) -> u64 {
         self.0 = self.0.wrapping_add(0x9E37_79B9_7F4A_7C15);
         let mut mixed = self.0;
-        mixed = (mixed ^ mixed >> 30).wrapping_mul(0xBF58_476D_1CE4_E5B9);
-        mixed = (mixed ^ mixed >> 27).wrapping_mul(0x94D0_49BB_1331_11EB);
-        mixed ^ mixed >> 31
+        mixed = (mixed ^ (mixed >> 30)).wrapping_mul(0xBF58_476D_1CE4_E5B9);
+        mixed = (mixed ^ (mixed >> 27)).wrapping_mul(0x94D0_49BB_1331_11EB);
+        mixed ^ (mixed >> 31)
     }
 
     fn below(&mut self, bound: usize) -> usize {
@@ -254,7 +254,7 @@ fn nothing_panics_on_words_of_any_kind() {
             } else {
                 rng.below(3)
             };
-            (kind << 29 | low) as u32
+            ((kind << 29) | low) as u32
         };
         let mut words: Vec<u32> = (0..len).map(&mut word).collect();
         if rng.below(2) == 0 && len > 0 {

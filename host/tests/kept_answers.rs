@@ -26,7 +26,7 @@ impl Bytes<'_> {
     }
 
     fn words(&mut self, len: u64, kinds: u64) -> Vec<u32> {
-        let word = |place| self.number() as u32 ^ (place % kinds + 1) as u32 * (1 << 29);
+        let word = |place| self.number() as u32 ^ ((place % kinds + 1) << 29) as u32;
         (0..len).map(word).collect()
     }
 }
