@@ -79,8 +79,15 @@ if grep -q '^sorbrudder:' crates.txt; then
     step "the static library" rt staticlib sorbrudder
 fi
 
-for crate in oracle compare; do
-    [ -d "$crate" ] && rust_tests "$crate"
+# The Rust crates: the host needs the library, the others say in a line of their own what they leave out without it.
+crates="oracle compare"
+if [ -f target/staticlib/libsorbrudder.a ]; then
+    crates="$crates host"
+else
+    echo "gate: the static library is not built: the host crate and the comparison with the library were left out"
+fi
+for crate in $crates; do
+    rust_tests "$crate"
 done
 
 source=${MOLANGX_SRC:-../shared/docs/src}
@@ -89,9 +96,16 @@ if [ ! -f "$source/src/compile/parse/mod.rs" ]; then
 fi
 
 step "layout of the Rattle and antt files" rt fmt --check
-for crate in oracle compare; do
-    [ -d "$crate" ] && step "layout of $crate" cargo fmt --manifest-path "$crate/Cargo.toml" --check
+for crate in oracle compare host; do
+    step "layout of $crate" cargo fmt --manifest-path "$crate/Cargo.toml" --check
 done
+if [ -f target/staticlib/libsorbrudder.a ]; then
+    step "documentation of host" env RUSTDOCFLAGS="-D warnings" \
+        cargo doc --manifest-path host/Cargo.toml --offline --no-deps --quiet
+    if cargo clippy --version >/dev/null 2>&1; then
+        step "clippy on host" cargo clippy --manifest-path host/Cargo.toml --release --offline --all-targets --quiet -- -D warnings
+    fi
+fi
 
 echo "gate: seconds for each crate, slowest first:"
 sed -n 's/^rt: \([a-z0-9_]*\) proved (\([0-9]*\) s)$/\2 \1/p' "$logs/rt" | sort -rn | sed 's/^/gate:   /'
