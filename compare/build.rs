@@ -1,10 +1,33 @@
 //! Finds the static library: in the folder `SORBRUDDER_LIB`, or where `rt staticlib sorbrudder` writes
-//! it. With it at hand the cfg `library` is set; without it the models are built and tested alone.
+//! it. With it at hand the cfg `library` is set; without it the models are built and tested alone. The cfg `rust_source`
+//! says whether the crate `oracle` finds the Rust source; without it the tests that need it are ignored.
 
 use std::env;
 use std::path::PathBuf;
 
 fn main() {
+    find_library();
+    find_source();
+}
+
+/// By the rule of oracle/build.rs.
+fn find_source() {
+    println!("cargo::rustc-check-cfg=cfg(rust_source)");
+    println!("cargo::rerun-if-env-changed=MOLANGX_SRC");
+    let folder = match env::var_os("MOLANGX_SRC") {
+        Some(folder) => PathBuf::from(folder),
+        None => PathBuf::from(env!("CARGO_MANIFEST_DIR")).join("../../shared/docs/src"),
+    };
+    let file = folder.join("src/compile/parse/mod.rs");
+    println!("cargo::rerun-if-changed={}", file.display());
+    if file.is_file() {
+        println!("cargo::rustc-cfg=rust_source");
+    } else {
+        println!("cargo::warning=the Rust source is not at hand: it is not compared with");
+    }
+}
+
+fn find_library() {
     println!("cargo::rustc-check-cfg=cfg(library)");
     println!("cargo::rerun-if-env-changed=SORBRUDDER_LIB");
     let folder = match env::var_os("SORBRUDDER_LIB") {

@@ -183,8 +183,14 @@ impl Desk {
         ];
         for (name, lent, front) in parts {
             if let Some(place) = lent.changed(noise, front) {
-                let is = lent.words[(place + GUARD as isize) as usize];
-                return Err(format!("word {place} of the {name} buffer is {is:#x}"));
+                let at = (place + GUARD as isize) as usize;
+                let filled = usize::try_from(place)
+                    .ok()
+                    .and_then(|place| front.get(place));
+                let (is, wanted) = (lent.words[at], filled.unwrap_or(&noise[at]));
+                return Err(format!(
+                    "word {place} of the {name} buffer is {is:#x} and not {wanted:#x}"
+                ));
             }
         }
         Ok(())

@@ -1,5 +1,5 @@
 //! The parse entry through the C convention, beside document 01's table and the Rust. Without the static library nothing
-//! of this is built (build.rs says so); without the Rust only what does not need it is run, and a line says so.
+//! of this is built, and without the Rust what needs it is ignored; build.rs says both.
 #![cfg(library)]
 
 use compare::calls;
@@ -9,7 +9,6 @@ use compare::rereading::{self, Lists, Reread};
 use oracle::generate::Rng;
 use oracle::refusal::Call;
 use oracle::vectors::{Stored, stored};
-use std::io::Write as _;
 
 /// Compares all calls; the counts of trees, messages and refusals.
 fn compared(calls: impl Iterator<Item = Call>) -> (u64, u64, u64) {
@@ -19,16 +18,6 @@ fn compared(calls: impl Iterator<Item = Call>) -> (u64, u64, u64) {
     }
     let tally = comparison.tally;
     (tally.trees, tally.messages, tally.refused)
-}
-
-/// Whether the Rust is at hand; says so where it is not.
-fn rust_is_at_hand(what: &str) -> bool {
-    if !oracle::COMPARED {
-        // Not by the macro, whose lines a passing test keeps to itself.
-        let line = format!("{what}: left out, since the Rust source is not at hand\n");
-        let _ = std::io::stderr().write_all(line.as_bytes());
-    }
-    oracle::COMPARED
 }
 
 #[test]
@@ -56,47 +45,42 @@ fn every_refusal_at_its_limits() {
 }
 
 #[test]
+#[cfg_attr(not(rust_source), ignore = "the Rust source is not at hand")]
 fn generated_lists() {
-    if rust_is_at_hand("200,000 generated lists") {
-        let (trees, messages, refused) = compared(calls::generated(1, 24).take(200_000));
-        assert!(trees > 50_000 && messages > 50_000 && refused > 10_000);
-    }
+    let (trees, messages, refused) = compared(calls::generated(1, 24).take(200_000));
+    assert!(trees > 50_000 && messages > 50_000 && refused > 10_000);
 }
 
 #[test]
+#[cfg_attr(not(rust_source), ignore = "the Rust source is not at hand")]
 fn long_generated_lists() {
-    if rust_is_at_hand("long generated lists") {
-        compared(calls::generated(2, 300).take(10_000));
-        compared(calls::generated(3, 4_096).take(300));
-    }
+    compared(calls::generated(2, 300).take(10_000));
+    compared(calls::generated(3, 4_096).take(300));
 }
 
 #[test]
+#[cfg_attr(not(rust_source), ignore = "the Rust source is not at hand")]
 fn every_list_of_up_to_five_operators_of_eight() {
-    if rust_is_at_hand("every list of up to five operators of eight") {
-        let (trees, messages, _) = compared(calls::over_eights(5));
-        assert_eq!(
-            trees + messages,
-            3 * 3 * (1 + 8 + 64 + 512 + 4_096 + 32_768)
-        );
-    }
+    let (trees, messages, _) = compared(calls::over_eights(5));
+    assert_eq!(
+        trees + messages,
+        3 * 3 * (1 + 8 + 64 + 512 + 4_096 + 32_768)
+    );
 }
 
 #[test]
+#[cfg_attr(not(rust_source), ignore = "the Rust source is not at hand")]
 fn every_shape_of_4096_tokens() {
-    if rust_is_at_hand("every shape of 4,096 tokens") {
-        for len in [4_096, 4_095, 512, 33] {
-            compared(calls::shapes(len));
-        }
+    for len in [4_096, 4_095, 512, 33] {
+        compared(calls::shapes(len));
     }
 }
 
 #[test]
+#[cfg_attr(not(rust_source), ignore = "the Rust source is not at hand")]
 fn used_sets_that_are_not_exact() {
-    if rust_is_at_hand("used sets that are not exact") {
-        let (trees, messages, refused) = compared(calls::used_sets(4, 300));
-        assert!(trees > 5_000 && messages > 5_000 && refused == 0);
-    }
+    let (trees, messages, refused) = compared(calls::used_sets(4, 300));
+    assert!(trees > 5_000 && messages > 5_000 && refused == 0);
 }
 
 #[test]
