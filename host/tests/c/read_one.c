@@ -1,37 +1,56 @@
-/* Reads `a + b` at version 6 and writes the tree again, as the pack mixer's C parts would. */
+/* Reads `a + b` at version 6, writes the tree again, and has a call turned back. */
 #include "sorbrudder.h"
 
-#include <inttypes.h>
 #include <stdio.h>
 
 #define TOKENS 3
 #define TOKEN(op, start, end) \
     0x20000000u | (op), 0x40000000u | (start), 0x60000000u | (end), 0x80000000u, 0xA0000000u
 
-int main(void) {
-    const uint32_t list[5 * TOKENS] = {TOKEN(61, 0, 1), TOKEN(9, 1, 2), TOKEN(61, 2, 3)};
-    uint32_t tree[18 * TOKENS];
-    uint32_t messages[16];
-    uint32_t work[64 * TOKENS + 64];
-    uint32_t written[5 * TOKENS];
-    const uint64_t used = UINT64_C(1) << 61 | UINT64_C(1) << 9;
+enum { LIST_WORDS = SORBRUDDER_TOKEN_WORDS * TOKENS };
 
-    /* A tree's answer is its number of nodes, a written list's its number of tokens. */
-    uint64_t nodes = sorbrudder_parse(list, 5 * TOKENS, tree, 18 * TOKENS, messages, 16, work,
-                                      64 * TOKENS + 64, 3, 6, used, 0);
-    printf("tree %" PRIu64 "\n", nodes);
-    for (uint64_t node = 0; node < nodes && node < 3 * TOKENS; node++) {
-        const uint32_t *words = tree + 6 * node;
+static uint64_t read_list(const uint32_t *list, size_t words, uint32_t *tree) {
+    uint32_t messages[SORBRUDDER_MESSAGE_BUFFER];
+    uint32_t work[SORBRUDDER_WORK_BUFFER(TOKENS)];
+    const uint64_t used = UINT64_C(1) << 61 | UINT64_C(1) << 9;
+    return sorbrudder_parse(list, words, tree, SORBRUDDER_TREE_BUFFER(TOKENS), messages,
+                            SORBRUDDER_MESSAGE_BUFFER, work, SORBRUDDER_WORK_BUFFER(TOKENS), 3, 6,
+                            used, 0);
+}
+
+int main(void) {
+    const uint32_t list[LIST_WORDS] = {TOKEN(61, 0, 1), TOKEN(9, 1, 2), TOKEN(61, 2, 3)};
+    uint32_t tree[SORBRUDDER_TREE_BUFFER(TOKENS)];
+    uint32_t written[LIST_WORDS];
+
+    uint64_t answer = read_list(list, LIST_WORDS, tree);
+    if (sorbrudder_kind(answer) != SORBRUDDER_DONE) {
+        return 1;
+    }
+    uint32_t nodes = sorbrudder_count(answer);
+    printf("tree %u\n", nodes);
+    for (uint32_t node = 0; node < nodes; node++) {
+        const uint32_t *words = tree + SORBRUDDER_NODE_WORDS * node;
         printf("%u %u %u %u\n", words[0] & 0xFF, words[5] & 0x3FFF, words[1] & 0x1FFFFFFF,
                words[2] & 0x1FFFFFFF);
     }
-    uint64_t tokens = sorbrudder_write(tree, 6 * nodes, written, 5 * TOKENS);
-    printf("tokens %" PRIu64 "\n", tokens);
-    for (int word = 0; word < 5 * TOKENS; word++) {
+
+    answer = sorbrudder_write(tree, SORBRUDDER_NODE_WORDS * (size_t)nodes, written, LIST_WORDS);
+    if (sorbrudder_kind(answer) != SORBRUDDER_DONE) {
+        return 2;
+    }
+    printf("tokens %u\n", sorbrudder_count(answer));
+    for (int word = 0; word < LIST_WORDS; word++) {
         if (written[word] != list[word]) {
-            printf("word %d differs\n", word);
-            return 1;
+            return 3;
         }
     }
+
+    /* The last word alone is of the wrong kind for a first one. */
+    answer = read_list(list + 4, SORBRUDDER_TOKEN_WORDS, tree);
+    if (sorbrudder_kind(answer) != SORBRUDDER_REFUSED) {
+        return 4;
+    }
+    printf("refused %u %u\n", sorbrudder_refusal(answer), sorbrudder_count(answer));
     return 0;
 }
