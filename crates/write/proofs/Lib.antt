@@ -4,4 +4,5 @@ pub mod JudgeLaws
 pub mod SpellLaws
 pub mod CaseLaws
 pub mod StepLaws
+pub mod ReaderLaws
 pub mod EntryLaws

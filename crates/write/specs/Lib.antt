@@ -1,4 +1,5 @@
 pub mod Answers
 pub mod Places
+pub mod Reading
 pub mod Shaped
 pub mod Spelling

@@ -2,6 +2,7 @@
 // table's top and without recursion, so a tree that cannot be written touches neither the list nor the call stack.
 // Leans on words and ops.
 mod plain;
+mod reader;
 mod shape;
 mod spell;
 

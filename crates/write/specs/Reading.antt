@@ -1,0 +1,24 @@
+-- What a reader over the tree words reads at its position, and the reader at a position.
+use Prim.Native.Nat.{ℕ, _+_}
+use mathlib.Core.List.{List}
+use lib.ListN.{getD}
+use denote.Ref.{RefT}
+use Rattle.molang.specs.Words.{lowOf}
+use Rattle.words.specs.Fields.{operatorOf}
+use Rattle.write.specs.declared.reader.TreeReader.{TreeReader}
+use Rattle.write.specs.declared.reader.NodeView.{NodeView}
+
+-- The operator and the child count of the node that starts at a word; no words past the last are 0.
+abbrev pub operatorAt : List ℕ → ℕ → ℕ
+operatorAt words at = operatorOf (getD words at 0)
+
+abbrev pub childrenAt : List ℕ → ℕ → ℕ
+childrenAt words at = lowOf (getD words (at + 5) 0)
+
+-- The reader over these words at a position.
+abbrev pub readerAt : RefT (List ℕ) → ℕ → TreeReader
+readerAt words at = record { words = words; at = at }
+
+-- What is seen of the node that starts at a word.
+abbrev pub viewAt : List ℕ → ℕ → NodeView
+viewAt words at = record { op = operatorAt words at; children = childrenAt words at; next = operatorAt words (at + 6) }
