@@ -1,15 +1,13 @@
 // Answer 13 and the written count, in one loop over the nodes in tree order: a node is judged by its own operator, its place under
 // its parent and its first child's operator. The places of the nodes that are called for and have not come yet stand on a stack,
-// the next one on top. Leans on ops and words.
+// the next one on top. The words are read by the reader. Leans on ops and words.
+use crate::reader::view_node;
 use ops::is_math_call;
 use ops::op;
 use words::fields;
 ghost use mathlib.Core.Path.{_≡_};
-ghost use Prim.Native.Nat.{_+_, _≤_};
-ghost use lib.ListN.{length, getD};
 ghost use Rattle.molang.specs.Plain as plain;
 ghost use Rattle.molang.specs.WriteEntry.{treesOf};
-ghost use Rattle.words.specs.Fields.{operatorOf};
 ghost use Rattle.write.specs.Answers.{judgement};
 ghost use Rattle.write.specs.Places.{formPlace, onlyPlace, leftPlace, rightPlace, isPrefix, plainBy, isPaired, tokensFor};
 ghost use Rattle.write.specs.Shaped.{OneTree};
@@ -201,18 +199,6 @@ fn tokens_for(place: Place, op: u32, children: u32) -> usize
     1
 }
 
-// The operator of the node after the one that starts at `at`, 0 after the last.
-fn operator_after(tree: &[u32], at: usize) -> u32
-    requires { ⌜ at + 6 ≤ length (now tree) ⌝ }
-    ensures { λ r. ⌜ r ≡ operatorOf (getD (now (tree .entry)) (at + 6) 0) ⌝ }
-{
-    let next = at + fields::NODE_WORDS;
-    if next < tree.len() {
-        return fields::operator(tree[next]);
-    }
-    0
-}
-
 // The first node of a tree that is not plain, or the number of tokens that writing gives. A tree of at most 12,288 nodes never has
 // more than these waiting.
 pub fn judge(tree: &[u32]) -> Judged
@@ -225,12 +211,12 @@ pub fn judge(tree: &[u32]) -> Judged
     let mut tokens = 0usize;
     let mut node = 0usize;
     while node < nodes {
-        let at = fields::NODE_WORDS * node;
-        let op = fields::operator(tree[at]);
-        let children = fields::low(tree[at + 5]);
+        let seen = view_node(tree, fields::NODE_WORDS * node);
+        let op = seen.op;
+        let children = seen.children;
         top -= 1;
         let place = waiting[top];
-        if !is_plain(place, op, children, operator_after(tree, at)) {
+        if !is_plain(place, op, children, seen.next) {
             return Judged::Unplain(node);
         }
         node += 1;

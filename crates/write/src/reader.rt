@@ -7,8 +7,8 @@ ghost use lib.ListN.{length};
 ghost use Rattle.write.specs.Reading.{operatorAt, childrenAt, readerAt, viewAt};
 
 pub struct TreeReader<'a> {
-    pub words: &'a [u32],
-    pub at: usize,
+    words: &'a [u32],
+    at: usize,
 }
 
 // What a node is judged by, but for its place: its operator, its children and the next node's operator, 0 after the last.
@@ -61,7 +61,10 @@ impl<'a> TreeReader<'a> {
         requires { ⌜ self .at + 6 ≤ length (now (self .words)) ⌝ }
         ensures { λ r. ⌜ r ≡ readerAt (self .entry .words) (self .entry .at + 6) ⌝ }
     {
-        TreeReader { words: self.words, at: self.at + fields::NODE_WORDS }
+        TreeReader {
+            words: self.words,
+            at: self.at + fields::NODE_WORDS,
+        }
     }
 }
 
@@ -71,5 +74,9 @@ pub fn view_node(words: &[u32], at: usize) -> NodeView
     ensures { λ r. ⌜ r ≡ viewAt (now (words .entry)) at ⌝ }
 {
     let node = TreeReader::new(words, at);
-    NodeView { op: node.operator(), children: node.children(), next: node.advance().operator() }
+    NodeView {
+        op: node.operator(),
+        children: node.children(),
+        next: node.advance().operator(),
+    }
 }

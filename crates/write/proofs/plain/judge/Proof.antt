@@ -1,6 +1,6 @@
 -- `write::plain::judge` meets its contract. The loop's invariant is `Judging`; the measure is the nodes that are left. Assumes nothing.
 use Prim.Native.Nat.{_+_, _-_, _*_, _≤_}
-use mathlib.Core.Path.{_≡_, refl, sym, _∙_}
+use mathlib.Core.Path.{_≡_, refl, ap, sym, _∙_}
 use mathlib.Core.Bool.{true}
 use native.Mathlib.Omega.{arith}
 use borrow.Author.Needs.{needs}
@@ -8,6 +8,7 @@ use borrow.Author.Tests.{not-true, not-false}
 use lib.ListN.{length, getD}
 use Rattle.molang.specs.WriteEntry.{mostNodes}
 use Rattle.write.specs.declared.plain.Place.the-variants.{Enclosed}
+use Rattle.write.specs.declared.reader.NodeView.{NodeView}
 use Rattle.write.specs.Places.{plainBy}
 use Rattle.write.proofs.JudgeLaws.{Judging, Turn, few-tokens, judging-begins, judging-room, judging-room-two, judging-refused, judging-none, judging-one, judging-two, judging-ends}
 use Rattle.write.proofs.plain.judge.Statement.{statement}
@@ -26,62 +27,42 @@ room : (c : tie.In-loop Inv-loop μ-loop)
     × (c .before .loop .top + c .before .loop .node ≤ mostNodes)
 room c = judging-room (c .before .before .before .pre) (c .before .loop .inv) (c .loop-test .taken)
 
-turn : (c : tie.After-operator-after Inv-loop μ-loop)
-    → Turn (c .before .before .before .before .before .before .before .before .before .args .tree .now) (c .before .before .before .before .before .before .before .loop .waiting) (c .before .before .before .before .before .before .before .loop .top) (c .before .before .before .before .before .before .before .loop .tokens) (c .before .before .before .before .before .before .before .loop .node)
-    (c .before .before .before .before .operator .result) (c .before .before .low .result) (c .operator-after .result)
-    (getD (c .before .before .before .before .before .before .before .loop .waiting) (c .before .before .before .before .before .before .before .loop .top - 1) Enclosed)
+turn : (c : tie.After-place Inv-loop μ-loop)
+    → Turn (c .before .before .before .before .before .args .tree .now) (c .before .before .before .loop .waiting) (c .before .before .before .loop .top) (c .before .before .before .loop .tokens) (c .before .before .before .loop .node)
+    (c .before .view-node .result .op) (c .before .view-node .result .children) (c .before .view-node .result .next)
+    (getD (c .before .before .before .loop .waiting) (c .before .before .before .loop .top - 1) Enclosed)
 turn c =
+    let seen = c .before .view-node .ensures in
     record {
-      one = c .before .before .before .before .before .before .before .before .before .pre;
-      inv = c .before .before .before .before .before .before .before .loop .inv;
-      within = c .before .before .before .before .before .before .loop-test .taken;
-      isOp = c .before .before .before .before .operator .ensures;
-      isCount = c .before .before .low .ensures;
-      isFirst = c .operator-after .ensures;
+      one = c .before .before .before .before .before .pre;
+      inv = c .before .before .before .loop .inv;
+      within = c .before .before .loop-test .taken;
+      isOp = ap (λ (v : NodeView). v .op) seen;
+      isCount = ap (λ (v : NodeView). v .children) seen;
+      isFirst = ap (λ (v : NodeView). v .next) seen;
       isPlace = refl;
     }
 
 plain : (c : tie.Else1 Inv-loop μ-loop)
-    → plainBy (getD (c .before .before .before .before .before .before .before .before .before .loop .waiting) (c .before .before .before .before .before .before .before .before .before .loop .top - 1) Enclosed) (c .before .before .before .before .before .before .operator .result) (c .before .before .before .before .low .result)
-    (c .before .before .operator-after .result)
+    → plainBy (getD (c .before .before .before .before .before .loop .waiting) (c .before .before .before .before .before .loop .top - 1) Enclosed)
+    (c .before .before .before .view-node .result .op) (c .before .before .before .view-node .result .children) (c .before .before .before .view-node .result .next)
     ≡ true
 plain c = sym (c .before .is-plain .ensures) ∙ not-false _ (c .if1 .left)
 
 loop-holds : tie.Need-loop-holds Inv-loop μ-loop
 loop-holds c = judging-begins (c .before .args .tree .now) _ (c .before .pre) refl refl
 
-mul-at : tie.Need-mul-at Inv-loop μ-loop
-mul-at c = search needs
+mul-view-node : tie.Need-mul-view-node Inv-loop μ-loop
+mul-view-node c = search needs
 
-mul-operator : tie.Need-mul-operator Inv-loop μ-loop
-mul-operator c = search needs
-
-shared-slice-read-operator : tie.Need-shared-slice-read-operator Inv-loop μ-loop
-shared-slice-read-operator c = search needs
-
-operator-requires : tie.Need-operator-requires Inv-loop μ-loop
-operator-requires c κs = search needs
-
-add-low : tie.Need-add-low Inv-loop μ-loop
-add-low c = search needs
-
-mul-low : tie.Need-mul-low Inv-loop μ-loop
-mul-low c = search needs
-
-shared-slice-read-low : tie.Need-shared-slice-read-low Inv-loop μ-loop
-shared-slice-read-low c = search needs
-
-low-requires : tie.Need-low-requires Inv-loop μ-loop
-low-requires c κs = search needs
+view-node-requires : tie.Need-view-node-requires Inv-loop μ-loop
+view-node-requires c κs = room c .0
 
 sub-top : tie.Need-sub-top Inv-loop μ-loop
-sub-top c = room (c .before .before .before .before) .1
+sub-top c = room (c .before) .1
 
 array-copy-out-place : tie.Need-array-copy-out-place Inv-loop μ-loop
-array-copy-out-place c = omega (arith, room (c .before .before .before .before) .2)
-
-operator-after-requires : tie.Need-operator-after-requires Inv-loop μ-loop
-operator-after-requires c κs = room (c .before .before .before .before .before) .0
+array-copy-out-place c = omega (arith, room (c .before) .2)
 
 is-plain-requires : tie.Need-is-plain-requires Inv-loop μ-loop
 is-plain-requires c κs = search needs
@@ -97,27 +78,28 @@ tokens-for-requires c κs = search needs
 
 add-tokens : tie.Need-add-tokens Inv-loop μ-loop
 add-tokens c =
-    let head = c .before .before .before .before .before .before .before .before .before .before in
+    let head = c .before .before .before .before .before .before in
     let place = getD (head .loop .waiting) (head .loop .top - 1) Enclosed in
+    let seen = c .before .before .before .before .view-node .result in
     omega (
       arith,
       c .tokens-for .ensures,
       head .loop .inv .few,
-      room (c .before .before .before .before .before .before .before .before .before) .2,
-      few-tokens place (c .before .before .before .before .before .before .before .operator .result) (c .before .before .before .before .before .low .result),
+      room (c .before .before .before .before .before) .2,
+      few-tokens place (seen .op) (seen .children),
     )
 
 place-of-only-requires : tie.Need-place-of-only-requires Inv-loop μ-loop
 place-of-only-requires c κs = search needs
 
 array-set-from-waiting : tie.Need-array-set-from-waiting Inv-loop μ-loop
-array-set-from-waiting c = omega (arith, room (c .before .before .before .before .before .before .before .before .before .before .before) .2)
+array-set-from-waiting c = omega (arith, room (c .before .before .before .before .before .before .before) .2)
 
 add-top : tie.Need-add-top Inv-loop μ-loop
-add-top c = omega (arith, room (c .before .before .before .before .before .before .before .before .before .before .before) .2)
+add-top c = omega (arith, room (c .before .before .before .before .before .before .before) .2)
 
 loop-less : tie.Need-loop-less Inv-loop μ-loop
-loop-less c = omega (arith, c .before .before .before .before .before .before .before .before .before .before .before .loop-test .taken)
+loop-less c = omega (arith, c .before .before .before .before .before .before .before .loop-test .taken)
 
 loop-again : tie.Need-loop-again Inv-loop μ-loop
 loop-again c =
@@ -127,22 +109,22 @@ place-of-right-requires : tie.Need-place-of-right-requires Inv-loop μ-loop
 place-of-right-requires c κs = search needs
 
 array-set-from-waiting-2 : tie.Need-array-set-from-waiting-2 Inv-loop μ-loop
-array-set-from-waiting-2 c = omega (arith, room (c .before .before .before .before .before .before .before .before .before .before .before .before) .2)
+array-set-from-waiting-2 c = omega (arith, room (c .before .before .before .before .before .before .before .before) .2)
 
 place-of-left-requires : tie.Need-place-of-left-requires Inv-loop μ-loop
 place-of-left-requires c κs = search needs
 
 add-waiting : tie.Need-add-waiting Inv-loop μ-loop
-add-waiting c = omega (arith, room (c .before .before .before .before .before .before .before .before .before .before .before .before .before) .2)
+add-waiting c = omega (arith, room (c .before .before .before .before .before .before .before .before .before) .2)
 
 array-set-from-waiting-3 : tie.Need-array-set-from-waiting-3 Inv-loop μ-loop
 array-set-from-waiting-3 c = judging-room-two (turn (c .before .before .before .before .before .before .before)) (c .before .before .if3 .taken)
 
 add-top-2 : tie.Need-add-top-2 Inv-loop μ-loop
-add-top-2 c = omega (arith, room (c .before .before .before .before .before .before .before .before .before .before .before .before .before) .2)
+add-top-2 c = omega (arith, room (c .before .before .before .before .before .before .before .before .before) .2)
 
 loop-less-2 : tie.Need-loop-less-2 Inv-loop μ-loop
-loop-less-2 c = omega (arith, c .before .before .before .before .before .before .before .before .before .before .before .before .before .loop-test .taken)
+loop-less-2 c = omega (arith, c .before .before .before .before .before .before .before .before .before .loop-test .taken)
 
 loop-again-2 : tie.Need-loop-again-2 Inv-loop μ-loop
 loop-again-2 c =
@@ -150,7 +132,7 @@ loop-again-2 c =
     (judging-two (turn (c .before .before .before .before .before .before .before)) (plain (c .before .before .before .before .before)) (c .before .before .if3 .taken))
 
 loop-less-3 : tie.Need-loop-less-3 Inv-loop μ-loop
-loop-less-3 c = omega (arith, c .before .before .before .before .before .before .before .before .before .before .before .loop-test .taken)
+loop-less-3 c = omega (arith, c .before .before .before .before .before .before .before .loop-test .taken)
 
 loop-again-3 : tie.Need-loop-again-3 Inv-loop μ-loop
 loop-again-3 c =
@@ -166,17 +148,10 @@ judge-spec =
     Inv-loop
     μ-loop
     loop-holds
-    mul-at
-    mul-operator
-    shared-slice-read-operator
-    operator-requires
-    add-low
-    mul-low
-    shared-slice-read-low
-    low-requires
+    mul-view-node
+    view-node-requires
     sub-top
     array-copy-out-place
-    operator-after-requires
     is-plain-requires
     returns
     add-node
