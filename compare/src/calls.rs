@@ -8,6 +8,7 @@ use oracle::refusal::Call;
 use oracle::words::{
     Case, FULL_SET, LAST_OP, LAST_PLACE, MOST_TOKENS, TOKEN_WORDS, Token, bit, exact_set, low, word,
 };
+use std::ops::Range;
 
 /// Eight operators each, whose lists meet in the same passes.
 pub static EIGHTS: [Alphabet; 3] = [
@@ -185,55 +186,50 @@ fn damages(call: &Call, place: usize) -> Vec<u32> {
     words
 }
 
+/// A sound call of so many tokens with each change, and a short one with each two.
+fn changed(tokens: usize) -> Vec<Call> {
+    let changes = at_limits();
+    let mut calls = Vec::new();
+    for (place, change) in changes.iter().enumerate() {
+        let mut changed = sound(tokens);
+        change(&mut changed);
+        let others = if tokens <= 14 {
+            &changes[place + 1..]
+        } else {
+            &[]
+        };
+        for other in others {
+            let mut both = changed.clone();
+            other(&mut both);
+            calls.push(both);
+        }
+        calls.push(changed);
+    }
+    calls
+}
+
+/// A sound call of so many tokens with each damage to each word of these places.
+fn damaged(tokens: usize, places: Range<usize>) -> impl Iterator<Item = Call> {
+    let sound = sound(tokens);
+    places.flat_map(move |place| {
+        let sound = sound.clone();
+        damages(&sound, place).into_iter().map(move |word| {
+            let mut call = sound.clone();
+            call.list[place] = word;
+            call
+        })
+    })
+}
+
 /// Every refusal at its limits: the whole call's for lists of several lengths, each alone and each two together; each
 /// field of every word of a short list, and of the first and last words of the longest.
 pub fn limits() -> impl Iterator<Item = Call> {
-    let lengths = [
-        0,
-        1,
-        2,
-        13,
-        14,
-        MOST_TOKENS - 1,
-        MOST_TOKENS,
-        MOST_TOKENS + 1,
-    ];
-    let whole = lengths.into_iter().flat_map(|tokens| {
-        let changes = at_limits();
-        let sound = sound(tokens);
-        let mut calls = Vec::new();
-        for (place, change) in changes.iter().enumerate() {
-            let mut changed = sound.clone();
-            change(&mut changed);
-            let others = if tokens > 14 {
-                &[][..]
-            } else {
-                &changes[place + 1..]
-            };
-            for other in others {
-                let mut both = changed.clone();
-                other(&mut both);
-                calls.push(both);
-            }
-            calls.push(changed);
-        }
-        calls
-    });
-    let words = [
-        (14, 0..70),
-        (MOST_TOKENS, 0..5),
-        (MOST_TOKENS, 20_475..20_480),
-    ];
-    let damaged = words.into_iter().flat_map(|(tokens, places)| {
-        let sound = sound(tokens);
-        places.flat_map(move |place| {
-            let sound = sound.clone();
-            damages(&sound, place).into_iter().map(move |word| {
-                let mut call = sound.clone();
-                call.list[place] = word;
-                call
-            })
-        })
-    });
-    whole.chain(damaged)
+    let most = MOST_TOKENS;
+    let lengths = [0, 1, 2, 13, 14, most - 1, most, most + 1];
+    let last = TOKEN_WORDS * (most - 1)..TOKEN_WORDS * most;
+    let words = [(14, 0..70), (most, 0..TOKEN_WORDS), (most, last)];
+    let damaged = words
+        .into_iter()
+        .flat_map(|(tokens, places)| damaged(tokens, places));
+    lengths.into_iter().flat_map(changed).chain(damaged)
 }

@@ -84,6 +84,20 @@ impl Lent {
             .position(|(is, was)| is != was)?;
         Some(place as isize - GUARD as isize)
     }
+
+    /// Says which word is neither `front`'s nor as it was.
+    fn judge(&self, name: &str, noise: &[u32], front: &[u32]) -> Result<(), String> {
+        let Some(place) = self.changed(noise, front) else {
+            return Ok(());
+        };
+        let at = (place + GUARD as isize) as usize;
+        let filled = usize::try_from(place).ok();
+        let filled = filled.and_then(|place| front.get(place));
+        let (is, wanted) = (self.words[at], filled.unwrap_or(&noise[at]));
+        Err(format!(
+            "word {place} of the {name} buffer is {is:#x} and not {wanted:#x}"
+        ))
+    }
 }
 
 /// The buffers that calls are lent, one call after the other.
@@ -150,49 +164,40 @@ impl Desk {
         &self.tree.slice()[..NODE_WORDS * nodes]
     }
 
-    fn judge(&mut self, answer: Read, expected: &Expected) -> Result<(), String> {
-        let (tree, messages) = match (answer, expected) {
-            (Read::Tree(nodes), Expected::Tree(words)) if NODE_WORDS * nodes == words.len() => {
-                (words.clone(), Vec::new())
+    /// The words that stand in front of the tree and of the message buffer, if the answer is what is expected.
+    fn fronts(&mut self, answer: Read, expected: &Expected) -> Option<(Vec<u32>, Vec<u32>)> {
+        match (answer, expected) {
+            (Read::Tree(nodes), Expected::Tree(words)) => {
+                (NODE_WORDS * nodes == words.len()).then(|| (words.clone(), Vec::new()))
             }
-            (Read::Messages(count), Expected::Messages(records)) if count == records.len() => {
-                (Vec::new(), records.concat())
+            (Read::Messages(count), Expected::Messages(records)) => {
+                (count == records.len()).then(|| (Vec::new(), records.concat()))
             }
-            (Read::Refused(..), Expected::Refused(number, place))
-                if answer == Read::Refused(*number, *place) =>
-            {
-                (Vec::new(), Vec::new())
+            (Read::Refused(number, place), Expected::Refused(wanted, at)) => {
+                ((number, place) == (*wanted, *at)).then(Default::default)
             }
-            (Read::Tree(nodes), Expected::Something) if NODE_WORDS * nodes <= self.tree.len => {
-                (self.tree(nodes).to_vec(), Vec::new())
+            (Read::Tree(nodes), Expected::Something) => {
+                let sound = NODE_WORDS * nodes <= self.tree.len;
+                sound.then(|| (self.tree(nodes).to_vec(), Vec::new()))
             }
             (Read::Messages(count @ 1..=2), Expected::Something) => {
-                (Vec::new(), self.messages.slice()[..8 * count].to_vec())
+                Some((Vec::new(), self.messages.slice()[..8 * count].to_vec()))
             }
-            _ => return Err(format!("the answer is {answer:?} and not {expected:?}")),
-        };
-        let noise = &self.noise[self.moved..];
+            _ => None,
+        }
+    }
+
+    fn judge(&mut self, answer: Read, expected: &Expected) -> Result<(), String> {
+        let fronts = self.fronts(answer, expected);
+        let other = || format!("the answer is {answer:?} and not {expected:?}");
+        let (tree, messages) = fronts.ok_or_else(other)?;
         let work = match answer {
             Read::Refused(..) => &[],
             _ => &self.zeros[..self.work.len],
         };
-        let parts = [
-            ("tree", &self.tree, &tree[..]),
-            ("message", &self.messages, &messages[..]),
-            ("work", &self.work, work),
-        ];
-        for (name, lent, front) in parts {
-            if let Some(place) = lent.changed(noise, front) {
-                let at = (place + GUARD as isize) as usize;
-                let filled = usize::try_from(place)
-                    .ok()
-                    .and_then(|place| front.get(place));
-                let (is, wanted) = (lent.words[at], filled.unwrap_or(&noise[at]));
-                return Err(format!(
-                    "word {place} of the {name} buffer is {is:#x} and not {wanted:#x}"
-                ));
-            }
-        }
-        Ok(())
+        let noise = &self.noise[self.moved..];
+        self.tree.judge("tree", noise, &tree)?;
+        self.messages.judge("message", noise, &messages)?;
+        self.work.judge("work", noise, work)
     }
 }

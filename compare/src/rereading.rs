@@ -1,7 +1,6 @@
 //! A list read, written, and the written list read again at three versions, all by the library, beside the second writer.
 
-use crate::library;
-use crate::library::Read;
+use crate::library::{self, Read};
 use crate::plain_trees;
 use crate::reading::{Desk, Expected};
 use crate::writer_model::{self, Tree, Written};

@@ -31,15 +31,16 @@ impl Bytes<'_> {
     }
 }
 
-#[test]
-fn every_kept_answer() {
-    let path = concat!(env!("CARGO_MANIFEST_DIR"), "/../vectors/vectors.bin");
-    let file = std::fs::read(path).expect("vectors/vectors.bin");
-    let mut bytes = Bytes(&file[12..]);
-    let mut reader = Reader::new();
-    let mut counts = [0; 3];
-    while !bytes.0.is_empty() {
-        let head = bytes.byte();
+/// A kept call: the used set is none where it has a bit that no operator has.
+struct Call {
+    list: Vec<u32>,
+    used: Option<Used>,
+    source_len: u64,
+    version: i16,
+}
+
+impl Call {
+    fn next(bytes: &mut Bytes<'_>, head: u8) -> Self {
         let len = bytes.number();
         let list = bytes.words(len, 5);
         let used = match head >> 4 {
@@ -50,49 +51,77 @@ fn every_kept_answer() {
             1 => Some(Used::exact_words(&list)),
             _ => Some(Used::FULL),
         };
-        let source_len = bytes.number();
-        let version = i16::from_le_bytes([bytes.byte(), bytes.byte()]);
-        let mut read = |used| {
-            reader
-                .parse_words(&list, version, used, source_len)
-                .map(<[u32]>::to_vec)
+        Self {
+            list,
+            used,
+            source_len: bytes.number(),
+            version: i16::from_le_bytes([bytes.byte(), bytes.byte()]),
+        }
+    }
+
+    fn read(&self, reader: &mut Reader) -> Result<Vec<u32>, ReadError> {
+        let used = self.used.expect("a legal set");
+        let words = reader.parse_words(&self.list, self.version, used, self.source_len)?;
+        Ok(words.to_vec())
+    }
+
+    /// The same tree comes of words, of tokens, and of its own nodes.
+    fn is_tree(&self, reader: &mut Reader, words: Vec<u32>) {
+        assert_eq!(self.read(reader), Ok(words.clone()));
+        let tree = Tree::from_words(words).expect("an answer is a tree");
+        let tokens = Tokens::from_words(&self.list).expect("a list that is read");
+        let used = self.used.expect("a legal set");
+        let typed = reader.parse(&tokens, self.version, used, self.source_len as u32);
+        assert_eq!(typed, Ok(tree.clone()));
+        let nodes = tree.nodes().map(|node| (node.token(), node.child_count()));
+        assert_eq!(Tree::from_nodes(nodes).expect("the same tree"), tree);
+    }
+
+    fn has_messages(&self, reader: &mut Reader, records: &[u32]) {
+        let Err(ReadError::Messages(messages)) = self.read(reader) else {
+            panic!("a tree of {:x?}", self.list);
         };
+        let given = messages.iter().flat_map(|message| message.record());
+        assert_eq!(given.collect::<Vec<u32>>(), records);
+    }
+
+    fn is_refused(&self, reader: &mut Reader, number: u32, place: u64) {
+        // 3 to 6 are about the buffers and the set, which are the reader's and legal.
+        if matches!(number, 3..=6) || self.used.is_none() {
+            return;
+        }
+        let Err(ReadError::Refused(refusal)) = self.read(reader) else {
+            panic!("{:x?} was read", self.list);
+        };
+        assert_eq!(refusal.number(), number, "place {place}");
+    }
+}
+
+#[test]
+fn every_kept_answer() {
+    let path = concat!(env!("CARGO_MANIFEST_DIR"), "/../vectors/vectors.bin");
+    let file = std::fs::read(path).expect("vectors/vectors.bin");
+    let mut bytes = Bytes(&file[12..]);
+    let mut reader = Reader::new();
+    let mut counts = [0; 3];
+    while !bytes.0.is_empty() {
+        let head = bytes.byte();
+        let call = Call::next(&mut bytes, head);
         counts[usize::from(head & 3)] += 1;
         match head & 3 {
             0 => {
                 let nodes = bytes.number();
-                let words = bytes.words(6 * nodes, 6);
-                assert_eq!(read(used.expect("a legal set")), Ok(words.clone()));
-                let tree = Tree::from_words(words.clone()).expect("an answer is a tree");
-                let tokens = Tokens::from_words(&list).expect("a list that is read");
-                let typed = reader.parse(&tokens, version, used.unwrap(), source_len as u32);
-                assert_eq!(typed, Ok(tree.clone()));
-                let nodes = tree.nodes().map(|node| (node.token(), node.child_count()));
-                assert_eq!(
-                    Tree::from_nodes(nodes).expect("the same tree").words(),
-                    words
-                );
+                call.is_tree(&mut reader, bytes.words(6 * nodes, 6));
             }
             1 => {
                 let count = bytes.number();
                 let records: Vec<u32> = (0..8 * count).map(|_| bytes.number() as u32).collect();
-                let Err(ReadError::Messages(messages)) = read(used.expect("a legal set")) else {
-                    panic!("a tree of {list:x?}");
-                };
-                let given = messages.iter().flat_map(|message| message.record());
-                assert_eq!(given.collect::<Vec<u32>>(), records);
+                call.has_messages(&mut reader, &records);
             }
             _ => {
-                let lent = [bytes.number(), bytes.number(), bytes.number()];
+                let _lent = [bytes.number(), bytes.number(), bytes.number()];
                 let (number, place) = (bytes.number() as u32, bytes.number());
-                let _ = lent;
-                // 3 to 6 are about the buffers and the set, which are the reader's and legal.
-                if let (Some(used), 1 | 2 | 7..) = (used, number) {
-                    let Err(ReadError::Refused(refusal)) = read(used) else {
-                        panic!("{list:x?} was read");
-                    };
-                    assert_eq!(refusal.number(), number, "place {place}");
-                }
+                call.is_refused(&mut reader, number, place);
             }
         }
     }

@@ -45,8 +45,9 @@ mod timed {
                 .map_or(0.0, |middle| middle / self.least() - 1.0)
         }
 
-        /// Times `repeats` runs of `run` over `tokens` tokens.
+        /// Times `repeats` runs of `run` over `tokens` tokens, after one that brings what they use into the caches again.
         fn add(&mut self, repeats: usize, tokens: usize, mut run: impl FnMut()) {
+            run();
             let since = Instant::now();
             for _ in 0..repeats {
                 run();
@@ -323,54 +324,92 @@ mod timed {
         (least, (logarithms / ratios.len() as f64).exp())
     }
 
-    pub fn all(rounds: usize) {
-        let read = |workloads: Vec<Workload>| workloads.into_iter().map(Reading::new);
-        let mut short: Vec<Reading> = read(workloads::short()).collect();
-        let mut many: Vec<Reading> = read(workloads::long(MANY)).collect();
-        let mut few: Vec<Reading> = read(workloads::long(FEW)).collect();
-        let write = |len| workloads::plain(len).into_iter().map(Writing::new);
-        let mut written: Vec<Writing> = write(MANY).collect();
-        let mut written_few: Vec<Writing> = write(FEW).collect();
-        for _ in 0..rounds {
-            for reading in short.iter_mut().chain(&mut many).chain(&mut few) {
-                reading.round();
-            }
-            for writing in written.iter_mut().chain(&mut written_few) {
-                writing.round();
+    /// All workloads, and the same of few tokens where the growth is measured.
+    struct Timed {
+        short: Vec<Reading>,
+        many: Vec<Reading>,
+        few: Vec<Reading>,
+        written: Vec<Writing>,
+        written_few: Vec<Writing>,
+    }
+
+    impl Timed {
+        fn new() -> Self {
+            let read = |workloads: Vec<Workload>| workloads.into_iter().map(Reading::new).collect();
+            let write = |len| {
+                workloads::plain(len)
+                    .into_iter()
+                    .map(Writing::new)
+                    .collect()
+            };
+            Self {
+                short: read(workloads::short()),
+                many: read(workloads::long(MANY)),
+                few: read(workloads::long(FEW)),
+                written: write(MANY),
+                written_few: write(FEW),
             }
         }
-        if !oracle::COMPARED {
-            println!("The Rust source is not at hand (MOLANGX_SRC): reading is timed alone.");
+
+        fn round(&mut self) {
+            let readings = self.short.iter_mut().chain(&mut self.many);
+            readings.chain(&mut self.few).for_each(Reading::round);
+            let writings = self.written.iter_mut().chain(&mut self.written_few);
+            writings.for_each(Writing::round);
         }
-        println!("Reading, nanoseconds per token:");
-        let shown = || short.iter().chain(&many).map(|reading| &reading.line);
-        shown().for_each(Line::print);
-        let greatest = growth(many.iter().map(|r| &r.line), few.iter().map(|r| &r.line));
-        println!("Writing, nanoseconds per written token:");
-        let out = || {
-            written_few
+
+        fn read(&self) -> impl Iterator<Item = &Line> {
+            self.short
                 .iter()
-                .chain(&written)
-                .map(|writing| &writing.line)
-        };
-        written_few.iter().chain(&written).for_each(Writing::print);
-        let grown = growth(
-            written.iter().map(|w| &w.line),
-            written_few.iter().map(|w| &w.line),
-        );
-        let (least, mean) = ratios(out());
-        println!(
-            "writing: least ratio {least:.2}, mean ratio {mean:.2}, greatest growth {grown:.2}"
-        );
-        let noise = shown()
-            .chain(out())
-            .map(|line| line.ours.noise())
-            .fold(0.0, f64::max);
-        println!(
-            "noise: the middle batch is at most {:.0} % above the least",
-            100.0 * noise
-        );
-        let (least, mean) = ratios(shown());
+                .chain(&self.many)
+                .map(|reading| &reading.line)
+        }
+
+        fn writings(&self) -> impl Iterator<Item = &Writing> {
+            self.written_few.iter().chain(&self.written)
+        }
+
+        /// Prints the readings; their greatest growth.
+        fn print_reading(&self) -> f64 {
+            if !oracle::COMPARED {
+                println!("The Rust source is not at hand (MOLANGX_SRC): reading is timed alone.");
+            }
+            println!("Reading, nanoseconds per token:");
+            self.read().for_each(Line::print);
+            let few = self.few.iter().map(|reading| &reading.line);
+            growth(self.many.iter().map(|reading| &reading.line), few)
+        }
+
+        fn print_writing(&self) {
+            println!("Writing, nanoseconds per written token:");
+            self.writings().for_each(Writing::print);
+            let few = self.written_few.iter().map(|writing| &writing.line);
+            let grown = growth(self.written.iter().map(|writing| &writing.line), few);
+            let (least, mean) = ratios(self.writings().map(|writing| &writing.line));
+            println!(
+                "writing: least ratio {least:.2}, mean ratio {mean:.2}, greatest growth {grown:.2}"
+            );
+        }
+
+        fn print_noise(&self) {
+            let lines = self
+                .read()
+                .chain(self.writings().map(|writing| &writing.line));
+            let noise = lines.map(|line| line.ours.noise()).fold(0.0, f64::max);
+            let percent = 100.0 * noise;
+            println!("noise: the middle batch is at most {percent:.0} % above the least");
+        }
+    }
+
+    pub fn all(rounds: usize) {
+        let mut timed = Timed::new();
+        for _ in 0..rounds {
+            timed.round();
+        }
+        let greatest = timed.print_reading();
+        timed.print_writing();
+        timed.print_noise();
+        let (least, mean) = ratios(timed.read());
         if oracle::COMPARED {
             println!("least ratio {least:.2}, mean ratio {mean:.2}, greatest growth {greatest:.2}");
         } else {
