@@ -1,0 +1,4 @@
+pub mod RecordLaws
+pub mod ReportLaws
+pub mod RootLaws
+pub mod FillLaws

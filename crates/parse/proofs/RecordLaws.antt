@@ -1,0 +1,140 @@
+-- The records of the failures: put together argument by argument, and which messages' records they are, since a slot's words give its token back.
+use Prim.Native.Nat.{ℕ, _+_, _*_, _%_, _≤_}
+use mathlib.Core.Path.{_≡_, refl, sym, ap, ap₂, _∙_, subst}
+use mathlib.Core.Bool.{Bool, true, false}
+use mathlib.Core.List.{List}
+use mathlib.Core.Option.{Option·getD}
+use native.Mathlib.Omega.{arith}
+use lib.Dec.{eqb, leb}
+use lib.ListN.{length, List·getD-eq-default}
+use borrow.Author.Tests.{eq-eqb, ne-eqb, leb-true, leb-false}
+use Rattle.molang.specs.Operator.{closingOf}
+use Rattle.molang.specs.Forest.{Token}
+use Rattle.molang.specs.Message.{Message, messageRecord, hostMath, hostValue, closer, record8, about}
+use Rattle.molang.specs.Words.{word, lowOf}
+use Rattle.molang.specs.Parse.{recordWords}
+use Rattle.words.specs.Fields.{variantOf, valueOf, halfOf}
+use Rattle.words.specs.Records.{withFirst, withLast, wordsOf}
+use Rattle.words.specs.declared.records.Record.{Record}
+use Rattle.nodes.specs.Store.{wd, TokenAt}
+use Rattle.nodes.proofs.Tokens.{operator-word, upper-word, lower-word, token-op, token-start, token-end}
+use Rattle.walks.specs.Failures.{Tells, leadingMemberAccessor, emptyParameterList, mathAtEnd, mathWithoutParenthesis, leadingSemicolon, emptyArrayIndex, binaryAtEnd, negateWithoutOperand, notWithoutOperand, unknownOperation, unaryWithoutOperand, ternaryWithoutOperands}
+use Rattle.walks.specs.Grouped.{Says, tells, notEnded, withoutTokens}
+use Rattle.walks.specs.declared.failure.Failure.{Failure}
+use Rattle.parse.specs.Records.{Within, hostAt, closerAt, Named, recordFor}
+
+-- ---- records argument by argument
+
+pub with-first : {r a b : Record} {x x' y y' : ℕ} → r ≡ withFirst a x y → a ≡ b → x ≡ x' → y ≡ y' → r ≡ withFirst b x' y'
+with-first e f g h = e ∙ (λ i. withFirst (f i) (g i) (h i))
+
+pub with-last : {r a b : Record} {x x' y y' z z' : ℕ} → r ≡ withLast a x y z → a ≡ b → x ≡ x' → y ≡ y' → z ≡ z' → r ≡ withLast b x' y' z'
+with-last e f g h k = e ∙ (λ i. withLast (f i) (g i) (h i) (k i))
+
+-- the closer of an operator that was read
+pub closer-read : {r o o' : ℕ} → r ≡ Option·getD (closingOf o) 0 → o ≡ o' → r ≡ Option·getD (closingOf o') 0
+closer-read e f = e ∙ ap (λ (o : ℕ). Option·getD (closingOf o) 0) f
+
+pub named-at : (W : List ℕ) {f g : Failure} → f ≡ g → Named W f → Named W g
+named-at W e h = subst (λ (f : Failure). Named W f) e h
+
+-- ---- a slot's host value
+
+pub no-host : (W : List ℕ) (s v : ℕ) → v ≡ variantOf (wd W (8 * s)) → (v ≡ hostMath → ⊥) → _≡_ {A = ℕ} 0 (hostAt W s)
+unfolding hostAt
+no-host W s v e h = rw (hostAt, ne-eqb (variantOf (wd W (8 * s))) hostMath (λ z. h (e ∙ z)))
+
+pub a-host : (W : List ℕ) (s v r a b : ℕ) → v ≡ variantOf (wd W (8 * s)) → v ≡ hostMath → r ≡ valueOf a b → a ≡ wd W (8 * s + 3) → b ≡ wd W (8 * s + 4)
+    → r ≡ hostAt W s
+unfolding hostAt
+a-host W s v r a b e h f x y = rw (hostAt, eq-eqb (variantOf (wd W (8 * s))) hostMath (sym e ∙ h)) (f ∙ ap₂ valueOf x y)
+
+-- ---- a slot's token
+
+module _ {W : List ℕ} {s : ℕ} {k : Token} (t : TokenAt W s k) where
+  -- Words after the last are 0, which no word of a token is.
+  pub slot-within : length W % 8 ≡ 0 → Within W s
+  unfolding word
+  slot-within whole = go (leb (length W) (8 * s + 4)) refl
+    where
+      go : (b : Bool) → leb (length W) (8 * s + 4) ≡ b → Within W s
+      go true e =
+          let past : wd W (8 * s + 4) ≡ 0 = List·getD-eq-default W 0 (leb-true (length W) (8 * s + 4) e) in
+          absurd (omega (arith, lower-word t))
+      go false e = let long = leb-false (length W) (8 * s + 4) e in omega arith
+
+  token-variant : variantOf (wd W (8 * s)) ≡ k .variant
+  unfolding variantOf lowOf word
+  token-variant = omega (arith, operator-word t, t .legal .op, t .legal .variant)
+
+  token-value : valueOf (wd W (8 * s + 3)) (wd W (8 * s + 4)) ≡ k .value
+  unfolding valueOf halfOf lowOf word
+  token-value = omega (arith, upper-word t, lower-word t, t .legal .value)
+
+  host-token : hostAt W s ≡ hostValue k
+  unfolding hostAt hostValue
+  host-token = λ i. elim (eqb (token-variant i) hostMath) [ true ↦ token-value i | false ↦ 0 ]
+
+  pub closer-token : closerAt W s ≡ closer k
+  unfolding closer
+  closer-token = ap (λ (o : ℕ). Option·getD (closingOf o) 0) (token-op t)
+
+-- ---- the messages
+
+pub says-slots : {W : List ℕ} {sourceLength : ℕ} {f : Failure} {ms : List Message} → Says W sourceLength f ms → length W % 8 ≡ 0 → 8 ≤ length W → Named W f
+says-slots (tells (leadingMemberAccessor t)) h l = (slot-within t h, slot-within t h)
+says-slots (tells (emptyParameterList t u)) h l = (slot-within t h, slot-within u h)
+says-slots (tells (mathAtEnd t)) h l = (slot-within t h, slot-within t h)
+says-slots (tells (mathWithoutParenthesis t)) h l = (slot-within t h, slot-within t h)
+says-slots (tells (leadingSemicolon t)) h l = (slot-within t h, slot-within t h)
+says-slots (tells (emptyArrayIndex t u)) h l = (slot-within t h, slot-within u h)
+says-slots (tells (binaryAtEnd t)) h l = (slot-within t h, slot-within t h)
+says-slots (tells (negateWithoutOperand t)) h l = (slot-within t h, slot-within t h)
+says-slots (tells (notWithoutOperand t)) h l = (slot-within t h, slot-within t h)
+says-slots (tells (unknownOperation t u)) h l = (slot-within t h, slot-within u h)
+says-slots (tells (unaryWithoutOperand t)) h l = (slot-within t h, slot-within t h)
+says-slots (tells (ternaryWithoutOperands t)) h l = (slot-within t h, slot-within t h)
+says-slots (notEnded t) h l = (slot-within t h, slot-within t h)
+says-slots withoutTokens h l = (l, l)
+
+tells-words : (W : List ℕ) (sourceLength : ℕ) {f : Failure} {ms : List Message} → Tells W f ms → wordsOf (recordFor W sourceLength f) ≡ recordWords ms
+unfolding wordsOf recordWords messageRecord about record8
+tells-words W l (leadingMemberAccessor t) = rw (token-start t, token-end t)
+tells-words W l (emptyParameterList t u) = rw (token-start t, token-end u, token-op t)
+tells-words W l (mathAtEnd t) = rw (token-start t, token-end t, token-op t, host-token t)
+tells-words W l (mathWithoutParenthesis t) = rw (token-start t, token-end t, token-op t, host-token t)
+tells-words W l (leadingSemicolon t) = rw (token-start t, token-end t)
+tells-words W l (emptyArrayIndex t u) = rw (token-start t, token-end u)
+tells-words W l (binaryAtEnd t) = rw (token-start t, token-end t, token-op t)
+tells-words W l (negateWithoutOperand t) = rw (token-start t, token-end t)
+tells-words W l (notWithoutOperand t) = rw (token-start t, token-end t)
+tells-words W l (unknownOperation t u) = rw (token-start t, token-end t, token-op u)
+tells-words W l (unaryWithoutOperand t) = rw (token-start t, token-end t, token-op t)
+tells-words W l (ternaryWithoutOperands t) = rw (token-start t, token-end t, token-op t)
+
+pub says-words : (W : List ℕ) (sourceLength : ℕ) {f : Failure} {ms : List Message} → Says W sourceLength f ms
+    → wordsOf (recordFor W sourceLength f) ≡ recordWords ms
+unfolding wordsOf recordWords messageRecord about record8
+says-words W l (tells t) = tells-words W l t
+says-words W l (notEnded t) = rw (token-start t, token-end t)
+says-words W l withoutTokens = refl
+
+-- A failure is one message.
+pub tells-one : {W : List ℕ} {f : Failure} {ms : List Message} → Tells W f ms → length ms ≡ 1
+tells-one (leadingMemberAccessor t) = refl
+tells-one (emptyParameterList t u) = refl
+tells-one (mathAtEnd t) = refl
+tells-one (mathWithoutParenthesis t) = refl
+tells-one (leadingSemicolon t) = refl
+tells-one (emptyArrayIndex t u) = refl
+tells-one (binaryAtEnd t) = refl
+tells-one (negateWithoutOperand t) = refl
+tells-one (notWithoutOperand t) = refl
+tells-one (unknownOperation t u) = refl
+tells-one (unaryWithoutOperand t) = refl
+tells-one (ternaryWithoutOperands t) = refl
+
+pub says-one : {W : List ℕ} {sourceLength : ℕ} {f : Failure} {ms : List Message} → Says W sourceLength f ms → length ms ≡ 1
+says-one (tells t) = tells-one t
+says-one (notEnded t) = refl
+says-one withoutTokens = refl

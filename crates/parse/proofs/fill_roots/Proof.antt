@@ -1,0 +1,88 @@
+-- `parse::fill_roots` meets its contract: no root, several, or one. Assumes nothing.
+use borrow.Author.Needs.{needs}
+use mathlib.Core.Path.{sym, _∙_}
+use Rattle.parse.proofs.FillLaws.{none-filled, root-within, several-room, several-filled, one-room, one-filled}
+use Rattle.parse.proofs.fill_roots.Statement.{statement}
+use Rattle.parse.proofs.fill_roots.Tie as tie
+
+first-of-requires : tie.Need-first-of-requires
+first-of-requires c κs = search needs
+
+no-roots-requires : tie.Need-no-roots-requires
+no-roots-requires c κs = search needs
+
+same-length : tie.Need-same-length
+same-length c = search needs
+
+same-length-2 : tie.Need-same-length-2
+same-length-2 c = search needs
+
+returns : tie.Need-returns
+returns c =
+    let start = c .before .before .before .before .before .before .before .before .before .before in
+    let first = c .before .before .before .before .before .first-of in
+    none-filled (start .pre) (first .result) (first .ensures) (c .before .before .no-roots .last .0) (c .before .before .before .before .if1 .taken) (c .before .before .no-roots .ensures)
+
+next-of-requires : tie.Need-next-of-requires
+next-of-requires c κs =
+    let start = c .before .before .before .before .before .before .before in
+    let first = c .before .before .first-of in
+    root-within (start .pre) (first .result) (first .ensures) (c .before .if1 .left)
+
+report-roots-requires : tie.Need-report-roots-requires
+report-roots-requires c κs =
+    let start = c .before .before .before .before .before .before .before .before .before .before .before in
+    let first = c .before .before .before .before .before .before .first-of in
+    several-room (start .pre) (first .result) (first .ensures) (c .before .before .before .before .before .if1 .left) (λ z. c .before .before .if2 .taken (c .before .before .before .next-of .ensures ∙ z))
+
+same-length-3 : tie.Need-same-length-3
+same-length-3 c = search needs
+
+same-length-4 : tie.Need-same-length-4
+same-length-4 c = search needs
+
+returns-2 : tie.Need-returns-2
+returns-2 c =
+    let start = c .before .before .before .before .before .before .before .before .before .before .before .before .before .before .before .before in
+    let first = c .before .before .before .before .before .before .before .before .before .before .before .first-of in
+    let report = c .before .before .before .before .report-roots in
+    several-filled (start .pre) (first .result) (first .ensures) (c .before .before .before .before .before .before .before .before .before .before .if1 .left) (report .last .1 .0) (λ z. c .before .before .before .before .before .before .before .if2 .taken (c .before .before .before .before .before .before .before .before .next-of .ensures ∙ z)) (report .ensures)
+
+lay-out-requires : tie.Need-lay-out-requires
+lay-out-requires c κs =
+    let start = c .before .before .before .before .before .before .before .before .before .before .before in
+    let first = c .before .before .before .before .before .before .first-of in
+    one-room (start .pre) (first .result) (first .ensures) (c .before .before .before .before .before .if1 .left)
+
+same-length-5 : tie.Need-same-length-5
+same-length-5 c = search needs
+
+same-length-6 : tie.Need-same-length-6
+same-length-6 c = search needs
+
+returns-3 : tie.Need-returns-3
+returns-3 c =
+    let start = c .before .before .before .before .before .before .before .before .before .before .before .before .before .before .before .before in
+    let first = c .before .before .before .before .before .before .before .before .before .before .before .first-of in
+    let laid = c .before .before .before .before .lay-out in
+    one-filled (start .pre) (first .result) (first .ensures) (c .before .before .before .before .before .before .before .before .before .before .if1 .left) (laid .result) (laid .last .0) (laid .last .1 .0) (sym (c .before .before .before .before .before .before .before .before .next-of .ensures) ∙ c .before .before .before .before .before .before .before .if2 .left)
+    (laid .ensures)
+
+pub fill-roots-spec : {M : Type 1} → statement M
+fill-roots-spec =
+    tie.close
+    (tie.spec
+    first-of-requires
+    no-roots-requires
+    same-length
+    same-length-2
+    returns
+    next-of-requires
+    report-roots-requires
+    same-length-3
+    same-length-4
+    returns-2
+    lay-out-requires
+    same-length-5
+    same-length-6
+    returns-3)

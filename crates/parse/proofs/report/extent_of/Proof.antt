@@ -1,0 +1,76 @@
+-- `parse::report::extent_of` meets its contract: the words of the linked trees are laid out, and the extent is read from them. Assumes nothing.
+use borrow.Author.Needs.{needs}
+use native.Mathlib.Omega.{arith}
+use lib.ListN.{length-take}
+use Rattle.parse.proofs.RootLaws.{measure-emit, measure-few, measured}
+use Rattle.parse.proofs.report.extent_of.Statement.{statement}
+use Rattle.parse.proofs.report.extent_of.Tie as tie
+
+tree-of-requires : tie.Need-tree-of-requires
+tree-of-requires c κs = search needs
+
+stack-of-requires : tie.Need-stack-of-requires
+stack-of-requires c κs = search needs
+
+emit-requires : tie.Need-emit-requires
+emit-requires c κs = rw (c .before .before .tree-of .ensures, c .stack-of .ensures) (measure-emit (c .before .before .before .before .pre))
+
+mul-end : tie.Need-mul-end
+mul-end c =
+    let p = c .before .before .before .before .before .before .before .pre in
+    omega (arith, measure-few p (c .before .before .emit .ensures), p .few)
+
+add-end : tie.Need-add-end
+add-end c =
+    let p = c .before .before .before .before .before .before .before .pre in
+    omega (arith, measure-few p (c .before .before .emit .ensures), p .few, c .before .before .before .before .before .tree-of .ensures)
+
+mul-of-tree : tie.Need-mul-of-tree
+mul-of-tree c = search needs
+
+sub-of-tree : tie.Need-sub-of-tree
+sub-of-tree c = search needs
+
+part-of-tree-start : tie.Need-part-of-tree-start
+part-of-tree-start c = search needs
+
+part-of-tree-end : tie.Need-part-of-tree-end
+part-of-tree-end c =
+    let p = c .before .before .before .before .before .before .before .before .pre in
+    let emit = c .before .before .before .emit .ensures in
+    omega (arith, measure-few p emit, p .room, emit .long, c .before .before .before .before .before .before .tree-of .ensures)
+
+of-tree-requires : tie.Need-of-tree-requires
+of-tree-requires c κs =
+    let p = c .before .before .before .before .before .before .before .before .before .pre in
+    simp length-take (omega (arith, measure-few p (c .before .before .before .before .emit .ensures), p .few))
+
+same-length : tie.Need-same-length
+same-length c = search needs
+
+returns : tie.Need-returns
+returns c =
+    let start = c .before .before .before .before .before .before .before .before .before .before in
+    let a = start .args in
+    let to = c .before .before .before .before .before .before .before .before .tree-of in
+    let stack = c .before .before .before .before .before .before .stack-of in
+    let emit = c .before .before .before .before .before .emit in
+    measured (a .work .now) (emit .last .0) (a .first) (a .n) (to .result) (stack .result) (emit .result) (c .of-tree .result) (start .pre) (to .ensures)
+    (stack .ensures) (emit .ensures) (c .of-tree .ensures)
+
+pub extent-of-spec : {M : Type 1} → statement M
+extent-of-spec =
+    tie.close
+    (tie.spec
+    tree-of-requires
+    stack-of-requires
+    emit-requires
+    mul-end
+    add-end
+    mul-of-tree
+    sub-of-tree
+    part-of-tree-start
+    part-of-tree-end
+    of-tree-requires
+    same-length
+    returns)

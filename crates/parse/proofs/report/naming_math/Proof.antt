@@ -1,0 +1,25 @@
+-- `parse::report::naming_math` meets its contract. Assumes nothing.
+use borrow.Author.Needs.{needs}
+use Rattle.parse.proofs.RecordLaws.{with-first}
+use Rattle.parse.proofs.report.naming_math.Statement.{statement}
+use Rattle.parse.proofs.report.naming_math.Tie as tie
+
+plain-requires : tie.Need-plain-requires
+plain-requires c κs = search needs
+
+operator-of-requires : tie.Need-operator-of-requires
+operator-of-requires c κs = search needs
+
+host-value-requires : tie.Need-host-value-requires
+host-value-requires c κs = search needs
+
+naming-requires : tie.Need-naming-requires
+naming-requires c κs = search needs
+
+returns : tie.Need-returns
+returns c = with-first (c .naming .ensures) (c .before .before .before .plain .ensures) (c .before .before .operator-of .ensures) (c .before .host-value .ensures)
+
+pub naming-math-spec : {M : Type 1} → statement M
+naming-math-spec =
+    tie.close
+    (tie.spec plain-requires operator-of-requires host-value-requires naming-requires returns)

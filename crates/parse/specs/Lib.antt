@@ -1,0 +1,4 @@
+pub mod Records
+pub mod Reports
+pub mod Answers
+pub mod Fills
