@@ -2,12 +2,24 @@
 // filling of the caller's buffers are functions of their own. Leans on checks, passes, buffers, nodes, ops and words.
 pub mod report;
 
+use crate::stub_group::group;
+use buffers::emit::clear;
 use buffers::emit::lay_out;
+use buffers::load::load;
+use checks::Accepted;
+use checks::Sizes;
+use checks::WORK_WORDS;
+use checks::accept;
 use nodes::slots;
 use nodes::slots::ROOT;
+use ops::effective;
+use ops::sets::OpSet;
 use walks::grouped::Grouped;
+ghost use mathlib.Core.Path.{_≡_};
+ghost use Rattle.molang.specs.Parse.{answered, treeAfter, messagesAfter, workAfter};
 ghost use Rattle.walks.specs.declared.grouped.Grouped.the-variants.{Roots};
-ghost use Rattle.parse.specs.Fills.{CanFill, Filled};
+ghost use Rattle.parse.specs.Answers.{toldOf, call};
+ghost use Rattle.parse.specs.Fills.{CanFill, Filled, CanRead, HasRead};
 
 // What a call is answered: a tree of so many nodes, so many messages, or a refusal's number and place.
 pub enum Answer {
@@ -69,6 +81,65 @@ fn fill(
         Grouped::PointerFailed(failure) => {
             report::report_pointer(work, messages, failure, source);
             Answer::Messages(2)
+        }
+    }
+}
+
+// Reads a list without fault in a work buffer of just the words that its n tokens need.
+fn read(
+    list: &[u32],
+    tree: &mut [u32],
+    messages: &mut [u32],
+    work: &mut [u32],
+    n: usize,
+    source: u32,
+    version: i16,
+    used: OpSet,
+) -> Answer
+    requires { ⌜ CanRead (now list) (now work) (now tree) (now messages) n ⌝ }
+    ensures { λ r. ⌜ HasRead (now (list .entry)) (now (tree .entry)) (now (messages .entry)) source version used r (now (tree .exit)) (now (messages .exit)) ⌝ }
+{
+    load(list, work, n);
+    let grouped = group(work, slots::stack_of(n), n, used, effective(version));
+    fill(work, tree, messages, n, source, grouped)
+}
+
+// The entry. The version is raw, the used set comes in two halves.
+pub fn parse(
+    list: &[u32],
+    tree: &mut [u32],
+    messages: &mut [u32],
+    work: &mut [u32],
+    source_length: u64,
+    version: i16,
+    used_low: u64,
+    used_high: u64,
+) -> Answer
+    ensures { λ r. ⌜ toldOf r ≡ answered (call (now (list .entry)) (now (tree .entry)) (now (messages .entry)) (now (work .entry)) «source_length» version «used_low» «used_high») ⌝ }
+    ensures { λ _. ⌜ now (tree .exit) ≡ treeAfter (call (now (list .entry)) (now (tree .entry)) (now (messages .entry)) (now (work .entry)) «source_length» version «used_low» «used_high») ⌝ }
+    ensures { λ _. ⌜ now (messages .exit) ≡ messagesAfter (call (now (list .entry)) (now (tree .entry)) (now (messages .entry)) (now (work .entry)) «source_length» version «used_low» «used_high») ⌝ }
+    ensures { λ _. ⌜ now (work .exit) ≡ workAfter (call (now (list .entry)) (now (tree .entry)) (now (messages .entry)) (now (work .entry)) «source_length» version «used_low» «used_high») ⌝ }
+{
+    let used = OpSet {
+        low: used_low,
+        high: used_high,
+    };
+    let sizes = Sizes {
+        tree: tree.len(),
+        messages: messages.len(),
+        work: work.len(),
+        source: source_length,
+    };
+    let accepted = accept(list, sizes, used);
+    match accepted {
+        Accepted::Refused(number, place) => Answer::Refused(number, place),
+        Accepted::Tokens(n) => {
+            let source = source_length as u32;
+            let end = WORK_WORDS * n + WORK_WORDS;
+            let part = &mut work[..end];
+            let answered = read(list, tree, messages, part, n, source, version, used);
+            clear(work);
+            answered
         }
     }
 }

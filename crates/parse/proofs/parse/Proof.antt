@@ -1,0 +1,109 @@
+-- `parse::parse` meets its contract: a call that the table turns back, or one that is read, after which the work buffer is cleared. Assumes nothing.
+use borrow.Author.Needs.{needs}
+use Prim.Native.Nat.{ℕ, _+_, _*_}
+use lib.ListN.{replicate, take}
+use mir.Facts.{toZ-ofZ}
+use mathlib.Core.Path.{_≡_, sym, ap, _∙_}
+use native.Mathlib.Omega.{arith}
+use Rattle.molang.specs.Parse.{Call}
+use Rattle.checks.specs.declared.Accepted.the-variants.{Tokens}
+use Rattle.checks.proofs.AcceptLaws.{Readable, checked, reads-call}
+use Rattle.parse.specs.Answers.{call}
+use Rattle.parse.specs.Fills.{CanRead}
+use Rattle.parse.proofs.EntryLaws.{refused-meets, read-meets, call-reads, part-long}
+use Rattle.parse.proofs.parse.Statement.{statement}
+use Rattle.parse.proofs.parse.Tie as tie
+
+-- The call, by the values at entry.
+abbrev the-call : tie.Start → Call
+the-call start =
+    let a = start .args in
+    call (a .list .now) (a .tree .now) (a .messages .now) (a .work .now) (a .source-length) (a .version) (a .used-low) (a .used-high)
+
+-- What the checks say of a call that is read.
+is-read : (c : tie.After-accepted2) → Tokens (c .accepted2 .given .0 .0) ≡ checked (the-call (c .before .before .before .before .before .before .before))
+is-read c = sym (c .accepted2 .given .1) ∙ c .before .before .accept .ensures
+
+known : (c : tie.After-accepted2) → Readable (the-call (c .before .before .before .before .before .before .before)) (c .accepted2 .given .0 .0)
+known c = reads-call (the-call (c .before .before .before .before .before .before .before)) (c .accepted2 .given .0 .0) (is-read c) .1
+
+can-read : (c : tie.After-accepted2)
+    → let k = the-call (c .before .before .before .before .before .before .before) in
+    let n = c .accepted2 .given .0 .0 in
+    CanRead (k .list) (take (64 * n + 64) (k .work)) (k .tree) (k .messages) n
+can-read c = call-reads (the-call (c .before .before .before .before .before .before .before)) (c .accepted2 .given .0 .0) (is-read c)
+
+accept-requires : tie.Need-accept-requires
+accept-requires c κs = search needs
+
+enum-known-accepted : tie.Need-enum-known-accepted
+enum-known-accepted c = search needs
+
+enum-known-accepted-2 : tie.Need-enum-known-accepted-2
+enum-known-accepted-2 c = search needs
+
+cast-source : tie.Need-cast-source
+cast-source c = omega (arith, known (c .before) .source)
+
+mul-end : tie.Need-mul-end
+mul-end c = omega (arith, known (c .before) .tokens)
+
+add-end : tie.Need-add-end
+add-end c = omega (arith, known (c .before) .tokens)
+
+slice-relend-prefix-part : tie.Need-slice-relend-prefix-part
+slice-relend-prefix-part c = known (c .before) .work
+
+slice-aggregate-part : tie.Need-slice-aggregate-part
+slice-aggregate-part c = sym (can-read (c .before .before) .words)
+
+read-requires : tie.Need-read-requires
+read-requires c κs = can-read (c .before .before .before .before)
+
+clear-requires : tie.Need-clear-requires
+clear-requires c κs = search needs
+
+returns : tie.Need-returns
+returns c =
+    let told = c .before .accepted .given in
+    refused-meets (the-call (c .before .before .before .before .before .before .before .before)) (told .0 .0) (told .0 .1 .0) (sym (told .1) ∙ c .before .before .before .accept .ensures)
+
+same-length : tie.Need-same-length
+same-length c = search needs
+
+same-length-2 : tie.Need-same-length-2
+same-length-2 c = search needs
+
+same-length-3 : tie.Need-same-length-3
+same-length-3 c = search needs
+
+returns-2 : tie.Need-returns-2
+returns-2 c =
+    let checks = c .before .before .before .before .before .before .before .before .before .before .before .before .before .before .before in
+    let start = checks .before .before .before .before .before .before .before in
+    let n = checks .accepted2 .given .0 .0 in
+    let r = c .before .before .before .before .before .before .before .before .before .before .read in
+    let clear = c .before .before .clear in
+    let long = part-long (r .last .1 .1 .1 .0) (start .args .work .now) (64 * n + 64) (known checks .work) (r .kept .1 .1 .1 .0) in
+    read-meets (the-call start) n (r .result) (r .last .1 .0) (r .last .1 .1 .0) (clear .last .0) (is-read checks)
+    (rw (toZ-ofZ (start .fits .version)) at (r .ensures)) (clear .ensures ∙ ap (λ (j : ℕ). replicate j 0) long)
+
+pub parse-spec : {M : Type 1} → statement M
+parse-spec =
+    tie.close
+    (tie.spec
+    accept-requires
+    enum-known-accepted
+    enum-known-accepted-2
+    cast-source
+    mul-end
+    add-end
+    slice-relend-prefix-part
+    slice-aggregate-part
+    read-requires
+    clear-requires
+    returns
+    same-length
+    same-length-2
+    same-length-3
+    returns-2)

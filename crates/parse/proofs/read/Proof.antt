@@ -1,0 +1,69 @@
+-- `parse::read` meets its contract: loaded, grouped by the effective version's rules, and laid out in the caller's buffers. Assumes nothing.
+use borrow.Author.Needs.{needs}
+use mathlib.Core.Path.{ap, _∙_}
+use mir.Facts.{toZ-ofZ}
+use mir.Syntax.{w16}
+use mir.Val.{toZ, ofZ}
+use Rattle.molang.specs.Order.{effective}
+use Rattle.parse.proofs.EntryLaws.{read-load, read-group, read-fill, read-done}
+use Rattle.parse.proofs.read.Statement.{statement}
+use Rattle.parse.proofs.read.Tie as tie
+
+load-requires : tie.Need-load-requires
+load-requires c κs = read-load (c .before .before .before .before .before .pre)
+
+stack-of-requires : tie.Need-stack-of-requires
+stack-of-requires c κs = search needs
+
+effective-requires : tie.Need-effective-requires
+effective-requires c κs = search needs
+
+group-requires : tie.Need-group-requires
+group-requires c κs =
+    let start = c .before .before .before .before .before .before .before .before .before .before .before in
+    let load = c .before .before .before .before .before .load in
+    let stack = c .before .stack-of in
+    read-group (start .pre) (load .last .1 .0) (load .ensures) (stack .result) (stack .ensures)
+
+fill-requires : tie.Need-fill-requires
+fill-requires c κs =
+    let start = c .before .before .before .before .before .before .before .before .before .before .before .before .before .before .before .before .before in
+    let load = c .before .before .before .before .before .before .before .before .before .before .before .load in
+    let stack = c .before .before .before .before .before .before .before .stack-of in
+    let group = c .before .before .before .before .before .group in
+    read-fill (start .pre) (load .last .1 .0) (load .ensures) (stack .result) (stack .ensures) (start .args .used) (start .args .version) (toZ w16 (ofZ w16 (c .before .before .before .before .before .before .effective .result))) (group .result) (group .last .0) (group .ensures) (start .args .source)
+
+same-length : tie.Need-same-length
+same-length c = search needs
+
+same-length-2 : tie.Need-same-length-2
+same-length-2 c = search needs
+
+same-length-3 : tie.Need-same-length-3
+same-length-3 c = search needs
+
+returns : tie.Need-returns
+returns c =
+    let start = c .before .before .before .before .before .before .before .before .before .before .before .before .before .before .before .before .before .before .before .before .before .before .before .before in
+    let load = c .before .before .before .before .before .before .before .before .before .before .before .before .before .before .before .before .before .before .load in
+    let stack = c .before .before .before .before .before .before .before .before .before .before .before .before .before .before .stack-of in
+    let version = c .before .before .before .before .before .before .before .before .before .before .before .before .before .effective in
+    let group = c .before .before .before .before .before .before .before .before .before .before .before .before .group in
+    let fill = c .before .before .before .before .before .before .fill in
+    read-done (start .pre) (load .last .1 .0) (load .ensures) (stack .result) (stack .ensures) (start .args .used) (start .args .version) (toZ w16 (ofZ w16 (version .result))) (group .result) (group .last .0) (group .ensures) (start .args .source)
+    (fill .result) (fill .last .1 .0) (fill .last .1 .1 .0)
+    (toZ-ofZ (record { sfits = version .ok }) ∙ (version .ensures ∙ ap effective (toZ-ofZ (start .fits .version)))) (fill .ensures)
+
+pub read-spec : {M : Type 1} → statement M
+read-spec =
+    tie.close
+    (tie.spec
+    load-requires
+    stack-of-requires
+    effective-requires
+    group-requires
+    fill-requires
+    same-length
+    same-length-2
+    same-length-3
+    returns)
