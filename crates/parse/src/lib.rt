@@ -2,7 +2,7 @@
 // filling of the caller's buffers are functions of their own. Leans on checks, passes, buffers, nodes, ops and words.
 pub mod report;
 
-use crate::stub_group::group;
+use passes::group::group;
 use buffers::emit::clear;
 use buffers::emit::lay_out;
 use buffers::load::load;
