@@ -12,7 +12,7 @@ use base.Fml.{Lft, Fml}
 use prog.Wp.{Heap, Env, Calls, Loops}
 use ghost.Atoms.{Atoms, sem}
 use contract.Lifetimes.{Lfts}
-use types.Kit.{Given, Item, Post, lands, Seq, Step, step, ‵, _⊛_, given, _$_, _∵_, !, qed, move, drop, use1, split, learn, fsplit, fjoin, frame, done}
+use types.Kit.{Given, Item, Post, lands, Seq, Step, step, ‵, _⊛_, given, _$_, _∵_, !, qed, move, drop, use1, split, learn, fjoin, frame, done}
 use denote.RattleType.{RattleType, owns}
 use denote.Laws.{Is}
 use denote.Plain.{uint-makes}

@@ -8,7 +8,7 @@ use Rattle.words.specs.Fields.{operatorOf}
 use Rattle.write.specs.declared.reader.TreeReader.{TreeReader}
 use Rattle.write.specs.declared.reader.NodeView.{NodeView}
 
--- The operator and the child count of the node that starts at a word; no words past the last are 0.
+-- The operator and the child count of the node that starts at a word; a word past the last reads as 0.
 abbrev pub operatorAt : List ℕ → ℕ → ℕ
 operatorAt words at = operatorOf (getD words at 0)
 

@@ -2,7 +2,7 @@
 -- holds and the place six words on, which no word count wraps. The reader is Copy: what it owns is had twice, one copy is kept whole for the
 -- exit, and the other, with the facts of the new place, is what the result owns. Assumes nothing.
 use mathlib.Core.Path.{refl}
-use Prim.Native.Nat.{ℕ, _+_, _≤_, _<_, _^_}
+use Prim.Native.Nat.{_+_, _≤_, _<_, _^_}
 use mathlib.Core.List.{[], _∷_}
 use lib.Dec.{T as Holds}
 use lib.ListN.{length}
