@@ -32,6 +32,17 @@ extern "C" {
 #define SORBRUDDER_MESSAGE_BUFFER 16
 #define SORBRUDDER_WORK_BUFFER(n) (64 * (size_t)(n) + 64)
 
+/* Reads the list of tokens whose words are `list`, five words each, at a pack's declared version, under the operator set in two halves of 64 bits
+ * (operator 0 is the lowest bit of `used_low`), over a source of that length.
+ * Done: the number of nodes; the tree's words, six a node, fill the front of `tree`. Messages: their number, one or two; their words, eight a
+ * message, fill the front of `messages`. The words after them, and the other of the two buffers, stay as they were; `work` is all zero.
+ * Refused, every buffer unchanged: 1 words that are no multiple of five, 2 more than 4,096 tokens, 3 the tree buffer, 4 the message buffer or
+ * 5 the work buffer is too short, 6 an operator that there is not, 7 a source above 536,870,911, and at a word of the list (place: the word)
+ * 8 another kind, 9 an operator above 110, 10 a payload variant above 12, 11 another bit. */
+uint64_t sorbrudder_parse(const uint32_t *list, size_t list_words, uint32_t *tree, size_t tree_words, uint32_t *messages,
+                          size_t message_words, uint32_t *work, size_t work_words, uint64_t source_length, int16_t version,
+                          uint64_t used_low, uint64_t used_high);
+
 /* Writes the plain tree whose words are `tree` as a list of tokens into the front of `list`; the words after it stay as they were.
  * Done: the number of tokens, five words each. Refused, the list unchanged: 12 not one tree (place: the word), 13 a node that is not plain
  * (place: its number in tree order), 14 more than 4,096 tokens, 15 the list is too short. */

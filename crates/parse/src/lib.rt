@@ -2,7 +2,6 @@
 // filling of the caller's buffers are functions of their own. Leans on checks, passes, buffers, nodes, ops and words.
 pub mod report;
 
-use passes::group::group;
 use buffers::emit::clear;
 use buffers::emit::lay_out;
 use buffers::load::load;
@@ -14,6 +13,7 @@ use nodes::slots;
 use nodes::slots::ROOT;
 use ops::effective;
 use ops::sets::OpSet;
+use passes::group::group;
 use walks::grouped::Grouped;
 ghost use mathlib.Core.Path.{_≡_};
 ghost use Rattle.molang.specs.Parse.{answered, treeAfter, messagesAfter, workAfter};

@@ -1,15 +1,23 @@
 // The exports of the library, by the C convention: word slices as pointer and length, numbers as themselves, an answer as one number
-// (specs/Numbers; include/sorbrudder.h takes it apart). Leans on write.
+// (specs/Numbers; include/sorbrudder.h takes it apart). Leans on parse and write.
+use parse::Answer;
+use parse::parse;
 use write::Written;
 use write::write;
 ghost use mathlib.Core.Path.{_≡_};
 ghost use Prim.Native.Nat.{_<_, _^_};
+ghost use Rattle.molang.specs.Parse.{answered, treeAfter, messagesAfter, workAfter};
 ghost use Rattle.molang.specs.WriteEntry.{writeAnswered, listAfter};
+ghost use Rattle.parse.specs.Answers.{toldOf, call as parseCall};
 ghost use Rattle.write.specs.Answers.{told, call};
-ghost use Rattle.sorbrudder.specs.Numbers.{packed, writeNumber, FitsWritten};
+ghost use Rattle.sorbrudder.specs.Numbers.{packed, toldNumber, writeNumber, FitsTold, FitsWritten};
 
-// A refusal: its kind in bits 40-47, its number from bit 32 on.
+// The kinds of an answer, in bits 40-47.
+const MESSAGES: u64 = 0x100_0000_0000;
+
 const REFUSED: u64 = 0x200_0000_0000;
+
+// A refusal's number stands from bit 32 on.
 
 const NUMBER: u64 = 0x1_0000_0000;
 
@@ -19,6 +27,48 @@ fn refusal(number: u32, place: usize) -> u64
     ensures { λ r. ⌜ r ≡ packed 2 number place ⌝ }
 {
     REFUSED + (number as u64) * NUMBER + (place as u64)
+}
+
+// The parse entry's answer as one number.
+fn parsed_number(answer: Answer) -> u64
+    requires { ⌜ FitsTold (toldOf answer) ⌝ }
+    ensures { λ r. ⌜ r ≡ toldNumber (toldOf answer) ⌝ }
+{
+    match answer {
+        Answer::Tree(nodes) => nodes as u64,
+        Answer::Messages(records) => MESSAGES + (records as u64),
+        Answer::Refused(number, place) => refusal(number, place),
+    }
+}
+
+// Reads a list: `parse`, with its answer as one number.
+#[no_mangle]
+pub extern "C" fn sorbrudder_parse(
+    list: &[u32],
+    tree: &mut [u32],
+    messages: &mut [u32],
+    work: &mut [u32],
+    source_length: u64,
+    version: i16,
+    used_low: u64,
+    used_high: u64,
+) -> u64
+    ensures { λ r. ⌜ r ≡ toldNumber (answered (parseCall (now (list .entry)) (now (tree .entry)) (now (messages .entry)) (now (work .entry)) «source_length» version «used_low» «used_high»)) ⌝ }
+    ensures { λ _. ⌜ now (tree .exit) ≡ treeAfter (parseCall (now (list .entry)) (now (tree .entry)) (now (messages .entry)) (now (work .entry)) «source_length» version «used_low» «used_high») ⌝ }
+    ensures { λ _. ⌜ now (messages .exit) ≡ messagesAfter (parseCall (now (list .entry)) (now (tree .entry)) (now (messages .entry)) (now (work .entry)) «source_length» version «used_low» «used_high») ⌝ }
+    ensures { λ _. ⌜ now (work .exit) ≡ workAfter (parseCall (now (list .entry)) (now (tree .entry)) (now (messages .entry)) (now (work .entry)) «source_length» version «used_low» «used_high») ⌝ }
+{
+    let answer = parse(
+        list,
+        tree,
+        messages,
+        work,
+        source_length,
+        version,
+        used_low,
+        used_high,
+    );
+    parsed_number(answer)
 }
 
 // The write entry's answer as one number.
