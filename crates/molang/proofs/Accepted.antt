@@ -38,10 +38,14 @@ all-none : firstOf [] ≡ none
 unfolding firstOf
 all-none = refl
 
--- WHAT AN ACCEPTED CALL'S LIST IS: at most 4,096 legal tokens.
+-- WHAT AN ACCEPTED CALL'S LIST IS, at most 4,096 legal tokens, and what else it brings.
 pub record Accepted (c : Call) : Type 0 where
   pub legal : LegalTokens (tokensOf (c .list))
   pub few : length (tokensOf (c .list)) ≤ mostTokens
+  pub tree : 18 * (length (c .list) / 5) ≤ length (c .tree)
+  pub messages : 16 ≤ length (c .messages)
+  pub work : 64 * (length (c .list) / 5) + 64 ≤ length (c .work)
+  pub sourceLength : c .sourceLength ≤ 536870911
 
 pub call-accepted : (c : Call) → refusal c ≡ none → Accepted c
 unfolding refusal
@@ -58,7 +62,14 @@ call-accepted c h =
     let back = words-back 0 0 (c .list) (first-none _ _ (seven .1) .0) whole in
     let long = listWords-length (tokensOf (c .list)) in
     let same = ap length (back .0) in
-    record { legal = back .1; few = omega arith }
+    record {
+      legal = back .1;
+      few = omega arith;
+      tree = leb-true _ _ (must-none _ 3 (three .0));
+      messages = leb-true _ _ (must-none _ 4 (four .0));
+      work = leb-true _ _ (must-none _ 5 (five .0));
+      sourceLength = leb-true _ _ (must-none _ 7 (seven .0));
+    }
 
 -- What a call needs not to be turned back, whatever its version: n legal tokens, and room for them by the table.
 pub record Acceptable (d : Call) (ks : List Token) : Type 0 where

@@ -14,12 +14,13 @@ use Rattle.molang.specs.Words.{tokensOf, listWords, treeWords}
 use Rattle.molang.specs.Parse.{Call, inHalves, mostTokens, reading, aTree, answered, treeAfter}
 use Rattle.molang.specs.Plain.{unplainAt}
 use Rattle.molang.specs.Write.{written, takenAway}
+use Rattle.molang.specs.Reread.{bracketless, HandedOn, ReadAgain}
 use Rattle.molang.specs.WriteEntry.{WriteCall, writeRefusal, tokens, writeAnswered, listAfter}
 use Rattle.molang.proofs.Words.{LegalTokens, tokens-back}
 use Rattle.molang.proofs.ListWords.{uses-legal}
 use Rattle.molang.proofs.UsedSet.{used-few, halves}
 use Rattle.molang.proofs.Accepted.{Acceptable, call-acceptable}
-use Rattle.molang.proofs.HandedTree.{Parsed, bracketless, tree-front, tree-told, front-bracketless, tree-written-legal, writer-tells, write-done, TreeTold, tree-of-told, write-of-told}
+use Rattle.molang.proofs.HandedTree.{Parsed, tree-front, tree-told, front-bracketless, tree-written-legal, writer-tells, write-done, TreeTold, tree-of-told, write-of-told}
 use Rattle.molang.proofs.RoundTrip.{round-trip}
 
 -- THE THREE CALLS, the first of which reads the tree k over cs; nobody else writes the tree buffer or the list in between.
@@ -99,24 +100,7 @@ three-calls first write second k cs t =
       words = ap treeWords (again .agrees);
     }
 
--- THE SAME AS THE CALLER SEES IT. The first call answers a tree of `nodes` nodes; the writer gets their words and answers `count` tokens; the
--- second call gets the words of those and no other, with exactly their operators.
-pub record HandedOn (first : Call) (write : WriteCall) (second : Call) (nodes count : ℕ) : Type 0 where
-  pub parsed : answered first ≡ aTree nodes
-  pub treeHanded : write .tree ≡ take (6 * nodes) (treeAfter first)
-  pub wrote : writeAnswered write ≡ tokens count
-  pub listHanded : second .list ≡ take (5 * count) (listAfter write)
-  pub usedExactly : (m : ℕ) → inHalves (second .usedLow) (second .usedHigh) m ≡ uses (tokensOf (second .list)) m
-  pub treeRoom : 18 * count ≤ length (second .tree)
-  pub messageRoom : 16 ≤ length (second .messages)
-  pub workRoom : 64 * count + 64 ≤ length (second .work)
-  pub legalLength : second .sourceLength ≤ 536870911
-
--- The second call answers a tree too, and what is left of the words of the two without brackets is the same.
-pub record ReadAgain (first second : Call) (nodes : ℕ) : Type 0 where
-  pub again : ℕ
-  pub parsed : answered second ≡ aTree again
-  pub words : bracketless (take (6 * again) (treeAfter second)) ≡ bracketless (take (6 * nodes) (treeAfter first))
+-- THE SAME AS THE CALLER SEES IT (`specs/Reread`).
 
 -- Such calls are three calls on the tree that the first has read; and what comes of them is seen in the buffers.
 module _ (first : Call) (write : WriteCall) (second : Call) (nodes count : ℕ) (h : HandedOn first write second nodes count) where

@@ -14,6 +14,7 @@ use Rattle.molang.specs.Forest.{Token, Forest, nil, node, size}
 use Rattle.molang.specs.Read.{Answer, tree, messages}
 use Rattle.molang.specs.Words.{Refusal, operatorSlot, listWords, treeWords}
 use Rattle.molang.specs.Parse.{Call, mostTokens, must, refusal, reading, aTree, told, answered, inFront, treeIn, treeAfter}
+use Rattle.molang.specs.Reread.{bracketless}
 use Rattle.molang.specs.Plain.{unplainAt}
 use Rattle.molang.specs.Write.{written, writtenCount, takenAway}
 use Rattle.molang.specs.WriteEntry.{treeFault, treesOf, WriteCall, refusedAt, orElse, forestRefusal, writeRefusal, writtenTokens, tokens, unwritten, writeTold, writeAnswered, listIn, listAfter}
@@ -29,10 +30,6 @@ use Rattle.molang.proofs.Accepted.{must-none, call-accepted}
 pub record Parsed (c : Call) (k : Token) (cs : Forest) : Type 0 where
   pub accepted : refusal c ≡ none
   pub reads : reading c ≡ tree k cs
-
--- A tree's words with its brackets taken away.
-unfoldable pub bracketless : List ℕ → List ℕ
-bracketless ws = treeWords (takenAway false (treesOf ws) nil)
 
 -- The words in front of a buffer are found there.
 front-words : (ws buffer : List ℕ) (n : ℕ) → length ws ≡ n → take n (inFront ws buffer) ≡ ws

@@ -32,3 +32,4 @@ pub mod UsedSet
 pub mod Accepted
 pub mod HandedTree
 pub mod Entries
+pub mod Reread

@@ -15,4 +15,5 @@ pub mod Parse
 pub mod Plain
 pub mod Write
 pub mod WriteEntry
+pub mod Reread
 pub mod Lines
