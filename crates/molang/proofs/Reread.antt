@@ -163,23 +163,26 @@ no-second t trees messages nodes count (aTree again) h e = trees nodes count aga
 no-second t trees messages nodes count (someMessages n) h e = messages n e
 no-second t trees messages nodes count (refused n p) h e = h n p refl
 
+-- Two of the cases are never the same.
 differ : {t u : RereadTold} → (t ≡ u → _≡_ {A = ℕ} 0 1) → t ≡ u → ⊥
 differ f e = let z = f e in omega arith
+
+-- A call that is turned back before the second stops there.
+back-stops : (c : Rereading) (call number place : ℕ) → rereadTold c ≡ turnedBack call number place → Came c
+back-stops c call number place said =
+    stopped
+    (no-second (rereadTold c) (λ a b d q. differ {u = twoTrees a b d} (λ r. cc) q) (λ a q. differ {u = secondMessages a} (λ r. cc) q))
 
 came : (c : Rereading) → Came c
 unfolding rereadTold firstTold wroteTold
 came c = first (answered (c .first)) refl
   where
     write : (n : ℕ) → answered (c .first) ≡ aTree n → (o : WriteTold) → toldWriting c n ≡ o → Came c
-    write n parsed (unwritten m p) e =
-        let said : rereadTold c ≡ turnedBack 2 m p = rw (parsed, e) refl in
-        stopped (no-second (rereadTold c) (λ a b d q. differ {u = twoTrees a b d} (λ r. cc) q) (λ a q. differ {u = secondMessages a} (λ r. cc) q))
+    write n parsed (unwritten m p) e = back-stops c 2 m p (rw (parsed, e) refl)
     write n parsed (tokens k) e = made n k parsed e
 
     first : (o : Told) → answered (c .first) ≡ o → Came c
-    first (refused m p) e =
-        let said : rereadTold c ≡ turnedBack 1 m p = rw e refl in
-        stopped (no-second (rereadTold c) (λ a b d q. differ {u = twoTrees a b d} (λ r. cc) q) (λ a q. differ {u = secondMessages a} (λ r. cc) q))
+    first (refused m p) e = back-stops c 1 m p (rw e refl)
     first (someMessages m) e =
         let said : rereadTold c ≡ firstMessages m = rw e refl in
         stopped (no-second (rereadTold c) (λ a b d q. differ {u = twoTrees a b d} (λ r. cc) q) (λ a q. differ {u = secondMessages a} (λ r. cc) q))
