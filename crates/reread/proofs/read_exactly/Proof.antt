@@ -1,0 +1,37 @@
+-- `reread::read_exactly` meets its contract: the call's two halves are the list's own operators. Assumes nothing.
+use Rattle.reread.proofs.CallLaws.{exact-call, has-read}
+use borrow.Author.Needs.{needs}
+use mir.Facts.{toZ-ofZ}
+use Rattle.reread.proofs.read_exactly.Statement.{statement}
+use Rattle.reread.proofs.read_exactly.Tie as tie
+
+used-of-requires : tie.Need-used-of-requires
+used-of-requires c κs = search needs
+
+parse-requires : tie.Need-parse-requires
+parse-requires c κs = search needs
+
+same-length : tie.Need-same-length
+same-length c = search needs
+
+same-length-2 : tie.Need-same-length-2
+same-length-2 c = search needs
+
+same-length-3 : tie.Need-same-length-3
+same-length-3 c = search needs
+
+returns : tie.Need-returns
+returns c =
+    let start = c .before .before .before .before .before .before .before .before .before .before .before .before .before .before .before in
+    let a = start .args in
+    let used = c .before .before .before .before .before .before .before .before .before .before .used-of in
+    let read = c .before .before .before .before .before .before .parse .ensures in
+    has-read
+    (exact-call (a .list .now) (start .pre) (used .result .low) (used .result .high) (search needs) (used .ensures) (a .tree .now) (a .messages .now)
+    (a .work .now) (a .source-length) (toZ-ofZ (start .fits .version)))
+    (read .0) (read .1 .0) (read .1 .1 .0) (read .1 .1 .1)
+
+pub read-exactly-spec : {M : Type 1} → statement M
+read-exactly-spec =
+    tie.close
+    (tie.spec used-of-requires parse-requires same-length same-length-2 same-length-3 returns)

@@ -1,0 +1,146 @@
+// Demand 3 as a function: reads a list, writes the tree it gives, and reads exactly the tokens written again, at any version and with
+// their own operators. Leans on parse, write and exact; the definition is `Reread` of molang's specs.
+use exact::used_of;
+use parse::Answer;
+use parse::parse;
+use words::fields;
+use write::Written;
+use write::write;
+ghost use mathlib.Core.Path.{_≡_};
+ghost use Rattle.molang.specs.Reread.{exactCall, secondTold};
+ghost use Rattle.parse.specs.Answers.{toldOf, call};
+ghost use Rattle.reread.specs.Answers.{rereadOf, handedOf, rereading};
+ghost use Rattle.reread.specs.Promises.{CanRead, HasRead, CanWrite, HasWritten, HasReread};
+
+// What the three calls come to.
+pub enum Outcome {
+    // Both readings gave a tree: the nodes of the first, the tokens written, the nodes of the second.
+    Trees(usize, usize, usize),
+    // The first reading gave so many messages.
+    Messages(usize),
+    // The second did: never given (molang's `never-messages`).
+    MessagesAgain(usize),
+    // The call that was turned back, 1, 2 or 3, with the refusal's number and place.
+    Refused(u32, u32, usize),
+}
+
+// The calls by number.
+pub const FIRST: u32 = 1;
+
+pub const WRITE: u32 = 2;
+
+pub const SECOND: u32 = 3;
+
+// Reads a list with exactly its own operators.
+fn read_exactly(
+    list: &[u32],
+    tree: &mut [u32],
+    messages: &mut [u32],
+    work: &mut [u32],
+    source_length: u64,
+    version: i16,
+) -> Answer
+    requires { ⌜ CanRead (now list) ⌝ }
+    ensures { λ r. ⌜ HasRead (exactCall (now (list .entry)) (now (tree .entry)) (now (messages .entry)) (now (work .entry)) «source_length» version) r (now (tree .exit)) (now (messages .exit)) (now (work .exit)) ⌝ }
+{
+    let used = used_of(list);
+    parse(
+        list,
+        tree,
+        messages,
+        work,
+        source_length,
+        version,
+        used.low,
+        used.high,
+    )
+}
+
+// What the second reading's answer comes to, after a tree of so many nodes and a list of so many tokens.
+fn after_second(nodes: usize, count: usize, second: Answer) -> Outcome
+    ensures { λ r. ⌜ rereadOf r ≡ secondTold nodes count (toldOf second) ⌝ }
+{
+    match second {
+        Answer::Tree(again) => Outcome::Trees(nodes, count, again),
+        Answer::Messages(records) => Outcome::MessagesAgain(records),
+        Answer::Refused(number, place) => Outcome::Refused(SECOND, number, place),
+    }
+}
+
+// Writes the tree of so many nodes that a reading gave, and reads what was written.
+fn write_and_read(
+    tree: &[u32],
+    written: &mut [u32],
+    again: &mut [u32],
+    messages: &mut [u32],
+    work: &mut [u32],
+    nodes: usize,
+    source_length: u64,
+    version: i16,
+) -> Outcome
+    requires { ⌜ CanWrite (now tree) nodes ⌝ }
+    ensures { λ r. ⌜ HasWritten (handedOf (now (tree .entry)) (now (written .entry)) (now (again .entry)) (now (messages .entry)) (now (work .entry)) «source_length» version) nodes r (now (written .exit)) (now (again .exit)) (now (messages .exit)) (now (work .exit)) ⌝ }
+{
+    let wrote = write(tree, written);
+    match wrote {
+        Written::Refused(number, place) => Outcome::Refused(WRITE, number, place),
+        Written::Tokens(count) => {
+            let end = fields::TOKEN_WORDS * count;
+            let second = read_exactly(
+                &written[..end],
+                again,
+                messages,
+                work,
+                source_length,
+                version,
+            );
+            after_second(nodes, count, second)
+        }
+    }
+}
+
+// The three calls over lent buffers. The messages and the work buffer serve both readings.
+pub fn reread(
+    list: &[u32],
+    tree: &mut [u32],
+    written: &mut [u32],
+    again: &mut [u32],
+    messages: &mut [u32],
+    work: &mut [u32],
+    source_length: u64,
+    version: i16,
+    used_low: u64,
+    used_high: u64,
+    source_length_again: u64,
+    version_again: i16,
+) -> Outcome
+    ensures { λ r. ⌜ HasReread (rereading (call (now (list .entry)) (now (tree .entry)) (now (messages .entry)) (now (work .entry)) «source_length» version «used_low» «used_high») (now (written .entry)) (now (again .entry)) «source_length_again» «version_again») r (now (tree .exit)) (now (written .exit)) (now (again .exit)) (now (messages .exit)) (now (work .exit)) ⌝ }
+{
+    let first = parse(
+        list,
+        tree,
+        messages,
+        work,
+        source_length,
+        version,
+        used_low,
+        used_high,
+    );
+    match first {
+        Answer::Refused(number, place) => Outcome::Refused(FIRST, number, place),
+        Answer::Messages(records) => Outcome::Messages(records),
+        Answer::Tree(nodes) => {
+            let end = fields::NODE_WORDS * nodes;
+            write_and_read(
+                &tree[..end],
+                written,
+                again,
+                messages,
+                work,
+                nodes,
+                source_length_again,
+                version_again,
+            )
+        }
+    }
+}
