@@ -1,0 +1,53 @@
+-- The words of bytes, one by one.
+use Prim.Native.Nat.{ℕ, zero, suc, _+_, _*_, _^_, _≤_, _<_}
+use mathlib.Core.Path.{_≡_, refl, ap, sym, _∙_}
+use mathlib.Core.List.{List, [], _∷_, _++_}
+use native.Mathlib.Numerals.{add-one}
+use native.Mathlib.Omega.{arith}
+use lib.ListN.{length, take, set, getD}
+use lib.Seq.{take-suc, take-suc-set, take-all}
+use Rattle.treelist.specs.Listing.{wordsIn}
+
+-- The word of the four bytes from a place on.
+abbrev wordAt : List ℕ → ℕ → ℕ
+wordAt bytes at = getD bytes at 0 + 2 ^ 8 * getD bytes (at + 1) 0 + 2 ^ 16 * getD bytes (at + 2) 0 + 2 ^ 24 * getD bytes (at + 3) 0
+
+pub words-length : (n : ℕ) (bytes : List ℕ) → length bytes ≡ 4 * n → length (wordsIn bytes) ≡ n
+unfolding wordsIn
+words-length zero [] h = refl
+words-length zero (a ∷ bytes) h = absurd (omega arith)
+words-length (suc n) [] h = absurd (omega arith)
+words-length (suc n) (a ∷ []) h = absurd (omega arith)
+words-length (suc n) (a ∷ b ∷ []) h = absurd (omega arith)
+words-length (suc n) (a ∷ b ∷ c ∷ []) h = absurd (omega arith)
+words-length (suc n) (a ∷ b ∷ c ∷ d ∷ bytes) h = ap suc (words-length n bytes (omega arith))
+
+words-at : (i : ℕ) (bytes : List ℕ) → 4 * i + 4 ≤ length bytes → getD (wordsIn bytes) i 0 ≡ wordAt bytes (4 * i)
+unfolding wordsIn
+words-at i [] h = absurd (omega arith)
+words-at i (a ∷ []) h = absurd (omega arith)
+words-at i (a ∷ b ∷ []) h = absurd (omega arith)
+words-at i (a ∷ b ∷ c ∷ []) h = absurd (omega arith)
+words-at zero (a ∷ b ∷ c ∷ d ∷ bytes) h = refl
+words-at (suc i) (a ∷ b ∷ c ∷ d ∷ bytes) h =
+    let on : 4 * suc i ≡ suc (suc (suc (suc (4 * i)))) = omega arith in
+    let second : 4 * suc i + 1 ≡ suc (suc (suc (suc (4 * i + 1)))) = omega arith in
+    let third : 4 * suc i + 2 ≡ suc (suc (suc (suc (4 * i + 2)))) = omega arith in
+    let fourth : 4 * suc i + 3 ≡ suc (suc (suc (suc (4 * i + 3)))) = omega arith in
+    rw (second, third, fourth, on) (words-at i bytes (omega arith))
+
+-- One word more, and all.
+pub words-on : (front words : List ℕ) (i w : ℕ) → length front ≡ 2564 → length words ≡ 641 → i < 641 → take i words ≡ take i (wordsIn front)
+    → w ≡ wordAt front (4 * i)
+    → take (i + 1) (set words i w) ≡ take (i + 1) (wordsIn front)
+words-on front words i w size room h e at =
+    rw add-one
+    (take-suc-set words i w (omega arith)
+    ∙ ap (λ (l : List ℕ). l ++ (w ∷ [])) e
+    ∙ ap (λ (v : ℕ). take i (wordsIn front) ++ (v ∷ [])) (at ∙ sym (words-at i front (omega arith)))
+    ∙ sym (take-suc (wordsIn front) i 0 (omega (arith, words-length 641 front size))))
+
+pub words-all : (front words : List ℕ) (i : ℕ) → length front ≡ 2564 → length words ≡ 641 → 641 ≤ i → take i words ≡ take i (wordsIn front)
+    → words ≡ wordsIn front
+words-all front words i size room h e =
+    sym (take-all i words (omega arith)) ∙ e ∙ take-all i (wordsIn front) (omega (arith, words-length 641 front size))

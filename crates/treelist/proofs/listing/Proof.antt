@@ -1,0 +1,65 @@
+-- `treelist::listing` meets its contract: the words of the bytes, the answer to them, its text. Assumes nothing.
+use mathlib.Core.Path.{_≡_, sym, _∙_}
+use lib.ListN.{length}
+use lib.Seq.{length-take-le}
+use Rattle.treelist.proofs.AskedLaws.{printable, listed}
+use borrow.Author.Needs.{needs}
+use Rattle.treelist.proofs.listing.Statement.{statement}
+use Rattle.treelist.proofs.listing.Tie as tie
+
+words-of-requires : tie.Need-words-of-requires
+words-of-requires c κs = search needs
+
+slice-aggregate-answer : tie.Need-slice-aggregate-answer
+slice-aggregate-answer c = search needs
+
+slice-aggregate-answer-2 : tie.Need-slice-aggregate-answer-2
+slice-aggregate-answer-2 c = search needs
+
+slice-aggregate-answer-3 : tie.Need-slice-aggregate-answer-3
+slice-aggregate-answer-3 c = search needs
+
+answer-requires : tie.Need-answer-requires
+answer-requires c κs = search needs
+
+slice-aggregate-put-answer : tie.Need-slice-aggregate-put-answer
+slice-aggregate-put-answer c = search needs
+
+slice-aggregate-put-answer-2 : tie.Need-slice-aggregate-put-answer-2
+slice-aggregate-put-answer-2 c = search needs
+
+put-answer-requires : tie.Need-put-answer-requires
+put-answer-requires c κs =
+    let words = c .before .before .before .before .before .before .before .before .before .words-of .result in
+    let size : length words ≡ 641 = search needs in
+    let answered = c .before .before .before .before .before .answer .ensures .0 in
+    (search needs, rw answered (printable (c .before .before .before .before .before .before .before .before .before .before .before .before .args .bytes) words size))
+
+same-length : tie.Need-same-length
+same-length c = search needs
+
+returns : tie.Need-returns
+returns c =
+    let start = c .before .before .before .before .before .before .before .before .before .before .before .before .before .before .before in
+    let answered = c .before .before .before .before .before .before .before .before .answer .ensures in
+    let put = c .before .before .put-answer .ensures in (
+      (put .0, sym (length-take-le _ _ (put .0))),
+      put .1
+          ∙ listed (start .args .bytes) (start .args .front .now) (c .before .before .before .before .before .before .before .before .before .before .before .before .words-of .result) _ _ _ (c .before .before .before .before .before .before .before .before .before .before .before .before .words-of .ensures) (answered .0) (answered .1 .0)
+          (answered .1 .1),
+    )
+
+pub listing-spec : {M : Type 1} → statement M
+listing-spec =
+    tie.close
+    (tie.spec
+    words-of-requires
+    slice-aggregate-answer
+    slice-aggregate-answer-2
+    slice-aggregate-answer-3
+    answer-requires
+    slice-aggregate-put-answer
+    slice-aggregate-put-answer-2
+    put-answer-requires
+    same-length
+    returns)

@@ -1,0 +1,81 @@
+-- The program `treelist` (document 01, end of 'Lists and their trees'): what it prints for an input, by the count of its bytes and its front.
+use Prim.Native.Nat.{ℕ, _+_, _-_, _*_, _/_, _%_, _^_, _≤_, _<_}
+use mathlib.Core.Path.{_≡_}
+use mathlib.Core.Bool.{_&&_}
+use mathlib.Core.List.{List, [], _∷_}
+use mathlib.Core.Option.{Option, none, some}
+use lib.Dec.{eqb, leb, ltb}
+use lib.IntN.{ℤ}
+use lib.ListN.{length, take, drop, getD, replicate}
+use Rattle.molang.specs.Words.{Refusal, operatorSlot, wordsRefusal, tokensOf}
+use Rattle.molang.specs.Read.{Answer, read}
+use Rattle.molang.specs.Parse.{Told, told, must, firstOf, treeIn, messagesIn}
+use Rattle.molang.specs.WriteEntry.{orElse}
+use Rattle.molang.specs.Lines.{versionOf}
+use Rattle.exact.specs.Exact.{named, highest}
+use Rattle.treelist.specs.declared.asked.Request.{Request}
+use Rattle.treelist.specs.declared.asked.Request.the-variants.{List as Request·List, Refused}
+use Rattle.treelist.specs.Text.{answerText}
+
+-- The words of bytes, four to a word, the lowest first.
+unfoldable pub wordsIn : List ℕ → List ℕ
+wordsIn [] = []
+wordsIn (a ∷ []) = []
+wordsIn (a ∷ b ∷ []) = []
+wordsIn (a ∷ b ∷ c ∷ []) = []
+wordsIn (a ∷ b ∷ c ∷ d ∷ bytes) = (a + 2 ^ 8 * b + 2 ^ 16 * c + 2 ^ 24 * d) ∷ wordsIn bytes
+
+-- How many words an input of so many bytes has after the first.
+unfoldable pub listLength : ℕ → ℕ
+listLength bytes = bytes / 4 - 1
+
+-- Where the program turns an input back by its count of bytes and its first word, in this order. A word of kind 0 with no bit above the lowest
+-- sixteen is below 2 ^ 16.
+unfoldable pub turnedBack : ℕ → ℕ → Option Refusal
+turnedBack bytes first =
+    firstOf
+    (must (eqb (bytes % 4) 0) 1
+    ∷ must (leb 4 bytes && ltb first (2 ^ 16)) 8
+    ∷ must (eqb (listLength bytes % 5) 0) 1
+    ∷ must (leb (listLength bytes) 640) 2
+    ∷ [])
+
+-- What each case of `Request` says.
+abbrev pub refusalOf : Request → Option Refusal
+refusalOf (Request·List n) = none
+refusalOf (Refused number) = some (record { number = number; place = 0 })
+
+-- The reading of a list at its exact used set, its highest span end being the source length.
+unfoldable pub readingOf : List ℕ → ℤ → Answer
+readingOf list version = read (tokensOf list) (named operatorSlot list) version (highest operatorSlot 0 list)
+
+-- The list of an input whose front is these words.
+unfoldable pub listOf : ℕ → List ℕ → List ℕ
+listOf bytes words = take (listLength bytes) (drop 1 words)
+
+-- Where an input is turned back: by the program, else at the first of its list's words that the entry turns back.
+unfoldable pub faultOf : ℕ → List ℕ → Option Refusal
+faultOf bytes words = orElse (turnedBack bytes (getD words 0 0)) (wordsRefusal 0 operatorSlot 0 (listOf bytes words))
+
+-- What is read of one that is not turned back.
+unfoldable pub answerOf : ℕ → List ℕ → Answer
+answerOf bytes words = readingOf (listOf bytes words) (versionOf (getD words 0 0))
+
+-- WHAT IS PRINTED for an input of so many bytes, the first 2,564 of which are given.
+unfoldable pub printed : ℕ → List ℕ → List ℕ
+printed bytes front =
+    let fault = faultOf bytes (wordsIn front) in
+    let answer = answerOf bytes (wordsIn front) in
+    answerText (told fault answer) (treeIn fault answer (replicate 2304 0)) (messagesIn fault answer (replicate 16 0))
+
+-- What a list that is asked for keeps to.
+abbrev pub Counted : Request → ℕ → ℕ → Type 0
+Counted (Request·List n) bytes first = (n ≡ listLength bytes) × (n ≤ 640) × (n % 5 ≡ 0) × (first < 2 ^ 16)
+Counted (Refused number) bytes first = Unit {0}
+
+-- A list of at most 128 tokens, and buffers that are long enough for it.
+pub record Readable (list tree messages : List ℕ) : Type 0 where
+  pub few : length list ≤ 640
+  pub whole : length list % 5 ≡ 0
+  pub treeRoom : length tree ≡ 2304
+  pub messageRoom : length messages ≡ 16

@@ -1,0 +1,97 @@
+// What an input asks: where the program turns it back, else a list to read. Leans on exact (used set, source length) and parse;
+// specs/Listing has the definition.
+use exact::highest_end;
+use exact::used_of;
+use parse::Answer;
+use parse::parse;
+use words::refusals;
+ghost use mathlib.Core.Path.{_≡_};
+ghost use Prim.Native.Nat.{_+_, _≤_, _<_, _%_, _^_};
+ghost use lib.ListN.{length};
+ghost use Rattle.molang.specs.Words.{operatorSlot, wordsRefusal};
+ghost use Rattle.molang.specs.Parse.{told, treeIn, messagesIn};
+ghost use Rattle.molang.specs.Lines.{versionOf};
+ghost use Rattle.parse.specs.Answers.{toldOf};
+ghost use Rattle.treelist.specs.Listing.{turnedBack, refusalOf, Counted, Readable, readingOf, faultOf, answerOf};
+
+// The most words of a list.
+const MOST_WORDS: usize = 640;
+
+// A list of so many words, or a refusal's number.
+pub enum Request {
+    List(usize),
+    Refused(u32),
+}
+
+// What an input of so many bytes with this first word asks. Where it has no first word, `first` is not looked at.
+fn asked(bytes: usize, first: u32) -> Request
+    ensures { λ r. ⌜ refusalOf r ≡ turnedBack bytes first ⌝ }
+    ensures { λ r. ⌜ Counted r bytes first ⌝ }
+{
+    if bytes % 4 != 0 {
+        return Request::Refused(refusals::LIST_NOT_WHOLE);
+    }
+    if bytes == 0 {
+        return Request::Refused(refusals::WRONG_KIND);
+    }
+    if 65_535 < first {
+        return Request::Refused(refusals::WRONG_KIND);
+    }
+    let words = bytes / 4 - 1;
+    if words % 5 != 0 {
+        return Request::Refused(refusals::LIST_NOT_WHOLE);
+    }
+    if MOST_WORDS < words {
+        return Request::Refused(refusals::TOO_MANY_TOKENS);
+    }
+    Request::List(words)
+}
+
+// Sixteen bits in two's complement.
+fn version_of(bits: u32) -> i16
+    requires { ⌜ bits < 2 ^ 16 ⌝ }
+    ensures { λ r. ⌜ r ≡ versionOf bits ⌝ }
+{
+    if bits < 32_768 {
+        return bits as i16;
+    }
+    let below = (65_535 - bits) as i16;
+    -1 - below
+}
+
+// Reads a list at its exact used set, its highest span end being the source length.
+fn read(list: &[u32], version: i16, tree: &mut [u32], messages: &mut [u32]) -> Answer
+    requires { ⌜ Readable (now list) (now tree) (now messages) ⌝ }
+    ensures { λ r. ⌜ toldOf r ≡ told (wordsRefusal 0 operatorSlot 0 (now (list .entry))) (readingOf (now (list .entry)) version) ⌝ }
+    ensures { λ _. ⌜ now (tree .exit) ≡ treeIn (wordsRefusal 0 operatorSlot 0 (now (list .entry))) (readingOf (now (list .entry)) version) (now (tree .entry)) ⌝ }
+    ensures { λ _. ⌜ now (messages .exit) ≡ messagesIn (wordsRefusal 0 operatorSlot 0 (now (list .entry))) (readingOf (now (list .entry)) version) (now (messages .entry)) ⌝ }
+{
+    let mut work = [0u32; 8256];
+    let used = used_of(list);
+    let source = highest_end(list);
+    parse(
+        list,
+        tree,
+        messages,
+        &mut work,
+        source as u64,
+        version,
+        used.low,
+        used.high,
+    )
+}
+
+// The answer to an input of so many bytes, whose front is these words. A tree or messages are left in their buffers.
+pub fn answer(words: &[u32], bytes: usize, tree: &mut [u32], messages: &mut [u32]) -> Answer
+    requires { ⌜ (length (now words) ≡ 641) × (length (now tree) ≡ 2304) × (length (now messages) ≡ 16) ⌝ }
+    ensures { λ r. ⌜ toldOf r ≡ told (faultOf bytes (now (words .entry))) (answerOf bytes (now (words .entry))) ⌝ }
+    ensures { λ _. ⌜ now (tree .exit) ≡ treeIn (faultOf bytes (now (words .entry))) (answerOf bytes (now (words .entry))) (now (tree .entry)) ⌝ }
+    ensures { λ _. ⌜ now (messages .exit) ≡ messagesIn (faultOf bytes (now (words .entry))) (answerOf bytes (now (words .entry))) (now (messages .entry)) ⌝ }
+{
+    let first = words[0];
+    let wanted = asked(bytes, first);
+    match wanted {
+        Request::Refused(number) => Answer::Refused(number, 0),
+        Request::List(n) => read(&words[1..n + 1], version_of(first), tree, messages),
+    }
+}
