@@ -1,0 +1,75 @@
+-- `lines::run` is safe and ends. Assumes nothing.
+use Prim.Native.Nat.{_-_, _≤_}
+use native.Mathlib.Omega.{arith}
+use lib.ListN.{length, drop, length-take, length-drop}
+use Rattle.lines.proofs.run.Statement.{statement}
+use Rattle.lines.proofs.run.Tie as tie
+
+abbrev Inv-loop : tie.InvT-loop
+Inv-loop lines at₀ count₀ others₀ at count others = (at ≤ length lines) × (count ≤ at) × (others ≤ count)
+
+abbrev μ-loop : tie.MeasureT-loop
+μ-loop lines at₀ count₀ others₀ at count others = length lines - at
+
+loop-holds : tie.Need-loop-holds Inv-loop μ-loop
+loop-holds c = (omega arith, omega arith, omega arith)
+
+line-end-requires : tie.Need-line-end-requires Inv-loop μ-loop
+line-end-requires c κs = omega arith
+
+mul-run-line : tie.Need-mul-run-line Inv-loop μ-loop
+mul-run-line c = omega arith
+
+sub-run-line : tie.Need-sub-run-line Inv-loop μ-loop
+sub-run-line c = omega arith
+
+part-run-line-start : tie.Need-part-run-line-start Inv-loop μ-loop
+part-run-line-start c = omega arith
+
+part-run-line-end : tie.Need-part-run-line-end Inv-loop μ-loop
+part-run-line-end c = omega arith
+
+run-line-requires : tie.Need-run-line-requires Inv-loop μ-loop
+run-line-requires c κs =
+    let at = c .before .before .before .loop .at in
+    let lines = c .before .before .before .before .before .args .lines .now in
+    let size = c .before .line-end .result - at in
+    let long = length-take size (drop at lines) in (omega (arith, length-drop at lines), omega (arith, length-drop at lines))
+
+add-others : tie.Need-add-others Inv-loop μ-loop
+add-others c = omega arith
+
+add-count : tie.Need-add-count Inv-loop μ-loop
+add-count c = omega arith
+
+loop-less : tie.Need-loop-less Inv-loop μ-loop
+loop-less c = omega arith
+
+loop-again : tie.Need-loop-again Inv-loop μ-loop
+loop-again c = (omega arith, omega arith, omega arith)
+
+say-totals-requires : tie.Need-say-totals-requires Inv-loop μ-loop
+say-totals-requires c κs = tt
+
+returns : tie.Need-returns Inv-loop μ-loop
+returns c = tt
+
+pub run-spec : {M : Type 1} → statement M
+run-spec =
+    tie.close
+    (tie.spec
+    Inv-loop
+    μ-loop
+    loop-holds
+    line-end-requires
+    mul-run-line
+    sub-run-line
+    part-run-line-start
+    part-run-line-end
+    run-line-requires
+    add-others
+    add-count
+    loop-less
+    loop-again
+    say-totals-requires
+    returns)

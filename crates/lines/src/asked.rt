@@ -1,0 +1,231 @@
+// What a line asks of the entries: the calls are made with buffers of zeros just as long as the entry asks, as specs/Lines.antt of molang
+// makes them, and compared. Leans on compared, items, exact, parse and write.
+use crate::compared::Verdict;
+use crate::compared::read_verdict;
+use crate::compared::write_verdict;
+use crate::items::node_word;
+use crate::items::size;
+use crate::items::token_word;
+use exact::used_of;
+use molang::lines::ANY;
+use molang::lines::AT;
+use molang::lines::REPEATED;
+use molang::lines::WRITE;
+use molang::lines::ZEROS;
+use parse::parse;
+use words::fields;
+use write::write;
+ghost use mathlib.Core.Path.{_≡_};
+ghost use Prim.Native.Nat.{_+_, _*_, _≤_};
+ghost use lib.ListN.{length};
+
+// Reads a list of n tokens with these buffers and compares.
+fn read_with(
+    list: &[u32],
+    n: usize,
+    version: i16,
+    answers: &[u32],
+    tree: &mut [u32],
+    messages: &mut [u32],
+    work: &mut [u32],
+) -> Verdict {
+    let used = used_of(list);
+    let answered = parse(
+        list,
+        tree,
+        messages,
+        work,
+        n as u64,
+        version,
+        used.low,
+        used.high,
+    );
+    read_verdict(answered, tree, messages, work, answers)
+}
+
+// Reads it with as much of the buffers as the entry asks for n tokens.
+fn read_in(
+    list: &[u32],
+    n: usize,
+    version: i16,
+    answers: &[u32],
+    tree: &mut [u32],
+    messages: &mut [u32],
+    work: &mut [u32],
+) -> Verdict
+    requires { ⌜ (n ≤ 4097) × (73746 ≤ length (now tree)) × (262272 ≤ length (now work)) ⌝ }
+{
+    let nodes = 18 * n;
+    let slots = 64 * n + 64;
+    read_with(
+        list,
+        n,
+        version,
+        answers,
+        &mut tree[..nodes],
+        messages,
+        &mut work[..slots],
+    )
+}
+
+// Reads the first words of a list, which are n tokens: at most one more than the entry reads.
+fn read_first(list: &[u32], words: usize, n: usize, version: i16, answers: &[u32]) -> Verdict
+    requires { ⌜ (n ≤ 4097) × (words ≤ length (now list)) ⌝ }
+{
+    let mut tree = [0u32; 73_746];
+    let mut messages = [0u32; 16];
+    let mut work = [0u32; 262_272];
+    read_in(
+        &list[..words],
+        n,
+        version,
+        answers,
+        &mut tree,
+        &mut messages,
+        &mut work,
+    )
+}
+
+// Puts the tokens of operators, the i-th at the span i to i + 1.
+fn put_operators(list: &mut [u32], operators: &[u32])
+    requires { ⌜ (5 * length (now operators) ≤ length (now list)) × (length (now operators) ≤ 1002) ⌝ }
+    ensures { λ _. ⌜ length (now (list .exit)) ≡ length (now (list .entry)) ⌝ }
+{
+    let mut i = 0usize;
+    while i < fields::TOKEN_WORDS * operators.len() {
+        let token = i / fields::TOKEN_WORDS;
+        let start = token as u32;
+        list[i] = token_word(operators[token], start, start + 1, i % fields::TOKEN_WORDS);
+        i += 1;
+    }
+}
+
+// Reads the list of these operators.
+fn read_operators(operators: &[u32], version: i16, answers: &[u32]) -> Verdict
+    requires { ⌜ length (now operators) ≤ 1002 ⌝ }
+{
+    let mut list = [0u32; 5010];
+    put_operators(&mut list, operators);
+    let words = fields::TOKEN_WORDS * operators.len();
+    read_first(&list, words, operators.len(), version, answers)
+}
+
+// The same at 4, 5 and 6.
+fn read_at_all(operators: &[u32], answers: &[u32]) -> Verdict
+    requires { ⌜ length (now operators) ≤ 1002 ⌝ }
+{
+    let first = read_operators(operators, 4, answers);
+    let Verdict::Same = first else {
+        return first;
+    };
+    let second = read_operators(operators, 5, answers);
+    let Verdict::Same = second else {
+        return second;
+    };
+    read_operators(operators, 6, answers)
+}
+
+// Reads so many words 0.
+fn read_zeros(items: &[u32], answers: &[u32]) -> Verdict {
+    if items.len() != 1 {
+        return Verdict::Unclear;
+    }
+    let words = size(items[0]);
+    if 4096 < words {
+        return Verdict::Unclear;
+    }
+    let list = [0u32; 4096];
+    read_first(&list, words, words / fields::TOKEN_WORDS, 6, answers)
+}
+
+// Puts so many tokens of one operator, at the span 0 to 0.
+fn put_repeated(list: &mut [u32], op: u32)
+    ensures { λ _. ⌜ length (now (list .exit)) ≡ length (now (list .entry)) ⌝ }
+{
+    let mut i = 0usize;
+    while i < list.len() {
+        list[i] = token_word(op, 0, 0, i % fields::TOKEN_WORDS);
+        i += 1;
+    }
+}
+
+// Reads so many tokens of one operator.
+fn read_repeated(items: &[u32], answers: &[u32]) -> Verdict {
+    if items.len() != 2 {
+        return Verdict::Unclear;
+    }
+    let n = size(items[0]);
+    if 4097 < n {
+        return Verdict::Unclear;
+    }
+    let mut list = [0u32; 20_485];
+    put_repeated(&mut list, items[1]);
+    read_first(&list, fields::TOKEN_WORDS * n, n, 6, answers)
+}
+
+// Puts the words of nodes.
+fn put_nodes(tree: &mut [u32], nodes: &[u32])
+    requires { ⌜ (6 * length (now nodes) ≤ length (now tree)) × (length (now nodes) ≤ 1002) ⌝ }
+    ensures { λ _. ⌜ length (now (tree .exit)) ≡ length (now (tree .entry)) ⌝ }
+{
+    let mut i = 0usize;
+    while i < fields::NODE_WORDS * nodes.len() {
+        tree[i] = node_word(nodes[i / fields::NODE_WORDS], i % fields::NODE_WORDS);
+        i += 1;
+    }
+}
+
+// Writes the tree of these words into this list and compares.
+fn write_with(tree: &[u32], list: &mut [u32], answers: &[u32]) -> Verdict {
+    let written = write(tree, list);
+    write_verdict(written, list, answers)
+}
+
+// Writes the first words of a tree, into the first words of a list.
+fn write_first(
+    tree: &[u32],
+    words: usize,
+    list: &mut [u32],
+    room: usize,
+    answers: &[u32],
+) -> Verdict
+    requires { ⌜ (words ≤ length (now tree)) × (room ≤ length (now list)) ⌝ }
+{
+    write_with(&tree[..words], &mut list[..room], answers)
+}
+
+// Writes a tree, into a list with room for three tokens a node.
+fn write_nodes(nodes: &[u32], answers: &[u32]) -> Verdict
+    requires { ⌜ length (now nodes) ≤ 1002 ⌝ }
+{
+    let mut tree = [0u32; 6012];
+    let mut list = [0u32; 15_030];
+    put_nodes(&mut tree, nodes);
+    let words = fields::NODE_WORDS * nodes.len();
+    let room = 15 * nodes.len();
+    write_first(&tree, words, &mut list, room, answers)
+}
+
+// The version of sixteen bits in two's complement: of the negative ones the table has -1.
+fn version_of(bits: u32) -> i16 {
+    if bits < 32_768 {
+        return bits as i16;
+    }
+    -1
+}
+
+// Makes the calls of a line and compares.
+pub fn ask(mark: u32, items: &[u32], answers: &[u32]) -> Verdict
+    requires { ⌜ length (now items) ≤ 1002 ⌝ }
+{
+    if AT <= mark {
+        return read_operators(items, version_of(mark - AT), answers);
+    }
+    match mark {
+        ANY => read_at_all(items, answers),
+        WRITE => write_nodes(items, answers),
+        ZEROS => read_zeros(items, answers),
+        REPEATED => read_repeated(items, answers),
+        _ => Verdict::Unclear,
+    }
+}
