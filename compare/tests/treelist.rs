@@ -1,0 +1,253 @@
+//! The program `treelist` on many inputs: its refusals in their order, inputs of any length, trees, messages, and the answers
+//! that are kept in the repository. It is run where `rt check` builds it (`target/bin/treelist`), or at `TREELIST`; where it is
+//! not built, nothing is compared.
+
+use std::io::Write;
+use std::path::PathBuf;
+use std::process::{Command, Stdio};
+
+use oracle::vectors::{self, Stored};
+use oracle::words::{Answer, Token, exact_set, list_words, low, word};
+
+fn program() -> Option<PathBuf> {
+    let path = match std::env::var_os("TREELIST") {
+        Some(path) => PathBuf::from(path),
+        None => PathBuf::from(env!("CARGO_MANIFEST_DIR")).join("../target/bin/treelist"),
+    };
+    if !path.is_file() {
+        eprintln!("no {}: treelist is not compared", path.display());
+        return None;
+    }
+    Some(path)
+}
+
+/// What the program writes to these pieces of an input.
+fn run(program: &PathBuf, pieces: &[&[u8]]) -> String {
+    let mut child = Command::new(program)
+        .stdin(Stdio::piped())
+        .stdout(Stdio::piped())
+        .spawn()
+        .expect("the program starts");
+    let mut input = child.stdin.take().expect("its input is a pipe");
+    for piece in pieces {
+        input.write_all(piece).expect("the program reads on");
+    }
+    drop(input);
+    let done = child.wait_with_output().expect("the program ends");
+    assert!(done.status.success());
+    String::from_utf8(done.stdout).expect("it writes text")
+}
+
+fn bytes(words: &[u32]) -> Vec<u8> {
+    words.iter().flat_map(|word| word.to_le_bytes()).collect()
+}
+
+/// The bytes of a version and a list.
+fn input(version: i16, list: &[u32]) -> Vec<u8> {
+    let mut words = vec![u32::from(version as u16)];
+    words.extend(list);
+    bytes(&words)
+}
+
+/// Tokens of these operators, the i-th at the span i to i + 1.
+fn tokens(ops: &[u8]) -> Vec<Token> {
+    let token = |(place, &op): (usize, &u8)| Token {
+        op,
+        variant: 0,
+        value: 0,
+        start: place as u32,
+        end: place as u32 + 1,
+    };
+    ops.iter().enumerate().map(token).collect()
+}
+
+fn list(ops: &[u8]) -> Vec<u32> {
+    list_words(&tokens(ops))
+}
+
+/// The text of an answer of the entry.
+fn text(answer: &Answer) -> String {
+    match answer {
+        Answer::Tree(words) => {
+            let mut text = format!("tree {}\n", words.len() / 6);
+            for node in words.chunks(6) {
+                let op = low(node[0]) & 0xFF;
+                let [start, end, children] = [node[1], node[2], node[5]].map(low);
+                text += &format!("{op} {children} {start} {end}\n");
+            }
+            text
+        }
+        Answer::Messages(records) => {
+            let mut text = format!("messages {}\n", records.len());
+            for record in records {
+                let numbers: Vec<String> = record.iter().map(u32::to_string).collect();
+                text += &numbers.join(" ");
+                text += "\n";
+            }
+            text
+        }
+    }
+}
+
+fn refused(number: u32, place: usize) -> String {
+    format!("refused {number} {place}\n")
+}
+
+#[test]
+fn bytes_that_are_no_words_come_first() {
+    let Some(program) = program() else { return };
+    for count in [1, 2, 3, 5, 7, 25, 2563, 2565, 2567] {
+        assert_eq!(
+            run(&program, &[&vec![0xFF; count]]),
+            refused(1, 0),
+            "{count} bytes"
+        );
+    }
+}
+
+#[test]
+fn the_first_word_is_of_kind_0_and_has_sixteen_bits() {
+    let Some(program) = program() else { return };
+    assert_eq!(run(&program, &[]), refused(8, 0));
+    let sum = list(&[61, 9, 61]);
+    for bit in 16..32 {
+        let mut words = vec![6 | 1 << bit];
+        assert_eq!(run(&program, &[&bytes(&words)]), refused(8, 0), "bit {bit}");
+        words.extend(&sum);
+        assert_eq!(run(&program, &[&bytes(&words)]), refused(8, 0), "bit {bit}");
+        words.push(0);
+        assert_eq!(run(&program, &[&bytes(&words)]), refused(8, 0), "bit {bit}");
+        words.extend(vec![0; 10_000]);
+        assert_eq!(run(&program, &[&bytes(&words)]), refused(8, 0), "bit {bit}");
+    }
+}
+
+#[test]
+fn later_words_are_whole_tokens_and_128_at_the_most() {
+    let Some(program) = program() else { return };
+    for count in [1, 2, 3, 4, 6, 639, 641, 644, 646, 100_001] {
+        let found = run(&program, &[&input(6, &vec![0; count])]);
+        assert_eq!(found, refused(1, 0), "{count} words");
+    }
+    for count in [645, 650, 20_485, 500_000] {
+        let found = run(&program, &[&input(6, &vec![0; count])]);
+        assert_eq!(found, refused(2, 0), "{count} words");
+    }
+    let most = list(&[61; 128]);
+    let found = run(&program, &[&input(6, &most)]);
+    assert_eq!(found, "messages 1\n1 0 128 128 0 0 0 0\n");
+    let more = list(&[61; 129]);
+    assert_eq!(run(&program, &[&input(6, &more)]), refused(2, 0));
+}
+
+#[test]
+fn megabytes_are_read_to_their_end() {
+    let Some(program) = program() else { return };
+    let mut long = input(6, &vec![0; 5 * 400_000]);
+    assert_eq!(run(&program, &[&long]), refused(2, 0));
+    long.extend([0; 4]);
+    assert_eq!(run(&program, &[&long]), refused(1, 0));
+    long.push(0);
+    assert_eq!(run(&program, &[&long]), refused(1, 0));
+    long[3] = 0x20;
+    assert_eq!(run(&program, &[&long]), refused(1, 0));
+    long.extend([0; 3]);
+    assert_eq!(run(&program, &[&long]), refused(8, 0));
+}
+
+#[test]
+fn an_input_in_pieces_is_the_same_input() {
+    let Some(program) = program() else { return };
+    let sum = input(6, &list(&[61, 9, 61]));
+    let expected = "tree 3\n9 2 1 2\n61 0 0 1\n61 0 2 3\n";
+    let pieces: Vec<&[u8]> = sum.chunks(1).collect();
+    assert_eq!(run(&program, &[&sum]), expected);
+    assert_eq!(run(&program, &pieces), expected);
+}
+
+#[test]
+fn each_bad_word_is_told_at_its_place() {
+    let Some(program) = program() else { return };
+    let good = list(&[61, 9, 61]);
+    for place in 0..good.len() {
+        let slot = place % 5;
+        let mut damages = vec![(8, good[place] ^ 1 << 31), (8, good[place] & 0x1FFF_FFFF)];
+        match slot {
+            0 => damages.extend([
+                (9, word(1, 111)),
+                (10, word(1, 13 << 8)),
+                (11, word(1, 61 | 1 << 12)),
+                (9, word(1, 255 | 15 << 8 | 1 << 28)),
+            ]),
+            1 | 2 => {}
+            _ => damages.extend([
+                (11, word(slot as u32 + 1, 1)),
+                (11, word(slot as u32 + 1, 1 << 16)),
+            ]),
+        }
+        for (number, bad) in damages {
+            let mut words = good.clone();
+            words[place] = bad;
+            let found = run(&program, &[&input(6, &words)]);
+            assert_eq!(found, refused(number, place), "{bad:#x} at {place}");
+            words.extend([u32::MAX; 5]);
+            assert_eq!(run(&program, &[&input(6, &words)]), refused(number, place));
+        }
+    }
+}
+
+#[test]
+fn the_source_is_as_long_as_the_highest_end() {
+    let Some(program) = program() else { return };
+    assert_eq!(
+        run(&program, &[&input(6, &[])]),
+        "messages 1\n1 0 0 0 0 0 0 0\n"
+    );
+    let mut arrow = tokens(&[61, 72]);
+    arrow[0].end = 536_870_911;
+    let found = run(&program, &[&input(6, &list_words(&arrow))]);
+    let expected = "messages 2\n12 1 2 72 0 0 0 0\n1 0 536870911 0 0 0 0 0\n";
+    assert_eq!(found, expected);
+}
+
+#[test]
+fn the_version_is_read_in_twos_complement() {
+    let Some(program) = program() else { return };
+    let mixed = list(&[61, 56, 61, 57, 61]);
+    let or_first = "tree 5\n57 2 3 4\n56 2 1 2\n61 0 0 1\n61 0 2 3\n61 0 4 5\n";
+    let and_first = "tree 5\n56 2 1 2\n61 0 0 1\n57 2 3 4\n61 0 2 3\n61 0 4 5\n";
+    for version in [i16::MIN, -2, -1, 0, 4, 5] {
+        assert_eq!(
+            run(&program, &[&input(version, &mixed)]),
+            or_first,
+            "{version}"
+        );
+    }
+    for version in [6, 13, 14, i16::MAX] {
+        assert_eq!(
+            run(&program, &[&input(version, &mixed)]),
+            and_first,
+            "{version}"
+        );
+    }
+}
+
+#[test]
+fn the_kept_answers_are_printed() {
+    let Some(program) = program() else { return };
+    let mut compared = 0;
+    for record in vectors::stored().iter().step_by(7) {
+        let Stored::Answered(case, answer) = record else {
+            continue;
+        };
+        let end = case.tokens.iter().map(|token| token.end).max().unwrap_or(0);
+        let exact = exact_set(&case.tokens) == case.used && end == case.source_len;
+        if !exact || case.tokens.len() > 128 {
+            continue;
+        }
+        let found = run(&program, &[&input(case.version, &list_words(&case.tokens))]);
+        assert_eq!(found, text(answer), "{case:?}");
+        compared += 1;
+    }
+    assert!(compared >= 1000, "{compared} kept answers");
+}
