@@ -18,7 +18,7 @@ use Rattle.molang.proofs.Bounds.{Bounded, fewNodes, fewMessages, read-bounded}
 use Rattle.molang.specs.Parse.{Call, Told, refused, must, firstOf, inHalves, refusal, reading, told, answered, treeIn, treeAfter, messagesIn, messagesAfter}
 use Rattle.exact.specs.Exact.{named, highest}
 use Rattle.exact.proofs.WordLaws.{exact-few, highest-few}
-use Rattle.parse.specs.Answers.{callOf}
+use Rattle.parse.specs.Answers.{call}
 use Rattle.molang.specs.WriteEntry.{orElse}
 use Rattle.molang.specs.Lines.{versionOf}
 use Rattle.treelist.specs.Text.{Printable, answerText}
@@ -110,7 +110,7 @@ last-of (some r) = refl
 module _ (list tree messages : List ℕ) (ok : Readable list tree messages) (work : List ℕ) (room : length work ≡ 8256) (source : ℕ)
     (ends : source ≡ highest operatorSlot 0 list) (version : ℤ) (low high : ℕ) (exact : (n : ℕ) → inHalves low high n ≡ named operatorSlot list n) where
   abbrev called : Call
-  called = callOf list tree messages work source version low high
+  called = call list tree messages work source version low high
 
   pub called-refusal : refusal called ≡ wordsRefusal 0 operatorSlot 0 list
   unfolding refusal must firstOf
