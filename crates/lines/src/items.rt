@@ -1,12 +1,15 @@
 // The parts of the table: marks and the items after them, and the fields of an item (crates/molang/src/lines.rt says which).
-// Leans on nothing.
+// Leans on words; specs/Items and molang's specs/Lines say which words an item stands for.
 use molang::lines::ANY;
 use molang::lines::TREE;
 use words::fields;
 ghost use mathlib.Core.Path.{_≡_};
-ghost use Prim.Native.Nat.{_+_, _*_, _/_, _%_, _^_, _≤_, _<_};
-ghost use lib.ListN.{length};
+ghost use Prim.Native.Nat.{_+_, _%_, _^_, _≤_, _<_};
+ghost use mathlib.Core.List.{[], _∷_};
+ghost use lib.ListN.{length, getD};
 ghost use Rattle.molang.specs.Words.{word};
+ghost use Rattle.molang.specs.Lines.{nodeWords, recordOf};
+ghost use Rattle.lines.specs.Items.{bareWords};
 
 // Where the items from `from` on end: at the next mark, or with the numbers.
 pub fn items_end(numbers: &[u32], from: usize) -> usize
@@ -54,20 +57,24 @@ fn word_of(kind: u32, low: u32) -> u32
 }
 
 // The word of a tree node at a place in its six, the node being op_c_ss_ee in decimal digits.
-pub fn node_word(node: u32, place: usize) -> u32 {
+pub fn node_word(node: u32, place: usize) -> u32
+    requires { ⌜ place < 6 ⌝ }
+    ensures { λ r. ⌜ r ≡ getD (nodeWords (node ∷ [])) place 0 ⌝ }
+{
     match place {
-        0 => fields::operator_word(node / 100_000),
+        0 => word_of(fields::OPERATOR, node / 100_000),
         1 => word_of(fields::START, node / 100 % 100),
         2 => word_of(fields::END, node % 100),
         3 => fields::no_upper(),
         4 => fields::no_lower(),
-        _ => fields::children_word(node / 10_000 % 10),
+        _ => word_of(fields::CHILDREN, node / 10_000 % 10),
     }
 }
 
 // The word of a token at a place in its five.
 pub fn token_word(op: u32, start: u32, end: u32, place: usize) -> u32
-    requires { ⌜ (start < 2 ^ 29) × (end < 2 ^ 29) ⌝ }
+    requires { ⌜ (start < 2 ^ 29) × (end < 2 ^ 29) × (place < 5) ⌝ }
+    ensures { λ r. ⌜ r ≡ getD (bareWords (op % 2 ^ 8) start end) place 0 ⌝ }
 {
     match place {
         0 => fields::operator_word(op),
@@ -78,8 +85,22 @@ pub fn token_word(op: u32, start: u32, end: u32, place: usize) -> u32
     }
 }
 
+// The argument of a message at a place, 0 where the line leaves it out.
+fn argument(items: &[u32], place: usize) -> u32
+    requires { ⌜ place < 2 ^ 32 ⌝ }
+    ensures { λ r. ⌜ r ≡ getD (now (items .entry)) (place + 1) 0 ⌝ }
+{
+    if place + 1 < items.len() {
+        return items[place + 1];
+    }
+    0
+}
+
 // The word of a message record at a place in its eight: number_ss_ee, and the arguments up to the last that is not 0.
-pub fn record_word(items: &[u32], place: usize) -> u32 {
+pub fn record_word(items: &[u32], place: usize) -> u32
+    requires { ⌜ place < 8 ⌝ }
+    ensures { λ r. ⌜ r ≡ getD (recordOf (now (items .entry))) place 0 ⌝ }
+{
     if items.len() == 0 {
         return 0;
     }
@@ -88,12 +109,6 @@ pub fn record_word(items: &[u32], place: usize) -> u32 {
         0 => first / 10_000,
         1 => first / 100 % 100,
         2 => first % 100,
-        _ => {
-            let argument = place - 2;
-            if argument < items.len() {
-                return items[argument];
-            }
-            0
-        }
+        _ => argument(items, place - 3),
     }
 }

@@ -25,7 +25,7 @@ shared-slice-read-node-word : tie.Need-shared-slice-read-node-word Inv-loop μ-l
 shared-slice-read-node-word c = omega arith
 
 node-word-requires : tie.Need-node-word-requires Inv-loop μ-loop
-node-word-requires c κs = tt
+node-word-requires c κs = omega arith
 
 mul-tree : tie.Need-mul-tree Inv-loop μ-loop
 mul-tree c = omega arith

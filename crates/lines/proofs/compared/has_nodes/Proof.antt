@@ -33,7 +33,7 @@ shared-slice-read-node-word : tie.Need-shared-slice-read-node-word Inv-loop μ-l
 shared-slice-read-node-word c = omega arith
 
 node-word-requires : tie.Need-node-word-requires Inv-loop μ-loop
-node-word-requires c κs = tt
+node-word-requires c κs = omega arith
 
 returns-2 : tie.Need-returns-2 Inv-loop μ-loop
 returns-2 c = tt

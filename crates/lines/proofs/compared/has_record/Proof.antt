@@ -23,7 +23,7 @@ shared-slice-read-if1 : tie.Need-shared-slice-read-if1 Inv-loop μ-loop
 shared-slice-read-if1 c = omega arith
 
 record-word-requires : tie.Need-record-word-requires Inv-loop μ-loop
-record-word-requires c κs = tt
+record-word-requires c κs = omega arith
 
 returns : tie.Need-returns Inv-loop μ-loop
 returns c = tt

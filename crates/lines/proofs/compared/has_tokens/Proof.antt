@@ -27,7 +27,7 @@ shared-slice-read-item : tie.Need-shared-slice-read-item Inv-loop μ-loop
 shared-slice-read-item c = omega arith
 
 token-word-requires : tie.Need-token-word-requires Inv-loop μ-loop
-token-word-requires c κs = (omega arith, omega arith)
+token-word-requires c κs = (omega arith, omega arith, omega arith)
 
 mul-if2 : tie.Need-mul-if2 Inv-loop μ-loop
 mul-if2 c = omega arith

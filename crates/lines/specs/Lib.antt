@@ -1,0 +1,2 @@
+-- What the program's items stand for, beside molang's Lines.
+pub mod Items
