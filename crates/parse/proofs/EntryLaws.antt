@@ -24,7 +24,7 @@ use Rattle.parse.specs.declared.Answer.{Answer}
 use Rattle.parse.specs.declared.Answer.the-variants.{Refused as Turned}
 use Rattle.parse.specs.Answers.{toldOf}
 use Rattle.parse.specs.Fills.{FilledAs, CanFill, Filled, CanRead, HasRead}
-use Rattle.passes.specs.Group.{CanGroup, HasGrouped}
+use Rattle.grouping.specs.Group.{CanGroup, HasGrouped}
 
 -- ---- `read`
 

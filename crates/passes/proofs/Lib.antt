@@ -1,11 +1,4 @@
 -- Laws that belong to no one function.
-pub mod FlatCases
-pub mod FlatWritten
-pub mod FlatMembers
-pub mod FlatOpen
-pub mod FlatLooking
-pub mod FlatWalk
-pub mod FlatOrder
 pub mod GatherLaws
 pub mod ReturnLaws
 pub mod CallLaws
@@ -31,16 +24,4 @@ pub mod ScanLaws
 pub mod PairLaws
 pub mod ScanLoop
 pub mod ConditionalEnd
-pub mod SideLaws
-pub mod StackLaws
-pub mod StartLaws
-pub mod ResumeLaws
-pub mod EndLaws
 pub mod TurnLaws
-pub mod Lasting
-pub mod DescendLaws
-pub mod CloseLaws
-pub mod AdvanceLaws
-pub mod RunLaws
-pub mod GateLaws
-pub mod LevelLaws

@@ -1,4 +1,3 @@
-pub mod Flat
 pub mod TokenTurns
 pub mod CallTurns
 pub mod BinaryTurns
@@ -6,6 +5,3 @@ pub mod Statements
 pub mod Arrays
 pub mod UnaryTurns
 pub mod Folding
-pub mod Driver
-pub mod Choice
-pub mod Group

@@ -1,0 +1,90 @@
+-- A pass leaves a list as it is where none of its tokens stands in it, and slot 0 notes whether one does: such a pass need not run.
+use Prim.Native.Nat.{ℕ, _+_, _*_, _≤_}
+use mathlib.Core.Path.{_≡_, refl, sym, _∙_, subst}
+use mathlib.Core.Bool.{Bool, true, false, not, true≢false}
+use mathlib.Core.List.{List, []}
+use native.Mathlib.Omega.{arith}
+use lib.ListN.{length}
+use Rattle.molang.specs.Operator.{isOneOf, any, isMathCall, isQueryOrLoop, between}
+use Rattle.molang.specs.Forest.{Forest}
+use Rattle.molang.specs.Message.{ok}
+use Rattle.molang.specs.Calls.{queryOrLoop, math, calls as isCall}
+use Rattle.molang.specs.Order.{someBelow}
+use Rattle.molang.proofs.Trees.{free}
+use Rattle.molang.proofs.Calls.{call-free}
+use Rattle.molang.proofs.Arrays.{isArrayName, array-free}
+use Rattle.molang.proofs.Statements.{isSemicolon, statement-free}
+use Rattle.molang.proofs.Unary.{isPrefix, unaryPass-free}
+use Rattle.molang.proofs.Conditional.{isTernary, conditional-free}
+use Rattle.molang.proofs.Return.{isReturn, return-free}
+use Rattle.molang.proofs.Binary.{binary-free}
+use Rattle.molang.proofs.Work.{Kind, calls, statements, arrays, unaries, ternary, returns, binary, pass}
+use Rattle.ops.specs.Classes.{shares, meets, inClass, passClasses, ownClasses, bitAt}
+use Rattle.ops.proofs.ClassLaws.{stands-for}
+use Rattle.nodes.specs.Store.{wd, Owned}
+use Rattle.nodes.proofs.Store.{rep-legal}
+use Rattle.nodes.proofs.Classes.{notes-meet}
+use Rattle.walks.specs.Passes.{classesOf, operators, Exact, Runs, call, mathCall, plain, split, array, unary, level, tern, prefix}
+use Rattle.walks.specs.declared.turns.Pass.{Pass}
+use Rattle.order.specs.declared.Choice.{Choice}
+use Rattle.order.specs.declared.Choice.the-variants.{Run, Skip}
+use Rattle.grouping.specs.Driver.{CanRun, done, HasRun}
+use Rattle.grouping.specs.Choice.{CanChoose, Chosen}
+use Rattle.grouping.specs.declared.driver.Ran.{Ran}
+use Rattle.grouping.specs.declared.driver.Ran.the-variants.{Done}
+
+pub pass-free : (κ : Kind) (f : Forest) → free (operators κ) f ≡ true → pass κ f ≡ ok f
+unfolding pass operators
+pass-free (calls kind) f h = call-free kind f h
+pass-free statements f h = statement-free f h
+pass-free arrays f h = array-free f h
+pass-free unaries f h = unaryPass-free f h
+pass-free ternary f h = conditional-free f h
+pass-free returns f h = return-free f h
+pass-free (binary ops) f h = binary-free ops f h
+
+-- ---- the classes of each pass are those of its operators
+
+pub runs-exact : (κ : Kind) (p : Pass) → Runs κ p → Exact (classesOf p) (operators κ)
+unfolding operators isCall isSemicolon isArrayName isPrefix isTernary isReturn meets inClass passClasses ownClasses bitAt someBelow isOneOf any isMathCall isQueryOrLoop between
+runs-exact κ p call = stands-for 0x1 (isCall queryOrLoop) tt
+runs-exact κ p mathCall = stands-for 0x20_0000 (isCall math) tt
+runs-exact κ p plain = stands-for 0x2 isSemicolon tt
+runs-exact κ p split = stands-for 0x2 isSemicolon tt
+runs-exact κ p array = stands-for 0x4 isArrayName tt
+runs-exact κ p unary = stands-for 0x10 isPrefix tt
+runs-exact κ p (level e) = e
+runs-exact κ p tern = stands-for 0x1_0000 isTernary tt
+runs-exact κ p prefix = stands-for 0x10_0000 isReturn tt
+
+free-when : (b : Bool) → not b ≡ false → b ≡ true
+free-when true h = refl
+free-when false h = absurd (true≢false h)
+
+-- ---- the gate
+
+-- slot 0 notes no class of the pass
+pub gate-shut : {W : List ℕ} {base : ℕ} {p : Pass} → CanRun W base p → shares (wd W 7) (classesOf p) ≡ false → HasRun W base p Done W
+gate-shut {W} {base} {p} h shut =
+    record {
+      to = λ g.
+          let v = g .owned in
+          done (pass-free (g .κ) (g .F) (free-when (free (operators (g .κ)) (g .F))
+          (sym (notes-meet (classesOf p) (operators (g .κ)) (runs-exact (g .κ) p (g .runs)) (v .notes) (rep-legal (v .kids))) ∙ shut))) v;
+      beyond = λ g. record { kept = λ j x y. refl; long = refl };
+    }
+
+-- ---- by what was chosen
+
+pub chosen-can-run : {W : List ℕ} {base : ℕ} (c : Choice) (p : Pass) → c ≡ Run p → CanChoose W base c → CanRun W base p
+chosen-can-run {W} {base} c p e h = subst (λ (x : Choice). CanChoose W base x) e h
+
+pub chosen-run : {W W' : List ℕ} {base : ℕ} {r : Ran} (c : Choice) (p : Pass) → c ≡ Run p → HasRun W base p r W' → Chosen W base c r W'
+chosen-run {W} {W'} {base} {r} c p e h = subst (λ (x : Choice). Chosen W base x r W') (sym e) h
+
+pub chosen-skip : (W : List ℕ) (base : ℕ) (c : Choice) → c ≡ Skip → Chosen W base c Done W
+chosen-skip W base c e = subst (λ (x : Choice). Chosen W base x Done W) (sym e) (refl, refl)
+
+-- slot 0 is within the words
+pub root-within : {W : List ℕ} {base : ℕ} {p : Pass} → CanRun W base p → 8 * 0 + 8 ≤ length W
+root-within g = let own = g .own in let below = g .below in let room = g .room in omega arith

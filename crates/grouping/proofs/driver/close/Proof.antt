@@ -1,0 +1,89 @@
+-- `close`: the list's end, its owner's children, and the list below it, if any.
+use mathlib.Core.Path.{_∙_}
+use Rattle.grouping.proofs.CloseLaws.{close-can-finish, closed-failed, close-can-give, close-can-pop, close-can-resume, ended-at, closed-done, closed-on}
+use borrow.Author.Needs.{needs}
+use Rattle.grouping.proofs.driver.close.Statement.{statement}
+use Rattle.grouping.proofs.driver.close.Tie as tie
+
+finish-requires : tie.Need-finish-requires
+finish-requires c κs = close-can-finish (c .before .before .pre)
+
+enum-known-finished : tie.Need-enum-known-finished
+enum-known-finished c = search needs
+
+enum-known-finished-2 : tie.Need-enum-known-finished-2
+enum-known-finished-2 c = search needs
+
+give-children-requires : tie.Need-give-children-requires
+give-children-requires c κs =
+    let finish = c .before .before .before .before .before .before .before .finish in
+    close-can-give (c .before .before .before .before .before .before .before .before .before .before .pre) (ended-at (finish .result) _ (c .before .before .before .finished2 .given .1) (finish .ensures))
+
+same-length : tie.Need-same-length
+same-length c = search needs
+
+returns : tie.Need-returns
+returns c =
+    let gave = c .before .before .before in
+    let finish = gave .before .before .before .before .before .before .before .before .finish in
+    let ended = ended-at (finish .result) _ (gave .before .before .before .before .finished2 .given .1) (finish .ensures) in
+    closed-done ended (gave .give-children .ensures) (c .if1 .taken)
+
+pop-requires : tie.Need-pop-requires
+pop-requires c κs =
+    let gave = c .before .before .before .before in
+    let finish = gave .before .before .before .before .before .before .before .before .finish in
+    let ended = ended-at (finish .result) _ (gave .before .before .before .before .finished2 .given .1) (finish .ensures) in
+    close-can-pop (gave .before .before .before .before .before .before .before .before .before .before .before .pre) ended (gave .give-children .ensures) (c .before .if1 .left)
+
+resumed-requires : tie.Need-resumed-requires
+resumed-requires c κs = search needs
+
+resume-requires : tie.Need-resume-requires
+resume-requires c κs =
+    let gave = c .before .before .before .before .before .before .before .before in
+    let finish = gave .before .before .before .before .before .before .before .before .finish in
+    let ended = ended-at (finish .result) _ (gave .before .before .before .before .finished2 .given .1) (finish .ensures) in
+    let pop = c .before .before .before .pop in
+    let resumed = c .before .resumed in
+    close-can-resume (gave .before .before .before .before .before .before .before .before .before .before .before .pre) ended (gave .give-children .ensures) (c .before .before .before .before .before .if1 .left) (pop .result) (resumed .result) (pop .ensures) (resumed .ensures)
+
+same-length-2 : tie.Need-same-length-2
+same-length-2 c = search needs
+
+returns-2 : tie.Need-returns-2
+returns-2 c =
+    let finish = c .before .before .before .before .before .finish in
+    closed-failed (finish .result) (finish .ensures) _ (c .before .finished .given .1)
+
+same-length-3 : tie.Need-same-length-3
+same-length-3 c =
+    let gave = c .before .before .before .before .before .before .before .before .before .before .before in
+    c .before .before .resume .kept .0 ∙ gave .give-children .kept .0 ∙ gave .before .before .before .before .before .before .before .before .finish .kept .0
+
+returns-3 : tie.Need-returns-3
+returns-3 c =
+    let gave = c .before .before .before .before .before .before .before .before .before .before .before in
+    let finish = gave .before .before .before .before .before .before .before .before .finish in
+    let ended = ended-at (finish .result) _ (gave .before .before .before .before .finished2 .given .1) (finish .ensures) in
+    let pop = c .before .before .before .before .before .before .pop in
+    let resumed = c .before .before .before .before .resumed in
+    closed-on ended (gave .give-children .ensures) (c .before .before .before .before .before .before .before .before .if1 .left) (pop .result) (resumed .result) (pop .ensures) (resumed .ensures) (c .before .before .resume .ensures)
+
+pub close-spec : {M : Type 1} → statement M
+close-spec =
+    tie.close
+    (tie.spec
+    finish-requires
+    enum-known-finished
+    enum-known-finished-2
+    give-children-requires
+    same-length
+    returns
+    pop-requires
+    resumed-requires
+    resume-requires
+    same-length-2
+    returns-2
+    same-length-3
+    returns-3)

@@ -1,0 +1,90 @@
+-- `run`: the loop over the driver's turns. Its invariant: what is left to be done has the whole pass's result, and takes fewer turns than there is fuel.
+use mathlib.Core.Path.{_≡_, refl, _∙_}
+use native.Mathlib.Omega.{arith}
+use borrow.Author.Needs.{needs}
+use lib.ListN.{length}
+use Rattle.grouping.proofs.RunLaws.{Running, run-can-open, run-holds, running-advances, run-again, ran-done, ran-failed, run-never}
+use Rattle.grouping.proofs.driver.run.Statement.{statement}
+use Rattle.grouping.proofs.driver.run.Tie as tie
+
+abbrev Inv-loop : tie.InvT-loop
+Inv-loop work₀ base walk₀ fuel₀ work walk fuel = Running work₀ walk₀ base (length work₀) work walk fuel × (fuel₀ ≡ length work₀)
+
+abbrev μ-loop : tie.MeasureT-loop
+μ-loop work₀ base walk₀ fuel₀ work walk fuel = fuel
+
+open-requires : tie.Need-open-requires Inv-loop μ-loop
+open-requires c κs = run-can-open (c .before .before .pre)
+
+loop-holds : tie.Need-loop-holds Inv-loop μ-loop
+loop-holds c = (run-holds (c .before .before .«open» .ensures) (c .before .before .before .before .before .pre), refl)
+
+sub-fuel : tie.Need-sub-fuel Inv-loop μ-loop
+sub-fuel c = omega arith
+
+advance-requires : tie.Need-advance-requires Inv-loop μ-loop
+advance-requires c κs = running-advances (c .before .before .loop .inv .0)
+
+enum-known-next : tie.Need-enum-known-next Inv-loop μ-loop
+enum-known-next c = search needs
+
+loop-less : tie.Need-loop-less Inv-loop μ-loop
+loop-less c = omega (arith, c .before .before .before .before .before .before .before .loop-test .taken)
+
+loop-again : tie.Need-loop-again Inv-loop μ-loop
+loop-again c =
+    let loop = c .before .before .before .before .before .before .before .before .loop in
+    let advance = c .before .before .before .before .before .advance in
+    (run-again (advance .result) _ (loop .inv .0) (advance .ensures) (c .before .next .given .1) (omega (arith, c .before .before .before .before .before .before .before .loop-test .taken)) (advance .kept .0), loop .inv .1)
+
+enum-told : tie.Need-enum-told Inv-loop μ-loop
+enum-told c = search needs
+
+same-length : tie.Need-same-length Inv-loop μ-loop
+same-length c =
+    c .before .before .before .before .advance .kept .0 ∙ c .before .before .before .before .before .before .before .loop .inv .0 .long ∙ c .before .before .before .before .before .before .before .before .before .before .«open» .kept .0
+
+returns : tie.Need-returns Inv-loop μ-loop
+returns c =
+    let advance = c .before .before .before .before .advance in
+    ran-done (c .before .before .before .before .before .before .before .before .before .before .«open» .ensures) (c .before .before .before .before .before .before .before .loop .inv .0) (advance .result) (advance .ensures) (c .enum-told .given .1)
+
+enum-known-next-2 : tie.Need-enum-known-next-2 Inv-loop μ-loop
+enum-known-next-2 c = search needs
+
+same-length-2 : tie.Need-same-length-2 Inv-loop μ-loop
+same-length-2 c =
+    c .before .before .before .before .before .advance .kept .0 ∙ c .before .before .before .before .before .before .before .before .loop .inv .0 .long ∙ c .before .before .before .before .before .before .before .before .before .before .before .«open» .kept .0
+
+returns-2 : tie.Need-returns-2 Inv-loop μ-loop
+returns-2 c =
+    let advance = c .before .before .before .before .before .advance in
+    ran-failed (c .before .before .before .before .before .before .before .before .before .before .before .«open» .ensures) (c .before .before .before .before .before .before .before .before .loop .inv .0) (advance .result) (advance .ensures) _ (c .before .next2 .given .1)
+
+same-length-3 : tie.Need-same-length-3 Inv-loop μ-loop
+same-length-3 c = c .before .loop .inv .0 .long ∙ c .before .before .before .before .«open» .kept .0
+
+returns-3 : tie.Need-returns-3 Inv-loop μ-loop
+returns-3 c = absurd (run-never (c .before .loop .inv .0) (c .loop-test .left))
+
+pub run-spec : {M : Type 1} → statement M
+run-spec =
+    tie.close
+    (tie.spec
+    Inv-loop
+    μ-loop
+    open-requires
+    loop-holds
+    sub-fuel
+    advance-requires
+    enum-known-next
+    loop-less
+    loop-again
+    enum-told
+    same-length
+    returns
+    enum-known-next-2
+    same-length-2
+    returns-2
+    same-length-3
+    returns-3)

@@ -1,0 +1,19 @@
+-- A pass behind its gates: it may be left out, and one whose tokens are nowhere in the list is not run, which comes to the same.
+use mathlib.Core.Path.{_≡_}
+use mathlib.Core.List.{List}
+use Prim.Native.Nat.{ℕ}
+use Rattle.order.specs.declared.Choice.{Choice}
+use Rattle.order.specs.declared.Choice.the-variants.{Run, Skip}
+use Rattle.grouping.specs.Driver.{CanRun, HasRun}
+use Rattle.grouping.specs.declared.driver.Ran.{Ran}
+use Rattle.grouping.specs.declared.driver.Ran.the-variants.{Done}
+
+-- What a choice asks: what its pass asks.
+abbrev pub CanChoose : List ℕ → ℕ → Choice → Type 0
+CanChoose W base (Run p) = CanRun W base p
+CanChoose W base Skip = Unit {0}
+
+-- What a choice comes to: what its pass leaves, or nothing.
+abbrev pub Chosen : List ℕ → ℕ → Choice → Ran → List ℕ → Type 0
+Chosen W base (Run p) r W' = HasRun W base p r W'
+Chosen W base Skip r W' = (r ≡ Done) × (W' ≡ W)

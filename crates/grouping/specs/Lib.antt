@@ -1,0 +1,3 @@
+pub mod Driver
+pub mod Choice
+pub mod Group
