@@ -1,6 +1,7 @@
 //! Finds the static library: in the folder `SORBRUDDER_LIB`, or where `rt staticlib sorbrudder` writes
 //! it. With it at hand the cfg `library` is set; without it the models are built and tested alone. The cfg `rust_source`
-//! says whether the crate `oracle` finds the Rust source; without it the tests that need it are ignored.
+//! says whether the crate `oracle` finds the Rust source, and the cfg `treelist` whether that program is built; without them the
+//! tests that need them are ignored.
 
 use std::env;
 use std::path::PathBuf;
@@ -8,6 +9,7 @@ use std::path::PathBuf;
 fn main() {
     find_library();
     find_source();
+    find_treelist();
 }
 
 /// By the rule of oracle/build.rs.
@@ -44,6 +46,25 @@ fn find_library() {
         println!(
             "cargo::warning=no {}: the library is not compared",
             archive.display()
+        );
+    }
+}
+
+/// At `TREELIST`, or where `rt check` writes it.
+fn find_treelist() {
+    println!("cargo::rustc-check-cfg=cfg(treelist)");
+    println!("cargo::rerun-if-env-changed=TREELIST");
+    let program = match env::var_os("TREELIST") {
+        Some(path) => PathBuf::from(path),
+        None => PathBuf::from(env!("CARGO_MANIFEST_DIR")).join("../target/bin/treelist"),
+    };
+    println!("cargo::rerun-if-changed={}", program.display());
+    if program.is_file() {
+        println!("cargo::rustc-cfg=treelist");
+    } else {
+        println!(
+            "cargo::warning=no {}: treelist is not run",
+            program.display()
         );
     }
 }

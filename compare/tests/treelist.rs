@@ -1,6 +1,6 @@
 //! The program `treelist` on many inputs: its refusals in their order, inputs of any length, trees, messages, and the answers
 //! that are kept in the repository. It is run where `rt check` builds it (`target/bin/treelist`), or at `TREELIST`; where it is
-//! not built, nothing is compared.
+//! not built, the tests are ignored.
 
 use std::io::Write;
 use std::path::PathBuf;
@@ -9,16 +9,11 @@ use std::process::{Command, Stdio};
 use oracle::vectors::{self, Stored};
 use oracle::words::{Answer, Token, exact_set, list_words, low, word};
 
-fn program() -> Option<PathBuf> {
-    let path = match std::env::var_os("TREELIST") {
+fn program() -> PathBuf {
+    match std::env::var_os("TREELIST") {
         Some(path) => PathBuf::from(path),
         None => PathBuf::from(env!("CARGO_MANIFEST_DIR")).join("../target/bin/treelist"),
-    };
-    if !path.is_file() {
-        eprintln!("no {}: treelist is not compared", path.display());
-        return None;
     }
-    Some(path)
 }
 
 /// What the program writes to these pieces of an input.
@@ -94,8 +89,9 @@ fn refused(number: u32, place: usize) -> String {
 }
 
 #[test]
+#[cfg_attr(not(treelist), ignore = "treelist is not built")]
 fn bytes_that_are_no_words_come_first() {
-    let Some(program) = program() else { return };
+    let program = program();
     for count in [1, 2, 3, 5, 7, 25, 2563, 2565, 2567] {
         assert_eq!(
             run(&program, &[&vec![0xFF; count]]),
@@ -106,8 +102,9 @@ fn bytes_that_are_no_words_come_first() {
 }
 
 #[test]
+#[cfg_attr(not(treelist), ignore = "treelist is not built")]
 fn the_first_word_is_of_kind_0_and_has_sixteen_bits() {
-    let Some(program) = program() else { return };
+    let program = program();
     assert_eq!(run(&program, &[]), refused(8, 0));
     let sum = list(&[61, 9, 61]);
     for bit in 16..32 {
@@ -123,8 +120,9 @@ fn the_first_word_is_of_kind_0_and_has_sixteen_bits() {
 }
 
 #[test]
+#[cfg_attr(not(treelist), ignore = "treelist is not built")]
 fn later_words_are_whole_tokens_and_128_at_the_most() {
-    let Some(program) = program() else { return };
+    let program = program();
     for count in [1, 2, 3, 4, 6, 639, 641, 644, 646, 100_001] {
         let found = run(&program, &[&input(6, &vec![0; count])]);
         assert_eq!(found, refused(1, 0), "{count} words");
@@ -141,8 +139,9 @@ fn later_words_are_whole_tokens_and_128_at_the_most() {
 }
 
 #[test]
+#[cfg_attr(not(treelist), ignore = "treelist is not built")]
 fn megabytes_are_read_to_their_end() {
-    let Some(program) = program() else { return };
+    let program = program();
     let mut long = input(6, &vec![0; 5 * 400_000]);
     assert_eq!(run(&program, &[&long]), refused(2, 0));
     long.extend([0; 4]);
@@ -156,8 +155,9 @@ fn megabytes_are_read_to_their_end() {
 }
 
 #[test]
+#[cfg_attr(not(treelist), ignore = "treelist is not built")]
 fn an_input_in_pieces_is_the_same_input() {
-    let Some(program) = program() else { return };
+    let program = program();
     let sum = input(6, &list(&[61, 9, 61]));
     let expected = "tree 3\n9 2 1 2\n61 0 0 1\n61 0 2 3\n";
     let pieces: Vec<&[u8]> = sum.chunks(1).collect();
@@ -166,8 +166,9 @@ fn an_input_in_pieces_is_the_same_input() {
 }
 
 #[test]
+#[cfg_attr(not(treelist), ignore = "treelist is not built")]
 fn each_bad_word_is_told_at_its_place() {
-    let Some(program) = program() else { return };
+    let program = program();
     let good = list(&[61, 9, 61]);
     for place in 0..good.len() {
         let slot = place % 5;
@@ -197,8 +198,9 @@ fn each_bad_word_is_told_at_its_place() {
 }
 
 #[test]
+#[cfg_attr(not(treelist), ignore = "treelist is not built")]
 fn the_source_is_as_long_as_the_highest_end() {
-    let Some(program) = program() else { return };
+    let program = program();
     assert_eq!(
         run(&program, &[&input(6, &[])]),
         "messages 1\n1 0 0 0 0 0 0 0\n"
@@ -211,8 +213,9 @@ fn the_source_is_as_long_as_the_highest_end() {
 }
 
 #[test]
+#[cfg_attr(not(treelist), ignore = "treelist is not built")]
 fn the_version_is_read_in_twos_complement() {
-    let Some(program) = program() else { return };
+    let program = program();
     let mixed = list(&[61, 56, 61, 57, 61]);
     let or_first = "tree 5\n57 2 3 4\n56 2 1 2\n61 0 0 1\n61 0 2 3\n61 0 4 5\n";
     let and_first = "tree 5\n56 2 1 2\n61 0 0 1\n57 2 3 4\n61 0 2 3\n61 0 4 5\n";
@@ -233,8 +236,9 @@ fn the_version_is_read_in_twos_complement() {
 }
 
 #[test]
+#[cfg_attr(not(treelist), ignore = "treelist is not built")]
 fn the_kept_answers_are_printed() {
-    let Some(program) = program() else { return };
+    let program = program();
     let mut compared = 0;
     for record in vectors::stored().iter().step_by(7) {
         let Stored::Answered(case, answer) = record else {
