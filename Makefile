@@ -1,8 +1,12 @@
 # The commands of the project; README.md says what each does.
-.PHONY: test library compare bench host demo
+.PHONY: test edits library compare bench host demo
 
 test:
 	@tools/gate.sh
+
+# The must-fail edits that the gate leaves out for its time.
+edits:
+	@tools/more-edits.sh
 
 # The proved static library, where it is not there yet or its sources changed: target/staticlib/libsorbrudder.a.
 library:
