@@ -32,10 +32,11 @@ use Rattle.walks.specs.declared.turns.Walk.{Walk}
 use Rattle.walks.specs.declared.turns.Finished.{Finished}
 use Rattle.walks.specs.declared.turns.Finished.the-variants.{At, Fail as Failed}
 use Rattle.walks.proofs.States.{split-none, split-some}
-use Rattle.grouping.specs.Driver.{FrameOf, Stack, bottom, over, Full, Going, turnsBelow, Beyond, NextTo, CanClose, Closed}
+use Rattle.grouping.specs.Driver.{FrameOf, Stack, bottom, over, Full, Going, turnsBelow, Beyond, CanMove, Moved, NextTo, CanClose, Closed}
 use Rattle.grouping.specs.declared.driver.Next.the-variants.{On, Done, Fail}
 use Rattle.grouping.proofs.StackLaws.{Bounds, stack-bounds, stack-keep, top-beyond, beyond-then}
 use Rattle.grouping.proofs.Lasting.{unwound-fail}
+use Rattle.grouping.proofs.OutermostLaws.{give-outermost, move-outermost}
 
 -- ---- the pass of the list that waits
 
@@ -147,11 +148,12 @@ top-frame n (over {X = X} {lo = lo} {hi = hi} {w = w} {t = t} {k = k} {rest = re
     record { X' = X; lo' = lo; hi' = hi; wait = w; t = t; k = k; rest = rest; S' = S; around = refl; lists = refl; above = refl; stack = s; frame = f }
 
 -- at the outermost list
-outermost : {κ : Kind} {classes : ℕ} {W W' : List ℕ} {base0 hi0 : ℕ} {X : List ℕ} {owner lo hi base : ℕ} {S : List (Held κ)} {f : Forest} {r : Result} (turns : ℕ)
-    → 0 < hi0 → base ≡ base0 → r ≡ ok f → Stack κ classes W base0 hi0 X owner lo hi base S → Owned W' X owner lo hi f → NextTo κ classes W' base0 hi0 (unwound κ S r) turns Done
+outermost : {κ : Kind} {classes : ℕ} {W W1 W2 W3 : List ℕ} {base0 hi0 : ℕ} {X : List ℕ} {owner lo hi base from n : ℕ} {S : List (Held κ)} {f : Forest} {r : Result} (turns : ℕ)
+    → 0 < hi0 → base ≡ base0 → r ≡ ok f → Stack κ classes W base0 hi0 X owner lo hi base S → InArray W1 (owner ∷ X) from n lo hi f → Given W1 owner from n W2 → Moved W2 from n base W3
+    → 8 * hi ≤ base → base ≤ from → NextTo κ classes W3 base0 hi0 (unwound κ S r) turns (Done n)
 unfolding unwound
-outermost turns h e q bottom v = NextTo.ends q v
-outermost turns h e q (over s f) v = absurd (omega (arith, stack-bounds h s .based))
+outermost turns h e q bottom v gv mv below down = NextTo.ends q (move-outermost mv (give-outermost gv v h (omega arith)) h below)
+outermost turns h e q (over s f) v gv mv below down = absurd (omega (arith, stack-bounds h s .based))
 
 module _ {W W1 : List ℕ} {w : Walk} {base0 from n : ℕ} (g : CanClose W w base0) (ended : Ends W w (At from n) W1) where
   pub gave : Gives (g .κ) W1 (w .list .owner ∷ g .going .X) (g .going .lo) (g .going .hi) (w .list) (g .s) from n
@@ -198,8 +200,17 @@ module _ {W W1 : List ℕ} {w : Walk} {base0 from n : ℕ} (g : CanClose W w bas
     beyond2 : Beyond W W2 base0 (g .hi0)
     beyond2 = top-beyond base0 (g .hi0) bounds same2 long2
 
-    next-done : w .list .base ≡ base0 → NextTo (g .κ) (g .classes) W2 base0 (g .hi0) (unwound (g .κ) (g .S) (work (g .κ) (g .s) nil)) (turnsBelow (g .κ) (g .S)) Done
-    next-done e = outermost (turnsBelow (g .κ) (g .S)) (g .going .some) e (gave .result) stack2 owned
+    pub close-can-move : CanMove W2 from n (w .list .base)
+    close-can-move =
+        let within = g .going .holds .sides .within in
+        record { down = gave .low; within = omega (arith, gave .high, long2) }
+
+    module _ {W3 : List ℕ} (mv : Moved W2 from n (w .list .base) W3) where
+      next-done : w .list .base ≡ base0 → NextTo (g .κ) (g .classes) W3 base0 (g .hi0) (unwound (g .κ) (g .S) (work (g .κ) (g .s) nil)) (turnsBelow (g .κ) (g .S)) (Done n)
+      next-done e = outermost (turnsBelow (g .κ) (g .S)) (g .going .some) e (gave .result) stack2 (gave .array) gv mv (g .going .holds .sides .below) (gave .low)
+
+      done-beyond : w .list .base ≡ base0 → Beyond W W3 base0 (g .hi0)
+      done-beyond e = beyond-then beyond2 (record { kept = λ j x y. mv .same j (omega arith); long = mv .long })
 
     module _ (inner : w .list .base ≢ base0) where
       top : TopFrame (g .κ) (g .classes) W2 base0 (g .hi0) (g .going .X) (w .list .owner) (g .going .lo) (g .going .hi) (w .list .base) (g .S)
@@ -344,8 +355,9 @@ module _ {W W1 : List ℕ} {w : Walk} {base0 from n : ℕ} (g : CanClose W w bas
 pub ended-at : {W W1 : List ℕ} {w : Walk} (r q : Finished) → r ≡ q → Ends W w r W1 → Ends W w q W1
 ended-at {W} {W1} {w} r q e x = subst (λ (y : Finished). Ends W w y W1) e x
 
-pub closed-done : {W W1 W2 : List ℕ} {w : Walk} {base0 from n : ℕ} → Ends W w (At from n) W1 → Given W1 (w .list .owner) from n W2 → w .list .base ≡ base0 → Closed W w base0 Done W2
-closed-done ended gv e = record { to = λ g. next-done g ended gv e; beyond = λ g. beyond2 g ended gv }
+pub closed-done : {W W1 W2 W3 : List ℕ} {w : Walk} {base0 from n : ℕ} → Ends W w (At from n) W1 → Given W1 (w .list .owner) from n W2 → Moved W2 from n (w .list .base) W3 → w .list .base ≡ base0
+    → Closed W w base0 (Done n) W3
+closed-done ended gv mv e = record { to = λ g. next-done g ended gv mv e; beyond = λ g. done-beyond g ended gv mv e }
 
 pub closed-on : {W W1 W2 W3 : List ℕ} {w w3 : Walk} {base0 from n : ℕ} → Ends W w (At from n) W1 → Given W1 (w .list .owner) from n W2 → w .list .base ≢ base0 → (fr : Frame) (p : Pass)
     → FrameAt W2 (w .list .base - 6) (fr .list) (fr .held) → p ≡ resumedWith (w .pass) (fr .held) → Resumed W2 (walkOf (fr .list) p) (w .list .owner) w3 W3

@@ -64,27 +64,27 @@ free-when false h = absurd (true≢false h)
 -- ---- the gate
 
 -- slot 0 notes no class of the pass
-pub gate-shut : {W : List ℕ} {base : ℕ} {p : Pass} → CanRun W base p → shares (wd W 7) (classesOf p) ≡ false → HasRun W base p Done W
-gate-shut {W} {base} {p} h shut =
+pub gate-shut : {W : List ℕ} {base n : ℕ} {p : Pass} → CanRun W base n p → shares (wd W 7) (classesOf p) ≡ false → HasRun W base n p (Done n) W
+gate-shut {W} {p = p} h shut =
     record {
       to = λ g.
-          let v = g .owned in
+          let v = g .list .owned in
           done (pass-free (g .κ) (g .F) (free-when (free (operators (g .κ)) (g .F))
-          (sym (notes-meet (classesOf p) (operators (g .κ)) (runs-exact (g .κ) p (g .runs)) (v .notes) (rep-legal (v .kids))) ∙ shut))) v;
+          (sym (notes-meet (classesOf p) (operators (g .κ)) (runs-exact (g .κ) p (g .runs)) (v .notes) (rep-legal (v .kids))) ∙ shut))) (g .list);
       beyond = λ g. record { kept = λ j x y. refl; long = refl };
     }
 
 -- ---- by what was chosen
 
-pub chosen-can-run : {W : List ℕ} {base : ℕ} (c : Choice) (p : Pass) → c ≡ Run p → CanChoose W base c → CanRun W base p
-chosen-can-run {W} {base} c p e h = subst (λ (x : Choice). CanChoose W base x) e h
+pub chosen-can-run : {W : List ℕ} {base n : ℕ} (c : Choice) (p : Pass) → c ≡ Run p → CanChoose W base n c → CanRun W base n p
+chosen-can-run {W} {base} {n} c p e h = subst (λ (x : Choice). CanChoose W base n x) e h
 
-pub chosen-run : {W W' : List ℕ} {base : ℕ} {r : Ran} (c : Choice) (p : Pass) → c ≡ Run p → HasRun W base p r W' → Chosen W base c r W'
-chosen-run {W} {W'} {base} {r} c p e h = subst (λ (x : Choice). Chosen W base x r W') (sym e) h
+pub chosen-run : {W W' : List ℕ} {base n : ℕ} {r : Ran} (c : Choice) (p : Pass) → c ≡ Run p → HasRun W base n p r W' → Chosen W base n c r W'
+chosen-run {W} {W'} {base} {n} {r} c p e h = subst (λ (x : Choice). Chosen W base n x r W') (sym e) h
 
-pub chosen-skip : (W : List ℕ) (base : ℕ) (c : Choice) → c ≡ Skip → Chosen W base c Done W
-chosen-skip W base c e = subst (λ (x : Choice). Chosen W base x Done W) (sym e) (refl, refl)
+pub chosen-skip : (W : List ℕ) (base n : ℕ) (c : Choice) → c ≡ Skip → Chosen W base n c (Done n) W
+chosen-skip W base n c e = subst (λ (x : Choice). Chosen W base n x (Done n) W) (sym e) (refl, refl)
 
 -- slot 0 is within the words
-pub root-within : {W : List ℕ} {base : ℕ} {p : Pass} → CanRun W base p → 8 * 0 + 8 ≤ length W
+pub root-within : {W : List ℕ} {base n : ℕ} {p : Pass} → CanRun W base n p → 8 * 0 + 8 ≤ length W
 root-within g = let own = g .own in let below = g .below in let room = g .room in omega arith

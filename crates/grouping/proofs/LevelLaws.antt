@@ -1,7 +1,7 @@
 -- The loop over the places (`levels`): what the places that are left make of the list of slot 0 is the definition's answer at every turn, and the list
 -- is never heavier than three nodes for each token, so that each pass has room to run.
 use Prim.Native.Nat.{ℕ, _+_, _*_, _≤_, _<_}
-use mathlib.Core.Path.{_≡_, refl, sym, ap, _∙_, subst}
+use mathlib.Core.Path.{_≡_, refl, sym, ap, _∙_, subst, subst₂}
 use mathlib.Core.Logic.{_≢_}
 use mathlib.Core.Bool.{Bool}
 use mathlib.Core.List.{List, [], _∷_}
@@ -15,10 +15,9 @@ use Rattle.molang.proofs.Weight.{weight}
 use Rattle.molang.proofs.Bounds.{nodeWeight, size-weight}
 use Rattle.molang.proofs.Work.{pass}
 use Rattle.ops.specs.declared.sets.OpSet.{OpSet}
-use Rattle.nodes.specs.Store.{Owned, InArray}
+use Rattle.nodes.specs.Store.{InArray}
 use Rattle.nodes.specs.Children.{CanGive, Given}
-use Rattle.nodes.proofs.Store.{rep-lower}
-use Rattle.nodes.proofs.Trees.{array-give, array-owned}
+use Rattle.nodes.proofs.Trees.{array-give}
 use Rattle.walks.specs.Turns.{lentOf}
 use Rattle.walks.specs.Grouped.{tells, StandsFor, roots, failed, pointerFailed}
 use Rattle.walks.specs.declared.failure.Failure.{Failure}
@@ -31,7 +30,7 @@ use Rattle.order.specs.declared.Choice.{Choice}
 use Rattle.order.specs.declared.Choice.the-variants.{Run, Skip}
 use Rattle.order.proofs.Running.{chosen}
 use Rattle.order.proofs.Folding.{grouped-first, grouped-last, grouped-skip, PlaceRuns, place-runs}
-use Rattle.grouping.specs.Driver.{CanRun, RanTo, done}
+use Rattle.grouping.specs.Driver.{Outermost, CanRun, RanTo, done}
 use Rattle.grouping.specs.Driver as driver
 use Rattle.grouping.specs.Choice.{CanChoose, Chosen}
 use Rattle.grouping.specs.Group.{CanGroup, HasGrouped, Listed, Flattened, CanLevel, Levelled}
@@ -41,6 +40,7 @@ use Rattle.flat.specs.declared.sections.Flat.{Flat}
 use Rattle.flat.specs.declared.sections.Flat.the-variants.{Done as Items, Fail as FlatFail, Mismatched as FlatMismatched, Unclosed as FlatUnclosed}
 use Rattle.grouping.proofs.FlatOrder.{Fallen}
 use Rattle.grouping.proofs.Lasting.{pass-nodes}
+use Rattle.grouping.proofs.OutermostLaws.{give-outermost}
 
 -- what a failure of the flat passes is to the reading
 abbrev pub endOf : Flat → Grouped
@@ -65,25 +65,25 @@ starts-unlent (starts.plus e) = refl
 starts-unlent (starts.level e) = refl
 
 -- what a place left, by what is known of it
-pub chosen-as : (W : List ℕ) (base : ℕ) (c : Choice) (x : Ran) (W' : List ℕ) {y : Ran} → x ≡ y → Chosen W base c x W' → Chosen W base c y W'
-chosen-as W base c x W' e h = subst (λ (r : Ran). Chosen W base c r W') e h
+pub chosen-as : (W : List ℕ) (base n : ℕ) (c : Choice) (x : Ran) (W' : List ℕ) {y : Ran} → x ≡ y → Chosen W base n c x W' → Chosen W base n c y W'
+chosen-as W base n c x W' e h = subst (λ (r : Ran). Chosen W base n c r W') e h
 
--- What holds before place k: the list F of slot 0, and the answer over a source of length l.
-pub record LevelAt (W₀ : List ℕ) (base : ℕ) (u : ℕ → Bool) (r : Rules) (g : CanLevel W₀ base) (l : ℕ) (W : List ℕ) (k : ℕ) : Type 0 where
+-- What holds before place k: the outermost list F of n items, and the answer over a source of length l.
+pub record LevelAt (W₀ : List ℕ) (base m : ℕ) (u : ℕ → Bool) (r : Rules) (g : CanLevel W₀ base m) (l : ℕ) (W : List ℕ) (k n : ℕ) : Type 0 where
   pub F : Forest
-  pub owned : Owned W [] 0 0 (3 * (g .n) + 3) F
+  pub list : Outermost W base n (3 * (g .n) + 3) F
   pub light : weight nodeWeight F ≤ 3 * (g .n)
   pub answer : grouped l u (drop 3 (order r)) [] (g .F) ≡ grouped l u (passesFrom u r k) [] F
 
-pub level-start : {W : List ℕ} {base : ℕ} (u : ℕ → Bool) (r : Rules) (g : CanLevel W base) (l : ℕ) → LevelAt W base u r g l W 0
-level-start u r g l = record { F = g .F; owned = g .owned; light = g .light; answer = grouped-first l u r [] (g .F) }
+pub level-start : {W : List ℕ} {base m : ℕ} (u : ℕ → Bool) (r : Rules) (g : CanLevel W base m) (l : ℕ) → LevelAt W base m u r g l W 0 m
+level-start u r g l = record { F = g .F; list = g .list; light = g .light; answer = grouped-first l u r [] (g .F) }
 
-module _ {W₀ : List ℕ} {base : ℕ} {u : ℕ → Bool} {r : Rules} {g : CanLevel W₀ base} {l : ℕ} {W : List ℕ} {k : ℕ} (below : k < 23) (long : length W ≡ length W₀) where
-  module _ (v : LevelAt W₀ base u r g l W k) (state : State) (c : Picked u (placeIn (places r) k) (Run state)) where
+module _ {W₀ : List ℕ} {base m : ℕ} {u : ℕ → Bool} {r : Rules} {g : CanLevel W₀ base m} {l : ℕ} {W : List ℕ} {k n : ℕ} (below : k < 23) (long : length W ≡ length W₀) where
+  module _ (v : LevelAt W₀ base m u r g l W k n) (state : State) (c : Picked u (placeIn (places r) k) (Run state)) where
     abbrev pub place : PlaceRuns l u r k below [] (v .F) state
     place = place-runs l u r k below [] (v .F) state c
 
-    abbrev pub level-run : CanRun W base state
+    abbrev pub level-run : CanRun W base n state
     level-run =
         record {
           κ = place .kind;
@@ -91,7 +91,7 @@ module _ {W₀ : List ℕ} {base : ℕ} {u : ℕ → Bool} {r : Rules} {g : CanL
           F = v .F;
           runs = place .runs-kind;
           unlent = starts-unlent (chosen c .starts);
-          owned = v .owned;
+          list = v .list;
           own = omega arith;
           below = omega (arith, g .based);
           room = omega (arith, g .based, g .room, v .light, size-weight (v .F), long);
@@ -99,62 +99,63 @@ module _ {W₀ : List ℕ} {base : ℕ} {u : ℕ → Bool} {r : Rules} {g : CanL
         }
 
   -- what a place asks, by what was chosen there
-  pub level-chooses : LevelAt W₀ base u r g l W k → (c : Choice) → Picked u (placeIn (places r) k) c → CanChoose W base c
+  pub level-chooses : LevelAt W₀ base m u r g l W k n → (c : Choice) → Picked u (placeIn (places r) k) c → CanChoose W base n c
   level-chooses v (Run state) c = level-run v state c
   level-chooses v Skip c = tt
 
   -- the pass went through, or there was none
-  pub level-on : LevelAt W₀ base u r g l W k → (c : Choice) → Picked u (placeIn (places r) k) c → {W' : List ℕ} → Chosen W base c Done W'
-      → LevelAt W₀ base u r g l W' (k + 1)
-  level-on v Skip c {W'} h =
+  pub level-on : LevelAt W₀ base m u r g l W k n → (c : Choice) → Picked u (placeIn (places r) k) c → {W' : List ℕ} (left : ℕ) → Chosen W base n c (Done left) W'
+      → LevelAt W₀ base m u r g l W' (k + 1) left
+  level-on v Skip c {W'} left h =
+      let same : left ≡ n = cc in
       record {
         F = v .F;
-        owned = subst (λ (X : List ℕ). Owned X [] 0 0 (3 * (g .n) + 3) (v .F)) (sym (h .1)) (v .owned);
+        list = subst₂ (λ (X : List ℕ) (y : ℕ). Outermost X base y (3 * (g .n) + 3) (v .F)) (sym (h .1)) (sym same) (v .list);
         light = v .light;
         answer = v .answer ∙ grouped-skip l u r k below [] (v .F) c;
       }
-  level-on v (Run state) c {W'} h = went (h .to (level-run v state c))
+  level-on v (Run state) c {W'} left h = went (h .to (level-run v state c))
     where
-      went : RanTo W' (3 * (g .n) + 3) (pass (place v state c .kind) (v .F)) Done → LevelAt W₀ base u r g l W' (k + 1)
+      went : RanTo W' base (3 * (g .n) + 3) (pass (place v state c .kind) (v .F)) (Done left) → LevelAt W₀ base m u r g l W' (k + 1) left
       went (done {f = f} e o) =
           record {
             F = f;
-            owned = o;
+            list = o;
             light = omega (arith, pass-nodes (place v state c .kind) (v .F) f e, v .light);
             answer = v .answer ∙ place v state c .goes-on f e;
           }
 
   -- the pass failed: the pointer's, which leaves the list empty, or another's
-  pub level-pointer : LevelAt W₀ base u r g l W k → (c : Choice) → Picked u (placeIn (places r) k) c → {W' : List ℕ} (f : Failure) → Chosen W base c (Fail f) W'
+  pub level-pointer : LevelAt W₀ base m u r g l W k n → (c : Choice) → Picked u (placeIn (places r) k) c → {W' : List ℕ} (f : Failure) → Chosen W base n c (Fail f) W'
       → k ≡ 3 → StandsFor W' (3 * (g .n) + 3) (g .n) l (PointerFailed f) (grouped l u (drop 3 (order r)) [] (g .F))
   level-pointer v Skip c f h at = let z : _≡_ {A = ℕ} 0 1 = cc in absurd (omega arith)
   level-pointer v (Run state) c {W'} f h at = fell (h .to (level-run v state c))
     where
-      fell : RanTo W' (3 * (g .n) + 3) (pass (place v state c .kind) (v .F)) (Fail f)
+      fell : RanTo W' base (3 * (g .n) + 3) (pass (place v state c .kind) (v .F)) (Fail f)
           → StandsFor W' (3 * (g .n) + 3) (g .n) l (PointerFailed f) (grouped l u (drop 3 (order r)) [] (g .F))
       fell (driver.failed {ms = ms} e t) =
           subst (λ (a : Answer). StandsFor W' (3 * (g .n) + 3) (g .n) l (PointerFailed f) a) (sym (v .answer ∙ place v state c .pointer-ends ms at e)) (pointerFailed t)
 
-  pub level-fails : LevelAt W₀ base u r g l W k → (c : Choice) → Picked u (placeIn (places r) k) c → {W' : List ℕ} (f : Failure) → Chosen W base c (Fail f) W'
+  pub level-fails : LevelAt W₀ base m u r g l W k n → (c : Choice) → Picked u (placeIn (places r) k) c → {W' : List ℕ} (f : Failure) → Chosen W base n c (Fail f) W'
       → k ≢ 3 → StandsFor W' (3 * (g .n) + 3) (g .n) l (Failed f) (grouped l u (drop 3 (order r)) [] (g .F))
   level-fails v Skip c f h other = let z : _≡_ {A = ℕ} 0 1 = cc in absurd (omega arith)
   level-fails v (Run state) c {W'} f h other = fell (h .to (level-run v state c))
     where
-      fell : RanTo W' (3 * (g .n) + 3) (pass (place v state c .kind) (v .F)) (Fail f)
+      fell : RanTo W' base (3 * (g .n) + 3) (pass (place v state c .kind) (v .F)) (Fail f)
           → StandsFor W' (3 * (g .n) + 3) (g .n) l (Failed f) (grouped l u (drop 3 (order r)) [] (g .F))
       fell (driver.failed {ms = ms} e t) =
           subst (λ (a : Answer). StandsFor W' (3 * (g .n) + 3) (g .n) l (Failed f) a) (sym (v .answer ∙ place v state c .ends ms other e)) (failed (tells t))
 
 -- after the last place: the roots
-pub level-roots : {W₀ : List ℕ} {base : ℕ} {u : ℕ → Bool} {r : Rules} {g : CanLevel W₀ base} {l : ℕ} {W : List ℕ} {k : ℕ} → LevelAt W₀ base u r g l W k → k ≡ 23
+pub level-roots : {W₀ : List ℕ} {base m : ℕ} {u : ℕ → Bool} {r : Rules} {g : CanLevel W₀ base m} {l : ℕ} {W : List ℕ} {k n : ℕ} → LevelAt W₀ base m u r g l W k n → k ≡ 23
     → StandsFor W (3 * (g .n) + 3) (g .n) l Roots (grouped l u (drop 3 (order r)) [] (g .F))
 level-roots {u = u} {r} {g} {l} {W} {k} v e =
     let last = ap (λ (j : ℕ). grouped l u (passesFrom u r j) [] (v .F)) e ∙ grouped-last l u r [] (v .F) in
-    subst (λ (a : Answer). StandsFor W (3 * (g .n) + 3) (g .n) l Roots a) (sym (v .answer ∙ last)) (roots (v .owned) (omega (arith, size-weight (v .F), v .light)))
+    subst (λ (a : Answer). StandsFor W (3 * (g .n) + 3) (g .n) l Roots a) (sym (v .answer ∙ last)) (roots (v .list .owned) (omega (arith, size-weight (v .F), v .light)))
 
 -- at the same version, as the machine reads it back
-pub levelled-at : {W W' : List ℕ} {base : ℕ} {used : OpSet} {r : Grouped} {z z' : ℤ} → z ≡ z' → Levelled W base used z r W' → Levelled W base used z' r W'
-levelled-at {W} {W'} {base} {used} {r} e w = subst (λ (v : ℤ). Levelled W base used v r W') e w
+pub levelled-at : {W W' : List ℕ} {base m : ℕ} {used : OpSet} {r : Grouped} {z z' : ℤ} → z ≡ z' → Levelled W base m used z r W' → Levelled W base m used z' r W'
+levelled-at {W} {W'} {base} {m} {used} {r} e w = subst (λ (v : ℤ). Levelled W base m used v r W') e w
 
 -- ---- from the flat list to slot 0
 
@@ -181,27 +182,24 @@ module _ {W W1 : List ℕ} {base n : ℕ} {used : OpSet} where
         array-give (f .array) (omega arith) (omega (arith, g .based)) (omega (arith, g .based, g .room, f .fewer, w .long))
 
     module _ {W2 : List ℕ} (given : Given W1 0 base m W2) where
-      owned-items : {f : Forest} → InArray W1 (0 ∷ []) base m 3 (3 * n + 3) f → Owned W2 [] 0 0 (3 * n + 3) f
-      owned-items a = let o = array-owned given a in record { cs = o .cs; chain = o .chain; notes = o .notes; kids = rep-lower (omega arith) (o .kids) }
-
       -- what is left stands under slot 0, whatever the passes after it
-      levels-on : (g : CanGroup W base n) (l : ℕ) (ps : List Pass) → CanLevel W2 base
+      levels-on : (g : CanGroup W base n) (l : ℕ) (ps : List Pass) → CanLevel W2 base m
       levels-on g l ps =
           let f = left g l ps in
           record {
             n = n;
             F = f .forest;
-            owned = owned-items (f .array);
+            list = give-outermost given (f .array) (omega arith) (omega (arith, g .based));
             light = f .light;
             based = g .based;
             room = omega (arith, g .room, w .long, given .long);
             small = omega (arith, g .small, w .long, given .long);
           }
 
-      pub group-levels : CanGroup W base n → CanLevel W2 base
+      pub group-levels : CanGroup W base n → CanLevel W2 base m
       group-levels g = levels-on g 0 []
 
-      pub group-done : {W3 : List ℕ} {r : Grouped} {version : ℤ} → Levelled W2 base used version r W3 → HasGrouped W base n used version r W3
+      pub group-done : {W3 : List ℕ} {r : Grouped} {version : ℤ} → Levelled W2 base m used version r W3 → HasGrouped W base n used version r W3
       unfolding order levels-on
       group-done {W3} {r} {version} v =
           record {

@@ -6,6 +6,7 @@ pub mod ResumeLaws
 pub mod EndLaws
 pub mod Lasting
 pub mod DescendLaws
+pub mod OutermostLaws
 pub mod CloseLaws
 pub mod AdvanceLaws
 pub mod RunLaws

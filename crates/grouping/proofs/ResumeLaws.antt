@@ -213,7 +213,7 @@ module _ (W W' X : List ℕ) (lo l m hi item : ℕ) (v : Items) (k : Token) (kid
                 bs = item ∷ b' .bs;
                 seg = (set-same W W' (v .base + (v .write - 1)) item ew room, subst (λ (x : ℕ). Seg W' x (b' .bs)) (sym next) (b' .seg));
                 count = omega (arith, b' .count);
-                rep = tree-more (le-refl l) tree' (b' .rep);
+                rep = tree-more {bs = b' .bs} (le-refl l) tree' (b' .rep);
               });
           unread = back-array-keep W W' (λ s o x y z w. other (8 * s + o) (omega arith)) (λ j x y. other j (omega arith)) u;
           agrees = tt;

@@ -17,16 +17,17 @@ use Rattle.walks.specs.Turns.{turnsLeft, afresh}
 use Rattle.walks.specs.declared.failure.Failure.{Failure}
 use Rattle.walks.specs.declared.turns.Pass.{Pass}
 use Rattle.walks.specs.declared.turns.Walk.{Walk}
-use Rattle.grouping.specs.Driver.{Stack, bottom, Going, turnsBelow, Beyond, CanOpen, Opened, NextTo, CanAdvance, Advanced, CanRun, RanTo, done, failed, HasRun}
+use Rattle.grouping.specs.Driver.{Stack, bottom, Going, turnsBelow, Beyond, CanOpen, Opened, CanBegin, Begun, NextTo, CanAdvance, Advanced, CanRun, RanTo, done, failed, HasRun}
 use Rattle.grouping.specs.declared.driver.Next.{Next}
 use Rattle.grouping.specs.declared.driver.Next.the-variants.{On, Done, Fail}
 use Rattle.grouping.specs.declared.driver.Ran.the-variants.{Done as Through, Fail as Failed}
 use Rattle.grouping.proofs.StackLaws.{beyond-then}
 use Rattle.grouping.proofs.Lasting.{reading-size, reading-count}
+use Rattle.grouping.proofs.OutermostLaws.{outermost-taken}
 
 -- ---- the outermost list begins
 
-pub run-can-open : {W : List ℕ} {base : ℕ} {p : Pass} → CanRun W base p → CanOpen W 0 base p
+pub run-can-open : {W : List ℕ} {base n : ℕ} {p : Pass} → CanRun W base n p → CanOpen W 0 base p
 run-can-open g =
     let room = g .room in
     record {
@@ -38,13 +39,21 @@ run-can-open g =
       cs = g .F;
       u = begins (g .κ) (g .F);
       runs = g .runs;
-      owned = g .owned;
+      owned = g .list .owned;
       begins = afresh (g .unlent) (le-refl 0);
       own = g .own;
       below = g .below;
       room = omega (arith, count-size (g .F));
       small = g .small;
     }
+
+-- its items stand there already
+pub run-can-begin : {W : List ℕ} {base n : ℕ} {p : Pass} → CanRun W base n p → CanBegin W 0 base n p
+run-can-begin {W} g = record { before = W; opens = run-can-open g; taken = outermost-taken (g .list) }
+
+pub run-opened : {W : List ℕ} {base n : ℕ} {p : Pass} {w : Walk} → Begun W 0 base n p w → CanRun W base n p → Opened W 0 base p w W
+unfolding run-can-begin
+run-opened begun g = begun .opened (run-can-begin g)
 
 begins-waits : (κ : Kind) (f : Forest) → waits κ (begins κ f) ≡ 0
 unfolding waits begins arrayLevel
@@ -56,8 +65,8 @@ begins-waits ternary f = refl
 begins-waits returns f = refl
 begins-waits (binary ops) f = refl
 
-module _ {W W1 : List ℕ} {base : ℕ} {p : Pass} {w : Walk} (opened : Opened W 0 base p w W1) where
-  run-going : (g : CanRun W base p) → Going (g .κ) (classesOf (w .pass)) W1 base (g .hi) w [] (begins (g .κ) (g .F)) (inReading (g .κ) (g .F))
+module _ {W W1 : List ℕ} {base n : ℕ} {p : Pass} {w : Walk} (opened : Opened W 0 base p w W1) where
+  run-going : (g : CanRun W base n p) → Going (g .κ) (classesOf (w .pass)) W1 base (g .hi) w [] (begins (g .κ) (g .F)) (inReading (g .κ) (g .F))
   unfolding run-can-open
   run-going g =
       let long = opened .long in
@@ -78,11 +87,11 @@ module _ {W W1 : List ℕ} {base : ℕ} {p : Pass} {w : Walk} (opened : Opened W
         small = omega (arith, g .small);
       }
 
-  abbrev run-starts : CanRun W base p → CanAdvance W1 w base
+  abbrev run-starts : CanRun W base n p → CanAdvance W1 w base
   run-starts g =
       record { κ = g .κ; classes = classesOf (w .pass); hi0 = g .hi; S = []; s = begins (g .κ) (g .F); rest = inReading (g .κ) (g .F); going = run-going g }
 
-  open-beyond : (g : CanRun W base p) → Beyond W W1 base (g .hi)
+  open-beyond : (g : CanRun W base n p) → Beyond W W1 base (g .hi)
   open-beyond g = record { kept = λ j x y. opened .same j (inl y); long = opened .long }
 
 -- ---- the loop
@@ -109,7 +118,7 @@ pub record Running (W0 : List ℕ) (w0 : Walk) (base fuel0 : ℕ) (W : List ℕ)
   pub enough : turnsOf start < fuel0
   pub long : length W ≡ length W0
 
-run-enough : {W W1 : List ℕ} {base : ℕ} {p : Pass} {w : Walk} (opened : Opened W 0 base p w W1) (g : CanRun W base p) → turnsOf (run-starts opened g) < length W1
+run-enough : {W W1 : List ℕ} {base n : ℕ} {p : Pass} {w : Walk} (opened : Opened W 0 base p w W1) (g : CanRun W base n p) → turnsOf (run-starts opened g) < length W1
 run-enough opened g =
     let none = begins-waits (g .κ) (g .F) in
     let sizes = reading-size (g .κ) (g .F) in
@@ -119,7 +128,7 @@ run-enough opened g =
     let long = opened .long in
     omega arith
 
-pub run-holds : {W W1 : List ℕ} {base : ℕ} {p : Pass} {w : Walk} → Opened W 0 base p w W1 → CanRun W base p → Running W1 w base (length W1) W1 w (length W1)
+pub run-holds : {W W1 : List ℕ} {base n : ℕ} {p : Pass} {w : Walk} → Opened W 0 base p w W1 → CanRun W base n p → Running W1 w base (length W1) W1 w (length W1)
 run-holds opened g =
     record {
       at = λ a e. record { S = a .S; s = a .s; rest = a .rest; going = a .going; result = refl; turns = e; beyond = record { kept = λ j x y. refl; long = refl } };
@@ -164,37 +173,37 @@ run-again {W0} {w0} {base} {W = W} {W'} {w} x w' v adv ex ef long =
 
 -- ---- the end of the pass
 
-module _ {W W0 : List ℕ} {base : ℕ} {p : Pass} {w0 : Walk} (opened : Opened W 0 base p w0 W0) {Z Z' : List ℕ} {w : Walk} {fuel : ℕ}
+module _ {W W0 : List ℕ} {base n : ℕ} {p : Pass} {w0 : Walk} (opened : Opened W 0 base p w0 W0) {Z Z' : List ℕ} {w : Walk} {fuel : ℕ}
     (v : Running W0 w0 base (length W0) Z w fuel) (x : Next) (adv : Advanced Z w base x Z') where
-  ran-at : (g : CanRun W base p) → RunAt W0 w0 base (run-starts opened g) Z w fuel
+  ran-at : (g : CanRun W base n p) → RunAt W0 w0 base (run-starts opened g) Z w fuel
   ran-at g = v .at (run-starts opened g) (run-enough opened g)
 
-  whole : (g : CanRun W base p) → pass (g .κ) (g .F) ≡ resultOf (run-starts opened g)
+  whole : (g : CanRun W base n p) → pass (g .κ) (g .F) ≡ resultOf (run-starts opened g)
   unfolding unwound
   whole g = pass-begins (g .κ) (g .F)
 
-  ran-beyond : (g : CanRun W base p) → Beyond W Z' base (g .hi)
+  ran-beyond : (g : CanRun W base n p) → Beyond W Z' base (g .hi)
   ran-beyond g = beyond-then (open-beyond opened g) (run-beyond x adv (run-starts opened g) (ran-at g))
 
-  ran-next : (g : CanRun W base p) → NextTo (g .κ) (classesOf (w0 .pass)) Z' base (g .hi) (pass (g .κ) (g .F)) (turnsLeft (g .κ) (ran-at g .s) (ran-at g .rest) + turnsBelow (g .κ) (ran-at g .S)) x
+  ran-next : (g : CanRun W base n p) → NextTo (g .κ) (classesOf (w0 .pass)) Z' base (g .hi) (pass (g .κ) (g .F)) (turnsLeft (g .κ) (ran-at g .s) (ran-at g .rest) + turnsBelow (g .κ) (ran-at g .S)) x
   ran-next g =
       subst (λ (r : Result). NextTo (g .κ) (classesOf (w0 .pass)) Z' base (g .hi) r (turnsLeft (g .κ) (ran-at g .s) (ran-at g .rest) + turnsBelow (g .κ) (ran-at g .S)) x) (sym (whole g))
       (run-next x adv (run-starts opened g) (ran-at g))
 
-done-to : {κ : Kind} {classes : ℕ} {Z' : List ℕ} {base hi turns : ℕ} {r : Result} {x : Next} → x ≡ Done → NextTo κ classes Z' base hi r turns x → RanTo Z' hi r Through
-done-to e (NextTo.goes g q t) = let z : _≡_ {A = ℕ} 0 1 = cc in absurd (omega arith)
-done-to e (NextTo.ends q v) = done q v
-done-to e (NextTo.fails q t) = let z : _≡_ {A = ℕ} 0 1 = cc in absurd (omega arith)
+done-to : {κ : Kind} {classes : ℕ} {Z' : List ℕ} {base hi turns left : ℕ} {r : Result} → NextTo κ classes Z' base hi r turns (Done left) → RanTo Z' base hi r (Through left)
+done-to (NextTo.ends q v) = done q v
 
-failed-to : {κ : Kind} {classes : ℕ} {Z' : List ℕ} {base hi turns : ℕ} {r : Result} {f : Failure} → NextTo κ classes Z' base hi r turns (Fail f) → RanTo Z' hi r (Failed f)
+failed-to : {κ : Kind} {classes : ℕ} {Z' : List ℕ} {base hi turns : ℕ} {r : Result} {f : Failure} → NextTo κ classes Z' base hi r turns (Fail f) → RanTo Z' base hi r (Failed f)
 failed-to (NextTo.fails q t) = failed q t
 
-pub ran-done : {W W0 Z Z' : List ℕ} {base fuel : ℕ} {p : Pass} {w0 w : Walk} → Opened W 0 base p w0 W0 → Running W0 w0 base (length W0) Z w fuel → (x : Next) → Advanced Z w base x Z'
-    → x ≡ Done → HasRun W base p Through Z'
-ran-done opened v x adv e = record { to = λ g. done-to e (ran-next opened v x adv g); beyond = ran-beyond opened v x adv }
+pub ran-done : {W W0 Z Z' : List ℕ} {base n fuel : ℕ} {p : Pass} {w0 w : Walk} → Opened W 0 base p w0 W0 → Running W0 w0 base (length W0) Z w fuel → (x : Next) → Advanced Z w base x Z'
+    → (left : ℕ) → x ≡ Done left → HasRun W base n p (Through left) Z'
+ran-done {Z = Z} {Z'} {base} {w = w} opened v x adv left e =
+    let adv' : Advanced Z w base (Done left) Z' = subst (λ (y : Next). Advanced Z w base y Z') e adv in
+    record { to = λ g. done-to (ran-next opened v (Done left) adv' g); beyond = ran-beyond opened v (Done left) adv' }
 
-pub ran-failed : {W W0 Z Z' : List ℕ} {base fuel : ℕ} {p : Pass} {w0 w : Walk} → Opened W 0 base p w0 W0 → Running W0 w0 base (length W0) Z w fuel → (x : Next) → Advanced Z w base x Z'
-    → (f : Failure) → x ≡ Fail f → HasRun W base p (Failed f) Z'
+pub ran-failed : {W W0 Z Z' : List ℕ} {base n fuel : ℕ} {p : Pass} {w0 w : Walk} → Opened W 0 base p w0 W0 → Running W0 w0 base (length W0) Z w fuel → (x : Next) → Advanced Z w base x Z'
+    → (f : Failure) → x ≡ Fail f → HasRun W base n p (Failed f) Z'
 ran-failed {Z = Z} {Z'} {base} {w = w} opened v x adv f e =
     let adv' : Advanced Z w base (Fail f) Z' = subst (λ (y : Next). Advanced Z w base y Z') e adv in
     record { to = λ g. failed-to (ran-next opened v (Fail f) adv' g); beyond = ran-beyond opened v (Fail f) adv' }

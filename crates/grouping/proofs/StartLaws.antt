@@ -30,7 +30,7 @@ use Rattle.walks.specs.Turns.{Begins, afresh, lent, CanStart, Started}
 use Rattle.walks.specs.declared.turns.Pass.{Pass}
 use Rattle.walks.specs.declared.turns.Pass.the-variants.{Calls, Maths, Plain, Split, Arrays, Unary, Binary, Ternary, Prefix}
 use Rattle.walks.specs.declared.turns.Walk.{Walk}
-use Rattle.grouping.specs.Driver.{CanOpen, Opened}
+use Rattle.grouping.specs.Driver.{CanOpen, Opened, CanBegin, Begun}
 use Rattle.grouping.proofs.SideLaws.{open-array-keep}
 
 -- the list at its beginning
@@ -48,10 +48,10 @@ module _ (W' X : List ℕ) (owner base len lo n hi : ℕ) (cs : Forest) (v : InA
   all-ahead : Ahead W' X base 0 len n hi cs
   all-ahead = record { n = len; count = omega arith; array = rw add-zero v }
 
-  begun : (κ : Kind) (p : Pass) (s : State κ) → Runs κ p → DoneSide κ W' X lo n n hi (walkOf (listFrom owner base len) p) s
+  begun-at : (κ : Kind) (p : Pass) (s : State κ) → Runs κ p → DoneSide κ W' X lo n n hi (walkOf (listFrom owner base len) p) s
       → UnreadSide κ W' X lo n n hi (listFrom owner base len) cs → Agrees κ (listFrom owner base len) s cs → AtTurn (listFrom owner base len) p
       → Holds κ W' X lo hi (walkOf (listFrom owner base len) p) s cs
-  begun κ p s runs done unread agrees turning =
+  begun-at κ p s runs done unread agrees turning =
       record {
         l = n;
         m = n;
@@ -73,34 +73,34 @@ module _ (W' X : List ℕ) (owner base len lo n hi : ℕ) (cs : Forest) (v : InA
 
   start-call : Holds (calls queryOrLoop) W' X lo hi (walkOf (listFrom owner base len) Calls) (begins (calls queryOrLoop) cs) cs
   unfolding begins callLevel nothing
-  start-call = begun (calls queryOrLoop) Calls (gathered nil) call (GatherSide.all none-done) all-ahead tt (le-refl 0)
+  start-call = begun-at (calls queryOrLoop) Calls (gathered nil) call (GatherSide.all none-done) all-ahead tt (le-refl 0)
 
   start-math : Holds (calls math) W' X lo hi (walkOf (listFrom owner base len) Maths) (begins (calls math) cs) cs
   unfolding begins callLevel nothing
-  start-math = begun (calls math) Maths (gathered nil) mathCall (GatherSide.all none-done) all-ahead tt (le-refl 0)
+  start-math = begun-at (calls math) Maths (gathered nil) mathCall (GatherSide.all none-done) all-ahead tt (le-refl 0)
 
   start-return : Holds returns W' X lo hi (walkOf (listFrom owner base len) Prefix) (begins returns cs) cs
   unfolding begins returnLevel nothing
-  start-return = begun returns Prefix (gathered nil) prefix (GatherSide.all none-done) all-ahead tt (le-refl 0)
+  start-return = begun-at returns Prefix (gathered nil) prefix (GatherSide.all none-done) all-ahead tt (le-refl 0)
 
   start-level : (ops : List ℕ) (classes : TokenClasses) {q : ℕ} → Runs (binary ops) (Binary classes q)
       → Holds (binary ops) W' X lo hi (walkOf (listFrom owner base len) (Binary classes 0)) (begins (binary ops) cs) cs
   unfolding begins binaryLevel nothing clear
-  start-level ops classes (level e) = begun (binary ops) (Binary classes 0) (gathered nil) (level e) (LevelSide.all refl none-done) all-ahead tt (refl, le-refl 0)
+  start-level ops classes (level e) = begun-at (binary ops) (Binary classes 0) (gathered nil) (level e) (LevelSide.all refl none-done) all-ahead tt (refl, le-refl 0)
 
   start-ternary : Holds ternary W' X lo hi (walkOf (listFrom owner base len) (Ternary 0)) (begins ternary cs) cs
   unfolding begins conditionalLevel tokensIn
-  start-ternary = begun ternary (Ternary 0) nil tern (TernarySide.all refl none-done) all-ahead tt refl
+  start-ternary = begun-at ternary (Ternary 0) nil tern (TernarySide.all refl none-done) all-ahead tt refl
 
   start-array : Holds arrays W' X lo hi (walkOf (listFrom owner base len) (Arrays 0 0)) (begins arrays cs) cs
   unfolding begins arrayLevel
-  start-array = begun arrays (Arrays 0 0) (unindexed nil) array (ArraySide.all none-done) all-ahead tt (refl, le-refl 0)
+  start-array = begun-at arrays (Arrays 0 0) (unindexed nil) array (ArraySide.all none-done) all-ahead tt (refl, le-refl 0)
 
   -- with an array that was lent
   start-lent : (a : ℕ) (q : Token) → OpenArray W' X a lo n q nil → startsWithIndex cs ≡ true
       → Holds arrays W' X lo hi (walkOf (listFrom owner base len) (Arrays a 0)) (indexed nil q nil) cs
   start-lent a q o h =
-      begun arrays (Arrays a 0) (indexed nil q nil) array
+      begun-at arrays (Arrays a 0) (indexed nil q nil) array
       (ArraySide.growing (record { ds = []; seg = tt; count = refl; rep = RepB.begins (le-refl lo) }) o) all-ahead (inr h) (refl, le-refl 0)
 
   -- from the right
@@ -204,7 +204,7 @@ module _ {W W' : List ℕ} {owner base len : ℕ} {p : Pass} (tk : Taken W (wd W
 pub open-can-take : {W : List ℕ} {owner base : ℕ} {p : Pass} → CanOpen W owner base p → CanTake W (wd W (8 * owner + 5)) base
 open-can-take g = can-take (g .owned) (g .own) (g .below) (g .room)
 
-pub opened : {W W' : List ℕ} {owner base len : ℕ} (p : Pass) (w : Walk) → Taken W (wd W (8 * owner + 5)) base len W'
+opened : {W W' : List ℕ} {owner base len : ℕ} (p : Pass) (w : Walk) → Taken W (wd W (8 * owner + 5)) base len W'
     → w .list .owner ≡ owner → w .list .base ≡ base → w .list .len ≡ len → classesOf (w .pass) ≡ classesOf p → Opens W W' owner base len p w
     → Opened W owner base p w W'
 opened {W} {W'} {owner} {base} {len} p w tk eo eb el ec opens =
@@ -225,7 +225,7 @@ pub begins-low : {W X : List ℕ} {lo n : ℕ} {cs : Forest} {κ : Kind} {p : Pa
 begins-low (afresh e low) = low
 begins-low (lent o h) = omega (arith, o .low, o .high)
 
-pub open-can-start : {W W' : List ℕ} {owner base len : ℕ} {p : Pass} → Taken W (wd W (8 * owner + 5)) base len W' → CanOpen W owner base p → CanStart W' (listFrom owner base len)
+open-can-start : {W W' : List ℕ} {owner base len : ℕ} {p : Pass} → Taken W (wd W (8 * owner + 5)) base len W' → CanOpen W owner base p → CanStart W' (listFrom owner base len)
 open-can-start {W' = W'} {owner} {base} {len} tk g =
     let long = tk .long in
     can-start W' (owner ∷ g .X) owner base len (g .lo) (g .n) (g .hi) (g .cs) (taken-array tk g) (begins-low (g .begins)) (g .below)
@@ -238,6 +238,19 @@ started-classes {W} {v} {w} st g = go (w .pass) (st .holds g .sides .runs)
     go p plain = refl
     go p split = refl
 
--- by which arm it came
-pub opened-by : {W W' : List ℕ} {owner base : ℕ} {w : Walk} (p q : Pass) → p ≡ q → Opened W owner base q w W' → Opened W owner base p w W'
-opened-by {W} {W'} {owner} {base} {w} p q e v = subst (λ (x : Pass). Opened W owner base x w W') (sym e) v
+-- ---- `begin`, by which arm it came
+
+pub begun : {W : List ℕ} {owner base len : ℕ} (p q : Pass) (w : Walk) → p ≡ q → w .list .owner ≡ owner → w .list .base ≡ base → w .list .len ≡ len → classesOf (w .pass) ≡ classesOf q
+    → ((before : List ℕ) → Opens before W owner base len q w) → Begun W owner base len p w
+begun {W} {owner} {base} {len} p q w e eo eb el ec opens =
+    subst (λ (x : Pass). Begun W owner base len x w) (sym e) (record { opened = λ g. opened q w (g .taken) eo eb el ec (opens (g .before)) })
+
+-- the pass as it was handed in
+pub begun-same : {W : List ℕ} {owner base len : ℕ} (p q : Pass) → p ≡ q → ((before : List ℕ) → Opens before W owner base len q (walkOf (listFrom owner base len) q))
+    → Begun W owner base len p (walkOf (listFrom owner base len) p)
+begun-same {W} {owner} {base} {len} p q e opens =
+    subst (λ (x : Pass). Begun W owner base len x (walkOf (listFrom owner base len) x)) (sym e)
+    (record { opened = λ g. opened q (walkOf (listFrom owner base len) q) (g .taken) refl refl refl refl (opens (g .before)) })
+
+pub begin-can-start : {W : List ℕ} {owner base len : ℕ} {p : Pass} → CanBegin W owner base len p → CanStart W (listFrom owner base len)
+begin-can-start g = open-can-start (g .taken) (g .opens)

@@ -9,11 +9,11 @@ use Rattle.grouping.specs.declared.driver.Ran.{Ran}
 use Rattle.grouping.specs.declared.driver.Ran.the-variants.{Done}
 
 -- What a choice asks: what its pass asks.
-abbrev pub CanChoose : List ℕ → ℕ → Choice → Type 0
-CanChoose W base (Run p) = CanRun W base p
-CanChoose W base Skip = Unit {0}
+abbrev pub CanChoose : List ℕ → ℕ → ℕ → Choice → Type 0
+CanChoose W base n (Run p) = CanRun W base n p
+CanChoose W base n Skip = Unit {0}
 
 -- What a choice comes to: what its pass leaves, or nothing.
-abbrev pub Chosen : List ℕ → ℕ → Choice → Ran → List ℕ → Type 0
-Chosen W base (Run p) r W' = HasRun W base p r W'
-Chosen W base Skip r W' = (r ≡ Done) × (W' ≡ W)
+abbrev pub Chosen : List ℕ → ℕ → ℕ → Choice → Ran → List ℕ → Type 0
+Chosen W base n (Run p) r W' = HasRun W base n p r W'
+Chosen W base n Skip r W' = (r ≡ Done n) × (W' ≡ W)

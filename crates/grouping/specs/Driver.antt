@@ -10,7 +10,8 @@ use Rattle.molang.specs.Forest.{Token, Forest, nil, count, size}
 use Rattle.molang.specs.Message.{Message, Result, ok, fail}
 use Rattle.molang.proofs.Trees.{isNil}
 use Rattle.molang.proofs.Work.{Kind, State, work, pass, inReading, takes, andThen, Held, held, unwound}
-use Rattle.nodes.specs.Store.{wd, TokenAt, Out, RepT, Owned, Free}
+use Rattle.nodes.specs.Store.{wd, TokenAt, Seg, Out, RepT, Owned, Free}
+use Rattle.nodes.specs.Children.{Taken}
 use Rattle.nodes.specs.Frames.{FrameAt}
 use Rattle.nodes.specs.declared.frames.List.{List as Items}
 use Rattle.walks.specs.Passes.{classesOf, heldOf, Runs, waits}
@@ -81,7 +82,13 @@ pub record Beyond (W W' : List ℕ) (base0 hi0 : ℕ) : Type 0 where
   pub kept : (j : ℕ) → Free [] 0 hi0 j → j < base0 → wd W' j ≡ wd W j
   pub long : length W' ≡ length W
 
--- ---- `open`
+-- The outermost list F: under slot 0, and its n items in the words from base on as well.
+pub record Outermost (W : List ℕ) (base n hi : ℕ) (F : Forest) : Type 0 where
+  pub owned : Owned W [] 0 0 hi F
+  pub seg : Seg W base (owned .cs)
+  pub count : n ≡ length (owned .cs)
+
+-- ---- `begin`, `open`
 
 pub record CanOpen (W : List ℕ) (owner base : ℕ) (p : Pass) : Type 0 where
   pub κ : Kind
@@ -107,6 +114,15 @@ pub record Opened (W : List ℕ) (owner base : ℕ) (p : Pass) (w : Walk) (W' : 
   pub holds : (g : CanOpen W owner base p) → Holds (g .κ) W' (owner ∷ g .X) (g .lo) (g .hi) w (g .u) (inReading (g .κ) (g .cs))
   pub same : (j : ℕ) → (j < base) ⊎ (base + w .list .len ≤ j) → wd W' j ≡ wd W j
   pub long : length W' ≡ length W
+
+-- The owner's children have been taken to the list's words.
+pub record CanBegin (W : List ℕ) (owner base len : ℕ) (p : Pass) : Type 0 where
+  pub before : List ℕ
+  pub opens : CanOpen before owner base p
+  pub taken : Taken before (wd before (8 * owner + 5)) base len W
+
+pub record Begun (W : List ℕ) (owner base len : ℕ) (p : Pass) (w : Walk) : Type 0 where
+  pub opened : (g : CanBegin W owner base len p) → Opened (g .before) owner base p w W
 
 -- ---- `kept`
 
@@ -156,6 +172,18 @@ pub record Descended (W : List ℕ) (w : Walk) (item : ℕ) (w' : Walk) (W' : Li
   pub going : (g : CanDescend W w item) → Going (g .κ) (g .classes) W' (g .base0) (g .hi0) w' (held (g .t) (g .k) (g .rest) ∷ g .S) (g .u) (inReading (g .κ) (g .cs))
   pub beyond : (g : CanDescend W w item) → Beyond W W' (g .base0) (g .hi0)
 
+-- ---- `move_down`
+
+pub record CanMove (W : List ℕ) (from n base : ℕ) : Type 0 where
+  pub down : base ≤ from
+  pub within : from + n ≤ length W
+
+-- The n words from `from` on stand from `base` on, and what is below is as it was.
+pub record Moved (W : List ℕ) (from n base : ℕ) (W' : List ℕ) : Type 0 where
+  pub words : (i : ℕ) → i < n → wd W' (base + i) ≡ wd W (from + i)
+  pub same : (j : ℕ) → j < base → wd W' j ≡ wd W j
+  pub long : length W' ≡ length W
+
 -- ---- `close`, `advance`
 
 -- Where a turn of the driver leads to, from what is left to be done: the same result with fewer turns, or the end of the whole pass.
@@ -163,7 +191,7 @@ pub data NextTo (κ : Kind) (classes : ℕ) (W' : List ℕ) (base0 hi0 : ℕ) (r
   goes : {w' : Walk} {S' : List (Held κ)} {s' : State κ} {rest' : Forest} → Going κ classes W' base0 hi0 w' S' s' rest'
       → r ≡ unwound κ S' (work κ s' rest') → turnsLeft κ s' rest' + turnsBelow κ S' < turns
       → NextTo κ classes W' base0 hi0 r turns (On w')
-  ends : {f : Forest} → r ≡ ok f → Owned W' [] 0 0 hi0 f → NextTo κ classes W' base0 hi0 r turns Done
+  ends : {f : Forest} {n : ℕ} → r ≡ ok f → Outermost W' base0 n hi0 f → NextTo κ classes W' base0 hi0 r turns (Done n)
   fails : {f : Failure} {ms : List Message} → r ≡ fail ms → Tells W' f ms → NextTo κ classes W' base0 hi0 r turns (Fail f)
 
 pub record CanAdvance (W : List ℕ) (w : Walk) (base0 : ℕ) : Type 0 where
@@ -197,23 +225,23 @@ pub record Closed (W : List ℕ) (w : Walk) (base0 : ℕ) (r : Next) (W' : List 
 
 -- ---- `run`
 
--- The outermost list F stands under slot 0, and the words from base on have room for the lists under work.
-pub record CanRun (W : List ℕ) (base : ℕ) (p : Pass) : Type 0 where
+-- The outermost list F has n items, and the words from base on have room for the lists under work.
+pub record CanRun (W : List ℕ) (base n : ℕ) (p : Pass) : Type 0 where
   pub κ : Kind
   pub hi : ℕ
   pub F : Forest
   pub runs : Runs κ p
   pub unlent : lentOf p ≡ 0
-  pub owned : Owned W [] 0 0 hi F
+  pub list : Outermost W base n hi F
   pub own : 0 < hi
   pub below : 8 * hi ≤ base
   pub room : base + 8 * size F ≤ length W
   pub small : length W < 2 ^ 32
 
-pub data RanTo (W' : List ℕ) (hi : ℕ) (r : Result) : Ran → Type 0 where
-  done : {f : Forest} → r ≡ ok f → Owned W' [] 0 0 hi f → RanTo W' hi r Through
-  failed : {f : Failure} {ms : List Message} → r ≡ fail ms → Tells W' f ms → RanTo W' hi r (Failed f)
+pub data RanTo (W' : List ℕ) (base hi : ℕ) (r : Result) : Ran → Type 0 where
+  done : {f : Forest} {n : ℕ} → r ≡ ok f → Outermost W' base n hi f → RanTo W' base hi r (Through n)
+  failed : {f : Failure} {ms : List Message} → r ≡ fail ms → Tells W' f ms → RanTo W' base hi r (Failed f)
 
-pub record HasRun (W : List ℕ) (base : ℕ) (p : Pass) (r : Ran) (W' : List ℕ) : Type 0 where
-  pub to : (g : CanRun W base p) → RanTo W' (g .hi) (pass (g .κ) (g .F)) r
-  pub beyond : (g : CanRun W base p) → Beyond W W' base (g .hi)
+pub record HasRun (W : List ℕ) (base n : ℕ) (p : Pass) (r : Ran) (W' : List ℕ) : Type 0 where
+  pub to : (g : CanRun W base n p) → RanTo W' base (g .hi) (pass (g .κ) (g .F)) r
+  pub beyond : (g : CanRun W base n p) → Beyond W W' base (g .hi)

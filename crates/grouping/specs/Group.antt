@@ -15,7 +15,7 @@ use Rattle.molang.specs.Read.{Answer, grouped}
 use Rattle.molang.proofs.Weight.{weight}
 use Rattle.molang.proofs.Bounds.{nodeWeight}
 use Rattle.ops.specs.declared.sets.OpSet.{OpSet}
-use Rattle.nodes.specs.Store.{Owned, InArray}
+use Rattle.nodes.specs.Store.{InArray}
 use Rattle.walks.specs.Grouped.{Says, StandsFor}
 use Rattle.walks.specs.declared.failure.Failure.{Failure}
 use Rattle.walks.specs.declared.grouped.Grouped.{Grouped}
@@ -24,6 +24,7 @@ use Rattle.order.specs.Places.{usedBy, rulesOf}
 use Rattle.flat.specs.Flat.{CanJoin, CanSection, Answers}
 use Rattle.flat.specs.declared.sections.Flat.{Flat}
 use Rattle.flat.specs.declared.sections.Flat.the-variants.{Done, Fail, Mismatched, Unclosed as Unclosing}
+use Rattle.grouping.specs.Driver.{Outermost}
 
 -- ---- `group`
 
@@ -95,18 +96,18 @@ pub record Flattened (W : List ℕ) (base n : ℕ) (used : OpSet) (r : Flat) (W'
 
 -- ---- `levels`
 
--- The list of slot 0 is no heavier than n tokens, and the stack starts where the slots of so many end.
-pub record CanLevel (W : List ℕ) (base : ℕ) : Type 0 where
+-- The outermost list has m items and is no heavier than n tokens, and the stack starts where the slots of so many end.
+pub record CanLevel (W : List ℕ) (base m : ℕ) : Type 0 where
   pub n : ℕ
   pub F : Forest
-  pub owned : Owned W [] 0 0 (3 * n + 3) F
+  pub list : Outermost W base m (3 * n + 3) F
   pub light : weight nodeWeight F ≤ 3 * n
   pub based : base ≡ 24 * n + 24
   pub room : 64 * n + 64 ≤ length W
   pub small : length W < 2 ^ 32
 
 -- What is left stands for what the passes after the sections make of that list.
-pub record Levelled (W : List ℕ) (base : ℕ) (used : OpSet) (version : ℤ) (r : Grouped) (W' : List ℕ) : Type 0 where
-  pub to : (g : CanLevel W base) (sourceLength : ℕ)
+pub record Levelled (W : List ℕ) (base m : ℕ) (used : OpSet) (version : ℤ) (r : Grouped) (W' : List ℕ) : Type 0 where
+  pub to : (g : CanLevel W base m) (sourceLength : ℕ)
       → StandsFor W' (3 * (g .n) + 3) (g .n) sourceLength r (grouped sourceLength (usedBy used) (drop 3 (Order.order (rulesOf version))) [] (g .F))
   pub long : length W' ≡ length W

@@ -1,5 +1,6 @@
 // The driver that every level runs on: one loop over lists and frames on the stack of the work buffer. A node with no leaf of
-// the pass below it is not entered. Leans on the levels (step, resume, finish of each), on slots, chains and frames.
+// the pass below it is not entered. From one pass to the next the outermost list stays where it stands, at the bottom of the stack.
+// Leans on the levels (step, resume, finish of each), on slots, chains and frames.
 use nodes::children;
 use nodes::frames;
 use nodes::frames::List;
@@ -20,27 +21,26 @@ use walks::turns::Turn;
 use walks::turns::Walk;
 ghost use Rattle.walks.specs.Passes.{walkOf};
 ghost use Rattle.walks.specs.Turns.{CanTurn, Turned, CanResume, Resumed, CanFinish, Ends};
-ghost use Rattle.grouping.specs.Driver.{CanOpen, Opened, Keeping, CanDescend, Descended, CanClose, Closed, CanAdvance, Advanced, CanRun, HasRun};
+ghost use Rattle.grouping.specs.Driver.{CanBegin, Begun, CanOpen, Opened, Keeping, CanDescend, Descended, CanMove, Moved, CanClose, Closed, CanAdvance, Advanced, CanRun, HasRun};
 
-// What one turn of the driver leads to.
+// What one turn of the driver leads to; at the end of the pass, how many items the outermost list has.
 pub enum Next {
     On(Walk),
-    Done,
+    Done(usize),
     Fail(Failure),
 }
 
+// What a pass ends with; where it went through, how many items the outermost list has.
 pub enum Ran {
-    Done,
+    Done(usize),
     Fail(Failure),
 }
 
-// The children of `owner` as a list from `base` on, at the pass's start.
-pub fn open(work: &mut [u32], owner: u32, base: usize, pass: Pass) -> Walk
-    requires { ⌜ CanOpen (now work) owner base pass ⌝ }
-    ensures { λ r. ⌜ Opened (now (work .entry)) owner base pass r (now (work .exit)) ⌝ }
+// The list of `owner`, whose `len` children stand from `base` on, at the pass's start.
+fn begin(work: &[u32], owner: u32, base: usize, len: usize, pass: Pass) -> Walk
+    requires { ⌜ CanBegin (now work) owner base len pass ⌝ }
+    ensures { λ r. ⌜ Begun (now (work .entry)) owner base len pass r ⌝ }
 {
-    let first = slots::first_of(work, owner);
-    let len = children::take_chain(work, first, base);
     let list = List {
         owner,
         base,
@@ -49,17 +49,11 @@ pub fn open(work: &mut [u32], owner: u32, base: usize, pass: Pass) -> Walk
         write: 0,
     };
     match pass {
-        Pass::Calls => Walk {
-            list,
-            pass: Pass::Calls,
-        },
-        Pass::Maths => Walk {
-            list,
-            pass: Pass::Maths,
-        },
+        Pass::Calls => Walk { list, pass },
+        Pass::Maths => Walk { list, pass },
         Pass::Plain => statements::start(work, list),
-        Pass::Split { done: _ } => statements::start(work, list),
-        Pass::Arrays { array: _, lent } => Walk {
+        Pass::Split { .. } => statements::start(work, list),
+        Pass::Arrays { lent, .. } => Walk {
             list,
             pass: Pass::Arrays {
                 array: lent,
@@ -70,25 +64,29 @@ pub fn open(work: &mut [u32], owner: u32, base: usize, pass: Pass) -> Walk
             list: items::moved(list, len, len),
             pass: Pass::Unary,
         },
-        Pass::Binary {
-            classes,
-            pending: _,
-        } => Walk {
+        Pass::Binary { classes, .. } => Walk {
             list,
             pass: Pass::Binary {
                 classes,
                 pending: 0,
             },
         },
-        Pass::Ternary { tokens: _ } => Walk {
+        Pass::Ternary { .. } => Walk {
             list,
             pass: Pass::Ternary { tokens: 0 },
         },
-        Pass::Prefix => Walk {
-            list,
-            pass: Pass::Prefix,
-        },
+        Pass::Prefix => Walk { list, pass },
     }
+}
+
+// The children of `owner` as a list from `base` on, at the pass's start.
+fn open(work: &mut [u32], owner: u32, base: usize, pass: Pass) -> Walk
+    requires { ⌜ CanOpen (now work) owner base pass ⌝ }
+    ensures { λ r. ⌜ Opened (now (work .entry)) owner base pass r (now (work .exit)) ⌝ }
+{
+    let first = slots::first_of(work, owner);
+    let len = children::take_chain(work, first, base);
+    begin(work, owner, base, len, pass)
 }
 
 // The list up to the next token or node that the pass works on.
@@ -103,12 +101,9 @@ fn step(work: &mut [u32], walk: Walk) -> Turn
         Pass::Maths => calls::step_math(work, list),
         Pass::Plain => statements::step(work, list),
         Pass::Split { done } => statements::step_split(work, list, done),
-        Pass::Arrays { array, lent: _ } => arrays::step_array(work, list, array),
+        Pass::Arrays { array, .. } => arrays::step_array(work, list, array),
         Pass::Unary => unary::step(work, list),
-        Pass::Binary {
-            classes,
-            pending: _,
-        } => binary::step(work, list, classes),
+        Pass::Binary { classes, .. } => binary::step(work, list, classes),
         Pass::Ternary { tokens } => conditional::step(work, list, tokens),
         Pass::Prefix => prefix::step_prefix(work, list),
     }
@@ -137,7 +132,7 @@ fn resume(work: &mut [u32], walk: Walk, item: u32) -> Walk
         Pass::Maths => kept(work, list, Pass::Maths, item),
         Pass::Plain => kept(work, list, Pass::Plain, item),
         Pass::Split { done } => kept(work, list, Pass::Split { done }, item),
-        Pass::Arrays { array, lent: _ } => arrays::resume_array(work, list, item, array),
+        Pass::Arrays { array, .. } => arrays::resume_array(work, list, item, array),
         Pass::Unary => Walk {
             list: unary::keep_right(work, list, item),
             pass: Pass::Unary,
@@ -160,12 +155,9 @@ fn finish(work: &mut [u32], walk: Walk) -> Finished
         Pass::Maths => Finished::At(list.base, list.write),
         Pass::Plain => Finished::At(list.base, list.write),
         Pass::Split { done } => statements::finish(work, list, done),
-        Pass::Arrays { array: _, lent: _ } => Finished::At(list.base, list.write),
+        Pass::Arrays { .. } => Finished::At(list.base, list.write),
         Pass::Unary => Finished::At(list.base + list.write, list.len - list.write),
-        Pass::Binary {
-            classes: _,
-            pending: _,
-        } => Finished::At(list.base, list.write),
+        Pass::Binary { .. } => Finished::At(list.base, list.write),
         Pass::Ternary { tokens } => conditional::finish(work, list, tokens),
         Pass::Prefix => Finished::At(list.base, list.write),
     }
@@ -182,8 +174,20 @@ fn descend(work: &mut [u32], waiting: Walk, item: u32) -> Walk
     open(work, item, base, pass)
 }
 
+// The n items from `from` on stand from `base` on, which is not above it.
+fn move_down(work: &mut [u32], from: usize, n: usize, base: usize)
+    requires { ⌜ CanMove (now work) «from» n base ⌝ }
+    ensures { λ _. ⌜ Moved (now (work .entry)) «from» n base (now (work .exit)) ⌝ }
+{
+    let mut i = 0usize;
+    while i < n {
+        work[base + i] = work[from + i];
+        i += 1;
+    }
+}
+
 // The end of a list: its items become its owner's children, and the list that waits for the owner goes on. The outermost
-// list starts at `base0`, and its end is the end of the pass.
+// list starts at `base0`; its items stay there for the pass after this one, and its end is the end of the pass.
 fn close(work: &mut [u32], walk: Walk, base0: usize) -> Next
     requires { ⌜ CanClose (now work) walk base0 ⌝ }
     ensures { λ r. ⌜ Closed (now (work .entry)) walk base0 r (now (work .exit)) ⌝ }
@@ -198,7 +202,8 @@ fn close(work: &mut [u32], walk: Walk, base0: usize) -> Next
             let base = list.base;
             children::give_children(work, owner, from, n);
             if base == base0 {
-                return Next::Done;
+                move_down(work, from, n, base);
+                return Next::Done(n);
             }
             let frame = frames::pop(work, base);
             let below = frame.list;
@@ -222,13 +227,13 @@ fn advance(work: &mut [u32], walk: Walk, base0: usize) -> Next
     }
 }
 
-// Runs a pass over the list of slot 0 and every list below it; the stack is free from `base` on. Each item and each list
-// takes a turn at most, which is far less than the words of the work buffer.
-pub fn run(work: &mut [u32], base: usize, pass: Pass) -> Ran
-    requires { ⌜ CanRun (now work) base pass ⌝ }
-    ensures { λ r. ⌜ HasRun (now (work .entry)) base pass r (now (work .exit)) ⌝ }
+// Runs a pass over the list of slot 0, whose n items stand from `base` on, and every list below it; the stack is free above them.
+// Each item and each list takes a turn at most, which is far less than the words of the work buffer.
+pub fn run(work: &mut [u32], base: usize, n: usize, pass: Pass) -> Ran
+    requires { ⌜ CanRun (now work) base n pass ⌝ }
+    ensures { λ r. ⌜ HasRun (now (work .entry)) base n pass r (now (work .exit)) ⌝ }
 {
-    let mut walk = open(work, ROOT, base, pass);
+    let mut walk = begin(work, ROOT, base, n, pass);
     let mut fuel = work.len();
     while 0 < fuel {
         fuel -= 1;
@@ -237,13 +242,13 @@ pub fn run(work: &mut [u32], base: usize, pass: Pass) -> Ran
             Next::On(after) => {
                 walk = after;
             }
-            Next::Done => {
-                return Ran::Done;
+            Next::Done(left) => {
+                return Ran::Done(left);
             }
             Next::Fail(failure) => {
                 return Ran::Fail(failure);
             }
         }
     }
-    Ran::Done
+    Ran::Done(n)
 }

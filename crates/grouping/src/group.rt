@@ -77,35 +77,37 @@ fn flat(work: &mut [u32], base: usize, n: usize, used: OpSet) -> Flat
     sections_if_used(work, base, m, used)
 }
 
-// A pass where it is chosen and has something to do.
-fn run_choice(work: &mut [u32], base: usize, choice: Choice) -> Ran
-    requires { ⌜ CanChoose (now work) base choice ⌝ }
-    ensures { λ r. ⌜ Chosen (now (work .entry)) base choice r (now (work .exit)) ⌝ }
+// A pass where it is chosen and has something to do, over the list of slot 0, whose n items stand from `base` on.
+fn run_choice(work: &mut [u32], base: usize, n: usize, choice: Choice) -> Ran
+    requires { ⌜ CanChoose (now work) base n choice ⌝ }
+    ensures { λ r. ⌜ Chosen (now (work .entry)) base n choice r (now (work .exit)) ⌝ }
 {
     match choice {
-        Choice::Skip => Ran::Done,
+        Choice::Skip => Ran::Done(n),
         Choice::Run(pass) => {
             let here = slots::classes_of(work, ROOT);
             if here.intersects(pass.classes()) {
-                return run(work, base, pass);
+                return run(work, base, n, pass);
             }
-            Ran::Done
+            Ran::Done(n)
         }
     }
 }
 
-// The passes after the flat ones, over the list of slot 0. The pointer's failure is no ordinary one: it leaves the list empty, and the
+// The passes after the flat ones, over the list of slot 0, whose m items stand from `base` on. The pointer's failure is no ordinary one: it leaves the list empty, and the
 // passes after it leave an empty list as it is.
-fn levels(work: &mut [u32], base: usize, used: OpSet, version: i16) -> Grouped
-    requires { ⌜ CanLevel (now work) base ⌝ }
-    ensures { λ r. ⌜ Levelled (now (work .entry)) base used version r (now (work .exit)) ⌝ }
+fn levels(work: &mut [u32], base: usize, m: usize, used: OpSet, version: i16) -> Grouped
+    requires { ⌜ CanLevel (now work) base m ⌝ }
+    ensures { λ r. ⌜ Levelled (now (work .entry)) base m used version r (now (work .exit)) ⌝ }
 {
     let mut k = 0u32;
+    let mut n = m;
     while k < PLACES {
         let choice = pass_at(k, used, version);
-        let ran = run_choice(work, base, choice);
+        let ran = run_choice(work, base, n, choice);
         match ran {
-            Ran::Done => {
+            Ran::Done(left) => {
+                n = left;
                 k += 1;
             }
             Ran::Fail(failure) => {
@@ -132,7 +134,7 @@ pub fn group(work: &mut [u32], base: usize, n: usize, used: OpSet, version: i16)
         Flat::Unclosed(unclosed) => Grouped::Unclosed(unclosed),
         Flat::Done(m) => {
             children::give_children(work, ROOT, base, m);
-            levels(work, base, used, version)
+            levels(work, base, m, used, version)
         }
     }
 }

@@ -1,6 +1,6 @@
 -- `close`: the list's end, its owner's children, and the list below it, if any.
 use mathlib.Core.Path.{_∙_}
-use Rattle.grouping.proofs.CloseLaws.{close-can-finish, closed-failed, close-can-give, close-can-pop, close-can-resume, ended-at, closed-done, closed-on}
+use Rattle.grouping.proofs.CloseLaws.{close-can-finish, closed-failed, close-can-give, close-can-move, close-can-pop, close-can-resume, ended-at, closed-done, closed-on}
 use borrow.Author.Needs.{needs}
 use Rattle.grouping.proofs.driver.close.Statement.{statement}
 use Rattle.grouping.proofs.driver.close.Tie as tie
@@ -19,15 +19,24 @@ give-children-requires c κs =
     let finish = c .before .before .before .before .before .before .before .finish in
     close-can-give (c .before .before .before .before .before .before .before .before .before .before .pre) (ended-at (finish .result) _ (c .before .before .before .finished2 .given .1) (finish .ensures))
 
+move-down-requires : tie.Need-move-down-requires
+move-down-requires c κs =
+    let gave = c .before .before .before .before in
+    let finish = gave .before .before .before .before .before .before .before .before .finish in
+    let ended = ended-at (finish .result) _ (gave .before .before .before .before .finished2 .given .1) (finish .ensures) in
+    close-can-move (gave .before .before .before .before .before .before .before .before .before .before .before .pre) ended (gave .give-children .ensures)
+
 same-length : tie.Need-same-length
-same-length c = search needs
+same-length c =
+    let gave = c .before .before .before .before .before .before .before in
+    c .before .before .move-down .kept .0 ∙ gave .give-children .kept .0 ∙ gave .before .before .before .before .before .before .before .before .finish .kept .0
 
 returns : tie.Need-returns
 returns c =
-    let gave = c .before .before .before in
+    let gave = c .before .before .before .before .before .before .before in
     let finish = gave .before .before .before .before .before .before .before .before .finish in
     let ended = ended-at (finish .result) _ (gave .before .before .before .before .finished2 .given .1) (finish .ensures) in
-    closed-done ended (gave .give-children .ensures) (c .if1 .taken)
+    closed-done ended (gave .give-children .ensures) (c .before .before .move-down .ensures) (c .before .before .before .before .if1 .taken)
 
 pop-requires : tie.Need-pop-requires
 pop-requires c κs =
@@ -78,6 +87,7 @@ close-spec =
     enum-known-finished
     enum-known-finished-2
     give-children-requires
+    move-down-requires
     same-length
     returns
     pop-requires

@@ -3,21 +3,22 @@ use mathlib.Core.Path.{_≡_, refl, _∙_}
 use native.Mathlib.Omega.{arith}
 use borrow.Author.Needs.{needs}
 use lib.ListN.{length}
-use Rattle.grouping.proofs.RunLaws.{Running, run-can-open, run-holds, running-advances, run-again, ran-done, ran-failed, run-never}
+use Rattle.grouping.specs.Driver.{Opened}
+use Rattle.grouping.proofs.RunLaws.{Running, run-can-begin, run-opened, run-holds, running-advances, run-again, ran-done, ran-failed, run-never}
 use Rattle.grouping.proofs.driver.run.Statement.{statement}
 use Rattle.grouping.proofs.driver.run.Tie as tie
 
 abbrev Inv-loop : tie.InvT-loop
-Inv-loop work₀ base walk₀ fuel₀ work walk fuel = Running work₀ walk₀ base (length work₀) work walk fuel × (fuel₀ ≡ length work₀)
+Inv-loop work₀ base n walk₀ fuel₀ work walk fuel = Running work₀ walk₀ base (length work₀) work walk fuel × (fuel₀ ≡ length work₀)
 
 abbrev μ-loop : tie.MeasureT-loop
-μ-loop work₀ base walk₀ fuel₀ work walk fuel = fuel
+μ-loop work₀ base n walk₀ fuel₀ work walk fuel = fuel
 
-open-requires : tie.Need-open-requires Inv-loop μ-loop
-open-requires c κs = run-can-open (c .before .before .pre)
+begin-requires : tie.Need-begin-requires Inv-loop μ-loop
+begin-requires c κs = run-can-begin (c .before .before .pre)
 
 loop-holds : tie.Need-loop-holds Inv-loop μ-loop
-loop-holds c = (run-holds (c .before .before .«open» .ensures) (c .before .before .before .before .before .pre), refl)
+loop-holds c = let s = c .before .before .before in (run-holds (run-opened (c .begin .ensures) (s .pre)) (s .pre), refl)
 
 sub-fuel : tie.Need-sub-fuel Inv-loop μ-loop
 sub-fuel c = omega arith
@@ -37,32 +38,36 @@ loop-again c =
     let advance = c .before .before .before .before .before .advance in
     (run-again (advance .result) _ (loop .inv .0) (advance .ensures) (c .before .next .given .1) (omega (arith, c .before .before .before .before .before .before .before .loop-test .taken)) (advance .kept .0), loop .inv .1)
 
-enum-told : tie.Need-enum-told Inv-loop μ-loop
-enum-told c = search needs
-
-same-length : tie.Need-same-length Inv-loop μ-loop
-same-length c =
-    c .before .before .before .before .advance .kept .0 ∙ c .before .before .before .before .before .before .before .loop .inv .0 .long ∙ c .before .before .before .before .before .before .before .before .before .before .«open» .kept .0
-
-returns : tie.Need-returns Inv-loop μ-loop
-returns c =
-    let advance = c .before .before .before .before .advance in
-    ran-done (c .before .before .before .before .before .before .before .before .before .before .«open» .ensures) (c .before .before .before .before .before .before .before .loop .inv .0) (advance .result) (advance .ensures) (c .enum-told .given .1)
-
 enum-known-next-2 : tie.Need-enum-known-next-2 Inv-loop μ-loop
 enum-known-next-2 c = search needs
 
+same-length : tie.Need-same-length Inv-loop μ-loop
+same-length c = c .before .before .before .before .before .advance .kept .0 ∙ c .before .before .before .before .before .before .before .before .loop .inv .0 .long
+
+-- how the loop began
+began : (c : tie.At-loop Inv-loop μ-loop) → let s = c .before .before .before .before in Opened (s .args .work .now) 0 (s .args .base) (s .args .pass) (c .before .begin .result) (s .args .work .now)
+began c = run-opened (c .before .begin .ensures) (c .before .before .before .before .pre)
+
+returns : tie.Need-returns Inv-loop μ-loop
+returns c =
+    let l = c .before .before .before .before .before .before .before .before in
+    let advance = c .before .before .before .before .before .advance in
+    ran-done (began l) (l .loop .inv .0) (advance .result) (advance .ensures) _ (c .before .next2 .given .1)
+
+enum-known-next-3 : tie.Need-enum-known-next-3 Inv-loop μ-loop
+enum-known-next-3 c = search needs
+
 same-length-2 : tie.Need-same-length-2 Inv-loop μ-loop
-same-length-2 c =
-    c .before .before .before .before .before .advance .kept .0 ∙ c .before .before .before .before .before .before .before .before .loop .inv .0 .long ∙ c .before .before .before .before .before .before .before .before .before .before .before .«open» .kept .0
+same-length-2 c = c .before .before .before .before .before .advance .kept .0 ∙ c .before .before .before .before .before .before .before .before .loop .inv .0 .long
 
 returns-2 : tie.Need-returns-2 Inv-loop μ-loop
 returns-2 c =
+    let l = c .before .before .before .before .before .before .before .before in
     let advance = c .before .before .before .before .before .advance in
-    ran-failed (c .before .before .before .before .before .before .before .before .before .before .before .«open» .ensures) (c .before .before .before .before .before .before .before .before .loop .inv .0) (advance .result) (advance .ensures) _ (c .before .next2 .given .1)
+    ran-failed (began l) (l .loop .inv .0) (advance .result) (advance .ensures) _ (c .before .next3 .given .1)
 
 same-length-3 : tie.Need-same-length-3 Inv-loop μ-loop
-same-length-3 c = c .before .loop .inv .0 .long ∙ c .before .before .before .before .«open» .kept .0
+same-length-3 c = c .before .loop .inv .0 .long
 
 returns-3 : tie.Need-returns-3 Inv-loop μ-loop
 returns-3 c = absurd (run-never (c .before .loop .inv .0) (c .loop-test .left))
@@ -73,17 +78,17 @@ run-spec =
     (tie.spec
     Inv-loop
     μ-loop
-    open-requires
+    begin-requires
     loop-holds
     sub-fuel
     advance-requires
     enum-known-next
     loop-less
     loop-again
-    enum-told
+    enum-known-next-2
     same-length
     returns
-    enum-known-next-2
+    enum-known-next-3
     same-length-2
     returns-2
     same-length-3

@@ -14,12 +14,12 @@ use Rattle.grouping.proofs.group.levels.Statement.{statement}
 use Rattle.grouping.proofs.group.levels.Tie as tie
 
 abbrev Inv-loop : tie.InvT-loop
-Inv-loop work₀ base used version k₀ work k =
-    CanLevel work₀ base × ((g : CanLevel work₀ base) (l : ℕ) → LevelAt work₀ base (usedBy used) (rulesOf (toZ w16 version)) g l work k) × (k ≤ 23)
+Inv-loop work₀ base m used version k₀ n₀ work k n =
+    CanLevel work₀ base m × ((g : CanLevel work₀ base m) (l : ℕ) → LevelAt work₀ base m (usedBy used) (rulesOf (toZ w16 version)) g l work k n) × (k ≤ 23)
     × (length work ≡ length work₀)
 
 abbrev μ-loop : tie.MeasureT-loop
-μ-loop work₀ base used version k₀ work k = 23 - k
+μ-loop work₀ base m used version k₀ n₀ work k n = 23 - k
 
 loop-holds : tie.Need-loop-holds Inv-loop μ-loop
 loop-holds c = let a = c .before .args in (c .before .pre, λ g l. level-start (usedBy (a .used)) (rulesOf (toZ w16 (ofZ w16 (a .version)))) g l, omega arith, refl)
@@ -34,29 +34,29 @@ run-choice-requires c κs =
     let p = c .before .pass-at in
     level-chooses (t .loop-test .taken) (v .3) (v .1 (v .0) 0) (p .result) (p .ensures)
 
-enum-told : tie.Need-enum-told Inv-loop μ-loop
-enum-told c = search needs
+enum-known-ran : tie.Need-enum-known-ran Inv-loop μ-loop
+enum-known-ran c = search needs
 
 add-k : tie.Need-add-k Inv-loop μ-loop
-add-k c = let h = c .before .before .before .before .before .before .before .loop-test .taken in omega arith
+add-k c = let h = c .before .before .before .before .before .before .before .before .loop-test .taken in omega arith
 
 loop-less : tie.Need-loop-less Inv-loop μ-loop
-loop-less c = let h = c .before .before .before .before .before .before .before .loop-test .taken in omega arith
+loop-less c = let h = c .before .before .before .before .before .before .before .before .loop-test .taken in omega arith
 
 loop-again : tie.Need-loop-again Inv-loop μ-loop
 loop-again c =
-    let t = c .before .before .before .before .before .before .before in
+    let t = c .before .before .before .before .before .before .before .before in
     let v = t .before .loop .inv in
-    let p = c .before .before .before .before .before .before .pass-at in
-    let x = c .before .before .before .before .run-choice in (
+    let p = c .before .before .before .before .before .before .before .pass-at in
+    let x = c .before .before .before .before .before .run-choice in (
       v .0,
-      λ g l. level-on (t .loop-test .taken) (v .3) (v .1 g l) (p .result) (p .ensures) (chosen-as _ _ (p .result) (x .result) (x .last .0) (c .enum-told .given .1) (x .ensures)),
+      λ g l. level-on (t .loop-test .taken) (v .3) (v .1 g l) (p .result) (p .ensures) _ (chosen-as _ _ _ (p .result) (x .result) (x .last .0) (c .before .ran .given .1) (x .ensures)),
       omega (arith, t .loop-test .taken),
       x .kept .0 ∙ v .3,
     )
 
-enum-known-ran : tie.Need-enum-known-ran Inv-loop μ-loop
-enum-known-ran c = search needs
+enum-known-ran-2 : tie.Need-enum-known-ran-2 Inv-loop μ-loop
+enum-known-ran-2 c = search needs
 
 same-length : tie.Need-same-length Inv-loop μ-loop
 same-length c = c .before .before .before .before .before .before .run-choice .kept .0 ∙ c .before .before .before .before .before .before .before .before .before .before .loop .inv .3
@@ -68,7 +68,7 @@ returns c =
     let p = c .before .before .before .before .before .before .before .before .pass-at in
     let x = c .before .before .before .before .before .before .run-choice in
     levelled-at (toZ-ofZ (c .before .before .before .before .before .before .before .before .before .before .before .before .fits .version)) (record {
-      to = λ g l. level-pointer (t .loop-test .taken) (v .3) (v .1 g l) (p .result) (p .ensures) _ (chosen-as _ _ (p .result) (x .result) (x .last .0) (c .before .before .ran .given .1) (x .ensures)) (c .if1 .taken);
+      to = λ g l. level-pointer (t .loop-test .taken) (v .3) (v .1 g l) (p .result) (p .ensures) _ (chosen-as _ _ _ (p .result) (x .result) (x .last .0) (c .before .before .ran2 .given .1) (x .ensures)) (c .if1 .taken);
       long = x .kept .0 ∙ v .3;
     })
 
@@ -82,7 +82,7 @@ returns-2 c =
     let p = c .before .before .before .before .before .before .before .before .pass-at in
     let x = c .before .before .before .before .before .before .run-choice in
     levelled-at (toZ-ofZ (c .before .before .before .before .before .before .before .before .before .before .before .before .fits .version)) (record {
-      to = λ g l. level-fails (t .loop-test .taken) (v .3) (v .1 g l) (p .result) (p .ensures) _ (chosen-as _ _ (p .result) (x .result) (x .last .0) (c .before .before .ran .given .1) (x .ensures)) (c .if1 .left);
+      to = λ g l. level-fails (t .loop-test .taken) (v .3) (v .1 g l) (p .result) (p .ensures) _ (chosen-as _ _ _ (p .result) (x .result) (x .last .0) (c .before .before .ran2 .given .1) (x .ensures)) (c .if1 .left);
       long = x .kept .0 ∙ v .3;
     })
 
@@ -102,11 +102,11 @@ levels-spec =
     loop-holds
     pass-at-requires
     run-choice-requires
-    enum-told
+    enum-known-ran
     add-k
     loop-less
     loop-again
-    enum-known-ran
+    enum-known-ran-2
     same-length
     returns
     same-length-2

@@ -36,7 +36,7 @@ returns c =
     chosen-run (c .before .before .before .before .before .before .before .before .before .before .before .before .before .args .choice) _ (c .before .before .before .before .before .before .before .before .before .before .choice .given .1) (c .before .before .run .ensures)
 
 returns-2 : tie.Need-returns-2
-returns-2 c = chosen-skip _ (c .before .before .before .args .base) (c .before .before .before .args .choice) (c .enum-told .given .1)
+returns-2 c = chosen-skip _ (c .before .before .before .args .base) (c .before .before .before .args .n) (c .before .before .before .args .choice) (c .enum-told .given .1)
 
 same-length-2 : tie.Need-same-length-2
 same-length-2 c = search needs
