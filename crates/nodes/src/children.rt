@@ -69,13 +69,21 @@ pub fn give_children(work: &mut [u32], parent: u32, from: usize, n: usize)
     set_classes(work, parent, below);
 }
 
-// How many slots the chain from `first` on has.
+// How many slots the chain from `first` on has. Most have one or two: these are read one by one, so that the first children of a
+// tree's nodes are read at one place of the code and the second at another. The processor then foresees where they stand.
 pub fn count_chain(work: &[u32], first: u32) -> u32
     requires { ⌜ CanFollow (now work) first ⌝ }
     ensures { λ r. ⌜ Counted (now (work .entry)) first r ⌝ }
 {
-    let mut s = first;
-    let mut n = 0u32;
+    if first == 0 {
+        return 0;
+    }
+    let second = next_of(work, first);
+    if second == 0 {
+        return 1;
+    }
+    let mut s = next_of(work, second);
+    let mut n = 2u32;
     while s != 0 {
         n += 1;
         s = next_of(work, s);
