@@ -7,14 +7,13 @@ use mathlib.Core.Option.{Option, none, some}
 use Prim.Native.Nat.{ℕ, zero, suc, _+_, _<_, _≤_}
 use native.Mathlib.Numerals.{add-one}
 use native.Mathlib.Omega.{arith}
-use lib.IntN.{ℤ}
 use lib.ListN.{length, drop, length-append}
 use lib.Seq.{drop-cons, drop-length}
 use Rattle.molang.specs.Operator
 use Rattle.molang.specs.Forest.{Forest, nil}
 use Rattle.molang.specs.Message.{Message, Result, ok, fail}
 use Rattle.molang.specs.Calls.{queryOrLoop, math}
-use Rattle.molang.specs.Order.{Rules, rules, effective, Pass, callPass, statements, arrays, pointer, mathCalls, unaryMinusAndNot, addition, ternary, returns, binary, comparisons, logic, conditionals, order, runs, apply}
+use Rattle.molang.specs.Order.{Rules, Pass, callPass, statements, arrays, pointer, mathCalls, unaryMinusAndNot, addition, ternary, returns, binary, comparisons, logic, conditionals, order, runs, apply}
 use Rattle.molang.specs.Read.{Answer, messages, endsReading, grouped}
 use Rattle.molang.proofs.Passes.{isNested, allNested}
 use Rattle.molang.proofs.Work.{Kind, pass}
@@ -24,13 +23,9 @@ use Rattle.walks.specs.Passes as walks
 use Rattle.walks.specs.declared.turns.Pass.{Pass as State}
 use Rattle.order.proofs.Choosing.{comparing-size, deciding-size, branching-size}
 use Rattle.order.specs.declared.Choice.the-variants.{Run, Skip}
-use Rattle.order.specs.Places.{padded, comparing, deciding, branching, last, places, placeIn, rulesOf, Starts, call, plain, array, mathCall, unary, tern, prefix, point, plus, level, Chosen, empty, unused, used, running, runningIn, passesFrom, runningOf}
+use Rattle.order.specs.Places.{padded, comparing, deciding, branching, last, places, placeIn, Starts, call, plain, array, mathCall, unary, tern, prefix, point, plus, level, Chosen, empty, unused, used, running, runningIn, passesFrom, runningOf}
 
 -- ---- The order
-
-pub rules-of : (v : ℤ) → rules v ≡ rulesOf (effective v)
-unfolding rules
-rules-of v = refl
 
 module _ (u : ℕ → Bool) where
   running-some : (p : Pass) (others : List Pass) → running u (some p) ++ runningOf u others ≡ runningOf u (p ∷ others)
