@@ -36,6 +36,7 @@ pub record Rules : Type 0 where
   -- nested conditionals pair to the right
   pub pairsRight : Bool
 
+-- The rules of a version: those of the effective one.
 unfoldable pub rules : ℤ → Rules
 rules v =
     record {
@@ -68,7 +69,7 @@ unfoldable pub conditionals : Bool → List Pass
 conditionals false = binary (Operator.conditionalElse ∷ []) ∷ binary (Operator.conditional ∷ []) ∷ []
 conditionals true = ternary ∷ []
 
--- THE VERSIONED ORDER
+-- THE VERSIONED ORDER: document 01's passes, 1 to 7, under the rules of a version.
 unfoldable pub order : Rules → List Pass
 order r =
     lastToken ∷ memberAccessors ∷ sectioning ∷ callPass ∷ statements ∷ arrays ∷ pointer ∷ mathCalls ∷ unaryMinusAndNot

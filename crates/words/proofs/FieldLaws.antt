@@ -1,12 +1,11 @@
--- The fields of words that were made: a token's words give the token back, and the words that the reader changes or makes are those
--- of the renamed and of the bare token. Assumes nothing.
-use mathlib.Core.Path.{_≡_, refl}
+-- The fields of words that were made: a token's words give the token back. Assumes nothing.
+use mathlib.Core.Path.{_≡_}
 use Prim.Native.Nat.{ℕ, _/_, _%_, _^_, _<_}
 use native.Mathlib.Omega.{arith}
 use lib.Pow.{low}
-use Rattle.molang.specs.Forest.{Token, renamed, bare}
+use Rattle.molang.specs.Forest.{Token}
 use Rattle.molang.specs.Words.{word, lowOf, tokenOf, Legal}
-use Rattle.words.specs.Fields.{headWord, withOperator}
+use Rattle.words.specs.Fields.{headWord}
 
 pub low-word : (kind n : ℕ) → n < 2 ^ 29 → lowOf (word kind n) ≡ n
 unfolding word lowOf
@@ -27,24 +26,3 @@ token-back k legal =
     (omega (arith, legal .value))
     (omega (arith, legal .start))
     (omega (arith, legal .end))
-
--- The words of a token of another operator, whatever words they are.
-pub renamed-token : (op a b c d e : ℕ) → op < 2 ^ 8 → tokenOf (withOperator a op) b c d e ≡ renamed op (tokenOf a b c d e)
-unfolding tokenOf withOperator renamed lowOf
-renamed-token op a b c d e small =
-    same-token (tokenOf (withOperator a op) b c d e) (renamed op (tokenOf a b c d e)) (omega arith) (omega arith) refl refl refl
-
--- The first word of the token of another operator.
-pub renamed-head : (op : ℕ) (k : Token) → k .op < 2 ^ 8 → op < 2 ^ 8 → withOperator (headWord k) op ≡ headWord (renamed op k)
-unfolding withOperator headWord word renamed
-renamed-head op k here small = omega arith
-
--- The words of a new token with the span of another.
-pub bare-token : (op a b c d e : ℕ) → op < 2 ^ 8 → tokenOf (word 1 (op % 2 ^ 8)) b c (word 4 0) (word 5 0) ≡ bare op (tokenOf a b c d e)
-unfolding tokenOf bare lowOf word
-bare-token op a b c d e small =
-    same-token (tokenOf (word 1 (op % 2 ^ 8)) b c (word 4 0) (word 5 0)) (bare op (tokenOf a b c d e)) (omega arith) (omega arith) refl refl refl
-
-pub bare-head : (op : ℕ) (k : Token) → op < 2 ^ 8 → word 1 (op % 2 ^ 8) ≡ headWord (bare op k)
-unfolding headWord bare word
-bare-head op k small = omega arith

@@ -129,9 +129,3 @@ trees-then (more {k = k} {cs = cs} {rest = rest} legal few l l′) ws =
 pub trees-back : {f : Forest} → LegalTrees f → treesOf (treeWords f) ≡ f
 unfolding treesOf
 trees-back {f} legal = ap treesOf (sym (append-nil (treeWords f))) ∙ (trees-then legal [] ∙ joined-nil f)
-
--- The extent over the words of one tree.
-pub tree-extent : {k : Token} {cs : Forest} → LegalTrees (node k cs nil)
-    → firstExtent (treesOf (treeWords (node k cs nil))) ≡ record { start = lowestStart (k .start) cs; end = highestEnd (k .end) cs }
-unfolding firstExtent
-tree-extent legal = ap firstExtent (trees-back legal)
