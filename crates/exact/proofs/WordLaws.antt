@@ -3,7 +3,6 @@
 use mathlib.Core.Path.{_≡_, refl, sym, ap, _∙_}
 use mathlib.Core.Bool.{Bool, false, _||_}
 use mathlib.Core.List.{List, [], _∷_}
-use mathlib.Core.Logic.{⊎-elim}
 use mathlib.Core.Option.{Option, none, some}
 use Prim.Native.Nat.{ℕ, suc, _+_, _*_, _%_, _^_, _<_, _≤_, max}
 use native.Mathlib.Omega.{arith}
@@ -22,6 +21,7 @@ use Rattle.molang.proofs.UsedSet.{used-few}
 use Rattle.words.specs.Checks.{numberOf}
 use Rattle.words.specs.declared.checks.Word.{Word}
 use Rattle.words.specs.declared.checks.Word.the-variants.{Good, WrongKind, HighOperator, HighVariant, OtherBit}
+use Rattle.words.proofs.CheckLaws.{none-bad}
 use Rattle.words.proofs.checks.Word.{the-type}
 use Rattle.exact.specs.Exact.{names, named, endAfter, highest}
 
@@ -96,11 +96,8 @@ unfolding endAfter
 end-fault m w fault e = rw (e, endAfter) refl
 
 -- A word that is not good has a fault.
-no-good : OneOf (1 ∷ 2 ∷ 3 ∷ 4 ∷ []) 0 → ⊥
-no-good = ⊎-elim (λ e. omega arith) (⊎-elim (λ e. omega arith) (⊎-elim (λ e. omega arith) (λ e. omega arith)))
-
 with-fault : (P : Option ℕ → Type 0) → ((n : ℕ) → P (some n)) → (x : Word) → OneOf (1 ∷ 2 ∷ 3 ∷ 4 ∷ []) (tagOf the-type x) → P (numberOf x)
-with-fault P f Good h = absurd (no-good h)
+with-fault P f Good h = absurd (none-bad h)
 with-fault P f WrongKind h = f 8
 with-fault P f HighOperator h = f 9
 with-fault P f HighVariant h = f 10

@@ -1,7 +1,7 @@
 -- The classes of operators: the bits of the table's entries and of an operator's own class, and the one test that says what a constant
 -- of the code stands for. Assumes nothing.
 use mathlib.Core.Path.{_≡_, refl, sym, ap, _∙_}
-use mathlib.Core.Bool.{Bool, true, false, not, _&&_, _||_, and-false}
+use mathlib.Core.Bool.{Bool, true, false, not, _&&_, _||_, and-false, or-false}
 use mathlib.Core.List.{List, [], _∷_, _++_}
 use Prim.Native.Nat.{ℕ, zero, suc, _<_, _≤_}
 use native.Mathlib.Nat.{le-of-suc-le-suc, not-suc-le-zero}
@@ -80,10 +80,6 @@ own-bits n i = bits-of 25 (λ i. leb 22 i && inClass i n) i ∙ bounded 25 i (le
 halves : (i : ℕ) (b : Bool) → (ltb i 22 && b || leb 22 i && b) ≡ b
 halves i b = go (ltb i 22) refl
   where
-    or-false : (x : Bool) → (x || false) ≡ x
-    or-false true = refl
-    or-false false = refl
-
     go : (t : Bool) → ltb i 22 ≡ t → (t && b || leb 22 i && b) ≡ b
     go true e = rw (lt-leb 22 i (ltb-true i 22 e)) (or-false b)
     go false e = rw (le-leb 22 i (ltb-false i 22 e))
