@@ -1,5 +1,5 @@
 -- The messages 1-17 with what they speak of, and the record of eight words that each fills (document 01, 'The passes in order').
--- Only here do tokens show their spans and payloads.
+-- A record is made of the spans, payloads and operators of the tokens that a message speaks of.
 use Prim.Native.Nat.{ℕ}
 use mathlib.Core.Bool.{true, false}
 use mathlib.Core.List.{List, [], _∷_}
