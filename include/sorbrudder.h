@@ -3,6 +3,9 @@
  * Buffers are lent as a pointer to 32-bit words, aligned as a uint32_t is, and their number of words. A buffer that is written overlaps no
  * other buffer of the call, and nobody else writes any of them while the call runs. A pointer is never null, not even beside a length of 0.
  *
+ * The call stack is the caller's to provide, and the proofs say nothing of it: measured, reading takes at most 300 KiB and writing at most
+ * 920 KiB (docs/notes/host.md).
+ *
  * An answer is one number. Bits 0-31: the count of nodes, tokens or messages, or a refusal's place. Bits 32-39: a refusal's number, else 0.
  * Bits 40-47: 0 for a tree or a written list, 1 for messages, 2 for a refusal. The functions at the end take it apart.
  */
@@ -37,7 +40,7 @@ extern "C" {
  * Done: the number of nodes; the tree's words, six a node, fill the front of `tree`. Messages: their number, one or two; their words, eight a
  * message, fill the front of `messages`. The words after them, and the other of the two buffers, stay as they were; `work` is all zero.
  * Refused, every buffer unchanged: 1 words that are no multiple of five, 2 more than 4,096 tokens, 3 the tree buffer, 4 the message buffer or
- * 5 the work buffer is too short, 6 an operator that there is not, 7 a source above 536,870,911, and at a word of the list (place: the word)
+ * 5 the work buffer is too short, 6 a bit of the set above operator 110, 7 a source above 536,870,911, and at a word of the list (place: the word)
  * 8 another kind, 9 an operator above 110, 10 a payload variant above 12, 11 another bit. */
 uint64_t sorbrudder_parse(const uint32_t *list, size_t list_words, uint32_t *tree, size_t tree_words, uint32_t *messages,
                           size_t message_words, uint32_t *work, size_t work_words, uint64_t source_length, int16_t version,

@@ -36,7 +36,7 @@ pub const USED_SET_TOO_HIGH: u32 = 6;
 
 pub const SOURCE_TOO_LONG: u32 = 7;
 
-// What the call lends, besides the list.
+// The lengths of the buffers that the call lends besides the list, and of the source.
 pub struct Sizes {
     pub tree: usize,
     pub messages: usize,

@@ -1,7 +1,7 @@
 -- A set of operators in two halves: the empty one, and one with another operator in it. Assumes nothing.
 use mathlib.Core.Path.{_≡_, refl, sym, ap, _∙_}
 use mathlib.Core.Bool.{Bool, true, false, _||_, or-false}
-use Prim.Native.Nat.{ℕ, zero, suc, _+_, _-_, _*_, _/_, _%_, _^_, _<_, _≤_}
+use Prim.Native.Nat.{ℕ, zero, suc, _-_, _*_, _/_, _%_, _^_, _<_, _≤_}
 use native.Mathlib.Nat.{pow-suc, zero-div, one-mul}
 use native.Mathlib.Omega.{arith}
 use lib.Bits.{bitOr, or-lt}

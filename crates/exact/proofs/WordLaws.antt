@@ -1,11 +1,10 @@
 -- The words of a list token by token: which of the five count, what a legal list's exact set and highest end are, and their bounds.
 -- Assumes nothing.
 use mathlib.Core.Path.{_≡_, refl, sym, ap, _∙_}
-use mathlib.Core.Bool.{Bool, true, false, _||_}
+use mathlib.Core.Bool.{Bool, false, _||_}
 use mathlib.Core.List.{List, [], _∷_}
-use mathlib.Core.Logic.{⊎-elim}
 use mathlib.Core.Option.{Option, none, some}
-use Prim.Native.Nat.{ℕ, suc, _+_, _*_, _/_, _%_, _^_, _<_, _≤_, max}
+use Prim.Native.Nat.{ℕ, suc, _+_, _*_, _%_, _^_, _<_, _≤_, max}
 use native.Mathlib.Omega.{arith}
 use lib.Dec.{eqb}
 use lib.ListN.{length, drop, getD, drop-of-length-le}
@@ -13,15 +12,16 @@ use lib.Seq.{drop-cons, drop-drop}
 use borrow.Author.Tests.{ne-eqb, leb-true}
 use types.Run.{OneOf}
 use denote.Enum.Declared.{tagOf}
-use Rattle.molang.specs.Forest.{Token, leaves}
+use Rattle.molang.specs.Forest.{leaves}
 use Rattle.molang.specs.Parse.{inHalves}
-use Rattle.molang.specs.Read.{uses, setNumber, highestEnd}
-use Rattle.molang.specs.Words.{Slot, operatorSlot, startSlot, endSlot, upperSlot, lowerSlot, countSlot, lowOf, unless, lowFault, wordFault, variantAfter, nextInToken, wordsRefusal, tokenOf, tokensOf}
+use Rattle.molang.specs.Read.{uses, highestEnd}
+use Rattle.molang.specs.Words.{Slot, operatorSlot, startSlot, endSlot, upperSlot, lowerSlot, countSlot, lowOf, lowFault, wordFault, variantAfter, nextInToken, wordsRefusal, tokenOf, tokensOf}
 use Rattle.molang.proofs.Words.{unless-none, word-faultless, next-word}
-use Rattle.molang.proofs.UsedSet.{used-few, exact-halves}
+use Rattle.molang.proofs.UsedSet.{used-few}
 use Rattle.words.specs.Checks.{numberOf}
 use Rattle.words.specs.declared.checks.Word.{Word}
 use Rattle.words.specs.declared.checks.Word.the-variants.{Good, WrongKind, HighOperator, HighVariant, OtherBit}
+use Rattle.words.proofs.CheckLaws.{none-bad}
 use Rattle.words.proofs.checks.Word.{the-type}
 use Rattle.exact.specs.Exact.{names, named, endAfter, highest}
 
@@ -96,11 +96,8 @@ unfolding endAfter
 end-fault m w fault e = rw (e, endAfter) refl
 
 -- A word that is not good has a fault.
-no-good : OneOf (1 ∷ 2 ∷ 3 ∷ 4 ∷ []) 0 → ⊥
-no-good = ⊎-elim (λ e. omega arith) (⊎-elim (λ e. omega arith) (⊎-elim (λ e. omega arith) (λ e. omega arith)))
-
 with-fault : (P : Option ℕ → Type 0) → ((n : ℕ) → P (some n)) → (x : Word) → OneOf (1 ∷ 2 ∷ 3 ∷ 4 ∷ []) (tagOf the-type x) → P (numberOf x)
-with-fault P f Good h = absurd (no-good h)
+with-fault P f Good h = absurd (none-bad h)
 with-fault P f WrongKind h = f 8
 with-fault P f HighOperator h = f 9
 with-fault P f HighVariant h = f 10
@@ -162,11 +159,6 @@ highest-few countSlot m (w ∷ ws) h = highest-few operatorSlot m ws h
 -- A set with exactly these operators is one that the entry does not turn back.
 pub exact-few : (low high : ℕ) (ws : List ℕ) → ((n : ℕ) → inHalves low high n ≡ named operatorSlot ws n) → high * 2 ^ 64 + low < 2 ^ 111
 exact-few low high ws exactly = used-few low high (λ n above. exactly n ∙ named-few operatorSlot ws n above)
-
--- Its halves are those of the set's number.
-pub exact-numbers : (low high : ℕ) (ws : List ℕ) → low < 2 ^ 64 → ((n : ℕ) → inHalves low high n ≡ named operatorSlot ws n)
-    → (low ≡ setNumber (named operatorSlot ws) 111 % 2 ^ 64) × (high ≡ setNumber (named operatorSlot ws) 111 / 2 ^ 64)
-exact-numbers low high ws fits exactly = exact-halves low high (named operatorSlot ws) fits (named-few operatorSlot ws) exactly
 
 -- OF A LEGAL LIST they are the tokens' operators and their highest end.
 pub record OfTokens (m : ℕ) (ws : List ℕ) : Type 0 where

@@ -10,7 +10,7 @@ use Rattle.molang.specs.Message.{ok}
 use Rattle.molang.specs.Level.{Step, into, through, Gathered, gathered, waiting, nothing}
 use Rattle.molang.specs.Binary.{unfolded, joined, operatorAfter, binaryStep, binaryResume, binaryFinish, binaryLevel}
 use Rattle.molang.proofs.Trees.{free, isNil, either, maybe}
-use Rattle.molang.proofs.Inert.{Inert, through-free, Hands, halting, staying, entering, Starts}
+use Rattle.molang.proofs.Inert.{Inert, through-free}
 use Rattle.molang.proofs.Walks.{failed, stops, goes}
 use Rattle.molang.proofs.Weight.{Weighing, weight, Ending, Light, weight-inner, weight-tree, turned-fine}
 use Rattle.molang.proofs.Gathering.{shown, GatheredFits, gatheredFull, Gathers, gathers-into, gathers-node}
@@ -29,14 +29,6 @@ binary-inert ops =
 
 pub binary-free : (ops : List ℕ) (f : Forest) → free (isOneOf ops) f ≡ true → through (binaryLevel ops) f ≡ ok f
 binary-free ops f h = through-free (binaryLevel ops) (isOneOf ops) (binary-inert ops) f h
-
-pub binary-starts : (ops : List ℕ) → Starts (binaryLevel ops)
-unfolding binaryLevel nothing binaryStep operatorAfter
-binary-starts ops (gathered nil) k nil = either (Hands (gathered nil)) (isOneOf ops (k .op)) _ _ halting staying
-binary-starts ops (gathered (node l ls d)) k nil = either (Hands (gathered nil)) (isOneOf ops (k .op)) _ _ staying staying
-binary-starts ops (gathered d) k (node c cs r) = entering
-binary-starts ops (waiting d q) k nil = maybe (Hands (gathered nil)) (unfolded ops d) _ _ (λ t. halting) staying
-binary-starts ops (waiting d q) k (node c cs r) = maybe (Hands (gathered nil)) (unfolded ops d) _ _ (λ t. halting) entering
 
 pub full-joined : (d : Forest) (q k : Token) (cs : Forest) → isNil (joined d q k cs) ≡ false
 unfolding joined isNil

@@ -202,13 +202,3 @@ pub treeWords-length : (f : Forest) → length (treeWords f) ≡ 6 * size f
 unfolding treeWords tokenWords size
 treeWords-length nil = refl
 treeWords-length (node k cs rest) = omega (arith, length-append (treeWords cs) (treeWords rest), treeWords-length cs, treeWords-length rest)
-
-pub read-treeWords : (tokens : List Token) (u : ℕ → Bool) (version : ℤ) (sourceLength : ℕ) (k : Token) (cs : Forest)
-    → read tokens u version sourceLength ≡ tree k cs
-    → length (treeWords (node k cs nil)) ≤ 18 * length tokens
-read-treeWords ts u v l k cs e = omega (arith, treeWords-length (node k cs nil), read-tree ts u v l k cs e)
-
-pub read-recordWords : (tokens : List Token) (u : ℕ → Bool) (version : ℤ) (sourceLength : ℕ) (ms : List Message)
-    → read tokens u version sourceLength ≡ messages ms
-    → length (recordWords ms) ≤ 16
-read-recordWords ts u v l ms e = omega (arith, records-length ms, read-messages ts u v l ms e .1)

@@ -9,7 +9,7 @@ use Rattle.molang.specs.Message.{ok}
 use Rattle.molang.specs.Level.{Step, into, through, Gathered, gathered, waiting, nothing}
 use Rattle.molang.specs.Calls.{CallKind, queryOrLoop, math, calls, callLeaf, callStep, callResume, callFinish, callLevel}
 use Rattle.molang.proofs.Trees.{free, isNil, either}
-use Rattle.molang.proofs.Inert.{Inert, through-free, Hands, halting, staying, entering, Starts}
+use Rattle.molang.proofs.Inert.{Inert, through-free}
 use Rattle.molang.proofs.Walks.{failed, stops, goes}
 use Rattle.molang.proofs.Weight.{Weighing, weight, Ending, Light, weight-inner, turned-fine}
 use Rattle.molang.proofs.Gathering.{shown, GatheredFits, gatheredFull, Gathers, gathers-into, gathers-node}
@@ -28,16 +28,6 @@ call-inert kind =
 
 pub call-free : (kind : CallKind) (f : Forest) → free (calls kind) f ≡ true → through (callLevel kind) f ≡ ok f
 call-free kind f h = through-free (callLevel kind) (calls kind) (call-inert kind) f h
-
-pub call-starts : (kind : CallKind) → Starts (callLevel kind)
-unfolding callLevel nothing callStep callLeaf
-call-starts kind (gathered d) k nil = either (Hands (gathered nil)) (calls kind (k .op)) _ _ staying staying
-call-starts kind (gathered d) k (node c cs r) = entering
-call-starts queryOrLoop (waiting d q) k nil =
-    either (Hands (gathered nil)) (isBracket (k .op)) _ _ halting (either (Hands (gathered nil)) (calls queryOrLoop (k .op)) _ _ staying staying)
-call-starts queryOrLoop (waiting d q) k (node c cs r) = either (Hands (gathered nil)) (isBracket (k .op)) _ _ entering entering
-call-starts math (waiting d q) k nil = either (Hands (gathered nil)) (isBracket (k .op)) _ _ staying halting
-call-starts math (waiting d q) k (node c cs r) = either (Hands (gathered nil)) (isBracket (k .op)) _ _ entering halting
 
 module _ (W : Weighing) where
   abbrev CallGathers : CallKind → Token → Forest → Forest → ℕ → Step Gathered → Type 0

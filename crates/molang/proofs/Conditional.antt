@@ -12,7 +12,7 @@ use Rattle.molang.specs.Message.{ok}
 use Rattle.molang.specs.Level.{through}
 use Rattle.molang.specs.Conditional.{isToken, startsWith, under, pairElse, scan, foldedFrom, dangling, undangled, conditionalStep, conditionalFinish, conditionalLevel}
 use Rattle.molang.proofs.Trees.{free, clear, isNil, decided, maybe, off-both, clear-leaf, clear-rest, clear-turned}
-use Rattle.molang.proofs.Inert.{Inert, through-free, staying, entering, Starts}
+use Rattle.molang.proofs.Inert.{Inert, through-free}
 use Rattle.molang.proofs.Walks.{failed, fine, Onward, goes, enters}
 use Rattle.molang.proofs.Weight.{Weighing, weight, Within, Ending, Light, weight-inner, weight-tree}
 
@@ -89,11 +89,6 @@ conditional-inert =
 
 pub conditional-free : (f : Forest) → free isTernary f ≡ true → through conditionalLevel f ≡ ok f
 conditional-free f h = through-free conditionalLevel isTernary conditional-inert f h
-
-pub conditional-starts : Starts conditionalLevel
-unfolding conditionalLevel conditionalStep
-conditional-starts d k nil = staying
-conditional-starts d k (node c cs r) = entering
 
 module _ (W : Weighing) where
   -- The conditional: its fold only puts trees under leaves.

@@ -1,6 +1,5 @@
 -- What holds of every token of a list holds of every token of what a pass makes of it, if it holds of the new tokens too: those that get
 -- another operator, and those that get another's span. So the tree of a legal list is legal (Legal).
--- Every token of the trees is Q.
 use Prim.Native.Nat.{ℕ, _+_}
 use mathlib.Core.Path.{_≡_}
 use mathlib.Core.Bool.{Bool, true, false}
@@ -27,6 +26,7 @@ use Rattle.molang.proofs.Unary.{beforeCases, inNode, atNode}
 use Rattle.molang.proofs.Conditional.{scanned, scan-once}
 use Rattle.molang.proofs.Sections.{afterMember, afterBracket}
 
+-- Every token of the trees is Q.
 pub data Every (Q : Token → Type 0) : Forest → Type 0 where
   nowhere : Every Q nil
   at : {k : Token} {cs rest : Forest} → Q k → Every Q cs → Every Q rest → Every Q (node k cs rest)

@@ -1,5 +1,4 @@
 -- What the levels that gather trees share (calls, binary levels, return): the weight of their state, and what children that come back make.
--- What a gathering level has so far, a token that waits among it.
 use Prim.Native.Nat.{ℕ, _+_, _≤_}
 use mathlib.Core.Path.{_≡_, refl}
 use mathlib.Core.Bool.{Bool, false, not}
@@ -10,6 +9,7 @@ use Rattle.molang.proofs.Trees.{isNil}
 use Rattle.molang.proofs.Walks.{Onward, enters}
 use Rattle.molang.proofs.Weight.{Weighing, weight, Within, weight-inner}
 
+-- What a gathering level has so far, a token that waits among it.
 unfoldable pub shown : Gathered → Forest
 shown (gathered d) = d
 shown (waiting d q) = node q nil d

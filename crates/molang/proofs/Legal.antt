@@ -1,5 +1,4 @@
 -- A legal list gives a legal tree, which is read back from its words: what stands between a first reading and the writer.
--- A token with another operator, or with another's span and no payload, is legal.
 use Prim.Native.Nat.{ℕ, _^_, _≤_, _<_}
 use mathlib.Core.Path.{_≡_, refl}
 use mathlib.Core.Bool.{Bool}
@@ -20,6 +19,7 @@ use Rattle.molang.proofs.Words.{LegalTokens, noTokens, token, LegalTree
 use Rattle.molang.proofs.TreeWords.{tree-unfaulted}
 use Rattle.molang.proofs.Every.{Every, nowhere, at, Renewable, read-every}
 
+-- A token with another operator, or with another's span and no payload, is legal.
 legal-renamed : (o : ℕ) (k : Token) → o ≤ 110 → Legal k → Legal (renamed o k)
 unfolding renamed
 legal-renamed o k b h =

@@ -8,7 +8,7 @@ use native.Mathlib.Omega.{arith}
 use Rattle.molang.specs.Operator
 use Rattle.molang.specs.Forest.{Forest, nil, node, turnedOnto, inOrder}
 use Rattle.molang.specs.Message.{Message, multipleRoots, Result, ok, fail}
-use Rattle.molang.specs.Level.{Level, walk, through, nothing}
+use Rattle.molang.specs.Level.{walk, through, nothing}
 use Rattle.molang.specs.Calls.{queryOrLoop, math, callFinish, callLevel, flushed, arrayFinish, arrayLevel}
 use Rattle.molang.specs.Statements.{splitOf, statementFinish, statementLevel}
 use Rattle.molang.specs.Unary.{unary, unaryPass, returnFinish, returnLevel}
@@ -17,9 +17,8 @@ use Rattle.molang.specs.Conditional.{foldedFrom, dangling, undangled, co
 use Rattle.molang.specs.Order.{Pass, lastToken, memberAccessors, sectioning, callPass, statements, arrays, pointer, mathCalls, unaryMinusAndNot, addition, ternary, returns, binary, runs, apply}
 use Rattle.molang.specs.Read.{messages, rooted, endsReading, grouped}
 use Rattle.molang.proofs.Trees.{free, isNil, decided, both, and-true-true, free-leaf, free-tree}
-use Rattle.molang.proofs.Inert.{Lasting}
 use Rattle.molang.proofs.Walks.{failed, fine}
-use Rattle.molang.proofs.Weight.{Weighing, weight, Ending, Light, through-light}
+use Rattle.molang.proofs.Weight.{Weighing, weight, Ending, through-light}
 use Rattle.molang.proofs.Calls.{call-light}
 use Rattle.molang.proofs.Arrays.{array-light}
 use Rattle.molang.proofs.Statements.{statement-light}
@@ -101,12 +100,8 @@ module _ (P : ℕ → Bool) where
       let same : r ≡ g = cc in
       none-free g (omega (arith, w .0, free-none f h, ap (weight (leavesOf P)) same))
 
-  -- NOTHING ELSE MAKES SUCH LEAVES: a level takes leaves out of a forest and puts none in.
-  pub through-keeps-free : {S : Type 0} (L : Level S) → Light (leavesOf P) L → (f g : Forest) → free P f ≡ true → through L f ≡ ok g
-      → free P g ≡ true
-  through-keeps-free L A f g h e = outcome-free f g (not (isNil f)) (through-light (leavesOf P) L A f) h e
-
-  -- The one exception, the unary pass turning `-` into `+`: whatever looks for `+` looks for `-` too.
+  -- NOTHING ELSE MAKES SUCH LEAVES: a pass takes leaves out of a forest and puts none in. The one exception is the unary pass, which turns
+  -- `-` into `+`: whatever looks for `+` looks for `-` too.
   pub apply-keeps-free : (sourceLength : ℕ) (p : Pass) (f g : Forest) → isNested p ≡ true → (P Operator.add ≡ true → P Operator.negate ≡ true)
       → free P f ≡ true → apply sourceLength p f ≡ ok g → free P g ≡ true
   apply-keeps-free l p f g n t h e =
@@ -115,14 +110,6 @@ module _ (P : ℕ → Bool) where
       covered : (a b : Bool) → (a ≡ true → b ≡ true) → one a + 0 ≤ one b
       covered true b t = omega (arith, ap one (t refl))
       covered false b t = omega arith
-
--- No level leaves a list empty that was not.
-pub through-lasting : {S : Type 0} (L : Level S) → Light (leavesOf (λ n. false)) L → Lasting L
-through-lasting L A f g n e = kept (through-light (leavesOf (λ n. false)) L A f) e
-  where
-    kept : {x : Result} → Ending (leavesOf (λ n. false)) (weight (leavesOf (λ n. false)) f) (not (isNil f)) x → x ≡ ok g → isNil g ≡ false
-    kept (failed o) e = let z : _≡_ {A = ℕ} 0 1 = cc in absurd (omega arith)
-    kept (fine {g = r} w) e = let same : r ≡ g = cc in rw same at (w .1 (rw n refl))
 
 -- THE EMPTY LIST
 pub apply-nil : (sourceLength : ℕ) (p : Pass) → isNested p ≡ true → apply sourceLength p nil ≡ ok nil

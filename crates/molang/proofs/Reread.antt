@@ -10,10 +10,10 @@ use lib.ListN.{length, take, length-replicate}
 use Rattle.molang.specs.Forest.{Token, Forest, nil, node, size}
 use Rattle.molang.specs.Read.{uses}
 use Rattle.molang.specs.Words.{Refusal, operatorSlot, wordsRefusal, tokensOf, listWords}
-use Rattle.molang.specs.Parse.{Call, inHalves, refusal, reading, Told, aTree, someMessages, refused, told, answered, treeAfter, messagesIn, messagesAfter, workIn, workAfter}
+use Rattle.molang.specs.Parse.{Call, refusal, reading, Told, aTree, someMessages, refused, told, answered, treeAfter, messagesIn, messagesAfter, workIn, workAfter}
 use Rattle.molang.specs.Write.{written}
 use Rattle.molang.specs.WriteEntry.{WriteCall, WriteTold, tokens, unwritten, writeAnswered, listAfter}
-use Rattle.molang.specs.Reread.{bracketless, HandedOn, ReadAgain, exactCall, secondCall, RereadTold, twoTrees, firstMessages, secondMessages, turnedBack, secondTold, wroteTold, treeBy, Rereading, handed, toldWriting, firstTold, rereadTold, treeFrom, Enough, ToldAgain, Agrees}
+use Rattle.molang.specs.Reread.{bracketless, HandedOn, ReadAgain, exactCall, secondCall, RereadTold, twoTrees, firstMessages, secondMessages, turnedBack, secondTold, wroteTold, treeBy, Rereading, handed, toldWriting, firstTold, rereadTold, treeFrom, Agrees}
 use Rattle.molang.proofs.Words.{LegalTokens, tokens-back}
 use Rattle.molang.proofs.ListWords.{list-unrefused, listWords-length, uses-legal}
 use Rattle.molang.proofs.UsedSet.{halves-exact}

@@ -10,7 +10,7 @@ use Rattle.molang.specs.Message.{ok}
 use Rattle.molang.specs.Level.{through, Gathered, gathered, waiting, nothing}
 use Rattle.molang.specs.Unary.{returnStep, returnResume, returnFinish, returnLevel}
 use Rattle.molang.proofs.Trees.{free, isNil, either}
-use Rattle.molang.proofs.Inert.{Inert, through-free, Hands, staying, entering, Starts}
+use Rattle.molang.proofs.Inert.{Inert, through-free}
 use Rattle.molang.proofs.Walks.{failed, goes}
 use Rattle.molang.proofs.Weight.{Weighing, weight, Ending, Light, weight-tree, turned-fine}
 use Rattle.molang.proofs.Gathering.{shown, GatheredFits, gatheredFull, Gathers, gathers-node}
@@ -32,12 +32,6 @@ return-inert =
 
 pub return-free : (f : Forest) → free isReturn f ≡ true → through returnLevel f ≡ ok f
 return-free f h = through-free returnLevel isReturn return-inert f h
-
-pub return-starts : Starts returnLevel
-unfolding returnLevel nothing returnStep
-return-starts (gathered d) k nil = either (Hands (gathered nil)) (eqb (k .op) Operator.return) _ _ staying staying
-return-starts (gathered d) k (node c cs r) = entering
-return-starts (waiting d q) k cs = staying
 
 module _ (W : Weighing) where
   return-steps : (s : Gathered) (k : Token) (cs rest : Forest) (n : ℕ) → GatheredFits W s (node k cs rest) n

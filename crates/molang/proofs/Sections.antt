@@ -27,11 +27,6 @@ unfolding flat leaves
 leaves-flat [] = refl
 leaves-flat (k ∷ ks) = leaves-flat ks
 
-flat-member : (k : Token) (cs rest : Forest) → eqb (k .op) Operator.memberAccessor ≡ true → flat rest ≡ true → flat (node k cs rest) ≡ true
-unfolding flat
-flat-member k nil rest e h = h
-flat-member k (node c cs r) rest e h = and-true-true _ _ e h
-
 flat-rest : (k : Token) (cs rest : Forest) → flat (node k cs rest) ≡ true → flat rest ≡ true
 unfolding flat
 flat-rest k nil rest h = h

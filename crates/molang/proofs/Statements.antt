@@ -11,7 +11,7 @@ use Rattle.molang.specs.Message.{ok}
 use Rattle.molang.specs.Level.{Step, into, through}
 use Rattle.molang.specs.Statements.{Split, unsplit, after, inside, splitOf, isEntered, gather, endStatement, enterSplit, statementStep, statementResume, statementFinish, statementLevel}
 use Rattle.molang.proofs.Trees.{free, clear, isNil, decided, either, clear-leaf}
-use Rattle.molang.proofs.Inert.{Inert, through-free, Hands, halting, staying, entering, Starts}
+use Rattle.molang.proofs.Inert.{Inert, through-free}
 use Rattle.molang.proofs.Walks.{fine, Onward, stops, goes, enters}
 use Rattle.molang.proofs.Weight.{Weighing, weight, Within, Ending, Light, weight-inner, weight-tree, weight-gathered, turned-fine}
 
@@ -38,16 +38,6 @@ statement-inert =
 
 pub statement-free : (f : Forest) → free isSemicolon f ≡ true → through statementLevel f ≡ ok f
 statement-free f h = through-free statementLevel isSemicolon statement-inert f h
-
-pub statement-starts : Starts statementLevel
-unfolding statementLevel statementStep endStatement enterSplit splitOf
-statement-starts (unsplit d) k nil = either (Hands (unsplit nil)) (eqb (k .op) Operator.semicolon) _ _ staying staying
-statement-starts (after q nil) k nil = either (Hands (unsplit nil)) (eqb (k .op) Operator.semicolon) _ _ halting staying
-statement-starts (after q (node t ts done)) k nil = either (Hands (unsplit nil)) (eqb (k .op) Operator.semicolon) _ _ staying staying
-statement-starts (inside q done s d) k nil = either (Hands (unsplit nil)) (eqb (k .op) Operator.semicolon) _ _ staying staying
-statement-starts (unsplit d) k (node c cs r) = entering
-statement-starts (after q done) k (node c cs r) = either (Hands (splitOf (node c cs r))) (isEntered (k .op)) _ _ entering staying
-statement-starts (inside q done s d) k (node c cs r) = either (Hands (splitOf (node c cs r))) (isEntered (k .op)) _ _ entering staying
 
 -- Statements, where a semicolon weighs as much as three nodes: the first one pays for the statement list and two statements, each other one
 -- for the statement after it.

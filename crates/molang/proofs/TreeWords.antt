@@ -1,5 +1,4 @@
 -- The words of a legal tree of at most 12,288 nodes are a tree's: answer 12 is not given to them.
--- A test that passes, before tests that pass.
 use Prim.Native.Nat.{ℕ, suc, _+_, _*_, _/_, _%_, _^_, _≤_, _<_}
 use mathlib.Core.Path.{_≡_, refl, _∙_}
 use mathlib.Core.Bool.{Bool, true, false}
@@ -14,6 +13,7 @@ use Rattle.molang.specs.WriteEntry.{mostNodes, nextInNode, Shape, shapeA
 use Rattle.molang.proofs.Trees.{decided, count-size, and-true-true}
 use Rattle.molang.proofs.Words.{LegalTrees, noTrees, legalTree, low-word, kind-word, high-part}
 
+-- A test that passes, before tests that pass.
 passes : (b : Bool) (n : ℕ) (later : Option ℕ) → b ≡ true → later ≡ none → unless b n later ≡ none
 unfolding unless
 passes b n later e h = rw e h

@@ -1,6 +1,6 @@
 -- Facts about forests that the laws of the passes share: which leaves stand in a forest, and what turning a gathered list round keeps.
 use Prim.Native.Nat.{ℕ, _≤_}
-use mathlib.Core.Path.{_≡_, refl, sym, _∙_}
+use mathlib.Core.Path.{_≡_, refl}
 use mathlib.Core.Bool.{Bool, true, false, _||_, _&&_, not, and-eq-true-iff, true≢false}
 use mathlib.Core.Option.{Option, none, some}
 use native.Mathlib.Omega.{arith}
@@ -97,18 +97,3 @@ module _ (P : ℕ → Bool) where
   unfolding clear isNil
   clear-tree k nil rest e h = absurd (true≢false e)
   clear-tree k (node c cs r) rest e h = h
-
--- Fewer operators are looked for: a forest without the leaves of a class has none of a part of it.
-pub free-part : (P Q : ℕ → Bool) → ((n : ℕ) → Q n ≡ true → P n ≡ true) → (f : Forest) → free P f ≡ true → free Q f ≡ true
-unfolding free
-free-part P Q part nil h = refl
-free-part P Q part (node k nil rest) h =
-    let e = free-leaf P k rest h in
-    and-true-true _ _ (unpassed (Q (k .op)) (λ t. true≢false (sym (part (k .op) t) ∙ e .0))) (free-part P Q part rest (e .1))
-  where
-    unpassed : (b : Bool) → (b ≡ true → ⊥) → not b ≡ true
-    unpassed true h = absurd (h refl)
-    unpassed false h = refl
-free-part P Q part (node k (node c cs r) rest) h =
-    let e = free-tree P k c cs r rest h in
-    and-true-true _ _ (free-part P Q part (node c cs r) (e .0)) (free-part P Q part rest (e .1))

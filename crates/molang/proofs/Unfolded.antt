@@ -13,7 +13,7 @@ use Rattle.molang.specs.Message.{binaryAtEnd, Result, ok, fail}
 use Rattle.molang.specs.Level.{Step, stop, on, into, Level, walk, through, Gathered, gathered, waiting, nothing}
 use Rattle.molang.specs.Binary.{firstLeaf, unfolded, joined, operatorAfter, binaryStep, binaryResume, binaryFinish, binaryLevel}
 use Rattle.molang.proofs.Trees.{free, isNil, decided, maybe, some-none, and-true-true, free-leaf, free-tree}
-use Rattle.molang.proofs.Walks.{failed, fine, Ends, Onward, stops, goes, enters, Keeps, back, onward, walk-keeps, through-keeps}
+use Rattle.molang.proofs.Walks.{failed, fine, Ends, Onward, stops, goes, enters, Keeps, back, onward, walk-keeps}
 use Rattle.molang.proofs.Weight.{isNil-inOrder}
 use Rattle.molang.proofs.Binary.{full-joined}
 
@@ -146,14 +146,6 @@ module _ (ops : List ℕ) where
   binary-kept : Keeps GoodKept (λ f. tt) (binaryLevel ops)
   unfolding binaryLevel nothing
   binary-kept = record { Fits = KeptFits; full = keptFull; begins = λ f. empty; steps = kept-steps; ends = kept-ends }
-
-  -- After the level, no operator leaf of a list is its own, and one below stands last.
-  pub through-kept : (f g : Forest) → through (binaryLevel ops) f ≡ ok g → Kept g
-  unfolding binary-kept
-  through-kept f g e = of-list (rw e at (through-keeps GoodKept (λ f. tt) (binaryLevel ops) binary-kept f))
-    where
-      of-list : {full : Bool} → Ends GoodKept tt full (ok g) → Kept g
-      of-list (fine h) = h .0
 
   -- The trees so far, the last one's children gone through again, as the Rust does where they hold an unfolded operator.
   unfoldable pub again : Forest → Result

@@ -8,7 +8,7 @@ use lib.Dec.{T, leb, leb→le, le→leb}
 use lib.IntN.{ℤ, pos, negsuc}
 use Rattle.molang.specs.Forest.{Token}
 use Rattle.molang.specs.Order.{effective, isFrom, Rules, rules}
-use Rattle.molang.specs.Read.{Answer, read}
+use Rattle.molang.specs.Read.{read}
 
 -- The one of 4, 5 and 6 that a version reads as.
 abbrev pub readsAs : ℤ → ℤ

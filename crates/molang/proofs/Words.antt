@@ -33,7 +33,7 @@ pub high-part : (high low : ℕ) → low < 2 ^ 8 → (high * 2 ^ 8 + low) / 2 ^ 
 high-part high low h = omega arith
 
 -- A token is read back from its words.
-token-back : (k : Token) → Legal k
+pub token-back : (k : Token) → Legal k
     → tokenOf (word 1 (k .variant * 2 ^ 8 + k .op)) (word 2 (k .start)) (word 3 (k .end)) (word 4 (k .value / 2 ^ 16)) (word 5 (k .value % 2 ^ 16)) ≡ k
 unfolding tokenOf
 token-back k h =
@@ -57,17 +57,17 @@ unfoldable pub beside : Forest → Forest → Forest
 beside nil g = g
 beside (node k cs rest) g = node k cs (beside rest g)
 
-first-beside : (f g : Forest) → firstTrees (count f) (beside f g) ≡ f
+pub first-beside : (f g : Forest) → firstTrees (count f) (beside f g) ≡ f
 unfolding firstTrees count beside
 first-beside nil g = refl
 first-beside (node k cs rest) g = ap (node k cs) (first-beside rest g)
 
-other-beside : (f g : Forest) → otherTrees (count f) (beside f g) ≡ g
+pub other-beside : (f g : Forest) → otherTrees (count f) (beside f g) ≡ g
 unfolding otherTrees count beside
 other-beside nil g = refl
 other-beside (node k cs rest) g = other-beside rest g
 
-beside-nil : (f : Forest) → beside f nil ≡ f
+pub beside-nil : (f : Forest) → beside f nil ≡ f
 unfolding beside
 beside-nil nil = refl
 beside-nil (node k cs rest) = ap (node k cs) (beside-nil rest)

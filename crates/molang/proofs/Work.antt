@@ -2,13 +2,13 @@
 -- levels from the left have the definition's `walk`; the unary pass reads from the right, so its items stand the last first. The lists that
 -- wait for the children of one of their items are unwound one after another.
 use mathlib.Core.Path.{_≡_, refl, ap, sym, _∙_}
-use mathlib.Core.Bool.{Bool, true, false}
+use mathlib.Core.Bool.{Bool, false}
 use mathlib.Core.List.{List, [], _∷_}
 use mathlib.Core.Option.{Option, none, some}
 use Prim.Native.Nat.{ℕ}
 use Rattle.molang.specs.Forest.{Token, Forest, nil, node, turnedOnto, inOrder}
 use Rattle.molang.specs.Message.{Result, ok, fail}
-use Rattle.molang.specs.Level.{Level, walk, through, Gathered}
+use Rattle.molang.specs.Level.{walk, through, Gathered}
 use Rattle.molang.specs.Calls.{CallKind, Indexing, callLevel, arrayLevel}
 use Rattle.molang.specs.Statements.{Split, statementLevel}
 use Rattle.molang.specs.Unary.{Unary, done, undone, unary, unaryPass, unaryNode, turned, returnLevel}

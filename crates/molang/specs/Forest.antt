@@ -1,5 +1,6 @@
 -- Tokens, and lists of trees of tokens. The passes look at nothing of a token but its operator and at whether it has children;
--- payload and span are carried along, and are opened only by the messages (Message) and the word formats (Words).
+-- payload and span are carried along, and are opened only for the messages (Message; the spans of 1 and 2 in Read and Order) and by the
+-- word formats (Words).
 use Prim.Native.Nat.{ℕ, suc, _+_}
 use mathlib.Core.List.{List, [], _∷_}
 

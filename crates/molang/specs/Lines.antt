@@ -1,7 +1,7 @@
 -- The table of lines: what the numbers of src/lines.rt say, and that each line is answered as it says. A line asks something of an entry and
--- says what is answered. The calls are made and compared whole, words and lent buffers, as a program makes and compares them.
+-- says what is answered. Compared are what is told and all words of the lent tree and message buffers, or of the lent list.
 use mathlib.Core.Path.{_≡_}
-use Prim.Native.Nat.{ℕ, zero, suc, _+_, _-_, _*_, _/_, _%_, _^_}
+use Prim.Native.Nat.{ℕ, _+_, _-_, _*_, _/_, _%_, _^_}
 use mathlib.Core.Bool.{true, false}
 use mathlib.Core.List.{List, [], _∷_, _++_}
 use lib.Dec.{eqb, leb, ltb}
@@ -14,34 +14,43 @@ use Rattle.molang.specs.Parse.{Call, Told, aTree, someMessages, refused,
 use Rattle.molang.specs.WriteEntry.{WriteCall, WriteTold, tokens, unwritten, writeAnswered, listAfter}
 
 -- The marks, as src/lines.rt names them. A number from `anyMark` on is a mark, and the numbers after it up to the next mark are its items;
--- a mark below `treeMark` asks, and the others answer.
+-- a mark below `treeMark` asks, and the others answer. `anyMark`: a list to be read at 4, 5 and 6.
 abbrev pub anyMark : ℕ
 anyMark = 1000000000
 
+-- A tree to be written.
 abbrev pub writeMark : ℕ
 writeMark = 1000000001
 
+-- A number of words 0.
 abbrev pub zerosMark : ℕ
 zerosMark = 1000000002
 
+-- A number of tokens of one operator.
 abbrev pub repeatedMark : ℕ
 repeatedMark = 1000000003
 
+-- A list to be read at a version, whose 16 bits are added to the mark.
 abbrev pub atMark : ℕ
 atMark = 1100000000
 
+-- A tree is answered.
 abbrev pub treeMark : ℕ
 treeMark = 2000000000
 
+-- A message is answered.
 abbrev pub messageMark : ℕ
 messageMark = 2000000001
 
+-- A written list is answered.
 abbrev pub listMark : ℕ
 listMark = 2000000002
 
+-- The call is turned back.
 abbrev pub refusedMark : ℕ
 refusedMark = 2000000003
 
+-- A mark with its items.
 pub record Marked : Type 0 where
   pub mark : ℕ
   pub items : List ℕ
@@ -51,18 +60,22 @@ pub record Line : Type 0 where
   pub asked : Marked
   pub answers : List Marked
 
+-- The items in front of the next mark.
 unfoldable pub itemsOf : List ℕ → List ℕ
 itemsOf [] = []
 itemsOf (n ∷ ns) = elim (leb anyMark n) [ true ↦ [] | false ↦ n ∷ itemsOf ns ]
 
+-- The marks of a table, each with its items.
 unfoldable pub marksOf : List ℕ → List Marked
 marksOf [] = []
 marksOf (n ∷ ns) = elim (leb anyMark n) [ true ↦ record { mark = n; items = itemsOf ns } ∷ marksOf ns | false ↦ marksOf ns ]
 
+-- The answers in front of the next mark that asks.
 unfoldable pub answersOf : List Marked → List Marked
 answersOf [] = []
 answersOf (m ∷ ms) = elim (leb treeMark (m .mark)) [ true ↦ m ∷ answersOf ms | false ↦ [] ]
 
+-- The lines of a table: each mark that asks, with its answers.
 unfoldable pub linesOf : List Marked → List Line
 linesOf [] = []
 linesOf (m ∷ ms) = elim (leb treeMark (m .mark)) [ true ↦ linesOf ms | false ↦ record { asked = m; answers = answersOf ms } ∷ linesOf ms ]
@@ -86,6 +99,7 @@ callFor n list used version =
       usedHigh = used / 2 ^ 64;
     }
 
+-- The list of these operators, read at a version under its exact used set.
 unfoldable pub listCall : List ℕ → ℤ → Call
 listCall os version = callFor (length os) (listWords (tokensFrom 0 os)) (setNumber (uses (tokensFrom 0 os)) 111) version
 
@@ -103,6 +117,7 @@ treeCall ns = record { tree = nodeWords ns; list = replicate (15 * length ns) 0 
 unfoldable pub versionOf : ℕ → ℤ
 versionOf n = elim (ltb n 32768) [ true ↦ pos n | false ↦ negsuc (65535 - n) ]
 
+-- The calls of a line; none where its items are not those of its mark.
 pub data Asked : Type 0 where
   parse : List Call → Asked
   write : WriteCall → Asked
@@ -149,6 +164,7 @@ unfoldable pub recordOf : List ℕ → List ℕ
 recordOf [] = []
 recordOf (n ∷ arguments) = n / 10000 ∷ n / 100 % 100 ∷ n % 100 ∷ take 5 (arguments ++ replicate 5 0)
 
+-- The records of the messages, one after another.
 unfoldable pub recordsOf : List Marked → List ℕ
 recordsOf [] = []
 recordsOf (m ∷ ms) = recordOf (m .items) ++ recordsOf ms
@@ -165,6 +181,7 @@ refusalOf told (n ∷ []) = unreadable
 refusalOf told (n ∷ place ∷ []) = told n place
 refusalOf told (n ∷ place ∷ m ∷ ms) = unreadable
 
+-- What the answers of a line say of a call of the parse entry.
 unfoldable pub wantedOf : List Marked → Call → Outcome
 wantedOf [] c = unreadable
 wantedOf (m ∷ ms) c =
@@ -177,6 +194,7 @@ wantedOf (m ∷ ms) c =
           ]
     ]
 
+-- What the answer of a line says of a call of the write entry.
 unfoldable pub writeWantedOf : List Marked → WriteCall → Outcome
 writeWantedOf [] c = unreadable
 writeWantedOf (m ∷ ms) c =
@@ -185,9 +203,11 @@ writeWantedOf (m ∷ ms) c =
       | false ↦ refusalOf (λ n place. wrote (unwritten n place) (c .list)) (m .items)
     ]
 
+-- What the definition gives for a call of the parse entry.
 unfoldable pub parsedBy : Call → Outcome
 parsedBy c = parsed (answered c) (treeAfter c) (messagesAfter c)
 
+-- What it gives for a call of the write entry.
 unfoldable pub wroteBy : WriteCall → Outcome
 wroteBy c = wrote (writeAnswered c) (listAfter c)
 
@@ -196,27 +216,33 @@ pub record Compared : Type 0 where
   pub given : Outcome
   pub wanted : Outcome
 
+-- A line's calls of the parse entry, one after another.
 unfoldable pub comparedCalls : List Marked → List Call → List Compared
 comparedCalls ms [] = []
 comparedCalls ms (c ∷ cs) = record { given = parsedBy c; wanted = wantedOf ms c } ∷ comparedCalls ms cs
 
+-- All that a line compares. What is not clear is compared with something else, so that it does not hold.
 unfoldable pub compared : List Marked → Asked → List Compared
 compared ms (parse cs) = comparedCalls ms cs
 compared ms (write c) = record { given = wroteBy c; wanted = writeWantedOf ms c } ∷ []
 compared ms unclear = record { given = unreadable; wanted = parsed (aTree 0) [] [] } ∷ []
 
+-- All that the lines compare.
 unfoldable pub allCompared : List Line → List Compared
 allCompared [] = []
 allCompared (l ∷ ls) = compared (l .answers) (askedOf (l .asked)) ++ allCompared ls
 
+-- What the definition gives, line by line.
 unfoldable pub givens : List Compared → List Outcome
 givens [] = []
 givens (c ∷ cs) = c .given ∷ givens cs
 
+-- What the lines want.
 unfoldable pub wanteds : List Compared → List Outcome
 wanteds [] = []
 wanteds (c ∷ cs) = c .wanted ∷ wanteds cs
 
+-- The number of lines.
 unfoldable pub lineCount : List ℕ → ℕ
 lineCount table = length (linesOf (marksOf table))
 

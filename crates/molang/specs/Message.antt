@@ -1,5 +1,5 @@
 -- The messages 1-17 with what they speak of, and the record of eight words that each fills (document 01, 'The passes in order').
--- Only here do tokens show their spans and payloads.
+-- A record is made of the spans, payloads and operators of the tokens that a message speaks of.
 use Prim.Native.Nat.{ℕ}
 use mathlib.Core.Bool.{true, false}
 use mathlib.Core.List.{List, [], _∷_}
@@ -8,6 +8,7 @@ use lib.Dec.{eqb}
 use Rattle.molang.specs.Operator.{closingOf}
 use Rattle.molang.specs.Forest.{Token, Forest}
 
+-- What is wrong, by the Rust's names and document 01's numbers, with the tokens or numbers that the record is made of.
 pub data Message : Type 0 where
   -- 1: from, to, root count
   multipleRoots : ℕ → ℕ → ℕ → Message
@@ -59,6 +60,7 @@ record8 n start end a b c d e = n ∷ start ∷ end ∷ a ∷ b ∷ c ∷ d ∷ 
 unfoldable pub about : ℕ → Token → ℕ → ℕ → List ℕ
 about n k a b = record8 n (k .start) (k .end) a b 0 0 0
 
+-- The record of each message, its arguments in the Rust's order.
 unfoldable pub messageRecord : Message → List ℕ
 messageRecord (multipleRoots from to roots) = record8 1 from to roots 0 0 0 0
 messageRecord (complexMustEndWithSemicolon from to) = record8 2 from to 0 0 0 0 0

@@ -7,7 +7,7 @@ use mathlib.Core.Option.{Option, none, some}
 use lib.Dec.{eqb, leb, ltb}
 use lib.IntN.{ℤ}
 use lib.ListN.{length, drop, replicate}
-use Rattle.molang.specs.Forest.{Token, Forest, nil, node, size}
+use Rattle.molang.specs.Forest.{nil, node, size}
 use Rattle.molang.specs.Message.{Message, messageRecord}
 use Rattle.molang.specs.Read.{Answer, tree, messages, read}
 use Rattle.molang.specs.Words.{Refusal, operatorSlot, wordsRefusal, tokensOf, treeWords}
@@ -27,6 +27,7 @@ pub record Call : Type 0 where
 unfoldable pub inHalves : ℕ → ℕ → ℕ → Bool
 inHalves low high n = eqb ((high * 2 ^ 64 + low) / 2 ^ n % 2) 1
 
+-- The most tokens of a list.
 abbrev pub mostTokens : ℕ
 mostTokens = 4096
 
@@ -35,6 +36,7 @@ unfoldable pub must : Bool → ℕ → Option Refusal
 must true n = none
 must false n = some (record { number = n; place = 0 })
 
+-- The first refusal of several checks, if there is one.
 unfoldable pub firstOf : List (Option Refusal) → Option Refusal
 firstOf [] = none
 firstOf (none ∷ later) = firstOf later
@@ -59,6 +61,7 @@ refusal c =
 unfoldable pub reading : Call → Answer
 reading c = read (tokensOf (c .list)) (inHalves (c .usedLow) (c .usedHigh)) (c .version) (c .sourceLength)
 
+-- The records of the messages, one after another.
 unfoldable pub recordWords : List Message → List ℕ
 recordWords [] = []
 recordWords (m ∷ ms) = messageRecord m ++ recordWords ms
@@ -69,11 +72,13 @@ pub data Told : Type 0 where
   someMessages : ℕ → Told
   refused : ℕ → ℕ → Told
 
+-- What is told of a call that is turned back, or else of its reading.
 unfoldable pub told : Option Refusal → Answer → Told
 told (some r) a = refused (r .number) (r .place)
 told none (tree k cs) = aTree (size (node k cs nil))
 told none (messages ms) = someMessages (length ms)
 
+-- THE ANSWER to a call.
 unfoldable pub answered : Call → Told
 answered c = told (refusal c) (reading c)
 
@@ -81,19 +86,23 @@ answered c = told (refusal c) (reading c)
 unfoldable pub inFront : List ℕ → List ℕ → List ℕ
 inFront ws buffer = ws ++ drop (length ws) buffer
 
+-- A tree fills the front of the tree buffer; messages and refusals leave it as it was.
 unfoldable pub treeIn : Option Refusal → Answer → List ℕ → List ℕ
 treeIn (some r) a buffer = buffer
 treeIn none (tree k cs) buffer = inFront (treeWords (node k cs nil)) buffer
 treeIn none (messages ms) buffer = buffer
 
+-- THE TREE BUFFER after a call.
 unfoldable pub treeAfter : Call → List ℕ
 treeAfter c = treeIn (refusal c) (reading c) (c .tree)
 
+-- Messages fill the front of the message buffer; trees and refusals leave it as it was.
 unfoldable pub messagesIn : Option Refusal → Answer → List ℕ → List ℕ
 messagesIn (some r) a buffer = buffer
 messagesIn none (tree k cs) buffer = buffer
 messagesIn none (messages ms) buffer = inFront (recordWords ms) buffer
 
+-- THE MESSAGE BUFFER after a call.
 unfoldable pub messagesAfter : Call → List ℕ
 messagesAfter c = messagesIn (refusal c) (reading c) (c .messages)
 
@@ -102,5 +111,6 @@ unfoldable pub workIn : Option Refusal → List ℕ → List ℕ
 workIn (some r) buffer = buffer
 workIn none buffer = replicate (length buffer) 0
 
+-- THE WORK BUFFER after a call.
 unfoldable pub workAfter : Call → List ℕ
 workAfter c = workIn (refusal c) (c .work)

@@ -13,11 +13,13 @@ use Rattle.molang.specs.Forest.{Token, Forest, nil, node, size}
 pub data Place : Type 0 where
   elsewhere rightOfQuestion underMathCall : Place
 
+-- The place of the second child of 59.
 unfoldable pub isRightOfQuestion : Place → Bool
 isRightOfQuestion elsewhere = false
 isRightOfQuestion rightOfQuestion = true
 isRightOfQuestion underMathCall = false
 
+-- The place of a child of a math call.
 unfoldable pub isUnderMathCall : Place → Bool
 isUnderMathCall elsewhere = false
 isUnderMathCall rightOfQuestion = false
@@ -68,6 +70,6 @@ unplain p i n (node k cs rest) =
       | true ↦ elim (unplain (some k) 0 (suc n) cs) [ some m ↦ some m | none ↦ unplain p (suc i) (suc n + size cs) rest ]
     ]
 
--- The tree k over cs is not plain at this node, or is plain.
+-- Answer 13's place in the tree k over cs, if it is not plain.
 unfoldable pub unplainAt : Token → Forest → Option ℕ
 unplainAt k cs = unplain none 0 0 (node k cs nil)

@@ -5,19 +5,20 @@ use mathlib.Core.List.{List, [], _∷_, _++_}
 use lib.Dec.{eqb}
 use lib.IntN.{ℤ}
 use Rattle.molang.specs.Forest.{Token, Forest, nil, node, leaves, count}
-use Rattle.molang.specs.Message.{Message, multipleRoots, Result, ok, fail}
-use Rattle.molang.specs.Order.{Rules, rules, Pass, lastToken, memberAccessors, sectioning, callPass, statements, arrays, pointer, mathCalls, unaryMinusAndNot, addition, ternary, returns, binary, order, runs, apply}
+use Rattle.molang.specs.Message.{Message, multipleRoots, ok, fail}
+use Rattle.molang.specs.Order.{rules, Pass, lastToken, memberAccessors, sectioning, callPass, statements, arrays, pointer, mathCalls, unaryMinusAndNot, addition, ternary, returns, binary, order, runs, apply}
 
 -- What reading gives: the root with its children, or one or two messages.
 pub data Answer : Type 0 where
   tree : Token → Forest → Answer
   messages : List Message → Answer
 
--- The extent of a node (`full_span`): the lowest start and the highest end among the spans of the node and all below it.
+-- The extent of a node (`full_span`) starts at the lowest start among m, its own, and those of all nodes below it.
 unfoldable pub lowestStart : ℕ → Forest → ℕ
 lowestStart m nil = m
 lowestStart m (node k cs rest) = lowestStart (lowestStart (min m (k .start)) cs) rest
 
+-- It ends at the highest end among m, its own, and those of all nodes below it.
 unfoldable pub highestEnd : ℕ → Forest → ℕ
 highestEnd m nil = m
 highestEnd m (node k cs rest) = highestEnd (highestEnd (max m (k .end)) cs) rest
@@ -63,7 +64,7 @@ grouped sourceLength u (p ∷ ps) so-far f =
           ]
     ]
 
--- READING
+-- READING: the passes in the version's order over the list of tokens.
 unfoldable pub read : List Token → (ℕ → Bool) → ℤ → ℕ → Answer
 read tokens u version sourceLength = grouped sourceLength u (order (rules version)) [] (leaves tokens)
 

@@ -73,11 +73,13 @@ pub data RereadTold : Type 0 where
   firstMessages secondMessages : ℕ → RereadTold
   turnedBack : ℕ → ℕ → ℕ → RereadTold
 
+-- By the second reading's answer.
 unfoldable pub secondTold : ℕ → ℕ → Told → RereadTold
 secondTold nodes count (aTree again) = twoTrees nodes count again
 secondTold nodes count (someMessages records) = secondMessages records
 secondTold nodes count (refused number place) = turnedBack 3 number place
 
+-- By the writer's answer: what the second reading tells, or that the writer was turned back.
 unfoldable pub wroteTold : Handed → ℕ → WriteTold → RereadTold
 wroteTold h nodes (tokens count) = secondTold nodes count (answered (secondCall h count))
 wroteTold h nodes (unwritten number place) = turnedBack 2 number place
@@ -87,10 +89,12 @@ unfoldable pub treeBy : Handed → WriteTold → List ℕ
 treeBy h (tokens count) = treeAfter (secondCall h count)
 treeBy h (unwritten number place) = h .tree
 
+-- The message buffer after it.
 unfoldable pub messagesBy : Handed → WriteTold → List ℕ
 messagesBy h (tokens count) = messagesAfter (secondCall h count)
 messagesBy h (unwritten number place) = h .messages
 
+-- The work buffer after it.
 unfoldable pub workBy : Handed → WriteTold → List ℕ
 workBy h (tokens count) = workAfter (secondCall h count)
 workBy h (unwritten number place) = h .work
@@ -122,11 +126,13 @@ handed c nodes =
 unfoldable pub toldWriting : Rereading → ℕ → WriteTold
 toldWriting c nodes = writeAnswered (handed c nodes .write)
 
+-- By the first reading's answer: what the other two calls tell, its messages, or that it was turned back.
 unfoldable pub firstTold : Rereading → Told → RereadTold
 firstTold c (aTree nodes) = wroteTold (handed c nodes) nodes (toldWriting c nodes)
 firstTold c (someMessages records) = firstMessages records
 firstTold c (refused number place) = turnedBack 1 number place
 
+-- THE OUTCOME of the three calls.
 unfoldable pub rereadTold : Rereading → RereadTold
 rereadTold c = firstTold c (answered (c .first))
 
@@ -136,24 +142,25 @@ writtenFrom c (aTree nodes) = listAfter (handed c nodes .write)
 writtenFrom c (someMessages records) = c .written
 writtenFrom c (refused number place) = c .written
 
+-- The second reading's tree buffer.
 unfoldable pub treeFrom : Rereading → Told → List ℕ
 treeFrom c (aTree nodes) = treeBy (handed c nodes) (toldWriting c nodes)
 treeFrom c (someMessages records) = c .tree
 treeFrom c (refused number place) = c .tree
 
+-- The message buffer of both readings.
 unfoldable pub messagesFrom : Rereading → Told → List ℕ
 messagesFrom c (aTree nodes) = messagesBy (handed c nodes) (toldWriting c nodes)
 messagesFrom c (someMessages records) = messagesAfter (c .first)
 messagesFrom c (refused number place) = messagesAfter (c .first)
 
+-- The work buffer of both readings.
 unfoldable pub workFrom : Rereading → Told → List ℕ
 workFrom c (aTree nodes) = workBy (handed c nodes) (toldWriting c nodes)
 workFrom c (someMessages records) = workAfter (c .first)
 workFrom c (refused number place) = workAfter (c .first)
 
--- DEMAND 3 OF A CALL, by what was told and what the two tree buffers hold after it. Where the first reading gives a tree and the writer
--- writes it, the second ends with a tree if its buffers are long enough by the table and its source length is legal; and whenever both
--- end with a tree, these have the same words with brackets taken away.
+-- The first reading gives a tree, the writer writes it, and the second reading's buffers and source length are such as the table asks.
 pub record Enough (c : Rereading) (nodes count : ℕ) : Type 0 where
   pub parsed : answered (c .first) ≡ aTree nodes
   pub wrote : toldWriting c nodes ≡ tokens count
@@ -161,10 +168,14 @@ pub record Enough (c : Rereading) (nodes count : ℕ) : Type 0 where
   pub workRoom : 64 * count + 64 ≤ length (c .first .work)
   pub legalLength : c .sourceLength ≤ 536870911
 
+-- Both readings gave a tree, the first of so many nodes, with so many tokens written between them.
 pub record ToldAgain (told : RereadTold) (nodes count : ℕ) : Type 0 where
   pub again : ℕ
   pub says : told ≡ twoTrees nodes count again
 
+-- DEMAND 3 OF A CALL, by what was told and what the two tree buffers hold after it. Where the first reading gives a tree and the writer
+-- writes it, the second ends with a tree if its buffers are long enough by the table and its source length is legal; and whenever both
+-- end with a tree, these have the same words with brackets taken away.
 pub record Agrees (c : Rereading) (told : RereadTold) (tree treeAgain : List ℕ) : Type 0 where
   pub ends : (nodes count : ℕ) → Enough c nodes count → ToldAgain told nodes count
   pub words : (nodes count again : ℕ) → told ≡ twoTrees nodes count again

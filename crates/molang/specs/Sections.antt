@@ -58,6 +58,7 @@ closing k cs i (section o j d s) =
       | false ↦ mismatch (closingMismatch o j k i ∷ sectionNotClosed (outermost o s) ∷ [])
     ]
 
+-- One more token: an opener opens a section, a closer ends the innermost one, anything else is placed in it.
 unfoldable pub bracket : Token → Forest → ℕ → Open → Walked
 bracket k cs i s =
     elim (closingOf (k .op)) [
@@ -65,6 +66,7 @@ bracket k cs i s =
       | none ↦ elim (isCloser (k .op)) [ true ↦ closing k cs i s | false ↦ going (placed k cs s) ]
     ]
 
+-- At the list's end no section may be open.
 unfoldable pub closed : Open → Result
 closed (outside d) = ok (inOrder d)
 closed (section o i d s) = fail (noClosingSymbol o i ∷ sectionNotClosed (outermost o s) ∷ [])

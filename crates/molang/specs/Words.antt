@@ -11,9 +11,11 @@ use Rattle.molang.specs.Forest.{Token, Forest, nil, node, count}
 unfoldable pub word : ℕ → ℕ → ℕ
 word kind low = kind * 2 ^ 29 + low
 
+-- The kind of a word.
 unfoldable pub kindOf : ℕ → ℕ
 kindOf w = w / 2 ^ 29
 
+-- Its low 29 bits.
 unfoldable pub lowOf : ℕ → ℕ
 lowOf w = w % 2 ^ 29
 
@@ -22,6 +24,7 @@ unfoldable pub tokenWords : Token → List ℕ
 tokenWords k =
     word 1 (k .variant * 2 ^ 8 + k .op) ∷ word 2 (k .start) ∷ word 3 (k .end) ∷ word 4 (k .value / 2 ^ 16) ∷ word 5 (k .value % 2 ^ 16) ∷ []
 
+-- The token of five words.
 unfoldable pub tokenOf : ℕ → ℕ → ℕ → ℕ → ℕ → Token
 tokenOf a b c d e =
     record {
@@ -50,6 +53,7 @@ tokensOf (a ∷ b ∷ c ∷ []) = []
 tokensOf (a ∷ b ∷ c ∷ d ∷ []) = []
 tokensOf (a ∷ b ∷ c ∷ d ∷ e ∷ ws) = tokenOf a b c d e ∷ tokensOf ws
 
+-- The words of a token list.
 unfoldable pub listWords : List Token → List ℕ
 listWords [] = []
 listWords (k ∷ ks) = tokenWords k ++ listWords ks
@@ -63,6 +67,7 @@ treeWords (node k cs rest) = tokenWords k ++ (word 6 (count cs) ∷ (treeWords c
 pub data Slot : Type 0 where
   operatorSlot startSlot endSlot upperSlot lowerSlot countSlot : Slot
 
+-- The kind of the word that is expected.
 unfoldable pub slotKind : Slot → ℕ
 slotKind operatorSlot = 1
 slotKind startSlot = 2
@@ -98,6 +103,7 @@ variantAfter upperSlot v w = v
 variantAfter lowerSlot v w = v
 variantAfter countSlot v w = v
 
+-- The word after it, in a list of tokens.
 unfoldable pub nextInToken : Slot → Slot
 nextInToken operatorSlot = startSlot
 nextInToken startSlot = endSlot

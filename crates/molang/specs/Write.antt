@@ -1,17 +1,18 @@
 -- Writing a plain tree out with brackets, and taking brackets away (document 01, 'Writing a plain tree').
-use Prim.Native.Nat.{ℕ, suc, _+_}
+use Prim.Native.Nat.{ℕ, _+_}
 use mathlib.Core.Bool.{Bool, true, false, _||_, _&&_, not}
-use mathlib.Core.List.{List, [], _∷_}
+use mathlib.Core.List.{List, _∷_}
 use lib.Dec.{eqb}
 use Rattle.molang.specs.Operator
 use Rattle.molang.specs.Forest.{Token, Forest, nil, node, bare}
 use Rattle.molang.specs.Operator.{isBracket}
 use Rattle.molang.specs.Plain.{isCall}
 
--- An added opener carries the operand node's own span and payload 0; a closer carries its opener's span and payload 0.
+-- An added opener carries the operand node's own span and payload 0.
 unfoldable pub openerFor : Token → Token
 openerFor k = bare Operator.leftParenthesis k
 
+-- A closer carries its opener's span and payload 0.
 unfoldable pub closerFor : Token → Token
 closerFor k = bare Operator.rightParenthesis k
 
@@ -42,11 +43,12 @@ written k (node x xs (node y ys nil)) r =
     operandTokens (standsLeft k x xs) x (written x xs) (k ∷ operandTokens (standsRight k y ys) y (written y ys) r)
 written k (node x xs (node y ys (node z zs more))) r = k ∷ r
 
+-- The tokens of an operand that has n: as it is, or with an added pair.
 unfoldable pub operandCount : Bool → ℕ → ℕ
 operandCount true n = n
 operandCount false n = n + 2
 
--- The written count.
+-- How many tokens that is.
 unfoldable pub writtenCount : Token → Forest → ℕ
 writtenCount k nil = elim (isBracket (k .op)) [ true ↦ 2 | false ↦ 1 ]
 writtenCount k (node x xs nil) =
@@ -55,6 +57,7 @@ writtenCount k (node x xs (node y ys nil)) =
     operandCount (standsLeft k x xs) (writtenCount x xs) + 1 + operandCount (standsRight k y ys) (writtenCount y ys)
 writtenCount k (node x xs (node y ys (node z zs more))) = 1
 
+-- Exactly one tree.
 unfoldable pub isSingle : Forest → Bool
 isSingle nil = false
 isSingle (node k cs nil) = true

@@ -1,5 +1,6 @@
--- The write entry: what a call is given, where it is turned back (answers 12-15), what it answers and what it leaves in the lent list.
-use Prim.Native.Nat.{ℕ, zero, suc, _+_, _-_, _*_, _/_}
+-- The write entry: what a call is given, where it is turned back (document 01, 'Where the entry turns a call back', answers 12-15), what it
+-- answers and what it leaves in the lent list.
+use Prim.Native.Nat.{ℕ, zero, suc, _+_, _*_}
 use mathlib.Core.Bool.{Bool, true, false, _&&_}
 use mathlib.Core.List.{List, [], _∷_}
 use mathlib.Core.Option.{Option, none, some}
@@ -11,9 +12,11 @@ use Rattle.molang.specs.Parse.{mostTokens, inFront, must}
 use Rattle.molang.specs.Plain.{unplainAt}
 use Rattle.molang.specs.Write.{written, writtenCount}
 
+-- The most nodes of a tree.
 abbrev pub mostNodes : ℕ
 mostNodes = 12288
 
+-- The word after it, in the nodes of a tree.
 unfoldable pub nextInNode : Slot → Slot
 nextInNode operatorSlot = startSlot
 nextInNode startSlot = endSlot
@@ -27,6 +30,7 @@ pub record Shape : Type 0 where
   pub called : ℕ
   pub begun : ℕ
 
+-- After one more word: an operator begins a node, a count calls for children.
 unfoldable pub shapeAfter : Slot → ℕ → Shape → Shape
 shapeAfter operatorSlot w s = record { called = s .called; begun = suc (s .begun) }
 shapeAfter startSlot w s = s
@@ -61,12 +65,13 @@ treeFault i slot v s (w ∷ ws) =
       | true ↦ treeFault (suc i) (nextInNode slot) (variantAfter slot v w) (shapeAfter slot w s) ws
     ]
 
--- The first n trees of a list, and those after them.
+-- The first n trees of a list.
 unfoldable pub firstTrees : ℕ → Forest → Forest
 firstTrees zero f = nil
 firstTrees (suc n) nil = nil
 firstTrees (suc n) (node k cs rest) = node k cs (firstTrees n rest)
 
+-- The trees after them.
 unfoldable pub otherTrees : ℕ → Forest → Forest
 otherTrees zero f = f
 otherTrees (suc n) nil = nil
@@ -88,10 +93,12 @@ pub record WriteCall : Type 0 where
   pub tree : List ℕ
   pub list : List ℕ
 
+-- A refusal at the place that was found, or else what is checked later.
 unfoldable pub refusedAt : ℕ → Option ℕ → Option Refusal → Option Refusal
 refusedAt n none later = later
 refusedAt n (some place) later = some (record { number = n; place = place })
 
+-- The first of two refusals.
 unfoldable pub orElse : Option Refusal → Option Refusal → Option Refusal
 orElse none later = later
 orElse (some r) later = some r
@@ -108,7 +115,7 @@ unfoldable pub writeRefusal : WriteCall → Option Refusal
 writeRefusal c =
     refusedAt 12 (treeFault 0 operatorSlot 0 (record { called = 1; begun = 0 }) (c .tree)) (forestRefusal (treesOf (c .tree)) (length (c .list)))
 
--- The written words of a tree.
+-- The tokens that are written of the first tree.
 unfoldable pub writtenTokens : Forest → List Token
 writtenTokens nil = []
 writtenTokens (node k cs rest) = written k cs []
@@ -118,16 +125,20 @@ pub data WriteTold : Type 0 where
   tokens : ℕ → WriteTold
   unwritten : ℕ → ℕ → WriteTold
 
+-- What is told of a call that is turned back, or else of the tree that is written.
 unfoldable pub writeTold : Option Refusal → Forest → WriteTold
 writeTold (some r) f = unwritten (r .number) (r .place)
 writeTold none f = tokens (length (writtenTokens f))
 
+-- THE ANSWER to a call.
 unfoldable pub writeAnswered : WriteCall → WriteTold
 writeAnswered c = writeTold (writeRefusal c) (treesOf (c .tree))
 
+-- The written tokens fill the front of the list; a refusal leaves it as it was.
 unfoldable pub listIn : Option Refusal → Forest → List ℕ → List ℕ
 listIn (some r) f buffer = buffer
 listIn none f buffer = inFront (listWords (writtenTokens f)) buffer
 
+-- THE LENT LIST after a call.
 unfoldable pub listAfter : WriteCall → List ℕ
 listAfter c = listIn (writeRefusal c) (treesOf (c .tree)) (c .list)

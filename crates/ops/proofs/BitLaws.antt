@@ -93,23 +93,6 @@ or-swap true true c = refl
 or-swap true false c = refl
 or-swap false b c = refl
 
-pub some-none : (k : ℕ) → someBelow k (λ i. false) ≡ false
-unfolding someBelow
-some-none zero = refl
-some-none (suc k) = some-none k
-
-or-out : (a b c d : Bool) → ((a || b) || (c || d)) ≡ ((a || c) || (b || d))
-or-out true b c d = refl
-or-out false true true d = refl
-or-out false true false d = refl
-or-out false false c d = refl
-
-pub some-either : (k : ℕ) (f g : ℕ → Bool) → someBelow k (λ i. f i || g i) ≡ (someBelow k f || someBelow k g)
-unfolding someBelow
-some-either zero f g = refl
-some-either (suc k) f g =
-    ap (λ (b : Bool). (f k || g k) || b) (some-either k f g) ∙ or-out (f k) (g k) (someBelow k f) (someBelow k g)
-
 -- The lowest number first.
 some-low : (k : ℕ) (f : ℕ → Bool) → someBelow (suc k) f ≡ (f 0 || someBelow k (λ i. f (suc i)))
 unfolding someBelow

@@ -1,18 +1,18 @@
--- The classes of operators: the bits of the table's entries and of an operator's own class, what sets of classes share, and the
--- one test that says what a constant of the code stands for. Assumes nothing.
+-- The classes of operators: the bits of the table's entries and of an operator's own class, and the one test that says what a constant
+-- of the code stands for. Assumes nothing.
 use mathlib.Core.Path.{_≡_, refl, sym, ap, _∙_}
-use mathlib.Core.Bool.{Bool, true, false, not, _&&_, _||_, and-comm, and-false, and-or-distrib-right}
+use mathlib.Core.Bool.{Bool, true, false, not, _&&_, _||_, and-false, or-false}
 use mathlib.Core.List.{List, [], _∷_, _++_}
-use Prim.Native.Nat.{ℕ, zero, suc, _<_, _≤_, _^_}
+use Prim.Native.Nat.{ℕ, zero, suc, _<_, _≤_}
 use native.Mathlib.Nat.{le-of-suc-le-suc, not-suc-le-zero}
 use native.Mathlib.Omega.{arith}
-use lib.Dec.{T, eqb, leb, ltb, nleb→lt}
+use lib.Dec.{T, leb, ltb, nleb→lt}
 use lib.ListN.{getD, drop, List·getD-eq-default}
 use borrow.Author.Tests.{le-leb, lt-leb, ltb-true, ltb-false, ne-eqb}
 use Rattle.molang.specs.Operator.{any, isOneOf, isQueryOrLoop}
-use Rattle.ops.specs.Classes.{passClasses, ownClasses, inClass, bitAt, shares, meets, upTo, classWord, classTable, ownWord}
-use Rattle.ops.proofs.OperatorLaws.{true-at, agree, agree-at, no-math}
-use Rattle.ops.proofs.BitLaws.{bit-zero, bits-of, nonzero, some-same, some-none, some-either}
+use Rattle.ops.specs.Classes.{passClasses, ownClasses, inClass, bitAt, meets, upTo, classWord, classTable, ownWord}
+use Rattle.ops.proofs.OperatorLaws.{agree, agree-at, no-math}
+use Rattle.ops.proofs.BitLaws.{bit-zero, bits-of}
 
 -- ---- No class but the 25, and no operator above 110
 
@@ -80,10 +80,6 @@ own-bits n i = bits-of 25 (λ i. leb 22 i && inClass i n) i ∙ bounded 25 i (le
 halves : (i : ℕ) (b : Bool) → (ltb i 22 && b || leb 22 i && b) ≡ b
 halves i b = go (ltb i 22) refl
   where
-    or-false : (x : Bool) → (x || false) ≡ x
-    or-false true = refl
-    or-false false = refl
-
     go : (t : Bool) → ltb i 22 ≡ t → (t && b || leb 22 i && b) ≡ b
     go true e = rw (lt-leb 22 i (ltb-true i 22 e)) (or-false b)
     go false e = rw (le-leb 22 i (ltb-false i 22 e))
@@ -99,33 +95,6 @@ past-bits n i high = rw (bit-zero i, no-class i n high, and-false (ltb i 22))
 -- The classes of driver.rs and the own ones together.
 pub every-class : (i n : ℕ) → (ltb i 22 && inClass i n || leb 22 i && inClass i n) ≡ inClass i n
 every-class i n = halves i (inClass i n)
-
--- ---- What sets share
-
-pub shares-none : (w : ℕ) → shares 0 w ≡ false
-unfolding shares
-shares-none w = some-same 32 (λ i. bitAt 0 i && bitAt w i) (λ i. false) (λ i below. rw (bit-zero i)) ∙ some-none 32
-
-pub shares-all : (w : ℕ) → w < 2 ^ 32 → shares 0xffff_ffff w ≡ not (eqb w 0)
-unfolding shares bitAt
-shares-all w small =
-    some-same 32 (λ i. bitAt 0xffff_ffff i && bitAt w i) (bitAt w)
-    (λ i below. rw (← true-at (bitAt 0xffff_ffff) 0 32 tt i (omega arith) (omega arith)))
-    ∙ sym (nonzero 32 w small)
-
-pub shares-union : (u v v′ w : ℕ) → ((i : ℕ) → bitAt u i ≡ (bitAt v i || bitAt v′ i)) → shares u w ≡ (shares v w || shares v′ w)
-unfolding shares
-shares-union u v v′ w union =
-    some-same 32 (λ i. bitAt u i && bitAt w i) (λ i. bitAt v i && bitAt w i || bitAt v′ i && bitAt w i)
-    (λ i below. rw (union i) (and-or-distrib-right (bitAt v i) (bitAt v′ i) (bitAt w i)))
-    ∙ some-either 32 (λ i. bitAt v i && bitAt w i) (λ i. bitAt v′ i && bitAt w i)
-
--- The classes of a leaf and a pass's: the leaf's operator is one of the pass.
-pub shares-leaf : (u n w : ℕ) → ((i : ℕ) → bitAt u i ≡ inClass i n) → shares u w ≡ meets w n
-unfolding shares meets
-shares-leaf u n w leaf =
-    some-same 32 (λ i. bitAt u i && bitAt w i) (λ i. bitAt w i && inClass i n)
-    (λ i below. rw (leaf i) (and-comm (inClass i n) (bitAt w i)))
 
 -- ---- What a constant stands for
 

@@ -7,12 +7,13 @@ ghost use Prim.Native.Nat.{ℕ};
 ghost use lib.Dec.{ltb};
 ghost use Rattle.ops.specs.Classes.{inClass, bitAt, shares, classTable, ownWord};
 
-// A set of token classes. NONE and ALL are the Rust's; the others name a single class each.
+// A set of token classes. NONE and ALL are the Rust's; the others name a single class each, but for the last three.
 pub struct TokenClasses(pub u32);
 
 impl TokenClasses {
     pub const NONE: Self = Self(0);
 
+    // Every class, which the Rust notes where no pass has looked yet. Here each leaf notes its own classes from the start.
     pub const ALL: Self = Self(0xffff_ffff);
 
     pub const CALL: Self = Self(0x1);

@@ -1,5 +1,5 @@
 // The operators of op.rs by name: an operator is its number there, the same in token words, in sets and in the class table.
-// Nothing else in the code writes an operator as a bare number.
+// Nothing else in the code writes an operator as a bare number, but for molang's table of lines, which leans on nothing.
 
 pub const LEFT_BRACE: u32 = 0;
 

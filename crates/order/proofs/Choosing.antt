@@ -1,7 +1,7 @@
 -- One arm of a choice: a gate and a state make the choice at a place; where no place is, nothing is chosen; and the groups of places in
 -- the whole. Assumes nothing.
 use mathlib.Core.Path.{_≡_, refl, sym, ap, subst, _∙_}
-use mathlib.Core.Bool.{Bool, true, false, not, _||_, _&&_, or-assoc}
+use mathlib.Core.Bool.{Bool, true, false, not, _||_, _&&_, or-assoc, or-false}
 use mathlib.Core.List.{List, [], _∷_, _++_}
 use mathlib.Core.Option.{Option, none, some}
 use Prim.Native.Nat.{ℕ, zero, suc, _+_, _-_, _<_, _≤_}
@@ -18,10 +18,6 @@ use Rattle.order.specs.declared.Choice.the-variants.{Skip}
 use Rattle.order.specs.Places.{choiceIf, levelOf, andOr, padded, calling, arithmetic, comparing, deciding, branching, last, places, placeIn, Starts, level, Chosen, empty, unused, used}
 
 -- ---- Gates
-
-pub or-false : (b : Bool) → (b || false) ≡ b
-or-false true = refl
-or-false false = refl
 
 -- What `||` and `&&` answer where the first side decides, and where it does not.
 pub or-first : (x a b : Bool) → x ≡ true → x ≡ a → x ≡ (a || b)

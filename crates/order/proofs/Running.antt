@@ -1,21 +1,21 @@
 -- The passes that run, place by place: from place 0 on they are those of the definition's order after the sections, each place gives its
 -- own before the later ones, and after the last place there are none. What was chosen at a place is the pass that runs there. Assumes nothing.
 use mathlib.Core.Path.{_≡_, refl, sym, ap, _∙_}
-use mathlib.Core.Bool.{Bool, true, false, _&&_, true≢false}
+use mathlib.Core.Bool.{Bool, true, false, _&&_}
 use mathlib.Core.List.{List, [], _∷_, _++_, append-assoc}
 use mathlib.Core.Option.{Option, none, some}
 use Prim.Native.Nat.{ℕ, zero, suc, _+_, _<_, _≤_}
 use native.Mathlib.Numerals.{add-one}
 use native.Mathlib.Omega.{arith}
-use lib.IntN.{ℤ}
 use lib.ListN.{length, drop, length-append}
 use lib.Seq.{drop-cons, drop-length}
 use Rattle.molang.specs.Operator
 use Rattle.molang.specs.Forest.{Forest, nil}
 use Rattle.molang.specs.Message.{Message, Result, ok, fail}
 use Rattle.molang.specs.Calls.{queryOrLoop, math}
-use Rattle.molang.specs.Order.{Rules, rules, effective, Pass, callPass, statements, arrays, pointer, mathCalls, unaryMinusAndNot, addition, ternary, returns, binary, comparisons, logic, conditionals, order, runs, apply}
+use Rattle.molang.specs.Order.{Rules, Pass, callPass, statements, arrays, pointer, mathCalls, unaryMinusAndNot, addition, ternary, returns, binary, comparisons, logic, conditionals, order, runs, apply}
 use Rattle.molang.specs.Read.{Answer, messages, endsReading, grouped}
+use Rattle.molang.proofs.Trees.{both as both-true}
 use Rattle.molang.proofs.Passes.{isNested, allNested}
 use Rattle.molang.proofs.Work.{Kind, pass}
 use Rattle.molang.proofs.Work as kinds
@@ -24,13 +24,9 @@ use Rattle.walks.specs.Passes as walks
 use Rattle.walks.specs.declared.turns.Pass.{Pass as State}
 use Rattle.order.proofs.Choosing.{comparing-size, deciding-size, branching-size}
 use Rattle.order.specs.declared.Choice.the-variants.{Run, Skip}
-use Rattle.order.specs.Places.{padded, comparing, deciding, branching, last, places, placeIn, rulesOf, Starts, call, plain, array, mathCall, unary, tern, prefix, point, plus, level, Chosen, empty, unused, used, running, runningIn, passesFrom, runningOf}
+use Rattle.order.specs.Places.{padded, comparing, deciding, branching, last, places, placeIn, Starts, call, plain, array, mathCall, unary, tern, prefix, point, plus, level, Chosen, empty, unused, used, running, runningIn, passesFrom, runningOf}
 
 -- ---- The order
-
-pub rules-of : (v : ℤ) → rules v ≡ rulesOf (effective v)
-unfolding rules
-rules-of v = refl
 
 module _ (u : ℕ → Bool) where
   running-some : (p : Pass) (others : List Pass) → running u (some p) ++ runningOf u others ≡ runningOf u (p ∷ others)
@@ -184,20 +180,16 @@ abbrev atEach : (Pass → Bool) → List (Option Pass) → Bool
 atEach test [] = true
 atEach test (at ∷ others) = atPlace test at && atEach test others
 
-and-true : (a b : Bool) → (a && b) ≡ true → (a ≡ true) × (b ≡ true)
-and-true true b e = (refl, e)
-and-true false b e = absurd (true≢false (sym e))
-
 module _ (test : Pass → Bool) where
   at-place : (ats : List (Option Pass)) → atEach test ats ≡ true → (k : ℕ) → atPlace test (placeIn ats k) ≡ true
   at-place [] e k = refl
-  at-place (at ∷ others) e zero = and-true (atPlace test at) (atEach test others) e .0
-  at-place (at ∷ others) e (suc k) = at-place others (and-true (atPlace test at) (atEach test others) e .1) k
+  at-place (at ∷ others) e zero = both-true (atPlace test at) (atEach test others) e .0
+  at-place (at ∷ others) e (suc k) = at-place others (both-true (atPlace test at) (atEach test others) e .1) k
 
   at-later : (ats : List (Option Pass)) → atEach test ats ≡ true → (k : ℕ) → atEach test (drop k ats) ≡ true
   at-later ats e zero = e
   at-later [] e (suc k) = refl
-  at-later (at ∷ others) e (suc k) = at-later others (and-true (atPlace test at) (atEach test others) e .1) k
+  at-later (at ∷ others) e (suc k) = at-later others (both-true (atPlace test at) (atEach test others) e .1) k
 
   -- What holds in each group holds in the places of every version.
   at-groups : ((from6 : Bool) → atEach test (comparing from6) ≡ true) → ((from6 : Bool) → atEach test (deciding from6) ≡ true)
@@ -210,7 +202,7 @@ module _ (test : Pass → Bool) where
       at-both : (ats others : List (Option Pass)) → atEach test ats ≡ true → atEach test others ≡ true → atEach test (ats ++ others) ≡ true
       at-both [] others e d = d
       at-both (at ∷ ats) others e d =
-          let both = and-true (atPlace test at) (atEach test ats) e in
+          let both = both-true (atPlace test at) (atEach test ats) e in
           rw (both .0) (at-both ats others (both .1) d)
 
 comparing-ends : (from6 : Bool) → atEach endsReading (comparing from6) ≡ true
@@ -267,7 +259,7 @@ unfolding runningIn running allNested
 running-nested u [] e = refl
 running-nested u (none ∷ others) e = running-nested u others e
 running-nested u (some p ∷ others) e =
-    let both = and-true (isNested p) (atEach isNested others) e in
+    let both = both-true (isNested p) (atEach isNested others) e in
     go (runs u p) (both .0) (running-nested u others (both .1))
   where
     go : (b : Bool) → isNested p ≡ true → allNested (runningIn u others) ≡ true

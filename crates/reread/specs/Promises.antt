@@ -3,12 +3,11 @@ use Prim.Native.Nat.{ℕ, _*_, _%_}
 use mathlib.Core.Path.{_≡_}
 use mathlib.Core.List.{List}
 use mathlib.Core.Option.{none}
-use lib.IntN.{ℤ}
 use lib.ListN.{length, take}
 use Rattle.molang.specs.Words.{operatorSlot, wordsRefusal}
 use Rattle.molang.specs.Parse.{Call, aTree, answered, treeAfter, messagesAfter, workAfter}
 use Rattle.molang.specs.WriteEntry.{writeAnswered, listAfter}
-use Rattle.molang.specs.Reread.{Handed, exactCall, wroteTold, treeBy, messagesBy, workBy, Rereading, rereadTold, writtenFrom, treeFrom, messagesFrom, workFrom, Agrees}
+use Rattle.molang.specs.Reread.{Handed, wroteTold, treeBy, messagesBy, workBy, Rereading, rereadTold, writtenFrom, treeFrom, messagesFrom, workFrom, Agrees}
 use Rattle.parse.specs.declared.Answer.{Answer}
 use Rattle.reread.specs.declared.Outcome.{Outcome}
 use Rattle.parse.specs.Answers.{toldOf}

@@ -1,22 +1,22 @@
 -- The values of every answer fit its number's fields: counts and places stay below 2 ^ 32, refusals' numbers below 2 ^ 8. Answer 12's place is at
 -- most 73,728, since no more nodes are begun than fit; answer 13's is a node of the tree. Assumes nothing.
-use mathlib.Core.Path.{_≡_, refl, ap, sym, _∙_}
+use mathlib.Core.Path.{_≡_, refl}
 use mathlib.Core.Bool.{Bool, true, false}
 use mathlib.Core.List.{List, [], _∷_}
 use mathlib.Core.Option.{Option, none, some}
-use Prim.Native.Nat.{ℕ, suc, _+_, _*_, _/_, _%_, _^_, _≤_, _<_}
+use Prim.Native.Nat.{ℕ, suc, _+_, _*_, _/_, _%_, _≤_, _<_}
 use native.Mathlib.Omega.{arith}
 use lib.Dec.{leb}
 use lib.ListN.{length}
 use borrow.Author.Tests.{leb-true, eqb-true}
 use Rattle.molang.specs.Forest.{Token, Forest, nil, node, size}
 use Rattle.molang.specs.Read as read
-use Rattle.molang.specs.Words.{Slot, operatorSlot, startSlot, endSlot, upperSlot, lowerSlot, countSlot, lowOf, tokensOf, unless, lowFault, wordFault, variantAfter, nextInToken, Refusal, wordsRefusal}
+use Rattle.molang.specs.Words.{Slot, operatorSlot, startSlot, endSlot, upperSlot, lowerSlot, countSlot, lowOf, unless, lowFault, wordFault, variantAfter, nextInToken, Refusal, wordsRefusal}
 use Rattle.molang.specs.Parse.{Call, mostTokens, must, firstOf, refusal, reading, told, answered}
 use Rattle.molang.specs.Plain.{plainForm, placeOf, unplain, unplainAt}
-use Rattle.molang.specs.Write.{written, writtenCount}
-use Rattle.molang.specs.WriteEntry.{mostNodes, nextInNode, Shape, shapeAfter, continues, isWhole, treeFault, firstTrees, otherTrees, treesOf, WriteCall, refusedAt, orElse, forestRefusal, writeRefusal, writtenTokens, writeTold, writeAnswered}
-use Rattle.molang.proofs.Accepted.{must-none, call-accepted}
+use Rattle.molang.specs.Write.{writtenCount}
+use Rattle.molang.specs.WriteEntry.{mostNodes, nextInNode, Shape, shapeAfter, continues, isWhole, treeFault, treesOf, WriteCall, refusedAt, orElse, forestRefusal, writeRefusal, writtenTokens, writeTold, writeAnswered}
+use Rattle.molang.proofs.Accepted.{call-accepted}
 use Rattle.molang.proofs.Bounds.{read-tree, read-messages}
 use Rattle.molang.proofs.Writing.{written-length}
 use Rattle.write.proofs.RowLaws.{size-split}

@@ -1,10 +1,10 @@
 -- An answer whose values fit is found again in its number. Assumes nothing.
-use mathlib.Core.Path.{_≡_, refl, _∙_}
-use Prim.Native.Nat.{ℕ, _+_, _*_, _/_, _%_, _^_, _<_}
+use mathlib.Core.Path.{_≡_, refl}
+use Prim.Native.Nat.{ℕ, _^_, _<_}
 use native.Mathlib.Omega.{arith}
 use Rattle.molang.specs.Parse.{Call, Told, aTree, someMessages, refused, answered}
 use Rattle.molang.specs.WriteEntry.{WriteCall, WriteTold, tokens, unwritten, writeAnswered}
-use Rattle.sorbrudder.specs.Numbers.{packed, kindIn, numberIn, lowIn, toldNumber, toldOfKind, toldBack, writeNumber, writeOfKind, writeBack, FitsTold, FitsWritten}
+use Rattle.sorbrudder.specs.Numbers.{packed, kindIn, numberIn, lowIn, toldNumber, toldBack, writeNumber, writeBack, FitsTold, FitsWritten}
 use Rattle.sorbrudder.proofs.Bounds.{told-fits, written-fits}
 
 module _ (kind number low : ℕ) (n : number < 2 ^ 8) (l : low < 2 ^ 32) where

@@ -18,7 +18,6 @@ const MESSAGES: u64 = 0x100_0000_0000;
 const REFUSED: u64 = 0x200_0000_0000;
 
 // A refusal's number stands from bit 32 on.
-
 const NUMBER: u64 = 0x1_0000_0000;
 
 // A refusal as one number.

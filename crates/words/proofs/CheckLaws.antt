@@ -24,7 +24,7 @@ pub operator-tests : (w : ℕ)
 unfolding wordFault slotKind lowFault operatorOf variantOf
 operator-tests w = refl
 
-none-bad : OneOf (1 ∷ 2 ∷ 3 ∷ 4 ∷ []) 0 → ⊥
+pub none-bad : OneOf (1 ∷ 2 ∷ 3 ∷ 4 ∷ []) 0 → ⊥
 none-bad = ⊎-elim (λ e. omega arith) (⊎-elim (λ e. omega arith) (⊎-elim (λ e. omega arith) (λ e. omega arith)))
 
 module _ (i : ℕ) (slot : Slot) (v w : ℕ) (ws : List ℕ) where

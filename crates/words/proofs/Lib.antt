@@ -1,6 +1,4 @@
 -- The laws that the proofs of several functions share, and those that crates above cite.
 pub mod CheckLaws
-pub mod FieldLaws
-pub mod TokenLaws
 pub mod RecordLaws
 pub mod TreeLaws

@@ -13,10 +13,9 @@ use Rattle.molang.specs.Forest.{Token, Forest, nil, node, count}
 use Rattle.molang.specs.Read.{lowestStart, highestEnd}
 use Rattle.molang.specs.Words.{lowOf, tokenWords, tokenOf, Legal, treeWords}
 use Rattle.molang.specs.WriteEntry.{firstTrees, otherTrees, treesOf}
-use Rattle.words.specs.Fields.{headWord}
+use Rattle.molang.proofs.Words.{low-word, token-back, beside, first-beside, other-beside, beside-nil}
 use Rattle.words.specs.Extents.{wider, extentWith, firstExtent}
 use Rattle.words.specs.declared.extent.Extent.{Extent}
-use Rattle.words.proofs.FieldLaws.{low-word, token-back}
 
 -- ---- The first node of words
 
@@ -96,42 +95,17 @@ pub data LegalTrees : Forest → Type 0 where
   none : LegalTrees nil
   more : {k : Token} {cs rest : Forest} → Legal k → count cs < 2 ^ 29 → LegalTrees cs → LegalTrees rest → LegalTrees (node k cs rest)
 
--- The trees of the first list, then those of the second.
-abbrev joined : Forest → Forest → Forest
-joined nil g = g
-joined (node k cs rest) g = node k cs (joined rest g)
-
-first-joined : (f g : Forest) → firstTrees (count f) (joined f g) ≡ f
-unfolding firstTrees count
-first-joined nil g = refl
-first-joined (node k cs rest) g = ap (node k cs) (first-joined rest g)
-
-other-joined : (f g : Forest) → otherTrees (count f) (joined f g) ≡ g
-unfolding otherTrees count
-other-joined nil g = refl
-other-joined (node k cs rest) g = other-joined rest g
-
-joined-nil : (f : Forest) → joined f nil ≡ f
-joined-nil nil = refl
-joined-nil (node k cs rest) = ap (node k cs) (joined-nil rest)
-
-trees-then : {f : Forest} → LegalTrees f → (ws : List ℕ) → treesOf (treeWords f ++ ws) ≡ joined f (treesOf ws)
-unfolding treesOf treeWords tokenWords headWord
+trees-then : {f : Forest} → LegalTrees f → (ws : List ℕ) → treesOf (treeWords f ++ ws) ≡ beside f (treesOf ws)
+unfolding treesOf treeWords tokenWords beside
 trees-then none ws = refl
 trees-then (more {k = k} {cs = cs} {rest = rest} legal few l l′) ws =
-    let after : treesOf ((treeWords cs ++ treeWords rest) ++ ws) ≡ joined cs (joined rest (treesOf ws)) =
+    let after : treesOf ((treeWords cs ++ treeWords rest) ++ ws) ≡ beside cs (beside rest (treesOf ws)) =
     ap treesOf (append-assoc (treeWords cs) (treeWords rest) ws)
-    ∙ (trees-then l (treeWords rest ++ ws) ∙ ap (joined cs) (trees-then l′ ws)) in
+    ∙ (trees-then l (treeWords rest ++ ws) ∙ ap (beside cs) (trees-then l′ ws)) in
     rw
-    (token-back k legal, low-word 6 (count cs) few, after, first-joined cs (joined rest (treesOf ws)), other-joined cs (joined rest (treesOf ws)))
+    (token-back k legal, low-word 6 (count cs) few, after, first-beside cs (beside rest (treesOf ws)), other-beside cs (beside rest (treesOf ws)))
 
 -- The words of trees give the trees back.
 pub trees-back : {f : Forest} → LegalTrees f → treesOf (treeWords f) ≡ f
 unfolding treesOf
-trees-back {f} legal = ap treesOf (sym (append-nil (treeWords f))) ∙ (trees-then legal [] ∙ joined-nil f)
-
--- The extent over the words of one tree.
-pub tree-extent : {k : Token} {cs : Forest} → LegalTrees (node k cs nil)
-    → firstExtent (treesOf (treeWords (node k cs nil))) ≡ record { start = lowestStart (k .start) cs; end = highestEnd (k .end) cs }
-unfolding firstExtent
-tree-extent legal = ap firstExtent (trees-back legal)
+trees-back {f} legal = ap treesOf (sym (append-nil (treeWords f))) ∙ (trees-then legal [] ∙ beside-nil f)

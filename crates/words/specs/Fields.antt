@@ -1,7 +1,6 @@
 -- The fields of a token's words, as `tokenOf` of the definition reads them, and the words that the reader makes.
 use Prim.Native.Nat.{ℕ, _+_, _*_, _/_, _%_, _^_}
-use Rattle.molang.specs.Forest.{Token}
-use Rattle.molang.specs.Words.{word, lowOf}
+use Rattle.molang.specs.Words.{lowOf}
 
 -- The operator and the payload variant of a word of kind 1.
 unfoldable pub operatorOf : ℕ → ℕ
@@ -16,10 +15,6 @@ halfOf w = lowOf w % 2 ^ 16
 
 unfoldable pub valueOf : ℕ → ℕ → ℕ
 valueOf upper lower = halfOf upper * 2 ^ 16 + halfOf lower
-
--- The first of a token's words (`tokenWords`).
-unfoldable pub headWord : Token → ℕ
-headWord k = word 1 (k .variant * 2 ^ 8 + k .op)
 
 -- A word of kind 1 with another operator, its other bits as they were.
 unfoldable pub withOperator : ℕ → ℕ → ℕ

@@ -16,6 +16,7 @@ use Rattle.molang.specs.Parse.{mostTokens, must, inFront}
 use Rattle.molang.specs.Write.{writtenCount}
 use Rattle.molang.specs.WriteEntry.{treeFault, firstTrees, otherTrees, treesOf, refusedAt, orElse, forestRefusal, writeRefusal, writtenTokens, unwritten, tokens, writeTold, writeAnswered, listIn, listAfter}
 use Rattle.molang.proofs.Trees.{some-none}
+use Rattle.molang.proofs.ListWords.{listWords-length}
 use Rattle.molang.proofs.Writing.{written-length}
 use Rattle.write.specs.declared.plain.Place.{Place}
 use Rattle.write.specs.declared.plain.Place.the-variants.{Enclosed}
@@ -26,7 +27,6 @@ use Rattle.write.specs.Shaped.{Shaped, noTrees, aNode, mostChildren, One
 use Rattle.write.specs.Spelling.{laid, Room, Writable}
 use Rattle.write.proofs.RowLaws.{Opened, opened, shaped-room, shaped-count, count-first, beside-split}
 use Rattle.write.proofs.JudgeLaws.{unplain-node, unlessPlain, orLater, rowUnplain, judgedBy, judgement-by, Stand, on-none, on-one, on-two, row-beside}
-use Rattle.write.proofs.SpellLaws.{list-words-length}
 
 -- FILLING THE LIST with a plain tree.
 module _ {tree : List ℕ} {n : ℕ} (w : Writable tree n) (list : List ℕ) where
@@ -54,7 +54,7 @@ module _ {tree : List ℕ} {n : ℕ} (w : Writable tree n) (list : List ℕ) whe
 
   module _ (a : n ≤ 4096) (b : 5 * n ≤ length list) where
     pub list-room : Room writtenTokens tree list 0
-    list-room = record { others = 0; shaped = w .shaped; room = omega (arith, list-words-length (writtenTokens (treesOf tree)), w .counted) }
+    list-room = record { others = 0; shaped = w .shaped; room = omega (arith, listWords-length (writtenTokens (treesOf tree)), w .counted) }
 
     pub list-filled : (list' : List ℕ) → list' ≡ laid 0 (listWords (writtenTokens (treesOf tree))) list
         → (tokens n ≡ filling (treesOf tree) list) × (list' ≡ filled (treesOf tree) list)

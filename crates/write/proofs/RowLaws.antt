@@ -10,6 +10,7 @@ use Rattle.molang.specs.Words.{lowOf, tokenOf, tokenWords}
 use Rattle.molang.specs.WriteEntry.{firstTrees, otherTrees, treesOf}
 use Rattle.molang.proofs.Words.{beside}
 use Rattle.words.specs.Fields.{operatorOf}
+use Rattle.words.proofs.TreeLaws.{none-first}
 use Rattle.write.specs.Spelling.{firstFive}
 use Rattle.write.specs.Shaped.{Shaped, noTrees, aNode}
 
@@ -38,11 +39,6 @@ size-split zero f = omega arith
 size-split (suc n) nil = omega arith
 size-split (suc n) (node k cs rest) = omega (arith, size-split n rest)
 
-first-nil : (n : ℕ) → firstTrees n nil ≡ nil
-unfolding firstTrees
-first-nil zero = refl
-first-nil (suc n) = refl
-
 other-nil : (n : ℕ) → otherTrees n nil ≡ nil
 unfolding otherTrees
 other-nil zero = refl
@@ -52,7 +48,7 @@ other-nil (suc n) = refl
 size-more : (n m : ℕ) (f : Forest) → size (firstTrees (n + m) f) ≡ size (firstTrees n f) + size (firstTrees m (otherTrees n f))
 unfolding size firstTrees otherTrees
 size-more zero m f = rw zero-add (omega arith)
-size-more (suc n) m nil = rw (suc-add, first-nil m) refl
+size-more (suc n) m nil = rw (suc-add, none-first m) refl
 size-more (suc n) m (node k cs rest) = rw suc-add (omega (arith, size-more n m rest))
 
 other-more : (n m : ℕ) (f : Forest) → otherTrees (n + m) f ≡ otherTrees m (otherTrees n f)

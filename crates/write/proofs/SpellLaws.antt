@@ -66,11 +66,6 @@ unfolding listWords
 list-words-append [] ys = refl
 list-words-append (x ∷ xs) ys = rw (list-words-append xs ys, append-assoc) refl
 
-pub list-words-length : (xs : List Token) → length (listWords xs) ≡ 5 * length xs
-unfolding listWords tokenWords
-list-words-length [] = refl
-list-words-length (x ∷ xs) = omega (arith, list-words-length xs)
-
 -- What is written before some tokens is what is written, and then these.
 operand-before : (b : Bool) (k : Token) (tokens : List Token → List Token) (r : List Token) → ((s : List Token) → tokens s ≡ tokens [] ++ s)
     → operandTokens b k tokens r ≡ operandTokens b k tokens [] ++ r

@@ -47,7 +47,7 @@ pub record Room (tokens : Forest → List Token) (words list : List ℕ) (to : �
   pub shaped : Shaped 2 (suc others) words
   pub room : to + length (listWords (tokens (treesOf words))) ≤ length list
 
--- The words are one plain tree that is written with so many tokens.
+-- The words are one tree of at most two children a node, which is written with so many tokens.
 pub record Writable (words : List ℕ) (tokens : ℕ) : Type 0 where
   pub shaped : Shaped 2 1 words
   pub counted : tokens ≡ length (writtenTokens (treesOf words))

@@ -1,5 +1,5 @@
 // The write entry: the words of a plain tree become the words of a token list. What turns a call back is found first, from the
-// table's top and without recursion, so a tree that cannot be written touches neither the list nor the call stack.
+// table's top and without recursion, so a tree that cannot be written leaves the list as it was and takes little of the call stack.
 // Leans on words and ops.
 mod plain;
 mod reader;

@@ -2,7 +2,6 @@
 -- that of all. The measure is what is left of the words. Assumes nothing.
 use Prim.Native.Nat.{ℕ, _+_, _-_}
 use mathlib.Core.Path.{_≡_, sym, ap, _∙_}
-use native.Mathlib.Omega.{arith}
 use borrow.Author.Needs.{needs}
 use lib.ListN.{length, drop}
 use Rattle.molang.specs.Words.{operatorSlot, endSlot}

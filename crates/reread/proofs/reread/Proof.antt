@@ -1,9 +1,9 @@
 -- `reread::reread` meets its contract: each call gets what the one before left, and what is told and left is the definition's. Assumes nothing.
-use Prim.Native.Nat.{ℕ, _*_, _≤_}
+use Prim.Native.Nat.{_*_, _≤_}
 use mathlib.Core.Path.{_≡_, sym, ap, _∙_}
 use native.Mathlib.Omega.{arith}
 use lib.IntN.{ℤ}
-use lib.ListN.{length, take, length-take}
+use lib.ListN.{length, length-take}
 use mir.Facts.{toZ-ofZ}
 use Rattle.molang.specs.Parse.{Call, aTree, answered}
 use Rattle.molang.specs.Reread.{Rereading}

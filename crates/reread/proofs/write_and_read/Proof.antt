@@ -5,7 +5,7 @@ use mathlib.Core.List.{List}
 use native.Mathlib.Omega.{arith}
 use mir.Facts.{toZ-ofZ}
 use lib.ListN.{length, take, length-take}
-use Rattle.molang.specs.WriteEntry.{tokens, unwritten, writeAnswered, listAfter}
+use Rattle.molang.specs.WriteEntry.{tokens, writeAnswered}
 use Rattle.write.specs.Answers.{told}
 use Rattle.write.specs.Answers as writer
 use Rattle.reread.specs.Answers.{handedOf}

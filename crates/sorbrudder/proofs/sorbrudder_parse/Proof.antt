@@ -3,7 +3,6 @@ use mathlib.Core.Path.{sym, ap, subst, _∙_}
 use mir.Facts.{toZ-ofZ}
 use borrow.Author.Needs.{needs}
 use Rattle.molang.specs.Parse.{Told}
-use Rattle.parse.specs.Answers.{call}
 use Rattle.sorbrudder.specs.Numbers.{toldNumber, FitsTold}
 use Rattle.sorbrudder.proofs.Bounds.{told-fits}
 use Rattle.sorbrudder.proofs.sorbrudder_parse.Statement.{statement}
