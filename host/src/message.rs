@@ -233,10 +233,7 @@ impl fmt::Display for Message {
         match *self {
             Self::MultipleRoots { roots: 0, .. } => write!(f, "there is nothing to read"),
             Self::MultipleRoots { roots, .. } => {
-                write!(
-                    f,
-                    "{roots} operands stand side by side with no operator between them"
-                )
+                write!(f, "{roots} parts are left that no operator joins")
             }
             Self::ComplexMustEndWithSemicolon { .. } => {
                 write!(f, "a list with `=` or `;` has to end with `;`")

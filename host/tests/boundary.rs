@@ -93,7 +93,7 @@ fn several_deep_roots_are_named_on_512_kib_of_stack() {
 }
 
 #[test]
-fn deep_trees_are_written_and_lifted_on_256_kib_of_stack() {
+fn deep_trees_are_written_and_lifted_on_128_kib_of_stack() {
     let lists = [
         nest("(", "a", ")", ""),
         nest("!(", "a", ")", ""),
@@ -102,7 +102,7 @@ fn deep_trees_are_written_and_lifted_on_256_kib_of_stack() {
         nest("(a ? b : c) ? (", "d", ") : e", ""),
         nest("a,", "a", "", ""),
     ];
-    on_stack(256, || {
+    on_stack(128, || {
         let (mut reader, mut writer, mut lifter) = (Reader::new(), Writer::new(), Lifter::new());
         for list in &lists {
             let tree = reader.read(list, 6).expect("a tree");
