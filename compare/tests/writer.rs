@@ -142,6 +142,7 @@ fn reads_as_written(rng: &mut Rng, nodes: &[TreeNode], list: &[u32]) {
 }
 
 #[test]
+#[cfg_attr(not(rust_source), ignore = "the Rust source is not at hand")]
 fn a_written_tree_reads_as_it_was() {
     let mut rng = Rng::new(11);
     for round in 0..20_000 {
@@ -157,6 +158,7 @@ fn a_written_tree_reads_as_it_was() {
 }
 
 #[test]
+#[cfg_attr(not(rust_source), ignore = "the Rust source is not at hand")]
 fn a_tree_that_was_read_and_is_plain_reads_as_it_was() {
     let mut rng = Rng::new(12);
     let mut plain = 0;
@@ -174,10 +176,7 @@ fn a_tree_that_was_read_and_is_plain_reads_as_it_was() {
             );
         }
     }
-    assert!(
-        plain > 4_000 || !oracle::COMPARED,
-        "only {plain} plain trees"
-    );
+    assert!(plain > 4_000, "only {plain} plain trees");
 }
 
 #[cfg(library)]
@@ -345,6 +344,7 @@ mod library {
     }
 
     #[test]
+    #[cfg_attr(not(rust_source), ignore = "the Rust source is not at hand")]
     fn trees_that_were_read() {
         let mut rng = Rng::new(25);
         for case in Mixed::new(25, 24).take(100_000) {
