@@ -150,7 +150,8 @@ impl Tree {
     /// ```
     pub fn from_nodes(nodes: impl IntoIterator<Item = (Token, usize)>) -> Result<Self, NotATree> {
         let mut words = Vec::new();
-        for (token, children) in nodes {
+        // One node more than a tree can have is enough to be refused.
+        for (token, children) in nodes.into_iter().take(MOST_NODES + 1) {
             words.extend(token.words());
             // A count that has no room in its word is too many for any tree.
             words.push(6 << 29 | children.min(LOW as usize) as u32);
