@@ -32,13 +32,12 @@ use Rattle.nodes.proofs.Keeping.{laid-kept}
 use Rattle.walks.specs.Passes.{walkOf, movedTo, waits}
 use Rattle.walks.specs.Items.{BackArray, Ahead}
 use Rattle.walks.specs.Failures
-use Rattle.walks.specs.Turns.{SameList, Within}
+use Rattle.walks.specs.Turns.{SameList, Within, TurnTo, goes, fails}
 use Rattle.walks.specs.declared.failure.Failure.the-variants.{NegateWithoutOperand, NotWithoutOperand, UnknownOperation}
 use Rattle.walks.specs.declared.turns.Pass.the-variants.{Unary}
 use Rattle.walks.specs.declared.turns.Turn.{Turn}
 use Rattle.walks.specs.declared.turns.Turn.the-variants.{On, Fail}
 use Rattle.walks.proofs.Reading.{AheadTo, item, ahead-item, ahead-end, array-put, back-array-keep, ahead-keep, ahead-le}
-use Rattle.walks.specs.Turns.{TurnTo, goes, fails}
 use Rattle.passes.specs.UnaryTurns.{RightList, CanTakeToken, CanTakeMinus, TokenTaken, CanPrefix, Prefixed, Added, CanSubtract, Subtracted}
 use Rattle.passes.proofs.UnaryLaws.{minus-alone, minus-first, minus-operator, minus-operand, minus-minus, minus-unknown, not-alone, not-takes}
 use Rattle.passes.proofs.RightLaws.{LastUnread, last, unread-last, unread-none, ahead-cons, right-holds}

@@ -22,9 +22,8 @@ use Rattle.molang.proofs.Work.{Kind, statements, State, work, begins, inReading
 use Rattle.molang.proofs.Walks.{onward, back, walk-onward}
 use Rattle.ops.proofs.ClassLaws.{stands-for}
 use Rattle.ops.specs.Classes.{meets, bitAt, inClass, passClasses}
-use Rattle.nodes.specs.Store.{wd, InArray}
-use Rattle.nodes.specs.Store.{begins as begins-with}
-use Rattle.nodes.specs.Slots.{isTokenAt}
+use Rattle.nodes.specs.Store.{wd, InArray, begins as begins-with, Seg, Inc}
+use Rattle.nodes.specs.Slots.{isTokenAt, Laid}
 use Rattle.nodes.specs.declared.frames.List.{List as Items}
 use Rattle.nodes.proofs.Runs.{inc-le, seg-keep, set-same, set-other, set-long}
 use Rattle.nodes.proofs.Store.{tree-below, back-le, back-raise}
@@ -32,8 +31,6 @@ use Rattle.nodes.proofs.Trees.{token-test}
 use Rattle.walks.specs.Passes.{walkOf, movedTo, classesOf, Exact, Runs, plain, split, waits}
 use Rattle.walks.specs.Items.{BackArray, Ahead, CanSeek, Passed, here, over, SoughtTo, none as found-none, leaf, tree, Sought}
 use Rattle.walks.specs.Sides.{StatementSide, whole, closed, EndedAt, nothing, DoneSide, UnreadSide, Holds}
-use Rattle.nodes.specs.Store.{Seg, Inc}
-use Rattle.nodes.specs.Slots.{Laid}
 use Rattle.nodes.specs.Children.{CanGive}
 use Rattle.walks.specs.Turns.{SameList, Within, CanTurn, TurnTo, goes, enters, ends, Turned, afresh, CanStart, Started}
 use Rattle.walks.specs.declared.items.Found.{Found}

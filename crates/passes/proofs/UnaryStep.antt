@@ -9,13 +9,12 @@ use Rattle.molang.specs.Forest.{Forest, count, size}
 use Rattle.molang.proofs.Work.{right, unaries, work, begins}
 use Rattle.nodes.specs.declared.frames.List.{List as Items}
 use Rattle.walks.specs.Passes.{walkOf, movedTo, waits}
-use Rattle.walks.specs.Turns.{SameList, Within, afresh}
+use Rattle.walks.specs.Turns.{SameList, Within, afresh, TurnTo, goes, enters, ends, fails, Turned}
 use Rattle.walks.specs.declared.items.Found.the-variants.{Nothing, Children, Token as Leaf}
 use Rattle.walks.specs.declared.turns.Pass.the-variants.{Unary}
 use Rattle.walks.specs.declared.turns.Walk.{Walk}
 use Rattle.walks.specs.declared.turns.Turn.{Turn}
 use Rattle.walks.specs.declared.turns.Turn.the-variants.{Enter, Over}
-use Rattle.walks.specs.Turns.{TurnTo, goes, enters, ends, fails, Turned}
 use Rattle.passes.specs.UnaryTurns.{CanSeekBack, Moved, SoughtBackTo, none, leaf, tree, SoughtBack, CanTakeToken, TokenTaken}
 use Rattle.passes.proofs.UnaryLaws.{at-tree}
 use Rattle.passes.proofs.RightLaws.{right-sides, right-holds, of-unary}
