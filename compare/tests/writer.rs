@@ -193,7 +193,7 @@ mod library {
         }
     }
 
-    /// The same in a list that has room, or none, or one word less.
+    /// The same in a list with room for all words, for one less, for more, or for any number.
     fn agrees(rng: &mut Rng, words: &[u32]) -> Written {
         let (_, full) = writer_model::write(words, usize::MAX);
         let room = match rng.below(4) {
@@ -318,10 +318,7 @@ mod library {
                     let mut nodes = vec![bare(parent, above)];
                     for _ in 0..above {
                         nodes.push(bare(child, below));
-                        nodes.extend(
-                            (0..below)
-                                .map(|_| bare(*[61, 4].get(below as usize % 2).unwrap_or(&61), 0)),
-                        );
+                        nodes.extend((0..below).map(|_| bare([61, 4][below as usize % 2], 0)));
                     }
                     agrees(&mut rng, &tree_words(&nodes));
                 }
