@@ -8,7 +8,7 @@ test:
 edits:
 	@tools/more-edits.sh
 
-# The proved static library, where it is not there yet or its sources changed: target/staticlib/libsorbrudder.a.
+# The proved static library, target/staticlib/libsorbrudder.a. The crates below it are proved again only where they changed.
 library:
 	@rt staticlib sorbrudder
 

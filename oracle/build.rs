@@ -10,8 +10,9 @@
 //!   beside them;
 //! - `slips/`, copies of the tree and pass files with one planted slip each, for the tests.
 //!
-//! Without it nothing is written and the crate is built without the comparison. A folder that has
-//! some of the files and not others stops the build, and so does a slip that finds no place.
+//! Without it nothing is written and the crate is built without the comparison, which a warning says.
+//! A folder that has some of the files and not others stops the build, and so does a slip that finds
+//! no place.
 
 use std::fmt::Write as _;
 use std::path::{Path, PathBuf};
@@ -104,6 +105,10 @@ fn main() {
     } else if missing.len() < UNCHANGED.len() {
         // Half a source is a mistake, not a source that is not at hand.
         panic!("{} has no {missing:?}", source.display());
+    } else {
+        println!(
+            "cargo::warning=the Rust source is not at hand (MOLANGX_SRC): nothing is compared with it"
+        );
     }
 }
 

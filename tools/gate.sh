@@ -6,8 +6,11 @@ cd "$(dirname "$0")/.." || exit 1
 
 passed=0
 failed=0
-logs=$(mktemp -d)
+logs=$(mktemp -d) || exit 1
 trap 'rm -rf "$logs"' EXIT
+
+# The tests take the library and the program that are proved here, not those that the caller's environment may name.
+unset SORBRUDDER_LIB TREELIST
 
 finish() {
     echo "$passed passed, $failed failed"
@@ -43,6 +46,7 @@ prove() {
     last=$(grep -E '^[0-9]+ passed, [0-9]+ failed$' "$logs/rt" | tail -n 1)
     if [ -z "$last" ]; then
         failed=$((failed + 1))
+        echo "gate: the proofs did not run to their end"
         return
     fi
     local p f
@@ -74,19 +78,9 @@ rust_tests() {
 
 prove
 
-# The library that other programs link, once it is there.
-if grep -q '^sorbrudder:' crates.txt; then
-    step "the static library" rt staticlib sorbrudder
-fi
-
-# The Rust crates: the host needs the library, the others say in a line of their own what they leave out without it.
-crates="oracle compare"
-if [ -f target/staticlib/libsorbrudder.a ]; then
-    crates="$crates host"
-else
-    echo "gate: the static library is not built: the host crate and the comparison with the library were left out"
-fi
-for crate in $crates; do
+# The library that the Rust crates link. Where it is not built, the host crate does not build either, and its tests count as failed.
+step "the static library" rt staticlib sorbrudder
+for crate in oracle compare host; do
     rust_tests "$crate"
 done
 
@@ -96,15 +90,15 @@ if [ ! -f "$source/src/compile/parse/mod.rs" ]; then
 fi
 
 step "layout of the Rattle and antt files" rt fmt --check
-for crate in oracle compare host; do
+for crate in oracle oracle/thiserror compare host; do
     step "layout of $crate" cargo fmt --manifest-path "$crate/Cargo.toml" --check
 done
-if [ -f target/staticlib/libsorbrudder.a ]; then
-    step "documentation of host" env RUSTDOCFLAGS="-D warnings" \
-        cargo doc --manifest-path host/Cargo.toml --offline --no-deps --quiet
-    if cargo clippy --version >/dev/null 2>&1; then
-        step "clippy on host" cargo clippy --manifest-path host/Cargo.toml --release --offline --all-targets --quiet -- -D warnings
-    fi
+step "documentation of host" env RUSTDOCFLAGS="-D warnings" \
+    cargo doc --manifest-path host/Cargo.toml --offline --no-deps --quiet
+if cargo clippy --version >/dev/null 2>&1; then
+    step "clippy on host" cargo clippy --manifest-path host/Cargo.toml --release --offline --all-targets --quiet -- -D warnings
+else
+    echo "gate: cargo has no clippy: it was left out"
 fi
 
 echo "gate: seconds for each crate, slowest first:"

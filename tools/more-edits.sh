@@ -1,17 +1,18 @@
 #!/usr/bin/env bash
 # The must-fail edits of edits/, which the gate leaves out for its time: tried in a copy of the repository's last commit, with what the gate
-# has proved before. Arguments are crates; without any, all. The exit status is 0 where each edit is refused.
+# has proved before. Arguments are crates; without any, all. The exit status is 0 where there are edits and each is refused.
 set -eu
 cd "$(dirname "$0")/.."
 copy=$(mktemp -d)
 trap 'rm -rf "$copy"' EXIT
 git clone -q . "$copy/project"
 [ -d target ] && cp -a target "$copy/project/target"
-crates=${*:-$(ls edits)}
 cd "$copy/project"
+[ $# -gt 0 ] || set -- $(ls edits)
+[ $# -gt 0 ] || { echo "edits: there are none in edits/" >&2; exit 1; }
 rm -rf crates/*/must-fail
-for crate in $crates; do
+for crate in "$@"; do
     mkdir "crates/$crate/must-fail"
     cp "edits/$crate"/*.edit "crates/$crate/must-fail/"
 done
-rt must-fail $crates
+rt must-fail "$@"

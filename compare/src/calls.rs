@@ -53,33 +53,29 @@ pub fn generated(seed: u64, most: usize) -> impl Iterator<Item = Call> {
 }
 
 fn exact(ops: &[u8], version: i16) -> Case {
-    let tokens = dress::plain(ops);
-    Case {
-        used: exact_set(&tokens),
-        source_len: tokens.len() as u32,
-        version,
-        tokens,
-    }
+    Case::exact(dress::plain(ops), version)
 }
 
 fn at_each_version(ops: &[u8]) -> [Call; 3] {
     [4, 5, 6].map(|version| Call::of(&exact(ops, version)))
 }
 
-/// Every list of up to `most` operators over the alphabets of eight, at versions 4, 5 and 6.
-pub fn over_eights(most: usize) -> impl Iterator<Item = Call> {
-    EIGHTS
+/// Every list of up to `most` operators over each alphabet, at versions 4, 5 and 6.
+fn over(alphabets: &'static [Alphabet], most: usize) -> impl Iterator<Item = Call> {
+    alphabets
         .iter()
         .flat_map(move |alphabet| alphabet.every_list(most))
         .flat_map(|ops| at_each_version(&ops))
 }
 
+/// Every list of up to `most` operators over the alphabets of eight, at versions 4, 5 and 6.
+pub fn over_eights(most: usize) -> impl Iterator<Item = Call> {
+    over(&EIGHTS, most)
+}
+
 /// Every list of up to `most` operators over the generator's small alphabets, at versions 4, 5 and 6.
 pub fn over_alphabets(most: usize) -> impl Iterator<Item = Call> {
-    ALPHABETS
-        .iter()
-        .flat_map(move |alphabet| alphabet.every_list(most))
-        .flat_map(|ops| at_each_version(&ops))
+    over(&ALPHABETS, most)
 }
 
 /// Every shape of so many tokens at versions 4, 5 and 6, with the exact used set and with the full one.

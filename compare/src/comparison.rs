@@ -1,6 +1,6 @@
 //! Calls compared one after the other; the first difference stops, with the smallest call that shows it.
 
-use crate::reading::{Desk, Expected, expected};
+use crate::reading::{Buffers, Expected, expected};
 use crate::smallest::{shown, smallest};
 use oracle::refusal::Call;
 
@@ -16,7 +16,7 @@ pub struct Tally {
 /// The buffers and the count of a comparison.
 #[derive(Default)]
 pub struct Comparison {
-    desk: Desk,
+    buffers: Buffers,
     pub tally: Tally,
 }
 
@@ -35,7 +35,7 @@ impl Comparison {
             Expected::Refused(..) => self.tally.refused += 1,
             Expected::Something => {}
         }
-        match self.desk.call(call, wanted) {
+        match self.buffers.call(call, wanted) {
             Ok(_) => Ok(()),
             Err(why) if matches!(expected(call), Expected::Something) => {
                 Err(format!("{why}\n{}", shown(call)))
@@ -60,9 +60,9 @@ impl Comparison {
     /// What differs on the smallest call that shows a difference.
     fn told(&mut self, call: &Call) -> String {
         let least = smallest(call.clone(), |call| {
-            self.desk.call(call, &expected(call)).is_err()
+            self.buffers.call(call, &expected(call)).is_err()
         });
-        let why = self.desk.call(&least, &expected(&least));
+        let why = self.buffers.call(&least, &expected(&least));
         let why = why.map_or_else(|why| why, |read| format!("{read:?}, once different"));
         format!("{why}\n{}", shown(&least))
     }

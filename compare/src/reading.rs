@@ -101,7 +101,8 @@ impl Lent {
 }
 
 /// The buffers that calls are lent, one call after the other.
-pub struct Desk {
+#[derive(Default)]
+pub struct Buffers {
     noise: Vec<u32>,
     moved: usize,
     tree: Lent,
@@ -110,24 +111,7 @@ pub struct Desk {
     zeros: Vec<u32>,
 }
 
-impl Default for Desk {
-    fn default() -> Self {
-        Self::new()
-    }
-}
-
-impl Desk {
-    pub fn new() -> Self {
-        Self {
-            noise: Vec::new(),
-            moved: 0,
-            tree: Lent::default(),
-            messages: Lent::default(),
-            work: Lent::default(),
-            zeros: Vec::new(),
-        }
-    }
-
+impl Buffers {
     /// Makes the noise long enough for a slice of `len` words, wherever it starts.
     fn stretch(&mut self, len: usize) {
         let mut rng = oracle::generate::Rng::new(self.noise.len() as u64);

@@ -2,7 +2,7 @@
 
 use crate::library::{self, Read};
 use crate::plain_trees;
-use crate::reading::{Desk, Expected};
+use crate::reading::{Buffers, Expected};
 use crate::writer_model::{self, Tree, Written};
 use oracle::generate::{Mixed, Rng};
 use oracle::refusal::Call;
@@ -19,8 +19,8 @@ pub enum Reread {
     Again,
 }
 
-/// Lists whose trees are often plain: half generated, half written from a plain tree with most brackets lost again, so
-/// that the versions read them differently.
+/// Lists whose trees are often plain: one in five generated, the others written from a plain tree and without some of its
+/// brackets, so that the versions read them differently.
 pub struct Lists {
     rng: Rng,
     mixed: Mixed,
@@ -49,7 +49,7 @@ impl Lists {
                 4 => open.push(place),
                 5 => {
                     let opener = open.pop().expect("written brackets match");
-                    let called = opener > 0 && is_called(list[opener - 1].op);
+                    let called = opener > 0 && writer_model::is_call(list[opener - 1].op);
                     let stay = called || !self.rng.chance(lost);
                     (stays[opener], stays[place]) = (stay, stay);
                 }
@@ -59,10 +59,6 @@ impl Lists {
         let kept = list.into_iter().zip(stays).filter(|(_, stays)| *stays);
         kept.map(|(token, _)| token).collect()
     }
-}
-
-fn is_called(op: u8) -> bool {
-    matches!(op, 40 | 8 | 10..=19 | 21..=30 | 32..=39 | 78..=110)
 }
 
 impl Iterator for Lists {
@@ -83,9 +79,9 @@ impl Iterator for Lists {
 }
 
 /// The nodes that the parse entry makes of a case, or none where it has messages.
-fn read(desk: &mut Desk, case: &Case) -> Result<Option<Vec<u32>>, String> {
-    match desk.call(&Call::of(case), &Expected::Something)? {
-        Read::Tree(nodes) => Ok(Some(desk.tree(nodes).to_vec())),
+fn read(buffers: &mut Buffers, case: &Case) -> Result<Option<Vec<u32>>, String> {
+    match buffers.call(&Call::of(case), &Expected::Something)? {
+        Read::Tree(nodes) => Ok(Some(buffers.tree(nodes).to_vec())),
         _ => Ok(None),
     }
 }
@@ -108,8 +104,8 @@ pub fn write(rng: &mut Rng, words: &[u32], room: usize) -> Result<(Written, Vec<
 }
 
 /// Reads, writes and reads again; what became of the list, or a difference.
-pub fn reread(desk: &mut Desk, rng: &mut Rng, case: &Case) -> Result<Reread, String> {
-    let Some(words) = read(desk, case)? else {
+pub fn reread(buffers: &mut Buffers, rng: &mut Rng, case: &Case) -> Result<Reread, String> {
+    let Some(words) = read(buffers, case)? else {
         return Ok(Reread::Messages);
     };
     let room = 5 * (4 * words.len() / 6).min(writer_model::MOST_TOKENS);
@@ -131,13 +127,13 @@ pub fn reread(desk: &mut Desk, rng: &mut Rng, case: &Case) -> Result<Reread, Str
             },
             tokens: tokens.clone(),
         };
-        reads_as(desk, &again, &away)?;
+        reads_as(buffers, &again, &away)?;
     }
     Ok(Reread::Again)
 }
 
-fn reads_as(desk: &mut Desk, case: &Case, away: &[TreeNode]) -> Result<(), String> {
-    let words = read(desk, case)?.ok_or_else(|| format!("messages to the written {case:?}"))?;
+fn reads_as(buffers: &mut Buffers, case: &Case, away: &[TreeNode]) -> Result<(), String> {
+    let words = read(buffers, case)?.ok_or_else(|| format!("messages to the written {case:?}"))?;
     let nodes = decode_tree(&words).ok_or("the second tree's words are no tree")?;
     if Tree::of(&nodes).taken_away() != away {
         return Err(format!("another tree of the written {case:?}"));

@@ -1,7 +1,7 @@
 //! The lists that reading and writing are timed over: all of them are trees at their version, by the Rust and by the library.
 
 use oracle::generate::{Rng, dress};
-use oracle::words::{Case, exact_set};
+use oracle::words::Case;
 
 /// Lists that are read one after the other, with the name they are printed under.
 pub struct Workload {
@@ -30,12 +30,7 @@ fn case(ops: &[u8], version: i16) -> Case {
     for token in tokens.iter_mut().filter(|token| token.op != 61) {
         (token.variant, token.value) = (0, 0);
     }
-    Case {
-        used: exact_set(&tokens),
-        source_len: tokens.len() as u32,
-        version,
-        tokens,
-    }
+    Case::exact(tokens, version)
 }
 
 /// `q.a * math.sin(v.b + 3) > 2 && !q.c(1, v.d) ? t.x - 4 / (c.y ?? 7) : -1`.

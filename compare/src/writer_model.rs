@@ -161,7 +161,8 @@ fn is_math_call(op: u8) -> bool {
     matches!(op, 8 | 10..=19 | 21..=30 | 32..=39 | 78..=110)
 }
 
-fn is_call(op: u8) -> bool {
+/// Whether the operator is a query or a math call.
+pub fn is_call(op: u8) -> bool {
     op == 40 || is_math_call(op)
 }
 

@@ -1,10 +1,10 @@
 //! The parse entry through the C convention, beside document 01's table and the Rust. Without the static library nothing
-//! of this is built, and without the Rust what needs it is ignored; build.rs says both.
+//! of this is built, and without the Rust what needs it is ignored; the build warns of both.
 #![cfg(library)]
 
 use compare::calls;
 use compare::comparison::Comparison;
-use compare::reading::{Desk, Expected};
+use compare::reading::{Buffers, Expected};
 use compare::rereading::{self, Lists, Reread};
 use oracle::generate::Rng;
 use oracle::refusal::Call;
@@ -85,11 +85,11 @@ fn used_sets_that_are_not_exact() {
 
 #[test]
 fn a_written_list_reads_as_the_same_tree_at_three_versions() {
-    let mut desk = Desk::new();
+    let mut buffers = Buffers::default();
     let mut rng = Rng::new(5);
     let mut again = 0;
     for case in Lists::new(5).take(60_000) {
-        match rereading::reread(&mut desk, &mut rng, &case) {
+        match rereading::reread(&mut buffers, &mut rng, &case) {
             Ok(Reread::Again) => again += 1,
             Ok(_) => {}
             Err(difference) => panic!("{difference}\nof {case:?}"),
@@ -109,13 +109,13 @@ fn a_reader_keeps_nothing_from_call_to_call() {
 }
 
 fn answers<'c>(calls: impl Iterator<Item = &'c Call>) -> Vec<String> {
-    let mut desk = Desk::new();
+    let mut buffers = Buffers::default();
     let answer = |call: &Call| {
         let refused = oracle::refusal::refusal(call);
         let expected = refused.map_or(Expected::Something, |refused| {
             Expected::Refused(refused.number, refused.place as usize)
         });
-        match desk.call(call, &expected) {
+        match buffers.call(call, &expected) {
             Ok(read) => format!("{read:?}"),
             Err(difference) => panic!("{difference}"),
         }

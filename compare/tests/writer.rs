@@ -142,6 +142,7 @@ fn reads_as_written(rng: &mut Rng, nodes: &[TreeNode], list: &[u32]) {
 }
 
 #[test]
+#[cfg_attr(not(rust_source), ignore = "the Rust source is not at hand")]
 fn a_written_tree_reads_as_it_was() {
     let mut rng = Rng::new(11);
     for round in 0..20_000 {
@@ -157,6 +158,7 @@ fn a_written_tree_reads_as_it_was() {
 }
 
 #[test]
+#[cfg_attr(not(rust_source), ignore = "the Rust source is not at hand")]
 fn a_tree_that_was_read_and_is_plain_reads_as_it_was() {
     let mut rng = Rng::new(12);
     let mut plain = 0;
@@ -174,10 +176,7 @@ fn a_tree_that_was_read_and_is_plain_reads_as_it_was() {
             );
         }
     }
-    assert!(
-        plain > 4_000 || !oracle::COMPARED,
-        "only {plain} plain trees"
-    );
+    assert!(plain > 4_000, "only {plain} plain trees");
 }
 
 #[cfg(library)]
@@ -194,7 +193,7 @@ mod library {
         }
     }
 
-    /// The same in a list that has room, or none, or one word less.
+    /// The same in a list with room for all words, for one less, for more, or for any number.
     fn agrees(rng: &mut Rng, words: &[u32]) -> Written {
         let (_, full) = writer_model::write(words, usize::MAX);
         let room = match rng.below(4) {
@@ -319,10 +318,7 @@ mod library {
                     let mut nodes = vec![bare(parent, above)];
                     for _ in 0..above {
                         nodes.push(bare(child, below));
-                        nodes.extend(
-                            (0..below)
-                                .map(|_| bare(*[61, 4].get(below as usize % 2).unwrap_or(&61), 0)),
-                        );
+                        nodes.extend((0..below).map(|_| bare([61, 4][below as usize % 2], 0)));
                     }
                     agrees(&mut rng, &tree_words(&nodes));
                 }
@@ -345,6 +341,7 @@ mod library {
     }
 
     #[test]
+    #[cfg_attr(not(rust_source), ignore = "the Rust source is not at hand")]
     fn trees_that_were_read() {
         let mut rng = Rng::new(25);
         for case in Mixed::new(25, 24).take(100_000) {

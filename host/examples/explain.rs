@@ -3,29 +3,33 @@
 //!     cargo run --release --example explain -- '(a + b] * c' 6
 
 use sorbrudder::{ReadError, Reader, Tokens};
+use std::process::ExitCode;
 
-fn main() {
-    let mut given = std::env::args().skip(1);
-    let Some(source) = given.next() else {
-        let usual = [
-            "(a + b] * c",
-            "a + b c",
-            "a ? b",
-            "sin a",
-            "- - b",
-            "a = b",
-            "query_function()",
-        ];
-        for source in usual {
-            explain(source, 6);
+const USUAL: [&str; 7] = [
+    "(a + b] * c",
+    "a + b c",
+    "a ? b",
+    "sin a",
+    "- - b",
+    "a = b",
+    "query_function()",
+];
+
+fn main() -> ExitCode {
+    let given = std::env::args_os().skip(1);
+    let given: Vec<String> = given
+        .map(|word| word.to_string_lossy().into_owned())
+        .collect();
+    let version = given.get(1).map_or(Ok(6), |word| word.parse());
+    match (&given[..], version) {
+        ([], _) => USUAL.iter().for_each(|source| explain(source, 6)),
+        ([source] | [source, _], Ok(version)) => explain(source, version),
+        _ => {
+            eprintln!("usage: explain [LIST [VERSION]]");
+            return ExitCode::FAILURE;
         }
-        return;
-    };
-    let version = given.next().map_or(Ok(6), |word| word.parse());
-    match version {
-        Ok(version) => explain(&source, version),
-        Err(_) => eprintln!("usage: explain LIST [VERSION]"),
     }
+    ExitCode::SUCCESS
 }
 
 fn explain(source: &str, version: i16) {

@@ -9,15 +9,16 @@
 
 use sorbrudder::{LiftError, Lifter, ReadError, Tokens};
 use std::error::Error;
+use std::ffi::{OsStr, OsString};
 use std::io::{IsTerminal as _, Write as _};
+use std::path::Path;
 use std::process::ExitCode;
 
 fn main() -> ExitCode {
-    let given: Vec<String> = std::env::args().skip(1).collect();
-    let given: Vec<&str> = given.iter().map(String::as_str).collect();
-    let done = match given[..] {
-        ["--sample", file] => sample(file),
-        [input, output, version] => lift_file(input, output, version),
+    let given: Vec<OsString> = std::env::args_os().skip(1).collect();
+    let done = match &given[..] {
+        [flag, file] if flag == "--sample" => sample(file.as_ref()),
+        [input, output, version] => lift_file(input.as_ref(), output.as_ref(), version),
         _ => Err("usage: lift INPUT OUTPUT VERSION, or lift --sample FILE".into()),
     };
     match done {
@@ -34,12 +35,22 @@ fn version_word(version: i16) -> u32 {
     u32::from(version as u16)
 }
 
-fn write_words(file: &str, words: &[u32]) -> Result<(), Box<dyn Error>> {
-    let bytes: Vec<u8> = words.iter().flat_map(|word| word.to_le_bytes()).collect();
-    Ok(std::fs::write(file, bytes)?)
+/// The words of a file.
+fn read_words(file: &Path) -> Result<Vec<u32>, Box<dyn Error>> {
+    let bytes = std::fs::read(file).map_err(|why| format!("{}: {why}", file.display()))?;
+    let (words, rest) = bytes.as_chunks::<4>();
+    if !rest.is_empty() {
+        return Err(format!("{}: not whole words", file.display()).into());
+    }
+    Ok(words.iter().map(|word| u32::from_le_bytes(*word)).collect())
 }
 
-fn sample(file: &str) -> Result<(), Box<dyn Error>> {
+fn write_words(file: &Path, words: &[u32]) -> Result<(), Box<dyn Error>> {
+    let bytes: Vec<u8> = words.iter().flat_map(|word| word.to_le_bytes()).collect();
+    std::fs::write(file, bytes).map_err(|why| format!("{}: {why}", file.display()).into())
+}
+
+fn sample(file: &Path) -> Result<(), Box<dyn Error>> {
     let lists = [
         (4, "a ? b : c ? d : e"),
         (5, "a && b || c"),
@@ -87,21 +98,19 @@ struct Totals {
     turned_back: usize,
 }
 
-fn lift_file(input: &str, output: &str, version: &str) -> Result<(), Box<dyn Error>> {
-    let to: i16 = version.parse()?;
-    let bytes = std::fs::read(input)?;
-    let (words, rest) = bytes.as_chunks::<4>();
-    if !rest.is_empty() {
-        return Err(format!("{input} is not whole words").into());
-    }
-    let words: Vec<u32> = words.iter().map(|word| u32::from_le_bytes(*word)).collect();
+fn lift_file(input: &Path, output: &Path, version: &OsStr) -> Result<(), Box<dyn Error>> {
+    let to = version.to_str().and_then(|word| word.parse().ok());
+    let to: i16 = to.ok_or("the version is a number from -32768 to 32767")?;
+    let words = read_words(input)?;
     let lists = lists_of(&words)?;
     let (mut lifter, mut totals, mut out) = (Lifter::new(), Totals::default(), Vec::new());
+    // Where nobody reads the report to its end, the file is written all the same.
+    let mut report = std::io::stdout().lock();
     for (number, (from, list)) in lists.iter().enumerate() {
         let (version, lifted) = match lift_words(&mut lifter, &mut totals, list, *from, to) {
             Ok(lifted) => (to, lifted),
             Err(why) => {
-                println!("list {number} stays at version {from}: {why}");
+                let _ = writeln!(report, "list {number} stays at version {from}: {why}");
                 (*from, list.to_vec())
             }
         };
@@ -110,7 +119,8 @@ fn lift_file(input: &str, output: &str, version: &str) -> Result<(), Box<dyn Err
         progress(number + 1, lists.len());
     }
     write_words(output, &out)?;
-    println!(
+    let _ = writeln!(
+        report,
         "{} lists: {} unchanged, {} written anew, {} no tree at their version, {} not writable, {} not lists",
         lists.len(),
         totals.unchanged,

@@ -7,7 +7,10 @@ use sorbrudder::{LiftError, Lifter, Node, ReadError, Reader, Tokens, Tree};
 const VERSIONS: [i16; 3] = [4, 5, 6];
 
 fn main() {
-    let given: Vec<String> = std::env::args().skip(1).collect();
+    let given = std::env::args_os().skip(1);
+    let given: Vec<String> = given
+        .map(|word| word.to_string_lossy().into_owned())
+        .collect();
     let usual = [
         "a ? b : c ? d : e",
         "a && b || c",

@@ -66,6 +66,11 @@ pub enum Message {
     TernaryWithoutOperands { span: Span, operator: Op },
 }
 
+/// The operator that an argument names.
+fn named(argument: u32) -> Option<Op> {
+    Op::new(u8::try_from(argument).ok()?)
+}
+
 impl Message {
     /// The message of a record of eight words.
     pub(crate) fn from_record(record: &[u32]) -> Option<Self> {
@@ -73,61 +78,85 @@ impl Message {
             return None;
         };
         let span = Span::new(start, end)?;
-        let op = |argument: u32| Op::new(u8::try_from(argument).ok()?);
+        match number {
+            1 => Some(Self::MultipleRoots { span, roots: a }),
+            4..=6 => Self::of_brackets(number, span, [a, b, c, d, e]),
+            7 | 12 | 15..=17 => Self::of_operator(number, span, named(a)?),
+            8 | 9 => Self::of_math(number, span, named(a)?, b),
+            _ => Self::of_span(number, span),
+        }
+    }
+
+    /// Messages 4 to 6.
+    fn of_brackets(number: u32, span: Span, [a, b, c, d, e]: [u32; 5]) -> Option<Self> {
         Some(match number {
-            1 => Self::MultipleRoots { span, roots: a },
-            2 => Self::ComplexMustEndWithSemicolon { span },
-            3 => Self::LeadingMemberAccessor { span },
             4 => Self::ClosingMismatch {
                 span,
                 opened_at: a,
-                opener: op(b)?,
-                wanted: op(c)?,
-                found: op(d)?,
+                opener: named(b)?,
+                wanted: named(c)?,
+                found: named(d)?,
                 found_at: e,
             },
             5 => Self::SectionNotClosed {
                 span,
-                wanted: op(a)?,
-                opener: op(b)?,
+                wanted: named(a)?,
+                opener: named(b)?,
             },
             6 => Self::NoClosingSymbol {
                 span,
                 opened_at: a,
-                opener: op(b)?,
-                wanted: op(c)?,
+                opener: named(b)?,
+                wanted: named(c)?,
             },
-            7 => Self::EmptyParameterList { span, call: op(a)? },
+            _ => return None,
+        })
+    }
+
+    /// The messages whose one argument is an operator.
+    fn of_operator(number: u32, span: Span, operator: Op) -> Option<Self> {
+        Some(match number {
+            7 => Self::EmptyParameterList {
+                span,
+                call: operator,
+            },
+            12 => Self::BinaryAtEnd { span, operator },
+            15 => Self::UnknownOperation {
+                span,
+                before: operator,
+            },
+            16 => Self::UnaryWithoutOperand { span, operator },
+            17 => Self::TernaryWithoutOperands { span, operator },
+            _ => return None,
+        })
+    }
+
+    /// Messages 8 and 9.
+    fn of_math(number: u32, span: Span, function: Op, host: u32) -> Option<Self> {
+        Some(match number {
             8 => Self::MathAtEnd {
                 span,
-                function: op(a)?,
-                host: b,
+                function,
+                host,
             },
             9 => Self::MathWithoutParenthesis {
                 span,
-                function: op(a)?,
-                host: b,
+                function,
+                host,
             },
+            _ => return None,
+        })
+    }
+
+    /// The messages without an argument.
+    fn of_span(number: u32, span: Span) -> Option<Self> {
+        Some(match number {
+            2 => Self::ComplexMustEndWithSemicolon { span },
+            3 => Self::LeadingMemberAccessor { span },
             10 => Self::LeadingSemicolon { span },
             11 => Self::EmptyArrayIndex { span },
-            12 => Self::BinaryAtEnd {
-                span,
-                operator: op(a)?,
-            },
             13 => Self::NegateWithoutOperand { span },
             14 => Self::NotWithoutOperand { span },
-            15 => Self::UnknownOperation {
-                span,
-                before: op(a)?,
-            },
-            16 => Self::UnaryWithoutOperand {
-                span,
-                operator: op(a)?,
-            },
-            17 => Self::TernaryWithoutOperands {
-                span,
-                operator: op(a)?,
-            },
             _ => return None,
         })
     }
@@ -233,10 +262,7 @@ impl fmt::Display for Message {
         match *self {
             Self::MultipleRoots { roots: 0, .. } => write!(f, "there is nothing to read"),
             Self::MultipleRoots { roots, .. } => {
-                write!(
-                    f,
-                    "{roots} operands stand side by side with no operator between them"
-                )
+                write!(f, "{roots} parts are left that no operator joins")
             }
             Self::ComplexMustEndWithSemicolon { .. } => {
                 write!(f, "a list with `=` or `;` has to end with `;`")

@@ -17,7 +17,7 @@ const MESSAGE_WORDS: usize = 16;
 const WORK_WORDS: usize = 64;
 
 /// Reads token lists. It owns the buffers that the library asks for and uses them again from list to list, so keep one
-/// where many lists are read; it is cheap to make and grows to the longest list it met, at most 1.5 MiB.
+/// where many lists are read; it is cheap to make and grows with the longest list it met, to less than 3 MiB.
 ///
 /// Reading takes a few KiB of stack whatever the list's nesting, with one exception: the message about several roots is
 /// found by recursion over the first and the last of them, 48 bytes a node, which is 300 KiB at the very most (2,047

@@ -52,6 +52,9 @@ impl fmt::Display for NotATree {
 
 impl std::error::Error for NotATree {}
 
+/// The most nodes of a tree.
+const MOST_NODES: usize = 12_288;
+
 /// Why a node's words are a token's.
 const SOUND: &str = "a tree's words were made or judged by the library";
 
@@ -60,11 +63,11 @@ fn children(node: &[u32]) -> usize {
     (node[Token::WORDS] & LOW) as usize
 }
 
-/// How many levels the nodes of a tree's words have; of other words some number.
+/// How many levels the nodes of a tree's words have; of other words some number, found in their first 12,288 nodes.
 pub(crate) fn depth_of(words: &[u32]) -> usize {
     let mut open: Vec<usize> = Vec::new();
     let mut depth = 0;
-    for node in words.chunks_exact(Tree::NODE_WORDS) {
+    for node in words.chunks_exact(Tree::NODE_WORDS).take(MOST_NODES) {
         depth = depth.max(open.len() + 1);
         open.push(children(node));
         while open.last() == Some(&0) {
@@ -147,7 +150,8 @@ impl Tree {
     /// ```
     pub fn from_nodes(nodes: impl IntoIterator<Item = (Token, usize)>) -> Result<Self, NotATree> {
         let mut words = Vec::new();
-        for (token, children) in nodes {
+        // One node more than a tree can have is enough to be refused.
+        for (token, children) in nodes.into_iter().take(MOST_NODES + 1) {
             words.extend(token.words());
             // A count that has no room in its word is too many for any tree.
             words.push(6 << 29 | children.min(LOW as usize) as u32);

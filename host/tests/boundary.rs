@@ -93,7 +93,7 @@ fn several_deep_roots_are_named_on_512_kib_of_stack() {
 }
 
 #[test]
-fn deep_trees_are_written_and_lifted_on_256_kib_of_stack() {
+fn deep_trees_are_written_and_lifted_on_128_kib_of_stack() {
     let lists = [
         nest("(", "a", ")", ""),
         nest("!(", "a", ")", ""),
@@ -102,7 +102,7 @@ fn deep_trees_are_written_and_lifted_on_256_kib_of_stack() {
         nest("(a ? b : c) ? (", "d", ") : e", ""),
         nest("a,", "a", "", ""),
     ];
-    on_stack(256, || {
+    on_stack(128, || {
         let (mut reader, mut writer, mut lifter) = (Reader::new(), Writer::new(), Lifter::new());
         for list in &lists {
             let tree = reader.read(list, 6).expect("a tree");
@@ -193,7 +193,7 @@ fn words_with(change: impl Fn(&mut Vec<u32>)) -> Result<(), ReadError> {
 }
 
 #[test]
-fn every_refusal_is_mapped_or_cannot_happen() {
+fn every_refusal_of_the_reader_is_mapped_or_cannot_happen() {
     let refused = |refusal| Err(ReadError::Refused(refusal));
     assert_eq!(words_with(|_| {}), Ok(()));
     // 1: words only; a token has five.
@@ -226,7 +226,11 @@ fn every_refusal_is_mapped_or_cannot_happen() {
     let other = words_with(|words| words[13] |= 1);
     assert_eq!(other, refused(Refusal::OtherBits { word: 13 }));
     assert_eq!((Op::new(111), Span::new(0, 1 << 29)), (None, None));
-    // 12 to 14; 15: the writer's list has room for every list that is written.
+}
+
+#[test]
+fn every_refusal_of_the_writer_is_mapped_or_cannot_happen() {
+    // 14: above. 15: the writer's list has room for every list that is written.
     let mut writer = Writer::new();
     let mut write = |words: &[u32]| writer.write_words(words).map(|_| ());
     assert_eq!(write(&[0]), Err(WriteError::NotATree { word: 0 }));
@@ -236,6 +240,10 @@ fn every_refusal_is_mapped_or_cannot_happen() {
     assert_eq!(write(array.words()), Err(WriteError::NotPlain { node: 1 }));
     let counted = Tree::from_nodes([(bare(Op::FLOAT), usize::MAX)]);
     assert_eq!(counted.map_err(|why| why.word), Err(5));
+    let endless = Tree::from_nodes(std::iter::repeat((bare(Op::NEGATE), 1)));
+    assert_eq!(endless.map_err(|why| why.word), Err(6 * 12_287 + 5));
+    let two = Tree::from_nodes(std::iter::repeat((bare(Op::FLOAT), 0)));
+    assert_eq!(two.map_err(|why| why.word), Err(6));
 }
 
 #[test]

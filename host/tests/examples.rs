@@ -1,18 +1,29 @@
 //! The examples that a person would run, as cargo builds them beside these tests.
 
 use std::path::{Path, PathBuf};
-use std::process::Command;
+use std::process::{Command, Output};
 
-fn example(name: &str, arguments: &[&str]) -> String {
+fn run(name: &str, arguments: &[&str]) -> Output {
     let test = std::env::current_exe().expect("this test's own file");
     let folder = test.ancestors().nth(2).expect("target/PROFILE/deps/TEST");
     let run = Command::new(folder.join("examples").join(name))
         .args(arguments)
         .output();
-    let run = run.expect("cargo test builds the examples");
+    run.expect("cargo test builds the examples")
+}
+
+fn example(name: &str, arguments: &[&str]) -> String {
+    let run = run(name, arguments);
     let errors = String::from_utf8_lossy(&run.stderr);
     assert!(run.status.success(), "{name} {arguments:?}: {errors}");
     String::from_utf8(run.stdout).expect("text")
+}
+
+/// What an example says where it ends with status 1.
+fn complaint(name: &str, arguments: &[&str]) -> String {
+    let run = run(name, arguments);
+    assert_eq!(run.status.code(), Some(1), "{name} {arguments:?}");
+    String::from_utf8(run.stderr).expect("text")
 }
 
 #[test]
@@ -63,4 +74,30 @@ fn lift_carries_a_file_over_and_counts() {
     assert_eq!(told.lines().last(), Some(totals));
     let bytes = |path: &str| std::fs::read(path).expect("the file was written");
     assert_eq!(bytes(&lifted), bytes(&again));
+}
+
+#[test]
+fn a_file_that_is_no_lists_is_told() {
+    let folder = Path::new(env!("CARGO_TARGET_TMPDIR"));
+    let text = |name: &str| {
+        folder
+            .join(name)
+            .to_str()
+            .expect("a path in text")
+            .to_string()
+    };
+    let [file, out] = ["no_lists", "no_lists_out"].map(text);
+    let told = |bytes: &[u8]| {
+        std::fs::write(&file, bytes).expect("the file is written");
+        complaint("lift", &[&file, &out, "6"])
+    };
+    assert!(told(b"abc").ends_with("not whole words\n"));
+    assert_eq!(told(&[6, 0, 0, 0x20]), "lift: word 0 is no version\n");
+    assert!(complaint("lift", &[&text("missing"), &out, "6"]).contains("missing: "));
+    assert!(complaint("lift", &[&file, &out, "32768"]).contains("from -32768 to 32767"));
+    assert!(complaint("lift", &[]).contains("usage"));
+    assert!(complaint("explain", &["a", "six"]).contains("usage"));
+    std::fs::write(&file, []).expect("the file is written");
+    assert!(example("lift", &[&file, &out, "6"]).starts_with("0 lists: "));
+    assert_eq!(std::fs::read(&out).expect("the file was written"), []);
 }

@@ -1,7 +1,7 @@
 //! The kept answers of the Rust parser (vectors/vectors.bin) through the safe interface: every tree's words, every message's
 //! record, every refusal that a list can have.
 
-use sorbrudder::{ReadError, Reader, Tokens, Tree, Used};
+use sorbrudder::{ReadError, Reader, Refusal, Tokens, Tree, Used};
 
 /// The file's numbers, as vectors/README.md describes them.
 struct Bytes<'b>(&'b [u8]);
@@ -93,7 +93,14 @@ impl Call {
         let Err(ReadError::Refused(refusal)) = self.read(reader) else {
             panic!("{:x?} was read", self.list);
         };
-        assert_eq!(refusal.number(), number, "place {place}");
+        let word = match refusal {
+            Refusal::WrongKind { word }
+            | Refusal::UnknownOperator { word }
+            | Refusal::UnknownPayload { word }
+            | Refusal::OtherBits { word } => word as u64,
+            Refusal::NotWhole | Refusal::TooManyTokens | Refusal::SourceTooLong => 0,
+        };
+        assert_eq!((refusal.number(), word), (number, place));
     }
 }
 

@@ -76,7 +76,7 @@ fn what_cannot_be_lifted_says_why() {
     assert_eq!(messages[0].number(), 12);
 }
 
-/// Every list of five operators between operands, over those that versions read differently, and with brackets in places.
+/// Every list of four operators between operands, over those that versions read differently, and with brackets in places.
 fn lists() -> impl Iterator<Item = String> {
     let between = ["?", ":", "&&", "||", "==", ">", "??", "+"];
     (0..8usize.pow(4)).map(move |number| {

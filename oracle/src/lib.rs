@@ -2,7 +2,7 @@
 //!
 //! The Rust's pass files are built as they stand, from a folder outside this repository (see
 //! `build.rs`), behind the stand-ins of `shim/`. Where that folder is not at hand the crate has no
-//! [`answer`], and everything else is built and tested without it:
+//! `answer_case`, and everything else is built and tested without it:
 //!
 //! - [`words`]: the word format of document 01, cases and answers;
 //! - [`refusal`]: answers 1 to 11, written from document 01's table and not from the Rust;
@@ -59,20 +59,7 @@ pub use words::{Answer, Case, Token};
 /// Whether the Rust source was at hand when this was built.
 pub const COMPARED: bool = cfg!(molangx);
 
-/// What the Rust answers to a list that the entry does not turn back.
-///
-/// The list has any length here: the entry's bound of 4,096 tokens is not the Rust's.
-#[cfg(molangx)]
-pub fn answer(tokens: &[Token], used: (u64, u64), source_len: u32, version: i16) -> Answer {
-    answer_case(&Case {
-        tokens: tokens.to_vec(),
-        used,
-        source_len,
-        version,
-    })
-}
-
-/// [`answer`] of a case.
+/// What the Rust answers to a case. Its list has any length here: the entry's bound of 4,096 tokens is not the Rust's.
 #[cfg(molangx)]
 pub fn answer_case(case: &Case) -> Answer {
     compile::answer(case)

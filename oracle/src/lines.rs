@@ -5,7 +5,7 @@
 //! are Molang's, `.` is a member accessor (45) and a number is an operator's. The token at place i
 //! has the span i to i + 1. A tree is written as document 01 does: `9(a,6(b))`.
 
-use crate::words::{Answer, Case, Record, Token, TreeNode, bit, exact_set};
+use crate::words::{Answer, Case, Record, Token, TreeNode, bit};
 use std::ops::RangeInclusive;
 
 /// The signs of the notation and their operator numbers.
@@ -118,13 +118,7 @@ pub fn tokens_of(list: &str) -> Vec<Token> {
 
 /// The list with its exact used set and its length as source length, at version 6.
 pub fn case_of(list: &str) -> Case {
-    let tokens = tokens_of(list);
-    Case {
-        used: exact_set(&tokens),
-        source_len: tokens.len() as u32,
-        version: 6,
-        tokens,
-    }
+    Case::exact(tokens_of(list), 6)
 }
 
 /// A tree in the notation.

@@ -55,8 +55,13 @@ pub fn refusal(call: &Call) -> Option<Refusal> {
     if let Some(&(number, _)) = whole.iter().find(|(_, fails)| *fails) {
         return Some(Refusal { number, place: 0 });
     }
+    word_refusal(&call.list)
+}
+
+/// The first word that turns a list of whole tokens back.
+fn word_refusal(list: &[u32]) -> Option<Refusal> {
     let mut variant = 0;
-    for (index, &word) in call.list.iter().enumerate() {
+    for (index, &word) in list.iter().enumerate() {
         let place = index as u32;
         let expected = (index % TOKEN_WORDS) as u32 + 1;
         let bits = low(word);

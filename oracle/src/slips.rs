@@ -5,7 +5,7 @@ use crate::generate::alphabets::ONE_OF_EACH;
 use crate::generate::{Mixed, dress};
 use crate::lines::{case_of, notation};
 use crate::vectors::{Stored, stored};
-use crate::words::{Answer, Case, exact_set};
+use crate::words::{Answer, Case};
 
 macro_rules! slip {
     ($name:ident, $file:literal) => {
@@ -98,13 +98,7 @@ fn a_semicolon_pass_that_enters_every_node_is_exposed() {
 /// No list of fewer than `len` tokens shows the slip, whatever its operators.
 fn hidden_below(len: usize, slipped: Reader) {
     for ops in ONE_OF_EACH.every_list(len - 1) {
-        let tokens = dress::plain(&ops);
-        let case = Case {
-            used: exact_set(&tokens),
-            source_len: ops.len() as u32,
-            version: 6,
-            tokens,
-        };
+        let case = Case::exact(dress::plain(&ops), 6);
         assert_eq!(slipped(&case), crate::answer_case(&case), "{ops:?}");
     }
 }

@@ -56,6 +56,18 @@ pub struct Case {
     pub version: i16,
 }
 
+impl Case {
+    /// The list with its exact used set, and as many places of source as it has tokens.
+    pub fn exact(tokens: Vec<Token>, version: i16) -> Self {
+        Self {
+            used: exact_set(&tokens),
+            source_len: tokens.len() as u32,
+            version,
+            tokens,
+        }
+    }
+}
+
 /// What is answered.
 #[derive(Clone, Debug, PartialEq, Eq, Hash)]
 pub enum Answer {
@@ -165,6 +177,23 @@ pub fn decode_tree(words: &[u32]) -> Option<Vec<TreeNode>> {
         });
     }
     (awaited == 0).then_some(nodes)
+}
+
+/// How many levels a tree has, 1 for a leaf.
+pub fn depth(nodes: &[TreeNode]) -> usize {
+    let mut awaited: Vec<u32> = Vec::new();
+    let mut deepest = 0;
+    for node in nodes {
+        deepest = deepest.max(awaited.len() + 1);
+        awaited.push(node.children);
+        while awaited.last() == Some(&0) {
+            awaited.pop();
+            if let Some(parent) = awaited.last_mut() {
+                *parent -= 1;
+            }
+        }
+    }
+    deepest
 }
 
 /// The bit of an operator in a used set.

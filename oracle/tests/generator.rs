@@ -40,13 +40,7 @@ fn a_shape_has_exactly_the_length_that_is_asked_for() {
 fn lists_of_4095_and_4096_tokens_are_taken_and_of_4097_turned_back() {
     for shape in &SHAPES {
         for (len, number) in [(4095, None), (4096, None), (4097, Some(2))] {
-            let tokens = dress::plain(&shape.ops(len));
-            let call = Call::of(&Case {
-                used: exact_set(&tokens),
-                source_len: len as u32,
-                version: 6,
-                tokens,
-            });
+            let call = Call::of(&Case::exact(dress::plain(&shape.ops(len)), 6));
             assert_eq!(refusal(&call).map(|refused| refused.number), number);
         }
     }

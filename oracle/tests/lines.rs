@@ -115,17 +115,6 @@ mod with_the_rust {
     }
 }
 
-#[cfg(not(molangx))]
-#[test]
-fn the_comparison_with_the_rust_is_left_out_and_this_says_so() {
-    use std::io::Write as _;
-    // Past the test harness, which keeps back what a passing test prints and may be in mid-line.
-    let _ = writeln!(
-        std::io::stderr(),
-        "\noracle: the Rust source is not at hand (MOLANGX_SRC), the comparison with it was left out"
-    );
-}
-
 #[test]
 fn a_line_holds_at_the_version_it_names_and_is_kept_there() {
     for line in lines().iter().chain(&findings()) {

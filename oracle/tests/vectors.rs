@@ -4,7 +4,7 @@ use oracle::lines::{Line, Says, findings, lines};
 use oracle::refusal::{Call, refusal};
 use oracle::vectors::{Stored, decode, encode, path, stored};
 use oracle::words::{
-    Answer, Case, FULL_SET, LAST_OP, LAST_VARIANT, TreeNode, decode_list, exact_set, list_words,
+    Answer, Case, FULL_SET, LAST_OP, LAST_VARIANT, decode_list, depth, exact_set, list_words,
 };
 use std::collections::BTreeSet;
 
@@ -66,23 +66,6 @@ fn every_refused_call_has_the_answer_of_the_table() {
         }
     }
     assert_eq!(numbers, (1..=11).collect());
-}
-
-/// The depth of a tree, a leaf's being 1.
-fn depth(nodes: &[TreeNode]) -> usize {
-    let mut awaited: Vec<u32> = Vec::new();
-    let mut deepest = 0;
-    for node in nodes {
-        deepest = deepest.max(awaited.len() + 1);
-        awaited.push(node.children);
-        while awaited.last() == Some(&0) {
-            awaited.pop();
-            if let Some(parent) = awaited.last_mut() {
-                *parent -= 1;
-            }
-        }
-    }
-    deepest
 }
 
 #[test]

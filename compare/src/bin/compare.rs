@@ -44,7 +44,7 @@ fn main() -> ExitCode {
 mod run {
     use compare::calls;
     use compare::comparison::Comparison;
-    use compare::reading::Desk;
+    use compare::reading::Buffers;
     use compare::rereading::{Lists, Reread, reread};
     use oracle::generate::Rng;
     use oracle::refusal::Call;
@@ -159,10 +159,10 @@ mod run {
     /// Goes on until `count` lists were written and read again.
     fn rereading(count: u64, seed: u64) -> Result<u64, (u64, String)> {
         let mut progress = Progress::new("lists read, written and read again at three versions");
-        let (mut desk, mut rng) = (Desk::new(), Rng::new(seed));
+        let (mut buffers, mut rng) = (Buffers::default(), Rng::new(seed));
         let mut refused = 0;
         for case in Lists::new(seed) {
-            match reread(&mut desk, &mut rng, &case) {
+            match reread(&mut buffers, &mut rng, &case) {
                 Ok(Reread::Again) => progress.one_more(),
                 Ok(Reread::Refused) => refused += 1,
                 Ok(Reread::Messages) => {}
@@ -170,11 +170,12 @@ mod run {
                     return Err((progress.done, format!("{difference}\nof {case:?}")));
                 }
             }
-            if progress.done == count {
+            if progress.done >= count {
                 break;
             }
         }
+        let lists = progress.done + refused;
         progress.end(&format!("{refused} more trees are not plain or too long"));
-        Ok(count + refused)
+        Ok(lists)
     }
 }

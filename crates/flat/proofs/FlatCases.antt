@@ -7,18 +7,14 @@ use mathlib.Core.Bool.{Bool, true, false, true≢false}
 use mathlib.Core.List.{List, [], _∷_}
 use mathlib.Core.Option.{Option, none, some}
 use native.Mathlib.Omega.{arith}
-use native.Mathlib.Nat.{le-refl}
 use lib.Dec.{eqb}
 use borrow.Author.Tests.{eq-eqb, ne-eqb, eqb-true}
 use Rattle.molang.specs.Operator.{memberAccessor, leftBrace, leftBracket, leftParenthesis, any, isOneOf, between, isMathCall, isQueryOrLoop, hasMembers, closingOf, isCloser}
-use Rattle.molang.specs.Forest.{Token, Forest, nil, node, leaves, inOrder}
-use Rattle.molang.specs.Message.{Message, leadingMemberAccessor, closingMismatch, sectionNotClosed, Result, ok, fail, closer}
+use Rattle.molang.specs.Forest.{Token, Forest, nil, node, inOrder}
+use Rattle.molang.specs.Message.{Message, leadingMemberAccessor, closingMismatch, sectionNotClosed, fail, closer}
 use Rattle.molang.specs.Sections.{withMember, members, Open, section, placed, position, outermost, Walked, going, mismatch, closing, bracket, sections}
 use Rattle.molang.proofs.Trees.{both, and-true-true}
-use Rattle.molang.proofs.Walks.{failed, fine}
-use Rattle.molang.proofs.Weight.{weight}
-use Rattle.molang.proofs.Sections.{flat, Flat, members-light}
-use Rattle.molang.proofs.Bounds.{nodeWeight}
+use Rattle.molang.proofs.Sections.{flat}
 use Rattle.ops.specs.Operators.{isOpener}
 use Rattle.ops.specs.Classes.{passClasses, ownClasses, inClass}
 use Rattle.ops.proofs.OperatorLaws.{false-at}
@@ -63,15 +59,6 @@ joined-under k x xs d h = taken (hasMembers (x .op)) _ _ h
 pub joined-after : (k x : Token) (xs d : Forest) → hasMembers (x .op) ≡ false → withMember k (node x xs d) ≡ some (node k nil (node x xs d))
 unfolding withMember
 joined-after k x xs d h = passed (hasMembers (x .op)) _ _ h
-
--- what it leaves of a list of leaves is flat
-pub members-flat : (ks : List Token) (f : Forest) → members nil (leaves ks) ≡ ok f → flat f ≡ true
-unfolding flat
-members-flat ks f e = list (members-light nodeWeight ks nil (weight nodeWeight nil + weight nodeWeight (leaves ks)) (le-refl (weight nodeWeight nil + weight nodeWeight (leaves ks))) refl) e
-  where
-    list : {n : ℕ} {x : Result} → Flat nodeWeight n x → x ≡ ok f → flat f ≡ true
-    list (failed o) e = let z : _≡_ {A = ℕ} 0 1 = cc in absurd (omega arith)
-    list (fine {g = g} h) e = let same : g ≡ f = cc in ap flat (sym same) ∙ h .1
 
 -- ---- openers
 

@@ -1,6 +1,6 @@
 -- The section walk: its two loops have one invariant, the outer one with no section open. What is read stands as the definition's open sections, what
 -- is not read yet in the array's end, and the definition's answer from there on is that of the whole list.
-use Prim.Native.Nat.{ℕ, _+_, _*_, _^_, _≤_, _<_}
+use Prim.Native.Nat.{ℕ, _+_, _*_, _≤_, _<_}
 use mathlib.Core.Path.{_≡_, refl, sym, ap, _∙_, subst}
 use mathlib.Core.Logic.{_≢_, inl, inr, ⊎-elim}
 use mathlib.Core.Bool.{true}
@@ -8,22 +8,22 @@ use mathlib.Core.List.{List, [], _∷_}
 use native.Mathlib.Omega.{arith}
 use native.Mathlib.Nat.{le-refl, add-zero}
 use lib.ListN.{length}
-use Rattle.molang.specs.Forest.{Token, Forest, nil, node, leaves, inOrder, count}
+use Rattle.molang.specs.Forest.{Token, Forest, nil, node, inOrder, count}
 use Rattle.molang.specs.Message.{Message}
 use Rattle.molang.specs.Sections.{Open, outside, position, Walked, going, mismatch, sections}
-use Rattle.molang.proofs.Sections.{flat, leaves-flat}
+use Rattle.molang.proofs.Sections.{flat}
 use Rattle.nodes.specs.Store.{wd, Seg, RepF, RepT, Kept}
 use Rattle.nodes.proofs.Runs.{seg-keep}
 use Rattle.nodes.proofs.Store.{rep-le, rep-count, tree-first, back-count}
 use Rattle.nodes.proofs.Keeping.{free-above, free-part, kept-then, rep-beside}
-use Rattle.flat.specs.Flat.{Tells, Stands, Fails, CanJoin, Joined, Standing, outer, inner, LookAt, Follows, on, ends, Looked, NamedAt, Named, CanSection}
+use Rattle.flat.specs.Flat.{Tells, Stands, Fails, Standing, outer, inner, LookAt, Follows, on, ends, Looked, NamedAt, Named, CanSection}
 use Rattle.walks.specs.declared.failure.Mismatch.{Mismatch}
 use Rattle.walks.specs.declared.failure.Unclosed.{Unclosed}
-use Rattle.flat.specs.declared.sections.Flat.the-variants.{Done, Mismatched, Unclosed as Unclosing}
+use Rattle.flat.specs.declared.sections.Flat.the-variants.{Mismatched, Unclosed as Unclosing}
 use Rattle.flat.specs.declared.sections.Reached.{Reached}
 use Rattle.flat.specs.declared.sections.Bracket.{Bracket}
 use Rattle.flat.specs.declared.sections.Bracket.the-variants.{On, Differs}
-use Rattle.flat.proofs.FlatCases.{members-flat, flat-first, sections-go, sections-end}
+use Rattle.flat.proofs.FlatCases.{flat-first, sections-go, sections-end}
 use Rattle.flat.proofs.FlatWritten.{written-none, written-raise, written-array}
 use Rattle.flat.proofs.FlatOpen.{standing-written, standing-raise, standing-named, standing-unclosed, standing-outside}
 
@@ -74,26 +74,6 @@ pub record WalkAt (W₀ : List ℕ) (base n : ℕ) (g : CanSection W₀ base n) 
 
 abbrev pub Walking : (W₀ : List ℕ) (base n : ℕ) → CanSection W₀ base n → List ℕ → ℕ → ℕ → ℕ → ℕ → Type 0
 Walking W₀ base n g W read write depth index = (rs : List ℕ) × (rest : Forest) × WalkAt W₀ base n g W read write depth index rs rest
-
--- the section pass can follow the member pass, or take the tokens as they are
-pub sections-next : {W W' : List ℕ} {base n m : ℕ} (g : CanJoin W base n) → Joined W base n (Done m) W' → base + n + 2 * n ≤ length W → n + 2 < 2 ^ 32 → CanSection W' base m
-sections-next g w room small =
-    let a = w .answer g in
-    record {
-      X = g .X;
-      lo = g .lo;
-      hi = g .hi;
-      f = a .forest;
-      array = a .array;
-      plain = members-flat (g .ks) (a .forest) (a .is);
-      below = g .below;
-      room = omega (arith, a .fewer, w .long);
-      small = omega (arith, a .fewer);
-    }
-
-pub sections-first : {W : List ℕ} {base n : ℕ} → CanJoin W base n → base + n + 2 * n ≤ length W → n + 2 < 2 ^ 32 → CanSection W base n
-sections-first g room small =
-    record { X = g .X; lo = g .lo; hi = g .hi; f = leaves (g .ks); array = g .array; plain = leaves-flat (g .ks); below = g .below; room = room; small = small }
 
 pub walk-start : {W : List ℕ} {base n : ℕ} (g : CanSection W base n) → Walking W base n g W 0 0 0 0
 walk-start {W} {base} {n} g = (

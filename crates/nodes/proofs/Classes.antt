@@ -70,18 +70,10 @@ pub no-bit : (i : ℕ) → bitAt 0 i ≡ false
 unfolding bitAt
 no-bit i = rw (zero-div (2 ^ i))
 
-pub notes-nothing : Notes 0 nil
-unfolding free
-notes-nothing = record { bits = λ i h. no-bit i }
-
 pub notes-leaf : {w : ℕ} {k : Token} → ((i : ℕ) → i < 32 → bitAt w i ≡ inClass i (k .op)) → Noted w k nil
 unfolding free
 notes-leaf {w} {k} h =
     record { bits = λ i e. h i e ∙ sym (ap not (and-true (not (inClass i (k .op)))) ∙ not-not (inClass i (k .op))) }
-
-pub leaf-notes : {w : ℕ} {k : Token} → Noted w k nil → (i : ℕ) → i < 32 → bitAt w i ≡ inClass i (k .op)
-unfolding free
-leaf-notes {w} {k} n i e = n .bits i e ∙ ap not (and-true (not (inClass i (k .op)))) ∙ not-not (inClass i (k .op))
 
 -- a node notes what its children note, and nothing of itself
 pub notes-over : {w : ℕ} (q : Token) {c : Token} {cs r : Forest} → Notes w (node c cs r) → Noted w q (node c cs r)

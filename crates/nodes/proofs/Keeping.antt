@@ -8,11 +8,9 @@ use native.Mathlib.Omega.{arith}
 use native.Mathlib.Decide.{decLt}
 use lib.ListN.{length}
 use Rattle.molang.specs.Forest.{Token, Forest}
-use Rattle.nodes.specs.Store.{wd, TokenAt, Seg, Out, OffNext, RepF, ends, more, RepT, RepB, InArray, Free, Kept}
+use Rattle.nodes.specs.Store.{wd, Seg, Out, OffNext, RepF, ends, more, RepT, RepB, Free, Kept}
 use Rattle.nodes.specs.Slots.{Laid}
 use Rattle.nodes.specs.Children.{Given}
-use Rattle.nodes.proofs.Runs.{seg-keep}
-use Rattle.nodes.proofs.Tokens.{token-keep}
 use Rattle.nodes.proofs.Store.{reserve-pos, own-out, rep-le, rep-keep, tree-keep, back-keep}
 
 -- ---- words that are none of the free slots
@@ -43,11 +41,6 @@ pub kept-part : (W W' X : List ℕ) (lo hi l m a b a' b' : ℕ) → lo ≤ l →
 kept-part W W' X lo hi l m a b a' b' low high low' high' f j h o =
     f j (free-part X lo hi l m j low high h) (⊎-elim (λ x. inl (omega arith)) (λ x. inr (omega arith)) o)
 
-pub kept-inner : (W W' : List ℕ) (q : ℕ) (X : List ℕ) (lo hi l m a b a' b' : ℕ) → lo ≤ l → m ≤ hi → a' ≤ a → b ≤ b' → Kept W W' (q ∷ X) l m a b
-    → Kept W W' X lo hi a' b'
-kept-inner W W' q X lo hi l m a b a' b' low high low' high' f j h o =
-    f j (free-inner q X lo hi l m j low high h) (⊎-elim (λ x. inl (omega arith)) (λ x. inr (omega arith)) o)
-
 -- ---- what stays, of a change that keeps all words below `top` but the free slots
 
 module _ (W W' X : List ℕ) (lo hi top : ℕ) (same : (j : ℕ) → Free X lo hi j → j < top → wd W' j ≡ wd W j) where
@@ -64,34 +57,6 @@ module _ (W W' X : List ℕ) (lo hi top : ℕ) (same : (j : ℕ) → Free X lo h
 
   pub back-beside : {Y : List ℕ} {a b : ℕ} {ds : List ℕ} {d : Forest} → 8 * b ≤ top → (b ≤ lo) ⊎ (hi ≤ a) → RepB W Y ds a b d → RepB W' Y ds a b d
   back-beside {a = a} {b} h e r = back-keep W W' (λ s o x y z p n. slot-beside a b s o x y z h e) r
-
-  -- a list under work, whose array stands above the slots
-  pub array-beside : {Y : List ℕ} {at n a b : ℕ} {f : Forest} → 8 * hi ≤ at → at + n ≤ top → 8 * b ≤ top → (b ≤ lo) ⊎ (hi ≤ a)
-      → InArray W Y at n a b f → InArray W' Y at n a b f
-  array-beside {at = at} low high h e v =
-      record {
-        bs = v .bs;
-        seg = seg-keep W W' at (v .bs) (λ j x y. same j (free-above X lo hi j (omega arith)) (omega (arith, v .count))) (v .seg);
-        count = v .count;
-        rep = rep-beside h e (v .rep);
-      }
-
--- of a change of the stack alone, from `top` on
-module _ (W W' : List ℕ) (top : ℕ) (same : (j : ℕ) → j < top → wd W' j ≡ wd W j) where
-  pub rep-low : {X : List ℕ} {lo hi : ℕ} {bs : List ℕ} {f : Forest} → 8 * hi ≤ top → RepF W X bs lo hi f → RepF W' X bs lo hi f
-  rep-low h r = rep-keep W W' (λ s o x y z p n. same (8 * s + o) (omega arith)) r
-
-  pub tree-low : {X : List ℕ} {b l m : ℕ} {t : Token} {k : Forest} → 8 * m ≤ top → RepT W X b l m t k → RepT W' X b l m t k
-  tree-low h v = tree-keep W W' (λ s o x y z p n. same (8 * s + o) (omega arith)) v
-
-  pub back-low : {X : List ℕ} {lo hi : ℕ} {ds : List ℕ} {d : Forest} → 8 * hi ≤ top → RepB W X ds lo hi d → RepB W' X ds lo hi d
-  back-low h r = back-keep W W' (λ s o x y z p n. same (8 * s + o) (omega arith)) r
-
--- the token of the innermost ancestor
-pub owner-kept : (W W' : List ℕ) (q : ℕ) (X : List ℕ) (lo hi top : ℕ) {o : Token}
-    → ((j : ℕ) → Free (q ∷ X) lo hi j → j < top → wd W' j ≡ wd W j) → 8 * q + 8 ≤ top
-    → TokenAt W q o → TokenAt W' q o
-owner-kept W W' q X lo hi top same h t = token-keep W W' q (λ i e. same (8 * q + i) (free-own q X lo hi i (omega arith)) (omega arith)) t
 
 -- ---- what the functions keep
 

@@ -1,11 +1,11 @@
 -- Chains of slots and runs of words: what a change of words leaves of them, and how they go on from one another.
-use Prim.Native.Nat.{ℕ, zero, suc, _+_, _*_, _≤_, _<_}
+use Prim.Native.Nat.{ℕ, suc, _+_, _*_, _≤_, _<_}
 use mathlib.Core.Path.{_≡_, refl, sym, _∙_, subst}
 use mathlib.Core.Logic.{_≢_}
 use mathlib.Core.List.{List, [], _∷_, _++_}
 use native.Mathlib.Omega.{arith}
 use native.Mathlib.Nat.{add-zero}
-use lib.ListN.{length, getD, set, length-set}
+use lib.ListN.{length, set, length-set}
 use lib.Seq.{getD-set-same, getD-set-other}
 use Rattle.nodes.specs.Store.{wd, Chain, Seg, SegB, Inc, Out, OffNext, onto}
 
@@ -34,14 +34,6 @@ inc-le (c ∷ cs) h = let r = inc-le cs (h .1) in omega arith
 pub inc-lower : (cs : List ℕ) {lo lo' : ℕ} (hi : ℕ) → lo' ≤ lo → Inc lo hi cs → Inc lo' hi cs
 inc-lower [] hi e h = omega arith
 inc-lower (c ∷ cs) hi e h = (omega arith, h .1)
-
-pub inc-raise : (cs : List ℕ) (lo : ℕ) {hi hi' : ℕ} → hi ≤ hi' → Inc lo hi cs → Inc lo hi' cs
-inc-raise [] lo e h = omega arith
-inc-raise (c ∷ cs) lo e h = (h .0, inc-raise cs (c + 1) e (h .1))
-
-pub inc-long : (cs : List ℕ) (lo hi : ℕ) → Inc lo hi cs → lo + length cs ≤ hi
-inc-long [] lo hi h = omega arith
-inc-long (c ∷ cs) lo hi h = let r = inc-long cs (c + 1) hi (h .1) in omega arith
 
 pub out-below : (cs : List ℕ) (lo hi : ℕ) {s : ℕ} → Inc lo hi cs → s < lo → Out s cs
 out-below [] lo hi h e = tt
@@ -108,13 +100,6 @@ seg-unique W at (c ∷ cs) (d ∷ ds) e p q =
 
 -- ---- a run by its places
 
-pub seg-at : (W : List ℕ) (at : ℕ) (cs : List ℕ) (i : ℕ) → Seg W at cs → i < length cs → wd W (at + i) ≡ getD cs i 0
-seg-at W at [] i p h = absurd (omega arith)
-seg-at W at (c ∷ cs) zero p h = rw add-zero (p .0)
-seg-at W at (c ∷ cs) (suc i) p h =
-    let e : at + suc i ≡ at + 1 + i = omega arith in
-    rw e (seg-at W (at + 1) cs i (p .1) (omega arith))
-
 pub seg-snoc : (W : List ℕ) (at : ℕ) (cs : List ℕ) (c : ℕ) → Seg W at cs → wd W (at + length cs) ≡ c → Seg W at (cs ++ c ∷ [])
 seg-snoc W at [] c p e = (rw add-zero at e, tt)
 seg-snoc W at (x ∷ cs) c p e =
@@ -132,11 +117,6 @@ seg-onto W at [] l p = rw add-zero p
 seg-onto W at (r ∷ rs) l p =
     let e : at + suc (length rs) ≡ at + length rs + 1 = omega arith in
     rw e (seg-onto W at rs (r ∷ l) p .1)
-
--- the part that was read backwards
-pub seg-back : (W : List ℕ) (at : ℕ) (rs l : List ℕ) → Seg W at (onto rs l) → SegB W at rs
-seg-back W at [] l p = tt
-seg-back W at (r ∷ rs) l p = (seg-onto W at rs (r ∷ l) p .0, seg-back W at rs (r ∷ l) p)
 
 pub segB-onto : (W : List ℕ) (base : ℕ) (ds rs : List ℕ) → SegB W base ds → Seg W (base + length ds) rs → Seg W base (onto ds rs)
 segB-onto W base [] rs p q = rw add-zero at q

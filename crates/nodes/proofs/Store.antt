@@ -212,10 +212,6 @@ pub back-raise : {W X ds : List ℕ} {lo hi hi' : ℕ} {d : Forest} → hi ≤ h
 back-raise {lo = lo} {hi' = hi'} e (begins h) = let g : lo ≤ hi' = omega arith in begins g
 back-raise {hi' = hi'} e (put {m = m} r t h) = let g : m ≤ hi' = omega arith in put r t g
 
-pub back-lower : {W X ds : List ℕ} {lo lo' hi : ℕ} {d : Forest} → lo' ≤ lo → RepB W X ds lo hi d → RepB W X ds lo' hi d
-back-lower {lo' = lo'} e (begins {hi = hi} h) = let g : lo' ≤ hi = omega arith in begins g
-back-lower e (put r t h) = put (back-lower e r) t h
-
 pub back-avoid : {W X Y ds : List ℕ} {lo hi : ℕ} {d : Forest} → ((s : ℕ) → lo ≤ s → s < hi → Out s X → Out s Y) → RepB W X ds lo hi d
     → RepB W Y ds lo hi d
 back-avoid h (begins e) = begins e
@@ -231,10 +227,6 @@ pub back-count : {W X ds : List ℕ} {lo hi : ℕ} {d : Forest} → RepB W X ds 
 unfolding count
 back-count (begins e) = refl
 back-count (put r t h) = ap suc (back-count r)
-
-pub back-legal : {W X ds : List ℕ} {lo hi : ℕ} {d : Forest} → RepB W X ds lo hi d → AllLegal d
-back-legal (begins e) = tt
-back-legal (put r t h) = (t .token .legal, rep-legal (t .kids), back-legal r)
 
 pub back-keep : (W W' : List ℕ) {X ds : List ℕ} {lo hi : ℕ} {d : Forest} → Agree W W' X ds lo hi → RepB W X ds lo hi d → RepB W' X ds lo hi d
 back-keep W W' h (begins e) = begins e

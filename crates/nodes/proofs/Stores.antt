@@ -1,6 +1,6 @@
 -- Straight-line code, store by store: the words that `set_leaf`, `attach`, `attach_two` and `push` leave. Each list is the one before with one store.
 use Prim.Native.Nat.{ℕ, zero, suc, _+_, _*_, _≤_, _<_}
-use mathlib.Core.Path.{_≡_, refl, sym, ap, ap₂, _∙_}
+use mathlib.Core.Path.{_≡_, refl, ap, ap₂, _∙_}
 use mathlib.Core.Logic.{_≢_, _⊎_, inl, inr, ⊎-elim}
 use mathlib.Core.Bool.{_||_}
 use mathlib.Core.List.{List, [], _∷_}
@@ -10,7 +10,7 @@ use Rattle.ops.specs.Classes.{bitAt}
 use Rattle.nodes.specs.Store.{wd}
 use Rattle.nodes.specs.Slots.{Laid}
 use Rattle.nodes.specs.Children.{Attached, AttachedTwo}
-use Rattle.nodes.specs.Frames.{FrameAt, Pushed}
+use Rattle.nodes.specs.Frames.{Pushed}
 use Rattle.nodes.specs.declared.frames.List.{List as WorkList}
 use Rattle.nodes.specs.declared.frames.Held.{Held}
 use Rattle.nodes.proofs.Runs.{wd-same, wd-other, set-same, set-other, set-long}
@@ -140,18 +140,3 @@ module _ (W : List ℕ) (l : WorkList) (h : Held) (room : l .base + l .len + 6 �
             ∙ wd-other W top (l .owner) j (⊎-elim (λ x. omega arith) (λ x. omega arith) o);
         long = stored-long Z top 1 vs ∙ long;
       }
-
--- the words say which list it is, and what was held of it
-pub frame-unique : {W : List ℕ} {top : ℕ} {l l' : WorkList} {h h' : Held} → FrameAt W top l h → FrameAt W top l' h' → (l ≡ l') × (h ≡ h')
-frame-unique {l = l} {l' = l'} u v =
-    let base : l .base ≡ l' .base = sym (u .base-word) ∙ v .base-word in
-    let len : l .len ≡ l' .len = omega (arith, u .above, v .above) in (
-      λ i. record {
-        owner = (sym (u .owner-word) ∙ v .owner-word) i;
-        base = base i;
-        len = len i;
-        read = (sym (u .read-word) ∙ v .read-word) i;
-        write = (sym (u .write-word) ∙ v .write-word) i;
-      },
-      λ i. record { first = (sym (u .first-word) ∙ v .first-word) i; second = (sym (u .second-word) ∙ v .second-word) i },
-    )

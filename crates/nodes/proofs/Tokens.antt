@@ -10,7 +10,7 @@ use Rattle.molang.specs.Forest.{Token, renamed, bare}
 use Rattle.molang.specs.Words.{word, lowOf, tokenWords, Legal}
 use Rattle.words.specs.Fields.{operatorOf, withOperator}
 use Rattle.nodes.specs.Store.{wd, TokenAt}
-use Rattle.nodes.specs.Slots.{opAt, startAt, endAt, Laid, Made}
+use Rattle.nodes.specs.Slots.{opAt, startAt, endAt, Made}
 use Rattle.nodes.proofs.Runs.{set-same, set-other}
 
 pub token-keep : (W W' : List ℕ) (b : ℕ) {k : Token} → ((o : ℕ) → o < 5 → wd W' (8 * b + o) ≡ wd W (8 * b + o)) → TokenAt W b k → TokenAt W' b k
@@ -128,11 +128,3 @@ pub token-made : {W W' : List ℕ} {s like o : ℕ} {k : Token} → Made W s o l
 unfolding bare
 token-made {o = o} v h t =
     token-of-words (v .operator-word ∙ bare-word o h) (v .start-word ∙ start-word t) (v .end-word ∙ end-word t) (v .upper-word) (v .lower-word) (legal-bare o h (t .legal))
-
--- `set_leaf` of a token's words lays down that token
-pub token-laid : {W W' : List ℕ} {s n : ℕ} {k : Token} {a b c d e : ℕ} → Laid W s a b c d e n W' → Legal k
-    → a ≡ word 1 (k .variant * 2 ^ 8 + k .op) → b ≡ word 2 (k .start) → c ≡ word 3 (k .end) → d ≡ word 4 (k .value / 2 ^ 16)
-    → e ≡ word 5 (k .value % 2 ^ 16)
-    → TokenAt W' s k
-token-laid v l ea eb ec ed ee =
-    token-of-words (v .operator-word ∙ ea) (v .start-word ∙ eb) (v .end-word ∙ ec) (v .upper-word ∙ ed) (v .lower-word ∙ ee) l

@@ -1,26 +1,25 @@
 -- What the functions do to the words, said of trees: a leaf laid down, a tree put under a node, two trees, a whole list given to its owner or taken
 -- from it; and what the tests of a slot say of its tree.
 use Prim.Native.Nat.{ℕ, _+_, _*_, _≤_, _<_}
-use mathlib.Core.Path.{_≡_, refl, sym, ap, _∙_, subst}
+use mathlib.Core.Path.{_≡_, sym, _∙_, subst}
 use mathlib.Core.Logic.{_≢_, _⊎_, inl, inr, ⊎-elim}
-use mathlib.Core.Bool.{Bool, false, not}
+use mathlib.Core.Bool.{false}
 use mathlib.Core.List.{List, [], _∷_}
 use native.Mathlib.Omega.{arith}
 use native.Mathlib.Nat.{le-refl}
 use borrow.Author.Tests.{eq-eqb, ne-eqb}
-use lib.ListN.{length, set}
-use Rattle.molang.specs.Forest.{Token, Forest, nil, node, renamed, inOrder, count}
+use lib.ListN.{length}
+use Rattle.molang.specs.Forest.{Token, Forest, nil, node, inOrder, count}
 use Rattle.molang.specs.Conditional.{isToken}
 use Rattle.molang.proofs.Trees.{free, isNil}
-use Rattle.ops.specs.Classes.{bitAt, inClass, shares, meets}
-use Rattle.words.specs.Fields.{withOperator}
+use Rattle.ops.specs.Classes.{inClass}
 use Rattle.nodes.specs.Store.{wd, TokenAt, Noted, reserve, Chain, Seg, SegB, Out, OutFrom, onto, RepF, ends, more, RepT, Owned, RepB, InArray, Free}
-use Rattle.nodes.specs.Slots.{opAt, isLeafAt, isTokenAt, Laid}
+use Rattle.nodes.specs.Slots.{opAt, isLeafAt, isTokenAt}
 use Rattle.nodes.specs.Children.{Attached, AttachedTwo, CanTake, Taken, CanGive, Given}
-use Rattle.nodes.proofs.Runs.{set-same, set-other, set-long, off-word, off-out, segB-onto, length-onto}
-use Rattle.nodes.proofs.Tokens.{token-keep, token-op, token-renamed}
-use Rattle.nodes.proofs.Store.{reserve-pos, roots-above, rep-avoid, rep-keep, rep-count, rep-legal, tree-more, tree-legal, tree-below, tree-out, tree-keep, tree-avoid, back-onto}
-use Rattle.nodes.proofs.Classes.{notes-leaf, notes-over, notes-below, notes-more, roots-note, notes-meet}
+use Rattle.nodes.proofs.Runs.{off-word, off-out, segB-onto, length-onto}
+use Rattle.nodes.proofs.Tokens.{token-keep, token-op}
+use Rattle.nodes.proofs.Store.{reserve-pos, roots-above, rep-keep, rep-count, tree-more, tree-below, tree-out, tree-keep, tree-avoid, back-onto}
+use Rattle.nodes.proofs.Classes.{notes-leaf, notes-over, notes-below, notes-more, roots-note}
 
 -- ---- one slot and its interval
 
@@ -28,19 +27,10 @@ use Rattle.nodes.proofs.Classes.{notes-leaf, notes-over, notes-below, n
 pub one-out : (q : ℕ) (X : List ℕ) → Out q X → OutFrom q 1 X
 one-out q X o s a b = let e : q ≡ s = omega arith in subst (λ (x : ℕ). Out x X) e o
 
-pub reserve-node : (o c : Token) (cs r : Forest) → reserve o (node c cs r) ≡ 1
-unfolding reserve
-reserve-node o c cs r = refl
-
 -- what stands beside the slot q can stand below it
 pub tree-under : {W X : List ℕ} (q : ℕ) {b l m : ℕ} {t : Token} {k : Forest} → (q < l) ⊎ (m ≤ q) → RepT W X b l m t k → RepT W (q ∷ X) b l m t k
 tree-under q (inl h) v = tree-avoid (λ s x y o. (omega arith, o)) v
 tree-under q (inr h) v = tree-avoid (λ s x y o. (omega arith, o)) v
-
-pub rep-under : {W X : List ℕ} (q : ℕ) {lo hi : ℕ} {bs : List ℕ} {f : Forest} → (q < lo) ⊎ (hi ≤ q) → RepF W X bs lo hi f
-    → RepF W (q ∷ X) bs lo hi f
-rep-under q (inl h) r = rep-avoid (λ s x y o. (omega arith, o)) r
-rep-under q (inr h) r = rep-avoid (λ s x y o. (omega arith, o)) r
 
 -- ---- leaves
 
@@ -55,36 +45,6 @@ leaf-tree {l = l} {m = m} {t = t} low high pos out token noted none =
 
 pub leaf-first : {W X : List ℕ} {b l m : ℕ} {t : Token} → RepT W X b l m t nil → wd W (8 * b + 5) ≡ 0
 leaf-first v = first-none (v .chain) (v .kids)
-
--- a leaf needs no more than the slots that it keeps
-pub leaf-narrow : {W X : List ℕ} {b l m : ℕ} {t : Token} → RepT W X b l m t nil → RepT W X b b (b + reserve t nil) t nil
-leaf-narrow {b = b} {t = t} v = leaf-tree (le-refl b) (le-refl (b + reserve t nil)) (v .pos) (v .out) (v .token) (v .noted) (leaf-first v)
-
--- a slot laid down from a token's words is that token's leaf
-pub laid-leaf : {W W' X : List ℕ} {s n l m : ℕ} {k : Token} {a b c d e : ℕ} → Laid W s a b c d e n W' → TokenAt W' s k
-    → ((i : ℕ) → i < 32 → bitAt n i ≡ inClass i (k .op)) → l ≤ s → s + reserve k nil ≤ m → 0 < s → OutFrom s (reserve k nil) X
-    → RepT W' X s l m k nil
-laid-leaf v token bits low high pos out = leaf-tree low high pos out token (notes-leaf (λ i h. ap (λ (x : ℕ). bitAt x i) (v .classes) ∙ bits i h)) (v .first)
-
--- a leaf under another operator, its classes noted anew; it keeps no more slots than it did
-pub leaf-renamed : {W W1 W2 X : List ℕ} {b l m : ℕ} {t : Token} (o w : ℕ) → W1 ≡ set W (8 * b) (withOperator (wd W (8 * b)) o)
-    → W2 ≡ set W1 (8 * b + 7) w
-    → 8 * b + 8 ≤ length W → o ≤ 110 → ((i : ℕ) → i < 32 → bitAt w i ≡ inClass i o) → reserve (renamed o t) nil ≤ reserve t nil
-    → RepT W X b l m t nil → RepT W2 X b l m (renamed o t) nil
-unfolding renamed
-leaf-renamed {W} {W1} {W2} {b = b} {t = t} o w e1 e2 room h bits fits v =
-    let long = set-long W W1 (8 * b) (withOperator (wd W (8 * b)) o) e1 in
-    let other = set-other W1 W2 (8 * b + 7) w e2 in
-    let word = set-same W1 W2 (8 * b + 7) w e2 (omega arith) in
-    let token = token-renamed W W1 b o e1 room h (v .token) in
-    leaf-tree
-    (v .low)
-    (omega (arith, v .high))
-    (v .pos)
-    (λ s x y. v .out s x (omega arith))
-    (token-keep W1 W2 b (λ i z. other (8 * b + i) (omega arith)) token)
-    (notes-leaf (λ i z. ap (λ (x : ℕ). bitAt x i) word ∙ bits i z))
-    (other (8 * b + 5) (omega arith) ∙ set-other W W1 (8 * b) (withOperator (wd W (8 * b)) o) e1 (8 * b + 5) (omega arith) ∙ leaf-first v)
 
 -- ---- a tree under a node
 
@@ -145,41 +105,7 @@ module _ {W W' X : List ℕ} {q b c lo l m l' m' hi : ℕ} {t u : Token} {k j : 
       (f c 6 (omega arith) (omega arith) (omega arith) (tree-out x .1))
       (f q 7 low high (omega arith) out)
 
--- ---- siblings under one of them
-
--- an operator takes the tree after it
-pub prefix-tree : {W W' X : List ℕ} {q b l m l' m' : ℕ} {o t : Token} {j k : Forest} → Attached W q b W' → RepT W X q l m o j
-    → RepT W X b l' m' t k → m ≤ l'
-    → RepT W' X q l m' o (node t k nil)
-prefix-tree {q = q} {l = l} {l' = l'} w p v e =
-    let ql = p .low in let qh = tree-below p in let bl = v .low in let bh = tree-below v in
-    let low : l ≤ l' = omega arith in
-    attach-tree w (tree-under q (inl (omega arith)) v) (p .token) (p .pos) (tree-out p) ql (omega arith) low (omega arith)
-
--- an operator takes the tree before it
-pub postfix-tree : {W W' X : List ℕ} {q b l m l' m' : ℕ} {o t : Token} {j k : Forest} → Attached W q b W' → RepT W X b l m t k
-    → RepT W X q l' m' o j → m ≤ l'
-    → RepT W' X q l m' o (node t k nil)
-postfix-tree {q = q} {l = l} w v p e =
-    let ql = p .low in let qh = tree-below p in let bl = v .low in let bh = tree-below v in
-    attach-tree w (tree-under q (inr (omega arith)) v) (p .token) (p .pos) (tree-out p) (omega arith) qh (le-refl l) (omega arith)
-
--- an operator takes the trees before and after it
-pub infix-tree : {W W' X : List ℕ} {b q c l m l' m' l'' m'' : ℕ} {o t u : Token} {i k j : Forest}
-    → AttachedTwo W q b c W' → RepT W X b l m t k → RepT W X q l' m' o i → RepT W X c l'' m'' u j → m ≤ l' → m' ≤ l''
-    → RepT W' X q l m'' o (node t k (node u j nil))
-infix-tree {q = q} {l = l} {m'' = m''} w v p x e f =
-    let ql = p .low in let qh = tree-below p in let bl = v .low in let bh = tree-below v in let cl = x .low in let ch = tree-below x in
-    attach-two-trees w (tree-under q (inr (omega arith)) v) (tree-under q (inl (omega arith)) x) (omega arith) (p .token) (p .pos) (tree-out p)
-    (omega arith) (omega arith) (le-refl l) (le-refl m'')
-
 -- ---- a list given to its owner
-
-pub can-give : {W X : List ℕ} {q from lo hi : ℕ} {bs : List ℕ} {f : Forest} → RepF W X bs lo hi f → Seg W from bs → q < hi → 8 * hi ≤ from
-    → from + length bs ≤ length W
-    → CanGive W q from (length bs)
-can-give {hi = hi} {bs = bs} r g own below room =
-    record { hi = hi; cs = bs; seg = g; count = refl; inc = roots-above r (omega arith); own = own; below = below; room = room }
 
 module _ {W W' X : List ℕ} {q from n lo hi : ℕ} {bs : List ℕ} {f : Forest} (w : Given W q from n W') (g : Seg W from bs) (e : length bs ≡ n) (r : RepF W (q ∷ X) bs lo hi f) where
   pub give-owned : Owned W' X q lo hi f
@@ -275,12 +201,3 @@ pub token-test : {W X : List ℕ} {b l m : ℕ} {t : Token} (p : ℕ) (k : Fores
 unfolding isToken isNil
 token-test p nil v = rw (leaf-test nil v, tree-op v)
 token-test p (node c cs r) v = rw (leaf-test (node c cs r) v)
-
--- a test of a slot's classes is a test of the leaves of its tree
-pub tree-meets : {W X : List ℕ} {b l m : ℕ} {t : Token} {k : Forest} (c : ℕ) (P : ℕ → Bool) → ((n : ℕ) → n ≤ 110 → meets c n ≡ P n)
-    → RepT W X b l m t k → shares (wd W (8 * b + 7)) c ≡ not (free P (node t k nil))
-tree-meets c P h v = notes-meet c P h (v .noted) (tree-legal v)
-
-pub owned-meets : {W X : List ℕ} {q lo hi : ℕ} {f : Forest} (c : ℕ) (P : ℕ → Bool) → ((n : ℕ) → n ≤ 110 → meets c n ≡ P n)
-    → Owned W X q lo hi f → shares (wd W (8 * q + 7)) c ≡ not (free P f)
-owned-meets c P h v = notes-meet c P h (v .notes) (rep-legal (v .kids))

@@ -22,7 +22,7 @@ pub fn slot_of(i: u32) -> u32
     3 * i + 3
 }
 
-// The first spare slot after s: the `-` of a binary minus, the statement list of an opener.
+// The first spare slot after s: after a binary minus its new node, after a semicolon that ends a statement the open one behind it.
 pub fn spare(s: u32) -> u32
     requires { ⌜ s + 1 < 2 ^ 32 ⌝ }
     ensures { λ r. ⌜ r ≡ s + 1 ⌝ }
@@ -30,7 +30,7 @@ pub fn spare(s: u32) -> u32
     s + 1
 }
 
-// The second spare slot after s: the statement that comes after an opener or a semicolon.
+// The second spare slot after s: after the semicolon that ends a list's first statement the node of the statement list.
 pub fn second_spare(s: u32) -> u32
     requires { ⌜ s + 2 < 2 ^ 32 ⌝ }
     ensures { λ r. ⌜ r ≡ s + 2 ⌝ }

@@ -1,19 +1,17 @@
 -- The array pass as laws: what the trees between array names change, and what the pass makes of a name, of its next index and of a bare name at the end
 -- of an array's contents.
-use Prim.Native.Nat.{ℕ}
 use mathlib.Core.Path.{_≡_, refl, sym, ap, _∙_}
 use mathlib.Core.Bool.{Bool, true, false, true≢false}
 use mathlib.Core.List.{List, [], _∷_}
-use lib.Dec.{eqb}
-use Rattle.molang.specs.Operator.{isOneOf, any, array, arrayVariable}
-use Rattle.molang.specs.Forest.{Token, Forest, nil, node, renamed, turnedOnto}
+use Rattle.molang.specs.Operator.{isOneOf, any, array}
+use Rattle.molang.specs.Forest.{Token, Forest, nil, node, renamed}
 use Rattle.molang.specs.Message.{Message, emptyArrayIndex, Result, ok, fail}
 use Rattle.molang.specs.Level.{on, into, stop, walk, through}
 use Rattle.molang.specs.Order.{someBelow}
 use Rattle.molang.specs.Calls.{Indexing, unindexed, named, indexed, flushed, isIndex, startsWithIndex, emptyIndex, nextIndex, index, arrayStep, arrayResume, arrayFinish, arrayLevel}
 use Rattle.molang.proofs.Trees.{free, isNil, free-leaf, free-tree}
 use Rattle.molang.proofs.Arrays.{isArrayName, array-free}
-use Rattle.molang.proofs.Work.{arrays, work, begins, inReading, takes, andThen}
+use Rattle.molang.proofs.Work.{arrays, work, inReading, takes, andThen}
 use Rattle.molang.proofs.Walks.{onward, back, walk-onward}
 use Rattle.ops.proofs.ClassLaws.{stands-for}
 use Rattle.ops.specs.Classes.{meets, bitAt, inClass, passClasses}

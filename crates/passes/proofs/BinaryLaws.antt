@@ -1,7 +1,7 @@
 -- The binary levels: an operator takes the last done tree and the next one as its children.
-use Prim.Native.Nat.{ℕ, suc, _+_, _*_, _-_, _^_, _≤_, _<_}
+use Prim.Native.Nat.{ℕ, _+_, _*_, _-_, _^_, _≤_, _<_}
 use mathlib.Core.Path.{_≡_, refl, sym, ap, _∙_, subst}
-use mathlib.Core.Logic.{_≢_, _⊎_, inl, inr, ⊎-elim}
+use mathlib.Core.Logic.{_≢_, inl, inr, ⊎-elim}
 use mathlib.Core.Bool.{Bool, true, false, not, true≢false}
 use mathlib.Core.List.{List, [], _∷_}
 use mathlib.Core.Option.{Option, none, some}
@@ -9,9 +9,9 @@ use native.Mathlib.Omega.{arith}
 use native.Mathlib.Nat.{le-refl}
 use lib.ListN.{length, set}
 use Rattle.molang.specs.Operator.{isOneOf}
-use Rattle.molang.specs.Forest.{Token, Forest, nil, node, turnedOnto, inOrder, count, size}
+use Rattle.molang.specs.Forest.{Token, Forest, nil, node, count, size}
 use Rattle.molang.specs.Message.{binaryAtEnd, Result, ok, fail}
-use Rattle.molang.specs.Level.{Level, on, into, walk, through, Gathered, gathered, waiting, nothing}
+use Rattle.molang.specs.Level.{on, walk, through, Gathered, gathered, waiting, nothing}
 use Rattle.molang.specs.Binary.{firstLeaf, unfolded, joined, operatorAfter, binaryStep, binaryResume, binaryFinish, binaryLevel}
 use Rattle.molang.proofs.Trees.{some-none, free, clear, isNil, free-leaf, leaf-clear, clear-leaf, clear-rest, clear-tree}
 use Rattle.molang.proofs.Binary.{binary-free}
@@ -20,26 +20,24 @@ use Rattle.molang.proofs.Work.{Kind, binary, State, work, begins, inReading, ta
 use Rattle.ops.specs.Classes.{shares}
 use Rattle.ops.specs.declared.classes.TokenClasses.{TokenClasses}
 use Rattle.nodes.specs.Store.{wd, SegB, RepT, RepB, begins as starts, put}
-use Rattle.nodes.specs.Children.{AttachedTwo}
 use Rattle.nodes.specs.declared.frames.List.{List as Items}
 use Rattle.nodes.proofs.Runs.{set-same, set-other, set-long}
-use Rattle.nodes.proofs.Store.{tree-below, tree-out, tree-keep, back-le}
+use Rattle.nodes.proofs.Store.{tree-below, tree-out, back-le}
 use Rattle.nodes.proofs.Trees.{tree-under, attach-two-trees, attach-two-kept}
-use Rattle.walks.specs.Passes.{walkOf, movedTo, classesOf, Exact, Runs, level, waits}
+use Rattle.walks.specs.Passes.{walkOf, movedTo, Exact, Runs, level, waits}
 use Rattle.walks.specs.Items.{BackArray, Ahead, Passed, here, over, innerAt}
-use Rattle.walks.specs.Sides.{LevelSide, all, operator, Sides, Holds, Waits}
-use Rattle.walks.specs.Turns.{SameList, CanTurn, CanResume, Resumed, Within, lentOf, afresh, TurnTo, goes, enters, fails}
+use Rattle.walks.specs.Sides.{LevelSide, all, operator, Holds, Waits}
+use Rattle.walks.specs.Turns.{CanResume, Resumed, Within, afresh, TurnTo, goes, enters, fails}
 use Rattle.walks.specs.Failures
 use Rattle.walks.specs.Failures.{Tells}
 use Rattle.walks.specs.declared.failure.Failure.the-variants.{BinaryAtEnd}
-use Rattle.walks.specs.declared.turns.Pass.{Pass}
 use Rattle.walks.specs.declared.turns.Pass.the-variants.{Binary}
 use Rattle.walks.specs.declared.turns.Turn.{Turn}
 use Rattle.walks.specs.declared.turns.Turn.the-variants.{On, Enter, Fail}
-use Rattle.walks.proofs.Reading.{SameSlots, SameWords, back-array-keep, array-keep, ahead-keep, ahead-le, ahead-end, array-put, AheadTo, item, ahead-item, inner-tree, tree-free, tree-unfree, free-tree-below, unfree-leaf}
-use Rattle.passes.specs.TokenTurns.{AtItem, AtToken, TokenTurned, LevelTurned}
-use Rattle.passes.specs.BinaryTurns.{leftOf, CanFold, Folded, CanSearch, IsFirst, LeafFound, CanOperate, Operated, opens, folds}
-use Rattle.passes.proofs.GatherLaws.{token-room, next-room, Skips, walk-node, walk-passed, LeftLevel, item-bounds, item-holds, item-waits, kept-within, within-then, Stands, Standing}
+use Rattle.walks.proofs.Reading.{back-array-keep, ahead-keep, ahead-le, ahead-end, array-put, AheadTo, item, ahead-item, inner-tree, tree-free, free-tree-below}
+use Rattle.passes.specs.TokenTurns.{AtItem, AtToken, LevelTurned}
+use Rattle.passes.specs.BinaryTurns.{leftOf, CanFold, Folded, CanSearch, LeafFound, CanOperate, Operated, opens, folds}
+use Rattle.passes.proofs.GatherLaws.{next-room, Skips, walk-node, walk-passed, LeftLevel, item-bounds, item-holds, kept-within, Stands, Standing}
 
 -- ---- the level
 

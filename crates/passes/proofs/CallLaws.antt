@@ -13,7 +13,7 @@ use Rattle.molang.specs.Operator.{leftParenthesis, isBracket, isOneOf, any as a
 use Rattle.molang.specs.Order.{someBelow}
 use Rattle.molang.specs.Forest.{Token, Forest, nil, node, turnedOnto, inOrder, count, size}
 use Rattle.molang.specs.Message.{mathAtEnd, mathWithoutParenthesis, emptyParameterList, Result, ok, fail}
-use Rattle.molang.specs.Level.{Level, on, into, walk, through, Gathered, gathered, waiting, nothing}
+use Rattle.molang.specs.Level.{on, into, walk, through, Gathered, gathered, waiting, nothing}
 use Rattle.molang.specs.Calls.{CallKind, queryOrLoop, math, calls as isCall, callLeaf, callStep, callResume, callFinish, callLevel}
 use Rattle.molang.proofs.Trees.{free, isNil}
 use Rattle.molang.proofs.Calls.{call-free}
@@ -29,7 +29,7 @@ use Rattle.nodes.proofs.Trees.{leaf-test}
 use Rattle.walks.specs.Passes.{walkOf, movedTo, classesOf, Exact, Runs, call, mathCall, waits}
 use Rattle.walks.specs.Items.{Ahead, CanPeek, nextIf}
 use Rattle.walks.specs.Sides.{GatherSide, all, Holds, AtTurn, InFrame}
-use Rattle.walks.specs.Turns.{CanTurn, Within, lentOf, afresh, TurnTo, goes, enters, fails}
+use Rattle.walks.specs.Turns.{Within, lentOf, afresh, TurnTo, goes, enters, fails}
 use Rattle.walks.specs.Failures
 use Rattle.walks.specs.Failures.{Tells}
 use Rattle.walks.specs.declared.failure.Failure.the-variants.{EmptyParameterList, MathAtEnd, MathWithoutParenthesis}
@@ -38,9 +38,9 @@ use Rattle.walks.specs.declared.turns.Pass.the-variants.{Calls, Maths}
 use Rattle.walks.specs.declared.turns.Turn.{Turn}
 use Rattle.walks.specs.declared.turns.Turn.the-variants.{On, Enter, Fail}
 use Rattle.walks.proofs.Reading.{can-peek, unfree-leaf, tree-free, tree-unfree, unfree-tree, free-tree-below, NextTo, ended, differs, found, next-to}
-use Rattle.passes.specs.TokenTurns.{AtItem, AtToken, TokenTurned, any, CallTurned}
+use Rattle.passes.specs.TokenTurns.{AtItem, AtToken, any, CallTurned}
 use Rattle.passes.specs.CallTurns.{CanCall, Called, opens, stays}
-use Rattle.passes.proofs.GatherLaws.{token-room, next-room, Skips, walk-node, walk-passed, LeftLevel, item-bounds, item-holds, item-waits, kept-within, Attaching, attached, item-attached, within-then, Stands, Standing}
+use Rattle.passes.proofs.GatherLaws.{token-room, next-room, Skips, walk-node, walk-passed, LeftLevel, item-holds, item-waits, kept-within, Attaching, attached, item-attached, within-then, Stands, Standing}
 
 -- ---- the level
 

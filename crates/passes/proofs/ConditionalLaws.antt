@@ -26,12 +26,11 @@ use Rattle.nodes.proofs.Trees.{leaf-test}
 use Rattle.walks.specs.Passes.{walkOf, movedTo, Exact, Runs, tern, waits}
 use Rattle.walks.specs.Items.{BackArray, Ahead}
 use Rattle.walks.specs.Sides.{tokensIn, TernarySide, all, Sides}
-use Rattle.walks.specs.Turns.{CanTurn, afresh}
+use Rattle.walks.specs.Turns.{CanTurn, afresh, TurnTo, enters, ends, Turned}
 use Rattle.walks.specs.declared.turns.Pass.the-variants.{Ternary}
 use Rattle.walks.specs.declared.turns.Turn.{Turn}
 use Rattle.walks.specs.declared.turns.Turn.the-variants.{Enter, Over}
 use Rattle.walks.proofs.Reading.{AheadTo, item, ahead-item, ahead-end, ahead-le, array-put, tree-free, tree-unfree, unfree-leaf}
-use Rattle.walks.specs.Turns.{TurnTo, enters, ends, Turned}
 
 -- ---- one item
 

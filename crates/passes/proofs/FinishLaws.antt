@@ -1,8 +1,8 @@
 -- The end of a split list: the statement that is open takes its items, and the list's node all statements.
-use Prim.Native.Nat.{ℕ, zero, suc, _+_, _*_, _-_, _^_, _≤_, _<_}
+use Prim.Native.Nat.{ℕ, _+_, _*_, _-_, _^_, _≤_, _<_}
 use mathlib.Core.Path.{_≡_, refl, sym, ap, _∙_, subst}
 use mathlib.Core.Logic.{_≢_, _⊎_, inl, inr, ⊎-elim}
-use mathlib.Core.Bool.{Bool, true, false, true≢false}
+use mathlib.Core.Bool.{false, true≢false}
 use mathlib.Core.List.{List, [], _∷_}
 use native.Mathlib.Omega.{arith}
 use native.Mathlib.Nat.{le-refl}
@@ -11,20 +11,20 @@ use Rattle.molang.specs.Operator.{semicolon}
 use Rattle.molang.specs.Forest.{Token, Forest, nil, node, bare, inOrder, count}
 use Rattle.molang.specs.Message.{ok}
 use Rattle.molang.specs.Level.{walk}
-use Rattle.molang.specs.Statements.{Split, unsplit, after, inside, splitOf, statementFinish, statementLevel}
+use Rattle.molang.specs.Statements.{unsplit, after, inside, splitOf, statementFinish, statementLevel}
 use Rattle.molang.proofs.Trees.{isNil}
 use Rattle.molang.proofs.Work.{Kind, statements, State, work}
-use Rattle.nodes.specs.Store.{wd, TokenAt, Seg, SegB, Out, OutFrom, RepF, ends as ends-at, RepT, RepB, begins as begins-with, put, InArray, Owned, Free}
+use Rattle.nodes.specs.Store.{wd, TokenAt, SegB, OutFrom, ends as ends-at, RepT, RepB, begins as begins-with, put, InArray, Owned, Free}
 use Rattle.nodes.specs.Children.{CanGive, Given}
 use Rattle.nodes.specs.declared.frames.List.{List as Items}
 use Rattle.nodes.proofs.Runs.{segB-keep, set-same, set-other, set-long}
 use Rattle.nodes.proofs.Tokens.{token-keep}
-use Rattle.nodes.proofs.Store.{rep-raise, tree-more, tree-keep, tree-below, back-le, back-raise, back-avoid, back-keep, back-count}
+use Rattle.nodes.proofs.Store.{rep-raise, tree-more, tree-keep, back-le, back-raise, back-avoid, back-keep, back-count}
 use Rattle.nodes.proofs.Keeping.{free-beside, free-above, free-part, give-kept}
 use Rattle.nodes.proofs.Trees.{tree-under, array-give, gathered-array, give-owned, give-token, owned-tree}
 use Rattle.walks.specs.Passes.{walkOf}
-use Rattle.walks.specs.Items.{BackArray, Ahead}
-use Rattle.walks.specs.Sides.{EndedAt, Ended, nothing, statement, Holds}
+use Rattle.walks.specs.Items.{BackArray}
+use Rattle.walks.specs.Sides.{EndedAt, Ended, nothing, statement}
 use Rattle.walks.specs.Turns.{Within, CanFinish, FinishTo, gives, Ends}
 use Rattle.walks.specs.declared.turns.Pass.the-variants.{Split as SplitAt}
 use Rattle.walks.specs.declared.turns.Finished.the-variants.{At}
@@ -32,8 +32,8 @@ use Rattle.walks.proofs.Reading.{ahead-le}
 use Rattle.passes.specs.Statements.{Grouped, CanClose, ClosedTo, complete, closing}
 use Rattle.passes.proofs.StatementLaws.{earliest, openOn}
 use Rattle.passes.proofs.GroupLaws.{in-order, order-first, TurnedFirst, grouped-tree, grouped-same, grouped-place, grouped-long}
-use Rattle.passes.proofs.SplitLaws.{ended-le, ended-first, FirstEnded, Pending, SplitView, splits, split-view, open-items}
-use Rattle.passes.proofs.SemicolonLaws.{back-nil, ended-nil, beside-slot}
+use Rattle.passes.proofs.SplitLaws.{ended-first, FirstEnded, Pending, SplitView, splits, split-view, open-items}
+use Rattle.passes.proofs.SemicolonLaws.{back-nil, beside-slot}
 
 -- ---- the finished statements beside the list's node
 

@@ -2,34 +2,33 @@
 -- token of the level, which changes nothing of the level's result; then it ends, enters a node, or comes to a token, whose turn is the level's own.
 use Prim.Native.Nat.{ℕ, _+_, _*_, _^_, _≤_, _<_}
 use mathlib.Core.Path.{_≡_, refl, sym, ap, _∙_, subst}
-use mathlib.Core.Logic.{_≢_, _⊎_, inl, inr, ⊎-elim}
-use mathlib.Core.Bool.{Bool, true, false, true≢false}
-use mathlib.Core.List.{List, [], _∷_}
+use mathlib.Core.Logic.{_≢_, inl, inr, ⊎-elim}
+use mathlib.Core.Bool.{Bool, true, false}
+use mathlib.Core.List.{List}
 use native.Mathlib.Omega.{arith}
 use native.Mathlib.Nat.{le-refl}
 use lib.ListN.{length, set}
 use Rattle.molang.specs.Forest.{Token, Forest, nil, node, count, size}
 use Rattle.molang.specs.Message.{Result, ok, fail}
-use Rattle.molang.specs.Level.{Level, Step, on, into, stop, walk, through, Gathered, gathered}
+use Rattle.molang.specs.Level.{Level, on, into, walk, through, Gathered, gathered}
 use Rattle.molang.proofs.Trees.{free, isNil, count-size, free-leaf, free-tree}
 use Rattle.molang.proofs.Work.{Kind, State, work, begins, inReading, takes, andThen}
-use Rattle.nodes.specs.Store.{wd, RepF, RepT, Kept, Free}
+use Rattle.nodes.specs.Store.{wd, RepT}
 use Rattle.nodes.specs.Children.{Attached}
 use Rattle.nodes.specs.declared.frames.List.{List as Items}
 use Rattle.nodes.proofs.Runs.{set-same, set-other, set-long}
-use Rattle.nodes.proofs.Store.{rep-le, tree-below, tree-out, tree-keep, tree-widen, back-le, back-raise}
-use Rattle.nodes.proofs.Keeping.{free-above, kept-then}
+use Rattle.nodes.proofs.Store.{tree-below, tree-out, back-le, back-raise}
 use Rattle.nodes.proofs.Trees.{tree-under, attach-tree, attach-kept}
-use Rattle.walks.specs.Passes.{walkOf, movedTo, classesOf, Exact, Runs, waits}
+use Rattle.walks.specs.Passes.{walkOf, movedTo, classesOf, Exact, waits}
 use Rattle.walks.specs.Items.{BackArray, Ahead, CanSeek, Passed, here, over, Seen, SoughtTo, none, leaf, tree, Sought}
 use Rattle.walks.specs.Sides.{Sides, Holds, Waits, AtTurn, InFrame}
-use Rattle.walks.specs.Turns.{SameList, Within, CanTurn, lentOf, Begins, afresh, TurnTo, goes, enters, ends, fails, Turned}
+use Rattle.walks.specs.Turns.{SameList, Within, CanTurn, lentOf, afresh, TurnTo, goes, enters, ends, fails, Turned}
 use Rattle.walks.specs.declared.items.Found.{Found}
 use Rattle.walks.specs.declared.items.Found.the-variants.{Nothing, Children, Token as Leaf}
 use Rattle.walks.specs.declared.turns.Pass.{Pass}
 use Rattle.walks.specs.declared.turns.Walk.{Walk}
 use Rattle.walks.specs.declared.turns.Turn.{Turn}
-use Rattle.walks.specs.declared.turns.Turn.the-variants.{On, Enter, Over, Fail}
+use Rattle.walks.specs.declared.turns.Turn.the-variants.{Enter, Over}
 use Rattle.walks.proofs.Reading.{can-peek, back-array-keep, AheadTo, item, ahead-item, ahead-keep, ahead-le, array-put}
 use Rattle.passes.specs.TokenTurns.{AtItem, AtToken, TokenTurned}
 

@@ -1,15 +1,14 @@
 -- A statement's words, said of trees: the items from some place on stand under a new node in a slot of its own, with the span of the first of them.
-use Prim.Native.Nat.{ℕ, zero, suc, _+_, _*_, _^_, _≤_, _<_}
-use mathlib.Core.Path.{_≡_, refl, sym, ap, _∙_, subst}
+use Prim.Native.Nat.{ℕ, _+_, _*_, _≤_, _<_}
+use mathlib.Core.Path.{_≡_, refl, sym, _∙_, subst}
 use mathlib.Core.Logic.{_≢_, _⊎_, inl, inr, ⊎-elim}
-use mathlib.Core.Bool.{Bool, true, false}
-use mathlib.Core.List.{List, [], _∷_}
+use mathlib.Core.List.{List, _∷_}
 use native.Mathlib.Omega.{arith}
-use lib.ListN.{length, set}
+use lib.ListN.{length}
 use Rattle.molang.specs.Operator.{semicolon}
 use Rattle.molang.specs.Forest.{Token, Forest, nil, node, bare, inOrder, turnedOnto}
-use Rattle.nodes.specs.Store.{wd, TokenAt, Seg, Out, RepF, ends, more, RepT, RepB, Owned, InArray, Free}
-use Rattle.nodes.proofs.Runs.{seg-keep, set-same, set-other, set-long, off-above}
+use Rattle.nodes.specs.Store.{wd, TokenAt, Seg, Out, RepF, more, RepT, Owned, InArray, Free}
+use Rattle.nodes.proofs.Runs.{seg-keep, set-same, set-other, set-long}
 use Rattle.nodes.proofs.Tokens.{token-made}
 use Rattle.nodes.proofs.Store.{rep-keep, rep-avoid, rep-raise, rep-lower, tree-keep}
 use Rattle.nodes.proofs.Keeping.{roots-off}

@@ -1,48 +1,43 @@
 -- A minus or a not takes its operand: what `prefix`, `to_add` and `subtract` do to the words, said of the list's trees, and the turn that each path of
 -- `token` and `minus` is.
 use Rattle.words.specs.Fields.{withOperator}
-use Prim.Native.Nat.{ℕ, zero, suc, _+_, _*_, _-_, _^_, _≤_, _<_}
+use Prim.Native.Nat.{ℕ, _+_, _*_, _-_, _^_, _≤_, _<_}
 use mathlib.Core.Path.{_≡_, refl, sym, ap, _∙_, subst}
 use mathlib.Core.Logic.{_≢_, _⊎_, inl, inr, ⊎-elim}
-use mathlib.Core.Bool.{Bool, true, false, true≢false}
+use mathlib.Core.Bool.{true, false, true≢false}
 use mathlib.Core.List.{List, [], _∷_}
 use native.Mathlib.Omega.{arith}
 use native.Mathlib.Nat.{le-refl}
-use native.Mathlib.Decide.{ℕ-discrete}
 use lib.ListN.{length, set}
-use lib.Dec.{T, eqb}
 use borrow.Author.Tests.{eq-eqb}
 use Rattle.molang.specs.Operator
-use Rattle.molang.specs.Operator.{BeforeMinus, operand, operator, minus, unknown, beforeMinus, any, isOneOf, isQueryOrLoop, isMathCall}
+use Rattle.molang.specs.Operator.{operand, operator, minus, unknown, beforeMinus, any, isOneOf, isQueryOrLoop, isMathCall}
 use Rattle.molang.specs.Forest.{Token, Forest, nil, node, renamed, bare, count, size}
-use Rattle.molang.specs.Message.{Message, fail, negateWithoutOperand, notWithoutOperand, unknownOperation}
-use Rattle.molang.proofs.Trees.{free, isNil}
-use Rattle.molang.proofs.Unary.{isPrefix}
+use Rattle.molang.specs.Message.{fail, negateWithoutOperand, notWithoutOperand, unknownOperation}
+use Rattle.molang.proofs.Trees.{isNil}
 use Rattle.molang.proofs.Work.{right, unaries, work, fromRight}
 use Rattle.ops.specs.Classes.{passClasses, ownClasses, inClass, bitAt}
 use Rattle.ops.specs.Operators.{meant}
 use Rattle.ops.specs.declared.BeforeMinus.{BeforeMinus as Before}
 use Rattle.ops.proofs.OperatorLaws.{agree-at}
-use Rattle.nodes.specs.Store.{wd, TokenAt, Notes, Noted, reserve, Out, OutFrom, RepT, Free, Kept}
+use Rattle.nodes.specs.Store.{wd, TokenAt, reserve, Out, RepT, Free}
 use Rattle.nodes.specs.Slots.{opAt, isLeafAt, Made}
 use Rattle.nodes.specs.declared.frames.List.{List as Items}
 use Rattle.nodes.proofs.Runs.{set-same, set-other, set-long}
 use Rattle.nodes.proofs.Tokens.{token-keep, token-renamed, token-made}
-use Rattle.nodes.proofs.Store.{reserve-pos, reserve-minus, noted-keep, tree-below, tree-out, tree-keep, tree-widen, back-le, back-raise, own-out, rep-keep, links-keep}
+use Rattle.nodes.proofs.Store.{reserve-minus, noted-keep, tree-below, tree-out, tree-keep, back-le, rep-keep, links-keep}
 use Rattle.nodes.proofs.Classes.{notes-leaf, notes-over, notes-below}
 use Rattle.nodes.proofs.Trees.{one-out, tree-under, leaf-tree, leaf-first, attach-tree, attach-kept, leaf-test, tree-op}
-use Rattle.nodes.proofs.Keeping.{laid-kept, free-above}
+use Rattle.nodes.proofs.Keeping.{laid-kept}
 use Rattle.walks.specs.Passes.{walkOf, movedTo, waits}
 use Rattle.walks.specs.Items.{BackArray, Ahead}
 use Rattle.walks.specs.Failures
-use Rattle.walks.specs.Failures.{Tells}
-use Rattle.walks.specs.Turns.{SameList, Within, turnsLeft}
+use Rattle.walks.specs.Turns.{SameList, Within, TurnTo, goes, fails}
 use Rattle.walks.specs.declared.failure.Failure.the-variants.{NegateWithoutOperand, NotWithoutOperand, UnknownOperation}
 use Rattle.walks.specs.declared.turns.Pass.the-variants.{Unary}
 use Rattle.walks.specs.declared.turns.Turn.{Turn}
 use Rattle.walks.specs.declared.turns.Turn.the-variants.{On, Fail}
 use Rattle.walks.proofs.Reading.{AheadTo, item, ahead-item, ahead-end, array-put, back-array-keep, ahead-keep, ahead-le}
-use Rattle.walks.specs.Turns.{TurnTo, goes, enters, ends, fails}
 use Rattle.passes.specs.UnaryTurns.{RightList, CanTakeToken, CanTakeMinus, TokenTaken, CanPrefix, Prefixed, Added, CanSubtract, Subtracted}
 use Rattle.passes.proofs.UnaryLaws.{minus-alone, minus-first, minus-operator, minus-operand, minus-minus, minus-unknown, not-alone, not-takes}
 use Rattle.passes.proofs.RightLaws.{LastUnread, last, unread-last, unread-none, ahead-cons, right-holds}

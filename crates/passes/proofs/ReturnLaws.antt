@@ -1,13 +1,13 @@
 -- `return`: it takes the next tree, as it is, as its child.
-use Prim.Native.Nat.{ℕ, _+_, _*_, _^_, _≤_, _<_}
-use mathlib.Core.Path.{_≡_, refl, sym, ap, _∙_, subst}
+use Prim.Native.Nat.{ℕ, _+_, _*_, _≤_, _<_}
+use mathlib.Core.Path.{_≡_, refl, ap, _∙_}
 use mathlib.Core.Bool.{Bool, true, false, true≢false}
 use mathlib.Core.List.{List, [], _∷_}
 use native.Mathlib.Omega.{arith}
 use lib.ListN.{length, set}
 use Rattle.molang.specs.Forest.{Token, Forest, nil, node, count, size}
-use Rattle.molang.specs.Message.{unaryWithoutOperand, Result, ok, fail}
-use Rattle.molang.specs.Level.{Level, on, walk, through, Gathered, gathered, waiting, nothing}
+use Rattle.molang.specs.Message.{unaryWithoutOperand, fail}
+use Rattle.molang.specs.Level.{on, walk, through, Gathered, gathered, waiting, nothing}
 use Rattle.molang.specs.Unary.{returnStep, returnResume, returnFinish, returnLevel}
 use Rattle.molang.proofs.Trees.{isNil}
 use Rattle.molang.proofs.Return.{isReturn, return-free}
@@ -21,8 +21,7 @@ use Rattle.nodes.specs.declared.frames.List.{List as Items}
 use Rattle.walks.specs.Passes.{walkOf, movedTo, Exact, Runs, prefix, waits}
 use Rattle.walks.specs.Items.{Ahead}
 use Rattle.walks.specs.Sides.{GatherSide, all, Holds}
-use Rattle.walks.specs.Turns.{CanTurn, Within, TurnTo, goes, fails}
-use Rattle.walks.specs.declared.turns.Pass.{Pass}
+use Rattle.walks.specs.Turns.{Within, TurnTo, goes, fails}
 use Rattle.walks.specs.declared.turns.Pass.the-variants.{Prefix}
 use Rattle.walks.specs.declared.turns.Turn.{Turn}
 use Rattle.walks.specs.declared.turns.Turn.the-variants.{On, Fail}

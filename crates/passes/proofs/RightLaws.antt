@@ -1,35 +1,31 @@
 -- A list of the unary pass in its words: the last unread item, an item put before the done ones, a list that the pass holds at a turn, and the loop of
 -- `previous_token`.
-use Prim.Native.Nat.{ℕ, zero, suc, _+_, _*_, _-_, _^_, _≤_, _<_}
+use Prim.Native.Nat.{ℕ, _+_, _*_, _-_, _^_, _≤_, _<_}
 use mathlib.Core.Path.{_≡_, refl, sym, ap, _∙_, subst}
-use mathlib.Core.Logic.{_≢_, _⊎_, inl, inr, ⊎-elim}
+use mathlib.Core.Logic.{_⊎_, ⊎-elim}
 use mathlib.Core.Bool.{Bool, true, false, true≢false}
-use mathlib.Core.List.{List, [], _∷_}
+use mathlib.Core.List.{List, _∷_}
 use native.Mathlib.Omega.{arith}
 use native.Mathlib.Nat.{le-refl}
 use lib.ListN.{length, set}
-use Rattle.molang.specs.Forest.{Token, Forest, nil, node, count, size}
-use Rattle.molang.proofs.Trees.{free, isNil}
+use Rattle.molang.specs.Forest.{Token, Forest, nil, node, count}
+use Rattle.molang.proofs.Trees.{isNil}
 use Rattle.molang.proofs.Unary.{isPrefix}
-use Rattle.molang.proofs.Work.{Kind, State, Right, right, unaries, work, fromRight}
+use Rattle.molang.proofs.Work.{Kind, State, Right, right, unaries}
 use Rattle.ops.specs.Classes.{shares}
-use Rattle.nodes.specs.Store.{wd, SegB, RepT, RepB, begins, put, InArray, Kept}
+use Rattle.nodes.specs.Store.{wd, SegB, RepT, RepB, begins, put}
 use Rattle.nodes.specs.Slots.{isLeafAt}
 use Rattle.nodes.specs.declared.frames.List.{List as Items}
 use Rattle.nodes.proofs.Runs.{set-same, set-other, set-long}
 use Rattle.nodes.proofs.Store.{tree-more, tree-below, tree-widen, tree-keep, back-le}
 use Rattle.nodes.proofs.Trees.{leaf-test}
-use Rattle.walks.specs.Passes.{walkOf, movedTo, Runs, unary, waits}
+use Rattle.walks.specs.Passes.{walkOf, movedTo, Runs, unary}
 use Rattle.walks.specs.Items.{BackArray, Ahead}
 use Rattle.walks.specs.Sides.{RightSide, all, Sides, Holds}
-use Rattle.walks.specs.Turns.{SameList, Within, CanTurn}
-use Rattle.walks.specs.declared.items.Found.{Found}
+use Rattle.walks.specs.Turns.{CanTurn}
 use Rattle.walks.specs.declared.items.Found.the-variants.{Nothing, Children, Token as Leaf}
 use Rattle.walks.specs.declared.turns.Pass.the-variants.{Unary}
-use Rattle.walks.specs.declared.turns.Walk.{Walk}
-use Rattle.walks.specs.declared.turns.Turn.{Turn}
 use Rattle.walks.proofs.Reading.{back-array-keep, ahead-keep, ahead-le, tree-free, tree-unfree, unfree-leaf}
-use Rattle.walks.specs.Turns.{TurnTo, goes, enters, ends, fails}
 use Rattle.passes.specs.UnaryTurns.{RightList, CanSeekBack, Moved, SoughtBackTo, none, leaf, tree, SoughtBack}
 use Rattle.passes.proofs.UnaryLaws.{moved-none, moved-more, unary-exact}
 

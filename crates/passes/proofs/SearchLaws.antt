@@ -2,8 +2,8 @@
 -- ancestor or to the left, so that there are at least as many turns as slots (`vacant`).
 use Prim.Native.Nat.{ℕ, zero, suc, _+_, _*_, _-_, _≤_, _<_}
 use mathlib.Core.Path.{_≡_, refl, sym, ap, _∙_, subst}
-use mathlib.Core.Logic.{_≢_, _⊎_, inl, inr}
-use mathlib.Core.Bool.{Bool, true, false, not, _&&_, true≢false}
+use mathlib.Core.Logic.{_≢_}
+use mathlib.Core.Bool.{Bool, true, false, _&&_, true≢false}
 use mathlib.Core.List.{List, [], _∷_}
 use mathlib.Core.Option.{Option, none, some}
 use native.Mathlib.Omega.{arith}
@@ -14,16 +14,16 @@ use lib.ListN.{length}
 use Rattle.molang.specs.Operator.{isOneOf}
 use Rattle.molang.specs.Forest.{Token, Forest, nil, node}
 use Rattle.molang.specs.Binary.{firstLeaf}
-use Rattle.molang.proofs.Trees.{free, isNil, free-leaf, free-tree, some-none}
+use Rattle.molang.proofs.Trees.{free, isNil, free-leaf, free-tree}
 use Rattle.molang.proofs.Unfolded.{free-firstLeaf, firstLeaf-free}
 use Rattle.ops.specs.Classes.{shares, meets}
 use Rattle.nodes.specs.Store.{wd, TokenAt, Chain, Out, RepF, ends, more, RepT}
-use Rattle.nodes.proofs.Store.{reserve-pos, First, tree-first, tree-below, tree-out, rep-le}
+use Rattle.nodes.proofs.Store.{reserve-pos, tree-below, tree-out, rep-le}
 use Rattle.nodes.proofs.Classes.{free-split}
 use Rattle.nodes.proofs.Trees.{leaf-first}
 use Rattle.walks.specs.Passes.{Exact}
 use Rattle.walks.proofs.Reading.{tree-free, tree-unfree, unfree-leaf, unfree-tree}
-use Rattle.passes.specs.BinaryTurns.{CanSearch, IsFirst, LeafFound}
+use Rattle.passes.specs.BinaryTurns.{CanSearch, IsFirst}
 
 -- ---- the slots of an interval that are none of X
 
@@ -85,9 +85,6 @@ vacant-add X lo (suc k) n =
     let f : suc k + n ≡ suc (k + n) = omega arith in
     let g : vacant X lo (suc (k + n)) ≡ outside lo X + vacant X (lo + 1) (k + n) = refl in
     rw (e, f) (omega (arith, g, vacant-add X (lo + 1) k n))
-
-vacant-some : (b : ℕ) (X : List ℕ) (lo n : ℕ) → lo ≤ b → b < lo + n → Out b X → 1 ≤ vacant X lo n
-vacant-some b X lo n l h o = omega (arith, vacant-below b X lo n l h o)
 
 -- a tree at the slot b, from l to m, of an interval from lo to hi: what is below it, and what comes after it
 vacant-part : (X : List ℕ) (lo l b m hi i j k : ℕ) → lo + i ≡ l → l + j ≡ m → m + k ≡ hi → l ≤ b → b < m → Out b X

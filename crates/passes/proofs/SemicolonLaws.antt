@@ -1,48 +1,47 @@
 -- A semicolon of a split list: it stands first, or after another, or ends the open statement, which then stands in its slot.
-use Prim.Native.Nat.{ℕ, zero, suc, _+_, _*_, _-_, _^_, _≤_, _<_}
+use Prim.Native.Nat.{ℕ, _+_, _*_, _-_, _^_, _≤_, _<_}
 use mathlib.Core.Path.{_≡_, refl, sym, ap, _∙_, subst}
 use mathlib.Core.Logic.{_≢_, _⊎_, inl, inr, ⊎-elim}
-use mathlib.Core.Bool.{Bool, true, false, not, true≢false}
+use mathlib.Core.Bool.{true, false, true≢false}
 use mathlib.Core.List.{List, [], _∷_}
 use native.Mathlib.Omega.{arith}
 use native.Mathlib.Nat.{le-refl}
 use native.Mathlib.Decide.{decLt}
 use borrow.Author.Tests.{eqb-true}
-use lib.Dec.{eqb}
-use lib.ListN.{length, set}
+use lib.ListN.{length}
 use Rattle.molang.specs.Operator.{semicolon}
 use Rattle.molang.specs.Forest.{Token, Forest, nil, node, bare, inOrder, count, size}
 use Rattle.molang.specs.Message
-use Rattle.molang.specs.Message.{Message, fail}
+use Rattle.molang.specs.Message.{Message}
 use Rattle.molang.specs.Level.{on, stop}
-use Rattle.molang.specs.Statements.{Split, after, inside, splitOf, endStatement, statementStep}
+use Rattle.molang.specs.Statements.{after, splitOf, endStatement}
 use Rattle.molang.proofs.Trees.{isNil}
 use Rattle.molang.proofs.Statements.{isSemicolon}
-use Rattle.molang.proofs.Work.{Kind, statements, State, work}
-use Rattle.nodes.specs.Store.{wd, TokenAt, SegB, Out, OutFrom, RepT, RepB, begins as begins-with, put, InArray, Free}
+use Rattle.molang.proofs.Work.{Kind, statements, State}
+use Rattle.nodes.specs.Store.{wd, TokenAt, Out, OutFrom, RepT, RepB, begins as begins-with, put, InArray, Free}
 use Rattle.nodes.specs.Slots.{Laid, Made}
 use Rattle.nodes.specs.Children.{CanGive}
 use Rattle.nodes.specs.declared.frames.List.{List as Items}
-use Rattle.nodes.proofs.Runs.{seg-keep, segB-keep}
+use Rattle.nodes.proofs.Runs.{seg-keep}
 use Rattle.nodes.proofs.Tokens.{token-keep, token-made}
 use Rattle.nodes.proofs.Store.{reserve-semicolon, rep-raise, tree-below, tree-out, back-le, back-count}
 use Rattle.nodes.proofs.Keeping.{free-beside, free-above, free-part, laid-kept}
 use Rattle.nodes.proofs.Trees.{array-give}
-use Rattle.walks.specs.Passes.{walkOf, movedTo, classesOf, waits}
+use Rattle.walks.specs.Passes.{walkOf, movedTo, waits}
 use Rattle.walks.specs.Items.{BackArray, Ahead, Passed, SoughtTo, leaf, Sought}
-use Rattle.walks.specs.Sides.{EndedAt, Ended, nothing, statement, Holds}
+use Rattle.walks.specs.Sides.{EndedAt, Ended, nothing, statement}
 use Rattle.walks.specs.Failures.{leadingSemicolon}
-use Rattle.walks.specs.Turns.{SameList, Within, CanTurn, TurnTo, goes, fails, Turned}
+use Rattle.walks.specs.Turns.{Within, CanTurn, TurnTo, goes, fails, Turned}
 use Rattle.walks.specs.declared.failure.Failure.the-variants.{LeadingSemicolon}
 use Rattle.walks.specs.declared.items.Found.the-variants.{Token as Leaf}
 use Rattle.walks.specs.declared.turns.Pass.the-variants.{Split as SplitAt}
 use Rattle.walks.specs.declared.turns.Turn.{Turn}
 use Rattle.walks.specs.declared.turns.Turn.the-variants.{On, Fail}
-use Rattle.walks.proofs.Reading.{SameSlots, SameWords, ahead-le, ahead-keep, back-array-keep}
+use Rattle.walks.proofs.Reading.{ahead-le, ahead-keep, back-array-keep}
 use Rattle.passes.specs.Statements.{Grouped, ListMade, there, begun, CanEnd, SemicolonTo, leading, again, ended}
-use Rattle.passes.proofs.StatementLaws.{semicolon-class, step-end, walk-on, walk-stop, earliest, openOn, passed-counts, passed-open, passed-split, Moved, moved-same, same-list}
+use Rattle.passes.proofs.StatementLaws.{semicolon-class, step-end, walk-on, walk-stop, earliest, openOn, passed-counts, passed-open, Moved, moved-same, same-list}
 use Rattle.passes.proofs.GroupLaws.{in-order, grouped-tree, grouped-same, grouped-place, grouped-long}
-use Rattle.passes.proofs.SplitLaws.{ended-le, ended-at-keep, ended-rebase, ended-first, FirstEnded, Pending, pending-passed, SplitView, splits, split-view, seek-split, split-sides, open-items}
+use Rattle.passes.proofs.SplitLaws.{ended-le, ended-at-keep, ended-rebase, Pending, pending-passed, SplitView, splits, split-view, seek-split, split-sides, open-items}
 
 -- ---- what `semicolon` asks
 

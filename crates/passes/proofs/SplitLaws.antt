@@ -1,41 +1,36 @@
 -- A list split at its semicolons: its finished statements and the trees of the open one, as one view of the pass's two states; and its turns.
-use Prim.Native.Nat.{ℕ, zero, suc, _+_, _*_, _^_, _≤_, _<_}
+use Prim.Native.Nat.{ℕ, _+_, _*_, _^_, _≤_, _<_}
 use mathlib.Core.Path.{_≡_, refl, sym, ap, _∙_, subst}
-use mathlib.Core.Logic.{_≢_, _⊎_, inl, inr, ⊎-elim}
-use mathlib.Core.Bool.{Bool, true, false, not, true≢false}
-use mathlib.Core.List.{List, [], _∷_}
-use mathlib.Core.Option.{some}
+use mathlib.Core.Logic.{inl, inr, ⊎-elim}
+use mathlib.Core.Bool.{true, false, true≢false}
+use mathlib.Core.List.{List, []}
 use native.Mathlib.Omega.{arith}
 use native.Mathlib.Nat.{le-refl}
-use lib.ListN.{length, set}
-use Rattle.molang.specs.Operator.{semicolon}
-use Rattle.molang.specs.Forest.{Token, Forest, nil, node, bare, inOrder, turnedOnto, count, size}
-use Rattle.molang.specs.Level.{on, into, stop}
-use Rattle.molang.specs.Statements.{Split, unsplit, after, inside, splitOf, isEntered, gather, endStatement, enterSplit, statementStep}
+use lib.ListN.{length}
+use Rattle.molang.specs.Forest.{Token, Forest, nil, node, count, size}
+use Rattle.molang.specs.Level.{on}
+use Rattle.molang.specs.Statements.{Split, after, inside, splitOf, isEntered, enterSplit, statementStep}
 use Rattle.molang.specs.Order.{lastOf}
 use Rattle.molang.proofs.Trees.{isNil}
 use Rattle.molang.proofs.Statements.{isSemicolon}
-use Rattle.molang.proofs.Work.{Kind, statements, State, work, begins, inReading, takes, andThen}
-use Rattle.nodes.specs.Store.{wd, TokenAt, SegB, OutFrom, RepT, RepB, begins as begins-with}
-use Rattle.nodes.specs.Slots.{opAt}
+use Rattle.molang.proofs.Work.{Kind, statements, State, begins}
+use Rattle.nodes.specs.Store.{wd, TokenAt, SegB, OutFrom, begins as begins-with}
 use Rattle.nodes.specs.declared.frames.List.{List as Items}
 use Rattle.nodes.proofs.Runs.{segB-keep, set-same, set-other, set-long}
 use Rattle.nodes.proofs.Tokens.{token-keep}
 use Rattle.nodes.proofs.Store.{tree-below, tree-keep, back-le, back-raise, back-count}
 use Rattle.nodes.proofs.Trees.{tree-op}
-use Rattle.walks.specs.Passes.{walkOf, movedTo, classesOf, Runs, split, waits}
-use Rattle.walks.specs.Items.{BackArray, Ahead, CanSeek, Passed, Seen, SoughtTo, none as found-none, leaf, tree, Sought}
-use Rattle.walks.specs.Sides.{StatementSide, closed, current, EndedAt, OpenAt, Ended, nothing, statement, DoneSide, UnreadSide, SplitAgrees, Agrees, Sides, Holds, Waits}
-use Rattle.walks.specs.Turns.{SameList, Within, CanTurn, TurnTo, goes, enters, ends, fails, Turned, Begins, afresh}
-use Rattle.walks.specs.declared.items.Found.{Found}
-use Rattle.walks.specs.declared.items.Found.the-variants.{Nothing, Children, Token as Leaf}
-use Rattle.walks.specs.declared.turns.Pass.{Pass}
+use Rattle.walks.specs.Passes.{walkOf, movedTo, Runs, split, waits}
+use Rattle.walks.specs.Items.{BackArray, Ahead, CanSeek, Passed, SoughtTo, none as found-none, tree, Sought}
+use Rattle.walks.specs.Sides.{StatementSide, closed, current, EndedAt, Ended, nothing, statement, DoneSide, UnreadSide, SplitAgrees, Agrees, Sides, Holds}
+use Rattle.walks.specs.Turns.{Within, CanTurn, TurnTo, goes, enters, ends, Turned, afresh}
+use Rattle.walks.specs.declared.items.Found.the-variants.{Nothing, Children}
 use Rattle.walks.specs.declared.turns.Pass.the-variants.{Split as SplitAt}
 use Rattle.walks.specs.declared.turns.Turn.{Turn}
-use Rattle.walks.specs.declared.turns.Turn.the-variants.{On, Enter, Over, Fail}
-use Rattle.walks.proofs.Reading.{SameSlots, SameWords, ahead-le, ahead-keep, array-put, back-array-keep}
+use Rattle.walks.specs.declared.turns.Turn.the-variants.{Over}
+use Rattle.walks.proofs.Reading.{SameSlots, SameWords, ahead-le, ahead-keep, array-put}
 use Rattle.passes.specs.Statements.{InnerTo, entered, kept}
-use Rattle.passes.proofs.StatementLaws.{semicolon-class, step-leaf, step-end, enter-in, enter-over, walk-on, walk-stop, walk-in, earliest, openOn, gather-open, last-earliest, open-inside, passed-counts, passed-open, passed-split, Moved, moved-same, same-list, sought-within}
+use Rattle.passes.proofs.StatementLaws.{semicolon-class, enter-in, enter-over, walk-on, walk-in, earliest, openOn, gather-open, last-earliest, open-inside, passed-counts, passed-open, passed-split, Moved, moved-same, same-list, sought-within}
 
 -- ---- finished statements
 

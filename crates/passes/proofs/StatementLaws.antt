@@ -1,7 +1,7 @@
 -- The statement pass as laws: which semicolons a list has, what the trees between them change, and what a finished statement's words say of trees.
-use Prim.Native.Nat.{ℕ, zero, suc, _+_, _*_, _^_, _≤_, _<_}
+use Prim.Native.Nat.{ℕ, _+_, _*_, _^_, _≤_, _<_}
 use mathlib.Core.Path.{_≡_, refl, sym, ap, _∙_, subst}
-use mathlib.Core.Logic.{_≢_, _⊎_, inl, inr, ⊎-elim}
+use mathlib.Core.Logic.{inl, inr, ⊎-elim}
 use mathlib.Core.Bool.{Bool, true, false, not, true≢false}
 use mathlib.Core.List.{List, [], _∷_}
 use mathlib.Core.Option.{none, some}
@@ -10,39 +10,34 @@ use native.Mathlib.Nat.{le-refl}
 use lib.Dec.{eqb}
 use lib.ListN.{length, set}
 use Rattle.molang.specs.Operator.{semicolon, isOneOf, any}
-use Rattle.molang.specs.Forest.{Token, Forest, nil, node, bare, inOrder, turnedOnto, count, size}
+use Rattle.molang.specs.Forest.{Token, Forest, nil, node, bare, count, size}
 use Rattle.molang.specs.Message.{Message, Result, ok, fail}
 use Rattle.molang.specs.Level.{on, into, stop, walk, through}
 use Rattle.molang.specs.Conditional.{isToken}
 use Rattle.molang.specs.Order.{lastOf, someBelow}
-use Rattle.molang.specs.Statements.{Split, unsplit, after, inside, splitOf, isEntered, gather, endStatement, enterSplit, statementStep, statementResume, statementFinish, statementLevel}
+use Rattle.molang.specs.Statements.{Split, unsplit, after, inside, splitOf, isEntered, gather, endStatement, enterSplit, statementStep, statementResume, statementLevel}
 use Rattle.molang.proofs.Trees.{free, clear, isNil, some-none, free-leaf, free-tree, clear-leaf}
 use Rattle.molang.proofs.Statements.{isSemicolon, statement-free}
 use Rattle.molang.proofs.Work.{Kind, statements, State, work, begins, inReading, takes, andThen}
 use Rattle.molang.proofs.Walks.{onward, back, walk-onward}
 use Rattle.ops.proofs.ClassLaws.{stands-for}
 use Rattle.ops.specs.Classes.{meets, bitAt, inClass, passClasses}
-use Rattle.nodes.specs.Store.{wd, RepT, InArray}
-use Rattle.nodes.specs.Store.{begins as begins-with}
-use Rattle.nodes.specs.Slots.{isTokenAt}
+use Rattle.nodes.specs.Store.{wd, InArray, begins as begins-with, Seg, Inc}
+use Rattle.nodes.specs.Slots.{isTokenAt, Laid}
 use Rattle.nodes.specs.declared.frames.List.{List as Items}
 use Rattle.nodes.proofs.Runs.{inc-le, seg-keep, set-same, set-other, set-long}
 use Rattle.nodes.proofs.Store.{tree-below, back-le, back-raise}
 use Rattle.nodes.proofs.Trees.{token-test}
 use Rattle.walks.specs.Passes.{walkOf, movedTo, classesOf, Exact, Runs, plain, split, waits}
-use Rattle.walks.specs.Items.{BackArray, Ahead, CanSeek, Passed, here, over, Seen, SoughtTo, none as found-none, leaf, tree, Sought}
-use Rattle.walks.specs.Sides.{StatementSide, whole, closed, current, EndedAt, OpenAt, Ended, nothing, statement, DoneSide, UnreadSide, Holds, Waits}
-use Rattle.nodes.specs.Store.{Seg, Inc}
-use Rattle.nodes.specs.Slots.{Laid}
-use Rattle.nodes.specs.Children.{CanGive, Given}
-use Rattle.walks.specs.Turns.{SameList, Within, CanTurn, TurnTo, goes, enters, ends, fails, Turned, Begins, afresh, CanStart, Started}
+use Rattle.walks.specs.Items.{BackArray, Ahead, CanSeek, Passed, here, over, SoughtTo, none as found-none, leaf, tree, Sought}
+use Rattle.walks.specs.Sides.{StatementSide, whole, closed, EndedAt, nothing, DoneSide, UnreadSide, Holds}
+use Rattle.nodes.specs.Children.{CanGive}
+use Rattle.walks.specs.Turns.{SameList, Within, CanTurn, TurnTo, goes, enters, ends, Turned, afresh, CanStart, Started}
 use Rattle.walks.specs.declared.items.Found.{Found}
 use Rattle.walks.specs.declared.items.Found.the-variants.{Nothing, Children, Token as Leaf}
 use Rattle.walks.specs.declared.turns.Pass.{Pass}
 use Rattle.walks.specs.declared.turns.Pass.the-variants.{Plain, Split as SplitAt}
-use Rattle.walks.specs.declared.turns.Walk.{Walk}
-use Rattle.walks.specs.declared.turns.Turn.{Turn}
-use Rattle.walks.specs.declared.turns.Turn.the-variants.{On, Enter, Over, Fail}
+use Rattle.walks.specs.declared.turns.Turn.the-variants.{On, Enter, Over}
 use Rattle.passes.specs.Statements.{HasSemicolon}
 use Rattle.walks.proofs.Reading.{AheadTo, item, ahead-item, ahead-end, ahead-le, ahead-keep, array-put}
 
@@ -323,10 +318,6 @@ moved-same e = record { owner = ap (λ (x : Items). x .owner) e; base = ap (λ (
 
 back-at : {W X : List ℕ} {at n at' n' lo m : ℕ} {d : Forest} → at ≡ at' → n ≡ n' → BackArray W X at n lo m d → BackArray W X at' n' lo m d
 back-at {W} {X} {at} {n} {at'} {n'} {lo} {m} {d} e h v = subst (λ (x : ℕ). BackArray W X at' x lo m d) h (subst (λ (x : ℕ). BackArray W X x n lo m d) e v)
-
-ahead-at : {W X : List ℕ} {base base' read len len' lo hi : ℕ} {f : Forest} → base ≡ base' → len ≡ len' → Ahead W X base read len lo hi f → Ahead W X base' read len' lo hi f
-ahead-at {W} {X} {base} {base'} {read} {len} {len'} {lo} {hi} {f} e h v =
-    subst (λ (x : ℕ). Ahead W X base' read x lo hi f) h (subst (λ (x : ℕ). Ahead W X x read len lo hi f) e v)
 
 pub data PlainView (W X : List ℕ) (lo hi : ℕ) (l : Items) : (κ : Kind) → State κ → Forest → Type 0 where
   plainly : {d rest : Forest} {m m' : ℕ} → BackArray W X (l .base) (l .write) lo m d → Ahead W X (l .base) (l .read) (l .len) m' hi rest → m ≤ m'

@@ -1,22 +1,21 @@
 -- The unary pass from the right, as an equation between what is left of it before and after each step of the code: an item without a prefix operator
 -- is passed over, a node is entered, and a minus or a not takes the next done tree, by what stands before it.
-use Prim.Native.Nat.{ℕ, _+_, _≤_}
 use mathlib.Core.Path.{_≡_, refl, sym, ap, _∙_}
 use mathlib.Core.Bool.{Bool, true, false, _||_, true≢false}
-use mathlib.Core.List.{List, [], _∷_}
+use mathlib.Core.List.{[], _∷_}
 use mathlib.Core.Option.{Option, none, some}
 use native.Mathlib.Omega.{arith}
 use lib.Dec.{eqb}
-use borrow.Author.Tests.{eq-eqb, ne-eqb, eqb-true}
+use borrow.Author.Tests.{eq-eqb, ne-eqb}
 use Rattle.molang.specs.Operator
 use Rattle.molang.specs.Operator.{operand, operator, minus, unknown, beforeMinus, any, isOneOf, isQueryOrLoop, isMathCall}
 use Rattle.molang.specs.Order.{someBelow}
-use Rattle.molang.specs.Forest.{Token, Forest, nil, node, renamed, bare, inOrder, count, size}
-use Rattle.molang.specs.Message.{Message, Result, ok, fail, negateWithoutOperand, notWithoutOperand, unknownOperation}
+use Rattle.molang.specs.Forest.{Token, Forest, nil, node, renamed, bare, count, size}
+use Rattle.molang.specs.Message.{Result, ok, fail, negateWithoutOperand, notWithoutOperand, unknownOperation}
 use Rattle.molang.specs.Unary.{Unary, done, undone, minusAfter, notBefore, unaryLeaf, turned, unaryNode, unary, unaryPass}
 use Rattle.molang.proofs.Trees.{free, isNil, off-both, free-leaf, free-tree}
 use Rattle.molang.proofs.Unary.{isPrefix, unary-free}
-use Rattle.molang.proofs.Work.{Right, right, before, fromRight, leftOf, work, begins, inReading, takes, pass, unaries, andThen, pass-begins}
+use Rattle.molang.proofs.Work.{right, before, fromRight, leftOf, work, begins, inReading, takes, pass, unaries, andThen, pass-begins}
 use Rattle.ops.specs.Classes.{passClasses, ownClasses, inClass, bitAt, meets}
 use Rattle.ops.proofs.ClassLaws.{stands-for}
 use Rattle.walks.specs.Passes.{Exact}

@@ -1,27 +1,23 @@
 -- The unary pass's turn: the items that `previous_token` passes over, and then the end, a node that is entered, or a token.
-use Prim.Native.Nat.{ℕ, _+_, _*_, _≤_, _<_}
+use Prim.Native.Nat.{ℕ}
 use mathlib.Core.Path.{_≡_, refl, ap, _∙_}
-use mathlib.Core.Logic.{_⊎_}
 use mathlib.Core.Bool.{false}
 use mathlib.Core.List.{List}
 use native.Mathlib.Omega.{arith}
 use native.Mathlib.Nat.{le-refl}
-use lib.ListN.{length}
-use Rattle.molang.specs.Forest.{Token, Forest, nil, node, count, size}
-use Rattle.molang.proofs.Work.{Kind, State, right, unaries, work, begins}
+use Rattle.molang.specs.Forest.{Forest, count, size}
+use Rattle.molang.proofs.Work.{right, unaries, work, begins}
 use Rattle.nodes.specs.declared.frames.List.{List as Items}
-use Rattle.nodes.proofs.Keeping.{kept-then}
 use Rattle.walks.specs.Passes.{walkOf, movedTo, waits}
-use Rattle.walks.specs.Turns.{SameList, Within, CanTurn, turnsLeft, afresh}
+use Rattle.walks.specs.Turns.{SameList, Within, afresh, TurnTo, goes, enters, ends, fails, Turned}
 use Rattle.walks.specs.declared.items.Found.the-variants.{Nothing, Children, Token as Leaf}
 use Rattle.walks.specs.declared.turns.Pass.the-variants.{Unary}
 use Rattle.walks.specs.declared.turns.Walk.{Walk}
 use Rattle.walks.specs.declared.turns.Turn.{Turn}
-use Rattle.walks.specs.declared.turns.Turn.the-variants.{On, Enter, Over, Fail}
-use Rattle.walks.specs.Turns.{TurnTo, goes, enters, ends, fails, Turned}
-use Rattle.passes.specs.UnaryTurns.{RightList, CanSeekBack, Moved, SoughtBackTo, none, leaf, tree, SoughtBack, CanTakeToken, TokenTaken}
+use Rattle.walks.specs.declared.turns.Turn.the-variants.{Enter, Over}
+use Rattle.passes.specs.UnaryTurns.{CanSeekBack, Moved, SoughtBackTo, none, leaf, tree, SoughtBack, CanTakeToken, TokenTaken}
 use Rattle.passes.proofs.UnaryLaws.{at-tree}
-use Rattle.passes.proofs.RightLaws.{right-sides, right-holds, of-unary, seek-back}
+use Rattle.passes.proofs.RightLaws.{right-sides, right-holds, of-unary}
 
 moved-same : (v v' : Items) → v' ≡ movedTo v (v' .read) (v' .write) → SameList (walkOf v Unary) (walkOf v' Unary)
 moved-same v v' e =

@@ -2,24 +2,24 @@
 -- `rest` unread; the item's own tree stands between the two.
 use Prim.Native.Nat.{ℕ, _+_, _*_, _^_, _≤_, _<_}
 use mathlib.Core.Path.{_≡_}
-use mathlib.Core.Bool.{Bool, true, false}
+use mathlib.Core.Bool.{Bool, true}
 use mathlib.Core.List.{List}
 use lib.ListN.{length}
 use Rattle.molang.specs.Operator.{isOneOf}
 use Rattle.molang.specs.Forest.{Token, Forest, nil, node}
-use Rattle.molang.specs.Level.{Gathered, gathered}
-use Rattle.molang.specs.Calls.{CallKind, queryOrLoop, math, calls as isCall}
+use Rattle.molang.specs.Level.{gathered}
+use Rattle.molang.specs.Calls.{CallKind, calls as isCall}
 use Rattle.molang.proofs.Trees.{clear}
 use Rattle.molang.proofs.Return.{isReturn}
 use Rattle.molang.proofs.Work.{Kind, calls, returns, binary, State}
 use Rattle.nodes.specs.Store.{RepT}
 use Rattle.nodes.specs.declared.frames.List.{List as Items}
 use Rattle.ops.specs.declared.classes.TokenClasses.{TokenClasses}
-use Rattle.walks.specs.Passes.{walkOf, Exact}
+use Rattle.walks.specs.Passes.{walkOf}
 use Rattle.walks.specs.Items.{BackArray, Ahead}
 use Rattle.walks.specs.Turns.{Within, TurnTo}
 use Rattle.walks.specs.declared.turns.Pass.{Pass}
-use Rattle.walks.specs.declared.turns.Pass.the-variants.{Calls, Maths, Binary, Prefix}
+use Rattle.walks.specs.declared.turns.Pass.the-variants.{Binary, Prefix}
 use Rattle.walks.specs.declared.turns.Walk.{Walk}
 use Rattle.walks.specs.declared.turns.Turn.{Turn}
 

@@ -18,12 +18,11 @@ use Rattle.nodes.specs.Children.{Attached}
 use Rattle.nodes.specs.declared.frames.List.{List as Items}
 use Rattle.walks.specs.Passes.{walkOf, movedTo}
 use Rattle.walks.specs.Items.{BackArray, Ahead}
-use Rattle.walks.specs.Turns.{Within}
+use Rattle.walks.specs.Turns.{Within, TurnTo}
 use Rattle.walks.specs.declared.items.Found.{Found}
 use Rattle.walks.specs.declared.items.Found.the-variants.{Nothing, Children, Token as Leaf}
 use Rattle.walks.specs.declared.turns.Pass.the-variants.{Unary}
 use Rattle.walks.specs.declared.turns.Turn.{Turn}
-use Rattle.walks.specs.Turns.{TurnTo}
 
 -- The unread items `rest`, the last first, in the slots from lo to l, the done ones in those from m to hi.
 pub record RightList (W X : List ℕ) (lo l m hi : ℕ) (v : Items) (d rest : Forest) : Type 0 where

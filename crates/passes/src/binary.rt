@@ -49,7 +49,7 @@ pub fn resume(work: &mut [u32], list: List, item: u32, classes: TokenClasses, pe
     Walk { list, pass }
 }
 
-// The first leaf of `classes` at or below slot s, which notes them. The second walk over a left side with an unfolded
+// The first leaf of `classes` at or below slot `top`, which notes them. The second walk over a left side with an unfolded
 // operator fails there: such a leaf is the last child of an operator of the level, so the walk finds no right side for it.
 pub fn first_leaf(work: &[u32], top: u32, classes: TokenClasses) -> u32
     requires { ⌜ CanSearch (now work) top (classes .0) ⌝ }

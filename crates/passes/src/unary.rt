@@ -17,8 +17,7 @@ ghost use mathlib.Core.Path.{_≡_};
 ghost use Prim.Native.Nat.{_+_, _*_, _-_, _≤_, _<_};
 ghost use lib.ListN.{length, set};
 ghost use Rattle.walks.specs.Passes.{walkOf, movedTo};
-ghost use Rattle.walks.specs.Turns.{CanTurn};
-ghost use Rattle.walks.specs.Turns.{Turned};
+ghost use Rattle.walks.specs.Turns.{CanTurn, Turned};
 ghost use Rattle.passes.specs.UnaryTurns.{CanSeekBack, SoughtBack, CanTakeToken, CanTakeMinus, TokenTaken, CanPrefix, Prefixed, Added, CanSubtract, Subtracted};
 
 // The list with `item` before its done items.

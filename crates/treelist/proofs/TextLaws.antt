@@ -193,10 +193,6 @@ records-on messages i p q =
     in
     rw step (wrote-then p q)
 
--- Where a text that is laid ends.
-pub wrote-room : {a b : List ℕ} {at m : ℕ} {s : List ℕ} (k : ℕ) → Wrote a at s m b → length s ≤ k → m ≤ at + k
-wrote-room k w h = omega (arith, w .ends)
-
 -- A text from the first byte on.
 pub text-in : {a b s : List ℕ} {r : ℕ} (k : ℕ) → Wrote a 0 s r b → length s ≤ k → k ≤ length a → (r ≤ length b) × (take r b ≡ s)
 text-in k w h room = (omega (arith, w .ends, w .same), w .front)

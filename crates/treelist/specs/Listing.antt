@@ -9,7 +9,7 @@ use lib.IntN.{ℤ}
 use lib.ListN.{length, take, drop, getD, replicate}
 use Rattle.molang.specs.Words.{Refusal, operatorSlot, wordsRefusal, tokensOf}
 use Rattle.molang.specs.Read.{Answer, read}
-use Rattle.molang.specs.Parse.{Told, told, must, firstOf, treeIn, messagesIn}
+use Rattle.molang.specs.Parse.{told, must, firstOf, treeIn, messagesIn}
 use Rattle.molang.specs.WriteEntry.{orElse}
 use Rattle.molang.specs.Lines.{versionOf}
 use Rattle.exact.specs.Exact.{named, highest}

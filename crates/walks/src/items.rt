@@ -6,7 +6,6 @@ use ops::classes::TokenClasses;
 ghost use mathlib.Core.Path.{_≡_};
 ghost use Prim.Native.Nat.{_+_, _*_, _^_, _≤_, _<_};
 ghost use lib.ListN.{length, set};
-ghost use Rattle.nodes.specs.Store.{wd};
 ghost use Rattle.walks.specs.Passes.{movedTo};
 ghost use Rattle.walks.specs.Items.{CanPeek, nextIf, innerAt, CanSeek, Sought};
 

@@ -229,8 +229,8 @@ fn print(out: &mut impl Write, place: usize, case: &Case, answer: &Answer) -> st
     writeln!(out, "end")
 }
 
-fn main() {
-    let options = options();
+/// The cases that are printed, or what none of them shows.
+fn chosen(options: &Options) -> Result<Vec<(Case, Answer)>, String> {
     let mut chosen = known(options.most);
     let mut missing: Vec<Wanted> = wanted();
     missing.retain(|wanted| {
@@ -239,16 +239,12 @@ fn main() {
             .any(|(case, answer)| (wanted.shown)(case, answer))
     });
     let mut rest = Vec::new();
-    let mut source = source(&options);
     // Far more than any of the wanted things takes to turn up.
-    for _ in 0..200_000 {
+    for (case, answer) in source(options).take(200_000) {
         let enough = chosen.len() + rest.len() >= options.count;
         if enough && missing.is_empty() {
             break;
         }
-        let Some((case, answer)) = source.next() else {
-            break;
-        };
         let before = missing.len();
         missing.retain(|wanted| !(wanted.shown)(&case, &answer));
         if missing.len() < before {
@@ -257,17 +253,22 @@ fn main() {
             rest.push((case, answer));
         }
     }
-    if let Some(wanted) = missing.first() {
-        let count = missing.len();
-        let what = &wanted.what;
-        eprintln!(
-            "cases: {what} was not found within {} tokens ({count} missing)",
-            options.most
-        );
-        exit(1);
+    if let Some(Wanted { what, .. }) = missing.first() {
+        let (most, count) = (options.most, missing.len());
+        return Err(format!(
+            "{what} was not found within {most} tokens ({count} missing)"
+        ));
     }
     rest.truncate(options.count.saturating_sub(chosen.len()));
     chosen.extend(rest);
+    Ok(chosen)
+}
+
+fn main() {
+    let chosen = chosen(&options()).unwrap_or_else(|why| {
+        eprintln!("cases: {why}");
+        exit(1)
+    });
     let mut out = std::io::BufWriter::new(std::io::stdout().lock());
     for (place, (case, answer)) in chosen.iter().enumerate() {
         if print(&mut out, place, case, answer).is_err() {

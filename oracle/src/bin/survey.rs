@@ -5,7 +5,7 @@
 fn main() {
     use oracle::generate::alphabets::ALPHABETS;
     use oracle::generate::{Mixed, dress};
-    use oracle::words::{Case, exact_set};
+    use oracle::words::Case;
 
     const HELP: &str = "survey [COUNT] [SEED]\n\n\
         Reads COUNT mixed lists of up to 24 tokens (default 1000000) from SEED (default 1), then\n\
@@ -31,12 +31,7 @@ fn main() {
         for ops in alphabet.every_list(5) {
             let tokens = dress::plain(&ops);
             for version in 4..=6 {
-                seen.read(&Case {
-                    used: exact_set(&tokens),
-                    source_len: ops.len() as u32,
-                    version,
-                    tokens: tokens.clone(),
-                });
+                seen.read(&Case::exact(tokens.clone(), version));
             }
         }
     }
@@ -45,7 +40,7 @@ fn main() {
 
 #[cfg(molangx)]
 mod seen {
-    use oracle::words::{Case, TreeNode};
+    use oracle::words::{Case, depth};
     use std::collections::BTreeMap;
 
     #[derive(Default)]
@@ -74,7 +69,7 @@ mod seen {
             if self.trees == 1 || nodes.len() * self.nodes.1 > self.nodes.0 * tokens {
                 self.nodes = (nodes.len(), tokens);
             }
-            let levels = levels(&nodes);
+            let levels = depth(&nodes);
             if self.trees == 1 || levels + self.levels.1 > self.levels.0 + tokens {
                 self.levels = (levels, tokens);
             }
@@ -94,22 +89,6 @@ mod seen {
                 self.levels.0, self.levels.1
             );
         }
-    }
-
-    fn levels(nodes: &[TreeNode]) -> usize {
-        let mut awaited: Vec<u32> = Vec::new();
-        let mut most = 0;
-        for node in nodes {
-            most = most.max(awaited.len() + 1);
-            awaited.push(node.children);
-            while awaited.last() == Some(&0) {
-                awaited.pop();
-                if let Some(parent) = awaited.last_mut() {
-                    *parent -= 1;
-                }
-            }
-        }
-        most
     }
 }
 

@@ -86,6 +86,30 @@ enum Spans {
     AtTheEnd,
 }
 
+impl Spans {
+    /// The span of the token at a place of so many, the last one having ended at `at`.
+    fn next(self, rng: &mut Rng, (place, count): (usize, usize), at: u32) -> (u32, u32) {
+        let (place, length) = (place as u32, 1 + rng.below(5) as u32);
+        match self {
+            Self::WithGaps => {
+                let start = at + rng.below(3) as u32;
+                (start, start + length)
+            }
+            Self::Backwards => {
+                let start = 3 * (count as u32 - place);
+                (start, start + length)
+            }
+            Self::Reversed => (place + length, place),
+            Self::Alike => (7, 7),
+            Self::Anywhere => {
+                let bound = LAST_PLACE as usize + 1;
+                (rng.below(bound) as u32, rng.below(bound) as u32)
+            }
+            Self::AtTheEnd => (LAST_PLACE - length, LAST_PLACE),
+        }
+    }
+}
+
 /// Any payload and any span.
 pub fn wild(rng: &mut Rng, ops: &[u8]) -> Vec<Token> {
     let spans = *rng.pick(&[
@@ -111,25 +135,8 @@ pub fn wild(rng: &mut Rng, ops: &[u8]) -> Vec<Token> {
             1 => *rng.pick(&VALUES),
             _ => place as u32,
         };
-        let (place, length) = (place as u32, 1 + rng.below(5) as u32);
-        let (start, end) = match spans {
-            Spans::WithGaps => {
-                let start = at + rng.below(3) as u32;
-                at = start + length;
-                (start, at)
-            }
-            Spans::Backwards => {
-                let start = 3 * (ops.len() as u32 - place);
-                (start, start + length)
-            }
-            Spans::Reversed => (place + length, place),
-            Spans::Alike => (7, 7),
-            Spans::Anywhere => {
-                let bound = LAST_PLACE as usize + 1;
-                (rng.below(bound) as u32, rng.below(bound) as u32)
-            }
-            Spans::AtTheEnd => (LAST_PLACE - length, LAST_PLACE),
-        };
+        let (start, end) = spans.next(rng, (place, ops.len()), at);
+        at = end;
         tokens.push(Token {
             op,
             variant,

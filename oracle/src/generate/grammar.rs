@@ -37,14 +37,8 @@ fn put_expression(rng: &mut Rng, size: usize, ops: &mut Vec<u8>) {
             ops.push(*rng.pick(&INFIX));
             put_expression(rng, right, ops);
         }
-        2 => {
-            ops.push(6);
-            put_expression(rng, size - 1, ops);
-        }
-        3 => {
-            ops.push(7);
-            put_expression(rng, size - 1, ops);
-        }
+        2 => put_after(rng, 6, size - 1, ops),
+        3 => put_after(rng, 7, size - 1, ops),
         4 => {
             ops.push(*rng.pick(&[43, 42, 44, 40]));
             ops.extend(vec![45; (1 + rng.below(3)).min(size - 1)]);
@@ -64,37 +58,47 @@ fn put_expression(rng: &mut Rng, size: usize, ops: &mut Vec<u8>) {
             put_expression(rng, size - 3, ops);
             ops.push(3);
         }
-        13 => {
-            let (condition, rest) = split(rng, size - 2);
-            let (then, otherwise) = split(rng, rest);
-            put_expression(rng, condition, ops);
-            ops.push(59);
-            put_expression(rng, then, ops);
-            if rng.chance(85) {
-                ops.push(60);
-                put_expression(rng, otherwise, ops);
-            }
-        }
-        _ => {
-            let function = if rng.chance(50) {
-                40
-            } else {
-                *rng.pick(&MATHS)
-            };
-            ops.extend([function, 4]);
-            let mut left = size - 3;
-            loop {
-                let (argument, rest) = split(rng, left);
-                put_expression(rng, argument, ops);
-                left = rest;
-                if rest <= 1 || rng.chance(50) {
-                    break;
-                }
-                ops.push(75);
-            }
-            ops.push(5);
-        }
+        13 => put_conditional(rng, size, ops),
+        _ => put_call(rng, size, ops),
     }
+}
+
+/// A prefix operator and its operand.
+fn put_after(rng: &mut Rng, prefix: u8, size: usize, ops: &mut Vec<u8>) {
+    ops.push(prefix);
+    put_expression(rng, size, ops);
+}
+
+fn put_conditional(rng: &mut Rng, size: usize, ops: &mut Vec<u8>) {
+    let (condition, rest) = split(rng, size - 2);
+    let (then, otherwise) = split(rng, rest);
+    put_expression(rng, condition, ops);
+    ops.push(59);
+    put_expression(rng, then, ops);
+    if rng.chance(85) {
+        ops.push(60);
+        put_expression(rng, otherwise, ops);
+    }
+}
+
+fn put_call(rng: &mut Rng, size: usize, ops: &mut Vec<u8>) {
+    let function = if rng.chance(50) {
+        40
+    } else {
+        *rng.pick(&MATHS)
+    };
+    ops.extend([function, 4]);
+    let mut left = size - 3;
+    loop {
+        let (argument, rest) = split(rng, left);
+        put_expression(rng, argument, ops);
+        left = rest;
+        if rest <= 1 || rng.chance(50) {
+            break;
+        }
+        ops.push(75);
+    }
+    ops.push(5);
 }
 
 fn put_script(rng: &mut Rng, size: usize, ops: &mut Vec<u8>) {
@@ -126,22 +130,8 @@ fn put_statement(rng: &mut Rng, size: usize, ops: &mut Vec<u8>) {
         }
         3 => ops.push(*rng.pick(&[69, 70])),
         4 | 5 => put_expression(rng, size, ops),
-        6 => {
-            ops.extend([67, 4]);
-            let (count, body) = split(rng, size - 6);
-            put_expression(rng, count, ops);
-            ops.push(75);
-            put_block(rng, body, ops);
-            ops.push(5);
-        }
-        7 => {
-            ops.extend([68, 4, 44, 75]);
-            let (of, body) = split(rng, size - 6);
-            put_expression(rng, of, ops);
-            ops.push(75);
-            put_block(rng, body, ops);
-            ops.push(5);
-        }
+        6 => put_loop(rng, &[67, 4], size, ops),
+        7 => put_loop(rng, &[68, 4, 44, 75], size, ops),
         _ => {
             let (condition, rest) = split(rng, size - 4);
             let (then, otherwise) = split(rng, rest);
@@ -154,6 +144,16 @@ fn put_statement(rng: &mut Rng, size: usize, ops: &mut Vec<u8>) {
             }
         }
     }
+}
+
+/// `loop` or `for_each`, up to its last argument but one, and what it goes over and its block.
+fn put_loop(rng: &mut Rng, head: &[u8], size: usize, ops: &mut Vec<u8>) {
+    ops.extend(head);
+    let (over, body) = split(rng, size - 6);
+    put_expression(rng, over, ops);
+    ops.push(75);
+    put_block(rng, body, ops);
+    ops.push(5);
 }
 
 fn put_block(rng: &mut Rng, size: usize, ops: &mut Vec<u8>) {

@@ -53,62 +53,84 @@ fn atom(rng: &mut Rng) -> u8 {
     }
 }
 
+/// A list in the making, and the sections that are open in it.
+struct Open {
+    ops: Vec<u8>,
+    open: Vec<u8>,
+}
+
+impl Open {
+    fn push(&mut self, op: u8) {
+        self.ops.push(op);
+    }
+
+    fn open(&mut self, opener: u8) {
+        self.open.push(opener);
+        self.push(opener);
+    }
+
+    fn close(&mut self, rng: &mut Rng) {
+        let closer = match self.open.pop() {
+            Some(opener) if rng.chance(93) => opener + 1,
+            _ => *rng.pick(&CLOSERS),
+        };
+        self.push(closer);
+    }
+
+    fn go_on(&mut self, rng: &mut Rng, next: Next) {
+        match next {
+            Next::Atom => self.push(atom(rng)),
+            Next::Open => self.open(*rng.pick(&OPENERS)),
+            Next::Close => self.close(rng),
+            Next::Minus => self.ops.extend(vec![6; 1 + rng.below(3)]),
+            Next::Not => self.push(7),
+            Next::Binary => self.push(*rng.pick(&BINARY)),
+            Next::Conditional => {
+                self.push(*rng.pick(&[59, 60]));
+                if rng.chance(60) {
+                    self.push(atom(rng));
+                }
+            }
+            Next::Semicolon => self.push(73),
+            Next::Array => self.with_section(rng, 41, 2),
+            Next::Member => {
+                if rng.chance(70) {
+                    self.push(*rng.pick(&[40, 42, 43, 44]));
+                }
+                self.ops.extend(vec![45; 1 + rng.below(2)]);
+            }
+            Next::Call => {
+                let math = *rng.pick(&MATHS);
+                let called = *rng.pick(&[40, 40, 67, 68, math]);
+                self.with_section(rng, called, 4);
+            }
+            Next::Pointer => self.push(72),
+            Next::Word => self.push(*rng.pick(&[74, 69, 70, 77, 75])),
+        }
+    }
+
+    /// An operator, mostly with a section opened after it.
+    fn with_section(&mut self, rng: &mut Rng, op: u8, opener: u8) {
+        self.push(op);
+        if rng.chance(80) {
+            self.open(opener);
+        }
+    }
+}
+
 /// A list of about `len` operators.
 pub fn weighted(rng: &mut Rng, len: usize) -> Vec<u8> {
     let mut weights = NEXT.map(|(_, weight)| weight);
     weights[rng.below(NEXT.len())] *= 8;
-    let mut ops = Vec::with_capacity(len + 4);
-    let mut open: Vec<u8> = Vec::new();
-    while ops.len() < len {
-        match NEXT[rng.weighted(&weights)].0 {
-            Next::Atom => ops.push(atom(rng)),
-            Next::Open => {
-                let opener = *rng.pick(&OPENERS);
-                open.push(opener);
-                ops.push(opener);
-            }
-            Next::Close => {
-                let opener = open.pop();
-                ops.push(match opener {
-                    Some(opener) if rng.chance(93) => opener + 1,
-                    _ => *rng.pick(&CLOSERS),
-                });
-            }
-            Next::Minus => ops.extend(vec![6; 1 + rng.below(3)]),
-            Next::Not => ops.push(7),
-            Next::Binary => ops.push(*rng.pick(&BINARY)),
-            Next::Conditional => {
-                ops.push(*rng.pick(&[59, 60]));
-                if rng.chance(60) {
-                    ops.push(atom(rng));
-                }
-            }
-            Next::Semicolon => ops.push(73),
-            Next::Array => {
-                ops.push(41);
-                if rng.chance(80) {
-                    open.push(2);
-                    ops.push(2);
-                }
-            }
-            Next::Member => {
-                if rng.chance(70) {
-                    ops.push(*rng.pick(&[40, 42, 43, 44]));
-                }
-                ops.extend(vec![45; 1 + rng.below(2)]);
-            }
-            Next::Call => {
-                let math = *rng.pick(&MATHS);
-                ops.push(*rng.pick(&[40, 40, 67, 68, math]));
-                if rng.chance(80) {
-                    open.push(4);
-                    ops.push(4);
-                }
-            }
-            Next::Pointer => ops.push(72),
-            Next::Word => ops.push(*rng.pick(&[74, 69, 70, 77, 75])),
-        }
+    let mut list = Open {
+        ops: Vec::with_capacity(len + 4),
+        open: Vec::new(),
+    };
+    while list.ops.len() < len {
+        let next = NEXT[rng.weighted(&weights)].0;
+        list.go_on(rng, next);
     }
+    let Open { mut ops, open } = list;
     if rng.chance(75) {
         ops.extend(open.iter().rev().map(|opener| opener + 1));
     }

@@ -7,7 +7,7 @@ use crate::generate::shapes::SHAPES;
 use crate::generate::{Mixed, Rng, case, dress, grammar, patterns, random};
 use crate::lines::{findings, lines};
 use crate::refusal::{Call, Refusal};
-use crate::words::{Case, LAST_OP, exact_set};
+use crate::words::{Case, LAST_OP};
 
 /// The records that a seed gives.
 pub fn made(seed: u64) -> Vec<Stored> {
@@ -30,13 +30,7 @@ pub fn made(seed: u64) -> Vec<Stored> {
 
 /// The list with usual payloads and spans, its exact used set and its length as source length.
 fn plain(ops: &[u8], version: i16) -> Case {
-    let tokens = dress::plain(ops);
-    Case {
-        used: exact_set(&tokens),
-        source_len: ops.len() as u32,
-        version,
-        tokens,
-    }
+    Case::exact(dress::plain(ops), version)
 }
 
 /// The lines of document 01 and what was found.

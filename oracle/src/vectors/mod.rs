@@ -122,6 +122,10 @@ fn put_record(bytes: &mut Vec<u8>, record: &Stored) {
     }
     put_number(bytes, source_len);
     bytes.extend(version.to_le_bytes());
+    put_answer(bytes, record);
+}
+
+fn put_answer(bytes: &mut Vec<u8>, record: &Stored) {
     match record {
         Stored::Answered(_, Answer::Tree(words)) => {
             put_number(bytes, (words.len() / NODE_WORDS) as u64);
@@ -226,11 +230,7 @@ impl<'b> Reader<'b> {
                 source_len,
                 version,
             };
-            let refusal = Refusal {
-                number: self.number_32()?,
-                place: self.number_32()?,
-            };
-            return Ok(Stored::Refused(call, refusal));
+            return Ok(Stored::Refused(call, self.refusal()?));
         }
         let (Some(tokens), Ok(source_len)) = (tokens, u32::try_from(source_len)) else {
             return Err(self.malformed("a call that would be turned back"));
@@ -244,17 +244,29 @@ impl<'b> Reader<'b> {
             source_len,
             version,
         };
+        Ok(Stored::Answered(case, self.answer(head & 0xF)?))
+    }
+
+    fn refusal(&mut self) -> Result<Refusal, Malformed> {
+        Ok(Refusal {
+            number: self.number_32()?,
+            place: self.number_32()?,
+        })
+    }
+
+    fn answer(&mut self, kind: u8) -> Result<Answer, Malformed> {
         let count = self.number()?;
-        let answer = match head & 0xF {
-            0 => Answer::Tree(self.words(count * NODE_WORDS as u64, NODE_WORDS)?),
-            1 => Answer::Messages(
-                (0..count)
-                    .map(|_| self.message())
-                    .collect::<Result<_, _>>()?,
-            ),
-            _ => return Err(self.malformed("no such answer")),
-        };
-        Ok(Stored::Answered(case, answer))
+        match kind {
+            0 => {
+                let words = count.saturating_mul(NODE_WORDS as u64);
+                Ok(Answer::Tree(self.words(words, NODE_WORDS)?))
+            }
+            1 => {
+                let messages = (0..count).map(|_| self.message());
+                Ok(Answer::Messages(messages.collect::<Result<_, _>>()?))
+            }
+            _ => Err(self.malformed("no such answer")),
+        }
     }
 
     fn message(&mut self) -> Result<Record, Malformed> {

@@ -1,4 +1,3 @@
-use Prim.Native.Nat.{ℕ}
 use native.Mathlib.Omega.{arith}
 use lib.ListN.{length}
 use Rattle.passes.proofs.ChainLaws.{Gathering, gather-start, gather-in, gather-step, gather-done, toTurn, gather-falls}

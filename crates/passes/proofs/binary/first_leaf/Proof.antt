@@ -1,7 +1,6 @@
 -- `first_leaf`: its loop goes down or on, and has turns enough (SearchLaws).
-use Prim.Native.Nat.{ℕ, _≤_, _<_}
 use native.Mathlib.Omega.{arith}
-use mathlib.Core.Path.{refl, sym, _∙_}
+use mathlib.Core.Path.{refl}
 use borrow.Author.Needs.{needs}
 use Rattle.passes.proofs.CallLaws.{shares-as}
 use Rattle.passes.proofs.SearchLaws.{Searching, search-start, search-in, search-down, search-next, search-done, search-left}

@@ -1,5 +1,4 @@
 -- `folded`: the right side's children come first, or it is taken as it is (BinaryLaws).
-use native.Mathlib.Omega.{arith}
 use mathlib.Core.Path.{refl, sym, _∙_}
 use borrow.Author.Needs.{needs}
 use Rattle.passes.proofs.BinaryLaws.{operate-room, operate-folds, operated-opens, operated-folds}

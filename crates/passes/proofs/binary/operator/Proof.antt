@@ -1,6 +1,6 @@
 -- `operator`: a side is missing, the left one holds an unfolded operator, or it takes both (BinaryLaws).
 use native.Mathlib.Omega.{arith}
-use mathlib.Core.Path.{refl, sym, _∙_}
+use mathlib.Core.Path.{refl}
 use borrow.Author.Needs.{needs}
 use Rattle.passes.proofs.GatherLaws.{next-room}
 use Rattle.passes.proofs.CallLaws.{shares-as}

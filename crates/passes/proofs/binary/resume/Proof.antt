@@ -1,6 +1,4 @@
 -- `resume`: no operator waits, or one takes its right side (BinaryLaws).
-use native.Mathlib.Omega.{arith}
-use mathlib.Core.Path.{refl, sym, _∙_}
 use borrow.Author.Needs.{needs}
 use Rattle.passes.proofs.BinaryLaws.{resume-room, resume-folds, resumed-kept, resumed-folded}
 use Rattle.passes.proofs.binary.resume.Statement.{statement}

@@ -1,6 +1,5 @@
 -- `call`: no section after the call, an empty one, or one that it takes (CallLaws).
-use native.Mathlib.Omega.{arith}
-use mathlib.Core.Path.{refl, sym, _∙_}
+use mathlib.Core.Path.{sym, _∙_}
 use borrow.Author.Needs.{needs}
 use Rattle.molang.specs.Operator.{leftParenthesis}
 use Rattle.passes.proofs.CallLaws.{can-attach, can-next, can-call, query-on, query-failed, query-calls}

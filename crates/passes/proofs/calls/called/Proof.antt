@@ -1,6 +1,5 @@
 -- `called`: the call is entered, or done (CallLaws).
 use native.Mathlib.Omega.{arith}
-use mathlib.Core.Path.{refl, sym, _∙_}
 use borrow.Author.Needs.{needs}
 use Rattle.passes.proofs.GatherLaws.{token-room}
 use Rattle.passes.proofs.CallLaws.{can-attach, shares-as, called-opens, called-stays}

@@ -1,6 +1,4 @@
 -- `math_call`: a section that it takes, the list's end, or another item (CallLaws).
-use native.Mathlib.Omega.{arith}
-use mathlib.Core.Path.{refl, sym, _∙_}
 use borrow.Author.Needs.{needs}
 use Rattle.molang.specs.Operator.{leftParenthesis}
 use Rattle.passes.proofs.CallLaws.{can-next, can-call, math-calls, math-ended, math-failed}

@@ -1,5 +1,4 @@
 -- `step_math`: what `next_token` stops at (GatherLaws), with a math call's states (CallLaws).
-use mathlib.Core.Path.{refl, sym, ap, _∙_}
 use borrow.Author.Needs.{needs}
 use Rattle.passes.proofs.GatherLaws.{Nothing-told, can-seek, turned-over, turned-enter, token-found, turned-token}
 use Rattle.passes.proofs.CallLaws.{math-stands}

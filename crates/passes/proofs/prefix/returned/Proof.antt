@@ -1,6 +1,6 @@
 -- `returned`: at the end of the list, and with a tree after it (ReturnLaws).
 use native.Mathlib.Omega.{arith}
-use mathlib.Core.Path.{refl, sym, ap, _∙_}
+use mathlib.Core.Path.{refl}
 use borrow.Author.Needs.{needs}
 use Rattle.passes.proofs.GatherLaws.{token-room, next-room}
 use Rattle.passes.proofs.ReturnLaws.{returned-end, returned-turn}

@@ -1,6 +1,4 @@
 -- `passes::unary::minus` meets its contract.
-use Prim.Native.Nat.{ℕ, _<_}
-use mathlib.Core.Path.{_≡_}
 use Rattle.passes.proofs.PrefixLaws.{can-prefix, minus-subtract, read-some, what-before, previous-slot, taken-first, taken-operator, taken-operand, taken-minus, taken-unknown}
 use borrow.Author.Needs.{needs}
 use Rattle.passes.proofs.unary.minus.Statement.{statement}

@@ -1,8 +1,8 @@
 -- `passes::unary::previous_token` meets its contract.
-use mathlib.Core.Path.{_≡_, refl, sym, ap, _∙_}
-use Prim.Native.Nat.{ℕ, _+_, _*_, _-_, _^_, _≤_, _<_}
+use mathlib.Core.Path.{_≡_, refl, sym, _∙_}
+use Prim.Native.Nat.{_+_, _*_, _-_, _^_, _≤_, _<_}
 use native.Mathlib.Omega.{arith}
-use lib.ListN.{length, set}
+use lib.ListN.{length}
 use Rattle.nodes.specs.Store.{wd}
 use Rattle.passes.specs.UnaryTurns.{CanSeekBack}
 use Rattle.passes.proofs.RightLaws.{SeekingBack, unary-test, seek-back-start, seek-back-in, seek-back-turn, sought-back-leaf, sought-back-tree, sought-back-none}
