@@ -3,6 +3,7 @@
 use Prim.Native.Nat.{ℕ, zero, suc, _+_, _*_, _≤_, _<_}
 use mathlib.Core.Path.{_≡_, refl, sym, ap, _∙_}
 use mathlib.Core.Logic.{_≢_, _⊎_, inl, inr}
+use mathlib.Core.Bool.{_||_}
 use mathlib.Core.List.{List, [], _∷_}
 use native.Mathlib.Omega.{arith}
 use native.Mathlib.Nat.{add-zero, le-refl}
@@ -13,7 +14,8 @@ use Rattle.molang.specs.Forest.{Token, nil, leaves}
 use Rattle.molang.specs.Words.{tokenWords, tokensOf, listWords}
 use Rattle.molang.proofs.Words.{LegalTokens, noTokens, token, words-back}
 use Rattle.words.specs.Fields.{operatorOf}
-use Rattle.ops.specs.Classes.{bitAt, inClass, classTable}
+use Rattle.ops.specs.Classes.{bitAt, inClass, classTable, entryOf, ownWord}
+use Rattle.ops.proofs.ClassLaws.{leaf-bits}
 use Rattle.nodes.specs.Store.{wd, TokenAt, Seg, RepF, ends, InArray}
 use Rattle.nodes.specs.Slots.{Laid}
 use Rattle.nodes.proofs.Runs.{wd-same, wd-other}
@@ -38,8 +40,9 @@ module _ (list W table : List ℕ) (i stack : ℕ) (p : CanLoadToken list W tabl
   -- The token's words laid down at its slot, and the slot put on the stack.
   pub token-stores : (W1 : List ℕ) (slot n op : ℕ) → slot ≡ 3 * i + 3
       → Laid W slot (wd list (5 * i)) (wd list (5 * i + 1)) (wd list (5 * i + 2)) (wd list (5 * i + 3)) (wd list (5 * i + 4)) n W1
-      → op ≡ operatorOf (wd list (5 * i)) → ((c : ℕ) → bitAt n c ≡ inClass c op) → TokenLoaded list W i stack (set W1 (stack + i) slot)
-  token-stores W1 slot n op e v eo bits =
+      → op ≡ operatorOf (wd list (5 * i)) → ((c : ℕ) → bitAt n c ≡ (bitAt (entryOf table op) c || bitAt (ownWord op) c)) → TokenLoaded list W i stack (set W1 (stack + i) slot)
+  token-stores W1 slot n op e v eo noted =
+      let bits : (c : ℕ) → bitAt n c ≡ inClass c op = λ c. noted c ∙ rw (p .classes) (leaf-bits op c) in
       let at = 8 * (3 * i + 3) in
       let u : Laid W (3 * i + 3) (wd list (5 * i)) (wd list (5 * i + 1)) (wd list (5 * i + 2)) (wd list (5 * i + 3)) (wd list (5 * i + 4)) n W1 = rw e at v in
       let W2 = set W1 (stack + i) slot in

@@ -4,14 +4,13 @@ use ops::sets::OpSet;
 use words::checks::Checked;
 use words::checks::token;
 use words::fields;
+use words::refusals;
 ghost use mathlib.Core.Path.{_≡_};
 ghost use Prim.Native.Nat.{_*_, _/_, _≤_};
 ghost use lib.ListN.{length};
 ghost use Rattle.molang.specs.Parse.{refusal};
 ghost use Rattle.molang.specs.Words.{operatorSlot, wordsRefusal};
 ghost use Rattle.checks.specs.Accepting.{answerFor, callOf, lengthRefusal, lentRefusal};
-
-pub const MOST_TOKENS: usize = 4096;
 
 // Words of the tree buffer per token, and of the work buffer per token and once more.
 pub const TREE_WORDS: usize = 18;
@@ -20,21 +19,6 @@ pub const WORK_WORDS: usize = 64;
 
 // The highest start or end that a span can have.
 pub const MOST_SOURCE: u64 = 536_870_911;
-
-// The numbers of the answers that are given before a word is looked at.
-pub const LIST_NOT_WHOLE: u32 = 1;
-
-pub const TOO_MANY_TOKENS: u32 = 2;
-
-pub const SHORT_TREE_BUFFER: u32 = 3;
-
-pub const SHORT_MESSAGE_BUFFER: u32 = 4;
-
-pub const SHORT_WORK_BUFFER: u32 = 5;
-
-pub const USED_SET_TOO_HIGH: u32 = 6;
-
-pub const SOURCE_TOO_LONG: u32 = 7;
 
 // The lengths of the buffers that the call lends besides the list, and of the source.
 pub struct Sizes {
@@ -55,11 +39,11 @@ fn list_length(words: usize) -> Accepted
     ensures { λ r. ⌜ r ≡ answerFor (words / 5) (lengthRefusal words) ⌝ }
 {
     if words % fields::TOKEN_WORDS != 0 {
-        return Accepted::Refused(LIST_NOT_WHOLE, 0);
+        return Accepted::Refused(refusals::LIST_NOT_WHOLE, 0);
     }
     let n = words / fields::TOKEN_WORDS;
-    if MOST_TOKENS < n {
-        return Accepted::Refused(TOO_MANY_TOKENS, 0);
+    if fields::MOST_TOKENS < n {
+        return Accepted::Refused(refusals::TOO_MANY_TOKENS, 0);
     }
     Accepted::Tokens(n)
 }
@@ -70,19 +54,19 @@ fn buffers(n: usize, sizes: Sizes, used: OpSet) -> Accepted
     ensures { λ r. ⌜ r ≡ answerFor n (lentRefusal n sizes used) ⌝ }
 {
     if sizes.tree < TREE_WORDS * n {
-        return Accepted::Refused(SHORT_TREE_BUFFER, 0);
+        return Accepted::Refused(refusals::SHORT_TREE_BUFFER, 0);
     }
     if sizes.messages < 2 * fields::RECORD_WORDS {
-        return Accepted::Refused(SHORT_MESSAGE_BUFFER, 0);
+        return Accepted::Refused(refusals::SHORT_MESSAGE_BUFFER, 0);
     }
     if sizes.work < WORK_WORDS * n + WORK_WORDS {
-        return Accepted::Refused(SHORT_WORK_BUFFER, 0);
+        return Accepted::Refused(refusals::SHORT_WORK_BUFFER, 0);
     }
     if !used.is_legal() {
-        return Accepted::Refused(USED_SET_TOO_HIGH, 0);
+        return Accepted::Refused(refusals::USED_SET_TOO_HIGH, 0);
     }
     if MOST_SOURCE < sizes.source {
-        return Accepted::Refused(SOURCE_TOO_LONG, 0);
+        return Accepted::Refused(refusals::SOURCE_TOO_LONG, 0);
     }
     Accepted::Tokens(n)
 }

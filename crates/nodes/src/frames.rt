@@ -21,6 +21,13 @@ pub struct Held {
     pub second: u32,
 }
 
+impl Held {
+    pub const NONE: Self = Self {
+        first: 0,
+        second: 0,
+    };
+}
+
 // A list as it was left, with what the pass held of it.
 pub struct Frame {
     pub list: List,

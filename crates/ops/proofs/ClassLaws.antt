@@ -8,9 +8,9 @@ use native.Mathlib.Nat.{le-of-suc-le-suc, not-suc-le-zero}
 use native.Mathlib.Omega.{arith}
 use lib.Dec.{T, leb, ltb, nleb→lt}
 use lib.ListN.{getD, drop, List·getD-eq-default}
-use borrow.Author.Tests.{le-leb, lt-leb, ltb-true, ltb-false, ne-eqb}
+use borrow.Author.Tests.{le-leb, lt-leb, lt-ltb, le-ltb, ltb-true, ltb-false, ne-eqb}
 use Rattle.molang.specs.Operator.{any, isOneOf, isQueryOrLoop}
-use Rattle.ops.specs.Classes.{passClasses, ownClasses, inClass, bitAt, meets, upTo, classWord, classTable, ownWord}
+use Rattle.ops.specs.Classes.{passClasses, ownClasses, inClass, bitAt, meets, upTo, classWord, classTable, entryOf, ownWord}
 use Rattle.ops.proofs.OperatorLaws.{agree, agree-at, no-math}
 use Rattle.ops.proofs.BitLaws.{bit-zero, bits-of}
 
@@ -73,7 +73,7 @@ bounded k i b none = go (ltb i k) refl
 own-class : (i n : ℕ) → 25 ≤ i → (leb 22 i && inClass i n) ≡ false
 own-class i n high = rw (class-below i n high, le-leb 22 i (omega arith))
 
-pub own-bits : (n i : ℕ) → bitAt (ownWord n) i ≡ (leb 22 i && inClass i n)
+own-bits : (n i : ℕ) → bitAt (ownWord n) i ≡ (leb 22 i && inClass i n)
 unfolding ownWord
 own-bits n i = bits-of 25 (λ i. leb 22 i && inClass i n) i ∙ bounded 25 i (leb 22 i && inClass i n) (own-class i n)
 
@@ -84,17 +84,27 @@ halves i b = go (ltb i 22) refl
     go true e = rw (lt-leb 22 i (ltb-true i 22 e)) (or-false b)
     go false e = rw (le-leb 22 i (ltb-false i 22 e))
 
--- An entry of the table, and the 0 of a number that is no operator.
-pub table-bits : (n i : ℕ) → n < 111 → bitAt (getD classTable n 0) i ≡ (ltb i 22 && inClass i n)
-unfolding classTable classWord
-table-bits n i low = rw (up-to 111 classWord n low) (bits-of 22 (λ i. inClass i n) i)
+-- The entry of any table, by whether the number is an operator's.
+pub entry-at : (table : List ℕ) (n : ℕ) → n < 111 → getD table n 0 ≡ entryOf table n
+unfolding entryOf
+entry-at table n low = sym (ap (λ (t : Bool). elim t [ true ↦ getD table n 0 | false ↦ 0 ]) (lt-ltb n 111 low))
 
-pub past-bits : (n i : ℕ) → 110 < n → bitAt 0 i ≡ (ltb i 22 && inClass i n)
-past-bits n i high = rw (bit-zero i, no-class i n high, and-false (ltb i 22))
+pub entry-past : (table : List ℕ) (n : ℕ) → 111 ≤ n → 0 ≡ entryOf table n
+unfolding entryOf
+entry-past table n high = sym (ap (λ (t : Bool). elim t [ true ↦ getD table n 0 | false ↦ 0 ]) (le-ltb n 111 high))
 
--- The classes of driver.rs and the own ones together.
-pub every-class : (i n : ℕ) → (ltb i 22 && inClass i n || leb 22 i && inClass i n) ≡ inClass i n
-every-class i n = halves i (inClass i n)
+-- An entry of the class table, and the 0 of a number that is no operator.
+entry-bits : (n i : ℕ) → bitAt (entryOf classTable n) i ≡ (ltb i 22 && inClass i n)
+unfolding entryOf classTable classWord
+entry-bits n i = go (ltb n 111) refl
+  where
+    go : (t : Bool) → ltb n 111 ≡ t → bitAt (elim t [ true ↦ getD classTable n 0 | false ↦ 0 ]) i ≡ (ltb i 22 && inClass i n)
+    go true e = rw (up-to 111 classWord n (ltb-true n 111 e)) (bits-of 22 (λ i. inClass i n) i)
+    go false e = rw (bit-zero i, no-class i n (ltb-false n 111 e), and-false (ltb i 22))
+
+-- The classes of driver.rs and the own ones together: every class that the operator is in.
+pub leaf-bits : (n i : ℕ) → (bitAt (entryOf classTable n) i || bitAt (ownWord n) i) ≡ inClass i n
+leaf-bits n i = rw (entry-bits n i, own-bits n i) (halves i (inClass i n))
 
 -- ---- What a constant stands for
 

@@ -3,7 +3,7 @@
 use Prim.Native.Nat.{ℕ, zero, suc, _+_, _*_, _/_, _%_, _^_}
 use mathlib.Core.Bool.{Bool, true, false, _&&_}
 use mathlib.Core.List.{List, [], _∷_, _++_}
-use lib.Dec.{eqb, leb}
+use lib.Dec.{eqb, leb, ltb}
 use lib.ListN.{getD}
 use Rattle.molang.specs.Operator
 use Rattle.molang.specs.Operator.{isOneOf, isMathCall, isQueryOrLoop}
@@ -82,6 +82,10 @@ classWord n = bitsOf 22 (λ i. inClass i n)
 -- THE CLASS TABLE: those of each operator number.
 unfoldable pub classTable : List ℕ
 classTable = upTo 111 classWord
+
+-- The entry of a table for the operator n. A number that is no operator has none.
+unfoldable pub entryOf : List ℕ → ℕ → ℕ
+entryOf table n = elim (ltb n 111) [ true ↦ getD table n 0 | false ↦ 0 ]
 
 -- Those of classes 22 to 24 that the operator n is in.
 unfoldable pub ownWord : ℕ → ℕ

@@ -2,10 +2,9 @@
 // The class of each operator stands in one table. Leans on the operators' names; specs/Classes says which operators a class has.
 use crate::op;
 ghost use mathlib.Core.Path.{_≡_};
-ghost use mathlib.Core.Bool.{_||_, _&&_};
+ghost use mathlib.Core.Bool.{_||_};
 ghost use Prim.Native.Nat.{ℕ};
-ghost use lib.Dec.{ltb};
-ghost use Rattle.ops.specs.Classes.{inClass, bitAt, shares, classTable, ownWord};
+ghost use Rattle.ops.specs.Classes.{bitAt, shares, classTable, entryOf, ownWord};
 
 // A set of token classes. NONE and ALL are the Rust's; the others name a single class each, but for the last three.
 pub struct TokenClasses(pub u32);
@@ -214,9 +213,9 @@ pub fn class_table() -> [u32; 111]
     CLASSES
 }
 
-// The classes of op in the table, which are those of driver.rs where it is the class table. A number that is no operator has none.
+// The table's entry for op: the classes that driver.rs gives it, where it is the class table. A number that is no operator has none.
 pub fn class(table: &[u32; 111], op: u32) -> TokenClasses
-    ensures { λ r. ⌜ (now (table .entry) ≡ classTable → (i : ℕ) → bitAt (r .0) i ≡ (ltb i 22 && inClass i op)) ⌝ }
+    ensures { λ r. ⌜ r .0 ≡ entryOf (now (table .entry)) op ⌝ }
 {
     if op < op::COUNT {
         return TokenClasses(table[op as usize]);
@@ -236,9 +235,10 @@ pub fn own_class(op: u32) -> TokenClasses
     }
 }
 
-// What a leaf of op notes of itself: by the class table, every class that op is in.
+// What a leaf of op notes of itself: the table's entry and its own class. By the class table that is every class that op is in
+// (proofs/ClassLaws: `leaf-bits`).
 pub fn leaf_classes(table: &[u32; 111], op: u32) -> TokenClasses
-    ensures { λ r. ⌜ (now (table .entry) ≡ classTable → (i : ℕ) → bitAt (r .0) i ≡ inClass i op) ⌝ }
+    ensures { λ r. ⌜ ((i : ℕ) → bitAt (r .0) i ≡ (bitAt (entryOf (now (table .entry)) op) i || bitAt (ownWord op) i)) ⌝ }
 {
     class(table, op).union(own_class(op))
 }

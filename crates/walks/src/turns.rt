@@ -104,26 +104,11 @@ impl Pass {
                 first: tokens,
                 second: 0,
             },
-            Pass::Calls => Held {
-                first: 0,
-                second: 0,
-            },
-            Pass::Maths => Held {
-                first: 0,
-                second: 0,
-            },
-            Pass::Plain => Held {
-                first: 0,
-                second: 0,
-            },
-            Pass::Unary => Held {
-                first: 0,
-                second: 0,
-            },
-            Pass::Prefix => Held {
-                first: 0,
-                second: 0,
-            },
+            Pass::Calls => Held::NONE,
+            Pass::Maths => Held::NONE,
+            Pass::Plain => Held::NONE,
+            Pass::Unary => Held::NONE,
+            Pass::Prefix => Held::NONE,
         }
     }
 

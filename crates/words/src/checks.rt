@@ -1,6 +1,7 @@
 // The check of each word of a token, answers 8 to 11 of document 01's table. Leans on the fields;
 // specs/Checks gives the number and the place of each case.
 use crate::fields;
+use crate::refusals;
 ghost use mathlib.Core.Path.{_≡_};
 ghost use mathlib.Core.List.{[], _∷_};
 ghost use Prim.Native.Nat.{_+_, _<_, _^_};
@@ -79,10 +80,10 @@ pub fn judged(word: Word, place: usize) -> Checked
 {
     match word {
         Word::Good => Checked::Good,
-        Word::WrongKind => Checked::Bad(8, place),
-        Word::HighOperator => Checked::Bad(9, place),
-        Word::HighVariant => Checked::Bad(10, place),
-        Word::OtherBit => Checked::Bad(11, place),
+        Word::WrongKind => Checked::Bad(refusals::WRONG_KIND, place),
+        Word::HighOperator => Checked::Bad(refusals::HIGH_OPERATOR, place),
+        Word::HighVariant => Checked::Bad(refusals::HIGH_VARIANT, place),
+        Word::OtherBit => Checked::Bad(refusals::OTHER_BIT, place),
     }
 }
 

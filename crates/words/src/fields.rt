@@ -26,6 +26,9 @@ pub const NODE_WORDS: usize = 6;
 
 pub const RECORD_WORDS: usize = 8;
 
+// The most tokens that a list can have.
+pub const MOST_TOKENS: usize = 4096;
+
 // The operators and the payload variants are those up to these.
 pub const LAST_OPERATOR: u32 = 110;
 

@@ -18,9 +18,6 @@ ghost use Rattle.molang.specs.WriteEntry.{writeAnswered, listAfter, treesOf};
 ghost use Rattle.write.specs.Answers.{told, filling, filled, call};
 ghost use Rattle.write.specs.Spelling.{Writable};
 
-// The most tokens that a list can have.
-pub const MOST_TOKENS: usize = 4096;
-
 // What a call is answered: the number of tokens that were written, or a refusal's number and place.
 pub enum Written {
     Tokens(usize),
@@ -33,7 +30,7 @@ fn fill(tree: &[u32], list: &mut [u32], tokens: usize) -> Written
     ensures { λ r. ⌜ told r ≡ filling (treesOf (now (tree .entry))) (now (list .entry)) ⌝ }
     ensures { λ _. ⌜ now (list .exit) ≡ filled (treesOf (now (tree .entry))) (now (list .entry)) ⌝ }
 {
-    if MOST_TOKENS < tokens {
+    if fields::MOST_TOKENS < tokens {
         return Written::Refused(refusals::WRITTEN_TOO_LONG, 0);
     }
     if list.len() < fields::TOKEN_WORDS * tokens {

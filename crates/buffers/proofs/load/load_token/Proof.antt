@@ -82,7 +82,7 @@ returns c =
     let a = s .args in
     token-stores (a .list .now) (a .work .now) (a .table .now) (a .i) (a .stack) (s .pre) (c .before .before .set-leaf .last .0) (c .before .before .before .before .before .before .before .before .before .before .before .slot-of .result)
     (c .before .before .before .before .leaf-classes .result .0) (c .before .before .before .before .before .operator .result) (c .before .before .before .before .before .before .before .before .before .before .before .slot-of .ensures) (c .before .before .set-leaf .ensures) (c .before .before .before .before .before .operator .ensures)
-    (c .before .before .before .before .leaf-classes .ensures (s .pre .classes))
+    (c .before .before .before .before .leaf-classes .ensures)
 
 pub load-token-spec : {M : Type 1} → statement M
 load-token-spec =

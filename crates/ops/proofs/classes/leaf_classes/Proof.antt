@@ -1,7 +1,6 @@
 -- `ops::classes::leaf_classes` meets its contract: the table's entry and the own class together. Assumes nothing.
 use mathlib.Core.Path.{_∙_}
 use borrow.Author.Needs.{needs}
-use Rattle.ops.proofs.ClassLaws.{own-bits, every-class}
 use Rattle.ops.proofs.classes.leaf_classes.Statement.{statement}
 use Rattle.ops.proofs.classes.leaf_classes.Tie as tie
 
@@ -15,9 +14,7 @@ union-requires : tie.Need-union-requires
 union-requires c κs = search needs
 
 returns : tie.Need-returns
-returns c table i =
-    let op = c .before .before .before .args .op in
-    c .union .ensures i ∙ rw (c .before .before .class .ensures table i, c .before .own-class .ensures, own-bits op i) (every-class i op)
+returns c = λ i. c .union .ensures i ∙ rw (c .before .before .class .ensures, c .before .own-class .ensures)
 
 pub leaf-classes-spec : {M : Type 1} → statement M
 leaf-classes-spec = tie.close (tie.spec class-requires own-class-requires union-requires returns)
