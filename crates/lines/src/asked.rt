@@ -95,7 +95,12 @@ fn put_operators(list: &mut [u32], operators: &[u32])
     while i < fields::TOKEN_WORDS * operators.len() {
         let token = i / fields::TOKEN_WORDS;
         let start = token as u32;
-        list[i] = token_word(operators[token], start, start + 1, i % fields::TOKEN_WORDS);
+        list[i] = token_word(
+            operators[token] % 256,
+            start,
+            start + 1,
+            i % fields::TOKEN_WORDS,
+        );
         i += 1;
     }
 }
@@ -144,7 +149,7 @@ fn put_repeated(list: &mut [u32], op: u32)
 {
     let mut i = 0usize;
     while i < list.len() {
-        list[i] = token_word(op, 0, 0, i % fields::TOKEN_WORDS);
+        list[i] = token_word(op % 256, 0, 0, i % fields::TOKEN_WORDS);
         i += 1;
     }
 }

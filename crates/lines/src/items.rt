@@ -4,17 +4,17 @@ use molang::lines::ANY;
 use molang::lines::TREE;
 use words::fields;
 ghost use mathlib.Core.Path.{_≡_};
-ghost use Prim.Native.Nat.{_+_, _%_, _^_, _≤_, _<_};
+ghost use Prim.Native.Nat.{_+_, _^_, _≤_, _<_};
 ghost use mathlib.Core.List.{[], _∷_};
 ghost use lib.ListN.{length, getD};
 ghost use Rattle.molang.specs.Words.{word};
 ghost use Rattle.molang.specs.Lines.{nodeWords, recordOf};
-ghost use Rattle.lines.specs.Items.{bareWords};
+ghost use Rattle.lines.specs.Items.{bareWords, Ended};
 
 // Where the items from `from` on end: at the next mark, or with the numbers.
 pub fn items_end(numbers: &[u32], from: usize) -> usize
     requires { ⌜ from ≤ length (now numbers) ⌝ }
-    ensures { λ r. ⌜ (from ≤ r) × (r ≤ length (now (numbers .entry))) ⌝ }
+    ensures { λ r. ⌜ Ended (now (numbers .entry)) from r ⌝ }
 {
     let mut at = from;
     while at < numbers.len() {
@@ -73,11 +73,11 @@ pub fn node_word(node: u32, place: usize) -> u32
 
 // The word of a token at a place in its five.
 pub fn token_word(op: u32, start: u32, end: u32, place: usize) -> u32
-    requires { ⌜ (start < 2 ^ 29) × (end < 2 ^ 29) × (place < 5) ⌝ }
-    ensures { λ r. ⌜ r ≡ getD (bareWords (op % 2 ^ 8) start end) place 0 ⌝ }
+    requires { ⌜ (op < 2 ^ 29) × (start < 2 ^ 29) × (end < 2 ^ 29) × (place < 5) ⌝ }
+    ensures { λ r. ⌜ r ≡ getD (bareWords op start end) place 0 ⌝ }
 {
     match place {
-        0 => fields::operator_word(op),
+        0 => word_of(fields::OPERATOR, op),
         1 => word_of(fields::START, start),
         2 => word_of(fields::END, end),
         3 => fields::no_upper(),
