@@ -3,7 +3,7 @@ use Prim.Native.Nat.{ℕ, zero, suc, _+_, _-_, _/_, _%_, _≤_, _<_}
 use mathlib.Core.Path.{_≡_, refl, ap, sym, _∙_}
 use mathlib.Core.List.{List, [], _∷_, _++_}
 use native.Mathlib.Omega.{arith}
-use lib.ListN.{length, getD, take, replicate, length-take, length-append, List·getD-eq-default}
+use lib.ListN.{length, getD, replicate, length-take, length-append, List·getD-eq-default}
 use lib.Seq.{getD-take}
 use Rattle.molang.specs.Lines.{recordOf}
 

@@ -1,10 +1,8 @@
 -- The marks of a table's numbers: where the items of one end, and what the first says of a line.
 use Prim.Native.Nat.{ℕ, zero, suc, _+_, _-_, _*_, _≤_, _<_}
 use mathlib.Core.Path.{_≡_, refl, ap, sym, _∙_}
-use mathlib.Core.Bool.{true, false}
 use mathlib.Core.List.{List, [], _∷_, _++_, append-assoc, append-nil}
 use native.Mathlib.Omega.{arith}
-use lib.Dec.{leb}
 use lib.ListN.{length, getD, take, drop, length-take, length-drop, drop-of-length-le}
 use lib.Seq.{getD-take, getD-drop, drop-cons, drop-drop, take-add, length-take-le}
 use borrow.Author.Tests.{le-leb, lt-leb}

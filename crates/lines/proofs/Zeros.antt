@@ -4,8 +4,8 @@ use mathlib.Core.Path.{_≡_, refl, ap, sym, _∙_}
 use mathlib.Core.List.{List, [], _∷_, _++_}
 use mathlib.Core.Logic.{_↔_}
 use native.Mathlib.Omega.{arith}
-use lib.ListN.{length, getD, take, drop, replicate, length-append, length-take, length-drop, length-replicate, getD-replicate, take-append-drop, List·getD-append}
-use lib.Seq.{getD-take, getD-drop, ext-getD, length-take-le, drop-append-seam, drop-length}
+use lib.ListN.{length, getD, take, drop, replicate, length-append, length-drop, length-replicate, getD-replicate, take-append-drop, List·getD-append}
+use lib.Seq.{getD-take, getD-drop, ext-getD, length-take-le, drop-append-seam}
 use Rattle.molang.specs.Words.{tokenWords, listWords}
 use Rattle.molang.specs.Parse.{inFront}
 use Rattle.molang.specs.Lines.{nodeWords, writtenOf}
@@ -83,11 +83,6 @@ part-same ws l at n room long same =
 
 pub part-at : (ws l : List ℕ) (at n : ℕ) → take n (drop at l) ≡ ws → (k : ℕ) → k < n → getD l (at + k) 0 ≡ getD ws k 0
 part-at ws l at n e k h = sym (getD-drop at l k 0) ∙ sym (getD-take n (drop at l) k 0 h) ∙ ap (λ (w : List ℕ). getD w k 0) e
-
--- No words at all.
-pub holds-none : (buffer : List ℕ) → buffer ≡ zeros buffer ↔ Holds [] buffer
-unfolding Holds inFront
-holds-none buffer = (λ e. e, λ e. e)
 
 -- THE WORDS OF NODES AND TOKENS, place by place.
 pub nodes-length : (nodes : List ℕ) → length (nodeWords nodes) ≡ 6 * length nodes

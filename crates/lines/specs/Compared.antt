@@ -6,7 +6,7 @@ use mathlib.Core.List.{List, [], _∷_}
 use lib.IntN.{pos}
 use lib.ListN.{length, drop, getD, replicate}
 use Rattle.molang.specs.Parse.{Call, Told, inFront}
-use Rattle.molang.specs.WriteEntry.{WriteCall, WriteTold}
+use Rattle.molang.specs.WriteEntry.{WriteTold}
 use Rattle.molang.specs.Lines.{parsed, wrote, refusedMark, itemsOf, marksOf, wantedOf, writeWantedOf}
 use Rattle.lines.specs.declared.compared.Verdict.{Verdict}
 use Rattle.lines.specs.declared.compared.Verdict.the-variants.{Same, Answer, Tree, Messages, Work, List as Verdict·List, Unclear}

@@ -1,7 +1,7 @@
 -- `lines::items::items_end` meets its contract: the loop has passed no mark. Assumes nothing.
 use Prim.Native.Nat.{ℕ, _-_, _≤_, _<_}
 use native.Mathlib.Omega.{arith}
-use borrow.Author.Count.{below-none, below-more}
+use borrow.Author.Count.{below-more}
 use lib.ListN.{length, getD}
 use Rattle.molang.specs.Lines.{anyMark}
 use Rattle.lines.proofs.Marks.{ended}
