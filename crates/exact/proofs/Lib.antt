@@ -1,2 +1,3 @@
 pub mod SetLaws
 pub mod WordLaws
+pub mod VersionLaws

@@ -1,5 +1,5 @@
-// The exact used set of a list of token words, and the highest span end among them: what a caller of the entry has to bring along.
-// A word that the entry would turn back counts for neither. Leans on words and ops; specs/Exact says which words count.
+// What a caller of the entry has to bring along: the exact used set of a list of token words, the highest span end among them, and a
+// version. A word that the entry would turn back counts for neither of the first two. Leans on words and ops; specs/Exact says which words count.
 use ops::sets::OpSet;
 use words::checks::Word;
 use words::checks::operator_word;
@@ -7,10 +7,11 @@ use words::checks::span_word;
 use words::fields;
 ghost use mathlib.Core.Path.{_≡_};
 ghost use mathlib.Core.Bool.{_||_};
-ghost use Prim.Native.Nat.{ℕ, _≤_};
+ghost use Prim.Native.Nat.{ℕ, _≤_, _<_, _^_};
 ghost use lib.Dec.{eqb};
 ghost use Rattle.molang.specs.Parse.{inHalves};
 ghost use Rattle.molang.specs.Words.{operatorSlot, endSlot};
+ghost use Rattle.molang.specs.Lines.{versionOf};
 ghost use Rattle.exact.specs.Exact.{names, named, endAfter, highest};
 
 // The set with op in it.
@@ -80,4 +81,16 @@ pub fn highest_end(list: &[u32]) -> u32
         i += fields::TOKEN_WORDS;
     }
     end
+}
+
+// The version that sixteen bits in two's complement say. Both programs have seen that no other bit is set.
+pub fn version_of(bits: u32) -> i16
+    requires { ⌜ bits < 2 ^ 16 ⌝ }
+    ensures { λ r. ⌜ r ≡ versionOf bits ⌝ }
+{
+    if bits < 32_768 {
+        return bits as i16;
+    }
+    let below = (65_535 - bits) as i16;
+    -1 - below
 }

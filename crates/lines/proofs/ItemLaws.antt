@@ -3,7 +3,7 @@ use Prim.Native.Nat.{ℕ, zero, suc, _+_, _-_, _/_, _%_, _≤_, _<_}
 use mathlib.Core.Path.{_≡_, refl, ap, sym, _∙_}
 use mathlib.Core.List.{List, [], _∷_, _++_}
 use native.Mathlib.Omega.{arith}
-use lib.ListN.{length, getD, take, replicate, List·getD-eq-default}
+use lib.ListN.{length, getD, replicate, length-take, length-append, List·getD-eq-default}
 use lib.Seq.{getD-take}
 use Rattle.molang.specs.Lines.{recordOf}
 
@@ -11,14 +11,14 @@ use Rattle.molang.specs.Lines.{recordOf}
 pub past-end : (l : List ℕ) (i : ℕ) → length l ≤ i → 0 ≡ getD l i 0
 past-end l i h = sym (List·getD-eq-default l 0 {n = i} h)
 
-zeros : (n i : ℕ) → _≡_ {A = ℕ} (getD (replicate n 0) i 0) 0
-zeros zero i = refl
-zeros (suc n) zero = refl
-zeros (suc n) (suc i) = zeros n i
+pub zero-at : (n i : ℕ) → _≡_ {A = ℕ} (getD (replicate n 0) i 0) 0
+zero-at zero i = refl
+zero-at (suc n) zero = refl
+zero-at (suc n) (suc i) = zero-at n i
 
 -- Zeros behind a list change no element of it.
 before-zeros : (l : List ℕ) (n i : ℕ) → getD (l ++ replicate n 0) i 0 ≡ getD l i 0
-before-zeros [] n i = zeros n i
+before-zeros [] n i = zero-at n i
 before-zeros (a ∷ l) n zero = refl
 before-zeros (a ∷ l) n (suc i) = before-zeros l n i
 
@@ -26,6 +26,19 @@ pub record-none : (items : List ℕ) (place : ℕ) → length items ≡ 0 → 0 
 unfolding recordOf
 record-none [] place h = refl
 record-none (n ∷ items) place h = absurd (omega arith)
+
+-- No items make no record.
+pub record-empty : (items : List ℕ) → length items ≡ 0 → length (recordOf items) ≡ 0
+unfolding recordOf
+record-empty [] h = refl
+record-empty (n ∷ items) h = absurd (omega arith)
+
+pub record-length : (items : List ℕ) → (length items ≡ 0 → ⊥) → length (recordOf items) ≡ 8
+unfolding recordOf
+record-length [] h = absurd (h refl)
+record-length (n ∷ items) h =
+    let long = length-take 5 (items ++ replicate 5 0) in
+    omega (arith, length-append items (replicate 5 0))
 
 -- The record of some items.
 pub record-number : (items : List ℕ) → (length items ≡ 0 → ⊥) → getD items 0 0 / 10000 ≡ getD (recordOf items) 0 0

@@ -1,2 +1,3 @@
--- What the program's items stand for, beside molang's Lines.
+-- What the program's items stand for and what its verdicts say, beside molang's Lines.
 pub mod Items
+pub mod Compared

@@ -7,6 +7,7 @@ use crate::items::node_word;
 use crate::items::size;
 use crate::items::token_word;
 use exact::used_of;
+use exact::version_of;
 use molang::lines::ANY;
 use molang::lines::AT;
 use molang::lines::REPEATED;
@@ -43,7 +44,7 @@ fn read_with(
     read_verdict(answered, tree, messages, work, answers)
 }
 
-// Reads it with as much of the buffers as the entry asks for n tokens.
+// Reads it with as much of the buffers as the entry asks for n tokens; `read_first` lends as much as 4,097 tokens ask.
 fn read_in(
     list: &[u32],
     n: usize,
@@ -68,7 +69,8 @@ fn read_in(
     )
 }
 
-// Reads the first words of a list, which are n tokens: at most one more than the entry reads.
+// Reads the first words of a list, which are n tokens: at most one more than the entry reads. Its callers have looked at n, and lend the
+// list at the length of the most that they read.
 fn read_first(list: &[u32], words: usize, n: usize, version: i16, answers: &[u32]) -> Verdict
     requires { ⌜ (n ≤ 4097) × (words ≤ length (now list)) ⌝ }
 {
@@ -86,7 +88,7 @@ fn read_first(list: &[u32], words: usize, n: usize, version: i16, answers: &[u32
     )
 }
 
-// Puts the tokens of operators, the i-th at the span i to i + 1.
+// Puts the tokens of operators, the i-th at the span i to i + 1. `read_operators` lends a list of 1,002 tokens.
 fn put_operators(list: &mut [u32], operators: &[u32])
     requires { ⌜ (5 * length (now operators) ≤ length (now list)) × (length (now operators) ≤ 1002) ⌝ }
     ensures { λ _. ⌜ length (now (list .exit)) ≡ length (now (list .entry)) ⌝ }
@@ -95,12 +97,17 @@ fn put_operators(list: &mut [u32], operators: &[u32])
     while i < fields::TOKEN_WORDS * operators.len() {
         let token = i / fields::TOKEN_WORDS;
         let start = token as u32;
-        list[i] = token_word(operators[token], start, start + 1, i % fields::TOKEN_WORDS);
+        list[i] = token_word(
+            operators[token] % 256,
+            start,
+            start + 1,
+            i % fields::TOKEN_WORDS,
+        );
         i += 1;
     }
 }
 
-// Reads the list of these operators.
+// Reads the list of these operators: a line has at most 1,002 numbers (`ask`), here and below.
 fn read_operators(operators: &[u32], version: i16, answers: &[u32]) -> Verdict
     requires { ⌜ length (now operators) ≤ 1002 ⌝ }
 {
@@ -108,6 +115,16 @@ fn read_operators(operators: &[u32], version: i16, answers: &[u32]) -> Verdict
     put_operators(&mut list, operators);
     let words = fields::TOKEN_WORDS * operators.len();
     read_first(&list, words, operators.len(), version, answers)
+}
+
+// Reads it at the version of sixteen bits.
+fn read_at(operators: &[u32], bits: u32, answers: &[u32]) -> Verdict
+    requires { ⌜ length (now operators) ≤ 1002 ⌝ }
+{
+    if 65_535 < bits {
+        return Verdict::Unclear;
+    }
+    read_operators(operators, version_of(bits), answers)
 }
 
 // The same at 4, 5 and 6.
@@ -144,7 +161,7 @@ fn put_repeated(list: &mut [u32], op: u32)
 {
     let mut i = 0usize;
     while i < list.len() {
-        list[i] = token_word(op, 0, 0, i % fields::TOKEN_WORDS);
+        list[i] = token_word(op % 256, 0, 0, i % fields::TOKEN_WORDS);
         i += 1;
     }
 }
@@ -163,7 +180,7 @@ fn read_repeated(items: &[u32], answers: &[u32]) -> Verdict {
     read_first(&list, fields::TOKEN_WORDS * n, n, 6, answers)
 }
 
-// Puts the words of nodes.
+// Puts the words of nodes; `write_nodes` lends a tree of 1,002 nodes.
 fn put_nodes(tree: &mut [u32], nodes: &[u32])
     requires { ⌜ (6 * length (now nodes) ≤ length (now tree)) × (length (now nodes) ≤ 1002) ⌝ }
     ensures { λ _. ⌜ length (now (tree .exit)) ≡ length (now (tree .entry)) ⌝ }
@@ -181,7 +198,7 @@ fn write_with(tree: &[u32], list: &mut [u32], answers: &[u32]) -> Verdict {
     write_verdict(written, list, answers)
 }
 
-// Writes the first words of a tree, into the first words of a list.
+// Writes the first words of a tree, into the first words of a list; `write_nodes` lends both at the length of 1,002 nodes.
 fn write_first(
     tree: &[u32],
     words: usize,
@@ -206,20 +223,12 @@ fn write_nodes(nodes: &[u32], answers: &[u32]) -> Verdict
     write_first(&tree, words, &mut list, room, answers)
 }
 
-// The version of sixteen bits in two's complement: of the negative ones the table has -1.
-fn version_of(bits: u32) -> i16 {
-    if bits < 32_768 {
-        return bits as i16;
-    }
-    -1
-}
-
-// Makes the calls of a line and compares.
+// Makes the calls of a line and compares. The items are part of a line, which `run` has measured.
 pub fn ask(mark: u32, items: &[u32], answers: &[u32]) -> Verdict
     requires { ⌜ length (now items) ≤ 1002 ⌝ }
 {
     if AT <= mark {
-        return read_operators(items, version_of(mark - AT), answers);
+        return read_at(items, mark - AT, answers);
     }
     match mark {
         ANY => read_at_all(items, answers),

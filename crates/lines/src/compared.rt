@@ -1,7 +1,9 @@
-// What an entry answered and left in its buffers, beside what a line of the table says. Leans on items (the table's fields), parse and write.
+// What an entry answered and left in its buffers, beside what a line of the table says. Leans on items (the table's fields), parse and write;
+// specs/Compared says what `Same` means.
 use crate::items::items_end;
 use crate::items::node_word;
 use crate::items::record_word;
+use crate::items::size;
 use crate::items::token_word;
 use molang::lines::LIST;
 use molang::lines::MESSAGE;
@@ -10,8 +12,18 @@ use molang::lines::TREE;
 use parse::Answer;
 use words::fields;
 use write::Written;
+ghost use mathlib.Core.Path.{_≡_};
+ghost use mathlib.Core.Bool.{true};
+ghost use mathlib.Core.Logic.{_↔_};
 ghost use Prim.Native.Nat.{_+_, _≤_};
-ghost use lib.ListN.{length};
+ghost use lib.ListN.{length, take, drop, getD};
+ghost use Rattle.molang.specs.Words.{listWords};
+ghost use Rattle.molang.specs.Parse.{aTree, someMessages, refused};
+ghost use Rattle.molang.specs.WriteEntry.{tokens, unwritten};
+ghost use Rattle.molang.specs.Lines.{messageMark, marksOf, nodeWords, writtenOf, recordOf, recordsOf};
+ghost use Rattle.parse.specs.Answers.{toldOf};
+ghost use Rattle.write.specs.Answers.{told};
+ghost use Rattle.lines.specs.Compared.{zeros, Holds, Refuses, ReadAsSaid, WrittenAsSaid, ifSame};
 
 // Whether a line is answered as it says, or what is first found to differ.
 pub enum Verdict {
@@ -24,12 +36,10 @@ pub enum Verdict {
     Unclear,
 }
 
-fn wide(n: u32) -> u64 {
-    n as u64
-}
-
 // Whether the words from `from` on are all 0.
-pub fn is_zero(words: &[u32], from: usize) -> bool {
+fn is_zero(words: &[u32], from: usize) -> bool
+    ensures { λ r. ⌜ ((r ≡ true) ↔ (drop from (now (words .entry)) ≡ zeros (drop from (now (words .entry))))) ⌝ }
+{
     let mut i = from;
     while i < words.len() {
         if words[i] != 0 {
@@ -41,7 +51,9 @@ pub fn is_zero(words: &[u32], from: usize) -> bool {
 }
 
 // Whether the words are those of the nodes, and 0 after them.
-fn has_nodes(tree: &[u32], nodes: &[u32]) -> bool {
+fn has_nodes(tree: &[u32], nodes: &[u32]) -> bool
+    ensures { λ r. ⌜ ((r ≡ true) ↔ Holds (nodeWords (now (nodes .entry))) (now (tree .entry))) ⌝ }
+{
     let mut i = 0usize;
     while i < tree.len() {
         let node = i / fields::NODE_WORDS;
@@ -57,7 +69,9 @@ fn has_nodes(tree: &[u32], nodes: &[u32]) -> bool {
 }
 
 // Whether the words are those of the tokens, each op_ss_ee in decimal digits, and 0 after them.
-fn has_tokens(list: &[u32], tokens: &[u32]) -> bool {
+fn has_tokens(list: &[u32], tokens: &[u32]) -> bool
+    ensures { λ r. ⌜ ((r ≡ true) ↔ Holds (listWords (writtenOf (now (tokens .entry)))) (now (list .entry))) ⌝ }
+{
     let mut i = 0usize;
     while i < list.len() {
         let token = i / fields::TOKEN_WORDS;
@@ -79,10 +93,14 @@ fn has_tokens(list: &[u32], tokens: &[u32]) -> bool {
     i / fields::TOKEN_WORDS == tokens.len()
 }
 
-// Whether the eight words from `at` on are the record of these items.
+// Whether the eight words from `at` on are the record of these items; no items make none. `has_records` has looked for the room.
 fn has_record(messages: &[u32], at: usize, items: &[u32]) -> bool
     requires { ⌜ at + 8 ≤ length (now messages) ⌝ }
+    ensures { λ r. ⌜ ((r ≡ true) ↔ (take 8 (drop at (now (messages .entry))) ≡ recordOf (now (items .entry)))) ⌝ }
 {
+    if items.len() == 0 {
+        return false;
+    }
     let mut i = 0usize;
     while i < fields::RECORD_WORDS {
         if messages[at + i] != record_word(items, i) {
@@ -93,8 +111,12 @@ fn has_record(messages: &[u32], at: usize, items: &[u32]) -> bool
     true
 }
 
-// Whether the words are the records of the messages, one for each mark, and 0 after them.
-fn has_records(messages: &[u32], answers: &[u32], count: usize) -> bool {
+// Whether the words are the records of the messages, one for each mark, and 0 after them. The answers begin with a mark, at which
+// `messages_verdict` has looked.
+fn has_records(messages: &[u32], answers: &[u32], count: usize) -> bool
+    requires { ⌜ getD (now answers) 0 0 ≡ messageMark ⌝ }
+    ensures { λ r. ⌜ (r ≡ true → (count ≡ length (marksOf (now (answers .entry)))) × Holds (recordsOf (marksOf (now (answers .entry)))) (now (messages .entry))) ⌝ }
+{
     let mut from = 0usize;
     let mut records = 0usize;
     while from < answers.len() {
@@ -112,12 +134,76 @@ fn has_records(messages: &[u32], answers: &[u32], count: usize) -> bool {
     records == count && is_zero(messages, fields::RECORD_WORDS * records)
 }
 
-// Whether the answers are a refusal of this number and place.
-fn is_refusal(answers: &[u32], number: u32, place: usize) -> bool {
-    if answers.len() != 3 {
+// Whether the answers begin with a refusal of this number and place. There are some: the verdicts have looked.
+fn is_refusal(answers: &[u32], number: u32, place: usize) -> bool
+    requires { ⌜ 1 ≤ length (now answers) ⌝ }
+    ensures { λ r. ⌜ ((r ≡ true) ↔ Refuses (now (answers .entry)) number place) ⌝ }
+{
+    if items_end(answers, 1) != 3 {
         return false;
     }
-    answers[0] == REFUSED && answers[1] == number && wide(answers[2]) == place as u64
+    if answers[0] != REFUSED {
+        return false;
+    }
+    answers[1] == number && size(answers[2]) == place
+}
+
+// A tree of n nodes. There are answers: `read_verdict` has looked, here and below.
+fn tree_verdict(n: usize, tree: &[u32], messages: &[u32], answers: &[u32]) -> Verdict
+    requires { ⌜ 1 ≤ length (now answers) ⌝ }
+    ensures { λ r. ⌜ ifSame r (ReadAsSaid (now (answers .entry)) (aTree n) (now (tree .entry)) (now (messages .entry))) ⌝ }
+{
+    let end = items_end(answers, 1);
+    if answers[0] != TREE || n != end - 1 {
+        return Verdict::Answer;
+    }
+    if !is_zero(messages, 0) {
+        return Verdict::Messages;
+    }
+    if has_nodes(tree, &answers[1..end]) {
+        return Verdict::Same;
+    }
+    Verdict::Tree
+}
+
+// So many messages.
+fn messages_verdict(n: usize, tree: &[u32], messages: &[u32], answers: &[u32]) -> Verdict
+    requires { ⌜ 1 ≤ length (now answers) ⌝ }
+    ensures { λ r. ⌜ ifSame r (ReadAsSaid (now (answers .entry)) (someMessages n) (now (tree .entry)) (now (messages .entry))) ⌝ }
+{
+    if answers[0] != MESSAGE {
+        return Verdict::Answer;
+    }
+    if !is_zero(tree, 0) {
+        return Verdict::Tree;
+    }
+    if has_records(messages, answers, n) {
+        return Verdict::Same;
+    }
+    Verdict::Messages
+}
+
+// A refused reading.
+fn refusal_verdict(
+    number: u32,
+    place: usize,
+    tree: &[u32],
+    messages: &[u32],
+    answers: &[u32],
+) -> Verdict
+    requires { ⌜ 1 ≤ length (now answers) ⌝ }
+    ensures { λ r. ⌜ ifSame r (ReadAsSaid (now (answers .entry)) (refused number place) (now (tree .entry)) (now (messages .entry))) ⌝ }
+{
+    if !is_zero(tree, 0) {
+        return Verdict::Tree;
+    }
+    if !is_zero(messages, 0) {
+        return Verdict::Messages;
+    }
+    if is_refusal(answers, number, place) {
+        return Verdict::Same;
+    }
+    Verdict::Answer
 }
 
 // A parse call's answer and buffers, beside the answers of its line.
@@ -127,82 +213,63 @@ pub fn read_verdict(
     messages: &[u32],
     work: &[u32],
     answers: &[u32],
-) -> Verdict {
+) -> Verdict
+    ensures { λ r. ⌜ ifSame r (ReadAsSaid (now (answers .entry)) (toldOf answered) (now (tree .entry)) (now (messages .entry))) ⌝ }
+    ensures { λ r. ⌜ ifSame r (now (work .entry) ≡ zeros (now (work .entry))) ⌝ }
+{
     if answers.len() == 0 {
         return Verdict::Unclear;
     }
     if !is_zero(work, 0) {
         return Verdict::Work;
     }
-    let mark = answers[0];
     match answered {
         Answer::Tree(n) => tree_verdict(n, tree, messages, answers),
-        Answer::Messages(n) => {
-            if mark != MESSAGE {
-                return Verdict::Answer;
-            }
-            if !is_zero(tree, 0) {
-                return Verdict::Tree;
-            }
-            if has_records(messages, answers, n) {
-                return Verdict::Same;
-            }
-            Verdict::Messages
-        }
+        Answer::Messages(n) => messages_verdict(n, tree, messages, answers),
         Answer::Refused(number, place) => {
-            if !is_zero(tree, 0) {
-                return Verdict::Tree;
-            }
-            if !is_zero(messages, 0) {
-                return Verdict::Messages;
-            }
-            if is_refusal(answers, number, place) {
-                return Verdict::Same;
-            }
-            Verdict::Answer
+            refusal_verdict(number, place, tree, messages, answers)
         }
     }
 }
 
-// A tree of n nodes.
-fn tree_verdict(n: usize, tree: &[u32], messages: &[u32], answers: &[u32]) -> Verdict
+// A list of n tokens. There are answers: `write_verdict` has looked, here and below.
+fn tokens_verdict(n: usize, list: &[u32], answers: &[u32]) -> Verdict
     requires { ⌜ 1 ≤ length (now answers) ⌝ }
+    ensures { λ r. ⌜ ifSame r (WrittenAsSaid (now (answers .entry)) (tokens n) (now (list .entry))) ⌝ }
 {
-    if answers[0] != TREE || n != answers.len() - 1 {
+    let end = items_end(answers, 1);
+    if answers[0] != LIST || n != end - 1 {
         return Verdict::Answer;
     }
-    if !is_zero(messages, 0) {
-        return Verdict::Messages;
-    }
-    if has_nodes(tree, &answers[1..]) {
+    if has_tokens(list, &answers[1..end]) {
         return Verdict::Same;
     }
-    Verdict::Tree
+    Verdict::List
+}
+
+// A refused writing.
+fn unwritten_verdict(number: u32, place: usize, list: &[u32], answers: &[u32]) -> Verdict
+    requires { ⌜ 1 ≤ length (now answers) ⌝ }
+    ensures { λ r. ⌜ ifSame r (WrittenAsSaid (now (answers .entry)) (unwritten number place) (now (list .entry))) ⌝ }
+{
+    if !is_zero(list, 0) {
+        return Verdict::List;
+    }
+    if is_refusal(answers, number, place) {
+        return Verdict::Same;
+    }
+    Verdict::Answer
 }
 
 // A write call's answer and list, beside the answers of its line.
-pub fn write_verdict(written: Written, list: &[u32], answers: &[u32]) -> Verdict {
+pub fn write_verdict(written: Written, list: &[u32], answers: &[u32]) -> Verdict
+    ensures { λ r. ⌜ ifSame r (WrittenAsSaid (now (answers .entry)) (told written) (now (list .entry))) ⌝ }
+{
     if answers.len() == 0 {
         return Verdict::Unclear;
     }
     match written {
-        Written::Tokens(n) => {
-            if answers[0] != LIST || n != answers.len() - 1 {
-                return Verdict::Answer;
-            }
-            if has_tokens(list, &answers[1..]) {
-                return Verdict::Same;
-            }
-            Verdict::List
-        }
-        Written::Refused(number, place) => {
-            if !is_zero(list, 0) {
-                return Verdict::List;
-            }
-            if is_refusal(answers, number, place) {
-                return Verdict::Same;
-            }
-            Verdict::Answer
-        }
+        Written::Tokens(n) => tokens_verdict(n, list, answers),
+        Written::Refused(number, place) => unwritten_verdict(number, place, list, answers),
     }
 }

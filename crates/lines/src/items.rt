@@ -4,17 +4,17 @@ use molang::lines::ANY;
 use molang::lines::TREE;
 use words::fields;
 ghost use mathlib.Core.Path.{_≡_};
-ghost use Prim.Native.Nat.{_+_, _%_, _^_, _≤_, _<_};
+ghost use Prim.Native.Nat.{_+_, _^_, _≤_, _<_};
 ghost use mathlib.Core.List.{[], _∷_};
 ghost use lib.ListN.{length, getD};
 ghost use Rattle.molang.specs.Words.{word};
 ghost use Rattle.molang.specs.Lines.{nodeWords, recordOf};
-ghost use Rattle.lines.specs.Items.{bareWords};
+ghost use Rattle.lines.specs.Items.{bareWords, Ended, LineEnded};
 
-// Where the items from `from` on end: at the next mark, or with the numbers.
+// Where the items from `from` on end: at the next mark, or with the numbers. Its callers start just behind a number of theirs.
 pub fn items_end(numbers: &[u32], from: usize) -> usize
     requires { ⌜ from ≤ length (now numbers) ⌝ }
-    ensures { λ r. ⌜ (from ≤ r) × (r ≤ length (now (numbers .entry))) ⌝ }
+    ensures { λ r. ⌜ Ended (now (numbers .entry)) from r ⌝ }
 {
     let mut at = from;
     while at < numbers.len() {
@@ -26,10 +26,10 @@ pub fn items_end(numbers: &[u32], from: usize) -> usize
     at
 }
 
-// Where the line that starts at `from` ends: at the next mark that asks, or with the numbers.
+// Where the line that starts at `from` ends: at the next mark that asks, or with the numbers. `run` is inside the table.
 pub fn line_end(numbers: &[u32], from: usize) -> usize
     requires { ⌜ from < length (now numbers) ⌝ }
-    ensures { λ r. ⌜ (from < r) × (r ≤ length (now (numbers .entry))) ⌝ }
+    ensures { λ r. ⌜ LineEnded (now (numbers .entry)) from r ⌝ }
 {
     let mut at = from + 1;
     while at < numbers.len() {
@@ -48,7 +48,7 @@ pub fn size(n: u32) -> usize
     n as usize
 }
 
-// A word of a kind.
+// A word of a kind, which is one of `fields`; what stands below it are decimal digits or what `token_word` asks for.
 fn word_of(kind: u32, low: u32) -> u32
     requires { ⌜ (kind < 8) × (low < 2 ^ 29) ⌝ }
     ensures { λ r. ⌜ r ≡ word kind low ⌝ }
@@ -56,7 +56,7 @@ fn word_of(kind: u32, low: u32) -> u32
     kind * fields::KIND + low
 }
 
-// The word of a tree node at a place in its six, the node being op_c_ss_ee in decimal digits.
+// The word of a tree node at a place in its six, the node being op_c_ss_ee in decimal digits. The place is a remainder of six.
 pub fn node_word(node: u32, place: usize) -> u32
     requires { ⌜ place < 6 ⌝ }
     ensures { λ r. ⌜ r ≡ getD (nodeWords (node ∷ [])) place 0 ⌝ }
@@ -71,13 +71,13 @@ pub fn node_word(node: u32, place: usize) -> u32
     }
 }
 
-// The word of a token at a place in its five.
+// The word of a token at a place in its five. The place is a remainder of five; operator and span come from a table's number or an index.
 pub fn token_word(op: u32, start: u32, end: u32, place: usize) -> u32
-    requires { ⌜ (start < 2 ^ 29) × (end < 2 ^ 29) × (place < 5) ⌝ }
-    ensures { λ r. ⌜ r ≡ getD (bareWords (op % 2 ^ 8) start end) place 0 ⌝ }
+    requires { ⌜ (op < 2 ^ 29) × (start < 2 ^ 29) × (end < 2 ^ 29) × (place < 5) ⌝ }
+    ensures { λ r. ⌜ r ≡ getD (bareWords op start end) place 0 ⌝ }
 {
     match place {
-        0 => fields::operator_word(op),
+        0 => word_of(fields::OPERATOR, op),
         1 => word_of(fields::START, start),
         2 => word_of(fields::END, end),
         3 => fields::no_upper(),
@@ -85,7 +85,7 @@ pub fn token_word(op: u32, start: u32, end: u32, place: usize) -> u32
     }
 }
 
-// The argument of a message at a place, 0 where the line leaves it out.
+// The argument of a message at a place, which `record_word` has below 8; 0 where the line leaves it out.
 fn argument(items: &[u32], place: usize) -> u32
     requires { ⌜ place < 2 ^ 32 ⌝ }
     ensures { λ r. ⌜ r ≡ getD (now (items .entry)) (place + 1) 0 ⌝ }
@@ -96,7 +96,8 @@ fn argument(items: &[u32], place: usize) -> u32
     0
 }
 
-// The word of a message record at a place in its eight: number_ss_ee, and the arguments up to the last that is not 0.
+// The word of a message record at a place in its eight, over which `has_record` goes: number_ss_ee, and the arguments up to the last that
+// is not 0.
 pub fn record_word(items: &[u32], place: usize) -> u32
     requires { ⌜ place < 8 ⌝ }
     ensures { λ r. ⌜ r ≡ getD (recordOf (now (items .entry))) place 0 ⌝ }

@@ -17,7 +17,8 @@ use molang::lines::table;
 ghost use Prim.Native.Nat.{_≤_};
 ghost use lib.ListN.{length};
 
-// Runs one line: a mark that asks, its items, and the answers. 0 if all is as the line says, else 1.
+// Runs one line: a mark that asks, its items, and the answers. 0 if all is as the line says, else 1. `run` cuts lines of one number or
+// more from the table.
 fn run_line(line: &[u32]) -> u64
     requires { ⌜ (1 ≤ length (now line)) × (length (now line) ≤ 1002) ⌝ }
     ensures { λ r. ⌜ r ≤ 1 ⌝ }
@@ -33,7 +34,7 @@ fn run_line(line: &[u32]) -> u64
     }
 }
 
-// Runs every line of the table.
+// Runs every line of the table, which has at most 1,002 numbers.
 fn run(lines: &[u32])
     requires { ⌜ length (now lines) ≤ 1002 ⌝ }
 {

@@ -81,7 +81,7 @@ fn say_operand(n: usize) {
     say(&letter);
 }
 
-// An item of a list, before which so many operands stand; how many stand before the next.
+// An item of a list, before which so many operands stand; how many stand before the next. `say_items` counts them, at most one an item.
 fn say_item(op: u32, operands: usize) -> usize
     requires { ⌜ operands < 2 ^ 32 ⌝ }
     ensures { λ r. ⌜ r ≤ operands + 1 ⌝ }
@@ -96,7 +96,7 @@ fn say_item(op: u32, operands: usize) -> usize
     operands
 }
 
-// The operators of a list, the operands as a, b, c.
+// The operators of a list, the operands as a, b, c. They are part of a line, which has at most 1,002 numbers, here and below.
 fn say_items(operators: &[u32])
     requires { ⌜ length (now operators) ≤ 1002 ⌝ }
 {

@@ -1,16 +1,13 @@
 -- Where the program turns an input back, and what a call of the entry on a list of at most 128 tokens at its exact used set comes to.
-use Prim.Native.Nat.{ℕ, zero, suc, _+_, _-_, _*_, _/_, _%_, _^_, _≤_, _<_}
+use Prim.Native.Nat.{ℕ, _+_, _-_, _*_, _/_, _%_, _^_, _≤_, _<_}
 use mathlib.Core.Path.{_≡_, refl, ap, _∙_, fun-ext}
 use mathlib.Core.Bool.{Bool, _&&_}
 use mathlib.Core.List.{List, [], _∷_}
 use mathlib.Core.Option.{Option, none, some}
 use native.Mathlib.Omega.{arith}
 use lib.Dec.{eqb, leb, ltb}
-use lib.IntN.{ℤ, pos, negsuc, _-ℤ_}
+use lib.IntN.{ℤ}
 use lib.ListN.{length, take, drop, getD, replicate, length-take, length-drop}
-use mir.Syntax.{w16}
-use mir.Val.{toZ, SFits}
-use mir.Facts.{toZ-pos}
 use borrow.Author.Tests.{eq-eqb, ne-eqb, le-leb, lt-leb, lt-ltb, le-ltb}
 use Rattle.molang.specs.Words.{Refusal, operatorSlot, wordsRefusal, tokensOf}
 use Rattle.molang.specs.Read.{Answer, read}
@@ -81,25 +78,6 @@ not-turned bytes first whole some-bytes low tokens h =
       eq-eqb (listLength bytes % 5) 0 tokens,
       le-leb (listLength bytes) 640 h,
     ) refl
-
--- THE VERSION
-pub version-low : (bits : ℕ) → bits < 32768 → pos bits ≡ versionOf bits
-unfolding versionOf
-version-low bits h = rw (lt-ltb bits 32768 h, versionOf) refl
-
-pub version-high : (bits : ℕ) → 32768 ≤ bits → negsuc (65535 - bits) ≡ versionOf bits
-unfolding versionOf
-version-high bits h = rw (le-ltb bits 32768 h, versionOf) refl
-
-pub below-zero : (n : ℕ) → negsuc 0 -ℤ pos n ≡ negsuc n
-below-zero zero = refl
-below-zero (suc n) = ap negsuc (omega arith)
-
-pub below-value : (k : ℕ) → k < 32768 → negsuc 0 -ℤ toZ w16 k ≡ negsuc k
-below-value k h = rw (toZ-pos w16 h) (below-zero k)
-
-pub below-fits : (k : ℕ) → k < 32768 → SFits w16 (negsuc 0 -ℤ toZ w16 k)
-below-fits k h = rw (below-value k h) (record { sfits = h })
 
 last-of : (o : Option Refusal) → firstOf (o ∷ []) ≡ o
 unfolding firstOf

@@ -1,16 +1,15 @@
-// What an input asks: where the program turns it back, else a list to read. Leans on exact (used set, source length) and parse;
+// What an input asks: where the program turns it back, else a list to read. Leans on exact (used set, source length, version) and parse;
 // specs/Listing has the definition.
 use exact::highest_end;
 use exact::used_of;
+use exact::version_of;
 use parse::Answer;
 use parse::parse;
 use words::refusals;
 ghost use mathlib.Core.Path.{_≡_};
-ghost use Prim.Native.Nat.{_+_, _≤_, _<_, _%_, _^_};
 ghost use lib.ListN.{length};
 ghost use Rattle.molang.specs.Words.{operatorSlot, wordsRefusal};
 ghost use Rattle.molang.specs.Parse.{told, treeIn, messagesIn};
-ghost use Rattle.molang.specs.Lines.{versionOf};
 ghost use Rattle.parse.specs.Answers.{toldOf};
 ghost use Rattle.treelist.specs.Listing.{turnedBack, refusalOf, Counted, Readable, readingOf, faultOf, answerOf};
 
@@ -45,18 +44,6 @@ fn asked(bytes: usize, first: u32) -> Request
         return Request::Refused(refusals::TOO_MANY_TOKENS);
     }
     Request::List(words)
-}
-
-// Sixteen bits in two's complement.
-fn version_of(bits: u32) -> i16
-    requires { ⌜ bits < 2 ^ 16 ⌝ }
-    ensures { λ r. ⌜ r ≡ versionOf bits ⌝ }
-{
-    if bits < 32_768 {
-        return bits as i16;
-    }
-    let below = (65_535 - bits) as i16;
-    -1 - below
 }
 
 // Reads a list at its exact used set, its highest span end being the source length.

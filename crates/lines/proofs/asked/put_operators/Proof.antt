@@ -31,7 +31,7 @@ add-token-word : tie.Need-add-token-word Inv-loop μ-loop
 add-token-word c = omega arith
 
 token-word-requires : tie.Need-token-word-requires Inv-loop μ-loop
-token-word-requires c κs = (omega arith, omega arith, omega arith)
+token-word-requires c κs = (omega arith, omega arith, omega arith, omega arith)
 
 mul-list : tie.Need-mul-list Inv-loop μ-loop
 mul-list c = omega arith

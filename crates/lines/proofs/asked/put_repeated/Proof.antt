@@ -16,7 +16,7 @@ loop-holds : tie.Need-loop-holds Inv-loop μ-loop
 loop-holds c = (omega arith, refl)
 
 token-word-requires : tie.Need-token-word-requires Inv-loop μ-loop
-token-word-requires c κs = (omega arith, omega arith, omega arith)
+token-word-requires c κs = (omega arith, omega arith, omega arith, omega arith)
 
 mul-list : tie.Need-mul-list Inv-loop μ-loop
 mul-list c = omega arith

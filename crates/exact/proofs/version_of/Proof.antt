@@ -1,13 +1,13 @@
--- `treelist::asked::version_of` meets its contract: the lower half of the bits, and the upper. Assumes nothing.
+-- `exact::version_of` meets its contract: the lower half of the bits, and the upper. Assumes nothing.
 use Prim.Native.Nat.{_-_}
 use mathlib.Core.Path.{_∙_}
 use native.Mathlib.Omega.{arith}
 use borrow.Author.Needs.{needs}
 use mir.Syntax.{w16}
 use mir.Facts.{toZ-pos, toZ-ofZ}
-use Rattle.treelist.proofs.AskedLaws.{version-low, version-high, below-value, below-fits}
-use Rattle.treelist.proofs.asked.version_of.Statement.{statement}
-use Rattle.treelist.proofs.asked.version_of.Tie as tie
+use Rattle.exact.proofs.VersionLaws.{version-low, version-high, below-value, below-fits}
+use Rattle.exact.proofs.version_of.Statement.{statement}
+use Rattle.exact.proofs.version_of.Tie as tie
 
 cast-result : tie.Need-cast-result
 cast-result c = search needs

@@ -1,0 +1,57 @@
+-- What a verdict `Same` says: the answer and every word of the buffers are those that molang's Lines wants of the line's answers. The buffers
+-- are zeros before the call.
+use Prim.Native.Nat.{ℕ}
+use mathlib.Core.Path.{_≡_}
+use mathlib.Core.List.{List, [], _∷_}
+use lib.IntN.{pos}
+use lib.ListN.{length, drop, getD, replicate}
+use Rattle.molang.specs.Parse.{Call, Told, inFront}
+use Rattle.molang.specs.WriteEntry.{WriteTold}
+use Rattle.molang.specs.Lines.{parsed, wrote, refusedMark, itemsOf, marksOf, wantedOf, writeWantedOf}
+use Rattle.lines.specs.declared.compared.Verdict.{Verdict}
+use Rattle.lines.specs.declared.compared.Verdict.the-variants.{Same, Answer, Tree, Messages, Work, List as Verdict·List, Unclear}
+
+-- As many words 0.
+abbrev pub zeros : List ℕ → List ℕ
+zeros words = replicate (length words) 0
+
+-- The buffer holds these words, and 0 after them.
+unfoldable pub Holds : List ℕ → List ℕ → Type 0
+Holds words buffer = buffer ≡ inFront words (zeros buffer)
+
+-- The answers begin with a refusal of this number and place.
+pub record Refuses (answers : List ℕ) (number place : ℕ) : Type 0 where
+  pub mark : getD answers 0 0 ≡ refusedMark
+  pub items : itemsOf (drop 1 answers) ≡ number ∷ place ∷ []
+
+-- Of the call only the buffers count here, as they were before it.
+unfoldable pub callOf : List ℕ → List ℕ → Call
+callOf tree messages =
+    record {
+      list = [];
+      tree = zeros tree;
+      messages = zeros messages;
+      work = [];
+      sourceLength = 0;
+      version = pos 0;
+      usedLow = 0;
+      usedHigh = 0;
+    }
+
+-- A reading told this and left these buffers, as the line says.
+unfoldable pub ReadAsSaid : List ℕ → Told → List ℕ → List ℕ → Type 0
+ReadAsSaid answers told tree messages = parsed told tree messages ≡ wantedOf (marksOf answers) (callOf tree messages)
+
+-- A writing told this and left this list, as the line says.
+unfoldable pub WrittenAsSaid : List ℕ → WriteTold → List ℕ → Type 0
+WrittenAsSaid answers told list = wrote told list ≡ writeWantedOf (marksOf answers) (record { tree = []; list = zeros list })
+
+-- What holds where the verdict is `Same`.
+abbrev pub ifSame : Verdict → Type 0 → Type 0
+ifSame Same P = P
+ifSame Answer P = Unit {0}
+ifSame Tree P = Unit {0}
+ifSame Messages P = Unit {0}
+ifSame Work P = Unit {0}
+ifSame Verdict·List P = Unit {0}
+ifSame Unclear P = Unit {0}
