@@ -1,6 +1,12 @@
 # The commands of the project; README.md says what each does.
 .PHONY: test edits library compare bench host demo
 
+# A relative folder is meant from here, and cargo builds each crate in the crate's own.
+ifdef MOLANGX_SRC
+override MOLANGX_SRC := $(abspath $(MOLANGX_SRC))
+export MOLANGX_SRC
+endif
+
 test:
 	@tools/gate.sh
 
