@@ -11,6 +11,7 @@ use Rattle.nodes.specs.Store.{wd, TokenAt, Chain, RepF, ends, more, RepT, Owned
 use Rattle.nodes.specs.Children.{CanFollow}
 use Rattle.nodes.proofs.Runs.{chain-unique, chain-keep}
 use Rattle.nodes.proofs.Store.{reserve-pos, roots-above, rep-le, rep-raise, rep-unique, tree-more}
+use Rattle.nodes.proofs.Trees.{first-none}
 use Rattle.buffers.specs.Emit.{Linked}
 
 pub linked-unique : {W : List ℕ} {first hi hi' : ℕ} {f g : Forest} → Linked W first hi f → Linked W first hi' g → f ≡ g
@@ -34,11 +35,8 @@ none-left : {W X bs : List ℕ} {s lo hi : ℕ} {f : Forest} → Chain W s bs �
 none-left c (ends e) z = refl
 none-left c (more a b d z' o t n ch k r) z = absurd (omega arith)
 
-no-slot : {W X bs : List ℕ} {s lo hi : ℕ} → Chain W s bs → RepF W X bs lo hi nil → s ≡ 0
-no-slot c (ends e) = c
-
 pub linked-nil : {W : List ℕ} {s hi : ℕ} → Linked W s hi nil → s ≡ 0
-linked-nil v = no-slot (v .chain) (v .rep)
+linked-nil v = first-none (v .chain) (v .rep)
 
 pub linked-none : {W : List ℕ} {s hi : ℕ} {f : Forest} → Linked W s hi f → s ≡ 0 → f ≡ nil
 linked-none v z = none-left (v .chain) (v .rep) z

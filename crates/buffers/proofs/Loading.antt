@@ -13,6 +13,7 @@ use lib.Seq.{getD-drop, drop-drop}
 use Rattle.molang.specs.Forest.{Token, nil, leaves}
 use Rattle.molang.specs.Words.{tokenWords, tokensOf, listWords}
 use Rattle.molang.proofs.Words.{LegalTokens, noTokens, token, words-back}
+use Rattle.molang.proofs.ListWords.{listWords-length}
 use Rattle.words.specs.Fields.{operatorOf}
 use Rattle.ops.specs.Classes.{bitAt, inClass, classTable, entryOf, ownWord}
 use Rattle.ops.proofs.ClassLaws.{leaf-bits}
@@ -120,11 +121,6 @@ unfolding tokenSlots
 slots-length i zero = refl
 slots-length i (suc n) = ap suc (slots-length (suc i) n)
 
-words-length : (ks : List Token) → length (listWords ks) ≡ 5 * length ks
-unfolding listWords tokenWords
-words-length [] = refl
-words-length (k ∷ ks) = omega (arith, words-length ks)
-
 -- A leaf at its slot is the token k where the list's words from there on begin with those of k.
 leaf-token : (list W : List ℕ) (i : ℕ) (k : Token) (ks : List Token) → drop (5 * i) list ≡ listWords (k ∷ ks) → LegalTokens (k ∷ ks) → LeafAt list W i
     → TokenAt W (3 * i + 3) k
@@ -165,7 +161,7 @@ pub load-done : {list W : List ℕ} {n : ℕ} {Z : List ℕ} {i : ℕ} → CanLo
 load-done {list} {W} {n} {Z} {i} p v h =
     let ks = tokensOf list in
     let whole = words-back 0 0 list (p .faultless) (omega (arith, p .tokens)) in
-    let count : length ks ≡ n = omega (arith, words-length ks, ap length (whole .0), p .tokens) in
+    let count : length ks ≡ n = omega (arith, listWords-length ks, ap length (whole .0), p .tokens) in
     let rep = tokens-rep list Z 0 ks (sym (whole .0)) (whole .1) (λ j x. v .leaf j (omega arith)) in
     let here : RepF Z (0 ∷ []) (tokenSlots 0 (length ks)) 3 (3 * (0 + length ks) + 3) (leaves ks) = rep in
     let z : 0 + length ks ≡ n = omega arith in

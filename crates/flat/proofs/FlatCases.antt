@@ -18,14 +18,9 @@ use Rattle.molang.proofs.Sections.{flat}
 use Rattle.ops.specs.Operators.{isOpener}
 use Rattle.ops.specs.Classes.{passClasses, ownClasses, inClass}
 use Rattle.ops.proofs.OperatorLaws.{false-at}
+pub use Rattle.walks.proofs.Reading.{when-true as taken, when-false as passed}
 
--- a test that is known, and a value that is there
-pub taken : {A : Type 0} (b : Bool) (x y : A) → b ≡ true → elim b [ true ↦ x | false ↦ y ] ≡ x
-taken b x y e = rw e
-
-pub passed : {A : Type 0} (b : Bool) (x y : A) → b ≡ false → elim b [ true ↦ x | false ↦ y ] ≡ y
-passed b x y e = rw e
-
+-- a value that is there
 pub found : {A B : Type 0} (o : Option B) (b : B) (y : B → A) (x : A) → o ≡ some b → elim o [ some c ↦ y c | none ↦ x ] ≡ y b
 found o b y x e = rw e
 

@@ -172,7 +172,7 @@ read-messages ts u v l ms e = records (rw e at (read-bounded ts u v l))
     records : {n : ℕ} → Bounded n (messages ms) → (1 ≤ length ms) × (length ms ≤ 2)
     records (fewMessages a b) = (a, b)
 
-record-length : (m : Message) → length (messageRecord m) ≡ 8
+pub record-length : (m : Message) → length (messageRecord m) ≡ 8
 unfolding messageRecord record8 about
 record-length (multipleRoots from to roots) = refl
 record-length (complexMustEndWithSemicolon from to) = refl

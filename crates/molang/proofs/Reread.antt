@@ -23,7 +23,7 @@ use Rattle.molang.proofs.Bounds.{read-tree}
 use Rattle.molang.proofs.Entries.{read-again}
 
 -- Five words make a token.
-tokens-count : (ws : List ℕ) → 5 * length (tokensOf ws) ≤ length ws
+pub tokens-count : (ws : List ℕ) → 5 * length (tokensOf ws) ≤ length ws
 unfolding tokensOf
 tokens-count [] = omega arith
 tokens-count (a ∷ []) = omega arith

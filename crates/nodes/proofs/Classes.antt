@@ -1,48 +1,23 @@
 -- Noted classes: what a leaf notes, what a node notes of what it is given, and that a set of classes which is tested against a node's word is
 -- tested against every leaf below it (`notes-meet`).
-use Prim.Native.Nat.{ℕ, zero, suc, _^_, _≤_, _<_}
+use Prim.Native.Nat.{ℕ, zero, suc, _≤_, _<_}
 use mathlib.Core.Path.{_≡_, refl, sym, ap, ap₂, _∙_}
-use mathlib.Core.Bool.{Bool, true, false, _||_, _&&_, not}
+use mathlib.Core.Bool.{Bool, true, false, _||_, _&&_, not, and-true, and-comm, and-or-distrib-right, Bool·not-not as not-not}
 use mathlib.Core.List.{List}
-use native.Mathlib.Omega.{arith}
-use native.Mathlib.Nat.{zero-div}
 use Rattle.molang.specs.Forest.{Token, Forest, nil, node}
 use Rattle.molang.specs.Order.{someBelow}
 use Rattle.molang.proofs.Trees.{free}
 use Rattle.ops.specs.Classes.{bitAt, inClass, shares, meets}
+use Rattle.ops.proofs.BitLaws.{some-same}
+pub use Rattle.ops.proofs.BitLaws.{bit-zero as no-bit}
 use Rattle.nodes.specs.Store.{Notes, Noted, RepF, ends, more, AllLegal}
 use Rattle.nodes.specs.Children.{someNotes}
 
 -- ---- booleans
 
-and-true : (a : Bool) → (a && true) ≡ a
-and-true true = refl
-and-true false = refl
-
-not-not : (a : Bool) → not (not a) ≡ a
-not-not true = refl
-not-not false = refl
-
 not-and : (a b : Bool) → not (a && b) ≡ (not a || not b)
 not-and true b = refl
 not-and false b = refl
-
-or-false : (a : Bool) → (a || false) ≡ a
-or-false true = refl
-or-false false = refl
-
-and-or : (a b c : Bool) → ((a || b) && c) ≡ ((a && c) || (b && c))
-and-or true true true = refl
-and-or true true false = refl
-and-or true false true = refl
-and-or true false false = refl
-and-or false b c = refl
-
-and-comm : (a b : Bool) → (a && b) ≡ (b && a)
-and-comm true true = refl
-and-comm true false = refl
-and-comm false true = refl
-and-comm false false = refl
 
 or-swap : (a b c d : Bool) → ((a || b) || (c || d)) ≡ ((a || c) || (b || d))
 or-swap true b true d = refl
@@ -65,10 +40,6 @@ module _ (P : ℕ → Bool) where
   free-split k (node c cs r) rest = ap (λ (a : Bool). a && free P rest) (sym (and-true (free P (node c cs r))))
 
 -- ---- what a word notes
-
-pub no-bit : (i : ℕ) → bitAt 0 i ≡ false
-unfolding bitAt
-no-bit i = rw (zero-div (2 ^ i))
 
 pub notes-leaf : {w : ℕ} {k : Token} → ((i : ℕ) → i < 32 → bitAt w i ≡ inClass i (k .op)) → Noted w k nil
 unfolding free
@@ -105,11 +76,6 @@ roots-note {W} (more {b = b} {t = t} {k = k} {f = f} a c d z p tk n ch ks r) i h
 
 -- ---- a test of classes
 
-some-ext : (n : ℕ) (f g : ℕ → Bool) → ((i : ℕ) → i < n → f i ≡ g i) → someBelow n f ≡ someBelow n g
-unfolding someBelow
-some-ext zero f g h = refl
-some-ext (suc n) f g h = ap₂ (λ (x : Bool) (y : Bool). x || y) (h n (omega arith)) (some-ext n f g (λ i e. h i (omega arith)))
-
 some-none : (n : ℕ) → someBelow n (λ i. false) ≡ false
 unfolding someBelow
 some-none zero = refl
@@ -133,22 +99,22 @@ module _ (c : ℕ) where
   hits-leaf : (k : Token) (rest : Forest) → hits (node k nil rest) ≡ (meets c (k .op) || hits rest)
   unfolding hits free meets
   hits-leaf k rest =
-      some-ext 32 (λ i. not (not (inClass i (k .op)) && free (inClass i) rest) && bitAt c i)
+      some-same 32 (λ i. not (not (inClass i (k .op)) && free (inClass i) rest) && bitAt c i)
       (λ i. (bitAt c i && inClass i (k .op)) || (not (free (inClass i) rest) && bitAt c i))
       (λ i h.
       ap (λ (x : Bool). x && bitAt c i) (not-and (not (inClass i (k .op))) (free (inClass i) rest) ∙ ap (λ (x : Bool). x || not (free (inClass i) rest)) (not-not (inClass i (k .op))))
-      ∙ and-or (inClass i (k .op)) (not (free (inClass i) rest)) (bitAt c i)
+      ∙ and-or-distrib-right (inClass i (k .op)) (not (free (inClass i) rest)) (bitAt c i)
       ∙ ap (λ (x : Bool). x || (not (free (inClass i) rest) && bitAt c i)) (and-comm (inClass i (k .op)) (bitAt c i)))
       ∙ some-or 32 (λ i. bitAt c i && inClass i (k .op)) (λ i. not (free (inClass i) rest) && bitAt c i)
 
   hits-tree : (k d : Token) (ds r rest : Forest) → hits (node k (node d ds r) rest) ≡ (hits (node d ds r) || hits rest)
   unfolding hits free
   hits-tree k d ds r rest =
-      some-ext 32 (λ i. not (free (inClass i) (node d ds r) && free (inClass i) rest) && bitAt c i)
+      some-same 32 (λ i. not (free (inClass i) (node d ds r) && free (inClass i) rest) && bitAt c i)
       (λ i. (not (free (inClass i) (node d ds r)) && bitAt c i) || (not (free (inClass i) rest) && bitAt c i))
       (λ i h.
       ap (λ (x : Bool). x && bitAt c i) (not-and (free (inClass i) (node d ds r)) (free (inClass i) rest))
-      ∙ and-or (not (free (inClass i) (node d ds r))) (not (free (inClass i) rest)) (bitAt c i))
+      ∙ and-or-distrib-right (not (free (inClass i) (node d ds r))) (not (free (inClass i) rest)) (bitAt c i))
       ∙ some-or 32 (λ i. not (free (inClass i) (node d ds r)) && bitAt c i) (λ i. not (free (inClass i) rest) && bitAt c i)
 
   hits-free : (P : ℕ → Bool) → ((n : ℕ) → n ≤ 110 → meets c n ≡ P n) → (f : Forest) → AllLegal f → hits f ≡ not (free P f)
@@ -168,5 +134,5 @@ pub notes-meet : {w : ℕ} {f : Forest} (c : ℕ) (P : ℕ → Bool) → ((n : �
     → shares w c ≡ not (free P f)
 unfolding shares hits
 notes-meet {w} {f} c P h n l =
-    some-ext 32 (λ i. bitAt w i && bitAt c i) (λ i. not (free (inClass i) f) && bitAt c i) (λ i e. ap (λ (x : Bool). x && bitAt c i) (n .bits i e))
+    some-same 32 (λ i. bitAt w i && bitAt c i) (λ i. not (free (inClass i) f) && bitAt c i) (λ i e. ap (λ (x : Bool). x && bitAt c i) (n .bits i e))
     ∙ hits-free c P h f l

@@ -2,15 +2,15 @@
 use Prim.Native.Nat.{ℕ, _+_, _*_, _-_, _≤_, _<_}
 use mathlib.Core.Path.{_≡_, refl, sym, ap, ap₂, _∙_, subst}
 use mathlib.Core.Logic.{_≢_}
-use mathlib.Core.Bool.{Bool, true, false, _||_}
+use mathlib.Core.Bool.{Bool, _||_, or-comm}
 use mathlib.Core.List.{List, [], _∷_, _++_, append-nil}
 use native.Mathlib.Omega.{arith}
 use lib.ListN.{length, set}
 use Rattle.ops.specs.Classes.{bitAt}
+use Rattle.ops.proofs.BitLaws.{bit-zero}
 use Rattle.nodes.specs.Store.{wd, Chain, Seg, Inc, OffNext, onto}
 use Rattle.nodes.specs.Children.{CanGive, Given, someNotes}
 use Rattle.nodes.proofs.Runs.{set-same, set-other, set-long, inc-le, off-above, off-word, chain-keep, seg-onto, inc-onto, seg-unique}
-use Rattle.nodes.proofs.Classes.{no-bit}
 
 -- the slots of `left`, the last first, are not linked yet, and those of `done` are
 pub record GiveAt (W : List ℕ) (p from n : ℕ) (Z : List ℕ) (i head classes : ℕ) (left done : List ℕ) : Type 0 where
@@ -58,7 +58,7 @@ give-start {W} {p} {from} {n} g =
         at = omega (arith, g .count);
         count = omega (arith, g .count);
         chain = refl;
-        noted = λ b. no-bit b;
+        noted = λ b. bit-zero b;
         same = λ j o. refl;
         own = g .own;
         below = g .below;
@@ -78,12 +78,6 @@ give-in {W} {p} {from} {n} {Z} {i} (c ∷ left) {done} v h =
     let u = inc-le done (q .2 .1) in
     let e : wd Z (from + length left) ≡ c = v .same _ (off-above done (c + 1) (v .hi) (q .2 .1) (omega arith)) ∙ seg-onto W from left (c ∷ done) (v .whole) .0 in
     rw k (omega arith)
-
-or-comm : (a b : Bool) → (a || b) ≡ (b || a)
-or-comm true true = refl
-or-comm true false = refl
-or-comm false true = refl
-or-comm false false = refl
 
 pub give-step : {W : List ℕ} {p from n : ℕ} {Z : List ℕ} {i head classes : ℕ} (left : List ℕ) {done : List ℕ}
     → GiveAt W p from n Z i head classes left done → 0 < i

@@ -34,7 +34,7 @@ tree-under q (inr h) v = tree-avoid (λ s x y o. (omega arith, o)) v
 
 -- ---- leaves
 
-first-none : {W X cs : List ℕ} {f lo hi : ℕ} → Chain W f cs → RepF W X cs lo hi nil → f ≡ 0
+pub first-none : {W X cs : List ℕ} {f lo hi : ℕ} → Chain W f cs → RepF W X cs lo hi nil → f ≡ 0
 first-none c (ends e) = c
 
 pub leaf-tree : {W X : List ℕ} {b l m : ℕ} {t : Token} → l ≤ b → b + reserve t nil ≤ m → 0 < b → OutFrom b (reserve t nil) X

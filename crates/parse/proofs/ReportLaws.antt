@@ -9,7 +9,7 @@ use Rattle.molang.specs.Forest.{Token}
 use Rattle.molang.specs.Message.{Message, messageRecord, multipleRoots, closingMismatch, sectionNotClosed, noClosingSymbol, closer, record8, about}
 use Rattle.molang.specs.Read.{Answer, messages}
 use Rattle.molang.specs.Parse.{recordWords, inFront, messagesIn}
-use Rattle.molang.proofs.Bounds.{records-length}
+use Rattle.molang.proofs.Bounds.{record-length, records-length}
 use Rattle.words.specs.Records.{unnamed, wordsOf, laidAt}
 use Rattle.words.specs.declared.records.Record.{Record}
 use Rattle.words.proofs.RecordLaws.{laid-front, laid-after}
@@ -41,9 +41,6 @@ one-record m = append-nil (messageRecord m)
 
 two-records : (m k : Message) → recordWords (m ∷ k ∷ []) ≡ messageRecord m ++ messageRecord k
 two-records m k = records-then (m ∷ []) k ∙ ap (λ (ws : List ℕ). ws ++ messageRecord k) (one-record m)
-
-record-long : (m : Message) → length (messageRecord m) ≡ 8
-record-long m = ap length (sym (one-record m)) ∙ records-length (m ∷ [])
 
 -- ---- a failure
 
@@ -96,7 +93,7 @@ open-words t = rw (closer-token t, token-start t, token-end t, token-op t)
 two-reported : (W m m' m'' : List ℕ) (r q : Record) (s : ℕ) (k : Message) {p : Token} → m' ≡ laidAt 0 (wordsOf r) m → m'' ≡ laidAt 8 (wordsOf q) m'
     → wordsOf r ≡ messageRecord k → q ≡ openRecord W s → TokenAt W s p → m'' ≡ inFront (recordWords (k ∷ sectionNotClosed p ∷ [])) m
 two-reported W m m' m'' r q s k {p} e f g h t =
-    two-laid (messageRecord k) (messageRecord (sectionNotClosed p)) m m' m'' (record-long k)
+    two-laid (messageRecord k) (messageRecord (sectionNotClosed p)) m m' m'' (record-length k)
     (e ∙ (laid-front (wordsOf r) m ∙ ap (λ (ws : List ℕ). inFront ws m) g))
     (f ∙ ap (λ (ws : List ℕ). laidAt 8 ws m') (ap wordsOf h ∙ open-words t))
     ∙ ap (λ (ws : List ℕ). inFront ws m) (sym (two-records k (sectionNotClosed p)))

@@ -12,14 +12,13 @@ use Rattle.molang.specs.Words.{treeWords}
 use Rattle.molang.specs.WriteEntry.{treesOf}
 use Rattle.molang.specs.Parse.{recordWords, messagesIn}
 use Rattle.molang.proofs.Trees.{count-size}
+use Rattle.molang.proofs.Words.{LegalTrees, noTrees, legalTree, trees-back}
 use Rattle.molang.proofs.Bounds.{treeWords-length}
 use Rattle.words.specs.Records.{unnamed, withFirst, wordsOf, laidAt}
 use Rattle.words.specs.Extents.{firstExtent}
 use Rattle.words.specs.declared.extent.Extent.{Extent}
 use Rattle.words.proofs.RecordLaws.{laid-front}
-use Rattle.words.proofs.TreeLaws as trees
-use Rattle.words.proofs.TreeLaws.{LegalTrees, trees-back}
-use Rattle.nodes.specs.Store.{wd, Chain, RepF, ends, more, AllLegal}
+use Rattle.nodes.specs.Store.{wd, Chain, RepF, AllLegal}
 use Rattle.nodes.specs.Children.{CanFollow, Counted, IsLast, lastFrom}
 use Rattle.nodes.proofs.Store.{rep-legal, rep-keep, rep-le, rep-count, tree-first}
 use Rattle.buffers.specs.Emit.{Linked, CanEmit, Emitted}
@@ -29,11 +28,11 @@ use Rattle.parse.specs.Reports.{CanMeasure, Measured, CanReportRoots, Ro
 
 -- ---- the extent of the first tree
 
-legal-trees : (f : Forest) → AllLegal f → size f < 2 ^ 29 → LegalTrees f
+legal-trees : (f : Forest) → AllLegal f → size f < 2 ^ 14 → LegalTrees f
 unfolding size
-legal-trees nil l h = trees.none
+legal-trees nil l h = noTrees
 legal-trees (node k cs rest) l h =
-    trees.more {cs = cs} (l .0) (omega (arith, count-size cs)) (legal-trees cs (l .1) (omega arith)) (legal-trees rest (l .2) (omega arith))
+    legalTree {cs = cs} (l .0) (omega (arith, count-size cs)) (legal-trees cs (l .1) (omega arith)) (legal-trees rest (l .2) (omega arith))
 
 pub measure-emit : {W : List ℕ} {first n : ℕ} → CanMeasure W first n → CanEmit W first (28 * n + 28) (24 * n + 24)
 measure-emit {n = n} p =
@@ -49,7 +48,7 @@ pub measured : (W W' : List ℕ) (first n to stack nodes : ℕ) (r : Extent) →
     → Emitted W first to stack nodes W' → r ≡ firstExtent (treesOf (take (to + 6 * nodes - to) (drop to W'))) → Measured W first n r W'
 measured W W' first n to stack nodes r p at above v e =
     record {
-      extent = λ f w. e ∙ ap firstExtent (ap treesOf (words f w) ∙ trees-back (legal f w));
+      extent = λ f w. e ∙ ap firstExtent (ap treesOf (words f w) ∙ trees-back f (legal f w));
       same = λ j h. v .same j (omega arith);
       long = v .long;
     }

@@ -12,7 +12,9 @@ use borrow.Author.Tests.{eq-eqb, ne-eqb, le-leb, lt-leb, lt-ltb, le-ltb}
 use Rattle.molang.specs.Words.{Refusal, operatorSlot, wordsRefusal, tokensOf}
 use Rattle.molang.specs.Read.{Answer, read}
 use Rattle.molang.proofs.Bounds.{Bounded, fewNodes, fewMessages, read-bounded}
+use Rattle.molang.proofs.Reread.{tokens-count}
 use Rattle.molang.specs.Parse.{Call, Told, refused, must, firstOf, inHalves, refusal, reading, told, answered, treeIn, treeAfter, messagesIn, messagesAfter}
+use Rattle.checks.proofs.AcceptLaws.{last-row}
 use Rattle.exact.specs.Exact.{named, highest}
 use Rattle.exact.proofs.WordLaws.{exact-few, highest-few}
 use Rattle.parse.specs.Answers.{call}
@@ -79,11 +81,6 @@ not-turned bytes first whole some-bytes low tokens h =
       le-leb (listLength bytes) 640 h,
     ) refl
 
-last-of : (o : Option Refusal) → firstOf (o ∷ []) ≡ o
-unfolding firstOf
-last-of none = refl
-last-of (some r) = refl
-
 -- THE CALL OF THE ENTRY. Of its checks only those of the words are left, and its used set is the list's own.
 module _ (list tree messages : List ℕ) (ok : Readable list tree messages) (work : List ℕ) (room : length work ≡ 8256) (source : ℕ)
     (ends : source ≡ highest operatorSlot 0 list) (version : ℤ) (low high : ℕ) (exact : (n : ℕ) → inHalves low high n ≡ named operatorSlot list n) where
@@ -103,7 +100,7 @@ module _ (list tree messages : List ℕ) (ok : Readable list tree messages) (wor
         lt-ltb (high * 2 ^ 64 + low) (2 ^ 111) (exact-few low high list exact),
         le-leb source 536870911 (omega (arith, highest-few operatorSlot 0 list (omega arith))),
       )
-      (last-of (wordsRefusal 0 operatorSlot 0 list))
+      (last-row (wordsRefusal 0 operatorSlot 0 list))
 
   pub called-reading : reading called ≡ readingOf list version
   unfolding reading readingOf
@@ -163,22 +160,13 @@ bounded-printable (some r) b h = tt
 bounded-printable none (fewNodes k) h = omega arith
 bounded-printable none (fewMessages k l) h = l
 
-few-tokens : (ws : List ℕ) → 5 * length (tokensOf ws) ≤ length ws
-unfolding tokensOf
-few-tokens [] = omega arith
-few-tokens (a ∷ []) = omega arith
-few-tokens (a ∷ b ∷ []) = omega arith
-few-tokens (a ∷ b ∷ c ∷ []) = omega arith
-few-tokens (a ∷ b ∷ c ∷ d ∷ []) = omega arith
-few-tokens (a ∷ b ∷ c ∷ d ∷ e ∷ ws) = omega (arith, few-tokens ws)
-
 pub printable : (bytes : ℕ) (words : List ℕ) → length words ≡ 641 → Printable (told (faultOf bytes words) (answerOf bytes words))
 unfolding answerOf readingOf listOf
 printable bytes words h =
     let list = listOf bytes words in
     bounded-printable (faultOf bytes words)
     (read-bounded (tokensOf list) (named operatorSlot list) (versionOf (getD words 0 0)) (highest operatorSlot 0 list))
-    (omega (arith, few-tokens list, length-take (listLength bytes) (drop 1 words), length-drop 1 words))
+    (omega (arith, tokens-count list, length-take (listLength bytes) (drop 1 words), length-drop 1 words))
 
 -- What is printed, by what was read.
 pub listed : (bytes : ℕ) (front words : List ℕ) (t : Told) (tree messages : List ℕ) → words ≡ wordsIn front

@@ -157,13 +157,11 @@ module _ (W W' : List ℕ) {X : List ℕ} {at n lo l a m hi b : ℕ} {d cs : For
 
 -- ---- `is_inner`
 
-when-true : {A : Type 0} (b : Bool) (x y : A) → b ≡ true → elim b [ true ↦ x | false ↦ y ] ≡ x
-when-true true x y e = refl
-when-true false x y e = absurd (true≢false (sym e))
+pub when-true : {A : Type 0} (b : Bool) (x y : A) → b ≡ true → elim b [ true ↦ x | false ↦ y ] ≡ x
+when-true b x y e = rw e
 
-when-false : {A : Type 0} (b : Bool) (x y : A) → b ≡ false → elim b [ true ↦ x | false ↦ y ] ≡ y
-when-false true x y e = absurd (true≢false e)
-when-false false x y e = refl
+pub when-false : {A : Type 0} (b : Bool) (x y : A) → b ≡ false → elim b [ true ↦ x | false ↦ y ] ≡ y
+when-false b x y e = rw e
 
 pub inner-leaf : (W : List ℕ) (b c : ℕ) → isLeafAt W b ≡ true → false ≡ innerAt W b c
 unfolding innerAt

@@ -1,7 +1,7 @@
--- Trees of words: the words' first node and what stands after it, the extents of a node's children and of its siblings in one go,
--- and that the words of trees give those trees back. Assumes nothing.
-use mathlib.Core.Path.{_≡_, refl, sym, ap, ap₂, _∙_}
-use mathlib.Core.List.{List, [], _∷_, _++_, append-assoc, append-nil}
+-- Trees of words: the words' first node and what stands after it, and the extents of a node's children and of its siblings in one go.
+-- Assumes nothing.
+use mathlib.Core.Path.{_≡_, refl, sym, ap₂}
+use mathlib.Core.List.{List, [], _∷_}
 use Prim.Native.Nat.{ℕ, zero, suc, _+_, _<_, _≤_, _-_, _^_, min, max}
 use native.Mathlib.Nat.{add-zero, add-suc}
 use native.Mathlib.Omega.{arith}
@@ -9,11 +9,10 @@ use mathlib.Core.Bool.{Bool, true, false}
 use lib.Dec.{ltb}
 use lib.ListN.{length, getD, drop}
 use borrow.Author.Tests.{ltb-true, ltb-false}
-use Rattle.molang.specs.Forest.{Token, Forest, nil, node, count}
+use Rattle.molang.specs.Forest.{Token, Forest, nil, node}
 use Rattle.molang.specs.Read.{lowestStart, highestEnd}
-use Rattle.molang.specs.Words.{lowOf, tokenWords, tokenOf, Legal, treeWords}
+use Rattle.molang.specs.Words.{lowOf, tokenOf}
 use Rattle.molang.specs.WriteEntry.{firstTrees, otherTrees, treesOf}
-use Rattle.molang.proofs.Words.{low-word, token-back, beside, first-beside, other-beside, beside-nil}
 use Rattle.words.specs.Extents.{wider, extentWith, firstExtent}
 use Rattle.words.specs.declared.extent.Extent.{Extent}
 
@@ -87,25 +86,3 @@ from-nothing l = go (ltb (length l) 6) refl
         rw (first-tree l (ltb-false (length l) 6 e))
         (one-tree (tokenIn l) (firstTrees (lowOf (getD l 5 0)) (treesOf (drop 6 l)))
         (otherTrees (lowOf (getD l 5 0)) (treesOf (drop 6 l))) (omega arith))
-
--- ---- The words of trees
-
--- Trees that words can hold.
-pub data LegalTrees : Forest → Type 0 where
-  none : LegalTrees nil
-  more : {k : Token} {cs rest : Forest} → Legal k → count cs < 2 ^ 29 → LegalTrees cs → LegalTrees rest → LegalTrees (node k cs rest)
-
-trees-then : {f : Forest} → LegalTrees f → (ws : List ℕ) → treesOf (treeWords f ++ ws) ≡ beside f (treesOf ws)
-unfolding treesOf treeWords tokenWords beside
-trees-then none ws = refl
-trees-then (more {k = k} {cs = cs} {rest = rest} legal few l l′) ws =
-    let after : treesOf ((treeWords cs ++ treeWords rest) ++ ws) ≡ beside cs (beside rest (treesOf ws)) =
-    ap treesOf (append-assoc (treeWords cs) (treeWords rest) ws)
-    ∙ (trees-then l (treeWords rest ++ ws) ∙ ap (beside cs) (trees-then l′ ws)) in
-    rw
-    (token-back k legal, low-word 6 (count cs) few, after, first-beside cs (beside rest (treesOf ws)), other-beside cs (beside rest (treesOf ws)))
-
--- The words of trees give the trees back.
-pub trees-back : {f : Forest} → LegalTrees f → treesOf (treeWords f) ≡ f
-unfolding treesOf
-trees-back {f} legal = ap treesOf (sym (append-nil (treeWords f))) ∙ (trees-then legal [] ∙ beside-nil f)

@@ -4,7 +4,6 @@ use mathlib.Core.Path.{_≡_, refl, ap, sym, _∙_}
 use mathlib.Core.Bool.{Bool, true, false, false≢true}
 use mathlib.Core.List.{List, [], _∷_, _++_}
 use mathlib.Core.Option.{Option, none, some}
-use native.Mathlib.Nat.{zero-add}
 use native.Mathlib.Omega.{arith}
 use lib.Dec.{leb}
 use lib.ListN.{length, length-append}
@@ -12,34 +11,58 @@ use borrow.Author.Tests.{le-leb, lt-leb}
 use Rattle.molang.specs.Forest.{Token, Forest, nil, node, count, size}
 use Rattle.molang.specs.Plain.{placeOf, plainForm, unplain, unplainAt}
 use Rattle.molang.specs.Words.{operatorSlot, lowOf, tokenOf, listWords}
-use Rattle.molang.specs.Parse.{mostTokens, must, inFront}
+use Rattle.molang.specs.Parse.{mostTokens, must}
 use Rattle.molang.specs.Write.{writtenCount}
 use Rattle.molang.specs.WriteEntry.{treeFault, firstTrees, otherTrees, treesOf, refusedAt, orElse, forestRefusal, writeRefusal, writtenTokens, unwritten, tokens, writeTold, writeAnswered, listIn, listAfter}
 use Rattle.molang.proofs.Trees.{some-none}
 use Rattle.molang.proofs.ListWords.{listWords-length}
 use Rattle.molang.proofs.Writing.{written-length}
+use Rattle.words.specs.Records.{laidAt}
+use Rattle.words.proofs.RecordLaws.{laid-front}
 use Rattle.write.specs.declared.plain.Place.{Place}
 use Rattle.write.specs.declared.plain.Place.the-variants.{Enclosed}
 use Rattle.write.specs.declared.plain.Judged.the-variants.{Plain, Unplain}
-use Rattle.write.specs.Answers.{shape, call, judgement, tooLong, filling, filled}
+use Rattle.write.specs.Answers.{shape, call, judgement, filling, filled}
 use Rattle.write.specs.Places.{formPlace}
 use Rattle.write.specs.Shaped.{Shaped, noTrees, aNode, mostChildren, OneTree}
-use Rattle.write.specs.Spelling.{laid, Room, Writable}
+use Rattle.write.specs.Spelling.{Room, Writable}
 use Rattle.write.proofs.RowLaws.{Opened, opened, shaped-room, shaped-count, count-first, beside-split}
 use Rattle.write.proofs.JudgeLaws.{unplain-node, unlessPlain, orLater, rowUnplain, judgedBy, judgement-by, Stand, on-none, on-one, on-two, row-beside}
+
+-- What a judgement says.
+plain-says : (o : Option ℕ) (m n : ℕ) → Plain n ≡ judgedBy o m → (o ≡ none) × (n ≡ m)
+unfolding judgedBy
+plain-says none m n e = (refl, cc)
+plain-says (some i) m n e = let z : _≡_ {A = ℕ} 0 1 = cc in absurd (omega arith)
+
+unplain-says : (o : Option ℕ) (m i : ℕ) → Unplain i ≡ judgedBy o m → o ≡ some i
+unfolding judgedBy
+unplain-says none m i e = let z : _≡_ {A = ℕ} 0 1 = cc in absurd (omega arith)
+unplain-says (some j) m i e = cc
+
+module _ {most : ℕ} {tree : List ℕ} (o : Opened most 1 tree) where
+  judged-by : judgement (treesOf tree) ≡ judgedBy (unplainAt (o .k) (o .cs)) (writtenCount (o .k) (o .cs))
+  unfolding judgement
+  judged-by = rw (o .trees) (judgement-by (unplainAt (o .k) (o .cs)) (writtenCount (o .k) (o .cs)) _ refl)
+
+  is-plain : {n : ℕ} → Plain n ≡ judgement (treesOf tree) → (unplainAt (o .k) (o .cs) ≡ none) × (n ≡ writtenCount (o .k) (o .cs))
+  is-plain {n} e = plain-says (unplainAt (o .k) (o .cs)) _ n (e ∙ judged-by)
 
 -- FILLING THE LIST with a plain tree.
 module _ {tree : List ℕ} {n : ℕ} (w : Writable tree n) (list : List ℕ) where
   root : Opened 2 1 tree
   root = opened (w .shaped) (omega (arith, shaped-room (w .shaped)))
 
-  count-is : writtenCount (root .k) (root .cs) ≡ n
-  unfolding writtenTokens
-  count-is = omega (arith, written-length (root .k) (root .cs) [], w .counted, ap (λ (f : Forest). length (writtenTokens f)) (root .trees))
+  root-plain : (unplainAt (root .k) (root .cs) ≡ none) × (n ≡ writtenCount (root .k) (root .cs))
+  root-plain = is-plain root (w .judged)
 
-  too-long : tooLong (treesOf tree) (length list) ≡ orElse (must (leb n mostTokens) 14) (must (leb (5 * n) (length list)) 15)
-  unfolding tooLong
-  too-long = rw (root .trees, count-is)
+  counted : n ≡ length (writtenTokens (treesOf tree))
+  unfolding writtenTokens
+  counted = rw (root .trees) (omega (arith, written-length (root .k) (root .cs) [], root-plain .1))
+
+  too-long : forestRefusal (treesOf tree) (length list) ≡ orElse (must (leb n mostTokens) 14) (must (leb (5 * n) (length list)) 15)
+  unfolding forestRefusal refusedAt
+  too-long = rw (root .trees, root-plain .0, ← root-plain .1)
 
   pub too-many : 4096 < n → (unwritten 14 0 ≡ filling (treesOf tree) list) × (list ≡ filled (treesOf tree) list)
   unfolding filling filled writeTold listIn must orElse
@@ -54,15 +77,15 @@ module _ {tree : List ℕ} {n : ℕ} (w : Writable tree n) (list : List ℕ) whe
 
   module _ (a : n ≤ 4096) (b : 5 * n ≤ length list) where
     pub list-room : Room writtenTokens tree list 0
-    list-room = record { others = 0; shaped = w .shaped; room = omega (arith, listWords-length (writtenTokens (treesOf tree)), w .counted) }
+    list-room = record { others = 0; shaped = w .shaped; room = omega (arith, listWords-length (writtenTokens (treesOf tree)), counted) }
 
-    pub list-filled : (list' : List ℕ) → list' ≡ laid 0 (listWords (writtenTokens (treesOf tree))) list
+    pub list-filled : (list' : List ℕ) → list' ≡ laidAt 0 (listWords (writtenTokens (treesOf tree))) list
         → (tokens n ≡ filling (treesOf tree) list) × (list' ≡ filled (treesOf tree) list)
-    unfolding filling filled writeTold listIn must orElse laid inFront
+    unfolding filling filled writeTold listIn must orElse
     list-filled list' e =
         let f = le-leb n 4096 a in
         let g = le-leb (5 * n) (length list) b in
-        (rw (too-long, f, g, ← w .counted), rw (too-long, f, g) (e ∙ rw zero-add))
+        (rw (too-long, f, g, ← counted), rw (too-long, f, g) (e ∙ laid-front (listWords (writtenTokens (treesOf tree))) list))
 
 -- A PLAIN TREE has at most two children a node.
 plain-by-none : (b : Bool) (n : ℕ) (later : Option ℕ) → unlessPlain b n later ≡ none → (b ≡ true) × (later ≡ none)
@@ -110,51 +133,30 @@ slim (aNode {trees = trees} {a = a} {b = b} {c = c} {d = d} {e = f} {n = m} {ws 
     aNode five small
     (slim later (st .places ++ ps) (omega (arith, length-append (st .places) ps, st .all)) (suc n) row)
 
--- What a judgement says.
-plain-says : (o : Option ℕ) (m n : ℕ) → Plain n ≡ judgedBy o m → (o ≡ none) × (n ≡ m)
-unfolding judgedBy
-plain-says none m n e = (refl, cc)
-plain-says (some i) m n e = let z : _≡_ {A = ℕ} 0 1 = cc in absurd (omega arith)
-
-unplain-says : (o : Option ℕ) (m i : ℕ) → Unplain i ≡ judgedBy o m → o ≡ some i
-unfolding judgedBy
-unplain-says none m i e = let z : _≡_ {A = ℕ} 0 1 = cc in absurd (omega arith)
-unplain-says (some j) m i e = cc
-
 -- THE ANSWERS, the first that holds.
 pub fault-answer : (tree list : List ℕ) (i : ℕ) → some i ≡ treeFault 0 operatorSlot 0 (shape 1 0) tree
     → (unwritten 12 i ≡ writeAnswered (call tree list)) × (list ≡ listAfter (call tree list))
 unfolding writeAnswered listAfter writeRefusal refusedAt writeTold listIn
 fault-answer tree list i e = (rw (← e), rw (← e))
 
+pub tree-answer : (tree list : List ℕ) → none ≡ treeFault 0 operatorSlot 0 (shape 1 0) tree
+    → (filling (treesOf tree) list ≡ writeAnswered (call tree list)) × (filled (treesOf tree) list ≡ listAfter (call tree list))
+unfolding writeAnswered listAfter writeRefusal refusedAt filling filled
+tree-answer tree list whole = (rw (← whole), rw (← whole))
+
 module _ {tree : List ℕ} (list : List ℕ) (whole : none ≡ treeFault 0 operatorSlot 0 (shape 1 0) tree) (one : OneTree tree) where
   top : Opened mostChildren 1 tree
   top = opened (one .shaped) (omega (arith, shaped-room (one .shaped)))
-
-  judged : judgement (treesOf tree) ≡ judgedBy (unplainAt (top .k) (top .cs)) (writtenCount (top .k) (top .cs))
-  unfolding judgement
-  judged = rw (top .trees) (judgement-by (unplainAt (top .k) (top .cs)) (writtenCount (top .k) (top .cs)) _ refl)
 
   pub unplain-answer : (i : ℕ) → Unplain i ≡ judgement (treesOf tree)
       → (unwritten 13 i ≡ writeAnswered (call tree list)) × (list ≡ listAfter (call tree list))
   unfolding writeAnswered listAfter writeRefusal refusedAt forestRefusal writeTold listIn
   unplain-answer i e =
-      let u = unplain-says _ _ i (e ∙ judged) in
+      let u = unplain-says _ _ i (e ∙ judged-by top) in
       (rw (← whole, top .trees, u), rw (← whole, top .trees, u))
 
-  module _ (n : ℕ) (e : Plain n ≡ judgement (treesOf tree)) where
-    is-plain : (unplainAt (top .k) (top .cs) ≡ none) × (n ≡ writtenCount (top .k) (top .cs))
-    is-plain = plain-says (unplainAt (top .k) (top .cs)) _ n (e ∙ judged)
-
-    pub plain-writable : Writable tree n
-    unfolding rowUnplain unplainAt unplain placeOf writtenTokens
-    plain-writable =
-        let row : rowUnplain (Enclosed ∷ []) 0 (treesOf tree) ≡ none = rw (top .trees) (sym (unplain-node none 0 0 (top .k) (top .cs) nil) ∙ is-plain .0) in
-        record {
-          shaped = slim (one .shaped) (Enclosed ∷ []) refl 0 row;
-          counted = rw (top .trees) (omega (arith, written-length (top .k) (top .cs) [], is-plain .1));
-        }
-
-    pub plain-answer : (filling (treesOf tree) list ≡ writeAnswered (call tree list)) × (filled (treesOf tree) list ≡ listAfter (call tree list))
-    unfolding writeAnswered listAfter writeRefusal refusedAt forestRefusal filling filled tooLong
-    plain-answer = (rw (← whole, top .trees, is-plain .0), rw (← whole, top .trees, is-plain .0))
+  pub plain-writable : (n : ℕ) → Plain n ≡ judgement (treesOf tree) → Writable tree n
+  unfolding rowUnplain unplainAt unplain placeOf
+  plain-writable n e =
+      let row : rowUnplain (Enclosed ∷ []) 0 (treesOf tree) ≡ none = rw (top .trees) (sym (unplain-node none 0 0 (top .k) (top .cs) nil) ∙ is-plain top e .0) in
+      record { shaped = slim (one .shaped) (Enclosed ∷ []) refl 0 row; judged = e }

@@ -9,10 +9,11 @@ use lib.Seq.{take-all, length-take-le}
 use Rattle.molang.specs.Words.{lowOf, listWords}
 use Rattle.molang.specs.WriteEntry.{treesOf, writtenTokens}
 use Rattle.words.specs.Fields.{operatorOf}
+use Rattle.words.specs.Records.{laidAt}
 use Rattle.write.specs.declared.plain.Place.{Place}
 use Rattle.write.specs.Places.{isPaired, onlyPlace, leftPlace, rightPlace}
 use Rattle.write.specs.Shaped.{Shaped}
-use Rattle.write.specs.Spelling.{laid, firstFive, bracketWords, closerWords, firstSize, operandOf, Room}
+use Rattle.write.specs.Spelling.{firstFive, bracketWords, closerWords, firstSize, operandOf, Room}
 use Rattle.write.proofs.RowLaws.{Opened, opened, shaped-room}
 use Rattle.write.proofs.SpellLaws.{laid-length, laid-laid, first-within, none-below, OneBelow, one-below, onlyWords, TwoBelow, two-below, leftWords, leftSize, rightPart, rightWords, paired-words, unpaired-words}
 
@@ -28,7 +29,7 @@ tail-length n W = rw tail-part (length-drop n W)
 
 -- Words laid into the list from a place on, which goes on behind them.
 abbrev pub Puts : List ℕ → List ℕ → ℕ → List ℕ → ℕ → Type 0
-Puts ws L to L' to' = (L' ≡ laid to ws L) × (to' ≡ to + length ws)
+Puts ws L to L' to' = (L' ≡ laidAt to ws L) × (to' ≡ to + length ws)
 
 -- What a call of `write_node` or `write_operand` leaves: the part of the words, the list and the place in it.
 abbrev pub Writes : List ℕ → List ℕ → List ℕ → ℕ → List ℕ → List ℕ → ℕ → Type 0

@@ -1,16 +1,14 @@
 -- What each case of the crate's enums says: document 01's number and values for an answer, the definition's slot and place for the others.
-use Prim.Native.Nat.{ℕ, _*_}
+use Prim.Native.Nat.{ℕ}
 use mathlib.Core.Bool.{Bool, true, false}
 use mathlib.Core.List.{List}
 use mathlib.Core.Option.{Option, none, some}
-use lib.Dec.{leb}
 use lib.ListN.{length}
 use Rattle.molang.specs.Forest.{Forest, nil, node}
 use Rattle.molang.specs.Words as words
 use Rattle.molang.specs.Plain.{unplainAt}
-use Rattle.molang.specs.Parse.{mostTokens, must}
 use Rattle.molang.specs.Write.{writtenCount}
-use Rattle.molang.specs.WriteEntry.{Shape, WriteCall, WriteTold, tokens, unwritten, writeTold, orElse, listIn}
+use Rattle.molang.specs.WriteEntry.{Shape, WriteCall, WriteTold, tokens, unwritten, forestRefusal, writeTold, listIn}
 use Rattle.write.specs.declared.Written.{Written}
 use Rattle.write.specs.declared.Written.the-variants.{Tokens, Refused}
 use Rattle.write.specs.declared.shape.Slot.{Slot}
@@ -55,14 +53,9 @@ judgement (node k cs rest) = elim (unplainAt k cs) [ some n ↦ Unplain n | none
 abbrev pub call : List ℕ → List ℕ → WriteCall
 call tree list = record { tree = tree; list = list }
 
--- Answers 14 and 15 to a plain tree.
-unfoldable pub tooLong : Forest → ℕ → Option words.Refusal
-tooLong nil room = none
-tooLong (node k cs rest) room = orElse (must (leb (writtenCount k cs) mostTokens) 14) (must (leb (5 * writtenCount k cs) room) 15)
-
--- What is answered to a plain tree, and what the list holds after it.
+-- What is answered to words that are one tree, and what the list holds after it.
 unfoldable pub filling : Forest → List ℕ → WriteTold
-filling f list = writeTold (tooLong f (length list)) f
+filling f list = writeTold (forestRefusal f (length list)) f
 
 unfoldable pub filled : Forest → List ℕ → List ℕ
-filled f list = listIn (tooLong f (length list)) f list
+filled f list = listIn (forestRefusal f (length list)) f list

@@ -1,24 +1,22 @@
--- What writing leaves in the list, and the part of the tree words that a tree fills.
+-- The words that writing lays into the list, and the part of the tree words that a tree fills.
 use Prim.Native.Nat.{ℕ, suc, _+_, _%_, _^_, _≤_}
 use mathlib.Core.Path.{_≡_}
 use mathlib.Core.Bool.{not}
-use mathlib.Core.List.{List, [], _∷_, _++_}
+use mathlib.Core.List.{List, [], _∷_}
 use mathlib.Core.Bool.{true, false}
-use lib.ListN.{length, take, drop, getD}
+use lib.ListN.{length, getD}
 use Rattle.molang.specs.Forest.{Token, Forest, nil, node, count, size}
 use Rattle.molang.specs.Operator
 use Rattle.molang.specs.Operator.{isBracket}
 use Rattle.molang.specs.Words.{word, listWords}
 use Rattle.words.specs.Fields.{operatorOf}
 use Rattle.molang.specs.Write.{written, operandTokens}
-use Rattle.molang.specs.WriteEntry.{treesOf, writtenTokens}
+use Rattle.molang.specs.WriteEntry.{treesOf}
 use Rattle.write.specs.declared.plain.Place.{Place}
+use Rattle.write.specs.declared.plain.Judged.the-variants.{Plain}
+use Rattle.write.specs.Answers.{judgement}
 use Rattle.write.specs.Places.{isPaired}
 use Rattle.write.specs.Shaped.{Shaped}
-
--- The list with words put from a place on, the rest as it was.
-unfoldable pub laid : ℕ → List ℕ → List ℕ → List ℕ
-laid to ws list = take to list ++ (ws ++ drop (to + length ws) list)
 
 -- The token words that a list of words opens with; those of a bracket with the same span and payload 0; those of its closer, if it is
 -- a bracket.
@@ -47,7 +45,7 @@ pub record Room (tokens : Forest → List Token) (words list : List ℕ) (to : �
   pub shaped : Shaped 2 (suc others) words
   pub room : to + length (listWords (tokens (treesOf words))) ≤ length list
 
--- The words are one tree of at most two children a node, which is written with so many tokens.
+-- The words are one tree of at most two children a node, which is plain and written with so many tokens.
 pub record Writable (words : List ℕ) (tokens : ℕ) : Type 0 where
   pub shaped : Shaped 2 1 words
-  pub counted : tokens ≡ length (writtenTokens (treesOf words))
+  pub judged : Plain tokens ≡ judgement (treesOf words)

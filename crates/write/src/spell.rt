@@ -14,12 +14,13 @@ ghost use Prim.Native.Nat.{_+_, _*_, _≤_};
 ghost use lib.ListN.{length, take};
 ghost use Rattle.molang.specs.Words.{listWords};
 ghost use Rattle.molang.specs.WriteEntry.{treesOf, writtenTokens};
-ghost use Rattle.write.specs.Spelling.{laid, firstFive, bracketWords, closerWords, firstSize, operandOf, Room};
+ghost use Rattle.words.specs.Records.{laidAt};
+ghost use Rattle.write.specs.Spelling.{firstFive, bracketWords, closerWords, firstSize, operandOf, Room};
 
 // Puts a token's five words to the list's place `to`, which goes on behind them.
 fn put(list: &mut [u32], to: &mut usize, first: u32, start: u32, end: u32, upper: u32, lower: u32)
     requires { ⌜ now to + 5 ≤ length (now list) ⌝ }
-    ensures { λ _. ⌜ now (list .exit) ≡ laid (now (to .entry)) (first ∷ start ∷ end ∷ upper ∷ lower ∷ []) (now (list .entry)) ⌝ }
+    ensures { λ _. ⌜ now (list .exit) ≡ laidAt (now (to .entry)) (first ∷ start ∷ end ∷ upper ∷ lower ∷ []) (now (list .entry)) ⌝ }
     ensures { λ _. ⌜ now (to .exit) ≡ now (to .entry) + 5 ⌝ }
 {
     let at = *to;
@@ -34,7 +35,7 @@ fn put(list: &mut [u32], to: &mut usize, first: u32, start: u32, end: u32, upper
 // The token of the node that the words open with, as it came.
 fn put_token(words: &[u32], list: &mut [u32], to: &mut usize)
     requires { ⌜ (5 ≤ length (now words)) × (now to + 5 ≤ length (now list)) ⌝ }
-    ensures { λ _. ⌜ now (list .exit) ≡ laid (now (to .entry)) (firstFive (now (words .entry))) (now (list .entry)) ⌝ }
+    ensures { λ _. ⌜ now (list .exit) ≡ laidAt (now (to .entry)) (firstFive (now (words .entry))) (now (list .entry)) ⌝ }
     ensures { λ _. ⌜ now (to .exit) ≡ now (to .entry) + length (firstFive (now (words .entry))) ⌝ }
 {
     put(list, to, words[0], words[1], words[2], words[3], words[4]);
@@ -43,7 +44,7 @@ fn put_token(words: &[u32], list: &mut [u32], to: &mut usize)
 // A bracket of op for the node that the words open with: the node's span, payload 0.
 fn put_bracket(op: u32, words: &[u32], list: &mut [u32], to: &mut usize)
     requires { ⌜ (3 ≤ length (now words)) × (now to + 5 ≤ length (now list)) ⌝ }
-    ensures { λ _. ⌜ now (list .exit) ≡ laid (now (to .entry)) (bracketWords op (now (words .entry))) (now (list .entry)) ⌝ }
+    ensures { λ _. ⌜ now (list .exit) ≡ laidAt (now (to .entry)) (bracketWords op (now (words .entry))) (now (list .entry)) ⌝ }
     ensures { λ _. ⌜ now (to .exit) ≡ now (to .entry) + length (bracketWords op (now (words .entry))) ⌝ }
 {
     put(
@@ -60,7 +61,7 @@ fn put_bracket(op: u32, words: &[u32], list: &mut [u32], to: &mut usize)
 // The closer of the node that the words open with, if it is a bracket.
 fn put_closer(words: &[u32], list: &mut [u32], to: &mut usize)
     requires { ⌜ (3 ≤ length (now words)) × (now to + length (closerWords (now words)) ≤ length (now list)) ⌝ }
-    ensures { λ _. ⌜ now (list .exit) ≡ laid (now (to .entry)) (closerWords (now (words .entry))) (now (list .entry)) ⌝ }
+    ensures { λ _. ⌜ now (list .exit) ≡ laidAt (now (to .entry)) (closerWords (now (words .entry))) (now (list .entry)) ⌝ }
     ensures { λ _. ⌜ now (to .exit) ≡ now (to .entry) + length (closerWords (now (words .entry))) ⌝ }
 {
     if fields::operator(words[0]) == op::LEFT_PARENTHESIS {
@@ -72,7 +73,7 @@ fn put_closer(words: &[u32], list: &mut [u32], to: &mut usize)
 pub fn write_node<'a>(words: &'a [u32], list: &mut [u32], to: &mut usize) -> &'a [u32]
     requires { ⌜ Room writtenTokens (now words) (now list) (now to) ⌝ }
     ensures { λ r. ⌜ now r ≡ take (6 * firstSize (treesOf (now (words .entry)))) (now (words .entry)) ⌝ }
-    ensures { λ _. ⌜ now (list .exit) ≡ laid (now (to .entry)) (listWords (writtenTokens (treesOf (now (words .entry))))) (now (list .entry)) ⌝ }
+    ensures { λ _. ⌜ now (list .exit) ≡ laidAt (now (to .entry)) (listWords (writtenTokens (treesOf (now (words .entry))))) (now (list .entry)) ⌝ }
     ensures { λ _. ⌜ now (to .exit) ≡ now (to .entry) + length (listWords (writtenTokens (treesOf (now (words .entry))))) ⌝ }
 {
     let op = fields::operator(words[0]);
@@ -99,7 +100,7 @@ pub fn write_node<'a>(words: &'a [u32], list: &mut [u32], to: &mut usize) -> &'a
 fn write_operand<'a>(words: &'a [u32], place: Place, list: &mut [u32], to: &mut usize) -> &'a [u32]
     requires { ⌜ Room (operandOf place) (now words) (now list) (now to) ⌝ }
     ensures { λ r. ⌜ now r ≡ take (6 * firstSize (treesOf (now (words .entry)))) (now (words .entry)) ⌝ }
-    ensures { λ _. ⌜ now (list .exit) ≡ laid (now (to .entry)) (listWords ((operandOf place) (treesOf (now (words .entry))))) (now (list .entry)) ⌝ }
+    ensures { λ _. ⌜ now (list .exit) ≡ laidAt (now (to .entry)) (listWords ((operandOf place) (treesOf (now (words .entry))))) (now (list .entry)) ⌝ }
     ensures { λ _. ⌜ now (to .exit) ≡ now (to .entry) + length (listWords ((operandOf place) (treesOf (now (words .entry))))) ⌝ }
 {
     if !is_paired(place, fields::operator(words[0]), fields::low(words[5])) {

@@ -3,7 +3,7 @@
 use mathlib.Core.Path.{sym, ap, _∙_}
 use Rattle.write.specs.Answers.{placeOf}
 use Rattle.write.proofs.ShapeLaws.{one-tree}
-use Rattle.write.proofs.EntryLaws.{fault-answer, unplain-answer, plain-writable, plain-answer}
+use Rattle.write.proofs.EntryLaws.{fault-answer, tree-answer, unplain-answer, plain-writable}
 use borrow.Author.Needs.{needs}
 use Rattle.write.proofs.write.Statement.{statement}
 use Rattle.write.proofs.write.Tie as tie
@@ -47,9 +47,10 @@ same-length c = search needs
 returns-3 : tie.Need-returns-3
 returns-3 c =
     let whole = (ap placeOf (sym (c .before .before .before .before .before .before .before .before .enum-told .given .1)) ∙ c .before .before .before .before .before .before .before .before .before .before .first-fault .ensures) in
-    let plain = plain-answer (c .before .before .before .before .before .before .before .before .before .before .before .before .before .args .list .now) whole (one-tree (c .before .before .before .before .before .before .before .before .before .before .before .before .before .args .tree .now) (sym whole)) (c .before .before .before .before .before .judged2 .given .0 .0) (sym (c .before .before .before .before .before .judged2 .given .1) ∙ c .before .before .before .before .before .before .before .judge .ensures) in
+    let a = c .before .before .before .before .before .before .before .before .before .before .before .before .before .args in
+    let answer = tree-answer (a .tree .now) (a .list .now) whole in
     let filled = c .before .before .fill .ensures in
-    (filled .0 ∙ plain .0, filled .1 ∙ plain .1)
+    (filled .0 ∙ answer .0, filled .1 ∙ answer .1)
 
 pub write-spec : {M : Type 1} → statement M
 write-spec =
