@@ -18,7 +18,7 @@ use Rattle.molang.proofs.Sections.{flat}
 use Rattle.ops.specs.Operators.{isOpener}
 use Rattle.ops.specs.Classes.{passClasses, ownClasses, inClass}
 use Rattle.ops.proofs.OperatorLaws.{false-at}
-pub use Rattle.walks.proofs.Reading.{when-true as taken, when-false as passed}
+use Rattle.walks.proofs.Reading.{when-true as taken, when-false as passed}
 
 -- a value that is there
 pub found : {A B : Type 0} (o : Option B) (b : B) (y : B → A) (x : A) → o ≡ some b → elim o [ some c ↦ y c | none ↦ x ] ≡ y b

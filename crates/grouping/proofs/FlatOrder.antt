@@ -41,7 +41,8 @@ use Rattle.grouping.specs.Group.{CanGroup, FlatTo, ifRun, EndsTo, ended,
 use Rattle.flat.specs.declared.sections.Flat.{Flat as Left}
 use Rattle.flat.specs.declared.sections.Flat.the-variants.{Done, Fail, Mismatched, Unclosed as Unclosing}
 use Rattle.flat.proofs.sections.Flat.{the-type}
-use Rattle.flat.proofs.FlatCases.{taken, passed, found}
+use Rattle.walks.proofs.Reading.{when-true, when-false}
+use Rattle.flat.proofs.FlatCases.{found}
 
 -- ---- one pass of the reading
 
@@ -121,12 +122,12 @@ ends-empty l (k ∷ ks) e = absurd (omega arith)
 
 ends-semicolon : (l : ℕ) (f : Forest) (k : Token) → lastOf none f ≡ some k → k .op ≡ Operator.semicolon → endsWithSemicolon l f ≡ ok f
 unfolding endsWithSemicolon
-ends-semicolon l f k e h = found (lastOf none f) k _ _ e ∙ taken (eqb (k .op) Operator.semicolon) _ _ (eq-eqb (k .op) Operator.semicolon h)
+ends-semicolon l f k e h = found (lastOf none f) k _ _ e ∙ when-true (eqb (k .op) Operator.semicolon) _ _ (eq-eqb (k .op) Operator.semicolon h)
 
 ends-other : (l : ℕ) (f : Forest) (k : Token) → lastOf none f ≡ some k → k .op ≢ Operator.semicolon
     → endsWithSemicolon l f ≡ fail (complexMustEndWithSemicolon (k .start) (k .end) ∷ [])
 unfolding endsWithSemicolon
-ends-other l f k e h = found (lastOf none f) k _ _ e ∙ passed (eqb (k .op) Operator.semicolon) _ _ (ne-eqb (k .op) Operator.semicolon h)
+ends-other l f k e h = found (lastOf none f) k _ _ e ∙ when-false (eqb (k .op) Operator.semicolon) _ _ (ne-eqb (k .op) Operator.semicolon h)
 
 module _ {W : List ℕ} {base n : ℕ} {used : OpSet} where
   pub last-unused : runs (usedBy used) lastToken ≡ false → EndsRight W base n used (Done n)

@@ -9,7 +9,6 @@ use Rattle.molang.specs.Order.{someBelow}
 use Rattle.molang.proofs.Trees.{free}
 use Rattle.ops.specs.Classes.{bitAt, inClass, shares, meets}
 use Rattle.ops.proofs.BitLaws.{some-same}
-pub use Rattle.ops.proofs.BitLaws.{bit-zero as no-bit}
 use Rattle.nodes.specs.Store.{Notes, Noted, RepF, ends, more, AllLegal}
 use Rattle.nodes.specs.Children.{someNotes}
 

@@ -2,7 +2,7 @@
 -- by slot the next one is linked to what is turned already. The chain from s on is left, the one from `head` on is turned.
 use Prim.Native.Nat.{ℕ, _+_, _*_, _-_, _≤_, _<_}
 use mathlib.Core.Path.{_≡_, refl, sym, ap, ap₂, _∙_, subst}
-use mathlib.Core.Bool.{Bool, true, false, _||_}
+use mathlib.Core.Bool.{Bool, true, false, _||_, or-comm}
 use mathlib.Core.Logic.{_≢_, _⊎_, inl, inr}
 use lib.Dec.{eqb}
 use borrow.Author.Tests.{eq-eqb, ne-eqb}
@@ -12,10 +12,10 @@ use native.Mathlib.Nat.{le-refl}
 use lib.ListN.{length, set}
 use Rattle.nodes.specs.Store.{wd, Chain, Inc, Out, OffNext, onto}
 use Rattle.ops.specs.Classes.{bitAt}
+use Rattle.ops.proofs.BitLaws.{bit-zero}
 use Rattle.nodes.specs.Children.{someNotes}
 use Rattle.passes.specs.Arrays.{Apart, CanGather, Gathered, Dec, CanRound, Rounded}
 use Rattle.nodes.proofs.Runs.{set-same, set-other, set-long, inc-le, inc-lower, out-below, off-word, chain-keep}
-use Rattle.nodes.proofs.Classes.{no-bit}
 
 apart-more : (c lo hi : ℕ) (left back : List ℕ) → c < lo → Inc lo hi left → Apart left back → Apart left (c ∷ back)
 apart-more c lo hi [] back h i a = tt
@@ -164,12 +164,6 @@ pub dec-out : (cs : List ℕ) (top s : ℕ) → Dec top cs → top ≤ s → Out
 dec-out [] top s h e = tt
 dec-out (c ∷ cs) top s h e = (omega (arith, h .0), dec-out cs c s (h .1) (omega (arith, h .0)))
 
-or-comm : (a b : Bool) → (a || b) ≡ (b || a)
-or-comm true true = refl
-or-comm true false = refl
-or-comm false true = refl
-or-comm false false = refl
-
 -- What holds at the loop's test, of the chain cs that falls: what is turned rises above what is left, and its classes are gathered.
 pub record RoundAt (W cs Z : List ℕ) (head classes s hi : ℕ) : Type 0 where
   pub left : List ℕ
@@ -201,7 +195,7 @@ round-start {W} e =
             whole = refl;
             falls = g .falls;
             rises = le-refl (g .hi);
-            noted = λ i. no-bit i;
+            noted = λ i. bit-zero i;
             same = λ j o. refl;
           };
       long = refl;

@@ -1,7 +1,7 @@
 -- The loop of `dangling`: the first `?` or `:` that nothing is under.
 use Prim.Native.Nat.{ℕ, _+_, _*_, _^_, _≤_, _<_}
 use mathlib.Core.Path.{_≡_, refl, sym, ap, _∙_}
-use mathlib.Core.Bool.{Bool, true, false, _||_}
+use mathlib.Core.Bool.{true, false, or-true}
 use mathlib.Core.List.{List}
 use mathlib.Core.Option.{some}
 use native.Mathlib.Omega.{arith}
@@ -16,10 +16,6 @@ use Rattle.nodes.proofs.Trees.{token-test}
 use Rattle.walks.specs.Items.{Ahead}
 use Rattle.walks.proofs.Reading.{AheadTo, item, ahead-item, ahead-end, ahead-le}
 use Rattle.passes.specs.Folding.{CanDangle, DanglesAt, nowhere, here, Dangles}
-
-or-true : (a : Bool) → (a || true) ≡ true
-or-true true = refl
-or-true false = refl
 
 module _ (k : Token) (cs rest : Forest) where
   if-dangles : isToken Operator.conditional k cs ≡ true → dangling (node k cs rest) ≡ some k
