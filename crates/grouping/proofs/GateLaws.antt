@@ -1,10 +1,11 @@
 -- A pass leaves a list as it is where none of its tokens stands in it, and slot 0 notes whether one does: such a pass need not run.
 use Prim.Native.Nat.{ℕ, _+_, _*_, _≤_}
 use mathlib.Core.Path.{_≡_, refl, sym, _∙_, subst}
-use mathlib.Core.Bool.{Bool, true, false, not, true≢false}
-use mathlib.Core.List.{List, []}
+use mathlib.Core.Bool.{true, false}
+use mathlib.Core.List.{List}
 use native.Mathlib.Omega.{arith}
 use lib.ListN.{length}
+use borrow.Author.Tests.{not-false}
 use Rattle.molang.specs.Operator.{isOneOf, any, isMathCall, isQueryOrLoop, between}
 use Rattle.molang.specs.Forest.{Forest}
 use Rattle.molang.specs.Message.{ok}
@@ -21,7 +22,7 @@ use Rattle.molang.proofs.Binary.{binary-free}
 use Rattle.molang.proofs.Work.{Kind, calls, statements, arrays, unaries, ternary, returns, binary, pass}
 use Rattle.ops.specs.Classes.{shares, meets, inClass, passClasses, ownClasses, bitAt}
 use Rattle.ops.proofs.ClassLaws.{stands-for}
-use Rattle.nodes.specs.Store.{wd, Owned}
+use Rattle.nodes.specs.Store.{wd}
 use Rattle.nodes.proofs.Store.{rep-legal}
 use Rattle.nodes.proofs.Classes.{notes-meet}
 use Rattle.walks.specs.Passes.{classesOf, operators, Exact, Runs, call, mathCall, plain, split, array, unary, level, tern, prefix}
@@ -57,10 +58,6 @@ runs-exact κ p (level e) = e
 runs-exact κ p tern = stands-for 0x1_0000 isTernary tt
 runs-exact κ p prefix = stands-for 0x10_0000 isReturn tt
 
-free-when : (b : Bool) → not b ≡ false → b ≡ true
-free-when true h = refl
-free-when false h = absurd (true≢false h)
-
 -- ---- the gate
 
 -- slot 0 notes no class of the pass
@@ -69,7 +66,7 @@ gate-shut {W} {p = p} h shut =
     record {
       to = λ g.
           let v = g .list .owned in
-          done (pass-free (g .κ) (g .F) (free-when (free (operators (g .κ)) (g .F))
+          done (pass-free (g .κ) (g .F) (not-false (free (operators (g .κ)) (g .F))
           (sym (notes-meet (classesOf p) (operators (g .κ)) (runs-exact (g .κ) p (g .runs)) (v .notes) (rep-legal (v .kids))) ∙ shut))) (g .list);
       beyond = λ g. record { kept = λ j x y. refl; long = refl };
     }

@@ -1,4 +1,5 @@
 -- Laws that belong to no one function.
 pub mod States
 pub mod Reading
+pub mod Ended
 pub mod Seeking
