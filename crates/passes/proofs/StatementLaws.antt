@@ -9,6 +9,7 @@ use native.Mathlib.Omega.{arith}
 use native.Mathlib.Nat.{le-refl}
 use lib.Dec.{eqb}
 use lib.ListN.{length, set}
+use borrow.Author.Tests.{not-true, not-false}
 use Rattle.molang.specs.Operator.{semicolon, isOneOf, any}
 use Rattle.molang.specs.Forest.{Token, Forest, nil, node, bare, count, size}
 use Rattle.molang.specs.Message.{Message, Result, ok, fail}
@@ -16,8 +17,8 @@ use Rattle.molang.specs.Level.{on, into, stop, walk, through}
 use Rattle.molang.specs.Conditional.{isToken}
 use Rattle.molang.specs.Order.{lastOf, someBelow}
 use Rattle.molang.specs.Statements.{Split, unsplit, after, inside, splitOf, isEntered, gather, endStatement, enterSplit, statementStep, statementResume, statementLevel}
-use Rattle.molang.proofs.Trees.{free, clear, isNil, some-none, free-leaf, free-tree, clear-leaf}
-use Rattle.molang.proofs.Statements.{isSemicolon, statement-free}
+use Rattle.molang.proofs.Trees.{free, clear, isNil, some-none, free-leaf, free-tree}
+use Rattle.molang.proofs.Statements.{isSemicolon, split-clear, statement-free}
 use Rattle.molang.proofs.Work.{Kind, statements, State, work, begins, inReading, takes, andThen}
 use Rattle.molang.proofs.Walks.{onward, back, walk-onward}
 use Rattle.ops.proofs.ClassLaws.{stands-for}
@@ -104,12 +105,6 @@ unfolding clear
 look-done l h = record { answer = λ g. let e = l .at g .same ∙ ap (clear isSemicolon) (ahead-end (l .at g .rest) h (l .at g .ahead)) in rw e refl }
 
 -- ---- the list's first semicolon
-
-pub split-none : (f : Forest) → clear isSemicolon f ≡ true → splitOf f ≡ unsplit nil
-unfolding splitOf clear isSemicolon
-split-none nil h = refl
-split-none (node k nil rest) h = let e = clear-leaf isSemicolon k rest h in rw (e .0, splitOf) (split-none rest (e .1))
-split-none (node k (node c cs r) rest) h = split-none rest h
 
 pub split-some : (f : Forest) → clear isSemicolon f ≡ false → (q : Token) × (splitOf f ≡ after q nil)
 unfolding splitOf clear isSemicolon
@@ -243,14 +238,6 @@ passed-split (over {rest = r} {cs = cs} {k = k} f p) = split-past k cs r f ∙ p
 
 -- ---- a list begins
 
-not-on : (b : Bool) → true ≡ not b → b ≡ false
-not-on true e = absurd (true≢false e)
-not-on false e = refl
-
-not-off : (b : Bool) → false ≡ not b → b ≡ true
-not-off true e = refl
-not-off false e = absurd (true≢false (sym e))
-
 plain-holds : {W X : List ℕ} {lo hi m m' : ℕ} {l : Items} {d rest : Forest} → BackArray W X (l .base) (l .write) lo m d → Ahead W X (l .base) (l .read) (l .len) m' hi rest → m ≤ m'
     → l .write ≤ l .read → 8 * hi ≤ l .base → l .base + l .len ≤ length W → Holds statements W X lo hi (walkOf l Plain) (unsplit d) rest
 plain-holds {m = m} {m' = m'} b u e t below within =
@@ -290,7 +277,7 @@ module _ {W : List ℕ} {v : Items} where
       record {
         list = refl;
         holds = λ g.
-            let e = split-some (g .f) (not-on (clear isSemicolon (g .f)) (h .answer g)) in
+            let e = split-some (g .f) (not-true (clear isSemicolon (g .f)) (sym (h .answer g))) in
             subst (λ (s : Split). Holds statements W (g .X) (g .lo) (g .hi) (walkOf v (SplitAt 0)) s (g .f)) (sym (e .1)) (start-split g (e .0) (e .1));
       }
 
@@ -300,7 +287,7 @@ module _ {W : List ℕ} {v : Items} where
       record {
         list = refl;
         holds = λ g.
-            let e = split-none (g .f) (not-off (clear isSemicolon (g .f)) (h .answer g)) in
+            let e = split-clear (g .f) (not-false (clear isSemicolon (g .f)) (sym (h .answer g))) in
             subst (λ (s : Split). Holds statements W (g .X) (g .lo) (g .hi) (walkOf v Plain) s (g .f)) (sym e)
             (plain-holds (start-none g) (start-ahead g) (le-refl (g .lo)) (omega (arith, g .unwritten)) (g .below) (g .within));
       }
