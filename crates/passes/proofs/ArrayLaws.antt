@@ -2,23 +2,15 @@
 use mathlib.Core.Path.{_≡_, refl, sym, ap, _∙_}
 use mathlib.Core.Bool.{Bool, true, false, true≢false}
 use mathlib.Core.List.{List, [], _∷_}
-use Rattle.molang.specs.Operator.{isOneOf, any, array}
+use Rattle.molang.specs.Operator.{array}
 use Rattle.molang.specs.Forest.{Token, Forest, nil, node, renamed}
 use Rattle.molang.specs.Message.{Message, emptyArrayIndex, Result, ok, fail}
 use Rattle.molang.specs.Level.{on, into, stop, walk}
-use Rattle.molang.specs.Order.{someBelow}
 use Rattle.molang.specs.Calls.{Indexing, unindexed, named, indexed, flushed, isIndex, startsWithIndex, emptyIndex, nextIndex, index, arrayStep, arrayFinish, arrayLevel}
 use Rattle.molang.proofs.Trees.{isNil}
 use Rattle.molang.proofs.Arrays.{isArrayName}
 use Rattle.molang.proofs.Work.{arrays, work, inReading, takes, andThen}
 use Rattle.molang.proofs.Walks.{onward, back, walk-onward}
-use Rattle.ops.proofs.ClassLaws.{stands-for}
-use Rattle.ops.specs.Classes.{meets, bitAt, inClass, passClasses}
-use Rattle.walks.specs.Passes.{Exact}
-
-pub array-class : Exact 0x4 isArrayName
-unfolding isArrayName meets someBelow bitAt inClass passClasses isOneOf any
-array-class = stands-for 0x4 isArrayName tt
 
 -- ---- one step of the walk
 

@@ -24,7 +24,7 @@ use Rattle.nodes.proofs.Runs.{set-other, set-long}
 use Rattle.nodes.proofs.Store.{tree-below, tree-out, tree-keep, tree-widen, back-le}
 use Rattle.nodes.proofs.Trees.{leaf-test}
 use Rattle.walks.specs.Passes as passes
-use Rattle.walks.specs.Passes.{walkOf, movedTo, Runs, waits}
+use Rattle.walks.specs.Passes.{walkOf, movedTo, operators, Runs, waits}
 use Rattle.walks.specs.Items.{BackArray, Ahead, CanPeek, nextIf}
 use Rattle.walks.specs.Sides.{OpenArray, ArraySide, ArrayAgrees, Holds, Waits}
 use Rattle.walks.specs.Turns.{Within, CanTurn, Turned, TurnTo, goes, enters, fails, afresh, lent, CanResume, Resumed}
@@ -34,9 +34,10 @@ use Rattle.walks.specs.declared.turns.Pass.the-variants.{Arrays}
 use Rattle.walks.specs.declared.turns.Turn.{Turn}
 use Rattle.walks.specs.declared.turns.Turn.the-variants.{On, Enter, Fail}
 use Rattle.walks.proofs.Reading.{back-array-keep, ahead-keep, ahead-le, can-peek, NextTo, ended, differs, found, same-within}
+use Rattle.walks.proofs.PassClasses.{runs-exact}
 use Rattle.passes.specs.TokenTurns.{AtItem, AtToken, any}
 use Rattle.passes.specs.Arrays.{CanGather, Gathered, CanRound, Rounded, CanIndex, Indexed, empty, opens, NameTurned}
-use Rattle.passes.proofs.ArrayLaws.{array-class, array-on, array-stop, array-in, name-waits, indexed-empty, indexed-in, indexed-lends, lent-indexed, flush}
+use Rattle.passes.proofs.ArrayLaws.{array-on, array-stop, array-in, name-waits, indexed-empty, indexed-in, indexed-lends, lent-indexed, flush}
 use Rattle.passes.proofs.GrowingLaws.{name-open, can-gather, gathered-open, gathered-slot, gathered-word, gathered-kept, can-round, rounded-tree, rounded-slot, rounded-word, rounded-kept, can-lend, LentTo, none, some, lent-to}
 use Rattle.passes.proofs.GatherLaws.{walk-node, walk-passed, LeftLevel, item-bounds, item-holds, kept-within, within-then, Stands, stands, Standing}
 use Rattle.passes.proofs.CallLaws.{next-of}
@@ -51,10 +52,10 @@ array-node d k nil rest e = absurd (true≢false e)
 array-node d k (node c cs r) rest e = walk-node arrayLevel isArrayName array-inert d k c cs r rest
 
 array-left : LeftLevel arrays (Arrays 0 0) isArrayName unindexed any
-unfolding work begins waits arrayLevel
+unfolding work begins waits operators arrayLevel
 array-left =
     record {
-      exact = array-class;
+      exact = runs-exact arrays (Arrays 0 0) passes.array;
       sides = λ fine done ahead low mid high below within.
           record { runs = passes.array; done = ArraySide.all done; unread = ahead; agrees = tt; low = low; mid = mid; high = high; below = below; within = within };
       turning = λ v h. (refl, h);

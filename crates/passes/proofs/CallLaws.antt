@@ -10,7 +10,6 @@ use lib.ListN.{length, set}
 use lib.Dec.{eqb}
 use borrow.Author.Tests.{eq-eqb, ne-eqb, eqb-false}
 use Rattle.molang.specs.Operator.{leftParenthesis, isBracket, isOneOf, any as anyOf, isMathCall, isQueryOrLoop, between}
-use Rattle.molang.specs.Order.{someBelow}
 use Rattle.molang.specs.Forest.{Token, Forest, nil, node, turnedOnto, inOrder, count, size}
 use Rattle.molang.specs.Message.{mathAtEnd, mathWithoutParenthesis, emptyParameterList, Result, ok, fail}
 use Rattle.molang.specs.Level.{on, into, walk, through, Gathered, gathered, waiting, nothing}
@@ -19,14 +18,13 @@ use Rattle.molang.proofs.Trees.{free, isNil}
 use Rattle.molang.proofs.Calls.{call-inert, call-free}
 use Rattle.molang.proofs.Walks.{onward, walk-onward}
 use Rattle.molang.proofs.Work.{Kind, calls, State, work, begins, inReading, takes, andThen}
-use Rattle.ops.specs.Classes.{shares, meets, inClass, passClasses, ownClasses, bitAt}
-use Rattle.ops.proofs.ClassLaws.{stands-for}
+use Rattle.ops.specs.Classes.{shares}
 use Rattle.nodes.specs.Store.{wd, RepT}
 use Rattle.nodes.specs.Children.{Attached}
 use Rattle.nodes.specs.Slots.{opAt, isLeafAt}
 use Rattle.nodes.specs.declared.frames.List.{List as Items}
 use Rattle.nodes.proofs.Trees.{leaf-test}
-use Rattle.walks.specs.Passes.{walkOf, movedTo, classesOf, Exact, Runs, call, mathCall, waits}
+use Rattle.walks.specs.Passes.{walkOf, movedTo, classesOf, operators, Runs, call, mathCall, waits}
 use Rattle.walks.specs.Items.{Ahead, CanPeek, nextIf}
 use Rattle.walks.specs.Sides.{GatherSide, all, Holds, AtTurn, InFrame}
 use Rattle.walks.specs.Turns.{Within, lentOf, afresh, TurnTo, goes, enters, fails}
@@ -38,6 +36,7 @@ use Rattle.walks.specs.declared.turns.Pass.the-variants.{Calls, Maths}
 use Rattle.walks.specs.declared.turns.Turn.{Turn}
 use Rattle.walks.specs.declared.turns.Turn.the-variants.{On, Enter, Fail}
 use Rattle.walks.proofs.Reading.{can-peek, unfree-leaf, tree-free, tree-unfree, unfree-tree, free-tree-below, NextTo, ended, differs, found, next-to, same-within}
+use Rattle.walks.proofs.PassClasses.{runs-exact}
 use Rattle.passes.specs.TokenTurns.{AtItem, AtToken, any, CallTurned}
 use Rattle.passes.specs.CallTurns.{CanCall, Called, opens, stays}
 use Rattle.passes.proofs.GatherLaws.{token-room, next-room, walk-node, walk-passed, LeftLevel, item-holds, item-waits, kept-within, Attaching, attached, item-attached, within-then, Stands, stands, Standing}
@@ -50,12 +49,12 @@ unfolding work begins inReading takes through callLevel callResume isNil
 call-node kind d k nil rest e = absurd (true≢false e)
 call-node kind d k (node c cs r) rest e = walk-node (callLevel kind) (isCall kind) (call-inert kind) d k c cs r rest
 
-call-level : (kind : CallKind) (pass : Pass) → Runs (calls kind) pass → Exact (classesOf pass) (isCall kind) → ((v : Items) → v .write ≤ v .read → AtTurn v pass)
+call-level : (kind : CallKind) (pass : Pass) → Runs (calls kind) pass → ((v : Items) → v .write ≤ v .read → AtTurn v pass)
     → ((v : Items) → v .write < v .read → InFrame v pass) → lentOf pass ≡ 0 → LeftLevel (calls kind) pass (isCall kind) gathered any
-unfolding work begins waits callLevel nothing
-call-level kind pass runs exact turning framed unlent =
+unfolding work begins waits operators callLevel nothing
+call-level kind pass runs turning framed unlent =
     record {
-      exact = exact;
+      exact = runs-exact (calls kind) pass runs;
       sides = λ fine done ahead low mid high below within.
           record { runs = runs; done = all done; unread = ahead; agrees = tt; low = low; mid = mid; high = high; below = below; within = within };
       turning = turning;
@@ -68,19 +67,11 @@ call-level kind pass runs exact turning framed unlent =
       node = call-node kind;
     }
 
-query-exact : Exact 0x1 (isCall queryOrLoop)
-unfolding isCall meets inClass passClasses ownClasses bitAt someBelow isOneOf anyOf isMathCall isQueryOrLoop between
-query-exact = stands-for 0x1 (isCall queryOrLoop) tt
-
-math-exact : Exact 0x20_0000 (isCall math)
-unfolding isCall meets inClass passClasses ownClasses bitAt someBelow isOneOf anyOf isMathCall isQueryOrLoop between
-math-exact = stands-for 0x20_0000 (isCall math) tt
-
 query-level : LeftLevel (calls queryOrLoop) Calls (isCall queryOrLoop) gathered any
-query-level = call-level queryOrLoop Calls call query-exact (λ v h. h) (λ v h. h) refl
+query-level = call-level queryOrLoop Calls call (λ v h. h) (λ v h. h) refl
 
 math-level : LeftLevel (calls math) Maths (isCall math) gathered any
-math-level = call-level math Maths mathCall math-exact (λ v h. h) (λ v h. h) refl
+math-level = call-level math Maths mathCall (λ v h. h) (λ v h. h) refl
 
 module _ {T : (κ : Kind) → (Forest → State κ) → (ℕ → Bool) → (Forest → Bool) → Type 0} (W : List ℕ) (v : Items) where
   open-side : (kind : CallKind) (pass : Pass) → LeftLevel (calls kind) pass (isCall kind) gathered any → T (calls kind) gathered (isCall kind) any

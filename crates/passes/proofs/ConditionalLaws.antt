@@ -7,8 +7,6 @@ use mathlib.Core.List.{List}
 use native.Mathlib.Omega.{arith}
 use native.Mathlib.Nat.{le-refl}
 use lib.ListN.{length}
-use Rattle.molang.specs.Operator.{any, isOneOf, isQueryOrLoop, isMathCall}
-use Rattle.molang.specs.Order.{someBelow}
 use Rattle.molang.specs.Forest.{Token, Forest, nil, node, inOrder, count, size}
 use Rattle.molang.specs.Message.{ok}
 use Rattle.molang.specs.Level.{walk, through}
@@ -16,20 +14,20 @@ use Rattle.molang.specs.Conditional.{conditionalStep, conditionalLevel}
 use Rattle.molang.proofs.Trees.{free, clear, isNil, free-leaf, decided, leaf-clear}
 use Rattle.molang.proofs.Conditional.{isTernary, conditional-inert}
 use Rattle.molang.proofs.Work.{Kind, State, ternary, work, begins, inReading, takes}
-use Rattle.ops.specs.Classes.{passClasses, ownClasses, inClass, bitAt, meets, shares}
-use Rattle.ops.proofs.ClassLaws.{stands-for}
+use Rattle.ops.specs.Classes.{shares}
 use Rattle.nodes.specs.Store.{wd, RepT}
 use Rattle.nodes.specs.Slots.{isLeafAt}
 use Rattle.nodes.specs.declared.frames.List.{List as Items}
 use Rattle.nodes.proofs.Store.{tree-below, back-le, back-count}
 use Rattle.nodes.proofs.Trees.{leaf-test}
-use Rattle.walks.specs.Passes.{walkOf, movedTo, Exact, Runs, tern, waits}
+use Rattle.walks.specs.Passes.{walkOf, movedTo, operators, Exact, Runs, tern, waits}
 use Rattle.walks.specs.Items.{BackArray, Ahead}
 use Rattle.walks.specs.Sides.{tokensIn, TernarySide, all, Sides}
 use Rattle.walks.specs.Turns.{CanTurn, afresh, TurnTo, enters, ends, Turned}
 use Rattle.walks.specs.declared.turns.Pass.the-variants.{Ternary}
 use Rattle.walks.specs.declared.turns.Turn.{Turn}
 use Rattle.walks.specs.declared.turns.Turn.the-variants.{Enter, Over}
+use Rattle.walks.proofs.PassClasses.{runs-exact}
 use Rattle.walks.proofs.Reading.{AheadTo, item, ahead-item, ahead-end, ahead-le, array-put, tree-free, tree-unfree, unfree-leaf, same-within}
 use Rattle.passes.proofs.GatherLaws.{walk-node, walk-over}
 
@@ -74,8 +72,8 @@ nothing-folds d h = conditional-inert .ends d (tokens-clear isTernary d h)
 -- ---- the classes
 
 pub ternary-exact : Exact 0x1_0000 isTernary
-unfolding isTernary meets someBelow bitAt inClass passClasses ownClasses isOneOf any isQueryOrLoop isMathCall
-ternary-exact = stands-for 0x1_0000 isTernary tt
+unfolding operators
+ternary-exact = runs-exact ternary (Ternary 0) tern
 
 pub ternary-test : {w u : ℕ} {t : Bool} → u ≡ w → t ≡ shares u 0x1_0000 → shares w 0x1_0000 ≡ t
 ternary-test e h = ap (λ (x : ℕ). shares x 0x1_0000) (sym e) ∙ sym h

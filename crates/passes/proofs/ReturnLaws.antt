@@ -12,13 +12,8 @@ use Rattle.molang.specs.Unary.{returnStep, returnResume, returnFinish, returnLe
 use Rattle.molang.proofs.Trees.{isNil}
 use Rattle.molang.proofs.Return.{isReturn, return-inert}
 use Rattle.molang.proofs.Work.{Kind, returns, State, work, begins, inReading, takes, andThen}
-use Rattle.molang.specs.Operator
-use Rattle.molang.specs.Operator.{isOneOf, any as anyOf, isMathCall, isQueryOrLoop, between}
-use Rattle.molang.specs.Order.{someBelow}
-use Rattle.ops.specs.Classes.{meets, inClass, passClasses, ownClasses, bitAt}
-use Rattle.ops.proofs.ClassLaws.{stands-for}
 use Rattle.nodes.specs.declared.frames.List.{List as Items}
-use Rattle.walks.specs.Passes.{walkOf, movedTo, Exact, Runs, prefix, waits}
+use Rattle.walks.specs.Passes.{walkOf, movedTo, operators, Runs, prefix, waits}
 use Rattle.walks.specs.Items.{Ahead}
 use Rattle.walks.specs.Sides.{GatherSide, all, Holds}
 use Rattle.walks.specs.Turns.{Within, TurnTo, goes, fails}
@@ -29,14 +24,11 @@ use Rattle.walks.specs.declared.failure.Failure.the-variants.{UnaryWithoutOpera
 use Rattle.walks.specs.Failures
 use Rattle.walks.specs.Failures.{Tells}
 use Rattle.walks.proofs.Reading.{ahead-end, same-within}
+use Rattle.walks.proofs.PassClasses.{runs-exact}
 use Rattle.nodes.specs.Store.{wd}
 use Rattle.nodes.specs.Children.{Attached}
 use Rattle.passes.specs.TokenTurns.{any, ReturnTurned}
 use Rattle.passes.proofs.GatherLaws.{walk-node, walk-passed, LeftLevel, item-holds, kept-within, Attaching, attached, item-attached, within-then, Stands, stands, Standing}
-
-return-exact : Exact 0x10_0000 isReturn
-unfolding isReturn meets inClass passClasses ownClasses bitAt someBelow isOneOf anyOf isMathCall isQueryOrLoop between
-return-exact = stands-for 0x10_0000 isReturn tt
 
 return-node : (d : Forest) (k : Token) (cs rest : Forest) → isNil cs ≡ false
     → work returns (gathered d) (node k cs rest) ≡ andThen (work returns (begins returns cs) (inReading returns cs)) (λ kids. work returns (takes returns (gathered d) k kids) rest)
@@ -45,10 +37,10 @@ return-node d k nil rest e = absurd (true≢false e)
 return-node d k (node c cs r) rest e = walk-node returnLevel isReturn return-inert d k c cs r rest
 
 return-level : LeftLevel returns Prefix isReturn gathered any
-unfolding work begins waits returnLevel nothing
+unfolding work begins waits operators returnLevel nothing
 return-level =
     record {
-      exact = return-exact;
+      exact = runs-exact returns Prefix prefix;
       sides = λ fine done ahead low mid high below within.
           record { runs = prefix; done = all done; unread = ahead; agrees = tt; low = low; mid = mid; high = high; below = below; within = within };
       turning = λ v h. h;

@@ -10,26 +10,24 @@ use native.Mathlib.Nat.{le-refl}
 use lib.Dec.{eqb}
 use lib.ListN.{length, set}
 use borrow.Author.Tests.{not-true, not-false}
-use Rattle.molang.specs.Operator.{semicolon, isOneOf, any}
+use Rattle.molang.specs.Operator.{semicolon}
 use Rattle.molang.specs.Forest.{Token, Forest, nil, node, bare, count, size}
 use Rattle.molang.specs.Message.{Message, Result, ok, fail}
 use Rattle.molang.specs.Level.{on, into, stop, walk, through}
 use Rattle.molang.specs.Conditional.{isToken}
-use Rattle.molang.specs.Order.{lastOf, someBelow}
+use Rattle.molang.specs.Order.{lastOf}
 use Rattle.molang.specs.Statements.{Split, unsplit, after, inside, splitOf, isEntered, gather, endStatement, enterSplit, statementStep, statementResume, statementLevel}
 use Rattle.molang.proofs.Trees.{free, clear, isNil, some-none, free-leaf, free-tree}
 use Rattle.molang.proofs.Statements.{isSemicolon, split-clear, statement-free}
 use Rattle.molang.proofs.Work.{Kind, statements, State, work, begins, inReading, takes, andThen}
 use Rattle.molang.proofs.Walks.{onward, back, walk-onward}
-use Rattle.ops.proofs.ClassLaws.{stands-for}
-use Rattle.ops.specs.Classes.{meets, bitAt, inClass, passClasses}
 use Rattle.nodes.specs.Store.{wd, InArray, begins as begins-with, Seg, Inc}
 use Rattle.nodes.specs.Slots.{isTokenAt, Laid}
 use Rattle.nodes.specs.declared.frames.List.{List as Items}
 use Rattle.nodes.proofs.Runs.{inc-le, seg-keep, set-same, set-other, set-long}
 use Rattle.nodes.proofs.Store.{tree-below, back-le, back-raise}
 use Rattle.nodes.proofs.Trees.{token-test}
-use Rattle.walks.specs.Passes.{walkOf, movedTo, classesOf, Exact, Runs, plain, split, waits}
+use Rattle.walks.specs.Passes.{walkOf, movedTo, classesOf, operators, Exact, Runs, plain, split, waits}
 use Rattle.walks.specs.Items.{BackArray, Ahead, CanSeek, Passed, here, over, SoughtTo, none as found-none, leaf, tree, Sought}
 use Rattle.walks.specs.Sides.{StatementSide, whole, closed, EndedAt, nothing, DoneSide, UnreadSide, Holds}
 use Rattle.nodes.specs.Children.{CanGive}
@@ -40,13 +38,14 @@ use Rattle.walks.specs.declared.turns.Pass.{Pass}
 use Rattle.walks.specs.declared.turns.Pass.the-variants.{Plain, Split as SplitAt}
 use Rattle.walks.specs.declared.turns.Turn.the-variants.{On, Enter, Over}
 use Rattle.passes.specs.Statements.{HasSemicolon}
+use Rattle.walks.proofs.PassClasses.{runs-exact}
 use Rattle.walks.proofs.Reading.{AheadTo, item, ahead-item, ahead-end, ahead-le, ahead-keep, array-put}
 
 -- ---- which semicolons a list has
 
 pub semicolon-class : Exact 0x2 isSemicolon
-unfolding isSemicolon meets someBelow bitAt inClass passClasses isOneOf any
-semicolon-class = stands-for 0x2 isSemicolon tt
+unfolding operators
+semicolon-class = runs-exact statements Plain plain
 
 -- What holds at the test of the loop of `has_semicolon`, whatever forest the list is.
 pub record LookAt (W : List ℕ) (v : Items) (g : CanStart W v) (i : ℕ) : Type 0 where

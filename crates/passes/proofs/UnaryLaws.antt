@@ -8,8 +8,7 @@ use native.Mathlib.Omega.{arith}
 use lib.Dec.{eqb}
 use borrow.Author.Tests.{eq-eqb, ne-eqb}
 use Rattle.molang.specs.Operator
-use Rattle.molang.specs.Operator.{operand, operator, minus, unknown, beforeMinus, any, isOneOf, isQueryOrLoop, isMathCall}
-use Rattle.molang.specs.Order.{someBelow}
+use Rattle.molang.specs.Operator.{operand, operator, minus, unknown, beforeMinus}
 use Rattle.molang.specs.Forest.{Token, Forest, nil, node, renamed, bare, count, size}
 use Rattle.molang.specs.Message.{Result, ok, fail, negateWithoutOperand, notWithoutOperand, unknownOperation}
 use Rattle.molang.specs.Unary.{Unary, done, undone, minusAfter, notBefore, unaryLeaf, turned, unaryNode, unary, unaryPass}
@@ -17,9 +16,10 @@ use Rattle.molang.proofs.Trees.{free, isNil, free-leaf, free-tree}
 use Rattle.molang.proofs.Booleans.{or-neither}
 use Rattle.molang.proofs.Unary.{isPrefix, unary-free}
 use Rattle.molang.proofs.Work.{right, before, fromRight, leftOf, work, begins, inReading, takes, pass, unaries, andThen, pass-begins}
-use Rattle.ops.specs.Classes.{passClasses, ownClasses, inClass, bitAt, meets}
-use Rattle.ops.proofs.ClassLaws.{stands-for}
-use Rattle.walks.specs.Passes.{Exact}
+use Rattle.walks.specs.Passes as passes
+use Rattle.walks.specs.Passes.{operators, Exact}
+use Rattle.walks.specs.declared.turns.Pass.the-variants.{Unary as UnaryPass}
+use Rattle.walks.proofs.PassClasses.{runs-exact}
 use Rattle.passes.specs.UnaryTurns.{Moved}
 
 -- ---- one item
@@ -157,5 +157,5 @@ moved-more {d' = d'} k cs rest' m h =
 -- ---- the classes
 
 pub unary-exact : Exact 0x10 isPrefix
-unfolding isPrefix meets someBelow bitAt inClass passClasses ownClasses isOneOf any isQueryOrLoop isMathCall
-unary-exact = stands-for 0x10 isPrefix tt
+unfolding operators
+unary-exact = runs-exact unaries UnaryPass passes.unary
