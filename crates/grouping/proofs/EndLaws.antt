@@ -19,11 +19,12 @@ use Rattle.nodes.proofs.Trees.{gathered-array}
 use Rattle.walks.specs.Passes.{walkOf, Runs, call, mathCall, plain, array, unary, level, prefix, waits}
 use Rattle.walks.specs.Items.{BackArray}
 use Rattle.walks.specs.Sides.{GatherSide, LevelSide, StatementSide, ArraySide, RightSide, DoneSide, AtTurn}
-use Rattle.walks.specs.Turns.{Within, CanFinish, FinishTo, gives, Ends}
+use Rattle.walks.specs.Turns.{CanFinish, FinishTo, gives, Ends}
 use Rattle.walks.specs.declared.turns.Pass.{Pass}
 use Rattle.walks.specs.declared.turns.Pass.the-variants.{Calls, Maths, Plain, Split, Arrays, Unary, Binary, Ternary, Prefix}
 use Rattle.walks.specs.declared.turns.Finished.{Finished}
 use Rattle.walks.specs.declared.turns.Finished.the-variants.{At}
+use Rattle.walks.proofs.Reading.{same-within}
 use Rattle.grouping.proofs.StackLaws.{holds-within}
 
 -- The passes that give the done trees from the left as they are.
@@ -54,9 +55,6 @@ module _ (W X : List ℕ) (lo l m hi : ℕ) (v : Items) (high : l ≤ hi) (writt
   finish-gathered κ p s (level h) g (LevelSide.operator c b n u o) t e = absurd (omega (arith, t .0, o .pos))
   finish-gathered κ p s prefix g (GatherSide.all {d = d} b) t e = gives refl (gathered-in-order d b) (le-refl (v .base)) (omega arith)
 
-same-within : (W X : List ℕ) (lo hi : ℕ) (v : Items) → Within W W X lo hi v
-same-within W X lo hi v = record { kept = λ j x o. refl; long = refl }
-
 pub gathered-ends : (W : List ℕ) (v : Items) (p : Pass) → Gathering p → Ends W (walkOf v p) (At (v .base) (v .write)) W
 gathered-ends W v p gathering =
     record {
@@ -66,7 +64,7 @@ gathered-ends W v p gathering =
           let mid = sides .mid in
           finish-gathered W (g .X) (g .lo) (g .holds .l) (g .holds .m) (g .hi) v (omega arith) (holds-within (g .holds) .0) (g .κ) p (g .s) (sides .runs) gathering (sides .done)
           (g .holds .turning) (g .idle);
-      within = λ g. same-within W (g .X) (g .lo) (g .hi) v;
+      within = λ g. same-within;
     }
 
 -- from the right the done trees stand at the list's end
@@ -86,7 +84,7 @@ right-ends W v =
           let low = sides .low in
           let mid = sides .mid in
           finish-right W (g .X) (g .lo) (g .holds .l) (g .holds .m) (g .hi) v (g .κ) (g .s) (omega arith) (sides .runs) (sides .done);
-      within = λ g. same-within W (g .X) (g .lo) (g .hi) v;
+      within = λ g. same-within;
     }
 
 pub finish-within : {W : List ℕ} (v : Items) (p : Pass) → CanFinish W (walkOf v p) → (v .write ≤ v .len) × (v .base + v .len ≤ length W) × (length W < 2 ^ 32)

@@ -1,31 +1,29 @@
 -- A pass leaves a list as it is where none of its tokens stands in it, and slot 0 notes whether one does: such a pass need not run.
 use Prim.Native.Nat.{ℕ, _+_, _*_, _≤_}
 use mathlib.Core.Path.{_≡_, refl, sym, _∙_, subst}
-use mathlib.Core.Bool.{Bool, true, false, not, true≢false}
-use mathlib.Core.List.{List, []}
+use mathlib.Core.Bool.{true, false}
+use mathlib.Core.List.{List}
 use native.Mathlib.Omega.{arith}
 use lib.ListN.{length}
-use Rattle.molang.specs.Operator.{isOneOf, any, isMathCall, isQueryOrLoop, between}
+use borrow.Author.Tests.{not-false}
 use Rattle.molang.specs.Forest.{Forest}
 use Rattle.molang.specs.Message.{ok}
-use Rattle.molang.specs.Calls.{queryOrLoop, math, calls as isCall}
-use Rattle.molang.specs.Order.{someBelow}
 use Rattle.molang.proofs.Trees.{free}
 use Rattle.molang.proofs.Calls.{call-free}
-use Rattle.molang.proofs.Arrays.{isArrayName, array-free}
-use Rattle.molang.proofs.Statements.{isSemicolon, statement-free}
-use Rattle.molang.proofs.Unary.{isPrefix, unaryPass-free}
-use Rattle.molang.proofs.Conditional.{isTernary, conditional-free}
-use Rattle.molang.proofs.Return.{isReturn, return-free}
+use Rattle.molang.proofs.Arrays.{array-free}
+use Rattle.molang.proofs.Statements.{statement-free}
+use Rattle.molang.proofs.Unary.{unaryPass-free}
+use Rattle.molang.proofs.Conditional.{conditional-free}
+use Rattle.molang.proofs.Return.{return-free}
 use Rattle.molang.proofs.Binary.{binary-free}
 use Rattle.molang.proofs.Work.{Kind, calls, statements, arrays, unaries, ternary, returns, binary, pass}
-use Rattle.ops.specs.Classes.{shares, meets, inClass, passClasses, ownClasses, bitAt}
-use Rattle.ops.proofs.ClassLaws.{stands-for}
-use Rattle.nodes.specs.Store.{wd, Owned}
+use Rattle.ops.specs.Classes.{shares}
+use Rattle.nodes.specs.Store.{wd}
 use Rattle.nodes.proofs.Store.{rep-legal}
 use Rattle.nodes.proofs.Classes.{notes-meet}
-use Rattle.walks.specs.Passes.{classesOf, operators, Exact, Runs, call, mathCall, plain, split, array, unary, level, tern, prefix}
+use Rattle.walks.specs.Passes.{classesOf, operators}
 use Rattle.walks.specs.declared.turns.Pass.{Pass}
+use Rattle.walks.proofs.PassClasses.{runs-exact}
 use Rattle.order.specs.declared.Choice.{Choice}
 use Rattle.order.specs.declared.Choice.the-variants.{Run, Skip}
 use Rattle.grouping.specs.Driver.{CanRun, done, HasRun}
@@ -43,24 +41,6 @@ pass-free ternary f h = conditional-free f h
 pass-free returns f h = return-free f h
 pass-free (binary ops) f h = binary-free ops f h
 
--- ---- the classes of each pass are those of its operators
-
-pub runs-exact : (κ : Kind) (p : Pass) → Runs κ p → Exact (classesOf p) (operators κ)
-unfolding operators isCall isSemicolon isArrayName isPrefix isTernary isReturn meets inClass passClasses ownClasses bitAt someBelow isOneOf any isMathCall isQueryOrLoop between
-runs-exact κ p call = stands-for 0x1 (isCall queryOrLoop) tt
-runs-exact κ p mathCall = stands-for 0x20_0000 (isCall math) tt
-runs-exact κ p plain = stands-for 0x2 isSemicolon tt
-runs-exact κ p split = stands-for 0x2 isSemicolon tt
-runs-exact κ p array = stands-for 0x4 isArrayName tt
-runs-exact κ p unary = stands-for 0x10 isPrefix tt
-runs-exact κ p (level e) = e
-runs-exact κ p tern = stands-for 0x1_0000 isTernary tt
-runs-exact κ p prefix = stands-for 0x10_0000 isReturn tt
-
-free-when : (b : Bool) → not b ≡ false → b ≡ true
-free-when true h = refl
-free-when false h = absurd (true≢false h)
-
 -- ---- the gate
 
 -- slot 0 notes no class of the pass
@@ -69,7 +49,7 @@ gate-shut {W} {p = p} h shut =
     record {
       to = λ g.
           let v = g .list .owned in
-          done (pass-free (g .κ) (g .F) (free-when (free (operators (g .κ)) (g .F))
+          done (pass-free (g .κ) (g .F) (not-false (free (operators (g .κ)) (g .F))
           (sym (notes-meet (classesOf p) (operators (g .κ)) (runs-exact (g .κ) p (g .runs)) (v .notes) (rep-legal (v .kids))) ∙ shut))) (g .list);
       beyond = λ g. record { kept = λ j x y. refl; long = refl };
     }

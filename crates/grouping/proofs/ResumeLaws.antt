@@ -32,8 +32,8 @@ use Rattle.walks.specs.declared.turns.Pass.{Pass}
 use Rattle.walks.specs.declared.turns.Pass.the-variants.{Calls, Maths, Plain, Split as SplitAt, Arrays, Unary, Ternary, Prefix}
 use Rattle.walks.specs.declared.turns.Walk.{Walk}
 use Rattle.walks.proofs.Reading.{SameSlots, back-array-keep, array-keep, ahead-keep, array-put}
+use Rattle.walks.proofs.Ended.{ended-le, ended-at-keep}
 use Rattle.grouping.specs.Driver.{Keeping}
-use Rattle.grouping.proofs.SideLaws.{ended-le, ended-at-keep}
 use Rattle.grouping.proofs.StackLaws.{waits-within}
 
 -- the first token of a statement stays the first

@@ -1,74 +1,26 @@
 -- What a change of words leaves of a list under work (`sides-keep`): where the slots of its done and its unread side and the list's own words are as they
 -- were, it is as it was, whatever its pass.
 use Prim.Native.Nat.{ℕ, _+_, _*_, _≤_, _<_}
-use mathlib.Core.Path.{_≡_, refl}
-use mathlib.Core.Bool.{false, true≢false}
+use mathlib.Core.Path.{_≡_}
 use mathlib.Core.List.{List}
 use native.Mathlib.Omega.{arith}
-use native.Mathlib.Nat.{add-zero, le-refl}
 use lib.ListN.{length}
 use Rattle.molang.specs.Forest.{Token, Forest}
-use Rattle.molang.proofs.Trees.{isNil}
 use Rattle.molang.specs.Level.{Gathered}
 use Rattle.molang.specs.Calls.{Indexing}
 use Rattle.molang.specs.Statements.{Split}
 use Rattle.molang.proofs.Work.{Kind, calls, statements, arrays, unaries, ternary, returns, binary, Right, State}
-use Rattle.nodes.specs.Store.{wd, Chain, SegB, Out, OutFrom, RepB, begins, put}
+use Rattle.nodes.specs.Store.{wd, Chain, Out, RepB, begins, put}
 use Rattle.nodes.specs.declared.frames.List.{List as Items}
-use Rattle.nodes.proofs.Runs.{segB-keep}
 use Rattle.nodes.proofs.Tokens.{token-keep}
 use Rattle.nodes.proofs.Store.{tree-below, tree-out, tree-keep, back-le, back-keep}
-use Rattle.walks.specs.Sides.{GatherSide, LevelSide, TernarySide, Ended, nothing, statement, EndedAt, OpenAt, StatementSide, OpenArray, ArraySide, RightSide, DoneSide, UnreadSide, Sides}
+use Rattle.walks.specs.Sides.{GatherSide, LevelSide, TernarySide, OpenAt, StatementSide, OpenArray, ArraySide, RightSide, DoneSide, UnreadSide, Sides}
 use Rattle.walks.specs.declared.turns.Pass.{Pass}
 use Rattle.walks.specs.declared.turns.Walk.{Walk}
 use Rattle.walks.proofs.Reading.{SameSlots, SameWords, back-array-keep, array-keep, ahead-keep}
-
--- ---- finished statements
-
-pub ended-le : {W X ds : List ℕ} {lo l : ℕ} {d : Forest} → Ended W X ds lo l d → lo ≤ l
-ended-le (nothing h) = h
-ended-le (statement r t o h) = omega (arith, ended-le r, t .low)
-
--- the first of them stands in the first word of the list, with the two slots behind it
-pub ended-first : {W X ds : List ℕ} {lo l : ℕ} {d : Forest} (base : ℕ) → Ended W X ds lo l d → SegB W base ds → isNil d ≡ false
-    → (lo ≤ wd W base) × (wd W base + 3 ≤ l) × OutFrom (wd W base) 3 X
-unfolding isNil
-ended-first base (nothing h) g e = absurd (true≢false e)
-ended-first {W} {X} base (statement {b = b} (nothing h) t o high) g e =
-    let here : wd W base ≡ b = rw add-zero at (g .0) in
-    rw here (omega (arith, t .low), high, o)
-ended-first base (statement (statement r t' o' high') t o high) g e =
-    let first = ended-first base (statement r t' o' high') (g .1) refl in
-    (first .0, omega (arith, first .1, t .low), first .2)
-
-ended-some : {W X ds : List ℕ} {lo l : ℕ} {d : Forest} → Ended W X ds lo l d → isNil d ≡ false → 0 < length ds
-unfolding isNil
-ended-some (nothing h) e = absurd (true≢false e)
-ended-some (statement r t o h) e = omega arith
+use Rattle.walks.proofs.Ended.{ended-le, ended-at-keep}
 
 module _ (W W' : List ℕ) where
-  pub ended-keep : {X ds : List ℕ} {lo l : ℕ} {d : Forest} → SameSlots W W' X lo l → Ended W X ds lo l d → Ended W' X ds lo l d
-  ended-keep h (nothing e) = nothing e
-  ended-keep h (statement {b = b} {m = m} r t o high) =
-      let le = ended-le r in
-      statement (ended-keep (λ s i x y z u. h s i x (omega (arith, t .low)) z u) r)
-      (tree-keep W W' (λ s i x y z u n. h s i (omega arith) (omega arith) z u) t) o high
-
-  pub ended-at-keep : {X : List ℕ} {base n lo l : ℕ} {q : Token} {done : Forest} → SameSlots W W' X lo l → SameWords W W' base (base + n)
-      → EndedAt W X base n lo l q done → EndedAt W' X base n lo l q done
-  ended-at-keep {X} {base} {n} {lo} {l} {q} {done} slots words v =
-      record {
-        ds = v .ds;
-        seg = segB-keep W W' base (v .ds) (λ j x y. words j x (omega (arith, v .count))) (v .seg);
-        count = v .count;
-        rep = ended-keep slots (v .rep);
-        list = λ e.
-            let first = ended-first base (v .rep) (v .seg) e in
-            let here : wd W' base ≡ wd W base = words base (le-refl base) (omega (arith, ended-some (v .rep) e, v .count)) in
-            rw here (token-keep W W' (wd W base + 2) (λ o x. slots (wd W base + 2) o (omega (arith, first .0)) (omega (arith, first .1)) (omega arith) (first .2 (wd W base + 2) (omega arith) (omega arith)))
-            (v .list e));
-      }
-
   -- ---- a chain from the last child on
 
   pub back-links : {X ds : List ℕ} {lo hi : ℕ} {d : Forest} (f : ℕ) → RepB W X ds lo hi d
@@ -125,12 +77,12 @@ module _ (W W' : List ℕ) where
 
     statement-keep : {p : Pass} {s : Split} → StatementSide W X base write lo l p s → StatementSide W' X base write lo l p s
     statement-keep (StatementSide.whole v) = StatementSide.whole (back-array-keep W W' slots words v)
-    statement-keep (StatementSide.closed v) = StatementSide.closed (ended-at-keep slots words v)
+    statement-keep (StatementSide.closed v) = StatementSide.closed (ended-at-keep W W' slots words v)
     statement-keep (StatementSide.current {m = m} v o) =
         let low = ended-le (v .rep) in
         let high = back-le (o .items .rep) in
         StatementSide.current
-        (ended-at-keep (λ s i x y z h. slots s i x (omega arith) z h) (λ j x y. words j x (omega (arith, o .reached))) v)
+        (ended-at-keep W W' (λ s i x y z h. slots s i x (omega arith) z h) (λ j x y. words j x (omega (arith, o .reached))) v)
         (open-at-keep low o)
 
     array-side-keep : {p : Pass} {s : Indexing} → ArraySide W X base write lo l p s → ArraySide W' X base write lo l p s

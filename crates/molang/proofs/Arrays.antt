@@ -30,11 +30,10 @@ unfolding arrayStep index flushed
 enter-unindexed true d k c cs r i = rw (i, arrayStep) refl
 enter-unindexed false d k c cs r i = rw (i, arrayStep) refl
 
-pub array-inert : Inert arrayLevel isArrayName
+pub array-inert : Inert arrayLevel isArrayName unindexed
 unfolding arrayLevel arrayResume arrayFinish flushed
 array-inert =
     record {
-      idle = unindexed;
       begins = λ f h. refl;
       keeps = λ d k h. keep-unindexed (isIndex k) d k refl h;
       enters = λ d k c cs r. enter-unindexed (isIndex k) d k c cs r refl;

@@ -15,11 +15,10 @@ use Rattle.molang.proofs.Walks.{failed, stops, goes}
 use Rattle.molang.proofs.Weight.{Weighing, weight, Ending, Light, weight-inner, weight-tree, turned-fine}
 use Rattle.molang.proofs.Gathering.{shown, GatheredFits, gatheredFull, Gathers, gathers-into, gathers-node}
 
-pub binary-inert : (ops : List ℕ) → Inert (binaryLevel ops) (isOneOf ops)
+pub binary-inert : (ops : List ℕ) → Inert (binaryLevel ops) (isOneOf ops) gathered
 unfolding binaryLevel nothing binaryStep binaryResume binaryFinish
 binary-inert ops =
     record {
-      idle = gathered;
       begins = λ f h. refl;
       keeps = λ d k h. rw (h, binaryStep) refl;
       enters = λ d k c cs r. refl;

@@ -1,11 +1,14 @@
 -- Laws of Booleans that the proofs share: a case on a test that keeps its answer, and what an `||` says of its sides.
 use mathlib.Core.Path.{_≡_, refl, sym, _∙_}
-use mathlib.Core.Bool.{Bool, true, false, _||_, true≢false}
+use mathlib.Core.Bool.{Bool, true, false, _||_, true≢false, false≢true}
 
 -- Either way of a test, with what it answered.
 pub either : {A : Type 0} (b : Bool) → (b ≡ true → A) → (b ≡ false → A) → A
 either true passed failed = passed refl
 either false passed failed = failed refl
+
+pub false-true : {A : Type 0} → false ≡ true → A
+false-true e = absurd (false≢true e)
 
 -- A test that cannot pass.
 pub never : (b : Bool) → (b ≡ true → ⊥) → b ≡ false

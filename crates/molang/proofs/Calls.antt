@@ -14,11 +14,10 @@ use Rattle.molang.proofs.Walks.{failed, stops, goes}
 use Rattle.molang.proofs.Weight.{Weighing, weight, Ending, Light, weight-inner, turned-fine}
 use Rattle.molang.proofs.Gathering.{shown, GatheredFits, gatheredFull, Gathers, gathers-into, gathers-node}
 
-pub call-inert : (kind : CallKind) → Inert (callLevel kind) (calls kind)
+pub call-inert : (kind : CallKind) → Inert (callLevel kind) (calls kind) gathered
 unfolding callLevel nothing callStep callLeaf callResume callFinish
 call-inert kind =
     record {
-      idle = gathered;
       begins = λ f h. refl;
       keeps = λ d k h. rw (h, callLeaf) refl;
       enters = λ d k c cs r. refl;

@@ -11,7 +11,8 @@ use Rattle.molang.specs.Forest.{Token, Forest, nil, node, turnedOnto, in
 use Rattle.molang.specs.Message.{ok}
 use Rattle.molang.specs.Level.{through}
 use Rattle.molang.specs.Conditional.{isToken, startsWith, under, pairElse, scan, foldedFrom, dangling, undangled, conditionalStep, conditionalFinish, conditionalLevel}
-use Rattle.molang.proofs.Trees.{free, clear, isNil, decided, maybe, off-both, clear-leaf, clear-rest, clear-turned}
+use Rattle.molang.proofs.Trees.{free, clear, isNil, decided, maybe, clear-leaf, clear-rest, clear-turned}
+use Rattle.molang.proofs.Booleans.{or-neither}
 use Rattle.molang.proofs.Inert.{Inert, through-free}
 use Rattle.molang.proofs.Walks.{failed, fine, Onward, goes, enters}
 use Rattle.molang.proofs.Weight.{Weighing, weight, Within, Ending, Light, weight-inner, weight-tree}
@@ -23,7 +24,7 @@ isTernary n = eqb n Operator.conditional || eqb n Operator.conditionalElse
 module _ (a : Token) (aa d : Forest) (h : clear isTernary (node a aa d) ≡ true) where
   no-ternary : (cs : Forest) → aa ≡ cs → (isToken Operator.conditional a cs ≡ false) × (isToken Operator.conditionalElse a cs ≡ false)
   unfolding isToken isTernary
-  no-ternary nil e = off-both (eqb (a .op) Operator.conditional) (eqb (a .op) Operator.conditionalElse) (clear-leaf isTernary a d (rw e at h) .0)
+  no-ternary nil e = or-neither (eqb (a .op) Operator.conditional) (eqb (a .op) Operator.conditionalElse) (clear-leaf isTernary a d (rw e at h) .0)
   no-ternary (node c cs r) e = (refl, refl)
 
   no-token : (isToken Operator.conditional a aa ≡ false) × (isToken Operator.conditionalElse a aa ≡ false)
@@ -71,15 +72,18 @@ dangling-clear (node k cs rest) h =
     let e = no-token k cs rest h in
     rw (e .0, dangling) (rw (e .1) (dangling-clear rest (clear-rest isTernary k cs rest h)))
 
-end-clear : (d : Forest) → clear isTernary d ≡ true → conditionalFinish d ≡ ok (inOrder d)
-unfolding conditionalFinish undangled inOrder clear
-end-clear d h = rw (folded-clear d h) (rw (dangling-clear (inOrder d) (clear-turned isTernary d nil h refl), undangled) refl)
+pub undangled-calm : (f : Forest) → dangling f ≡ none → undangled f ≡ ok f
+unfolding undangled
+undangled-calm f h = rw (h, undangled) refl
 
-pub conditional-inert : Inert conditionalLevel isTernary
+end-clear : (d : Forest) → clear isTernary d ≡ true → conditionalFinish d ≡ ok (inOrder d)
+unfolding conditionalFinish inOrder clear
+end-clear d h = rw (folded-clear d h) (undangled-calm (inOrder d) (dangling-clear (inOrder d) (clear-turned isTernary d nil h refl)))
+
+pub conditional-inert : Inert conditionalLevel isTernary (λ d. d)
 unfolding conditionalLevel conditionalStep
 conditional-inert =
     record {
-      idle = λ d. d;
       begins = λ f h. refl;
       keeps = λ d k h. refl;
       enters = λ d k c cs r. refl;

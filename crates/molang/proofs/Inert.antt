@@ -8,18 +8,17 @@ use Rattle.molang.specs.Message.{ok}
 use Rattle.molang.specs.Level.{on, into, Level, walk, through}
 use Rattle.molang.proofs.Trees.{free, clear, free-leaf, free-tree, leaf-clear, free-clear}
 
--- How a level passes over what is none of its tokens: with the trees d so far, the last first, and nothing waiting, it keeps a leaf, enters
--- a node with children and takes it back.
-pub record Inert {S : Type 0} (L : Level S) (P : ℕ → Bool) : Type 0 where
-  pub idle : Forest → S
+-- How a level passes over what is none of its tokens: with the trees d so far, the last first, and nothing waiting (the state `idle d`), it
+-- keeps a leaf, enters a node with children and takes it back.
+pub record Inert {S : Type 0} (L : Level S) (P : ℕ → Bool) (idle : Forest → S) : Type 0 where
   pub begins : (f : Forest) → clear P f ≡ true → L .start f ≡ idle nil
   pub keeps : (d : Forest) (k : Token) → P (k .op) ≡ false → L .step (idle d) k nil ≡ on (idle (node k nil d))
   pub enters : (d : Forest) (k c : Token) (cs r : Forest) → L .step (idle d) k (node c cs r) ≡ into (idle d) (L .start (node c cs r))
   pub takesBack : (d : Forest) (k : Token) (kids : Forest) → L .resume (idle d) k kids ≡ idle (node k kids d)
   pub ends : (d : Forest) → clear P d ≡ true → L .finish (idle d) ≡ ok (inOrder d)
 
-module _ {S : Type 0} (L : Level S) (P : ℕ → Bool) (I : Inert L P) where
-  pub walk-free : (d f : Forest) → clear P d ≡ true → free P f ≡ true → walk L (I .idle d) f ≡ ok (turnedOnto d f)
+module _ {S : Type 0} (L : Level S) (P : ℕ → Bool) {idle : Forest → S} (I : Inert L P idle) where
+  pub walk-free : (d f : Forest) → clear P d ≡ true → free P f ≡ true → walk L (idle d) f ≡ ok (turnedOnto d f)
   unfolding walk turnedOnto inOrder clear
   walk-free d nil hd h = I .ends d hd
   walk-free d (node k nil rest) hd h =

@@ -2,7 +2,7 @@
 -- true for the rest of the reading), and leaves the empty list empty (so that the pointer's failure leads to exactly two messages).
 use Prim.Native.Nat.{ℕ, _+_, _*_, _≤_, zero-le}
 use mathlib.Core.Path.{_≡_, refl, ap}
-use mathlib.Core.Bool.{Bool, true, false, _&&_, not, false≢true}
+use mathlib.Core.Bool.{Bool, true, false, _&&_, not}
 use mathlib.Core.List.{List, [], _∷_, _++_}
 use native.Mathlib.Omega.{arith}
 use Rattle.molang.specs.Operator
@@ -17,6 +17,7 @@ use Rattle.molang.specs.Conditional.{foldedFrom, dangling, undangled, co
 use Rattle.molang.specs.Order.{Pass, lastToken, memberAccessors, sectioning, callPass, statements, arrays, pointer, mathCalls, unaryMinusAndNot, addition, ternary, returns, binary, runs, apply}
 use Rattle.molang.specs.Read.{messages, rooted, endsReading, grouped}
 use Rattle.molang.proofs.Trees.{free, isNil, decided, both, and-true-true, free-leaf, free-tree}
+use Rattle.molang.proofs.Booleans.{false-true}
 use Rattle.molang.proofs.Walks.{failed, fine}
 use Rattle.molang.proofs.Weight.{Weighing, weight, Ending, through-light}
 use Rattle.molang.proofs.Calls.{call-light}
@@ -43,16 +44,13 @@ isNested ternary = true
 isNested returns = true
 isNested (binary ops) = true
 
-never : {A : Type 0} → false ≡ true → A
-never e = absurd (false≢true e)
-
 module _ (W : Weighing) (pays : 3 * W .inner ≤ W .leaf Operator.semicolon) (turns : W .leaf Operator.add + W .inner ≤ W .leaf Operator.negate) where
   pub apply-light : (sourceLength : ℕ) (p : Pass) (f : Forest) → isNested p ≡ true
       → Ending W (weight W f) (not (isNil f)) (apply sourceLength p f)
   unfolding isNested apply
-  apply-light l lastToken f e = never e
-  apply-light l memberAccessors f e = never e
-  apply-light l sectioning f e = never e
+  apply-light l lastToken f e = false-true e
+  apply-light l memberAccessors f e = false-true e
+  apply-light l sectioning f e = false-true e
   apply-light l callPass f e = through-light W (callLevel queryOrLoop) (call-light W queryOrLoop) f
   apply-light l statements f e = through-light W statementLevel (statement-light W pays) f
   apply-light l arrays f e = through-light W arrayLevel (array-light W) f
@@ -114,9 +112,9 @@ module _ (P : ℕ → Bool) where
 -- THE EMPTY LIST
 pub apply-nil : (sourceLength : ℕ) (p : Pass) → isNested p ≡ true → apply sourceLength p nil ≡ ok nil
 unfolding isNested apply through walk callLevel callFinish statementLevel splitOf statementFinish arrayLevel flushed arrayFinish binaryLevel binaryFinish unaryPass unary conditionalLevel conditionalFinish foldedFrom undangled dangling returnLevel returnFinish nothing inOrder turnedOnto
-apply-nil l lastToken e = never e
-apply-nil l memberAccessors e = never e
-apply-nil l sectioning e = never e
+apply-nil l lastToken e = false-true e
+apply-nil l memberAccessors e = false-true e
+apply-nil l sectioning e = false-true e
 apply-nil l callPass e = refl
 apply-nil l statements e = refl
 apply-nil l arrays e = refl

@@ -18,11 +18,10 @@ use Rattle.molang.proofs.Gathering.{shown, GatheredFits, gatheredFull, 
 unfoldable pub isReturn : ℕ → Bool
 isReturn n = eqb n Operator.return
 
-pub return-inert : Inert returnLevel isReturn
+pub return-inert : Inert returnLevel isReturn gathered
 unfolding returnLevel nothing returnStep returnResume returnFinish isReturn
 return-inert =
     record {
-      idle = gathered;
       begins = λ f h. refl;
       keeps = λ d k h. rw (h, returnStep) refl;
       enters = λ d k c cs r. refl;

@@ -1,18 +1,16 @@
 -- DEMAND 3 OVER THE DEFINITIONS: reading what was written of a plain tree gives the tree back, up to brackets. A plain tree is spelled as a
 -- bracketed expression (Spelling); each pass takes the expression's list to one in which its operators are folded too (Sections, Calls, Unary,
 -- Binary, Conditional), and the passes come in an order that folds all of them, whatever the version (Order).
-use Prim.Native.Nat.{ℕ, _≤_}
+use Prim.Native.Nat.{ℕ}
 use mathlib.Core.Path.{_≡_, ap, sym, _∙_}
 use mathlib.Core.List.{List, []}
-use mathlib.Core.Bool.{Bool, false}
+use mathlib.Core.Bool.{false}
 use mathlib.Core.Option.{none}
 use lib.IntN.{ℤ}
-use lib.ListN.{length}
 use Rattle.molang.specs.Forest.{Token, Forest, nil, node}
 use Rattle.molang.specs.Order.{rules}
 use Rattle.molang.specs.Read.{tree, rooted, read, uses}
 use Rattle.molang.specs.Words.{treeWords}
-use Rattle.molang.specs.Parse.{mostTokens}
 use Rattle.molang.specs.Plain.{unplainAt}
 use Rattle.molang.specs.Write.{written, takenAway}
 use Order.{reading}
@@ -58,14 +56,11 @@ pub record SameWords (k : Token) (cs : Forest) (version : ℤ) (sourceLength : �
   pub reads : read (written k cs []) (uses (written k cs [])) version sourceLength ≡ tree root children
   pub words : treeWords (takenAway false (node root children nil) nil) ≡ treeWords (takenAway false (node k cs nil) nil)
 
--- DEMAND 3. Take any token list, operator set, version and source length at which reading gives a tree; let the tree be plain and its written
--- list have at most 4,096 tokens. Then, at any version and source length, reading the written list with each operator of its tokens and no
--- other gives a tree; and the two trees, with every one-child bracket taken away that is no call's argument, are the same words in the same
--- order: operators, payloads, spans and child counts alike. (Only plainness is used: `round-trip` asks neither where the tree came from nor how
--- long its writing is.)
-pub demand-3 : (list : List Token) (used : ℕ → Bool) (version : ℤ) (sourceLength : ℕ) (k : Token) (cs : Forest)
-    → read list used version sourceLength ≡ tree k cs → unplainAt k cs ≡ none → length (written k cs []) ≤ mostTokens
-    → (version' : ℤ) (sourceLength' : ℕ) → SameWords k cs version' sourceLength'
-demand-3 list used version sourceLength k cs first plain fits version' sourceLength' =
-    let again = round-trip k cs plain version' sourceLength' in
+-- DEMAND 3. Take any plain tree. At any version and source length, reading its written list with each operator of its tokens and no other gives
+-- a tree; and the two trees, with every one-child bracket taken away that is no call's argument, are the same words in the same order:
+-- operators, payloads, spans and child counts alike. (It does not matter which reading gave the tree, nor how long its writing is. `Entries` has
+-- the demand's three calls, which say both.)
+pub demand-3 : (k : Token) (cs : Forest) → unplainAt k cs ≡ none → (version : ℤ) (sourceLength : ℕ) → SameWords k cs version sourceLength
+demand-3 k cs plain version sourceLength =
+    let again = round-trip k cs plain version sourceLength in
     record { root = again .root; children = again .children; reads = again .reads; words = ap treeWords (again .agrees) }

@@ -18,17 +18,16 @@ use Rattle.molang.proofs.Weight.{Weighing, weight, Within, Ending, Ligh
 unfoldable pub isSemicolon : ℕ → Bool
 isSemicolon n = eqb n Operator.semicolon
 
-split-clear : (f : Forest) → clear isSemicolon f ≡ true → splitOf f ≡ unsplit nil
+pub split-clear : (f : Forest) → clear isSemicolon f ≡ true → splitOf f ≡ unsplit nil
 unfolding splitOf clear isSemicolon
 split-clear nil h = refl
 split-clear (node k nil rest) h = let e = clear-leaf isSemicolon k rest h in rw (e .0, splitOf) (split-clear rest (e .1))
 split-clear (node k (node c cs r) rest) h = split-clear rest h
 
-pub statement-inert : Inert statementLevel isSemicolon
+pub statement-inert : Inert statementLevel isSemicolon unsplit
 unfolding statementLevel statementStep statementResume statementFinish gather isSemicolon
 statement-inert =
     record {
-      idle = unsplit;
       begins = split-clear;
       keeps = λ d k h. rw (h, statementStep) refl;
       enters = λ d k c cs r. refl;

@@ -1,7 +1,7 @@
 -- Facts about forests that the laws of the passes share: which leaves stand in a forest, and what turning a gathered list round keeps.
 use Prim.Native.Nat.{ℕ, _≤_}
 use mathlib.Core.Path.{_≡_, refl}
-use mathlib.Core.Bool.{Bool, true, false, _||_, _&&_, not, and-eq-true-iff, true≢false}
+use mathlib.Core.Bool.{Bool, true, false, _&&_, not, and-eq-true-iff, true≢false}
 use mathlib.Core.Option.{Option, none, some}
 use native.Mathlib.Omega.{arith}
 use borrow.Author.Tests.{not-true}
@@ -49,10 +49,6 @@ both a b h = and-eq-true-iff a b .0 h
 
 pub and-true-true : (a b : Bool) → a ≡ true → b ≡ true → (a && b) ≡ true
 and-true-true a b p q = and-eq-true-iff a b .1 (p, q)
-
-pub off-both : (a b : Bool) → (a || b) ≡ false → (a ≡ false) × (b ≡ false)
-off-both true b h = absurd (true≢false h)
-off-both false b h = (refl, h)
 
 module _ (P : ℕ → Bool) where
   pub free-leaf : (k : Token) (rest : Forest) → free P (node k nil rest) ≡ true → (P (k .op) ≡ false) × (free P rest ≡ true)

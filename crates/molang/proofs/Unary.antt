@@ -2,7 +2,7 @@
 -- since a minus after an operand becomes both.
 use Prim.Native.Nat.{ℕ, _+_, _≤_}
 use mathlib.Core.Path.{_≡_, refl, ap}
-use mathlib.Core.Bool.{Bool, true, false, _||_, not, false≢true}
+use mathlib.Core.Bool.{Bool, true, false, _||_, not}
 use mathlib.Core.List.{List, [], _∷_}
 use mathlib.Core.Option.{Option, none, some}
 use native.Mathlib.Omega.{arith}
@@ -14,7 +14,8 @@ use Rattle.molang.specs.Operator.{isOneOf, BeforeMinus, operand, operato
 use Rattle.molang.specs.Forest.{Token, Forest, nil, node, renamed, bare}
 use Rattle.molang.specs.Message.{Message, ok, fail}
 use Rattle.molang.specs.Unary.{Unary, done, undone, minusAfter, notBefore, unaryLeaf, turned, unaryNode, unary, unaryPass}
-use Rattle.molang.proofs.Trees.{free, isNil, decided, either, off-both, free-leaf, free-tree}
+use Rattle.molang.proofs.Trees.{free, isNil, decided, either, free-leaf, free-tree}
+use Rattle.molang.proofs.Booleans.{false-true, or-neither}
 use Rattle.molang.proofs.Walks.{failed, fine}
 use Rattle.molang.proofs.Weight.{Weighing, weight, Ending, weight-inner, weight-tree}
 
@@ -26,7 +27,7 @@ unfolding unary unaryNode unaryLeaf turned isPrefix
 unary-free p nil h = refl
 unary-free p (node k nil rest) h =
     let e = free-leaf isPrefix k rest h in
-    let o = off-both (eqb (k .op) Operator.negate) (eqb (k .op) Operator.logicalNot) (e .0) in
+    let o = or-neither (eqb (k .op) Operator.negate) (eqb (k .op) Operator.logicalNot) (e .0) in
     rw (unary-free (some k) rest (e .1), unary) (rw (o .0, unaryLeaf) (rw (o .1) refl))
 unary-free p (node k (node c cs r) rest) h =
     let e = free-tree isPrefix k c cs r rest h in
@@ -74,9 +75,6 @@ unfolding inNode
 atNode p k cs x y = elim x [ undone m ↦ undone m | done pair r ↦ inNode p k cs pair r y ]
 
 module _ (W : Weighing) (turns : W .leaf Operator.add + W .inner ≤ W .leaf Operator.negate) where
-  never : {A : Type 0} → false ≡ true → A
-  never e = absurd (false≢true e)
-
   minus-light : (p : Option Token) (k : Token) (r : Forest) (n : ℕ) (b : Bool) → eqb (k .op) Operator.negate ≡ true
       → W .leaf (k .op) + weight W r ≤ n → Reaches W n b p (minusAfter p k r)
   unfolding minusAfter weight isNil isMinus renamed bare
@@ -86,9 +84,9 @@ module _ (W : Weighing) (turns : W .leaf Operator.add + W .inner ≤ W .leaf Ope
   minus-light (some p) k (node x xs r) n b e h =
       let w = ap (W .leaf) (eqb-true (k .op) Operator.negate e) in
       beforeCases (Reaches W n b (some p)) (beforeMinus (p .op)) _ _ _ _
-      (λ q. reached {r = node k (node x xs nil) r} (omega (arith, W .lighter (k .op), weight-tree W x xs r)) (λ f. refl) never)
+      (λ q. reached {r = node k (node x xs nil) r} (omega (arith, W .lighter (k .op), weight-tree W x xs r)) (λ f. refl) false-true)
       (λ q. reached {r = node (renamed Operator.add k) nil (node (bare Operator.negate k) (node x xs nil) r)}
-      (omega (arith, w, turns, weight-tree W x xs r)) (λ f. refl) never)
+      (omega (arith, w, turns, weight-tree W x xs r)) (λ f. refl) false-true)
       (λ q. reached {r = node x xs r} (omega arith) (λ f. refl) (λ t. before-is-minus (p .op) q))
       (λ q. stuck refl)
 
@@ -96,7 +94,7 @@ module _ (W : Weighing) (turns : W .leaf Operator.add + W .inner ≤ W .leaf Ope
   unfolding notBefore weight isNil
   not-light p k nil n b h = stuck refl
   not-light p k (node x xs r) n b h =
-      reached {r = node k (node x xs nil) r} (omega (arith, W .lighter (k .op), weight-tree W x xs r)) (λ f. refl) never
+      reached {r = node k (node x xs nil) r} (omega (arith, W .lighter (k .op), weight-tree W x xs r)) (λ f. refl) false-true
 
   leaf-light : (p : Option Token) (k : Token) (r : Forest) (n : ℕ) (b : Bool) → W .leaf (k .op) + weight W r ≤ n
       → Reaches W n b p (unaryLeaf p k r)
@@ -104,7 +102,7 @@ module _ (W : Weighing) (turns : W .leaf Operator.add + W .inner ≤ W .leaf Ope
   leaf-light p k r n b h =
       decided (Reaches W n b p) (eqb (k .op) Operator.negate) _ _ (λ e. minus-light p k r n b e h)
       (λ e. either (Reaches W n b p) (eqb (k .op) Operator.logicalNot) _ _ (not-light p k r n b h)
-      (reached {r = node k nil r} (omega arith) (λ f. refl) never))
+      (reached {r = node k nil r} (omega arith) (λ f. refl) false-true))
 
   node-light : (p : Option Token) (k : Token) (pair : Bool) (cs kids r rest : Forest) (b : Bool) → weight W r ≤ weight W rest
       → (pair ≡ true → eqb (k .op) Operator.negate ≡ true)
@@ -116,7 +114,7 @@ module _ (W : Weighing) (turns : W .leaf Operator.add + W .inner ≤ W .leaf Ope
       (omega (arith, ap (W .leaf) (eqb-true (k .op) Operator.negate (t refl)), turns))
   node-light p k false nil kids r rest b h t w e = leaf-light p k r (weight W (node k nil rest)) b (omega arith)
   node-light p k pair (node c cs s) kids r rest b h t w e =
-      reached {r = node (turned pair k) kids r} (omega (arith, weight-inner W (turned pair k) kids r (e refl))) (λ f. refl) never
+      reached {r = node (turned pair k) kids r} (omega (arith, weight-inner W (turned pair k) kids r (e refl))) (λ f. refl) false-true
 
   atNode-light : (p : Option Token) (k : Token) (cs rest : Forest) (b : Bool) {x y : Unary}
       → Reaches W (weight W rest) (not (isNil rest)) (some k) x → Reaches W (weight W cs) (not (isNil cs)) none y
@@ -128,7 +126,7 @@ module _ (W : Weighing) (turns : W .leaf Operator.add + W .inner ≤ W .leaf Ope
 
   unary-light : (p : Option Token) (f : Forest) → Reaches W (weight W f) (not (isNil f)) p (unary p f)
   unfolding unary atNode inNode weight isNil
-  unary-light p nil = reached {r = nil} (omega arith) (λ e. absurd (false≢true e)) (λ e. absurd (false≢true e))
+  unary-light p nil = reached {r = nil} (omega arith) false-true false-true
   unary-light p (node k cs rest) = atNode-light p k cs rest true (unary-light (some k) rest) (unary-light none cs)
 
   pub unaryPass-light : (f : Forest) → Ending W (weight W f) (not (isNil f)) (unaryPass f)

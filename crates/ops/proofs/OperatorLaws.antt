@@ -1,7 +1,7 @@
 -- What an arm of a `match` on an operator shows: what a function gives at each number of the arm's range, by one test that antt
 -- computes, and that a number apart from each of a list is none of them. Assumes nothing.
 use mathlib.Core.Path.{_≡_, refl, subst}
-use mathlib.Core.Bool.{Bool, true, false, not, _&&_, _||_, Bool·beq, and-false}
+use mathlib.Core.Bool.{Bool, true, false, not, _&&_, _||_, Bool·beq}
 use mathlib.Core.List.{List, [], _∷_, _++_}
 use mathlib.Core.Logic.{inl, inr, ⊎-elim}
 use mathlib.Core.Option.{none}
@@ -10,8 +10,9 @@ use native.Mathlib.Nat.{eq-or-lt-of-le}
 use native.Mathlib.Omega.{arith}
 use lib.Dec.{T, eqb}
 use types.Run.{OneOf}
-use borrow.Author.Tests.{eq-eqb, ne-eqb, lt-leb}
-use Rattle.molang.specs.Operator.{leftBrace, rightBrace, leftBracket, leftParenthesis, negate, logicalNot, add, div, mul, lessThan, lessEqual, greaterEqual, greaterThan, logicalEqual, logicalNotEqual, logicalOr, logicalAnd, nullCoalescing, conditional, conditionalElse, loop, forEach, break, continue, assignment, semicolon, return, comma, expressionArray, any, isOneOf, between, isMathCall, closingOf, BeforeMinus, operand, operator, minus, unknown, beforeMinus}
+use borrow.Author.Tests.{eq-eqb, ne-eqb}
+use Rattle.molang.specs.Operator.{leftBrace, rightBrace, leftBracket, leftParenthesis, negate, logicalNot, add, div, mul, lessThan, lessEqual, greaterEqual, greaterThan, logicalEqual, logicalNotEqual, logicalOr, logicalAnd, nullCoalescing, conditional, conditionalElse, loop, forEach, break, continue, assignment, semicolon, return, comma, expressionArray, any, isOneOf, closingOf, BeforeMinus, operand, operator, minus, unknown, beforeMinus}
+pub use Rattle.molang.proofs.RoundTrip.Role.{no-math}
 
 -- The test passes at the k numbers from lo on.
 abbrev pub passes : (ℕ → Bool) → ℕ → ℕ → Bool
@@ -146,10 +147,3 @@ operand-apart n s r =
     rw (ne-eqb n negate (s .0 .0), beforeMinus)
     (rw (← apart (continue ∷ expressionArray ∷ []) n (s .0 .1), beforeMinus)
     (rw (← apart (braces ++ (arithmetic ++ (middle ++ assignment ∷ last))) n (operators n s r), beforeMinus)))
-
--- No math call is above 110.
-pub no-math : (n : ℕ) → 110 < n → isMathCall n ≡ false
-unfolding isMathCall between
-no-math n high =
-    rw (ne-eqb n 8 (λ e. omega arith), lt-leb n 19 (omega arith), lt-leb n 30 (omega arith), lt-leb n 39 (omega arith), lt-leb n 110 high)
-    (simp and-false)

@@ -1,26 +1,16 @@
--- The array pass as laws: what the trees between array names change, and what the pass makes of a name, of its next index and of a bare name at the end
--- of an array's contents.
+-- The array pass as laws: what it makes of a name, of its next index and of a bare name at the end of an array's contents.
 use mathlib.Core.Path.{_≡_, refl, sym, ap, _∙_}
 use mathlib.Core.Bool.{Bool, true, false, true≢false}
 use mathlib.Core.List.{List, [], _∷_}
-use Rattle.molang.specs.Operator.{isOneOf, any, array}
+use Rattle.molang.specs.Operator.{array}
 use Rattle.molang.specs.Forest.{Token, Forest, nil, node, renamed}
 use Rattle.molang.specs.Message.{Message, emptyArrayIndex, Result, ok, fail}
-use Rattle.molang.specs.Level.{on, into, stop, walk, through}
-use Rattle.molang.specs.Order.{someBelow}
-use Rattle.molang.specs.Calls.{Indexing, unindexed, named, indexed, flushed, isIndex, startsWithIndex, emptyIndex, nextIndex, index, arrayStep, arrayResume, arrayFinish, arrayLevel}
-use Rattle.molang.proofs.Trees.{free, isNil, free-leaf, free-tree}
-use Rattle.molang.proofs.Arrays.{isArrayName, array-free}
+use Rattle.molang.specs.Level.{on, into, stop, walk}
+use Rattle.molang.specs.Calls.{Indexing, unindexed, named, indexed, flushed, isIndex, startsWithIndex, emptyIndex, nextIndex, index, arrayStep, arrayFinish, arrayLevel}
+use Rattle.molang.proofs.Trees.{isNil}
+use Rattle.molang.proofs.Arrays.{isArrayName}
 use Rattle.molang.proofs.Work.{arrays, work, inReading, takes, andThen}
 use Rattle.molang.proofs.Walks.{onward, back, walk-onward}
-use Rattle.ops.proofs.ClassLaws.{stands-for}
-use Rattle.ops.specs.Classes.{meets, bitAt, inClass, passClasses}
-use Rattle.walks.specs.Passes.{Exact}
-use Rattle.walks.specs.Items.{Passed, here, over}
-
-pub array-class : Exact 0x4 isArrayName
-unfolding isArrayName meets someBelow bitAt inClass passClasses isOneOf any
-array-class = stands-for 0x4 isArrayName tt
 
 -- ---- one step of the walk
 
@@ -47,35 +37,6 @@ module _ (s : Indexing) (k : Token) (cs rest : Forest) where
       → work arrays s (node k cs rest) ≡ andThen (work arrays u (inReading arrays cs)) (λ kids. work arrays (takes arrays t k kids) rest)
   unfolding onward inReading work
   array-in t u e = walk-step ∙ ap (onward arrayLevel k cs rest) e ∙ back-then t (walk arrayLevel u cs)
-
--- ---- trees without an array name
-
-keep-leaf : (i : Bool) (d : Forest) (k : Token) → isIndex k ≡ i → isArrayName (k .op) ≡ false → arrayStep (unindexed d) k nil ≡ on (unindexed (node k nil d))
-unfolding arrayStep emptyIndex flushed isArrayName
-keep-leaf true d k i h = rw (i, arrayStep) refl
-keep-leaf false d k i h = rw (i, arrayStep) (rw h refl)
-
-enter-tree : (i : Bool) (d : Forest) (k c : Token) (cs r : Forest) → isIndex k ≡ i → arrayStep (unindexed d) k (node c cs r) ≡ into (unindexed d) (unindexed nil)
-unfolding arrayStep index flushed
-enter-tree true d k c cs r i = rw (i, arrayStep) refl
-enter-tree false d k c cs r i = rw (i, arrayStep) refl
-
--- a tree of a list with no array before it is entered
-pub unindexed-in : (d : Forest) (k : Token) (cs : Forest) → isNil cs ≡ false → arrayStep (unindexed d) k cs ≡ into (unindexed d) (unindexed nil)
-unfolding isNil
-unindexed-in d k nil e = absurd (true≢false e)
-unindexed-in d k (node c cs r) e = enter-tree (isIndex k) d k c cs r refl
-
-pub walk-past : (d : Forest) (k : Token) (cs rest : Forest) → free isArrayName (node k cs nil) ≡ true → work arrays (unindexed d) (node k cs rest) ≡ work arrays (unindexed (node k cs d)) rest
-unfolding inReading work through arrayLevel andThen takes arrayResume isNil
-walk-past d k nil rest h = array-on (unindexed d) k nil rest (unindexed (node k nil d)) (keep-leaf (isIndex k) d k refl (free-leaf isArrayName k nil h .0))
-walk-past d k (node c cs r) rest h =
-    array-in (unindexed d) k (node c cs r) rest (unindexed d) (unindexed nil) (unindexed-in d k (node c cs r) refl)
-    ∙ ap (λ (x : Result). andThen x (λ kids. work arrays (takes arrays (unindexed d) k kids) rest)) (array-free (node c cs r) (free-tree isArrayName k c cs r nil h .0))
-
-pub passed-unindexed : {d rest d' rest' : Forest} → Passed isArrayName d rest d' rest' → work arrays (unindexed d) rest ≡ work arrays (unindexed d') rest'
-passed-unindexed here = refl
-passed-unindexed {d = d} (over {rest = r} {cs = cs} {k = k} f p) = walk-past d k cs r f ∙ passed-unindexed p
 
 -- ---- a name or an array that no index follows
 

@@ -12,9 +12,10 @@ use lib.ListN.{length, set}
 use Rattle.molang.specs.Operator.{leftBracket, arrayVariable, array}
 use Rattle.molang.specs.Forest.{Token, Forest, nil, node, renamed, inOrder, count, size}
 use Rattle.molang.specs.Message.{Result}
+use Rattle.molang.specs.Level.{through}
 use Rattle.molang.specs.Calls.{Indexing, unindexed, named, indexed, flushed, isIndex, startsWithIndex, arrayStep, arrayResume, arrayLevel}
 use Rattle.molang.proofs.Trees.{isNil}
-use Rattle.molang.proofs.Arrays.{isArrayName}
+use Rattle.molang.proofs.Arrays.{isArrayName, array-inert}
 use Rattle.molang.proofs.Work.{Kind, arrays, State, work, begins, inReading, takes, andThen}
 use Rattle.words.specs.Fields.{withOperator}
 use Rattle.nodes.specs.Store.{wd, RepT}
@@ -23,7 +24,7 @@ use Rattle.nodes.proofs.Runs.{set-other, set-long}
 use Rattle.nodes.proofs.Store.{tree-below, tree-out, tree-keep, tree-widen, back-le}
 use Rattle.nodes.proofs.Trees.{leaf-test}
 use Rattle.walks.specs.Passes as passes
-use Rattle.walks.specs.Passes.{walkOf, movedTo, Runs, waits}
+use Rattle.walks.specs.Passes.{walkOf, movedTo, operators, Runs, waits}
 use Rattle.walks.specs.Items.{BackArray, Ahead, CanPeek, nextIf}
 use Rattle.walks.specs.Sides.{OpenArray, ArraySide, ArrayAgrees, Holds, Waits}
 use Rattle.walks.specs.Turns.{Within, CanTurn, Turned, TurnTo, goes, enters, fails, afresh, lent, CanResume, Resumed}
@@ -32,12 +33,13 @@ use Rattle.walks.specs.declared.failure.Failure.the-variants.{EmptyArrayIndex}
 use Rattle.walks.specs.declared.turns.Pass.the-variants.{Arrays}
 use Rattle.walks.specs.declared.turns.Turn.{Turn}
 use Rattle.walks.specs.declared.turns.Turn.the-variants.{On, Enter, Fail}
-use Rattle.walks.proofs.Reading.{back-array-keep, ahead-keep, ahead-le, can-peek, NextTo, ended, differs, found}
+use Rattle.walks.proofs.Reading.{back-array-keep, ahead-keep, ahead-le, can-peek, NextTo, ended, differs, found, same-within}
+use Rattle.walks.proofs.PassClasses.{runs-exact}
 use Rattle.passes.specs.TokenTurns.{AtItem, AtToken, any}
 use Rattle.passes.specs.Arrays.{CanGather, Gathered, CanRound, Rounded, CanIndex, Indexed, empty, opens, NameTurned}
-use Rattle.passes.proofs.ArrayLaws.{array-class, array-on, array-stop, array-in, unindexed-in, passed-unindexed, name-waits, indexed-empty, indexed-in, indexed-lends, lent-indexed, flush}
+use Rattle.passes.proofs.ArrayLaws.{array-on, array-stop, array-in, name-waits, indexed-empty, indexed-in, indexed-lends, lent-indexed, flush}
 use Rattle.passes.proofs.GrowingLaws.{name-open, can-gather, gathered-open, gathered-slot, gathered-word, gathered-kept, can-round, rounded-tree, rounded-slot, rounded-word, rounded-kept, can-lend, LentTo, none, some, lent-to}
-use Rattle.passes.proofs.GatherLaws.{LeftLevel, item-bounds, item-holds, kept-within, within-then, Stands, Standing}
+use Rattle.passes.proofs.GatherLaws.{walk-node, walk-passed, LeftLevel, item-bounds, item-holds, kept-within, within-then, Stands, stands, Standing}
 use Rattle.passes.proofs.CallLaws.{next-of}
 use Rattle.passes.proofs.TurnLaws.{turn-at, turned-by}
 
@@ -45,14 +47,15 @@ use Rattle.passes.proofs.TurnLaws.{turn-at, turned-by}
 
 array-node : (d : Forest) (k : Token) (cs rest : Forest) → isNil cs ≡ false
     → work arrays (unindexed d) (node k cs rest) ≡ andThen (work arrays (begins arrays cs) (inReading arrays cs)) (λ kids. work arrays (takes arrays (unindexed d) k kids) rest)
-unfolding begins arrayLevel
-array-node d k cs rest e = array-in (unindexed d) k cs rest (unindexed d) (unindexed nil) (unindexed-in d k cs e)
+unfolding work begins inReading takes through arrayLevel arrayResume isNil
+array-node d k nil rest e = absurd (true≢false e)
+array-node d k (node c cs r) rest e = walk-node arrayLevel isArrayName array-inert d k c cs r rest
 
 array-left : LeftLevel arrays (Arrays 0 0) isArrayName unindexed any
-unfolding waits begins arrayLevel
+unfolding work begins waits operators arrayLevel
 array-left =
     record {
-      exact = array-class;
+      exact = runs-exact arrays (Arrays 0 0) passes.array;
       sides = λ fine done ahead low mid high below within.
           record { runs = passes.array; done = ArraySide.all done; unread = ahead; agrees = tt; low = low; mid = mid; high = high; below = below; within = within };
       turning = λ v h. (refl, h);
@@ -60,7 +63,7 @@ array-left =
       calm = λ d. refl;
       unlent = refl;
       afresh = λ cs. refl;
-      passes = λ p. passed-unindexed p;
+      passes = λ p. walk-passed arrayLevel isArrayName array-inert p;
       keeps = λ p h. refl;
       node = array-node;
     }
@@ -71,26 +74,7 @@ module _ {T : (κ : Kind) → (Forest → State κ) → (ℕ → Bool) → (Fore
     where
       side : {X : List ℕ} {lo l m hi : ℕ} {s : Indexing} {rest : Forest} → ArraySide W X (v .base) (v .write) lo l (Arrays 0 0) s → Ahead W X (v .base) (v .read) (v .len) m hi rest
           → l ≤ m → v .write ≤ v .read → 8 * hi ≤ v .base → v .base + v .len ≤ length W → Stands T W v (Arrays 0 0) arrays X lo hi s rest
-      side {l = l} {m = m} (ArraySide.all {d = d} done) ahead mid behind below within =
-          record {
-            P = isArrayName;
-            idle = unindexed;
-            good = any;
-            level = array-left;
-            told = t;
-            d = d;
-            state = refl;
-            fine = refl;
-            l = l;
-            m = m;
-            done = done;
-            ahead = ahead;
-            mid = mid;
-            behind = behind;
-            below = below;
-            within = within;
-            small = g .small;
-          }
+      side (ArraySide.all done) ahead mid behind below within = stands array-left t refl done ahead mid behind below within (g .small)
       side (ArraySide.growing done o) ahead mid behind below within = absurd (omega (arith, o .pos))
 
       go : {κ : Kind} {X : List ℕ} {lo hi : ℕ} {s : State κ} {rest : Forest} → Runs κ (Arrays 0 0) → Holds κ W X lo hi (walkOf v (Arrays 0 0)) s rest → Stands T W v (Arrays 0 0) κ X lo hi s rest
@@ -213,7 +197,7 @@ module _ {W X : List ℕ} {v : Items} {a b lo hi : ℕ} {d : Forest} {q : Token}
         rw er (index-entered c f (lent-to (i .apart) (i .tree) f room (i .grows) w))
 
   lent-within : {W' : List ℕ} {c : ℕ} → LentTo W W' X a b (i .p) (i .l) (i .n) c q cs contents → Within W W' X lo hi v
-  lent-within (none nought e next) = rw e (record { kept = λ j f o. refl; long = refl })
+  lent-within (none nought e next) = rw e same-within
   lent-within {c = c} (some is isx starts low o o' other long out) =
       let e = index-bounds in let ol = o .low in let oh = o .high in let rl = o' .low in let rh = o' .high in
       record {
@@ -222,7 +206,7 @@ module _ {W X : List ℕ} {v : Items} {a b lo hi : ℕ} {d : Forest} {q : Token}
       }
 
   pub index-within : {W' : List ℕ} {r : Turn} → Indexed W v b a r W' → Within W W' X lo hi v
-  index-within (empty leafy e er) = rw e (record { kept = λ j f o. refl; long = refl })
+  index-within (empty leafy e er) = rw e same-within
   index-within (opens full w er) = lent-within (lent-to (i .apart) (i .tree) (sym (leaf-test cs (i .tree)) ∙ full) room (i .grows) w)
 
 -- ---- a name

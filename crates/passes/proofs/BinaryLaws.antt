@@ -14,7 +14,7 @@ use Rattle.molang.specs.Message.{binaryAtEnd, Result, ok, fail}
 use Rattle.molang.specs.Level.{on, walk, through, Gathered, gathered, waiting, nothing}
 use Rattle.molang.specs.Binary.{firstLeaf, unfolded, joined, operatorAfter, binaryStep, binaryResume, binaryFinish, binaryLevel}
 use Rattle.molang.proofs.Trees.{some-none, free, clear, isNil, free-leaf, leaf-clear, clear-leaf, clear-rest, clear-tree}
-use Rattle.molang.proofs.Binary.{binary-free}
+use Rattle.molang.proofs.Binary.{binary-inert, binary-free}
 use Rattle.molang.proofs.Unfolded.{free-firstLeaf}
 use Rattle.molang.proofs.Work.{Kind, binary, State, work, begins, inReading, takes, andThen}
 use Rattle.ops.specs.Classes.{shares}
@@ -34,23 +34,18 @@ use Rattle.walks.specs.declared.failure.Failure.the-variants.{BinaryAtEnd}
 use Rattle.walks.specs.declared.turns.Pass.the-variants.{Binary}
 use Rattle.walks.specs.declared.turns.Turn.{Turn}
 use Rattle.walks.specs.declared.turns.Turn.the-variants.{On, Enter, Fail}
-use Rattle.walks.proofs.Reading.{back-array-keep, ahead-keep, ahead-le, ahead-end, array-put, AheadTo, item, ahead-item, inner-tree, tree-free, free-tree-below}
+use Rattle.walks.proofs.Reading.{back-array-keep, ahead-keep, ahead-le, ahead-end, array-put, AheadTo, item, ahead-item, inner-tree, tree-free, free-tree-below, same-within}
 use Rattle.passes.specs.TokenTurns.{AtItem, AtToken, LevelTurned}
 use Rattle.passes.specs.BinaryTurns.{leftOf, CanFold, Folded, CanSearch, LeafFound, CanOperate, Operated, opens, folds}
-use Rattle.passes.proofs.GatherLaws.{next-room, Skips, walk-node, walk-passed, LeftLevel, item-bounds, item-holds, kept-within, Stands, Standing}
+use Rattle.passes.proofs.GatherLaws.{next-room, walk-node, walk-passed, LeftLevel, item-bounds, item-holds, kept-within, Stands, stands, Standing}
 
 -- ---- the level
-
-level-skips : (ops : List ℕ) → Skips (binaryLevel ops) (isOneOf ops)
-unfolding binaryLevel nothing binaryStep binaryResume
-level-skips ops =
-    record { keeps = λ d k h. rw (h, binaryStep) refl; enters = λ d k c cs r. refl; takesBack = λ d k kids. refl; unchanged = binary-free ops }
 
 level-node : (ops : List ℕ) (d : Forest) (k : Token) (cs rest : Forest) → isNil cs ≡ false
     → work (binary ops) (gathered d) (node k cs rest) ≡ andThen (work (binary ops) (begins (binary ops) cs) (inReading (binary ops) cs)) (λ kids. work (binary ops) (takes (binary ops) (gathered d) k kids) rest)
 unfolding work begins inReading takes through binaryLevel binaryResume isNil
 level-node ops d k nil rest e = absurd (true≢false e)
-level-node ops d k (node c cs r) rest e = walk-node (binaryLevel ops) (isOneOf ops) (level-skips ops) d k c cs r rest
+level-node ops d k (node c cs r) rest e = walk-node (binaryLevel ops) (isOneOf ops) (binary-inert ops) d k c cs r rest
 
 free-onto : (P : ℕ → Bool) (k : Token) (cs d : Forest) → free P (node k cs nil) ≡ true → clear P d ≡ true → clear P (node k cs d) ≡ true
 unfolding clear
@@ -73,7 +68,7 @@ level-of ops classes exact =
       calm = λ d. refl;
       unlent = refl;
       afresh = λ cs. refl;
-      passes = λ p. walk-passed (binaryLevel ops) (isOneOf ops) (level-skips ops) p;
+      passes = λ p. walk-passed (binaryLevel ops) (isOneOf ops) (binary-inert ops) p;
       keeps = λ p h. passed-clear (isOneOf ops) p h;
       node = level-node ops;
     }
@@ -82,26 +77,7 @@ module _ {T : (κ : Kind) → (Forest → State κ) → (ℕ → Bool) → (Fore
   open-side : (ops : List ℕ) → Exact (classes .0) (isOneOf ops) → T (binary ops) gathered (isOneOf ops) (clear (isOneOf ops))
       → {X : List ℕ} {lo l m hi : ℕ} {s : Gathered} {rest : Forest} → LevelSide W X (v .base) (v .write) lo l ops (Binary classes 0) s → Ahead W X (v .base) (v .read) (v .len) m hi rest
       → l ≤ m → v .write ≤ v .read → 8 * hi ≤ v .base → v .base + v .len ≤ length W → length W < 2 ^ 32 → Stands T W v (Binary classes 0) (binary ops) X lo hi s rest
-  open-side ops exact t {l = l} {m = m} (all {d = d} fine done) ahead mid behind below within small =
-      record {
-        P = isOneOf ops;
-        idle = gathered;
-        good = clear (isOneOf ops);
-        level = level-of ops classes exact;
-        told = t;
-        d = d;
-        state = refl;
-        fine = fine;
-        l = l;
-        m = m;
-        done = done;
-        ahead = ahead;
-        mid = mid;
-        behind = behind;
-        below = below;
-        within = within;
-        small = small;
-      }
+  open-side ops exact t (all fine done) ahead mid behind below within small = stands (level-of ops classes exact) t fine done ahead mid behind below within small
   open-side ops exact t (operator fine done full clean tree) ahead mid behind below within small = absurd (omega (arith, tree .pos))
 
   pub level-stands : ((ops : List ℕ) → Exact (classes .0) (isOneOf ops) → T (binary ops) gathered (isOneOf ops) (clear (isOneOf ops))) → Standing T W v (Binary classes 0)
@@ -420,7 +396,7 @@ module _ {W : List ℕ} {v : Items} {b : ℕ} (classes : TokenClasses) (ops : Li
         to = λ g p fine.
             let full = back-full (g .item .done) has in
             right-enters (g .item) p fine full (left-clean (classes .0) ops exact (back-last v (g .item .done) full) s) inner refl (ahead-item (wd W (v .base + v .read)) refl more (g .item .ahead));
-        within = λ g. record { kept = λ j f o. refl; long = refl };
+        within = λ g. same-within;
       })
   operated has more s (folds inner w er) =
       rw er
@@ -438,7 +414,7 @@ module _ {W : List ℕ} {v : Items} {b : ℕ} (classes : TokenClasses) (ops : Li
         to = λ g p fine.
             fails (Tells.binaryAtEnd (g .item .tree .token))
             (ap (λ (f : Forest). work (binary ops) (gathered f) (node (g .k) nil (g .rest))) (back-none (g .item .done) z) ∙ operator-first ops (g .k) (g .rest) p);
-        within = λ g. record { kept = λ j f o. refl; long = refl };
+        within = λ g. same-within;
       }
 
   pub operator-ends : v .read ≡ v .len → LevelTurned ops classes W v b (Fail (BinaryAtEnd b)) W
@@ -447,7 +423,7 @@ module _ {W : List ℕ} {v : Items} {b : ℕ} (classes : TokenClasses) (ops : Li
         to = λ g p fine.
             fails (Tells.binaryAtEnd (g .item .tree .token))
             (ap (λ (f : Forest). work (binary ops) (gathered (g .d)) (node (g .k) nil f)) (ahead-end (g .rest) (omega arith) (g .item .ahead)) ∙ operator-last ops (g .d) (g .k) p);
-        within = λ g. record { kept = λ j f o. refl; long = refl };
+        within = λ g. same-within;
       }
 
   pub operator-fails : {s : ℕ} → 0 < v .write → v .read < v .len → shares (wd W (8 * leftOf W v + 7)) (classes .0) ≡ true → LeafFound W (leftOf W v) (classes .0) s
@@ -457,7 +433,7 @@ module _ {W : List ℕ} {v : Items} {b : ℕ} (classes : TokenClasses) (ops : Li
         to = λ g p fine.
             let z = item-bounds (g .item) in let below = g .item .below in let within = g .item .within in
             again-at classes ops exact (omega arith) p fine sh found (back-last v (g .item .done) (back-full (g .item .done) has)) (ahead-item (wd W (v .base + v .read)) refl more (g .item .ahead));
-        within = λ g. record { kept = λ j f o. refl; long = refl };
+        within = λ g. same-within;
       }
 
 -- what `folded` asks of `is_inner` and `fold`

@@ -10,23 +10,21 @@ use lib.ListN.{length, set}
 use lib.Dec.{eqb}
 use borrow.Author.Tests.{eq-eqb, ne-eqb, eqb-false}
 use Rattle.molang.specs.Operator.{leftParenthesis, isBracket, isOneOf, any as anyOf, isMathCall, isQueryOrLoop, between}
-use Rattle.molang.specs.Order.{someBelow}
 use Rattle.molang.specs.Forest.{Token, Forest, nil, node, turnedOnto, inOrder, count, size}
 use Rattle.molang.specs.Message.{mathAtEnd, mathWithoutParenthesis, emptyParameterList, Result, ok, fail}
 use Rattle.molang.specs.Level.{on, into, walk, through, Gathered, gathered, waiting, nothing}
 use Rattle.molang.specs.Calls.{CallKind, queryOrLoop, math, calls as isCall, callLeaf, callStep, callResume, callFinish, callLevel}
 use Rattle.molang.proofs.Trees.{free, isNil}
-use Rattle.molang.proofs.Calls.{call-free}
+use Rattle.molang.proofs.Calls.{call-inert, call-free}
 use Rattle.molang.proofs.Walks.{onward, walk-onward}
 use Rattle.molang.proofs.Work.{Kind, calls, State, work, begins, inReading, takes, andThen}
-use Rattle.ops.specs.Classes.{shares, meets, inClass, passClasses, ownClasses, bitAt}
-use Rattle.ops.proofs.ClassLaws.{stands-for}
+use Rattle.ops.specs.Classes.{shares}
 use Rattle.nodes.specs.Store.{wd, RepT}
 use Rattle.nodes.specs.Children.{Attached}
 use Rattle.nodes.specs.Slots.{opAt, isLeafAt}
 use Rattle.nodes.specs.declared.frames.List.{List as Items}
 use Rattle.nodes.proofs.Trees.{leaf-test}
-use Rattle.walks.specs.Passes.{walkOf, movedTo, classesOf, Exact, Runs, call, mathCall, waits}
+use Rattle.walks.specs.Passes.{walkOf, movedTo, classesOf, operators, Runs, call, mathCall, waits}
 use Rattle.walks.specs.Items.{Ahead, CanPeek, nextIf}
 use Rattle.walks.specs.Sides.{GatherSide, all, Holds, AtTurn, InFrame}
 use Rattle.walks.specs.Turns.{Within, lentOf, afresh, TurnTo, goes, enters, fails}
@@ -37,30 +35,26 @@ use Rattle.walks.specs.declared.turns.Pass.{Pass}
 use Rattle.walks.specs.declared.turns.Pass.the-variants.{Calls, Maths}
 use Rattle.walks.specs.declared.turns.Turn.{Turn}
 use Rattle.walks.specs.declared.turns.Turn.the-variants.{On, Enter, Fail}
-use Rattle.walks.proofs.Reading.{can-peek, unfree-leaf, tree-free, tree-unfree, unfree-tree, free-tree-below, NextTo, ended, differs, found, next-to}
+use Rattle.walks.proofs.Reading.{can-peek, unfree-leaf, tree-free, tree-unfree, unfree-tree, free-tree-below, NextTo, ended, differs, found, next-to, same-within}
+use Rattle.walks.proofs.PassClasses.{runs-exact}
 use Rattle.passes.specs.TokenTurns.{AtItem, AtToken, any, CallTurned}
 use Rattle.passes.specs.CallTurns.{CanCall, Called, opens, stays}
-use Rattle.passes.proofs.GatherLaws.{token-room, next-room, Skips, walk-node, walk-passed, LeftLevel, item-holds, item-waits, kept-within, Attaching, attached, item-attached, within-then, Stands, Standing}
+use Rattle.passes.proofs.GatherLaws.{token-room, next-room, walk-node, walk-passed, LeftLevel, item-holds, item-waits, kept-within, Attaching, attached, item-attached, within-then, Stands, stands, Standing}
 
 -- ---- the level
-
-call-skips : (kind : CallKind) → Skips (callLevel kind) (isCall kind)
-unfolding callLevel nothing callStep callLeaf callResume
-call-skips kind =
-    record { keeps = λ d k h. rw (h, callLeaf) refl; enters = λ d k c cs r. refl; takesBack = λ d k kids. refl; unchanged = call-free kind }
 
 call-node : (kind : CallKind) (d : Forest) (k : Token) (cs rest : Forest) → isNil cs ≡ false
     → work (calls kind) (gathered d) (node k cs rest) ≡ andThen (work (calls kind) (begins (calls kind) cs) (inReading (calls kind) cs)) (λ kids. work (calls kind) (takes (calls kind) (gathered d) k kids) rest)
 unfolding work begins inReading takes through callLevel callResume isNil
 call-node kind d k nil rest e = absurd (true≢false e)
-call-node kind d k (node c cs r) rest e = walk-node (callLevel kind) (isCall kind) (call-skips kind) d k c cs r rest
+call-node kind d k (node c cs r) rest e = walk-node (callLevel kind) (isCall kind) (call-inert kind) d k c cs r rest
 
-call-level : (kind : CallKind) (pass : Pass) → Runs (calls kind) pass → Exact (classesOf pass) (isCall kind) → ((v : Items) → v .write ≤ v .read → AtTurn v pass)
+call-level : (kind : CallKind) (pass : Pass) → Runs (calls kind) pass → ((v : Items) → v .write ≤ v .read → AtTurn v pass)
     → ((v : Items) → v .write < v .read → InFrame v pass) → lentOf pass ≡ 0 → LeftLevel (calls kind) pass (isCall kind) gathered any
-unfolding work begins waits callLevel nothing
-call-level kind pass runs exact turning framed unlent =
+unfolding work begins waits operators callLevel nothing
+call-level kind pass runs turning framed unlent =
     record {
-      exact = exact;
+      exact = runs-exact (calls kind) pass runs;
       sides = λ fine done ahead low mid high below within.
           record { runs = runs; done = all done; unread = ahead; agrees = tt; low = low; mid = mid; high = high; below = below; within = within };
       turning = turning;
@@ -68,49 +62,22 @@ call-level kind pass runs exact turning framed unlent =
       calm = λ d. refl;
       unlent = unlent;
       afresh = λ cs. refl;
-      passes = λ p. walk-passed (callLevel kind) (isCall kind) (call-skips kind) p;
+      passes = λ p. walk-passed (callLevel kind) (isCall kind) (call-inert kind) p;
       keeps = λ p h. refl;
       node = call-node kind;
     }
 
-query-exact : Exact 0x1 (isCall queryOrLoop)
-unfolding isCall meets inClass passClasses ownClasses bitAt someBelow isOneOf anyOf isMathCall isQueryOrLoop between
-query-exact = stands-for 0x1 (isCall queryOrLoop) tt
-
-math-exact : Exact 0x20_0000 (isCall math)
-unfolding isCall meets inClass passClasses ownClasses bitAt someBelow isOneOf anyOf isMathCall isQueryOrLoop between
-math-exact = stands-for 0x20_0000 (isCall math) tt
-
 query-level : LeftLevel (calls queryOrLoop) Calls (isCall queryOrLoop) gathered any
-query-level = call-level queryOrLoop Calls call query-exact (λ v h. h) (λ v h. h) refl
+query-level = call-level queryOrLoop Calls call (λ v h. h) (λ v h. h) refl
 
 math-level : LeftLevel (calls math) Maths (isCall math) gathered any
-math-level = call-level math Maths mathCall math-exact (λ v h. h) (λ v h. h) refl
+math-level = call-level math Maths mathCall (λ v h. h) (λ v h. h) refl
 
 module _ {T : (κ : Kind) → (Forest → State κ) → (ℕ → Bool) → (Forest → Bool) → Type 0} (W : List ℕ) (v : Items) where
   open-side : (kind : CallKind) (pass : Pass) → LeftLevel (calls kind) pass (isCall kind) gathered any → T (calls kind) gathered (isCall kind) any
       → {X : List ℕ} {lo l m hi : ℕ} {s : Gathered} {rest : Forest} → GatherSide W X (v .base) (v .write) lo l s → Ahead W X (v .base) (v .read) (v .len) m hi rest
       → l ≤ m → v .write ≤ v .read → 8 * hi ≤ v .base → v .base + v .len ≤ length W → length W < 2 ^ 32 → Stands T W v pass (calls kind) X lo hi s rest
-  open-side kind pass level t {l = l} {m = m} (all {d = d} done) ahead mid behind below within small =
-      record {
-        P = isCall kind;
-        idle = gathered;
-        good = any;
-        level = level;
-        told = t;
-        d = d;
-        state = refl;
-        fine = refl;
-        l = l;
-        m = m;
-        done = done;
-        ahead = ahead;
-        mid = mid;
-        behind = behind;
-        below = below;
-        within = within;
-        small = small;
-      }
+  open-side kind pass level t (all done) ahead mid behind below within small = stands level t refl done ahead mid behind below within small
 
   pub query-stands : T (calls queryOrLoop) gathered (isCall queryOrLoop) any → Standing T W v Calls
   query-stands t g = go (g .holds .sides .runs) (g .holds)
@@ -328,7 +295,7 @@ module _ {W : List ℕ} {v : Items} {b : ℕ} (c : ℕ) (e : c ≡ nextIf W v le
 
   pub query-failed : c ≢ 0 → isLeafAt W c ≡ true → CallTurned queryOrLoop Calls W v b (Fail (EmptyParameterList b c)) W
   query-failed n leafy =
-      record { to = λ g p fine. query-fails c n leafy (g .item) p (next-of leftParenthesis c e (g .item .ahead)); within = λ g. record { kept = λ j f o. refl; long = refl } }
+      record { to = λ g p fine. query-fails c n leafy (g .item) p (next-of leftParenthesis c e (g .item .ahead)); within = λ g. same-within }
 
   pub query-calls : {r : Turn} {W' : List ℕ} → c ≢ 0 → isLeafAt W c ≡ false → Called W v b c Calls r W' → CallTurned queryOrLoop Calls W v b r W'
   query-calls n leafy w =
@@ -365,11 +332,11 @@ math-fails c z l i p (found x o pos low tree ahead) = absurd (omega arith)
 module _ {W : List ℕ} {v : Items} {b : ℕ} (c : ℕ) (e : c ≡ nextIf W v leftParenthesis) where
   pub math-ended : c ≡ 0 → v .read ≡ v .len → CallTurned math Maths W v b (Fail (MathAtEnd b)) W
   math-ended z l =
-      record { to = λ g p fine. math-ends c z l (g .item) p (next-of leftParenthesis c e (g .item .ahead)); within = λ g. record { kept = λ j f o. refl; long = refl } }
+      record { to = λ g p fine. math-ends c z l (g .item) p (next-of leftParenthesis c e (g .item .ahead)); within = λ g. same-within }
 
   pub math-failed : c ≡ 0 → v .read ≢ v .len → CallTurned math Maths W v b (Fail (MathWithoutParenthesis b)) W
   math-failed z l =
-      record { to = λ g p fine. math-fails c z l (g .item) p (next-of leftParenthesis c e (g .item .ahead)); within = λ g. record { kept = λ j f o. refl; long = refl } }
+      record { to = λ g p fine. math-fails c z l (g .item) p (next-of leftParenthesis c e (g .item .ahead)); within = λ g. same-within }
 
   pub math-calls : {r : Turn} {W' : List ℕ} → c ≢ 0 → Called W v b c Maths r W' → CallTurned math Maths W v b r W'
   math-calls n w =

@@ -3,14 +3,14 @@ use Prim.Native.Nat.{ℕ, _+_, _-_}
 use mathlib.Core.Path.{_≡_, refl, sym, _∙_, subst}
 use mathlib.Core.Logic.{_≢_}
 use mathlib.Core.List.{List, _∷_, []}
-use mathlib.Core.Option.{Option, none, some}
+use mathlib.Core.Option.{Option, some}
 use native.Mathlib.Omega.{arith}
 use native.Mathlib.Nat.{le-refl}
 use Rattle.molang.specs.Forest.{Token, Forest, nil, count}
-use Rattle.molang.specs.Message.{ok, fail, ternaryWithoutOperands}
+use Rattle.molang.specs.Message.{fail, ternaryWithoutOperands}
 use Rattle.molang.specs.Level.{walk}
 use Rattle.molang.specs.Conditional.{foldedFrom, dangling, undangled, conditionalFinish, conditionalLevel}
-use Rattle.molang.proofs.Conditional.{isTernary}
+use Rattle.molang.proofs.Conditional.{isTernary, undangled-calm}
 use Rattle.molang.proofs.Work.{Kind, State, ternary, work}
 use Rattle.nodes.specs.Store.{InArray, Kept}
 use Rattle.nodes.specs.declared.frames.List.{List as Items}
@@ -24,7 +24,7 @@ use Rattle.walks.specs.Turns.{Within, CanFinish, FinishTo, gives, fails, Ends}
 use Rattle.walks.specs.declared.failure.Failure.the-variants.{TernaryWithoutOperands}
 use Rattle.walks.specs.declared.turns.Pass.the-variants.{Ternary}
 use Rattle.walks.specs.declared.turns.Finished.the-variants.{At, Fail as Failed}
-use Rattle.walks.proofs.Reading.{ahead-le}
+use Rattle.walks.proofs.Reading.{ahead-le, same-within}
 use Rattle.passes.specs.Folding.{CanDangle, DanglesAt, nowhere, here, Dangles, CanFold, FoldedAll}
 use Rattle.passes.proofs.ConditionalLaws.{LeftList, of-ternary, nothing-folds}
 
@@ -69,17 +69,13 @@ ends-idle {W} {v} {tokens} e =
       to = λ g.
           at-end g (λ κ s. FinishTo κ W (g .X) (g .lo) (g .hi) v s (At (v .base) (v .len)))
           (λ d n items. gives (nothing-folds d (sym n ∙ e)) (rw (items .count) (gathered-array (items .rep) (items .seg))) (le-refl (v .base)) (omega arith));
-      within = λ g. record { kept = λ j f o. refl; long = refl };
+      within = λ g. same-within;
     }
 
 -- what is left of the pass, by what dangles
 folds : (d : Forest) → work ternary d nil ≡ undangled (foldedFrom d)
 unfolding work walk conditionalLevel conditionalFinish
 folds d = refl
-
-undangled-none : (f : Forest) → dangling f ≡ none → undangled f ≡ ok f
-unfolding undangled
-undangled-none f e = rw (e, undangled) refl
 
 undangled-some : (f : Forest) {k : Token} → dangling f ≡ some k → undangled f ≡ fail (ternaryWithoutOperands k ∷ [])
 unfolding undangled
@@ -91,7 +87,7 @@ module _ {W' X : List ℕ} {lo hi : ℕ} (v : Items) (d : Forest) where
       → FinishTo ternary W' X lo hi v d (At (v .base + from) (v .len - from))
   none-left {from} e nowhere z a =
       let n : a .n ≡ v .len - from = omega (arith, a .count) in
-      gives (folds d ∙ undangled-none (foldedFrom d) e) (subst (λ (x : ℕ). InArray W' X (v .base + from) x lo hi (foldedFrom d)) n (a .array)) (omega arith) (omega (arith, a .count))
+      gives (folds d ∙ undangled-calm (foldedFrom d) e) (subst (λ (x : ℕ). InArray W' X (v .base + from) x lo hi (foldedFrom d)) n (a .array)) (omega arith) (omega (arith, a .count))
   none-left e (here p t) z a = absurd (omega arith)
 
   -- the first that does is told of

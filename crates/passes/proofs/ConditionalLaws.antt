@@ -7,52 +7,35 @@ use mathlib.Core.List.{List}
 use native.Mathlib.Omega.{arith}
 use native.Mathlib.Nat.{le-refl}
 use lib.ListN.{length}
-use Rattle.molang.specs.Operator.{any, isOneOf, isQueryOrLoop, isMathCall}
-use Rattle.molang.specs.Order.{someBelow}
 use Rattle.molang.specs.Forest.{Token, Forest, nil, node, inOrder, count, size}
-use Rattle.molang.specs.Message.{Result, ok, fail}
+use Rattle.molang.specs.Message.{ok}
 use Rattle.molang.specs.Level.{walk, through}
-use Rattle.molang.specs.Conditional.{conditionalStep, conditionalFinish, conditionalLevel}
-use Rattle.molang.proofs.Trees.{free, clear, isNil, free-leaf, free-tree, decided, leaf-clear}
-use Rattle.molang.proofs.Conditional.{isTernary, conditional-free, conditional-inert}
-use Rattle.molang.proofs.Work.{Kind, State, ternary, work, begins, inReading, takes, andThen}
-use Rattle.ops.specs.Classes.{passClasses, ownClasses, inClass, bitAt, meets, shares}
-use Rattle.ops.proofs.ClassLaws.{stands-for}
+use Rattle.molang.specs.Conditional.{conditionalStep, conditionalLevel}
+use Rattle.molang.proofs.Trees.{free, clear, isNil, free-leaf, decided, leaf-clear}
+use Rattle.molang.proofs.Conditional.{isTernary, conditional-inert}
+use Rattle.molang.proofs.Work.{Kind, State, ternary, work, begins, inReading, takes}
+use Rattle.ops.specs.Classes.{shares}
 use Rattle.nodes.specs.Store.{wd, RepT}
 use Rattle.nodes.specs.Slots.{isLeafAt}
 use Rattle.nodes.specs.declared.frames.List.{List as Items}
 use Rattle.nodes.proofs.Store.{tree-below, back-le, back-count}
 use Rattle.nodes.proofs.Trees.{leaf-test}
-use Rattle.walks.specs.Passes.{walkOf, movedTo, Exact, Runs, tern, waits}
+use Rattle.walks.specs.Passes.{walkOf, movedTo, operators, Exact, Runs, tern, waits}
 use Rattle.walks.specs.Items.{BackArray, Ahead}
 use Rattle.walks.specs.Sides.{tokensIn, TernarySide, all, Sides}
 use Rattle.walks.specs.Turns.{CanTurn, afresh, TurnTo, enters, ends, Turned}
 use Rattle.walks.specs.declared.turns.Pass.the-variants.{Ternary}
 use Rattle.walks.specs.declared.turns.Turn.{Turn}
 use Rattle.walks.specs.declared.turns.Turn.the-variants.{Enter, Over}
-use Rattle.walks.proofs.Reading.{AheadTo, item, ahead-item, ahead-end, ahead-le, array-put, tree-free, tree-unfree, unfree-leaf}
+use Rattle.walks.proofs.PassClasses.{runs-exact}
+use Rattle.walks.proofs.Reading.{AheadTo, item, ahead-item, ahead-end, ahead-le, array-put, tree-free, tree-unfree, unfree-leaf, same-within}
+use Rattle.passes.proofs.GatherLaws.{walk-node, walk-over}
 
 -- ---- one item
 
 leaf-gathers : (k : Token) (d rest : Forest) → walk conditionalLevel d (node k nil rest) ≡ walk conditionalLevel (node k nil d) rest
 unfolding walk conditionalLevel conditionalStep
 leaf-gathers k d rest = refl
-
-children-first : (k : Token) (d rest : Forest) (u : Result)
-    → elim u [ fail m ↦ fail m | ok kids ↦ walk conditionalLevel (node k kids d) rest ] ≡ andThen u (λ kids. walk conditionalLevel (node k kids d) rest)
-unfolding andThen
-children-first k d rest (ok f) = refl
-children-first k d rest (fail m) = refl
-
-tree-enters : (k c : Token) (cs r d rest : Forest)
-    → walk conditionalLevel d (node k (node c cs r) rest) ≡ andThen (walk conditionalLevel nil (node c cs r)) (λ kids. walk conditionalLevel (node k kids d) rest)
-unfolding walk conditionalLevel conditionalStep
-tree-enters k c cs r d rest = children-first k d rest (walk conditionalLevel nil (node c cs r))
-
-tree-gathers : (k c : Token) (cs r d rest : Forest) → free isTernary (node c cs r) ≡ true → walk conditionalLevel d (node k (node c cs r) rest) ≡ walk conditionalLevel (node k (node c cs r) d) rest
-unfolding through conditionalLevel andThen
-tree-gathers k c cs r d rest h =
-    tree-enters k c cs r d rest ∙ ap (λ (u : Result). andThen u (λ kids. walk conditionalLevel (node k kids d) rest)) (conditional-free (node c cs r) h)
 
 -- ---- how many tokens there are
 
@@ -82,21 +65,15 @@ tokens-clear P (node k nil d) h = go (P (k .op)) refl (λ e. tokens-clear P d e)
     go false e c = leaf-clear P k d e (c (rw (e, tokensIn) at h))
 tokens-clear P (node k (node c cs r) d) h = tokens-clear P d h
 
--- (the idle states of the level are its lists)
-idle-list : (d : Forest) → conditional-inert .idle d ≡ d
-unfolding clear conditionalLevel
-idle-list nil = sym (conditional-inert .begins nil refl)
-idle-list (node k cs d) = sym (conditional-inert .takesBack d k cs) ∙ ap (node k cs) (idle-list d)
-
 pub nothing-folds : (d : Forest) → tokensIn isTernary d ≡ 0 → work ternary d nil ≡ ok (inOrder d)
 unfolding work walk conditionalLevel
-nothing-folds d h = subst (λ (x : Forest). conditionalFinish x ≡ ok (inOrder d)) (idle-list d) (conditional-inert .ends d (tokens-clear isTernary d h))
+nothing-folds d h = conditional-inert .ends d (tokens-clear isTernary d h)
 
 -- ---- the classes
 
 pub ternary-exact : Exact 0x1_0000 isTernary
-unfolding isTernary meets someBelow bitAt inClass passClasses ownClasses isOneOf any isQueryOrLoop isMathCall
-ternary-exact = stands-for 0x1_0000 isTernary tt
+unfolding operators
+ternary-exact = runs-exact ternary (Ternary 0) tern
 
 pub ternary-test : {w u : ℕ} {t : Bool} → u ≡ w → t ≡ shares u 0x1_0000 → shares w 0x1_0000 ≡ t
 ternary-test e h = ap (λ (x : ℕ). shares x 0x1_0000) (sym e) ∙ sym h
@@ -203,7 +180,7 @@ enter-item : {W : List ℕ} {v : Items} {tokens : ℕ} {g : CanGather W v tokens
     → walk conditionalLevel (g .d) (g .rest) ≡ walk conditionalLevel (s .d) (node k cs rest)
     → count (node k cs rest) ≤ count (g .rest) → size (node k cs rest) + count (g .rest) ≤ size (g .rest) + count (node k cs rest)
     → TurnTo ternary W (g .X) (g .lo) (g .hi) (walkOf v (Ternary tokens)) (g .d) (g .rest) (Enter (walkOf (movedTo v (read + 1) read) (Ternary seen)) b)
-unfolding work waits begins inReading takes conditionalLevel count size isNil
+unfolding work waits begins inReading takes through conditionalLevel count size isNil
 enter-item s k nil rest n low t r e c z = absurd (true≢false n)
 enter-item {W} {v} {tokens} {g} {read} {seen} {a} {m} {b} s k (node x xs y) rest n low t r e c z =
     let mid = s .list .mid in
@@ -215,7 +192,7 @@ enter-item {W} {v} {tokens} {g} {read} {seen} {a} {m} {b} s k (node x xs y) rest
           (record { counted = s .list .counted; done = s .list .done; unread = r; mid = omega arith; below = s .list .below; within = s .list .within; small = s .list .small });
       framed = refl;
     })
-    t refl (afresh refl (omega arith)) (e ∙ tree-enters k x xs y (s .d) rest) (omega arith) (omega arith) (omega arith) (omega arith)
+    t refl (afresh refl (omega arith)) (e ∙ walk-node conditionalLevel isTernary conditional-inert (s .d) k x xs y rest) (omega arith) (omega arith) (omega arith) (omega arith)
 
 module _ {W : List ℕ} {v : Items} {tokens : ℕ} {g : CanGather W v tokens} {read seen : ℕ} (s : GatherAt W v tokens g read seen) (h : read < v .len) where
   gather-slot : 8 * wd W (v .base + read) + 8 ≤ v .base
@@ -254,16 +231,12 @@ module _ {W : List ℕ} {v : Items} {tokens : ℕ} {g : CanGather W v tokens} {r
   gather-free : shares (wd W (8 * wd W (v .base + read) + 7)) 0x1_0000 ≡ false → GatherAt W v tokens g (read + 1) seen
   gather-free f = go (s .same) (s .fewer) (s .smaller) (ahead-item (wd W (v .base + read)) refl h (s .list .unread))
     where
-      stays : (k : Token) (cs d rest : Forest) → free isTernary (node k cs nil) ≡ true → walk conditionalLevel d (node k cs rest) ≡ walk conditionalLevel (node k cs d) rest
-      stays k nil d rest e = leaf-gathers k d rest
-      stays k (node c cs r) d rest e = tree-gathers k c cs r d rest (free-tree isTernary k c cs r nil e .0)
-
       go : {rest : Forest} → walk conditionalLevel (g .d) (g .rest) ≡ walk conditionalLevel (s .d) rest → count rest ≤ count (g .rest)
           → size rest + count (g .rest) ≤ size (g .rest) + count rest → AheadTo W (g .X) (v .base) read (v .len) (s .m) (g .hi) (wd W (v .base + read)) rest
           → GatherAt W v tokens g (read + 1) seen
       go e c z (item {k = k} {cs = cs} {rest = rest} low t r) =
           let none = tree-free 0x1_0000 isTernary ternary-exact t f in
-          gather-item k cs rest seen low t r e c z (stays k cs (s .d) rest none) (s .list .counted ∙ sym (tokens-free k cs (s .d) none))
+          gather-item k cs rest seen low t r e c z (walk-over conditionalLevel isTernary conditional-inert (s .d) k cs rest none) (s .list .counted ∙ sym (tokens-free k cs (s .d) none))
 
   gather-token : shares (wd W (8 * wd W (v .base + read) + 7)) 0x1_0000 ≡ true → isLeafAt W (wd W (v .base + read)) ≡ true → GatherAt W v tokens g (read + 1) (seen + 1)
   unfolding isNil
@@ -326,7 +299,7 @@ turned-by {W} {v} {tokens} {t} f =
       to = λ g.
           of-ternary (g .holds .sides .runs) (g .s) (g .holds .sides) (g .small) (λ κ s. TurnTo κ W (g .X) (g .lo) (g .hi) (walkOf v (Ternary tokens)) s (g .rest) t)
           (λ d list. f (record { X = g .X; lo = g .lo; l = g .holds .l; m = g .holds .m; hi = g .hi; d = d; rest = g .rest; list = list; together = g .holds .turning }));
-      within = λ g. record { kept = λ j h o. refl; long = refl };
+      within = λ g. same-within;
     }
 
 module _ {W : List ℕ} {v : Items} {tokens read seen : ℕ} {t : Turn} (s : Gathering W v tokens read seen) where

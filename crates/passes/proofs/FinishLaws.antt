@@ -29,10 +29,11 @@ use Rattle.walks.specs.Turns.{Within, CanFinish, FinishTo, gives, Ends}
 use Rattle.walks.specs.declared.turns.Pass.the-variants.{Split as SplitAt}
 use Rattle.walks.specs.declared.turns.Finished.the-variants.{At}
 use Rattle.walks.proofs.Reading.{ahead-le}
+use Rattle.walks.proofs.Ended.{FirstEnded, ended-first}
 use Rattle.passes.specs.Statements.{Grouped, CanClose, ClosedTo, complete, closing}
 use Rattle.passes.proofs.StatementLaws.{earliest, openOn}
 use Rattle.passes.proofs.GroupLaws.{in-order, order-first, TurnedFirst, grouped-tree, grouped-same, grouped-place, grouped-long}
-use Rattle.passes.proofs.SplitLaws.{ended-first, FirstEnded, Pending, SplitView, splits, split-view, open-items}
+use Rattle.passes.proofs.SplitLaws.{Pending, SplitView, splits, split-view, open-items}
 use Rattle.passes.proofs.SemicolonLaws.{back-nil, beside-slot}
 
 -- ---- the finished statements beside the list's node

@@ -10,8 +10,9 @@ use native.Mathlib.Nat.{le-refl}
 use lib.ListN.{length, set}
 use Rattle.molang.specs.Forest.{Token, Forest, nil, node, count, size}
 use Rattle.molang.specs.Message.{Result, ok, fail}
-use Rattle.molang.specs.Level.{Level, on, into, walk, through, Gathered, gathered}
+use Rattle.molang.specs.Level.{Level, walk, through}
 use Rattle.molang.proofs.Trees.{free, isNil, count-size, free-leaf, free-tree}
+use Rattle.molang.proofs.Inert.{Inert, through-free}
 use Rattle.molang.proofs.Work.{Kind, State, work, begins, inReading, takes, andThen}
 use Rattle.nodes.specs.Store.{wd, RepT}
 use Rattle.nodes.specs.Children.{Attached}
@@ -34,31 +35,24 @@ use Rattle.passes.specs.TokenTurns.{AtItem, AtToken, TokenTurned}
 
 -- ---- trees that are passed over
 
--- How a level goes over what is none of its tokens (as `Inert`, for the state `gathered`).
-pub record Skips (L : Level Gathered) (P : ℕ → Bool) : Type 0 where
-  pub keeps : (d : Forest) (k : Token) → P (k .op) ≡ false → L .step (gathered d) k nil ≡ on (gathered (node k nil d))
-  pub enters : (d : Forest) (k c : Token) (cs r : Forest) → L .step (gathered d) k (node c cs r) ≡ into (gathered d) (L .start (node c cs r))
-  pub takesBack : (d : Forest) (k : Token) (kids : Forest) → L .resume (gathered d) k kids ≡ gathered (node k kids d)
-  pub unchanged : (f : Forest) → free P f ≡ true → through L f ≡ ok f
-
-module _ (L : Level Gathered) (P : ℕ → Bool) (S : Skips L P) where
+module _ {S : Type 0} (L : Level S) (P : ℕ → Bool) {idle : Forest → S} (I : Inert L P idle) where
   -- a node with children is entered
   pub walk-node : (d : Forest) (k c : Token) (cs r rest : Forest)
-      → walk L (gathered d) (node k (node c cs r) rest) ≡ andThen (through L (node c cs r)) (λ kids. walk L (gathered (node k kids d)) rest)
+      → walk L (idle d) (node k (node c cs r) rest) ≡ andThen (through L (node c cs r)) (λ kids. walk L (idle (node k kids d)) rest)
   unfolding walk through andThen
-  walk-node d k c cs r rest = rw (S .enters d k c cs r, walk) (back (walk L (L .start (node c cs r)) (node c cs r)))
+  walk-node d k c cs r rest = rw (I .enters d k c cs r, walk) (back (walk L (L .start (node c cs r)) (node c cs r)))
     where
-      back : (x : Result) → elim x [ fail m ↦ fail m | ok kids ↦ walk L (L .resume (gathered d) k kids) rest ] ≡ andThen x (λ kids. walk L (gathered (node k kids d)) rest)
+      back : (x : Result) → elim x [ fail m ↦ fail m | ok kids ↦ walk L (L .resume (idle d) k kids) rest ] ≡ andThen x (λ kids. walk L (idle (node k kids d)) rest)
       back (fail m) = refl
-      back (ok kids) = ap (λ (s : Gathered). walk L s rest) (S .takesBack d k kids)
+      back (ok kids) = ap (λ (s : S). walk L s rest) (I .takesBack d k kids)
 
   -- a tree without a token of the level stays
-  pub walk-over : (d : Forest) (k : Token) (cs rest : Forest) → free P (node k cs nil) ≡ true → walk L (gathered d) (node k cs rest) ≡ walk L (gathered (node k cs d)) rest
+  pub walk-over : (d : Forest) (k : Token) (cs rest : Forest) → free P (node k cs nil) ≡ true → walk L (idle d) (node k cs rest) ≡ walk L (idle (node k cs d)) rest
   unfolding walk andThen
-  walk-over d k nil rest h = rw (S .keeps d k (free-leaf P k nil h .0), walk) refl
-  walk-over d k (node c cs r) rest h = walk-node d k c cs r rest ∙ rw (S .unchanged (node c cs r) (free-tree P k c cs r nil h .0)) refl
+  walk-over d k nil rest h = rw (I .keeps d k (free-leaf P k nil h .0), walk) refl
+  walk-over d k (node c cs r) rest h = walk-node d k c cs r rest ∙ rw (through-free L P I (node c cs r) (free-tree P k c cs r nil h .0)) refl
 
-  pub walk-passed : {d rest d' rest' : Forest} → Passed P d rest d' rest' → walk L (gathered d) rest ≡ walk L (gathered d') rest'
+  pub walk-passed : {d rest d' rest' : Forest} → Passed P d rest d' rest' → walk L (idle d) rest ≡ walk L (idle d') rest'
   walk-passed here = refl
   walk-passed (over {d = d} {rest = rest} {cs = cs} {k = k} h p) = walk-over d k cs rest h ∙ walk-passed p
 
@@ -258,6 +252,31 @@ pub record Stands (T : (κ : Kind) → (Forest → State κ) → (ℕ → Bool) 
   pub below : 8 * hi ≤ v .base
   pub within : v .base + v .len ≤ length W
   pub small : length W < 2 ^ 32
+
+pub stands : {T : (κ : Kind) → (Forest → State κ) → (ℕ → Bool) → (Forest → Bool) → Type 0} {W : List ℕ} {v : Items} {pass : Pass} {κ : Kind} {P : ℕ → Bool} {idle : Forest → State κ} {good : Forest → Bool}
+    {X : List ℕ} {lo l m hi : ℕ} {d rest : Forest} → LeftLevel κ pass P idle good → T κ idle P good → good d ≡ true → BackArray W X (v .base) (v .write) lo l d
+    → Ahead W X (v .base) (v .read) (v .len) m hi rest → l ≤ m → v .write ≤ v .read → 8 * hi ≤ v .base → v .base + v .len ≤ length W → length W < 2 ^ 32
+    → Stands T W v pass κ X lo hi (idle d) rest
+stands {P = P} {idle = idle} {good = good} {l = l} {m = m} {d = d} level told fine done ahead mid behind below within small =
+    record {
+      P = P;
+      idle = idle;
+      good = good;
+      level = level;
+      told = told;
+      d = d;
+      state = refl;
+      fine = fine;
+      l = l;
+      m = m;
+      done = done;
+      ahead = ahead;
+      mid = mid;
+      behind = behind;
+      below = below;
+      within = within;
+      small = small;
+    }
 
 abbrev pub Nothing-told : (κ : Kind) → (Forest → State κ) → (ℕ → Bool) → (Forest → Bool) → Type 0
 Nothing-told κ idle P good = Unit {0}

@@ -37,7 +37,7 @@ use Rattle.walks.specs.declared.failure.Failure.the-variants.{NegateWithoutOper
 use Rattle.walks.specs.declared.turns.Pass.the-variants.{Unary}
 use Rattle.walks.specs.declared.turns.Turn.{Turn}
 use Rattle.walks.specs.declared.turns.Turn.the-variants.{On, Fail}
-use Rattle.walks.proofs.Reading.{AheadTo, item, ahead-item, ahead-end, array-put, back-array-keep, ahead-keep, ahead-le}
+use Rattle.walks.proofs.Reading.{AheadTo, item, ahead-item, ahead-end, array-put, back-array-keep, ahead-keep, ahead-le, same-within}
 use Rattle.passes.specs.UnaryTurns.{RightList, CanTakeToken, CanTakeMinus, TokenTaken, CanPrefix, Prefixed, Added, CanSubtract, Subtracted}
 use Rattle.passes.proofs.UnaryLaws.{minus-alone, minus-first, minus-operator, minus-operand, minus-minus, minus-unknown, not-alone, not-takes}
 use Rattle.passes.proofs.RightLaws.{LastUnread, last, unread-last, unread-none, ahead-cons, right-holds}
@@ -145,9 +145,6 @@ added-tree {W} {W'} {X} {s} {l} {m} {k} (node c cs r) w room t =
 
 same-list : (v : Items) (read write : ℕ) → SameList (walkOf v Unary) (walkOf (movedTo v read write) Unary)
 same-list v read write = record { owner = refl; base = refl; len = refl; classes = refl }
-
-no-change : (W X : List ℕ) (lo hi : ℕ) (v : Items) → Within W W X lo hi v
-no-change W X lo hi v = record { kept = λ j f o. refl; long = refl }
 
 -- the token has become part of what is done
 turn-on : {W' X : List ℕ} {lo l m hi read write : ℕ} {v : Items} {d d' rest : Forest} {k : Token} → RightList W' X lo l m hi (movedTo v read write) d' rest → read ≤ write
@@ -540,17 +537,17 @@ module _ {W W' : List ℕ} {v : Items} {b : ℕ} {t : Turn} (c : CanTakeMinus W 
 pub taken-unknown : {W : List ℕ} {v : Items} {b : ℕ} → CanTakeMinus W v b → 0 < v .read → beforeMinus (opAt W (wd W (v .base + (v .read - 1)))) ≡ unknown
     → TokenTaken W v b (Fail (UnknownOperation b (wd W (v .base + (v .read - 1))))) W
 taken-unknown {W} {v} c z e =
-    record { to = λ g. unknown-fails g (is-minus c g) (c .full) z e; within = λ g. no-change W (g .X) (g .lo) (g .hi) v }
+    record { to = λ g. unknown-fails g (is-minus c g) (c .full) z e; within = λ g. same-within }
 
 module _ {W : List ℕ} {v : Items} {b : ℕ} where
   pub taken-negate-alone : opAt W b ≡ Operator.negate → v .write ≡ v .len → TokenTaken W v b (Fail (NegateWithoutOperand b)) W
   taken-negate-alone m e =
-      record { to = λ g. negate-fails g (sym (tree-op (g .tree)) ∙ m) e; within = λ g. no-change W (g .X) (g .lo) (g .hi) v }
+      record { to = λ g. negate-fails g (sym (tree-op (g .tree)) ∙ m) e; within = λ g. same-within }
 
   module _ (m : opAt W b ≡ Operator.negate → ⊥) where
     pub taken-not-alone : v .write ≡ v .len → TokenTaken W v b (Fail (NotWithoutOperand b)) W
     taken-not-alone e =
-        record { to = λ g. not-fails g (λ h. m (tree-op (g .tree) ∙ h)) e; within = λ g. no-change W (g .X) (g .lo) (g .hi) v }
+        record { to = λ g. not-fails g (λ h. m (tree-op (g .tree) ∙ h)) e; within = λ g. same-within }
 
     pub taken-not : {W' : List ℕ} {t : Turn} → v .write < v .len → Prefixed W (v .base + v .write) b W' → t ≡ On (walkOf v Unary) → TokenTaken W v b t W'
     taken-not full w h =

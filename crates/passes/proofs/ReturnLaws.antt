@@ -10,15 +10,10 @@ use Rattle.molang.specs.Message.{unaryWithoutOperand, fail}
 use Rattle.molang.specs.Level.{on, walk, through, Gathered, gathered, waiting, nothing}
 use Rattle.molang.specs.Unary.{returnStep, returnResume, returnFinish, returnLevel}
 use Rattle.molang.proofs.Trees.{isNil}
-use Rattle.molang.proofs.Return.{isReturn, return-free}
+use Rattle.molang.proofs.Return.{isReturn, return-inert}
 use Rattle.molang.proofs.Work.{Kind, returns, State, work, begins, inReading, takes, andThen}
-use Rattle.molang.specs.Operator
-use Rattle.molang.specs.Operator.{isOneOf, any as anyOf, isMathCall, isQueryOrLoop, between}
-use Rattle.molang.specs.Order.{someBelow}
-use Rattle.ops.specs.Classes.{meets, inClass, passClasses, ownClasses, bitAt}
-use Rattle.ops.proofs.ClassLaws.{stands-for}
 use Rattle.nodes.specs.declared.frames.List.{List as Items}
-use Rattle.walks.specs.Passes.{walkOf, movedTo, Exact, Runs, prefix, waits}
+use Rattle.walks.specs.Passes.{walkOf, movedTo, operators, Runs, prefix, waits}
 use Rattle.walks.specs.Items.{Ahead}
 use Rattle.walks.specs.Sides.{GatherSide, all, Holds}
 use Rattle.walks.specs.Turns.{Within, TurnTo, goes, fails}
@@ -28,32 +23,24 @@ use Rattle.walks.specs.declared.turns.Turn.the-variants.{On, Fail}
 use Rattle.walks.specs.declared.failure.Failure.the-variants.{UnaryWithoutOperand}
 use Rattle.walks.specs.Failures
 use Rattle.walks.specs.Failures.{Tells}
-use Rattle.walks.proofs.Reading.{ahead-end}
+use Rattle.walks.proofs.Reading.{ahead-end, same-within}
+use Rattle.walks.proofs.PassClasses.{runs-exact}
 use Rattle.nodes.specs.Store.{wd}
 use Rattle.nodes.specs.Children.{Attached}
 use Rattle.passes.specs.TokenTurns.{any, ReturnTurned}
-use Rattle.passes.proofs.GatherLaws.{Skips, walk-node, walk-passed, LeftLevel, item-holds, kept-within, Attaching, attached, item-attached, within-then, Stands, Standing}
-
-return-skips : Skips returnLevel isReturn
-unfolding returnLevel nothing returnStep returnResume isReturn
-return-skips =
-    record { keeps = λ d k h. rw (h, returnStep) refl; enters = λ d k c cs r. refl; takesBack = λ d k kids. refl; unchanged = return-free }
-
-return-exact : Exact 0x10_0000 isReturn
-unfolding isReturn meets inClass passClasses ownClasses bitAt someBelow isOneOf anyOf isMathCall isQueryOrLoop between
-return-exact = stands-for 0x10_0000 isReturn tt
+use Rattle.passes.proofs.GatherLaws.{walk-node, walk-passed, LeftLevel, item-holds, kept-within, Attaching, attached, item-attached, within-then, Stands, stands, Standing}
 
 return-node : (d : Forest) (k : Token) (cs rest : Forest) → isNil cs ≡ false
     → work returns (gathered d) (node k cs rest) ≡ andThen (work returns (begins returns cs) (inReading returns cs)) (λ kids. work returns (takes returns (gathered d) k kids) rest)
 unfolding work begins inReading takes through returnLevel returnResume isNil
 return-node d k nil rest e = absurd (true≢false e)
-return-node d k (node c cs r) rest e = walk-node returnLevel isReturn return-skips d k c cs r rest
+return-node d k (node c cs r) rest e = walk-node returnLevel isReturn return-inert d k c cs r rest
 
 return-level : LeftLevel returns Prefix isReturn gathered any
-unfolding work begins waits returnLevel nothing
+unfolding work begins waits operators returnLevel nothing
 return-level =
     record {
-      exact = return-exact;
+      exact = runs-exact returns Prefix prefix;
       sides = λ fine done ahead low mid high below within.
           record { runs = prefix; done = all done; unread = ahead; agrees = tt; low = low; mid = mid; high = high; below = below; within = within };
       turning = λ v h. h;
@@ -61,7 +48,7 @@ return-level =
       calm = λ d. refl;
       unlent = refl;
       afresh = λ cs. refl;
-      passes = λ p. walk-passed returnLevel isReturn return-skips p;
+      passes = λ p. walk-passed returnLevel isReturn return-inert p;
       keeps = λ p h. refl;
       node = return-node;
     }
@@ -71,26 +58,7 @@ return-stands {T} W v t g = go (g .holds .sides .runs) (g .holds)
   where
     open-side : {X : List ℕ} {lo l m hi : ℕ} {s : Gathered} {rest : Forest} → GatherSide W X (v .base) (v .write) lo l s → Ahead W X (v .base) (v .read) (v .len) m hi rest
         → l ≤ m → v .write ≤ v .read → 8 * hi ≤ v .base → v .base + v .len ≤ length W → Stands T W v Prefix returns X lo hi s rest
-    open-side {l = l} {m = m} (all {d = d} done) ahead mid behind below within =
-        record {
-          P = isReturn;
-          idle = gathered;
-          good = any;
-          level = return-level;
-          told = t;
-          d = d;
-          state = refl;
-          fine = refl;
-          l = l;
-          m = m;
-          done = done;
-          ahead = ahead;
-          mid = mid;
-          behind = behind;
-          below = below;
-          within = within;
-          small = g .small;
-        }
+    open-side (all done) ahead mid behind below within = stands return-level t refl done ahead mid behind below within (g .small)
 
     go : {κ : Kind} {X : List ℕ} {lo hi : ℕ} {s : State κ} {rest : Forest} → Runs κ Prefix → Holds κ W X lo hi (walkOf v Prefix) s rest → Stands T W v Prefix κ X lo hi s rest
     go prefix h = open-side (h .sides .done) (h .sides .unread) (h .sides .mid) (h .turning) (h .sides .below) (h .sides .within)
@@ -117,7 +85,7 @@ returned-end W v b e =
       to = λ g p fine.
           fails (Tells.unaryWithoutOperand (g .item .tree .token))
           (ap (λ (f : Forest). work returns (gathered (g .d)) (node (g .k) nil f)) (ahead-end (g .rest) (omega arith) (g .item .ahead)) ∙ return-last (g .d) (g .k) p);
-      within = λ g. record { kept = λ j f o. refl; long = refl };
+      within = λ g. same-within;
     }
 
 module _ {W W' : List ℕ} (W'' : List ℕ) (v : Items) (b c : ℕ) (e : wd W (v .base + v .read) ≡ c) (n : v .read < v .len) (w : Attached W b c W') (s : W'' ≡ set W' (v .base + v .write) b) where

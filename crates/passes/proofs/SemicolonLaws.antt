@@ -38,10 +38,11 @@ use Rattle.walks.specs.declared.turns.Pass.the-variants.{Split as SplitAt}
 use Rattle.walks.specs.declared.turns.Turn.{Turn}
 use Rattle.walks.specs.declared.turns.Turn.the-variants.{On, Fail}
 use Rattle.walks.proofs.Reading.{ahead-le, ahead-keep, back-array-keep}
+use Rattle.walks.proofs.Ended.{ended-le, ended-at-keep}
 use Rattle.passes.specs.Statements.{Grouped, ListMade, there, begun, CanEnd, SemicolonTo, leading, again, ended}
 use Rattle.passes.proofs.StatementLaws.{semicolon-class, step-end, walk-on, walk-stop, earliest, openOn, passed-counts, passed-open, Moved, moved-same, same-list}
 use Rattle.passes.proofs.GroupLaws.{in-order, grouped-tree, grouped-same, grouped-place, grouped-long}
-use Rattle.passes.proofs.SplitLaws.{ended-le, ended-at-keep, ended-rebase, Pending, pending-passed, SplitView, splits, split-view, seek-split, split-sides, open-items}
+use Rattle.passes.proofs.SplitLaws.{ended-rebase, Pending, pending-passed, SplitView, splits, split-view, seek-split, split-sides, open-items}
 
 -- ---- what `semicolon` asks
 

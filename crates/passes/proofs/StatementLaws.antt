@@ -9,26 +9,25 @@ use native.Mathlib.Omega.{arith}
 use native.Mathlib.Nat.{le-refl}
 use lib.Dec.{eqb}
 use lib.ListN.{length, set}
-use Rattle.molang.specs.Operator.{semicolon, isOneOf, any}
+use borrow.Author.Tests.{not-true, not-false}
+use Rattle.molang.specs.Operator.{semicolon}
 use Rattle.molang.specs.Forest.{Token, Forest, nil, node, bare, count, size}
 use Rattle.molang.specs.Message.{Message, Result, ok, fail}
 use Rattle.molang.specs.Level.{on, into, stop, walk, through}
 use Rattle.molang.specs.Conditional.{isToken}
-use Rattle.molang.specs.Order.{lastOf, someBelow}
+use Rattle.molang.specs.Order.{lastOf}
 use Rattle.molang.specs.Statements.{Split, unsplit, after, inside, splitOf, isEntered, gather, endStatement, enterSplit, statementStep, statementResume, statementLevel}
-use Rattle.molang.proofs.Trees.{free, clear, isNil, some-none, free-leaf, free-tree, clear-leaf}
-use Rattle.molang.proofs.Statements.{isSemicolon, statement-free}
+use Rattle.molang.proofs.Trees.{free, clear, isNil, some-none, free-leaf, free-tree}
+use Rattle.molang.proofs.Statements.{isSemicolon, split-clear, statement-free}
 use Rattle.molang.proofs.Work.{Kind, statements, State, work, begins, inReading, takes, andThen}
 use Rattle.molang.proofs.Walks.{onward, back, walk-onward}
-use Rattle.ops.proofs.ClassLaws.{stands-for}
-use Rattle.ops.specs.Classes.{meets, bitAt, inClass, passClasses}
 use Rattle.nodes.specs.Store.{wd, InArray, begins as begins-with, Seg, Inc}
 use Rattle.nodes.specs.Slots.{isTokenAt, Laid}
 use Rattle.nodes.specs.declared.frames.List.{List as Items}
 use Rattle.nodes.proofs.Runs.{inc-le, seg-keep, set-same, set-other, set-long}
 use Rattle.nodes.proofs.Store.{tree-below, back-le, back-raise}
 use Rattle.nodes.proofs.Trees.{token-test}
-use Rattle.walks.specs.Passes.{walkOf, movedTo, classesOf, Exact, Runs, plain, split, waits}
+use Rattle.walks.specs.Passes.{walkOf, movedTo, classesOf, operators, Exact, Runs, plain, split, waits}
 use Rattle.walks.specs.Items.{BackArray, Ahead, CanSeek, Passed, here, over, SoughtTo, none as found-none, leaf, tree, Sought}
 use Rattle.walks.specs.Sides.{StatementSide, whole, closed, EndedAt, nothing, DoneSide, UnreadSide, Holds}
 use Rattle.nodes.specs.Children.{CanGive}
@@ -39,13 +38,14 @@ use Rattle.walks.specs.declared.turns.Pass.{Pass}
 use Rattle.walks.specs.declared.turns.Pass.the-variants.{Plain, Split as SplitAt}
 use Rattle.walks.specs.declared.turns.Turn.the-variants.{On, Enter, Over}
 use Rattle.passes.specs.Statements.{HasSemicolon}
+use Rattle.walks.proofs.PassClasses.{runs-exact}
 use Rattle.walks.proofs.Reading.{AheadTo, item, ahead-item, ahead-end, ahead-le, ahead-keep, array-put}
 
 -- ---- which semicolons a list has
 
 pub semicolon-class : Exact 0x2 isSemicolon
-unfolding isSemicolon meets someBelow bitAt inClass passClasses isOneOf any
-semicolon-class = stands-for 0x2 isSemicolon tt
+unfolding operators
+semicolon-class = runs-exact statements Plain plain
 
 -- What holds at the test of the loop of `has_semicolon`, whatever forest the list is.
 pub record LookAt (W : List ℕ) (v : Items) (g : CanStart W v) (i : ℕ) : Type 0 where
@@ -104,12 +104,6 @@ unfolding clear
 look-done l h = record { answer = λ g. let e = l .at g .same ∙ ap (clear isSemicolon) (ahead-end (l .at g .rest) h (l .at g .ahead)) in rw e refl }
 
 -- ---- the list's first semicolon
-
-pub split-none : (f : Forest) → clear isSemicolon f ≡ true → splitOf f ≡ unsplit nil
-unfolding splitOf clear isSemicolon
-split-none nil h = refl
-split-none (node k nil rest) h = let e = clear-leaf isSemicolon k rest h in rw (e .0, splitOf) (split-none rest (e .1))
-split-none (node k (node c cs r) rest) h = split-none rest h
 
 pub split-some : (f : Forest) → clear isSemicolon f ≡ false → (q : Token) × (splitOf f ≡ after q nil)
 unfolding splitOf clear isSemicolon
@@ -243,14 +237,6 @@ passed-split (over {rest = r} {cs = cs} {k = k} f p) = split-past k cs r f ∙ p
 
 -- ---- a list begins
 
-not-on : (b : Bool) → true ≡ not b → b ≡ false
-not-on true e = absurd (true≢false e)
-not-on false e = refl
-
-not-off : (b : Bool) → false ≡ not b → b ≡ true
-not-off true e = refl
-not-off false e = absurd (true≢false (sym e))
-
 plain-holds : {W X : List ℕ} {lo hi m m' : ℕ} {l : Items} {d rest : Forest} → BackArray W X (l .base) (l .write) lo m d → Ahead W X (l .base) (l .read) (l .len) m' hi rest → m ≤ m'
     → l .write ≤ l .read → 8 * hi ≤ l .base → l .base + l .len ≤ length W → Holds statements W X lo hi (walkOf l Plain) (unsplit d) rest
 plain-holds {m = m} {m' = m'} b u e t below within =
@@ -290,7 +276,7 @@ module _ {W : List ℕ} {v : Items} where
       record {
         list = refl;
         holds = λ g.
-            let e = split-some (g .f) (not-on (clear isSemicolon (g .f)) (h .answer g)) in
+            let e = split-some (g .f) (not-true (clear isSemicolon (g .f)) (sym (h .answer g))) in
             subst (λ (s : Split). Holds statements W (g .X) (g .lo) (g .hi) (walkOf v (SplitAt 0)) s (g .f)) (sym (e .1)) (start-split g (e .0) (e .1));
       }
 
@@ -300,7 +286,7 @@ module _ {W : List ℕ} {v : Items} where
       record {
         list = refl;
         holds = λ g.
-            let e = split-none (g .f) (not-off (clear isSemicolon (g .f)) (h .answer g)) in
+            let e = split-clear (g .f) (not-false (clear isSemicolon (g .f)) (sym (h .answer g))) in
             subst (λ (s : Split). Holds statements W (g .X) (g .lo) (g .hi) (walkOf v Plain) s (g .f)) (sym e)
             (plain-holds (start-none g) (start-ahead g) (le-refl (g .lo)) (omega (arith, g .unwritten)) (g .below) (g .within));
       }

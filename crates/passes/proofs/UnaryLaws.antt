@@ -8,17 +8,18 @@ use native.Mathlib.Omega.{arith}
 use lib.Dec.{eqb}
 use borrow.Author.Tests.{eq-eqb, ne-eqb}
 use Rattle.molang.specs.Operator
-use Rattle.molang.specs.Operator.{operand, operator, minus, unknown, beforeMinus, any, isOneOf, isQueryOrLoop, isMathCall}
-use Rattle.molang.specs.Order.{someBelow}
+use Rattle.molang.specs.Operator.{operand, operator, minus, unknown, beforeMinus}
 use Rattle.molang.specs.Forest.{Token, Forest, nil, node, renamed, bare, count, size}
 use Rattle.molang.specs.Message.{Result, ok, fail, negateWithoutOperand, notWithoutOperand, unknownOperation}
 use Rattle.molang.specs.Unary.{Unary, done, undone, minusAfter, notBefore, unaryLeaf, turned, unaryNode, unary, unaryPass}
-use Rattle.molang.proofs.Trees.{free, isNil, off-both, free-leaf, free-tree}
+use Rattle.molang.proofs.Trees.{free, isNil, free-leaf, free-tree}
+use Rattle.molang.proofs.Booleans.{or-neither}
 use Rattle.molang.proofs.Unary.{isPrefix, unary-free}
 use Rattle.molang.proofs.Work.{right, before, fromRight, leftOf, work, begins, inReading, takes, pass, unaries, andThen, pass-begins}
-use Rattle.ops.specs.Classes.{passClasses, ownClasses, inClass, bitAt, meets}
-use Rattle.ops.proofs.ClassLaws.{stands-for}
-use Rattle.walks.specs.Passes.{Exact}
+use Rattle.walks.specs.Passes as passes
+use Rattle.walks.specs.Passes.{operators, Exact}
+use Rattle.walks.specs.declared.turns.Pass.the-variants.{Unary as UnaryPass}
+use Rattle.walks.proofs.PassClasses.{runs-exact}
 use Rattle.passes.specs.UnaryTurns.{Moved}
 
 -- ---- one item
@@ -64,7 +65,7 @@ kept-node k c cs r d left e = rw (e, unaryPass, andThen) refl
 pub passed-over : (k : Token) (cs d left : Forest) → free isPrefix (node k cs nil) ≡ true → fromRight (right false d) (node k cs left) ≡ fromRight (right false (node k cs d)) left
 unfolding leftOf unaryLeaf isPrefix
 passed-over k nil d left h =
-    let o = off-both (eqb (k .op) Operator.negate) (eqb (k .op) Operator.logicalNot) (free-leaf isPrefix k nil h .0) in
+    let o = or-neither (eqb (k .op) Operator.negate) (eqb (k .op) Operator.logicalNot) (free-leaf isPrefix k nil h .0) in
     at-leaf k d left ∙ rw (o .0, unaryLeaf) (rw (o .1) refl)
 passed-over k (node c cs r) d left h =
     at-node k c cs r d left ∙ kept-node k c cs r d left (unary-free none (node c cs r) (free-tree isPrefix k c cs r nil h .0))
@@ -156,5 +157,5 @@ moved-more {d' = d'} k cs rest' m h =
 -- ---- the classes
 
 pub unary-exact : Exact 0x10 isPrefix
-unfolding isPrefix meets someBelow bitAt inClass passClasses ownClasses isOneOf any isQueryOrLoop isMathCall
-unary-exact = stands-for 0x10 isPrefix tt
+unfolding operators
+unary-exact = runs-exact unaries UnaryPass passes.unary

@@ -9,7 +9,7 @@ use native.Mathlib.Omega.{arith}
 use native.Mathlib.Decide.{ℕ-discrete}
 use lib.ListN.{length}
 use lib.Dec.{eqb}
-use borrow.Author.Tests.{eq-eqb, ne-eqb}
+use borrow.Author.Tests.{eq-eqb, ne-eqb, not-true, not-false}
 use Rattle.molang.specs.Forest.{Token, Forest, nil, node}
 use Rattle.molang.proofs.Trees.{free, isNil}
 use Rattle.ops.specs.Classes.{shares}
@@ -22,6 +22,7 @@ use Rattle.nodes.proofs.Classes.{notes-meet, free-one}
 use Rattle.nodes.proofs.Trees.{leaf-test, tree-op}
 use Rattle.walks.specs.Passes.{Exact}
 use Rattle.walks.specs.Items.{BackArray, Ahead, CanPeek, nextIf, innerAt}
+use Rattle.walks.specs.Turns.{Within}
 
 -- ---- a change of words
 
@@ -32,6 +33,10 @@ SameSlots W W' X lo hi = (s o : ℕ) → lo ≤ s → s < hi → o < 8 → Out s
 -- the words from a to b are as they were
 abbrev pub SameWords : List ℕ → List ℕ → ℕ → ℕ → Type 0
 SameWords W W' a b = (j : ℕ) → a ≤ j → j < b → wd W' j ≡ wd W j
+
+-- no word is changed
+pub same-within : {W X : List ℕ} {lo hi : ℕ} {v : Items} → Within W W X lo hi v
+same-within = record { kept = λ j x o. refl; long = refl }
 
 module _ (W W' : List ℕ) where
   pub back-array-keep : {X : List ℕ} {at n lo hi : ℕ} {d : Forest} → SameSlots W W' X lo hi → SameWords W W' at (at + n)
@@ -98,14 +103,6 @@ module _ {W X : List ℕ} {b a m : ℕ} {k : Token} {cs : Forest} (t : RepT W X 
   pub tree-shares : shares (wd W (8 * b + 7)) c ≡ not (free P (node k cs nil))
   tree-shares = notes-meet c P e (t .noted) (tree-legal t)
 
-not-false : (x : Bool) → not x ≡ false → x ≡ true
-not-false true h = refl
-not-false false h = absurd (true≢false h)
-
-not-true' : (x : Bool) → not x ≡ true → x ≡ false
-not-true' true h = absurd (true≢false (sym h))
-not-true' false h = refl
-
 -- it has none
 pub tree-free : {W X : List ℕ} {b a m : ℕ} {k : Token} {cs : Forest} (c : ℕ) (P : ℕ → Bool) → Exact c P → RepT W X b a m k cs
     → shares (wd W (8 * b + 7)) c ≡ false → free P (node k cs nil) ≡ true
@@ -114,7 +111,7 @@ tree-free {k = k} {cs = cs} c P e t h = not-false (free P (node k cs nil)) (sym 
 -- it has one
 pub tree-unfree : {W X : List ℕ} {b a m : ℕ} {k : Token} {cs : Forest} (c : ℕ) (P : ℕ → Bool) → Exact c P → RepT W X b a m k cs
     → shares (wd W (8 * b + 7)) c ≡ true → free P (node k cs nil) ≡ false
-tree-unfree {k = k} {cs = cs} c P e t h = not-true' (free P (node k cs nil)) (sym (tree-shares t c P e) ∙ h)
+tree-unfree {k = k} {cs = cs} c P e t h = not-true (free P (node k cs nil)) (sym (tree-shares t c P e) ∙ h)
 
 leaf-passes : (x : Bool) → (not x && true) ≡ false → x ≡ true
 leaf-passes true h = refl

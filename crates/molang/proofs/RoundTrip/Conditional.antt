@@ -11,8 +11,9 @@ use Rattle.molang.specs.Operator.{any, isOneOf}
 use Rattle.molang.specs.Forest.{Token, Forest, nil, node, turnedOnto, inOrder}
 use Rattle.molang.specs.Message.{ok}
 use Rattle.molang.specs.Level.{walk}
-use Rattle.molang.specs.Conditional.{isToken, startsWith, under, pairElse, scan, foldedFrom, dangling, undangled, conditionalStep, conditionalFinish, conditionalLevel}
+use Rattle.molang.specs.Conditional.{isToken, startsWith, under, scan, foldedFrom, dangling, undangled, conditionalStep, conditionalFinish, conditionalLevel}
 use Rattle.molang.proofs.Booleans.{either, never}
+use Rattle.molang.proofs.Conditional.{scanned, scan-once, undangled-calm}
 use Rattle.molang.proofs.Forests.{Turns, inOrder-turned}
 use Rattle.molang.proofs.RoundTrip.Role.{Role, aBracket, aComma, aQuestion, aColon, is, is-same, isAmong, among, role, role-conditional, role-question, role-colon, op-of-question, op-of-colon}
 use Rattle.molang.proofs.RoundTrip.Expression.{Sort, nothing, atom, prefixed, bracketed, joinedBy, Exp, empty, leaf, bracket, before, between, isOperand, isJoinedBy, isWhole, leafRoles, prefixRoles, isLeaf, isPrefix, isJoining, takes, joinsLeft, joinsRight, excepted, operand-only, ahead, amid, form, also, turned-form, Solid, operand-solid, takes-operand}
@@ -50,23 +51,11 @@ calm-turned nil o h p = p
 calm-turned (node k cs f) o h p = let t = token-free k cs f h in calm-turned f (node k cs o) (t .2) (token-back k cs o (t .0) (t .1) ∙ p)
 
 -- One step of the scan, by what it asks of the list.
-scanned : (question colon paired : Bool) (a : Token) (aa : Forest) (b : Token) (bs left right : Forest) → Forest
-scanned question colon paired a aa b bs left right =
-    elim question [
-      | true ↦ elim paired [ true ↦ scan left (pairElse (under a b bs right)) | false ↦ scan left (under a b bs right) ]
-      | false ↦
-          elim colon [
-            | true ↦ elim paired [ true ↦ scan left (under a b bs right) | false ↦ scan (node b bs left) (node a aa right) ]
-            | false ↦ scan (node b bs left) (node a aa right)
-          ]
-    ]
-
 scan-step : (question colon paired : Bool) (a : Token) (aa : Forest) (b : Token) (bs left right : Forest)
     → isToken Operator.conditional a aa ≡ question
     → isToken Operator.conditionalElse a aa ≡ colon → startsWith Operator.conditional left ≡ paired
     → scan (node a aa (node b bs left)) right ≡ scanned question colon paired a aa b bs left right
-unfolding scan scanned
-scan-step question colon paired a aa b bs left right p q r = rw (← p, ← q, ← r) refl
+scan-step question colon paired a aa b bs left right p q r = rw (← p, ← q, ← r) (scan-once a aa b bs left right)
 
 calm-scan : (left right : Forest) → dangling left ≡ none → scan left right ≡ turnedOnto left right
 unfolding scan scanned turnedOnto
@@ -84,10 +73,6 @@ calm-folded (node a aa nil) h = refl
 calm-folded (node a aa (node b bs nil)) h = refl
 calm-folded (node a aa (node b bs (node c cs left))) h = calm-scan (node b bs (node c cs left)) (node a aa nil)
     (token-free a aa (node b bs (node c cs left)) h .2)
-
-undangled-calm : (f : Forest) → dangling f ≡ none → undangled f ≡ ok f
-unfolding undangled
-undangled-calm f h = rw (h, undangled) refl
 
 calm-finish : (f : Forest) → dangling f ≡ none → conditionalFinish (turnedOnto f nil) ≡ ok f
 unfolding conditionalFinish dangling

@@ -166,7 +166,8 @@ pub role-colon : (n : ℕ) → eqb n Operator.conditionalElse ≡ is aColon (rol
 unfolding computed role
 role-colon = by-role (λ n. eqb n Operator.conditionalElse) (is aColon) refl (not-one 60 (lit< tt))
 
-no-math : (n : ℕ) → 110 < n → isMathCall n ≡ false
+-- No math call is above 110.
+pub no-math : (n : ℕ) → 110 < n → isMathCall n ≡ false
 unfolding isMathCall
 no-math n l =
     rw (
