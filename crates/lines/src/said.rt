@@ -167,7 +167,7 @@ fn say_repeated(items: &[u32]) {
     }
 }
 
-// What a line asks.
+// What a line asks. The items are part of a line, which `run` has measured.
 pub fn say_asked(mark: u32, items: &[u32])
     requires { ⌜ length (now items) ≤ 1002 ⌝ }
 {

@@ -2,7 +2,8 @@
 // classes of the leaves at or below it. Slot 0 owns the outermost list; as a child or a sibling 0 means none.
 // Token i stands at slot 3(i + 1), and the two slots after it are spare for nodes that the passes make right after it.
 // What is asked of a slot, that its words lie within the buffer, the callers have from the store (specs/Store): its slots stand
-// below the stack.
+// below the stack. That a slot's number fits 32 bits, `load` has from the 4,096 tokens at most, and the passes from the length of
+// the words that `parse` works in.
 use ops::classes::TokenClasses;
 use words::fields;
 ghost use mathlib.Core.Path.{_≡_};
