@@ -21,7 +21,8 @@ use Rattle.nodes.proofs.Runs.{set-same, set-other, set-long}
 use Rattle.nodes.proofs.Store.{reserve-pos, rep-lower, rep-raise, tree-below, tree-out, back-le, back-avoid}
 use Rattle.nodes.proofs.Keeping.{free-above, free-part, tree-beside, give-kept}
 use Rattle.nodes.proofs.Trees.{tree-op, array-give, owned-tree, owned-leaf, give-owned, give-token}
-use Rattle.flat.specs.Flat.{differing, Opener, Standing, outer, inner, LookAt, Follows, on, ends, Closed, Named}
+use Rattle.flat.specs.Flat.{Opener, Standing, outer, inner, LookAt, Follows, on, ends, Closed, Named}
+use Rattle.walks.specs.Failures.{mismatched}
 use Rattle.walks.specs.declared.failure.Unclosed.{Unclosed}
 use Rattle.flat.specs.declared.sections.Reached.{Reached}
 use Rattle.flat.specs.declared.sections.Bracket.{Bracket}
@@ -85,7 +86,7 @@ close-differs {t = t} {cs = cs} (inner {i = j} {o = o} {d = d} {s = s'} st z v e
     let apart : closer o ≢ t .op = λ e. h (ex ∙ ap (λ (q : ℕ). Option·getD (closingOf q) 0) (innermost-op z p ep) ∙ e ∙ sym (tree-op tree) ∙ sym ey) in
     let is : closing t cs i (section o j d s') ≡ mismatch (closingMismatch o (u .start) t i ∷ sectionNotClosed (outermost o s') ∷ [])
     = closing-differs t o cs d i j s' apart ∙ ap (λ (q : ℕ). mismatch (closingMismatch o q t i ∷ sectionNotClosed (outermost o s') ∷ [])) (sym (b .start)) in
-    rw is (ends (differing (b .inner-token) (tree .token) (b .outer-token)))
+    rw is (ends (mismatched (b .inner-token) (tree .token) (b .outer-token)))
 
 -- it is the innermost section's: the words of its interval change, and no others
 pub close-takes : {W X : List ℕ} {base marks lo l m k w item : ℕ} {s : Open} {t : Token} {cs : Forest} → Standing W X base marks lo l k w s → k ≢ 0 → RepT W X item l m t cs

@@ -20,9 +20,10 @@ use Rattle.nodes.proofs.Runs.{set-same, set-other, set-long, seg-keep, segB-kee
 use Rattle.nodes.proofs.Store.{rep-le, rep-count, tree-first, tree-below, tree-out, back-le, back-count}
 use Rattle.nodes.proofs.Keeping.{free-above, free-part, kept-then, kept-part, rep-beside, tree-beside, back-beside}
 use Rattle.nodes.proofs.Trees.{tree-under, tree-op, attach-tree, attach-kept}
-use Rattle.flat.specs.Flat.{leading, Stands, Fails, CanJoin, MemberAt, Written, WithMember, Membered}
+use Rattle.flat.specs.Flat.{failed, Stands, Fails, CanJoin, MemberAt, Written, WithMember, Membered}
 use Rattle.flat.proofs.FlatWritten.{written-none, written-raise, written-more, store-kept, written-array}
 use Rattle.flat.proofs.FlatCases.{members-other, members-joined, members-leading, joined-under, joined-after}
+use Rattle.walks.specs.Failures as failures
 use Rattle.walks.specs.declared.failure.Failure.the-variants.{LeadingMemberAccessor}
 use Rattle.flat.specs.declared.sections.Flat.the-variants.{Fail}
 
@@ -216,7 +217,7 @@ module _ {W₀ : List ℕ} {base n : ℕ} {g : CanJoin W₀ base n} {W : List �
       record {
         messages = leadingMemberAccessor (v .k) ∷ [];
         is = sym (v .answer) ∙ rw empty (members-leading (v .k) nil (leaves (v .rest)) op);
-        told = leading (v .tree .token);
+        told = failed (failures.leadingMemberAccessor (v .tree .token));
       }
     where
       nothing : (d : Forest) → count d ≡ 0 → d ≡ nil

@@ -16,6 +16,7 @@ use Rattle.nodes.specs.Store.{wd, TokenAt, RepT}
 use Rattle.nodes.proofs.Store.{tree-below, back-le, back-count}
 use Rattle.nodes.proofs.Keeping.{tree-beside}
 use Rattle.flat.specs.Flat.{unclosed, Fails, Written, Opener, Standing, outer, inner, depthOf, NamedAt, Named}
+use Rattle.walks.specs.Failures as failures
 use Rattle.walks.specs.declared.failure.Unclosed.{Unclosed}
 use Rattle.flat.specs.declared.sections.Flat.the-variants.{Unclosed as Unclosing}
 use Rattle.flat.proofs.FlatWritten.{written-none, written-raise, written-keep, written-put}
@@ -162,7 +163,7 @@ standing-unclosed {u = u} (inner {o = o} {s = s} st x v e) n a =
     record {
       messages = noClosingSymbol o (u .start) ∷ sectionNotClosed (outermost o s) ∷ [];
       is = ap (λ (i : ℕ). fail (noClosingSymbol o i ∷ sectionNotClosed (outermost o s) ∷ [])) (sym (b .start));
-      told = unclosed (b .inner-token) (b .outer-token);
+      told = unclosed (failures.unclosed (b .inner-token) (b .outer-token));
     }
 
 pub standing-outside : {W X : List ℕ} {base marks lo hi k w : ℕ} {s : Open} → Standing W X base marks lo hi k w s → k ≡ 0

@@ -16,7 +16,8 @@ use Rattle.nodes.specs.Store.{wd, Seg, RepF, RepT, Kept}
 use Rattle.nodes.proofs.Runs.{seg-keep}
 use Rattle.nodes.proofs.Store.{rep-le, rep-count, tree-first, back-count}
 use Rattle.nodes.proofs.Keeping.{free-above, free-part, kept-then, rep-beside}
-use Rattle.flat.specs.Flat.{Tells, Stands, Fails, Standing, outer, inner, LookAt, Follows, on, ends, Looked, NamedAt, Named, CanSection}
+use Rattle.flat.specs.Flat.{mismatched, Stands, Fails, Standing, outer, inner, LookAt, Follows, on, ends, Looked, NamedAt, Named, CanSection}
+use Rattle.walks.specs.Failures.{TellsMismatch}
 use Rattle.walks.specs.declared.failure.Mismatch.{Mismatch}
 use Rattle.walks.specs.declared.failure.Unclosed.{Unclosed}
 use Rattle.flat.specs.declared.sections.Flat.the-variants.{Mismatched, Unclosed as Unclosing}
@@ -43,11 +44,11 @@ went {W} {X} {base} {marks} {lo} {hi} {w} {i} a (on {a = b} {t = t} st d m n) e 
 went a (ends t) e = let z : _≡_ {A = ℕ} 0 1 = cc in absurd (omega arith)
 
 ended : {W X : List ℕ} {base marks lo hi w i : ℕ} {r : Bracket} {x : Walked} (m : Mismatch) → Follows W X base marks lo hi w i r x → r ≡ Differs m
-    → (ms : List Message) × (x ≡ mismatch ms) × Tells W (Mismatched m) ms
+    → (ms : List Message) × (x ≡ mismatch ms) × TellsMismatch W m ms
 ended m (on st d w n) e = let z : _≡_ {A = ℕ} 0 1 = cc in absurd (omega arith)
 ended {W} m (ends {m = b} {ms = ms} t) e =
     let same : b ≡ m = cc in
-    (ms, refl, subst (λ (m : Mismatch). Tells W (Mismatched m) ms) same t)
+    (ms, refl, subst (λ (m : Mismatch). TellsMismatch W m ms) same t)
 
 -- no token counts more than those that are read
 position-near : {W X : List ℕ} {base marks lo hi k w i read : ℕ} {s : Open} → Standing W X base marks lo hi k w s → w ≤ read → i ≤ read → position i s ≤ read + 1
@@ -206,7 +207,7 @@ module _ {W₀ : List ℕ} {base n : ℕ} {g : CanSection W₀ base n} {W : List
       → Fails W' (sections 0 (outside nil) (g .f)) (Mismatched m) × Kept W₀ W' (g .X) (g .lo) (g .hi) base (base + n + 2 * n)
   walk-differs r m W' w e =
       let f = ended m (w .answer walk-look) e in
-      (record { messages = f .0; is = sym (v .answer) ∙ sections-end (v .k) (v .cs) (v .rest) index (v .s) (f .0) (f .1); told = f .2 }, turn-kept w)
+      (record { messages = f .0; is = sym (v .answer) ∙ sections-end (v .k) (v .cs) (v .rest) index (v .s) (f .0) (f .1); told = mismatched (f .2) }, turn-kept w)
 
 -- ---- the end of the list
 

@@ -4,17 +4,18 @@ use Prim.Native.Nat.{ℕ, suc, _+_, _*_, _-_, _^_, _≤_, _<_}
 use mathlib.Core.Path.{_≡_}
 use mathlib.Core.Logic.{_⊎_}
 use mathlib.Core.Bool.{true}
-use mathlib.Core.List.{List, [], _∷_}
+use mathlib.Core.List.{List}
 use mathlib.Core.Option.{some}
 use lib.ListN.{length, set}
 use Rattle.molang.specs.Operator.{memberAccessor}
 use Rattle.molang.specs.Forest.{Token, Forest, nil, node, leaves}
-use Rattle.molang.specs.Message.{Message, leadingMemberAccessor, closingMismatch, sectionNotClosed, noClosingSymbol, Result, ok, fail}
+use Rattle.molang.specs.Message.{Message, Result, ok, fail}
 use Rattle.molang.specs.Sections.{withMember, members, Open, outside, section, position, outermost, Walked, going, mismatch, closing, bracket, sections}
 use Rattle.molang.proofs.Sections.{flat}
 use Rattle.ops.specs.Operators.{isOpener}
-use Rattle.nodes.specs.Store.{wd, TokenAt, SegB, RepT, RepB, InArray, Free, Kept}
-use Rattle.walks.specs.declared.failure.Failure.the-variants.{LeadingMemberAccessor}
+use Rattle.nodes.specs.Store.{wd, SegB, RepT, RepB, InArray, Free, Kept}
+use Rattle.walks.specs.Failures.{Tells, TellsMismatch, TellsUnclosed}
+use Rattle.walks.specs.declared.failure.Failure.{Failure}
 use Rattle.walks.specs.declared.failure.Mismatch.{Mismatch}
 use Rattle.walks.specs.declared.failure.Unclosed.{Unclosed}
 use Rattle.flat.specs.declared.sections.Flat.{Flat}
@@ -25,13 +26,11 @@ use Rattle.flat.specs.declared.sections.Bracket.the-variants.{On, Differ
 
 -- ---- what a flat pass leaves
 
--- The slots that a failure names hold the tokens of the messages, and its numbers are theirs.
-pub data Tells (W : List ℕ) : Flat → List Message → Type 0 where
-  leading : {s : ℕ} {k : Token} → TokenAt W s k → Tells W (Fail (LeadingMemberAccessor s)) (leadingMemberAccessor k ∷ [])
-  differing : {m : Mismatch} {o k p : Token} → TokenAt W (m .opener) o → TokenAt W (m .closer) k → TokenAt W (m .outer) p
-      → Tells W (Mismatched m) (closingMismatch o (m .start) k (m .index) ∷ sectionNotClosed p ∷ [])
-  unclosed : {u : Unclosed} {o p : Token} → TokenAt W (u .inner) o → TokenAt W (u .outer) p
-      → Tells W (Unclosing u) (noClosingSymbol o (u .start) ∷ sectionNotClosed p ∷ [])
+-- What a flat pass tells that did not end with a list.
+pub data FlatTells (W : List ℕ) : Flat → List Message → Type 0 where
+  failed : {f : Failure} {ms : List Message} → Tells W f ms → FlatTells W (Fail f) ms
+  mismatched : {m : Mismatch} {ms : List Message} → TellsMismatch W m ms → FlatTells W (Mismatched m) ms
+  unclosed : {u : Unclosed} {ms : List Message} → TellsUnclosed W u ms → FlatTells W (Unclosing u) ms
 
 -- The definition's answer is a list, and it stands in the m words from `base` on.
 pub record Stands (W X : List ℕ) (base lo hi n : ℕ) (answer : Result) (m : ℕ) : Type 0 where
@@ -44,7 +43,7 @@ pub record Stands (W X : List ℕ) (base lo hi n : ℕ) (answer : Result) (m : �
 pub record Fails (W : List ℕ) (answer : Result) (r : Flat) : Type 0 where
   pub messages : List Message
   pub is : answer ≡ fail messages
-  pub told : Tells W r messages
+  pub told : FlatTells W r messages
 
 abbrev pub Answers : List ℕ → List ℕ → ℕ → ℕ → ℕ → ℕ → Result → Flat → Type 0
 Answers W X base lo hi n answer (Done m) = Stands W X base lo hi n answer m
@@ -166,7 +165,7 @@ pub record LookAt (W : List ℕ) (base marks write depth item : ℕ) : Type 0 wh
 pub data Follows (W X : List ℕ) (base marks lo hi w i : ℕ) : Bracket → Walked → Type 0 where
   on : {a : Reached} {t : Open} → Standing W X base marks lo hi (a .depth) (a .write) t → a .depth ≡ depthOf t → a .write ≤ w + 1 → a .index ≡ i
       → Follows W X base marks lo hi w i (On a) (going t)
-  ends : {m : Mismatch} {ms : List Message} → Tells W (Mismatched m) ms → Follows W X base marks lo hi w i (Differs m) (mismatch ms)
+  ends : {m : Mismatch} {ms : List Message} → TellsMismatch W m ms → Follows W X base marks lo hi w i (Differs m) (mismatch ms)
 
 -- A closer where a section is open: no word changes but those of the list's own slots.
 pub record Closed (W : List ℕ) (base marks write depth index item : ℕ) (r : Bracket) (W' : List ℕ) : Type 0 where

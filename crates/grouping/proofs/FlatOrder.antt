@@ -28,14 +28,13 @@ use Rattle.nodes.specs.Store.{wd, TokenAt, Seg, RepF, ends, more}
 use Rattle.nodes.specs.Slots.{opAt}
 use Rattle.nodes.proofs.Store.{reserve-pos, rep-count}
 use Rattle.nodes.proofs.Tokens.{token-op}
-use Rattle.walks.specs.Failures as failures
 use Rattle.walks.specs.Grouped.{tells, notEnded, withoutTokens, StandsFor}
 use Rattle.walks.specs.Grouped as stands
 use Rattle.walks.specs.declared.failure.Failure.the-variants.{ComplexMustEndWithSemicolon, ComplexWithoutTokens}
 use Rattle.walks.specs.declared.grouped.Grouped.the-variants.{Failed}
 use Rattle.order.specs.Places.{usedBy}
 use Rattle.order.proofs.Running.{failed as failing, next, run-first, skip-first}
-use Rattle.flat.specs.Flat.{Tells, leading, differing, unclosed, Answers, CanJoin, Joined, CanSection}
+use Rattle.flat.specs.Flat.{FlatTells, failed, mismatched, unclosed, Answers, CanJoin, Joined, CanSection}
 use Rattle.flat.specs.Flat as pass
 use Rattle.grouping.specs.Group.{CanGroup, FlatTo, ifRun, EndsTo, ended, unended, EndsRight, JoinedIf, SectionedIf, Flattened}
 use Rattle.flat.specs.declared.sections.Flat.{Flat as Left}
@@ -284,10 +283,10 @@ joined-items {W} {W'} {base} {n} {used = used} r e w = subst (λ (x : Left). Joi
 
 -- a failure of a flat pass, told of the reading
 module _ (W : List ℕ) (base n l : ℕ) (u : ℕ → Bool) (ps : List Pass) where
-  told-to : {r : Left} {ms : List Message} → Tells W r ms → FlatTo W base n l u ps (messages ms) r
-  told-to (leading t) = stands.failed (tells (failures.leadingMemberAccessor t))
-  told-to (differing a b c) = stands.mismatched a b c
-  told-to (unclosed a b) = stands.unclosed a b
+  told-to : {r : Left} {ms : List Message} → FlatTells W r ms → FlatTo W base n l u ps (messages ms) r
+  told-to (failed t) = stands.failed (tells t)
+  told-to (mismatched t) = stands.mismatched t
+  told-to (unclosed t) = stands.unclosed t
 
   fails-to : {answer : Answer} (r : Left) → Fallen r → (x : Result) → ((ms : List Message) → x ≡ fail ms → answer ≡ messages ms) → (m : ℕ)
       → Answers W (0 ∷ []) base 3 (3 * n + 3) m x r → FlatTo W base n l u ps answer r

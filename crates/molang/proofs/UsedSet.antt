@@ -2,12 +2,12 @@
 -- operators up to 110 is one, in two halves.
 use Prim.Native.Nat.{ℕ, zero, suc, _+_, _*_, _/_, _%_, _^_, _≤_, _<_}
 use mathlib.Core.Path.{_≡_, refl, ap, sym, _∙_}
-use mathlib.Core.Bool.{Bool, true, false, false≢true}
+use mathlib.Core.Bool.{Bool, true, false, _&&_, false≢true}
 use native.Mathlib.Nat.{div-one}
 use native.Mathlib.Omega.{arith}
-use lib.Dec.{eqb}
+use lib.Dec.{eqb, ltb, leb·zero, leb·suc-zero, leb·suc-suc}
 use lib.Pow.{shr-shr, shr-le, shr-lt, split}
-use borrow.Author.Tests.{eqb-false, eq-eqb, ne-eqb}
+use borrow.Author.Tests.{eqb-false, eq-eqb, ne-eqb, leb-false}
 use Rattle.molang.specs.Read.{setNumber}
 use Rattle.molang.specs.Parse.{inHalves}
 
@@ -28,7 +28,7 @@ used-few low high h =
     let gone : u / 2 ^ (111 + j) % 2 ≡ 0 = omega arith in ap (λ (m : ℕ). m % 2) (shr-shr u 111 j) ∙ gone) in
     omega arith
 
--- The bits of a set's number.
+-- The bits of a set's number: those of the set below n, and no others.
 last-bit : (x : ℕ) (b : Bool) → eqb ((x * 2 + elim b [ true ↦ 1 | false ↦ 0 ]) / 2 ^ 0 % 2) 1 ≡ b
 last-bit x true = eq-eqb ((x * 2 + 1) / 2 ^ 0 % 2) 1 (omega arith)
 last-bit x false = ne-eqb ((x * 2 + 0) / 2 ^ 0 % 2) 1 (λ e. omega arith)
@@ -37,16 +37,24 @@ other-bits : (x : ℕ) (b : Bool) → (x * 2 + elim b [ true ↦ 1 | false ↦ 0
 other-bits x true = omega arith
 other-bits x false = omega arith
 
-set-bits : (f : ℕ → Bool) (n : ℕ) → ((m : ℕ) → n ≤ m → f m ≡ false) → (m : ℕ) → eqb (setNumber f n / 2 ^ m % 2) 1 ≡ f m
+pub number-bits : (f : ℕ → Bool) (n m : ℕ) → eqb (setNumber f n / 2 ^ m % 2) 1 ≡ (ltb m n && f m)
 unfolding setNumber
-set-bits f zero h m = ne-eqb (0 / 2 ^ m % 2) 1 (λ e. omega (arith, shr-le 0 m)) ∙ sym (h m (omega arith))
-set-bits f (suc n) h zero = last-bit (setNumber (λ m. f (suc m)) n) (f 0)
-set-bits f (suc n) h (suc m) =
+number-bits f zero m = rw (leb·suc-zero m) (ne-eqb (0 / 2 ^ m % 2) 1 (λ e. omega (arith, shr-le 0 m)))
+number-bits f (suc n) zero = rw (leb·suc-suc 0 n, leb·zero n) (last-bit (setNumber (λ m. f (suc m)) n) (f 0))
+number-bits f (suc n) (suc m) =
     let x = setNumber f (suc n) in
     let next : suc m ≡ 1 + m = omega arith in
-    ap (λ (q : ℕ). eqb (q % 2) 1)
+    rw (leb·suc-suc (suc m) n)
+    (ap (λ (q : ℕ). eqb (q % 2) 1)
     (ap (λ (j : ℕ). x / 2 ^ j) next ∙ sym (shr-shr x 1 m) ∙ ap (λ (q : ℕ). q / 2 ^ m) (other-bits (setNumber (λ m. f (suc m)) n) (f 0)))
-    ∙ set-bits (λ m. f (suc m)) n (λ m b. h (suc m) (omega arith)) m
+    ∙ number-bits (λ m. f (suc m)) n m)
+
+set-bits : (f : ℕ → Bool) (n : ℕ) → ((m : ℕ) → n ≤ m → f m ≡ false) → (m : ℕ) → eqb (setNumber f n / 2 ^ m % 2) 1 ≡ f m
+set-bits f n h m = number-bits f n m ∙ below (ltb m n) refl
+  where
+    below : (b : Bool) → ltb m n ≡ b → (b && f m) ≡ f m
+    below true e = refl
+    below false e = sym (h m (omega (arith, leb-false (suc m) n e)))
 
 -- In two halves too.
 pub halves-exact : (f : ℕ → Bool) → ((m : ℕ) → 111 ≤ m → f m ≡ false)

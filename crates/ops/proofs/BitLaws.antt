@@ -7,12 +7,14 @@ use native.Mathlib.Nat.{div-one, zero-div, pow-suc, div-lt-iff-lt-mul}
 use native.Mathlib.Numerals.{one-add}
 use native.Mathlib.Omega.{arith}
 use lib.Arith.{digits-mod}
-use lib.Dec.{eqb, ltb, leb·zero, leb·suc-zero, leb·suc-suc, eqb·suc-zero, lit<}
+use lib.Dec.{eqb, ltb, eqb·suc-zero, lit<}
 use lib.Pow.{shr-shr}
 use lib.Bits.{bitAnd, bitOr, and-shr, or-shr, and-step, or-step}
 use borrow.Author.Tests.{ne-eqb}
 use Rattle.molang.specs.Order.{someBelow}
-use Rattle.ops.specs.Classes.{bitAt, bit, bitsOf}
+use Rattle.molang.specs.Read.{setNumber}
+use Rattle.molang.proofs.UsedSet.{number-bits}
+use Rattle.ops.specs.Classes.{bitAt}
 
 pub bit-low : (w : ℕ) → bitAt w 0 ≡ eqb (w % 2) 1
 unfolding bitAt
@@ -61,25 +63,9 @@ bit-or a b i =
     rw (or-shr a b i, or-digit (a / 2 ^ i) (b / 2 ^ i)) (max-test (a / 2 ^ i % 2) (b / 2 ^ i % 2) (omega arith) (omega arith))
 
 -- A number by its bits.
-bit-test : (b : Bool) → eqb (bit b) 1 ≡ b
-unfolding bit
-bit-test true = refl
-bit-test false = refl
-
-bit-small : (b : Bool) → bit b < 2
-unfolding bit
-bit-small true = lit< tt
-bit-small false = lit< tt
-
-pub bits-of : (k : ℕ) (f : ℕ → Bool) (i : ℕ) → bitAt (bitsOf k f) i ≡ (ltb i k && f i)
-unfolding bitsOf
-bits-of zero f i = rw (leb·suc-zero i) (bit-zero i)
-bits-of (suc k) f zero =
-    let low : (2 * bitsOf k (λ j. f (suc j)) + bit (f 0)) % 2 ≡ bit (f 0) = omega (arith, bit-small (f 0)) in
-    rw (bit-low (2 * bitsOf k (λ j. f (suc j)) + bit (f 0)), low, leb·suc-suc 0 k, leb·zero k) (bit-test (f 0))
-bits-of (suc k) f (suc i) =
-    let up : (2 * bitsOf k (λ j. f (suc j)) + bit (f 0)) / 2 ≡ bitsOf k (λ j. f (suc j)) = omega (arith, bit-small (f 0)) in
-    rw (bit-up (2 * bitsOf k (λ j. f (suc j)) + bit (f 0)) i, up, leb·suc-suc (suc i) k) (bits-of k (λ j. f (suc j)) i)
+pub bits-of : (f : ℕ → Bool) (k i : ℕ) → bitAt (setNumber f k) i ≡ (ltb i k && f i)
+unfolding bitAt
+bits-of f k i = number-bits f k i
 
 -- Two tests that agree below k.
 pub some-same : (k : ℕ) (f g : ℕ → Bool) → ((i : ℕ) → i < k → f i ≡ g i) → someBelow k f ≡ someBelow k g

@@ -11,7 +11,8 @@ use lib.ListN.{getD, drop, List·getD-eq-default}
 use borrow.Author.Tests.{le-leb, lt-leb, lt-ltb, le-ltb, ltb-true, ltb-false, ne-eqb}
 use Rattle.molang.specs.Operator.{any, isOneOf, isQueryOrLoop}
 use Rattle.ops.specs.Classes.{passClasses, ownClasses, inClass, bitAt, meets, upTo, classWord, classTable, entryOf, ownWord}
-use Rattle.ops.proofs.OperatorLaws.{agree, agree-at, no-math}
+use Rattle.molang.proofs.RoundTrip.Role.{no-math}
+use Rattle.ops.proofs.OperatorLaws.{agree, agree-at}
 use Rattle.ops.proofs.BitLaws.{bit-zero, bits-of}
 
 -- ---- No class but the 25, and no operator above 110
@@ -75,7 +76,7 @@ own-class i n high = rw (class-below i n high, le-leb 22 i (omega arith))
 
 own-bits : (n i : ℕ) → bitAt (ownWord n) i ≡ (leb 22 i && inClass i n)
 unfolding ownWord
-own-bits n i = bits-of 25 (λ i. leb 22 i && inClass i n) i ∙ bounded 25 i (leb 22 i && inClass i n) (own-class i n)
+own-bits n i = bits-of (λ i. leb 22 i && inClass i n) 25 i ∙ bounded 25 i (leb 22 i && inClass i n) (own-class i n)
 
 halves : (i : ℕ) (b : Bool) → (ltb i 22 && b || leb 22 i && b) ≡ b
 halves i b = go (ltb i 22) refl
@@ -99,7 +100,7 @@ unfolding entryOf classTable classWord
 entry-bits n i = go (ltb n 111) refl
   where
     go : (t : Bool) → ltb n 111 ≡ t → bitAt (elim t [ true ↦ getD classTable n 0 | false ↦ 0 ]) i ≡ (ltb i 22 && inClass i n)
-    go true e = rw (up-to 111 classWord n (ltb-true n 111 e)) (bits-of 22 (λ i. inClass i n) i)
+    go true e = rw (up-to 111 classWord n (ltb-true n 111 e)) (bits-of (λ i. inClass i n) 22 i)
     go false e = rw (bit-zero i, no-class i n (ltb-false n 111 e), and-false (ltb i 22))
 
 -- The classes of driver.rs and the own ones together: every class that the operator is in.

@@ -12,7 +12,6 @@ use lib.Dec.{T, eqb}
 use types.Run.{OneOf}
 use borrow.Author.Tests.{eq-eqb, ne-eqb}
 use Rattle.molang.specs.Operator.{leftBrace, rightBrace, leftBracket, leftParenthesis, negate, logicalNot, add, div, mul, lessThan, lessEqual, greaterEqual, greaterThan, logicalEqual, logicalNotEqual, logicalOr, logicalAnd, nullCoalescing, conditional, conditionalElse, loop, forEach, break, continue, assignment, semicolon, return, comma, expressionArray, any, isOneOf, closingOf, BeforeMinus, operand, operator, minus, unknown, beforeMinus}
-pub use Rattle.molang.proofs.RoundTrip.Role.{no-math}
 
 -- The test passes at the k numbers from lo on.
 abbrev pub passes : (ℕ → Bool) → ℕ → ℕ → Bool

@@ -1,6 +1,6 @@
 -- Token classes: which operators are in each (`class` of driver.rs, and three classes that the code adds), the numbers whose bits
 -- are sets of classes, and the table of the classes of each operator.
-use Prim.Native.Nat.{ℕ, zero, suc, _+_, _*_, _/_, _%_, _^_}
+use Prim.Native.Nat.{ℕ, zero, suc, _/_, _%_, _^_}
 use mathlib.Core.Bool.{Bool, true, false, _&&_}
 use mathlib.Core.List.{List, [], _∷_, _++_}
 use lib.Dec.{eqb, leb, ltb}
@@ -8,6 +8,7 @@ use lib.ListN.{getD}
 use Rattle.molang.specs.Operator
 use Rattle.molang.specs.Operator.{isOneOf, isMathCall, isQueryOrLoop}
 use Rattle.molang.specs.Order.{someBelow}
+use Rattle.molang.specs.Read.{setNumber}
 
 -- The classes of driver.rs, from class 0 on: one for each group of operators that one pass folds. The unary pass turns a binary `-`
 -- into `+`, which is why `-` is in the class of `+` too.
@@ -61,15 +62,6 @@ shares v w = someBelow 32 (λ i. bitAt v i && bitAt w i)
 unfoldable pub meets : ℕ → ℕ → Bool
 meets w n = someBelow 32 (λ i. bitAt w i && inClass i n)
 
-unfoldable pub bit : Bool → ℕ
-bit true = 1
-bit false = 0
-
--- The number whose bits below k are f.
-unfoldable pub bitsOf : ℕ → (ℕ → Bool) → ℕ
-bitsOf zero f = 0
-bitsOf (suc k) f = 2 * bitsOf k (λ i. f (suc i)) + bit (f 0)
-
 -- f at each number below k.
 unfoldable pub upTo : ℕ → (ℕ → ℕ) → List ℕ
 upTo zero f = []
@@ -77,7 +69,7 @@ upTo (suc k) f = f 0 ∷ upTo k (λ i. f (suc i))
 
 -- The classes of driver.rs that the operator n is in.
 unfoldable pub classWord : ℕ → ℕ
-classWord n = bitsOf 22 (λ i. inClass i n)
+classWord n = setNumber (λ i. inClass i n) 22
 
 -- THE CLASS TABLE: those of each operator number.
 unfoldable pub classTable : List ℕ
@@ -89,4 +81,4 @@ entryOf table n = elim (ltb n 111) [ true ↦ getD table n 0 | false ↦ 0 ]
 
 -- Those of classes 22 to 24 that the operator n is in.
 unfoldable pub ownWord : ℕ → ℕ
-ownWord n = bitsOf 25 (λ i. leb 22 i && inClass i n)
+ownWord n = setNumber (λ i. leb 22 i && inClass i n) 25

@@ -15,6 +15,7 @@ use Rattle.words.proofs.RecordLaws.{laid-front}
 use Rattle.nodes.specs.Store.{wd}
 use Rattle.buffers.specs.Emit.{Linked, CanLayOut, LaidOut}
 use Rattle.buffers.proofs.Linking.{owned-linked, linked-nil, linked-none, linked-open}
+use Rattle.walks.specs.Failures as failures
 use Rattle.walks.specs.Grouped.{StandsFor, roots, failed, mismatched, unclosed, pointerFailed}
 use Rattle.walks.specs.declared.failure.Failure.{Failure}
 use Rattle.walks.specs.declared.failure.Mismatch.{Mismatch}
@@ -171,11 +172,11 @@ module _ (W buffer m m' : List ℕ) (n sourceLength : ℕ) where
   mismatch-filled {k} u = record { holds = go }
     where
       go : (a : reading.Answer) → StandsFor W (3 * n + 3) n sourceLength (Mismatched k) a → FilledAs buffer m (Messages 2) buffer m' a
-      go a (mismatched s t w) = record { tells = refl; tree = refl; records = u .records (3 * n + 3) n _ (mismatched {m = k} s t w) }
+      go a (mismatched (failures.mismatched s t w)) = record { tells = refl; tree = refl; records = u .records (3 * n + 3) n _ (mismatched {m = k} (failures.mismatched s t w)) }
 
   pub unclosed-filled : {k : Unclosed} → Reported W m sourceLength (Unclosing k) m' → Filled W buffer m n sourceLength (Unclosing k) (Messages 2) buffer m'
   unfolding told treeIn
   unclosed-filled {k} u = record { holds = go }
     where
       go : (a : reading.Answer) → StandsFor W (3 * n + 3) n sourceLength (Unclosing k) a → FilledAs buffer m (Messages 2) buffer m' a
-      go a (unclosed s t) = record { tells = refl; tree = refl; records = u .records (3 * n + 3) n _ (unclosed {u = k} s t) }
+      go a (unclosed (failures.unclosed s t)) = record { tells = refl; tree = refl; records = u .records (3 * n + 3) n _ (unclosed {u = k} (failures.unclosed s t)) }

@@ -10,7 +10,7 @@ use lib.ListN.{length, List·getD-eq-default}
 use borrow.Author.Tests.{eq-eqb, ne-eqb, leb-true, leb-false}
 use Rattle.molang.specs.Operator.{closingOf}
 use Rattle.molang.specs.Forest.{Token}
-use Rattle.molang.specs.Message.{Message, messageRecord, hostMath, hostValue, closer, record8, about}
+use Rattle.molang.specs.Message.{Message, messageRecord, hostMathVariant, hostValue, closer, record8, about}
 use Rattle.molang.specs.Words.{word, lowOf}
 use Rattle.molang.specs.Parse.{recordWords}
 use Rattle.words.specs.Fields.{variantOf, valueOf, halfOf}
@@ -40,14 +40,14 @@ named-at W e h = subst (λ (f : Failure). Named W f) e h
 
 -- ---- a slot's host value
 
-pub no-host : (W : List ℕ) (s v : ℕ) → v ≡ variantOf (wd W (8 * s)) → (v ≡ hostMath → ⊥) → _≡_ {A = ℕ} 0 (hostAt W s)
+pub no-host : (W : List ℕ) (s v : ℕ) → v ≡ variantOf (wd W (8 * s)) → (v ≡ hostMathVariant → ⊥) → _≡_ {A = ℕ} 0 (hostAt W s)
 unfolding hostAt
-no-host W s v e h = rw (hostAt, ne-eqb (variantOf (wd W (8 * s))) hostMath (λ z. h (e ∙ z)))
+no-host W s v e h = rw (hostAt, ne-eqb (variantOf (wd W (8 * s))) hostMathVariant (λ z. h (e ∙ z)))
 
-pub a-host : (W : List ℕ) (s v r a b : ℕ) → v ≡ variantOf (wd W (8 * s)) → v ≡ hostMath → r ≡ valueOf a b → a ≡ wd W (8 * s + 3) → b ≡ wd W (8 * s + 4)
+pub a-host : (W : List ℕ) (s v r a b : ℕ) → v ≡ variantOf (wd W (8 * s)) → v ≡ hostMathVariant → r ≡ valueOf a b → a ≡ wd W (8 * s + 3) → b ≡ wd W (8 * s + 4)
     → r ≡ hostAt W s
 unfolding hostAt
-a-host W s v r a b e h f x y = rw (hostAt, eq-eqb (variantOf (wd W (8 * s))) hostMath (sym e ∙ h)) (f ∙ ap₂ valueOf x y)
+a-host W s v r a b e h f x y = rw (hostAt, eq-eqb (variantOf (wd W (8 * s))) hostMathVariant (sym e ∙ h)) (f ∙ ap₂ valueOf x y)
 
 -- ---- a slot's token
 
@@ -73,7 +73,7 @@ module _ {W : List ℕ} {s : ℕ} {k : Token} (t : TokenAt W s k) where
 
   host-token : hostAt W s ≡ hostValue k
   unfolding hostAt hostValue
-  host-token = λ i. elim (eqb (token-variant i) hostMath) [ true ↦ token-value i | false ↦ 0 ]
+  host-token = λ i. elim (eqb (token-variant i) hostMathVariant) [ true ↦ token-value i | false ↦ 0 ]
 
   pub closer-token : closerAt W s ≡ closer k
   unfolding closer

@@ -15,6 +15,7 @@ use Rattle.words.specs.declared.records.Record.{Record}
 use Rattle.words.proofs.RecordLaws.{laid-front, laid-after}
 use Rattle.nodes.specs.Store.{TokenAt}
 use Rattle.nodes.proofs.Tokens.{token-op, token-start, token-end}
+use Rattle.walks.specs.Failures as failures
 use Rattle.walks.specs.Grouped.{tells, StandsFor, failed, mismatched, unclosed, pointerFailed}
 use Rattle.walks.specs.declared.failure.Failure.{Failure}
 use Rattle.walks.specs.declared.failure.Mismatch.{Mismatch}
@@ -103,7 +104,7 @@ pub mismatch-slots : {W l : List ℕ} {sourceLength : ℕ} {m : Mismatch} → Ca
 mismatch-slots {W} {l} {sourceLength} {m} p = go (p .stands)
   where
     go : {hi n : ℕ} {a : Answer} → StandsFor W hi n sourceLength (Mismatched m) a → Within W (m .opener) × Within W (m .closer) × Within W (m .outer)
-    go (mismatched t u v) = (slot-within t (p .whole), slot-within u (p .whole), slot-within v (p .whole))
+    go (mismatched (failures.mismatched t u v)) = (slot-within t (p .whole), slot-within u (p .whole), slot-within v (p .whole))
 
 mismatch-words : {W : List ℕ} (m : Mismatch) {o k : Token} → TokenAt W (m .opener) o → TokenAt W (m .closer) k
     → wordsOf (mismatchRecord W m) ≡ messageRecord (closingMismatch o (m .start) k (m .index))
@@ -116,14 +117,14 @@ unfolding messagesIn
 mismatch-reported W l l' l'' m r q e g f h sourceLength = record { records = go }
   where
     go : (hi n : ℕ) (a : Answer) → StandsFor W hi n sourceLength (Mismatched m) a → l'' ≡ messagesIn none a l
-    go hi n a (mismatched {o = o} {k = k} t u v) =
+    go hi n a (mismatched (failures.mismatched {o = o} {k = k} t u v)) =
         two-reported W l l' l'' r q (m .outer) (closingMismatch o (m .start) k (m .index)) e f (ap wordsOf g ∙ mismatch-words m t u) h v
 
 pub unclosed-slots : {W l : List ℕ} {sourceLength : ℕ} {u : Unclosed} → CanReport W l sourceLength (Unclosing u) → Within W (u .inner) × Within W (u .outer)
 unclosed-slots {W} {l} {sourceLength} {u} p = go (p .stands)
   where
     go : {hi n : ℕ} {a : Answer} → StandsFor W hi n sourceLength (Unclosing u) a → Within W (u .inner) × Within W (u .outer)
-    go (unclosed t v) = (slot-within t (p .whole), slot-within v (p .whole))
+    go (unclosed (failures.unclosed t v)) = (slot-within t (p .whole), slot-within v (p .whole))
 
 unclosed-words : {W : List ℕ} (u : Unclosed) {o : Token} → TokenAt W (u .inner) o → wordsOf (unclosedRecord W u) ≡ messageRecord (noClosingSymbol o (u .start))
 unfolding wordsOf messageRecord record8
@@ -135,5 +136,5 @@ unfolding messagesIn
 unclosed-reported W l l' l'' u r q e g f h sourceLength = record { records = go }
   where
     go : (hi n : ℕ) (a : Answer) → StandsFor W hi n sourceLength (Unclosing u) a → l'' ≡ messagesIn none a l
-    go hi n a (unclosed {o = o} t v) =
+    go hi n a (unclosed (failures.unclosed {o = o} t v)) =
         two-reported W l l' l'' r q (u .outer) (noClosingSymbol o (u .start)) e f (ap wordsOf g ∙ unclosed-words u t) h v

@@ -6,7 +6,7 @@ use mathlib.Core.Option.{Option·getD}
 use lib.Dec.{eqb}
 use lib.ListN.{length}
 use Rattle.molang.specs.Operator.{closingOf}
-use Rattle.molang.specs.Message.{hostMath}
+use Rattle.molang.specs.Message.{hostMathVariant}
 use Rattle.words.specs.Fields.{variantOf, valueOf}
 use Rattle.words.specs.Records.{unnamed, withFirst, withLast}
 use Rattle.words.specs.declared.records.Record.{Record}
@@ -31,7 +31,7 @@ nameRecord W number from to named = withFirst (spanRecord W number from to) (opA
 
 -- The payload value of a host math function, else 0.
 unfoldable pub hostAt : List ℕ → ℕ → ℕ
-hostAt W s = elim (eqb (variantOf (wd W (8 * s))) hostMath) [ true ↦ valueOf (wd W (8 * s + 3)) (wd W (8 * s + 4)) | false ↦ 0 ]
+hostAt W s = elim (eqb (variantOf (wd W (8 * s))) hostMathVariant) [ true ↦ valueOf (wd W (8 * s + 3)) (wd W (8 * s + 4)) | false ↦ 0 ]
 
 -- A math function's, naming it and its host value.
 abbrev pub mathRecord : List ℕ → ℕ → ℕ → Record

@@ -3,10 +3,10 @@
 use Prim.Native.Nat.{ℕ, _*_, _≤_}
 use mathlib.Core.List.{List, [], _∷_, _++_}
 use Rattle.molang.specs.Forest.{Token, Forest, size}
-use Rattle.molang.specs.Message.{Message, multipleRoots, complexMustEndWithSemicolon, closingMismatch, sectionNotClosed, noClosingSymbol}
+use Rattle.molang.specs.Message.{Message, multipleRoots, complexMustEndWithSemicolon}
 use Rattle.molang.specs.Read.{Answer, messages, rooted}
 use Rattle.nodes.specs.Store.{TokenAt, Owned}
-use Rattle.walks.specs.Failures.{Tells}
+use Rattle.walks.specs.Failures.{Tells, TellsMismatch, TellsUnclosed}
 use Rattle.walks.specs.declared.failure.Failure.{Failure}
 use Rattle.walks.specs.declared.failure.Failure.the-variants.{ComplexMustEndWithSemicolon, ComplexWithoutTokens}
 use Rattle.walks.specs.declared.failure.Mismatch.{Mismatch}
@@ -25,9 +25,7 @@ pub data Says (W : List ℕ) (sourceLength : ℕ) : Failure → List Message →
 pub data StandsFor (W : List ℕ) (hi n sourceLength : ℕ) : Grouped → Answer → Type 0 where
   roots : {f : Forest} → Owned W [] 0 0 hi f → size f ≤ 3 * n → StandsFor W hi n sourceLength Roots (rooted sourceLength [] f)
   failed : {f : Failure} {ms : List Message} → Says W sourceLength f ms → StandsFor W hi n sourceLength (Failed f) (messages ms)
-  mismatched : {m : Mismatch} {o k p : Token} → TokenAt W (m .opener) o → TokenAt W (m .closer) k → TokenAt W (m .outer) p
-      → StandsFor W hi n sourceLength (Mismatched m) (messages (closingMismatch o (m .start) k (m .index) ∷ sectionNotClosed p ∷ []))
-  unclosed : {u : Unclosed} {o p : Token} → TokenAt W (u .inner) o → TokenAt W (u .outer) p
-      → StandsFor W hi n sourceLength (Unclosing u) (messages (noClosingSymbol o (u .start) ∷ sectionNotClosed p ∷ []))
+  mismatched : {m : Mismatch} {ms : List Message} → TellsMismatch W m ms → StandsFor W hi n sourceLength (Mismatched m) (messages ms)
+  unclosed : {u : Unclosed} {ms : List Message} → TellsUnclosed W u ms → StandsFor W hi n sourceLength (Unclosing u) (messages ms)
   pointerFailed : {f : Failure} {ms : List Message} → Tells W f ms
       → StandsFor W hi n sourceLength (PointerFailed f) (messages (ms ++ (multipleRoots 0 sourceLength 0 ∷ [])))

@@ -13,7 +13,8 @@ use lib.Dec.{T, eqb, leb}
 use lib.ListN.{length, getD, drop, drop-of-length-le, set, length-set, length-drop}
 use lib.Seq.{getD-set-same, getD-set-other, getD-drop, drop-drop}
 use borrow.Author.Tests.{eqb-true, ne-eqb, leb-true, leb-false}
-use Rattle.ops.proofs.OperatorLaws.{passes-at, no-math}
+use Rattle.molang.proofs.RoundTrip.Role.{no-math}
+use Rattle.ops.proofs.OperatorLaws.{passes-at}
 use Rattle.molang.specs.Operator
 use Rattle.molang.specs.Operator.{between, isMathCall, isBracket}
 use Rattle.molang.specs.Forest.{Token, Forest, nil, node, count, size}

@@ -1,9 +1,8 @@
 -- The words that writing lays into the list, and the part of the tree words that a tree fills.
 use Prim.Native.Nat.{ℕ, suc, _+_, _%_, _^_, _≤_}
 use mathlib.Core.Path.{_≡_}
-use mathlib.Core.Bool.{not}
 use mathlib.Core.List.{List, [], _∷_}
-use mathlib.Core.Bool.{true, false}
+use mathlib.Core.Bool.{true, false, not}
 use lib.ListN.{length, getD}
 use Rattle.molang.specs.Forest.{Token, Forest, nil, node, count, size}
 use Rattle.molang.specs.Operator

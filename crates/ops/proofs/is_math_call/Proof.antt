@@ -3,7 +3,8 @@ use mathlib.Core.Path.{sym}
 use native.Mathlib.Omega.{arith}
 use borrow.Author.Tests.{ne-eqb, lt-leb}
 use Rattle.molang.specs.Operator.{between, isMathCall}
-use Rattle.ops.proofs.OperatorLaws.{true-at, false-at, no-math}
+use Rattle.molang.proofs.RoundTrip.Role.{no-math}
+use Rattle.ops.proofs.OperatorLaws.{true-at, false-at}
 use Rattle.ops.proofs.is_math_call.Statement.{statement}
 use Rattle.ops.proofs.is_math_call.Tie as tie
 

@@ -2,12 +2,13 @@
 -- Assumes nothing.
 use mathlib.Core.Path.{refl}
 use Rattle.molang.specs.Operator.{any, isOneOf, between, isMathCall, isQueryOrLoop}
-use Rattle.ops.specs.Classes.{passClasses, ownClasses, inClass, bit, bitsOf, upTo, classWord, classTable}
+use Rattle.molang.specs.Read.{setNumber}
+use Rattle.ops.specs.Classes.{passClasses, ownClasses, inClass, upTo, classWord, classTable}
 use Rattle.ops.proofs.classes.class_table.Statement.{statement}
 use Rattle.ops.proofs.classes.class_table.Tie as tie
 
 returns : tie.Need-returns
-unfolding any isOneOf between isMathCall isQueryOrLoop passClasses ownClasses inClass bit bitsOf upTo classWord classTable
+unfolding any isOneOf between isMathCall isQueryOrLoop passClasses ownClasses inClass setNumber upTo classWord classTable
 returns c = refl
 
 pub class-table-spec : {M : Type 1} → statement M
