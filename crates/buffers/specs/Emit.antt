@@ -26,11 +26,13 @@ abbrev pub nodeWords : List ℕ → ℕ → ℕ → List ℕ
 nodeWords W s n =
     wd W (8 * s) ∷ wd W (8 * s + 1) ∷ wd W (8 * s + 2) ∷ wd W (8 * s + 3) ∷ wd W (8 * s + 4) ∷ word 6 (n % 2 ^ 14) ∷ []
 
+-- The slot s lies below the word `at`, from which on six words are free; its children are a chain.
 pub record CanEmitNode (W : List ℕ) (s at : ℕ) : Type 0 where
   pub below : 8 * s + 8 ≤ at
   pub room : at + 6 ≤ length W
   pub children : CanFollow W (wd W (8 * s + 5))
 
+-- The node's words stand from `at` on; all other words are as they were.
 pub record NodeEmitted (W : List ℕ) (s at : ℕ) (W' : List ℕ) : Type 0 where
   pub words : (cs : List ℕ) → Chain W (wd W (8 * s + 5)) cs → Seg W' at (nodeWords W s (length cs))
   pub same : (j : ℕ) → (j < at) ⊎ (at + 6 ≤ j) → wd W' j ≡ wd W j

@@ -25,6 +25,7 @@ pub record LeafAt (list W : List ℕ) (i : ℕ) : Type 0 where
 
 -- ---- `load_token`
 
+-- The list has token i; its slot lies below the stack, which has a word for it; the table is that of the classes.
 pub record CanLoadToken (list W table : List ℕ) (i stack : ℕ) : Type 0 where
   pub classes : table ≡ classTable
   pub few : i < mostTokens
@@ -32,6 +33,7 @@ pub record CanLoadToken (list W table : List ℕ) (i stack : ℕ) : Type 0 where
   pub below : 24 * i + 32 ≤ stack
   pub room : stack + i < length W
 
+-- Token i stands as a leaf, its slot on the stack; all other words are as they were.
 pub record TokenLoaded (list W : List ℕ) (i stack : ℕ) (W' : List ℕ) : Type 0 where
   pub leaf : LeafAt list W' i
   pub slot : wd W' (stack + i) ≡ 3 * i + 3

@@ -45,6 +45,7 @@ pub record Fails (W : List ℕ) (answer : Result) (r : Flat) : Type 0 where
   pub is : answer ≡ fail messages
   pub told : FlatTells W r messages
 
+-- What a flat pass left is the definition's answer: the list in m words, or the messages of a failure.
 abbrev pub Answers : List ℕ → List ℕ → ℕ → ℕ → ℕ → ℕ → Result → Flat → Type 0
 Answers W X base lo hi n answer (Done m) = Stands W X base lo hi n answer m
 Answers W X base lo hi n answer (Fail f) = Fails W answer (Fail f)
@@ -63,6 +64,7 @@ pub record CanJoin (W : List ℕ) (base n : ℕ) : Type 0 where
   pub below : 8 * hi ≤ base
   pub room : base + n ≤ length W
 
+-- What `members` left is the definition's `members` over the tokens.
 pub record Joined (W : List ℕ) (base n : ℕ) (r : Flat) (W' : List ℕ) : Type 0 where
   pub answer : (g : CanJoin W base n) → Answers W' (g .X) base (g .lo) (g .hi) n (members nil (leaves (g .ks))) r
   pub kept : (g : CanJoin W base n) → Kept W W' (g .X) (g .lo) (g .hi) base (base + n)
@@ -96,6 +98,7 @@ pub record WithMember (W X : List ℕ) (base lo hi : ℕ) (k : Token) (d : Fores
   pub is : withMember k d ≡ some e
   pub written : Written W X base lo hi e r
 
+-- The accessor is joined to what is written, as in the definition; r trees are written then.
 pub record Membered (W : List ℕ) (base write item r : ℕ) (W' : List ℕ) : Type 0 where
   pub joined : (g : MemberAt W base write item) → WithMember W' (g .X) base (g .lo) (g .m) (g .k) (g .d) r
   pub more : r ≤ write + 1
@@ -188,6 +191,7 @@ pub record NamedAt (W : List ℕ) (base marks depth : ℕ) : Type 0 where
   pub innermost : base + wd W (marks + 2 * (depth - 1)) < length W
   pub outermost : base + wd W (marks + 2 * 0) < length W
 
+-- u names the innermost and the outermost open section by the slots of their openers, and the innermost by its position too.
 pub record Named (W : List ℕ) (base marks depth : ℕ) (u : Unclosed) : Type 0 where
   pub inner : u .inner ≡ wd W (base + wd W (marks + 2 * (depth - 1)))
   pub start : u .start ≡ wd W (marks + 2 * (depth - 1) + 1)
@@ -208,6 +212,7 @@ pub record CanSection (W : List ℕ) (base n : ℕ) : Type 0 where
   pub room : base + n + 2 * n ≤ length W
   pub small : n + 2 < 2 ^ 32
 
+-- What `sections` left is the definition's `sections` over the list.
 pub record Sectioned (W : List ℕ) (base n : ℕ) (r : Flat) (W' : List ℕ) : Type 0 where
   pub answer : (g : CanSection W base n) → Answers W' (g .X) base (g .lo) (g .hi) n (sections 0 (outside nil) (g .f)) r
   pub kept : (g : CanSection W base n) → Kept W W' (g .X) (g .lo) (g .hi) base (base + n + 2 * n)

@@ -90,6 +90,7 @@ pub record Outermost (W : List ℕ) (base n hi : ℕ) (F : Forest) : Type 0 wher
 
 -- ---- `begin`, `open`
 
+-- The children cs of `owner` are a list of the pass, to begin in the state u; the words from `base` on have room for its items.
 pub record CanOpen (W : List ℕ) (owner base : ℕ) (p : Pass) : Type 0 where
   pub κ : Kind
   pub X : List ℕ
@@ -106,6 +107,7 @@ pub record CanOpen (W : List ℕ) (owner base : ℕ) (p : Pass) : Type 0 where
   pub room : base + count cs ≤ length W
   pub small : length W < 2 ^ 32
 
+-- w is at the beginning of that list, whose items stand from `base` on; all other words are as they were.
 pub record Opened (W : List ℕ) (owner base : ℕ) (p : Pass) (w : Walk) (W' : List ℕ) : Type 0 where
   pub owned : w .list .owner ≡ owner
   pub based : w .list .base ≡ base
@@ -121,6 +123,7 @@ pub record CanBegin (W : List ℕ) (owner base len : ℕ) (p : Pass) : Type 0 wh
   pub opens : CanOpen before owner base p
   pub taken : Taken before (wd before (8 * owner + 5)) base len W
 
+-- w is at the beginning of the owner's list, as `Opened` says it of the words before its children were taken.
 pub record Begun (W : List ℕ) (owner base len : ℕ) (p : Pass) (w : Walk) : Type 0 where
   pub opened : (g : CanBegin W owner base len p) → Opened (g .before) owner base p w W
 
@@ -140,6 +143,7 @@ Keeping Prefix = Unit {0}
 
 -- ---- `descend`
 
+-- The list of w waits for the children cs of `item`, which has some and which begin in the state u; there is room for its frame and for them.
 pub record CanDescend (W : List ℕ) (w : Walk) (item : ℕ) : Type 0 where
   pub κ : Kind
   pub classes : ℕ
@@ -168,12 +172,14 @@ pub record CanDescend (W : List ℕ) (w : Walk) (item : ℕ) : Type 0 where
   pub inner : w .list .base + w .list .len + 6 + 8 * size cs ≤ length W
   pub small : length W < 2 ^ 32
 
+-- The pass is at the beginning of those children, and the list of w is the first that waits below them.
 pub record Descended (W : List ℕ) (w : Walk) (item : ℕ) (w' : Walk) (W' : List ℕ) : Type 0 where
   pub going : (g : CanDescend W w item) → Going (g .κ) (g .classes) W' (g .base0) (g .hi0) w' (held (g .t) (g .k) (g .rest) ∷ g .S) (g .u) (inReading (g .κ) (g .cs))
   pub beyond : (g : CanDescend W w item) → Beyond W W' (g .base0) (g .hi0)
 
 -- ---- `move_down`
 
+-- The n words from `from` on lie in the buffer, and `base` is not above them.
 pub record CanMove (W : List ℕ) (from n base : ℕ) : Type 0 where
   pub down : base ≤ from
   pub within : from + n ≤ length W
@@ -194,6 +200,7 @@ pub data NextTo (κ : Kind) (classes : ℕ) (W' : List ℕ) (base0 hi0 : ℕ) (r
   ends : {f : Forest} {n : ℕ} → r ≡ ok f → Outermost W' base0 n hi0 f → NextTo κ classes W' base0 hi0 r turns (Done n)
   fails : {f : Failure} {ms : List Message} → r ≡ fail ms → Tells W' f ms → NextTo κ classes W' base0 hi0 r turns (Fail f)
 
+-- The pass is somewhere in its lists (`Going`).
 pub record CanAdvance (W : List ℕ) (w : Walk) (base0 : ℕ) : Type 0 where
   pub κ : Kind
   pub classes : ℕ
@@ -203,6 +210,7 @@ pub record CanAdvance (W : List ℕ) (w : Walk) (base0 : ℕ) : Type 0 where
   pub rest : Forest
   pub going : Going κ classes W base0 hi0 w S s rest
 
+-- One turn leads on with the same result and fewer turns left, or to the end of the whole pass.
 pub record Advanced (W : List ℕ) (w : Walk) (base0 : ℕ) (r : Next) (W' : List ℕ) : Type 0 where
   pub to : (g : CanAdvance W w base0)
       → NextTo (g .κ) (g .classes) W' base0 (g .hi0) (unwound (g .κ) (g .S) (work (g .κ) (g .s) (g .rest))) (turnsLeft (g .κ) (g .s) (g .rest) + turnsBelow (g .κ) (g .S)) r
@@ -218,6 +226,7 @@ pub record CanClose (W : List ℕ) (w : Walk) (base0 : ℕ) : Type 0 where
   pub going : Going κ classes W base0 hi0 w S s nil
   pub idle : waits κ s ≡ 0
 
+-- The end of the list on top leads on with the same result, or to the end of the whole pass.
 pub record Closed (W : List ℕ) (w : Walk) (base0 : ℕ) (r : Next) (W' : List ℕ) : Type 0 where
   pub to : (g : CanClose W w base0)
       → NextTo (g .κ) (g .classes) W' base0 (g .hi0) (unwound (g .κ) (g .S) (work (g .κ) (g .s) nil)) (turnsBelow (g .κ) (g .S)) r
@@ -238,10 +247,12 @@ pub record CanRun (W : List ℕ) (base n : ℕ) (p : Pass) : Type 0 where
   pub room : base + 8 * size F ≤ length W
   pub small : length W < 2 ^ 32
 
+-- The pass ran to its end: r is the list, which is the outermost one now, or what a failure tells.
 pub data RanTo (W' : List ℕ) (base hi : ℕ) (r : Result) : Ran → Type 0 where
   done : {f : Forest} {n : ℕ} → r ≡ ok f → Outermost W' base n hi f → RanTo W' base hi r (Through n)
   failed : {f : Failure} {ms : List Message} → r ≡ fail ms → Tells W' f ms → RanTo W' base hi r (Failed f)
 
+-- The definition's pass over the outermost list is what the run came to.
 pub record HasRun (W : List ℕ) (base n : ℕ) (p : Pass) (r : Ran) (W' : List ℕ) : Type 0 where
   pub to : (g : CanRun W base n p) → RanTo W' base (g .hi) (pass (g .κ) (g .F)) r
   pub beyond : (g : CanRun W base n p) → Beyond W W' base (g .hi)

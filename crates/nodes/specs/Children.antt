@@ -85,6 +85,7 @@ pub record CanFollow (W : List ℕ) (first : ℕ) : Type 0 where
 pub record Counted (W : List ℕ) (first n : ℕ) : Type 0 where
   pub count : (cs : List ℕ) → Chain W first cs → n ≡ length cs
 
+-- The last of the slots c and those after it.
 unfoldable pub lastFrom : ℕ → List ℕ → ℕ
 lastFrom c [] = c
 lastFrom c (d ∷ ds) = lastFrom d ds

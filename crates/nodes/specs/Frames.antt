@@ -18,6 +18,7 @@ pub record FrameAt (W : List ℕ) (top : ℕ) (l : WorkList) (h : Held) : Type 0
   pub first-word : wd W (top + 4) ≡ h .first
   pub second-word : wd W (top + 5) ≡ h .second
 
+-- Six words are free above the list, and its numbers fit a word.
 pub record CanPush (W : List ℕ) (l : WorkList) : Type 0 where
   pub room : l .base + l .len + 6 ≤ length W
   pub small : length W < 2 ^ 32

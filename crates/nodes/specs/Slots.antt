@@ -10,18 +10,23 @@ use Rattle.molang.specs.Words.{word, lowOf}
 use Rattle.words.specs.Fields.{operatorOf}
 use Rattle.nodes.specs.Store.{wd}
 
+-- The operator of slot s.
 abbrev pub opAt : List ℕ → ℕ → ℕ
 opAt W s = operatorOf (wd W (8 * s))
 
+-- Its span's start.
 abbrev pub startAt : List ℕ → ℕ → ℕ
 startAt W s = lowOf (wd W (8 * s + 1))
 
+-- Its span's end.
 abbrev pub endAt : List ℕ → ℕ → ℕ
 endAt W s = lowOf (wd W (8 * s + 2))
 
+-- It has no children.
 abbrev pub isLeafAt : List ℕ → ℕ → Bool
 isLeafAt W s = eqb (wd W (8 * s + 5)) 0
 
+-- It is a leaf of this operator.
 abbrev pub isTokenAt : List ℕ → ℕ → ℕ → Bool
 isTokenAt W s op = isLeafAt W s && eqb (opAt W s) op
 

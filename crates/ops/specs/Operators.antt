@@ -12,6 +12,7 @@ use Rattle.ops.specs.declared.BeforeMinus.the-variants.{Operand, Operato
 unfoldable pub isOpener : ℕ → Bool
 isOpener n = elim (closingOf n) [ none ↦ false | some c ↦ true ]
 
+-- What stands before a minus, in the definition's words.
 abbrev pub meant : BeforeMinus → definition.BeforeMinus
 meant Operand = definition.operand
 meant Operator = definition.operator

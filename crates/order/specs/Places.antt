@@ -19,6 +19,7 @@ use Rattle.walks.specs.declared.turns.Pass.the-variants.{Calls, Maths, Plain, A
 use Rattle.order.specs.declared.Choice.{Choice}
 use Rattle.order.specs.declared.Choice.the-variants.{Run, Skip}
 
+-- The set of two halves as the definition takes it.
 abbrev pub usedBy : OpSet → ℕ → Bool
 usedBy set n = inHalves (set .low) (set .high) n
 
@@ -27,6 +28,7 @@ abbrev pub callGate : List ℕ
 callGate =
     Operator.leftBrace ∷ Operator.leftBracket ∷ Operator.leftParenthesis ∷ Operator.queryFunction ∷ Operator.arrayVariable ∷ Operator.semicolon ∷ []
 
+-- Runs the pass from this state on, or skips it.
 abbrev pub choiceIf : Bool → State → Choice
 choiceIf true state = Run state
 choiceIf false state = Skip
@@ -48,25 +50,32 @@ padded zero passes = []
 padded (suc n) [] = none ∷ padded n []
 padded (suc n) (p ∷ passes) = some p ∷ padded n passes
 
+-- Places 0 to 2.
 abbrev pub calling : List (Option Pass)
 calling = padded 3 (callPass ∷ statements ∷ arrays ∷ [])
 
+-- Places 3 to 8.
 abbrev pub arithmetic : List (Option Pass)
 arithmetic =
     padded 6 (pointer ∷ mathCalls ∷ unaryMinusAndNot ∷ binary (Operator.div ∷ []) ∷ binary (Operator.mul ∷ []) ∷ addition ∷ [])
 
+-- Places 9 to 14: six comparisons one at a time, or two levels and four places empty.
 abbrev pub comparing : Bool → List (Option Pass)
 comparing from6 = padded 6 (comparisons from6)
 
+-- Places 15 and 16.
 abbrev pub deciding : Bool → List (Option Pass)
 deciding from6 = padded 2 (logic from6)
 
+-- Places 17 and 18: `:` then `?`, or the ternary fold and an empty place.
 abbrev pub branching : Bool → List (Option Pass)
 branching from5 = padded 2 (conditionals from5)
 
+-- Places 19 to 22.
 abbrev pub last : List (Option Pass)
 last = padded 4 (binary (Operator.nullCoalescing ∷ []) ∷ binary (Operator.comma ∷ []) ∷ binary (Operator.assignment ∷ []) ∷ returns ∷ [])
 
+-- THE 23 PLACES, under a version's rules: the definition's `order` after its three flat passes.
 unfoldable pub places : Rules → List (Option Pass)
 places r = calling ++ (arithmetic ++ (comparing (r .comparisonsFirst) ++ (deciding (r .andFirst) ++ (branching (r .pairsRight) ++ last))))
 

@@ -34,6 +34,7 @@ pub record CanReportTwo (W messages : List ℕ) (g : Grouped) : Type 0 where
   pub sourceLength : ℕ
   pub can : CanReport W messages sourceLength g
 
+-- The answer's two records are the front of the message buffer, whatever the source's length.
 abbrev pub TwoReported : List ℕ → List ℕ → Grouped → List ℕ → Type 0
 TwoReported W messages g messages' = (sourceLength : ℕ) → Reported W messages sourceLength g messages'
 

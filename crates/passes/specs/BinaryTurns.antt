@@ -27,6 +27,7 @@ leftOf W v = wd W (v .base + v .write - 1)
 
 -- ---- `fold`
 
+-- There is a done item; it, q and c are slots within the words, and it is not c.
 pub record CanFold (W : List ℕ) (v : Items) (q c : ℕ) : Type 0 where
   pub some : 0 < v .write
   pub room : v .base + v .write ≤ length W
@@ -43,6 +44,7 @@ pub record Folded (W : List ℕ) (v : Items) (q c : ℕ) (W' : List ℕ) : Type 
 
 -- ---- `first_leaf`
 
+-- A tree stands at the slot `top`, and it notes a class of c.
 pub record CanSearch (W : List ℕ) (top c : ℕ) : Type 0 where
   pub X : List ℕ
   pub a : ℕ
@@ -59,6 +61,7 @@ pub record IsFirst (W : List ℕ) (r : ℕ) (ops : List ℕ) (f : Forest) : Type
   pub first : firstLeaf ops f ≡ some t
   pub token : TokenAt W r t
 
+-- r is the first leaf, at or below `top`, of the operators whose classes c are.
 abbrev pub LeafFound : List ℕ → ℕ → ℕ → ℕ → Type 0
 LeafFound W top c r = (g : CanSearch W top c) (ops : List ℕ) → Exact c (isOneOf ops) → IsFirst W r ops (node (g .k) (g .cs) nil)
 
@@ -71,6 +74,7 @@ pub record CanOperate (W : List ℕ) (v : Items) (b c : ℕ) : Type 0 where
   pub more : v .read < v .len
   pub clean : shares (wd W (8 * leftOf W v + 7)) c ≡ false
 
+-- The right side's children come first, or the operator takes both sides.
 pub data Operated (W : List ℕ) (v : Items) (b : ℕ) (classes : TokenClasses) (r : Turn) (W' : List ℕ) : Type 0 where
   opens : innerAt W (wd W (v .base + v .read)) (classes .0) ≡ true → W' ≡ W
       → r ≡ Enter (walkOf (movedTo v (v .read + 1) (v .write)) (Binary classes b)) (wd W (v .base + v .read)) → Operated W v b classes r W'

@@ -18,6 +18,7 @@ use Rattle.walks.specs.Items.{BackArray, Ahead}
 use Rattle.passes.specs.UnaryTurns.{RightList}
 use Rattle.passes.specs.declared.conditional.Scan.{Scan}
 
+-- A list with the unread items up to `left` and the done ones from `right` on.
 abbrev pub scanAt : ℕ → ℕ → ℕ → ℕ → Items
 scanAt base len left right = record { owner = 0; base = base; len = len; read = left; write = right }
 
@@ -37,6 +38,7 @@ pub record CanFoldLast (W : List ℕ) (base left right : ℕ) : Type 0 where
   pub second : 8 * wd W (base + right) + 8 ≤ length W
   pub apart : wd W (base + (left - 2)) ≢ wd W (base + right)
 
+-- The last unread item takes the one before it and the first done one, and stands in the latter's place.
 abbrev pub FoldedLast : List ℕ → ℕ → ℕ → ℕ → List ℕ → Type 0
 FoldedLast W base left right W' = Grouped W (wd W (base + (left - 1))) (wd W (base + (left - 2))) (wd W (base + right)) (base + right) W'
 
@@ -58,11 +60,13 @@ pub data DanglesAt (W : List ℕ) : Option Token → ℕ → Type 0 where
   nowhere : DanglesAt W none 0
   here : {k : Token} {s : ℕ} → 0 < s → TokenAt W s k → DanglesAt W (some k) s
 
+-- r is the slot of the token that the definition finds dangling, or 0.
 pub record Dangles (W : List ℕ) (base from len r : ℕ) : Type 0 where
   pub at : (g : CanDangle W base from len) → DanglesAt W (definition.dangling (g .f)) r
 
 -- ---- `is_else`
 
+-- The unread items are slots within the words.
 pub record CanLook (W : List ℕ) (base left : ℕ) : Type 0 where
   pub within : base + left ≤ length W
   pub slot : (i : ℕ) → i < left → 8 * wd W (base + i) + 8 ≤ length W
@@ -75,6 +79,7 @@ pub data IsElse (W : List ℕ) (base left : ℕ) : Bool → Type 0 where
 
 -- ---- `fold_else`
 
+-- Unread and done items are slots within the words; there is a done one, and the third is not the first.
 pub record CanFoldElse (W : List ℕ) (base len left right : ℕ) : Type 0 where
   pub within : base + len ≤ length W
   pub behind : left ≤ right
@@ -83,6 +88,7 @@ pub record CanFoldElse (W : List ℕ) (base len left right : ℕ) : Type 0 where
   pub done : (i : ℕ) → right ≤ i → i < len → 8 * wd W (base + i) + 8 ≤ length W
   pub apart : right + 2 < len → wd W (base + right) ≢ wd W (base + (right + 2))
 
+-- The `:` behind a `?` takes the done items beside it; otherwise nothing changes. The number is where the done items start then.
 pub data ElseFolded (W : List ℕ) (base len left right : ℕ) : ℕ → List ℕ → Type 0 where
   start : left ≡ 0 → ElseFolded W base len left right right W
   short : len - right < 3 → ElseFolded W base len left right right W
@@ -106,6 +112,7 @@ pub record CanScan (W : List ℕ) (base len left right : ℕ) : Type 0 where
   pub behind : left ≤ right
   pub full : right < len
 
+-- The scan goes on with the items L' and R', and gives the same as before.
 pub record ScanTo (W' X : List ℕ) (lo hi base len : ℕ) (L R : Forest) (left right : ℕ) : Type 0 where
   pub l : ℕ
   pub m : ℕ
@@ -116,10 +123,12 @@ pub record ScanTo (W' X : List ℕ) (lo hi base len : ℕ) (L R : Forest) (left 
   pub behind : left ≤ right
   pub full : right < len
 
+-- Two items at least are unread.
 pub record CanFoldNext (W : List ℕ) (base len left right : ℕ) : Type 0 where
   pub scan : CanScan W base len left right
   pub two : 2 ≤ left
 
+-- One step of the scan: fewer items are unread, and the scan gives the same.
 pub record FoldedNext (W : List ℕ) (base len left right : ℕ) (r : Scan) (W' : List ℕ) : Type 0 where
   pub to : (g : CanScan W base len left right) → ScanTo W' (g .X) (g .lo) (g .hi) base len (g .L) (g .R) (r .left) (r .right)
   pub kept : (g : CanScan W base len left right) → Kept W W' (g .X) (g .lo) (g .hi) base (base + len)

@@ -23,6 +23,7 @@ use Rattle.walks.specs.declared.turns.Turn.the-variants.{On, Enter, Fail}
 
 -- ---- `has_semicolon`
 
+-- r says whether a leaf of the list itself is a semicolon.
 pub record HasSemicolon (W : List ℕ) (v : Items) (r : Bool) : Type 0 where
   pub answer : (g : CanStart W v) → r ≡ not (clear isSemicolon (g .f))
 

@@ -55,11 +55,14 @@ pub record TokenTurned (κ : Kind) (idle : Forest → State κ) (P : ℕ → Boo
 abbrev pub any : Forest → Bool
 any d = true
 
+-- The turn of `return`.
 abbrev pub ReturnTurned : List ℕ → Items → ℕ → Turn → List ℕ → Type 0
 ReturnTurned W l b r W' = TokenTurned returns gathered isReturn any W (walkOf l Prefix) b r W'
 
+-- The turn of a call or of a math call.
 abbrev pub CallTurned : CallKind → Pass → List ℕ → Items → ℕ → Turn → List ℕ → Type 0
 CallTurned kind p W l b r W' = TokenTurned (calls kind) gathered (isCall kind) any W (walkOf l p) b r W'
 
+-- The turn of an operator of a binary level, before which no other of the level is left.
 abbrev pub LevelTurned : List ℕ → TokenClasses → List ℕ → Items → ℕ → Turn → List ℕ → Type 0
 LevelTurned ops classes W l b r W' = TokenTurned (binary ops) gathered (isOneOf ops) (clear (isOneOf ops)) W (walkOf l (Binary classes 0)) b r W'

@@ -35,6 +35,7 @@ pub record RightList (W X : List ℕ) (lo l m hi : ℕ) (v : Items) (d rest : Fo
 
 -- ---- `previous_token`
 
+-- A list of the unary pass, whose unread items lie before the done ones.
 pub record CanSeekBack (W : List ℕ) (v : Items) : Type 0 where
   pub X : List ℕ
   pub lo : ℕ
@@ -63,6 +64,7 @@ pub data SoughtBackTo (W' X : List ℕ) (lo hi : ℕ) (v : Items) (d rest : Fore
       → isNil cs ≡ false → RepT W' X b l m k cs → Moved d rest d' (node k cs rest')
       → SoughtBackTo W' X lo hi v d rest (Children v' b)
 
+-- What `previous_token` found, going to the left; all words outside the list are as they were.
 pub record SoughtBack (W : List ℕ) (v : Items) (r : Found) (W' : List ℕ) : Type 0 where
   pub to : (g : CanSeekBack W v) → SoughtBackTo W' (g .X) (g .lo) (g .hi) v (g .d) (g .rest) r
   pub same : (j : ℕ) → (j < v .base) ⊎ (v .base + v .len ≤ j) → wd W' j ≡ wd W j
@@ -91,12 +93,14 @@ pub record CanTakeMinus (W : List ℕ) (v : Items) (b : ℕ) : Type 0 where
   pub isMinus : opAt W b ≡ negate
   pub full : v .write < v .len
 
+-- The turn goes on from the token as the definition's does.
 pub record TokenTaken (W : List ℕ) (v : Items) (b : ℕ) (r : Turn) (W' : List ℕ) : Type 0 where
   pub to : (g : CanTakeToken W v b) → TurnTo unaries W' (g .X) (g .lo) (g .hi) (walkOf v Unary) (right false (g .d)) (node (g .k) nil (g .rest)) r
   pub within : (g : CanTakeToken W v b) → Within W W' (g .X) (g .lo) (g .hi) v
 
 -- ---- `prefix`, `to_add`, `subtract`: the words
 
+-- The slot q and the first done item are slots within the words.
 pub record CanPrefix (W : List ℕ) (v : Items) (q : ℕ) : Type 0 where
   pub place : v .base + v .write < length W
   pub own : 8 * q + 8 ≤ length W
@@ -117,6 +121,7 @@ pub record Added (W : List ℕ) (s : ℕ) (W' : List ℕ) : Type 0 where
   pub same : (j : ℕ) → j ≢ 8 * s + 7 → wd W' j ≡ wd Z j
   pub long : length W' ≡ length W
 
+-- There is a place before the done items; the slots b, b + 1 and that of the first done item lie within the words.
 pub record CanSubtract (W : List ℕ) (v : Items) (b : ℕ) : Type 0 where
   pub room : 0 < v .write
   pub place : v .base + v .write < length W

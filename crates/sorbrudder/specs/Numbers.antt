@@ -8,38 +8,45 @@ use Rattle.molang.specs.WriteEntry.{WriteTold, tokens, unwritten}
 abbrev pub packed : ℕ → ℕ → ℕ → ℕ
 packed kind number low = kind * 2 ^ 40 + number * 2 ^ 32 + low
 
+-- The kind of the answer.
 abbrev pub kindIn : ℕ → ℕ
 kindIn n = n / 2 ^ 40
 
+-- The refusal's number.
 abbrev pub numberIn : ℕ → ℕ
 numberIn n = n / 2 ^ 32 % 2 ^ 8
 
+-- The count or the place.
 abbrev pub lowIn : ℕ → ℕ
 lowIn n = n % 2 ^ 32
 
--- THE PARSE ENTRY'S ANSWER, and the answer that a number stands for.
+-- THE PARSE ENTRY'S ANSWER as a number.
 abbrev pub toldNumber : Told → ℕ
 toldNumber (aTree nodes) = packed 0 0 nodes
 toldNumber (someMessages records) = packed 1 0 records
 toldNumber (refused number place) = packed 2 number place
 
+-- The answer of a kind with these values.
 abbrev pub toldOfKind : ℕ → ℕ → ℕ → Told
 toldOfKind zero number low = aTree low
 toldOfKind (suc zero) number low = someMessages low
 toldOfKind (suc (suc k)) number low = refused number low
 
+-- The answer that a number stands for.
 abbrev pub toldBack : ℕ → Told
 toldBack n = toldOfKind (kindIn n) (numberIn n) (lowIn n)
 
--- THE WRITE ENTRY'S ANSWER, and the answer that a number stands for.
+-- THE WRITE ENTRY'S ANSWER as a number.
 abbrev pub writeNumber : WriteTold → ℕ
 writeNumber (tokens count) = packed 0 0 count
 writeNumber (unwritten number place) = packed 2 number place
 
+-- The answer of a kind with these values.
 abbrev pub writeOfKind : ℕ → ℕ → ℕ → WriteTold
 writeOfKind zero number low = tokens low
 writeOfKind (suc k) number low = unwritten number low
 
+-- The answer that a number stands for.
 abbrev pub writeBack : ℕ → WriteTold
 writeBack n = writeOfKind (kindIn n) (numberIn n) (lowIn n)
 
@@ -49,6 +56,7 @@ FitsTold (aTree nodes) = nodes < 2 ^ 32
 FitsTold (someMessages records) = records < 2 ^ 32
 FitsTold (refused number place) = (number < 2 ^ 8) × (place < 2 ^ 32)
 
+-- The same of the write entry's answer.
 abbrev pub FitsWritten : WriteTold → Type 0
 FitsWritten (tokens count) = count < 2 ^ 32
 FitsWritten (unwritten number place) = (number < 2 ^ 8) × (place < 2 ^ 32)

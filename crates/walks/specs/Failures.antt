@@ -10,6 +10,7 @@ use Rattle.walks.specs.declared.failure.Failure.the-variants.{LeadingMem
 use Rattle.walks.specs.declared.failure.Mismatch.{Mismatch}
 use Rattle.walks.specs.declared.failure.Unclosed.{Unclosed}
 
+-- The message of each failure, about the tokens in the slots that it names.
 pub data Tells (W : List ℕ) : Failure → List Message → Type 0 where
   leadingMemberAccessor : {s : ℕ} {k : Token} → TokenAt W s k → Tells W (LeadingMemberAccessor s) (Message.leadingMemberAccessor k ∷ [])
   emptyParameterList : {s b : ℕ} {k q : Token} → TokenAt W s k → TokenAt W b q → Tells W (EmptyParameterList s b) (Message.emptyParameterList k q ∷ [])

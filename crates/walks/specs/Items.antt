@@ -38,6 +38,7 @@ pub record CanPeek (W : List ℕ) (l : Items) : Type 0 where
   pub within : l .base + l .len ≤ length W
   pub slot : l .read < l .len → 8 * wd W (l .base + l .read) + 8 ≤ length W
 
+-- The next item's slot, where it is of this operator; else 0.
 unfoldable pub nextIf : List ℕ → Items → ℕ → ℕ
 nextIf W l op =
     elim (eqb (l .read) (l .len)) [
@@ -45,6 +46,7 @@ nextIf W l op =
       | false ↦ elim (eqb (opAt W (wd W (l .base + l .read))) op) [ true ↦ wd W (l .base + l .read) | false ↦ 0 ]
     ]
 
+-- The item has children, and one of the classes c is noted there.
 unfoldable pub innerAt : List ℕ → ℕ → ℕ → Bool
 innerAt W item c = elim (isLeafAt W item) [ true ↦ false | false ↦ shares (wd W (8 * item + 7)) c ]
 
@@ -93,6 +95,7 @@ pub data SoughtTo (W' X : List ℕ) (l : Items) (at lo hi : ℕ) (P : ℕ → Bo
       → isNil cs ≡ false → free P cs ≡ false → RepT W' X b a m k cs → Seen W' X l' at lo a m hi d' rest'
       → SoughtTo W' X l at lo hi P d rest (Children l' b)
 
+-- What `next_token` found of the operators whose classes c are; all words but those of the list from `write` on are as they were.
 pub record Sought (W : List ℕ) (l : Items) (c : ℕ) (r : Found) (W' : List ℕ) : Type 0 where
   pub to : (g : CanSeek W l) (P : ℕ → Bool) → Exact c P → SoughtTo W' (g .X) l (g .at) (g .lo) (g .hi) P (g .d) (g .rest) r
   pub same : (j : ℕ) → (j < l .base + l .write) ⊎ (l .base + l .len ≤ j) → wd W' j ≡ wd W j

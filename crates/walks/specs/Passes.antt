@@ -21,6 +21,7 @@ use Rattle.walks.specs.declared.turns.Pass.{Pass}
 use Rattle.walks.specs.declared.turns.Pass.the-variants.{Calls, Maths, Plain, Split, Arrays, Unary, Binary, Ternary, Prefix}
 use Rattle.walks.specs.declared.turns.Walk.{Walk}
 
+-- A pass on a list.
 abbrev pub walkOf : Items → Pass → Walk
 walkOf list pass = record { list = list; pass = pass }
 
@@ -40,10 +41,11 @@ classesOf (Binary classes pending) = classes .0
 classesOf (Ternary tokens) = 0x1_0000
 classesOf Prefix = 0x10_0000
 
--- What a frame keeps of a state, as two words.
+-- Two words of a frame.
 abbrev pub heldWords : ℕ → ℕ → Held
 heldWords first second = record { first = first; second = second }
 
+-- What a frame keeps of each pass's state.
 abbrev pub heldOf : Pass → Held
 heldOf Calls = heldWords 0 0
 heldOf Maths = heldWords 0 0

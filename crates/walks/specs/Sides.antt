@@ -29,12 +29,14 @@ use Rattle.walks.specs.declared.turns.Walk.{Walk}
 
 -- ---- calls and `return`: the trees that are done. A call that waits for its section is never seen between two turns: the code looks ahead.
 
+-- What calls and `return` hold.
 pub data GatherSide (W X : List ℕ) (base write lo l : ℕ) : Gathered → Type 0 where
   all : {d : Forest} → BackArray W X base write lo l d → GatherSide W X base write lo l (gathered d)
 
 -- ---- the binary levels: none of the done trees is itself a token of the level. An operator waits only while the children of its right side are out;
 -- its left side has nothing unfolded below it.
 
+-- What a binary level holds.
 pub data LevelSide (W X : List ℕ) (base write lo l : ℕ) (ops : List ℕ) : Pass → Gathered → Type 0 where
   all : {d : Forest} {classes : TokenClasses} → clear (isOneOf ops) d ≡ true → BackArray W X base write lo l d
       → LevelSide W X base write lo l ops (Binary classes 0) (gathered d)
@@ -50,6 +52,7 @@ tokensIn P nil = 0
 tokensIn P (node k nil rest) = elim (P (k .op)) [ true ↦ 1 + tokensIn P rest | false ↦ tokensIn P rest ]
 tokensIn P (node k (node c cs r) rest) = tokensIn P rest
 
+-- What the conditional holds.
 pub data TernarySide (W X : List ℕ) (base write lo l : ℕ) : Pass → Forest → Type 0 where
   all : {d : Forest} {tokens : ℕ} → tokens ≡ tokensIn isTernary d → BackArray W X base write lo l d → TernarySide W X base write lo l (Ternary tokens) d
 
@@ -78,6 +81,7 @@ pub record OpenAt (W X : List ℕ) (base n write m l : ℕ) (s : Token) (d : For
   pub reached : n + count ≡ write
   pub items : BackArray W X (base + n) count m l d
 
+-- What the statement pass holds, in a list without semicolons, after a statement's end, and inside a statement.
 pub data StatementSide (W X : List ℕ) (base write lo l : ℕ) : Pass → Split → Type 0 where
   whole : {d : Forest} → BackArray W X base write lo l d → StatementSide W X base write lo l Plain (unsplit d)
   closed : {done : Forest} {q : Token} → EndedAt W X base write lo l q done → StatementSide W X base write lo l (SplitAt write) (after q done)
@@ -98,6 +102,7 @@ pub record OpenArray (W X : List ℕ) (a lo l : ℕ) (q : Token) (contents : For
   pub chain : Chain W (wd W (8 * a + 5)) cs
   pub kids : RepB W (a ∷ X) cs (a + 1) l contents
 
+-- What the array pass holds, without an array that may take a further index and with one.
 pub data ArraySide (W X : List ℕ) (base write lo l : ℕ) : Pass → Indexing → Type 0 where
   all : {d : Forest} {lent : ℕ} → BackArray W X base write lo l d → ArraySide W X base write lo l (Arrays 0 lent) (unindexed d)
   growing : {d contents : Forest} {q : Token} {a lent m : ℕ} → BackArray W X base write lo m d → OpenArray W X a m l q contents
@@ -105,6 +110,7 @@ pub data ArraySide (W X : List ℕ) (base write lo l : ℕ) : Pass → Indexing 
 
 -- ---- unary: the done trees stand at the list's end
 
+-- What the unary pass holds.
 pub data RightSide (W X : List ℕ) (base write len m hi : ℕ) : Right → Type 0 where
   all : {d : Forest} {n : ℕ} → write + n ≡ len → InArray W X (base + write) n m hi d → RightSide W X base write len m hi (right false d)
 
@@ -130,8 +136,7 @@ UnreadSide statements W X lo l m hi v rest = Ahead W X (v .base) (v .read) (v .l
 UnreadSide arrays W X lo l m hi v rest = Ahead W X (v .base) (v .read) (v .len) m hi rest
 UnreadSide unaries W X lo l m hi v rest = BackArray W X (v .base) (v .read) lo l rest
 
--- What the state says of the unread items: the statement list has the span of the first semicolon, which is still to come while no statement is
--- finished; an array that nothing was read for was lent to a list that begins with its index.
+-- What the statement pass's state says of the unread items: while no statement is finished, the semicolon whose span it has is to come.
 abbrev pub SplitAgrees : Split → Forest → Type 0
 SplitAgrees (unsplit d) rest = Unit {0}
 SplitAgrees (after q nil) rest = splitOf rest ≡ after q nil
@@ -139,11 +144,13 @@ SplitAgrees (after q (node s k done)) rest = Unit {0}
 SplitAgrees (inside q nil s d) rest = splitOf rest ≡ after q nil
 SplitAgrees (inside q (node t k done) s d) rest = Unit {0}
 
+-- What the array pass's says: an array that nothing was read for was lent to a list that begins with its index.
 abbrev pub ArrayAgrees : Items → Indexing → Forest → Type 0
 ArrayAgrees v (unindexed d) rest = Unit {0}
 ArrayAgrees v (named d q) rest = Unit {0}
 ArrayAgrees v (indexed d q contents) rest = (v .write < v .read) ⊎ (startsWithIndex rest ≡ true)
 
+-- What the state of any pass says of the unread items.
 abbrev pub Agrees : (κ : Kind) → Items → State κ → Forest → Type 0
 Agrees (calls kind) v s rest = Unit {0}
 Agrees returns v s rest = Unit {0}

@@ -38,6 +38,7 @@ pub record Within (W W' X : List ℕ) (lo hi : ℕ) (v : Items) : Type 0 where
 
 -- ---- a turn
 
+-- The list is at a turn, in the state s with the items `rest` unread.
 pub record CanTurn (W : List ℕ) (w : Walk) : Type 0 where
   pub κ : Kind
   pub X : List ℕ
@@ -86,12 +87,14 @@ pub data TurnTo (κ : Kind) (W' X : List ℕ) (lo hi : ℕ) (w : Walk) (s : Stat
       → TurnTo κ W' X lo hi w s rest (Over w')
   fails : {f : Failure} {ms : List Message} → Tells W' f ms → work κ s rest ≡ fail ms → TurnTo κ W' X lo hi w s rest (Fail f)
 
+-- The turn leads where `TurnTo` says, and changes only what is the list's.
 pub record Turned (W : List ℕ) (w : Walk) (r : Turn) (W' : List ℕ) : Type 0 where
   pub to : (g : CanTurn W w) → TurnTo (g .κ) W' (g .X) (g .lo) (g .hi) w (g .s) (g .rest) r
   pub within : (g : CanTurn W w) → Within W W' (g .X) (g .lo) (g .hi) (w .list)
 
 -- ---- an item is taken back, its children k have become kids
 
+-- The list waits in the state t for the item, whose token is k and whose children are kids now; no name is lent.
 pub record CanResume (W : List ℕ) (w : Walk) (item : ℕ) : Type 0 where
   pub κ : Kind
   pub X : List ℕ
@@ -109,6 +112,7 @@ pub record CanResume (W : List ℕ) (w : Walk) (item : ℕ) : Type 0 where
   pub full : isNil kids ≡ false
   pub small : length W < 2 ^ 32
 
+-- The list is at a turn again, the item taken as the pass takes it.
 pub record Resumed (W : List ℕ) (w : Walk) (item : ℕ) (w' : Walk) (W' : List ℕ) : Type 0 where
   pub list : SameList w w'
   pub holds : (g : CanResume W w item) → Holds (g .κ) W' (g .X) (g .lo) (g .hi) w' (takes (g .κ) (g .t) (g .k) (g .kids)) (g .rest)
@@ -116,6 +120,7 @@ pub record Resumed (W : List ℕ) (w : Walk) (item : ℕ) (w' : Walk) (W' : List
 
 -- ---- every item is done
 
+-- The list is at a turn with nothing unread, and no array waits.
 pub record CanFinish (W : List ℕ) (w : Walk) : Type 0 where
   pub κ : Kind
   pub X : List ℕ
@@ -132,6 +137,7 @@ pub data FinishTo (κ : Kind) (W' X : List ℕ) (lo hi : ℕ) (v : Items) (s : S
       → FinishTo κ W' X lo hi v s (At from n)
   fails : {f : Failure} {ms : List Message} → Tells W' f ms → work κ s nil ≡ fail ms → FinishTo κ W' X lo hi v s (Failed f)
 
+-- The end gives what `FinishTo` says, and changes only what is the list's.
 pub record Ends (W : List ℕ) (w : Walk) (r : Finished) (W' : List ℕ) : Type 0 where
   pub to : (g : CanFinish W w) → FinishTo (g .κ) W' (g .X) (g .lo) (g .hi) (w .list) (g .s) r
   pub within : (g : CanFinish W w) → Within W W' (g .X) (g .lo) (g .hi) (w .list)

@@ -2,17 +2,19 @@
 use Prim.Native.Nat.{ℕ, _+_, _*_, _/_, _%_, _^_}
 use Rattle.molang.specs.Words.{lowOf}
 
--- The operator and the payload variant of a word of kind 1.
+-- The operator of a word of kind 1.
 unfoldable pub operatorOf : ℕ → ℕ
 operatorOf w = lowOf w % 2 ^ 8
 
+-- Its payload variant.
 unfoldable pub variantOf : ℕ → ℕ
 variantOf w = lowOf w / 2 ^ 8 % 2 ^ 4
 
--- The half of a payload value in a word of kind 4 or 5, and the value of both.
+-- The half of a payload value in a word of kind 4 or 5.
 unfoldable pub halfOf : ℕ → ℕ
 halfOf w = lowOf w % 2 ^ 16
 
+-- The value of both halves.
 unfoldable pub valueOf : ℕ → ℕ → ℕ
 valueOf upper lower = halfOf upper * 2 ^ 16 + halfOf lower
 

@@ -6,10 +6,11 @@ use Rattle.molang.specs.Message.{record8}
 use Rattle.molang.specs.Parse.{inFront}
 use Rattle.words.specs.declared.records.Record.{Record}
 
--- A record with no argument, and one with its first two or its last three arguments set.
+-- A record with no argument.
 abbrev pub unnamed : ℕ → ℕ → ℕ → Record
 unnamed n s e = record { number = n; start = s; end = e; first = 0; second = 0; third = 0; fourth = 0; fifth = 0 }
 
+-- The record with its first two arguments set.
 abbrev pub withFirst : Record → ℕ → ℕ → Record
 withFirst r a b =
     record {
@@ -23,6 +24,7 @@ withFirst r a b =
       fifth = r .fifth;
     }
 
+-- The record with its last three arguments set.
 abbrev pub withLast : Record → ℕ → ℕ → ℕ → Record
 withLast r a b c =
     record {

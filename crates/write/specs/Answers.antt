@@ -23,6 +23,7 @@ abbrev pub told : Written → WriteTold
 told (Tokens count) = tokens count
 told (Refused number place) = unwritten number place
 
+-- The definition's slot.
 abbrev pub slotOf : Slot → words.Slot
 slotOf Operator = words.operatorSlot
 slotOf Start = words.startSlot
@@ -41,6 +42,7 @@ abbrev pub isLegal : Option ℕ → Bool
 isLegal none = true
 isLegal (some n) = false
 
+-- So many nodes called for and so many begun.
 abbrev pub shape : ℕ → ℕ → Shape
 shape called begun = record { called = called; begun = begun }
 
@@ -53,9 +55,10 @@ judgement (node k cs rest) = elim (unplainAt k cs) [ some n ↦ Unplain n | none
 abbrev pub call : List ℕ → List ℕ → WriteCall
 call tree list = record { tree = tree; list = list }
 
--- What is answered to words that are one tree, and what the list holds after it.
+-- What is answered to words that are one tree.
 unfoldable pub filling : Forest → List ℕ → WriteTold
 filling f list = writeTold (forestRefusal f (length list)) f
 
+-- What the list holds after it.
 unfoldable pub filled : Forest → List ℕ → List ℕ
 filled f list = listIn (forestRefusal f (length list)) f list

@@ -18,13 +18,15 @@ formPlace LeftOfComma = plain.elsewhere
 formPlace RightOfQuestion = plain.rightOfQuestion
 formPlace Operand = plain.elsewhere
 
--- The place of the one child of an operator, and those of its two children.
+-- The place of the one child of an operator.
 unfoldable pub onlyPlace : ℕ → Place
 onlyPlace op = elim (isBracket op) [ true ↦ Enclosed | false ↦ elim (isMathCall op) [ true ↦ UnderMathCall | false ↦ Operand ] ]
 
+-- The place of the first of two children.
 unfoldable pub leftPlace : ℕ → Place
 leftPlace op = elim (eqb op Operator.comma) [ true ↦ LeftOfComma | false ↦ Operand ]
 
+-- The place of the second.
 unfoldable pub rightPlace : ℕ → Place
 rightPlace op = elim (eqb op Operator.conditional) [ true ↦ RightOfQuestion | false ↦ Operand ]
 
@@ -51,6 +53,7 @@ isSpared Operand op = false
 unfoldable pub isPaired : Place → ℕ → ℕ → Bool
 isPaired p op children = not (eqb children 0 || (isBracket op || isSpared p op))
 
+-- n where the test holds, else 0.
 abbrev pub ifTrue : Bool → ℕ → ℕ
 ifTrue true n = n
 ifTrue false n = 0

@@ -8,10 +8,11 @@ use Rattle.words.specs.Fields.{operatorOf}
 use Rattle.write.specs.declared.reader.TreeReader.{TreeReader}
 use Rattle.write.specs.declared.reader.NodeView.{NodeView}
 
--- The operator and the child count of the node that starts at a word; a word past the last reads as 0.
+-- The operator of the node that starts at a word; a word past the last reads as 0.
 abbrev pub operatorAt : List ℕ → ℕ → ℕ
 operatorAt words at = operatorOf (getD words at 0)
 
+-- Its child count.
 abbrev pub childrenAt : List ℕ → ℕ → ℕ
 childrenAt words at = lowOf (getD words (at + 5) 0)
 

@@ -17,14 +17,15 @@ use Rattle.write.specs.Answers.{judgement}
 use Rattle.write.specs.Places.{isPaired}
 use Rattle.write.specs.Shaped.{Shaped}
 
--- The token words that a list of words opens with; those of a bracket with the same span and payload 0; those of its closer, if it is
--- a bracket.
+-- The token words that a list of words opens with.
 unfoldable pub firstFive : List ℕ → List ℕ
 firstFive ws = getD ws 0 0 ∷ getD ws 1 0 ∷ getD ws 2 0 ∷ getD ws 3 0 ∷ getD ws 4 0 ∷ []
 
+-- Those of a bracket with the same span and payload 0.
 unfoldable pub bracketWords : ℕ → List ℕ → List ℕ
 bracketWords op ws = word 1 (op % 2 ^ 8) ∷ getD ws 1 0 ∷ getD ws 2 0 ∷ word 4 0 ∷ word 5 0 ∷ []
 
+-- Those of its closer, if it is a bracket.
 unfoldable pub closerWords : List ℕ → List ℕ
 closerWords ws = elim (isBracket (operatorOf (getD ws 0 0))) [ true ↦ bracketWords Operator.rightParenthesis ws | false ↦ [] ]
 
