@@ -2,3 +2,6 @@
 pub mod ItemLaws
 pub mod Zeros
 pub mod Marks
+pub mod Put
+pub mod Called
+pub mod Answered

@@ -4,7 +4,7 @@ use mathlib.Core.Path.{_≡_, refl, ap, sym, _∙_}
 use mathlib.Core.List.{List, [], _∷_, _++_}
 use mathlib.Core.Logic.{_↔_}
 use native.Mathlib.Omega.{arith}
-use lib.ListN.{length, getD, take, drop, replicate, length-append, length-drop, length-replicate, getD-replicate, take-append-drop, List·getD-append}
+use lib.ListN.{length, getD, take, drop, replicate, length-append, length-take, length-drop, length-replicate, getD-replicate, take-append-drop, List·getD-append}
 use lib.Seq.{getD-take, getD-drop, ext-getD, length-take-le, drop-append-seam}
 use Rattle.molang.specs.Words.{tokenWords, listWords}
 use Rattle.molang.specs.Parse.{inFront}
@@ -123,3 +123,17 @@ written-at (n ∷ tokens) (suc (suc (suc (suc (suc i))))) h =
     let j = suc (suc (suc (suc (suc i)))) in
     let token : j / 5 ≡ suc (i / 5) = omega arith in
     let place : j % 5 ≡ i % 5 = omega arith in rw (token, place) (written-at tokens i (omega arith))
+
+-- THE FRONT OF ZEROS is zeros.
+pub front-zeros : (n : ℕ) (l : List ℕ) → l ≡ zeros l → take n l ≡ zeros (take n l)
+front-zeros n l e = all-zero (take n l) (λ k b. getD-take n l k 0 (omega (arith, length-take n l)) ∙ each-zero l e k)
+
+pub take-zeros : (n : ℕ) (l : List ℕ) → l ≡ zeros l → n ≤ length l → take n l ≡ replicate n 0
+take-zeros n l e h = front-zeros n l e ∙ ap (λ (i : ℕ). replicate i 0) (length-take-le n l h)
+
+-- As many zeros as there are.
+pub zeros-of : (n : ℕ) → _≡_ {A = List ℕ} (replicate n 0) (zeros (replicate n 0))
+zeros-of n = sym (ap (λ (i : ℕ). replicate i 0) (length-replicate n 0))
+
+pub within-zeros : (n m : ℕ) → n ≤ m → n ≤ length {A = ℕ} (replicate m 0)
+within-zeros n m h = omega (arith, length-replicate {A = ℕ} m 0)

@@ -1,0 +1,34 @@
+-- `lines::asked::read_at` meets its contract. Assumes nothing.
+use mathlib.Core.Path.{_≡_}
+use mir.Syntax.{w16}
+use mir.Val.{toZ, ofZ}
+use mir.Facts.{toZ-ofZ}
+use borrow.Author.Needs.{needs}
+use Rattle.lines.proofs.asked.read_at.Statement.{statement}
+use Rattle.lines.proofs.asked.read_at.Tie as tie
+use Rattle.lines.proofs.asked.read_at.Reads as reads
+use Rattle.lines.proofs.asked.read_at.Lts as lts
+use Rattle.exact.proofs.version_of.Reads as version-of-reads
+use Rattle.lines.proofs.asked.read_operators.Reads as read-operators-reads
+
+-- src/asked.rt:156:9
+returns : tie.Need-returns
+returns c = search needs
+
+-- src/asked.rt:158:31
+version-of-requires : tie.Need-version-of-requires
+version-of-requires c κs = search needs
+
+-- src/asked.rt:158:5
+read-operators-requires : tie.Need-read-operators-requires
+read-operators-requires c κs = search needs
+
+-- src/asked.rt:151:1
+returns-2 : tie.Need-returns-2
+returns-2 c =
+    let version = c .before .version-of in
+    let back : toZ w16 (ofZ w16 (version .result)) ≡ version .result = toZ-ofZ (record { sfits = version .ok }) in
+    rw (back, version .ensures) at (c .read-operators .ensures)
+
+pub read-at-spec : {M : Type 1} → statement M
+read-at-spec = tie.close (tie.spec returns version-of-requires read-operators-requires returns-2)
