@@ -1,14 +1,13 @@
--- The calls that the functions make are those of molang's Lines: the exact used set of each kind of list, and buffers of zeros. What is compared
--- of them is then what the definition answers.
-use Prim.Native.Nat.{ℕ, zero, suc, _+_, _-_, _*_, _/_, _%_, _^_, _≤_, _<_}
-use mathlib.Core.Path.{_≡_, refl, ap, sym, _∙_, fun-ext}
+-- The calls that the functions make are those of molang's Lines: the exact used set of a list of operators, of words 0 and of one operator.
+use Prim.Native.Nat.{ℕ, zero, suc, _+_, _^_, _≤_, _<_}
+use mathlib.Core.Path.{_≡_, refl, ap, _∙_, fun-ext}
 use mathlib.Core.Bool.{Bool, true, false, _||_, or-false}
-use mathlib.Core.List.{List, [], _∷_, _++_}
+use mathlib.Core.List.{List, [], _∷_}
 use native.Mathlib.Nat.{pow-suc}
 use native.Mathlib.Omega.{arith}
 use lib.Dec.{eqb, eqb·zero-suc, eqb·suc-zero, eqb·suc-suc}
-use lib.IntN.{ℤ, pos}
-use lib.ListN.{length, getD, replicate}
+use lib.IntN.{ℤ}
+use lib.ListN.{length, replicate}
 use Rattle.molang.specs.Forest.{Token}
 use Rattle.molang.specs.Read.{uses, setNumber}
 use Rattle.molang.specs.Words.{Slot, operatorSlot, startSlot, endSlot, upperSlot, lowerSlot, countSlot, Legal, listWords, nextInToken, wordFault, kindOf, lowOf, slotKind, unless}
@@ -18,7 +17,7 @@ use Rattle.molang.proofs.ListWords.{list-unrefused, listWords-length}
 use Rattle.exact.specs.Exact.{names, named}
 use Rattle.exact.proofs.WordLaws.{legal-list}
 use Rattle.lines.specs.Items.{bareToken}
-use Rattle.lines.specs.Asked.{exactCall, Operators, repeatedWords}
+use Rattle.lines.specs.Asked.{ownCall, Operators, repeatedWords}
 
 -- The exact used set of legal tokens' words is the tokens'.
 used-legal : {ks : List Token} → LegalTokens ks → named operatorSlot (listWords ks) ≡ uses ks
@@ -38,8 +37,8 @@ from-legal i (o ∷ os) h every =
     (from-legal (i + 1) os (omega arith) (λ k g. every (suc k) (omega arith)))
 
 pub list-called : (os : List ℕ) (version : ℤ) → length os ≤ 1002 → Operators os
-    → exactCall (length os) (listWords (tokensFrom 0 os)) version ≡ listCall os version
-unfolding exactCall listCall
+    → ownCall (length os) (listWords (tokensFrom 0 os)) version ≡ listCall os version
+unfolding ownCall listCall
 list-called os version h every =
     ap (λ (u : ℕ → Bool). callFor (length os) (listWords (tokensFrom 0 os)) (setNumber u 111) version)
     (used-legal (from-legal 0 os (omega arith) every))
@@ -64,8 +63,8 @@ unfolding setNumber
 no-operators zero = refl
 no-operators (suc n) = rw (no-operators n) refl
 
-pub zeros-called : (n words : ℕ) (version : ℤ) → exactCall n (replicate words 0) version ≡ callFor n (replicate words 0) 0 version
-unfolding exactCall
+pub zeros-called : (n words : ℕ) (version : ℤ) → ownCall n (replicate words 0) version ≡ callFor n (replicate words 0) 0 version
+unfolding ownCall
 zeros-called n words version =
     ap (λ (u : ℕ). callFor n (replicate words 0) u version)
     (ap (λ (f : ℕ → Bool). setNumber f 111) (fun-ext (zero-named words operatorSlot)) ∙ no-operators 111)
@@ -95,8 +94,8 @@ unfolding uses
 repeated-uses zero k m = or-false (eqb (k .op) m)
 repeated-uses (suc n) k m = rw (repeated-uses n k m) (either (eqb (k .op) m))
 
-pub repeated-called : (n o : ℕ) (version : ℤ) → 1 ≤ n → o ≤ 110 → exactCall n (repeatedWords n o) version ≡ callFor n (repeatedWords n o) (2 ^ o) version
-unfolding exactCall
+pub repeated-called : (n o : ℕ) (version : ℤ) → 1 ≤ n → o ≤ 110 → ownCall n (repeatedWords n o) version ≡ callFor n (repeatedWords n o) (2 ^ o) version
+unfolding ownCall
 repeated-called zero o version h g = absurd (omega arith)
 repeated-called (suc n) o version h g =
     let k = bareToken o 0 0 in

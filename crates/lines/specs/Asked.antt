@@ -2,29 +2,33 @@
 -- asks, and what it means that the definition answers them as the line says. Leans on molang's Lines and on exact.
 use Prim.Native.Nat.{ℕ, _+_, _*_, _≤_, _<_}
 use mathlib.Core.Path.{_≡_}
-use mathlib.Core.List.{List}
-use lib.IntN.{ℤ}
+use mathlib.Core.List.{List, [], _∷_}
+use lib.IntN.{ℤ, pos}
 use lib.ListN.{length, getD, replicate}
 use Rattle.molang.specs.Read.{setNumber}
 use Rattle.molang.specs.Words.{operatorSlot, listWords}
 use Rattle.molang.specs.Parse.{Call}
 use Rattle.molang.specs.WriteEntry.{WriteCall}
-use Rattle.molang.specs.Lines.{marksOf, callFor, parsedBy, wroteBy, wantedOf, writeWantedOf}
+use Rattle.molang.specs.Lines.{Asked, parse, marksOf, callFor, listCall, parsedBy, wroteBy, wantedOf, writeWantedOf}
 use Rattle.exact.specs.Exact.{named}
 use Rattle.lines.specs.Items.{bareToken}
 use Rattle.lines.specs.Compared.{zeros}
 
--- A call for n tokens on these words, under the exact used set of the words.
-unfoldable pub exactCall : ℕ → List ℕ → ℤ → Call
-exactCall n list version = callFor n list (setNumber (named operatorSlot list) 111) version
+-- A call for n tokens on these words, under the exact used set of the words themselves, legal or not.
+unfoldable pub ownCall : ℕ → List ℕ → ℤ → Call
+ownCall n list version = callFor n list (setNumber (named operatorSlot list) 111) version
 
 -- The definition answers a reading as the line says.
-unfoldable pub ReadsAsSaid : List ℕ → Call → Type 0
-ReadsAsSaid answers c = parsedBy c ≡ wantedOf (marksOf answers) c
+unfoldable pub CallAsSaid : List ℕ → Call → Type 0
+CallAsSaid answers c = parsedBy c ≡ wantedOf (marksOf answers) c
 
 -- And a writing.
-unfoldable pub WritesAsSaid : List ℕ → WriteCall → Type 0
-WritesAsSaid answers c = wroteBy c ≡ writeWantedOf (marksOf answers) c
+unfoldable pub WriteCallAsSaid : List ℕ → WriteCall → Type 0
+WriteCallAsSaid answers c = wroteBy c ≡ writeWantedOf (marksOf answers) c
+
+-- The calls of a list that names no version.
+abbrev pub anyCalls : List ℕ → Asked
+anyCalls items = parse (listCall items (pos 4) ∷ listCall items (pos 5) ∷ listCall items (pos 6) ∷ [])
 
 -- Each number is an operator.
 abbrev pub Operators : List ℕ → Type 0

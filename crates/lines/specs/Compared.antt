@@ -1,5 +1,5 @@
--- What a verdict `Same` says: the answer and every word of the buffers are those that molang's Lines wants of the line's answers. The buffers
--- are zeros before the call.
+-- What a verdict `Same` says: the answer and every word of the buffers are those that molang's Lines wants of the line's answers, the buffers
+-- being zeros before the call; of a whole line, that the definition itself answers its calls so.
 use Prim.Native.Nat.{ℕ}
 use mathlib.Core.Path.{_≡_}
 use mathlib.Core.List.{List, [], _∷_}

@@ -19,18 +19,15 @@ use words::fields;
 use write::write;
 ghost use mathlib.Core.Path.{_≡_};
 ghost use mathlib.Core.Bool.{true};
-ghost use mathlib.Core.List.{[], _∷_};
 ghost use mathlib.Core.Logic.{_↔_};
 ghost use Prim.Native.Nat.{_+_, _*_, _≤_};
-ghost use lib.IntN.{pos};
 ghost use lib.ListN.{length, take};
 ghost use Rattle.molang.specs.Words.{listWords};
 ghost use Rattle.molang.specs.Parse.{inFront};
-ghost use Rattle.molang.specs.Lines as asks;
 ghost use Rattle.molang.specs.Lines.{marksOf, tokensFrom, nodeWords, listCall, treeCall, versionOf, zerosCall, repeatedCall, askedOf};
 ghost use Rattle.write.specs.Answers as writes;
 ghost use Rattle.lines.specs.Compared.{zeros, AnsweredAsSaid, ifSame};
-ghost use Rattle.lines.specs.Asked.{exactCall, ReadsAsSaid, WritesAsSaid, Operators, repeatedWords, JustRoom, MostRoom};
+ghost use Rattle.lines.specs.Asked.{ownCall, CallAsSaid, WriteCallAsSaid, anyCalls, Operators, repeatedWords, JustRoom, MostRoom};
 
 // Reads a list of n tokens with these buffers and compares. `read_in` cuts them to what n tokens ask.
 fn read_with(
@@ -43,7 +40,7 @@ fn read_with(
     work: &mut [u32],
 ) -> Verdict
     requires { ⌜ JustRoom n (now tree) (now messages) (now work) ⌝ }
-    ensures { λ r. ⌜ ifSame r (ReadsAsSaid (now (answers .entry)) (exactCall n (now (list .entry)) version)) ⌝ }
+    ensures { λ r. ⌜ ifSame r (CallAsSaid (now (answers .entry)) (ownCall n (now (list .entry)) version)) ⌝ }
 {
     let used = used_of(list);
     let answered = parse(
@@ -70,7 +67,7 @@ fn read_in(
     work: &mut [u32],
 ) -> Verdict
     requires { ⌜ (n ≤ 4097) × MostRoom (now tree) (now messages) (now work) ⌝ }
-    ensures { λ r. ⌜ ifSame r (ReadsAsSaid (now (answers .entry)) (exactCall n (now (list .entry)) version)) ⌝ }
+    ensures { λ r. ⌜ ifSame r (CallAsSaid (now (answers .entry)) (ownCall n (now (list .entry)) version)) ⌝ }
 {
     let nodes = 18 * n;
     let slots = 64 * n + 64;
@@ -89,7 +86,7 @@ fn read_in(
 // list at the length of the most that they read.
 fn read_first(list: &[u32], words: usize, n: usize, version: i16, answers: &[u32]) -> Verdict
     requires { ⌜ (n ≤ 4097) × (words ≤ length (now list)) ⌝ }
-    ensures { λ r. ⌜ ifSame r (ReadsAsSaid (now (answers .entry)) (exactCall n (take words (now (list .entry))) version)) ⌝ }
+    ensures { λ r. ⌜ ifSame r (CallAsSaid (now (answers .entry)) (ownCall n (take words (now (list .entry))) version)) ⌝ }
 {
     let mut tree = [0u32; 73_746];
     let mut messages = [0u32; 16];
@@ -119,7 +116,8 @@ fn are_operators(items: &[u32]) -> bool
     true
 }
 
-// Puts the tokens of operators, the i-th at the span i to i + 1. `read_operators` has looked at the operators and lends a list of 1,002 tokens.
+// Puts the tokens of operators, the i-th at the span i to i + 1. `read_operators` has looked at the operators, of which a line has at most
+// 1,002, and lends a list of as many tokens.
 fn put_operators(list: &mut [u32], operators: &[u32])
     requires { ⌜ (5 * length (now operators) ≤ length (now list)) × (length (now operators) ≤ 1002) × Operators (now operators) ⌝ }
     ensures { λ _. ⌜ now (list .exit) ≡ inFront (listWords (tokensFrom 0 (now (operators .entry)))) (now (list .entry)) ⌝ }
@@ -136,7 +134,7 @@ fn put_operators(list: &mut [u32], operators: &[u32])
 // Reads the list of these operators: a line has at most 1,002 numbers (`ask`), here and below.
 fn read_operators(operators: &[u32], version: i16, answers: &[u32]) -> Verdict
     requires { ⌜ length (now operators) ≤ 1002 ⌝ }
-    ensures { λ r. ⌜ ifSame r (ReadsAsSaid (now (answers .entry)) (listCall (now (operators .entry)) version)) ⌝ }
+    ensures { λ r. ⌜ ifSame r (CallAsSaid (now (answers .entry)) (listCall (now (operators .entry)) version)) ⌝ }
 {
     if !are_operators(operators) {
         return Verdict::Unclear;
@@ -150,7 +148,7 @@ fn read_operators(operators: &[u32], version: i16, answers: &[u32]) -> Verdict
 // Reads it at the version of sixteen bits.
 fn read_at(operators: &[u32], bits: u32, answers: &[u32]) -> Verdict
     requires { ⌜ length (now operators) ≤ 1002 ⌝ }
-    ensures { λ r. ⌜ ifSame r (ReadsAsSaid (now (answers .entry)) (listCall (now (operators .entry)) (versionOf bits))) ⌝ }
+    ensures { λ r. ⌜ ifSame r (CallAsSaid (now (answers .entry)) (listCall (now (operators .entry)) (versionOf bits))) ⌝ }
 {
     if 65_535 < bits {
         return Verdict::Unclear;
@@ -161,7 +159,7 @@ fn read_at(operators: &[u32], bits: u32, answers: &[u32]) -> Verdict
 // The same at 4, 5 and 6.
 fn read_at_all(operators: &[u32], answers: &[u32]) -> Verdict
     requires { ⌜ length (now operators) ≤ 1002 ⌝ }
-    ensures { λ r. ⌜ ifSame r (AnsweredAsSaid (marksOf (now (answers .entry))) (asks.parse (listCall (now (operators .entry)) (pos 4) ∷ listCall (now (operators .entry)) (pos 5) ∷ listCall (now (operators .entry)) (pos 6) ∷ []))) ⌝ }
+    ensures { λ r. ⌜ ifSame r (AnsweredAsSaid (marksOf (now (answers .entry))) (anyCalls (now (operators .entry)))) ⌝ }
 {
     let first = read_operators(operators, 4, answers);
     let Verdict::Same = first else {
@@ -236,7 +234,7 @@ fn put_nodes(tree: &mut [u32], nodes: &[u32])
 // Writes the tree of these words into this list and compares. `write_first` cuts it from a list of zeros.
 fn write_with(tree: &[u32], list: &mut [u32], answers: &[u32]) -> Verdict
     requires { ⌜ now list ≡ zeros (now list) ⌝ }
-    ensures { λ r. ⌜ ifSame r (WritesAsSaid (now (answers .entry)) (writes.call (now (tree .entry)) (now (list .entry)))) ⌝ }
+    ensures { λ r. ⌜ ifSame r (WriteCallAsSaid (now (answers .entry)) (writes.call (now (tree .entry)) (now (list .entry)))) ⌝ }
 {
     let written = write(tree, list);
     write_verdict(written, list, answers)
@@ -251,7 +249,7 @@ fn write_first(
     answers: &[u32],
 ) -> Verdict
     requires { ⌜ (words ≤ length (now tree)) × (room ≤ length (now list)) × (now list ≡ zeros (now list)) ⌝ }
-    ensures { λ r. ⌜ ifSame r (WritesAsSaid (now (answers .entry)) (writes.call (take words (now (tree .entry))) (take room (now (list .entry))))) ⌝ }
+    ensures { λ r. ⌜ ifSame r (WriteCallAsSaid (now (answers .entry)) (writes.call (take words (now (tree .entry))) (take room (now (list .entry))))) ⌝ }
 {
     write_with(&tree[..words], &mut list[..room], answers)
 }
@@ -259,7 +257,7 @@ fn write_first(
 // Writes a tree, into a list with room for three tokens a node.
 fn write_nodes(nodes: &[u32], answers: &[u32]) -> Verdict
     requires { ⌜ length (now nodes) ≤ 1002 ⌝ }
-    ensures { λ r. ⌜ ifSame r (WritesAsSaid (now (answers .entry)) (treeCall (now (nodes .entry)))) ⌝ }
+    ensures { λ r. ⌜ ifSame r (WriteCallAsSaid (now (answers .entry)) (treeCall (now (nodes .entry)))) ⌝ }
 {
     let mut tree = [0u32; 6012];
     let mut list = [0u32; 15_030];

@@ -7,8 +7,6 @@ use borrow.Author.Count.{below-more}
 use lib.ListN.{length, getD}
 use Rattle.lines.proofs.asked.are_operators.Statement.{statement}
 use Rattle.lines.proofs.asked.are_operators.Tie as tie
-use Rattle.lines.proofs.asked.are_operators.Reads as reads
-use Rattle.lines.proofs.asked.are_operators.Lts as lts
 
 abbrev Inv-loop : tie.InvT-loop
 Inv-loop items i₀ i = (k : ℕ) → k < i → getD items k 0 ≤ 110
@@ -16,35 +14,27 @@ Inv-loop items i₀ i = (k : ℕ) → k < i → getD items k 0 ≤ 110
 abbrev μ-loop : tie.MeasureT-loop
 μ-loop items i₀ i = length items - i
 
--- src/asked.rt:113:5
 loop-holds : tie.Need-loop-holds Inv-loop μ-loop
 loop-holds c = λ k h. absurd (omega arith)
 
--- src/asked.rt:114:36
 mul-if1 : tie.Need-mul-if1 Inv-loop μ-loop
 mul-if1 c = omega arith
 
--- src/asked.rt:114:36
 shared-slice-read-if1 : tie.Need-shared-slice-read-if1 Inv-loop μ-loop
 shared-slice-read-if1 c = omega arith
 
--- src/asked.rt:115:13
 returns : tie.Need-returns Inv-loop μ-loop
 returns c = (λ e. absurd (false≢true e), λ every. absurd (omega (arith, every (c .before .before .before .loop .i) (omega arith))))
 
--- src/asked.rt:117:9
 add-i : tie.Need-add-i Inv-loop μ-loop
 add-i c = omega arith
 
--- src/asked.rt:113:5
 loop-less : tie.Need-loop-less Inv-loop μ-loop
 loop-less c = omega arith
 
--- src/asked.rt:113:5
 loop-again : tie.Need-loop-again Inv-loop μ-loop
 loop-again c = below-more _ _ (c .before .before .before .loop .inv) (omega arith)
 
--- src/asked.rt:109:1
 returns-2 : tie.Need-returns-2 Inv-loop μ-loop
 returns-2 c = (λ e k h. c .before .loop .inv k (omega arith), λ every. refl)
 

@@ -4,7 +4,7 @@ use mathlib.Core.Path.{_≡_, refl, sym, _∙_}
 use native.Mathlib.Omega.{arith}
 use lib.ListN.{length, length-set}
 use Rattle.molang.specs.Lines.{nodeWords}
-use Rattle.lines.proofs.Zeros.{nodes-length, node-at}
+use Rattle.lines.proofs.WordPlaces.{nodes-length, node-at}
 use Rattle.lines.proofs.Put.{putUpTo, put-more, put-all}
 use Rattle.lines.proofs.asked.put_nodes.Statement.{statement}
 use Rattle.lines.proofs.asked.put_nodes.Tie as tie

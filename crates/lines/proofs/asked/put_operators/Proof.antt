@@ -5,7 +5,8 @@ use native.Mathlib.Omega.{arith}
 use lib.ListN.{length, length-set}
 use Rattle.molang.specs.Words.{listWords}
 use Rattle.molang.specs.Lines.{tokensFrom}
-use Rattle.lines.proofs.Put.{putUpTo, put-more, put-all, operators-length, operator-word}
+use Rattle.lines.proofs.WordPlaces.{operators-length, operator-word}
+use Rattle.lines.proofs.Put.{putUpTo, put-more, put-all}
 use Rattle.lines.proofs.asked.put_operators.Statement.{statement}
 use Rattle.lines.proofs.asked.put_operators.Tie as tie
 

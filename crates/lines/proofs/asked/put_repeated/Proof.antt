@@ -4,7 +4,8 @@ use mathlib.Core.Path.{_≡_, refl, _∙_}
 use native.Mathlib.Omega.{arith}
 use lib.ListN.{length, length-set}
 use Rattle.lines.specs.Asked.{repeatedWords}
-use Rattle.lines.proofs.Put.{putUpTo, put-more, put-all, repeated-length, repeated-word}
+use Rattle.lines.proofs.WordPlaces.{repeated-length, repeated-word}
+use Rattle.lines.proofs.Put.{putUpTo, put-more, put-all}
 use Rattle.lines.proofs.asked.put_repeated.Statement.{statement}
 use Rattle.lines.proofs.asked.put_repeated.Tie as tie
 

@@ -6,24 +6,16 @@ use mir.Facts.{toZ-ofZ}
 use borrow.Author.Needs.{needs}
 use Rattle.lines.proofs.asked.read_at.Statement.{statement}
 use Rattle.lines.proofs.asked.read_at.Tie as tie
-use Rattle.lines.proofs.asked.read_at.Reads as reads
-use Rattle.lines.proofs.asked.read_at.Lts as lts
-use Rattle.exact.proofs.version_of.Reads as version-of-reads
-use Rattle.lines.proofs.asked.read_operators.Reads as read-operators-reads
 
--- src/asked.rt:156:9
 returns : tie.Need-returns
 returns c = search needs
 
--- src/asked.rt:158:31
 version-of-requires : tie.Need-version-of-requires
 version-of-requires c κs = search needs
 
--- src/asked.rt:158:5
 read-operators-requires : tie.Need-read-operators-requires
 read-operators-requires c κs = search needs
 
--- src/asked.rt:151:1
 returns-2 : tie.Need-returns-2
 returns-2 c =
     let version = c .before .version-of in

@@ -5,37 +5,28 @@ use borrow.Author.Needs.{needs}
 use Rattle.lines.proofs.Answered.{same-so, is-same, not-same, three-read}
 use Rattle.lines.proofs.asked.read_at_all.Statement.{statement}
 use Rattle.lines.proofs.asked.read_at_all.Tie as tie
-use Rattle.lines.proofs.asked.read_at_all.Reads as reads
-use Rattle.lines.proofs.asked.read_at_all.Lts as lts
-use Rattle.lines.proofs.asked.read_operators.Reads as read-operators-reads
 
--- src/asked.rt:166:9
 read-operators-requires : tie.Need-read-operators-requires
 read-operators-requires c κs = search needs
 
 enum-told : tie.Need-enum-told
 enum-told c = search needs
 
--- src/asked.rt:168:9
 returns : tie.Need-returns
 returns c = same-so (c .before .read-operators .result) (λ none. absurd none) (not-same (c .before .read-operators .result) (c .match .keys2))
 
--- src/asked.rt:170:9
 read-operators-requires-2 : tie.Need-read-operators-requires-2
 read-operators-requires-2 c κs = search needs
 
 enum-told-2 : tie.Need-enum-told-2
 enum-told-2 c = search needs
 
--- src/asked.rt:172:9
 returns-2 : tie.Need-returns-2
 returns-2 c = same-so (c .before .read-operators2 .result) (λ none. absurd none) (not-same (c .before .read-operators2 .result) (c .match2 .keys2))
 
--- src/asked.rt:174:5
 read-operators-requires-3 : tie.Need-read-operators-requires-3
 read-operators-requires-3 c κs = search needs
 
--- src/asked.rt:162:1
 returns-3 : tie.Need-returns-3
 returns-3 c =
     let a = c .before .before .before .before .before .before .before .before .before .args in

@@ -7,32 +7,23 @@ use mir.Facts.{toZ-ofZ}
 use Rattle.lines.proofs.Zeros.{zeros-of, within-zeros}
 use Rattle.lines.proofs.asked.read_first.Statement.{statement}
 use Rattle.lines.proofs.asked.read_first.Tie as tie
-use Rattle.lines.proofs.asked.read_first.Reads as reads
-use Rattle.lines.proofs.asked.read_first.Lts as lts
-use Rattle.lines.proofs.asked.read_in.Reads as read-in-reads
 
--- src/asked.rt:98:9
 slice-aggregate-read-in : tie.Need-slice-aggregate-read-in
 slice-aggregate-read-in c = sym (length-take-le _ _ (omega arith))
 
--- src/asked.rt:102:9
 slice-aggregate-read-in-2 : tie.Need-slice-aggregate-read-in-2
 slice-aggregate-read-in-2 c = search needs
 
--- src/asked.rt:103:9
 slice-aggregate-read-in-3 : tie.Need-slice-aggregate-read-in-3
 slice-aggregate-read-in-3 c = search needs
 
--- src/asked.rt:104:9
 slice-aggregate-read-in-4 : tie.Need-slice-aggregate-read-in-4
 slice-aggregate-read-in-4 c = search needs
 
--- src/asked.rt:97:5
 read-in-requires : tie.Need-read-in-requires
 read-in-requires c κs =
     (omega arith, record { tree = zeros-of 73746; treeLong = within-zeros 73746 73746 (omega arith); messages = refl; work = zeros-of 262272; workLong = within-zeros 262272 262272 (omega arith) })
 
--- src/asked.rt:90:1
 returns : tie.Need-returns
 returns c =
     let start = c .before .before .before .before .before .before .before .before .before .before in rw (toZ-ofZ (start .fits .version)) at (c .before .before .before .read-in .ensures)

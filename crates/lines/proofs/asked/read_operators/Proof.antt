@@ -9,43 +9,30 @@ use Rattle.lines.proofs.Zeros.{within-zeros}
 use Rattle.lines.proofs.Answered.{same-so, list-line}
 use Rattle.lines.proofs.asked.read_operators.Statement.{statement}
 use Rattle.lines.proofs.asked.read_operators.Tie as tie
-use Rattle.lines.proofs.asked.read_operators.Reads as reads
-use Rattle.lines.proofs.asked.read_operators.Lts as lts
-use Rattle.lines.proofs.asked.are_operators.Reads as are-operators-reads
-use Rattle.lines.proofs.asked.put_operators.Reads as put-operators-reads
-use Rattle.lines.proofs.asked.read_first.Reads as read-first-reads
 
--- src/asked.rt:141:9
 are-operators-requires : tie.Need-are-operators-requires
 are-operators-requires c κs = search needs
 
--- src/asked.rt:142:9
 returns : tie.Need-returns
 returns c = search needs
 
--- src/asked.rt:145:19
 slice-aggregate-put-operators : tie.Need-slice-aggregate-put-operators
 slice-aggregate-put-operators c = search needs
 
--- src/asked.rt:145:5
 put-operators-requires : tie.Need-put-operators-requires
 put-operators-requires c κs =
     let operators = c .before .before .before .before .before .args .operators .now in
     (within-zeros (5 * length operators) 5010 (omega arith), omega arith, c .before .before .are-operators .ensures .0 (not-false _ (c .before .if1 .left)))
 
--- src/asked.rt:146:17
 mul-words : tie.Need-mul-words
 mul-words c = search needs
 
--- src/asked.rt:147:16
 slice-aggregate-read-first : tie.Need-slice-aggregate-read-first
 slice-aggregate-read-first c = search needs
 
--- src/asked.rt:147:5
 read-first-requires : tie.Need-read-first-requires
 read-first-requires c κs = search needs
 
--- src/asked.rt:137:1
 returns-2 : tie.Need-returns-2
 returns-2 c =
     let start = c .before .before .before .before .before .before .before .before .before in

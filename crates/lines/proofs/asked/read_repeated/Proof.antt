@@ -6,66 +6,50 @@ use lib.ListN.{getD, replicate}
 use borrow.Author.Needs.{needs}
 use borrow.Author.Tests.{ltb-false}
 use Rattle.lines.proofs.Zeros.{within-zeros}
-use Rattle.lines.proofs.Put.{front-room, repeated-length}
+use Rattle.lines.proofs.WordPlaces.{repeated-length}
+use Rattle.lines.proofs.Put.{front-room}
 use Rattle.lines.proofs.Answered.{same-so, repeated-line}
 use Rattle.lines.proofs.asked.read_repeated.Statement.{statement}
 use Rattle.lines.proofs.asked.read_repeated.Tie as tie
-use Rattle.lines.proofs.asked.read_repeated.Reads as reads
-use Rattle.lines.proofs.asked.read_repeated.Lts as lts
-use Rattle.lines.proofs.asked.put_repeated.Reads as put-repeated-reads
-use Rattle.lines.proofs.asked.read_first.Reads as read-first-reads
-use Rattle.lines.proofs.items.size.Reads as size-reads
 
--- src/asked.rt:209:9
 returns : tie.Need-returns
 returns c = search needs
 
--- src/asked.rt:211:18
 shared-slice-read-size : tie.Need-shared-slice-read-size
 shared-slice-read-size c = search needs
 
--- src/asked.rt:211:9
 size-requires : tie.Need-size-requires
 size-requires c κs = search needs
 
--- src/asked.rt:212:14
 shared-slice-read-op : tie.Need-shared-slice-read-op
 shared-slice-read-op c = search needs
 
--- src/asked.rt:214:9
 returns-2 : tie.Need-returns-2
 returns-2 c = search needs
 
--- src/asked.rt:217:9
 returns-3 : tie.Need-returns-3
 returns-3 c = search needs
 
--- src/asked.rt:220:18
 slice-aggregate-put-repeated : tie.Need-slice-aggregate-put-repeated
 slice-aggregate-put-repeated c = search needs
 
--- src/asked.rt:220:5
 put-repeated-requires : tie.Need-put-repeated-requires
 put-repeated-requires c κs =
     let n = c .before .before .before .before .before .size .result in
     let few : n ≤ 4097 = ltb-false 4097 n (c .before .before .if3 .left) in (few, within-zeros (5 * n) 20485 (omega arith), omega arith)
 
--- src/asked.rt:221:16
 slice-aggregate-read-first : tie.Need-slice-aggregate-read-first
 slice-aggregate-read-first c = search needs
 
--- src/asked.rt:221:23
 mul-read-first : tie.Need-mul-read-first
 mul-read-first c = omega (arith, ltb-false 4097 (c .before .before .before .before .before .before .before .before .size .result) (c .before .before .before .before .before .if3 .left))
 
--- src/asked.rt:221:5
 read-first-requires : tie.Need-read-first-requires
 read-first-requires c κs =
     let n = c .before .before .before .before .before .before .before .before .size .result in
     let put = c .before .before .put-repeated in
     let few : n ≤ 4097 = ltb-false 4097 n (c .before .before .before .before .before .if3 .left) in (few, omega (arith, front-room _ _ _ (put .ensures), repeated-length n (getD (c .before .before .before .before .before .before .before .before .before .before .before .before .before .args .items .now) 1 0)))
 
--- src/asked.rt:205:1
 returns-4 : tie.Need-returns-4
 returns-4 c =
     let a = c .before .before .before .before .before .before .before .before .before .before .before .before .before .before .args in

@@ -7,37 +7,25 @@ use Rattle.lines.proofs.Answered.{same-so, read-so}
 use borrow.Author.Needs.{needs}
 use Rattle.lines.proofs.asked.read_with.Statement.{statement}
 use Rattle.lines.proofs.asked.read_with.Tie as tie
-use Rattle.lines.proofs.asked.read_with.Reads as reads
-use Rattle.lines.proofs.asked.read_with.Lts as lts
-use Rattle.exact.proofs.used_of.Reads as used-of-reads
-use Rattle.lines.proofs.compared.read_verdict.Reads as read-verdict-reads
-use Rattle.parse.proofs.parse.Reads as parse-reads
 
--- src/asked.rt:48:9
 used-of-requires : tie.Need-used-of-requires
 used-of-requires c κs = search needs
 
--- src/asked.rt:49:9
 parse-requires : tie.Need-parse-requires
 parse-requires c κs = search needs
 
--- src/asked.rt:59:5
 read-verdict-requires : tie.Need-read-verdict-requires
 read-verdict-requires c κs = search needs
 
--- src/asked.rt:36:1
 same-length : tie.Need-same-length
 same-length c = search needs
 
--- src/asked.rt:36:1
 same-length-2 : tie.Need-same-length-2
 same-length-2 c = search needs
 
--- src/asked.rt:36:1
 same-length-3 : tie.Need-same-length-3
 same-length-3 c = search needs
 
--- src/asked.rt:36:1
 returns : tie.Need-returns
 returns c =
     let start = c .before .before .before .before .before .before .before .before .before .before .before .before .before .before .before .before .before .before .before .before in

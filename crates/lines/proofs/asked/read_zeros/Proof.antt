@@ -6,36 +6,25 @@ use Rattle.lines.proofs.Zeros.{zeros-of, within-zeros}
 use Rattle.lines.proofs.Answered.{same-so, zeros-line}
 use Rattle.lines.proofs.asked.read_zeros.Statement.{statement}
 use Rattle.lines.proofs.asked.read_zeros.Tie as tie
-use Rattle.lines.proofs.asked.read_zeros.Reads as reads
-use Rattle.lines.proofs.asked.read_zeros.Lts as lts
-use Rattle.lines.proofs.asked.read_first.Reads as read-first-reads
-use Rattle.lines.proofs.items.size.Reads as size-reads
 
--- src/asked.rt:182:9
 returns : tie.Need-returns
 returns c = search needs
 
--- src/asked.rt:184:22
 shared-slice-read-size : tie.Need-shared-slice-read-size
 shared-slice-read-size c = search needs
 
--- src/asked.rt:184:9
 size-requires : tie.Need-size-requires
 size-requires c κs = search needs
 
--- src/asked.rt:186:9
 returns-2 : tie.Need-returns-2
 returns-2 c = search needs
 
--- src/asked.rt:189:16
 slice-aggregate-read-first : tie.Need-slice-aggregate-read-first
 slice-aggregate-read-first c = search needs
 
--- src/asked.rt:189:5
 read-first-requires : tie.Need-read-first-requires
 read-first-requires c κs = search needs
 
--- src/asked.rt:178:1
 returns-3 : tie.Need-returns-3
 returns-3 c =
     let a = c .before .before .before .before .before .before .before .before .args in

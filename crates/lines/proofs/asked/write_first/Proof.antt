@@ -6,33 +6,24 @@ use borrow.Author.Needs.{needs}
 use Rattle.lines.proofs.Zeros.{front-zeros}
 use Rattle.lines.proofs.asked.write_first.Statement.{statement}
 use Rattle.lines.proofs.asked.write_first.Tie as tie
-use Rattle.lines.proofs.asked.write_first.Reads as reads
-use Rattle.lines.proofs.asked.write_first.Lts as lts
-use Rattle.lines.proofs.asked.write_with.Reads as write-with-reads
 
--- src/asked.rt:256:16
 slice-aggregate-write-with : tie.Need-slice-aggregate-write-with
 slice-aggregate-write-with c = sym (length-take-le _ _ (omega arith))
 
--- src/asked.rt:256:32
 slice-relend-prefix-write-with : tie.Need-slice-relend-prefix-write-with
 slice-relend-prefix-write-with c = search needs
 
--- src/asked.rt:256:32
 slice-aggregate-write-with-2 : tie.Need-slice-aggregate-write-with-2
 slice-aggregate-write-with-2 c = sym (length-take-le _ _ (omega arith))
 
--- src/asked.rt:256:5
 write-with-requires : tie.Need-write-with-requires
 write-with-requires c κs =
     let start = c .before .before .before .before .before in
     let a = start .args in front-zeros (a .room) (a .list .now) (start .pre .2)
 
--- src/asked.rt:246:1
 same-length : tie.Need-same-length
 same-length c = search needs
 
--- src/asked.rt:246:1
 returns : tie.Need-returns
 returns c = search needs
 

@@ -7,40 +7,28 @@ use Rattle.lines.proofs.Zeros.{zeros-of, within-zeros}
 use Rattle.lines.proofs.Answered.{same-so, tree-line}
 use Rattle.lines.proofs.asked.write_nodes.Statement.{statement}
 use Rattle.lines.proofs.asked.write_nodes.Tie as tie
-use Rattle.lines.proofs.asked.write_nodes.Reads as reads
-use Rattle.lines.proofs.asked.write_nodes.Lts as lts
-use Rattle.lines.proofs.asked.put_nodes.Reads as put-nodes-reads
-use Rattle.lines.proofs.asked.write_first.Reads as write-first-reads
 
--- src/asked.rt:266:15
 slice-aggregate-put-nodes : tie.Need-slice-aggregate-put-nodes
 slice-aggregate-put-nodes c = search needs
 
--- src/asked.rt:266:5
 put-nodes-requires : tie.Need-put-nodes-requires
 put-nodes-requires c κs = search needs
 
--- src/asked.rt:267:17
 mul-words : tie.Need-mul-words
 mul-words c = search needs
 
--- src/asked.rt:268:16
 mul-room : tie.Need-mul-room
 mul-room c = search needs
 
--- src/asked.rt:269:17
 slice-aggregate-write-first : tie.Need-slice-aggregate-write-first
 slice-aggregate-write-first c = search needs
 
--- src/asked.rt:269:31
 slice-aggregate-write-first-2 : tie.Need-slice-aggregate-write-first-2
 slice-aggregate-write-first-2 c = search needs
 
--- src/asked.rt:269:5
 write-first-requires : tie.Need-write-first-requires
 write-first-requires c κs = search needs
 
--- src/asked.rt:260:1
 returns : tie.Need-returns
 returns c =
     let a = c .before .before .before .before .before .before .before .before .before .args in
