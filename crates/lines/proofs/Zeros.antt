@@ -1,15 +1,12 @@
 -- Words that are all 0, and a buffer that holds some words and 0 after them, by their places.
-use Prim.Native.Nat.{ℕ, zero, suc, _+_, _-_, _*_, _/_, _%_, _≤_, _<_}
-use mathlib.Core.Path.{_≡_, refl, ap, sym, _∙_}
-use mathlib.Core.List.{List, [], _∷_, _++_}
+use Prim.Native.Nat.{ℕ, _+_, _-_, _≤_, _<_}
+use mathlib.Core.Path.{_≡_, ap, sym, _∙_}
+use mathlib.Core.List.{List, _++_}
 use mathlib.Core.Logic.{_↔_}
 use native.Mathlib.Omega.{arith}
-use lib.ListN.{length, getD, take, drop, replicate, length-append, length-drop, length-replicate, getD-replicate, take-append-drop, List·getD-append}
+use lib.ListN.{length, getD, take, drop, replicate, length-append, length-take, length-drop, length-replicate, getD-replicate, take-append-drop, List·getD-append}
 use lib.Seq.{getD-take, getD-drop, ext-getD, length-take-le, drop-append-seam}
-use Rattle.molang.specs.Words.{tokenWords, listWords}
 use Rattle.molang.specs.Parse.{inFront}
-use Rattle.molang.specs.Lines.{nodeWords, writtenOf}
-use Rattle.lines.specs.Items.{bareWords}
 use Rattle.lines.specs.Compared.{zeros, Holds}
 use Rattle.lines.proofs.ItemLaws.{zero-at}
 
@@ -84,42 +81,16 @@ part-same ws l at n room long same =
 pub part-at : (ws l : List ℕ) (at n : ℕ) → take n (drop at l) ≡ ws → (k : ℕ) → k < n → getD l (at + k) 0 ≡ getD ws k 0
 part-at ws l at n e k h = sym (getD-drop at l k 0) ∙ sym (getD-take n (drop at l) k 0 h) ∙ ap (λ (w : List ℕ). getD w k 0) e
 
--- THE WORDS OF NODES AND TOKENS, place by place.
-pub nodes-length : (nodes : List ℕ) → length (nodeWords nodes) ≡ 6 * length nodes
-unfolding nodeWords
-nodes-length [] = refl
-nodes-length (n ∷ nodes) = omega (arith, nodes-length nodes)
+-- THE FRONT OF ZEROS is zeros.
+pub front-zeros : (n : ℕ) (l : List ℕ) → l ≡ zeros l → take n l ≡ zeros (take n l)
+front-zeros n l e = all-zero (take n l) (λ k b. getD-take n l k 0 (omega (arith, length-take n l)) ∙ each-zero l e k)
 
-pub node-at : (nodes : List ℕ) (i : ℕ) → i < 6 * length nodes → getD (nodeWords nodes) i 0 ≡ getD (nodeWords (getD nodes (i / 6) 0 ∷ [])) (i % 6) 0
-unfolding nodeWords
-node-at [] i h = absurd (omega arith)
-node-at (n ∷ nodes) zero h = refl
-node-at (n ∷ nodes) (suc zero) h = refl
-node-at (n ∷ nodes) (suc (suc zero)) h = refl
-node-at (n ∷ nodes) (suc (suc (suc zero))) h = refl
-node-at (n ∷ nodes) (suc (suc (suc (suc zero)))) h = refl
-node-at (n ∷ nodes) (suc (suc (suc (suc (suc zero))))) h = refl
-node-at (n ∷ nodes) (suc (suc (suc (suc (suc (suc i)))))) h =
-    let j = suc (suc (suc (suc (suc (suc i))))) in
-    let node : j / 6 ≡ suc (i / 6) = omega arith in
-    let place : j % 6 ≡ i % 6 = omega arith in rw (node, place) (node-at nodes i (omega arith))
+pub take-zeros : (n : ℕ) (l : List ℕ) → l ≡ zeros l → n ≤ length l → take n l ≡ replicate n 0
+take-zeros n l e h = front-zeros n l e ∙ ap (λ (i : ℕ). replicate i 0) (length-take-le n l h)
 
-pub written-length : (tokens : List ℕ) → length (listWords (writtenOf tokens)) ≡ 5 * length tokens
-unfolding writtenOf listWords tokenWords
-written-length [] = refl
-written-length (n ∷ tokens) = omega (arith, written-length tokens)
+-- As many zeros as there are.
+pub zeros-of : (n : ℕ) → _≡_ {A = List ℕ} (replicate n 0) (zeros (replicate n 0))
+zeros-of n = sym (ap (λ (i : ℕ). replicate i 0) (length-replicate n 0))
 
-pub written-at : (tokens : List ℕ) (i : ℕ) → i < 5 * length tokens
-    → getD (listWords (writtenOf tokens)) i 0
-    ≡ getD (bareWords (getD tokens (i / 5) 0 / 10000) (getD tokens (i / 5) 0 / 100 % 100) (getD tokens (i / 5) 0 % 100)) (i % 5) 0
-unfolding writtenOf listWords tokenWords bareWords
-written-at [] i h = absurd (omega arith)
-written-at (n ∷ tokens) zero h = refl
-written-at (n ∷ tokens) (suc zero) h = refl
-written-at (n ∷ tokens) (suc (suc zero)) h = refl
-written-at (n ∷ tokens) (suc (suc (suc zero))) h = refl
-written-at (n ∷ tokens) (suc (suc (suc (suc zero)))) h = refl
-written-at (n ∷ tokens) (suc (suc (suc (suc (suc i))))) h =
-    let j = suc (suc (suc (suc (suc i)))) in
-    let token : j / 5 ≡ suc (i / 5) = omega arith in
-    let place : j % 5 ≡ i % 5 = omega arith in rw (token, place) (written-at tokens i (omega arith))
+pub within-zeros : (n m : ℕ) → n ≤ m → n ≤ length {A = ℕ} (replicate m 0)
+within-zeros n m h = omega (arith, length-replicate {A = ℕ} m 0)

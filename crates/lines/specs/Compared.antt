@@ -1,5 +1,5 @@
--- What a verdict `Same` says: the answer and every word of the buffers are those that molang's Lines wants of the line's answers. The buffers
--- are zeros before the call.
+-- What a verdict `Same` says: the answer and every word of the buffers are those that molang's Lines wants of the line's answers, the buffers
+-- being zeros before the call; of a whole line, that the definition itself answers its calls so.
 use Prim.Native.Nat.{ℕ}
 use mathlib.Core.Path.{_≡_}
 use mathlib.Core.List.{List, [], _∷_}
@@ -7,7 +7,7 @@ use lib.IntN.{pos}
 use lib.ListN.{length, drop, getD, replicate}
 use Rattle.molang.specs.Parse.{Call, Told, inFront}
 use Rattle.molang.specs.WriteEntry.{WriteTold}
-use Rattle.molang.specs.Lines.{parsed, wrote, refusedMark, itemsOf, marksOf, wantedOf, writeWantedOf}
+use Rattle.molang.specs.Lines.{Marked, Asked, parsed, wrote, refusedMark, itemsOf, marksOf, wantedOf, writeWantedOf, compared, givens, wanteds}
 use Rattle.lines.specs.declared.compared.Verdict.{Verdict}
 use Rattle.lines.specs.declared.compared.Verdict.the-variants.{Same, Answer, Tree, Messages, Work, List as Verdict·List, Unclear}
 
@@ -45,6 +45,10 @@ ReadAsSaid answers told tree messages = parsed told tree messages ≡ wantedOf (
 -- A writing told this and left this list, as the line says.
 unfoldable pub WrittenAsSaid : List ℕ → WriteTold → List ℕ → Type 0
 WrittenAsSaid answers told list = wrote told list ≡ writeWantedOf (marksOf answers) (record { tree = []; list = zeros list })
+
+-- The definition itself answers the calls of a line as the line says.
+unfoldable pub AnsweredAsSaid : List Marked → Asked → Type 0
+AnsweredAsSaid ms a = givens (compared ms a) ≡ wanteds (compared ms a)
 
 -- What holds where the verdict is `Same`.
 abbrev pub ifSame : Verdict → Type 0 → Type 0

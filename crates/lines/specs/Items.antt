@@ -3,12 +3,17 @@ use Prim.Native.Nat.{ℕ, _-_, _≤_, _<_}
 use mathlib.Core.Path.{_≡_}
 use mathlib.Core.List.{List}
 use lib.ListN.{length, take, drop, getD}
+use Rattle.molang.specs.Forest.{Token}
 use Rattle.molang.specs.Words.{tokenWords}
 use Rattle.molang.specs.Lines.{anyMark, treeMark, itemsOf, marksOf}
 
 -- A token of payload 0.
+abbrev pub bareToken : ℕ → ℕ → ℕ → Token
+bareToken op start end = record { op = op; variant = 0; value = 0; start = start; end = end }
+
+-- Its words.
 unfoldable pub bareWords : ℕ → ℕ → ℕ → List ℕ
-bareWords op start end = tokenWords (record { op = op; variant = 0; value = 0; start = start; end = end })
+bareWords op start end = tokenWords (bareToken op start end)
 
 -- The numbers from `from` up to `end` are the items of the mark before them, and no mark is passed over.
 pub record Ended (numbers : List ℕ) (from end : ℕ) : Type 0 where

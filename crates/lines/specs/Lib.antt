@@ -1,3 +1,4 @@
--- What the program's items stand for and what its verdicts say, beside molang's Lines.
+-- What the program's items stand for, what its verdicts say and which calls it makes, beside molang's Lines.
 pub mod Items
 pub mod Compared
+pub mod Asked

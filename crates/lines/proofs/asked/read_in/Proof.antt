@@ -1,8 +1,11 @@
--- `lines::asked::read_in` is safe and ends. Assumes nothing.
+-- `lines::asked::read_in` meets its contract: what is handed on of the buffers are zeros. Assumes nothing.
+use Prim.Native.Nat.{_+_, _*_}
 use mathlib.Core.Path.{sym}
 use native.Mathlib.Omega.{arith}
 use lib.Seq.{length-take-le}
 use borrow.Author.Needs.{needs}
+use mir.Facts.{toZ-ofZ}
+use Rattle.lines.proofs.Zeros.{take-zeros}
 use Rattle.lines.proofs.asked.read_in.Statement.{statement}
 use Rattle.lines.proofs.asked.read_in.Tie as tie
 
@@ -28,7 +31,15 @@ slice-aggregate-read-with-2 : tie.Need-slice-aggregate-read-with-2
 slice-aggregate-read-with-2 c = sym (length-take-le _ _ (omega arith))
 
 read-with-requires : tie.Need-read-with-requires
-read-with-requires c κs = search needs
+read-with-requires c κs =
+    let start = c .before .before .before .before .before .before .before .before in
+    let a = start .args in
+    let room = start .pre .1 in
+    record {
+      tree = take-zeros (18 * a .n) (a .tree .now) (room .tree) (omega arith);
+      messages = room .messages;
+      work = take-zeros (64 * a .n + 64) (a .work .now) (room .work) (omega arith);
+    }
 
 same-length : tie.Need-same-length
 same-length c = search needs
@@ -40,7 +51,8 @@ same-length-3 : tie.Need-same-length-3
 same-length-3 c = search needs
 
 returns : tie.Need-returns
-returns c = search needs
+returns c =
+    let start = c .before .before .before .before .before .before .before .before .before .before .before .before .before .before .before in rw (toZ-ofZ (start .fits .version)) at (c .before .before .before .before .before .before .read-with .ensures)
 
 pub read-in-spec : {M : Type 1} → statement M
 read-in-spec =

@@ -1,8 +1,9 @@
--- `lines::asked::write_first` is safe and ends. Assumes nothing.
+-- `lines::asked::write_first` meets its contract: what is handed on of the list are zeros. Assumes nothing.
 use mathlib.Core.Path.{sym}
 use native.Mathlib.Omega.{arith}
 use lib.Seq.{length-take-le}
 use borrow.Author.Needs.{needs}
+use Rattle.lines.proofs.Zeros.{front-zeros}
 use Rattle.lines.proofs.asked.write_first.Statement.{statement}
 use Rattle.lines.proofs.asked.write_first.Tie as tie
 
@@ -16,7 +17,9 @@ slice-aggregate-write-with-2 : tie.Need-slice-aggregate-write-with-2
 slice-aggregate-write-with-2 c = sym (length-take-le _ _ (omega arith))
 
 write-with-requires : tie.Need-write-with-requires
-write-with-requires c κs = search needs
+write-with-requires c κs =
+    let start = c .before .before .before .before .before in
+    let a = start .args in front-zeros (a .room) (a .list .now) (start .pre .2)
 
 same-length : tie.Need-same-length
 same-length c = search needs

@@ -7,7 +7,8 @@ use borrow.Author.Count.{below-more}
 use borrow.Author.Tests.{eqb-true, eq-eqb}
 use lib.ListN.{length, getD}
 use Rattle.molang.specs.Lines.{nodeWords}
-use Rattle.lines.proofs.Zeros.{nodes-length, node-at, holds-room, holds-at, holds-rest, zero-from}
+use Rattle.lines.proofs.WordPlaces.{nodes-length, node-at}
+use Rattle.lines.proofs.Zeros.{holds-room, holds-at, holds-rest, zero-from}
 use Rattle.lines.proofs.compared.has_nodes.Statement.{statement}
 use Rattle.lines.proofs.compared.has_nodes.Tie as tie
 

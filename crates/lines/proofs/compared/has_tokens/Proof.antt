@@ -8,7 +8,8 @@ use borrow.Author.Tests.{eqb-true, eq-eqb}
 use lib.ListN.{length, getD}
 use Rattle.molang.specs.Words.{listWords}
 use Rattle.molang.specs.Lines.{writtenOf}
-use Rattle.lines.proofs.Zeros.{written-length, written-at, holds-room, holds-at, holds-rest, zero-from}
+use Rattle.lines.proofs.WordPlaces.{written-length, written-at}
+use Rattle.lines.proofs.Zeros.{holds-room, holds-at, holds-rest, zero-from}
 use Rattle.lines.proofs.compared.has_tokens.Statement.{statement}
 use Rattle.lines.proofs.compared.has_tokens.Tie as tie
 
