@@ -3,9 +3,8 @@ use Prim.Native.Nat.{ℕ, zero, suc, _+_, _^_, _≤_, _<_}
 use mathlib.Core.Path.{_≡_, refl, ap, _∙_, fun-ext}
 use mathlib.Core.Bool.{Bool, true, false, _||_, or-false}
 use mathlib.Core.List.{List, [], _∷_}
-use native.Mathlib.Nat.{pow-suc}
 use native.Mathlib.Omega.{arith}
-use lib.Dec.{eqb, eqb·zero-suc, eqb·suc-zero, eqb·suc-suc}
+use lib.Dec.{eqb}
 use lib.IntN.{ℤ}
 use lib.ListN.{length, replicate}
 use Rattle.molang.specs.Forest.{Token}
@@ -13,6 +12,7 @@ use Rattle.molang.specs.Read.{uses, setNumber}
 use Rattle.molang.specs.Words.{Slot, operatorSlot, startSlot, endSlot, upperSlot, lowerSlot, countSlot, Legal, listWords, nextInToken, wordFault, kindOf, lowOf, slotKind, unless}
 use Rattle.molang.specs.Lines.{tokensFrom, callFor, listCall}
 use Rattle.molang.proofs.Words.{LegalTokens, noTokens, token, tokens-back}
+use Rattle.molang.proofs.UsedSet.{no-operators, one-operator}
 use Rattle.molang.proofs.ListWords.{list-unrefused, listWords-length}
 use Rattle.exact.specs.Exact.{names, named}
 use Rattle.exact.proofs.WordLaws.{legal-list}
@@ -58,27 +58,11 @@ unfolding named
 zero-named zero slot m = refl
 zero-named (suc n) slot m = rw (zero-names slot m, zero-named n (nextInToken slot) m) refl
 
-no-operators : (n : ℕ) → setNumber (λ m. false) n ≡ 0
-unfolding setNumber
-no-operators zero = refl
-no-operators (suc n) = rw (no-operators n) refl
-
 pub zeros-called : (n words : ℕ) (version : ℤ) → ownCall n (replicate words 0) version ≡ callFor n (replicate words 0) 0 version
 unfolding ownCall
 zeros-called n words version =
     ap (λ (u : ℕ). callFor n (replicate words 0) u version)
     (ap (λ (f : ℕ → Bool). setNumber f 111) (fun-ext (zero-named words operatorSlot)) ∙ no-operators 111)
-
--- One operator.
-one-operator : (n o : ℕ) → o < n → setNumber (eqb o) n ≡ 2 ^ o
-unfolding setNumber
-one-operator zero o h = absurd (omega arith)
-one-operator (suc n) zero h =
-    let others : _≡_ {A = ℕ → Bool} (λ m. eqb 0 (suc m)) (λ m. false) = fun-ext eqb·zero-suc in
-    rw (others, no-operators n) refl
-one-operator (suc n) (suc o) h =
-    let others : _≡_ {A = ℕ → Bool} (λ m. eqb (suc o) (suc m)) (eqb o) = fun-ext (eqb·suc-suc o) in
-    rw (others, one-operator n o (omega arith), eqb·suc-zero o, pow-suc 2 o) (omega arith)
 
 repeated-legal : (n o : ℕ) → o ≤ 110 → LegalTokens (replicate n (bareToken o 0 0))
 repeated-legal zero o h = noTokens

@@ -1,11 +1,11 @@
 -- Used sets by their bits: one without operators above 110 is a number below 2 ^ 111, which the entry does not turn back; and every set of
 -- operators up to 110 is one, in two halves.
 use Prim.Native.Nat.{ℕ, zero, suc, _+_, _*_, _/_, _%_, _^_, _≤_, _<_}
-use mathlib.Core.Path.{_≡_, refl, ap, sym, _∙_}
+use mathlib.Core.Path.{_≡_, refl, ap, sym, _∙_, fun-ext}
 use mathlib.Core.Bool.{Bool, true, false, _&&_, false≢true}
-use native.Mathlib.Nat.{div-one}
+use native.Mathlib.Nat.{div-one, pow-suc}
 use native.Mathlib.Omega.{arith}
-use lib.Dec.{eqb, ltb, leb·zero, leb·suc-zero, leb·suc-suc}
+use lib.Dec.{eqb, ltb, leb·zero, leb·suc-zero, leb·suc-suc, eqb·zero-suc, eqb·suc-zero, eqb·suc-suc}
 use lib.Pow.{shr-shr, shr-le, shr-lt, split}
 use borrow.Author.Tests.{eqb-false, eq-eqb, ne-eqb, leb-false}
 use Rattle.molang.specs.Read.{setNumber}
@@ -114,3 +114,19 @@ halves f h =
     let exactly = halves-exact f h in
     let few : n < 2 ^ 111 = rw whole at (used-few (n % 2 ^ 64) (n / 2 ^ 64) (λ m b. exactly m ∙ h m b)) in
     record { low = n % 2 ^ 64; high = n / 2 ^ 64; exactly = exactly; lowFits = omega arith; highFits = high-small (shr-lt 47 64 few) }
+
+-- The set without operators, and the set of one.
+pub no-operators : (n : ℕ) → setNumber (λ m. false) n ≡ 0
+unfolding setNumber
+no-operators zero = refl
+no-operators (suc n) = rw (no-operators n) refl
+
+pub one-operator : (n o : ℕ) → o < n → setNumber (eqb o) n ≡ 2 ^ o
+unfolding setNumber
+one-operator zero o h = absurd (omega arith)
+one-operator (suc n) zero h =
+    let others : _≡_ {A = ℕ → Bool} (λ m. eqb 0 (suc m)) (λ m. false) = fun-ext eqb·zero-suc in
+    rw (others, no-operators n) refl
+one-operator (suc n) (suc o) h =
+    let others : _≡_ {A = ℕ → Bool} (λ m. eqb (suc o) (suc m)) (eqb o) = fun-ext (eqb·suc-suc o) in
+    rw (others, one-operator n o (omega arith), eqb·suc-zero o, pow-suc 2 o) (omega arith)
