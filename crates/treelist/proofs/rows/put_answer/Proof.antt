@@ -1,12 +1,14 @@
--- `treelist::text::put_answer` meets its contract: the name, the numbers of its line, and the lines after it. Assumes nothing.
+-- `treelist::rows::put_answer` meets its contract: the name, the numbers of its line, and the lines after it. Assumes nothing.
 use mathlib.Core.List.{_++_}
 use native.Mathlib.Omega.{arith}
 use lib.ListN.{length-append}
-use Rattle.treelist.specs.Text.{numbered, nodeRows, recordRows, treeName, messagesName, refusedName, answerText}
-use Rattle.treelist.proofs.TextLaws.{numbered-length, node-rows-length, record-rows-length, wrote-then, text-in}
+use Rattle.text.specs.Text.{ascii, numbered}
+use Rattle.treelist.specs.Rows.{nodeRows, recordRows, answerText}
+use Rattle.text.proofs.TextLaws.{numbered-length, wrote-then, text-in}
+use Rattle.treelist.proofs.RowLaws.{node-rows-length, record-rows-length}
 use borrow.Author.Needs.{needs}
-use Rattle.treelist.proofs.text.put_answer.Statement.{statement}
-use Rattle.treelist.proofs.text.put_answer.Tie as tie
+use Rattle.treelist.proofs.rows.put_answer.Statement.{statement}
+use Rattle.treelist.proofs.rows.put_answer.Tie as tie
 
 enum-known-answered : tie.Need-enum-known-answered
 enum-known-answered c = search needs
@@ -82,7 +84,7 @@ returns c =
     let w = wrote-then (wrote-then (c .before .before .before .before .before .before .before .before .before .before .put-bytes .ensures) (c .before .before .before .before .before .before .put-number .ensures)) (c .before .before .put-nodes .ensures) in
     let rows = node-rows-length n (start .args .tree .now) in
     rw (case .1)
-    (text-in 32768 w (omega (arith, few, rows, numbered-length n 10, length-append (treeName ++ numbered n 10) (nodeRows n (start .args .tree .now)), length-append treeName (numbered n 10))) (omega (arith, start .pre .0)))
+    (text-in 32768 w (omega (arith, few, rows, numbered-length n 10, length-append (ascii "tree " ++ numbered n 10) (nodeRows n (start .args .tree .now)), length-append (ascii "tree ") (numbered n 10))) (omega (arith, start .pre .0)))
 
 same-length-2 : tie.Need-same-length-2
 same-length-2 c = search needs
@@ -97,7 +99,7 @@ returns-2 c =
     let w = wrote-then (wrote-then (c .before .before .before .before .before .before .before .before .before .before .put-bytes2 .ensures) (c .before .before .before .before .before .before .put-number2 .ensures)) (c .before .before .put-records .ensures) in
     let rows = record-rows-length n (start .args .messages .now) (omega (arith, few, start .pre .0)) in
     rw (case .1)
-    (text-in 32768 w (omega (arith, few, rows, numbered-length n 10, length-append (messagesName ++ numbered n 10) (recordRows n (start .args .messages .now)), length-append messagesName (numbered n 10))) (omega (arith, start .pre .0)))
+    (text-in 32768 w (omega (arith, few, rows, numbered-length n 10, length-append (ascii "messages " ++ numbered n 10) (recordRows n (start .args .messages .now)), length-append (ascii "messages ") (numbered n 10))) (omega (arith, start .pre .0)))
 
 same-length-3 : tie.Need-same-length-3
 same-length-3 c = search needs
@@ -112,7 +114,7 @@ returns-3 c =
     let number = rw (c .before .before .before .before .before .before .before .wide .ensures) at (c .before .before .before .before .before .before .put-number3 .ensures) in
     let w = wrote-then (wrote-then (c .before .before .before .before .before .before .before .before .before .before .before .put-bytes3 .ensures) number) (c .before .before .put-number4 .ensures) in
     rw (case .1)
-    (text-in 32768 w (omega (arith, numbered-length n 32, numbered-length place 10, length-append (refusedName ++ numbered n 32) (numbered place 10), length-append refusedName (numbered n 32))) (omega (arith, start .pre .0)))
+    (text-in 32768 w (omega (arith, numbered-length n 32, numbered-length place 10, length-append (ascii "refused " ++ numbered n 32) (numbered place 10), length-append (ascii "refused ") (numbered n 32))) (omega (arith, start .pre .0)))
 
 pub put-answer-spec : {M : Type 1} → statement M
 put-answer-spec =

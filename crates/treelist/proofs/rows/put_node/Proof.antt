@@ -1,8 +1,8 @@
--- `treelist::text::put_node` meets its contract: four fields of the node's words, in a line. Assumes nothing.
+-- `treelist::rows::put_node` meets its contract: four fields of the node's words, in a line. Assumes nothing.
 use borrow.Author.Needs.{needs}
-use Rattle.treelist.proofs.TextLaws.{node-laid}
-use Rattle.treelist.proofs.text.put_node.Statement.{statement}
-use Rattle.treelist.proofs.text.put_node.Tie as tie
+use Rattle.treelist.proofs.RowLaws.{node-laid}
+use Rattle.treelist.proofs.rows.put_node.Statement.{statement}
+use Rattle.treelist.proofs.rows.put_node.Tie as tie
 
 mul-operator : tie.Need-mul-operator
 mul-operator c = search needs

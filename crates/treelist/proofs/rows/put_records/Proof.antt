@@ -1,12 +1,14 @@
--- `treelist::text::put_records` meets its contract: the lines of the first i records are laid. Assumes nothing.
+-- `treelist::rows::put_records` meets its contract: the lines of the first i records are laid. Assumes nothing.
 use Prim.Native.Nat.{_+_, _-_, _*_, _≤_}
 use mathlib.Core.Path.{_≡_, refl, _∙_}
 use native.Mathlib.Omega.{arith}
 use lib.ListN.{length, take, drop, length-take, length-drop}
-use Rattle.treelist.specs.Text.{Wrote, recordRows}
-use Rattle.treelist.proofs.TextLaws.{wrote-none, record-rows-length, records-on}
-use Rattle.treelist.proofs.text.put_records.Statement.{statement}
-use Rattle.treelist.proofs.text.put_records.Tie as tie
+use Rattle.text.specs.Text.{Wrote}
+use Rattle.treelist.specs.Rows.{recordRows}
+use Rattle.text.proofs.TextLaws.{wrote-none}
+use Rattle.treelist.proofs.RowLaws.{record-rows-length, records-on}
+use Rattle.treelist.proofs.rows.put_records.Statement.{statement}
+use Rattle.treelist.proofs.rows.put_records.Tie as tie
 
 abbrev Inv-loop : tie.InvT-loop
 Inv-loop out₀ at messages n end₀ i₀ out end i = (i ≤ n) × (length out ≡ length out₀) × Wrote out₀ at (recordRows i messages) end out

@@ -1,12 +1,12 @@
--- `treelist::text::put_bytes` meets its contract: the first i bytes are laid. Assumes nothing.
+-- `text::put_bytes` meets its contract: the first i bytes are laid. Assumes nothing.
 use Prim.Native.Nat.{_+_, _-_, _≤_}
 use mathlib.Core.Path.{_≡_, refl}
 use native.Mathlib.Omega.{arith}
 use lib.ListN.{length, take}
-use Rattle.treelist.specs.Text.{Wrote}
-use Rattle.treelist.proofs.TextLaws.{wrote-start, wrote-byte, wrote-all}
-use Rattle.treelist.proofs.text.put_bytes.Statement.{statement}
-use Rattle.treelist.proofs.text.put_bytes.Tie as tie
+use Rattle.text.specs.Text.{Wrote}
+use Rattle.text.proofs.TextLaws.{wrote-start, wrote-byte, wrote-all}
+use Rattle.text.proofs.put_bytes.Statement.{statement}
+use Rattle.text.proofs.put_bytes.Tie as tie
 
 abbrev Inv-loop : tie.InvT-loop
 Inv-loop out₀ at bytes i₀ out i = (i ≤ length bytes) × (length out ≡ length out₀) × Wrote out₀ at (take i bytes) (at + i) out

@@ -7,13 +7,11 @@ use native.Mathlib.Numerals.{add-one}
 use native.Mathlib.Nat.{add-zero, pow-le-pow-right}
 use native.Mathlib.Omega.{arith, pow-step}
 use lib.Dec.{leb, ltb}
-use lib.ListN.{length, take, drop, set, getD, length-append, length-set, length-take, length-drop}
+use lib.ListN.{length, take, set, getD, length-append, length-set, length-take}
 use lib.Seq.{take-suc, take-suc-set, take-all}
 use borrow.Author.Tests.{lt-ltb, le-ltb, leb-true, leb-false}
 use Rattle.io.specs.Digits.{digits, glyph, Fewest}
-use Rattle.molang.specs.Words.{lowOf}
-use Rattle.words.specs.Fields.{operatorOf}
-use Rattle.treelist.specs.Text.{decimalIn, decimal, numbered, lineEnd, space, spaced, row, nodeNumbers, nodeRows, recordRows, Wrote}
+use Rattle.text.specs.Text.{decimalIn, decimal, numbered, Wrote}
 
 -- Nothing is laid, and a text behind a text.
 pub wrote-none : (out : List ℕ) (at : ℕ) → Wrote out at [] at out
@@ -58,6 +56,10 @@ wrote-all {out₀} {out} {at} {bytes} {i} h g w =
       front = ap (λ (n : ℕ). take n out) end ∙ w .front ∙ ap (λ (l : List ℕ). take at out₀ ++ l) (take-all i bytes h);
     }
 
+-- A text from the first byte on.
+pub text-in : {a b s : List ℕ} {r : ℕ} (k : ℕ) → Wrote a 0 s r b → length s ≤ k → k ≤ length a → (r ≤ length b) × (take r b ≡ s)
+text-in k w h room = (omega (arith, w .ends, w .same), w .front)
+
 -- LENGTHS
 decimal-in-length : (k n : ℕ) → length (decimalIn k n) ≤ k
 unfolding decimalIn
@@ -69,49 +71,13 @@ decimal-in-length (suc k) n = by-first (ltb n 10) (decimal-in-length k (n / 10))
     by-first true h = omega arith
     by-first false h = omega (arith, length-append (decimalIn k (n / 10)) ((48 + n % 10) ∷ []))
 
+pub decimal-length : (n : ℕ) → length (decimal n) ≤ 20
+unfolding decimal
+decimal-length n = decimal-in-length 20 n
+
 pub numbered-length : (n after : ℕ) → length (numbered n after) ≤ 21
-unfolding numbered decimal
-numbered-length n after = omega (arith, length-append (decimalIn 20 n) (after ∷ []), decimal-in-length 20 n)
-
-pub spaced-length : (i : ℕ) (ns : List ℕ) → length (spaced i ns) ≤ 21 * i
-unfolding spaced
-spaced-length zero ns = omega arith
-spaced-length (suc i) ns = omega (
-  arith,
-  length-append (spaced i ns) (numbered (getD ns i 0) space),
-  numbered-length (getD ns i 0) space,
-  spaced-length i ns,
-)
-
-pub row-length : (ns : List ℕ) → 1 ≤ length ns → length (row ns) ≤ 21 * length ns
-unfolding row
-row-length ns h =
-    let k = length ns - 1 in
-    omega (
-      arith,
-      length-append (spaced k ns) (numbered (getD ns k 0) lineEnd),
-      numbered-length (getD ns k 0) lineEnd,
-      spaced-length k ns,
-    )
-
-pub node-rows-length : (i : ℕ) (tree : List ℕ) → length (nodeRows i tree) ≤ 84 * i
-unfolding nodeRows nodeNumbers
-node-rows-length zero tree = omega arith
-node-rows-length (suc i) tree =
-    omega (arith, length-append (nodeRows i tree) (row (nodeNumbers tree (6 * i))), node-rows-length i tree, row-length (nodeNumbers tree (6 * i)) (omega arith))
-
-pub record-rows-length : (i : ℕ) (messages : List ℕ) → 8 * i ≤ length messages → length (recordRows i messages) ≤ 168 * i
-unfolding recordRows
-record-rows-length zero messages h = omega arith
-record-rows-length (suc i) messages h =
-    let eight = take 8 (drop (8 * i) messages) in
-    let eights : length eight ≡ 8 = omega (arith, length-take 8 (drop (8 * i) messages), length-drop (8 * i) messages) in
-    omega (
-      arith,
-      length-append (recordRows i messages) (row eight),
-      record-rows-length i messages (omega arith),
-      row-length eight (omega arith),
-    )
+unfolding numbered
+numbered-length n after = omega (arith, length-append (decimal n) (after ∷ []), decimal-length n)
 
 -- DIGITS
 glyph-digit : (n : ℕ) → n < 10 → glyph n ≡ 48 + n
@@ -145,54 +111,8 @@ few-digits n k h few = by-test (leb k 20) refl
         let long = leb-false k 20 e in
         absurd (omega (arith, few .2 (omega arith), pow-le-pow-right {n = 10} (omega arith) {i = 20} {j = k - 1} (omega arith)))
 
-pub wrote-number : {a b c : List ℕ} {at m r : ℕ} {ds : List ℕ} (n after k : ℕ) → n < 2 ^ 64 → Fewest 10 1 n k → ds ≡ digits 10 k n
-    → Wrote a at ds m b
-    → Wrote b m (after ∷ []) r c
-    → Wrote a at (numbered n after) r c
-unfolding numbered decimal
-wrote-number {ds = ds} n after k h few e p q =
-    let same : ds ≡ decimalIn 20 n = e ∙ sym (decimal-digits 20 k n few (few-digits n k h few)) in rw same at (wrote-then p q)
-
--- ROWS, one after the other
-pub spaced-on : {a b c : List ℕ} {at m r : ℕ} (ns : List ℕ) (i n : ℕ) → n ≡ getD ns i 0 → Wrote a at (spaced i ns) m b → Wrote b m (numbered n space) r c
-    → Wrote a at (spaced (i + 1) ns) r c
-unfolding spaced
-spaced-on {a} {b} {c} {at} {m} {r} ns i n e p q =
-    let step : spaced (i + 1) ns ≡ spaced i ns ++ numbered (getD ns i 0) space = ap (λ (k : ℕ). spaced k ns) (add-one i) in
-    rw step (wrote-then p (rw e at q))
-
-pub row-done : {a b c : List ℕ} {at m r : ℕ} (ns : List ℕ) (i n : ℕ) → i ≡ length ns - 1 → n ≡ getD ns (length ns - 1) 0 → Wrote a at (spaced i ns) m b
-    → Wrote b m (numbered n lineEnd) r c
-    → Wrote a at (row ns) r c
-unfolding row
-row-done ns i n k e p q = wrote-then (rw k at p) (rw e at q)
-
-pub node-laid : {a b : List ℕ} {at r operator children start end : ℕ} (tree : List ℕ) (from : ℕ) → operator ≡ operatorOf (getD tree from 0)
-    → children ≡ lowOf (getD tree (from + 5) 0)
-    → start ≡ lowOf (getD tree (from + 1) 0)
-    → end ≡ lowOf (getD tree (from + 2) 0)
-    → Wrote a at (row (operator ∷ children ∷ start ∷ end ∷ [])) r b
-    → Wrote a at (row (nodeNumbers tree from)) r b
-unfolding nodeNumbers
-node-laid tree from o n s e w = rw (o, n, s, e) at w
-
-pub nodes-on : {a b c : List ℕ} {at m r : ℕ} (tree : List ℕ) (i : ℕ) → Wrote a at (nodeRows i tree) m b → Wrote b m (row (nodeNumbers tree (6 * i))) r c
-    → Wrote a at (nodeRows (i + 1) tree) r c
-unfolding nodeRows
-nodes-on tree i p q =
-    let step : nodeRows (i + 1) tree ≡ nodeRows i tree ++ row (nodeNumbers tree (6 * i)) = ap (λ (k : ℕ). nodeRows k tree) (add-one i) in
-    rw step (wrote-then p q)
-
-pub records-on : {a b c : List ℕ} {at m r : ℕ} (messages : List ℕ) (i : ℕ) → Wrote a at (recordRows i messages) m b
-    → Wrote b m (row (take 8 (drop (8 * i) messages))) r c
-    → Wrote a at (recordRows (i + 1) messages) r c
-unfolding recordRows
-records-on messages i p q =
-    let step : recordRows (i + 1) messages ≡ recordRows i messages ++ row (take 8 (drop (8 * i) messages)) =
-    ap (λ (k : ℕ). recordRows k messages) (add-one i)
-    in
-    rw step (wrote-then p q)
-
--- A text from the first byte on.
-pub text-in : {a b s : List ℕ} {r : ℕ} (k : ℕ) → Wrote a 0 s r b → length s ≤ k → k ≤ length a → (r ≤ length b) × (take r b ≡ s)
-text-in k w h room = (omega (arith, w .ends, w .same), w .front)
+pub wrote-decimal : {a b : List ℕ} {at r : ℕ} {ds : List ℕ} (n k : ℕ) → n < 2 ^ 64 → Fewest 10 1 n k → ds ≡ digits 10 k n → Wrote a at ds r b
+    → Wrote a at (decimal n) r b
+unfolding decimal
+wrote-decimal {ds = ds} n k h few e w =
+    let same : ds ≡ decimalIn 20 n = e ∙ sym (decimal-digits 20 k n few (few-digits n k h few)) in rw same at w

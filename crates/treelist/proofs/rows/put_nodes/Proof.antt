@@ -1,12 +1,14 @@
--- `treelist::text::put_nodes` meets its contract: the lines of the first i nodes are laid. Assumes nothing.
+-- `treelist::rows::put_nodes` meets its contract: the lines of the first i nodes are laid. Assumes nothing.
 use Prim.Native.Nat.{_-_, _≤_}
 use mathlib.Core.Path.{_≡_, refl, _∙_}
 use native.Mathlib.Omega.{arith}
 use lib.ListN.{length}
-use Rattle.treelist.specs.Text.{Wrote, nodeRows}
-use Rattle.treelist.proofs.TextLaws.{wrote-none, node-rows-length, nodes-on}
-use Rattle.treelist.proofs.text.put_nodes.Statement.{statement}
-use Rattle.treelist.proofs.text.put_nodes.Tie as tie
+use Rattle.text.specs.Text.{Wrote}
+use Rattle.treelist.specs.Rows.{nodeRows}
+use Rattle.text.proofs.TextLaws.{wrote-none}
+use Rattle.treelist.proofs.RowLaws.{node-rows-length, nodes-on}
+use Rattle.treelist.proofs.rows.put_nodes.Statement.{statement}
+use Rattle.treelist.proofs.rows.put_nodes.Tie as tie
 
 abbrev Inv-loop : tie.InvT-loop
 Inv-loop out₀ at tree n end₀ i₀ out end i = (i ≤ n) × (length out ≡ length out₀) × Wrote out₀ at (nodeRows i tree) end out

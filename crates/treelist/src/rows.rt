@@ -1,37 +1,15 @@
-// The text of an answer, laid into bytes: numbers in decimal, a space between two of a line. Leans on io (digits), parse and words;
-// specs/Text has the definition.
+// The text of an answer, laid into bytes: numbers in decimal, a space between two of a line. Leans on text, parse and words;
+// specs/Rows has the definition.
 use parse::Answer;
+use text::put_bytes;
+use text::put_number;
 use words::fields;
 ghost use mathlib.Core.Path.{_≡_};
 ghost use Prim.Native.Nat.{_+_, _*_, _≤_};
 ghost use lib.ListN.{length, take};
 ghost use Rattle.parse.specs.Answers.{toldOf};
-ghost use Rattle.treelist.specs.Text.{Wrote, numbered, row, nodeRows, recordRows, nodeNumbers, answerText, Printable};
-
-// Puts bytes at the place `at`; the place behind them.
-fn put_bytes(out: &mut [u8], at: usize, bytes: &[u8]) -> usize
-    requires { ⌜ at + length (now bytes) ≤ length (now out) ⌝ }
-    ensures { λ r. ⌜ Wrote (now (out .entry)) at (now (bytes .entry)) r (now (out .exit)) ⌝ }
-{
-    let mut i = 0usize;
-    while i < bytes.len() {
-        out[at + i] = bytes[i];
-        i += 1;
-    }
-    at + bytes.len()
-}
-
-// A number in decimal, and the byte that stands after it.
-fn put_number(out: &mut [u8], at: usize, n: u64, after: u8) -> usize
-    requires { ⌜ at + 21 ≤ length (now out) ⌝ }
-    ensures { λ r. ⌜ Wrote (now (out .entry)) at (numbered n after) r (now (out .exit)) ⌝ }
-{
-    let mut digits = [0u8; 20];
-    let k = io::decimal(n, &mut digits);
-    let end = put_bytes(out, at, &digits[..k]);
-    let last = [after];
-    put_bytes(out, end, &last)
-}
+ghost use Rattle.text.specs.Text.{Wrote};
+ghost use Rattle.treelist.specs.Rows.{row, nodeRows, recordRows, nodeNumbers, answerText, Printable};
 
 fn wide(n: u32) -> u64
     ensures { λ r. ⌜ r ≡ n ⌝ }

@@ -1,12 +1,14 @@
--- `treelist::text::put_row` meets its contract: the first i numbers are laid, each with a space. Assumes nothing.
+-- `treelist::rows::put_row` meets its contract: the first i numbers are laid, each with a space. Assumes nothing.
 use Prim.Native.Nat.{_-_, _≤_}
 use mathlib.Core.Path.{_≡_, refl, _∙_}
 use native.Mathlib.Omega.{arith}
 use lib.ListN.{length}
-use Rattle.treelist.specs.Text.{Wrote, spaced}
-use Rattle.treelist.proofs.TextLaws.{wrote-none, spaced-length, spaced-on, row-done}
-use Rattle.treelist.proofs.text.put_row.Statement.{statement}
-use Rattle.treelist.proofs.text.put_row.Tie as tie
+use Rattle.text.specs.Text.{Wrote}
+use Rattle.treelist.specs.Rows.{spaced}
+use Rattle.text.proofs.TextLaws.{wrote-none}
+use Rattle.treelist.proofs.RowLaws.{spaced-length, spaced-on, row-done}
+use Rattle.treelist.proofs.rows.put_row.Statement.{statement}
+use Rattle.treelist.proofs.rows.put_row.Tie as tie
 
 abbrev Inv-loop : tie.InvT-loop
 Inv-loop out₀ at numbers last end₀ i₀ out end i = (i ≤ last) × (length out ≡ length out₀) × Wrote out₀ at (spaced i numbers) end out
