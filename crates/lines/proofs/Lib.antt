@@ -2,3 +2,4 @@
 pub mod ItemLaws
 pub mod Zeros
 pub mod Marks
+pub mod SaidLaws
