@@ -18,6 +18,7 @@ use molang::lines::table;
 ghost use mathlib.Core.Path.{_≡_};
 ghost use Prim.Native.Nat.{_≤_};
 ghost use lib.ListN.{length, take};
+ghost use Rattle.lines.specs.Compared.{LineAsSaid, ifSame};
 ghost use Rattle.lines.specs.Said.{lineText, differs};
 
 // How many bytes the text of a line has, and the verdict in it.
@@ -32,6 +33,7 @@ fn run_line(line: &[u32], out: &mut [u8]) -> Ran
     requires { ⌜ (1 ≤ length (now line)) × (length (now line) ≤ 1002) × (length (now out) ≡ 42134) ⌝ }
     ensures { λ r. ⌜ r .bytes ≤ length (now (out .exit)) ⌝ }
     ensures { λ r. ⌜ take (r .bytes) (now (out .exit)) ≡ lineText (now (line .entry)) (r .verdict) ⌝ }
+    ensures { λ r. ⌜ ifSame (r .verdict) (LineAsSaid (now (line .entry))) ⌝ }
 {
     let mark = line[0];
     let answers = items_end(line, 1);

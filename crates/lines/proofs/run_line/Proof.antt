@@ -1,8 +1,12 @@
 -- `lines::run_line` meets its contract. Assumes nothing.
 use Prim.Native.Nat.{_-_}
 use native.Mathlib.Omega.{arith}
-use lib.ListN.{take, drop, getD, length-take, length-drop}
+use mathlib.Core.Path.{sym, ap, _∙_}
+use lib.ListN.{length, take, drop, getD, length-take, length-drop}
+use lib.Seq.{take-all}
+use Rattle.molang.specs.Lines.{marksOf}
 use Rattle.lines.proofs.SaidLaws.{asked-length, line-text}
+use Rattle.lines.proofs.Answered.{line-answered}
 use borrow.Author.Needs.{needs}
 use Rattle.lines.proofs.run_line.Statement.{statement}
 use Rattle.lines.proofs.run_line.Tie as tie
@@ -65,7 +69,13 @@ returns c =
     let line = c .before .before .before .before .before .before .before .before .before .before .before .before .before .before .before .before .args .line .now in
     let ended = c .before .before .before .before .before .before .before .before .before .before .before .before .items-end in
     let size = ended .result - 1 in
-    line-text line (take size (drop 1 line)) (c .before .before .before .before .ask .result) (omega (arith, length-take size (drop 1 line), length-drop 1 line)) (omega arith) (ended .ensures .items) (c .before .before .before .before .before .before .before .before .before .put-asked .ensures) (c .before .before .put-verdict .ensures)
+    let items = take size (drop 1 line) in
+    let asking = c .before .before .before .before .ask in
+    let said = line-text line items (asking .result) (omega (arith, length-take size (drop 1 line), length-drop 1 line)) (omega arith) (ended .ensures .items) (c .before .before .before .before .before .before .before .before .before .put-asked .ensures) (c .before .before .put-verdict .ensures) in
+    let answers = drop (ended .result) line in
+    let left = length line - ended .result in
+    let marks = ended .ensures .marks ∙ ap marksOf (sym (take-all left answers (omega (arith, length-drop (ended .result) line)))) in
+    (said .0, (said .1, line-answered (asking .result) line items (take left answers) (ended .ensures .items) marks (asking .ensures)))
 
 pub run-line-spec : {M : Type 1} → statement M
 run-line-spec =
