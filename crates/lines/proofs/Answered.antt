@@ -5,19 +5,19 @@ use mathlib.Core.List.{List, [], _∷_}
 use mathlib.Core.Logic.{⊎-elim}
 use native.Mathlib.Omega.{arith}
 use lib.IntN.{ℤ, pos}
-use lib.ListN.{length, getD, take, replicate, length-replicate}
+use lib.ListN.{length, getD, take, drop, replicate, length-replicate}
 use borrow.Author.Tests.{le-leb}
 use types.Run.{OneOf}
 use denote.Enum.Declared.{tagOf}
 use Rattle.molang.specs.Words.{operatorSlot, listWords}
 use Rattle.molang.specs.Parse.{Call, Told, inHalves, answered, treeAfter, messagesAfter, inFront}
 use Rattle.molang.specs.WriteEntry.{WriteCall, WriteTold, writeAnswered, listAfter}
-use Rattle.molang.specs.Lines.{Marked, parsed, wrote, parse, write, anyMark, writeMark, zerosMark, repeatedMark, atMark, marksOf, tokensFrom, nodeWords, callFor, listCall, treeCall, versionOf, zerosCall, repeatedCall, askedOf, parsedBy, wroteBy, wantedOf, writeWantedOf, comparedCalls, compared, givens, wanteds}
+use Rattle.molang.specs.Lines.{Marked, parsed, wrote, parse, write, anyMark, writeMark, zerosMark, repeatedMark, atMark, itemsOf, marksOf, tokensFrom, nodeWords, callFor, listCall, treeCall, versionOf, zerosCall, repeatedCall, askedOf, parsedBy, wroteBy, wantedOf, writeWantedOf, comparedCalls, compared, givens, wanteds}
 use Rattle.molang.proofs.UsedSet.{exact-halves}
 use Rattle.exact.specs.Exact.{named}
 use Rattle.exact.proofs.WordLaws.{named-few}
 use Rattle.parse.specs.Answers.{call}
-use Rattle.lines.specs.Compared.{zeros, callOf, ReadAsSaid, WrittenAsSaid, AnsweredAsSaid, ifSame}
+use Rattle.lines.specs.Compared.{zeros, callOf, ReadAsSaid, WrittenAsSaid, AnsweredAsSaid, LineAsSaid, ifSame}
 use Rattle.lines.specs.Asked.{ownCall, CallAsSaid, WriteCallAsSaid, anyCalls, Operators, repeatedWords, JustRoom}
 use Rattle.lines.specs.declared.compared.Verdict.{Verdict}
 use Rattle.lines.specs.declared.compared.Verdict.the-variants.{Same, Answer, Tree, Messages, Work, List as Verdict·List, Unclear}
@@ -199,3 +199,10 @@ asked-zeros mark items e = rw e refl
 pub asked-repeated : (mark : ℕ) (items : List ℕ) → mark ≡ repeatedMark → askedOf (record { mark = mark; items = items }) ≡ repeatedCall items
 unfolding askedOf
 asked-repeated mark items e = rw e refl
+
+-- What is said of a line's items and answers is said of the line.
+pub line-answered : (v : Verdict) (line items answers : List ℕ) → items ≡ itemsOf (drop 1 line) → marksOf (drop 1 line) ≡ marksOf answers
+    → ifSame v (AnsweredAsSaid (marksOf answers) (askedOf (record { mark = getD line 0 0; items = items })))
+    → ifSame v (LineAsSaid line)
+unfolding LineAsSaid
+line-answered v line items answers e f h = rw (f, ← e) h

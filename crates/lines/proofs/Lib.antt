@@ -6,3 +6,4 @@ pub mod Marks
 pub mod Put
 pub mod Called
 pub mod Answered
+pub mod SaidLaws

@@ -7,7 +7,7 @@ use lib.IntN.{pos}
 use lib.ListN.{length, drop, getD, replicate}
 use Rattle.molang.specs.Parse.{Call, Told, inFront}
 use Rattle.molang.specs.WriteEntry.{WriteTold}
-use Rattle.molang.specs.Lines.{Marked, Asked, parsed, wrote, refusedMark, itemsOf, marksOf, wantedOf, writeWantedOf, compared, givens, wanteds}
+use Rattle.molang.specs.Lines.{Marked, Asked, parsed, wrote, refusedMark, itemsOf, marksOf, askedOf, wantedOf, writeWantedOf, compared, givens, wanteds}
 use Rattle.lines.specs.declared.compared.Verdict.{Verdict}
 use Rattle.lines.specs.declared.compared.Verdict.the-variants.{Same, Answer, Tree, Messages, Work, List as Verdict·List, Unclear}
 
@@ -49,6 +49,10 @@ WrittenAsSaid answers told list = wrote told list ≡ writeWantedOf (marksOf ans
 -- The definition itself answers the calls of a line as the line says.
 unfoldable pub AnsweredAsSaid : List Marked → Asked → Type 0
 AnsweredAsSaid ms a = givens (compared ms a) ≡ wanteds (compared ms a)
+
+-- The same of the line of these numbers, a mark that asks first.
+unfoldable pub LineAsSaid : List ℕ → Type 0
+LineAsSaid line = AnsweredAsSaid (marksOf (drop 1 line)) (askedOf (record { mark = getD line 0 0; items = itemsOf (drop 1 line) }))
 
 -- What holds where the verdict is `Same`.
 abbrev pub ifSame : Verdict → Type 0 → Type 0

@@ -20,7 +20,7 @@ use Rattle.exact.proofs.WordLaws.{exact-few, highest-few}
 use Rattle.parse.specs.Answers.{call}
 use Rattle.molang.specs.WriteEntry.{orElse}
 use Rattle.molang.specs.Lines.{versionOf}
-use Rattle.treelist.specs.Text.{Printable, answerText}
+use Rattle.treelist.specs.Rows.{Printable, answerText}
 use Rattle.treelist.specs.Listing.{wordsIn, printed, listLength, turnedBack, Readable, readingOf, listOf, faultOf, answerOf}
 
 abbrev at-zero : ℕ → Refusal

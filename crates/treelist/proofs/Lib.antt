@@ -1,4 +1,4 @@
 -- The laws that the proofs of several functions share.
-pub mod TextLaws
+pub mod RowLaws
 pub mod AskedLaws
 pub mod FrontLaws

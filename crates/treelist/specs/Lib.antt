@@ -1,3 +1,3 @@
 -- What the program prints, as definitions.
-pub mod Text
+pub mod Rows
 pub mod Listing

@@ -15,7 +15,7 @@ use Rattle.molang.specs.Lines.{versionOf}
 use Rattle.exact.specs.Exact.{named, highest}
 use Rattle.treelist.specs.declared.asked.Request.{Request}
 use Rattle.treelist.specs.declared.asked.Request.the-variants.{List as Request·List, Refused}
-use Rattle.treelist.specs.Text.{answerText}
+use Rattle.treelist.specs.Rows.{answerText}
 
 -- The words of bytes, four to a word, the lowest first.
 unfoldable pub wordsIn : List ℕ → List ℕ

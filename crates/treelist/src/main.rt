@@ -2,11 +2,11 @@
 // the refusal. `main` only reads and writes; which text answers which bytes is the promise of `listing`. Leans on io, exact and parse.
 mod asked;
 mod front;
-mod text;
+mod rows;
 
 use crate::asked::answer;
 use crate::front::words_of;
-use crate::text::put_answer;
+use crate::rows::put_answer;
 use libc::STDIN_FILENO;
 use libc::STDOUT_FILENO;
 ghost use mathlib.Core.Path.{_≡_};

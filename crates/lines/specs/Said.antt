@@ -1,0 +1,235 @@
+-- What the program says of each line of the table: the list or tree as text, the version, and the verdict; and the totals. Bytes are ASCII.
+use Prim.Native.Nat.{ℕ, _+_, _-_, _/_, _%_}
+use Prim.Native.String.{String}
+use mathlib.Core.Bool.{true, false}
+use mathlib.Core.List.{List, [], _∷_, _++_}
+use lib.Dec.{eqb, leb, ltb}
+use lib.IntN.{ℤ, pos, negsuc}
+use lib.ListN.{drop, getD}
+use Rattle.molang.specs.Operator.{
+  leftBrace,
+  rightBrace,
+  leftBracket,
+  rightBracket,
+  leftParenthesis,
+  rightParenthesis,
+  negate,
+  logicalNot,
+  add,
+  div,
+  mul,
+  sin,
+  queryFunction,
+  arrayVariable,
+  entityVariable,
+  memberAccessor,
+  lessThan,
+  lessEqual,
+  greaterEqual,
+  greaterThan,
+  logicalEqual,
+  logicalNotEqual,
+  logicalOr,
+  logicalAnd,
+  nullCoalescing,
+  conditional,
+  conditionalElse,
+  float,
+  continue,
+  assignment,
+  pointer,
+  semicolon,
+  return,
+  comma,
+}
+use Rattle.molang.specs.Lines.{anyMark, writeMark, zerosMark, repeatedMark, atMark, versionOf, itemsOf}
+use Rattle.text.specs.Text.{ascii, decimal, numbered, space}
+use Rattle.lines.specs.declared.compared.Verdict.{Verdict}
+use Rattle.lines.specs.declared.compared.Verdict.the-variants.{Same, Answer, Tree, Messages, Work, List as Verdict·List, Unclear}
+
+-- OPERATORS. The text that a table has beside an operator, or another text where it has none.
+unfoldable pub textIn : List (ℕ × String) → ℕ → List ℕ → List ℕ
+textIn [] op other = other
+textIn ((o, s) ∷ rest) op other = elim (eqb op o) [ true ↦ ascii s | false ↦ textIn rest op other ]
+
+-- Brackets and other signs around operands.
+unfoldable pub signs : List (ℕ × String)
+signs =
+    (leftBrace, "{")
+    ∷ (rightBrace, "}")
+    ∷ (leftBracket, "[")
+    ∷ (rightBracket, "]")
+    ∷ (leftParenthesis, "(")
+    ∷ (rightParenthesis, ")")
+    ∷ (logicalNot, "!")
+    ∷ (semicolon, ";")
+    ∷ (comma, ",")
+    ∷ (memberAccessor, ".")
+    ∷ (pointer, "->")
+    ∷ []
+
+-- Signs between operands.
+unfoldable pub binarySigns : List (ℕ × String)
+binarySigns =
+    (negate, "-")
+    ∷ (add, "+")
+    ∷ (div, "/")
+    ∷ (mul, "*")
+    ∷ (lessThan, "<")
+    ∷ (lessEqual, "<=")
+    ∷ (greaterEqual, ">=")
+    ∷ (greaterThan, ">")
+    ∷ (logicalEqual, "==")
+    ∷ (logicalNotEqual, "!=")
+    ∷ (logicalOr, "||")
+    ∷ (logicalAnd, "&&")
+    ∷ (nullCoalescing, "??")
+    ∷ (conditional, "?")
+    ∷ (conditionalElse, ":")
+    ∷ (assignment, "=")
+    ∷ []
+
+-- Operators that are words; an operand is `a`.
+unfoldable pub words : List (ℕ × String)
+words =
+    (float, "a")
+    ∷ (sin, "sin")
+    ∷ (queryFunction, "query")
+    ∷ (arrayVariable, "array")
+    ∷ (entityVariable, "variable")
+    ∷ (continue, "continue")
+    ∷ (return, "return")
+    ∷ []
+
+unfoldable pub signText : ℕ → List ℕ
+signText op = textIn signs op (decimal op)
+
+unfoldable pub binaryText : ℕ → List ℕ
+binaryText op = textIn binarySigns op (signText op)
+
+-- An operator as it is written, or its number.
+unfoldable pub operatorText : ℕ → List ℕ
+operatorText op = textIn words op (binaryText op)
+
+-- LISTS. The n-th operand: a letter from a to z.
+unfoldable pub operandText : ℕ → List ℕ
+operandText n = getD (ascii "abcdefghijklmnopqrstuvwxyz") (n % 26) 0 ∷ []
+
+-- An operator of a list, before which so many operands stand.
+unfoldable pub namedText : ℕ → ℕ → List ℕ
+namedText operands op = elim (eqb op float) [ true ↦ operandText operands | false ↦ operatorText op ]
+
+-- How many operands stand before the next.
+unfoldable pub operandsAfter : ℕ → ℕ → ℕ
+operandsAfter operands op = elim (eqb op float) [ true ↦ operands + 1 | false ↦ operands ]
+
+-- The same with a space after it.
+unfoldable pub itemText : ℕ → ℕ → List ℕ
+itemText operands op = namedText operands op ++ ascii " "
+
+-- The operators from there on.
+unfoldable pub itemsText : ℕ → List ℕ → List ℕ
+itemsText operands [] = []
+itemsText operands (op ∷ ops) = itemText operands op ++ itemsText (operandsAfter operands op) ops
+
+-- A list.
+unfoldable pub listText : List ℕ → List ℕ
+listText [] = ascii "no tokens "
+listText (op ∷ ops) = itemsText 0 (op ∷ ops)
+
+-- TREES. A count of children, where there are some.
+unfoldable pub childrenText : ℕ → List ℕ
+childrenText n = elim (eqb n 0) [ true ↦ [] | false ↦ ascii "/" ++ decimal n ]
+
+-- A node, which is op_c_ss_ee in decimal digits.
+unfoldable pub nodeText : ℕ → List ℕ
+nodeText node = operatorText (node / 100000) ++ childrenText (node / 10000 % 10) ++ ascii " "
+
+-- The nodes of a tree, parent first.
+unfoldable pub treeText : List ℕ → List ℕ
+treeText [] = []
+treeText (node ∷ nodes) = nodeText node ++ treeText nodes
+
+-- WHAT A LINE ASKS. A version.
+unfoldable pub integerText : ℤ → List ℕ
+integerText (pos n) = decimal n
+integerText (negsuc n) = ascii "-" ++ decimal (n + 1)
+
+-- Its sixteen bits, if there are no more.
+unfoldable pub versionText : ℕ → List ℕ
+versionText bits = elim (ltb bits 65536) [ true ↦ integerText (versionOf bits) | false ↦ ascii "no version" ]
+
+-- What a line asks whose mark or items are none that are known.
+abbrev pub unknownText : List ℕ
+unknownText = ascii "not known"
+
+-- So many words 0.
+unfoldable pub zerosText : List ℕ → List ℕ
+zerosText [] = unknownText
+zerosText (n ∷ []) = numbered n space ++ ascii "words 0"
+zerosText (n ∷ m ∷ ms) = unknownText
+
+-- So many tokens of one operator.
+unfoldable pub repeatedText : List ℕ → List ℕ
+repeatedText [] = unknownText
+repeatedText (n ∷ []) = unknownText
+repeatedText (n ∷ op ∷ []) = numbered n space ++ ascii "tokens " ++ operatorText op
+repeatedText (n ∷ op ∷ m ∷ ms) = unknownText
+
+-- A list that is read at one version, or at 4, 5 and 6; a tree that is written.
+unfoldable pub readAtText : List ℕ → ℕ → List ℕ
+readAtText operators bits = listText operators ++ ascii "at " ++ versionText bits
+
+unfoldable pub readAtAllText : List ℕ → List ℕ
+readAtAllText operators = listText operators ++ ascii "at 4, 5 and 6"
+
+unfoldable pub writingText : List ℕ → List ℕ
+writingText nodes = ascii "writing " ++ treeText nodes
+
+-- A mark and its items, as molang's `askedOf` has them.
+unfoldable pub askedText : ℕ → List ℕ → List ℕ
+askedText mark items =
+    elim (leb atMark mark) [
+      | true ↦ readAtText items (mark - atMark)
+      | false ↦
+          elim (eqb mark anyMark) [
+            | true ↦ readAtAllText items
+            | false ↦
+                elim (eqb mark writeMark) [
+                  | true ↦ writingText items
+                  | false ↦
+                      elim (eqb mark zerosMark) [
+                        | true ↦ zerosText items
+                        | false ↦ elim (eqb mark repeatedMark) [ true ↦ repeatedText items | false ↦ unknownText ]
+                      ]
+                ]
+          ]
+    ]
+
+-- WHETHER IT IS ANSWERED as it says.
+unfoldable pub verdictText : Verdict → List ℕ
+verdictText Same = ascii ": ok\n"
+verdictText Answer = ascii ": another answer\n"
+verdictText Tree = ascii ": other tree words\n"
+verdictText Messages = ascii ": other message words\n"
+verdictText Work = ascii ": work words that are not 0\n"
+verdictText Verdict·List = ascii ": other list words\n"
+verdictText Unclear = ascii ": not clear\n"
+
+-- A LINE: its mark and items, and whether it is answered as it says.
+unfoldable pub lineText : List ℕ → Verdict → List ℕ
+lineText line verdict = askedText (getD line 0 0) (itemsOf (drop 1 line)) ++ verdictText verdict
+
+-- THE TOTALS. A line that is answered otherwise counts.
+unfoldable pub differs : Verdict → ℕ
+differs Same = 0
+differs Answer = 1
+differs Tree = 1
+differs Messages = 1
+differs Work = 1
+differs Verdict·List = 1
+differs Unclear = 1
+
+-- So many lines, and so many of them that are answered otherwise.
+unfoldable pub totalsText : ℕ → ℕ → List ℕ
+totalsText count others = numbered count space ++ ascii "lines, " ++ numbered others space ++ ascii "differ\n"

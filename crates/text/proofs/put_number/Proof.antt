@@ -1,0 +1,35 @@
+-- `text::put_number` meets its contract: the digits, and the byte behind them. Assumes nothing.
+use native.Mathlib.Omega.{arith}
+use borrow.Author.Needs.{needs}
+use Rattle.text.specs.Text.{numbered}
+use Rattle.text.proofs.TextLaws.{decimal-length, wrote-then}
+use Rattle.text.proofs.put_number.Statement.{statement}
+use Rattle.text.proofs.put_number.Tie as tie
+
+put-decimal-requires : tie.Need-put-decimal-requires
+put-decimal-requires c κs = search needs
+
+slice-aggregate-put-bytes : tie.Need-slice-aggregate-put-bytes
+slice-aggregate-put-bytes c = search needs
+
+put-bytes-requires : tie.Need-put-bytes-requires
+put-bytes-requires c κs =
+    let w = c .before .before .before .before .put-decimal .ensures in
+    omega (arith, w .same, w .ends, decimal-length (c .before .before .before .before .before .before .before .args .n))
+
+same-length : tie.Need-same-length
+same-length c = search needs
+
+returns : tie.Need-returns
+unfolding numbered
+returns c = wrote-then (c .before .before .before .before .before .before .before .put-decimal .ensures) (c .before .before .put-bytes .ensures)
+
+pub put-number-spec : {M : Type 1} → statement M
+put-number-spec =
+    tie.close
+    (tie.spec
+    put-decimal-requires
+    slice-aggregate-put-bytes
+    put-bytes-requires
+    same-length
+    returns)

@@ -1,0 +1,43 @@
+-- The text of an answer, as document 01 lays it out at its end: numbers in decimal, a space between two of a line. Bytes are ASCII.
+use Prim.Native.Nat.{ℕ, zero, suc, _+_, _-_, _*_, _≤_}
+use mathlib.Core.List.{List, [], _∷_, _++_}
+use lib.ListN.{length, take, drop, getD}
+use Rattle.molang.specs.Parse.{Told, aTree, someMessages, refused}
+use Rattle.molang.specs.Words.{lowOf}
+use Rattle.words.specs.Fields.{operatorOf}
+use Rattle.text.specs.Text.{ascii, numbered, space, lineEnd}
+
+-- The first numbers, each with a space after it.
+unfoldable pub spaced : ℕ → List ℕ → List ℕ
+spaced zero ns = []
+spaced (suc i) ns = spaced i ns ++ numbered (getD ns i 0) space
+
+-- A line of numbers, of which there are some: a space between two, the line's end after the last.
+unfoldable pub row : List ℕ → List ℕ
+row ns = spaced (length ns - 1) ns ++ numbered (getD ns (length ns - 1) 0) lineEnd
+
+-- The numbers of a tree's node, of which the tree words from `at` on are: operator, children, start, end.
+unfoldable pub nodeNumbers : List ℕ → ℕ → List ℕ
+nodeNumbers tree at = operatorOf (getD tree at 0) ∷ lowOf (getD tree (at + 5) 0) ∷ lowOf (getD tree (at + 1) 0) ∷ lowOf (getD tree (at + 2) 0) ∷ []
+
+-- A line for each of the first nodes.
+unfoldable pub nodeRows : ℕ → List ℕ → List ℕ
+nodeRows zero tree = []
+nodeRows (suc i) tree = nodeRows i tree ++ row (nodeNumbers tree (6 * i))
+
+-- A line for each of the first message records.
+unfoldable pub recordRows : ℕ → List ℕ → List ℕ
+recordRows zero messages = []
+recordRows (suc i) messages = recordRows i messages ++ row (take 8 (drop (8 * i) messages))
+
+-- An answer, the tree or the messages being those in the buffers.
+unfoldable pub answerText : Told → List ℕ → List ℕ → List ℕ
+answerText (aTree n) tree messages = (ascii "tree " ++ numbered n lineEnd) ++ nodeRows n tree
+answerText (someMessages n) tree messages = (ascii "messages " ++ numbered n lineEnd) ++ recordRows n messages
+answerText (refused n place) tree messages = (ascii "refused " ++ numbered n space) ++ numbered place lineEnd
+
+-- An answer whose text has room: as many nodes as 128 tokens can make, and two messages.
+abbrev pub Printable : Told → Type 0
+Printable (aTree n) = n ≤ 384
+Printable (someMessages n) = n ≤ 2
+Printable (refused n place) = Unit {0}
