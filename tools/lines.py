@@ -36,7 +36,7 @@ def table():
 
 
 def edit_of(path):
-    fields = dict(line.split(": ", 1) for line in path.read_text().splitlines())
+    fields = dict(line.split(": ", 1) for line in path.read_text().splitlines() if not line.startswith("#"))
     return fields["file"], fields["old"], fields["new"]
 
 
