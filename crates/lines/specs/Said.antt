@@ -101,13 +101,15 @@ words =
     ∷ (return, "return")
     ∷ []
 
+-- A sign around operands, or the operator's number.
 unfoldable pub signText : ℕ → List ℕ
 signText op = textIn signs op (decimal op)
 
+-- A sign between operands, or what it is otherwise.
 unfoldable pub binaryText : ℕ → List ℕ
 binaryText op = textIn binarySigns op (signText op)
 
--- An operator as it is written, or its number.
+-- AN OPERATOR as it is written, or its number.
 unfoldable pub operatorText : ℕ → List ℕ
 operatorText op = textIn words op (binaryText op)
 
@@ -119,13 +121,13 @@ operandText n = getD (ascii "abcdefghijklmnopqrstuvwxyz") (n % 26) 0 ∷ []
 unfoldable pub namedText : ℕ → ℕ → List ℕ
 namedText operands op = elim (eqb op float) [ true ↦ operandText operands | false ↦ operatorText op ]
 
--- How many operands stand before the next.
-unfoldable pub operandsAfter : ℕ → ℕ → ℕ
-operandsAfter operands op = elim (eqb op float) [ true ↦ operands + 1 | false ↦ operands ]
-
 -- The same with a space after it.
 unfoldable pub itemText : ℕ → ℕ → List ℕ
 itemText operands op = namedText operands op ++ ascii " "
+
+-- How many operands stand before the next.
+unfoldable pub operandsAfter : ℕ → ℕ → ℕ
+operandsAfter operands op = elim (eqb op float) [ true ↦ operands + 1 | false ↦ operands ]
 
 -- The operators from there on.
 unfoldable pub itemsText : ℕ → List ℕ → List ℕ
@@ -150,12 +152,12 @@ unfoldable pub treeText : List ℕ → List ℕ
 treeText [] = []
 treeText (node ∷ nodes) = nodeText node ++ treeText nodes
 
--- WHAT A LINE ASKS. A version.
+-- WHAT A LINE ASKS. A version as a number.
 unfoldable pub integerText : ℤ → List ℕ
 integerText (pos n) = decimal n
 integerText (negsuc n) = ascii "-" ++ decimal (n + 1)
 
--- Its sixteen bits, if there are no more.
+-- A version by its sixteen bits; more bits are none.
 unfoldable pub versionText : ℕ → List ℕ
 versionText bits = elim (ltb bits 65536) [ true ↦ integerText (versionOf bits) | false ↦ ascii "no version" ]
 
@@ -176,13 +178,15 @@ repeatedText (n ∷ []) = unknownText
 repeatedText (n ∷ op ∷ []) = numbered n space ++ ascii "tokens " ++ operatorText op
 repeatedText (n ∷ op ∷ m ∷ ms) = unknownText
 
--- A list that is read at one version, or at 4, 5 and 6; a tree that is written.
+-- A list that is read at one version.
 unfoldable pub readAtText : List ℕ → ℕ → List ℕ
 readAtText operators bits = listText operators ++ ascii "at " ++ versionText bits
 
+-- A list that is read at 4, 5 and 6.
 unfoldable pub readAtAllText : List ℕ → List ℕ
 readAtAllText operators = listText operators ++ ascii "at 4, 5 and 6"
 
+-- A tree that is written.
 unfoldable pub writingText : List ℕ → List ℕ
 writingText nodes = ascii "writing " ++ treeText nodes
 
@@ -220,7 +224,7 @@ verdictText Unclear = ascii ": not clear\n"
 unfoldable pub lineText : List ℕ → Verdict → List ℕ
 lineText line verdict = askedText (getD line 0 0) (itemsOf (drop 1 line)) ++ verdictText verdict
 
--- THE TOTALS. A line that is answered otherwise counts.
+-- THE TOTALS. How much a line counts to those that are answered otherwise.
 unfoldable pub differs : Verdict → ℕ
 differs Same = 0
 differs Answer = 1

@@ -145,6 +145,7 @@ fn put_items(out: &mut [u8], at: usize, operators: &[u32]) -> usize
     end
 }
 
+// A list, which may have no tokens.
 fn put_list(out: &mut [u8], at: usize, operators: &[u32]) -> usize
     requires { ⌜ (at + 21 * length (now operators) + 10 ≤ length (now out)) × (length (now operators) ≤ 1002) ⌝ }
     ensures { λ r. ⌜ Wrote (now (out .entry)) at (listText (now (operators .entry))) r (now (out .exit)) ⌝ }
@@ -191,7 +192,7 @@ fn put_tree(out: &mut [u8], at: usize, nodes: &[u32]) -> usize
     end
 }
 
-// A version of sixteen bits.
+// A version of sixteen bits; more bits are none.
 fn put_version(out: &mut [u8], at: usize, bits: u32) -> usize
     requires { ⌜ at + 21 ≤ length (now out) ⌝ }
     ensures { λ r. ⌜ Wrote (now (out .entry)) at (versionText bits) r (now (out .exit)) ⌝ }

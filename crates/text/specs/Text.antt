@@ -26,9 +26,11 @@ decimal n = decimalIn 20 n
 unfoldable pub numbered : ℕ → ℕ → List ℕ
 numbered n after = decimal n ++ (after ∷ [])
 
+-- The byte between two numbers of a line.
 abbrev pub space : ℕ
 space = 32
 
+-- The byte after a line.
 abbrev pub lineEnd : ℕ
 lineEnd = 10
 
