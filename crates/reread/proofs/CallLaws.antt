@@ -83,6 +83,11 @@ module _ (h : Handed) (nodes : ℕ) (list : List ℕ) (left : list ≡ listAfter
 
 -- ---- ALL THREE
 
+-- A promise about three calls is one about the same calls.
+pub has-reread : {c d : Rereading} → c ≡ d → {r : Outcome} {tree list again messages work : List ℕ} → HasReread c r tree list again messages work
+    → HasReread d r tree list again messages work
+has-reread e done = rw e at done
+
 -- What is told and left agrees as the definition's does.
 agreed : (c : Rereading) {r : RereadTold} {tree again : List ℕ} → r ≡ rereadTold c → tree ≡ treeAfter (c .first)
     → again ≡ treeFrom c (answered (c .first))

@@ -18,7 +18,7 @@ pub record CanRead (list : List ℕ) : Type 0 where
   pub legal : wordsRefusal 0 operatorSlot 0 list ≡ none
   pub whole : length list % 5 ≡ 0
 
--- Its reading with exactly its own operators: the answer r to the call c, and its buffers.
+-- A reading: the answer r to the call c, and its buffers.
 pub record HasRead (c : Call) (r : Answer) (tree' messages' work' : List ℕ) : Type 0 where
   pub told : toldOf r ≡ answered c
   pub tree : tree' ≡ treeAfter c
@@ -48,3 +48,13 @@ pub record HasReread (c : Rereading) (r : Outcome) (tree' written' again' messag
   pub messages : messages' ≡ messagesFrom c (answered (c .first))
   pub work : work' ≡ workFrom c (answered (c .first))
   pub agrees : Agrees c (rereadOf r) tree' again'
+
+-- What some first call answered, and its buffers as it left them, the tree's as long as it was lent.
+pub record CanGoOn (first : Answer) (tree messages work : List ℕ) : Type 0 where
+  pub call : Call
+  pub read : HasRead call first tree messages work
+  pub long : length tree ≡ length (call .tree)
+
+-- The other two are made: of every first call that answered and left this, what is told and left now is what the three calls come to.
+pub record HasGoneOn (first : Answer) (tree messages work : List ℕ) (given : Call → Rereading) (r : Outcome) (written' again' messages' work' : List ℕ) : Type 0 where
+  pub reread : (c : Call) → HasRead c first tree messages work → HasReread (given c) r tree written' again' messages' work'

@@ -10,7 +10,7 @@ ghost use mathlib.Core.Path.{_≡_};
 ghost use Rattle.molang.specs.Reread.{exactCall, secondTold};
 ghost use Rattle.parse.specs.Answers.{toldOf, call};
 ghost use Rattle.reread.specs.Answers.{rereadOf, handedOf, rereading};
-ghost use Rattle.reread.specs.Promises.{CanRead, HasRead, CanWrite, HasWritten, HasReread};
+ghost use Rattle.reread.specs.Promises.{CanRead, HasRead, CanWrite, HasWritten, CanGoOn, HasGoneOn, HasReread};
 
 // What the three calls come to.
 pub enum Outcome {
@@ -99,6 +99,39 @@ fn write_and_read(
     }
 }
 
+// What the first reading's answer comes to: a tree is written, and what was written is read. `reread` hands on what its first call answered and left.
+fn after_first(
+    first: Answer,
+    tree: &[u32],
+    written: &mut [u32],
+    again: &mut [u32],
+    messages: &mut [u32],
+    work: &mut [u32],
+    source_length: u64,
+    version: i16,
+) -> Outcome
+    requires { ⌜ CanGoOn first (now tree) (now messages) (now work) ⌝ }
+    ensures { λ r. ⌜ HasGoneOn first (now (tree .entry)) (now (messages .entry)) (now (work .entry)) (λ c. rereading c (now (written .entry)) (now (again .entry)) «source_length» version) r (now (written .exit)) (now (again .exit)) (now (messages .exit)) (now (work .exit)) ⌝ }
+{
+    match first {
+        Answer::Refused(number, place) => Outcome::Refused(FIRST, number, place),
+        Answer::Messages(records) => Outcome::Messages(records),
+        Answer::Tree(nodes) => {
+            let end = fields::NODE_WORDS * nodes;
+            write_and_read(
+                &tree[..end],
+                written,
+                again,
+                messages,
+                work,
+                nodes,
+                source_length,
+                version,
+            )
+        }
+    }
+}
+
 // The three calls over lent buffers. The messages and the work buffer serve both readings.
 pub fn reread(
     list: &[u32],
@@ -126,21 +159,14 @@ pub fn reread(
         used_low,
         used_high,
     );
-    match first {
-        Answer::Refused(number, place) => Outcome::Refused(FIRST, number, place),
-        Answer::Messages(records) => Outcome::Messages(records),
-        Answer::Tree(nodes) => {
-            let end = fields::NODE_WORDS * nodes;
-            write_and_read(
-                &tree[..end],
-                written,
-                again,
-                messages,
-                work,
-                nodes,
-                source_length_again,
-                version_again,
-            )
-        }
-    }
+    after_first(
+        first,
+        tree,
+        written,
+        again,
+        messages,
+        work,
+        source_length_again,
+        version_again,
+    )
 }
