@@ -260,7 +260,7 @@ fn put_repeated(out: &mut [u8], at: usize, items: &[u32]) -> usize
     put_operator(out, end, items[1])
 }
 
-// What a line asks. The items are part of a line, which `run` has measured.
+// What a line asks. The items are part of a line, which `run` has measured; `run_line` has the room from the first byte on.
 pub fn put_asked(out: &mut [u8], at: usize, mark: u32, items: &[u32]) -> usize
     requires { ⌜ (at + 42 * length (now items) + 64 ≤ length (now out)) × (length (now items) ≤ 1002) ⌝ }
     ensures { λ r. ⌜ Wrote (now (out .entry)) at (askedText mark (now (items .entry))) r (now (out .exit)) ⌝ }
@@ -277,7 +277,7 @@ pub fn put_asked(out: &mut [u8], at: usize, mark: u32, items: &[u32]) -> usize
     }
 }
 
-// Whether a line is answered as it says.
+// Whether a line is answered as it says. `run_line` has 28 bytes left after the longest text of what is asked.
 pub fn put_verdict(out: &mut [u8], at: usize, verdict: Verdict) -> usize
     requires { ⌜ at + 28 ≤ length (now out) ⌝ }
     ensures { λ r. ⌜ Wrote (now (out .entry)) at (verdictText verdict) r (now (out .exit)) ⌝ }
@@ -293,7 +293,7 @@ pub fn put_verdict(out: &mut [u8], at: usize, verdict: Verdict) -> usize
     }
 }
 
-// The totals.
+// The totals. `run` has the room of a line for them.
 pub fn put_totals(out: &mut [u8], at: usize, count: u64, others: u64) -> usize
     requires { ⌜ at + 56 ≤ length (now out) ⌝ }
     ensures { λ r. ⌜ Wrote (now (out .entry)) at (totalsText count others) r (now (out .exit)) ⌝ }
