@@ -12,12 +12,12 @@ use Rattle.molang.proofs.Trees.{count-size}
 use Rattle.molang.proofs.Work.{Kind, State, work, unwound}
 use Rattle.nodes.specs.Store.{wd, RepT, Free}
 use Rattle.nodes.proofs.Keeping.{free-own, free-inner}
-use Rattle.walks.specs.Sides.{Holds, Waits}
-use Rattle.walks.specs.Turns.{SameList, Within, CanTurn, turnsLeft, Begins, TurnTo, goes, enters, ends, fails, Turned}
-use Rattle.walks.specs.declared.failure.Failure.{Failure}
-use Rattle.walks.specs.declared.turns.Walk.{Walk}
-use Rattle.walks.specs.declared.turns.Turn.{Turn}
-use Rattle.walks.specs.declared.turns.Turn.the-variants.{On, Enter, Over, Fail}
+use Rattle.levels.specs.Sides.{Holds, Waits}
+use Rattle.levels.specs.Turns.{SameList, Within, CanTurn, turnsLeft, Begins, TurnTo, goes, enters, ends, fails, Turned}
+use Rattle.levels.specs.declared.failure.Failure.{Failure}
+use Rattle.levels.specs.declared.turns.Walk.{Walk}
+use Rattle.levels.specs.declared.turns.Turn.{Turn}
+use Rattle.levels.specs.declared.turns.Turn.the-variants.{On, Enter, Over, Fail}
 use Rattle.grouping.specs.Driver.{Room, Stack, Full, Going, turnsBelow, Beyond, NextTo, CanDescend, Descended, CanClose, Closed, CanAdvance, Advanced}
 use Rattle.grouping.specs.declared.driver.Next.{Next}
 use Rattle.grouping.specs.declared.driver.Next.the-variants.{On as Onward, Fail as Stopped}

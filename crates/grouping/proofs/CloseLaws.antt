@@ -12,7 +12,7 @@ use Rattle.molang.specs.Forest.{Token, Forest, nil, node, count}
 use Rattle.molang.specs.Message.{Result, ok}
 use Rattle.molang.specs.Calls.{unindexed, named, indexed, arrayLevel, arrayResume}
 use Rattle.molang.proofs.Trees.{isNil}
-use Rattle.molang.proofs.Work.{Kind, calls, statements, arrays, unaries, ternary, returns, binary, State, work, takes, andThen, Held, held, unwound}
+use Rattle.molang.proofs.Work.{Kind, calls, statements, arrays, unaries, conditional, returns, binary, State, work, takes, andThen, Held, held, unwound}
 use Rattle.ops.specs.declared.classes.TokenClasses.{TokenClasses}
 use Rattle.nodes.specs.Store.{wd, TokenAt, Out, RepT, Owned, InArray, Free}
 use Rattle.nodes.specs.Children.{CanGive, Given}
@@ -22,16 +22,16 @@ use Rattle.nodes.specs.declared.frames.Frame.{Frame}
 use Rattle.nodes.proofs.Runs.{off-word}
 use Rattle.nodes.proofs.Trees.{array-give, array-owned, owned-tree}
 use Rattle.nodes.proofs.Keeping.{free-own, free-inner, give-kept}
-use Rattle.walks.specs.Passes.{walkOf, classesOf, heldOf, resumedWith, Runs, call, mathCall, plain, split, array, unary, level, tern, prefix, waits}
-use Rattle.walks.specs.Sides.{Holds}
-use Rattle.walks.specs.Turns.{Within, lentOf, CanResume, Resumed, CanFinish, FinishTo, gives, fails, Ends}
-use Rattle.walks.specs.declared.failure.Failure.{Failure}
-use Rattle.walks.specs.declared.turns.Pass.{Pass}
-use Rattle.walks.specs.declared.turns.Pass.the-variants.{Arrays, Binary}
-use Rattle.walks.specs.declared.turns.Walk.{Walk}
-use Rattle.walks.specs.declared.turns.Finished.{Finished}
-use Rattle.walks.specs.declared.turns.Finished.the-variants.{At, Fail as Failed}
-use Rattle.walks.proofs.States.{split-none, split-some}
+use Rattle.levels.specs.Passes.{walkOf, classesOf, heldOf, resumedWith, Runs, call, mathCall, unsplitPass, split, array, unary, level, conditionalPass, returnPass, waits}
+use Rattle.levels.specs.Sides.{Holds}
+use Rattle.levels.specs.Turns.{Within, lentOf, CanResume, Resumed, CanFinish, FinishTo, gives, fails, Ends}
+use Rattle.levels.specs.declared.failure.Failure.{Failure}
+use Rattle.levels.specs.declared.turns.Pass.{Pass}
+use Rattle.levels.specs.declared.turns.Pass.the-variants.{Arrays, Binary}
+use Rattle.levels.specs.declared.turns.Walk.{Walk}
+use Rattle.levels.specs.declared.turns.Finished.{Finished}
+use Rattle.levels.specs.declared.turns.Finished.the-variants.{At, Fail as Failed}
+use Rattle.levels.proofs.States.{split-none, split-some}
 use Rattle.grouping.specs.Driver.{FrameOf, Stack, bottom, over, Full, Going, turnsBelow, Beyond, CanMove, Moved, NextTo, CanClose, Closed}
 use Rattle.grouping.specs.declared.driver.Next.the-variants.{On, Done, Fail}
 use Rattle.grouping.proofs.StackLaws.{Bounds, stack-bounds, stack-keep, top-beyond, beyond-then}
@@ -48,15 +48,15 @@ resumed-pass : (κ : Kind) (p q : Pass) → Runs κ p → Runs κ q → classesO
 unfolding resumedWith
 resumed-pass κ p q call call c u = refl
 resumed-pass κ p q mathCall mathCall c u = refl
-resumed-pass κ p q plain plain c u = sym (split-none 0 0 refl)
-resumed-pass κ p q plain (split {done = n}) c u = sym (split-some 1 n (omega arith))
-resumed-pass κ p q split plain c u = sym (split-none 0 0 refl)
+resumed-pass κ p q unsplitPass unsplitPass c u = sym (split-none 0 0 refl)
+resumed-pass κ p q unsplitPass (split {done = n}) c u = sym (split-some 1 n (omega arith))
+resumed-pass κ p q split unsplitPass c u = sym (split-none 0 0 refl)
 resumed-pass κ p q split (split {done = n}) c u = sym (split-some 1 n (omega arith))
 resumed-pass κ p q array (array {array = a} {lent = b}) c u = ap (λ (x : ℕ). Arrays a x) (sym u)
 resumed-pass κ p q unary unary c u = refl
 resumed-pass κ p q (level {classes = d} h) (level {classes = e} {pending = n} i) c u = ap (λ (x : TokenClasses). Binary x n) (same-classes d e c)
-resumed-pass κ p q tern tern c u = refl
-resumed-pass κ p q prefix prefix c u = refl
+resumed-pass κ p q conditionalPass conditionalPass c u = refl
+resumed-pass κ p q returnPass returnPass c u = refl
 
 -- an array that waits goes on waiting
 pub takes-waits : (κ : Kind) (t : State κ) (k : Token) (kids : Forest) → waits κ (takes κ t k kids) ≤ waits κ t
@@ -67,7 +67,7 @@ takes-waits arrays (unindexed d) k kids = le-refl 0
 takes-waits arrays (named d q) k kids = omega arith
 takes-waits arrays (indexed d q c) k kids = le-refl 1
 takes-waits unaries t k kids = le-refl 0
-takes-waits ternary t k kids = le-refl 0
+takes-waits conditional t k kids = le-refl 0
 takes-waits returns t k kids = le-refl 0
 takes-waits (binary ops) t k kids = le-refl 0
 

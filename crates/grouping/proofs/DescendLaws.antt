@@ -17,12 +17,12 @@ use Rattle.nodes.specs.declared.frames.Held.{Held as Words}
 use Rattle.nodes.proofs.Store.{tree-below, tree-out, tree-keep}
 use Rattle.nodes.proofs.Tokens.{token-keep}
 use Rattle.nodes.proofs.Trees.{tree-owned}
-use Rattle.walks.specs.Passes.{walkOf, classesOf, heldOf, Runs, call, mathCall, plain, split, array, unary, level, tern, prefix}
-use Rattle.walks.specs.Sides.{ArraySide, DoneSide, InFrame, Holds, Waits}
-use Rattle.walks.specs.Turns.{lentOf, Begins, afresh, lent}
-use Rattle.walks.specs.declared.turns.Pass.{Pass}
-use Rattle.walks.specs.declared.turns.Pass.the-variants.{Calls, Maths, Plain, Split, Arrays, Unary, Binary, Ternary, Prefix}
-use Rattle.walks.specs.declared.turns.Walk.{Walk}
+use Rattle.levels.specs.Passes.{walkOf, classesOf, heldOf, Runs, call, mathCall, unsplitPass, split, array, unary, level, conditionalPass, returnPass}
+use Rattle.levels.specs.Sides.{ArraySide, DoneSide, InFrame, Holds, Waits}
+use Rattle.levels.specs.Turns.{lentOf, Begins, afresh, lent}
+use Rattle.levels.specs.declared.turns.Pass.{Pass}
+use Rattle.levels.specs.declared.turns.Pass.the-variants.{Calls, MathCalls, Unsplit, Split, Arrays, Unary, Binary, Conditional, Returns}
+use Rattle.levels.specs.declared.turns.Walk.{Walk}
 use Rattle.grouping.specs.Driver.{FrameOf, Stack, over, Going, Beyond, CanOpen, Opened, CanDescend, Descended}
 use Rattle.grouping.proofs.SideLaws.{open-array-keep}
 use Rattle.grouping.proofs.StackLaws.{waits-keep, waits-within, stack-bounds, stack-within, stack-keep, top-beyond}
@@ -34,47 +34,47 @@ use Rattle.grouping.proofs.Lasting.{reading-size, reading-count, begun-
 -- what a frame keeps: the name is lent no more
 abbrev pub rested : Pass → Pass
 rested Calls = Calls
-rested Maths = Maths
-rested Plain = Plain
+rested MathCalls = MathCalls
+rested Unsplit = Unsplit
 rested (Split done) = Split done
 rested (Arrays a b) = Arrays a 0
 rested Unary = Unary
 rested (Binary classes pending) = Binary classes pending
-rested (Ternary tokens) = Ternary tokens
-rested Prefix = Prefix
+rested (Conditional tokens) = Conditional tokens
+rested Returns = Returns
 
 rested-held : (p : Pass) → heldOf (rested p) ≡ heldOf p
 rested-held Calls = refl
-rested-held Maths = refl
-rested-held Plain = refl
+rested-held MathCalls = refl
+rested-held Unsplit = refl
 rested-held (Split done) = refl
 rested-held (Arrays a b) = refl
 rested-held Unary = refl
 rested-held (Binary classes pending) = refl
-rested-held (Ternary tokens) = refl
-rested-held Prefix = refl
+rested-held (Conditional tokens) = refl
+rested-held Returns = refl
 
 rested-classes : (p : Pass) → classesOf (rested p) ≡ classesOf p
 rested-classes Calls = refl
-rested-classes Maths = refl
-rested-classes Plain = refl
+rested-classes MathCalls = refl
+rested-classes Unsplit = refl
 rested-classes (Split done) = refl
 rested-classes (Arrays a b) = refl
 rested-classes Unary = refl
 rested-classes (Binary classes pending) = refl
-rested-classes (Ternary tokens) = refl
-rested-classes Prefix = refl
+rested-classes (Conditional tokens) = refl
+rested-classes Returns = refl
 
 rested-unlent : (p : Pass) → lentOf (rested p) ≡ 0
 rested-unlent Calls = refl
-rested-unlent Maths = refl
-rested-unlent Plain = refl
+rested-unlent MathCalls = refl
+rested-unlent Unsplit = refl
 rested-unlent (Split done) = refl
 rested-unlent (Arrays a b) = refl
 rested-unlent Unary = refl
 rested-unlent (Binary classes pending) = refl
-rested-unlent (Ternary tokens) = refl
-rested-unlent Prefix = refl
+rested-unlent (Conditional tokens) = refl
+rested-unlent Returns = refl
 
 array-rested : {W X : List ℕ} {base write lo l a b : ℕ} {s : _} → ArraySide W X base write lo l (Arrays a b) s → ArraySide W X base write lo l (Arrays a 0) s
 array-rested (ArraySide.all v) = ArraySide.all v
@@ -85,13 +85,13 @@ module _ (W X : List ℕ) (lo l m hi : ℕ) (v : Items) where
       → Runs κ (rested p) × DoneSide κ W X lo l m hi (walkOf v (rested p)) t × InFrame v (rested p)
   rested-done κ p t call d f = (call, d, f)
   rested-done κ p t mathCall d f = (mathCall, d, f)
-  rested-done κ p t plain d f = (plain, d, f)
+  rested-done κ p t unsplitPass d f = (unsplitPass, d, f)
   rested-done κ p t split d f = (split, d, f)
   rested-done κ p t array d f = (array, array-rested d, f)
   rested-done κ p t unary d f = (unary, d, f)
   rested-done κ p t (level h) d f = (level h, d, f)
-  rested-done κ p t tern d f = (tern, d, f)
-  rested-done κ p t prefix d f = (prefix, d, f)
+  rested-done κ p t conditionalPass d f = (conditionalPass, d, f)
+  rested-done κ p t returnPass d f = (returnPass, d, f)
 
 waits-rested : {κ : Kind} {W X : List ℕ} {lo l m hi : ℕ} {w : Walk} {t : State κ} {rest : Forest} → Waits κ W X lo l m hi w t rest
     → Waits κ W X lo l m hi (walkOf (w .list) (rested (w .pass))) t rest

@@ -16,28 +16,28 @@ use Rattle.nodes.specs.Store.{InArray}
 use Rattle.nodes.specs.declared.frames.List.{List as Items}
 use Rattle.nodes.proofs.Store.{back-raise, rep-lower}
 use Rattle.nodes.proofs.Trees.{gathered-array}
-use Rattle.walks.specs.Passes.{walkOf, Runs, call, mathCall, plain, array, unary, level, prefix, waits}
-use Rattle.walks.specs.Items.{BackArray}
-use Rattle.walks.specs.Sides.{GatherSide, LevelSide, StatementSide, ArraySide, RightSide, DoneSide, AtTurn}
-use Rattle.walks.specs.Turns.{CanFinish, FinishTo, gives, Ends}
-use Rattle.walks.specs.declared.turns.Pass.{Pass}
-use Rattle.walks.specs.declared.turns.Pass.the-variants.{Calls, Maths, Plain, Split, Arrays, Unary, Binary, Ternary, Prefix}
-use Rattle.walks.specs.declared.turns.Finished.{Finished}
-use Rattle.walks.specs.declared.turns.Finished.the-variants.{At}
-use Rattle.walks.proofs.Reading.{same-within}
+use Rattle.levels.specs.Passes.{walkOf, Runs, call, mathCall, unsplitPass, array, unary, level, returnPass, waits}
+use Rattle.levels.specs.Items.{BackArray}
+use Rattle.levels.specs.Sides.{GatherSide, LevelSide, StatementSide, ArraySide, RightSide, DoneSide, AtTurn}
+use Rattle.levels.specs.Turns.{CanFinish, FinishTo, gives, Ends}
+use Rattle.levels.specs.declared.turns.Pass.{Pass}
+use Rattle.levels.specs.declared.turns.Pass.the-variants.{Calls, MathCalls, Unsplit, Split, Arrays, Unary, Binary, Conditional, Returns}
+use Rattle.levels.specs.declared.turns.Finished.{Finished}
+use Rattle.levels.specs.declared.turns.Finished.the-variants.{At}
+use Rattle.levels.proofs.Reading.{same-within}
 use Rattle.grouping.proofs.StackLaws.{holds-within}
 
 -- The passes that give the done trees from the left as they are.
 abbrev pub Gathering : Pass → Type 0
 Gathering Calls = Unit {0}
-Gathering Maths = Unit {0}
-Gathering Plain = Unit {0}
+Gathering MathCalls = Unit {0}
+Gathering Unsplit = Unit {0}
 Gathering (Split done) = ⊥
 Gathering (Arrays a b) = Unit {0}
 Gathering Unary = ⊥
 Gathering (Binary classes pending) = Unit {0}
-Gathering (Ternary tokens) = ⊥
-Gathering Prefix = Unit {0}
+Gathering (Conditional tokens) = ⊥
+Gathering Returns = Unit {0}
 
 module _ (W X : List ℕ) (lo l m hi : ℕ) (v : Items) (high : l ≤ hi) (written : v .write ≤ v .len) where
   gathered-in-order : (d : Forest) → BackArray W X (v .base) (v .write) lo l d → InArray W X (v .base) (v .write) lo hi (inOrder d)
@@ -48,12 +48,12 @@ module _ (W X : List ℕ) (lo l m hi : ℕ) (v : Items) (high : l ≤ hi) (writt
   unfolding work walk callLevel callFinish returnLevel returnFinish binaryLevel binaryFinish statementLevel statementFinish arrayLevel arrayFinish flushed waits
   finish-gathered κ p s call g (GatherSide.all {d = d} b) t e = gives refl (gathered-in-order d b) (le-refl (v .base)) (omega arith)
   finish-gathered κ p s mathCall g (GatherSide.all {d = d} b) t e = gives refl (gathered-in-order d b) (le-refl (v .base)) (omega arith)
-  finish-gathered κ p s plain g (StatementSide.whole {d = d} b) t e = gives refl (gathered-in-order d b) (le-refl (v .base)) (omega arith)
+  finish-gathered κ p s unsplitPass g (StatementSide.whole {d = d} b) t e = gives refl (gathered-in-order d b) (le-refl (v .base)) (omega arith)
   finish-gathered κ p s array g (ArraySide.all {d = d} b) t e = gives refl (gathered-in-order d b) (le-refl (v .base)) (omega arith)
   finish-gathered κ p s array g (ArraySide.growing b o) t e = absurd (omega arith)
   finish-gathered κ p s (level h) g (LevelSide.all {d = d} c b) t e = gives refl (gathered-in-order d b) (le-refl (v .base)) (omega arith)
   finish-gathered κ p s (level h) g (LevelSide.operator c b n u o) t e = absurd (omega (arith, t .0, o .pos))
-  finish-gathered κ p s prefix g (GatherSide.all {d = d} b) t e = gives refl (gathered-in-order d b) (le-refl (v .base)) (omega arith)
+  finish-gathered κ p s returnPass g (GatherSide.all {d = d} b) t e = gives refl (gathered-in-order d b) (le-refl (v .base)) (omega arith)
 
 pub gathered-ends : (W : List ℕ) (v : Items) (p : Pass) → Gathering p → Ends W (walkOf v p) (At (v .base) (v .write)) W
 gathered-ends W v p gathering =

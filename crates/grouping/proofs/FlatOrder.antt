@@ -28,20 +28,20 @@ use Rattle.nodes.specs.Store.{wd, TokenAt, Seg, RepF, ends, more}
 use Rattle.nodes.specs.Slots.{opAt}
 use Rattle.nodes.proofs.Store.{reserve-pos, rep-count}
 use Rattle.nodes.proofs.Tokens.{token-op}
-use Rattle.walks.specs.Grouped.{tells, notEnded, withoutTokens, StandsFor}
-use Rattle.walks.specs.Grouped as stands
-use Rattle.walks.specs.declared.failure.Failure.the-variants.{ComplexMustEndWithSemicolon, ComplexWithoutTokens}
-use Rattle.walks.specs.declared.grouped.Grouped.the-variants.{Failed}
+use Rattle.levels.specs.Grouped.{tells, notEnded, withoutTokens, StandsFor}
+use Rattle.levels.specs.Grouped as stands
+use Rattle.levels.specs.declared.failure.Failure.the-variants.{ComplexMustEndWithSemicolon, ComplexWithoutTokens}
+use Rattle.levels.specs.declared.grouped.Grouped.the-variants.{Failed}
 use Rattle.order.specs.Places.{usedBy}
 use Rattle.order.proofs.Running.{failed as failing, next, run-first, skip-first}
-use Rattle.flat.specs.Flat.{FlatTells, failed, mismatched, unclosed, Answers, CanJoin, Joined, CanSection}
-use Rattle.flat.specs.Flat as pass
+use Rattle.sections.specs.Flat.{FlatTells, failed, mismatched, unclosed, Answers, CanJoin, Joined, CanSection}
+use Rattle.sections.specs.Flat as pass
 use Rattle.grouping.specs.Group.{CanGroup, FlatTo, ifRun, EndsTo, ended, unended, EndsRight, JoinedIf, SectionedIf, Flattened}
-use Rattle.flat.specs.declared.sections.Flat.{Flat as Left}
-use Rattle.flat.specs.declared.sections.Flat.the-variants.{Done, Fail, Mismatched, Unclosed as Unclosing}
-use Rattle.flat.proofs.sections.Flat.{the-type}
-use Rattle.walks.proofs.Reading.{when-true, when-false}
-use Rattle.flat.proofs.FlatCases.{found}
+use Rattle.sections.specs.declared.Flat.{Flat as Left}
+use Rattle.sections.specs.declared.Flat.the-variants.{Done, Fail, Mismatched, Unclosed as Unclosing}
+use Rattle.sections.proofs.sections.Flat.{the-type}
+use Rattle.levels.proofs.Reading.{when-true, when-false}
+use Rattle.sections.proofs.FlatCases.{found}
 
 -- ---- one pass of the reading
 

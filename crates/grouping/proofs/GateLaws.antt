@@ -16,14 +16,14 @@ use Rattle.molang.proofs.Unary.{unaryPass-free}
 use Rattle.molang.proofs.Conditional.{conditional-free}
 use Rattle.molang.proofs.Return.{return-free}
 use Rattle.molang.proofs.Binary.{binary-free}
-use Rattle.molang.proofs.Work.{Kind, calls, statements, arrays, unaries, ternary, returns, binary, pass}
+use Rattle.molang.proofs.Work.{Kind, calls, statements, arrays, unaries, conditional, returns, binary, pass}
 use Rattle.ops.specs.Classes.{shares}
 use Rattle.nodes.specs.Store.{wd}
 use Rattle.nodes.proofs.Store.{rep-legal}
 use Rattle.nodes.proofs.Classes.{notes-meet}
-use Rattle.walks.specs.Passes.{classesOf, operators}
-use Rattle.walks.specs.declared.turns.Pass.{Pass}
-use Rattle.walks.proofs.PassClasses.{runs-exact}
+use Rattle.levels.specs.Passes.{classesOf, operators}
+use Rattle.levels.specs.declared.turns.Pass.{Pass}
+use Rattle.levels.proofs.PassClasses.{runs-exact}
 use Rattle.order.specs.declared.Choice.{Choice}
 use Rattle.order.specs.declared.Choice.the-variants.{Run, Skip}
 use Rattle.grouping.specs.Driver.{CanRun, done, HasRun}
@@ -37,7 +37,7 @@ pass-free (calls kind) f h = call-free kind f h
 pass-free statements f h = statement-free f h
 pass-free arrays f h = array-free f h
 pass-free unaries f h = unaryPass-free f h
-pass-free ternary f h = conditional-free f h
+pass-free conditional f h = conditional-free f h
 pass-free returns f h = return-free f h
 pass-free (binary ops) f h = binary-free ops f h
 

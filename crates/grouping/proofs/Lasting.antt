@@ -24,7 +24,7 @@ use Rattle.molang.proofs.Unary.{unaryPass-light}
 use Rattle.molang.proofs.Return.{return-light}
 use Rattle.molang.proofs.Binary.{binary-light}
 use Rattle.molang.proofs.Conditional.{conditional-light}
-use Rattle.molang.proofs.Work.{Kind, calls, statements, arrays, unaries, ternary, returns, binary, work, begins, inReading, pass, andThen, Held, held, unwound, pass-begins}
+use Rattle.molang.proofs.Work.{Kind, calls, statements, arrays, unaries, conditional, returns, binary, work, begins, inReading, pass, andThen, Held, held, unwound, pass-begins}
 
 -- ---- sizes in reading order
 
@@ -52,7 +52,7 @@ reading-size (calls kind) f = refl
 reading-size statements f = refl
 reading-size arrays f = refl
 reading-size unaries f = reversed-size f
-reading-size ternary f = refl
+reading-size conditional f = refl
 reading-size returns f = refl
 reading-size (binary ops) f = refl
 
@@ -62,7 +62,7 @@ reading-count (calls kind) f = refl
 reading-count statements f = refl
 reading-count arrays f = refl
 reading-count unaries f = reversed-count f
-reading-count ternary f = refl
+reading-count conditional f = refl
 reading-count returns f = refl
 reading-count (binary ops) f = refl
 
@@ -76,7 +76,7 @@ pass-light W pays turns (calls kind) f = through-light W (callLevel kind) (call-
 pass-light W pays turns statements f = through-light W statementLevel (statement-light W pays) f
 pass-light W pays turns arrays f = through-light W arrayLevel (array-light W) f
 pass-light W pays turns unaries f = unaryPass-light W turns f
-pass-light W pays turns ternary f = through-light W conditionalLevel (conditional-light W) f
+pass-light W pays turns conditional f = through-light W conditionalLevel (conditional-light W) f
 pass-light W pays turns returns f = through-light W returnLevel (return-light W) f
 pass-light W pays turns (binary ops) f = through-light W (binaryLevel ops) (binary-light W ops) f
 

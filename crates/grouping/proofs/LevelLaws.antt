@@ -18,12 +18,12 @@ use Rattle.ops.specs.declared.sets.OpSet.{OpSet}
 use Rattle.nodes.specs.Store.{InArray}
 use Rattle.nodes.specs.Children.{CanGive, Given}
 use Rattle.nodes.proofs.Trees.{array-give}
-use Rattle.walks.specs.Turns.{lentOf}
-use Rattle.walks.specs.Grouped.{tells, StandsFor, roots, failed, pointerFailed}
-use Rattle.walks.specs.declared.failure.Failure.{Failure}
-use Rattle.walks.specs.declared.grouped.Grouped.{Grouped}
-use Rattle.walks.specs.declared.grouped.Grouped.the-variants.{Roots, Failed, Mismatched, Unclosed, PointerFailed}
-use Rattle.walks.specs.declared.turns.Pass.{Pass as State}
+use Rattle.levels.specs.Turns.{lentOf}
+use Rattle.levels.specs.Grouped.{tells, StandsFor, roots, failed, pointerFailed}
+use Rattle.levels.specs.declared.failure.Failure.{Failure}
+use Rattle.levels.specs.declared.grouped.Grouped.{Grouped}
+use Rattle.levels.specs.declared.grouped.Grouped.the-variants.{Roots, Failed, Mismatched, Unclosed, PointerFailed}
+use Rattle.levels.specs.declared.turns.Pass.{Pass as State}
 use Rattle.order.specs.Places.{usedBy, rulesOf, places, placeIn, Starts, Chosen as Picked, passesFrom}
 use Rattle.order.specs.Places as starts
 use Rattle.order.specs.declared.Choice.{Choice}
@@ -36,8 +36,8 @@ use Rattle.grouping.specs.Choice.{CanChoose, Chosen}
 use Rattle.grouping.specs.Group.{CanGroup, HasGrouped, Listed, Flattened, CanLevel, Levelled}
 use Rattle.grouping.specs.declared.driver.Ran.{Ran}
 use Rattle.grouping.specs.declared.driver.Ran.the-variants.{Done, Fail}
-use Rattle.flat.specs.declared.sections.Flat.{Flat}
-use Rattle.flat.specs.declared.sections.Flat.the-variants.{Done as Items, Fail as FlatFail, Mismatched as FlatMismatched, Unclosed as FlatUnclosed}
+use Rattle.sections.specs.declared.Flat.{Flat}
+use Rattle.sections.specs.declared.Flat.the-variants.{Done as Items, Fail as FlatFail, Mismatched as FlatMismatched, Unclosed as FlatUnclosed}
 use Rattle.grouping.proofs.FlatOrder.{Fallen}
 use Rattle.grouping.proofs.Lasting.{pass-nodes}
 use Rattle.grouping.proofs.OutermostLaws.{give-outermost}
@@ -54,12 +54,12 @@ endOf (FlatUnclosed f) = Unclosed f
 -- no pass starts with an array that was lent to it
 pub starts-unlent : {p : Pass} {state : State} → Starts p state → lentOf state ≡ 0
 starts-unlent starts.call = refl
-starts-unlent starts.plain = refl
+starts-unlent starts.unsplitPass = refl
 starts-unlent starts.array = refl
 starts-unlent starts.mathCall = refl
 starts-unlent starts.unary = refl
-starts-unlent starts.tern = refl
-starts-unlent starts.prefix = refl
+starts-unlent starts.conditionalPass = refl
+starts-unlent starts.returnPass = refl
 starts-unlent (starts.point e) = refl
 starts-unlent (starts.plus e) = refl
 starts-unlent (starts.level e) = refl

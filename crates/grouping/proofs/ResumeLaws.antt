@@ -18,21 +18,21 @@ use Rattle.molang.specs.Unary.{returnLevel, returnResume, turned}
 use Rattle.molang.specs.Conditional.{conditionalLevel}
 use Rattle.molang.specs.Order.{lastOf}
 use Rattle.molang.proofs.Trees.{isNil, some-none}
-use Rattle.molang.proofs.Conditional.{isTernary}
+use Rattle.molang.proofs.Conditional.{isConditional}
 use Rattle.molang.proofs.Work.{Kind, State, takes}
 use Rattle.nodes.specs.Store.{wd, Seg, RepT, RepB, InArray}
 use Rattle.nodes.specs.declared.frames.List.{List as Items}
 use Rattle.nodes.proofs.Runs.{set-same, set-other, set-long}
 use Rattle.nodes.proofs.Store.{tree-below, tree-keep, tree-more, back-le}
-use Rattle.walks.specs.Passes.{walkOf, movedTo, Runs, call, mathCall, plain, split, unary, tern, prefix}
-use Rattle.walks.specs.Items.{BackArray, Ahead}
-use Rattle.walks.specs.Sides.{GatherSide, TernarySide, tokensIn, EndedAt, StatementSide, RightSide, SplitAgrees, DoneSide, UnreadSide, Agrees, AtTurn, InFrame, Holds}
-use Rattle.walks.specs.Turns.{CanResume, Resumed}
-use Rattle.walks.specs.declared.turns.Pass.{Pass}
-use Rattle.walks.specs.declared.turns.Pass.the-variants.{Calls, Maths, Plain, Split as SplitAt, Arrays, Unary, Ternary, Prefix}
-use Rattle.walks.specs.declared.turns.Walk.{Walk}
-use Rattle.walks.proofs.Reading.{SameSlots, back-array-keep, array-keep, ahead-keep, array-put}
-use Rattle.walks.proofs.Ended.{ended-le, ended-at-keep}
+use Rattle.levels.specs.Passes.{walkOf, movedTo, Runs, call, mathCall, unsplitPass, split, unary, conditionalPass, returnPass}
+use Rattle.levels.specs.Items.{BackArray, Ahead}
+use Rattle.levels.specs.Sides.{GatherSide, ConditionalSide, tokensIn, EndedAt, StatementSide, RightSide, SplitAgrees, DoneSide, UnreadSide, Agrees, AtTurn, InFrame, Holds}
+use Rattle.levels.specs.Turns.{CanResume, Resumed}
+use Rattle.levels.specs.declared.turns.Pass.{Pass}
+use Rattle.levels.specs.declared.turns.Pass.the-variants.{Calls, MathCalls, Unsplit, Split as SplitAt, Arrays, Unary, Conditional, Returns}
+use Rattle.levels.specs.declared.turns.Walk.{Walk}
+use Rattle.levels.proofs.Reading.{SameSlots, back-array-keep, array-keep, ahead-keep, array-put}
+use Rattle.levels.proofs.Ended.{ended-le, ended-at-keep}
 use Rattle.grouping.specs.Driver.{Keeping}
 use Rattle.grouping.proofs.StackLaws.{waits-within}
 
@@ -74,9 +74,9 @@ module _ (W W' X : List ℕ) (lo l m hi item : ℕ) (v : Items) (k : Token) (kid
       → GatherSide W' X (v .base) (v .write + 1) lo m (taken s)
   put-gather (GatherSide.all {d = d} b) taken e = rw (e d) (GatherSide.all (put-after (v .base) (v .write) lo d refl (le-refl lo) b))
 
-  put-ternary : {p : Pass} {d : Forest} → TernarySide W X (v .base) (v .write) lo l p d → TernarySide W' X (v .base) (v .write + 1) lo m p (node k kids d)
-  put-ternary (TernarySide.all {d = d} e b) =
-      TernarySide.all (e ∙ sym (tokens-tree isTernary k kids d full)) (put-after (v .base) (v .write) lo d refl (le-refl lo) b)
+  put-conditional : {p : Pass} {d : Forest} → ConditionalSide W X (v .base) (v .write) lo l p d → ConditionalSide W' X (v .base) (v .write + 1) lo m p (node k kids d)
+  put-conditional (ConditionalSide.all {d = d} e b) =
+      ConditionalSide.all (e ∙ sym (tokens-tree isConditional k kids d full)) (put-after (v .base) (v .write) lo d refl (le-refl lo) b)
 
   ended-kept : {n a : ℕ} {q : Token} {done : Forest} → a ≤ l → n ≤ v .write → EndedAt W X (v .base) n lo a q done → EndedAt W' X (v .base) n lo a q done
   ended-kept h e w = ended-at-keep W W' (λ s o x y z u. slots s o x (omega arith) z u) (λ j x y. other j (omega arith)) w
@@ -146,19 +146,19 @@ module _ (W W' X : List ℕ) (lo l m hi item : ℕ) (v : Items) (k : Token) (kid
   unfolding takes callLevel callResume returnLevel returnResume statementLevel statementResume conditionalLevel
   put-holds κ p t call keeping d u a f w = assemble κ p (callResume t k kids) call (put-gather d (λ s. callResume s k kids) (λ d. refl)) (still u f) tt (omega arith) w
   put-holds κ p t mathCall keeping d u a f w = assemble κ p (callResume t k kids) mathCall (put-gather d (λ s. callResume s k kids) (λ d. refl)) (still u f) tt (omega arith) w
-  put-holds κ p t plain keeping d u a f w = assemble κ p (gather k kids t) plain (put-statement d) (still u f) (statement-agrees t a) (omega arith) w
+  put-holds κ p t unsplitPass keeping d u a f w = assemble κ p (gather k kids t) unsplitPass (put-statement d) (still u f) (statement-agrees t a) (omega arith) w
   put-holds κ p t split keeping d u a f w = assemble κ p (gather k kids t) split (put-statement d) (still u f) (statement-agrees t a) (omega arith) w
-  put-holds κ p t tern keeping d u a f w = assemble κ p (node k kids t) tern (put-ternary d) (still u (omega arith)) tt f w
-  put-holds κ p t prefix keeping d u a f w = assemble κ p (returnResume t k kids) prefix (put-gather d (λ s. returnResume s k kids) (λ d. refl)) (still u f) tt (omega arith) w
+  put-holds κ p t conditionalPass keeping d u a f w = assemble κ p (node k kids t) conditionalPass (put-conditional d) (still u (omega arith)) tt f w
+  put-holds κ p t returnPass keeping d u a f w = assemble κ p (returnResume t k kids) returnPass (put-gather d (λ s. returnResume s k kids) (λ d. refl)) (still u f) tt (omega arith) w
 
 -- a pass that keeps the item as it is
 keep-frame : (v : Items) (p : Pass) → Keeping p → InFrame v p → v .write < v .read
 keep-frame v Calls keeping f = f
-keep-frame v Maths keeping f = f
-keep-frame v Plain keeping f = f
+keep-frame v MathCalls keeping f = f
+keep-frame v Unsplit keeping f = f
 keep-frame v (SplitAt n) keeping f = f
-keep-frame v (Ternary n) keeping f = omega arith
-keep-frame v Prefix keeping f = f
+keep-frame v (Conditional n) keeping f = omega arith
+keep-frame v Returns keeping f = f
 
 pub keep-room : {W : List ℕ} (v : Items) (p : Pass) {item : ℕ} → CanResume W (walkOf v p) item → Keeping p → v .base + v .write < length W
 keep-room v p g keeping =

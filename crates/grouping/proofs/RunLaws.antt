@@ -10,13 +10,13 @@ use Rattle.molang.specs.Forest.{Forest, count}
 use Rattle.molang.specs.Message.{Result}
 use Rattle.molang.specs.Calls.{arrayLevel}
 use Rattle.molang.proofs.Trees.{count-size}
-use Rattle.molang.proofs.Work.{Kind, calls, statements, arrays, unaries, ternary, returns, binary, State, work, begins, inReading, pass, Held, unwound, pass-begins}
-use Rattle.walks.specs.Passes.{classesOf, waits}
-use Rattle.walks.specs.Sides.{Holds}
-use Rattle.walks.specs.Turns.{turnsLeft, afresh}
-use Rattle.walks.specs.declared.failure.Failure.{Failure}
-use Rattle.walks.specs.declared.turns.Pass.{Pass}
-use Rattle.walks.specs.declared.turns.Walk.{Walk}
+use Rattle.molang.proofs.Work.{Kind, calls, statements, arrays, unaries, conditional, returns, binary, State, work, begins, inReading, pass, Held, unwound, pass-begins}
+use Rattle.levels.specs.Passes.{classesOf, waits}
+use Rattle.levels.specs.Sides.{Holds}
+use Rattle.levels.specs.Turns.{turnsLeft, afresh}
+use Rattle.levels.specs.declared.failure.Failure.{Failure}
+use Rattle.levels.specs.declared.turns.Pass.{Pass}
+use Rattle.levels.specs.declared.turns.Walk.{Walk}
 use Rattle.grouping.specs.Driver.{Stack, bottom, Going, turnsBelow, Beyond, CanOpen, Opened, CanBegin, Begun, NextTo, CanAdvance, Advanced, CanRun, RanTo, done, failed, HasRun}
 use Rattle.grouping.specs.declared.driver.Next.{Next}
 use Rattle.grouping.specs.declared.driver.Next.the-variants.{On, Done, Fail}
@@ -61,7 +61,7 @@ begins-waits (calls kind) f = refl
 begins-waits statements f = refl
 begins-waits arrays f = refl
 begins-waits unaries f = refl
-begins-waits ternary f = refl
+begins-waits conditional f = refl
 begins-waits returns f = refl
 begins-waits (binary ops) f = refl
 

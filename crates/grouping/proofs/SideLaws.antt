@@ -9,16 +9,16 @@ use Rattle.molang.specs.Forest.{Token, Forest}
 use Rattle.molang.specs.Level.{Gathered}
 use Rattle.molang.specs.Calls.{Indexing}
 use Rattle.molang.specs.Statements.{Split}
-use Rattle.molang.proofs.Work.{Kind, calls, statements, arrays, unaries, ternary, returns, binary, Right, State}
+use Rattle.molang.proofs.Work.{Kind, calls, statements, arrays, unaries, conditional, returns, binary, Right, State}
 use Rattle.nodes.specs.Store.{wd, Chain, Out, RepB, begins, put}
 use Rattle.nodes.specs.declared.frames.List.{List as Items}
 use Rattle.nodes.proofs.Tokens.{token-keep}
 use Rattle.nodes.proofs.Store.{tree-below, tree-out, tree-keep, back-le, back-keep}
-use Rattle.walks.specs.Sides.{GatherSide, LevelSide, TernarySide, OpenAt, StatementSide, OpenArray, ArraySide, RightSide, DoneSide, UnreadSide, Sides}
-use Rattle.walks.specs.declared.turns.Pass.{Pass}
-use Rattle.walks.specs.declared.turns.Walk.{Walk}
-use Rattle.walks.proofs.Reading.{SameSlots, SameWords, back-array-keep, array-keep, ahead-keep}
-use Rattle.walks.proofs.Ended.{ended-le, ended-at-keep}
+use Rattle.levels.specs.Sides.{GatherSide, LevelSide, ConditionalSide, OpenAt, StatementSide, OpenArray, ArraySide, RightSide, DoneSide, UnreadSide, Sides}
+use Rattle.levels.specs.declared.turns.Pass.{Pass}
+use Rattle.levels.specs.declared.turns.Walk.{Walk}
+use Rattle.levels.proofs.Reading.{SameSlots, SameWords, back-array-keep, array-keep, ahead-keep}
+use Rattle.levels.proofs.Ended.{ended-le, ended-at-keep}
 
 module _ (W W' : List ℕ) where
   -- ---- a chain from the last child on
@@ -61,8 +61,8 @@ module _ (W W' : List ℕ) where
         LevelSide.operator e (back-array-keep W W' (λ s o x y z h. slots s o x (omega (arith, t .low)) z h) words v) n u
         (tree-keep W W' (λ s o x y z h i. slots s o (omega arith) y z h) t)
 
-    ternary-keep : {p : Pass} {s : Forest} → TernarySide W X base write lo l p s → TernarySide W' X base write lo l p s
-    ternary-keep (TernarySide.all e v) = TernarySide.all e (back-array-keep W W' slots words v)
+    conditional-keep : {p : Pass} {s : Forest} → ConditionalSide W X base write lo l p s → ConditionalSide W' X base write lo l p s
+    conditional-keep (ConditionalSide.all e v) = ConditionalSide.all e (back-array-keep W W' slots words v)
 
     open-at-keep : {n m : ℕ} {s : Token} {d : Forest} → lo ≤ m → OpenAt W X base n write m l s d → OpenAt W' X base n write m l s d
     open-at-keep {n} {m} low v =
@@ -107,7 +107,7 @@ module _ (W W' : List ℕ) where
     done-keep statements w s h words v = statement-keep left (λ j x y. words j x (omega arith)) v
     done-keep arrays w s h words v = array-side-keep left (λ j x y. words j x (omega arith)) v
     done-keep unaries w s h words v = right-keep right (λ j x y. words j (omega arith) y) v
-    done-keep ternary w s h words v = ternary-keep left (λ j x y. words j x (omega arith)) v
+    done-keep conditional w s h words v = conditional-keep left (λ j x y. words j x (omega arith)) v
     done-keep returns w s h words v = gather-keep left (λ j x y. words j x (omega arith)) v
     done-keep (binary ops) w s h words v = level-keep left (λ j x y. words j x (omega arith)) v
 
@@ -117,7 +117,7 @@ module _ (W W' : List ℕ) where
     unread-keep statements i rest h words v = ahead-keep W W' right (λ j x y. words j (omega arith) y) v
     unread-keep arrays i rest h words v = ahead-keep W W' right (λ j x y. words j (omega arith) y) v
     unread-keep unaries i rest h words v = back-array-keep W W' left (λ j x y. words j x (omega arith)) v
-    unread-keep ternary i rest h words v = ahead-keep W W' right (λ j x y. words j (omega arith) y) v
+    unread-keep conditional i rest h words v = ahead-keep W W' right (λ j x y. words j (omega arith) y) v
     unread-keep returns i rest h words v = ahead-keep W W' right (λ j x y. words j (omega arith) y) v
     unread-keep (binary ops) i rest h words v = ahead-keep W W' right (λ j x y. words j (omega arith) y) v
 

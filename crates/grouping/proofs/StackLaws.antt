@@ -13,11 +13,11 @@ use Rattle.nodes.specs.Store.{wd, Out, Free}
 use Rattle.nodes.specs.declared.frames.List.{List as Items}
 use Rattle.nodes.proofs.Tokens.{token-keep}
 use Rattle.nodes.proofs.Keeping.{free-above, free-beside, free-own, free-inner}
-use Rattle.walks.specs.Passes.{walkOf, Runs, call, mathCall, plain, split, array, unary, level, tern, prefix}
-use Rattle.walks.specs.Sides.{RightSide, DoneSide, UnreadSide, AtTurn, InFrame, Holds, Waits}
-use Rattle.walks.specs.declared.turns.Pass.{Pass}
-use Rattle.walks.specs.declared.turns.Walk.{Walk}
-use Rattle.walks.proofs.Reading.{ahead-le, SameSlots, SameWords}
+use Rattle.levels.specs.Passes.{walkOf, Runs, call, mathCall, unsplitPass, split, array, unary, level, conditionalPass, returnPass}
+use Rattle.levels.specs.Sides.{RightSide, DoneSide, UnreadSide, AtTurn, InFrame, Holds, Waits}
+use Rattle.levels.specs.declared.turns.Pass.{Pass}
+use Rattle.levels.specs.declared.turns.Walk.{Walk}
+use Rattle.levels.proofs.Reading.{ahead-le, SameSlots, SameWords}
 use Rattle.grouping.specs.Driver.{FrameOf, Stack, bottom, over, Beyond}
 use Rattle.grouping.proofs.SideLaws.{sides-keep}
 
@@ -31,25 +31,25 @@ module _ (W X : List ℕ) (lo l m hi : ℕ) (v : Items) (rest : Forest) where
       → (v .write ≤ v .len) × (v .read ≤ v .len)
   frame-within κ p t call d u f = let e = ahead-le u .1 in (omega arith, e)
   frame-within κ p t mathCall d u f = let e = ahead-le u .1 in (omega arith, e)
-  frame-within κ p t plain d u f = let e = ahead-le u .1 in (omega arith, e)
+  frame-within κ p t unsplitPass d u f = let e = ahead-le u .1 in (omega arith, e)
   frame-within κ p t split d u f = let e = ahead-le u .1 in (omega arith, e)
   frame-within κ p t array d u f = let e = ahead-le u .1 in (omega arith, e)
   frame-within κ p t unary d u f = let e = right-within d in (e, omega arith)
   frame-within κ p t (level h) d u f = let e = ahead-le u .1 in (omega arith, e)
-  frame-within κ p t tern d u f = let e = ahead-le u .1 in (omega arith, e)
-  frame-within κ p t prefix d u f = let e = ahead-le u .1 in (omega arith, e)
+  frame-within κ p t conditionalPass d u f = let e = ahead-le u .1 in (omega arith, e)
+  frame-within κ p t returnPass d u f = let e = ahead-le u .1 in (omega arith, e)
 
   turn-within : (κ : Kind) (p : Pass) (s : State κ) → Runs κ p → DoneSide κ W X lo l m hi (walkOf v p) s → UnreadSide κ W X lo l m hi v rest → AtTurn v p
       → (v .write ≤ v .len) × (v .read ≤ v .len)
   turn-within κ p t call d u f = let e = ahead-le u .1 in (omega arith, e)
   turn-within κ p t mathCall d u f = let e = ahead-le u .1 in (omega arith, e)
-  turn-within κ p t plain d u f = let e = ahead-le u .1 in (omega arith, e)
+  turn-within κ p t unsplitPass d u f = let e = ahead-le u .1 in (omega arith, e)
   turn-within κ p t split d u f = let e = ahead-le u .1 in (omega arith, e)
   turn-within κ p t array d u f = let e = ahead-le u .1 in let g = f .1 in (omega arith, e)
   turn-within κ p t unary d u f = let e = right-within d in (e, omega arith)
   turn-within κ p t (level h) d u f = let e = ahead-le u .1 in let g = f .1 in (omega arith, e)
-  turn-within κ p t tern d u f = let e = ahead-le u .1 in (omega arith, e)
-  turn-within κ p t prefix d u f = let e = ahead-le u .1 in (omega arith, e)
+  turn-within κ p t conditionalPass d u f = let e = ahead-le u .1 in (omega arith, e)
+  turn-within κ p t returnPass d u f = let e = ahead-le u .1 in (omega arith, e)
 
 pub waits-within : {κ : Kind} {W X : List ℕ} {lo l m hi : ℕ} {w : Walk} {t : State κ} {rest : Forest} → Waits κ W X lo l m hi w t rest
     → (w .list .write ≤ w .list .len) × (w .list .read ≤ w .list .len)

@@ -15,7 +15,7 @@ use Rattle.molang.specs.Unary.{returnLevel}
 use Rattle.molang.specs.Binary.{binaryLevel}
 use Rattle.molang.specs.Conditional.{conditionalLevel}
 use Rattle.molang.proofs.Trees.{clear}
-use Rattle.molang.proofs.Work.{Kind, calls, statements, arrays, unaries, ternary, returns, binary, State, begins, inReading}
+use Rattle.molang.proofs.Work.{Kind, calls, statements, arrays, unaries, conditional, returns, binary, State, begins, inReading}
 use Rattle.ops.specs.declared.classes.TokenClasses.{TokenClasses}
 use Rattle.nodes.specs.Store.{wd, onto, ends, RepB, InArray}
 use Rattle.nodes.specs.Children.{CanTake, Taken}
@@ -23,13 +23,13 @@ use Rattle.nodes.specs.declared.frames.List.{List as Items}
 use Rattle.nodes.proofs.Runs.{segB-back, length-onto}
 use Rattle.nodes.proofs.Store.{rep-le, rep-lower, rep-count, onto-back}
 use Rattle.nodes.proofs.Trees.{can-take, take-array}
-use Rattle.walks.specs.Passes.{walkOf, movedTo, classesOf, Runs, call, mathCall, plain, split, array, unary, level, tern, prefix}
-use Rattle.walks.specs.Items.{BackArray, Ahead}
-use Rattle.walks.specs.Sides.{GatherSide, LevelSide, TernarySide, tokensIn, OpenArray, ArraySide, RightSide, DoneSide, UnreadSide, Agrees, AtTurn, Holds}
-use Rattle.walks.specs.Turns.{Begins, afresh, lent, CanStart, Started}
-use Rattle.walks.specs.declared.turns.Pass.{Pass}
-use Rattle.walks.specs.declared.turns.Pass.the-variants.{Calls, Maths, Plain, Split, Arrays, Unary, Binary, Ternary, Prefix}
-use Rattle.walks.specs.declared.turns.Walk.{Walk}
+use Rattle.levels.specs.Passes.{walkOf, movedTo, classesOf, Runs, call, mathCall, unsplitPass, split, array, unary, level, conditionalPass, returnPass}
+use Rattle.levels.specs.Items.{BackArray, Ahead}
+use Rattle.levels.specs.Sides.{GatherSide, LevelSide, ConditionalSide, tokensIn, OpenArray, ArraySide, RightSide, DoneSide, UnreadSide, Agrees, AtTurn, Holds}
+use Rattle.levels.specs.Turns.{Begins, afresh, lent, CanStart, Started}
+use Rattle.levels.specs.declared.turns.Pass.{Pass}
+use Rattle.levels.specs.declared.turns.Pass.the-variants.{Calls, MathCalls, Unsplit, Split, Arrays, Unary, Binary, Conditional, Returns}
+use Rattle.levels.specs.declared.turns.Walk.{Walk}
 use Rattle.grouping.specs.Driver.{CanOpen, Opened, CanBegin, Begun}
 use Rattle.grouping.proofs.SideLaws.{open-array-keep}
 
@@ -75,22 +75,22 @@ module _ (W' X : List ℕ) (owner base len lo n hi : ℕ) (cs : Forest) (v : InA
   unfolding begins callLevel nothing
   start-call = begun-at (calls queryOrLoop) Calls (gathered nil) call (GatherSide.all none-done) all-ahead tt (le-refl 0)
 
-  start-math : Holds (calls math) W' X lo hi (walkOf (listFrom owner base len) Maths) (begins (calls math) cs) cs
+  start-math : Holds (calls math) W' X lo hi (walkOf (listFrom owner base len) MathCalls) (begins (calls math) cs) cs
   unfolding begins callLevel nothing
-  start-math = begun-at (calls math) Maths (gathered nil) mathCall (GatherSide.all none-done) all-ahead tt (le-refl 0)
+  start-math = begun-at (calls math) MathCalls (gathered nil) mathCall (GatherSide.all none-done) all-ahead tt (le-refl 0)
 
-  start-return : Holds returns W' X lo hi (walkOf (listFrom owner base len) Prefix) (begins returns cs) cs
+  start-return : Holds returns W' X lo hi (walkOf (listFrom owner base len) Returns) (begins returns cs) cs
   unfolding begins returnLevel nothing
-  start-return = begun-at returns Prefix (gathered nil) prefix (GatherSide.all none-done) all-ahead tt (le-refl 0)
+  start-return = begun-at returns Returns (gathered nil) returnPass (GatherSide.all none-done) all-ahead tt (le-refl 0)
 
   start-level : (ops : List ℕ) (classes : TokenClasses) {q : ℕ} → Runs (binary ops) (Binary classes q)
       → Holds (binary ops) W' X lo hi (walkOf (listFrom owner base len) (Binary classes 0)) (begins (binary ops) cs) cs
   unfolding begins binaryLevel nothing clear
   start-level ops classes (level e) = begun-at (binary ops) (Binary classes 0) (gathered nil) (level e) (LevelSide.all refl none-done) all-ahead tt (refl, le-refl 0)
 
-  start-ternary : Holds ternary W' X lo hi (walkOf (listFrom owner base len) (Ternary 0)) (begins ternary cs) cs
+  start-conditional : Holds conditional W' X lo hi (walkOf (listFrom owner base len) (Conditional 0)) (begins conditional cs) cs
   unfolding begins conditionalLevel tokensIn
-  start-ternary = begun-at ternary (Ternary 0) nil tern (TernarySide.all refl none-done) all-ahead tt refl
+  start-conditional = begun-at conditional (Conditional 0) nil conditionalPass (ConditionalSide.all refl none-done) all-ahead tt refl
 
   start-array : Holds arrays W' X lo hi (walkOf (listFrom owner base len) (Arrays 0 0)) (begins arrays cs) cs
   unfolding begins arrayLevel
@@ -147,22 +147,22 @@ module _ (W W' : List ℕ) (owner base len : ℕ) where
   unfolding inReading
   opens-call κ X lo n hi cs u call (afresh e low) v below within small same = start-call W' (owner ∷ X) owner base len lo n hi cs v low below within
 
-  pub opens-math : Opens W W' owner base len Maths (walkOf (listFrom owner base len) Maths)
+  pub opens-math : Opens W W' owner base len MathCalls (walkOf (listFrom owner base len) MathCalls)
   unfolding inReading
   opens-math κ X lo n hi cs u mathCall (afresh e low) v below within small same = start-math W' (owner ∷ X) owner base len lo n hi cs v low below within
 
-  pub opens-return : Opens W W' owner base len Prefix (walkOf (listFrom owner base len) Prefix)
+  pub opens-return : Opens W W' owner base len Returns (walkOf (listFrom owner base len) Returns)
   unfolding inReading
-  opens-return κ X lo n hi cs u prefix (afresh e low) v below within small same = start-return W' (owner ∷ X) owner base len lo n hi cs v low below within
+  opens-return κ X lo n hi cs u returnPass (afresh e low) v below within small same = start-return W' (owner ∷ X) owner base len lo n hi cs v low below within
 
   pub opens-level : (classes : TokenClasses) (q : ℕ) → Opens W W' owner base len (Binary classes q) (walkOf (listFrom owner base len) (Binary classes 0))
   unfolding inReading
   opens-level classes q κ X lo n hi cs u (level {ops = ops} h) (afresh e low) v below within small same =
       start-level W' (owner ∷ X) owner base len lo n hi cs v low below within ops classes {q = q} (level h)
 
-  pub opens-ternary : (tokens : ℕ) → Opens W W' owner base len (Ternary tokens) (walkOf (listFrom owner base len) (Ternary 0))
+  pub opens-conditional : (tokens : ℕ) → Opens W W' owner base len (Conditional tokens) (walkOf (listFrom owner base len) (Conditional 0))
   unfolding inReading
-  opens-ternary tokens κ X lo n hi cs u tern (afresh e low) v below within small same = start-ternary W' (owner ∷ X) owner base len lo n hi cs v low below within
+  opens-conditional tokens κ X lo n hi cs u conditionalPass (afresh e low) v below within small same = start-conditional W' (owner ∷ X) owner base len lo n hi cs v low below within
 
   pub opens-array : (a b : ℕ) → Opens W W' owner base len (Arrays a b) (walkOf (listFrom owner base len) (Arrays b 0))
   unfolding inReading
@@ -183,9 +183,9 @@ module _ (W W' : List ℕ) (owner base len : ℕ) where
   pub opens-moved : (v : Items) → v ≡ movedTo (listFrom owner base len) len len → Opens W W' owner base len Unary (walkOf v Unary)
   opens-moved v e = subst (λ (x : Items). Opens W W' owner base len Unary (walkOf x Unary)) (sym e) opens-unary
 
-  pub opens-plain : (w : Walk) → Started W' (listFrom owner base len) w → Opens W W' owner base len Plain w
+  pub opens-plain : (w : Walk) → Started W' (listFrom owner base len) w → Opens W W' owner base len Unsplit w
   unfolding inReading can-start
-  opens-plain w st κ X lo n hi cs u plain (afresh e low) v below within small same =
+  opens-plain w st κ X lo n hi cs u unsplitPass (afresh e low) v below within small same =
       st .holds (can-start W' (owner ∷ X) owner base len lo n hi cs v low below within small)
 
   pub opens-split : (done : ℕ) (w : Walk) → Started W' (listFrom owner base len) w → Opens W W' owner base len (Split done) w
@@ -235,7 +235,7 @@ pub started-classes : {W : List ℕ} {v : Items} {w : Walk} → Started W v w �
 started-classes {W} {v} {w} st g = go (w .pass) (st .holds g .sides .runs)
   where
     go : (p : Pass) → Runs statements p → classesOf p ≡ 2
-    go p plain = refl
+    go p unsplitPass = refl
     go p split = refl
 
 -- ---- `begin`, by which arm it came

@@ -14,14 +14,14 @@ use Rattle.nodes.specs.Store.{wd, TokenAt, Seg, Out, RepT, Owned, Free}
 use Rattle.nodes.specs.Children.{Taken}
 use Rattle.nodes.specs.Frames.{FrameAt}
 use Rattle.nodes.specs.declared.frames.List.{List as Items}
-use Rattle.walks.specs.Passes.{classesOf, heldOf, Runs, waits}
-use Rattle.walks.specs.Sides.{Holds, Waits}
-use Rattle.walks.specs.Failures.{Tells}
-use Rattle.walks.specs.Turns.{turnsLeft, lentOf, Begins}
-use Rattle.walks.specs.declared.failure.Failure.{Failure}
-use Rattle.walks.specs.declared.turns.Pass.{Pass}
-use Rattle.walks.specs.declared.turns.Pass.the-variants.{Calls, Maths, Plain, Split, Arrays, Unary, Binary, Ternary, Prefix}
-use Rattle.walks.specs.declared.turns.Walk.{Walk}
+use Rattle.levels.specs.Passes.{classesOf, heldOf, Runs, waits}
+use Rattle.levels.specs.Sides.{Holds, Waits}
+use Rattle.levels.specs.Failures.{Tells}
+use Rattle.levels.specs.Turns.{turnsLeft, lentOf, Begins}
+use Rattle.levels.specs.declared.failure.Failure.{Failure}
+use Rattle.levels.specs.declared.turns.Pass.{Pass}
+use Rattle.levels.specs.declared.turns.Pass.the-variants.{Calls, MathCalls, Unsplit, Split, Arrays, Unary, Binary, Conditional, Returns}
+use Rattle.levels.specs.declared.turns.Walk.{Walk}
 use Rattle.grouping.specs.declared.driver.Next.{Next}
 use Rattle.grouping.specs.declared.driver.Next.the-variants.{On, Done, Fail}
 use Rattle.grouping.specs.declared.driver.Ran.{Ran}
@@ -132,14 +132,14 @@ pub record Begun (W : List ℕ) (owner base len : ℕ) (p : Pass) (w : Walk) : T
 -- The passes that take an item back as it is.
 abbrev pub Keeping : Pass → Type 0
 Keeping Calls = Unit {0}
-Keeping Maths = Unit {0}
-Keeping Plain = Unit {0}
+Keeping MathCalls = Unit {0}
+Keeping Unsplit = Unit {0}
 Keeping (Split done) = Unit {0}
 Keeping (Arrays array lent) = ⊥
 Keeping Unary = ⊥
 Keeping (Binary classes pending) = ⊥
-Keeping (Ternary tokens) = Unit {0}
-Keeping Prefix = Unit {0}
+Keeping (Conditional tokens) = Unit {0}
+Keeping Returns = Unit {0}
 
 -- ---- `descend`
 

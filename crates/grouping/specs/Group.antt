@@ -16,14 +16,14 @@ use Rattle.molang.proofs.Weight.{weight}
 use Rattle.molang.proofs.Bounds.{nodeWeight}
 use Rattle.ops.specs.declared.sets.OpSet.{OpSet}
 use Rattle.nodes.specs.Store.{InArray}
-use Rattle.walks.specs.Grouped.{Says, StandsFor}
-use Rattle.walks.specs.declared.failure.Failure.{Failure}
-use Rattle.walks.specs.declared.grouped.Grouped.{Grouped}
-use Rattle.walks.specs.declared.grouped.Grouped.the-variants.{Failed as GroupFailed, Mismatched as GroupMismatched, Unclosed as GroupUnclosed}
+use Rattle.levels.specs.Grouped.{Says, StandsFor}
+use Rattle.levels.specs.declared.failure.Failure.{Failure}
+use Rattle.levels.specs.declared.grouped.Grouped.{Grouped}
+use Rattle.levels.specs.declared.grouped.Grouped.the-variants.{Failed as GroupFailed, Mismatched as GroupMismatched, Unclosed as GroupUnclosed}
 use Rattle.order.specs.Places.{usedBy, rulesOf}
-use Rattle.flat.specs.Flat.{CanJoin, CanSection, Answers}
-use Rattle.flat.specs.declared.sections.Flat.{Flat}
-use Rattle.flat.specs.declared.sections.Flat.the-variants.{Done, Fail, Mismatched, Unclosed as Unclosing}
+use Rattle.sections.specs.Flat.{CanJoin, CanSection, Answers}
+use Rattle.sections.specs.declared.Flat.{Flat}
+use Rattle.sections.specs.declared.Flat.the-variants.{Done, Fail, Mismatched, Unclosed as Unclosing}
 use Rattle.grouping.specs.Driver.{Outermost}
 
 -- ---- `group`

@@ -1,6 +1,12 @@
 // The driver that every level runs on: one loop over lists and frames on the stack of the work buffer. A node with no leaf of
 // the pass below it is not entered. From one pass to the next the outermost list stays where it stands, at the bottom of the stack.
 // Leans on the levels (step, resume, finish of each), on slots, chains and frames.
+use levels::failure::Failure;
+use levels::items;
+use levels::turns::Finished;
+use levels::turns::Pass;
+use levels::turns::Turn;
+use levels::turns::Walk;
 use nodes::children;
 use nodes::frames;
 use nodes::frames::List;
@@ -10,17 +16,11 @@ use passes::arrays;
 use passes::binary;
 use passes::calls;
 use passes::conditional;
-use passes::prefix;
+use passes::returns;
 use passes::statements;
 use passes::unary;
-use walks::failure::Failure;
-use walks::items;
-use walks::turns::Finished;
-use walks::turns::Pass;
-use walks::turns::Turn;
-use walks::turns::Walk;
-ghost use Rattle.walks.specs.Passes.{walkOf};
-ghost use Rattle.walks.specs.Turns.{CanTurn, Turned, CanResume, Resumed, CanFinish, Ends};
+ghost use Rattle.levels.specs.Passes.{walkOf};
+ghost use Rattle.levels.specs.Turns.{CanTurn, Turned, CanResume, Resumed, CanFinish, Ends};
 ghost use Rattle.grouping.specs.Driver.{CanBegin, Begun, CanOpen, Opened, Keeping, CanDescend, Descended, CanMove, Moved, CanClose, Closed, CanAdvance, Advanced, CanRun, HasRun};
 
 // What one turn of the driver leads to; at the end of the pass, how many items the outermost list has.
@@ -50,8 +50,8 @@ fn begin(work: &[u32], owner: u32, base: usize, len: usize, pass: Pass) -> Walk
     };
     match pass {
         Pass::Calls => Walk { list, pass },
-        Pass::Maths => Walk { list, pass },
-        Pass::Plain => statements::start(work, list),
+        Pass::MathCalls => Walk { list, pass },
+        Pass::Unsplit => statements::start(work, list),
         Pass::Split { .. } => statements::start(work, list),
         Pass::Arrays { lent, .. } => Walk {
             list,
@@ -71,11 +71,11 @@ fn begin(work: &[u32], owner: u32, base: usize, len: usize, pass: Pass) -> Walk
                 pending: 0,
             },
         },
-        Pass::Ternary { .. } => Walk {
+        Pass::Conditional { .. } => Walk {
             list,
-            pass: Pass::Ternary { tokens: 0 },
+            pass: Pass::Conditional { tokens: 0 },
         },
-        Pass::Prefix => Walk { list, pass },
+        Pass::Returns => Walk { list, pass },
     }
 }
 
@@ -98,14 +98,14 @@ fn step(work: &mut [u32], walk: Walk) -> Turn
     let pass = walk.pass;
     match pass {
         Pass::Calls => calls::step(work, list),
-        Pass::Maths => calls::step_math(work, list),
-        Pass::Plain => statements::step(work, list),
+        Pass::MathCalls => calls::step_math(work, list),
+        Pass::Unsplit => statements::step(work, list),
         Pass::Split { done } => statements::step_split(work, list, done),
         Pass::Arrays { array, .. } => arrays::step_array(work, list, array),
         Pass::Unary => unary::step(work, list),
         Pass::Binary { classes, .. } => binary::step(work, list, classes),
-        Pass::Ternary { tokens } => conditional::step(work, list, tokens),
-        Pass::Prefix => prefix::step_prefix(work, list),
+        Pass::Conditional { tokens } => conditional::step(work, list, tokens),
+        Pass::Returns => returns::step(work, list),
     }
 }
 
@@ -129,8 +129,8 @@ fn resume(work: &mut [u32], walk: Walk, item: u32) -> Walk
     let pass = walk.pass;
     match pass {
         Pass::Calls => kept(work, list, Pass::Calls, item),
-        Pass::Maths => kept(work, list, Pass::Maths, item),
-        Pass::Plain => kept(work, list, Pass::Plain, item),
+        Pass::MathCalls => kept(work, list, Pass::MathCalls, item),
+        Pass::Unsplit => kept(work, list, Pass::Unsplit, item),
         Pass::Split { done } => kept(work, list, Pass::Split { done }, item),
         Pass::Arrays { array, .. } => arrays::resume_array(work, list, item, array),
         Pass::Unary => Walk {
@@ -138,8 +138,8 @@ fn resume(work: &mut [u32], walk: Walk, item: u32) -> Walk
             pass: Pass::Unary,
         },
         Pass::Binary { classes, pending } => binary::resume(work, list, item, classes, pending),
-        Pass::Ternary { tokens } => kept(work, list, Pass::Ternary { tokens }, item),
-        Pass::Prefix => kept(work, list, Pass::Prefix, item),
+        Pass::Conditional { tokens } => kept(work, list, Pass::Conditional { tokens }, item),
+        Pass::Returns => kept(work, list, Pass::Returns, item),
     }
 }
 
@@ -152,14 +152,14 @@ fn finish(work: &mut [u32], walk: Walk) -> Finished
     let pass = walk.pass;
     match pass {
         Pass::Calls => Finished::At(list.base, list.write),
-        Pass::Maths => Finished::At(list.base, list.write),
-        Pass::Plain => Finished::At(list.base, list.write),
+        Pass::MathCalls => Finished::At(list.base, list.write),
+        Pass::Unsplit => Finished::At(list.base, list.write),
         Pass::Split { done } => statements::finish(work, list, done),
         Pass::Arrays { .. } => Finished::At(list.base, list.write),
         Pass::Unary => Finished::At(list.base + list.write, list.len - list.write),
         Pass::Binary { .. } => Finished::At(list.base, list.write),
-        Pass::Ternary { tokens } => conditional::finish(work, list, tokens),
-        Pass::Prefix => Finished::At(list.base, list.write),
+        Pass::Conditional { tokens } => conditional::finish(work, list, tokens),
+        Pass::Returns => Finished::At(list.base, list.write),
     }
 }
 

@@ -2,9 +2,8 @@
 // one after another over the list of slot 0. Leans on sections, the driver, order (which pass stands at a place) and nodes (chains).
 use crate::driver::Ran;
 use crate::driver::run;
-use flat::sections::Flat;
-use flat::sections::members;
-use flat::sections::sections;
+use levels::failure::Failure;
+use levels::grouped::Grouped;
 use nodes::children;
 use nodes::slots;
 use nodes::slots::ROOT;
@@ -16,10 +15,11 @@ use order::POINTER;
 use order::pass_at;
 use order::uses_either;
 use order::uses_some;
-use walks::failure::Failure;
-use walks::grouped::Grouped;
+use sections::Flat;
+use sections::members;
+use sections::sections;
 ghost use Rattle.grouping.specs.Choice.{CanChoose, Chosen};
-ghost use Rattle.flat.specs.Flat.{CanJoin, CanSection};
+ghost use Rattle.sections.specs.Flat.{CanJoin, CanSection};
 ghost use Rattle.grouping.specs.Group.{CanGroup, HasGrouped, EndsRight, JoinedIf, SectionedIf, Flattened, CanLevel, Levelled};
 
 // A complex list, one with `=` or `;`, ends with a semicolon.

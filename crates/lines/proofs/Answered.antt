@@ -14,8 +14,8 @@ use Rattle.molang.specs.Parse.{Call, Told, inHalves, answered, treeAfter, messa
 use Rattle.molang.specs.WriteEntry.{WriteCall, WriteTold, writeAnswered, listAfter}
 use Rattle.molang.specs.Lines.{Marked, parsed, wrote, parse, write, anyMark, writeMark, zerosMark, repeatedMark, atMark, itemsOf, marksOf, tokensFrom, nodeWords, callFor, listCall, treeCall, versionOf, zerosCall, repeatedCall, askedOf, parsedBy, wroteBy, wantedOf, writeWantedOf, comparedCalls, compared, givens, wanteds}
 use Rattle.molang.proofs.UsedSet.{exact-halves}
-use Rattle.exact.specs.Exact.{named}
-use Rattle.exact.proofs.WordLaws.{named-few}
+use Rattle.derived.specs.Derived.{named}
+use Rattle.derived.proofs.WordLaws.{named-few}
 use Rattle.parse.specs.Answers.{call}
 use Rattle.lines.specs.Compared.{zeros, callOf, ReadAsSaid, WrittenAsSaid, AnsweredAsSaid, LineAsSaid, ifSame}
 use Rattle.lines.specs.Asked.{ownCall, CallAsSaid, WriteCallAsSaid, anyCalls, Operators, repeatedWords, JustRoom}

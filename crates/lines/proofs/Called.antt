@@ -14,8 +14,8 @@ use Rattle.molang.specs.Lines.{tokensFrom, callFor, listCall}
 use Rattle.molang.proofs.Words.{LegalTokens, noTokens, token, tokens-back}
 use Rattle.molang.proofs.UsedSet.{no-operators, one-operator}
 use Rattle.molang.proofs.ListWords.{list-unrefused, listWords-length}
-use Rattle.exact.specs.Exact.{names, named}
-use Rattle.exact.proofs.WordLaws.{legal-list}
+use Rattle.derived.specs.Derived.{names, named}
+use Rattle.derived.proofs.WordLaws.{legal-list}
 use Rattle.lines.specs.Items.{bareToken}
 use Rattle.lines.specs.Asked.{ownCall, Operators, repeatedWords}
 

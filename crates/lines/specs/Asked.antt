@@ -10,7 +10,7 @@ use Rattle.molang.specs.Words.{operatorSlot, listWords}
 use Rattle.molang.specs.Parse.{Call}
 use Rattle.molang.specs.WriteEntry.{WriteCall}
 use Rattle.molang.specs.Lines.{Asked, parse, marksOf, callFor, listCall, parsedBy, wroteBy, wantedOf, writeWantedOf}
-use Rattle.exact.specs.Exact.{named}
+use Rattle.derived.specs.Derived.{named}
 use Rattle.lines.specs.Items.{bareToken}
 use Rattle.lines.specs.Compared.{zeros}
 

@@ -17,18 +17,18 @@ use Rattle.molang.proofs.Inert.{Inert, through-free}
 use Rattle.molang.proofs.Walks.{failed, fine, Onward, goes, enters}
 use Rattle.molang.proofs.Weight.{Weighing, weight, Within, Ending, Light, weight-inner, weight-tree}
 
-unfoldable pub isTernary : ℕ → Bool
-isTernary n = eqb n Operator.conditional || eqb n Operator.conditionalElse
+unfoldable pub isConditional : ℕ → Bool
+isConditional n = eqb n Operator.conditional || eqb n Operator.conditionalElse
 
 -- A list without `?` and `:` is only turned round.
-module _ (a : Token) (aa d : Forest) (h : clear isTernary (node a aa d) ≡ true) where
-  no-ternary : (cs : Forest) → aa ≡ cs → (isToken Operator.conditional a cs ≡ false) × (isToken Operator.conditionalElse a cs ≡ false)
-  unfolding isToken isTernary
-  no-ternary nil e = or-neither (eqb (a .op) Operator.conditional) (eqb (a .op) Operator.conditionalElse) (clear-leaf isTernary a d (rw e at h) .0)
-  no-ternary (node c cs r) e = (refl, refl)
+module _ (a : Token) (aa d : Forest) (h : clear isConditional (node a aa d) ≡ true) where
+  no-conditional : (cs : Forest) → aa ≡ cs → (isToken Operator.conditional a cs ≡ false) × (isToken Operator.conditionalElse a cs ≡ false)
+  unfolding isToken isConditional
+  no-conditional nil e = or-neither (eqb (a .op) Operator.conditional) (eqb (a .op) Operator.conditionalElse) (clear-leaf isConditional a d (rw e at h) .0)
+  no-conditional (node c cs r) e = (refl, refl)
 
   no-token : (isToken Operator.conditional a aa ≡ false) × (isToken Operator.conditionalElse a aa ≡ false)
-  no-token = no-ternary aa refl
+  no-token = no-conditional aa refl
 
 -- One step of the scan, by what its three tests say.
 unfoldable pub scanned : Bool → Bool → Bool → Token → Forest → Token → Forest → Forest → Forest → Forest
@@ -49,38 +49,38 @@ pub scan-once : (a : Token) (aa : Forest) (b : Token) (bs left right : Forest)
 unfolding scan scanned
 scan-once a aa b bs left right = refl
 
-scan-clear : (d right : Forest) → clear isTernary d ≡ true → scan d right ≡ turnedOnto d right
+scan-clear : (d right : Forest) → clear isConditional d ≡ true → scan d right ≡ turnedOnto d right
 unfolding scan scanned turnedOnto
 scan-clear nil right h = refl
 scan-clear (node a aa nil) right h = refl
 scan-clear (node a aa (node b bs left)) right h =
     let e = no-token a aa (node b bs left) h in
-    rw (scan-once a aa b bs left right, e .0, e .1) (scan-clear (node b bs left) (node a aa right) (clear-rest isTernary a aa (node b bs left) h))
+    rw (scan-once a aa b bs left right, e .0, e .1) (scan-clear (node b bs left) (node a aa right) (clear-rest isConditional a aa (node b bs left) h))
 
-folded-clear : (d : Forest) → clear isTernary d ≡ true → foldedFrom d ≡ inOrder d
+folded-clear : (d : Forest) → clear isConditional d ≡ true → foldedFrom d ≡ inOrder d
 unfolding foldedFrom turnedOnto inOrder
 folded-clear nil h = refl
 folded-clear (node a aa nil) h = refl
 folded-clear (node a aa (node b bs nil)) h = refl
 folded-clear (node a aa (node b bs (node c cs left))) h =
-    scan-clear (node b bs (node c cs left)) (node a aa nil) (clear-rest isTernary a aa (node b bs (node c cs left)) h)
+    scan-clear (node b bs (node c cs left)) (node a aa nil) (clear-rest isConditional a aa (node b bs (node c cs left)) h)
 
-dangling-clear : (f : Forest) → clear isTernary f ≡ true → dangling f ≡ none
+dangling-clear : (f : Forest) → clear isConditional f ≡ true → dangling f ≡ none
 unfolding dangling
 dangling-clear nil h = refl
 dangling-clear (node k cs rest) h =
     let e = no-token k cs rest h in
-    rw (e .0, dangling) (rw (e .1) (dangling-clear rest (clear-rest isTernary k cs rest h)))
+    rw (e .0, dangling) (rw (e .1) (dangling-clear rest (clear-rest isConditional k cs rest h)))
 
 pub undangled-calm : (f : Forest) → dangling f ≡ none → undangled f ≡ ok f
 unfolding undangled
 undangled-calm f h = rw (h, undangled) refl
 
-end-clear : (d : Forest) → clear isTernary d ≡ true → conditionalFinish d ≡ ok (inOrder d)
+end-clear : (d : Forest) → clear isConditional d ≡ true → conditionalFinish d ≡ ok (inOrder d)
 unfolding conditionalFinish inOrder clear
-end-clear d h = rw (folded-clear d h) (undangled-calm (inOrder d) (dangling-clear (inOrder d) (clear-turned isTernary d nil h refl)))
+end-clear d h = rw (folded-clear d h) (undangled-calm (inOrder d) (dangling-clear (inOrder d) (clear-turned isConditional d nil h refl)))
 
-pub conditional-inert : Inert conditionalLevel isTernary (λ d. d)
+pub conditional-inert : Inert conditionalLevel isConditional (λ d. d)
 unfolding conditionalLevel conditionalStep
 conditional-inert =
     record {
@@ -91,8 +91,8 @@ conditional-inert =
       ends = end-clear;
     }
 
-pub conditional-free : (f : Forest) → free isTernary f ≡ true → through conditionalLevel f ≡ ok f
-conditional-free f h = through-free conditionalLevel isTernary conditional-inert f h
+pub conditional-free : (f : Forest) → free isConditional f ≡ true → through conditionalLevel f ≡ ok f
+conditional-free f h = through-free conditionalLevel isConditional conditional-inert f h
 
 module _ (W : Weighing) where
   -- The conditional: its fold only puts trees under leaves.

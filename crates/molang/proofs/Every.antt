@@ -18,7 +18,7 @@ use Rattle.molang.specs.Statements.{Split, unsplit, after, inside, split
 use Rattle.molang.specs.Unary.{Unary, done, undone, minusAfter, notBefore, unaryLeaf, turned, unaryNode, unary, unaryPass, returnStep, returnResume, returnFinish, returnLevel}
 use Rattle.molang.specs.Binary.{unfolded, joined, operatorAfter, binaryStep, binaryResume, binaryFinish, binaryLevel}
 use Rattle.molang.specs.Conditional.{isToken, under, pairElse, scan, foldedFrom, dangling, undangled, conditionalStep, conditionalFinish, conditionalLevel}
-use Rattle.molang.specs.Order.{rules, Pass, lastToken, memberAccessors, sectioning, callPass, statements, arrays, pointer, mathCalls, unaryMinusAndNot, addition, ternary, returns, binary, order, runs, lastOf, endsWithSemicolon, apply}
+use Rattle.molang.specs.Order.{rules, Pass, lastToken, memberAccessors, sectioning, callPass, statements, arrays, pointer, mathCalls, unaryMinusAndNot, addition, conditional, returns, binary, order, runs, lastOf, endsWithSemicolon, apply}
 use Rattle.molang.specs.Read.{Answer, tree, messages, rooted, endsReading, grouped, read}
 use Rattle.molang.proofs.Trees.{either, maybe}
 use Rattle.molang.proofs.Walks.{back, onward, walk-onward}
@@ -499,7 +499,7 @@ module _ (Q : Token → Type 0) where
     apply-gives l mathCalls f h = through-carries Q (callLevel math) (call-carries math) f h
     apply-gives l unaryMinusAndNot f h = unaryPass-gives f h
     apply-gives l addition f h = through-carries Q (binaryLevel (Operator.add ∷ [])) (binary-carries (Operator.add ∷ [])) f h
-    apply-gives l ternary f h = through-carries Q conditionalLevel conditional-carries f h
+    apply-gives l conditional f h = through-carries Q conditionalLevel conditional-carries f h
     apply-gives l returns f h = through-carries Q returnLevel return-carries f h
     apply-gives l (binary ops) f h = through-carries Q (binaryLevel ops) (binary-carries ops) f h
 

@@ -14,7 +14,7 @@ use Rattle.molang.specs.Statements.{splitOf, statementFinish, statementL
 use Rattle.molang.specs.Unary.{unary, unaryPass, returnFinish, returnLevel}
 use Rattle.molang.specs.Binary.{binaryFinish, binaryLevel}
 use Rattle.molang.specs.Conditional.{foldedFrom, dangling, undangled, conditionalFinish, conditionalLevel}
-use Rattle.molang.specs.Order.{Pass, lastToken, memberAccessors, sectioning, callPass, statements, arrays, pointer, mathCalls, unaryMinusAndNot, addition, ternary, returns, binary, runs, apply}
+use Rattle.molang.specs.Order.{Pass, lastToken, memberAccessors, sectioning, callPass, statements, arrays, pointer, mathCalls, unaryMinusAndNot, addition, conditional, returns, binary, runs, apply}
 use Rattle.molang.specs.Read.{messages, rooted, endsReading, grouped}
 use Rattle.molang.proofs.Trees.{free, isNil, decided, both, and-true-true, free-leaf, free-tree}
 use Rattle.molang.proofs.Booleans.{false-true}
@@ -40,7 +40,7 @@ isNested pointer = true
 isNested mathCalls = true
 isNested unaryMinusAndNot = true
 isNested addition = true
-isNested ternary = true
+isNested conditional = true
 isNested returns = true
 isNested (binary ops) = true
 
@@ -58,7 +58,7 @@ module _ (W : Weighing) (pays : 3 * W .inner ≤ W .leaf Operator.semicolon) (tu
   apply-light l mathCalls f e = through-light W (callLevel math) (call-light W math) f
   apply-light l unaryMinusAndNot f e = unaryPass-light W turns f
   apply-light l addition f e = through-light W (binaryLevel (Operator.add ∷ [])) (binary-light W (Operator.add ∷ [])) f
-  apply-light l ternary f e = through-light W conditionalLevel (conditional-light W) f
+  apply-light l conditional f e = through-light W conditionalLevel (conditional-light W) f
   apply-light l returns f e = through-light W returnLevel (return-light W) f
   apply-light l (binary ops) f e = through-light W (binaryLevel ops) (binary-light W ops) f
 
@@ -122,7 +122,7 @@ apply-nil l pointer e = refl
 apply-nil l mathCalls e = refl
 apply-nil l unaryMinusAndNot e = refl
 apply-nil l addition e = refl
-apply-nil l ternary e = refl
+apply-nil l conditional e = refl
 apply-nil l returns e = refl
 apply-nil l (binary ops) e = refl
 

@@ -18,7 +18,7 @@ use Rattle.molang.specs.Conditional.{conditionalLevel}
 -- The passes that go through nested lists.
 pub data Kind : Type 0 where
   calls : CallKind → Kind
-  statements arrays unaries ternary returns : Kind
+  statements arrays unaries conditional returns : Kind
   binary : List ℕ → Kind
 
 -- What the unary pass holds of a list: whether the last unread item turns into `+`, and the trees that are done, in order.
@@ -31,7 +31,7 @@ State (calls c) = Gathered
 State statements = Split
 State arrays = Indexing
 State unaries = Right
-State ternary = Forest
+State conditional = Forest
 State returns = Gathered
 State (binary ops) = Gathered
 
@@ -56,7 +56,7 @@ work (calls c) s f = walk (callLevel c) s f
 work statements s f = walk statementLevel s f
 work arrays s f = walk arrayLevel s f
 work unaries s f = fromRight s f
-work ternary s f = walk conditionalLevel s f
+work conditional s f = walk conditionalLevel s f
 work returns s f = walk returnLevel s f
 work (binary ops) s f = walk (binaryLevel ops) s f
 
@@ -66,7 +66,7 @@ begins (calls c) f = callLevel c .start f
 begins statements f = statementLevel .start f
 begins arrays f = arrayLevel .start f
 begins unaries f = right false nil
-begins ternary f = conditionalLevel .start f
+begins conditional f = conditionalLevel .start f
 begins returns f = returnLevel .start f
 begins (binary ops) f = binaryLevel ops .start f
 
@@ -76,7 +76,7 @@ inReading (calls c) f = f
 inReading statements f = f
 inReading arrays f = f
 inReading unaries f = inOrder f
-inReading ternary f = f
+inReading conditional f = f
 inReading returns f = f
 inReading (binary ops) f = f
 
@@ -86,7 +86,7 @@ takes (calls c) s k kids = callLevel c .resume s k kids
 takes statements s k kids = statementLevel .resume s k kids
 takes arrays s k kids = arrayLevel .resume s k kids
 takes unaries (right pair r) k kids = right false (node (turned pair k) kids r)
-takes ternary s k kids = conditionalLevel .resume s k kids
+takes conditional s k kids = conditionalLevel .resume s k kids
 takes returns s k kids = returnLevel .resume s k kids
 takes (binary ops) s k kids = binaryLevel ops .resume s k kids
 
@@ -96,7 +96,7 @@ pass (calls c) f = through (callLevel c) f
 pass statements f = through statementLevel f
 pass arrays f = through arrayLevel f
 pass unaries f = unaryPass f
-pass ternary f = through conditionalLevel f
+pass conditional f = through conditionalLevel f
 pass returns f = through returnLevel f
 pass (binary ops) f = through (binaryLevel ops) f
 
@@ -169,6 +169,6 @@ pass-begins (calls c) f = refl
 pass-begins statements f = refl
 pass-begins arrays f = refl
 pass-begins unaries f = unary-begins f
-pass-begins ternary f = refl
+pass-begins conditional f = refl
 pass-begins returns f = refl
 pass-begins (binary ops) f = refl

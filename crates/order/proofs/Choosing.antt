@@ -11,8 +11,8 @@ use lib.Seq.{getD-append-add}
 use Rattle.molang.specs.Operator.{any, isOneOf}
 use Rattle.molang.specs.Order.{Rules, Pass, binary, comparisons, logic, conditionals, runs}
 use Rattle.ops.specs.declared.classes.TokenClasses.{TokenClasses}
-use Rattle.walks.specs.Passes.{Exact}
-use Rattle.walks.specs.declared.turns.Pass.{Pass as State}
+use Rattle.levels.specs.Passes.{Exact}
+use Rattle.levels.specs.declared.turns.Pass.{Pass as State}
 use Rattle.order.specs.declared.Choice.{Choice}
 use Rattle.order.specs.declared.Choice.the-variants.{Skip}
 use Rattle.order.specs.Places.{choiceIf, levelOf, andOr, padded, calling, arithmetic, comparing, deciding, branching, last, places, placeIn, Starts, level, Chosen, empty, unused, used}

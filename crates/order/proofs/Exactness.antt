@@ -5,7 +5,7 @@ use lib.ListN.{getD}
 use Rattle.molang.specs.Operator
 use Rattle.molang.specs.Operator.{isOneOf}
 use Rattle.ops.proofs.Constants.{Constant, constants, Stand, constants-stand}
-use Rattle.walks.specs.Passes.{Exact}
+use Rattle.levels.specs.Passes.{Exact}
 
 abbrev nothing : Constant
 nothing = record { word = 0; operators = isOneOf [] }

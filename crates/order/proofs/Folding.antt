@@ -11,8 +11,8 @@ use Rattle.molang.specs.Order.{Rules, Pass, order, apply}
 use Rattle.molang.specs.Read.{Answer, messages, endsReading, grouped, rooted}
 use Rattle.molang.proofs.Passes.{grouped-nil}
 use Rattle.molang.proofs.Work.{Kind, pass}
-use Rattle.walks.specs.Passes.{Runs}
-use Rattle.walks.specs.declared.turns.Pass.{Pass as State}
+use Rattle.levels.specs.Passes.{Runs}
+use Rattle.levels.specs.declared.turns.Pass.{Pass as State}
 use Rattle.order.specs.declared.Choice.the-variants.{Run, Skip}
 use Rattle.order.specs.Places.{places, placeIn, Chosen, passesFrom}
 use Rattle.order.proofs.Running.{passes-all, passes-step, passes-end, skipped, RunsFrom, chosen, OfKind, of-kind, pointer-place, atPlace, ends-elsewhere, passes-nested, failed, next, run-first, grouped-running}

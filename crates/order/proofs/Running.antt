@@ -13,18 +13,18 @@ use Rattle.molang.specs.Operator
 use Rattle.molang.specs.Forest.{Forest, nil}
 use Rattle.molang.specs.Message.{Message, Result, ok, fail}
 use Rattle.molang.specs.Calls.{queryOrLoop, math}
-use Rattle.molang.specs.Order.{Rules, Pass, callPass, statements, arrays, pointer, mathCalls, unaryMinusAndNot, addition, ternary, returns, binary, comparisons, logic, conditionals, order, runs, apply}
+use Rattle.molang.specs.Order.{Rules, Pass, callPass, statements, arrays, pointer, mathCalls, unaryMinusAndNot, addition, conditional, returns, binary, comparisons, logic, conditionals, order, runs, apply}
 use Rattle.molang.specs.Read.{Answer, messages, endsReading, grouped}
 use Rattle.molang.proofs.Trees.{both as both-true}
 use Rattle.molang.proofs.Passes.{isNested, allNested}
 use Rattle.molang.proofs.Work.{Kind, pass}
 use Rattle.molang.proofs.Work as kinds
-use Rattle.walks.specs.Passes.{Runs}
-use Rattle.walks.specs.Passes as walks
-use Rattle.walks.specs.declared.turns.Pass.{Pass as State}
+use Rattle.levels.specs.Passes.{Runs}
+use Rattle.levels.specs.Passes as walks
+use Rattle.levels.specs.declared.turns.Pass.{Pass as State}
 use Rattle.order.proofs.Choosing.{comparing-size, deciding-size, branching-size}
 use Rattle.order.specs.declared.Choice.the-variants.{Run, Skip}
-use Rattle.order.specs.Places.{padded, comparing, deciding, branching, last, places, placeIn, Starts, call, plain, array, mathCall, unary, tern, prefix, point, plus, level, Chosen, empty, unused, used, running, runningIn, passesFrom, runningOf}
+use Rattle.order.specs.Places.{padded, comparing, deciding, branching, last, places, placeIn, Starts, call, unsplitPass, array, mathCall, unary, conditionalPass, returnPass, point, plus, level, Chosen, empty, unused, used, running, runningIn, passesFrom, runningOf}
 
 -- ---- The order
 
@@ -155,12 +155,12 @@ pub record OfKind (p : Pass) (state : State) : Type 0 where
 pub of-kind : {p : Pass} {state : State} → Starts p state → OfKind p state
 unfolding apply pass
 of-kind call = record { kind = kinds.calls queryOrLoop; runs-kind = walks.call; does = λ n f. refl }
-of-kind plain = record { kind = kinds.statements; runs-kind = walks.plain; does = λ n f. refl }
+of-kind unsplitPass = record { kind = kinds.statements; runs-kind = walks.unsplitPass; does = λ n f. refl }
 of-kind array = record { kind = kinds.arrays; runs-kind = walks.array; does = λ n f. refl }
 of-kind mathCall = record { kind = kinds.calls math; runs-kind = walks.mathCall; does = λ n f. refl }
 of-kind unary = record { kind = kinds.unaries; runs-kind = walks.unary; does = λ n f. refl }
-of-kind tern = record { kind = kinds.ternary; runs-kind = walks.tern; does = λ n f. refl }
-of-kind prefix = record { kind = kinds.returns; runs-kind = walks.prefix; does = λ n f. refl }
+of-kind conditionalPass = record { kind = kinds.conditional; runs-kind = walks.conditionalPass; does = λ n f. refl }
+of-kind returnPass = record { kind = kinds.returns; runs-kind = walks.returnPass; does = λ n f. refl }
 of-kind (point exact) = record { kind = kinds.binary (Operator.pointer ∷ []); runs-kind = walks.level exact; does = λ n f. refl }
 of-kind (plus exact) = record { kind = kinds.binary (Operator.add ∷ []); runs-kind = walks.level exact; does = λ n f. refl }
 of-kind (level {ops = ops} exact) = record { kind = kinds.binary ops; runs-kind = walks.level exact; does = λ n f. refl }

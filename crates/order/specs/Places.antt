@@ -9,13 +9,13 @@ use lib.IntN.{ℤ}
 use lib.ListN.{getD, drop}
 use Rattle.molang.specs.Operator
 use Rattle.molang.specs.Operator.{isOneOf}
-use Rattle.molang.specs.Order.{Rules, isFrom, Pass, callPass, statements, arrays, pointer, mathCalls, unaryMinusAndNot, addition, ternary, returns, binary, comparisons, logic, conditionals, runs}
+use Rattle.molang.specs.Order.{Rules, isFrom, Pass, callPass, statements, arrays, pointer, mathCalls, unaryMinusAndNot, addition, conditional, returns, binary, comparisons, logic, conditionals, runs}
 use Rattle.molang.specs.Parse.{inHalves}
 use Rattle.ops.specs.declared.classes.TokenClasses.{TokenClasses}
 use Rattle.ops.specs.declared.sets.OpSet.{OpSet}
-use Rattle.walks.specs.Passes.{Exact}
-use Rattle.walks.specs.declared.turns.Pass.{Pass as State}
-use Rattle.walks.specs.declared.turns.Pass.the-variants.{Calls, Maths, Plain, Arrays, Unary, Binary, Ternary, Prefix}
+use Rattle.levels.specs.Passes.{Exact}
+use Rattle.levels.specs.declared.turns.Pass.{Pass as State}
+use Rattle.levels.specs.declared.turns.Pass.the-variants.{Calls, MathCalls, Unsplit, Arrays, Unary, Binary, Conditional, Returns}
 use Rattle.order.specs.declared.Choice.{Choice}
 use Rattle.order.specs.declared.Choice.the-variants.{Run, Skip}
 
@@ -92,12 +92,12 @@ rulesOf version = record { comparisonsFirst = isFrom 6 version; andFirst = isFro
 -- The state is that of the pass at its beginning.
 pub data Starts : Pass → State → Type 0 where
   call : Starts callPass Calls
-  plain : Starts statements Plain
+  unsplitPass : Starts statements Unsplit
   array : Starts arrays (Arrays 0 0)
-  mathCall : Starts mathCalls Maths
+  mathCall : Starts mathCalls MathCalls
   unary : Starts unaryMinusAndNot Unary
-  tern : Starts ternary (Ternary 0)
-  prefix : Starts returns Prefix
+  conditionalPass : Starts conditional (Conditional 0)
+  returnPass : Starts returns Returns
   point : {classes : TokenClasses} → Exact (classes .0) (isOneOf (Operator.pointer ∷ [])) → Starts pointer (levelOf classes)
   plus : {classes : TokenClasses} → Exact (classes .0) (isOneOf (Operator.add ∷ [])) → Starts addition (levelOf classes)
   level : {ops : List ℕ} {classes : TokenClasses} → Exact (classes .0) (isOneOf ops) → Starts (binary ops) (levelOf classes)

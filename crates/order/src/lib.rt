@@ -1,12 +1,12 @@
 // Which pass is the k-th after the sections, under a used set and a version (mod.rs). Every version has the same places, some of
-// them empty, so that one loop over the places runs the passes in order. Leans on walks (the passes' states) and ops (sets,
+// them empty, so that one loop over the places runs the passes in order. Leans on levels (the passes' states) and ops (sets,
 // classes, versions); specs/Places lays the definition's order out in places.
+use levels::turns::Pass;
 use ops::classes::TokenClasses;
 use ops::is_from_5;
 use ops::is_from_6;
 use ops::op;
 use ops::sets::OpSet;
-use walks::turns::Pass;
 ghost use mathlib.Core.Path.{_≡_};
 ghost use mathlib.Core.Bool.{true, false};
 ghost use mathlib.Core.List.{[], _∷_};
@@ -101,7 +101,7 @@ fn calls(k: u32, used: OpSet) -> Choice
 {
     match k {
         0 => when(are_calls_used(used), Pass::Calls),
-        1 => when(used.contains(op::SEMICOLON), Pass::Plain),
+        1 => when(used.contains(op::SEMICOLON), Pass::Unsplit),
         2 => when(
             used.contains(op::ARRAY_VARIABLE),
             Pass::Arrays { array: 0, lent: 0 },
@@ -116,7 +116,7 @@ fn pointer_and_arithmetic(k: u32, used: OpSet) -> Choice
 {
     match k {
         0 => level_of(used, op::POINTER, TokenClasses::POINTER),
-        1 => when(used.has_math_call(), Pass::Maths),
+        1 => when(used.has_math_call(), Pass::MathCalls),
         2 => when(uses_either(used, op::NEGATE, op::LOGICAL_NOT), Pass::Unary),
         3 => level_of(used, op::DIV, TokenClasses::DIV),
         4 => level_of(used, op::MUL, TokenClasses::MUL),
@@ -218,7 +218,7 @@ fn conditionals_from_5(k: u32, used: OpSet) -> Choice
     match k {
         0 => when(
             uses_either(used, op::CONDITIONAL, op::CONDITIONAL_ELSE),
-            Pass::Ternary { tokens: 0 },
+            Pass::Conditional { tokens: 0 },
         ),
         _ => Choice::Skip,
     }
@@ -242,7 +242,7 @@ fn last_passes(k: u32, used: OpSet) -> Choice
         0 => level_of(used, op::NULL_COALESCING, TokenClasses::NULL_COALESCING),
         1 => level_of(used, op::COMMA, TokenClasses::COMMA),
         2 => level_of(used, op::ASSIGNMENT, TokenClasses::ASSIGNMENT),
-        3 => when(used.contains(op::RETURN), Pass::Prefix),
+        3 => when(used.contains(op::RETURN), Pass::Returns),
         _ => Choice::Skip,
     }
 }

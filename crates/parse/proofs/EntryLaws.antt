@@ -15,11 +15,11 @@ use Rattle.molang.specs.Words.{tokensOf}
 use Rattle.molang.specs.Parse.{Call, reading, told, answered, treeIn, treeAfter, messagesIn, messagesAfter, workIn, workAfter}
 use Rattle.ops.specs.declared.sets.OpSet.{OpSet}
 use Rattle.order.specs.Places.{usedBy, rulesOf}
-use Rattle.checks.specs.declared.Accepted.the-variants.{Tokens, Refused}
-use Rattle.checks.proofs.AcceptLaws.{checked, reads-call, refuses-call}
+use Rattle.accept.specs.declared.Accepted.the-variants.{Tokens, Refused}
+use Rattle.accept.proofs.AcceptLaws.{checked, reads-call, refuses-call}
 use Rattle.buffers.specs.Load.{CanLoad, Loaded}
 use Rattle.buffers.proofs.Loading.{loaded-array}
-use Rattle.walks.specs.declared.grouped.Grouped.{Grouped}
+use Rattle.levels.specs.declared.grouped.Grouped.{Grouped}
 use Rattle.parse.specs.declared.Answer.{Answer}
 use Rattle.parse.specs.declared.Answer.the-variants.{Refused as Turned}
 use Rattle.parse.specs.Answers.{toldOf}

@@ -12,10 +12,10 @@ use Rattle.words.specs.Records.{unnamed, withFirst, withLast}
 use Rattle.words.specs.declared.records.Record.{Record}
 use Rattle.nodes.specs.Store.{wd}
 use Rattle.nodes.specs.Slots.{opAt, startAt, endAt}
-use Rattle.walks.specs.declared.failure.Failure.{Failure}
-use Rattle.walks.specs.declared.failure.Failure.the-variants.{ComplexMustEndWithSemicolon, ComplexWithoutTokens, LeadingMemberAccessor, EmptyParameterList, MathAtEnd, MathWithoutParenthesis, LeadingSemicolon, EmptyArrayIndex, BinaryAtEnd, NegateWithoutOperand, NotWithoutOperand, UnknownOperation, UnaryWithoutOperand, TernaryWithoutOperands}
-use Rattle.walks.specs.declared.failure.Mismatch.{Mismatch}
-use Rattle.walks.specs.declared.failure.Unclosed.{Unclosed}
+use Rattle.levels.specs.declared.failure.Failure.{Failure}
+use Rattle.levels.specs.declared.failure.Failure.the-variants.{ComplexMustEndWithSemicolon, ComplexWithoutTokens, LeadingMemberAccessor, EmptyParameterList, MathAtEnd, MathWithoutParenthesis, LeadingSemicolon, EmptyArrayIndex, BinaryAtEnd, NegateWithoutOperand, NotWithoutOperand, UnknownOperation, UnaryWithoutOperand, TernaryWithoutOperands}
+use Rattle.levels.specs.declared.failure.Mismatch.{Mismatch}
+use Rattle.levels.specs.declared.failure.Unclosed.{Unclosed}
 
 -- The words of slot s lie within the buffer.
 abbrev pub Within : List ℕ → ℕ → Type 0

@@ -2,22 +2,22 @@
 // filling of the caller's buffers are functions of their own. Leans on checks, grouping, walks, buffers, nodes and ops.
 pub mod report;
 
+use accept::Accepted;
+use accept::Sizes;
+use accept::WORK_WORDS;
+use accept::accept;
 use buffers::emit::clear;
 use buffers::emit::lay_out;
 use buffers::load::load;
-use checks::Accepted;
-use checks::Sizes;
-use checks::WORK_WORDS;
-use checks::accept;
 use grouping::group::group;
+use levels::grouped::Grouped;
 use nodes::slots;
 use nodes::slots::ROOT;
 use ops::effective;
 use ops::sets::OpSet;
-use walks::grouped::Grouped;
 ghost use mathlib.Core.Path.{_≡_};
 ghost use Rattle.molang.specs.Parse.{answered, treeAfter, messagesAfter, workAfter};
-ghost use Rattle.walks.specs.declared.grouped.Grouped.the-variants.{Roots};
+ghost use Rattle.levels.specs.declared.grouped.Grouped.the-variants.{Roots};
 ghost use Rattle.parse.specs.Answers.{toldOf, call};
 ghost use Rattle.parse.specs.Fills.{CanFill, Filled, CanRead, HasRead};
 

@@ -1,13 +1,13 @@
 // Message records from what a pass failed on, and from the roots that are left. A name is given as its operator number.
-// Leans on walks (failures), buffers, nodes and words; specs/Records says which record a failure has.
+// Leans on levels (failures), buffers, nodes and words; specs/Records says which record a failure has.
 use buffers::emit::emit;
 use buffers::emit::tree_of;
+use levels::failure::Failure;
+use levels::failure::Mismatch;
+use levels::failure::Unclosed;
 use nodes::children;
 use nodes::slots;
 use ops::closer_of;
-use walks::failure::Failure;
-use walks::failure::Mismatch;
-use walks::failure::Unclosed;
 use words::extent::Extent;
 use words::extent::of_tree;
 use words::fields;
@@ -20,7 +20,7 @@ ghost use lib.ListN.{length};
 ghost use Rattle.words.specs.Records.{laidAt};
 ghost use Rattle.parse.specs.Records.{Within, spanRecord, nameRecord, hostAt, mathRecord, openRecord, mismatchRecord, unclosedRecord, Named, recordFor};
 ghost use Rattle.molang.specs.Message.{messageRecord, multipleRoots};
-ghost use Rattle.walks.specs.declared.grouped.Grouped.the-variants.{Failed, Mismatched, Unclosed as Unclosing, PointerFailed};
+ghost use Rattle.levels.specs.declared.grouped.Grouped.the-variants.{Failed, Mismatched, Unclosed as Unclosing, PointerFailed};
 ghost use Rattle.parse.specs.Reports.{CanReport, Reported, CanReportTwo, TwoReported, CanMeasure, Measured, CanReportRoots, RootsReported};
 
 // A message at the span from one slot's start to another's end.

@@ -23,22 +23,22 @@ use Rattle.nodes.specs.declared.frames.List.{List as Items}
 use Rattle.nodes.proofs.Runs.{set-other, set-long}
 use Rattle.nodes.proofs.Store.{tree-below, tree-out, tree-keep, tree-widen, back-le}
 use Rattle.nodes.proofs.Trees.{leaf-test}
-use Rattle.walks.specs.Passes as passes
-use Rattle.walks.specs.Passes.{walkOf, movedTo, operators, Runs, waits}
-use Rattle.walks.specs.Items.{BackArray, Ahead, CanPeek, nextIf}
-use Rattle.walks.specs.Sides.{OpenArray, ArraySide, ArrayAgrees, Holds, Waits}
-use Rattle.walks.specs.Turns.{Within, CanTurn, Turned, TurnTo, goes, enters, fails, afresh, lent, CanResume, Resumed}
-use Rattle.walks.specs.Failures.{Tells}
-use Rattle.walks.specs.declared.failure.Failure.the-variants.{EmptyArrayIndex}
-use Rattle.walks.specs.declared.turns.Pass.the-variants.{Arrays}
-use Rattle.walks.specs.declared.turns.Turn.{Turn}
-use Rattle.walks.specs.declared.turns.Turn.the-variants.{On, Enter, Fail}
-use Rattle.walks.proofs.Reading.{back-array-keep, ahead-keep, ahead-le, can-peek, NextTo, ended, differs, found, same-within}
-use Rattle.walks.proofs.PassClasses.{runs-exact}
+use Rattle.levels.specs.Passes as passes
+use Rattle.levels.specs.Passes.{walkOf, movedTo, operators, Runs, waits}
+use Rattle.levels.specs.Items.{BackArray, Ahead, CanPeek, nextIf}
+use Rattle.levels.specs.Sides.{OpenArray, ArraySide, ArrayAgrees, Holds, Waits}
+use Rattle.levels.specs.Turns.{Within, CanTurn, Turned, TurnTo, goes, enters, fails, afresh, lent, CanResume, Resumed}
+use Rattle.levels.specs.Failures.{Tells}
+use Rattle.levels.specs.declared.failure.Failure.the-variants.{EmptyArrayIndex}
+use Rattle.levels.specs.declared.turns.Pass.the-variants.{Arrays}
+use Rattle.levels.specs.declared.turns.Turn.{Turn}
+use Rattle.levels.specs.declared.turns.Turn.the-variants.{On, Enter, Fail}
+use Rattle.levels.proofs.Reading.{back-array-keep, ahead-keep, ahead-le, can-peek, NextTo, ended, differs, found, same-within}
+use Rattle.levels.proofs.PassClasses.{runs-exact}
 use Rattle.passes.specs.TokenTurns.{AtItem, AtToken, any}
 use Rattle.passes.specs.Arrays.{CanGather, Gathered, CanRound, Rounded, CanIndex, Indexed, empty, opens, NameTurned}
 use Rattle.passes.proofs.ArrayLaws.{array-on, array-stop, array-in, name-waits, indexed-empty, indexed-in, indexed-lends, lent-indexed, flush}
-use Rattle.passes.proofs.GrowingLaws.{name-open, can-gather, gathered-open, gathered-slot, gathered-word, gathered-kept, can-round, rounded-tree, rounded-slot, rounded-word, rounded-kept, can-lend, LentTo, none, some, lent-to}
+use Rattle.passes.proofs.ArrayGrowing.{name-open, can-gather, gathered-open, gathered-slot, gathered-word, gathered-kept, can-round, rounded-tree, rounded-slot, rounded-word, rounded-kept, can-lend, LentTo, none, some, lent-to}
 use Rattle.passes.proofs.GatherLaws.{walk-node, walk-passed, LeftLevel, item-bounds, item-holds, kept-within, within-then, Stands, stands, Standing}
 use Rattle.passes.proofs.CallLaws.{next-of}
 use Rattle.passes.proofs.TurnLaws.{turn-at, turned-by}

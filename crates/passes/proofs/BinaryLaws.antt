@@ -24,19 +24,19 @@ use Rattle.nodes.specs.declared.frames.List.{List as Items}
 use Rattle.nodes.proofs.Runs.{set-same, set-other, set-long}
 use Rattle.nodes.proofs.Store.{tree-below, tree-out, back-le}
 use Rattle.nodes.proofs.Trees.{tree-under, attach-two-trees, attach-two-kept}
-use Rattle.walks.specs.Passes.{walkOf, movedTo, Exact, Runs, level, waits}
-use Rattle.walks.specs.Items.{BackArray, Ahead, Passed, here, over, innerAt}
-use Rattle.walks.specs.Sides.{LevelSide, all, operator, Holds, Waits}
-use Rattle.walks.specs.Turns.{CanResume, Resumed, Within, afresh, TurnTo, goes, enters, fails}
-use Rattle.walks.specs.Failures
-use Rattle.walks.specs.Failures.{Tells}
-use Rattle.walks.specs.declared.failure.Failure.the-variants.{BinaryAtEnd}
-use Rattle.walks.specs.declared.turns.Pass.the-variants.{Binary}
-use Rattle.walks.specs.declared.turns.Turn.{Turn}
-use Rattle.walks.specs.declared.turns.Turn.the-variants.{On, Enter, Fail}
-use Rattle.walks.proofs.Reading.{back-array-keep, ahead-keep, ahead-le, ahead-end, array-put, AheadTo, item, ahead-item, inner-tree, tree-free, free-tree-below, same-within}
+use Rattle.levels.specs.Passes.{walkOf, movedTo, Exact, Runs, level, waits}
+use Rattle.levels.specs.Items.{BackArray, Ahead, Passed, here, over, innerAt}
+use Rattle.levels.specs.Sides.{LevelSide, all, operator, Holds, Waits}
+use Rattle.levels.specs.Turns.{CanResume, Resumed, Within, afresh, TurnTo, goes, enters, fails}
+use Rattle.levels.specs.Failures
+use Rattle.levels.specs.Failures.{Tells}
+use Rattle.levels.specs.declared.failure.Failure.the-variants.{BinaryAtEnd}
+use Rattle.levels.specs.declared.turns.Pass.the-variants.{Binary}
+use Rattle.levels.specs.declared.turns.Turn.{Turn}
+use Rattle.levels.specs.declared.turns.Turn.the-variants.{On, Enter, Fail}
+use Rattle.levels.proofs.Reading.{back-array-keep, ahead-keep, ahead-le, ahead-end, array-put, AheadTo, item, ahead-item, inner-tree, tree-free, free-tree-below, same-within}
 use Rattle.passes.specs.TokenTurns.{AtItem, AtToken, LevelTurned}
-use Rattle.passes.specs.BinaryTurns.{leftOf, CanFold, Folded, CanSearch, LeafFound, CanOperate, Operated, opens, folds}
+use Rattle.passes.specs.Binary.{leftOf, CanFold, Folded, CanSearch, LeafFound, CanOperate, Operated, opens, folds}
 use Rattle.passes.proofs.GatherLaws.{next-room, walk-node, walk-passed, LeftLevel, item-bounds, item-holds, kept-within, Stands, stands, Standing}
 
 -- ---- the level

@@ -24,21 +24,21 @@ use Rattle.nodes.specs.Children.{Attached}
 use Rattle.nodes.specs.Slots.{opAt, isLeafAt}
 use Rattle.nodes.specs.declared.frames.List.{List as Items}
 use Rattle.nodes.proofs.Trees.{leaf-test}
-use Rattle.walks.specs.Passes.{walkOf, movedTo, classesOf, operators, Runs, call, mathCall, waits}
-use Rattle.walks.specs.Items.{Ahead, CanPeek, nextIf}
-use Rattle.walks.specs.Sides.{GatherSide, all, Holds, AtTurn, InFrame}
-use Rattle.walks.specs.Turns.{Within, lentOf, afresh, TurnTo, goes, enters, fails}
-use Rattle.walks.specs.Failures
-use Rattle.walks.specs.Failures.{Tells}
-use Rattle.walks.specs.declared.failure.Failure.the-variants.{EmptyParameterList, MathAtEnd, MathWithoutParenthesis}
-use Rattle.walks.specs.declared.turns.Pass.{Pass}
-use Rattle.walks.specs.declared.turns.Pass.the-variants.{Calls, Maths}
-use Rattle.walks.specs.declared.turns.Turn.{Turn}
-use Rattle.walks.specs.declared.turns.Turn.the-variants.{On, Enter, Fail}
-use Rattle.walks.proofs.Reading.{can-peek, unfree-leaf, tree-free, tree-unfree, unfree-tree, free-tree-below, NextTo, ended, differs, found, next-to, same-within}
-use Rattle.walks.proofs.PassClasses.{runs-exact}
+use Rattle.levels.specs.Passes.{walkOf, movedTo, classesOf, operators, Runs, call, mathCall, waits}
+use Rattle.levels.specs.Items.{Ahead, CanPeek, nextIf}
+use Rattle.levels.specs.Sides.{GatherSide, all, Holds, AtTurn, InFrame}
+use Rattle.levels.specs.Turns.{Within, lentOf, afresh, TurnTo, goes, enters, fails}
+use Rattle.levels.specs.Failures
+use Rattle.levels.specs.Failures.{Tells}
+use Rattle.levels.specs.declared.failure.Failure.the-variants.{EmptyParameterList, MathAtEnd, MathWithoutParenthesis}
+use Rattle.levels.specs.declared.turns.Pass.{Pass}
+use Rattle.levels.specs.declared.turns.Pass.the-variants.{Calls, MathCalls}
+use Rattle.levels.specs.declared.turns.Turn.{Turn}
+use Rattle.levels.specs.declared.turns.Turn.the-variants.{On, Enter, Fail}
+use Rattle.levels.proofs.Reading.{can-peek, unfree-leaf, tree-free, tree-unfree, unfree-tree, free-tree-below, NextTo, ended, differs, found, next-to, same-within}
+use Rattle.levels.proofs.PassClasses.{runs-exact}
 use Rattle.passes.specs.TokenTurns.{AtItem, AtToken, any, CallTurned}
-use Rattle.passes.specs.CallTurns.{CanCall, Called, opens, stays}
+use Rattle.passes.specs.Calls.{CanCall, Called, opens, stays}
 use Rattle.passes.proofs.GatherLaws.{token-room, next-room, walk-node, walk-passed, LeftLevel, item-holds, item-waits, kept-within, Attaching, attached, item-attached, within-then, Stands, stands, Standing}
 
 -- ---- the level
@@ -70,8 +70,8 @@ call-level kind pass runs turning framed unlent =
 query-level : LeftLevel (calls queryOrLoop) Calls (isCall queryOrLoop) gathered any
 query-level = call-level queryOrLoop Calls call (λ v h. h) (λ v h. h) refl
 
-math-level : LeftLevel (calls math) Maths (isCall math) gathered any
-math-level = call-level math Maths mathCall (λ v h. h) (λ v h. h) refl
+math-level : LeftLevel (calls math) MathCalls (isCall math) gathered any
+math-level = call-level math MathCalls mathCall (λ v h. h) (λ v h. h) refl
 
 module _ {T : (κ : Kind) → (Forest → State κ) → (ℕ → Bool) → (Forest → Bool) → Type 0} (W : List ℕ) (v : Items) where
   open-side : (kind : CallKind) (pass : Pass) → LeftLevel (calls kind) pass (isCall kind) gathered any → T (calls kind) gathered (isCall kind) any
@@ -85,11 +85,11 @@ module _ {T : (κ : Kind) → (Forest → State κ) → (ℕ → Bool) → (Fore
       go : {κ : Kind} {X : List ℕ} {lo hi : ℕ} {s : State κ} {rest : Forest} → Runs κ Calls → Holds κ W X lo hi (walkOf v Calls) s rest → Stands T W v Calls κ X lo hi s rest
       go call h = open-side queryOrLoop Calls query-level t (h .sides .done) (h .sides .unread) (h .sides .mid) (h .turning) (h .sides .below) (h .sides .within) (g .small)
 
-  pub math-stands : T (calls math) gathered (isCall math) any → Standing T W v Maths
+  pub math-stands : T (calls math) gathered (isCall math) any → Standing T W v MathCalls
   math-stands t g = go (g .holds .sides .runs) (g .holds)
     where
-      go : {κ : Kind} {X : List ℕ} {lo hi : ℕ} {s : State κ} {rest : Forest} → Runs κ Maths → Holds κ W X lo hi (walkOf v Maths) s rest → Stands T W v Maths κ X lo hi s rest
-      go mathCall h = open-side math Maths math-level t (h .sides .done) (h .sides .unread) (h .sides .mid) (h .turning) (h .sides .below) (h .sides .within) (g .small)
+      go : {κ : Kind} {X : List ℕ} {lo hi : ℕ} {s : State κ} {rest : Forest} → Runs κ MathCalls → Holds κ W X lo hi (walkOf v MathCalls) s rest → Stands T W v MathCalls κ X lo hi s rest
+      go mathCall h = open-side math MathCalls math-level t (h .sides .done) (h .sides .unread) (h .sides .mid) (h .turning) (h .sides .below) (h .sides .within) (g .small)
 
 -- ---- a call's turn, in the definition
 
@@ -308,8 +308,8 @@ module _ {W : List ℕ} {v : Items} {b : ℕ} (c : ℕ) (e : c ≡ nextIf W v le
 -- ---- a math call's turn
 
 math-called : {W W' X : List ℕ} {v : Items} {b lo m hi : ℕ} {d : Forest} {k : Token} {rest : Forest} {r : Turn} (c : ℕ) → c ≢ 0 → wd W (v .base + v .read) ≡ c → v .read < v .len
-    → AtItem W X v b lo hi d k nil rest → isCall math (k .op) ≡ true → Called W v b c Maths r W' → NextTo W X v m hi leftParenthesis c rest
-    → TurnTo (calls math) W' X lo hi (walkOf v Maths) (gathered d) (node k nil rest) r
+    → AtItem W X v b lo hi d k nil rest → isCall math (k .op) ≡ true → Called W v b c MathCalls r W' → NextTo W X v m hi leftParenthesis c rest
+    → TurnTo (calls math) W' X lo hi (walkOf v MathCalls) (gathered d) (node k nil rest) r
 math-called c n e l i p w (ended x) = absurd (n refl)
 math-called c n e l i p w (differs x y) = absurd (n refl)
 math-called {d = d} {k = k} c n e l i p w (found {k = t} {cs = ts} {rest = rest} x o pos low tree ahead) =
@@ -317,28 +317,28 @@ math-called {d = d} {k = k} c n e l i p w (found {k = t} {cs = ts} {rest = rest}
 
 math-ends : {W X : List ℕ} {v : Items} {b lo m hi : ℕ} {d : Forest} {k : Token} {rest : Forest} (c : ℕ) → c ≡ 0 → v .read ≡ v .len
     → AtItem W X v b lo hi d k nil rest → isCall math (k .op) ≡ true → NextTo W X v m hi leftParenthesis c rest
-    → TurnTo (calls math) W X lo hi (walkOf v Maths) (gathered d) (node k nil rest) (Fail (MathAtEnd b))
+    → TurnTo (calls math) W X lo hi (walkOf v MathCalls) (gathered d) (node k nil rest) (Fail (MathAtEnd b))
 math-ends {d = d} {k = k} c z l i p (ended x) = fails (Tells.mathAtEnd (i .tree .token)) (math-last d k p)
 math-ends c z l i p (differs x y) = absurd (omega arith)
 math-ends c z l i p (found x o pos low tree ahead) = absurd (omega arith)
 
 math-fails : {W X : List ℕ} {v : Items} {b lo m hi : ℕ} {d : Forest} {k : Token} {rest : Forest} (c : ℕ) → c ≡ 0 → v .read ≢ v .len
     → AtItem W X v b lo hi d k nil rest → isCall math (k .op) ≡ true → NextTo W X v m hi leftParenthesis c rest
-    → TurnTo (calls math) W X lo hi (walkOf v Maths) (gathered d) (node k nil rest) (Fail (MathWithoutParenthesis b))
+    → TurnTo (calls math) W X lo hi (walkOf v MathCalls) (gathered d) (node k nil rest) (Fail (MathWithoutParenthesis b))
 math-fails c z l i p (ended x) = absurd (l x)
 math-fails {d = d} {k = k} c z l i p (differs {k = t} {cs = ts} {rest = rest} x y) = fails (Tells.mathWithoutParenthesis (i .tree .token)) (math-lacks d k t ts rest p (no-bracket t y))
 math-fails c z l i p (found x o pos low tree ahead) = absurd (omega arith)
 
 module _ {W : List ℕ} {v : Items} {b : ℕ} (c : ℕ) (e : c ≡ nextIf W v leftParenthesis) where
-  pub math-ended : c ≡ 0 → v .read ≡ v .len → CallTurned math Maths W v b (Fail (MathAtEnd b)) W
+  pub math-ended : c ≡ 0 → v .read ≡ v .len → CallTurned math MathCalls W v b (Fail (MathAtEnd b)) W
   math-ended z l =
       record { to = λ g p fine. math-ends c z l (g .item) p (next-of leftParenthesis c e (g .item .ahead)); within = λ g. same-within }
 
-  pub math-failed : c ≡ 0 → v .read ≢ v .len → CallTurned math Maths W v b (Fail (MathWithoutParenthesis b)) W
+  pub math-failed : c ≡ 0 → v .read ≢ v .len → CallTurned math MathCalls W v b (Fail (MathWithoutParenthesis b)) W
   math-failed z l =
       record { to = λ g p fine. math-fails c z l (g .item) p (next-of leftParenthesis c e (g .item .ahead)); within = λ g. same-within }
 
-  pub math-calls : {r : Turn} {W' : List ℕ} → c ≢ 0 → Called W v b c Maths r W' → CallTurned math Maths W v b r W'
+  pub math-calls : {r : Turn} {W' : List ℕ} → c ≢ 0 → Called W v b c MathCalls r W' → CallTurned math MathCalls W v b r W'
   math-calls n w =
       let z = next-word W v leftParenthesis c e n in
       record {

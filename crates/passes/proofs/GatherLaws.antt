@@ -20,17 +20,17 @@ use Rattle.nodes.specs.declared.frames.List.{List as Items}
 use Rattle.nodes.proofs.Runs.{set-same, set-other, set-long}
 use Rattle.nodes.proofs.Store.{tree-below, tree-out, back-le, back-raise}
 use Rattle.nodes.proofs.Trees.{tree-under, attach-tree, attach-kept}
-use Rattle.walks.specs.Passes.{walkOf, movedTo, classesOf, Exact, waits}
-use Rattle.walks.specs.Items.{BackArray, Ahead, CanSeek, Passed, here, over, Seen, SoughtTo, none, leaf, tree, Sought}
-use Rattle.walks.specs.Sides.{Sides, Holds, Waits, AtTurn, InFrame}
-use Rattle.walks.specs.Turns.{SameList, Within, CanTurn, lentOf, afresh, TurnTo, goes, enters, ends, fails, Turned}
-use Rattle.walks.specs.declared.items.Found.{Found}
-use Rattle.walks.specs.declared.items.Found.the-variants.{Nothing, Children, Token as Leaf}
-use Rattle.walks.specs.declared.turns.Pass.{Pass}
-use Rattle.walks.specs.declared.turns.Walk.{Walk}
-use Rattle.walks.specs.declared.turns.Turn.{Turn}
-use Rattle.walks.specs.declared.turns.Turn.the-variants.{Enter, Over}
-use Rattle.walks.proofs.Reading.{can-peek, back-array-keep, AheadTo, item, ahead-item, ahead-keep, ahead-le, array-put}
+use Rattle.levels.specs.Passes.{walkOf, movedTo, classesOf, Exact, waits}
+use Rattle.levels.specs.Items.{BackArray, Ahead, CanSeek, Passed, here, over, Seen, SoughtTo, none, leaf, tree, Sought}
+use Rattle.levels.specs.Sides.{Sides, Holds, Waits, AtTurn, InFrame}
+use Rattle.levels.specs.Turns.{SameList, Within, CanTurn, lentOf, afresh, TurnTo, goes, enters, ends, fails, Turned}
+use Rattle.levels.specs.declared.items.Found.{Found}
+use Rattle.levels.specs.declared.items.Found.the-variants.{Nothing, Children, Token as Leaf}
+use Rattle.levels.specs.declared.turns.Pass.{Pass}
+use Rattle.levels.specs.declared.turns.Walk.{Walk}
+use Rattle.levels.specs.declared.turns.Turn.{Turn}
+use Rattle.levels.specs.declared.turns.Turn.the-variants.{Enter, Over}
+use Rattle.levels.proofs.Reading.{can-peek, back-array-keep, AheadTo, item, ahead-item, ahead-keep, ahead-le, array-put}
 use Rattle.passes.specs.TokenTurns.{AtItem, AtToken, TokenTurned}
 
 -- ---- trees that are passed over

@@ -27,25 +27,25 @@ use Rattle.nodes.specs.declared.frames.List.{List as Items}
 use Rattle.nodes.proofs.Runs.{inc-le, seg-keep, set-same, set-other, set-long}
 use Rattle.nodes.proofs.Store.{tree-below, back-le, back-raise}
 use Rattle.nodes.proofs.Trees.{token-test}
-use Rattle.walks.specs.Passes.{walkOf, movedTo, classesOf, operators, Exact, Runs, plain, split, waits}
-use Rattle.walks.specs.Items.{BackArray, Ahead, CanSeek, Passed, here, over, SoughtTo, none as found-none, leaf, tree, Sought}
-use Rattle.walks.specs.Sides.{StatementSide, whole, closed, EndedAt, nothing, DoneSide, UnreadSide, Holds}
+use Rattle.levels.specs.Passes.{walkOf, movedTo, classesOf, operators, Exact, Runs, unsplitPass, split, waits}
+use Rattle.levels.specs.Items.{BackArray, Ahead, CanSeek, Passed, here, over, SoughtTo, none as found-none, leaf, tree, Sought}
+use Rattle.levels.specs.Sides.{StatementSide, whole, closed, EndedAt, nothing, DoneSide, UnreadSide, Holds}
 use Rattle.nodes.specs.Children.{CanGive}
-use Rattle.walks.specs.Turns.{SameList, Within, CanTurn, TurnTo, goes, enters, ends, Turned, afresh, CanStart, Started}
-use Rattle.walks.specs.declared.items.Found.{Found}
-use Rattle.walks.specs.declared.items.Found.the-variants.{Nothing, Children, Token as Leaf}
-use Rattle.walks.specs.declared.turns.Pass.{Pass}
-use Rattle.walks.specs.declared.turns.Pass.the-variants.{Plain, Split as SplitAt}
-use Rattle.walks.specs.declared.turns.Turn.the-variants.{On, Enter, Over}
+use Rattle.levels.specs.Turns.{SameList, Within, CanTurn, TurnTo, goes, enters, ends, Turned, afresh, CanStart, Started}
+use Rattle.levels.specs.declared.items.Found.{Found}
+use Rattle.levels.specs.declared.items.Found.the-variants.{Nothing, Children, Token as Leaf}
+use Rattle.levels.specs.declared.turns.Pass.{Pass}
+use Rattle.levels.specs.declared.turns.Pass.the-variants.{Unsplit, Split as SplitAt}
+use Rattle.levels.specs.declared.turns.Turn.the-variants.{On, Enter, Over}
 use Rattle.passes.specs.Statements.{HasSemicolon}
-use Rattle.walks.proofs.PassClasses.{runs-exact}
-use Rattle.walks.proofs.Reading.{AheadTo, item, ahead-item, ahead-end, ahead-le, ahead-keep, array-put}
+use Rattle.levels.proofs.PassClasses.{runs-exact}
+use Rattle.levels.proofs.Reading.{AheadTo, item, ahead-item, ahead-end, ahead-le, ahead-keep, array-put}
 
 -- ---- which semicolons a list has
 
 pub semicolon-class : Exact 0x2 isSemicolon
 unfolding operators
-semicolon-class = runs-exact statements Plain plain
+semicolon-class = runs-exact statements Unsplit unsplitPass
 
 -- What holds at the test of the loop of `has_semicolon`, whatever forest the list is.
 pub record LookAt (W : List ℕ) (v : Items) (g : CanStart W v) (i : ℕ) : Type 0 where
@@ -238,9 +238,9 @@ passed-split (over {rest = r} {cs = cs} {k = k} f p) = split-past k cs r f ∙ p
 -- ---- a list begins
 
 plain-holds : {W X : List ℕ} {lo hi m m' : ℕ} {l : Items} {d rest : Forest} → BackArray W X (l .base) (l .write) lo m d → Ahead W X (l .base) (l .read) (l .len) m' hi rest → m ≤ m'
-    → l .write ≤ l .read → 8 * hi ≤ l .base → l .base + l .len ≤ length W → Holds statements W X lo hi (walkOf l Plain) (unsplit d) rest
+    → l .write ≤ l .read → 8 * hi ≤ l .base → l .base + l .len ≤ length W → Holds statements W X lo hi (walkOf l Unsplit) (unsplit d) rest
 plain-holds {m = m} {m' = m'} b u e t below within =
-    record { l = m; m = m'; sides = record { runs = plain; done = whole b; unread = u; agrees = tt; low = back-le (b .rep); mid = e; high = ahead-le u .0; below = below; within = within }; turning = t }
+    record { l = m; m = m'; sides = record { runs = unsplitPass; done = whole b; unread = u; agrees = tt; low = back-le (b .rep); mid = e; high = ahead-le u .0; below = below; within = within }; turning = t }
 
 module _ {W : List ℕ} {v : Items} where
   start-ahead : (g : CanStart W v) → Ahead W (g .X) (v .base) (v .read) (v .len) (g .lo) (g .hi) (g .f)
@@ -280,14 +280,14 @@ module _ {W : List ℕ} {v : Items} where
             subst (λ (s : Split). Holds statements W (g .X) (g .lo) (g .hi) (walkOf v (SplitAt 0)) s (g .f)) (sym (e .1)) (start-split g (e .0) (e .1));
       }
 
-  pub started-plain : HasSemicolon W v false → Started W v (walkOf v Plain)
+  pub started-unsplit : HasSemicolon W v false → Started W v (walkOf v Unsplit)
   unfolding begins statementLevel
-  started-plain h =
+  started-unsplit h =
       record {
         list = refl;
         holds = λ g.
             let e = split-clear (g .f) (not-false (clear isSemicolon (g .f)) (sym (h .answer g))) in
-            subst (λ (s : Split). Holds statements W (g .X) (g .lo) (g .hi) (walkOf v Plain) s (g .f)) (sym e)
+            subst (λ (s : Split). Holds statements W (g .X) (g .lo) (g .hi) (walkOf v Unsplit) s (g .f)) (sym e)
             (plain-holds (start-none g) (start-ahead g) (le-refl (g .lo)) (omega (arith, g .unwritten)) (g .below) (g .within));
       }
 
@@ -305,16 +305,16 @@ moved-same e = record { owner = ap (λ (x : Items). x .owner) e; base = ap (λ (
 back-at : {W X : List ℕ} {at n at' n' lo m : ℕ} {d : Forest} → at ≡ at' → n ≡ n' → BackArray W X at n lo m d → BackArray W X at' n' lo m d
 back-at {W} {X} {at} {n} {at'} {n'} {lo} {m} {d} e h v = subst (λ (x : ℕ). BackArray W X at' x lo m d) h (subst (λ (x : ℕ). BackArray W X x n lo m d) e v)
 
-pub data PlainView (W X : List ℕ) (lo hi : ℕ) (l : Items) : (κ : Kind) → State κ → Forest → Type 0 where
+pub data UnsplitView (W X : List ℕ) (lo hi : ℕ) (l : Items) : (κ : Kind) → State κ → Forest → Type 0 where
   plainly : {d rest : Forest} {m m' : ℕ} → BackArray W X (l .base) (l .write) lo m d → Ahead W X (l .base) (l .read) (l .len) m' hi rest → m ≤ m'
-      → l .write ≤ l .read → 8 * hi ≤ l .base → l .base + l .len ≤ length W → PlainView W X lo hi l statements (unsplit d) rest
+      → l .write ≤ l .read → 8 * hi ≤ l .base → l .base + l .len ≤ length W → UnsplitView W X lo hi l statements (unsplit d) rest
 
-pub plain-view : {W X : List ℕ} {lo hi : ℕ} {l : Items} {κ : Kind} {s : State κ} {rest : Forest} → Holds κ W X lo hi (walkOf l Plain) s rest → PlainView W X lo hi l κ s rest
-plain-view {W} {X} {lo} {hi} {l} h = go (h .sides .runs) (h .sides .done) (h .sides .unread) (h .sides .mid) (h .turning) (h .sides .below) (h .sides .within)
+pub unsplit-view : {W X : List ℕ} {lo hi : ℕ} {l : Items} {κ : Kind} {s : State κ} {rest : Forest} → Holds κ W X lo hi (walkOf l Unsplit) s rest → UnsplitView W X lo hi l κ s rest
+unsplit-view {W} {X} {lo} {hi} {l} h = go (h .sides .runs) (h .sides .done) (h .sides .unread) (h .sides .mid) (h .turning) (h .sides .below) (h .sides .within)
   where
-    go : {κ : Kind} {s : State κ} {rest : Forest} {m m' : ℕ} → Runs κ Plain → DoneSide κ W X lo m m' hi (walkOf l Plain) s → UnreadSide κ W X lo m m' hi l rest → m ≤ m'
-        → l .write ≤ l .read → 8 * hi ≤ l .base → l .base + l .len ≤ length W → PlainView W X lo hi l κ s rest
-    go plain (whole b) u e t below within = plainly b u e t below within
+    go : {κ : Kind} {s : State κ} {rest : Forest} {m m' : ℕ} → Runs κ Unsplit → DoneSide κ W X lo m m' hi (walkOf l Unsplit) s → UnreadSide κ W X lo m m' hi l rest → m ≤ m'
+        → l .write ≤ l .read → 8 * hi ≤ l .base → l .base + l .len ≤ length W → UnsplitView W X lo hi l κ s rest
+    go unsplitPass (whole b) u e t below within = plainly b u e t below within
 
 module _ {W X : List ℕ} {lo hi : ℕ} {l : Items} where
   abbrev seek-plain : {d rest : Forest} {m m' : ℕ} → BackArray W X (l .base) (l .write) lo m d → Ahead W X (l .base) (l .read) (l .len) m' hi rest → m ≤ m'
@@ -339,8 +339,8 @@ module _ {W X : List ℕ} {lo hi : ℕ} {l : Items} where
         small = small;
       }
 
-  pub plain-seek : {κ : Kind} {s : State κ} {rest : Forest} → length W < 2 ^ 32 → PlainView W X lo hi l κ s rest → CanSeek W l
-  plain-seek small (plainly b u e t below within) = seek-plain b u e t below within small
+  pub unsplit-seek : {κ : Kind} {s : State κ} {rest : Forest} → length W < 2 ^ 32 → UnsplitView W X lo hi l κ s rest → CanSeek W l
+  unsplit-seek small (plainly b u e t below within) = seek-plain b u e t below within small
 
 -- ---- a turn on a list without semicolons
 
@@ -361,34 +361,34 @@ pub sought-within : {W W' X : List ℕ} {lo hi c : ℕ} {l : Items} {r : Found} 
 sought-within q = record { kept = λ j f o. q .same j (⊎-elim (λ x. inl (omega arith)) (λ x. inr x) o); long = q .long }
 
 module _ {W W' X : List ℕ} {lo hi : ℕ} {l l' : Items} (small : length W < 2 ^ 32) where
-  plain-over : {κ : Kind} {s : State κ} {rest : Forest} → Sought W l 0x2 (Nothing l') W' → PlainView W X lo hi l κ s rest
-      → TurnTo κ W' X lo hi (walkOf l Plain) s rest (Over (walkOf l' Plain))
+  unsplit-over : {κ : Kind} {s : State κ} {rest : Forest} → Sought W l 0x2 (Nothing l') W' → UnsplitView W X lo hi l κ s rest
+      → TurnTo κ W' X lo hi (walkOf l Unsplit) s rest (Over (walkOf l' Unsplit))
   unfolding waits
-  plain-over q (plainly {d = d} {rest = rest} b u e t below within) = go (q .to (seek-plain b u e t below within small) isSemicolon semicolon-class)
+  unsplit-over q (plainly {d = d} {rest = rest} b u e t below within) = go (q .to (seek-plain b u e t below within small) isSemicolon semicolon-class)
     where
-      go : SoughtTo W' X l (l .base) lo hi isSemicolon d rest (Nothing l') → TurnTo statements W' X lo hi (walkOf l Plain) (unsplit d) rest (Over (walkOf l' Plain))
+      go : SoughtTo W' X l (l .base) lo hi isSemicolon d rest (Nothing l') → TurnTo statements W' X lo hi (walkOf l Unsplit) (unsplit d) rest (Over (walkOf l' Unsplit))
       go (found-none moved behind passed seen) =
           let m : Moved l l' = moved-same moved in
           let mb = m .base in let ml = m .len in let long = q .long in
-          ends (same-list Plain Plain refl m)
+          ends (same-list Unsplit Unsplit refl m)
           (plain-holds (back-at (sym mb) (omega (arith, seen .reached)) (seen .done)) (seen .ahead) (le-refl hi) behind (omega arith) (omega arith))
           refl (passed-unsplit passed)
 
-  plain-enter : {κ : Kind} {s : State κ} {rest : Forest} {b : ℕ} → Sought W l 0x2 (Children l' b) W' → PlainView W X lo hi l κ s rest
-      → TurnTo κ W' X lo hi (walkOf l Plain) s rest (Enter (walkOf l' Plain) b)
+  unsplit-enter : {κ : Kind} {s : State κ} {rest : Forest} {b : ℕ} → Sought W l 0x2 (Children l' b) W' → UnsplitView W X lo hi l κ s rest
+      → TurnTo κ W' X lo hi (walkOf l Unsplit) s rest (Enter (walkOf l' Unsplit) b)
   unfolding waits count size
-  plain-enter {b = b} q (plainly {d = d} {rest = rest} v u e t below within) = go (q .to (seek-plain v u e t below within small) isSemicolon semicolon-class)
+  unsplit-enter {b = b} q (plainly {d = d} {rest = rest} v u e t below within) = go (q .to (seek-plain v u e t below within small) isSemicolon semicolon-class)
     where
-      go : SoughtTo W' X l (l .base) lo hi isSemicolon d rest (Children l' b) → TurnTo statements W' X lo hi (walkOf l Plain) (unsplit d) rest (Enter (walkOf l' Plain) b)
+      go : SoughtTo W' X l (l .base) lo hi isSemicolon d rest (Children l' b) → TurnTo statements W' X lo hi (walkOf l Unsplit) (unsplit d) rest (Enter (walkOf l' Unsplit) b)
       go (tree {d' = d'} {rest' = rest'} {cs = cs} {a = a} {m = hm} {k = k} moved before passed full unfree t seen) =
           let m : Moved l l' = moved-same moved in
           let mb = m .base in let ml = m .len in let long = q .long in
           let c = passed-counts passed in
-          enters {t = unsplit d'} {u = begins statements cs} (same-list Plain Plain refl m)
+          enters {t = unsplit d'} {u = begins statements cs} (same-list Unsplit Unsplit refl m)
           (record {
             sides =
                 record {
-                  runs = plain;
+                  runs = unsplitPass;
                   done = whole (back-at (sym mb) (omega (arith, seen .reached)) (seen .done));
                   unread = seen .ahead;
                   agrees = tt;
@@ -403,13 +403,13 @@ module _ {W W' X : List ℕ} {lo hi : ℕ} {l l' : Items} (small : length W < 2 
           t full (afresh refl (le-refl a)) (passed-unsplit passed ∙ walk-in (unsplit d') k cs rest' (unsplit-in d' k cs full))
           (omega (arith, c .0)) (omega (arith, c .1)) (omega (arith, c .2)) (omega arith)
 
-  plain-on : {κ : Kind} {s : State κ} {rest : Forest} {b : ℕ} (W'' : List ℕ) → Sought W l 0x2 (Leaf l' b) W' → W'' ≡ set W' (l' .base + l' .write) b → PlainView W X lo hi l κ s rest
-      → TurnTo κ W'' X lo hi (walkOf l Plain) s rest (On (walkOf (movedTo l' (l' .read) (l' .write + 1)) Plain))
+  unsplit-on : {κ : Kind} {s : State κ} {rest : Forest} {b : ℕ} (W'' : List ℕ) → Sought W l 0x2 (Leaf l' b) W' → W'' ≡ set W' (l' .base + l' .write) b → UnsplitView W X lo hi l κ s rest
+      → TurnTo κ W'' X lo hi (walkOf l Unsplit) s rest (On (walkOf (movedTo l' (l' .read) (l' .write + 1)) Unsplit))
   unfolding waits count size
-  plain-on {b = b} W'' q w (plainly {d = d} {rest = rest} v u e t below within) = go (q .to (seek-plain v u e t below within small) isSemicolon semicolon-class)
+  unsplit-on {b = b} W'' q w (plainly {d = d} {rest = rest} v u e t below within) = go (q .to (seek-plain v u e t below within small) isSemicolon semicolon-class)
     where
       go : SoughtTo W' X l (l .base) lo hi isSemicolon d rest (Leaf l' b)
-          → TurnTo statements W'' X lo hi (walkOf l Plain) (unsplit d) rest (On (walkOf (movedTo l' (l' .read) (l' .write + 1)) Plain))
+          → TurnTo statements W'' X lo hi (walkOf l Unsplit) (unsplit d) rest (On (walkOf (movedTo l' (l' .read) (l' .write + 1)) Unsplit))
       go (leaf {d' = d'} {rest' = rest'} {a = a} {m = hm} {k = k} moved before passed is t seen) =
           let m : Moved l l' = moved-same moved in
           let mb = m .base in let ml = m .len in let long = q .long in
@@ -419,16 +419,16 @@ module _ {W W' X : List ℕ} {lo hi : ℕ} {l l' : Items} (small : length W < 2 
           let keep : BackArray W'' X (l .base) (seen .n + 1) lo hm (node k nil d')
           = array-put W' W'' (seen .done) t (le-refl a) (le-refl hm) (λ s o x y z p. other (8 * s + o) (omega arith)) (λ j x y. other j (omega (arith, seen .reached)))
           (ap (wd W'') (seen .reached) ∙ set-same W' W'' (l' .base + l' .write) b w (omega arith)) in
-          goes {w' = walkOf (movedTo l' (l' .read) (l' .write + 1)) Plain} {s' = unsplit (node k nil d')} (same-list Plain Plain refl (record { owner = m .owner; base = mb; len = ml }))
+          goes {w' = walkOf (movedTo l' (l' .read) (l' .write + 1)) Unsplit} {s' = unsplit (node k nil d')} (same-list Unsplit Unsplit refl (record { owner = m .owner; base = mb; len = ml }))
           (plain-holds {l = movedTo l' (l' .read) (l' .write + 1)} (back-at (sym mb) (omega (arith, seen .reached)) keep)
           (ahead-keep W' W'' (λ s o x y z p. other (8 * s + o) (omega arith)) (λ j x y. other j (omega arith)) (seen .ahead))
           (le-refl hm) (omega arith) (omega arith) (omega (arith, set-long W' W'' (l' .base + l' .write) b w)))
           (passed-unsplit passed ∙ walk-on (unsplit d') k nil rest' (unsplit (node k nil d')) (unsplit-end d' k is))
           (omega (arith, c .0)) (omega (arith, c .1)) (omega (arith, c .2))
 
-  plain-place : {κ : Kind} {s : State κ} {rest : Forest} {b : ℕ} → Sought W l 0x2 (Leaf l' b) W' → PlainView W X lo hi l κ s rest
+  unsplit-place : {κ : Kind} {s : State κ} {rest : Forest} {b : ℕ} → Sought W l 0x2 (Leaf l' b) W' → UnsplitView W X lo hi l κ s rest
       → (l .base ≤ l' .base + l' .write) × (l' .base + l' .write < l .base + l .len) × (l .base + l .len ≤ length W')
-  plain-place {b = b} q (plainly {d = d} {rest = rest} v u e t below within) = go (q .to (seek-plain v u e t below within small) isSemicolon semicolon-class)
+  unsplit-place {b = b} q (plainly {d = d} {rest = rest} v u e t below within) = go (q .to (seek-plain v u e t below within small) isSemicolon semicolon-class)
     where
       go : SoughtTo W' X l (l .base) lo hi isSemicolon d rest (Leaf l' b)
           → (l .base ≤ l' .base + l' .write) × (l' .base + l' .write < l .base + l .len) × (l .base + l .len ≤ length W')
@@ -438,23 +438,23 @@ module _ {W W' X : List ℕ} {lo hi : ℕ} {l l' : Items} (small : length W < 2 
           (omega arith, omega arith, omega arith)
 
 module _ {W W' : List ℕ} {l l' : Items} where
-  pub turned-plain-over : Sought W l 0x2 (Nothing l') W' → Turned W (walkOf l Plain) (Over (walkOf l' Plain)) W'
-  turned-plain-over q = record { to = λ g. plain-over (g .small) q (plain-view (g .holds)); within = λ g. sought-within q }
+  pub turned-unsplit-over : Sought W l 0x2 (Nothing l') W' → Turned W (walkOf l Unsplit) (Over (walkOf l' Unsplit)) W'
+  turned-unsplit-over q = record { to = λ g. unsplit-over (g .small) q (unsplit-view (g .holds)); within = λ g. sought-within q }
 
-  pub turned-plain-enter : {b : ℕ} → Sought W l 0x2 (Children l' b) W' → Turned W (walkOf l Plain) (Enter (walkOf l' Plain) b) W'
-  turned-plain-enter q = record { to = λ g. plain-enter (g .small) q (plain-view (g .holds)); within = λ g. sought-within q }
+  pub turned-unsplit-enter : {b : ℕ} → Sought W l 0x2 (Children l' b) W' → Turned W (walkOf l Unsplit) (Enter (walkOf l' Unsplit) b) W'
+  turned-unsplit-enter q = record { to = λ g. unsplit-enter (g .small) q (unsplit-view (g .holds)); within = λ g. sought-within q }
 
   -- an item has room behind the done ones
-  pub plain-room : {b : ℕ} → Sought W l 0x2 (Leaf l' b) W' → CanTurn W (walkOf l Plain) → l' .base + l' .write < length W'
-  plain-room q g = let p = plain-place (g .small) q (plain-view (g .holds)) in omega (arith, p .1, p .2)
+  pub unsplit-room : {b : ℕ} → Sought W l 0x2 (Leaf l' b) W' → CanTurn W (walkOf l Unsplit) → l' .base + l' .write < length W'
+  unsplit-room q g = let p = unsplit-place (g .small) q (unsplit-view (g .holds)) in omega (arith, p .1, p .2)
 
-  pub turned-plain-on : {b : ℕ} (W'' : List ℕ) → Sought W l 0x2 (Leaf l' b) W' → W'' ≡ set W' (l' .base + l' .write) b
-      → Turned W (walkOf l Plain) (On (walkOf (movedTo l' (l' .read) (l' .write + 1)) Plain)) W''
-  turned-plain-on {b} W'' q w =
+  pub turned-unsplit-on : {b : ℕ} (W'' : List ℕ) → Sought W l 0x2 (Leaf l' b) W' → W'' ≡ set W' (l' .base + l' .write) b
+      → Turned W (walkOf l Unsplit) (On (walkOf (movedTo l' (l' .read) (l' .write + 1)) Unsplit)) W''
+  turned-unsplit-on {b} W'' q w =
       record {
-        to = λ g. plain-on (g .small) W'' q w (plain-view (g .holds));
+        to = λ g. unsplit-on (g .small) W'' q w (unsplit-view (g .holds));
         within = λ g.
-            let p = plain-place (g .small) q (plain-view (g .holds)) in
+            let p = unsplit-place (g .small) q (unsplit-view (g .holds)) in
             let p0 = p .0 in let p1 = p .1 in
             record {
               kept = λ j f o. set-other W' W'' (l' .base + l' .write) b w j (⊎-elim (λ x. omega arith) (λ x. omega arith) o) ∙ q .same j (⊎-elim (λ x. inl (omega arith)) (λ x. inr x) o);

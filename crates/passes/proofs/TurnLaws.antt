@@ -4,11 +4,11 @@ use mathlib.Core.Path.{_≡_, sym, ap, _∙_, subst}
 use mathlib.Core.List.{List}
 use Rattle.ops.specs.declared.classes.TokenClasses.{TokenClasses}
 use Rattle.nodes.specs.declared.frames.List.{List as Items}
-use Rattle.walks.specs.Passes.{walkOf}
-use Rattle.walks.specs.Turns.{CanTurn, Turned}
-use Rattle.walks.specs.declared.turns.Pass.{Pass}
-use Rattle.walks.specs.declared.turns.Pass.the-variants.{Arrays, Binary}
-use Rattle.walks.specs.declared.turns.Turn.{Turn}
+use Rattle.levels.specs.Passes.{walkOf}
+use Rattle.levels.specs.Turns.{CanTurn, Turned}
+use Rattle.levels.specs.declared.turns.Pass.{Pass}
+use Rattle.levels.specs.declared.turns.Pass.the-variants.{Arrays, Binary}
+use Rattle.levels.specs.declared.turns.Turn.{Turn}
 
 pub turn-at : {W : List ℕ} (v : Items) (p q : Pass) → p ≡ q → CanTurn W (walkOf v p) → CanTurn W (walkOf v q)
 turn-at {W} v p q e g = subst (λ (x : Pass). CanTurn W (walkOf v x)) e g

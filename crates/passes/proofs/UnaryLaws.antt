@@ -16,11 +16,11 @@ use Rattle.molang.proofs.Trees.{free, isNil, free-leaf, free-tree}
 use Rattle.molang.proofs.Booleans.{or-neither}
 use Rattle.molang.proofs.Unary.{isPrefix, unary-free}
 use Rattle.molang.proofs.Work.{right, before, fromRight, leftOf, work, begins, inReading, takes, pass, unaries, andThen, pass-begins}
-use Rattle.walks.specs.Passes as passes
-use Rattle.walks.specs.Passes.{operators, Exact}
-use Rattle.walks.specs.declared.turns.Pass.the-variants.{Unary as UnaryPass}
-use Rattle.walks.proofs.PassClasses.{runs-exact}
-use Rattle.passes.specs.UnaryTurns.{Moved}
+use Rattle.levels.specs.Passes as passes
+use Rattle.levels.specs.Passes.{operators, Exact}
+use Rattle.levels.specs.declared.turns.Pass.the-variants.{Unary as UnaryPass}
+use Rattle.levels.proofs.PassClasses.{runs-exact}
+use Rattle.passes.specs.Unary.{Moved}
 
 -- ---- one item
 

@@ -8,16 +8,16 @@ use native.Mathlib.Nat.{le-refl}
 use Rattle.molang.specs.Forest.{Forest, count, size}
 use Rattle.molang.proofs.Work.{right, unaries, work, begins}
 use Rattle.nodes.specs.declared.frames.List.{List as Items}
-use Rattle.walks.specs.Passes.{walkOf, movedTo, waits}
-use Rattle.walks.specs.Turns.{SameList, Within, afresh, TurnTo, goes, enters, ends, fails, Turned}
-use Rattle.walks.specs.declared.items.Found.the-variants.{Nothing, Children, Token as Leaf}
-use Rattle.walks.specs.declared.turns.Pass.the-variants.{Unary}
-use Rattle.walks.specs.declared.turns.Walk.{Walk}
-use Rattle.walks.specs.declared.turns.Turn.{Turn}
-use Rattle.walks.specs.declared.turns.Turn.the-variants.{Enter, Over}
-use Rattle.passes.specs.UnaryTurns.{CanSeekBack, Moved, SoughtBackTo, none, leaf, tree, SoughtBack, CanTakeToken, TokenTaken}
+use Rattle.levels.specs.Passes.{walkOf, movedTo, waits}
+use Rattle.levels.specs.Turns.{SameList, Within, afresh, TurnTo, goes, enters, ends, fails, Turned}
+use Rattle.levels.specs.declared.items.Found.the-variants.{Nothing, Children, Token as Leaf}
+use Rattle.levels.specs.declared.turns.Pass.the-variants.{Unary}
+use Rattle.levels.specs.declared.turns.Walk.{Walk}
+use Rattle.levels.specs.declared.turns.Turn.{Turn}
+use Rattle.levels.specs.declared.turns.Turn.the-variants.{Enter, Over}
+use Rattle.passes.specs.Unary.{CanSeekBack, Moved, SoughtBackTo, none, leaf, tree, SoughtBack, CanTakeToken, TokenTaken}
 use Rattle.passes.proofs.UnaryLaws.{at-tree}
-use Rattle.passes.proofs.RightLaws.{right-sides, right-holds, of-unary}
+use Rattle.passes.proofs.UnaryRight.{right-sides, right-holds, of-unary}
 
 moved-same : (v v' : Items) → v' ≡ movedTo v (v' .read) (v' .write) → SameList (walkOf v Unary) (walkOf v' Unary)
 moved-same v v' e =

@@ -15,11 +15,11 @@ use Rattle.nodes.specs.Store.{wd, Chain, Inc, Out, OffNext, onto}
 use Rattle.nodes.specs.Slots.{opAt, isLeafAt, isTokenAt}
 use Rattle.nodes.specs.Children.{someNotes}
 use Rattle.nodes.specs.declared.frames.List.{List as Items}
-use Rattle.walks.specs.Passes.{walkOf, movedTo}
-use Rattle.walks.specs.declared.failure.Failure.the-variants.{EmptyArrayIndex}
-use Rattle.walks.specs.declared.turns.Pass.the-variants.{Arrays}
-use Rattle.walks.specs.declared.turns.Turn.{Turn}
-use Rattle.walks.specs.declared.turns.Turn.the-variants.{Enter, Fail}
+use Rattle.levels.specs.Passes.{walkOf, movedTo}
+use Rattle.levels.specs.declared.failure.Failure.the-variants.{EmptyArrayIndex}
+use Rattle.levels.specs.declared.turns.Pass.the-variants.{Arrays}
+use Rattle.levels.specs.declared.turns.Turn.{Turn}
+use Rattle.levels.specs.declared.turns.Turn.the-variants.{Enter, Fail}
 use Rattle.passes.specs.TokenTurns.{TokenTurned, any}
 
 -- No slot of the first list is one of the second.

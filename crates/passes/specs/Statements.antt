@@ -13,13 +13,13 @@ use Rattle.nodes.specs.Store.{wd}
 use Rattle.nodes.specs.Slots.{opAt, Made}
 use Rattle.nodes.specs.Children.{CanGive, Given}
 use Rattle.nodes.specs.declared.frames.List.{List as Items}
-use Rattle.walks.specs.Passes.{walkOf, movedTo}
-use Rattle.walks.specs.Turns.{CanStart}
-use Rattle.walks.specs.declared.failure.Failure.the-variants.{LeadingSemicolon}
-use Rattle.walks.specs.declared.turns.Pass.{Pass}
-use Rattle.walks.specs.declared.turns.Pass.the-variants.{Split as SplitAt}
-use Rattle.walks.specs.declared.turns.Turn.{Turn}
-use Rattle.walks.specs.declared.turns.Turn.the-variants.{On, Enter, Fail}
+use Rattle.levels.specs.Passes.{walkOf, movedTo}
+use Rattle.levels.specs.Turns.{CanStart}
+use Rattle.levels.specs.declared.failure.Failure.the-variants.{LeadingSemicolon}
+use Rattle.levels.specs.declared.turns.Pass.{Pass}
+use Rattle.levels.specs.declared.turns.Pass.the-variants.{Split as SplitAt}
+use Rattle.levels.specs.declared.turns.Turn.{Turn}
+use Rattle.levels.specs.declared.turns.Turn.the-variants.{On, Enter, Fail}
 
 -- ---- `has_semicolon`
 

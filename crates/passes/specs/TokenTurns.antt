@@ -15,13 +15,13 @@ use Rattle.molang.proofs.Work.{Kind, calls, returns, binary, State}
 use Rattle.nodes.specs.Store.{RepT}
 use Rattle.nodes.specs.declared.frames.List.{List as Items}
 use Rattle.ops.specs.declared.classes.TokenClasses.{TokenClasses}
-use Rattle.walks.specs.Passes.{walkOf}
-use Rattle.walks.specs.Items.{BackArray, Ahead}
-use Rattle.walks.specs.Turns.{Within, TurnTo}
-use Rattle.walks.specs.declared.turns.Pass.{Pass}
-use Rattle.walks.specs.declared.turns.Pass.the-variants.{Binary, Prefix}
-use Rattle.walks.specs.declared.turns.Walk.{Walk}
-use Rattle.walks.specs.declared.turns.Turn.{Turn}
+use Rattle.levels.specs.Passes.{walkOf}
+use Rattle.levels.specs.Items.{BackArray, Ahead}
+use Rattle.levels.specs.Turns.{Within, TurnTo}
+use Rattle.levels.specs.declared.turns.Pass.{Pass}
+use Rattle.levels.specs.declared.turns.Pass.the-variants.{Binary, Returns}
+use Rattle.levels.specs.declared.turns.Walk.{Walk}
+use Rattle.levels.specs.declared.turns.Turn.{Turn}
 
 -- The item at the slot b, the tree k over cs, was read and is not done yet.
 pub record AtItem (W X : List ℕ) (l : Items) (b lo hi : ℕ) (d : Forest) (k : Token) (cs rest : Forest) : Type 0 where
@@ -57,7 +57,7 @@ any d = true
 
 -- The turn of `return`.
 abbrev pub ReturnTurned : List ℕ → Items → ℕ → Turn → List ℕ → Type 0
-ReturnTurned W l b r W' = TokenTurned returns gathered isReturn any W (walkOf l Prefix) b r W'
+ReturnTurned W l b r W' = TokenTurned returns gathered isReturn any W (walkOf l Returns) b r W'
 
 -- The turn of a call or of a math call.
 abbrev pub CallTurned : CallKind → Pass → List ℕ → Items → ℕ → Turn → List ℕ → Type 0

@@ -1,19 +1,19 @@
 // Array indices: the pass that gives an array name the sections `[ ]` after it (calls.rs).
-// Leans on walks (turns, items), on slots and chains.
+// Leans on levels (turns, items), on slots and chains.
+use levels::failure::Failure;
+use levels::items;
+use levels::items::Found;
+use levels::turns;
+use levels::turns::Pass;
+use levels::turns::Turn;
+use levels::turns::Walk;
 use nodes::frames::List;
 use nodes::slots;
 use ops::classes::TokenClasses;
 use ops::op;
-use walks::failure::Failure;
-use walks::items;
-use walks::items::Found;
-use walks::turns;
-use walks::turns::Pass;
-use walks::turns::Turn;
-use walks::turns::Walk;
 ghost use mathlib.Core.Logic.{_≢_};
-ghost use Rattle.walks.specs.Passes.{walkOf};
-ghost use Rattle.walks.specs.Turns.{CanTurn, Turned, CanResume, Resumed};
+ghost use Rattle.levels.specs.Passes.{walkOf};
+ghost use Rattle.levels.specs.Turns.{CanTurn, Turned, CanResume, Resumed};
 ghost use Rattle.passes.specs.TokenTurns.{AtToken};
 ghost use Rattle.passes.specs.Arrays.{CanLend, Lent, CanIndex, Indexed, NameTurned, CanGather, Gathered, CanRound, Rounded};
 

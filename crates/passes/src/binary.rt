@@ -1,23 +1,23 @@
 // The binary levels: each leaf of the level's operators takes its neighbours as children, from the left (binary.rs).
-// Leans on walks (turns, items), on slots and chains.
+// Leans on levels (turns, items), on slots and chains.
+use levels::failure::Failure;
+use levels::items;
+use levels::items::Found;
+use levels::turns;
+use levels::turns::Pass;
+use levels::turns::Turn;
+use levels::turns::Walk;
 use nodes::children;
 use nodes::frames::List;
 use nodes::slots;
 use ops::classes::TokenClasses;
-use walks::failure::Failure;
-use walks::items;
-use walks::items::Found;
-use walks::turns;
-use walks::turns::Pass;
-use walks::turns::Turn;
-use walks::turns::Walk;
 ghost use Prim.Native.Nat.{ℕ};
 ghost use mathlib.Core.List.{List as Words};
 ghost use Rattle.molang.specs.Operator.{isOneOf};
-ghost use Rattle.walks.specs.Passes.{walkOf, Exact};
-ghost use Rattle.walks.specs.Turns.{CanTurn, Turned, CanResume, Resumed};
+ghost use Rattle.levels.specs.Passes.{walkOf, Exact};
+ghost use Rattle.levels.specs.Turns.{CanTurn, Turned, CanResume, Resumed};
 ghost use Rattle.passes.specs.TokenTurns.{AtToken, LevelTurned};
-ghost use Rattle.passes.specs.BinaryTurns.{CanFold, Folded, CanSearch, LeafFound, CanOperate, Operated};
+ghost use Rattle.passes.specs.Binary.{CanFold, Folded, CanSearch, LeafFound, CanOperate, Operated};
 
 // `operator` takes the last done item and `right`, done itself, as its children, and stands in the former's place.
 fn fold(work: &mut [u32], list: List, operator: u32, right: u32)

@@ -1,6 +1,14 @@
 // Statements, the semicolon pass (statements.rs): a list with semicolons becomes one `;` node of its statements, each
 // gathered under a `;` node of its own. In a split list the finished statements stand in [0, done), the items of the open one
-// in [done, write). Leans on walks (turns, items), on slots and chains.
+// in [done, write). Leans on levels (turns, items), on slots and chains.
+use levels::failure::Failure;
+use levels::items;
+use levels::items::Found;
+use levels::turns;
+use levels::turns::Finished;
+use levels::turns::Pass;
+use levels::turns::Turn;
+use levels::turns::Walk;
 use nodes::children;
 use nodes::frames::List;
 use nodes::frames::wide;
@@ -8,20 +16,12 @@ use nodes::slots;
 use ops::classes::TokenClasses;
 use ops::holds_statements;
 use ops::op;
-use walks::failure::Failure;
-use walks::items;
-use walks::items::Found;
-use walks::turns;
-use walks::turns::Finished;
-use walks::turns::Pass;
-use walks::turns::Turn;
-use walks::turns::Walk;
 ghost use Prim.Native.Nat.{_+_, _*_, _^_, _≤_, _<_};
 ghost use lib.ListN.{length};
 ghost use Rattle.nodes.specs.Children.{CanGive};
-ghost use Rattle.walks.specs.Passes.{walkOf};
+ghost use Rattle.levels.specs.Passes.{walkOf};
 ghost use Rattle.passes.specs.Statements.{HasSemicolon, Grouped, ListMade, CanEnd, SemicolonTo, InnerTo, CanClose, ClosedTo};
-ghost use Rattle.walks.specs.Turns.{CanTurn, Turned, CanFinish, Ends, CanStart, Started};
+ghost use Rattle.levels.specs.Turns.{CanTurn, Turned, CanFinish, Ends, CanStart, Started};
 
 // Whether a semicolon stands in the list.
 fn has_semicolon(work: &[u32], list: List) -> bool
@@ -54,20 +54,20 @@ pub fn start(work: &[u32], list: List) -> Walk
     }
     Walk {
         list,
-        pass: Pass::Plain,
+        pass: Pass::Unsplit,
     }
 }
 
 // A list without semicolons up to its next node.
 pub fn step(work: &mut [u32], list: List) -> Turn
-    requires { ⌜ CanTurn (now work) (walkOf list Pass.Plain) ⌝ }
-    ensures { λ r. ⌜ Turned (now (work .entry)) (walkOf list Pass.Plain) r (now (work .exit)) ⌝ }
+    requires { ⌜ CanTurn (now work) (walkOf list Pass.Unsplit) ⌝ }
+    ensures { λ r. ⌜ Turned (now (work .entry)) (walkOf list Pass.Unsplit) r (now (work .exit)) ⌝ }
 {
     let found = items::next_token(work, list, TokenClasses::SEMICOLON);
     match found {
-        Found::Nothing(after) => turns::over(after, Pass::Plain),
-        Found::Children(after, item) => turns::enter(after, Pass::Plain, item),
-        Found::Token(after, item) => turns::on(items::keep(work, after, item), Pass::Plain),
+        Found::Nothing(after) => turns::over(after, Pass::Unsplit),
+        Found::Children(after, item) => turns::enter(after, Pass::Unsplit, item),
+        Found::Token(after, item) => turns::on(items::keep(work, after, item), Pass::Unsplit),
     }
 }
 

@@ -1,5 +1,11 @@
 // The prefix operators minus and not, from the right (unary.rs).
-// Leans on walks (turns, items), on slots and chains.
+// Leans on levels (turns, items), on slots and chains.
+use levels::failure::Failure;
+use levels::items;
+use levels::items::Found;
+use levels::turns;
+use levels::turns::Pass;
+use levels::turns::Turn;
 use nodes::children;
 use nodes::frames::List;
 use nodes::slots;
@@ -7,18 +13,12 @@ use ops::BeforeMinus;
 use ops::before_minus;
 use ops::classes::TokenClasses;
 use ops::op;
-use walks::failure::Failure;
-use walks::items;
-use walks::items::Found;
-use walks::turns;
-use walks::turns::Pass;
-use walks::turns::Turn;
 ghost use mathlib.Core.Path.{_≡_};
 ghost use Prim.Native.Nat.{_+_, _*_, _-_, _≤_, _<_};
 ghost use lib.ListN.{length, set};
-ghost use Rattle.walks.specs.Passes.{walkOf, movedTo};
-ghost use Rattle.walks.specs.Turns.{CanTurn, Turned};
-ghost use Rattle.passes.specs.UnaryTurns.{CanSeekBack, SoughtBack, CanTakeToken, CanTakeMinus, TokenTaken, CanPrefix, Prefixed, Added, CanSubtract, Subtracted};
+ghost use Rattle.levels.specs.Passes.{walkOf, movedTo};
+ghost use Rattle.levels.specs.Turns.{CanTurn, Turned};
+ghost use Rattle.passes.specs.Unary.{CanSeekBack, SoughtBack, CanTakeToken, CanTakeMinus, TokenTaken, CanPrefix, Prefixed, Added, CanSubtract, Subtracted};
 
 // The list with `item` before its done items.
 pub fn keep_right(work: &mut [u32], list: List, item: u32) -> List

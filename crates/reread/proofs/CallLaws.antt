@@ -13,8 +13,8 @@ use Rattle.molang.specs.WriteEntry.{WriteCall, tokens, unwritten, writeAnswered
 use Rattle.molang.specs.Reread.{Handed, exactCall, secondCall, RereadTold, firstMessages, turnedBack, secondTold, wroteTold, treeBy, messagesBy, workBy, Rereading, handed, toldWriting, firstTold, rereadTold, writtenFrom, treeFrom, messagesFrom, workFrom, Agrees}
 use Rattle.molang.proofs.UsedSet.{exact-halves}
 use Rattle.molang.proofs.Reread.{Listed, listed-of, listed-long, listed-unrefused, agrees}
-use Rattle.exact.specs.Exact.{named}
-use Rattle.exact.proofs.WordLaws.{named-few, legal-list}
+use Rattle.derived.specs.Derived.{named}
+use Rattle.derived.proofs.WordLaws.{named-few, legal-list}
 use Rattle.parse.specs.declared.Answer.{Answer}
 use Rattle.reread.specs.declared.Outcome.{Outcome}
 use Rattle.reread.specs.declared.Outcome.the-variants.{Messages, Refused}

@@ -1,6 +1,6 @@
 // Demand 3 as a function: reads a list, writes the tree it gives, and reads exactly the tokens written again, at any version and with
 // their own operators. Leans on parse, write and exact; the definition is `Reread` of molang's specs.
-use exact::used_of;
+use derived::used_of;
 use parse::Answer;
 use parse::parse;
 use words::fields;

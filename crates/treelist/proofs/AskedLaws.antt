@@ -14,9 +14,9 @@ use Rattle.molang.specs.Read.{Answer, read}
 use Rattle.molang.proofs.Bounds.{Bounded, fewNodes, fewMessages, read-bounded}
 use Rattle.molang.proofs.Reread.{tokens-count}
 use Rattle.molang.specs.Parse.{Call, Told, refused, must, firstOf, inHalves, refusal, reading, told, answered, treeIn, treeAfter, messagesIn, messagesAfter}
-use Rattle.checks.proofs.AcceptLaws.{last-row}
-use Rattle.exact.specs.Exact.{named, highest}
-use Rattle.exact.proofs.WordLaws.{exact-few, highest-few}
+use Rattle.accept.proofs.AcceptLaws.{last-row}
+use Rattle.derived.specs.Derived.{named, highest}
+use Rattle.derived.proofs.WordLaws.{exact-few, highest-few}
 use Rattle.parse.specs.Answers.{call}
 use Rattle.molang.specs.WriteEntry.{orElse}
 use Rattle.molang.specs.Lines.{versionOf}

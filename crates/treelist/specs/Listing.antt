@@ -12,7 +12,7 @@ use Rattle.molang.specs.Read.{Answer, read}
 use Rattle.molang.specs.Parse.{told, must, firstOf, treeIn, messagesIn}
 use Rattle.molang.specs.WriteEntry.{orElse}
 use Rattle.molang.specs.Lines.{versionOf}
-use Rattle.exact.specs.Exact.{named, highest}
+use Rattle.derived.specs.Derived.{named, highest}
 use Rattle.treelist.specs.declared.asked.Request.{Request}
 use Rattle.treelist.specs.declared.asked.Request.the-variants.{List as Request·List, Refused}
 use Rattle.treelist.specs.Rows.{answerText}

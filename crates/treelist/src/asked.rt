@@ -1,8 +1,8 @@
 // What an input asks: where the program turns it back, else a list to read. Leans on exact (used set, source length, version) and parse;
 // specs/Listing has the definition.
-use exact::highest_end;
-use exact::used_of;
-use exact::version_of;
+use derived::highest_end;
+use derived::used_of;
+use derived::version_of;
 use parse::Answer;
 use parse::parse;
 use words::refusals;

@@ -17,7 +17,7 @@ use Rattle.molang.specs.Level as Levels
 use Rattle.molang.specs.Calls.{CallKind, queryOrLoop, math, calls, callLevel}
 use Rattle.molang.specs.Binary.{binaryLevel}
 use Rattle.molang.specs.Conditional.{conditionalLevel}
-use Rattle.molang.specs.Order.{Rules, Pass, lastToken, memberAccessors, sectioning, callPass, statements, arrays, pointer, mathCalls, unaryMinusAndNot, addition, ternary, returns, binary, order, someBelow, runs, apply}
+use Rattle.molang.specs.Order.{Rules, Pass, lastToken, memberAccessors, sectioning, callPass, statements, arrays, pointer, mathCalls, unaryMinusAndNot, addition, conditional, returns, binary, order, someBelow, runs, apply}
 use Rattle.molang.specs.Read.{rooted, grouped, uses}
 use Rattle.molang.specs.Write.{closerFor}
 use Rattle.molang.proofs.Booleans.{either, never, or-first, or-second, or-neither, or-only-first}
@@ -42,7 +42,7 @@ folds pointer n = isOneOf (Operator.pointer ∷ []) n
 folds mathCalls n = calls math n
 folds unaryMinusAndNot n = prefixes n
 folds addition n = isOneOf (Operator.add ∷ []) n
-folds ternary n = conditionals n
+folds conditional n = conditionals n
 folds returns n = false
 folds (binary ops) n = isOneOf ops n
 
@@ -91,7 +91,7 @@ ready σ pointer = true
 ready σ mathCalls = below (λ n. not (σ n) || not (calls math n || isJoining (role n)))
 ready σ unaryMinusAndNot = below (λ n. not (σ n) || not (prefixes n))
 ready σ addition = flatJoining σ (Operator.add ∷ [])
-ready σ ternary = not (σ Operator.conditional) && not (σ Operator.conditionalElse)
+ready σ conditional = not (σ Operator.conditional) && not (σ Operator.conditionalElse)
 ready σ returns = true
 ready σ (binary ops) = each isForeign ops || flatJoining σ ops
 
@@ -302,7 +302,7 @@ module _ {s : Sort} (e : Exp s) (w : isWhole s ≡ true) where
   left-out mathCalls h n t = no-math h n t
   left-out unaryMinusAndNot h n t = any-off u (Operator.negate ∷ Operator.logicalNot ∷ []) h n t
   left-out addition h n t = any-off u (Operator.add ∷ []) (unfold any in or-neither (u Operator.negate) (u Operator.add || false) h .1) n t
-  left-out ternary h n t = any-off u (Operator.conditional ∷ Operator.conditionalElse ∷ []) h n t
+  left-out conditional h n t = any-off u (Operator.conditional ∷ Operator.conditionalElse ∷ []) h n t
   left-out returns h n t = refl
   left-out (binary ops) h n t = any-off u ops h n t
 
@@ -353,7 +353,7 @@ module _ {s : Sort} (e : Exp s) (w : isWhole s ≡ true) where
   applied len mathCalls σ r h = call-pass σ math (uncalled σ math r) e
   applied len unaryMinusAndNot σ r h = unary-pass σ (record { flat = λ n p. not-yet σ prefixes r n (plays-prefix n p) p }) e
   applied len addition σ r h = binary-pass σ (Operator.add ∷ []) (flat-binary σ (Operator.add ∷ []) r) e
-  applied len ternary σ r h =
+  applied len conditional σ r h =
       let parts = and-eq-true-iff (not (σ Operator.conditional)) (not (σ Operator.conditionalElse)) .0 r in
       conditional-pass σ (record {
         question = not-true (σ Operator.conditional) (parts .0);

@@ -3,7 +3,7 @@ use mathlib.Core.Path.{_∙_}
 use native.Mathlib.Omega.{arith}
 use Rattle.molang.specs.Operator
 use Rattle.molang.specs.Order.{arrays, callPass, runs, statements}
-use Rattle.order.specs.Places.{array, call, calling, plain, usedBy}
+use Rattle.order.specs.Places.{array, call, calling, unsplitPass, usedBy}
 use Rattle.order.proofs.Choosing.{chosen-if, no-place, one-used}
 use borrow.Author.Needs.{needs}
 use Rattle.order.proofs.calls.Statement.{statement}
@@ -41,7 +41,7 @@ returns-2 c =
     let u = usedBy (c .before .before .before .args .used) in
     rw (c .before .before .match .keys2)
     (chosen-if u statements _
-    (c .before .contains .result) (c .before .contains .ensures ∙ one-used u Operator.semicolon) plain
+    (c .before .contains .result) (c .before .contains .ensures ∙ one-used u Operator.semicolon) unsplitPass
     (c .when2 .result) (c .when2 .ensures))
 
 returns-3 : tie.Need-returns-3

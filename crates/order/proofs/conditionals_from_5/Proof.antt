@@ -1,7 +1,7 @@
 -- `order::conditionals_from_5` meets its contract: the arms in order. Assumes nothing.
 use native.Mathlib.Omega.{arith}
-use Rattle.molang.specs.Order.{conditionals, runs, ternary}
-use Rattle.order.specs.Places.{tern, usedBy}
+use Rattle.molang.specs.Order.{conditionals, runs, conditional}
+use Rattle.order.specs.Places.{conditionalPass, usedBy}
 use Rattle.order.proofs.Choosing.{chosen-if, no-pass}
 use mathlib.Core.Bool.{true}
 use borrow.Author.Needs.{needs}
@@ -19,7 +19,7 @@ unfolding runs conditionals
 returns c =
     let u = usedBy (c .before .before .before .args .used) in
     rw (c .before .before .match .keys1)
-    (chosen-if u ternary _ (c .before .uses-either .result) (c .before .uses-either .ensures) tern (c .when .result) (c .when .ensures))
+    (chosen-if u conditional _ (c .before .uses-either .result) (c .before .uses-either .ensures) conditionalPass (c .when .result) (c .when .ensures))
 
 returns-2 : tie.Need-returns-2
 unfolding conditionals

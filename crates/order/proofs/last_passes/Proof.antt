@@ -3,7 +3,7 @@ use mathlib.Core.Path.{_∙_}
 use native.Mathlib.Omega.{arith}
 use Rattle.molang.specs.Operator
 use Rattle.molang.specs.Order.{returns as returnPass, runs}
-use Rattle.order.specs.Places.{last, prefix, usedBy}
+use Rattle.order.specs.Places.{last, returnPass, usedBy}
 use Rattle.order.proofs.Choosing.{chosen-if, no-place, one-level, one-used}
 use Rattle.order.proofs.Exactness.{assignment-exact, comma-exact, null-coalescing-exact}
 use borrow.Author.Needs.{needs}
@@ -46,7 +46,7 @@ returns-4 c =
     let u = usedBy (c .before .before .before .args .used) in
     rw (c .before .before .match .keys4)
     (chosen-if u returnPass _
-    (c .before .contains .result) (c .before .contains .ensures ∙ one-used u Operator.return) prefix (c .when .result) (c .when .ensures))
+    (c .before .contains .result) (c .before .contains .ensures ∙ one-used u Operator.return) returnPass (c .when .result) (c .when .ensures))
 
 returns-5 : tie.Need-returns-5
 returns-5 c = no-place (usedBy (c .before .args .used)) last (c .before .args .k) (omega (arith, c .match .rest))

@@ -6,8 +6,8 @@ use mir.Facts.{toZ-ofZ}
 use mathlib.Core.Path.{_≡_, sym, ap, _∙_}
 use native.Mathlib.Omega.{arith}
 use Rattle.molang.specs.Parse.{Call}
-use Rattle.checks.specs.declared.Accepted.the-variants.{Tokens}
-use Rattle.checks.proofs.AcceptLaws.{Readable, checked, reads-call}
+use Rattle.accept.specs.declared.Accepted.the-variants.{Tokens}
+use Rattle.accept.proofs.AcceptLaws.{Readable, checked, reads-call}
 use Rattle.parse.specs.Answers.{call}
 use Rattle.parse.specs.Fills.{CanRead}
 use Rattle.parse.proofs.EntryLaws.{refused-meets, read-meets, call-reads, part-long}

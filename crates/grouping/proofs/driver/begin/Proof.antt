@@ -1,9 +1,9 @@
 -- `begin`: the pass begins as StartLaws says, arm by arm.
 use mathlib.Core.Path.{refl, ap}
 use Rattle.nodes.specs.declared.frames.List.{List as Items}
-use Rattle.walks.specs.Passes.{walkOf}
-use Rattle.walks.specs.declared.turns.Pass.the-variants.{Unary}
-use Rattle.grouping.proofs.StartLaws.{opens-call, opens-math, opens-plain, opens-split, opens-array, opens-moved, opens-level, opens-ternary, opens-return, started-classes, begun, begun-same, begin-can-start}
+use Rattle.levels.specs.Passes.{walkOf}
+use Rattle.levels.specs.declared.turns.Pass.the-variants.{Unary}
+use Rattle.grouping.proofs.StartLaws.{opens-call, opens-math, opens-plain, opens-split, opens-array, opens-moved, opens-level, opens-conditional, opens-return, started-classes, begun, begun-same, begin-can-start}
 use borrow.Author.Needs.{needs}
 use Rattle.grouping.proofs.driver.begin.Statement.{statement}
 use Rattle.grouping.proofs.driver.begin.Tie as tie
@@ -77,7 +77,7 @@ returns-7 : tie.Need-returns-7
 returns-7 c = begun (c .before .before .before .before .args .pass) _ _ (c .before .pass2 .given .1) refl refl refl refl (λ before. opens-level before _ _ _ _ _ _)
 
 returns-8 : tie.Need-returns-8
-returns-8 c = begun (c .before .before .before .args .pass) _ _ (c .enum-told6 .given .1) refl refl refl refl (λ before. opens-ternary before _ _ _ _ _)
+returns-8 c = begun (c .before .before .before .args .pass) _ _ (c .enum-told6 .given .1) refl refl refl refl (λ before. opens-conditional before _ _ _ _ _)
 
 returns-9 : tie.Need-returns-9
 returns-9 c = begun-same (c .before .before .before .args .pass) _ (c .enum-told7 .given .1) (λ before. opens-return before _ _ _ _)

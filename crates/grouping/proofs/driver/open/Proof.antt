@@ -7,7 +7,7 @@ use lib.ListN.{length}
 use Rattle.nodes.specs.Store.{wd}
 use Rattle.nodes.specs.Children.{CanTake}
 use Rattle.nodes.specs.Children as children
-use Rattle.walks.specs.declared.turns.Pass.{Pass}
+use Rattle.levels.specs.declared.turns.Pass.{Pass}
 use Rattle.grouping.specs.Driver.{CanOpen, CanBegin}
 use Rattle.grouping.proofs.StartLaws.{open-can-take}
 use borrow.Author.Needs.{needs}

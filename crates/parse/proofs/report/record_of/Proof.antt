@@ -1,7 +1,7 @@
 -- `parse::report::record_of` meets its contract: each arm is the case of `recordFor` that its variant has. Assumes nothing.
 use mathlib.Core.Path.{_≡_}
 use borrow.Author.Needs.{needs}
-use Rattle.walks.specs.declared.failure.Failure.{Failure}
+use Rattle.levels.specs.declared.failure.Failure.{Failure}
 use Rattle.parse.specs.Records.{Named}
 use Rattle.parse.proofs.RecordLaws.{named-at}
 use Rattle.parse.proofs.report.record_of.Statement.{statement}

@@ -1,9 +1,9 @@
--- `first_leaf`: its loop goes down or on, and has turns enough (SearchLaws).
+-- `first_leaf`: its loop goes down or on, and has turns enough (BinarySearch).
 use native.Mathlib.Omega.{arith}
 use mathlib.Core.Path.{refl}
 use borrow.Author.Needs.{needs}
 use Rattle.passes.proofs.CallLaws.{shares-as}
-use Rattle.passes.proofs.SearchLaws.{Searching, search-start, search-in, search-down, search-next, search-done, search-left}
+use Rattle.passes.proofs.BinarySearch.{Searching, search-start, search-in, search-down, search-next, search-done, search-left}
 use Rattle.passes.proofs.binary.first_leaf.Statement.{statement}
 use Rattle.passes.proofs.binary.first_leaf.Tie as tie
 

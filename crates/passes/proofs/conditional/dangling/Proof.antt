@@ -4,8 +4,8 @@ use Prim.Native.Nat.{_+_, _*_, _-_, _^_, _≤_, _<_}
 use native.Mathlib.Omega.{arith}
 use lib.ListN.{length}
 use Rattle.nodes.specs.Store.{wd}
-use Rattle.passes.specs.Folding.{CanDangle}
-use Rattle.passes.proofs.DanglingLaws.{Dangling, dangle-start, dangle-in, dangle-next, dangles-if, dangles-else, dangles-none}
+use Rattle.passes.specs.Conditional.{CanDangle}
+use Rattle.passes.proofs.ConditionalDangling.{Dangling, dangle-start, dangle-in, dangle-next, dangles-if, dangles-else, dangles-none}
 use Rattle.passes.proofs.conditional.dangling.Statement.{statement}
 use Rattle.passes.proofs.conditional.dangling.Tie as tie
 

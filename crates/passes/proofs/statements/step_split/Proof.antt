@@ -1,5 +1,5 @@
-use Rattle.passes.proofs.SemicolonLaws.{can-end, turned-split-semicolon}
-use Rattle.passes.proofs.SplitLaws.{split-view, split-seek, turned-split-over, turned-split-inner, split-room}
+use Rattle.passes.proofs.StatementSemicolon.{can-end, turned-split-semicolon}
+use Rattle.passes.proofs.StatementSplit.{split-view, split-seek, turned-split-over, turned-split-inner, split-room}
 use borrow.Author.Needs.{needs}
 use Rattle.passes.proofs.statements.step_split.Statement.{statement}
 use Rattle.passes.proofs.statements.step_split.Tie as tie

@@ -4,8 +4,8 @@ use Prim.Native.Nat.{_+_, _*_, _-_, _^_, _≤_, _<_}
 use native.Mathlib.Omega.{arith}
 use lib.ListN.{length}
 use Rattle.nodes.specs.Store.{wd}
-use Rattle.passes.specs.UnaryTurns.{CanSeekBack}
-use Rattle.passes.proofs.RightLaws.{SeekingBack, unary-test, seek-back-start, seek-back-in, seek-back-turn, sought-back-leaf, sought-back-tree, sought-back-none}
+use Rattle.passes.specs.Unary.{CanSeekBack}
+use Rattle.passes.proofs.UnaryRight.{SeekingBack, unary-test, seek-back-start, seek-back-in, seek-back-turn, sought-back-leaf, sought-back-tree, sought-back-none}
 use Rattle.passes.proofs.unary.previous_token.Statement.{statement}
 use Rattle.passes.proofs.unary.previous_token.Tie as tie
 

@@ -1,0 +1,112 @@
+-- The pass states of the code and the passes of the definition: which state is of which pass, what a frame keeps of a state, and the tokens that a
+-- pass works on.
+use Prim.Native.Nat.{ℕ, _≤_}
+use mathlib.Core.Path.{_≡_}
+use mathlib.Core.Bool.{Bool, true, false}
+use mathlib.Core.List.{List}
+use lib.Dec.{eqb}
+use Rattle.molang.specs.Operator.{isOneOf}
+use Rattle.molang.specs.Calls.{queryOrLoop, math, unindexed, named, indexed, calls as isCall}
+use Rattle.molang.proofs.Arrays.{isArrayName}
+use Rattle.molang.proofs.Statements.{isSemicolon}
+use Rattle.molang.proofs.Unary.{isPrefix}
+use Rattle.molang.proofs.Conditional.{isConditional}
+use Rattle.molang.proofs.Return.{isReturn}
+use Rattle.molang.proofs.Work.{Kind, calls, statements, arrays, unaries, conditional, returns, binary, State}
+use Rattle.ops.specs.Classes.{meets}
+use Rattle.ops.specs.declared.classes.TokenClasses.{TokenClasses}
+use Rattle.nodes.specs.declared.frames.List.{List as Items}
+use Rattle.nodes.specs.declared.frames.Held.{Held}
+use Rattle.levels.specs.declared.turns.Pass.{Pass}
+use Rattle.levels.specs.declared.turns.Pass.the-variants.{Calls, MathCalls, Unsplit, Split, Arrays, Unary, Binary, Conditional, Returns}
+use Rattle.levels.specs.declared.turns.Walk.{Walk}
+
+-- A pass on a list.
+abbrev pub walkOf : Items → Pass → Walk
+walkOf list pass = record { list = list; pass = pass }
+
+-- The list read and written up to these items.
+abbrev pub movedTo : Items → ℕ → ℕ → Items
+movedTo list read write = record { owner = list .owner; base = list .base; len = list .len; read = read; write = write }
+
+-- The classes whose leaves the pass works on.
+abbrev pub classesOf : Pass → ℕ
+classesOf Calls = 0x1
+classesOf MathCalls = 0x20_0000
+classesOf Unsplit = 0x2
+classesOf (Split done) = 0x2
+classesOf (Arrays array lent) = 0x4
+classesOf Unary = 0x10
+classesOf (Binary classes pending) = classes .0
+classesOf (Conditional tokens) = 0x1_0000
+classesOf Returns = 0x10_0000
+
+-- Two words of a frame.
+abbrev pub heldWords : ℕ → ℕ → Held
+heldWords first second = record { first = first; second = second }
+
+-- What a frame keeps of each pass's state.
+abbrev pub heldOf : Pass → Held
+heldOf Calls = heldWords 0 0
+heldOf MathCalls = heldWords 0 0
+heldOf Unsplit = heldWords 0 0
+heldOf (Split done) = heldWords 1 done
+heldOf (Arrays array lent) = heldWords array 0
+heldOf Unary = heldWords 0 0
+heldOf (Binary classes pending) = heldWords pending 0
+heldOf (Conditional tokens) = heldWords tokens 0
+heldOf Returns = heldWords 0 0
+
+-- The statement pass by a frame's words.
+unfoldable pub splitOr : ℕ → ℕ → Pass
+splitOr split done = elim (eqb split 0) [ true ↦ Unsplit | false ↦ Split done ]
+
+-- A state of the same pass, with what a frame's words say.
+unfoldable pub resumedWith : Pass → Held → Pass
+resumedWith Calls held = Calls
+resumedWith MathCalls held = MathCalls
+resumedWith Unsplit held = splitOr (held .first) (held .second)
+resumedWith (Split done) held = splitOr (held .first) (held .second)
+resumedWith (Arrays array lent) held = Arrays (held .first) 0
+resumedWith Unary held = Unary
+resumedWith (Binary classes pending) held = Binary classes (held .first)
+resumedWith (Conditional tokens) held = Conditional (held .first)
+resumedWith Returns held = Returns
+
+-- The operators of the tokens that a pass works on.
+unfoldable pub operators : Kind → ℕ → Bool
+operators (calls kind) = isCall kind
+operators statements = isSemicolon
+operators arrays = isArrayName
+operators unaries = isPrefix
+operators conditional = isConditional
+operators returns = isReturn
+operators (binary ops) = isOneOf ops
+
+-- The classes c are those of the operators P.
+abbrev pub Exact : ℕ → (ℕ → Bool) → Type 0
+Exact c P = (n : ℕ) → n ≤ 110 → meets c n ≡ P n
+
+-- The state is one of the pass.
+pub data Runs : Kind → Pass → Type 0 where
+  call : Runs (calls queryOrLoop) Calls
+  mathCall : Runs (calls math) MathCalls
+  unsplitPass : Runs statements Unsplit
+  split : {done : ℕ} → Runs statements (Split done)
+  array : {array lent : ℕ} → Runs arrays (Arrays array lent)
+  unary : Runs unaries Unary
+  level : {ops : List ℕ} {classes : TokenClasses} {pending : ℕ} → Exact (classes .0) (isOneOf ops) → Runs (binary ops) (Binary classes pending)
+  conditionalPass : {tokens : ℕ} → Runs conditional (Conditional tokens)
+  returnPass : Runs returns Returns
+
+-- Whether an array waits for a further index: 1, else 0.
+unfoldable pub waits : (κ : Kind) → State κ → ℕ
+waits (calls kind) s = 0
+waits statements s = 0
+waits arrays (unindexed d) = 0
+waits arrays (named d q) = 1
+waits arrays (indexed d q contents) = 1
+waits unaries s = 0
+waits conditional s = 0
+waits returns s = 0
+waits (binary ops) s = 0
