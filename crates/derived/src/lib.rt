@@ -1,5 +1,5 @@
 // What a caller of the entry has to bring along: the exact used set of a list of token words, the highest span end among them, and a
-// version. A word that the entry would turn back counts for neither of the first two. Leans on words and ops; specs/Exact says which words count.
+// version. A word that the entry would turn back counts for neither of the first two. Leans on words and ops; specs/Derived says which words count.
 use ops::sets::OpSet;
 use words::checks::Word;
 use words::checks::operator_word;
