@@ -13,7 +13,7 @@ use lib.Seq.{drop-cons, drop-length}
 use borrow.Author.Tests.{eqb-true, leb-true, ltb-true}
 use types.Run.{OneOf}
 use denote.Enum.Declared.{tagOf}
-use Rattle.molang.specs.Words.{Refusal, operatorSlot, wordFault, lowFault, variantAfter, wordsRefusal}
+use Rattle.molang.specs.Words.{Refusal, operatorField, wordFault, lowFault, variantAfter, wordsRefusal}
 use Rattle.molang.specs.Parse.{Call, mostTokens, must, firstOf, refusal}
 use Rattle.ops.specs.declared.sets.OpSet.{OpSet}
 use Rattle.words.specs.Fields.{variantOf}
@@ -41,11 +41,11 @@ behind (some r) rows others e = refl
 -- The table in three parts: by the list's length, by what is lent, by the words.
 pub table : (list : List ℕ) (sizes : Sizes) (used : OpSet)
     → refusal (callOf list sizes used)
-    ≡ firstOf (lengthRefusal (length list) ∷ lentRefusal (length list / 5) sizes used ∷ wordsRefusal 0 operatorSlot 0 list ∷ [])
+    ≡ firstOf (lengthRefusal (length list) ∷ lentRefusal (length list / 5) sizes used ∷ wordsRefusal 0 operatorField 0 list ∷ [])
 unfolding refusal lengthRefusal lentRefusal
 table list sizes used =
     let n = length list / 5 in
-    let words = wordsRefusal 0 operatorSlot 0 list in
+    let words = wordsRefusal 0 operatorField 0 list in
     let lent =
     must (leb (18 * n) (sizes .tree)) 3
     ∷ must (leb 16 (sizes .messages)) 4
@@ -119,7 +119,7 @@ module _ (list : List ℕ) (sizes : Sizes) (used : OpSet) where
         let count = told .0 in
         (omega (arith, eqb-true (length list % 5) 0 (one .0)), omega (arith, leb-true (length list / 5) mostTokens (two .0)))
 
-    left : answerFor n (firstOf (lentRefusal n sizes used ∷ wordsRefusal 0 operatorSlot 0 list ∷ []))
+    left : answerFor n (firstOf (lentRefusal n sizes used ∷ wordsRefusal 0 operatorField 0 list ∷ []))
         ≡ answerFor (length list / 5) (refusal (callOf list sizes used))
     unfolding firstOf
     left =
@@ -130,22 +130,22 @@ module _ (list : List ℕ) (sizes : Sizes) (used : OpSet) where
     by-lent x h e = refused-first x n (lentRefusal n sizes used) _ h e ∙ left
 
     pub by-words : (m : ℕ) → Tokens m ≡ answerFor n (lentRefusal n sizes used)
-        → (x : Accepted) → x ≡ answerFor n (wordsRefusal 0 operatorSlot 0 list) → Answers x
+        → (x : Accepted) → x ≡ answerFor n (wordsRefusal 0 operatorField 0 list) → Answers x
     unfolding firstOf
     by-words m lent x e =
-        e ∙ (ap (answerFor n) (sym (last-row (wordsRefusal 0 operatorSlot 0 list))) ∙ (rw (accepted m n (lentRefusal n sizes used) lent .1) at left))
+        e ∙ (ap (answerFor n) (sym (last-row (wordsRefusal 0 operatorField 0 list))) ∙ (rw (accepted m n (lentRefusal n sizes used) lent .1) at left))
 
 -- ---- The words, token by token
 
 -- The payload variant before a token's first word does not matter.
-any-variant : (i v : ℕ) (ws : List ℕ) → wordsRefusal i operatorSlot v ws ≡ wordsRefusal i operatorSlot 0 ws
+any-variant : (i v : ℕ) (ws : List ℕ) → wordsRefusal i operatorField v ws ≡ wordsRefusal i operatorField 0 ws
 unfolding wordsRefusal wordFault lowFault variantAfter
 any-variant i v [] = refl
 any-variant i v (w ∷ ws) = refl
 
 -- The check of the words from `at` on, where a token starts.
 abbrev pub checkFrom : List ℕ → ℕ → Option Refusal
-checkFrom list at = wordsRefusal at operatorSlot 0 (drop at list)
+checkFrom list at = wordsRefusal at operatorField 0 (drop at list)
 
 -- The first i of n tokens are without fault.
 pub record PassedTo (list : List ℕ) (n i : ℕ) : Type 0 where
@@ -172,17 +172,17 @@ module _ (list : List ℕ) where
         ∙ ap (λ (l : List ℕ). getD list (at + 3) 0 ∷ l) (next (at + 4) (at + 5) (omega arith) (omega arith)))))
 
     -- A token without fault hands the check on, and any other ends it.
-    pub token-good : none ≡ wordsRefusal at operatorSlot 0 (tokenAt list at) → checkFrom list at ≡ checkFrom list (at + 5)
+    pub token-good : none ≡ wordsRefusal at operatorField 0 (tokenAt list at) → checkFrom list at ≡ checkFrom list (at + 5)
     token-good good =
-        ap (wordsRefusal at operatorSlot 0) opens
+        ap (wordsRefusal at operatorField 0) opens
         ∙ (token-passed at 0 (getD list at 0) (getD list (at + 1) 0) (getD list (at + 2) 0) (getD list (at + 3) 0) (getD list (at + 4) 0)
         (drop (at + 5) list)
         (good-token at (getD list at 0) (getD list (at + 1) 0) (getD list (at + 2) 0) (getD list (at + 3) 0) (getD list (at + 4) 0) (sym good))
         ∙ any-variant (at + 5) (variantOf (getD list at 0)) (drop (at + 5) list))
 
-    pub token-bad : (r : Refusal) → some r ≡ wordsRefusal at operatorSlot 0 (tokenAt list at) → checkFrom list at ≡ some r
+    pub token-bad : (r : Refusal) → some r ≡ wordsRefusal at operatorField 0 (tokenAt list at) → checkFrom list at ≡ some r
     token-bad r bad =
-        ap (wordsRefusal at operatorSlot 0) opens
+        ap (wordsRefusal at operatorField 0) opens
         ∙ token-refused at 0 (getD list at 0) (getD list (at + 1) 0) (getD list (at + 2) 0) (getD list (at + 3) 0) (getD list (at + 4) 0)
         (drop (at + 5) list) r (sym bad)
 
@@ -201,7 +201,7 @@ pub record Readable (c : Call) (n : ℕ) : Type 0 where
   pub work : 64 * n + 64 ≤ length (c .work)
   pub used : c .usedHigh * 2 ^ 64 + c .usedLow < 2 ^ 111
   pub source : c .sourceLength ≤ 536870911
-  pub good : wordsRefusal 0 operatorSlot 0 (c .list) ≡ none
+  pub good : wordsRefusal 0 operatorField 0 (c .list) ≡ none
 
 pub readable : (c : Call) → refusal c ≡ none → Readable c (length (c .list) / 5)
 unfolding refusal
@@ -223,7 +223,7 @@ readable c e =
       work = leb-true (64 * n + 64) (length (c .work)) (five .0);
       used = ltb-true (c .usedHigh * 2 ^ 64 + c .usedLow) (2 ^ 111) (six .0);
       source = leb-true (c .sourceLength) 536870911 (seven .0);
-      good = sym (last-row (wordsRefusal 0 operatorSlot 0 (c .list))) ∙ seven .1;
+      good = sym (last-row (wordsRefusal 0 operatorField 0 (c .list))) ∙ seven .1;
     }
 
 -- What the answer of the checks says of the call: it is read, or this is its refusal.

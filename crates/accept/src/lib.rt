@@ -9,7 +9,7 @@ ghost use mathlib.Core.Path.{_≡_};
 ghost use Prim.Native.Nat.{_*_, _/_, _≤_};
 ghost use lib.ListN.{length};
 ghost use Rattle.molang.specs.Parse.{refusal};
-ghost use Rattle.molang.specs.Words.{operatorSlot, wordsRefusal};
+ghost use Rattle.molang.specs.Words.{operatorField, wordsRefusal};
 ghost use Rattle.accept.specs.Accepting.{answerFor, callOf, lengthRefusal, lentRefusal};
 
 // Words of the tree buffer per token, and of the work buffer per token and once more.
@@ -74,7 +74,7 @@ fn buffers(n: usize, sizes: Sizes, used: OpSet) -> Accepted
 // Answers 8 to 11: the words of n tokens, in list order.
 fn token_words(list: &[u32], n: usize) -> Accepted
     requires { ⌜ length (now list) ≡ 5 * n ⌝ }
-    ensures { λ r. ⌜ r ≡ answerFor n (wordsRefusal 0 operatorSlot 0 (now (list .entry))) ⌝ }
+    ensures { λ r. ⌜ r ≡ answerFor n (wordsRefusal 0 operatorField 0 (now (list .entry))) ⌝ }
 {
     let mut i = 0usize;
     while i < n {

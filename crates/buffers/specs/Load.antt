@@ -6,7 +6,7 @@ use mathlib.Core.List.{List, [], _∷_}
 use mathlib.Core.Option.{none}
 use lib.ListN.{length}
 use Rattle.molang.specs.Forest.{leaves}
-use Rattle.molang.specs.Words.{tokensOf, operatorSlot, wordsRefusal}
+use Rattle.molang.specs.Words.{tokensOf, operatorField, wordsRefusal}
 use Rattle.molang.specs.Parse.{mostTokens}
 use Rattle.words.specs.Fields.{operatorOf}
 use Rattle.ops.specs.Classes.{bitAt, inClass, classTable}
@@ -44,7 +44,7 @@ pub record TokenLoaded (list W : List ℕ) (i stack : ℕ) (W' : List ℕ) : Typ
 
 -- The list is one that the entry does not turn back, of n tokens, and the work buffer is as long as the entry asks.
 pub record CanLoad (list W : List ℕ) (n : ℕ) : Type 0 where
-  pub faultless : wordsRefusal 0 operatorSlot 0 list ≡ none
+  pub faultless : wordsRefusal 0 operatorField 0 list ≡ none
   pub tokens : length list ≡ 5 * n
   pub few : n ≤ mostTokens
   pub room : 64 * n + 64 ≤ length W

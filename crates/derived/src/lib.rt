@@ -10,7 +10,7 @@ ghost use mathlib.Core.Bool.{_||_};
 ghost use Prim.Native.Nat.{ℕ, _≤_, _<_, _^_};
 ghost use lib.Dec.{eqb};
 ghost use Rattle.molang.specs.Parse.{inHalves};
-ghost use Rattle.molang.specs.Words.{operatorSlot, endSlot};
+ghost use Rattle.molang.specs.Words.{operatorField, endField};
 ghost use Rattle.molang.specs.Lines.{versionOf};
 ghost use Rattle.derived.specs.Derived.{names, named, endAfter, highest};
 
@@ -33,7 +33,7 @@ fn with(used: OpSet, op: u32) -> OpSet
 
 // The set with the operator of a token's first word in it, if that word is legal.
 fn with_word(used: OpSet, w: u32) -> OpSet
-    ensures { λ r. ⌜ ((n : ℕ) → inHalves (r .low) (r .high) n ≡ (inHalves (used .low) (used .high) n || names operatorSlot w n)) ⌝ }
+    ensures { λ r. ⌜ ((n : ℕ) → inHalves (r .low) (r .high) n ≡ (inHalves (used .low) (used .high) n || names operatorField w n)) ⌝ }
 {
     let word = operator_word(w);
     let Word::Good = word else {
@@ -44,7 +44,7 @@ fn with_word(used: OpSet, w: u32) -> OpSet
 
 // The higher of an end and that of a token's third word, if that word is legal.
 fn higher(end: u32, w: u32) -> u32
-    ensures { λ r. ⌜ r ≡ endAfter endSlot end w ⌝ }
+    ensures { λ r. ⌜ r ≡ endAfter endField end w ⌝ }
 {
     let word = span_word(w, fields::END);
     let Word::Good = word else {
@@ -59,7 +59,7 @@ fn higher(end: u32, w: u32) -> u32
 
 // The operators of the list's tokens.
 pub fn used_of(list: &[u32]) -> OpSet
-    ensures { λ r. ⌜ ((n : ℕ) → inHalves (r .low) (r .high) n ≡ named operatorSlot (now (list .entry)) n) ⌝ }
+    ensures { λ r. ⌜ ((n : ℕ) → inHalves (r .low) (r .high) n ≡ named operatorField (now (list .entry)) n) ⌝ }
 {
     let mut used = OpSet { low: 0, high: 0 };
     let mut i = 0usize;
@@ -72,7 +72,7 @@ pub fn used_of(list: &[u32]) -> OpSet
 
 // The highest end of the list's tokens, 0 where there is none.
 pub fn highest_end(list: &[u32]) -> u32
-    ensures { λ r. ⌜ r ≡ highest operatorSlot 0 (now (list .entry)) ⌝ }
+    ensures { λ r. ⌜ r ≡ highest operatorField 0 (now (list .entry)) ⌝ }
 {
     let mut end = 0u32;
     let mut i = 2usize;

@@ -9,7 +9,7 @@ use lib.ListN.{length, getD, take, drop, replicate, length-replicate}
 use borrow.Author.Tests.{le-leb}
 use types.Run.{OneOf}
 use denote.Enum.Declared.{tagOf}
-use Rattle.molang.specs.Words.{operatorSlot, listWords}
+use Rattle.molang.specs.Words.{operatorField, listWords}
 use Rattle.molang.specs.Parse.{Call, Told, inHalves, answered, treeAfter, messagesAfter, inFront}
 use Rattle.molang.specs.WriteEntry.{WriteCall, WriteTold, writeAnswered, listAfter}
 use Rattle.molang.specs.Lines.{Marked, parsed, wrote, parse, write, anyMark, writeMark, zerosMark, repeatedMark, atMark, itemsOf, marksOf, tokensFrom, nodeWords, callFor, listCall, treeCall, versionOf, zerosCall, repeatedCall, askedOf, parsedBy, wroteBy, wantedOf, writeWantedOf, comparedCalls, compared, givens, wanteds}
@@ -76,11 +76,11 @@ zeros-long : (l : List ℕ) (n k : ℕ) → l ≡ replicate n 0 → k ≡ length
 zeros-long l n k e h = ap (λ (i : ℕ). replicate i 0) (sym (h ∙ ap length e ∙ length-replicate n 0))
 
 module _ (answers list tree messages work : List ℕ) (n : ℕ) (version : ℤ) (low high : ℕ) (room : JustRoom n tree messages work) (fits : low < 2 ^ 64)
-    (bits : (m : ℕ) → inHalves low high m ≡ named operatorSlot list m) where
+    (bits : (m : ℕ) → inHalves low high m ≡ named operatorField list m) where
   made : call list tree messages work n version low high ≡ ownCall n list version
   unfolding ownCall callFor
   made =
-      let halves = exact-halves low high (named operatorSlot list) fits (named-few operatorSlot list) bits in
+      let halves = exact-halves low high (named operatorField list) fits (named-few operatorField list) bits in
       λ i. call list (room .tree i) (room .messages i) (room .work i) n version (halves .0 i) (halves .1 i)
 
   -- The entry's promises on the call, and what its verdict says.

@@ -9,7 +9,7 @@ use lib.IntN.{ℤ}
 use lib.ListN.{length, replicate}
 use Rattle.molang.specs.Forest.{Token}
 use Rattle.molang.specs.Read.{uses, setNumber}
-use Rattle.molang.specs.Words.{Slot, operatorSlot, startSlot, endSlot, upperSlot, lowerSlot, countSlot, Legal, listWords, nextInToken, wordFault, kindOf, lowOf, slotKind, unless}
+use Rattle.molang.specs.Words.{Field, operatorField, startField, endField, upperField, lowerField, countField, Legal, listWords, nextInToken, wordFault, kindOf, lowOf, fieldKind, unless}
 use Rattle.molang.specs.Lines.{tokensFrom, callFor, listCall}
 use Rattle.molang.proofs.Words.{LegalTokens, noTokens, token, tokens-back}
 use Rattle.molang.proofs.UsedSet.{no-operators, one-operator}
@@ -20,7 +20,7 @@ use Rattle.lines.specs.Items.{bareToken}
 use Rattle.lines.specs.Asked.{ownCall, Operators, repeatedWords}
 
 -- The exact used set of legal tokens' words is the tokens'.
-used-legal : {ks : List Token} → LegalTokens ks → named operatorSlot (listWords ks) ≡ uses ks
+used-legal : {ks : List Token} → LegalTokens ks → named operatorField (listWords ks) ≡ uses ks
 used-legal {ks} legal =
     let own = legal-list 0 0 0 (listWords ks) (list-unrefused legal 0 0) (omega (arith, listWords-length ks)) .operators in
     fun-ext own ∙ ap uses (tokens-back ks legal)
@@ -44,16 +44,16 @@ list-called os version h every =
     (used-legal (from-legal 0 os (omega arith) every))
 
 -- Words 0: none is the first word of a token.
-zero-names : (slot : Slot) (m : ℕ) → names slot 0 m ≡ false
-unfolding names wordFault kindOf lowOf slotKind unless
-zero-names operatorSlot m = refl
-zero-names startSlot m = refl
-zero-names endSlot m = refl
-zero-names upperSlot m = refl
-zero-names lowerSlot m = refl
-zero-names countSlot m = refl
+zero-names : (slot : Field) (m : ℕ) → names slot 0 m ≡ false
+unfolding names wordFault kindOf lowOf fieldKind unless
+zero-names operatorField m = refl
+zero-names startField m = refl
+zero-names endField m = refl
+zero-names upperField m = refl
+zero-names lowerField m = refl
+zero-names countField m = refl
 
-zero-named : (n : ℕ) (slot : Slot) (m : ℕ) → named slot (replicate n 0) m ≡ false
+zero-named : (n : ℕ) (slot : Field) (m : ℕ) → named slot (replicate n 0) m ≡ false
 unfolding named
 zero-named zero slot m = refl
 zero-named (suc n) slot m = rw (zero-names slot m, zero-named n (nextInToken slot) m) refl
@@ -62,7 +62,7 @@ pub zeros-called : (n words : ℕ) (version : ℤ) → ownCall n (replicate word
 unfolding ownCall
 zeros-called n words version =
     ap (λ (u : ℕ). callFor n (replicate words 0) u version)
-    (ap (λ (f : ℕ → Bool). setNumber f 111) (fun-ext (zero-named words operatorSlot)) ∙ no-operators 111)
+    (ap (λ (f : ℕ → Bool). setNumber f 111) (fun-ext (zero-named words operatorField)) ∙ no-operators 111)
 
 repeated-legal : (n o : ℕ) → o ≤ 110 → LegalTokens (replicate n (bareToken o 0 0))
 repeated-legal zero o h = noTokens

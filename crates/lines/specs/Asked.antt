@@ -6,7 +6,7 @@ use mathlib.Core.List.{List, [], _∷_}
 use lib.IntN.{ℤ, pos}
 use lib.ListN.{length, getD, replicate}
 use Rattle.molang.specs.Read.{setNumber}
-use Rattle.molang.specs.Words.{operatorSlot, listWords}
+use Rattle.molang.specs.Words.{operatorField, listWords}
 use Rattle.molang.specs.Parse.{Call}
 use Rattle.molang.specs.WriteEntry.{WriteCall}
 use Rattle.molang.specs.Lines.{Asked, parse, marksOf, callFor, listCall, parsedBy, wroteBy, wantedOf, writeWantedOf}
@@ -16,7 +16,7 @@ use Rattle.lines.specs.Compared.{zeros}
 
 -- A call for n tokens on these words, under the exact used set of the words themselves, legal or not.
 unfoldable pub ownCall : ℕ → List ℕ → ℤ → Call
-ownCall n list version = callFor n list (setNumber (named operatorSlot list) 111) version
+ownCall n list version = callFor n list (setNumber (named operatorField list) 111) version
 
 -- The definition answers a reading as the line says.
 unfoldable pub CallAsSaid : List ℕ → Call → Type 0

@@ -9,7 +9,7 @@ use native.Mathlib.Omega.{arith}
 use lib.ListN.{length}
 use borrow.Author.Tests.{eqb-true, leb-true, eq-eqb, le-leb, lt-ltb}
 use Rattle.molang.specs.Forest.{Token}
-use Rattle.molang.specs.Words.{Refusal, operatorSlot, wordsRefusal, tokensOf, listWords}
+use Rattle.molang.specs.Words.{Refusal, operatorField, wordsRefusal, tokensOf, listWords}
 use Rattle.molang.specs.Parse.{Call, mostTokens, must, firstOf, refusal}
 use Rattle.molang.proofs.Trees.{some-none}
 use Rattle.molang.proofs.Words.{LegalTokens, words-back}
@@ -86,7 +86,7 @@ pub call-acceptable : (d : Call) (ks : List Token) → Acceptable d ks → refus
 unfolding refusal
 call-acceptable d ks a =
     let long : length (d .list) ≡ 5 * length ks = ap length (a .list) ∙ listWords-length ks in
-    let words : wordsRefusal 0 operatorSlot 0 (d .list) ≡ none = rw (a .list) (list-unrefused (a .legal) 0 0) in
+    let words : wordsRefusal 0 operatorField 0 (d .list) ≡ none = rw (a .list) (list-unrefused (a .legal) 0 0) in
     let whole : length (d .list) % 5 ≡ 0 = omega arith in
     let fits : length (d .list) / 5 ≤ mostTokens = omega arith in
     let treeRoom : 18 * (length (d .list) / 5) ≤ length (d .tree) = omega arith in

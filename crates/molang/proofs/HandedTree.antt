@@ -12,7 +12,7 @@ use lib.Seq.{take-append-seam}
 use borrow.Author.Tests.{leb-true, leb-false, le-leb, lt-leb}
 use Rattle.molang.specs.Forest.{Token, Forest, nil, node, size}
 use Rattle.molang.specs.Read.{Answer, tree, messages}
-use Rattle.molang.specs.Words.{Refusal, operatorSlot, listWords, treeWords}
+use Rattle.molang.specs.Words.{Refusal, operatorField, listWords, treeWords}
 use Rattle.molang.specs.Parse.{Call, mostTokens, must, refusal, reading, aTree, told, answered, inFront, treeIn, treeAfter}
 use Rattle.molang.specs.Reread.{bracketless}
 use Rattle.molang.specs.Plain.{unplainAt}
@@ -67,7 +67,7 @@ module _ {c : Call} {k : Token} {cs : Forest} (p : Parsed c k cs) where
   unfolding reading
   tree-back = let a = call-accepted c (p .accepted) in read-back _ _ _ _ k cs (a .legal) (a .few) (p .reads)
 
-  tree-unfaulted : treeFault 0 operatorSlot 0 (record { called = 1; begun = 0 }) (treeWords (node k cs nil)) ≡ none
+  tree-unfaulted : treeFault 0 operatorField 0 (record { called = 1; begun = 0 }) (treeWords (node k cs nil)) ≡ none
   unfolding reading
   tree-unfaulted = let a = call-accepted c (p .accepted) in read-unfaulted _ _ _ _ k cs (a .legal) (a .few) (p .reads)
 

@@ -9,7 +9,7 @@ use native.Mathlib.Omega.{arith}
 use lib.ListN.{length, take, length-replicate}
 use Rattle.molang.specs.Forest.{Token, Forest, nil, node, size}
 use Rattle.molang.specs.Read.{uses}
-use Rattle.molang.specs.Words.{Refusal, operatorSlot, wordsRefusal, tokensOf, listWords}
+use Rattle.molang.specs.Words.{Refusal, operatorField, wordsRefusal, tokensOf, listWords}
 use Rattle.molang.specs.Parse.{Call, refusal, reading, Told, aTree, someMessages, refused, told, answered, treeAfter, messagesIn, messagesAfter, workIn, workAfter}
 use Rattle.molang.specs.Write.{written}
 use Rattle.molang.specs.WriteEntry.{WriteCall, WriteTold, tokens, unwritten, writeAnswered, listAfter}
@@ -81,7 +81,7 @@ module _ {ws : List ℕ} {count : ℕ} (l : Listed ws count) where
   pub listed-long : length ws ≡ 5 * count
   listed-long = ap length (l .is) ∙ (listWords-length (l .ks) ∙ ap (λ (n : ℕ). 5 * n) (sym (l .counted)))
 
-  pub listed-unrefused : wordsRefusal 0 operatorSlot 0 ws ≡ none
+  pub listed-unrefused : wordsRefusal 0 operatorField 0 ws ≡ none
   listed-unrefused = rw (l .is) (list-unrefused (l .legal) 0 0)
 
 -- Whatever the writer gets and writes of a tree that was read.

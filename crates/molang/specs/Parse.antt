@@ -10,7 +10,7 @@ use lib.ListN.{length, drop, replicate}
 use Rattle.molang.specs.Forest.{nil, node, size}
 use Rattle.molang.specs.Message.{Message, messageRecord}
 use Rattle.molang.specs.Read.{Answer, tree, messages, read}
-use Rattle.molang.specs.Words.{Refusal, operatorSlot, wordsRefusal, tokensOf, treeWords}
+use Rattle.molang.specs.Words.{Refusal, operatorField, wordsRefusal, tokensOf, treeWords}
 
 -- What a call is given.
 pub record Call : Type 0 where
@@ -54,7 +54,7 @@ refusal c =
     ∷ must (leb (64 * tokens + 64) (length (c .work))) 5
     ∷ must (ltb (c .usedHigh * 2 ^ 64 + c .usedLow) (2 ^ 111)) 6
     ∷ must (leb (c .sourceLength) 536870911) 7
-    ∷ wordsRefusal 0 operatorSlot 0 (c .list)
+    ∷ wordsRefusal 0 operatorField 0 (c .list)
     ∷ [])
 
 -- The reading of a list that is not turned back.

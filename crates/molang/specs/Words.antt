@@ -64,17 +64,17 @@ treeWords nil = []
 treeWords (node k cs rest) = tokenWords k ++ (word 6 (count cs) ∷ (treeWords cs ++ treeWords rest))
 
 -- Which word of a token or node is expected next.
-pub data Slot : Type 0 where
-  operatorSlot startSlot endSlot upperSlot lowerSlot countSlot : Slot
+pub data Field : Type 0 where
+  operatorField startField endField upperField lowerField countField : Field
 
 -- The kind of the word that is expected.
-unfoldable pub slotKind : Slot → ℕ
-slotKind operatorSlot = 1
-slotKind startSlot = 2
-slotKind endSlot = 3
-slotKind upperSlot = 4
-slotKind lowerSlot = 5
-slotKind countSlot = 6
+unfoldable pub fieldKind : Field → ℕ
+fieldKind operatorField = 1
+fieldKind startField = 2
+fieldKind endField = 3
+fieldKind upperField = 4
+fieldKind lowerField = 5
+fieldKind countField = 6
 
 -- The first of the tests that fails gives the answer.
 unfoldable pub unless : Bool → ℕ → Option ℕ → Option ℕ
@@ -82,35 +82,35 @@ unless true n later = later
 unless false n later = some n
 
 -- The answer to the low bits of a word of the right kind, in a token of payload variant v: 9, 10 or 11.
-unfoldable pub lowFault : Slot → ℕ → ℕ → Option ℕ
-lowFault operatorSlot v low = unless (leb (low % 2 ^ 8) 110) 9 (unless (leb (low / 2 ^ 8 % 2 ^ 4) 12) 10 (unless (ltb low (2 ^ 12)) 11 none))
-lowFault startSlot v low = none
-lowFault endSlot v low = none
-lowFault upperSlot v low = unless (ltb low (elim (eqb v 0) [ true ↦ 1 | false ↦ 2 ^ 16 ])) 11 none
-lowFault lowerSlot v low = unless (ltb low (elim (eqb v 0) [ true ↦ 1 | false ↦ 2 ^ 16 ])) 11 none
-lowFault countSlot v low = unless (ltb low (2 ^ 14)) 11 none
+unfoldable pub lowFault : Field → ℕ → ℕ → Option ℕ
+lowFault operatorField v low = unless (leb (low % 2 ^ 8) 110) 9 (unless (leb (low / 2 ^ 8 % 2 ^ 4) 12) 10 (unless (ltb low (2 ^ 12)) 11 none))
+lowFault startField v low = none
+lowFault endField v low = none
+lowFault upperField v low = unless (ltb low (elim (eqb v 0) [ true ↦ 1 | false ↦ 2 ^ 16 ])) 11 none
+lowFault lowerField v low = unless (ltb low (elim (eqb v 0) [ true ↦ 1 | false ↦ 2 ^ 16 ])) 11 none
+lowFault countField v low = unless (ltb low (2 ^ 14)) 11 none
 
 -- The answer to a word: 8 for a wrong kind, else that to its low bits.
-unfoldable pub wordFault : Slot → ℕ → ℕ → Option ℕ
-wordFault slot v w = unless (eqb (kindOf w) (slotKind slot)) 8 (lowFault slot v (lowOf w))
+unfoldable pub wordFault : Field → ℕ → ℕ → Option ℕ
+wordFault field v w = unless (eqb (kindOf w) (fieldKind field)) 8 (lowFault field v (lowOf w))
 
 -- The payload variant of the token that a word belongs to, after the word.
-unfoldable pub variantAfter : Slot → ℕ → ℕ → ℕ
-variantAfter operatorSlot v w = lowOf w / 2 ^ 8 % 2 ^ 4
-variantAfter startSlot v w = v
-variantAfter endSlot v w = v
-variantAfter upperSlot v w = v
-variantAfter lowerSlot v w = v
-variantAfter countSlot v w = v
+unfoldable pub variantAfter : Field → ℕ → ℕ → ℕ
+variantAfter operatorField v w = lowOf w / 2 ^ 8 % 2 ^ 4
+variantAfter startField v w = v
+variantAfter endField v w = v
+variantAfter upperField v w = v
+variantAfter lowerField v w = v
+variantAfter countField v w = v
 
 -- The word after it, in a list of tokens.
-unfoldable pub nextInToken : Slot → Slot
-nextInToken operatorSlot = startSlot
-nextInToken startSlot = endSlot
-nextInToken endSlot = upperSlot
-nextInToken upperSlot = lowerSlot
-nextInToken lowerSlot = operatorSlot
-nextInToken countSlot = operatorSlot
+unfoldable pub nextInToken : Field → Field
+nextInToken operatorField = startField
+nextInToken startField = endField
+nextInToken endField = upperField
+nextInToken upperField = lowerField
+nextInToken lowerField = operatorField
+nextInToken countField = operatorField
 
 -- An answer number with its place.
 pub record Refusal : Type 0 where
@@ -118,10 +118,10 @@ pub record Refusal : Type 0 where
   pub place : ℕ
 
 -- The first word of a list that answers 8-11, i being the index of the next word.
-unfoldable pub wordsRefusal : ℕ → Slot → ℕ → List ℕ → Option Refusal
-wordsRefusal i slot v [] = none
-wordsRefusal i slot v (w ∷ ws) =
-    elim (wordFault slot v w) [
+unfoldable pub wordsRefusal : ℕ → Field → ℕ → List ℕ → Option Refusal
+wordsRefusal i field v [] = none
+wordsRefusal i field v (w ∷ ws) =
+    elim (wordFault field v w) [
       | some n ↦ some (record { number = n; place = i })
-      | none ↦ wordsRefusal (suc i) (nextInToken slot) (variantAfter slot v w) ws
+      | none ↦ wordsRefusal (suc i) (nextInToken field) (variantAfter field v w) ws
     ]

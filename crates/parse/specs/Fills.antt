@@ -6,7 +6,7 @@ use mathlib.Core.Option.{none}
 use lib.IntN.{ℤ}
 use lib.ListN.{length}
 use Rattle.molang.specs.Read as reading
-use Rattle.molang.specs.Words.{tokensOf, operatorSlot, wordsRefusal}
+use Rattle.molang.specs.Words.{tokensOf, operatorField, wordsRefusal}
 use Rattle.molang.specs.Parse.{mostTokens, told, treeIn, messagesIn}
 use Rattle.ops.specs.declared.sets.OpSet.{OpSet}
 use Rattle.order.specs.Places.{usedBy}
@@ -40,7 +40,7 @@ pub record Filled (W buffer messages : List ℕ) (n sourceLength : ℕ) (g : Gro
 
 -- A list of n tokens without fault, and buffers as the entry asks for them.
 pub record CanRead (list W buffer messages : List ℕ) (n : ℕ) : Type 0 where
-  pub faultless : wordsRefusal 0 operatorSlot 0 list ≡ none
+  pub faultless : wordsRefusal 0 operatorField 0 list ≡ none
   pub tokens : length list ≡ 5 * n
   pub few : n ≤ mostTokens
   pub words : length W ≡ 64 * n + 64

@@ -7,7 +7,7 @@ use native.Mathlib.Omega.{arith}
 use lib.IntN.{ℤ}
 use lib.ListN.{length, take, length-take}
 use Rattle.molang.specs.Read.{uses, setNumber}
-use Rattle.molang.specs.Words.{operatorSlot, tokensOf}
+use Rattle.molang.specs.Words.{operatorField, tokensOf}
 use Rattle.molang.specs.Parse.{Call, inHalves, aTree, someMessages, refused, answered, treeAfter, messagesAfter, workAfter}
 use Rattle.molang.specs.WriteEntry.{WriteCall, tokens, unwritten, writeAnswered, listAfter}
 use Rattle.molang.specs.Reread.{Handed, exactCall, secondCall, RereadTold, firstMessages, turnedBack, secondTold, wroteTold, treeBy, messagesBy, workBy, Rereading, handed, toldWriting, firstTold, rereadTold, writtenFrom, treeFrom, messagesFrom, workFrom, Agrees}
@@ -23,13 +23,13 @@ use Rattle.reread.specs.Answers.{rereadOf, handedOf}
 use Rattle.reread.specs.Promises.{CanRead, HasRead, CanWrite, HasWritten, HasReread}
 
 -- The halves of a legal list's own operators.
-module _ (list : List ℕ) (can : CanRead list) (low high : ℕ) (fits : low < 2 ^ 64) (bits : (n : ℕ) → inHalves low high n ≡ named operatorSlot list n) where
-  own-operators : (n : ℕ) → named operatorSlot list n ≡ uses (tokensOf list) n
+module _ (list : List ℕ) (can : CanRead list) (low high : ℕ) (fits : low < 2 ^ 64) (bits : (n : ℕ) → inHalves low high n ≡ named operatorField list n) where
+  own-operators : (n : ℕ) → named operatorField list n ≡ uses (tokensOf list) n
   own-operators = legal-list 0 0 0 list (can .legal) (can .whole) .operators
 
   own-halves : (low ≡ setNumber (uses (tokensOf list)) 111 % 2 ^ 64) × (high ≡ setNumber (uses (tokensOf list)) 111 / 2 ^ 64)
   own-halves =
-      exact-halves low high (uses (tokensOf list)) fits (λ n above. sym (own-operators n) ∙ named-few operatorSlot list n above)
+      exact-halves low high (uses (tokensOf list)) fits (λ n above. sym (own-operators n) ∙ named-few operatorField list n above)
       (λ n. bits n ∙ own-operators n)
 
   pub exact-call : (tree messages work : List ℕ) (sourceLength : ℕ) {passed version : ℤ} → passed ≡ version

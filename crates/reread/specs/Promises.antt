@@ -4,7 +4,7 @@ use mathlib.Core.Path.{_≡_}
 use mathlib.Core.List.{List}
 use mathlib.Core.Option.{none}
 use lib.ListN.{length, take}
-use Rattle.molang.specs.Words.{operatorSlot, wordsRefusal}
+use Rattle.molang.specs.Words.{operatorField, wordsRefusal}
 use Rattle.molang.specs.Parse.{Call, aTree, answered, treeAfter, messagesAfter, workAfter}
 use Rattle.molang.specs.WriteEntry.{writeAnswered, listAfter}
 use Rattle.molang.specs.Reread.{Handed, wroteTold, treeBy, messagesBy, workBy, Rereading, rereadTold, writtenFrom, treeFrom, messagesFrom, workFrom, Agrees}
@@ -15,7 +15,7 @@ use Rattle.reread.specs.Answers.{rereadOf}
 
 -- A list of legal tokens.
 pub record CanRead (list : List ℕ) : Type 0 where
-  pub legal : wordsRefusal 0 operatorSlot 0 list ≡ none
+  pub legal : wordsRefusal 0 operatorField 0 list ≡ none
   pub whole : length list % 5 ≡ 0
 
 -- A reading: the answer r to the call c, and its buffers.

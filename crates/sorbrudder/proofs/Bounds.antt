@@ -11,7 +11,7 @@ use lib.ListN.{length}
 use borrow.Author.Tests.{leb-true, eqb-true}
 use Rattle.molang.specs.Forest.{Token, Forest, nil, node, size}
 use Rattle.molang.specs.Read as read
-use Rattle.molang.specs.Words.{Slot, operatorSlot, startSlot, endSlot, upperSlot, lowerSlot, countSlot, lowOf, unless, lowFault, wordFault, variantAfter, nextInToken, Refusal, wordsRefusal}
+use Rattle.molang.specs.Words.{Field, operatorField, startField, endField, upperField, lowerField, countField, lowOf, unless, lowFault, wordFault, variantAfter, nextInToken, Refusal, wordsRefusal}
 use Rattle.molang.specs.Parse.{Call, mostTokens, must, firstOf, refusal, reading, told, answered}
 use Rattle.molang.specs.Plain.{plainForm, placeOf, unplain, unplainAt}
 use Rattle.molang.specs.Write.{writtenCount}
@@ -31,25 +31,25 @@ All P (some a) = P a
 -- ---- Answer 12
 
 -- The words that a node begun still lacks.
-abbrev lacks : Slot → ℕ
-lacks operatorSlot = 0
-lacks startSlot = 5
-lacks endSlot = 4
-lacks upperSlot = 3
-lacks lowerSlot = 2
-lacks countSlot = 1
+abbrev lacks : Field → ℕ
+lacks operatorField = 0
+lacks startField = 5
+lacks endField = 4
+lacks upperField = 3
+lacks lowerField = 2
+lacks countField = 1
 
 -- A word takes up the place that it was counted for.
-taken : (slot : Slot) (w i : ℕ) (s : Shape) → i + lacks slot ≤ 6 * s .begun → suc i + lacks (nextInNode slot) ≤ 6 * shapeAfter slot w s .begun
+taken : (slot : Field) (w i : ℕ) (s : Shape) → i + lacks slot ≤ 6 * s .begun → suc i + lacks (nextInNode slot) ≤ 6 * shapeAfter slot w s .begun
 unfolding nextInNode shapeAfter
-taken operatorSlot w i s h = omega arith
-taken startSlot w i s h = omega arith
-taken endSlot w i s h = omega arith
-taken upperSlot w i s h = omega arith
-taken lowerSlot w i s h = omega arith
-taken countSlot w i s h = omega arith
+taken operatorField w i s h = omega arith
+taken startField w i s h = omega arith
+taken endField w i s h = omega arith
+taken upperField w i s h = omega arith
+taken lowerField w i s h = omega arith
+taken countField w i s h = omega arith
 
-fault-place : (i : ℕ) (slot : Slot) (v : ℕ) (s : Shape) (ws : List ℕ) → s .begun ≤ s .called → s .called ≤ mostNodes
+fault-place : (i : ℕ) (slot : Field) (v : ℕ) (s : Shape) (ws : List ℕ) → s .begun ≤ s .called → s .called ≤ mostNodes
     → i + lacks slot ≤ 6 * s .begun
     → All (λ p. p ≤ 73728) (treeFault i slot v s ws)
 unfolding treeFault
@@ -118,10 +118,10 @@ forest-fits (node k cs rest) room h =
 pub written-fits : (w : WriteCall) → FitsWritten (writeAnswered w)
 unfolding writeAnswered writeRefusal refusedAt writeTold
 written-fits w =
-    split (treeFault 0 operatorSlot 0 (record { called = 1; begun = 0 }) (w .tree)) refl
-    (fault-place 0 operatorSlot 0 (record { called = 1; begun = 0 }) (w .tree) (omega arith) (omega arith) (omega arith))
+    split (treeFault 0 operatorField 0 (record { called = 1; begun = 0 }) (w .tree)) refl
+    (fault-place 0 operatorField 0 (record { called = 1; begun = 0 }) (w .tree) (omega arith) (omega arith) (omega arith))
   where
-    split : (o : Option ℕ) → treeFault 0 operatorSlot 0 (record { called = 1; begun = 0 }) (w .tree) ≡ o → All (λ p. p ≤ 73728) o
+    split : (o : Option ℕ) → treeFault 0 operatorField 0 (record { called = 1; begun = 0 }) (w .tree) ≡ o → All (λ p. p ≤ 73728) o
         → FitsWritten (writeTold (refusedAt 12 o (forestRefusal (treesOf (w .tree)) (length (w .list)))) (treesOf (w .tree)))
     split (some p) e x = (omega arith, omega arith)
     split none e x = forest-fits (treesOf (w .tree)) (length (w .list)) (omega (arith, trees-size (w .tree), one-tree (w .tree) e .small))
@@ -137,21 +137,21 @@ unfolding unless
 unless-most true n later h x = x
 unless-most false n later h x = h
 
-low-most : (slot : Slot) (v low : ℕ) → All (λ m. m ≤ 11) (lowFault slot v low)
+low-most : (slot : Field) (v low : ℕ) → All (λ m. m ≤ 11) (lowFault slot v low)
 unfolding lowFault
-low-most operatorSlot v low =
+low-most operatorField v low =
     unless-most _ 9 _ (omega arith) (unless-most _ 10 _ (omega arith) (unless-most _ 11 none (omega arith) tt))
-low-most startSlot v low = tt
-low-most endSlot v low = tt
-low-most upperSlot v low = unless-most _ 11 none (omega arith) tt
-low-most lowerSlot v low = unless-most _ 11 none (omega arith) tt
-low-most countSlot v low = unless-most _ 11 none (omega arith) tt
+low-most startField v low = tt
+low-most endField v low = tt
+low-most upperField v low = unless-most _ 11 none (omega arith) tt
+low-most lowerField v low = unless-most _ 11 none (omega arith) tt
+low-most countField v low = unless-most _ 11 none (omega arith) tt
 
-word-most : (slot : Slot) (v w : ℕ) → All (λ m. m ≤ 11) (wordFault slot v w)
+word-most : (slot : Field) (v w : ℕ) → All (λ m. m ≤ 11) (wordFault slot v w)
 unfolding wordFault
 word-most slot v w = unless-most _ 8 _ (omega arith) (low-most slot v (lowOf w))
 
-words-placed : (i : ℕ) (slot : Slot) (v : ℕ) (ws : List ℕ) (most : ℕ) → i + length ws ≤ most → All (Placed most) (wordsRefusal i slot v ws)
+words-placed : (i : ℕ) (slot : Field) (v : ℕ) (ws : List ℕ) (most : ℕ) → i + length ws ≤ most → All (Placed most) (wordsRefusal i slot v ws)
 unfolding wordsRefusal
 words-placed i slot v [] most h = tt
 words-placed i slot v (w ∷ ws) most h =
@@ -190,7 +190,7 @@ refusal-placed c =
     (λ u. must-placed _ 7 20480 _ (omega arith)
     (λ s.
     last-placed _ 20480
-    (words-placed 0 operatorSlot 0 (c .list) 20480
+    (words-placed 0 operatorField 0 (c .list) 20480
     (omega (arith, eqb-true (length (c .list) % 5) 0 whole, leb-true (length (c .list) / 5) mostTokens few))))))))))
 
 pub told-fits : (c : Call) → FitsTold (answered c)

@@ -9,7 +9,7 @@ use lib.Dec.{eqb, leb, ltb}
 use lib.IntN.{ℤ}
 use lib.ListN.{length, take, drop, getD, replicate, length-take, length-drop}
 use borrow.Author.Tests.{eq-eqb, ne-eqb, le-leb, lt-leb, lt-ltb, le-ltb}
-use Rattle.molang.specs.Words.{Refusal, operatorSlot, wordsRefusal, tokensOf}
+use Rattle.molang.specs.Words.{Refusal, operatorField, wordsRefusal, tokensOf}
 use Rattle.molang.specs.Read.{Answer, read}
 use Rattle.molang.proofs.Bounds.{Bounded, fewNodes, fewMessages, read-bounded}
 use Rattle.molang.proofs.Reread.{tokens-count}
@@ -83,11 +83,11 @@ not-turned bytes first whole some-bytes low tokens h =
 
 -- THE CALL OF THE ENTRY. Of its checks only those of the words are left, and its used set is the list's own.
 module _ (list tree messages : List ℕ) (ok : Readable list tree messages) (work : List ℕ) (room : length work ≡ 8256) (source : ℕ)
-    (ends : source ≡ highest operatorSlot 0 list) (version : ℤ) (low high : ℕ) (exact : (n : ℕ) → inHalves low high n ≡ named operatorSlot list n) where
+    (ends : source ≡ highest operatorField 0 list) (version : ℤ) (low high : ℕ) (exact : (n : ℕ) → inHalves low high n ≡ named operatorField list n) where
   abbrev called : Call
   called = call list tree messages work source version low high
 
-  pub called-refusal : refusal called ≡ wordsRefusal 0 operatorSlot 0 list
+  pub called-refusal : refusal called ≡ wordsRefusal 0 operatorField 0 list
   unfolding refusal must firstOf
   called-refusal =
       let few : length list / 5 ≤ 128 = omega (arith, ok .few) in
@@ -98,25 +98,25 @@ module _ (list tree messages : List ℕ) (ok : Readable list tree messages) (wor
         le-leb 16 (length messages) (omega (arith, ok .messageRoom)),
         le-leb (64 * (length list / 5) + 64) (length work) (omega arith),
         lt-ltb (high * 2 ^ 64 + low) (2 ^ 111) (exact-few low high list exact),
-        le-leb source 536870911 (omega (arith, highest-few operatorSlot 0 list (omega arith))),
+        le-leb source 536870911 (omega (arith, highest-few operatorField 0 list (omega arith))),
       )
-      (last-row (wordsRefusal 0 operatorSlot 0 list))
+      (last-row (wordsRefusal 0 operatorField 0 list))
 
   pub called-reading : reading called ≡ readingOf list version
   unfolding reading readingOf
   called-reading =
       ap (λ (u : ℕ → Bool). read (tokensOf list) u version source) (fun-ext exact)
-      ∙ ap (read (tokensOf list) (named operatorSlot list) version) ends
+      ∙ ap (read (tokensOf list) (named operatorField list) version) ends
 
-  pub told-called : answered called ≡ told (wordsRefusal 0 operatorSlot 0 list) (readingOf list version)
+  pub told-called : answered called ≡ told (wordsRefusal 0 operatorField 0 list) (readingOf list version)
   unfolding answered
   told-called = rw (called-refusal, called-reading) refl
 
-  pub tree-called : treeAfter called ≡ treeIn (wordsRefusal 0 operatorSlot 0 list) (readingOf list version) tree
+  pub tree-called : treeAfter called ≡ treeIn (wordsRefusal 0 operatorField 0 list) (readingOf list version) tree
   unfolding treeAfter
   tree-called = rw (called-refusal, called-reading) refl
 
-  pub messages-called : messagesAfter called ≡ messagesIn (wordsRefusal 0 operatorSlot 0 list) (readingOf list version) messages
+  pub messages-called : messagesAfter called ≡ messagesIn (wordsRefusal 0 operatorField 0 list) (readingOf list version) messages
   unfolding messagesAfter
   messages-called = rw (called-refusal, called-reading) refl
 
@@ -144,9 +144,9 @@ module _ (bytes : ℕ) (words : List ℕ) where
       let m : n + 1 - 1 ≡ listLength bytes = omega arith in ap (λ (m : ℕ). take m (drop 1 words)) m
 
   pub read-fault : (n : ℕ) → none ≡ turnedBack bytes (getD words 0 0) → n ≡ listLength bytes
-      → wordsRefusal 0 operatorSlot 0 (take (n + 1 - 1) (drop 1 words)) ≡ faultOf bytes words
+      → wordsRefusal 0 operatorField 0 (take (n + 1 - 1) (drop 1 words)) ≡ faultOf bytes words
   unfolding faultOf orElse
-  read-fault n h e = rw (← h) (ap (wordsRefusal 0 operatorSlot 0) (same-list n e))
+  read-fault n h e = rw (← h) (ap (wordsRefusal 0 operatorField 0) (same-list n e))
 
   pub read-answer : (n : ℕ) (version : ℤ) → n ≡ listLength bytes → version ≡ versionOf (getD words 0 0)
       → readingOf (take (n + 1 - 1) (drop 1 words)) version ≡ answerOf bytes words
@@ -165,7 +165,7 @@ unfolding answerOf readingOf listOf
 printable bytes words h =
     let list = listOf bytes words in
     bounded-printable (faultOf bytes words)
-    (read-bounded (tokensOf list) (named operatorSlot list) (versionOf (getD words 0 0)) (highest operatorSlot 0 list))
+    (read-bounded (tokensOf list) (named operatorField list) (versionOf (getD words 0 0)) (highest operatorField 0 list))
     (omega (arith, tokens-count list, length-take (listLength bytes) (drop 1 words), length-drop 1 words))
 
 -- What is printed, by what was read.

@@ -7,7 +7,7 @@ use mathlib.Core.Option.{Option, none, some}
 use lib.Dec.{eqb, leb, ltb}
 use lib.IntN.{ℤ}
 use lib.ListN.{length, take, drop, getD, replicate}
-use Rattle.molang.specs.Words.{Refusal, operatorSlot, wordsRefusal, tokensOf}
+use Rattle.molang.specs.Words.{Refusal, operatorField, wordsRefusal, tokensOf}
 use Rattle.molang.specs.Read.{Answer, read}
 use Rattle.molang.specs.Parse.{told, must, firstOf, treeIn, messagesIn}
 use Rattle.molang.specs.WriteEntry.{orElse}
@@ -47,7 +47,7 @@ refusalOf (Refused number) = some (record { number = number; place = 0 })
 
 -- The reading of a list at its exact used set, its highest span end being the source length.
 unfoldable pub readingOf : List ℕ → ℤ → Answer
-readingOf list version = read (tokensOf list) (named operatorSlot list) version (highest operatorSlot 0 list)
+readingOf list version = read (tokensOf list) (named operatorField list) version (highest operatorField 0 list)
 
 -- The list of an input whose front is these words.
 unfoldable pub listOf : ℕ → List ℕ → List ℕ
@@ -55,7 +55,7 @@ listOf bytes words = take (listLength bytes) (drop 1 words)
 
 -- Where an input is turned back: by the program, else at the first of its list's words that the entry turns back.
 unfoldable pub faultOf : ℕ → List ℕ → Option Refusal
-faultOf bytes words = orElse (turnedBack bytes (getD words 0 0)) (wordsRefusal 0 operatorSlot 0 (listOf bytes words))
+faultOf bytes words = orElse (turnedBack bytes (getD words 0 0)) (wordsRefusal 0 operatorField 0 (listOf bytes words))
 
 -- What is read of one that is not turned back.
 unfoldable pub answerOf : ℕ → List ℕ → Answer

@@ -8,7 +8,7 @@ use parse::parse;
 use words::refusals;
 ghost use mathlib.Core.Path.{_≡_};
 ghost use lib.ListN.{length};
-ghost use Rattle.molang.specs.Words.{operatorSlot, wordsRefusal};
+ghost use Rattle.molang.specs.Words.{operatorField, wordsRefusal};
 ghost use Rattle.molang.specs.Parse.{told, treeIn, messagesIn};
 ghost use Rattle.parse.specs.Answers.{toldOf};
 ghost use Rattle.treelist.specs.Listing.{turnedBack, refusalOf, Counted, Readable, readingOf, faultOf, answerOf};
@@ -49,9 +49,9 @@ fn asked(bytes: usize, first: u32) -> Request
 // Reads a list at its exact used set, its highest span end being the source length.
 fn read(list: &[u32], version: i16, tree: &mut [u32], messages: &mut [u32]) -> Answer
     requires { ⌜ Readable (now list) (now tree) (now messages) ⌝ }
-    ensures { λ r. ⌜ toldOf r ≡ told (wordsRefusal 0 operatorSlot 0 (now (list .entry))) (readingOf (now (list .entry)) version) ⌝ }
-    ensures { λ _. ⌜ now (tree .exit) ≡ treeIn (wordsRefusal 0 operatorSlot 0 (now (list .entry))) (readingOf (now (list .entry)) version) (now (tree .entry)) ⌝ }
-    ensures { λ _. ⌜ now (messages .exit) ≡ messagesIn (wordsRefusal 0 operatorSlot 0 (now (list .entry))) (readingOf (now (list .entry)) version) (now (messages .entry)) ⌝ }
+    ensures { λ r. ⌜ toldOf r ≡ told (wordsRefusal 0 operatorField 0 (now (list .entry))) (readingOf (now (list .entry)) version) ⌝ }
+    ensures { λ _. ⌜ now (tree .exit) ≡ treeIn (wordsRefusal 0 operatorField 0 (now (list .entry))) (readingOf (now (list .entry)) version) (now (tree .entry)) ⌝ }
+    ensures { λ _. ⌜ now (messages .exit) ≡ messagesIn (wordsRefusal 0 operatorField 0 (now (list .entry))) (readingOf (now (list .entry)) version) (now (messages .entry)) ⌝ }
 {
     let mut work = [0u32; 8256];
     let used = used_of(list);

@@ -7,7 +7,7 @@ ghost use mathlib.Core.List.{[], _∷_};
 ghost use Prim.Native.Nat.{_+_, _<_, _^_};
 ghost use mathlib.Core.Option.{none};
 ghost use lib.Dec.{eqb, ltb};
-ghost use Rattle.molang.specs.Words.{kindOf, lowOf, operatorSlot, startSlot, upperSlot, unless, lowFault, wordFault, wordsRefusal};
+ghost use Rattle.molang.specs.Words.{kindOf, lowOf, operatorField, startField, upperField, unless, lowFault, wordFault, wordsRefusal};
 ghost use Rattle.words.specs.Checks.{numberOf, refusalOf, placed};
 
 // What is wrong with a word.
@@ -37,7 +37,7 @@ fn below(low: u32, limit: u32) -> Word
 
 // A word of kind 1: operator, then payload variant, then the other bits.
 pub fn operator_word(w: u32) -> Word
-    ensures { λ r. ⌜ numberOf r ≡ wordFault operatorSlot 0 w ⌝ }
+    ensures { λ r. ⌜ numberOf r ≡ wordFault operatorField 0 w ⌝ }
 {
     if fields::kind(w) != fields::OPERATOR {
         return Word::WrongKind;
@@ -53,7 +53,7 @@ pub fn operator_word(w: u32) -> Word
 
 // A word of kind 2 or 3, all of whose bits are used.
 pub fn span_word(w: u32, kind: u32) -> Word
-    ensures { λ r. ⌜ numberOf r ≡ unless (eqb (kindOf w) kind) 8 (lowFault startSlot 0 (lowOf w)) ⌝ }
+    ensures { λ r. ⌜ numberOf r ≡ unless (eqb (kindOf w) kind) 8 (lowFault startField 0 (lowOf w)) ⌝ }
 {
     if fields::kind(w) != kind {
         return Word::WrongKind;
@@ -63,7 +63,7 @@ pub fn span_word(w: u32, kind: u32) -> Word
 
 // A word of kind 4 or 5 in a token of the given payload variant, under variant 0 of which it holds 0.
 pub fn half_word(w: u32, kind: u32, variant: u32) -> Word
-    ensures { λ r. ⌜ numberOf r ≡ unless (eqb (kindOf w) kind) 8 (lowFault upperSlot variant (lowOf w)) ⌝ }
+    ensures { λ r. ⌜ numberOf r ≡ unless (eqb (kindOf w) kind) 8 (lowFault upperField variant (lowOf w)) ⌝ }
 {
     if fields::kind(w) != kind {
         return Word::WrongKind;
@@ -91,7 +91,7 @@ pub fn judged(word: Word, place: usize) -> Checked
 // the caller's to know, who read them out of the list.
 pub fn token(first: u32, start: u32, end: u32, upper: u32, lower: u32, at: usize) -> Checked
     requires { ⌜ at + 4 < 2 ^ 64 ⌝ }
-    ensures { λ r. ⌜ refusalOf r ≡ wordsRefusal at operatorSlot 0 (first ∷ start ∷ end ∷ upper ∷ lower ∷ []) ⌝ }
+    ensures { λ r. ⌜ refusalOf r ≡ wordsRefusal at operatorField 0 (first ∷ start ∷ end ∷ upper ∷ lower ∷ []) ⌝ }
 {
     let one = operator_word(first);
     let Word::Good = one else {

@@ -14,9 +14,9 @@ use Rattle.words.proofs.checks.Word as word
 use Rattle.words.specs.declared.checks.Word.{Word}
 use Rattle.words.specs.declared.checks.Word.the-variants.{Good, WrongKind, HighOperator, HighVariant, OtherBit}
 use Rattle.words.specs.Checks.{numberOf}
-use Rattle.write.specs.declared.shape.Slot.{Slot}
-use Rattle.write.specs.declared.shape.Slot.the-variants.{Operator, Start, End, Upper, Lower, Count}
-use Rattle.write.proofs.shape.Slot as slot
+use Rattle.write.specs.declared.shape.Field.{Field}
+use Rattle.write.specs.declared.shape.Field.the-variants.{Operator, Start, End, Upper, Lower, Count}
+use Rattle.write.proofs.shape.Field as field
 use Rattle.write.specs.declared.plain.Place.{Place}
 use Rattle.write.specs.declared.plain.Place.the-variants.{Enclosed, UnderMathCall, LeftOfComma, RightOfQuestion, Operand}
 use Rattle.write.proofs.plain.Place as place
@@ -36,7 +36,7 @@ bad-word HighVariant h = refl
 bad-word OtherBit h = refl
 
 -- Only an operator word has a variant and begins a node, only a count calls for nodes, and no tree ends inside a node.
-pub variant-kept : (s : Slot) (v : ℕ) (w : ℕ) → OneOf (1 ∷ 2 ∷ 3 ∷ 4 ∷ 5 ∷ []) (Declared.tagOf slot.the-type s) → v ≡ variantAfter (slotOf s) v w
+pub variant-kept : (s : Field) (v : ℕ) (w : ℕ) → OneOf (1 ∷ 2 ∷ 3 ∷ 4 ∷ 5 ∷ []) (Declared.tagOf field.the-type s) → v ≡ variantAfter (slotOf s) v w
 unfolding variantAfter
 variant-kept Operator v w h = absurd (miss (1 ∷ 2 ∷ 3 ∷ 4 ∷ 5 ∷ []) 0 tt h)
 variant-kept Start v w h = refl
@@ -45,7 +45,7 @@ variant-kept Upper v w h = refl
 variant-kept Lower v w h = refl
 variant-kept Count v w h = refl
 
-pub begun-kept : (s : Slot) (w : ℕ) (seen : Shape) → OneOf (1 ∷ 2 ∷ 3 ∷ 4 ∷ 5 ∷ []) (Declared.tagOf slot.the-type s) → seen .begun ≡ shapeAfter (slotOf s) w seen .begun
+pub begun-kept : (s : Field) (w : ℕ) (seen : Shape) → OneOf (1 ∷ 2 ∷ 3 ∷ 4 ∷ 5 ∷ []) (Declared.tagOf field.the-type s) → seen .begun ≡ shapeAfter (slotOf s) w seen .begun
 unfolding shapeAfter
 begun-kept Operator w seen h = absurd (miss (1 ∷ 2 ∷ 3 ∷ 4 ∷ 5 ∷ []) 0 tt h)
 begun-kept Start w seen h = refl
@@ -54,7 +54,7 @@ begun-kept Upper w seen h = refl
 begun-kept Lower w seen h = refl
 begun-kept Count w seen h = refl
 
-pub called-kept : (s : Slot) (w : ℕ) (seen : Shape) → OneOf (0 ∷ 1 ∷ 2 ∷ 3 ∷ 4 ∷ []) (Declared.tagOf slot.the-type s) → seen .called ≡ shapeAfter (slotOf s) w seen .called
+pub called-kept : (s : Field) (w : ℕ) (seen : Shape) → OneOf (0 ∷ 1 ∷ 2 ∷ 3 ∷ 4 ∷ []) (Declared.tagOf field.the-type s) → seen .called ≡ shapeAfter (slotOf s) w seen .called
 unfolding shapeAfter
 called-kept Operator w seen h = refl
 called-kept Start w seen h = refl
@@ -63,7 +63,7 @@ called-kept Upper w seen h = refl
 called-kept Lower w seen h = refl
 called-kept Count w seen h = absurd (miss (0 ∷ 1 ∷ 2 ∷ 3 ∷ 4 ∷ []) 5 tt h)
 
-pub not-whole : (s : Slot) (seen : Shape) → OneOf (1 ∷ 2 ∷ 3 ∷ 4 ∷ 5 ∷ []) (Declared.tagOf slot.the-type s) → false ≡ isWhole (slotOf s) seen
+pub not-whole : (s : Field) (seen : Shape) → OneOf (1 ∷ 2 ∷ 3 ∷ 4 ∷ 5 ∷ []) (Declared.tagOf field.the-type s) → false ≡ isWhole (slotOf s) seen
 unfolding isWhole
 not-whole Operator seen h = absurd (miss (1 ∷ 2 ∷ 3 ∷ 4 ∷ 5 ∷ []) 0 tt h)
 not-whole Start seen h = refl

@@ -10,7 +10,7 @@ use lib.ListN.{length, length-append}
 use borrow.Author.Tests.{le-leb, lt-leb}
 use Rattle.molang.specs.Forest.{Token, Forest, nil, node, count, size}
 use Rattle.molang.specs.Plain.{placeOf, plainForm, unplain, unplainAt}
-use Rattle.molang.specs.Words.{operatorSlot, lowOf, tokenOf, listWords}
+use Rattle.molang.specs.Words.{operatorField, lowOf, tokenOf, listWords}
 use Rattle.molang.specs.Parse.{mostTokens, must}
 use Rattle.molang.specs.Write.{writtenCount}
 use Rattle.molang.specs.WriteEntry.{treeFault, firstTrees, otherTrees, treesOf, refusedAt, orElse, forestRefusal, writeRefusal, writtenTokens, unwritten, tokens, writeTold, writeAnswered, listIn, listAfter}
@@ -134,17 +134,17 @@ slim (aNode {trees = trees} {a = a} {b = b} {c = c} {d = d} {e = f} {n = m} {ws 
     (slim later (st .places ++ ps) (omega (arith, length-append (st .places) ps, st .all)) (suc n) row)
 
 -- THE ANSWERS, the first that holds.
-pub fault-answer : (tree list : List ℕ) (i : ℕ) → some i ≡ treeFault 0 operatorSlot 0 (shape 1 0) tree
+pub fault-answer : (tree list : List ℕ) (i : ℕ) → some i ≡ treeFault 0 operatorField 0 (shape 1 0) tree
     → (unwritten 12 i ≡ writeAnswered (call tree list)) × (list ≡ listAfter (call tree list))
 unfolding writeAnswered listAfter writeRefusal refusedAt writeTold listIn
 fault-answer tree list i e = (rw (← e), rw (← e))
 
-pub tree-answer : (tree list : List ℕ) → none ≡ treeFault 0 operatorSlot 0 (shape 1 0) tree
+pub tree-answer : (tree list : List ℕ) → none ≡ treeFault 0 operatorField 0 (shape 1 0) tree
     → (filling (treesOf tree) list ≡ writeAnswered (call tree list)) × (filled (treesOf tree) list ≡ listAfter (call tree list))
 unfolding writeAnswered listAfter writeRefusal refusedAt filling filled
 tree-answer tree list whole = (rw (← whole), rw (← whole))
 
-module _ {tree : List ℕ} (list : List ℕ) (whole : none ≡ treeFault 0 operatorSlot 0 (shape 1 0) tree) (one : OneTree tree) where
+module _ {tree : List ℕ} (list : List ℕ) (whole : none ≡ treeFault 0 operatorField 0 (shape 1 0) tree) (one : OneTree tree) where
   top : Opened mostChildren 1 tree
   top = opened (one .shaped) (omega (arith, shaped-room (one .shaped)))
 

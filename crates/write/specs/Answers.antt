@@ -1,4 +1,4 @@
--- What each case of the crate's enums says: document 01's number and values for an answer, the definition's slot and place for the others.
+-- What each case of the crate's enums says: document 01's number and values for an answer, the definition's field and place for the others.
 use Prim.Native.Nat.{ℕ}
 use mathlib.Core.Bool.{Bool, true, false}
 use mathlib.Core.List.{List}
@@ -11,8 +11,8 @@ use Rattle.molang.specs.Write.{writtenCount}
 use Rattle.molang.specs.WriteEntry.{Shape, WriteCall, WriteTold, tokens, unwritten, forestRefusal, writeTold, listIn}
 use Rattle.write.specs.declared.Written.{Written}
 use Rattle.write.specs.declared.Written.the-variants.{Tokens, Refused}
-use Rattle.write.specs.declared.shape.Slot.{Slot}
-use Rattle.write.specs.declared.shape.Slot.the-variants.{Operator, Start, End, Upper, Lower, Count}
+use Rattle.write.specs.declared.shape.Field.{Field}
+use Rattle.write.specs.declared.shape.Field.the-variants.{Operator, Start, End, Upper, Lower, Count}
 use Rattle.write.specs.declared.shape.Fault.{Fault}
 use Rattle.write.specs.declared.shape.Fault.the-variants.{Nowhere, At}
 use Rattle.write.specs.declared.plain.Judged.{Judged}
@@ -23,14 +23,14 @@ abbrev pub told : Written → WriteTold
 told (Tokens count) = tokens count
 told (Refused number place) = unwritten number place
 
--- The definition's slot.
-abbrev pub slotOf : Slot → words.Slot
-slotOf Operator = words.operatorSlot
-slotOf Start = words.startSlot
-slotOf End = words.endSlot
-slotOf Upper = words.upperSlot
-slotOf Lower = words.lowerSlot
-slotOf Count = words.countSlot
+-- The definition's field.
+abbrev pub slotOf : Field → words.Field
+slotOf Operator = words.operatorField
+slotOf Start = words.startField
+slotOf End = words.endField
+slotOf Upper = words.upperField
+slotOf Lower = words.lowerField
+slotOf Count = words.countField
 
 -- Answer 12's place, if there is one.
 abbrev pub placeOf : Fault → Option ℕ

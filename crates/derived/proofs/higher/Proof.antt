@@ -3,7 +3,7 @@ use Prim.Native.Nat.{max}
 use mathlib.Core.Path.{_≡_, sym, ap, _∙_}
 use native.Mathlib.Omega.{arith}
 use borrow.Author.Needs.{needs}
-use Rattle.molang.specs.Words.{endSlot}
+use Rattle.molang.specs.Words.{endField}
 use Rattle.words.specs.Checks.{numberOf}
 use Rattle.words.proofs.CheckLaws.{end-tests}
 use Rattle.derived.specs.Derived.{endAfter}
@@ -28,7 +28,7 @@ low-requires c κs = search needs
 
 -- The end after a legal word.
 legal : (c : tie.After-low)
-    → let a = c .before .before .before .before .args in endAfter endSlot (a .end) (a .w) ≡ max (a .end) (c .low .result)
+    → let a = c .before .before .before .before .args in endAfter endField (a .end) (a .w) ≡ max (a .end) (c .low .result)
 legal c =
     let a = c .before .before .before .before .args in
     let word = c .before .before .before .span-word in

@@ -4,14 +4,14 @@ use Prim.Native.Nat.{ℕ, _+_, _-_}
 use mathlib.Core.Path.{_≡_, sym, ap, _∙_}
 use borrow.Author.Needs.{needs}
 use lib.ListN.{length, drop}
-use Rattle.molang.specs.Words.{operatorSlot, endSlot}
+use Rattle.molang.specs.Words.{operatorField, endField}
 use Rattle.derived.specs.Derived.{highest}
 use Rattle.derived.proofs.WordLaws.{from-third, highest-on, highest-end}
 use Rattle.derived.proofs.highest_end.Statement.{statement}
 use Rattle.derived.proofs.highest_end.Tie as tie
 
 abbrev Inv-loop : tie.InvT-loop
-Inv-loop list end₀ i₀ end i = highest endSlot end (drop i list) ≡ highest operatorSlot 0 list
+Inv-loop list end₀ i₀ end i = highest endField end (drop i list) ≡ highest operatorField 0 list
 
 abbrev μ-loop : tie.MeasureT-loop
 μ-loop list end₀ i₀ end i = length list - i
@@ -38,7 +38,7 @@ loop-again : tie.Need-loop-again Inv-loop μ-loop
 loop-again c =
     let list = c .before .before .before .before .before .args .list .now in
     let at = c .before .before .before in
-    ap (λ (m : ℕ). highest endSlot m (drop (at .loop .i + 5) list)) (c .higher .ensures)
+    ap (λ (m : ℕ). highest endField m (drop (at .loop .i + 5) list)) (c .higher .ensures)
     ∙ (sym (highest-on list (at .loop .i) (c .before .before .loop-test .taken) (at .loop .end)) ∙ at .loop .inv)
 
 returns : tie.Need-returns Inv-loop μ-loop

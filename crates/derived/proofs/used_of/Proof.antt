@@ -6,7 +6,7 @@ use mathlib.Core.Bool.{Bool, _||_, or-false, or-assoc}
 use borrow.Author.Needs.{needs}
 use lib.ListN.{length, drop}
 use Rattle.molang.specs.Parse.{inHalves}
-use Rattle.molang.specs.Words.{operatorSlot}
+use Rattle.molang.specs.Words.{operatorField}
 use Rattle.derived.specs.Derived.{named}
 use Rattle.derived.proofs.SetLaws.{in-none}
 use Rattle.derived.proofs.WordLaws.{named-on, named-end}
@@ -15,13 +15,13 @@ use Rattle.derived.proofs.used_of.Tie as tie
 
 abbrev Inv-loop : tie.InvT-loop
 Inv-loop list used₀ i₀ used i =
-    (n : ℕ) → (inHalves (used .low) (used .high) n || named operatorSlot (drop i list) n) ≡ named operatorSlot list n
+    (n : ℕ) → (inHalves (used .low) (used .high) n || named operatorField (drop i list) n) ≡ named operatorField list n
 
 abbrev μ-loop : tie.MeasureT-loop
 μ-loop list used₀ i₀ used i = length list - i
 
 loop-holds : tie.Need-loop-holds Inv-loop μ-loop
-loop-holds c n = ap (λ (b : Bool). b || named operatorSlot (c .before .args .list .now) n) (in-none n)
+loop-holds c n = ap (λ (b : Bool). b || named operatorField (c .before .args .list .now) n) (in-none n)
 
 mul-with-word : tie.Need-mul-with-word Inv-loop μ-loop
 mul-with-word c = search needs
@@ -43,7 +43,7 @@ loop-again c n =
     let list = c .before .before .before .before .before .args .list .now in
     let at = c .before .before .before in
     let seen = inHalves (at .loop .used .low) (at .loop .used .high) n in
-    ap (λ (b : Bool). b || named operatorSlot (drop (at .loop .i + 5) list) n) (c .with-word .ensures n)
+    ap (λ (b : Bool). b || named operatorField (drop (at .loop .i + 5) list) n) (c .with-word .ensures n)
     ∙ (or-assoc seen _ _
     ∙ (ap (λ (b : Bool). seen || b) (sym (named-on list (at .loop .i) (c .before .before .loop-test .taken) n)) ∙ at .loop .inv n))
 

@@ -6,7 +6,7 @@ use mathlib.Core.Option.{none}
 use borrow.Author.Needs.{needs}
 use lib.Dec.{eqb}
 use Rattle.molang.specs.Parse.{inHalves}
-use Rattle.molang.specs.Words.{operatorSlot, wordFault}
+use Rattle.molang.specs.Words.{operatorField, wordFault}
 use Rattle.words.specs.Checks.{numberOf}
 use Rattle.words.specs.Fields.{operatorOf}
 use Rattle.derived.proofs.WordLaws.{names-bad, names-legal, operator-most}
@@ -30,7 +30,7 @@ operator-requires : tie.Need-operator-requires
 operator-requires c κs = search needs
 
 -- The word is legal.
-legal : (c : tie.After-enum-told) → wordFault operatorSlot 0 (c .before .before .before .args .w) ≡ none
+legal : (c : tie.After-enum-told) → wordFault operatorField 0 (c .before .before .before .args .w) ≡ none
 legal c = sym (sym (ap numberOf (c .enum-told .given .1)) ∙ c .before .before .operator-word .ensures)
 
 with-requires : tie.Need-with-requires

@@ -4,7 +4,7 @@ use mathlib.Core.List.{[], _∷_}
 use mathlib.Core.Option.{Option}
 use Prim.Native.Nat.{_+_}
 use borrow.Author.Needs.{needs}
-use Rattle.molang.specs.Words.{operatorSlot, startSlot, endSlot, upperSlot, lowerSlot, Refusal, wordsRefusal}
+use Rattle.molang.specs.Words.{operatorField, startField, endField, upperField, lowerField, Refusal, wordsRefusal}
 use Rattle.words.specs.Fields.{variantOf}
 use Rattle.words.specs.Checks.{numberOf}
 use Rattle.words.proofs.CheckLaws.{first-bad, last-word, start-tests, end-tests, upper-tests, lower-tests, after-first, after-start, after-end, after-upper}
@@ -13,12 +13,12 @@ use Rattle.words.proofs.checks.token.Tie as tie
 
 -- The answer to the whole token.
 abbrev whole : tie.Start → Option Refusal
-whole s = wordsRefusal (s .args .at) operatorSlot 0 (s .args .first ∷ s .args .start ∷ s .args .end ∷ s .args .upper ∷ s .args .lower ∷ [])
+whole s = wordsRefusal (s .args .at) operatorField 0 (s .args .first ∷ s .args .start ∷ s .args .end ∷ s .args .upper ∷ s .args .lower ∷ [])
 
 -- What is left to answer after one, two, three and four good words.
 first-good : (c : tie.After-enum-told)
     → let a = c .before .before .before .args in
-    wordsRefusal (a .at + 1) startSlot (variantOf (a .first)) (a .start ∷ a .end ∷ a .upper ∷ a .lower ∷ []) ≡ whole (c .before .before .before)
+    wordsRefusal (a .at + 1) startField (variantOf (a .first)) (a .start ∷ a .end ∷ a .upper ∷ a .lower ∷ []) ≡ whole (c .before .before .before)
 first-good c =
     let a = c .before .before .before .args in
     after-first (a .at) (a .first) (a .start) (a .end) (a .upper) (a .lower)
@@ -26,7 +26,7 @@ first-good c =
 
 second-good : (c : tie.After-enum-told2)
     → let a = c .before .before .before .before .before .before .args in
-    wordsRefusal (a .at + 2) endSlot (variantOf (a .first)) (a .end ∷ a .upper ∷ a .lower ∷ [])
+    wordsRefusal (a .at + 2) endField (variantOf (a .first)) (a .end ∷ a .upper ∷ a .lower ∷ [])
     ≡ whole (c .before .before .before .before .before .before)
 second-good c =
     let a = c .before .before .before .before .before .before .args in
@@ -36,7 +36,7 @@ second-good c =
 
 third-good : (c : tie.After-enum-told3)
     → let a = c .before .before .before .before .before .before .before .before .before .args in
-    wordsRefusal (a .at + 3) upperSlot (variantOf (a .first)) (a .upper ∷ a .lower ∷ [])
+    wordsRefusal (a .at + 3) upperField (variantOf (a .first)) (a .upper ∷ a .lower ∷ [])
     ≡ whole (c .before .before .before .before .before .before .before .before .before)
 third-good c =
     let a = c .before .before .before .before .before .before .before .before .before .args in
@@ -58,7 +58,7 @@ returns c =
     let a = c .before .before .before .args in
     let one = c .before .before .operator-word in
     c .judged .ensures
-    ∙ first-bad (a .at) operatorSlot 0 (a .first) (a .start ∷ a .end ∷ a .upper ∷ a .lower ∷ []) (one .result)
+    ∙ first-bad (a .at) operatorField 0 (a .first) (a .start ∷ a .end ∷ a .upper ∷ a .lower ∷ []) (one .result)
     (c .before .match .keys2) (one .ensures)
 
 span-word-requires : tie.Need-span-word-requires
@@ -79,7 +79,7 @@ returns-2 c =
     let v = variantOf (a .first) in
     let two = c .before .before .span-word in
     c .judged2 .ensures
-    ∙ (first-bad (a .at + 1) startSlot v (a .start) (a .end ∷ a .upper ∷ a .lower ∷ []) (two .result) (c .before .match2 .keys2)
+    ∙ (first-bad (a .at + 1) startField v (a .start) (a .end ∷ a .upper ∷ a .lower ∷ []) (two .result) (c .before .match2 .keys2)
     (two .ensures ∙ start-tests v (a .start))
     ∙ first-good (c .before .before .before))
 
@@ -101,7 +101,7 @@ returns-3 c =
     let v = variantOf (a .first) in
     let three = c .before .before .span-word2 in
     c .judged3 .ensures
-    ∙ (first-bad (a .at + 2) endSlot v (a .end) (a .upper ∷ a .lower ∷ []) (three .result) (c .before .match3 .keys2)
+    ∙ (first-bad (a .at + 2) endField v (a .end) (a .upper ∷ a .lower ∷ []) (three .result) (c .before .match3 .keys2)
     (three .ensures ∙ end-tests v (a .end))
     ∙ second-good (c .before .before .before))
 
@@ -126,7 +126,7 @@ returns-4 c =
     let v = c .before .before .before .variant in
     let four = c .before .before .half-word in
     c .judged4 .ensures
-    ∙ (first-bad (a .at + 3) upperSlot (v .result) (a .upper) (a .lower ∷ []) (four .result) (c .before .match4 .keys2)
+    ∙ (first-bad (a .at + 3) upperField (v .result) (a .upper) (a .lower ∷ []) (four .result) (c .before .match4 .keys2)
     (four .ensures ∙ upper-tests (v .result) (a .upper))
     ∙ rw (v .ensures) (third-good (c .before .before .before .before)))
 
@@ -146,7 +146,7 @@ returns-5 c =
     let four = c .before .before .before .before .half-word in
     let five = c .before .half-word2 in
     c .judged5 .ensures
-    ∙ (last-word (a .at + 4) lowerSlot (v .result) (a .lower) (five .result) (five .ensures ∙ lower-tests (v .result) (a .lower))
+    ∙ (last-word (a .at + 4) lowerField (v .result) (a .lower) (five .result) (five .ensures ∙ lower-tests (v .result) (a .lower))
     ∙ (after-upper (a .at) (a .first) (a .start) (a .end) (a .upper) (a .lower) (v .result)
     (sym (ap numberOf (c .before .before .enum-told4 .given .1)) ∙ (four .ensures ∙ upper-tests (v .result) (a .upper)))
     ∙ rw (v .ensures) (third-good (c .before .before .before .before .before .before))))

@@ -14,7 +14,7 @@ is-legal-requires c κs = search needs
 returns : tie.Need-returns
 returns c =
     let a = c .before .before .args in
-    illegal-stops (slotOf (a .slot)) (a .variant) (shape (a .called) (a .begun)) (a .w)
+    illegal-stops (slotOf (a .field)) (a .variant) (shape (a .called) (a .begun)) (a .w)
     (sym (c .before .is-legal .ensures) ∙ not-true _ (c .if1 .taken))
 
 begun-after-requires : tie.Need-begun-after-requires
@@ -23,7 +23,7 @@ begun-after-requires c κs = search needs
 returns-2 : tie.Need-returns-2
 returns-2 c =
     let a = c .before .before .before .before .args in
-    uncalled-stops (slotOf (a .slot)) (a .variant) (shape (a .called) (a .begun)) (a .w) (omega (arith, c .before .begun-after .ensures (a .called) (a .w)))
+    uncalled-stops (slotOf (a .field)) (a .variant) (shape (a .called) (a .begun)) (a .w) (omega (arith, c .before .begun-after .ensures (a .called) (a .w)))
 
 called-after-requires : tie.Need-called-after-requires
 called-after-requires c κs = search needs
@@ -32,7 +32,7 @@ returns-3 : tie.Need-returns-3
 returns-3 c =
     let a = c .before .before .before .before .before .args in
     rw (c .called-after .ensures (a .begun))
-    (continues-if (slotOf (a .slot)) (a .variant) (shape (a .called) (a .begun)) (a .w)
+    (continues-if (slotOf (a .field)) (a .variant) (shape (a .called) (a .begun)) (a .w)
     (sym (c .before .before .before .before .is-legal .ensures) ∙ not-false _ (c .before .before .before .if1 .left))
     (omega (arith, c .before .before .begun-after .ensures (a .called) (a .w))))
 

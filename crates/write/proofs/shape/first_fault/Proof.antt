@@ -12,11 +12,11 @@ use Rattle.write.proofs.shape.first_fault.Statement.{statement}
 use Rattle.write.proofs.shape.first_fault.Tie as tie
 
 abbrev Inv-loop : tie.InvT-loop
-Inv-loop tree slot₀ variant₀ called₀ begun₀ i₀ slot variant called begun i =
-    Seen tree (slotOf slot) variant called begun i
+Inv-loop tree field₀ variant₀ called₀ begun₀ i₀ field variant called begun i =
+    Seen tree (slotOf field) variant called begun i
 
 abbrev μ-loop : tie.MeasureT-loop
-μ-loop tree slot₀ variant₀ called₀ begun₀ i₀ slot variant called begun i = length tree - i
+μ-loop tree field₀ variant₀ called₀ begun₀ i₀ field variant called begun i = length tree - i
 
 loop-holds : tie.Need-loop-holds Inv-loop μ-loop
 loop-holds c = seen-start (c .before .args .tree .now)

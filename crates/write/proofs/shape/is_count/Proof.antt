@@ -2,7 +2,7 @@
 use mathlib.Core.Path.{sym, _∙_}
 use borrow.Author.Needs.{needs}
 use borrow.Author.Tests.{eq-eqb, ne-eqb}
-use Rattle.molang.specs.Words.{slotKind, unless, lowFault, wordFault}
+use Rattle.molang.specs.Words.{fieldKind, unless, lowFault, wordFault}
 use Rattle.write.proofs.CaseLaws.{legal-unless}
 use Rattle.write.proofs.shape.is_count.Statement.{statement}
 use Rattle.write.proofs.shape.is_count.Tie as tie
@@ -11,14 +11,14 @@ kind-requires : tie.Need-kind-requires
 kind-requires c κs = search needs
 
 returns : tie.Need-returns
-unfolding wordFault slotKind unless
+unfolding wordFault fieldKind unless
 returns c = rw (ne-eqb _ 6 (rw (c .before .kind .ensures) at (c .if1 .taken)))
 
 low-requires : tie.Need-low-requires
 low-requires c κs = search needs
 
 returns-2 : tie.Need-returns-2
-unfolding wordFault slotKind unless lowFault
+unfolding wordFault fieldKind unless lowFault
 returns-2 c = rw (eq-eqb _ 6 (sym (c .before .before .kind .ensures) ∙ c .before .if1 .left), c .low .ensures, legal-unless)
 
 pub is-count-spec : {M : Type 1} → statement M
