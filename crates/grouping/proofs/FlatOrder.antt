@@ -39,9 +39,9 @@ use Rattle.sections.specs.Flat as pass
 use Rattle.grouping.specs.Group.{CanGroup, FlatTo, ifRun, EndsTo, ended, unended, EndsRight, JoinedIf, SectionedIf, Flattened}
 use Rattle.sections.specs.declared.Flat.{Flat as Left}
 use Rattle.sections.specs.declared.Flat.the-variants.{Done, Fail, Mismatched, Unclosed as Unclosing}
-use Rattle.sections.proofs.sections.Flat.{the-type}
+use Rattle.sections.proofs.Flat.{the-type}
 use Rattle.levels.proofs.Reading.{when-true, when-false}
-use Rattle.sections.proofs.FlatCases.{found}
+use Rattle.sections.proofs.SectionCases.{found}
 
 -- ---- one pass of the reading
 

@@ -71,8 +71,8 @@ step-requires-5 c κs =
 enum-told-5 : tie.Need-enum-told-5
 enum-told-5 c = search needs
 
-step-prefix-requires : tie.Need-step-prefix-requires
-step-prefix-requires c κs =
+step-requires-6 : tie.Need-step-requires-6
+step-requires-6 c κs =
     let s = c .before .before .before .before .before in
     turn-at (s .args .walk .list) (s .args .walk .pass) _ (c .before .enum-told5 .given .1) (s .pre)
 
@@ -146,7 +146,7 @@ same-length-9 c = search needs
 returns-9 : tie.Need-returns-9
 returns-9 c =
     let s = c .before .before .before .before .before .before .before .before in
-    turned-by (s .args .walk .list) (s .args .walk .pass) _ (c .before .before .before .before .enum-told5 .given .1) (c .before .before .step-prefix .ensures)
+    turned-by (s .args .walk .list) (s .args .walk .pass) _ (c .before .before .before .before .enum-told5 .given .1) (c .before .before .step6 .ensures)
 
 pub step-spec : {M : Type 1} → statement M
 step-spec =
@@ -169,7 +169,7 @@ step-spec =
     enum-known-pass-4
     step-requires-5
     enum-told-5
-    step-prefix-requires
+    step-requires-6
     same-length
     returns
     same-length-2
