@@ -28,10 +28,10 @@ use Rattle.nodes.specs.Store.{wd, TokenAt, Seg, RepF, ends, more}
 use Rattle.nodes.specs.Slots.{opAt}
 use Rattle.nodes.proofs.Store.{reserve-pos, rep-count}
 use Rattle.nodes.proofs.Tokens.{token-op}
-use Rattle.levels.specs.Grouped.{tells, notEnded, withoutTokens, StandsFor}
-use Rattle.levels.specs.Grouped as stands
+use Rattle.grouping.specs.Grouped.{tells, notEnded, withoutTokens, StandsFor}
+use Rattle.grouping.specs.Grouped as stands
 use Rattle.levels.specs.declared.failure.Failure.the-variants.{ComplexMustEndWithSemicolon, ComplexWithoutTokens}
-use Rattle.levels.specs.declared.grouped.Grouped.the-variants.{Failed}
+use Rattle.grouping.specs.declared.grouped.Grouped.the-variants.{Failed}
 use Rattle.order.specs.Places.{usedBy}
 use Rattle.order.proofs.Running.{failed as failing, next, run-first, skip-first}
 use Rattle.sections.specs.Flat.{FlatTells, failed, mismatched, unclosed, Answers, CanJoin, Joined, CanSection}

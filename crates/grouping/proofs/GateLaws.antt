@@ -23,7 +23,7 @@ use Rattle.nodes.proofs.Store.{rep-legal}
 use Rattle.nodes.proofs.Classes.{notes-meet}
 use Rattle.levels.specs.Passes.{classesOf, operators}
 use Rattle.levels.specs.declared.turns.Pass.{Pass}
-use Rattle.levels.proofs.PassClasses.{runs-exact}
+use Rattle.levels.proofs.PassClasses.{runs-covers}
 use Rattle.order.specs.declared.Choice.{Choice}
 use Rattle.order.specs.declared.Choice.the-variants.{Run, Skip}
 use Rattle.grouping.specs.Driver.{CanRun, done, HasRun}
@@ -50,7 +50,7 @@ gate-shut {W} {p = p} h shut =
       to = λ g.
           let v = g .list .owned in
           done (pass-free (g .κ) (g .F) (not-false (free (operators (g .κ)) (g .F))
-          (sym (notes-meet (classesOf p) (operators (g .κ)) (runs-exact (g .κ) p (g .runs)) (v .notes) (rep-legal (v .kids))) ∙ shut))) (g .list);
+          (sym (notes-meet (classesOf p) (operators (g .κ)) (runs-covers (g .κ) p (g .runs)) (v .notes) (rep-legal (v .kids))) ∙ shut))) (g .list);
       beyond = λ g. record { kept = λ j x y. refl; long = refl };
     }
 

@@ -19,10 +19,10 @@ use Rattle.nodes.specs.Store.{InArray}
 use Rattle.nodes.specs.Children.{CanGive, Given}
 use Rattle.nodes.proofs.Trees.{array-give}
 use Rattle.levels.specs.Turns.{lentOf}
-use Rattle.levels.specs.Grouped.{tells, StandsFor, roots, failed, pointerFailed}
+use Rattle.grouping.specs.Grouped.{tells, StandsFor, roots, failed, pointerFailed}
 use Rattle.levels.specs.declared.failure.Failure.{Failure}
-use Rattle.levels.specs.declared.grouped.Grouped.{Grouped}
-use Rattle.levels.specs.declared.grouped.Grouped.the-variants.{Roots, Failed, Mismatched, Unclosed, PointerFailed}
+use Rattle.grouping.specs.declared.grouped.Grouped.{Grouped}
+use Rattle.grouping.specs.declared.grouped.Grouped.the-variants.{Roots, Failed, Mismatched, Unclosed, PointerFailed}
 use Rattle.levels.specs.declared.turns.Pass.{Pass as State}
 use Rattle.order.specs.Places.{usedBy, rulesOf, places, placeIn, Starts, Chosen as Picked, passesFrom}
 use Rattle.order.specs.Places as starts

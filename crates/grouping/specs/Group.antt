@@ -16,10 +16,10 @@ use Rattle.molang.proofs.Weight.{weight}
 use Rattle.molang.proofs.Bounds.{nodeWeight}
 use Rattle.ops.specs.declared.sets.OpSet.{OpSet}
 use Rattle.nodes.specs.Store.{InArray}
-use Rattle.levels.specs.Grouped.{Says, StandsFor}
+use Rattle.grouping.specs.Grouped.{Says, StandsFor}
 use Rattle.levels.specs.declared.failure.Failure.{Failure}
-use Rattle.levels.specs.declared.grouped.Grouped.{Grouped}
-use Rattle.levels.specs.declared.grouped.Grouped.the-variants.{Failed as GroupFailed, Mismatched as GroupMismatched, Unclosed as GroupUnclosed}
+use Rattle.grouping.specs.declared.grouped.Grouped.{Grouped}
+use Rattle.grouping.specs.declared.grouped.Grouped.the-variants.{Failed as GroupFailed, Mismatched as GroupMismatched, Unclosed as GroupUnclosed}
 use Rattle.order.specs.Places.{usedBy, rulesOf}
 use Rattle.sections.specs.Flat.{CanJoin, CanSection, Answers}
 use Rattle.sections.specs.declared.Flat.{Flat}

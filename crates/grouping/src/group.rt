@@ -2,8 +2,8 @@
 // one after another over the list of slot 0. Leans on sections, the driver, order (which pass stands at a place) and nodes (chains).
 use crate::driver::Ran;
 use crate::driver::run;
+use crate::grouped::Grouped;
 use levels::failure::Failure;
-use levels::grouped::Grouped;
 use nodes::children;
 use nodes::slots;
 use nodes::slots::ROOT;
@@ -122,7 +122,7 @@ fn levels(work: &mut [u32], base: usize, m: usize, used: OpSet, version: i16) ->
 }
 
 // All passes over n tokens that are loaded, their slots from base on, which is where the stack starts; at a version as the rules use it
-// (`ops::effective`).
+// (`ops::version::effective`).
 pub fn group(work: &mut [u32], base: usize, n: usize, used: OpSet, version: i16) -> Grouped
     requires { ⌜ CanGroup (now work) base n ⌝ }
     ensures { λ r. ⌜ HasGrouped (now (work .entry)) base n used version r (now (work .exit)) ⌝ }

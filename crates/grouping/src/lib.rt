@@ -2,3 +2,4 @@
 // Leans on passes (the passes' steps), sections, order (which pass is next), levels, nodes and ops.
 pub mod driver;
 pub mod group;
+pub mod grouped;

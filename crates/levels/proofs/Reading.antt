@@ -20,7 +20,7 @@ use Rattle.nodes.proofs.Runs.{seg-keep, segB-keep}
 use Rattle.nodes.proofs.Store.{rep-keep, rep-le, tree-below, tree-legal, tree-keep, back-le, back-raise, back-keep}
 use Rattle.nodes.proofs.Classes.{notes-meet, free-one}
 use Rattle.nodes.proofs.Trees.{leaf-test, tree-op}
-use Rattle.levels.specs.Passes.{Exact}
+use Rattle.levels.specs.Passes.{Covers}
 use Rattle.levels.specs.Items.{BackArray, Ahead, CanPeek, nextIf, innerAt}
 use Rattle.levels.specs.Turns.{Within}
 
@@ -98,18 +98,18 @@ ahead-le v = (rep-le (v .array .rep), omega (arith, v .count))
 
 -- ---- the tests of an item
 
-module _ {W X : List ℕ} {b a m : ℕ} {k : Token} {cs : Forest} (t : RepT W X b a m k cs) (c : ℕ) (P : ℕ → Bool) (e : Exact c P) where
+module _ {W X : List ℕ} {b a m : ℕ} {k : Token} {cs : Forest} (t : RepT W X b a m k cs) (c : ℕ) (P : ℕ → Bool) (e : Covers c P) where
   -- it shares a class with the pass exactly where a leaf of the pass is at or below it
   pub tree-shares : shares (wd W (8 * b + 7)) c ≡ not (free P (node k cs nil))
   tree-shares = notes-meet c P e (t .noted) (tree-legal t)
 
 -- it has none
-pub tree-free : {W X : List ℕ} {b a m : ℕ} {k : Token} {cs : Forest} (c : ℕ) (P : ℕ → Bool) → Exact c P → RepT W X b a m k cs
+pub tree-free : {W X : List ℕ} {b a m : ℕ} {k : Token} {cs : Forest} (c : ℕ) (P : ℕ → Bool) → Covers c P → RepT W X b a m k cs
     → shares (wd W (8 * b + 7)) c ≡ false → free P (node k cs nil) ≡ true
 tree-free {k = k} {cs = cs} c P e t h = not-false (free P (node k cs nil)) (sym (tree-shares t c P e) ∙ h)
 
 -- it has one
-pub tree-unfree : {W X : List ℕ} {b a m : ℕ} {k : Token} {cs : Forest} (c : ℕ) (P : ℕ → Bool) → Exact c P → RepT W X b a m k cs
+pub tree-unfree : {W X : List ℕ} {b a m : ℕ} {k : Token} {cs : Forest} (c : ℕ) (P : ℕ → Bool) → Covers c P → RepT W X b a m k cs
     → shares (wd W (8 * b + 7)) c ≡ true → free P (node k cs nil) ≡ false
 tree-unfree {k = k} {cs = cs} c P e t h = not-true (free P (node k cs nil)) (sym (tree-shares t c P e) ∙ h)
 
@@ -169,7 +169,7 @@ unfolding innerAt
 inner-node W b c e = sym (when-false (isLeafAt W b) false (shares (wd W (8 * b + 7)) c) e)
 
 -- whether leaves of the pass are below it
-pub inner-tree : {W X : List ℕ} {b a m : ℕ} {k : Token} (cs : Forest) (c : ℕ) (P : ℕ → Bool) → Exact c P → RepT W X b a m k cs
+pub inner-tree : {W X : List ℕ} {b a m : ℕ} {k : Token} (cs : Forest) (c : ℕ) (P : ℕ → Bool) → Covers c P → RepT W X b a m k cs
     → innerAt W b c ≡ elim (isNil cs) [ true ↦ false | false ↦ not (free P cs) ]
 unfolding isNil
 inner-tree {W} {b = b} nil c P e t = sym (inner-leaf W b c (leaf-test nil t))

@@ -16,7 +16,7 @@ use Rattle.nodes.specs.declared.frames.List.{List as Items}
 use Rattle.nodes.proofs.Runs.{set-same, set-other, set-long}
 use Rattle.nodes.proofs.Store.{tree-below, back-raise}
 use Rattle.nodes.proofs.Trees.{leaf-test}
-use Rattle.levels.specs.Passes.{movedTo, Exact}
+use Rattle.levels.specs.Passes.{movedTo, Covers}
 use Rattle.levels.specs.Items.{BackArray, Ahead, CanSeek, Passed, here, over, Seen, SoughtTo, none, leaf, tree, Sought}
 use Rattle.levels.specs.declared.items.Found.the-variants.{Nothing, Children, Token as Leaf}
 use Rattle.levels.proofs.Reading.{AheadTo, item, ahead-item, ahead-end, ahead-le, ahead-keep, array-put, tree-free, tree-unfree, unfree-leaf, unfree-tree}
@@ -40,7 +40,7 @@ pub record SeekAt (W : List ℕ) (l : Items) (g : CanSeek W l) (P : ℕ → Bool
   pub behind : write ≤ read
 
 pub record Seeking (W : List ℕ) (l : Items) (c : ℕ) (Z : List ℕ) (read write : ℕ) : Type 0 where
-  pub at : (g : CanSeek W l) (P : ℕ → Bool) → Exact c P → SeekAt W l g P Z read write
+  pub at : (g : CanSeek W l) (P : ℕ → Bool) → Covers c P → SeekAt W l g P Z read write
   pub from : l .write ≤ write
   pub to : write ≤ read
   pub within : read ≤ l .len
@@ -69,7 +69,7 @@ module _ {W : List ℕ} {l : Items} {g : CanSeek W l} {P : ℕ → Bool} {Z : Li
       go (item low t r) = omega (arith, tree-below t, ahead-le r .0, g .below)
 
   -- it is passed over
-  seek-more : (c : ℕ) → Exact c P → (Z' : List ℕ) → shares (wd Z (8 * wd Z (l .base + read) + 7)) c ≡ false
+  seek-more : (c : ℕ) → Covers c P → (Z' : List ℕ) → shares (wd Z (8 * wd Z (l .base + read) + 7)) c ≡ false
       → Z' ≡ set Z (l .base + write) (wd Z (l .base + read)) → l .base + write < length Z → SeekAt W l g P Z' (read + 1) (write + 1)
   seek-more c e Z' f ez room = go (v .passed) (ahead-item (wd Z (l .base + read)) refl h (v .ahead))
     where
@@ -106,7 +106,7 @@ module _ {W : List ℕ} {l : Items} {g : CanSeek W l} {P : ℕ → Bool} {Z : Li
       }
 
   -- it is a token of the pass
-  seek-leaf : (c : ℕ) → Exact c P → shares (wd Z (8 * wd Z (l .base + read) + 7)) c ≡ true → isLeafAt Z (wd Z (l .base + read)) ≡ true
+  seek-leaf : (c : ℕ) → Covers c P → shares (wd Z (8 * wd Z (l .base + read) + 7)) c ≡ true → isLeafAt Z (wd Z (l .base + read)) ≡ true
       → SoughtTo Z (g .X) l (g .at) (g .lo) (g .hi) P (g .d) (g .rest) (Leaf (movedTo l (read + 1) write) (wd Z (l .base + read)))
   unfolding isNil
   seek-leaf c e f leafy = go (v .passed) (ahead-item (wd Z (l .base + read)) refl h (v .ahead))
@@ -124,7 +124,7 @@ module _ {W : List ℕ} {l : Items} {g : CanSeek W l} {P : ℕ → Bool} {Z : Li
       go p (item {cs = cs} low t r) = at cs (sym (leaf-test cs t) ∙ leafy) p low t r
 
   -- it has one below it
-  seek-tree : (c : ℕ) → Exact c P → shares (wd Z (8 * wd Z (l .base + read) + 7)) c ≡ true → isLeafAt Z (wd Z (l .base + read)) ≡ false
+  seek-tree : (c : ℕ) → Covers c P → shares (wd Z (8 * wd Z (l .base + read) + 7)) c ≡ true → isLeafAt Z (wd Z (l .base + read)) ≡ false
       → SoughtTo Z (g .X) l (g .at) (g .lo) (g .hi) P (g .d) (g .rest) (Children (movedTo l (read + 1) write) (wd Z (l .base + read)))
   seek-tree c e f leafy = go (v .passed) (ahead-item (wd Z (l .base + read)) refl h (v .ahead))
     where

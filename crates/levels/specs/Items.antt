@@ -13,7 +13,7 @@ use Rattle.ops.specs.Classes.{shares}
 use Rattle.nodes.specs.Store.{wd, SegB, RepT, RepB, InArray}
 use Rattle.nodes.specs.Slots.{opAt, isLeafAt}
 use Rattle.nodes.specs.declared.frames.List.{List as Items}
-use Rattle.levels.specs.Passes.{movedTo, Exact}
+use Rattle.levels.specs.Passes.{movedTo, Covers}
 use Rattle.levels.specs.declared.items.Found.{Found}
 use Rattle.levels.specs.declared.items.Found.the-variants.{Nothing, Children, Token as Leaf}
 
@@ -97,6 +97,6 @@ pub data SoughtTo (W' X : List ℕ) (l : Items) (at lo hi : ℕ) (P : ℕ → Bo
 
 -- What `next_token` found of the operators whose classes c are; all words but those of the list from `write` on are as they were.
 pub record Sought (W : List ℕ) (l : Items) (c : ℕ) (r : Found) (W' : List ℕ) : Type 0 where
-  pub to : (g : CanSeek W l) (P : ℕ → Bool) → Exact c P → SoughtTo W' (g .X) l (g .at) (g .lo) (g .hi) P (g .d) (g .rest) r
+  pub to : (g : CanSeek W l) (P : ℕ → Bool) → Covers c P → SoughtTo W' (g .X) l (g .at) (g .lo) (g .hi) P (g .d) (g .rest) r
   pub same : (j : ℕ) → (j < l .base + l .write) ⊎ (l .base + l .len ≤ j) → wd W' j ≡ wd W j
   pub long : length W' ≡ length W

@@ -3,4 +3,3 @@ pub mod Items
 pub mod Sides
 pub mod Failures
 pub mod Turns
-pub mod Grouped

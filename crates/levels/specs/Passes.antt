@@ -83,9 +83,9 @@ operators conditional = isConditional
 operators returns = isReturn
 operators (binary ops) = isOneOf ops
 
--- The classes c are those of the operators P.
-abbrev pub Exact : ℕ → (ℕ → Bool) → Type 0
-Exact c P = (n : ℕ) → n ≤ 110 → meets c n ≡ P n
+-- The classes c cover the operators P: an operator is in one of them where it is one of P.
+abbrev pub Covers : ℕ → (ℕ → Bool) → Type 0
+Covers c P = (n : ℕ) → n ≤ 110 → meets c n ≡ P n
 
 -- The state is one of the pass.
 pub data Runs : Kind → Pass → Type 0 where
@@ -95,7 +95,7 @@ pub data Runs : Kind → Pass → Type 0 where
   split : {done : ℕ} → Runs statements (Split done)
   array : {array lent : ℕ} → Runs arrays (Arrays array lent)
   unary : Runs unaries Unary
-  level : {ops : List ℕ} {classes : TokenClasses} {pending : ℕ} → Exact (classes .0) (isOneOf ops) → Runs (binary ops) (Binary classes pending)
+  level : {ops : List ℕ} {classes : TokenClasses} {pending : ℕ} → Covers (classes .0) (isOneOf ops) → Runs (binary ops) (Binary classes pending)
   conditionalPass : {tokens : ℕ} → Runs conditional (Conditional tokens)
   returnPass : Runs returns Returns
 

@@ -11,7 +11,7 @@ use lib.Seq.{getD-append-add}
 use Rattle.molang.specs.Operator.{any, isOneOf}
 use Rattle.molang.specs.Order.{Rules, Pass, binary, comparisons, logic, conditionals, runs}
 use Rattle.ops.specs.declared.classes.TokenClasses.{TokenClasses}
-use Rattle.levels.specs.Passes.{Exact}
+use Rattle.levels.specs.Passes.{Covers}
 use Rattle.levels.specs.declared.turns.Pass.{Pass as State}
 use Rattle.order.specs.declared.Choice.{Choice}
 use Rattle.order.specs.declared.Choice.the-variants.{Skip}
@@ -50,10 +50,10 @@ module _ (u : ℕ → Bool) where
   chosen-if p state false runs-so starts x e = rw e (unused (sym runs-so))
 
   -- The level of one operator.
-  pub one-level : (o : ℕ) (classes : TokenClasses) → Exact (classes .0) (isOneOf (o ∷ [])) → (x : Choice) → x ≡ choiceIf (u o) (levelOf classes)
+  pub one-level : (o : ℕ) (classes : TokenClasses) → Covers (classes .0) (isOneOf (o ∷ [])) → (x : Choice) → x ≡ choiceIf (u o) (levelOf classes)
       → Chosen u (some (binary (o ∷ []))) x
   unfolding runs
-  one-level o classes exact x e = chosen-if (binary (o ∷ [])) (levelOf classes) (u o) (one-used u o) (level exact) x e
+  one-level o classes covers x e = chosen-if (binary (o ∷ [])) (levelOf classes) (u o) (one-used u o) (level covers) x e
 
   -- After the last place of a group.
   pub no-place : (group : List (Option Pass)) (k : ℕ) → length group ≤ k → Chosen u (placeIn group k) Skip

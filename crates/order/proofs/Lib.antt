@@ -1,5 +1,5 @@
 -- The laws that the proofs of several functions share, and those that crates above cite.
-pub mod Exactness
+pub mod Covering
 pub mod Choosing
 pub mod Running
 pub mod Folding

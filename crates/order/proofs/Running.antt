@@ -161,9 +161,9 @@ of-kind mathCall = record { kind = kinds.calls math; runs-kind = walks.mathCall;
 of-kind unary = record { kind = kinds.unaries; runs-kind = walks.unary; does = λ n f. refl }
 of-kind conditionalPass = record { kind = kinds.conditional; runs-kind = walks.conditionalPass; does = λ n f. refl }
 of-kind returnPass = record { kind = kinds.returns; runs-kind = walks.returnPass; does = λ n f. refl }
-of-kind (point exact) = record { kind = kinds.binary (Operator.pointer ∷ []); runs-kind = walks.level exact; does = λ n f. refl }
-of-kind (plus exact) = record { kind = kinds.binary (Operator.add ∷ []); runs-kind = walks.level exact; does = λ n f. refl }
-of-kind (level {ops = ops} exact) = record { kind = kinds.binary ops; runs-kind = walks.level exact; does = λ n f. refl }
+of-kind (point covers) = record { kind = kinds.binary (Operator.pointer ∷ []); runs-kind = walks.level covers; does = λ n f. refl }
+of-kind (plus covers) = record { kind = kinds.binary (Operator.add ∷ []); runs-kind = walks.level covers; does = λ n f. refl }
+of-kind (level {ops = ops} covers) = record { kind = kinds.binary ops; runs-kind = walks.level covers; does = λ n f. refl }
 
 -- ---- The pointer's place
 

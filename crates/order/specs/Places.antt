@@ -13,7 +13,7 @@ use Rattle.molang.specs.Order.{Rules, isFrom, Pass, callPass, statements, array
 use Rattle.molang.specs.Parse.{inHalves}
 use Rattle.ops.specs.declared.classes.TokenClasses.{TokenClasses}
 use Rattle.ops.specs.declared.sets.OpSet.{OpSet}
-use Rattle.levels.specs.Passes.{Exact}
+use Rattle.levels.specs.Passes.{Covers}
 use Rattle.levels.specs.declared.turns.Pass.{Pass as State}
 use Rattle.levels.specs.declared.turns.Pass.the-variants.{Calls, MathCalls, Unsplit, Arrays, Unary, Binary, Conditional, Returns}
 use Rattle.order.specs.declared.Choice.{Choice}
@@ -98,9 +98,9 @@ pub data Starts : Pass → State → Type 0 where
   unary : Starts unaryMinusAndNot Unary
   conditionalPass : Starts conditional (Conditional 0)
   returnPass : Starts returns Returns
-  point : {classes : TokenClasses} → Exact (classes .0) (isOneOf (Operator.pointer ∷ [])) → Starts pointer (levelOf classes)
-  plus : {classes : TokenClasses} → Exact (classes .0) (isOneOf (Operator.add ∷ [])) → Starts addition (levelOf classes)
-  level : {ops : List ℕ} {classes : TokenClasses} → Exact (classes .0) (isOneOf ops) → Starts (binary ops) (levelOf classes)
+  point : {classes : TokenClasses} → Covers (classes .0) (isOneOf (Operator.pointer ∷ [])) → Starts pointer (levelOf classes)
+  plus : {classes : TokenClasses} → Covers (classes .0) (isOneOf (Operator.add ∷ [])) → Starts addition (levelOf classes)
+  level : {ops : List ℕ} {classes : TokenClasses} → Covers (classes .0) (isOneOf ops) → Starts (binary ops) (levelOf classes)
 
 -- What is chosen at a place, under a used set.
 pub data Chosen (u : ℕ → Bool) : Option Pass → Choice → Type 0 where

@@ -3,10 +3,10 @@
 // classes, versions); specs/Places lays the definition's order out in places.
 use levels::turns::Pass;
 use ops::classes::TokenClasses;
-use ops::is_from_5;
-use ops::is_from_6;
 use ops::op;
 use ops::sets::OpSet;
+use ops::version::is_from_5;
+use ops::version::is_from_6;
 ghost use mathlib.Core.Path.{_≡_};
 ghost use mathlib.Core.Bool.{true, false};
 ghost use mathlib.Core.List.{[], _∷_};
@@ -247,7 +247,7 @@ fn last_passes(k: u32, used: OpSet) -> Choice
     }
 }
 
-// The pass at place k, at a version as the rules use it (`ops::effective`).
+// The pass at place k, at a version as the rules use it (`ops::version::effective`).
 pub fn pass_at(k: u32, used: OpSet, version: i16) -> Choice
     ensures { λ r. ⌜ Chosen (usedBy used) (placeIn (places (rulesOf version)) k) r ⌝ }
 {

@@ -19,7 +19,7 @@ use Rattle.accept.specs.declared.Accepted.the-variants.{Tokens, Refused}
 use Rattle.accept.proofs.AcceptLaws.{checked, reads-call, refuses-call}
 use Rattle.buffers.specs.Load.{CanLoad, Loaded}
 use Rattle.buffers.proofs.Loading.{loaded-array}
-use Rattle.levels.specs.declared.grouped.Grouped.{Grouped}
+use Rattle.grouping.specs.declared.grouped.Grouped.{Grouped}
 use Rattle.parse.specs.declared.Answer.{Answer}
 use Rattle.parse.specs.declared.Answer.the-variants.{Refused as Turned}
 use Rattle.parse.specs.Answers.{toldOf}

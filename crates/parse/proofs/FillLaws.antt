@@ -16,12 +16,12 @@ use Rattle.nodes.specs.Store.{wd}
 use Rattle.buffers.specs.Emit.{Linked, CanLayOut, LaidOut}
 use Rattle.buffers.proofs.Linking.{owned-linked, linked-nil, linked-none, linked-open}
 use Rattle.levels.specs.Failures as failures
-use Rattle.levels.specs.Grouped.{StandsFor, roots, failed, mismatched, unclosed, pointerFailed}
+use Rattle.grouping.specs.Grouped.{StandsFor, roots, failed, mismatched, unclosed, pointerFailed}
 use Rattle.levels.specs.declared.failure.Failure.{Failure}
 use Rattle.levels.specs.declared.failure.Mismatch.{Mismatch}
 use Rattle.levels.specs.declared.failure.Unclosed.{Unclosed}
-use Rattle.levels.specs.declared.grouped.Grouped.{Grouped}
-use Rattle.levels.specs.declared.grouped.Grouped.the-variants.{Roots, Failed, Mismatched, Unclosed as Unclosing, PointerFailed}
+use Rattle.grouping.specs.declared.grouped.Grouped.{Grouped}
+use Rattle.grouping.specs.declared.grouped.Grouped.the-variants.{Roots, Failed, Mismatched, Unclosed as Unclosing, PointerFailed}
 use Rattle.parse.specs.declared.Answer.{Answer}
 use Rattle.parse.specs.declared.Answer.the-variants.{Tree, Messages}
 use Rattle.parse.specs.Reports.{CanReport, Reported, CanReportTwo, CanReportRoots, RootsReported}

@@ -19,7 +19,7 @@ use Rattle.words.specs.declared.records.Record.{Record}
 use Rattle.nodes.specs.Store.{wd, TokenAt}
 use Rattle.nodes.proofs.Tokens.{operator-word, upper-word, lower-word, token-op, token-start, token-end}
 use Rattle.levels.specs.Failures.{Tells, leadingMemberAccessor, emptyParameterList, mathAtEnd, mathWithoutParenthesis, leadingSemicolon, emptyArrayIndex, binaryAtEnd, negateWithoutOperand, notWithoutOperand, unknownOperation, unaryWithoutOperand, ternaryWithoutOperands}
-use Rattle.levels.specs.Grouped.{Says, tells, notEnded, withoutTokens}
+use Rattle.grouping.specs.Grouped.{Says, tells, notEnded, withoutTokens}
 use Rattle.levels.specs.declared.failure.Failure.{Failure}
 use Rattle.parse.specs.Records.{Within, hostAt, closerAt, Named, recordFor}
 

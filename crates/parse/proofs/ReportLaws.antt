@@ -16,11 +16,11 @@ use Rattle.words.proofs.RecordLaws.{laid-front, laid-after}
 use Rattle.nodes.specs.Store.{TokenAt}
 use Rattle.nodes.proofs.Tokens.{token-op, token-start, token-end}
 use Rattle.levels.specs.Failures as failures
-use Rattle.levels.specs.Grouped.{tells, StandsFor, failed, mismatched, unclosed, pointerFailed}
+use Rattle.grouping.specs.Grouped.{tells, StandsFor, failed, mismatched, unclosed, pointerFailed}
 use Rattle.levels.specs.declared.failure.Failure.{Failure}
 use Rattle.levels.specs.declared.failure.Mismatch.{Mismatch}
 use Rattle.levels.specs.declared.failure.Unclosed.{Unclosed}
-use Rattle.levels.specs.declared.grouped.Grouped.the-variants.{Failed, Mismatched, Unclosed as Unclosing, PointerFailed}
+use Rattle.grouping.specs.declared.grouped.Grouped.the-variants.{Failed, Mismatched, Unclosed as Unclosing, PointerFailed}
 use Rattle.parse.specs.Records.{Within, openRecord, mismatchRecord, unclosedRecord, Named, recordFor}
 use Rattle.parse.specs.Reports.{CanReport, Reported}
 use Rattle.parse.proofs.RecordLaws.{slot-within, closer-token, says-slots, says-words, tells-one}

@@ -10,8 +10,8 @@ use Rattle.molang.specs.Words.{tokensOf, operatorField, wordsRefusal}
 use Rattle.molang.specs.Parse.{mostTokens, told, treeIn, messagesIn}
 use Rattle.ops.specs.declared.sets.OpSet.{OpSet}
 use Rattle.order.specs.Places.{usedBy}
-use Rattle.levels.specs.Grouped.{StandsFor}
-use Rattle.levels.specs.declared.grouped.Grouped.{Grouped}
+use Rattle.grouping.specs.Grouped.{StandsFor}
+use Rattle.grouping.specs.declared.grouped.Grouped.{Grouped}
 use Rattle.parse.specs.declared.Answer.{Answer}
 use Rattle.parse.specs.Answers.{toldOf}
 

@@ -12,8 +12,8 @@ use Rattle.words.specs.Extents.{firstExtent}
 use Rattle.words.specs.declared.extent.Extent.{Extent}
 use Rattle.nodes.specs.Store.{wd}
 use Rattle.buffers.specs.Emit.{Linked}
-use Rattle.levels.specs.Grouped.{StandsFor}
-use Rattle.levels.specs.declared.grouped.Grouped.{Grouped}
+use Rattle.grouping.specs.Grouped.{StandsFor}
+use Rattle.grouping.specs.declared.grouped.Grouped.{Grouped}
 
 -- The words are whole slots; what the passes left stands for an answer.
 pub record CanReport (W messages : List ℕ) (sourceLength : ℕ) (g : Grouped) : Type 0 where

@@ -10,14 +10,14 @@ use buffers::emit::clear;
 use buffers::emit::lay_out;
 use buffers::load::load;
 use grouping::group::group;
-use levels::grouped::Grouped;
+use grouping::grouped::Grouped;
 use nodes::slots;
 use nodes::slots::ROOT;
-use ops::effective;
 use ops::sets::OpSet;
+use ops::version::effective;
 ghost use mathlib.Core.Path.{_≡_};
 ghost use Rattle.molang.specs.Parse.{answered, treeAfter, messagesAfter, workAfter};
-ghost use Rattle.levels.specs.declared.grouped.Grouped.the-variants.{Roots};
+ghost use Rattle.grouping.specs.declared.grouped.Grouped.the-variants.{Roots};
 ghost use Rattle.parse.specs.Answers.{toldOf, call};
 ghost use Rattle.parse.specs.Fills.{CanFill, Filled, CanRead, HasRead};
 

@@ -20,7 +20,7 @@ ghost use lib.ListN.{length};
 ghost use Rattle.words.specs.Records.{laidAt};
 ghost use Rattle.parse.specs.Records.{Within, spanRecord, nameRecord, hostAt, mathRecord, openRecord, mismatchRecord, unclosedRecord, Named, recordFor};
 ghost use Rattle.molang.specs.Message.{messageRecord, multipleRoots};
-ghost use Rattle.levels.specs.declared.grouped.Grouped.the-variants.{Failed, Mismatched, Unclosed as Unclosing, PointerFailed};
+ghost use Rattle.grouping.specs.declared.grouped.Grouped.the-variants.{Failed, Mismatched, Unclosed as Unclosing, PointerFailed};
 ghost use Rattle.parse.specs.Reports.{CanReport, Reported, CanReportTwo, TwoReported, CanMeasure, Measured, CanReportRoots, RootsReported};
 
 // A message at the span from one slot's start to another's end.

@@ -34,7 +34,7 @@ use Rattle.levels.specs.declared.turns.Pass.the-variants.{Arrays}
 use Rattle.levels.specs.declared.turns.Turn.{Turn}
 use Rattle.levels.specs.declared.turns.Turn.the-variants.{On, Enter, Fail}
 use Rattle.levels.proofs.Reading.{back-array-keep, ahead-keep, ahead-le, can-peek, NextTo, ended, differs, found, same-within}
-use Rattle.levels.proofs.PassClasses.{runs-exact}
+use Rattle.levels.proofs.PassClasses.{runs-covers}
 use Rattle.passes.specs.TokenTurns.{AtItem, AtToken, any}
 use Rattle.passes.specs.Arrays.{CanGather, Gathered, CanRound, Rounded, CanIndex, Indexed, empty, opens, NameTurned}
 use Rattle.passes.proofs.ArrayLaws.{array-on, array-stop, array-in, name-waits, indexed-empty, indexed-in, indexed-lends, lent-indexed, flush}
@@ -55,7 +55,7 @@ array-left : LeftLevel arrays (Arrays 0 0) isArrayName unindexed any
 unfolding work begins waits operators arrayLevel
 array-left =
     record {
-      exact = runs-exact arrays (Arrays 0 0) passes.array;
+      covers = runs-covers arrays (Arrays 0 0) passes.array;
       sides = λ fine done ahead low mid high below within.
           record { runs = passes.array; done = ArraySide.all done; unread = ahead; agrees = tt; low = low; mid = mid; high = high; below = below; within = within };
       turning = λ v h. (refl, h);

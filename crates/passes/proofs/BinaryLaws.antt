@@ -24,7 +24,7 @@ use Rattle.nodes.specs.declared.frames.List.{List as Items}
 use Rattle.nodes.proofs.Runs.{set-same, set-other, set-long}
 use Rattle.nodes.proofs.Store.{tree-below, tree-out, back-le}
 use Rattle.nodes.proofs.Trees.{tree-under, attach-two-trees, attach-two-kept}
-use Rattle.levels.specs.Passes.{walkOf, movedTo, Exact, Runs, level, waits}
+use Rattle.levels.specs.Passes.{walkOf, movedTo, Covers, Runs, level, waits}
 use Rattle.levels.specs.Items.{BackArray, Ahead, Passed, here, over, innerAt}
 use Rattle.levels.specs.Sides.{LevelSide, all, operator, Holds, Waits}
 use Rattle.levels.specs.Turns.{CanResume, Resumed, Within, afresh, TurnTo, goes, enters, fails}
@@ -56,13 +56,13 @@ passed-clear : (P : ℕ → Bool) {d rest d' rest' : Forest} → Passed P d rest
 passed-clear P here e = e
 passed-clear P (over {d = d} {cs = cs} {k = k} h p) e = passed-clear P p (free-onto P k cs d h e)
 
-level-of : (ops : List ℕ) (classes : TokenClasses) → Exact (classes .0) (isOneOf ops) → LeftLevel (binary ops) (Binary classes 0) (isOneOf ops) gathered (clear (isOneOf ops))
+level-of : (ops : List ℕ) (classes : TokenClasses) → Covers (classes .0) (isOneOf ops) → LeftLevel (binary ops) (Binary classes 0) (isOneOf ops) gathered (clear (isOneOf ops))
 unfolding work begins waits binaryLevel nothing
-level-of ops classes exact =
+level-of ops classes covers =
     record {
-      exact = exact;
+      covers = covers;
       sides = λ fine done ahead low mid high below within.
-          record { runs = level exact; done = all fine done; unread = ahead; agrees = tt; low = low; mid = mid; high = high; below = below; within = within };
+          record { runs = level covers; done = all fine done; unread = ahead; agrees = tt; low = low; mid = mid; high = high; below = below; within = within };
       turning = λ v h. (refl, h);
       framed = λ v h. h;
       calm = λ d. refl;
@@ -74,17 +74,17 @@ level-of ops classes exact =
     }
 
 module _ {T : (κ : Kind) → (Forest → State κ) → (ℕ → Bool) → (Forest → Bool) → Type 0} (W : List ℕ) (v : Items) (classes : TokenClasses) where
-  open-side : (ops : List ℕ) → Exact (classes .0) (isOneOf ops) → T (binary ops) gathered (isOneOf ops) (clear (isOneOf ops))
+  open-side : (ops : List ℕ) → Covers (classes .0) (isOneOf ops) → T (binary ops) gathered (isOneOf ops) (clear (isOneOf ops))
       → {X : List ℕ} {lo l m hi : ℕ} {s : Gathered} {rest : Forest} → LevelSide W X (v .base) (v .write) lo l ops (Binary classes 0) s → Ahead W X (v .base) (v .read) (v .len) m hi rest
       → l ≤ m → v .write ≤ v .read → 8 * hi ≤ v .base → v .base + v .len ≤ length W → length W < 2 ^ 32 → Stands T W v (Binary classes 0) (binary ops) X lo hi s rest
-  open-side ops exact t (all fine done) ahead mid behind below within small = stands (level-of ops classes exact) t fine done ahead mid behind below within small
-  open-side ops exact t (operator fine done full clean tree) ahead mid behind below within small = absurd (omega (arith, tree .pos))
+  open-side ops covers t (all fine done) ahead mid behind below within small = stands (level-of ops classes covers) t fine done ahead mid behind below within small
+  open-side ops covers t (operator fine done full clean tree) ahead mid behind below within small = absurd (omega (arith, tree .pos))
 
-  pub level-stands : ((ops : List ℕ) → Exact (classes .0) (isOneOf ops) → T (binary ops) gathered (isOneOf ops) (clear (isOneOf ops))) → Standing T W v (Binary classes 0)
+  pub level-stands : ((ops : List ℕ) → Covers (classes .0) (isOneOf ops) → T (binary ops) gathered (isOneOf ops) (clear (isOneOf ops))) → Standing T W v (Binary classes 0)
   level-stands t g = go (g .holds .sides .runs) (g .holds)
     where
       go : {κ : Kind} {X : List ℕ} {lo hi : ℕ} {s : State κ} {rest : Forest} → Runs κ (Binary classes 0) → Holds κ W X lo hi (walkOf v (Binary classes 0)) s rest → Stands T W v (Binary classes 0) κ X lo hi s rest
-      go (level {ops = ops} exact) h = open-side ops exact (t ops exact) (h .sides .done) (h .sides .unread) (h .sides .mid) (h .turning .1) (h .sides .below) (h .sides .within) (g .small)
+      go (level {ops = ops} covers) h = open-side ops covers (t ops covers) (h .sides .done) (h .sides .unread) (h .sides .mid) (h .turning .1) (h .sides .below) (h .sides .within) (g .small)
 
 -- ---- an operator's turn, in the definition
 
@@ -223,11 +223,11 @@ joined-clear P nil q x xs n h = absurd (true≢false n)
 joined-clear P (node l ls d) q x xs n h = clear-rest P l ls d h
 
 -- the list after a fold
-fold-holds : {W W' X : List ℕ} {v : Items} {lo m hi : ℕ} {d : Forest} {q x : Token} {xs rest : Forest} (ops : List ℕ) (classes : TokenClasses) → Exact (classes .0) (isOneOf ops)
+fold-holds : {W W' X : List ℕ} {v : Items} {lo m hi : ℕ} {d : Forest} {q x : Token} {xs rest : Forest} (ops : List ℕ) (classes : TokenClasses) → Covers (classes .0) (isOneOf ops)
     → FoldDone W W' X v lo m hi d q x xs rest → clear (isOneOf ops) (joined d q x xs) ≡ true → v .write ≤ v .read → 8 * hi ≤ v .base → v .base + v .len ≤ length W
     → Holds (binary ops) W' X lo hi (walkOf v (Binary classes 0)) (gathered (joined d q x xs)) rest
-fold-holds {v = v} {m = m} ops classes exact f fine behind below within =
-    let L = level-of ops classes exact in
+fold-holds {v = v} {m = m} ops classes covers f fine behind below within =
+    let L = level-of ops classes covers in
     record {
       l = m;
       m = m;
@@ -238,15 +238,15 @@ fold-holds {v = v} {m = m} ops classes exact f fine behind below within =
 -- ---- `resume`
 
 module _ {W : List ℕ} {v : Items} {b : ℕ} (classes : TokenClasses) where
-  side-kept : {W' X : List ℕ} {lo l m hi pending : ℕ} {t : Gathered} {k : Token} {kids rest : Forest} (ops : List ℕ) → Exact (classes .0) (isOneOf ops) → pending ≡ 0 → W' ≡ set W (v .base + v .write) b
+  side-kept : {W' X : List ℕ} {lo l m hi pending : ℕ} {t : Gathered} {k : Token} {kids rest : Forest} (ops : List ℕ) → Covers (classes .0) (isOneOf ops) → pending ≡ 0 → W' ≡ set W (v .base + v .write) b
       → LevelSide W X (v .base) (v .write) lo l ops (Binary classes pending) t → Ahead W X (v .base) (v .read) (v .len) m hi rest → RepT W X b l m k kids → isNil kids ≡ false
       → v .write < v .read → 8 * hi ≤ v .base → v .base + v .len ≤ length W → length W < 2 ^ 32
       → Holds (binary ops) W' X lo hi (walkOf (movedTo v (v .read) (v .write + 1)) (Binary classes 0)) (takes (binary ops) t k kids) rest × Within W W' X lo hi v
   unfolding takes binaryLevel binaryResume
-  side-kept {W'} {X} {lo} {l} {m} {hi} {k = k} {kids = kids} {rest = rest} ops exact z s (all {d = d} fine done) ahead tree full behind below within small =
+  side-kept {W'} {X} {lo} {l} {m} {hi} {k = k} {kids = kids} {rest = rest} ops covers z s (all {d = d} fine done) ahead tree full behind below within small =
       let i : AtItem W X v b lo hi d k kids rest = record { a = l; m = m; done = done; tree = tree; ahead = ahead; behind = behind; below = below; within = within; small = small } in
-      (item-holds (level-of ops classes exact) i s (clear-tree (isOneOf ops) k kids d full fine), kept-within W W' i s)
-  side-kept ops exact z s (operator fine done full' clean q) ahead tree full behind below within small = absurd (omega (arith, q .pos))
+      (item-holds (level-of ops classes covers) i s (clear-tree (isOneOf ops) k kids d full fine), kept-within W W' i s)
+  side-kept ops covers z s (operator fine done full' clean q) ahead tree full behind below within small = absurd (omega (arith, q .pos))
 
   side-folds : {X : List ℕ} {lo l m hi pending : ℕ} {t : Gathered} {k : Token} {kids rest : Forest} (ops : List ℕ) → pending ≢ 0
       → LevelSide W X (v .base) (v .write) lo l ops (Binary classes pending) t → Ahead W X (v .base) (v .read) (v .len) m hi rest → RepT W X b l m k kids
@@ -254,28 +254,28 @@ module _ {W : List ℕ} {v : Items} {b : ℕ} (classes : TokenClasses) where
   side-folds ops n (all fine done) ahead tree behind below within = absurd (n refl)
   side-folds {l = l} ops n (operator fine done full clean q) ahead tree behind below within = can-fold full done q tree (le-refl l) ahead (omega arith) below within
 
-  side-folded : {W' X : List ℕ} {lo l m hi pending : ℕ} {t : Gathered} {k : Token} {kids rest : Forest} (ops : List ℕ) → Exact (classes .0) (isOneOf ops) → pending ≢ 0 → Folded W v pending b W'
+  side-folded : {W' X : List ℕ} {lo l m hi pending : ℕ} {t : Gathered} {k : Token} {kids rest : Forest} (ops : List ℕ) → Covers (classes .0) (isOneOf ops) → pending ≢ 0 → Folded W v pending b W'
       → LevelSide W X (v .base) (v .write) lo l ops (Binary classes pending) t → Ahead W X (v .base) (v .read) (v .len) m hi rest → RepT W X b l m k kids
       → v .write < v .read → 8 * hi ≤ v .base → v .base + v .len ≤ length W
       → Holds (binary ops) W' X lo hi (walkOf v (Binary classes 0)) (takes (binary ops) t k kids) rest × Within W W' X lo hi v
   unfolding takes binaryLevel binaryResume
-  side-folded ops exact n w (all fine done) ahead tree behind below within = absurd (n refl)
-  side-folded {l = l} {k = k} {kids = kids} ops exact n w (operator {d = d} {q = kq} fine done full clean q) ahead tree behind below within =
+  side-folded ops covers n w (all fine done) ahead tree behind below within = absurd (n refl)
+  side-folded {l = l} {k = k} {kids = kids} ops covers n w (operator {d = d} {q = kq} fine done full clean q) ahead tree behind below within =
       let f = fold-done full done q tree (le-refl l) ahead (omega arith) below within w in
-      (fold-holds ops classes exact f (joined-clear (isOneOf ops) d kq k kids full fine) (omega arith) below within, f .within)
+      (fold-holds ops classes covers f (joined-clear (isOneOf ops) d kq k kids full fine) (omega arith) below within, f .within)
 
   pub resume-room : {pending : ℕ} → CanResume W (walkOf v (Binary classes pending)) b → v .base + v .write < length W
   resume-room {pending} g = go (g .waits .sides .runs) (g .waits)
     where
       go : {κ : Kind} {X : List ℕ} {lo l m hi : ℕ} {t : State κ} {rest : Forest} → Runs κ (Binary classes pending) → Waits κ W X lo l m hi (walkOf v (Binary classes pending)) t rest → v .base + v .write < length W
-      go (level exact) h = omega (arith, h .framed, ahead-le (h .sides .unread), h .sides .within)
+      go (level covers) h = omega (arith, h .framed, ahead-le (h .sides .unread), h .sides .within)
 
   pub resume-folds : {pending : ℕ} → pending ≢ 0 → CanResume W (walkOf v (Binary classes pending)) b → CanFold W v pending b
   resume-folds {pending} n g = go (g .waits .sides .runs) (g .waits) (g .tree)
     where
       go : {κ : Kind} {X : List ℕ} {lo l m hi : ℕ} {t : State κ} {rest kids : Forest} {k : Token} → Runs κ (Binary classes pending) → Waits κ W X lo l m hi (walkOf v (Binary classes pending)) t rest
           → RepT W X b l m k kids → CanFold W v pending b
-      go (level {ops = ops} exact) h tree = side-folds ops n (h .sides .done) (h .sides .unread) tree (h .framed) (h .sides .below) (h .sides .within)
+      go (level {ops = ops} covers) h tree = side-folds ops n (h .sides .done) (h .sides .unread) tree (h .framed) (h .sides .below) (h .sides .within)
 
   kept-by : {pending : ℕ} {W' : List ℕ} → pending ≡ 0 → W' ≡ set W (v .base + v .write) b → (g : CanResume W (walkOf v (Binary classes pending)) b)
       → Holds (g .κ) W' (g .X) (g .lo) (g .hi) (walkOf (movedTo v (v .read) (v .write + 1)) (Binary classes 0)) (takes (g .κ) (g .t) (g .k) (g .kids)) (g .rest) × Within W W' (g .X) (g .lo) (g .hi) v
@@ -284,7 +284,7 @@ module _ {W : List ℕ} {v : Items} {b : ℕ} (classes : TokenClasses) where
       go : {κ : Kind} {X : List ℕ} {lo l m hi : ℕ} {t : State κ} {rest kids : Forest} {k : Token} → Runs κ (Binary classes pending) → Waits κ W X lo l m hi (walkOf v (Binary classes pending)) t rest
           → RepT W X b l m k kids → isNil kids ≡ false
           → Holds κ W' X lo hi (walkOf (movedTo v (v .read) (v .write + 1)) (Binary classes 0)) (takes κ t k kids) rest × Within W W' X lo hi v
-      go (level {ops = ops} exact) h tree full = side-kept ops exact z s (h .sides .done) (h .sides .unread) tree full (h .framed) (h .sides .below) (h .sides .within) (g .small)
+      go (level {ops = ops} covers) h tree full = side-kept ops covers z s (h .sides .done) (h .sides .unread) tree full (h .framed) (h .sides .below) (h .sides .within) (g .small)
 
   folded-by : {pending : ℕ} {W' : List ℕ} → pending ≢ 0 → Folded W v pending b W' → (g : CanResume W (walkOf v (Binary classes pending)) b)
       → Holds (g .κ) W' (g .X) (g .lo) (g .hi) (walkOf v (Binary classes 0)) (takes (g .κ) (g .t) (g .k) (g .kids)) (g .rest) × Within W W' (g .X) (g .lo) (g .hi) v
@@ -293,7 +293,7 @@ module _ {W : List ℕ} {v : Items} {b : ℕ} (classes : TokenClasses) where
       go : {κ : Kind} {X : List ℕ} {lo l m hi : ℕ} {t : State κ} {rest kids : Forest} {k : Token} → Runs κ (Binary classes pending) → Waits κ W X lo l m hi (walkOf v (Binary classes pending)) t rest
           → RepT W X b l m k kids
           → Holds κ W' X lo hi (walkOf v (Binary classes 0)) (takes κ t k kids) rest × Within W W' X lo hi v
-      go (level {ops = ops} exact) h tree = side-folded ops exact n w (h .sides .done) (h .sides .unread) tree (h .framed) (h .sides .below) (h .sides .within)
+      go (level {ops = ops} covers) h tree = side-folded ops covers n w (h .sides .done) (h .sides .unread) tree (h .framed) (h .sides .below) (h .sides .within)
 
   pub resumed-kept : {pending : ℕ} {W' : List ℕ} (l : Items) → pending ≡ 0 → W' ≡ set W (v .base + v .write) b → l ≡ movedTo v (v .read) (v .write + 1)
       → Resumed W (walkOf v (Binary classes pending)) b (walkOf l (Binary classes 0)) W'
@@ -308,10 +308,10 @@ module _ {W : List ℕ} {v : Items} {b : ℕ} (classes : TokenClasses) where
 -- ---- `folded`, `operator`
 
 -- nothing unfolded is below the left side
-left-clean : {W X : List ℕ} {v : Items} {lo a : ℕ} {d : Forest} (c : ℕ) (ops : List ℕ) → Exact c (isOneOf ops) → Last W X v lo a (leftOf W v) d → shares (wd W (8 * leftOf W v + 7)) c ≡ false
+left-clean : {W X : List ℕ} {v : Items} {lo a : ℕ} {d : Forest} (c : ℕ) (ops : List ℕ) → Covers c (isOneOf ops) → Last W X v lo a (leftOf W v) d → shares (wd W (8 * leftOf W v + 7)) c ≡ false
     → unfolded ops d ≡ none
 unfolding unfolded
-left-clean c ops exact (last {l = l} {ls = ls} e back left h) s = go ls (tree-free c (isOneOf ops) exact left s)
+left-clean c ops covers (last {l = l} {ls = ls} e back left h) s = go ls (tree-free c (isOneOf ops) covers left s)
   where
     go : (ls : Forest) → free (isOneOf ops) (node l ls nil) ≡ true → firstLeaf ops ls ≡ none
     go nil f = unfold firstLeaf in refl
@@ -342,16 +342,16 @@ inner-full P nil e = absurd (true≢false (sym e))
 inner-full P (node c cs r) e = refl
 
 -- an operator is left below the left side
-again-at : {W X : List ℕ} {v : Items} {lo a hi m s : ℕ} {d : Forest} {k : Token} {rest : Forest} (classes : TokenClasses) (ops : List ℕ) → Exact (classes .0) (isOneOf ops) → 8 * a ≤ length W → isOneOf ops (k .op) ≡ true → clear (isOneOf ops) d ≡ true → shares (wd W (8 * leftOf W v + 7)) (classes .0) ≡ true
+again-at : {W X : List ℕ} {v : Items} {lo a hi m s : ℕ} {d : Forest} {k : Token} {rest : Forest} (classes : TokenClasses) (ops : List ℕ) → Covers (classes .0) (isOneOf ops) → 8 * a ≤ length W → isOneOf ops (k .op) ≡ true → clear (isOneOf ops) d ≡ true → shares (wd W (8 * leftOf W v + 7)) (classes .0) ≡ true
     → LeafFound W (leftOf W v) (classes .0) s → Last W X v lo a (leftOf W v) d → AheadTo W X (v .base) (v .read) (v .len) m hi (wd W (v .base + v .read)) rest
     → TurnTo (binary ops) W X lo hi (walkOf v (Binary classes 0)) (gathered d) (node k nil rest) (Fail (BinaryAtEnd s))
 unfolding isNil
-again-at {W} {X} {v} {k = k} classes ops exact room p fine sh found (last {p = lp} {m = lm} {l = l} {ls = ls} {d = d} e back left h) (item {k = x} {cs = xs} {rest = rest} low t r) =
+again-at {W} {X} {v} {k = k} classes ops covers room p fine sh found (last {p = lp} {m = lm} {l = l} {ls = ls} {d = d} e back left h) (item {k = x} {cs = xs} {rest = rest} low t r) =
     let g : CanSearch W (leftOf W v) (classes .0) = record { X = X; a = lp; m = lm; k = l; cs = ls; tree = left; within = omega arith; some = sh } in
-    let f = found g ops exact in
+    let f = found g ops covers in
     fails (Tells.binaryAtEnd (f .token)) (operator-again ops (node l ls d) k (f .t) x xs rest p refl (left-unfolded ops l (f .t) ls d fine (f .first)))
 
-module _ {W : List ℕ} {v : Items} {b : ℕ} (classes : TokenClasses) (ops : List ℕ) (exact : Exact (classes .0) (isOneOf ops)) where
+module _ {W : List ℕ} {v : Items} {b : ℕ} (classes : TokenClasses) (ops : List ℕ) (covers : Covers (classes .0) (isOneOf ops)) where
   -- the operator waits for the children of its right side
   right-enters : {X : List ℕ} {lo hi : ℕ} {d : Forest} {k : Token} {rest : Forest} (i : AtItem W X v b lo hi d k nil rest) → isOneOf ops (k .op) ≡ true → clear (isOneOf ops) d ≡ true → isNil d ≡ false
       → unfolded ops d ≡ none → innerAt W (wd W (v .base + v .read)) (classes .0) ≡ true → {m : ℕ} → i .m ≡ m
@@ -360,10 +360,10 @@ module _ {W : List ℕ} {v : Items} {b : ℕ} (classes : TokenClasses) (ops : Li
   unfolding count size waits begins binaryLevel nothing
   right-enters {X} {lo} {hi} {d} {k} i p fine full clean inner em (item {a = n} {m = m'} {k = x} {cs = xs} {rest = rest} low t r) =
       let z = item-bounds i in let behind = i .behind in let tl = t .low in let th = tree-below t in let le = ahead-le r in let below = i .below in
-      let nonempty = inner-full (isOneOf ops) xs (sym (inner-tree xs (classes .0) (isOneOf ops) exact t) ∙ inner) in
+      let nonempty = inner-full (isOneOf ops) xs (sym (inner-tree xs (classes .0) (isOneOf ops) covers t) ∙ inner) in
       enters {l = i .m} {n = n} {m = m'} {t = waiting d k} {u = begins (binary ops) xs} (record { owner = refl; base = refl; len = refl; classes = refl })
       (record {
-        sides = record { runs = level exact; done = operator fine (i .done) full clean (i .tree); unread = r; agrees = tt; low = omega arith; mid = omega arith; high = omega arith; below = below; within = i .within };
+        sides = record { runs = level covers; done = operator fine (i .done) full clean (i .tree); unread = r; agrees = tt; low = omega arith; mid = omega arith; high = omega arith; below = below; within = i .within };
         framed = omega arith;
       })
       t nonempty (afresh refl (omega arith)) (operator-enters ops d k x xs rest p full clean nonempty) (omega arith) (omega arith) (omega arith) (omega arith)
@@ -377,8 +377,8 @@ module _ {W : List ℕ} {v : Items} {b : ℕ} (classes : TokenClasses) (ops : Li
       let behind = i .behind in
       let f = fold-done {v = movedTo v (v .read + 1) (v .write)} full (i .done) (i .tree) t (omega arith) r (omega arith) (i .below) (i .within) (record { mid = w .mid; two = w .two; put = w .put }) in
       goes {s' = gathered (joined d k x xs)} (record { owner = refl; base = refl; len = refl; classes = refl })
-      (fold-holds ops classes exact f (joined-clear (isOneOf ops) d k x xs full fine) (omega arith) (i .below) (i .within))
-      (operator-folds ops d k x xs rest p full clean (λ h. inner-free (isOneOf ops) xs (sym (inner-tree xs (classes .0) (isOneOf ops) exact t) ∙ inner) h)) (omega arith) (omega arith) (omega arith)
+      (fold-holds ops classes covers f (joined-clear (isOneOf ops) d k x xs full fine) (omega arith) (i .below) (i .within))
+      (operator-folds ops d k x xs rest p full clean (λ h. inner-free (isOneOf ops) xs (sym (inner-tree xs (classes .0) (isOneOf ops) covers t) ∙ inner) h)) (omega arith) (omega arith) (omega arith)
 
   right-within : {W' X : List ℕ} {lo hi : ℕ} {d : Forest} {k : Token} {rest : Forest} (i : AtItem W X v b lo hi d k nil rest) → isNil d ≡ false
       → Folded W v b (wd W (v .base + v .read)) W' → {m : ℕ} → i .m ≡ m → AheadTo W X (v .base) (v .read) (v .len) m hi (wd W (v .base + v .read)) rest → Within W W' X lo hi v
@@ -395,7 +395,7 @@ module _ {W : List ℕ} {v : Items} {b : ℕ} (classes : TokenClasses) (ops : Li
       (record {
         to = λ g p fine.
             let full = back-full (g .item .done) has in
-            right-enters (g .item) p fine full (left-clean (classes .0) ops exact (back-last v (g .item .done) full) s) inner refl (ahead-item (wd W (v .base + v .read)) refl more (g .item .ahead));
+            right-enters (g .item) p fine full (left-clean (classes .0) ops covers (back-last v (g .item .done) full) s) inner refl (ahead-item (wd W (v .base + v .read)) refl more (g .item .ahead));
         within = λ g. same-within;
       })
   operated has more s (folds inner w er) =
@@ -403,7 +403,7 @@ module _ {W : List ℕ} {v : Items} {b : ℕ} (classes : TokenClasses) (ops : Li
       (record {
         to = λ g p fine.
             let full = back-full (g .item .done) has in
-            right-folds (g .item) p fine full (left-clean (classes .0) ops exact (back-last v (g .item .done) full) s) inner w refl (ahead-item (wd W (v .base + v .read)) refl more (g .item .ahead));
+            right-folds (g .item) p fine full (left-clean (classes .0) ops covers (back-last v (g .item .done) full) s) inner w refl (ahead-item (wd W (v .base + v .read)) refl more (g .item .ahead));
         within = λ g. right-within (g .item) (back-full (g .item .done) has) w refl (ahead-item (wd W (v .base + v .read)) refl more (g .item .ahead));
       })
 
@@ -432,7 +432,7 @@ module _ {W : List ℕ} {v : Items} {b : ℕ} (classes : TokenClasses) (ops : Li
       record {
         to = λ g p fine.
             let z = item-bounds (g .item) in let below = g .item .below in let within = g .item .within in
-            again-at classes ops exact (omega arith) p fine sh found (back-last v (g .item .done) (back-full (g .item .done) has)) (ahead-item (wd W (v .base + v .read)) refl more (g .item .ahead));
+            again-at classes ops covers (omega arith) p fine sh found (back-last v (g .item .done) (back-full (g .item .done) has)) (ahead-item (wd W (v .base + v .read)) refl more (g .item .ahead));
         within = λ g. same-within;
       }
 

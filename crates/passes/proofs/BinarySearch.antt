@@ -21,7 +21,7 @@ use Rattle.nodes.specs.Store.{wd, TokenAt, Chain, Out, RepF, ends, more, RepT}
 use Rattle.nodes.proofs.Store.{reserve-pos, tree-below, tree-out, rep-le}
 use Rattle.nodes.proofs.Classes.{free-split}
 use Rattle.nodes.proofs.Trees.{leaf-first}
-use Rattle.levels.specs.Passes.{Exact}
+use Rattle.levels.specs.Passes.{Covers}
 use Rattle.levels.proofs.Reading.{tree-free, tree-unfree, unfree-leaf, unfree-tree}
 use Rattle.passes.specs.Binary.{CanSearch, IsFirst}
 
@@ -100,8 +100,8 @@ vacant-part X lo l b m hi i j k e f g h h' o =
 pub data SearchAt (W : List ℕ) (c leaf s fuel : ℕ) : Forest → Type 0 where
   start : {X : List ℕ} {a m : ℕ} {k : Token} {cs : Forest} → RepT W X s a m k cs → shares (wd W (8 * s + 7)) c ≡ true → 8 * m ≤ length W → length W ≤ fuel → SearchAt W c leaf s fuel (node k cs nil)
   amid : {X bs : List ℕ} {lo hi : ℕ} {f target : Forest} (n : ℕ) → Chain W s bs → RepF W X bs lo hi f → free (meets c) f ≡ false → 8 * hi ≤ length W → lo + n ≡ hi → vacant X lo n < fuel
-      → ((ops : List ℕ) → Exact c (isOneOf ops) → firstLeaf ops target ≡ firstLeaf ops f) → SearchAt W c leaf s fuel target
-  found : {t : Token} {target : Forest} → s ≡ 0 → TokenAt W leaf t → ((ops : List ℕ) → Exact c (isOneOf ops) → firstLeaf ops target ≡ some t) → 0 < fuel → SearchAt W c leaf s fuel target
+      → ((ops : List ℕ) → Covers c (isOneOf ops) → firstLeaf ops target ≡ firstLeaf ops f) → SearchAt W c leaf s fuel target
+  found : {t : Token} {target : Forest} → s ≡ 0 → TokenAt W leaf t → ((ops : List ℕ) → Covers c (isOneOf ops) → firstLeaf ops target ≡ some t) → 0 < fuel → SearchAt W c leaf s fuel target
 
 abbrev pub Searching : List ℕ → ℕ → ℕ → ℕ → ℕ → ℕ → Type 0
 Searching W top c leaf s fuel = (g : CanSearch W top c) → SearchAt W c leaf s fuel (node (g .k) (g .cs) nil)
@@ -145,7 +145,7 @@ both-false false b h e = absurd (true≢false (sym e))
 -- ---- a turn of the loop
 
 tree-down : {W X : List ℕ} {c s a m fuel : ℕ} {k : Token} (cs rest : Forest) {target : Forest} (j : ℕ) → RepT W X s a m k cs → shares (wd W (8 * s + 7)) c ≡ true → 8 * m ≤ length W → a + j ≡ m
-    → vacant (s ∷ X) a j < fuel → ((ops : List ℕ) → Exact c (isOneOf ops) → firstLeaf ops target ≡ firstLeaf ops (node k cs rest)) → SearchAt W c s (wd W (8 * s + 5)) fuel target
+    → vacant (s ∷ X) a j < fuel → ((ops : List ℕ) → Covers c (isOneOf ops) → firstLeaf ops target ≡ firstLeaf ops (node k cs rest)) → SearchAt W c s (wd W (8 * s + 5)) fuel target
 unfolding isNil
 tree-down {c = c} {k = k} nil rest j t sh room e f same =
     found (leaf-first t) (t .token) (λ ops ex. same ops ex ∙ first-own ops k rest (unfree-leaf (isOneOf ops) k (tree-unfree c (isOneOf ops) ex t sh))) (omega arith)
@@ -202,7 +202,7 @@ search-down {W} {s = s} {fuel = fuel} (start {X = X} {a = a} {m = m} {cs = cs} t
 search-down (found e t g f) n h = absurd (n e)
 search-down {W} {c} {s = s} {fuel = fuel} {target = target} (amid {X = X} {lo = lo} {hi = hi} size ch rep sh room e f same) n h = go (at-head ch rep n e) same
   where
-    go : {f : Forest} → AtHead W X s lo size hi f → ((ops : List ℕ) → Exact c (isOneOf ops) → firstLeaf ops target ≡ firstLeaf ops f) → SearchAt W c s (wd W (8 * s + 5)) (fuel - 1) target
+    go : {f : Forest} → AtHead W X s lo size hi f → ((ops : List ℕ) → Covers c (isOneOf ops) → firstLeaf ops target ≡ firstLeaf ops f) → SearchAt W c s (wd W (8 * s + 5)) (fuel - 1) target
     go (head {cs = cs} {rest = rest} x) same =
         let below = tree-below (x .tree) in let low = x .tree .low in let high = x .high in let down = x .down in
         let r : 8 * x .m ≤ length W = omega arith in let j : x .l + (x .m - x .l) ≡ x .m = omega arith in
@@ -214,7 +214,7 @@ search-next (start t sh room f) n h = absurd (true≢false (sym sh ∙ h))
 search-next (found e t g f) n h = absurd (n e)
 search-next {W} {c} {leaf} {s} {fuel} {target} (amid {X = X} {lo = lo} {hi = hi} size ch rep sh room e f same) n h = go (at-head ch rep n e) sh same
   where
-    go : {f : Forest} → AtHead W X s lo size hi f → free (meets c) f ≡ false → ((ops : List ℕ) → Exact c (isOneOf ops) → firstLeaf ops target ≡ firstLeaf ops f) → SearchAt W c leaf (wd W (8 * s + 6)) (fuel - 1) target
+    go : {f : Forest} → AtHead W X s lo size hi f → free (meets c) f ≡ false → ((ops : List ℕ) → Covers c (isOneOf ops) → firstLeaf ops target ≡ firstLeaf ops f) → SearchAt W c leaf (wd W (8 * s + 6)) (fuel - 1) target
     go (head {k = k} {cs = cs} {rest = rest} x) sh same =
         let high = x .high in let on = x .on in
         let j : x .m + (hi - x .m) ≡ hi = omega arith in
@@ -227,7 +227,7 @@ unfolding free
 none-unfree c ch (ends h) z e = true≢false e
 none-unfree c ch (more a d r y p tk q x ks rest) z e = omega arith
 
-pub search-done : {W : List ℕ} {c leaf s fuel : ℕ} {target : Forest} → SearchAt W c leaf s fuel target → s ≡ 0 → (ops : List ℕ) → Exact c (isOneOf ops) → IsFirst W leaf ops target
+pub search-done : {W : List ℕ} {c leaf s fuel : ℕ} {target : Forest} → SearchAt W c leaf s fuel target → s ≡ 0 → (ops : List ℕ) → Covers c (isOneOf ops) → IsFirst W leaf ops target
 search-done (start t sh room f) z ops ex = absurd (omega (arith, t .pos))
 search-done {c = c} (amid size ch rep sh room e f same) z ops ex = absurd (none-unfree c ch rep z sh)
 search-done (found {t = t} e token first f) z ops ex = record { t = t; first = first ops ex; token = token }

@@ -36,7 +36,7 @@ use Rattle.levels.specs.declared.turns.Pass.the-variants.{Calls, MathCalls}
 use Rattle.levels.specs.declared.turns.Turn.{Turn}
 use Rattle.levels.specs.declared.turns.Turn.the-variants.{On, Enter, Fail}
 use Rattle.levels.proofs.Reading.{can-peek, unfree-leaf, tree-free, tree-unfree, unfree-tree, free-tree-below, NextTo, ended, differs, found, next-to, same-within}
-use Rattle.levels.proofs.PassClasses.{runs-exact}
+use Rattle.levels.proofs.PassClasses.{runs-covers}
 use Rattle.passes.specs.TokenTurns.{AtItem, AtToken, any, CallTurned}
 use Rattle.passes.specs.Calls.{CanCall, Called, opens, stays}
 use Rattle.passes.proofs.GatherLaws.{token-room, next-room, walk-node, walk-passed, LeftLevel, item-holds, item-waits, kept-within, Attaching, attached, item-attached, within-then, Stands, stands, Standing}
@@ -54,7 +54,7 @@ call-level : (kind : CallKind) (pass : Pass) → Runs (calls kind) pass → ((v 
 unfolding work begins waits operators callLevel nothing
 call-level kind pass runs turning framed unlent =
     record {
-      exact = runs-exact (calls kind) pass runs;
+      covers = runs-covers (calls kind) pass runs;
       sides = λ fine done ahead low mid high below within.
           record { runs = runs; done = all done; unread = ahead; agrees = tt; low = low; mid = mid; high = high; below = below; within = within };
       turning = turning;
@@ -225,7 +225,7 @@ module _ {kind : CallKind} {pass : Pass} (L : LeftLevel (calls kind) pass (isCal
       → TurnTo (calls kind) W' X lo hi (walkOf v pass) (gathered d) (node k nil (node t ts rest)) (Enter (walkOf (movedTo v (v .read + 1) (v .write)) pass) b)
   unfolding count size waits isNil begins callLevel nothing
   section-entered {d = d} {k = k} {t = t} {ts = ts} {rest = rest} p o h (attached i x) =
-      let below = unfree-tree (isCall kind) k (node t ts nil) refl (tree-unfree (classesOf pass) (isCall kind) (L .exact) (i .tree) h) in
+      let below = unfree-tree (isCall kind) k (node t ts nil) refl (tree-unfree (classesOf pass) (isCall kind) (L .covers) (i .tree) h) in
       enters {t = gathered d} {u = begins (calls kind) (node t ts nil)} (record { owner = refl; base = refl; len = refl; classes = refl }) (item-waits L i refl) (i .tree) refl
       (afresh (L .unlent) (le-refl (i .a))) (section-opens kind d k t ts rest p (is-bracket t o) (section-full kind t ts o below)) (omega arith) (omega arith) (omega arith) (omega arith)
 
@@ -235,7 +235,7 @@ module _ {kind : CallKind} {pass : Pass} (L : LeftLevel (calls kind) pass (isCal
       → TurnTo (calls kind) W' X lo hi (walkOf v pass) (gathered d) (node k nil (node t ts rest)) (On (walkOf (movedTo v (v .read + 1) (v .write + 1)) pass))
   unfolding count size waits isNil
   section-done {d = d} {k = k} {t = t} {ts = ts} {rest = rest} law h s (attached i x) =
-      let clean = free-tree-below (isCall kind) k (node t ts nil) refl (tree-free (classesOf pass) (isCall kind) (L .exact) (i .tree) h) in
+      let clean = free-tree-below (isCall kind) k (node t ts nil) refl (tree-free (classesOf pass) (isCall kind) (L .covers) (i .tree) h) in
       goes {s' = gathered (node k (node t ts nil) d)} (record { owner = refl; base = refl; len = refl; classes = refl }) (item-holds L i s refl) (law clean) (omega arith) (omega arith) (omega arith)
 
   called-to : {r : Turn} {X : List ℕ} {lo hi : ℕ} {d : Forest} {k t : Token} {ts rest : Forest} → Called W v b c pass r W' → AtItem W X v b lo hi d k nil (node t ts rest) → isCall kind (k .op) ≡ true → t .op ≡ leftParenthesis

@@ -20,14 +20,14 @@ use Rattle.nodes.specs.Slots.{isLeafAt}
 use Rattle.nodes.specs.declared.frames.List.{List as Items}
 use Rattle.nodes.proofs.Store.{tree-below, back-le, back-count}
 use Rattle.nodes.proofs.Trees.{leaf-test}
-use Rattle.levels.specs.Passes.{walkOf, movedTo, operators, Exact, Runs, conditionalPass, waits}
+use Rattle.levels.specs.Passes.{walkOf, movedTo, operators, Covers, Runs, conditionalPass, waits}
 use Rattle.levels.specs.Items.{BackArray, Ahead}
 use Rattle.levels.specs.Sides.{tokensIn, ConditionalSide, all, Sides}
 use Rattle.levels.specs.Turns.{CanTurn, afresh, TurnTo, enters, ends, Turned}
 use Rattle.levels.specs.declared.turns.Pass.the-variants.{Conditional}
 use Rattle.levels.specs.declared.turns.Turn.{Turn}
 use Rattle.levels.specs.declared.turns.Turn.the-variants.{Enter, Over}
-use Rattle.levels.proofs.PassClasses.{runs-exact}
+use Rattle.levels.proofs.PassClasses.{runs-covers}
 use Rattle.levels.proofs.Reading.{AheadTo, item, ahead-item, ahead-end, ahead-le, array-put, tree-free, tree-unfree, unfree-leaf, same-within}
 use Rattle.passes.proofs.GatherLaws.{walk-node, walk-over}
 
@@ -71,9 +71,9 @@ nothing-folds d h = conditional-inert .ends d (tokens-clear isConditional d h)
 
 -- ---- the classes
 
-pub conditionals-exact : Exact 0x1_0000 isConditional
+pub conditionals-covers : Covers 0x1_0000 isConditional
 unfolding operators
-conditionals-exact = runs-exact conditional (Conditional 0) conditionalPass
+conditionals-covers = runs-covers conditional (Conditional 0) conditionalPass
 
 pub conditional-test : {w u : ℕ} {t : Bool} → u ≡ w → t ≡ shares u 0x1_0000 → shares w 0x1_0000 ≡ t
 conditional-test e h = ap (λ (x : ℕ). shares x 0x1_0000) (sym e) ∙ sym h
@@ -235,7 +235,7 @@ module _ {W : List ℕ} {v : Items} {tokens : ℕ} {g : CanGather W v tokens} {r
           → size rest + count (g .rest) ≤ size (g .rest) + count rest → AheadTo W (g .X) (v .base) read (v .len) (s .m) (g .hi) (wd W (v .base + read)) rest
           → GatherAt W v tokens g (read + 1) seen
       go e c z (item {k = k} {cs = cs} {rest = rest} low t r) =
-          let none = tree-free 0x1_0000 isConditional conditionals-exact t f in
+          let none = tree-free 0x1_0000 isConditional conditionals-covers t f in
           gather-item k cs rest seen low t r e c z (walk-over conditionalLevel isConditional conditional-inert (s .d) k cs rest none) (s .list .counted ∙ sym (tokens-free k cs (s .d) none))
 
   gather-token : shares (wd W (8 * wd W (v .base + read) + 7)) 0x1_0000 ≡ true → isLeafAt W (wd W (v .base + read)) ≡ true → GatherAt W v tokens g (read + 1) (seen + 1)
@@ -247,7 +247,7 @@ module _ {W : List ℕ} {v : Items} {tokens : ℕ} {g : CanGather W v tokens} {r
           → s .m ≤ a → RepT W (g .X) (wd W (v .base + read)) a m k cs → Ahead W (g .X) (v .base) (read + 1) (v .len) m (g .hi) rest
           → GatherAt W v tokens g (read + 1) (seen + 1)
       at k nil rest n e c z low t r =
-          let passes = unfree-leaf isConditional k (tree-unfree 0x1_0000 isConditional conditionals-exact t f) in
+          let passes = unfree-leaf isConditional k (tree-unfree 0x1_0000 isConditional conditionals-covers t f) in
           gather-item k nil rest (seen + 1) low t r e c z (leaf-gathers k (s .d) rest) (ap (λ (x : ℕ). x + 1) (s .list .counted) ∙ sym (tokens-leaf k (s .d) passes))
       at k (node x xs y) rest n e c z low t r = absurd (true≢false (sym n))
 

@@ -20,7 +20,7 @@ use Rattle.nodes.specs.declared.frames.List.{List as Items}
 use Rattle.nodes.proofs.Runs.{set-same, set-other, set-long}
 use Rattle.nodes.proofs.Store.{tree-below, tree-out, back-le, back-raise}
 use Rattle.nodes.proofs.Trees.{tree-under, attach-tree, attach-kept}
-use Rattle.levels.specs.Passes.{walkOf, movedTo, classesOf, Exact, waits}
+use Rattle.levels.specs.Passes.{walkOf, movedTo, classesOf, Covers, waits}
 use Rattle.levels.specs.Items.{BackArray, Ahead, CanSeek, Passed, here, over, Seen, SoughtTo, none, leaf, tree, Sought}
 use Rattle.levels.specs.Sides.{Sides, Holds, Waits, AtTurn, InFrame}
 use Rattle.levels.specs.Turns.{SameList, Within, CanTurn, lentOf, afresh, TurnTo, goes, enters, ends, fails, Turned}
@@ -65,7 +65,7 @@ passed-count (over {cs = cs} h p) = let e = passed-count p in (omega arith, omeg
 -- ---- what a level says of itself
 
 pub record LeftLevel (κ : Kind) (pass : Pass) (P : ℕ → Bool) (idle : Forest → State κ) (good : Forest → Bool) : Type 0 where
-  pub exact : Exact (classesOf pass) P
+  pub covers : Covers (classesOf pass) P
   pub sides : {W X : List ℕ} {lo l m hi : ℕ} {v : Items} {d rest : Forest} → good d ≡ true → BackArray W X (v .base) (v .write) lo l d
       → Ahead W X (v .base) (v .read) (v .len) m hi rest → lo ≤ l → l ≤ m → m ≤ hi → 8 * hi ≤ v .base → v .base + v .len ≤ length W
       → Sides κ W X lo l m hi (walkOf v pass) (idle d) rest
@@ -310,7 +310,7 @@ module _ {T : (κ : Kind) → (Forest → State κ) → (ℕ → Bool) → (Fore
   module _ {W' : List ℕ} {f : Found} (h : Sought W v (classesOf pass) f W') where
     sought-to : SoughtTo W' X v (v .base) lo hi (g .P) (g .d) rest f
     unfolding seeking
-    sought-to = h .to seeking (g .P) (g .level .exact)
+    sought-to = h .to seeking (g .P) (g .level .covers)
 
     pub sought-within : Within W W' X lo hi v
     sought-within =

@@ -24,7 +24,7 @@ use Rattle.levels.specs.declared.failure.Failure.the-variants.{UnaryWithoutOper
 use Rattle.levels.specs.Failures
 use Rattle.levels.specs.Failures.{Tells}
 use Rattle.levels.proofs.Reading.{ahead-end, same-within}
-use Rattle.levels.proofs.PassClasses.{runs-exact}
+use Rattle.levels.proofs.PassClasses.{runs-covers}
 use Rattle.nodes.specs.Store.{wd}
 use Rattle.nodes.specs.Children.{Attached}
 use Rattle.passes.specs.TokenTurns.{any, ReturnTurned}
@@ -40,7 +40,7 @@ return-level : LeftLevel returns Returns isReturn gathered any
 unfolding work begins waits operators returnLevel nothing
 return-level =
     record {
-      exact = runs-exact returns Returns returnPass;
+      covers = runs-covers returns Returns returnPass;
       sides = λ fine done ahead low mid high below within.
           record { runs = returnPass; done = all done; unread = ahead; agrees = tt; low = low; mid = mid; high = high; below = below; within = within };
       turning = λ v h. h;

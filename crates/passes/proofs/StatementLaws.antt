@@ -27,7 +27,7 @@ use Rattle.nodes.specs.declared.frames.List.{List as Items}
 use Rattle.nodes.proofs.Runs.{inc-le, seg-keep, set-same, set-other, set-long}
 use Rattle.nodes.proofs.Store.{tree-below, back-le, back-raise}
 use Rattle.nodes.proofs.Trees.{token-test}
-use Rattle.levels.specs.Passes.{walkOf, movedTo, classesOf, operators, Exact, Runs, unsplitPass, split, waits}
+use Rattle.levels.specs.Passes.{walkOf, movedTo, classesOf, operators, Covers, Runs, unsplitPass, split, waits}
 use Rattle.levels.specs.Items.{BackArray, Ahead, CanSeek, Passed, here, over, SoughtTo, none as found-none, leaf, tree, Sought}
 use Rattle.levels.specs.Sides.{StatementSide, whole, closed, EndedAt, nothing, DoneSide, UnreadSide, Holds}
 use Rattle.nodes.specs.Children.{CanGive}
@@ -38,14 +38,14 @@ use Rattle.levels.specs.declared.turns.Pass.{Pass}
 use Rattle.levels.specs.declared.turns.Pass.the-variants.{Unsplit, Split as SplitAt}
 use Rattle.levels.specs.declared.turns.Turn.the-variants.{On, Enter, Over}
 use Rattle.passes.specs.Statements.{HasSemicolon}
-use Rattle.levels.proofs.PassClasses.{runs-exact}
+use Rattle.levels.proofs.PassClasses.{runs-covers}
 use Rattle.levels.proofs.Reading.{AheadTo, item, ahead-item, ahead-end, ahead-le, ahead-keep, array-put}
 
 -- ---- which semicolons a list has
 
-pub semicolon-class : Exact 0x2 isSemicolon
+pub semicolon-class : Covers 0x2 isSemicolon
 unfolding operators
-semicolon-class = runs-exact statements Unsplit unsplitPass
+semicolon-class = runs-covers statements Unsplit unsplitPass
 
 -- What holds at the test of the loop of `has_semicolon`, whatever forest the list is.
 pub record LookAt (W : List ℕ) (v : Items) (g : CanStart W v) (i : ℕ) : Type 0 where

@@ -17,9 +17,9 @@ use Rattle.molang.proofs.Booleans.{or-neither}
 use Rattle.molang.proofs.Unary.{isPrefix, unary-free}
 use Rattle.molang.proofs.Work.{right, before, fromRight, leftOf, work, begins, inReading, takes, pass, unaries, andThen, pass-begins}
 use Rattle.levels.specs.Passes as passes
-use Rattle.levels.specs.Passes.{operators, Exact}
+use Rattle.levels.specs.Passes.{operators, Covers}
 use Rattle.levels.specs.declared.turns.Pass.the-variants.{Unary as UnaryPass}
-use Rattle.levels.proofs.PassClasses.{runs-exact}
+use Rattle.levels.proofs.PassClasses.{runs-covers}
 use Rattle.passes.specs.Unary.{Moved}
 
 -- ---- one item
@@ -156,6 +156,6 @@ moved-more {d' = d'} k cs rest' m h =
 
 -- ---- the classes
 
-pub unary-exact : Exact 0x10 isPrefix
+pub unary-covers : Covers 0x10 isPrefix
 unfolding operators
-unary-exact = runs-exact unaries UnaryPass passes.unary
+unary-covers = runs-covers unaries UnaryPass passes.unary

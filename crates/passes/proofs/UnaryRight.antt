@@ -27,7 +27,7 @@ use Rattle.levels.specs.declared.items.Found.the-variants.{Nothing, Children, T
 use Rattle.levels.specs.declared.turns.Pass.the-variants.{Unary}
 use Rattle.levels.proofs.Reading.{back-array-keep, ahead-keep, ahead-le, tree-free, tree-unfree, unfree-leaf}
 use Rattle.passes.specs.Unary.{RightList, CanSeekBack, Moved, SoughtBackTo, none, leaf, tree, SoughtBack}
-use Rattle.passes.proofs.UnaryLaws.{moved-none, moved-more, unary-exact}
+use Rattle.passes.proofs.UnaryLaws.{moved-none, moved-more, unary-covers}
 
 -- ---- the unread items
 
@@ -174,7 +174,7 @@ module _ {W : List ℕ} {v : Items} {g : CanSeekBack W v} {Z : List ℕ} {read w
               within = rw (set-long Z Z' (v .base + (write - 1)) b ez) room;
               small = rw (set-long Z Z' (v .base + (write - 1)) b ez) (s .list .small);
             };
-            moved = moved-more p ps left m (tree-free 0x10 isPrefix unary-exact t f);
+            moved = moved-more p ps left m (tree-free 0x10 isPrefix unary-covers t f);
           }
 
   -- the list without its last unread item
@@ -198,7 +198,7 @@ module _ {W : List ℕ} {v : Items} {g : CanSeekBack W v} {Z : List ℕ} {read w
           let gap : read - 1 < write = omega arith in
           let under : a ≤ s .m = omega arith in
           let wide : RepT Z (g .X) (wd Z (v .base + (read - 1))) a (s .m) p nil = tree-widen (le-refl a) (omega arith) t in
-          leaf refl gap (shorter under r) (unfree-leaf isPrefix p (tree-unfree 0x10 isPrefix unary-exact t f)) wide m
+          leaf refl gap (shorter under r) (unfree-leaf isPrefix p (tree-unfree 0x10 isPrefix unary-covers t f)) wide m
       at (node x xs y) n m h t r = absurd (true≢false (sym n))
 
       go : {rest : Forest} → Moved (g .d) (g .rest) (s .d) rest → LastUnread Z (g .X) (v .base) read (g .lo) (s .l) rest

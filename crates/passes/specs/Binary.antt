@@ -14,7 +14,7 @@ use Rattle.ops.specs.declared.classes.TokenClasses.{TokenClasses}
 use Rattle.nodes.specs.Store.{wd, TokenAt, RepT}
 use Rattle.nodes.specs.Children.{AttachedTwo}
 use Rattle.nodes.specs.declared.frames.List.{List as Items}
-use Rattle.levels.specs.Passes.{walkOf, movedTo, Exact}
+use Rattle.levels.specs.Passes.{walkOf, movedTo, Covers}
 use Rattle.levels.specs.Items.{innerAt}
 use Rattle.levels.specs.declared.turns.Pass.the-variants.{Binary}
 use Rattle.levels.specs.declared.turns.Turn.{Turn}
@@ -63,7 +63,7 @@ pub record IsFirst (W : List ℕ) (r : ℕ) (ops : List ℕ) (f : Forest) : Type
 
 -- r is the first leaf, at or below `top`, of the operators whose classes c are.
 abbrev pub LeafFound : List ℕ → ℕ → ℕ → ℕ → Type 0
-LeafFound W top c r = (g : CanSearch W top c) (ops : List ℕ) → Exact c (isOneOf ops) → IsFirst W r ops (node (g .k) (g .cs) nil)
+LeafFound W top c r = (g : CanSearch W top c) (ops : List ℕ) → Covers c (isOneOf ops) → IsFirst W r ops (node (g .k) (g .cs) nil)
 
 -- ---- `folded`
 

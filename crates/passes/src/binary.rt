@@ -14,7 +14,7 @@ use ops::classes::TokenClasses;
 ghost use Prim.Native.Nat.{ℕ};
 ghost use mathlib.Core.List.{List as Words};
 ghost use Rattle.molang.specs.Operator.{isOneOf};
-ghost use Rattle.levels.specs.Passes.{walkOf, Exact};
+ghost use Rattle.levels.specs.Passes.{walkOf, Covers};
 ghost use Rattle.levels.specs.Turns.{CanTurn, Turned, CanResume, Resumed};
 ghost use Rattle.passes.specs.TokenTurns.{AtToken, LevelTurned};
 ghost use Rattle.passes.specs.Binary.{CanFold, Folded, CanSearch, LeafFound, CanOperate, Operated};
@@ -102,7 +102,7 @@ fn folded(work: &mut [u32], list: List, operator: u32, classes: TokenClasses) ->
 // A token of the level: it needs both sides, and a left side with nothing unfolded below it.
 fn operator(work: &mut [u32], list: List, item: u32, classes: TokenClasses) -> Turn
     requires { ⌜ AtToken (now work) list item ⌝ }
-    ensures { λ r. ⌜ ((ops : Words ℕ) → Exact (classes .0) (isOneOf ops) → LevelTurned ops classes (now (work .entry)) list item r (now (work .exit))) ⌝ }
+    ensures { λ r. ⌜ ((ops : Words ℕ) → Covers (classes .0) (isOneOf ops) → LevelTurned ops classes (now (work .entry)) list item r (now (work .exit))) ⌝ }
 {
     if list.write == 0 {
         return Turn::Fail(Failure::BinaryAtEnd(item));

@@ -2,7 +2,7 @@
 use Rattle.molang.specs.Operator
 use Rattle.order.specs.Places.{usedBy}
 use Rattle.order.proofs.Choosing.{one-level}
-use Rattle.order.proofs.Exactness.{and-exact, or-exact}
+use Rattle.order.proofs.Covering.{and-covers, or-covers}
 use borrow.Author.Needs.{needs}
 use Rattle.order.proofs.and_or.Statement.{statement}
 use Rattle.order.proofs.and_or.Tie as tie
@@ -13,7 +13,7 @@ level-of-requires c κs = search needs
 returns : tie.Need-returns
 returns c =
     rw (c .before .if1 .taken)
-    (one-level (usedBy (c .before .before .args .used)) Operator.logicalAnd _ and-exact (c .level-of .result) (c .level-of .ensures))
+    (one-level (usedBy (c .before .before .args .used)) Operator.logicalAnd _ and-covers (c .level-of .result) (c .level-of .ensures))
 
 level-of-requires-2 : tie.Need-level-of-requires-2
 level-of-requires-2 c κs = search needs
@@ -21,7 +21,7 @@ level-of-requires-2 c κs = search needs
 returns-2 : tie.Need-returns-2
 returns-2 c =
     rw (c .before .if1 .left)
-    (one-level (usedBy (c .before .before .args .used)) Operator.logicalOr _ or-exact (c .level-of2 .result) (c .level-of2 .ensures))
+    (one-level (usedBy (c .before .before .args .used)) Operator.logicalOr _ or-covers (c .level-of2 .result) (c .level-of2 .ensures))
 
 pub and-or-spec : {M : Type 1} → statement M
 and-or-spec = tie.close (tie.spec level-of-requires returns level-of-requires-2 returns-2)

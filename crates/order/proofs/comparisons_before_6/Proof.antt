@@ -5,7 +5,7 @@ use Rattle.molang.specs.Order.{comparisons}
 use Rattle.order.specs.Places.{comparing, usedBy}
 use Rattle.order.proofs.Choosing.{no-place, one-level}
 use mathlib.Core.Bool.{false}
-use Rattle.order.proofs.Exactness.{equal-exact, greater-equal-exact, greater-than-exact, less-equal-exact, less-than-exact, not-equal-exact}
+use Rattle.order.proofs.Covering.{equal-covers, greater-equal-covers, greater-than-covers, less-equal-covers, less-than-covers, not-equal-covers}
 use borrow.Author.Needs.{needs}
 use Rattle.order.proofs.comparisons_before_6.Statement.{statement}
 use Rattle.order.proofs.comparisons_before_6.Tie as tie
@@ -32,37 +32,37 @@ returns : tie.Need-returns
 unfolding comparisons
 returns c =
     rw (c .before .match .keys1)
-    (one-level (usedBy (c .before .before .args .used)) Operator.lessThan _ less-than-exact (c .level-of .result) (c .level-of .ensures))
+    (one-level (usedBy (c .before .before .args .used)) Operator.lessThan _ less-than-covers (c .level-of .result) (c .level-of .ensures))
 
 returns-2 : tie.Need-returns-2
 unfolding comparisons
 returns-2 c =
     rw (c .before .match .keys2)
-    (one-level (usedBy (c .before .before .args .used)) Operator.logicalEqual _ equal-exact (c .level-of2 .result) (c .level-of2 .ensures))
+    (one-level (usedBy (c .before .before .args .used)) Operator.logicalEqual _ equal-covers (c .level-of2 .result) (c .level-of2 .ensures))
 
 returns-3 : tie.Need-returns-3
 unfolding comparisons
 returns-3 c =
     rw (c .before .match .keys3)
-    (one-level (usedBy (c .before .before .args .used)) Operator.greaterEqual _ greater-equal-exact (c .level-of3 .result) (c .level-of3 .ensures))
+    (one-level (usedBy (c .before .before .args .used)) Operator.greaterEqual _ greater-equal-covers (c .level-of3 .result) (c .level-of3 .ensures))
 
 returns-4 : tie.Need-returns-4
 unfolding comparisons
 returns-4 c =
     rw (c .before .match .keys4)
-    (one-level (usedBy (c .before .before .args .used)) Operator.greaterThan _ greater-than-exact (c .level-of4 .result) (c .level-of4 .ensures))
+    (one-level (usedBy (c .before .before .args .used)) Operator.greaterThan _ greater-than-covers (c .level-of4 .result) (c .level-of4 .ensures))
 
 returns-5 : tie.Need-returns-5
 unfolding comparisons
 returns-5 c =
     rw (c .before .match .keys5)
-    (one-level (usedBy (c .before .before .args .used)) Operator.lessEqual _ less-equal-exact (c .level-of5 .result) (c .level-of5 .ensures))
+    (one-level (usedBy (c .before .before .args .used)) Operator.lessEqual _ less-equal-covers (c .level-of5 .result) (c .level-of5 .ensures))
 
 returns-6 : tie.Need-returns-6
 unfolding comparisons
 returns-6 c =
     rw (c .before .match .keys6)
-    (one-level (usedBy (c .before .before .args .used)) Operator.logicalNotEqual _ not-equal-exact (c .level-of6 .result) (c .level-of6 .ensures))
+    (one-level (usedBy (c .before .before .args .used)) Operator.logicalNotEqual _ not-equal-covers (c .level-of6 .result) (c .level-of6 .ensures))
 
 returns-7 : tie.Need-returns-7
 unfolding comparisons

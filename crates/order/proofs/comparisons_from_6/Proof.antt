@@ -6,7 +6,7 @@ use Rattle.order.specs.Places.{level, usedBy}
 use Rattle.order.proofs.Choosing.{chosen-if, no-pass}
 use mathlib.Core.List.{[], _∷_}
 use mathlib.Core.Bool.{true}
-use Rattle.order.proofs.Exactness.{comparisons-exact, equalities-exact}
+use Rattle.order.proofs.Covering.{comparisons-covers, equalities-covers}
 use borrow.Author.Needs.{needs}
 use Rattle.order.proofs.comparisons_from_6.Statement.{statement}
 use Rattle.order.proofs.comparisons_from_6.Tie as tie
@@ -29,7 +29,7 @@ returns c =
     let u = usedBy (c .before .before .before .args .used) in
     rw (c .before .before .match .keys1)
     (chosen-if u (binary (Operator.lessThan ∷ Operator.lessEqual ∷ Operator.greaterEqual ∷ Operator.greaterThan ∷ [])) _
-    (c .before .are-comparisons-used .result) (c .before .are-comparisons-used .ensures) (level comparisons-exact)
+    (c .before .are-comparisons-used .result) (c .before .are-comparisons-used .ensures) (level comparisons-covers)
     (c .level .result) (c .level .ensures))
 
 returns-2 : tie.Need-returns-2
@@ -38,7 +38,7 @@ returns-2 c =
     let u = usedBy (c .before .before .before .args .used) in
     rw (c .before .before .match .keys2)
     (chosen-if u (binary (Operator.logicalEqual ∷ Operator.logicalNotEqual ∷ [])) _
-    (c .before .uses-either .result) (c .before .uses-either .ensures) (level equalities-exact) (c .level2 .result) (c .level2 .ensures))
+    (c .before .uses-either .result) (c .before .uses-either .ensures) (level equalities-covers) (c .level2 .result) (c .level2 .ensures))
 
 returns-3 : tie.Need-returns-3
 unfolding comparisons

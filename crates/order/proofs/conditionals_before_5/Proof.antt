@@ -5,7 +5,7 @@ use Rattle.molang.specs.Order.{conditionals}
 use Rattle.order.specs.Places.{branching, usedBy}
 use Rattle.order.proofs.Choosing.{no-place, one-level}
 use mathlib.Core.Bool.{false}
-use Rattle.order.proofs.Exactness.{conditional-else-exact, conditional-exact}
+use Rattle.order.proofs.Covering.{conditional-else-covers, conditional-covers}
 use borrow.Author.Needs.{needs}
 use Rattle.order.proofs.conditionals_before_5.Statement.{statement}
 use Rattle.order.proofs.conditionals_before_5.Tie as tie
@@ -20,14 +20,14 @@ returns : tie.Need-returns
 unfolding conditionals
 returns c =
     rw (c .before .match .keys1)
-    (one-level (usedBy (c .before .before .args .used)) Operator.conditionalElse _ conditional-else-exact
+    (one-level (usedBy (c .before .before .args .used)) Operator.conditionalElse _ conditional-else-covers
     (c .level-of .result) (c .level-of .ensures))
 
 returns-2 : tie.Need-returns-2
 unfolding conditionals
 returns-2 c =
     rw (c .before .match .keys2)
-    (one-level (usedBy (c .before .before .args .used)) Operator.conditional _ conditional-exact (c .level-of2 .result) (c .level-of2 .ensures))
+    (one-level (usedBy (c .before .before .args .used)) Operator.conditional _ conditional-covers (c .level-of2 .result) (c .level-of2 .ensures))
 
 returns-3 : tie.Need-returns-3
 unfolding conditionals

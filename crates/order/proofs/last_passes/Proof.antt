@@ -5,7 +5,7 @@ use Rattle.molang.specs.Operator
 use Rattle.molang.specs.Order.{returns as returnPass, runs}
 use Rattle.order.specs.Places.{last, returnPass, usedBy}
 use Rattle.order.proofs.Choosing.{chosen-if, no-place, one-level, one-used}
-use Rattle.order.proofs.Exactness.{assignment-exact, comma-exact, null-coalescing-exact}
+use Rattle.order.proofs.Covering.{assignment-covers, comma-covers, null-coalescing-covers}
 use borrow.Author.Needs.{needs}
 use Rattle.order.proofs.last_passes.Statement.{statement}
 use Rattle.order.proofs.last_passes.Tie as tie
@@ -28,17 +28,17 @@ when-requires c κs = search needs
 returns : tie.Need-returns
 returns c =
     rw (c .before .match .keys1)
-    (one-level (usedBy (c .before .before .args .used)) Operator.nullCoalescing _ null-coalescing-exact (c .level-of .result) (c .level-of .ensures))
+    (one-level (usedBy (c .before .before .args .used)) Operator.nullCoalescing _ null-coalescing-covers (c .level-of .result) (c .level-of .ensures))
 
 returns-2 : tie.Need-returns-2
 returns-2 c =
     rw (c .before .match .keys2)
-    (one-level (usedBy (c .before .before .args .used)) Operator.comma _ comma-exact (c .level-of2 .result) (c .level-of2 .ensures))
+    (one-level (usedBy (c .before .before .args .used)) Operator.comma _ comma-covers (c .level-of2 .result) (c .level-of2 .ensures))
 
 returns-3 : tie.Need-returns-3
 returns-3 c =
     rw (c .before .match .keys3)
-    (one-level (usedBy (c .before .before .args .used)) Operator.assignment _ assignment-exact (c .level-of3 .result) (c .level-of3 .ensures))
+    (one-level (usedBy (c .before .before .args .used)) Operator.assignment _ assignment-covers (c .level-of3 .result) (c .level-of3 .ensures))
 
 returns-4 : tie.Need-returns-4
 unfolding runs

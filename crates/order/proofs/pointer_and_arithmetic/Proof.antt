@@ -4,7 +4,7 @@ use Rattle.molang.specs.Operator
 use Rattle.molang.specs.Order.{addition, mathCalls, pointer, runs, unaryMinusAndNot}
 use Rattle.order.specs.Places.{arithmetic, mathCall, plus, point, unary, usedBy}
 use Rattle.order.proofs.Choosing.{chosen-if, no-place, one-level, one-used}
-use Rattle.order.proofs.Exactness.{add-exact, pointer-exact, div-exact, mul-exact}
+use Rattle.order.proofs.Covering.{add-covers, pointer-covers, div-covers, mul-covers}
 use borrow.Author.Needs.{needs}
 use Rattle.order.proofs.pointer_and_arithmetic.Statement.{statement}
 use Rattle.order.proofs.pointer_and_arithmetic.Tie as tie
@@ -42,7 +42,7 @@ returns c =
     rw (c .before .match .keys1)
     (chosen-if (usedBy (c .before .before .args .used)) pointer _
     (usedBy
-    (c .before .before .args .used) Operator.pointer) (one-used (usedBy (c .before .before .args .used)) Operator.pointer) (point pointer-exact)
+    (c .before .before .args .used) Operator.pointer) (one-used (usedBy (c .before .before .args .used)) Operator.pointer) (point pointer-covers)
     (c .level-of .result) (c .level-of .ensures))
 
 returns-2 : tie.Need-returns-2
@@ -64,12 +64,12 @@ returns-3 c =
 returns-4 : tie.Need-returns-4
 returns-4 c =
     rw (c .before .match .keys4)
-    (one-level (usedBy (c .before .before .args .used)) Operator.div _ div-exact (c .level-of2 .result) (c .level-of2 .ensures))
+    (one-level (usedBy (c .before .before .args .used)) Operator.div _ div-covers (c .level-of2 .result) (c .level-of2 .ensures))
 
 returns-5 : tie.Need-returns-5
 returns-5 c =
     rw (c .before .match .keys5)
-    (one-level (usedBy (c .before .before .args .used)) Operator.mul _ mul-exact (c .level-of3 .result) (c .level-of3 .ensures))
+    (one-level (usedBy (c .before .before .args .used)) Operator.mul _ mul-covers (c .level-of3 .result) (c .level-of3 .ensures))
 
 returns-6 : tie.Need-returns-6
 unfolding runs
@@ -77,7 +77,7 @@ returns-6 c =
     let u = usedBy (c .before .before .before .args .used) in
     rw (c .before .before .match .keys6)
     (chosen-if u addition _
-    (c .before .uses-either2 .result) (c .before .uses-either2 .ensures) (plus add-exact) (c .level .result) (c .level .ensures))
+    (c .before .uses-either2 .result) (c .before .uses-either2 .ensures) (plus add-covers) (c .level .result) (c .level .ensures))
 
 returns-7 : tie.Need-returns-7
 returns-7 c = no-place (usedBy (c .before .args .used)) arithmetic (c .before .args .k) (omega (arith, c .match .rest))

@@ -6,7 +6,7 @@ use Rattle.passes.proofs.binary.step.Statement.{statement}
 use Rattle.passes.proofs.binary.step.Tie as tie
 
 next-token-requires : tie.Need-next-token-requires
-next-token-requires c κs = let s = c .before .before in can-seek (level-stands {T = Nothing-told} _ (s .args .list) (s .args .classes) (λ ops exact. tt) (s .pre))
+next-token-requires c κs = let s = c .before .before in can-seek (level-stands {T = Nothing-told} _ (s .args .list) (s .args .classes) (λ ops covers. tt) (s .pre))
 
 enum-known-found : tie.Need-enum-known-found
 enum-known-found c = search needs
@@ -26,7 +26,7 @@ enum-known-found-3 c = search needs
 operator-requires : tie.Need-operator-requires
 operator-requires c κs =
     let s = c .before .before .before .before .before .before .before .before .before in
-    token-found (level-stands _ (s .args .list) (s .args .classes) (λ ops exact. tt)) (s .pre) (c .before .before .before .before .before .before .next-token .ensures) (c .before .before .found3 .given .1)
+    token-found (level-stands _ (s .args .list) (s .args .classes) (λ ops covers. tt)) (s .pre) (c .before .before .before .before .before .before .next-token .ensures) (c .before .before .found3 .given .1)
 
 same-length : tie.Need-same-length
 same-length c = search needs
@@ -34,7 +34,7 @@ same-length c = search needs
 returns : tie.Need-returns
 returns c =
     let s = c .before .before .before .before .before .before .before .before .before in
-    turned-over (level-stands _ (s .args .list) (s .args .classes) (λ ops exact. tt)) (c .before .before .before .before .before .before .next-token .ensures) (c .before .before .found .given .1) (c .over .ensures)
+    turned-over (level-stands _ (s .args .list) (s .args .classes) (λ ops covers. tt)) (c .before .before .before .before .before .before .next-token .ensures) (c .before .before .found .given .1) (c .over .ensures)
 
 same-length-2 : tie.Need-same-length-2
 same-length-2 c = search needs
@@ -42,7 +42,7 @@ same-length-2 c = search needs
 returns-2 : tie.Need-returns-2
 returns-2 c =
     let s = c .before .before .before .before .before .before .before .before .before in
-    turned-enter (level-stands _ (s .args .list) (s .args .classes) (λ ops exact. tt)) (c .before .before .before .before .before .before .next-token .ensures) (c .before .before .found2 .given .1) (c .enter .ensures)
+    turned-enter (level-stands _ (s .args .list) (s .args .classes) (λ ops covers. tt)) (c .before .before .before .before .before .before .next-token .ensures) (c .before .before .found2 .given .1) (c .enter .ensures)
 
 same-length-3 : tie.Need-same-length-3
 same-length-3 c = search needs

@@ -1,10 +1,10 @@
--- `ops::effective` meets its contract: a negative version, one above the latest, and any other. Assumes nothing.
+-- `ops::version::effective` meets its contract: a negative version, one above the latest, and any other. Assumes nothing.
 use mir.Facts.{toZ-ofZ}
 use mir.Syntax.{w16}
 use mir.Val.{toZ, ofZ}
 use Rattle.ops.proofs.VersionLaws.{invalid, latest, kept}
-use Rattle.ops.proofs.effective.Statement.{statement}
-use Rattle.ops.proofs.effective.Tie as tie
+use Rattle.ops.proofs.version.effective.Statement.{statement}
+use Rattle.ops.proofs.version.effective.Tie as tie
 
 returns : tie.Need-returns
 returns c = rw (toZ-ofZ (c .before .fits .raw)) at (invalid (toZ w16 (ofZ w16 (c .before .args .raw))) (c .if1 .taken))

@@ -1,7 +1,7 @@
 // What the passes leave of a list (`group_tokens` in mod.rs), for the entry to lay out as a tree or to report. Leans on the failures.
-use crate::failure::Failure;
-use crate::failure::Mismatch;
-use crate::failure::Unclosed;
+use levels::failure::Failure;
+use levels::failure::Mismatch;
+use levels::failure::Unclosed;
 
 pub enum Grouped {
     // The roots stand as the children of slot 0.

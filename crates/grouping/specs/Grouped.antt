@@ -6,13 +6,13 @@ use Rattle.molang.specs.Forest.{Token, Forest, size}
 use Rattle.molang.specs.Message.{Message, multipleRoots, complexMustEndWithSemicolon}
 use Rattle.molang.specs.Read.{Answer, messages, rooted}
 use Rattle.nodes.specs.Store.{TokenAt, Owned}
 use Rattle.levels.specs.Failures.{Tells, TellsMismatch, TellsUnclosed}
 use Rattle.levels.specs.declared.failure.Failure.{Failure}
 use Rattle.levels.specs.declared.failure.Failure.the-variants.{ComplexMustEndWithSemicolon, ComplexWithoutTokens}
 use Rattle.levels.specs.declared.failure.Mismatch.{Mismatch}
 use Rattle.levels.specs.declared.failure.Unclosed.{Unclosed}
-use Rattle.levels.specs.declared.grouped.Grouped.{Grouped}
-use Rattle.levels.specs.declared.grouped.Grouped.the-variants.{Roots, Failed, Mismatched, Unclosed as Unclosing, PointerFailed}
+use Rattle.grouping.specs.declared.grouped.Grouped.{Grouped}
+use Rattle.grouping.specs.declared.grouped.Grouped.the-variants.{Roots, Failed, Mismatched, Unclosed as Unclosing, PointerFailed}
 
 -- What a failure of any pass tells, the check of the last token among them, over a source of that length.
 pub data Says (W : List ℕ) (sourceLength : ℕ) : Failure → List Message → Type 0 where
