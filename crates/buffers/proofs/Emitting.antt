@@ -9,7 +9,7 @@ use lib.ListN.{length, set, length-set, length-append}
 use Rattle.molang.specs.Forest.{Forest, nil, node, count, size}
 use Rattle.molang.specs.Words.{word, tokenWords, treeWords}
 use Rattle.molang.proofs.Trees.{count-size}
-use Rattle.nodes.specs.Store.{wd, TokenAt, Chain, Seg, SegB}
+use Rattle.nodes.specs.Store.{wd, slotStart, slotEnd, firstWord, nextWord, firstAt, nextAt, TokenAt, Chain, Seg, SegB}
 use Rattle.nodes.proofs.Runs.{wd-same, wd-other, seg-keep, segB-keep}
 use Rattle.nodes.proofs.Tokens.{token-keep}
 use Rattle.nodes.proofs.Store.{rep-count}
@@ -107,15 +107,15 @@ module _ (W : List ℕ) (first to stack : ℕ) (p : CanEmit W first to stack) wh
 
   -- ---- what a turn asks
 
-  slots-same : {Z : List ℕ} {nodes fuel : ℕ} {gs : List Forest} → Progress Z nodes fuel gs → (j : ℕ) → j < 8 * p .hi → wd Z j ≡ wd W j
+  slots-same : {Z : List ℕ} {nodes fuel : ℕ} {gs : List Forest} → Progress Z nodes fuel gs → (j : ℕ) → j < slotStart (p .hi) → wd Z j ≡ wd W j
   slots-same v j h = v .same j (omega (arith, p .below))
 
-  slots-within : {Z : List ℕ} {nodes fuel : ℕ} {gs : List Forest} → Progress Z nodes fuel gs → 8 * p .hi ≤ length Z
+  slots-within : {Z : List ℕ} {nodes fuel : ℕ} {gs : List Forest} → Progress Z nodes fuel gs → slotStart (p .hi) ≤ length Z
   slots-within v = omega (arith, p .below, p .spare, p .room, v .long)
 
   pub record Turn (Z : List ℕ) (s top nodes fuel : ℕ) : Type 0 where
     pub node : CanEmitNode Z s (to + 6 * nodes)
-    pub slot : 8 * s + 8 ≤ stack
+    pub slot : slotEnd s ≤ stack
     pub low : stack ≤ top
     pub high : top < to
 
@@ -135,7 +135,7 @@ module _ (W : List ℕ) (first to stack : ℕ) (p : CanEmit W first to stack) wh
           let whole = g .whole in
           let long = g .long in
           let at = v .at in
-          let link : wd Z (8 * s + 5) ≡ wd W (8 * s + 5) = slots-same g (8 * s + 5) (omega arith) in
+          let link : firstAt Z s ≡ firstAt W s = slots-same g (firstWord s) (omega arith) in
           record {
             node = record {
               below = omega arith;
@@ -153,8 +153,8 @@ module _ (W : List ℕ) (first to stack : ℕ) (p : CanEmit W first to stack) wh
   record Between (Z : List ℕ) (s nodes fuel : ℕ) (fs : List Forest) : Type 0 where
     cs : Forest
     rest : Forest
-    children : Linked W (wd Z (8 * s + 5)) (p .hi) cs
-    after : Linked W (wd Z (8 * s + 6)) (p .hi) rest
+    children : Linked W (firstAt Z s) (p .hi) cs
+    after : Linked W (nextAt Z s) (p .hi) rest
     progress : Progress Z nodes fuel (cs ∷ rest ∷ fs)
 
   between : {Z Z' : List ℕ} {s nodes fuel : ℕ} {fs : List Forest} (f : Forest) → Linked W s (p .hi) f → s ≢ 0 → Progress Z nodes fuel (f ∷ fs)
@@ -169,11 +169,11 @@ module _ (W : List ℕ) (first to stack : ℕ) (p : CanEmit W first to stack) wh
       let few = p .few in
       let whole = g .whole in
       let kids = o .children in
-      let link : wd Z (8 * s + 5) ≡ wd W (8 * s + 5) = slots-same g (8 * s + 5) (omega arith) in
-      let chain : Chain Z (wd Z (8 * s + 5)) (kids .bs) = rw link (linked-chain W Z (p .hi) (slots-same g) (slots-within g) (omega arith) kids) in
+      let link : firstAt Z s ≡ firstAt W s = slots-same g (firstWord s) (omega arith) in
+      let chain : Chain Z (firstAt Z s) (kids .bs) = rw link (linked-chain W Z (p .hi) (slots-same g) (slots-within g) (omega arith) kids) in
       let number : length (kids .bs) ≡ count cs = rep-count (kids .rep) in
       let small : count cs < 2 ^ 14 = omega (arith, count-size cs) in
-      let token : TokenAt Z s k = token-keep W Z s (λ i h. slots-same g (8 * s + i) (omega arith)) (o .token) in
+      let token : TokenAt Z s k = token-keep W Z s (λ i h. slots-same g (slotStart s + i) (omega arith)) (o .token) in
       let end : to + length (g .done) ≡ to + 6 * nodes = omega (arith, g .count) in
       let six : Seg Z' (to + 6 * nodes) (tokenWords k ++ (word 6 (count cs) ∷ []))
       = subst (λ (l : List ℕ). Seg Z' (to + 6 * nodes) l) (ap (nodeWords Z s) number ∙ token-words Z s k (count cs) token small) (x .words (kids .bs) chain) in
@@ -182,8 +182,8 @@ module _ (W : List ℕ) (first to stack : ℕ) (p : CanEmit W first to stack) wh
       record {
         cs = cs;
         rest = rest;
-        children = rw (same (8 * s + 5) (omega arith)) kids;
-        after = rw (same (8 * s + 6) (omega arith)) (o .after);
+        children = rw (same (firstWord s) (omega arith)) kids;
+        after = rw (same (nextWord s) (omega arith)) (o .after);
         progress = record {
           done = g .done ++ (tokenWords k ++ (word 6 (count cs) ∷ []));
           written = seg-append Z' to (g .done) (tokenWords k ++ (word 6 (count cs) ∷ [])) older (rw end six);

@@ -17,7 +17,7 @@ use Rattle.molang.proofs.ListWords.{listWords-length}
 use Rattle.words.specs.Fields.{operatorOf}
 use Rattle.ops.specs.Classes.{bitAt, inClass, classTable, entryOf, ownWord}
 use Rattle.ops.proofs.ClassLaws.{leaf-bits}
-use Rattle.nodes.specs.Store.{wd, TokenAt, Seg, RepF, ends, InArray}
+use Rattle.nodes.specs.Store.{wd, slotWords, slotStart, slotEnd, TokenAt, Seg, RepF, ends, InArray}
 use Rattle.nodes.specs.Slots.{Laid}
 use Rattle.nodes.proofs.Runs.{wd-same, wd-other}
 use Rattle.nodes.proofs.Tokens.{token-op}
@@ -44,7 +44,7 @@ module _ (list W table : List ℕ) (i stack : ℕ) (p : CanLoadToken list W tabl
       → op ≡ operatorOf (wd list (5 * i)) → ((c : ℕ) → bitAt n c ≡ (bitAt (entryOf table op) c || bitAt (ownWord op) c)) → TokenLoaded list W i stack (set W1 (stack + i) slot)
   token-stores W1 slot n op e v eo noted =
       let bits : (c : ℕ) → bitAt n c ≡ inClass c op = λ c. noted c ∙ rw (p .classes) (leaf-bits op c) in
-      let at = 8 * (3 * i + 3) in
+      let at = slotStart (3 * i + 3) in
       let u : Laid W (3 * i + 3) (wd list (5 * i)) (wd list (5 * i + 1)) (wd list (5 * i + 2)) (wd list (5 * i + 3)) (wd list (5 * i + 4)) n W1 = rw e at v in
       let W2 = set W1 (stack + i) slot in
       let below = p .below in
@@ -64,7 +64,7 @@ module _ (list W table : List ℕ) (i stack : ℕ) (p : CanLoadToken list W tabl
         long = length-set W1 (stack + i) slot ∙ long;
       }
     where
-      apart : (j : ℕ) → (j < 24 * i + 24) ⊎ (24 * i + 32 ≤ j) → (j < 8 * (3 * i + 3)) ⊎ (8 * (3 * i + 3) + 8 ≤ j)
+      apart : (j : ℕ) → (j < 24 * i + 24) ⊎ (24 * i + 32 ≤ j) → (j < slotStart (3 * i + 3)) ⊎ (slotEnd (3 * i + 3) ≤ j)
       apart j (inl h) = inl (omega arith)
       apart j (inr h) = inr (omega arith)
 
@@ -84,7 +84,7 @@ pub load-in : {list W table : List ℕ} {n : ℕ} {Z : List ℕ} {i : ℕ} → C
     → CanLoadToken list Z table i (24 * n + 24)
 load-in p v h e = record { classes = e; few = omega (arith, p .few); within = omega (arith, p .tokens); below = omega arith; room = omega (arith, p .room, v .long) }
 
-leaf-keep : (list Z Z' : List ℕ) (j : ℕ) → ((o : ℕ) → o < 8 → wd Z' (8 * (3 * j + 3) + o) ≡ wd Z (8 * (3 * j + 3) + o)) → LeafAt list Z j → LeafAt list Z' j
+leaf-keep : (list Z Z' : List ℕ) (j : ℕ) → ((o : ℕ) → o < slotWords → wd Z' (slotStart (3 * j + 3) + o) ≡ wd Z (slotStart (3 * j + 3) + o)) → LeafAt list Z j → LeafAt list Z' j
 leaf-keep list Z Z' j h v =
     record {
       words = λ o b. h o (omega arith) ∙ v .words o b;
@@ -98,7 +98,7 @@ load-step {list} {W} {n} {Z} {i} {Z'} v h w =
     record {
       most = omega arith;
       leaf = below-more (λ (j : ℕ). LeafAt list Z' j) i
-          (λ j b. leaf-keep list Z Z' j (λ o c. w .same (8 * (3 * j + 3) + o) (inl (omega arith)) (omega arith)) (v .leaf j b)) (w .leaf);
+          (λ j b. leaf-keep list Z Z' j (λ o c. w .same (slotStart (3 * j + 3) + o) (inl (omega arith)) (omega arith)) (v .leaf j b)) (w .leaf);
       slot = below-more (λ (j : ℕ). wd Z' (24 * n + 24 + j) ≡ 3 * j + 3) i
           (λ j b. w .same (24 * n + 24 + j) (inr (omega arith)) (omega arith) ∙ v .slot j b) (w .slot);
       same = λ j b. w .same j (inl (omega arith)) (omega arith) ∙ v .same j b;
@@ -151,7 +151,7 @@ tokens-rep list W i (k ∷ ks) e (token legal later) h =
     let t = leaf-token list W i k ks e (token legal later) v in
     let most = reserve-most k nil in
     let op : operatorOf (wd list (5 * i)) ≡ k .op
-    = ap operatorOf (sym (rw (add-zero (8 * b), add-zero (5 * i)) at (v .words 0 (omega arith)))) ∙ token-op t in
+    = ap operatorOf (sym (rw (add-zero (slotStart b), add-zero (5 * i)) at (v .words 0 (omega arith)))) ∙ token-op t in
     let leaf = leaf-tree {W = W} {X = 0 ∷ []} {b = b} {l = b} {m = 3 * suc i + 3} {t = k} (le-refl b) (omega arith) (omega arith) (λ s x y. (omega arith, tt)) t
     (notes-leaf (λ c x. v .classes c ∙ ap (λ (o : ℕ). inClass c o) op)) (v .first) in
     let g : 3 * (i + suc (length ks)) + 3 ≡ 3 * (suc i + length ks) + 3 = omega arith in

@@ -1,5 +1,5 @@
 -- The six words of a node: what the stores of `emit_node` leave, and that they are those of its token and its child count.
-use Prim.Native.Nat.{ℕ, zero, suc, _+_, _*_, _%_, _^_, _<_}
+use Prim.Native.Nat.{ℕ, zero, suc, _+_, _%_, _^_, _<_}
 use mathlib.Core.Path.{_≡_, refl, ap, _∙_}
 use mathlib.Core.Logic.{inl, inr, ⊎-elim}
 use mathlib.Core.List.{List, [], _∷_, _++_}
@@ -8,7 +8,7 @@ use native.Mathlib.Nat.{add-zero}
 use lib.ListN.{length, getD, set, length-set}
 use Rattle.molang.specs.Forest.{Token, count}
 use Rattle.molang.specs.Words.{word, tokenWords}
-use Rattle.nodes.specs.Store.{wd, TokenAt}
+use Rattle.nodes.specs.Store.{wd, operatorWordAt, startWordAt, endWordAt, upperWordAt, lowerWordAt, firstAt, TokenAt}
 use Rattle.nodes.specs.Children.{Counted}
 use Rattle.nodes.proofs.Runs.{wd-same, wd-other}
 use Rattle.nodes.proofs.Tokens.{operator-word, start-word, end-word, upper-word, lower-word}
@@ -16,8 +16,8 @@ use Rattle.nodes.proofs.Stores.{storedFrom, stored-long, stored-other, stored-a
 use Rattle.buffers.specs.Emit.{nodeWords, CanEmitNode, NodeEmitted}
 use Rattle.buffers.proofs.Runs.{seg-of-words}
 
-module _ (W : List ℕ) (s at a b c d e n x : ℕ) (p : CanEmitNode W s at) (ea : a ≡ wd W (8 * s)) (eb : b ≡ wd W (8 * s + 1)) (ec : c ≡ wd W (8 * s + 2))
-    (ed : d ≡ wd W (8 * s + 3)) (ee : e ≡ wd W (8 * s + 4)) (counted : Counted W (wd W (8 * s + 5)) n) (ex : x ≡ word 6 (n % 2 ^ 14)) where
+module _ (W : List ℕ) (s at a b c d e n x : ℕ) (p : CanEmitNode W s at) (ea : a ≡ operatorWordAt W s) (eb : b ≡ startWordAt W s) (ec : c ≡ endWordAt W s)
+    (ed : d ≡ upperWordAt W s) (ee : e ≡ lowerWordAt W s) (counted : Counted W (firstAt W s) n) (ex : x ≡ word 6 (n % 2 ^ 14)) where
   pub node-stores : NodeEmitted W s at (storedFrom (set W at a) at 1 (b ∷ c ∷ d ∷ e ∷ x ∷ []))
   node-stores =
       let vs : List ℕ = b ∷ c ∷ d ∷ e ∷ x ∷ [] in

@@ -8,7 +8,7 @@ use lib.ListN.{length, set}
 use Rattle.molang.specs.Forest.{Forest, size}
 use Rattle.molang.specs.Words.{word, treeWords}
 use Rattle.molang.specs.Parse.{mostTokens, inFront}
-use Rattle.nodes.specs.Store.{wd, Chain, Seg, RepF}
+use Rattle.nodes.specs.Store.{wd, slotStart, slotEnd, operatorWordAt, startWordAt, endWordAt, upperWordAt, lowerWordAt, firstAt, nextAt, Chain, Seg, RepF}
 use Rattle.nodes.specs.Children.{CanFollow}
 
 -- The trees of f are linked from the slot `first` on, below the slot hi.
@@ -24,17 +24,17 @@ pub record Linked (W : List ℕ) (first hi : ℕ) (f : Forest) : Type 0 where
 -- The six words of the node at slot s, which has n children.
 abbrev pub nodeWords : List ℕ → ℕ → ℕ → List ℕ
 nodeWords W s n =
-    wd W (8 * s) ∷ wd W (8 * s + 1) ∷ wd W (8 * s + 2) ∷ wd W (8 * s + 3) ∷ wd W (8 * s + 4) ∷ word 6 (n % 2 ^ 14) ∷ []
+    operatorWordAt W s ∷ startWordAt W s ∷ endWordAt W s ∷ upperWordAt W s ∷ lowerWordAt W s ∷ word 6 (n % 2 ^ 14) ∷ []
 
 -- The slot s lies below the word `at`, from which on six words are free; its children are a chain.
 pub record CanEmitNode (W : List ℕ) (s at : ℕ) : Type 0 where
-  pub below : 8 * s + 8 ≤ at
+  pub below : slotEnd s ≤ at
   pub room : at + 6 ≤ length W
-  pub children : CanFollow W (wd W (8 * s + 5))
+  pub children : CanFollow W (firstAt W s)
 
 -- The node's words stand from `at` on; all other words are as they were.
 pub record NodeEmitted (W : List ℕ) (s at : ℕ) (W' : List ℕ) : Type 0 where
-  pub words : (cs : List ℕ) → Chain W (wd W (8 * s + 5)) cs → Seg W' at (nodeWords W s (length cs))
+  pub words : (cs : List ℕ) → Chain W (firstAt W s) cs → Seg W' at (nodeWords W s (length cs))
   pub same : (j : ℕ) → (j < at) ⊎ (at + 6 ≤ j) → wd W' j ≡ wd W j
   pub long : length W' ≡ length W
 
@@ -42,11 +42,11 @@ pub record NodeEmitted (W : List ℕ) (s at : ℕ) (W' : List ℕ) : Type 0 wher
 
 -- The node after slot s, the top after it and the words after it, those that wait standing from `stack` to `top`.
 pub data Stepped (W : List ℕ) (s stack top : ℕ) : ℕ → ℕ → List ℕ → Type 0 where
-  over : {next : ℕ} → next ≡ wd W (8 * s + 6) → wd W (8 * s + 5) ≡ 0 → next ≢ 0 → Stepped W s stack top next top W
-  finish : {next : ℕ} → next ≡ wd W (8 * s + 6) → wd W (8 * s + 5) ≡ 0 → next ≡ 0 → top ≡ stack → Stepped W s stack top next top W
-  back : {next : ℕ} → next ≡ wd W (top - 1) → wd W (8 * s + 5) ≡ 0 → wd W (8 * s + 6) ≡ 0 → top ≢ stack → Stepped W s stack top next (top - 1) W
-  down : {next : ℕ} → next ≡ wd W (8 * s + 5) → next ≢ 0 → wd W (8 * s + 6) ≡ 0 → Stepped W s stack top next top W
-  waits : {next wait : ℕ} → next ≡ wd W (8 * s + 5) → next ≢ 0 → wait ≡ wd W (8 * s + 6) → wait ≢ 0
+  over : {next : ℕ} → next ≡ nextAt W s → firstAt W s ≡ 0 → next ≢ 0 → Stepped W s stack top next top W
+  finish : {next : ℕ} → next ≡ nextAt W s → firstAt W s ≡ 0 → next ≡ 0 → top ≡ stack → Stepped W s stack top next top W
+  back : {next : ℕ} → next ≡ wd W (top - 1) → firstAt W s ≡ 0 → nextAt W s ≡ 0 → top ≢ stack → Stepped W s stack top next (top - 1) W
+  down : {next : ℕ} → next ≡ firstAt W s → next ≢ 0 → nextAt W s ≡ 0 → Stepped W s stack top next top W
+  waits : {next wait : ℕ} → next ≡ firstAt W s → next ≢ 0 → wait ≡ nextAt W s → wait ≢ 0
       → Stepped W s stack top next (top + 1) (set W top wait)
 
 -- ---- `emit`
@@ -56,7 +56,7 @@ pub record CanEmit (W : List ℕ) (first to stack : ℕ) : Type 0 where
   pub hi : ℕ
   pub trees : Forest
   pub linked : Linked W first hi trees
-  pub below : 8 * hi ≤ stack
+  pub below : slotStart hi ≤ stack
   pub spare : stack + size trees ≤ to
   pub room : to + 6 * size trees ≤ length W
   pub few : size trees < 2 ^ 14

@@ -10,7 +10,7 @@ use Rattle.molang.specs.Words.{tokensOf, operatorField, wordsRefusal}
 use Rattle.molang.specs.Parse.{mostTokens}
 use Rattle.words.specs.Fields.{operatorOf}
 use Rattle.ops.specs.Classes.{bitAt, inClass, classTable}
-use Rattle.nodes.specs.Store.{wd, Seg, RepF}
+use Rattle.nodes.specs.Store.{wd, slotStart, firstAt, classesAt, Seg, RepF}
 
 -- The slots of n tokens, from token i on.
 unfoldable pub tokenSlots : ℕ → ℕ → List ℕ
@@ -19,9 +19,9 @@ tokenSlots i (suc n) = (3 * i + 3) ∷ tokenSlots (suc i) n
 
 -- Token i of the list stands at its slot, without children, and notes the classes of its operator.
 pub record LeafAt (list W : List ℕ) (i : ℕ) : Type 0 where
-  pub words : (o : ℕ) → o < 5 → wd W (8 * (3 * i + 3) + o) ≡ wd list (5 * i + o)
-  pub first : wd W (8 * (3 * i + 3) + 5) ≡ 0
-  pub classes : (c : ℕ) → bitAt (wd W (8 * (3 * i + 3) + 7)) c ≡ inClass c (operatorOf (wd list (5 * i)))
+  pub words : (o : ℕ) → o < 5 → wd W (slotStart (3 * i + 3) + o) ≡ wd list (5 * i + o)
+  pub first : firstAt W (3 * i + 3) ≡ 0
+  pub classes : (c : ℕ) → bitAt (classesAt W (3 * i + 3)) c ≡ inClass c (operatorOf (wd list (5 * i)))
 
 -- ---- `load_token`
 

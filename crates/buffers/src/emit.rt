@@ -6,6 +6,7 @@ use words::fields;
 ghost use mathlib.Core.Path.{_≡_};
 ghost use Prim.Native.Nat.{_+_, _*_, _^_, _≤_, _<_};
 ghost use lib.ListN.{length, take, drop, replicate};
+ghost use Rattle.nodes.specs.Store.{slotEnd};
 ghost use Rattle.molang.specs.Parse.{inFront};
 ghost use Rattle.buffers.specs.Emit.{CanEmitNode, NodeEmitted, Stepped, CanEmit, Emitted, CanLayOut, LaidOut};
 
@@ -37,7 +38,7 @@ fn emit_node(work: &mut [u32], s: u32, at: usize)
 // The node after slot s in preorder: its first child, and its next sibling waits; or its next sibling; or the last one that
 // waits. Those that wait stand in the words from `stack` up to `top`.
 fn node_after(work: &mut [u32], s: u32, stack: usize, top: usize) -> After
-    requires { ⌜ (8 * s + 8 ≤ length (now work)) × (stack ≤ top) × (top < length (now work)) ⌝ }
+    requires { ⌜ (slotEnd s ≤ length (now work)) × (stack ≤ top) × (top < length (now work)) ⌝ }
     ensures { λ r. ⌜ Stepped (now (work .entry)) s stack top (r .next) (r .top) (now (work .exit)) ⌝ }
 {
     let first = slots::first_of(work, s);

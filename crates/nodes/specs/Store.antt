@@ -21,9 +21,69 @@ wd W j = getD W j 0
 
 -- ---- one slot: five token words, then the first child's slot, the next sibling's slot, and the classes that it notes
 
+-- How many words a slot is.
+abbrev pub slotWords : ℕ
+slotWords = 8
+
+-- Which of its words names the first child, which the next sibling, and which holds the classes.
+abbrev pub firstField : ℕ
+firstField = 5
+
+abbrev pub nextField : ℕ
+nextField = 6
+
+abbrev pub classesField : ℕ
+classesField = 7
+
+-- Slot s begins at this word, ..
+abbrev pub slotStart : ℕ → ℕ
+slotStart s = slotWords * s
+
+-- .. and this is the first word past it.
+abbrev pub slotEnd : ℕ → ℕ
+slotEnd s = slotStart s + slotWords
+
+-- Where its first child, its next sibling and its classes stand.
+abbrev pub firstWord : ℕ → ℕ
+firstWord s = slotStart s + firstField
+
+abbrev pub nextWord : ℕ → ℕ
+nextWord s = slotStart s + nextField
+
+abbrev pub classesWord : ℕ → ℕ
+classesWord s = slotStart s + classesField
+
+-- Its five token words.
+abbrev pub operatorWordAt : List ℕ → ℕ → ℕ
+operatorWordAt W s = wd W (slotStart s)
+
+abbrev pub startWordAt : List ℕ → ℕ → ℕ
+startWordAt W s = wd W (slotStart s + 1)
+
+abbrev pub endWordAt : List ℕ → ℕ → ℕ
+endWordAt W s = wd W (slotStart s + 2)
+
+abbrev pub upperWordAt : List ℕ → ℕ → ℕ
+upperWordAt W s = wd W (slotStart s + 3)
+
+abbrev pub lowerWordAt : List ℕ → ℕ → ℕ
+lowerWordAt W s = wd W (slotStart s + 4)
+
+-- Its first child, 0 where it has none.
+abbrev pub firstAt : List ℕ → ℕ → ℕ
+firstAt W s = wd W (firstWord s)
+
+-- Its next sibling, 0 where it has none.
+abbrev pub nextAt : List ℕ → ℕ → ℕ
+nextAt W s = wd W (nextWord s)
+
+-- The classes that it notes.
+abbrev pub classesAt : List ℕ → ℕ → ℕ
+classesAt W s = wd W (classesWord s)
+
 -- Slot s holds the words of the token k.
 pub record TokenAt (W : List ℕ) (s : ℕ) (k : Token) : Type 0 where
-  pub words : (i : ℕ) → i < 5 → wd W (8 * s + i) ≡ getD (tokenWords k) i 0
+  pub words : (i : ℕ) → i < 5 → wd W (slotStart s + i) ≡ getD (tokenWords k) i 0
   pub legal : Legal k
 
 -- The classes in w are exactly those of the leaves of the forest, at any depth.
@@ -45,7 +105,7 @@ reserve k (node c cs r) = 1
 -- The slots cs are linked, each to the next, from f on.
 abbrev pub Chain : List ℕ → ℕ → List ℕ → Type 0
 Chain W f [] = f ≡ 0
-Chain W f (c ∷ cs) = (f ≡ c) × (0 < c) × Chain W (wd W (8 * c + 6)) cs
+Chain W f (c ∷ cs) = (f ≡ c) × (0 < c) × Chain W (nextAt W c) cs
 
 -- The words from `at` on are cs.
 abbrev pub Seg : List ℕ → ℕ → List ℕ → Type 0
@@ -74,7 +134,7 @@ OutFrom b n X = (s : ℕ) → b ≤ s → s < b + n → Out s X
 -- j is no `next` word of a slot of cs.
 abbrev pub OffNext : List ℕ → ℕ → Type 0
 OffNext [] j = Unit {0}
-OffNext (c ∷ cs) j = (j ≢ 8 * c + 6) × OffNext cs j
+OffNext (c ∷ cs) j = (j ≢ nextWord c) × OffNext cs j
 
 -- A list that was read backwards, put back onto what comes after it.
 abbrev pub onto : List ℕ → List ℕ → List ℕ
@@ -89,7 +149,7 @@ pub data RepF (W : List ℕ) : List ℕ → List ℕ → ℕ → ℕ → Forest 
   ends : {X : List ℕ} {lo hi : ℕ} → lo ≤ hi → RepF W X [] lo hi nil
   more : {X : List ℕ} {b : ℕ} {bs : List ℕ} {lo l m hi : ℕ} {t : Token} {k f : Forest} {cs : List ℕ}
       → lo ≤ l → l ≤ b → b + reserve t k ≤ m → 0 < b → OutFrom b (reserve t k) X
-      → TokenAt W b t → Noted (wd W (8 * b + 7)) t k → Chain W (wd W (8 * b + 5)) cs → RepF W (b ∷ X) cs l m k
+      → TokenAt W b t → Noted (classesAt W b) t k → Chain W (firstAt W b) cs → RepF W (b ∷ X) cs l m k
       → RepF W X bs m hi f
       → RepF W X (b ∷ bs) lo hi (node t k f)
 
@@ -101,15 +161,15 @@ pub record RepT (W X : List ℕ) (b l m : ℕ) (t : Token) (k : Forest) : Type 0
   pub pos : 0 < b
   pub out : OutFrom b (reserve t k) X
   pub token : TokenAt W b t
-  pub noted : Noted (wd W (8 * b + 7)) t k
-  pub chain : Chain W (wd W (8 * b + 5)) cs
+  pub noted : Noted (classesAt W b) t k
+  pub chain : Chain W (firstAt W b) cs
   pub kids : RepF W (b ∷ X) cs l m k
 
 -- The child list of the slot q at rest: linked from its `first` word on, the classes of all of it noted. Slot 0 owns the outermost list.
 pub record Owned (W X : List ℕ) (q lo hi : ℕ) (f : Forest) : Type 0 where
   pub cs : List ℕ
-  pub chain : Chain W (wd W (8 * q + 5)) cs
-  pub notes : Notes (wd W (8 * q + 7)) f
+  pub chain : Chain W (firstAt W q) cs
+  pub notes : Notes (classesAt W q) f
   pub kids : RepF W (q ∷ X) cs lo hi f
 
 -- The trees of d, the last first, at the slots ds, the last first: what is done so far, from the left; or what is not read yet, from the right.
@@ -135,11 +195,11 @@ AllLegal (node k cs rest) = Legal k × AllLegal cs × AllLegal rest
 -- W' has W's words in the slots from lo to hi, but perhaps in those of X, and the `next` words of bs.
 abbrev pub Agree : List ℕ → List ℕ → List ℕ → List ℕ → ℕ → ℕ → Type 0
 Agree W W' X bs lo hi =
-    (s o : ℕ) → lo ≤ s → s < hi → o < 8 → Out s X → (o ≢ 6) ⊎ Out s bs → wd W' (8 * s + o) ≡ wd W (8 * s + o)
+    (s o : ℕ) → lo ≤ s → s < hi → o < slotWords → Out s X → (o ≢ nextField) ⊎ Out s bs → wd W' (slotStart s + o) ≡ wd W (slotStart s + o)
 
 -- j is no word of a slot that lies from lo to hi and is not in X.
 abbrev pub Free : List ℕ → ℕ → ℕ → ℕ → Type 0
-Free X lo hi j = (s o : ℕ) → lo ≤ s → s < hi → o < 8 → Out s X → j ≢ 8 * s + o
+Free X lo hi j = (s o : ℕ) → lo ≤ s → s < hi → o < slotWords → Out s X → j ≢ slotStart s + o
 
 -- W' is W, but for the slots from lo to hi that are not in X, and the stack's words from a to b.
 abbrev pub Kept : List ℕ → List ℕ → List ℕ → ℕ → ℕ → ℕ → ℕ → Type 0

@@ -7,13 +7,14 @@ use crate::slots::set_first;
 use crate::slots::set_next;
 use ops::classes::TokenClasses;
 ghost use mathlib.Core.Logic.{_≢_};
-ghost use Prim.Native.Nat.{_+_, _*_, _≤_};
+ghost use Prim.Native.Nat.{_≤_};
 ghost use lib.ListN.{length};
+ghost use Rattle.nodes.specs.Store.{slotEnd};
 ghost use Rattle.nodes.specs.Children.{Attached, AttachedTwo, CanTake, Taken, CanGive, Given, CanFollow, Counted, IsLast};
 
 // `child` becomes the only child of `parent`.
 pub fn attach(work: &mut [u32], parent: u32, child: u32)
-    requires { ⌜ (8 * parent + 8 ≤ length (now work)) × (8 * child + 8 ≤ length (now work)) ⌝ }
+    requires { ⌜ (slotEnd parent ≤ length (now work)) × (slotEnd child ≤ length (now work)) ⌝ }
     ensures { λ _. ⌜ Attached (now (work .entry)) parent child (now (work .exit)) ⌝ }
 {
     set_first(work, parent, child);
@@ -24,7 +25,7 @@ pub fn attach(work: &mut [u32], parent: u32, child: u32)
 
 // `left` and `right` become the children of `parent`.
 pub fn attach_two(work: &mut [u32], parent: u32, left: u32, right: u32)
-    requires { ⌜ (8 * parent + 8 ≤ length (now work)) × (8 * left + 8 ≤ length (now work)) × (8 * right + 8 ≤ length (now work)) × (left ≢ right) ⌝ }
+    requires { ⌜ (slotEnd parent ≤ length (now work)) × (slotEnd left ≤ length (now work)) × (slotEnd right ≤ length (now work)) × (left ≢ right) ⌝ }
     ensures { λ _. ⌜ AttachedTwo (now (work .entry)) parent left right (now (work .exit)) ⌝ }
 {
     set_first(work, parent, left);

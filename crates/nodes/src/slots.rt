@@ -10,10 +10,19 @@ ghost use mathlib.Core.Path.{_≡_};
 ghost use Prim.Native.Nat.{_+_, _*_, _^_, _≤_, _<_};
 ghost use lib.ListN.{length, set};
 ghost use Rattle.words.specs.Fields.{withOperator};
-ghost use Rattle.nodes.specs.Store.{wd};
+ghost use Rattle.nodes.specs.Store.{slotStart, slotEnd, firstWord, nextWord, classesWord, operatorWordAt, startWordAt, endWordAt, upperWordAt, lowerWordAt, firstAt, nextAt, classesAt};
 ghost use Rattle.nodes.specs.Slots.{opAt, startAt, endAt, isLeafAt, isTokenAt, Laid, Made};
 
 pub const ROOT: u32 = 0;
+
+// How many words a slot is, and which of them come after those of its token.
+const SLOT_WORDS: usize = 8;
+
+const FIRST_FIELD: usize = 5;
+
+const NEXT_FIELD: usize = 6;
+
+const CLASSES_FIELD: usize = 7;
 
 // The slot of token i.
 pub fn slot_of(i: u32) -> u32
@@ -50,108 +59,108 @@ pub fn stack_of(n: usize) -> usize
 // The words of slot s, one by one.
 
 pub fn operator_word_of(work: &[u32], s: u32) -> u32
-    requires { ⌜ 8 * s + 8 ≤ length (now work) ⌝ }
-    ensures { λ r. ⌜ r ≡ wd (now (work .entry)) (8 * s) ⌝ }
+    requires { ⌜ slotEnd s ≤ length (now work) ⌝ }
+    ensures { λ r. ⌜ r ≡ operatorWordAt (now (work .entry)) s ⌝ }
 {
-    work[8 * (s as usize)]
+    work[SLOT_WORDS * (s as usize)]
 }
 
 pub fn start_word_of(work: &[u32], s: u32) -> u32
-    requires { ⌜ 8 * s + 8 ≤ length (now work) ⌝ }
-    ensures { λ r. ⌜ r ≡ wd (now (work .entry)) (8 * s + 1) ⌝ }
+    requires { ⌜ slotEnd s ≤ length (now work) ⌝ }
+    ensures { λ r. ⌜ r ≡ startWordAt (now (work .entry)) s ⌝ }
 {
-    work[8 * (s as usize) + 1]
+    work[SLOT_WORDS * (s as usize) + fields::START_FIELD]
 }
 
 pub fn end_word_of(work: &[u32], s: u32) -> u32
-    requires { ⌜ 8 * s + 8 ≤ length (now work) ⌝ }
-    ensures { λ r. ⌜ r ≡ wd (now (work .entry)) (8 * s + 2) ⌝ }
+    requires { ⌜ slotEnd s ≤ length (now work) ⌝ }
+    ensures { λ r. ⌜ r ≡ endWordAt (now (work .entry)) s ⌝ }
 {
-    work[8 * (s as usize) + 2]
+    work[SLOT_WORDS * (s as usize) + fields::END_FIELD]
 }
 
 pub fn upper_word_of(work: &[u32], s: u32) -> u32
-    requires { ⌜ 8 * s + 8 ≤ length (now work) ⌝ }
-    ensures { λ r. ⌜ r ≡ wd (now (work .entry)) (8 * s + 3) ⌝ }
+    requires { ⌜ slotEnd s ≤ length (now work) ⌝ }
+    ensures { λ r. ⌜ r ≡ upperWordAt (now (work .entry)) s ⌝ }
 {
-    work[8 * (s as usize) + 3]
+    work[SLOT_WORDS * (s as usize) + fields::UPPER_FIELD]
 }
 
 pub fn lower_word_of(work: &[u32], s: u32) -> u32
-    requires { ⌜ 8 * s + 8 ≤ length (now work) ⌝ }
-    ensures { λ r. ⌜ r ≡ wd (now (work .entry)) (8 * s + 4) ⌝ }
+    requires { ⌜ slotEnd s ≤ length (now work) ⌝ }
+    ensures { λ r. ⌜ r ≡ lowerWordAt (now (work .entry)) s ⌝ }
 {
-    work[8 * (s as usize) + 4]
+    work[SLOT_WORDS * (s as usize) + fields::LOWER_FIELD]
 }
 
 pub fn first_of(work: &[u32], s: u32) -> u32
-    requires { ⌜ 8 * s + 8 ≤ length (now work) ⌝ }
-    ensures { λ r. ⌜ r ≡ wd (now (work .entry)) (8 * s + 5) ⌝ }
+    requires { ⌜ slotEnd s ≤ length (now work) ⌝ }
+    ensures { λ r. ⌜ r ≡ firstAt (now (work .entry)) s ⌝ }
 {
-    work[8 * (s as usize) + 5]
+    work[SLOT_WORDS * (s as usize) + FIRST_FIELD]
 }
 
 pub fn next_of(work: &[u32], s: u32) -> u32
-    requires { ⌜ 8 * s + 8 ≤ length (now work) ⌝ }
-    ensures { λ r. ⌜ r ≡ wd (now (work .entry)) (8 * s + 6) ⌝ }
+    requires { ⌜ slotEnd s ≤ length (now work) ⌝ }
+    ensures { λ r. ⌜ r ≡ nextAt (now (work .entry)) s ⌝ }
 {
-    work[8 * (s as usize) + 6]
+    work[SLOT_WORDS * (s as usize) + NEXT_FIELD]
 }
 
 // The class of a leaf; of any other node the classes of all leaves below it.
 pub fn classes_of(work: &[u32], s: u32) -> TokenClasses
-    requires { ⌜ 8 * s + 8 ≤ length (now work) ⌝ }
-    ensures { λ r. ⌜ r .0 ≡ wd (now (work .entry)) (8 * s + 7) ⌝ }
+    requires { ⌜ slotEnd s ≤ length (now work) ⌝ }
+    ensures { λ r. ⌜ r .0 ≡ classesAt (now (work .entry)) s ⌝ }
 {
-    TokenClasses(work[8 * (s as usize) + 7])
+    TokenClasses(work[SLOT_WORDS * (s as usize) + CLASSES_FIELD])
 }
 
 pub fn set_first(work: &mut [u32], s: u32, v: u32)
-    requires { ⌜ 8 * s + 8 ≤ length (now work) ⌝ }
-    ensures { λ _. ⌜ now (work .exit) ≡ set (now (work .entry)) (8 * s + 5) v ⌝ }
+    requires { ⌜ slotEnd s ≤ length (now work) ⌝ }
+    ensures { λ _. ⌜ now (work .exit) ≡ set (now (work .entry)) (firstWord s) v ⌝ }
 {
-    work[8 * (s as usize) + 5] = v;
+    work[SLOT_WORDS * (s as usize) + FIRST_FIELD] = v;
 }
 
 pub fn set_next(work: &mut [u32], s: u32, v: u32)
-    requires { ⌜ 8 * s + 8 ≤ length (now work) ⌝ }
-    ensures { λ _. ⌜ now (work .exit) ≡ set (now (work .entry)) (8 * s + 6) v ⌝ }
+    requires { ⌜ slotEnd s ≤ length (now work) ⌝ }
+    ensures { λ _. ⌜ now (work .exit) ≡ set (now (work .entry)) (nextWord s) v ⌝ }
 {
-    work[8 * (s as usize) + 6] = v;
+    work[SLOT_WORDS * (s as usize) + NEXT_FIELD] = v;
 }
 
 pub fn set_classes(work: &mut [u32], s: u32, classes: TokenClasses)
-    requires { ⌜ 8 * s + 8 ≤ length (now work) ⌝ }
-    ensures { λ _. ⌜ now (work .exit) ≡ set (now (work .entry)) (8 * s + 7) (classes .0) ⌝ }
+    requires { ⌜ slotEnd s ≤ length (now work) ⌝ }
+    ensures { λ _. ⌜ now (work .exit) ≡ set (now (work .entry)) (classesWord s) (classes .0) ⌝ }
 {
-    work[8 * (s as usize) + 7] = classes.0;
+    work[SLOT_WORDS * (s as usize) + CLASSES_FIELD] = classes.0;
 }
 
 // What the words say.
 
 pub fn operator_of(work: &[u32], s: u32) -> u32
-    requires { ⌜ 8 * s + 8 ≤ length (now work) ⌝ }
+    requires { ⌜ slotEnd s ≤ length (now work) ⌝ }
     ensures { λ r. ⌜ r ≡ opAt (now (work .entry)) s ⌝ }
 {
     fields::operator(operator_word_of(work, s))
 }
 
 pub fn start_of(work: &[u32], s: u32) -> u32
-    requires { ⌜ 8 * s + 8 ≤ length (now work) ⌝ }
+    requires { ⌜ slotEnd s ≤ length (now work) ⌝ }
     ensures { λ r. ⌜ r ≡ startAt (now (work .entry)) s ⌝ }
 {
     fields::low(start_word_of(work, s))
 }
 
 pub fn end_of(work: &[u32], s: u32) -> u32
-    requires { ⌜ 8 * s + 8 ≤ length (now work) ⌝ }
+    requires { ⌜ slotEnd s ≤ length (now work) ⌝ }
     ensures { λ r. ⌜ r ≡ endAt (now (work .entry)) s ⌝ }
 {
     fields::low(end_word_of(work, s))
 }
 
 pub fn is_leaf(work: &[u32], s: u32) -> bool
-    requires { ⌜ 8 * s + 8 ≤ length (now work) ⌝ }
+    requires { ⌜ slotEnd s ≤ length (now work) ⌝ }
     ensures { λ r. ⌜ r ≡ isLeafAt (now (work .entry)) s ⌝ }
 {
     first_of(work, s) == 0
@@ -159,7 +168,7 @@ pub fn is_leaf(work: &[u32], s: u32) -> bool
 
 // Whether slot s is a leaf of op.
 pub fn is_token(work: &[u32], s: u32, op: u32) -> bool
-    requires { ⌜ 8 * s + 8 ≤ length (now work) ⌝ }
+    requires { ⌜ slotEnd s ≤ length (now work) ⌝ }
     ensures { λ r. ⌜ r ≡ isTokenAt (now (work .entry)) s op ⌝ }
 {
     if first_of(work, s) != 0 {
@@ -179,23 +188,23 @@ pub fn set_leaf(
     lower: u32,
     classes: TokenClasses,
 )
-    requires { ⌜ 8 * s + 8 ≤ length (now work) ⌝ }
+    requires { ⌜ slotEnd s ≤ length (now work) ⌝ }
     ensures { λ _. ⌜ Laid (now (work .entry)) s first start «end» upper lower (classes .0) (now (work .exit)) ⌝ }
 {
-    let at = 8 * (s as usize);
+    let at = SLOT_WORDS * (s as usize);
     work[at] = first;
-    work[at + 1] = start;
-    work[at + 2] = end;
-    work[at + 3] = upper;
-    work[at + 4] = lower;
-    work[at + 5] = 0;
-    work[at + 6] = 0;
-    work[at + 7] = classes.0;
+    work[at + fields::START_FIELD] = start;
+    work[at + fields::END_FIELD] = end;
+    work[at + fields::UPPER_FIELD] = upper;
+    work[at + fields::LOWER_FIELD] = lower;
+    work[at + FIRST_FIELD] = 0;
+    work[at + NEXT_FIELD] = 0;
+    work[at + CLASSES_FIELD] = classes.0;
 }
 
 // Slot s becomes a node of op with the span of slot `like` and payload 0. It notes no class: it is to take children.
 pub fn make(work: &mut [u32], s: u32, op: u32, like: u32)
-    requires { ⌜ (8 * s + 8 ≤ length (now work)) × (8 * like + 8 ≤ length (now work)) ⌝ }
+    requires { ⌜ (slotEnd s ≤ length (now work)) × (slotEnd like ≤ length (now work)) ⌝ }
     ensures { λ _. ⌜ Made (now (work .entry)) s op like (now (work .exit)) ⌝ }
 {
     let start = start_word_of(work, like);
@@ -214,10 +223,10 @@ pub fn make(work: &mut [u32], s: u32, op: u32, like: u32)
 
 // The operator of slot s becomes op, its span and payload stay. Its classes are left to the caller.
 pub fn set_operator(work: &mut [u32], s: u32, op: u32)
-    requires { ⌜ 8 * s + 8 ≤ length (now work) ⌝ }
-    ensures { λ _. ⌜ now (work .exit) ≡ set (now (work .entry)) (8 * s) (withOperator (wd (now (work .entry)) (8 * s)) op) ⌝ }
+    requires { ⌜ slotEnd s ≤ length (now work) ⌝ }
+    ensures { λ _. ⌜ now (work .exit) ≡ set (now (work .entry)) (slotStart s) (withOperator (operatorWordAt (now (work .entry)) s) op) ⌝ }
 {
-    let at = 8 * (s as usize);
+    let at = SLOT_WORDS * (s as usize);
     let w = work[at];
     work[at] = fields::with_operator(w, op);
 }

@@ -12,7 +12,7 @@ use Rattle.molang.specs.Read.{rooted}
 use Rattle.molang.specs.Parse.{inFront, told, treeIn, messagesIn}
 use Rattle.words.specs.Records.{laidAt}
 use Rattle.words.proofs.RecordLaws.{laid-front}
-use Rattle.nodes.specs.Store.{wd}
+use Rattle.nodes.specs.Store.{slotEnd, firstAt, nextAt}
 use Rattle.buffers.specs.Emit.{Linked, CanLayOut, LaidOut}
 use Rattle.buffers.proofs.Linking.{owned-linked, linked-nil, linked-none, linked-open}
 use Rattle.levels.specs.Failures as failures
@@ -38,7 +38,7 @@ record RootsOf (W : List ℕ) (root n sourceLength : ℕ) (answer : reading.Answ
   linked : Linked W root (3 * n + 3) f
   nodes : size f ≤ 3 * n
 
-roots-of : {W : List ℕ} {root n sourceLength : ℕ} {answer : reading.Answer} → root ≡ wd W 5 → StandsFor W (3 * n + 3) n sourceLength Roots answer
+roots-of : {W : List ℕ} {root n sourceLength : ℕ} {answer : reading.Answer} → root ≡ firstAt W 0 → StandsFor W (3 * n + 3) n sourceLength Roots answer
     → RootsOf W root n sourceLength answer
 roots-of e (roots {f = f} o h) = record { f = f; answers = refl; linked = rw e (owned-linked o); nodes = h }
 
@@ -47,7 +47,7 @@ not-nil : {k : Token} {cs rest : Forest} → node k cs rest ≡ nil → ⊥
 unfolding size
 not-nil e = let z = ap size e in omega arith
 
-module _ {W buffer m : List ℕ} {n sourceLength : ℕ} (p : CanFill W buffer m n sourceLength Roots) (root : ℕ) (first : root ≡ wd W 5) where
+module _ {W buffer m : List ℕ} {n sourceLength : ℕ} (p : CanFill W buffer m n sourceLength Roots) (root : ℕ) (first : root ≡ firstAt W 0) where
   v : RootsOf W root n sourceLength (p .answer)
   v = roots-of first (p .stands)
 
@@ -77,14 +77,14 @@ module _ {W buffer m : List ℕ} {n sourceLength : ℕ} (p : CanFill W buffer m 
       go (node k cs rest) w = absurd (not-nil (linked-none w z))
 
   module _ (some : root ≢ 0) where
-    pub root-within : 8 * root + 8 ≤ length W
+    pub root-within : slotEnd root ≤ length W
     root-within = go (v .f) (v .linked)
       where
-        go : (f : Forest) → Linked W root (3 * n + 3) f → 8 * root + 8 ≤ length W
+        go : (f : Forest) → Linked W root (3 * n + 3) f → slotEnd root ≤ length W
         go nil w = absurd (some (linked-nil w))
         go (node k cs rest) w = omega (arith, linked-open w .inside, p .words)
 
-    pub several-room : wd W (8 * root + 6) ≢ 0 → CanReportRoots W m root n
+    pub several-room : nextAt W root ≢ 0 → CanReportRoots W m root n
     unfolding count
     several-room next = go (v .f) (v .linked) (v .nodes)
       where
@@ -98,7 +98,7 @@ module _ {W buffer m : List ℕ} {n sourceLength : ℕ} (p : CanFill W buffer m 
               room = p .message-room;
             }
 
-    pub several-filled : (m' : List ℕ) → wd W (8 * root + 6) ≢ 0 → RootsReported W m root n m' → Filled W buffer m n sourceLength Roots (Messages 1) buffer m'
+    pub several-filled : (m' : List ℕ) → nextAt W root ≢ 0 → RootsReported W m root n m' → Filled W buffer m n sourceLength Roots (Messages 1) buffer m'
     unfolding count rooted told treeIn
     several-filled m' next u = filled-by (Messages 1) buffer m' go
       where
@@ -119,7 +119,7 @@ module _ {W buffer m : List ℕ} {n sourceLength : ℕ} (p : CanFill W buffer m 
           tree-room = p .tree-room;
         }
 
-    pub one-filled : (nodes : ℕ) (W' buffer' : List ℕ) → wd W (8 * root + 6) ≡ 0 → LaidOut W buffer root n nodes W' buffer'
+    pub one-filled : (nodes : ℕ) (W' buffer' : List ℕ) → nextAt W root ≡ 0 → LaidOut W buffer root n nodes W' buffer'
         → Filled W buffer m n sourceLength Roots (Tree nodes) buffer' m
     unfolding rooted told treeIn messagesIn
     one-filled nodes W' buffer' next u = filled-by (Tree nodes) buffer' m go

@@ -1,5 +1,5 @@
 -- The records of the failures: put together argument by argument, and which messages' records they are, since a slot's words give its token back.
-use Prim.Native.Nat.{ℕ, _+_, _*_, _%_, _≤_}
+use Prim.Native.Nat.{ℕ, _+_, _%_, _≤_}
 use mathlib.Core.Path.{_≡_, refl, sym, ap, ap₂, _∙_, subst}
 use mathlib.Core.Bool.{Bool, true, false}
 use mathlib.Core.List.{List}
@@ -16,7 +16,7 @@ use Rattle.molang.specs.Parse.{recordWords}
 use Rattle.words.specs.Fields.{variantOf, valueOf, halfOf}
 use Rattle.words.specs.Records.{withFirst, withLast, wordsOf}
 use Rattle.words.specs.declared.records.Record.{Record}
-use Rattle.nodes.specs.Store.{wd, TokenAt}
+use Rattle.nodes.specs.Store.{slotStart, operatorWordAt, upperWordAt, lowerWordAt, TokenAt}
 use Rattle.nodes.proofs.Tokens.{operator-word, upper-word, lower-word, token-op, token-start, token-end}
 use Rattle.levels.specs.Failures.{Tells, leadingMemberAccessor, emptyParameterList, mathAtEnd, mathWithoutParenthesis, leadingSemicolon, emptyArrayIndex, binaryAtEnd, negateWithoutOperand, notWithoutOperand, unknownOperation, unaryWithoutOperand, ternaryWithoutOperands}
 use Rattle.grouping.specs.Grouped.{Says, tells, notEnded, withoutTokens}
@@ -40,14 +40,14 @@ named-at W e h = subst (λ (f : Failure). Named W f) e h
 
 -- ---- a slot's host value
 
-pub no-host : (W : List ℕ) (s v : ℕ) → v ≡ variantOf (wd W (8 * s)) → (v ≡ hostMathVariant → ⊥) → _≡_ {A = ℕ} 0 (hostAt W s)
+pub no-host : (W : List ℕ) (s v : ℕ) → v ≡ variantOf (operatorWordAt W s) → (v ≡ hostMathVariant → ⊥) → _≡_ {A = ℕ} 0 (hostAt W s)
 unfolding hostAt
-no-host W s v e h = rw (hostAt, ne-eqb (variantOf (wd W (8 * s))) hostMathVariant (λ z. h (e ∙ z)))
+no-host W s v e h = rw (hostAt, ne-eqb (variantOf (operatorWordAt W s)) hostMathVariant (λ z. h (e ∙ z)))
 
-pub a-host : (W : List ℕ) (s v r a b : ℕ) → v ≡ variantOf (wd W (8 * s)) → v ≡ hostMathVariant → r ≡ valueOf a b → a ≡ wd W (8 * s + 3) → b ≡ wd W (8 * s + 4)
+pub a-host : (W : List ℕ) (s v r a b : ℕ) → v ≡ variantOf (operatorWordAt W s) → v ≡ hostMathVariant → r ≡ valueOf a b → a ≡ upperWordAt W s → b ≡ lowerWordAt W s
     → r ≡ hostAt W s
 unfolding hostAt
-a-host W s v r a b e h f x y = rw (hostAt, eq-eqb (variantOf (wd W (8 * s))) hostMathVariant (sym e ∙ h)) (f ∙ ap₂ valueOf x y)
+a-host W s v r a b e h f x y = rw (hostAt, eq-eqb (variantOf (operatorWordAt W s)) hostMathVariant (sym e ∙ h)) (f ∙ ap₂ valueOf x y)
 
 -- ---- a slot's token
 
@@ -55,19 +55,19 @@ module _ {W : List ℕ} {s : ℕ} {k : Token} (t : TokenAt W s k) where
   -- Words after the last are 0, which no word of a token is.
   pub slot-within : length W % 8 ≡ 0 → Within W s
   unfolding word
-  slot-within whole = go (leb (length W) (8 * s + 4)) refl
+  slot-within whole = go (leb (length W) (slotStart s + 4)) refl
     where
-      go : (b : Bool) → leb (length W) (8 * s + 4) ≡ b → Within W s
+      go : (b : Bool) → leb (length W) (slotStart s + 4) ≡ b → Within W s
       go true e =
-          let past : wd W (8 * s + 4) ≡ 0 = List·getD-eq-default W 0 (leb-true (length W) (8 * s + 4) e) in
+          let past : lowerWordAt W s ≡ 0 = List·getD-eq-default W 0 (leb-true (length W) (slotStart s + 4) e) in
           absurd (omega (arith, lower-word t))
-      go false e = let long = leb-false (length W) (8 * s + 4) e in omega arith
+      go false e = let long = leb-false (length W) (slotStart s + 4) e in omega arith
 
-  token-variant : variantOf (wd W (8 * s)) ≡ k .variant
+  token-variant : variantOf (operatorWordAt W s) ≡ k .variant
   unfolding variantOf lowOf word
   token-variant = omega (arith, operator-word t, t .legal .op, t .legal .variant)
 
-  token-value : valueOf (wd W (8 * s + 3)) (wd W (8 * s + 4)) ≡ k .value
+  token-value : valueOf (upperWordAt W s) (lowerWordAt W s) ≡ k .value
   unfolding valueOf halfOf lowOf word
   token-value = omega (arith, upper-word t, lower-word t, t .legal .value)
 

@@ -18,7 +18,7 @@ use Rattle.words.specs.Records.{unnamed, withFirst, wordsOf, laidAt}
 use Rattle.words.specs.Extents.{firstExtent}
 use Rattle.words.specs.declared.extent.Extent.{Extent}
 use Rattle.words.proofs.RecordLaws.{laid-front}
-use Rattle.nodes.specs.Store.{wd, Chain, RepF, AllLegal}
+use Rattle.nodes.specs.Store.{slotStart, nextAt, Chain, RepF, AllLegal}
 use Rattle.nodes.specs.Children.{CanFollow, Counted, IsLast, lastFrom}
 use Rattle.nodes.proofs.Store.{rep-legal, rep-keep, rep-le, rep-count, tree-first}
 use Rattle.buffers.specs.Emit.{Linked, CanEmit, Emitted}
@@ -82,7 +82,7 @@ last-tree f b [] k cs nil c r =
 last-tree f b (d ∷ bs) k cs nil c r = absurd (omega (arith, rep-count r))
 last-tree f b [] k cs (node l ls rest) c r = absurd (omega (arith, rep-count r))
 last-tree {W} f b (d ∷ bs) k cs (node l ls rest) c r =
-    let v = last-tree (wd W (8 * b + 6)) d bs l ls rest (c .2) (tree-first r .rest) in
+    let v = last-tree (nextAt W b) d bs l ls rest (c .2) (tree-first r .rest) in
     record { t = v .t; below = v .below; linked = v .linked; ends = v .ends; small = omega (arith, v .small) }
 
 -- The same of the slot that `last_of_chain` finds.
@@ -111,7 +111,7 @@ module _ (W W' : List ℕ) (head n : ℕ) (starts : Extent) (v : Measured W head
         bs = w .bs;
         lo = w .lo;
         chain = linked-chain W W' (3 * n + 3) (λ j h. v .same j (omega arith)) (omega (arith, v .long)) (omega arith) w;
-        rep = rep-keep W W' (λ s o a b c d e. v .same (8 * s + o) (omega arith)) (w .rep);
+        rep = rep-keep W W' (λ s o a b c d e. v .same (slotStart s + o) (omega arith)) (w .rep);
       }
 
   pub last-measure : {m : List ℕ} {tail : ℕ} → CanReportRoots W m head n → IsLast W head tail → CanMeasure W' tail n

@@ -1,5 +1,5 @@
 -- The records of the failures, by the words of the slots that they name. The laws of proofs/ReportLaws say which messages' records these are.
-use Prim.Native.Nat.{ℕ, _+_, _*_, _≤_}
+use Prim.Native.Nat.{ℕ, _≤_}
 use mathlib.Core.Bool.{true, false}
 use mathlib.Core.List.{List}
 use mathlib.Core.Option.{Option·getD}
@@ -10,7 +10,7 @@ use Rattle.molang.specs.Message.{hostMathVariant}
 use Rattle.words.specs.Fields.{variantOf, valueOf}
 use Rattle.words.specs.Records.{unnamed, withFirst, withLast}
 use Rattle.words.specs.declared.records.Record.{Record}
-use Rattle.nodes.specs.Store.{wd}
+use Rattle.nodes.specs.Store.{slotEnd, operatorWordAt, upperWordAt, lowerWordAt}
 use Rattle.nodes.specs.Slots.{opAt, startAt, endAt}
 use Rattle.levels.specs.declared.failure.Failure.{Failure}
 use Rattle.levels.specs.declared.failure.Failure.the-variants.{ComplexMustEndWithSemicolon, ComplexWithoutTokens, LeadingMemberAccessor, EmptyParameterList, MathAtEnd, MathWithoutParenthesis, LeadingSemicolon, EmptyArrayIndex, BinaryAtEnd, NegateWithoutOperand, NotWithoutOperand, UnknownOperation, UnaryWithoutOperand, TernaryWithoutOperands}
@@ -19,7 +19,7 @@ use Rattle.levels.specs.declared.failure.Unclosed.{Unclosed}
 
 -- The words of slot s lie within the buffer.
 abbrev pub Within : List ℕ → ℕ → Type 0
-Within W s = 8 * s + 8 ≤ length W
+Within W s = slotEnd s ≤ length W
 
 -- From one slot's start to another's end.
 abbrev pub spanRecord : List ℕ → ℕ → ℕ → ℕ → Record
@@ -31,7 +31,7 @@ nameRecord W number from to named = withFirst (spanRecord W number from to) (opA
 
 -- The payload value of a host math function, else 0.
 unfoldable pub hostAt : List ℕ → ℕ → ℕ
-hostAt W s = elim (eqb (variantOf (wd W (8 * s))) hostMathVariant) [ true ↦ valueOf (wd W (8 * s + 3)) (wd W (8 * s + 4)) | false ↦ 0 ]
+hostAt W s = elim (eqb (variantOf (operatorWordAt W s)) hostMathVariant) [ true ↦ valueOf (upperWordAt W s) (lowerWordAt W s) | false ↦ 0 ]
 
 -- A math function's, naming it and its host value.
 abbrev pub mathRecord : List ℕ → ℕ → ℕ → Record

@@ -1,6 +1,6 @@
 -- The member pass: what `member` makes of the trees that are written and one accessor, and the loop of `members`. At its test the trees done, the last
 -- first, stand in the array's front, the tokens not read yet in its end, and the definition's answer from there on is that of the whole list.
-use Prim.Native.Nat.{ℕ, _+_, _*_, _-_, _≤_, _<_}
+use Prim.Native.Nat.{ℕ, _+_, _-_, _≤_, _<_}
 use mathlib.Core.Path.{_≡_, refl, sym, ap, _∙_}
 use mathlib.Core.Logic.{_≢_, inl, inr, ⊎-elim}
 use mathlib.Core.Bool.{true, false}
@@ -13,7 +13,7 @@ use Rattle.molang.specs.Operator.{memberAccessor, hasMembers}
 use Rattle.molang.specs.Forest.{Token, Forest, nil, node, leaves, inOrder, count}
 use Rattle.molang.specs.Message.{leadingMemberAccessor}
 use Rattle.molang.specs.Sections.{withMember, members}
-use Rattle.nodes.specs.Store.{wd, Seg, SegB, RepF, RepT, RepB, begins, put, Free, Kept}
+use Rattle.nodes.specs.Store.{wd, slotEnd, Seg, SegB, RepF, RepT, RepB, begins, put, Free, Kept}
 use Rattle.nodes.specs.Slots.{opAt}
 use Rattle.nodes.specs.Children.{Attached}
 use Rattle.nodes.proofs.Runs.{set-same, set-other, set-long, seg-keep, segB-keep}
@@ -64,7 +64,7 @@ module _ {W : List ℕ} {base write item : ℕ} (g : MemberAt W base write item)
   previous = rw place (before .word)
 
   -- the slots that it reads are in the store
-  pub member-in : (8 * wd W (base + write - 1) + 8 ≤ base) × (8 * item + 8 ≤ base)
+  pub member-in : (slotEnd (wd W (base + write - 1)) ≤ base) × (slotEnd item ≤ base)
   member-in =
       rw previous
       (omega (arith, tree-below (before .tree), before .high, g .tree .low, g .below, tree-below (g .tree)), omega (arith, tree-below (g .tree), g .below))
@@ -205,7 +205,7 @@ module _ {W₀ : List ℕ} {base n : ℕ} {g : CanJoin W₀ base n} {W : List �
   join-high = rep-le (v .left)
 
   -- there is room to write the token, and it is in the store
-  pub join-in : (base + write < length W) × (8 * item + 8 ≤ length W)
+  pub join-in : (base + write < length W) × (slotEnd item ≤ length W)
   join-in = omega (arith, g .room, g .below, v .long, v .behind, v .count, join-high, tree-below (v .tree))
 
   -- no token is before it

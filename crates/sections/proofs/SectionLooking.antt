@@ -14,7 +14,7 @@ use Rattle.molang.specs.Message.{closingMismatch, sectionNotClosed, closer}
 use Rattle.molang.specs.Sections.{Open, outside, section, placed, position, outermost, going, mismatch, closing, bracket}
 use Rattle.molang.proofs.Trees.{decided}
 use Rattle.ops.specs.Operators.{isOpener}
-use Rattle.nodes.specs.Store.{wd, TokenAt, reserve, Seg, Out, RepF, RepT, Owned, InArray, Free}
+use Rattle.nodes.specs.Store.{wd, slotStart, slotEnd, TokenAt, reserve, Seg, Out, RepF, RepT, Owned, InArray, Free}
 use Rattle.nodes.specs.Slots.{opAt}
 use Rattle.nodes.specs.Children.{CanGive, Given}
 use Rattle.nodes.proofs.Runs.{set-same, set-other, set-long}
@@ -61,8 +61,8 @@ section-taken {X = X} {l = l} {m = m} {hi = hi} {hi' = hi'} {o = o} {kids = kids
     }
 
 -- what its body asks, p being where the innermost opener is written
-pub close-in : {W X : List ℕ} {base marks lo l k w : ℕ} {s : Open} → Standing W X base marks lo l k w s → k ≢ 0 → (p : ℕ) → p ≡ wd W (marks + 2 * (k - 1)) → 8 * l ≤ base → base + w ≤ length W
-    → (p < w) × (8 * wd W (base + p) + 8 ≤ base) × CanGive W (wd W (base + p)) (base + (p + 1)) (w - (p + 1))
+pub close-in : {W X : List ℕ} {base marks lo l k w : ℕ} {s : Open} → Standing W X base marks lo l k w s → k ≢ 0 → (p : ℕ) → p ≡ wd W (marks + 2 * (k - 1)) → slotStart l ≤ base → base + w ≤ length W
+    → (p < w) × (slotEnd (wd W (base + p)) ≤ base) × CanGive W (wd W (base + p)) (base + (p + 1)) (w - (p + 1))
 close-in (outer v e) n p ep below room = absurd (n e)
 close-in {w = w} (inner {w' = w'} {v = r} st x v e) n p ep below room =
     let b = opener-le x in
@@ -90,7 +90,7 @@ close-differs {t = t} {cs = cs} (inner {i = j} {o = o} {d = d} {s = s'} st z v e
 
 -- it is the innermost section's: the words of its interval change, and no others
 pub close-takes : {W X : List ℕ} {base marks lo l m k w item : ℕ} {s : Open} {t : Token} {cs : Forest} → Standing W X base marks lo l k w s → k ≢ 0 → RepT W X item l m t cs
-    → 8 * m ≤ base → base + w < marks → (p x y i : ℕ) (W' : List ℕ) → p ≡ wd W (marks + 2 * (k - 1)) → x ≡ Option·getD (closingOf (opAt W (wd W (base + p)))) 0 → y ≡ opAt W item → x ≡ y
+    → slotStart m ≤ base → base + w < marks → (p x y i : ℕ) (W' : List ℕ) → p ≡ wd W (marks + 2 * (k - 1)) → x ≡ Option·getD (closingOf (opAt W (wd W (base + p)))) 0 → y ≡ opAt W item → x ≡ y
     → Given W (wd W (base + p)) (base + (p + 1)) (w - (p + 1)) W'
     → Follows W' X base marks lo m w i (On (record { write = p + 1; depth = k - 1; index = i })) (closing t cs i s) × ((j : ℕ) → Free X lo m j → wd W' j ≡ wd W j)
 unfolding closer
@@ -107,7 +107,7 @@ close-takes {W} {X} {base} {marks} {lo} {l} {m} {k} {w} {t = t} {cs = cs} (inner
     = written-array (record { ds = v .ds; done = back-avoid (λ s' from to out. (omega arith, out)) (v .done); run = v .run; wrote = v .wrote }) in
     let taken : Taken W X (z .q) l' m o (inOrder d) W' = section-taken (array .bs) given (array .seg) (array .count) (array .rep) (z .leaf) c (omega arith) (z .opens) in
     let above : (j : ℕ) → base ≤ j → wd W' j ≡ wd W j = λ j h. taken .same j (free-above X l' m j (omega arith)) in
-    let low : (j : ℕ) → j < 8 * l' → wd W' j ≡ wd W j = λ j h. taken .same j (λ s o from to inside out. omega arith) in
+    let low : (j : ℕ) → j < slotStart l' → wd W' j ≡ wd W j = λ j h. taken .same j (λ s o from to inside out. omega arith) in
     let before : Standing W' X base marks lo l' k' w' s' = standing-keep W W' low (λ j h h'. above j h) (λ j h h'. above j (omega arith)) st in
     let after : Standing W' X base marks lo m k' (w' + 1) (placed o (inOrder d) s') = standing-place before (taken .tree) (above (base + w') (omega arith) ∙ z .slot) in
     let is : closer o ≡ t .op = sym (ap (λ (q : ℕ). Option·getD (closingOf q) 0) (innermost-op z p ep)) ∙ sym ex ∙ h ∙ ey ∙ tree-op tree in
@@ -129,7 +129,7 @@ bracket-lone t cs i (inner st x v e) z h = absurd (omega (arith, x .level))
 
 module _ {W : List ℕ} {base marks write depth item : ℕ} (g : LookAt W base marks write depth item) where
   -- the token's slot is in the store
-  pub look-in : 8 * item + 8 ≤ base
+  pub look-in : slotEnd item ≤ base
   look-in = omega (arith, tree-below (g .tree), g .below)
 
   -- the position that the code counts is the definition's

@@ -12,7 +12,7 @@ use Rattle.molang.specs.Forest.{Token, Forest, nil, inOrder}
 use Rattle.molang.specs.Message.{sectionNotClosed, noClosingSymbol, ok, fail}
 use Rattle.molang.specs.Sections.{Open, section, placed, position, outermost, closed}
 use Rattle.ops.specs.Operators.{isOpener}
-use Rattle.nodes.specs.Store.{wd, TokenAt, RepT}
+use Rattle.nodes.specs.Store.{wd, slotStart, TokenAt, RepT}
 use Rattle.nodes.proofs.Store.{tree-below, back-le, back-count}
 use Rattle.nodes.proofs.Keeping.{tree-beside}
 use Rattle.sections.specs.Flat.{unclosed, Fails, Written, Opener, Standing, outer, inner, depthOf, NamedAt, Named}
@@ -50,20 +50,20 @@ standing-position (inner st x v e) i r a b = b (omega (arith, x .level))
 
 -- ---- a change elsewhere
 
-opener-keep : (W W' : List ℕ) {X : List ℕ} {base marks l m k' w' k i : ℕ} {o : Token} → ((j : ℕ) → j < 8 * m → wd W' j ≡ wd W j) → wd W' (base + w') ≡ wd W (base + w')
+opener-keep : (W W' : List ℕ) {X : List ℕ} {base marks l m k' w' k i : ℕ} {o : Token} → ((j : ℕ) → j < slotStart m → wd W' j ≡ wd W j) → wd W' (base + w') ≡ wd W (base + w')
     → wd W' (marks + 2 * k') ≡ wd W (marks + 2 * k') → wd W' (marks + 2 * k' + 1) ≡ wd W (marks + 2 * k' + 1) → Opener W X base marks l m k' w' k o i → Opener W' X base marks l m k' w' k o i
 opener-keep W W' {m = m} low slot place start x =
     record {
       q = x .q;
       slot = slot ∙ x .slot;
-      leaf = tree-beside W W' [] 0 0 (8 * m) (λ j f h. low j h) (le-refl (8 * m)) (inr (omega arith)) (x .leaf);
+      leaf = tree-beside W W' [] 0 0 (slotStart m) (λ j f h. low j h) (le-refl (slotStart m)) (inr (omega arith)) (x .leaf);
       opens = x .opens;
       level = x .level;
       place = place ∙ x .place;
       start = start ∙ x .start;
     }
 
-pub standing-keep : (W W' : List ℕ) {X : List ℕ} {base marks lo hi k w : ℕ} {s : Open} → ((j : ℕ) → j < 8 * hi → wd W' j ≡ wd W j)
+pub standing-keep : (W W' : List ℕ) {X : List ℕ} {base marks lo hi k w : ℕ} {s : Open} → ((j : ℕ) → j < slotStart hi → wd W' j ≡ wd W j)
     → ((j : ℕ) → base ≤ j → j < base + w → wd W' j ≡ wd W j) → ((j : ℕ) → marks ≤ j → j < marks + 2 * k → wd W' j ≡ wd W j)
     → Standing W X base marks lo hi k w s → Standing W' X base marks lo hi k w s
 standing-keep W W' low array mark (outer v e) = outer (written-keep W W' low array v) e

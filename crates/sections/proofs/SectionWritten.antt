@@ -1,5 +1,5 @@
 -- Trees that are written one after the other: the last first in the words, each in an interval of its own.
-use Prim.Native.Nat.{ℕ, _+_, _*_, _≤_, _<_}
+use Prim.Native.Nat.{ℕ, _+_, _≤_, _<_}
 use mathlib.Core.Path.{_≡_, refl}
 use mathlib.Core.Logic.{inr, ⊎-elim}
 use mathlib.Core.List.{List, [], _∷_}
@@ -7,7 +7,7 @@ use native.Mathlib.Omega.{arith}
 use native.Mathlib.Nat.{le-refl}
 use lib.ListN.{length, set}
 use Rattle.molang.specs.Forest.{Token, Forest, nil, node, inOrder}
-use Rattle.nodes.specs.Store.{wd, RepT, begins, put, InArray, Kept}
+use Rattle.nodes.specs.Store.{wd, slotStart, RepT, begins, put, InArray, Kept}
 use Rattle.nodes.proofs.Runs.{set-same, set-other, segB-keep}
 use Rattle.nodes.proofs.Store.{tree-below, back-raise}
 use Rattle.nodes.proofs.Keeping.{tree-beside, back-beside}
@@ -21,12 +21,12 @@ pub written-raise : {W X : List ℕ} {base lo hi hi' r : ℕ} {d : Forest} → h
 written-raise h v = record { ds = v .ds; done = back-raise h (v .done); run = v .run; wrote = v .wrote }
 
 -- a change of words above the slots and beside those that are written
-pub written-keep : (W W' : List ℕ) {X : List ℕ} {base lo hi r : ℕ} {d : Forest} → ((j : ℕ) → j < 8 * hi → wd W' j ≡ wd W j) → ((j : ℕ) → base ≤ j → j < base + r → wd W' j ≡ wd W j)
+pub written-keep : (W W' : List ℕ) {X : List ℕ} {base lo hi r : ℕ} {d : Forest} → ((j : ℕ) → j < slotStart hi → wd W' j ≡ wd W j) → ((j : ℕ) → base ≤ j → j < base + r → wd W' j ≡ wd W j)
     → Written W X base lo hi d r → Written W' X base lo hi d r
 written-keep W W' {base = base} {hi = hi} low array v =
     record {
       ds = v .ds;
-      done = back-beside W W' [] 0 0 (8 * hi) (λ j f h. low j h) (le-refl (8 * hi)) (inr (omega arith)) (v .done);
+      done = back-beside W W' [] 0 0 (slotStart hi) (λ j f h. low j h) (le-refl (slotStart hi)) (inr (omega arith)) (v .done);
       run = segB-keep W W' base (v .ds) (λ j a b. array j a (omega (arith, v .wrote))) (v .run);
       wrote = v .wrote;
     }
@@ -39,7 +39,7 @@ written-put {base = base} {m = m} {q = q} {r = r} v t h =
     record { ds = q ∷ v .ds; done = put (v .done) t (le-refl m); run = (rw at h, v .run); wrote = omega (arith, v .wrote) }
 
 -- the same, where a store has put it there
-pub written-more : (W W' : List ℕ) {X : List ℕ} {base lo l m q w : ℕ} {d cs : Forest} {t : Token} → W' ≡ set W (base + w) q → base + w < length W → 8 * m ≤ base
+pub written-more : (W W' : List ℕ) {X : List ℕ} {base lo l m q w : ℕ} {d cs : Forest} {t : Token} → W' ≡ set W (base + w) q → base + w < length W → slotStart m ≤ base
     → Written W X base lo l d w → RepT W X q l m t cs → Written W' X base lo m (node t cs d) (w + 1)
 written-more W W' {base = base} {q = q} {w = w} e room below v t =
     let other = set-other W W' (base + w) q e in

@@ -13,7 +13,7 @@ use Rattle.molang.specs.Message.{Message, Result, ok, fail}
 use Rattle.molang.specs.Sections.{withMember, members, Open, outside, section, position, outermost, Walked, going, mismatch, closing, bracket, sections}
 use Rattle.molang.proofs.Sections.{flat}
 use Rattle.ops.specs.Operators.{isOpener}
-use Rattle.nodes.specs.Store.{wd, SegB, RepT, RepB, InArray, Free, Kept}
+use Rattle.nodes.specs.Store.{wd, slotStart, SegB, RepT, RepB, InArray, Free, Kept}
 use Rattle.levels.specs.Failures.{Tells, TellsMismatch, TellsUnclosed}
 use Rattle.levels.specs.declared.failure.Failure.{Failure}
 use Rattle.levels.specs.declared.failure.Mismatch.{Mismatch}
@@ -61,7 +61,7 @@ pub record CanJoin (W : List ℕ) (base n : ℕ) : Type 0 where
   pub hi : ℕ
   pub ks : List Token
   pub array : InArray W X base n lo hi (leaves ks)
-  pub below : 8 * hi ≤ base
+  pub below : slotStart hi ≤ base
   pub room : base + n ≤ length W
 
 -- What `members` left is the definition's `members` over the tokens.
@@ -89,7 +89,7 @@ pub record MemberAt (W : List ℕ) (base write item : ℕ) : Type 0 where
   pub some : 0 < write
   pub tree : RepT W X item l m k nil
   pub accessor : k .op ≡ memberAccessor
-  pub below : 8 * m ≤ base
+  pub below : slotStart m ≤ base
   pub room : base + write < length W
 
 -- The accessor is joined to those trees as in the definition.
@@ -159,7 +159,7 @@ pub record LookAt (W : List ℕ) (base marks write depth item : ℕ) : Type 0 wh
   pub standing : Standing W X base marks lo l depth write s
   pub tree : RepT W X item l m k cs
   pub plain : flat (node k cs nil) ≡ true
-  pub below : 8 * m ≤ base
+  pub below : slotStart m ≤ base
   pub apart : base + write < marks
   pub room : marks + 2 * depth + 2 ≤ length W
 
@@ -208,7 +208,7 @@ pub record CanSection (W : List ℕ) (base n : ℕ) : Type 0 where
   pub f : Forest
   pub array : InArray W X base n lo hi f
   pub plain : flat f ≡ true
-  pub below : 8 * hi ≤ base
+  pub below : slotStart hi ≤ base
   pub room : base + n + 2 * n ≤ length W
   pub small : n + 2 < 2 ^ 32
 

@@ -1,12 +1,12 @@
 -- `sections::close_section` meets its contract.
-use Prim.Native.Nat.{ℕ, _+_, _*_, _-_, _≤_, _<_}
+use Prim.Native.Nat.{ℕ, _+_, _-_, _≤_, _<_}
 use mathlib.Core.Path.{_≡_, refl, ap, _∙_}
 use mathlib.Core.Option.{Option·getD}
 use native.Mathlib.Omega.{arith}
 use borrow.Author.Needs.{needs}
 use lib.ListN.{length}
 use Rattle.molang.specs.Operator.{closingOf}
-use Rattle.nodes.specs.Store.{wd}
+use Rattle.nodes.specs.Store.{wd, slotEnd}
 use Rattle.nodes.specs.Slots.{opAt}
 use Rattle.nodes.specs.Children.{CanGive}
 use Rattle.nodes.proofs.Store.{tree-below}
@@ -17,7 +17,7 @@ use Rattle.sections.proofs.close_section.Tie as tie
 
 -- the innermost opener is written, its slot is in the store, and what is written after it can be given to it
 body : (c : tie.After-opener-at) → let a = c .before .before .before .before .args in let p = c .opener-at .result in let W = a .work .now in
-    (p < a .at .write) × (8 * wd W (a .base + p) + 8 ≤ a .base) × CanGive W (wd W (a .base + p)) (a .base + (p + 1)) (a .at .write - (p + 1))
+    (p < a .at .write) × (slotEnd (wd W (a .base + p)) ≤ a .base) × CanGive W (wd W (a .base + p)) (a .base + (p + 1)) (a .at .write - (p + 1))
 body c =
     let s = c .before .before .before .before in
     let g = s .pre .0 in

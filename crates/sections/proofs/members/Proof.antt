@@ -1,9 +1,9 @@
 -- `sections::members` meets its contract.
-use Prim.Native.Nat.{_+_, _*_, _-_, _≤_, _<_}
+use Prim.Native.Nat.{_+_, _-_, _≤_, _<_}
 use mathlib.Core.Path.{refl, sym, _∙_}
 use native.Mathlib.Omega.{arith}
 use lib.ListN.{length}
-use Rattle.nodes.specs.Store.{wd}
+use Rattle.nodes.specs.Store.{wd, slotEnd}
 use Rattle.sections.specs.Flat.{CanJoin}
 use Rattle.sections.proofs.MemberLaws.{Joining, JoinTurn, join-start, join-turn, join-in, join-leading, join-accessor, join-member, join-other, join-done}
 use Rattle.sections.proofs.members.Statement.{statement}
@@ -24,7 +24,7 @@ turn : (c : tie.In-loop Inv-loop μ-loop) → let a = c .before .before .before 
 turn c g = let v = c .before .loop .inv .1 g in join-turn (v .0) (v .1) (v .2) (c .loop-test .taken) _ refl
 
 bounds : (c : tie.In-loop Inv-loop μ-loop) → let a = c .before .before .before .args in let w = c .before .loop in
-    (a .base + w .write < length (w .work)) × (8 * wd (w .work) (a .base + w .read) + 8 ≤ length (w .work))
+    (a .base + w .write < length (w .work)) × (slotEnd (wd (w .work) (a .base + w .read)) ≤ length (w .work))
 bounds c = join-in (turn c (c .before .loop .inv .0))
 
 loop-holds : tie.Need-loop-holds Inv-loop μ-loop
