@@ -8,8 +8,8 @@ use native.Mathlib.Omega.{arith}
 use native.Mathlib.Nat.{le-refl}
 use Rattle.molang.specs.Forest.{Forest, count, size}
 use Rattle.molang.specs.Message.{Result}
+use Rattle.molang.specs.Work.{Kind, State, work, unwound}
 use Rattle.molang.proofs.Trees.{count-size}
-use Rattle.molang.proofs.Work.{Kind, State, work, unwound}
 use Rattle.nodes.specs.Store.{wd, RepT, Free}
 use Rattle.nodes.proofs.Keeping.{free-own, free-inner}
 use Rattle.levels.specs.Sides.{Holds, Waits}

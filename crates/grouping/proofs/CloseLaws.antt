@@ -11,8 +11,8 @@ use lib.ListN.{length}
 use Rattle.molang.specs.Forest.{Token, Forest, nil, node, count}
 use Rattle.molang.specs.Message.{Result, ok}
 use Rattle.molang.specs.Calls.{unindexed, named, indexed, arrayLevel, arrayResume}
-use Rattle.molang.proofs.Trees.{isNil}
-use Rattle.molang.proofs.Work.{Kind, calls, statements, arrays, unaries, conditional, returns, binary, State, work, takes, andThen, Held, held, unwound}
+use Rattle.molang.specs.Free.{isNil}
+use Rattle.molang.specs.Work.{Kind, calls, statements, arrays, unaries, conditional, returns, binary, State, work, takes, andThen, Held, held, unwound}
 use Rattle.ops.specs.declared.classes.TokenClasses.{TokenClasses}
 use Rattle.nodes.specs.Store.{wd, TokenAt, Out, RepT, Owned, InArray, Free}
 use Rattle.nodes.specs.Children.{CanGive, Given}

@@ -8,8 +8,9 @@ use native.Mathlib.Omega.{arith}
 use lib.ListN.{length}
 use Rattle.molang.specs.Forest.{Token, Forest, nil, node, count}
 use Rattle.molang.specs.Message.{ok}
-use Rattle.molang.proofs.Trees.{isNil, count-size}
-use Rattle.molang.proofs.Work.{Kind, State, work, inReading, held}
+use Rattle.molang.specs.Free.{isNil}
+use Rattle.molang.specs.Work.{Kind, State, work, inReading, held}
+use Rattle.molang.proofs.Trees.{count-size}
 use Rattle.nodes.specs.Store.{wd, RepT, Owned}
 use Rattle.nodes.specs.Frames.{CanPush, Pushed}
 use Rattle.nodes.specs.declared.frames.List.{List as Items}

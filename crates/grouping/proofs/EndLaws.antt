@@ -11,7 +11,7 @@ use Rattle.molang.specs.Calls.{callLevel, callFinish, arrayLevel, arrayFinish, 
 use Rattle.molang.specs.Statements.{statementLevel, statementFinish}
 use Rattle.molang.specs.Unary.{returnLevel, returnFinish}
 use Rattle.molang.specs.Binary.{binaryLevel, binaryFinish}
-use Rattle.molang.proofs.Work.{Kind, State, work, fromRight}
+use Rattle.molang.specs.Work.{Kind, State, work, fromRight}
 use Rattle.nodes.specs.Store.{InArray}
 use Rattle.nodes.specs.declared.frames.List.{List as Items}
 use Rattle.nodes.proofs.Store.{back-raise, rep-lower}

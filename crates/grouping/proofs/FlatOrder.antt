@@ -19,10 +19,11 @@ use Rattle.molang.specs.Message.{Message, complexMustEndWithSemicolon, Result, 
 use Rattle.molang.specs.Sections.{members, outside, sections}
 use Rattle.molang.specs.Order.{Pass, lastToken, memberAccessors, sectioning, runs, lastOf, endsWithSemicolon, apply}
 use Rattle.molang.specs.Read.{Answer, messages, endsReading, grouped}
+use Rattle.molang.specs.Free.{flat}
+use Rattle.molang.specs.Weight.{weight, nodeWeight}
 use Rattle.molang.proofs.Walks.{failed, fine}
-use Rattle.molang.proofs.Weight.{weight}
-use Rattle.molang.proofs.Sections.{flat, Flat, Sectioned, leaves-flat, members-light, sections-light}
-use Rattle.molang.proofs.Bounds.{nodeWeight, leaves-weight}
+use Rattle.molang.proofs.Sections.{Flat, Sectioned, leaves-flat, members-light, sections-light}
+use Rattle.molang.proofs.Bounds.{leaves-weight}
 use Rattle.ops.specs.declared.sets.OpSet.{OpSet}
 use Rattle.nodes.specs.Store.{wd, TokenAt, Seg, RepF, ends, more}
 use Rattle.nodes.specs.Slots.{opAt}

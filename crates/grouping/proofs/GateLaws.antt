@@ -8,7 +8,8 @@ use lib.ListN.{length}
 use borrow.Author.Tests.{not-false}
 use Rattle.molang.specs.Forest.{Forest}
 use Rattle.molang.specs.Message.{ok}
-use Rattle.molang.proofs.Trees.{free}
+use Rattle.molang.specs.Free.{free}
+use Rattle.molang.specs.Work.{Kind, calls, statements, arrays, unaries, conditional, returns, binary, pass}
 use Rattle.molang.proofs.Calls.{call-free}
 use Rattle.molang.proofs.Arrays.{array-free}
 use Rattle.molang.proofs.Statements.{statement-free}
@@ -16,7 +17,6 @@ use Rattle.molang.proofs.Unary.{unaryPass-free}
 use Rattle.molang.proofs.Conditional.{conditional-free}
 use Rattle.molang.proofs.Return.{return-free}
 use Rattle.molang.proofs.Binary.{binary-free}
-use Rattle.molang.proofs.Work.{Kind, calls, statements, arrays, unaries, conditional, returns, binary, pass}
 use Rattle.ops.specs.Classes.{shares}
 use Rattle.nodes.specs.Store.{wd}
 use Rattle.nodes.proofs.Store.{rep-legal}

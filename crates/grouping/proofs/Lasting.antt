@@ -13,10 +13,11 @@ use Rattle.molang.specs.Statements.{statementLevel}
 use Rattle.molang.specs.Unary.{returnLevel}
 use Rattle.molang.specs.Binary.{binaryLevel}
 use Rattle.molang.specs.Conditional.{conditionalLevel}
-use Rattle.molang.proofs.Trees.{isNil}
+use Rattle.molang.specs.Free.{isNil}
+use Rattle.molang.specs.Weight.{Weighing, weight, nodesOf, nodeWeight}
+use Rattle.molang.specs.Work.{Kind, calls, statements, arrays, unaries, conditional, returns, binary, work, begins, inReading, pass, andThen, Held, held, unwound}
 use Rattle.molang.proofs.Walks.{failed, fine, onward, walk-onward}
-use Rattle.molang.proofs.Weight.{Weighing, weight, Ending, through-light}
-use Rattle.molang.proofs.Bounds.{nodesOf, nodeWeight}
+use Rattle.molang.proofs.Weight.{Ending, through-light}
 use Rattle.molang.proofs.Calls.{call-light}
 use Rattle.molang.proofs.Arrays.{array-light}
 use Rattle.molang.proofs.Statements.{statement-light}
@@ -24,7 +25,7 @@ use Rattle.molang.proofs.Unary.{unaryPass-light}
 use Rattle.molang.proofs.Return.{return-light}
 use Rattle.molang.proofs.Binary.{binary-light}
 use Rattle.molang.proofs.Conditional.{conditional-light}
-use Rattle.molang.proofs.Work.{Kind, calls, statements, arrays, unaries, conditional, returns, binary, work, begins, inReading, pass, andThen, Held, held, unwound, pass-begins}
+use Rattle.molang.proofs.Work.{pass-begins}
 
 -- ---- sizes in reading order
 

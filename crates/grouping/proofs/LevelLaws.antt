@@ -11,9 +11,9 @@ use lib.ListN.{length, drop}
 use Rattle.molang.specs.Forest.{Forest, leaves}
 use Rattle.molang.specs.Order.{Rules, Pass, order, lastToken, memberAccessors, sectioning}
 use Rattle.molang.specs.Read.{Answer, grouped}
-use Rattle.molang.proofs.Weight.{weight}
-use Rattle.molang.proofs.Bounds.{nodeWeight, size-weight}
-use Rattle.molang.proofs.Work.{pass}
+use Rattle.molang.specs.Weight.{weight, nodeWeight}
+use Rattle.molang.specs.Work.{pass}
+use Rattle.molang.proofs.Bounds.{size-weight}
 use Rattle.ops.specs.declared.sets.OpSet.{OpSet}
 use Rattle.nodes.specs.Store.{InArray}
 use Rattle.nodes.specs.Children.{CanGive, Given}

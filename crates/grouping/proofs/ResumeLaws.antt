@@ -17,9 +17,9 @@ use Rattle.molang.specs.Statements.{Split, unsplit, after, inside, gather, stat
 use Rattle.molang.specs.Unary.{returnLevel, returnResume, turned}
 use Rattle.molang.specs.Conditional.{conditionalLevel}
 use Rattle.molang.specs.Order.{lastOf}
-use Rattle.molang.proofs.Trees.{isNil, some-none}
-use Rattle.molang.proofs.Conditional.{isConditional}
-use Rattle.molang.proofs.Work.{Kind, State, takes}
+use Rattle.molang.specs.Free.{isNil, isConditional}
+use Rattle.molang.specs.Work.{Kind, State, takes}
+use Rattle.molang.proofs.Trees.{some-none}
 use Rattle.nodes.specs.Store.{wd, Seg, RepT, RepB, InArray}
 use Rattle.nodes.specs.declared.frames.List.{List as Items}
 use Rattle.nodes.proofs.Runs.{set-same, set-other, set-long}

@@ -9,8 +9,9 @@ use lib.ListN.{length}
 use Rattle.molang.specs.Forest.{Forest, count}
 use Rattle.molang.specs.Message.{Result}
 use Rattle.molang.specs.Calls.{arrayLevel}
+use Rattle.molang.specs.Work.{Kind, calls, statements, arrays, unaries, conditional, returns, binary, State, work, begins, inReading, pass, Held, unwound}
 use Rattle.molang.proofs.Trees.{count-size}
-use Rattle.molang.proofs.Work.{Kind, calls, statements, arrays, unaries, conditional, returns, binary, State, work, begins, inReading, pass, Held, unwound, pass-begins}
+use Rattle.molang.proofs.Work.{pass-begins}
 use Rattle.levels.specs.Passes.{classesOf, waits}
 use Rattle.levels.specs.Sides.{Holds}
 use Rattle.levels.specs.Turns.{turnsLeft, afresh}

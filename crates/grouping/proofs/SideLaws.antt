@@ -9,7 +9,7 @@ use Rattle.molang.specs.Forest.{Token, Forest}
 use Rattle.molang.specs.Level.{Gathered}
 use Rattle.molang.specs.Calls.{Indexing}
 use Rattle.molang.specs.Statements.{Split}
-use Rattle.molang.proofs.Work.{Kind, calls, statements, arrays, unaries, conditional, returns, binary, Right, State}
+use Rattle.molang.specs.Work.{Kind, calls, statements, arrays, unaries, conditional, returns, binary, Right, State}
 use Rattle.nodes.specs.Store.{wd, Chain, Out, RepB, begins, put}
 use Rattle.nodes.specs.declared.frames.List.{List as Items}
 use Rattle.nodes.proofs.Tokens.{token-keep}

@@ -8,7 +8,7 @@ use native.Mathlib.Omega.{arith}
 use native.Mathlib.Nat.{le-refl}
 use lib.ListN.{length}
 use Rattle.molang.specs.Forest.{Token, Forest}
-use Rattle.molang.proofs.Work.{Kind, State, Held}
+use Rattle.molang.specs.Work.{Kind, State, Held}
 use Rattle.nodes.specs.Store.{wd, Out, Free}
 use Rattle.nodes.specs.declared.frames.List.{List as Items}
 use Rattle.nodes.proofs.Tokens.{token-keep}

@@ -14,8 +14,8 @@ use Rattle.molang.specs.Calls.{queryOrLoop, math, callLevel, arrayLevel, uninde
 use Rattle.molang.specs.Unary.{returnLevel}
 use Rattle.molang.specs.Binary.{binaryLevel}
 use Rattle.molang.specs.Conditional.{conditionalLevel}
-use Rattle.molang.proofs.Trees.{clear}
-use Rattle.molang.proofs.Work.{Kind, calls, statements, arrays, unaries, conditional, returns, binary, State, begins, inReading}
+use Rattle.molang.specs.Free.{clear}
+use Rattle.molang.specs.Work.{Kind, calls, statements, arrays, unaries, conditional, returns, binary, State, begins, inReading}
 use Rattle.ops.specs.declared.classes.TokenClasses.{TokenClasses}
 use Rattle.nodes.specs.Store.{wd, onto, ends, RepB, InArray}
 use Rattle.nodes.specs.Children.{CanTake, Taken}

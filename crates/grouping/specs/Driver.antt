@@ -8,8 +8,8 @@ use mathlib.Core.List.{List, [], _∷_}
 use lib.ListN.{length}
 use Rattle.molang.specs.Forest.{Token, Forest, nil, count, size}
 use Rattle.molang.specs.Message.{Message, Result, ok, fail}
-use Rattle.molang.proofs.Trees.{isNil}
-use Rattle.molang.proofs.Work.{Kind, State, work, pass, inReading, takes, andThen, Held, held, unwound}
+use Rattle.molang.specs.Free.{isNil}
+use Rattle.molang.specs.Work.{Kind, State, work, pass, inReading, takes, andThen, Held, held, unwound}
 use Rattle.nodes.specs.Store.{wd, TokenAt, Seg, Out, RepT, Owned, Free}
 use Rattle.nodes.specs.Children.{Taken}
 use Rattle.nodes.specs.Frames.{FrameAt}

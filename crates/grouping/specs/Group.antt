@@ -12,8 +12,7 @@ use Rattle.molang.specs.Sections.{members, outside, sections}
 use Rattle.molang.specs.Order
 use Rattle.molang.specs.Order.{Pass, lastToken, memberAccessors, sectioning, runs, endsWithSemicolon}
 use Rattle.molang.specs.Read.{Answer, grouped}
-use Rattle.molang.proofs.Weight.{weight}
-use Rattle.molang.proofs.Bounds.{nodeWeight}
+use Rattle.molang.specs.Weight.{weight, nodeWeight}
 use Rattle.ops.specs.declared.sets.OpSet.{OpSet}
 use Rattle.nodes.specs.Store.{InArray}
 use Rattle.grouping.specs.Grouped.{Says, StandsFor}

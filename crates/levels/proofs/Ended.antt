@@ -6,7 +6,7 @@ use mathlib.Core.List.{List}
 use native.Mathlib.Omega.{arith}
 use lib.ListN.{length}
 use Rattle.molang.specs.Forest.{Token, Forest}
-use Rattle.molang.proofs.Trees.{isNil}
+use Rattle.molang.specs.Free.{isNil}
 use Rattle.nodes.specs.Store.{wd, TokenAt, SegB, OutFrom}
 use Rattle.nodes.proofs.Runs.{segB-keep}
 use Rattle.nodes.proofs.Tokens.{token-keep}

@@ -2,12 +2,8 @@
 use Rattle.molang.specs.Operator.{isOneOf, any, isMathCall, isQueryOrLoop, between}
 use Rattle.molang.specs.Calls.{queryOrLoop, math, calls as isCall}
 use Rattle.molang.specs.Order.{someBelow}
-use Rattle.molang.proofs.Arrays.{isArrayName}
-use Rattle.molang.proofs.Statements.{isSemicolon}
-use Rattle.molang.proofs.Unary.{isPrefix}
-use Rattle.molang.proofs.Conditional.{isConditional}
-use Rattle.molang.proofs.Return.{isReturn}
-use Rattle.molang.proofs.Work.{Kind}
+use Rattle.molang.specs.Free.{isArrayName, isSemicolon, isPrefix, isConditional, isReturn}
+use Rattle.molang.specs.Work.{Kind}
 use Rattle.ops.specs.Classes.{meets, inClass, passClasses, ownClasses, bitAt}
 use Rattle.ops.proofs.ClassLaws.{stands-for}
 use Rattle.levels.specs.Passes.{classesOf, operators, Covers, Runs, call, mathCall, unsplitPass, split, array, unary, level, conditionalPass, returnPass}

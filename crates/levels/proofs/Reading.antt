@@ -11,7 +11,7 @@ use lib.ListN.{length}
 use lib.Dec.{eqb}
 use borrow.Author.Tests.{eq-eqb, ne-eqb, not-true, not-false}
 use Rattle.molang.specs.Forest.{Token, Forest, nil, node}
-use Rattle.molang.proofs.Trees.{free, isNil}
+use Rattle.molang.specs.Free.{free, isNil}
 use Rattle.ops.specs.Classes.{shares}
 use Rattle.nodes.specs.Store.{wd, Seg, Out, RepF, ends, more, RepT, put, InArray}
 use Rattle.nodes.specs.Slots.{opAt, isLeafAt}

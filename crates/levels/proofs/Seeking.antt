@@ -8,7 +8,7 @@ use native.Mathlib.Omega.{arith}
 use native.Mathlib.Nat.{le-refl}
 use lib.ListN.{length, set}
 use Rattle.molang.specs.Forest.{Token, Forest, nil, node}
-use Rattle.molang.proofs.Trees.{free, isNil}
+use Rattle.molang.specs.Free.{free, isNil}
 use Rattle.ops.specs.Classes.{shares, meets}
 use Rattle.nodes.specs.Store.{wd, ends, RepT}
 use Rattle.nodes.specs.Slots.{isLeafAt}

@@ -8,7 +8,7 @@ use mathlib.Core.List.{List}
 use lib.Dec.{eqb}
 use lib.ListN.{length}
 use Rattle.molang.specs.Forest.{Token, Forest, nil, node}
-use Rattle.molang.proofs.Trees.{free, isNil}
+use Rattle.molang.specs.Free.{free, isNil}
 use Rattle.ops.specs.Classes.{shares}
 use Rattle.nodes.specs.Store.{wd, SegB, RepT, RepB, InArray}
 use Rattle.nodes.specs.Slots.{opAt, isLeafAt}

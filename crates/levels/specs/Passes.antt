@@ -7,12 +7,8 @@ use mathlib.Core.List.{List}
 use lib.Dec.{eqb}
 use Rattle.molang.specs.Operator.{isOneOf}
 use Rattle.molang.specs.Calls.{queryOrLoop, math, unindexed, named, indexed, calls as isCall}
-use Rattle.molang.proofs.Arrays.{isArrayName}
-use Rattle.molang.proofs.Statements.{isSemicolon}
-use Rattle.molang.proofs.Unary.{isPrefix}
-use Rattle.molang.proofs.Conditional.{isConditional}
-use Rattle.molang.proofs.Return.{isReturn}
-use Rattle.molang.proofs.Work.{Kind, calls, statements, arrays, unaries, conditional, returns, binary, State}
+use Rattle.molang.specs.Free.{isArrayName, isSemicolon, isPrefix, isConditional, isReturn}
+use Rattle.molang.specs.Work.{Kind, calls, statements, arrays, unaries, conditional, returns, binary, State}
 use Rattle.ops.specs.Classes.{meets}
 use Rattle.ops.specs.declared.classes.TokenClasses.{TokenClasses}
 use Rattle.nodes.specs.declared.frames.List.{List as Items}

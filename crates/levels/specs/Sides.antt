@@ -15,9 +15,8 @@ use Rattle.molang.specs.Calls.{Indexing, unindexed, named, indexed, startsWithI
 use Rattle.molang.specs.Statements.{Split, unsplit, after, inside, splitOf}
 use Rattle.molang.specs.Binary.{unfolded}
 use Rattle.molang.specs.Order.{lastOf}
-use Rattle.molang.proofs.Trees.{clear, isNil}
-use Rattle.molang.proofs.Conditional.{isConditional}
-use Rattle.molang.proofs.Work.{Kind, calls, statements, arrays, unaries, conditional, returns, binary, Right, right, State}
+use Rattle.molang.specs.Free.{clear, isNil, isConditional}
+use Rattle.molang.specs.Work.{Kind, calls, statements, arrays, unaries, conditional, returns, binary, Right, right, State}
 use Rattle.ops.specs.declared.classes.TokenClasses.{TokenClasses}
 use Rattle.nodes.specs.Store.{wd, TokenAt, Chain, SegB, Out, OutFrom, RepT, RepB, InArray}
 use Rattle.nodes.specs.declared.frames.List.{List as Items}

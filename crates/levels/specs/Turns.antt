@@ -8,8 +8,8 @@ use lib.ListN.{length}
 use Rattle.molang.specs.Forest.{Token, Forest, nil, count, size}
 use Rattle.molang.specs.Message.{Message, ok, fail}
 use Rattle.molang.specs.Calls.{indexed, startsWithIndex}
-use Rattle.molang.proofs.Trees.{isNil}
-use Rattle.molang.proofs.Work.{Kind, arrays, statements, State, work, begins, inReading, takes, andThen}
+use Rattle.molang.specs.Free.{isNil}
+use Rattle.molang.specs.Work.{Kind, arrays, statements, State, work, begins, inReading, takes, andThen}
 use Rattle.nodes.specs.Store.{RepT, InArray, Kept}
 use Rattle.nodes.specs.declared.frames.List.{List as Items}
 use Rattle.levels.specs.Passes.{classesOf, waits}

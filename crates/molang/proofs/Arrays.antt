@@ -10,13 +10,12 @@ use Rattle.molang.specs.Forest.{Token, Forest, nil, node, renamed, turne
 use Rattle.molang.specs.Message.{ok}
 use Rattle.molang.specs.Level.{Step, on, into, through}
 use Rattle.molang.specs.Calls.{Indexing, unindexed, named, indexed, flushed, isIndex, startsWithIndex, emptyIndex, nextIndex, index, arrayStep, arrayResume, arrayFinish, arrayLevel}
-use Rattle.molang.proofs.Trees.{free, isNil, either}
+use Rattle.molang.specs.Free.{free, isNil, isArrayName}
+use Rattle.molang.specs.Weight.{Weighing, weight}
+use Rattle.molang.proofs.Trees.{either}
 use Rattle.molang.proofs.Inert.{Inert, through-free}
 use Rattle.molang.proofs.Walks.{Onward, stops, goes, enters}
-use Rattle.molang.proofs.Weight.{Weighing, weight, Within, Ending, Light, isNil-turned-full, weight-inner, weight-turned, weight-gathered, turned-fine}
-
-unfoldable pub isArrayName : ℕ → Bool
-isArrayName n = eqb n Operator.arrayVariable
+use Rattle.molang.proofs.Weight.{Within, Ending, Light, isNil-turned-full, weight-inner, weight-turned, weight-gathered, turned-fine}
 
 keep-unindexed : (i : Bool) (d : Forest) (k : Token) → isIndex k ≡ i → isArrayName (k .op) ≡ false
     → arrayStep (unindexed d) k nil ≡ on (unindexed (node k nil d))

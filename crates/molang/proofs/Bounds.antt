@@ -1,6 +1,6 @@
 -- What reading can give at most: three nodes for each token, and one or two messages. A leaf `;` may become three nodes and a leaf `-` two,
 -- so by that weight the bound follows from what each pass keeps.
-use Prim.Native.Nat.{ℕ, _*_, _≤_}
+use Prim.Native.Nat.{ℕ, _+_, _*_, _≤_}
 use mathlib.Core.Path.{_≡_, refl}
 use mathlib.Core.Bool.{Bool, true, false}
 use mathlib.Core.List.{List, [], _∷_, _++_}
@@ -16,28 +16,18 @@ use Rattle.molang.specs.Order.{rules, Pass, lastToken, memberAccessors, 
 use Rattle.molang.specs.Read.{Answer, tree, messages, rooted, endsReading, grouped, read}
 use Rattle.molang.specs.Words.{tokenWords, treeWords}
 use Rattle.molang.specs.Parse.{recordWords}
+use Rattle.molang.specs.Free.{flat}
+use Rattle.molang.specs.Weight.{weight, nodesOf, nodes-some, nodeWeight}
 use Rattle.molang.proofs.Trees.{either, maybe, both}
 use Rattle.molang.proofs.Walks.{Outcome, failed, fine}
-use Rattle.molang.proofs.Weight.{Weighing, weight}
-use Rattle.molang.proofs.Sections.{flat, leaves-flat, members-light, sections-light}
+use Rattle.molang.proofs.Sections.{leaves-flat, members-light, sections-light}
 use Rattle.molang.proofs.Passes.{isNested, apply-light, allNested, grouped-nil}
-
--- How many nodes a leaf may become.
-unfoldable pub nodesOf : ℕ → ℕ
-nodesOf n = elim (eqb n Operator.semicolon) [ true ↦ 3 | false ↦ elim (eqb n Operator.negate) [ true ↦ 2 | false ↦ 1 ] ]
-
-pub nodes-some : (n : ℕ) → 1 ≤ nodesOf n
-unfolding nodesOf
-nodes-some n =
-    either (λ m. 1 ≤ m) (eqb n Operator.semicolon) _ _ (omega arith) (either (λ m. 1 ≤ m) (eqb n Operator.negate) _ _ (omega arith) (omega arith))
 
 nodes-few : (n : ℕ) → nodesOf n ≤ 3
 unfolding nodesOf
 nodes-few n =
-    either (λ m. m ≤ 3) (eqb n Operator.semicolon) _ _ (omega arith) (either (λ m. m ≤ 3) (eqb n Operator.negate) _ _ (omega arith) (omega arith))
-
-abbrev pub nodeWeight : Weighing
-nodeWeight = record { leaf = nodesOf; inner = 1; lighter = nodes-some }
+    either (λ m. 1 + m ≤ 3) (eqb n Operator.semicolon) _ _ (omega arith)
+    (either (λ m. 1 + m ≤ 3) (eqb n Operator.negate) _ _ (omega arith) (omega arith))
 
 pub size-weight : (f : Forest) → size f ≤ weight nodeWeight f
 unfolding size weight

@@ -1,7 +1,7 @@
 -- The ternary fold: what it leaves as it is, and that it raises no weight.
 use Prim.Native.Nat.{ℕ, _+_, _≤_}
 use mathlib.Core.Path.{_≡_, refl}
-use mathlib.Core.Bool.{Bool, true, false, _||_, not}
+use mathlib.Core.Bool.{Bool, true, false, not}
 use mathlib.Core.Option.{none}
 use native.Mathlib.Omega.{arith}
 use lib.Dec.{eqb}
@@ -11,14 +11,13 @@ use Rattle.molang.specs.Forest.{Token, Forest, nil, node, turnedOnto, in
 use Rattle.molang.specs.Message.{ok}
 use Rattle.molang.specs.Level.{through}
 use Rattle.molang.specs.Conditional.{isToken, startsWith, under, pairElse, scan, foldedFrom, dangling, undangled, conditionalStep, conditionalFinish, conditionalLevel}
-use Rattle.molang.proofs.Trees.{free, clear, isNil, decided, maybe, clear-leaf, clear-rest, clear-turned}
+use Rattle.molang.specs.Free.{free, clear, isNil, isConditional}
+use Rattle.molang.specs.Weight.{Weighing, weight}
+use Rattle.molang.proofs.Trees.{decided, maybe, clear-leaf, clear-rest, clear-turned}
 use Rattle.molang.proofs.Booleans.{or-neither}
 use Rattle.molang.proofs.Inert.{Inert, through-free}
 use Rattle.molang.proofs.Walks.{failed, fine, Onward, goes, enters}
-use Rattle.molang.proofs.Weight.{Weighing, weight, Within, Ending, Light, weight-inner, weight-tree}
-
-unfoldable pub isConditional : ℕ → Bool
-isConditional n = eqb n Operator.conditional || eqb n Operator.conditionalElse
+use Rattle.molang.proofs.Weight.{Within, Ending, Light, weight-inner, weight-tree}
 
 -- A list without `?` and `:` is only turned round.
 module _ (a : Token) (aa d : Forest) (h : clear isConditional (node a aa d) ≡ true) where

@@ -5,9 +5,10 @@ use mathlib.Core.Bool.{Bool, false, not}
 use native.Mathlib.Omega.{arith}
 use Rattle.molang.specs.Forest.{Token, Forest, nil, node}
 use Rattle.molang.specs.Level.{Step, into, Level, Gathered, gathered, waiting}
-use Rattle.molang.proofs.Trees.{isNil}
+use Rattle.molang.specs.Free.{isNil}
+use Rattle.molang.specs.Weight.{Weighing, weight}
 use Rattle.molang.proofs.Walks.{Onward, enters}
-use Rattle.molang.proofs.Weight.{Weighing, weight, Within, weight-inner}
+use Rattle.molang.proofs.Weight.{Within, weight-inner}
 
 -- What a gathering level has so far, a token that waits among it.
 unfoldable pub shown : Gathered → Forest

@@ -16,10 +16,12 @@ use Rattle.molang.specs.Binary.{binaryFinish, binaryLevel}
 use Rattle.molang.specs.Conditional.{foldedFrom, dangling, undangled, conditionalFinish, conditionalLevel}
 use Rattle.molang.specs.Order.{Pass, lastToken, memberAccessors, sectioning, callPass, statements, arrays, pointer, mathCalls, unaryMinusAndNot, addition, conditional, returns, binary, runs, apply}
 use Rattle.molang.specs.Read.{messages, rooted, endsReading, grouped}
-use Rattle.molang.proofs.Trees.{free, isNil, decided, both, and-true-true, free-leaf, free-tree}
+use Rattle.molang.specs.Free.{free, isNil}
+use Rattle.molang.specs.Weight.{Weighing, weight}
+use Rattle.molang.proofs.Trees.{decided, both, and-true-true, free-leaf, free-tree}
 use Rattle.molang.proofs.Booleans.{false-true}
 use Rattle.molang.proofs.Walks.{failed, fine}
-use Rattle.molang.proofs.Weight.{Weighing, weight, Ending, through-light}
+use Rattle.molang.proofs.Weight.{Ending, through-light}
 use Rattle.molang.proofs.Calls.{call-light}
 use Rattle.molang.proofs.Arrays.{array-light}
 use Rattle.molang.proofs.Statements.{statement-light}

@@ -1,7 +1,7 @@
 -- Members and sections raise no weight of a flat list: one in which only member accessors have children, so that every bracket is a leaf.
 use Prim.Native.Nat.{ℕ, _+_, _≤_}
 use mathlib.Core.Path.{_≡_, refl}
-use mathlib.Core.Bool.{Bool, true, false, _&&_}
+use mathlib.Core.Bool.{true, false}
 use mathlib.Core.List.{List, [], _∷_}
 use mathlib.Core.Option.{Option, none, some}
 use native.Mathlib.Omega.{arith}
@@ -13,14 +13,11 @@ use Rattle.molang.specs.Operator.{hasMembers, closingOf, isCloser}
 use Rattle.molang.specs.Forest.{Token, Forest, nil, node, leaves, turnedOnto, inOrder}
 use Rattle.molang.specs.Message.{Message, Result, fail, closer}
 use Rattle.molang.specs.Sections.{withMember, members, Open, outside, section, placed, position, Walked, going, mismatch, closing, bracket, closed, sections}
+use Rattle.molang.specs.Weight.{Weighing, weight}
+use Rattle.molang.specs.Free.{flat}
 use Rattle.molang.proofs.Trees.{decided, either, maybe, both, and-true-true}
 use Rattle.molang.proofs.Walks.{Outcome, failed, fine}
-use Rattle.molang.proofs.Weight.{Weighing, weight, weight-tree, weight-inOrder}
-
-unfoldable pub flat : Forest → Bool
-flat nil = true
-flat (node k nil rest) = flat rest
-flat (node k (node c cs r) rest) = eqb (k .op) Operator.memberAccessor && flat rest
+use Rattle.molang.proofs.Weight.{weight-tree, weight-inOrder}
 
 pub leaves-flat : (ks : List Token) → flat (leaves ks) ≡ true
 unfolding flat leaves

@@ -10,13 +10,12 @@ use Rattle.molang.specs.Forest.{Token, Forest, nil, node, bare, inOrder}
 use Rattle.molang.specs.Message.{ok}
 use Rattle.molang.specs.Level.{Step, into, through}
 use Rattle.molang.specs.Statements.{Split, unsplit, after, inside, splitOf, isEntered, gather, endStatement, enterSplit, statementStep, statementResume, statementFinish, statementLevel}
-use Rattle.molang.proofs.Trees.{free, clear, isNil, decided, either, clear-leaf}
+use Rattle.molang.specs.Free.{free, clear, isNil, isSemicolon}
+use Rattle.molang.specs.Weight.{Weighing, weight}
+use Rattle.molang.proofs.Trees.{decided, either, clear-leaf}
 use Rattle.molang.proofs.Inert.{Inert, through-free}
 use Rattle.molang.proofs.Walks.{fine, Onward, stops, goes, enters}
-use Rattle.molang.proofs.Weight.{Weighing, weight, Within, Ending, Light, weight-inner, weight-tree, weight-gathered, turned-fine}
-
-unfoldable pub isSemicolon : ℕ → Bool
-isSemicolon n = eqb n Operator.semicolon
+use Rattle.molang.proofs.Weight.{Within, Ending, Light, weight-inner, weight-tree, weight-gathered, turned-fine}
 
 pub split-clear : (f : Forest) → clear isSemicolon f ≡ true → splitOf f ≡ unsplit nil
 unfolding splitOf clear isSemicolon

@@ -12,7 +12,8 @@ use Rattle.molang.specs.Forest.{Token, Forest, nil, node, turnedOnto, in
 use Rattle.molang.specs.Message.{binaryAtEnd, Result, ok, fail}
 use Rattle.molang.specs.Level.{Step, stop, on, into, Level, walk, through, Gathered, gathered, waiting, nothing}
 use Rattle.molang.specs.Binary.{firstLeaf, unfolded, joined, operatorAfter, binaryStep, binaryResume, binaryFinish, binaryLevel}
-use Rattle.molang.proofs.Trees.{free, isNil, decided, maybe, some-none, and-true-true, free-leaf, free-tree}
+use Rattle.molang.specs.Free.{free, isNil}
+use Rattle.molang.proofs.Trees.{decided, maybe, some-none, and-true-true, free-leaf, free-tree}
 use Rattle.molang.proofs.Walks.{failed, fine, Ends, Onward, stops, goes, enters, Keeps, back, onward, walk-keeps}
 use Rattle.molang.proofs.Weight.{isNil-inOrder}
 use Rattle.molang.proofs.Binary.{full-joined}

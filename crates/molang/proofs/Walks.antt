@@ -8,7 +8,7 @@ use lib.ListN.{length}
 use Rattle.molang.specs.Forest.{Token, Forest, nil, node}
 use Rattle.molang.specs.Message.{Message, Result, ok, fail}
 use Rattle.molang.specs.Level.{Step, stop, on, into, Level, walk, through}
-use Rattle.molang.proofs.Trees.{isNil}
+use Rattle.molang.specs.Free.{isNil}
 
 -- A pass ends in so many messages, or in a list of which Q holds.
 pub data Outcome (count : ℕ) (Q : Forest → Type 0) : Result → Type 0 where

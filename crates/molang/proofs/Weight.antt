@@ -9,19 +9,9 @@ use borrow.Author.Tests.{not-true}
 use Rattle.molang.specs.Forest.{Token, Forest, nil, node, turnedOnto, inOrder}
 use Rattle.molang.specs.Message.{Result, ok}
 use Rattle.molang.specs.Level.{Level, through}
-use Rattle.molang.proofs.Trees.{isNil}
+use Rattle.molang.specs.Free.{isNil}
+use Rattle.molang.specs.Weight.{Weighing, weight}
 use Rattle.molang.proofs.Walks.{fine, Ends, Keeps, through-keeps}
-
--- What a leaf weighs by its operator, and a node with children besides those; a leaf that gets children becomes no heavier by itself.
-pub record Weighing : Type 0 where
-  pub leaf : ℕ → ℕ
-  pub inner : ℕ
-  pub lighter : (n : ℕ) → inner ≤ leaf n
-
-unfoldable pub weight : Weighing → Forest → ℕ
-weight W nil = 0
-weight W (node k nil rest) = W .leaf (k .op) + weight W rest
-weight W (node k (node c cs r) rest) = W .inner + weight W (node c cs r) + weight W rest
 
 abbrev pub Within : Weighing → ℕ → Forest → Type 0
 Within W n g = weight W g ≤ n

@@ -10,6 +10,9 @@ pub mod Binary
 pub mod Conditional
 pub mod Order
 pub mod Read
+pub mod Free
+pub mod Weight
+pub mod Work
 pub mod Words
 pub mod Parse
 pub mod Plain

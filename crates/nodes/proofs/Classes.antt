@@ -6,7 +6,7 @@ use mathlib.Core.Bool.{Bool, true, false, _||_, _&&_, not, and-true, and-comm, a
 use mathlib.Core.List.{List}
 use Rattle.molang.specs.Forest.{Token, Forest, nil, node}
 use Rattle.molang.specs.Order.{someBelow}
-use Rattle.molang.proofs.Trees.{free}
+use Rattle.molang.specs.Free.{free}
 use Rattle.ops.specs.Classes.{bitAt, inClass, shares, meets}
 use Rattle.ops.proofs.BitLaws.{some-same}
 use Rattle.nodes.specs.Store.{Notes, Noted, RepF, ends, more, AllLegal}

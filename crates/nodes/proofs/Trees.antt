@@ -11,7 +11,7 @@ use borrow.Author.Tests.{eq-eqb, ne-eqb}
 use lib.ListN.{length}
 use Rattle.molang.specs.Forest.{Token, Forest, nil, node, inOrder, count}
 use Rattle.molang.specs.Conditional.{isToken}
-use Rattle.molang.proofs.Trees.{free, isNil}
+use Rattle.molang.specs.Free.{free, isNil}
 use Rattle.ops.specs.Classes.{inClass}
 use Rattle.nodes.specs.Store.{wd, slotStart, firstAt, classesAt, TokenAt, Noted, reserve, Chain, Seg, SegB, Out, OutFrom, onto, RepF, ends, more, RepT, Owned, RepB, InArray, Free}
 use Rattle.nodes.specs.Slots.{opAt, isLeafAt, isTokenAt}

@@ -12,7 +12,7 @@ use lib.ListN.{length, getD}
 use Rattle.molang.specs.Operator.{negate, semicolon}
 use Rattle.molang.specs.Forest.{Token, Forest, nil, node}
 use Rattle.molang.specs.Words.{tokenWords, Legal}
-use Rattle.molang.proofs.Trees.{free}
+use Rattle.molang.specs.Free.{free}
 use Rattle.ops.specs.Classes.{bitAt, inClass}
 
 -- The word at an index.

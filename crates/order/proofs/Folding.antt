@@ -9,8 +9,8 @@ use Rattle.molang.specs.Forest.{Forest}
 use Rattle.molang.specs.Message.{Message, multipleRoots, Result, ok, fail}
 use Rattle.molang.specs.Order.{Rules, Pass, order, apply}
 use Rattle.molang.specs.Read.{Answer, messages, endsReading, grouped, rooted}
+use Rattle.molang.specs.Work.{Kind, pass}
 use Rattle.molang.proofs.Passes.{grouped-nil}
-use Rattle.molang.proofs.Work.{Kind, pass}
 use Rattle.levels.specs.Passes.{Runs}
 use Rattle.levels.specs.declared.turns.Pass.{Pass as State}
 use Rattle.order.specs.declared.Choice.the-variants.{Run, Skip}

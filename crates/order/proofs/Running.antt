@@ -15,10 +15,10 @@ use Rattle.molang.specs.Message.{Message, Result, ok, fail}
 use Rattle.molang.specs.Calls.{queryOrLoop, math}
 use Rattle.molang.specs.Order.{Rules, Pass, callPass, statements, arrays, pointer, mathCalls, unaryMinusAndNot, addition, conditional, returns, binary, comparisons, logic, conditionals, order, runs, apply}
 use Rattle.molang.specs.Read.{Answer, messages, endsReading, grouped}
+use Rattle.molang.specs.Work.{Kind, pass}
+use Rattle.molang.specs.Work as kinds
 use Rattle.molang.proofs.Trees.{both as both-true}
 use Rattle.molang.proofs.Passes.{isNested, allNested}
-use Rattle.molang.proofs.Work.{Kind, pass}
-use Rattle.molang.proofs.Work as kinds
 use Rattle.levels.specs.Passes.{Runs}
 use Rattle.levels.specs.Passes as walks
 use Rattle.levels.specs.declared.turns.Pass.{Pass as State}

@@ -15,7 +15,7 @@ use Rattle.molang.specs.Forest.{Token, Forest, nil, node, renamed, inOrder, tur
 use Rattle.molang.specs.Level.{into}
 use Rattle.molang.specs.Conditional.{isToken}
 use Rattle.molang.specs.Calls.{unindexed, indexed, isIndex, startsWithIndex, nextIndex}
-use Rattle.molang.proofs.Trees.{isNil}
+use Rattle.molang.specs.Free.{isNil}
 use Rattle.ops.specs.Classes.{inClass, passClasses, ownClasses}
 use Rattle.ops.proofs.OperatorLaws.{false-at}
 use Rattle.words.specs.Fields.{withOperator}

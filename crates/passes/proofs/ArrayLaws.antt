@@ -7,9 +7,8 @@ use Rattle.molang.specs.Forest.{Token, Forest, nil, node, renamed}
 use Rattle.molang.specs.Message.{Message, emptyArrayIndex, Result, ok, fail}
 use Rattle.molang.specs.Level.{on, into, stop, walk}
 use Rattle.molang.specs.Calls.{Indexing, unindexed, named, indexed, flushed, isIndex, startsWithIndex, emptyIndex, nextIndex, index, arrayStep, arrayFinish, arrayLevel}
-use Rattle.molang.proofs.Trees.{isNil}
-use Rattle.molang.proofs.Arrays.{isArrayName}
-use Rattle.molang.proofs.Work.{arrays, work, inReading, takes, andThen}
+use Rattle.molang.specs.Free.{isNil, isArrayName}
+use Rattle.molang.specs.Work.{arrays, work, inReading, takes, andThen}
 use Rattle.molang.proofs.Walks.{onward, back, walk-onward}
 
 -- ---- one step of the walk

@@ -14,9 +14,9 @@ use Rattle.molang.specs.Forest.{Token, Forest, nil, node, renamed, inOrder, cou
 use Rattle.molang.specs.Message.{Result}
 use Rattle.molang.specs.Level.{through}
 use Rattle.molang.specs.Calls.{Indexing, unindexed, named, indexed, flushed, isIndex, startsWithIndex, arrayStep, arrayResume, arrayLevel}
-use Rattle.molang.proofs.Trees.{isNil}
-use Rattle.molang.proofs.Arrays.{isArrayName, array-inert}
-use Rattle.molang.proofs.Work.{Kind, arrays, State, work, begins, inReading, takes, andThen}
+use Rattle.molang.specs.Free.{isNil, isArrayName}
+use Rattle.molang.specs.Work.{Kind, arrays, State, work, begins, inReading, takes, andThen}
+use Rattle.molang.proofs.Arrays.{array-inert}
 use Rattle.words.specs.Fields.{withOperator}
 use Rattle.nodes.specs.Store.{wd, RepT}
 use Rattle.nodes.specs.declared.frames.List.{List as Items}

@@ -13,10 +13,11 @@ use Rattle.molang.specs.Forest.{Token, Forest, nil, node, count, size}
 use Rattle.molang.specs.Message.{binaryAtEnd, Result, ok, fail}
 use Rattle.molang.specs.Level.{on, walk, through, Gathered, gathered, waiting, nothing}
 use Rattle.molang.specs.Binary.{firstLeaf, unfolded, joined, operatorAfter, binaryStep, binaryResume, binaryFinish, binaryLevel}
-use Rattle.molang.proofs.Trees.{some-none, free, clear, isNil, free-leaf, leaf-clear, clear-leaf, clear-rest, clear-tree}
+use Rattle.molang.specs.Free.{free, clear, isNil}
+use Rattle.molang.specs.Work.{Kind, binary, State, work, begins, inReading, takes, andThen}
+use Rattle.molang.proofs.Trees.{some-none, free-leaf, leaf-clear, clear-leaf, clear-rest, clear-tree}
 use Rattle.molang.proofs.Binary.{binary-inert, binary-free}
 use Rattle.molang.proofs.Unfolded.{free-firstLeaf}
-use Rattle.molang.proofs.Work.{Kind, binary, State, work, begins, inReading, takes, andThen}
 use Rattle.ops.specs.Classes.{shares}
 use Rattle.ops.specs.declared.classes.TokenClasses.{TokenClasses}
 use Rattle.nodes.specs.Store.{wd, SegB, RepT, RepB, begins as starts, put}

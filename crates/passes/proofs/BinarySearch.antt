@@ -14,7 +14,8 @@ use lib.ListN.{length}
 use Rattle.molang.specs.Operator.{isOneOf}
 use Rattle.molang.specs.Forest.{Token, Forest, nil, node}
 use Rattle.molang.specs.Binary.{firstLeaf}
-use Rattle.molang.proofs.Trees.{free, isNil, free-leaf, free-tree}
+use Rattle.molang.specs.Free.{free, isNil}
+use Rattle.molang.proofs.Trees.{free-leaf, free-tree}
 use Rattle.molang.proofs.Unfolded.{free-firstLeaf, firstLeaf-free}
 use Rattle.ops.specs.Classes.{shares, meets}
 use Rattle.nodes.specs.Store.{wd, TokenAt, Chain, Out, RepF, ends, more, RepT}

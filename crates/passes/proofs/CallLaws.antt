@@ -14,10 +14,10 @@ use Rattle.molang.specs.Forest.{Token, Forest, nil, node, turnedOnto, inOrder, 
 use Rattle.molang.specs.Message.{mathAtEnd, mathWithoutParenthesis, emptyParameterList, Result, ok, fail}
 use Rattle.molang.specs.Level.{on, into, walk, through, Gathered, gathered, waiting, nothing}
 use Rattle.molang.specs.Calls.{CallKind, queryOrLoop, math, calls as isCall, callLeaf, callStep, callResume, callFinish, callLevel}
-use Rattle.molang.proofs.Trees.{free, isNil}
+use Rattle.molang.specs.Free.{free, isNil}
+use Rattle.molang.specs.Work.{Kind, calls, State, work, begins, inReading, takes, andThen}
 use Rattle.molang.proofs.Calls.{call-inert, call-free}
 use Rattle.molang.proofs.Walks.{onward, walk-onward}
-use Rattle.molang.proofs.Work.{Kind, calls, State, work, begins, inReading, takes, andThen}
 use Rattle.ops.specs.Classes.{shares}
 use Rattle.nodes.specs.Store.{wd, RepT}
 use Rattle.nodes.specs.Children.{Attached}

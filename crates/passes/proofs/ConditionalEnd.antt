@@ -10,8 +10,9 @@ use Rattle.molang.specs.Forest.{Token, Forest, nil, count}
 use Rattle.molang.specs.Message.{fail, ternaryWithoutOperands}
 use Rattle.molang.specs.Level.{walk}
 use Rattle.molang.specs.Conditional.{foldedFrom, dangling, undangled, conditionalFinish, conditionalLevel}
-use Rattle.molang.proofs.Conditional.{isConditional, undangled-calm}
-use Rattle.molang.proofs.Work.{Kind, State, conditional, work}
+use Rattle.molang.specs.Free.{isConditional}
+use Rattle.molang.specs.Work.{Kind, State, conditional, work}
+use Rattle.molang.proofs.Conditional.{undangled-calm}
 use Rattle.nodes.specs.Store.{InArray, Kept}
 use Rattle.nodes.specs.declared.frames.List.{List as Items}
 use Rattle.nodes.proofs.Store.{back-raise, rep-count}

@@ -11,9 +11,10 @@ use Rattle.molang.specs.Forest.{Token, Forest, nil, node, inOrder, count, size}
 use Rattle.molang.specs.Message.{ok}
 use Rattle.molang.specs.Level.{walk, through}
 use Rattle.molang.specs.Conditional.{conditionalStep, conditionalLevel}
-use Rattle.molang.proofs.Trees.{free, clear, isNil, free-leaf, decided, leaf-clear}
-use Rattle.molang.proofs.Conditional.{isConditional, conditional-inert}
-use Rattle.molang.proofs.Work.{Kind, State, conditional, work, begins, inReading, takes}
+use Rattle.molang.specs.Free.{free, clear, isNil, isConditional}
+use Rattle.molang.specs.Work.{Kind, State, conditional, work, begins, inReading, takes}
+use Rattle.molang.proofs.Trees.{free-leaf, decided, leaf-clear}
+use Rattle.molang.proofs.Conditional.{conditional-inert}
 use Rattle.ops.specs.Classes.{shares}
 use Rattle.nodes.specs.Store.{wd, RepT}
 use Rattle.nodes.specs.Slots.{isLeafAt}

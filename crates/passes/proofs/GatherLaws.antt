@@ -11,9 +11,10 @@ use lib.ListN.{length, set}
 use Rattle.molang.specs.Forest.{Token, Forest, nil, node, count, size}
 use Rattle.molang.specs.Message.{Result, ok, fail}
 use Rattle.molang.specs.Level.{Level, walk, through}
-use Rattle.molang.proofs.Trees.{free, isNil, count-size, free-leaf, free-tree}
+use Rattle.molang.specs.Free.{free, isNil}
+use Rattle.molang.specs.Work.{Kind, State, work, begins, inReading, takes, andThen}
+use Rattle.molang.proofs.Trees.{count-size, free-leaf, free-tree}
 use Rattle.molang.proofs.Inert.{Inert, through-free}
-use Rattle.molang.proofs.Work.{Kind, State, work, begins, inReading, takes, andThen}
 use Rattle.nodes.specs.Store.{wd, RepT}
 use Rattle.nodes.specs.Children.{Attached}
 use Rattle.nodes.specs.declared.frames.List.{List as Items}

@@ -9,9 +9,9 @@ use Rattle.molang.specs.Forest.{Token, Forest, nil, node, count, size}
 use Rattle.molang.specs.Message.{unaryWithoutOperand, fail}
 use Rattle.molang.specs.Level.{on, walk, through, Gathered, gathered, waiting, nothing}
 use Rattle.molang.specs.Unary.{returnStep, returnResume, returnFinish, returnLevel}
-use Rattle.molang.proofs.Trees.{isNil}
-use Rattle.molang.proofs.Return.{isReturn, return-inert}
-use Rattle.molang.proofs.Work.{Kind, returns, State, work, begins, inReading, takes, andThen}
+use Rattle.molang.specs.Free.{isNil, isReturn}
+use Rattle.molang.specs.Work.{Kind, returns, State, work, begins, inReading, takes, andThen}
+use Rattle.molang.proofs.Return.{return-inert}
 use Rattle.nodes.specs.declared.frames.List.{List as Items}
 use Rattle.levels.specs.Passes.{walkOf, movedTo, operators, Runs, returnPass, waits}
 use Rattle.levels.specs.Items.{Ahead}

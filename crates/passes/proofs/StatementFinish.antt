@@ -12,8 +12,8 @@ use Rattle.molang.specs.Forest.{Token, Forest, nil, node, bare, inOrder, count}
 use Rattle.molang.specs.Message.{ok}
 use Rattle.molang.specs.Level.{walk}
 use Rattle.molang.specs.Statements.{unsplit, after, inside, splitOf, statementFinish, statementLevel}
-use Rattle.molang.proofs.Trees.{isNil}
-use Rattle.molang.proofs.Work.{Kind, statements, State, work}
+use Rattle.molang.specs.Free.{isNil}
+use Rattle.molang.specs.Work.{Kind, statements, State, work}
 use Rattle.nodes.specs.Store.{wd, TokenAt, SegB, OutFrom, ends as ends-at, RepT, RepB, begins as begins-with, put, InArray, Owned, Free}
 use Rattle.nodes.specs.Children.{CanGive, Given}
 use Rattle.nodes.specs.declared.frames.List.{List as Items}

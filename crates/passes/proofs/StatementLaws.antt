@@ -17,9 +17,10 @@ use Rattle.molang.specs.Level.{on, into, stop, walk, through}
 use Rattle.molang.specs.Conditional.{isToken}
 use Rattle.molang.specs.Order.{lastOf}
 use Rattle.molang.specs.Statements.{Split, unsplit, after, inside, splitOf, isEntered, gather, endStatement, enterSplit, statementStep, statementResume, statementLevel}
-use Rattle.molang.proofs.Trees.{free, clear, isNil, some-none, free-leaf, free-tree}
-use Rattle.molang.proofs.Statements.{isSemicolon, split-clear, statement-free}
-use Rattle.molang.proofs.Work.{Kind, statements, State, work, begins, inReading, takes, andThen}
+use Rattle.molang.specs.Free.{free, clear, isNil, isSemicolon}
+use Rattle.molang.specs.Work.{Kind, statements, State, work, begins, inReading, takes, andThen}
+use Rattle.molang.proofs.Trees.{some-none, free-leaf, free-tree}
+use Rattle.molang.proofs.Statements.{split-clear, statement-free}
 use Rattle.molang.proofs.Walks.{onward, back, walk-onward}
 use Rattle.nodes.specs.Store.{wd, InArray, begins as begins-with, Seg, Inc}
 use Rattle.nodes.specs.Slots.{isTokenAt, Laid}

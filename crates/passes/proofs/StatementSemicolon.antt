@@ -15,9 +15,8 @@ use Rattle.molang.specs.Message
 use Rattle.molang.specs.Message.{Message}
 use Rattle.molang.specs.Level.{on, stop}
 use Rattle.molang.specs.Statements.{after, splitOf, endStatement}
-use Rattle.molang.proofs.Trees.{isNil}
-use Rattle.molang.proofs.Statements.{isSemicolon}
-use Rattle.molang.proofs.Work.{Kind, statements, State}
+use Rattle.molang.specs.Free.{isNil, isSemicolon}
+use Rattle.molang.specs.Work.{Kind, statements, State}
 use Rattle.nodes.specs.Store.{wd, TokenAt, Out, OutFrom, RepT, RepB, begins as begins-with, put, InArray, Free}
 use Rattle.nodes.specs.Slots.{Laid, Made}
 use Rattle.nodes.specs.Children.{CanGive}

@@ -11,9 +11,8 @@ use Rattle.molang.specs.Forest.{Token, Forest, nil, node, count, size}
 use Rattle.molang.specs.Level.{on}
 use Rattle.molang.specs.Statements.{Split, after, inside, splitOf, isEntered, enterSplit, statementStep}
 use Rattle.molang.specs.Order.{lastOf}
-use Rattle.molang.proofs.Trees.{isNil}
-use Rattle.molang.proofs.Statements.{isSemicolon}
-use Rattle.molang.proofs.Work.{Kind, statements, State, begins}
+use Rattle.molang.specs.Free.{isNil, isSemicolon}
+use Rattle.molang.specs.Work.{Kind, statements, State, begins}
 use Rattle.nodes.specs.Store.{wd, begins as begins-with}
 use Rattle.nodes.specs.declared.frames.List.{List as Items}
 use Rattle.nodes.proofs.Runs.{set-same, set-other, set-long}

@@ -12,10 +12,12 @@ use Rattle.molang.specs.Operator.{operand, operator, minus, unknown, beforeMinu
 use Rattle.molang.specs.Forest.{Token, Forest, nil, node, renamed, bare, count, size}
 use Rattle.molang.specs.Message.{Result, ok, fail, negateWithoutOperand, notWithoutOperand, unknownOperation}
 use Rattle.molang.specs.Unary.{Unary, done, undone, minusAfter, notBefore, unaryLeaf, turned, unaryNode, unary, unaryPass}
-use Rattle.molang.proofs.Trees.{free, isNil, free-leaf, free-tree}
+use Rattle.molang.specs.Free.{free, isNil, isPrefix}
+use Rattle.molang.specs.Work.{right, before, fromRight, work, begins, inReading, takes, pass, unaries, andThen}
+use Rattle.molang.proofs.Trees.{free-leaf, free-tree}
 use Rattle.molang.proofs.Booleans.{or-neither}
-use Rattle.molang.proofs.Unary.{isPrefix, unary-free}
-use Rattle.molang.proofs.Work.{right, before, fromRight, leftOf, work, begins, inReading, takes, pass, unaries, andThen, pass-begins}
+use Rattle.molang.proofs.Unary.{unary-free}
+use Rattle.molang.proofs.Work.{leftOf, pass-begins}
 use Rattle.levels.specs.Passes as passes
 use Rattle.levels.specs.Passes.{operators, Covers}
 use Rattle.levels.specs.declared.turns.Pass.the-variants.{Unary as UnaryPass}

@@ -14,8 +14,8 @@ use Rattle.molang.specs.Operator
 use Rattle.molang.specs.Operator.{operand, operator, minus, unknown, beforeMinus, any, isOneOf, isQueryOrLoop, isMathCall}
 use Rattle.molang.specs.Forest.{Token, Forest, nil, node, renamed, bare, count, size}
 use Rattle.molang.specs.Message.{fail, negateWithoutOperand, notWithoutOperand, unknownOperation}
-use Rattle.molang.proofs.Trees.{isNil}
-use Rattle.molang.proofs.Work.{right, unaries, work, fromRight}
+use Rattle.molang.specs.Free.{isNil}
+use Rattle.molang.specs.Work.{right, unaries, work, fromRight}
 use Rattle.ops.specs.Classes.{passClasses, ownClasses, inClass, bitAt}
 use Rattle.ops.specs.Operators.{meant}
 use Rattle.ops.specs.declared.BeforeMinus.{BeforeMinus as Before}

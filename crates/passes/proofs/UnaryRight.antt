@@ -9,9 +9,8 @@ use native.Mathlib.Omega.{arith}
 use native.Mathlib.Nat.{le-refl}
 use lib.ListN.{length, set}
 use Rattle.molang.specs.Forest.{Token, Forest, nil, node, count}
-use Rattle.molang.proofs.Trees.{isNil}
-use Rattle.molang.proofs.Unary.{isPrefix}
-use Rattle.molang.proofs.Work.{Kind, State, Right, right, unaries}
+use Rattle.molang.specs.Free.{isNil, isPrefix}
+use Rattle.molang.specs.Work.{Kind, State, Right, right, unaries}
 use Rattle.ops.specs.Classes.{shares}
 use Rattle.nodes.specs.Store.{wd, SegB, RepT, RepB, begins, put}
 use Rattle.nodes.specs.Slots.{isLeafAt}

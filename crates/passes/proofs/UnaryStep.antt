@@ -6,7 +6,7 @@ use mathlib.Core.List.{List}
 use native.Mathlib.Omega.{arith}
 use native.Mathlib.Nat.{le-refl}
 use Rattle.molang.specs.Forest.{Forest, count, size}
-use Rattle.molang.proofs.Work.{right, unaries, work, begins}
+use Rattle.molang.specs.Work.{right, unaries, work, begins}
 use Rattle.nodes.specs.declared.frames.List.{List as Items}
 use Rattle.levels.specs.Passes.{walkOf, movedTo, waits}
 use Rattle.levels.specs.Turns.{SameList, Within, afresh, TurnTo, goes, enters, ends, fails, Turned}

@@ -7,8 +7,8 @@ use mathlib.Core.List.{List, [], _∷_}
 use lib.ListN.{length, set}
 use Rattle.molang.specs.Operator.{leftBracket, arrayVariable, array}
 use Rattle.molang.specs.Calls.{unindexed}
-use Rattle.molang.proofs.Arrays.{isArrayName}
-use Rattle.molang.proofs.Work.{arrays}
+use Rattle.molang.specs.Free.{isArrayName}
+use Rattle.molang.specs.Work.{arrays}
 use Rattle.ops.specs.Classes.{bitAt}
 use Rattle.words.specs.Fields.{withOperator}
 use Rattle.nodes.specs.Store.{wd, Chain, Inc, Out, OffNext, onto}

@@ -7,8 +7,7 @@ use mathlib.Core.List.{List}
 use lib.ListN.{length, set}
 use Rattle.molang.specs.Operator.{semicolon}
 use Rattle.molang.specs.Statements.{isEntered}
-use Rattle.molang.proofs.Trees.{clear}
-use Rattle.molang.proofs.Statements.{isSemicolon}
+use Rattle.molang.specs.Free.{clear, isSemicolon}
 use Rattle.nodes.specs.Store.{wd}
 use Rattle.nodes.specs.Slots.{opAt, Made}
 use Rattle.nodes.specs.Children.{CanGive, Given}

@@ -9,9 +9,8 @@ use Rattle.molang.specs.Operator.{isOneOf}
 use Rattle.molang.specs.Forest.{Token, Forest, nil, node}
 use Rattle.molang.specs.Level.{gathered}
 use Rattle.molang.specs.Calls.{CallKind, calls as isCall}
-use Rattle.molang.proofs.Trees.{clear}
-use Rattle.molang.proofs.Return.{isReturn}
-use Rattle.molang.proofs.Work.{Kind, calls, returns, binary, State}
+use Rattle.molang.specs.Free.{clear, isReturn}
+use Rattle.molang.specs.Work.{Kind, calls, returns, binary, State}
 use Rattle.nodes.specs.Store.{RepT}
 use Rattle.nodes.specs.declared.frames.List.{List as Items}
 use Rattle.ops.specs.declared.classes.TokenClasses.{TokenClasses}

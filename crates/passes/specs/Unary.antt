@@ -9,9 +9,8 @@ use mathlib.Core.List.{List}
 use lib.ListN.{length, set}
 use Rattle.molang.specs.Operator.{negate, add}
 use Rattle.molang.specs.Forest.{Token, Forest, nil, node, count, size}
-use Rattle.molang.proofs.Trees.{isNil}
-use Rattle.molang.proofs.Unary.{isPrefix}
-use Rattle.molang.proofs.Work.{unaries, right, fromRight}
+use Rattle.molang.specs.Free.{isNil, isPrefix}
+use Rattle.molang.specs.Work.{unaries, right, fromRight}
 use Rattle.nodes.specs.Store.{wd, RepT}
 use Rattle.nodes.specs.Slots.{opAt, isLeafAt, Made}
 use Rattle.nodes.specs.Children.{Attached}

@@ -13,8 +13,8 @@ use Rattle.molang.specs.Operator.{memberAccessor, leftBrace, leftBracket, leftP
 use Rattle.molang.specs.Forest.{Token, Forest, nil, node, inOrder}
 use Rattle.molang.specs.Message.{Message, leadingMemberAccessor, closingMismatch, sectionNotClosed, fail, closer}
 use Rattle.molang.specs.Sections.{withMember, members, Open, section, placed, position, outermost, Walked, going, mismatch, closing, bracket, sections}
+use Rattle.molang.specs.Free.{flat}
 use Rattle.molang.proofs.Trees.{both, and-true-true}
-use Rattle.molang.proofs.Sections.{flat}
 use Rattle.ops.specs.Operators.{isOpener}
 use Rattle.ops.specs.Classes.{passClasses, ownClasses, inClass}
 use Rattle.ops.proofs.OperatorLaws.{false-at}

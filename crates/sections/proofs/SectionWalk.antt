@@ -11,7 +11,7 @@ use lib.ListN.{length}
 use Rattle.molang.specs.Forest.{Token, Forest, nil, node, inOrder, count}
 use Rattle.molang.specs.Message.{Message}
 use Rattle.molang.specs.Sections.{Open, outside, position, Walked, going, mismatch, sections}
-use Rattle.molang.proofs.Sections.{flat}
+use Rattle.molang.specs.Free.{flat}
 use Rattle.nodes.specs.Store.{wd, Seg, RepF, RepT, Kept}
 use Rattle.nodes.proofs.Runs.{seg-keep}
 use Rattle.nodes.proofs.Store.{rep-le, rep-count, tree-first, back-count}

@@ -11,7 +11,7 @@ use Rattle.molang.specs.Operator.{memberAccessor}
 use Rattle.molang.specs.Forest.{Token, Forest, nil, node, leaves}
 use Rattle.molang.specs.Message.{Message, Result, ok, fail}
 use Rattle.molang.specs.Sections.{withMember, members, Open, outside, section, position, outermost, Walked, going, mismatch, closing, bracket, sections}
-use Rattle.molang.proofs.Sections.{flat}
+use Rattle.molang.specs.Free.{flat}
 use Rattle.ops.specs.Operators.{isOpener}
 use Rattle.nodes.specs.Store.{wd, slotStart, SegB, RepT, RepB, InArray, Free, Kept}
 use Rattle.levels.specs.Failures.{Tells, TellsMismatch, TellsUnclosed}
