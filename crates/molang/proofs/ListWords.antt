@@ -1,7 +1,7 @@
 -- The words of legal tokens answer none of 8-11, and what is written of a legal tree is legal: what stands between the writer and a second
 -- reading.
 use Prim.Native.Nat.{ℕ, suc, _+_, _*_, _/_, _%_, _^_, _≤_}
-use mathlib.Core.Path.{_≡_, refl, _∙_}
+use mathlib.Core.Path.{_≡_, refl, ap, _∙_}
 use mathlib.Core.Bool.{Bool, true, false, false≢true}
 use mathlib.Core.List.{List, [], _∷_, _++_}
 use mathlib.Core.Option.{Option, none, some}
@@ -11,10 +11,10 @@ use borrow.Author.Tests.{ne-eqb}
 use Rattle.molang.specs.Operator.{isBracket}
 use Rattle.molang.specs.Forest.{Token, Forest, nil, node, bare, count, size}
 use Rattle.molang.specs.Read.{uses}
-use Rattle.molang.specs.Words.{word, tokenWords, Legal, listWords, treeWords, Field, operatorField, startField, endField, upperField, lowerField, wordFault, lowFault, variantAfter, nextInToken, wordsRefusal}
+use Rattle.molang.specs.Words.{word, tokenWords, Legal, listWords, treeWords, Field, operatorField, startField, endField, upperField, lowerField, wordFault, lowFault, variantAfter, nextInToken, withPlace, wordsRefusal}
 use Rattle.molang.specs.Write.{openerFor, closerFor, standsAlone, standsLeft, standsRight, operandTokens, written}
 use Rattle.molang.specs.WriteEntry.{nextInNode, Shape, shapeAfter, continues, treeFault}
-use Rattle.molang.proofs.Trees.{some-none}
+use Rattle.molang.proofs.FirstFailure.{first-none, passed, after-none}
 use Rattle.molang.proofs.Words.{LegalTokens, noTokens, token, LegalTrees, noTrees, legalTree}
 use Rattle.molang.proofs.TreeWords.{tree-unfaulted}
 use Rattle.molang.proofs.Writing.{written-none, written-one, written-two, written-more}
@@ -23,19 +23,19 @@ use Rattle.molang.proofs.Writing.{written-none, written-one, written-tw
 tree-word : (i : ℕ) (field : Field) (v : ℕ) (s : Shape) (w : ℕ) (ws : List ℕ) → treeFault i field v s (w ∷ ws) ≡ none
     → (wordFault field v w ≡ none) × (treeFault (suc i) (nextInNode field) (variantAfter field v w) (shapeAfter field w s) ws ≡ none)
 unfolding treeFault continues
-tree-word i field v s w ws h = split (wordFault field v w) (continues field v s w) refl refl
+tree-word i field v s w ws h =
+    let x = passed (continues field v s w) i _ h in
+    (split (wordFault field v w) refl (x .0), first-none _ _ (x .1) .0)
   where
-    split : (o : Option ℕ) (b : Bool) → wordFault field v w ≡ o → continues field v s w ≡ b
-        → (wordFault field v w ≡ none) × (treeFault (suc i) (nextInNode field) (variantAfter field v w) (shapeAfter field w s) ws ≡ none)
-    split o false e f = some-none (rw (f, treeFault) at h)
-    split none true e f = (e, rw (f, treeFault) at h)
-    split (some n) true e f = absurd (false≢true (rw (e, continues) at f))
+    split : (o : Option ℕ) → wordFault field v w ≡ o → continues field v s w ≡ true → wordFault field v w ≡ none
+    split none e f = e
+    split (some n) e f = absurd (false≢true (rw (e, continues) at f))
 
--- Of a list, a word without fault leaves the answer to the words after it.
-list-word : (i : ℕ) (field : Field) (v w : ℕ) (ws : List ℕ) → wordFault field v w ≡ none
+-- In a list, a word without fault leaves the answer to the words after it.
+pub list-word : (i : ℕ) (field : Field) (v w : ℕ) (ws : List ℕ) → wordFault field v w ≡ none
     → wordsRefusal i field v (w ∷ ws) ≡ wordsRefusal (suc i) (nextInToken field) (variantAfter field v w) ws
 unfolding wordsRefusal
-list-word i field v w ws h = rw (h, wordsRefusal) refl
+list-word i field v w ws h = after-none (withPlace i (wordFault field v w)) _ (ap (withPlace i) h)
 
 -- A legal token is a tree of one node, whose words have no fault; so they answer nothing in a list either.
 token-unrefused : (k : Token) → Legal k → (i v : ℕ) (ws : List ℕ) → ((i v : ℕ) → wordsRefusal i operatorField v ws ≡ none)

@@ -8,6 +8,7 @@ use lib.Dec.{eqb}
 use Rattle.molang.specs.Operator
 use Rattle.molang.specs.Operator.{isOneOf, between, isMathCall, isBracket}
 use Rattle.molang.specs.Forest.{Token, Forest, nil, node, size}
+use Rattle.molang.specs.FirstFailure.{must, firstOf}
 
 -- Where a node stands: as second child of 59, under a math call, or elsewhere.
 pub data Place : Type 0 where
@@ -65,10 +66,7 @@ placeOf (some p) i = placeUnder p i
 unfoldable pub unplain : Option Token → ℕ → ℕ → Forest → Option ℕ
 unplain p i n nil = none
 unplain p i n (node k cs rest) =
-    elim (plainForm (placeOf p i) k cs) [
-      | false ↦ some n
-      | true ↦ elim (unplain (some k) 0 (suc n) cs) [ some m ↦ some m | none ↦ unplain p (suc i) (suc n + size cs) rest ]
-    ]
+    firstOf (must (plainForm (placeOf p i) k cs) n ∷ unplain (some k) 0 (suc n) cs ∷ unplain p (suc i) (suc n + size cs) rest ∷ [])
 
 -- Answer 13's place in the tree k over cs, if it is not plain.
 unfoldable pub unplainAt : Token → Forest → Option ℕ

@@ -5,7 +5,7 @@ use mathlib.Core.Bool.{Bool, true, false, _||_, _&&_, not, true≢false, false�
 use mathlib.Core.List.{List, [], _∷_, _++_}
 use mathlib.Core.Option.{Option, none, some}
 use native.Mathlib.Nat.{add-zero}
-use Rattle.molang.specs.Words.{lowOf, tokenOf}
+use Rattle.molang.specs.Words.{lowOf, tokenOf, withNumber}
 use Rattle.words.specs.Fields.{operatorOf}
 use native.Mathlib.Numerals.{add-one}
 use native.Mathlib.Omega.{arith}
@@ -20,48 +20,45 @@ use Rattle.molang.specs.Operator.{between, isMathCall, isBracket}
 use Rattle.molang.specs.Forest.{Token, Forest, nil, node, count, size}
 use Rattle.molang.specs.Plain as plain
 use Rattle.molang.specs.Plain.{isRightOfQuestion, placeUnder, placeOf, plainForm, isPlainBinary, unplain, unplainAt}
-use Rattle.molang.specs.Write.{standsAlone, standsLeft, standsRight, operandCount, writtenCount}
+use Rattle.molang.specs.FirstFailure.{must, firstOf}
+use Rattle.molang.specs.Write.{closerFor, standsAlone, standsLeft, standsRight, operandTokens, written}
+use Rattle.molang.proofs.FirstFailure.{after-none, last-one, in-parts, behind}
 use Rattle.molang.proofs.Words.{beside}
+use Rattle.molang.proofs.Writing.{written-none, written-one, written-two, operand-length, written-length}
 use Rattle.molang.proofs.Trees.{decided, either}
 use Rattle.write.specs.declared.plain.Place.{Place}
 use Rattle.write.specs.declared.plain.Place.the-variants.{Enclosed, UnderMathCall, LeftOfComma, RightOfQuestion, Operand}
-use Rattle.write.specs.declared.plain.Judged.{Judged}
-use Rattle.write.specs.declared.plain.Judged.the-variants.{Plain, Unplain}
-use Rattle.molang.specs.WriteEntry.{mostNodes, treesOf}
+use Rattle.molang.specs.WriteEntry.{mostNodes, treesOf, writtenTokens, WriteTold, tokens, unwritten, writeTold}
 use Rattle.write.proofs.RowLaws.{Opened, opened, shaped-room, shaped-length}
 use Rattle.write.specs.Answers.{judgement}
 use Rattle.write.specs.Shaped.{Shaped, noTrees, aNode, mostChildren, OneTree}
 use Rattle.write.specs.Places.{formPlace, onlyPlace, leftPlace, rightPlace, isPrefix, plainBy, isSpared, isPaired, ifTrue, tokensFor}
-
--- n if the test fails, else what comes later; what is found first, else what comes later.
-unfoldable pub unlessPlain : Bool → ℕ → Option ℕ → Option ℕ
-unlessPlain false n later = some n
-unlessPlain true n later = later
-
-unfoldable pub orLater : Option ℕ → Option ℕ → Option ℕ
-orLater none later = later
-orLater (some m) later = some m
 
 -- The number of the first node that is not plain in a row of trees at these places, numbered from n.
 unfoldable pub rowUnplain : List Place → ℕ → Forest → Option ℕ
 rowUnplain [] n f = none
 rowUnplain (p ∷ ps) n nil = none
 rowUnplain (p ∷ ps) n (node k cs rest) =
-    unlessPlain (plainForm (formPlace p) k cs) n (orLater (unplain (some k) 0 (suc n) cs) (rowUnplain ps (suc n + size cs) rest))
+    firstOf (must (plainForm (formPlace p) k cs) n ∷ unplain (some k) 0 (suc n) cs ∷ rowUnplain ps (suc n + size cs) rest ∷ [])
+
+-- The tokens of an operand at a place.
+abbrev operandLength : Place → Token → Forest → ℕ
+operandLength p k cs = length (operandTokens (not (isPaired p (k .op) (count cs))) k (written k cs) [])
 
 -- The tokens that such a row is written with.
 unfoldable pub rowCount : List Place → Forest → ℕ
 rowCount [] f = 0
 rowCount (p ∷ ps) nil = 0
-rowCount (p ∷ ps) (node k cs rest) = operandCount (not (isPaired p (k .op) (count cs))) (writtenCount k cs) + rowCount ps rest
+rowCount (p ∷ ps) (node k cs rest) = operandLength p k cs + rowCount ps rest
 
-unfoldable pub judgedBy : Option ℕ → ℕ → Judged
-judgedBy none tokens = Plain tokens
-judgedBy (some n) tokens = Unplain n
+-- What is told where this place of answer 13 is found, or so many tokens are written.
+unfoldable pub judgedBy : Option ℕ → ℕ → WriteTold
+judgedBy none count = tokens count
+judgedBy (some n) count = unwritten 13 n
 
 -- What is answered where so many tokens and nodes are behind and the row is to come.
-unfoldable pub judging : List Place → ℕ → ℕ → Forest → Judged
-judging ps tokens n f = judgedBy (rowUnplain ps n f) (tokens + rowCount ps f)
+unfoldable pub judging : List Place → ℕ → ℕ → Forest → WriteTold
+judging ps count n f = judgedBy (rowUnplain ps n f) (count + rowCount ps f)
 
 -- The children of k from the i-th on stand at these places.
 pub data Stand (k : Token) : ℕ → List Place → Forest → Type 0 where
@@ -69,37 +66,21 @@ pub data Stand (k : Token) : ℕ → List Place → Forest → Type 0 where
   stands : {i : ℕ} {q : Place} {qs : List Place} {x : Token} {xs rest : Forest} → formPlace q ≡ placeUnder k i → Stand k (suc i) qs rest
       → Stand k i (q ∷ qs) (node x xs rest)
 
--- The definition's search through a list of trees, in these terms.
-unplain-by : (b : Bool) (n : ℕ) (o later : Option ℕ) (s : Option ℕ)
-    → s ≡ elim b [ false ↦ some n | true ↦ elim o [ some m ↦ some m | none ↦ later ] ]
-    → s ≡ unlessPlain b n (orLater o later)
-unfolding unlessPlain orLater
-unplain-by false n o later s e = e
-unplain-by true n none later s e = e
-unplain-by true n (some m) later s e = e
-
-pub unplain-node : (p : Option Token) (i n : ℕ) (k : Token) (cs rest : Forest)
-    → unplain p i n (node k cs rest)
-    ≡ unlessPlain (plainForm (placeOf p i) k cs) n (orLater (unplain (some k) 0 (suc n) cs) (unplain p (suc i) (suc n + size cs) rest))
-unfolding unplain
-unplain-node p i n k cs rest = unplain-by (plainForm (placeOf p i) k cs) n (unplain (some k) 0 (suc n) cs) _ _ refl
-
-later-later : (b : Bool) (n : ℕ) (o u z : Option ℕ) → unlessPlain b n (orLater o (orLater u z)) ≡ orLater (unlessPlain b n (orLater o u)) z
-unfolding unlessPlain orLater
-later-later false n o u z = refl
-later-later true n none u z = refl
-later-later true n (some m) u z = refl
-
 -- The children first, then the trees after them.
 pub row-beside : {k : Token} {i : ℕ} {qs : List Place} {cs : Forest} → Stand k i qs cs → (ps : List Place) (n : ℕ) (rest : Forest)
-    → rowUnplain (qs ++ ps) n (beside cs rest) ≡ orLater (unplain (some k) i n cs) (rowUnplain ps (n + size cs) rest)
-unfolding rowUnplain beside size placeOf unplain orLater
-row-beside nowhere ps n rest = rw add-zero refl
+    → rowUnplain (qs ++ ps) n (beside cs rest) ≡ firstOf (unplain (some k) i n cs ∷ rowUnplain ps (n + size cs) rest ∷ [])
+unfolding rowUnplain beside size placeOf unplain
+row-beside nowhere ps n rest = rw add-zero (sym (after-none none (rowUnplain ps n rest) refl))
 row-beside {k = k} {i = i} (stands {q = q} {qs = qs} {x = x} {xs = xs} {rest = more} here later) ps n rest =
     let nodes : n + (1 + size xs + size more) ≡ suc n + size xs + size more = omega arith in
-    rw (here, row-beside later ps (suc n + size xs) rest, unplain-node (some k) i n x xs more, nodes)
-    (later-later (plainForm (placeUnder k i) x xs) n (unplain (some x) 0 (suc n) xs) (unplain (some k) (suc i) (suc n + size xs) more)
-    (rowUnplain ps (suc n + size xs + size more) rest))
+    let root : Option ℕ = must (plainForm (placeUnder k i) x xs) n in
+    let below = unplain (some x) 0 (suc n) xs in
+    let beside-it = unplain (some k) (suc i) (suc n + size xs) more in
+    let after = rowUnplain ps (suc n + size xs + size more) rest in
+    rw (here, row-beside later ps (suc n + size xs) rest, nodes)
+    (behind root (below ∷ firstOf (beside-it ∷ after ∷ []) ∷ []) (below ∷ beside-it ∷ after ∷ [])
+    (behind below (firstOf (beside-it ∷ after ∷ []) ∷ []) (beside-it ∷ after ∷ []) (last-one (firstOf (beside-it ∷ after ∷ []))))
+    ∙ in-parts (root ∷ below ∷ beside-it ∷ []) (after ∷ []))
 
 count-beside : {k : Token} {i : ℕ} {qs : List Place} {cs : Forest} → Stand k i qs cs → (ps : List Place) (rest : Forest)
     → rowCount (qs ++ ps) (beside cs rest) ≡ rowCount qs cs + rowCount ps rest
@@ -108,29 +89,29 @@ count-beside nowhere ps rest = omega arith
 count-beside (stands here later) ps rest = omega (arith, count-beside later ps rest)
 
 -- A plain node is behind: its children come next, each at its place.
-judged-on : (p : Place) (ps qs : List Place) (tokens n : ℕ) (k : Token) (cs rest : Forest) → plainForm (formPlace p) k cs ≡ true
+judged-on : (p : Place) (ps qs : List Place) (sum n : ℕ) (k : Token) (cs rest : Forest) → plainForm (formPlace p) k cs ≡ true
     → Stand k 0 qs cs
-    → operandCount (not (isPaired p (k .op) (count cs))) (writtenCount k cs) ≡ tokensFor p (k .op) (count cs) + rowCount qs cs
-    → judging (p ∷ ps) tokens n (node k cs rest)
-    ≡ judging (qs ++ ps) (tokens + tokensFor p (k .op) (count cs)) (suc n) (beside cs rest)
-unfolding judging rowUnplain rowCount unlessPlain
-judged-on p ps qs tokens n k cs rest plain stand counted =
+    → operandLength p k cs ≡ tokensFor p (k .op) (count cs) + rowCount qs cs
+    → judging (p ∷ ps) sum n (node k cs rest)
+    ≡ judging (qs ++ ps) (sum + tokensFor p (k .op) (count cs)) (suc n) (beside cs rest)
+unfolding judging rowUnplain rowCount firstOf must
+judged-on p ps qs sum n k cs rest plain stand counted =
     let later = row-beside stand ps (suc n) rest in
-    let all : tokens + (operandCount (not (isPaired p (k .op) (count cs))) (writtenCount k cs) + rowCount ps rest)
-    ≡ tokens + tokensFor p (k .op) (count cs) + rowCount (qs ++ ps) (beside cs rest) = omega (arith, count-beside stand ps rest)
+    let all : sum + (operandLength p k cs + rowCount ps rest)
+    ≡ sum + tokensFor p (k .op) (count cs) + rowCount (qs ++ ps) (beside cs rest) = omega (arith, count-beside stand ps rest)
     in
     rw (plain, ← later, all) refl
 
 -- After the last.
-pub judging-done : (tokens n : ℕ) → judging [] tokens n nil ≡ Plain tokens
+pub judging-done : (count n : ℕ) → judging [] count n nil ≡ tokens count
 unfolding judging rowUnplain rowCount judgedBy
-judging-done tokens n = rw add-zero refl
+judging-done count n = rw add-zero refl
 
 -- At a node that is not plain.
-pub judging-unplain : (p : Place) (ps : List Place) (tokens n : ℕ) (k : Token) (cs rest : Forest) → plainForm (formPlace p) k cs ≡ false
-    → judging (p ∷ ps) tokens n (node k cs rest) ≡ Unplain n
-unfolding judging rowUnplain unlessPlain judgedBy
-judging-unplain p ps tokens n k cs rest e = rw e refl
+pub judging-unplain : (p : Place) (ps : List Place) (sum n : ℕ) (k : Token) (cs rest : Forest) → plainForm (formPlace p) k cs ≡ false
+    → judging (p ∷ ps) sum n (node k cs rest) ≡ unwritten 13 n
+unfolding judging rowUnplain firstOf must judgedBy
+judging-unplain p ps sum n k cs rest e = rw e refl
 
 -- The first tree's operator, 0 where there is none.
 unfoldable pub firstOperator : Forest → ℕ
@@ -198,18 +179,16 @@ module _ (x : Token) (xs : Forest) where
       (eqb (k .op) Operator.conditional) RightOfQuestion Operand (λ e. rw e refl) (λ e. rw e refl))
 
 -- Before the first node.
-pub judgement-by : (o : Option ℕ) (n : ℕ) (j : Judged) → j ≡ elim o [ some m ↦ Unplain m | none ↦ Plain n ] → j ≡ judgedBy o n
-unfolding judgedBy
-judgement-by none n j e = e
-judgement-by (some m) n j e = e
+pub judgement-by : (o : Option ℕ) (f : Forest) → writeTold (withNumber 13 o) f ≡ judgedBy o (length (writtenTokens f))
+unfolding writeTold judgedBy
+judgement-by none f = refl
+judgement-by (some n) f = refl
 
 pub judging-start : (k : Token) (cs rest : Forest) → judging (Enclosed ∷ []) 0 0 (node k cs rest) ≡ judgement (node k cs rest)
-unfolding judging rowUnplain rowCount judgement unplainAt placeOf unplain operandCount
+unfolding judging rowUnplain rowCount judgement unplainAt placeOf unplain operandTokens writtenTokens
 judging-start k cs rest =
-    let all : 0 + (operandCount (not (isPaired Enclosed (k .op) (count cs))) (writtenCount k cs) + 0) ≡ writtenCount k cs =
-    rw (unpaired-enclosed k cs) (omega arith)
-    in
-    rw (all, ← unplain-node none 0 0 k cs nil) (sym (judgement-by (unplain none 0 0 (node k cs nil)) (writtenCount k cs) _ refl))
+    let all : 0 + (operandLength Enclosed k cs + 0) ≡ length (written k cs []) = rw (unpaired-enclosed k cs) (omega arith) in
+    rw all (sym (judgement-by (unplainAt k cs) (node k cs rest)))
 
 -- Who stands over two children in a plain tree is no bracket and no math call.
 abbrev overTwo : ℕ → Bool
@@ -283,55 +262,60 @@ unfolding rightPlace placeUnder
 right-place k e = rw (e, placeUnder) (right-by (eqb (k .op) Operator.conditional))
 
 -- The tokens of a node are its own and its children's.
-pair-count : (b : Bool) (n : ℕ) → operandCount (not b) n ≡ n + ifTrue b 2
-unfolding operandCount
-pair-count true n = refl
-pair-count false n = omega arith
+pair-length : (b : Bool) (k : Token) (cs : Forest) → length (operandTokens (not b) k (written k cs) []) ≡ length (written k cs []) + ifTrue b 2
+unfolding operandTokens
+pair-length true k cs = omega (arith, written-length k cs (closerFor k ∷ []))
+pair-length false k cs = omega arith
 
 module _ (p : Place) (k : Token) where
-  counted-leaf : operandCount (not (isPaired p (k .op) 0)) (writtenCount k nil) ≡ tokensFor p (k .op) 0 + rowCount [] nil
-  unfolding writtenCount tokensFor rowCount
-  counted-leaf =
-      pair-count (isPaired p (k .op) 0) _
-      ∙ decided (λ n. n + ifTrue (isPaired p (k .op) 0) 2 ≡ 1 + ifTrue (isBracket (k .op)) 1 + ifTrue (isPaired p (k .op) 0) 2 + 0)
-      (isBracket (k .op)) 2 1 (λ e. rw e (omega arith)) (λ e. rw e (omega arith))
+  -- A node's tokens with its pair, where so many stand inside it.
+  with-own : (cs : Forest) (inside : ℕ) → length (written k cs []) ≡ 1 + ifTrue (isBracket (k .op)) 1 + inside
+      → operandLength p k cs ≡ tokensFor p (k .op) (count cs) + inside
+  unfolding tokensFor
+  with-own cs inside e = omega (arith, pair-length (isPaired p (k .op) (count cs)) k cs)
+
+  counted-leaf : length (written k nil []) ≡ 1 + ifTrue (isBracket (k .op)) 1 + rowCount [] nil
+  unfolding rowCount
+  counted-leaf = split (isBracket (k .op)) refl
+    where
+      split : (b : Bool) → isBracket (k .op) ≡ b → length (written k nil []) ≡ 1 + ifTrue (isBracket (k .op)) 1 + 0
+      split true e = rw (written-none true k [] e, e) refl
+      split false e = rw (written-none false k [] e, e) refl
 
   counted-only : (x : Token) (xs : Forest)
-      → operandCount (not (isPaired p (k .op) 1)) (writtenCount k (node x xs nil))
-      ≡ tokensFor p (k .op) 1 + rowCount (onlyPlace (k .op) ∷ []) (node x xs nil)
-  unfolding writtenCount tokensFor rowCount operandCount
-  counted-only x xs =
-      pair-count (isPaired p (k .op) 1) _
-      ∙ decided
-      (λ n. n + ifTrue (isPaired p (k .op) 1) 2
-      ≡ 1 + ifTrue (isBracket (k .op)) 1 + ifTrue (isPaired p (k .op) 1) 2
-      + (operandCount (not (isPaired (onlyPlace (k .op)) (x .op) (count xs))) (writtenCount x xs) + 0))
-      (isBracket (k .op)) (writtenCount x xs + 2) (1 + operandCount (standsAlone x xs) (writtenCount x xs))
-      (λ e. rw (unpaired-bracket x xs k e, e) (omega arith))
-      (λ e. rw (unpaired-only x xs k e, e) (omega arith))
+      → length (written k (node x xs nil) []) ≡ 1 + ifTrue (isBracket (k .op)) 1 + rowCount (onlyPlace (k .op) ∷ []) (node x xs nil)
+  unfolding rowCount operandTokens
+  counted-only x xs = split (isBracket (k .op)) refl
+    where
+      split : (b : Bool) → isBracket (k .op) ≡ b
+          → length (written k (node x xs nil) []) ≡ 1 + ifTrue (isBracket (k .op)) 1 + (operandLength (onlyPlace (k .op)) x xs + 0)
+      split true e =
+          rw (written-one true k x xs [] e, unpaired-bracket x xs k e, e) (omega (arith, written-length x xs (closerFor k ∷ [])))
+      split false e = rw (written-one false k x xs [] e, unpaired-only x xs k e, e) (omega arith)
 
   counted-two : (x y : Token) (xs ys : Forest) → isBracket (k .op) ≡ false
-      → operandCount (not (isPaired p (k .op) 2)) (writtenCount k (node x xs (node y ys nil)))
-      ≡ tokensFor p (k .op) 2 + rowCount (leftPlace (k .op) ∷ rightPlace (k .op) ∷ []) (node x xs (node y ys nil))
-  unfolding writtenCount tokensFor rowCount
+      → length (written k (node x xs (node y ys nil)) [])
+      ≡ 1 + ifTrue (isBracket (k .op)) 1 + rowCount (leftPlace (k .op) ∷ rightPlace (k .op) ∷ []) (node x xs (node y ys nil))
+  unfolding rowCount
   counted-two x y xs ys e =
-      pair-count (isPaired p (k .op) 2) _ ∙ rw (unpaired-left x xs k, unpaired-right y ys k, e) (omega arith)
+      rw (written-two k x xs y ys [], unpaired-left x xs k, unpaired-right y ys k, e)
+      (omega (arith, operand-length (standsLeft k x xs) x xs (k ∷ operandTokens (standsRight k y ys) y (written y ys) [])))
 
   -- Where the children of a plain node stand, by their number, and that their tokens and its own are all.
   abbrev pub Goes : List Place → Forest → Type 0
   Goes qs cs =
       Stand k 0 qs cs
-      × (operandCount (not (isPaired p (k .op) (count cs))) (writtenCount k cs) ≡ tokensFor p (k .op) (count cs) + rowCount qs cs)
+      × (operandLength p k cs ≡ tokensFor p (k .op) (count cs) + rowCount qs cs)
 
   pub on-none : (cs : Forest) → count cs ≡ 0 → Goes [] cs
   unfolding count
-  on-none nil e = (nowhere, counted-leaf)
+  on-none nil e = (nowhere, with-own nil _ counted-leaf)
   on-none (node x xs r) e = absurd (omega arith)
 
   pub on-one : (cs : Forest) → count cs ≡ 1 → Goes (onlyPlace (k .op) ∷ []) cs
   unfolding count
   on-one nil e = absurd (omega arith)
-  on-one (node x xs nil) e = (stands (only-place k) nowhere, counted-only x xs)
+  on-one (node x xs nil) e = (stands (only-place k) nowhere, with-own (node x xs nil) _ (counted-only x xs))
   on-one (node x xs (node y ys r)) e = absurd (omega arith)
 
   pub on-two : (cs : Forest) → plainForm (formPlace p) k cs ≡ true → count cs ≡ 2 → Goes (leftPlace (k .op) ∷ rightPlace (k .op) ∷ []) cs
@@ -339,8 +323,10 @@ module _ (p : Place) (k : Token) where
   on-two nil plain e = absurd (omega arith)
   on-two (node x xs nil) plain e = absurd (omega arith)
   on-two (node x xs (node y ys nil)) plain e =
-      let over = over-two p k x y xs ys plain in
-      (stands (left-place k (over .1)) (stands (right-place k (over .1)) nowhere), counted-two x y xs ys (over .0))
+      let over = over-two p k x y xs ys plain in (
+        stands (left-place k (over .1)) (stands (right-place k (over .1)) nowhere),
+        with-own (node x xs (node y ys nil)) _ (counted-two x y xs ys (over .0)),
+      )
   on-two (node x xs (node y ys (node z zs r))) plain e = absurd (omega arith)
 
 pub few-tokens : (p : Place) (op children : ℕ) → tokensFor p op children ≤ 4
@@ -357,12 +343,12 @@ pending waiting zero = []
 pending waiting (suc top) = getD waiting top Enclosed ∷ pending waiting top
 
 -- THE LOOP'S INVARIANT: the nodes before this one are plain, and the places of the trees that are still called for are on the stack.
-pub record Judging (tree : List ℕ) (waiting : List Place) (top tokens n : ℕ) : Type 0 where
+pub record Judging (tree : List ℕ) (waiting : List Place) (top sum n : ℕ) : Type 0 where
   pub within : 6 * n ≤ length tree
   pub shaped : Shaped mostChildren top (drop (6 * n) tree)
-  pub few : tokens ≤ 4 * n
+  pub few : sum ≤ 4 * n
   pub room : length waiting ≡ mostNodes
-  pub same : judging (pending waiting top) tokens n (treesOf (drop (6 * n) tree)) ≡ judgement (treesOf tree)
+  pub same : judging (pending waiting top) sum n (treesOf (drop (6 * n) tree)) ≡ judgement (treesOf tree)
 
 pending-set : (waiting : List Place) (top i : ℕ) (p : Place) → top ≤ i → pending (set waiting i p) top ≡ pending waiting top
 unfolding pending
@@ -388,17 +374,17 @@ judging-begins tree waiting one room e =
     }
 
 -- After the last.
-pub judging-ends : {tree : List ℕ} {waiting : List Place} {top tokens n : ℕ} → Judging tree waiting top tokens n → length tree / 6 ≤ n
-    → Plain tokens ≡ judgement (treesOf tree)
+pub judging-ends : {tree : List ℕ} {waiting : List Place} {top sum n : ℕ} → Judging tree waiting top sum n → length tree / 6 ≤ n
+    → tokens sum ≡ judgement (treesOf tree)
 unfolding pending treesOf
-judging-ends {tree = tree} {waiting = waiting} {top = top} {tokens = tokens} {n = n} j h =
+judging-ends {tree = tree} {waiting = waiting} {top = top} {sum = sum} {n = n} j h =
     let short : length tree ≤ 6 * n = omega (arith, shaped-length (j .shaped), length-drop (6 * n) tree) in
     let here : drop (6 * n) tree ≡ [] = drop-of-length-le tree short in
     let last : top ≡ 0 = omega (arith, shaped-room (j .shaped), ap length here) in
-    sym (judging-done tokens n) ∙ (rw (here, last) at (j .same))
+    sym (judging-done sum n) ∙ (rw (here, last) at (j .same))
 
 -- At a node: what stands there, and the ways on.
-module _ {tree : List ℕ} {waiting : List Place} {top tokens n : ℕ} (one : OneTree tree) (j : Judging tree waiting top tokens n)
+module _ {tree : List ℕ} {waiting : List Place} {top sum n : ℕ} (one : OneTree tree) (j : Judging tree waiting top sum n)
     (h : n < length tree / 6) where
   node-at : Opened mostChildren top (drop (6 * n) tree)
   node-at = opened (j .shaped) (rw length-drop (omega arith))
@@ -412,17 +398,17 @@ module _ {tree : List ℕ} {waiting : List Place} {top tokens n : ℕ} (one : On
   next-words = let six : 6 * n + 6 ≡ 6 * (n + 1) = omega arith in drop-drop 6 (6 * n) tree ∙ ap (λ (m : ℕ). drop m tree) six
 
 -- A turn of the loop: what stands at the node, as it was read.
-pub record Turn (tree : List ℕ) (waiting : List Place) (top tokens n op children first : ℕ) (p : Place) : Type 0 where
+pub record Turn (tree : List ℕ) (waiting : List Place) (top sum n op children first : ℕ) (p : Place) : Type 0 where
   pub one : OneTree tree
-  pub inv : Judging tree waiting top tokens n
+  pub inv : Judging tree waiting top sum n
   pub within : n < length tree / 6
   pub isOp : op ≡ operatorOf (getD tree (6 * n) 0)
   pub isCount : children ≡ lowOf (getD tree (6 * n + 5) 0)
   pub isFirst : first ≡ operatorOf (getD tree (6 * n + 6) 0)
   pub isPlace : p ≡ getD waiting (top - 1) Enclosed
 
-module _ {tree : List ℕ} {waiting : List Place} {top tokens n op children first : ℕ} {p : Place}
-    (t : Turn tree waiting top tokens n op children first p) where
+module _ {tree : List ℕ} {waiting : List Place} {top sum n op children first : ℕ} {p : Place}
+    (t : Turn tree waiting top sum n op children first p) where
   here : Opened mostChildren top (drop (6 * n) tree)
   here = node-at (t .one) (t .inv) (t .within)
 
@@ -448,7 +434,7 @@ module _ {tree : List ℕ} {waiting : List Place} {top tokens n op children firs
   here-plain : plainForm (formPlace p) (here .k) (here .cs) ≡ plainBy p op children first
   here-plain = plain-by p (here .k) (here .cs) (here .rest) ∙ rw (here-op, here-count, here-first)
 
-  still : judging (p ∷ pending waiting (top - 1)) tokens n (node (here .k) (here .cs) (here .rest)) ≡ judgement (treesOf tree)
+  still : judging (p ∷ pending waiting (top - 1)) sum n (node (here .k) (here .cs) (here .rest)) ≡ judgement (treesOf tree)
   unfolding pending
   still =
       let left : top ≡ suc (top - 1) = omega (arith, here .isTop) in
@@ -457,9 +443,9 @@ module _ {tree : List ℕ} {waiting : List Place} {top tokens n op children firs
       in
       rw (places, here .trees) at (t .inv .same)
 
-  pub judging-refused : plainBy p op children first ≡ false → Unplain n ≡ judgement (treesOf tree)
+  pub judging-refused : plainBy p op children first ≡ false → unwritten 13 n ≡ judgement (treesOf tree)
   judging-refused e =
-      sym (judging-unplain p (pending waiting (top - 1)) tokens n (here .k) (here .cs) (here .rest) (here-plain ∙ e)) ∙ still
+      sym (judging-unplain p (pending waiting (top - 1)) sum n (here .k) (here .cs) (here .rest) (here-plain ∙ e)) ∙ still
 
   later-shaped : {m : ℕ} → Shaped mostChildren m (drop 6 (drop (6 * n) tree)) → m ≡ children + (top - 1)
       → Shaped mostChildren (children + (top - 1)) (drop 6 (drop (6 * n) tree))
@@ -470,9 +456,9 @@ module _ {tree : List ℕ} {waiting : List Place} {top tokens n op children firs
       → length waiting' ≡ mostNodes
       → top' ≡ children + (top - 1)
       → pending waiting' top' ≡ qs ++ pending waiting (top - 1)
-      → Judging tree waiting' top' (tokens + tokensFor p op children) (n + 1)
+      → Judging tree waiting' top' (sum + tokensFor p op children) (n + 1)
   passed {waiting' = waiting'} qs plain goes room height places =
-      let on = judged-on p (pending waiting (top - 1)) qs tokens n (here .k) (here .cs) (here .rest) (here-plain ∙ plain) (goes .0) (goes .1) in
+      let on = judged-on p (pending waiting (top - 1)) qs sum n (here .k) (here .cs) (here .rest) (here-plain ∙ plain) (goes .0) (goes .1) in
       record {
         within = omega (arith, bounds .0);
         shaped = rw (height, ← next) (later-shaped (here .shaped) (omega (arith, here .isTop, here .children, here-count)));
@@ -482,13 +468,13 @@ module _ {tree : List ℕ} {waiting : List Place} {top tokens n op children firs
       }
 
   pub judging-none : plainBy p op children first ≡ true → (children ≡ 1 → ⊥) → (children ≡ 2 → ⊥)
-      → Judging tree waiting (top - 1) (tokens + tokensFor p op children) (n + 1)
+      → Judging tree waiting (top - 1) (sum + tokensFor p op children) (n + 1)
   judging-none plain a b =
       let zero-children = plain-few p op children first plain a b in
       passed [] plain (on-none p (here .k) (here .cs) (here-count ∙ zero-children)) (t .inv .room) (omega arith) refl
 
   pub judging-one : plainBy p op children first ≡ true → children ≡ 1
-      → Judging tree (set waiting (top - 1) (onlyPlace op)) (top - 1 + 1) (tokens + tokensFor p op children) (n + 1)
+      → Judging tree (set waiting (top - 1) (onlyPlace op)) (top - 1 + 1) (sum + tokensFor p op children) (n + 1)
   judging-one plain e =
       let below : top - 1 < length waiting = omega (arith, t .inv .room, bounds .1, bounds .2) in
       passed (onlyPlace (here .k .op) ∷ []) plain (on-one p (here .k) (here .cs) (here-count ∙ e))
@@ -510,7 +496,7 @@ module _ {tree : List ℕ} {waiting : List Place} {top tokens n op children firs
 
   pub judging-two : plainBy p op children first ≡ true → children ≡ 2
       → Judging tree (set (set waiting (top - 1) (rightPlace op)) (top - 1 + 1) (leftPlace op)) (top - 1 + 2)
-      (tokens + tokensFor p op children) (n + 1)
+      (sum + tokensFor p op children) (n + 1)
   judging-two plain e =
       let bottom = set waiting (top - 1) (rightPlace op) in
       let room : length bottom ≡ mostNodes = length-set waiting (top - 1) (rightPlace op) ∙ t .inv .room in

@@ -11,9 +11,11 @@ use lib.ListN.{length, getD, drop, drop-of-length-le}
 use lib.Seq.{drop-cons}
 use borrow.Author.Tests.{eqb-true, leb-true, le-leb, lt-leb}
 use Rattle.molang.specs.Words.{Field, operatorField, startField, endField, upperField, lowerField, countField, wordFault, lowFault, variantAfter, lowOf, tokenWords, tokenOf}
+use Rattle.molang.specs.FirstFailure.{must}
+use Rattle.molang.proofs.FirstFailure.{must-none, must-true, must-false, first-none, passed, found, after-none}
 use Rattle.molang.specs.WriteEntry.{mostNodes, nextInNode, Shape, shapeAfter, continues, isWhole, treeFault}
-use Rattle.molang.proofs.Trees.{some-none, both}
-use Rattle.molang.proofs.Words.{word-faultless, unless-none, five-faultless, five-back}
+use Rattle.molang.proofs.Trees.{both}
+use Rattle.molang.proofs.Words.{word-faultless, five-faultless, five-back}
 use borrow.Author.Tests.{ltb-true}
 use Rattle.write.specs.Answers.{isLegal, shape}
 use Rattle.write.specs.Shaped.{Shaped, noTrees, aNode, mostChildren, OneTree}
@@ -62,34 +64,26 @@ module _ (field : Field) (v : ℕ) (s : Shape) (w : ℕ) where
   unfolding continues
   uncalled-stops b = failed-by (wordFault field v w) _ _ refl (rw (lt-leb _ _ b))
 
-unfaulted-by : (b : Bool) (i : ℕ) (later : Option ℕ) → _≡_ {A = Option ℕ} (elim b [ false ↦ some i | true ↦ later ]) none → (b ≡ true) × (later ≡ none)
-unfaulted-by true i later e = (refl, e)
-unfaulted-by false i later e = some-none e
-
 next-word : (i : ℕ) (field : Field) (v : ℕ) (s : Shape) (w : ℕ) (ws : List ℕ) → treeFault i field v s (w ∷ ws) ≡ none
     → Continues field v s w × (treeFault (suc i) (nextInNode field) (variantAfter field v w) (shapeAfter field w s) ws ≡ none)
 unfolding treeFault
 next-word i field v s w ws e =
-    let x = unfaulted-by (continues field v s w) i _ e in
-    (continues-by field v s w (x .0), x .1)
+    let x = passed (continues field v s w) i _ e in
+    (continues-by field v s w (x .0), first-none _ _ (x .1) .0)
 
 -- No tree ends inside a node.
 ended : (i : ℕ) (field : Field) (v : ℕ) (s : Shape) → isWhole field s ≡ false → treeFault i field v s [] ≡ none → ⊥
 unfolding treeFault
-ended i field v s e h = some-none (rw (e, treeFault) at h)
+ended i field v s e h = true≢false (sym (must-none (isWhole field s) i h) ∙ e)
 
 -- A count of a node's children, if it is legal.
 count-bound : (v w : ℕ) → wordFault countField v w ≡ none → lowOf w ≤ mostChildren
 unfolding lowFault
-count-bound v w e = omega (arith, ltb-true (lowOf w) (2 ^ 14) (unless-none _ 11 none (word-faultless countField v w e .1) .0))
-
-whole-by : (b : Bool) (i : ℕ) → _≡_ {A = Option ℕ} (elim b [ true ↦ none | false ↦ some i ]) none → b ≡ true
-whole-by true i e = refl
-whole-by false i e = some-none e
+count-bound v w e = omega (arith, ltb-true (lowOf w) (2 ^ 14) (must-none _ 11 (word-faultless countField v w e .1)))
 
 whole : (i v : ℕ) (s : Shape) → treeFault i operatorField v s [] ≡ none → s .begun ≡ s .called
 unfolding treeFault isWhole
-whole i v s h = eqb-true (s .begun) (s .called) (whole-by _ i h)
+whole i v s h = eqb-true (s .begun) (s .called) (must-none _ i h)
 
 no-trees : (p : ℕ) → p ≡ 0 → Shaped mostChildren p []
 no-trees p e = rw e noTrees
@@ -153,24 +147,24 @@ module _ (i : ℕ) (field : Field) (v : ℕ) (s : Shape) (ws : List ℕ) (h : i 
 
   pub fault-here : continues field v s (getD ws i 0) ≡ false → some i ≡ treeFault i field v s (drop i ws)
   unfolding treeFault
-  fault-here e = sym (fault-at ∙ rw (e, treeFault))
+  fault-here e = sym (fault-at ∙ found (must (continues field v s (getD ws i 0)) i) i _ (must-false _ i e))
 
   pub fault-later : continues field v s (getD ws i 0) ≡ true
       → treeFault i field v s (drop i ws)
       ≡ treeFault (suc i) (nextInNode field) (variantAfter field v (getD ws i 0)) (shapeAfter field (getD ws i 0) s) (drop (suc i) ws)
   unfolding treeFault
-  fault-later e = fault-at ∙ rw (e, treeFault)
+  fault-later e = fault-at ∙ after-none (must (continues field v s (getD ws i 0)) i) _ (must-true _ i e)
 
 -- At the words' end.
 pub fault-end : (i : ℕ) (field : Field) (v : ℕ) (s : Shape) (ws : List ℕ) → length ws ≤ i → isWhole field s ≡ false
     → some i ≡ treeFault i field v s (drop i ws)
 unfolding treeFault
-fault-end i field v s ws h e = rw (drop-of-length-le ws h, e, treeFault)
+fault-end i field v s ws h e = rw (drop-of-length-le ws h) (sym (must-false (isWhole field s) i e))
 
 pub fault-none : (i : ℕ) (field : Field) (v : ℕ) (s : Shape) (ws : List ℕ) → length ws ≤ i → isWhole field s ≡ true
     → none ≡ treeFault i field v s (drop i ws)
 unfolding treeFault
-fault-none i field v s ws h e = rw (drop-of-length-le ws h, e, treeFault)
+fault-none i field v s ws h e = rw (drop-of-length-le ws h) (sym (must-true (isWhole field s) i e))
 
 called-grows : (field : Field) (w : ℕ) (s : Shape) → s .called ≤ shapeAfter field w s .called
 unfolding shapeAfter

@@ -20,7 +20,7 @@ use Rattle.write.proofs.RowLaws.{Opened, after-trees, shaped-length, no
 use Rattle.molang.specs.Words.{lowOf, word, tokenWords, listWords}
 use Rattle.molang.specs.Write.{openerFor, closerFor, standsAlone, standsLeft, standsRight, operandTokens, written}
 use Rattle.molang.specs.WriteEntry.{firstTrees, otherTrees, treesOf, writtenTokens}
-use Rattle.molang.proofs.Writing.{written-none, written-one, written-two, written-more}
+use Rattle.molang.proofs.Writing.{written-none, written-one, written-two, operand-before, written-before}
 use Rattle.molang.specs.Parse.{inFront}
 use Rattle.words.specs.Fields.{operatorOf}
 use Rattle.words.specs.Records.{laidAt}
@@ -71,43 +71,6 @@ pub list-words-append : (xs ys : List Token) → listWords (xs ++ ys) ≡ listWo
 unfolding listWords
 list-words-append [] ys = refl
 list-words-append (x ∷ xs) ys = rw (list-words-append xs ys, append-assoc) refl
-
--- What is written before some tokens is what is written, and then these.
-operand-before : (b : Bool) (k : Token) (tokens : List Token → List Token) (r : List Token) → ((s : List Token) → tokens s ≡ tokens [] ++ s)
-    → operandTokens b k tokens r ≡ operandTokens b k tokens [] ++ r
-unfolding operandTokens
-operand-before true k tokens r h = h r
-operand-before false k tokens r h =
-    ap (λ (l : List Token). openerFor k ∷ l)
-    (h (closerFor k ∷ r) ∙ (sym (append-assoc (tokens []) (closerFor k ∷ []) r) ∙ ap (λ (l : List Token). l ++ r) (sym (h (closerFor k ∷ [])))))
-
-pub written-before : (k : Token) (cs : Forest) (r : List Token) → written k cs r ≡ written k cs [] ++ r
-written-before k nil r = split (isBracket (k .op)) refl
-  where
-    split : (b : Bool) → isBracket (k .op) ≡ b → written k nil r ≡ written k nil [] ++ r
-    split true h = rw (written-none true k r h, written-none true k [] h) refl
-    split false h = rw (written-none false k r h, written-none false k [] h) refl
-written-before k (node x xs nil) r = split (isBracket (k .op)) refl (written-before x xs)
-  where
-    split : (b : Bool) → isBracket (k .op) ≡ b → ((r : List Token) → written x xs r ≡ written x xs [] ++ r)
-        → written k (node x xs nil) r ≡ written k (node x xs nil) [] ++ r
-    split true h i =
-        rw (written-one true k x xs r h, written-one true k x xs [] h, i (closerFor k ∷ r), i (closerFor k ∷ []), append-assoc) refl
-    split false h i =
-        rw (written-one false k x xs r h, written-one false k x xs [] h) (ap (λ (l : List Token). k ∷ l)
-        (operand-before (standsAlone x xs) x (written x xs) r i))
-written-before k (node x xs (node y ys nil)) r =
-    let right = operandTokens (standsRight k y ys) y (written y ys) in
-    let left = operandTokens (standsLeft k x xs) x (written x xs) in
-    let hr : right r ≡ right [] ++ r = operand-before (standsRight k y ys) y (written y ys) r (written-before y ys) in
-    let hl : (s : List Token) → left s ≡ left [] ++ s = λ s. operand-before (standsLeft k x xs) x (written x xs) s (written-before x xs) in
-    written-two k x xs y ys r
-    ∙ (ap (λ (l : List Token). left (k ∷ l)) hr
-    ∙ (hl (k ∷ (right [] ++ r))
-    ∙ (sym (append-assoc (left []) (k ∷ right []) r)
-    ∙ ap (λ (l : List Token). l ++ r) (sym (hl (k ∷ right [])) ∙ sym (written-two k x xs y ys [])))))
-written-before k (node x xs (node y ys (node z zs more))) r =
-    written-more k x xs y ys z zs more r ∙ ap (λ (l : List Token). l ++ r) (sym (written-more k x xs y ys z zs more []))
 
 -- Five stores one after the other; no words at all.
 pub five-laid : (a b c d e to : ℕ) (list : List ℕ) → to + 5 ≤ length list

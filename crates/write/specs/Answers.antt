@@ -7,7 +7,6 @@ use lib.ListN.{length}
 use Rattle.molang.specs.Forest.{Forest, nil, node}
 use Rattle.molang.specs.Words as words
 use Rattle.molang.specs.Plain.{unplainAt}
-use Rattle.molang.specs.Write.{writtenCount}
 use Rattle.molang.specs.WriteEntry.{Shape, WriteCall, WriteTold, tokens, unwritten, forestRefusal, writeTold, listIn}
 use Rattle.write.specs.declared.Written.{Written}
 use Rattle.write.specs.declared.Written.the-variants.{Tokens, Refused}
@@ -24,13 +23,13 @@ told (Tokens count) = tokens count
 told (Refused number place) = unwritten number place
 
 -- The definition's field.
-abbrev pub slotOf : Field → words.Field
-slotOf Operator = words.operatorField
-slotOf Start = words.startField
-slotOf End = words.endField
-slotOf Upper = words.upperField
-slotOf Lower = words.lowerField
-slotOf Count = words.countField
+abbrev pub fieldOf : Field → words.Field
+fieldOf Operator = words.operatorField
+fieldOf Start = words.startField
+fieldOf End = words.endField
+fieldOf Upper = words.upperField
+fieldOf Lower = words.lowerField
+fieldOf Count = words.countField
 
 -- Answer 12's place, if there is one.
 abbrev pub placeOf : Fault → Option ℕ
@@ -46,10 +45,15 @@ isLegal (some n) = false
 abbrev pub shape : ℕ → ℕ → Shape
 shape called begun = record { called = called; begun = begun }
 
--- Answer 13's place, or the written count of a plain tree.
-unfoldable pub judgement : Forest → Judged
-judgement nil = Plain 0
-judgement (node k cs rest) = elim (unplainAt k cs) [ some n ↦ Unplain n | none ↦ Plain (writtenCount k cs) ]
+-- What each case of `Judged` says: the token count, or answer 13 with its place.
+abbrev pub verdictOf : Judged → WriteTold
+verdictOf (Plain count) = tokens count
+verdictOf (Unplain place) = unwritten 13 place
+
+-- What is told of a tree where only answer 13 is looked at.
+unfoldable pub judgement : Forest → WriteTold
+judgement nil = tokens 0
+judgement (node k cs rest) = writeTold (words.withNumber 13 (unplainAt k cs)) (node k cs rest)
 
 -- A call of the write entry.
 abbrev pub call : List ℕ → List ℕ → WriteCall

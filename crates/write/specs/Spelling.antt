@@ -10,9 +10,8 @@ use Rattle.molang.specs.Operator.{isBracket}
 use Rattle.molang.specs.Words.{word, listWords}
 use Rattle.words.specs.Fields.{operatorOf}
 use Rattle.molang.specs.Write.{written, operandTokens}
-use Rattle.molang.specs.WriteEntry.{treesOf}
+use Rattle.molang.specs.WriteEntry.{treesOf, tokens}
 use Rattle.write.specs.declared.plain.Place.{Place}
-use Rattle.write.specs.declared.plain.Judged.the-variants.{Plain}
 use Rattle.write.specs.Answers.{judgement}
 use Rattle.write.specs.Places.{isPaired}
 use Rattle.write.specs.Shaped.{Shaped}
@@ -40,12 +39,12 @@ operandOf p nil = []
 operandOf p (node k cs rest) = operandTokens (not (isPaired p (k .op) (count cs))) k (written k cs) []
 
 -- The words open with a tree of at most two children a node, and the list has room for the tokens from a place on.
-pub record Room (tokens : Forest → List Token) (words list : List ℕ) (to : ℕ) : Type 0 where
+pub record Room (spelt : Forest → List Token) (words list : List ℕ) (to : ℕ) : Type 0 where
   pub others : ℕ
   pub shaped : Shaped 2 (suc others) words
-  pub room : to + length (listWords (tokens (treesOf words))) ≤ length list
+  pub room : to + length (listWords (spelt (treesOf words))) ≤ length list
 
 -- The words are one tree of at most two children a node, which is plain and written with so many tokens.
-pub record Writable (words : List ℕ) (tokens : ℕ) : Type 0 where
+pub record Writable (words : List ℕ) (count : ℕ) : Type 0 where
   pub shaped : Shaped 2 1 words
-  pub judged : Plain tokens ≡ judgement (treesOf words)
+  pub judged : tokens count ≡ judgement (treesOf words)

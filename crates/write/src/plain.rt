@@ -8,7 +8,7 @@ use words::fields;
 ghost use mathlib.Core.Path.{_≡_};
 ghost use Rattle.molang.specs.Plain as plain;
 ghost use Rattle.molang.specs.WriteEntry.{treesOf};
-ghost use Rattle.write.specs.Answers.{judgement};
+ghost use Rattle.write.specs.Answers.{verdictOf, judgement};
 ghost use Rattle.write.specs.Places.{formPlace, onlyPlace, leftPlace, rightPlace, isPrefix, plainBy, isPaired, tokensFor};
 ghost use Rattle.write.specs.Shaped.{OneTree};
 
@@ -203,7 +203,7 @@ fn tokens_for(place: Place, op: u32, children: u32) -> usize
 // more than these waiting.
 pub fn judge(tree: &[u32]) -> Judged
     requires { ⌜ OneTree (now tree) ⌝ }
-    ensures { λ r. ⌜ r ≡ judgement (treesOf (now (tree .entry))) ⌝ }
+    ensures { λ r. ⌜ verdictOf r ≡ judgement (treesOf (now (tree .entry))) ⌝ }
 {
     let nodes = tree.len() / fields::NODE_WORDS;
     let mut waiting = [Place::Enclosed; 12_288];

@@ -1,14 +1,12 @@
 -- `write::write` meets its contract: answer 12, answer 13, or what filling the list answers; each is the first that holds in the
 -- table's order. Assumes nothing.
 use mathlib.Core.Path.{sym, ap, _∙_}
-use Rattle.write.specs.Answers.{placeOf}
+use Rattle.write.specs.Answers.{placeOf, verdictOf}
 use Rattle.write.proofs.ShapeLaws.{one-tree}
 use Rattle.write.proofs.EntryLaws.{fault-answer, tree-answer, unplain-answer, plain-writable}
 use borrow.Author.Needs.{needs}
 use Rattle.write.proofs.write.Statement.{statement}
 use Rattle.write.proofs.write.Tie as tie
-
--- table's order. Assumes nothing.
 
 first-fault-requires : tie.Need-first-fault-requires
 first-fault-requires c κs = search needs
@@ -34,12 +32,12 @@ enum-known-judged-2 c = search needs
 fill-requires : tie.Need-fill-requires
 fill-requires c κs =
     let whole = (ap placeOf (sym (c .before .before .before .before .before .enum-told .given .1)) ∙ c .before .before .before .before .before .before .before .first-fault .ensures) in
-    plain-writable (c .before .before .before .before .before .before .before .before .before .before .args .list .now) whole (one-tree (c .before .before .before .before .before .before .before .before .before .before .args .tree .now) (sym whole)) (c .before .before .judged2 .given .0 .0) (sym (c .before .before .judged2 .given .1) ∙ c .before .before .before .before .judge .ensures)
+    plain-writable (c .before .before .before .before .before .before .before .before .before .before .args .list .now) whole (one-tree (c .before .before .before .before .before .before .before .before .before .before .args .tree .now) (sym whole)) (c .before .before .judged2 .given .0 .0) (sym (ap verdictOf (c .before .before .judged2 .given .1)) ∙ c .before .before .before .before .judge .ensures)
 
 returns-2 : tie.Need-returns-2
 returns-2 c =
     let whole = (ap placeOf (sym (c .before .before .before .before .enum-told .given .1)) ∙ c .before .before .before .before .before .before .first-fault .ensures) in
-    unplain-answer (c .before .before .before .before .before .before .before .before .before .args .list .now) whole (one-tree (c .before .before .before .before .before .before .before .before .before .args .tree .now) (sym whole)) (c .before .judged .given .0 .0) (sym (c .before .judged .given .1) ∙ c .before .before .before .judge .ensures)
+    unplain-answer (c .before .before .before .before .before .before .before .before .before .args .list .now) whole (one-tree (c .before .before .before .before .before .before .before .before .before .args .tree .now) (sym whole)) (c .before .judged .given .0 .0) (sym (ap verdictOf (c .before .judged .given .1)) ∙ c .before .before .before .judge .ensures)
 
 same-length : tie.Need-same-length
 same-length c = search needs

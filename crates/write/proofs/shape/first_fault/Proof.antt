@@ -6,14 +6,14 @@ use native.Mathlib.Omega.{arith}
 use borrow.Author.Needs.{needs}
 use borrow.Author.Tests.{not-true, not-false}
 use lib.ListN.{length}
-use Rattle.write.specs.Answers.{slotOf}
+use Rattle.write.specs.Answers.{fieldOf}
 use Rattle.write.proofs.ShapeLaws.{Seen, seen-start, seen-fault, seen-more, seen-none, seen-end}
 use Rattle.write.proofs.shape.first_fault.Statement.{statement}
 use Rattle.write.proofs.shape.first_fault.Tie as tie
 
 abbrev Inv-loop : tie.InvT-loop
 Inv-loop tree field₀ variant₀ called₀ begun₀ i₀ field variant called begun i =
-    Seen tree (slotOf field) variant called begun i
+    Seen tree (fieldOf field) variant called begun i
 
 abbrev μ-loop : tie.MeasureT-loop
 μ-loop tree field₀ variant₀ called₀ begun₀ i₀ field variant called begun i = length tree - i
