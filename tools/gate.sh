@@ -1,5 +1,6 @@
 #!/usr/bin/env bash
-# The gate, called by `make test`: proves every crate from nothing, runs the Rust tests and checks the layout.
+# The gate, called by `make test`: sees that every must-fail edit applies, proves every crate from nothing, runs the Rust tests and checks
+# the layout.
 # Its last line is 'N passed, M failed'; the exit status is 0 only where M is 0.
 set -u
 cd "$(dirname "$0")/.." || exit 1
@@ -75,6 +76,9 @@ rust_tests() {
         echo "gate: the tests of $crate did not run to their end"
     fi
 }
+
+# An edit that no longer applies is no wrong program, and those of edits/ are not tried here.
+step "every must-fail edit applies" tools/edits-apply.sh
 
 prove
 
