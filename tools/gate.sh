@@ -94,16 +94,18 @@ if [ ! -f "$source/src/compile/parse/mod.rs" ]; then
 fi
 
 step "layout of the Rattle and antt files" rt fmt --check
-for crate in oracle oracle/thiserror compare host; do
+for crate in oracle oracle/thiserror sys compare host; do
     step "layout of $crate" cargo fmt --manifest-path "$crate/Cargo.toml" --check
 done
-step "documentation of host" env RUSTDOCFLAGS="-D warnings" \
-    cargo doc --manifest-path host/Cargo.toml --offline --no-deps --quiet
-if cargo clippy --version >/dev/null 2>&1; then
-    step "clippy on host" cargo clippy --manifest-path host/Cargo.toml --release --offline --all-targets --quiet -- -D warnings
-else
-    echo "gate: cargo has no clippy: it was left out"
-fi
+clippy=yes
+cargo clippy --version >/dev/null 2>&1 || clippy=
+for crate in sys host; do
+    step "documentation of $crate" env RUSTDOCFLAGS="-D warnings" \
+        cargo doc --manifest-path "$crate/Cargo.toml" --offline --no-deps --quiet
+    [ -z "$clippy" ] ||
+        step "clippy on $crate" cargo clippy --manifest-path "$crate/Cargo.toml" --release --offline --all-targets --quiet -- -D warnings
+done
+[ -n "$clippy" ] || echo "gate: cargo has no clippy: it was left out"
 
 echo "gate: seconds for each crate, slowest first:"
 sed -n 's/^rt: \([a-z0-9_]*\) proved (\([0-9]*\) s)$/\2 \1/p' "$logs/rt" | sort -rn | sed 's/^/gate:   /'
