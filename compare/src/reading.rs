@@ -65,7 +65,7 @@ impl Lent {
         &mut self.words[GUARD..GUARD + self.len]
     }
 
-    /// The place in the slice of the first word that is neither `front`'s nor as it was; before it, it is negative.
+    /// The index in the slice of the first word that is neither `front`'s nor as it was; before the slice it is negative.
     fn changed(&self, noise: &[u32], front: &[u32]) -> Option<isize> {
         let (before, rest) = self.words.split_at(GUARD);
         let (filled, after) = rest.split_at(front.len());

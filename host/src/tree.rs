@@ -544,7 +544,7 @@ impl<'t> Node<'t> {
         })
     }
 
-    /// The child of this place, the first being 0.
+    /// The child with this number, the first being 0.
     ///
     /// ```
     /// use sorbrudder::{Reader, Tokens};

@@ -43,7 +43,7 @@ pub struct Writer {
 /// ```
 #[derive(Copy, Clone, Debug, PartialEq, Eq)]
 pub enum WriteError {
-    /// The words are not one tree. Only words can be this; a [`Tree`] cannot.
+    /// The words are not one tree. Only words can have this fault; a [`Tree`] cannot.
     NotATree {
         /// The first word that cannot continue a tree, or the word count where they run out.
         word: usize,
