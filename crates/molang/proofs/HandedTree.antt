@@ -173,3 +173,12 @@ write-of-told w n h = split (writeRefusal w) refl
     split : (o : Option Refusal) → writeRefusal w ≡ o → writeRefusal w ≡ none
     split none e = e
     split (some r) e = let impossible : _≡_ {A = ℕ} 0 1 = cc (rw (e, writeTold) at h) in absurd (omega arith)
+
+-- One that is turned back leaves the list as it was.
+pub unwritten-list : (w : WriteCall) (n p : ℕ) → writeAnswered w ≡ unwritten n p → listAfter w ≡ w .list
+unfolding writeAnswered writeTold listAfter listIn
+unwritten-list w n p h = split (writeRefusal w) refl
+  where
+    split : (o : Option Refusal) → writeRefusal w ≡ o → listAfter w ≡ w .list
+    split none e = let impossible : _≡_ {A = ℕ} 0 1 = cc (rw (e, writeTold) at h) in absurd (omega arith)
+    split (some r) e = rw e refl

@@ -22,7 +22,7 @@ use Rattle.buffers.proofs.Loading.{loaded-array}
 use Rattle.grouping.specs.declared.grouped.Grouped.{Grouped}
 use Rattle.parse.specs.declared.Answer.{Answer}
 use Rattle.parse.specs.declared.Answer.the-variants.{Refused as Turned}
-use Rattle.parse.specs.Answers.{toldOf}
+use Rattle.parse.specs.Answers.{HasParsed}
 use Rattle.parse.specs.Fills.{FilledAs, CanFill, Filled, CanRead, HasRead}
 use Rattle.grouping.specs.Group.{CanGroup, HasGrouped}
 
@@ -73,23 +73,25 @@ module _ {list W buffer m : List ℕ} {n : ℕ} (p : CanRead list W buffer m n) 
 
 -- ---- the entry
 
--- The four equations of a call.
-abbrev pub Meets : Call → Answer → List ℕ → List ℕ → List ℕ → Type 0
-Meets c r tree messages work = (toldOf r ≡ answered c) × ((tree ≡ treeAfter c) × ((messages ≡ messagesAfter c) × (work ≡ workAfter c)))
-
-pub refused-meets : (c : Call) (number place : ℕ) → isRefused number place ≡ checked c → Meets c (Turned number place) (c .tree) (c .messages) (c .work)
+pub refused-meets : (c : Call) (number place : ℕ) → isRefused number place ≡ checked c
+    → HasParsed c (Turned number place) (c .tree) (c .messages) (c .work)
 unfolding answered told treeAfter treeIn messagesAfter messagesIn workAfter workIn
 refused-meets c number place e =
     let r = refuses-call c number place e in
-    (rw r, (rw r, (rw r, rw r)))
+    record { told = rw r; tree = rw r; messages = rw r; work = rw r }
 
 pub read-meets : (c : Call) (n : ℕ) (r : Answer) (tree messages work : List ℕ) → isRead n ≡ checked c
     → HasRead (c .list) (c .tree) (c .messages) (c .sourceLength) (c .version) (record { low = c .usedLow; high = c .usedHigh }) r tree messages
-    → work ≡ replicate (length (c .work)) 0 → Meets c r tree messages work
+    → work ≡ replicate (length (c .work)) 0 → HasParsed c r tree messages work
 unfolding answered reading treeAfter messagesAfter workAfter workIn
 read-meets c n r tree messages work e v cleared =
     let none-refused = reads-call c n e .0 in
-    (rw none-refused (v .holds .tells), (rw none-refused (v .holds .tree), (rw none-refused (v .holds .records), rw none-refused cleared)))
+    record {
+      told = rw none-refused (v .holds .tells);
+      tree = rw none-refused (v .holds .tree);
+      messages = rw none-refused (v .holds .records);
+      work = rw none-refused cleared;
+    }
 
 -- The words that are handed on are just those that the tokens need.
 pub call-reads : (c : Call) (n : ℕ) → isRead n ≡ checked c → CanRead (c .list) (take (64 * n + 64) (c .work)) (c .tree) (c .messages) n

@@ -15,10 +15,8 @@ use nodes::slots;
 use nodes::slots::ROOT;
 use ops::sets::OpSet;
 use ops::version::effective;
-ghost use mathlib.Core.Path.{_≡_};
-ghost use Rattle.molang.specs.Parse.{answered, treeAfter, messagesAfter, workAfter};
 ghost use Rattle.grouping.specs.declared.grouped.Grouped.the-variants.{Roots};
-ghost use Rattle.parse.specs.Answers.{toldOf, call};
+ghost use Rattle.parse.specs.Answers.{call, HasParsed};
 ghost use Rattle.parse.specs.Fills.{CanFill, Filled, CanRead, HasRead};
 
 // What a call is answered: a tree of so many nodes, so many messages, or a refusal's number and place.
@@ -115,10 +113,10 @@ pub fn parse(
     used_low: u64,
     used_high: u64,
 ) -> Answer
-    ensures { λ r. ⌜ toldOf r ≡ answered (call (now (list .entry)) (now (tree .entry)) (now (messages .entry)) (now (work .entry)) «source_length» version «used_low» «used_high») ⌝ }
-    ensures { λ _. ⌜ now (tree .exit) ≡ treeAfter (call (now (list .entry)) (now (tree .entry)) (now (messages .entry)) (now (work .entry)) «source_length» version «used_low» «used_high») ⌝ }
-    ensures { λ _. ⌜ now (messages .exit) ≡ messagesAfter (call (now (list .entry)) (now (tree .entry)) (now (messages .entry)) (now (work .entry)) «source_length» version «used_low» «used_high») ⌝ }
-    ensures { λ _. ⌜ now (work .exit) ≡ workAfter (call (now (list .entry)) (now (tree .entry)) (now (messages .entry)) (now (work .entry)) «source_length» version «used_low» «used_high») ⌝ }
+    ensures { λ r. ⌜ HasParsed
+        (call (now (list .entry)) (now (tree .entry)) (now (messages .entry)) (now (work .entry))
+        «source_length» version «used_low» «used_high»)
+        r (now (tree .exit)) (now (messages .exit)) (now (work .exit)) ⌝ }
 {
     let used = OpSet {
         low: used_low,
