@@ -9,11 +9,12 @@ use lib.ListN.{length, set, length-set, length-append}
 use Rattle.molang.specs.Forest.{Forest, nil, node, count, size}
 use Rattle.molang.specs.Words.{word, tokenWords, treeWords}
 use Rattle.molang.proofs.Trees.{count-size}
+use Rattle.words.specs.Tokens.{tokenWordsAt, nodeWords}
 use Rattle.nodes.specs.Store.{wd, slotStart, slotEnd, firstWord, nextWord, firstAt, nextAt, TokenAt, Chain, Seg, SegB}
 use Rattle.nodes.proofs.Runs.{wd-same, wd-other, seg-keep, segB-keep}
 use Rattle.nodes.proofs.Tokens.{token-keep}
 use Rattle.nodes.proofs.Store.{rep-count}
-use Rattle.buffers.specs.Emit.{Linked, nodeWords, CanEmitNode, NodeEmitted, Stepped, over, finish, back, down, waits, CanEmit, Emitted}
+use Rattle.buffers.specs.Emit.{Linked, CanEmitNode, NodeEmitted, Stepped, over, finish, back, down, waits, CanEmit, Emitted}
 use Rattle.buffers.proofs.Runs.{seg-append}
 use Rattle.buffers.proofs.NodeWords.{token-words, six-long}
 use Rattle.buffers.proofs.Linking.{linked-nil, linked-unique, linked-none, linked-open, linked-chain, linked-follow}
@@ -176,7 +177,7 @@ module _ (W : List ℕ) (first to stack : ℕ) (p : CanEmit W first to stack) wh
       let token : TokenAt Z s k = token-keep W Z s (λ i h. slots-same g (slotStart s + i) (omega arith)) (o .token) in
       let end : to + length (g .done) ≡ to + 6 * nodes = omega (arith, g .count) in
       let six : Seg Z' (to + 6 * nodes) (tokenWords k ++ (word 6 (count cs) ∷ []))
-      = subst (λ (l : List ℕ). Seg Z' (to + 6 * nodes) l) (ap (nodeWords Z s) number ∙ token-words Z s k (count cs) token small) (x .words (kids .bs) chain) in
+      = subst (λ (l : List ℕ). Seg Z' (to + 6 * nodes) l) (ap (nodeWords (tokenWordsAt Z (slotStart s))) number ∙ token-words Z s k (count cs) token small) (x .words (kids .bs) chain) in
       let same : (j : ℕ) → j < stack → wd Z' j ≡ wd W j = λ j h. x .same j (inl (omega arith)) ∙ g .same j h in
       let older : Seg Z' to (g .done) = seg-keep Z Z' to (g .done) (λ j a b. x .same j (inl (omega (arith, g .count)))) (g .written) in
       record {

@@ -17,7 +17,8 @@ use Rattle.molang.proofs.ListWords.{listWords-length}
 use Rattle.words.specs.Fields.{operatorOf}
 use Rattle.ops.specs.Classes.{bitAt, inClass, classTable, entryOf, ownWord}
 use Rattle.ops.proofs.ClassLaws.{leaf-bits}
-use Rattle.nodes.specs.Store.{wd, slotWords, slotStart, slotEnd, TokenAt, Seg, RepF, ends, InArray}
+use Rattle.words.specs.Tokens.{tokenWordsAt, fiveWords}
+use Rattle.nodes.specs.Store.{wd, slotWords, slotStart, slotEnd, firstWord, classesWord, classesAt, TokenAt, Seg, RepF, ends, InArray}
 use Rattle.nodes.specs.Slots.{Laid}
 use Rattle.nodes.proofs.Runs.{wd-same, wd-other}
 use Rattle.nodes.proofs.Tokens.{token-op}
@@ -28,35 +29,34 @@ use Rattle.buffers.specs.Load.{tokenSlots, LeafAt, CanLoadToken, TokenLo
 
 -- ---- one token
 
-five-words : (W L : List ℕ) (x y : ℕ) → wd W x ≡ wd L y → wd W (x + 1) ≡ wd L (y + 1) → wd W (x + 2) ≡ wd L (y + 2) → wd W (x + 3) ≡ wd L (y + 3)
-    → wd W (x + 4) ≡ wd L (y + 4) → (o : ℕ) → o < 5 → wd W (x + o) ≡ wd L (y + o)
-five-words W L x y a b c d e zero h = rw (add-zero x, add-zero y) a
-five-words W L x y a b c d e (suc zero) h = b
-five-words W L x y a b c d e (suc (suc zero)) h = c
-five-words W L x y a b c d e (suc (suc (suc zero))) h = d
-five-words W L x y a b c d e (suc (suc (suc (suc zero)))) h = e
-five-words W L x y a b c d e (suc (suc (suc (suc (suc o))))) h = absurd (omega arith)
+-- The words of token i, in the list's order.
+five-words : (list : List ℕ) (at o : ℕ) → o < 5 → getD (fiveWords (tokenWordsAt list at)) o 0 ≡ wd list (at + o)
+five-words list at zero h = rw add-zero
+five-words list at (suc zero) h = refl
+five-words list at (suc (suc zero)) h = refl
+five-words list at (suc (suc (suc zero))) h = refl
+five-words list at (suc (suc (suc (suc zero)))) h = refl
+five-words list at (suc (suc (suc (suc (suc o))))) h = absurd (omega arith)
 
 module _ (list W table : List ℕ) (i stack : ℕ) (p : CanLoadToken list W table i stack) where
   -- The token's words laid down at its slot, and the slot put on the stack.
   pub token-stores : (W1 : List ℕ) (slot n op : ℕ) → slot ≡ 3 * i + 3
-      → Laid W slot (wd list (5 * i)) (wd list (5 * i + 1)) (wd list (5 * i + 2)) (wd list (5 * i + 3)) (wd list (5 * i + 4)) n W1
+      → Laid W slot (tokenWordsAt list (5 * i)) n W1
       → op ≡ operatorOf (wd list (5 * i)) → ((c : ℕ) → bitAt n c ≡ (bitAt (entryOf table op) c || bitAt (ownWord op) c)) → TokenLoaded list W i stack (set W1 (stack + i) slot)
   token-stores W1 slot n op e v eo noted =
       let bits : (c : ℕ) → bitAt n c ≡ inClass c op = λ c. noted c ∙ rw (p .classes) (leaf-bits op c) in
-      let at = slotStart (3 * i + 3) in
-      let u : Laid W (3 * i + 3) (wd list (5 * i)) (wd list (5 * i + 1)) (wd list (5 * i + 2)) (wd list (5 * i + 3)) (wd list (5 * i + 4)) n W1 = rw e at v in
+      let s = 3 * i + 3 in
+      let u : Laid W s (tokenWordsAt list (5 * i)) n W1 = rw e at v in
       let W2 = set W1 (stack + i) slot in
       let below = p .below in
       let other : (j : ℕ) → j ≢ stack + i → wd W2 j ≡ wd W1 j = λ j h. wd-other W1 (stack + i) slot j h in
       let long = u .long in
       let room = p .room in
-      let mark : wd W2 (at + 7) ≡ n = other (at + 7) (omega arith) ∙ u .classes in
+      let mark : classesAt W2 s ≡ n = other (classesWord s) (omega arith) ∙ u .classes in
       record {
         leaf = record {
-          words = five-words W2 list at (5 * i) (other at (omega arith) ∙ u .operator-word) (other (at + 1) (omega arith) ∙ u .start-word)
-              (other (at + 2) (omega arith) ∙ u .end-word) (other (at + 3) (omega arith) ∙ u .upper-word) (other (at + 4) (omega arith) ∙ u .lower-word);
-          first = other (at + 5) (omega arith) ∙ u .first;
+          words = λ o h. other (slotStart s + o) (omega arith) ∙ u .words o h ∙ five-words list (5 * i) o h;
+          first = other (firstWord s) (omega arith) ∙ u .first;
           classes = λ c. ap (λ (w : ℕ). bitAt w c) mark ∙ bits c ∙ ap (λ (o : ℕ). inClass c o) eo;
         };
         slot = wd-same W1 (stack + i) slot (omega arith) ∙ e;

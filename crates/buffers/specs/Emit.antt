@@ -1,14 +1,15 @@
 -- What emission asks and ensures: the words of the trees of a chain, each parent before its children, laid out above the siblings that wait
 -- meanwhile; and copied to the front of the caller's tree buffer.
-use Prim.Native.Nat.{ℕ, _+_, _*_, _-_, _%_, _^_, _≤_, _<_}
+use Prim.Native.Nat.{ℕ, _+_, _*_, _-_, _^_, _≤_, _<_}
 use mathlib.Core.Path.{_≡_}
 use mathlib.Core.Logic.{_≢_, _⊎_}
-use mathlib.Core.List.{List, [], _∷_}
+use mathlib.Core.List.{List}
 use lib.ListN.{length, set}
 use Rattle.molang.specs.Forest.{Forest, size}
-use Rattle.molang.specs.Words.{word, treeWords}
+use Rattle.molang.specs.Words.{treeWords}
 use Rattle.molang.specs.Parse.{mostTokens, inFront}
-use Rattle.nodes.specs.Store.{wd, slotStart, slotEnd, operatorWordAt, startWordAt, endWordAt, upperWordAt, lowerWordAt, firstAt, nextAt, Chain, Seg, RepF}
+use Rattle.words.specs.Tokens.{tokenWordsAt, nodeWords}
+use Rattle.nodes.specs.Store.{wd, slotStart, slotEnd, firstAt, nextAt, Chain, Seg, RepF}
 use Rattle.nodes.specs.Children.{CanFollow}
 
 -- The trees of f are linked from the slot `first` on, below the slot hi.
@@ -21,11 +22,6 @@ pub record Linked (W : List ℕ) (first hi : ℕ) (f : Forest) : Type 0 where
 
 -- ---- `emit_node`
 
--- The six words of the node at slot s, which has n children.
-abbrev pub nodeWords : List ℕ → ℕ → ℕ → List ℕ
-nodeWords W s n =
-    operatorWordAt W s ∷ startWordAt W s ∷ endWordAt W s ∷ upperWordAt W s ∷ lowerWordAt W s ∷ word 6 (n % 2 ^ 14) ∷ []
-
 -- The slot s lies below the word `at`, from which on six words are free; its children are a chain.
 pub record CanEmitNode (W : List ℕ) (s at : ℕ) : Type 0 where
   pub below : slotEnd s ≤ at
@@ -34,7 +30,7 @@ pub record CanEmitNode (W : List ℕ) (s at : ℕ) : Type 0 where
 
 -- The node's words stand from `at` on; all other words are as they were.
 pub record NodeEmitted (W : List ℕ) (s at : ℕ) (W' : List ℕ) : Type 0 where
-  pub words : (cs : List ℕ) → Chain W (firstAt W s) cs → Seg W' at (nodeWords W s (length cs))
+  pub words : (cs : List ℕ) → Chain W (firstAt W s) cs → Seg W' at (nodeWords (tokenWordsAt W (slotStart s)) (length cs))
   pub same : (j : ℕ) → (j < at) ⊎ (at + 6 ≤ j) → wd W' j ≡ wd W j
   pub long : length W' ≡ length W
 

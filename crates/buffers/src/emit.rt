@@ -21,18 +21,9 @@ fn emit_node(work: &mut [u32], s: u32, at: usize)
     requires { ⌜ CanEmitNode (now work) s at ⌝ }
     ensures { λ _. ⌜ NodeEmitted (now (work .entry)) s at (now (work .exit)) ⌝ }
 {
-    let operator = slots::operator_word_of(work, s);
-    let start = slots::start_word_of(work, s);
-    let end = slots::end_word_of(work, s);
-    let upper = slots::upper_word_of(work, s);
-    let lower = slots::lower_word_of(work, s);
+    let token = slots::token_of(work, s);
     let children = children::count_chain(work, slots::first_of(work, s));
-    work[at] = operator;
-    work[at + 1] = start;
-    work[at + 2] = end;
-    work[at + 3] = upper;
-    work[at + 4] = lower;
-    work[at + 5] = fields::children_word(children);
+    token.lay_node(work, at, children);
 }
 
 // The node after slot s in preorder: its first child, and its next sibling waits; or its next sibling; or the last one that

@@ -8,7 +8,8 @@ use native.Mathlib.Omega.{arith}
 use native.Mathlib.Decide.{decLt}
 use lib.ListN.{length}
 use Rattle.molang.specs.Forest.{Token, Forest}
-use Rattle.nodes.specs.Store.{wd, slotWords, slotStart, slotEnd, Seg, Out, OffNext, RepF, ends, more, RepT, RepB, Free, Kept}
+use Rattle.words.specs.declared.tokens.TokenWords.{TokenWords}
+use Rattle.nodes.specs.Store.{wd, slotWords, firstField, nextField, classesField, slotStart, slotEnd, Seg, Out, OffNext, RepF, ends, more, RepT, RepB, Free, Kept}
 use Rattle.nodes.specs.Slots.{Laid}
 use Rattle.nodes.specs.Children.{Given}
 use Rattle.nodes.proofs.Store.{reserve-pos, own-out, rep-le, rep-keep, tree-keep, back-keep}
@@ -65,16 +66,16 @@ roots-off j (ends e) f = tt
 roots-off {X = X} {lo} {hi} j (more {b = b} {m = m} {t = t} {k = k} a c d z p tk n ch ks r) f =
     let g = rep-le r in
     let pos = reserve-pos t k in
-    (f b 6 (omega arith) (omega arith) (omega arith) (own-out b t k X p), roots-off j r (free-part X lo hi m hi j (omega arith) (omega arith) f))
+    (f b nextField (omega arith) (omega arith) (omega arith) (own-out b t k X p), roots-off j r (free-part X lo hi m hi j (omega arith) (omega arith) f))
 
 pub give-kept : {W W' X : List ℕ} {q from n lo hi : ℕ} {bs : List ℕ} {f : Forest} → Given W q from n W' → Seg W from bs → length bs ≡ n
     → RepF W (q ∷ X) bs lo hi f
     → lo ≤ q → q < hi → Out q X → (j : ℕ) → Free X lo hi j → wd W' j ≡ wd W j
 give-kept {X = X} {q = q} {lo = lo} {hi = hi} {bs = bs} w g e r low high out j f =
-    w .same bs g e j (f q 5 low high (omega arith) out) (f q 7 low high (omega arith) out)
+    w .same bs g e j (f q firstField low high (omega arith) out) (f q classesField low high (omega arith) out)
     (roots-off j r (free-inner q X lo hi lo hi j (omega arith) (omega arith) f))
 
-pub laid-kept : {W W' : List ℕ} {s a b c d e n : ℕ} (X : List ℕ) (lo hi : ℕ) → Laid W s a b c d e n W' → lo ≤ s → s < hi → Out s X
+pub laid-kept : {W W' : List ℕ} {s n : ℕ} {k : TokenWords} (X : List ℕ) (lo hi : ℕ) → Laid W s k n W' → lo ≤ s → s < hi → Out s X
     → (j : ℕ) → Free X lo hi j → wd W' j ≡ wd W j
 laid-kept {W} {W'} {s} X lo hi w low high out j f =
     elim (decLt j (slotStart s)) [

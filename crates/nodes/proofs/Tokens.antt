@@ -127,4 +127,10 @@ bare-word o h = omega arith
 pub token-made : {W W' : List ℕ} {s like o : ℕ} {k : Token} → Made W s o like W' → o ≤ 110 → TokenAt W like k → TokenAt W' s (bare o k)
 unfolding bare
 token-made {o = o} v h t =
-    token-of-words (v .operator-word ∙ bare-word o h) (v .start-word ∙ start-word t) (v .end-word ∙ end-word t) (v .upper-word) (v .lower-word) (legal-bare o h (t .legal))
+    token-of-words
+    (rw add-zero at (v .words 0 (omega arith)) ∙ bare-word o h)
+    (v .words 1 (omega arith) ∙ start-word t)
+    (v .words 2 (omega arith) ∙ end-word t)
+    (v .words 3 (omega arith))
+    (v .words 4 (omega arith))
+    (legal-bare o h (t .legal))

@@ -1,14 +1,16 @@
 -- What the functions on one slot answer, by its words, and what those that write a whole slot ensure.
-use Prim.Native.Nat.{ℕ, _%_, _^_, _≤_, _<_}
+use Prim.Native.Nat.{ℕ, _+_, _≤_, _<_}
 use mathlib.Core.Path.{_≡_}
 use mathlib.Core.Logic.{_⊎_}
 use mathlib.Core.Bool.{Bool, _&&_}
 use mathlib.Core.List.{List}
 use lib.Dec.{eqb}
-use lib.ListN.{length}
-use Rattle.molang.specs.Words.{word, lowOf}
+use lib.ListN.{length, getD}
+use Rattle.molang.specs.Words.{lowOf}
 use Rattle.words.specs.Fields.{operatorOf}
-use Rattle.nodes.specs.Store.{wd, slotStart, slotEnd, operatorWordAt, startWordAt, endWordAt, upperWordAt, lowerWordAt, firstAt, nextAt, classesAt}
+use Rattle.words.specs.Tokens.{tokenWordsAt, bareWords, fiveWords}
+use Rattle.words.specs.declared.tokens.TokenWords.{TokenWords}
+use Rattle.nodes.specs.Store.{wd, slotStart, slotEnd, operatorWordAt, startWordAt, endWordAt, firstAt, nextAt, classesAt}
 
 -- The operator of slot s.
 abbrev pub opAt : List ℕ → ℕ → ℕ
@@ -30,13 +32,9 @@ isLeafAt W s = eqb (firstAt W s) 0
 abbrev pub isTokenAt : List ℕ → ℕ → ℕ → Bool
 isTokenAt W s op = isLeafAt W s && eqb (opAt W s) op
 
--- Slot s is a leaf of the five words that notes the classes n; all other words are as they were.
-pub record Laid (W : List ℕ) (s operator start end upper lower n : ℕ) (W' : List ℕ) : Type 0 where
-  pub operator-word : operatorWordAt W' s ≡ operator
-  pub start-word : startWordAt W' s ≡ start
-  pub end-word : endWordAt W' s ≡ end
-  pub upper-word : upperWordAt W' s ≡ upper
-  pub lower-word : lowerWordAt W' s ≡ lower
+-- Slot s is a leaf of the five words k that notes the classes n; all other words are as they were.
+pub record Laid (W : List ℕ) (s : ℕ) (k : TokenWords) (n : ℕ) (W' : List ℕ) : Type 0 where
+  pub words : (i : ℕ) → i < 5 → wd W' (slotStart s + i) ≡ getD (fiveWords k) i 0
   pub first : firstAt W' s ≡ 0
   pub next : nextAt W' s ≡ 0
   pub classes : classesAt W' s ≡ n
@@ -45,4 +43,4 @@ pub record Laid (W : List ℕ) (s operator start end upper lower n : ℕ) (W' : 
 
 -- Slot s is a new node of op, with the span words of slot `like`, payload 0 and no class.
 abbrev pub Made : List ℕ → ℕ → ℕ → ℕ → List ℕ → Type 0
-Made W s op like W' = Laid W s (word 1 (op % 2 ^ 8)) (startWordAt W like) (endWordAt W like) (word 4 0) (word 5 0) 0 W'
+Made W s op like W' = Laid W s (bareWords op (tokenWordsAt W (slotStart like))) 0 W'

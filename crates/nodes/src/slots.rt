@@ -6,11 +6,13 @@
 // the words that `parse` works in.
 use ops::classes::TokenClasses;
 use words::fields;
+use words::tokens::TokenWords;
 ghost use mathlib.Core.Path.{_≡_};
 ghost use Prim.Native.Nat.{_+_, _*_, _^_, _≤_, _<_};
 ghost use lib.ListN.{length, set};
 ghost use Rattle.words.specs.Fields.{withOperator};
-ghost use Rattle.nodes.specs.Store.{slotStart, slotEnd, firstWord, nextWord, classesWord, operatorWordAt, startWordAt, endWordAt, upperWordAt, lowerWordAt, firstAt, nextAt, classesAt};
+ghost use Rattle.words.specs.Tokens.{tokenWordsAt};
+ghost use Rattle.nodes.specs.Store.{slotStart, slotEnd, firstWord, nextWord, classesWord, operatorWordAt, firstAt, nextAt, classesAt};
 ghost use Rattle.nodes.specs.Slots.{opAt, startAt, endAt, isLeafAt, isTokenAt, Laid, Made};
 
 pub const ROOT: u32 = 0;
@@ -56,41 +58,13 @@ pub fn stack_of(n: usize) -> usize
     24 * n + 24
 }
 
-// The words of slot s, one by one.
+// The words of slot s: its token's, its first child, its next sibling and its classes.
 
-pub fn operator_word_of(work: &[u32], s: u32) -> u32
+pub fn token_of(work: &[u32], s: u32) -> TokenWords
     requires { ⌜ slotEnd s ≤ length (now work) ⌝ }
-    ensures { λ r. ⌜ r ≡ operatorWordAt (now (work .entry)) s ⌝ }
+    ensures { λ r. ⌜ r ≡ tokenWordsAt (now (work .entry)) (slotStart s) ⌝ }
 {
-    work[SLOT_WORDS * (s as usize)]
-}
-
-pub fn start_word_of(work: &[u32], s: u32) -> u32
-    requires { ⌜ slotEnd s ≤ length (now work) ⌝ }
-    ensures { λ r. ⌜ r ≡ startWordAt (now (work .entry)) s ⌝ }
-{
-    work[SLOT_WORDS * (s as usize) + fields::START_FIELD]
-}
-
-pub fn end_word_of(work: &[u32], s: u32) -> u32
-    requires { ⌜ slotEnd s ≤ length (now work) ⌝ }
-    ensures { λ r. ⌜ r ≡ endWordAt (now (work .entry)) s ⌝ }
-{
-    work[SLOT_WORDS * (s as usize) + fields::END_FIELD]
-}
-
-pub fn upper_word_of(work: &[u32], s: u32) -> u32
-    requires { ⌜ slotEnd s ≤ length (now work) ⌝ }
-    ensures { λ r. ⌜ r ≡ upperWordAt (now (work .entry)) s ⌝ }
-{
-    work[SLOT_WORDS * (s as usize) + fields::UPPER_FIELD]
-}
-
-pub fn lower_word_of(work: &[u32], s: u32) -> u32
-    requires { ⌜ slotEnd s ≤ length (now work) ⌝ }
-    ensures { λ r. ⌜ r ≡ lowerWordAt (now (work .entry)) s ⌝ }
-{
-    work[SLOT_WORDS * (s as usize) + fields::LOWER_FIELD]
+    TokenWords::at(work, SLOT_WORDS * (s as usize))
 }
 
 pub fn first_of(work: &[u32], s: u32) -> u32
@@ -142,21 +116,21 @@ pub fn operator_of(work: &[u32], s: u32) -> u32
     requires { ⌜ slotEnd s ≤ length (now work) ⌝ }
     ensures { λ r. ⌜ r ≡ opAt (now (work .entry)) s ⌝ }
 {
-    fields::operator(operator_word_of(work, s))
+    fields::operator(work[SLOT_WORDS * (s as usize)])
 }
 
 pub fn start_of(work: &[u32], s: u32) -> u32
     requires { ⌜ slotEnd s ≤ length (now work) ⌝ }
     ensures { λ r. ⌜ r ≡ startAt (now (work .entry)) s ⌝ }
 {
-    fields::low(start_word_of(work, s))
+    fields::low(work[SLOT_WORDS * (s as usize) + fields::START_FIELD])
 }
 
 pub fn end_of(work: &[u32], s: u32) -> u32
     requires { ⌜ slotEnd s ≤ length (now work) ⌝ }
     ensures { λ r. ⌜ r ≡ endAt (now (work .entry)) s ⌝ }
 {
-    fields::low(end_word_of(work, s))
+    fields::low(work[SLOT_WORDS * (s as usize) + fields::END_FIELD])
 }
 
 pub fn is_leaf(work: &[u32], s: u32) -> bool
@@ -178,25 +152,12 @@ pub fn is_token(work: &[u32], s: u32, op: u32) -> bool
 }
 
 // Slot s becomes a leaf of the five words that notes these classes.
-pub fn set_leaf(
-    work: &mut [u32],
-    s: u32,
-    first: u32,
-    start: u32,
-    end: u32,
-    upper: u32,
-    lower: u32,
-    classes: TokenClasses,
-)
+pub fn set_leaf(work: &mut [u32], s: u32, token: TokenWords, classes: TokenClasses)
     requires { ⌜ slotEnd s ≤ length (now work) ⌝ }
-    ensures { λ _. ⌜ Laid (now (work .entry)) s first start «end» upper lower (classes .0) (now (work .exit)) ⌝ }
+    ensures { λ _. ⌜ Laid (now (work .entry)) s token (classes .0) (now (work .exit)) ⌝ }
 {
     let at = SLOT_WORDS * (s as usize);
-    work[at] = first;
-    work[at + fields::START_FIELD] = start;
-    work[at + fields::END_FIELD] = end;
-    work[at + fields::UPPER_FIELD] = upper;
-    work[at + fields::LOWER_FIELD] = lower;
+    token.lay(work, at);
     work[at + FIRST_FIELD] = 0;
     work[at + NEXT_FIELD] = 0;
     work[at + CLASSES_FIELD] = classes.0;
@@ -207,18 +168,8 @@ pub fn make(work: &mut [u32], s: u32, op: u32, like: u32)
     requires { ⌜ (slotEnd s ≤ length (now work)) × (slotEnd like ≤ length (now work)) ⌝ }
     ensures { λ _. ⌜ Made (now (work .entry)) s op like (now (work .exit)) ⌝ }
 {
-    let start = start_word_of(work, like);
-    let end = end_word_of(work, like);
-    set_leaf(
-        work,
-        s,
-        fields::operator_word(op),
-        start,
-        end,
-        fields::no_upper(),
-        fields::no_lower(),
-        TokenClasses::NONE,
-    );
+    let token = token_of(work, like).bare(op);
+    set_leaf(work, s, token, TokenClasses::NONE);
 }
 
 // The operator of slot s becomes op, its span and payload stay. Its classes are left to the caller.

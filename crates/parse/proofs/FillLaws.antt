@@ -98,9 +98,10 @@ module _ {W buffer m : List ℕ} {n sourceLength : ℕ} (p : CanFill W buffer m 
               room = p .message-room;
             }
 
-    pub several-filled : (m' : List ℕ) → nextAt W root ≢ 0 → RootsReported W m root n m' → Filled W buffer m n sourceLength Roots (Messages 1) buffer m'
+    pub several-filled : (W' m' : List ℕ) → nextAt W root ≢ 0 → RootsReported W m root n W' m'
+        → Filled W buffer m n sourceLength Roots (Messages 1) buffer m'
     unfolding count rooted told treeIn
-    several-filled m' next u = filled-by (Messages 1) buffer m' go
+    several-filled W' m' next u = filled-by (Messages 1) buffer m' go
       where
         go : (f : Forest) → Linked W root (3 * n + 3) f → FilledAs buffer m (Messages 1) buffer m' (rooted sourceLength [] f)
         go nil w = absurd (some (linked-nil w))

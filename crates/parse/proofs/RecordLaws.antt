@@ -44,10 +44,10 @@ pub no-host : (W : List ℕ) (s v : ℕ) → v ≡ variantOf (operatorWordAt W s
 unfolding hostAt
 no-host W s v e h = rw (hostAt, ne-eqb (variantOf (operatorWordAt W s)) hostMathVariant (λ z. h (e ∙ z)))
 
-pub a-host : (W : List ℕ) (s v r a b : ℕ) → v ≡ variantOf (operatorWordAt W s) → v ≡ hostMathVariant → r ≡ valueOf a b → a ≡ upperWordAt W s → b ≡ lowerWordAt W s
-    → r ≡ hostAt W s
+pub a-host : (W : List ℕ) (s v r : ℕ) → v ≡ variantOf (operatorWordAt W s) → v ≡ hostMathVariant
+    → r ≡ valueOf (upperWordAt W s) (lowerWordAt W s) → r ≡ hostAt W s
 unfolding hostAt
-a-host W s v r a b e h f x y = rw (hostAt, eq-eqb (variantOf (operatorWordAt W s)) hostMathVariant (sym e ∙ h)) (f ∙ ap₂ valueOf x y)
+a-host W s v r e h f = rw (hostAt, eq-eqb (variantOf (operatorWordAt W s)) hostMathVariant (sym e ∙ h)) f
 
 -- ---- a slot's token
 

@@ -131,9 +131,10 @@ module _ (W W' : List ℕ) (head n : ℕ) (starts : Extent) (v : Measured W head
           }
 
   pub roots-reported : (m m' W'' : List ℕ) (tail roots : ℕ) (last : Extent) → CanReportRoots W m head n → Counted W head roots → IsLast W head tail
-      → Measured W' tail n last W'' → m' ≡ laidAt 0 (wordsOf (withFirst (unnamed 1 (starts .start) (last .end)) roots 0)) m → RootsReported W m head n m'
+      → Measured W' tail n last W'' → m' ≡ laidAt 0 (wordsOf (withFirst (unnamed 1 (starts .start) (last .end)) roots 0)) m → RootsReported W m head n W'' m'
   unfolding count rooted messagesIn recordWords wordsOf messageRecord record8 firstExtent lastEnd
-  roots-reported m m' W'' tail roots last p counted isLast u e = record { message = go }
+  roots-reported m m' W'' tail roots last p counted isLast u e =
+      record { message = go; same = λ j h. u .same j h ∙ v .same j h; long = u .long ∙ v .long }
     where
       go : (f : Forest) → Linked W head (3 * n + 3) f → 2 ≤ count f → (sourceLength : ℕ) → m' ≡ messagesIn none (rooted sourceLength [] f) m
       go nil w several sourceLength = absurd (omega arith)

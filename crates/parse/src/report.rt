@@ -32,7 +32,7 @@ fn spanning(work: &[u32], number: u32, from: u32, to: u32) -> Record
 }
 
 // A message at a slot's span, with no argument.
-fn plain(work: &[u32], number: u32, s: u32) -> Record
+fn at_slot(work: &[u32], number: u32, s: u32) -> Record
     requires { ⌜ Within (now work) s ⌝ }
     ensures { λ r. ⌜ r ≡ spanRecord (now (work .entry)) number s s ⌝ }
 {
@@ -52,10 +52,11 @@ fn host_value(work: &[u32], s: u32) -> u32
     requires { ⌜ Within (now work) s ⌝ }
     ensures { λ r. ⌜ r ≡ hostAt (now (work .entry)) s ⌝ }
 {
-    if fields::variant(slots::operator_word_of(work, s)) != fields::HOST_MATH {
+    let token = slots::token_of(work, s);
+    if fields::variant(token.operator) != fields::HOST_MATH {
         return 0;
     }
-    fields::value(slots::upper_word_of(work, s), slots::lower_word_of(work, s))
+    fields::value(token.upper, token.lower)
 }
 
 // A message that names a math function.
@@ -63,7 +64,7 @@ fn naming_math(work: &[u32], number: u32, s: u32) -> Record
     requires { ⌜ Within (now work) s ⌝ }
     ensures { λ r. ⌜ r ≡ mathRecord (now (work .entry)) number s ⌝ }
 {
-    plain(work, number, s).naming(slots::operator_of(work, s), host_value(work, s))
+    at_slot(work, number, s).naming(slots::operator_of(work, s), host_value(work, s))
 }
 
 // The section of an opener is not closed.
@@ -72,7 +73,7 @@ fn not_closed(work: &[u32], opener: u32) -> Record
     ensures { λ r. ⌜ r ≡ openRecord (now (work .entry)) opener ⌝ }
 {
     let op = slots::operator_of(work, opener);
-    plain(work, records::SECTION_NOT_CLOSED, opener).naming(closer_of(op), op)
+    at_slot(work, records::SECTION_NOT_CLOSED, opener).naming(closer_of(op), op)
 }
 
 // The first record of a closer that does not match.
@@ -92,7 +93,7 @@ fn unclosed(work: &[u32], u: Unclosed) -> Record
     ensures { λ r. ⌜ r ≡ unclosedRecord (now (work .entry)) u ⌝ }
 {
     let op = slots::operator_of(work, u.inner);
-    plain(work, records::NO_CLOSING_SYMBOL, u.inner)
+    at_slot(work, records::NO_CLOSING_SYMBOL, u.inner)
         .naming(u.start, op)
         .and(closer_of(op), 0, 0)
 }
@@ -104,12 +105,12 @@ fn record_of(work: &[u32], failure: Failure, source: u32) -> Record
 {
     match failure {
         Failure::ComplexMustEndWithSemicolon(s) => {
-            plain(work, records::COMPLEX_MUST_END_WITH_SEMICOLON, s)
+            at_slot(work, records::COMPLEX_MUST_END_WITH_SEMICOLON, s)
         }
         Failure::ComplexWithoutTokens => {
             Record::new(records::COMPLEX_MUST_END_WITH_SEMICOLON, 0, source)
         }
-        Failure::LeadingMemberAccessor(s) => plain(work, records::LEADING_MEMBER_ACCESSOR, s),
+        Failure::LeadingMemberAccessor(s) => at_slot(work, records::LEADING_MEMBER_ACCESSOR, s),
         Failure::EmptyParameterList(s, to) => {
             naming(work, records::EMPTY_PARAMETER_LIST, s, to, s)
         }
@@ -117,11 +118,11 @@ fn record_of(work: &[u32], failure: Failure, source: u32) -> Record
         Failure::MathWithoutParenthesis(s) => {
             naming_math(work, records::MATH_WITHOUT_PARENTHESIS, s)
         }
-        Failure::LeadingSemicolon(s) => plain(work, records::LEADING_SEMICOLON, s),
+        Failure::LeadingSemicolon(s) => at_slot(work, records::LEADING_SEMICOLON, s),
         Failure::EmptyArrayIndex(s, to) => spanning(work, records::EMPTY_ARRAY_INDEX, s, to),
         Failure::BinaryAtEnd(s) => naming(work, records::BINARY_AT_END, s, s, s),
-        Failure::NegateWithoutOperand(s) => plain(work, records::NEGATE_WITHOUT_OPERAND, s),
-        Failure::NotWithoutOperand(s) => plain(work, records::NOT_WITHOUT_OPERAND, s),
+        Failure::NegateWithoutOperand(s) => at_slot(work, records::NEGATE_WITHOUT_OPERAND, s),
+        Failure::NotWithoutOperand(s) => at_slot(work, records::NOT_WITHOUT_OPERAND, s),
         Failure::UnknownOperation(s, before) => {
             naming(work, records::UNKNOWN_OPERATION, s, s, before)
         }
@@ -194,7 +195,7 @@ fn extent_of(work: &mut [u32], first: u32, n: usize) -> Extent
 // one's ends.
 pub fn report_roots(work: &mut [u32], messages: &mut [u32], head: u32, n: usize)
     requires { ⌜ CanReportRoots (now work) (now messages) head n ⌝ }
-    ensures { λ _. ⌜ RootsReported (now (work .entry)) (now (messages .entry)) head n (now (messages .exit)) ⌝ }
+    ensures { λ _. ⌜ RootsReported (now (work .entry)) (now (messages .entry)) head n (now (work .exit)) (now (messages .exit)) ⌝ }
 {
     let roots = children::count_chain(work, head);
     let tail = children::last_of_chain(work, head);

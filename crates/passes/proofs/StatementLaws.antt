@@ -24,6 +24,7 @@ use Rattle.molang.proofs.Statements.{split-clear, statement-free}
 use Rattle.molang.proofs.Walks.{onward, back, walk-onward}
 use Rattle.nodes.specs.Store.{wd, InArray, begins as begins-with, Seg, Inc}
 use Rattle.nodes.specs.Slots.{isTokenAt, Laid}
+use Rattle.words.specs.declared.tokens.TokenWords.{TokenWords}
 use Rattle.nodes.specs.declared.frames.List.{List as Items}
 use Rattle.nodes.proofs.Runs.{inc-le, seg-keep, set-same, set-other, set-long}
 use Rattle.nodes.proofs.Store.{tree-below, back-le, back-raise}
@@ -475,7 +476,7 @@ module _ {W : List ℕ} {p from n : ℕ} where
       go (c ∷ cs) s e i = omega (arith, s .0, inc-le cs (i .1))
 
   -- a new node's slot is none of the stack's words
-  pub give-made : {W' : List ℕ} {a b c d e k : ℕ} → Laid W p a b c d e k W' → CanGive W p from n → CanGive W' p from n
+  pub give-made : {W' : List ℕ} {t : TokenWords} {k : ℕ} → Laid W p t k W' → CanGive W p from n → CanGive W' p from n
   give-made {W'} w g =
       let own = g .own in let below = g .below in
       record {
