@@ -8,6 +8,7 @@ ghost use Rattle.words.specs.Fields.{operatorOf, variantOf, halfOf, valu
 // A word is its kind times this, and what stands in bits 0-28.
 pub const KIND: u32 = 0x2000_0000;
 
+// The kinds.
 pub const OPERATOR: u32 = 1;
 
 pub const START: u32 = 2;
@@ -19,6 +20,17 @@ pub const UPPER: u32 = 4;
 pub const LOWER: u32 = 5;
 
 pub const CHILDREN: u32 = 6;
+
+// Which word of a token or node is which: the operator's is the first.
+pub const START_FIELD: usize = 1;
+
+pub const END_FIELD: usize = 2;
+
+pub const UPPER_FIELD: usize = 3;
+
+pub const LOWER_FIELD: usize = 4;
+
+pub const COUNT_FIELD: usize = 5;
 
 pub const TOKEN_WORDS: usize = 5;
 

@@ -21,11 +21,11 @@ use Rattle.words.specs.Checks.{numberOf}
 use Rattle.write.specs.declared.shape.Field.{Field}
 use Rattle.write.specs.declared.shape.Field.the-variants.{Operator, Start, End, Upper, Lower, Count}
 use Rattle.write.proofs.shape.Field as field
-use Rattle.write.specs.declared.plain.Place.{Place}
-use Rattle.write.specs.declared.plain.Place.the-variants.{Enclosed, UnderMathCall, LeftOfComma, RightOfQuestion, Operand}
-use Rattle.write.proofs.plain.Place as place
+use Rattle.write.specs.declared.plain.Seat.{Seat}
+use Rattle.write.specs.declared.plain.Seat.the-variants.{Enclosed, UnderMathCall, LeftOfComma, RightOfQuestion, Operand}
+use Rattle.write.proofs.plain.Seat as seat
 use Rattle.write.specs.Answers.{fieldOf, isLegal}
-use Rattle.write.specs.Places.{formPlace, plainBy, isSpared, isPaired}
+use Rattle.write.specs.Seats.{formSeat, plainBy, isSpared, isPaired}
 
 legal-must : (b : Bool) (n : ℕ) → isLegal (must b n) ≡ b
 unfolding must
@@ -83,8 +83,8 @@ not-whole Upper seen h = refl
 not-whole Lower seen h = refl
 not-whole Count seen h = refl
 
--- The places that say nothing of a form, or spare no pair.
-pub not-under-math : (p : Place) → OneOf (0 ∷ 2 ∷ 3 ∷ 4 ∷ []) (Declared.tagOf place.the-type p) → false ≡ isUnderMathCall (formPlace p)
+-- The seats that say nothing of a form, or spare no pair.
+pub not-under-math : (p : Seat) → OneOf (0 ∷ 2 ∷ 3 ∷ 4 ∷ []) (Declared.tagOf seat.the-type p) → false ≡ isUnderMathCall (formSeat p)
 unfolding isUnderMathCall
 not-under-math Enclosed h = refl
 not-under-math UnderMathCall h = absurd (miss (0 ∷ 2 ∷ 3 ∷ 4 ∷ []) 1 tt h)
@@ -92,7 +92,7 @@ not-under-math LeftOfComma h = refl
 not-under-math RightOfQuestion h = refl
 not-under-math Operand h = refl
 
-pub not-right-of-question : (p : Place) → OneOf (0 ∷ 1 ∷ 2 ∷ 4 ∷ []) (Declared.tagOf place.the-type p) → false ≡ isRightOfQuestion (formPlace p)
+pub not-right-of-question : (p : Seat) → OneOf (0 ∷ 1 ∷ 2 ∷ 4 ∷ []) (Declared.tagOf seat.the-type p) → false ≡ isRightOfQuestion (formSeat p)
 unfolding isRightOfQuestion
 not-right-of-question Enclosed h = refl
 not-right-of-question UnderMathCall h = refl
@@ -100,7 +100,7 @@ not-right-of-question LeftOfComma h = refl
 not-right-of-question RightOfQuestion h = absurd (miss (0 ∷ 1 ∷ 2 ∷ 4 ∷ []) 3 tt h)
 not-right-of-question Operand h = refl
 
-pub operand-unspared : (p : Place) (op : ℕ) → OneOf (1 ∷ 4 ∷ []) (Declared.tagOf place.the-type p) → isSpared p op ≡ false
+pub operand-unspared : (p : Seat) (op : ℕ) → OneOf (1 ∷ 4 ∷ []) (Declared.tagOf seat.the-type p) → isSpared p op ≡ false
 operand-unspared Enclosed op h = absurd (miss (1 ∷ 4 ∷ []) 0 tt h)
 operand-unspared UnderMathCall op h = refl
 operand-unspared LeftOfComma op h = absurd (miss (1 ∷ 4 ∷ []) 2 tt h)
@@ -108,11 +108,11 @@ operand-unspared RightOfQuestion op h = absurd (miss (1 ∷ 4 ∷ []) 3 tt h)
 operand-unspared Operand op h = refl
 
 -- No bracket is in an added pair, and no node of three children is plain.
-pub bracket-unpaired : (p : Place) (op children : ℕ) → isBracket op ≡ true → isPaired p op children ≡ false
+pub bracket-unpaired : (p : Seat) (op children : ℕ) → isBracket op ≡ true → isPaired p op children ≡ false
 unfolding isPaired
 bracket-unpaired p op children e = rw (e, or-true)
 
-pub over-many : (p : Place) (op children first : ℕ) → (children ≡ 0 → ⊥) → (children ≡ 1 → ⊥) → (children ≡ 2 → ⊥)
+pub over-many : (p : Seat) (op children first : ℕ) → (children ≡ 0 → ⊥) → (children ≡ 1 → ⊥) → (children ≡ 2 → ⊥)
     → false ≡ plainBy p op children first
 unfolding plainBy
 over-many p op zero first a b c = absurd (a refl)

@@ -11,9 +11,9 @@ use Rattle.molang.specs.Words.{word, listWords}
 use Rattle.words.specs.Fields.{operatorOf}
 use Rattle.molang.specs.Write.{written, operandTokens}
 use Rattle.molang.specs.WriteEntry.{treesOf, tokens}
-use Rattle.write.specs.declared.plain.Place.{Place}
+use Rattle.write.specs.declared.plain.Seat.{Seat}
 use Rattle.write.specs.Answers.{judgement}
-use Rattle.write.specs.Places.{isPaired}
+use Rattle.write.specs.Seats.{isPaired}
 use Rattle.write.specs.Shaped.{Shaped}
 
 -- The token words that a list of words opens with.
@@ -34,7 +34,7 @@ firstSize nil = 0
 firstSize (node k cs rest) = 1 + size cs
 
 -- The tokens of the first tree as an operand at a place.
-unfoldable pub operandOf : Place → Forest → List Token
+unfoldable pub operandOf : Seat → Forest → List Token
 operandOf p nil = []
 operandOf p (node k cs rest) = operandTokens (not (isPaired p (k .op) (count cs))) k (written k cs) []
 

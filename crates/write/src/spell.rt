@@ -1,11 +1,11 @@
 // The writing of a plain tree: each operator between or before its operands, copied as it came, with added pairs where an operand
 // needs them. `write_node` and `write_operand` call each other over the preorder words; each gives back the part of them that its
-// tree fills, so the next operand is known to start right after it. Leans on plain (places), ops and words.
-use crate::plain::Place;
+// tree fills, so the next operand is known to start right after it. Leans on plain (seats), ops and words.
+use crate::plain::Seat;
 use crate::plain::is_paired;
-use crate::plain::place_of_left;
-use crate::plain::place_of_only;
-use crate::plain::place_of_right;
+use crate::plain::seat_of_left;
+use crate::plain::seat_of_only;
+use crate::plain::seat_of_right;
 use ops::op;
 use words::fields;
 ghost use mathlib.Core.Path.{_≡_};
@@ -17,7 +17,7 @@ ghost use Rattle.molang.specs.WriteEntry.{treesOf, writtenTokens};
 ghost use Rattle.words.specs.Records.{laidAt};
 ghost use Rattle.write.specs.Spelling.{firstFive, bracketWords, closerWords, firstSize, operandOf, Room};
 
-// Puts a token's five words to the list's place `to`, which goes on behind them.
+// Puts a token's five words to the list's seat `to`, which goes on behind them.
 fn put(list: &mut [u32], to: &mut usize, first: u32, start: u32, end: u32, upper: u32, lower: u32)
     requires { ⌜ now to + 5 ≤ length (now list) ⌝ }
     ensures { λ _. ⌜ now (list .exit) ≡ laidAt (now (to .entry)) (first ∷ start ∷ end ∷ upper ∷ lower ∷ []) (now (list .entry)) ⌝ }
@@ -79,10 +79,10 @@ pub fn write_node<'a>(words: &'a [u32], list: &mut [u32], to: &mut usize) -> &'a
     let op = fields::operator(words[0]);
     let children = fields::low(words[5]);
     if children == 2 {
-        let left = write_operand(&words[fields::NODE_WORDS..], place_of_left(op), list, to);
+        let left = write_operand(&words[fields::NODE_WORDS..], seat_of_left(op), list, to);
         put_token(words, list, to);
         let next = fields::NODE_WORDS + left.len();
-        let right = write_operand(&words[next..], place_of_right(op), list, to);
+        let right = write_operand(&words[next..], seat_of_right(op), list, to);
         return &words[..next + right.len()];
     }
     put_token(words, list, to);
@@ -90,20 +90,20 @@ pub fn write_node<'a>(words: &'a [u32], list: &mut [u32], to: &mut usize) -> &'a
         put_closer(words, list, to);
         return &words[..fields::NODE_WORDS];
     }
-    let only = write_operand(&words[fields::NODE_WORDS..], place_of_only(op), list, to);
+    let only = write_operand(&words[fields::NODE_WORDS..], seat_of_only(op), list, to);
     put_closer(words, list, to);
     &words[..fields::NODE_WORDS + only.len()]
 }
 
-// Writes the tree that the words open with as an operand at its place, in an added pair if it needs one; gives back the words
+// Writes the tree that the words open with as an operand at its seat, in an added pair if it needs one; gives back the words
 // that it fills.
-fn write_operand<'a>(words: &'a [u32], place: Place, list: &mut [u32], to: &mut usize) -> &'a [u32]
-    requires { ⌜ Room (operandOf place) (now words) (now list) (now to) ⌝ }
+fn write_operand<'a>(words: &'a [u32], seat: Seat, list: &mut [u32], to: &mut usize) -> &'a [u32]
+    requires { ⌜ Room (operandOf seat) (now words) (now list) (now to) ⌝ }
     ensures { λ r. ⌜ now r ≡ take (6 * firstSize (treesOf (now (words .entry)))) (now (words .entry)) ⌝ }
-    ensures { λ _. ⌜ now (list .exit) ≡ laidAt (now (to .entry)) (listWords ((operandOf place) (treesOf (now (words .entry))))) (now (list .entry)) ⌝ }
-    ensures { λ _. ⌜ now (to .exit) ≡ now (to .entry) + length (listWords ((operandOf place) (treesOf (now (words .entry))))) ⌝ }
+    ensures { λ _. ⌜ now (list .exit) ≡ laidAt (now (to .entry)) (listWords ((operandOf seat) (treesOf (now (words .entry))))) (now (list .entry)) ⌝ }
+    ensures { λ _. ⌜ now (to .exit) ≡ now (to .entry) + length (listWords ((operandOf seat) (treesOf (now (words .entry))))) ⌝ }
 {
-    if !is_paired(place, fields::operator(words[0]), fields::low(words[5])) {
+    if !is_paired(seat, fields::operator(words[0]), fields::low(words[5])) {
         return write_node(words, list, to);
     }
     put_bracket(op::LEFT_PARENTHESIS, words, list, to);

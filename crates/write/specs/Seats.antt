@@ -7,42 +7,42 @@ use Rattle.molang.specs.Operator
 use Rattle.molang.specs.Operator.{isOneOf, isMathCall, isBracket}
 use Rattle.molang.specs.Plain as plain
 use Rattle.molang.specs.Plain.{isPlainLeaf, isPlainBinary, isCall, isRightOfQuestion, isUnderMathCall}
-use Rattle.write.specs.declared.plain.Place.{Place}
-use Rattle.write.specs.declared.plain.Place.the-variants.{Enclosed, UnderMathCall, LeftOfComma, RightOfQuestion, Operand}
+use Rattle.write.specs.declared.plain.Seat.{Seat}
+use Rattle.write.specs.declared.plain.Seat.the-variants.{Enclosed, UnderMathCall, LeftOfComma, RightOfQuestion, Operand}
 
--- The place as the plain forms tell places apart.
-abbrev pub formPlace : Place → plain.Place
-formPlace Enclosed = plain.elsewhere
-formPlace UnderMathCall = plain.underMathCall
-formPlace LeftOfComma = plain.elsewhere
-formPlace RightOfQuestion = plain.rightOfQuestion
-formPlace Operand = plain.elsewhere
+-- The seat as the plain forms tell seats apart.
+abbrev pub formSeat : Seat → plain.Seat
+formSeat Enclosed = plain.elsewhere
+formSeat UnderMathCall = plain.underMathCall
+formSeat LeftOfComma = plain.elsewhere
+formSeat RightOfQuestion = plain.rightOfQuestion
+formSeat Operand = plain.elsewhere
 
--- The place of the one child of an operator.
-unfoldable pub onlyPlace : ℕ → Place
-onlyPlace op = elim (isBracket op) [ true ↦ Enclosed | false ↦ elim (isMathCall op) [ true ↦ UnderMathCall | false ↦ Operand ] ]
+-- The seat of the one child of an operator.
+unfoldable pub onlySeat : ℕ → Seat
+onlySeat op = elim (isBracket op) [ true ↦ Enclosed | false ↦ elim (isMathCall op) [ true ↦ UnderMathCall | false ↦ Operand ] ]
 
--- The place of the first of two children.
-unfoldable pub leftPlace : ℕ → Place
-leftPlace op = elim (eqb op Operator.comma) [ true ↦ LeftOfComma | false ↦ Operand ]
+-- The seat of the first of two children.
+unfoldable pub leftSeat : ℕ → Seat
+leftSeat op = elim (eqb op Operator.comma) [ true ↦ LeftOfComma | false ↦ Operand ]
 
--- The place of the second.
-unfoldable pub rightPlace : ℕ → Place
-rightPlace op = elim (eqb op Operator.conditional) [ true ↦ RightOfQuestion | false ↦ Operand ]
+-- The seat of the second.
+unfoldable pub rightSeat : ℕ → Seat
+rightSeat op = elim (eqb op Operator.conditional) [ true ↦ RightOfQuestion | false ↦ Operand ]
 
 -- What stands before any one operand in a plain tree.
 unfoldable pub isPrefix : ℕ → Bool
 isPrefix op = isOneOf (Operator.leftParenthesis ∷ Operator.negate ∷ Operator.logicalNot ∷ []) op
 
 -- The plain forms, over a number of children of which the first has the operator `first`.
-unfoldable pub plainBy : Place → ℕ → ℕ → ℕ → Bool
-plainBy p op zero first = isPlainLeaf op || (isBracket op && isUnderMathCall (formPlace p))
+unfoldable pub plainBy : Seat → ℕ → ℕ → ℕ → Bool
+plainBy p op zero first = isPlainLeaf op || (isBracket op && isUnderMathCall (formSeat p))
 plainBy p op (suc zero) first = isPrefix op || (isCall op && isBracket first)
-plainBy p op (suc (suc zero)) first = isPlainBinary op || (eqb op Operator.conditionalElse && isRightOfQuestion (formPlace p))
+plainBy p op (suc (suc zero)) first = isPlainBinary op || (eqb op Operator.conditionalElse && isRightOfQuestion (formSeat p))
 plainBy p op (suc (suc (suc n))) first = false
 
--- The place spares a node of this operator its pair.
-abbrev pub isSpared : Place → ℕ → Bool
+-- The seat spares a node of this operator its pair.
+abbrev pub isSpared : Seat → ℕ → Bool
 isSpared Enclosed op = true
 isSpared UnderMathCall op = false
 isSpared LeftOfComma op = eqb op Operator.comma
@@ -50,7 +50,7 @@ isSpared RightOfQuestion op = eqb op Operator.conditionalElse
 isSpared Operand op = false
 
 -- A node of this operator and so many children gets an added pair.
-unfoldable pub isPaired : Place → ℕ → ℕ → Bool
+unfoldable pub isPaired : Seat → ℕ → ℕ → Bool
 isPaired p op children = not (eqb children 0 || (isBracket op || isSpared p op))
 
 -- n where the test holds, else 0.
@@ -59,5 +59,5 @@ ifTrue true n = n
 ifTrue false n = 0
 
 -- The tokens that are written for a node alone: itself, a bracket's closer, an added pair.
-unfoldable pub tokensFor : Place → ℕ → ℕ → ℕ
+unfoldable pub tokensFor : Seat → ℕ → ℕ → ℕ
 tokensFor p op children = 1 + ifTrue (isBracket op) 1 + ifTrue (isPaired p op children) 2
