@@ -47,7 +47,8 @@ bad-word HighVariant h = refl
 bad-word OtherBit h = refl
 
 -- Only an operator word has a variant and begins a node, only a count calls for nodes, and no tree ends inside a node.
-pub variant-kept : (s : Field) (v : ℕ) (w : ℕ) → OneOf (1 ∷ 2 ∷ 3 ∷ 4 ∷ 5 ∷ []) (Declared.tagOf field.the-type s) → v ≡ variantAfter (fieldOf s) v w
+pub variant-kept : (s : Field) (v : ℕ) (w : ℕ)
+    → OneOf (1 ∷ 2 ∷ 3 ∷ 4 ∷ 5 ∷ []) (Declared.tagOf field.the-type s) → v ≡ variantAfter (fieldOf s) v w
 unfolding variantAfter
 variant-kept Operator v w h = absurd (miss (1 ∷ 2 ∷ 3 ∷ 4 ∷ 5 ∷ []) 0 tt h)
 variant-kept Start v w h = refl
@@ -56,7 +57,8 @@ variant-kept Upper v w h = refl
 variant-kept Lower v w h = refl
 variant-kept Count v w h = refl
 
-pub begun-kept : (s : Field) (w : ℕ) (seen : Shape) → OneOf (1 ∷ 2 ∷ 3 ∷ 4 ∷ 5 ∷ []) (Declared.tagOf field.the-type s) → seen .begun ≡ shapeAfter (fieldOf s) w seen .begun
+pub begun-kept : (s : Field) (w : ℕ) (seen : Shape)
+    → OneOf (1 ∷ 2 ∷ 3 ∷ 4 ∷ 5 ∷ []) (Declared.tagOf field.the-type s) → seen .begun ≡ shapeAfter (fieldOf s) w seen .begun
 unfolding shapeAfter
 begun-kept Operator w seen h = absurd (miss (1 ∷ 2 ∷ 3 ∷ 4 ∷ 5 ∷ []) 0 tt h)
 begun-kept Start w seen h = refl
@@ -65,7 +67,8 @@ begun-kept Upper w seen h = refl
 begun-kept Lower w seen h = refl
 begun-kept Count w seen h = refl
 
-pub called-kept : (s : Field) (w : ℕ) (seen : Shape) → OneOf (0 ∷ 1 ∷ 2 ∷ 3 ∷ 4 ∷ []) (Declared.tagOf field.the-type s) → seen .called ≡ shapeAfter (fieldOf s) w seen .called
+pub called-kept : (s : Field) (w : ℕ) (seen : Shape)
+    → OneOf (0 ∷ 1 ∷ 2 ∷ 3 ∷ 4 ∷ []) (Declared.tagOf field.the-type s) → seen .called ≡ shapeAfter (fieldOf s) w seen .called
 unfolding shapeAfter
 called-kept Operator w seen h = refl
 called-kept Start w seen h = refl
@@ -74,7 +77,8 @@ called-kept Upper w seen h = refl
 called-kept Lower w seen h = refl
 called-kept Count w seen h = absurd (miss (0 ∷ 1 ∷ 2 ∷ 3 ∷ 4 ∷ []) 5 tt h)
 
-pub not-whole : (s : Field) (seen : Shape) → OneOf (1 ∷ 2 ∷ 3 ∷ 4 ∷ 5 ∷ []) (Declared.tagOf field.the-type s) → false ≡ isWhole (fieldOf s) seen
+pub not-whole : (s : Field) (seen : Shape)
+    → OneOf (1 ∷ 2 ∷ 3 ∷ 4 ∷ 5 ∷ []) (Declared.tagOf field.the-type s) → false ≡ isWhole (fieldOf s) seen
 unfolding isWhole
 not-whole Operator seen h = absurd (miss (1 ∷ 2 ∷ 3 ∷ 4 ∷ 5 ∷ []) 0 tt h)
 not-whole Start seen h = refl
@@ -92,7 +96,8 @@ not-under-math LeftOfComma h = refl
 not-under-math RightOfQuestion h = refl
 not-under-math Operand h = refl
 
-pub not-right-of-question : (p : Seat) → OneOf (0 ∷ 1 ∷ 2 ∷ 4 ∷ []) (Declared.tagOf seat.the-type p) → false ≡ isRightOfQuestion (formSeat p)
+pub not-right-of-question : (p : Seat)
+    → OneOf (0 ∷ 1 ∷ 2 ∷ 4 ∷ []) (Declared.tagOf seat.the-type p) → false ≡ isRightOfQuestion (formSeat p)
 unfolding isRightOfQuestion
 not-right-of-question Enclosed h = refl
 not-right-of-question UnderMathCall h = refl

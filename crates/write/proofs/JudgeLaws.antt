@@ -205,7 +205,8 @@ none-over false b c e t = absurd (true≢false (sym e))
 
 over-by : (n : ℕ) (b : Bool) → leb n 110 ≡ b → overTwo n ≡ true → (isBracket n ≡ false) × (isMathCall n ≡ false)
 unfolding isPlainBinary isBracket isMathCall between
-over-by n true h e = none-over (overTwo n) (isBracket n) (isMathCall n) e (passes-at noneOver 0 111 tt n (omega arith) (omega (arith, leb-true n 110 h)))
+over-by n true h e =
+    none-over (overTwo n) (isBracket n) (isMathCall n) e (passes-at noneOver 0 111 tt n (omega arith) (omega (arith, leb-true n 110 h)))
 over-by n false h e = (ne-eqb n 4 (λ q. omega (arith, leb-false n 110 h)), no-math n (omega (arith, leb-false n 110 h)))
 
 two-or-else : (a b c : Bool) → (a || (b && c)) ≡ true → (a || b) ≡ true
@@ -262,7 +263,8 @@ unfolding rightSeat seatUnder
 right-seat k e = rw (e, seatUnder) (right-by (eqb (k .op) Operator.conditional))
 
 -- The tokens of a node are its own and its children's.
-pair-length : (b : Bool) (k : Token) (cs : Forest) → length (operandTokens (not b) k (written k cs) []) ≡ length (written k cs []) + ifTrue b 2
+pair-length : (b : Bool) (k : Token) (cs : Forest)
+    → length (operandTokens (not b) k (written k cs) []) ≡ length (written k cs []) + ifTrue b 2
 unfolding operandTokens
 pair-length true k cs = omega (arith, written-length k cs (closerFor k ∷ []))
 pair-length false k cs = omega arith
@@ -342,7 +344,7 @@ unfoldable pub pending : List Seat → ℕ → List Seat
 pending waiting zero = []
 pending waiting (suc top) = getD waiting top Enclosed ∷ pending waiting top
 
--- THE LOOP'S INVARIANT: the n nodes before the one at `at` are plain, and the seats of the trees that are still called for are on the stack.
+-- THE LOOP'S INVARIANT: the n nodes before `at` are plain, and the seats of the trees that are still called for are on the stack.
 pub record Judging (tree : List ℕ) (waiting : List Seat) (top sum n at : ℕ) : Type 0 where
   pub within : at ≤ length tree
   pub stands : at ≡ 6 * n
@@ -354,7 +356,8 @@ pub record Judging (tree : List ℕ) (waiting : List Seat) (top sum n at : ℕ) 
 pending-set : (waiting : List Seat) (top i : ℕ) (p : Seat) → top ≤ i → pending (set waiting i p) top ≡ pending waiting top
 unfolding pending
 pending-set waiting zero i p h = refl
-pending-set waiting (suc top) i p h = rw (getD-set-other waiting i top p Enclosed (λ e. omega arith), pending-set waiting top i p (omega arith))
+pending-set waiting (suc top) i p h =
+    rw (getD-set-other waiting i top p Enclosed (λ e. omega arith), pending-set waiting top i p (omega arith))
 
 pushed : (waiting : List Seat) (top : ℕ) (p : Seat) → top < length waiting → pending (set waiting top p) (suc top) ≡ p ∷ pending waiting top
 unfolding pending

@@ -1,4 +1,5 @@
--- Laws for the walks of the functions over the reader: what it owns gives what a function over its words and its position asks, and is kept.
+-- Laws for the walks of the functions over the reader: what it owns gives what a function over its words and its position asks,
+-- and is kept.
 use mathlib.Core.Path.{_≡_, refl, sym, subst}
 use Prim.Native.Nat.{_<_, _^_}
 use mathlib.Core.List.{List, [], _∷_}

@@ -13,7 +13,7 @@ use Rattle.words.specs.Records.{laidAt}
 use Rattle.write.specs.declared.plain.Seat.{Seat}
 use Rattle.write.specs.Seats.{isPaired, onlySeat, leftSeat, rightSeat}
 use Rattle.write.specs.Shaped.{Shaped}
-use Rattle.write.specs.Spelling.{firstFive, bracketWords, closerWords, firstSize, operandOf, Room}
+use Rattle.write.specs.Spelling.{firstFive, bracketWords, closerWords, firstSize, operandOf, filledWords, Room}
 use Rattle.write.proofs.RowLaws.{Opened, opened, shaped-room}
 use Rattle.write.proofs.SpellLaws.{laid-length, laid-laid, first-within, none-below, OneBelow, one-below, onlyWords, TwoBelow, two-below, leftWords, leftSize, rightPart, rightWords, paired-words, unpaired-words}
 
@@ -34,13 +34,13 @@ nodesLeft W = length W / 6
 pub fewer-nodes : (n : ℕ) (W : List ℕ) → 6 ≤ n → 6 ≤ length W → nodesLeft (tail n W) < nodesLeft W
 fewer-nodes n W six long = omega (arith, tail-length n W)
 
--- Words laid into the list from a place on, which goes on behind them.
+-- Words laid into the list from `to` on, which goes on behind them.
 abbrev pub Puts : List ℕ → List ℕ → ℕ → List ℕ → ℕ → Type 0
 Puts ws L to L' to' = (L' ≡ laidAt to ws L) × (to' ≡ to + length ws)
 
--- What a call of `write_node` or `write_operand` leaves: the part of the words, the list and the place in it.
+-- What a call of `write_node` or `write_operand` leaves: the part of the words, the list and where it goes on.
 abbrev pub Writes : List ℕ → List ℕ → List ℕ → ℕ → List ℕ → List ℕ → ℕ → Type 0
-Writes ws W L to part L' to' = (part ≡ take (6 * firstSize (treesOf W)) W) × Puts ws L to L' to'
+Writes ws W L to part L' to' = (part ≡ filledWords W) × Puts ws L to L' to'
 
 puts-more : (to : ℕ) (xs ys L : List ℕ) {L1 L2 : List ℕ} {to1 to2 : ℕ} → to + length (xs ++ ys) ≤ length L → Puts xs L to L1 to1
     → Puts ys L1 to1 L2 to2
@@ -255,7 +255,7 @@ module _ {W L : List ℕ} {to : ℕ} (r : Room writtenTokens W L to) where
           pub two-writes : Writes (listWords (writtenTokens (treesOf W))) W L to (take (6 + length l + length m) W) L3 to3
           two-writes = rw (two .words, ← two-part) (refl, two-all)
 
--- An operand that is to be written at its place.
+-- An operand that is to be written in its seat.
 module _ {W L : List ℕ} {to : ℕ} (p : Seat) (r : Room (operandOf p) W L to) where
   operand : Opened 2 (suc (r .others)) W
   operand = opened (r .shaped) (omega (arith, shaped-room (r .shaped)))

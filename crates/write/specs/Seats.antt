@@ -1,4 +1,4 @@
--- Where a node stands, as the code has it, and what follows from it: the plain forms and the added pairs by numbers alone.
+-- The seat of a node as the code has it, and what follows from it: the plain forms and the added pairs by numbers alone.
 use Prim.Native.Nat.{ℕ, zero, suc, _+_}
 use mathlib.Core.Bool.{Bool, true, false, _||_, _&&_, not}
 use mathlib.Core.List.{[], _∷_}
@@ -10,7 +10,7 @@ use Rattle.molang.specs.Plain.{isPlainLeaf, isPlainBinary, isCall, isRightOfQue
 use Rattle.write.specs.declared.plain.Seat.{Seat}
 use Rattle.write.specs.declared.plain.Seat.the-variants.{Enclosed, UnderMathCall, LeftOfComma, RightOfQuestion, Operand}
 
--- The seat as the plain forms tell seats apart.
+-- The definition's seat, by which the plain forms go.
 abbrev pub formSeat : Seat → plain.Seat
 formSeat Enclosed = plain.elsewhere
 formSeat UnderMathCall = plain.underMathCall

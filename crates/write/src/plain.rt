@@ -11,7 +11,7 @@ ghost use Rattle.write.specs.Answers.{verdictOf, judgement};
 ghost use Rattle.write.specs.Seats.{formSeat, onlySeat, leftSeat, rightSeat, isPrefix, plainBy, isPaired, tokensFor};
 ghost use Rattle.write.specs.Shaped.{OneTree};
 
-// Where a node stands, as far as its form and its pair of brackets go by it.
+// The seat of a node under its parent, as far as its form and its pair of brackets depend on it.
 pub enum Seat {
     // The root, or a bracket's child.
     Enclosed,
@@ -25,6 +25,7 @@ pub enum Seat {
     Operand,
 }
 
+// What a tree is found to be.
 pub enum Judged {
     // Every node is plain, and so many tokens are written.
     Plain(usize),
@@ -45,7 +46,7 @@ pub fn seat_of_only(op: u32) -> Seat
     Seat::Operand
 }
 
-// The seats of the two children of op.
+// The seat of the first of two children of op.
 pub fn seat_of_left(op: u32) -> Seat
     ensures { λ r. ⌜ r ≡ leftSeat op ⌝ }
 {
@@ -55,6 +56,7 @@ pub fn seat_of_left(op: u32) -> Seat
     Seat::Operand
 }
 
+// The seat of the second.
 pub fn seat_of_right(op: u32) -> Seat
     ensures { λ r. ⌜ r ≡ rightSeat op ⌝ }
 {
@@ -167,7 +169,7 @@ pub fn is_plain(seat: Seat, op: u32, children: u32, first: u32) -> bool
     }
 }
 
-// Whether an operand gets an added pair of brackets: not a leaf or a bracket, and not where its seat spares it.
+// Whether an operand gets an added pair of brackets: a leaf and a bracket get none, and some seats spare their node the pair.
 pub fn is_paired(seat: Seat, op: u32, children: u32) -> bool
     ensures { λ r. ⌜ r ≡ isPaired seat op children ⌝ }
 {
@@ -198,8 +200,8 @@ fn tokens_for(seat: Seat, op: u32, children: u32) -> usize
     1
 }
 
-// The first node of a tree that is not plain, or the number of tokens that writing gives. A tree of at most 12,288 nodes never has
-// more than these waiting.
+// The first node of a tree that is not plain, or the number of tokens that are written. The reader says where the next node stands.
+// No more than 12,288 nodes wait, since a tree has no more.
 pub fn judge(tree: &[u32]) -> Judged
     requires { ⌜ OneTree (now tree) ⌝ }
     ensures { λ r. ⌜ verdictOf r ≡ judgement (treesOf (now (tree .entry))) ⌝ }

@@ -1,5 +1,5 @@
-// A reader over the lent tree words that carries its position: where a node's first word stands. It is taken apart to look at the node, and the
-// looking is left to a function over the words and a number. `view_node` is what the writer calls. Leans on words.
+// A reader over the lent tree words that carries its position: where a node's first word stands. To look at the node it is taken apart, and
+// a function over the words and a number looks. `view_node` is what the writer calls. Leans on words.
 use words::fields;
 ghost use mathlib.Core.Path.{_≡_};
 ghost use Prim.Native.Nat.{_+_, _≤_};
@@ -29,15 +29,15 @@ fn operator_at(words: &[u32], at: usize) -> u32
     0
 }
 
-// What is seen of the node that starts at `at`.
-fn look_at(words: &[u32], at: usize) -> NodeView
-    requires { ⌜ at + 6 ≤ length (now words) ⌝ }
-    ensures { λ r. ⌜ r ≡ viewAt (now (words .entry)) at ⌝ }
+// What is seen of the node that starts at `from`.
+fn look_at(words: &[u32], from: usize) -> NodeView
+    requires { ⌜ from + 6 ≤ length (now words) ⌝ }
+    ensures { λ r. ⌜ r ≡ viewAt (now (words .entry)) from ⌝ }
 {
-    let after = at + fields::NODE_WORDS;
+    let after = from + fields::NODE_WORDS;
     NodeView {
-        op: fields::operator(words[at]),
-        children: fields::low(words[at + fields::COUNT_FIELD]),
+        op: fields::operator(words[from]),
+        children: fields::low(words[from + fields::COUNT_FIELD]),
         next: operator_at(words, after),
         after,
     }
