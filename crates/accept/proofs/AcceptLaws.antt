@@ -83,7 +83,8 @@ module _ (list : List ℕ) (sizes : Sizes) (used : OpSet) where
   abbrev pub Answers : Accepted → Type 0
   Answers x = verdictOf x ≡ verdict (length list / 5) (refusal (callOf list sizes used))
 
-  pub by-length : (x : Accepted) → OneOf (1 ∷ []) (tagOf the-type x) → verdictOf x ≡ verdict (length list / 5) (lengthRefusal (length list)) → Answers x
+  pub by-length : (x : Accepted) → OneOf (1 ∷ []) (tagOf the-type x)
+      → verdictOf x ≡ verdict (length list / 5) (lengthRefusal (length list)) → Answers x
   by-length x h e =
       refused-first x (length list / 5) (lengthRefusal (length list)) _ h e ∙ ap (verdict (length list / 5)) (sym (table list sizes used))
 

@@ -78,12 +78,12 @@ fn token_words(list: &[u32], n: usize) -> Accepted
 {
     let mut i = 0usize;
     while i < n {
-        let at = 5 * i;
+        let at = fields::TOKEN_WORDS * i;
         let first = list[at];
-        let start = list[at + 1];
-        let end = list[at + 2];
-        let upper = list[at + 3];
-        let lower = list[at + 4];
+        let start = list[at + fields::START_FIELD];
+        let end = list[at + fields::END_FIELD];
+        let upper = list[at + fields::UPPER_FIELD];
+        let lower = list[at + fields::LOWER_FIELD];
         i += 1;
         let checked = token(first, start, end, upper, lower, at);
         match checked {

@@ -73,7 +73,8 @@ module _ {A : Type 0} where
   in-parts (some a ∷ checks) later = refl
 
   -- Checks behind the same first one.
-  pub behind : (o : Option A) (checks others : List (Option A)) → firstOf checks ≡ firstOf others → firstOf (o ∷ checks) ≡ firstOf (o ∷ others)
+  pub behind : (o : Option A) (checks others : List (Option A)) → firstOf checks ≡ firstOf others
+      → firstOf (o ∷ checks) ≡ firstOf (o ∷ others)
   unfolding firstOf
   behind none checks others e = e
   behind (some a) checks others e = refl

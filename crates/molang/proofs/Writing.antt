@@ -8,7 +8,7 @@ use native.Mathlib.Omega.{arith}
 use lib.ListN.{length, length-append}
 use Rattle.molang.specs.Operator.{isBracket}
 use Rattle.molang.specs.Forest.{Token, Forest, nil, node, size}
-use Rattle.molang.specs.Plain.{Place, elsewhere, placeUnder, plainForm, placeOf, unplain, unplainAt}
+use Rattle.molang.specs.Plain.{Seat, elsewhere, seatUnder, plainForm, seatOf, unplain, unplainAt}
 use Rattle.molang.proofs.PlainTrees.{plain-parts}
 use Rattle.molang.specs.Write.{openerFor, closerFor, standsAlone, standsLeft, standsRight, operandTokens, written}
 
@@ -137,19 +137,19 @@ unfolding one
 inTrees test nil = 0
 inTrees test (node k cs rest) = one (test k) + inTrees test cs + inTrees test rest
 
-own-once : (test : Token → Bool) (p : Place) (n : ℕ) (k : Token) (cs : Forest) → plainForm p k cs ≡ true → unplain (some k) 0 n cs ≡ none
+own-once : (test : Token → Bool) (p : Seat) (n : ℕ) (k : Token) (cs : Forest) → plainForm p k cs ≡ true → unplain (some k) 0 n cs ≡ none
     → (r : List Token)
     → inList test (ownTokens k cs r) ≡ one (test k) + inTrees test cs + inList test r
-unfolding ownTokens inList inTrees placeOf
+unfolding ownTokens inList inTrees seatOf
 own-once test p n k nil h u r = omega arith
 own-once test p n k (node x xs nil) h u r =
     let a = plain-parts (some k) 0 n x xs nil u in
-    let i = own-once test (placeUnder k 0) (suc n) x xs (a .here) (a .below) r in omega arith
+    let i = own-once test (seatUnder k 0) (suc n) x xs (a .here) (a .below) r in omega arith
 own-once test p n k (node x xs (node y ys nil)) h u r =
     let a = plain-parts (some k) 0 n x xs (node y ys nil) u in
     let b = plain-parts (some k) 1 (suc n + size xs) y ys nil (a .after) in
-    let i = own-once test (placeUnder k 0) (suc n) x xs (a .here) (a .below) (k ∷ ownTokens y ys r) in
-    let j = own-once test (placeUnder k 1) (suc (suc n + size xs)) y ys (b .here) (b .below) r in omega arith
+    let i = own-once test (seatUnder k 0) (suc n) x xs (a .here) (a .below) (k ∷ ownTokens y ys r) in
+    let j = own-once test (seatUnder k 1) (suc (suc n + size xs)) y ys (b .here) (b .below) r in omega arith
 own-once test p n k (node x xs (node y ys (node z zs more))) h u r = absurd (false≢true (unfold plainForm in h))
 
 -- NO TOKEN IS LOST OR INVENTED: the writing of a plain tree is its own tokens in order with added brackets between them, and its own tokens are
@@ -159,7 +159,7 @@ pub record PutInOnce (k : Token) (cs : Forest) : Type 0 where
   pub eachOnce : (test : Token → Bool) → inList test (ownTokens k cs []) ≡ inTrees test (node k cs nil)
 
 pub put-in-once : (k : Token) (cs : Forest) → unplainAt k cs ≡ none → PutInOnce k cs
-unfolding unplainAt placeOf inList inTrees
+unfolding unplainAt seatOf inList inTrees
 put-in-once k cs plain = record {
   bracketsAdded = adds k cs [] [] nothing;
   eachOnce = λ test.

@@ -1,4 +1,5 @@
--- The word formats of document 01, 'The entry and its words': tokens of five words, tree nodes of six, which words are legal, and answers 8-11.
+-- The word formats of document 01, 'The entry and its words': tokens of five words, tree nodes of six, which words are legal, and
+-- answers 8-11.
 use Prim.Native.Nat.{ℕ, _+_, _*_, _/_, _%_, _^_, _≤_, _<_, suc}
 use mathlib.Core.Path.{_≡_}
 use mathlib.Core.Bool.{Bool, true, false}

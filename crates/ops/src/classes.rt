@@ -6,12 +6,14 @@ ghost use mathlib.Core.Bool.{_||_};
 ghost use Prim.Native.Nat.{ℕ};
 ghost use Rattle.ops.specs.Classes.{bitAt, shares, classTable, entryOf, ownWord};
 
-// A set of token classes: each constant from CALL to ONLY_CONDITIONAL_ELSE is one class, each after it several. The Rust has a set
-// of all classes too, which it notes where no pass has looked yet; here each leaf notes its own classes from the start.
+// A set of token classes: each constant from CALL to ONLY_CONDITIONAL_ELSE is one class, each after it several. NONE and ALL are the
+// Rust's, which notes ALL where no pass has looked yet. Here each leaf notes its own classes from the start, so no function uses ALL.
 pub struct TokenClasses(pub u32);
 
 impl TokenClasses {
     pub const NONE: Self = Self(0);
+
+    pub const ALL: Self = Self(0xffff_ffff);
 
     pub const CALL: Self = Self(0x1);
 

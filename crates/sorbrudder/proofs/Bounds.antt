@@ -14,7 +14,7 @@ use Rattle.molang.specs.Read as read
 use Rattle.molang.specs.Words.{Field, operatorField, startField, endField, upperField, lowerField, countField, lowOf, lowFault, wordFault, variantAfter, nextInToken, Refusal, row, withPlace, withNumber, wordsRefusal}
 use Rattle.molang.specs.FirstFailure.{must, firstOf}
 use Rattle.molang.specs.Parse.{Call, mostTokens, refusal, reading, told, answered}
-use Rattle.molang.specs.Plain.{plainForm, placeOf, unplain, unplainAt}
+use Rattle.molang.specs.Plain.{plainForm, seatOf, unplain, unplainAt}
 use Rattle.molang.specs.Write.{written}
 use Rattle.molang.specs.WriteEntry.{mostNodes, nextInNode, Shape, shapeAfter, continues, isWhole, treeFault, treesOf, WriteCall, forestRefusal, writeRefusal, writtenTokens, writeTold, writeAnswered}
 use Rattle.molang.proofs.Accepted.{call-accepted}
@@ -90,7 +90,7 @@ unplain-place : (p : Option Token) (i n : ℕ) (f : Forest) → All (λ m. m < n
 unfolding unplain firstOf must size
 unplain-place p i n nil = tt
 unplain-place p i n (node k cs rest) =
-    split (plainForm (placeOf p i) k cs) (unplain (some k) 0 (suc n) cs) (unplain p (suc i) (suc n + size cs) rest)
+    split (plainForm (seatOf p i) k cs) (unplain (some k) 0 (suc n) cs) (unplain p (suc i) (suc n + size cs) rest)
     (unplain-place (some k) 0 (suc n) cs) (unplain-place p (suc i) (suc n + size cs) rest)
   where
     split : (b : Bool) (o later : Option ℕ) → All (λ m. m < suc n + size cs) o → All (λ m. m < suc n + size cs + size rest) later

@@ -21,11 +21,11 @@ use Rattle.words.specs.Checks.{numberOf}
 use Rattle.write.specs.declared.shape.Field.{Field}
 use Rattle.write.specs.declared.shape.Field.the-variants.{Operator, Start, End, Upper, Lower, Count}
 use Rattle.write.proofs.shape.Field as field
-use Rattle.write.specs.declared.plain.Place.{Place}
-use Rattle.write.specs.declared.plain.Place.the-variants.{Enclosed, UnderMathCall, LeftOfComma, RightOfQuestion, Operand}
-use Rattle.write.proofs.plain.Place as place
+use Rattle.write.specs.declared.plain.Seat.{Seat}
+use Rattle.write.specs.declared.plain.Seat.the-variants.{Enclosed, UnderMathCall, LeftOfComma, RightOfQuestion, Operand}
+use Rattle.write.proofs.plain.Seat as seat
 use Rattle.write.specs.Answers.{fieldOf, isLegal}
-use Rattle.write.specs.Places.{formPlace, plainBy, isSpared, isPaired}
+use Rattle.write.specs.Seats.{formSeat, plainBy, isSpared, isPaired}
 
 legal-must : (b : Bool) (n : ℕ) → isLegal (must b n) ≡ b
 unfolding must
@@ -47,7 +47,8 @@ bad-word HighVariant h = refl
 bad-word OtherBit h = refl
 
 -- Only an operator word has a variant and begins a node, only a count calls for nodes, and no tree ends inside a node.
-pub variant-kept : (s : Field) (v : ℕ) (w : ℕ) → OneOf (1 ∷ 2 ∷ 3 ∷ 4 ∷ 5 ∷ []) (Declared.tagOf field.the-type s) → v ≡ variantAfter (fieldOf s) v w
+pub variant-kept : (s : Field) (v : ℕ) (w : ℕ)
+    → OneOf (1 ∷ 2 ∷ 3 ∷ 4 ∷ 5 ∷ []) (Declared.tagOf field.the-type s) → v ≡ variantAfter (fieldOf s) v w
 unfolding variantAfter
 variant-kept Operator v w h = absurd (miss (1 ∷ 2 ∷ 3 ∷ 4 ∷ 5 ∷ []) 0 tt h)
 variant-kept Start v w h = refl
@@ -56,7 +57,8 @@ variant-kept Upper v w h = refl
 variant-kept Lower v w h = refl
 variant-kept Count v w h = refl
 
-pub begun-kept : (s : Field) (w : ℕ) (seen : Shape) → OneOf (1 ∷ 2 ∷ 3 ∷ 4 ∷ 5 ∷ []) (Declared.tagOf field.the-type s) → seen .begun ≡ shapeAfter (fieldOf s) w seen .begun
+pub begun-kept : (s : Field) (w : ℕ) (seen : Shape)
+    → OneOf (1 ∷ 2 ∷ 3 ∷ 4 ∷ 5 ∷ []) (Declared.tagOf field.the-type s) → seen .begun ≡ shapeAfter (fieldOf s) w seen .begun
 unfolding shapeAfter
 begun-kept Operator w seen h = absurd (miss (1 ∷ 2 ∷ 3 ∷ 4 ∷ 5 ∷ []) 0 tt h)
 begun-kept Start w seen h = refl
@@ -65,7 +67,8 @@ begun-kept Upper w seen h = refl
 begun-kept Lower w seen h = refl
 begun-kept Count w seen h = refl
 
-pub called-kept : (s : Field) (w : ℕ) (seen : Shape) → OneOf (0 ∷ 1 ∷ 2 ∷ 3 ∷ 4 ∷ []) (Declared.tagOf field.the-type s) → seen .called ≡ shapeAfter (fieldOf s) w seen .called
+pub called-kept : (s : Field) (w : ℕ) (seen : Shape)
+    → OneOf (0 ∷ 1 ∷ 2 ∷ 3 ∷ 4 ∷ []) (Declared.tagOf field.the-type s) → seen .called ≡ shapeAfter (fieldOf s) w seen .called
 unfolding shapeAfter
 called-kept Operator w seen h = refl
 called-kept Start w seen h = refl
@@ -74,7 +77,8 @@ called-kept Upper w seen h = refl
 called-kept Lower w seen h = refl
 called-kept Count w seen h = absurd (miss (0 ∷ 1 ∷ 2 ∷ 3 ∷ 4 ∷ []) 5 tt h)
 
-pub not-whole : (s : Field) (seen : Shape) → OneOf (1 ∷ 2 ∷ 3 ∷ 4 ∷ 5 ∷ []) (Declared.tagOf field.the-type s) → false ≡ isWhole (fieldOf s) seen
+pub not-whole : (s : Field) (seen : Shape)
+    → OneOf (1 ∷ 2 ∷ 3 ∷ 4 ∷ 5 ∷ []) (Declared.tagOf field.the-type s) → false ≡ isWhole (fieldOf s) seen
 unfolding isWhole
 not-whole Operator seen h = absurd (miss (1 ∷ 2 ∷ 3 ∷ 4 ∷ 5 ∷ []) 0 tt h)
 not-whole Start seen h = refl
@@ -83,8 +87,8 @@ not-whole Upper seen h = refl
 not-whole Lower seen h = refl
 not-whole Count seen h = refl
 
--- The places that say nothing of a form, or spare no pair.
-pub not-under-math : (p : Place) → OneOf (0 ∷ 2 ∷ 3 ∷ 4 ∷ []) (Declared.tagOf place.the-type p) → false ≡ isUnderMathCall (formPlace p)
+-- The seats that say nothing of a form, or spare no pair.
+pub not-under-math : (p : Seat) → OneOf (0 ∷ 2 ∷ 3 ∷ 4 ∷ []) (Declared.tagOf seat.the-type p) → false ≡ isUnderMathCall (formSeat p)
 unfolding isUnderMathCall
 not-under-math Enclosed h = refl
 not-under-math UnderMathCall h = absurd (miss (0 ∷ 2 ∷ 3 ∷ 4 ∷ []) 1 tt h)
@@ -92,7 +96,8 @@ not-under-math LeftOfComma h = refl
 not-under-math RightOfQuestion h = refl
 not-under-math Operand h = refl
 
-pub not-right-of-question : (p : Place) → OneOf (0 ∷ 1 ∷ 2 ∷ 4 ∷ []) (Declared.tagOf place.the-type p) → false ≡ isRightOfQuestion (formPlace p)
+pub not-right-of-question : (p : Seat)
+    → OneOf (0 ∷ 1 ∷ 2 ∷ 4 ∷ []) (Declared.tagOf seat.the-type p) → false ≡ isRightOfQuestion (formSeat p)
 unfolding isRightOfQuestion
 not-right-of-question Enclosed h = refl
 not-right-of-question UnderMathCall h = refl
@@ -100,7 +105,7 @@ not-right-of-question LeftOfComma h = refl
 not-right-of-question RightOfQuestion h = absurd (miss (0 ∷ 1 ∷ 2 ∷ 4 ∷ []) 3 tt h)
 not-right-of-question Operand h = refl
 
-pub operand-unspared : (p : Place) (op : ℕ) → OneOf (1 ∷ 4 ∷ []) (Declared.tagOf place.the-type p) → isSpared p op ≡ false
+pub operand-unspared : (p : Seat) (op : ℕ) → OneOf (1 ∷ 4 ∷ []) (Declared.tagOf seat.the-type p) → isSpared p op ≡ false
 operand-unspared Enclosed op h = absurd (miss (1 ∷ 4 ∷ []) 0 tt h)
 operand-unspared UnderMathCall op h = refl
 operand-unspared LeftOfComma op h = absurd (miss (1 ∷ 4 ∷ []) 2 tt h)
@@ -108,11 +113,11 @@ operand-unspared RightOfQuestion op h = absurd (miss (1 ∷ 4 ∷ []) 3 tt h)
 operand-unspared Operand op h = refl
 
 -- No bracket is in an added pair, and no node of three children is plain.
-pub bracket-unpaired : (p : Place) (op children : ℕ) → isBracket op ≡ true → isPaired p op children ≡ false
+pub bracket-unpaired : (p : Seat) (op children : ℕ) → isBracket op ≡ true → isPaired p op children ≡ false
 unfolding isPaired
 bracket-unpaired p op children e = rw (e, or-true)
 
-pub over-many : (p : Place) (op children first : ℕ) → (children ≡ 0 → ⊥) → (children ≡ 1 → ⊥) → (children ≡ 2 → ⊥)
+pub over-many : (p : Seat) (op children first : ℕ) → (children ≡ 0 → ⊥) → (children ≡ 1 → ⊥) → (children ≡ 2 → ⊥)
     → false ≡ plainBy p op children first
 unfolding plainBy
 over-many p op zero first a b c = absurd (a refl)

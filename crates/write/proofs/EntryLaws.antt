@@ -9,7 +9,7 @@ use lib.Dec.{leb}
 use lib.ListN.{length, length-append}
 use borrow.Author.Tests.{le-leb, lt-leb}
 use Rattle.molang.specs.Forest.{Token, Forest, nil, node, count, size}
-use Rattle.molang.specs.Plain.{placeOf, plainForm, unplain, unplainAt}
+use Rattle.molang.specs.Plain.{seatOf, plainForm, unplain, unplainAt}
 use Rattle.molang.specs.FirstFailure.{must, firstOf}
 use Rattle.molang.specs.Words.{operatorField, lowOf, tokenOf, listWords, row}
 use Rattle.molang.specs.Parse.{mostTokens}
@@ -20,10 +20,10 @@ use Rattle.molang.proofs.HandedTree.{whole-tree}
 use Rattle.molang.proofs.ListWords.{listWords-length}
 use Rattle.words.specs.Records.{laidAt}
 use Rattle.words.proofs.RecordLaws.{laid-front}
-use Rattle.write.specs.declared.plain.Place.{Place}
-use Rattle.write.specs.declared.plain.Place.the-variants.{Enclosed}
+use Rattle.write.specs.declared.plain.Seat.{Seat}
+use Rattle.write.specs.declared.plain.Seat.the-variants.{Enclosed}
 use Rattle.write.specs.Answers.{shape, call, judgement, filling, filled}
-use Rattle.write.specs.Places.{formPlace}
+use Rattle.write.specs.Seats.{formSeat}
 use Rattle.write.specs.Shaped.{Shaped, noTrees, aNode, mostChildren, OneTree}
 use Rattle.write.specs.Spelling.{Room, Writable}
 use Rattle.write.proofs.RowLaws.{Opened, opened, shaped-room, shaped-count, count-first, beside-split}
@@ -89,27 +89,27 @@ module _ {tree : List ℕ} {n : ℕ} (w : Writable tree n) (list : List ℕ) whe
         (rw (too-long, f, g, ← counted), rw (too-long, f, g) (e ∙ laid-front (listWords (writtenTokens (treesOf tree))) list))
 
 -- A PLAIN TREE has at most two children a node.
-few-plain : (p : Place) (k : Token) (cs : Forest) → plainForm (formPlace p) k cs ≡ true → count cs ≤ 2
+few-plain : (p : Seat) (k : Token) (cs : Forest) → plainForm (formSeat p) k cs ≡ true → count cs ≤ 2
 unfolding plainForm count
 few-plain p k nil e = omega arith
 few-plain p k (node x xs nil) e = omega arith
 few-plain p k (node x xs (node y ys nil)) e = omega arith
 few-plain p k (node x xs (node y ys (node z zs r))) e = absurd (false≢true e)
 
--- The children of a plain node stand at as many places.
+-- The children of a plain node stand at as many seats.
 record Standing (k : Token) (cs : Forest) : Type 0 where
-  places : List Place
-  stand : Stand k 0 places cs
-  all : length places ≡ count cs
+  seats : List Seat
+  stand : Stand k 0 seats cs
+  all : length seats ≡ count cs
 
-standing : (p : Place) (k : Token) (cs : Forest) → plainForm (formPlace p) k cs ≡ true → Standing k cs
+standing : (p : Seat) (k : Token) (cs : Forest) → plainForm (formSeat p) k cs ≡ true → Standing k cs
 unfolding count
-standing p k nil e = record { places = _; stand = on-none p k nil refl .0; all = refl }
-standing p k (node x xs nil) e = record { places = _; stand = on-one p k (node x xs nil) refl .0; all = refl }
-standing p k (node x xs (node y ys nil)) e = record { places = _; stand = on-two p k (node x xs (node y ys nil)) e refl .0; all = refl }
+standing p k nil e = record { seats = _; stand = on-none p k nil refl .0; all = refl }
+standing p k (node x xs nil) e = record { seats = _; stand = on-one p k (node x xs nil) refl .0; all = refl }
+standing p k (node x xs (node y ys nil)) e = record { seats = _; stand = on-two p k (node x xs (node y ys nil)) e refl .0; all = refl }
 standing p k (node x xs (node y ys (node z zs r))) e = absurd (omega (arith, few-plain p k (node x xs (node y ys (node z zs r))) e))
 
-slim : {p : ℕ} {ws : List ℕ} → Shaped mostChildren p ws → (ps : List Place) → length ps ≡ p → (n : ℕ) → rowUnplain ps n (treesOf ws) ≡ none
+slim : {p : ℕ} {ws : List ℕ} → Shaped mostChildren p ws → (ps : List Seat) → length ps ≡ p → (n : ℕ) → rowUnplain ps n (treesOf ws) ≡ none
     → Shaped 2 p ws
 unfolding treesOf rowUnplain
 slim noTrees ps h n e = noTrees
@@ -119,15 +119,15 @@ slim (aNode {trees = trees} {a = a} {b = b} {c = c} {d = d} {e = f} {n = m} {ws 
     let k = tokenOf a b c d f in
     let cs = firstTrees (lowOf m) g in
     let rest = otherTrees (lowOf m) g in
-    let x = passed (plainForm (formPlace q) k cs) n (unplain (some k) 0 (suc n) cs ∷ rowUnplain ps (suc n + size cs) rest ∷ []) e in
+    let x = passed (plainForm (formSeat q) k cs) n (unplain (some k) 0 (suc n) cs ∷ rowUnplain ps (suc n + size cs) rest ∷ []) e in
     let counts : count cs ≡ lowOf m = count-first (lowOf m) g (omega (arith, shaped-count later)) in
     let st = standing q k cs (x .0) in
-    let row : rowUnplain (st .places ++ ps) (suc n) g ≡ none =
-    ap (rowUnplain (st .places ++ ps) (suc n)) (sym (beside-split (lowOf m) g)) ∙ (row-beside (st .stand) ps (suc n) rest ∙ x .1)
+    let row : rowUnplain (st .seats ++ ps) (suc n) g ≡ none =
+    ap (rowUnplain (st .seats ++ ps) (suc n)) (sym (beside-split (lowOf m) g)) ∙ (row-beside (st .stand) ps (suc n) rest ∙ x .1)
     in
     let small : lowOf m ≤ 2 = omega (arith, few-plain q k cs (x .0)) in
     aNode five small
-    (slim later (st .places ++ ps) (omega (arith, length-append (st .places) ps, st .all)) (suc n) row)
+    (slim later (st .seats ++ ps) (omega (arith, length-append (st .seats) ps, st .all)) (suc n) row)
 
 -- THE ANSWERS, the first that holds.
 pub fault-answer : (tree list : List ℕ) (i : ℕ) → some i ≡ treeFault 0 operatorField 0 (shape 1 0) tree
@@ -155,7 +155,7 @@ module _ {tree : List ℕ} (list : List ℕ) (whole : none ≡ treeFault 0 opera
       (rw (refused, top .trees, u), rw (refused, top .trees, u))
 
   pub plain-writable : (n : ℕ) → tokens n ≡ judgement (treesOf tree) → Writable tree n
-  unfolding rowUnplain unplainAt unplain placeOf
+  unfolding rowUnplain unplainAt unplain seatOf
   plain-writable n e =
       let row : rowUnplain (Enclosed ∷ []) 0 (treesOf tree) ≡ none = rw (top .trees) (is-plain top e .0) in
       record { shaped = slim (one .shaped) (Enclosed ∷ []) refl 0 row; judged = e }

@@ -13,8 +13,8 @@ use Rattle.molang.specs.Forest.{Token, Forest, nil, node, bare, count, size}
 use Rattle.molang.specs.Operator.{isBracket}
 use Rattle.write.proofs.JudgeLaws.{unpaired-only, unpaired-bracket, unpaired-left, unpaired-right}
 use Rattle.molang.proofs.Words.{beside}
-use Rattle.write.specs.declared.plain.Place.{Place}
-use Rattle.write.specs.Places.{isPaired, onlyPlace, leftPlace, rightPlace}
+use Rattle.write.specs.declared.plain.Seat.{Seat}
+use Rattle.write.specs.Seats.{isPaired, onlySeat, leftSeat, rightSeat}
 use Rattle.write.specs.Shaped.{Shaped}
 use Rattle.write.proofs.RowLaws.{Opened, after-trees, shaped-length, no-kids, one-kid, two-kids}
 use Rattle.molang.specs.Words.{lowOf, word, tokenWords, listWords}
@@ -118,7 +118,7 @@ pub record NoneBelow (W : List ℕ) : Type 0 where
   pub fills : 6 * firstSize (treesOf W) ≡ 6
 
 abbrev pub onlyWords : List ℕ → List ℕ
-onlyWords W = listWords (operandOf (onlyPlace (operatorOf (getD W 0 0))) (treesOf (drop 6 W)))
+onlyWords W = listWords (operandOf (onlySeat (operatorOf (getD W 0 0))) (treesOf (drop 6 W)))
 
 pub record OneBelow (others : ℕ) (W : List ℕ) : Type 0 where
   pub shaped : Shaped 2 (suc others) (drop 6 W)
@@ -126,7 +126,7 @@ pub record OneBelow (others : ℕ) (W : List ℕ) : Type 0 where
   pub fills : 6 * firstSize (treesOf W) ≡ 6 + 6 * firstSize (treesOf (drop 6 W))
 
 abbrev pub leftWords : List ℕ → List ℕ
-leftWords W = listWords (operandOf (leftPlace (operatorOf (getD W 0 0))) (treesOf (drop 6 W)))
+leftWords W = listWords (operandOf (leftSeat (operatorOf (getD W 0 0))) (treesOf (drop 6 W)))
 
 abbrev pub leftSize : List ℕ → ℕ
 leftSize W = 6 * firstSize (treesOf (drop 6 W))
@@ -135,7 +135,7 @@ abbrev pub rightPart : List ℕ → List ℕ
 rightPart W = drop (6 + leftSize W) W
 
 abbrev pub rightWords : List ℕ → List ℕ
-rightWords W = listWords (operandOf (rightPlace (operatorOf (getD W 0 0))) (treesOf (rightPart W)))
+rightWords W = listWords (operandOf (rightSeat (operatorOf (getD W 0 0))) (treesOf (rightPart W)))
 
 pub record TwoBelow (others : ℕ) (W : List ℕ) : Type 0 where
   pub left : Shaped 2 (suc (suc others)) (drop 6 W)
@@ -202,7 +202,7 @@ module _ {others : ℕ} {W : List ℕ} (o : Opened 2 (suc others) W) where
       split : (x : Token) (xs : Forest) (b : Bool) → isBracket (o .k .op) ≡ b
           → listWords (written (o .k) (node x xs nil) [])
           ≡ firstFive W
-          ++ (listWords (operandTokens (not (isPaired (onlyPlace (o .k .op)) (x .op) (count xs))) x (written x xs) []) ++ closerWords W)
+          ++ (listWords (operandTokens (not (isPaired (onlySeat (o .k .op)) (x .op) (count xs))) x (written x xs) []) ++ closerWords W)
       split x xs true h =
           rw (
             written-one true (o .k) x xs [] h,
@@ -243,9 +243,9 @@ module _ {others : ℕ} {W : List ℕ} (o : Opened 2 (suc others) W) where
     where
       spelt : (x y : Token) (xs ys : Forest)
           → listWords (written (o .k) (node x xs (node y ys nil)) [])
-          ≡ listWords (operandTokens (not (isPaired (leftPlace (o .k .op)) (x .op) (count xs))) x (written x xs) [])
+          ≡ listWords (operandTokens (not (isPaired (leftSeat (o .k .op)) (x .op) (count xs))) x (written x xs) [])
           ++ (firstFive W
-          ++ listWords (operandTokens (not (isPaired (rightPlace (o .k .op)) (y .op) (count ys))) y (written y ys) []))
+          ++ listWords (operandTokens (not (isPaired (rightSeat (o .k .op)) (y .op) (count ys))) y (written y ys) []))
       spelt x y xs ys =
           rw (
             written-two (o .k) x xs y ys [],
@@ -259,7 +259,7 @@ module _ {others : ℕ} {W : List ℕ} (o : Opened 2 (suc others) W) where
           )
 
   -- An operand: in an added pair, or as it is.
-  pub paired-words : (p : Place) → isPaired p (operatorOf (getD W 0 0)) (lowOf (getD W 5 0)) ≡ true
+  pub paired-words : (p : Seat) → isPaired p (operatorOf (getD W 0 0)) (lowOf (getD W 5 0)) ≡ true
       → listWords (operandOf p (treesOf W)) ≡ bracketWords 4 W ++ (listWords (writtenTokens (treesOf W)) ++ bracketWords 5 W)
   unfolding operandOf writtenTokens operandTokens
   paired-words p e =
@@ -275,7 +275,7 @@ module _ {others : ℕ} {W : List ℕ} (o : Opened 2 (suc others) W) where
         closer-words (o .k) W (o .five),
       )
 
-  pub unpaired-words : (p : Place) → isPaired p (operatorOf (getD W 0 0)) (lowOf (getD W 5 0)) ≡ false
+  pub unpaired-words : (p : Seat) → isPaired p (operatorOf (getD W 0 0)) (lowOf (getD W 5 0)) ≡ false
       → listWords (operandOf p (treesOf W)) ≡ listWords (writtenTokens (treesOf W))
   unfolding operandOf writtenTokens operandTokens
   unpaired-words p e =

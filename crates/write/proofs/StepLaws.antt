@@ -1,5 +1,5 @@
 -- The steps of writing a node or an operand: before each call there is room, and after the last one all is written.
-use Prim.Native.Nat.{ℕ, zero, suc, _+_, _-_, _*_, _≤_}
+use Prim.Native.Nat.{ℕ, zero, suc, _+_, _-_, _*_, _≤_, _/_, _<_}
 use mathlib.Core.Path.{_≡_, refl, ap, _∙_}
 use mathlib.Core.Bool.{true, false}
 use mathlib.Core.List.{List, _++_, append-assoc}
@@ -10,10 +10,10 @@ use Rattle.molang.specs.Words.{lowOf, listWords}
 use Rattle.molang.specs.WriteEntry.{treesOf, writtenTokens}
 use Rattle.words.specs.Fields.{operatorOf}
 use Rattle.words.specs.Records.{laidAt}
-use Rattle.write.specs.declared.plain.Place.{Place}
-use Rattle.write.specs.Places.{isPaired, onlyPlace, leftPlace, rightPlace}
+use Rattle.write.specs.declared.plain.Seat.{Seat}
+use Rattle.write.specs.Seats.{isPaired, onlySeat, leftSeat, rightSeat}
 use Rattle.write.specs.Shaped.{Shaped}
-use Rattle.write.specs.Spelling.{firstFive, bracketWords, closerWords, firstSize, operandOf, Room}
+use Rattle.write.specs.Spelling.{firstFive, bracketWords, closerWords, firstSize, operandOf, filledWords, Room}
 use Rattle.write.proofs.RowLaws.{Opened, opened, shaped-room}
 use Rattle.write.proofs.SpellLaws.{laid-length, laid-laid, first-within, none-below, OneBelow, one-below, onlyWords, TwoBelow, two-below, leftWords, leftSize, rightPart, rightWords, paired-words, unpaired-words}
 
@@ -24,16 +24,23 @@ tail n W = take (length W - n) (drop n W)
 tail-part : (n : ℕ) (W : List ℕ) → tail n W ≡ drop n W
 tail-part n W = take-all (length W - n) (drop n W) (omega (arith, length-drop n W))
 
-pub tail-length : (n : ℕ) (W : List ℕ) → length (tail n W) ≡ length W - n
+tail-length : (n : ℕ) (W : List ℕ) → length (tail n W) ≡ length W - n
 tail-length n W = rw tail-part (length-drop n W)
 
--- Words laid into the list from a place on, which goes on behind them.
+-- The nodes that the words still hold, six words each: document 01's remaining node count, which falls with a node's own words.
+abbrev pub nodesLeft : List ℕ → ℕ
+nodesLeft W = length W / 6
+
+pub fewer-nodes : (n : ℕ) (W : List ℕ) → 6 ≤ n → 6 ≤ length W → nodesLeft (tail n W) < nodesLeft W
+fewer-nodes n W six long = omega (arith, tail-length n W)
+
+-- Words laid into the list from `to` on, which goes on behind them.
 abbrev pub Puts : List ℕ → List ℕ → ℕ → List ℕ → ℕ → Type 0
 Puts ws L to L' to' = (L' ≡ laidAt to ws L) × (to' ≡ to + length ws)
 
--- What a call of `write_node` or `write_operand` leaves: the part of the words, the list and the place in it.
+-- What a call of `write_node` or `write_operand` leaves: the part of the words, the list and where it goes on.
 abbrev pub Writes : List ℕ → List ℕ → List ℕ → ℕ → List ℕ → List ℕ → ℕ → Type 0
-Writes ws W L to part L' to' = (part ≡ take (6 * firstSize (treesOf W)) W) × Puts ws L to L' to'
+Writes ws W L to part L' to' = (part ≡ filledWords W) × Puts ws L to L' to'
 
 puts-more : (to : ℕ) (xs ys L : List ℕ) {L1 L2 : List ℕ} {to1 to2 : ℕ} → to + length (xs ++ ys) ≤ length L → Puts xs L to L1 to1
     → Puts ys L1 to1 L2 to2
@@ -99,13 +106,13 @@ module _ {W L : List ℕ} {to : ℕ} (r : Room writtenTokens W L to) where
       or-not (lowOf (getD W 5 0)) (to + 5 ≤ length L) (λ e. omega (arith, none-room e, length-append (firstFive W) (closerWords W)))
       (λ b. omega (arith, one-room (one-child a b), length-append (firstFive W) (onlyWords W ++ closerWords W)))
 
-  module _ (a : lowOf (getD W 5 0) ≡ 2 → ⊥) (b : lowOf (getD W 5 0) ≡ 0 → ⊥) {op : ℕ} (isOp : op ≡ operatorOf (getD W 0 0)) (p : Place)
-      (isPlace : p ≡ onlyPlace op) (L1 : List ℕ) (to1 : ℕ) (w1 : Puts (firstFive W) L to L1 to1) where
+  module _ (a : lowOf (getD W 5 0) ≡ 2 → ⊥) (b : lowOf (getD W 5 0) ≡ 0 → ⊥) {op : ℕ} (isOp : op ≡ operatorOf (getD W 0 0)) (p : Seat)
+      (isSeat : p ≡ onlySeat op) (L1 : List ℕ) (to1 : ℕ) (w1 : Puts (firstFive W) L to L1 to1) where
     one : OneBelow (r .others) W
     one = one-below here (one-child a b)
 
     one-words : listWords (operandOf p (treesOf (tail 6 W))) ≡ onlyWords W
-    one-words = rw (isPlace, isOp, tail-part)
+    one-words = rw (isSeat, isOp, tail-part)
 
     pub one-only : Room (operandOf p) (tail 6 W) L1 to1
     one-only =
@@ -159,12 +166,12 @@ module _ {W L : List ℕ} {to : ℕ} (r : Room writtenTokens W L to) where
         one-writes = rw (one .words, ← one-part) (refl, one-all)
 
   -- TWO CHILDREN: the left one, the token, the right one.
-  module _ (e : lowOf (getD W 5 0) ≡ 2) {op : ℕ} (isOp : op ≡ operatorOf (getD W 0 0)) (p : Place) (isPlace : p ≡ leftPlace op) where
+  module _ (e : lowOf (getD W 5 0) ≡ 2) {op : ℕ} (isOp : op ≡ operatorOf (getD W 0 0)) (p : Seat) (isSeat : p ≡ leftSeat op) where
     two : TwoBelow (r .others) W
     two = two-below here e
 
     left-words : listWords (operandOf p (treesOf (tail 6 W))) ≡ leftWords W
-    left-words = rw (isPlace, isOp, tail-part)
+    left-words = rw (isSeat, isOp, tail-part)
 
     two-room : to + length (leftWords W ++ (firstFive W ++ rightWords W)) ≤ length L
     two-room = rw (two .words) at (r .room)
@@ -199,7 +206,7 @@ module _ {W L : List ℕ} {to : ℕ} (r : Room writtenTokens W L to) where
       pub two-next : 6 + length l ≤ length W
       two-next = omega (arith, left-part, two .fills, first-within (r .shaped))
 
-      module _ (L2 : List ℕ) (to2 : ℕ) (w2 : Puts (firstFive W) L1 to1 L2 to2) (q : Place) (isRight : q ≡ rightPlace op) where
+      module _ (L2 : List ℕ) (to2 : ℕ) (w2 : Puts (firstFive W) L1 to1 L2 to2) (q : Seat) (isRight : q ≡ rightSeat op) where
         token-puts : Puts (leftWords W ++ firstFive W) L to L2 to2
         token-puts =
             let front = length-append (leftWords W) (firstFive W ++ rightWords W) in
@@ -248,8 +255,8 @@ module _ {W L : List ℕ} {to : ℕ} (r : Room writtenTokens W L to) where
           pub two-writes : Writes (listWords (writtenTokens (treesOf W))) W L to (take (6 + length l + length m) W) L3 to3
           two-writes = rw (two .words, ← two-part) (refl, two-all)
 
--- An operand that is to be written at its place.
-module _ {W L : List ℕ} {to : ℕ} (p : Place) (r : Room (operandOf p) W L to) where
+-- An operand that is to be written in its seat.
+module _ {W L : List ℕ} {to : ℕ} (p : Seat) (r : Room (operandOf p) W L to) where
   operand : Opened 2 (suc (r .others)) W
   operand = opened (r .shaped) (omega (arith, shaped-room (r .shaped)))
 

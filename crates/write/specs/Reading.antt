@@ -20,6 +20,7 @@ childrenAt words at = lowOf (getD words (at + 5) 0)
 abbrev pub readerAt : RefT (List ℕ) → ℕ → TreeReader
 readerAt words at = record { words = words; at = at }
 
--- What is seen of the node that starts at a word.
+-- What is seen of the node that starts at a word, with where the next one stands.
 abbrev pub viewAt : List ℕ → ℕ → NodeView
-viewAt words at = record { op = operatorAt words at; children = childrenAt words at; next = operatorAt words (at + 6) }
+viewAt words at =
+    record { op = operatorAt words at; children = childrenAt words at; next = operatorAt words (at + 6); after = at + 6 }
