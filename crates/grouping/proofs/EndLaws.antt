@@ -1,10 +1,12 @@
 -- The end of a list whose items are all done: the done trees are what the pass gives, in order.
 use Prim.Native.Nat.{ℕ, _+_, _-_, _^_, _≤_, _<_}
 use mathlib.Core.Path.{_≡_, refl, sym, subst}
-use mathlib.Core.List.{List}
+use mathlib.Core.List.{List, [], _∷_}
 use native.Mathlib.Omega.{arith}
 use native.Mathlib.Nat.{le-refl}
 use lib.ListN.{length}
+use types.Run.{OneOf, miss}
+use denote.Enum.Declared.{tagOf}
 use Rattle.molang.specs.Forest.{Forest, inOrder}
 use Rattle.molang.specs.Level.{walk}
 use Rattle.molang.specs.Calls.{callLevel, callFinish, arrayLevel, arrayFinish, flushed}
@@ -25,6 +27,7 @@ use Rattle.levels.specs.declared.turns.Pass.the-variants.{Calls, MathCalls, Uns
 use Rattle.levels.specs.declared.turns.Finished.{Finished}
 use Rattle.levels.specs.declared.turns.Finished.the-variants.{At}
 use Rattle.levels.proofs.Reading.{same-within}
+use Rattle.levels.proofs.turns.Pass.{the-type}
 use Rattle.grouping.proofs.StackLaws.{holds-within}
 
 -- The passes that give the done trees from the left as they are.
@@ -97,3 +100,14 @@ finish-at {W} v p q e g = subst (λ (x : Pass). CanFinish W (walkOf v x)) e g
 
 pub ends-by : {W W' : List ℕ} {r : Finished} (v : Items) (p q : Pass) → p ≡ q → Ends W (walkOf v q) r W' → Ends W (walkOf v p) r W'
 ends-by {W} {W'} {r} v p q e x = subst (λ (y : Pass). Ends W (walkOf v y) r W') (sym e) x
+
+pub gathering-at : (p : Pass) → OneOf (0 ∷ 1 ∷ 2 ∷ 4 ∷ 6 ∷ 8 ∷ []) (tagOf the-type p) → Gathering p
+gathering-at Calls t = tt
+gathering-at MathCalls t = tt
+gathering-at Unsplit t = tt
+gathering-at (Split done) t = absurd (miss (0 ∷ 1 ∷ 2 ∷ 4 ∷ 6 ∷ 8 ∷ []) 3 tt t)
+gathering-at (Arrays a b) t = tt
+gathering-at Unary t = absurd (miss (0 ∷ 1 ∷ 2 ∷ 4 ∷ 6 ∷ 8 ∷ []) 5 tt t)
+gathering-at (Binary classes pending) t = tt
+gathering-at (Conditional tokens) t = absurd (miss (0 ∷ 1 ∷ 2 ∷ 4 ∷ 6 ∷ 8 ∷ []) 7 tt t)
+gathering-at Returns t = tt

@@ -9,6 +9,8 @@ use mathlib.Core.Option.{none, some}
 use native.Mathlib.Omega.{arith}
 use native.Mathlib.Nat.{le-refl}
 use lib.ListN.{length, set}
+use types.Run.{OneOf, miss}
+use denote.Enum.Declared.{tagOf}
 use Rattle.molang.specs.Operator.{semicolon}
 use Rattle.molang.specs.Forest.{Token, Forest, nil, node, bare}
 use Rattle.molang.specs.Level.{Gathered, gathered}
@@ -29,10 +31,11 @@ use Rattle.levels.specs.Items.{BackArray, Ahead}
 use Rattle.levels.specs.Sides.{GatherSide, ConditionalSide, tokensIn, EndedAt, StatementSide, RightSide, SplitAgrees, DoneSide, UnreadSide, Agrees, AtTurn, InFrame, Holds}
 use Rattle.levels.specs.Turns.{CanResume, Resumed}
 use Rattle.levels.specs.declared.turns.Pass.{Pass}
-use Rattle.levels.specs.declared.turns.Pass.the-variants.{Calls, MathCalls, Unsplit, Split as SplitAt, Arrays, Unary, Conditional, Returns}
+use Rattle.levels.specs.declared.turns.Pass.the-variants.{Calls, MathCalls, Unsplit, Split as SplitAt, Arrays, Unary, Binary, Conditional, Returns}
 use Rattle.levels.specs.declared.turns.Walk.{Walk}
 use Rattle.levels.proofs.Reading.{SameSlots, back-array-keep, array-keep, ahead-keep, array-put}
 use Rattle.levels.proofs.Ended.{ended-le, ended-at-keep}
+use Rattle.levels.proofs.turns.Pass.{the-type}
 use Rattle.grouping.specs.Driver.{Keeping}
 use Rattle.grouping.proofs.StackLaws.{waits-within}
 
@@ -265,3 +268,14 @@ resumed-by {W} {W'} {item} {w} v p q e r = subst (λ (x : Pass). Resumed W (walk
 -- no name is lent while its list waits
 pub array-unlent : {W : List ℕ} {item : ℕ} (v : Items) (p : Pass) (a b : ℕ) → p ≡ Arrays a b → CanResume W (walkOf v p) item → p ≡ Arrays a 0
 array-unlent v p a b e g = e ∙ ap (λ (x : ℕ). Arrays a x) (resume-at v p (Arrays a b) e g .unlent)
+
+pub keeping-at : (p : Pass) → OneOf (0 ∷ 1 ∷ 2 ∷ 3 ∷ 7 ∷ 8 ∷ []) (tagOf the-type p) → Keeping p
+keeping-at Calls t = tt
+keeping-at MathCalls t = tt
+keeping-at Unsplit t = tt
+keeping-at (SplitAt n) t = tt
+keeping-at (Arrays a b) t = absurd (miss (0 ∷ 1 ∷ 2 ∷ 3 ∷ 7 ∷ 8 ∷ []) 4 tt t)
+keeping-at Unary t = absurd (miss (0 ∷ 1 ∷ 2 ∷ 3 ∷ 7 ∷ 8 ∷ []) 5 tt t)
+keeping-at (Binary classes pending) t = absurd (miss (0 ∷ 1 ∷ 2 ∷ 3 ∷ 7 ∷ 8 ∷ []) 6 tt t)
+keeping-at (Conditional n) t = tt
+keeping-at Returns t = tt

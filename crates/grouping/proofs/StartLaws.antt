@@ -1,13 +1,15 @@
 -- How a list begins (`open`): its owner's children stand in its words, all unread, and the pass's state is that of its beginning; or, where an array was
 -- lent to it, that array waits.
 use Prim.Native.Nat.{ℕ, _+_, _*_, _^_, _≤_, _<_}
-use mathlib.Core.Path.{_≡_, refl, sym, _∙_, subst}
+use mathlib.Core.Path.{_≡_, refl, sym, ap, _∙_, subst}
 use mathlib.Core.Logic.{_⊎_, inl, inr}
 use mathlib.Core.Bool.{true}
 use mathlib.Core.List.{List, [], _∷_}
 use native.Mathlib.Omega.{arith}
 use native.Mathlib.Nat.{add-zero, le-refl}
 use lib.ListN.{length}
+use types.Run.{OneOf, miss}
+use denote.Enum.Declared.{tagOf}
 use Rattle.molang.specs.Forest.{Token, Forest, nil, inOrder, count}
 use Rattle.molang.specs.Level.{gathered, nothing}
 use Rattle.molang.specs.Calls.{queryOrLoop, math, callLevel, arrayLevel, unindexed, indexed, startsWithIndex}
@@ -23,13 +25,14 @@ use Rattle.nodes.specs.declared.frames.List.{List as Items}
 use Rattle.nodes.proofs.Runs.{segB-back, length-onto}
 use Rattle.nodes.proofs.Store.{rep-le, rep-lower, rep-count, onto-back}
 use Rattle.nodes.proofs.Trees.{can-take, take-array}
-use Rattle.levels.specs.Passes.{walkOf, movedTo, classesOf, Runs, call, mathCall, unsplitPass, split, array, unary, level, conditionalPass, returnPass}
+use Rattle.levels.specs.Passes.{walkOf, movedTo, classesOf, begunOf, Runs, call, mathCall, unsplitPass, split, array, unary, level, conditionalPass, returnPass}
 use Rattle.levels.specs.Items.{BackArray, Ahead}
 use Rattle.levels.specs.Sides.{GatherSide, LevelSide, ConditionalSide, tokensIn, OpenArray, ArraySide, RightSide, DoneSide, UnreadSide, Agrees, AtTurn, Holds}
 use Rattle.levels.specs.Turns.{Begins, afresh, lent, CanStart, Started}
 use Rattle.levels.specs.declared.turns.Pass.{Pass}
 use Rattle.levels.specs.declared.turns.Pass.the-variants.{Calls, MathCalls, Unsplit, Split, Arrays, Unary, Binary, Conditional, Returns}
 use Rattle.levels.specs.declared.turns.Walk.{Walk}
+use Rattle.levels.proofs.turns.Pass.{the-type}
 use Rattle.grouping.specs.Driver.{CanOpen, Opened, CanBegin, Begun}
 use Rattle.grouping.proofs.SideLaws.{open-array-keep}
 
@@ -240,17 +243,54 @@ started-classes {W} {v} {w} st g = go (w .pass) (st .holds g .sides .runs)
 
 -- ---- `begin`, by which arm it came
 
-pub begun : {W : List ℕ} {owner base len : ℕ} (p q : Pass) (w : Walk) → p ≡ q → w .list .owner ≡ owner → w .list .base ≡ base → w .list .len ≡ len → classesOf (w .pass) ≡ classesOf q
-    → ((before : List ℕ) → Opens before W owner base len q w) → Begun W owner base len p w
-begun {W} {owner} {base} {len} p q w e eo eb el ec opens =
-    subst (λ (x : Pass). Begun W owner base len x w) (sym e) (record { opened = λ g. opened q w (g .taken) eo eb el ec (opens (g .before)) })
-
--- the pass as it was handed in
-pub begun-same : {W : List ℕ} {owner base len : ℕ} (p q : Pass) → p ≡ q → ((before : List ℕ) → Opens before W owner base len q (walkOf (listFrom owner base len) q))
-    → Begun W owner base len p (walkOf (listFrom owner base len) p)
-begun-same {W} {owner} {base} {len} p q e opens =
-    subst (λ (x : Pass). Begun W owner base len x (walkOf (listFrom owner base len) x)) (sym e)
-    (record { opened = λ g. opened q (walkOf (listFrom owner base len) q) (g .taken) refl refl refl refl (opens (g .before)) })
-
 pub begin-can-start : {W : List ℕ} {owner base len : ℕ} {p : Pass} → CanBegin W owner base len p → CanStart W (listFrom owner base len)
 begin-can-start g = open-can-start (g .taken) (g .opens)
+
+module _ {W : List ℕ} {owner base len : ℕ} where
+  -- the statement pass, which has looked at the list
+  started-by : (p : Pass) (w : Walk) → CanBegin W owner base len p → Started W (listFrom owner base len) w → 2 ≡ classesOf p
+      → ((before : List ℕ) → Opens before W owner base len p w) → Begun W owner base len p w
+  started-by p w g st e opens =
+      record {
+        opened = λ h.
+            opened p w (h .taken) (ap (λ (v : Items). v .owner) (st .list)) (ap (λ (v : Items). v .base) (st .list)) (ap (λ (v : Items). v .len) (st .list))
+            (started-classes st (begin-can-start g) ∙ e) (opens (h .before));
+      }
+
+  pub begun-started : (p : Pass) (w : Walk) → OneOf (2 ∷ 3 ∷ []) (tagOf the-type p) → CanBegin W owner base len p → Started W (listFrom owner base len) w
+      → Begun W owner base len p w
+  begun-started Calls w t g st = absurd (miss (2 ∷ 3 ∷ []) 0 tt t)
+  begun-started MathCalls w t g st = absurd (miss (2 ∷ 3 ∷ []) 1 tt t)
+  begun-started Unsplit w t g st = started-by Unsplit w g st refl (λ before. opens-plain before W owner base len w st)
+  begun-started (Split done) w t g st = started-by (Split done) w g st refl (λ before. opens-split before W owner base len done w st)
+  begun-started (Arrays a b) w t g st = absurd (miss (2 ∷ 3 ∷ []) 4 tt t)
+  begun-started Unary w t g st = absurd (miss (2 ∷ 3 ∷ []) 5 tt t)
+  begun-started (Binary classes pending) w t g st = absurd (miss (2 ∷ 3 ∷ []) 6 tt t)
+  begun-started (Conditional tokens) w t g st = absurd (miss (2 ∷ 3 ∷ []) 7 tt t)
+  begun-started Returns w t g st = absurd (miss (2 ∷ 3 ∷ []) 8 tt t)
+
+  -- from the right
+  pub begun-right : (p : Pass) (v : Items) → p ≡ Unary → v ≡ movedTo (listFrom owner base len) len len → Begun W owner base len p (walkOf v Unary)
+  begun-right p v e m =
+      subst (λ (x : Pass). Begun W owner base len x (walkOf v Unary)) (sym e)
+      (record {
+        opened = λ g.
+            opened Unary (walkOf v Unary) (g .taken) (ap (λ (x : Items). x .owner) m) (ap (λ (x : Items). x .base) m) (ap (λ (x : Items). x .len) m) refl
+            (opens-moved (g .before) W owner base len v m);
+      })
+
+  -- every other
+  begun-first : (p : Pass) → OneOf (0 ∷ 1 ∷ 4 ∷ 6 ∷ 7 ∷ 8 ∷ []) (tagOf the-type p) → Begun W owner base len p (walkOf (listFrom owner base len) (begunOf p))
+  unfolding begunOf
+  begun-first Calls t = record { opened = λ g. opened Calls _ (g .taken) refl refl refl refl (opens-call (g .before) W owner base len) }
+  begun-first MathCalls t = record { opened = λ g. opened MathCalls _ (g .taken) refl refl refl refl (opens-math (g .before) W owner base len) }
+  begun-first Unsplit t = absurd (miss (0 ∷ 1 ∷ 4 ∷ 6 ∷ 7 ∷ 8 ∷ []) 2 tt t)
+  begun-first (Split done) t = absurd (miss (0 ∷ 1 ∷ 4 ∷ 6 ∷ 7 ∷ 8 ∷ []) 3 tt t)
+  begun-first (Arrays a b) t = record { opened = λ g. opened (Arrays a b) _ (g .taken) refl refl refl refl (opens-array (g .before) W owner base len a b) }
+  begun-first Unary t = absurd (miss (0 ∷ 1 ∷ 4 ∷ 6 ∷ 7 ∷ 8 ∷ []) 5 tt t)
+  begun-first (Binary classes pending) t = record { opened = λ g. opened (Binary classes pending) _ (g .taken) refl refl refl refl (opens-level (g .before) W owner base len classes pending) }
+  begun-first (Conditional tokens) t = record { opened = λ g. opened (Conditional tokens) _ (g .taken) refl refl refl refl (opens-conditional (g .before) W owner base len tokens) }
+  begun-first Returns t = record { opened = λ g. opened Returns _ (g .taken) refl refl refl refl (opens-return (g .before) W owner base len) }
+
+  pub begun-as : (p q : Pass) → OneOf (0 ∷ 1 ∷ 4 ∷ 6 ∷ 7 ∷ 8 ∷ []) (tagOf the-type p) → q ≡ begunOf p → Begun W owner base len p (walkOf (listFrom owner base len) q)
+  begun-as p q t e = subst (λ (x : Pass). Begun W owner base len p (walkOf (listFrom owner base len) x)) (sym e) (begun-first p t)

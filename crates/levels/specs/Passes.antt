@@ -69,6 +69,18 @@ resumedWith (Binary classes pending) held = Binary classes (held .first)
 resumedWith (Conditional tokens) held = Conditional (held .first)
 resumedWith Returns held = Returns
 
+-- A state of the same pass at the start of a list: it holds nothing but the array that is lent to the list.
+unfoldable pub begunOf : Pass → Pass
+begunOf Calls = Calls
+begunOf MathCalls = MathCalls
+begunOf Unsplit = Unsplit
+begunOf (Split done) = Split done
+begunOf (Arrays array lent) = Arrays lent 0
+begunOf Unary = Unary
+begunOf (Binary classes pending) = Binary classes 0
+begunOf (Conditional tokens) = Conditional 0
+begunOf Returns = Returns
+
 -- The operators of the tokens that a pass works on.
 unfoldable pub operators : Kind → ℕ → Bool
 operators (calls kind) = isCall kind

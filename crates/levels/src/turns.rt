@@ -5,7 +5,7 @@ use nodes::frames::Held;
 use nodes::frames::List;
 use ops::classes::TokenClasses;
 ghost use mathlib.Core.Path.{_≡_};
-ghost use Rattle.levels.specs.Passes.{walkOf, classesOf, heldOf, splitOr, resumedWith};
+ghost use Rattle.levels.specs.Passes.{walkOf, classesOf, heldOf, splitOr, resumedWith, begunOf};
 
 // A pass, with what it holds of the list that it is on. Unary goes from the right, the others from the left.
 pub enum Pass {
@@ -104,11 +104,7 @@ impl Pass {
                 first: tokens,
                 second: 0,
             },
-            Pass::Calls => Held::NONE,
-            Pass::MathCalls => Held::NONE,
-            Pass::Unsplit => Held::NONE,
-            Pass::Unary => Held::NONE,
-            Pass::Returns => Held::NONE,
+            _ => Held::NONE,
         }
     }
 
@@ -119,8 +115,7 @@ impl Pass {
         let first = held.first;
         let second = held.second;
         match self {
-            Pass::Unsplit => statements(first, second),
-            Pass::Split { done: _ } => statements(first, second),
+            Pass::Unsplit | Pass::Split { done: _ } => statements(first, second),
             Pass::Arrays { array: _, lent: _ } => Pass::Arrays {
                 array: first,
                 lent: 0,
@@ -133,10 +128,29 @@ impl Pass {
                 pending: first,
             },
             Pass::Conditional { tokens: _ } => Pass::Conditional { tokens: first },
-            Pass::Calls => Pass::Calls,
-            Pass::MathCalls => Pass::MathCalls,
-            Pass::Unary => Pass::Unary,
-            Pass::Returns => Pass::Returns,
+            _ => self,
+        }
+    }
+
+    // The pass at the start of a list, apart from the statement pass, which looks at the list first: it holds nothing but the
+    // array that is lent to the list.
+    pub fn begun(self) -> Self
+        ensures { λ r. ⌜ r ≡ begunOf self ⌝ }
+    {
+        match self {
+            Pass::Arrays { array: _, lent } => Pass::Arrays {
+                array: lent,
+                lent: 0,
+            },
+            Pass::Binary {
+                classes,
+                pending: _,
+            } => Pass::Binary {
+                classes,
+                pending: 0,
+            },
+            Pass::Conditional { tokens: _ } => Pass::Conditional { tokens: 0 },
+            _ => self,
         }
     }
 }

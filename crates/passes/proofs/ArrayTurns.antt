@@ -35,13 +35,12 @@ use Rattle.levels.specs.declared.turns.Turn.{Turn}
 use Rattle.levels.specs.declared.turns.Turn.the-variants.{On, Enter, Fail}
 use Rattle.levels.proofs.Reading.{back-array-keep, ahead-keep, ahead-le, can-peek, NextTo, ended, differs, found, same-within}
 use Rattle.levels.proofs.PassClasses.{runs-covers}
-use Rattle.passes.specs.TokenTurns.{AtItem, AtToken, any}
+use Rattle.passes.specs.TokenTurns.{AtItem, AtToken, unasked, Saying}
 use Rattle.passes.specs.Arrays.{CanGather, Gathered, CanRound, Rounded, CanIndex, Indexed, empty, opens, NameTurned}
 use Rattle.passes.proofs.ArrayLaws.{array-on, array-stop, array-in, name-waits, indexed-empty, indexed-in, indexed-lends, lent-indexed, flush}
 use Rattle.passes.proofs.ArrayGrowing.{name-open, can-gather, gathered-open, gathered-slot, gathered-word, gathered-kept, can-round, rounded-tree, rounded-slot, rounded-word, rounded-kept, can-lend, LentTo, none, some, lent-to}
 use Rattle.passes.proofs.GatherLaws.{walk-node, walk-passed, LeftLevel, item-bounds, item-holds, kept-within, within-then, Stands, stands, Standing}
 use Rattle.passes.proofs.CallLaws.{next-of}
-use Rattle.passes.proofs.TurnLaws.{turn-at, turned-by}
 
 -- ---- the level, where no array waits
 
@@ -51,7 +50,7 @@ unfolding work begins inReading takes through arrayLevel arrayResume isNil
 array-node d k nil rest e = absurd (true≢false e)
 array-node d k (node c cs r) rest e = walk-node arrayLevel isArrayName array-inert d k c cs r rest
 
-array-left : LeftLevel arrays (Arrays 0 0) isArrayName unindexed any
+array-left : LeftLevel arrays (Arrays 0 0) isArrayName unindexed unasked
 unfolding work begins waits operators arrayLevel
 array-left =
     record {
@@ -62,14 +61,14 @@ array-left =
       framed = λ v h. h;
       calm = λ d. refl;
       unlent = refl;
-      afresh = λ cs. refl;
+      fresh = λ cs. refl;
       passes = λ p. walk-passed arrayLevel isArrayName array-inert p;
       keeps = λ p h. refl;
       node = array-node;
     }
 
-module _ {T : (κ : Kind) → (Forest → State κ) → (ℕ → Bool) → (Forest → Bool) → Type 0} (W : List ℕ) (v : Items) where
-  pub array-stands : T arrays unindexed isArrayName any → Standing T W v (Arrays 0 0)
+module _ {T : Saying} (W : List ℕ) (v : Items) where
+  pub array-stands : T arrays unindexed isArrayName unasked → Standing T W v (Arrays 0 0)
   array-stands t g = go (g .holds .sides .runs) (g .holds)
     where
       side : {X : List ℕ} {lo l m hi : ℕ} {s : Indexing} {rest : Forest} → ArraySide W X (v .base) (v .write) lo l (Arrays 0 0) s → Ahead W X (v .base) (v .read) (v .len) m hi rest
@@ -79,14 +78,6 @@ module _ {T : (κ : Kind) → (Forest → State κ) → (ℕ → Bool) → (Fore
 
       go : {κ : Kind} {X : List ℕ} {lo hi : ℕ} {s : State κ} {rest : Forest} → Runs κ (Arrays 0 0) → Holds κ W X lo hi (walkOf v (Arrays 0 0)) s rest → Stands T W v (Arrays 0 0) κ X lo hi s rest
       go passes.array h = side (h .sides .done) (h .sides .unread) (h .sides .mid) (h .turning .1) (h .sides .below) (h .sides .within)
-
--- the same list, where the state says that none waits
-module _ {W : List ℕ} {v : Items} {a : ℕ} (z : a ≡ 0) where
-  pub turn-none : CanTurn W (walkOf v (Arrays a 0)) → CanTurn W (walkOf v (Arrays 0 0))
-  turn-none g = turn-at v (Arrays a 0) (Arrays 0 0) (ap (λ (x : ℕ). Arrays x 0) z) g
-
-  pub turned-none : {W' : List ℕ} {r : Turn} → Turned W (walkOf v (Arrays 0 0)) r W' → Turned W (walkOf v (Arrays a 0)) r W'
-  turned-none t = turned-by v (Arrays a 0) (Arrays 0 0) (ap (λ (x : ℕ). Arrays x 0) z) t
 
 -- ---- an array's next index
 

@@ -36,7 +36,7 @@ use Rattle.levels.specs.declared.turns.Pass.the-variants.{Binary}
 use Rattle.levels.specs.declared.turns.Turn.{Turn}
 use Rattle.levels.specs.declared.turns.Turn.the-variants.{On, Enter, Fail}
 use Rattle.levels.proofs.Reading.{back-array-keep, ahead-keep, ahead-le, ahead-end, array-put, AheadTo, item, ahead-item, inner-tree, tree-free, free-tree-below, same-within}
-use Rattle.passes.specs.TokenTurns.{AtItem, AtToken, LevelTurned}
+use Rattle.passes.specs.TokenTurns.{AtItem, AtToken, LevelTurned, Saying}
 use Rattle.passes.specs.Binary.{leftOf, CanFold, Folded, CanSearch, LeafFound, CanOperate, Operated, opens, folds}
 use Rattle.passes.proofs.GatherLaws.{next-room, walk-node, walk-passed, LeftLevel, item-bounds, item-holds, kept-within, Stands, stands, Standing}
 
@@ -68,13 +68,13 @@ level-of ops classes covers =
       framed = λ v h. h;
       calm = λ d. refl;
       unlent = refl;
-      afresh = λ cs. refl;
+      fresh = λ cs. refl;
       passes = λ p. walk-passed (binaryLevel ops) (isOneOf ops) (binary-inert ops) p;
       keeps = λ p h. passed-clear (isOneOf ops) p h;
       node = level-node ops;
     }
 
-module _ {T : (κ : Kind) → (Forest → State κ) → (ℕ → Bool) → (Forest → Bool) → Type 0} (W : List ℕ) (v : Items) (classes : TokenClasses) where
+module _ {T : Saying} (W : List ℕ) (v : Items) (classes : TokenClasses) where
   open-side : (ops : List ℕ) → Covers (classes .0) (isOneOf ops) → T (binary ops) gathered (isOneOf ops) (clear (isOneOf ops))
       → {X : List ℕ} {lo l m hi : ℕ} {s : Gathered} {rest : Forest} → LevelSide W X (v .base) (v .write) lo l ops (Binary classes 0) s → Ahead W X (v .base) (v .read) (v .len) m hi rest
       → l ≤ m → v .write ≤ v .read → 8 * hi ≤ v .base → v .base + v .len ≤ length W → length W < 2 ^ 32 → Stands T W v (Binary classes 0) (binary ops) X lo hi s rest

@@ -37,7 +37,7 @@ use Rattle.levels.specs.declared.turns.Turn.{Turn}
 use Rattle.levels.specs.declared.turns.Turn.the-variants.{On, Enter, Fail}
 use Rattle.levels.proofs.Reading.{can-peek, unfree-leaf, tree-free, tree-unfree, unfree-tree, free-tree-below, NextTo, ended, differs, found, next-to, same-within}
 use Rattle.levels.proofs.PassClasses.{runs-covers}
-use Rattle.passes.specs.TokenTurns.{AtItem, AtToken, any, CallTurned}
+use Rattle.passes.specs.TokenTurns.{AtItem, AtToken, unasked, CallTurned, Saying}
 use Rattle.passes.specs.Calls.{CanCall, Called, opens, stays}
 use Rattle.passes.proofs.GatherLaws.{token-room, next-room, walk-node, walk-passed, LeftLevel, item-holds, item-waits, kept-within, Attaching, attached, item-attached, within-then, Stands, stands, Standing}
 
@@ -50,7 +50,7 @@ call-node kind d k nil rest e = absurd (true≢false e)
 call-node kind d k (node c cs r) rest e = walk-node (callLevel kind) (isCall kind) (call-inert kind) d k c cs r rest
 
 call-level : (kind : CallKind) (pass : Pass) → Runs (calls kind) pass → ((v : Items) → v .write ≤ v .read → AtTurn v pass)
-    → ((v : Items) → v .write < v .read → InFrame v pass) → lentOf pass ≡ 0 → LeftLevel (calls kind) pass (isCall kind) gathered any
+    → ((v : Items) → v .write < v .read → InFrame v pass) → lentOf pass ≡ 0 → LeftLevel (calls kind) pass (isCall kind) gathered unasked
 unfolding work begins waits operators callLevel nothing
 call-level kind pass runs turning framed unlent =
     record {
@@ -61,31 +61,31 @@ call-level kind pass runs turning framed unlent =
       framed = framed;
       calm = λ d. refl;
       unlent = unlent;
-      afresh = λ cs. refl;
+      fresh = λ cs. refl;
       passes = λ p. walk-passed (callLevel kind) (isCall kind) (call-inert kind) p;
       keeps = λ p h. refl;
       node = call-node kind;
     }
 
-query-level : LeftLevel (calls queryOrLoop) Calls (isCall queryOrLoop) gathered any
+query-level : LeftLevel (calls queryOrLoop) Calls (isCall queryOrLoop) gathered unasked
 query-level = call-level queryOrLoop Calls call (λ v h. h) (λ v h. h) refl
 
-math-level : LeftLevel (calls math) MathCalls (isCall math) gathered any
+math-level : LeftLevel (calls math) MathCalls (isCall math) gathered unasked
 math-level = call-level math MathCalls mathCall (λ v h. h) (λ v h. h) refl
 
-module _ {T : (κ : Kind) → (Forest → State κ) → (ℕ → Bool) → (Forest → Bool) → Type 0} (W : List ℕ) (v : Items) where
-  open-side : (kind : CallKind) (pass : Pass) → LeftLevel (calls kind) pass (isCall kind) gathered any → T (calls kind) gathered (isCall kind) any
+module _ {T : Saying} (W : List ℕ) (v : Items) where
+  open-side : (kind : CallKind) (pass : Pass) → LeftLevel (calls kind) pass (isCall kind) gathered unasked → T (calls kind) gathered (isCall kind) unasked
       → {X : List ℕ} {lo l m hi : ℕ} {s : Gathered} {rest : Forest} → GatherSide W X (v .base) (v .write) lo l s → Ahead W X (v .base) (v .read) (v .len) m hi rest
       → l ≤ m → v .write ≤ v .read → 8 * hi ≤ v .base → v .base + v .len ≤ length W → length W < 2 ^ 32 → Stands T W v pass (calls kind) X lo hi s rest
   open-side kind pass level t (all done) ahead mid behind below within small = stands level t refl done ahead mid behind below within small
 
-  pub query-stands : T (calls queryOrLoop) gathered (isCall queryOrLoop) any → Standing T W v Calls
+  pub query-stands : T (calls queryOrLoop) gathered (isCall queryOrLoop) unasked → Standing T W v Calls
   query-stands t g = go (g .holds .sides .runs) (g .holds)
     where
       go : {κ : Kind} {X : List ℕ} {lo hi : ℕ} {s : State κ} {rest : Forest} → Runs κ Calls → Holds κ W X lo hi (walkOf v Calls) s rest → Stands T W v Calls κ X lo hi s rest
       go call h = open-side queryOrLoop Calls query-level t (h .sides .done) (h .sides .unread) (h .sides .mid) (h .turning) (h .sides .below) (h .sides .within) (g .small)
 
-  pub math-stands : T (calls math) gathered (isCall math) any → Standing T W v MathCalls
+  pub math-stands : T (calls math) gathered (isCall math) unasked → Standing T W v MathCalls
   math-stands t g = go (g .holds .sides .runs) (g .holds)
     where
       go : {κ : Kind} {X : List ℕ} {lo hi : ℕ} {s : State κ} {rest : Forest} → Runs κ MathCalls → Holds κ W X lo hi (walkOf v MathCalls) s rest → Stands T W v MathCalls κ X lo hi s rest
@@ -219,7 +219,7 @@ attached-within (attached i x) = x
 put-within : {W W1 W' X : List ℕ} {v : Items} {b lo hi : ℕ} {d : Forest} {k : Token} {rest : Forest} → W' ≡ set W1 (v .base + v .write) b → Attaching W W1 X v b lo hi d k rest → Within W W' X lo hi v
 put-within {W1 = W1} {W' = W'} s (attached i x) = within-then refl refl x (kept-within W1 W' i s)
 
-module _ {kind : CallKind} {pass : Pass} (L : LeftLevel (calls kind) pass (isCall kind) gathered any) {W W' : List ℕ} {v : Items} {b c : ℕ} (e : wd W (v .base + v .read) ≡ c) (n : v .read < v .len) where
+module _ {kind : CallKind} {pass : Pass} (L : LeftLevel (calls kind) pass (isCall kind) gathered unasked) {W W' : List ℕ} {v : Items} {b c : ℕ} (e : wd W (v .base + v .read) ≡ c) (n : v .read < v .len) where
   section-entered : {X : List ℕ} {lo hi : ℕ} {d : Forest} {k t : Token} {ts rest : Forest} → isCall kind (k .op) ≡ true → t .op ≡ leftParenthesis
       → shares (wd W' (8 * b + 7)) (classesOf pass) ≡ true → Attaching W W' X v b lo hi d k (node t ts rest)
       → TurnTo (calls kind) W' X lo hi (walkOf v pass) (gathered d) (node k nil (node t ts rest)) (Enter (walkOf (movedTo v (v .read + 1) (v .write)) pass) b)

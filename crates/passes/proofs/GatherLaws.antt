@@ -32,7 +32,7 @@ use Rattle.levels.specs.declared.turns.Walk.{Walk}
 use Rattle.levels.specs.declared.turns.Turn.{Turn}
 use Rattle.levels.specs.declared.turns.Turn.the-variants.{Enter, Over}
 use Rattle.levels.proofs.Reading.{can-peek, back-array-keep, AheadTo, item, ahead-item, ahead-keep, ahead-le, array-put}
-use Rattle.passes.specs.TokenTurns.{AtItem, AtToken, TokenTurned}
+use Rattle.passes.specs.TokenTurns.{AtItem, AtToken, TokenTurned, Saying}
 
 -- ---- trees that are passed over
 
@@ -74,7 +74,7 @@ pub record LeftLevel (κ : Kind) (pass : Pass) (P : ℕ → Bool) (idle : Forest
   pub framed : (v : Items) → v .write < v .read → InFrame v pass
   pub calm : (d : Forest) → waits κ (idle d) ≡ 0
   pub unlent : lentOf pass ≡ 0
-  pub afresh : (cs : Forest) → begins κ cs ≡ idle nil
+  pub fresh : (cs : Forest) → waits κ (begins κ cs) ≡ 0
   pub passes : {d rest d' rest' : Forest} → Passed P d rest d' rest' → work κ (idle d) rest ≡ work κ (idle d') rest'
   pub keeps : {d rest d' rest' : Forest} → Passed P d rest d' rest' → good d ≡ true → good d' ≡ true
   pub node : (d : Forest) (k : Token) (cs rest : Forest) → isNil cs ≡ false
@@ -215,7 +215,7 @@ module _ {κ : Kind} {pass : Pass} {P : ℕ → Bool} {idle : Forest → State �
         let z = passed-count p in
         enters {t = idle d'} {u = begins κ cs} (same-moved v v' pass pass e refl) (item-waits i (L .keeps p fine)) t full (afresh (L .unlent) (le-refl a))
         (L .passes p ∙ L .node d' k cs rest' full) (omega arith) (omega arith) (omega (arith, count-size rest))
-        (rw (L .afresh cs) (omega (arith, L .calm nil, L .calm d', L .calm d)))
+        (omega (arith, L .fresh cs, L .calm d', L .calm d))
 
     sought-at : {v' : Items} {b : ℕ} → SoughtTo W X v (v .base) lo hi P d rest (Leaf v' b) → AtToken W v' b
     sought-at (leaf {d' = d'} {rest' = rest'} {k = k} e behind p isP t s) =
@@ -235,7 +235,7 @@ module _ {κ : Kind} {pass : Pass} {P : ℕ → Bool} {idle : Forest → State �
 -- ---- a whole turn
 
 -- A turn's list, its state said as the trees that are done; and what T says of the level.
-pub record Stands (T : (κ : Kind) → (Forest → State κ) → (ℕ → Bool) → (Forest → Bool) → Type 0) (W : List ℕ) (v : Items) (pass : Pass) (κ : Kind) (X : List ℕ) (lo hi : ℕ) (s : State κ) (rest : Forest) : Type 0 where
+pub record Stands (T : Saying) (W : List ℕ) (v : Items) (pass : Pass) (κ : Kind) (X : List ℕ) (lo hi : ℕ) (s : State κ) (rest : Forest) : Type 0 where
   pub P : ℕ → Bool
   pub idle : Forest → State κ
   pub good : Forest → Bool
@@ -254,7 +254,7 @@ pub record Stands (T : (κ : Kind) → (Forest → State κ) → (ℕ → Bool) 
   pub within : v .base + v .len ≤ length W
   pub small : length W < 2 ^ 32
 
-pub stands : {T : (κ : Kind) → (Forest → State κ) → (ℕ → Bool) → (Forest → Bool) → Type 0} {W : List ℕ} {v : Items} {pass : Pass} {κ : Kind} {P : ℕ → Bool} {idle : Forest → State κ} {good : Forest → Bool}
+pub stands : {T : Saying} {W : List ℕ} {v : Items} {pass : Pass} {κ : Kind} {P : ℕ → Bool} {idle : Forest → State κ} {good : Forest → Bool}
     {X : List ℕ} {lo l m hi : ℕ} {d rest : Forest} → LeftLevel κ pass P idle good → T κ idle P good → good d ≡ true → BackArray W X (v .base) (v .write) lo l d
     → Ahead W X (v .base) (v .read) (v .len) m hi rest → l ≤ m → v .write ≤ v .read → 8 * hi ≤ v .base → v .base + v .len ≤ length W → length W < 2 ^ 32
     → Stands T W v pass κ X lo hi (idle d) rest
@@ -279,10 +279,10 @@ stands {P = P} {idle = idle} {good = good} {l = l} {m = m} {d = d} level told fi
       small = small;
     }
 
-abbrev pub Nothing-told : (κ : Kind) → (Forest → State κ) → (ℕ → Bool) → (Forest → Bool) → Type 0
+abbrev pub Nothing-told : Saying
 Nothing-told κ idle P good = Unit {0}
 
-module _ {T : (κ : Kind) → (Forest → State κ) → (ℕ → Bool) → (Forest → Bool) → Type 0} {W : List ℕ} {v : Items} {pass : Pass} {κ : Kind} {X : List ℕ} {lo hi : ℕ} {s : State κ} {rest : Forest}
+module _ {T : Saying} {W : List ℕ} {v : Items} {pass : Pass} {κ : Kind} {X : List ℕ} {lo hi : ℕ} {s : State κ} {rest : Forest}
     (g : Stands T W v pass κ X lo hi s rest) where
   seeking : CanSeek W v
   seeking =
@@ -338,7 +338,7 @@ module _ {T : (κ : Kind) → (Forest → State κ) → (ℕ → Bool) → (Fore
       (subst (λ (y : State κ). TurnTo κ W'' X lo hi (walkOf v pass) y rest r) (g .state) (x .0), within-then refl refl (sought-within h) (x .1))
 
 -- The level's list at every turn.
-abbrev pub Standing : ((κ : Kind) → (Forest → State κ) → (ℕ → Bool) → (Forest → Bool) → Type 0) → List ℕ → Items → Pass → Type 0
+abbrev pub Standing : Saying → List ℕ → Items → Pass → Type 0
 Standing T W v pass = (g : CanTurn W (walkOf v pass)) → Stands T W v pass (g .κ) (g .X) (g .lo) (g .hi) (g .s) (g .rest)
 
 sought-as : {W W' : List ℕ} {v : Items} {c : ℕ} {f f' : Found} → f ≡ f' → Sought W v c f W' → Sought W v c f' W'

@@ -25,3 +25,4 @@ pub mod ConditionalPair
 pub mod ConditionalLoop
 pub mod ConditionalEnd
 pub mod TurnLaws
+pub mod SeekLaws

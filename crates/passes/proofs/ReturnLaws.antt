@@ -27,7 +27,7 @@ use Rattle.levels.proofs.Reading.{ahead-end, same-within}
 use Rattle.levels.proofs.PassClasses.{runs-covers}
 use Rattle.nodes.specs.Store.{wd}
 use Rattle.nodes.specs.Children.{Attached}
-use Rattle.passes.specs.TokenTurns.{any, ReturnTurned}
+use Rattle.passes.specs.TokenTurns.{unasked, ReturnTurned, Saying}
 use Rattle.passes.proofs.GatherLaws.{walk-node, walk-passed, LeftLevel, item-holds, kept-within, Attaching, attached, item-attached, within-then, Stands, stands, Standing}
 
 return-node : (d : Forest) (k : Token) (cs rest : Forest) → isNil cs ≡ false
@@ -36,7 +36,7 @@ unfolding work begins inReading takes through returnLevel returnResume isNil
 return-node d k nil rest e = absurd (true≢false e)
 return-node d k (node c cs r) rest e = walk-node returnLevel isReturn return-inert d k c cs r rest
 
-return-level : LeftLevel returns Returns isReturn gathered any
+return-level : LeftLevel returns Returns isReturn gathered unasked
 unfolding work begins waits operators returnLevel nothing
 return-level =
     record {
@@ -47,13 +47,13 @@ return-level =
       framed = λ v h. h;
       calm = λ d. refl;
       unlent = refl;
-      afresh = λ cs. refl;
+      fresh = λ cs. refl;
       passes = λ p. walk-passed returnLevel isReturn return-inert p;
       keeps = λ p h. refl;
       node = return-node;
     }
 
-pub return-stands : {T : (κ : Kind) → (Forest → State κ) → (ℕ → Bool) → (Forest → Bool) → Type 0} (W : List ℕ) (v : Items) → T returns gathered isReturn any → Standing T W v Returns
+pub return-stands : {T : Saying} (W : List ℕ) (v : Items) → T returns gathered isReturn unasked → Standing T W v Returns
 return-stands {T} W v t g = go (g .holds .sides .runs) (g .holds)
   where
     open-side : {X : List ℕ} {lo l m hi : ℕ} {s : Gathered} {rest : Forest} → GatherSide W X (v .base) (v .write) lo l s → Ahead W X (v .base) (v .read) (v .len) m hi rest

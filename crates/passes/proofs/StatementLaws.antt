@@ -1,5 +1,5 @@
 -- The statement pass as laws: which semicolons a list has, what the trees between them change, and what a finished statement's words say of trees.
-use Prim.Native.Nat.{ℕ, _+_, _*_, _^_, _≤_, _<_}
+use Prim.Native.Nat.{ℕ, _+_, _*_, _≤_, _<_}
 use mathlib.Core.Path.{_≡_, refl, sym, ap, _∙_, subst}
 use mathlib.Core.Logic.{inl, inr, ⊎-elim}
 use mathlib.Core.Bool.{Bool, true, false, not, true≢false}
@@ -26,22 +26,24 @@ use Rattle.nodes.specs.Store.{wd, InArray, begins as begins-with, Seg, Inc}
 use Rattle.nodes.specs.Slots.{isTokenAt, Laid}
 use Rattle.words.specs.declared.tokens.TokenWords.{TokenWords}
 use Rattle.nodes.specs.declared.frames.List.{List as Items}
-use Rattle.nodes.proofs.Runs.{inc-le, seg-keep, set-same, set-other, set-long}
-use Rattle.nodes.proofs.Store.{tree-below, back-le, back-raise}
+use Rattle.nodes.proofs.Runs.{inc-le, seg-keep}
+use Rattle.nodes.proofs.Store.{tree-below, back-le}
 use Rattle.nodes.proofs.Trees.{token-test}
 use Rattle.levels.specs.Passes.{walkOf, movedTo, classesOf, operators, Covers, Runs, unsplitPass, split, waits}
-use Rattle.levels.specs.Items.{BackArray, Ahead, CanSeek, Passed, here, over, SoughtTo, none as found-none, leaf, tree, Sought}
-use Rattle.levels.specs.Sides.{StatementSide, whole, closed, EndedAt, nothing, DoneSide, UnreadSide, Holds}
+use Rattle.levels.specs.Items.{BackArray, Ahead, Passed, here, over, tree, Sought}
+use Rattle.levels.specs.Sides.{StatementSide, whole, closed, EndedAt, nothing, Holds}
 use Rattle.nodes.specs.Children.{CanGive}
-use Rattle.levels.specs.Turns.{SameList, Within, CanTurn, TurnTo, goes, enters, ends, Turned, afresh, CanStart, Started}
+use Rattle.levels.specs.Turns.{SameList, Within, goes, CanStart, Started}
 use Rattle.levels.specs.declared.items.Found.{Found}
-use Rattle.levels.specs.declared.items.Found.the-variants.{Nothing, Children, Token as Leaf}
 use Rattle.levels.specs.declared.turns.Pass.{Pass}
 use Rattle.levels.specs.declared.turns.Pass.the-variants.{Unsplit, Split as SplitAt}
-use Rattle.levels.specs.declared.turns.Turn.the-variants.{On, Enter, Over}
+use Rattle.levels.specs.declared.turns.Turn.{Turn}
+use Rattle.levels.specs.declared.turns.Turn.the-variants.{On}
 use Rattle.passes.specs.Statements.{HasSemicolon}
 use Rattle.levels.proofs.PassClasses.{runs-covers}
-use Rattle.levels.proofs.Reading.{AheadTo, item, ahead-item, ahead-end, ahead-le, ahead-keep, array-put}
+use Rattle.levels.proofs.Reading.{AheadTo, item, ahead-item, ahead-end, ahead-le}
+use Rattle.passes.specs.TokenTurns.{unasked, TokenTurned, Saying}
+use Rattle.passes.proofs.GatherLaws.{LeftLevel, item-holds, kept-within, Stands, stands, Standing}
 
 -- ---- which semicolons a list has
 
@@ -293,7 +295,7 @@ module _ {W : List ℕ} {v : Items} where
             (plain-holds (start-none g) (start-ahead g) (le-refl (g .lo)) (omega (arith, g .unwritten)) (g .below) (g .within));
       }
 
--- ---- a list without semicolons, at a turn
+-- ---- one list, further on
 
 -- The same items of a list read and written further.
 pub record Moved (l l' : Items) : Type 0 where
@@ -304,47 +306,14 @@ pub record Moved (l l' : Items) : Type 0 where
 pub moved-same : {l l' : Items} → l' ≡ movedTo l (l' .read) (l' .write) → Moved l l'
 moved-same e = record { owner = ap (λ (x : Items). x .owner) e; base = ap (λ (x : Items). x .base) e; len = ap (λ (x : Items). x .len) e }
 
-back-at : {W X : List ℕ} {at n at' n' lo m : ℕ} {d : Forest} → at ≡ at' → n ≡ n' → BackArray W X at n lo m d → BackArray W X at' n' lo m d
-back-at {W} {X} {at} {n} {at'} {n'} {lo} {m} {d} e h v = subst (λ (x : ℕ). BackArray W X at' x lo m d) h (subst (λ (x : ℕ). BackArray W X x n lo m d) e v)
+pub same-list : {l l' : Items} (p p' : Pass) → classesOf p' ≡ classesOf p → Moved l l' → SameList (walkOf l p) (walkOf l' p')
+same-list p p' e m = record { owner = m .owner; base = m .base; len = m .len; classes = e }
 
-pub data UnsplitView (W X : List ℕ) (lo hi : ℕ) (l : Items) : (κ : Kind) → State κ → Forest → Type 0 where
-  plainly : {d rest : Forest} {m m' : ℕ} → BackArray W X (l .base) (l .write) lo m d → Ahead W X (l .base) (l .read) (l .len) m' hi rest → m ≤ m'
-      → l .write ≤ l .read → 8 * hi ≤ l .base → l .base + l .len ≤ length W → UnsplitView W X lo hi l statements (unsplit d) rest
+-- what reading on changes
+pub sought-within : {W W' X : List ℕ} {lo hi c : ℕ} {l : Items} {r : Found} → Sought W l c r W' → Within W W' X lo hi l
+sought-within q = record { kept = λ j f o. q .same j (⊎-elim (λ x. inl (omega arith)) (λ x. inr x) o); long = q .long }
 
-pub unsplit-view : {W X : List ℕ} {lo hi : ℕ} {l : Items} {κ : Kind} {s : State κ} {rest : Forest} → Holds κ W X lo hi (walkOf l Unsplit) s rest → UnsplitView W X lo hi l κ s rest
-unsplit-view {W} {X} {lo} {hi} {l} h = go (h .sides .runs) (h .sides .done) (h .sides .unread) (h .sides .mid) (h .turning) (h .sides .below) (h .sides .within)
-  where
-    go : {κ : Kind} {s : State κ} {rest : Forest} {m m' : ℕ} → Runs κ Unsplit → DoneSide κ W X lo m m' hi (walkOf l Unsplit) s → UnreadSide κ W X lo m m' hi l rest → m ≤ m'
-        → l .write ≤ l .read → 8 * hi ≤ l .base → l .base + l .len ≤ length W → UnsplitView W X lo hi l κ s rest
-    go unsplitPass (whole b) u e t below within = plainly b u e t below within
-
-module _ {W X : List ℕ} {lo hi : ℕ} {l : Items} where
-  abbrev seek-plain : {d rest : Forest} {m m' : ℕ} → BackArray W X (l .base) (l .write) lo m d → Ahead W X (l .base) (l .read) (l .len) m' hi rest → m ≤ m'
-      → l .write ≤ l .read → 8 * hi ≤ l .base → l .base + l .len ≤ length W → length W < 2 ^ 32 → CanSeek W l
-  seek-plain {d} {rest} {m} {m'} b u e t below within small =
-      record {
-        X = X;
-        lo = lo;
-        m = m';
-        hi = hi;
-        at = l .base;
-        n = l .write;
-        d = d;
-        rest = rest;
-        done = record { ds = b .ds; seg = b .seg; count = b .count; rep = back-raise e (b .rep) };
-        reached = refl;
-        started = le-refl (l .base);
-        ahead = u;
-        behind = t;
-        below = below;
-        within = within;
-        small = small;
-      }
-
-  pub unsplit-seek : {κ : Kind} {s : State κ} {rest : Forest} → length W < 2 ^ 32 → UnsplitView W X lo hi l κ s rest → CanSeek W l
-  unsplit-seek small (plainly b u e t below within) = seek-plain b u e t below within small
-
--- ---- a turn on a list without semicolons
+-- ---- the level of a list without semicolons
 
 unsplit-in : (d : Forest) (k : Token) (cs : Forest) → isNil cs ≡ false → statementStep (unsplit d) k cs ≡ into (unsplit d) (splitOf cs)
 unfolding statementStep isNil
@@ -355,114 +324,45 @@ unsplit-end : (d : Forest) (k : Token) → isSemicolon (k .op) ≡ true → stat
 unfolding endStatement
 unsplit-end d k e = step-end (unsplit d) k e
 
-pub same-list : {l l' : Items} (p p' : Pass) → classesOf p' ≡ classesOf p → Moved l l' → SameList (walkOf l p) (walkOf l' p')
-same-list p p' e m = record { owner = m .owner; base = m .base; len = m .len; classes = e }
+unsplit-level : LeftLevel statements Unsplit isSemicolon unsplit unasked
+unfolding waits
+unsplit-level =
+    record {
+      covers = semicolon-class;
+      sides = λ fine done ahead low mid high below within.
+          record { runs = unsplitPass; done = whole done; unread = ahead; agrees = tt; low = low; mid = mid; high = high; below = below; within = within };
+      turning = λ v h. h;
+      framed = λ v h. h;
+      calm = λ d. refl;
+      unlent = refl;
+      fresh = λ cs. refl;
+      passes = passed-unsplit;
+      keeps = λ p h. refl;
+      node = λ d k cs rest full. walk-in (unsplit d) k cs rest (unsplit-in d k cs full);
+    }
 
--- what reading on changes
-pub sought-within : {W W' X : List ℕ} {lo hi c : ℕ} {l : Items} {r : Found} → Sought W l c r W' → Within W W' X lo hi l
-sought-within q = record { kept = λ j f o. q .same j (⊎-elim (λ x. inl (omega arith)) (λ x. inr x) o); long = q .long }
+pub unsplit-stands : {T : Saying} (W : List ℕ) (v : Items) → T statements unsplit isSemicolon unasked → Standing T W v Unsplit
+unsplit-stands {T} W v t g = go (g .holds .sides .runs) (g .holds)
+  where
+    side : {X : List ℕ} {lo l m hi : ℕ} {s : Split} {rest : Forest} → StatementSide W X (v .base) (v .write) lo l Unsplit s → Ahead W X (v .base) (v .read) (v .len) m hi rest
+        → l ≤ m → v .write ≤ v .read → 8 * hi ≤ v .base → v .base + v .len ≤ length W → Stands T W v Unsplit statements X lo hi s rest
+    side (whole done) ahead mid behind below within = stands unsplit-level t refl done ahead mid behind below within (g .small)
 
-module _ {W W' X : List ℕ} {lo hi : ℕ} {l l' : Items} (small : length W < 2 ^ 32) where
-  unsplit-over : {κ : Kind} {s : State κ} {rest : Forest} → Sought W l 0x2 (Nothing l') W' → UnsplitView W X lo hi l κ s rest
-      → TurnTo κ W' X lo hi (walkOf l Unsplit) s rest (Over (walkOf l' Unsplit))
-  unfolding waits
-  unsplit-over q (plainly {d = d} {rest = rest} b u e t below within) = go (q .to (seek-plain b u e t below within small) isSemicolon semicolon-class)
-    where
-      go : SoughtTo W' X l (l .base) lo hi isSemicolon d rest (Nothing l') → TurnTo statements W' X lo hi (walkOf l Unsplit) (unsplit d) rest (Over (walkOf l' Unsplit))
-      go (found-none moved behind passed seen) =
-          let m : Moved l l' = moved-same moved in
-          let mb = m .base in let ml = m .len in let long = q .long in
-          ends (same-list Unsplit Unsplit refl m)
-          (plain-holds (back-at (sym mb) (omega (arith, seen .reached)) (seen .done)) (seen .ahead) (le-refl hi) behind (omega arith) (omega arith))
-          refl (passed-unsplit passed)
+    go : {κ : Kind} {X : List ℕ} {lo hi : ℕ} {s : State κ} {rest : Forest} → Runs κ Unsplit → Holds κ W X lo hi (walkOf v Unsplit) s rest → Stands T W v Unsplit κ X lo hi s rest
+    go unsplitPass h = side (h .sides .done) (h .sides .unread) (h .sides .mid) (h .turning) (h .sides .below) (h .sides .within)
 
-  unsplit-enter : {κ : Kind} {s : State κ} {rest : Forest} {b : ℕ} → Sought W l 0x2 (Children l' b) W' → UnsplitView W X lo hi l κ s rest
-      → TurnTo κ W' X lo hi (walkOf l Unsplit) s rest (Enter (walkOf l' Unsplit) b)
-  unfolding waits count size
-  unsplit-enter {b = b} q (plainly {d = d} {rest = rest} v u e t below within) = go (q .to (seek-plain v u e t below within small) isSemicolon semicolon-class)
-    where
-      go : SoughtTo W' X l (l .base) lo hi isSemicolon d rest (Children l' b) → TurnTo statements W' X lo hi (walkOf l Unsplit) (unsplit d) rest (Enter (walkOf l' Unsplit) b)
-      go (tree {d' = d'} {rest' = rest'} {cs = cs} {a = a} {m = hm} {k = k} moved before passed full unfree t seen) =
-          let m : Moved l l' = moved-same moved in
-          let mb = m .base in let ml = m .len in let long = q .long in
-          let c = passed-counts passed in
-          enters {t = unsplit d'} {u = begins statements cs} (same-list Unsplit Unsplit refl m)
-          (record {
-            sides =
-                record {
-                  runs = unsplitPass;
-                  done = whole (back-at (sym mb) (omega (arith, seen .reached)) (seen .done));
-                  unread = seen .ahead;
-                  agrees = tt;
-                  low = back-le (seen .done .rep);
-                  mid = omega (arith, t .low, tree-below t);
-                  high = ahead-le (seen .ahead) .0;
-                  below = omega arith;
-                  within = omega arith;
-                };
-            framed = before;
-          })
-          t full (afresh refl (le-refl a)) (passed-unsplit passed ∙ walk-in (unsplit d') k cs rest' (unsplit-in d' k cs full))
-          (omega (arith, c .0)) (omega (arith, c .1)) (omega (arith, c .2)) (omega arith)
-
-  unsplit-on : {κ : Kind} {s : State κ} {rest : Forest} {b : ℕ} (W'' : List ℕ) → Sought W l 0x2 (Leaf l' b) W' → W'' ≡ set W' (l' .base + l' .write) b → UnsplitView W X lo hi l κ s rest
-      → TurnTo κ W'' X lo hi (walkOf l Unsplit) s rest (On (walkOf (movedTo l' (l' .read) (l' .write + 1)) Unsplit))
-  unfolding waits count size
-  unsplit-on {b = b} W'' q w (plainly {d = d} {rest = rest} v u e t below within) = go (q .to (seek-plain v u e t below within small) isSemicolon semicolon-class)
-    where
-      go : SoughtTo W' X l (l .base) lo hi isSemicolon d rest (Leaf l' b)
-          → TurnTo statements W'' X lo hi (walkOf l Unsplit) (unsplit d) rest (On (walkOf (movedTo l' (l' .read) (l' .write + 1)) Unsplit))
-      go (leaf {d' = d'} {rest' = rest'} {a = a} {m = hm} {k = k} moved before passed is t seen) =
-          let m : Moved l l' = moved-same moved in
-          let mb = m .base in let ml = m .len in let long = q .long in
-          let c = passed-counts passed in
-          let al = ahead-le (seen .ahead) in
-          let other = set-other W' W'' (l' .base + l' .write) b w in
-          let keep : BackArray W'' X (l .base) (seen .n + 1) lo hm (node k nil d')
-          = array-put W' W'' (seen .done) t (le-refl a) (le-refl hm) (λ s o x y z p. other (8 * s + o) (omega arith)) (λ j x y. other j (omega (arith, seen .reached)))
-          (ap (wd W'') (seen .reached) ∙ set-same W' W'' (l' .base + l' .write) b w (omega arith)) in
-          goes {w' = walkOf (movedTo l' (l' .read) (l' .write + 1)) Unsplit} {s' = unsplit (node k nil d')} (same-list Unsplit Unsplit refl (record { owner = m .owner; base = mb; len = ml }))
-          (plain-holds {l = movedTo l' (l' .read) (l' .write + 1)} (back-at (sym mb) (omega (arith, seen .reached)) keep)
-          (ahead-keep W' W'' (λ s o x y z p. other (8 * s + o) (omega arith)) (λ j x y. other j (omega arith)) (seen .ahead))
-          (le-refl hm) (omega arith) (omega arith) (omega (arith, set-long W' W'' (l' .base + l' .write) b w)))
-          (passed-unsplit passed ∙ walk-on (unsplit d') k nil rest' (unsplit (node k nil d')) (unsplit-end d' k is))
-          (omega (arith, c .0)) (omega (arith, c .1)) (omega (arith, c .2))
-
-  unsplit-place : {κ : Kind} {s : State κ} {rest : Forest} {b : ℕ} → Sought W l 0x2 (Leaf l' b) W' → UnsplitView W X lo hi l κ s rest
-      → (l .base ≤ l' .base + l' .write) × (l' .base + l' .write < l .base + l .len) × (l .base + l .len ≤ length W')
-  unsplit-place {b = b} q (plainly {d = d} {rest = rest} v u e t below within) = go (q .to (seek-plain v u e t below within small) isSemicolon semicolon-class)
-    where
-      go : SoughtTo W' X l (l .base) lo hi isSemicolon d rest (Leaf l' b)
-          → (l .base ≤ l' .base + l' .write) × (l' .base + l' .write < l .base + l .len) × (l .base + l .len ≤ length W')
-      go (leaf moved before passed is t seen) =
-          let m : Moved l l' = moved-same moved in
-          let mb = m .base in let ml = m .len in let long = q .long in let al = ahead-le (seen .ahead) in
-          (omega arith, omega arith, omega arith)
-
-module _ {W W' : List ℕ} {l l' : Items} where
-  pub turned-unsplit-over : Sought W l 0x2 (Nothing l') W' → Turned W (walkOf l Unsplit) (Over (walkOf l' Unsplit)) W'
-  turned-unsplit-over q = record { to = λ g. unsplit-over (g .small) q (unsplit-view (g .holds)); within = λ g. sought-within q }
-
-  pub turned-unsplit-enter : {b : ℕ} → Sought W l 0x2 (Children l' b) W' → Turned W (walkOf l Unsplit) (Enter (walkOf l' Unsplit) b) W'
-  turned-unsplit-enter q = record { to = λ g. unsplit-enter (g .small) q (unsplit-view (g .holds)); within = λ g. sought-within q }
-
-  -- an item has room behind the done ones
-  pub unsplit-room : {b : ℕ} → Sought W l 0x2 (Leaf l' b) W' → CanTurn W (walkOf l Unsplit) → l' .base + l' .write < length W'
-  unsplit-room q g = let p = unsplit-place (g .small) q (unsplit-view (g .holds)) in omega (arith, p .1, p .2)
-
-  pub turned-unsplit-on : {b : ℕ} (W'' : List ℕ) → Sought W l 0x2 (Leaf l' b) W' → W'' ≡ set W' (l' .base + l' .write) b
-      → Turned W (walkOf l Unsplit) (On (walkOf (movedTo l' (l' .read) (l' .write + 1)) Unsplit)) W''
-  turned-unsplit-on {b} W'' q w =
-      record {
-        to = λ g. unsplit-on (g .small) W'' q w (unsplit-view (g .holds));
-        within = λ g.
-            let p = unsplit-place (g .small) q (unsplit-view (g .holds)) in
-            let p0 = p .0 in let p1 = p .1 in
-            record {
-              kept = λ j f o. set-other W' W'' (l' .base + l' .write) b w j (⊎-elim (λ x. omega arith) (λ x. omega arith) o) ∙ q .same j (⊎-elim (λ x. inl (omega arith)) (λ x. inr x) o);
-              long = set-long W' W'' (l' .base + l' .write) b w ∙ q .long;
-            };
-      }
+-- a semicolon would stay as it is
+pub unsplit-kept : {W W' : List ℕ} {v v' : Items} {b : ℕ} {r : Turn} → W' ≡ set W (v .base + v .write) b → v' ≡ movedTo v (v .read) (v .write + 1) → r ≡ On (walkOf v' Unsplit)
+    → TokenTurned statements unsplit isSemicolon unasked W (walkOf v Unsplit) b r W'
+unfolding count size waits
+unsplit-kept {W} {W'} e el er =
+    rw (er, el)
+    (record {
+      to = λ g p fine.
+          goes {s' = unsplit (node (g .k) nil (g .d))} (record { owner = refl; base = refl; len = refl; classes = refl }) (item-holds unsplit-level (g .item) e refl)
+          (walk-on (unsplit (g .d)) (g .k) nil (g .rest) (unsplit (node (g .k) nil (g .d))) (unsplit-end (g .d) (g .k) p)) (omega arith) (omega arith) (omega arith);
+      within = λ g. kept-within W W' (g .item) e;
+    })
 
 -- ---- a statement's words
 

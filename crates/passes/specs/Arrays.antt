@@ -20,7 +20,7 @@ use Rattle.levels.specs.declared.failure.Failure.the-variants.{EmptyArrayIndex}
 use Rattle.levels.specs.declared.turns.Pass.the-variants.{Arrays}
 use Rattle.levels.specs.declared.turns.Turn.{Turn}
 use Rattle.levels.specs.declared.turns.Turn.the-variants.{Enter, Fail}
-use Rattle.passes.specs.TokenTurns.{TokenTurned, any}
+use Rattle.passes.specs.TokenTurns.{TokenTurned, unasked}
 
 -- No slot of the first list is one of the second.
 abbrev pub Apart : List ℕ → List ℕ → Type 0
@@ -102,4 +102,4 @@ pub data Indexed (W : List ℕ) (v : Items) (b a : ℕ) (r : Turn) (W' : List �
 
 -- The array pass asks nothing of the trees before a name.
 abbrev pub NameTurned : List ℕ → Items → ℕ → Turn → List ℕ → Type 0
-NameTurned W v b r W' = TokenTurned arrays unindexed isArrayName any W (walkOf v (Arrays 0 0)) b r W'
+NameTurned W v b r W' = TokenTurned arrays unindexed isArrayName unasked W (walkOf v (Arrays 0 0)) b r W'

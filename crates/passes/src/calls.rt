@@ -2,18 +2,14 @@
 // Leans on levels (turns, items), on slots and chains.
 use levels::failure::Failure;
 use levels::items;
-use levels::items::Found;
 use levels::turns;
 use levels::turns::Pass;
 use levels::turns::Turn;
 use nodes::children;
 use nodes::frames::List;
 use nodes::slots;
-use ops::classes::TokenClasses;
 use ops::op;
 ghost use Rattle.molang.specs.Calls.{queryOrLoop, math};
-ghost use Rattle.levels.specs.Passes.{walkOf};
-ghost use Rattle.levels.specs.Turns.{CanTurn, Turned};
 ghost use Rattle.passes.specs.TokenTurns.{AtToken, CallTurned};
 ghost use Rattle.passes.specs.Calls.{CanCall, Called};
 
@@ -32,7 +28,7 @@ fn called(work: &mut [u32], list: List, item: u32, arguments: u32, pass: Pass) -
 }
 
 // A query, `loop` or `for_each` takes the section `(` right after it; an empty one is an error.
-fn call(work: &mut [u32], list: List, item: u32) -> Turn
+pub fn call(work: &mut [u32], list: List, item: u32) -> Turn
     requires { ⌜ AtToken (now work) list item ⌝ }
     ensures { λ r. ⌜ CallTurned queryOrLoop Pass.Calls (now (work .entry)) list item r (now (work .exit)) ⌝ }
 {
@@ -47,7 +43,7 @@ fn call(work: &mut [u32], list: List, item: u32) -> Turn
 }
 
 // A math function takes the section `(` right after it, which has to be there and may be empty.
-fn math_call(work: &mut [u32], list: List, item: u32) -> Turn
+pub fn math_call(work: &mut [u32], list: List, item: u32) -> Turn
     requires { ⌜ AtToken (now work) list item ⌝ }
     ensures { λ r. ⌜ CallTurned math Pass.MathCalls (now (work .entry)) list item r (now (work .exit)) ⌝ }
 {
@@ -59,30 +55,4 @@ fn math_call(work: &mut [u32], list: List, item: u32) -> Turn
         return Turn::Fail(Failure::MathAtEnd(item));
     }
     Turn::Fail(Failure::MathWithoutParenthesis(item))
-}
-
-// The call pass up to its next token or node.
-pub fn step(work: &mut [u32], list: List) -> Turn
-    requires { ⌜ CanTurn (now work) (walkOf list Pass.Calls) ⌝ }
-    ensures { λ r. ⌜ Turned (now (work .entry)) (walkOf list Pass.Calls) r (now (work .exit)) ⌝ }
-{
-    let found = items::next_token(work, list, TokenClasses::CALL);
-    match found {
-        Found::Nothing(after) => turns::over(after, Pass::Calls),
-        Found::Children(after, item) => turns::enter(after, Pass::Calls, item),
-        Found::Token(after, item) => call(work, after, item),
-    }
-}
-
-// The math pass up to its next token or node.
-pub fn step_math(work: &mut [u32], list: List) -> Turn
-    requires { ⌜ CanTurn (now work) (walkOf list Pass.MathCalls) ⌝ }
-    ensures { λ r. ⌜ Turned (now (work .entry)) (walkOf list Pass.MathCalls) r (now (work .exit)) ⌝ }
-{
-    let found = items::next_token(work, list, TokenClasses::MATH);
-    match found {
-        Found::Nothing(after) => turns::over(after, Pass::MathCalls),
-        Found::Children(after, item) => turns::enter(after, Pass::MathCalls, item),
-        Found::Token(after, item) => math_call(work, after, item),
-    }
 }

@@ -58,19 +58,6 @@ pub fn start(work: &[u32], list: List) -> Walk
     }
 }
 
-// A list without semicolons up to its next node.
-pub fn step(work: &mut [u32], list: List) -> Turn
-    requires { ⌜ CanTurn (now work) (walkOf list Pass.Unsplit) ⌝ }
-    ensures { λ r. ⌜ Turned (now (work .entry)) (walkOf list Pass.Unsplit) r (now (work .exit)) ⌝ }
-{
-    let found = items::next_token(work, list, TokenClasses::SEMICOLON);
-    match found {
-        Found::Nothing(after) => turns::over(after, Pass::Unsplit),
-        Found::Children(after, item) => turns::enter(after, Pass::Unsplit, item),
-        Found::Token(after, item) => turns::on(items::keep(work, after, item), Pass::Unsplit),
-    }
-}
-
 // The n items from `at` on become the children of a statement at `slot`, which has the span of the first of them and stands
 // in its place.
 fn end_statement(work: &mut [u32], slot: u32, at: usize, n: usize)
@@ -127,7 +114,7 @@ fn inner(work: &mut [u32], list: List, item: u32, pass: Pass) -> Turn
 }
 
 // A split list up to its next semicolon or node.
-pub fn step_split(work: &mut [u32], list: List, done: u32) -> Turn
+pub fn step(work: &mut [u32], list: List, done: u32) -> Turn
     requires { ⌜ CanTurn (now work) (walkOf list (Pass.Split done)) ⌝ }
     ensures { λ r. ⌜ Turned (now (work .entry)) (walkOf list (Pass.Split done)) r (now (work .exit)) ⌝ }
 {

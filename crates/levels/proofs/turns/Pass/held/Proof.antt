@@ -1,5 +1,6 @@
 -- `held`, arm by arm.
 use borrow.Author.Needs.{needs}
+use Rattle.levels.proofs.States.{held-none}
 use Rattle.levels.proofs.turns.Pass.held.Statement.{statement}
 use Rattle.levels.proofs.turns.Pass.held.Tie as tie
 
@@ -15,21 +16,6 @@ enum-known-self-3 c = search needs
 enum-known-self-4 : tie.Need-enum-known-self-4
 enum-known-self-4 c = search needs
 
-enum-told : tie.Need-enum-told
-enum-told c = search needs
-
-enum-told-2 : tie.Need-enum-told-2
-enum-told-2 c = search needs
-
-enum-told-3 : tie.Need-enum-told-3
-enum-told-3 c = search needs
-
-enum-told-4 : tie.Need-enum-told-4
-enum-told-4 c = search needs
-
-enum-told-5 : tie.Need-enum-told-5
-enum-told-5 c = search needs
-
 returns : tie.Need-returns
 returns c = rw (c .before .self .given .1)
 
@@ -43,19 +29,7 @@ returns-4 : tie.Need-returns-4
 returns-4 c = rw (c .before .self4 .given .1)
 
 returns-5 : tie.Need-returns-5
-returns-5 c = rw (c .enum-told .given .1)
-
-returns-6 : tie.Need-returns-6
-returns-6 c = rw (c .enum-told2 .given .1)
-
-returns-7 : tie.Need-returns-7
-returns-7 c = rw (c .enum-told3 .given .1)
-
-returns-8 : tie.Need-returns-8
-returns-8 c = rw (c .enum-told4 .given .1)
-
-returns-9 : tie.Need-returns-9
-returns-9 c = rw (c .enum-told5 .given .1)
+returns-5 c = held-none (c .before .args .self) (c .match .keys5)
 
 pub held-spec : {M : Type 1} → statement M
 held-spec =
@@ -65,17 +39,8 @@ held-spec =
     enum-known-self-2
     enum-known-self-3
     enum-known-self-4
-    enum-told
-    enum-told-2
-    enum-told-3
-    enum-told-4
-    enum-told-5
     returns
     returns-2
     returns-3
     returns-4
-    returns-5
-    returns-6
-    returns-7
-    returns-8
-    returns-9)
+    returns-5)
