@@ -15,14 +15,14 @@ use Rattle.molang.specs.Words.{operatorField, lowOf, tokenOf, listWords, row}
 use Rattle.molang.specs.Parse.{mostTokens}
 use Rattle.molang.specs.Write.{written}
 use Rattle.molang.specs.WriteEntry.{treeFault, firstTrees, otherTrees, treesOf, forestRefusal, writeRefusal, writtenTokens, unwritten, tokens, writeTold, writeAnswered, listIn, listAfter}
-use Rattle.molang.proofs.FirstFailure.{passed}
+use Rattle.molang.proofs.FirstFailure.{passed, withNumber-none}
 use Rattle.molang.proofs.HandedTree.{whole-tree}
 use Rattle.molang.proofs.ListWords.{listWords-length}
 use Rattle.words.specs.Records.{laidAt}
 use Rattle.words.proofs.RecordLaws.{laid-front}
 use Rattle.write.specs.declared.plain.Seat.{Seat}
 use Rattle.write.specs.declared.plain.Seat.the-variants.{Enclosed}
-use Rattle.write.specs.Answers.{shape, call, judgement, filling, filled}
+use Rattle.write.specs.Answers.{shape, treeRefusal, call, judgement, filling, filled}
 use Rattle.write.specs.Seats.{formSeat}
 use Rattle.write.specs.Shaped.{Shaped, noTrees, aNode, mostChildren, OneTree}
 use Rattle.write.specs.Spelling.{Room, Writable}
@@ -130,10 +130,13 @@ slim (aNode {trees = trees} {a = a} {b = b} {c = c} {d = d} {e = f} {n = m} {ws 
     (slim later (st .seats ++ ps) (omega (arith, length-append (st .seats) ps, st .all)) (suc n) row)
 
 -- THE ANSWERS, the first that holds.
-pub fault-answer : (tree list : List ℕ) (i : ℕ) → some i ≡ treeFault 0 operatorField 0 (shape 1 0) tree
+pub fault-answer : (tree list : List ℕ) (i : ℕ) → some (row 12 i) ≡ treeRefusal tree
     → (unwritten 12 i ≡ writeAnswered (call tree list)) × (list ≡ listAfter (call tree list))
 unfolding writeAnswered listAfter writeRefusal firstOf writeTold listIn
 fault-answer tree list i e = (rw (← e), rw (← e))
+
+pub no-fault : (tree : List ℕ) → none ≡ treeRefusal tree → none ≡ treeFault 0 operatorField 0 (shape 1 0) tree
+no-fault tree e = sym (withNumber-none 12 (treeFault 0 operatorField 0 (shape 1 0) tree) (sym e))
 
 pub tree-answer : (tree list : List ℕ) → none ≡ treeFault 0 operatorField 0 (shape 1 0) tree
     → (filling (treesOf tree) list ≡ writeAnswered (call tree list)) × (filled (treesOf tree) list ≡ listAfter (call tree list))

@@ -31,7 +31,7 @@ use Rattle.write.specs.declared.plain.Seat.the-variants.{Enclosed, Under
 use Rattle.molang.specs.WriteEntry.{mostNodes, treesOf, writtenTokens, WriteTold, tokens, unwritten, writeTold}
 use Rattle.write.proofs.RowLaws.{Opened, opened, shaped-room, shaped-length}
 use Rattle.write.specs.Answers.{judgement}
-use Rattle.write.specs.Shaped.{Shaped, noTrees, aNode, mostChildren, OneTree}
+use Rattle.write.specs.Shaped.{nodeLength, countIndex, Shaped, noTrees, aNode, mostChildren, OneTree}
 use Rattle.write.specs.Seats.{formSeat, onlySeat, leftSeat, rightSeat, isPrefix, plainBy, isSpared, isPaired, ifTrue, tokensFor}
 
 -- The number of the first node that is not plain in a row of trees at these seats, numbered from n.
@@ -347,7 +347,7 @@ pending waiting (suc top) = getD waiting top Enclosed ∷ pending waiting top
 -- THE LOOP'S INVARIANT: the n nodes before `at` are plain, and the seats of the trees that are still called for are on the stack.
 pub record Judging (tree : List ℕ) (waiting : List Seat) (top sum n at : ℕ) : Type 0 where
   pub within : at ≤ length tree
-  pub stands : at ≡ 6 * n
+  pub stands : at ≡ nodeLength * n
   pub shaped : Shaped mostChildren top (drop at tree)
   pub few : sum ≤ 4 * n
   pub room : length waiting ≡ mostNodes
@@ -393,7 +393,7 @@ module _ {tree : List ℕ} {waiting : List Seat} {top sum n at : ℕ} (one : One
   node-at : Opened mostChildren top (drop at tree)
   node-at = opened (j .shaped) (rw length-drop (omega arith))
 
-  pub judging-room : (at + 6 ≤ length tree) × (1 ≤ top) × (top + n ≤ mostNodes)
+  pub judging-room : (at + nodeLength ≤ length tree) × (1 ≤ top) × (top + n ≤ mostNodes)
   judging-room =
       let room = length-drop at tree in
       let whole = shaped-length (j .shaped) in
@@ -405,9 +405,9 @@ pub record Turn (tree : List ℕ) (waiting : List Seat) (top sum n at op childre
   pub inv : Judging tree waiting top sum n at
   pub within : at < length tree
   pub isOp : op ≡ operatorOf (getD tree at 0)
-  pub isCount : children ≡ lowOf (getD tree (at + 5) 0)
-  pub isFirst : first ≡ operatorOf (getD tree (at + 6) 0)
-  pub isAfter : after ≡ at + 6
+  pub isCount : children ≡ lowOf (getD tree (at + countIndex) 0)
+  pub isFirst : first ≡ operatorOf (getD tree (at + nodeLength) 0)
+  pub isAfter : after ≡ at + nodeLength
   pub isSeat : p ≡ getD waiting (top - 1) Enclosed
 
 module _ {tree : List ℕ} {waiting : List Seat} {top sum n at op children first after : ℕ} {p : Seat}
@@ -415,24 +415,24 @@ module _ {tree : List ℕ} {waiting : List Seat} {top sum n at op children first
   here : Opened mostChildren top (drop at tree)
   here = node-at (t .one) (t .inv) (t .within)
 
-  bounds : (at + 6 ≤ length tree) × (1 ≤ top) × (top + n ≤ mostNodes)
+  bounds : (at + nodeLength ≤ length tree) × (1 ≤ top) × (top + n ≤ mostNodes)
   bounds = judging-room (t .one) (t .inv) (t .within)
 
-  next : drop 6 (drop at tree) ≡ drop (at + 6) tree
-  next = drop-drop 6 at tree
+  next : drop nodeLength (drop at tree) ≡ drop (at + nodeLength) tree
+  next = drop-drop nodeLength at tree
 
   here-op : here .k .op ≡ op
   here-op =
       here .op ∙ (ap operatorOf (getD-drop at tree 0 0 ∙ ap (λ (m : ℕ). getD tree m 0) (add-zero at)) ∙ sym (t .isOp))
 
   here-count : count (here .cs) ≡ children
-  here-count = here .children ∙ (ap lowOf (getD-drop at tree 5 0) ∙ sym (t .isCount))
+  here-count = here .children ∙ (ap lowOf (getD-drop at tree countIndex 0) ∙ sym (t .isCount))
 
   here-first : firstOperator (beside (here .cs) (here .rest)) ≡ first
   here-first =
       ap firstOperator (sym (here .below))
       ∙ (first-operator (here .shaped)
-      ∙ (ap operatorOf (getD-drop 6 (drop at tree) 0 0 ∙ getD-drop at tree 6 0) ∙ sym (t .isFirst)))
+      ∙ (ap operatorOf (getD-drop nodeLength (drop at tree) 0 0 ∙ getD-drop at tree nodeLength 0) ∙ sym (t .isFirst)))
 
   here-plain : plainForm (formSeat p) (here .k) (here .cs) ≡ plainBy p op children first
   here-plain = plain-by p (here .k) (here .cs) (here .rest) ∙ rw (here-op, here-count, here-first)
@@ -454,8 +454,8 @@ module _ {tree : List ℕ} {waiting : List Seat} {top sum n at op children first
   judging-refused e =
       sym (judging-unplain p (pending waiting (top - 1)) sum n (here .k) (here .cs) (here .rest) (here-plain ∙ e)) ∙ still
 
-  later-shaped : {m : ℕ} → Shaped mostChildren m (drop 6 (drop at tree)) → m ≡ children + (top - 1)
-      → Shaped mostChildren (children + (top - 1)) (drop 6 (drop at tree))
+  later-shaped : {m : ℕ} → Shaped mostChildren m (drop nodeLength (drop at tree)) → m ≡ children + (top - 1)
+      → Shaped mostChildren (children + (top - 1)) (drop nodeLength (drop at tree))
   later-shaped s e = rw e at s
 
   -- The state after a plain node whose children stand at these seats.
@@ -497,7 +497,7 @@ module _ {tree : List ℕ} {waiting : List Seat} {top sum n at op children first
         here .isTop,
         here .children,
         here-count,
-        length-drop 6 (drop at tree),
+        length-drop nodeLength (drop at tree),
         length-drop at tree,
         t .one .small,
       )

@@ -18,7 +18,7 @@ use Rattle.molang.proofs.Trees.{both}
 use Rattle.molang.proofs.Words.{word-faultless, five-faultless, five-back}
 use borrow.Author.Tests.{ltb-true}
 use Rattle.write.specs.Answers.{isLegal, shape}
-use Rattle.write.specs.Shaped.{Shaped, noTrees, aNode, mostChildren, OneTree}
+use Rattle.write.specs.Shaped.{nodeLength, Shaped, noTrees, aNode, mostChildren, OneTree}
 
 -- A word that continues a tree.
 record Continues (field : Field) (v : ℕ) (s : Shape) (w : ℕ) : Type 0 where
@@ -92,14 +92,14 @@ no-trees p e = rw e noTrees
 unfaulted-node : (a b c d e n : ℕ) (ws : List ℕ) (p r begun : ℕ) → tokenWords (tokenOf a b c d e) ≡ a ∷ b ∷ c ∷ d ∷ e ∷ []
     → lowOf n ≤ mostChildren
     → p ≡ suc r
-    → Shaped mostChildren (lowOf n + r) ws × (6 * suc begun + length ws ≤ 6 * mostNodes)
-    → Shaped mostChildren p (a ∷ b ∷ c ∷ d ∷ e ∷ n ∷ ws) × (6 * begun + length (a ∷ b ∷ c ∷ d ∷ e ∷ n ∷ ws) ≤ 6 * mostNodes)
+    → Shaped mostChildren (lowOf n + r) ws × (nodeLength * suc begun + length ws ≤ nodeLength * mostNodes)
+    → Shaped mostChildren p (a ∷ b ∷ c ∷ d ∷ e ∷ n ∷ ws) × (nodeLength * begun + length (a ∷ b ∷ c ∷ d ∷ e ∷ n ∷ ws) ≤ nodeLength * mostNodes)
 unfaulted-node a b c d e n ws p r begun five few q later = (rw q (aNode five few (later .0)), omega (arith, later .1))
 
 -- Words without fault are as many trees as are still called for, and not too long.
 pub unfaulted : (i v p : ℕ) (s : Shape) (ws : List ℕ) → s .called ≡ s .begun + p → s .called ≤ mostNodes
     → treeFault i operatorField v s ws ≡ none
-    → Shaped mostChildren p ws × (6 * s .begun + length ws ≤ 6 * mostNodes)
+    → Shaped mostChildren p ws × (nodeLength * s .begun + length ws ≤ nodeLength * mostNodes)
 unfolding nextInNode variantAfter shapeAfter isWhole
 unfaulted i v p s [] q m h = (no-trees p (omega (arith, whole i v s h)), omega arith)
 unfaulted i v p s (a ∷ []) q m h = absurd (ended _ startField _ _ refl (next-word i operatorField v s a [] h .1))

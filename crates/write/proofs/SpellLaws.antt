@@ -15,7 +15,7 @@ use Rattle.write.proofs.JudgeLaws.{unpaired-only, unpaired-bracket, unp
 use Rattle.molang.proofs.Words.{beside}
 use Rattle.write.specs.declared.plain.Seat.{Seat}
 use Rattle.write.specs.Seats.{isPaired, onlySeat, leftSeat, rightSeat}
-use Rattle.write.specs.Shaped.{Shaped}
+use Rattle.write.specs.Shaped.{nodeLength, countIndex, Shaped}
 use Rattle.write.proofs.RowLaws.{Opened, after-trees, shaped-length, no-kids, one-kid, two-kids}
 use Rattle.molang.specs.Words.{lowOf, word, tokenWords, listWords}
 use Rattle.molang.specs.Write.{openerFor, closerFor, standsAlone, standsLeft, standsRight, operandTokens, written}
@@ -115,33 +115,33 @@ module _ (k : Token) (ws : List ℕ) (five : tokenWords k ≡ firstFive ws) wher
 -- The tokens of a node and the words that its tree fills, by the number of its children.
 pub record NoneBelow (W : List ℕ) : Type 0 where
   pub words : listWords (writtenTokens (treesOf W)) ≡ firstFive W ++ closerWords W
-  pub fills : 6 * firstSize (treesOf W) ≡ 6
+  pub fills : nodeLength * firstSize (treesOf W) ≡ nodeLength
 
 abbrev pub onlyWords : List ℕ → List ℕ
-onlyWords W = listWords (operandOf (onlySeat (operatorOf (getD W 0 0))) (treesOf (drop 6 W)))
+onlyWords W = listWords (operandOf (onlySeat (operatorOf (getD W 0 0))) (treesOf (drop nodeLength W)))
 
 pub record OneBelow (others : ℕ) (W : List ℕ) : Type 0 where
-  pub shaped : Shaped 2 (suc others) (drop 6 W)
+  pub shaped : Shaped 2 (suc others) (drop nodeLength W)
   pub words : listWords (writtenTokens (treesOf W)) ≡ firstFive W ++ (onlyWords W ++ closerWords W)
-  pub fills : 6 * firstSize (treesOf W) ≡ 6 + 6 * firstSize (treesOf (drop 6 W))
+  pub fills : nodeLength * firstSize (treesOf W) ≡ nodeLength + nodeLength * firstSize (treesOf (drop nodeLength W))
 
 abbrev pub leftWords : List ℕ → List ℕ
-leftWords W = listWords (operandOf (leftSeat (operatorOf (getD W 0 0))) (treesOf (drop 6 W)))
+leftWords W = listWords (operandOf (leftSeat (operatorOf (getD W 0 0))) (treesOf (drop nodeLength W)))
 
 abbrev pub leftSize : List ℕ → ℕ
-leftSize W = 6 * firstSize (treesOf (drop 6 W))
+leftSize W = nodeLength * firstSize (treesOf (drop nodeLength W))
 
 abbrev pub rightPart : List ℕ → List ℕ
-rightPart W = drop (6 + leftSize W) W
+rightPart W = drop (nodeLength + leftSize W) W
 
 abbrev pub rightWords : List ℕ → List ℕ
 rightWords W = listWords (operandOf (rightSeat (operatorOf (getD W 0 0))) (treesOf (rightPart W)))
 
 pub record TwoBelow (others : ℕ) (W : List ℕ) : Type 0 where
-  pub left : Shaped 2 (suc (suc others)) (drop 6 W)
+  pub left : Shaped 2 (suc (suc others)) (drop nodeLength W)
   pub right : Shaped 2 (suc others) (rightPart W)
   pub words : listWords (writtenTokens (treesOf W)) ≡ leftWords W ++ (firstFive W ++ rightWords W)
-  pub fills : 6 * firstSize (treesOf W) ≡ 6 + leftSize W + 6 * firstSize (treesOf (rightPart W))
+  pub fills : nodeLength * firstSize (treesOf W) ≡ nodeLength + leftSize W + nodeLength * firstSize (treesOf (rightPart W))
 
 first-size : (f : Forest) → firstSize f ≤ size f
 unfolding firstSize size
@@ -154,7 +154,7 @@ first-tree nil = refl
 first-tree (node k cs rest) = omega arith
 
 -- The first tree's words are some of all.
-pub first-within : {most p : ℕ} {W : List ℕ} → Shaped most p W → 6 * firstSize (treesOf W) ≤ length W
+pub first-within : {most p : ℕ} {W : List ℕ} → Shaped most p W → nodeLength * firstSize (treesOf W) ≤ length W
 first-within {W = W} s = omega (arith, shaped-length s, first-size (treesOf W))
 
 list-words-cons : (k : Token) (ks : List Token) → listWords (k ∷ ks) ≡ tokenWords k ++ listWords ks
@@ -176,7 +176,7 @@ module _ {others : ℕ} {W : List ℕ} (o : Opened 2 (suc others) W) where
   closer-by true e = bracket-closer W (sym (o .op) ∙ eqb-true (o .k .op) 4 e) ∙ sym (closer-words (o .k) W (o .five))
   closer-by false e = no-closer W (λ h. eqb-false (o .k .op) 4 e (o .op ∙ h))
 
-  pub none-below : lowOf (getD W 5 0) ≡ 0 → NoneBelow W
+  pub none-below : lowOf (getD W countIndex 0) ≡ 0 → NoneBelow W
   unfolding writtenTokens firstSize size
   none-below e =
       let leaf : treesOf W ≡ node (o .k) nil (o .rest) = rw (← no-kids (o .cs) (o .children ∙ e)) (o .trees) in
@@ -186,13 +186,13 @@ module _ {others : ℕ} {W : List ℕ} (o : Opened 2 (suc others) W) where
       split true h = rw (written-none true (o .k) [] h, closer-by true h, list-words-cons, o .five, list-words-one)
       split false h = rw (written-none false (o .k) [] h, closer-by false h, list-words-cons, o .five, list-words-none)
 
-  pub one-below : lowOf (getD W 5 0) ≡ 1 → OneBelow others W
+  pub one-below : lowOf (getD W countIndex 0) ≡ 1 → OneBelow others W
   unfolding writtenTokens operandOf operandTokens firstSize size beside
   one-below e =
       let kid = one-kid (o .cs) (o .children ∙ e) in
       let trees : treesOf W ≡ node (o .k) (node (kid .x) (kid .xs) nil) (o .rest) = rw (← kid .is) (o .trees) in
-      let below : treesOf (drop 6 W) ≡ node (kid .x) (kid .xs) (o .rest) = o .below ∙ ap (λ (f : Forest). beside f (o .rest)) (kid .is) in
-      let same : lowOf (getD W 5 0) + o .others ≡ suc others = omega (arith, o .isTop) in
+      let below : treesOf (drop nodeLength W) ≡ node (kid .x) (kid .xs) (o .rest) = o .below ∙ ap (λ (f : Forest). beside f (o .rest)) (kid .is) in
+      let same : lowOf (getD W countIndex 0) + o .others ≡ suc others = omega (arith, o .isTop) in
       record {
         shaped = rw same at (o .shaped);
         words = rw (trees, below, ← o .op) (split (kid .x) (kid .xs) (isBracket (o .k .op)) refl);
@@ -217,7 +217,7 @@ module _ {others : ℕ} {W : List ℕ} (o : Opened 2 (suc others) W) where
       split x xs false h =
           rw (written-one false (o .k) x xs [] h, unpaired-only x xs (o .k) h, closer-by false h, list-words-cons, o .five, append-nil)
 
-  pub two-below : lowOf (getD W 5 0) ≡ 2 → TwoBelow others W
+  pub two-below : lowOf (getD W countIndex 0) ≡ 2 → TwoBelow others W
   unfolding writtenTokens operandOf firstSize size beside otherTrees
   two-below e =
       let kids = two-kids (o .cs) (o .children ∙ e) in
@@ -226,12 +226,12 @@ module _ {others : ℕ} {W : List ℕ} (o : Opened 2 (suc others) W) where
       let y = kids .y in
       let ys = kids .ys in
       let trees : treesOf W ≡ node (o .k) (node x xs (node y ys nil)) (o .rest) = rw (← kids .is) (o .trees) in
-      let below : treesOf (drop 6 W) ≡ node x xs (node y ys (o .rest)) = o .below ∙ ap (λ (f : Forest). beside f (o .rest)) (kids .is) in
-      let same : lowOf (getD W 5 0) + o .others ≡ suc (suc others) = omega (arith, o .isTop) in
-      let left : Shaped 2 (suc (suc others)) (drop 6 W) = rw same at (o .shaped) in
+      let below : treesOf (drop nodeLength W) ≡ node x xs (node y ys (o .rest)) = o .below ∙ ap (λ (f : Forest). beside f (o .rest)) (kids .is) in
+      let same : lowOf (getD W countIndex 0) + o .others ≡ suc (suc others) = omega (arith, o .isTop) in
+      let left : Shaped 2 (suc (suc others)) (drop nodeLength W) = rw same at (o .shaped) in
       let after = after-trees left (suc others) 1 (omega arith) in
-      let there : drop (6 * size (firstTrees 1 (treesOf (drop 6 W)))) (drop 6 W) ≡ rightPart W =
-      rw (first-tree (treesOf (drop 6 W))) (drop-drop (leftSize W) 6 W)
+      let there : drop (nodeLength * size (firstTrees 1 (treesOf (drop nodeLength W)))) (drop nodeLength W) ≡ rightPart W =
+      rw (first-tree (treesOf (drop nodeLength W))) (drop-drop (leftSize W) nodeLength W)
       in
       let right : treesOf (rightPart W) ≡ node y ys (o .rest) = ap treesOf (sym there) ∙ (after .trees ∙ ap (otherTrees 1) below) in
       record {
@@ -259,7 +259,7 @@ module _ {others : ℕ} {W : List ℕ} (o : Opened 2 (suc others) W) where
           )
 
   -- An operand: in an added pair, or as it is.
-  pub paired-words : (p : Seat) → isPaired p (operatorOf (getD W 0 0)) (lowOf (getD W 5 0)) ≡ true
+  pub paired-words : (p : Seat) → isPaired p (operatorOf (getD W 0 0)) (lowOf (getD W countIndex 0)) ≡ true
       → listWords (operandOf p (treesOf W)) ≡ bracketWords 4 W ++ (listWords (writtenTokens (treesOf W)) ++ bracketWords 5 W)
   unfolding operandOf writtenTokens operandTokens
   paired-words p e =
@@ -275,7 +275,7 @@ module _ {others : ℕ} {W : List ℕ} (o : Opened 2 (suc others) W) where
         closer-words (o .k) W (o .five),
       )
 
-  pub unpaired-words : (p : Seat) → isPaired p (operatorOf (getD W 0 0)) (lowOf (getD W 5 0)) ≡ false
+  pub unpaired-words : (p : Seat) → isPaired p (operatorOf (getD W 0 0)) (lowOf (getD W countIndex 0)) ≡ false
       → listWords (operandOf p (treesOf W)) ≡ listWords (writtenTokens (treesOf W))
   unfolding operandOf writtenTokens operandTokens
   unpaired-words p e =

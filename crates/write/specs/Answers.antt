@@ -1,4 +1,4 @@
--- What each case of the crate's enums says: document 01's number and values for an answer, the definition's field and place for the others.
+-- What each case of the crate's enums says: document 01's number and values for an answer, the definition's field for a field.
 use Prim.Native.Nat.{ℕ}
 use mathlib.Core.Bool.{Bool, true, false}
 use mathlib.Core.List.{List}
@@ -7,7 +7,7 @@ use lib.ListN.{length}
 use Rattle.molang.specs.Forest.{Forest, nil, node}
 use Rattle.molang.specs.Words as words
 use Rattle.molang.specs.Plain.{unplainAt}
-use Rattle.molang.specs.WriteEntry.{Shape, WriteCall, WriteTold, tokens, unwritten, forestRefusal, writeTold, listIn}
+use Rattle.molang.specs.WriteEntry.{Shape, treeFault, WriteCall, WriteTold, tokens, unwritten, forestRefusal, writeTold, listIn}
 use Rattle.write.specs.declared.Written.{Written}
 use Rattle.write.specs.declared.Written.the-variants.{Tokens, Refused}
 use Rattle.write.specs.declared.shape.Field.{Field}
@@ -31,19 +31,23 @@ fieldOf Upper = words.upperField
 fieldOf Lower = words.lowerField
 fieldOf Count = words.countField
 
--- Answer 12's place, if there is one.
-abbrev pub placeOf : Fault → Option ℕ
-placeOf Nowhere = none
-placeOf (At place) = some place
+-- So many nodes called for and so many begun.
+abbrev pub shape : ℕ → ℕ → Shape
+shape called begun = record { called = called; begun = begun }
+
+-- What each case of `Fault` says: answer 12 with its place, or nothing.
+abbrev pub refusalOf : Fault → Option words.Refusal
+refusalOf Nowhere = none
+refusalOf (At place) = some (words.row 12 place)
+
+-- Answer 12 to tree words, if they are not one tree.
+abbrev pub treeRefusal : List ℕ → Option words.Refusal
+treeRefusal tree = words.withNumber 12 (treeFault 0 words.operatorField 0 (shape 1 0) tree)
 
 -- A word without fault.
 abbrev pub isLegal : Option ℕ → Bool
 isLegal none = true
 isLegal (some n) = false
-
--- So many nodes called for and so many begun.
-abbrev pub shape : ℕ → ℕ → Shape
-shape called begun = record { called = called; begun = begun }
 
 -- What each case of `Judged` says: the token count, or answer 13 with its place.
 abbrev pub verdictOf : Judged → WriteTold

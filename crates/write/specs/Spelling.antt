@@ -14,7 +14,7 @@ use Rattle.molang.specs.WriteEntry.{treesOf, writtenTokens, tokens}
 use Rattle.write.specs.declared.plain.Seat.{Seat}
 use Rattle.write.specs.Answers.{judgement}
 use Rattle.write.specs.Seats.{isPaired}
-use Rattle.write.specs.Shaped.{Shaped}
+use Rattle.write.specs.Shaped.{nodeLength, Shaped}
 
 -- The token words that a list of words opens with.
 unfoldable pub firstFive : List ℕ → List ℕ
@@ -40,7 +40,7 @@ operandOf p (node k cs rest) = operandTokens (not (isPaired p (k .op) (count cs)
 
 -- The words that the first tree fills.
 abbrev pub filledWords : List ℕ → List ℕ
-filledWords ws = take (6 * firstSize (treesOf ws)) ws
+filledWords ws = take (nodeLength * firstSize (treesOf ws)) ws
 
 -- The words that are written of the first tree.
 abbrev pub nodeWritten : List ℕ → List ℕ

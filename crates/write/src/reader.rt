@@ -5,6 +5,7 @@ ghost use mathlib.Core.Path.{_≡_};
 ghost use Prim.Native.Nat.{_+_, _≤_};
 ghost use lib.ListN.{length};
 ghost use Rattle.write.specs.Reading.{operatorAt, readerAt, viewAt};
+ghost use Rattle.write.specs.Shaped.{nodeLength};
 
 pub struct TreeReader<'a> {
     words: &'a [u32],
@@ -31,7 +32,7 @@ fn operator_at(words: &[u32], at: usize) -> u32
 
 // What is seen of the node that starts at `from`.
 fn look_at(words: &[u32], from: usize) -> NodeView
-    requires { ⌜ from + 6 ≤ length (now words) ⌝ }
+    requires { ⌜ from + nodeLength ≤ length (now words) ⌝ }
     ensures { λ r. ⌜ r ≡ viewAt (now (words .entry)) from ⌝ }
 {
     let after = from + fields::NODE_WORDS;
@@ -52,7 +53,7 @@ impl<'a> TreeReader<'a> {
 
     // What is seen of the node that the reader stands at.
     pub fn look(self) -> NodeView
-        requires { ⌜ self .at + 6 ≤ length (now (self .words)) ⌝ }
+        requires { ⌜ self .at + nodeLength ≤ length (now (self .words)) ⌝ }
         ensures { λ r. ⌜ r ≡ viewAt (now (self .entry .words)) (self .entry .at) ⌝ }
     {
         look_at(self.words, self.at)
@@ -61,7 +62,7 @@ impl<'a> TreeReader<'a> {
 
 // A reader's look at the node that starts at `at`.
 pub fn view_node(words: &[u32], at: usize) -> NodeView
-    requires { ⌜ at + 6 ≤ length (now words) ⌝ }
+    requires { ⌜ at + nodeLength ≤ length (now words) ⌝ }
     ensures { λ r. ⌜ r ≡ viewAt (now (words .entry)) at ⌝ }
 {
     TreeReader::new(words, at).look()

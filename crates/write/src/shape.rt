@@ -8,7 +8,7 @@ ghost use Prim.Native.Nat.{ℕ, _≤_};
 ghost use Rattle.molang.specs.Words as words;
 ghost use Rattle.molang.specs.WriteEntry as entry;
 ghost use Rattle.words.specs.Checks.{numberOf};
-ghost use Rattle.write.specs.Answers.{fieldOf, placeOf, isLegal, shape};
+ghost use Rattle.write.specs.Answers.{fieldOf, refusalOf, treeRefusal, isLegal, shape};
 
 // The most nodes of a tree.
 pub const MOST_NODES: u32 = 12_288;
@@ -132,8 +132,9 @@ fn is_whole(field: Field, called: u32, begun: u32) -> bool
     }
 }
 
+// The loop over the words: the first that cannot continue a tree, or the end where they run out.
 pub fn first_fault(tree: &[u32]) -> Fault
-    ensures { λ r. ⌜ placeOf r ≡ entry.treeFault 0 words.operatorField 0 (shape 1 0) (now (tree .entry)) ⌝ }
+    ensures { λ r. ⌜ refusalOf r ≡ treeRefusal (now (tree .entry)) ⌝ }
 {
     let mut field = Field::Operator;
     let mut variant = 0u32;

@@ -13,6 +13,7 @@ use Rattle.write.specs.Seats.{plainBy}
 use Rattle.write.proofs.JudgeLaws.{Judging, Turn, few-tokens, judging-begins, judging-room, judging-room-two, judging-refused, judging-none, judging-one, judging-two, judging-ends, falls}
 use Rattle.write.proofs.plain.judge.Statement.{statement}
 use Rattle.write.proofs.plain.judge.Tie as tie
+use Rattle.write.specs.Shaped.{nodeLength}
 
 abbrev Inv-loop : tie.InvT-loop
 Inv-loop tree waiting₀ top₀ tokens₀ node₀ at₀ waiting top tokens node at = Judging tree waiting top tokens node at
@@ -22,7 +23,7 @@ abbrev μ-loop : tie.MeasureT-loop
 
 -- In a turn: the room that there is, what was read of the node, and that it is plain.
 room : (c : tie.In-loop Inv-loop μ-loop)
-    → (c .before .loop .at + 6 ≤ length (c .before .before .before .args .tree .now))
+    → (c .before .loop .at + nodeLength ≤ length (c .before .before .before .args .tree .now))
     × (1 ≤ c .before .loop .top)
     × (c .before .loop .top + c .before .loop .node ≤ mostNodes)
 room c = judging-room (c .before .before .before .pre) (c .before .loop .inv) (c .loop-test .taken)

@@ -55,6 +55,7 @@ use Rattle.write.proofs.reader.view_node.Key.{name as #view-node}
 use Rattle.write.proofs.reader.view_node as view
 use Rattle.write.proofs.reader.view_node.Statement as stated
 use Rattle.write.proofs.reader.view_node.Code as code
+use Rattle.write.specs.Shaped.{nodeLength}
 
 abbrev stayed : Stays (view.ended .signature .params) (view.ended .kept)
 stayed = (stay-none-slice (0 ∷ []) tt (plain (λ _. u32)) yes, (stay-none (λ _. usize) yes, tt))
@@ -67,7 +68,7 @@ module _ {M : Type 1} (𝓤 : URA M) (H : Heap 𝓤) (A : Atoms 𝓤) (mem : Mem
   abbrev Look : Contract 𝓤
   Look = tripleOf 𝓤 H A looking.signature (looking.spec 𝓤 H A mem run)
 
-module _ {M : Type 1} (𝓤 : URA M) (H : Heap 𝓤) (A : Atoms 𝓤) (W : Given 𝓤 H A) (mem : Memory → SProp 𝓤) (run : Routine → Fun 𝓤) (κ : Lft) (q : Share) (s : RefT (List ℕ)) (n : ℕ) (fits : n < 2 ^ 64) (room : n + 6 ≤ length (now s)) where
+module _ {M : Type 1} (𝓤 : URA M) (H : Heap 𝓤) (A : Atoms 𝓤) (W : Given 𝓤 H A) (mem : Memory → SProp 𝓤) (run : Routine → Fun 𝓤) (κ : Lft) (q : Share) (s : RefT (List ℕ)) (n : ℕ) (fits : n < 2 ^ 64) (room : n + nodeLength ≤ length (now s)) where
   -- The machine values passed.
   abbrev v : Val
   v = sliceVal (s .ptr) (length (s .now))

@@ -28,6 +28,7 @@ use Rattle.write.proofs.spell.+write_node+write_operand.Lts-write_opera
 use Rattle.write.proofs.spell.+write_node+write_operand.{statement}
 use Rattle.write.proofs.spell.+write_node+write_operand.Tie.{close}
 use Rattle.write.proofs.StepLaws.{tail, nodesLeft, fewer-nodes, node-long, none-closer, none-length, none-writes, token-room, one-only, one-closer, one-end, one-length, one-writes, two-left, two-token, two-next, two-right, two-end, two-length, two-writes, operand-long, alone-room, alone-writes, open-room, inner-room, close-room, pair-length, pair-writes}
+use Rattle.write.specs.Shaped.{nodeLength}
 
 abbrev μ-write-node : Measures 3 write-node-kinds.ps ℕ
 μ-write-node κs a = 2 * nodesLeft (a .0 .now)
@@ -56,7 +57,7 @@ abbrev operand-calls : ℕ → write-operand-lts.Claims
 operand-calls t = (operator-reads.Asked, operator-reads.Learnt, low-reads.Asked, low-reads.Learnt, is-paired-reads.Asked, is-paired-reads.Learnt, write-node-below t, write-node.Post, put-bracket-reads.Asked, put-bracket-reads.Learnt)
 
 -- Where an operand ends, within the words.
-left-ends : (t : ℕ) (c : write-node-lts.After-write-operand (node-calls t) (write-node-at t) write-node.Post) → 6 + length (c .write-operand .result .now) ≤ length (c .before .before .before .before .before .before .before .before .before .before .before .before .args .words .now)
+left-ends : (t : ℕ) (c : write-node-lts.After-write-operand (node-calls t) (write-node-at t) write-node.Post) → nodeLength + length (c .write-operand .result .now) ≤ length (c .before .before .before .before .before .before .before .before .before .before .before .before .args .words .now)
 left-ends t c =
     let start = c .before .before .before .before .before .before .before .before .before .before .before .before in
     let op = c .before .before .before .before .before .before .before .before .operator in
@@ -66,7 +67,7 @@ left-ends t c =
     let first = c .write-operand in
     two-next (start .pre .1) (sym (count .ensures) ∙ test .taken) (op .ensures) (left .result) (left .ensures) (first .result .now) (first .last .1 .1 .0) (first .last .1 .1 .1 .0) (first .ensures)
 
-right-ends : (t : ℕ) (c : write-node-lts.After-write-operand2 (node-calls t) (write-node-at t) write-node.Post) → 6 + length (c .before .before .before .before .before .before .before .before .before .before .before .before .write-operand .result .now) + length (c .write-operand2 .result .now) ≤ length (c .before .before .before .before .before .before .before .before .before .before .before .before .before .before .before .before .before .before .before .before .before .before .before .before .args .words .now)
+right-ends : (t : ℕ) (c : write-node-lts.After-write-operand2 (node-calls t) (write-node-at t) write-node.Post) → nodeLength + length (c .before .before .before .before .before .before .before .before .before .before .before .before .write-operand .result .now) + length (c .write-operand2 .result .now) ≤ length (c .before .before .before .before .before .before .before .before .before .before .before .before .before .before .before .before .before .before .before .before .before .before .before .before .args .words .now)
 right-ends t c =
     let start = c .before .before .before .before .before .before .before .before .before .before .before .before .before .before .before .before .before .before .before .before .before .before .before .before in
     let op = c .before .before .before .before .before .before .before .before .before .before .before .before .before .before .before .before .before .before .before .before .operator in
@@ -79,7 +80,7 @@ right-ends t c =
     let second = c .write-operand2 in
     two-end (start .pre .1) (sym (count .ensures) ∙ test .taken) (op .ensures) (left .result) (left .ensures) (first .result .now) (first .last .1 .1 .0) (first .last .1 .1 .1 .0) (first .ensures) (token .last .1 .0) (token .last .1 .1 .0) (token .ensures) (right .result) (right .ensures) (second .result .now) (second .last .1 .1 .0) (second .last .1 .1 .1 .0) (second .ensures)
 
-only-ends : (t : ℕ) (c : write-node-lts.After-write-operand3 (node-calls t) (write-node-at t) write-node.Post) → 6 + length (c .write-operand3 .result .now) ≤ length (c .before .before .before .before .before .before .before .before .before .before .before .before .before .before .before .before .before .before .args .words .now)
+only-ends : (t : ℕ) (c : write-node-lts.After-write-operand3 (node-calls t) (write-node-at t) write-node.Post) → nodeLength + length (c .write-operand3 .result .now) ≤ length (c .before .before .before .before .before .before .before .before .before .before .before .before .before .before .before .before .before .before .args .words .now)
 only-ends t c =
     let start = c .before .before .before .before .before .before .before .before .before .before .before .before .before .before .before .before .before .before in
     let op = c .before .before .before .before .before .before .before .before .before .before .before .before .before .before .operator in
@@ -123,7 +124,7 @@ write-node-write-operand-requires t c κs =
     let test = c .before .before .before .before .if1 in
     let left = c .before .before .seat-of-left in
     let words = start .args .words .now in
-    let less : 2 * nodesLeft (tail 6 words) + 1 < t = omega (arith, start .pre .0, fewer-nodes 6 words (omega arith) (node-long (start .pre .1))) in
+    let less : 2 * nodesLeft (tail nodeLength words) + 1 < t = omega (arith, start .pre .0, fewer-nodes nodeLength words (omega arith) (node-long (start .pre .1))) in
     (less, two-left (start .pre .1) (sym (count .ensures) ∙ test .taken) (op .ensures) (left .result) (left .ensures))
 
 write-node-put-token-requires : (t : ℕ) → write-node-lts.Need-put-token-requires (node-calls t) (write-node-at t) write-node.Post
@@ -165,7 +166,7 @@ write-node-write-operand-requires-2 t c κs =
     let token = c .before .before .before .before .before .before .put-token in
     let right = c .before .before .seat-of-right in
     let words = start .args .words .now in
-    let next = 6 + length (first .result .now) in
+    let next = nodeLength + length (first .result .now) in
     let less : 2 * nodesLeft (tail next words) + 1 < t = omega (arith, start .pre .0, fewer-nodes next words (omega arith) (node-long (start .pre .1))) in
     (less, two-right (start .pre .1) (sym (count .ensures) ∙ test .taken) (op .ensures) (left .result) (left .ensures) (first .result .now) (first .last .1 .1 .0) (first .last .1 .1 .1 .0) (first .ensures) (token .last .1 .0) (token .last .1 .1 .0) (token .ensures) (right .result) (right .ensures))
 
@@ -174,7 +175,7 @@ write-node-add-result t c = omega (arith, c .before .before .before .before .bef
 
 write-node-slice-aggregate-result : (t : ℕ) → write-node-lts.Need-slice-aggregate-result (node-calls t) (write-node-at t) write-node.Post
 write-node-slice-aggregate-result t c =
-    let size = 6 + length (c .before .before .before .before .before .before .before .before .before .before .before .before .before .before .before .write-operand .result .now) + length (c .before .before .before .write-operand2 .result .now) in
+    let size = nodeLength + length (c .before .before .before .before .before .before .before .before .before .before .before .before .before .before .before .write-operand .result .now) + length (c .before .before .before .write-operand2 .result .now) in
     sym (length-take-le size (c .before .before .before .before .before .before .before .before .before .before .before .before .before .before .before .before .before .before .before .before .before .before .before .before .before .before .before .args .words .now) (right-ends t (c .before .before .before)))
 
 write-node-same-length : (t : ℕ) → write-node-lts.Need-same-length (node-calls t) (write-node-at t) write-node.Post
@@ -261,7 +262,7 @@ write-node-write-operand-requires-3 t c κs =
     let leaf = c .before .before .before .before .if2 in
     let seat = c .before .before .seat-of-only in
     let words = start .args .words .now in
-    let less : 2 * nodesLeft (tail 6 words) + 1 < t = omega (arith, start .pre .0, fewer-nodes 6 words (omega arith) (node-long (start .pre .1))) in
+    let less : 2 * nodesLeft (tail nodeLength words) + 1 < t = omega (arith, start .pre .0, fewer-nodes nodeLength words (omega arith) (node-long (start .pre .1))) in
     (less, one-only (start .pre .1) (λ e. test .left (count .ensures ∙ e)) (λ e. leaf .left (count .ensures ∙ e)) (op .ensures) (seat .result) (seat .ensures) (token .last .1 .0) (token .last .1 .1 .0) (token .ensures))
 
 write-node-put-closer-requires-2 : (t : ℕ) → write-node-lts.Need-put-closer-requires-2 (node-calls t) (write-node-at t) write-node.Post
@@ -281,7 +282,7 @@ write-node-add-result-2 t c = omega (arith, c .before .before .before .before .b
 
 write-node-slice-aggregate-result-3 : (t : ℕ) → write-node-lts.Need-slice-aggregate-result-3 (node-calls t) (write-node-at t) write-node.Post
 write-node-slice-aggregate-result-3 t c =
-    sym (length-take-le (6 + length (c .before .before .before .before .before .before .before .before .write-operand3 .result .now)) (c .before .before .before .before .before .before .before .before .before .before .before .before .before .before .before .before .before .before .before .before .before .before .before .before .before .before .args .words .now) (only-ends t (c .before .before .before .before .before .before .before .before)))
+    sym (length-take-le (nodeLength + length (c .before .before .before .before .before .before .before .before .write-operand3 .result .now)) (c .before .before .before .before .before .before .before .before .before .before .before .before .before .before .before .before .before .before .before .before .before .before .before .before .before .before .args .words .now) (only-ends t (c .before .before .before .before .before .before .before .before)))
 
 write-node-same-length-3 : (t : ℕ) → write-node-lts.Need-same-length-3 (node-calls t) (write-node-at t) write-node.Post
 write-node-same-length-3 t c =

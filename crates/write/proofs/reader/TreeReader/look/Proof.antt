@@ -50,6 +50,7 @@ use Rattle.write.proofs.reader.TreeReader.look.Key.{name as #look}
 use Rattle.write.proofs.reader.TreeReader.look as looking
 use Rattle.write.proofs.reader.TreeReader.look.Statement as stated
 use Rattle.write.proofs.reader.TreeReader.look.Code as code
+use Rattle.write.specs.Shaped.{nodeLength}
 
 abbrev stayed : Stays (looking.ended .signature .params) (looking.ended .kept)
 stayed = (stay-none Row yes, tt)
@@ -59,7 +60,7 @@ module _ {M : Type 1} (𝓤 : URA M) (H : Heap 𝓤) (A : Atoms 𝓤) (mem : Mem
   abbrev Callee : Contract 𝓤
   Callee = tripleOf 𝓤 H A callee.signature (callee.spec 𝓤 H A mem run)
 
-module _ {M : Type 1} (𝓤 : URA M) (H : Heap 𝓤) (A : Atoms 𝓤) (W : Given 𝓤 H A) (mem : Memory → SProp 𝓤) (run : Routine → Fun 𝓤) (κ : Lft) (q : Share) (d : TreeReader) (ok : d .at + 6 ≤ length (now (d .words))) where
+module _ {M : Type 1} (𝓤 : URA M) (H : Heap 𝓤) (A : Atoms 𝓤) (W : Given 𝓤 H A) (mem : Memory → SProp 𝓤) (run : Routine → Fun 𝓤) (κ : Lft) (q : Share) (d : TreeReader) (ok : d .at + nodeLength ≤ length (now (d .words))) where
   abbrev mach : Val
   mach = T′.lowered d
 
