@@ -11,6 +11,7 @@ pub mod Conditional
 pub mod Order
 pub mod Read
 pub mod Words
+pub mod Legal
 pub mod Parse
 pub mod Plain
 pub mod Write
