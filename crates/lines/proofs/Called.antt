@@ -9,7 +9,8 @@ use lib.IntN.{ℤ}
 use lib.ListN.{length, replicate}
 use Rattle.molang.specs.Forest.{Token}
 use Rattle.molang.specs.Read.{uses, setNumber}
-use Rattle.molang.specs.Words.{Field, operatorField, startField, endField, upperField, lowerField, countField, Legal, listWords, nextInToken, wordFault, kindOf, lowOf, fieldKind}
+use Rattle.molang.specs.Words.{Field, operatorField, startField, endField, upperField, lowerField, countField, listWords, nextInToken, wordFault, kindOf, lowOf, fieldKind}
+use Rattle.molang.specs.Legal.{Legal}
 use Rattle.molang.specs.FirstFailure.{must, firstOf}
 use Rattle.molang.specs.Lines.{tokensFrom, callFor, listCall}
 use Rattle.molang.proofs.Words.{LegalTokens, noTokens, token, tokens-back}

@@ -1,5 +1,5 @@
--- Between a first reading and the writer: the words of the tree that a parse call leaves in front of its tree buffer, and what the write entry
--- makes of them.
+-- Between a first reading and the writer: the words of the tree that a parse call leaves in front of its tree buffer, and what the write
+-- entry makes of them.
 use Prim.Native.Nat.{ℕ, _*_, _≤_, _<_}
 use mathlib.Core.Path.{_≡_, refl, ap, sym, _∙_}
 use mathlib.Core.Bool.{Bool, true, false}
@@ -76,8 +76,8 @@ module _ {c : Call} {k : Token} {cs : Forest} (p : Parsed c k cs) where
   tree-written-legal =
       let a = call-accepted c (p .accepted) in root-legal k cs (read-legal _ _ _ _ k cs (a .legal) (a .few) (p .reads))
 
--- WHAT THE WRITER TELLS of the tree k over cs: 13 at the first node that is not plain, else 14 or 15 by the written count and the lent list,
--- else that count; never 12.
+-- WHAT THE WRITER'S CALLER IS TOLD of the tree k over cs: 13 at the first node that is not plain, else 14 or 15 by the number of written
+-- tokens and the lent list, else that number; never 12.
 pub record WriterTells (k : Token) (cs : Forest) (w : WriteCall) : Type 0 where
   pub unplain : (n : ℕ) → unplainAt k cs ≡ some n → writeAnswered w ≡ unwritten 13 n
   pub tooMany : unplainAt k cs ≡ none → mostTokens < length (written k cs []) → writeAnswered w ≡ unwritten 14 0

@@ -10,7 +10,8 @@ use lib.ListN.{length}
 use Rattle.molang.specs.Operator
 use Rattle.molang.specs.Forest.{Token, Forest, nil, node, renamed, bare, leaves, size}
 use Rattle.molang.specs.Read.{Answer, read}
-use Rattle.molang.specs.Words.{Legal, treeWords, operatorField}
+use Rattle.molang.specs.Words.{treeWords, operatorField}
+use Rattle.molang.specs.Legal.{Legal}
 use Rattle.molang.specs.Parse.{mostTokens}
 use Rattle.molang.specs.WriteEntry.{treeFault, treesOf}
 use Rattle.molang.proofs.Trees.{count-size}

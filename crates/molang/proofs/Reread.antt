@@ -1,7 +1,8 @@
--- DEMAND 3 OF THE FUNCTION THAT MAKES THE THREE CALLS (`specs/Reread`): its calls are three calls as `Entries` has them, so what is told and left
--- is as the demand says. What a first reading hands on to the writer, and the writer to the second reading, can be handed on.
+-- DEMAND 3 OF THE FUNCTION THAT MAKES THE THREE CALLS (`specs/Reread`): its calls are three calls as `Entries` has them, so what is told
+-- and left is as the demand says. What a first reading hands on to the writer, and the writer to the second reading, can be handed on.
 use Prim.Native.Nat.{ℕ, _+_, _*_, _/_, _≤_}
 use mathlib.Core.Path.{_≡_, refl, ap, sym, _∙_}
+use mathlib.Core.Bool.{false}
 use mathlib.Core.List.{List, [], _∷_}
 use mathlib.Core.Option.{Option, none, some}
 use native.Mathlib.Omega.{arith}
@@ -19,7 +20,7 @@ use Rattle.molang.proofs.UsedSet.{halves-exact}
 use Rattle.molang.proofs.Accepted.{call-accepted}
 use Rattle.molang.proofs.Bounds.{treeWords-length}
 use Rattle.molang.proofs.HandedTree.{Parsed, tree-front, tree-told, front-bracketless, tree-written-legal, writer-tells, write-done, tree-of-told, write-of-told}
-use Rattle.molang.proofs.Entries.{ThreeCalls, SameTrees, three-calls}
+use Rattle.molang.proofs.Entries.{ThreeCalls, three-calls}
 
 -- Five words make a token.
 pub tokens-count : (ws : List ℕ) → 5 * length (tokensOf ws) ≤ length ws
@@ -94,36 +95,37 @@ module _ (c : Rereading) (k : Token) (cs : Forest) (p : Parsed (c .first) k cs) 
     unfolding reread afterFirst
     made = rw (tree-told p, write-done p (writing c k cs) tree-got writes .told) refl
 
-    module _ (treeRoom : 18 * length (written k cs []) ≤ length (c .again)) (workRoom : 64 * length (written k cs []) + 64 ≤ length (c .first .work)) (legal : c .sourceLength ≤ 536870911) where
-      calls : ThreeCalls (c .first) (writing c k cs) (second c k cs) k cs
-      unfolding handed writerCall secondCall exactCall
-      calls =
-          let ks = written k cs [] in
-          let got = ap tokensOf list-got ∙ tokens-back ks (tree-written-legal p) in
-          let same : (m : ℕ) → uses (tokensOf (second c k cs .list)) m ≡ uses ks m = λ m. ap (λ (l : List Token). uses l m) got in
-          record {
-            parsed = p;
-            treeHanded = refl;
-            writes = writes;
-            listHanded = refl;
-            usedExactly = λ m.
-                halves-exact (uses (tokensOf (second c k cs .list))) (λ n above. same n ∙ uses-legal (tree-written-legal p) n above) m ∙ same m;
-            treeRoom = treeRoom;
-            messageRoom = rw (messages-kept p) (call-accepted (c .first) (p .accepted) .messages);
-            workRoom = rw (work-long p) workRoom;
-            legalLength = legal;
-          }
+    calls : 18 * length (written k cs []) ≤ length (c .again) → 64 * length (written k cs []) + 64 ≤ length (c .first .work)
+        → c .sourceLength ≤ 536870911
+        → ThreeCalls (c .first) (writing c k cs) (second c k cs) k cs
+    unfolding handed writerCall secondCall exactCall
+    calls treeRoom workRoom legalLength =
+        let legal = tree-written-legal p in
+        let ks = tokensOf (second c k cs .list) in
+        let same : ks ≡ written k cs [] = ap tokensOf list-got ∙ tokens-back (written k cs []) legal in
+        let few : (m : ℕ) → 111 ≤ m → uses ks m ≡ false = λ m above. rw same (uses-legal legal m above) in
+        record {
+          parsed = p;
+          treeHanded = refl;
+          writes = writes;
+          listHanded = refl;
+          usedExactly = λ m. halves-exact (uses ks) few m ∙ ap (λ (l : List Token). uses l m) same;
+          treeRoom = treeRoom;
+          messageRoom = rw (messages-kept p) (call-accepted (c .first) (p .accepted) .messages);
+          workRoom = rw (work-long p) workRoom;
+          legalLength = legalLength;
+        }
 
-      read-back : HasReadBack k cs (reread c)
-      unfolding handed afterWriting secondTold
-      read-back =
-          let same = three-calls (c .first) (writing c k cs) (second c k cs) k cs calls in
-          record {
-            nodesAgain = size (node (same .root) (same .children) nil);
-            tells = rw (made, same .answers) refl;
-            listed = rw made list-got;
-            words = rw made (front-bracketless (same .parsed) ∙ (same .words ∙ sym (front-bracketless p)));
-          }
+    read-back : ThreeCalls (c .first) (writing c k cs) (second c k cs) k cs → HasReadBack k cs (reread c)
+    unfolding handed afterWriting secondTold
+    read-back t =
+        let same = three-calls (c .first) (writing c k cs) (second c k cs) k cs t in
+        record {
+          nodesAgain = size (node (same .root) (same .children) nil);
+          tells = rw (made, same .answers) refl;
+          listed = rw made list-got;
+          words = rw made (front-bracketless (same .parsed) ∙ (same .words ∙ sym (front-bracketless p)));
+        }
 
     -- A second reading that is not turned back had room.
     accepted : refusal (second c k cs) ≡ none → HasReadBack k cs (reread c)
@@ -134,7 +136,7 @@ module _ (c : Rereading) (k : Token) (cs : Forest) (p : Parsed (c .first) k cs) 
         let long : length (second c k cs .list) ≡ 5 * n = ap length list-got ∙ listWords-length (written k cs []) in
         let tree : 18 * (length (second c k cs .list) / 5) ≤ length (c .again) = a .tree in
         let work : 64 * (length (second c k cs .list) / 5) + 64 ≤ length (workAfter (c .first)) = a .work in
-        read-back (omega arith) (omega (arith, work-long p)) (a .sourceLength)
+        read-back (calls (omega arith) (omega (arith, work-long p)) (a .sourceLength))
 
 -- EVERY CALL ENDS IN ONE OF THREE WAYS: the first reading gives messages, one of the calls is turned back, or the tree reads back.
 pub data Ends (c : Rereading) : Type 0 where
@@ -159,7 +161,9 @@ ends c = first (answered (c .first)) refl
     first : (o : Told) → answered (c .first) ≡ o → Ends c
     first (refused m q) e = wasTurnedBack 1 m q (rw e refl)
     first (someMessages m) e = gaveMessages m (rw e refl)
-    first (aTree n) e = let t = tree-of-told (c .first) n e in write (t .root) (t .children) (t .parsed) (writeAnswered (writing c (t .root) (t .children))) refl
+    first (aTree n) e =
+        let t = tree-of-told (c .first) n e in
+        write (t .root) (t .children) (t .parsed) (writeAnswered (writing c (t .root) (t .children))) refl
 
 -- DEMAND 3.
 pub demand-3 : (c : Rereading) → Demand3 c (reread c)
@@ -169,7 +173,8 @@ demand-3 c =
       readsBack = λ k cs d.
           let p : Parsed (c .first) k cs = record { accepted = d .accepted; reads = d .reads } in
           let tells = writer-tells p (writing c k cs) (tree-got c k cs p) .writes (d .plain) (d .few) (d .listRoom) in
-          read-back c k cs p (write-of-told (writing c k cs) (length (written k cs [])) tells) (d .treeRoom) (d .workRoom) (d .legalLength);
+          let writes = write-of-told (writing c k cs) (length (written k cs [])) tells in
+          read-back c k cs p writes (calls c k cs p writes (d .treeRoom) (d .workRoom) (d .legalLength));
       agree = λ nodes count nodesAgain h. agree nodes count nodesAgain h (ends c);
       noMessages = λ records h. never records h (ends c);
     }

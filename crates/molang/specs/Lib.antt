@@ -15,6 +15,7 @@ pub mod Weight
 pub mod Work
 pub mod FirstFailure
 pub mod Words
+pub mod Legal
 pub mod Parse
 pub mod Plain
 pub mod Write

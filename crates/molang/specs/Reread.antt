@@ -1,5 +1,6 @@
--- Demand 3 (document 01, 'Demand 3 joins three calls'): a list is read, its tree is written, and exactly the tokens written are read again.
--- The function that makes the three calls: what it is lent, what its caller is told and what it leaves in each lent buffer. Then the demand.
+-- Demand 3 (document 01, 'Demand 3 joins three calls'): a list is read, its tree is written, and exactly the tokens written are read
+-- again. First the function that makes the three calls: what it is lent, what its caller is told and what it leaves in each lent buffer.
+-- Then the demand itself.
 use Prim.Native.Nat.{ℕ, _+_, _*_, _/_, _%_, _^_, _≤_}
 use mathlib.Core.Path.{_≡_}
 use mathlib.Core.Bool.{false}
@@ -132,8 +133,9 @@ reread c = afterFirst (handed c) (answered (c .first))
 unfoldable pub bracketless : List ℕ → List ℕ
 bracketless ws = treeWords (takenAway false (treesOf ws) nil)
 
--- What demand 3 asks of a call: the first reading is not turned back and gives the tree k over cs, which is plain; what is written of it has at
--- most 4,096 tokens, and the lent buffers and the second source length are such as the table asks. (Message room is the first call's.)
+-- What demand 3 asks of a call: the first reading is not turned back and gives the tree k over cs, which is plain; what is written of it has
+-- at most 4,096 tokens, and the lent buffers and the second source length are such as the table asks. (The first call asked for the
+-- message room.)
 pub record CanReadBack (c : Rereading) (k : Token) (cs : Forest) : Type 0 where
   pub accepted : refusal (c .first) ≡ none
   pub reads : reading (c .first) ≡ tree k cs
@@ -144,16 +146,16 @@ pub record CanReadBack (c : Rereading) (k : Token) (cs : Forest) : Type 0 where
   pub workRoom : 64 * length (written k cs []) + 64 ≤ length (c .first .work)
   pub legalLength : c .sourceLength ≤ 536870911
 
--- What comes of it: both node counts and the token count are told, the list opens with what is written of the tree, and the two trees have the
--- same words in the same order with brackets taken away.
+-- What comes of it: both node counts and the token count are told, the list opens with what is written of the tree, and with brackets taken
+-- away the two trees have the same words in the same order.
 pub record HasReadBack (k : Token) (cs : Forest) (l : RereadLeft) : Type 0 where
   pub nodesAgain : ℕ
   pub tells : l .told ≡ twoTrees (size (node k cs nil)) (length (written k cs [])) nodesAgain
   pub listed : take (5 * length (written k cs [])) (l .written) ≡ listWords (written k cs [])
   pub words : bracketless (take (6 * nodesAgain) (l .again)) ≡ bracketless (take (6 * size (node k cs nil)) (l .tree))
 
--- DEMAND 3 OF A CALL, by what is told and left. Where the demand's premise holds, the tree reads back; and of every call: whenever two trees are
--- told, these have the same words with brackets taken away, and messages of the second reading are never told.
+-- DEMAND 3 OF A CALL, by what is told and left. Where the demand's premise holds, the tree reads back. Of every call: whenever two trees
+-- are told, these have the same words with brackets taken away, and no messages of the second reading are told.
 pub record Demand3 (c : Rereading) (l : RereadLeft) : Type 0 where
   pub readsBack : (k : Token) (cs : Forest) → CanReadBack c k cs → HasReadBack k cs l
   pub agree : (nodes count nodesAgain : ℕ) → l .told ≡ twoTrees nodes count nodesAgain

@@ -1,7 +1,6 @@
 -- The word formats of document 01, 'The entry and its words': tokens of five words, tree nodes of six, which words are legal, and
 -- answers 8-11.
-use Prim.Native.Nat.{ℕ, _+_, _*_, _/_, _%_, _^_, _≤_, _<_, suc}
-use mathlib.Core.Path.{_≡_}
+use Prim.Native.Nat.{ℕ, _+_, _*_, _/_, _%_, _^_, suc}
 use mathlib.Core.Bool.{Bool, true, false}
 use mathlib.Core.List.{List, [], _∷_, _++_}
 use mathlib.Core.Option.{Option, none, some}
@@ -36,15 +35,6 @@ tokenOf a b c d e =
       start = lowOf b;
       end = lowOf c;
     }
-
--- A token that words can hold.
-pub record Legal (k : Token) : Type 0 where
-  pub op : k .op ≤ 110
-  pub variant : k .variant ≤ 12
-  pub value : k .value < 2 ^ 32
-  pub no-payload : k .variant ≡ 0 → k .value ≡ 0
-  pub start : k .start < 2 ^ 29
-  pub end : k .end < 2 ^ 29
 
 -- The tokens of a word list; words after the last whole token are left out.
 unfoldable pub tokensOf : List ℕ → List Token

@@ -7,7 +7,8 @@ use native.Mathlib.Omega.{arith}
 use native.Mathlib.Nat.{add-zero}
 use lib.ListN.{length, getD, set}
 use Rattle.molang.specs.Forest.{Token, renamed, bare}
-use Rattle.molang.specs.Words.{word, lowOf, tokenWords, Legal}
+use Rattle.molang.specs.Words.{word, lowOf, tokenWords}
+use Rattle.molang.specs.Legal.{Legal}
 use Rattle.words.specs.Fields.{operatorOf, withOperator}
 use Rattle.nodes.specs.Store.{wd, slotStart, slotEnd, operatorWordAt, startWordAt, endWordAt, upperWordAt, lowerWordAt, TokenAt}
 use Rattle.nodes.specs.Slots.{opAt, startAt, endAt, Made}

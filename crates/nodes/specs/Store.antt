@@ -11,7 +11,8 @@ use lib.Dec.{eqb}
 use lib.ListN.{length, getD}
 use Rattle.molang.specs.Operator.{negate, semicolon}
 use Rattle.molang.specs.Forest.{Token, Forest, nil, node}
-use Rattle.molang.specs.Words.{tokenWords, Legal}
+use Rattle.molang.specs.Words.{tokenWords}
+use Rattle.molang.specs.Legal.{Legal}
 use Rattle.molang.specs.Free.{free}
 use Rattle.ops.specs.Classes.{bitAt, inClass}
 

@@ -8,7 +8,7 @@ use lib.IntN.{ℤ}
 use lib.ListN.{length, take, length-take}
 use Rattle.molang.specs.Read.{uses, setNumber}
 use Rattle.molang.specs.Words.{operatorField, tokensOf}
-use Rattle.molang.specs.Parse.{Call, inHalves, aTree, answered, treeAfter, messagesAfter, workAfter}
+use Rattle.molang.specs.Parse.{Call, inHalves, aTree}
 use Rattle.molang.specs.WriteEntry.{tokens, unwritten, writeAnswered, listAfter}
 use Rattle.molang.specs.Reread.{Handed, writerCall, exactCall, secondCall, Rereading, handed, RereadLeft, stopped, secondTold, afterWriting, afterFirst, reread}
 use Rattle.molang.proofs.UsedSet.{exact-halves}
@@ -39,7 +39,8 @@ module _ (list : List ℕ) (can : CanRead list) (low high : ℕ) (fits : low < 2
   exact-call tree messages work sourceLength v = let e = own-halves in rw (v, e .0, e .1) refl
 
 -- A promise of the parse entry about a call is one about the same call.
-pub same-call : {c d : Call} → c ≡ d → {r : Answer} {tree messages work : List ℕ} → HasParsed c r tree messages work → HasParsed d r tree messages work
+pub same-call : {c d : Call} → c ≡ d → {r : Answer} {tree messages work : List ℕ} → HasParsed c r tree messages work
+    → HasParsed d r tree messages work
 same-call e p = rw e at p
 
 -- ---- THE WRITER AND THE SECOND READING
@@ -65,8 +66,10 @@ module _ (h : Handed) (nodes : ℕ) (list : List ℕ) (left : list ≡ listAfter
       let kept : list ≡ h .written = left ∙ unwritten-list (writerCall h nodes) number place (sym e) in rw (← e, kept) refl
 
   -- What it wrote is read.
-  pub has-written : (count : ℕ) → tokens count ≡ writeAnswered (writerCall h nodes) → (r : Outcome) {second : Answer} {again messages work : List ℕ}
-      → HasParsed (exactCall (take (5 * count) list) (h .again) (h .messages) (h .work) (h .sourceLength) (h .version)) second again messages work
+  pub has-written : (count : ℕ) → tokens count ≡ writeAnswered (writerCall h nodes)
+      → (r : Outcome) {second : Answer} {again messages work : List ℕ}
+      → HasParsed (exactCall (take (5 * count) list) (h .again) (h .messages) (h .work) (h .sourceLength) (h .version)) second
+      again messages work
       → rereadOf r ≡ secondTold nodes count (toldOf second)
       → leftOf r (h .tree) list again messages work ≡ afterFirst h (aTree nodes)
   unfolding afterFirst afterWriting secondCall
@@ -75,7 +78,8 @@ module _ (h : Handed) (nodes : ℕ) (list : List ℕ) (left : list ≡ listAfter
 -- ---- ALL THREE
 
 -- What the first call told and left is handed on, and so the three calls are made.
-pub has-reread : (c : Rereading) {first : Answer} {tree messages work : List ℕ} → HasParsed (c .first) first tree messages work → {l : RereadLeft}
+pub has-reread : (c : Rereading) {first : Answer} {tree messages work : List ℕ} → HasParsed (c .first) first tree messages work
+    → {l : RereadLeft}
     → l ≡ afterFirst (handedOf tree (c .written) (c .again) messages work (c .sourceLength) (c .version)) (toldOf first)
     → HasReread c l
 unfolding reread handed

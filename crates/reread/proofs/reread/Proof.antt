@@ -1,4 +1,4 @@
--- `reread::reread` meets its contract: what the first call answered and left is handed on, and so the three calls are made. Assumes nothing.
+-- `reread::reread` meets its contract: what the first call told and left is handed on, and so the three calls are made. Assumes nothing.
 use mathlib.Core.Path.{sym, ap}
 use lib.IntN.{ℤ}
 use mir.Facts.{toZ-ofZ}
@@ -19,7 +19,7 @@ first s =
     let a = s .args in
     call (a .list .now) (a .tree .now) (a .messages .now) (a .work .now) (a .source-length) (a .version) (a .used-low) (a .used-high)
 
--- What it answered and left.
+-- What it told and left.
 parsed : (c : tie.After-parse)
     → HasParsed (first (c .before .before .before .before .before .before .before .before .before .before)) (c .parse .result) (c .parse .last .1 .0) (c .parse .last .1 .1 .0) (c .parse .last .1 .1 .1 .0)
 parsed c =
