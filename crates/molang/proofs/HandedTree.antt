@@ -1,5 +1,5 @@
--- Between a first reading and the writer: the words of the tree that a parse call leaves in front of its tree buffer, and what the write entry
--- makes of them.
+-- Between a first reading and the writer: the words of the tree that a parse call leaves in front of its tree buffer, and what the
+-- write entry makes of them.
 use Prim.Native.Nat.{ℕ, _*_, _≤_, _<_}
 use mathlib.Core.Path.{_≡_, refl, ap, sym, _∙_}
 use mathlib.Core.Bool.{Bool, true, false}
@@ -40,7 +40,8 @@ front-words ws buffer n h = ap (λ (m : ℕ). take m (ws ++ drop (length ws) buf
 pub whole-tree : (w : WriteCall) → treeFault 0 operatorField 0 (record { called = 1; begun = 0 }) (w .tree) ≡ none
     → writeRefusal w ≡ forestRefusal (treesOf (w .tree)) (length (w .list))
 unfolding writeRefusal
-whole-tree w e = after-none (withNumber 12 (treeFault 0 operatorField 0 (record { called = 1; begun = 0 }) (w .tree))) _ (ap (withNumber 12) e)
+whole-tree w e =
+    after-none (withNumber 12 (treeFault 0 operatorField 0 (record { called = 1; begun = 0 }) (w .tree))) _ (ap (withNumber 12) e)
 
 root-legal : (k : Token) (cs : Forest) → LegalTrees (node k cs nil) → LegalTokens (written k cs [])
 root-legal k cs (legalTree h n below after) = written-legal k cs h below [] noTokens
@@ -76,8 +77,8 @@ module _ {c : Call} {k : Token} {cs : Forest} (p : Parsed c k cs) where
   tree-written-legal =
       let a = call-accepted c (p .accepted) in root-legal k cs (read-legal _ _ _ _ k cs (a .legal) (a .few) (p .reads))
 
--- WHAT THE WRITER TELLS of the tree k over cs: 13 at the first node that is not plain, else 14 or 15 by the written count and the lent list,
--- else that count; never 12.
+-- WHAT THE WRITER TELLS of the tree k over cs: 13 at the first node that is not plain, else 14 or 15 by the written count and the
+-- lent list, else that count; never 12.
 pub record WriterTells (k : Token) (cs : Forest) (w : WriteCall) : Type 0 where
   pub unplain : (n : ℕ) → unplainAt k cs ≡ some n → writeAnswered w ≡ unwritten 13 n
   pub tooMany : unplainAt k cs ≡ none → mostTokens < length (written k cs []) → writeAnswered w ≡ unwritten 14 0
@@ -127,7 +128,8 @@ module _ {c : Call} {k : Token} {cs : Forest} (p : Parsed c k cs) (w : WriteCall
 
       split : (o : Option ℕ) (a b : Bool) → unplainAt k cs ≡ o → leb n mostTokens ≡ a → leb (5 * n) (length (w .list)) ≡ b → ⊥
       split (some i) a b e f g = let told = writer-tells .unplain i e in let same : _≡_ {A = ℕ} 13 12 = cc in omega arith
-      split none false b e f g = let told = writer-tells .tooMany e (leb-false n mostTokens f) in let same : _≡_ {A = ℕ} 14 12 = cc in omega arith
+      split none false b e f g =
+          let told = writer-tells .tooMany e (leb-false n mostTokens f) in let same : _≡_ {A = ℕ} 14 12 = cc in omega arith
       split none true false e f g =
           let told = writer-tells .noRoom e (leb-true n mostTokens f) (leb-false (5 * n) (length (w .list)) g) in
           let same : _≡_ {A = ℕ} 15 12 = cc in omega arith
