@@ -48,7 +48,7 @@ table list sizes used =
     (in-parts (must (eqb (length list % 5) 0) (row 1 0) ∷ must (leb n mostTokens) (row 2 0) ∷ []) (lent ++ (words ∷ []))
     ∙ behind (lengthRefusal (length list)) (lent ++ (words ∷ [])) (firstOf lent ∷ words ∷ []) (in-parts lent (words ∷ [])))
 
--- Of the buffers a refusal takes the lengths, and of the version nothing.
+-- A refusal depends on the lengths of the buffers, and not on the version.
 pub same-refusal : (c : Call)
     → refusal
     (callOf (c .list)
@@ -113,7 +113,8 @@ module _ (list : List ℕ) (sizes : Sizes) (used : OpSet) where
         → (x : Accepted) → verdictOf x ≡ verdict n (wordsRefusal 0 operatorField 0 list) → Answers x
     unfolding firstOf
     by-words m lent x e =
-        e ∙ (ap (verdict n) (sym (last-one (wordsRefusal 0 operatorField 0 list))) ∙ (rw (accepted m n (lentRefusal n sizes used) lent .1) at left))
+        e ∙ (ap (verdict n) (sym (last-one (wordsRefusal 0 operatorField 0 list))) ∙
+        (rw (accepted m n (lentRefusal n sizes used) lent .1) at left))
 
 -- ---- The words, token by token
 
@@ -157,7 +158,8 @@ module _ (list : List ℕ) where
         ap (wordsRefusal at operatorField 0) opens
         ∙ (token-passed at 0 (getD list at 0) (getD list (at + 1) 0) (getD list (at + 2) 0) (getD list (at + 3) 0) (getD list (at + 4) 0)
         (drop (at + 5) list)
-        (good-token at (getD list at 0) (getD list (at + 1) 0) (getD list (at + 2) 0) (getD list (at + 3) 0) (getD list (at + 4) 0) (sym good))
+        (good-token at (getD list at 0) (getD list (at + 1) 0) (getD list (at + 2) 0) (getD list (at + 3) 0) (getD list (at + 4) 0)
+        (sym good))
         ∙ any-variant (at + 5) (variantOf (getD list at 0)) (drop (at + 5) list))
 
     pub token-bad : (r : Refusal) → some r ≡ wordsRefusal at operatorField 0 (tokenAt list at) → checkFrom list at ≡ some r

@@ -40,7 +40,8 @@ front-words ws buffer n h = ap (λ (m : ℕ). take m (ws ++ drop (length ws) buf
 pub whole-tree : (w : WriteCall) → treeFault 0 operatorField 0 (record { called = 1; begun = 0 }) (w .tree) ≡ none
     → writeRefusal w ≡ forestRefusal (treesOf (w .tree)) (length (w .list))
 unfolding writeRefusal
-whole-tree w e = after-none (withNumber 12 (treeFault 0 operatorField 0 (record { called = 1; begun = 0 }) (w .tree))) _ (ap (withNumber 12) e)
+whole-tree w e =
+    after-none (withNumber 12 (treeFault 0 operatorField 0 (record { called = 1; begun = 0 }) (w .tree))) _ (ap (withNumber 12) e)
 
 root-legal : (k : Token) (cs : Forest) → LegalTrees (node k cs nil) → LegalTokens (written k cs [])
 root-legal k cs (legalTree h n below after) = written-legal k cs h below [] noTokens
@@ -127,7 +128,8 @@ module _ {c : Call} {k : Token} {cs : Forest} (p : Parsed c k cs) (w : WriteCall
 
       split : (o : Option ℕ) (a b : Bool) → unplainAt k cs ≡ o → leb n mostTokens ≡ a → leb (5 * n) (length (w .list)) ≡ b → ⊥
       split (some i) a b e f g = let told = writer-tells .unplain i e in let same : _≡_ {A = ℕ} 13 12 = cc in omega arith
-      split none false b e f g = let told = writer-tells .tooMany e (leb-false n mostTokens f) in let same : _≡_ {A = ℕ} 14 12 = cc in omega arith
+      split none false b e f g =
+          let told = writer-tells .tooMany e (leb-false n mostTokens f) in let same : _≡_ {A = ℕ} 14 12 = cc in omega arith
       split none true false e f g =
           let told = writer-tells .noRoom e (leb-true n mostTokens f) (leb-false (5 * n) (length (w .list)) g) in
           let same : _≡_ {A = ℕ} 15 12 = cc in omega arith

@@ -84,11 +84,13 @@ uses-legal (token {k = k} l ls) m h = rw (ne-eqb (k .op) m (λ e. omega (arith, 
 -- Added brackets are legal.
 opener-legal : (k : Token) → Legal k → Legal (openerFor k)
 unfolding openerFor bare
-opener-legal k h = record { op = omega arith; variant = omega arith; value = omega arith; no-payload = λ e. refl; start = h .start; end = h .end }
+opener-legal k h =
+    record { op = omega arith; variant = omega arith; value = omega arith; no-payload = λ e. refl; start = h .start; end = h .end }
 
 closer-legal : (k : Token) → Legal k → Legal (closerFor k)
 unfolding closerFor bare
-closer-legal k h = record { op = omega arith; variant = omega arith; value = omega arith; no-payload = λ e. refl; start = h .start; end = h .end }
+closer-legal k h =
+    record { op = omega arith; variant = omega arith; value = omega arith; no-payload = λ e. refl; start = h .start; end = h .end }
 
 -- F puts legal tokens before legal tokens.
 abbrev KeepsLegal : (List Token → List Token) → Type 0
@@ -113,6 +115,7 @@ written-legal k (node x xs nil) h (legalTree hx n hxs noTrees) r l = split (isBr
     split false e i = rw (written-one false k x xs r e) (token h (operand-legal (standsAlone x xs) x (written x xs) hx i r l))
 written-legal k (node x xs (node y ys nil)) h (legalTree hx n hxs (legalTree hy m hys noTrees)) r l =
     rw (written-two k x xs y ys r)
-    (operand-legal (standsLeft k x xs) x (written x xs) hx (written-legal x xs hx hxs) (k ∷ operandTokens (standsRight k y ys) y (written y ys) r)
+    (operand-legal (standsLeft k x xs) x (written x xs) hx (written-legal x xs hx hxs)
+    (k ∷ operandTokens (standsRight k y ys) y (written y ys) r)
     (token h (operand-legal (standsRight k y ys) y (written y ys) hy (written-legal y ys hy hys) r l)))
 written-legal k (node x xs (node y ys (node z zs more))) h below r l = rw (written-more k x xs y ys z zs more r) (token h l)

@@ -13,7 +13,8 @@ pub record Plain (p : Option Token) (i n : ℕ) (k : Token) (cs rest : Forest) :
   pub below : unplain (some k) 0 (suc n) cs ≡ none
   pub after : unplain p (suc i) (suc n + size cs) rest ≡ none
 
-pub plain-parts : (p : Option Token) (i n : ℕ) (k : Token) (cs rest : Forest) → unplain p i n (node k cs rest) ≡ none → Plain p i n k cs rest
+pub plain-parts : (p : Option Token) (i n : ℕ) (k : Token) (cs rest : Forest) → unplain p i n (node k cs rest) ≡ none
+    → Plain p i n k cs rest
 unfolding unplain
 plain-parts p i n k cs rest h =
     let root = passed (plainForm (seatOf p i) k cs) n _ h in

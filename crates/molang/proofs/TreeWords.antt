@@ -17,13 +17,15 @@ use Rattle.molang.proofs.FirstFailure.{must-true, then-none, passes, al
 use Rattle.molang.proofs.Words.{LegalTrees, noTrees, legalTree, low-word, kind-word, high-part}
 
 -- A word of the right kind whose low bits have no fault.
-word-passes : (field : Field) (v low : ℕ) → low < 2 ^ 29 → lowFault field v low ≡ none → wordFault field v (word (fieldKind field) low) ≡ none
+word-passes : (field : Field) (v low : ℕ) → low < 2 ^ 29 → lowFault field v low ≡ none
+    → wordFault field v (word (fieldKind field) low) ≡ none
 unfolding wordFault
 word-passes field v low b h =
     passes _ 8 _ (eq-eqb _ _ (kind-word (fieldKind field) low b)) (then-none _ [] (rw (low-word (fieldKind field) low b) h) all-passed)
 
 -- Half of a payload value.
-half-passes : (v low : ℕ) → low < 2 ^ 16 → (v ≡ 0 → low ≡ 0) → must {A = ℕ} (ltb low (elim (eqb v 0) [ true ↦ 1 | false ↦ 2 ^ 16 ])) 11 ≡ none
+half-passes : (v low : ℕ) → low < 2 ^ 16 → (v ≡ 0 → low ≡ 0)
+    → must {A = ℕ} (ltb low (elim (eqb v 0) [ true ↦ 1 | false ↦ 2 ^ 16 ])) 11 ≡ none
 half-passes v low b z =
     decided (λ bound. must {A = ℕ} (ltb low bound) 11 ≡ none) (eqb v 0) 1 (2 ^ 16)
     (λ e. must-true _ 11 (lt-ltb low 1 (omega (arith, z (eqb-true v 0 e))))) (λ e. must-true _ 11 (lt-ltb low (2 ^ 16) b))
@@ -85,7 +87,8 @@ withNode s n = record { called = s .called + n; begun = suc (s .begun) }
 
 node-continues : (k : Token) → Legal k → (n : ℕ) → n < 2 ^ 14 → (i v : ℕ) (s : Shape) (ws : List ℕ) → s .begun < s .called
     → s .called + n ≤ mostNodes
-    → treeFault i operatorField v s (tokenWords k ++ (word 6 n ∷ ws)) ≡ treeFault (suc (suc (suc (suc (suc (suc i)))))) operatorField (k .variant) (withNode s n) ws
+    → treeFault i operatorField v s (tokenWords k ++ (word 6 n ∷ ws))
+    ≡ treeFault (suc (suc (suc (suc (suc (suc i)))))) operatorField (k .variant) (withNode s n) ws
 unfolding tokenWords nextInNode shapeAfter variantAfter
 node-continues k h n m i v s ws b c =
     let begun : Shape = record { called = s .called; begun = suc (s .begun) } in
@@ -96,14 +99,17 @@ node-continues k h n m i v s ws b c =
     let start = word 2 (k .start) ∷ end in
     next-continues i operatorField v s (word 1 (k .variant * 2 ^ 8 + k .op)) start (operator-passes k h v) (omega arith) (omega arith)
     ∙ rw (variant-read k h v)
-    (next-continues (suc i) startField (k .variant) begun (word 2 (k .start)) end (start-passes k h (k .variant)) (omega arith) (omega arith)
-    ∙ (next-continues (suc (suc i)) endField (k .variant) begun (word 3 (k .end)) upper (end-passes k h (k .variant)) (omega arith) (omega arith)
+    (next-continues (suc i) startField (k .variant) begun (word 2 (k .start)) end (start-passes k h (k .variant)) (omega arith)
+    (omega arith)
+    ∙ (next-continues (suc (suc i)) endField (k .variant) begun (word 3 (k .end)) upper (end-passes k h (k .variant)) (omega arith)
+    (omega arith)
     ∙ (next-continues (suc (suc (suc i))) upperField (k .variant) begun (word 4 (k .value / 2 ^ 16)) lower (upper-passes k h) (omega arith)
     (omega arith)
     ∙ (next-continues (suc (suc (suc (suc i)))) lowerField (k .variant) begun (word 5 (k .value % 2 ^ 16)) counted (lower-passes k h)
     (omega arith) (omega arith)
     ∙ rw (low-word 6 n (omega arith)) at
-    (next-continues (suc (suc (suc (suc (suc i))))) countField (k .variant) begun (word 6 n) ws (count-passes (k .variant) n m) (omega arith)
+    (next-continues (suc (suc (suc (suc (suc i))))) countField (k .variant) begun (word 6 n) ws (count-passes (k .variant) n m)
+    (omega arith)
     (omega (arith, low-word 6 n (omega arith))))))))
 
 -- The words of legal trees, before words that a tree may go on with.
@@ -132,6 +138,7 @@ pub tree-unfaulted : (k : Token) (cs : Forest) → LegalTrees (node k cs nil) �
 unfolding treeFault isWhole count size
 tree-unfaulted k cs h b =
     let n = size (node k cs nil) in
-    rw append-nil at (trees-continue h 0 0 (record { called = 1; begun = 0 }) (record { called = n; begun = n }) [] (omega arith) (omega arith)
+    rw append-nil at (trees-continue h 0 0 (record { called = 1; begun = 0 }) (record { called = n; begun = n }) [] (omega arith)
+    (omega arith)
     (omega arith) (omega arith)
     (λ i v. must-true _ i (eq-eqb n n refl)))

@@ -36,12 +36,15 @@ high-part high low h = omega arith
 
 -- A token is read back from its words.
 pub token-back : (k : Token) → Legal k
-    → tokenOf (word 1 (k .variant * 2 ^ 8 + k .op)) (word 2 (k .start)) (word 3 (k .end)) (word 4 (k .value / 2 ^ 16)) (word 5 (k .value % 2 ^ 16)) ≡ k
+    → tokenOf (word 1 (k .variant * 2 ^ 8 + k .op)) (word 2 (k .start)) (word 3 (k .end)) (word 4 (k .value / 2 ^ 16))
+    (word 5 (k .value % 2 ^ 16)) ≡ k
 unfolding tokenOf
 token-back k h =
     let first = low-word 1 (k .variant * 2 ^ 8 + k .op) (omega arith) in
     let op : lowOf (word 1 (k .variant * 2 ^ 8 + k .op)) % 2 ^ 8 ≡ k .op = rw first (omega arith) in
-    let variant : lowOf (word 1 (k .variant * 2 ^ 8 + k .op)) / 2 ^ 8 % 2 ^ 4 ≡ k .variant = rw (first, high-part (k .variant) (k .op) (omega arith)) (omega arith) in
+    let variant : lowOf (word 1 (k .variant * 2 ^ 8 + k .op)) / 2 ^ 8 % 2 ^ 4 ≡ k .variant =
+    rw (first, high-part (k .variant) (k .op) (omega arith)) (omega arith)
+    in
     let value : lowOf (word 4 (k .value / 2 ^ 16)) % 2 ^ 16 * 2 ^ 16 + lowOf (word 5 (k .value % 2 ^ 16)) % 2 ^ 16 ≡ k .value =
     rw (low-word 4 (k .value / 2 ^ 16) (omega arith), low-word 5 (k .value % 2 ^ 16) (omega arith)) (omega arith)
     in
@@ -79,7 +82,8 @@ unfolding treesOf treeWords tokenWords beside
 trees-beside noTrees ws = refl
 trees-beside (legalTree {k = k} {cs = cs} {rest = rest} h n below later) ws =
     let trees : treesOf ((treeWords cs ++ treeWords rest) ++ ws) ≡ beside cs (beside rest (treesOf ws)) =
-    rw (append-assoc (treeWords cs) (treeWords rest) ws) (trees-beside below (treeWords rest ++ ws) ∙ ap (beside cs) (trees-beside later ws))
+    rw (append-assoc (treeWords cs) (treeWords rest) ws)
+    (trees-beside below (treeWords rest ++ ws) ∙ ap (beside cs) (trees-beside later ws))
     in
     rw (token-back k h, low-word 6 (count cs) (omega arith), trees, first-beside, other-beside) refl
 
@@ -89,7 +93,8 @@ unfolding treesOf
 trees-back f h = ap treesOf (sym (append-nil (treeWords f))) ∙ (trees-beside h [] ∙ beside-nil f)
 
 -- A word without fault: its kind, and its low bits.
-pub word-faultless : (field : Field) (v w : ℕ) → wordFault field v w ≡ none → (kindOf w ≡ fieldKind field) × (lowFault field v (lowOf w) ≡ none)
+pub word-faultless : (field : Field) (v w : ℕ) → wordFault field v w ≡ none
+    → (kindOf w ≡ fieldKind field) × (lowFault field v (lowOf w) ≡ none)
 unfolding wordFault
 word-faultless field v w e =
     let z = passed (eqb (kindOf w) (fieldKind field)) 8 _ e in

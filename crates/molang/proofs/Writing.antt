@@ -38,13 +38,15 @@ unfolding written
 written-more k x xs y ys z zs more r = refl
 
 -- What is written before some tokens is what is written, and then these.
-pub operand-before : (b : Bool) (k : Token) (tokens : List Token → List Token) (r : List Token) → ((s : List Token) → tokens s ≡ tokens [] ++ s)
+pub operand-before : (b : Bool) (k : Token) (tokens : List Token → List Token) (r : List Token)
+    → ((s : List Token) → tokens s ≡ tokens [] ++ s)
     → operandTokens b k tokens r ≡ operandTokens b k tokens [] ++ r
 unfolding operandTokens
 operand-before true k tokens r h = h r
 operand-before false k tokens r h =
     ap (λ (l : List Token). openerFor k ∷ l)
-    (h (closerFor k ∷ r) ∙ (sym (append-assoc (tokens []) (closerFor k ∷ []) r) ∙ ap (λ (l : List Token). l ++ r) (sym (h (closerFor k ∷ [])))))
+    (h (closerFor k ∷ r) ∙ (sym (append-assoc (tokens []) (closerFor k ∷ []) r) ∙ ap (λ (l : List Token). l ++ r)
+    (sym (h (closerFor k ∷ [])))))
 
 pub written-before : (k : Token) (cs : Forest) (r : List Token) → written k cs r ≡ written k cs [] ++ r
 written-before k nil r = split (isBracket (k .op)) refl
@@ -77,7 +79,8 @@ written-before k (node x xs (node y ys (node z zs more))) r =
 -- So the lengths add up.
 pub operand-length : (b : Bool) (k : Token) (cs : Forest) (r : List Token)
     → length (operandTokens b k (written k cs) r) ≡ length (operandTokens b k (written k cs) []) + length r
-operand-length b k cs r = ap length (operand-before b k (written k cs) r (written-before k cs)) ∙ length-append (operandTokens b k (written k cs) []) r
+operand-length b k cs r =
+    ap length (operand-before b k (written k cs) r (written-before k cs)) ∙ length-append (operandTokens b k (written k cs) []) r
 
 pub written-length : (k : Token) (cs : Forest) (r : List Token) → length (written k cs r) ≡ length (written k cs []) + length r
 written-length k cs r = ap length (written-before k cs r) ∙ length-append (written k cs []) r
@@ -114,7 +117,8 @@ adds k (node x xs nil) r r' a = split (isBracket (k .op)) refl (adds x xs)
     split : (b : Bool) → isBracket (k .op) ≡ b → ((r r' : List Token) → Adds r r' → Adds (ownTokens x xs r) (written x xs r'))
         → Adds (k ∷ ownTokens x xs r) (written k (node x xs nil) r')
     split true h i = rw (written-one true k x xs r' h) (own k (i r (closerFor k ∷ r') (closer k a)))
-    split false h i = rw (written-one false k x xs r' h) (own k (adds-operand (standsAlone x xs) x (ownTokens x xs) (written x xs) i r r' a))
+    split false h i =
+        rw (written-one false k x xs r' h) (own k (adds-operand (standsAlone x xs) x (ownTokens x xs) (written x xs) i r r' a))
 adds k (node x xs (node y ys nil)) r r' a =
     rw (written-two k x xs y ys r')
     (adds-operand (standsLeft k x xs) x (ownTokens x xs) (written x xs) (adds x xs) (k ∷ ownTokens y ys r)
@@ -152,8 +156,8 @@ own-once test p n k (node x xs (node y ys nil)) h u r =
     let j = own-once test (seatUnder k 1) (suc (suc n + size xs)) y ys (b .here) (b .below) r in omega arith
 own-once test p n k (node x xs (node y ys (node z zs more))) h u r = absurd (false≢true (unfold plainForm in h))
 
--- NO TOKEN IS LOST OR INVENTED: the writing of a plain tree is its own tokens in order with added brackets between them, and its own tokens are
--- those of its nodes, each as often as it stands in the tree (any test is passed by as many of the one as of the other).
+-- NO TOKEN IS LOST OR INVENTED: the writing of a plain tree is its own tokens in order with added brackets between them, and its own
+-- tokens are those of its nodes, each as often as it stands in the tree (any test is passed by as many of the one as of the other).
 pub record PutInOnce (k : Token) (cs : Forest) : Type 0 where
   pub bracketsAdded : Adds (ownTokens k cs []) (written k cs [])
   pub eachOnce : (test : Token → Bool) → inList test (ownTokens k cs []) ≡ inTrees test (node k cs nil)

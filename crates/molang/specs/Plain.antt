@@ -43,7 +43,8 @@ isPlainLeaf n =
 -- 9, 20, 31, 50-59 or 75, with two children.
 unfoldable pub isPlainBinary : ℕ → Bool
 isPlainBinary n =
-    eqb n Operator.add || eqb n Operator.div || eqb n Operator.mul || between Operator.lessThan Operator.conditional n || eqb n Operator.comma
+    eqb n Operator.add || eqb n Operator.div || eqb n Operator.mul || between Operator.lessThan Operator.conditional n
+    || eqb n Operator.comma
 
 -- 40 or a math call.
 unfoldable pub isCall : ℕ → Bool

@@ -1,5 +1,5 @@
--- The values of every answer fit its number's fields: counts and places stay below 2 ^ 32, refusals' numbers below 2 ^ 8. Answer 12's place is at
--- most 73,728, since no more nodes are begun than fit; answer 13's is a node of the tree. Assumes nothing.
+-- The values of every answer fit its number's fields: counts and places stay below 2 ^ 32, refusals' numbers below 2 ^ 8. Answer 12's
+-- place is at most 73,728, since no more nodes are begun than fit; answer 13's is a node of the tree. Assumes nothing.
 use mathlib.Core.Path.{_≡_, refl}
 use mathlib.Core.Bool.{Bool, true, false}
 use mathlib.Core.List.{List, [], _∷_}
@@ -56,7 +56,8 @@ lacks lowerField = 2
 lacks countField = 1
 
 -- A word takes up the place that it was counted for.
-taken : (field : Field) (w i : ℕ) (s : Shape) → i + lacks field ≤ 6 * s .begun → suc i + lacks (nextInNode field) ≤ 6 * shapeAfter field w s .begun
+taken : (field : Field) (w i : ℕ) (s : Shape) → i + lacks field ≤ 6 * s .begun
+    → suc i + lacks (nextInNode field) ≤ 6 * shapeAfter field w s .begun
 unfolding nextInNode shapeAfter
 taken operatorField w i s h = omega arith
 taken startField w i s h = omega arith
@@ -174,7 +175,8 @@ at-place : (o : Option ℕ) (place most : ℕ) → place ≤ most → All Most o
 at-place none place most h x = tt
 at-place (some n) place most h x = (x, h)
 
-words-placed : (i : ℕ) (field : Field) (v : ℕ) (ws : List ℕ) (most : ℕ) → i + length ws ≤ most → All (Placed most) (wordsRefusal i field v ws)
+words-placed : (i : ℕ) (field : Field) (v : ℕ) (ws : List ℕ) (most : ℕ) → i + length ws ≤ most
+    → All (Placed most) (wordsRefusal i field v ws)
 unfolding wordsRefusal
 words-placed i field v [] most h = tt
 words-placed i field v (w ∷ ws) most h =

@@ -190,7 +190,7 @@ judging-start k cs rest =
     let all : 0 + (operandLength Enclosed k cs + 0) ≡ length (written k cs []) = rw (unpaired-enclosed k cs) (omega arith) in
     rw all (sym (judgement-by (unplainAt k cs) (node k cs rest)))
 
--- Who stands over two children in a plain tree is no bracket and no math call.
+-- What stands over two children in a plain tree is no bracket and no math call.
 abbrev overTwo : ℕ → Bool
 overTwo n = isPlainBinary n || eqb n Operator.conditionalElse
 
@@ -465,7 +465,8 @@ module _ {tree : List ℕ} {waiting : List Seat} {top sum n at op children first
       → pending waiting' top' ≡ qs ++ pending waiting (top - 1)
       → Judging tree waiting' top' (sum + tokensFor p op children) (n + 1) after
   passed {waiting' = waiting'} qs plain goes room height seats =
-      let on = judged-on p (pending waiting (top - 1)) qs sum n (here .k) (here .cs) (here .rest) (here-plain ∙ plain) (goes .0) (goes .1) in
+      let on = judged-on p (pending waiting (top - 1)) qs sum n (here .k) (here .cs) (here .rest) (here-plain ∙ plain) (goes .0)
+      (goes .1) in
       record {
         within = omega (arith, bounds .0, t .isAfter);
         stands = omega (arith, t .inv .stands, t .isAfter);

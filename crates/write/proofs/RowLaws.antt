@@ -93,7 +93,8 @@ after-trees (aNode {trees = trees} {n = n} {ws = ws} five few later) p (suc q) e
     let g = treesOf ws in
     let m = nodeLength * size (firstTrees (lowOf n + q) g) in
     let x = after-trees later p (lowOf n + q) (omega arith) in
-    let six : nodeLength * (1 + size (firstTrees (lowOf n) g) + size (firstTrees q (otherTrees (lowOf n) g))) ≡ suc (suc (suc (suc (suc (suc m))))) =
+    let six : nodeLength * (1 + size (firstTrees (lowOf n) g) + size (firstTrees q (otherTrees (lowOf n) g)))
+    ≡ suc (suc (suc (suc (suc (suc m))))) =
     omega (arith, size-more (lowOf n) q g)
     in
     record { shaped = rw six (x .shaped); trees = rw (six, ← other-more (lowOf n) q g) (x .trees) }

@@ -33,7 +33,9 @@ continued-by (some n) b e = absurd (true≢false (sym e))
 continues-by : (field : Field) (v : ℕ) (s : Shape) (w : ℕ) → continues field v s w ≡ true → Continues field v s w
 unfolding continues
 continues-by field v s w e =
-    let x = continued-by (wordFault field v w) (leb (shapeAfter field w s .begun) (s .called) && leb (shapeAfter field w s .called) mostNodes) e in
+    let x = continued-by (wordFault field v w)
+    (leb (shapeAfter field w s .begun) (s .called) && leb (shapeAfter field w s .called) mostNodes) e
+    in
     let y = both _ _ (x .1) in
     record { faultless = x .0; begun = leb-true _ _ (y .0); called = leb-true _ _ (y .1) }
 
@@ -93,7 +95,8 @@ unfaulted-node : (a b c d e n : ℕ) (ws : List ℕ) (p r begun : ℕ) → token
     → lowOf n ≤ mostChildren
     → p ≡ suc r
     → Shaped mostChildren (lowOf n + r) ws × (nodeLength * suc begun + length ws ≤ nodeLength * mostNodes)
-    → Shaped mostChildren p (a ∷ b ∷ c ∷ d ∷ e ∷ n ∷ ws) × (nodeLength * begun + length (a ∷ b ∷ c ∷ d ∷ e ∷ n ∷ ws) ≤ nodeLength * mostNodes)
+    → Shaped mostChildren p (a ∷ b ∷ c ∷ d ∷ e ∷ n ∷ ws)
+    × (nodeLength * begun + length (a ∷ b ∷ c ∷ d ∷ e ∷ n ∷ ws) ≤ nodeLength * mostNodes)
 unfaulted-node a b c d e n ws p r begun five few q later = (rw q (aNode five few (later .0)), omega (arith, later .1))
 
 -- Words without fault are as many trees as are still called for, and not too long.
@@ -131,7 +134,8 @@ unfaulted i v p s (a ∷ b ∷ c ∷ d ∷ e ∷ n ∷ ws) q m h =
     let five = five-back a b c d e
     (five-faultless v a b c d e (ha .0 .faultless) (hb .0 .faultless) (hc .0 .faultless) (hd .0 .faultless) (he .0 .faultless))
     in
-    unfaulted-node a b c d e n ws p (s .called - s .begun - 1) (s .begun) five (count-bound _ n (hn .0 .faultless)) (omega (arith, ha .0 .begun))
+    unfaulted-node a b c d e n ws p (s .called - s .begun - 1) (s .begun) five (count-bound _ n (hn .0 .faultless))
+    (omega (arith, ha .0 .begun))
     (unfaulted _ _ (lowOf n + (s .called - s .begun - 1)) _ ws (omega (arith, ha .0 .begun)) (hn .0 .called) (hn .1))
 
 -- What answer 12 leaves.

@@ -25,7 +25,7 @@ use Rattle.molang.specs.Parse.{inFront}
 use Rattle.words.specs.Fields.{operatorOf}
 use Rattle.words.specs.Records.{laidAt}
 use Rattle.words.proofs.RecordLaws.{laid-sets}
-use Rattle.write.specs.Spelling.{firstFive, bracketWords, closerWords, firstSize, operandOf}
+use Rattle.write.specs.Spelling.{firstFive, bracketWords, closerWords, firstSize, operandOf, nodeWritten, operandWritten}
 
 -- Words laid behind words.
 laid-front : (to : ℕ) (ws list : List ℕ) → to ≤ length list → length (take to list ++ ws) ≡ to + length ws
@@ -114,19 +114,19 @@ module _ (k : Token) (ws : List ℕ) (five : tokenWords k ≡ firstFive ws) wher
 
 -- The tokens of a node and the words that its tree fills, by the number of its children.
 pub record NoneBelow (W : List ℕ) : Type 0 where
-  pub words : listWords (writtenTokens (treesOf W)) ≡ firstFive W ++ closerWords W
+  pub words : nodeWritten W ≡ firstFive W ++ closerWords W
   pub fills : nodeLength * firstSize (treesOf W) ≡ nodeLength
 
 abbrev pub onlyWords : List ℕ → List ℕ
-onlyWords W = listWords (operandOf (onlySeat (operatorOf (getD W 0 0))) (treesOf (drop nodeLength W)))
+onlyWords W = operandWritten (onlySeat (operatorOf (getD W 0 0))) (drop nodeLength W)
 
 pub record OneBelow (others : ℕ) (W : List ℕ) : Type 0 where
   pub shaped : Shaped 2 (suc others) (drop nodeLength W)
-  pub words : listWords (writtenTokens (treesOf W)) ≡ firstFive W ++ (onlyWords W ++ closerWords W)
+  pub words : nodeWritten W ≡ firstFive W ++ (onlyWords W ++ closerWords W)
   pub fills : nodeLength * firstSize (treesOf W) ≡ nodeLength + nodeLength * firstSize (treesOf (drop nodeLength W))
 
 abbrev pub leftWords : List ℕ → List ℕ
-leftWords W = listWords (operandOf (leftSeat (operatorOf (getD W 0 0))) (treesOf (drop nodeLength W)))
+leftWords W = operandWritten (leftSeat (operatorOf (getD W 0 0))) (drop nodeLength W)
 
 abbrev pub leftSize : List ℕ → ℕ
 leftSize W = nodeLength * firstSize (treesOf (drop nodeLength W))
@@ -135,12 +135,12 @@ abbrev pub rightPart : List ℕ → List ℕ
 rightPart W = drop (nodeLength + leftSize W) W
 
 abbrev pub rightWords : List ℕ → List ℕ
-rightWords W = listWords (operandOf (rightSeat (operatorOf (getD W 0 0))) (treesOf (rightPart W)))
+rightWords W = operandWritten (rightSeat (operatorOf (getD W 0 0))) (rightPart W)
 
 pub record TwoBelow (others : ℕ) (W : List ℕ) : Type 0 where
   pub left : Shaped 2 (suc (suc others)) (drop nodeLength W)
   pub right : Shaped 2 (suc others) (rightPart W)
-  pub words : listWords (writtenTokens (treesOf W)) ≡ leftWords W ++ (firstFive W ++ rightWords W)
+  pub words : nodeWritten W ≡ leftWords W ++ (firstFive W ++ rightWords W)
   pub fills : nodeLength * firstSize (treesOf W) ≡ nodeLength + leftSize W + nodeLength * firstSize (treesOf (rightPart W))
 
 first-size : (f : Forest) → firstSize f ≤ size f
@@ -191,7 +191,9 @@ module _ {others : ℕ} {W : List ℕ} (o : Opened 2 (suc others) W) where
   one-below e =
       let kid = one-kid (o .cs) (o .children ∙ e) in
       let trees : treesOf W ≡ node (o .k) (node (kid .x) (kid .xs) nil) (o .rest) = rw (← kid .is) (o .trees) in
-      let below : treesOf (drop nodeLength W) ≡ node (kid .x) (kid .xs) (o .rest) = o .below ∙ ap (λ (f : Forest). beside f (o .rest)) (kid .is) in
+      let below : treesOf (drop nodeLength W) ≡ node (kid .x) (kid .xs) (o .rest) =
+      o .below ∙ ap (λ (f : Forest). beside f (o .rest)) (kid .is)
+      in
       let same : lowOf (getD W countIndex 0) + o .others ≡ suc others = omega (arith, o .isTop) in
       record {
         shaped = rw same at (o .shaped);
@@ -226,7 +228,9 @@ module _ {others : ℕ} {W : List ℕ} (o : Opened 2 (suc others) W) where
       let y = kids .y in
       let ys = kids .ys in
       let trees : treesOf W ≡ node (o .k) (node x xs (node y ys nil)) (o .rest) = rw (← kids .is) (o .trees) in
-      let below : treesOf (drop nodeLength W) ≡ node x xs (node y ys (o .rest)) = o .below ∙ ap (λ (f : Forest). beside f (o .rest)) (kids .is) in
+      let below : treesOf (drop nodeLength W) ≡ node x xs (node y ys (o .rest)) =
+      o .below ∙ ap (λ (f : Forest). beside f (o .rest)) (kids .is)
+      in
       let same : lowOf (getD W countIndex 0) + o .others ≡ suc (suc others) = omega (arith, o .isTop) in
       let left : Shaped 2 (suc (suc others)) (drop nodeLength W) = rw same at (o .shaped) in
       let after = after-trees left (suc others) 1 (omega arith) in
@@ -260,7 +264,7 @@ module _ {others : ℕ} {W : List ℕ} (o : Opened 2 (suc others) W) where
 
   -- An operand: in an added pair, or as it is.
   pub paired-words : (p : Seat) → isPaired p (operatorOf (getD W 0 0)) (lowOf (getD W countIndex 0)) ≡ true
-      → listWords (operandOf p (treesOf W)) ≡ bracketWords 4 W ++ (listWords (writtenTokens (treesOf W)) ++ bracketWords 5 W)
+      → operandWritten p W ≡ bracketWords 4 W ++ (nodeWritten W ++ bracketWords 5 W)
   unfolding operandOf writtenTokens operandTokens
   paired-words p e =
       let paired : isPaired p (o .k .op) (count (o .cs)) ≡ true = rw (o .op, o .children) e in
@@ -276,7 +280,7 @@ module _ {others : ℕ} {W : List ℕ} (o : Opened 2 (suc others) W) where
       )
 
   pub unpaired-words : (p : Seat) → isPaired p (operatorOf (getD W 0 0)) (lowOf (getD W countIndex 0)) ≡ false
-      → listWords (operandOf p (treesOf W)) ≡ listWords (writtenTokens (treesOf W))
+      → operandWritten p W ≡ nodeWritten W
   unfolding operandOf writtenTokens operandTokens
   unpaired-words p e =
       let alone : isPaired p (o .k .op) (count (o .cs)) ≡ false = rw (o .op, o .children) e in

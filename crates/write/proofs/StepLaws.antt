@@ -13,7 +13,7 @@ use Rattle.words.specs.Records.{laidAt}
 use Rattle.write.specs.declared.plain.Seat.{Seat}
 use Rattle.write.specs.Seats.{isPaired, onlySeat, leftSeat, rightSeat}
 use Rattle.write.specs.Shaped.{nodeLength, countIndex, Shaped}
-use Rattle.write.specs.Spelling.{firstFive, bracketWords, closerWords, firstSize, operandOf, filledWords, Room}
+use Rattle.write.specs.Spelling.{firstFive, bracketWords, closerWords, firstSize, operandOf, filledWords, nodeWritten, operandWritten, Room}
 use Rattle.write.proofs.RowLaws.{Opened, opened, shaped-room}
 use Rattle.write.proofs.SpellLaws.{laid-length, laid-laid, first-within, none-below, OneBelow, one-below, onlyWords, TwoBelow, two-below, leftWords, leftSize, rightPart, rightWords, paired-words, unpaired-words}
 
@@ -52,7 +52,8 @@ puts-more to xs ys L room a b =
 puts-length : (to : ℕ) (xs L : List ℕ) {L1 : List ℕ} {to1 : ℕ} → to + length xs ≤ length L → Puts xs L to L1 to1 → length L1 ≡ length L
 puts-length to xs L room a = rw (a .0) (laid-length to xs L room)
 
-part-length : {most p : ℕ} {W l : List ℕ} → Shaped most p W → l ≡ take (nodeLength * firstSize (treesOf W)) W → length l ≡ nodeLength * firstSize (treesOf W)
+part-length : {most p : ℕ} {W l : List ℕ} → Shaped most p W → l ≡ take (nodeLength * firstSize (treesOf W)) W
+    → length l ≡ nodeLength * firstSize (treesOf W)
 part-length {W = W} s e = rw e (length-take-le (nodeLength * firstSize (treesOf W)) W (first-within s))
 
 -- One of three numbers.
@@ -86,10 +87,11 @@ module _ {W L : List ℕ} {to : ℕ} (r : Room writtenTokens W L to) where
         omega (arith, w1 .1, puts-length to (firstFive W) L (omega arith) w1)
 
     pub none-length : (L2 : List ℕ) (to2 : ℕ) → Puts (closerWords W) L1 to1 L2 to2 → length L2 ≡ length L
-    none-length L2 to2 w2 = puts-length to (firstFive W ++ closerWords W) L (none-room e) (puts-more to (firstFive W) (closerWords W) L (none-room e) w1 w2)
+    none-length L2 to2 w2 =
+        puts-length to (firstFive W ++ closerWords W) L (none-room e) (puts-more to (firstFive W) (closerWords W) L (none-room e) w1 w2)
 
     pub none-writes : (L2 : List ℕ) (to2 : ℕ) → Puts (closerWords W) L1 to1 L2 to2
-        → Writes (listWords (writtenTokens (treesOf W))) W L to (take nodeLength W) L2 to2
+        → Writes (nodeWritten W) W L to (take nodeLength W) L2 to2
     none-writes L2 to2 w2 =
         rw (none-below here e .words, none-below here e .fills) (refl, puts-more to (firstFive W) (closerWords W) L (none-room e) w1 w2)
 
@@ -103,15 +105,17 @@ module _ {W L : List ℕ} {to : ℕ} (r : Room writtenTokens W L to) where
   pub token-room : (lowOf (getD W countIndex 0) ≡ 2 → ⊥) → to + 5 ≤ length L
   unfolding firstFive
   token-room a =
-      or-not (lowOf (getD W countIndex 0)) (to + 5 ≤ length L) (λ e. omega (arith, none-room e, length-append (firstFive W) (closerWords W)))
+      or-not (lowOf (getD W countIndex 0)) (to + 5 ≤ length L)
+      (λ e. omega (arith, none-room e, length-append (firstFive W) (closerWords W)))
       (λ b. omega (arith, one-room (one-child a b), length-append (firstFive W) (onlyWords W ++ closerWords W)))
 
-  module _ (a : lowOf (getD W countIndex 0) ≡ 2 → ⊥) (b : lowOf (getD W countIndex 0) ≡ 0 → ⊥) {op : ℕ} (isOp : op ≡ operatorOf (getD W 0 0)) (p : Seat)
+  module _ (a : lowOf (getD W countIndex 0) ≡ 2 → ⊥) (b : lowOf (getD W countIndex 0) ≡ 0 → ⊥) {op : ℕ}
+      (isOp : op ≡ operatorOf (getD W 0 0)) (p : Seat)
       (isSeat : p ≡ onlySeat op) (L1 : List ℕ) (to1 : ℕ) (w1 : Puts (firstFive W) L to L1 to1) where
     one : OneBelow (r .others) W
     one = one-below here (one-child a b)
 
-    one-words : listWords (operandOf p (treesOf (tail nodeLength W))) ≡ onlyWords W
+    one-words : operandWritten p (tail nodeLength W) ≡ onlyWords W
     one-words = rw (isSeat, isOp, tail-part)
 
     pub one-only : Room (operandOf p) (tail nodeLength W) L1 to1
@@ -126,7 +130,8 @@ module _ {W L : List ℕ} {to : ℕ} (r : Room writtenTokens W L to) where
           room = rw one-words (omega (arith, w1 .1));
         }
 
-    module _ (l L2 : List ℕ) (to2 : ℕ) (w2 : Writes (listWords (operandOf p (treesOf (tail nodeLength W)))) (tail nodeLength W) L1 to1 l L2 to2) where
+    module _ (l L2 : List ℕ) (to2 : ℕ)
+        (w2 : Writes (operandWritten p (tail nodeLength W)) (tail nodeLength W) L1 to1 l L2 to2) where
       one-puts : Puts (firstFive W ++ onlyWords W) L to L2 to2
       one-puts =
           let all = one-room (one-child a b) in
@@ -146,7 +151,9 @@ module _ {W L : List ℕ} {to : ℕ} (r : Room writtenTokens W L to) where
       one-part : nodeLength + length l ≡ nodeLength * firstSize (treesOf W)
       one-part =
           let s : Shaped 2 (suc (r .others)) (tail nodeLength W) = rw (tail-part nodeLength W) (one .shaped) in
-          let same : nodeLength * firstSize (treesOf (tail nodeLength W)) ≡ nodeLength * firstSize (treesOf (drop nodeLength W)) = rw (tail-part nodeLength W) in
+          let same : nodeLength * firstSize (treesOf (tail nodeLength W)) ≡ nodeLength * firstSize (treesOf (drop nodeLength W)) =
+          rw (tail-part nodeLength W)
+          in
           omega (arith, part-length s (w2 .0), one .fills)
 
       pub one-end : nodeLength + length l ≤ length W
@@ -162,7 +169,7 @@ module _ {W L : List ℕ} {to : ℕ} (r : Room writtenTokens W L to) where
         pub one-length : length L3 ≡ length L
         one-length = puts-length to (firstFive W ++ (onlyWords W ++ closerWords W)) L (one-room (one-child a b)) one-all
 
-        pub one-writes : Writes (listWords (writtenTokens (treesOf W))) W L to (take (nodeLength + length l) W) L3 to3
+        pub one-writes : Writes (nodeWritten W) W L to (take (nodeLength + length l) W) L3 to3
         one-writes = rw (one .words, ← one-part) (refl, one-all)
 
   -- TWO CHILDREN: the left one, the token, the right one.
@@ -170,7 +177,7 @@ module _ {W L : List ℕ} {to : ℕ} (r : Room writtenTokens W L to) where
     two : TwoBelow (r .others) W
     two = two-below here e
 
-    left-words : listWords (operandOf p (treesOf (tail nodeLength W))) ≡ leftWords W
+    left-words : operandWritten p (tail nodeLength W) ≡ leftWords W
     left-words = rw (isSeat, isOp, tail-part)
 
     two-room : to + length (leftWords W ++ (firstFive W ++ rightWords W)) ≤ length L
@@ -179,9 +186,14 @@ module _ {W L : List ℕ} {to : ℕ} (r : Room writtenTokens W L to) where
     pub two-left : Room (operandOf p) (tail nodeLength W) L to
     two-left =
         let front = length-append (leftWords W) (firstFive W ++ rightWords W) in
-        record { others = suc (r .others); shaped = rw (tail-part nodeLength W) (two .left); room = rw left-words (omega (arith, two-room)) }
+        record {
+          others = suc (r .others);
+          shaped = rw (tail-part nodeLength W) (two .left);
+          room = rw left-words (omega (arith, two-room));
+        }
 
-    module _ (l L1 : List ℕ) (to1 : ℕ) (w1 : Writes (listWords (operandOf p (treesOf (tail nodeLength W)))) (tail nodeLength W) L to l L1 to1) where
+    module _ (l L1 : List ℕ) (to1 : ℕ)
+        (w1 : Writes (operandWritten p (tail nodeLength W)) (tail nodeLength W) L to l L1 to1) where
       left-puts : Puts (leftWords W) L to L1 to1
       left-puts = rw left-words at (w1 .1)
 
@@ -217,7 +229,7 @@ module _ {W L : List ℕ} {to : ℕ} (r : Room writtenTokens W L to) where
         there : tail (nodeLength + length l) W ≡ rightPart W
         there = tail-part (nodeLength + length l) W ∙ ap (λ (n : ℕ). drop (nodeLength + n) W) left-part
 
-        right-words : listWords (operandOf q (treesOf (tail (nodeLength + length l) W))) ≡ rightWords W
+        right-words : operandWritten q (tail (nodeLength + length l) W) ≡ rightWords W
         right-words = rw (isRight, isOp, there)
 
         pub two-right : Room (operandOf q) (tail (nodeLength + length l) W) L2 to2
@@ -233,7 +245,8 @@ module _ {W L : List ℕ} {to : ℕ} (r : Room writtenTokens W L to) where
             }
 
         module _ (m L3 : List ℕ) (to3 : ℕ)
-            (w3 : Writes (listWords (operandOf q (treesOf (tail (nodeLength + length l) W)))) (tail (nodeLength + length l) W) L2 to2 m L3 to3) where
+            (w3 : Writes (operandWritten q (tail (nodeLength + length l) W))
+            (tail (nodeLength + length l) W) L2 to2 m L3 to3) where
           two-all : Puts (leftWords W ++ (firstFive W ++ rightWords W)) L to L3 to3
           two-all =
               rw (← append-assoc (leftWords W) (firstFive W) (rightWords W))
@@ -243,7 +256,10 @@ module _ {W L : List ℕ} {to : ℕ} (r : Room writtenTokens W L to) where
           two-part : nodeLength + length l + length m ≡ nodeLength * firstSize (treesOf W)
           two-part =
               let s : Shaped 2 (suc (r .others)) (tail (nodeLength + length l) W) = rw there (two .right) in
-              let same : nodeLength * firstSize (treesOf (tail (nodeLength + length l) W)) ≡ nodeLength * firstSize (treesOf (rightPart W)) = rw there in
+              let same : nodeLength * firstSize (treesOf (tail (nodeLength + length l) W))
+              ≡ nodeLength * firstSize (treesOf (rightPart W)) =
+              rw there
+              in
               omega (arith, part-length s (w3 .0), left-part, two .fills)
 
           pub two-end : nodeLength + length l + length m ≤ length W
@@ -252,7 +268,7 @@ module _ {W L : List ℕ} {to : ℕ} (r : Room writtenTokens W L to) where
           pub two-length : length L3 ≡ length L
           two-length = puts-length to (leftWords W ++ (firstFive W ++ rightWords W)) L two-room two-all
 
-          pub two-writes : Writes (listWords (writtenTokens (treesOf W))) W L to (take (nodeLength + length l + length m) W) L3 to3
+          pub two-writes : Writes (nodeWritten W) W L to (take (nodeLength + length l + length m) W) L3 to3
           two-writes = rw (two .words, ← two-part) (refl, two-all)
 
 -- An operand that is to be written in its seat.
@@ -268,16 +284,16 @@ module _ {W L : List ℕ} {to : ℕ} (p : Seat) (r : Room (operandOf p) W L to) 
     pub alone-room : Room writtenTokens W L to
     alone-room = record { others = r .others; shaped = r .shaped; room = rw (← unpaired-words operand p alone) (r .room) }
 
-    pub alone-writes : (l L1 : List ℕ) (to1 : ℕ) → Writes (listWords (writtenTokens (treesOf W))) W L to l L1 to1
-        → Writes (listWords (operandOf p (treesOf W))) W L to l L1 to1
+    pub alone-writes : (l L1 : List ℕ) (to1 : ℕ) → Writes (nodeWritten W) W L to l L1 to1
+        → Writes (operandWritten p W) W L to l L1 to1
     alone-writes l L1 to1 w1 = rw (unpaired-words operand p alone) w1
 
   -- In an added pair.
   module _ (paired : isPaired p (operatorOf (getD W 0 0)) (lowOf (getD W countIndex 0)) ≡ true) where
     inner : List ℕ
-    inner = listWords (writtenTokens (treesOf W))
+    inner = nodeWritten W
 
-    pair-words : listWords (operandOf p (treesOf W)) ≡ bracketWords 4 W ++ (inner ++ bracketWords 5 W)
+    pair-words : operandWritten p W ≡ bracketWords 4 W ++ (inner ++ bracketWords 5 W)
     unfolding inner
     pair-words = paired-words operand p paired
 
@@ -297,7 +313,7 @@ module _ {W L : List ℕ} {to : ℕ} (p : Seat) (r : Room (operandOf p) W L to) 
           let list = puts-length to (bracketWords 4 W) L (omega (arith, pair-room)) w1 in
           record { others = r .others; shaped = r .shaped; room = omega (arith, pair-room, w1 .1) }
 
-      module _ (l L2 : List ℕ) (to2 : ℕ) (w2 : Writes (listWords (writtenTokens (treesOf W))) W L1 to1 l L2 to2) where
+      module _ (l L2 : List ℕ) (to2 : ℕ) (w2 : Writes (nodeWritten W) W L1 to1 l L2 to2) where
         inner-puts : Puts (bracketWords 4 W ++ inner) L to L2 to2
         unfolding inner
         inner-puts =
@@ -324,5 +340,5 @@ module _ {W L : List ℕ} {to : ℕ} (p : Seat) (r : Room (operandOf p) W L to) 
           pub pair-length : length L3 ≡ length L
           pair-length = puts-length to (bracketWords 4 W ++ (inner ++ bracketWords 5 W)) L pair-room pair-all
 
-          pub pair-writes : Writes (listWords (operandOf p (treesOf W))) W L to l L3 to3
+          pub pair-writes : Writes (operandWritten p W) W L to l L3 to3
           pair-writes = rw pair-words (w2 .0, pair-all)
