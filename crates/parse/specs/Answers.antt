@@ -1,5 +1,5 @@
--- What each case of the entry's answer says: document 01's values for a tree and for messages, and the number and place of a refusal. The call that
--- the entry is given, as the definition takes it.
+-- What each case of the entry's answer says: document 01's values for a tree and for messages, and the number and place of a refusal. The
+-- call that the entry is given, as the definition takes it.
 use Prim.Native.Nat.{ℕ}
 use mathlib.Core.List.{List}
 use lib.IntN.{ℤ}
