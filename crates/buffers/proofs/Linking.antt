@@ -1,5 +1,5 @@
--- Linked trees: which trees are linked from a slot on is said by the words; how a linked list is opened at its first node; and where linked trees
--- come from.
+-- Linked trees: which trees are linked from a slot on is said by the words; how a linked list is opened at its first node; and where linked
+-- trees come from.
 use Prim.Native.Nat.{ℕ, _≤_, _<_}
 use mathlib.Core.Path.{_≡_, refl, subst}
 use mathlib.Core.List.{List, [], _∷_}
@@ -22,7 +22,8 @@ linked-unique {W} {first} {hi} {hi'} {f} {g} v w =
 -- ---- where they come from
 
 -- a tree that has no sibling after it
-pub tree-linked : {W X : List ℕ} {b l m hi : ℕ} {t : Token} {k : Forest} → RepT W X b l m t k → nextAt W b ≡ 0 → m ≤ hi → Linked W b hi (node t k nil)
+pub tree-linked : {W X : List ℕ} {b l m hi : ℕ} {t : Token} {k : Forest} → RepT W X b l m t k → nextAt W b ≡ 0 → m ≤ hi
+    → Linked W b hi (node t k nil)
 tree-linked {X = X} {b} {l} v last h = record { X = X; bs = b ∷ []; lo = l; chain = (refl, v .pos, last); rep = tree-more (le-refl l) v (ends h) }
 
 -- the children of a slot
@@ -48,7 +49,8 @@ pub record Opened (W : List ℕ) (s hi : ℕ) (k : Token) (cs rest : Forest) : T
   pub children : Linked W (firstAt W s) hi cs
   pub after : Linked W (nextAt W s) hi rest
 
-opened : {W X bs : List ℕ} {s lo hi : ℕ} {k : Token} {cs rest : Forest} → Chain W s bs → RepF W X bs lo hi (node k cs rest) → Opened W s hi k cs rest
+opened : {W X bs : List ℕ} {s lo hi : ℕ} {k : Token} {cs rest : Forest} → Chain W s bs → RepF W X bs lo hi (node k cs rest)
+    → Opened W s hi k cs rest
 opened {X = X} ch (more {b = b} {bs = bs} {l = l} {m = m} {t = t} {k = j} {cs = cs} a c d z p tk n kids ks r) =
     let high = rep-le r in
     let pos = reserve-pos t j in

@@ -1,5 +1,5 @@
--- Loading: what one token's stores leave, the loop over the tokens, and THE LOADED LIST (`load-done`): leaves in three slots each are the forest
--- of the list's tokens, since a list without fault is the words of its tokens.
+-- Loading: what one token's stores leave, the loop over the tokens, and THE LOADED LIST (`load-done`): leaves in three slots each are the
+-- forest of the list's tokens, since a list without fault is the words of its tokens.
 use Prim.Native.Nat.{ℕ, zero, suc, _+_, _*_, _≤_, _<_}
 use mathlib.Core.Path.{_≡_, refl, sym, ap, _∙_}
 use mathlib.Core.Logic.{_≢_, _⊎_, inl, inr}
@@ -42,7 +42,8 @@ module _ (list W table : List ℕ) (i stack : ℕ) (p : CanLoadToken list W tabl
   -- The token's words laid down at its slot, and the slot put on the stack.
   pub token-stores : (W1 : List ℕ) (slot n op : ℕ) → slot ≡ 3 * i + 3
       → Laid W slot (tokenWordsAt list (5 * i)) n W1
-      → op ≡ operatorOf (wd list (5 * i)) → ((c : ℕ) → bitAt n c ≡ (bitAt (entryOf table op) c || bitAt (ownWord op) c)) → TokenLoaded list W i stack (set W1 (stack + i) slot)
+      → op ≡ operatorOf (wd list (5 * i)) → ((c : ℕ) → bitAt n c ≡ (bitAt (entryOf table op) c || bitAt (ownWord op) c))
+      → TokenLoaded list W i stack (set W1 (stack + i) slot)
   token-stores W1 slot n op e v eo noted =
       let bits : (c : ℕ) → bitAt n c ≡ inClass c op = λ c. noted c ∙ rw (p .classes) (leaf-bits op c) in
       let s = 3 * i + 3 in
@@ -84,7 +85,8 @@ pub load-in : {list W table : List ℕ} {n : ℕ} {Z : List ℕ} {i : ℕ} → C
     → CanLoadToken list Z table i (24 * n + 24)
 load-in p v h e = record { classes = e; few = omega (arith, p .few); within = omega (arith, p .tokens); below = omega arith; room = omega (arith, p .room, v .long) }
 
-leaf-keep : (list Z Z' : List ℕ) (j : ℕ) → ((o : ℕ) → o < slotWords → wd Z' (slotStart (3 * j + 3) + o) ≡ wd Z (slotStart (3 * j + 3) + o)) → LeafAt list Z j → LeafAt list Z' j
+leaf-keep : (list Z Z' : List ℕ) (j : ℕ) → ((o : ℕ) → o < slotWords → wd Z' (slotStart (3 * j + 3) + o) ≡ wd Z (slotStart (3 * j + 3) + o))
+    → LeafAt list Z j → LeafAt list Z' j
 leaf-keep list Z Z' j h v =
     record {
       words = λ o b. h o (omega arith) ∙ v .words o b;
@@ -92,7 +94,8 @@ leaf-keep list Z Z' j h v =
       classes = λ c. ap (λ (w : ℕ). bitAt w c) (h 7 (omega arith)) ∙ v .classes c;
     }
 
-pub load-step : {list W : List ℕ} {n : ℕ} {Z : List ℕ} {i : ℕ} {Z' : List ℕ} → LoadAt list W n Z i → i < n → TokenLoaded list Z i (24 * n + 24) Z'
+pub load-step : {list W : List ℕ} {n : ℕ} {Z : List ℕ} {i : ℕ} {Z' : List ℕ} → LoadAt list W n Z i → i < n
+    → TokenLoaded list Z i (24 * n + 24) Z'
     → LoadAt list W n Z' (i + 1)
 load-step {list} {W} {n} {Z} {i} {Z'} v h w =
     record {
@@ -122,7 +125,8 @@ slots-length i zero = refl
 slots-length i (suc n) = ap suc (slots-length (suc i) n)
 
 -- A leaf at its slot is the token k where the list's words from there on begin with those of k.
-leaf-token : (list W : List ℕ) (i : ℕ) (k : Token) (ks : List Token) → drop (5 * i) list ≡ listWords (k ∷ ks) → LegalTokens (k ∷ ks) → LeafAt list W i
+leaf-token : (list W : List ℕ) (i : ℕ) (k : Token) (ks : List Token) → drop (5 * i) list ≡ listWords (k ∷ ks) → LegalTokens (k ∷ ks)
+    → LeafAt list W i
     → TokenAt W (3 * i + 3) k
 unfolding listWords tokenWords
 leaf-token list W i k ks e (token legal later) v = record { words = λ o h. v .words o h ∙ sym (getD-drop (5 * i) list o 0) ∙ first-five o h; legal = legal }
@@ -135,13 +139,15 @@ leaf-token list W i k ks e (token legal later) v = record { words = λ o h. v .w
     first-five (suc (suc (suc (suc zero)))) h = rw e refl
     first-five (suc (suc (suc (suc (suc o))))) h = absurd (omega arith)
 
-drop-token : (list : List ℕ) (i : ℕ) (k : Token) (ks : List Token) → drop (5 * i) list ≡ listWords (k ∷ ks) → drop (5 * suc i) list ≡ listWords ks
+drop-token : (list : List ℕ) (i : ℕ) (k : Token) (ks : List Token) → drop (5 * i) list ≡ listWords (k ∷ ks)
+    → drop (5 * suc i) list ≡ listWords ks
 unfolding listWords tokenWords
 drop-token list i k ks e =
     let g : 5 * suc i ≡ 5 * i + 5 = omega arith in
     rw g (sym (drop-drop 5 (5 * i) list) ∙ ap (λ (l : List ℕ). drop 5 l) e)
 
-tokens-rep : (list W : List ℕ) (i : ℕ) (ks : List Token) → drop (5 * i) list ≡ listWords ks → LegalTokens ks → ((j : ℕ) → j < i + length ks → LeafAt list W j)
+tokens-rep : (list W : List ℕ) (i : ℕ) (ks : List Token) → drop (5 * i) list ≡ listWords ks → LegalTokens ks
+    → ((j : ℕ) → j < i + length ks → LeafAt list W j)
     → RepF W (0 ∷ []) (tokenSlots i (length ks)) (3 * i + 3) (3 * (i + length ks) + 3) (leaves ks)
 unfolding tokenSlots leaves
 tokens-rep list W i [] e noTokens h = let g : 3 * i + 3 ≤ 3 * (i + 0) + 3 = omega arith in ends g
@@ -173,5 +179,6 @@ load-done {list} {W} {n} {Z} {i} p v h =
     }
 
 -- What is loaded is a list under work.
-pub loaded-array : {list W : List ℕ} {n : ℕ} {W' : List ℕ} → Loaded list W n W' → InArray W' (0 ∷ []) (24 * n + 24) n 3 (3 * n + 3) (leaves (tokensOf list))
+pub loaded-array : {list W : List ℕ} {n : ℕ} {W' : List ℕ} → Loaded list W n W'
+    → InArray W' (0 ∷ []) (24 * n + 24) n 3 (3 * n + 3) (leaves (tokensOf list))
 loaded-array {n = n} v = record { bs = tokenSlots 0 n; seg = v .seg; count = sym (slots-length 0 n); rep = v .rep }

@@ -7,7 +7,7 @@ use lib.ListN.{length}
 use Rattle.molang.specs.Forest.{Token}
 use Rattle.molang.specs.Words.{word, tokenWords}
 use Rattle.words.specs.Records.{laidAt}
-use Rattle.words.specs.Tokens.{tokenWordsAt, nodeWords}
+use Rattle.words.specs.Tokens.{tokenWordsAt, nodeLength, nodeWords}
 use Rattle.words.proofs.LaidLaws.{laid-long, laid-in, laid-out}
 use Rattle.nodes.specs.Store.{slotStart, firstAt, TokenAt, Seg}
 use Rattle.nodes.specs.Children.{Counted}
@@ -27,14 +27,18 @@ node-emitted W W' s at n p counted e =
       long = rw e (laid-long ws W at (p .room));
     }
 
--- Of a slot that holds the token k they are the words of k and of its child count.
+-- The words of a node of the token k with n children, as `treeWords` of the definition has them.
+abbrev pub headWords : Token → ℕ → List ℕ
+headWords k n = tokenWords k ++ (word 6 n ∷ [])
+
+-- For a slot that holds the token k they are these.
 pub token-words : (W : List ℕ) (s : ℕ) (k : Token) (n : ℕ) → TokenAt W s k → n < 2 ^ 14
-    → nodeWords (tokenWordsAt W (slotStart s)) n ≡ tokenWords k ++ (word 6 n ∷ [])
+    → nodeWords (tokenWordsAt W (slotStart s)) n ≡ headWords k n
 unfolding tokenWords
 token-words W s k n t few =
     let small : n % 2 ^ 14 ≡ n = omega arith in
     rw (operator-word t, start-word t, end-word t, upper-word t, lower-word t, small) refl
 
-pub six-long : (k : Token) (n : ℕ) → length (tokenWords k ++ (word 6 n ∷ [])) ≡ 6
+pub head-long : (k : Token) (n : ℕ) → length (headWords k n) ≡ nodeLength
 unfolding tokenWords
-six-long k n = refl
+head-long k n = refl

@@ -8,7 +8,7 @@ use lib.ListN.{length, set}
 use Rattle.molang.specs.Forest.{Forest, size}
 use Rattle.molang.specs.Words.{treeWords}
 use Rattle.molang.specs.Parse.{mostTokens, inFront}
-use Rattle.words.specs.Tokens.{tokenWordsAt, nodeWords}
+use Rattle.words.specs.Tokens.{tokenWordsAt, nodeLength, nodeWords}
 use Rattle.nodes.specs.Store.{wd, slotStart, slotEnd, firstAt, nextAt, Chain, Seg, RepF}
 use Rattle.nodes.specs.Children.{CanFollow}
 
@@ -22,16 +22,16 @@ pub record Linked (W : List ℕ) (first hi : ℕ) (f : Forest) : Type 0 where
 
 -- ---- `emit_node`
 
--- The slot s lies below the word `at`, from which on six words are free; its children are a chain.
+-- The slot s lies below the word `at`, from which on the words of a node are free; its children are a chain.
 pub record CanEmitNode (W : List ℕ) (s at : ℕ) : Type 0 where
   pub below : slotEnd s ≤ at
-  pub room : at + 6 ≤ length W
+  pub room : at + nodeLength ≤ length W
   pub children : CanFollow W (firstAt W s)
 
 -- The node's words stand from `at` on; all other words are as they were.
 pub record NodeEmitted (W : List ℕ) (s at : ℕ) (W' : List ℕ) : Type 0 where
   pub words : (cs : List ℕ) → Chain W (firstAt W s) cs → Seg W' at (nodeWords (tokenWordsAt W (slotStart s)) (length cs))
-  pub same : (j : ℕ) → (j < at) ⊎ (at + 6 ≤ j) → wd W' j ≡ wd W j
+  pub same : (j : ℕ) → (j < at) ⊎ (at + nodeLength ≤ j) → wd W' j ≡ wd W j
   pub long : length W' ≡ length W
 
 -- ---- `node_after`
@@ -47,17 +47,18 @@ pub data Stepped (W : List ℕ) (s stack top : ℕ) : ℕ → ℕ → List ℕ �
 
 -- ---- `emit`
 
--- The trees stand below the stack; the stack has a word for each node, and there is room for six from `to` on.
+-- The trees stand below the stack; the stack has a word for each node, and there is room for their words from `to` on.
 pub record CanEmit (W : List ℕ) (first to stack : ℕ) : Type 0 where
   pub hi : ℕ
   pub trees : Forest
   pub linked : Linked W first hi trees
   pub below : slotStart hi ≤ stack
   pub spare : stack + size trees ≤ to
-  pub room : to + 6 * size trees ≤ length W
+  pub room : to + nodeLength * size trees ≤ length W
   pub few : size trees < 2 ^ 14
 
--- The trees' words stand from `to` on; r is the number of their nodes.
+-- The trees' words stand from `to` on; r is the number of their nodes. The words below the stack are as they were. Left free are the words
+-- between, where siblings waited, and those after the trees' words.
 pub record Emitted (W : List ℕ) (first to stack r : ℕ) (W' : List ℕ) : Type 0 where
   pub count : (hi : ℕ) (f : Forest) → Linked W first hi f → r ≡ size f
   pub words : (hi : ℕ) (f : Forest) → Linked W first hi f → Seg W' to (treeWords f)
@@ -75,7 +76,8 @@ pub record CanLayOut (W buffer : List ℕ) (root n : ℕ) : Type 0 where
   pub work-room : 64 * n + 64 ≤ length W
   pub tree-room : 18 * n ≤ length buffer
 
--- The trees' words are the front of the tree buffer; the slots are as they were.
+-- The trees' words are the front of the tree buffer; the slots are as they were. The words above them, where the trees were laid out, are
+-- left free.
 pub record LaidOut (W buffer : List ℕ) (root n r : ℕ) (W' buffer' : List ℕ) : Type 0 where
   pub count : (f : Forest) → Linked W root (3 * n + 3) f → r ≡ size f
   pub words : (f : Forest) → Linked W root (3 * n + 3) f → buffer' ≡ inFront (treeWords f) buffer

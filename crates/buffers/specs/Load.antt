@@ -1,4 +1,5 @@
--- What loading asks and ensures: each token of a list without fault stands as a leaf at its slot, and the slots stand on the stack in the list's order.
+-- What loading asks and ensures: each token of a list without fault stands as a leaf at its slot, and the slots stand on the stack in the
+-- list's order.
 use Prim.Native.Nat.{ℕ, zero, suc, _+_, _*_, _≤_, _<_}
 use mathlib.Core.Path.{_≡_}
 use mathlib.Core.Logic.{_≢_, _⊎_}

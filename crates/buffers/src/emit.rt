@@ -57,8 +57,8 @@ fn node_after(work: &mut [u32], s: u32, stack: usize, top: usize) -> After
     }
 }
 
-// Writes the trees of the chain from `first` on, each parent before its children, to the words from `to` on; their number of
-// nodes. Siblings that wait stand in the words from `stack` on.
+// Writes the trees of the chain from `first` on, each parent before its children, to the words from `to` on, and gives
+// back their number of nodes. Siblings that wait stand in the words from `stack` on.
 pub fn emit(work: &mut [u32], first: u32, to: usize, stack: usize) -> usize
     requires { ⌜ CanEmit (now work) first to stack ⌝ }
     ensures { λ r. ⌜ Emitted (now (work .entry)) first to stack r (now (work .exit)) ⌝ }
@@ -101,7 +101,7 @@ pub fn tree_of(n: usize) -> usize
     28 * n + 28
 }
 
-// The words of the tree at `root`, which has no sibling after it, become the front of the tree buffer; its number of nodes.
+// The words of the tree at `root`, which has no sibling after it, become the front of the tree buffer; gives back its number of nodes.
 pub fn lay_out(work: &mut [u32], tree: &mut [u32], root: u32, n: usize) -> usize
     requires { ⌜ CanLayOut (now work) (now tree) root n ⌝ }
     ensures { λ r. ⌜ LaidOut (now (work .entry)) (now (tree .entry)) root n r (now (work .exit)) (now (tree .exit)) ⌝ }

@@ -161,7 +161,7 @@ highest-few countField m (w ∷ ws) h = highest-few operatorField m ws h
 pub exact-few : (low high : ℕ) (ws : List ℕ) → ((n : ℕ) → inHalves low high n ≡ named operatorField ws n) → high * 2 ^ 64 + low < 2 ^ 111
 exact-few low high ws exactly = used-few low high (λ n above. exactly n ∙ named-few operatorField ws n above)
 
--- OF A LEGAL LIST they are the tokens' operators and their highest end.
+-- FOR A LEGAL LIST they are the tokens' operators and their highest end.
 pub record OfTokens (m : ℕ) (ws : List ℕ) : Type 0 where
   pub operators : (n : ℕ) → named operatorField ws n ≡ uses (tokensOf ws) n
   pub end : highest operatorField m ws ≡ highestEnd m (leaves (tokensOf ws))

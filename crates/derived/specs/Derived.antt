@@ -1,5 +1,5 @@
--- The exact used set and the highest span end of token words (document 01, end of 'Lists and their trees'). Each word is judged by itself, at
--- its position in its token: one that answers 8-11 counts for neither, wherever it stands and whatever stands beside it.
+-- The exact used set and the highest span end of token words (document 01, end of 'Lists and their trees'). Each word is judged by itself,
+-- at its position in its token: one that answers 8-11 counts for neither, wherever it stands and whatever stands beside it.
 use Prim.Native.Nat.{ℕ, _%_, _^_, max}
 use mathlib.Core.Bool.{Bool, false, _||_}
 use mathlib.Core.List.{List, [], _∷_}

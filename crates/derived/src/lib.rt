@@ -1,5 +1,6 @@
 // What a caller of the entry has to bring along: the exact used set of a list of token words, the highest span end among them, and a
-// version. A word that the entry would turn back counts for neither of the first two. Leans on words and ops; specs/Derived says which words count.
+// version. A word that the entry would turn back counts for neither of the first two. Leans on words and ops; specs/Derived says which
+// words count.
 use ops::sets::OpSet;
 use words::checks::Word;
 use words::checks::operator_word;
@@ -75,7 +76,7 @@ pub fn highest_end(list: &[u32]) -> u32
     ensures { λ r. ⌜ r ≡ highest operatorField 0 (now (list .entry)) ⌝ }
 {
     let mut end = 0u32;
-    let mut i = 2usize;
+    let mut i = fields::END_FIELD;
     while i < list.len() {
         end = higher(end, list[i]);
         i += fields::TOKEN_WORDS;

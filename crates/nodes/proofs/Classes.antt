@@ -1,5 +1,5 @@
--- Noted classes: what a leaf notes, what a node notes of what it is given, and that a set of classes which is tested against a node's word is
--- tested against every leaf below it (`notes-meet`).
+-- Noted classes: what a leaf notes, what a node notes of what it is given, and that a set of classes which is tested against a node's word
+-- is tested against every leaf below it (`notes-meet`).
 use Prim.Native.Nat.{ℕ, zero, suc, _≤_, _<_}
 use mathlib.Core.Path.{_≡_, refl, sym, ap, ap₂, _∙_}
 use mathlib.Core.Bool.{Bool, true, false, _||_, _&&_, not, and-true, and-comm, and-or-distrib-right, Bool·not-not as not-not}
@@ -128,7 +128,8 @@ module _ (c : ℕ) where
       ∙ ap₂ (λ (x : Bool) (y : Bool). x || y) (hits-free P h (node d ds r) (l .1)) (hits-free P h rest (l .2))
       ∙ sym (not-and (free P (node d ds r)) (free P rest))
 
--- A set of classes c that stands for the operators P shares a class with what a forest notes exactly where some leaf of the forest passes P.
+-- A set of classes c that stands for the operators P shares a class with what a forest notes exactly where some leaf of the forest passes
+-- P.
 pub notes-meet : {w : ℕ} {f : Forest} (c : ℕ) (P : ℕ → Bool) → ((n : ℕ) → n ≤ 110 → meets c n ≡ P n) → Notes w f → AllLegal f
     → shares w c ≡ not (free P f)
 unfolding shares hits

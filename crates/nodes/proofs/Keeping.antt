@@ -1,5 +1,6 @@
--- THE FRAME LAWS: a function that works on one list changes only the free slots of the list's interval, those of its ancestors not, and words of the
--- stack from some place on. What stands beside the interval, the ancestors' own slots and the stack below that place are as they were.
+-- THE FRAME LAWS: a function that works on one list changes only the free slots of the list's interval, those of its ancestors not, and
+-- words of the stack from some place on. What stands beside the interval, the ancestors' own slots and the stack below that place are as
+-- they were.
 use Prim.Native.Nat.{ℕ, _+_, _-_, _≤_, _<_}
 use mathlib.Core.Path.{_≡_, _∙_}
 use mathlib.Core.Logic.{_⊎_, inl, inr, ⊎-elim}
@@ -38,25 +39,30 @@ free-part X lo hi l m j low high f s o a b c d = f s o (omega arith) (omega arit
 pub kept-then : (W W' W'' X : List ℕ) (lo hi a b : ℕ) → Kept W W' X lo hi a b → Kept W' W'' X lo hi a b → Kept W W'' X lo hi a b
 kept-then W W' W'' X lo hi a b f g j h o = g j h o ∙ f j h o
 
-pub kept-part : (W W' X : List ℕ) (lo hi l m a b a' b' : ℕ) → lo ≤ l → m ≤ hi → a' ≤ a → b ≤ b' → Kept W W' X l m a b → Kept W W' X lo hi a' b'
+pub kept-part : (W W' X : List ℕ) (lo hi l m a b a' b' : ℕ) → lo ≤ l → m ≤ hi → a' ≤ a → b ≤ b' → Kept W W' X l m a b
+    → Kept W W' X lo hi a' b'
 kept-part W W' X lo hi l m a b a' b' low high low' high' f j h o =
     f j (free-part X lo hi l m j low high h) (⊎-elim (λ x. inl (omega arith)) (λ x. inr (omega arith)) o)
 
 -- ---- what stays, of a change that keeps all words below `top` but the free slots
 
 module _ (W W' X : List ℕ) (lo hi top : ℕ) (same : (j : ℕ) → Free X lo hi j → j < top → wd W' j ≡ wd W j) where
-  slot-beside : (a b s o : ℕ) → a ≤ s → s < b → o < slotWords → slotStart b ≤ top → (b ≤ lo) ⊎ (hi ≤ a) → wd W' (slotStart s + o) ≡ wd W (slotStart s + o)
+  slot-beside : (a b s o : ℕ) → a ≤ s → s < b → o < slotWords → slotStart b ≤ top → (b ≤ lo) ⊎ (hi ≤ a)
+      → wd W' (slotStart s + o) ≡ wd W (slotStart s + o)
   slot-beside a b s o x y z h e =
       same (slotStart s + o) (free-beside X lo hi s o z (⊎-elim (λ u. inl (omega arith)) (λ u. inr (omega arith)) e)) (omega arith)
 
   -- what stands beside the interval
-  pub rep-beside : {Y : List ℕ} {a b : ℕ} {cs : List ℕ} {f : Forest} → slotStart b ≤ top → (b ≤ lo) ⊎ (hi ≤ a) → RepF W Y cs a b f → RepF W' Y cs a b f
+  pub rep-beside : {Y : List ℕ} {a b : ℕ} {cs : List ℕ} {f : Forest} → slotStart b ≤ top → (b ≤ lo) ⊎ (hi ≤ a) → RepF W Y cs a b f
+      → RepF W' Y cs a b f
   rep-beside {a = a} {b} h e r = rep-keep W W' (λ s o x y z p n. slot-beside a b s o x y z h e) r
 
-  pub tree-beside : {Y : List ℕ} {b l m : ℕ} {t : Token} {k : Forest} → slotStart m ≤ top → (m ≤ lo) ⊎ (hi ≤ l) → RepT W Y b l m t k → RepT W' Y b l m t k
+  pub tree-beside : {Y : List ℕ} {b l m : ℕ} {t : Token} {k : Forest} → slotStart m ≤ top → (m ≤ lo) ⊎ (hi ≤ l) → RepT W Y b l m t k
+      → RepT W' Y b l m t k
   tree-beside {l = l} {m} h e v = tree-keep W W' (λ s o x y z p n. slot-beside l m s o x y z h e) v
 
-  pub back-beside : {Y : List ℕ} {a b : ℕ} {ds : List ℕ} {d : Forest} → slotStart b ≤ top → (b ≤ lo) ⊎ (hi ≤ a) → RepB W Y ds a b d → RepB W' Y ds a b d
+  pub back-beside : {Y : List ℕ} {a b : ℕ} {ds : List ℕ} {d : Forest} → slotStart b ≤ top → (b ≤ lo) ⊎ (hi ≤ a) → RepB W Y ds a b d
+      → RepB W' Y ds a b d
   back-beside {a = a} {b} h e r = back-keep W W' (λ s o x y z p n. slot-beside a b s o x y z h e) r
 
 -- ---- what the functions keep

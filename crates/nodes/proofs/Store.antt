@@ -1,5 +1,5 @@
--- Forests in the work buffer: where their roots stand, how intervals widen, and THE AGREEMENT LAW (`rep-keep`, `tree-keep`, `back-keep`): words that
--- agree on the slots of the interval, those of the ancestors and the roots' `next` words aside, keep a forest as it is.
+-- Forests in the work buffer: where their roots stand, how intervals widen, and THE AGREEMENT LAW (`rep-keep`, `tree-keep`, `back-keep`):
+-- words that agree on the slots of the interval, those of the ancestors and the roots' `next` words aside, keep a forest as it is.
 use Prim.Native.Nat.{ℕ, suc, _+_, _≤_, _<_}
 use mathlib.Core.Path.{_≡_, refl, ap, _∙_, subst}
 use mathlib.Core.Logic.{_≢_, _⊎_, inl, inr, ⊎-elim}
@@ -228,7 +228,8 @@ unfolding count
 back-count (begins e) = refl
 back-count (put r t h) = ap suc (back-count r)
 
-pub back-keep : (W W' : List ℕ) {X ds : List ℕ} {lo hi : ℕ} {d : Forest} → Agree W W' X ds lo hi → RepB W X ds lo hi d → RepB W' X ds lo hi d
+pub back-keep : (W W' : List ℕ) {X ds : List ℕ} {lo hi : ℕ} {d : Forest} → Agree W W' X ds lo hi → RepB W X ds lo hi d
+    → RepB W' X ds lo hi d
 back-keep W W' h (begins e) = begins e
 back-keep W W' h (put r t e) =
     let g = back-le r in

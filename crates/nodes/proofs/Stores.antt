@@ -39,9 +39,11 @@ module _ (W W1 W2 W3 : List ℕ) (p c x : ℕ) (own : slotEnd p ≤ length W) (c
         long = n3 ∙ n2 ∙ n1;
       }
 
-module _ (W W1 W2 W3 W4 : List ℕ) (p l r x y z : ℕ) (own : slotEnd p ≤ length W) (left : slotEnd l ≤ length W) (right : slotEnd r ≤ length W) (apart : l ≢ r)
+module _ (W W1 W2 W3 W4 : List ℕ) (p l r x y z : ℕ) (own : slotEnd p ≤ length W) (left : slotEnd l ≤ length W)
+    (right : slotEnd r ≤ length W) (apart : l ≢ r)
     (e1 : W1 ≡ set W (firstWord p) l) (e2 : W2 ≡ set W1 (nextWord l) r) (e3 : W3 ≡ set W2 (nextWord r) 0)
-    (ex : x ≡ classesAt W3 l) (ey : y ≡ classesAt W3 r) (ez : (i : ℕ) → bitAt z i ≡ (bitAt x i || bitAt y i)) (e4 : W4 ≡ set W3 (classesWord p) z) where
+    (ex : x ≡ classesAt W3 l) (ey : y ≡ classesAt W3 r) (ez : (i : ℕ) → bitAt z i ≡ (bitAt x i || bitAt y i))
+    (e4 : W4 ≡ set W3 (classesWord p) z) where
   pub attach-two-words : AttachedTwo W p l r W4
   attach-two-words =
       let n1 = set-long W W1 (firstWord p) l e1 in
@@ -70,7 +72,8 @@ module _ (W W1 W2 W3 W4 : List ℕ) (p l r x y z : ℕ) (own : slotEnd p ≤ len
 abbrev leafWords : TokenWords → ℕ → List ℕ
 leafWords k n = k .operator ∷ k .start ∷ k .end ∷ k .upper ∷ k .lower ∷ 0 ∷ 0 ∷ n ∷ []
 
-module _ (W W1 : List ℕ) (s : ℕ) (k : TokenWords) (n : ℕ) (room : slotEnd s ≤ length W) (e : W1 ≡ laidAt (slotStart s) (fiveWords k) W) where
+module _ (W W1 : List ℕ) (s : ℕ) (k : TokenWords) (n : ℕ) (room : slotEnd s ≤ length W)
+    (e : W1 ≡ laidAt (slotStart s) (fiveWords k) W) where
   laid-leaf : set (set (set W1 (firstWord s) 0) (nextWord s) 0) (classesWord s) n ≡ laidAt (slotStart s) (leafWords k n) W
   laid-leaf =
       let at = slotStart s in
@@ -107,7 +110,8 @@ module _ (W W1 : List ℕ) (s : ℕ) (k : TokenWords) (n : ℕ) (room : slotEnd 
 abbrev pub frameWords : WorkList → Held → List ℕ
 frameWords l h = l .owner ∷ l .base ∷ l .read ∷ l .write ∷ h .first ∷ h .second ∷ []
 
-module _ (W W' : List ℕ) (l : WorkList) (h : Held) (room : l .base + l .len + 6 ≤ length W) (e : W' ≡ laidAt (l .base + l .len) (frameWords l h) W) where
+module _ (W W' : List ℕ) (l : WorkList) (h : Held) (room : l .base + l .len + 6 ≤ length W)
+    (e : W' ≡ laidAt (l .base + l .len) (frameWords l h) W) where
   pub pushed-words : Pushed W l h (l .base + l .len + 6) W'
   pushed-words =
       let ws = frameWords l h in

@@ -1,5 +1,6 @@
--- The loops that follow a chain: `take_chain` copies it, `count_chain` counts it, `last_of_chain` ends at its last slot. Each has what holds at its
--- test (an `..At` record over the part that is passed and the part that is left), its start, what a turn asks, a turn, and the end.
+-- The loops that follow a chain: `take_chain` copies it, `count_chain` counts it, `last_of_chain` ends at its last slot. Each has what
+-- holds at its test (an `..At` record over the part that is passed and the part that is left), its start, what a turn asks, a turn, and the
+-- end.
 use Prim.Native.Nat.{ℕ, _+_, _-_, _≤_, _<_}
 use mathlib.Core.Path.{_≡_, refl, sym, ap, _∙_, subst}
 use mathlib.Core.Logic.{_≢_, _⊎_, inl, inr}
@@ -61,7 +62,8 @@ out-step : (W Z : List ℕ) (to i s : ℕ) → to ≤ i → ((j : ℕ) → (j < 
 out-step W Z to i s b h j (inl o) = wd-other Z i s j (omega arith) ∙ h j (inl o)
 out-step W Z to i s b h j (inr o) = wd-other Z i s j (omega arith) ∙ h j (inr (omega arith))
 
-pub take-step : {W : List ℕ} {first to : ℕ} {Z : List ℕ} {s i : ℕ} {done : List ℕ} (left : List ℕ) → TakeAt W first to Z s i done left → s ≢ 0
+pub take-step : {W : List ℕ} {first to : ℕ} {Z : List ℕ} {s i : ℕ} {done : List ℕ} (left : List ℕ) → TakeAt W first to Z s i done left
+    → s ≢ 0
     → Taking W first to (set Z i s) (nextAt (set Z i s) s) (i + 1)
 take-step [] v n = absurd (n (v .chain))
 take-step {W} {first} {to} {Z} {s} {i} {done} (c ∷ left) v n =
@@ -88,7 +90,8 @@ take-step {W} {first} {to} {Z} {s} {i} {done} (c ∷ left) v n =
       },
     )
 
-pub take-done : {W : List ℕ} {first to : ℕ} {Z : List ℕ} {s i : ℕ} {done : List ℕ} (left : List ℕ) → TakeAt W first to Z s i done left → s ≡ 0
+pub take-done : {W : List ℕ} {first to : ℕ} {Z : List ℕ} {s i : ℕ} {done : List ℕ} (left : List ℕ) → TakeAt W first to Z s i done left
+    → s ≡ 0
     → Taken W first to (i - to) Z
 take-done {W} {first} {to} {Z} {s} {i} {done} [] v n =
     let whole : Chain W first done = rw append-nil at (v .whole) in

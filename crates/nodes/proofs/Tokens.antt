@@ -1,5 +1,5 @@
--- A slot's five token words, said of its token: what the fields are read from, that the words say which token it is, and what becomes of the
--- token where some of the words are written.
+-- A slot's five token words, said of its token: what the fields are read from, that the words say which token it is, and what becomes of
+-- the token where some of the words are written.
 use Prim.Native.Nat.{ℕ, zero, suc, _+_, _*_, _/_, _%_, _^_, _≤_, _<_}
 use mathlib.Core.Path.{_≡_, refl, sym, _∙_}
 use mathlib.Core.List.{List}
@@ -14,7 +14,8 @@ use Rattle.nodes.specs.Store.{wd, slotStart, slotEnd, operatorWordAt, st
 use Rattle.nodes.specs.Slots.{opAt, startAt, endAt, Made}
 use Rattle.nodes.proofs.Runs.{set-same, set-other}
 
-pub token-keep : (W W' : List ℕ) (b : ℕ) {k : Token} → ((o : ℕ) → o < 5 → wd W' (slotStart b + o) ≡ wd W (slotStart b + o)) → TokenAt W b k → TokenAt W' b k
+pub token-keep : (W W' : List ℕ) (b : ℕ) {k : Token} → ((o : ℕ) → o < 5 → wd W' (slotStart b + o) ≡ wd W (slotStart b + o)) → TokenAt W b k
+    → TokenAt W' b k
 token-keep W W' b h t = record { words = λ o w. h o w ∙ t .words o w; legal = t .legal }
 
 -- ---- the words of a token, one by one
@@ -106,7 +107,8 @@ unfolding word withOperator
 renamed-word v o p a b = omega arith
 
 -- `set_operator` renames the token
-pub token-renamed : (W W' : List ℕ) (s o : ℕ) {k : Token} → W' ≡ set W (slotStart s) (withOperator (operatorWordAt W s) o) → slotEnd s ≤ length W → o ≤ 110
+pub token-renamed : (W W' : List ℕ) (s o : ℕ) {k : Token} → W' ≡ set W (slotStart s) (withOperator (operatorWordAt W s) o)
+    → slotEnd s ≤ length W → o ≤ 110
     → TokenAt W s k → TokenAt W' s (renamed o k)
 unfolding renamed
 token-renamed W W' s o {k} e room h t =

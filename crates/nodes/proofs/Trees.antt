@@ -1,5 +1,5 @@
--- What the functions do to the words, said of trees: a leaf laid down, a tree put under a node, two trees, a whole list given to its owner or taken
--- from it; and what the tests of a slot say of its tree.
+-- What the functions do to the words, said of trees: a leaf laid down, a tree put under a node, two trees, a whole list given to its owner
+-- or taken from it; and what the tests of a slot say of its tree.
 use Prim.Native.Nat.{ℕ, _+_, _≤_, _<_}
 use mathlib.Core.Path.{_≡_, sym, _∙_, subst}
 use mathlib.Core.Logic.{_≢_, _⊎_, inl, inr, ⊎-elim}
@@ -28,7 +28,8 @@ pub one-out : (q : ℕ) (X : List ℕ) → Out q X → OutFrom q 1 X
 one-out q X o s a b = let e : q ≡ s = omega arith in subst (λ (x : ℕ). Out x X) e o
 
 -- what stands beside the slot q can stand below it
-pub tree-under : {W X : List ℕ} (q : ℕ) {b l m : ℕ} {t : Token} {k : Forest} → (q < l) ⊎ (m ≤ q) → RepT W X b l m t k → RepT W (q ∷ X) b l m t k
+pub tree-under : {W X : List ℕ} (q : ℕ) {b l m : ℕ} {t : Token} {k : Forest} → (q < l) ⊎ (m ≤ q) → RepT W X b l m t k
+    → RepT W (q ∷ X) b l m t k
 tree-under q (inl h) v = tree-avoid (λ s x y o. (omega arith, o)) v
 tree-under q (inr h) v = tree-avoid (λ s x y o. (omega arith, o)) v
 
@@ -107,7 +108,8 @@ module _ {W W' X : List ℕ} {q b c lo l m l' m' hi : ℕ} {t u : Token} {k j : 
 
 -- ---- a list given to its owner
 
-module _ {W W' X : List ℕ} {q from n lo hi : ℕ} {bs : List ℕ} {f : Forest} (w : Given W q from n W') (g : Seg W from bs) (e : length bs ≡ n) (r : RepF W (q ∷ X) bs lo hi f) where
+module _ {W W' X : List ℕ} {q from n lo hi : ℕ} {bs : List ℕ} {f : Forest} (w : Given W q from n W') (g : Seg W from bs) (e : length bs ≡ n)
+    (r : RepF W (q ∷ X) bs lo hi f) where
   pub give-owned : Owned W' X q lo hi f
   give-owned =
       record {
@@ -127,7 +129,8 @@ pub array-give : {W X : List ℕ} {q at n lo hi : ℕ} {f : Forest} → InArray 
 array-give {hi = hi} v own below room =
     record { hi = hi; cs = v .bs; seg = v .seg; count = sym (v .count); inc = roots-above (v .rep) (omega arith); own = own; below = below; room = room }
 
-pub array-owned : {W W' X : List ℕ} {q at n lo hi : ℕ} {f : Forest} → Given W q at n W' → InArray W (q ∷ X) at n lo hi f → Owned W' X q lo hi f
+pub array-owned : {W W' X : List ℕ} {q at n lo hi : ℕ} {f : Forest} → Given W q at n W' → InArray W (q ∷ X) at n lo hi f
+    → Owned W' X q lo hi f
 array-owned w v = give-owned w (v .seg) (sym (v .count)) (v .rep)
 
 -- what is done, the last first, is an array in order
@@ -145,7 +148,8 @@ owned-tree {X = X} {q = q} {o = o} token pos out low high v =
     record { cs = v .cs; low = low; high = omega arith; pos = pos; out = one-out q X out; token = token; noted = notes-over o (v .notes); chain = v .chain; kids = v .kids }
 
 -- an owner that was given nothing is a leaf of no class
-pub owned-leaf : {W X : List ℕ} {q lo hi : ℕ} {o : Token} → TokenAt W q o → 0 < q → OutFrom q (reserve o nil) X → lo ≤ q → q + reserve o nil ≤ hi
+pub owned-leaf : {W X : List ℕ} {q lo hi : ℕ} {o : Token} → TokenAt W q o → 0 < q → OutFrom q (reserve o nil) X → lo ≤ q
+    → q + reserve o nil ≤ hi
     → ((i : ℕ) → i < 32 → inClass i (o .op) ≡ false) → Owned W X q lo hi nil → RepT W X q lo hi o nil
 unfolding free
 owned-leaf {o = o} token pos out low high h v =
@@ -162,12 +166,14 @@ owned-leaf {o = o} token pos out low high h v =
     }
 
 -- a tree with children owns them
-pub tree-owned : {W X : List ℕ} {q lo hi : ℕ} {o c : Token} {cs r : Forest} → RepT W X q lo hi o (node c cs r) → Owned W X q lo hi (node c cs r)
+pub tree-owned : {W X : List ℕ} {q lo hi : ℕ} {o c : Token} {cs r : Forest} → RepT W X q lo hi o (node c cs r)
+    → Owned W X q lo hi (node c cs r)
 tree-owned v = record { cs = v .cs; chain = v .chain; notes = notes-below (v .noted); kids = v .kids }
 
 -- ---- a list taken from its owner
 
-pub can-take : {W X : List ℕ} {q to lo hi : ℕ} {f : Forest} → (v : Owned W X q lo hi f) → q < hi → slotStart hi ≤ to → to + count f ≤ length W
+pub can-take : {W X : List ℕ} {q to lo hi : ℕ} {f : Forest} → (v : Owned W X q lo hi f) → q < hi → slotStart hi ≤ to
+    → to + count f ≤ length W
     → CanTake W (firstAt W q) to
 can-take {hi = hi} v own below room =
     record { hi = hi; cs = v .cs; chain = v .chain; inc = roots-above (v .kids) (omega arith); below = below; room = omega (arith, rep-count (v .kids)) }

@@ -1,5 +1,5 @@
--- What the functions on child lists ask and ensure, word by word. Asked is that a chain or a run rises, as the roots of a forest do, and stands
--- below the stack; the laws of proofs/ lift what is ensured to trees.
+-- What the functions on child lists ask and ensure, word by word. They ask that a chain or a run rises, as the roots of a forest do, and
+-- stands below the stack. The laws of proofs/ lift what they ensure to trees.
 use Prim.Native.Nat.{ℕ, _+_, _≤_, _<_}
 use mathlib.Core.Path.{_≡_}
 use mathlib.Core.Logic.{_≢_, _⊎_}

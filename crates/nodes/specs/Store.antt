@@ -1,7 +1,7 @@
 -- How forests stand in the work buffer: slots of eight words, child lists as chains of slots, lists under work as runs of words.
--- Intervals of slots keep siblings apart. They cannot keep a node apart from what is below it: an operator stands between its operands, and in the
--- tree of `return + a`, `+` over `return` over `a`, the root's slot even lies between those of its child and grandchild. So the slots of the
--- ancestors are carried along as a list, and the slots below avoid it.
+-- Intervals of slots keep siblings apart. They cannot keep a node apart from what is below it: an operator stands between its operands, and
+-- in the tree of `return + a`, `+` over `return` over `a`, the root's slot even lies between those of its child and grandchild. So the slots
+-- of the ancestors are carried along as a list, and the slots below avoid it.
 use Prim.Native.Nat.{ℕ, _+_, _*_, _≤_, _<_}
 use mathlib.Core.Path.{_≡_}
 use mathlib.Core.Logic.{_≢_, _⊎_}
@@ -36,11 +36,11 @@ nextField = 6
 abbrev pub classesField : ℕ
 classesField = 7
 
--- Slot s begins at this word, ..
+-- The first word of slot s.
 abbrev pub slotStart : ℕ → ℕ
 slotStart s = slotWords * s
 
--- .. and this is the first word past it.
+-- The first word past it.
 abbrev pub slotEnd : ℕ → ℕ
 slotEnd s = slotStart s + slotWords
 
@@ -91,7 +91,7 @@ pub record TokenAt (W : List ℕ) (s : ℕ) (k : Token) : Type 0 where
 pub record Notes (w : ℕ) (f : Forest) : Type 0 where
   pub bits : (i : ℕ) → i < 32 → bitAt w i ≡ not (free (inClass i) f)
 
--- Of one tree, the node k over cs: its own class where it is a leaf, else those of the leaves below it.
+-- The same of one tree, the node k over cs: its own class where it is a leaf, else those of the leaves below it.
 abbrev pub Noted : ℕ → Token → Forest → Type 0
 Noted w k cs = Notes w (node k cs nil)
 
@@ -144,8 +144,8 @@ onto (r ∷ rs) l = onto rs (r ∷ l)
 
 -- ---- forests
 
--- The trees of F stand at the slots bs, each in an interval of its own, the intervals going up from lo to hi. None of their slots, nor of those
--- that they keep free, is in X: the ancestors' slots. The roots' `next` words are no part of it.
+-- The trees of F stand at the slots bs, each in an interval of its own, the intervals going up from lo to hi. None of their slots, nor of
+-- those that they keep free, is in X: the ancestors' slots. The roots' `next` words are no part of it.
 pub data RepF (W : List ℕ) : List ℕ → List ℕ → ℕ → ℕ → Forest → Type 0 where
   ends : {X : List ℕ} {lo hi : ℕ} → lo ≤ hi → RepF W X [] lo hi nil
   more : {X : List ℕ} {b : ℕ} {bs : List ℕ} {lo l m hi : ℕ} {t : Token} {k f : Forest} {cs : List ℕ}
@@ -173,7 +173,8 @@ pub record Owned (W X : List ℕ) (q lo hi : ℕ) (f : Forest) : Type 0 where
   pub notes : Notes (classesAt W q) f
   pub kids : RepF W (q ∷ X) cs lo hi f
 
--- The trees of d, the last first, at the slots ds, the last first: what is done so far, from the left; or what is not read yet, from the right.
+-- The trees of d, the last first, at the slots ds, the last first: what is done so far, from the left; or what is not read yet, from the
+-- right.
 pub data RepB (W X : List ℕ) : List ℕ → ℕ → ℕ → Forest → Type 0 where
   begins : {lo hi : ℕ} → lo ≤ hi → RepB W X [] lo hi nil
   put : {b : ℕ} {ds : List ℕ} {lo l m hi : ℕ} {d : Forest} {t : Token} {k : Forest}

@@ -40,7 +40,7 @@ pub fn wide(x: u32) -> usize
     x as usize
 }
 
-// Writes the frame of a list right above it; the first word past the frame.
+// Writes the frame of a list right above it, and gives back the first word past the frame.
 pub fn push(work: &mut [u32], list: List, held: Held) -> usize
     requires { ⌜ CanPush (now work) list ⌝ }
     ensures { λ r. ⌜ Pushed (now (work .entry)) list held r (now (work .exit)) ⌝ }

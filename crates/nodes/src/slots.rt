@@ -1,9 +1,9 @@
 // A slot is eight words of the work buffer: the five words of a token, the first child's slot, the next sibling's slot, the
 // classes of the leaves at or below it. Slot 0 owns the outermost list; as a child or a sibling 0 means none.
 // Token i stands at slot 3(i + 1), and the two slots after it are spare for nodes that the passes make right after it.
-// What is asked of a slot, that its words lie within the buffer, the callers have from the store (specs/Store): its slots stand
-// below the stack. That a slot's number fits 32 bits, `load` has from the 4,096 tokens at most, and the passes from the length of
-// the words that `parse` works in.
+// The functions ask that a slot's words lie within the buffer. The callers have this from the store (specs/Store), whose slots stand
+// below the stack. A slot's number fits 32 bits: `load` has this from the 4,096 tokens at most, and the passes have it from the length
+// of the words that `parse` works in.
 use ops::classes::TokenClasses;
 use words::fields;
 use words::tokens::TokenWords;
@@ -34,7 +34,8 @@ pub fn slot_of(i: u32) -> u32
     3 * i + 3
 }
 
-// The first spare slot after s: after a binary minus its new node, after a semicolon that ends a statement the open one behind it.
+// The first spare slot after s. A binary minus has its new node there, and a semicolon that ends a statement has the open statement
+// behind it there.
 pub fn spare(s: u32) -> u32
     requires { ⌜ s + 1 < 2 ^ 32 ⌝ }
     ensures { λ r. ⌜ r ≡ s + 1 ⌝ }
@@ -42,7 +43,7 @@ pub fn spare(s: u32) -> u32
     s + 1
 }
 
-// The second spare slot after s: after the semicolon that ends a list's first statement the node of the statement list.
+// The second spare slot after s. The semicolon that ends a list's first statement has the node of the statement list there.
 pub fn second_spare(s: u32) -> u32
     requires { ⌜ s + 2 < 2 ^ 32 ⌝ }
     ensures { λ r. ⌜ r ≡ s + 2 ⌝ }
@@ -81,7 +82,7 @@ pub fn next_of(work: &[u32], s: u32) -> u32
     work[SLOT_WORDS * (s as usize) + NEXT_FIELD]
 }
 
-// The class of a leaf; of any other node the classes of all leaves below it.
+// A leaf has its own class here, and any other node has the classes of all leaves below it.
 pub fn classes_of(work: &[u32], s: u32) -> TokenClasses
     requires { ⌜ slotEnd s ≤ length (now work) ⌝ }
     ensures { λ r. ⌜ r .0 ≡ classesAt (now (work .entry)) s ⌝ }

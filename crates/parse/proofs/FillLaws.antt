@@ -38,7 +38,8 @@ record RootsOf (W : List ℕ) (root n sourceLength : ℕ) (answer : reading.Answ
   linked : Linked W root (3 * n + 3) f
   nodes : size f ≤ 3 * n
 
-roots-of : {W : List ℕ} {root n sourceLength : ℕ} {answer : reading.Answer} → root ≡ firstAt W 0 → StandsFor W (3 * n + 3) n sourceLength Roots answer
+roots-of : {W : List ℕ} {root n sourceLength : ℕ} {answer : reading.Answer} → root ≡ firstAt W 0
+    → StandsFor W (3 * n + 3) n sourceLength Roots answer
     → RootsOf W root n sourceLength answer
 roots-of e (roots {f = f} o h) = record { f = f; answers = refl; linked = rw e (owned-linked o); nodes = h }
 
@@ -47,7 +48,8 @@ not-nil : {k : Token} {cs rest : Forest} → node k cs rest ≡ nil → ⊥
 unfolding size
 not-nil e = let z = ap size e in omega arith
 
-module _ {W buffer m : List ℕ} {n sourceLength : ℕ} (p : CanFill W buffer m n sourceLength Roots) (root : ℕ) (first : root ≡ firstAt W 0) where
+module _ {W buffer m : List ℕ} {n sourceLength : ℕ} (p : CanFill W buffer m n sourceLength Roots) (root : ℕ)
+    (first : root ≡ firstAt W 0) where
   v : RootsOf W root n sourceLength (p .answer)
   v = roots-of first (p .stands)
 
@@ -133,7 +135,8 @@ module _ {W buffer m : List ℕ} {n sourceLength : ℕ} (p : CanFill W buffer m 
 
 -- ---- the failures
 
-pub fill-report : {W buffer m : List ℕ} {n sourceLength : ℕ} {g : Grouped} → CanFill W buffer m n sourceLength g → CanReport W m sourceLength g
+pub fill-report : {W buffer m : List ℕ} {n sourceLength : ℕ} {g : Grouped} → CanFill W buffer m n sourceLength g
+    → CanReport W m sourceLength g
 fill-report {n = n} p =
     record {
       hi = 3 * n + 3;
@@ -149,7 +152,8 @@ pub fill-report-two : {W buffer m : List ℕ} {n sourceLength : ℕ} {g : Groupe
 fill-report-two {sourceLength = sourceLength} p = record { sourceLength = sourceLength; can = fill-report p }
 
 module _ (W buffer m m' : List ℕ) (n sourceLength : ℕ) where
-  pub failed-filled : {f : Failure} → Reported W m sourceLength (Failed f) m' → Filled W buffer m n sourceLength (Failed f) (Messages 1) buffer m'
+  pub failed-filled : {f : Failure} → Reported W m sourceLength (Failed f) m'
+      → Filled W buffer m n sourceLength (Failed f) (Messages 1) buffer m'
   unfolding told treeIn
   failed-filled {f} u = record { holds = go }
     where
@@ -175,7 +179,8 @@ module _ (W buffer m m' : List ℕ) (n sourceLength : ℕ) where
       go : (a : reading.Answer) → StandsFor W (3 * n + 3) n sourceLength (Mismatched k) a → FilledAs buffer m (Messages 2) buffer m' a
       go a (mismatched (failures.mismatched s t w)) = record { tells = refl; tree = refl; records = u .records (3 * n + 3) n _ (mismatched {m = k} (failures.mismatched s t w)) }
 
-  pub unclosed-filled : {k : Unclosed} → Reported W m sourceLength (Unclosing k) m' → Filled W buffer m n sourceLength (Unclosing k) (Messages 2) buffer m'
+  pub unclosed-filled : {k : Unclosed} → Reported W m sourceLength (Unclosing k) m'
+      → Filled W buffer m n sourceLength (Unclosing k) (Messages 2) buffer m'
   unfolding told treeIn
   unclosed-filled {k} u = record { holds = go }
     where

@@ -1,4 +1,5 @@
--- The records of the failures: put together argument by argument, and which messages' records they are, since a slot's words give its token back.
+-- The records of the failures: put together argument by argument, and which messages' records they are, since a slot's words give its token
+-- back.
 use Prim.Native.Nat.{ℕ, _+_, _%_, _≤_}
 use mathlib.Core.Path.{_≡_, refl, sym, ap, ap₂, _∙_, subst}
 use mathlib.Core.Bool.{Bool, true, false}
@@ -81,7 +82,8 @@ module _ {W : List ℕ} {s : ℕ} {k : Token} (t : TokenAt W s k) where
 
 -- ---- the messages
 
-pub says-slots : {W : List ℕ} {sourceLength : ℕ} {f : Failure} {ms : List Message} → Says W sourceLength f ms → length W % 8 ≡ 0 → 8 ≤ length W → Named W f
+pub says-slots : {W : List ℕ} {sourceLength : ℕ} {f : Failure} {ms : List Message} → Says W sourceLength f ms → length W % 8 ≡ 0
+    → 8 ≤ length W → Named W f
 says-slots (tells (leadingMemberAccessor t)) h l = (slot-within t h, slot-within t h)
 says-slots (tells (emptyParameterList t u)) h l = (slot-within t h, slot-within u h)
 says-slots (tells (mathAtEnd t)) h l = (slot-within t h, slot-within t h)
@@ -97,7 +99,8 @@ says-slots (tells (ternaryWithoutOperands t)) h l = (slot-within t h, slot-withi
 says-slots (notEnded t) h l = (slot-within t h, slot-within t h)
 says-slots withoutTokens h l = (l, l)
 
-tells-words : (W : List ℕ) (sourceLength : ℕ) {f : Failure} {ms : List Message} → Tells W f ms → wordsOf (recordFor W sourceLength f) ≡ recordWords ms
+tells-words : (W : List ℕ) (sourceLength : ℕ) {f : Failure} {ms : List Message} → Tells W f ms
+    → wordsOf (recordFor W sourceLength f) ≡ recordWords ms
 unfolding wordsOf recordWords messageRecord about record8
 tells-words W l (leadingMemberAccessor t) = rw (token-start t, token-end t)
 tells-words W l (emptyParameterList t u) = rw (token-start t, token-end u, token-op t)

@@ -1,4 +1,5 @@
--- What the reports leave in the message buffer: one record in its front, or two, which are those of the messages that what the passes left stands for.
+-- What the reports leave in the message buffer: one record in its front, or two, which are those of the messages that what the passes left
+-- stands for.
 use Prim.Native.Nat.{ℕ, _%_, _≤_}
 use mathlib.Core.Path.{_≡_, refl, sym, ap, _∙_}
 use mathlib.Core.List.{List, [], _∷_, _++_, append-assoc, append-nil}
@@ -48,11 +49,13 @@ two-records m k = records-then (m ∷ []) k ∙ ap (λ (ws : List ℕ). ws ++ me
 pub failed-slots : {W m : List ℕ} {sourceLength : ℕ} {f : Failure} → CanReport W m sourceLength (Failed f) → Named W f
 failed-slots p = go (p .stands) (p .whole) (p .some)
   where
-    go : {W : List ℕ} {hi n sourceLength : ℕ} {f : Failure} {a : Answer} → StandsFor W hi n sourceLength (Failed f) a → length W % 8 ≡ 0 → 8 ≤ length W
+    go : {W : List ℕ} {hi n sourceLength : ℕ} {f : Failure} {a : Answer} → StandsFor W hi n sourceLength (Failed f) a → length W % 8 ≡ 0
+        → 8 ≤ length W
         → Named W f
     go (failed s) whole some = says-slots s whole some
 
-pub failed-reported : (W m m' : List ℕ) (sourceLength : ℕ) (f : Failure) (r : Record) → m' ≡ laidAt 0 (wordsOf r) m → r ≡ recordFor W sourceLength f
+pub failed-reported : (W m m' : List ℕ) (sourceLength : ℕ) (f : Failure) (r : Record) → m' ≡ laidAt 0 (wordsOf r) m
+    → r ≡ recordFor W sourceLength f
     → Reported W m sourceLength (Failed f) m'
 unfolding messagesIn
 failed-reported W m m' sourceLength f r e g = record { records = go }
@@ -66,7 +69,8 @@ pub no-roots-words : (sourceLength : ℕ) → wordsOf (unnamed 1 0 sourceLength)
 unfolding wordsOf messageRecord
 no-roots-words sourceLength = refl
 
-pub pointer-fails : {W m : List ℕ} {sourceLength : ℕ} {f : Failure} → CanReport W m sourceLength (PointerFailed f) → CanReport W m sourceLength (Failed f)
+pub pointer-fails : {W m : List ℕ} {sourceLength : ℕ} {f : Failure} → CanReport W m sourceLength (PointerFailed f)
+    → CanReport W m sourceLength (Failed f)
 pointer-fails {W} {m} {sourceLength} {f} p = go (p .stands)
   where
     go : {hi n : ℕ} {a : Answer} → StandsFor W hi n sourceLength (PointerFailed f) a → CanReport W m sourceLength (Failed f)
@@ -91,7 +95,8 @@ unfolding wordsOf messageRecord about record8
 open-words t = rw (closer-token t, token-start t, token-end t, token-op t)
 
 -- Two messages, of which the second is that a section is not closed.
-two-reported : (W m m' m'' : List ℕ) (r q : Record) (s : ℕ) (k : Message) {p : Token} → m' ≡ laidAt 0 (wordsOf r) m → m'' ≡ laidAt 8 (wordsOf q) m'
+two-reported : (W m m' m'' : List ℕ) (r q : Record) (s : ℕ) (k : Message) {p : Token} → m' ≡ laidAt 0 (wordsOf r) m
+    → m'' ≡ laidAt 8 (wordsOf q) m'
     → wordsOf r ≡ messageRecord k → q ≡ openRecord W s → TokenAt W s p → m'' ≡ inFront (recordWords (k ∷ sectionNotClosed p ∷ [])) m
 two-reported W m m' m'' r q s k {p} e f g h t =
     two-laid (messageRecord k) (messageRecord (sectionNotClosed p)) m m' m'' (record-length k)
@@ -103,7 +108,8 @@ pub mismatch-slots : {W l : List ℕ} {sourceLength : ℕ} {m : Mismatch} → Ca
     → Within W (m .opener) × Within W (m .closer) × Within W (m .outer)
 mismatch-slots {W} {l} {sourceLength} {m} p = go (p .stands)
   where
-    go : {hi n : ℕ} {a : Answer} → StandsFor W hi n sourceLength (Mismatched m) a → Within W (m .opener) × Within W (m .closer) × Within W (m .outer)
+    go : {hi n : ℕ} {a : Answer} → StandsFor W hi n sourceLength (Mismatched m) a
+        → Within W (m .opener) × Within W (m .closer) × Within W (m .outer)
     go (mismatched (failures.mismatched t u v)) = (slot-within t (p .whole), slot-within u (p .whole), slot-within v (p .whole))
 
 mismatch-words : {W : List ℕ} (m : Mismatch) {o k : Token} → TokenAt W (m .opener) o → TokenAt W (m .closer) k
@@ -120,13 +126,15 @@ mismatch-reported W l l' l'' m r q e g f h sourceLength = record { records = go 
     go hi n a (mismatched (failures.mismatched {o = o} {k = k} t u v)) =
         two-reported W l l' l'' r q (m .outer) (closingMismatch o (m .start) k (m .index)) e f (ap wordsOf g ∙ mismatch-words m t u) h v
 
-pub unclosed-slots : {W l : List ℕ} {sourceLength : ℕ} {u : Unclosed} → CanReport W l sourceLength (Unclosing u) → Within W (u .inner) × Within W (u .outer)
+pub unclosed-slots : {W l : List ℕ} {sourceLength : ℕ} {u : Unclosed} → CanReport W l sourceLength (Unclosing u)
+    → Within W (u .inner) × Within W (u .outer)
 unclosed-slots {W} {l} {sourceLength} {u} p = go (p .stands)
   where
     go : {hi n : ℕ} {a : Answer} → StandsFor W hi n sourceLength (Unclosing u) a → Within W (u .inner) × Within W (u .outer)
     go (unclosed (failures.unclosed t v)) = (slot-within t (p .whole), slot-within v (p .whole))
 
-unclosed-words : {W : List ℕ} (u : Unclosed) {o : Token} → TokenAt W (u .inner) o → wordsOf (unclosedRecord W u) ≡ messageRecord (noClosingSymbol o (u .start))
+unclosed-words : {W : List ℕ} (u : Unclosed) {o : Token} → TokenAt W (u .inner) o
+    → wordsOf (unclosedRecord W u) ≡ messageRecord (noClosingSymbol o (u .start))
 unfolding wordsOf messageRecord record8
 unclosed-words u t = rw (closer-token t, token-start t, token-end t, token-op t)
 

@@ -16,6 +16,7 @@ use Rattle.molang.proofs.Words.{LegalTrees, noTrees, legalTree, trees-back}
 use Rattle.molang.proofs.Bounds.{treeWords-length}
 use Rattle.words.specs.Records.{unnamed, withFirst, wordsOf, laidAt}
 use Rattle.words.specs.Extents.{firstExtent}
+use Rattle.words.specs.Tokens.{nodeLength}
 use Rattle.words.specs.declared.extent.Extent.{Extent}
 use Rattle.words.proofs.RecordLaws.{laid-front}
 use Rattle.nodes.specs.Store.{slotStart, nextAt, Chain, RepF, AllLegal}
@@ -45,7 +46,7 @@ pub measure-few : {W : List ℕ} {first n to stack r : ℕ} {W' : List ℕ} → 
 measure-few {n = n} p v = omega (arith, p .nodes, v .count (3 * n + 3) (p .trees) (p .linked))
 
 pub measured : (W W' : List ℕ) (first n to stack nodes : ℕ) (r : Extent) → CanMeasure W first n → to ≡ 28 * n + 28 → stack ≡ 24 * n + 24
-    → Emitted W first to stack nodes W' → r ≡ firstExtent (treesOf (take (to + 6 * nodes - to) (drop to W'))) → Measured W first n r W'
+    → Emitted W first to stack nodes W' → r ≡ firstExtent (treesOf (take (to + nodeLength * nodes - to) (drop to W'))) → Measured W first n r W'
 measured W W' first n to stack nodes r p at above v e =
     record {
       extent = λ f w. e ∙ ap firstExtent (ap treesOf (words f w) ∙ trees-back f (legal f w));
@@ -53,11 +54,11 @@ measured W W' first n to stack nodes r p at above v e =
       long = v .long;
     }
   where
-    words : (f : Forest) → Linked W first (3 * n + 3) f → take (to + 6 * nodes - to) (drop to W') ≡ treeWords f
+    words : (f : Forest) → Linked W first (3 * n + 3) f → take (to + nodeLength * nodes - to) (drop to W') ≡ treeWords f
     words f w =
         let long = treeWords-length f in
         let few = measure-few p v in
-        let count : to + 6 * nodes - to ≡ length (treeWords f) = omega (arith, v .count (3 * n + 3) f w) in
+        let count : to + nodeLength * nodes - to ≡ length (treeWords f) = omega (arith, v .count (3 * n + 3) f w) in
         rw count (seg-part W' to (treeWords f) (omega (arith, p .room, v .long)) (v .words (3 * n + 3) f w))
 
     legal : (f : Forest) → Linked W first (3 * n + 3) f → LegalTrees f
@@ -73,7 +74,8 @@ pub record LastTree (W : List ℕ) (s hi : ℕ) (k : Token) (cs rest : Forest) :
   pub ends : lastEnd k cs rest ≡ highestEnd (t .end) below
   pub small : size (node t below nil) ≤ size (node k cs rest)
 
-last-tree : {W X : List ℕ} (f b : ℕ) (bs : List ℕ) {lo hi : ℕ} (k : Token) (cs rest : Forest) → Chain W f (b ∷ bs) → RepF W X (b ∷ bs) lo hi (node k cs rest)
+last-tree : {W X : List ℕ} (f b : ℕ) (bs : List ℕ) {lo hi : ℕ} (k : Token) (cs rest : Forest) → Chain W f (b ∷ bs)
+    → RepF W X (b ∷ bs) lo hi (node k cs rest)
     → LastTree W (lastFrom b bs) hi k cs rest
 unfolding lastEnd lastFrom size count
 last-tree f b [] k cs nil c r =
@@ -86,7 +88,8 @@ last-tree {W} f b (d ∷ bs) k cs (node l ls rest) c r =
     record { t = v .t; below = v .below; linked = v .linked; ends = v .ends; small = omega (arith, v .small) }
 
 -- The same of the slot that `last_of_chain` finds.
-last-of : {W : List ℕ} {head hi r : ℕ} {k : Token} {cs rest : Forest} → Linked W head hi (node k cs rest) → IsLast W head r → LastTree W r hi k cs rest
+last-of : {W : List ℕ} {head hi r : ℕ} {k : Token} {cs rest : Forest} → Linked W head hi (node k cs rest) → IsLast W head r
+    → LastTree W r hi k cs rest
 last-of {W} {head} {hi} {r} {k} {cs} {rest} v last = go (v .bs) (v .chain) (v .rep)
   where
     go : {X : List ℕ} {lo : ℕ} (bs : List ℕ) → Chain W head bs → RepF W X bs lo hi (node k cs rest) → LastTree W r hi k cs rest
@@ -130,8 +133,10 @@ module _ (W W' : List ℕ) (head n : ℕ) (starts : Extent) (v : Measured W head
             room = omega (arith, p .measure .room, v .long);
           }
 
-  pub roots-reported : (m m' W'' : List ℕ) (tail roots : ℕ) (last : Extent) → CanReportRoots W m head n → Counted W head roots → IsLast W head tail
-      → Measured W' tail n last W'' → m' ≡ laidAt 0 (wordsOf (withFirst (unnamed 1 (starts .start) (last .end)) roots 0)) m → RootsReported W m head n W'' m'
+  pub roots-reported : (m m' W'' : List ℕ) (tail roots : ℕ) (last : Extent) → CanReportRoots W m head n → Counted W head roots
+      → IsLast W head tail
+      → Measured W' tail n last W'' → m' ≡ laidAt 0 (wordsOf (withFirst (unnamed 1 (starts .start) (last .end)) roots 0)) m
+      → RootsReported W m head n W'' m'
   unfolding count rooted messagesIn recordWords wordsOf messageRecord record8 firstExtent lastEnd
   roots-reported m m' W'' tail roots last p counted isLast u e =
       record { message = go; same = λ j h. u .same j h ∙ v .same j h; long = u .long ∙ v .long }

@@ -32,9 +32,10 @@ pub record CanFill (W buffer messages : List ℕ) (n sourceLength : ℕ) (g : Gr
   pub tree-room : 18 * n ≤ length buffer
   pub message-room : 16 ≤ length messages
 
--- Whatever answer that is, it is told and laid out.
+-- Whatever answer that is, it is told and laid out. The work buffer is left free: the entry clears it.
 pub record Filled (W buffer messages : List ℕ) (n sourceLength : ℕ) (g : Grouped) (r : Answer) (buffer' messages' : List ℕ) : Type 0 where
-  pub holds : (answer : reading.Answer) → StandsFor W (3 * n + 3) n sourceLength g answer → FilledAs buffer messages r buffer' messages' answer
+  pub holds : (answer : reading.Answer) → StandsFor W (3 * n + 3) n sourceLength g answer
+      → FilledAs buffer messages r buffer' messages' answer
 
 -- ---- `read`
 
@@ -47,6 +48,7 @@ pub record CanRead (list W buffer messages : List ℕ) (n : ℕ) : Type 0 where
   pub tree-room : 18 * n ≤ length buffer
   pub message-room : 16 ≤ length messages
 
--- The definition's reading of the list's tokens is told and laid out.
-pub record HasRead (list buffer messages : List ℕ) (sourceLength : ℕ) (version : ℤ) (used : OpSet) (r : Answer) (buffer' messages' : List ℕ) : Type 0 where
+-- The definition's reading of the list's tokens is told and laid out. The work buffer is left free: the entry clears it.
+pub record HasRead (list buffer messages : List ℕ) (sourceLength : ℕ) (version : ℤ) (used : OpSet) (r : Answer)
+    (buffer' messages' : List ℕ) : Type 0 where
   pub holds : FilledAs buffer messages r buffer' messages' (reading.read (tokensOf list) (usedBy used) version sourceLength)

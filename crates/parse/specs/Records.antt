@@ -1,4 +1,5 @@
--- The records of the failures, by the words of the slots that they name. The laws of proofs/ReportLaws say which messages' records these are.
+-- The records of the failures, by the words of the slots that they name. The laws of proofs/ReportLaws say which messages' records these
+-- are.
 use Prim.Native.Nat.{ℕ, _≤_}
 use mathlib.Core.Bool.{true, false}
 use mathlib.Core.List.{List}

@@ -35,7 +35,8 @@ fn fill_roots(
     source: u32,
 ) -> Answer
     requires { ⌜ CanFill (now work) (now tree) (now messages) n source Roots ⌝ }
-    ensures { λ r. ⌜ Filled (now (work .entry)) (now (tree .entry)) (now (messages .entry)) n source Roots r (now (tree .exit)) (now (messages .exit)) ⌝ }
+    ensures { λ r. ⌜ Filled (now (work .entry)) (now (tree .entry)) (now (messages .entry)) n source Roots r
+        (now (tree .exit)) (now (messages .exit)) ⌝ }
 {
     let root = slots::first_of(work, ROOT);
     if root == 0 {
@@ -60,7 +61,8 @@ fn fill(
     grouped: Grouped,
 ) -> Answer
     requires { ⌜ CanFill (now work) (now tree) (now messages) n source grouped ⌝ }
-    ensures { λ r. ⌜ Filled (now (work .entry)) (now (tree .entry)) (now (messages .entry)) n source grouped r (now (tree .exit)) (now (messages .exit)) ⌝ }
+    ensures { λ r. ⌜ Filled (now (work .entry)) (now (tree .entry)) (now (messages .entry)) n source grouped r
+        (now (tree .exit)) (now (messages .exit)) ⌝ }
 {
     match grouped {
         Grouped::Roots => fill_roots(work, tree, messages, n, source),
@@ -95,7 +97,8 @@ fn read(
     used: OpSet,
 ) -> Answer
     requires { ⌜ CanRead (now list) (now work) (now tree) (now messages) n ⌝ }
-    ensures { λ r. ⌜ HasRead (now (list .entry)) (now (tree .entry)) (now (messages .entry)) source version used r (now (tree .exit)) (now (messages .exit)) ⌝ }
+    ensures { λ r. ⌜ HasRead (now (list .entry)) (now (tree .entry)) (now (messages .entry)) source version used r
+        (now (tree .exit)) (now (messages .exit)) ⌝ }
 {
     load(list, work, n);
     let grouped = group(work, slots::stack_of(n), n, used, effective(version));

@@ -141,7 +141,7 @@ pub fn report(work: &[u32], messages: &mut [u32], failure: Failure, source: u32)
     put(messages, 0, record_of(work, failure, source));
 }
 
-// Message 1 where no root is left, over the whole source.
+// Message 1 over the whole source, where no root is left.
 pub fn no_roots(messages: &mut [u32], at: usize, source: u32)
     requires { ⌜ at + 8 ≤ length (now messages) ⌝ }
     ensures { λ _. ⌜ now (messages .exit) ≡ laidAt at (messageRecord (multipleRoots 0 source 0)) (now (messages .entry)) ⌝ }

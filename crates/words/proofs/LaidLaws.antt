@@ -46,6 +46,7 @@ module _ (ws l : List ℕ) (at : ℕ) (room : at + length ws ≤ length l) where
   laid-out j o = rw (← laid-sets ws l at room) (sets-out ws l at j o)
 
 -- One word more.
-pub laid-more : (ws l : List ℕ) (at v : ℕ) → at + length ws < length l → set (laidAt at ws l) (at + length ws) v ≡ laidAt at (ws ++ (v ∷ [])) l
+pub laid-more : (ws l : List ℕ) (at v : ℕ) → at + length ws < length l
+    → set (laidAt at ws l) (at + length ws) v ≡ laidAt at (ws ++ (v ∷ [])) l
 laid-more ws l at v room =
     rw (← laid-sets ws l at (omega arith)) (sets-more ws l at v ∙ laid-sets (ws ++ (v ∷ [])) l at (omega (arith, length-append ws (v ∷ []))))

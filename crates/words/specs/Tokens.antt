@@ -20,9 +20,13 @@ tokenWordsAt W at =
 abbrev pub bareWords : ℕ → TokenWords → TokenWords
 bareWords op k = record { operator = word 1 (op % 2 ^ 8); start = k .start; end = k .end; upper = word 4 0; lower = word 5 0 }
 
--- They in the order in which they stand.
+-- The five words, in the order in which they stand.
 abbrev pub fiveWords : TokenWords → List ℕ
 fiveWords k = k .operator ∷ k .start ∷ k .end ∷ k .upper ∷ k .lower ∷ []
+
+-- How many words a node is.
+abbrev pub nodeLength : ℕ
+nodeLength = 6
 
 -- The words of a node: those of its token, and how many children it has.
 abbrev pub nodeWords : TokenWords → ℕ → List ℕ

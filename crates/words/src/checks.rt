@@ -87,8 +87,8 @@ pub fn judged(word: Word, place: usize) -> Checked
     }
 }
 
-// The five words of a token, which stand from `at` on in the list: the first bad one. That the places are numbers of words is
-// the caller's to know, who read them out of the list.
+// The first bad one of the five words of a token, which stand from `at` on in the list. The caller has read them out of the list, so
+// their places are numbers of words.
 pub fn token(first: u32, start: u32, end: u32, upper: u32, lower: u32, at: usize) -> Checked
     requires { ⌜ at + 4 < 2 ^ 64 ⌝ }
     ensures { λ r. ⌜ refusalOf r ≡ wordsRefusal at operatorField 0 (first ∷ start ∷ end ∷ upper ∷ lower ∷ []) ⌝ }
@@ -99,16 +99,17 @@ pub fn token(first: u32, start: u32, end: u32, upper: u32, lower: u32, at: usize
     };
     let two = span_word(start, fields::START);
     let Word::Good = two else {
-        return judged(two, at + 1);
+        return judged(two, at + fields::START_FIELD);
     };
     let three = span_word(end, fields::END);
     let Word::Good = three else {
-        return judged(three, at + 2);
+        return judged(three, at + fields::END_FIELD);
     };
     let variant = fields::variant(first);
     let four = half_word(upper, fields::UPPER, variant);
     let Word::Good = four else {
-        return judged(four, at + 3);
+        return judged(four, at + fields::UPPER_FIELD);
     };
-    judged(half_word(lower, fields::LOWER, variant), at + 4)
+    let five = half_word(lower, fields::LOWER, variant);
+    judged(five, at + fields::LOWER_FIELD)
 }

@@ -58,8 +58,8 @@ fn of_trees(words: &[u32], trees: usize, seen: Extent) -> Extent
     of_trees(&words[fields::NODE_WORDS..], trees - 1 + below, wide)
 }
 
-// The extent of the tree that the words open with. Who calls has laid the tree out in the work buffer, in six words for each of
-// 12,288 nodes at the most.
+// The extent of the tree that the words open with. The caller has laid the tree out in the work buffer, in six words for each of
+// 12,288 nodes at most.
 pub fn of_tree(words: &[u32]) -> Extent
     requires { ⌜ length (now words) < 2 ^ 34 ⌝ }
     ensures { λ r. ⌜ r ≡ firstExtent (treesOf (now (words .entry))) ⌝ }

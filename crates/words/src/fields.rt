@@ -41,7 +41,7 @@ pub const RECORD_WORDS: usize = 8;
 // The most tokens that a list can have.
 pub const MOST_TOKENS: usize = 4096;
 
-// The operators and the payload variants are those up to these.
+// The last operator and the last payload variant.
 pub const LAST_OPERATOR: u32 = 110;
 
 pub const LAST_VARIANT: u32 = 12;

@@ -5,7 +5,7 @@ ghost use mathlib.Core.Path.{_≡_};
 ghost use Prim.Native.Nat.{_+_, _≤_};
 ghost use lib.ListN.{length};
 ghost use Rattle.words.specs.Records.{laidAt};
-ghost use Rattle.words.specs.Tokens.{tokenWordsAt, bareWords, fiveWords, nodeWords};
+ghost use Rattle.words.specs.Tokens.{tokenWordsAt, bareWords, fiveWords, nodeLength, nodeWords};
 
 // A token's words.
 pub struct TokenWords {
@@ -58,7 +58,7 @@ impl TokenWords {
 
     // Writes the words of a node of this token with so many children to the buffer from `at` on.
     pub fn lay_node(self, words: &mut [u32], at: usize, children: u32)
-        requires { ⌜ at + 6 ≤ length (now words) ⌝ }
+        requires { ⌜ at + nodeLength ≤ length (now words) ⌝ }
         ensures { λ _. ⌜ now (words .exit) ≡ laidAt at (nodeWords self children) (now (words .entry)) ⌝ }
     {
         self.lay(words, at);
