@@ -10,6 +10,7 @@ use Rattle.molang.specs.Forest.{Forest, count, size}
 use Rattle.molang.specs.Message.{Result}
 use Rattle.molang.specs.Work.{Kind, State, work, unwound}
 use Rattle.molang.proofs.Trees.{count-size}
+use Rattle.molang.proofs.Work.{reading-size, unwound-fail}
 use Rattle.nodes.specs.Store.{wd, RepT, Free}
 use Rattle.nodes.proofs.Keeping.{free-own, free-inner}
 use Rattle.levels.specs.Sides.{Holds, Waits}
@@ -22,7 +23,6 @@ use Rattle.grouping.specs.Driver.{Room, Stack, Full, Going, turnsBelow, 
 use Rattle.grouping.specs.declared.driver.Next.{Next}
 use Rattle.grouping.specs.declared.driver.Next.the-variants.{On as Onward, Fail as Stopped}
 use Rattle.grouping.proofs.StackLaws.{Bounds, stack-bounds, stack-keep, top-beyond, beyond-then}
-use Rattle.grouping.proofs.Lasting.{reading-size, unwound-fail}
 
 pub advance-can-turn : {W : List ℕ} {w : Walk} {base0 : ℕ} → CanAdvance W w base0 → CanTurn W w
 advance-can-turn {w = w} g =

@@ -12,7 +12,8 @@ use Rattle.molang.specs.Forest.{Token, Forest, nil, node, count}
 use Rattle.molang.specs.Message.{Result, ok}
 use Rattle.molang.specs.Calls.{unindexed, named, indexed, arrayLevel, arrayResume}
 use Rattle.molang.specs.Free.{isNil}
-use Rattle.molang.specs.Work.{Kind, calls, statements, arrays, unaries, conditional, returns, binary, State, work, takes, andThen, Held, held, unwound}
+use Rattle.molang.specs.Work.{Kind, calls, statements, arrays, unaryMinusAndNot, conditional, returns, binary, State, work, takes, andThen, Held, held, unwound}
+use Rattle.molang.proofs.Work.{unwound-fail}
 use Rattle.ops.specs.declared.classes.TokenClasses.{TokenClasses}
 use Rattle.nodes.specs.Store.{wd, TokenAt, Out, RepT, Owned, InArray, Free}
 use Rattle.nodes.specs.Children.{CanGive, Given}
@@ -35,7 +36,6 @@ use Rattle.levels.proofs.States.{split-none, split-some}
 use Rattle.grouping.specs.Driver.{FrameOf, Stack, bottom, over, Full, Going, turnsBelow, Beyond, CanMove, Moved, NextTo, CanClose, Closed}
 use Rattle.grouping.specs.declared.driver.Next.the-variants.{On, Done, Fail}
 use Rattle.grouping.proofs.StackLaws.{Bounds, stack-bounds, stack-keep, top-beyond, beyond-then}
-use Rattle.grouping.proofs.Lasting.{unwound-fail}
 use Rattle.grouping.proofs.OutermostLaws.{give-outermost, move-outermost}
 
 -- ---- the pass of the list that waits
@@ -66,7 +66,7 @@ takes-waits statements t k kids = le-refl 0
 takes-waits arrays (unindexed d) k kids = le-refl 0
 takes-waits arrays (named d q) k kids = omega arith
 takes-waits arrays (indexed d q c) k kids = le-refl 1
-takes-waits unaries t k kids = le-refl 0
+takes-waits unaryMinusAndNot t k kids = le-refl 0
 takes-waits conditional t k kids = le-refl 0
 takes-waits returns t k kids = le-refl 0
 takes-waits (binary ops) t k kids = le-refl 0

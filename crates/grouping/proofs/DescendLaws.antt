@@ -11,6 +11,7 @@ use Rattle.molang.specs.Message.{ok}
 use Rattle.molang.specs.Free.{isNil}
 use Rattle.molang.specs.Work.{Kind, State, work, inReading, held}
 use Rattle.molang.proofs.Trees.{count-size}
+use Rattle.molang.proofs.Work.{reading-size, reading-count}
 use Rattle.nodes.specs.Store.{wd, RepT, Owned}
 use Rattle.nodes.specs.Frames.{CanPush, Pushed}
 use Rattle.nodes.specs.declared.frames.List.{List as Items}
@@ -28,7 +29,7 @@ use Rattle.grouping.specs.Driver.{FrameOf, Stack, over, Going, Beyond, C
 use Rattle.grouping.proofs.SideLaws.{open-array-keep}
 use Rattle.grouping.proofs.StackLaws.{waits-keep, waits-within, stack-bounds, stack-within, stack-keep, top-beyond}
 use Rattle.grouping.proofs.StartLaws.{begins-low}
-use Rattle.grouping.proofs.Lasting.{reading-size, reading-count, begun-full, lent-full}
+use Rattle.grouping.proofs.Lasting.{begun-full, lent-full}
 
 -- ---- the state in a frame
 

@@ -8,15 +8,11 @@ use lib.ListN.{length}
 use borrow.Author.Tests.{not-false}
 use Rattle.molang.specs.Forest.{Forest}
 use Rattle.molang.specs.Message.{ok}
-use Rattle.molang.specs.Free.{free}
-use Rattle.molang.specs.Work.{Kind, calls, statements, arrays, unaries, conditional, returns, binary, pass}
-use Rattle.molang.proofs.Calls.{call-free}
-use Rattle.molang.proofs.Arrays.{array-free}
-use Rattle.molang.proofs.Statements.{statement-free}
-use Rattle.molang.proofs.Unary.{unaryPass-free}
-use Rattle.molang.proofs.Conditional.{conditional-free}
-use Rattle.molang.proofs.Return.{return-free}
-use Rattle.molang.proofs.Binary.{binary-free}
+use Rattle.molang.specs.Calls.{queryOrLoop, math}
+use Rattle.molang.specs.Order
+use Rattle.molang.specs.Free.{free, operatorsOf, worksOn}
+use Rattle.molang.specs.Work.{Kind, calls, statements, arrays, unaryMinusAndNot, conditional, returns, binary, passOf, pass}
+use Rattle.molang.proofs.NoMasks.{no-masks}
 use Rattle.ops.specs.Classes.{shares}
 use Rattle.nodes.specs.Store.{wd}
 use Rattle.nodes.proofs.Store.{rep-legal}
@@ -31,15 +27,17 @@ use Rattle.grouping.specs.Choice.{CanChoose, Chosen}
 use Rattle.grouping.specs.declared.driver.Ran.{Ran}
 use Rattle.grouping.specs.declared.driver.Ran.the-variants.{Done}
 
+-- 'No masks' for the passes that go through nested lists.
 pub pass-free : (κ : Kind) (f : Forest) → free (operators κ) f ≡ true → pass κ f ≡ ok f
-unfolding pass operators
-pass-free (calls kind) f h = call-free kind f h
-pass-free statements f h = statement-free f h
-pass-free arrays f h = array-free f h
-pass-free unaries f h = unaryPass-free f h
-pass-free conditional f h = conditional-free f h
-pass-free returns f h = return-free f h
-pass-free (binary ops) f h = binary-free ops f h
+unfolding pass passOf operators operatorsOf worksOn
+pass-free (calls queryOrLoop) f h = no-masks 0 Order.callPass f refl h
+pass-free (calls math) f h = no-masks 0 Order.mathCalls f refl h
+pass-free statements f h = no-masks 0 Order.statements f refl h
+pass-free arrays f h = no-masks 0 Order.arrays f refl h
+pass-free unaryMinusAndNot f h = no-masks 0 Order.unaryMinusAndNot f refl h
+pass-free conditional f h = no-masks 0 Order.conditional f refl h
+pass-free returns f h = no-masks 0 Order.returns f refl h
+pass-free (binary ops) f h = no-masks 0 (Order.binary ops) f refl h
 
 -- ---- the gate
 

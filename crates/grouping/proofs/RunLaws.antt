@@ -9,9 +9,9 @@ use lib.ListN.{length}
 use Rattle.molang.specs.Forest.{Forest, count}
 use Rattle.molang.specs.Message.{Result}
 use Rattle.molang.specs.Calls.{arrayLevel}
-use Rattle.molang.specs.Work.{Kind, calls, statements, arrays, unaries, conditional, returns, binary, State, work, begins, inReading, pass, Held, unwound}
+use Rattle.molang.specs.Work.{Kind, calls, statements, arrays, unaryMinusAndNot, conditional, returns, binary, State, work, begins, inReading, pass, Held, unwound}
 use Rattle.molang.proofs.Trees.{count-size}
-use Rattle.molang.proofs.Work.{pass-begins}
+use Rattle.molang.proofs.Work.{pass-begins, reading-size, reading-count}
 use Rattle.levels.specs.Passes.{classesOf, waits}
 use Rattle.levels.specs.Sides.{Holds}
 use Rattle.levels.specs.Turns.{turnsLeft, afresh}
@@ -23,7 +23,6 @@ use Rattle.grouping.specs.declared.driver.Next.{Next}
 use Rattle.grouping.specs.declared.driver.Next.the-variants.{On, Done, Fail}
 use Rattle.grouping.specs.declared.driver.Ran.the-variants.{Done as Through, Fail as Failed}
 use Rattle.grouping.proofs.StackLaws.{beyond-then}
-use Rattle.grouping.proofs.Lasting.{reading-size, reading-count}
 use Rattle.grouping.proofs.OutermostLaws.{outermost-taken}
 
 -- ---- the outermost list begins
@@ -61,7 +60,7 @@ unfolding waits begins arrayLevel
 begins-waits (calls kind) f = refl
 begins-waits statements f = refl
 begins-waits arrays f = refl
-begins-waits unaries f = refl
+begins-waits unaryMinusAndNot f = refl
 begins-waits conditional f = refl
 begins-waits returns f = refl
 begins-waits (binary ops) f = refl

@@ -9,7 +9,7 @@ use Rattle.molang.specs.Forest.{Token, Forest}
 use Rattle.molang.specs.Level.{Gathered}
 use Rattle.molang.specs.Calls.{Indexing}
 use Rattle.molang.specs.Statements.{Split}
-use Rattle.molang.specs.Work.{Kind, calls, statements, arrays, unaries, conditional, returns, binary, Right, State}
+use Rattle.molang.specs.Work.{Kind, calls, statements, arrays, unaryMinusAndNot, conditional, returns, binary, Right, State}
 use Rattle.nodes.specs.Store.{wd, Chain, Out, RepB, begins, put}
 use Rattle.nodes.specs.declared.frames.List.{List as Items}
 use Rattle.nodes.proofs.Tokens.{token-keep}
@@ -106,7 +106,7 @@ module _ (W W' : List ℕ) where
     done-keep (calls kind) w s h words v = gather-keep left (λ j x y. words j x (omega arith)) v
     done-keep statements w s h words v = statement-keep left (λ j x y. words j x (omega arith)) v
     done-keep arrays w s h words v = array-side-keep left (λ j x y. words j x (omega arith)) v
-    done-keep unaries w s h words v = right-keep right (λ j x y. words j (omega arith) y) v
+    done-keep unaryMinusAndNot w s h words v = right-keep right (λ j x y. words j (omega arith) y) v
     done-keep conditional w s h words v = conditional-keep left (λ j x y. words j x (omega arith)) v
     done-keep returns w s h words v = gather-keep left (λ j x y. words j x (omega arith)) v
     done-keep (binary ops) w s h words v = level-keep left (λ j x y. words j x (omega arith)) v
@@ -116,7 +116,7 @@ module _ (W W' : List ℕ) where
     unread-keep (calls kind) i rest h words v = ahead-keep W W' right (λ j x y. words j (omega arith) y) v
     unread-keep statements i rest h words v = ahead-keep W W' right (λ j x y. words j (omega arith) y) v
     unread-keep arrays i rest h words v = ahead-keep W W' right (λ j x y. words j (omega arith) y) v
-    unread-keep unaries i rest h words v = back-array-keep W W' left (λ j x y. words j x (omega arith)) v
+    unread-keep unaryMinusAndNot i rest h words v = back-array-keep W W' left (λ j x y. words j x (omega arith)) v
     unread-keep conditional i rest h words v = ahead-keep W W' right (λ j x y. words j (omega arith) y) v
     unread-keep returns i rest h words v = ahead-keep W W' right (λ j x y. words j (omega arith) y) v
     unread-keep (binary ops) i rest h words v = ahead-keep W W' right (λ j x y. words j (omega arith) y) v

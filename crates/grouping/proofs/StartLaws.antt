@@ -17,7 +17,7 @@ use Rattle.molang.specs.Unary.{returnLevel}
 use Rattle.molang.specs.Binary.{binaryLevel}
 use Rattle.molang.specs.Conditional.{conditionalLevel}
 use Rattle.molang.specs.Free.{clear}
-use Rattle.molang.specs.Work.{Kind, calls, statements, arrays, unaries, conditional, returns, binary, State, begins, inReading}
+use Rattle.molang.specs.Work.{Kind, calls, statements, arrays, unaryMinusAndNot, conditional, returns, binary, State, begins, inReading}
 use Rattle.ops.specs.declared.classes.TokenClasses.{TokenClasses}
 use Rattle.nodes.specs.Store.{wd, onto, ends, RepB, InArray}
 use Rattle.nodes.specs.Children.{CanTake, Taken}
@@ -107,7 +107,7 @@ module _ (W' X : List ℕ) (owner base len lo n hi : ℕ) (cs : Forest) (v : InA
       (ArraySide.growing (record { ds = []; seg = tt; count = refl; rep = RepB.begins (le-refl lo) }) o) all-ahead (inr h) (refl, le-refl 0)
 
   -- from the right
-  start-unary : Holds unaries W' X lo hi (walkOf (record { owner = owner; base = base; len = len; read = len; write = len }) Unary) (begins unaries cs) (inOrder cs)
+  start-unary : Holds unaryMinusAndNot W' X lo hi (walkOf (record { owner = owner; base = base; len = len; read = len; write = len }) Unary) (begins unaryMinusAndNot cs) (inOrder cs)
   unfolding begins inOrder
   start-unary =
       let high = rep-le (v .rep) in

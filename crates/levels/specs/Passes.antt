@@ -8,7 +8,7 @@ use lib.Dec.{eqb}
 use Rattle.molang.specs.Operator.{isOneOf}
 use Rattle.molang.specs.Calls.{queryOrLoop, math, unindexed, named, indexed, calls as isCall}
 use Rattle.molang.specs.Free.{isArrayName, isSemicolon, isPrefix, isConditional, isReturn}
-use Rattle.molang.specs.Work.{Kind, calls, statements, arrays, unaries, conditional, returns, binary, State}
+use Rattle.molang.specs.Work.{Kind, calls, statements, arrays, unaryMinusAndNot, conditional, returns, binary, State}
 use Rattle.ops.specs.Classes.{meets}
 use Rattle.ops.specs.declared.classes.TokenClasses.{TokenClasses}
 use Rattle.nodes.specs.declared.frames.List.{List as Items}
@@ -86,7 +86,7 @@ unfoldable pub operators : Kind → ℕ → Bool
 operators (calls kind) = isCall kind
 operators statements = isSemicolon
 operators arrays = isArrayName
-operators unaries = isPrefix
+operators unaryMinusAndNot = isPrefix
 operators conditional = isConditional
 operators returns = isReturn
 operators (binary ops) = isOneOf ops
@@ -102,7 +102,7 @@ pub data Runs : Kind → Pass → Type 0 where
   unsplitPass : Runs statements Unsplit
   split : {done : ℕ} → Runs statements (Split done)
   array : {array lent : ℕ} → Runs arrays (Arrays array lent)
-  unary : Runs unaries Unary
+  unary : Runs unaryMinusAndNot Unary
   level : {ops : List ℕ} {classes : TokenClasses} {pending : ℕ} → Covers (classes .0) (isOneOf ops) → Runs (binary ops) (Binary classes pending)
   conditionalPass : {tokens : ℕ} → Runs conditional (Conditional tokens)
   returnPass : Runs returns Returns
@@ -114,7 +114,7 @@ waits statements s = 0
 waits arrays (unindexed d) = 0
 waits arrays (named d q) = 1
 waits arrays (indexed d q contents) = 1
-waits unaries s = 0
+waits unaryMinusAndNot s = 0
 waits conditional s = 0
 waits returns s = 0
 waits (binary ops) s = 0

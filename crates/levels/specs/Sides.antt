@@ -16,7 +16,7 @@ use Rattle.molang.specs.Statements.{Split, unsplit, after, inside, splitOf}
 use Rattle.molang.specs.Binary.{unfolded}
 use Rattle.molang.specs.Order.{lastOf}
 use Rattle.molang.specs.Free.{clear, isNil, isConditional}
-use Rattle.molang.specs.Work.{Kind, calls, statements, arrays, unaries, conditional, returns, binary, Right, right, State}
+use Rattle.molang.specs.Work.{Kind, calls, statements, arrays, unaryMinusAndNot, conditional, returns, binary, Right, right, State}
 use Rattle.ops.specs.declared.classes.TokenClasses.{TokenClasses}
 use Rattle.nodes.specs.Store.{wd, TokenAt, Chain, SegB, Out, OutFrom, RepT, RepB, InArray}
 use Rattle.nodes.specs.declared.frames.List.{List as Items}
@@ -123,7 +123,7 @@ DoneSide (binary ops) W X lo l m hi w s = LevelSide W X (w .list .base) (w .list
 DoneSide conditional W X lo l m hi w s = ConditionalSide W X (w .list .base) (w .list .write) lo l (w .pass) s
 DoneSide statements W X lo l m hi w s = StatementSide W X (w .list .base) (w .list .write) lo l (w .pass) s
 DoneSide arrays W X lo l m hi w s = ArraySide W X (w .list .base) (w .list .write) lo l (w .pass) s
-DoneSide unaries W X lo l m hi w s = RightSide W X (w .list .base) (w .list .write) (w .list .len) m hi s
+DoneSide unaryMinusAndNot W X lo l m hi w s = RightSide W X (w .list .base) (w .list .write) (w .list .len) m hi s
 
 -- What is unread, in reading order.
 abbrev pub UnreadSide : Kind → List ℕ → List ℕ → ℕ → ℕ → ℕ → ℕ → Items → Forest → Type 0
@@ -133,7 +133,7 @@ UnreadSide (binary ops) W X lo l m hi v rest = Ahead W X (v .base) (v .read) (v 
 UnreadSide conditional W X lo l m hi v rest = Ahead W X (v .base) (v .read) (v .len) m hi rest
 UnreadSide statements W X lo l m hi v rest = Ahead W X (v .base) (v .read) (v .len) m hi rest
 UnreadSide arrays W X lo l m hi v rest = Ahead W X (v .base) (v .read) (v .len) m hi rest
-UnreadSide unaries W X lo l m hi v rest = BackArray W X (v .base) (v .read) lo l rest
+UnreadSide unaryMinusAndNot W X lo l m hi v rest = BackArray W X (v .base) (v .read) lo l rest
 
 -- What the statement pass's state says of the unread items: while no statement is finished, the semicolon whose span it has is to come.
 abbrev pub SplitAgrees : Split → Forest → Type 0
@@ -157,7 +157,7 @@ Agrees (binary ops) v s rest = Unit {0}
 Agrees conditional v s rest = Unit {0}
 Agrees statements v s rest = SplitAgrees s rest
 Agrees arrays v s rest = ArrayAgrees v s rest
-Agrees unaries v s rest = Unit {0}
+Agrees unaryMinusAndNot v s rest = Unit {0}
 
 -- Both sides of a list.
 pub record Sides (κ : Kind) (W X : List ℕ) (lo l m hi : ℕ) (w : Walk) (s : State κ) (rest : Forest) : Type 0 where

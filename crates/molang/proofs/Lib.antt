@@ -16,6 +16,8 @@ pub mod Unfolded
 pub mod Conditional
 pub mod Sections
 pub mod Passes
+pub mod NoMasks
+pub mod NoFrames
 pub mod Bounds
 pub mod FirstFailure
 pub mod Words

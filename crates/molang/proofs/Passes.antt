@@ -18,6 +18,8 @@ use Rattle.molang.specs.Order.{Pass, lastToken, memberAccessors, section
 use Rattle.molang.specs.Read.{messages, rooted, endsReading, grouped}
 use Rattle.molang.specs.Free.{free, isNil}
 use Rattle.molang.specs.Weight.{Weighing, weight}
+use Rattle.molang.specs.Work as kinds
+use Rattle.molang.specs.Work.{Kind, passOf}
 use Rattle.molang.proofs.Trees.{decided, both, and-true-true, free-leaf, free-tree}
 use Rattle.molang.proofs.Booleans.{false-true}
 use Rattle.molang.proofs.Walks.{failed, fine}
@@ -45,6 +47,18 @@ isNested addition = true
 isNested conditional = true
 isNested returns = true
 isNested (binary ops) = true
+
+-- Those of every kind.
+pub kind-nested : (κ : Kind) → isNested (passOf κ) ≡ true
+unfolding isNested passOf
+kind-nested (kinds.calls queryOrLoop) = refl
+kind-nested (kinds.calls math) = refl
+kind-nested kinds.statements = refl
+kind-nested kinds.arrays = refl
+kind-nested kinds.unaryMinusAndNot = refl
+kind-nested kinds.conditional = refl
+kind-nested kinds.returns = refl
+kind-nested (kinds.binary ops) = refl
 
 module _ (W : Weighing) (pays : 3 * W .inner ≤ W .leaf Operator.semicolon) (turns : W .leaf Operator.add + W .inner ≤ W .leaf Operator.negate) where
   pub apply-light : (sourceLength : ℕ) (p : Pass) (f : Forest) → isNested p ≡ true

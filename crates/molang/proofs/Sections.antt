@@ -13,8 +13,8 @@ use Rattle.molang.specs.Operator.{hasMembers, closingOf, isCloser}
 use Rattle.molang.specs.Forest.{Token, Forest, nil, node, leaves, turnedOnto, inOrder}
 use Rattle.molang.specs.Message.{Message, Result, fail, closer}
 use Rattle.molang.specs.Sections.{withMember, members, Open, outside, section, placed, position, Walked, going, mismatch, closing, bracket, closed, sections}
-use Rattle.molang.specs.Weight.{Weighing, weight}
 use Rattle.molang.specs.Free.{flat}
+use Rattle.molang.specs.Weight.{Weighing, weight}
 use Rattle.molang.proofs.Trees.{decided, either, maybe, both, and-true-true}
 use Rattle.molang.proofs.Walks.{Outcome, failed, fine}
 use Rattle.molang.proofs.Weight.{weight-tree, weight-inOrder}
@@ -52,6 +52,11 @@ afterMember m rest x = elim x [ none ↦ fail m | some e ↦ members e rest ]
 -- `sections` at a token, by what it makes of the open sections.
 unfoldable pub afterBracket : ℕ → Forest → Walked → Result
 afterBracket i rest x = elim x [ going t ↦ sections i t rest | mismatch m ↦ fail m ]
+
+-- A member accessor opens no section.
+pub member-unopened : (k : Token) → eqb (k .op) Operator.memberAccessor ≡ true → closingOf (k .op) ≡ none
+unfolding closingOf
+member-unopened k e = rw (eqb-true (k .op) Operator.memberAccessor e) refl
 
 -- The trees so far with one more member accessor.
 data Joined (W : Weighing) (n : ℕ) : Option Forest → Type 0 where
@@ -119,10 +124,6 @@ module _ (W : Weighing) where
   unopened-light k cs i s =
       either (Walks (weight W (node k cs nil) + openWeight s)) (isCloser (k .op)) _ _ (closing-light k cs i s)
       (walks {s = placed k cs s} (omega (arith, placed-light k cs s)))
-
-  member-unopened : (k : Token) → eqb (k .op) Operator.memberAccessor ≡ true → closingOf (k .op) ≡ none
-  unfolding closingOf
-  member-unopened k e = rw (eqb-true (k .op) Operator.memberAccessor e) refl
 
   bracket-light : (k : Token) (cs rest : Forest) (i : ℕ) (s : Open) → flat (node k cs rest) ≡ true
       → Walks (weight W (node k cs nil) + openWeight s) (bracket k cs i s)

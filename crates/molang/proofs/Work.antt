@@ -1,12 +1,20 @@
--- The whole pass is what is left of it at its beginning.
+-- What is left of a pass: at its beginning it is the whole pass (`pass-begins`); a list has the same nodes in reading order (`reading-size`);
+-- and a failure goes through every list that waits (`unwound-fail`).
+use Prim.Native.Nat.{_+_}
 use mathlib.Core.Path.{_≡_, refl, ap, sym, _∙_}
-use mathlib.Core.Bool.{false}
+use mathlib.Core.Bool.{Bool, false}
+use mathlib.Core.List.{List, [], _∷_}
 use mathlib.Core.Option.{none, some}
-use Rattle.molang.specs.Forest.{Token, Forest, nil, node, turnedOnto, inOrder}
-use Rattle.molang.specs.Message.{Result, ok, fail}
+use native.Mathlib.Omega.{arith}
+use Rattle.molang.specs.Forest.{Token, Forest, nil, node, turnedOnto, inOrder, count, size}
+use Rattle.molang.specs.Message.{Message, Result, ok, fail}
 use Rattle.molang.specs.Level.{through}
-use Rattle.molang.specs.Unary.{Unary, done, undone, unary, unaryPass, unaryNode, turned}
-use Rattle.molang.specs.Work.{Kind, calls, statements, arrays, unaries, conditional, returns, binary, right, before, fromRight, work, begins, inReading, pass}
+use Rattle.molang.specs.Calls.{queryOrLoop, math}
+use Rattle.molang.specs.Order.{apply}
+use Rattle.molang.specs.Unary.{Unary, done, undone, unaryLeaf, unary, unaryPass, unaryNode, turned}
+use Rattle.molang.specs.Work.{Kind, calls, statements, arrays, unaryMinusAndNot, conditional, returns, binary, right, before, fromRight, work, begins, inReading, passOf, pass, andThen, Held, held, unwound}
+
+-- ---- the whole pass is what is left at its beginning
 
 -- What the unary pass makes of the items left of some that are done.
 unfoldable pub leftOf : Forest → Unary → Result
@@ -56,12 +64,87 @@ unary-begins : (f : Forest) → unaryPass f ≡ fromRight (right false nil) (inO
 unfolding unaryPass inOrder turnedOnto leftOf unary
 unary-begins f = as-result (unary none f) ∙ ap (λ (g : Forest). toResult (unary none g)) (sym (turned-back f nil)) ∙ unary-left (inOrder f) nil
 
+-- The whole pass, as what is left of it at its beginning.
 pub pass-begins : (κ : Kind) (f : Forest) → pass κ f ≡ work κ (begins κ f) (inReading κ f)
-unfolding pass work begins inReading through
-pass-begins (calls c) f = refl
+unfolding pass passOf apply work begins inReading through
+pass-begins (calls queryOrLoop) f = refl
+pass-begins (calls math) f = refl
 pass-begins statements f = refl
 pass-begins arrays f = refl
-pass-begins unaries f = unary-begins f
+pass-begins unaryMinusAndNot f = unary-begins f
 pass-begins conditional f = refl
 pass-begins returns f = refl
 pass-begins (binary ops) f = refl
+
+-- ---- one item of the unary pass
+
+-- What is left after a step that gave u.
+after-step : (left : Forest) (u : Unary) → elim u [ undone m ↦ fail m | done p s ↦ fromRight (right p s) left ] ≡ leftOf left u
+unfolding leftOf
+after-step left (undone m) = refl
+after-step left (done p s) = refl
+
+pub at-leaf : (pair : Bool) (k : Token) (d left : Forest)
+    → fromRight (right pair d) (node k nil left) ≡ leftOf left (unaryLeaf (before left) (turned pair k) d)
+unfolding fromRight unary unaryNode
+at-leaf pair k d left = after-step left (unaryLeaf (before left) (turned pair k) d)
+
+-- The children come first.
+pub at-node : (pair : Bool) (k c : Token) (cs r d left : Forest)
+    → fromRight (right pair d) (node k (node c cs r) left)
+    ≡ andThen (unaryPass (node c cs r)) (λ kids. fromRight (right false (node (turned pair k) kids d)) left)
+unfolding fromRight unaryNode unaryPass andThen
+at-node pair k c cs r d left = into (unary none (node c cs r))
+  where
+    into : (u : Unary)
+        → elim u [ undone m ↦ fail m | done inner kids ↦ fromRight (right false (node (turned pair k) kids d)) left ]
+        ≡ andThen (elim u [ undone m ↦ fail m | done p s ↦ ok s ]) (λ kids. fromRight (right false (node (turned pair k) kids d)) left)
+    into (undone m) = refl
+    into (done p s) = refl
+
+-- ---- sizes in reading order
+
+turned-size : (a b : Forest) → size (turnedOnto a b) ≡ size a + size b
+unfolding turnedOnto size
+turned-size nil b = omega arith
+turned-size (node k cs a) b = let e = turned-size a (node k cs b) in e ∙ omega arith
+
+turned-count : (a b : Forest) → count (turnedOnto a b) ≡ count a + count b
+unfolding turnedOnto count
+turned-count nil b = omega arith
+turned-count (node k cs a) b = let e = turned-count a (node k cs b) in e ∙ omega arith
+
+reversed-size : (f : Forest) → size (inOrder f) ≡ size f
+unfolding inOrder size
+reversed-size f = let e = turned-size f nil in omega arith
+
+reversed-count : (f : Forest) → count (inOrder f) ≡ count f
+unfolding inOrder count
+reversed-count f = let e = turned-count f nil in omega arith
+
+pub reading-size : (κ : Kind) (f : Forest) → size (inReading κ f) ≡ size f
+unfolding inReading
+reading-size (calls kind) f = refl
+reading-size statements f = refl
+reading-size arrays f = refl
+reading-size unaryMinusAndNot f = reversed-size f
+reading-size conditional f = refl
+reading-size returns f = refl
+reading-size (binary ops) f = refl
+
+pub reading-count : (κ : Kind) (f : Forest) → count (inReading κ f) ≡ count f
+unfolding inReading
+reading-count (calls kind) f = refl
+reading-count statements f = refl
+reading-count arrays f = refl
+reading-count unaryMinusAndNot f = reversed-count f
+reading-count conditional f = refl
+reading-count returns f = refl
+reading-count (binary ops) f = refl
+
+-- ---- failures
+
+pub unwound-fail : (κ : Kind) (S : List (Held κ)) (ms : List Message) → unwound κ S (fail ms) ≡ fail ms
+unfolding unwound andThen
+unwound-fail κ [] ms = refl
+unwound-fail κ (held s k f ∷ S) ms = unwound-fail κ S ms

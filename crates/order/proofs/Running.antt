@@ -15,7 +15,7 @@ use Rattle.molang.specs.Message.{Message, Result, ok, fail}
 use Rattle.molang.specs.Calls.{queryOrLoop, math}
 use Rattle.molang.specs.Order.{Rules, Pass, callPass, statements, arrays, pointer, mathCalls, unaryMinusAndNot, addition, conditional, returns, binary, comparisons, logic, conditionals, order, runs, apply}
 use Rattle.molang.specs.Read.{Answer, messages, endsReading, grouped}
-use Rattle.molang.specs.Work.{Kind, pass}
+use Rattle.molang.specs.Work.{Kind, passOf, pass}
 use Rattle.molang.specs.Work as kinds
 use Rattle.molang.proofs.Trees.{both as both-true}
 use Rattle.molang.proofs.Passes.{isNested, allNested}
@@ -153,12 +153,12 @@ pub record OfKind (p : Pass) (state : State) : Type 0 where
   pub does : (sourceLength : ℕ) (f : Forest) → apply sourceLength p f ≡ pass kind f
 
 pub of-kind : {p : Pass} {state : State} → Starts p state → OfKind p state
-unfolding apply pass
+unfolding apply pass passOf
 of-kind call = record { kind = kinds.calls queryOrLoop; runs-kind = walks.call; does = λ n f. refl }
 of-kind unsplitPass = record { kind = kinds.statements; runs-kind = walks.unsplitPass; does = λ n f. refl }
 of-kind array = record { kind = kinds.arrays; runs-kind = walks.array; does = λ n f. refl }
 of-kind mathCall = record { kind = kinds.calls math; runs-kind = walks.mathCall; does = λ n f. refl }
-of-kind unary = record { kind = kinds.unaries; runs-kind = walks.unary; does = λ n f. refl }
+of-kind unary = record { kind = kinds.unaryMinusAndNot; runs-kind = walks.unary; does = λ n f. refl }
 of-kind conditionalPass = record { kind = kinds.conditional; runs-kind = walks.conditionalPass; does = λ n f. refl }
 of-kind returnPass = record { kind = kinds.returns; runs-kind = walks.returnPass; does = λ n f. refl }
 of-kind (point covers) = record { kind = kinds.binary (Operator.pointer ∷ []); runs-kind = walks.level covers; does = λ n f. refl }

@@ -15,7 +15,7 @@ use Rattle.molang.specs.Operator.{operand, operator, minus, unknown, beforeMinu
 use Rattle.molang.specs.Forest.{Token, Forest, nil, node, renamed, bare, count, size}
 use Rattle.molang.specs.Message.{fail, negateWithoutOperand, notWithoutOperand, unknownOperation}
 use Rattle.molang.specs.Free.{isNil}
-use Rattle.molang.specs.Work.{right, unaries, work, fromRight}
+use Rattle.molang.specs.Work.{right, unaryMinusAndNot, work, fromRight}
 use Rattle.ops.specs.Classes.{passClasses, ownClasses, inClass, bitAt}
 use Rattle.ops.specs.Operators.{meant}
 use Rattle.ops.specs.declared.BeforeMinus.{BeforeMinus as Before}
@@ -149,7 +149,7 @@ same-list v read write = record { owner = refl; base = refl; len = refl; classes
 -- the token has become part of what is done
 turn-on : {W' X : List ℕ} {lo l m hi read write : ℕ} {v : Items} {d d' rest : Forest} {k : Token} → RightList W' X lo l m hi (movedTo v read write) d' rest → read ≤ write
     → fromRight (right false d) (node k nil rest) ≡ fromRight (right false d') rest
-    → TurnTo unaries W' X lo hi (walkOf v Unary) (right false d) (node k nil rest) (On (walkOf (movedTo v read write) Unary))
+    → TurnTo unaryMinusAndNot W' X lo hi (walkOf v Unary) (right false d) (node k nil rest) (On (walkOf (movedTo v read write) Unary))
 unfolding work count size waits
 turn-on {read = read} {write = write} {v = v} r h e = goes (same-list v read write) (right-holds r h) e (omega arith) (omega arith) (omega arith)
 
@@ -198,7 +198,7 @@ module _ {W : List ℕ} {v : Items} {b : ℕ} (g : CanTakeToken W v b) where
   -- it takes the first done item
   pub prefix-turn : {W' : List ℕ} → Prefixed W (v .base + v .write) b W' → v .write < v .len
       → ((n : Token) (ns r : Forest) → fromRight (right false (node n ns r)) (node (g .k) nil (g .rest)) ≡ fromRight (right false (node (g .k) (node n ns nil) r)) (g .rest))
-      → TurnTo unaries W' (g .X) (g .lo) (g .hi) (walkOf v Unary) (right false (g .d)) (node (g .k) nil (g .rest)) (On (walkOf v Unary))
+      → TurnTo unaryMinusAndNot W' (g .X) (g .lo) (g .hi) (walkOf v Unary) (right false (g .d)) (node (g .k) nil (g .rest)) (On (walkOf v Unary))
   prefix-turn {W'} w full e =
       go (prefix-right (g .list) w (tree-out (g .tree)) (le-refl (g .l)) (g .tree .low) (tree-below (g .tree)) full behind (g .tree .token) (g .tree .pos))
     where
@@ -206,7 +206,7 @@ module _ {W : List ℕ} {v : Items} {b : ℕ} (g : CanTakeToken W v b) where
       behind = omega (arith, g .gap)
 
       go : {f : Forest} → TakenUnder W' (g .X) (g .lo) (g .l) (g .l) (g .hi) v (g .k) (g .rest) f
-          → TurnTo unaries W' (g .X) (g .lo) (g .hi) (walkOf v Unary) (right false f) (node (g .k) nil (g .rest)) (On (walkOf v Unary))
+          → TurnTo unaryMinusAndNot W' (g .X) (g .lo) (g .hi) (walkOf v Unary) (right false f) (node (g .k) nil (g .rest)) (On (walkOf v Unary))
       go (under {n = n} {ns = ns} {r = r} list) = turn-on {read = v .read} {write = v .write} {v = v} list behind (e n ns r)
 
   pub prefix-within : {W' : List ℕ} → Prefixed W (v .base + v .write) b W' → v .write < v .len → Within W W' (g .X) (g .lo) (g .hi) v
@@ -231,21 +231,21 @@ module _ {W : List ℕ} {v : Items} {b : ℕ} (g : CanTakeToken W v b) where
 
   -- a token without an operand
   pub negate-fails : g .k .op ≡ Operator.negate → v .write ≡ v .len
-      → TurnTo unaries W (g .X) (g .lo) (g .hi) (walkOf v Unary) (right false (g .d)) (node (g .k) nil (g .rest)) (Fail (NegateWithoutOperand b))
+      → TurnTo unaryMinusAndNot W (g .X) (g .lo) (g .hi) (walkOf v Unary) (right false (g .d)) (node (g .k) nil (g .rest)) (Fail (NegateWithoutOperand b))
   unfolding work
   negate-fails m e =
       fails (Failures.negateWithoutOperand (g .tree .token))
       (ap (λ (f : Forest). fromRight (right false f) (node (g .k) nil (g .rest))) (alone e) ∙ minus-alone (g .k) m (g .rest))
 
   pub not-fails : (g .k .op ≡ Operator.negate → ⊥) → v .write ≡ v .len
-      → TurnTo unaries W (g .X) (g .lo) (g .hi) (walkOf v Unary) (right false (g .d)) (node (g .k) nil (g .rest)) (Fail (NotWithoutOperand b))
+      → TurnTo unaryMinusAndNot W (g .X) (g .lo) (g .hi) (walkOf v Unary) (right false (g .d)) (node (g .k) nil (g .rest)) (Fail (NotWithoutOperand b))
   unfolding work
   not-fails m e =
       fails (Failures.notWithoutOperand (g .tree .token))
       (ap (λ (f : Forest). fromRight (right false f) (node (g .k) nil (g .rest))) (alone e) ∙ not-alone (g .k) (g .prefix) m (g .rest))
 
   pub not-turn : {W' : List ℕ} → (g .k .op ≡ Operator.negate → ⊥) → Prefixed W (v .base + v .write) b W' → v .write < v .len
-      → TurnTo unaries W' (g .X) (g .lo) (g .hi) (walkOf v Unary) (right false (g .d)) (node (g .k) nil (g .rest)) (On (walkOf v Unary))
+      → TurnTo unaryMinusAndNot W' (g .X) (g .lo) (g .hi) (walkOf v Unary) (right false (g .d)) (node (g .k) nil (g .rest)) (On (walkOf v Unary))
   not-turn m w full = prefix-turn w full (λ n ns r. not-takes (g .k) (g .prefix) m n ns r (g .rest))
 
   -- ---- a minus
@@ -253,7 +253,7 @@ module _ {W : List ℕ} {v : Items} {b : ℕ} (g : CanTakeToken W v b) where
   module _ (m : g .k .op ≡ Operator.negate) (full : v .write < v .len) where
     -- at the start
     pub first-turn : {W' : List ℕ} → Prefixed W (v .base + v .write) b W' → v .read ≡ 0
-        → TurnTo unaries W' (g .X) (g .lo) (g .hi) (walkOf v Unary) (right false (g .d)) (node (g .k) nil (g .rest)) (On (walkOf v Unary))
+        → TurnTo unaryMinusAndNot W' (g .X) (g .lo) (g .hi) (walkOf v Unary) (right false (g .d)) (node (g .k) nil (g .rest)) (On (walkOf v Unary))
     first-turn w e =
         prefix-turn w full
         (λ n ns r.
@@ -279,7 +279,7 @@ module _ {W : List ℕ} {v : Items} {b : ℕ} (g : CanTakeToken W v b) where
           (λ p ps left a c t h r. omega (arith, tree-below t, g .list .mid, ahead-le (g .list .done) .0, g .list .below))
 
       pub operator-turn : {W' : List ℕ} → Prefixed W (v .base + v .write) b W' → beforeMinus (opAt W (wd W (v .base + (v .read - 1)))) ≡ operator
-          → TurnTo unaries W' (g .X) (g .lo) (g .hi) (walkOf v Unary) (right false (g .d)) (node (g .k) nil (g .rest)) (On (walkOf v Unary))
+          → TurnTo unaryMinusAndNot W' (g .X) (g .lo) (g .hi) (walkOf v Unary) (right false (g .d)) (node (g .k) nil (g .rest)) (On (walkOf v Unary))
       operator-turn w e =
           prefix-turn w full
           (λ n ns r.
@@ -287,11 +287,11 @@ module _ {W : List ℕ} {v : Items} {b : ℕ} (g : CanTakeToken W v b) where
           (λ p ps left a c t h s. minus-operator (g .k) m n ns r p ps left (ap beforeMinus (sym (tree-op t)) ∙ e)))
 
       pub unknown-fails : beforeMinus (opAt W (wd W (v .base + (v .read - 1)))) ≡ unknown
-          → TurnTo unaries W (g .X) (g .lo) (g .hi) (walkOf v Unary) (right false (g .d)) (node (g .k) nil (g .rest)) (Fail (UnknownOperation b (wd W (v .base + (v .read - 1)))))
+          → TurnTo unaryMinusAndNot W (g .X) (g .lo) (g .hi) (walkOf v Unary) (right false (g .d)) (node (g .k) nil (g .rest)) (Fail (UnknownOperation b (wd W (v .base + (v .read - 1)))))
       unfolding work
       unknown-fails e =
           with-last
-          (λ f. TurnTo unaries W (g .X) (g .lo) (g .hi) (walkOf v Unary) (right false (g .d)) (node (g .k) nil f) (Fail (UnknownOperation b (wd W (v .base + (v .read - 1))))))
+          (λ f. TurnTo unaryMinusAndNot W (g .X) (g .lo) (g .hi) (walkOf v Unary) (right false (g .d)) (node (g .k) nil f) (Fail (UnknownOperation b (wd W (v .base + (v .read - 1))))))
           (λ p ps left a c t h s.
           fails (Failures.unknownOperation (g .tree .token) (t .token))
           (first-done full (λ f. fromRight (right false f) (node (g .k) nil (node p ps left)) ≡ fail (unknownOperation (g .k) p ∷ []))
@@ -299,10 +299,10 @@ module _ {W : List ℕ} {v : Items} {b : ℕ} (g : CanTakeToken W v b) where
 
       -- after a minus, which becomes `+`
       pub minus-turn : {W' : List ℕ} → Added W (wd W (v .base + (v .read - 1))) W' → beforeMinus (opAt W (wd W (v .base + (v .read - 1)))) ≡ minus
-          → TurnTo unaries W' (g .X) (g .lo) (g .hi) (walkOf v Unary) (right false (g .d)) (node (g .k) nil (g .rest)) (On (walkOf v Unary))
+          → TurnTo unaryMinusAndNot W' (g .X) (g .lo) (g .hi) (walkOf v Unary) (right false (g .d)) (node (g .k) nil (g .rest)) (On (walkOf v Unary))
       unfolding work count size waits
       minus-turn {W'} w e =
-          with-last (λ f. TurnTo unaries W' (g .X) (g .lo) (g .hi) (walkOf v Unary) (right false (g .d)) (node (g .k) nil f) (On (walkOf v Unary)))
+          with-last (λ f. TurnTo unaryMinusAndNot W' (g .X) (g .lo) (g .hi) (walkOf v Unary) (right false (g .d)) (node (g .k) nil f) (On (walkOf v Unary)))
           (λ p ps left a c t h s.
           goes (same-list v (v .read) (v .write)) (right-holds (renamed-last p ps left t h s w) (omega (arith, g .gap)))
           (first-done full (λ f. fromRight (right false f) (node (g .k) nil (node p ps left)) ≡ fromRight (right false f) (node (renamed Operator.add p) ps left))
@@ -427,14 +427,14 @@ module _ {W : List ℕ} {v : Items} {b : ℕ} (g : CanTakeToken W v b) where
           }
 
       pub subtract-turn : (z : 0 < v .read) → beforeMinus (opAt W (wd W (v .base + (v .read - 1)))) ≡ operand
-          → TurnTo unaries W' (g .X) (g .lo) (g .hi) (walkOf v Unary) (right false (g .d)) (node (g .k) nil (g .rest)) (On (walkOf (movedTo v (v .read) (v .write - 1)) Unary))
+          → TurnTo unaryMinusAndNot W' (g .X) (g .lo) (g .hi) (walkOf v Unary) (right false (g .d)) (node (g .k) nil (g .rest)) (On (walkOf (movedTo v (v .read) (v .write - 1)) Unary))
       subtract-turn z e =
           let low = g .tree .low in
           go (prefix-right made-list (w .prefixed) spare-out (omega arith) (le-refl (b + 1)) (omega (arith, spare-in)) full (omega (arith, g .gap))
           (token-made (w .made) (omega arith) (g .tree .token)) (omega arith))
         where
           go : {f : Forest} → TakenUnder (w .W2) (g .X) (g .lo) (g .l) (b + 1) (g .hi) v (bare Operator.negate (g .k)) (g .rest) f
-              → TurnTo unaries W' (g .X) (g .lo) (g .hi) (walkOf v Unary) (right false f) (node (g .k) nil (g .rest)) (On (walkOf (movedTo v (v .read) (v .write - 1)) Unary))
+              → TurnTo unaryMinusAndNot W' (g .X) (g .lo) (g .hi) (walkOf v Unary) (right false f) (node (g .k) nil (g .rest)) (On (walkOf (movedTo v (v .read) (v .write - 1)) Unary))
           go (under {n = n} {ns = ns} {r = s} list2) =
               turn-on {v = v} (added-list list2) (omega (arith, g .gap))
               (with-last m full z

@@ -10,7 +10,7 @@ use native.Mathlib.Nat.{le-refl}
 use lib.ListN.{length, set}
 use Rattle.molang.specs.Forest.{Token, Forest, nil, node, count}
 use Rattle.molang.specs.Free.{isNil, isPrefix}
-use Rattle.molang.specs.Work.{Kind, State, Right, right, unaries}
+use Rattle.molang.specs.Work.{Kind, State, Right, right, unaryMinusAndNot}
 use Rattle.ops.specs.Classes.{shares}
 use Rattle.nodes.specs.Store.{wd, SegB, RepT, RepB, begins, put}
 use Rattle.nodes.specs.Slots.{isLeafAt}
@@ -68,7 +68,7 @@ ahead-cons {base = base} {read = read} {b = b} low t here r =
 -- ---- the list at a turn
 
 pub right-sides : {W X : List ℕ} {lo l m hi : ℕ} {v : Items} {d rest : Forest} → RightList W X lo l m hi v d rest
-    → Sides unaries W X lo l m hi (walkOf v Unary) (right false d) rest
+    → Sides unaryMinusAndNot W X lo l m hi (walkOf v Unary) (right false d) rest
 right-sides r =
     record {
       runs = unary;
@@ -83,7 +83,7 @@ right-sides r =
     }
 
 pub right-holds : {W X : List ℕ} {lo l m hi : ℕ} {v : Items} {d rest : Forest} → RightList W X lo l m hi v d rest → v .read ≤ v .write
-    → Holds unaries W X lo hi (walkOf v Unary) (right false d) rest
+    → Holds unaryMinusAndNot W X lo hi (walkOf v Unary) (right false d) rest
 right-holds {l = l} {m = m} r h = record { l = l; m = m; sides = right-sides r; turning = h }
 
 of-side : {W X : List ℕ} {base write len m hi : ℕ} {s : Right} → RightSide W X base write len m hi s → (Q : Right → Type 0)
@@ -92,9 +92,9 @@ of-side (all {d = d} {n = n} c v) Q f = f d (record { n = n; count = c; array = 
 
 -- A list that the pass holds is one of the unary pass.
 pub of-unary : {W X : List ℕ} {lo l m hi : ℕ} {v : Items} {rest : Forest} {κ : Kind} → Runs κ Unary → (s : State κ) → Sides κ W X lo l m hi (walkOf v Unary) s rest → length W < 2 ^ 32
-    → (Q : (κ : Kind) → State κ → Type 0) → ((d : Forest) → RightList W X lo l m hi v d rest → Q unaries (right false d)) → Q κ s
+    → (Q : (κ : Kind) → State κ → Type 0) → ((d : Forest) → RightList W X lo l m hi v d rest → Q unaryMinusAndNot (right false d)) → Q κ s
 of-unary unary s sides small Q f =
-    of-side (sides .done) (λ t. Q unaries t)
+    of-side (sides .done) (λ t. Q unaryMinusAndNot t)
     (λ d a. f d (record { unread = sides .unread; done = a; mid = sides .mid; below = sides .below; within = sides .within; small = small }))
 
 pub seek-back : {W : List ℕ} {v : Items} → CanTurn W (walkOf v Unary) → CanSeekBack W v

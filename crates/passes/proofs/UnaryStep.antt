@@ -6,7 +6,7 @@ use mathlib.Core.List.{List}
 use native.Mathlib.Omega.{arith}
 use native.Mathlib.Nat.{le-refl}
 use Rattle.molang.specs.Forest.{Forest, count, size}
-use Rattle.molang.specs.Work.{right, unaries, work, begins}
+use Rattle.molang.specs.Work.{right, unaryMinusAndNot, work, begins}
 use Rattle.nodes.specs.declared.frames.List.{List as Items}
 use Rattle.levels.specs.Passes.{walkOf, movedTo, waits}
 use Rattle.levels.specs.Turns.{SameList, Within, afresh, TurnTo, goes, enters, ends, fails, Turned}
@@ -30,7 +30,7 @@ same-then v v' e s =
 
 module _ {W' X : List ℕ} {lo hi : ℕ} {v v' : Items} {d rest d' rest' : Forest} (e : v' ≡ movedTo v (v' .read) (v' .write)) (m : Moved d rest d' rest') where
   -- a turn after the items that were passed over
-  turn-after : {t : Turn} → TurnTo unaries W' X lo hi (walkOf v' Unary) (right false d') rest' t → TurnTo unaries W' X lo hi (walkOf v Unary) (right false d) rest t
+  turn-after : {t : Turn} → TurnTo unaryMinusAndNot W' X lo hi (walkOf v' Unary) (right false d') rest' t → TurnTo unaryMinusAndNot W' X lo hi (walkOf v Unary) (right false d) rest t
   unfolding work waits
   turn-after (goes l h w c s t) = goes (same-then v v' e l) h (m .same ∙ w) (omega (arith, m .fewer)) (omega (arith, m .fewer, m .smaller)) (omega (arith, m .fewer, m .smaller))
   turn-after (enters l h r f b w c s z q) =
@@ -42,7 +42,7 @@ module _ {W' X : List ℕ} {lo hi : ℕ} {v v' : Items} {d rest d' rest' : Fores
 
 -- a turn of the list of any pass that `step` is called with
 turned-by : {W W' : List ℕ} {v : Items} {t : Turn}
-    → ((g : CanSeekBack W v) → TurnTo unaries W' (g .X) (g .lo) (g .hi) (walkOf v Unary) (right false (g .d)) (g .rest) t)
+    → ((g : CanSeekBack W v) → TurnTo unaryMinusAndNot W' (g .X) (g .lo) (g .hi) (walkOf v Unary) (right false (g .d)) (g .rest) t)
     → ((g : CanSeekBack W v) → Within W W' (g .X) (g .lo) (g .hi) v) → Turned W (walkOf v Unary) t W'
 turned-by {W} {W'} {v} {t} f h =
     record {
@@ -55,7 +55,7 @@ turned-by {W} {W'} {v} {t} f h =
     }
 
 over-to : {W' X : List ℕ} {lo hi : ℕ} {v v' : Items} {d rest : Forest} → SoughtBackTo W' X lo hi v d rest (Nothing v')
-    → TurnTo unaries W' X lo hi (walkOf v Unary) (right false d) rest (Over (walkOf v' Unary))
+    → TurnTo unaryMinusAndNot W' X lo hi (walkOf v Unary) (right false d) rest (Over (walkOf v' Unary))
 unfolding work waits
 over-to {v = v} {v' = v'} (none e h list m) = ends (moved-same v v' e) (right-holds list h) refl (m .same)
 
@@ -63,7 +63,7 @@ pub step-over : {W W1 : List ℕ} {v v' : Items} {t : Turn} → SoughtBack W v (
 step-over f e = rw e (turned-by (λ g. over-to (f .to g)) (λ g. record { kept = λ j h o. f .same j o; long = f .long }))
 
 enter-to : {W' X : List ℕ} {lo hi b : ℕ} {v v' : Items} {d rest : Forest} → SoughtBackTo W' X lo hi v d rest (Children v' b)
-    → TurnTo unaries W' X lo hi (walkOf v Unary) (right false d) rest (Enter (walkOf v' Unary) b)
+    → TurnTo unaryMinusAndNot W' X lo hi (walkOf v Unary) (right false d) rest (Enter (walkOf v' Unary) b)
 unfolding work waits begins count size
 enter-to {v = v} {v' = v'} (tree {d' = d'} {rest' = rest'} {cs = cs} {l = l} {k = k} e h list full t m) =
     enters (moved-same v v' e) (record { sides = right-sides list; framed = h }) t full (afresh refl (le-refl l))
@@ -80,7 +80,7 @@ pub token-found : {W W1 : List ℕ} {v v' : Items} {b : ℕ} → CanSeekBack W v
 token-found g f = taken-by (f .to g)
 
 token-to : {W1 W' X : List ℕ} {lo hi b : ℕ} {v v' : Items} {d rest : Forest} {t : Turn} → SoughtBackTo W1 X lo hi v d rest (Leaf v' b) → TokenTaken W1 v' b t W'
-    → TurnTo unaries W' X lo hi (walkOf v Unary) (right false d) rest t
+    → TurnTo unaryMinusAndNot W' X lo hi (walkOf v Unary) (right false d) rest t
 token-to {X = X} {lo = lo} {hi = hi} (leaf {d' = d'} {rest' = rest'} {l = l} {m = n} {k = k} e h list p t m) taken =
     turn-after e m (taken .to (record { X = X; lo = lo; l = l; m = n; hi = hi; d = d'; rest = rest'; k = k; list = list; tree = t; prefix = p; gap = h }))
 

@@ -10,7 +10,7 @@ use lib.ListN.{length, set}
 use Rattle.molang.specs.Operator.{negate, add}
 use Rattle.molang.specs.Forest.{Token, Forest, nil, node, count, size}
 use Rattle.molang.specs.Free.{isNil, isPrefix}
-use Rattle.molang.specs.Work.{unaries, right, fromRight}
+use Rattle.molang.specs.Work.{unaryMinusAndNot, right, fromRight}
 use Rattle.nodes.specs.Store.{wd, RepT}
 use Rattle.nodes.specs.Slots.{opAt, isLeafAt, Made}
 use Rattle.nodes.specs.Children.{Attached}
@@ -94,7 +94,7 @@ pub record CanTakeMinus (W : List ℕ) (v : Items) (b : ℕ) : Type 0 where
 
 -- The turn goes on from the token as the definition's does.
 pub record TokenTaken (W : List ℕ) (v : Items) (b : ℕ) (r : Turn) (W' : List ℕ) : Type 0 where
-  pub to : (g : CanTakeToken W v b) → TurnTo unaries W' (g .X) (g .lo) (g .hi) (walkOf v Unary) (right false (g .d)) (node (g .k) nil (g .rest)) r
+  pub to : (g : CanTakeToken W v b) → TurnTo unaryMinusAndNot W' (g .X) (g .lo) (g .hi) (walkOf v Unary) (right false (g .d)) (node (g .k) nil (g .rest)) r
   pub within : (g : CanTakeToken W v b) → Within W W' (g .X) (g .lo) (g .hi) v
 
 -- ---- `prefix`, `to_add`, `subtract`: the words
