@@ -79,9 +79,9 @@ module _ (h : Handed) (nodes : ℕ) (list : List ℕ) (left : list ≡ listAfter
 
 -- What the first call told and left is handed on, and so the three calls are made.
 pub has-reread : (c : Rereading) {first : Answer} {tree messages work : List ℕ} → HasParsed (c .first) first tree messages work
-    → {l : RereadLeft}
-    → l ≡ afterFirst (handedOf tree (c .written) (c .again) messages work (c .sourceLength) (c .version)) (toldOf first)
+    → {passed : ℤ} → passed ≡ c .version → {l : RereadLeft}
+    → l ≡ afterFirst (handedOf tree (c .written) (c .again) messages work (c .sourceLength) passed) (toldOf first)
     → HasReread c l
 unfolding reread handed
-has-reread c p {l} e =
-    let left : l ≡ reread c = e ∙ rw (p .told, p .tree, p .messages, p .work) refl in record { left = left; demand3 = rw left (demand-3 c) }
+has-reread c p v {l} e =
+    let left : l ≡ reread c = e ∙ rw (p .told, p .tree, p .messages, p .work, v) refl in record { left = left; demand3 = rw left (demand-3 c) }

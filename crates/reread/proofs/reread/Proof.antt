@@ -62,7 +62,8 @@ returns c =
     let s = at .before .before .before .before .before .before .before .before .before .before in
     let a = s .args in
     has-reread (rereading (first s) (a .written .now) (a .again .now) (a .source-length-again) (a .version-again)) (parsed at)
-    (rw (toZ-ofZ (s .fits .version-again)) at (on .after-first .ensures))
+    (toZ-ofZ (s .fits .version-again))
+    (on .after-first .ensures)
 
 pub reread-spec : {M : Type 1} → statement M
 reread-spec =
