@@ -13,7 +13,7 @@ use Rattle.molang.specs.Forest.{Token, Forest, nil, node, inOrder, count}
 use Rattle.molang.specs.Conditional.{isToken}
 use Rattle.molang.specs.Free.{free, isNil}
 use Rattle.ops.specs.Classes.{inClass}
-use Rattle.nodes.specs.Store.{wd, slotStart, firstAt, classesAt, TokenAt, Noted, reserve, Chain, Seg, SegB, Out, OutFrom, onto, RepF, ends, more, RepT, Owned, RepB, InArray, Free}
+use Rattle.nodes.specs.Store.{wd, firstField, nextField, classesField, slotStart, firstAt, classesAt, TokenAt, Noted, reserve, Chain, Seg, SegB, Out, OutFrom, onto, RepF, ends, more, RepT, Owned, RepB, InArray, Free}
 use Rattle.nodes.specs.Slots.{opAt, isLeafAt, isTokenAt}
 use Rattle.nodes.specs.Children.{Attached, AttachedTwo, CanTake, Taken, CanGive, Given}
 use Rattle.nodes.proofs.Runs.{off-word, off-out, segB-onto, length-onto}
@@ -69,9 +69,9 @@ module _ {W W' X : List ℕ} {q b lo l m hi : ℕ} {t : Token} {k : Forest} (w :
 
   pub attach-kept : Out q X → lo ≤ q → q < hi → lo ≤ l → m ≤ hi → (j : ℕ) → Free X lo hi j → wd W' j ≡ wd W j
   attach-kept out low high lower upper j f =
-      w .same j (f q 5 low high (omega arith) out)
-      (f b 6 (omega (arith, v .low)) (omega (arith, tree-below v)) (omega arith) (tree-out v .1))
-      (f q 7 low high (omega arith) out)
+      w .same j (f q firstField low high (omega arith) out)
+      (f b nextField (omega (arith, v .low)) (omega (arith, tree-below v)) (omega arith) (tree-out v .1))
+      (f q classesField low high (omega arith) out)
 
 -- ---- two trees under a node
 
@@ -101,10 +101,10 @@ module _ {W W' X : List ℕ} {q b c lo l m l' m' hi : ℕ} {t u : Token} {k j : 
   pub attach-two-kept : Out q X → lo ≤ q → q < hi → lo ≤ l → m' ≤ hi → (i : ℕ) → Free X lo hi i → wd W' i ≡ wd W i
   attach-two-kept out low high lower upper i f =
       let vl = v .low in let vh = tree-below v in let xl = x .low in let xh = tree-below x in
-      w .same i (f q 5 low high (omega arith) out)
-      (f b 6 (omega arith) (omega arith) (omega arith) (tree-out v .1))
-      (f c 6 (omega arith) (omega arith) (omega arith) (tree-out x .1))
-      (f q 7 low high (omega arith) out)
+      w .same i (f q firstField low high (omega arith) out)
+      (f b nextField (omega arith) (omega arith) (omega arith) (tree-out v .1))
+      (f c nextField (omega arith) (omega arith) (omega arith) (tree-out x .1))
+      (f q classesField low high (omega arith) out)
 
 -- ---- a list given to its owner
 
