@@ -33,7 +33,7 @@ use Rattle.grouping.specs.Grouped.{tells, notEnded, withoutTokens, Stand
 use Rattle.grouping.specs.Grouped as stands
 use Rattle.levels.specs.declared.failure.Failure.the-variants.{ComplexMustEndWithSemicolon, ComplexWithoutTokens}
 use Rattle.grouping.specs.declared.grouped.Grouped.the-variants.{Failed}
-use Rattle.order.specs.Places.{usedBy}
+use Rattle.order.specs.Ranks.{usedBy}
 use Rattle.order.proofs.Running.{failed as failing, next, run-first, skip-first}
 use Rattle.sections.specs.Flat.{FlatTells, failed, mismatched, unclosed, Answers, CanJoin, Joined, CanSection}
 use Rattle.sections.specs.Flat as pass

@@ -19,7 +19,7 @@ use Rattle.grouping.specs.Grouped.{Says, StandsFor}
 use Rattle.levels.specs.declared.failure.Failure.{Failure}
 use Rattle.grouping.specs.declared.grouped.Grouped.{Grouped}
 use Rattle.grouping.specs.declared.grouped.Grouped.the-variants.{Failed as GroupFailed, Mismatched as GroupMismatched, Unclosed as GroupUnclosed}
-use Rattle.order.specs.Places.{usedBy, rulesOf}
+use Rattle.order.specs.Ranks.{usedBy, rulesOf}
 use Rattle.sections.specs.Flat.{CanJoin, CanSection, Answers}
 use Rattle.sections.specs.declared.Flat.{Flat}
 use Rattle.sections.specs.declared.Flat.the-variants.{Done, Fail, Mismatched, Unclosed as Unclosing}

@@ -1,5 +1,5 @@
-// The passes in their fixed order (`group_tokens` in mod.rs): the flat ones over the array of the tokens, then the places of the order
-// one after another over the list of slot 0. Leans on sections, the driver, order (which pass stands at a place) and nodes (chains).
+// The passes in their fixed order (`group_tokens` in mod.rs): the flat ones over the array of the tokens, then the ranks of the order
+// one after another over the list of slot 0. Leans on sections, the driver, order (which pass stands at a rank) and nodes (chains).
 use crate::driver::Ran;
 use crate::driver::run;
 use crate::grouped::Grouped;
@@ -10,11 +10,9 @@ use nodes::slots::ROOT;
 use ops::op;
 use ops::sets::OpSet;
 use order::Choice;
-use order::PLACES;
 use order::POINTER;
+use order::RANKS;
 use order::pass_at;
-use order::uses_either;
-use order::uses_some;
 use sections::Flat;
 use sections::members;
 use sections::sections;
@@ -27,7 +25,7 @@ fn ends_with_semicolon(work: &[u32], base: usize, n: usize, used: OpSet) -> Flat
     requires { ⌜ CanGroup (now work) base n ⌝ }
     ensures { λ r. ⌜ EndsRight (now (work .entry)) base n used r ⌝ }
 {
-    if uses_either(used, op::ASSIGNMENT, op::SEMICOLON) {
+    if used.has_either(op::ASSIGNMENT, op::SEMICOLON) {
         if n == 0 {
             return Flat::Fail(Failure::ComplexWithoutTokens);
         }
@@ -55,7 +53,7 @@ fn sections_if_used(work: &mut [u32], base: usize, n: usize, used: OpSet) -> Fla
     requires { ⌜ CanSection (now work) base n ⌝ }
     ensures { λ r. ⌜ SectionedIf (now (work .entry)) base n used r (now (work .exit)) ⌝ }
 {
-    if uses_some(used, op::LEFT_BRACE, op::LEFT_BRACKET, op::LEFT_PARENTHESIS) {
+    if used.has_some(op::LEFT_BRACE, op::LEFT_BRACKET, op::LEFT_PARENTHESIS) {
         return sections(work, base, n);
     }
     Flat::Done(n)
@@ -94,15 +92,15 @@ fn run_choice(work: &mut [u32], base: usize, n: usize, choice: Choice) -> Ran
     }
 }
 
-// The passes after the flat ones, over the list of slot 0, whose m items stand from `base` on. The pointer's failure is no ordinary one: it leaves the list empty, and the
-// passes after it leave an empty list as it is.
+// The passes after the flat ones, over the list of slot 0, whose m items stand from `base` on. The pointer's failure is no ordinary one:
+// it leaves the list empty, and the passes after it leave an empty list as it is.
 fn levels(work: &mut [u32], base: usize, m: usize, used: OpSet, version: i16) -> Grouped
     requires { ⌜ CanLevel (now work) base m ⌝ }
     ensures { λ r. ⌜ Levelled (now (work .entry)) base m used version r (now (work .exit)) ⌝ }
 {
     let mut k = 0u32;
     let mut n = m;
-    while k < PLACES {
+    while k < RANKS {
         let choice = pass_at(k, used, version);
         let ran = run_choice(work, base, n, choice);
         match ran {

@@ -1,4 +1,4 @@
--- One arm of a choice: a gate and a state make the choice at a place; where no place is, nothing is chosen; and the groups of places in
+-- One arm of a choice: a gate and a state make the choice at a rank; where no rank is, nothing is chosen; and the groups of ranks in
 -- the whole. Assumes nothing.
 use mathlib.Core.Path.{_≡_, refl, sym, ap, subst, _∙_}
 use mathlib.Core.Bool.{Bool, true, false, not, _||_, _&&_, or-assoc, or-false}
@@ -11,35 +11,19 @@ use lib.Seq.{getD-append-add}
 use Rattle.molang.specs.Operator.{any, isOneOf}
 use Rattle.molang.specs.Order.{Rules, Pass, binary, comparisons, logic, conditionals, runs}
 use Rattle.ops.specs.declared.classes.TokenClasses.{TokenClasses}
+use Rattle.ops.proofs.SetLaws.{one-used}
 use Rattle.levels.specs.Passes.{Covers}
 use Rattle.levels.specs.declared.turns.Pass.{Pass as State}
 use Rattle.order.specs.declared.Choice.{Choice}
 use Rattle.order.specs.declared.Choice.the-variants.{Skip}
-use Rattle.order.specs.Places.{choiceIf, levelOf, andOr, padded, calling, arithmetic, comparing, deciding, branching, last, places, placeIn, Starts, level, Chosen, empty, unused, used}
+use Rattle.order.specs.Ranks.{choiceIf, levelOf, andOr, padded, calling, arithmetic, comparing, deciding, branching, last, ranks, rankIn, Starts, level, Chosen, empty, unused, used}
 
 -- ---- Gates
-
--- What `||` and `&&` answer where the first side decides, and where it does not.
-pub or-first : (x a b : Bool) → x ≡ true → x ≡ a → x ≡ (a || b)
-or-first x a b t e = rw (sym e ∙ t) t
-
-pub or-second : (x a y b : Bool) → x ≡ false → x ≡ a → y ≡ b → y ≡ (a || b)
-or-second x a y b f e d = rw (sym e ∙ f) d
-
-pub and-first : (x a b : Bool) → x ≡ false → x ≡ a → x ≡ (a && b)
-and-first x a b f e = rw (sym e ∙ f) f
-
-pub and-second : (x a y b : Bool) → x ≡ true → x ≡ a → y ≡ b → y ≡ (a && b)
-and-second x a y b t e d = rw (sym e ∙ t) d
 
 pub any-append : (u : ℕ → Bool) (os others : List ℕ) → any u (os ++ others) ≡ (any u os || any u others)
 unfolding any
 any-append u [] others = refl
 any-append u (o ∷ os) others = ap (λ (t : Bool). u o || t) (any-append u os others) ∙ sym (or-assoc (u o) (any u os) (any u others))
-
-pub one-used : (u : ℕ → Bool) (a : ℕ) → u a ≡ any u (a ∷ [])
-unfolding any
-one-used u a = sym (or-false (u a))
 
 -- ---- Arms
 
@@ -55,12 +39,12 @@ module _ (u : ℕ → Bool) where
   unfolding runs
   one-level o classes covers x e = chosen-if (binary (o ∷ [])) (levelOf classes) (u o) (one-used u o) (level covers) x e
 
-  -- After the last place of a group.
-  pub no-place : (group : List (Option Pass)) (k : ℕ) → length group ≤ k → Chosen u (placeIn group k) Skip
-  no-place group k past = rw (List·getD-eq-default group none past) empty
+  -- After the last rank of a group.
+  pub no-rank : (group : List (Option Pass)) (k : ℕ) → length group ≤ k → Chosen u (rankIn group k) Skip
+  no-rank group k past = rw (List·getD-eq-default group none past) empty
 
-  -- Nor where a group has no pass for a place.
-  pub no-pass : (n : ℕ) (passes : List Pass) (k : ℕ) → length passes ≤ k → Chosen u (placeIn (padded n passes) k) Skip
+  -- Nor where a group has no pass for a rank.
+  pub no-pass : (n : ℕ) (passes : List Pass) (k : ℕ) → length passes ≤ k → Chosen u (rankIn (padded n passes) k) Skip
   no-pass zero passes k past = empty
   no-pass (suc n) [] zero past = empty
   no-pass (suc n) [] (suc k) past = no-pass n [] k (omega arith)
@@ -69,32 +53,32 @@ module _ (u : ℕ → Bool) where
 
   -- A group that the version decides.
   pub at-version : (group : Bool → List (Option Pass)) (test told : Bool) (k : ℕ) (x : Choice) → test ≡ told
-      → Chosen u (placeIn (group told) k) x → Chosen u (placeIn (group test) k) x
-  at-version group test told k x e h = subst (λ (b : Bool). Chosen u (placeIn (group b) k) x) (sym e) h
+      → Chosen u (rankIn (group told) k) x → Chosen u (rankIn (group test) k) x
+  at-version group test told k x e h = subst (λ (b : Bool). Chosen u (rankIn (group b) k) x) (sym e) h
 
 -- ---- Groups
 
--- The two places of the logical operators.
-pub logic-first : (from6 : Bool) → some (binary (andOr from6 ∷ [])) ≡ placeIn (deciding from6) 0
+-- The two ranks of the logical operators.
+pub logic-first : (from6 : Bool) → some (binary (andOr from6 ∷ [])) ≡ rankIn (deciding from6) 0
 unfolding logic
 logic-first true = refl
 logic-first false = refl
 
-pub logic-second : (from6 : Bool) → some (binary (andOr (not from6) ∷ [])) ≡ placeIn (deciding from6) 1
+pub logic-second : (from6 : Bool) → some (binary (andOr (not from6) ∷ [])) ≡ rankIn (deciding from6) 1
 unfolding logic
 logic-second true = refl
 logic-second false = refl
 
 module _ (u : ℕ → Bool) (from6 answer : Bool) (k : ℕ) (x : Choice) where
-  pub first-logic : answer ≡ from6 → k ≡ 0 → Chosen u (some (binary (andOr answer ∷ []))) x → Chosen u (placeIn (deciding from6) k) x
+  pub first-logic : answer ≡ from6 → k ≡ 0 → Chosen u (some (binary (andOr answer ∷ []))) x → Chosen u (rankIn (deciding from6) k) x
   first-logic e z h =
       subst (λ (at : Option Pass). Chosen u at x)
-      (ap (λ (b : Bool). some (binary (andOr b ∷ []))) e ∙ (logic-first from6 ∙ ap (placeIn (deciding from6)) (sym z))) h
+      (ap (λ (b : Bool). some (binary (andOr b ∷ []))) e ∙ (logic-first from6 ∙ ap (rankIn (deciding from6)) (sym z))) h
 
-  pub second-logic : answer ≡ not from6 → k ≡ 1 → Chosen u (some (binary (andOr answer ∷ []))) x → Chosen u (placeIn (deciding from6) k) x
+  pub second-logic : answer ≡ not from6 → k ≡ 1 → Chosen u (some (binary (andOr answer ∷ []))) x → Chosen u (rankIn (deciding from6) k) x
   second-logic e z h =
       subst (λ (at : Option Pass). Chosen u at x)
-      (ap (λ (b : Bool). some (binary (andOr b ∷ []))) e ∙ (logic-second from6 ∙ ap (placeIn (deciding from6)) (sym z))) h
+      (ap (λ (b : Bool). some (binary (andOr b ∷ []))) e ∙ (logic-second from6 ∙ ap (rankIn (deciding from6)) (sym z))) h
 
 pub comparing-size : (from6 : Bool) → length (comparing from6) ≡ 6
 unfolding comparisons
@@ -111,13 +95,13 @@ unfolding conditionals
 branching-size true = refl
 branching-size false = refl
 
--- A place of a group, or of those after it.
-here : (group others : List (Option Pass)) (n k : ℕ) → length group ≡ n → k < n → placeIn (group ++ others) k ≡ placeIn group k
+-- A rank of a group, or of those after it.
+here : (group others : List (Option Pass)) (n k : ℕ) → length group ≡ n → k < n → rankIn (group ++ others) k ≡ rankIn group k
 here group others n k size below = List·getD-append group others none k (omega arith)
 
-beyond : (group others : List (Option Pass)) (n k m : ℕ) → length group ≡ n → k ≡ n + m → placeIn (group ++ others) k ≡ placeIn others m
+beyond : (group others : List (Option Pass)) (n k m : ℕ) → length group ≡ n → k ≡ n + m → rankIn (group ++ others) k ≡ rankIn others m
 beyond group others n k m size e =
-    ap (placeIn (group ++ others)) (e ∙ ap (λ (l : ℕ). l + m) (sym size)) ∙ getD-append-add group others m none
+    ap (rankIn (group ++ others)) (e ∙ ap (λ (l : ℕ). l + m) (sym size)) ∙ getD-append-add group others m none
 
 module _ (r : Rules) (k : ℕ) where
   abbrev from-branching : List (Option Pass)
@@ -129,44 +113,44 @@ module _ (r : Rules) (k : ℕ) where
   abbrev from-comparing : List (Option Pass)
   from-comparing = comparing (r .comparisonsFirst) ++ (deciding (r .andFirst) ++ (branching (r .pairsRight) ++ last))
 
-  pub at-calling : k < 3 → placeIn (places r) k ≡ placeIn calling k
-  unfolding places
+  pub at-calling : k < 3 → rankIn (ranks r) k ≡ rankIn calling k
+  unfolding ranks
   at-calling below = here calling (arithmetic ++ from-comparing) 3 k refl below
 
-  after-calling : (m : ℕ) → k ≡ 3 + m → placeIn (places r) k ≡ placeIn (arithmetic ++ from-comparing) m
-  unfolding places
+  after-calling : (m : ℕ) → k ≡ 3 + m → rankIn (ranks r) k ≡ rankIn (arithmetic ++ from-comparing) m
+  unfolding ranks
   after-calling m e = beyond calling (arithmetic ++ from-comparing) 3 k m refl e
 
-  pub at-arithmetic : 3 ≤ k → k < 9 → placeIn (places r) k ≡ placeIn arithmetic (k - 3)
+  pub at-arithmetic : 3 ≤ k → k < 9 → rankIn (ranks r) k ≡ rankIn arithmetic (k - 3)
   at-arithmetic from below = after-calling (k - 3) (omega arith) ∙ here arithmetic from-comparing 6 (k - 3) refl (omega arith)
 
-  after-arithmetic : (m : ℕ) → k ≡ 9 + m → placeIn (places r) k ≡ placeIn from-comparing m
+  after-arithmetic : (m : ℕ) → k ≡ 9 + m → rankIn (ranks r) k ≡ rankIn from-comparing m
   after-arithmetic m e = after-calling (6 + m) (omega arith) ∙ beyond arithmetic from-comparing 6 (6 + m) m refl refl
 
-  pub at-comparing : 9 ≤ k → k < 15 → placeIn (places r) k ≡ placeIn (comparing (r .comparisonsFirst)) (k - 9)
+  pub at-comparing : 9 ≤ k → k < 15 → rankIn (ranks r) k ≡ rankIn (comparing (r .comparisonsFirst)) (k - 9)
   at-comparing from below =
       after-arithmetic (k - 9) (omega arith)
       ∙ here (comparing (r .comparisonsFirst)) from-deciding 6 (k - 9) (comparing-size (r .comparisonsFirst)) (omega arith)
 
-  after-comparing : (m : ℕ) → k ≡ 15 + m → placeIn (places r) k ≡ placeIn from-deciding m
+  after-comparing : (m : ℕ) → k ≡ 15 + m → rankIn (ranks r) k ≡ rankIn from-deciding m
   after-comparing m e =
       after-arithmetic (6 + m) (omega arith)
       ∙ beyond (comparing (r .comparisonsFirst)) from-deciding 6 (6 + m) m (comparing-size (r .comparisonsFirst)) refl
 
-  pub at-deciding : 15 ≤ k → k < 17 → placeIn (places r) k ≡ placeIn (deciding (r .andFirst)) (k - 15)
+  pub at-deciding : 15 ≤ k → k < 17 → rankIn (ranks r) k ≡ rankIn (deciding (r .andFirst)) (k - 15)
   at-deciding from below =
       after-comparing (k - 15) (omega arith)
       ∙ here (deciding (r .andFirst)) from-branching 2 (k - 15) (deciding-size (r .andFirst)) (omega arith)
 
-  after-deciding : (m : ℕ) → k ≡ 17 + m → placeIn (places r) k ≡ placeIn from-branching m
+  after-deciding : (m : ℕ) → k ≡ 17 + m → rankIn (ranks r) k ≡ rankIn from-branching m
   after-deciding m e =
       after-comparing (2 + m) (omega arith) ∙ beyond (deciding (r .andFirst)) from-branching 2 (2 + m) m (deciding-size (r .andFirst)) refl
 
-  pub at-branching : 17 ≤ k → k < 19 → placeIn (places r) k ≡ placeIn (branching (r .pairsRight)) (k - 17)
+  pub at-branching : 17 ≤ k → k < 19 → rankIn (ranks r) k ≡ rankIn (branching (r .pairsRight)) (k - 17)
   at-branching from below =
       after-deciding (k - 17) (omega arith) ∙ here (branching (r .pairsRight)) last 2 (k - 17) (branching-size (r .pairsRight)) (omega arith)
 
-  pub at-last : 19 ≤ k → placeIn (places r) k ≡ placeIn last (k - 19)
+  pub at-last : 19 ≤ k → rankIn (ranks r) k ≡ rankIn last (k - 19)
   at-last from =
       after-deciding (2 + (k - 19)) (omega arith)
       ∙ beyond (branching (r .pairsRight)) last 2 (2 + (k - 19)) (k - 19) (branching-size (r .pairsRight)) refl

@@ -1,4 +1,4 @@
--- The reading by places, as a loop over them folds it: at each place nothing is chosen and nothing happens, or the state that was chosen is
+-- The reading by ranks, as a loop over them folds it: at each rank nothing is chosen and nothing happens, or the state that was chosen is
 -- of a pass whose result decides how the reading goes on. Assumes nothing.
 use mathlib.Core.Path.{_≡_, sym, ap, _∙_}
 use mathlib.Core.Bool.{Bool, true, false}
@@ -14,10 +14,10 @@ use Rattle.molang.proofs.Passes.{grouped-nil}
 use Rattle.levels.specs.Passes.{Runs}
 use Rattle.levels.specs.declared.turns.Pass.{Pass as State}
 use Rattle.order.specs.declared.Choice.the-variants.{Run, Skip}
-use Rattle.order.specs.Places.{places, placeIn, Chosen, passesFrom}
-use Rattle.order.proofs.Running.{passes-all, passes-step, passes-end, skipped, RunsFrom, chosen, OfKind, of-kind, pointer-place, atPlace, ends-elsewhere, passes-nested, failed, next, run-first, grouped-running}
+use Rattle.order.specs.Ranks.{ranks, rankIn, Chosen, passesFrom}
+use Rattle.order.proofs.Running.{passes-all, passes-step, passes-end, skipped, RunsFrom, chosen, OfKind, of-kind, pointer-rank, atRank, ends-elsewhere, passes-nested, failed, next, run-first, grouped-running}
 
--- Before the first place: the definition's passes after the sections. After the last: the roots.
+-- Before the first rank: the definition's passes after the sections. After the last: the roots.
 pub grouped-first : (n : ℕ) (u : ℕ → Bool) (r : Rules) (so-far : List Message) (f : Forest)
     → grouped n u (drop 3 (order r)) so-far f ≡ grouped n u (passesFrom u r 0) so-far f
 grouped-first n u r so-far f =
@@ -29,16 +29,16 @@ unfolding grouped
 grouped-last n u r so-far f = ap (λ (l : List Pass). grouped n u l so-far f) (passes-end u r)
 
 module _ (n : ℕ) (u : ℕ → Bool) (r : Rules) (k : ℕ) (below : k < 23) (so-far : List Message) (f : Forest) where
-  -- The reading from place j on.
+  -- The reading from rank j on.
   abbrev from : ℕ → List Message → Forest → Answer
   from j before g = grouped n u (passesFrom u r j) before g
 
-  pub grouped-skip : Chosen u (placeIn (places r) k) Skip → from k so-far f ≡ from (k + 1) so-far f
+  pub grouped-skip : Chosen u (rankIn (ranks r) k) Skip → from k so-far f ≡ from (k + 1) so-far f
   grouped-skip c =
       ap (λ (l : List Pass). grouped n u l so-far f) (passes-step u r k below ∙ ap (λ (l : List Pass). l ++ passesFrom u r (k + 1)) (skipped c))
 
-  -- What the state that was chosen at place k makes of the reading. Place 3 is the pointer's, whose failure leaves an empty list.
-  pub record PlaceRuns (state : State) : Type 0 where
+  -- What the state that was chosen at rank k makes of the reading. Rank 3 is the pointer's, whose failure leaves an empty list.
+  pub record RankRuns (state : State) : Type 0 where
     pub kind : Kind
     pub runs-kind : Runs kind state
     pub goes-on : (g : Forest) → pass kind f ≡ ok g → from k so-far f ≡ from (k + 1) so-far g
@@ -46,7 +46,7 @@ module _ (n : ℕ) (u : ℕ → Bool) (r : Rules) (k : ℕ) (below : k < 23) (so
     pub pointer-ends : (m : List Message) → k ≡ 3 → pass kind f ≡ fail m
         → from k so-far f ≡ messages ((so-far ++ m) ++ (multipleRoots 0 n 0 ∷ []))
 
-  module _ (state : State) (run : RunsFrom u (placeIn (places r) k) state) where
+  module _ (state : State) (run : RunsFrom u (rankIn (ranks r) k) state) where
     opened : (x : Result) → apply n (run .the-pass) f ≡ x
         → from k so-far f ≡ next n u (run .the-pass) (passesFrom u r (k + 1)) (passesFrom u r (k + 1)) so-far x
     opened x e =
@@ -62,11 +62,11 @@ module _ (n : ℕ) (u : ℕ → Bool) (r : Rules) (k : ℕ) (below : k < 23) (so
     is-pointer : k ≡ 3 → endsReading (run .the-pass) ≡ false
     unfolding endsReading
     is-pointer at =
-        sym (ap (atPlace endsReading) (run .stands))
-        ∙ (ap (λ (j : ℕ). atPlace endsReading (placeIn (places r) j)) at ∙ ap (atPlace endsReading) (pointer-place r))
+        sym (ap (atRank endsReading) (run .stands))
+        ∙ (ap (λ (j : ℕ). atRank endsReading (rankIn (ranks r) j)) at ∙ ap (atRank endsReading) (pointer-rank r))
 
-    place-kind : OfKind (run .the-pass) state → PlaceRuns state
-    place-kind of =
+    rank-kind : OfKind (run .the-pass) state → RankRuns state
+    rank-kind of =
         record {
           kind = of .kind;
           runs-kind = of .runs-kind;
@@ -78,5 +78,5 @@ module _ (n : ℕ) (u : ℕ → Bool) (r : Rules) (k : ℕ) (below : k < 23) (so
               ∙ (failing m false (is-pointer at) ∙ grouped-nil n u (passesFrom u r (k + 1)) (so-far ++ m) (passes-nested u r (k + 1)));
         }
 
-  pub place-runs : (state : State) → Chosen u (placeIn (places r) k) (Run state) → PlaceRuns state
-  place-runs state c = place-kind state (chosen c) (of-kind (chosen c .starts))
+  pub rank-runs : (state : State) → Chosen u (rankIn (ranks r) k) (Run state) → RankRuns state
+  rank-runs state c = rank-kind state (chosen c) (of-kind (chosen c .starts))

@@ -1,5 +1,5 @@
--- The passes that run, place by place: from place 0 on they are those of the definition's order after the sections, each place gives its
--- own before the later ones, and after the last place there are none. What was chosen at a place is the pass that runs there. Assumes nothing.
+-- The passes that run, rank by rank: from rank 0 on they are those of the definition's order after the sections, each rank gives its
+-- own before the later ones, and after the last rank there are none. What was chosen at a rank is the pass that runs there. Assumes nothing.
 use mathlib.Core.Path.{_≡_, refl, sym, ap, _∙_}
 use mathlib.Core.Bool.{Bool, true, false, _&&_}
 use mathlib.Core.List.{List, [], _∷_, _++_, append-assoc}
@@ -20,11 +20,11 @@ use Rattle.molang.specs.Work as kinds
 use Rattle.molang.proofs.Trees.{both as both-true}
 use Rattle.molang.proofs.Passes.{isNested, allNested}
 use Rattle.levels.specs.Passes.{Runs}
-use Rattle.levels.specs.Passes as walks
+use Rattle.levels.specs.Passes as levels
 use Rattle.levels.specs.declared.turns.Pass.{Pass as State}
 use Rattle.order.proofs.Choosing.{comparing-size, deciding-size, branching-size}
 use Rattle.order.specs.declared.Choice.the-variants.{Run, Skip}
-use Rattle.order.specs.Places.{padded, comparing, deciding, branching, last, places, placeIn, Starts, call, unsplitPass, array, mathCall, unary, conditionalPass, returnPass, point, plus, level, Chosen, empty, unused, used, running, runningIn, passesFrom, runningOf}
+use Rattle.order.specs.Ranks.{padded, comparing, deciding, branching, last, ranks, rankIn, Starts, call, unsplitPass, array, mathCall, unary, conditionalPass, returnPass, point, plus, level, Chosen, empty, unused, used, running, runningIn, passesFrom, runningOf}
 
 -- ---- The order
 
@@ -52,15 +52,15 @@ module _ (u : ℕ → Bool) where
       ∙ (ap (λ (l : List Pass). running u (some p) ++ l) (append-running-of ps qs)
       ∙ (sym (append-assoc (running u (some p)) (runningOf u ps) (runningOf u qs)) ∙ ap (λ (l : List Pass). l ++ runningOf u qs) (running-some p ps)))
 
-  empty-places : (n : ℕ) → runningIn u (padded n []) ≡ []
+  empty-ranks : (n : ℕ) → runningIn u (padded n []) ≡ []
   unfolding runningIn running
-  empty-places zero = refl
-  empty-places (suc n) = empty-places n
+  empty-ranks zero = refl
+  empty-ranks (suc n) = empty-ranks n
 
-  -- Places that are as many as the passes or more.
+  -- Ranks that are as many as the passes or more.
   pub padded-running : (n : ℕ) (ps : List Pass) → length ps ≤ n → runningIn u (padded n ps) ≡ runningOf u ps
   unfolding runningIn running runningOf
-  padded-running n [] fits = empty-places n
+  padded-running n [] fits = empty-ranks n
   padded-running zero (p ∷ ps) fits = absurd (omega arith)
   padded-running (suc n) (p ∷ ps) fits =
       ap (λ (l : List Pass). running u (some p) ++ l) (padded-running n ps (omega arith)) ∙ running-some p ps
@@ -88,9 +88,9 @@ unfolding conditionals
 conditionals-fit true = omega arith
 conditionals-fit false = omega arith
 
--- From place 0 on: the definition's order after the sections.
+-- From rank 0 on: the definition's order after the sections.
 pub passes-all : (u : ℕ → Bool) (r : Rules) → passesFrom u r 0 ≡ runningOf u (drop 3 (order r))
-unfolding passesFrom places order
+unfolding passesFrom ranks order
 passes-all u r =
     group-running u 3 (callPass ∷ statements ∷ arrays ∷ []) _ _ (omega arith)
     (group-running u 6
@@ -102,9 +102,9 @@ passes-all u r =
     (binary (Operator.nullCoalescing ∷ []) ∷ binary (Operator.comma ∷ []) ∷ binary (Operator.assignment ∷ []) ∷ returns ∷ [])
     (omega arith))))))
 
-places-size : (r : Rules) → length (places r) ≡ 23
-unfolding places
-places-size r =
+ranks-size : (r : Rules) → length (ranks r) ≡ 23
+unfolding ranks
+ranks-size r =
     rw (
       length-append (comparing (r .comparisonsFirst)) (deciding (r .andFirst) ++ (branching (r .pairsRight) ++ last)),
       length-append (deciding (r .andFirst)) (branching (r .pairsRight) ++ last),
@@ -114,18 +114,18 @@ places-size r =
       branching-size (r .pairsRight),
     )
 
--- A place before the later ones.
+-- A rank before the later ones.
 pub passes-step : (u : ℕ → Bool) (r : Rules) (k : ℕ) → k < 23
-    → passesFrom u r k ≡ running u (placeIn (places r) k) ++ passesFrom u r (k + 1)
+    → passesFrom u r k ≡ running u (rankIn (ranks r) k) ++ passesFrom u r (k + 1)
 unfolding passesFrom runningIn
 passes-step u r k below =
-    ap (runningIn u) (drop-cons (places r) k none (omega (arith, places-size r)))
-    ∙ ap (λ (n : ℕ). running u (placeIn (places r) k) ++ runningIn u (drop n (places r))) (sym (add-one k))
+    ap (runningIn u) (drop-cons (ranks r) k none (omega (arith, ranks-size r)))
+    ∙ ap (λ (n : ℕ). running u (rankIn (ranks r) k) ++ runningIn u (drop n (ranks r))) (sym (add-one k))
 
 -- After the last.
 pub passes-end : (u : ℕ → Bool) (r : Rules) → passesFrom u r 23 ≡ []
 unfolding passesFrom runningIn
-passes-end u r = ap (λ (n : ℕ). runningIn u (drop n (places r))) (sym (places-size r)) ∙ ap (runningIn u) (drop-length (places r))
+passes-end u r = ap (λ (n : ℕ). runningIn u (drop n (ranks r))) (sym (ranks-size r)) ∙ ap (runningIn u) (drop-length (ranks r))
 
 -- ---- What was chosen
 
@@ -134,7 +134,7 @@ unfolding running
 skipped empty = refl
 skipped (unused e) = rw (e, running)
 
--- The pass at a place runs from this state.
+-- The pass at a rank runs from this state.
 pub record RunsFrom (u : ℕ → Bool) (at : Option Pass) (state : State) : Type 0 where
   pub the-pass : Pass
   pub stands : at ≡ some the-pass
@@ -146,7 +146,7 @@ pub chosen : {u : ℕ → Bool} {at : Option Pass} {state : State} → Chosen u 
 unfolding running
 chosen (used {p = p} e s) = record { the-pass = p; stands = refl; runs-so = e; runs-alone = rw (e, running); starts = s }
 
--- A state of the walks' pass that does what the definition's pass does.
+-- A state of a level's pass that does what the definition's pass does.
 pub record OfKind (p : Pass) (state : State) : Type 0 where
   pub kind : Kind
   pub runs-kind : Runs kind state
@@ -154,44 +154,44 @@ pub record OfKind (p : Pass) (state : State) : Type 0 where
 
 pub of-kind : {p : Pass} {state : State} → Starts p state → OfKind p state
 unfolding apply pass passOf
-of-kind call = record { kind = kinds.calls queryOrLoop; runs-kind = walks.call; does = λ n f. refl }
-of-kind unsplitPass = record { kind = kinds.statements; runs-kind = walks.unsplitPass; does = λ n f. refl }
-of-kind array = record { kind = kinds.arrays; runs-kind = walks.array; does = λ n f. refl }
-of-kind mathCall = record { kind = kinds.calls math; runs-kind = walks.mathCall; does = λ n f. refl }
-of-kind unary = record { kind = kinds.unaryMinusAndNot; runs-kind = walks.unary; does = λ n f. refl }
-of-kind conditionalPass = record { kind = kinds.conditional; runs-kind = walks.conditionalPass; does = λ n f. refl }
-of-kind returnPass = record { kind = kinds.returns; runs-kind = walks.returnPass; does = λ n f. refl }
-of-kind (point covers) = record { kind = kinds.binary (Operator.pointer ∷ []); runs-kind = walks.level covers; does = λ n f. refl }
-of-kind (plus covers) = record { kind = kinds.binary (Operator.add ∷ []); runs-kind = walks.level covers; does = λ n f. refl }
-of-kind (level {ops = ops} covers) = record { kind = kinds.binary ops; runs-kind = walks.level covers; does = λ n f. refl }
+of-kind call = record { kind = kinds.calls queryOrLoop; runs-kind = levels.call; does = λ n f. refl }
+of-kind unsplitPass = record { kind = kinds.statements; runs-kind = levels.unsplitPass; does = λ n f. refl }
+of-kind array = record { kind = kinds.arrays; runs-kind = levels.array; does = λ n f. refl }
+of-kind mathCall = record { kind = kinds.calls math; runs-kind = levels.mathCall; does = λ n f. refl }
+of-kind unary = record { kind = kinds.unaryMinusAndNot; runs-kind = levels.unary; does = λ n f. refl }
+of-kind conditionalPass = record { kind = kinds.conditional; runs-kind = levels.conditionalPass; does = λ n f. refl }
+of-kind returnPass = record { kind = kinds.returns; runs-kind = levels.returnPass; does = λ n f. refl }
+of-kind (point covers) = record { kind = kinds.binary (Operator.pointer ∷ []); runs-kind = levels.level covers; does = λ n f. refl }
+of-kind (plus covers) = record { kind = kinds.binary (Operator.add ∷ []); runs-kind = levels.level covers; does = λ n f. refl }
+of-kind (level {ops = ops} covers) = record { kind = kinds.binary ops; runs-kind = levels.level covers; does = λ n f. refl }
 
--- ---- The pointer's place
+-- ---- The pointer's rank
 
-pub pointer-place : (r : Rules) → placeIn (places r) 3 ≡ some pointer
-unfolding places
-pointer-place r = refl
+pub pointer-rank : (r : Rules) → rankIn (ranks r) 3 ≡ some pointer
+unfolding ranks
+pointer-rank r = refl
 
--- The pass at a place, if any, passes the test; so at every one of some places.
-abbrev pub atPlace : (Pass → Bool) → Option Pass → Bool
-atPlace test none = true
-atPlace test (some p) = test p
+-- The pass at a rank, if any, passes the test; so at every one of some ranks.
+abbrev pub atRank : (Pass → Bool) → Option Pass → Bool
+atRank test none = true
+atRank test (some p) = test p
 
 abbrev atEach : (Pass → Bool) → List (Option Pass) → Bool
 atEach test [] = true
-atEach test (at ∷ others) = atPlace test at && atEach test others
+atEach test (at ∷ others) = atRank test at && atEach test others
 
 module _ (test : Pass → Bool) where
-  at-place : (ats : List (Option Pass)) → atEach test ats ≡ true → (k : ℕ) → atPlace test (placeIn ats k) ≡ true
-  at-place [] e k = refl
-  at-place (at ∷ others) e zero = both-true (atPlace test at) (atEach test others) e .0
-  at-place (at ∷ others) e (suc k) = at-place others (both-true (atPlace test at) (atEach test others) e .1) k
+  at-rank : (ats : List (Option Pass)) → atEach test ats ≡ true → (k : ℕ) → atRank test (rankIn ats k) ≡ true
+  at-rank [] e k = refl
+  at-rank (at ∷ others) e zero = both-true (atRank test at) (atEach test others) e .0
+  at-rank (at ∷ others) e (suc k) = at-rank others (both-true (atRank test at) (atEach test others) e .1) k
 
   at-later : (ats : List (Option Pass)) → atEach test ats ≡ true → (k : ℕ) → atEach test (drop k ats) ≡ true
   at-later ats e zero = e
   at-later [] e (suc k) = refl
-  at-later (at ∷ others) e (suc k) = at-later others (both-true (atPlace test at) (atEach test others) e .1) k
+  at-later (at ∷ others) e (suc k) = at-later others (both-true (atRank test at) (atEach test others) e .1) k
 
-  -- What holds in each group holds in the places of every version.
+  -- What holds in each group holds in the ranks of every version.
   at-groups : ((from6 : Bool) → atEach test (comparing from6) ≡ true) → ((from6 : Bool) → atEach test (deciding from6) ≡ true)
       → ((from5 : Bool) → atEach test (branching from5) ≡ true) → atEach test last ≡ true
       → (r : Rules) → atEach test (comparing (r .comparisonsFirst) ++ (deciding (r .andFirst) ++ (branching (r .pairsRight) ++ last))) ≡ true
@@ -202,7 +202,7 @@ module _ (test : Pass → Bool) where
       at-both : (ats others : List (Option Pass)) → atEach test ats ≡ true → atEach test others ≡ true → atEach test (ats ++ others) ≡ true
       at-both [] others e d = d
       at-both (at ∷ ats) others e d =
-          let both = both-true (atPlace test at) (atEach test ats) e in
+          let both = both-true (atRank test at) (atEach test ats) e in
           rw (both .0) (at-both ats others (both .1) d)
 
 comparing-ends : (from6 : Bool) → atEach endsReading (comparing from6) ≡ true
@@ -220,18 +220,18 @@ unfolding endsReading conditionals
 branching-ends true = refl
 branching-ends false = refl
 
-place-ends : (r : Rules) (k : ℕ) → (k ≡ 3 → ⊥) → atPlace endsReading (placeIn (places r) k) ≡ true
-unfolding places endsReading
-place-ends r zero other = refl
-place-ends r (suc zero) other = refl
-place-ends r (suc (suc zero)) other = refl
-place-ends r (suc (suc (suc zero))) other = absurd (other refl)
-place-ends r (suc (suc (suc (suc k)))) other =
-    at-place endsReading (drop 4 (places r)) (at-groups endsReading comparing-ends deciding-ends branching-ends refl r) k
+rank-ends : (r : Rules) (k : ℕ) → (k ≡ 3 → ⊥) → atRank endsReading (rankIn (ranks r) k) ≡ true
+unfolding ranks endsReading
+rank-ends r zero other = refl
+rank-ends r (suc zero) other = refl
+rank-ends r (suc (suc zero)) other = refl
+rank-ends r (suc (suc (suc zero))) other = absurd (other refl)
+rank-ends r (suc (suc (suc (suc k)))) other =
+    at-rank endsReading (drop 4 (ranks r)) (at-groups endsReading comparing-ends deciding-ends branching-ends refl r) k
 
--- At every other place a failure ends the reading.
-pub ends-elsewhere : (r : Rules) (k : ℕ) (p : Pass) → (k ≡ 3 → ⊥) → placeIn (places r) k ≡ some p → endsReading p ≡ true
-ends-elsewhere r k p other e = sym (ap (atPlace endsReading) e) ∙ place-ends r k other
+-- At every other rank a failure ends the reading.
+pub ends-elsewhere : (r : Rules) (k : ℕ) (p : Pass) → (k ≡ 3 → ⊥) → rankIn (ranks r) k ≡ some p → endsReading p ≡ true
+ends-elsewhere r k p other e = sym (ap (atRank endsReading) e) ∙ rank-ends r k other
 
 -- ---- The passes go through nested lists
 
@@ -250,9 +250,9 @@ unfolding isNested conditionals
 branching-nested true = refl
 branching-nested false = refl
 
-places-nested : (r : Rules) → atEach isNested (places r) ≡ true
-unfolding places isNested
-places-nested r = at-groups isNested comparing-nested deciding-nested branching-nested refl r
+ranks-nested : (r : Rules) → atEach isNested (ranks r) ≡ true
+unfolding ranks isNested
+ranks-nested r = at-groups isNested comparing-nested deciding-nested branching-nested refl r
 
 running-nested : (u : ℕ → Bool) (ats : List (Option Pass)) → atEach isNested ats ≡ true → allNested (runningIn u ats) ≡ true
 unfolding runningIn running allNested
@@ -270,7 +270,7 @@ running-nested u (some p ∷ others) e =
 -- So what the pointer's failure leaves, the empty list, ends in message 1 (`grouped-nil`, `pointer-fails` of the definition's laws).
 pub passes-nested : (u : ℕ → Bool) (r : Rules) (k : ℕ) → allNested (passesFrom u r k) ≡ true
 unfolding passesFrom
-passes-nested u r k = running-nested u (drop k (places r)) (at-later isNested (places r) (places-nested r) k)
+passes-nested u r k = running-nested u (drop k (ranks r)) (at-later isNested (ranks r) (ranks-nested r) k)
 
 -- ---- Reading by the passes that run
 

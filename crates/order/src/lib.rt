@@ -1,6 +1,6 @@
-// Which pass is the k-th after the sections, under a used set and a version (mod.rs). Every version has the same places, some of
-// them empty, so that one loop over the places runs the passes in order. Leans on levels (the passes' states) and ops (sets,
-// classes, versions); specs/Places lays the definition's order out in places.
+// Which pass is the k-th after the sections, under a used set and a version (mod.rs). Every version has the same ranks, some of
+// them empty, so that one loop over the ranks runs the passes in order. Leans on levels (the passes' states) and ops (sets,
+// classes, versions); specs/Ranks lays the definition's order out in ranks.
 use levels::turns::Pass;
 use ops::classes::TokenClasses;
 use ops::op;
@@ -14,8 +14,8 @@ ghost use mathlib.Core.Option.{some};
 ghost use Rattle.molang.specs.Operator.{any};
 ghost use Rattle.molang.specs.Operator as operator;
 ghost use Rattle.molang.specs.Order.{binary, isFrom, runs, callPass};
-ghost use Rattle.order.specs.Places.{usedBy, callGate, choiceIf, levelOf, andOr};
-ghost use Rattle.order.specs.Places.{placeIn, calling, arithmetic, comparing, deciding, branching, last, rulesOf, places, Chosen};
+ghost use Rattle.order.specs.Ranks.{usedBy, callGate, choiceIf, levelOf, andOr};
+ghost use Rattle.order.specs.Ranks.{rankIn, calling, arithmetic, comparing, deciding, branching, last, rulesOf, ranks, Chosen};
 
 // A pass, or none where its operators are not used.
 pub enum Choice {
@@ -23,12 +23,12 @@ pub enum Choice {
     Skip,
 }
 
-// How many places there are, and which is the pointer's.
-pub const PLACES: u32 = 23;
+// How many ranks there are, and which is the pointer's.
+pub const RANKS: u32 = 23;
 
 pub const POINTER: u32 = 3;
 
-// Where the groups of places start.
+// Where the groups of ranks start.
 pub const ARITHMETIC: u32 = 3;
 
 pub const COMPARISONS: u32 = 9;
@@ -69,35 +69,23 @@ fn level_of(used: OpSet, op: u32, classes: TokenClasses) -> Choice
     level(used.contains(op), classes)
 }
 
-pub fn uses_either(used: OpSet, a: u32, b: u32) -> bool
-    ensures { λ r. ⌜ r ≡ any (usedBy used) (a ∷ b ∷ []) ⌝ }
-{
-    used.contains(a) || used.contains(b)
-}
-
-pub fn uses_some(used: OpSet, a: u32, b: u32, c: u32) -> bool
-    ensures { λ r. ⌜ r ≡ any (usedBy used) (a ∷ b ∷ c ∷ []) ⌝ }
-{
-    used.contains(a) || uses_either(used, b, c)
-}
-
 // What the call pass stands behind: with `loop` or `for_each` alone calls are not grouped.
 fn is_gate_open(used: OpSet) -> bool
     ensures { λ r. ⌜ r ≡ any (usedBy used) callGate ⌝ }
 {
-    uses_some(used, op::LEFT_BRACE, op::LEFT_BRACKET, op::LEFT_PARENTHESIS)
-        || uses_some(used, op::QUERY_FUNCTION, op::ARRAY_VARIABLE, op::SEMICOLON)
+    used.has_some(op::LEFT_BRACE, op::LEFT_BRACKET, op::LEFT_PARENTHESIS)
+        || used.has_some(op::QUERY_FUNCTION, op::ARRAY_VARIABLE, op::SEMICOLON)
 }
 
 fn are_calls_used(used: OpSet) -> bool
     ensures { λ r. ⌜ r ≡ runs (usedBy used) callPass ⌝ }
 {
-    is_gate_open(used) && uses_some(used, op::QUERY_FUNCTION, op::LOOP, op::FOR_EACH)
+    is_gate_open(used) && used.has_some(op::QUERY_FUNCTION, op::LOOP, op::FOR_EACH)
 }
 
 // Calls, statements, arrays.
 fn calls(k: u32, used: OpSet) -> Choice
-    ensures { λ r. ⌜ Chosen (usedBy used) (placeIn calling k) r ⌝ }
+    ensures { λ r. ⌜ Chosen (usedBy used) (rankIn calling k) r ⌝ }
 {
     match k {
         0 => when(are_calls_used(used), Pass::Calls),
@@ -112,25 +100,22 @@ fn calls(k: u32, used: OpSet) -> Choice
 
 // `->`, math functions, unary `-` and `!`, `/`, `*`, `+`. (The unary pass turns a binary `-` into `+`.)
 fn pointer_and_arithmetic(k: u32, used: OpSet) -> Choice
-    ensures { λ r. ⌜ Chosen (usedBy used) (placeIn arithmetic k) r ⌝ }
+    ensures { λ r. ⌜ Chosen (usedBy used) (rankIn arithmetic k) r ⌝ }
 {
     match k {
         0 => level_of(used, op::POINTER, TokenClasses::POINTER),
         1 => when(used.has_math_call(), Pass::MathCalls),
-        2 => when(uses_either(used, op::NEGATE, op::LOGICAL_NOT), Pass::Unary),
+        2 => when(used.has_either(op::NEGATE, op::LOGICAL_NOT), Pass::Unary),
         3 => level_of(used, op::DIV, TokenClasses::DIV),
         4 => level_of(used, op::MUL, TokenClasses::MUL),
-        5 => level(
-            uses_either(used, op::NEGATE, op::ADD),
-            TokenClasses::ONLY_ADD,
-        ),
+        5 => level(used.has_either(op::NEGATE, op::ADD), TokenClasses::ONLY_ADD),
         _ => Choice::Skip,
     }
 }
 
 // Below version 6 a level for each comparison and equality.
 fn comparisons_before_6(k: u32, used: OpSet) -> Choice
-    ensures { λ r. ⌜ Chosen (usedBy used) (placeIn (comparing false) k) r ⌝ }
+    ensures { λ r. ⌜ Chosen (usedBy used) (rankIn (comparing false) k) r ⌝ }
 {
     match k {
         0 => level_of(used, op::LESS_THAN, TokenClasses::LESS_THAN),
@@ -148,17 +133,17 @@ fn are_comparisons_used(used: OpSet) -> bool
     ensures { λ r. ⌜ r ≡ any (usedBy used) (operator.lessThan ∷ operator.lessEqual ∷ operator.greaterEqual ∷ operator.greaterThan ∷ []) ⌝ }
 {
     used.contains(op::LESS_THAN)
-        || uses_some(used, op::LESS_EQUAL, op::GREATER_EQUAL, op::GREATER_THAN)
+        || used.has_some(op::LESS_EQUAL, op::GREATER_EQUAL, op::GREATER_THAN)
 }
 
 // From version 6 one level for the four comparisons and one for the two equalities.
 fn comparisons_from_6(k: u32, used: OpSet) -> Choice
-    ensures { λ r. ⌜ Chosen (usedBy used) (placeIn (comparing true) k) r ⌝ }
+    ensures { λ r. ⌜ Chosen (usedBy used) (rankIn (comparing true) k) r ⌝ }
 {
     match k {
         0 => level(are_comparisons_used(used), TokenClasses::COMPARISONS),
         1 => level(
-            uses_either(used, op::LOGICAL_EQUAL, op::LOGICAL_NOT_EQUAL),
+            used.has_either(op::LOGICAL_EQUAL, op::LOGICAL_NOT_EQUAL),
             TokenClasses::EQUALITIES,
         ),
         _ => Choice::Skip,
@@ -167,7 +152,7 @@ fn comparisons_from_6(k: u32, used: OpSet) -> Choice
 
 // Comparisons and equalities.
 fn comparisons(k: u32, used: OpSet, version: i16) -> Choice
-    ensures { λ r. ⌜ Chosen (usedBy used) (placeIn (comparing (isFrom 6 version)) k) r ⌝ }
+    ensures { λ r. ⌜ Chosen (usedBy used) (rankIn (comparing (isFrom 6 version)) k) r ⌝ }
 {
     if is_from_6(version) {
         return comparisons_from_6(k, used);
@@ -187,7 +172,7 @@ fn and_or(conjunction: bool, used: OpSet) -> Choice
 
 // Logical operators, up to version 5 OR before AND, from 6 AND before OR.
 fn logic(k: u32, used: OpSet, version: i16) -> Choice
-    ensures { λ r. ⌜ Chosen (usedBy used) (placeIn (deciding (isFrom 6 version)) k) r ⌝ }
+    ensures { λ r. ⌜ Chosen (usedBy used) (rankIn (deciding (isFrom 6 version)) k) r ⌝ }
 {
     match k {
         0 => and_or(is_from_6(version), used),
@@ -198,7 +183,7 @@ fn logic(k: u32, used: OpSet, version: i16) -> Choice
 
 // Below version 5 `:` and then `?` as binary operators.
 fn conditionals_before_5(k: u32, used: OpSet) -> Choice
-    ensures { λ r. ⌜ Chosen (usedBy used) (placeIn (branching false) k) r ⌝ }
+    ensures { λ r. ⌜ Chosen (usedBy used) (rankIn (branching false) k) r ⌝ }
 {
     match k {
         0 => level_of(
@@ -213,11 +198,11 @@ fn conditionals_before_5(k: u32, used: OpSet) -> Choice
 
 // From version 5 one pass for both.
 fn conditionals_from_5(k: u32, used: OpSet) -> Choice
-    ensures { λ r. ⌜ Chosen (usedBy used) (placeIn (branching true) k) r ⌝ }
+    ensures { λ r. ⌜ Chosen (usedBy used) (rankIn (branching true) k) r ⌝ }
 {
     match k {
         0 => when(
-            uses_either(used, op::CONDITIONAL, op::CONDITIONAL_ELSE),
+            used.has_either(op::CONDITIONAL, op::CONDITIONAL_ELSE),
             Pass::Conditional { tokens: 0 },
         ),
         _ => Choice::Skip,
@@ -226,7 +211,7 @@ fn conditionals_from_5(k: u32, used: OpSet) -> Choice
 
 // `?` and `:`.
 fn conditionals(k: u32, used: OpSet, version: i16) -> Choice
-    ensures { λ r. ⌜ Chosen (usedBy used) (placeIn (branching (isFrom 5 version)) k) r ⌝ }
+    ensures { λ r. ⌜ Chosen (usedBy used) (rankIn (branching (isFrom 5 version)) k) r ⌝ }
 {
     if is_from_5(version) {
         return conditionals_from_5(k, used);
@@ -236,7 +221,7 @@ fn conditionals(k: u32, used: OpSet, version: i16) -> Choice
 
 // `??`, `,`, `=`, `return`.
 fn last_passes(k: u32, used: OpSet) -> Choice
-    ensures { λ r. ⌜ Chosen (usedBy used) (placeIn last k) r ⌝ }
+    ensures { λ r. ⌜ Chosen (usedBy used) (rankIn last k) r ⌝ }
 {
     match k {
         0 => level_of(used, op::NULL_COALESCING, TokenClasses::NULL_COALESCING),
@@ -247,9 +232,9 @@ fn last_passes(k: u32, used: OpSet) -> Choice
     }
 }
 
-// The pass at place k, at a version as the rules use it (`ops::version::effective`).
+// The pass at rank k, at a version as the rules use it (`ops::version::effective`).
 pub fn pass_at(k: u32, used: OpSet, version: i16) -> Choice
-    ensures { λ r. ⌜ Chosen (usedBy used) (placeIn (places (rulesOf version)) k) r ⌝ }
+    ensures { λ r. ⌜ Chosen (usedBy used) (rankIn (ranks (rulesOf version)) k) r ⌝ }
 {
     if k < ARITHMETIC {
         return calls(k, used);

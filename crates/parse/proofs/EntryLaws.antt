@@ -14,7 +14,7 @@ use Rattle.molang.specs.Read.{read}
 use Rattle.molang.specs.Words.{tokensOf}
 use Rattle.molang.specs.Parse.{Call, reading, told, answered, treeIn, treeAfter, messagesIn, messagesAfter, workIn, workAfter}
 use Rattle.ops.specs.declared.sets.OpSet.{OpSet}
-use Rattle.order.specs.Places.{usedBy, rulesOf}
+use Rattle.order.specs.Ranks.{usedBy, rulesOf}
 use Rattle.accept.specs.Accepting.{isRead, isRefused}
 use Rattle.accept.proofs.AcceptLaws.{checked, reads-call, refuses-call}
 use Rattle.buffers.specs.Load.{CanLoad, Loaded}

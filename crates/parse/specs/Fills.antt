@@ -9,7 +9,7 @@ use Rattle.molang.specs.Read as reading
 use Rattle.molang.specs.Words.{tokensOf, operatorField, wordsRefusal}
 use Rattle.molang.specs.Parse.{mostTokens, told, treeIn, messagesIn}
 use Rattle.ops.specs.declared.sets.OpSet.{OpSet}
-use Rattle.order.specs.Places.{usedBy}
+use Rattle.order.specs.Ranks.{usedBy}
 use Rattle.grouping.specs.Grouped.{StandsFor}
 use Rattle.grouping.specs.declared.grouped.Grouped.{Grouped}
 use Rattle.parse.specs.declared.Answer.{Answer}

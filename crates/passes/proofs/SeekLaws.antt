@@ -1,5 +1,5 @@
 -- The levels that seek their tokens from the left, by their pass: what GatherLaws says of any of them holds of each. Assumes nothing.
-use mathlib.Core.Path.{_≡_, refl, sym, ap, _∙_, subst}
+use mathlib.Core.Path.{_≡_, sym, ap, _∙_, subst}
 use mathlib.Core.List.{List, [], _∷_}
 use Prim.Native.Nat.{ℕ, _+_}
 use types.Run.{OneOf, miss}
@@ -69,9 +69,6 @@ seeks-at Unary t g = absurd (miss (0 ∷ 1 ∷ 2 ∷ 6 ∷ 8 ∷ []) 5 tt t)
 seeks-at (Binary classes pending) t g = g .holds .turning .0
 seeks-at (Conditional tokens) t g = absurd (miss (0 ∷ 1 ∷ 2 ∷ 6 ∷ 8 ∷ []) 7 tt t)
 seeks-at Returns t g = tt
-
-pub seeks-array : (p : Pass) {a : ℕ} → p ≡ Arrays a 0 → a ≡ 0 → Seeks p
-seeks-array p e z = subst Seeks (sym e) (z, refl)
 
 pub array-none : (p : Pass) {a l : ℕ} → p ≡ Arrays a l → Seeks p → p ≡ Arrays 0 0
 array-none p {a} {l} e u = let none = subst Seeks e u in e ∙ (ap (λ (x : ℕ). Arrays x l) (none .0) ∙ ap (Arrays 0) (none .1))

@@ -1,13 +1,12 @@
--- A turn by the state of the pass: between two turns no operator waits and no name is lent.
+-- A turn by the state of the pass: between two turns no name is lent.
 use Prim.Native.Nat.{ℕ}
 use mathlib.Core.Path.{_≡_, sym, ap, _∙_, subst}
 use mathlib.Core.List.{List}
-use Rattle.ops.specs.declared.classes.TokenClasses.{TokenClasses}
 use Rattle.nodes.specs.declared.frames.List.{List as Items}
 use Rattle.levels.specs.Passes.{walkOf}
 use Rattle.levels.specs.Turns.{CanTurn, Turned}
 use Rattle.levels.specs.declared.turns.Pass.{Pass}
-use Rattle.levels.specs.declared.turns.Pass.the-variants.{Arrays, Binary}
+use Rattle.levels.specs.declared.turns.Pass.the-variants.{Arrays}
 use Rattle.levels.specs.declared.turns.Turn.{Turn}
 
 pub turn-at : {W : List ℕ} (v : Items) (p q : Pass) → p ≡ q → CanTurn W (walkOf v p) → CanTurn W (walkOf v q)
@@ -18,6 +17,3 @@ turned-by {W} {W'} {r} v p q e t = subst (λ (x : Pass). Turned W (walkOf v x) r
 
 pub turn-unlent : {W : List ℕ} (v : Items) (p : Pass) (a b : ℕ) → p ≡ Arrays a b → CanTurn W (walkOf v p) → p ≡ Arrays a 0
 turn-unlent v p a b e g = e ∙ ap (λ (x : ℕ). Arrays a x) (turn-at v p (Arrays a b) e g .holds .turning .0)
-
-pub turn-idle : {W : List ℕ} (v : Items) (p : Pass) (classes : TokenClasses) (q : ℕ) → p ≡ Binary classes q → CanTurn W (walkOf v p) → p ≡ Binary classes 0
-turn-idle v p classes q e g = e ∙ ap (λ (x : ℕ). Binary classes x) (turn-at v p (Binary classes q) e g .holds .turning .0)

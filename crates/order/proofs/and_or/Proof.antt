@@ -1,6 +1,6 @@
 -- `order::and_or` meets its contract. Assumes nothing.
 use Rattle.molang.specs.Operator
-use Rattle.order.specs.Places.{usedBy}
+use Rattle.order.specs.Ranks.{usedBy}
 use Rattle.order.proofs.Choosing.{one-level}
 use Rattle.order.proofs.Covering.{and-covers, or-covers}
 use borrow.Author.Needs.{needs}

@@ -2,8 +2,8 @@
 use mathlib.Core.List.{[], _∷_}
 use Rattle.molang.specs.Operator.{any}
 use Rattle.molang.specs.Operator
-use Rattle.order.specs.Places.{usedBy}
-use Rattle.order.proofs.Choosing.{or-first, or-second}
+use Rattle.order.specs.Ranks.{usedBy}
+use Rattle.ops.proofs.SetLaws.{or-first, or-second}
 use borrow.Author.Needs.{needs}
 use Rattle.order.proofs.are_comparisons_used.Statement.{statement}
 use Rattle.order.proofs.are_comparisons_used.Tie as tie
@@ -11,8 +11,8 @@ use Rattle.order.proofs.are_comparisons_used.Tie as tie
 contains-requires : tie.Need-contains-requires
 contains-requires c κs = search needs
 
-uses-some-requires : tie.Need-uses-some-requires
-uses-some-requires c κs = search needs
+has-some-requires : tie.Need-has-some-requires
+has-some-requires c κs = search needs
 
 returns : tie.Need-returns
 unfolding any
@@ -27,10 +27,10 @@ unfolding any
 returns-2 c =
     let a = c .before .before .before .args in
     let u = usedBy (a .used) in
-    or-second (c .before .before .contains .result) (u Operator.lessThan) (c .uses-some .result) (any u (Operator.lessEqual ∷ Operator.greaterEqual ∷ Operator.greaterThan ∷ []))
+    or-second (c .before .before .contains .result) (u Operator.lessThan) (c .has-some .result) (any u (Operator.lessEqual ∷ Operator.greaterEqual ∷ Operator.greaterThan ∷ []))
     (c .before .if1 .left)
-    (c .before .before .contains .ensures) (c .uses-some .ensures)
+    (c .before .before .contains .ensures) (c .has-some .ensures)
 
 pub are-comparisons-used-spec : {M : Type 1} → statement M
 are-comparisons-used-spec =
-    tie.close (tie.spec contains-requires uses-some-requires returns returns-2)
+    tie.close (tie.spec contains-requires has-some-requires returns returns-2)

@@ -3,8 +3,9 @@ use mathlib.Core.Path.{_∙_}
 use native.Mathlib.Omega.{arith}
 use Rattle.molang.specs.Operator
 use Rattle.molang.specs.Order.{arrays, callPass, runs, statements}
-use Rattle.order.specs.Places.{array, call, calling, unsplitPass, usedBy}
-use Rattle.order.proofs.Choosing.{chosen-if, no-place, one-used}
+use Rattle.order.specs.Ranks.{array, call, calling, unsplitPass, usedBy}
+use Rattle.ops.proofs.SetLaws.{one-used}
+use Rattle.order.proofs.Choosing.{chosen-if, no-rank}
 use borrow.Author.Needs.{needs}
 use Rattle.order.proofs.calls.Statement.{statement}
 use Rattle.order.proofs.calls.Tie as tie
@@ -54,7 +55,7 @@ returns-3 c =
     (c .when3 .result) (c .when3 .ensures))
 
 returns-4 : tie.Need-returns-4
-returns-4 c = no-place (usedBy (c .before .args .used)) calling (c .before .args .k) (omega (arith, c .match .rest))
+returns-4 c = no-rank (usedBy (c .before .args .used)) calling (c .before .args .k) (omega (arith, c .match .rest))
 
 pub calls-spec : {M : Type 1} → statement M
 calls-spec =

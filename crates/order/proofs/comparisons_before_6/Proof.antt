@@ -2,8 +2,8 @@
 use native.Mathlib.Omega.{arith}
 use Rattle.molang.specs.Operator
 use Rattle.molang.specs.Order.{comparisons}
-use Rattle.order.specs.Places.{comparing, usedBy}
-use Rattle.order.proofs.Choosing.{no-place, one-level}
+use Rattle.order.specs.Ranks.{comparing, usedBy}
+use Rattle.order.proofs.Choosing.{no-rank, one-level}
 use mathlib.Core.Bool.{false}
 use Rattle.order.proofs.Covering.{equal-covers, greater-equal-covers, greater-than-covers, less-equal-covers, less-than-covers, not-equal-covers}
 use borrow.Author.Needs.{needs}
@@ -66,7 +66,7 @@ returns-6 c =
 
 returns-7 : tie.Need-returns-7
 unfolding comparisons
-returns-7 c = no-place (usedBy (c .before .args .used)) (comparing false) (c .before .args .k) (omega (arith, c .match .rest))
+returns-7 c = no-rank (usedBy (c .before .args .used)) (comparing false) (c .before .args .k) (omega (arith, c .match .rest))
 
 pub comparisons-before-6-spec : {M : Type 1} → statement M
 comparisons-before-6-spec =

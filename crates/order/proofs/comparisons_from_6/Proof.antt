@@ -2,7 +2,7 @@
 use native.Mathlib.Omega.{arith}
 use Rattle.molang.specs.Operator
 use Rattle.molang.specs.Order.{binary, comparisons, runs}
-use Rattle.order.specs.Places.{level, usedBy}
+use Rattle.order.specs.Ranks.{level, usedBy}
 use Rattle.order.proofs.Choosing.{chosen-if, no-pass}
 use mathlib.Core.List.{[], _∷_}
 use mathlib.Core.Bool.{true}
@@ -17,8 +17,8 @@ are-comparisons-used-requires c κs = search needs
 level-requires : tie.Need-level-requires
 level-requires c κs = search needs
 
-uses-either-requires : tie.Need-uses-either-requires
-uses-either-requires c κs = search needs
+has-either-requires : tie.Need-has-either-requires
+has-either-requires c κs = search needs
 
 level-requires-2 : tie.Need-level-requires-2
 level-requires-2 c κs = search needs
@@ -38,7 +38,7 @@ returns-2 c =
     let u = usedBy (c .before .before .before .args .used) in
     rw (c .before .before .match .keys2)
     (chosen-if u (binary (Operator.logicalEqual ∷ Operator.logicalNotEqual ∷ [])) _
-    (c .before .uses-either .result) (c .before .uses-either .ensures) (level equalities-covers) (c .level2 .result) (c .level2 .ensures))
+    (c .before .has-either .result) (c .before .has-either .ensures) (level equalities-covers) (c .level2 .result) (c .level2 .ensures))
 
 returns-3 : tie.Need-returns-3
 unfolding comparisons
@@ -50,7 +50,7 @@ comparisons-from-6-spec =
     (tie.spec
     are-comparisons-used-requires
     level-requires
-    uses-either-requires
+    has-either-requires
     level-requires-2
     returns
     returns-2

@@ -3,7 +3,7 @@ use mathlib.Core.Path.{sym, _∙_}
 use mathlib.Core.Bool.{true, false}
 use mir.Facts.{toZ-ofZ}
 use Rattle.molang.specs.Order.{isFrom}
-use Rattle.order.specs.Places.{usedBy, branching}
+use Rattle.order.specs.Ranks.{usedBy, branching}
 use Rattle.order.proofs.Choosing.{at-version}
 use borrow.Author.Needs.{needs}
 use Rattle.order.proofs.conditionals.Statement.{statement}

@@ -2,8 +2,8 @@
 use native.Mathlib.Omega.{arith}
 use Rattle.molang.specs.Operator
 use Rattle.molang.specs.Order.{conditionals}
-use Rattle.order.specs.Places.{branching, usedBy}
-use Rattle.order.proofs.Choosing.{no-place, one-level}
+use Rattle.order.specs.Ranks.{branching, usedBy}
+use Rattle.order.proofs.Choosing.{no-rank, one-level}
 use mathlib.Core.Bool.{false}
 use Rattle.order.proofs.Covering.{conditional-else-covers, conditional-covers}
 use borrow.Author.Needs.{needs}
@@ -31,7 +31,7 @@ returns-2 c =
 
 returns-3 : tie.Need-returns-3
 unfolding conditionals
-returns-3 c = no-place (usedBy (c .before .args .used)) (branching false) (c .before .args .k) (omega (arith, c .match .rest))
+returns-3 c = no-rank (usedBy (c .before .args .used)) (branching false) (c .before .args .k) (omega (arith, c .match .rest))
 
 pub conditionals-before-5-spec : {M : Type 1} → statement M
 conditionals-before-5-spec =

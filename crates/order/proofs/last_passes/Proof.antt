@@ -3,8 +3,9 @@ use mathlib.Core.Path.{_∙_}
 use native.Mathlib.Omega.{arith}
 use Rattle.molang.specs.Operator
 use Rattle.molang.specs.Order.{returns as returnPass, runs}
-use Rattle.order.specs.Places.{last, returnPass, usedBy}
-use Rattle.order.proofs.Choosing.{chosen-if, no-place, one-level, one-used}
+use Rattle.order.specs.Ranks.{last, returnPass, usedBy}
+use Rattle.ops.proofs.SetLaws.{one-used}
+use Rattle.order.proofs.Choosing.{chosen-if, no-rank, one-level}
 use Rattle.order.proofs.Covering.{assignment-covers, comma-covers, null-coalescing-covers}
 use borrow.Author.Needs.{needs}
 use Rattle.order.proofs.last_passes.Statement.{statement}
@@ -49,7 +50,7 @@ returns-4 c =
     (c .before .contains .result) (c .before .contains .ensures ∙ one-used u Operator.return) returnPass (c .when .result) (c .when .ensures))
 
 returns-5 : tie.Need-returns-5
-returns-5 c = no-place (usedBy (c .before .args .used)) last (c .before .args .k) (omega (arith, c .match .rest))
+returns-5 c = no-rank (usedBy (c .before .args .used)) last (c .before .args .k) (omega (arith, c .match .rest))
 
 pub last-passes-spec : {M : Type 1} → statement M
 last-passes-spec =

@@ -1,7 +1,7 @@
 -- `order::level_of` meets its contract. Assumes nothing.
 use mathlib.Core.Path.{ap, _∙_}
 use mathlib.Core.Bool.{Bool}
-use Rattle.order.specs.Places.{choiceIf, levelOf}
+use Rattle.order.specs.Ranks.{choiceIf, levelOf}
 use borrow.Author.Needs.{needs}
 use Rattle.order.proofs.level_of.Statement.{statement}
 use Rattle.order.proofs.level_of.Tie as tie

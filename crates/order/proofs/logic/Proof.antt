@@ -4,8 +4,8 @@ use mathlib.Core.Bool.{not}
 use native.Mathlib.Omega.{arith}
 use mir.Facts.{toZ-ofZ}
 use Rattle.molang.specs.Order.{isFrom}
-use Rattle.order.specs.Places.{usedBy, deciding}
-use Rattle.order.proofs.Choosing.{first-logic, second-logic, deciding-size, no-place}
+use Rattle.order.specs.Ranks.{usedBy, deciding}
+use Rattle.order.proofs.Choosing.{first-logic, second-logic, deciding-size, no-rank}
 use borrow.Author.Needs.{needs}
 use Rattle.order.proofs.logic.Statement.{statement}
 use Rattle.order.proofs.logic.Tie as tie
@@ -40,7 +40,7 @@ returns-3 : tie.Need-returns-3
 returns-3 c =
     let a = c .before .args in
     let from6 = isFrom 6 (a .version) in
-    no-place (usedBy (a .used)) (deciding from6) (a .k) (omega (arith, deciding-size from6, c .match .rest))
+    no-rank (usedBy (a .used)) (deciding from6) (a .k) (omega (arith, deciding-size from6, c .match .rest))
 
 pub logic-spec : {M : Type 1} → statement M
 logic-spec =

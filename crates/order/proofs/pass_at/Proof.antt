@@ -1,10 +1,10 @@
--- `order::pass_at` meets its contract: the group that the place is in. Assumes nothing.
+-- `order::pass_at` meets its contract: the group that the rank is in. Assumes nothing.
 use mathlib.Core.Path.{sym, ap}
 use Prim.Native.Nat.{_-_}
 use mir.Facts.{toZ-ofZ}
 use native.Mathlib.Omega.{arith}
 use Rattle.molang.specs.Order.{isFrom}
-use Rattle.order.specs.Places.{usedBy, comparing, deciding, branching, rulesOf}
+use Rattle.order.specs.Ranks.{usedBy, comparing, deciding, branching, rulesOf}
 use Rattle.order.proofs.Choosing.{at-calling, at-arithmetic, at-comparing, at-deciding, at-branching, at-last, at-version}
 use borrow.Author.Needs.{needs}
 use Rattle.order.proofs.pass_at.Statement.{statement}

@@ -2,8 +2,9 @@
 use native.Mathlib.Omega.{arith}
 use Rattle.molang.specs.Operator
 use Rattle.molang.specs.Order.{addition, mathCalls, pointer, runs, unaryMinusAndNot}
-use Rattle.order.specs.Places.{arithmetic, mathCall, plus, point, unary, usedBy}
-use Rattle.order.proofs.Choosing.{chosen-if, no-place, one-level, one-used}
+use Rattle.order.specs.Ranks.{arithmetic, mathCall, plus, point, unary, usedBy}
+use Rattle.ops.proofs.SetLaws.{one-used}
+use Rattle.order.proofs.Choosing.{chosen-if, no-rank, one-level}
 use Rattle.order.proofs.Covering.{add-covers, pointer-covers, div-covers, mul-covers}
 use borrow.Author.Needs.{needs}
 use Rattle.order.proofs.pointer_and_arithmetic.Statement.{statement}
@@ -18,8 +19,8 @@ has-math-call-requires c κs = search needs
 when-requires : tie.Need-when-requires
 when-requires c κs = search needs
 
-uses-either-requires : tie.Need-uses-either-requires
-uses-either-requires c κs = search needs
+has-either-requires : tie.Need-has-either-requires
+has-either-requires c κs = search needs
 
 when-requires-2 : tie.Need-when-requires-2
 when-requires-2 c κs = search needs
@@ -30,8 +31,8 @@ level-of-requires-2 c κs = search needs
 level-of-requires-3 : tie.Need-level-of-requires-3
 level-of-requires-3 c κs = search needs
 
-uses-either-requires-2 : tie.Need-uses-either-requires-2
-uses-either-requires-2 c κs = search needs
+has-either-requires-2 : tie.Need-has-either-requires-2
+has-either-requires-2 c κs = search needs
 
 level-requires : tie.Need-level-requires
 level-requires c κs = search needs
@@ -59,7 +60,7 @@ returns-3 c =
     let u = usedBy (c .before .before .before .args .used) in
     rw (c .before .before .match .keys3)
     (chosen-if u unaryMinusAndNot _
-    (c .before .uses-either .result) (c .before .uses-either .ensures) unary (c .when2 .result) (c .when2 .ensures))
+    (c .before .has-either .result) (c .before .has-either .ensures) unary (c .when2 .result) (c .when2 .ensures))
 
 returns-4 : tie.Need-returns-4
 returns-4 c =
@@ -77,10 +78,10 @@ returns-6 c =
     let u = usedBy (c .before .before .before .args .used) in
     rw (c .before .before .match .keys6)
     (chosen-if u addition _
-    (c .before .uses-either2 .result) (c .before .uses-either2 .ensures) (plus add-covers) (c .level .result) (c .level .ensures))
+    (c .before .has-either2 .result) (c .before .has-either2 .ensures) (plus add-covers) (c .level .result) (c .level .ensures))
 
 returns-7 : tie.Need-returns-7
-returns-7 c = no-place (usedBy (c .before .args .used)) arithmetic (c .before .args .k) (omega (arith, c .match .rest))
+returns-7 c = no-rank (usedBy (c .before .args .used)) arithmetic (c .before .args .k) (omega (arith, c .match .rest))
 
 pub pointer-and-arithmetic-spec : {M : Type 1} → statement M
 pointer-and-arithmetic-spec =
@@ -89,11 +90,11 @@ pointer-and-arithmetic-spec =
     level-of-requires
     has-math-call-requires
     when-requires
-    uses-either-requires
+    has-either-requires
     when-requires-2
     level-of-requires-2
     level-of-requires-3
-    uses-either-requires-2
+    has-either-requires-2
     level-requires
     returns
     returns-2

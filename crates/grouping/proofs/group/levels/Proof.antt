@@ -7,7 +7,7 @@ use mir.Syntax.{w16}
 use mir.Val.{toZ, ofZ}
 use borrow.Author.Needs.{needs}
 use lib.ListN.{length}
-use Rattle.order.specs.Places.{usedBy, rulesOf}
+use Rattle.order.specs.Ranks.{usedBy, rulesOf}
 use Rattle.grouping.specs.Group.{CanLevel}
 use Rattle.grouping.proofs.LevelLaws.{LevelAt, level-start, level-chooses, chosen-as, levelled-at, level-on, level-pointer, level-fails, level-roots}
 use Rattle.grouping.proofs.group.levels.Statement.{statement}

@@ -1,5 +1,5 @@
--- The definition's order of passes laid out in places that are the same at every version, and what it means that the code chose the pass at
--- a place: the state in which that pass starts where the pass runs, and nothing where it does not or the place is empty.
+-- The definition's order of passes laid out in ranks that are the same at every version, and what it means that the code chose the pass at
+-- a rank: the state in which that pass starts where the pass runs, and nothing where it does not or the rank is empty.
 use Prim.Native.Nat.{ℕ, zero, suc}
 use mathlib.Core.Path.{_≡_}
 use mathlib.Core.Bool.{Bool, true, false}
@@ -42,46 +42,46 @@ abbrev pub andOr : Bool → ℕ
 andOr true = Operator.logicalAnd
 andOr false = Operator.logicalOr
 
--- ---- The places
+-- ---- The ranks
 
--- n places, for these passes and none after them.
+-- n ranks, for these passes and none after them.
 abbrev pub padded : ℕ → List Pass → List (Option Pass)
 padded zero passes = []
 padded (suc n) [] = none ∷ padded n []
 padded (suc n) (p ∷ passes) = some p ∷ padded n passes
 
--- Places 0 to 2.
+-- Ranks 0 to 2.
 abbrev pub calling : List (Option Pass)
 calling = padded 3 (callPass ∷ statements ∷ arrays ∷ [])
 
--- Places 3 to 8.
+-- Ranks 3 to 8.
 abbrev pub arithmetic : List (Option Pass)
 arithmetic =
     padded 6 (pointer ∷ mathCalls ∷ unaryMinusAndNot ∷ binary (Operator.div ∷ []) ∷ binary (Operator.mul ∷ []) ∷ addition ∷ [])
 
--- Places 9 to 14: six comparisons one at a time, or two levels and four places empty.
+-- Ranks 9 to 14: six comparisons one at a time, or two levels and four ranks empty.
 abbrev pub comparing : Bool → List (Option Pass)
 comparing from6 = padded 6 (comparisons from6)
 
--- Places 15 and 16.
+-- Ranks 15 and 16.
 abbrev pub deciding : Bool → List (Option Pass)
 deciding from6 = padded 2 (logic from6)
 
--- Places 17 and 18: `:` then `?`, or the ternary fold and an empty place.
+-- Ranks 17 and 18: `:` then `?`, or the conditional pass and an empty rank.
 abbrev pub branching : Bool → List (Option Pass)
 branching from5 = padded 2 (conditionals from5)
 
--- Places 19 to 22.
+-- Ranks 19 to 22.
 abbrev pub last : List (Option Pass)
 last = padded 4 (binary (Operator.nullCoalescing ∷ []) ∷ binary (Operator.comma ∷ []) ∷ binary (Operator.assignment ∷ []) ∷ returns ∷ [])
 
--- THE 23 PLACES, under a version's rules: the definition's `order` after its three flat passes.
-unfoldable pub places : Rules → List (Option Pass)
-places r = calling ++ (arithmetic ++ (comparing (r .comparisonsFirst) ++ (deciding (r .andFirst) ++ (branching (r .pairsRight) ++ last))))
+-- THE 23 RANKS, under a version's rules: the definition's `order` after its three flat passes.
+unfoldable pub ranks : Rules → List (Option Pass)
+ranks r = calling ++ (arithmetic ++ (comparing (r .comparisonsFirst) ++ (deciding (r .andFirst) ++ (branching (r .pairsRight) ++ last))))
 
--- What stands at place k.
-abbrev pub placeIn : List (Option Pass) → ℕ → Option Pass
-placeIn group k = getD group k none
+-- What stands at rank k.
+abbrev pub rankIn : List (Option Pass) → ℕ → Option Pass
+rankIn group k = getD group k none
 
 -- The rules of a version as the rules use it: `rules v` of the definition is this at `effective v`.
 abbrev pub rulesOf : ℤ → Rules
@@ -102,7 +102,7 @@ pub data Starts : Pass → State → Type 0 where
   plus : {classes : TokenClasses} → Covers (classes .0) (isOneOf (Operator.add ∷ [])) → Starts addition (levelOf classes)
   level : {ops : List ℕ} {classes : TokenClasses} → Covers (classes .0) (isOneOf ops) → Starts (binary ops) (levelOf classes)
 
--- What is chosen at a place, under a used set.
+-- What is chosen at a rank, under a used set.
 pub data Chosen (u : ℕ → Bool) : Option Pass → Choice → Type 0 where
   empty : Chosen u none Skip
   unused : {p : Pass} → runs u p ≡ false → Chosen u (some p) Skip
@@ -110,19 +110,19 @@ pub data Chosen (u : ℕ → Bool) : Option Pass → Choice → Type 0 where
 
 -- ---- The passes that run
 
--- The pass at a place, where it runs.
+-- The pass at a rank, where it runs.
 unfoldable pub running : (ℕ → Bool) → Option Pass → List Pass
 running u none = []
 running u (some p) = elim (runs u p) [ true ↦ p ∷ [] | false ↦ [] ]
 
--- Those at some places.
+-- Those at some ranks.
 unfoldable pub runningIn : (ℕ → Bool) → List (Option Pass) → List Pass
 runningIn u [] = []
 runningIn u (at ∷ others) = running u at ++ runningIn u others
 
--- Those from place k on.
+-- Those from rank k on.
 unfoldable pub passesFrom : (ℕ → Bool) → Rules → ℕ → List Pass
-passesFrom u r k = runningIn u (drop k (places r))
+passesFrom u r k = runningIn u (drop k (ranks r))
 
 -- The passes of a list that run.
 unfoldable pub runningOf : (ℕ → Bool) → List Pass → List Pass
