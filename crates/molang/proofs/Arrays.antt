@@ -76,7 +76,8 @@ module _ (W : Weighing) where
   -- An index's contents, from the state u on, are added to those of the array so far.
   array-appends : (d : Forest) (q : Token) (contents : Forest) (u : Indexing) (m : ℕ) (k c : Token) (cs r rest : Forest) (n : ℕ)
       → IndexingFits u (node c cs r) m
-      → W .inner + weight W contents + weight W d + m + weight W rest ≤ n → ArrayOnward k (node c cs r) rest n (into (indexed d q contents) u)
+      → W .inner + weight W contents + weight W d + m + weight W rest ≤ n
+      → ArrayOnward k (node c cs r) rest n (into (indexed d q contents) u)
   unfolding isNil flushed arrayLevel arrayResume
   array-appends d q contents u m k c cs r rest n h b =
       enters {t = indexed d q contents} {u = u} m h refl λ kids w e.

@@ -66,7 +66,8 @@ module _ (sourceLength : ℕ) (u : ℕ → Bool) (n : ℕ) where
   module _ (p : Pass) (ps : List Pass) (f : Forest) where
     -- A pass runs or not; it fails with so many messages, or gives a list of which Q holds.
     pass-bounded : (c : ℕ) (Q : Forest → Type 0) → Outcome c Q (apply sourceLength p f) → Bounded n (grouped sourceLength u ps [] f)
-        → ((m : List Message) → length m ≡ c → Bounded n (afterFail p ps m)) → ((g : Forest) → Q g → Bounded n (grouped sourceLength u ps [] g))
+        → ((m : List Message) → length m ≡ c → Bounded n (afterFail p ps m))
+        → ((g : Forest) → Q g → Bounded n (grouped sourceLength u ps [] g))
         → Bounded n (grouped sourceLength u (p ∷ ps) [] f)
     unfolding grouped afterPass afterFail
     pass-bounded c Q o unrun unable able = either (Bounded n) (runs u p) _ _ (passed o) unrun
@@ -75,7 +76,8 @@ module _ (sourceLength : ℕ) (u : ℕ → Bool) (n : ℕ) where
         passed (failed {m = m} e) = unable m e
         passed (fine {g = g} q) = able g q
 
-  grouped-bounded : (ps : List Pass) (f : Forest) → allNested ps ≡ true → weight nodeWeight f ≤ n → Bounded n (grouped sourceLength u ps [] f)
+  grouped-bounded : (ps : List Pass) (f : Forest) → allNested ps ≡ true → weight nodeWeight f ≤ n
+      → Bounded n (grouped sourceLength u ps [] f)
   unfolding grouped allNested nodesOf afterFail
   grouped-bounded [] f e h = rooted-bounded f h
   grouped-bounded (p ∷ ps) f e h =

@@ -34,7 +34,8 @@ module _ (W : Weighing) where
   abbrev CallGathers : CallKind → Token → Forest → Forest → ℕ → Step Gathered → Type 0
   CallGathers kind k cs rest n = Gathers W (callLevel kind) k cs rest n
 
-  call-node : (kind : CallKind) (d : Forest) (k c : Token) (cs r rest : Forest) (n : ℕ) → weight W d + weight W (node k (node c cs r) rest) ≤ n
+  call-node : (kind : CallKind) (d : Forest) (k c : Token) (cs r rest : Forest) (n : ℕ)
+      → weight W d + weight W (node k (node c cs r) rest) ≤ n
       → CallGathers kind k (node c cs r) rest n (into (gathered d) (gathered nil))
   unfolding callLevel callResume
   call-node kind d k c cs r rest n h = gathers-node W (callLevel kind) (gathered d) k c cs r rest n d (λ kids. refl) h

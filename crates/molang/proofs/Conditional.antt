@@ -1,4 +1,4 @@
--- The ternary fold: what it leaves as it is, and that it raises no weight.
+-- The conditional pass (document 01's ternary fold): what it leaves as it is, and that it raises no weight.
 use Prim.Native.Nat.{ℕ, _+_, _≤_}
 use mathlib.Core.Path.{_≡_, refl}
 use mathlib.Core.Bool.{Bool, true, false, not}
@@ -121,9 +121,11 @@ module _ (W : Weighing) where
       (λ e. let was = weight-token Operator.conditionalElse c cs e in (omega (arith, h .0, was, apart, paired, weight-tree W c cs (node x xs r), weight-tree W x xs r), refl))
       (λ e. h)
 
-  module _ (a : Token) (aa : Forest) (b : Token) (bs left right : Forest) (n : ℕ) (h : weight W (node a aa (node b bs left)) + weight W right ≤ n) where
+  module _ (a : Token) (aa : Forest) (b : Token) (bs left right : Forest) (n : ℕ)
+      (h : weight W (node a aa (node b bs left)) + weight W right ≤ n) where
     -- Where a is a token, it and b go under it, before the rest.
-    taken-light : (o : ℕ) → isToken o a aa ≡ true → (weight W left + weight W (under a b bs right) ≤ n) × (isNil (under a b bs right) ≡ false)
+    taken-light : (o : ℕ) → isToken o a aa ≡ true
+        → (weight W left + weight W (under a b bs right) ≤ n) × (isNil (under a b bs right) ≡ false)
     taken-light o e =
         let u = under-light a b bs right in
         (omega (arith, u .0, weight-token o a aa e, weight-tree W a aa (node b bs left), weight-tree W b bs left), u .1)

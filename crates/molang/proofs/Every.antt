@@ -256,7 +256,8 @@ module _ (Q : Token → Type 0) where
     every-flushed (named d q) h = at (h .1) nowhere (h .0)
     every-flushed (indexed d q contents) h = at (h .1) (every-inOrder (h .2)) (h .0)
 
-    array-appends : (d : Forest) (q : Token) (contents : Forest) (u : Indexing) (k : Token) → Every Q d → Q q → Every Q contents → IndexingHolds u
+    array-appends : (d : Forest) (q : Token) (contents : Forest) (u : Indexing) (k : Token) → Every Q d → Q q → Every Q contents
+        → IndexingHolds u
         → ArrayCarried k (into (indexed d q contents) u)
     unfolding arrayLevel arrayResume
     array-appends d q contents u k hd hq hc hu = entering {t = indexed d q contents} {u = u} hu λ kids e. (hd, hq, every-turned e hc)
@@ -392,7 +393,8 @@ module _ (Q : Token → Type 0) where
         (either UnaryGives (eqb (k .op) Operator.logicalNot) _ _ (not-gives k r q h) (given (at q nowhere h)))
     node-gives p k (node x xs y) kids r q e h = given (at q e h)
 
-    atNode-gives : (p : Option Token) (k : Token) (cs : Forest) {x y : Unary} → Q k → UnaryGives x → UnaryGives y → UnaryGives (atNode p k cs x y)
+    atNode-gives : (p : Option Token) (k : Token) (cs : Forest) {x y : Unary} → Q k → UnaryGives x → UnaryGives y
+        → UnaryGives (atNode p k cs x y)
     unfolding atNode inNode
     atNode-gives p k cs q none-given y = none-given
     atNode-gives p k cs q (given h) none-given = none-given
@@ -543,6 +545,7 @@ module _ (Q : Token → Type 0) where
     unfolding read
     read-reads ts u v l h = grouped-reads l u (order (rules v)) [] (leaves ts) h
 
-    pub read-every : (tokens : List Token) (u : ℕ → Bool) (version : ℤ) (sourceLength : ℕ) (k : Token) (cs : Forest) → Every Q (leaves tokens)
+    pub read-every : (tokens : List Token) (u : ℕ → Bool) (version : ℤ) (sourceLength : ℕ) (k : Token) (cs : Forest)
+        → Every Q (leaves tokens)
         → read tokens u version sourceLength ≡ tree k cs → Every Q (node k cs nil)
     read-every ts u v l k cs h e = of-tree (rw e at (read-reads ts u v l h))

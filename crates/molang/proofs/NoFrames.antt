@@ -1,7 +1,7 @@
 -- NO FRAMES. Document 01: "The definition is written without class masks and without the frame stack; both are proved to change nothing."
--- A reader with a frame stack has one list under work. To go through an item's children it puts that list on the stack, in a frame, and takes
--- it from there again when the children are done (`Run`). `no-frames` says that such a run comes to what the definition's pass gives, which
--- recurses into the children, and to nothing else.
+-- A reader with a frame stack has one list under work. To go through an item's children it puts that list on the stack, in a frame, and
+-- takes it from there again when the children are done (`Run`). The definition's pass recurses into the children instead. `no-frames` says
+-- that such a run comes to what the definition's pass gives, and to nothing else.
 use Prim.Native.Nat.{ℕ, zero, suc, _≤_}
 use mathlib.Core.Path.{_≡_, refl, sym, ap, _∙_, subst}
 use mathlib.Core.Bool.{false}
@@ -39,8 +39,8 @@ step conditional s k cs rest = conditionalLevel .step s k cs
 step returns s k cs rest = returnLevel .step s k cs
 step (binary ops) s k cs rest = binaryLevel ops .step s k cs
 
--- The pass in the state s, with these items unread, while the lists of S wait in frames: what it comes to. Nothing recurses into a list. At an
--- item it stops, goes on, or enters the children; at a list's end it fails, takes the list on top of the stack again, or has come to the end.
+-- What the pass comes to from the state s, with these items unread, while the lists of S wait in frames. At an item it stops, goes on, or
+-- puts the list in a frame and enters the children. At a list's end it fails, takes the list on top of the stack again, or is done.
 pub data Run (κ : Kind) : List (Held κ) → State κ → Forest → Result → Type 0 where
   stops : {S : List (Held κ)} {s : State κ} {k : Token} {cs rest : Forest} {m : List Message} → step κ s k cs rest ≡ stop m
       → Run κ S s (node k cs rest) (fail m)
@@ -83,9 +83,11 @@ unfolding work step stepped pass passOf apply begins inReading takes leftOf unar
 work-step (calls c) s k cs rest = left-step (callLevel c) k cs rest (stepped (calls c) k cs rest) (λ m. refl) (λ t. refl) (λ t u. refl) s
 work-step statements s k cs rest = left-step statementLevel k cs rest (stepped statements k cs rest) (λ m. refl) (λ t. refl) (λ t u. refl) s
 work-step arrays s k cs rest = left-step arrayLevel k cs rest (stepped arrays k cs rest) (λ m. refl) (λ t. refl) (λ t u. refl) s
-work-step conditional s k cs rest = left-step conditionalLevel k cs rest (stepped conditional k cs rest) (λ m. refl) (λ t. refl) (λ t u. refl) s
+work-step conditional s k cs rest =
+    left-step conditionalLevel k cs rest (stepped conditional k cs rest) (λ m. refl) (λ t. refl) (λ t u. refl) s
 work-step returns s k cs rest = left-step returnLevel k cs rest (stepped returns k cs rest) (λ m. refl) (λ t. refl) (λ t u. refl) s
-work-step (binary ops) s k cs rest = left-step (binaryLevel ops) k cs rest (stepped (binary ops) k cs rest) (λ m. refl) (λ t. refl) (λ t u. refl) s
+work-step (binary ops) s k cs rest =
+    left-step (binaryLevel ops) k cs rest (stepped (binary ops) k cs rest) (λ m. refl) (λ t. refl) (λ t u. refl) s
 work-step unaryMinusAndNot (right pair r) k nil rest = at-leaf pair k r rest ∙ go (unaryLeaf (before rest) (turned pair k) r)
   where
     go : (u : Unary) → leftOf rest u ≡ stepped unaryMinusAndNot k nil rest (unaryOn u)
@@ -93,7 +95,8 @@ work-step unaryMinusAndNot (right pair r) k nil rest = at-leaf pair k r rest ∙
     go (done p s) = refl
 work-step unaryMinusAndNot (right pair r) k (node c cs x) rest =
     at-node pair k c cs x r rest
-    ∙ ap (λ (y : Result). andThen y (λ kids. fromRight (right false (node (turned pair k) kids r)) rest)) (pass-begins unaryMinusAndNot (node c cs x))
+    ∙ ap (λ (y : Result). andThen y (λ kids. fromRight (right false (node (turned pair k) kids r)) rest))
+    (pass-begins unaryMinusAndNot (node c cs x))
 
 -- ---- a run comes to what is left
 
@@ -126,7 +129,8 @@ module _ (κ : Kind) where
 
   module _ (k : Token) (cs rest : Forest) (S : List (Held κ)) (s : State κ) (x r : Result) (h : After κ S x r)
       (later : (t : State κ) → work κ t rest ≡ x → Run κ S t rest r)
-      (below : (t u : State κ) → After κ (held t k rest ∷ S) (work κ u (inReading κ cs)) r → Run κ (held t k rest ∷ S) u (inReading κ cs) r) where
+      (below : (t u : State κ) → After κ (held t k rest ∷ S) (work κ u (inReading κ cs)) r
+      → Run κ (held t k rest ∷ S) u (inReading κ cs) r) where
     -- The children have come to y.
     after-children : (t : State κ) (y : Result) → andThen y (λ kids. work κ (takes κ t k kids) rest) ≡ x → After κ (held t k rest ∷ S) y r
     unfolding andThen
@@ -151,7 +155,8 @@ module _ (κ : Kind) where
       (λ t u a. runs n (inReading κ cs) (omega (arith, reading-size κ cs)) (held t k rest ∷ S) u (work κ u (inReading κ cs)) r refl a)
       (step κ s k cs rest) refl (sym (work-step κ s k cs rest) ∙ e)
 
--- A run with the frame stack, over a list from its beginning, comes to what the definition's pass gives of it, and to nothing else.
+-- THE THEOREM: a run with the frame stack, over a list from its beginning, comes to what the definition's pass gives of it, and to nothing
+-- else.
 pub no-frames : (κ : Kind) (f : Forest)
     → Run κ [] (begins κ f) (inReading κ f) (pass κ f) × ((r : Result) → Run κ [] (begins κ f) (inReading κ f) r → r ≡ pass κ f)
 unfolding unwound

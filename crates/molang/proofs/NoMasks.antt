@@ -1,6 +1,6 @@
 -- NO MASKS. Document 01: "The definition is written without class masks and without the frame stack; both are proved to change nothing."
--- A reader with class masks does not run a pass, or enter a list, where no leaf has a class of the pass. `no-masks` says that the pass would
--- have left that list as it is. What each level says of itself stands in the file of its name; the flat passes are here.
+-- A reader with class masks does not run a pass, and does not enter a list, where no leaf has a class of the pass. `no-masks` says that the
+-- pass would have left that list as it is. The law of each level stands in the file of its name; those of the flat passes are here.
 use Prim.Native.Nat.{ℕ}
 use mathlib.Core.Path.{_≡_, refl}
 use mathlib.Core.Bool.{true, false, false≢true}
@@ -35,7 +35,8 @@ members-free d (node k nil rest) t h =
 members-free d (node k (node c cs r) rest) t h = absurd (false≢true t)
 
 -- Outside every section, what opens none is placed: a closer too.
-unopened : (d : Forest) (k : Token) (cs : Forest) (i : ℕ) → closingOf (k .op) ≡ none → bracket k cs i (outside d) ≡ going (outside (node k cs d))
+unopened : (d : Forest) (k : Token) (cs : Forest) (i : ℕ) → closingOf (k .op) ≡ none
+    → bracket k cs i (outside d) ≡ going (outside (node k cs d))
 unfolding bracket closing placed
 unopened d k cs i e = rw (e, bracket) (either (λ w. w ≡ going (outside (node k cs d))) (isCloser (k .op)) _ _ refl refl)
 
@@ -47,7 +48,8 @@ no-opener n h =
     let parenthesis = or-neither (eqb n Operator.leftParenthesis) false (bracket .1) in
     rw (brace .0, closingOf) (rw (bracket .0) (rw (parenthesis .0) refl))
 
-sections-free : (i : ℕ) (d f : Forest) → flat f ≡ true → free (operatorsOf sectioning) f ≡ true → sections i (outside d) f ≡ ok (turnedOnto d f)
+sections-free : (i : ℕ) (d f : Forest) → flat f ≡ true → free (operatorsOf sectioning) f ≡ true
+    → sections i (outside d) f ≡ ok (turnedOnto d f)
 unfolding sections closed position flat turnedOnto inOrder
 sections-free i d nil t h = refl
 sections-free i d (node k nil rest) t h =
@@ -58,8 +60,9 @@ sections-free i d (node k (node c cs r) rest) t h =
     rw (unopened d k (node c cs r) (position i (outside d)) (member-unopened k (b .0)), sections)
     (sections-free _ (node k (node c cs r) d) rest (b .1) (free-tree (operatorsOf sectioning) k c cs r rest h .1))
 
--- A pass leaves a list that it works on as it is where none of its operators stands as a leaf, at any depth.
-pub no-masks : (sourceLength : ℕ) (p : Pass) (f : Forest) → worksOn p f ≡ true → free (operatorsOf p) f ≡ true → apply sourceLength p f ≡ ok f
+-- THE THEOREM: a pass leaves a list that it works on as it is where none of its operators stands as a leaf, at any depth.
+pub no-masks : (sourceLength : ℕ) (p : Pass) (f : Forest) → worksOn p f ≡ true → free (operatorsOf p) f ≡ true
+    → apply sourceLength p f ≡ ok f
 unfolding apply worksOn operatorsOf turnedOnto
 no-masks l lastToken f w h = absurd (false≢true w)
 no-masks l memberAccessors f w h = members-free nil f w h

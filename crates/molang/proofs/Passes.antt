@@ -60,7 +60,8 @@ kind-nested kinds.conditional = refl
 kind-nested kinds.returns = refl
 kind-nested (kinds.binary ops) = refl
 
-module _ (W : Weighing) (pays : 3 * W .inner ≤ W .leaf Operator.semicolon) (turns : W .leaf Operator.add + W .inner ≤ W .leaf Operator.negate) where
+module _ (W : Weighing) (pays : 3 * W .inner ≤ W .leaf Operator.semicolon)
+    (turns : W .leaf Operator.add + W .inner ≤ W .leaf Operator.negate) where
   pub apply-light : (sourceLength : ℕ) (p : Pass) (f : Forest) → isNested p ≡ true
       → Ending W (weight W f) (not (isNil f)) (apply sourceLength p f)
   unfolding isNested apply
@@ -116,7 +117,8 @@ module _ (P : ℕ → Bool) where
 
   -- NOTHING ELSE MAKES SUCH LEAVES: a pass takes leaves out of a forest and puts none in. The one exception is the unary pass, which turns
   -- `-` into `+`: whatever looks for `+` looks for `-` too.
-  pub apply-keeps-free : (sourceLength : ℕ) (p : Pass) (f g : Forest) → isNested p ≡ true → (P Operator.add ≡ true → P Operator.negate ≡ true)
+  pub apply-keeps-free : (sourceLength : ℕ) (p : Pass) (f g : Forest) → isNested p ≡ true
+      → (P Operator.add ≡ true → P Operator.negate ≡ true)
       → free P f ≡ true → apply sourceLength p f ≡ ok g → free P g ≡ true
   apply-keeps-free l p f g n t h e =
       outcome-free f g (not (isNil f)) (apply-light (leavesOf P) (omega arith) (covered (P Operator.add) (P Operator.negate) t) l p f n) h e

@@ -120,7 +120,8 @@ module _ (W : Weighing) where
 
   -- What is no opener.
   unopened-light : (k : Token) (cs : Forest) (i : ℕ) (s : Open)
-      → Walks (weight W (node k cs nil) + openWeight s) (elim (isCloser (k .op)) [ true ↦ closing k cs i s | false ↦ going (placed k cs s) ])
+      → Walks (weight W (node k cs nil) + openWeight s)
+      (elim (isCloser (k .op)) [ true ↦ closing k cs i s | false ↦ going (placed k cs s) ])
   unopened-light k cs i s =
       either (Walks (weight W (node k cs nil) + openWeight s)) (isCloser (k .op)) _ _ (closing-light k cs i s)
       (walks {s = placed k cs s} (omega (arith, placed-light k cs s)))

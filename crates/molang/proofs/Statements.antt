@@ -63,7 +63,8 @@ module _ (W : Weighing) (pays : 3 * W .inner ≤ W .leaf Operator.semicolon) whe
   abbrev SplitOnward : Token → Forest → Forest → ℕ → Step Split → Type 0
   SplitOnward k cs rest n = Onward (Within W) statementLevel SplitFits splitFull k cs rest n
 
-  split-fits : (f g : Forest) (n : ℕ) → weight W g ≤ n → (clear isSemicolon f ≡ false → clear isSemicolon g ≡ false) → SplitFits (splitOf f) g n
+  split-fits : (f g : Forest) (n : ℕ) → weight W g ≤ n → (clear isSemicolon f ≡ false → clear isSemicolon g ≡ false)
+      → SplitFits (splitOf f) g n
   unfolding splitOf clear isSemicolon weight
   split-fits nil g n h c = omega arith
   split-fits (node k (node x xs y) rest) g n h c = split-fits rest g n h c
@@ -78,7 +79,8 @@ module _ (W : Weighing) (pays : 3 * W .inner ≤ W .leaf Operator.semicolon) whe
 
   gather-light : (m : Split) (k : Token) (kids cs rest : Forest) (n : ℕ) → SplitFits m (node k cs rest) n
       → weight W (node k kids nil) ≤ weight W (node k cs nil)
-      → (clear isSemicolon (node k cs rest) ≡ clear isSemicolon rest) → SplitFits (gather k kids m) rest n × (splitFull (gather k kids m) ≡ true)
+      → (clear isSemicolon (node k cs rest) ≡ clear isSemicolon rest)
+      → SplitFits (gather k kids m) rest n × (splitFull (gather k kids m) ≡ true)
   unfolding gather isNil weight
   gather-light (unsplit d) k kids cs rest n h w e = (omega (arith, weight-tree W k kids d, weight-tree W k cs rest), refl)
   gather-light (after q done) k kids cs rest n h w e =

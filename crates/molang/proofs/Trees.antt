@@ -1,4 +1,4 @@
--- Facts about forests that the laws of the passes share: which leaves stand in a forest, and what turning a gathered list round keeps.
+-- Facts that the laws of the passes share: cases on a test, which leaves stand in a forest, and what turning a gathered list round keeps.
 use Prim.Native.Nat.{ℕ, _≤_}
 use mathlib.Core.Path.{_≡_, refl}
 use mathlib.Core.Bool.{Bool, true, false, _&&_, not, and-eq-true-iff, true≢false}
@@ -9,7 +9,8 @@ use Rattle.molang.specs.Forest.{Token, Forest, nil, node, turnedOnto, co
 use Rattle.molang.specs.Free.{isNil, free, clear}
 
 -- What holds of both cases of a test holds of the test's outcome.
-pub decided : {A : Type 0} (Q : A → Type 0) (b : Bool) (x y : A) → (b ≡ true → Q x) → (b ≡ false → Q y) → Q (elim b [ true ↦ x | false ↦ y ])
+pub decided : {A : Type 0} (Q : A → Type 0) (b : Bool) (x y : A) → (b ≡ true → Q x) → (b ≡ false → Q y)
+    → Q (elim b [ true ↦ x | false ↦ y ])
 decided Q true x y p q = p refl
 decided Q false x y p q = q refl
 

@@ -57,7 +57,8 @@ before-is-minus n =
     NegateIf b = b ≡ minus → eqb n Operator.negate ≡ true
 
 -- What holds after every kind of node before a minus holds after the node.
-pub beforeCases : {A : Type 0} (Q : A → Type 0) (b : BeforeMinus) (x y z w : A) → (b ≡ operator → Q x) → (b ≡ operand → Q y) → (b ≡ minus → Q z)
+pub beforeCases : {A : Type 0} (Q : A → Type 0) (b : BeforeMinus) (x y z w : A) → (b ≡ operator → Q x) → (b ≡ operand → Q y)
+    → (b ≡ minus → Q z)
     → (b ≡ unknown → Q w)
     → Q (elim b [ operator ↦ x | operand ↦ y | minus ↦ z | unknown ↦ w ])
 beforeCases Q operator x y z w a b c d = a refl
@@ -89,7 +90,8 @@ module _ (W : Weighing) (turns : W .leaf Operator.add + W .inner ≤ W .leaf Ope
       (λ q. reached {r = node x xs r} (omega arith) (λ f. refl) (λ t. before-is-minus (p .op) q))
       (λ q. stuck refl)
 
-  not-light : (p : Option Token) (k : Token) (r : Forest) (n : ℕ) (b : Bool) → W .leaf (k .op) + weight W r ≤ n → Reaches W n b p (notBefore k r)
+  not-light : (p : Option Token) (k : Token) (r : Forest) (n : ℕ) (b : Bool) → W .leaf (k .op) + weight W r ≤ n
+      → Reaches W n b p (notBefore k r)
   unfolding notBefore weight isNil
   not-light p k nil n b h = stuck refl
   not-light p k (node x xs r) n b h =

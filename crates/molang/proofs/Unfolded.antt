@@ -28,7 +28,8 @@ module _ (ops : List ℕ) where
     over : {b : Bool} → Late b nil
     leafThen : {b : Bool} {k : Token} {rest : Forest} → isOneOf ops (k .op) ≡ false → Late true rest → Late b (node k nil rest)
     lastly : {k : Token} → isOneOf ops (k .op) ≡ true → Late true (node k nil nil)
-    treeThen : {b : Bool} {k c : Token} {cs r rest : Forest} → Late false (node c cs r) → Late true rest → Late b (node k (node c cs r) rest)
+    treeThen : {b : Bool} {k c : Token} {cs r rest : Forest} → Late false (node c cs r) → Late true rest
+        → Late b (node k (node c cs r) rest)
 
   -- A list that the level itself gives: it holds no operator leaf of its own.
   pub data Kept : Forest → Type 0 where
@@ -69,8 +70,10 @@ module _ (ops : List ℕ) where
 
   tree-late : (o : Option Token) (d : Forest) (k c : Token) (cs r rest : Forest) → firstLeaf ops (node c cs r) ≡ o
       → walk (binaryLevel ops) (gathered nil) (node c cs r) ≡ atFirst (firstLeaf ops (node c cs r)) (node c cs r)
-      → walk (binaryLevel ops) (gathered (node k (node c cs r) d)) rest ≡ atFirst (firstLeaf ops rest) (turnedOnto (node k (node c cs r) d) rest)
-      → walk (binaryLevel ops) (gathered d) (node k (node c cs r) rest) ≡ atFirst (firstLeaf ops (node k (node c cs r) rest)) (turnedOnto (node k (node c cs r) d) rest)
+      → walk (binaryLevel ops) (gathered (node k (node c cs r) d)) rest
+      ≡ atFirst (firstLeaf ops rest) (turnedOnto (node k (node c cs r) d) rest)
+      → walk (binaryLevel ops) (gathered d) (node k (node c cs r) rest)
+      ≡ atFirst (firstLeaf ops (node k (node c cs r) rest)) (turnedOnto (node k (node c cs r) d) rest)
   unfolding walk binaryLevel binaryStep binaryResume firstLeaf atFirst
   tree-late none d k c cs r rest e below later = rw (e, firstLeaf) (rw (rw e at below, walk) later)
   tree-late (some t) d k c cs r rest e below later = rw (e, firstLeaf) (rw (rw e at below, walk) refl)
@@ -94,7 +97,8 @@ module _ (ops : List ℕ) where
   late-right k nil h = late-operand (isOneOf ops (k .op)) k refl
   late-right k (node c cs r) h = treeThen (kept-late h) over
 
-  kept-joined : (d : Forest) (q k : Token) (kids : Forest) → Kept d → isNil d ≡ false → Late true (node k kids nil) → Kept (joined d q k kids)
+  kept-joined : (d : Forest) (q k : Token) (kids : Forest) → Kept d → isNil d ≡ false → Late true (node k kids nil)
+      → Kept (joined d q k kids)
   unfolding joined isNil
   kept-joined nil q k kids h n r = absurd (true≢false n)
   kept-joined (node l nil d) q k kids (leafFirst e h) n r = treeFirst (leafThen e r) h
@@ -190,7 +194,8 @@ module _ (ops : List ℕ) where
   step-again (waiting d q) k cs h = step-waiting (unfolded ops d) d q k cs refl (again-kept d (h .0))
 
   back-again : (t : Gathered) (k : Token) (rest : Forest) {x : Result} → Ends GoodKept tt true x
-      → ((kids : Forest) → Kept kids → isNil kids ≡ false → walk againLevel (binaryResume t k kids) rest ≡ walk (binaryLevel ops) (binaryResume t k kids) rest)
+      → ((kids : Forest) → Kept kids → isNil kids ≡ false
+      → walk againLevel (binaryResume t k kids) rest ≡ walk (binaryLevel ops) (binaryResume t k kids) rest)
       → back againLevel t k rest x ≡ back (binaryLevel ops) t k rest x
   unfolding back againLevel binaryLevel
   back-again t k rest (failed o) later = refl

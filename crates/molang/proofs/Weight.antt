@@ -24,7 +24,8 @@ Ending W = Ends (Within W)
 abbrev pub Light : Weighing → {S : Type 0} → Level S → Type 1
 Light W L = Keeps (Within W) (weight W) L
 
-pub through-light : (W : Weighing) {S : Type 0} (L : Level S) → Light W L → (f : Forest) → Ending W (weight W f) (not (isNil f)) (through L f)
+pub through-light : (W : Weighing) {S : Type 0} (L : Level S) → Light W L → (f : Forest)
+    → Ending W (weight W f) (not (isNil f)) (through L f)
 through-light W L A f = through-keeps (Within W) (weight W) L A f
 
 pub isNil-turned : (d f : Forest) → isNil f ≡ false → isNil (turnedOnto d f) ≡ false
@@ -64,7 +65,8 @@ module _ (W : Weighing) where
   weight-inOrder d = omega (arith, weight-turned d nil)
 
   -- A node over trees that were gathered the last first.
-  pub weight-gathered : (k : Token) (d rest : Forest) → isNil d ≡ false → weight W (node k (inOrder d) rest) ≡ W .inner + weight W d + weight W rest
+  pub weight-gathered : (k : Token) (d rest : Forest) → isNil d ≡ false
+      → weight W (node k (inOrder d) rest) ≡ W .inner + weight W d + weight W rest
   weight-gathered k d rest e = omega (arith, weight-inner k (inOrder d) rest (isNil-inOrder d e), weight-inOrder d)
 
   -- The end of a level that gives what it has gathered.

@@ -1,5 +1,5 @@
--- What is left of a pass: at its beginning it is the whole pass (`pass-begins`); a list has the same nodes in reading order (`reading-size`);
--- and a failure goes through every list that waits (`unwound-fail`).
+-- Laws of what is left of a pass: at its beginning it is the whole pass (`pass-begins`), a list has the same nodes in reading order
+-- (`reading-size`), and a failure goes through every list that waits (`unwound-fail`).
 use Prim.Native.Nat.{_+_}
 use mathlib.Core.Path.{_≡_, refl, ap, sym, _∙_}
 use mathlib.Core.Bool.{Bool, false}
@@ -30,7 +30,8 @@ unfolding toResult leftOf fromRight
 done-left (undone m) = refl
 done-left (done p r) = refl
 
-unary-node : (left : Forest) (k : Token) (cs f : Forest) → leftOf left (unary (before left) (node k cs f)) ≡ leftOf (node k cs left) (unary (some k) f)
+unary-node : (left : Forest) (k : Token) (cs f : Forest)
+    → leftOf left (unary (before left) (node k cs f)) ≡ leftOf (node k cs left) (unary (some k) f)
 unfolding leftOf fromRight unary
 unary-node left k cs f = go (unary (some k) f) refl (unary none cs) refl
   where
@@ -39,7 +40,10 @@ unary-node left k cs f = go (unary (some k) f) refl (unary none cs) refl
     last (done p s) = refl
 
     go : (u : Unary) → unary (some k) f ≡ u → (v : Unary) → unary none cs ≡ v
-        → leftOf left (elim u [ undone m ↦ undone m | done pair r ↦ elim v [ undone m ↦ undone m | done inner kids ↦ unaryNode (before left) (turned pair k) cs kids r ] ]) ≡ leftOf (node k cs left) u
+        → leftOf left (elim u [
+          | undone m ↦ undone m
+          | done pair r ↦ elim v [ undone m ↦ undone m | done inner kids ↦ unaryNode (before left) (turned pair k) cs kids r ]
+        ]) ≡ leftOf (node k cs left) u
     go (undone m) e v d = refl
     go (done pair r) e (undone m) d = rw (d, leftOf, fromRight) refl
     go (done pair r) e (done inner kids) d = rw (d, leftOf, fromRight) (last (unaryNode (before left) (turned pair k) cs kids r))
@@ -62,7 +66,8 @@ as-result (done p r) = refl
 
 unary-begins : (f : Forest) → unaryPass f ≡ fromRight (right false nil) (inOrder f)
 unfolding unaryPass inOrder turnedOnto leftOf unary
-unary-begins f = as-result (unary none f) ∙ ap (λ (g : Forest). toResult (unary none g)) (sym (turned-back f nil)) ∙ unary-left (inOrder f) nil
+unary-begins f =
+    as-result (unary none f) ∙ ap (λ (g : Forest). toResult (unary none g)) (sym (turned-back f nil)) ∙ unary-left (inOrder f) nil
 
 -- The whole pass, as what is left of it at its beginning.
 pub pass-begins : (κ : Kind) (f : Forest) → pass κ f ≡ work κ (begins κ f) (inReading κ f)

@@ -75,8 +75,8 @@ operatorsOf conditional = isConditional
 operatorsOf returns = isReturn
 operatorsOf (binary ops) = isOneOf ops
 
--- The lists that a pass works on. The check of the last token works on none: it asks for a token and makes no node. Member accessors are read
--- in the list of tokens, sections are made in a flat list, and every other pass goes through any list.
+-- The lists that a pass works on. The check of the last token works on none: it asks for a token and makes no node. Member accessors are
+-- read in the list of tokens, sections are made in a flat list, and every other pass goes through any list.
 unfoldable pub worksOn : Pass → Forest → Bool
 worksOn lastToken f = false
 worksOn memberAccessors f = tokensOnly f

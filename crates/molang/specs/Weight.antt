@@ -1,5 +1,5 @@
 -- The weight of a forest, which no pass raises (proofs/Passes): weighed by what a leaf may become, it bounds the nodes of a tree. Neither
--- reading nor writing uses this file: the theorem 'at most three nodes a token' (proofs/Bounds) and the contracts of the driver speak of it.
+-- reading nor writing uses this file: the theorem 'three nodes for each token' (proofs/Bounds) and the driver's contracts speak of it.
 use Prim.Native.Nat.{ℕ, _+_, _≤_}
 use mathlib.Core.Bool.{true, false}
 use native.Mathlib.Omega.{arith}

@@ -1,7 +1,7 @@
 -- What is left of a pass at a moment of its run: a state and the items that are not read yet, in reading order, give the pass's result. The
 -- levels from the left have the definition's `walk`; the unary pass reads from the right, so its items stand the last first. The lists that
--- wait in frames for the children of one of their items are unwound one after another. Neither reading nor writing uses this file: the theorem
--- 'no frames' (proofs/NoFrames) and the contracts of the levels and the driver speak of it.
+-- wait in frames for the children of one of their items are unwound one after another. Neither reading nor writing uses this file: the
+-- theorem 'no frames' (proofs/NoFrames) and the contracts of the levels and the driver speak of it.
 use mathlib.Core.Bool.{Bool, false}
 use mathlib.Core.List.{List, [], _∷_}
 use mathlib.Core.Option.{Option, none, some}
