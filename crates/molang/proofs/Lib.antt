@@ -36,3 +36,4 @@ pub mod Accepted
 pub mod HandedTree
 pub mod Entries
 pub mod Reread
+pub mod LineLaws

@@ -49,6 +49,13 @@ pub const LAST_VARIANT: u32 = 12;
 // The payload variant of a host math function.
 pub const HOST_MATH: u32 = 12;
 
+// A number as a count or an index. It asks its caller for no proof, as a cast of an element of a slice would.
+pub fn wide(x: u32) -> usize
+    ensures { λ r. ⌜ r ≡ x ⌝ }
+{
+    x as usize
+}
+
 pub fn kind(w: u32) -> u32
     ensures { λ r. ⌜ r ≡ kindOf w ⌝ }
 {

@@ -3,11 +3,10 @@ use Prim.Native.Nat.{ℕ, suc, _+_, _*_, _≤_}
 use mathlib.Core.Path.{_≡_, refl, ap, sym, _∙_}
 use mathlib.Core.Bool.{Bool, true, false, not}
 use mathlib.Core.List.{List, [], _∷_, _++_, append-assoc, append-nil}
-use native.Mathlib.Nat.{add-assoc}
 use native.Mathlib.Numerals.{add-one}
 use native.Mathlib.Omega.{arith}
-use lib.ListN.{length, take, drop, set, getD, length-append, length-drop, take-append-drop}
-use lib.Seq.{length-take-le, take-at, drop-at, drop-drop}
+use lib.ListN.{length, drop, set, getD}
+use lib.Seq.{drop-drop}
 use borrow.Author.Tests.{eq-eqb, ne-eqb, eqb-true, eqb-false}
 use Rattle.molang.specs.Forest.{Token, Forest, nil, node, bare, count, size}
 use Rattle.molang.specs.Operator.{isBracket}
@@ -21,50 +20,10 @@ use Rattle.molang.specs.Words.{lowOf, word, tokenWords, listWords}
 use Rattle.molang.specs.Write.{openerFor, closerFor, standsAlone, standsLeft, standsRight, operandTokens, written}
 use Rattle.molang.specs.WriteEntry.{firstTrees, otherTrees, treesOf, writtenTokens}
 use Rattle.molang.proofs.Writing.{written-none, written-one, written-two, operand-before, written-before}
-use Rattle.molang.specs.Parse.{inFront}
 use Rattle.words.specs.Fields.{operatorOf}
 use Rattle.words.specs.Records.{laidAt}
 use Rattle.words.proofs.RecordLaws.{laid-sets}
 use Rattle.write.specs.Spelling.{firstFive, bracketWords, closerWords, firstSize, operandOf, nodeWritten, operandWritten}
-
--- Words laid behind words.
-laid-front : (to : ℕ) (ws list : List ℕ) → to ≤ length list → length (take to list ++ ws) ≡ to + length ws
-laid-front to ws list h = length-append (take to list) ws ∙ ap (λ (n : ℕ). n + length ws) (length-take-le to list h)
-
--- In two parts: up to where the words end, and after.
-laid-by : (to : ℕ) (ws list : List ℕ) → laidAt to ws list ≡ (take to list ++ ws) ++ drop (to + length ws) list
-unfolding laidAt inFront
-laid-by to ws list = rw (drop-drop (length ws) to list) (sym (append-assoc (take to list) ws (drop (to + length ws) list)))
-
-pub laid-length : (to : ℕ) (ws list : List ℕ) → to + length ws ≤ length list → length (laidAt to ws list) ≡ length list
-laid-length to ws list h =
-    rw laid-by
-    (length-append (take to list ++ ws) (drop (to + length ws) list)
-    ∙ omega (arith, laid-front to ws list (omega arith), length-drop (to + length ws) list))
-
-pub laid-laid : (to : ℕ) (xs ys list : List ℕ) → to + length xs + length ys ≤ length list
-    → laidAt (to + length xs) ys (laidAt to xs list) ≡ laidAt to (xs ++ ys) list
-laid-laid to xs ys list h =
-    let front = laid-front to xs list (omega arith) in
-    let whole = laid-by to xs list in
-    let before : take (to + length xs) (laidAt to xs list) ≡ take to list ++ xs =
-    rw whole (take-at (take to list ++ xs) (drop (to + length xs) list) (to + length xs) front)
-    in
-    let behind : drop (to + length xs + length ys) (laidAt to xs list) ≡ drop (to + length (xs ++ ys)) list =
-    rw (
-      whole,
-      ← drop-drop (length ys) (to + length xs),
-      drop-at (take to list ++ xs) (drop (to + length xs) list) (to + length xs) front,
-      drop-drop (length ys) (to + length xs) list,
-      length-append,
-      ← add-assoc,
-    ) refl
-    in
-    let joined : (take (to + length xs) (laidAt to xs list) ++ ys) ++ drop (to + length xs + length ys) (laidAt to xs list)
-    ≡ (take to list ++ (xs ++ ys)) ++ drop (to + length (xs ++ ys)) list =
-    rw (before, behind, append-assoc (take to list) xs ys) refl
-    in
-    laid-by (to + length xs) ys (laidAt to xs list) ∙ (joined ∙ sym (laid-by to (xs ++ ys) list))
 
 -- The words of a list of tokens.
 pub list-words-append : (xs ys : List Token) → listWords (xs ++ ys) ≡ listWords xs ++ listWords ys
@@ -80,10 +39,6 @@ five-laid a b c d e to list h =
     let three : to + 3 ≡ suc (suc (suc to)) = omega arith in
     let four : to + 4 ≡ suc (suc (suc (suc to))) = omega arith in
     rw (add-one, two, three, four) (laid-sets (a ∷ b ∷ c ∷ d ∷ e ∷ []) list to h)
-
-pub none-laid : (to : ℕ) (list : List ℕ) → list ≡ laidAt to [] list
-unfolding laidAt inFront
-none-laid to list = sym (take-append-drop to list)
 
 -- The closer's words, by whether the node is a bracket.
 pub bracket-closer : (ws : List ℕ) → operatorOf (getD ws 0 0) ≡ 4 → closerWords ws ≡ bracketWords 5 ws

@@ -10,12 +10,13 @@ use Rattle.molang.specs.Words.{lowOf, listWords}
 use Rattle.molang.specs.WriteEntry.{treesOf, writtenTokens}
 use Rattle.words.specs.Fields.{operatorOf}
 use Rattle.words.specs.Records.{laidAt}
+use Rattle.words.proofs.RecordLaws.{laid-length, laid-laid}
 use Rattle.write.specs.declared.plain.Seat.{Seat}
 use Rattle.write.specs.Seats.{isPaired, onlySeat, leftSeat, rightSeat}
 use Rattle.write.specs.Shaped.{nodeLength, countIndex, Shaped}
 use Rattle.write.specs.Spelling.{firstFive, bracketWords, closerWords, firstSize, operandOf, filledWords, nodeWritten, operandWritten, Room}
 use Rattle.write.proofs.RowLaws.{Opened, opened, shaped-room}
-use Rattle.write.proofs.SpellLaws.{laid-length, laid-laid, first-within, none-below, OneBelow, one-below, onlyWords, TwoBelow, two-below, leftWords, leftSize, rightPart, rightWords, paired-words, unpaired-words}
+use Rattle.write.proofs.SpellLaws.{first-within, none-below, OneBelow, one-below, onlyWords, TwoBelow, two-below, leftWords, leftSize, rightPart, rightWords, paired-words, unpaired-words}
 
 -- The part from a word on.
 abbrev pub tail : ℕ → List ℕ → List ℕ
