@@ -1,6 +1,6 @@
 -- One turn of the driver (`advance`): the level goes on with its list, an item is entered, the list ends, or the pass fails. The result of the whole pass
 -- stays what it was.
-use Prim.Native.Nat.{ℕ, _+_, _*_, _≤_, _<_}
+use Prim.Native.Nat.{ℕ, _+_, _≤_, _<_}
 use mathlib.Core.Path.{_≡_, sym, ap, _∙_, subst, subst₂}
 use mathlib.Core.Logic.{inl}
 use mathlib.Core.List.{List, _∷_}
@@ -11,7 +11,7 @@ use Rattle.molang.specs.Message.{Result}
 use Rattle.molang.specs.Work.{Kind, State, work, unwound}
 use Rattle.molang.proofs.Trees.{count-size}
 use Rattle.molang.proofs.Work.{reading-size, unwound-fail}
-use Rattle.nodes.specs.Store.{wd, RepT, Free}
+use Rattle.nodes.specs.Store.{wd, slotStart, RepT, Free}
 use Rattle.nodes.proofs.Keeping.{free-own, free-inner}
 use Rattle.levels.specs.Sides.{Holds, Waits}
 use Rattle.levels.specs.Turns.{SameList, Within, CanTurn, turnsLeft, Begins, TurnTo, goes, enters, ends, fails, Turned}
@@ -64,7 +64,7 @@ module _ {W W1 : List ℕ} {w : Walk} {base0 : ℕ} (g : CanAdvance W w base0) (
   stack1 =
       let below = g .going .holds .sides .below in
       stack-keep W W1 (g .going .some) (g .going .stack) same1
-      (λ o x. turned-within .kept (8 * w .list .owner + o) (free-own (w .list .owner) (g .going .X) (g .going .lo) (g .going .hi) o (omega arith)) (inl (omega (arith, bounds .high))))
+      (λ o x. turned-within .kept (slotStart (w .list .owner) + o) (free-own (w .list .owner) (g .going .X) (g .going .lo) (g .going .hi) o (omega arith)) (inl (omega (arith, bounds .high))))
       (turned-within .long)
 
   stack-of : {w' : Walk} → SameList w w'

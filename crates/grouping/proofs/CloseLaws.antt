@@ -1,6 +1,6 @@
 -- The end of a list (`close`): its items become its owner's children, and the list that waits for the owner takes it back; the end of the outermost list
 -- is the end of the pass.
-use Prim.Native.Nat.{ℕ, _+_, _*_, _-_, _≤_, _<_}
+use Prim.Native.Nat.{ℕ, _+_, _-_, _≤_, _<_}
 use mathlib.Core.Path.{_≡_, refl, sym, ap, _∙_, subst, subst₂}
 use mathlib.Core.Logic.{_≢_, inl}
 use mathlib.Core.Bool.{false, true≢false}
@@ -15,7 +15,7 @@ use Rattle.molang.specs.Free.{isNil}
 use Rattle.molang.specs.Work.{Kind, calls, statements, arrays, unaryMinusAndNot, conditional, returns, binary, State, work, takes, andThen, Held, held, unwound}
 use Rattle.molang.proofs.Work.{unwound-fail}
 use Rattle.ops.specs.declared.classes.TokenClasses.{TokenClasses}
-use Rattle.nodes.specs.Store.{wd, TokenAt, Out, RepT, Owned, InArray, Free}
+use Rattle.nodes.specs.Store.{wd, slotStart, TokenAt, Out, RepT, Owned, InArray, Free}
 use Rattle.nodes.specs.Children.{CanGive, Given}
 use Rattle.nodes.specs.Frames.{FrameAt, CanPop}
 use Rattle.nodes.specs.declared.frames.List.{List as Items}
@@ -150,7 +150,7 @@ top-frame n (over {X = X} {lo = lo} {hi = hi} {w = w} {t = t} {k = k} {rest = re
 -- at the outermost list
 outermost : {κ : Kind} {classes : ℕ} {W W1 W2 W3 : List ℕ} {base0 hi0 : ℕ} {X : List ℕ} {owner lo hi base from n : ℕ} {S : List (Held κ)} {f : Forest} {r : Result} (turns : ℕ)
     → 0 < hi0 → base ≡ base0 → r ≡ ok f → Stack κ classes W base0 hi0 X owner lo hi base S → InArray W1 (owner ∷ X) from n lo hi f → Given W1 owner from n W2 → Moved W2 from n base W3
-    → 8 * hi ≤ base → base ≤ from → NextTo κ classes W3 base0 hi0 (unwound κ S r) turns (Done n)
+    → slotStart hi ≤ base → base ≤ from → NextTo κ classes W3 base0 hi0 (unwound κ S r) turns (Done n)
 unfolding unwound
 outermost turns h e q bottom v gv mv below down = NextTo.ends q (move-outermost mv (give-outermost gv v h (omega arith)) h below)
 outermost turns h e q (over s f) v gv mv below down = absurd (omega (arith, stack-bounds h s .based))
@@ -187,12 +187,12 @@ module _ {W W1 : List ℕ} {w : Walk} {base0 from n : ℕ} (g : CanClose W w bas
         ∙ finished-within .kept j
         (free-inner (w .list .owner) (g .going .X) (g .going .lo) (g .going .hi) (g .going .lo) (g .going .hi) j (le-refl (g .going .lo)) (le-refl (g .going .hi)) x) (inl y)
 
-    own2 : (o : ℕ) → o < 5 → wd W2 (8 * w .list .owner + o) ≡ wd W (8 * w .list .owner + o)
+    own2 : (o : ℕ) → o < 5 → wd W2 (slotStart (w .list .owner) + o) ≡ wd W (slotStart (w .list .owner) + o)
     own2 o x =
         let below = g .going .holds .sides .below in
-        gv .same (gave .array .bs) (gave .array .seg) (sym (gave .array .count)) (8 * w .list .owner + o) (omega arith) (omega arith)
+        gv .same (gave .array .bs) (gave .array .seg) (sym (gave .array .count)) (slotStart (w .list .owner) + o) (omega arith) (omega arith)
         (off-word (gave .array .bs) (w .list .owner) o (omega arith) (omega arith))
-        ∙ finished-within .kept (8 * w .list .owner + o) (free-own (w .list .owner) (g .going .X) (g .going .lo) (g .going .hi) o (omega arith)) (inl (omega (arith, bounds .high)))
+        ∙ finished-within .kept (slotStart (w .list .owner) + o) (free-own (w .list .owner) (g .going .X) (g .going .lo) (g .going .hi) o (omega arith)) (inl (omega (arith, bounds .high)))
 
     stack2 : Stack (g .κ) (g .classes) W2 base0 (g .hi0) (g .going .X) (w .list .owner) (g .going .lo) (g .going .hi) (w .list .base) (g .S)
     stack2 = stack-keep W W2 (g .going .some) (g .going .stack) same2 own2 long2
@@ -306,7 +306,7 @@ module _ {W W1 : List ℕ} {w : Walk} {base0 from n : ℕ} (g : CanClose W w bas
           stack3 =
               let below = top .frame .waiting .sides .below in
               stack-keep W2 W3 (g .going .some) (top .stack) same3
-              (λ o x. within3 .kept (8 * top .wait .list .owner + o) (free-own (top .wait .list .owner) (top .X') (top .lo') (top .hi') o (omega arith))
+              (λ o x. within3 .kept (slotStart (top .wait .list .owner) + o) (free-own (top .wait .list .owner) (top .X') (top .lo') (top .hi') o (omega arith))
               (inl (omega (arith, below-bounds .high))))
               (within3 .long)
 

@@ -1,5 +1,5 @@
 -- A list waits in a frame while the children of its item are opened (`descend`).
-use Prim.Native.Nat.{ℕ, _+_, _*_, _^_, _≤_, _<_}
+use Prim.Native.Nat.{ℕ, _+_, _^_, _≤_, _<_}
 use mathlib.Core.Path.{_≡_, refl, sym, ap, _∙_, subst, subst₂}
 use mathlib.Core.Logic.{inl}
 use mathlib.Core.Bool.{false, true≢false}
@@ -12,7 +12,7 @@ use Rattle.molang.specs.Free.{isNil}
 use Rattle.molang.specs.Work.{Kind, State, work, inReading, held}
 use Rattle.molang.proofs.Trees.{count-size}
 use Rattle.molang.proofs.Work.{reading-size, reading-count}
-use Rattle.nodes.specs.Store.{wd, RepT, Owned}
+use Rattle.nodes.specs.Store.{wd, slotWords, slotStart, RepT, Owned}
 use Rattle.nodes.specs.Frames.{CanPush, Pushed}
 use Rattle.nodes.specs.declared.frames.List.{List as Items}
 use Rattle.nodes.specs.declared.frames.Held.{Held as Words}
@@ -118,7 +118,7 @@ waits-rested {κ} {W} {X} {lo} {l} {m} {hi} {w} {t} v =
 -- ---- how the children begin
 
 begins-keep : (W W' : List ℕ) {X : List ℕ} {lo n : ℕ} {cs : Forest} {κ : Kind} {p : Pass} {u : State κ}
-    → ((s o : ℕ) → s < n → o < 8 → wd W' (8 * s + o) ≡ wd W (8 * s + o)) → Begins W X lo n cs κ p u → Begins W' X lo n cs κ p u
+    → ((s o : ℕ) → s < n → o < slotWords → wd W' (slotStart s + o) ≡ wd W (slotStart s + o)) → Begins W X lo n cs κ p u → Begins W' X lo n cs κ p u
 begins-keep W W' h (afresh e low) = afresh e low
 begins-keep W W' h (lent o i) = lent (open-array-keep W W' (λ s j x y z r. h s j y z) o) i
 
@@ -142,8 +142,8 @@ module _ {W : List ℕ} {w : Walk} {item : ℕ} (g : CanDescend W w item) where
       record { room = omega arith; small = g .small; read = omega arith; write = omega arith }
 
   module _ (W1 : List ℕ) (h : Words) (eh : h ≡ heldOf (w .pass)) {after : ℕ} (pushed : Pushed W (w .list) h after W1) where
-    slots-pushed : (s o : ℕ) → s < g .hi → o < 8 → wd W1 (8 * s + o) ≡ wd W (8 * s + o)
-    slots-pushed s o x y = pushed .same (8 * s + o) (inl (omega (arith, g .waiting .sides .below)))
+    slots-pushed : (s o : ℕ) → s < g .hi → o < slotWords → wd W1 (slotStart s + o) ≡ wd W (slotStart s + o)
+    slots-pushed s o x y = pushed .same (slotStart s + o) (inl (omega (arith, g .waiting .sides .below)))
 
     pub descend-can-open : CanOpen W1 item (w .list .base + w .list .len + 6) (w .pass)
     descend-can-open =
@@ -193,11 +193,11 @@ module _ {W : List ℕ} {w : Walk} {item : ℕ} (g : CanDescend W w item) where
           let top = w .list .base + w .list .len in
           let own = tree-below (g .tree) in
           record {
-            waiting = waits-keep W W2 (λ s o x y z r. same-below (8 * s + o) (omega arith)) (λ s o x y z r. same-below (8 * s + o) (omega arith)) (λ j x y. same-below j y) long-opened
+            waiting = waits-keep W W2 (λ s o x y z r. same-below (slotStart s + o) (omega arith)) (λ s o x y z r. same-below (slotStart s + o) (omega arith)) (λ j x y. same-below j y) long-opened
                 (waits-rested (g .waiting));
             unlent = rested-unlent (w .pass);
             same = rested-classes (w .pass) ∙ g .same;
-            token = token-keep W W2 item (λ o x. same-below (8 * item + o) (omega arith)) (g .tree .token);
+            token = token-keep W W2 item (λ o x. same-below (slotStart item + o) (omega arith)) (g .tree .token);
             low = omega (arith, begins-low (g .begins), g .tree .low);
             high = own;
             pos = g .tree .pos;
@@ -219,7 +219,7 @@ module _ {W : List ℕ} {w : Walk} {item : ℕ} (g : CanDescend W w item) where
           let bounds = stack-bounds some-slot (g .stack) in
           let below = g .waiting .sides .below in
           over {w = walkOf (w .list) (rested (w .pass))}
-          (stack-keep W W2 some-slot (g .stack) (λ j x y. same-below j (omega arith)) (λ o x. same-below (8 * w .list .owner + o) (omega (arith, bounds .high))) long-opened)
+          (stack-keep W W2 some-slot (g .stack) (λ j x y. same-below j (omega arith)) (λ o x. same-below (slotStart (w .list .owner) + o) (omega (arith, bounds .high))) long-opened)
           descend-frame
 
       descended-going : Going (g .κ) (g .classes) W2 (g .base0) (g .hi0) w' (held (g .t) (g .k) (g .rest) ∷ g .S) (g .u) (inReading (g .κ) (g .cs))

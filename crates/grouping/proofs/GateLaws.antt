@@ -1,5 +1,5 @@
 -- A pass leaves a list as it is where none of its tokens stands in it, and slot 0 notes whether one does: such a pass need not run.
-use Prim.Native.Nat.{ℕ, _+_, _*_, _≤_}
+use Prim.Native.Nat.{ℕ, _≤_}
 use mathlib.Core.Path.{_≡_, refl, sym, _∙_, subst}
 use mathlib.Core.Bool.{true, false}
 use mathlib.Core.List.{List}
@@ -14,7 +14,7 @@ use Rattle.molang.specs.Free.{free, operatorsOf, worksOn}
 use Rattle.molang.specs.Work.{Kind, calls, statements, arrays, unaryMinusAndNot, conditional, returns, binary, passOf, pass}
 use Rattle.molang.proofs.NoMasks.{no-masks}
 use Rattle.ops.specs.Classes.{shares}
-use Rattle.nodes.specs.Store.{wd}
+use Rattle.nodes.specs.Store.{slotEnd, classesAt}
 use Rattle.nodes.proofs.Store.{rep-legal}
 use Rattle.nodes.proofs.Classes.{notes-meet}
 use Rattle.levels.specs.Passes.{classesOf, operators}
@@ -42,7 +42,7 @@ pass-free (binary ops) f h = no-masks 0 (Order.binary ops) f refl h
 -- ---- the gate
 
 -- slot 0 notes no class of the pass
-pub gate-shut : {W : List ℕ} {base n : ℕ} {p : Pass} → CanRun W base n p → shares (wd W 7) (classesOf p) ≡ false → HasRun W base n p (Done n) W
+pub gate-shut : {W : List ℕ} {base n : ℕ} {p : Pass} → CanRun W base n p → shares (classesAt W 0) (classesOf p) ≡ false → HasRun W base n p (Done n) W
 gate-shut {W} {p = p} h shut =
     record {
       to = λ g.
@@ -64,5 +64,5 @@ pub chosen-skip : (W : List ℕ) (base n : ℕ) (c : Choice) → c ≡ Skip → 
 chosen-skip W base n c e = subst (λ (x : Choice). Chosen W base n x (Done n) W) (sym e) (refl, refl)
 
 -- slot 0 is within the words
-pub root-within : {W : List ℕ} {base n : ℕ} {p : Pass} → CanRun W base n p → 8 * 0 + 8 ≤ length W
+pub root-within : {W : List ℕ} {base n : ℕ} {p : Pass} → CanRun W base n p → slotEnd 0 ≤ length W
 root-within g = let own = g .own in let below = g .below in let room = g .room in omega arith

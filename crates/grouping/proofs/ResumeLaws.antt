@@ -1,6 +1,6 @@
 -- An item is taken back whose children are done: it goes to the done items (`keep-resumed`), from the right before them (`right-resumed`). The states that
 -- take it otherwise, an array and a binary level, have laws of their own.
-use Prim.Native.Nat.{ℕ, _+_, _*_, _-_, _≤_, _<_}
+use Prim.Native.Nat.{ℕ, _+_, _-_, _≤_, _<_}
 use mathlib.Core.Path.{_≡_, refl, sym, ap, _∙_, subst}
 use mathlib.Core.Logic.{_≢_, ⊎-elim}
 use mathlib.Core.Bool.{Bool, false, true≢false}
@@ -22,7 +22,7 @@ use Rattle.molang.specs.Order.{lastOf}
 use Rattle.molang.specs.Free.{isNil, isConditional}
 use Rattle.molang.specs.Work.{Kind, State, takes}
 use Rattle.molang.proofs.Trees.{some-none}
-use Rattle.nodes.specs.Store.{wd, Seg, RepT, RepB, InArray}
+use Rattle.nodes.specs.Store.{wd, slotStart, Seg, RepT, RepB, InArray}
 use Rattle.nodes.specs.declared.frames.List.{List as Items}
 use Rattle.nodes.proofs.Runs.{set-same, set-other, set-long}
 use Rattle.nodes.proofs.Store.{tree-below, tree-keep, tree-more, back-le}
@@ -59,13 +59,13 @@ tokens-tree P k nil d e = absurd (true≢false e)
 tokens-tree P k (node c cs r) d e = refl
 
 module _ (W W' X : List ℕ) (lo l m hi item : ℕ) (v : Items) (k : Token) (kids rest : Forest) (tree : RepT W X item l m k kids) (full : isNil kids ≡ false)
-    (low : lo ≤ l) (mid : l ≤ m) (high : m ≤ hi) (below : 8 * hi ≤ v .base)
+    (low : lo ≤ l) (mid : l ≤ m) (high : m ≤ hi) (below : slotStart hi ≤ v .base)
     (ew : W' ≡ set W (v .base + v .write) item) (room : v .base + v .write < length W) where
   other : (j : ℕ) → j ≢ v .base + v .write → wd W' j ≡ wd W j
   other = set-other W W' (v .base + v .write) item ew
 
   slots : SameSlots W W' X lo hi
-  slots s o a b c u = other (8 * s + o) (omega arith)
+  slots s o a b c u = other (slotStart s + o) (omega arith)
 
   put-after : (at n a : ℕ) (d : Forest) → at + n ≡ v .base + v .write → lo ≤ a → BackArray W X at n a l d → BackArray W' X at (n + 1) a m (node k kids d)
   put-after at n a d e h b =
@@ -194,7 +194,7 @@ keep-resumed W W' v v' p item h keeping ev ew =
 -- ---- from the right
 
 module _ (W W' X : List ℕ) (lo l m hi item : ℕ) (v : Items) (k : Token) (kids rest : Forest) (tree : RepT W X item l m k kids)
-    (low : lo ≤ l) (mid : l ≤ m) (high : m ≤ hi) (below : 8 * hi ≤ v .base) (some-place : v .read < v .write)
+    (low : lo ≤ l) (mid : l ≤ m) (high : m ≤ hi) (below : slotStart hi ≤ v .base) (some-place : v .read < v .write)
     (ew : W' ≡ set W (v .base + (v .write - 1)) item) (room : v .base + (v .write - 1) < length W) where
   put-before : (κ : Kind) (t : State κ) → Runs κ Unary → DoneSide κ W X lo l m hi (walkOf v Unary) t → UnreadSide κ W X lo l m hi v rest → v .base + v .len ≤ length W'
       → Holds κ W' X lo hi (walkOf (movedTo v (v .read) (v .write - 1)) Unary) (takes κ t k kids) rest
@@ -204,8 +204,8 @@ module _ (W W' X : List ℕ) (lo l m hi item : ℕ) (v : Items) (k : Token) (kid
       let next : v .base + (v .write - 1) + 1 ≡ v .base + v .write = omega arith in
       let tb = tree-below tree in
       let tl = tree .low in
-      let tree' : RepT W' X item l m k kids = tree-keep W W' (λ s o x y z w i. other (8 * s + o) (omega arith)) tree in
-      let b' : InArray W' X (v .base + v .write) n m hi d = array-keep W W' (λ s o x y z w. other (8 * s + o) (omega arith)) (λ j x y. other j (omega arith)) b in
+      let tree' : RepT W' X item l m k kids = tree-keep W W' (λ s o x y z w i. other (slotStart s + o) (omega arith)) tree in
+      let b' : InArray W' X (v .base + v .write) n m hi d = array-keep W W' (λ s o x y z w. other (slotStart s + o) (omega arith)) (λ j x y. other j (omega arith)) b in
       record {
         l = l;
         m = l;
@@ -218,7 +218,7 @@ module _ (W W' X : List ℕ) (lo l m hi item : ℕ) (v : Items) (k : Token) (kid
                 count = omega (arith, b' .count);
                 rep = tree-more {bs = b' .bs} (le-refl l) tree' (b' .rep);
               });
-          unread = back-array-keep W W' (λ s o x y z w. other (8 * s + o) (omega arith)) (λ j x y. other j (omega arith)) u;
+          unread = back-array-keep W W' (λ s o x y z w. other (slotStart s + o) (omega arith)) (λ j x y. other j (omega arith)) u;
           agrees = tt;
           low = low;
           mid = le-refl l;

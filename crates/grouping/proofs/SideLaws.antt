@@ -1,6 +1,6 @@
 -- What a change of words leaves of a list under work (`sides-keep`): where the slots of its done and its unread side and the list's own words are as they
 -- were, it is as it was, whatever its pass.
-use Prim.Native.Nat.{ℕ, _+_, _*_, _≤_, _<_}
+use Prim.Native.Nat.{ℕ, _+_, _≤_, _<_}
 use mathlib.Core.Path.{_≡_}
 use mathlib.Core.List.{List}
 use native.Mathlib.Omega.{arith}
@@ -10,7 +10,7 @@ use Rattle.molang.specs.Level.{Gathered}
 use Rattle.molang.specs.Calls.{Indexing}
 use Rattle.molang.specs.Statements.{Split}
 use Rattle.molang.specs.Work.{Kind, calls, statements, arrays, unaryMinusAndNot, conditional, returns, binary, Right, State}
-use Rattle.nodes.specs.Store.{wd, Chain, Out, RepB, begins, put}
+use Rattle.nodes.specs.Store.{wd, slotWords, firstField, nextField, slotStart, firstAt, nextAt, Chain, Out, RepB, begins, put}
 use Rattle.nodes.specs.declared.frames.List.{List as Items}
 use Rattle.nodes.proofs.Tokens.{token-keep}
 use Rattle.nodes.proofs.Store.{tree-below, tree-out, tree-keep, back-le, back-keep}
@@ -24,17 +24,17 @@ module _ (W W' : List ℕ) where
   -- ---- a chain from the last child on
 
   pub back-links : {X ds : List ℕ} {lo hi : ℕ} {d : Forest} (f : ℕ) → RepB W X ds lo hi d
-      → ((s : ℕ) → lo ≤ s → s < hi → Out s X → wd W' (8 * s + 6) ≡ wd W (8 * s + 6)) → Chain W f ds → Chain W' f ds
+      → ((s : ℕ) → lo ≤ s → s < hi → Out s X → nextAt W' s ≡ nextAt W s) → Chain W f ds → Chain W' f ds
   back-links f (begins e) h p = p
   back-links {X} f (put {b = b} {l = l} {m = m} r t e) h p =
       let le = back-le r in
       let tl = t .low in
       let below = tree-below t in
-      (p .0, p .1, rw (h b (omega arith) (omega arith) (tree-out t)) (back-links (wd W (8 * b + 6)) r (λ s x y o. h s x (omega arith) o) (p .2)))
+      (p .0, p .1, rw (h b (omega arith) (omega arith) (tree-out t)) (back-links (nextAt W b) r (λ s x y o. h s x (omega arith) o) (p .2)))
 
   pub open-array-keep : {X : List ℕ} {a lo l : ℕ} {q : Token} {contents : Forest} → SameSlots W W' X lo l → OpenArray W X a lo l q contents → OpenArray W' X a lo l q contents
   open-array-keep {X} {a} {lo} {l} slots v =
-      let own : (o : ℕ) → o < 8 → wd W' (8 * a + o) ≡ wd W (8 * a + o) = λ o x. slots a o (v .low) (v .high) x (v .out) in
+      let own : (o : ℕ) → o < slotWords → wd W' (slotStart a + o) ≡ wd W (slotStart a + o) = λ o x. slots a o (v .low) (v .high) x (v .out) in
       record {
         cs = v .cs;
         low = v .low;
@@ -43,7 +43,7 @@ module _ (W W' : List ℕ) where
         out = v .out;
         token = token-keep W W' a (λ o x. own o (omega arith)) (v .token);
         isArray = v .isArray;
-        chain = rw (own 5 (omega arith)) (back-links (wd W (8 * a + 5)) (v .kids) (λ s x y o. slots s 6 (omega (arith, v .low)) y (omega arith) (o .1)) (v .chain));
+        chain = rw (own firstField (omega arith)) (back-links (firstAt W a) (v .kids) (λ s x y o. slots s nextField (omega (arith, v .low)) y (omega arith) (o .1)) (v .chain));
         kids = back-keep W W' (λ s o x y z u n. slots s o (omega (arith, v .low)) y z (u .1)) (v .kids);
       }
 

@@ -1,6 +1,6 @@
 -- THE FRAME RULE (`stack-keep`): what the list on top does changes the slots of its own interval, its owner's links, and words from its base on. The lists
 -- that wait below it are as they were.
-use Prim.Native.Nat.{ℕ, _+_, _*_, _≤_, _<_}
+use Prim.Native.Nat.{ℕ, _+_, _≤_, _<_}
 use mathlib.Core.Path.{_≡_, _∙_}
 use mathlib.Core.Logic.{_⊎_, inl, inr}
 use mathlib.Core.List.{List, []}
@@ -9,7 +9,7 @@ use native.Mathlib.Nat.{le-refl}
 use lib.ListN.{length}
 use Rattle.molang.specs.Forest.{Token, Forest}
 use Rattle.molang.specs.Work.{Kind, State, Held}
-use Rattle.nodes.specs.Store.{wd, Out, Free}
+use Rattle.nodes.specs.Store.{wd, slotWords, slotStart, Out, Free}
 use Rattle.nodes.specs.declared.frames.List.{List as Items}
 use Rattle.nodes.proofs.Tokens.{token-keep}
 use Rattle.nodes.proofs.Keeping.{free-above, free-beside, free-own, free-inner}
@@ -71,15 +71,15 @@ waits-keep W W' {X = X} {lo} {l} {m} {hi} left right words long v =
 
 module _ (W W' : List ℕ) {κ : Kind} {classes : ℕ} where
   frame-keep : {X : List ℕ} {lo l m hi b : ℕ} {w : Walk} {t : State κ} {k : Token} {rest : Forest}
-      → ((j : ℕ) → Free X l m j → j < w .list .base + w .list .len + 6 → wd W' j ≡ wd W j) → ((o : ℕ) → o < 5 → wd W' (8 * b + o) ≡ wd W (8 * b + o))
+      → ((j : ℕ) → Free X l m j → j < w .list .base + w .list .len + 6 → wd W' j ≡ wd W j) → ((o : ℕ) → o < 5 → wd W' (slotStart b + o) ≡ wd W (slotStart b + o))
       → length W' ≡ length W → FrameOf κ classes W X lo l m hi w b t k rest → FrameOf κ classes W' X lo l m hi w b t k rest
   frame-keep {X} {lo} {l} {m} {hi} {b} {w} same own long v =
       let below = v .waiting .sides .below in
       let high = v .waiting .sides .high in
       let mid = v .waiting .sides .mid in
       let word : (j : ℕ) → w .list .base ≤ j → j < w .list .base + w .list .len + 6 → wd W' j ≡ wd W j = λ j x y. same j (free-above X l m j (omega arith)) y in
-      let slot : (s o : ℕ) → s < hi → o < 8 → (s < l) ⊎ (m ≤ s) → wd W' (8 * s + o) ≡ wd W (8 * s + o)
-      = λ s o x y z. same (8 * s + o) (free-beside X l m s o y z) (omega arith) in
+      let slot : (s o : ℕ) → s < hi → o < slotWords → (s < l) ⊎ (m ≤ s) → wd W' (slotStart s + o) ≡ wd W (slotStart s + o)
+      = λ s o x y z. same (slotStart s + o) (free-beside X l m s o y z) (omega arith) in
       let top = w .list .base + w .list .len in
       let f = v .words in
       record {
@@ -134,7 +134,7 @@ stack-within (over s f) = omega (arith, stack-within s, f .waiting .sides .high)
 
 pub stack-keep : (W W' : List ℕ) {κ : Kind} {classes : ℕ} {base0 hi0 : ℕ} {X : List ℕ} {owner lo hi base : ℕ} {S : List (Held κ)}
     → 0 < hi0 → Stack κ classes W base0 hi0 X owner lo hi base S → ((j : ℕ) → Free X lo hi j → j < base → wd W' j ≡ wd W j)
-    → ((o : ℕ) → o < 5 → wd W' (8 * owner + o) ≡ wd W (8 * owner + o)) → length W' ≡ length W → Stack κ classes W' base0 hi0 X owner lo hi base S
+    → ((o : ℕ) → o < 5 → wd W' (slotStart owner + o) ≡ wd W (slotStart owner + o)) → length W' ≡ length W → Stack κ classes W' base0 hi0 X owner lo hi base S
 stack-keep W W' h bottom same own long = bottom
 stack-keep W W' h (over {X = X} {lo = lo} {l = l} {m = m} {hi = hi} {w = w} s f) same own long =
     let e = stack-bounds h s in
@@ -143,7 +143,7 @@ stack-keep W W' h (over {X = X} {lo = lo} {l = l} {m = m} {hi = hi} {w = w} s f)
     let below = f .waiting .sides .below in
     over
     (stack-keep W W' h s (λ j x y. same j (free-inner (w .list .owner) X lo hi l m j low high x) (omega arith))
-    (λ o x. same (8 * w .list .owner + o) (free-own (w .list .owner) X l m o (omega arith)) (omega (arith, e .high))) long)
+    (λ o x. same (slotStart (w .list .owner) + o) (free-own (w .list .owner) X l m o (omega arith)) (omega (arith, e .high))) long)
     (frame-keep W W' same own long f)
 
 -- ---- what the whole pass changes

@@ -1,6 +1,6 @@
 -- How a list begins (`open`): its owner's children stand in its words, all unread, and the pass's state is that of its beginning; or, where an array was
 -- lent to it, that array waits.
-use Prim.Native.Nat.{ℕ, _+_, _*_, _^_, _≤_, _<_}
+use Prim.Native.Nat.{ℕ, _+_, _^_, _≤_, _<_}
 use mathlib.Core.Path.{_≡_, refl, sym, ap, _∙_, subst}
 use mathlib.Core.Logic.{_⊎_, inl, inr}
 use mathlib.Core.Bool.{true}
@@ -19,7 +19,7 @@ use Rattle.molang.specs.Conditional.{conditionalLevel}
 use Rattle.molang.specs.Free.{clear}
 use Rattle.molang.specs.Work.{Kind, calls, statements, arrays, unaryMinusAndNot, conditional, returns, binary, State, begins, inReading}
 use Rattle.ops.specs.declared.classes.TokenClasses.{TokenClasses}
-use Rattle.nodes.specs.Store.{wd, onto, ends, RepB, InArray}
+use Rattle.nodes.specs.Store.{wd, slotStart, firstAt, onto, ends, RepB, InArray}
 use Rattle.nodes.specs.Children.{CanTake, Taken}
 use Rattle.nodes.specs.declared.frames.List.{List as Items}
 use Rattle.nodes.proofs.Runs.{segB-back, length-onto}
@@ -43,7 +43,7 @@ listFrom owner base len = record { owner = owner; base = base; len = len; read =
 pub begun-array : {W X : List ℕ} {at n lo lo' hi : ℕ} {f : Forest} → lo' ≤ lo → InArray W X at n lo hi f → InArray W X at n lo' hi f
 begun-array h v = record { bs = v .bs; seg = v .seg; count = v .count; rep = rep-lower h (v .rep) }
 
-module _ (W' X : List ℕ) (owner base len lo n hi : ℕ) (cs : Forest) (v : InArray W' X base len n hi cs) (low : lo ≤ n) (below : 8 * hi ≤ base) (within : base + len ≤ length W') where
+module _ (W' X : List ℕ) (owner base len lo n hi : ℕ) (cs : Forest) (v : InArray W' X base len n hi cs) (low : lo ≤ n) (below : slotStart hi ≤ base) (within : base + len ≤ length W') where
   -- nothing is done yet
   none-done : BackArray W' X base 0 lo n nil
   none-done = record { ds = []; seg = tt; count = refl; rep = RepB.begins low }
@@ -143,7 +143,7 @@ module _ (W' X : List ℕ) (owner base len lo n hi : ℕ) (cs : Forest) (v : InA
 abbrev pub Opens : List ℕ → List ℕ → ℕ → ℕ → ℕ → Pass → Walk → Type 0
 Opens W W' owner base len p w =
     (κ : Kind) (X : List ℕ) (lo n hi : ℕ) (cs : Forest) (u : State κ) → Runs κ p → Begins W (owner ∷ X) lo n cs κ p u → InArray W' (owner ∷ X) base len n hi cs
-    → 8 * hi ≤ base → base + len ≤ length W' → length W' < 2 ^ 32 → ((j : ℕ) → j < base → wd W' j ≡ wd W j) → Holds κ W' (owner ∷ X) lo hi w u (inReading κ cs)
+    → slotStart hi ≤ base → base + len ≤ length W' → length W' < 2 ^ 32 → ((j : ℕ) → j < base → wd W' j ≡ wd W j) → Holds κ W' (owner ∷ X) lo hi w u (inReading κ cs)
 
 module _ (W W' : List ℕ) (owner base len : ℕ) where
   pub opens-call : Opens W W' owner base len Calls (walkOf (listFrom owner base len) Calls)
@@ -177,7 +177,7 @@ module _ (W W' : List ℕ) (owner base len : ℕ) where
       let low = o .low in
       let up = o .high in
       start-lent W' (owner ∷ X) owner base len lo n hi cs v (omega arith) below within b q
-      (open-array-keep W W' (λ s i x y z r. same (8 * s + i) (omega arith)) o) h
+      (open-array-keep W W' (λ s i x y z r. same (slotStart s + i) (omega arith)) o) h
 
   pub opens-unary : Opens W W' owner base len Unary (walkOf (record { owner = owner; base = base; len = len; read = len; write = len }) Unary)
   unfolding inReading
@@ -196,7 +196,7 @@ module _ (W W' : List ℕ) (owner base len : ℕ) where
   opens-split done w st κ X lo n hi cs u split (afresh e low) v below within small same =
       st .holds (can-start W' (owner ∷ X) owner base len lo n hi cs v low below within small)
 
-module _ {W W' : List ℕ} {owner base len : ℕ} {p : Pass} (tk : Taken W (wd W (8 * owner + 5)) base len W') (g : CanOpen W owner base p) where
+module _ {W W' : List ℕ} {owner base len : ℕ} {p : Pass} (tk : Taken W (firstAt W owner) base len W') (g : CanOpen W owner base p) where
   -- the children as an array
   taken-array : InArray W' (owner ∷ g .X) base len (g .n) (g .hi) (g .cs)
   taken-array = take-array tk (g .below) (g .owned)
@@ -204,10 +204,10 @@ module _ {W W' : List ℕ} {owner base len : ℕ} {p : Pass} (tk : Taken W (wd W
   taken-count : len ≡ count (g .cs)
   taken-count = tk .count (g .owned .cs) (g .owned .chain) ∙ rep-count (g .owned .kids)
 
-pub open-can-take : {W : List ℕ} {owner base : ℕ} {p : Pass} → CanOpen W owner base p → CanTake W (wd W (8 * owner + 5)) base
+pub open-can-take : {W : List ℕ} {owner base : ℕ} {p : Pass} → CanOpen W owner base p → CanTake W (firstAt W owner) base
 open-can-take g = can-take (g .owned) (g .own) (g .below) (g .room)
 
-opened : {W W' : List ℕ} {owner base len : ℕ} (p : Pass) (w : Walk) → Taken W (wd W (8 * owner + 5)) base len W'
+opened : {W W' : List ℕ} {owner base len : ℕ} (p : Pass) (w : Walk) → Taken W (firstAt W owner) base len W'
     → w .list .owner ≡ owner → w .list .base ≡ base → w .list .len ≡ len → classesOf (w .pass) ≡ classesOf p → Opens W W' owner base len p w
     → Opened W owner base p w W'
 opened {W} {W'} {owner} {base} {len} p w tk eo eb el ec opens =
@@ -228,7 +228,7 @@ pub begins-low : {W X : List ℕ} {lo n : ℕ} {cs : Forest} {κ : Kind} {p : Pa
 begins-low (afresh e low) = low
 begins-low (lent o h) = omega (arith, o .low, o .high)
 
-open-can-start : {W W' : List ℕ} {owner base len : ℕ} {p : Pass} → Taken W (wd W (8 * owner + 5)) base len W' → CanOpen W owner base p → CanStart W' (listFrom owner base len)
+open-can-start : {W W' : List ℕ} {owner base len : ℕ} {p : Pass} → Taken W (firstAt W owner) base len W' → CanOpen W owner base p → CanStart W' (listFrom owner base len)
 open-can-start {W' = W'} {owner} {base} {len} tk g =
     let long = tk .long in
     can-start W' (owner ∷ g .X) owner base len (g .lo) (g .n) (g .hi) (g .cs) (taken-array tk g) (begins-low (g .begins)) (g .below)

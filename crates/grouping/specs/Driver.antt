@@ -10,7 +10,7 @@ use Rattle.molang.specs.Forest.{Token, Forest, nil, count, size}
 use Rattle.molang.specs.Message.{Message, Result, ok, fail}
 use Rattle.molang.specs.Free.{isNil}
 use Rattle.molang.specs.Work.{Kind, State, work, pass, inReading, takes, andThen, Held, held, unwound}
-use Rattle.nodes.specs.Store.{wd, TokenAt, Seg, Out, RepT, Owned, Free}
+use Rattle.nodes.specs.Store.{wd, slotStart, firstAt, TokenAt, Seg, Out, RepT, Owned, Free}
 use Rattle.nodes.specs.Children.{Taken}
 use Rattle.nodes.specs.Frames.{FrameAt}
 use Rattle.nodes.specs.declared.frames.List.{List as Items}
@@ -103,7 +103,7 @@ pub record CanOpen (W : List ℕ) (owner base : ℕ) (p : Pass) : Type 0 where
   pub owned : Owned W X owner n hi cs
   pub begins : Begins W (owner ∷ X) lo n cs κ p u
   pub own : owner < hi
-  pub below : 8 * hi ≤ base
+  pub below : slotStart hi ≤ base
   pub room : base + count cs ≤ length W
   pub small : length W < 2 ^ 32
 
@@ -121,7 +121,7 @@ pub record Opened (W : List ℕ) (owner base : ℕ) (p : Pass) (w : Walk) (W' : 
 pub record CanBegin (W : List ℕ) (owner base len : ℕ) (p : Pass) : Type 0 where
   pub before : List ℕ
   pub opens : CanOpen before owner base p
-  pub taken : Taken before (wd before (8 * owner + 5)) base len W
+  pub taken : Taken before (firstAt before owner) base len W
 
 -- w is at the beginning of the owner's list, as `Opened` says it of the words before its children were taken.
 pub record Begun (W : List ℕ) (owner base len : ℕ) (p : Pass) (w : Walk) : Type 0 where
@@ -243,7 +243,7 @@ pub record CanRun (W : List ℕ) (base n : ℕ) (p : Pass) : Type 0 where
   pub unlent : lentOf p ≡ 0
   pub list : Outermost W base n hi F
   pub own : 0 < hi
-  pub below : 8 * hi ≤ base
+  pub below : slotStart hi ≤ base
   pub room : base + 8 * size F ≤ length W
   pub small : length W < 2 ^ 32
 

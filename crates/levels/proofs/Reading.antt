@@ -1,6 +1,6 @@
 -- Lists under work, read from the left: the next unread item as a tree, what the tests of an item say, an item that goes to the done ones, and what a
 -- change of words leaves of either side.
-use Prim.Native.Nat.{ℕ, _+_, _*_, _≤_, _<_}
+use Prim.Native.Nat.{ℕ, _+_, _≤_, _<_}
 use mathlib.Core.Path.{_≡_, refl, sym, ap, _∙_, subst, subst₂}
 use mathlib.Core.Logic.{_≢_}
 use mathlib.Core.Bool.{Bool, true, false, not, _&&_, true≢false}
@@ -13,7 +13,7 @@ use borrow.Author.Tests.{eq-eqb, ne-eqb, not-true, not-false}
 use Rattle.molang.specs.Forest.{Token, Forest, nil, node}
 use Rattle.molang.specs.Free.{free, isNil}
 use Rattle.ops.specs.Classes.{shares}
-use Rattle.nodes.specs.Store.{wd, Seg, Out, RepF, ends, more, RepT, put, InArray}
+use Rattle.nodes.specs.Store.{wd, slotWords, slotStart, slotEnd, classesAt, Seg, Out, RepF, ends, more, RepT, put, InArray}
 use Rattle.nodes.specs.Slots.{opAt, isLeafAt}
 use Rattle.nodes.specs.declared.frames.List.{List as Items}
 use Rattle.nodes.proofs.Runs.{seg-keep, segB-keep}
@@ -28,7 +28,7 @@ use Rattle.levels.specs.Turns.{Within}
 
 -- the slots from lo to hi that are not in X are as they were
 abbrev pub SameSlots : List ℕ → List ℕ → List ℕ → ℕ → ℕ → Type 0
-SameSlots W W' X lo hi = (s o : ℕ) → lo ≤ s → s < hi → o < 8 → Out s X → wd W' (8 * s + o) ≡ wd W (8 * s + o)
+SameSlots W W' X lo hi = (s o : ℕ) → lo ≤ s → s < hi → o < slotWords → Out s X → wd W' (slotStart s + o) ≡ wd W (slotStart s + o)
 
 -- the words from a to b are as they were
 abbrev pub SameWords : List ℕ → List ℕ → ℕ → ℕ → Type 0
@@ -100,17 +100,17 @@ ahead-le v = (rep-le (v .array .rep), omega (arith, v .count))
 
 module _ {W X : List ℕ} {b a m : ℕ} {k : Token} {cs : Forest} (t : RepT W X b a m k cs) (c : ℕ) (P : ℕ → Bool) (e : Covers c P) where
   -- it shares a class with the pass exactly where a leaf of the pass is at or below it
-  pub tree-shares : shares (wd W (8 * b + 7)) c ≡ not (free P (node k cs nil))
+  pub tree-shares : shares (classesAt W b) c ≡ not (free P (node k cs nil))
   tree-shares = notes-meet c P e (t .noted) (tree-legal t)
 
 -- it has none
 pub tree-free : {W X : List ℕ} {b a m : ℕ} {k : Token} {cs : Forest} (c : ℕ) (P : ℕ → Bool) → Covers c P → RepT W X b a m k cs
-    → shares (wd W (8 * b + 7)) c ≡ false → free P (node k cs nil) ≡ true
+    → shares (classesAt W b) c ≡ false → free P (node k cs nil) ≡ true
 tree-free {k = k} {cs = cs} c P e t h = not-false (free P (node k cs nil)) (sym (tree-shares t c P e) ∙ h)
 
 -- it has one
 pub tree-unfree : {W X : List ℕ} {b a m : ℕ} {k : Token} {cs : Forest} (c : ℕ) (P : ℕ → Bool) → Covers c P → RepT W X b a m k cs
-    → shares (wd W (8 * b + 7)) c ≡ true → free P (node k cs nil) ≡ false
+    → shares (classesAt W b) c ≡ true → free P (node k cs nil) ≡ false
 tree-unfree {k = k} {cs = cs} c P e t h = not-true (free P (node k cs nil)) (sym (tree-shares t c P e) ∙ h)
 
 leaf-passes : (x : Bool) → (not x && true) ≡ false → x ≡ true
@@ -162,11 +162,11 @@ when-false b x y e = rw e
 
 pub inner-leaf : (W : List ℕ) (b c : ℕ) → isLeafAt W b ≡ true → false ≡ innerAt W b c
 unfolding innerAt
-inner-leaf W b c e = sym (when-true (isLeafAt W b) false (shares (wd W (8 * b + 7)) c) e)
+inner-leaf W b c e = sym (when-true (isLeafAt W b) false (shares (classesAt W b) c) e)
 
-pub inner-node : (W : List ℕ) (b c : ℕ) → isLeafAt W b ≡ false → shares (wd W (8 * b + 7)) c ≡ innerAt W b c
+pub inner-node : (W : List ℕ) (b c : ℕ) → isLeafAt W b ≡ false → shares (classesAt W b) c ≡ innerAt W b c
 unfolding innerAt
-inner-node W b c e = sym (when-false (isLeafAt W b) false (shares (wd W (8 * b + 7)) c) e)
+inner-node W b c e = sym (when-false (isLeafAt W b) false (shares (classesAt W b) c) e)
 
 -- whether leaves of the pass are below it
 pub inner-tree : {W X : List ℕ} {b a m : ℕ} {k : Token} (cs : Forest) (c : ℕ) (P : ℕ → Bool) → Covers c P → RepT W X b a m k cs
@@ -224,10 +224,10 @@ next-to {W} {X} {lo} {hi} {f} l op v =
         ]
 
 -- what `next_if` asks
-pub can-peek : {W X : List ℕ} {lo hi : ℕ} {f : Forest} (l : Items) → Ahead W X (l .base) (l .read) (l .len) lo hi f → 8 * hi ≤ l .base → l .base + l .len ≤ length W
+pub can-peek : {W X : List ℕ} {lo hi : ℕ} {f : Forest} (l : Items) → Ahead W X (l .base) (l .read) (l .len) lo hi f → slotStart hi ≤ l .base → l .base + l .len ≤ length W
     → CanPeek W l
 can-peek {W} {X} {lo} {hi} {f} l v below within =
     record { behind = ahead-le v .1; within = within; slot = λ h. go h (ahead-item (wd W (l .base + l .read)) refl h v) }
   where
-    go : {g : Forest} → l .read < l .len → AheadTo W X (l .base) (l .read) (l .len) lo hi (wd W (l .base + l .read)) g → 8 * wd W (l .base + l .read) + 8 ≤ length W
+    go : {g : Forest} → l .read < l .len → AheadTo W X (l .base) (l .read) (l .len) lo hi (wd W (l .base + l .read)) g → slotEnd (wd W (l .base + l .read)) ≤ length W
     go h (item low t r) = omega (arith, tree-below t, ahead-le r .0)

@@ -1,5 +1,5 @@
 -- The loop of `next_token`: what holds at its test, a turn that passes over an item, and where it stops.
-use Prim.Native.Nat.{ℕ, _+_, _*_, _^_, _≤_, _<_}
+use Prim.Native.Nat.{ℕ, _+_, _^_, _≤_, _<_}
 use mathlib.Core.Path.{_≡_, refl, sym, _∙_, subst}
 use mathlib.Core.Logic.{_⊎_, ⊎-elim}
 use mathlib.Core.Bool.{Bool, true, false, true≢false}
@@ -10,7 +10,7 @@ use lib.ListN.{length, set}
 use Rattle.molang.specs.Forest.{Token, Forest, nil, node}
 use Rattle.molang.specs.Free.{free, isNil}
 use Rattle.ops.specs.Classes.{shares, meets}
-use Rattle.nodes.specs.Store.{wd, ends, RepT}
+use Rattle.nodes.specs.Store.{wd, slotWords, slotStart, slotEnd, classesAt, ends, RepT}
 use Rattle.nodes.specs.Slots.{isLeafAt}
 use Rattle.nodes.specs.declared.frames.List.{List as Items}
 use Rattle.nodes.proofs.Runs.{set-same, set-other, set-long}
@@ -62,14 +62,14 @@ seek-start l c h =
 
 module _ {W : List ℕ} {l : Items} {g : CanSeek W l} {P : ℕ → Bool} {Z : List ℕ} {read write : ℕ} (v : SeekAt W l g P Z read write) (h : read < l .len) where
   -- its slot is below the stack
-  seek-slot : 8 * wd Z (l .base + read) + 8 ≤ l .base
+  seek-slot : slotEnd (wd Z (l .base + read)) ≤ l .base
   seek-slot = go (ahead-item (wd Z (l .base + read)) refl h (v .ahead))
     where
-      go : {f : Forest} → AheadTo Z (g .X) (l .base) read (l .len) (v .m) (g .hi) (wd Z (l .base + read)) f → 8 * wd Z (l .base + read) + 8 ≤ l .base
+      go : {f : Forest} → AheadTo Z (g .X) (l .base) read (l .len) (v .m) (g .hi) (wd Z (l .base + read)) f → slotEnd (wd Z (l .base + read)) ≤ l .base
       go (item low t r) = omega (arith, tree-below t, ahead-le r .0, g .below)
 
   -- it is passed over
-  seek-more : (c : ℕ) → Covers c P → (Z' : List ℕ) → shares (wd Z (8 * wd Z (l .base + read) + 7)) c ≡ false
+  seek-more : (c : ℕ) → Covers c P → (Z' : List ℕ) → shares (classesAt Z (wd Z (l .base + read))) c ≡ false
       → Z' ≡ set Z (l .base + write) (wd Z (l .base + read)) → l .base + write < length Z → SeekAt W l g P Z' (read + 1) (write + 1)
   seek-more c e Z' f ez room = go (v .passed) (ahead-item (wd Z (l .base + read)) refl h (v .ahead))
     where
@@ -81,7 +81,7 @@ module _ {W : List ℕ} {l : Items} {g : CanSeek W l} {P : ℕ → Bool} {Z : Li
           let behind = v .behind in
           let reached = v .reached in
           let le = ahead-le r in
-          let slots : (s o : ℕ) → s < g .hi → o < 8 → wd Z' (8 * s + o) ≡ wd Z (8 * s + o) = λ s o y z. other (8 * s + o) (omega arith) in
+          let slots : (s o : ℕ) → s < g .hi → o < slotWords → wd Z' (slotStart s + o) ≡ wd Z (slotStart s + o) = λ s o y z. other (slotStart s + o) (omega arith) in
           record {
             d = node k cs (v .d);
             rest = rest;
@@ -106,7 +106,7 @@ module _ {W : List ℕ} {l : Items} {g : CanSeek W l} {P : ℕ → Bool} {Z : Li
       }
 
   -- it is a token of the pass
-  seek-leaf : (c : ℕ) → Covers c P → shares (wd Z (8 * wd Z (l .base + read) + 7)) c ≡ true → isLeafAt Z (wd Z (l .base + read)) ≡ true
+  seek-leaf : (c : ℕ) → Covers c P → shares (classesAt Z (wd Z (l .base + read))) c ≡ true → isLeafAt Z (wd Z (l .base + read)) ≡ true
       → SoughtTo Z (g .X) l (g .at) (g .lo) (g .hi) P (g .d) (g .rest) (Leaf (movedTo l (read + 1) write) (wd Z (l .base + read)))
   unfolding isNil
   seek-leaf c e f leafy = go (v .passed) (ahead-item (wd Z (l .base + read)) refl h (v .ahead))
@@ -124,7 +124,7 @@ module _ {W : List ℕ} {l : Items} {g : CanSeek W l} {P : ℕ → Bool} {Z : Li
       go p (item {cs = cs} low t r) = at cs (sym (leaf-test cs t) ∙ leafy) p low t r
 
   -- it has one below it
-  seek-tree : (c : ℕ) → Covers c P → shares (wd Z (8 * wd Z (l .base + read) + 7)) c ≡ true → isLeafAt Z (wd Z (l .base + read)) ≡ false
+  seek-tree : (c : ℕ) → Covers c P → shares (classesAt Z (wd Z (l .base + read))) c ≡ true → isLeafAt Z (wd Z (l .base + read)) ≡ false
       → SoughtTo Z (g .X) l (g .at) (g .lo) (g .hi) P (g .d) (g .rest) (Children (movedTo l (read + 1) write) (wd Z (l .base + read)))
   seek-tree c e f leafy = go (v .passed) (ahead-item (wd Z (l .base + read)) refl h (v .ahead))
     where
@@ -152,7 +152,7 @@ seek-none {W} {l} {g} {P} {Z} {read} {write} v h =
 -- ---- the loop
 
 module _ {W : List ℕ} {l : Items} {c : ℕ} {Z : List ℕ} {read write : ℕ} (v : Seeking W l c Z read write) where
-  pub seek-in : CanSeek W l → read < l .len → (l .base + read < length Z) × (8 * wd Z (l .base + read) + 8 ≤ length Z) × (l .base + read < 2 ^ 32)
+  pub seek-in : CanSeek W l → read < l .len → (l .base + read < length Z) × (slotEnd (wd Z (l .base + read)) ≤ length Z) × (l .base + read < 2 ^ 32)
   seek-in g h =
       let a = seek-slot (v .at g (meets c) (λ n e. refl)) h in
       let long = v .long in
@@ -160,7 +160,7 @@ module _ {W : List ℕ} {l : Items} {c : ℕ} {Z : List ℕ} {read write : ℕ} 
       let small = g .small in
       (omega arith, omega arith, omega arith)
 
-  pub seek-turn : (Z' : List ℕ) → read < l .len → shares (wd Z (8 * wd Z (l .base + read) + 7)) c ≡ false
+  pub seek-turn : (Z' : List ℕ) → read < l .len → shares (classesAt Z (wd Z (l .base + read))) c ≡ false
       → Z' ≡ set Z (l .base + write) (wd Z (l .base + read)) → l .base + write < length Z → Seeking W l c Z' (read + 1) (write + 1)
   seek-turn Z' h f ez room =
       let from = v .from in
@@ -174,12 +174,12 @@ module _ {W : List ℕ} {l : Items} {c : ℕ} {Z : List ℕ} {read write : ℕ} 
         long = set-long Z Z' (l .base + write) (wd Z (l .base + read)) ez ∙ v .long;
       }
 
-  pub sought-leaf : read < l .len → shares (wd Z (8 * wd Z (l .base + read) + 7)) c ≡ true → isLeafAt Z (wd Z (l .base + read)) ≡ true
+  pub sought-leaf : read < l .len → shares (classesAt Z (wd Z (l .base + read))) c ≡ true → isLeafAt Z (wd Z (l .base + read)) ≡ true
       → (l' : Items) → l' ≡ movedTo l (read + 1) write → Sought W l c (Leaf l' (wd Z (l .base + read))) Z
   sought-leaf h f leafy l' el =
       rw el (record { to = λ g P e. seek-leaf (v .at g P e) h c e f leafy; same = v .same; long = v .long })
 
-  pub sought-tree : read < l .len → shares (wd Z (8 * wd Z (l .base + read) + 7)) c ≡ true → isLeafAt Z (wd Z (l .base + read)) ≡ false
+  pub sought-tree : read < l .len → shares (classesAt Z (wd Z (l .base + read))) c ≡ true → isLeafAt Z (wd Z (l .base + read)) ≡ false
       → (l' : Items) → l' ≡ movedTo l (read + 1) write → Sought W l c (Children l' (wd Z (l .base + read))) Z
   sought-tree h f leafy l' el =
       rw el (record { to = λ g P e. seek-tree (v .at g P e) h c e f leafy; same = v .same; long = v .long })

@@ -1,6 +1,6 @@
 -- Reading on in a list under work: what the functions on its items ask and ensure. What is done stands the last first (`BackArray`), what is unread
 -- in order (`Ahead`); `next_token` passes over the items without a token of the pass, which leaves every slot as it is.
-use Prim.Native.Nat.{ℕ, _+_, _*_, _^_, _≤_, _<_}
+use Prim.Native.Nat.{ℕ, _+_, _^_, _≤_, _<_}
 use mathlib.Core.Path.{_≡_}
 use mathlib.Core.Logic.{_⊎_}
 use mathlib.Core.Bool.{Bool, true, false}
@@ -10,7 +10,7 @@ use lib.ListN.{length}
 use Rattle.molang.specs.Forest.{Token, Forest, nil, node}
 use Rattle.molang.specs.Free.{free, isNil}
 use Rattle.ops.specs.Classes.{shares}
-use Rattle.nodes.specs.Store.{wd, SegB, RepT, RepB, InArray}
+use Rattle.nodes.specs.Store.{wd, slotStart, slotEnd, classesAt, SegB, RepT, RepB, InArray}
 use Rattle.nodes.specs.Slots.{opAt, isLeafAt}
 use Rattle.nodes.specs.declared.frames.List.{List as Items}
 use Rattle.levels.specs.Passes.{movedTo, Covers}
@@ -36,7 +36,7 @@ pub record Ahead (W X : List ℕ) (base read len lo hi : ℕ) (f : Forest) : Typ
 pub record CanPeek (W : List ℕ) (l : Items) : Type 0 where
   pub behind : l .read ≤ l .len
   pub within : l .base + l .len ≤ length W
-  pub slot : l .read < l .len → 8 * wd W (l .base + l .read) + 8 ≤ length W
+  pub slot : l .read < l .len → slotEnd (wd W (l .base + l .read)) ≤ length W
 
 -- The next item's slot, where it is of this operator; else 0.
 unfoldable pub nextIf : List ℕ → Items → ℕ → ℕ
@@ -48,7 +48,7 @@ nextIf W l op =
 
 -- The item has children, and one of the classes c is noted there.
 unfoldable pub innerAt : List ℕ → ℕ → ℕ → Bool
-innerAt W item c = elim (isLeafAt W item) [ true ↦ false | false ↦ shares (wd W (8 * item + 7)) c ]
+innerAt W item c = elim (isLeafAt W item) [ true ↦ false | false ↦ shares (classesAt W item) c ]
 
 -- ---- `next_token`
 
@@ -67,7 +67,7 @@ pub record CanSeek (W : List ℕ) (l : Items) : Type 0 where
   pub started : l .base ≤ at
   pub ahead : Ahead W X (l .base) (l .read) (l .len) m hi rest
   pub behind : l .write ≤ l .read
-  pub below : 8 * hi ≤ l .base
+  pub below : slotStart hi ≤ l .base
   pub within : l .base + l .len ≤ length W
   pub small : length W < 2 ^ 32
 

@@ -1,7 +1,7 @@
 -- What a pass holds of a list while it works on it. The list's trees stand in the slots from lo to hi that are not in X, the owner's and its ancestors':
 -- from the left what is done below l, what is unread from m on; from the right (the unary pass) the other way round. In between, from l to m, stands
 -- the item whose children are out, if any. Each pass says in its own terms what its state keeps of the done side.
-use Prim.Native.Nat.{ℕ, _+_, _*_, _≤_, _<_}
+use Prim.Native.Nat.{ℕ, _+_, _≤_, _<_}
 use mathlib.Core.Path.{_≡_}
 use mathlib.Core.Logic.{_⊎_}
 use mathlib.Core.Bool.{Bool, true, false}
@@ -18,7 +18,7 @@ use Rattle.molang.specs.Order.{lastOf}
 use Rattle.molang.specs.Free.{clear, isNil, isConditional}
 use Rattle.molang.specs.Work.{Kind, calls, statements, arrays, unaryMinusAndNot, conditional, returns, binary, Right, right, State}
 use Rattle.ops.specs.declared.classes.TokenClasses.{TokenClasses}
-use Rattle.nodes.specs.Store.{wd, TokenAt, Chain, SegB, Out, OutFrom, RepT, RepB, InArray}
+use Rattle.nodes.specs.Store.{wd, slotStart, firstAt, TokenAt, Chain, SegB, Out, OutFrom, RepT, RepB, InArray}
 use Rattle.nodes.specs.declared.frames.List.{List as Items}
 use Rattle.levels.specs.Passes.{Runs}
 use Rattle.levels.specs.Items.{BackArray, Ahead}
@@ -98,7 +98,7 @@ pub record OpenArray (W X : List ℕ) (a lo l : ℕ) (q : Token) (contents : For
   pub out : Out a X
   pub token : TokenAt W a q
   pub isArray : q .op ≡ array
-  pub chain : Chain W (wd W (8 * a + 5)) cs
+  pub chain : Chain W (firstAt W a) cs
   pub kids : RepB W (a ∷ X) cs (a + 1) l contents
 
 -- What the array pass holds, without an array that may take a further index and with one.
@@ -168,7 +168,7 @@ pub record Sides (κ : Kind) (W X : List ℕ) (lo l m hi : ℕ) (w : Walk) (s : 
   pub low : lo ≤ l
   pub mid : l ≤ m
   pub high : m ≤ hi
-  pub below : 8 * hi ≤ w .list .base
+  pub below : slotStart hi ≤ w .list .base
   pub within : w .list .base + w .list .len ≤ length W
 
 -- Between two turns no operator waits and no name is lent; the items of the conditional pass stay where they are.

@@ -10,7 +10,7 @@ use Rattle.molang.specs.Message.{Message, ok, fail}
 use Rattle.molang.specs.Calls.{indexed, startsWithIndex}
 use Rattle.molang.specs.Free.{isNil}
 use Rattle.molang.specs.Work.{Kind, arrays, statements, State, work, begins, inReading, takes, andThen}
-use Rattle.nodes.specs.Store.{RepT, InArray, Kept}
+use Rattle.nodes.specs.Store.{slotStart, RepT, InArray, Kept}
 use Rattle.nodes.specs.declared.frames.List.{List as Items}
 use Rattle.levels.specs.Passes.{classesOf, waits}
 use Rattle.levels.specs.Sides.{OpenArray, Holds, Waits}
@@ -153,7 +153,7 @@ pub record CanStart (W : List ℕ) (v : Items) : Type 0 where
   pub array : InArray W X (v .base) (v .len) lo hi f
   pub unread : v .read ≡ 0
   pub unwritten : v .write ≡ 0
-  pub below : 8 * hi ≤ v .base
+  pub below : slotStart hi ≤ v .base
   pub within : v .base + v .len ≤ length W
   pub small : length W < 2 ^ 32
 

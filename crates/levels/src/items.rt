@@ -4,8 +4,9 @@ use nodes::frames::List;
 use nodes::slots;
 use ops::classes::TokenClasses;
 ghost use mathlib.Core.Path.{_≡_};
-ghost use Prim.Native.Nat.{_+_, _*_, _^_, _≤_, _<_};
+ghost use Prim.Native.Nat.{_+_, _^_, _≤_, _<_};
 ghost use lib.ListN.{length, set};
+ghost use Rattle.nodes.specs.Store.{slotEnd};
 ghost use Rattle.levels.specs.Passes.{movedTo};
 ghost use Rattle.levels.specs.Items.{CanPeek, nextIf, innerAt, CanSeek, Sought};
 
@@ -66,7 +67,7 @@ pub fn next_if(work: &[u32], list: List, op: u32) -> u32
 
 // Whether `item` is a node with leaves of `classes` below it.
 pub fn is_inner(work: &[u32], item: u32, classes: TokenClasses) -> bool
-    requires { ⌜ 8 * item + 8 ≤ length (now work) ⌝ }
+    requires { ⌜ slotEnd item ≤ length (now work) ⌝ }
     ensures { λ r. ⌜ r ≡ innerAt (now (work .entry)) item (classes .0) ⌝ }
 {
     if slots::is_leaf(work, item) {

@@ -1,6 +1,6 @@
 -- An array under work, from what the functions do to the words (specs/Arrays) to what it is of trees: it begins as a bare name, takes the children of an
 -- index, lends its last child to an index that completes it, and is closed with its children in order.
-use Prim.Native.Nat.{ℕ, _+_, _*_, _≤_, _<_}
+use Prim.Native.Nat.{ℕ, _+_, _≤_, _<_}
 use mathlib.Core.Path.{_≡_, refl, sym, ap, _∙_, subst}
 use mathlib.Core.Logic.{_≢_, _⊎_, inl, inr, ⊎-elim}
 use mathlib.Core.Bool.{Bool, true, false, true≢false}
@@ -19,7 +19,7 @@ use Rattle.molang.specs.Free.{isNil}
 use Rattle.ops.specs.Classes.{inClass, passClasses, ownClasses}
 use Rattle.ops.proofs.OperatorLaws.{false-at}
 use Rattle.words.specs.Fields.{withOperator}
-use Rattle.nodes.specs.Store.{wd, TokenAt, reserve, Chain, Inc, Out, OutFrom, onto, RepF, ends, more, RepT, Owned, RepB, begins, put, Free}
+use Rattle.nodes.specs.Store.{wd, slotWords, firstField, classesField, slotStart, slotEnd, firstWord, nextWord, operatorWordAt, firstAt, nextAt, TokenAt, reserve, Chain, Inc, Out, OutFrom, onto, RepF, ends, more, RepT, Owned, RepB, begins, put, Free}
 use Rattle.nodes.specs.Slots.{opAt, isLeafAt, isTokenAt}
 use Rattle.nodes.specs.declared.frames.List.{List as Items}
 use Rattle.nodes.proofs.Runs.{set-same, set-other, set-long, inc-le, out-below, out-above, off-above, off-word, off-out}
@@ -64,7 +64,7 @@ roots-first {W} {cs = cs} {f = f} {lo = lo} {hi = hi} c r = go cs c (roots-inc r
 
 -- ---- a name becomes an array
 
-pub name-open : {W W' X : List ℕ} {b a m : ℕ} {k : Token} → W' ≡ set W (8 * b) (withOperator (wd W (8 * b)) array) → 8 * b + 8 ≤ length W → RepT W X b a m k nil
+pub name-open : {W W' X : List ℕ} {b a m : ℕ} {k : Token} → W' ≡ set W (slotStart b) (withOperator (operatorWordAt W b) array) → slotEnd b ≤ length W → RepT W X b a m k nil
     → OpenArray W' X b a m (renamed array k) nil
 unfolding renamed
 name-open {W} {W'} {b = b} {m = m} e room t =
@@ -77,13 +77,13 @@ name-open {W} {W'} {b = b} {m = m} e room t =
       out = tree-out t;
       token = token-renamed W W' b array e room (omega arith) (t .token);
       isArray = refl;
-      chain = set-other W W' (8 * b) (withOperator (wd W (8 * b)) array) e (8 * b + 5) (omega arith) ∙ leaf-first t;
+      chain = set-other W W' (slotStart b) (withOperator (operatorWordAt W b) array) e (firstWord b) (omega arith) ∙ leaf-first t;
       kids = begins up;
     }
 
 -- ---- the children of an index
 
-module _ {W X : List ℕ} {a b lo l m : ℕ} {q k : Token} {contents kids : Forest} (o : OpenArray W X a lo l q contents) (t : RepT W X b l m k kids) (within : 8 * m ≤ length W) where
+module _ {W X : List ℕ} {a b lo l m : ℕ} {q k : Token} {contents kids : Forest} (o : OpenArray W X a lo l q contents) (t : RepT W X b l m k kids) (within : slotStart m ≤ length W) where
   gathering : CanGather W a b
   gathering =
       record {
@@ -114,24 +114,24 @@ module _ {W X : List ℕ} {a b lo l m : ℕ} {q k : Token} {contents kids : Fore
           high = omega arith;
           pos = o .pos;
           out = o .out;
-          token = token-keep W W' a (λ i x. w .same gathering (8 * a + i) (omega arith) (off-word (t .cs) a i (omega arith) (omega arith))) (o .token);
+          token = token-keep W W' a (λ i x. w .same gathering (slotStart a + i) (omega arith) (off-word (t .cs) a i (omega arith) (omega arith))) (o .token);
           isArray = o .isArray;
           chain = w .linked gathering;
           kids = onto-back
-              (back-keep W W' (λ s i x y z p n. w .same gathering (8 * s + i) (omega (arith, p .0)) (off-out (t .cs) s i z (out-below (t .cs) l m (roots-inc (t .kids)) y))) (o .kids))
-              (rep-keep W W' (λ s i x y z p n. w .same gathering (8 * s + i) (omega (arith, p .0)) (⊎-elim (λ e. off-word (t .cs) s i z e) (λ e. off-out (t .cs) s i z e) n)) kid);
+              (back-keep W W' (λ s i x y z p n. w .same gathering (slotStart s + i) (omega (arith, p .0)) (off-out (t .cs) s i z (out-below (t .cs) l m (roots-inc (t .kids)) y))) (o .kids))
+              (rep-keep W W' (λ s i x y z p n. w .same gathering (slotStart s + i) (omega (arith, p .0)) (⊎-elim (λ e. off-word (t .cs) s i z e) (λ e. off-out (t .cs) s i z e) n)) kid);
         }
 
-    pub gathered-slot : (s i : ℕ) → i < 8 → (s < a) ⊎ (m ≤ s) → wd W' (8 * s + i) ≡ wd W (8 * s + i)
+    pub gathered-slot : (s i : ℕ) → i < slotWords → (s < a) ⊎ (m ≤ s) → wd W' (slotStart s + i) ≡ wd W (slotStart s + i)
     unfolding gathering
     gathered-slot s i x (inl h) =
         let ah = o .high in
-        w .same gathering (8 * s + i) (omega arith) (off-out (t .cs) s i x (out-below (t .cs) l m (roots-inc (t .kids)) (omega arith)))
+        w .same gathering (slotStart s + i) (omega arith) (off-out (t .cs) s i x (out-below (t .cs) l m (roots-inc (t .kids)) (omega arith)))
     gathered-slot s i x (inr h) =
         let ah = o .high in let up = tree-below t in let tl = t .low in
-        w .same gathering (8 * s + i) (omega arith) (off-out (t .cs) s i x (out-above (t .cs) l m (roots-inc (t .kids)) h))
+        w .same gathering (slotStart s + i) (omega arith) (off-out (t .cs) s i x (out-above (t .cs) l m (roots-inc (t .kids)) h))
 
-    pub gathered-word : (j : ℕ) → 8 * m ≤ j → wd W' j ≡ wd W j
+    pub gathered-word : (j : ℕ) → slotStart m ≤ j → wd W' j ≡ wd W j
     unfolding gathering
     gathered-word j h =
         let ah = o .high in let up = tree-below t in let tl = t .low in
@@ -141,7 +141,7 @@ module _ {W X : List ℕ} {a b lo l m : ℕ} {q k : Token} {contents kids : Fore
     unfolding gathering
     gathered-kept lo' hi' low high j f =
         let ah = o .high in let al = o .low in let up = tree-below t in let tl = t .low in
-        w .same gathering j (f a 5 (omega arith) (omega arith) (omega arith) (o .out)) (roots-off j (t .kids) (free-inner b X lo' hi' l m j (omega arith) high f))
+        w .same gathering j (f a firstField (omega arith) (omega arith) (omega arith) (o .out)) (roots-off j (t .kids) (free-inner b X lo' hi' l m j (omega arith) high f))
 
 -- ---- the array is closed
 
@@ -156,7 +156,7 @@ array-tree {X = X} {a = a} {q = q} nil token is pos out low high v =
     owned-leaf token pos (subst (λ (n : ℕ). OutFrom a n X) (sym one) (one-out a X out)) low (omega arith) (no-class (q .op) is) v
 array-tree (node c cs r) token is pos out low high v = owned-tree token pos out low high v
 
-module _ {W X : List ℕ} {a lo l : ℕ} {q : Token} {contents : Forest} (o : OpenArray W X a lo l q contents) (within : 8 * l ≤ length W) where
+module _ {W X : List ℕ} {a lo l : ℕ} {q : Token} {contents : Forest} (o : OpenArray W X a lo l q contents) (within : slotStart l ≤ length W) where
   rounding : CanRound W a
   rounding = record { hi = l; cs = o .cs; chain = o .chain; falls = back-falls (o .kids); own = o .high; within = within }
 
@@ -172,26 +172,26 @@ module _ {W X : List ℕ} {a lo l : ℕ} {q : Token} {contents : Forest} (o : Op
     unfolding rounding
     rounded-tree =
         let low = o .low in
-        array-tree (inOrder contents) (token-keep W W' a (λ i x. w .same rounding (8 * a + i) (omega arith) (omega arith) (off-word (onto (o .cs) []) a i (omega arith) (omega arith))) (o .token))
+        array-tree (inOrder contents) (token-keep W W' a (λ i x. w .same rounding (slotStart a + i) (omega arith) (omega arith) (off-word (onto (o .cs) []) a i (omega arith) (omega arith))) (o .token))
         (o .isArray) (o .pos) (o .out) low (o .high)
         (record {
           cs = onto (o .cs) [];
           chain = w .linked rounding;
           notes = record { bits = λ i h. w .classes rounding i ∙ roots-note in-order i h };
           kids = rep-lower (omega arith)
-              (rep-keep W W' (λ s i x y z p n. w .same rounding (8 * s + i) (omega (arith, p .0)) (omega (arith, p .0)) (⊎-elim (λ e. off-word (onto (o .cs) []) s i z e) (λ e. off-out (onto (o .cs) []) s i z e) n))
+              (rep-keep W W' (λ s i x y z p n. w .same rounding (slotStart s + i) (omega (arith, p .0)) (omega (arith, p .0)) (⊎-elim (λ e. off-word (onto (o .cs) []) s i z e) (λ e. off-out (onto (o .cs) []) s i z e) n))
               in-order);
         })
 
-    pub rounded-slot : (s i : ℕ) → i < 8 → (s < a) ⊎ (l ≤ s) → wd W' (8 * s + i) ≡ wd W (8 * s + i)
+    pub rounded-slot : (s i : ℕ) → i < slotWords → (s < a) ⊎ (l ≤ s) → wd W' (slotStart s + i) ≡ wd W (slotStart s + i)
     unfolding rounding
     rounded-slot s i x (inl h) =
-        w .same rounding (8 * s + i) (omega arith) (omega arith) (off-out (onto (o .cs) []) s i x (out-below (onto (o .cs) []) (a + 1) l (roots-inc in-order) (omega arith)))
+        w .same rounding (slotStart s + i) (omega arith) (omega arith) (off-out (onto (o .cs) []) s i x (out-below (onto (o .cs) []) (a + 1) l (roots-inc in-order) (omega arith)))
     rounded-slot s i x (inr h) =
         let ah = o .high in
-        w .same rounding (8 * s + i) (omega arith) (omega arith) (off-out (onto (o .cs) []) s i x (out-above (onto (o .cs) []) (a + 1) l (roots-inc in-order) h))
+        w .same rounding (slotStart s + i) (omega arith) (omega arith) (off-out (onto (o .cs) []) s i x (out-above (onto (o .cs) []) (a + 1) l (roots-inc in-order) h))
 
-    pub rounded-word : (j : ℕ) → 8 * l ≤ j → wd W' j ≡ wd W j
+    pub rounded-word : (j : ℕ) → slotStart l ≤ j → wd W' j ≡ wd W j
     unfolding rounding
     rounded-word j h = let ah = o .high in w .same rounding j (omega arith) (omega arith) (off-above (onto (o .cs) []) (a + 1) l (roots-inc in-order) h)
 
@@ -200,24 +200,24 @@ module _ {W X : List ℕ} {a lo l : ℕ} {q : Token} {contents : Forest} (o : Op
     rounded-kept lo' hi' low high j f =
         let ah = o .high in let al = o .low in
         let own : lo' ≤ a = omega arith in let up : a < hi' = omega arith in
-        w .same rounding j (f a 5 own up (omega arith) (o .out)) (f a 7 own up (omega arith) (o .out)) (roots-off j in-order (free-inner a X lo' hi' (a + 1) l j (omega arith) high f))
+        w .same rounding j (f a firstField own up (omega arith) (o .out)) (f a classesField own up (omega arith) (o .out)) (roots-off j in-order (free-inner a X lo' hi' (a + 1) l j (omega arith) high f))
 
 -- ---- `lend_name`, by its words
 
 module _ {W : List ℕ} {a b : ℕ} where
-  pub lent-no-child : (f : ℕ) → f ≡ wd W (8 * a + 5) → f ≡ 0 → Lent W a b 0 W
+  pub lent-no-child : (f : ℕ) → f ≡ firstAt W a → f ≡ 0 → Lent W a b 0 W
   lent-no-child f e z = nothing refl refl (inl (sym e ∙ z))
 
-  pub lent-no-name : (f : ℕ) (t : Bool) → f ≡ wd W (8 * a + 5) → t ≡ isTokenAt W f arrayVariable → t ≡ false → Lent W a b 0 W
+  pub lent-no-name : (f : ℕ) (t : Bool) → f ≡ firstAt W a → t ≡ isTokenAt W f arrayVariable → t ≡ false → Lent W a b 0 W
   lent-no-name f t e h z = nothing refl refl (inr (inl (ap (λ (x : ℕ). isTokenAt W x arrayVariable) (sym e) ∙ sym h ∙ z)))
 
-  pub lent-no-index : (f n : ℕ) → f ≡ wd W (8 * b + 5) → n ≡ opAt W f → n ≢ leftBracket → Lent W a b 0 W
+  pub lent-no-index : (f n : ℕ) → f ≡ firstAt W b → n ≡ opAt W f → n ≢ leftBracket → Lent W a b 0 W
   lent-no-index f n e h z = nothing refl refl (inr (inr (λ y. z (h ∙ ap (λ (x : ℕ). opAt W x) e ∙ y))))
 
-  pub lent-name : {W1 W' : List ℕ} (r f n rest : ℕ) (t : Bool) → r ≢ 0 → r ≡ wd W (8 * a + 5) → t ≡ isTokenAt W r arrayVariable → t ≡ true → f ≡ wd W (8 * b + 5) → n ≡ opAt W f → n ≡ leftBracket
-      → rest ≡ wd W (8 * r + 6) → W1 ≡ set W (8 * a + 5) rest → W' ≡ set W1 (8 * r) (withOperator (wd W1 (8 * r)) array) → Lent W a b r W'
+  pub lent-name : {W1 W' : List ℕ} (r f n rest : ℕ) (t : Bool) → r ≢ 0 → r ≡ firstAt W a → t ≡ isTokenAt W r arrayVariable → t ≡ true → f ≡ firstAt W b → n ≡ opAt W f → n ≡ leftBracket
+      → rest ≡ nextAt W r → W1 ≡ set W (firstWord a) rest → W' ≡ set W1 (slotStart r) (withOperator (operatorWordAt W1 r) array) → Lent W a b r W'
   lent-name {W1} r f n rest t nz er et z ef en zn es e1 e2 =
-      name nz er (sym et ∙ z) (ap (λ (x : ℕ). opAt W x) (sym ef) ∙ sym en ∙ zn) (subst (λ (x : ℕ). W1 ≡ set W (8 * a + 5) x) es e1) e2
+      name nz er (sym et ∙ z) (ap (λ (x : ℕ). opAt W x) (sym ef) ∙ sym en ∙ zn) (subst (λ (x : ℕ). W1 ≡ set W (firstWord a) x) es e1) e2
 
 -- an index that is entered
 pub index-opens : {W W' : List ℕ} {v : Items} {b a lent : ℕ} {r : Turn} (v' : Items) → isLeafAt W b ≡ false → Lent W a b lent W' → v' ≡ movedTo v (v .read + 1) (v .write)
@@ -227,7 +227,7 @@ index-opens {b = b} {a = a} {lent = lent} v' full w e er = opens full w (er ∙ 
 -- ---- what is lent
 
 -- the slots that it reads
-pub can-lend : {W X : List ℕ} {a b lo l n m : ℕ} {q k : Token} {contents cs : Forest} → OpenArray W X a lo l q contents → RepT W X b n m k cs → l ≤ n → 8 * m ≤ length W → CanLend W a b
+pub can-lend : {W X : List ℕ} {a b lo l n m : ℕ} {q k : Token} {contents cs : Forest} → OpenArray W X a lo l q contents → RepT W X b n m k cs → l ≤ n → slotStart m ≤ length W → CanLend W a b
 can-lend o t apart within =
     let ah = o .high in let up = tree-below t in let tl = t .low in
     record {
@@ -241,10 +241,10 @@ first-op : {W X cs : List ℕ} {lo hi : ℕ} {t : Token} {k g : Forest} (f : ℕ
 first-op {W} f c (more a b d z o t n ch k r) = ap (λ (x : ℕ). opAt W x) (c .0) ∙ token-op t
 
 -- whether the index's contents begin with an index
-starts-index : {W X : List ℕ} {b n m : ℕ} {k : Token} (cs : Forest) → isNil cs ≡ false → RepT W X b n m k cs → startsWithIndex cs ≡ eqb (opAt W (wd W (8 * b + 5))) leftBracket
+starts-index : {W X : List ℕ} {b n m : ℕ} {k : Token} (cs : Forest) → isNil cs ≡ false → RepT W X b n m k cs → startsWithIndex cs ≡ eqb (opAt W (firstAt W b)) leftBracket
 unfolding startsWithIndex isIndex isNil
 starts-index nil e t = absurd (true≢false e)
-starts-index {W} {b = b} (node c cs r) e t = rw (first-op (wd W (8 * b + 5)) (t .chain) (t .kids)) refl
+starts-index {W} {b = b} (node c cs r) e t = rw (first-op (firstAt W b) (t .chain) (t .kids)) refl
 
 lends-not : {W Y cs : List ℕ} {f lo hi : ℕ} {contents : Forest} (d : Forest) (q : Token) (inner : Forest) → Chain W f cs → RepB W Y cs lo hi contents
     → (f ≡ 0) ⊎ ((isTokenAt W f arrayVariable ≡ false) ⊎ (startsWithIndex inner ≡ false)) → nextIndex d q contents inner ≡ into (indexed d q contents) (unindexed nil)
@@ -267,7 +267,7 @@ lends-not {W} {Y} {f = f} d q inner c (put {b = b} {l = l} {m = m} {d = contents
 
 -- The last child of a chain is a bare name.
 data LastName (W Y : List ℕ) (r lo l : ℕ) : Forest → Type 0 where
-  last : {t : Token} {contents : Forest} {ds : List ℕ} {p m : ℕ} → t .op ≡ arrayVariable → Chain W (wd W (8 * r + 6)) ds → RepB W Y ds lo p contents → RepT W Y r p m t nil → m ≤ l
+  last : {t : Token} {contents : Forest} {ds : List ℕ} {p m : ℕ} → t .op ≡ arrayVariable → Chain W (nextAt W r) ds → RepB W Y ds lo p contents → RepT W Y r p m t nil → m ≤ l
       → LastName W Y r lo l (node t nil contents)
 
 last-name : {W Y cs : List ℕ} {r lo l : ℕ} {contents : Forest} → Chain W r cs → RepB W Y cs lo l contents → r ≢ 0 → isTokenAt W r arrayVariable ≡ true → LastName W Y r lo l contents
@@ -275,9 +275,9 @@ unfolding isToken
 last-name c (begins h) n e = absurd (n c)
 last-name {W} {Y} {r = r} {lo = lo} {l = hi} c (put {b = b} {ds = ds} {l = l} {m = m} {d = contents} {t = t} {k = k} before v h) n e =
     let here : b ≡ r = sym (c .0) in
-    go k (subst (λ (x : ℕ). RepT W Y x l m t k) here v) (subst (λ (x : ℕ). Chain W (wd W (8 * x + 6)) ds) here (c .2))
+    go k (subst (λ (x : ℕ). RepT W Y x l m t k) here v) (subst (λ (x : ℕ). Chain W (nextAt W x) ds) here (c .2))
   where
-    go : (k : Forest) → RepT W Y r l m t k → Chain W (wd W (8 * r + 6)) ds → LastName W Y r lo hi (node t k contents)
+    go : (k : Forest) → RepT W Y r l m t k → Chain W (nextAt W r) ds → LastName W Y r lo hi (node t k contents)
     go nil v ch = last (eqb-true (t .op) arrayVariable (sym (token-test arrayVariable nil v) ∙ e)) ch before v h
     go (node x xs y) v ch = absurd (true≢false (sym e ∙ token-test arrayVariable (node x xs y) v))
 
@@ -285,19 +285,19 @@ last-name {W} {Y} {r = r} {lo = lo} {l = hi} c (put {b = b} {ds = ds} {l = l} {m
 pub data LentTo (W W' X : List ℕ) (a b lo l n r : ℕ) (q : Token) (cs contents : Forest) : Type 0 where
   none : r ≡ 0 → W' ≡ W → ((d : Forest) → nextIndex d q contents cs ≡ into (indexed d q contents) (unindexed nil)) → LentTo W W' X a b lo l n r q cs contents
   some : {t : Token} {inner : Forest} {p : ℕ} → contents ≡ node t nil inner → t .op ≡ arrayVariable → startsWithIndex cs ≡ true → p ≤ l → OpenArray W' X a lo p q inner
-      → OpenArray W' (b ∷ X) r p n (renamed array t) nil → ((j : ℕ) → j ≢ 8 * a + 5 → j ≢ 8 * r → wd W' j ≡ wd W j) → length W' ≡ length W → Out r X → LentTo W W' X a b lo l n r q cs contents
+      → OpenArray W' (b ∷ X) r p n (renamed array t) nil → ((j : ℕ) → j ≢ firstWord a → j ≢ slotStart r → wd W' j ≡ wd W j) → length W' ≡ length W → Out r X → LentTo W W' X a b lo l n r q cs contents
 
-module _ {W W' X : List ℕ} {a b lo l n m r : ℕ} {q k : Token} {cs : Forest} (apart : l ≤ n) (t : RepT W X b n m k cs) (full : isNil cs ≡ false) (within : 8 * m ≤ length W) where
-  lends : {W1 : List ℕ} {contents : Forest} → OpenArray W X a lo l q contents → startsWithIndex cs ≡ true → W1 ≡ set W (8 * a + 5) (wd W (8 * r + 6)) → W' ≡ set W1 (8 * r) (withOperator (wd W1 (8 * r)) array)
+module _ {W W' X : List ℕ} {a b lo l n m r : ℕ} {q k : Token} {cs : Forest} (apart : l ≤ n) (t : RepT W X b n m k cs) (full : isNil cs ≡ false) (within : slotStart m ≤ length W) where
+  lends : {W1 : List ℕ} {contents : Forest} → OpenArray W X a lo l q contents → startsWithIndex cs ≡ true → W1 ≡ set W (firstWord a) (nextAt W r) → W' ≡ set W1 (slotStart r) (withOperator (operatorWordAt W1 r) array)
       → LastName W (a ∷ X) r (a + 1) l contents → LentTo W W' X a b lo l n r q cs contents
   unfolding renamed
   lends {W1} o starts e1 e2 (last {t = x} {contents = contents} {ds = ds} {p = p} {m = mx} op ch before v h) =
-      let long1 = set-long W W1 (8 * a + 5) (wd W (8 * r + 6)) e1 in
-      let other1 = set-other W W1 (8 * a + 5) (wd W (8 * r + 6)) e1 in
-      let other2 = set-other W1 W' (8 * r) (withOperator (wd W1 (8 * r)) array) e2 in
+      let long1 = set-long W W1 (firstWord a) (nextAt W r) e1 in
+      let other1 = set-other W W1 (firstWord a) (nextAt W r) e1 in
+      let other2 = set-other W1 W' (slotStart r) (withOperator (operatorWordAt W1 r) array) e2 in
       let up = tree-below t in let tl = t .low in let vl = v .low in let vh = tree-below v in let ap' = back-le before in let ah = o .high in
-      let other : (j : ℕ) → j ≢ 8 * a + 5 → j ≢ 8 * r → wd W' j ≡ wd W j = λ j y z. other2 j z ∙ other1 j y in
-      let first : wd W' (8 * a + 5) ≡ wd W (8 * r + 6) = other2 (8 * a + 5) (omega arith) ∙ set-same W W1 (8 * a + 5) (wd W (8 * r + 6)) e1 (omega arith) in
+      let other : (j : ℕ) → j ≢ firstWord a → j ≢ slotStart r → wd W' j ≡ wd W j = λ j y z. other2 j z ∙ other1 j y in
+      let first : firstAt W' a ≡ nextAt W r = other2 (firstWord a) (omega arith) ∙ set-same W W1 (firstWord a) (nextAt W r) e1 (omega arith) in
       let high : r + 1 ≤ n = omega arith in
       some {p = p} refl op starts (omega arith)
       (record {
@@ -306,10 +306,10 @@ module _ {W W' X : List ℕ} {a b lo l n m r : ℕ} {q k : Token} {cs : Forest} 
         high = omega arith;
         pos = o .pos;
         out = o .out;
-        token = token-keep W W' a (λ i z. other (8 * a + i) (omega arith) (omega arith)) (o .token);
+        token = token-keep W W' a (λ i z. other (slotStart a + i) (omega arith) (omega arith)) (o .token);
         isArray = o .isArray;
-        chain = subst (λ (z : ℕ). Chain W' z ds) (sym first) (links ds (wd W (8 * r + 6)) other ch);
-        kids = back-keep W W' (λ s i y z u w g. other (8 * s + i) (omega (arith, w .0)) (omega arith)) before;
+        chain = subst (λ (z : ℕ). Chain W' z ds) (sym first) (links ds (nextAt W r) other ch);
+        kids = back-keep W W' (λ s i y z u w g. other (slotStart s + i) (omega (arith, w .0)) (omega arith)) before;
       })
       (record {
         cs = [];
@@ -317,23 +317,23 @@ module _ {W W' X : List ℕ} {a b lo l n m r : ℕ} {q k : Token} {cs : Forest} 
         high = omega arith;
         pos = v .pos;
         out = (omega arith, tree-out v .1);
-        token = token-renamed W1 W' r array e2 (omega arith) (omega arith) (token-keep W W1 r (λ i z. other1 (8 * r + i) (omega arith)) (v .token));
+        token = token-renamed W1 W' r array e2 (omega arith) (omega arith) (token-keep W W1 r (λ i z. other1 (slotStart r + i) (omega arith)) (v .token));
         isArray = refl;
-        chain = other (8 * r + 5) (omega arith) (omega arith) ∙ leaf-first v;
+        chain = other (firstWord r) (omega arith) (omega arith) ∙ leaf-first v;
         kids = begins high;
       })
-      other (set-long W1 W' (8 * r) (withOperator (wd W1 (8 * r)) array) e2 ∙ long1) (tree-out v .1)
+      other (set-long W1 W' (slotStart r) (withOperator (operatorWordAt W1 r) array) e2 ∙ long1) (tree-out v .1)
     where
-      links : (ds : List ℕ) (f : ℕ) → ((j : ℕ) → j ≢ 8 * a + 5 → j ≢ 8 * r → wd W' j ≡ wd W j) → Chain W f ds → Chain W' f ds
+      links : (ds : List ℕ) (f : ℕ) → ((j : ℕ) → j ≢ firstWord a → j ≢ slotStart r → wd W' j ≡ wd W j) → Chain W f ds → Chain W' f ds
       links [] f other c = c
       links (d ∷ ds) f other c =
-          (c .0, c .1, subst (λ (z : ℕ). Chain W' z ds) (sym (other (8 * d + 6) (omega arith) (omega arith))) (links ds (wd W (8 * d + 6)) other (c .2)))
+          (c .0, c .1, subst (λ (z : ℕ). Chain W' z ds) (sym (other (nextWord d) (omega arith) (omega arith))) (links ds (nextAt W d) other (c .2)))
 
   pub lent-to : {contents : Forest} → OpenArray W X a lo l q contents → Lent W a b r W' → LentTo W W' X a b lo l n r q cs contents
   lent-to o (nothing z e why) =
       none z e
       (λ d. lends-not d q cs (o .chain) (o .kids)
-      (⊎-elim (λ x. inl x) (λ x. inr (⊎-elim (λ y. inl y) (λ y. inr (starts-index cs full t ∙ ne-eqb (opAt W (wd W (8 * b + 5))) leftBracket y)) x)) why))
+      (⊎-elim (λ x. inl x) (λ x. inr (⊎-elim (λ y. inl y) (λ y. inr (starts-index cs full t ∙ ne-eqb (opAt W (firstAt W b)) leftBracket y)) x)) why))
   lent-to o (name nz er et ei e1 e2) =
-      lends o (starts-index cs full t ∙ eq-eqb (opAt W (wd W (8 * b + 5))) leftBracket ei) e1 e2
+      lends o (starts-index cs full t ∙ eq-eqb (opAt W (firstAt W b)) leftBracket ei) e1 e2
       (last-name (subst (λ (x : ℕ). Chain W x (o .cs)) (sym er) (o .chain)) (o .kids) nz et)

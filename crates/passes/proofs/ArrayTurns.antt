@@ -1,6 +1,6 @@
 -- The array pass's turns: a name without an index, a name or an array with its next index, an array that takes no further one; and an item that is taken
 -- back, by the list or by the array whose index it is.
-use Prim.Native.Nat.{ℕ, _+_, _*_, _^_, _≤_, _<_}
+use Prim.Native.Nat.{ℕ, _+_, _^_, _≤_, _<_}
 use mathlib.Core.Path.{_≡_, refl, sym, ap, _∙_, subst}
 use mathlib.Core.Logic.{_≢_, _⊎_, inl, inr, ⊎-elim}
 use mathlib.Core.Bool.{Bool, true, false, true≢false}
@@ -18,7 +18,7 @@ use Rattle.molang.specs.Free.{isNil, isArrayName}
 use Rattle.molang.specs.Work.{Kind, arrays, State, work, begins, inReading, takes, andThen}
 use Rattle.molang.proofs.Arrays.{array-inert}
 use Rattle.words.specs.Fields.{withOperator}
-use Rattle.nodes.specs.Store.{wd, RepT}
+use Rattle.nodes.specs.Store.{wd, slotWords, firstField, slotStart, operatorWordAt, RepT}
 use Rattle.nodes.specs.declared.frames.List.{List as Items}
 use Rattle.nodes.proofs.Runs.{set-other, set-long}
 use Rattle.nodes.proofs.Store.{tree-below, tree-out, tree-keep, tree-widen, back-le}
@@ -72,7 +72,7 @@ module _ {T : Saying} (W : List ℕ) (v : Items) where
   array-stands t g = go (g .holds .sides .runs) (g .holds)
     where
       side : {X : List ℕ} {lo l m hi : ℕ} {s : Indexing} {rest : Forest} → ArraySide W X (v .base) (v .write) lo l (Arrays 0 0) s → Ahead W X (v .base) (v .read) (v .len) m hi rest
-          → l ≤ m → v .write ≤ v .read → 8 * hi ≤ v .base → v .base + v .len ≤ length W → Stands T W v (Arrays 0 0) arrays X lo hi s rest
+          → l ≤ m → v .write ≤ v .read → slotStart hi ≤ v .base → v .base + v .len ≤ length W → Stands T W v (Arrays 0 0) arrays X lo hi s rest
       side (ArraySide.all done) ahead mid behind below within = stands array-left t refl done ahead mid behind below within (g .small)
       side (ArraySide.growing done o) ahead mid behind below within = absurd (omega (arith, o .pos))
 
@@ -94,7 +94,7 @@ pub record AtIndex (W X : List ℕ) (v : Items) (a b lo hi : ℕ) (d : Forest) (
   pub ahead : Ahead W X (v .base) (v .read + 1) (v .len) m hi rest
   pub bracket : k .op ≡ leftBracket
   pub behind : v .write ≤ v .read
-  pub below : 8 * hi ≤ v .base
+  pub below : slotStart hi ≤ v .base
   pub within : v .base + v .len ≤ length W
 
 is-index : (k : Token) → k .op ≡ leftBracket → isIndex k ≡ true
@@ -120,7 +120,7 @@ module _ {W X : List ℕ} {v : Items} {a b lo hi : ℕ} {d : Forest} {q : Token}
       let le = ahead-le (i .ahead) in
       (back-le (i .done .rep), i .grows .low, i .grows .high, i .apart, i .tree .low, tree-below (i .tree), le .0, omega (arith, le .1))
 
-  room : 8 * i .m ≤ length W
+  room : slotStart (i .m) ≤ length W
   room = let e = index-bounds in let below = i .below in let within = i .within in omega arith
 
   pub can-index : CanIndex W v b a
@@ -169,9 +169,9 @@ module _ {W X : List ℕ} {v : Items} {a b lo hi : ℕ} {d : Forest} {q : Token}
         (omega arith) (omega arith) (omega arith) (omega arith))
     index-entered {W'} c full (some {t = x} {inner = inner} {p = p} is isx starts low o o' other long out) =
         let e = index-bounds in let ol = o .low in let oh = o .high in let rl = o' .low in let rh = o' .high in let below = i .below in let once = one (ap isNil is) in
-        let slot : (y u : ℕ) → u < 8 → (y < i .p) ⊎ (i .n ≤ y) → wd W' (8 * y + u) ≡ wd W (8 * y + u)
-        = λ y u f. ⊎-elim (λ g. other (8 * y + u) (omega arith) (omega arith)) (λ g. other (8 * y + u) (omega arith) (omega arith)) in
-        let word : (j : ℕ) → 8 * hi ≤ j → wd W' j ≡ wd W j = λ j f. other j (omega arith) (omega arith) in
+        let slot : (y u : ℕ) → u < slotWords → (y < i .p) ⊎ (i .n ≤ y) → wd W' (slotStart y + u) ≡ wd W (slotStart y + u)
+        = λ y u f. ⊎-elim (λ g. other (slotStart y + u) (omega arith) (omega arith)) (λ g. other (slotStart y + u) (omega arith) (omega arith)) in
+        let word : (j : ℕ) → slotStart hi ≤ j → wd W' j ≡ wd W j = λ j f. other j (omega arith) (omega arith) in
         enters {t = indexed d q inner} {u = indexed nil (renamed array x) nil} (record { owner = refl; base = refl; len = refl; classes = refl })
         (index-waits c (back-array-keep W W' (λ y u f g h _. slot y u h (inl g)) (λ j f g. word j (omega arith)) (i .done)) o
         (ahead-keep W W' (λ y u f g h _. slot y u h (inr (omega arith))) (λ j f g. word j (omega arith)) (i .ahead)) low long)
@@ -192,7 +192,7 @@ module _ {W X : List ℕ} {v : Items} {a b lo hi : ℕ} {d : Forest} {q : Token}
   lent-within {c = c} (some is isx starts low o o' other long out) =
       let e = index-bounds in let ol = o .low in let oh = o .high in let rl = o' .low in let rh = o' .high in
       record {
-        kept = λ j f g. other j (f a 5 (omega arith) (omega arith) (omega arith) (i .grows .out)) (λ h. f c 0 (omega arith) (omega arith) (omega arith) out (h ∙ omega arith));
+        kept = λ j f g. other j (f a firstField (omega arith) (omega arith) (omega arith) (i .grows .out)) (λ h. f c 0 (omega arith) (omega arith) (omega arith) out (h ∙ omega arith));
         long = long;
       }
 
@@ -224,25 +224,25 @@ name-alone {d = d} {k = k} {rest = rest} s i p bare =
 data NameIndex (W X : List ℕ) (v : Items) (b c lo hi : ℕ) (d : Forest) (k : Token) : Forest → Type 0 where
   next : {t : Token} {ts rest : Forest} → AtIndex W X v b c lo hi d (renamed array k) nil t ts rest → NameIndex W X v b c lo hi d k (node t ts rest)
 
-module _ {W W1 : List ℕ} {v : Items} {b : ℕ} (e : W1 ≡ set W (8 * b) (withOperator (wd W (8 * b)) array)) where
+module _ {W W1 : List ℕ} {v : Items} {b : ℕ} (e : W1 ≡ set W (slotStart b) (withOperator (operatorWordAt W b) array)) where
   name-index : {X : List ℕ} {c lo m hi : ℕ} {d : Forest} {k : Token} {rest : Forest} → c ≢ 0 → (i : AtItem W X v b lo hi d k nil rest) → i .m ≡ m → NextTo W X v m hi leftBracket c rest → NameIndex W1 X v b c lo hi d k rest
   name-index n i em (ended x) = absurd (n refl)
   name-index n i em (differs x y) = absurd (n refl)
   name-index {X} n i em (found {a = p} {m = m} {k = t} {cs = ts} {rest = rest} x o pos low tree ahead) =
       let bounds = item-bounds i in let beyond : b < p = omega arith in let below = i .below in let behind = i .behind in let within = i .within in let tl = tree .low in let th = tree-below tree in let le = ahead-le ahead in
-      let other = set-other W W1 (8 * b) (withOperator (wd W (8 * b)) array) e in
-      let long = set-long W W1 (8 * b) (withOperator (wd W (8 * b)) array) e in
+      let other = set-other W W1 (slotStart b) (withOperator (operatorWordAt W b) array) e in
+      let long = set-long W W1 (slotStart b) (withOperator (operatorWordAt W b) array) e in
       next
       (record {
         p = i .a;
         l = i .m;
         n = p;
         m = m;
-        done = back-array-keep W W1 (λ s u x y z w. other (8 * s + u) (omega arith)) (λ j x y. other j (omega arith)) (i .done);
+        done = back-array-keep W W1 (λ s u x y z w. other (slotStart s + u) (omega arith)) (λ j x y. other j (omega arith)) (i .done);
         grows = name-open e (omega arith) (i .tree);
         apart = omega arith;
-        tree = tree-keep W W1 (λ s u x y z w g. other (8 * s + u) (omega arith)) tree;
-        ahead = ahead-keep W W1 (λ s u x y z w. other (8 * s + u) (omega arith)) (λ j x y. other j (omega arith)) ahead;
+        tree = tree-keep W W1 (λ s u x y z w g. other (slotStart s + u) (omega arith)) tree;
+        ahead = ahead-keep W W1 (λ s u x y z w. other (slotStart s + u) (omega arith)) (λ j x y. other j (omega arith)) ahead;
         bracket = o;
         behind = omega arith;
         below = below;
@@ -253,8 +253,8 @@ module _ {W W1 : List ℕ} {v : Items} {b : ℕ} (e : W1 ≡ set W (8 * b) (with
   name-within i =
       let z = item-bounds i in
       record {
-        kept = λ j f g. set-other W W1 (8 * b) (withOperator (wd W (8 * b)) array) e j (λ h. f b 0 (omega arith) (omega arith) (omega arith) (tree-out (i .tree)) (h ∙ omega arith));
-        long = set-long W W1 (8 * b) (withOperator (wd W (8 * b)) array) e;
+        kept = λ j f g. set-other W W1 (slotStart b) (withOperator (operatorWordAt W b) array) e j (λ h. f b 0 (omega arith) (omega arith) (omega arith) (tree-out (i .tree)) (h ∙ omega arith));
+        long = set-long W W1 (slotStart b) (withOperator (operatorWordAt W b) array) e;
       }
 
 name-can : {W1 X : List ℕ} {v : Items} {b c lo hi : ℕ} {d : Forest} {k : Token} {rest : Forest} → NameIndex W1 X v b c lo hi d k rest → CanIndex W1 v c b
@@ -278,7 +278,7 @@ module _ {W : List ℕ} {v : Items} {b : ℕ} (c : ℕ) (e : c ≡ nextIf W v le
       rw (er, el)
       (record { to = λ g p fine. name-alone s (g .item) p (starts-none z (next-of leftBracket c e (g .item .ahead))); within = λ g. kept-within W W' (g .item) s })
 
-  module _ {W1 : List ℕ} (n : c ≢ 0) (s : W1 ≡ set W (8 * b) (withOperator (wd W (8 * b)) array)) where
+  module _ {W1 : List ℕ} (n : c ≢ 0) (s : W1 ≡ set W (slotStart b) (withOperator (operatorWordAt W b) array)) where
     at-index : (g : AtToken W v b) → NameIndex W1 (g .X) v b c (g .lo) (g .hi) (g .d) (g .k) (g .rest)
     at-index g = name-index s n (g .item) refl (next-of leftBracket c e (g .item .ahead))
 
@@ -293,11 +293,11 @@ module _ {W : List ℕ} {v : Items} {b : ℕ} (c : ℕ) (e : c ≡ nextIf W v le
 
 data Grows (W X : List ℕ) (v : Items) (a lo hi : ℕ) : Indexing → Forest → Type 0 where
   grows : {d contents rest : Forest} {q : Token} {p l m : ℕ} → BackArray W X (v .base) (v .write) lo p d → OpenArray W X a p l q contents → Ahead W X (v .base) (v .read) (v .len) m hi rest
-      → l ≤ m → v .write ≤ v .read → (v .write < v .read) ⊎ (startsWithIndex rest ≡ true) → 8 * hi ≤ v .base → v .base + v .len ≤ length W → length W < 2 ^ 32
+      → l ≤ m → v .write ≤ v .read → (v .write < v .read) ⊎ (startsWithIndex rest ≡ true) → slotStart hi ≤ v .base → v .base + v .len ≤ length W → length W < 2 ^ 32
       → Grows W X v a lo hi (indexed d q contents) rest
 
 grows-side : {W X : List ℕ} {v : Items} {a lo l m hi : ℕ} {s : Indexing} {rest : Forest} → a ≢ 0 → ArraySide W X (v .base) (v .write) lo l (Arrays a 0) s
-    → Ahead W X (v .base) (v .read) (v .len) m hi rest → ArrayAgrees v s rest → l ≤ m → v .write ≤ v .read → 8 * hi ≤ v .base → v .base + v .len ≤ length W → length W < 2 ^ 32
+    → Ahead W X (v .base) (v .read) (v .len) m hi rest → ArrayAgrees v s rest → l ≤ m → v .write ≤ v .read → slotStart hi ≤ v .base → v .base + v .len ≤ length W → length W < 2 ^ 32
     → Grows W X v a lo hi s rest
 grows-side n (ArraySide.all done) ahead agrees mid behind below within small = absurd (n refl)
 grows-side n (ArraySide.growing done o) ahead agrees mid behind below within small = grows done o ahead mid behind agrees below within small
@@ -307,7 +307,7 @@ data NextIndex (W X : List ℕ) (v : Items) (a c lo hi : ℕ) (d : Forest) (q : 
   next : {k : Token} {cs rest : Forest} → AtIndex W X v a c lo hi d q contents k cs rest → NextIndex W X v a c lo hi d q contents (node k cs rest)
 
 next-index : {W X : List ℕ} {v : Items} {a c lo hi p l m : ℕ} {d contents rest : Forest} {q : Token} → c ≢ 0 → BackArray W X (v .base) (v .write) lo p d → OpenArray W X a p l q contents → l ≤ m
-    → v .write ≤ v .read → 8 * hi ≤ v .base → v .base + v .len ≤ length W → NextTo W X v m hi leftBracket c rest → NextIndex W X v a c lo hi d q contents rest
+    → v .write ≤ v .read → slotStart hi ≤ v .base → v .base + v .len ≤ length W → NextTo W X v m hi leftBracket c rest → NextIndex W X v a c lo hi d q contents rest
 next-index n done o mid behind below within (ended x) = absurd (n refl)
 next-index n done o mid behind below within (differs x y) = absurd (n refl)
 next-index {p = p} {l = l} n done o mid behind below within (found {a = a'} {m = m'} x op pos low tree ahead) =
@@ -380,7 +380,7 @@ module _ {W : List ℕ} {v : Items} {a : ℕ} (n : a ≢ 0) where
       array-closes {W1} {W'} w s' X lo hi s rest (grows {d = d} {contents = contents} {q = q} {p = p} {l = l} {m = m} done o ahead mid behind agrees below within small) =
           let nx = next-of leftBracket c e ahead in
           let less = array-behind agrees nx in let le = ahead-le ahead in let low = o .low in let high = o .high in let dl = back-le (done .rep) in
-          let fits : 8 * l ≤ length W = omega arith in
+          let fits : slotStart l ≤ length W = omega arith in
           let slot = rounded-slot o fits w in
           let word = rounded-word o fits w in
           let i : AtItem W1 X v a lo hi d q (inOrder contents) rest
@@ -410,18 +410,18 @@ module _ {W : List ℕ} {v : Items} {a : ℕ} (n : a ≢ 0) where
 -- ---- an item is taken back
 
 side-gathers : {W X : List ℕ} {base write a b lo l m : ℕ} {t : Indexing} {kids : Forest} {k : Token} → a ≢ 0 → ArraySide W X base write lo l (Arrays a 0) t → RepT W X b l m k kids
-    → 8 * m ≤ length W → CanGather W a b
+    → slotStart m ≤ length W → CanGather W a b
 side-gathers n (ArraySide.all done) tree within = absurd (n refl)
 side-gathers n (ArraySide.growing done o) tree within = can-gather o tree within
 
 side-gathered : {W W' X : List ℕ} {v : Items} {a b lo l m hi : ℕ} {t : Indexing} {kids rest : Forest} {k : Token} → a ≢ 0 → Gathered W a b W' → ArraySide W X (v .base) (v .write) lo l (Arrays a 0) t → RepT W X b l m k kids
-    → Ahead W X (v .base) (v .read) (v .len) m hi rest → v .write < v .read → 8 * hi ≤ v .base → v .base + v .len ≤ length W
+    → Ahead W X (v .base) (v .read) (v .len) m hi rest → v .write < v .read → slotStart hi ≤ v .base → v .base + v .len ≤ length W
     → Holds arrays W' X lo hi (walkOf v (Arrays a 0)) (takes arrays t k kids) rest × Within W W' X lo hi v
 unfolding takes arrayLevel arrayResume
 side-gathered n w (ArraySide.all done) tree ahead behind below within = absurd (n refl)
 side-gathered {W} {W'} {X} {lo = lo} {l = l} {m = m} {hi = hi} n w (ArraySide.growing {m = p} done o) tree ahead behind below within =
     let le = ahead-le ahead in let low = o .low in let high = o .high in let dl = back-le (done .rep) in let up = tree-below tree in let tl = tree .low in
-    let fits : 8 * m ≤ length W = omega arith in
+    let fits : slotStart m ≤ length W = omega arith in
     let slot = gathered-slot o tree fits w in
     let word = gathered-word o tree fits w in (
       record {
@@ -444,7 +444,7 @@ side-gathered {W} {W'} {X} {lo = lo} {l = l} {m = m} {hi = hi} n w (ArraySide.gr
     )
 
 side-kept : {W W' X : List ℕ} {v : Items} {a b lo l m hi : ℕ} {t : Indexing} {kids rest : Forest} {k : Token} → a ≡ 0 → W' ≡ set W (v .base + v .write) b → ArraySide W X (v .base) (v .write) lo l (Arrays a 0) t → RepT W X b l m k kids
-    → Ahead W X (v .base) (v .read) (v .len) m hi rest → v .write < v .read → 8 * hi ≤ v .base → v .base + v .len ≤ length W → length W < 2 ^ 32
+    → Ahead W X (v .base) (v .read) (v .len) m hi rest → v .write < v .read → slotStart hi ≤ v .base → v .base + v .len ≤ length W → length W < 2 ^ 32
     → Holds arrays W' X lo hi (walkOf (movedTo v (v .read) (v .write + 1)) (Arrays 0 0)) (takes arrays t k kids) rest × Within W W' X lo hi v
 unfolding takes arrayLevel arrayResume
 side-kept z s (ArraySide.growing done o) tree ahead behind below within small = absurd (omega (arith, o .pos))

@@ -1,5 +1,5 @@
 -- The binary levels: an operator takes the last done tree and the next one as its children.
-use Prim.Native.Nat.{ℕ, _+_, _*_, _-_, _^_, _≤_, _<_}
+use Prim.Native.Nat.{ℕ, _+_, _-_, _^_, _≤_, _<_}
 use mathlib.Core.Path.{_≡_, refl, sym, ap, _∙_, subst}
 use mathlib.Core.Logic.{_≢_, inl, inr, ⊎-elim}
 use mathlib.Core.Bool.{Bool, true, false, not, true≢false}
@@ -20,7 +20,7 @@ use Rattle.molang.proofs.Binary.{binary-inert, binary-free}
 use Rattle.molang.proofs.Unfolded.{free-firstLeaf}
 use Rattle.ops.specs.Classes.{shares}
 use Rattle.ops.specs.declared.classes.TokenClasses.{TokenClasses}
-use Rattle.nodes.specs.Store.{wd, SegB, RepT, RepB, begins as starts, put}
+use Rattle.nodes.specs.Store.{wd, slotStart, slotEnd, classesAt, SegB, RepT, RepB, begins as starts, put}
 use Rattle.nodes.specs.declared.frames.List.{List as Items}
 use Rattle.nodes.proofs.Runs.{set-same, set-other, set-long}
 use Rattle.nodes.proofs.Store.{tree-below, tree-out, back-le}
@@ -77,7 +77,7 @@ level-of ops classes covers =
 module _ {T : Saying} (W : List ℕ) (v : Items) (classes : TokenClasses) where
   open-side : (ops : List ℕ) → Covers (classes .0) (isOneOf ops) → T (binary ops) gathered (isOneOf ops) (clear (isOneOf ops))
       → {X : List ℕ} {lo l m hi : ℕ} {s : Gathered} {rest : Forest} → LevelSide W X (v .base) (v .write) lo l ops (Binary classes 0) s → Ahead W X (v .base) (v .read) (v .len) m hi rest
-      → l ≤ m → v .write ≤ v .read → 8 * hi ≤ v .base → v .base + v .len ≤ length W → length W < 2 ^ 32 → Stands T W v (Binary classes 0) (binary ops) X lo hi s rest
+      → l ≤ m → v .write ≤ v .read → slotStart hi ≤ v .base → v .base + v .len ≤ length W → length W < 2 ^ 32 → Stands T W v (Binary classes 0) (binary ops) X lo hi s rest
   open-side ops covers t (all fine done) ahead mid behind below within small = stands (level-of ops classes covers) t fine done ahead mid behind below within small
   open-side ops covers t (operator fine done full clean tree) ahead mid behind below within small = absurd (omega (arith, tree .pos))
 
@@ -176,7 +176,7 @@ record FoldDone (W W' X : List ℕ) (v : Items) (lo m hi : ℕ) (d : Forest) (q 
 
 module _ {W X : List ℕ} {v : Items} {q c lo a m0 l m hi : ℕ} {d : Forest} {kq x : Token} {xs rest : Forest} (full : isNil d ≡ false)
     (done : BackArray W X (v .base) (v .write) lo a d) (own : RepT W X q a m0 kq nil) (right : RepT W X c l m x xs) (apart : m0 ≤ l)
-    (ahead : Ahead W X (v .base) (v .read) (v .len) m hi rest) (behind : v .write ≤ v .read) (below : 8 * hi ≤ v .base) (inside : v .base + v .len ≤ length W) where
+    (ahead : Ahead W X (v .base) (v .read) (v .len) m hi rest) (behind : v .write ≤ v .read) (below : slotStart hi ≤ v .base) (inside : v .base + v .len ≤ length W) where
   can-fold : CanFold W v q c
   can-fold = go (back-last v done full)
     where
@@ -204,13 +204,13 @@ module _ {W X : List ℕ} {v : Items} {q c lo a m0 l m hi : ℕ} {d : Forest} {k
           let pq : p ≤ q = omega arith in let qm : q < m = omega arith in let lr : lm ≤ l = omega arith in
           let tree : RepT Z X q p m kq (node t ts (node x xs nil)) = attach-two-trees two left' right' lr (own .token) (own .pos) out pq qm (le-refl p) (le-refl m) in
           let kept : BackArray Z X (v .base) n lo p d
-          = back-array-keep W Z (λ s o x y z u. two .same (8 * s + o) (omega arith) (omega arith) (omega arith) (omega arith)) (λ j x y. two .same j (omega arith) (omega arith) (omega arith) (omega arith)) back in
+          = back-array-keep W Z (λ s o x y z u. two .same (slotStart s + o) (omega arith) (omega arith) (omega arith) (omega arith)) (λ j x y. two .same j (omega arith) (omega arith) (omega arith) (omega arith)) back in
           let other = set-other Z W' (v .base + n) q stored in
           let new : BackArray W' X (v .base) (n + 1) lo m (node kq (node t ts (node x xs nil)) d)
-          = array-put Z W' kept tree (le-refl p) (le-refl m) (λ s o x y z u. other (8 * s + o) (omega arith)) (λ j x y. other j (omega arith)) (set-same Z W' (v .base + n) q stored (omega (arith, two .long))) in
+          = array-put Z W' kept tree (le-refl p) (le-refl m) (λ s o x y z u. other (slotStart s + o) (omega arith)) (λ j x y. other j (omega arith)) (set-same Z W' (v .base + n) q stored (omega (arith, two .long))) in
           record {
             done = subst (λ (i : ℕ). BackArray W' X (v .base) i lo m (node kq (node t ts (node x xs nil)) d)) (sym e) new;
-            ahead = ahead-keep W W' (λ s o x y z u. other (8 * s + o) (omega arith) ∙ two .same (8 * s + o) (omega arith) (omega arith) (omega arith) (omega arith))
+            ahead = ahead-keep W W' (λ s o x y z u. other (slotStart s + o) (omega arith) ∙ two .same (slotStart s + o) (omega arith) (omega arith) (omega arith) (omega arith))
                 (λ j x y. other j (omega arith) ∙ two .same j (omega arith) (omega arith) (omega arith) (omega arith)) ahead;
             within = record {
               kept = λ j f o. other j (⊎-elim (λ y. omega arith) (λ y. omega arith) o) ∙ attach-two-kept {lo = lo} {hi = hi} two left' right' lr out (omega arith) (omega arith) (omega arith) (omega arith) j f;
@@ -225,7 +225,7 @@ joined-clear P (node l ls d) q x xs n h = clear-rest P l ls d h
 
 -- the list after a fold
 fold-holds : {W W' X : List ℕ} {v : Items} {lo m hi : ℕ} {d : Forest} {q x : Token} {xs rest : Forest} (ops : List ℕ) (classes : TokenClasses) → Covers (classes .0) (isOneOf ops)
-    → FoldDone W W' X v lo m hi d q x xs rest → clear (isOneOf ops) (joined d q x xs) ≡ true → v .write ≤ v .read → 8 * hi ≤ v .base → v .base + v .len ≤ length W
+    → FoldDone W W' X v lo m hi d q x xs rest → clear (isOneOf ops) (joined d q x xs) ≡ true → v .write ≤ v .read → slotStart hi ≤ v .base → v .base + v .len ≤ length W
     → Holds (binary ops) W' X lo hi (walkOf v (Binary classes 0)) (gathered (joined d q x xs)) rest
 fold-holds {v = v} {m = m} ops classes covers f fine behind below within =
     let L = level-of ops classes covers in
@@ -241,7 +241,7 @@ fold-holds {v = v} {m = m} ops classes covers f fine behind below within =
 module _ {W : List ℕ} {v : Items} {b : ℕ} (classes : TokenClasses) where
   side-kept : {W' X : List ℕ} {lo l m hi pending : ℕ} {t : Gathered} {k : Token} {kids rest : Forest} (ops : List ℕ) → Covers (classes .0) (isOneOf ops) → pending ≡ 0 → W' ≡ set W (v .base + v .write) b
       → LevelSide W X (v .base) (v .write) lo l ops (Binary classes pending) t → Ahead W X (v .base) (v .read) (v .len) m hi rest → RepT W X b l m k kids → isNil kids ≡ false
-      → v .write < v .read → 8 * hi ≤ v .base → v .base + v .len ≤ length W → length W < 2 ^ 32
+      → v .write < v .read → slotStart hi ≤ v .base → v .base + v .len ≤ length W → length W < 2 ^ 32
       → Holds (binary ops) W' X lo hi (walkOf (movedTo v (v .read) (v .write + 1)) (Binary classes 0)) (takes (binary ops) t k kids) rest × Within W W' X lo hi v
   unfolding takes binaryLevel binaryResume
   side-kept {W'} {X} {lo} {l} {m} {hi} {k = k} {kids = kids} {rest = rest} ops covers z s (all {d = d} fine done) ahead tree full behind below within small =
@@ -251,13 +251,13 @@ module _ {W : List ℕ} {v : Items} {b : ℕ} (classes : TokenClasses) where
 
   side-folds : {X : List ℕ} {lo l m hi pending : ℕ} {t : Gathered} {k : Token} {kids rest : Forest} (ops : List ℕ) → pending ≢ 0
       → LevelSide W X (v .base) (v .write) lo l ops (Binary classes pending) t → Ahead W X (v .base) (v .read) (v .len) m hi rest → RepT W X b l m k kids
-      → v .write < v .read → 8 * hi ≤ v .base → v .base + v .len ≤ length W → CanFold W v pending b
+      → v .write < v .read → slotStart hi ≤ v .base → v .base + v .len ≤ length W → CanFold W v pending b
   side-folds ops n (all fine done) ahead tree behind below within = absurd (n refl)
   side-folds {l = l} ops n (operator fine done full clean q) ahead tree behind below within = can-fold full done q tree (le-refl l) ahead (omega arith) below within
 
   side-folded : {W' X : List ℕ} {lo l m hi pending : ℕ} {t : Gathered} {k : Token} {kids rest : Forest} (ops : List ℕ) → Covers (classes .0) (isOneOf ops) → pending ≢ 0 → Folded W v pending b W'
       → LevelSide W X (v .base) (v .write) lo l ops (Binary classes pending) t → Ahead W X (v .base) (v .read) (v .len) m hi rest → RepT W X b l m k kids
-      → v .write < v .read → 8 * hi ≤ v .base → v .base + v .len ≤ length W
+      → v .write < v .read → slotStart hi ≤ v .base → v .base + v .len ≤ length W
       → Holds (binary ops) W' X lo hi (walkOf v (Binary classes 0)) (takes (binary ops) t k kids) rest × Within W W' X lo hi v
   unfolding takes binaryLevel binaryResume
   side-folded ops covers n w (all fine done) ahead tree behind below within = absurd (n refl)
@@ -309,7 +309,7 @@ module _ {W : List ℕ} {v : Items} {b : ℕ} (classes : TokenClasses) where
 -- ---- `folded`, `operator`
 
 -- nothing unfolded is below the left side
-left-clean : {W X : List ℕ} {v : Items} {lo a : ℕ} {d : Forest} (c : ℕ) (ops : List ℕ) → Covers c (isOneOf ops) → Last W X v lo a (leftOf W v) d → shares (wd W (8 * leftOf W v + 7)) c ≡ false
+left-clean : {W X : List ℕ} {v : Items} {lo a : ℕ} {d : Forest} (c : ℕ) (ops : List ℕ) → Covers c (isOneOf ops) → Last W X v lo a (leftOf W v) d → shares (classesAt W (leftOf W v)) c ≡ false
     → unfolded ops d ≡ none
 unfolding unfolded
 left-clean c ops covers (last {l = l} {ls = ls} e back left h) s = go ls (tree-free c (isOneOf ops) covers left s)
@@ -343,7 +343,7 @@ inner-full P nil e = absurd (true≢false (sym e))
 inner-full P (node c cs r) e = refl
 
 -- an operator is left below the left side
-again-at : {W X : List ℕ} {v : Items} {lo a hi m s : ℕ} {d : Forest} {k : Token} {rest : Forest} (classes : TokenClasses) (ops : List ℕ) → Covers (classes .0) (isOneOf ops) → 8 * a ≤ length W → isOneOf ops (k .op) ≡ true → clear (isOneOf ops) d ≡ true → shares (wd W (8 * leftOf W v + 7)) (classes .0) ≡ true
+again-at : {W X : List ℕ} {v : Items} {lo a hi m s : ℕ} {d : Forest} {k : Token} {rest : Forest} (classes : TokenClasses) (ops : List ℕ) → Covers (classes .0) (isOneOf ops) → slotStart a ≤ length W → isOneOf ops (k .op) ≡ true → clear (isOneOf ops) d ≡ true → shares (classesAt W (leftOf W v)) (classes .0) ≡ true
     → LeafFound W (leftOf W v) (classes .0) s → Last W X v lo a (leftOf W v) d → AheadTo W X (v .base) (v .read) (v .len) m hi (wd W (v .base + v .read)) rest
     → TurnTo (binary ops) W X lo hi (walkOf v (Binary classes 0)) (gathered d) (node k nil rest) (Fail (BinaryAtEnd s))
 unfolding isNil
@@ -389,7 +389,7 @@ module _ {W : List ℕ} {v : Items} {b : ℕ} (classes : TokenClasses) (ops : Li
       record { kept = x .kept; long = x .long }
 
   -- the operator with both sides
-  pub operated : {r : Turn} {W' : List ℕ} → 0 < v .write → v .read < v .len → shares (wd W (8 * leftOf W v + 7)) (classes .0) ≡ false → Operated W v b classes r W'
+  pub operated : {r : Turn} {W' : List ℕ} → 0 < v .write → v .read < v .len → shares (classesAt W (leftOf W v)) (classes .0) ≡ false → Operated W v b classes r W'
       → LevelTurned ops classes W v b r W'
   operated has more s (opens inner same er) =
       rw (er, same)
@@ -427,7 +427,7 @@ module _ {W : List ℕ} {v : Items} {b : ℕ} (classes : TokenClasses) (ops : Li
         within = λ g. same-within;
       }
 
-  pub operator-fails : {s : ℕ} → 0 < v .write → v .read < v .len → shares (wd W (8 * leftOf W v + 7)) (classes .0) ≡ true → LeafFound W (leftOf W v) (classes .0) s
+  pub operator-fails : {s : ℕ} → 0 < v .write → v .read < v .len → shares (classesAt W (leftOf W v)) (classes .0) ≡ true → LeafFound W (leftOf W v) (classes .0) s
       → LevelTurned ops classes W v b (Fail (BinaryAtEnd s)) W
   operator-fails has more sh found =
       record {
@@ -438,7 +438,7 @@ module _ {W : List ℕ} {v : Items} {b : ℕ} (classes : TokenClasses) (ops : Li
       }
 
 -- what `folded` asks of `is_inner` and `fold`
-pub operate-room : {W : List ℕ} {v : Items} {b c : ℕ} → CanOperate W v b c → (8 * wd W (v .base + v .read) + 8 ≤ length W) × (v .read + 1 ≤ v .len)
+pub operate-room : {W : List ℕ} {v : Items} {b c : ℕ} → CanOperate W v b c → (slotEnd (wd W (v .base + v .read)) ≤ length W) × (v .read + 1 ≤ v .len)
 operate-room g = let more = g .more in (next-room (g .token) (omega arith) .1, omega arith)
 
 operate-fold : {W X : List ℕ} {v : Items} {b lo hi m : ℕ} {d : Forest} {k : Token} {rest : Forest} (i : AtItem W X v b lo hi d k nil rest) → isNil d ≡ false → i .m ≡ m
@@ -462,17 +462,17 @@ module _ {W W' : List ℕ} {v : Items} {b : ℕ} {classes : TokenClasses} {r : T
       folds h (record { mid = w' .mid; two = w' .two; put = w' .put }) (er ∙ ap (λ (x : Items). On (walkOf x (Binary classes 0))) el)
 
 -- what `operator` asks of the left side
-left-tree : {W X : List ℕ} {v : Items} {lo a : ℕ} {d : Forest} (c : ℕ) → Last W X v lo a (leftOf W v) d → 8 * a ≤ length W → shares (wd W (8 * leftOf W v + 7)) c ≡ true → CanSearch W (leftOf W v) c
+left-tree : {W X : List ℕ} {v : Items} {lo a : ℕ} {d : Forest} (c : ℕ) → Last W X v lo a (leftOf W v) d → slotStart a ≤ length W → shares (classesAt W (leftOf W v)) c ≡ true → CanSearch W (leftOf W v) c
 left-tree {X = X} c (last {p = p} {m = m} {l = l} {ls = ls} e back left h) room sh = record { X = X; a = p; m = m; k = l; cs = ls; tree = left; within = omega arith; some = sh }
 
-left-slot : {W X : List ℕ} {v : Items} {lo a : ℕ} {d : Forest} → Last W X v lo a (leftOf W v) d → 8 * a ≤ length W → 8 * leftOf W v + 8 ≤ length W
+left-slot : {W X : List ℕ} {v : Items} {lo a : ℕ} {d : Forest} → Last W X v lo a (leftOf W v) d → slotStart a ≤ length W → slotEnd (leftOf W v) ≤ length W
 left-slot (last e back left h) room = omega (arith, tree-below left)
 
-slots-below : {W : List ℕ} {v : Items} {b : ℕ} (g : AtToken W v b) → 8 * g .item .a ≤ length W
+slots-below : {W : List ℕ} {v : Items} {b : ℕ} (g : AtToken W v b) → slotStart (g .item .a) ≤ length W
 slots-below g = let z = item-bounds (g .item) in let below = g .item .below in let within = g .item .within in omega arith
 
-pub can-search : {W : List ℕ} {v : Items} {b : ℕ} (c : ℕ) → AtToken W v b → v .write ≢ 0 → shares (wd W (8 * leftOf W v + 7)) c ≡ true → CanSearch W (leftOf W v) c
+pub can-search : {W : List ℕ} {v : Items} {b : ℕ} (c : ℕ) → AtToken W v b → v .write ≢ 0 → shares (classesAt W (leftOf W v)) c ≡ true → CanSearch W (leftOf W v) c
 can-search {v = v} c g has sh = left-tree c (back-last v (g .item .done) (back-full (g .item .done) (omega arith))) (slots-below g) sh
 
-pub left-room : {W : List ℕ} {v : Items} {b : ℕ} → AtToken W v b → v .write ≢ 0 → 8 * leftOf W v + 8 ≤ length W
+pub left-room : {W : List ℕ} {v : Items} {b : ℕ} → AtToken W v b → v .write ≢ 0 → slotEnd (leftOf W v) ≤ length W
 left-room {v = v} g has = left-slot (back-last v (g .item .done) (back-full (g .item .done) (omega arith))) (slots-below g)

@@ -1,6 +1,6 @@
 -- The loop of `first_leaf`. It goes down to children or on to the next sibling; each time a slot of the interval is left behind for good, as an
 -- ancestor or to the left, so that there are at least as many turns as slots (`vacant`).
-use Prim.Native.Nat.{ℕ, zero, suc, _+_, _*_, _-_, _≤_, _<_}
+use Prim.Native.Nat.{ℕ, zero, suc, _+_, _-_, _≤_, _<_}
 use mathlib.Core.Path.{_≡_, refl, sym, ap, _∙_, subst}
 use mathlib.Core.Logic.{_≢_}
 use mathlib.Core.Bool.{Bool, true, false, _&&_, true≢false}
@@ -18,7 +18,7 @@ use Rattle.molang.specs.Free.{free, isNil}
 use Rattle.molang.proofs.Trees.{free-leaf, free-tree}
 use Rattle.molang.proofs.Unfolded.{free-firstLeaf, firstLeaf-free}
 use Rattle.ops.specs.Classes.{shares, meets}
-use Rattle.nodes.specs.Store.{wd, TokenAt, Chain, Out, RepF, ends, more, RepT}
+use Rattle.nodes.specs.Store.{slotStart, slotEnd, firstAt, nextAt, classesAt, TokenAt, Chain, Out, RepF, ends, more, RepT}
 use Rattle.nodes.proofs.Store.{reserve-pos, tree-below, tree-out, rep-le}
 use Rattle.nodes.proofs.Classes.{free-split}
 use Rattle.nodes.proofs.Trees.{leaf-first}
@@ -99,8 +99,8 @@ vacant-part X lo l b m hi i j k e f g h h' o =
 -- ---- what holds at the loop's test
 
 pub data SearchAt (W : List ℕ) (c leaf s fuel : ℕ) : Forest → Type 0 where
-  start : {X : List ℕ} {a m : ℕ} {k : Token} {cs : Forest} → RepT W X s a m k cs → shares (wd W (8 * s + 7)) c ≡ true → 8 * m ≤ length W → length W ≤ fuel → SearchAt W c leaf s fuel (node k cs nil)
-  amid : {X bs : List ℕ} {lo hi : ℕ} {f target : Forest} (n : ℕ) → Chain W s bs → RepF W X bs lo hi f → free (meets c) f ≡ false → 8 * hi ≤ length W → lo + n ≡ hi → vacant X lo n < fuel
+  start : {X : List ℕ} {a m : ℕ} {k : Token} {cs : Forest} → RepT W X s a m k cs → shares (classesAt W s) c ≡ true → slotStart m ≤ length W → length W ≤ fuel → SearchAt W c leaf s fuel (node k cs nil)
+  amid : {X bs : List ℕ} {lo hi : ℕ} {f target : Forest} (n : ℕ) → Chain W s bs → RepF W X bs lo hi f → free (meets c) f ≡ false → slotStart hi ≤ length W → lo + n ≡ hi → vacant X lo n < fuel
       → ((ops : List ℕ) → Covers c (isOneOf ops) → firstLeaf ops target ≡ firstLeaf ops f) → SearchAt W c leaf s fuel target
   found : {t : Token} {target : Forest} → s ≡ 0 → TokenAt W leaf t → ((ops : List ℕ) → Covers c (isOneOf ops) → firstLeaf ops target ≡ some t) → 0 < fuel → SearchAt W c leaf s fuel target
 
@@ -110,13 +110,13 @@ Searching W top c leaf s fuel = (g : CanSearch W top c) → SearchAt W c leaf s 
 pub search-start : (W : List ℕ) (top c : ℕ) → Searching W top c top top (length W)
 search-start W top c g = start (g .tree) (g .some) (g .within) (omega arith)
 
-pub search-in : {W : List ℕ} {c leaf s fuel : ℕ} {target : Forest} → SearchAt W c leaf s fuel target → s ≢ 0 → 8 * s + 8 ≤ length W
+pub search-in : {W : List ℕ} {c leaf s fuel : ℕ} {target : Forest} → SearchAt W c leaf s fuel target → s ≢ 0 → slotEnd s ≤ length W
 unfolding free
 search-in (start t sh room f) n = omega (arith, tree-below t)
 search-in (found e t h f) n = absurd (n e)
 search-in {W} {s = s} (amid {bs = bs} n' ch rep sh room e fuel same) n = go bs ch rep room
   where
-    go : {X : List ℕ} {lo hi : ℕ} {f : Forest} (bs : List ℕ) → Chain W s bs → RepF W X bs lo hi f → 8 * hi ≤ length W → 8 * s + 8 ≤ length W
+    go : {X : List ℕ} {lo hi : ℕ} {f : Forest} (bs : List ℕ) → Chain W s bs → RepF W X bs lo hi f → slotStart hi ≤ length W → slotEnd s ≤ length W
     go [] ch rep room = absurd (n ch)
     go (b ∷ bs) ch (more {t = t} {k = k} a d r z p tk q x y rest) room = omega (arith, ch .0, rep-le rest, r, reserve-pos t k)
 
@@ -145,8 +145,8 @@ both-false false b h e = absurd (true≢false (sym e))
 
 -- ---- a turn of the loop
 
-tree-down : {W X : List ℕ} {c s a m fuel : ℕ} {k : Token} (cs rest : Forest) {target : Forest} (j : ℕ) → RepT W X s a m k cs → shares (wd W (8 * s + 7)) c ≡ true → 8 * m ≤ length W → a + j ≡ m
-    → vacant (s ∷ X) a j < fuel → ((ops : List ℕ) → Covers c (isOneOf ops) → firstLeaf ops target ≡ firstLeaf ops (node k cs rest)) → SearchAt W c s (wd W (8 * s + 5)) fuel target
+tree-down : {W X : List ℕ} {c s a m fuel : ℕ} {k : Token} (cs rest : Forest) {target : Forest} (j : ℕ) → RepT W X s a m k cs → shares (classesAt W s) c ≡ true → slotStart m ≤ length W → a + j ≡ m
+    → vacant (s ∷ X) a j < fuel → ((ops : List ℕ) → Covers c (isOneOf ops) → firstLeaf ops target ≡ firstLeaf ops (node k cs rest)) → SearchAt W c s (firstAt W s) fuel target
 unfolding isNil
 tree-down {c = c} {k = k} nil rest j t sh room e f same =
     found (leaf-first t) (t .token) (λ ops ex. same ops ex ∙ first-own ops k rest (unfree-leaf (isOneOf ops) k (tree-unfree c (isOneOf ops) ex t sh))) (omega arith)
@@ -160,7 +160,7 @@ record At (W X : List ℕ) (s lo n hi : ℕ) (k : Token) (cs rest : Forest) : Ty
   m : ℕ
   bs : List ℕ
   tree : RepT W X s l m k cs
-  next : Chain W (wd W (8 * s + 6)) bs
+  next : Chain W (nextAt W s) bs
   after : RepF W X bs m hi rest
   low : lo ≤ l
   high : m ≤ hi
@@ -186,7 +186,7 @@ at-head {W} {X} {s = s} {lo = lo} {n = n} {hi = hi} ch (more {b = b} {bs = bs} {
       m = m;
       bs = bs;
       tree = here;
-      next = subst (λ (i : ℕ). Chain W (wd W (8 * i + 6)) bs) same (ch .2);
+      next = subst (λ (i : ℕ). Chain W (nextAt W i) bs) same (ch .2);
       after = rest;
       low = a;
       high = le;
@@ -194,7 +194,7 @@ at-head {W} {X} {s = s} {lo = lo} {n = n} {hi = hi} ch (more {b = b} {bs = bs} {
       on = rw w at (v .1);
     })
 
-pub search-down : {W : List ℕ} {c leaf s fuel : ℕ} {target : Forest} → SearchAt W c leaf s fuel target → s ≢ 0 → shares (wd W (8 * s + 7)) c ≡ true → SearchAt W c s (wd W (8 * s + 5)) (fuel - 1) target
+pub search-down : {W : List ℕ} {c leaf s fuel : ℕ} {target : Forest} → SearchAt W c leaf s fuel target → s ≢ 0 → shares (classesAt W s) c ≡ true → SearchAt W c s (firstAt W s) (fuel - 1) target
 search-down {W} {s = s} {fuel = fuel} (start {X = X} {a = a} {m = m} {cs = cs} t sh room f) n h =
     let below = tree-below t in let low = t .low in
     let j : a + (m - a) ≡ m = omega arith in
@@ -203,19 +203,19 @@ search-down {W} {s = s} {fuel = fuel} (start {X = X} {a = a} {m = m} {cs = cs} t
 search-down (found e t g f) n h = absurd (n e)
 search-down {W} {c} {s = s} {fuel = fuel} {target = target} (amid {X = X} {lo = lo} {hi = hi} size ch rep sh room e f same) n h = go (at-head ch rep n e) same
   where
-    go : {f : Forest} → AtHead W X s lo size hi f → ((ops : List ℕ) → Covers c (isOneOf ops) → firstLeaf ops target ≡ firstLeaf ops f) → SearchAt W c s (wd W (8 * s + 5)) (fuel - 1) target
+    go : {f : Forest} → AtHead W X s lo size hi f → ((ops : List ℕ) → Covers c (isOneOf ops) → firstLeaf ops target ≡ firstLeaf ops f) → SearchAt W c s (firstAt W s) (fuel - 1) target
     go (head {cs = cs} {rest = rest} x) same =
         let below = tree-below (x .tree) in let low = x .tree .low in let high = x .high in let down = x .down in
-        let r : 8 * x .m ≤ length W = omega arith in let j : x .l + (x .m - x .l) ≡ x .m = omega arith in
+        let r : slotStart (x .m) ≤ length W = omega arith in let j : x .l + (x .m - x .l) ≡ x .m = omega arith in
         let v : vacant (s ∷ X) (x .l) (x .m - x .l) < fuel - 1 = omega arith in
         tree-down cs rest (x .m - x .l) (x .tree) h r j v same
 
-pub search-next : {W : List ℕ} {c leaf s fuel : ℕ} {target : Forest} → SearchAt W c leaf s fuel target → s ≢ 0 → shares (wd W (8 * s + 7)) c ≡ false → SearchAt W c leaf (wd W (8 * s + 6)) (fuel - 1) target
+pub search-next : {W : List ℕ} {c leaf s fuel : ℕ} {target : Forest} → SearchAt W c leaf s fuel target → s ≢ 0 → shares (classesAt W s) c ≡ false → SearchAt W c leaf (nextAt W s) (fuel - 1) target
 search-next (start t sh room f) n h = absurd (true≢false (sym sh ∙ h))
 search-next (found e t g f) n h = absurd (n e)
 search-next {W} {c} {leaf} {s} {fuel} {target} (amid {X = X} {lo = lo} {hi = hi} size ch rep sh room e f same) n h = go (at-head ch rep n e) sh same
   where
-    go : {f : Forest} → AtHead W X s lo size hi f → free (meets c) f ≡ false → ((ops : List ℕ) → Covers c (isOneOf ops) → firstLeaf ops target ≡ firstLeaf ops f) → SearchAt W c leaf (wd W (8 * s + 6)) (fuel - 1) target
+    go : {f : Forest} → AtHead W X s lo size hi f → free (meets c) f ≡ false → ((ops : List ℕ) → Covers c (isOneOf ops) → firstLeaf ops target ≡ firstLeaf ops f) → SearchAt W c leaf (nextAt W s) (fuel - 1) target
     go (head {k = k} {cs = cs} {rest = rest} x) sh same =
         let high = x .high in let on = x .on in
         let j : x .m + (hi - x .m) ≡ hi = omega arith in

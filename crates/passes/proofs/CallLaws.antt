@@ -1,5 +1,5 @@
 -- Calls and math calls: a call takes the section right after it, and is entered where tokens of the pass are below.
-use Prim.Native.Nat.{ℕ, _+_, _*_, _^_, _≤_, _<_}
+use Prim.Native.Nat.{ℕ, _+_, _^_, _≤_, _<_}
 use mathlib.Core.Path.{_≡_, refl, sym, ap, _∙_, subst}
 use mathlib.Core.Logic.{_≢_}
 use mathlib.Core.Bool.{Bool, true, false, true≢false}
@@ -19,7 +19,7 @@ use Rattle.molang.specs.Work.{Kind, calls, State, work, begins, inReading, take
 use Rattle.molang.proofs.Calls.{call-inert, call-free}
 use Rattle.molang.proofs.Walks.{onward, walk-onward}
 use Rattle.ops.specs.Classes.{shares}
-use Rattle.nodes.specs.Store.{wd, RepT}
+use Rattle.nodes.specs.Store.{wd, slotStart, slotEnd, classesAt, RepT}
 use Rattle.nodes.specs.Children.{Attached}
 use Rattle.nodes.specs.Slots.{opAt, isLeafAt}
 use Rattle.nodes.specs.declared.frames.List.{List as Items}
@@ -76,7 +76,7 @@ math-level = call-level math MathCalls mathCall (λ v h. h) (λ v h. h) refl
 module _ {T : Saying} (W : List ℕ) (v : Items) where
   open-side : (kind : CallKind) (pass : Pass) → LeftLevel (calls kind) pass (isCall kind) gathered unasked → T (calls kind) gathered (isCall kind) unasked
       → {X : List ℕ} {lo l m hi : ℕ} {s : Gathered} {rest : Forest} → GatherSide W X (v .base) (v .write) lo l s → Ahead W X (v .base) (v .read) (v .len) m hi rest
-      → l ≤ m → v .write ≤ v .read → 8 * hi ≤ v .base → v .base + v .len ≤ length W → length W < 2 ^ 32 → Stands T W v pass (calls kind) X lo hi s rest
+      → l ≤ m → v .write ≤ v .read → slotStart hi ≤ v .base → v .base + v .len ≤ length W → length W < 2 ^ 32 → Stands T W v pass (calls kind) X lo hi s rest
   open-side kind pass level t (all done) ahead mid behind below within small = stands level t refl done ahead mid behind below within small
 
   pub query-stands : T (calls queryOrLoop) gathered (isCall queryOrLoop) unasked → Standing T W v Calls
@@ -221,7 +221,7 @@ put-within {W1 = W1} {W' = W'} s (attached i x) = within-then refl refl x (kept-
 
 module _ {kind : CallKind} {pass : Pass} (L : LeftLevel (calls kind) pass (isCall kind) gathered unasked) {W W' : List ℕ} {v : Items} {b c : ℕ} (e : wd W (v .base + v .read) ≡ c) (n : v .read < v .len) where
   section-entered : {X : List ℕ} {lo hi : ℕ} {d : Forest} {k t : Token} {ts rest : Forest} → isCall kind (k .op) ≡ true → t .op ≡ leftParenthesis
-      → shares (wd W' (8 * b + 7)) (classesOf pass) ≡ true → Attaching W W' X v b lo hi d k (node t ts rest)
+      → shares (classesAt W' b) (classesOf pass) ≡ true → Attaching W W' X v b lo hi d k (node t ts rest)
       → TurnTo (calls kind) W' X lo hi (walkOf v pass) (gathered d) (node k nil (node t ts rest)) (Enter (walkOf (movedTo v (v .read + 1) (v .write)) pass) b)
   unfolding count size waits isNil begins callLevel nothing
   section-entered {d = d} {k = k} {t = t} {ts = ts} {rest = rest} p o h (attached i x) =
@@ -231,7 +231,7 @@ module _ {kind : CallKind} {pass : Pass} (L : LeftLevel (calls kind) pass (isCal
 
   section-done : {W1 X : List ℕ} {lo hi : ℕ} {d : Forest} {k t : Token} {ts rest : Forest}
       → (free (isCall kind) (node t ts nil) ≡ true → work (calls kind) (gathered d) (node k nil (node t ts rest)) ≡ work (calls kind) (gathered (node k (node t ts nil) d)) rest)
-      → shares (wd W1 (8 * b + 7)) (classesOf pass) ≡ false → W' ≡ set W1 (v .base + v .write) b → Attaching W W1 X v b lo hi d k (node t ts rest)
+      → shares (classesAt W1 b) (classesOf pass) ≡ false → W' ≡ set W1 (v .base + v .write) b → Attaching W W1 X v b lo hi d k (node t ts rest)
       → TurnTo (calls kind) W' X lo hi (walkOf v pass) (gathered d) (node k nil (node t ts rest)) (On (walkOf (movedTo v (v .read + 1) (v .write + 1)) pass))
   unfolding count size waits isNil
   section-done {d = d} {k = k} {t = t} {ts = ts} {rest = rest} law h s (attached i x) =
@@ -348,10 +348,10 @@ module _ {W : List ℕ} {v : Items} {b : ℕ} (c : ℕ) (e : c ≡ nextIf W v le
 
 -- ---- the paths of `called`
 
-pub can-attach : {W : List ℕ} {v : Items} {b c : ℕ} → CanCall W v b c → (8 * b + 8 ≤ length W) × (8 * c + 8 ≤ length W)
+pub can-attach : {W : List ℕ} {v : Items} {b c : ℕ} → CanCall W v b c → (slotEnd b ≤ length W) × (slotEnd c ≤ length W)
 can-attach {W} {v} g =
     let left = g .left in
-    (token-room (g .token) .0, subst (λ (x : ℕ). 8 * x + 8 ≤ length W) (g .next) (next-room (g .token) (omega arith) .1))
+    (token-room (g .token) .0, subst (λ (x : ℕ). slotEnd x ≤ length W) (g .next) (next-room (g .token) (omega arith) .1))
 
 pub can-next : {W : List ℕ} {v : Items} {b : ℕ} → AtToken W v b → CanPeek W v
 can-next {v = v} g = can-peek v (g .item .ahead) (g .item .below) (g .item .within)
@@ -360,10 +360,10 @@ pub shares-as : {x y z u : ℕ} {b t : Bool} → b ≡ shares x y → x ≡ z �
 shares-as e f g h = cc
 
 module _ {W W' : List ℕ} {v : Items} {b c : ℕ} {pass : Pass} {r : Turn} where
-  pub called-opens : (l : Items) → Attached W b c W' → shares (wd W' (8 * b + 7)) (classesOf pass) ≡ true → l ≡ movedTo v (v .read + 1) (v .write) → r ≡ Enter (walkOf l pass) b
+  pub called-opens : (l : Items) → Attached W b c W' → shares (classesAt W' b) (classesOf pass) ≡ true → l ≡ movedTo v (v .read + 1) (v .write) → r ≡ Enter (walkOf l pass) b
       → Called W v b c pass r W'
   called-opens l a h el er = opens a h (er ∙ ap (λ (x : Items). Enter (walkOf x pass) b) el)
 
-  pub called-stays : {W1 : List ℕ} (l l' : Items) → Attached W b c W1 → shares (wd W1 (8 * b + 7)) (classesOf pass) ≡ false → l ≡ movedTo v (v .read + 1) (v .write)
+  pub called-stays : {W1 : List ℕ} (l l' : Items) → Attached W b c W1 → shares (classesAt W1 b) (classesOf pass) ≡ false → l ≡ movedTo v (v .read + 1) (v .write)
       → W' ≡ set W1 (l .base + l .write) b → l' ≡ movedTo l (l .read) (l .write + 1) → r ≡ On (walkOf l' pass) → Called W v b c pass r W'
   called-stays l l' a h el s el' er = stays a h (rw el at s) (rw (er, el', el) refl)

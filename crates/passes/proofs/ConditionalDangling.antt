@@ -1,5 +1,5 @@
 -- The loop of `dangling`: the first `?` or `:` that nothing is under.
-use Prim.Native.Nat.{ℕ, _+_, _*_, _^_, _≤_, _<_}
+use Prim.Native.Nat.{ℕ, _+_, _^_, _≤_, _<_}
 use mathlib.Core.Path.{_≡_, refl, sym, ap, _∙_}
 use mathlib.Core.Bool.{true, false, or-true}
 use mathlib.Core.List.{List}
@@ -9,7 +9,7 @@ use lib.ListN.{length}
 use Rattle.molang.specs.Operator
 use Rattle.molang.specs.Forest.{Token, Forest, node}
 use Rattle.molang.specs.Conditional.{isToken, dangling}
-use Rattle.nodes.specs.Store.{wd}
+use Rattle.nodes.specs.Store.{wd, slotEnd}
 use Rattle.nodes.specs.Slots.{isTokenAt}
 use Rattle.nodes.proofs.Store.{tree-below}
 use Rattle.nodes.proofs.Trees.{token-test}
@@ -44,10 +44,10 @@ pub dangle-start : {W : List ℕ} {base from len : ℕ} → Dangling W base from
 dangle-start = record { at = λ g. record { lo = g .lo; rest = g .f; items = g .items; same = refl } }
 
 module _ {W : List ℕ} {base from len : ℕ} {g : CanDangle W base from len} {i : ℕ} (s : DangleAt W base from len g i) (h : i < len) where
-  dangle-slot : 8 * wd W (base + i) + 8 ≤ base
+  dangle-slot : slotEnd (wd W (base + i)) ≤ base
   dangle-slot = go (ahead-item (wd W (base + i)) refl h (s .items))
     where
-      go : {f : Forest} → AheadTo W (g .X) base i len (s .lo) (g .hi) (wd W (base + i)) f → 8 * wd W (base + i) + 8 ≤ base
+      go : {f : Forest} → AheadTo W (g .X) base i len (s .lo) (g .hi) (wd W (base + i)) f → slotEnd (wd W (base + i)) ≤ base
       go (item low t r) = omega (arith, tree-below t, ahead-le r .0, g .below)
 
   dangle-more : isTokenAt W (wd W (base + i)) Operator.conditional ≡ false → isTokenAt W (wd W (base + i)) Operator.conditionalElse ≡ false → DangleAt W base from len g (i + 1)
@@ -81,7 +81,7 @@ unfolding dangling
 dangle-none s h = rw (s .same ∙ ap dangling (ahead-end (s .rest) h (s .items))) nowhere
 
 module _ {W : List ℕ} {base from len i : ℕ} (s : Dangling W base from len i) where
-  pub dangle-in : CanDangle W base from len → i < len → (base + i < length W) × (8 * wd W (base + i) + 8 ≤ length W) × (length W < 2 ^ 32)
+  pub dangle-in : CanDangle W base from len → i < len → (base + i < length W) × (slotEnd (wd W (base + i)) ≤ length W) × (length W < 2 ^ 32)
   dangle-in g h =
       let slot = dangle-slot (s .at g) h in
       let within = g .within in

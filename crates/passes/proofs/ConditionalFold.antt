@@ -1,5 +1,5 @@
 -- The conditional's fold: one step of the scan as an equation, and what a fold of two trees under an operator between them does to the words.
-use Prim.Native.Nat.{ℕ, _+_, _*_, _-_, _≤_, _<_}
+use Prim.Native.Nat.{ℕ, _+_, _-_, _≤_, _<_}
 use mathlib.Core.Path.{_≡_, refl, _∙_, subst}
 use mathlib.Core.Logic.{_≢_, inl, inr}
 use mathlib.Core.Bool.{true, false}
@@ -12,7 +12,7 @@ use Rattle.molang.specs.Operator
 use Rattle.molang.specs.Forest.{Token, Forest, nil, node}
 use Rattle.molang.specs.Conditional.{isToken, startsWith, under, pairElse, scan}
 use Rattle.molang.proofs.Conditional.{scanned, scan-once}
-use Rattle.nodes.specs.Store.{wd, TokenAt, Out, RepT, Free}
+use Rattle.nodes.specs.Store.{wd, slotWords, slotStart, firstWord, nextWord, classesWord, TokenAt, Out, RepT, Free}
 use Rattle.nodes.proofs.Runs.{set-same, set-other, set-long}
 use Rattle.nodes.proofs.Store.{tree-below, tree-out, tree-keep, tree-widen}
 use Rattle.nodes.proofs.Trees.{tree-under, attach-two-trees, attach-two-kept}
@@ -63,7 +63,7 @@ module _ (a : Token) (aa : Forest) (b : Token) (bs left right : Forest) where
 
 module _ {W W' X : List ℕ} {q b c at l m l' m' : ℕ} {t u : Token} {k j : Forest} (w : Grouped W q b c at W') (v : RepT W X b l m t k) (x : RepT W X c l' m' u j)
     (before : m ≤ q) (after : q < l') (out : Out q X) where
-  group-tree : {o : Token} → TokenAt W q o → 0 < q → 8 * m' ≤ at → RepT W' X q l m' o (node t k (node u j nil))
+  group-tree : {o : Token} → TokenAt W q o → 0 < q → slotStart m' ≤ at → RepT W' X q l m' o (node t k (node u j nil))
   group-tree {o} token pos above =
       let vl = v .low in
       let vh = tree-below v in
@@ -71,7 +71,7 @@ module _ {W W' X : List ℕ} {q b c at l m l' m' : ℕ} {t u : Token} {k j : For
       let xh = tree-below x in
       let both : RepT (w .Z) X q l m' o (node t k (node u j nil))
       = attach-two-trees (w .attached) (tree-under q (inr before) v) (tree-under q (inl after) x) (omega arith) token pos out (omega arith) (omega arith) (le-refl l) (le-refl m') in
-      tree-keep (w .Z) W' (λ s i y z e p n. set-other (w .Z) W' at q (w .stored) (8 * s + i) (omega arith)) both
+      tree-keep (w .Z) W' (λ s i y z e p n. set-other (w .Z) W' at q (w .stored) (slotStart s + i) (omega arith)) both
 
   pub group-kept : {lo hi : ℕ} → lo ≤ l → m' ≤ hi → (i : ℕ) → Free X lo hi i → i ≢ at → wd W' i ≡ wd W i
   group-kept low high i f n =
@@ -82,7 +82,7 @@ module _ {W W' X : List ℕ} {q b c at l m l' m' : ℕ} {t u : Token} {k j : For
       set-other (w .Z) W' at q (w .stored) i n
       ∙ attach-two-kept (w .attached) (tree-under q (inr before) v) (tree-under q (inl after) x) (omega arith) out (omega arith) (omega arith) low high i f
 
-group-same : {W W' : List ℕ} {q b c at : ℕ} → Grouped W q b c at W' → (i : ℕ) → i ≢ at → i ≢ 8 * q + 5 → i ≢ 8 * b + 6 → i ≢ 8 * c + 6 → i ≢ 8 * q + 7 → wd W' i ≡ wd W i
+group-same : {W W' : List ℕ} {q b c at : ℕ} → Grouped W q b c at W' → (i : ℕ) → i ≢ at → i ≢ firstWord q → i ≢ nextWord b → i ≢ nextWord c → i ≢ classesWord q → wd W' i ≡ wd W i
 group-same {W' = W'} {q = q} {at = at} w i n e f g h = set-other (w .Z) W' at q (w .stored) i n ∙ w .attached .same i e f g h
 
 pub group-long : {W W' : List ℕ} {q b c at : ℕ} → Grouped W q b c at W' → length W' ≡ length W
@@ -135,8 +135,8 @@ module _ {W W' X : List ℕ} {lo l m hi base len left right : ℕ} (w : FoldedLa
       let sh = tree-below t in
       let long = group-long w in
       let taken = group-tree w tb t (omega arith) (omega arith) (tree-out ta) (ta .token) (ta .pos) (omega arith) in
-      let slots : (u o : ℕ) → u < hi → o < 8 → u ≢ q → u ≢ p → u ≢ s → wd W' (8 * u + o) ≡ wd W (8 * u + o)
-      = λ u o k1 k2 k3 k4 k5. group-same w (8 * u + o) (omega arith) (omega arith) (omega arith) (omega arith) (omega arith) in
+      let slots : (u o : ℕ) → u < hi → o < slotWords → u ≢ q → u ≢ p → u ≢ s → wd W' (slotStart u + o) ≡ wd W (slotStart u + o)
+      = λ u o k1 k2 k3 k4 k5. group-same w (slotStart u + o) (omega arith) (omega arith) (omega arith) (omega arith) (omega arith) in
       let words : (j : ℕ) → base ≤ j → j ≢ at → wd W' j ≡ wd W j
       = λ j k1 k2. group-same w j k2 (omega arith) (omega arith) (omega arith) (omega arith) in
       folded
@@ -179,11 +179,11 @@ keep-last {W} {W'} {X} {lo} {l} {m} {hi} {base} {len} {left} {right} {R} list z 
         let low = t .low in
         let high = tree-below t in
         let next : right ≡ right - 1 + 1 = omega arith in
-        let t' : RepT W' X b a m p ps = tree-widen (le-refl a) (omega arith) (tree-keep W W' (λ x o y u q n k. other (8 * x + o) (omega arith)) t) in
-        let done : Ahead W' X base right len m hi R = ahead-keep W W' (λ x o y u q n. other (8 * x + o) (omega arith)) (λ j y u. other j (omega arith)) (list .done) in
+        let t' : RepT W' X b a m p ps = tree-widen (le-refl a) (omega arith) (tree-keep W W' (λ x o y u q n k. other (slotStart x + o) (omega arith)) t) in
+        let done : Ahead W' X base right len m hi R = ahead-keep W W' (λ x o y u q n. other (slotStart x + o) (omega arith)) (λ j y u. other j (omega arith)) (list .done) in
         kept
         (record {
-          unread = back-array-keep W W' (λ x o y u q n. other (8 * x + o) (omega arith)) (λ j y u. other j (omega arith)) r;
+          unread = back-array-keep W W' (λ x o y u q n. other (slotStart x + o) (omega arith)) (λ j y u. other j (omega arith)) r;
           done = ahead-cons (le-refl a) t' (set-same W W' at b ew (omega arith)) (subst (λ (i : ℕ). Ahead W' X base i len m hi R) next done);
           mid = le-refl a;
           below = below;
@@ -223,8 +223,8 @@ pair-else {W} {W'} {X} {lo} {l} {m} {hi} {base} {len} {left} {right} {L = L} lis
         let sh = tree-below tx in
         let long = group-long w in
         let taken = group-tree w tf tx (omega arith) (omega arith) (tree-out tc) (tc .token) (tc .pos) (omega arith) in
-        let slots : (u o : ℕ) → u < hi → o < 8 → u ≢ q → u ≢ p → u ≢ s → wd W' (8 * u + o) ≡ wd W (8 * u + o)
-        = λ u o k1 k2 k3 k4 k5. group-same w (8 * u + o) (omega arith) (omega arith) (omega arith) (omega arith) (omega arith) in
+        let slots : (u o : ℕ) → u < hi → o < slotWords → u ≢ q → u ≢ p → u ≢ s → wd W' (slotStart u + o) ≡ wd W (slotStart u + o)
+        = λ u o k1 k2 k3 k4 k5. group-same w (slotStart u + o) (omega arith) (omega arith) (omega arith) (omega arith) (omega arith) in
         let words : (j : ℕ) → base ≤ j → j ≢ at → wd W' j ≡ wd W j
         = λ j k1 k2. group-same w j k2 (omega arith) (omega arith) (omega arith) (omega arith) in
         paired

@@ -1,6 +1,6 @@
 -- The conditional pass before its fold: an item goes to the gathered ones as it is, or is entered; a list without a `?` and a `:` is left as it is. The
 -- loop of `step`.
-use Prim.Native.Nat.{ℕ, suc, _+_, _*_, _-_, _^_, _≤_, _<_}
+use Prim.Native.Nat.{ℕ, suc, _+_, _-_, _^_, _≤_, _<_}
 use mathlib.Core.Path.{_≡_, refl, sym, ap, _∙_, subst}
 use mathlib.Core.Bool.{Bool, true, false, true≢false}
 use mathlib.Core.List.{List}
@@ -16,7 +16,7 @@ use Rattle.molang.specs.Work.{Kind, State, conditional, work, begins, inReading
 use Rattle.molang.proofs.Trees.{free-leaf, decided, leaf-clear}
 use Rattle.molang.proofs.Conditional.{conditional-inert}
 use Rattle.ops.specs.Classes.{shares}
-use Rattle.nodes.specs.Store.{wd, RepT}
+use Rattle.nodes.specs.Store.{wd, slotStart, slotEnd, classesAt, RepT}
 use Rattle.nodes.specs.Slots.{isLeafAt}
 use Rattle.nodes.specs.declared.frames.List.{List as Items}
 use Rattle.nodes.proofs.Store.{tree-below, back-le, back-count}
@@ -87,7 +87,7 @@ pub record LeftList (W X : List ℕ) (lo l m hi : ℕ) (v : Items) (tokens : ℕ
   pub done : BackArray W X (v .base) (v .write) lo l d
   pub unread : Ahead W X (v .base) (v .read) (v .len) m hi rest
   pub mid : l ≤ m
-  pub below : 8 * hi ≤ v .base
+  pub below : slotStart hi ≤ v .base
   pub within : v .base + v .len ≤ length W
   pub small : length W < 2 ^ 32
 
@@ -196,10 +196,10 @@ enter-item {W} {v} {tokens} {g} {read} {seen} {a} {m} {b} s k (node x xs y) rest
     t refl (afresh refl (omega arith)) (e ∙ walk-node conditionalLevel isConditional conditional-inert (s .d) k x xs y rest) (omega arith) (omega arith) (omega arith) (omega arith)
 
 module _ {W : List ℕ} {v : Items} {tokens : ℕ} {g : CanGather W v tokens} {read seen : ℕ} (s : GatherAt W v tokens g read seen) (h : read < v .len) where
-  gather-slot : 8 * wd W (v .base + read) + 8 ≤ v .base
+  gather-slot : slotEnd (wd W (v .base + read)) ≤ v .base
   gather-slot = go (ahead-item (wd W (v .base + read)) refl h (s .list .unread))
     where
-      go : {f : Forest} → AheadTo W (g .X) (v .base) read (v .len) (s .m) (g .hi) (wd W (v .base + read)) f → 8 * wd W (v .base + read) + 8 ≤ v .base
+      go : {f : Forest} → AheadTo W (g .X) (v .base) read (v .len) (s .m) (g .hi) (wd W (v .base + read)) f → slotEnd (wd W (v .base + read)) ≤ v .base
       go (item low t r) = omega (arith, tree-below t, ahead-le r .0, s .list .below)
 
   -- an item that is gathered as it is
@@ -229,7 +229,7 @@ module _ {W : List ℕ} {v : Items} {tokens : ℕ} {g : CanGather W v tokens} {r
         smaller = omega arith;
       }
 
-  gather-free : shares (wd W (8 * wd W (v .base + read) + 7)) 0x1_0000 ≡ false → GatherAt W v tokens g (read + 1) seen
+  gather-free : shares (classesAt W (wd W (v .base + read))) 0x1_0000 ≡ false → GatherAt W v tokens g (read + 1) seen
   gather-free f = go (s .same) (s .fewer) (s .smaller) (ahead-item (wd W (v .base + read)) refl h (s .list .unread))
     where
       go : {rest : Forest} → walk conditionalLevel (g .d) (g .rest) ≡ walk conditionalLevel (s .d) rest → count rest ≤ count (g .rest)
@@ -239,7 +239,7 @@ module _ {W : List ℕ} {v : Items} {tokens : ℕ} {g : CanGather W v tokens} {r
           let none = tree-free 0x1_0000 isConditional conditionals-covers t f in
           gather-item k cs rest seen low t r e c z (walk-over conditionalLevel isConditional conditional-inert (s .d) k cs rest none) (s .list .counted ∙ sym (tokens-free k cs (s .d) none))
 
-  gather-token : shares (wd W (8 * wd W (v .base + read) + 7)) 0x1_0000 ≡ true → isLeafAt W (wd W (v .base + read)) ≡ true → GatherAt W v tokens g (read + 1) (seen + 1)
+  gather-token : shares (classesAt W (wd W (v .base + read))) 0x1_0000 ≡ true → isLeafAt W (wd W (v .base + read)) ≡ true → GatherAt W v tokens g (read + 1) (seen + 1)
   unfolding isNil
   gather-token f leafy = go (s .same) (s .fewer) (s .smaller) (ahead-item (wd W (v .base + read)) refl h (s .list .unread))
     where
@@ -278,17 +278,17 @@ gather-over {W} {v} {tokens} {g} {read} {seen} s h =
     (s .same ∙ ap (λ (f : Forest). walk conditionalLevel (s .d) f) over)
 
 module _ {W : List ℕ} {v : Items} {tokens read seen : ℕ} (s : Gathering W v tokens read seen) where
-  pub gather-in : CanGather W v tokens → read < v .len → (v .base + read < length W) × (8 * wd W (v .base + read) + 8 ≤ length W) × (length W < 2 ^ 32)
+  pub gather-in : CanGather W v tokens → read < v .len → (v .base + read < length W) × (slotEnd (wd W (v .base + read)) ≤ length W) × (length W < 2 ^ 32)
   gather-in g h =
       let slot = gather-slot (s .at g) h in
       let within = g .list .within in
       let small = g .list .small in
       (omega arith, omega arith, small)
 
-  pub gather-passes : read < v .len → shares (wd W (8 * wd W (v .base + read) + 7)) 0x1_0000 ≡ false → Gathering W v tokens (read + 1) seen
+  pub gather-passes : read < v .len → shares (classesAt W (wd W (v .base + read))) 0x1_0000 ≡ false → Gathering W v tokens (read + 1) seen
   gather-passes h f = let few = s .few in record { at = λ g. gather-free (s .at g) h f; few = omega arith; within = omega arith }
 
-  pub gather-counts : read < v .len → shares (wd W (8 * wd W (v .base + read) + 7)) 0x1_0000 ≡ true → isLeafAt W (wd W (v .base + read)) ≡ true → Gathering W v tokens (read + 1) (seen + 1)
+  pub gather-counts : read < v .len → shares (classesAt W (wd W (v .base + read))) 0x1_0000 ≡ true → isLeafAt W (wd W (v .base + read)) ≡ true → Gathering W v tokens (read + 1) (seen + 1)
   gather-counts h f leafy = let few = s .few in record { at = λ g. gather-token (s .at g) h f leafy; few = omega arith; within = omega arith }
 
 -- ---- what `step` ensures

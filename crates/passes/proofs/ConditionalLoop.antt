@@ -1,6 +1,6 @@
 -- The loop of `fold_conditionals`: how the scan begins, that each step keeps what it leads to, and where it ends. Leans on ConditionalFold for an item that
 -- stays as it is, and on UnaryRight for the unread items.
-use Prim.Native.Nat.{ℕ, _+_, _*_, _-_, _^_, _≤_, _<_}
+use Prim.Native.Nat.{ℕ, _+_, _-_, _^_, _≤_, _<_}
 use mathlib.Core.Path.{_≡_, refl, sym, ap, _∙_, subst}
 use mathlib.Core.Logic.{⊎-elim}
 use mathlib.Core.List.{List, []}
@@ -9,7 +9,7 @@ use native.Mathlib.Nat.{le-refl}
 use lib.ListN.{length, set}
 use Rattle.molang.specs.Forest.{Token, Forest, nil, node, turnedOnto, inOrder, count}
 use Rattle.molang.specs.Conditional.{scan, foldedFrom}
-use Rattle.nodes.specs.Store.{wd, RepT, ends, Kept}
+use Rattle.nodes.specs.Store.{wd, slotStart, RepT, ends, Kept}
 use Rattle.nodes.proofs.Runs.{set-other, set-long}
 use Rattle.nodes.proofs.Store.{rep-lower, back-le, back-count}
 use Rattle.nodes.proofs.Trees.{gathered-array}
@@ -25,7 +25,7 @@ use Rattle.passes.proofs.ConditionalFold.{LastTwo, two, last-two, KeptT
 data BeganWith (W X : List ℕ) (lo hi base len : ℕ) : Forest → Type 0 where
   began : {d L R : Forest} {e : ℕ} → RightList W X lo e e hi (scanAt base len (len - 1) (len - 1)) R L → foldedFrom d ≡ scan L R → BeganWith W X lo hi base len d
 
-scan-begins : {W X : List ℕ} {lo hi base len : ℕ} {d : Forest} → BackArray W X base len lo hi d → 3 ≤ len → 8 * hi ≤ base → base + len ≤ length W → length W < 2 ^ 32
+scan-begins : {W X : List ℕ} {lo hi base len : ℕ} {d : Forest} → BackArray W X base len lo hi d → 3 ≤ len → slotStart hi ≤ base → base + len ≤ length W → length W < 2 ^ 32
     → BeganWith W X lo hi base len d
 unfolding foldedFrom
 scan-begins {W} {X} {lo} {hi} {base} {len} v h below within small = go (unread-last v (omega arith))

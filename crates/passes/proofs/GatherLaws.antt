@@ -1,6 +1,6 @@
 -- The levels that go from the left and hold the trees so far as they are: calls, the binary levels, `return`. A turn passes over trees without a
 -- token of the level, which changes nothing of the level's result; then it ends, enters a node, or comes to a token, whose turn is the level's own.
-use Prim.Native.Nat.{ℕ, _+_, _*_, _^_, _≤_, _<_}
+use Prim.Native.Nat.{ℕ, _+_, _^_, _≤_, _<_}
 use mathlib.Core.Path.{_≡_, refl, sym, ap, _∙_, subst}
 use mathlib.Core.Logic.{_≢_, inl, inr, ⊎-elim}
 use mathlib.Core.Bool.{Bool, true, false}
@@ -15,7 +15,7 @@ use Rattle.molang.specs.Free.{free, isNil}
 use Rattle.molang.specs.Work.{Kind, State, work, begins, inReading, takes, andThen}
 use Rattle.molang.proofs.Trees.{count-size, free-leaf, free-tree}
 use Rattle.molang.proofs.Inert.{Inert, through-free}
-use Rattle.nodes.specs.Store.{wd, RepT}
+use Rattle.nodes.specs.Store.{wd, slotStart, slotEnd, RepT}
 use Rattle.nodes.specs.Children.{Attached}
 use Rattle.nodes.specs.declared.frames.List.{List as Items}
 use Rattle.nodes.proofs.Runs.{set-same, set-other, set-long}
@@ -68,7 +68,7 @@ passed-count (over {cs = cs} h p) = let e = passed-count p in (omega arith, omeg
 pub record LeftLevel (κ : Kind) (pass : Pass) (P : ℕ → Bool) (idle : Forest → State κ) (good : Forest → Bool) : Type 0 where
   pub covers : Covers (classesOf pass) P
   pub sides : {W X : List ℕ} {lo l m hi : ℕ} {v : Items} {d rest : Forest} → good d ≡ true → BackArray W X (v .base) (v .write) lo l d
-      → Ahead W X (v .base) (v .read) (v .len) m hi rest → lo ≤ l → l ≤ m → m ≤ hi → 8 * hi ≤ v .base → v .base + v .len ≤ length W
+      → Ahead W X (v .base) (v .read) (v .len) m hi rest → lo ≤ l → l ≤ m → m ≤ hi → slotStart hi ≤ v .base → v .base + v .len ≤ length W
       → Sides κ W X lo l m hi (walkOf v pass) (idle d) rest
   pub turning : (v : Items) → v .write ≤ v .read → AtTurn v pass
   pub framed : (v : Items) → v .write < v .read → InFrame v pass
@@ -118,14 +118,14 @@ module _ (W W' : List ℕ) {X : List ℕ} {v : Items} {b lo hi : ℕ} {d : Fores
   kept-done =
       let n = item-bounds i in let below = i .below in let behind = i .behind in let within = i .within in
       let other = set-other W W' (v .base + v .write) b e in
-      array-put W W' (i .done) (i .tree) (le-refl (i .a)) (le-refl (i .m)) (λ s o x y z u. other (8 * s + o) (omega arith)) (λ j x y. other j (omega arith))
+      array-put W W' (i .done) (i .tree) (le-refl (i .a)) (le-refl (i .m)) (λ s o x y z u. other (slotStart s + o) (omega arith)) (λ j x y. other j (omega arith))
       (set-same W W' (v .base + v .write) b e (omega arith))
 
   pub kept-ahead : Ahead W' X (v .base) (v .read) (v .len) (i .m) hi rest
   kept-ahead =
       let below = i .below in let behind = i .behind in
       let other = set-other W W' (v .base + v .write) b e in
-      ahead-keep W W' (λ s o x y z u. other (8 * s + o) (omega arith)) (λ j x y. other j (omega arith)) (i .ahead)
+      ahead-keep W W' (λ s o x y z u. other (slotStart s + o) (omega arith)) (λ j x y. other j (omega arith)) (i .ahead)
 
   pub kept-within : Within W W' X lo hi v
   kept-within =
@@ -151,9 +151,9 @@ item-attached {W} {W'} {X} {v} {b} {lo} {hi} {c} {d} {k} i e h w = go (ahead-ite
         (record {
           a = i .a;
           m = m;
-          done = back-array-keep W W' (λ s o x y z u. w .same (8 * s + o) (omega arith) (omega arith) (omega arith)) (λ j x y. w .same j (omega arith) (omega arith) (omega arith)) (i .done);
+          done = back-array-keep W W' (λ s o x y z u. w .same (slotStart s + o) (omega arith) (omega arith) (omega arith)) (λ j x y. w .same j (omega arith) (omega arith) (omega arith)) (i .done);
           tree = attach-tree w child (i .tree .token) (i .tree .pos) own (i .tree .low) (omega arith) up (le-refl m);
-          ahead = ahead-keep W W' (λ s o x y z u. w .same (8 * s + o) (omega arith) (omega arith) (omega arith)) (λ j x y. w .same j (omega arith) (omega arith) (omega arith)) r;
+          ahead = ahead-keep W W' (λ s o x y z u. w .same (slotStart s + o) (omega arith) (omega arith) (omega arith)) (λ j x y. w .same j (omega arith) (omega arith) (omega arith)) r;
           behind = omega arith;
           below = below;
           within = omega (arith, i .within, w .long);
@@ -166,7 +166,7 @@ within-then eb el f g =
     record { kept = λ j h o. g .kept j h (⊎-elim (λ x. inl (omega arith)) (λ x. inr (omega arith)) o) ∙ f .kept j h o; long = g .long ∙ f .long }
 
 -- the item that `next_token` stops at
-sought-item : {W X : List ℕ} (v : Items) {v' : Items} {lo hi a m b : ℕ} {d cs rest : Forest} {k : Token} → 8 * hi ≤ v .base → v .base + v .len ≤ length W → length W < 2 ^ 32
+sought-item : {W X : List ℕ} (v : Items) {v' : Items} {lo hi a m b : ℕ} {d cs rest : Forest} {k : Token} → slotStart hi ≤ v .base → v .base + v .len ≤ length W → length W < 2 ^ 32
     → v' ≡ movedTo v (v' .read) (v' .write) → v' .write < v' .read
     → RepT W X b a m k cs → Seen W X v' (v .base) lo a m hi d rest → AtItem W X v' b lo hi d k cs rest
 sought-item v {v'} {a = a} {m = m} below within small e behind t s =
@@ -194,7 +194,7 @@ module _ {κ : Kind} {pass : Pass} {P : ℕ → Bool} {idle : Forest → State �
 
   -- ---- where `next_token` stops
 
-  module _ {W X : List ℕ} (v : Items) {lo hi : ℕ} {d rest : Forest} (fine : good d ≡ true) (below : 8 * hi ≤ v .base) (within : v .base + v .len ≤ length W) (small : length W < 2 ^ 32) where
+  module _ {W X : List ℕ} (v : Items) {lo hi : ℕ} {d rest : Forest} (fine : good d ≡ true) (below : slotStart hi ≤ v .base) (within : v .base + v .len ≤ length W) (small : length W < 2 ^ 32) where
     sought-over : {v' : Items} → SoughtTo W X v (v .base) lo hi P d rest (Nothing v') → TurnTo κ W X lo hi (walkOf v pass) (idle d) rest (Over (walkOf v' pass))
     sought-over {v'} (none {d' = d'} e behind p s) =
         let same = same-moved v v' pass pass e refl in
@@ -250,13 +250,13 @@ pub record Stands (T : Saying) (W : List ℕ) (v : Items) (pass : Pass) (κ : Ki
   pub ahead : Ahead W X (v .base) (v .read) (v .len) m hi rest
   pub mid : l ≤ m
   pub behind : v .write ≤ v .read
-  pub below : 8 * hi ≤ v .base
+  pub below : slotStart hi ≤ v .base
   pub within : v .base + v .len ≤ length W
   pub small : length W < 2 ^ 32
 
 pub stands : {T : Saying} {W : List ℕ} {v : Items} {pass : Pass} {κ : Kind} {P : ℕ → Bool} {idle : Forest → State κ} {good : Forest → Bool}
     {X : List ℕ} {lo l m hi : ℕ} {d rest : Forest} → LeftLevel κ pass P idle good → T κ idle P good → good d ≡ true → BackArray W X (v .base) (v .write) lo l d
-    → Ahead W X (v .base) (v .read) (v .len) m hi rest → l ≤ m → v .write ≤ v .read → 8 * hi ≤ v .base → v .base + v .len ≤ length W → length W < 2 ^ 32
+    → Ahead W X (v .base) (v .read) (v .len) m hi rest → l ≤ m → v .write ≤ v .read → slotStart hi ≤ v .base → v .base + v .len ≤ length W → length W < 2 ^ 32
     → Stands T W v pass κ X lo hi (idle d) rest
 stands {P = P} {idle = idle} {good = good} {l = l} {m = m} {d = d} level told fine done ahead mid behind below within small =
     record {
@@ -365,12 +365,12 @@ module _ {W W' : List ℕ} {v : Items} {pass : Pass} where
 
 -- ---- room for what the functions on a token touch
 
-pub token-room : {W : List ℕ} {v : Items} {b : ℕ} → AtToken W v b → (8 * b + 8 ≤ length W) × (v .base + v .write < length W) × (v .read ≤ v .len)
+pub token-room : {W : List ℕ} {v : Items} {b : ℕ} → AtToken W v b → (slotEnd b ≤ length W) × (v .base + v .write < length W) × (v .read ≤ v .len)
 token-room g =
     let n = item-bounds (g .item) in let below = g .item .below in let within = g .item .within in let behind = g .item .behind in
     (omega arith, omega arith, omega arith)
 
-pub next-room : {W : List ℕ} {v : Items} {b : ℕ} → AtToken W v b → v .read ≢ v .len → (v .read < v .len) × (8 * wd W (v .base + v .read) + 8 ≤ length W)
+pub next-room : {W : List ℕ} {v : Items} {b : ℕ} → AtToken W v b → v .read ≢ v .len → (v .read < v .len) × (slotEnd (wd W (v .base + v .read)) ≤ length W)
 next-room {v = v} g n =
     let le = token-room g in
     let h : v .read < v .len = omega arith in

@@ -1,5 +1,5 @@
 -- `return`: it takes the next tree, as it is, as its child.
-use Prim.Native.Nat.{ℕ, _+_, _*_, _≤_, _<_}
+use Prim.Native.Nat.{ℕ, _+_, _≤_, _<_}
 use mathlib.Core.Path.{_≡_, refl, ap, _∙_}
 use mathlib.Core.Bool.{Bool, true, false, true≢false}
 use mathlib.Core.List.{List, [], _∷_}
@@ -25,7 +25,7 @@ use Rattle.levels.specs.Failures
 use Rattle.levels.specs.Failures.{Tells}
 use Rattle.levels.proofs.Reading.{ahead-end, same-within}
 use Rattle.levels.proofs.PassClasses.{runs-covers}
-use Rattle.nodes.specs.Store.{wd}
+use Rattle.nodes.specs.Store.{wd, slotStart}
 use Rattle.nodes.specs.Children.{Attached}
 use Rattle.passes.specs.TokenTurns.{unasked, ReturnTurned, Saying}
 use Rattle.passes.proofs.GatherLaws.{walk-node, walk-passed, LeftLevel, item-holds, kept-within, Attaching, attached, item-attached, within-then, Stands, stands, Standing}
@@ -57,7 +57,7 @@ pub return-stands : {T : Saying} (W : List ℕ) (v : Items) → T returns gather
 return-stands {T} W v t g = go (g .holds .sides .runs) (g .holds)
   where
     open-side : {X : List ℕ} {lo l m hi : ℕ} {s : Gathered} {rest : Forest} → GatherSide W X (v .base) (v .write) lo l s → Ahead W X (v .base) (v .read) (v .len) m hi rest
-        → l ≤ m → v .write ≤ v .read → 8 * hi ≤ v .base → v .base + v .len ≤ length W → Stands T W v Returns returns X lo hi s rest
+        → l ≤ m → v .write ≤ v .read → slotStart hi ≤ v .base → v .base + v .len ≤ length W → Stands T W v Returns returns X lo hi s rest
     open-side (all done) ahead mid behind below within = stands return-level t refl done ahead mid behind below within (g .small)
 
     go : {κ : Kind} {X : List ℕ} {lo hi : ℕ} {s : State κ} {rest : Forest} → Runs κ Returns → Holds κ W X lo hi (walkOf v Returns) s rest → Stands T W v Returns κ X lo hi s rest

@@ -1,5 +1,5 @@
 -- The end of a split list: the statement that is open takes its items, and the list's node all statements.
-use Prim.Native.Nat.{ℕ, _+_, _*_, _-_, _^_, _≤_, _<_}
+use Prim.Native.Nat.{ℕ, _+_, _-_, _^_, _≤_, _<_}
 use mathlib.Core.Path.{_≡_, refl, sym, ap, _∙_, subst}
 use mathlib.Core.Logic.{_≢_, _⊎_, inl, inr, ⊎-elim}
 use mathlib.Core.Bool.{false, true≢false}
@@ -14,7 +14,7 @@ use Rattle.molang.specs.Level.{walk}
 use Rattle.molang.specs.Statements.{unsplit, after, inside, splitOf, statementFinish, statementLevel}
 use Rattle.molang.specs.Free.{isNil}
 use Rattle.molang.specs.Work.{Kind, statements, State, work}
-use Rattle.nodes.specs.Store.{wd, TokenAt, SegB, OutFrom, ends as ends-at, RepT, RepB, begins as begins-with, put, InArray, Owned, Free}
+use Rattle.nodes.specs.Store.{wd, slotStart, slotEnd, TokenAt, SegB, OutFrom, ends as ends-at, RepT, RepB, begins as begins-with, put, InArray, Owned, Free}
 use Rattle.nodes.specs.Children.{CanGive, Given}
 use Rattle.nodes.specs.declared.frames.List.{List as Items}
 use Rattle.nodes.proofs.Runs.{segB-keep, set-same, set-other, set-long}
@@ -105,12 +105,12 @@ pub record Finishing (W X : List ℕ) (lo hi base r p : ℕ) (q : Token) (f : Fo
   pub high : p + 3 ≤ hi
   pub pos : 0 < p
   pub out : OutFrom p 3 X
-  pub below : 8 * hi ≤ base
+  pub below : slotStart hi ≤ base
   pub room : base + r ≤ length W
   pub some : 0 < r
 
 module _ {W X : List ℕ} {lo hi n m a : ℕ} (l : Items) (c : ℕ) {q : Token} {done : Forest} (v : EndedAt W X (l .base) n lo m q done) (reached : n + c ≡ l .write)
-    (top : a ≤ hi) (full : isNil done ≡ false) (below : 8 * hi ≤ l .base) (within : l .base + l .write ≤ length W) where
+    (top : a ≤ hi) (full : isNil done ≡ false) (below : slotStart hi ≤ l .base) (within : l .base + l .write ≤ length W) where
   lasts : LastEnded W X (l .base) lo m (wd W (l .base)) (v .ds) done
   lasts = ended-last (l .base) (wd W (l .base)) (v .rep) (v .seg) full refl
 
@@ -167,9 +167,9 @@ module _ {W X : List ℕ} {lo hi n m a : ℕ} (l : Items) (c : ℕ) {q : Token} 
       = open-items refl (omega arith) (record { ds = items .ds; seg = items .seg; count = items .count; rep = back-avoid (λ s x y o. (omega arith, o)) (items .rep) }) in
       let tree : RepT W' Y b b hi (bare semicolon (earliest t d)) (inOrder (node t ts d))
       = grouped-tree g own (inl (omega arith)) (omega arith) top (le-refl b) (omega arith) (omega arith) (omega arith) (apart, z .out b (omega arith) (omega arith)) (omega arith) in
-      let same : (j : ℕ) → j ≢ l .base + n → (j < 8 * b) ⊎ (8 * b + 8 ≤ j) → Free Y m a j → wd W' j ≡ wd W j
+      let same : (j : ℕ) → j ≢ l .base + n → (j < slotStart b) ⊎ (slotEnd b ≤ j) → Free Y m a j → wd W' j ≡ wd W j
       = grouped-same {lo = b} {hi = hi} g own (inl (omega arith)) (omega arith) top (le-refl b) (omega arith) (omega arith) in
-      let back : RepB W' Y (v .ds) lo b done = back-keep W W' (λ s o x y w u e. same (8 * s + o) (omega arith) (inl (omega arith)) (free-beside Y m a s o w (inl (omega arith)))) (z .back) in
+      let back : RepB W' Y (v .ds) lo b done = back-keep W W' (λ s o x y w u e. same (slotStart s + o) (omega arith) (inl (omega arith)) (free-beside Y m a s o w (inl (omega arith)))) (z .back) in
       let seg : SegB W' (l .base) (v .ds)
       = segB-keep W W' (l .base) (v .ds) (λ j x y. same j (omega arith) (inr (omega arith)) (free-above Y m a j (omega arith))) (v .seg) in
       let place : wd W' (l .base + length (v .ds)) ≡ b
@@ -180,7 +180,7 @@ module _ {W X : List ℕ} {lo hi n m a : ℕ} (l : Items) (c : ℕ) {q : Token} 
             subst (λ (x : ℕ). InArray W' Y (l .base) x lo hi (inOrder (node (bare semicolon (earliest t d)) (inOrder (node t ts d)) done))) (omega arith) (gathered-array all (place, seg));
         token =
             token-keep W W' (p + 2)
-            (λ o w. same (8 * (p + 2) + o) (omega arith) (⊎-elim (λ e. inr (omega arith)) (λ e. inl (omega arith)) (z .apart)) (free-beside Y m a (p + 2) o (omega arith) (inl (omega arith)))) (v .list full);
+            (λ o w. same (slotStart (p + 2) + o) (omega arith) (⊎-elim (λ e. inr (omega arith)) (λ e. inl (omega arith)) (z .apart)) (free-beside Y m a (p + 2) o (omega arith) (inl (omega arith)))) (v .list full);
         first = same (l .base) (omega arith) (inr (omega arith)) (free-above Y m a (l .base) (omega arith));
         low = f .low;
         high = omega arith;
@@ -214,7 +214,7 @@ module _ {W W' W'' X : List ℕ} {lo hi base r p : ℕ} {q : Token} {f : Forest}
       = owned-tree token (omega arith) (v .out (p + 2) (omega arith) (omega arith)) (omega arith) (omega arith) owned in
       let tree' : RepT W'' X (p + 2) lo hi q (inOrder f)
       = subst (λ (x : Forest). RepT W'' X (p + 2) lo hi q x) (sym (first .1 .is))
-      (tree-keep W' W'' (λ s o x y z u e. set-other W' W'' base (p + 2) w (8 * s + o) (omega arith)) tree) in
+      (tree-keep W' W'' (λ s o x y z u e. set-other W' W'' base (p + 2) w (slotStart s + o) (omega arith)) tree) in
       record {
         bs = (p + 2) ∷ [];
         seg = (set-same W' W'' base (p + 2) w (omega (arith, g .long)), tt);
@@ -246,7 +246,7 @@ abbrev KeptBeside : List ℕ → List ℕ → List ℕ → ℕ → ℕ → Items
 KeptBeside W W' X lo hi l = ((j : ℕ) → Free X lo hi j → (j < l .base) ⊎ (l .base + l .len ≤ j) → wd W' j ≡ wd W j) × (length W' ≡ length W)
 
 module _ {W X : List ℕ} {lo hi n m a : ℕ} (l : Items) (c : ℕ) {q : Token} {done : Forest} (v : EndedAt W X (l .base) n lo m q done) (reached : n + c ≡ l .write)
-    (top : a ≤ hi) (full : isNil done ≡ false) (below : 8 * hi ≤ l .base) (within : l .base + l .write ≤ length W) (room : l .write ≤ l .len) where
+    (top : a ≤ hi) (full : isNil done ≡ false) (below : slotStart hi ≤ l .base) (within : l .base + l .write ≤ length W) (room : l .write ≤ l .len) where
   closing-finishes : {W' : List ℕ} (d : Forest) → BackArray W X (l .base + n) c m a d → n < l .write → Grouped W (wd W (l .base + n - 1) + 1) (l .base + n) (l .write - n) W'
       → Finishing W' X lo hi (l .base) (n + 1) (wd W (l .base)) q (closedOn done d) × KeptBeside W W' X lo hi l
   unfolding closedOn count

@@ -1,5 +1,5 @@
 -- A statement's words, said of trees: the items from some place on stand under a new node in a slot of its own, with the span of the first of them.
-use Prim.Native.Nat.{ℕ, _+_, _*_, _≤_, _<_}
+use Prim.Native.Nat.{ℕ, _+_, _≤_, _<_}
 use mathlib.Core.Path.{_≡_, refl, sym, _∙_, subst}
 use mathlib.Core.Logic.{_≢_, _⊎_, inl, inr, ⊎-elim}
 use mathlib.Core.List.{List, _∷_}
@@ -7,7 +7,7 @@ use native.Mathlib.Omega.{arith}
 use lib.ListN.{length}
 use Rattle.molang.specs.Operator.{semicolon}
 use Rattle.molang.specs.Forest.{Token, Forest, nil, node, bare, inOrder, turnedOnto}
-use Rattle.nodes.specs.Store.{wd, TokenAt, Seg, Out, RepF, more, RepT, Owned, InArray, Free}
+use Rattle.nodes.specs.Store.{wd, slotStart, slotEnd, TokenAt, Seg, Out, RepF, more, RepT, Owned, InArray, Free}
 use Rattle.nodes.proofs.Runs.{seg-keep, set-same, set-other, set-long}
 use Rattle.nodes.proofs.Tokens.{token-made}
 use Rattle.nodes.proofs.Store.{rep-keep, rep-avoid, rep-raise, rep-lower, tree-keep}
@@ -40,7 +40,7 @@ pub in-order : {W X : List ℕ} {at n m l : ℕ} {d : Forest} → BackArray W X 
 in-order {W} {X} {at} {n} {m} {l} {d} v = subst (λ (x : ℕ). InArray W X at x m l (inOrder d)) (sym (v .count)) (gathered-array (v .rep) (v .seg))
 
 module _ {W W' X : List ℕ} {b at n m l lo hi : ℕ} {k : Token} {cs d : Forest} (g : Grouped W b at n W') (v : BackArray W X at n m l (node k cs d))
-    (beside : (b < m) ⊎ (l ≤ b)) (low : lo ≤ m) (high : l ≤ hi) (above : lo ≤ b) (below : b < hi) (stack : 8 * hi ≤ at) where
+    (beside : (b < m) ⊎ (l ≤ b)) (low : lo ≤ m) (high : l ≤ hi) (above : lo ≤ b) (below : b < hi) (stack : slotStart hi ≤ at) where
   -- the statement
   pub grouped-tree : 0 < b → Out b X → at + n ≤ length W → RepT W' X b lo hi (bare semicolon (earliest k d)) (inOrder (node k cs d))
   grouped-tree pos out room =
@@ -51,7 +51,7 @@ module _ {W W' X : List ℕ} {b at n m l lo hi : ℕ} {k : Token} {cs d : Forest
       let mk = g .make in
       let f = order-first k cs d in
       let r1 : RepF V1 X bs m l (inOrder (node k cs d))
-      = rep-keep W V1 (λ s o x y z p e. mk .same (8 * s + o) (⊎-elim (λ h. inr (omega arith)) (λ h. inl (omega arith)) beside)) (ar .rep) in
+      = rep-keep W V1 (λ s o x y z p e. mk .same (slotStart s + o) (⊎-elim (λ h. inr (omega arith)) (λ h. inl (omega arith)) beside)) (ar .rep) in
       let r2 : RepF V1 (b ∷ X) bs m l (inOrder (node k cs d)) = rep-avoid (λ s x y o. (⊎-elim (λ h. omega arith) (λ h. omega arith) beside, o)) r1 in
       let r3 : RepF V1 (b ∷ X) bs lo hi (inOrder (node k cs d)) = rep-raise high (rep-lower low r2) in
       let sg : Seg V1 at bs = seg-keep W V1 at bs (λ j x y. mk .same j (inr (omega arith))) (ar .seg) in
@@ -60,10 +60,10 @@ module _ {W W' X : List ℕ} {b at n m l lo hi : ℕ} {k : Token} {cs d : Forest
       let token = give-token (g .give) sg (sym (ar .count)) r3 (token-made {o = semicolon} mk (omega arith) first) in
       let made : RepT V2 X b lo hi (bare semicolon (earliest k d)) (node (earliest k d) (f .cs) (f .rest)) = owned-tree token pos out above below owned in
       subst (λ (x : Forest). RepT W' X b lo hi (bare semicolon (earliest k d)) x) (sym (f .is))
-      (tree-keep V2 W' (λ s o x y z p e. set-other V2 W' at b (g .place) (8 * s + o) (omega arith)) made)
+      (tree-keep V2 W' (λ s o x y z p e. set-other V2 W' at b (g .place) (slotStart s + o) (omega arith)) made)
 
   -- the words that stay
-  pub grouped-same : (j : ℕ) → j ≢ at → (j < 8 * b) ⊎ (8 * b + 8 ≤ j) → Free X m l j → wd W' j ≡ wd W j
+  pub grouped-same : (j : ℕ) → j ≢ at → (j < slotStart b) ⊎ (slotEnd b ≤ j) → Free X m l j → wd W' j ≡ wd W j
   grouped-same j na nb f =
       let ar = in-order v in
       let bs = ar .bs in

@@ -1,5 +1,5 @@
 -- The statement pass as laws: which semicolons a list has, what the trees between them change, and what a finished statement's words say of trees.
-use Prim.Native.Nat.{ℕ, _+_, _*_, _≤_, _<_}
+use Prim.Native.Nat.{ℕ, _+_, _≤_, _<_}
 use mathlib.Core.Path.{_≡_, refl, sym, ap, _∙_, subst}
 use mathlib.Core.Logic.{inl, inr, ⊎-elim}
 use mathlib.Core.Bool.{Bool, true, false, not, true≢false}
@@ -22,7 +22,7 @@ use Rattle.molang.specs.Work.{Kind, statements, State, work, begins, inReading,
 use Rattle.molang.proofs.Trees.{some-none, free-leaf, free-tree}
 use Rattle.molang.proofs.Statements.{split-clear, statement-free}
 use Rattle.molang.proofs.Walks.{onward, back, walk-onward}
-use Rattle.nodes.specs.Store.{wd, InArray, begins as begins-with, Seg, Inc}
+use Rattle.nodes.specs.Store.{wd, slotStart, slotEnd, InArray, begins as begins-with, Seg, Inc}
 use Rattle.nodes.specs.Slots.{isTokenAt, Laid}
 use Rattle.words.specs.declared.tokens.TokenWords.{TokenWords}
 use Rattle.nodes.specs.declared.frames.List.{List as Items}
@@ -71,10 +71,10 @@ module _ {W : List ℕ} {v : Items} where
       }
 
   -- the item that a turn reads: its slot is below the stack
-  pub look-slot : {i : ℕ} (g : CanStart W v) → Looking W v i → i < v .len → 8 * wd W (v .base + i) + 8 ≤ v .base
+  pub look-slot : {i : ℕ} (g : CanStart W v) → Looking W v i → i < v .len → slotEnd (wd W (v .base + i)) ≤ v .base
   look-slot {i} g l h = go (ahead-item (wd W (v .base + i)) refl h (l .at g .ahead))
     where
-      go : {f : Forest} → AheadTo W (g .X) (v .base) i (v .len) (l .at g .m) (g .hi) (wd W (v .base + i)) f → 8 * wd W (v .base + i) + 8 ≤ v .base
+      go : {f : Forest} → AheadTo W (g .X) (v .base) i (v .len) (l .at g .m) (g .hi) (wd W (v .base + i)) f → slotEnd (wd W (v .base + i)) ≤ v .base
       go (item low t r) = omega (arith, tree-below t, ahead-le r .0, g .below)
 
 leaf-token : (k : Token) (cs rest : Forest) → isToken semicolon k cs ≡ true → clear isSemicolon (node k cs rest) ≡ false
@@ -242,7 +242,7 @@ passed-split (over {rest = r} {cs = cs} {k = k} f p) = split-past k cs r f ∙ p
 -- ---- a list begins
 
 plain-holds : {W X : List ℕ} {lo hi m m' : ℕ} {l : Items} {d rest : Forest} → BackArray W X (l .base) (l .write) lo m d → Ahead W X (l .base) (l .read) (l .len) m' hi rest → m ≤ m'
-    → l .write ≤ l .read → 8 * hi ≤ l .base → l .base + l .len ≤ length W → Holds statements W X lo hi (walkOf l Unsplit) (unsplit d) rest
+    → l .write ≤ l .read → slotStart hi ≤ l .base → l .base + l .len ≤ length W → Holds statements W X lo hi (walkOf l Unsplit) (unsplit d) rest
 plain-holds {m = m} {m' = m'} b u e t below within =
     record { l = m; m = m'; sides = record { runs = unsplitPass; done = whole b; unread = u; agrees = tt; low = back-le (b .rep); mid = e; high = ahead-le u .0; below = below; within = within }; turning = t }
 
@@ -345,7 +345,7 @@ pub unsplit-stands : {T : Saying} (W : List ℕ) (v : Items) → T statements un
 unsplit-stands {T} W v t g = go (g .holds .sides .runs) (g .holds)
   where
     side : {X : List ℕ} {lo l m hi : ℕ} {s : Split} {rest : Forest} → StatementSide W X (v .base) (v .write) lo l Unsplit s → Ahead W X (v .base) (v .read) (v .len) m hi rest
-        → l ≤ m → v .write ≤ v .read → 8 * hi ≤ v .base → v .base + v .len ≤ length W → Stands T W v Unsplit statements X lo hi s rest
+        → l ≤ m → v .write ≤ v .read → slotStart hi ≤ v .base → v .base + v .len ≤ length W → Stands T W v Unsplit statements X lo hi s rest
     side (whole done) ahead mid behind below within = stands unsplit-level t refl done ahead mid behind below within (g .small)
 
     go : {κ : Kind} {X : List ℕ} {lo hi : ℕ} {s : State κ} {rest : Forest} → Runs κ Unsplit → Holds κ W X lo hi (walkOf v Unsplit) s rest → Stands T W v Unsplit κ X lo hi s rest

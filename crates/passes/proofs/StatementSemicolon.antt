@@ -1,5 +1,5 @@
 -- A semicolon of a split list: it stands first, or after another, or ends the open statement, which then stands in its slot.
-use Prim.Native.Nat.{ℕ, _+_, _*_, _-_, _^_, _≤_, _<_}
+use Prim.Native.Nat.{ℕ, _+_, _-_, _^_, _≤_, _<_}
 use mathlib.Core.Path.{_≡_, refl, sym, ap, _∙_, subst}
 use mathlib.Core.Logic.{_≢_, _⊎_, inl, inr, ⊎-elim}
 use mathlib.Core.Bool.{true, false, true≢false}
@@ -17,7 +17,7 @@ use Rattle.molang.specs.Level.{on, stop}
 use Rattle.molang.specs.Statements.{after, splitOf, endStatement}
 use Rattle.molang.specs.Free.{isNil, isSemicolon}
 use Rattle.molang.specs.Work.{Kind, statements, State}
-use Rattle.nodes.specs.Store.{wd, TokenAt, Out, OutFrom, RepT, RepB, begins as begins-with, put, InArray, Free}
+use Rattle.nodes.specs.Store.{wd, slotStart, slotEnd, TokenAt, Out, OutFrom, RepT, RepB, begins as begins-with, put, InArray, Free}
 use Rattle.words.specs.declared.tokens.TokenWords.{TokenWords}
 use Rattle.nodes.specs.Slots.{Laid, Made}
 use Rattle.nodes.specs.Children.{CanGive}
@@ -47,7 +47,7 @@ use Rattle.passes.proofs.StatementSplit.{ended-rebase, Pending, pending
 -- ---- what `semicolon` asks
 
 -- a node laid down below the items
-give-laid : {W W' : List ℕ} {s p from n k : ℕ} {t : TokenWords} → Laid W s t k W' → 8 * s + 8 ≤ from → CanGive W p from n → CanGive W' p from n
+give-laid : {W W' : List ℕ} {s p from n k : ℕ} {t : TokenWords} → Laid W s t k W' → slotEnd s ≤ from → CanGive W p from n → CanGive W' p from n
 give-laid {W} {W'} {from = from} w h g =
     record {
       hi = g .hi;
@@ -97,7 +97,7 @@ pub record AtSemicolon (W X : List ℕ) (lo hi : ℕ) (l : Items) (n b : ℕ) (q
   pub ahead : Ahead W X (l .base) (l .read) (l .len) top hi rest
   pub read : l .write < l .read
   pub pending : Pending q done (node k nil rest)
-  pub below : 8 * hi ≤ l .base
+  pub below : slotStart hi ≤ l .base
   pub within : l .base + l .len ≤ length W
   pub small : length W < 2 ^ 32
 
@@ -165,7 +165,7 @@ after-token e = cc
 
 -- ---- what ending a statement changes
 
-list-same : {W W1 : List ℕ} {b n : ℕ} → ListMade W b n W1 → (j : ℕ) → (j < 8 * (b + 2)) ⊎ (8 * (b + 2) + 8 ≤ j) → wd W1 j ≡ wd W j
+list-same : {W W1 : List ℕ} {b n : ℕ} → ListMade W b n W1 → (j : ℕ) → (j < slotStart (b + 2)) ⊎ (slotEnd (b + 2) ≤ j) → wd W1 j ≡ wd W j
 list-same (there e) j o = refl
 list-same (begun e w) j o = w .same j o
 
@@ -182,26 +182,26 @@ list-kept X lo hi (there e) low high out j f = refl
 list-kept {b = b} X lo hi (begun e w) low high out j f = laid-kept X lo hi w (omega arith) (omega arith) (out (b + 2) (omega arith) (omega arith)) j f
 
 -- a free word is none of the slot's
-pub beside-slot : (X : List ℕ) (lo hi b j : ℕ) → lo ≤ b → b < hi → Out b X → Free X lo hi j → (j < 8 * b) ⊎ (8 * b + 8 ≤ j)
+pub beside-slot : (X : List ℕ) (lo hi b j : ℕ) → lo ≤ b → b < hi → Out b X → Free X lo hi j → (j < slotStart b) ⊎ (slotEnd b ≤ j)
 beside-slot X lo hi b j low high out f =
-    elim (decLt j (8 * b)) [
+    elim (decLt j (slotStart b)) [
       | yes h ↦ inl h
-      | no h ↦ elim (decLt j (8 * b + 8)) [ yes h' ↦ absurd (f b (j - 8 * b) low high (omega arith) out (omega arith)) | no h' ↦ inr (omega arith) ]
+      | no h ↦ elim (decLt j (slotEnd b)) [ yes h' ↦ absurd (f b (j - slotStart b) low high (omega arith) out (omega arith)) | no h' ↦ inr (omega arith) ]
     ]
 
 module _ {W W1 W' X : List ℕ} {base n write lo m a top b c : ℕ} {q k t : Token} {done ts d : Forest}
     (v : EndedAt W X base n lo m q done) (items : BackArray W X (base + n) c m a (node t ts d)) (reached : n + c ≡ write)
     (tree : RepT W X b a top k nil) (is : isSemicolon (k .op) ≡ true)
-    (made : ListMade W b n W1) (g : Grouped W1 b (base + n) (write - n) W') (below : 8 * top ≤ base) (within : base + write ≤ length W) where
+    (made : ListMade W b n W1) (g : Grouped W1 b (base + n) (write - n) W') (below : slotStart top ≤ base) (within : base + write ≤ length W) where
   items-made : BackArray W1 X (base + n) (write - n) m a (node t ts d)
   items-made =
       let three = semicolon-slots is tree .0 in
       let tl = tree .low in
       open-items refl (omega arith)
-      (back-array-keep W W1 (λ s o x y z p. list-same made (8 * s + o) (inl (omega arith))) (λ j x y. list-same made j (inr (omega arith))) items)
+      (back-array-keep W W1 (λ s o x y z p. list-same made (slotStart s + o) (inl (omega arith))) (λ j x y. list-same made j (inr (omega arith))) items)
 
   -- every word but those of the semicolon's slots, of the statement's items and of its place
-  ended-same : (j : ℕ) → j ≢ base + n → (j < 8 * b) ⊎ (8 * b + 24 ≤ j) → Free X m a j → wd W' j ≡ wd W j
+  ended-same : (j : ℕ) → j ≢ base + n → (j < slotStart b) ⊎ (slotEnd (b + 2) ≤ j) → Free X m a j → wd W' j ≡ wd W j
   ended-same j na nb f =
       let three = semicolon-slots is tree .0 in
       let tl = tree .low in
@@ -222,7 +222,7 @@ module _ {W W1 W' X : List ℕ} {base n write lo m a top b c : ℕ} {q k t : Tok
       let three = semicolon-slots is tree .0 in
       let tl = tree .low in
       let ml = back-le (items .rep) in
-      ended-at-keep W W' (λ s o x y z p. ended-same (8 * s + o) (omega arith) (inl (omega arith)) (free-beside X m a s o z (inl y)))
+      ended-at-keep W W' (λ s o x y z p. ended-same (slotStart s + o) (omega arith) (inl (omega arith)) (free-beside X m a s o z (inl y)))
       (λ j x y. ended-same j (omega arith) (inr (omega arith)) (free-above X m a j (omega arith))) v
 
   place-made : n < write → wd W' (base + n) ≡ b
@@ -246,7 +246,7 @@ module _ {W W1 W' X : List ℕ} {base n write lo m a top b c : ℕ} {q k t : Tok
       let token : TokenAt W1 (b + 2) (bare semicolon k) = token-made {o = semicolon} w (omega arith) (tree .token) in
       let token' : TokenAt W' (b + 2) (bare semicolon k)
       = token-keep W1 W' (b + 2)
-      (λ o z. grouped-same {lo = m} {hi = top} g items-made (inr tl) (le-refl m) (omega arith) (omega arith) (omega arith) (omega arith) (8 * (b + 2) + o) (omega arith) (inr (omega arith))
+      (λ o z. grouped-same {lo = m} {hi = top} g items-made (inr tl) (le-refl m) (omega arith) (omega arith) (omega arith) (omega arith) (slotStart (b + 2) + o) (omega arith) (inr (omega arith))
       (free-beside X m a (b + 2) o (omega arith) (inr (omega arith)))) token in
       rw own (subst (λ (x : ℕ). TokenAt W' (x + 2) (bare semicolon k)) here token')
 
@@ -262,12 +262,12 @@ module _ {W W1 W' X : List ℕ} {base n write lo m a top b c : ℕ} {q k t : Tok
         list = λ e. list-token rest h p (list-cases made);
       }
 
-  pub ended-ahead : {hi read len : ℕ} {rest : Forest} → 8 * hi ≤ base → write < read → Ahead W X base read len top hi rest → Ahead W' X base read len top hi rest
+  pub ended-ahead : {hi read len : ℕ} {rest : Forest} → slotStart hi ≤ base → write < read → Ahead W X base read len top hi rest → Ahead W' X base read len top hi rest
   ended-ahead below' r u =
       let three = semicolon-slots is tree .0 in
       let tl = tree .low in
       let ml = back-le (items .rep) in
-      ahead-keep W W' (λ s o x y z p. ended-same (8 * s + o) (omega arith) (inr (omega arith)) (free-beside X m a s o z (inr (omega arith))))
+      ahead-keep W W' (λ s o x y z p. ended-same (slotStart s + o) (omega arith) (inr (omega arith)) (free-beside X m a s o z (inr (omega arith))))
       (λ j x y. ended-same j (omega arith) (inr (omega arith)) (free-above X m a j (omega arith))) u
 
 -- ---- the turn
@@ -280,7 +280,7 @@ pub record Stopped (W X : List ℕ) (lo hi : ℕ) (l l' : Items) (n b : ℕ) (q 
 
 module _ {W W' X : List ℕ} {lo hi n b : ℕ} {l l' : Items} (small : length W < 2 ^ 32) (g : Sought W l 0x2 (Leaf l' b) W') where
   stopped : {q : Token} {done d rest : Forest} {m m' m'' c : ℕ} → EndedAt W X (l .base) n lo m q done → BackArray W X (l .base + n) c m m' d → n + c ≡ l .write
-      → Ahead W X (l .base) (l .read) (l .len) m'' hi rest → m' ≤ m'' → Pending q done rest → l .write ≤ l .read → 8 * hi ≤ l .base → l .base + l .len ≤ length W
+      → Ahead W X (l .base) (l .read) (l .len) m'' hi rest → m' ≤ m'' → Pending q done rest → l .write ≤ l .read → slotStart hi ≤ l .base → l .base + l .len ≤ length W
       → Stopped W' X lo hi l l' n b q done d rest
   stopped {q = q} {done = done} {d = d} {rest = rest} {m = m} v w e u le p t below within = go (g .to (seek-split v w e u le t below within small) isSemicolon semicolon-class)
     where
@@ -289,7 +289,7 @@ module _ {W W' X : List ℕ} {lo hi n b : ℕ} {l l' : Items} (small : length W 
           let mv : Moved l l' = moved-same moved in
           let mb = mv .base in let ml = mv .len in let long = g .long in
           let bl = back-le (w .rep) in let al = ahead-le u in
-          let kept = ended-at-keep W W' (λ s o x y z w. g .same (8 * s + o) (inl (omega arith))) (λ j x y. g .same j (inl (omega arith))) v in
+          let kept = ended-at-keep W W' (λ s o x y z w. g .same (slotStart s + o) (inl (omega arith))) (λ j x y. g .same j (inl (omega arith))) v in
           record {
             at =
                 record {

@@ -1,5 +1,5 @@
 -- A list split at its semicolons: its finished statements and the trees of the open one, as one view of the pass's two states; and its turns.
-use Prim.Native.Nat.{ℕ, _+_, _*_, _^_, _≤_, _<_}
+use Prim.Native.Nat.{ℕ, _+_, _^_, _≤_, _<_}
 use mathlib.Core.Path.{_≡_, refl, sym, ap, _∙_, subst}
 use mathlib.Core.Logic.{inl, inr, ⊎-elim}
 use mathlib.Core.Bool.{true, false, true≢false}
@@ -13,7 +13,7 @@ use Rattle.molang.specs.Statements.{Split, after, inside, splitOf, isEntered, e
 use Rattle.molang.specs.Order.{lastOf}
 use Rattle.molang.specs.Free.{isNil, isSemicolon}
 use Rattle.molang.specs.Work.{Kind, statements, State, begins}
-use Rattle.nodes.specs.Store.{wd, begins as begins-with}
+use Rattle.nodes.specs.Store.{wd, slotStart, slotEnd, begins as begins-with}
 use Rattle.nodes.specs.declared.frames.List.{List as Items}
 use Rattle.nodes.proofs.Runs.{set-same, set-other, set-long}
 use Rattle.nodes.proofs.Store.{tree-below, back-le, back-raise, back-count}
@@ -52,7 +52,7 @@ Pending q done rest = isNil done ≡ true → splitOf rest ≡ after q nil
 pub data SplitView (W X : List ℕ) (lo hi : ℕ) (l : Items) (n : ℕ) : (κ : Kind) → State κ → Forest → Type 0 where
   splits : {q : Token} {done d rest : Forest} {m m' m'' c : ℕ} → EndedAt W X (l .base) n lo m q done → BackArray W X (l .base + n) c m m' d → n + c ≡ l .write
       → Ahead W X (l .base) (l .read) (l .len) m'' hi rest → m' ≤ m'' → Pending q done rest
-      → l .write ≤ l .read → 8 * hi ≤ l .base → l .base + l .len ≤ length W → SplitView W X lo hi l n statements (openOn q done d) rest
+      → l .write ≤ l .read → slotStart hi ≤ l .base → l .base + l .len ≤ length W → SplitView W X lo hi l n statements (openOn q done d) rest
 
 agrees-pending : (q : Token) (done rest : Forest) → SplitAgrees (after q done) rest → Pending q done rest
 unfolding isNil
@@ -76,7 +76,7 @@ unfolding openOn
 split-view {W} {X} {lo} {hi} {n} {l} h = go n (h .sides .runs) (h .sides .done) (h .sides .unread) (h .sides .agrees) (h .sides .mid) (h .turning) (h .sides .below) (h .sides .within)
   where
     go : {κ : Kind} {s : State κ} {rest : Forest} {m m' : ℕ} (n : ℕ) → Runs κ (SplitAt n) → DoneSide κ W X lo m m' hi (walkOf l (SplitAt n)) s → UnreadSide κ W X lo m m' hi l rest
-        → Agrees κ l s rest → m ≤ m' → l .write ≤ l .read → 8 * hi ≤ l .base → l .base + l .len ≤ length W → SplitView W X lo hi l n κ s rest
+        → Agrees κ l s rest → m ≤ m' → l .write ≤ l .read → slotStart hi ≤ l .base → l .base + l .len ≤ length W → SplitView W X lo hi l n κ s rest
     go {rest = rest} {m = m} n split (closed {done = done} {q = q} v) u a e t below within =
         splits {d = nil} {m = m} {m' = m} {c = 0} v (record { ds = []; seg = tt; count = refl; rep = begins-with (le-refl m) }) (omega arith) u e (agrees-pending q done rest a) t below within
     go {rest = rest} n split (current {done = done} {d = d} {q = q} {s = s} v o) u a e t below within =
@@ -95,7 +95,7 @@ split-side {c = c} (node k cs d) v b e = current v (record { first = earliest k 
 
 pub split-sides : {W X : List ℕ} {lo hi m m' m'' n c : ℕ} {l : Items} {q : Token} {done rest : Forest} (d : Forest) → EndedAt W X (l .base) n lo m q done → BackArray W X (l .base + n) c m m' d
     → n + c ≡ l .write → Ahead W X (l .base) (l .read) (l .len) m'' hi rest → m' ≤ m'' → Pending q done rest
-    → 8 * hi ≤ l .base → l .base + l .len ≤ length W → Sides statements W X lo m' m'' hi (walkOf l (SplitAt n)) (openOn q done d) rest
+    → slotStart hi ≤ l .base → l .base + l .len ≤ length W → Sides statements W X lo m' m'' hi (walkOf l (SplitAt n)) (openOn q done d) rest
 split-sides {q = q} {done = done} {rest = rest} d v b e u le p below within =
     record {
       runs = split;
@@ -113,7 +113,7 @@ split-sides {q = q} {done = done} {rest = rest} d v b e u le p below within =
 
 module _ {W X : List ℕ} {lo hi n : ℕ} {l : Items} where
   abbrev pub seek-split : {q : Token} {done d rest : Forest} {m m' m'' c : ℕ} → EndedAt W X (l .base) n lo m q done → BackArray W X (l .base + n) c m m' d → n + c ≡ l .write
-      → Ahead W X (l .base) (l .read) (l .len) m'' hi rest → m' ≤ m'' → l .write ≤ l .read → 8 * hi ≤ l .base → l .base + l .len ≤ length W → length W < 2 ^ 32 → CanSeek W l
+      → Ahead W X (l .base) (l .read) (l .len) m'' hi rest → m' ≤ m'' → l .write ≤ l .read → slotStart hi ≤ l .base → l .base + l .len ≤ length W → length W < 2 ^ 32 → CanSeek W l
   seek-split {d = d} {rest = rest} {m = m} {m'' = m''} {c = c} v b e u le t below within small =
       record {
         X = X;
@@ -168,7 +168,7 @@ module _ {W W' X : List ℕ} {lo hi n : ℕ} {l l' : Items} (small : length W < 
           let mv : Moved l l' = moved-same moved in
           let mb = mv .base in let ml = mv .len in let long = g .long in
           let bl = back-le (b .rep) in let al = ahead-le u in
-          let ended = ended-at-keep W W' (λ s o x y z w. g .same (8 * s + o) (inl (omega arith))) (λ j x y. g .same j (inl (omega arith))) v in
+          let ended = ended-at-keep W W' (λ s o x y z w. g .same (slotStart s + o) (inl (omega arith))) (λ j x y. g .same j (inl (omega arith))) v in
           ends (same-list (SplitAt n) (SplitAt n) refl mv)
           (record {
             l = hi;
@@ -192,7 +192,7 @@ module _ {W W' X : List ℕ} {lo hi n : ℕ} {l l' : Items} (small : length W < 
           let mb = mv .base in let ml = mv .len in let long = g .long in
           let bl = back-le (w .rep) in let al = ahead-le u in
           let c = passed-counts passed in
-          let ended = ended-at-keep W W' (λ s o x y z w. g .same (8 * s + o) (inl (omega arith))) (λ j x y. g .same j (inl (omega arith))) v in
+          let ended = ended-at-keep W W' (λ s o x y z w. g .same (slotStart s + o) (inl (omega arith))) (λ j x y. g .same j (inl (omega arith))) v in
           enters {t = openOn q done d'} {u = begins statements cs} (same-list (SplitAt n) (SplitAt n) refl mv)
           (record {
             sides =
@@ -210,10 +210,10 @@ module _ {W W' X : List ℕ} {lo hi n : ℕ} {l l' : Items} (small : length W < 
           let al' = ahead-le (seen .ahead) in let tl = t .low in let th = tree-below t in
           let c = passed-counts passed in
           let other = set-other W' W'' (l' .base + l' .write) b place in
-          let ended = ended-at-keep W W' (λ s o x y z w. g .same (8 * s + o) (inl (omega arith))) (λ j x y. g .same j (inl (omega arith))) v in
-          let ended' = ended-at-keep W' W'' (λ s o x y z w. other (8 * s + o) (omega arith)) (λ j x y. other j (omega (arith, seen .reached))) ended in
+          let ended = ended-at-keep W W' (λ s o x y z w. g .same (slotStart s + o) (inl (omega arith))) (λ j x y. g .same j (inl (omega arith))) v in
+          let ended' = ended-at-keep W' W'' (λ s o x y z w. other (slotStart s + o) (omega arith)) (λ j x y. other j (omega (arith, seen .reached))) ended in
           let items : BackArray W'' X (l .base + n) (seen .n + 1) m hm (node k cs d')
-          = array-put W' W'' (seen .done) t (le-refl a) (le-refl hm) (λ s o x y z w. other (8 * s + o) (omega arith)) (λ j x y. other j (omega (arith, seen .reached)))
+          = array-put W' W'' (seen .done) t (le-refl a) (le-refl hm) (λ s o x y z w. other (slotStart s + o) (omega arith)) (λ j x y. other j (omega (arith, seen .reached)))
           (ap (wd W'') (seen .reached) ∙ set-same W' W'' (l' .base + l' .write) b place (omega arith)) in
           let on-list = movedTo l' (l' .read) (l' .write + 1) in
           goes {w' = walkOf on-list (SplitAt n)} {s' = openOn q done (node k cs d')} (same-list (SplitAt n) (SplitAt n) refl (record { owner = mv .owner; base = mb; len = ml }))
@@ -222,7 +222,7 @@ module _ {W W' X : List ℕ} {lo hi n : ℕ} {l l' : Items} (small : length W < 
             m = hm;
             sides =
                 split-sides {c = seen .n + 1} {l = on-list} (node k cs d') (ended-rebase (sym mb) ended') (open-items (ap (λ (x : ℕ). x + n) (sym mb)) refl items) (omega (arith, seen .reached))
-                (ahead-keep W' W'' (λ s o x y z w. other (8 * s + o) (omega arith)) (λ j x y. other j (omega arith)) (seen .ahead))
+                (ahead-keep W' W'' (λ s o x y z w. other (slotStart s + o) (omega arith)) (λ j x y. other j (omega arith)) (seen .ahead))
                 (le-refl hm) (pending-tree q done k cs rest' full (pending-passed q done passed p)) (omega arith) (omega (arith, set-long W' W'' (l' .base + l' .write) b place));
             turning = omega arith;
           })
@@ -233,11 +233,11 @@ module _ {W W' X : List ℕ} {lo hi n : ℕ} {l l' : Items} (small : length W < 
 
   -- where an item that is kept goes to
   pub split-place : {κ : Kind} {s : State κ} {rest : Forest} {b : ℕ} → Sought W l 0x2 (Children l' b) W' → SplitView W X lo hi l n κ s rest
-      → (l .base ≤ l' .base + l' .write) × (l' .base + l' .write < l .base + l .len) × (l .base + l .len ≤ length W') × (8 * b + 8 ≤ length W')
+      → (l .base ≤ l' .base + l' .write) × (l' .base + l' .write < l .base + l .len) × (l .base + l .len ≤ length W') × (slotEnd b ≤ length W')
   split-place {b = b} g (splits {q = q} {done = done} {d = d} {rest = rest} {m = m} v w e u le p t below within) = go (g .to (seek-split v w e u le t below within small) isSemicolon semicolon-class)
     where
       go : SoughtTo W' X l (l .base + n) m hi isSemicolon d rest (Children l' b)
-          → (l .base ≤ l' .base + l' .write) × (l' .base + l' .write < l .base + l .len) × (l .base + l .len ≤ length W') × (8 * b + 8 ≤ length W')
+          → (l .base ≤ l' .base + l' .write) × (l' .base + l' .write < l .base + l .len) × (l .base + l .len ≤ length W') × (slotEnd b ≤ length W')
       go (tree moved before passed full unfree t seen) =
           let mv : Moved l l' = moved-same moved in
           let mb = mv .base in let ml = mv .len in let long = g .long in let al = ahead-le (seen .ahead) in let th = tree-below t in
@@ -247,7 +247,7 @@ module _ {W W' : List ℕ} {l l' : Items} {n : ℕ} where
   pub turned-split-over : Sought W l 0x2 (Nothing l') W' → Turned W (walkOf l (SplitAt n)) (Over (walkOf l' (SplitAt n))) W'
   turned-split-over g = record { to = λ h. split-over (h .small) g (split-view (h .holds)); within = λ h. sought-within g }
 
-  pub split-room : {b : ℕ} → Sought W l 0x2 (Children l' b) W' → CanTurn W (walkOf l (SplitAt n)) → (8 * b + 8 ≤ length W') × (l' .base + l' .write < length W')
+  pub split-room : {b : ℕ} → Sought W l 0x2 (Children l' b) W' → CanTurn W (walkOf l (SplitAt n)) → (slotEnd b ≤ length W') × (l' .base + l' .write < length W')
   split-room g h = let p = split-place (h .small) g (split-view (h .holds)) in (p .3, omega (arith, p .1, p .2))
 
   inner-within : {X : List ℕ} {lo hi b : ℕ} {r : Turn} {W'' : List ℕ} → Sought W l 0x2 (Children l' b) W' → InnerTo W' l' b (SplitAt n) r W''

@@ -1,7 +1,7 @@
 -- A minus or a not takes its operand: what `prefix`, `to_add` and `subtract` do to the words, said of the list's trees, and the turn that each path of
 -- `token` and `minus` is.
 use Rattle.words.specs.Fields.{withOperator}
-use Prim.Native.Nat.{ℕ, _+_, _*_, _-_, _^_, _≤_, _<_}
+use Prim.Native.Nat.{ℕ, _+_, _-_, _^_, _≤_, _<_}
 use mathlib.Core.Path.{_≡_, refl, sym, ap, _∙_, subst}
 use mathlib.Core.Logic.{_≢_, _⊎_, inl, inr, ⊎-elim}
 use mathlib.Core.Bool.{true, false, true≢false}
@@ -20,7 +20,7 @@ use Rattle.ops.specs.Classes.{passClasses, ownClasses, inClass, bitAt}
 use Rattle.ops.specs.Operators.{meant}
 use Rattle.ops.specs.declared.BeforeMinus.{BeforeMinus as Before}
 use Rattle.ops.proofs.OperatorLaws.{agree-at}
-use Rattle.nodes.specs.Store.{wd, TokenAt, reserve, Out, RepT, Free}
+use Rattle.nodes.specs.Store.{wd, slotWords, nextField, classesField, slotStart, slotEnd, firstWord, classesWord, operatorWordAt, firstAt, TokenAt, reserve, Out, RepT, Free}
 use Rattle.nodes.specs.Slots.{opAt, isLeafAt, Made}
 use Rattle.nodes.specs.declared.frames.List.{List as Items}
 use Rattle.nodes.proofs.Runs.{set-same, set-other, set-long}
@@ -70,9 +70,9 @@ module _ {W W' X : List ℕ} {lo l m hi a q : ℕ} {v : Items} {d rest : Forest}
           let long = prefix-long w in
           let beside : RepT W (q ∷ X) b c e n ns = tree-under q (inl (omega arith)) t in
           let taken : RepT Z X q a e o (node n ns nil) = attach-tree (w .attached) beside token pos out own (omega arith) (omega arith) (le-refl e) in
-          let taken' : RepT W' X q a e o (node n ns nil) = tree-keep Z W' (λ s i x y z u j. stored (8 * s + i) (omega arith)) taken in
-          let slots : (s i : ℕ) → s < hi → i < 8 → s ≢ q → s ≢ b → wd W' (8 * s + i) ≡ wd W (8 * s + i)
-          = λ s i x y z u. stored (8 * s + i) (omega arith) ∙ w .attached .same (8 * s + i) (omega arith) (omega arith) (omega arith) in
+          let taken' : RepT W' X q a e o (node n ns nil) = tree-keep Z W' (λ s i x y z u j. stored (slotStart s + i) (omega arith)) taken in
+          let slots : (s i : ℕ) → s < hi → i < slotWords → s ≢ q → s ≢ b → wd W' (slotStart s + i) ≡ wd W (slotStart s + i)
+          = λ s i x y z u. stored (slotStart s + i) (omega arith) ∙ w .attached .same (slotStart s + i) (omega arith) (omega arith) (omega arith) in
           let words : (j : ℕ) → v .base ≤ j → j ≢ at → wd W' j ≡ wd W j
           = λ j x y. stored j y ∙ w .attached .same j (omega arith) (omega arith) (omega arith) in
           under
@@ -105,30 +105,30 @@ add-bits : (i : ℕ) → i < 32 → bitAt 0x40_0080 i ≡ inClass i Operator.add
 unfolding bitAt inClass passClasses ownClasses isOneOf any isQueryOrLoop isMathCall Operator.between
 add-bits i h = agree-at (bitAt 0x40_0080) (λ j. inClass j Operator.add) 32 tt i h
 
-added-token : {W W' : List ℕ} {s : ℕ} {k : Token} → Added W s W' → 8 * s + 8 ≤ length W → TokenAt W s k → TokenAt W' s (renamed Operator.add k)
+added-token : {W W' : List ℕ} {s : ℕ} {k : Token} → Added W s W' → slotEnd s ≤ length W → TokenAt W s k → TokenAt W' s (renamed Operator.add k)
 added-token {W} {W'} {s} w room t =
-    token-keep (w .Z) W' s (λ i h. w .same (8 * s + i) (omega arith)) (token-renamed W (w .Z) s Operator.add (w .renamed) room (omega arith) t)
+    token-keep (w .Z) W' s (λ i h. w .same (slotStart s + i) (omega arith)) (token-renamed W (w .Z) s Operator.add (w .renamed) room (omega arith) t)
 
-added-same : {W W' : List ℕ} {s : ℕ} → Added W s W' → (j : ℕ) → j ≢ 8 * s → j ≢ 8 * s + 7 → wd W' j ≡ wd W j
-added-same {W} {W'} {s} w j a b = w .same j b ∙ set-other W (w .Z) (8 * s) (withOperator (wd W (8 * s)) Operator.add) (w .renamed) j a
+added-same : {W W' : List ℕ} {s : ℕ} → Added W s W' → (j : ℕ) → j ≢ slotStart s → j ≢ classesWord s → wd W' j ≡ wd W j
+added-same {W} {W'} {s} w j a b = w .same j b ∙ set-other W (w .Z) (slotStart s) (withOperator (operatorWordAt W s) Operator.add) (w .renamed) j a
 
-added-leaf : {W W' X : List ℕ} {s l m : ℕ} {k : Token} → Added W s W' → 8 * s + 8 ≤ length W → TokenAt W s k → wd W (8 * s + 5) ≡ 0 → 0 < s → Out s X → l ≤ s → s < m
+added-leaf : {W W' X : List ℕ} {s l m : ℕ} {k : Token} → Added W s W' → slotEnd s ≤ length W → TokenAt W s k → firstAt W s ≡ 0 → 0 < s → Out s X → l ≤ s → s < m
     → RepT W' X s l m (renamed Operator.add k) nil
 unfolding renamed reserve
 added-leaf {W} {W'} {X} {s} {l} {m} w room t none pos out low high =
-    let leafy : isLeafAt W s ≡ true = eq-eqb (wd W (8 * s + 5)) 0 none in
+    let leafy : isLeafAt W s ≡ true = eq-eqb (firstAt W s) 0 none in
     leaf-tree low (omega arith) pos (one-out s X out) (added-token w room t)
     (notes-leaf (λ i h. ap (λ (x : ℕ). bitAt x i) (w .leaf leafy) ∙ add-bits i h))
-    (added-same w (8 * s + 5) (omega arith) (omega arith) ∙ none)
+    (added-same w (firstWord s) (omega arith) (omega arith) ∙ none)
 
 -- a tree, leaf or not
-added-tree : {W W' X : List ℕ} {s l m : ℕ} {k : Token} (ks : Forest) → Added W s W' → 8 * s + 8 ≤ length W → RepT W X s l m k ks → RepT W' X s l m (renamed Operator.add k) ks
+added-tree : {W W' X : List ℕ} {s l m : ℕ} {k : Token} (ks : Forest) → Added W s W' → slotEnd s ≤ length W → RepT W X s l m k ks → RepT W' X s l m (renamed Operator.add k) ks
 unfolding reserve isNil
 added-tree nil w room t = added-leaf w room (t .token) (leaf-first t) (t .pos) (tree-out t) (t .low) (tree-below t)
 added-tree {W} {W'} {X} {s} {l} {m} {k} (node c cs r) w room t =
     let inner = w .inner (leaf-test (node c cs r) t) in
-    let below : (i o : ℕ) → i ≢ s → o < 8 → wd W' (8 * i + o) ≡ wd W (8 * i + o) = λ i o e h. added-same w (8 * i + o) (omega arith) (omega arith) in
-    let first = added-same w (8 * s + 5) (omega arith) (omega arith) in
+    let below : (i o : ℕ) → i ≢ s → o < slotWords → wd W' (slotStart i + o) ≡ wd W (slotStart i + o) = λ i o e h. added-same w (slotStart i + o) (omega arith) (omega arith) in
+    let first = added-same w (firstWord s) (omega arith) (omega arith) in
     record {
       cs = t .cs;
       low = t .low;
@@ -137,7 +137,7 @@ added-tree {W} {W'} {X} {s} {l} {m} {k} (node c cs r) w room t =
       out = t .out;
       token = added-token w room (t .token);
       noted = noted-keep inner (notes-over (renamed Operator.add k) (notes-below (t .noted)));
-      chain = rw first (links-keep W W' (wd W (8 * s + 5)) (t .kids) (λ i a b x. below i 6 (x .0) (omega arith)) (t .chain));
+      chain = rw first (links-keep W W' (firstAt W s) (t .kids) (λ i a b x. below i nextField (x .0) (omega arith)) (t .chain));
       kids = rep-keep W W' (λ i o a b h x y. below i o (x .0) h) (t .kids);
     }
 
@@ -155,7 +155,7 @@ turn-on {read = read} {write = write} {v = v} r h e = goes (same-list v read wri
 
 -- words that are kept on both sides of the token keep the list
 right-keep : (W W' : List ℕ) {X : List ℕ} {lo l m hi : ℕ} {v : Items} {d rest : Forest}
-    → ((s o : ℕ) → (s < l) ⊎ (m ≤ s) → s < hi → o < 8 → wd W' (8 * s + o) ≡ wd W (8 * s + o))
+    → ((s o : ℕ) → (s < l) ⊎ (m ≤ s) → s < hi → o < slotWords → wd W' (slotStart s + o) ≡ wd W (slotStart s + o))
     → ((j : ℕ) → v .base ≤ j → (j < v .base + v .read) ⊎ (v .base + v .write ≤ j) → wd W' j ≡ wd W j) → length W' ≡ length W
     → RightList W X lo l m hi v d rest → RightList W' X lo l m hi v d rest
 right-keep W W' slots words long r =
@@ -172,7 +172,7 @@ right-keep W W' slots words long r =
 
 module _ {W : List ℕ} {v : Items} {b : ℕ} (g : CanTakeToken W v b) where
   -- its slot is below the stack
-  pub token-slot : 8 * b + 8 ≤ v .base
+  pub token-slot : slotEnd b ≤ v .base
   token-slot =
       let high = tree-below (g .tree) in
       let done = ahead-le (g .list .done) .0 in
@@ -182,10 +182,10 @@ module _ {W : List ℕ} {v : Items} {b : ℕ} (g : CanTakeToken W v b) where
   token-room = let within = g .list .within in (omega arith, within, g .list .small)
 
   -- so is that of the first done item
-  pub done-slot : v .write < v .len → 8 * wd W (v .base + v .write) + 8 ≤ v .base
+  pub done-slot : v .write < v .len → slotEnd (wd W (v .base + v .write)) ≤ v .base
   done-slot full = go (ahead-item (wd W (v .base + v .write)) refl full (g .list .done))
     where
-      go : {f : Forest} → AheadTo W (g .X) (v .base) (v .write) (v .len) (g .m) (g .hi) (wd W (v .base + v .write)) f → 8 * wd W (v .base + v .write) + 8 ≤ v .base
+      go : {f : Forest} → AheadTo W (g .X) (v .base) (v .write) (v .len) (g .m) (g .hi) (wd W (v .base + v .write)) f → slotEnd (wd W (v .base + v .write)) ≤ v .base
       go (item from t more) = omega (arith, tree-below t, ahead-le more .0, g .list .below)
 
   pub can-prefix : v .write < v .len → CanPrefix W v b
@@ -273,9 +273,9 @@ module _ {W : List ℕ} {v : Items} {b : ℕ} (g : CanTakeToken W v b) where
           go : {h : Forest} → LastUnread W (g .X) (v .base) (v .read) (g .lo) (g .l) h → Q h
           go (last {a = a} {c = c} {p = p} {ps = ps} {left = left} t h r) = f p ps left a c t h r
 
-      pub last-slot : 8 * wd W (v .base + (v .read - 1)) + 8 ≤ v .base
+      pub last-slot : slotEnd (wd W (v .base + (v .read - 1))) ≤ v .base
       last-slot =
-          with-last (λ f. 8 * wd W (v .base + (v .read - 1)) + 8 ≤ v .base)
+          with-last (λ f. slotEnd (wd W (v .base + (v .read - 1))) ≤ v .base)
           (λ p ps left a c t h r. omega (arith, tree-below t, g .list .mid, ahead-le (g .list .done) .0, g .list .below))
 
       pub operator-turn : {W' : List ℕ} → Prefixed W (v .base + v .write) b W' → beforeMinus (opAt W (wd W (v .base + (v .read - 1)))) ≡ operator
@@ -321,8 +321,8 @@ module _ {W : List ℕ} {v : Items} {b : ℕ} (g : CanTakeToken W v b) where
               let below = g .list .below in
               let room = g .list .within in
               let own = last-slot in
-              let fits : 8 * b' + 8 ≤ length W = omega (arith, token-room) in
-              let slots : (x o : ℕ) → x ≢ b' → o < 8 → wd W' (8 * x + o) ≡ wd W (8 * x + o) = λ x o n i. added-same w (8 * x + o) (omega arith) (omega arith) in
+              let fits : slotEnd b' ≤ length W = omega (arith, token-room) in
+              let slots : (x o : ℕ) → x ≢ b' → o < slotWords → wd W' (slotStart x + o) ≡ wd W (slotStart x + o) = λ x o n i. added-same w (slotStart x + o) (omega arith) (omega arith) in
               let words : (j : ℕ) → v .base ≤ j → wd W' j ≡ wd W j = λ j i. added-same w j (omega arith) (omega arith) in
               let s' = back-array-keep W W' (λ x o i n y z. slots x o (omega arith) y) (λ j i n. words j i) s in
               let t' = added-tree ps w fits t in
@@ -375,25 +375,25 @@ module _ {W : List ℕ} {v : Items} {b : ℕ} (g : CanTakeToken W v b) where
           let top = ahead-le (g .list .done) .0 in
           let below = g .list .below in
           right-keep W (w .W1)
-          (λ s o e h i. w .made .same (8 * s + o) (⊎-elim (λ x. inl (omega arith)) (λ x. inr (omega arith)) e))
+          (λ s o e h i. w .made .same (slotStart s + o) (⊎-elim (λ x. inl (omega arith)) (λ x. inr (omega arith)) e))
           (λ j h e. w .made .same j (inr (omega arith))) (w .made .long) (g .list)
 
-      own-words : (o : ℕ) → o < 8 → wd (w .W2) (8 * b + o) ≡ wd W (8 * b + o)
+      own-words : (o : ℕ) → o < slotWords → wd (w .W2) (slotStart b + o) ≡ wd W (slotStart b + o)
       own-words o h =
           let spare = spare-in in
           let top = ahead-le (g .list .done) .0 in
           let below = g .list .below in
           go (ahead-item (wd (w .W1) (v .base + v .write)) refl full (made-list .done))
         where
-          go : {f : Forest} → AheadTo (w .W1) (g .X) (v .base) (v .write) (v .len) (g .m) (g .hi) (wd (w .W1) (v .base + v .write)) f → wd (w .W2) (8 * b + o) ≡ wd W (8 * b + o)
+          go : {f : Forest} → AheadTo (w .W1) (g .X) (v .base) (v .write) (v .len) (g .m) (g .hi) (wd (w .W1) (v .base + v .write)) f → wd (w .W2) (slotStart b + o) ≡ wd W (slotStart b + o)
           go (item from t more) =
               let spare = spare-in in
               let top = ahead-le (g .list .done) .0 in
               let below = g .list .below in
               let low = t .low in
-              set-other (w .prefixed .Z) (w .W2) (v .base + v .write) (b + 1) (w .prefixed .stored) (8 * b + o) (omega arith)
-              ∙ w .prefixed .attached .same (8 * b + o) (omega arith) (omega arith) (omega arith)
-              ∙ w .made .same (8 * b + o) (inl (omega arith))
+              set-other (w .prefixed .Z) (w .W2) (v .base + v .write) (b + 1) (w .prefixed .stored) (slotStart b + o) (omega arith)
+              ∙ w .prefixed .attached .same (slotStart b + o) (omega arith) (omega arith) (omega arith)
+              ∙ w .made .same (slotStart b + o) (inl (omega arith))
 
       added-list : {n : Token} {ns s : Forest} → RightList (w .W2) (g .X) (g .lo) (g .l) (b + 1) (g .hi) v (node (bare Operator.negate (g .k)) (node n ns nil) s) (g .rest)
           → RightList W' (g .X) (g .lo) (g .l) (g .l) (g .hi) (movedTo v (v .read) (v .write - 1)) (node (renamed Operator.add (g .k)) nil (node (bare Operator.negate (g .k)) (node n ns nil) s)) (g .rest)
@@ -407,14 +407,14 @@ module _ {W : List ℕ} {v : Items} {b : ℕ} (g : CanTakeToken W v b) where
           let room = token-room in
           let at = v .base + (v .write - 1) in
           let list3 = right-keep (w .W2) (w .W3)
-          (λ x o e h i. ⊎-elim (λ y. added-same (w .added) (8 * x + o) (omega arith) (omega arith)) (λ y. added-same (w .added) (8 * x + o) (omega arith) (omega arith)) e)
+          (λ x o e h i. ⊎-elim (λ y. added-same (w .added) (slotStart x + o) (omega arith) (omega arith)) (λ y. added-same (w .added) (slotStart x + o) (omega arith) (omega arith)) e)
           (λ j h e. added-same (w .added) j (omega arith) (omega arith)) (w .added .long) list2 in
           let long3 = w .added .long in
           let other = set-other (w .W3) W' at b (w .stored) in
-          let list4 = right-keep (w .W3) W' (λ x o e h i. other (8 * x + o) (omega arith)) (λ j h e. other j (⊎-elim (λ y. omega arith) (λ y. omega arith) e)) (set-long (w .W3) W' at b (w .stored)) list3 in
+          let list4 = right-keep (w .W3) W' (λ x o e h i. other (slotStart x + o) (omega arith)) (λ j h e. other j (⊎-elim (λ y. omega arith) (λ y. omega arith) e)) (set-long (w .W3) W' at b (w .stored)) list3 in
           let plus3 : RepT (w .W3) (g .X) b (g .l) (b + 1) (renamed Operator.add (g .k)) nil
           = added-leaf (w .added) (omega arith) (token-keep W (w .W2) b (λ o h. own-words o (omega arith)) (g .tree .token)) (own-words 5 (omega arith) ∙ leaf-first (g .tree)) (g .tree .pos) (tree-out (g .tree)) low (omega arith) in
-          let plus4 : RepT W' (g .X) b (g .l) (b + 1) (renamed Operator.add (g .k)) nil = tree-keep (w .W3) W' (λ x o i h y z q. other (8 * x + o) (omega arith)) plus3 in
+          let plus4 : RepT W' (g .X) b (g .l) (b + 1) (renamed Operator.add (g .k)) nil = tree-keep (w .W3) W' (λ x o i h y z q. other (slotStart x + o) (omega arith)) plus3 in
           let next : v .write ≡ v .write - 1 + 1 = omega arith in
           record {
             unread = list4 .unread;
@@ -453,7 +453,7 @@ module _ {W : List ℕ} {v : Items} {b : ℕ} (g : CanTakeToken W v b) where
           record {
             kept = λ j f o.
                 set-other (w .W3) W' at b (w .stored) j (⊎-elim (λ x. omega arith) (λ x. omega arith) o)
-                ∙ added-same (w .added) j (λ e. f b 0 (omega arith) (omega arith) (omega arith) (tree-out (g .tree)) (omega arith)) (f b 7 (omega arith) (omega arith) (omega arith) (tree-out (g .tree)))
+                ∙ added-same (w .added) j (λ e. f b 0 (omega arith) (omega arith) (omega arith) (tree-out (g .tree)) (omega arith)) (f b classesField (omega arith) (omega arith) (omega arith) (tree-out (g .tree)))
                 ∙ prefix-kept made-list (w .prefixed) spare-out (omega arith) (le-refl (b + 1)) (omega arith) full (omega arith) j f (⊎-elim (λ x. omega arith) (λ x. omega arith) o)
                 ∙ laid-kept (g .X) (g .lo) (g .hi) (w .made) (omega arith) (omega arith) spare-out j f;
             long = set-long (w .W3) W' at b (w .stored) ∙ w .added .long ∙ prefix-long (w .prefixed) ∙ w .made .long;
@@ -461,29 +461,29 @@ module _ {W : List ℕ} {v : Items} {b : ℕ} (g : CanTakeToken W v b) where
 
 -- ---- what the functions ensure
 
-pub added-leaf-words : (W Z W' : List ℕ) (s : ℕ) → 8 * s + 8 ≤ length W → isLeafAt W s ≡ true → Z ≡ set W (8 * s) (withOperator (wd W (8 * s)) Operator.add)
-    → W' ≡ set Z (8 * s + 7) 0x40_0080 → Added W s W'
+pub added-leaf-words : (W Z W' : List ℕ) (s : ℕ) → slotEnd s ≤ length W → isLeafAt W s ≡ true → Z ≡ set W (slotStart s) (withOperator (operatorWordAt W s) Operator.add)
+    → W' ≡ set Z (classesWord s) 0x40_0080 → Added W s W'
 added-leaf-words W Z W' s room leafy ez ew =
-    let long = set-long W Z (8 * s) (withOperator (wd W (8 * s)) Operator.add) ez in
+    let long = set-long W Z (slotStart s) (withOperator (operatorWordAt W s) Operator.add) ez in
     record {
       Z = Z;
       renamed = ez;
-      leaf = λ e. set-same Z W' (8 * s + 7) 0x40_0080 ew (omega arith);
+      leaf = λ e. set-same Z W' (classesWord s) 0x40_0080 ew (omega arith);
       inner = λ e. absurd (true≢false (sym leafy ∙ e));
-      same = set-other Z W' (8 * s + 7) 0x40_0080 ew;
-      long = set-long Z W' (8 * s + 7) 0x40_0080 ew ∙ long;
+      same = set-other Z W' (classesWord s) 0x40_0080 ew;
+      long = set-long Z W' (classesWord s) 0x40_0080 ew ∙ long;
     }
 
-pub added-inner-words : (W W' : List ℕ) (s : ℕ) → isLeafAt W s ≡ false → W' ≡ set W (8 * s) (withOperator (wd W (8 * s)) Operator.add) → Added W s W'
+pub added-inner-words : (W W' : List ℕ) (s : ℕ) → isLeafAt W s ≡ false → W' ≡ set W (slotStart s) (withOperator (operatorWordAt W s) Operator.add) → Added W s W'
 added-inner-words W W' s leafy ew =
-    let v = withOperator (wd W (8 * s)) Operator.add in
+    let v = withOperator (operatorWordAt W s) Operator.add in
     record {
       Z = W';
       renamed = ew;
       leaf = λ e. absurd (true≢false (sym e ∙ leafy));
-      inner = λ e. set-other W W' (8 * s) v ew (8 * s + 7) (omega arith);
+      inner = λ e. set-other W W' (slotStart s) v ew (classesWord s) (omega arith);
       same = λ j n. refl;
-      long = set-long W W' (8 * s) v ew;
+      long = set-long W W' (slotStart s) v ew;
     }
 
 pub prefix-made : {W W1 : List ℕ} {v : Items} {b q : ℕ} → CanSubtract W v b → q ≡ b + 1 → Made W q Operator.negate b W1 → CanPrefix W1 v q
@@ -516,7 +516,7 @@ what-before e h q = ap beforeMinus (sym h) ∙ sym e ∙ ap meant q
 is-minus : {W : List ℕ} {v : Items} {b : ℕ} → CanTakeMinus W v b → (g : CanTakeToken W v b) → g .k .op ≡ Operator.negate
 is-minus c g = sym (tree-op (g .tree)) ∙ c .isMinus
 
-pub previous-slot : {W : List ℕ} {v : Items} {b : ℕ} → CanTakeMinus W v b → 0 < v .read → 8 * wd W (v .base + (v .read - 1)) + 8 ≤ length W
+pub previous-slot : {W : List ℕ} {v : Items} {b : ℕ} → CanTakeMinus W v b → 0 < v .read → slotEnd (wd W (v .base + (v .read - 1))) ≤ length W
 previous-slot c z = let own = last-slot (c .token) (is-minus c (c .token)) (c .full) z in omega (arith, token-room (c .token))
 
 module _ {W W' : List ℕ} {v : Items} {b : ℕ} {t : Turn} (c : CanTakeMinus W v b) where
@@ -559,7 +559,7 @@ read-some h = omega arith
 pub operand-some : {W : List ℕ} {v : Items} {b : ℕ} → CanTakeToken W v b → (v .write ≡ v .len → ⊥) → v .write < v .len
 operand-some g h = let count = ahead-le (g .list .done) .1 in omega arith
 
-pub token-within : {W : List ℕ} {v : Items} {b : ℕ} → CanTakeToken W v b → 8 * b + 8 ≤ length W
+pub token-within : {W : List ℕ} {v : Items} {b : ℕ} → CanTakeToken W v b → slotEnd b ≤ length W
 token-within g = let own = token-slot g in omega (arith, token-room g)
 
 pub minus-subtract : {W : List ℕ} {v : Items} {b : ℕ} → CanTakeMinus W v b → CanSubtract W v b

@@ -1,6 +1,6 @@
 -- A list of the unary pass in its words: the last unread item, an item put before the done ones, a list that the pass holds at a turn, and the loop of
 -- `previous_token`.
-use Prim.Native.Nat.{ℕ, _+_, _*_, _-_, _^_, _≤_, _<_}
+use Prim.Native.Nat.{ℕ, _+_, _-_, _^_, _≤_, _<_}
 use mathlib.Core.Path.{_≡_, refl, sym, ap, _∙_, subst}
 use mathlib.Core.Logic.{_⊎_, ⊎-elim}
 use mathlib.Core.Bool.{Bool, true, false, true≢false}
@@ -12,7 +12,7 @@ use Rattle.molang.specs.Forest.{Token, Forest, nil, node, count}
 use Rattle.molang.specs.Free.{isNil, isPrefix}
 use Rattle.molang.specs.Work.{Kind, State, Right, right, unaryMinusAndNot}
 use Rattle.ops.specs.Classes.{shares}
-use Rattle.nodes.specs.Store.{wd, SegB, RepT, RepB, begins, put}
+use Rattle.nodes.specs.Store.{wd, slotWords, slotStart, slotEnd, classesAt, SegB, RepT, RepB, begins, put}
 use Rattle.nodes.specs.Slots.{isLeafAt}
 use Rattle.nodes.specs.declared.frames.List.{List as Items}
 use Rattle.nodes.proofs.Runs.{set-same, set-other, set-long}
@@ -131,14 +131,14 @@ seek-back-start v h =
 
 module _ {W : List ℕ} {v : Items} {g : CanSeekBack W v} {Z : List ℕ} {read write : ℕ} (s : SeekBackAt W v g Z read write) (z : 0 < read) where
   -- the item's slot is below the stack
-  seek-back-slot : 8 * wd Z (v .base + (read - 1)) + 8 ≤ v .base
+  seek-back-slot : slotEnd (wd Z (v .base + (read - 1))) ≤ v .base
   seek-back-slot = go (unread-last (s .list .unread) z)
     where
-      go : {rest : Forest} → LastUnread Z (g .X) (v .base) read (g .lo) (s .l) rest → 8 * wd Z (v .base + (read - 1)) + 8 ≤ v .base
+      go : {rest : Forest} → LastUnread Z (g .X) (v .base) read (g .lo) (s .l) rest → slotEnd (wd Z (v .base + (read - 1))) ≤ v .base
       go (last t h r) = omega (arith, tree-below t, s .list .mid, ahead-le (s .list .done) .0, s .list .below)
 
   -- it is passed over
-  seek-back-more : (Z' : List ℕ) → read ≤ write → write ≤ v .len → shares (wd Z (8 * wd Z (v .base + (read - 1)) + 7)) 0x10 ≡ false
+  seek-back-more : (Z' : List ℕ) → read ≤ write → write ≤ v .len → shares (classesAt Z (wd Z (v .base + (read - 1)))) 0x10 ≡ false
       → Z' ≡ set Z (v .base + (write - 1)) (wd Z (v .base + (read - 1))) → SeekBackAt W v g Z' (read - 1) (write - 1)
   seek-back-more Z' behind within f ez = go (s .moved) (unread-last (s .list .unread) z)
     where
@@ -152,7 +152,7 @@ module _ {W : List ℕ} {v : Items} {g : CanSeekBack W v} {Z : List ℕ} {read w
           let room = s .list .within in
           let ab = t .low in
           let bc = tree-below t in
-          let slots : (x o : ℕ) → x < g .hi → o < 8 → wd Z' (8 * x + o) ≡ wd Z (8 * x + o) = λ x o y u. other (8 * x + o) (omega arith) in
+          let slots : (x o : ℕ) → x < g .hi → o < slotWords → wd Z' (slotStart x + o) ≡ wd Z (slotStart x + o) = λ x o y u. other (slotStart x + o) (omega arith) in
           let t' : RepT Z' (g .X) b a (s .m) p ps = tree-widen (le-refl a) (omega arith) (tree-keep Z Z' (λ x o y u w q n. slots x o (omega arith) w) t) in
           let next : write ≡ write - 1 + 1 = omega arith in
           let r' = back-array-keep Z Z' (λ x o y u w q. slots x o (omega arith) w) (λ j y u. other j (omega arith)) r in
@@ -182,7 +182,7 @@ module _ {W : List ℕ} {v : Items} {g : CanSeekBack W v} {Z : List ℕ} {read w
   shorter h r = record { unread = r; done = s .list .done; mid = h; below = s .list .below; within = s .list .within; small = s .list .small }
 
   -- it is a minus or a not
-  seek-back-leaf : read ≤ write → shares (wd Z (8 * wd Z (v .base + (read - 1)) + 7)) 0x10 ≡ true → isLeafAt Z (wd Z (v .base + (read - 1))) ≡ true
+  seek-back-leaf : read ≤ write → shares (classesAt Z (wd Z (v .base + (read - 1)))) 0x10 ≡ true → isLeafAt Z (wd Z (v .base + (read - 1))) ≡ true
       → SoughtBackTo Z (g .X) (g .lo) (g .hi) v (g .d) (g .rest) (Leaf (movedTo v (read - 1) write) (wd Z (v .base + (read - 1))))
   unfolding isNil
   seek-back-leaf behind f leafy = go (s .moved) (unread-last (s .list .unread) z)
@@ -229,7 +229,7 @@ seek-back-none {W} {v} {g} {Z} {read} {write} s behind e =
     (subst (λ (f : Forest). Moved (g .d) (g .rest) (s .d) f) over (s .moved))
 
 module _ {W : List ℕ} {v : Items} {Z : List ℕ} {read write : ℕ} (s : SeekingBack W v Z read write) where
-  pub seek-back-in : CanSeekBack W v → 0 < read → (v .base + (read - 1) < length Z) × (8 * wd Z (v .base + (read - 1)) + 8 ≤ length Z) × (v .base + write < length Z + 1) × (length Z < 2 ^ 32)
+  pub seek-back-in : CanSeekBack W v → 0 < read → (v .base + (read - 1) < length Z) × (slotEnd (wd Z (v .base + (read - 1))) ≤ length Z) × (v .base + write < length Z + 1) × (length Z < 2 ^ 32)
   seek-back-in g z =
       let slot = seek-back-slot (s .at g) z in
       let long = s .long in
@@ -239,7 +239,7 @@ module _ {W : List ℕ} {v : Items} {Z : List ℕ} {read write : ℕ} (s : Seeki
       let high = s .within in
       (omega arith, omega arith, omega arith, omega arith)
 
-  pub seek-back-turn : (Z' : List ℕ) → 0 < read → shares (wd Z (8 * wd Z (v .base + (read - 1)) + 7)) 0x10 ≡ false
+  pub seek-back-turn : (Z' : List ℕ) → 0 < read → shares (classesAt Z (wd Z (v .base + (read - 1)))) 0x10 ≡ false
       → Z' ≡ set Z (v .base + (write - 1)) (wd Z (v .base + (read - 1))) → SeekingBack W v Z' (read - 1) (write - 1)
   seek-back-turn Z' z f ez =
       let behind = s .behind in
@@ -252,7 +252,7 @@ module _ {W : List ℕ} {v : Items} {Z : List ℕ} {read write : ℕ} (s : Seeki
         long = set-long Z Z' (v .base + (write - 1)) (wd Z (v .base + (read - 1))) ez ∙ s .long;
       }
 
-  pub sought-back-leaf : 0 < read → shares (wd Z (8 * wd Z (v .base + (read - 1)) + 7)) 0x10 ≡ true → isLeafAt Z (wd Z (v .base + (read - 1))) ≡ true
+  pub sought-back-leaf : 0 < read → shares (classesAt Z (wd Z (v .base + (read - 1)))) 0x10 ≡ true → isLeafAt Z (wd Z (v .base + (read - 1))) ≡ true
       → (v' : Items) → v' ≡ movedTo v (read - 1) write → SoughtBack W v (Leaf v' (wd Z (v .base + (read - 1)))) Z
   sought-back-leaf z f leafy v' e =
       rw e (record { to = λ g. seek-back-leaf (s .at g) z (s .behind) f leafy; same = s .same; long = s .long })

@@ -1,5 +1,5 @@
 -- An operator of a binary level takes its sides: what the functions on it ask, and the words that they leave.
-use Prim.Native.Nat.{ℕ, _+_, _*_, _-_, _≤_, _<_}
+use Prim.Native.Nat.{ℕ, _+_, _-_, _≤_, _<_}
 use mathlib.Core.Path.{_≡_}
 use mathlib.Core.Logic.{_≢_}
 use mathlib.Core.Bool.{true, false}
@@ -11,7 +11,7 @@ use Rattle.molang.specs.Forest.{Token, Forest, nil, node}
 use Rattle.molang.specs.Binary.{firstLeaf}
 use Rattle.ops.specs.Classes.{shares}
 use Rattle.ops.specs.declared.classes.TokenClasses.{TokenClasses}
-use Rattle.nodes.specs.Store.{wd, TokenAt, RepT}
+use Rattle.nodes.specs.Store.{wd, slotStart, slotEnd, classesAt, TokenAt, RepT}
 use Rattle.nodes.specs.Children.{AttachedTwo}
 use Rattle.nodes.specs.declared.frames.List.{List as Items}
 use Rattle.levels.specs.Passes.{walkOf, movedTo, Covers}
@@ -31,9 +31,9 @@ leftOf W v = wd W (v .base + v .write - 1)
 pub record CanFold (W : List ℕ) (v : Items) (q c : ℕ) : Type 0 where
   pub some : 0 < v .write
   pub room : v .base + v .write ≤ length W
-  pub own : 8 * q + 8 ≤ length W
-  pub left : 8 * leftOf W v + 8 ≤ length W
-  pub right : 8 * c + 8 ≤ length W
+  pub own : slotEnd q ≤ length W
+  pub left : slotEnd (leftOf W v) ≤ length W
+  pub right : slotEnd c ≤ length W
   pub apart : leftOf W v ≢ c
 
 -- The last done item and c are the children of q, which stands in the former's place.
@@ -52,8 +52,8 @@ pub record CanSearch (W : List ℕ) (top c : ℕ) : Type 0 where
   pub k : Token
   pub cs : Forest
   pub tree : RepT W X top a m k cs
-  pub within : 8 * m ≤ length W
-  pub some : shares (wd W (8 * top + 7)) c ≡ true
+  pub within : slotStart m ≤ length W
+  pub some : shares (classesAt W top) c ≡ true
 
 -- r is the first leaf of the level's operators at or below `top`.
 pub record IsFirst (W : List ℕ) (r : ℕ) (ops : List ℕ) (f : Forest) : Type 0 where
@@ -72,7 +72,7 @@ pub record CanOperate (W : List ℕ) (v : Items) (b c : ℕ) : Type 0 where
   pub token : AtToken W v b
   pub some : 0 < v .write
   pub more : v .read < v .len
-  pub clean : shares (wd W (8 * leftOf W v + 7)) c ≡ false
+  pub clean : shares (classesAt W (leftOf W v)) c ≡ false
 
 -- The right side's children come first, or the operator takes both sides.
 pub data Operated (W : List ℕ) (v : Items) (b : ℕ) (classes : TokenClasses) (r : Turn) (W' : List ℕ) : Type 0 where

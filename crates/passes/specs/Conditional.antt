@@ -1,6 +1,6 @@
 -- What the functions of the conditional's fold ask and ensure, by the words. In the scan the unread items stand in [0, left), the done ones in
 -- [right, len): a list of the unary pass's shape (`RightList`), which reads up to `left` and writes from `right` on.
-use Prim.Native.Nat.{ℕ, _+_, _*_, _-_, _^_, _≤_, _<_}
+use Prim.Native.Nat.{ℕ, _+_, _-_, _^_, _≤_, _<_}
 use mathlib.Core.Path.{_≡_}
 use mathlib.Core.Logic.{_≢_}
 use mathlib.Core.Bool.{Bool, true, false}
@@ -10,7 +10,7 @@ use lib.ListN.{length, set}
 use Rattle.molang.specs.Operator.{conditional, conditionalElse}
 use Rattle.molang.specs.Forest.{Token, Forest}
 use Rattle.molang.specs.Conditional as definition
-use Rattle.nodes.specs.Store.{wd, TokenAt, Kept}
+use Rattle.nodes.specs.Store.{wd, slotStart, slotEnd, TokenAt, Kept}
 use Rattle.nodes.specs.Slots.{isTokenAt}
 use Rattle.nodes.specs.Children.{AttachedTwo}
 use Rattle.nodes.specs.declared.frames.List.{List as Items}
@@ -33,9 +33,9 @@ pub record CanFoldLast (W : List ℕ) (base left right : ℕ) : Type 0 where
   pub two : 2 ≤ left
   pub behind : left ≤ right
   pub place : base + right < length W
-  pub own : 8 * wd W (base + (left - 1)) + 8 ≤ length W
-  pub first : 8 * wd W (base + (left - 2)) + 8 ≤ length W
-  pub second : 8 * wd W (base + right) + 8 ≤ length W
+  pub own : slotEnd (wd W (base + (left - 1))) ≤ length W
+  pub first : slotEnd (wd W (base + (left - 2))) ≤ length W
+  pub second : slotEnd (wd W (base + right)) ≤ length W
   pub apart : wd W (base + (left - 2)) ≢ wd W (base + right)
 
 -- The last unread item takes the one before it and the first done one, and stands in the latter's place.
@@ -51,7 +51,7 @@ pub record CanDangle (W : List ℕ) (base from len : ℕ) : Type 0 where
   pub hi : ℕ
   pub f : Forest
   pub items : Ahead W X base from len lo hi f
-  pub below : 8 * hi ≤ base
+  pub below : slotStart hi ≤ base
   pub within : base + len ≤ length W
   pub small : length W < 2 ^ 32
 
@@ -69,7 +69,7 @@ pub record Dangles (W : List ℕ) (base from len r : ℕ) : Type 0 where
 -- The unread items are slots within the words.
 pub record CanLook (W : List ℕ) (base left : ℕ) : Type 0 where
   pub within : base + left ≤ length W
-  pub slot : (i : ℕ) → i < left → 8 * wd W (base + i) + 8 ≤ length W
+  pub slot : (i : ℕ) → i < left → slotEnd (wd W (base + i)) ≤ length W
 
 -- The last unread item is a `:`, and a `?` stands two before it.
 pub data IsElse (W : List ℕ) (base left : ℕ) : Bool → Type 0 where
@@ -84,8 +84,8 @@ pub record CanFoldElse (W : List ℕ) (base len left right : ℕ) : Type 0 where
   pub within : base + len ≤ length W
   pub behind : left ≤ right
   pub full : right < len
-  pub slot : (i : ℕ) → i < left → 8 * wd W (base + i) + 8 ≤ length W
-  pub done : (i : ℕ) → right ≤ i → i < len → 8 * wd W (base + i) + 8 ≤ length W
+  pub slot : (i : ℕ) → i < left → slotEnd (wd W (base + i)) ≤ length W
+  pub done : (i : ℕ) → right ≤ i → i < len → slotEnd (wd W (base + i)) ≤ length W
   pub apart : right + 2 < len → wd W (base + right) ≢ wd W (base + (right + 2))
 
 -- The `:` behind a `?` takes the done items beside it; otherwise nothing changes. The number is where the done items start then.
@@ -144,7 +144,7 @@ pub record CanFold (W : List ℕ) (base len : ℕ) : Type 0 where
   pub hi : ℕ
   pub d : Forest
   pub items : BackArray W X base len lo hi d
-  pub below : 8 * hi ≤ base
+  pub below : slotStart hi ≤ base
   pub within : base + len ≤ length W
   pub small : length W < 2 ^ 32
 

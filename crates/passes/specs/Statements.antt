@@ -1,5 +1,5 @@
 -- What the statement pass's own functions ask and ensure, word by word; the laws of proofs/ lift it to trees.
-use Prim.Native.Nat.{ℕ, _+_, _*_, _-_, _^_, _≤_, _<_}
+use Prim.Native.Nat.{ℕ, _+_, _-_, _^_, _≤_, _<_}
 use mathlib.Core.Logic.{_≢_}
 use mathlib.Core.Path.{_≡_}
 use mathlib.Core.Bool.{Bool, true, false, not}
@@ -8,7 +8,7 @@ use lib.ListN.{length, set}
 use Rattle.molang.specs.Operator.{semicolon}
 use Rattle.molang.specs.Statements.{isEntered}
 use Rattle.molang.specs.Free.{clear, isSemicolon}
-use Rattle.nodes.specs.Store.{wd}
+use Rattle.nodes.specs.Store.{wd, slotEnd}
 use Rattle.nodes.specs.Slots.{opAt, Made}
 use Rattle.nodes.specs.Children.{CanGive, Given}
 use Rattle.nodes.specs.declared.frames.List.{List as Items}
@@ -52,7 +52,7 @@ pub data ListMade (W : List ℕ) (item done : ℕ) : List ℕ → Type 0 where
 
 -- The semicolon's three slots are below the stack, and so are the open statement's items.
 pub record CanEnd (W : List ℕ) (l : Items) (item done : ℕ) : Type 0 where
-  pub own : 8 * item + 24 ≤ l .base
+  pub own : slotEnd (item + 2) ≤ l .base
   pub from : done ≤ l .write
   pub within : l .base + l .write ≤ length W
   pub small : length W < 2 ^ 32
@@ -73,7 +73,7 @@ pub record CanClose (W : List ℕ) (l : Items) (done : ℕ) : Type 0 where
   pub from : done ≤ l .write
   pub within : l .base + l .write ≤ length W
   pub small : length W < 2 ^ 32
-  pub last : 8 * wd W (l .base + done - 1) + 24 ≤ l .base
+  pub last : slotEnd (wd W (l .base + done - 1) + 2) ≤ l .base
   pub give : done < l .write → CanGive W (wd W (l .base + done - 1) + 1) (l .base + done) (l .write - done)
 
 -- None is open, or the open one stands in the slot after the last finished one's.

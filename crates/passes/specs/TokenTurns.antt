@@ -1,6 +1,6 @@
 -- A level that goes from the left has read an item of its list: what the functions on that item ask and ensure. The trees of d are done, those of
 -- `rest` unread; the item's own tree stands between the two.
-use Prim.Native.Nat.{ℕ, _+_, _*_, _^_, _≤_, _<_}
+use Prim.Native.Nat.{ℕ, _+_, _^_, _≤_, _<_}
 use mathlib.Core.Path.{_≡_}
 use mathlib.Core.Bool.{Bool, true}
 use mathlib.Core.List.{List}
@@ -12,7 +12,7 @@ use Rattle.molang.specs.Calls.{CallKind, queryOrLoop, math, unindexed, calls as
 use Rattle.molang.specs.Statements.{unsplit}
 use Rattle.molang.specs.Free.{clear, isArrayName, isSemicolon, isReturn}
 use Rattle.molang.specs.Work.{Kind, calls, statements, arrays, returns, binary, State}
-use Rattle.nodes.specs.Store.{RepT}
+use Rattle.nodes.specs.Store.{slotStart, RepT}
 use Rattle.nodes.specs.declared.frames.List.{List as Items}
 use Rattle.ops.specs.declared.classes.TokenClasses.{TokenClasses}
 use Rattle.levels.specs.Passes.{walkOf, Covers}
@@ -31,7 +31,7 @@ pub record AtItem (W X : List ℕ) (l : Items) (b lo hi : ℕ) (d : Forest) (k :
   pub tree : RepT W X b a m k cs
   pub ahead : Ahead W X (l .base) (l .read) (l .len) m hi rest
   pub behind : l .write < l .read
-  pub below : 8 * hi ≤ l .base
+  pub below : slotStart hi ≤ l .base
   pub within : l .base + l .len ≤ length W
   pub small : length W < 2 ^ 32
 

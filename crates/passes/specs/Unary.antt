@@ -1,7 +1,7 @@
 -- What the functions of the unary pass ask and ensure. The unread items stand at the front of the list's words, the last one first to be read; the
 -- done ones in order at their end.
 use Rattle.words.specs.Fields.{withOperator}
-use Prim.Native.Nat.{ℕ, _+_, _*_, _-_, _^_, _≤_, _<_}
+use Prim.Native.Nat.{ℕ, _+_, _-_, _^_, _≤_, _<_}
 use mathlib.Core.Path.{_≡_}
 use mathlib.Core.Logic.{_≢_, _⊎_}
 use mathlib.Core.Bool.{true, false}
@@ -11,7 +11,7 @@ use Rattle.molang.specs.Operator.{negate, add}
 use Rattle.molang.specs.Forest.{Token, Forest, nil, node, count, size}
 use Rattle.molang.specs.Free.{isNil, isPrefix}
 use Rattle.molang.specs.Work.{unaryMinusAndNot, right, fromRight}
-use Rattle.nodes.specs.Store.{wd, RepT}
+use Rattle.nodes.specs.Store.{wd, slotStart, slotEnd, classesWord, operatorWordAt, classesAt, RepT}
 use Rattle.nodes.specs.Slots.{opAt, isLeafAt, Made}
 use Rattle.nodes.specs.Children.{Attached}
 use Rattle.nodes.specs.declared.frames.List.{List as Items}
@@ -28,7 +28,7 @@ pub record RightList (W X : List ℕ) (lo l m hi : ℕ) (v : Items) (d rest : Fo
   pub unread : BackArray W X (v .base) (v .read) lo l rest
   pub done : Ahead W X (v .base) (v .write) (v .len) m hi d
   pub mid : l ≤ m
-  pub below : 8 * hi ≤ v .base
+  pub below : slotStart hi ≤ v .base
   pub within : v .base + v .len ≤ length W
   pub small : length W < 2 ^ 32
 
@@ -102,8 +102,8 @@ pub record TokenTaken (W : List ℕ) (v : Items) (b : ℕ) (r : Turn) (W' : List
 -- The slot q and the first done item are slots within the words.
 pub record CanPrefix (W : List ℕ) (v : Items) (q : ℕ) : Type 0 where
   pub place : v .base + v .write < length W
-  pub own : 8 * q + 8 ≤ length W
-  pub operand : 8 * wd W (v .base + v .write) + 8 ≤ length W
+  pub own : slotEnd q ≤ length W
+  pub operand : slotEnd (wd W (v .base + v .write)) ≤ length W
 
 -- The slot in the word `at` is the only child of q, which stands in its place.
 pub record Prefixed (W : List ℕ) (at q : ℕ) (W' : List ℕ) : Type 0 where
@@ -114,18 +114,18 @@ pub record Prefixed (W : List ℕ) (at q : ℕ) (W' : List ℕ) : Type 0 where
 -- The slot s is of `+`, and notes so where it is a leaf.
 pub record Added (W : List ℕ) (s : ℕ) (W' : List ℕ) : Type 0 where
   pub Z : List ℕ
-  pub renamed : Z ≡ set W (8 * s) (withOperator (wd W (8 * s)) add)
-  pub leaf : isLeafAt W s ≡ true → wd W' (8 * s + 7) ≡ 0x40_0080
-  pub inner : isLeafAt W s ≡ false → wd W' (8 * s + 7) ≡ wd W (8 * s + 7)
-  pub same : (j : ℕ) → j ≢ 8 * s + 7 → wd W' j ≡ wd Z j
+  pub renamed : Z ≡ set W (slotStart s) (withOperator (operatorWordAt W s) add)
+  pub leaf : isLeafAt W s ≡ true → classesAt W' s ≡ 0x40_0080
+  pub inner : isLeafAt W s ≡ false → classesAt W' s ≡ classesAt W s
+  pub same : (j : ℕ) → j ≢ classesWord s → wd W' j ≡ wd Z j
   pub long : length W' ≡ length W
 
 -- There is a place before the done items; the slots b, b + 1 and that of the first done item lie within the words.
 pub record CanSubtract (W : List ℕ) (v : Items) (b : ℕ) : Type 0 where
   pub room : 0 < v .write
   pub place : v .base + v .write < length W
-  pub own : 8 * b + 16 ≤ v .base
-  pub operand : 8 * wd W (v .base + v .write) + 8 ≤ length W
+  pub own : slotEnd (b + 1) ≤ v .base
+  pub operand : slotEnd (wd W (v .base + v .write)) ≤ length W
   pub small : length W < 2 ^ 32
 
 -- A new minus in the slot after b takes the first done item, and b, which is `+` now, stands before it.

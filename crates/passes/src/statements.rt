@@ -16,8 +16,9 @@ use ops::classes::TokenClasses;
 use ops::holds_statements;
 use ops::op;
 use words::fields::wide;
-ghost use Prim.Native.Nat.{_+_, _*_, _^_, _≤_, _<_};
+ghost use Prim.Native.Nat.{_+_, _^_, _≤_, _<_};
 ghost use lib.ListN.{length};
+ghost use Rattle.nodes.specs.Store.{slotEnd};
 ghost use Rattle.nodes.specs.Children.{CanGive};
 ghost use Rattle.levels.specs.Passes.{walkOf};
 ghost use Rattle.passes.specs.Statements.{HasSemicolon, Grouped, ListMade, CanEnd, SemicolonTo, InnerTo, CanClose, ClosedTo};
@@ -72,7 +73,7 @@ fn end_statement(work: &mut [u32], slot: u32, at: usize, n: usize)
 
 // With the first statement the list's own node is made, in the last slot of the semicolon that ends it.
 fn begin_list(work: &mut [u32], item: u32, done: u32)
-    requires { ⌜ (8 * item + 24 ≤ length (now work)) × (length (now work) < 2 ^ 32) ⌝ }
+    requires { ⌜ (slotEnd (item + 2) ≤ length (now work)) × (length (now work) < 2 ^ 32) ⌝ }
     ensures { λ _. ⌜ ListMade (now (work .entry)) item done (now (work .exit)) ⌝ }
 {
     if done != 0 {
@@ -104,7 +105,7 @@ fn semicolon(work: &mut [u32], list: List, item: u32, done: u32) -> Turn
 
 // A node of a split list: `[ ]` and the arguments of queries are not searched for statements.
 fn inner(work: &mut [u32], list: List, item: u32, pass: Pass) -> Turn
-    requires { ⌜ (8 * item + 8 ≤ length (now work)) × (list .base + list .write < length (now work)) ⌝ }
+    requires { ⌜ (slotEnd item ≤ length (now work)) × (list .base + list .write < length (now work)) ⌝ }
     ensures { λ r. ⌜ InnerTo (now (work .entry)) list item pass r (now (work .exit)) ⌝ }
 {
     if holds_statements(slots::operator_of(work, item)) {

@@ -14,8 +14,9 @@ use ops::before_minus;
 use ops::classes::TokenClasses;
 use ops::op;
 ghost use mathlib.Core.Path.{_≡_};
-ghost use Prim.Native.Nat.{_+_, _*_, _-_, _≤_, _<_};
+ghost use Prim.Native.Nat.{_+_, _-_, _≤_, _<_};
 ghost use lib.ListN.{length, set};
+ghost use Rattle.nodes.specs.Store.{slotEnd};
 ghost use Rattle.levels.specs.Passes.{walkOf, movedTo};
 ghost use Rattle.levels.specs.Turns.{CanTurn, Turned};
 ghost use Rattle.passes.specs.Unary.{CanSeekBack, SoughtBack, CanTakeToken, CanTakeMinus, TokenTaken, CanPrefix, Prefixed, Added, CanSubtract, Subtracted};
@@ -46,7 +47,7 @@ fn prefix(work: &mut [u32], list: List, operator: u32)
 
 // A minus becomes a plus. (No minus has children here, but no proof leans on that: such a one would keep its classes.)
 fn to_add(work: &mut [u32], s: u32)
-    requires { ⌜ 8 * s + 8 ≤ length (now work) ⌝ }
+    requires { ⌜ slotEnd s ≤ length (now work) ⌝ }
     ensures { λ _. ⌜ Added (now (work .entry)) s (now (work .exit)) ⌝ }
 {
     if slots::is_leaf(work, s) {

@@ -1,9 +1,9 @@
 -- `next_token`: its loop passes over an item, or stops at one (Seeking).
-use Prim.Native.Nat.{ℕ, _+_, _*_, _^_, _≤_, _<_}
+use Prim.Native.Nat.{ℕ, _+_, _^_, _≤_, _<_}
 use mathlib.Core.Path.{refl, sym, ap, _∙_}
 use native.Mathlib.Omega.{arith}
 use lib.ListN.{length}
-use Rattle.nodes.specs.Store.{wd}
+use Rattle.nodes.specs.Store.{wd, slotEnd}
 use Rattle.ops.specs.Classes.{shares}
 use Prim.Native.Nat.{_-_}
 use mathlib.Core.Path.{_≡_}
@@ -22,7 +22,7 @@ loop-holds c = (seek-start (c .before .args .list) (c .before .args .classes .0)
 
 reading : (c : tie.At-loop Inv-loop μ-loop) → let a = c .before .before .args in let x = c .loop in
     x .read < a .list .len
-    → (a .list .base + x .read < length (x .work)) × (8 * wd (x .work) (a .list .base + x .read) + 8 ≤ length (x .work)) × (a .list .base + x .read < 2 ^ 32)
+    → (a .list .base + x .read < length (x .work)) × (slotEnd (wd (x .work) (a .list .base + x .read)) ≤ length (x .work)) × (a .list .base + x .read < 2 ^ 32)
 reading c h = seek-in (c .loop .inv .0) (c .before .before .pre) h
 
 writing : (c : tie.At-loop Inv-loop μ-loop) → let a = c .before .before .args in let x = c .loop in
