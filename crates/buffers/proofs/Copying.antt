@@ -38,7 +38,15 @@ lay-room {n = n} p =
     let few = p .few in
     let nodes = p .nodes in
     let room = p .work-room in
-    record { hi = 3 * n + 3; trees = p .trees; linked = p .linked; below = omega arith; spare = omega arith; room = omega arith; few = omega arith }
+    record {
+      hi = 3 * n + 3;
+      trees = p .trees;
+      linked = p .linked;
+      below = omega arith;
+      spare = omega arith;
+      room = omega arith;
+      few = omega arith;
+    }
 
 pub lay-count : {W buffer : List ℕ} {root n to stack r : ℕ} {W' : List ℕ} → CanLayOut W buffer root n → Emitted W root to stack r W'
     → r ≤ 3 * n

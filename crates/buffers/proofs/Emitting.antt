@@ -173,13 +173,16 @@ module _ (W : List ℕ) (first to stack : ℕ) (p : CanEmit W first to stack) wh
       let whole = g .whole in
       let kids = o .children in
       let link : firstAt Z s ≡ firstAt W s = slots-same g (firstWord s) (omega arith) in
-      let chain : Chain Z (firstAt Z s) (kids .bs) = rw link (linked-chain W Z (p .hi) (slots-same g) (slots-within g) (omega arith) kids) in
+      let chain : Chain Z (firstAt Z s) (kids .bs) =
+      rw link (linked-chain W Z (p .hi) (slots-same g) (slots-within g) (omega arith) kids) in
       let number : length (kids .bs) ≡ count cs = rep-count (kids .rep) in
       let small : count cs < 2 ^ 14 = omega (arith, count-size cs) in
       let token : TokenAt Z s k = token-keep W Z s (λ i h. slots-same g (slotStart s + i) (omega arith)) (o .token) in
       let end : to + length (g .done) ≡ to + nodeLength * nodes = omega (arith, g .count) in
       let six : Seg Z' (to + nodeLength * nodes) (headWords k (count cs))
-      = subst (λ (l : List ℕ). Seg Z' (to + nodeLength * nodes) l) (ap (nodeWords (tokenWordsAt Z (slotStart s))) number ∙ token-words Z s k (count cs) token small) (x .words (kids .bs) chain) in
+      =
+      subst (λ (l : List ℕ). Seg Z' (to + nodeLength * nodes) l)
+      (ap (nodeWords (tokenWordsAt Z (slotStart s))) number ∙ token-words Z s k (count cs) token small) (x .words (kids .bs) chain) in
       let same : (j : ℕ) → j < stack → wd Z' j ≡ wd W j = λ j h. x .same j (inl (omega arith)) ∙ g .same j h in
       let older : Seg Z' to (g .done) = seg-keep Z Z' to (g .done) (λ j a b. x .same j (inl (omega (arith, g .count)))) (g .written) in
       record {
@@ -310,7 +313,8 @@ module _ (W : List ℕ) (first to stack : ℕ) (p : CanEmit W first to stack) wh
   moved {Z} {top = top} {ws = ws} {fs = fs} high v wait held at (waits {wait = sibling} e some es more) =
       let room = p .room in
       let long = v .progress .long in
-      let put : wd (set Z top sibling) (stack + length ws) ≡ sibling = ap (λ (j : ℕ). wd (set Z top sibling) j) (sym at) ∙ wd-same Z top sibling (omega arith) in
+      let put : wd (set Z top sibling) (stack + length ws) ≡ sibling =
+      ap (λ (j : ℕ). wd (set Z top sibling) j) (sym at) ∙ wd-same Z top sibling (omega arith) in
       record {
         f = v .cs;
         fs = v .rest ∷ fs;

@@ -24,7 +24,8 @@ linked-unique {W} {first} {hi} {hi'} {f} {g} v w =
 -- a tree that has no sibling after it
 pub tree-linked : {W X : List ℕ} {b l m hi : ℕ} {t : Token} {k : Forest} → RepT W X b l m t k → nextAt W b ≡ 0 → m ≤ hi
     → Linked W b hi (node t k nil)
-tree-linked {X = X} {b} {l} v last h = record { X = X; bs = b ∷ []; lo = l; chain = (refl, v .pos, last); rep = tree-more (le-refl l) v (ends h) }
+tree-linked {X = X} {b} {l} v last h =
+    record { X = X; bs = b ∷ []; lo = l; chain = (refl, v .pos, last); rep = tree-more (le-refl l) v (ends h) }
 
 -- the children of a slot
 pub owned-linked : {W X : List ℕ} {q lo hi : ℕ} {f : Forest} → Owned W X q lo hi f → Linked W (firstAt W q) hi f

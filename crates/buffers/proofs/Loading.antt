@@ -79,11 +79,25 @@ pub record LoadAt (list W : List ℕ) (n : ℕ) (Z : List ℕ) (i : ℕ) : Type 
   pub long : length Z ≡ length W
 
 pub load-start : (list W : List ℕ) (n : ℕ) → LoadAt list W n W 0
-load-start list W n = record { most = omega arith; leaf = λ j h. absurd (omega arith); slot = λ j h. absurd (omega arith); same = λ j h. refl; long = refl }
+load-start list W n =
+    record {
+      most = omega arith;
+      leaf = λ j h. absurd (omega arith);
+      slot = λ j h. absurd (omega arith);
+      same = λ j h. refl;
+      long = refl;
+    }
 
 pub load-in : {list W table : List ℕ} {n : ℕ} {Z : List ℕ} {i : ℕ} → CanLoad list W n → LoadAt list W n Z i → i < n → table ≡ classTable
     → CanLoadToken list Z table i (24 * n + 24)
-load-in p v h e = record { classes = e; few = omega (arith, p .few); within = omega (arith, p .tokens); below = omega arith; room = omega (arith, p .room, v .long) }
+load-in p v h e =
+    record {
+      classes = e;
+      few = omega (arith, p .few);
+      within = omega (arith, p .tokens);
+      below = omega arith;
+      room = omega (arith, p .room, v .long);
+    }
 
 leaf-keep : (list Z Z' : List ℕ) (j : ℕ) → ((o : ℕ) → o < slotWords → wd Z' (slotStart (3 * j + 3) + o) ≡ wd Z (slotStart (3 * j + 3) + o))
     → LeafAt list Z j → LeafAt list Z' j
@@ -101,7 +115,8 @@ load-step {list} {W} {n} {Z} {i} {Z'} v h w =
     record {
       most = omega arith;
       leaf = below-more (λ (j : ℕ). LeafAt list Z' j) i
-          (λ j b. leaf-keep list Z Z' j (λ o c. w .same (slotStart (3 * j + 3) + o) (inl (omega arith)) (omega arith)) (v .leaf j b)) (w .leaf);
+          (λ j b. leaf-keep list Z Z' j (λ o c. w .same (slotStart (3 * j + 3) + o) (inl (omega arith)) (omega arith)) (v .leaf j b))
+          (w .leaf);
       slot = below-more (λ (j : ℕ). wd Z' (24 * n + 24 + j) ≡ 3 * j + 3) i
           (λ j b. w .same (24 * n + 24 + j) (inr (omega arith)) (omega arith) ∙ v .slot j b) (w .slot);
       same = λ j b. w .same j (inl (omega arith)) (omega arith) ∙ v .same j b;
@@ -129,7 +144,8 @@ leaf-token : (list W : List ℕ) (i : ℕ) (k : Token) (ks : List Token) → dro
     → LeafAt list W i
     → TokenAt W (3 * i + 3) k
 unfolding listWords tokenWords
-leaf-token list W i k ks e (token legal later) v = record { words = λ o h. v .words o h ∙ sym (getD-drop (5 * i) list o 0) ∙ first-five o h; legal = legal }
+leaf-token list W i k ks e (token legal later) v =
+    record { words = λ o h. v .words o h ∙ sym (getD-drop (5 * i) list o 0) ∙ first-five o h; legal = legal }
   where
     first-five : (o : ℕ) → o < 5 → getD (drop (5 * i) list) o 0 ≡ getD (tokenWords k) o 0
     first-five zero h = rw e refl

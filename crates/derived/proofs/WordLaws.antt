@@ -15,7 +15,8 @@ use denote.Enum.Declared.{tagOf}
 use Rattle.molang.specs.Forest.{leaves}
 use Rattle.molang.specs.Parse.{inHalves}
 use Rattle.molang.specs.Read.{uses, highestEnd}
-use Rattle.molang.specs.Words.{Field, operatorField, startField, endField, upperField, lowerField, countField, lowOf, lowFault, wordFault, variantAfter, nextInToken, wordsRefusal, tokenOf, tokensOf}
+use Rattle.molang.specs.Words.{Field, operatorField, startField, endField, upperField, lowerField, countField, lowOf, lowFault, wordFault}
+use Rattle.molang.specs.Words.{variantAfter, nextInToken, wordsRefusal, tokenOf, tokensOf}
 use Rattle.molang.proofs.Words.{word-faultless, next-word}
 use Rattle.molang.proofs.FirstFailure.{passed}
 use Rattle.molang.proofs.UsedSet.{used-few}
@@ -68,7 +69,8 @@ module _ (list : List ℕ) (i : ℕ) where
   unfolding highest nextInToken
   highest-on below m =
       ap (highest endField m) (drop-cons list i 0 below)
-      ∙ (third-only (endAfter endField m (getD list i 0)) (drop (suc i) list) ∙ ap (highest endField (endAfter endField m (getD list i 0))) five-on)
+      ∙
+      (third-only (endAfter endField m (getD list i 0)) (drop (suc i) list) ∙ ap (highest endField (endAfter endField m (getD list i 0))) five-on)
 
   -- No token is left.
   pub named-end : length list ≤ i → (n : ℕ) → named operatorField (drop i list) n ≡ false

@@ -5,7 +5,8 @@ use mathlib.Core.Bool.{Bool, false, _||_}
 use mathlib.Core.List.{List, [], _∷_}
 use mathlib.Core.Option.{none, some}
 use lib.Dec.{eqb}
-use Rattle.molang.specs.Words.{Field, operatorField, startField, endField, upperField, lowerField, countField, lowOf, wordFault, nextInToken}
+use Rattle.molang.specs.Words.{Field, operatorField, startField, endField, upperField, lowerField, countField, lowOf, wordFault}
+use Rattle.molang.specs.Words.{nextInToken}
 
 -- The word names the operator n: it stands first in its token, is legal there, and has n.
 unfoldable pub names : Field → ℕ → ℕ → Bool

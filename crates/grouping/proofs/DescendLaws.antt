@@ -19,7 +19,8 @@ use Rattle.nodes.specs.declared.frames.Held.{Held as Words}
 use Rattle.nodes.proofs.Store.{tree-below, tree-out, tree-keep}
 use Rattle.nodes.proofs.Tokens.{token-keep}
 use Rattle.nodes.proofs.Trees.{tree-owned}
-use Rattle.levels.specs.Passes.{walkOf, classesOf, heldOf, Runs, call, mathCall, unsplitPass, split, array, unary, level, conditionalPass, returnPass}
+use Rattle.levels.specs.Passes.{walkOf, classesOf, heldOf, Runs, call, mathCall, unsplitPass, split, array, unary, level, conditionalPass}
+use Rattle.levels.specs.Passes.{returnPass}
 use Rattle.levels.specs.Sides.{ArraySide, DoneSide, InFrame, Holds, Waits}
 use Rattle.levels.specs.Turns.{lentOf, Begins, afresh, lent}
 use Rattle.levels.specs.declared.turns.Pass.{Pass}
@@ -78,7 +79,8 @@ rested-unlent (Binary classes pending) = refl
 rested-unlent (Conditional tokens) = refl
 rested-unlent Returns = refl
 
-array-rested : {W X : List ℕ} {base write lo l a b : ℕ} {s : _} → ArraySide W X base write lo l (Arrays a b) s → ArraySide W X base write lo l (Arrays a 0) s
+array-rested : {W X : List ℕ} {base write lo l a b : ℕ} {s : _} → ArraySide W X base write lo l (Arrays a b) s
+    → ArraySide W X base write lo l (Arrays a 0) s
 array-rested (ArraySide.all v) = ArraySide.all v
 array-rested (ArraySide.growing v o) = ArraySide.growing v o
 
@@ -118,7 +120,8 @@ waits-rested {κ} {W} {X} {lo} {l} {m} {hi} {w} {t} v =
 -- ---- how the children begin
 
 begins-keep : (W W' : List ℕ) {X : List ℕ} {lo n : ℕ} {cs : Forest} {κ : Kind} {p : Pass} {u : State κ}
-    → ((s o : ℕ) → s < n → o < slotWords → wd W' (slotStart s + o) ≡ wd W (slotStart s + o)) → Begins W X lo n cs κ p u → Begins W' X lo n cs κ p u
+    → ((s o : ℕ) → s < n → o < slotWords → wd W' (slotStart s + o) ≡ wd W (slotStart s + o)) → Begins W X lo n cs κ p u
+    → Begins W' X lo n cs κ p u
 begins-keep W W' h (afresh e low) = afresh e low
 begins-keep W W' h (lent o i) = lent (open-array-keep W W' (λ s j x y z r. h s j y z) o) i
 
@@ -193,7 +196,9 @@ module _ {W : List ℕ} {w : Walk} {item : ℕ} (g : CanDescend W w item) where
           let top = w .list .base + w .list .len in
           let own = tree-below (g .tree) in
           record {
-            waiting = waits-keep W W2 (λ s o x y z r. same-below (slotStart s + o) (omega arith)) (λ s o x y z r. same-below (slotStart s + o) (omega arith)) (λ j x y. same-below j y) long-opened
+            waiting =
+                waits-keep W W2 (λ s o x y z r. same-below (slotStart s + o) (omega arith))
+                (λ s o x y z r. same-below (slotStart s + o) (omega arith)) (λ j x y. same-below j y) long-opened
                 (waits-rested (g .waiting));
             unlent = rested-unlent (w .pass);
             same = rested-classes (w .pass) ∙ g .same;
@@ -236,9 +241,13 @@ module _ {W : List ℕ} {w : Walk} {item : ℕ} (g : CanDescend W w item) where
             X = w .list .owner ∷ g .X;
             lo = g .l;
             hi = g .m;
-            stack = subst₂ (λ (x : ℕ) (y : ℕ). Stack (g .κ) (g .classes) W2 (g .base0) (g .hi0) (w .list .owner ∷ g .X) x (g .l) (g .m) y (held (g .t) (g .k) (g .rest) ∷ g .S))
+            stack =
+                subst₂
+                (λ (x : ℕ) (y : ℕ). Stack (g .κ) (g .classes) W2 (g .base0) (g .hi0) (w .list .owner ∷ g .X) x (g .l) (g .m) y (held (g .t) (g .k) (g .rest) ∷ g .S))
                 (sym owned) (sym based) descend-stack;
-            holds = subst (λ (x : ℕ). Holds (g .κ) W2 (x ∷ w .list .owner ∷ g .X) (g .l) (g .m) w' (g .u) (inReading (g .κ) (g .cs))) (sym owned) holds;
+            holds =
+                subst (λ (x : ℕ). Holds (g .κ) W2 (x ∷ w .list .owner ∷ g .X) (g .l) (g .m) w' (g .u) (inReading (g .κ) (g .cs)))
+                (sym owned) holds;
             same = opened .classes ∙ g .same;
             room = omega (arith, long-opened);
             full = (begun (g .cs) (g .begins) (g .some), g .full);

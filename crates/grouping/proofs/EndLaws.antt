@@ -46,12 +46,15 @@ module _ (W X : List ℕ) (lo l m hi : ℕ) (v : Items) (high : l ≤ hi) (writt
   gathered-in-order : (d : Forest) → BackArray W X (v .base) (v .write) lo l d → InArray W X (v .base) (v .write) lo hi (inOrder d)
   gathered-in-order d b = rw (b .count) (gathered-array (back-raise high (b .rep)) (b .seg))
 
-  finish-gathered : (κ : Kind) (p : Pass) (s : State κ) → Runs κ p → Gathering p → DoneSide κ W X lo l m hi (walkOf v p) s → AtTurn v p → waits κ s ≡ 0
+  finish-gathered : (κ : Kind) (p : Pass) (s : State κ) → Runs κ p → Gathering p → DoneSide κ W X lo l m hi (walkOf v p) s → AtTurn v p
+      → waits κ s ≡ 0
       → FinishTo κ W X lo hi v s (At (v .base) (v .write))
-  unfolding work walk callLevel callFinish returnLevel returnFinish binaryLevel binaryFinish statementLevel statementFinish arrayLevel arrayFinish flushed waits
+  unfolding work walk callLevel callFinish returnLevel returnFinish binaryLevel binaryFinish statementLevel statementFinish arrayLevel
+      arrayFinish flushed waits
   finish-gathered κ p s call g (GatherSide.all {d = d} b) t e = gives refl (gathered-in-order d b) (le-refl (v .base)) (omega arith)
   finish-gathered κ p s mathCall g (GatherSide.all {d = d} b) t e = gives refl (gathered-in-order d b) (le-refl (v .base)) (omega arith)
-  finish-gathered κ p s unsplitPass g (StatementSide.whole {d = d} b) t e = gives refl (gathered-in-order d b) (le-refl (v .base)) (omega arith)
+  finish-gathered κ p s unsplitPass g (StatementSide.whole {d = d} b) t e =
+      gives refl (gathered-in-order d b) (le-refl (v .base)) (omega arith)
   finish-gathered κ p s array g (ArraySide.all {d = d} b) t e = gives refl (gathered-in-order d b) (le-refl (v .base)) (omega arith)
   finish-gathered κ p s array g (ArraySide.growing b o) t e = absurd (omega arith)
   finish-gathered κ p s (level h) g (LevelSide.all {d = d} c b) t e = gives refl (gathered-in-order d b) (le-refl (v .base)) (omega arith)
@@ -65,18 +68,21 @@ gathered-ends W v p gathering =
           let sides = g .holds .sides in
           let high = sides .high in
           let mid = sides .mid in
-          finish-gathered W (g .X) (g .lo) (g .holds .l) (g .holds .m) (g .hi) v (omega arith) (holds-within (g .holds) .0) (g .κ) p (g .s) (sides .runs) gathering (sides .done)
+          finish-gathered W (g .X) (g .lo) (g .holds .l) (g .holds .m) (g .hi) v (omega arith) (holds-within (g .holds) .0) (g .κ) p (g .s)
+          (sides .runs) gathering (sides .done)
           (g .holds .turning) (g .idle);
       within = λ g. same-within;
     }
 
 -- from the right the done trees stand at the list's end
-finish-right : (W X : List ℕ) (lo l m hi : ℕ) (v : Items) (κ : Kind) (s : State κ) → lo ≤ m → Runs κ Unary → DoneSide κ W X lo l m hi (walkOf v Unary) s
+finish-right : (W X : List ℕ) (lo l m hi : ℕ) (v : Items) (κ : Kind) (s : State κ) → lo ≤ m → Runs κ Unary
+    → DoneSide κ W X lo l m hi (walkOf v Unary) s
     → FinishTo κ W X lo hi v s (At (v .base + v .write) (v .len - v .write))
 unfolding work fromRight
 finish-right W X lo l m hi v κ s low unary (RightSide.all {d = d} {n = n} e b) =
     let n' : n ≡ v .len - v .write = omega arith in
-    let b' : InArray W X (v .base + v .write) n lo hi d = record { bs = b .bs; seg = b .seg; count = b .count; rep = rep-lower low (b .rep) } in
+    let b' : InArray W X (v .base + v .write) n lo hi d =
+    record { bs = b .bs; seg = b .seg; count = b .count; rep = rep-lower low (b .rep) } in
     gives refl (subst (λ (x : ℕ). InArray W X (v .base + v .write) x lo hi d) n' b') (omega arith) (omega arith)
 
 pub right-ends : (W : List ℕ) (v : Items) → Ends W (walkOf v Unary) (At (v .base + v .write) (v .len - v .write)) W
@@ -90,7 +96,8 @@ right-ends W v =
       within = λ g. same-within;
     }
 
-pub finish-within : {W : List ℕ} (v : Items) (p : Pass) → CanFinish W (walkOf v p) → (v .write ≤ v .len) × (v .base + v .len ≤ length W) × (length W < 2 ^ 32)
+pub finish-within : {W : List ℕ} (v : Items) (p : Pass) → CanFinish W (walkOf v p)
+    → (v .write ≤ v .len) × (v .base + v .len ≤ length W) × (length W < 2 ^ 32)
 finish-within v p g = (holds-within (g .holds) .0, g .holds .sides .within, g .small)
 
 -- ---- by which arm it came

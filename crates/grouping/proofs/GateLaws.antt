@@ -42,7 +42,8 @@ pass-free (binary ops) f h = no-masks 0 (Order.binary ops) f refl h
 -- ---- the gate
 
 -- slot 0 notes no class of the pass
-pub gate-shut : {W : List ℕ} {base n : ℕ} {p : Pass} → CanRun W base n p → shares (classesAt W 0) (classesOf p) ≡ false → HasRun W base n p (Done n) W
+pub gate-shut : {W : List ℕ} {base n : ℕ} {p : Pass} → CanRun W base n p → shares (classesAt W 0) (classesOf p) ≡ false
+    → HasRun W base n p (Done n) W
 gate-shut {W} {p = p} h shut =
     record {
       to = λ g.
@@ -57,7 +58,8 @@ gate-shut {W} {p = p} h shut =
 pub chosen-can-run : {W : List ℕ} {base n : ℕ} (c : Choice) (p : Pass) → c ≡ Run p → CanChoose W base n c → CanRun W base n p
 chosen-can-run {W} {base} {n} c p e h = subst (λ (x : Choice). CanChoose W base n x) e h
 
-pub chosen-run : {W W' : List ℕ} {base n : ℕ} {r : Ran} (c : Choice) (p : Pass) → c ≡ Run p → HasRun W base n p r W' → Chosen W base n c r W'
+pub chosen-run : {W W' : List ℕ} {base n : ℕ} {r : Ran} (c : Choice) (p : Pass) → c ≡ Run p → HasRun W base n p r W'
+    → Chosen W base n c r W'
 chosen-run {W} {W'} {base} {n} {r} c p e h = subst (λ (x : Choice). Chosen W base n x r W') (sym e) h
 
 pub chosen-skip : (W : List ℕ) (base n : ℕ) (c : Choice) → c ≡ Skip → Chosen W base n c (Done n) W

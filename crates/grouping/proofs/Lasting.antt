@@ -8,7 +8,8 @@ use Rattle.molang.specs.Operator.{semicolon, add, negate, array, arrayVariable}
 use Rattle.molang.specs.Forest.{Token, Forest, nil, node, renamed, count, size, turnedOnto, inOrder}
 use Rattle.molang.specs.Message.{Message, Result, ok, fail}
 use Rattle.molang.specs.Level.{Step, walk, through}
-use Rattle.molang.specs.Calls.{Indexing, named, indexed, flushed, isIndex, startsWithIndex, emptyIndex, nextIndex, index, arrayStep, arrayLevel, callLevel}
+use Rattle.molang.specs.Calls.{Indexing, named, indexed, flushed, isIndex, startsWithIndex, emptyIndex, nextIndex, index, arrayStep}
+use Rattle.molang.specs.Calls.{arrayLevel, callLevel}
 use Rattle.molang.specs.Statements.{statementLevel}
 use Rattle.molang.specs.Unary.{returnLevel}
 use Rattle.molang.specs.Binary.{binaryLevel}
@@ -59,23 +60,27 @@ renamed-back : (q : Token) → q .op ≡ array → renamed array (renamed arrayV
 unfolding renamed
 renamed-back q e = λ i. record { op = sym e i; variant = q .variant; value = q .value; start = q .start; end = q .end }
 
-lent-step : (q k : Token) (cs : Forest) → isIndex k ≡ true → arrayStep (named nil q) k cs ≡ arrayStep (indexed nil (renamed array q) nil) k cs
+lent-step : (q k : Token) (cs : Forest) → isIndex k ≡ true
+    → arrayStep (named nil q) k cs ≡ arrayStep (indexed nil (renamed array q) nil) k cs
 unfolding arrayStep emptyIndex index nextIndex
 lent-step q k nil e = rw (e, arrayStep)
 lent-step q k (node c cs r) e = rw (e, arrayStep)
 
-lent-walk : (q : Token) (cs : Forest) → startsWithIndex cs ≡ true → walk arrayLevel (named nil q) cs ≡ walk arrayLevel (indexed nil (renamed array q) nil) cs
+lent-walk : (q : Token) (cs : Forest) → startsWithIndex cs ≡ true
+    → walk arrayLevel (named nil q) cs ≡ walk arrayLevel (indexed nil (renamed array q) nil) cs
 unfolding arrayLevel startsWithIndex
 lent-walk q nil e = absurd (true≢false (sym e))
 lent-walk q (node k cs rest) e =
     walk-onward arrayLevel (named nil q) k cs rest ∙ ap (λ (x : Step Indexing). onward arrayLevel k cs rest x) (lent-step q k cs e)
     ∙ sym (walk-onward arrayLevel (indexed nil (renamed array q) nil) k cs rest)
 
-named-walk : (q : Token) (cs : Forest) → through arrayLevel (node (renamed arrayVariable q) nil cs) ≡ walk arrayLevel (named nil (renamed arrayVariable q)) cs
+named-walk : (q : Token) (cs : Forest)
+    → through arrayLevel (node (renamed arrayVariable q) nil cs) ≡ walk arrayLevel (named nil (renamed arrayVariable q)) cs
 unfolding through walk arrayLevel arrayStep isIndex renamed flushed
 named-walk q cs = refl
 
-pub lent-full : (q : Token) (cs g : Forest) → q .op ≡ array → startsWithIndex cs ≡ true → work arrays (indexed nil q nil) (inReading arrays cs) ≡ ok g → isNil g ≡ false
+pub lent-full : (q : Token) (cs g : Forest) → q .op ≡ array → startsWithIndex cs ≡ true
+    → work arrays (indexed nil q nil) (inReading arrays cs) ≡ ok g → isNil g ≡ false
 unfolding work inReading pass passOf apply isNil
 lent-full q cs g a h e =
     pass-full arrays (node (renamed arrayVariable q) nil cs) g refl

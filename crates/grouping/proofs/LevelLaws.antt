@@ -1,5 +1,5 @@
--- The loop over the ranks (`levels`): what the ranks that are left make of the list of slot 0 is the definition's answer at every turn, and the list
--- is never heavier than three nodes for each token, so that each pass has room to run.
+-- The loop over the ranks (`levels`): what the ranks that are left make of the list of slot 0 is the definition's answer at every turn, and
+-- the list is never heavier than three nodes for each token, so that each pass has room to run.
 use Prim.Native.Nat.{ℕ, _+_, _*_, _≤_, _<_}
 use mathlib.Core.Path.{_≡_, refl, sym, ap, _∙_, subst, subst₂}
 use mathlib.Core.Logic.{_≢_}
@@ -37,7 +37,8 @@ use Rattle.grouping.specs.Group.{CanGroup, HasGrouped, Listed, Flattened
 use Rattle.grouping.specs.declared.driver.Ran.{Ran}
 use Rattle.grouping.specs.declared.driver.Ran.the-variants.{Done, Fail}
 use Rattle.sections.specs.declared.Flat.{Flat}
-use Rattle.sections.specs.declared.Flat.the-variants.{Done as Items, Fail as FlatFail, Mismatched as FlatMismatched, Unclosed as FlatUnclosed}
+use Rattle.sections.specs.declared.Flat.the-variants.{Done as Items, Fail as FlatFail, Mismatched as FlatMismatched}
+use Rattle.sections.specs.declared.Flat.the-variants.{Unclosed as FlatUnclosed}
 use Rattle.grouping.proofs.FlatOrder.{Fallen}
 use Rattle.grouping.proofs.Lasting.{pass-nodes}
 use Rattle.grouping.proofs.OutermostLaws.{give-outermost}
@@ -65,11 +66,13 @@ starts-unlent (starts.plus e) = refl
 starts-unlent (starts.level e) = refl
 
 -- what a rank left, by what is known of it
-pub chosen-as : (W : List ℕ) (base n : ℕ) (c : Choice) (x : Ran) (W' : List ℕ) {y : Ran} → x ≡ y → Chosen W base n c x W' → Chosen W base n c y W'
+pub chosen-as : (W : List ℕ) (base n : ℕ) (c : Choice) (x : Ran) (W' : List ℕ) {y : Ran} → x ≡ y → Chosen W base n c x W'
+    → Chosen W base n c y W'
 chosen-as W base n c x W' e h = subst (λ (r : Ran). Chosen W base n c r W') e h
 
 -- What holds before rank k: the outermost list F of n items, and the answer over a source of length l.
-pub record LevelAt (W₀ : List ℕ) (base m : ℕ) (u : ℕ → Bool) (r : Rules) (g : CanLevel W₀ base m) (l : ℕ) (W : List ℕ) (k n : ℕ) : Type 0 where
+pub record LevelAt (W₀ : List ℕ) (base m : ℕ) (u : ℕ → Bool) (r : Rules) (g : CanLevel W₀ base m) (l : ℕ) (W : List ℕ) (k n : ℕ)
+    : Type 0 where
   pub F : Forest
   pub list : Outermost W base n (3 * (g .n) + 3) F
   pub light : weight nodeWeight F ≤ 3 * (g .n)
@@ -78,7 +81,8 @@ pub record LevelAt (W₀ : List ℕ) (base m : ℕ) (u : ℕ → Bool) (r : Rule
 pub level-start : {W : List ℕ} {base m : ℕ} (u : ℕ → Bool) (r : Rules) (g : CanLevel W base m) (l : ℕ) → LevelAt W base m u r g l W 0 m
 level-start u r g l = record { F = g .F; list = g .list; light = g .light; answer = grouped-first l u r [] (g .F) }
 
-module _ {W₀ : List ℕ} {base m : ℕ} {u : ℕ → Bool} {r : Rules} {g : CanLevel W₀ base m} {l : ℕ} {W : List ℕ} {k n : ℕ} (below : k < 23) (long : length W ≡ length W₀) where
+module _ {W₀ : List ℕ} {base m : ℕ} {u : ℕ → Bool} {r : Rules} {g : CanLevel W₀ base m} {l : ℕ} {W : List ℕ} {k n : ℕ} (below : k < 23)
+    (long : length W ≡ length W₀) where
   module _ (v : LevelAt W₀ base m u r g l W k n) (state : State) (c : Picked u (rankIn (ranks r) k) (Run state)) where
     abbrev pub rank : RankRuns l u r k below [] (v .F) state
     rank = rank-runs l u r k below [] (v .F) state c
@@ -104,7 +108,8 @@ module _ {W₀ : List ℕ} {base m : ℕ} {u : ℕ → Bool} {r : Rules} {g : Ca
   level-chooses v Skip c = tt
 
   -- the pass went through, or there was none
-  pub level-on : LevelAt W₀ base m u r g l W k n → (c : Choice) → Picked u (rankIn (ranks r) k) c → {W' : List ℕ} (left : ℕ) → Chosen W base n c (Done left) W'
+  pub level-on : LevelAt W₀ base m u r g l W k n → (c : Choice) → Picked u (rankIn (ranks r) k) c → {W' : List ℕ} (left : ℕ)
+      → Chosen W base n c (Done left) W'
       → LevelAt W₀ base m u r g l W' (k + 1) left
   level-on v Skip c {W'} left h =
       let same : left ≡ n = cc in
@@ -126,7 +131,8 @@ module _ {W₀ : List ℕ} {base m : ℕ} {u : ℕ → Bool} {r : Rules} {g : Ca
           }
 
   -- the pass failed: the pointer's, which leaves the list empty, or another's
-  pub level-pointer : LevelAt W₀ base m u r g l W k n → (c : Choice) → Picked u (rankIn (ranks r) k) c → {W' : List ℕ} (f : Failure) → Chosen W base n c (Fail f) W'
+  pub level-pointer : LevelAt W₀ base m u r g l W k n → (c : Choice) → Picked u (rankIn (ranks r) k) c → {W' : List ℕ} (f : Failure)
+      → Chosen W base n c (Fail f) W'
       → k ≡ 3 → StandsFor W' (3 * (g .n) + 3) (g .n) l (PointerFailed f) (grouped l u (drop 3 (order r)) [] (g .F))
   level-pointer v Skip c f h at = let z : _≡_ {A = ℕ} 0 1 = cc in absurd (omega arith)
   level-pointer v (Run state) c {W'} f h at = fell (h .to (level-run v state c))
@@ -134,9 +140,11 @@ module _ {W₀ : List ℕ} {base m : ℕ} {u : ℕ → Bool} {r : Rules} {g : Ca
       fell : RanTo W' base (3 * (g .n) + 3) (pass (rank v state c .kind) (v .F)) (Fail f)
           → StandsFor W' (3 * (g .n) + 3) (g .n) l (PointerFailed f) (grouped l u (drop 3 (order r)) [] (g .F))
       fell (driver.failed {ms = ms} e t) =
-          subst (λ (a : Answer). StandsFor W' (3 * (g .n) + 3) (g .n) l (PointerFailed f) a) (sym (v .answer ∙ rank v state c .pointer-ends ms at e)) (pointerFailed t)
+          subst (λ (a : Answer). StandsFor W' (3 * (g .n) + 3) (g .n) l (PointerFailed f) a)
+          (sym (v .answer ∙ rank v state c .pointer-ends ms at e)) (pointerFailed t)
 
-  pub level-fails : LevelAt W₀ base m u r g l W k n → (c : Choice) → Picked u (rankIn (ranks r) k) c → {W' : List ℕ} (f : Failure) → Chosen W base n c (Fail f) W'
+  pub level-fails : LevelAt W₀ base m u r g l W k n → (c : Choice) → Picked u (rankIn (ranks r) k) c → {W' : List ℕ} (f : Failure)
+      → Chosen W base n c (Fail f) W'
       → k ≢ 3 → StandsFor W' (3 * (g .n) + 3) (g .n) l (Failed f) (grouped l u (drop 3 (order r)) [] (g .F))
   level-fails v Skip c f h other = let z : _≡_ {A = ℕ} 0 1 = cc in absurd (omega arith)
   level-fails v (Run state) c {W'} f h other = fell (h .to (level-run v state c))
@@ -144,24 +152,29 @@ module _ {W₀ : List ℕ} {base m : ℕ} {u : ℕ → Bool} {r : Rules} {g : Ca
       fell : RanTo W' base (3 * (g .n) + 3) (pass (rank v state c .kind) (v .F)) (Fail f)
           → StandsFor W' (3 * (g .n) + 3) (g .n) l (Failed f) (grouped l u (drop 3 (order r)) [] (g .F))
       fell (driver.failed {ms = ms} e t) =
-          subst (λ (a : Answer). StandsFor W' (3 * (g .n) + 3) (g .n) l (Failed f) a) (sym (v .answer ∙ rank v state c .ends ms other e)) (failed (tells t))
+          subst (λ (a : Answer). StandsFor W' (3 * (g .n) + 3) (g .n) l (Failed f) a) (sym (v .answer ∙ rank v state c .ends ms other e))
+          (failed (tells t))
 
 -- after the last rank: the roots
-pub level-roots : {W₀ : List ℕ} {base m : ℕ} {u : ℕ → Bool} {r : Rules} {g : CanLevel W₀ base m} {l : ℕ} {W : List ℕ} {k n : ℕ} → LevelAt W₀ base m u r g l W k n → k ≡ 23
+pub level-roots : {W₀ : List ℕ} {base m : ℕ} {u : ℕ → Bool} {r : Rules} {g : CanLevel W₀ base m} {l : ℕ} {W : List ℕ} {k n : ℕ}
+    → LevelAt W₀ base m u r g l W k n → k ≡ 23
     → StandsFor W (3 * (g .n) + 3) (g .n) l Roots (grouped l u (drop 3 (order r)) [] (g .F))
 level-roots {u = u} {r} {g} {l} {W} {k} v e =
     let last = ap (λ (j : ℕ). grouped l u (passesFrom u r j) [] (v .F)) e ∙ grouped-last l u r [] (v .F) in
-    subst (λ (a : Answer). StandsFor W (3 * (g .n) + 3) (g .n) l Roots a) (sym (v .answer ∙ last)) (roots (v .list .owned) (omega (arith, size-weight (v .F), v .light)))
+    subst (λ (a : Answer). StandsFor W (3 * (g .n) + 3) (g .n) l Roots a) (sym (v .answer ∙ last))
+    (roots (v .list .owned) (omega (arith, size-weight (v .F), v .light)))
 
 -- at the same version, as the machine reads it back
-pub levelled-at : {W W' : List ℕ} {base m : ℕ} {used : OpSet} {r : Grouped} {z z' : ℤ} → z ≡ z' → Levelled W base m used z r W' → Levelled W base m used z' r W'
+pub levelled-at : {W W' : List ℕ} {base m : ℕ} {used : OpSet} {r : Grouped} {z z' : ℤ} → z ≡ z' → Levelled W base m used z r W'
+    → Levelled W base m used z' r W'
 levelled-at {W} {W'} {base} {m} {used} {r} e w = subst (λ (v : ℤ). Levelled W base m used v r W') e w
 
 -- ---- from the flat list to slot 0
 
 module _ {W W1 : List ℕ} {base n : ℕ} {used : OpSet} where
   -- a flat pass failed
-  pub group-ends : (x y : Flat) (version : ℤ) → x ≡ y → Fallen y → Flattened W base n used x W1 → HasGrouped W base n used version (endOf y) W1
+  pub group-ends : (x y : Flat) (version : ℤ) → x ≡ y → Fallen y → Flattened W base n used x W1
+      → HasGrouped W base n used version (endOf y) W1
   unfolding order
   group-ends x y version e d w = go y d (subst (λ (z : Flat). Flattened W base n used z W1) e w)
     where
@@ -199,7 +212,8 @@ module _ {W W1 : List ℕ} {base n : ℕ} {used : OpSet} where
       pub group-levels : CanGroup W base n → CanLevel W2 base m
       group-levels g = levels-on g 0 []
 
-      pub group-done : {W3 : List ℕ} {r : Grouped} {version : ℤ} → Levelled W2 base m used version r W3 → HasGrouped W base n used version r W3
+      pub group-done : {W3 : List ℕ} {r : Grouped} {version : ℤ} → Levelled W2 base m used version r W3
+          → HasGrouped W base n used version r W3
       unfolding order levels-on
       group-done {W3} {r} {version} v =
           record {

@@ -1,5 +1,5 @@
--- What a change of words leaves of a list under work (`sides-keep`): where the slots of its done and its unread side and the list's own words are as they
--- were, it is as it was, whatever its pass.
+-- What a change of words leaves of a list under work (`sides-keep`): where the slots of its done and its unread side and the list's own
+-- words are as they were, it is as it was, whatever its pass.
 use Prim.Native.Nat.{ℕ, _+_, _≤_, _<_}
 use mathlib.Core.Path.{_≡_}
 use mathlib.Core.List.{List}
@@ -14,7 +14,8 @@ use Rattle.nodes.specs.Store.{wd, slotWords, firstField, nextField, slotStart, 
 use Rattle.nodes.specs.declared.frames.List.{List as Items}
 use Rattle.nodes.proofs.Tokens.{token-keep}
 use Rattle.nodes.proofs.Store.{tree-below, tree-out, tree-keep, back-le, back-keep}
-use Rattle.levels.specs.Sides.{GatherSide, LevelSide, ConditionalSide, OpenAt, StatementSide, OpenArray, ArraySide, RightSide, DoneSide, UnreadSide, Sides}
+use Rattle.levels.specs.Sides.{GatherSide, LevelSide, ConditionalSide, OpenAt, StatementSide, OpenArray, ArraySide, RightSide, DoneSide}
+use Rattle.levels.specs.Sides.{UnreadSide, Sides}
 use Rattle.levels.specs.declared.turns.Pass.{Pass}
 use Rattle.levels.specs.declared.turns.Walk.{Walk}
 use Rattle.levels.proofs.Reading.{SameSlots, SameWords, back-array-keep, array-keep, ahead-keep}
@@ -32,9 +33,11 @@ module _ (W W' : List ℕ) where
       let below = tree-below t in
       (p .0, p .1, rw (h b (omega arith) (omega arith) (tree-out t)) (back-links (nextAt W b) r (λ s x y o. h s x (omega arith) o) (p .2)))
 
-  pub open-array-keep : {X : List ℕ} {a lo l : ℕ} {q : Token} {contents : Forest} → SameSlots W W' X lo l → OpenArray W X a lo l q contents → OpenArray W' X a lo l q contents
+  pub open-array-keep : {X : List ℕ} {a lo l : ℕ} {q : Token} {contents : Forest} → SameSlots W W' X lo l → OpenArray W X a lo l q contents
+      → OpenArray W' X a lo l q contents
   open-array-keep {X} {a} {lo} {l} slots v =
-      let own : (o : ℕ) → o < slotWords → wd W' (slotStart a + o) ≡ wd W (slotStart a + o) = λ o x. slots a o (v .low) (v .high) x (v .out) in
+      let own : (o : ℕ) → o < slotWords → wd W' (slotStart a + o) ≡ wd W (slotStart a + o) =
+      λ o x. slots a o (v .low) (v .high) x (v .out) in
       record {
         cs = v .cs;
         low = v .low;
@@ -43,7 +46,9 @@ module _ (W W' : List ℕ) where
         out = v .out;
         token = token-keep W W' a (λ o x. own o (omega arith)) (v .token);
         isArray = v .isArray;
-        chain = rw (own firstField (omega arith)) (back-links (firstAt W a) (v .kids) (λ s x y o. slots s nextField (omega (arith, v .low)) y (omega arith) (o .1)) (v .chain));
+        chain =
+            rw (own firstField (omega arith))
+            (back-links (firstAt W a) (v .kids) (λ s x y o. slots s nextField (omega (arith, v .low)) y (omega arith) (o .1)) (v .chain));
         kids = back-keep W W' (λ s o x y z u n. slots s o (omega (arith, v .low)) y z (u .1)) (v .kids);
       }
 
@@ -72,7 +77,9 @@ module _ (W W' : List ℕ) where
           named = v .named;
           count = v .count;
           reached = v .reached;
-          items = back-array-keep W W' (λ s o x y z h. slots s o (omega arith) y z h) (λ j x y. words j (omega arith) (omega (arith, v .reached))) (v .items);
+          items =
+              back-array-keep W W' (λ s o x y z h. slots s o (omega arith) y z h)
+              (λ j x y. words j (omega arith) (omega (arith, v .reached))) (v .items);
         }
 
     statement-keep : {p : Pass} {s : Split} → StatementSide W X base write lo l p s → StatementSide W' X base write lo l p s
@@ -101,7 +108,8 @@ module _ (W W' : List ℕ) where
   -- ---- both sides
 
   module _ (X : List ℕ) (lo l m hi : ℕ) (left : SameSlots W W' X lo l) (right : SameSlots W W' X m hi) where
-    pub done-keep : (κ : Kind) (w : Walk) (s : State κ) → w .list .write ≤ w .list .len → SameWords W W' (w .list .base) (w .list .base + w .list .len)
+    pub done-keep : (κ : Kind) (w : Walk) (s : State κ) → w .list .write ≤ w .list .len
+        → SameWords W W' (w .list .base) (w .list .base + w .list .len)
         → DoneSide κ W X lo l m hi w s → DoneSide κ W' X lo l m hi w s
     done-keep (calls kind) w s h words v = gather-keep left (λ j x y. words j x (omega arith)) v
     done-keep statements w s h words v = statement-keep left (λ j x y. words j x (omega arith)) v
@@ -122,7 +130,8 @@ module _ (W W' : List ℕ) where
     unread-keep (binary ops) i rest h words v = ahead-keep W W' right (λ j x y. words j (omega arith) y) v
 
     pub sides-keep : {κ : Kind} {w : Walk} {s : State κ} {rest : Forest} → w .list .write ≤ w .list .len → w .list .read ≤ w .list .len
-        → SameWords W W' (w .list .base) (w .list .base + w .list .len) → length W' ≡ length W → Sides κ W X lo l m hi w s rest → Sides κ W' X lo l m hi w s rest
+        → SameWords W W' (w .list .base) (w .list .base + w .list .len) → length W' ≡ length W → Sides κ W X lo l m hi w s rest
+        → Sides κ W' X lo l m hi w s rest
     sides-keep {κ} {w} {s} {rest} write read words long v =
         record {
           runs = v .runs;

@@ -1,5 +1,5 @@
--- How a list begins (`open`): its owner's children stand in its words, all unread, and the pass's state is that of its beginning; or, where an array was
--- lent to it, that array waits.
+-- How a list begins (`open`): its owner's children stand in its words, all unread, and the pass's state is that of its beginning; or, where
+-- an array was lent to it, that array waits.
 use Prim.Native.Nat.{ℕ, _+_, _^_, _≤_, _<_}
 use mathlib.Core.Path.{_≡_, refl, sym, ap, _∙_, subst}
 use mathlib.Core.Logic.{_⊎_, inl, inr}
@@ -25,9 +25,11 @@ use Rattle.nodes.specs.declared.frames.List.{List as Items}
 use Rattle.nodes.proofs.Runs.{segB-back, length-onto}
 use Rattle.nodes.proofs.Store.{rep-le, rep-lower, rep-count, onto-back}
 use Rattle.nodes.proofs.Trees.{can-take, take-array}
-use Rattle.levels.specs.Passes.{walkOf, movedTo, classesOf, begunOf, Runs, call, mathCall, unsplitPass, split, array, unary, level, conditionalPass, returnPass}
+use Rattle.levels.specs.Passes.{walkOf, movedTo, classesOf, begunOf, Runs, call, mathCall, unsplitPass, split, array, unary, level}
+use Rattle.levels.specs.Passes.{conditionalPass, returnPass}
 use Rattle.levels.specs.Items.{BackArray, Ahead}
-use Rattle.levels.specs.Sides.{GatherSide, LevelSide, ConditionalSide, tokensIn, OpenArray, ArraySide, RightSide, DoneSide, UnreadSide, Agrees, AtTurn, Holds}
+use Rattle.levels.specs.Sides.{GatherSide, LevelSide, ConditionalSide, tokensIn, OpenArray, ArraySide, RightSide, DoneSide, UnreadSide}
+use Rattle.levels.specs.Sides.{Agrees, AtTurn, Holds}
 use Rattle.levels.specs.Turns.{Begins, afresh, lent, CanStart, Started}
 use Rattle.levels.specs.declared.turns.Pass.{Pass}
 use Rattle.levels.specs.declared.turns.Pass.the-variants.{Calls, MathCalls, Unsplit, Split, Arrays, Unary, Binary, Conditional, Returns}
@@ -43,7 +45,8 @@ listFrom owner base len = record { owner = owner; base = base; len = len; read =
 pub begun-array : {W X : List ℕ} {at n lo lo' hi : ℕ} {f : Forest} → lo' ≤ lo → InArray W X at n lo hi f → InArray W X at n lo' hi f
 begun-array h v = record { bs = v .bs; seg = v .seg; count = v .count; rep = rep-lower h (v .rep) }
 
-module _ (W' X : List ℕ) (owner base len lo n hi : ℕ) (cs : Forest) (v : InArray W' X base len n hi cs) (low : lo ≤ n) (below : slotStart hi ≤ base) (within : base + len ≤ length W') where
+module _ (W' X : List ℕ) (owner base len lo n hi : ℕ) (cs : Forest) (v : InArray W' X base len n hi cs) (low : lo ≤ n)
+    (below : slotStart hi ≤ base) (within : base + len ≤ length W') where
   -- nothing is done yet
   none-done : BackArray W' X base 0 lo n nil
   none-done = record { ds = []; seg = tt; count = refl; rep = RepB.begins low }
@@ -52,7 +55,8 @@ module _ (W' X : List ℕ) (owner base len lo n hi : ℕ) (cs : Forest) (v : InA
   all-ahead = record { n = len; count = omega arith; array = rw add-zero v }
 
   begun-at : (κ : Kind) (p : Pass) (s : State κ) → Runs κ p → DoneSide κ W' X lo n n hi (walkOf (listFrom owner base len) p) s
-      → UnreadSide κ W' X lo n n hi (listFrom owner base len) cs → Agrees κ (listFrom owner base len) s cs → AtTurn (listFrom owner base len) p
+      → UnreadSide κ W' X lo n n hi (listFrom owner base len) cs → Agrees κ (listFrom owner base len) s cs
+      → AtTurn (listFrom owner base len) p
       → Holds κ W' X lo hi (walkOf (listFrom owner base len) p) s cs
   begun-at κ p s runs done unread agrees turning =
       record {
@@ -89,7 +93,8 @@ module _ (W' X : List ℕ) (owner base len lo n hi : ℕ) (cs : Forest) (v : InA
   start-level : (ops : List ℕ) (classes : TokenClasses) {q : ℕ} → Runs (binary ops) (Binary classes q)
       → Holds (binary ops) W' X lo hi (walkOf (listFrom owner base len) (Binary classes 0)) (begins (binary ops) cs) cs
   unfolding begins binaryLevel nothing clear
-  start-level ops classes (level e) = begun-at (binary ops) (Binary classes 0) (gathered nil) (level e) (LevelSide.all refl none-done) all-ahead tt (refl, le-refl 0)
+  start-level ops classes (level e) =
+      begun-at (binary ops) (Binary classes 0) (gathered nil) (level e) (LevelSide.all refl none-done) all-ahead tt (refl, le-refl 0)
 
   start-conditional : Holds conditional W' X lo hi (walkOf (listFrom owner base len) (Conditional 0)) (begins conditional cs) cs
   unfolding begins conditionalLevel tokensIn
@@ -136,36 +141,54 @@ module _ (W' X : List ℕ) (owner base len lo n hi : ℕ) (cs : Forest) (v : InA
   -- what `statements::start` asks
   pub can-start : length W' < 2 ^ 32 → CanStart W' (listFrom owner base len)
   can-start small =
-      record { X = X; lo = lo; hi = hi; f = cs; array = begun-array low v; unread = refl; unwritten = refl; below = below; within = within; small = small }
+      record {
+        X = X;
+        lo = lo;
+        hi = hi;
+        f = cs;
+        array = begun-array low v;
+        unread = refl;
+        unwritten = refl;
+        below = below;
+        within = within;
+        small = small;
+      }
 
 -- ---- the walk that `open` gives for each pass
 
 abbrev pub Opens : List ℕ → List ℕ → ℕ → ℕ → ℕ → Pass → Walk → Type 0
 Opens W W' owner base len p w =
-    (κ : Kind) (X : List ℕ) (lo n hi : ℕ) (cs : Forest) (u : State κ) → Runs κ p → Begins W (owner ∷ X) lo n cs κ p u → InArray W' (owner ∷ X) base len n hi cs
-    → slotStart hi ≤ base → base + len ≤ length W' → length W' < 2 ^ 32 → ((j : ℕ) → j < base → wd W' j ≡ wd W j) → Holds κ W' (owner ∷ X) lo hi w u (inReading κ cs)
+    (κ : Kind) (X : List ℕ) (lo n hi : ℕ) (cs : Forest) (u : State κ) → Runs κ p → Begins W (owner ∷ X) lo n cs κ p u
+    → InArray W' (owner ∷ X) base len n hi cs
+    → slotStart hi ≤ base → base + len ≤ length W' → length W' < 2 ^ 32 → ((j : ℕ) → j < base → wd W' j ≡ wd W j)
+    → Holds κ W' (owner ∷ X) lo hi w u (inReading κ cs)
 
 module _ (W W' : List ℕ) (owner base len : ℕ) where
   pub opens-call : Opens W W' owner base len Calls (walkOf (listFrom owner base len) Calls)
   unfolding inReading
-  opens-call κ X lo n hi cs u call (afresh e low) v below within small same = start-call W' (owner ∷ X) owner base len lo n hi cs v low below within
+  opens-call κ X lo n hi cs u call (afresh e low) v below within small same =
+      start-call W' (owner ∷ X) owner base len lo n hi cs v low below within
 
   pub opens-math : Opens W W' owner base len MathCalls (walkOf (listFrom owner base len) MathCalls)
   unfolding inReading
-  opens-math κ X lo n hi cs u mathCall (afresh e low) v below within small same = start-math W' (owner ∷ X) owner base len lo n hi cs v low below within
+  opens-math κ X lo n hi cs u mathCall (afresh e low) v below within small same =
+      start-math W' (owner ∷ X) owner base len lo n hi cs v low below within
 
   pub opens-return : Opens W W' owner base len Returns (walkOf (listFrom owner base len) Returns)
   unfolding inReading
-  opens-return κ X lo n hi cs u returnPass (afresh e low) v below within small same = start-return W' (owner ∷ X) owner base len lo n hi cs v low below within
+  opens-return κ X lo n hi cs u returnPass (afresh e low) v below within small same =
+      start-return W' (owner ∷ X) owner base len lo n hi cs v low below within
 
-  pub opens-level : (classes : TokenClasses) (q : ℕ) → Opens W W' owner base len (Binary classes q) (walkOf (listFrom owner base len) (Binary classes 0))
+  pub opens-level : (classes : TokenClasses) (q : ℕ)
+      → Opens W W' owner base len (Binary classes q) (walkOf (listFrom owner base len) (Binary classes 0))
   unfolding inReading
   opens-level classes q κ X lo n hi cs u (level {ops = ops} h) (afresh e low) v below within small same =
       start-level W' (owner ∷ X) owner base len lo n hi cs v low below within ops classes {q = q} (level h)
 
   pub opens-conditional : (tokens : ℕ) → Opens W W' owner base len (Conditional tokens) (walkOf (listFrom owner base len) (Conditional 0))
   unfolding inReading
-  opens-conditional tokens κ X lo n hi cs u conditionalPass (afresh e low) v below within small same = start-conditional W' (owner ∷ X) owner base len lo n hi cs v low below within
+  opens-conditional tokens κ X lo n hi cs u conditionalPass (afresh e low) v below within small same =
+      start-conditional W' (owner ∷ X) owner base len lo n hi cs v low below within
 
   pub opens-array : (a b : ℕ) → Opens W W' owner base len (Arrays a b) (walkOf (listFrom owner base len) (Arrays b 0))
   unfolding inReading
@@ -181,7 +204,8 @@ module _ (W W' : List ℕ) (owner base len : ℕ) where
 
   pub opens-unary : Opens W W' owner base len Unary (walkOf (record { owner = owner; base = base; len = len; read = len; write = len }) Unary)
   unfolding inReading
-  opens-unary κ X lo n hi cs u unary (afresh e low) v below within small same = start-unary W' (owner ∷ X) owner base len lo n hi cs v low below within
+  opens-unary κ X lo n hi cs u unary (afresh e low) v below within small same =
+      start-unary W' (owner ∷ X) owner base len lo n hi cs v low below within
 
   pub opens-moved : (v : Items) → v ≡ movedTo (listFrom owner base len) len len → Opens W W' owner base len Unary (walkOf v Unary)
   opens-moved v e = subst (λ (x : Items). Opens W W' owner base len Unary (walkOf x Unary)) (sym e) opens-unary
@@ -228,7 +252,8 @@ pub begins-low : {W X : List ℕ} {lo n : ℕ} {cs : Forest} {κ : Kind} {p : Pa
 begins-low (afresh e low) = low
 begins-low (lent o h) = omega (arith, o .low, o .high)
 
-open-can-start : {W W' : List ℕ} {owner base len : ℕ} {p : Pass} → Taken W (firstAt W owner) base len W' → CanOpen W owner base p → CanStart W' (listFrom owner base len)
+open-can-start : {W W' : List ℕ} {owner base len : ℕ} {p : Pass} → Taken W (firstAt W owner) base len W' → CanOpen W owner base p
+    → CanStart W' (listFrom owner base len)
 open-can-start {W' = W'} {owner} {base} {len} tk g =
     let long = tk .long in
     can-start W' (owner ∷ g .X) owner base len (g .lo) (g .n) (g .hi) (g .cs) (taken-array tk g) (begins-low (g .begins)) (g .below)
@@ -253,11 +278,13 @@ module _ {W : List ℕ} {owner base len : ℕ} where
   started-by p w g st e opens =
       record {
         opened = λ h.
-            opened p w (h .taken) (ap (λ (v : Items). v .owner) (st .list)) (ap (λ (v : Items). v .base) (st .list)) (ap (λ (v : Items). v .len) (st .list))
+            opened p w (h .taken) (ap (λ (v : Items). v .owner) (st .list)) (ap (λ (v : Items). v .base) (st .list))
+            (ap (λ (v : Items). v .len) (st .list))
             (started-classes st (begin-can-start g) ∙ e) (opens (h .before));
       }
 
-  pub begun-started : (p : Pass) (w : Walk) → OneOf (2 ∷ 3 ∷ []) (tagOf the-type p) → CanBegin W owner base len p → Started W (listFrom owner base len) w
+  pub begun-started : (p : Pass) (w : Walk) → OneOf (2 ∷ 3 ∷ []) (tagOf the-type p) → CanBegin W owner base len p
+      → Started W (listFrom owner base len) w
       → Begun W owner base len p w
   begun-started Calls w t g st = absurd (miss (2 ∷ 3 ∷ []) 0 tt t)
   begun-started MathCalls w t g st = absurd (miss (2 ∷ 3 ∷ []) 1 tt t)
@@ -270,27 +297,46 @@ module _ {W : List ℕ} {owner base len : ℕ} where
   begun-started Returns w t g st = absurd (miss (2 ∷ 3 ∷ []) 8 tt t)
 
   -- from the right
-  pub begun-right : (p : Pass) (v : Items) → p ≡ Unary → v ≡ movedTo (listFrom owner base len) len len → Begun W owner base len p (walkOf v Unary)
+  pub begun-right : (p : Pass) (v : Items) → p ≡ Unary → v ≡ movedTo (listFrom owner base len) len len
+      → Begun W owner base len p (walkOf v Unary)
   begun-right p v e m =
       subst (λ (x : Pass). Begun W owner base len x (walkOf v Unary)) (sym e)
       (record {
         opened = λ g.
-            opened Unary (walkOf v Unary) (g .taken) (ap (λ (x : Items). x .owner) m) (ap (λ (x : Items). x .base) m) (ap (λ (x : Items). x .len) m) refl
+            opened Unary (walkOf v Unary) (g .taken) (ap (λ (x : Items). x .owner) m) (ap (λ (x : Items). x .base) m)
+            (ap (λ (x : Items). x .len) m) refl
             (opens-moved (g .before) W owner base len v m);
       })
 
   -- every other
-  begun-first : (p : Pass) → OneOf (0 ∷ 1 ∷ 4 ∷ 6 ∷ 7 ∷ 8 ∷ []) (tagOf the-type p) → Begun W owner base len p (walkOf (listFrom owner base len) (begunOf p))
+  begun-first : (p : Pass) → OneOf (0 ∷ 1 ∷ 4 ∷ 6 ∷ 7 ∷ 8 ∷ []) (tagOf the-type p)
+      → Begun W owner base len p (walkOf (listFrom owner base len) (begunOf p))
   unfolding begunOf
   begun-first Calls t = record { opened = λ g. opened Calls _ (g .taken) refl refl refl refl (opens-call (g .before) W owner base len) }
-  begun-first MathCalls t = record { opened = λ g. opened MathCalls _ (g .taken) refl refl refl refl (opens-math (g .before) W owner base len) }
+  begun-first MathCalls t =
+      record {
+        opened = λ g. opened MathCalls _ (g .taken) refl refl refl refl (opens-math (g .before) W owner base len);
+      }
   begun-first Unsplit t = absurd (miss (0 ∷ 1 ∷ 4 ∷ 6 ∷ 7 ∷ 8 ∷ []) 2 tt t)
   begun-first (Split done) t = absurd (miss (0 ∷ 1 ∷ 4 ∷ 6 ∷ 7 ∷ 8 ∷ []) 3 tt t)
-  begun-first (Arrays a b) t = record { opened = λ g. opened (Arrays a b) _ (g .taken) refl refl refl refl (opens-array (g .before) W owner base len a b) }
+  begun-first (Arrays a b) t =
+      record { opened = λ g. opened (Arrays a b) _ (g .taken) refl refl refl refl (opens-array (g .before) W owner base len a b) }
   begun-first Unary t = absurd (miss (0 ∷ 1 ∷ 4 ∷ 6 ∷ 7 ∷ 8 ∷ []) 5 tt t)
-  begun-first (Binary classes pending) t = record { opened = λ g. opened (Binary classes pending) _ (g .taken) refl refl refl refl (opens-level (g .before) W owner base len classes pending) }
-  begun-first (Conditional tokens) t = record { opened = λ g. opened (Conditional tokens) _ (g .taken) refl refl refl refl (opens-conditional (g .before) W owner base len tokens) }
-  begun-first Returns t = record { opened = λ g. opened Returns _ (g .taken) refl refl refl refl (opens-return (g .before) W owner base len) }
+  begun-first (Binary classes pending) t =
+      record {
+        opened =
+            λ g.
+            opened (Binary classes pending) _ (g .taken) refl refl refl refl (opens-level (g .before) W owner base len classes pending);
+      }
+  begun-first (Conditional tokens) t =
+      record {
+        opened = λ g. opened (Conditional tokens) _ (g .taken) refl refl refl refl (opens-conditional (g .before) W owner base len tokens);
+      }
+  begun-first Returns t =
+      record {
+        opened = λ g. opened Returns _ (g .taken) refl refl refl refl (opens-return (g .before) W owner base len);
+      }
 
-  pub begun-as : (p q : Pass) → OneOf (0 ∷ 1 ∷ 4 ∷ 6 ∷ 7 ∷ 8 ∷ []) (tagOf the-type p) → q ≡ begunOf p → Begun W owner base len p (walkOf (listFrom owner base len) q)
+  pub begun-as : (p q : Pass) → OneOf (0 ∷ 1 ∷ 4 ∷ 6 ∷ 7 ∷ 8 ∷ []) (tagOf the-type p) → q ≡ begunOf p
+      → Begun W owner base len p (walkOf (listFrom owner base len) q)
   begun-as p q t e = subst (λ (x : Pass). Begun W owner base len p (walkOf (listFrom owner base len) x)) (sym e) (begun-first p t)

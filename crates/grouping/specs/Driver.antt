@@ -1,5 +1,5 @@
--- The driver's stack and what its functions ask and ensure: where a pass is, as the list on top and the lists that wait below it. A turn leaves the
--- result of the whole pass as it is, and there are fewer turns left after it.
+-- The driver's stack and what its functions ask and ensure: where a pass is, as the list on top and the lists that wait below it. A turn
+-- leaves the result of the whole pass as it is, and there are fewer turns left after it.
 use Prim.Native.Nat.{ℕ, _+_, _*_, _^_, _≤_, _<_}
 use mathlib.Core.Path.{_≡_}
 use mathlib.Core.Logic.{_⊎_}
@@ -34,7 +34,8 @@ abbrev pub Room : List ℕ → Items → Forest → Type 0
 Room W v rest = v .base + v .len + 8 * size rest ≤ length W + count rest
 
 -- A list that waits for the children of its item b, the token k, which has the slots from l to m: its state, and its frame right above it.
-pub record FrameOf (κ : Kind) (classes : ℕ) (W X : List ℕ) (lo l m hi : ℕ) (w : Walk) (b : ℕ) (t : State κ) (k : Token) (rest : Forest) : Type 0 where
+pub record FrameOf (κ : Kind) (classes : ℕ) (W X : List ℕ) (lo l m hi : ℕ) (w : Walk) (b : ℕ) (t : State κ) (k : Token) (rest : Forest)
+    : Type 0 where
   pub waiting : Waits κ W X lo l m hi w t rest
   pub unlent : lentOf (w .pass) ≡ 0
   pub same : classesOf (w .pass) ≡ classes
@@ -46,12 +47,13 @@ pub record FrameOf (κ : Kind) (classes : ℕ) (W X : List ℕ) (lo l m hi : ℕ
   pub words : FrameAt W (w .list .base + w .list .len) (w .list) (heldOf (w .pass))
   pub room : Room W (w .list) rest
 
--- The lists that wait below the list of `owner` at base, which has the slots from lo to hi that are neither the owner nor in X. The outermost list is
--- that of slot 0.
+-- The lists that wait below the list of `owner` at base, which has the slots from lo to hi that are neither the owner nor in X. The
+-- outermost list is that of slot 0.
 pub data Stack (κ : Kind) (classes : ℕ) (W : List ℕ) (base0 hi0 : ℕ) : List ℕ → ℕ → ℕ → ℕ → ℕ → List (Held κ) → Type 0 where
   bottom : Stack κ classes W base0 hi0 [] 0 0 hi0 base0 []
   over : {X : List ℕ} {lo l m hi b : ℕ} {w : Walk} {t : State κ} {k : Token} {rest : Forest} {S : List (Held κ)}
-      → Stack κ classes W base0 hi0 X (w .list .owner) lo hi (w .list .base) S → FrameOf κ classes W (w .list .owner ∷ X) lo l m hi w b t k rest
+      → Stack κ classes W base0 hi0 X (w .list .owner) lo hi (w .list .base) S
+      → FrameOf κ classes W (w .list .owner ∷ X) lo l m hi w b t k rest
       → Stack κ classes W base0 hi0 (w .list .owner ∷ X) b l m (w .list .base + w .list .len + 6) (held t k rest ∷ S)
 
 -- No pass empties a list: where r is what the list on top gives, neither it nor, in turn, what the lists below give is empty.
@@ -60,7 +62,8 @@ Full κ [] r = Unit {0}
 Full κ (held t k rest ∷ S) r = ((f : Forest) → r ≡ ok f → isNil f ≡ false) × Full κ S (andThen r (λ kids. work κ (takes κ t k kids) rest))
 
 -- Where a pass is: on the list w, in the state s, with the items `rest` unread, and the lists of S below it.
-pub record Going (κ : Kind) (classes : ℕ) (W : List ℕ) (base0 hi0 : ℕ) (w : Walk) (S : List (Held κ)) (s : State κ) (rest : Forest) : Type 0 where
+pub record Going (κ : Kind) (classes : ℕ) (W : List ℕ) (base0 hi0 : ℕ) (w : Walk) (S : List (Held κ)) (s : State κ) (rest : Forest)
+    : Type 0 where
   pub X : List ℕ
   pub lo : ℕ
   pub hi : ℕ
@@ -143,7 +146,8 @@ Keeping Returns = Unit {0}
 
 -- ---- `descend`
 
--- The list of w waits for the children cs of `item`, which has some and which begin in the state u; there is room for its frame and for them.
+-- The list of w waits for the children cs of `item`, which has some and which begin in the state u; there is room for its frame and for
+-- them.
 pub record CanDescend (W : List ℕ) (w : Walk) (item : ℕ) : Type 0 where
   pub κ : Kind
   pub classes : ℕ
@@ -174,7 +178,8 @@ pub record CanDescend (W : List ℕ) (w : Walk) (item : ℕ) : Type 0 where
 
 -- The pass is at the beginning of those children, and the list of w is the first that waits below them.
 pub record Descended (W : List ℕ) (w : Walk) (item : ℕ) (w' : Walk) (W' : List ℕ) : Type 0 where
-  pub going : (g : CanDescend W w item) → Going (g .κ) (g .classes) W' (g .base0) (g .hi0) w' (held (g .t) (g .k) (g .rest) ∷ g .S) (g .u) (inReading (g .κ) (g .cs))
+  pub going : (g : CanDescend W w item)
+      → Going (g .κ) (g .classes) W' (g .base0) (g .hi0) w' (held (g .t) (g .k) (g .rest) ∷ g .S) (g .u) (inReading (g .κ) (g .cs))
   pub beyond : (g : CanDescend W w item) → Beyond W W' (g .base0) (g .hi0)
 
 -- ---- `move_down`
@@ -213,7 +218,8 @@ pub record CanAdvance (W : List ℕ) (w : Walk) (base0 : ℕ) : Type 0 where
 -- One turn leads on with the same result and fewer turns left, or to the end of the whole pass.
 pub record Advanced (W : List ℕ) (w : Walk) (base0 : ℕ) (r : Next) (W' : List ℕ) : Type 0 where
   pub to : (g : CanAdvance W w base0)
-      → NextTo (g .κ) (g .classes) W' base0 (g .hi0) (unwound (g .κ) (g .S) (work (g .κ) (g .s) (g .rest))) (turnsLeft (g .κ) (g .s) (g .rest) + turnsBelow (g .κ) (g .S)) r
+      → NextTo (g .κ) (g .classes) W' base0 (g .hi0) (unwound (g .κ) (g .S) (work (g .κ) (g .s) (g .rest)))
+      (turnsLeft (g .κ) (g .s) (g .rest) + turnsBelow (g .κ) (g .S)) r
   pub beyond : (g : CanAdvance W w base0) → Beyond W W' base0 (g .hi0)
 
 -- Every item of the list on top is done.

@@ -1,5 +1,5 @@
--- What the passes leave of a list, and the answer of the definition that it stands for: roots under slot 0, or failures that name the slots of the
--- messages' tokens.
+-- What the passes leave of a list, and the answer of the definition that it stands for: roots under slot 0, or failures that name the slots
+-- of the messages' tokens.
 use Prim.Native.Nat.{ℕ, _*_, _≤_}
 use mathlib.Core.List.{List, [], _∷_, _++_}
 use Rattle.molang.specs.Forest.{Token, Forest, size}

@@ -24,7 +24,8 @@ use passes::unary;
 ghost use Rattle.levels.specs.Passes.{walkOf};
 ghost use Rattle.levels.specs.Turns.{CanTurn, Turned, CanResume, Resumed, CanFinish, Ends};
 ghost use Rattle.passes.specs.TokenTurns.{AtToken, Seeks, TokenOf};
-ghost use Rattle.grouping.specs.Driver.{CanBegin, Begun, CanOpen, Opened, Keeping, CanDescend, Descended, CanMove, Moved, CanClose, Closed, CanAdvance, Advanced, CanRun, HasRun};
+ghost use Rattle.grouping.specs.Driver.{CanBegin, Begun, CanOpen, Opened, Keeping, CanDescend, Descended, CanMove, Moved, CanClose};
+ghost use Rattle.grouping.specs.Driver.{Closed, CanAdvance, Advanced, CanRun, HasRun};
 
 // What one turn of the driver leads to; at the end of the pass, how many items the outermost list has.
 pub enum Next {

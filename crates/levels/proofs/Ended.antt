@@ -18,12 +18,14 @@ pub ended-le : {W X ds : List ℕ} {lo l : ℕ} {d : Forest} → Ended W X ds lo
 ended-le (nothing e) = e
 ended-le (statement r t o e) = let z = ended-le r in omega (arith, t .low)
 
-pub ended-keep : (W W' : List ℕ) {X ds : List ℕ} {lo l : ℕ} {d : Forest} → SameSlots W W' X lo l → Ended W X ds lo l d → Ended W' X ds lo l d
+pub ended-keep : (W W' : List ℕ) {X ds : List ℕ} {lo l : ℕ} {d : Forest} → SameSlots W W' X lo l → Ended W X ds lo l d
+    → Ended W' X ds lo l d
 ended-keep W W' h (nothing e) = nothing e
 ended-keep W W' h (statement r t o e) =
     let z = ended-le r in
     let low = t .low in
-    statement (ended-keep W W' (λ s i x y u p. h s i x (omega arith) u p) r) (tree-keep W W' (λ s i x y u p n. h s i (omega arith) (omega arith) u p) t) o e
+    statement (ended-keep W W' (λ s i x y u p. h s i x (omega arith) u p) r)
+    (tree-keep W W' (λ s i x y u p n. h s i (omega arith) (omega arith) u p) t) o e
 
 -- the first of them: its slot and the two after it
 pub record FirstEnded (X : List ℕ) (lo l p : ℕ) : Type 0 where
@@ -32,7 +34,8 @@ pub record FirstEnded (X : List ℕ) (lo l p : ℕ) : Type 0 where
   pub pos : 0 < p
   pub out : OutFrom p 3 X
 
-pub ended-first : {W X ds : List ℕ} {lo l : ℕ} {d : Forest} (base : ℕ) → Ended W X ds lo l d → SegB W base ds → isNil d ≡ false → FirstEnded X lo l (wd W base)
+pub ended-first : {W X ds : List ℕ} {lo l : ℕ} {d : Forest} (base : ℕ) → Ended W X ds lo l d → SegB W base ds → isNil d ≡ false
+    → FirstEnded X lo l (wd W base)
 unfolding isNil
 ended-first base (nothing e) g n = absurd (true≢false n)
 ended-first {W} {X} {lo = lo} {l = l} base (statement {b = b} (nothing z) t o e) g n =
@@ -42,7 +45,8 @@ ended-first base (statement (statement r u w z) t o e) g n =
     let f = ended-first base (statement r u w z) (g .1) refl in
     record { low = f .low; high = omega (arith, f .high, t .low); pos = f .pos; out = f .out }
 
-pub ended-at-keep : (W W' : List ℕ) {X : List ℕ} {base n lo l : ℕ} {q : Token} {done : Forest} → SameSlots W W' X lo l → SameWords W W' base (base + n)
+pub ended-at-keep : (W W' : List ℕ) {X : List ℕ} {base n lo l : ℕ} {q : Token} {done : Forest} → SameSlots W W' X lo l
+    → SameWords W W' base (base + n)
     → EndedAt W X base n lo l q done → EndedAt W' X base n lo l q done
 unfolding isNil
 ended-at-keep W W' {X} {base} {n} {lo} {l} {q} {done} slots words v =

@@ -6,11 +6,13 @@ use Rattle.molang.specs.Free.{isArrayName, isSemicolon, isPrefix, isConditional
 use Rattle.molang.specs.Work.{Kind}
 use Rattle.ops.specs.Classes.{meets, inClass, passClasses, ownClasses, bitAt}
 use Rattle.ops.proofs.ClassLaws.{stands-for}
-use Rattle.levels.specs.Passes.{classesOf, operators, Covers, Runs, call, mathCall, unsplitPass, split, array, unary, level, conditionalPass, returnPass}
+use Rattle.levels.specs.Passes.{classesOf, operators, Covers, Runs, call, mathCall, unsplitPass, split, array, unary, level}
+use Rattle.levels.specs.Passes.{conditionalPass, returnPass}
 use Rattle.levels.specs.declared.turns.Pass.{Pass}
 
 pub runs-covers : (κ : Kind) (p : Pass) → Runs κ p → Covers (classesOf p) (operators κ)
-unfolding operators isCall isSemicolon isArrayName isPrefix isConditional isReturn meets inClass passClasses ownClasses bitAt someBelow isOneOf any isMathCall isQueryOrLoop between
+unfolding operators isCall isSemicolon isArrayName isPrefix isConditional isReturn meets inClass passClasses ownClasses bitAt someBelow
+    isOneOf any isMathCall isQueryOrLoop between
 runs-covers κ p call = stands-for 0x1 (isCall queryOrLoop) tt
 runs-covers κ p mathCall = stands-for 0x20_0000 (isCall math) tt
 runs-covers κ p unsplitPass = stands-for 0x2 isSemicolon tt

@@ -1,5 +1,5 @@
--- Lists under work, read from the left: the next unread item as a tree, what the tests of an item say, an item that goes to the done ones, and what a
--- change of words leaves of either side.
+-- Lists under work, read from the left: the next unread item as a tree, what the tests of an item say, an item that goes to the done ones,
+-- and what a change of words leaves of either side.
 use Prim.Native.Nat.{ℕ, _+_, _≤_, _<_}
 use mathlib.Core.Path.{_≡_, refl, sym, ap, _∙_, subst, subst₂}
 use mathlib.Core.Logic.{_≢_}
@@ -71,17 +71,20 @@ pub data AheadTo (W X : List ℕ) (base read len lo hi b : ℕ) : Forest → Typ
   item : {a m : ℕ} {k : Token} {cs rest : Forest} → lo ≤ a → RepT W X b a m k cs → Ahead W X base (read + 1) len m hi rest
       → AheadTo W X base read len lo hi b (node k cs rest)
 
-array-item : {W X : List ℕ} {base read len n lo hi b : ℕ} {bs : List ℕ} {f : Forest} → RepF W X bs lo hi f → Seg W (base + read) bs → n ≡ length bs → read + n ≡ len
+array-item : {W X : List ℕ} {base read len n lo hi b : ℕ} {bs : List ℕ} {f : Forest} → RepF W X bs lo hi f → Seg W (base + read) bs
+    → n ≡ length bs → read + n ≡ len
     → read < len → wd W (base + read) ≡ b → AheadTo W X base read len lo hi b f
 array-item (ends h) g e c l w = absurd (omega arith)
-array-item {W} {X} {base} {read} {len} {n} {hi = hi} (more {b = b} {bs = bs} {l = a} {m = m} {t = t} {k = k} {f = f} {cs = cs} low c d z p tk q ch ks r) g e h l w =
+array-item {W} {X} {base} {read} {len} {n} {hi = hi}
+    (more {b = b} {bs = bs} {l = a} {m = m} {t = t} {k = k} {f = f} {cs = cs} low c d z p tk q ch ks r) g e h l w =
     let same : b ≡ wd W (base + read) = sym (g .0) in
     let own : RepT W X b a m t k = record { cs = cs; low = c; high = d; pos = z; out = p; token = tk; noted = q; chain = ch; kids = ks } in
     let next : base + read + 1 ≡ base + (read + 1) = omega arith in
     item low (subst (λ (x : ℕ). RepT W X x a m t k) (same ∙ w) own)
     (record { n = length bs; count = omega arith; array = record { bs = bs; seg = rw next at (g .1); count = refl; rep = r } })
 
-pub ahead-item : {W X : List ℕ} {base read len lo hi : ℕ} {f : Forest} (b : ℕ) → wd W (base + read) ≡ b → read < len → Ahead W X base read len lo hi f
+pub ahead-item : {W X : List ℕ} {base read len lo hi : ℕ} {f : Forest} (b : ℕ) → wd W (base + read) ≡ b → read < len
+    → Ahead W X base read len lo hi f
     → AheadTo W X base read len lo hi b f
 ahead-item b w l v = array-item (v .array .rep) (v .array .seg) (v .array .count) (v .count) l w
 
@@ -190,13 +193,15 @@ module _ (W : List ℕ) (l : Items) (op : ℕ) where
   unfolding nextIf item-if
   next-if-found e h =
       sym (when-false (eqb (l .read) (l .len)) 0 item-if (ne-eqb (l .read) (l .len) e)
-      ∙ when-true (eqb (opAt W (wd W (l .base + l .read))) op) (wd W (l .base + l .read)) 0 (eq-eqb (opAt W (wd W (l .base + l .read))) op h))
+      ∙ when-true (eqb (opAt W (wd W (l .base + l .read))) op) (wd W (l .base + l .read)) 0
+      (eq-eqb (opAt W (wd W (l .base + l .read))) op h))
 
   pub next-if-other : l .read ≢ l .len → opAt W (wd W (l .base + l .read)) ≢ op → 0 ≡ nextIf W l op
   unfolding nextIf item-if
   next-if-other e h =
       sym (when-false (eqb (l .read) (l .len)) 0 item-if (ne-eqb (l .read) (l .len) e)
-      ∙ when-false (eqb (opAt W (wd W (l .base + l .read))) op) (wd W (l .base + l .read)) 0 (ne-eqb (opAt W (wd W (l .base + l .read))) op h))
+      ∙ when-false (eqb (opAt W (wd W (l .base + l .read))) op) (wd W (l .base + l .read)) 0
+      (ne-eqb (opAt W (wd W (l .base + l .read))) op h))
 
 -- What `next_if` answers of the unread trees: nothing is left, the next one has another operator, or it is the item.
 pub data NextTo (W X : List ℕ) (l : Items) (lo hi op : ℕ) : ℕ → Forest → Type 0 where
@@ -205,14 +210,16 @@ pub data NextTo (W X : List ℕ) (l : Items) (lo hi op : ℕ) : ℕ → Forest �
   found : {b a m : ℕ} {k : Token} {cs rest : Forest} → l .read < l .len → k .op ≡ op → 0 < b → lo ≤ a → RepT W X b a m k cs
       → Ahead W X (l .base) (l .read + 1) (l .len) m hi rest → NextTo W X l lo hi op b (node k cs rest)
 
-pub next-to : {W X : List ℕ} {lo hi : ℕ} {f : Forest} (l : Items) (op : ℕ) → Ahead W X (l .base) (l .read) (l .len) lo hi f → NextTo W X l lo hi op (nextIf W l op) f
+pub next-to : {W X : List ℕ} {lo hi : ℕ} {f : Forest} (l : Items) (op : ℕ) → Ahead W X (l .base) (l .read) (l .len) lo hi f
+    → NextTo W X l lo hi op (nextIf W l op) f
 next-to {W} {X} {lo} {hi} {f} l op v =
     elim (ℕ-discrete (l .read) (l .len)) [
       | yes e ↦ subst₂ (λ (x : ℕ) (g : Forest). NextTo W X l lo hi op x g) (next-if-end W l op e) (sym (ahead-end f (omega arith) v)) (ended e)
       | no n ↦ go n (ahead-item (wd W (l .base + l .read)) refl (omega (arith, ahead-le v .1)) v)
     ]
   where
-    go : {g : Forest} → l .read ≢ l .len → AheadTo W X (l .base) (l .read) (l .len) lo hi (wd W (l .base + l .read)) g → NextTo W X l lo hi op (nextIf W l op) g
+    go : {g : Forest} → l .read ≢ l .len → AheadTo W X (l .base) (l .read) (l .len) lo hi (wd W (l .base + l .read)) g
+        → NextTo W X l lo hi op (nextIf W l op) g
     go n (item {k = k} {cs = cs} {rest = rest} low t r) =
         elim (ℕ-discrete (k .op) op) [
           | yes e ↦
@@ -224,10 +231,12 @@ next-to {W} {X} {lo} {hi} {f} l op v =
         ]
 
 -- what `next_if` asks
-pub can-peek : {W X : List ℕ} {lo hi : ℕ} {f : Forest} (l : Items) → Ahead W X (l .base) (l .read) (l .len) lo hi f → slotStart hi ≤ l .base → l .base + l .len ≤ length W
+pub can-peek : {W X : List ℕ} {lo hi : ℕ} {f : Forest} (l : Items) → Ahead W X (l .base) (l .read) (l .len) lo hi f → slotStart hi ≤ l .base
+    → l .base + l .len ≤ length W
     → CanPeek W l
 can-peek {W} {X} {lo} {hi} {f} l v below within =
     record { behind = ahead-le v .1; within = within; slot = λ h. go h (ahead-item (wd W (l .base + l .read)) refl h v) }
   where
-    go : {g : Forest} → l .read < l .len → AheadTo W X (l .base) (l .read) (l .len) lo hi (wd W (l .base + l .read)) g → slotEnd (wd W (l .base + l .read)) ≤ length W
+    go : {g : Forest} → l .read < l .len → AheadTo W X (l .base) (l .read) (l .len) lo hi (wd W (l .base + l .read)) g
+        → slotEnd (wd W (l .base + l .read)) ≤ length W
     go h (item low t r) = omega (arith, tree-below t, ahead-le r .0)

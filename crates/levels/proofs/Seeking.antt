@@ -19,10 +19,12 @@ use Rattle.nodes.proofs.Trees.{leaf-test}
 use Rattle.levels.specs.Passes.{movedTo, Covers}
 use Rattle.levels.specs.Items.{BackArray, Ahead, CanSeek, Passed, here, over, Seen, SoughtTo, none, leaf, tree, Sought}
 use Rattle.levels.specs.declared.items.Found.the-variants.{Nothing, Children, Token as Leaf}
-use Rattle.levels.proofs.Reading.{AheadTo, item, ahead-item, ahead-end, ahead-le, ahead-keep, array-put, tree-free, tree-unfree, unfree-leaf, unfree-tree}
+use Rattle.levels.proofs.Reading.{AheadTo, item, ahead-item, ahead-end, ahead-le, ahead-keep, array-put, tree-free, tree-unfree}
+use Rattle.levels.proofs.Reading.{unfree-leaf, unfree-tree}
 
 -- one more item is passed over
-pub passed-more : {P : ℕ → Bool} {d rest d' rest' cs : Forest} {k : Token} → Passed P d rest d' (node k cs rest') → free P (node k cs nil) ≡ true
+pub passed-more : {P : ℕ → Bool} {d rest d' rest' cs : Forest} {k : Token} → Passed P d rest d' (node k cs rest')
+    → free P (node k cs nil) ≡ true
     → Passed P d rest (node k cs d') rest'
 passed-more here e = over e here
 passed-more (over h p) e = over h (passed-more p e)
@@ -50,7 +52,17 @@ pub record Seeking (W : List ℕ) (l : Items) (c : ℕ) (Z : List ℕ) (read wri
 pub seek-start : {W : List ℕ} (l : Items) (c : ℕ) → CanSeek W l → Seeking W l c W (l .read) (l .write)
 seek-start l c h =
     record {
-      at = λ g P e. record { d = g .d; rest = g .rest; m = g .m; n = g .n; passed = here; done = g .done; reached = g .reached; ahead = g .ahead; behind = g .behind };
+      at = λ g P e. record {
+        d = g .d;
+        rest = g .rest;
+        m = g .m;
+        n = g .n;
+        passed = here;
+        done = g .done;
+        reached = g .reached;
+        ahead = g .ahead;
+        behind = g .behind;
+      };
       from = le-refl (l .write);
       to = h .behind;
       within = ahead-le (h .ahead) .1;
@@ -60,12 +72,14 @@ seek-start l c h =
 
 -- ---- the item that a turn reads
 
-module _ {W : List ℕ} {l : Items} {g : CanSeek W l} {P : ℕ → Bool} {Z : List ℕ} {read write : ℕ} (v : SeekAt W l g P Z read write) (h : read < l .len) where
+module _ {W : List ℕ} {l : Items} {g : CanSeek W l} {P : ℕ → Bool} {Z : List ℕ} {read write : ℕ} (v : SeekAt W l g P Z read write)
+    (h : read < l .len) where
   -- its slot is below the stack
   seek-slot : slotEnd (wd Z (l .base + read)) ≤ l .base
   seek-slot = go (ahead-item (wd Z (l .base + read)) refl h (v .ahead))
     where
-      go : {f : Forest} → AheadTo Z (g .X) (l .base) read (l .len) (v .m) (g .hi) (wd Z (l .base + read)) f → slotEnd (wd Z (l .base + read)) ≤ l .base
+      go : {f : Forest} → AheadTo Z (g .X) (l .base) read (l .len) (v .m) (g .hi) (wd Z (l .base + read)) f
+          → slotEnd (wd Z (l .base + read)) ≤ l .base
       go (item low t r) = omega (arith, tree-below t, ahead-le r .0, g .below)
 
   -- it is passed over
@@ -73,7 +87,8 @@ module _ {W : List ℕ} {l : Items} {g : CanSeek W l} {P : ℕ → Bool} {Z : Li
       → Z' ≡ set Z (l .base + write) (wd Z (l .base + read)) → l .base + write < length Z → SeekAt W l g P Z' (read + 1) (write + 1)
   seek-more c e Z' f ez room = go (v .passed) (ahead-item (wd Z (l .base + read)) refl h (v .ahead))
     where
-      go : {rest : Forest} → Passed P (g .d) (g .rest) (v .d) rest → AheadTo Z (g .X) (l .base) read (l .len) (v .m) (g .hi) (wd Z (l .base + read)) rest
+      go : {rest : Forest} → Passed P (g .d) (g .rest) (v .d) rest
+          → AheadTo Z (g .X) (l .base) read (l .len) (v .m) (g .hi) (wd Z (l .base + read)) rest
           → SeekAt W l g P Z' (read + 1) (write + 1)
       go p (item {a = a} {m = m} {k = k} {cs = cs} {rest = rest} low t r) =
           let other = set-other Z Z' (l .base + write) (wd Z (l .base + read)) ez in
@@ -81,7 +96,8 @@ module _ {W : List ℕ} {l : Items} {g : CanSeek W l} {P : ℕ → Bool} {Z : Li
           let behind = v .behind in
           let reached = v .reached in
           let le = ahead-le r in
-          let slots : (s o : ℕ) → s < g .hi → o < slotWords → wd Z' (slotStart s + o) ≡ wd Z (slotStart s + o) = λ s o y z. other (slotStart s + o) (omega arith) in
+          let slots : (s o : ℕ) → s < g .hi → o < slotWords → wd Z' (slotStart s + o) ≡ wd Z (slotStart s + o) =
+          λ s o y z. other (slotStart s + o) (omega arith) in
           record {
             d = node k cs (v .d);
             rest = rest;
@@ -111,7 +127,8 @@ module _ {W : List ℕ} {l : Items} {g : CanSeek W l} {P : ℕ → Bool} {Z : Li
   unfolding isNil
   seek-leaf c e f leafy = go (v .passed) (ahead-item (wd Z (l .base + read)) refl h (v .ahead))
     where
-      at : {a m : ℕ} {k : Token} (cs : Forest) {rest : Forest} → isNil cs ≡ true → Passed P (g .d) (g .rest) (v .d) (node k cs rest) → v .m ≤ a
+      at : {a m : ℕ} {k : Token} (cs : Forest) {rest : Forest} → isNil cs ≡ true → Passed P (g .d) (g .rest) (v .d) (node k cs rest)
+          → v .m ≤ a
           → RepT Z (g .X) (wd Z (l .base + read)) a m k cs → Ahead Z (g .X) (l .base) (read + 1) (l .len) m (g .hi) rest
           → SoughtTo Z (g .X) l (g .at) (g .lo) (g .hi) P (g .d) (g .rest) (Leaf (movedTo l (read + 1) write) (wd Z (l .base + read)))
       at nil n p low t r =
@@ -119,7 +136,8 @@ module _ {W : List ℕ} {l : Items} {g : CanSeek W l} {P : ℕ → Bool} {Z : Li
           leaf {l' = movedTo l (read + 1) write} refl (omega arith) p (unfree-leaf P _ (tree-unfree c P e t f)) t (seen low r)
       at (node x xs y) n p low t r = absurd (true≢false (sym n))
 
-      go : {rest : Forest} → Passed P (g .d) (g .rest) (v .d) rest → AheadTo Z (g .X) (l .base) read (l .len) (v .m) (g .hi) (wd Z (l .base + read)) rest
+      go : {rest : Forest} → Passed P (g .d) (g .rest) (v .d) rest
+          → AheadTo Z (g .X) (l .base) read (l .len) (v .m) (g .hi) (wd Z (l .base + read)) rest
           → SoughtTo Z (g .X) l (g .at) (g .lo) (g .hi) P (g .d) (g .rest) (Leaf (movedTo l (read + 1) write) (wd Z (l .base + read)))
       go p (item {cs = cs} low t r) = at cs (sym (leaf-test cs t) ∙ leafy) p low t r
 
@@ -128,7 +146,8 @@ module _ {W : List ℕ} {l : Items} {g : CanSeek W l} {P : ℕ → Bool} {Z : Li
       → SoughtTo Z (g .X) l (g .at) (g .lo) (g .hi) P (g .d) (g .rest) (Children (movedTo l (read + 1) write) (wd Z (l .base + read)))
   seek-tree c e f leafy = go (v .passed) (ahead-item (wd Z (l .base + read)) refl h (v .ahead))
     where
-      go : {rest : Forest} → Passed P (g .d) (g .rest) (v .d) rest → AheadTo Z (g .X) (l .base) read (l .len) (v .m) (g .hi) (wd Z (l .base + read)) rest
+      go : {rest : Forest} → Passed P (g .d) (g .rest) (v .d) rest
+          → AheadTo Z (g .X) (l .base) read (l .len) (v .m) (g .hi) (wd Z (l .base + read)) rest
           → SoughtTo Z (g .X) l (g .at) (g .lo) (g .hi) P (g .d) (g .rest) (Children (movedTo l (read + 1) write) (wd Z (l .base + read)))
       go p (item {k = k} {cs = cs} low t r) =
           let full = sym (leaf-test cs t) ∙ leafy in
@@ -136,7 +155,8 @@ module _ {W : List ℕ} {l : Items} {g : CanSeek W l} {P : ℕ → Bool} {Z : Li
           tree {l' = movedTo l (read + 1) write} refl (omega arith) p full (unfree-tree P k cs full (tree-unfree c P e t f)) t (seen low r)
 
 -- at the end
-seek-none : {W : List ℕ} {l : Items} {g : CanSeek W l} {P : ℕ → Bool} {Z : List ℕ} {read write : ℕ} → SeekAt W l g P Z read write → l .len ≤ read
+seek-none : {W : List ℕ} {l : Items} {g : CanSeek W l} {P : ℕ → Bool} {Z : List ℕ} {read write : ℕ} → SeekAt W l g P Z read write
+    → l .len ≤ read
     → SoughtTo Z (g .X) l (g .at) (g .lo) (g .hi) P (g .d) (g .rest) (Nothing (movedTo l read write))
 seek-none {W} {l} {g} {P} {Z} {read} {write} v h =
     let over = ahead-end (v .rest) h (v .ahead) in
@@ -146,13 +166,19 @@ seek-none {W} {l} {g} {P} {Z} {read} {write} v h =
       n = v .n;
       done = record { ds = v .done .ds; seg = v .done .seg; count = v .done .count; rep = back-raise (le .0) (v .done .rep) };
       reached = v .reached;
-      ahead = record { n = 0; count = omega (arith, le .1); array = record { bs = []; seg = tt; count = refl; rep = ends (le-refl (g .hi)) } };
+      ahead =
+          record {
+            n = 0;
+            count = omega (arith, le .1);
+            array = record { bs = []; seg = tt; count = refl; rep = ends (le-refl (g .hi)) };
+          };
     })
 
 -- ---- the loop
 
 module _ {W : List ℕ} {l : Items} {c : ℕ} {Z : List ℕ} {read write : ℕ} (v : Seeking W l c Z read write) where
-  pub seek-in : CanSeek W l → read < l .len → (l .base + read < length Z) × (slotEnd (wd Z (l .base + read)) ≤ length Z) × (l .base + read < 2 ^ 32)
+  pub seek-in : CanSeek W l → read < l .len
+      → (l .base + read < length Z) × (slotEnd (wd Z (l .base + read)) ≤ length Z) × (l .base + read < 2 ^ 32)
   seek-in g h =
       let a = seek-slot (v .at g (meets c) (λ n e. refl)) h in
       let long = v .long in
@@ -170,7 +196,10 @@ module _ {W : List ℕ} {l : Items} {c : ℕ} {Z : List ℕ} {read write : ℕ} 
         from = omega arith;
         to = omega arith;
         within = omega arith;
-        same = λ j o. set-other Z Z' (l .base + write) (wd Z (l .base + read)) ez j (⊎-elim (λ x. omega arith) (λ x. omega arith) o) ∙ v .same j o;
+        same =
+            λ j o.
+            set-other Z Z' (l .base + write) (wd Z (l .base + read)) ez j (⊎-elim (λ x. omega arith) (λ x. omega arith) o)
+            ∙ v .same j o;
         long = set-long Z Z' (l .base + write) (wd Z (l .base + read)) ez ∙ v .long;
       }
 

@@ -11,7 +11,8 @@ use borrow.Author.Tests.{eq-eqb, ne-eqb}
 use Rattle.nodes.specs.declared.frames.Held.{Held}
 use Rattle.levels.specs.Passes.{heldWords, heldOf, splitOr, resumedWith, begunOf}
 use Rattle.levels.specs.declared.turns.Pass.{Pass}
-use Rattle.levels.specs.declared.turns.Pass.the-variants.{Calls, MathCalls, Unsplit, Split, Arrays, Unary, Binary, Conditional, Returns}
+use Rattle.levels.specs.declared.turns.Pass.the-variants.{Calls, MathCalls, Unsplit, Split, Arrays, Unary, Binary, Conditional}
+use Rattle.levels.specs.declared.turns.Pass.the-variants.{Returns}
 use Rattle.levels.proofs.turns.Pass.{the-type}
 
 either-pass : (b : Bool) (p q : Pass) → (b ≡ true → p ≡ elim b [ true ↦ p | false ↦ q ]) × (b ≡ false → q ≡ elim b [ true ↦ p | false ↦ q ])

@@ -6,22 +6,28 @@ use Rattle.molang.specs.Message
 use Rattle.molang.specs.Message.{Message}
 use Rattle.nodes.specs.Store.{TokenAt}
 use Rattle.levels.specs.declared.failure.Failure.{Failure}
-use Rattle.levels.specs.declared.failure.Failure.the-variants.{LeadingMemberAccessor, EmptyParameterList, MathAtEnd, MathWithoutParenthesis, LeadingSemicolon, EmptyArrayIndex, BinaryAtEnd, NegateWithoutOperand, NotWithoutOperand, UnknownOperation, UnaryWithoutOperand, TernaryWithoutOperands}
+use Rattle.levels.specs.declared.failure.Failure.the-variants.{LeadingMemberAccessor, EmptyParameterList, MathAtEnd}
+use Rattle.levels.specs.declared.failure.Failure.the-variants.{MathWithoutParenthesis, LeadingSemicolon, EmptyArrayIndex, BinaryAtEnd}
+use Rattle.levels.specs.declared.failure.Failure.the-variants.{NegateWithoutOperand, NotWithoutOperand, UnknownOperation}
+use Rattle.levels.specs.declared.failure.Failure.the-variants.{UnaryWithoutOperand, TernaryWithoutOperands}
 use Rattle.levels.specs.declared.failure.Mismatch.{Mismatch}
 use Rattle.levels.specs.declared.failure.Unclosed.{Unclosed}
 
 -- The message of each failure, about the tokens in the slots that it names.
 pub data Tells (W : List ℕ) : Failure → List Message → Type 0 where
   leadingMemberAccessor : {s : ℕ} {k : Token} → TokenAt W s k → Tells W (LeadingMemberAccessor s) (Message.leadingMemberAccessor k ∷ [])
-  emptyParameterList : {s b : ℕ} {k q : Token} → TokenAt W s k → TokenAt W b q → Tells W (EmptyParameterList s b) (Message.emptyParameterList k q ∷ [])
+  emptyParameterList : {s b : ℕ} {k q : Token} → TokenAt W s k → TokenAt W b q
+      → Tells W (EmptyParameterList s b) (Message.emptyParameterList k q ∷ [])
   mathAtEnd : {s : ℕ} {k : Token} → TokenAt W s k → Tells W (MathAtEnd s) (Message.mathAtEnd k ∷ [])
   mathWithoutParenthesis : {s : ℕ} {k : Token} → TokenAt W s k → Tells W (MathWithoutParenthesis s) (Message.mathWithoutParenthesis k ∷ [])
   leadingSemicolon : {s : ℕ} {k : Token} → TokenAt W s k → Tells W (LeadingSemicolon s) (Message.leadingSemicolon k ∷ [])
-  emptyArrayIndex : {s b : ℕ} {k q : Token} → TokenAt W s k → TokenAt W b q → Tells W (EmptyArrayIndex s b) (Message.emptyArrayIndex k q ∷ [])
+  emptyArrayIndex : {s b : ℕ} {k q : Token} → TokenAt W s k → TokenAt W b q
+      → Tells W (EmptyArrayIndex s b) (Message.emptyArrayIndex k q ∷ [])
   binaryAtEnd : {s : ℕ} {k : Token} → TokenAt W s k → Tells W (BinaryAtEnd s) (Message.binaryAtEnd k ∷ [])
   negateWithoutOperand : {s : ℕ} {k : Token} → TokenAt W s k → Tells W (NegateWithoutOperand s) (Message.negateWithoutOperand k ∷ [])
   notWithoutOperand : {s : ℕ} {k : Token} → TokenAt W s k → Tells W (NotWithoutOperand s) (Message.notWithoutOperand k ∷ [])
-  unknownOperation : {s b : ℕ} {k q : Token} → TokenAt W s k → TokenAt W b q → Tells W (UnknownOperation s b) (Message.unknownOperation k q ∷ [])
+  unknownOperation : {s b : ℕ} {k q : Token} → TokenAt W s k → TokenAt W b q
+      → Tells W (UnknownOperation s b) (Message.unknownOperation k q ∷ [])
   unaryWithoutOperand : {s : ℕ} {k : Token} → TokenAt W s k → Tells W (UnaryWithoutOperand s) (Message.unaryWithoutOperand k ∷ [])
   ternaryWithoutOperands : {s : ℕ} {k : Token} → TokenAt W s k → Tells W (TernaryWithoutOperands s) (Message.ternaryWithoutOperands k ∷ [])
 

@@ -1,5 +1,5 @@
--- Reading on in a list under work: what the functions on its items ask and ensure. What is done stands the last first (`BackArray`), what is unread
--- in order (`Ahead`); `next_token` passes over the items without a token of the pass, which leaves every slot as it is.
+-- Reading on in a list under work: what the functions on its items ask and ensure. What is done stands the last first (`BackArray`), what
+-- is unread in order (`Ahead`); `next_token` passes over the items without a token of the pass, which leaves every slot as it is.
 use Prim.Native.Nat.{ℕ, _+_, _^_, _≤_, _<_}
 use mathlib.Core.Path.{_≡_}
 use mathlib.Core.Logic.{_⊎_}
@@ -74,7 +74,8 @@ pub record CanSeek (W : List ℕ) (l : Items) : Type 0 where
 -- Trees without a leaf of P went from what is unread to what is done.
 pub data Passed (P : ℕ → Bool) : Forest → Forest → Forest → Forest → Type 0 where
   here : {d rest : Forest} → Passed P d rest d rest
-  over : {d rest d' rest' cs : Forest} {k : Token} → free P (node k cs nil) ≡ true → Passed P (node k cs d) rest d' rest' → Passed P d (node k cs rest) d' rest'
+  over : {d rest d' rest' cs : Forest} {k : Token} → free P (node k cs nil) ≡ true → Passed P (node k cs d) rest d' rest'
+      → Passed P d (node k cs rest) d' rest'
 
 -- Where reading stands, with the trees of d done and those of `rest` unread, from the slot m on.
 pub record Seen (W' X : List ℕ) (l' : Items) (at lo m m' hi : ℕ) (d rest : Forest) : Type 0 where
@@ -88,10 +89,12 @@ pub data SoughtTo (W' X : List ℕ) (l : Items) (at lo hi : ℕ) (P : ℕ → Bo
   none : {d' : Forest} {l' : Items} → l' ≡ movedTo l (l' .read) (l' .write) → l' .write ≤ l' .read → Passed P d rest d' nil
       → Seen W' X l' at lo hi hi hi d' nil
       → SoughtTo W' X l at lo hi P d rest (Nothing l')
-  leaf : {d' rest' : Forest} {l' : Items} {b a m : ℕ} {k : Token} → l' ≡ movedTo l (l' .read) (l' .write) → l' .write < l' .read → Passed P d rest d' (node k nil rest')
+  leaf : {d' rest' : Forest} {l' : Items} {b a m : ℕ} {k : Token} → l' ≡ movedTo l (l' .read) (l' .write) → l' .write < l' .read
+      → Passed P d rest d' (node k nil rest')
       → P (k .op) ≡ true → RepT W' X b a m k nil → Seen W' X l' at lo a m hi d' rest'
       → SoughtTo W' X l at lo hi P d rest (Leaf l' b)
-  tree : {d' rest' cs : Forest} {l' : Items} {b a m : ℕ} {k : Token} → l' ≡ movedTo l (l' .read) (l' .write) → l' .write < l' .read → Passed P d rest d' (node k cs rest')
+  tree : {d' rest' cs : Forest} {l' : Items} {b a m : ℕ} {k : Token} → l' ≡ movedTo l (l' .read) (l' .write) → l' .write < l' .read
+      → Passed P d rest d' (node k cs rest')
       → isNil cs ≡ false → free P cs ≡ false → RepT W' X b a m k cs → Seen W' X l' at lo a m hi d' rest'
       → SoughtTo W' X l at lo hi P d rest (Children l' b)
 

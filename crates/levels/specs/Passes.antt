@@ -1,5 +1,5 @@
--- The pass states of the code and the passes of the definition: which state is of which pass, what a frame keeps of a state, and the tokens that a
--- pass works on.
+-- The pass states of the code and the passes of the definition: which state is of which pass, what a frame keeps of a state, and the tokens
+-- that a pass works on.
 use Prim.Native.Nat.{ℕ, _≤_}
 use mathlib.Core.Path.{_≡_}
 use mathlib.Core.Bool.{Bool, true, false}
@@ -14,7 +14,8 @@ use Rattle.ops.specs.declared.classes.TokenClasses.{TokenClasses}
 use Rattle.nodes.specs.declared.frames.List.{List as Items}
 use Rattle.nodes.specs.declared.frames.Held.{Held}
 use Rattle.levels.specs.declared.turns.Pass.{Pass}
-use Rattle.levels.specs.declared.turns.Pass.the-variants.{Calls, MathCalls, Unsplit, Split, Arrays, Unary, Binary, Conditional, Returns}
+use Rattle.levels.specs.declared.turns.Pass.the-variants.{Calls, MathCalls, Unsplit, Split, Arrays, Unary, Binary, Conditional}
+use Rattle.levels.specs.declared.turns.Pass.the-variants.{Returns}
 use Rattle.levels.specs.declared.turns.Walk.{Walk}
 
 -- A pass on a list.
@@ -103,7 +104,8 @@ pub data Runs : Kind → Pass → Type 0 where
   split : {done : ℕ} → Runs statements (Split done)
   array : {array lent : ℕ} → Runs arrays (Arrays array lent)
   unary : Runs unaryMinusAndNot Unary
-  level : {ops : List ℕ} {classes : TokenClasses} {pending : ℕ} → Covers (classes .0) (isOneOf ops) → Runs (binary ops) (Binary classes pending)
+  level : {ops : List ℕ} {classes : TokenClasses} {pending : ℕ} → Covers (classes .0) (isOneOf ops)
+      → Runs (binary ops) (Binary classes pending)
   conditionalPass : {tokens : ℕ} → Runs conditional (Conditional tokens)
   returnPass : Runs returns Returns
 

@@ -1,6 +1,7 @@
--- What a pass holds of a list while it works on it. The list's trees stand in the slots from lo to hi that are not in X, the owner's and its ancestors':
--- from the left what is done below l, what is unread from m on; from the right (the unary pass) the other way round. In between, from l to m, stands
--- the item whose children are out, if any. Each pass says in its own terms what its state keeps of the done side.
+-- What a pass holds of a list while it works on it. The list's trees stand in the slots from lo to hi that are not in X, the owner's and
+-- its ancestors': from the left what is done below l, what is unread from m on; from the right (the unary pass) the other way round. In
+-- between, from l to m, stands the item whose children are out, if any. Each pass says in its own terms what its state keeps of the done
+-- side.
 use Prim.Native.Nat.{ℕ, _+_, _≤_, _<_}
 use mathlib.Core.Path.{_≡_}
 use mathlib.Core.Logic.{_⊎_}
@@ -23,23 +24,26 @@ use Rattle.nodes.specs.declared.frames.List.{List as Items}
 use Rattle.levels.specs.Passes.{Runs}
 use Rattle.levels.specs.Items.{BackArray, Ahead}
 use Rattle.levels.specs.declared.turns.Pass.{Pass}
-use Rattle.levels.specs.declared.turns.Pass.the-variants.{Calls, MathCalls, Unsplit, Split as SplitAt, Arrays, Unary, Binary, Conditional, Returns}
+use Rattle.levels.specs.declared.turns.Pass.the-variants.{Calls, MathCalls, Unsplit, Split as SplitAt, Arrays, Unary, Binary}
+use Rattle.levels.specs.declared.turns.Pass.the-variants.{Conditional, Returns}
 use Rattle.levels.specs.declared.turns.Walk.{Walk}
 
--- ---- calls and `return`: the trees that are done. A call that waits for its section is never seen between two turns: the code looks ahead.
+-- ---- calls and `return`: the trees that are done. A call that waits for its section is never seen between two turns: the code looks
+-- ahead.
 
 -- What calls and `return` hold.
 pub data GatherSide (W X : List ℕ) (base write lo l : ℕ) : Gathered → Type 0 where
   all : {d : Forest} → BackArray W X base write lo l d → GatherSide W X base write lo l (gathered d)
 
--- ---- the binary levels: none of the done trees is itself a token of the level. An operator waits only while the children of its right side are out;
--- its left side has nothing unfolded below it.
+-- ---- the binary levels: none of the done trees is itself a token of the level. An operator waits only while the children of its right
+-- side are out; its left side has nothing unfolded below it.
 
 -- What a binary level holds.
 pub data LevelSide (W X : List ℕ) (base write lo l : ℕ) (ops : List ℕ) : Pass → Gathered → Type 0 where
   all : {d : Forest} {classes : TokenClasses} → clear (isOneOf ops) d ≡ true → BackArray W X base write lo l d
       → LevelSide W X base write lo l ops (Binary classes 0) (gathered d)
-  operator : {d : Forest} {classes : TokenClasses} {pending m : ℕ} {q : Token} → clear (isOneOf ops) d ≡ true → BackArray W X base write lo m d → isNil d ≡ false
+  operator : {d : Forest} {classes : TokenClasses} {pending m : ℕ} {q : Token} → clear (isOneOf ops) d ≡ true
+      → BackArray W X base write lo m d → isNil d ≡ false
       → unfolded ops d ≡ none
       → RepT W X pending m l q nil → LevelSide W X base write lo l ops (Binary classes pending) (waiting d q)
 
@@ -53,7 +57,8 @@ tokensIn P (node k (node c cs r) rest) = tokensIn P rest
 
 -- What the conditional holds.
 pub data ConditionalSide (W X : List ℕ) (base write lo l : ℕ) : Pass → Forest → Type 0 where
-  all : {d : Forest} {tokens : ℕ} → tokens ≡ tokensIn isConditional d → BackArray W X base write lo l d → ConditionalSide W X base write lo l (Conditional tokens) d
+  all : {d : Forest} {tokens : ℕ} → tokens ≡ tokensIn isConditional d → BackArray W X base write lo l d
+      → ConditionalSide W X base write lo l (Conditional tokens) d
 
 -- ---- statements
 
@@ -63,7 +68,8 @@ pub data Ended (W X : List ℕ) : List ℕ → ℕ → ℕ → Forest → Type 0
   statement : {b : ℕ} {ds : List ℕ} {lo m l : ℕ} {d : Forest} {s : Token} {k : Forest}
       → Ended W X ds lo m d → RepT W X b m (b + 1) s k → OutFrom b 3 X → b + 3 ≤ l → Ended W X (b ∷ ds) lo l (node s k d)
 
--- The n finished statements stand in the words from base on. With the first one, the statement list's own token q was laid down two slots behind it.
+-- The n finished statements stand in the words from base on. With the first one, the statement list's own token q was laid down two slots
+-- behind it.
 pub record EndedAt (W X : List ℕ) (base n lo l : ℕ) (q : Token) (done : Forest) : Type 0 where
   pub ds : List ℕ
   pub seg : SegB W base ds
@@ -83,13 +89,15 @@ pub record OpenAt (W X : List ℕ) (base n write m l : ℕ) (s : Token) (d : For
 -- What the statement pass holds, in a list without semicolons, after a statement's end, and inside a statement.
 pub data StatementSide (W X : List ℕ) (base write lo l : ℕ) : Pass → Split → Type 0 where
   whole : {d : Forest} → BackArray W X base write lo l d → StatementSide W X base write lo l Unsplit (unsplit d)
-  closed : {done : Forest} {q : Token} → EndedAt W X base write lo l q done → StatementSide W X base write lo l (SplitAt write) (after q done)
+  closed : {done : Forest} {q : Token} → EndedAt W X base write lo l q done
+      → StatementSide W X base write lo l (SplitAt write) (after q done)
   current : {n m : ℕ} {done d : Forest} {q s : Token} → EndedAt W X base n lo m q done → OpenAt W X base n write m l s d
       → StatementSide W X base write lo l (SplitAt n) (inside q done s d)
 
 -- ---- arrays
 
--- The array q at the slot a, its contents in the slots after it, the last first, a chain from its last child on. Its classes are not noted yet.
+-- The array q at the slot a, its contents in the slots after it, the last first, a chain from its last child on. Its classes are not noted
+-- yet.
 pub record OpenArray (W X : List ℕ) (a lo l : ℕ) (q : Token) (contents : Forest) : Type 0 where
   pub cs : List ℕ
   pub low : lo ≤ a

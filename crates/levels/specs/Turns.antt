@@ -1,5 +1,5 @@
--- THE CONTRACTS between the driver and the levels: what a level's turn, its taking back of an item and its end ask and ensure. Each says by an equation
--- between what is left of the pass before and after (`work`) that the pass's result never changes.
+-- THE CONTRACTS between the driver and the levels: what a level's turn, its taking back of an item and its end ask and ensure. Each says by
+-- an equation between what is left of the pass before and after (`work`) that the pass's result never changes.
 use Prim.Native.Nat.{ℕ, _+_, _*_, _^_, _≤_, _<_}
 use mathlib.Core.Path.{_≡_}
 use mathlib.Core.Bool.{true, false}
@@ -17,7 +17,8 @@ use Rattle.levels.specs.Sides.{OpenArray, Holds, Waits}
 use Rattle.levels.specs.Failures.{Tells}
 use Rattle.levels.specs.declared.failure.Failure.{Failure}
 use Rattle.levels.specs.declared.turns.Pass.{Pass}
-use Rattle.levels.specs.declared.turns.Pass.the-variants.{Calls, MathCalls, Unsplit, Split, Arrays, Unary, Binary, Conditional, Returns}
+use Rattle.levels.specs.declared.turns.Pass.the-variants.{Calls, MathCalls, Unsplit, Split, Arrays, Unary, Binary, Conditional}
+use Rattle.levels.specs.declared.turns.Pass.the-variants.{Returns}
 use Rattle.levels.specs.declared.turns.Walk.{Walk}
 use Rattle.levels.specs.declared.turns.Turn.{Turn}
 use Rattle.levels.specs.declared.turns.Turn.the-variants.{On, Enter, Over, Fail}
@@ -65,11 +66,12 @@ lentOf (Binary classes pending) = 0
 lentOf (Conditional tokens) = 0
 lentOf Returns = 0
 
--- How the children cs of an entered item begin, in the state u: as their own list does; or, where an array was lent to them, with that one, which
--- stands in the slots from lo to l, before them.
+-- How the children cs of an entered item begin, in the state u: as their own list does; or, where an array was lent to them, with that one,
+-- which stands in the slots from lo to l, before them.
 pub data Begins (W X : List ℕ) (lo l : ℕ) (cs : Forest) : (κ : Kind) → Pass → State κ → Type 0 where
   afresh : {κ : Kind} {p : Pass} → lentOf p ≡ 0 → lo ≤ l → Begins W X lo l cs κ p (begins κ cs)
-  lent : {array a : ℕ} {q : Token} → OpenArray W X a lo l q nil → startsWithIndex cs ≡ true → Begins W X lo l cs arrays (Arrays array a) (indexed nil q nil)
+  lent : {array a : ℕ} {q : Token} → OpenArray W X a lo l q nil → startsWithIndex cs ≡ true
+      → Begins W X lo l cs arrays (Arrays array a) (indexed nil q nil)
 
 -- Where a turn leads to, from the state s with the items `rest` unread.
 pub data TurnTo (κ : Kind) (W' X : List ℕ) (lo hi : ℕ) (w : Walk) (s : State κ) (rest : Forest) : Turn → Type 0 where
@@ -77,10 +79,12 @@ pub data TurnTo (κ : Kind) (W' X : List ℕ) (lo hi : ℕ) (w : Walk) (s : Stat
       → work κ s rest ≡ work κ s' rest'
       → count rest' ≤ count rest → size rest' + count rest ≤ size rest + count rest' → turnsLeft κ s' rest' < turnsLeft κ s rest
       → TurnTo κ W' X lo hi w s rest (On w')
-  enters : {w' : Walk} {b l n m : ℕ} {t u : State κ} {rest' : Forest} {k : Token} {cs : Forest} → SameList w w' → Waits κ W' X lo l m hi w' t rest'
+  enters : {w' : Walk} {b l n m : ℕ} {t u : State κ} {rest' : Forest} {k : Token} {cs : Forest} → SameList w w'
+      → Waits κ W' X lo l m hi w' t rest'
       → RepT W' X b n m k cs → isNil cs ≡ false → Begins W' (b ∷ X) l n cs κ (w' .pass) u
       → work κ s rest ≡ andThen (work κ u (inReading κ cs)) (λ kids. work κ (takes κ t k kids) rest')
-      → count rest' ≤ count rest → size cs + size rest' + count rest ≤ size rest + count rest' + 1 → 1 + size cs + size rest' ≤ size rest → waits κ t + waits κ u ≤ waits κ s + 1
+      → count rest' ≤ count rest → size cs + size rest' + count rest ≤ size rest + count rest' + 1 → 1 + size cs + size rest' ≤ size rest
+      → waits κ t + waits κ u ≤ waits κ s + 1
       → TurnTo κ W' X lo hi w s rest (Enter w' b)
   ends : {w' : Walk} {s' : State κ} → SameList w w' → Holds κ W' X lo hi w' s' nil → waits κ s' ≡ 0
       → work κ s rest ≡ work κ s' nil

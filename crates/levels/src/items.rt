@@ -40,7 +40,8 @@ pub fn past(list: List) -> List
 // The list with `item` after its done items.
 pub fn keep(work: &mut [u32], list: List, item: u32) -> List
     requires { ⌜ list .base + list .write < length (now work) ⌝ }
-    ensures { λ r. ⌜ (r ≡ movedTo list (list .read) (list .write + 1)) × (now (work .exit) ≡ set (now (work .entry)) (list .base + list .write) item) ⌝ }
+    ensures { λ r. ⌜ (r ≡ movedTo list (list .read) (list .write + 1))
+        × (now (work .exit) ≡ set (now (work .entry)) (list .base + list .write) item) ⌝ }
 {
     let at = list.base + list.write;
     work[at] = item;

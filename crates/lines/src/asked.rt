@@ -1,5 +1,5 @@
-// What a line asks of the entries: the calls are made as specs/Lines.antt of molang makes them, and compared. Leans on compared, laid, derived,
-// parse and write.
+// What a line asks of the entries: the calls are made as specs/Lines.antt of molang makes them, and compared. Leans on compared, laid,
+// derived, parse and write.
 use crate::compared::Verdict;
 use crate::compared::read_told;
 use crate::compared::read_verdict;

@@ -1,5 +1,6 @@
-// What an entry told and left in its buffers, beside what a line of the table says. The definition answers every line as it says (the theorem
-// of molang's table), and the entries answer as the definition does: this comparison tests the compiled code. Leans on laid, parse and write.
+// What an entry told and left in its buffers, beside what a line of the table says. The definition answers every line as it says (the
+// theorem of molang's table), and the entries answer as the definition does: this comparison tests the compiled code. Leans on laid, parse
+// and write.
 use crate::items::at;
 use crate::items::next_mark;
 use crate::laid::WORDS;

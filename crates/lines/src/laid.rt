@@ -1,5 +1,5 @@
-// The words that a line's numbers stand for, laid in front of a buffer of zeros: tokens, nodes and message records (molang's src/lines.rt says
-// how they are written as numbers). A line has at most 1,002 numbers. Leans on items and words.
+// The words that a line's numbers stand for, laid in front of a buffer of zeros: tokens, nodes and message records (molang's src/lines.rt
+// says how they are written as numbers). A line has at most 1,002 numbers. Leans on items and words.
 use crate::items::at;
 use molang::lines::ANY;
 use molang::lines::LIST;
@@ -18,7 +18,8 @@ struct Token {
     end: u32,
 }
 
-// The i-th token of a list that is answered (op_ss_ee), of one that is repeated (at the span 0 to 0), or of operators (at the span i to i + 1).
+// The i-th token of a list that is answered (op_ss_ee), of one that is repeated (at the span 0 to 0), or of operators (at the span i to i +
+// 1).
 fn token_of(mark: u32, items: &[u32], i: usize) -> Token
     requires { ⌜ i ≤ 4096 ⌝ }
 {
@@ -89,8 +90,8 @@ pub fn lay_nodes(words: &mut [u32], nodes: &[u32])
     }
 }
 
-// Lays a number of a record at a field of its eight words: the first is number_ss_ee, and the others are the arguments up to the last that is
-// not 0. The field after it, which is the first after a mark.
+// Lays a number of a record at a field of its eight words: the first is number_ss_ee, and the others are the arguments up to the last that
+// is not 0. The field after it, which is the first after a mark.
 fn lay_field(words: &mut [u32], from: usize, field: usize, number: u32) -> usize
     requires { ⌜ (from + 8 ≤ length (now words)) × (field ≤ 8) ⌝ }
     ensures { λ r. ⌜ r ≤ 8 ⌝ }

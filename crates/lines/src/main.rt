@@ -1,7 +1,7 @@
 // The program `lines`: runs every line of document 01's 'Lists and their trees' through the entries and compares answers and words with
-// the table's, which is the one that the theorem of molang has. It writes the text of each line and whether it is answered as it says, and the
-// totals last. Leans on molang (the table), parse, write and derived. What it writes is compared with the file stdout; of the functions that
-// run and compare it is promised that they are safe, and of the text that it is the table's.
+// the table's, which is the one that the theorem of molang has. It writes the text of each line and whether it is answered as it says, and
+// the totals last. Leans on molang (the table), parse, write and derived. What it writes is compared with the file stdout; of the functions
+// that run and compare it is promised that they are safe, and of the text that it is the table's.
 mod asked;
 mod compared;
 mod items;

@@ -9,7 +9,8 @@ use Rattle.molang.specs.Operator
 use Rattle.molang.specs.Forest.{Token, Forest, nil, node, renamed, turnedOnto}
 use Rattle.molang.specs.Message.{ok}
 use Rattle.molang.specs.Level.{Step, on, into, through}
-use Rattle.molang.specs.Calls.{Indexing, unindexed, named, indexed, flushed, isIndex, startsWithIndex, emptyIndex, nextIndex, index, arrayStep, arrayResume, arrayFinish, arrayLevel}
+use Rattle.molang.specs.Calls.{Indexing, unindexed, named, indexed, flushed, isIndex, startsWithIndex, emptyIndex, nextIndex, index}
+use Rattle.molang.specs.Calls.{arrayStep, arrayResume, arrayFinish, arrayLevel}
 use Rattle.molang.specs.Free.{free, isNil, isArrayName}
 use Rattle.molang.specs.Weight.{Weighing, weight}
 use Rattle.molang.proofs.Trees.{either}
@@ -91,7 +92,8 @@ module _ (W : Weighing) where
   next-light d q nil k c cs r rest n h =
       array-appends d q nil (unindexed nil) (weight W (node c cs r)) k c cs r rest n (omega arith, refl) (omega arith)
   next-light d q (node l (node x xs y) contents) k c cs r rest n h =
-      array-appends d q (node l (node x xs y) contents) (unindexed nil) (weight W (node c cs r)) k c cs r rest n (omega arith, refl) (omega arith)
+      array-appends d q (node l (node x xs y) contents) (unindexed nil) (weight W (node c cs r)) k c cs r rest n (omega arith, refl)
+      (omega arith)
   next-light d q (node l nil contents) k c cs r rest n h =
       either (ArrayOnward k (node c cs r) rest n) (eqb (l .op) Operator.arrayVariable) _ _
       (either (ArrayOnward k (node c cs r) rest n) (startsWithIndex (node c cs r)) _ _
@@ -127,4 +129,11 @@ module _ (W : Weighing) where
 
   pub array-light : Light W arrayLevel
   unfolding arrayLevel flushed weight
-  array-light = record { Fits = IndexingFits; full = indexingFull; begins = λ f. (omega arith, refl); steps = array-steps; ends = array-ends }
+  array-light =
+      record {
+        Fits = IndexingFits;
+        full = indexingFull;
+        begins = λ f. (omega arith, refl);
+        steps = array-steps;
+        ends = array-ends;
+      }

@@ -75,4 +75,11 @@ module _ (W : Weighing) (ops : List ℕ) where
 
   pub binary-light : Light W (binaryLevel ops)
   unfolding binaryLevel nothing shown weight
-  binary-light = record { Fits = GatheredFits W; full = gatheredFull W; begins = λ f. omega arith; steps = binary-steps; ends = binary-ends }
+  binary-light =
+      record {
+        Fits = GatheredFits W;
+        full = gatheredFull W;
+        begins = λ f. omega arith;
+        steps = binary-steps;
+        ends = binary-ends;
+      }

@@ -11,8 +11,13 @@ use lib.IntN.{ℤ}
 use lib.ListN.{length, length-append}
 use Rattle.molang.specs.Operator
 use Rattle.molang.specs.Forest.{Token, Forest, nil, node, leaves, size}
-use Rattle.molang.specs.Message.{Message, multipleRoots, complexMustEndWithSemicolon, leadingMemberAccessor, closingMismatch, sectionNotClosed, noClosingSymbol, emptyParameterList, mathAtEnd, mathWithoutParenthesis, leadingSemicolon, emptyArrayIndex, binaryAtEnd, negateWithoutOperand, notWithoutOperand, unknownOperation, unaryWithoutOperand, ternaryWithoutOperands, Result, ok, fail, record8, about, messageRecord}
-use Rattle.molang.specs.Order.{rules, Pass, lastToken, memberAccessors, sectioning, comparisons, logic, conditionals, order, runs, lastOf, endsWithSemicolon, apply}
+use Rattle.molang.specs.Message.{Message, multipleRoots, complexMustEndWithSemicolon, leadingMemberAccessor, closingMismatch}
+use Rattle.molang.specs.Message.{sectionNotClosed, noClosingSymbol, emptyParameterList, mathAtEnd, mathWithoutParenthesis}
+use Rattle.molang.specs.Message.{leadingSemicolon, emptyArrayIndex, binaryAtEnd, negateWithoutOperand, notWithoutOperand}
+use Rattle.molang.specs.Message.{unknownOperation, unaryWithoutOperand, ternaryWithoutOperands, Result, ok, fail, record8, about}
+use Rattle.molang.specs.Message.{messageRecord}
+use Rattle.molang.specs.Order.{rules, Pass, lastToken, memberAccessors, sectioning, comparisons, logic, conditionals, order, runs}
+use Rattle.molang.specs.Order.{lastOf, endsWithSemicolon, apply}
 use Rattle.molang.specs.Read.{Answer, tree, messages, rooted, endsReading, grouped, read}
 use Rattle.molang.specs.Words.{tokenWords, treeWords}
 use Rattle.molang.specs.Parse.{recordWords}
@@ -100,7 +105,8 @@ module _ (sourceLength : ℕ) (u : ℕ → Bool) (n : ℕ) where
       → Bounded n (grouped sourceLength u (sectioning ∷ ps) [] f)
   unfolding apply afterFail endsReading
   sections-bounded ps f e i h =
-      pass-bounded sectioning ps f 2 _ (sections-light nodeWeight f i) (grouped-bounded ps f e h) (λ m o. counted m (omega arith) (omega arith))
+      pass-bounded sectioning ps f 2 _ (sections-light nodeWeight f i) (grouped-bounded ps f e h)
+      (λ m o. counted m (omega arith) (omega arith))
       (λ g w. grouped-bounded ps g e (omega arith))
 
   members-bounded : (ps : List Pass) (ks : List Token) → allNested ps ≡ true → weight nodeWeight (leaves ks) ≤ n

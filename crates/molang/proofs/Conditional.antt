@@ -10,7 +10,8 @@ use Rattle.molang.specs.Operator
 use Rattle.molang.specs.Forest.{Token, Forest, nil, node, turnedOnto, inOrder}
 use Rattle.molang.specs.Message.{ok}
 use Rattle.molang.specs.Level.{through}
-use Rattle.molang.specs.Conditional.{isToken, startsWith, under, pairElse, scan, foldedFrom, dangling, undangled, conditionalStep, conditionalFinish, conditionalLevel}
+use Rattle.molang.specs.Conditional.{isToken, startsWith, under, pairElse, scan, foldedFrom, dangling, undangled, conditionalStep}
+use Rattle.molang.specs.Conditional.{conditionalFinish, conditionalLevel}
 use Rattle.molang.specs.Free.{free, clear, isNil, isConditional}
 use Rattle.molang.specs.Weight.{Weighing, weight}
 use Rattle.molang.proofs.Trees.{decided, maybe, clear-leaf, clear-rest, clear-turned}
@@ -23,7 +24,8 @@ use Rattle.molang.proofs.Weight.{Within, Ending, Light, weight-inner, w
 module _ (a : Token) (aa d : Forest) (h : clear isConditional (node a aa d) ≡ true) where
   no-conditional : (cs : Forest) → aa ≡ cs → (isToken Operator.conditional a cs ≡ false) × (isToken Operator.conditionalElse a cs ≡ false)
   unfolding isToken isConditional
-  no-conditional nil e = or-neither (eqb (a .op) Operator.conditional) (eqb (a .op) Operator.conditionalElse) (clear-leaf isConditional a d (rw e at h) .0)
+  no-conditional nil e =
+      or-neither (eqb (a .op) Operator.conditional) (eqb (a .op) Operator.conditionalElse) (clear-leaf isConditional a d (rw e at h) .0)
   no-conditional (node c cs r) e = (refl, refl)
 
   no-token : (isToken Operator.conditional a aa ≡ false) × (isToken Operator.conditionalElse a aa ≡ false)
@@ -54,7 +56,8 @@ scan-clear nil right h = refl
 scan-clear (node a aa nil) right h = refl
 scan-clear (node a aa (node b bs left)) right h =
     let e = no-token a aa (node b bs left) h in
-    rw (scan-once a aa b bs left right, e .0, e .1) (scan-clear (node b bs left) (node a aa right) (clear-rest isConditional a aa (node b bs left) h))
+    rw (scan-once a aa b bs left right, e .0, e .1)
+    (scan-clear (node b bs left) (node a aa right) (clear-rest isConditional a aa (node b bs left) h))
 
 folded-clear : (d : Forest) → clear isConditional d ≡ true → foldedFrom d ≡ inOrder d
 unfolding foldedFrom turnedOnto inOrder
@@ -165,7 +168,8 @@ module _ (W : Weighing) where
   folded-light (node a aa (node b bs nil)) n h =
       (omega (arith, weight-tree W a aa (node b bs nil), weight-tree W b bs (node a aa nil)), λ e. refl)
   folded-light (node a aa (node b bs (node c cs left))) n h =
-      let u = scan-light (node b bs (node c cs left)) (node a aa nil) n (omega (arith, weight-tree W a aa (node b bs (node c cs left)))) refl in
+      let u =
+      scan-light (node b bs (node c cs left)) (node a aa nil) n (omega (arith, weight-tree W a aa (node b bs (node c cs left)))) refl in
       (u .0, λ e. u .1)
 
   abbrev ForestFits : Forest → Forest → ℕ → Type 0

@@ -33,7 +33,8 @@ module _ (W : Weighing) where
         → Gathers L k (node c cs r) rest n (into t (gathered nil))
     unfolding weight shown isNil
     gathers-into h =
-        enters {t = t} {u = gathered nil} (weight W (node c cs r)) (omega arith) refl λ kids w e. let z = h kids e in (omega arith, rw (z .1) refl)
+        enters {t = t} {u = gathered nil} (weight W (node c cs r)) (omega arith) refl λ kids w e. let z =
+        h kids e in (omega arith, rw (z .1) refl)
 
     -- A state that takes a node as it is, behind the trees d.
     pub gathers-node : (d : Forest) → ((kids : Forest) → L .resume t k kids ≡ gathered (node k kids d))

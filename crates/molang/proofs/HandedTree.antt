@@ -18,7 +18,8 @@ use Rattle.molang.specs.FirstFailure.{must, firstOf}
 use Rattle.molang.specs.Reread.{bracketless}
 use Rattle.molang.specs.Plain.{unplainAt}
 use Rattle.molang.specs.Write.{written, takenAway}
-use Rattle.molang.specs.WriteEntry.{treeFault, treesOf, WriteCall, forestRefusal, writeRefusal, writtenTokens, tokens, unwritten, writeTold, writeAnswered, listIn, listAfter}
+use Rattle.molang.specs.WriteEntry.{treeFault, treesOf, WriteCall, forestRefusal, writeRefusal, writtenTokens, tokens, unwritten}
+use Rattle.molang.specs.WriteEntry.{writeTold, writeAnswered, listIn, listAfter}
 use Rattle.molang.proofs.FirstFailure.{first-none, passed, withNumber-none, after-none}
 use Rattle.molang.proofs.Bounds.{treeWords-length}
 use Rattle.molang.proofs.Words.{LegalTokens, noTokens, LegalTrees, legalTree}

@@ -1,5 +1,5 @@
--- What 'no masks' (NoMasks) needs of a level from the left, said once: a level that passes over what is none of its tokens leaves a forest as
--- it is where none of its tokens stands as a leaf. Each level is an instance, in the file of its name.
+-- What 'no masks' (NoMasks) needs of a level from the left, said once: a level that passes over what is none of its tokens leaves a forest
+-- as it is where none of its tokens stands as a leaf. Each level is an instance, in the file of its name.
 use Prim.Native.Nat.{ℕ}
 use mathlib.Core.Path.{_≡_, refl}
 use mathlib.Core.Bool.{Bool, true, false}

@@ -69,7 +69,9 @@ both-follow (x ∷ xs) ys h g = (h .0, both-follow xs ys (h .1) g)
 lines-follow : (ls : List Line) → AllFollow (allCompared ls)
 unfolding allCompared
 lines-follow [] = tt
-lines-follow (l ∷ ls) = both-follow (compared (l .answers) (askedOf (l .asked))) (allCompared ls) (line-follows (l .answers) (askedOf (l .asked))) (lines-follow ls)
+lines-follow (l ∷ ls) =
+    both-follow (compared (l .answers) (askedOf (l .asked))) (allCompared ls) (line-follows (l .answers) (askedOf (l .asked)))
+    (lines-follow ls)
 
 works-follow : (cs : List Compared) → AllFollow cs → givens cs ≡ wanteds cs → works cs ≡ wantedWorks cs
 unfolding givens wanteds works wantedWorks

@@ -11,7 +11,8 @@ use borrow.Author.Tests.{ne-eqb}
 use Rattle.molang.specs.Operator.{isBracket}
 use Rattle.molang.specs.Forest.{Token, Forest, nil, node, bare, count, size}
 use Rattle.molang.specs.Read.{uses}
-use Rattle.molang.specs.Words.{word, tokenWords, listWords, treeWords, Field, operatorField, startField, endField, upperField, lowerField, wordFault, lowFault, variantAfter, nextInToken, withPlace, wordsRefusal}
+use Rattle.molang.specs.Words.{word, tokenWords, listWords, treeWords, Field, operatorField, startField, endField, upperField}
+use Rattle.molang.specs.Words.{lowerField, wordFault, lowFault, variantAfter, nextInToken, withPlace, wordsRefusal}
 use Rattle.molang.specs.Legal.{Legal}
 use Rattle.molang.specs.Write.{openerFor, closerFor, standsAlone, standsLeft, standsRight, operandTokens, written}
 use Rattle.molang.specs.WriteEntry.{nextInNode, Shape, shapeAfter, continues, treeFault}

@@ -17,7 +17,8 @@ use Rattle.molang.specs.Unary.{Unary, done, undone, unaryLeaf, turned, u
 use Rattle.molang.specs.Binary.{binaryLevel}
 use Rattle.molang.specs.Conditional.{conditionalLevel}
 use Rattle.molang.specs.Order.{apply}
-use Rattle.molang.specs.Work.{Kind, calls, statements, arrays, unaryMinusAndNot, conditional, returns, binary, Right, right, State, before, fromRight, work, begins, inReading, takes, passOf, pass, andThen, Held, held, unwound}
+use Rattle.molang.specs.Work.{Kind, calls, statements, arrays, unaryMinusAndNot, conditional, returns, binary, Right, right, State}
+use Rattle.molang.specs.Work.{before, fromRight, work, begins, inReading, takes, passOf, pass, andThen, Held, held, unwound}
 use Rattle.molang.proofs.Walks.{back, onward, walk-onward}
 use Rattle.molang.proofs.Work.{pass-begins, leftOf, at-leaf, at-node, reading-size, unwound-fail}
 
@@ -161,7 +162,8 @@ pub no-frames : (κ : Kind) (f : Forest)
     → Run κ [] (begins κ f) (inReading κ f) (pass κ f) × ((r : Result) → Run κ [] (begins κ f) (inReading κ f) r → r ≡ pass κ f)
 unfolding unwound
 no-frames κ f = (
-  runs κ (size (inReading κ f)) (inReading κ f) (le-refl _) [] (begins κ f) (pass κ f) (pass κ f) (sym (pass-begins κ f)) (whole (pass κ f)),
+  runs κ (size (inReading κ f)) (inReading κ f) (le-refl _) [] (begins κ f) (pass κ f) (pass κ f) (sym (pass-begins κ f))
+      (whole (pass κ f)),
   λ r h. run-gives h ∙ sym (pass-begins κ f),
 )
   where

@@ -13,7 +13,8 @@ use Rattle.molang.specs.Forest.{Token, Forest, nil, node, turnedOnto, in
 use Rattle.molang.specs.Message.{ok}
 use Rattle.molang.specs.Sections.{members, outside, placed, position, going, closing, bracket, closed, sections}
 use Rattle.molang.specs.Calls.{queryOrLoop, math}
-use Rattle.molang.specs.Order.{Pass, lastToken, memberAccessors, sectioning, callPass, statements, arrays, pointer, mathCalls, unaryMinusAndNot, addition, conditional, returns, binary, apply}
+use Rattle.molang.specs.Order.{Pass, lastToken, memberAccessors, sectioning, callPass, statements, arrays, pointer, mathCalls}
+use Rattle.molang.specs.Order.{unaryMinusAndNot, addition, conditional, returns, binary, apply}
 use Rattle.molang.specs.Free.{free, tokensOnly, flat, operatorsOf, worksOn}
 use Rattle.molang.proofs.Trees.{either, both, free-leaf, free-tree}
 use Rattle.molang.proofs.Booleans.{or-neither}

@@ -14,7 +14,8 @@ use Rattle.molang.specs.Statements.{splitOf, statementFinish, statementL
 use Rattle.molang.specs.Unary.{unary, unaryPass, returnFinish, returnLevel}
 use Rattle.molang.specs.Binary.{binaryFinish, binaryLevel}
 use Rattle.molang.specs.Conditional.{foldedFrom, dangling, undangled, conditionalFinish, conditionalLevel}
-use Rattle.molang.specs.Order.{Pass, lastToken, memberAccessors, sectioning, callPass, statements, arrays, pointer, mathCalls, unaryMinusAndNot, addition, conditional, returns, binary, runs, apply}
+use Rattle.molang.specs.Order.{Pass, lastToken, memberAccessors, sectioning, callPass, statements, arrays, pointer, mathCalls}
+use Rattle.molang.specs.Order.{unaryMinusAndNot, addition, conditional, returns, binary, runs, apply}
 use Rattle.molang.specs.Read.{messages, rooted, endsReading, grouped}
 use Rattle.molang.specs.Free.{free, isNil}
 use Rattle.molang.specs.Weight.{Weighing, weight}
@@ -129,7 +130,9 @@ module _ (P : ℕ → Bool) where
 
 -- THE EMPTY LIST
 pub apply-nil : (sourceLength : ℕ) (p : Pass) → isNested p ≡ true → apply sourceLength p nil ≡ ok nil
-unfolding isNested apply through walk callLevel callFinish statementLevel splitOf statementFinish arrayLevel flushed arrayFinish binaryLevel binaryFinish unaryPass unary conditionalLevel conditionalFinish foldedFrom undangled dangling returnLevel returnFinish nothing inOrder turnedOnto
+unfolding isNested apply through walk callLevel callFinish statementLevel splitOf statementFinish arrayLevel flushed arrayFinish binaryLevel
+    binaryFinish unaryPass unary conditionalLevel conditionalFinish foldedFrom undangled dangling returnLevel returnFinish nothing inOrder
+    turnedOnto
 apply-nil l lastToken e = false-true e
 apply-nil l memberAccessors e = false-true e
 apply-nil l sectioning e = false-true e

@@ -10,16 +10,20 @@ use lib.ListN.{length, take, length-take, length-replicate}
 use Rattle.molang.specs.Forest.{Token, Forest, nil, node, size}
 use Rattle.molang.specs.Read.{uses}
 use Rattle.molang.specs.Words.{Refusal, operatorField, wordsRefusal, tokensOf, listWords, treeWords}
-use Rattle.molang.specs.Parse.{Call, refusal, Told, aTree, someMessages, refused, told, answered, treeAfter, messagesIn, messagesAfter, workIn, workAfter}
+use Rattle.molang.specs.Parse.{Call, refusal, Told, aTree, someMessages, refused, told, answered, treeAfter, messagesIn}
+use Rattle.molang.specs.Parse.{messagesAfter, workIn, workAfter}
 use Rattle.molang.specs.Write.{written}
 use Rattle.molang.specs.WriteEntry.{WriteCall, WriteTold, tokens, unwritten, writeRefusal, writeAnswered, listAfter}
-use Rattle.molang.specs.Reread.{bracketless, Rereading, handed, writerCall, exactCall, secondCall, twoTrees, firstMessages, secondMessages, turnedBack, stopped, secondTold, afterWriting, afterFirst, reread, CanReadBack, HasReadBack, Demand3}
+use Rattle.molang.specs.Reread.{bracketless, Rereading, handed, writerCall, exactCall, secondCall, twoTrees, firstMessages}
+use Rattle.molang.specs.Reread.{secondMessages, turnedBack, stopped, secondTold, afterWriting, afterFirst, reread, CanReadBack}
+use Rattle.molang.specs.Reread.{HasReadBack, Demand3}
 use Rattle.molang.proofs.Words.{tokens-back}
 use Rattle.molang.proofs.ListWords.{list-unrefused, listWords-length, uses-legal}
 use Rattle.molang.proofs.UsedSet.{halves-exact}
 use Rattle.molang.proofs.Accepted.{call-accepted}
 use Rattle.molang.proofs.Bounds.{treeWords-length}
-use Rattle.molang.proofs.HandedTree.{Parsed, tree-front, tree-told, front-bracketless, tree-written-legal, writer-tells, write-done, tree-of-told, write-of-told}
+use Rattle.molang.proofs.HandedTree.{Parsed, tree-front, tree-told, front-bracketless, tree-written-legal, writer-tells, write-done}
+use Rattle.molang.proofs.HandedTree.{tree-of-told, write-of-told}
 use Rattle.molang.proofs.Entries.{ThreeCalls, three-calls}
 
 -- Five words make a token.

@@ -48,4 +48,11 @@ module _ (W : Weighing) where
 
   pub return-light : Light W returnLevel
   unfolding returnLevel nothing shown weight
-  return-light = record { Fits = GatheredFits W; full = gatheredFull W; begins = λ f. omega arith; steps = return-steps; ends = return-ends }
+  return-light =
+      record {
+        Fits = GatheredFits W;
+        full = gatheredFull W;
+        begins = λ f. omega arith;
+        steps = return-steps;
+        ends = return-ends;
+      }

@@ -12,7 +12,8 @@ use Rattle.molang.specs.Operator
 use Rattle.molang.specs.Operator.{hasMembers, closingOf, isCloser}
 use Rattle.molang.specs.Forest.{Token, Forest, nil, node, leaves, turnedOnto, inOrder}
 use Rattle.molang.specs.Message.{Message, Result, fail, closer}
-use Rattle.molang.specs.Sections.{withMember, members, Open, outside, section, placed, position, Walked, going, mismatch, closing, bracket, closed, sections}
+use Rattle.molang.specs.Sections.{withMember, members, Open, outside, section, placed, position, Walked, going, mismatch, closing}
+use Rattle.molang.specs.Sections.{bracket, closed, sections}
 use Rattle.molang.specs.Free.{flat}
 use Rattle.molang.specs.Weight.{Weighing, weight}
 use Rattle.molang.proofs.Trees.{decided, either, maybe, both, and-true-true}
@@ -130,7 +131,8 @@ module _ (W : Weighing) where
       → Walks (weight W (node k cs nil) + openWeight s) (bracket k cs i s)
   unfolding bracket openWeight weight flat
   bracket-light k nil rest i s h =
-      maybe (Walks (weight W (node k nil nil) + openWeight s)) (closingOf (k .op)) _ _ (λ c. walks {s = section k (i + 1) nil s} (omega arith))
+      maybe (Walks (weight W (node k nil nil) + openWeight s)) (closingOf (k .op)) _ _
+      (λ c. walks {s = section k (i + 1) nil s} (omega arith))
       (unopened-light k nil i s)
   bracket-light k (node c cs r) rest i s h =
       rw (member-unopened k (both (eqb (k .op) Operator.memberAccessor) (flat rest) h .0), bracket) (unopened-light k (node c cs r) i s)

@@ -9,7 +9,8 @@ use Rattle.molang.specs.Operator
 use Rattle.molang.specs.Forest.{Token, Forest, nil, node, bare, inOrder}
 use Rattle.molang.specs.Message.{ok}
 use Rattle.molang.specs.Level.{Step, into, through}
-use Rattle.molang.specs.Statements.{Split, unsplit, after, inside, splitOf, isEntered, gather, endStatement, enterSplit, statementStep, statementResume, statementFinish, statementLevel}
+use Rattle.molang.specs.Statements.{Split, unsplit, after, inside, splitOf, isEntered, gather, endStatement, enterSplit}
+use Rattle.molang.specs.Statements.{statementStep, statementResume, statementFinish, statementLevel}
 use Rattle.molang.specs.Free.{free, clear, isNil, isSemicolon}
 use Rattle.molang.specs.Weight.{Weighing, weight}
 use Rattle.molang.proofs.Trees.{decided, either, clear-leaf}
@@ -100,7 +101,8 @@ module _ (W : Weighing) (pays : 3 * W .inner ≤ W .leaf Operator.semicolon) whe
   end-light k (inside q (node t ts done) s d) rest n e h =
       let semicolon = ap (W .leaf) (eqb-true (k .op) Operator.semicolon e) in
       let finished = node t ts done in
-      goes {t = after q (node s (inOrder d) finished)} (omega (arith, h .0, pays, semicolon, weight-gathered W s d finished (h .2)), tt) refl
+      goes {t = after q (node s (inOrder d) finished)}
+      (omega (arith, h .0, pays, semicolon, weight-gathered W s d finished (h .2)), tt) refl
 
   -- A node's children, split for themselves, come back to it.
   statement-enters : (m : Split) (k c : Token) (cs r rest : Forest) (n : ℕ) → SplitFits m (node k (node c cs r) rest) n
@@ -109,7 +111,9 @@ module _ (W : Weighing) (pays : 3 * W .inner ≤ W .leaf Operator.semicolon) whe
   statement-enters m k c cs r rest n h =
       let kids-begin = split-fits (node c cs r) (node c cs r) (weight W (node c cs r)) (omega arith) (λ e. e) in
       enters {t = m} {u = splitOf (node c cs r)} (weight W (node c cs r)) kids-begin refl
-      λ kids w e. gather-light m k kids (node c cs r) rest n h (omega (arith, weight-inner W k kids nil e, weight-inner W k (node c cs r) nil refl)) refl
+      λ kids w e.
+      gather-light m k kids (node c cs r) rest n h
+      (omega (arith, weight-inner W k kids nil e, weight-inner W k (node c cs r) nil refl)) refl
 
   enter-light : (m : Split) (k c : Token) (cs r rest : Forest) (n : ℕ) → SplitFits m (node k (node c cs r) rest) n
       → SplitOnward k (node c cs r) rest n (enterSplit m k (node c cs r))

@@ -8,7 +8,8 @@ use native.Mathlib.Omega.{arith}
 use lib.Dec.{eqb, ltb}
 use borrow.Author.Tests.{eqb-true, eq-eqb, le-leb, lt-ltb}
 use Rattle.molang.specs.Forest.{Token, Forest, nil, node, count, size}
-use Rattle.molang.specs.Words.{word, tokenWords, treeWords, Field, operatorField, startField, endField, upperField, lowerField, countField, fieldKind, lowFault, wordFault, variantAfter}
+use Rattle.molang.specs.Words.{word, tokenWords, treeWords, Field, operatorField, startField, endField, upperField, lowerField}
+use Rattle.molang.specs.Words.{countField, fieldKind, lowFault, wordFault, variantAfter}
 use Rattle.molang.specs.Legal.{Legal}
 use Rattle.molang.specs.FirstFailure.{must}
 use Rattle.molang.specs.WriteEntry.{mostNodes, nextInNode, Shape, shapeAfter, continues, isWhole, treeFault}

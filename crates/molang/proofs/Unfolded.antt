@@ -82,7 +82,8 @@ module _ (ops : List ℕ) where
       → walk (binaryLevel ops) (gathered d) f ≡ atFirst (firstLeaf ops f) (turnedOnto d f)
   unfolding walk binaryLevel binaryFinish firstLeaf atFirst turnedOnto inOrder isNil
   walk-late d over n = refl
-  walk-late d (leafThen {k = k} {rest = rest} e h) n = rw (keeps-leaf d k e, walk) (rw (e, firstLeaf) (walk-late (node k nil d) h (λ t. refl)))
+  walk-late d (leafThen {k = k} {rest = rest} e h) n =
+      rw (keeps-leaf d k e, walk) (rw (e, firstLeaf) (walk-late (node k nil d) h (λ t. refl)))
   walk-late d (lastly {k = k} e) n = last-fails d k e (n refl)
   walk-late d (treeThen {k = k} {c = c} {cs = cs} {r = r} {rest = rest} below later) n =
       tree-late (firstLeaf ops (node c cs r)) d k c cs r rest refl (walk-late nil below (λ t. absurd (false≢true t)))
@@ -129,7 +130,8 @@ module _ (ops : List ℕ) where
   kept-steps : (s : Gathered) (k : Token) (cs rest : Forest) (n : Unit {0}) → KeptState s → KeptOnward k cs rest (binaryStep ops s k cs)
   unfolding binaryLevel binaryStep binaryResume operatorAfter isNil
   kept-steps (gathered nil) k nil rest n h =
-      decided (KeptOnward k nil rest) (isOneOf ops (k .op)) _ _ (λ e. stops refl) (λ e. goes {t = gathered (node k nil nil)} (leafFirst e h) refl)
+      decided (KeptOnward k nil rest) (isOneOf ops (k .op)) _ _ (λ e. stops refl)
+      (λ e. goes {t = gathered (node k nil nil)} (leafFirst e h) refl)
   kept-steps (gathered (node l ls d)) k nil rest n h =
       decided (KeptOnward k nil rest) (isOneOf ops (k .op)) _ _ (λ e. goes {t = waiting (node l ls d) k} (h, refl) refl)
       (λ e. goes {t = gathered (node k nil (node l ls d))} (leafFirst e h) refl)
@@ -217,7 +219,8 @@ module _ (ops : List ℕ) where
   unfolding walk againLevel binaryLevel onward back
   walk-again s nil h = refl
   walk-again s (node k cs rest) h =
-      ap (onward againLevel k cs rest) (step-again s k cs h) ∙ onward-again k cs rest (kept-steps s k cs rest tt h) (λ t h. walk-again t rest h)
+      ap (onward againLevel k cs rest) (step-again s k cs h)
+      ∙ onward-again k cs rest (kept-steps s k cs rest tt h) (λ t h. walk-again t rest h)
       (λ u h. walk-again u cs h)
 
   -- The second walk changes nothing: the definition's level is the Rust's.

@@ -1,5 +1,5 @@
--- Used sets by their bits: one without operators above 110 is a number below 2 ^ 111, which the entry does not turn back; and two halves with
--- exactly a set's operators are the halves of its number.
+-- Used sets by their bits: one without operators above 110 is a number below 2 ^ 111, which the entry does not turn back; and two halves
+-- with exactly a set's operators are the halves of its number.
 use Prim.Native.Nat.{ℕ, zero, suc, _+_, _*_, _/_, _%_, _^_, _≤_, _<_}
 use mathlib.Core.Path.{_≡_, refl, ap, sym, _∙_, fun-ext}
 use mathlib.Core.Bool.{Bool, true, false, _&&_, false≢true}

@@ -9,7 +9,9 @@ use lib.Dec.{eqb, leb, ltb}
 use lib.ListN.{length}
 use borrow.Author.Tests.{eqb-true, eqb-false, leb-true, ltb-true}
 use Rattle.molang.specs.Forest.{Token, Forest, nil, node, count}
-use Rattle.molang.specs.Words.{word, kindOf, lowOf, tokenWords, tokenOf, tokensOf, listWords, treeWords, Field, operatorField, startField, endField, upperField, lowerField, fieldKind, lowFault, wordFault, variantAfter, nextInToken, wordsRefusal}
+use Rattle.molang.specs.Words.{word, kindOf, lowOf, tokenWords, tokenOf, tokensOf, listWords, treeWords, Field, operatorField}
+use Rattle.molang.specs.Words.{startField, endField, upperField, lowerField, fieldKind, lowFault, wordFault, variantAfter}
+use Rattle.molang.specs.Words.{nextInToken, wordsRefusal}
 use Rattle.molang.specs.Legal.{Legal}
 use Rattle.molang.specs.WriteEntry.{firstTrees, otherTrees, treesOf}
 use Rattle.molang.proofs.Trees.{decided}

@@ -12,7 +12,8 @@ use Rattle.molang.specs.Level.{through}
 use Rattle.molang.specs.Calls.{queryOrLoop, math}
 use Rattle.molang.specs.Order.{apply}
 use Rattle.molang.specs.Unary.{Unary, done, undone, unaryLeaf, unary, unaryPass, unaryNode, turned}
-use Rattle.molang.specs.Work.{Kind, calls, statements, arrays, unaryMinusAndNot, conditional, returns, binary, right, before, fromRight, work, begins, inReading, passOf, pass, andThen, Held, held, unwound}
+use Rattle.molang.specs.Work.{Kind, calls, statements, arrays, unaryMinusAndNot, conditional, returns, binary, right, before}
+use Rattle.molang.specs.Work.{fromRight, work, begins, inReading, passOf, pass, andThen, Held, held, unwound}
 
 -- ---- the whole pass is what is left at its beginning
 

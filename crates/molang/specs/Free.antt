@@ -8,7 +8,8 @@ use Rattle.molang.specs.Operator
 use Rattle.molang.specs.Operator.{isOneOf}
 use Rattle.molang.specs.Forest.{Forest, nil, node}
 use Rattle.molang.specs.Calls.{queryOrLoop, math, calls}
-use Rattle.molang.specs.Order.{Pass, lastToken, memberAccessors, sectioning, callPass, statements, arrays, pointer, mathCalls, unaryMinusAndNot, addition, conditional, returns, binary}
+use Rattle.molang.specs.Order.{Pass, lastToken, memberAccessors, sectioning, callPass, statements, arrays, pointer, mathCalls}
+use Rattle.molang.specs.Order.{unaryMinusAndNot, addition, conditional, returns, binary}
 
 -- The list has no trees.
 unfoldable pub isNil : Forest → Bool

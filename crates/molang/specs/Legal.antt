@@ -1,5 +1,5 @@
--- A token that words can hold. The definitions of reading and writing do not use this: the laws of the word formats and the contracts of the
--- node store speak of it.
+-- A token that words can hold. The definitions of reading and writing do not use this: the laws of the word formats and the contracts of
+-- the node store speak of it.
 use Prim.Native.Nat.{ℕ, _^_, _≤_, _<_}
 use mathlib.Core.Path.{_≡_}
 use Rattle.molang.specs.Forest.{Token}

@@ -1,5 +1,5 @@
--- The table of lines: what the numbers of src/lines.rt say, and that each line is answered as it says. A line asks something of an entry and
--- says what is answered. Compared are what is told and all words of the lent tree, message and work buffers, or of the lent list.
+-- The table of lines: what the numbers of src/lines.rt say, and that each line is answered as it says. A line asks something of an entry
+-- and says what is answered. Compared are what is told and all words of the lent tree, message and work buffers, or of the lent list.
 use mathlib.Core.Path.{_≡_}
 use Prim.Native.Nat.{ℕ, _+_, _-_, _*_, _/_, _%_, _^_}
 use mathlib.Core.Bool.{true, false}
@@ -85,8 +85,8 @@ unfoldable pub tokensFrom : ℕ → List ℕ → List Token
 tokensFrom i [] = []
 tokensFrom i (o ∷ os) = record { op = o; variant = 0; value = 0; start = i; end = i + 1 } ∷ tokensFrom (i + 1) os
 
--- A call for n tokens: buffers just as long as the entry asks, and a source of length n. The work buffer is of ones and the others are of zeros:
--- a work buffer that was cleared differs from one that was left as it was.
+-- A call for n tokens: buffers just as long as the entry asks, and a source of length n. The work buffer is of ones and the others are of
+-- zeros: a work buffer that was cleared differs from one that was left as it was.
 unfoldable pub callFor : ℕ → List ℕ → ℕ → ℤ → Call
 callFor n list used version =
     record {

@@ -11,7 +11,8 @@ use lib.ListN.{length, take}
 use Rattle.molang.specs.Forest.{Token, Forest, nil, node, size}
 use Rattle.molang.specs.Read.{tree, uses, setNumber}
 use Rattle.molang.specs.Words.{tokensOf, listWords, treeWords}
-use Rattle.molang.specs.Parse.{Call, mostTokens, refusal, reading, Told, aTree, someMessages, refused, answered, treeAfter, messagesAfter, workAfter}
+use Rattle.molang.specs.Parse.{Call, mostTokens, refusal, reading, Told, aTree, someMessages, refused, answered, treeAfter}
+use Rattle.molang.specs.Parse.{messagesAfter, workAfter}
 use Rattle.molang.specs.Plain.{unplainAt}
 use Rattle.molang.specs.Write.{written, takenAway}
 use Rattle.molang.specs.WriteEntry.{treesOf, WriteCall, WriteTold, tokens, unwritten, writeAnswered, listAfter}
@@ -133,8 +134,8 @@ reread c = afterFirst (handed c) (answered (c .first))
 unfoldable pub bracketless : List ℕ → List ℕ
 bracketless ws = treeWords (takenAway false (treesOf ws) nil)
 
--- What demand 3 asks of a call: the first reading is not turned back and gives the tree k over cs, which is plain; what is written of it has
--- at most 4,096 tokens, and the lent buffers and the second source length are such as the table asks. (The first call asked for the
+-- What demand 3 asks of a call: the first reading is not turned back and gives the tree k over cs, which is plain; what is written of it
+-- has at most 4,096 tokens, and the lent buffers and the second source length are such as the table asks. (The first call asked for the
 -- message room.)
 pub record CanReadBack (c : Rereading) (k : Token) (cs : Forest) : Type 0 where
   pub accepted : refusal (c .first) ≡ none

@@ -7,7 +7,8 @@ use mathlib.Core.Option.{Option, none, some}
 use lib.Dec.{eqb, leb}
 use lib.ListN.{length}
 use Rattle.molang.specs.Forest.{Token, Forest, nil, node}
-use Rattle.molang.specs.Words.{Field, operatorField, startField, endField, upperField, lowerField, countField, wordFault, variantAfter, lowOf, tokenOf, listWords, Refusal, row, withNumber}
+use Rattle.molang.specs.Words.{Field, operatorField, startField, endField, upperField, lowerField, countField, wordFault}
+use Rattle.molang.specs.Words.{variantAfter, lowOf, tokenOf, listWords, Refusal, row, withNumber}
 use Rattle.molang.specs.FirstFailure.{must, firstOf}
 use Rattle.molang.specs.Parse.{mostTokens, inFront}
 use Rattle.molang.specs.Plain.{unplainAt}

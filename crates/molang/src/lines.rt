@@ -1220,8 +1220,8 @@ pub const LINES: [u32; COUNT] = [
     6,
 ];
 
-// The table, with each of its lines answered by the definition as it says. A constant has no name in proofs/: what is shown of it is shown of
-// the function that hands it out.
+// The table, with each of its lines answered by the definition as it says. A constant has no name in proofs/: what is shown of it is shown
+// of the function that hands it out.
 fn numbers() -> [u32; COUNT]
     ensures { λ r. ⌜ Answered r × (lineCount r ≡ 105) ⌝ }
 {

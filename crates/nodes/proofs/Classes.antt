@@ -101,7 +101,8 @@ module _ (c : ℕ) where
       some-same 32 (λ i. not (not (inClass i (k .op)) && free (inClass i) rest) && bitAt c i)
       (λ i. (bitAt c i && inClass i (k .op)) || (not (free (inClass i) rest) && bitAt c i))
       (λ i h.
-      ap (λ (x : Bool). x && bitAt c i) (not-and (not (inClass i (k .op))) (free (inClass i) rest) ∙ ap (λ (x : Bool). x || not (free (inClass i) rest)) (not-not (inClass i (k .op))))
+      ap (λ (x : Bool). x && bitAt c i)
+      (not-and (not (inClass i (k .op))) (free (inClass i) rest) ∙ ap (λ (x : Bool). x || not (free (inClass i) rest)) (not-not (inClass i (k .op))))
       ∙ and-or-distrib-right (inClass i (k .op)) (not (free (inClass i) rest)) (bitAt c i)
       ∙ ap (λ (x : Bool). x || (not (free (inClass i) rest) && bitAt c i)) (and-comm (inClass i (k .op)) (bitAt c i)))
       ∙ some-or 32 (λ i. bitAt c i && inClass i (k .op)) (λ i. not (free (inClass i) rest) && bitAt c i)
@@ -134,5 +135,6 @@ pub notes-meet : {w : ℕ} {f : Forest} (c : ℕ) (P : ℕ → Bool) → ((n : �
     → shares w c ≡ not (free P f)
 unfolding shares hits
 notes-meet {w} {f} c P h n l =
-    some-same 32 (λ i. bitAt w i && bitAt c i) (λ i. not (free (inClass i) f) && bitAt c i) (λ i e. ap (λ (x : Bool). x && bitAt c i) (n .bits i e))
+    some-same 32 (λ i. bitAt w i && bitAt c i) (λ i. not (free (inClass i) f) && bitAt c i)
+    (λ i e. ap (λ (x : Bool). x && bitAt c i) (n .bits i e))
     ∙ hits-free c P h f l

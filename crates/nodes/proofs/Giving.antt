@@ -8,7 +8,8 @@ use native.Mathlib.Omega.{arith}
 use lib.ListN.{length, set}
 use Rattle.ops.specs.Classes.{bitAt}
 use Rattle.ops.proofs.BitLaws.{bit-zero}
-use Rattle.nodes.specs.Store.{wd, classesField, slotStart, slotEnd, firstWord, nextWord, classesWord, firstAt, nextAt, classesAt, Chain, Seg, Inc, OffNext, onto}
+use Rattle.nodes.specs.Store.{wd, classesField, slotStart, slotEnd, firstWord, nextWord, classesWord, firstAt, nextAt, classesAt}
+use Rattle.nodes.specs.Store.{Chain, Seg, Inc, OffNext, onto}
 use Rattle.nodes.specs.Children.{CanGive, Given, someNotes}
 use Rattle.nodes.proofs.Runs.{set-same, set-other, set-long, inc-le, off-above, off-word, chain-keep, seg-onto, inc-onto, seg-unique}
 
@@ -76,7 +77,8 @@ give-in {W} {p} {from} {n} {Z} {i} (c ∷ left) {done} v h =
     let k : i - 1 ≡ length left = omega arith in
     let q = inc-onto left (c ∷ done) 1 (v .hi) (v .inc) in
     let u = inc-le done (q .2 .1) in
-    let e : wd Z (from + length left) ≡ c = v .same _ (off-above done (c + 1) (v .hi) (q .2 .1) (omega arith)) ∙ seg-onto W from left (c ∷ done) (v .whole) .0 in
+    let e : wd Z (from + length left) ≡ c =
+    v .same _ (off-above done (c + 1) (v .hi) (q .2 .1) (omega arith)) ∙ seg-onto W from left (c ∷ done) (v .whole) .0 in
     rw k (omega arith)
 
 pub give-step : {W : List ℕ} {p from n : ℕ} {Z : List ℕ} {i head classes : ℕ} (left : List ℕ) {done : List ℕ}
@@ -90,12 +92,15 @@ give-step {W} {p} {from} {n} {Z} {i} {head} {classes} (c ∷ left) {done} v h Z'
     let k : i - 1 ≡ length left = omega arith in
     let q = inc-onto left (c ∷ done) 1 (v .hi) (v .inc) in
     let u = inc-le done (q .2 .1) in
-    let e : wd Z (from + length left) ≡ c = v .same _ (off-above done (c + 1) (v .hi) (q .2 .1) (omega arith)) ∙ seg-onto W from left (c ∷ done) (v .whole) .0 in
+    let e : wd Z (from + length left) ≡ c =
+    v .same _ (off-above done (c + 1) (v .hi) (q .2 .1) (omega arith)) ∙ seg-onto W from left (c ∷ done) (v .whole) .0 in
     let sc : s ≡ c = es ∙ rw k e in
     let other = set-other Z Z' (nextWord s) head ez in
     let link : nextAt Z' s ≡ head = set-same Z Z' (nextWord s) head ez (omega arith) in
     let word : classesAt Z' s ≡ classesAt W c
-    = other (classesWord s) (omega arith) ∙ v .same (classesWord s) (off-word done s classesField (omega arith) (omega arith)) ∙ ap (λ (x : ℕ). classesAt W x) sc in
+    =
+    other (classesWord s) (omega arith) ∙ v .same (classesWord s) (off-word done s classesField (omega arith) (omega arith))
+    ∙ ap (λ (x : ℕ). classesAt W x) sc in
     let rest : Chain Z' head done = chain-keep Z Z' head done (c + 1) (v .hi) (q .2 .1) (λ d x y. other (nextWord d) (omega arith)) (v .chain) in (
       left,
       c ∷ done,
@@ -106,7 +111,10 @@ give-step {W} {p} {from} {n} {Z} {i} {head} {classes} (c ∷ left) {done} v h Z'
         at = omega arith;
         count = omega (arith, v .count);
         chain = (sc, omega arith, subst (λ (x : ℕ). Chain Z' (nextAt Z' x) done) sc (rw link rest));
-        noted = λ b. ec b ∙ ap₂ (λ (x : Bool) (y : Bool). x || y) (v .noted b) (ap (λ (x : ℕ). bitAt x b) word) ∙ or-comm (someNotes W done b) (bitAt (classesAt W c) b);
+        noted =
+            λ b.
+            ec b ∙ ap₂ (λ (x : Bool) (y : Bool). x || y) (v .noted b) (ap (λ (x : ℕ). bitAt x b) word)
+            ∙ or-comm (someNotes W done b) (bitAt (classesAt W c) b);
         same = λ j o. other j (λ ej. o .0 (rw sc at ej)) ∙ v .same j (o .1);
         own = v .own;
         below = v .below;
@@ -123,11 +131,13 @@ give-done {W} {p} {from} {n} {Z} {i} {head} {classes} [] {done} v h Y Y' ey ey' 
     let long = set-long Z Y (firstWord p) head ey in
     let other : (j : ℕ) → j ≢ firstWord p → j ≢ classesWord p → wd Y' j ≡ wd Z j
     = λ j a b. set-other Y Y' (classesWord p) classes ey' j b ∙ set-other Z Y (firstWord p) head ey j a in
-    let first : firstAt Y' p ≡ head = set-other Y Y' (classesWord p) classes ey' (firstWord p) (omega arith) ∙ set-same Z Y (firstWord p) head ey (omega arith) in
+    let first : firstAt Y' p ≡ head =
+    set-other Y Y' (classesWord p) classes ey' (firstWord p) (omega arith) ∙ set-same Z Y (firstWord p) head ey (omega arith) in
     let word : classesAt Y' p ≡ classes = set-same Y Y' (classesWord p) classes ey' (omega arith) in
     let ch : Chain Y' (firstAt Y' p) done
     = rw first (chain-keep Z Y' head done 1 (v .hi) (v .inc) (λ d x y. other (nextWord d) (omega arith) (omega arith)) (v .chain)) in
-    let is : (cs : List ℕ) → Seg W from cs → length cs ≡ n → done ≡ cs = λ cs g e. seg-unique W from done cs (omega (arith, v .count)) (v .whole) g in
+    let is : (cs : List ℕ) → Seg W from cs → length cs ≡ n → done ≡ cs =
+    λ cs g e. seg-unique W from done cs (omega (arith, v .count)) (v .whole) g in
     record {
       linked = λ cs g e. subst (λ (l : List ℕ). Chain Y' (firstAt Y' p) l) (is cs g e) ch;
       classes = λ cs g e b. ap (λ (x : ℕ). bitAt x b) word ∙ v .noted b ∙ ap (λ (l : List ℕ). someNotes W l b) (is cs g e);

@@ -10,7 +10,8 @@ use native.Mathlib.Decide.{decLt}
 use lib.ListN.{length}
 use Rattle.molang.specs.Forest.{Token, Forest}
 use Rattle.words.specs.declared.tokens.TokenWords.{TokenWords}
-use Rattle.nodes.specs.Store.{wd, slotWords, firstField, nextField, classesField, slotStart, slotEnd, Seg, Out, OffNext, RepF, ends, more, RepT, RepB, Free, Kept}
+use Rattle.nodes.specs.Store.{wd, slotWords, firstField, nextField, classesField, slotStart, slotEnd, Seg, Out, OffNext, RepF, ends}
+use Rattle.nodes.specs.Store.{more, RepT, RepB, Free, Kept}
 use Rattle.nodes.specs.Slots.{Laid}
 use Rattle.nodes.specs.Children.{Given}
 use Rattle.nodes.proofs.Store.{reserve-pos, own-out, rep-le, rep-keep, tree-keep, back-keep}

@@ -14,7 +14,8 @@ use Rattle.molang.specs.Operator.{negate, semicolon}
 use Rattle.molang.specs.Forest.{Token, Forest, nil, node, turnedOnto, count}
 use Rattle.molang.proofs.Trees.{decided, either}
 use Rattle.ops.specs.Classes.{bitAt}
-use Rattle.nodes.specs.Store.{wd, slotWords, firstField, nextField, classesField, slotStart, firstAt, nextAt, Notes, reserve, Chain, Inc, Out, OutFrom, onto, RepF, ends, more, RepT, RepB, begins, put, AllLegal, Agree}
+use Rattle.nodes.specs.Store.{wd, slotWords, firstField, nextField, classesField, slotStart, firstAt, nextAt, Notes, reserve, Chain}
+use Rattle.nodes.specs.Store.{Inc, Out, OutFrom, onto, RepF, ends, more, RepT, RepB, begins, put, AllLegal, Agree}
 use Rattle.nodes.proofs.Runs.{inc-le, inc-lower, out-below, chain-unique}
 use Rattle.nodes.proofs.Tokens.{token-keep, token-unique}
 
@@ -44,7 +45,8 @@ reserve-minus t e = rw e
 pub reserve-other : (t : Token) → t .op ≢ semicolon → t .op ≢ negate → reserve t nil ≡ 1
 unfolding reserve
 reserve-other t a b =
-    decided (λ n. n ≡ 1) (eqb (t .op) semicolon) 3 (elim (eqb (t .op) negate) [ true ↦ 2 | false ↦ 1 ]) (λ e. absurd (a (eqb-true (t .op) semicolon e)))
+    decided (λ n. n ≡ 1) (eqb (t .op) semicolon) 3 (elim (eqb (t .op) negate) [ true ↦ 2 | false ↦ 1 ])
+    (λ e. absurd (a (eqb-true (t .op) semicolon e)))
     (λ e. decided (λ n. n ≡ 1) (eqb (t .op) negate) 2 1 (λ h. absurd (b (eqb-true (t .op) negate h))) (λ h. refl))
 
 -- a node's own slot is none of its ancestors'
@@ -86,7 +88,8 @@ pub rep-avoid : {W X Y : List ℕ} {lo hi : ℕ} {bs : List ℕ} {F : Forest} �
 rep-avoid h (ends e) = ends e
 rep-avoid h (more {b = b} a c d z p t n ch k r) =
     let e = rep-le r in
-    more a c d z (λ s u v. h s (omega arith) (omega arith) (p s u v)) t n ch (rep-avoid (λ s u v o. (o .0, h s (omega arith) (omega arith) (o .1))) k)
+    more a c d z (λ s u v. h s (omega arith) (omega arith) (p s u v)) t n ch
+    (rep-avoid (λ s u v o. (o .0, h s (omega arith) (omega arith) (o .1))) k)
     (rep-avoid (λ s u v o. h s (omega arith) v o) r)
 
 pub rep-count : {W X : List ℕ} {lo hi : ℕ} {bs : List ℕ} {F : Forest} → RepF W X bs lo hi F → length bs ≡ count F
@@ -121,8 +124,11 @@ rep-keep W W' {X} h (more {b = b} {bs = bs} {l = l} {m = m} {hi = hi} {t = t} {k
     let own : (o : ℕ) → o < slotWords → o ≢ nextField → wd W' (slotStart b + o) ≡ wd W (slotStart b + o)
     = λ o w x. h b o (omega arith) (omega arith) w (own-out b t j X p) (inl x) in
     let ch' : Chain W' (firstAt W' b) cs
-    = rw (own firstField (omega arith) (omega arith)) (links-keep W W' (firstAt W b) k (λ s u v x. kid s nextField u v (omega arith) x) ch) in
-    more a c d z p (token-keep W W' b (λ o w. own o (omega arith) (omega arith)) tk) (noted-keep (own classesField (omega arith) (omega arith)) n)
+    =
+    rw (own firstField (omega arith) (omega arith))
+    (links-keep W W' (firstAt W b) k (λ s u v x. kid s nextField u v (omega arith) x) ch) in
+    more a c d z p (token-keep W W' b (λ o w. own o (omega arith) (omega arith)) tk)
+    (noted-keep (own classesField (omega arith) (omega arith)) n)
     ch'
     (rep-keep W W' (λ s o u v w x y. kid s o u v w x) k)
     (rep-keep W W' (λ s o u v w x y. h s o (omega arith) v w x (⊎-elim (λ q. inl q) (λ q. inr (omega arith, q)) y)) r)
@@ -144,7 +150,13 @@ pub record First (W X : List ℕ) (b : ℕ) (bs : List ℕ) (lo hi : ℕ) (t : T
 pub tree-first : {W X : List ℕ} {b : ℕ} {bs : List ℕ} {lo hi : ℕ} {t : Token} {k f : Forest} → RepF W X (b ∷ bs) lo hi (node t k f)
     → First W X b bs lo hi t k f
 tree-first (more {l = l} {m = m} {cs = cs} a c d z p t n ch k r) =
-    record { l = l; m = m; low = a; tree = record { cs = cs; low = c; high = d; pos = z; out = p; token = t; noted = n; chain = ch; kids = k }; rest = r }
+    record {
+      l = l;
+      m = m;
+      low = a;
+      tree = record { cs = cs; low = c; high = d; pos = z; out = p; token = t; noted = n; chain = ch; kids = k };
+      rest = r;
+    }
 
 pub tree-below : {W X : List ℕ} {b l m : ℕ} {t : Token} {k : Forest} → RepT W X b l m t k → b < m
 tree-below {t = t} {k = k} v = omega (arith, v .high, reserve-pos t k)
@@ -198,7 +210,9 @@ tree-keep W W' {X} {b} {l} {m} {t} {k} h v =
       out = v .out;
       token = token-keep W W' b (λ o w. own o (omega arith) (omega arith)) (v .token);
       noted = noted-keep (own classesField (omega arith) (omega arith)) (v .noted);
-      chain = rw (own firstField (omega arith) (omega arith)) (links-keep W W' (firstAt W b) (v .kids) (λ s u w x. h s nextField u w (omega arith) (x .1) (inr (x .0))) (v .chain));
+      chain =
+          rw (own firstField (omega arith) (omega arith))
+          (links-keep W W' (firstAt W b) (v .kids) (λ s u w x. h s nextField u w (omega arith) (x .1) (inr (x .0))) (v .chain));
       kids = rep-keep W W' (λ s o u w z x y. h s o u w z (x .1) (inr (x .0))) (v .kids);
     }
 
@@ -217,11 +231,13 @@ pub back-avoid : {W X Y ds : List ℕ} {lo hi : ℕ} {d : Forest} → ((s : ℕ)
 back-avoid h (begins e) = begins e
 back-avoid h (put r t e) =
     let g = back-le r in
-    put (back-avoid (λ s u v o. h s u (omega (arith, t .low, tree-below t)) o) r) (tree-avoid (λ s u v o. h s (omega arith) (omega arith) o) t) e
+    put (back-avoid (λ s u v o. h s u (omega (arith, t .low, tree-below t)) o) r)
+    (tree-avoid (λ s u v o. h s (omega arith) (omega arith) o) t) e
 
 pub back-above : {W X ds : List ℕ} {lo hi : ℕ} {d : Forest} {s : ℕ} → hi ≤ s → RepB W X ds lo hi d → Out s ds
 back-above e (begins h) = tt
-back-above {s = s} e (put {l = l} r t h) = let g : l ≤ s = omega (arith, t .low, tree-below t) in (omega (arith, tree-below t), back-above g r)
+back-above {s = s} e (put {l = l} r t h) =
+    let g : l ≤ s = omega (arith, t .low, tree-below t) in (omega (arith, tree-below t), back-above g r)
 
 pub back-count : {W X ds : List ℕ} {lo hi : ℕ} {d : Forest} → RepB W X ds lo hi d → length ds ≡ count d
 unfolding count
@@ -234,7 +250,8 @@ back-keep W W' h (begins e) = begins e
 back-keep W W' h (put r t e) =
     let g = back-le r in
     let below = tree-below t in
-    put (back-keep W W' (λ s o u v w x y. h s o u (omega (arith, t .low)) w x (⊎-elim (λ n. inl n) (λ n. inr (omega (arith, t .low), n)) y)) r)
+    put
+    (back-keep W W' (λ s o u v w x y. h s o u (omega (arith, t .low)) w x (⊎-elim (λ n. inl n) (λ n. inr (omega (arith, t .low), n)) y)) r)
     (tree-keep W W' (λ s o u v w x y. h s o (omega arith) (omega arith) w x (⊎-elim (λ n. inl n) (λ n. inr (n, back-above u r)) y)) t)
     e
 
@@ -251,13 +268,15 @@ pub onto-back : {W X ds rs : List ℕ} {lo m hi : ℕ} {d f : Forest} → RepB W
 unfolding turnedOnto
 onto-back b (ends h) = back-raise h b
 onto-back b (more {m = m} {cs = cs} a c d z p t n ch k r) =
-    onto-back (put (back-raise a b) (record { cs = cs; low = c; high = d; pos = z; out = p; token = t; noted = n; chain = ch; kids = k }) (le-refl m)) r
+    onto-back
+    (put (back-raise a b) (record { cs = cs; low = c; high = d; pos = z; out = p; token = t; noted = n; chain = ch; kids = k }) (le-refl m)) r
 
 -- ---- the words say which forest it is
 
 pub rep-unique : {W X Y : List ℕ} {lo hi lo' hi' : ℕ} {bs : List ℕ} {F G : Forest} → RepF W X bs lo hi F → RepF W Y bs lo' hi' G → F ≡ G
 rep-unique (ends a) (ends b) = refl
-rep-unique {W} {Y = Y} (more {b = b} {t = t} {k = k} {cs = cs} a c d z p tk n ch ks r) (more {l = l'} {m = m'} {t = t'} {k = k'} {cs = cs'} a' c' d' z' p' tk' n' ch' ks' r') =
+rep-unique {W} {Y = Y} (more {b = b} {t = t} {k = k} {cs = cs} a c d z p tk n ch ks r)
+    (more {l = l'} {m = m'} {t = t'} {k = k'} {cs = cs'} a' c' d' z' p' tk' n' ch' ks' r') =
     let ek = chain-unique W (firstAt W b) cs' cs ch' ch in
     let e1 : k ≡ k' = rep-unique {Y = b ∷ Y} {lo' = l'} {hi' = m'} ks (subst (λ (l : List ℕ). RepF W (b ∷ Y) l l' m' k') ek ks') in
     let e2 = rep-unique r r' in

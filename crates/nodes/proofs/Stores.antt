@@ -13,7 +13,8 @@ use Rattle.words.specs.Tokens.{fiveWords}
 use Rattle.words.specs.declared.tokens.TokenWords.{TokenWords}
 use Rattle.words.proofs.LaidLaws.{laid-long, laid-in, laid-out, laid-more}
 use Rattle.ops.specs.Classes.{bitAt}
-use Rattle.nodes.specs.Store.{wd, firstField, nextField, classesField, slotStart, slotEnd, firstWord, nextWord, classesWord, classesAt}
+use Rattle.nodes.specs.Store.{wd, firstField, nextField, classesField, slotStart, slotEnd, firstWord, nextWord, classesWord}
+use Rattle.nodes.specs.Store.{classesAt}
 use Rattle.nodes.specs.Slots.{Laid}
 use Rattle.nodes.specs.Children.{Attached, AttachedTwo}
 use Rattle.nodes.specs.Frames.{Pushed}
@@ -34,7 +35,8 @@ module _ (W W1 W2 W3 : List ℕ) (p c x : ℕ) (own : slotEnd p ≤ length W) (c
       record {
         first = o3 (firstWord p) (omega arith) ∙ o2 (firstWord p) (omega arith) ∙ set-same W W1 (firstWord p) c e1 (omega arith);
         last = o3 (nextWord c) (omega arith) ∙ set-same W1 W2 (nextWord c) 0 e2 (omega arith);
-        classes = set-same W2 W3 (classesWord p) x e3 (omega arith) ∙ ex ∙ o2 (classesWord c) (omega arith) ∙ o1 (classesWord c) (omega arith);
+        classes =
+            set-same W2 W3 (classesWord p) x e3 (omega arith) ∙ ex ∙ o2 (classesWord c) (omega arith) ∙ o1 (classesWord c) (omega arith);
         same = λ j a b d. o3 j d ∙ o2 j b ∙ o1 j a;
         long = n3 ∙ n2 ∙ n1;
       }
@@ -58,7 +60,9 @@ module _ (W W1 W2 W3 W4 : List ℕ) (p l r x y z : ℕ) (own : slotEnd p ≤ len
       let old : (s : ℕ) → classesAt W3 s ≡ classesAt W s
       = λ s. o3 (classesWord s) (omega arith) ∙ o2 (classesWord s) (omega arith) ∙ o1 (classesWord s) (omega arith) in
       record {
-        first = o4 (firstWord p) (omega arith) ∙ o3 (firstWord p) (omega arith) ∙ o2 (firstWord p) (omega arith) ∙ set-same W W1 (firstWord p) l e1 (omega arith);
+        first =
+            o4 (firstWord p) (omega arith) ∙ o3 (firstWord p) (omega arith) ∙ o2 (firstWord p) (omega arith)
+            ∙ set-same W W1 (firstWord p) l e1 (omega arith);
         next = o4 (nextWord l) (omega arith) ∙ o3 (nextWord l) (omega arith) ∙ set-same W1 W2 (nextWord l) r e2 (omega arith);
         last = o4 (nextWord r) (omega arith) ∙ set-same W2 W3 (nextWord r) 0 e3 (omega arith);
         classes = λ i. ap (λ (w : ℕ). bitAt w i) word ∙ ez i ∙ ap₂ (λ (a : ℕ) (b : ℕ). bitAt a i || bitAt b i) (ex ∙ old l) (ey ∙ old r);

@@ -85,10 +85,13 @@ same-value x y a b = omega arith
 -- the words say which token it is
 pub token-unique : {W : List ℕ} {s : ℕ} {k k' : Token} → TokenAt W s k → TokenAt W s k' → k ≡ k'
 token-unique {W} {s} {k} {k'} t u =
-    let o = same-operator (k .variant) (k .op) (k' .variant) (k' .op) (t .legal .op) (u .legal .op) (sym (operator-word t) ∙ operator-word u) in
+    let o =
+    same-operator (k .variant) (k .op) (k' .variant) (k' .op) (t .legal .op) (u .legal .op) (sym (operator-word t) ∙ operator-word u) in
     let start = same-low 2 (k .start) (k' .start) (sym (start-word t) ∙ start-word u) in
     let end = same-low 3 (k .end) (k' .end) (sym (end-word t) ∙ end-word u) in
-    let value = same-value (k .value) (k' .value) (same-low 4 _ _ (sym (upper-word t) ∙ upper-word u)) (same-low 5 _ _ (sym (lower-word t) ∙ lower-word u)) in
+    let value =
+    same-value (k .value) (k' .value) (same-low 4 _ _ (sym (upper-word t) ∙ upper-word u))
+    (same-low 5 _ _ (sym (lower-word t) ∙ lower-word u)) in
     λ i. record { op = o .1 i; variant = o .0 i; value = value i; start = start i; end = end i }
 
 -- ---- tokens that the passes make

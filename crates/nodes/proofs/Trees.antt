@@ -13,12 +13,14 @@ use Rattle.molang.specs.Forest.{Token, Forest, nil, node, inOrder, count}
 use Rattle.molang.specs.Conditional.{isToken}
 use Rattle.molang.specs.Free.{free, isNil}
 use Rattle.ops.specs.Classes.{inClass}
-use Rattle.nodes.specs.Store.{wd, firstField, nextField, classesField, slotStart, firstAt, classesAt, TokenAt, Noted, reserve, Chain, Seg, SegB, Out, OutFrom, onto, RepF, ends, more, RepT, Owned, RepB, InArray, Free}
+use Rattle.nodes.specs.Store.{wd, firstField, nextField, classesField, slotStart, firstAt, classesAt, TokenAt, Noted, reserve, Chain}
+use Rattle.nodes.specs.Store.{Seg, SegB, Out, OutFrom, onto, RepF, ends, more, RepT, Owned, RepB, InArray, Free}
 use Rattle.nodes.specs.Slots.{opAt, isLeafAt, isTokenAt}
 use Rattle.nodes.specs.Children.{Attached, AttachedTwo, CanTake, Taken, CanGive, Given}
 use Rattle.nodes.proofs.Runs.{off-word, off-out, segB-onto, length-onto}
 use Rattle.nodes.proofs.Tokens.{token-keep, token-op}
-use Rattle.nodes.proofs.Store.{reserve-pos, roots-above, rep-keep, rep-count, tree-more, tree-below, tree-out, tree-keep, tree-avoid, back-onto}
+use Rattle.nodes.proofs.Store.{reserve-pos, roots-above, rep-keep, rep-count, tree-more, tree-below, tree-out, tree-keep, tree-avoid}
+use Rattle.nodes.proofs.Store.{back-onto}
 use Rattle.nodes.proofs.Classes.{notes-leaf, notes-over, notes-below, notes-more, roots-note}
 
 -- ---- one slot and its interval
@@ -54,7 +56,9 @@ module _ {W W' X : List ℕ} {q b lo l m hi : ℕ} {t : Token} {k : Forest} (w :
   unfolding reserve
   attach-tree {o} token pos out low high lower upper =
       let child : RepT W' (q ∷ X) b l m t k
-      = tree-keep W W' (λ s i x y z p n. w .same (slotStart s + i) (omega arith) (⊎-elim (λ e. omega arith) (λ e. omega arith) n) (omega arith)) v in
+      =
+      tree-keep W W'
+      (λ s i x y z p n. w .same (slotStart s + i) (omega arith) (⊎-elim (λ e. omega arith) (λ e. omega arith) n) (omega arith)) v in
       record {
         cs = b ∷ [];
         low = low;
@@ -83,9 +87,13 @@ module _ {W W' X : List ℕ} {q b c lo l m l' m' hi : ℕ} {t u : Token} {k j : 
   attach-two-trees {o} token pos out low high lower upper =
       let vl = v .low in let vh = tree-below v in let xl = x .low in let xh = tree-below x in
       let left : RepT W' (q ∷ X) b l m t k
-      = tree-keep W W' (λ s i y z e p n. w .same (slotStart s + i) (omega arith) (⊎-elim (λ g. omega arith) (λ g. omega arith) n) (omega arith) (omega arith)) v in
+      =
+      tree-keep W W'
+      (λ s i y z e p n. w .same (slotStart s + i) (omega arith) (⊎-elim (λ g. omega arith) (λ g. omega arith) n) (omega arith) (omega arith)) v in
       let right : RepT W' (q ∷ X) c l' m' u j
-      = tree-keep W W' (λ s i y z e p n. w .same (slotStart s + i) (omega arith) (omega arith) (⊎-elim (λ g. omega arith) (λ g. omega arith) n) (omega arith)) x in
+      =
+      tree-keep W W'
+      (λ s i y z e p n. w .same (slotStart s + i) (omega arith) (omega arith) (⊎-elim (λ g. omega arith) (λ g. omega arith) n) (omega arith)) x in
       record {
         cs = b ∷ c ∷ [];
         low = low;
@@ -116,18 +124,31 @@ module _ {W W' X : List ℕ} {q from n lo hi : ℕ} {bs : List ℕ} {f : Forest}
         cs = bs;
         chain = w .linked bs g e;
         notes = record { bits = λ i h. w .classes bs g e i ∙ roots-note r i h };
-        kids = rep-keep W W' (λ s o x y z p y'. w .same bs g e (slotStart s + o) (omega arith) (omega arith) (⊎-elim (λ m. off-word bs s o z m) (λ m. off-out bs s o z m) y')) r;
+        kids =
+            rep-keep W W'
+            (λ s o x y z p y'. w .same bs g e (slotStart s + o) (omega arith) (omega arith) (⊎-elim (λ m. off-word bs s o z m) (λ m. off-out bs s o z m) y')) r;
       }
 
   -- the words of the owner's own token stay
   pub give-token : {o : Token} → TokenAt W q o → TokenAt W' q o
-  give-token t = token-keep W W' q (λ i h. w .same bs g e (slotStart q + i) (omega arith) (omega arith) (off-word bs q i (omega arith) (omega arith))) t
+  give-token t =
+      token-keep W W' q
+      (λ i h. w .same bs g e (slotStart q + i) (omega arith) (omega arith) (off-word bs q i (omega arith) (omega arith))) t
 
 -- the same of an array
 pub array-give : {W X : List ℕ} {q at n lo hi : ℕ} {f : Forest} → InArray W X at n lo hi f → q < hi → slotStart hi ≤ at → at + n ≤ length W
     → CanGive W q at n
 array-give {hi = hi} v own below room =
-    record { hi = hi; cs = v .bs; seg = v .seg; count = sym (v .count); inc = roots-above (v .rep) (omega arith); own = own; below = below; room = room }
+    record {
+      hi = hi;
+      cs = v .bs;
+      seg = v .seg;
+      count = sym (v .count);
+      inc = roots-above (v .rep) (omega arith);
+      own = own;
+      below = below;
+      room = room;
+    }
 
 pub array-owned : {W W' X : List ℕ} {q at n lo hi : ℕ} {f : Forest} → Given W q at n W' → InArray W (q ∷ X) at n lo hi f
     → Owned W' X q lo hi f
@@ -138,14 +159,29 @@ pub gathered-array : {W X : List ℕ} {at lo hi : ℕ} {ds : List ℕ} {d : Fore
     → InArray W X at (length ds) lo hi (inOrder d)
 unfolding inOrder
 gathered-array {W} {at = at} {hi = hi} {ds = ds} r g =
-    record { bs = onto ds []; seg = segB-onto W at ds [] g tt; count = omega (arith, length-onto ds []); rep = back-onto r (ends (le-refl hi)) }
+    record {
+      bs = onto ds [];
+      seg = segB-onto W at ds [] g tt;
+      count = omega (arith, length-onto ds []);
+      rep = back-onto r (ends (le-refl hi));
+    }
 
 -- the owner is a tree again
 pub owned-tree : {W X : List ℕ} {q lo hi : ℕ} {o c : Token} {cs r : Forest} → TokenAt W q o → 0 < q → Out q X → lo ≤ q → q < hi
     → Owned W X q lo hi (node c cs r) → RepT W X q lo hi o (node c cs r)
 unfolding reserve
 owned-tree {X = X} {q = q} {o = o} token pos out low high v =
-    record { cs = v .cs; low = low; high = omega arith; pos = pos; out = one-out q X out; token = token; noted = notes-over o (v .notes); chain = v .chain; kids = v .kids }
+    record {
+      cs = v .cs;
+      low = low;
+      high = omega arith;
+      pos = pos;
+      out = one-out q X out;
+      token = token;
+      noted = notes-over o (v .notes);
+      chain = v .chain;
+      kids = v .kids;
+    }
 
 -- an owner that was given nothing is a leaf of no class
 pub owned-leaf : {W X : List ℕ} {q lo hi : ℕ} {o : Token} → TokenAt W q o → 0 < q → OutFrom q (reserve o nil) X → lo ≤ q
@@ -176,7 +212,14 @@ pub can-take : {W X : List ℕ} {q to lo hi : ℕ} {f : Forest} → (v : Owned W
     → to + count f ≤ length W
     → CanTake W (firstAt W q) to
 can-take {hi = hi} v own below room =
-    record { hi = hi; cs = v .cs; chain = v .chain; inc = roots-above (v .kids) (omega arith); below = below; room = omega (arith, rep-count (v .kids)) }
+    record {
+      hi = hi;
+      cs = v .cs;
+      chain = v .chain;
+      inc = roots-above (v .kids) (omega arith);
+      below = below;
+      room = omega (arith, rep-count (v .kids));
+    }
 
 -- its slots stand in an array, the trees as they were
 pub take-array : {W W' X : List ℕ} {q to r lo hi : ℕ} {f : Forest} → Taken W (firstAt W q) to r W' → slotStart hi ≤ to → Owned W X q lo hi f

@@ -1,7 +1,7 @@
 -- How forests stand in the work buffer: slots of eight words, child lists as chains of slots, lists under work as runs of words.
 -- Intervals of slots keep siblings apart. They cannot keep a node apart from what is below it: an operator stands between its operands, and
--- in the tree of `return + a`, `+` over `return` over `a`, the root's slot even lies between those of its child and grandchild. So the slots
--- of the ancestors are carried along as a list, and the slots below avoid it.
+-- in the tree of `return + a`, `+` over `return` over `a`, the root's slot even lies between those of its child and grandchild. So the
+-- slots of the ancestors are carried along as a list, and the slots below avoid it.
 use Prim.Native.Nat.{ℕ, _+_, _*_, _≤_, _<_}
 use mathlib.Core.Path.{_≡_}
 use mathlib.Core.Logic.{_≢_, _⊎_}

@@ -16,7 +16,8 @@ use Rattle.levels.specs.Passes.{Covers}
 use Rattle.levels.specs.declared.turns.Pass.{Pass as State}
 use Rattle.order.specs.declared.Choice.{Choice}
 use Rattle.order.specs.declared.Choice.the-variants.{Skip}
-use Rattle.order.specs.Ranks.{choiceIf, levelOf, andOr, padded, calling, arithmetic, comparing, deciding, branching, last, ranks, rankIn, Starts, level, Chosen, empty, unused, used}
+use Rattle.order.specs.Ranks.{choiceIf, levelOf, andOr, padded, calling, arithmetic, comparing, deciding, branching, last, ranks}
+use Rattle.order.specs.Ranks.{rankIn, Starts, level, Chosen, empty, unused, used}
 
 -- ---- Gates
 
@@ -34,7 +35,8 @@ module _ (u : ℕ → Bool) where
   chosen-if p state false runs-so starts x e = rw e (unused (sym runs-so))
 
   -- The level of one operator.
-  pub one-level : (o : ℕ) (classes : TokenClasses) → Covers (classes .0) (isOneOf (o ∷ [])) → (x : Choice) → x ≡ choiceIf (u o) (levelOf classes)
+  pub one-level : (o : ℕ) (classes : TokenClasses) → Covers (classes .0) (isOneOf (o ∷ [])) → (x : Choice)
+      → x ≡ choiceIf (u o) (levelOf classes)
       → Chosen u (some (binary (o ∷ []))) x
   unfolding runs
   one-level o classes covers x e = chosen-if (binary (o ∷ [])) (levelOf classes) (u o) (one-used u o) (level covers) x e
@@ -148,7 +150,8 @@ module _ (r : Rules) (k : ℕ) where
 
   pub at-branching : 17 ≤ k → k < 19 → rankIn (ranks r) k ≡ rankIn (branching (r .pairsRight)) (k - 17)
   at-branching from below =
-      after-deciding (k - 17) (omega arith) ∙ here (branching (r .pairsRight)) last 2 (k - 17) (branching-size (r .pairsRight)) (omega arith)
+      after-deciding (k - 17) (omega arith)
+      ∙ here (branching (r .pairsRight)) last 2 (k - 17) (branching-size (r .pairsRight)) (omega arith)
 
   pub at-last : 19 ≤ k → rankIn (ranks r) k ≡ rankIn last (k - 19)
   at-last from =

@@ -15,7 +15,8 @@ use Rattle.levels.specs.Passes.{Runs}
 use Rattle.levels.specs.declared.turns.Pass.{Pass as State}
 use Rattle.order.specs.declared.Choice.the-variants.{Run, Skip}
 use Rattle.order.specs.Ranks.{ranks, rankIn, Chosen, passesFrom}
-use Rattle.order.proofs.Running.{passes-all, passes-step, passes-end, skipped, RunsFrom, chosen, OfKind, of-kind, pointer-rank, atRank, ends-elsewhere, passes-nested, failed, next, run-first, grouped-running}
+use Rattle.order.proofs.Running.{passes-all, passes-step, passes-end, skipped, RunsFrom, chosen, OfKind, of-kind, pointer-rank}
+use Rattle.order.proofs.Running.{atRank, ends-elsewhere, passes-nested, failed, next, run-first, grouped-running}
 
 -- Before the first rank: the definition's passes after the sections. After the last: the roots.
 pub grouped-first : (n : ℕ) (u : ℕ → Bool) (r : Rules) (so-far : List Message) (f : Forest)
@@ -35,7 +36,8 @@ module _ (n : ℕ) (u : ℕ → Bool) (r : Rules) (k : ℕ) (below : k < 23) (so
 
   pub grouped-skip : Chosen u (rankIn (ranks r) k) Skip → from k so-far f ≡ from (k + 1) so-far f
   grouped-skip c =
-      ap (λ (l : List Pass). grouped n u l so-far f) (passes-step u r k below ∙ ap (λ (l : List Pass). l ++ passesFrom u r (k + 1)) (skipped c))
+      ap (λ (l : List Pass). grouped n u l so-far f)
+      (passes-step u r k below ∙ ap (λ (l : List Pass). l ++ passesFrom u r (k + 1)) (skipped c))
 
   -- What the state that was chosen at rank k makes of the reading. Rank 3 is the pointer's, whose failure leaves an empty list.
   pub record RankRuns (state : State) : Type 0 where
@@ -50,7 +52,8 @@ module _ (n : ℕ) (u : ℕ → Bool) (r : Rules) (k : ℕ) (below : k < 23) (so
     opened : (x : Result) → apply n (run .the-pass) f ≡ x
         → from k so-far f ≡ next n u (run .the-pass) (passesFrom u r (k + 1)) (passesFrom u r (k + 1)) so-far x
     opened x e =
-        ap (λ (l : List Pass). grouped n u l so-far f) (passes-step u r k below ∙ ap (λ (l : List Pass). l ++ passesFrom u r (k + 1)) (run .runs-alone))
+        ap (λ (l : List Pass). grouped n u l so-far f)
+        (passes-step u r k below ∙ ap (λ (l : List Pass). l ++ passesFrom u r (k + 1)) (run .runs-alone))
         ∙ (run-first n u (run .the-pass) (passesFrom u r (k + 1)) (run .runs-so) (passesFrom u r (k + 1)) so-far f
         ∙ ap (next n u (run .the-pass) (passesFrom u r (k + 1)) (passesFrom u r (k + 1)) so-far) e)
 

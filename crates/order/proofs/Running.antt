@@ -1,5 +1,6 @@
 -- The passes that run, rank by rank: from rank 0 on they are those of the definition's order after the sections, each rank gives its
--- own before the later ones, and after the last rank there are none. What was chosen at a rank is the pass that runs there. Assumes nothing.
+-- own before the later ones, and after the last rank there are none. What was chosen at a rank is the pass that runs there. Assumes
+-- nothing.
 use mathlib.Core.Path.{_≡_, refl, sym, ap, _∙_}
 use mathlib.Core.Bool.{Bool, true, false, _&&_}
 use mathlib.Core.List.{List, [], _∷_, _++_, append-assoc}
@@ -13,7 +14,8 @@ use Rattle.molang.specs.Operator
 use Rattle.molang.specs.Forest.{Forest, nil}
 use Rattle.molang.specs.Message.{Message, Result, ok, fail}
 use Rattle.molang.specs.Calls.{queryOrLoop, math}
-use Rattle.molang.specs.Order.{Rules, Pass, callPass, statements, arrays, pointer, mathCalls, unaryMinusAndNot, addition, conditional, returns, binary, comparisons, logic, conditionals, order, runs, apply}
+use Rattle.molang.specs.Order.{Rules, Pass, callPass, statements, arrays, pointer, mathCalls, unaryMinusAndNot, addition, conditional}
+use Rattle.molang.specs.Order.{returns, binary, comparisons, logic, conditionals, order, runs, apply}
 use Rattle.molang.specs.Read.{Answer, messages, endsReading, grouped}
 use Rattle.molang.specs.Work.{Kind, passOf, pass}
 use Rattle.molang.specs.Work as kinds
@@ -24,7 +26,9 @@ use Rattle.levels.specs.Passes as levels
 use Rattle.levels.specs.declared.turns.Pass.{Pass as State}
 use Rattle.order.proofs.Choosing.{comparing-size, deciding-size, branching-size}
 use Rattle.order.specs.declared.Choice.the-variants.{Run, Skip}
-use Rattle.order.specs.Ranks.{padded, comparing, deciding, branching, last, ranks, rankIn, Starts, call, unsplitPass, array, mathCall, unary, conditionalPass, returnPass, point, plus, level, Chosen, empty, unused, used, running, runningIn, passesFrom, runningOf}
+use Rattle.order.specs.Ranks.{padded, comparing, deciding, branching, last, ranks, rankIn, Starts, call, unsplitPass, array, mathCall}
+use Rattle.order.specs.Ranks.{unary, conditionalPass, returnPass, point, plus, level, Chosen, empty, unused, used, running, runningIn}
+use Rattle.order.specs.Ranks.{passesFrom, runningOf}
 
 -- ---- The order
 
@@ -42,7 +46,8 @@ module _ (u : ℕ → Bool) where
   unfolding runningIn
   append-running [] others = refl
   append-running (at ∷ ats) others =
-      ap (λ (l : List Pass). running u at ++ l) (append-running ats others) ∙ sym (append-assoc (running u at) (runningIn u ats) (runningIn u others))
+      ap (λ (l : List Pass). running u at ++ l) (append-running ats others)
+      ∙ sym (append-assoc (running u at) (runningIn u ats) (runningIn u others))
 
   append-running-of : (ps qs : List Pass) → runningOf u (ps ++ qs) ≡ runningOf u ps ++ runningOf u qs
   unfolding runningOf
@@ -50,7 +55,8 @@ module _ (u : ℕ → Bool) where
   append-running-of (p ∷ ps) qs =
       sym (running-some p (ps ++ qs))
       ∙ (ap (λ (l : List Pass). running u (some p) ++ l) (append-running-of ps qs)
-      ∙ (sym (append-assoc (running u (some p)) (runningOf u ps) (runningOf u qs)) ∙ ap (λ (l : List Pass). l ++ runningOf u qs) (running-some p ps)))
+      ∙
+      (sym (append-assoc (running u (some p)) (runningOf u ps) (runningOf u qs)) ∙ ap (λ (l : List Pass). l ++ runningOf u qs) (running-some p ps)))
 
   empty-ranks : (n : ℕ) → runningIn u (padded n []) ≡ []
   unfolding runningIn running
@@ -66,7 +72,8 @@ module _ (u : ℕ → Bool) where
       ap (λ (l : List Pass). running u (some p) ++ l) (padded-running n ps (omega arith)) ∙ running-some p ps
 
   -- A group before others.
-  group-running : (n : ℕ) (ps : List Pass) (others : List (Option Pass)) (qs : List Pass) → length ps ≤ n → runningIn u others ≡ runningOf u qs
+  group-running : (n : ℕ) (ps : List Pass) (others : List (Option Pass)) (qs : List Pass) → length ps ≤ n
+      → runningIn u others ≡ runningOf u qs
       → runningIn u (padded n ps ++ others) ≡ runningOf u (ps ++ qs)
   group-running n ps others qs fits e =
       append-running (padded n ps) others
@@ -194,7 +201,8 @@ module _ (test : Pass → Bool) where
   -- What holds in each group holds in the ranks of every version.
   at-groups : ((from6 : Bool) → atEach test (comparing from6) ≡ true) → ((from6 : Bool) → atEach test (deciding from6) ≡ true)
       → ((from5 : Bool) → atEach test (branching from5) ≡ true) → atEach test last ≡ true
-      → (r : Rules) → atEach test (comparing (r .comparisonsFirst) ++ (deciding (r .andFirst) ++ (branching (r .pairsRight) ++ last))) ≡ true
+      → (r : Rules)
+      → atEach test (comparing (r .comparisonsFirst) ++ (deciding (r .andFirst) ++ (branching (r .pairsRight) ++ last))) ≡ true
   at-groups compared decided branched ended r =
       at-both (comparing (r .comparisonsFirst)) _ (compared (r .comparisonsFirst))
       (at-both (deciding (r .andFirst)) _ (decided (r .andFirst)) (at-both (branching (r .pairsRight)) last (branched (r .pairsRight)) ended))

@@ -9,7 +9,8 @@ use lib.IntN.{ℤ}
 use lib.ListN.{getD, drop}
 use Rattle.molang.specs.Operator
 use Rattle.molang.specs.Operator.{isOneOf}
-use Rattle.molang.specs.Order.{Rules, isFrom, Pass, callPass, statements, arrays, pointer, mathCalls, unaryMinusAndNot, addition, conditional, returns, binary, comparisons, logic, conditionals, runs}
+use Rattle.molang.specs.Order.{Rules, isFrom, Pass, callPass, statements, arrays, pointer, mathCalls, unaryMinusAndNot, addition}
+use Rattle.molang.specs.Order.{conditional, returns, binary, comparisons, logic, conditionals, runs}
 use Rattle.molang.specs.Parse.{inHalves}
 use Rattle.ops.specs.declared.classes.TokenClasses.{TokenClasses}
 use Rattle.ops.specs.declared.sets.OpSet.{OpSet}
@@ -26,7 +27,8 @@ usedBy set n = inHalves (set .low) (set .high) n
 -- The first of the two tests around the call pass (`runs`).
 abbrev pub callGate : List ℕ
 callGate =
-    Operator.leftBrace ∷ Operator.leftBracket ∷ Operator.leftParenthesis ∷ Operator.queryFunction ∷ Operator.arrayVariable ∷ Operator.semicolon ∷ []
+    Operator.leftBrace ∷ Operator.leftBracket ∷ Operator.leftParenthesis ∷ Operator.queryFunction
+    ∷ Operator.arrayVariable ∷ Operator.semicolon ∷ []
 
 -- Runs the pass from this state on, or skips it.
 abbrev pub choiceIf : Bool → State → Choice

@@ -1,4 +1,5 @@
--- The entry: what is loaded can be grouped, what was grouped is the definition's reading, and the four equations of a call that is read or turned back.
+-- The entry: what is loaded can be grouped, what was grouped is the definition's reading, and the four equations of a call that is read or
+-- turned back.
 use Prim.Native.Nat.{ℕ, _+_, _*_, _≤_}
 use mathlib.Core.Path.{_≡_, ap, _∙_, subst}
 use mathlib.Core.List.{List, [], _++_}
@@ -39,7 +40,8 @@ unfolding read rules
 same-reading list used version effective e sourceLength =
     ap (λ (v : ℤ). Reading.grouped sourceLength (usedBy used) (Order.order (rulesOf v)) [] (leaves (tokensOf list))) e
 
-module _ {list W buffer m : List ℕ} {n : ℕ} (p : CanRead list W buffer m n) (W1 : List ℕ) (loaded : Loaded list W n W1) (base : ℕ) (based : base ≡ 24 * n + 24) where
+module _ {list W buffer m : List ℕ} {n : ℕ} (p : CanRead list W buffer m n) (W1 : List ℕ) (loaded : Loaded list W n W1) (base : ℕ)
+    (based : base ≡ 24 * n + 24) where
   abbrev pub read-group : CanGroup W1 base n
   read-group =
       record {
@@ -107,5 +109,6 @@ call-reads c n e =
     }
 
 -- A buffer whose front was lent and came back as long as it was.
-pub part-long : (front work : List ℕ) (k : ℕ) → k ≤ length work → length front ≡ length (take k work) → length (front ++ drop k work) ≡ length work
+pub part-long : (front work : List ℕ) (k : ℕ) → k ≤ length work → length front ≡ length (take k work)
+    → length (front ++ drop k work) ≡ length work
 part-long front work k h e = omega (arith, length-append front (drop k work), length-drop k work, length-take-le k work h)

@@ -158,7 +158,8 @@ module _ (W buffer m m' : List ℕ) (n sourceLength : ℕ) where
   failed-filled {f} u = record { holds = go }
     where
       go : (a : reading.Answer) → StandsFor W (3 * n + 3) n sourceLength (Failed f) a → FilledAs buffer m (Messages 1) buffer m' a
-      go a (failed {ms = ms} s) = record { tells = rw (says-one s); tree = refl; records = u .records (3 * n + 3) n (reading.messages ms) (failed s) }
+      go a (failed {ms = ms} s) =
+          record { tells = rw (says-one s); tree = refl; records = u .records (3 * n + 3) n (reading.messages ms) (failed s) }
 
   pub pointer-filled : {f : Failure} → Reported W m sourceLength (PointerFailed f) m'
       → Filled W buffer m n sourceLength (PointerFailed f) (Messages 2) buffer m'
@@ -177,7 +178,8 @@ module _ (W buffer m m' : List ℕ) (n sourceLength : ℕ) where
   mismatch-filled {k} u = record { holds = go }
     where
       go : (a : reading.Answer) → StandsFor W (3 * n + 3) n sourceLength (Mismatched k) a → FilledAs buffer m (Messages 2) buffer m' a
-      go a (mismatched (failures.mismatched s t w)) = record { tells = refl; tree = refl; records = u .records (3 * n + 3) n _ (mismatched {m = k} (failures.mismatched s t w)) }
+      go a (mismatched (failures.mismatched s t w)) =
+          record { tells = refl; tree = refl; records = u .records (3 * n + 3) n _ (mismatched {m = k} (failures.mismatched s t w)) }
 
   pub unclosed-filled : {k : Unclosed} → Reported W m sourceLength (Unclosing k) m'
       → Filled W buffer m n sourceLength (Unclosing k) (Messages 2) buffer m'
@@ -185,4 +187,5 @@ module _ (W buffer m m' : List ℕ) (n sourceLength : ℕ) where
   unclosed-filled {k} u = record { holds = go }
     where
       go : (a : reading.Answer) → StandsFor W (3 * n + 3) n sourceLength (Unclosing k) a → FilledAs buffer m (Messages 2) buffer m' a
-      go a (unclosed (failures.unclosed s t)) = record { tells = refl; tree = refl; records = u .records (3 * n + 3) n _ (unclosed {u = k} (failures.unclosed s t)) }
+      go a (unclosed (failures.unclosed s t)) =
+          record { tells = refl; tree = refl; records = u .records (3 * n + 3) n _ (unclosed {u = k} (failures.unclosed s t)) }

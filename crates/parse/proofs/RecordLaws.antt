@@ -19,7 +19,9 @@ use Rattle.words.specs.Records.{withFirst, withLast, wordsOf}
 use Rattle.words.specs.declared.records.Record.{Record}
 use Rattle.nodes.specs.Store.{slotStart, operatorWordAt, upperWordAt, lowerWordAt, TokenAt}
 use Rattle.nodes.proofs.Tokens.{operator-word, upper-word, lower-word, token-op, token-start, token-end}
-use Rattle.levels.specs.Failures.{Tells, leadingMemberAccessor, emptyParameterList, mathAtEnd, mathWithoutParenthesis, leadingSemicolon, emptyArrayIndex, binaryAtEnd, negateWithoutOperand, notWithoutOperand, unknownOperation, unaryWithoutOperand, ternaryWithoutOperands}
+use Rattle.levels.specs.Failures.{Tells, leadingMemberAccessor, emptyParameterList, mathAtEnd, mathWithoutParenthesis, leadingSemicolon}
+use Rattle.levels.specs.Failures.{emptyArrayIndex, binaryAtEnd, negateWithoutOperand, notWithoutOperand, unknownOperation}
+use Rattle.levels.specs.Failures.{unaryWithoutOperand, ternaryWithoutOperands}
 use Rattle.grouping.specs.Grouped.{Says, tells, notEnded, withoutTokens}
 use Rattle.levels.specs.declared.failure.Failure.{Failure}
 use Rattle.parse.specs.Records.{Within, hostAt, closerAt, Named, recordFor}

@@ -7,7 +7,8 @@ use mathlib.Core.Option.{none}
 use native.Mathlib.Omega.{arith}
 use lib.ListN.{length}
 use Rattle.molang.specs.Forest.{Token}
-use Rattle.molang.specs.Message.{Message, messageRecord, multipleRoots, closingMismatch, sectionNotClosed, noClosingSymbol, closer, record8, about}
+use Rattle.molang.specs.Message.{Message, messageRecord, multipleRoots, closingMismatch, sectionNotClosed, noClosingSymbol, closer, record8}
+use Rattle.molang.specs.Message.{about}
 use Rattle.molang.specs.Read.{Answer, messages}
 use Rattle.molang.specs.Parse.{recordWords, inFront, messagesIn}
 use Rattle.molang.proofs.Bounds.{record-length, records-length}
@@ -35,7 +36,9 @@ two-laid vs ws l m m' e f g = g ∙ (ap (laidAt 8 ws) f ∙ (rw (← e) (laid-af
 records-then : (ms : List Message) (m : Message) → recordWords (ms ++ (m ∷ [])) ≡ recordWords ms ++ messageRecord m
 unfolding recordWords
 records-then [] m = append-nil (messageRecord m)
-records-then (k ∷ ms) m = ap (λ (ws : List ℕ). messageRecord k ++ ws) (records-then ms m) ∙ sym (append-assoc (messageRecord k) (recordWords ms) (messageRecord m))
+records-then (k ∷ ms) m =
+    ap (λ (ws : List ℕ). messageRecord k ++ ws) (records-then ms m)
+    ∙ sym (append-assoc (messageRecord k) (recordWords ms) (messageRecord m))
 
 pub one-record : (m : Message) → recordWords (m ∷ []) ≡ messageRecord m
 unfolding recordWords
@@ -85,7 +88,8 @@ pointer-reported W m m' m'' sourceLength f v e = record { records = go }
     go : (hi n : ℕ) (a : Answer) → StandsFor W hi n sourceLength (PointerFailed f) a → m'' ≡ messagesIn none a m
     go hi n a (pointerFailed {ms = ms} t) =
         let long : length (recordWords ms) ≡ 8 = omega (arith, records-length ms, tells-one t) in
-        two-laid (recordWords ms) (messageRecord (multipleRoots 0 sourceLength 0)) m m' m'' long (v .records hi n (messages ms) (failed (tells t))) e
+        two-laid (recordWords ms) (messageRecord (multipleRoots 0 sourceLength 0)) m m' m'' long
+        (v .records hi n (messages ms) (failed (tells t))) e
         ∙ ap (λ (ws : List ℕ). inFront ws m) (sym (records-then ms (multipleRoots 0 sourceLength 0)))
 
 -- ---- brackets that do not match

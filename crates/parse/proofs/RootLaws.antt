@@ -40,13 +40,22 @@ measure-emit {n = n} p =
     let few = p .few in
     let nodes = p .nodes in
     let room = p .room in
-    record { hi = 3 * n + 3; trees = p .trees; linked = p .linked; below = omega arith; spare = omega arith; room = omega arith; few = omega arith }
+    record {
+      hi = 3 * n + 3;
+      trees = p .trees;
+      linked = p .linked;
+      below = omega arith;
+      spare = omega arith;
+      room = omega arith;
+      few = omega arith;
+    }
 
 pub measure-few : {W : List ℕ} {first n to stack r : ℕ} {W' : List ℕ} → CanMeasure W first n → Emitted W first to stack r W' → r ≤ 3 * n
 measure-few {n = n} p v = omega (arith, p .nodes, v .count (3 * n + 3) (p .trees) (p .linked))
 
 pub measured : (W W' : List ℕ) (first n to stack nodes : ℕ) (r : Extent) → CanMeasure W first n → to ≡ 28 * n + 28 → stack ≡ 24 * n + 24
-    → Emitted W first to stack nodes W' → r ≡ firstExtent (treesOf (take (to + nodeLength * nodes - to) (drop to W'))) → Measured W first n r W'
+    → Emitted W first to stack nodes W' → r ≡ firstExtent (treesOf (take (to + nodeLength * nodes - to) (drop to W')))
+    → Measured W first n r W'
 measured W W' first n to stack nodes r p at above v e =
     record {
       extent = λ f w. e ∙ ap firstExtent (ap treesOf (words f w) ∙ trees-back f (legal f w));
@@ -149,6 +158,7 @@ module _ (W W' : List ℕ) (head n : ℕ) (starts : Extent) (v : Measured W head
           let t = last-of w isLast in
           let first : starts .start ≡ lowestStart (k .start) cs = ap (λ (x : Extent). x .start) (v .extent f w) in
           let end : last .end ≡ lastEnd l ls rest =
-          ap (λ (x : Extent). x .end) (u .extent (node (t .t) (t .below) nil) (kept (omega (arith, p .measure .room)) (t .linked))) ∙ sym (t .ends) in
+          ap (λ (x : Extent). x .end) (u .extent (node (t .t) (t .below) nil) (kept (omega (arith, p .measure .room)) (t .linked)))
+          ∙ sym (t .ends) in
           let number : roots ≡ count f = counted .count (w .bs) (w .chain) ∙ rep-count (w .rep) in
           e ∙ (laid-front (wordsOf (withFirst (unnamed 1 (starts .start) (last .end)) roots 0)) m ∙ rw (first, end, number))

@@ -14,7 +14,10 @@ use Rattle.words.specs.declared.records.Record.{Record}
 use Rattle.nodes.specs.Store.{slotEnd, operatorWordAt, upperWordAt, lowerWordAt}
 use Rattle.nodes.specs.Slots.{opAt, startAt, endAt}
 use Rattle.levels.specs.declared.failure.Failure.{Failure}
-use Rattle.levels.specs.declared.failure.Failure.the-variants.{ComplexMustEndWithSemicolon, ComplexWithoutTokens, LeadingMemberAccessor, EmptyParameterList, MathAtEnd, MathWithoutParenthesis, LeadingSemicolon, EmptyArrayIndex, BinaryAtEnd, NegateWithoutOperand, NotWithoutOperand, UnknownOperation, UnaryWithoutOperand, TernaryWithoutOperands}
+use Rattle.levels.specs.declared.failure.Failure.the-variants.{ComplexMustEndWithSemicolon, ComplexWithoutTokens, LeadingMemberAccessor}
+use Rattle.levels.specs.declared.failure.Failure.the-variants.{EmptyParameterList, MathAtEnd, MathWithoutParenthesis, LeadingSemicolon}
+use Rattle.levels.specs.declared.failure.Failure.the-variants.{EmptyArrayIndex, BinaryAtEnd, NegateWithoutOperand, NotWithoutOperand}
+use Rattle.levels.specs.declared.failure.Failure.the-variants.{UnknownOperation, UnaryWithoutOperand, TernaryWithoutOperands}
 use Rattle.levels.specs.declared.failure.Mismatch.{Mismatch}
 use Rattle.levels.specs.declared.failure.Unclosed.{Unclosed}
 
@@ -49,7 +52,8 @@ openRecord W s = withFirst (spanRecord W 5 s s) (closerAt W s) (opAt W s)
 -- Message 4.
 abbrev pub mismatchRecord : List ℕ → Mismatch → Record
 mismatchRecord W m =
-    withLast (withFirst (spanRecord W 4 (m .opener) (m .closer)) (m .start) (opAt W (m .opener))) (closerAt W (m .opener)) (opAt W (m .closer)) (m .index)
+    withLast (withFirst (spanRecord W 4 (m .opener) (m .closer)) (m .start) (opAt W (m .opener))) (closerAt W (m .opener))
+    (opAt W (m .closer)) (m .index)
 
 -- Message 6.
 abbrev pub unclosedRecord : List ℕ → Unclosed → Record

@@ -18,10 +18,12 @@ ghost use mathlib.Core.Path.{_≡_};
 ghost use Prim.Native.Nat.{_+_, _*_, _≤_};
 ghost use lib.ListN.{length};
 ghost use Rattle.words.specs.Records.{laidAt};
-ghost use Rattle.parse.specs.Records.{Within, spanRecord, nameRecord, hostAt, mathRecord, openRecord, mismatchRecord, unclosedRecord, Named, recordFor};
+ghost use Rattle.parse.specs.Records.{Within, spanRecord, nameRecord, hostAt, mathRecord, openRecord, mismatchRecord, unclosedRecord};
+ghost use Rattle.parse.specs.Records.{Named, recordFor};
 ghost use Rattle.molang.specs.Message.{messageRecord, multipleRoots};
 ghost use Rattle.grouping.specs.declared.grouped.Grouped.the-variants.{Failed, Mismatched, Unclosed as Unclosing, PointerFailed};
-ghost use Rattle.parse.specs.Reports.{CanReport, Reported, CanReportTwo, TwoReported, CanMeasure, Measured, CanReportRoots, RootsReported};
+ghost use Rattle.parse.specs.Reports.{CanReport, Reported, CanReportTwo, TwoReported, CanMeasure, Measured, CanReportRoots};
+ghost use Rattle.parse.specs.Reports.{RootsReported};
 
 // A message at the span from one slot's start to another's end.
 fn spanning(work: &[u32], number: u32, from: u32, to: u32) -> Record

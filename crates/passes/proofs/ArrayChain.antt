@@ -1,5 +1,6 @@
--- A chain turned round, as the array pass gathers an index's children, which rise (`Turning`), and puts an array's in order, which fall (`RoundAt`): slot
--- by slot the next one is linked to what is turned already. The chain from s on is left, the one from `head` on is turned.
+-- A chain turned round, as the array pass gathers an index's children, which rise (`Turning`), and puts an array's in order, which fall
+-- (`RoundAt`): slot by slot the next one is linked to what is turned already. The chain from s on is left, the one from `head` on is
+-- turned.
 use Prim.Native.Nat.{ℕ, _+_, _-_, _≤_, _<_}
 use mathlib.Core.Path.{_≡_, refl, sym, ap, ap₂, _∙_, subst}
 use mathlib.Core.Bool.{Bool, true, false, _||_, or-comm}
@@ -10,7 +11,8 @@ use mathlib.Core.List.{List, [], _∷_}
 use native.Mathlib.Omega.{arith}
 use native.Mathlib.Nat.{le-refl}
 use lib.ListN.{length, set}
-use Rattle.nodes.specs.Store.{wd, classesField, slotStart, slotEnd, firstWord, nextWord, classesWord, firstAt, nextAt, classesAt, Chain, Inc, Out, OffNext, onto}
+use Rattle.nodes.specs.Store.{wd, classesField, slotStart, slotEnd, firstWord, nextWord, classesWord, firstAt, nextAt, classesAt, Chain}
+use Rattle.nodes.specs.Store.{Inc, Out, OffNext, onto}
 use Rattle.ops.specs.Classes.{bitAt}
 use Rattle.ops.proofs.BitLaws.{bit-zero}
 use Rattle.nodes.specs.Children.{someNotes}
@@ -19,7 +21,8 @@ use Rattle.nodes.proofs.Runs.{set-same, set-other, set-long, inc-le, inc-lower,
 
 apart-more : (c lo hi : ℕ) (left back : List ℕ) → c < lo → Inc lo hi left → Apart left back → Apart left (c ∷ back)
 apart-more c lo hi [] back h i a = tt
-apart-more c lo hi (d ∷ left) back h i a = ((omega (arith, i .0), a .0), apart-more c (d + 1) hi left back (omega (arith, i .0)) (i .1) (a .1))
+apart-more c lo hi (d ∷ left) back h i a =
+    ((omega (arith, i .0), a .0), apart-more c (d + 1) hi left back (omega (arith, i .0)) (i .1) (a .1))
 
 -- a link of a slot beside the chain
 beside-chain : (W W' : List ℕ) (c v f : ℕ) (cs : List ℕ) → W' ≡ set W (nextWord c) v → Out c cs → Chain W f cs → Chain W' f cs
@@ -50,9 +53,22 @@ pub record Turning (W : List ℕ) (cs ds Z : List ℕ) (head s hi : ℕ) : Type 
   pub links : (j : ℕ) → OffNext cs j → OffNext left j
   pub long : length Z ≡ length W
 
-pub turn-start : {W : List ℕ} {head s hi : ℕ} (cs ds : List ℕ) → Chain W s cs → Chain W head ds → Inc 1 hi cs → Apart cs ds → Turning W cs ds W head s hi
+pub turn-start : {W : List ℕ} {head s hi : ℕ} (cs ds : List ℕ) → Chain W s cs → Chain W head ds → Inc 1 hi cs → Apart cs ds
+    → Turning W cs ds W head s hi
 turn-start cs ds c d i a =
-    record { left = cs; back = ds; lo = 1; ahead = c; turned = d; whole = refl; inc = i; apart = a; same = λ j o. refl; links = λ j o. o; long = refl }
+    record {
+      left = cs;
+      back = ds;
+      lo = 1;
+      ahead = c;
+      turned = d;
+      whole = refl;
+      inc = i;
+      apart = a;
+      same = λ j o. refl;
+      links = λ j o. o;
+      long = refl;
+    }
 
 -- the slot that a turn links
 pub turn-slot : {W cs ds Z : List ℕ} {head s hi : ℕ} → Turning W cs ds Z head s hi → s ≢ 0 → s < hi
@@ -62,11 +78,13 @@ turn-slot {W} {cs} {ds} {Z} {head} {s} {hi} v n = go (v .lo) (v .left) (v .ahead
     go lo [] c i = absurd (n c)
     go lo (d ∷ left) c i = omega (arith, c .0, inc-le left (i .1))
 
-pub turn-step : {W cs ds Z : List ℕ} {head s hi : ℕ} (Z' : List ℕ) → Turning W cs ds Z head s hi → s ≢ 0 → Z' ≡ set Z (nextWord s) head → slotEnd s ≤ length Z
+pub turn-step : {W cs ds Z : List ℕ} {head s hi : ℕ} (Z' : List ℕ) → Turning W cs ds Z head s hi → s ≢ 0 → Z' ≡ set Z (nextWord s) head
+    → slotEnd s ≤ length Z
     → Turning W cs ds Z' s (nextAt Z s) hi
 turn-step {W} {cs} {ds} {Z} {head} {s} {hi} Z' v n e room = go (v .lo) (v .left) (v .ahead) (v .inc) (v .apart) (v .whole) (v .links)
   where
-    go : (lo : ℕ) (left : List ℕ) → Chain Z s left → Inc lo hi left → Apart left (v .back) → onto left (v .back) ≡ onto cs ds → ((j : ℕ) → OffNext cs j → OffNext left j)
+    go : (lo : ℕ) (left : List ℕ) → Chain Z s left → Inc lo hi left → Apart left (v .back) → onto left (v .back) ≡ onto cs ds
+        → ((j : ℕ) → OffNext cs j → OffNext left j)
         → Turning W cs ds Z' s (nextAt Z s) hi
     go lo [] c i a w l = absurd (n c)
     go lo (d ∷ left) c i a w l =
@@ -77,8 +95,11 @@ turn-step {W} {cs} {ds} {Z} {head} {s} {hi} Z' v n e room = go (v .lo) (v .left)
           left = left;
           back = s ∷ v .back;
           lo = d + 1;
-          ahead = chain-keep Z Z' (nextAt Z s) left (d + 1) hi (i .1) (λ x y z. set-other Z Z' (nextWord s) head e (nextWord x) (omega arith)) links;
-          turned = (refl, omega (arith, c .1), subst (λ (x : ℕ). Chain Z' x (v .back)) (sym (set-same Z Z' (nextWord s) head e (omega arith))) (beside-chain Z Z' s head head (v .back) e out (v .turned)));
+          ahead =
+              chain-keep Z Z' (nextAt Z s) left (d + 1) hi (i .1)
+              (λ x y z. set-other Z Z' (nextWord s) head e (nextWord x) (omega arith)) links;
+          turned =
+              (refl, omega (arith, c .1), subst (λ (x : ℕ). Chain Z' x (v .back)) (sym (set-same Z Z' (nextWord s) head e (omega arith))) (beside-chain Z Z' s head head (v .back) e out (v .turned)));
           whole = subst (λ (x : ℕ). onto left (x ∷ v .back) ≡ onto cs ds) (sym at) w;
           inc = i .1;
           apart = subst (λ (x : ℕ). Apart left (x ∷ v .back)) (sym at) (apart-more d (d + 1) hi left (v .back) (omega arith) (i .1) (a .1));
@@ -103,7 +124,10 @@ pub record Gathering (W : List ℕ) (array index : ℕ) (Z : List ℕ) (head s :
 pub gather-start : {W : List ℕ} {array index head s : ℕ} → head ≡ firstAt W array → s ≡ firstAt W index → Gathering W array index W head s
 gather-start {W} a b =
     record {
-      at = λ g. turn-start (g .cs) (g .ds) (subst (λ (x : ℕ). Chain W x (g .cs)) (sym b) (g .chain)) (subst (λ (x : ℕ). Chain W x (g .ds)) (sym a) (g .gathered)) (g .inc) (g .apart);
+      at =
+          λ g.
+          turn-start (g .cs) (g .ds) (subst (λ (x : ℕ). Chain W x (g .cs)) (sym b) (g .chain))
+          (subst (λ (x : ℕ). Chain W x (g .ds)) (sym a) (g .gathered)) (g .inc) (g .apart);
       long = refl;
     }
 
@@ -111,7 +135,8 @@ module _ {W : List ℕ} {array index : ℕ} {Z : List ℕ} {head s : ℕ} (v : G
   pub gather-in : CanGather W array index → s ≢ 0 → slotEnd s ≤ length Z
   gather-in g n = omega (arith, turn-slot (v .at g) n, g .within, v .long)
 
-  pub gather-step : (Z' : List ℕ) (next : ℕ) → CanGather W array index → s ≢ 0 → Z' ≡ set Z (nextWord s) head → next ≡ nextAt Z s → Gathering W array index Z' s next
+  pub gather-step : (Z' : List ℕ) (next : ℕ) → CanGather W array index → s ≢ 0 → Z' ≡ set Z (nextWord s) head → next ≡ nextAt Z s
+      → Gathering W array index Z' s next
   gather-step Z' next g0 n e is =
       record {
         at = λ g. subst (λ (x : ℕ). Turning W (g .cs) (g .ds) Z' s x (g .hi)) (sym is) (turn-step Z' (v .at g) n e (gather-in g n));
@@ -122,7 +147,8 @@ module _ {W : List ℕ} {array index : ℕ} {Z : List ℕ} {head s : ℕ} (v : G
   gather-done Z' n e =
       record {
         linked = λ g.
-            subst (λ (x : ℕ). Chain Z' x (onto (g .cs) (g .ds))) (sym (set-same Z Z' (firstWord array) head e (omega (arith, g .own, g .within, v .long))))
+            subst (λ (x : ℕ). Chain Z' x (onto (g .cs) (g .ds)))
+            (sym (set-same Z Z' (firstWord array) head e (omega (arith, g .own, g .within, v .long))))
             (first-chain Z Z' array head head (onto (g .cs) (g .ds)) e (turn-done (v .at g) n));
         same = λ g j a o. set-other Z Z' (firstWord array) head e j a ∙ v .at g .same j o;
         long = set-long Z Z' (firstWord array) head e ∙ v .long;
@@ -144,13 +170,15 @@ falls : (n hi s next : ℕ) → s ≢ 0 → s < hi → slotStart hi ≤ n → (n
 falls n hi s next e h w (inl z) = omega (arith, turn-ended n next z, turn-left n s e)
 falls n hi s next e h w (inr z) = omega (arith, turn-left n next (omega arith), turn-left n s e)
 
-pub gather-falls : {W : List ℕ} {array index : ℕ} {Z : List ℕ} {head s : ℕ} (next : ℕ) → Gathering W array index Z head s → CanGather W array index → s ≢ 0 → next ≡ nextAt Z s
+pub gather-falls : {W : List ℕ} {array index : ℕ} {Z : List ℕ} {head s : ℕ} (next : ℕ) → Gathering W array index Z head s
+    → CanGather W array index → s ≢ 0 → next ≡ nextAt Z s
     → toTurn (length W) next < toTurn (length W) s
 gather-falls {W} {Z = Z} {head = head} {s = s} next v g n e =
     let t = v .at g in
     falls (length W) (g .hi) s next n (turn-slot t n) (g .within) (go (t .lo) (t .left) (t .ahead) (t .inc))
   where
-    after-it : (d : ℕ) (left : List ℕ) → next ≡ nextAt Z s → s ≡ d → Chain Z (nextAt Z d) left → Inc (d + 1) (g .hi) left → (next ≡ 0) ⊎ (s < next)
+    after-it : (d : ℕ) (left : List ℕ) → next ≡ nextAt Z s → s ≡ d → Chain Z (nextAt Z d) left → Inc (d + 1) (g .hi) left
+        → (next ≡ 0) ⊎ (s < next)
     after-it d [] e' at c i = inl (e' ∙ ap (λ (x : ℕ). nextAt Z x) at ∙ c)
     after-it d (f ∷ left) e' at c i = let same : next ≡ f = e' ∙ ap (λ (x : ℕ). nextAt Z x) at ∙ c .0 in inr (omega (arith, i .0))
 
@@ -225,9 +253,13 @@ module _ {W : List ℕ} {a : ℕ} {Z : List ℕ} {head classes s : ℕ} (v : Rou
       → ((i : ℕ) → bitAt classes' i ≡ (bitAt classes i || bitAt (classesAt Z' s) i)) → Rounding W a Z' s classes' next
   unfolding someNotes
   round-step Z' next classes' g0 n e is ec =
-      record { at = λ g. go g (v .at g) (v .at g .left) (v .at g .ahead) (v .at g .falls) (v .at g .whole); long = set-long Z Z' (nextWord s) head e ∙ v .long }
+      record {
+        at = λ g. go g (v .at g) (v .at g .left) (v .at g .ahead) (v .at g .falls) (v .at g .whole);
+        long = set-long Z Z' (nextWord s) head e ∙ v .long;
+      }
     where
-      go : (g : CanRound W a) (t : RoundAt W (g .cs) Z head classes s (g .hi)) (left : List ℕ) → Chain Z s left → Dec (t .top) left → onto left (t .back) ≡ onto (g .cs) []
+      go : (g : CanRound W a) (t : RoundAt W (g .cs) Z head classes s (g .hi)) (left : List ℕ) → Chain Z s left → Dec (t .top) left
+          → onto left (t .back) ≡ onto (g .cs) []
           → RoundAt W (g .cs) Z' s classes' next (g .hi)
       go g t [] c f w = absurd (n c)
       go g t (d ∷ left) c f w =
@@ -236,19 +268,28 @@ module _ {W : List ℕ} {a : ℕ} {Z : List ℕ} {head classes s : ℕ} (v : Rou
           let other = set-other Z Z' (nextWord s) head e in
           let link : nextAt Z' s ≡ head = set-same Z Z' (nextWord s) head e (omega (arith, round-in g n)) in
           let word : classesAt Z' s ≡ classesAt W d
-          = other (classesWord s) (omega arith) ∙ t .same (classesWord s) (off-word (t .back) s classesField (omega arith) (omega arith)) ∙ ap (λ (x : ℕ). classesAt W x) at in
+          =
+          other (classesWord s) (omega arith) ∙ t .same (classesWord s) (off-word (t .back) s classesField (omega arith) (omega arith))
+          ∙ ap (λ (x : ℕ). classesAt W x) at in
           let next' : nextAt Z d ≡ next = sym (is ∙ ap (λ (x : ℕ). nextAt Z x) at) in
-          let kept : Chain Z' head (t .back) = beside-chain Z Z' s head head (t .back) e (out-below (t .back) (t .top) (g .hi) (t .rises) (omega arith)) (t .turned) in
+          let kept : Chain Z' head (t .back) =
+          beside-chain Z Z' s head head (t .back) e (out-below (t .back) (t .top) (g .hi) (t .rises) (omega arith)) (t .turned) in
           record {
             left = left;
             back = d ∷ t .back;
             top = d;
-            ahead = subst (λ (x : ℕ). Chain Z' x left) next' (beside-chain Z Z' s head (nextAt Z d) left e (dec-out left d s (f .1) (omega arith)) (c .2));
-            turned = (at, c .1, subst (λ (x : ℕ). Chain Z' (nextAt Z' x) (t .back)) at (subst (λ (x : ℕ). Chain Z' x (t .back)) (sym link) kept));
+            ahead =
+                subst (λ (x : ℕ). Chain Z' x left) next'
+                (beside-chain Z Z' s head (nextAt Z d) left e (dec-out left d s (f .1) (omega arith)) (c .2));
+            turned =
+                (at, c .1, subst (λ (x : ℕ). Chain Z' (nextAt Z' x) (t .back)) at (subst (λ (x : ℕ). Chain Z' x (t .back)) (sym link) kept));
             whole = w;
             falls = f .1;
             rises = (le-refl d, inc-lower (t .back) (g .hi) (omega arith) (t .rises));
-            noted = λ i. ec i ∙ ap₂ (λ (x : Bool) (y : Bool). x || y) (t .noted i) (ap (λ (x : ℕ). bitAt x i) word) ∙ or-comm (someNotes W (t .back) i) (bitAt (classesAt W d) i);
+            noted =
+                λ i.
+                ec i ∙ ap₂ (λ (x : Bool) (y : Bool). x || y) (t .noted i) (ap (λ (x : ℕ). bitAt x i) word)
+                ∙ or-comm (someNotes W (t .back) i) (bitAt (classesAt W d) i);
             same = λ j o. other j (λ h. o .0 (subst (λ (x : ℕ). j ≡ nextWord x) at h)) ∙ t .same j (o .1);
           }
 
@@ -259,7 +300,10 @@ module _ {W : List ℕ} {a : ℕ} {Z : List ℕ} {head classes s : ℕ} (v : Rou
             subst (λ (x : List ℕ). Chain Y' (firstAt Y' a) x) (all g)
             (subst (λ (x : ℕ). Chain Y' x (v .at g .back)) (sym (first g)) (noted-chain (v .at g .back) head (first-chain Z Y a head head (v .at g .back) ey (v .at g .turned))));
         classes = λ g i. ap (λ (x : ℕ). bitAt x i) (word g) ∙ v .at g .noted i ∙ ap (λ (x : List ℕ). someNotes W x i) (all g);
-        same = λ g j p q o. set-other Y Y' (classesWord a) classes ey' j q ∙ set-other Z Y (firstWord a) head ey j p ∙ v .at g .same j (subst (λ (x : List ℕ). OffNext x j) (sym (all g)) o);
+        same =
+            λ g j p q o.
+            set-other Y Y' (classesWord a) classes ey' j q ∙ set-other Z Y (firstWord a) head ey j p
+            ∙ v .at g .same j (subst (λ (x : List ℕ). OffNext x j) (sym (all g)) o);
         long = set-long Y Y' (classesWord a) classes ey' ∙ set-long Z Y (firstWord a) head ey ∙ v .long;
       }
     where
@@ -274,7 +318,9 @@ module _ {W : List ℕ} {a : ℕ} {Z : List ℕ} {head classes s : ℕ} (v : Rou
       word g = set-same Y Y' (classesWord a) classes ey' (omega (arith, g .own, g .within, v .long, set-long Z Y (firstWord a) head ey))
 
       first : (g : CanRound W a) → firstAt Y' a ≡ head
-      first g = set-other Y Y' (classesWord a) classes ey' (firstWord a) (omega arith) ∙ set-same Z Y (firstWord a) head ey (omega (arith, g .own, g .within, v .long))
+      first g =
+          set-other Y Y' (classesWord a) classes ey' (firstWord a) (omega arith)
+          ∙ set-same Z Y (firstWord a) head ey (omega (arith, g .own, g .within, v .long))
 
       noted-chain : (cs : List ℕ) (f : ℕ) → Chain Y f cs → Chain Y' f cs
       noted-chain [] f p = p

@@ -26,7 +26,8 @@ module _ (k : Token) (cs rest : Forest) where
   unfolding dangling
   else-dangles e = rw (e, dangling) (rw (or-true (isToken Operator.conditional k cs)) refl)
 
-  none-dangles : isToken Operator.conditional k cs ≡ false → isToken Operator.conditionalElse k cs ≡ false → dangling (node k cs rest) ≡ dangling rest
+  none-dangles : isToken Operator.conditional k cs ≡ false → isToken Operator.conditionalElse k cs ≡ false
+      → dangling (node k cs rest) ≡ dangling rest
   unfolding dangling
   none-dangles e f = rw (e, f, dangling) refl
 
@@ -50,33 +51,41 @@ module _ {W : List ℕ} {base from len : ℕ} {g : CanDangle W base from len} {i
       go : {f : Forest} → AheadTo W (g .X) base i len (s .lo) (g .hi) (wd W (base + i)) f → slotEnd (wd W (base + i)) ≤ base
       go (item low t r) = omega (arith, tree-below t, ahead-le r .0, g .below)
 
-  dangle-more : isTokenAt W (wd W (base + i)) Operator.conditional ≡ false → isTokenAt W (wd W (base + i)) Operator.conditionalElse ≡ false → DangleAt W base from len g (i + 1)
+  dangle-more : isTokenAt W (wd W (base + i)) Operator.conditional ≡ false → isTokenAt W (wd W (base + i)) Operator.conditionalElse ≡ false
+      → DangleAt W base from len g (i + 1)
   dangle-more p q = go (s .same) (ahead-item (wd W (base + i)) refl h (s .items))
     where
-      go : {f : Forest} → dangling (g .f) ≡ dangling f → AheadTo W (g .X) base i len (s .lo) (g .hi) (wd W (base + i)) f → DangleAt W base from len g (i + 1)
+      go : {f : Forest} → dangling (g .f) ≡ dangling f → AheadTo W (g .X) base i len (s .lo) (g .hi) (wd W (base + i)) f
+          → DangleAt W base from len g (i + 1)
       go e (item {m = m} {k = k} {cs = cs} {rest = rest} low t r) =
           record {
             lo = m;
             rest = rest;
             items = r;
-            same = e ∙ none-dangles k cs rest (sym (token-test Operator.conditional cs t) ∙ p) (sym (token-test Operator.conditionalElse cs t) ∙ q);
+            same =
+                e
+                ∙ none-dangles k cs rest (sym (token-test Operator.conditional cs t) ∙ p)
+                (sym (token-test Operator.conditionalElse cs t) ∙ q);
           }
 
   dangle-if : isTokenAt W (wd W (base + i)) Operator.conditional ≡ true → DanglesAt W (dangling (g .f)) (wd W (base + i))
   dangle-if p = go (s .same) (ahead-item (wd W (base + i)) refl h (s .items))
     where
-      go : {f : Forest} → dangling (g .f) ≡ dangling f → AheadTo W (g .X) base i len (s .lo) (g .hi) (wd W (base + i)) f → DanglesAt W (dangling (g .f)) (wd W (base + i))
+      go : {f : Forest} → dangling (g .f) ≡ dangling f → AheadTo W (g .X) base i len (s .lo) (g .hi) (wd W (base + i)) f
+          → DanglesAt W (dangling (g .f)) (wd W (base + i))
       go e (item {k = k} {cs = cs} {rest = rest} low t r) =
           rw (e ∙ if-dangles k cs rest (sym (token-test Operator.conditional cs t) ∙ p)) (here (t .pos) (t .token))
 
   dangle-else : isTokenAt W (wd W (base + i)) Operator.conditionalElse ≡ true → DanglesAt W (dangling (g .f)) (wd W (base + i))
   dangle-else p = go (s .same) (ahead-item (wd W (base + i)) refl h (s .items))
     where
-      go : {f : Forest} → dangling (g .f) ≡ dangling f → AheadTo W (g .X) base i len (s .lo) (g .hi) (wd W (base + i)) f → DanglesAt W (dangling (g .f)) (wd W (base + i))
+      go : {f : Forest} → dangling (g .f) ≡ dangling f → AheadTo W (g .X) base i len (s .lo) (g .hi) (wd W (base + i)) f
+          → DanglesAt W (dangling (g .f)) (wd W (base + i))
       go e (item {k = k} {cs = cs} {rest = rest} low t r) =
           rw (e ∙ else-dangles k cs rest (sym (token-test Operator.conditionalElse cs t) ∙ p)) (here (t .pos) (t .token))
 
-dangle-none : {W : List ℕ} {base from len : ℕ} {g : CanDangle W base from len} {i : ℕ} → DangleAt W base from len g i → len ≤ i → DanglesAt W (dangling (g .f)) 0
+dangle-none : {W : List ℕ} {base from len : ℕ} {g : CanDangle W base from len} {i : ℕ} → DangleAt W base from len g i → len ≤ i
+    → DanglesAt W (dangling (g .f)) 0
 unfolding dangling
 dangle-none s h = rw (s .same ∙ ap dangling (ahead-end (s .rest) h (s .items))) nowhere
 
@@ -87,7 +96,8 @@ module _ {W : List ℕ} {base from len i : ℕ} (s : Dangling W base from len i)
       let within = g .within in
       (omega arith, omega arith, g .small)
 
-  pub dangle-next : i < len → isTokenAt W (wd W (base + i)) Operator.conditional ≡ false → isTokenAt W (wd W (base + i)) Operator.conditionalElse ≡ false → Dangling W base from len (i + 1)
+  pub dangle-next : i < len → isTokenAt W (wd W (base + i)) Operator.conditional ≡ false
+      → isTokenAt W (wd W (base + i)) Operator.conditionalElse ≡ false → Dangling W base from len (i + 1)
   dangle-next h p q = record { at = λ g. dangle-more (s .at g) h p q }
 
   pub dangles-if : i < len → isTokenAt W (wd W (base + i)) Operator.conditional ≡ true → Dangles W base from len (wd W (base + i))

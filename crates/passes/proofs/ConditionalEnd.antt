@@ -31,7 +31,8 @@ use Rattle.passes.proofs.ConditionalLaws.{LeftList, of-conditional, not
 
 -- ---- every item is gathered
 
-all-gathered : {W X : List ℕ} {lo l m hi tokens : ℕ} {v : Items} {d : Forest} → LeftList W X lo l m hi v tokens d nil → v .write ≡ v .read → BackArray W X (v .base) (v .len) lo hi d
+all-gathered : {W X : List ℕ} {lo l m hi tokens : ℕ} {v : Items} {d : Forest} → LeftList W X lo l m hi v tokens d nil → v .write ≡ v .read
+    → BackArray W X (v .base) (v .len) lo hi d
 unfolding count
 all-gathered list e =
     let b = list .done in
@@ -47,19 +48,41 @@ all-gathered list e =
 
 module _ {W : List ℕ} {v : Items} {tokens : ℕ} (g : CanFinish W (walkOf v (Conditional tokens))) where
   -- A list that ends is one of the conditional pass.
-  at-end : (Q : (κ : Kind) → State κ → Type 0) → ((d : Forest) → tokens ≡ tokensIn isConditional d → BackArray W (g .X) (v .base) (v .len) (g .lo) (g .hi) d → Q conditional d)
+  at-end : (Q : (κ : Kind) → State κ → Type 0)
+      → ((d : Forest) → tokens ≡ tokensIn isConditional d → BackArray W (g .X) (v .base) (v .len) (g .lo) (g .hi) d → Q conditional d)
       → Q (g .κ) (g .s)
-  at-end Q f = of-conditional (g .holds .sides .runs) (g .s) (g .holds .sides) (g .small) Q (λ d list. f d (list .counted) (all-gathered list (g .holds .turning)))
+  at-end Q f =
+      of-conditional (g .holds .sides .runs) (g .s) (g .holds .sides) (g .small) Q
+      (λ d list. f d (list .counted) (all-gathered list (g .holds .turning)))
 
   abbrev folding : (d : Forest) → BackArray W (g .X) (v .base) (v .len) (g .lo) (g .hi) d → CanFold W (v .base) (v .len)
-  folding d items = record { X = g .X; lo = g .lo; hi = g .hi; d = d; items = items; below = g .holds .sides .below; within = g .holds .sides .within; small = g .small }
+  folding d items =
+      record {
+        X = g .X;
+        lo = g .lo;
+        hi = g .hi;
+        d = d;
+        items = items;
+        below = g .holds .sides .below;
+        within = g .holds .sides .within;
+        small = g .small;
+      }
 
   pub can-fold : CanFold W (v .base) (v .len)
   can-fold = at-end (λ κ s. CanFold W (v .base) (v .len)) (λ d n items. folding d items)
 
 abbrev pub can-dangle : {W W' : List ℕ} {base len from : ℕ} → CanFold W base len → FoldedAll W base len from W' → CanDangle W' base from len
 can-dangle g w =
-    record { X = g .X; lo = g .lo; hi = g .hi; f = foldedFrom (g .d); items = w .to g; below = g .below; within = rw (w .long) (g .within); small = rw (w .long) (g .small) }
+    record {
+      X = g .X;
+      lo = g .lo;
+      hi = g .hi;
+      f = foldedFrom (g .d);
+      items = w .to g;
+      below = g .below;
+      within = rw (w .long) (g .within);
+      small = rw (w .long) (g .small);
+    }
 
 -- ---- what `finish` ensures
 
@@ -84,21 +107,29 @@ undangled-some f e = rw (e, undangled) refl
 
 module _ {W' X : List ℕ} {lo hi : ℕ} (v : Items) (d : Forest) where
   -- nothing dangles
-  none-left : {from s : ℕ} {o : Option Token} → dangling (foldedFrom d) ≡ o → DanglesAt W' o s → s ≡ 0 → Ahead W' X (v .base) from (v .len) lo hi (foldedFrom d)
+  none-left : {from s : ℕ} {o : Option Token} → dangling (foldedFrom d) ≡ o → DanglesAt W' o s → s ≡ 0
+      → Ahead W' X (v .base) from (v .len) lo hi (foldedFrom d)
       → FinishTo conditional W' X lo hi v d (At (v .base + from) (v .len - from))
   none-left {from} e nowhere z a =
       let n : a .n ≡ v .len - from = omega (arith, a .count) in
-      gives (folds d ∙ undangled-calm (foldedFrom d) e) (subst (λ (x : ℕ). InArray W' X (v .base + from) x lo hi (foldedFrom d)) n (a .array)) (omega arith) (omega (arith, a .count))
+      gives (folds d ∙ undangled-calm (foldedFrom d) e)
+      (subst (λ (x : ℕ). InArray W' X (v .base + from) x lo hi (foldedFrom d)) n (a .array)) (omega arith) (omega (arith, a .count))
   none-left e (here p t) z a = absurd (omega arith)
 
   -- the first that does is told of
-  one-left : {s : ℕ} {o : Option Token} → dangling (foldedFrom d) ≡ o → DanglesAt W' o s → s ≢ 0 → FinishTo conditional W' X lo hi v d (Failed (TernaryWithoutOperands s))
+  one-left : {s : ℕ} {o : Option Token} → dangling (foldedFrom d) ≡ o → DanglesAt W' o s → s ≢ 0
+      → FinishTo conditional W' X lo hi v d (Failed (TernaryWithoutOperands s))
   one-left e nowhere z = absurd (z refl)
   one-left e (here p t) z = fails (Tells.ternaryWithoutOperands t) (folds d ∙ undangled-some (foldedFrom d) e)
 
-module _ {W W' : List ℕ} {v : Items} {tokens from s : ℕ} (w : FoldedAll W (v .base) (v .len) from W') (h : Dangles W' (v .base) from (v .len) s) where
+module _ {W W' : List ℕ} {v : Items} {tokens from s : ℕ} (w : FoldedAll W (v .base) (v .len) from W')
+    (h : Dangles W' (v .base) from (v .len) s) where
   end-within : (g : CanFinish W (walkOf v (Conditional tokens))) → Within W W' (g .X) (g .lo) (g .hi) v
-  end-within g = record { kept = at-end g (λ κ s. Kept W W' (g .X) (g .lo) (g .hi) (v .base) (v .base + v .len)) (λ d n items. w .kept (folding g d items)); long = w .long }
+  end-within g =
+      record {
+        kept = at-end g (λ κ s. Kept W W' (g .X) (g .lo) (g .hi) (v .base) (v .base + v .len)) (λ d n items. w .kept (folding g d items));
+        long = w .long;
+      }
 
   pub ends-folded : s ≡ 0 → Ends W (walkOf v (Conditional tokens)) (At (v .base + from) (v .len - from)) W'
   ends-folded e =

@@ -1,5 +1,5 @@
--- The loop of `fold_conditionals`: how the scan begins, that each step keeps what it leads to, and where it ends. Leans on ConditionalFold for an item that
--- stays as it is, and on UnaryRight for the unread items.
+-- The loop of `fold_conditionals`: how the scan begins, that each step keeps what it leads to, and where it ends. Leans on ConditionalFold
+-- for an item that stays as it is, and on UnaryRight for the unread items.
 use Prim.Native.Nat.{ℕ, _+_, _-_, _^_, _≤_, _<_}
 use mathlib.Core.Path.{_≡_, refl, sym, ap, _∙_, subst}
 use mathlib.Core.Logic.{⊎-elim}
@@ -23,41 +23,54 @@ use Rattle.passes.proofs.ConditionalFold.{LastTwo, two, last-two, KeptT
 
 -- the last tree is the first of the right part
 data BeganWith (W X : List ℕ) (lo hi base len : ℕ) : Forest → Type 0 where
-  began : {d L R : Forest} {e : ℕ} → RightList W X lo e e hi (scanAt base len (len - 1) (len - 1)) R L → foldedFrom d ≡ scan L R → BeganWith W X lo hi base len d
+  began : {d L R : Forest} {e : ℕ} → RightList W X lo e e hi (scanAt base len (len - 1) (len - 1)) R L → foldedFrom d ≡ scan L R
+      → BeganWith W X lo hi base len d
 
-scan-begins : {W X : List ℕ} {lo hi base len : ℕ} {d : Forest} → BackArray W X base len lo hi d → 3 ≤ len → slotStart hi ≤ base → base + len ≤ length W → length W < 2 ^ 32
+scan-begins : {W X : List ℕ} {lo hi base len : ℕ} {d : Forest} → BackArray W X base len lo hi d → 3 ≤ len → slotStart hi ≤ base
+    → base + len ≤ length W → length W < 2 ^ 32
     → BeganWith W X lo hi base len d
 unfolding foldedFrom
 scan-begins {W} {X} {lo} {hi} {base} {len} v h below within small = go (unread-last v (omega arith))
   where
-    at : {a c : ℕ} {k : Token} {ks rest : Forest} → RepT W X (wd W (base + (len - 1))) a c k ks → c ≤ hi → BackArray W X base (len - 1) lo a rest → LastTwo W X base (len - 1) lo a rest
+    at : {a c : ℕ} {k : Token} {ks rest : Forest} → RepT W X (wd W (base + (len - 1))) a c k ks → c ≤ hi
+        → BackArray W X base (len - 1) lo a rest → LastTwo W X base (len - 1) lo a rest
         → BeganWith W X lo hi base len (node k ks rest)
     at {a} {c} {k} {ks} t y r (two ta q tb f s) =
         let nothing : Ahead W X base (len - 1 + 1) len c hi nil
         = record { n = 0; count = omega arith; array = record { bs = []; seg = tt; count = refl; rep = ends y } } in
-        began (record { unread = r; done = ahead-cons (le-refl a) t refl nothing; mid = le-refl a; below = below; within = within; small = small }) refl
+        began
+        (record { unread = r; done = ahead-cons (le-refl a) t refl nothing; mid = le-refl a; below = below; within = within; small = small }) refl
 
     go : {d : Forest} → LastUnread W X base len lo hi d → BeganWith W X lo hi base len d
     go (last t y r) = at t y r (last-two r (omega arith))
 
 -- nothing is unread
-scan-none : {W X : List ℕ} {lo l m hi base len left right : ℕ} {L R : Forest} → RightList W X lo l m hi (scanAt base len left right) R L → left ≡ 0 → scan L R ≡ R
+scan-none : {W X : List ℕ} {lo l m hi base len left right : ℕ} {L R : Forest} → RightList W X lo l m hi (scanAt base len left right) R L
+    → left ≡ 0 → scan L R ≡ R
 unfolding scan
 scan-none {L = L} {R = R} list e = ap (λ (f : Forest). scan f R) (unread-none L (list .unread) e)
 
 -- the done items, as the list's interval has them
-all-done : {W X : List ℕ} {lo l m hi base len left right : ℕ} {f rest : Forest} → RightList W X lo l m hi (scanAt base len left right) f rest → Ahead W X base right len lo hi f
+all-done : {W X : List ℕ} {lo l m hi base len left right : ℕ} {f rest : Forest}
+    → RightList W X lo l m hi (scanAt base len left right) f rest → Ahead W X base right len lo hi f
 all-done list =
     let mid = list .mid in
     let v = list .done in
     record {
       n = v .n;
       count = v .count;
-      array = record { bs = v .array .bs; seg = v .array .seg; count = v .array .count; rep = rep-lower (omega (arith, back-le (list .unread .rep))) (v .array .rep) };
+      array =
+          record {
+            bs = v .array .bs;
+            seg = v .array .seg;
+            count = v .array .count;
+            rep = rep-lower (omega (arith, back-le (list .unread .rep))) (v .array .rep);
+          };
     }
 
 -- one item is unread, and stands before the done ones then
-scan-one : {W W' X : List ℕ} {lo l m hi base len left right : ℕ} {L R : Forest} → RightList W X lo l m hi (scanAt base len left right) R L → left ≡ 1 → left ≤ right
+scan-one : {W W' X : List ℕ} {lo l m hi base len left right : ℕ} {L R : Forest} → RightList W X lo l m hi (scanAt base len left right) R L
+    → left ≡ 1 → left ≤ right
     → W' ≡ set W (base + (right - 1)) (wd W base) → Ahead W' X base (right - 1) len lo hi (scan L R)
 unfolding scan
 scan-one {W} {W'} {X} {lo} {l} {m} {hi} {base} {len} {left} {right} {L} {R} list one behind ew =
@@ -68,7 +81,8 @@ scan-one {W} {W'} {X} {lo} {l} {m} {hi} {base} {len} {left} {right} {L} {R} list
 
     go : {L : Forest} → KeptTo W' X lo hi base len left right R L → Ahead W' X base (right - 1) len lo hi (scan L R)
     go (kept {a = a} {aa = aa} {rest = rest} list') =
-        subst (λ (f : Forest). Ahead W' X base (right - 1) len lo hi (scan (node a aa f) R)) (sym (unread-none rest (list' .unread) (omega arith))) (all-done list')
+        subst (λ (f : Forest). Ahead W' X base (right - 1) len lo hi (scan (node a aa f) R))
+        (sym (unread-none rest (list' .unread) (omega arith))) (all-done list')
 
 -- ---- the loop
 
@@ -84,9 +98,21 @@ pub record Scanning (W : List ℕ) (base len : ℕ) (Z : List ℕ) (left right :
   pub at : (g : CanFold W base len) → ScanningAt W base len g Z left right
   pub long : length Z ≡ length W
 
-abbrev scanning : {W : List ℕ} {base len : ℕ} {g : CanFold W base len} {Z : List ℕ} {left right : ℕ} → ScanningAt W base len g Z left right → CanScan Z base len left right
+abbrev scanning : {W : List ℕ} {base len : ℕ} {g : CanFold W base len} {Z : List ℕ} {left right : ℕ} → ScanningAt W base len g Z left right
+    → CanScan Z base len left right
 scanning {g = g} s =
-    record { X = g .X; lo = g .lo; l = s .to .l; m = s .to .m; hi = g .hi; L = s .to .L'; R = s .to .R'; list = s .to .list; behind = s .to .behind; full = s .to .full }
+    record {
+      X = g .X;
+      lo = g .lo;
+      l = s .to .l;
+      m = s .to .m;
+      hi = g .hi;
+      L = s .to .L';
+      R = s .to .R';
+      list = s .to .list;
+      behind = s .to .behind;
+      full = s .to .full;
+    }
 
 pub scan-start : {W : List ℕ} {base len : ℕ} → 3 ≤ len → Scanning W base len W (len - 1) (len - 1)
 scan-start {W} {base} {len} h = record { at = λ g. go g (scan-begins (g .items) h (g .below) (g .within) (g .small)); long = refl }
@@ -141,7 +167,8 @@ folded-few {W} {base} {len} h =
           let v = g .items in
           let here : base ≡ base + 0 = omega arith in
           let all = gathered-array (v .rep) (rw here at (v .seg)) in
-          rw (few-stay (g .d) (omega (arith, v .count, back-count (v .rep)))) (record { n = length (v .ds); count = omega (arith, v .count); array = all });
+          rw (few-stay (g .d) (omega (arith, v .count, back-count (v .rep))))
+          (record { n = length (v .ds); count = omega (arith, v .count); array = all });
       kept = λ g j f o. refl;
       long = refl;
     }

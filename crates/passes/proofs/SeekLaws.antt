@@ -53,7 +53,8 @@ pub standing : (W : List ℕ) (v : Items) (pass : Pass) → Seeks pass → Stand
 standing W v pass u = left-stands W v pass u (nothing-of pass)
 
 -- The classes that are sought are the pass's.
-pub sought-of : {W W' : List ℕ} {v : Items} {c : ℕ} {f : Found} (p : Pass) → c ≡ classesOf p → Sought W v c f W' → Sought W v (classesOf p) f W'
+pub sought-of : {W W' : List ℕ} {v : Items} {c : ℕ} {f : Found} (p : Pass) → c ≡ classesOf p → Sought W v c f W'
+    → Sought W v (classesOf p) f W'
 sought-of {W} {W'} {v} {c} {f} p e h = subst (λ (x : ℕ). Sought W v x f W') e h
 
 -- ---- by the arms of the driver's functions
@@ -80,7 +81,8 @@ module _ {W W' : List ℕ} {v : Items} {b : ℕ} {r : Turn} where
   pub token-by : (p q : Pass) → p ≡ q → OfLevel (λ κ idle P good. TokenTurned κ idle P good W (walkOf v q) b r W') q → TokenOf p W v b r W'
   token-by p q e t = subst (λ (x : Pass). TokenOf x W v b r W') (sym e) (record { turned = t })
 
-  pub token-kept : {v' : Items} (p : Pass) → OneOf (2 ∷ 3 ∷ 5 ∷ 7 ∷ []) (tagOf the-type p) → W' ≡ set W (v .base + v .write) b → v' ≡ movedTo v (v .read) (v .write + 1)
+  pub token-kept : {v' : Items} (p : Pass) → OneOf (2 ∷ 3 ∷ 5 ∷ 7 ∷ []) (tagOf the-type p) → W' ≡ set W (v .base + v .write) b
+      → v' ≡ movedTo v (v .read) (v .write + 1)
       → r ≡ On (walkOf v' p) → TokenOf p W v b r W'
   token-kept Calls t e el er = absurd (miss (2 ∷ 3 ∷ 5 ∷ 7 ∷ []) 0 tt t)
   token-kept MathCalls t e el er = absurd (miss (2 ∷ 3 ∷ 5 ∷ 7 ∷ []) 1 tt t)

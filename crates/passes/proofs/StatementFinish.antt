@@ -14,7 +14,8 @@ use Rattle.molang.specs.Level.{walk}
 use Rattle.molang.specs.Statements.{unsplit, after, inside, splitOf, statementFinish, statementLevel}
 use Rattle.molang.specs.Free.{isNil}
 use Rattle.molang.specs.Work.{Kind, statements, State, work}
-use Rattle.nodes.specs.Store.{wd, slotStart, slotEnd, TokenAt, SegB, OutFrom, ends as ends-at, RepT, RepB, begins as begins-with, put, InArray, Owned, Free}
+use Rattle.nodes.specs.Store.{wd, slotStart, slotEnd, TokenAt, SegB, OutFrom, ends as ends-at, RepT, RepB, begins as begins-with, put}
+use Rattle.nodes.specs.Store.{InArray, Owned, Free}
 use Rattle.nodes.specs.Children.{CanGive, Given}
 use Rattle.nodes.specs.declared.frames.List.{List as Items}
 use Rattle.nodes.proofs.Runs.{segB-keep, set-same, set-other, set-long}
@@ -49,7 +50,8 @@ pub record LastEnded (W X : List ℕ) (base lo l p : ℕ) (ds : List ℕ) (d : F
   pub back : RepB W ((p + 2) ∷ X) ds lo (last + 1) d
   pub some : 0 < length ds
 
-pub ended-last : {W X ds : List ℕ} {lo l : ℕ} {d : Forest} (base p : ℕ) → Ended W X ds lo l d → SegB W base ds → isNil d ≡ false → wd W base ≡ p → LastEnded W X base lo l p ds d
+pub ended-last : {W X ds : List ℕ} {lo l : ℕ} {d : Forest} (base p : ℕ) → Ended W X ds lo l d → SegB W base ds → isNil d ≡ false
+    → wd W base ≡ p → LastEnded W X base lo l p ds d
 unfolding isNil
 ended-last base p (nothing e) g n w = absurd (true≢false n)
 ended-last {W} {X} base p (statement {b = b} (nothing z) t o e) g n w =
@@ -109,7 +111,8 @@ pub record Finishing (W X : List ℕ) (lo hi base r p : ℕ) (q : Token) (f : Fo
   pub room : base + r ≤ length W
   pub some : 0 < r
 
-module _ {W X : List ℕ} {lo hi n m a : ℕ} (l : Items) (c : ℕ) {q : Token} {done : Forest} (v : EndedAt W X (l .base) n lo m q done) (reached : n + c ≡ l .write)
+module _ {W X : List ℕ} {lo hi n m a : ℕ} (l : Items) (c : ℕ) {q : Token} {done : Forest} (v : EndedAt W X (l .base) n lo m q done)
+    (reached : n + c ≡ l .write)
     (top : a ≤ hi) (full : isNil done ≡ false) (below : slotStart hi ≤ l .base) (within : l .base + l .write ≤ length W) where
   lasts : LastEnded W X (l .base) lo m (wd W (l .base)) (v .ds) done
   lasts = ended-last (l .base) (wd W (l .base)) (v .rep) (v .seg) full refl
@@ -131,8 +134,10 @@ module _ {W X : List ℕ} {lo hi n m a : ℕ} (l : Items) (c : ℕ) {q : Token} 
         last = omega arith;
         give = λ h.
             let ar = in-order items in
-            let wide : InArray W X (l .base + n) c m hi (inOrder d) = record { bs = ar .bs; seg = ar .seg; count = ar .count; rep = rep-raise top (ar .rep) } in
-            subst (λ (x : ℕ). CanGive W (wd W (l .base + n - 1) + 1) (l .base + n) x) (omega arith) (array-give wide (omega arith) (omega arith) (omega arith));
+            let wide : InArray W X (l .base + n) c m hi (inOrder d) =
+            record { bs = ar .bs; seg = ar .seg; count = ar .count; rep = rep-raise top (ar .rep) } in
+            subst (λ (x : ℕ). CanGive W (wd W (l .base + n - 1) + 1) (l .base + n) x) (omega arith)
+            (array-give wide (omega arith) (omega arith) (omega arith));
       }
 
   all-ended : {d : Forest} → BackArray W X (l .base + n) c m a d → Finishing W X lo hi (l .base) n (wd W (l .base)) q done
@@ -140,7 +145,8 @@ module _ {W X : List ℕ} {lo hi n m a : ℕ} (l : Items) (c : ℕ) {q : Token} 
       let z = lasts in let f = firsts in let high = z .high in let fh = f .high in let ml = back-le (items .rep) in
       record {
         array =
-            subst (λ (x : ℕ). InArray W ((wd W (l .base) + 2) ∷ X) (l .base) x lo hi (inOrder done)) (sym (v .count)) (gathered-array (back-raise (omega arith) (z .back)) (v .seg));
+            subst (λ (x : ℕ). InArray W ((wd W (l .base) + 2) ∷ X) (l .base) x lo hi (inOrder done)) (sym (v .count))
+            (gathered-array (back-raise (omega arith) (z .back)) (v .seg));
         token = v .list full;
         first = refl;
         low = f .low;
@@ -157,30 +163,44 @@ module _ {W X : List ℕ} {lo hi n m a : ℕ} (l : Items) (c : ℕ) {q : Token} 
       → Finishing W' X lo hi (l .base) (n + 1) (wd W (l .base)) q (node (bare semicolon (earliest t d)) (inOrder (node t ts d)) done)
   last-ended {t} {ts} {d} {W'} items h g0 =
       let z = lasts in let f = firsts in
-      let high = z .high in let fh = f .high in let ml = back-le (items .rep) in let low = z .low in let cnt = v .count in let some = z .some in
+      let high =
+      z .high in let fh = f .high in let ml = back-le (items .rep) in let low = z .low in let cnt = v .count in let some = z .some in
       let p = wd W (l .base) in
       let b = z .last + 1 in
       let Y = (p + 2) ∷ X in
-      let g : Grouped W b (l .base + n) (l .write - n) W' = subst (λ (x : ℕ). Grouped W (x + 1) (l .base + n) (l .write - n) W') last-at g0 in
+      let g : Grouped W b (l .base + n) (l .write - n) W' =
+      subst (λ (x : ℕ). Grouped W (x + 1) (l .base + n) (l .write - n) W') last-at g0 in
       let apart : b ≢ p + 2 = ⊎-elim (λ e. omega arith) (λ e. omega arith) (z .apart) in
       let own : BackArray W Y (l .base + n) (l .write - n) m a (node t ts d)
-      = open-items refl (omega arith) (record { ds = items .ds; seg = items .seg; count = items .count; rep = back-avoid (λ s x y o. (omega arith, o)) (items .rep) }) in
+      =
+      open-items refl (omega arith)
+      (record { ds = items .ds; seg = items .seg; count = items .count; rep = back-avoid (λ s x y o. (omega arith, o)) (items .rep) }) in
       let tree : RepT W' Y b b hi (bare semicolon (earliest t d)) (inOrder (node t ts d))
-      = grouped-tree g own (inl (omega arith)) (omega arith) top (le-refl b) (omega arith) (omega arith) (omega arith) (apart, z .out b (omega arith) (omega arith)) (omega arith) in
+      =
+      grouped-tree g own (inl (omega arith)) (omega arith) top (le-refl b) (omega arith) (omega arith) (omega arith)
+      (apart, z .out b (omega arith) (omega arith)) (omega arith) in
       let same : (j : ℕ) → j ≢ l .base + n → (j < slotStart b) ⊎ (slotEnd b ≤ j) → Free Y m a j → wd W' j ≡ wd W j
       = grouped-same {lo = b} {hi = hi} g own (inl (omega arith)) (omega arith) top (le-refl b) (omega arith) (omega arith) in
-      let back : RepB W' Y (v .ds) lo b done = back-keep W W' (λ s o x y w u e. same (slotStart s + o) (omega arith) (inl (omega arith)) (free-beside Y m a s o w (inl (omega arith)))) (z .back) in
+      let back : RepB W' Y (v .ds) lo b done =
+      back-keep W W'
+      (λ s o x y w u e. same (slotStart s + o) (omega arith) (inl (omega arith)) (free-beside Y m a s o w (inl (omega arith)))) (z .back) in
       let seg : SegB W' (l .base) (v .ds)
       = segB-keep W W' (l .base) (v .ds) (λ j x y. same j (omega arith) (inr (omega arith)) (free-above Y m a j (omega arith))) (v .seg) in
       let place : wd W' (l .base + length (v .ds)) ≡ b
-      = ap (λ (x : ℕ). wd W' (l .base + x)) (sym cnt) ∙ grouped-place {lo = b} {hi = hi} g own (inl (omega arith)) (omega arith) top (le-refl b) (omega arith) (omega arith) (omega arith) in
-      let all : RepB W' Y (b ∷ v .ds) lo hi (node (bare semicolon (earliest t d)) (inOrder (node t ts d)) done) = put back tree (le-refl hi) in
+      =
+      ap (λ (x : ℕ). wd W' (l .base + x)) (sym cnt)
+      ∙ grouped-place {lo = b} {hi = hi} g own (inl (omega arith)) (omega arith) top (le-refl b) (omega arith) (omega arith)
+      (omega arith) in
+      let all : RepB W' Y (b ∷ v .ds) lo hi (node (bare semicolon (earliest t d)) (inOrder (node t ts d)) done) =
+      put back tree (le-refl hi) in
       record {
         array =
-            subst (λ (x : ℕ). InArray W' Y (l .base) x lo hi (inOrder (node (bare semicolon (earliest t d)) (inOrder (node t ts d)) done))) (omega arith) (gathered-array all (place, seg));
+            subst (λ (x : ℕ). InArray W' Y (l .base) x lo hi (inOrder (node (bare semicolon (earliest t d)) (inOrder (node t ts d)) done)))
+            (omega arith) (gathered-array all (place, seg));
         token =
             token-keep W W' (p + 2)
-            (λ o w. same (slotStart (p + 2) + o) (omega arith) (⊎-elim (λ e. inr (omega arith)) (λ e. inl (omega arith)) (z .apart)) (free-beside Y m a (p + 2) o (omega arith) (inl (omega arith)))) (v .list full);
+            (λ o w. same (slotStart (p + 2) + o) (omega arith) (⊎-elim (λ e. inr (omega arith)) (λ e. inl (omega arith)) (z .apart)) (free-beside Y m a (p + 2) o (omega arith) (inl (omega arith))))
+            (v .list full);
         first = same (l .base) (omega arith) (inr (omega arith)) (free-above Y m a (l .base) (omega arith));
         low = f .low;
         high = omega arith;
@@ -193,7 +213,8 @@ module _ {W X : List ℕ} {lo hi n m a : ℕ} (l : Items) (c : ℕ) {q : Token} 
 
 -- ---- the list's node takes them
 
-pub finishing-gives : {W X : List ℕ} {lo hi base r p : ℕ} {q : Token} {f : Forest} → Finishing W X lo hi base r p q f → CanGive W (p + 2) base r
+pub finishing-gives : {W X : List ℕ} {lo hi base r p : ℕ} {q : Token} {f : Forest} → Finishing W X lo hi base r p q f
+    → CanGive W (p + 2) base r
 finishing-gives v = let high = v .high in array-give (v .array) (omega arith) (v .below) (v .room)
 
 full-first : (f : Forest) → isNil f ≡ false → (k : Token) × TurnedFirst k (inOrder f)
@@ -201,7 +222,8 @@ unfolding isNil
 full-first nil e = absurd (true≢false e)
 full-first (node k cs d) e = (earliest k d, order-first k cs d)
 
-module _ {W W' W'' X : List ℕ} {lo hi base r p : ℕ} {q : Token} {f : Forest} (v : Finishing W X lo hi base r p q f) (g : Given W (p + 2) base r W') (w : W'' ≡ set W' base (p + 2)) where
+module _ {W W' W'' X : List ℕ} {lo hi base r p : ℕ} {q : Token} {f : Forest} (v : Finishing W X lo hi base r p q f)
+    (g : Given W (p + 2) base r W') (w : W'' ≡ set W' base (p + 2)) where
   pub finished-array : isNil f ≡ false → InArray W'' X base 1 lo hi (node q (inOrder f) nil)
   finished-array full =
       let first = full-first f full in
@@ -245,9 +267,11 @@ pending-full q (node t ts done) p = refl
 abbrev KeptBeside : List ℕ → List ℕ → List ℕ → ℕ → ℕ → Items → Type 0
 KeptBeside W W' X lo hi l = ((j : ℕ) → Free X lo hi j → (j < l .base) ⊎ (l .base + l .len ≤ j) → wd W' j ≡ wd W j) × (length W' ≡ length W)
 
-module _ {W X : List ℕ} {lo hi n m a : ℕ} (l : Items) (c : ℕ) {q : Token} {done : Forest} (v : EndedAt W X (l .base) n lo m q done) (reached : n + c ≡ l .write)
+module _ {W X : List ℕ} {lo hi n m a : ℕ} (l : Items) (c : ℕ) {q : Token} {done : Forest} (v : EndedAt W X (l .base) n lo m q done)
+    (reached : n + c ≡ l .write)
     (top : a ≤ hi) (full : isNil done ≡ false) (below : slotStart hi ≤ l .base) (within : l .base + l .write ≤ length W) (room : l .write ≤ l .len) where
-  closing-finishes : {W' : List ℕ} (d : Forest) → BackArray W X (l .base + n) c m a d → n < l .write → Grouped W (wd W (l .base + n - 1) + 1) (l .base + n) (l .write - n) W'
+  closing-finishes : {W' : List ℕ} (d : Forest) → BackArray W X (l .base + n) c m a d → n < l .write
+      → Grouped W (wd W (l .base + n - 1) + 1) (l .base + n) (l .write - n) W'
       → Finishing W' X lo hi (l .base) (n + 1) (wd W (l .base)) q (closedOn done d) × KeptBeside W W' X lo hi l
   unfolding closedOn count
   closing-finishes nil items h g = absurd (omega (arith, items .count, back-count (items .rep)))
@@ -261,8 +285,10 @@ module _ {W X : List ℕ} {lo hi n m a : ℕ} (l : Items) (c : ℕ) {q : Token} 
         last-ended l c v reached top full below within items h g0,
         (
           λ j f o.
-              grouped-same {lo = b} {hi = hi} g own (inl (omega arith)) (omega arith) top (le-refl b) (omega arith) (omega arith) j (⊎-elim (λ x. omega arith) (λ x. omega arith) o)
-              (beside-slot X lo hi b j (omega arith) (omega arith) (z .out b (omega arith) (omega arith)) f) (free-part X lo hi m a j (omega arith) (omega arith) f),
+              grouped-same {lo = b} {hi = hi} g own (inl (omega arith)) (omega arith) top (le-refl b) (omega arith) (omega arith) j
+              (⊎-elim (λ x. omega arith) (λ x. omega arith) o)
+              (beside-slot X lo hi b j (omega arith) (omega arith) (z .out b (omega arith) (omega arith)) f)
+              (free-part X lo hi m a j (omega arith) (omega arith) f),
           grouped-long g,
         ),
       )
@@ -278,7 +304,8 @@ module _ {W X : List ℕ} {lo hi n m a : ℕ} (l : Items) (c : ℕ) {q : Token} 
 finish-count : {W X : List ℕ} {base n lo m : ℕ} {q : Token} {done : Forest} → EndedAt W X base n lo m q done → isNil done ≡ false → 0 < n
 finish-count {W} {base = base} v full = omega (arith, v .count, ended-last base (wd W base) (v .rep) (v .seg) full refl .some)
 
-finish-view-closes : {W X : List ℕ} {lo hi n : ℕ} {l : Items} {κ : Kind} {s : State κ} → length W < 2 ^ 32 → SplitView W X lo hi l n κ s nil → CanClose W l n
+finish-view-closes : {W X : List ℕ} {lo hi n : ℕ} {l : Items} {κ : Kind} {s : State κ} → length W < 2 ^ 32 → SplitView W X lo hi l n κ s nil
+    → CanClose W l n
 finish-view-closes {l = l} small (splits {q = q} {done = done} {c = c} v b e u le p t below within) =
     let al = ahead-le u in
     close-asks l c v e (omega arith) (pending-full q done p) below (omega arith) b small
@@ -293,19 +320,27 @@ pub record FinishAsks (W W1 : List ℕ) (l : Items) (r : ℕ) : Type 0 where
   pub give : CanGive W1 (wd W1 (l .base) + 2) (l .base) r
   pub long : length W1 ≡ length W
 
-finish-view-asks : {W W1 X : List ℕ} {lo hi n r : ℕ} {l : Items} {κ : Kind} {s : State κ} → length W < 2 ^ 32 → SplitView W X lo hi l n κ s nil → ClosedTo W l n r W1 → FinishAsks W W1 l r
+finish-view-asks : {W W1 X : List ℕ} {lo hi n r : ℕ} {l : Items} {κ : Kind} {s : State κ} → length W < 2 ^ 32
+    → SplitView W X lo hi l n κ s nil → ClosedTo W l n r W1 → FinishAsks W W1 l r
 finish-view-asks {W} {W1} {r = r} {l = l} small (splits {q = q} {done = done} {c = c} v b e u le p t below within) i =
     let al = ahead-le u in
     let z = closed-finishes l c v e (omega arith) (pending-full q done p) below (omega arith) (omega arith) b i in
     let f = z .0 in
     let first = f .first in let high = f .high in let room = f .room in let some = f .some in let fb = f .below in let long = z .1 .1 in
-    record { inside = omega arith; spare = omega arith; give = subst (λ (x : ℕ). CanGive W1 (x + 2) (l .base) r) (sym first) (finishing-gives f); long = long }
+    record {
+      inside = omega arith;
+      spare = omega arith;
+      give = subst (λ (x : ℕ). CanGive W1 (x + 2) (l .base) r) (sym first) (finishing-gives f);
+      long = long;
+    }
 
 pub finish-asks : {W W1 : List ℕ} {l : Items} {n r : ℕ} → CanFinish W (walkOf l (SplitAt n)) → ClosedTo W l n r W1 → FinishAsks W W1 l r
 finish-asks h i = finish-view-asks (h .small) (split-view (h .holds)) i
 
-module _ {W W1 W2 W3 : List ℕ} {l : Items} {n r : ℕ} (i : ClosedTo W l n r W1) (g : Given W1 (wd W1 (l .base) + 2) (l .base) r W2) (w : W3 ≡ set W2 (l .base) (wd W1 (l .base) + 2)) where
-  view-ends : {X : List ℕ} {lo hi : ℕ} {κ : Kind} {s : State κ} → SplitView W X lo hi l n κ s nil → FinishTo κ W3 X lo hi l s (At (l .base) 1) × Within W W3 X lo hi l
+module _ {W W1 W2 W3 : List ℕ} {l : Items} {n r : ℕ} (i : ClosedTo W l n r W1) (g : Given W1 (wd W1 (l .base) + 2) (l .base) r W2)
+    (w : W3 ≡ set W2 (l .base) (wd W1 (l .base) + 2)) where
+  view-ends : {X : List ℕ} {lo hi : ℕ} {κ : Kind} {s : State κ} → SplitView W X lo hi l n κ s nil
+      → FinishTo κ W3 X lo hi l s (At (l .base) 1) × Within W W3 X lo hi l
   view-ends {X} {lo} {hi} (splits {q = q} {done = done} {d = d} {c = c} v b e u le p t below within) =
       let al = ahead-le u in
       let full = pending-full q done p in

@@ -1,4 +1,5 @@
--- The statement pass as laws: which semicolons a list has, what the trees between them change, and what a finished statement's words say of trees.
+-- The statement pass as laws: which semicolons a list has, what the trees between them change, and what a finished statement's words say of
+-- trees.
 use Prim.Native.Nat.{ℕ, _+_, _≤_, _<_}
 use mathlib.Core.Path.{_≡_, refl, sym, ap, _∙_, subst}
 use mathlib.Core.Logic.{inl, inr, ⊎-elim}
@@ -16,7 +17,8 @@ use Rattle.molang.specs.Message.{Message, Result, ok, fail}
 use Rattle.molang.specs.Level.{on, into, stop, walk, through}
 use Rattle.molang.specs.Conditional.{isToken}
 use Rattle.molang.specs.Order.{lastOf}
-use Rattle.molang.specs.Statements.{Split, unsplit, after, inside, splitOf, isEntered, gather, endStatement, enterSplit, statementStep, statementResume, statementLevel}
+use Rattle.molang.specs.Statements.{Split, unsplit, after, inside, splitOf, isEntered, gather, endStatement, enterSplit, statementStep}
+use Rattle.molang.specs.Statements.{statementResume, statementLevel}
 use Rattle.molang.specs.Free.{free, clear, isNil, isSemicolon}
 use Rattle.molang.specs.Work.{Kind, statements, State, work, begins, inReading, takes, andThen}
 use Rattle.molang.proofs.Trees.{some-none, free-leaf, free-tree}
@@ -66,7 +68,17 @@ module _ {W : List ℕ} {v : Items} where
   pub look-start : Looking W v 0
   look-start =
       record {
-        at = λ g. record { rest = g .f; m = g .lo; ahead = record { n = v .len; count = omega arith; array = subst (λ (x : ℕ). InArray W (g .X) x (v .len) (g .lo) (g .hi) (g .f)) (omega arith) (g .array) }; same = refl };
+        at = λ g. record {
+          rest = g .f;
+          m = g .lo;
+          ahead =
+              record {
+                n = v .len;
+                count = omega arith;
+                array = subst (λ (x : ℕ). InArray W (g .X) x (v .len) (g .lo) (g .hi) (g .f)) (omega arith) (g .array);
+              };
+          same = refl;
+        };
         within = omega arith;
       }
 
@@ -74,7 +86,8 @@ module _ {W : List ℕ} {v : Items} where
   pub look-slot : {i : ℕ} (g : CanStart W v) → Looking W v i → i < v .len → slotEnd (wd W (v .base + i)) ≤ v .base
   look-slot {i} g l h = go (ahead-item (wd W (v .base + i)) refl h (l .at g .ahead))
     where
-      go : {f : Forest} → AheadTo W (g .X) (v .base) i (v .len) (l .at g .m) (g .hi) (wd W (v .base + i)) f → slotEnd (wd W (v .base + i)) ≤ v .base
+      go : {f : Forest} → AheadTo W (g .X) (v .base) i (v .len) (l .at g .m) (g .hi) (wd W (v .base + i)) f
+          → slotEnd (wd W (v .base + i)) ≤ v .base
       go (item low t r) = omega (arith, tree-below t, ahead-le r .0, g .below)
 
 leaf-token : (k : Token) (cs rest : Forest) → isToken semicolon k cs ≡ true → clear isSemicolon (node k cs rest) ≡ false
@@ -105,7 +118,10 @@ module _ {W : List ℕ} {v : Items} {i : ℕ} (l : Looking W v i) (h : i < v .le
 
 pub look-done : {W : List ℕ} {v : Items} {i : ℕ} → Looking W v i → v .len ≤ i → HasSemicolon W v false
 unfolding clear
-look-done l h = record { answer = λ g. let e = l .at g .same ∙ ap (clear isSemicolon) (ahead-end (l .at g .rest) h (l .at g .ahead)) in rw e refl }
+look-done l h =
+    record {
+      answer = λ g. let e = l .at g .same ∙ ap (clear isSemicolon) (ahead-end (l .at g .rest) h (l .at g .ahead)) in rw e refl;
+    }
 
 -- ---- the list's first semicolon
 
@@ -166,9 +182,11 @@ module _ (s : Split) (k : Token) (cs rest : Forest) where
   unfolding onward begins inReading statementLevel work
   walk-in e = walk-step ∙ ap (onward statementLevel k cs rest) e ∙ back-then (walk statementLevel (splitOf cs) cs)
 
-  walk-skip : statementStep s k cs ≡ into s (splitOf cs) → free isSemicolon cs ≡ true → work statements s (node k cs rest) ≡ work statements (gather k cs s) rest
+  walk-skip : statementStep s k cs ≡ into s (splitOf cs) → free isSemicolon cs ≡ true
+      → work statements s (node k cs rest) ≡ work statements (gather k cs s) rest
   unfolding begins inReading statementLevel work through andThen takes statementResume
-  walk-skip e h = walk-in e ∙ ap (λ (x : Result). andThen x (λ kids. work statements (takes statements s k kids) rest)) (statement-free cs h)
+  walk-skip e h =
+      walk-in e ∙ ap (λ (x : Result). andThen x (λ kids. work statements (takes statements s k kids) rest)) (statement-free cs h)
 
 -- ---- trees without a semicolon
 
@@ -181,12 +199,15 @@ enter-skip s k cs rest e h = go (isEntered (k .op)) refl
     go false i = walk-on s k cs rest (gather k cs s) (e ∙ enter-over s k cs i)
 
 -- a tree without a semicolon is gathered, whatever the state
-pub walk-gather : (s : Split) (k : Token) (cs rest : Forest) → free isSemicolon (node k cs nil) ≡ true → work statements s (node k cs rest) ≡ work statements (gather k cs s) rest
+pub walk-gather : (s : Split) (k : Token) (cs rest : Forest) → free isSemicolon (node k cs nil) ≡ true
+    → work statements s (node k cs rest) ≡ work statements (gather k cs s) rest
 unfolding statementStep
 walk-gather s k nil rest h = walk-on s k nil rest (gather k nil s) (step-leaf s k (free-leaf isSemicolon k nil h .0))
 walk-gather (unsplit d) k (node c cs r) rest h = walk-skip (unsplit d) k (node c cs r) rest refl (free-tree isSemicolon k c cs r nil h .0)
-walk-gather (after q done) k (node c cs r) rest h = enter-skip (after q done) k (node c cs r) rest refl (free-tree isSemicolon k c cs r nil h .0)
-walk-gather (inside q done s d) k (node c cs r) rest h = enter-skip (inside q done s d) k (node c cs r) rest refl (free-tree isSemicolon k c cs r nil h .0)
+walk-gather (after q done) k (node c cs r) rest h =
+    enter-skip (after q done) k (node c cs r) rest refl (free-tree isSemicolon k c cs r nil h .0)
+walk-gather (inside q done s d) k (node c cs r) rest h =
+    enter-skip (inside q done s d) k (node c cs r) rest refl (free-tree isSemicolon k c cs r nil h .0)
 
 -- ---- a split list as its finished statements and the trees after them
 
@@ -210,7 +231,8 @@ last-earliest k nil = refl
 last-earliest k (node t ts d) = last-earliest t d
 
 -- the state of the definition, where a statement is open
-pub open-inside : (q : Token) (done : Forest) (s : Token) (d : Forest) (first : Token) → lastOf none d ≡ some first → s ≡ bare semicolon first → inside q done s d ≡ openOn q done d
+pub open-inside : (q : Token) (done : Forest) (s : Token) (d : Forest) (first : Token) → lastOf none d ≡ some first
+    → s ≡ bare semicolon first → inside q done s d ≡ openOn q done d
 unfolding openOn lastOf
 open-inside q done s nil first e n = some-none (sym e)
 open-inside q done s (node k cs d) first e n =
@@ -219,17 +241,20 @@ open-inside q done s (node k cs d) first e n =
 
 -- ---- what passing over trees leaves
 
-pub passed-counts : {P : ℕ → Bool} {d rest d' rest' : Forest} → Passed P d rest d' rest' → (count rest' ≤ count rest) × (size rest' + count rest ≤ size rest + count rest') × (size rest' ≤ size rest)
+pub passed-counts : {P : ℕ → Bool} {d rest d' rest' : Forest} → Passed P d rest d' rest'
+    → (count rest' ≤ count rest) × (size rest' + count rest ≤ size rest + count rest') × (size rest' ≤ size rest)
 unfolding count size
 passed-counts here = (omega arith, omega arith, omega arith)
 passed-counts (over f p) = let e = passed-counts p in (omega (arith, e .0), omega (arith, e .1), omega (arith, e .2))
 
-pub passed-unsplit : {d rest d' rest' : Forest} → Passed isSemicolon d rest d' rest' → work statements (unsplit d) rest ≡ work statements (unsplit d') rest'
+pub passed-unsplit : {d rest d' rest' : Forest} → Passed isSemicolon d rest d' rest'
+    → work statements (unsplit d) rest ≡ work statements (unsplit d') rest'
 unfolding gather
 passed-unsplit here = refl
 passed-unsplit {d = d} (over {rest = r} {cs = cs} {k = k} f p) = walk-gather (unsplit d) k cs r f ∙ passed-unsplit p
 
-pub passed-open : {d rest d' rest' : Forest} (q : Token) (done : Forest) → Passed isSemicolon d rest d' rest' → work statements (openOn q done d) rest ≡ work statements (openOn q done d') rest'
+pub passed-open : {d rest d' rest' : Forest} (q : Token) (done : Forest) → Passed isSemicolon d rest d' rest'
+    → work statements (openOn q done d) rest ≡ work statements (openOn q done d') rest'
 passed-open q done here = refl
 passed-open {d = d} q done (over {rest = r} {cs = cs} {k = k} f p) =
     walk-gather (openOn q done d) k cs r f ∙ ap (λ (s : Split). work statements s r) (gather-open q done d k cs) ∙ passed-open q done p
@@ -241,10 +266,28 @@ passed-split (over {rest = r} {cs = cs} {k = k} f p) = split-past k cs r f ∙ p
 
 -- ---- a list begins
 
-plain-holds : {W X : List ℕ} {lo hi m m' : ℕ} {l : Items} {d rest : Forest} → BackArray W X (l .base) (l .write) lo m d → Ahead W X (l .base) (l .read) (l .len) m' hi rest → m ≤ m'
-    → l .write ≤ l .read → slotStart hi ≤ l .base → l .base + l .len ≤ length W → Holds statements W X lo hi (walkOf l Unsplit) (unsplit d) rest
+plain-holds : {W X : List ℕ} {lo hi m m' : ℕ} {l : Items} {d rest : Forest} → BackArray W X (l .base) (l .write) lo m d
+    → Ahead W X (l .base) (l .read) (l .len) m' hi rest → m ≤ m'
+    → l .write ≤ l .read → slotStart hi ≤ l .base → l .base + l .len ≤ length W
+    → Holds statements W X lo hi (walkOf l Unsplit) (unsplit d) rest
 plain-holds {m = m} {m' = m'} b u e t below within =
-    record { l = m; m = m'; sides = record { runs = unsplitPass; done = whole b; unread = u; agrees = tt; low = back-le (b .rep); mid = e; high = ahead-le u .0; below = below; within = within }; turning = t }
+    record {
+      l = m;
+      m = m';
+      sides =
+          record {
+            runs = unsplitPass;
+            done = whole b;
+            unread = u;
+            agrees = tt;
+            low = back-le (b .rep);
+            mid = e;
+            high = ahead-le u .0;
+            below = below;
+            within = within;
+          };
+      turning = t;
+    }
 
 module _ {W : List ℕ} {v : Items} where
   start-ahead : (g : CanStart W v) → Ahead W (g .X) (v .base) (v .read) (v .len) (g .lo) (g .hi) (g .f)
@@ -258,7 +301,8 @@ module _ {W : List ℕ} {v : Items} where
   start-none : (g : CanStart W v) → BackArray W (g .X) (v .base) (v .write) (g .lo) (g .lo) nil
   start-none g = record { ds = []; seg = tt; count = g .unwritten; rep = begins-with (le-refl (g .lo)) }
 
-  start-split : (g : CanStart W v) (q : Token) → splitOf (g .f) ≡ after q nil → Holds statements W (g .X) (g .lo) (g .hi) (walkOf v (SplitAt 0)) (after q nil) (g .f)
+  start-split : (g : CanStart W v) (q : Token) → splitOf (g .f) ≡ after q nil
+      → Holds statements W (g .X) (g .lo) (g .hi) (walkOf v (SplitAt 0)) (after q nil) (g .f)
   unfolding isNil
   start-split g q e =
       let lo = g .lo in
@@ -270,7 +314,18 @@ module _ {W : List ℕ} {v : Items} where
       record {
         l = lo;
         m = lo;
-        sides = record { runs = split; done = side; unread = ahead; agrees = e; low = le-refl lo; mid = le-refl lo; high = ahead-le ahead .0; below = g .below; within = g .within };
+        sides =
+            record {
+              runs = split;
+              done = side;
+              unread = ahead;
+              agrees = e;
+              low = le-refl lo;
+              mid = le-refl lo;
+              high = ahead-le ahead .0;
+              below = g .below;
+              within = g .within;
+            };
         turning = omega (arith, g .unwritten);
       }
 
@@ -281,7 +336,8 @@ module _ {W : List ℕ} {v : Items} where
         list = refl;
         holds = λ g.
             let e = split-some (g .f) (not-true (clear isSemicolon (g .f)) (sym (h .answer g))) in
-            subst (λ (s : Split). Holds statements W (g .X) (g .lo) (g .hi) (walkOf v (SplitAt 0)) s (g .f)) (sym (e .1)) (start-split g (e .0) (e .1));
+            subst (λ (s : Split). Holds statements W (g .X) (g .lo) (g .hi) (walkOf v (SplitAt 0)) s (g .f)) (sym (e .1))
+            (start-split g (e .0) (e .1));
       }
 
   pub started-unsplit : HasSemicolon W v false → Started W v (walkOf v Unsplit)
@@ -330,7 +386,17 @@ unsplit-level =
     record {
       covers = semicolon-class;
       sides = λ fine done ahead low mid high below within.
-          record { runs = unsplitPass; done = whole done; unread = ahead; agrees = tt; low = low; mid = mid; high = high; below = below; within = within };
+          record {
+            runs = unsplitPass;
+            done = whole done;
+            unread = ahead;
+            agrees = tt;
+            low = low;
+            mid = mid;
+            high = high;
+            below = below;
+            within = within;
+          };
       turning = λ v h. h;
       framed = λ v h. h;
       calm = λ d. refl;
@@ -344,23 +410,28 @@ unsplit-level =
 pub unsplit-stands : {T : Saying} (W : List ℕ) (v : Items) → T statements unsplit isSemicolon unasked → Standing T W v Unsplit
 unsplit-stands {T} W v t g = go (g .holds .sides .runs) (g .holds)
   where
-    side : {X : List ℕ} {lo l m hi : ℕ} {s : Split} {rest : Forest} → StatementSide W X (v .base) (v .write) lo l Unsplit s → Ahead W X (v .base) (v .read) (v .len) m hi rest
+    side : {X : List ℕ} {lo l m hi : ℕ} {s : Split} {rest : Forest} → StatementSide W X (v .base) (v .write) lo l Unsplit s
+        → Ahead W X (v .base) (v .read) (v .len) m hi rest
         → l ≤ m → v .write ≤ v .read → slotStart hi ≤ v .base → v .base + v .len ≤ length W → Stands T W v Unsplit statements X lo hi s rest
     side (whole done) ahead mid behind below within = stands unsplit-level t refl done ahead mid behind below within (g .small)
 
-    go : {κ : Kind} {X : List ℕ} {lo hi : ℕ} {s : State κ} {rest : Forest} → Runs κ Unsplit → Holds κ W X lo hi (walkOf v Unsplit) s rest → Stands T W v Unsplit κ X lo hi s rest
+    go : {κ : Kind} {X : List ℕ} {lo hi : ℕ} {s : State κ} {rest : Forest} → Runs κ Unsplit → Holds κ W X lo hi (walkOf v Unsplit) s rest
+        → Stands T W v Unsplit κ X lo hi s rest
     go unsplitPass h = side (h .sides .done) (h .sides .unread) (h .sides .mid) (h .turning) (h .sides .below) (h .sides .within)
 
 -- a semicolon would stay as it is
-pub unsplit-kept : {W W' : List ℕ} {v v' : Items} {b : ℕ} {r : Turn} → W' ≡ set W (v .base + v .write) b → v' ≡ movedTo v (v .read) (v .write + 1) → r ≡ On (walkOf v' Unsplit)
+pub unsplit-kept : {W W' : List ℕ} {v v' : Items} {b : ℕ} {r : Turn} → W' ≡ set W (v .base + v .write) b
+    → v' ≡ movedTo v (v .read) (v .write + 1) → r ≡ On (walkOf v' Unsplit)
     → TokenTurned statements unsplit isSemicolon unasked W (walkOf v Unsplit) b r W'
 unfolding count size waits
 unsplit-kept {W} {W'} e el er =
     rw (er, el)
     (record {
       to = λ g p fine.
-          goes {s' = unsplit (node (g .k) nil (g .d))} (record { owner = refl; base = refl; len = refl; classes = refl }) (item-holds unsplit-level (g .item) e refl)
-          (walk-on (unsplit (g .d)) (g .k) nil (g .rest) (unsplit (node (g .k) nil (g .d))) (unsplit-end (g .d) (g .k) p)) (omega arith) (omega arith) (omega arith);
+          goes {s' = unsplit (node (g .k) nil (g .d))} (record { owner = refl; base = refl; len = refl; classes = refl })
+          (item-holds unsplit-level (g .item) e refl)
+          (walk-on (unsplit (g .d)) (g .k) nil (g .rest) (unsplit (node (g .k) nil (g .d))) (unsplit-end (g .d) (g .k) p)) (omega arith)
+          (omega arith) (omega arith);
       within = λ g. kept-within W W' (g .item) e;
     })
 

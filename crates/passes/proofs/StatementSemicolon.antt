@@ -40,14 +40,17 @@ use Rattle.levels.specs.declared.turns.Turn.the-variants.{On, Fail}
 use Rattle.levels.proofs.Reading.{ahead-le, ahead-keep, back-array-keep}
 use Rattle.levels.proofs.Ended.{ended-le, ended-at-keep}
 use Rattle.passes.specs.Statements.{Grouped, ListMade, there, begun, CanEnd, SemicolonTo, leading, again, ended}
-use Rattle.passes.proofs.StatementLaws.{semicolon-class, step-end, walk-on, walk-stop, earliest, openOn, passed-counts, passed-open, Moved, moved-same, same-list}
+use Rattle.passes.proofs.StatementLaws.{semicolon-class, step-end, walk-on, walk-stop, earliest, openOn, passed-counts, passed-open}
+use Rattle.passes.proofs.StatementLaws.{Moved, moved-same, same-list}
 use Rattle.passes.proofs.StatementGroup.{in-order, grouped-tree, grouped-same, grouped-place, grouped-long}
-use Rattle.passes.proofs.StatementSplit.{ended-rebase, Pending, pending-passed, SplitView, splits, split-view, seek-split, split-sides, open-items}
+use Rattle.passes.proofs.StatementSplit.{ended-rebase, Pending, pending-passed, SplitView, splits, split-view, seek-split}
+use Rattle.passes.proofs.StatementSplit.{split-sides, open-items}
 
 -- ---- what `semicolon` asks
 
 -- a node laid down below the items
-give-laid : {W W' : List ℕ} {s p from n k : ℕ} {t : TokenWords} → Laid W s t k W' → slotEnd s ≤ from → CanGive W p from n → CanGive W' p from n
+give-laid : {W W' : List ℕ} {s p from n k : ℕ} {t : TokenWords} → Laid W s t k W' → slotEnd s ≤ from → CanGive W p from n
+    → CanGive W' p from n
 give-laid {W} {W'} {from = from} w h g =
     record {
       hi = g .hi;
@@ -60,23 +63,30 @@ give-laid {W} {W'} {from = from} w h g =
       room = omega (arith, w .long, g .room);
     }
 
-made-give : {W W1 : List ℕ} {l : Items} {item done : ℕ} → CanEnd W l item done → ListMade W item done W1 → done < l .write → CanGive W1 item (l .base + done) (l .write - done)
+made-give : {W W1 : List ℕ} {l : Items} {item done : ℕ} → CanEnd W l item done → ListMade W item done W1 → done < l .write
+    → CanGive W1 item (l .base + done) (l .write - done)
 made-give g (there e) h = g .give h
 made-give g (begun e w) h = give-laid w (omega (arith, g .own)) (g .give h)
 
-pub can-end-give : {W W1 : List ℕ} {l : Items} {item done : ℕ} (from : ℕ) → from ≡ done → l .write ≢ from → CanEnd W l item done → ListMade W item done W1
+pub can-end-give : {W W1 : List ℕ} {l : Items} {item done : ℕ} (from : ℕ) → from ≡ done → l .write ≢ from → CanEnd W l item done
+    → ListMade W item done W1
     → CanGive W1 item (l .base + from) (l .write - from) × (0 < l .write - from)
 can-end-give {W1 = W1} {l = l} {item = item} {done = done} from e n g m =
     let h : done < l .write = omega (arith, g .from) in
     (subst (λ (x : ℕ). CanGive W1 item (l .base + x) (l .write - x)) (sym e) (made-give g m h), omega arith)
 
-pub semicolon-ended : {W W1 W' : List ℕ} {l l' : Items} {item done : ℕ} {r : Turn} (from : ℕ) → from ≡ done → l .write ≢ from → CanEnd W l item done → ListMade W item done W1
-    → Grouped W1 item (l .base + from) (l .write - from) W' → l' ≡ movedTo l (l .read) (from + 1) → r ≡ On (walkOf l' (SplitAt (done + 1))) → SemicolonTo W l item done r W'
+pub semicolon-ended : {W W1 W' : List ℕ} {l l' : Items} {item done : ℕ} {r : Turn} (from : ℕ) → from ≡ done → l .write ≢ from
+    → CanEnd W l item done → ListMade W item done W1
+    → Grouped W1 item (l .base + from) (l .write - from) W' → l' ≡ movedTo l (l .read) (from + 1) → r ≡ On (walkOf l' (SplitAt (done + 1)))
+    → SemicolonTo W l item done r W'
 semicolon-ended {W} {W1} {W'} {l} {l'} {item} {done} {r} from e n g m w moved is =
     let h : done < l .write = omega (arith, g .from) in
-    let w' : Grouped W1 item (l .base + done) (l .write - done) W' = subst (λ (x : ℕ). Grouped W1 item (l .base + x) (l .write - x) W') e w in
+    let w' : Grouped W1 item (l .base + done) (l .write - done) W' =
+    subst (λ (x : ℕ). Grouped W1 item (l .base + x) (l .write - x) W') e w in
     let same : r ≡ On (walkOf (movedTo l (l .read) (done + 1)) (SplitAt (done + 1)))
-    = is ∙ ap (λ (x : Items). On (walkOf x (SplitAt (done + 1)))) moved ∙ ap (λ (x : ℕ). On (walkOf (movedTo l (l .read) (x + 1)) (SplitAt (done + 1)))) e in
+    =
+    is ∙ ap (λ (x : Items). On (walkOf x (SplitAt (done + 1)))) moved
+    ∙ ap (λ (x : ℕ). On (walkOf (movedTo l (l .read) (x + 1)) (SplitAt (done + 1)))) e in
     subst (λ (x : Turn). SemicolonTo W l item done x W') (sym same) (ended h m w')
 
 -- ---- the list at a semicolon
@@ -108,7 +118,8 @@ semicolon-slots {X = X} {b = b} {k = k} e t =
     let r = reserve-semicolon k (eqb-true (k .op) semicolon e) in
     (omega (arith, t .high), subst (λ (x : ℕ). OutFrom b x X) r (t .out))
 
-pub at-can-end : {W X : List ℕ} {lo hi : ℕ} {l : Items} {n b : ℕ} {q : Token} {done : Forest} → AtSemicolon W X lo hi l n b q done → CanEnd W l b n
+pub at-can-end : {W X : List ℕ} {lo hi : ℕ} {l : Items} {n b : ℕ} {q : Token} {done : Forest} → AtSemicolon W X lo hi l n b q done
+    → CanEnd W l b n
 at-can-end {W} {X} {l = l} {n = n} {b = b} v =
     let three = semicolon-slots (v .is) (v .tree) .0 in
     let al = ahead-le (v .ahead) in
@@ -142,7 +153,8 @@ unfolding isNil
 ended-some (nothing e) h = absurd (h refl)
 ended-some (statement r t o e) h = refl
 
-leads : (q : Token) (done d : Forest) (k : Token) → d ≡ nil → done ≡ nil → endStatement k (openOn q done d) ≡ stop (Message.leadingSemicolon k ∷ [])
+leads : (q : Token) (done d : Forest) (k : Token) → d ≡ nil → done ≡ nil
+    → endStatement k (openOn q done d) ≡ stop (Message.leadingSemicolon k ∷ [])
 unfolding openOn endStatement
 leads q done d k e f = rw (e, f) refl
 
@@ -177,9 +189,11 @@ list-long : {W W1 : List ℕ} {b n : ℕ} → ListMade W b n W1 → length W1 �
 list-long (there e) = refl
 list-long (begun e w) = w .long
 
-list-kept : {W W1 : List ℕ} {b n : ℕ} (X : List ℕ) (lo hi : ℕ) → ListMade W b n W1 → lo ≤ b → b + 3 ≤ hi → OutFrom b 3 X → (j : ℕ) → Free X lo hi j → wd W1 j ≡ wd W j
+list-kept : {W W1 : List ℕ} {b n : ℕ} (X : List ℕ) (lo hi : ℕ) → ListMade W b n W1 → lo ≤ b → b + 3 ≤ hi → OutFrom b 3 X → (j : ℕ)
+    → Free X lo hi j → wd W1 j ≡ wd W j
 list-kept X lo hi (there e) low high out j f = refl
-list-kept {b = b} X lo hi (begun e w) low high out j f = laid-kept X lo hi w (omega arith) (omega arith) (out (b + 2) (omega arith) (omega arith)) j f
+list-kept {b = b} X lo hi (begun e w) low high out j f =
+    laid-kept X lo hi w (omega arith) (omega arith) (out (b + 2) (omega arith) (omega arith)) j f
 
 -- a free word is none of the slot's
 pub beside-slot : (X : List ℕ) (lo hi b j : ℕ) → lo ≤ b → b < hi → Out b X → Free X lo hi j → (j < slotStart b) ⊎ (slotEnd b ≤ j)
@@ -215,7 +229,8 @@ module _ {W W1 W' X : List ℕ} {base n write lo m a top b c : ℕ} {q k t : Tok
       let three = semicolon-slots is tree .0 in
       let tl = tree .low in
       let ml = back-le (items .rep) in
-      grouped-tree g items-made (inr tl) (le-refl m) (omega arith) (omega arith) (omega arith) (omega arith) (tree .pos) (tree-out tree) (omega (arith, list-long made))
+      grouped-tree g items-made (inr tl) (le-refl m) (omega arith) (omega arith) (omega arith) (omega arith) (tree .pos) (tree-out tree)
+      (omega (arith, list-long made))
 
   ended-before : EndedAt W' X base n lo m q done
   ended-before =
@@ -230,10 +245,12 @@ module _ {W W1 W' X : List ℕ} {base n write lo m a top b c : ℕ} {q k t : Tok
       let three = semicolon-slots is tree .0 in
       let tl = tree .low in
       let ml = back-le (items .rep) in
-      grouped-place {lo = m} {hi = top} g items-made (inr tl) (le-refl m) (omega arith) (omega arith) (omega arith) (omega arith) (omega (arith, list-long made))
+      grouped-place {lo = m} {hi = top} g items-made (inr tl) (le-refl m) (omega arith) (omega arith) (omega arith) (omega arith)
+      (omega (arith, list-long made))
 
   -- the list's own node
-  list-token : (rest : Forest) → n < write → Pending q done (node k nil rest) → (n ≢ 0) ⊎ ((n ≡ 0) × Made W (b + 2) semicolon b W1) → TokenAt W' (wd W' base + 2) q
+  list-token : (rest : Forest) → n < write → Pending q done (node k nil rest) → (n ≢ 0) ⊎ ((n ≡ 0) × Made W (b + 2) semicolon b W1)
+      → TokenAt W' (wd W' base + 2) q
   unfolding isNil
   list-token rest h p (inl e) = ended-before .list (ended-some (v .rep) (λ z. e (v .count ∙ z)))
   list-token rest h p (inr (e, w)) =
@@ -250,7 +267,8 @@ module _ {W W1 W' X : List ℕ} {base n write lo m a top b c : ℕ} {q k t : Tok
       (free-beside X m a (b + 2) o (omega arith) (inr (omega arith)))) token in
       rw own (subst (λ (x : ℕ). TokenAt W' (x + 2) (bare semicolon k)) here token')
 
-  pub ended-more : (rest : Forest) → n < write → Pending q done (node k nil rest) → EndedAt W' X base (n + 1) lo top q (node (bare semicolon (earliest t d)) (inOrder (node t ts d)) done)
+  pub ended-more : (rest : Forest) → n < write → Pending q done (node k nil rest)
+      → EndedAt W' X base (n + 1) lo top q (node (bare semicolon (earliest t d)) (inOrder (node t ts d)) done)
   ended-more rest h p =
       let three = semicolon-slots is tree in
       let before = ended-before in
@@ -262,12 +280,14 @@ module _ {W W1 W' X : List ℕ} {base n write lo m a top b c : ℕ} {q k t : Tok
         list = λ e. list-token rest h p (list-cases made);
       }
 
-  pub ended-ahead : {hi read len : ℕ} {rest : Forest} → slotStart hi ≤ base → write < read → Ahead W X base read len top hi rest → Ahead W' X base read len top hi rest
+  pub ended-ahead : {hi read len : ℕ} {rest : Forest} → slotStart hi ≤ base → write < read → Ahead W X base read len top hi rest
+      → Ahead W' X base read len top hi rest
   ended-ahead below' r u =
       let three = semicolon-slots is tree .0 in
       let tl = tree .low in
       let ml = back-le (items .rep) in
-      ahead-keep W W' (λ s o x y z p. ended-same (slotStart s + o) (omega arith) (inr (omega arith)) (free-beside X m a s o z (inr (omega arith))))
+      ahead-keep W W'
+      (λ s o x y z p. ended-same (slotStart s + o) (omega arith) (inr (omega arith)) (free-beside X m a s o z (inr (omega arith))))
       (λ j x y. ended-same j (omega arith) (inr (omega arith)) (free-above X m a j (omega arith))) u
 
 -- ---- the turn
@@ -279,17 +299,21 @@ pub record Stopped (W X : List ℕ) (lo hi : ℕ) (l l' : Items) (n b : ℕ) (q 
   pub moved : Moved l l'
 
 module _ {W W' X : List ℕ} {lo hi n b : ℕ} {l l' : Items} (small : length W < 2 ^ 32) (g : Sought W l 0x2 (Leaf l' b) W') where
-  stopped : {q : Token} {done d rest : Forest} {m m' m'' c : ℕ} → EndedAt W X (l .base) n lo m q done → BackArray W X (l .base + n) c m m' d → n + c ≡ l .write
-      → Ahead W X (l .base) (l .read) (l .len) m'' hi rest → m' ≤ m'' → Pending q done rest → l .write ≤ l .read → slotStart hi ≤ l .base → l .base + l .len ≤ length W
+  stopped : {q : Token} {done d rest : Forest} {m m' m'' c : ℕ} → EndedAt W X (l .base) n lo m q done → BackArray W X (l .base + n) c m m' d
+      → n + c ≡ l .write
+      → Ahead W X (l .base) (l .read) (l .len) m'' hi rest → m' ≤ m'' → Pending q done rest → l .write ≤ l .read → slotStart hi ≤ l .base
+      → l .base + l .len ≤ length W
       → Stopped W' X lo hi l l' n b q done d rest
-  stopped {q = q} {done = done} {d = d} {rest = rest} {m = m} v w e u le p t below within = go (g .to (seek-split v w e u le t below within small) isSemicolon semicolon-class)
+  stopped {q = q} {done = done} {d = d} {rest = rest} {m = m} v w e u le p t below within =
+      go (g .to (seek-split v w e u le t below within small) isSemicolon semicolon-class)
     where
       go : SoughtTo W' X l (l .base + n) m hi isSemicolon d rest (Leaf l' b) → Stopped W' X lo hi l l' n b q done d rest
       go (leaf {d' = d'} {rest' = rest'} {a = a} {m = top} {k = k} moved before passed is tree seen) =
           let mv : Moved l l' = moved-same moved in
           let mb = mv .base in let ml = mv .len in let long = g .long in
           let bl = back-le (w .rep) in let al = ahead-le u in
-          let kept = ended-at-keep W W' (λ s o x y z w. g .same (slotStart s + o) (inl (omega arith))) (λ j x y. g .same j (inl (omega arith))) v in
+          let kept =
+          ended-at-keep W W' (λ s o x y z w. g .same (slotStart s + o) (inl (omega arith))) (λ j x y. g .same j (inl (omega arith))) v in
           record {
             at =
                 record {
@@ -316,7 +340,8 @@ module _ {W W' X : List ℕ} {lo hi n b : ℕ} {l l' : Items} (small : length W 
             moved = mv;
           }
 
-turn-leading : {W X : List ℕ} {lo hi n b : ℕ} {l l' : Items} {q : Token} {done d rest : Forest} → Stopped W X lo hi l l' n b q done d rest → l' .write ≡ 0
+turn-leading : {W X : List ℕ} {lo hi n b : ℕ} {l l' : Items} {q : Token} {done d rest : Forest} → Stopped W X lo hi l l' n b q done d rest
+    → l' .write ≡ 0
     → TurnTo statements W X lo hi (walkOf l (SplitAt n)) (openOn q done d) rest (Fail (LeadingSemicolon b))
 turn-leading {q = q} {done = done} v h =
     let at = v .at in
@@ -326,7 +351,8 @@ turn-leading {q = q} {done = done} v h =
     (passed-open q done (v .passed) ∙ walk-stop (openOn q done (at .d)) (at .k) nil (at .rest) (Message.leadingSemicolon (at .k) ∷ [])
     (step-end (openOn q done (at .d)) (at .k) (at .is) ∙ leads q done (at .d) (at .k) none none'))
 
-turn-again : {W X : List ℕ} {lo hi n b : ℕ} {l l' : Items} {q : Token} {done d rest : Forest} → Stopped W X lo hi l l' n b q done d rest → l' .write ≢ 0 → l' .write ≡ n
+turn-again : {W X : List ℕ} {lo hi n b : ℕ} {l l' : Items} {q : Token} {done d rest : Forest} → Stopped W X lo hi l l' n b q done d rest
+    → l' .write ≢ 0 → l' .write ≡ n
     → TurnTo statements W X lo hi (walkOf l (SplitAt n)) (openOn q done d) rest (On (walkOf l' (SplitAt n)))
 unfolding waits count size
 turn-again {n = n} {l' = l'} {q = q} {done = done} v h e =
@@ -339,7 +365,8 @@ turn-again {n = n} {l' = l'} {q = q} {done = done} v h e =
       l = at .a;
       m = at .top;
       sides =
-          split-sides {c = at .c} (at .d) (at .before) (at .items) (at .reached) (at .ahead) (omega (arith, at .tree .low, tree-below (at .tree)))
+          split-sides {c = at .c} (at .d) (at .before) (at .items) (at .reached) (at .ahead)
+          (omega (arith, at .tree .low, tree-below (at .tree)))
           (λ z. absurd (true≢false (sym z ∙ some'))) (at .below) (at .within);
       turning = omega (arith, at .read);
     })
@@ -347,9 +374,11 @@ turn-again {n = n} {l' = l'} {q = q} {done = done} v h e =
     (step-end (openOn q done (at .d)) (at .k) (at .is) ∙ repeats q done (at .d) (at .k) none some'))
     (omega (arith, c .0)) (omega (arith, c .1)) (omega (arith, c .2))
 
-module _ {W W1 W' X : List ℕ} {lo hi n b : ℕ} {l l' : Items} {q : Token} {done d rest : Forest} (v : Stopped W X lo hi l l' n b q done d rest)
+module _ {W W1 W' X : List ℕ} {lo hi n b : ℕ} {l l' : Items} {q : Token} {done d rest : Forest}
+    (v : Stopped W X lo hi l l' n b q done d rest)
     (h : n < l' .write) (made : ListMade W b n W1) (g : Grouped W1 b (l' .base + n) (l' .write - n) W') where
-  ended-turn : (f : Forest) → v .at .d ≡ f → TurnTo statements W' X lo hi (walkOf l (SplitAt n)) (openOn q done d) rest (On (walkOf (movedTo l' (l' .read) (n + 1)) (SplitAt (n + 1))))
+  ended-turn : (f : Forest) → v .at .d ≡ f
+      → TurnTo statements W' X lo hi (walkOf l (SplitAt n)) (openOn q done d) rest (On (walkOf (movedTo l' (l' .read) (n + 1)) (SplitAt (n + 1))))
   unfolding waits count size isNil
   ended-turn nil e = absurd (omega (arith, v .at .items .count, back-count (v .at .items .rep), v .at .reached, ap count e))
   ended-turn (node t ts f) e =
@@ -359,9 +388,12 @@ module _ {W W1 W' X : List ℕ} {lo hi n b : ℕ} {l l' : Items} {q : Token} {do
       let read = at .read in let within = at .within in let below = at .below in
       let top = at .top in
       let on-list = movedTo l' (l' .read) (n + 1) in
-      let items : BackArray W X (l' .base + n) (at .c) (at .m) (at .a) (node t ts f) = subst (λ (x : Forest). BackArray W X (l' .base + n) (at .c) (at .m) (at .a) x) e (at .items) in
-      let finished = ended-more (at .before) items (at .reached) (at .tree) (at .is) made g (omega arith) (omega arith) (at .rest) h (at .pending) in
-      let ahead = ended-ahead (at .before) items (at .reached) (at .tree) (at .is) made g (omega arith) (omega arith) below read (at .ahead) in
+      let items : BackArray W X (l' .base + n) (at .c) (at .m) (at .a) (node t ts f) =
+      subst (λ (x : Forest). BackArray W X (l' .base + n) (at .c) (at .m) (at .a) x) e (at .items) in
+      let finished =
+      ended-more (at .before) items (at .reached) (at .tree) (at .is) made g (omega arith) (omega arith) (at .rest) h (at .pending) in
+      let ahead =
+      ended-ahead (at .before) items (at .reached) (at .tree) (at .is) made g (omega arith) (omega arith) below read (at .ahead) in
       let s' = openOn q (node (bare semicolon (earliest t f)) (inOrder (node t ts f)) done) nil in
       goes {w' = walkOf on-list (SplitAt (n + 1))} {s' = s'} {rest' = at .rest}
       (same-list (SplitAt n) (SplitAt (n + 1)) refl (record { owner = v .moved .owner; base = v .moved .base; len = v .moved .len }))
@@ -369,7 +401,8 @@ module _ {W W1 W' X : List ℕ} {lo hi n b : ℕ} {l l' : Items} {q : Token} {do
         l = top;
         m = top;
         sides =
-            split-sides {c = 0} {l = on-list} nil finished (record { ds = []; seg = tt; count = refl; rep = begins-with (le-refl top) }) (omega arith) ahead (le-refl top)
+            split-sides {c = 0} {l = on-list} nil finished (record { ds = []; seg = tt; count = refl; rep = begins-with (le-refl top) })
+            (omega arith) ahead (le-refl top)
             (λ z. absurd (true≢false (sym z))) below (omega (arith, grouped-long g, list-long made));
         turning = omega arith;
       })
@@ -377,7 +410,8 @@ module _ {W W1 W' X : List ℕ} {lo hi n b : ℕ} {l l' : Items} {q : Token} {do
       (step-end (openOn q done (at .d)) (at .k) (at .is) ∙ ap (λ (x : Forest). endStatement (at .k) (openOn q done x)) e ∙ ends-open q done t ts f (at .k)))
       (omega (arith, c .0)) (omega (arith, c .1)) (omega (arith, c .2))
 
-  ended-within : (f : Forest) → v .at .d ≡ f → ((j : ℕ) → Free X lo hi j → (j < l .base) ⊎ (l .base + l .len ≤ j) → wd W' j ≡ wd W j) × (length W' ≡ length W)
+  ended-within : (f : Forest) → v .at .d ≡ f
+      → ((j : ℕ) → Free X lo hi j → (j < l .base) ⊎ (l .base + l .len ≤ j) → wd W' j ≡ wd W j) × (length W' ≡ length W)
   unfolding count
   ended-within nil e = absurd (omega (arith, v .at .items .count, back-count (v .at .items .rep), v .at .reached, ap count e))
   ended-within (node t ts f) e =
@@ -390,38 +424,46 @@ module _ {W W1 W' X : List ℕ} {lo hi n b : ℕ} {l l' : Items} {q : Token} {do
       let high = three .0 in
       let items : BackArray W X (l' .base + n) (at .c) (at .m) (at .a) (node t ts f) = subst (λ (x : Forest). BackArray W X (l' .base + n) (at .c) (at .m) (at .a) x) e (at .items) in (
         λ j p o.
-            grouped-same {lo = at .m} {hi = at .top} g (items-made (at .before) items (at .reached) (at .tree) (at .is) made g (omega arith) (omega arith)) (inr tl) (le-refl (at .m)) (omega arith)
-            (omega arith) (omega arith) (omega arith) j (⊎-elim (λ x. omega arith) (λ x. omega arith) o) (beside-slot X lo hi b j (omega arith) (omega arith) (three .1 b (omega arith) (omega arith)) p)
+            grouped-same {lo = at .m} {hi = at .top} g
+            (items-made (at .before) items (at .reached) (at .tree) (at .is) made g (omega arith) (omega arith)) (inr tl) (le-refl (at .m))
+            (omega arith)
+            (omega arith) (omega arith) (omega arith) j (⊎-elim (λ x. omega arith) (λ x. omega arith) o)
+            (beside-slot X lo hi b j (omega arith) (omega arith) (three .1 b (omega arith) (omega arith)) p)
             (free-part X lo hi (at .m) (at .a) j (omega arith) (omega arith) p)
             ∙ list-kept X lo hi made (omega arith) (omega arith) (three .1) j p,
         grouped-long g ∙ list-long made,
       )
 
-stopped-turn : {W W' X : List ℕ} {lo hi n b : ℕ} {l l' : Items} {q : Token} {done d rest : Forest} {r : Turn} → Stopped W X lo hi l l' n b q done d rest → SemicolonTo W l' b n r W'
+stopped-turn : {W W' X : List ℕ} {lo hi n b : ℕ} {l l' : Items} {q : Token} {done d rest : Forest} {r : Turn}
+    → Stopped W X lo hi l l' n b q done d rest → SemicolonTo W l' b n r W'
     → TurnTo statements W' X lo hi (walkOf l (SplitAt n)) (openOn q done d) rest r
 stopped-turn v (leading h) = turn-leading v h
 stopped-turn v (again h e) = turn-again v h e
 stopped-turn v (ended h made g) = ended-turn v h made g (v .at .d) refl
 
 -- what it changes
-stopped-within : {W W' X : List ℕ} {lo hi n b : ℕ} {l l' : Items} {q : Token} {done d rest : Forest} {r : Turn} → Stopped W X lo hi l l' n b q done d rest → SemicolonTo W l' b n r W'
+stopped-within : {W W' X : List ℕ} {lo hi n b : ℕ} {l l' : Items} {q : Token} {done d rest : Forest} {r : Turn}
+    → Stopped W X lo hi l l' n b q done d rest → SemicolonTo W l' b n r W'
     → ((j : ℕ) → Free X lo hi j → (j < l .base) ⊎ (l .base + l .len ≤ j) → wd W' j ≡ wd W j) × (length W' ≡ length W)
 stopped-within v (leading h) = (λ j f o. refl, refl)
 stopped-within v (again h e) = (λ j f o. refl, refl)
 stopped-within v (ended h made g) = ended-within v h made g (v .at .d) refl
 
 module _ {W W' : List ℕ} {l l' : Items} {n b : ℕ} (g : Sought W l 0x2 (Leaf l' b) W') where
-  split-can-end : {X : List ℕ} {lo hi : ℕ} {κ : Kind} {s : State κ} {rest : Forest} → length W < 2 ^ 32 → SplitView W X lo hi l n κ s rest → CanEnd W' l' b n
+  split-can-end : {X : List ℕ} {lo hi : ℕ} {κ : Kind} {s : State κ} {rest : Forest} → length W < 2 ^ 32 → SplitView W X lo hi l n κ s rest
+      → CanEnd W' l' b n
   split-can-end small (splits v w e u le p t below within) = at-can-end (stopped small g v w e u le p t below within .at)
 
   pub can-end : CanTurn W (walkOf l (SplitAt n)) → CanEnd W' l' b n
   can-end h = split-can-end (h .small) (split-view (h .holds))
 
-  split-semicolon : {X : List ℕ} {lo hi : ℕ} {κ : Kind} {s : State κ} {rest : Forest} {r : Turn} {W'' : List ℕ} → length W < 2 ^ 32 → SemicolonTo W' l' b n r W'' → SplitView W X lo hi l n κ s rest
+  split-semicolon : {X : List ℕ} {lo hi : ℕ} {κ : Kind} {s : State κ} {rest : Forest} {r : Turn} {W'' : List ℕ} → length W < 2 ^ 32
+      → SemicolonTo W' l' b n r W'' → SplitView W X lo hi l n κ s rest
       → TurnTo κ W'' X lo hi (walkOf l (SplitAt n)) s rest r
   split-semicolon small i (splits v w e u le p t below within) = stopped-turn (stopped small g v w e u le p t below within) i
 
-  semicolon-within : {X : List ℕ} {lo hi : ℕ} {κ : Kind} {s : State κ} {rest : Forest} {r : Turn} {W'' : List ℕ} → length W < 2 ^ 32 → SemicolonTo W' l' b n r W'' → SplitView W X lo hi l n κ s rest
+  semicolon-within : {X : List ℕ} {lo hi : ℕ} {κ : Kind} {s : State κ} {rest : Forest} {r : Turn} {W'' : List ℕ} → length W < 2 ^ 32
+      → SemicolonTo W' l' b n r W'' → SplitView W X lo hi l n κ s rest
       → Within W W'' X lo hi l
   semicolon-within small i (splits v w e u le p t below within) =
       let z = stopped-within (stopped small g v w e u le p t below within) i in
@@ -429,4 +471,7 @@ module _ {W W' : List ℕ} {l l' : Items} {n b : ℕ} (g : Sought W l 0x2 (Leaf 
 
   pub turned-split-semicolon : {r : Turn} {W'' : List ℕ} → SemicolonTo W' l' b n r W'' → Turned W (walkOf l (SplitAt n)) r W''
   turned-split-semicolon i =
-      record { to = λ h. split-semicolon (h .small) i (split-view (h .holds)); within = λ h. semicolon-within (h .small) i (split-view (h .holds)) }
+      record {
+        to = λ h. split-semicolon (h .small) i (split-view (h .holds));
+        within = λ h. semicolon-within (h .small) i (split-view (h .holds));
+      }

@@ -1,5 +1,5 @@
--- The unary pass from the right, as an equation between what is left of it before and after each step of the code: an item without a prefix operator
--- is passed over, a node is entered, and a minus or a not takes the next done tree, by what stands before it.
+-- The unary pass from the right, as an equation between what is left of it before and after each step of the code: an item without a prefix
+-- operator is passed over, a node is entered, and a minus or a not takes the next done tree, by what stands before it.
 use mathlib.Core.Path.{_≡_, refl, sym, ap, _∙_}
 use mathlib.Core.Bool.{Bool, true, false, _||_, true≢false}
 use mathlib.Core.List.{[], _∷_}
@@ -32,7 +32,8 @@ pub at-tree : (k : Token) (cs d left : Forest) → isNil cs ≡ false
 unfolding isNil work takes turned inReading pass passOf apply begins
 at-tree k nil d left e = absurd (true≢false e)
 at-tree k (node c cs r) d left e =
-    at-node false k c cs r d left ∙ ap (λ (u : Result). andThen u (λ kids. fromRight (right false (node k kids d)) left)) (pass-begins unaryMinusAndNot (node c cs r))
+    at-node false k c cs r d left
+    ∙ ap (λ (u : Result). andThen u (λ kids. fromRight (right false (node k kids d)) left)) (pass-begins unaryMinusAndNot (node c cs r))
 
 -- An item without a minus or a not stays as it is.
 kept-node : (k c : Token) (cs r d left : Forest) → unary none (node c cs r) ≡ done false (node c cs r)
@@ -40,7 +41,8 @@ kept-node : (k c : Token) (cs r d left : Forest) → unary none (node c cs r) �
 unfolding unaryPass andThen
 kept-node k c cs r d left e = rw (e, unaryPass, andThen) refl
 
-pub passed-over : (k : Token) (cs d left : Forest) → free isPrefix (node k cs nil) ≡ true → fromRight (right false d) (node k cs left) ≡ fromRight (right false (node k cs d)) left
+pub passed-over : (k : Token) (cs d left : Forest) → free isPrefix (node k cs nil) ≡ true
+    → fromRight (right false d) (node k cs left) ≡ fromRight (right false (node k cs d)) left
 unfolding leftOf unaryLeaf isPrefix turned
 passed-over k nil d left h =
     let o = or-neither (eqb (k .op) Operator.negate) (eqb (k .op) Operator.logicalNot) (free-leaf isPrefix k nil h .0) in
@@ -65,7 +67,8 @@ module _ (k : Token) (e : k .op ≡ Operator.negate) where
   minus-alone left = at-minus nil left
 
   -- at the start of the list
-  pub minus-first : (n : Token) (ns r : Forest) → fromRight (right false (node n ns r)) (node k nil nil) ≡ fromRight (right false (node k (node n ns nil) r)) nil
+  pub minus-first : (n : Token) (ns r : Forest)
+      → fromRight (right false (node n ns r)) (node k nil nil) ≡ fromRight (right false (node k (node n ns nil) r)) nil
   unfolding minusAfter leftOf before
   minus-first n ns r = at-minus (node n ns r) nil
 
@@ -111,13 +114,15 @@ module _ (k : Token) (h : isPrefix (k .op) ≡ true) (e : k .op ≡ Operator.neg
   at-not d left =
       let other = ne-eqb (k .op) Operator.negate e in
       at-leaf false k d left
-      ∙ ap (leftOf left) (rw (other, unaryLeaf) (rw (prefix-not (eqb (k .op) Operator.negate) (eqb (k .op) Operator.logicalNot) h other) refl))
+      ∙ ap (leftOf left)
+      (rw (other, unaryLeaf) (rw (prefix-not (eqb (k .op) Operator.negate) (eqb (k .op) Operator.logicalNot) h other) refl))
 
   pub not-alone : (left : Forest) → fromRight (right false nil) (node k nil left) ≡ fail (notWithoutOperand k ∷ [])
   unfolding notBefore leftOf
   not-alone left = at-not nil left
 
-  pub not-takes : (n : Token) (ns r left : Forest) → fromRight (right false (node n ns r)) (node k nil left) ≡ fromRight (right false (node k (node n ns nil) r)) left
+  pub not-takes : (n : Token) (ns r left : Forest)
+      → fromRight (right false (node n ns r)) (node k nil left) ≡ fromRight (right false (node k (node n ns nil) r)) left
   unfolding notBefore leftOf
   not-takes n ns r left = at-not (node n ns r) left
 
@@ -126,7 +131,8 @@ module _ (k : Token) (h : isPrefix (k .op) ≡ true) (e : k .op ≡ Operator.neg
 pub moved-none : (d rest : Forest) → Moved d rest d rest
 moved-none d rest = record { same = refl; fewer = omega arith; smaller = omega arith }
 
-pub moved-more : {d rest d' : Forest} (k : Token) (cs rest' : Forest) → Moved d rest d' (node k cs rest') → free isPrefix (node k cs nil) ≡ true → Moved d rest (node k cs d') rest'
+pub moved-more : {d rest d' : Forest} (k : Token) (cs rest' : Forest) → Moved d rest d' (node k cs rest')
+    → free isPrefix (node k cs nil) ≡ true → Moved d rest (node k cs d') rest'
 unfolding count size
 moved-more {d' = d'} k cs rest' m h =
     let fewer = m .fewer in

@@ -1,5 +1,5 @@
--- A minus or a not takes its operand: what `prefix`, `to_add` and `subtract` do to the words, said of the list's trees, and the turn that each path of
--- `token` and `minus` is.
+-- A minus or a not takes its operand: what `prefix`, `to_add` and `subtract` do to the words, said of the list's trees, and the turn that
+-- each path of `token` and `minus` is.
 use Rattle.words.specs.Fields.{withOperator}
 use Prim.Native.Nat.{ℕ, _+_, _-_, _^_, _≤_, _<_}
 use mathlib.Core.Path.{_≡_, refl, sym, ap, _∙_, subst}
@@ -20,7 +20,8 @@ use Rattle.ops.specs.Classes.{passClasses, ownClasses, inClass, bitAt}
 use Rattle.ops.specs.Operators.{meant}
 use Rattle.ops.specs.declared.BeforeMinus.{BeforeMinus as Before}
 use Rattle.ops.proofs.OperatorLaws.{agree-at}
-use Rattle.nodes.specs.Store.{wd, slotWords, nextField, classesField, slotStart, slotEnd, firstWord, classesWord, operatorWordAt, firstAt, TokenAt, reserve, Out, RepT, Free}
+use Rattle.nodes.specs.Store.{wd, slotWords, nextField, classesField, slotStart, slotEnd, firstWord, classesWord, operatorWordAt, firstAt}
+use Rattle.nodes.specs.Store.{TokenAt, reserve, Out, RepT, Free}
 use Rattle.nodes.specs.Slots.{opAt, isLeafAt, Made}
 use Rattle.nodes.specs.declared.frames.List.{List as Items}
 use Rattle.nodes.proofs.Runs.{set-same, set-other, set-long}
@@ -39,24 +40,28 @@ use Rattle.levels.specs.declared.turns.Turn.{Turn}
 use Rattle.levels.specs.declared.turns.Turn.the-variants.{On, Fail}
 use Rattle.levels.proofs.Reading.{AheadTo, item, ahead-item, ahead-end, array-put, back-array-keep, ahead-keep, ahead-le, same-within}
 use Rattle.passes.specs.Unary.{RightList, CanTakeToken, CanTakeMinus, TokenTaken, CanPrefix, Prefixed, Added, CanSubtract, Subtracted}
-use Rattle.passes.proofs.UnaryLaws.{minus-alone, minus-first, minus-operator, minus-operand, minus-minus, minus-unknown, not-alone, not-takes}
+use Rattle.passes.proofs.UnaryLaws.{minus-alone, minus-first, minus-operator, minus-operand, minus-minus, minus-unknown, not-alone}
+use Rattle.passes.proofs.UnaryLaws.{not-takes}
 use Rattle.passes.proofs.UnaryRight.{LastUnread, last, unread-last, unread-none, ahead-cons, right-holds}
 
 -- ---- `prefix`
 
 -- The operator o at q stands over the first done tree, in the slots from a on.
 data TakenUnder (W' X : List ℕ) (lo l a hi : ℕ) (v : Items) (o : Token) (rest : Forest) : Forest → Type 0 where
-  under : {n : Token} {ns r : Forest} → RightList W' X lo l a hi v (node o (node n ns nil) r) rest → TakenUnder W' X lo l a hi v o rest (node n ns r)
+  under : {n : Token} {ns r : Forest} → RightList W' X lo l a hi v (node o (node n ns nil) r) rest
+      → TakenUnder W' X lo l a hi v o rest (node n ns r)
 
 prefix-long : {W W' : List ℕ} {at q : ℕ} → Prefixed W at q W' → length W' ≡ length W
 prefix-long {W' = W'} {at = at} {q = q} w = set-long (w .Z) W' at q (w .stored) ∙ w .attached .long
 
-module _ {W W' X : List ℕ} {lo l m hi a q : ℕ} {v : Items} {d rest : Forest} (list : RightList W X lo l m hi v d rest) (w : Prefixed W (v .base + v .write) q W')
+module _ {W W' X : List ℕ} {lo l m hi a q : ℕ} {v : Items} {d rest : Forest} (list : RightList W X lo l m hi v d rest)
+    (w : Prefixed W (v .base + v .write) q W')
     (out : Out q X) (low : l ≤ a) (own : a ≤ q) (high : q < m) (full : v .write < v .len) (gap : v .read ≤ v .write) where
   prefix-right : {o : Token} → TokenAt W q o → 0 < q → TakenUnder W' X lo l a hi v o rest d
   prefix-right {o} token pos = go (ahead-item (wd W (v .base + v .write)) refl full (list .done))
     where
-      go : {f : Forest} → AheadTo W X (v .base) (v .write) (v .len) m hi (wd W (v .base + v .write)) f → TakenUnder W' X lo l a hi v o rest f
+      go : {f : Forest} → AheadTo W X (v .base) (v .write) (v .len) m hi (wd W (v .base + v .write)) f
+          → TakenUnder W' X lo l a hi v o rest f
       go (item {a = c} {m = e} {k = n} {cs = ns} {rest = r} from t more) =
           let at = v .base + v .write in
           let b = wd W at in
@@ -69,15 +74,20 @@ module _ {W W' X : List ℕ} {lo l m hi a q : ℕ} {v : Items} {d rest : Forest}
           let be = tree-below t in
           let long = prefix-long w in
           let beside : RepT W (q ∷ X) b c e n ns = tree-under q (inl (omega arith)) t in
-          let taken : RepT Z X q a e o (node n ns nil) = attach-tree (w .attached) beside token pos out own (omega arith) (omega arith) (le-refl e) in
+          let taken : RepT Z X q a e o (node n ns nil) =
+          attach-tree (w .attached) beside token pos out own (omega arith) (omega arith) (le-refl e) in
           let taken' : RepT W' X q a e o (node n ns nil) = tree-keep Z W' (λ s i x y z u j. stored (slotStart s + i) (omega arith)) taken in
           let slots : (s i : ℕ) → s < hi → i < slotWords → s ≢ q → s ≢ b → wd W' (slotStart s + i) ≡ wd W (slotStart s + i)
-          = λ s i x y z u. stored (slotStart s + i) (omega arith) ∙ w .attached .same (slotStart s + i) (omega arith) (omega arith) (omega arith) in
+          =
+          λ s i x y z u.
+          stored (slotStart s + i) (omega arith) ∙ w .attached .same (slotStart s + i) (omega arith) (omega arith) (omega arith) in
           let words : (j : ℕ) → v .base ≤ j → j ≢ at → wd W' j ≡ wd W j
           = λ j x y. stored j y ∙ w .attached .same j (omega arith) (omega arith) (omega arith) in
           under
           (record {
-            unread = back-array-keep W W' (λ s i x y z u. slots s i (omega arith) z (omega arith) (omega arith)) (λ j x y. words j x (omega arith)) (list .unread);
+            unread =
+                back-array-keep W W' (λ s i x y z u. slots s i (omega arith) z (omega arith) (omega arith))
+                (λ j x y. words j x (omega arith)) (list .unread);
             done = ahead-cons (le-refl a) taken' (set-same Z W' at q (w .stored) (omega (arith, w .attached .long)))
                 (ahead-keep W W' (λ s i x y z u. slots s i y z (omega arith) (omega arith)) (λ j x y. words j (omega arith) (omega arith)) more);
             mid = low;
@@ -105,14 +115,18 @@ add-bits : (i : ℕ) → i < 32 → bitAt 0x40_0080 i ≡ inClass i Operator.add
 unfolding bitAt inClass passClasses ownClasses isOneOf any isQueryOrLoop isMathCall Operator.between
 add-bits i h = agree-at (bitAt 0x40_0080) (λ j. inClass j Operator.add) 32 tt i h
 
-added-token : {W W' : List ℕ} {s : ℕ} {k : Token} → Added W s W' → slotEnd s ≤ length W → TokenAt W s k → TokenAt W' s (renamed Operator.add k)
+added-token : {W W' : List ℕ} {s : ℕ} {k : Token} → Added W s W' → slotEnd s ≤ length W → TokenAt W s k
+    → TokenAt W' s (renamed Operator.add k)
 added-token {W} {W'} {s} w room t =
-    token-keep (w .Z) W' s (λ i h. w .same (slotStart s + i) (omega arith)) (token-renamed W (w .Z) s Operator.add (w .renamed) room (omega arith) t)
+    token-keep (w .Z) W' s (λ i h. w .same (slotStart s + i) (omega arith))
+    (token-renamed W (w .Z) s Operator.add (w .renamed) room (omega arith) t)
 
 added-same : {W W' : List ℕ} {s : ℕ} → Added W s W' → (j : ℕ) → j ≢ slotStart s → j ≢ classesWord s → wd W' j ≡ wd W j
-added-same {W} {W'} {s} w j a b = w .same j b ∙ set-other W (w .Z) (slotStart s) (withOperator (operatorWordAt W s) Operator.add) (w .renamed) j a
+added-same {W} {W'} {s} w j a b =
+    w .same j b ∙ set-other W (w .Z) (slotStart s) (withOperator (operatorWordAt W s) Operator.add) (w .renamed) j a
 
-added-leaf : {W W' X : List ℕ} {s l m : ℕ} {k : Token} → Added W s W' → slotEnd s ≤ length W → TokenAt W s k → firstAt W s ≡ 0 → 0 < s → Out s X → l ≤ s → s < m
+added-leaf : {W W' X : List ℕ} {s l m : ℕ} {k : Token} → Added W s W' → slotEnd s ≤ length W → TokenAt W s k → firstAt W s ≡ 0 → 0 < s
+    → Out s X → l ≤ s → s < m
     → RepT W' X s l m (renamed Operator.add k) nil
 unfolding renamed reserve
 added-leaf {W} {W'} {X} {s} {l} {m} w room t none pos out low high =
@@ -122,12 +136,14 @@ added-leaf {W} {W'} {X} {s} {l} {m} w room t none pos out low high =
     (added-same w (firstWord s) (omega arith) (omega arith) ∙ none)
 
 -- a tree, leaf or not
-added-tree : {W W' X : List ℕ} {s l m : ℕ} {k : Token} (ks : Forest) → Added W s W' → slotEnd s ≤ length W → RepT W X s l m k ks → RepT W' X s l m (renamed Operator.add k) ks
+added-tree : {W W' X : List ℕ} {s l m : ℕ} {k : Token} (ks : Forest) → Added W s W' → slotEnd s ≤ length W → RepT W X s l m k ks
+    → RepT W' X s l m (renamed Operator.add k) ks
 unfolding reserve isNil
 added-tree nil w room t = added-leaf w room (t .token) (leaf-first t) (t .pos) (tree-out t) (t .low) (tree-below t)
 added-tree {W} {W'} {X} {s} {l} {m} {k} (node c cs r) w room t =
     let inner = w .inner (leaf-test (node c cs r) t) in
-    let below : (i o : ℕ) → i ≢ s → o < slotWords → wd W' (slotStart i + o) ≡ wd W (slotStart i + o) = λ i o e h. added-same w (slotStart i + o) (omega arith) (omega arith) in
+    let below : (i o : ℕ) → i ≢ s → o < slotWords → wd W' (slotStart i + o) ≡ wd W (slotStart i + o) =
+    λ i o e h. added-same w (slotStart i + o) (omega arith) (omega arith) in
     let first = added-same w (firstWord s) (omega arith) (omega arith) in
     record {
       cs = t .cs;
@@ -147,11 +163,13 @@ same-list : (v : Items) (read write : ℕ) → SameList (walkOf v Unary) (walkOf
 same-list v read write = record { owner = refl; base = refl; len = refl; classes = refl }
 
 -- the token has become part of what is done
-turn-on : {W' X : List ℕ} {lo l m hi read write : ℕ} {v : Items} {d d' rest : Forest} {k : Token} → RightList W' X lo l m hi (movedTo v read write) d' rest → read ≤ write
+turn-on : {W' X : List ℕ} {lo l m hi read write : ℕ} {v : Items} {d d' rest : Forest} {k : Token}
+    → RightList W' X lo l m hi (movedTo v read write) d' rest → read ≤ write
     → fromRight (right false d) (node k nil rest) ≡ fromRight (right false d') rest
     → TurnTo unaryMinusAndNot W' X lo hi (walkOf v Unary) (right false d) (node k nil rest) (On (walkOf (movedTo v read write) Unary))
 unfolding work count size waits
-turn-on {read = read} {write = write} {v = v} r h e = goes (same-list v read write) (right-holds r h) e (omega arith) (omega arith) (omega arith)
+turn-on {read = read} {write = write} {v = v} r h e =
+    goes (same-list v read write) (right-holds r h) e (omega arith) (omega arith) (omega arith)
 
 -- words that are kept on both sides of the token keep the list
 right-keep : (W W' : List ℕ) {X : List ℕ} {lo l m hi : ℕ} {v : Items} {d rest : Forest}
@@ -185,7 +203,8 @@ module _ {W : List ℕ} {v : Items} {b : ℕ} (g : CanTakeToken W v b) where
   pub done-slot : v .write < v .len → slotEnd (wd W (v .base + v .write)) ≤ v .base
   done-slot full = go (ahead-item (wd W (v .base + v .write)) refl full (g .list .done))
     where
-      go : {f : Forest} → AheadTo W (g .X) (v .base) (v .write) (v .len) (g .m) (g .hi) (wd W (v .base + v .write)) f → slotEnd (wd W (v .base + v .write)) ≤ v .base
+      go : {f : Forest} → AheadTo W (g .X) (v .base) (v .write) (v .len) (g .m) (g .hi) (wd W (v .base + v .write)) f
+          → slotEnd (wd W (v .base + v .write)) ≤ v .base
       go (item from t more) = omega (arith, tree-below t, ahead-le more .0, g .list .below)
 
   pub can-prefix : v .write < v .len → CanPrefix W v b
@@ -200,7 +219,8 @@ module _ {W : List ℕ} {v : Items} {b : ℕ} (g : CanTakeToken W v b) where
       → ((n : Token) (ns r : Forest) → fromRight (right false (node n ns r)) (node (g .k) nil (g .rest)) ≡ fromRight (right false (node (g .k) (node n ns nil) r)) (g .rest))
       → TurnTo unaryMinusAndNot W' (g .X) (g .lo) (g .hi) (walkOf v Unary) (right false (g .d)) (node (g .k) nil (g .rest)) (On (walkOf v Unary))
   prefix-turn {W'} w full e =
-      go (prefix-right (g .list) w (tree-out (g .tree)) (le-refl (g .l)) (g .tree .low) (tree-below (g .tree)) full behind (g .tree .token) (g .tree .pos))
+      go
+      (prefix-right (g .list) w (tree-out (g .tree)) (le-refl (g .l)) (g .tree .low) (tree-below (g .tree)) full behind (g .tree .token) (g .tree .pos))
     where
       behind : v .read ≤ v .write
       behind = omega (arith, g .gap)
@@ -214,7 +234,8 @@ module _ {W : List ℕ} {v : Items} {b : ℕ} (g : CanTakeToken W v b) where
       let behind : v .read ≤ v .write = omega (arith, g .gap) in
       record {
         kept = λ j f o.
-            prefix-kept (g .list) w (tree-out (g .tree)) (le-refl (g .l)) (g .tree .low) (tree-below (g .tree)) full behind j f (⊎-elim (λ x. omega arith) (λ x. omega arith) o);
+            prefix-kept (g .list) w (tree-out (g .tree)) (le-refl (g .l)) (g .tree .low) (tree-below (g .tree)) full behind j f
+            (⊎-elim (λ x. omega arith) (λ x. omega arith) o);
         long = prefix-long w;
       }
 
@@ -257,7 +278,8 @@ module _ {W : List ℕ} {v : Items} {b : ℕ} (g : CanTakeToken W v b) where
     first-turn w e =
         prefix-turn w full
         (λ n ns r.
-        subst (λ (f : Forest). fromRight (right false (node n ns r)) (node (g .k) nil f) ≡ fromRight (right false (node (g .k) (node n ns nil) r)) f)
+        subst
+        (λ (f : Forest). fromRight (right false (node n ns r)) (node (g .k) nil f) ≡ fromRight (right false (node (g .k) (node n ns nil) r)) f)
         (sym (unread-none (g .rest) (g .list .unread) e)) (minus-first (g .k) m n ns r))
 
     module _ (z : 0 < v .read) where
@@ -278,12 +300,14 @@ module _ {W : List ℕ} {v : Items} {b : ℕ} (g : CanTakeToken W v b) where
           with-last (λ f. slotEnd (wd W (v .base + (v .read - 1))) ≤ v .base)
           (λ p ps left a c t h r. omega (arith, tree-below t, g .list .mid, ahead-le (g .list .done) .0, g .list .below))
 
-      pub operator-turn : {W' : List ℕ} → Prefixed W (v .base + v .write) b W' → beforeMinus (opAt W (wd W (v .base + (v .read - 1)))) ≡ operator
+      pub operator-turn : {W' : List ℕ} → Prefixed W (v .base + v .write) b W'
+          → beforeMinus (opAt W (wd W (v .base + (v .read - 1)))) ≡ operator
           → TurnTo unaryMinusAndNot W' (g .X) (g .lo) (g .hi) (walkOf v Unary) (right false (g .d)) (node (g .k) nil (g .rest)) (On (walkOf v Unary))
       operator-turn w e =
           prefix-turn w full
           (λ n ns r.
-          with-last (λ f. fromRight (right false (node n ns r)) (node (g .k) nil f) ≡ fromRight (right false (node (g .k) (node n ns nil) r)) f)
+          with-last
+          (λ f. fromRight (right false (node n ns r)) (node (g .k) nil f) ≡ fromRight (right false (node (g .k) (node n ns nil) r)) f)
           (λ p ps left a c t h s. minus-operator (g .k) m n ns r p ps left (ap beforeMinus (sym (tree-op t)) ∙ e)))
 
       pub unknown-fails : beforeMinus (opAt W (wd W (v .base + (v .read - 1)))) ≡ unknown
@@ -298,11 +322,13 @@ module _ {W : List ℕ} {v : Items} {b : ℕ} (g : CanTakeToken W v b) where
           (λ n ns r. minus-unknown (g .k) m n ns r p ps left (ap beforeMinus (sym (tree-op t)) ∙ e))))
 
       -- after a minus, which becomes `+`
-      pub minus-turn : {W' : List ℕ} → Added W (wd W (v .base + (v .read - 1))) W' → beforeMinus (opAt W (wd W (v .base + (v .read - 1)))) ≡ minus
+      pub minus-turn : {W' : List ℕ} → Added W (wd W (v .base + (v .read - 1))) W'
+          → beforeMinus (opAt W (wd W (v .base + (v .read - 1)))) ≡ minus
           → TurnTo unaryMinusAndNot W' (g .X) (g .lo) (g .hi) (walkOf v Unary) (right false (g .d)) (node (g .k) nil (g .rest)) (On (walkOf v Unary))
       unfolding work count size waits
       minus-turn {W'} w e =
-          with-last (λ f. TurnTo unaryMinusAndNot W' (g .X) (g .lo) (g .hi) (walkOf v Unary) (right false (g .d)) (node (g .k) nil f) (On (walkOf v Unary)))
+          with-last
+          (λ f. TurnTo unaryMinusAndNot W' (g .X) (g .lo) (g .hi) (walkOf v Unary) (right false (g .d)) (node (g .k) nil f) (On (walkOf v Unary)))
           (λ p ps left a c t h s.
           goes (same-list v (v .read) (v .write)) (right-holds (renamed-last p ps left t h s w) (omega (arith, g .gap)))
           (first-done full (λ f. fromRight (right false f) (node (g .k) nil (node p ps left)) ≡ fromRight (right false f) (node (renamed Operator.add p) ps left))
@@ -322,7 +348,8 @@ module _ {W : List ℕ} {v : Items} {b : ℕ} (g : CanTakeToken W v b) where
               let room = g .list .within in
               let own = last-slot in
               let fits : slotEnd b' ≤ length W = omega (arith, token-room) in
-              let slots : (x o : ℕ) → x ≢ b' → o < slotWords → wd W' (slotStart x + o) ≡ wd W (slotStart x + o) = λ x o n i. added-same w (slotStart x + o) (omega arith) (omega arith) in
+              let slots : (x o : ℕ) → x ≢ b' → o < slotWords → wd W' (slotStart x + o) ≡ wd W (slotStart x + o) =
+              λ x o n i. added-same w (slotStart x + o) (omega arith) (omega arith) in
               let words : (j : ℕ) → v .base ≤ j → wd W' j ≡ wd W j = λ j i. added-same w j (omega arith) (omega arith) in
               let s' = back-array-keep W W' (λ x o i n y z. slots x o (omega arith) y) (λ j i n. words j i) s in
               let t' = added-tree ps w fits t in
@@ -346,7 +373,10 @@ module _ {W : List ℕ} {v : Items} {b : ℕ} (g : CanTakeToken W v b) where
           let low : g .lo ≤ b' = omega (arith, t .low, back-le (s .rep)) in
           let high : b' < g .hi = omega (arith, tree-below t, g .list .mid, ahead-le (g .list .done) .0) in
           record {
-            kept = λ j f o. added-same w j (λ e. f b' 0 low high (omega arith) (tree-out t) (omega arith)) (f b' 7 low high (omega arith) (tree-out t));
+            kept =
+                λ j f o.
+                added-same w j (λ e. f b' 0 low high (omega arith) (tree-out t) (omega arith))
+                (f b' 7 low high (omega arith) (tree-out t));
             long = w .long;
           })
 
@@ -385,7 +415,8 @@ module _ {W : List ℕ} {v : Items} {b : ℕ} (g : CanTakeToken W v b) where
           let below = g .list .below in
           go (ahead-item (wd (w .W1) (v .base + v .write)) refl full (made-list .done))
         where
-          go : {f : Forest} → AheadTo (w .W1) (g .X) (v .base) (v .write) (v .len) (g .m) (g .hi) (wd (w .W1) (v .base + v .write)) f → wd (w .W2) (slotStart b + o) ≡ wd W (slotStart b + o)
+          go : {f : Forest} → AheadTo (w .W1) (g .X) (v .base) (v .write) (v .len) (g .m) (g .hi) (wd (w .W1) (v .base + v .write)) f
+              → wd (w .W2) (slotStart b + o) ≡ wd W (slotStart b + o)
           go (item from t more) =
               let spare = spare-in in
               let top = ahead-le (g .list .done) .0 in
@@ -395,7 +426,8 @@ module _ {W : List ℕ} {v : Items} {b : ℕ} (g : CanTakeToken W v b) where
               ∙ w .prefixed .attached .same (slotStart b + o) (omega arith) (omega arith) (omega arith)
               ∙ w .made .same (slotStart b + o) (inl (omega arith))
 
-      added-list : {n : Token} {ns s : Forest} → RightList (w .W2) (g .X) (g .lo) (g .l) (b + 1) (g .hi) v (node (bare Operator.negate (g .k)) (node n ns nil) s) (g .rest)
+      added-list : {n : Token} {ns s : Forest}
+          → RightList (w .W2) (g .X) (g .lo) (g .l) (b + 1) (g .hi) v (node (bare Operator.negate (g .k)) (node n ns nil) s) (g .rest)
           → RightList W' (g .X) (g .lo) (g .l) (g .l) (g .hi) (movedTo v (v .read) (v .write - 1)) (node (renamed Operator.add (g .k)) nil (node (bare Operator.negate (g .k)) (node n ns nil) s)) (g .rest)
       added-list {n} {ns} {s} list2 =
           let low = g .tree .low in
@@ -411,10 +443,15 @@ module _ {W : List ℕ} {v : Items} {b : ℕ} (g : CanTakeToken W v b) where
           (λ j h e. added-same (w .added) j (omega arith) (omega arith)) (w .added .long) list2 in
           let long3 = w .added .long in
           let other = set-other (w .W3) W' at b (w .stored) in
-          let list4 = right-keep (w .W3) W' (λ x o e h i. other (slotStart x + o) (omega arith)) (λ j h e. other j (⊎-elim (λ y. omega arith) (λ y. omega arith) e)) (set-long (w .W3) W' at b (w .stored)) list3 in
+          let list4 =
+          right-keep (w .W3) W' (λ x o e h i. other (slotStart x + o) (omega arith))
+          (λ j h e. other j (⊎-elim (λ y. omega arith) (λ y. omega arith) e)) (set-long (w .W3) W' at b (w .stored)) list3 in
           let plus3 : RepT (w .W3) (g .X) b (g .l) (b + 1) (renamed Operator.add (g .k)) nil
-          = added-leaf (w .added) (omega arith) (token-keep W (w .W2) b (λ o h. own-words o (omega arith)) (g .tree .token)) (own-words 5 (omega arith) ∙ leaf-first (g .tree)) (g .tree .pos) (tree-out (g .tree)) low (omega arith) in
-          let plus4 : RepT W' (g .X) b (g .l) (b + 1) (renamed Operator.add (g .k)) nil = tree-keep (w .W3) W' (λ x o i h y z q. other (slotStart x + o) (omega arith)) plus3 in
+          =
+          added-leaf (w .added) (omega arith) (token-keep W (w .W2) b (λ o h. own-words o (omega arith)) (g .tree .token))
+          (own-words 5 (omega arith) ∙ leaf-first (g .tree)) (g .tree .pos) (tree-out (g .tree)) low (omega arith) in
+          let plus4 : RepT W' (g .X) b (g .l) (b + 1) (renamed Operator.add (g .k)) nil =
+          tree-keep (w .W3) W' (λ x o i h y z q. other (slotStart x + o) (omega arith)) plus3 in
           let next : v .write ≡ v .write - 1 + 1 = omega arith in
           record {
             unread = list4 .unread;
@@ -430,7 +467,8 @@ module _ {W : List ℕ} {v : Items} {b : ℕ} (g : CanTakeToken W v b) where
           → TurnTo unaryMinusAndNot W' (g .X) (g .lo) (g .hi) (walkOf v Unary) (right false (g .d)) (node (g .k) nil (g .rest)) (On (walkOf (movedTo v (v .read) (v .write - 1)) Unary))
       subtract-turn z e =
           let low = g .tree .low in
-          go (prefix-right made-list (w .prefixed) spare-out (omega arith) (le-refl (b + 1)) (omega (arith, spare-in)) full (omega (arith, g .gap))
+          go
+          (prefix-right made-list (w .prefixed) spare-out (omega arith) (le-refl (b + 1)) (omega (arith, spare-in)) full (omega (arith, g .gap))
           (token-made (w .made) (omega arith) (g .tree .token)) (omega arith))
         where
           go : {f : Forest} → TakenUnder (w .W2) (g .X) (g .lo) (g .l) (b + 1) (g .hi) v (bare Operator.negate (g .k)) (g .rest) f
@@ -453,15 +491,18 @@ module _ {W : List ℕ} {v : Items} {b : ℕ} (g : CanTakeToken W v b) where
           record {
             kept = λ j f o.
                 set-other (w .W3) W' at b (w .stored) j (⊎-elim (λ x. omega arith) (λ x. omega arith) o)
-                ∙ added-same (w .added) j (λ e. f b 0 (omega arith) (omega arith) (omega arith) (tree-out (g .tree)) (omega arith)) (f b classesField (omega arith) (omega arith) (omega arith) (tree-out (g .tree)))
-                ∙ prefix-kept made-list (w .prefixed) spare-out (omega arith) (le-refl (b + 1)) (omega arith) full (omega arith) j f (⊎-elim (λ x. omega arith) (λ x. omega arith) o)
+                ∙ added-same (w .added) j (λ e. f b 0 (omega arith) (omega arith) (omega arith) (tree-out (g .tree)) (omega arith))
+                (f b classesField (omega arith) (omega arith) (omega arith) (tree-out (g .tree)))
+                ∙ prefix-kept made-list (w .prefixed) spare-out (omega arith) (le-refl (b + 1)) (omega arith) full (omega arith) j f
+                (⊎-elim (λ x. omega arith) (λ x. omega arith) o)
                 ∙ laid-kept (g .X) (g .lo) (g .hi) (w .made) (omega arith) (omega arith) spare-out j f;
             long = set-long (w .W3) W' at b (w .stored) ∙ w .added .long ∙ prefix-long (w .prefixed) ∙ w .made .long;
           }
 
 -- ---- what the functions ensure
 
-pub added-leaf-words : (W Z W' : List ℕ) (s : ℕ) → slotEnd s ≤ length W → isLeafAt W s ≡ true → Z ≡ set W (slotStart s) (withOperator (operatorWordAt W s) Operator.add)
+pub added-leaf-words : (W Z W' : List ℕ) (s : ℕ) → slotEnd s ≤ length W → isLeafAt W s ≡ true
+    → Z ≡ set W (slotStart s) (withOperator (operatorWordAt W s) Operator.add)
     → W' ≡ set Z (classesWord s) 0x40_0080 → Added W s W'
 added-leaf-words W Z W' s room leafy ez ew =
     let long = set-long W Z (slotStart s) (withOperator (operatorWordAt W s) Operator.add) ez in
@@ -474,7 +515,8 @@ added-leaf-words W Z W' s room leafy ez ew =
       long = set-long Z W' (classesWord s) 0x40_0080 ew ∙ long;
     }
 
-pub added-inner-words : (W W' : List ℕ) (s : ℕ) → isLeafAt W s ≡ false → W' ≡ set W (slotStart s) (withOperator (operatorWordAt W s) Operator.add) → Added W s W'
+pub added-inner-words : (W W' : List ℕ) (s : ℕ) → isLeafAt W s ≡ false
+    → W' ≡ set W (slotStart s) (withOperator (operatorWordAt W s) Operator.add) → Added W s W'
 added-inner-words W W' s leafy ew =
     let v = withOperator (operatorWordAt W s) Operator.add in
     record {
@@ -495,7 +537,8 @@ prefix-made {W} {W1} {v} {b} {q} g e made =
     let same : wd W1 (v .base + v .write) ≡ wd W (v .base + v .write) = made .same (v .base + v .write) (inr (omega arith)) in
     record { place = omega arith; own = omega arith; operand = omega arith }
 
-pub subtracted : {W W' W1 W2 W3 : List ℕ} {v r : Items} {b q : ℕ} → q ≡ b + 1 → Made W q Operator.negate b W1 → Prefixed W1 (v .base + v .write) q W2 → Added W2 b W3
+pub subtracted : {W W' W1 W2 W3 : List ℕ} {v r : Items} {b q : ℕ} → q ≡ b + 1 → Made W q Operator.negate b W1
+    → Prefixed W1 (v .base + v .write) q W2 → Added W2 b W3
     → W' ≡ set W3 (v .base + (v .write - 1)) b → r ≡ movedTo v (v .read) (v .write - 1) → Subtracted W v b r W'
 subtracted {W} {W1 = W1} {W2} {W3} {v} {b = b} e made prefixed added stored list =
     record {
@@ -516,7 +559,8 @@ what-before e h q = ap beforeMinus (sym h) ∙ sym e ∙ ap meant q
 is-minus : {W : List ℕ} {v : Items} {b : ℕ} → CanTakeMinus W v b → (g : CanTakeToken W v b) → g .k .op ≡ Operator.negate
 is-minus c g = sym (tree-op (g .tree)) ∙ c .isMinus
 
-pub previous-slot : {W : List ℕ} {v : Items} {b : ℕ} → CanTakeMinus W v b → 0 < v .read → slotEnd (wd W (v .base + (v .read - 1))) ≤ length W
+pub previous-slot : {W : List ℕ} {v : Items} {b : ℕ} → CanTakeMinus W v b → 0 < v .read
+    → slotEnd (wd W (v .base + (v .read - 1))) ≤ length W
 previous-slot c z = let own = last-slot (c .token) (is-minus c (c .token)) (c .full) z in omega (arith, token-room (c .token))
 
 module _ {W W' : List ℕ} {v : Items} {b : ℕ} {t : Turn} (c : CanTakeMinus W v b) where
@@ -524,17 +568,24 @@ module _ {W W' : List ℕ} {v : Items} {b : ℕ} {t : Turn} (c : CanTakeMinus W 
   taken-first e w h = rw h (record { to = λ g. first-turn g (is-minus c g) (c .full) w e; within = λ g. prefix-within g w (c .full) })
 
   module _ (z : 0 < v .read) where
-    pub taken-operator : beforeMinus (opAt W (wd W (v .base + (v .read - 1)))) ≡ operator → Prefixed W (v .base + v .write) b W' → t ≡ On (walkOf v Unary) → TokenTaken W v b t W'
-    taken-operator e w h = rw h (record { to = λ g. operator-turn g (is-minus c g) (c .full) z w e; within = λ g. prefix-within g w (c .full) })
+    pub taken-operator : beforeMinus (opAt W (wd W (v .base + (v .read - 1)))) ≡ operator → Prefixed W (v .base + v .write) b W'
+        → t ≡ On (walkOf v Unary) → TokenTaken W v b t W'
+    taken-operator e w h =
+        rw h (record { to = λ g. operator-turn g (is-minus c g) (c .full) z w e; within = λ g. prefix-within g w (c .full) })
 
-    pub taken-operand : (r : Items) → beforeMinus (opAt W (wd W (v .base + (v .read - 1)))) ≡ operand → Subtracted W v b r W' → t ≡ On (walkOf r Unary) → TokenTaken W v b t W'
+    pub taken-operand : (r : Items) → beforeMinus (opAt W (wd W (v .base + (v .read - 1)))) ≡ operand → Subtracted W v b r W'
+        → t ≡ On (walkOf r Unary) → TokenTaken W v b t W'
     taken-operand r e w h =
-        rw (h, w .list) (record { to = λ g. subtract-turn g (is-minus c g) (c .full) w z e; within = λ g. subtract-within g (is-minus c g) (c .full) w })
+        rw (h, w .list)
+        (record { to = λ g. subtract-turn g (is-minus c g) (c .full) w z e; within = λ g. subtract-within g (is-minus c g) (c .full) w })
 
-    pub taken-minus : beforeMinus (opAt W (wd W (v .base + (v .read - 1)))) ≡ minus → Added W (wd W (v .base + (v .read - 1))) W' → t ≡ On (walkOf v Unary) → TokenTaken W v b t W'
-    taken-minus e w h = rw h (record { to = λ g. minus-turn g (is-minus c g) (c .full) z w e; within = λ g. minus-within g (is-minus c g) (c .full) z w })
+    pub taken-minus : beforeMinus (opAt W (wd W (v .base + (v .read - 1)))) ≡ minus → Added W (wd W (v .base + (v .read - 1))) W'
+        → t ≡ On (walkOf v Unary) → TokenTaken W v b t W'
+    taken-minus e w h =
+        rw h (record { to = λ g. minus-turn g (is-minus c g) (c .full) z w e; within = λ g. minus-within g (is-minus c g) (c .full) z w })
 
-pub taken-unknown : {W : List ℕ} {v : Items} {b : ℕ} → CanTakeMinus W v b → 0 < v .read → beforeMinus (opAt W (wd W (v .base + (v .read - 1)))) ≡ unknown
+pub taken-unknown : {W : List ℕ} {v : Items} {b : ℕ} → CanTakeMinus W v b → 0 < v .read
+    → beforeMinus (opAt W (wd W (v .base + (v .read - 1)))) ≡ unknown
     → TokenTaken W v b (Fail (UnknownOperation b (wd W (v .base + (v .read - 1))))) W
 taken-unknown {W} {v} c z e =
     record { to = λ g. unknown-fails g (is-minus c g) (c .full) z e; within = λ g. same-within }
@@ -549,7 +600,8 @@ module _ {W : List ℕ} {v : Items} {b : ℕ} where
     taken-not-alone e =
         record { to = λ g. not-fails g (λ h. m (tree-op (g .tree) ∙ h)) e; within = λ g. same-within }
 
-    pub taken-not : {W' : List ℕ} {t : Turn} → v .write < v .len → Prefixed W (v .base + v .write) b W' → t ≡ On (walkOf v Unary) → TokenTaken W v b t W'
+    pub taken-not : {W' : List ℕ} {t : Turn} → v .write < v .len → Prefixed W (v .base + v .write) b W' → t ≡ On (walkOf v Unary)
+        → TokenTaken W v b t W'
     taken-not full w h =
         rw h (record { to = λ g. not-turn g (λ h. m (tree-op (g .tree) ∙ h)) w full; within = λ g. prefix-within g w full })
 

@@ -1,5 +1,5 @@
--- A list of the unary pass in its words: the last unread item, an item put before the done ones, a list that the pass holds at a turn, and the loop of
--- `previous_token`.
+-- A list of the unary pass in its words: the last unread item, an item put before the done ones, a list that the pass holds at a turn, and
+-- the loop of `previous_token`.
 use Prim.Native.Nat.{ℕ, _+_, _-_, _^_, _≤_, _<_}
 use mathlib.Core.Path.{_≡_, refl, sym, ap, _∙_, subst}
 use mathlib.Core.Logic.{_⊎_, ⊎-elim}
@@ -35,14 +35,16 @@ pub data LastUnread (W X : List ℕ) (base n lo l : ℕ) : Forest → Type 0 whe
   last : {a c : ℕ} {p : Token} {ps left : Forest} → RepT W X (wd W (base + (n - 1))) a c p ps → c ≤ l → BackArray W X base (n - 1) lo a left
       → LastUnread W X base n lo l (node p ps left)
 
-last-of : {W X ds : List ℕ} {base n lo l : ℕ} {rest : Forest} → RepB W X ds lo l rest → SegB W base ds → n ≡ length ds → 0 < n → LastUnread W X base n lo l rest
+last-of : {W X ds : List ℕ} {base n lo l : ℕ} {rest : Forest} → RepB W X ds lo l rest → SegB W base ds → n ≡ length ds → 0 < n
+    → LastUnread W X base n lo l rest
 last-of (begins h) g c z = absurd (omega arith)
 last-of {W} {X} {base = base} {n} (put {b = b} {ds = ds} {l = a} {m = m} {t = t} {k = k} r v h) g c z =
     let places : length ds ≡ n - 1 = omega arith in
     let here : b ≡ wd W (base + (n - 1)) = sym (rw places at (g .0)) in
     last (subst (λ (x : ℕ). RepT W X x a m t k) here v) h (record { ds = ds; seg = g .1; count = sym places; rep = r })
 
-pub unread-last : {W X : List ℕ} {base n lo l : ℕ} {rest : Forest} → BackArray W X base n lo l rest → 0 < n → LastUnread W X base n lo l rest
+pub unread-last : {W X : List ℕ} {base n lo l : ℕ} {rest : Forest} → BackArray W X base n lo l rest → 0 < n
+    → LastUnread W X base n lo l rest
 unread-last v z = last-of (v .rep) (v .seg) (v .count) z
 
 none-of : {W X ds : List ℕ} {lo l : ℕ} (rest : Forest) → RepB W X ds lo l rest → length ds ≡ 0 → rest ≡ nil
@@ -55,14 +57,21 @@ unread-none rest v e = none-of rest (v .rep) (omega (arith, v .count))
 -- ---- the done items
 
 -- one more before them
-pub ahead-cons : {W X : List ℕ} {base read len lo a m hi b : ℕ} {k : Token} {cs rest : Forest} → lo ≤ a → RepT W X b a m k cs → wd W (base + read) ≡ b
+pub ahead-cons : {W X : List ℕ} {base read len lo a m hi b : ℕ} {k : Token} {cs rest : Forest} → lo ≤ a → RepT W X b a m k cs
+    → wd W (base + read) ≡ b
     → Ahead W X base (read + 1) len m hi rest → Ahead W X base read len lo hi (node k cs rest)
 ahead-cons {base = base} {read = read} {b = b} low t here r =
     let next : base + (read + 1) ≡ base + read + 1 = omega arith in
     record {
       n = r .n + 1;
       count = omega (arith, r .count);
-      array = record { bs = b ∷ r .array .bs; seg = (here, rw next at (r .array .seg)); count = omega (arith, r .array .count); rep = tree-more low t (r .array .rep) };
+      array =
+          record {
+            bs = b ∷ r .array .bs;
+            seg = (here, rw next at (r .array .seg));
+            count = omega (arith, r .array .count);
+            rep = tree-more low t (r .array .rep);
+          };
     }
 
 -- ---- the list at a turn
@@ -91,7 +100,8 @@ of-side : {W X : List ℕ} {base write len m hi : ℕ} {s : Right} → RightSide
 of-side (all {d = d} {n = n} c v) Q f = f d (record { n = n; count = c; array = v })
 
 -- A list that the pass holds is one of the unary pass.
-pub of-unary : {W X : List ℕ} {lo l m hi : ℕ} {v : Items} {rest : Forest} {κ : Kind} → Runs κ Unary → (s : State κ) → Sides κ W X lo l m hi (walkOf v Unary) s rest → length W < 2 ^ 32
+pub of-unary : {W X : List ℕ} {lo l m hi : ℕ} {v : Items} {rest : Forest} {κ : Kind} → Runs κ Unary → (s : State κ)
+    → Sides κ W X lo l m hi (walkOf v Unary) s rest → length W < 2 ^ 32
     → (Q : (κ : Kind) → State κ → Type 0) → ((d : Forest) → RightList W X lo l m hi v d rest → Q unaryMinusAndNot (right false d)) → Q κ s
 of-unary unary s sides small Q f =
     of-side (sides .done) (λ t. Q unaryMinusAndNot t)
@@ -129,7 +139,8 @@ seek-back-start v h =
       long = refl;
     }
 
-module _ {W : List ℕ} {v : Items} {g : CanSeekBack W v} {Z : List ℕ} {read write : ℕ} (s : SeekBackAt W v g Z read write) (z : 0 < read) where
+module _ {W : List ℕ} {v : Items} {g : CanSeekBack W v} {Z : List ℕ} {read write : ℕ} (s : SeekBackAt W v g Z read write)
+    (z : 0 < read) where
   -- the item's slot is below the stack
   seek-back-slot : slotEnd (wd Z (v .base + (read - 1))) ≤ v .base
   seek-back-slot = go (unread-last (s .list .unread) z)
@@ -142,7 +153,8 @@ module _ {W : List ℕ} {v : Items} {g : CanSeekBack W v} {Z : List ℕ} {read w
       → Z' ≡ set Z (v .base + (write - 1)) (wd Z (v .base + (read - 1))) → SeekBackAt W v g Z' (read - 1) (write - 1)
   seek-back-more Z' behind within f ez = go (s .moved) (unread-last (s .list .unread) z)
     where
-      go : {rest : Forest} → Moved (g .d) (g .rest) (s .d) rest → LastUnread Z (g .X) (v .base) read (g .lo) (s .l) rest → SeekBackAt W v g Z' (read - 1) (write - 1)
+      go : {rest : Forest} → Moved (g .d) (g .rest) (s .d) rest → LastUnread Z (g .X) (v .base) read (g .lo) (s .l) rest
+          → SeekBackAt W v g Z' (read - 1) (write - 1)
       go m (last {a = a} {c = c} {p = p} {ps = ps} {left = left} t h r) =
           let b = wd Z (v .base + (read - 1)) in
           let other = set-other Z Z' (v .base + (write - 1)) b ez in
@@ -152,8 +164,10 @@ module _ {W : List ℕ} {v : Items} {g : CanSeekBack W v} {Z : List ℕ} {read w
           let room = s .list .within in
           let ab = t .low in
           let bc = tree-below t in
-          let slots : (x o : ℕ) → x < g .hi → o < slotWords → wd Z' (slotStart x + o) ≡ wd Z (slotStart x + o) = λ x o y u. other (slotStart x + o) (omega arith) in
-          let t' : RepT Z' (g .X) b a (s .m) p ps = tree-widen (le-refl a) (omega arith) (tree-keep Z Z' (λ x o y u w q n. slots x o (omega arith) w) t) in
+          let slots : (x o : ℕ) → x < g .hi → o < slotWords → wd Z' (slotStart x + o) ≡ wd Z (slotStart x + o) =
+          λ x o y u. other (slotStart x + o) (omega arith) in
+          let t' : RepT Z' (g .X) b a (s .m) p ps =
+          tree-widen (le-refl a) (omega arith) (tree-keep Z Z' (λ x o y u w q n. slots x o (omega arith) w) t) in
           let next : write ≡ write - 1 + 1 = omega arith in
           let r' = back-array-keep Z Z' (λ x o y u w q. slots x o (omega arith) w) (λ j y u. other j (omega arith)) r in
           let d' : Ahead Z' (g .X) (v .base) write (v .len) (s .m) (g .hi) (s .d)
@@ -179,10 +193,19 @@ module _ {W : List ℕ} {v : Items} {g : CanSeekBack W v} {Z : List ℕ} {read w
   -- the list without its last unread item
   shorter : {a : ℕ} {left : Forest} → a ≤ s .m → BackArray Z (g .X) (v .base) (read - 1) (g .lo) a left
       → RightList Z (g .X) (g .lo) a (s .m) (g .hi) (movedTo v (read - 1) write) (s .d) left
-  shorter h r = record { unread = r; done = s .list .done; mid = h; below = s .list .below; within = s .list .within; small = s .list .small }
+  shorter h r =
+      record {
+        unread = r;
+        done = s .list .done;
+        mid = h;
+        below = s .list .below;
+        within = s .list .within;
+        small = s .list .small;
+      }
 
   -- it is a minus or a not
-  seek-back-leaf : read ≤ write → shares (classesAt Z (wd Z (v .base + (read - 1)))) 0x10 ≡ true → isLeafAt Z (wd Z (v .base + (read - 1))) ≡ true
+  seek-back-leaf : read ≤ write → shares (classesAt Z (wd Z (v .base + (read - 1)))) 0x10 ≡ true
+      → isLeafAt Z (wd Z (v .base + (read - 1))) ≡ true
       → SoughtBackTo Z (g .X) (g .lo) (g .hi) v (g .d) (g .rest) (Leaf (movedTo v (read - 1) write) (wd Z (v .base + (read - 1))))
   unfolding isNil
   seek-back-leaf behind f leafy = go (s .moved) (unread-last (s .list .unread) z)
@@ -221,15 +244,18 @@ module _ {W : List ℕ} {v : Items} {g : CanSeekBack W v} {Z : List ℕ} {read w
           tree refl gap (shorter under r) (sym (leaf-test ps t) ∙ leafy) wide m
 
 -- at the end
-seek-back-none : {W : List ℕ} {v : Items} {g : CanSeekBack W v} {Z : List ℕ} {read write : ℕ} → SeekBackAt W v g Z read write → read ≤ write → read ≡ 0
+seek-back-none : {W : List ℕ} {v : Items} {g : CanSeekBack W v} {Z : List ℕ} {read write : ℕ} → SeekBackAt W v g Z read write → read ≤ write
+    → read ≡ 0
     → SoughtBackTo Z (g .X) (g .lo) (g .hi) v (g .d) (g .rest) (Nothing (movedTo v read write))
 seek-back-none {W} {v} {g} {Z} {read} {write} s behind e =
     let over = unread-none (s .rest) (s .list .unread) e in
-    none refl behind (subst (λ (f : Forest). RightList Z (g .X) (g .lo) (s .l) (s .m) (g .hi) (movedTo v read write) (s .d) f) over (s .list))
+    none refl behind
+    (subst (λ (f : Forest). RightList Z (g .X) (g .lo) (s .l) (s .m) (g .hi) (movedTo v read write) (s .d) f) over (s .list))
     (subst (λ (f : Forest). Moved (g .d) (g .rest) (s .d) f) over (s .moved))
 
 module _ {W : List ℕ} {v : Items} {Z : List ℕ} {read write : ℕ} (s : SeekingBack W v Z read write) where
-  pub seek-back-in : CanSeekBack W v → 0 < read → (v .base + (read - 1) < length Z) × (slotEnd (wd Z (v .base + (read - 1))) ≤ length Z) × (v .base + write < length Z + 1) × (length Z < 2 ^ 32)
+  pub seek-back-in : CanSeekBack W v → 0 < read
+      → (v .base + (read - 1) < length Z) × (slotEnd (wd Z (v .base + (read - 1))) ≤ length Z) × (v .base + write < length Z + 1) × (length Z < 2 ^ 32)
   seek-back-in g z =
       let slot = seek-back-slot (s .at g) z in
       let long = s .long in
@@ -248,11 +274,15 @@ module _ {W : List ℕ} {v : Items} {Z : List ℕ} {read write : ℕ} (s : Seeki
         at = λ g. seek-back-more (s .at g) z Z' behind high f ez;
         behind = omega arith;
         within = omega arith;
-        same = λ j o. set-other Z Z' (v .base + (write - 1)) (wd Z (v .base + (read - 1))) ez j (⊎-elim (λ x. omega arith) (λ x. omega arith) o) ∙ s .same j o;
+        same =
+            λ j o.
+            set-other Z Z' (v .base + (write - 1)) (wd Z (v .base + (read - 1))) ez j (⊎-elim (λ x. omega arith) (λ x. omega arith) o)
+            ∙ s .same j o;
         long = set-long Z Z' (v .base + (write - 1)) (wd Z (v .base + (read - 1))) ez ∙ s .long;
       }
 
-  pub sought-back-leaf : 0 < read → shares (classesAt Z (wd Z (v .base + (read - 1)))) 0x10 ≡ true → isLeafAt Z (wd Z (v .base + (read - 1))) ≡ true
+  pub sought-back-leaf : 0 < read → shares (classesAt Z (wd Z (v .base + (read - 1)))) 0x10 ≡ true
+      → isLeafAt Z (wd Z (v .base + (read - 1))) ≡ true
       → (v' : Items) → v' ≡ movedTo v (read - 1) write → SoughtBack W v (Leaf v' (wd Z (v .base + (read - 1)))) Z
   sought-back-leaf z f leafy v' e =
       rw e (record { to = λ g. seek-back-leaf (s .at g) z (s .behind) f leafy; same = s .same; long = s .long })

@@ -11,7 +11,8 @@ use Rattle.molang.specs.Free.{isArrayName}
 use Rattle.molang.specs.Work.{arrays}
 use Rattle.ops.specs.Classes.{bitAt}
 use Rattle.words.specs.Fields.{withOperator}
-use Rattle.nodes.specs.Store.{wd, slotStart, slotEnd, firstWord, classesWord, operatorWordAt, firstAt, nextAt, classesAt, Chain, Inc, Out, OffNext, onto}
+use Rattle.nodes.specs.Store.{wd, slotStart, slotEnd, firstWord, classesWord, operatorWordAt, firstAt, nextAt, classesAt, Chain, Inc, Out}
+use Rattle.nodes.specs.Store.{OffNext, onto}
 use Rattle.nodes.specs.Slots.{opAt, isLeafAt, isTokenAt}
 use Rattle.nodes.specs.Children.{someNotes}
 use Rattle.nodes.specs.declared.frames.List.{List as Items}
@@ -82,7 +83,8 @@ pub record CanLend (W : List ℕ) (a b : ℕ) : Type 0 where
 
 -- Nothing is lent; or the array's last child, a bare name, is taken away from it and is an array itself.
 pub data Lent (W : List ℕ) (a b r : ℕ) (W' : List ℕ) : Type 0 where
-  nothing : r ≡ 0 → W' ≡ W → (firstAt W a ≡ 0) ⊎ ((isTokenAt W (firstAt W a) arrayVariable ≡ false) ⊎ (opAt W (firstAt W b) ≢ leftBracket)) → Lent W a b r W'
+  nothing : r ≡ 0 → W' ≡ W → (firstAt W a ≡ 0) ⊎ ((isTokenAt W (firstAt W a) arrayVariable ≡ false) ⊎ (opAt W (firstAt W b) ≢ leftBracket))
+      → Lent W a b r W'
   name : {W1 : List ℕ} → r ≢ 0 → r ≡ firstAt W a → isTokenAt W r arrayVariable ≡ true → opAt W (firstAt W b) ≡ leftBracket
       → W1 ≡ set W (firstWord a) (nextAt W r) → W' ≡ set W1 (slotStart r) (withOperator (operatorWordAt W1 r) array) → Lent W a b r W'
 
@@ -96,7 +98,8 @@ pub record CanIndex (W : List ℕ) (v : Items) (b a : ℕ) : Type 0 where
 -- It is empty, or is entered, perhaps with a name that it completes.
 pub data Indexed (W : List ℕ) (v : Items) (b a : ℕ) (r : Turn) (W' : List ℕ) : Type 0 where
   empty : isLeafAt W b ≡ true → W' ≡ W → r ≡ Fail (EmptyArrayIndex a b) → Indexed W v b a r W'
-  opens : {lent : ℕ} → isLeafAt W b ≡ false → Lent W a b lent W' → r ≡ Enter (walkOf (movedTo v (v .read + 1) (v .write)) (Arrays a lent)) b → Indexed W v b a r W'
+  opens : {lent : ℕ} → isLeafAt W b ≡ false → Lent W a b lent W' → r ≡ Enter (walkOf (movedTo v (v .read + 1) (v .write)) (Arrays a lent)) b
+      → Indexed W v b a r W'
 
 -- ---- `array_name`
 

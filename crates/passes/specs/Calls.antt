@@ -22,6 +22,7 @@ pub record CanCall (W : List ℕ) (v : Items) (b c : ℕ) : Type 0 where
 
 -- The call at the slot b is entered where tokens of the pass are below it, else it is done.
 pub data Called (W : List ℕ) (v : Items) (b c : ℕ) (pass : Pass) (r : Turn) (W' : List ℕ) : Type 0 where
-  opens : Attached W b c W' → shares (classesAt W' b) (classesOf pass) ≡ true → r ≡ Enter (walkOf (movedTo v (v .read + 1) (v .write)) pass) b → Called W v b c pass r W'
+  opens : Attached W b c W' → shares (classesAt W' b) (classesOf pass) ≡ true
+      → r ≡ Enter (walkOf (movedTo v (v .read + 1) (v .write)) pass) b → Called W v b c pass r W'
   stays : {W1 : List ℕ} → Attached W b c W1 → shares (classesAt W1 b) (classesOf pass) ≡ false → W' ≡ set W1 (v .base + v .write) b
       → r ≡ On (walkOf (movedTo v (v .read + 1) (v .write + 1)) pass) → Called W v b c pass r W'

@@ -1,5 +1,5 @@
--- What the functions of the conditional's fold ask and ensure, by the words. In the scan the unread items stand in [0, left), the done ones in
--- [right, len): a list of the unary pass's shape (`RightList`), which reads up to `left` and writes from `right` on.
+-- What the functions of the conditional's fold ask and ensure, by the words. In the scan the unread items stand in [0, left), the done ones
+-- in [right, len): a list of the unary pass's shape (`RightList`), which reads up to `left` and writes from `right` on.
 use Prim.Native.Nat.{ℕ, _+_, _-_, _^_, _≤_, _<_}
 use mathlib.Core.Path.{_≡_}
 use mathlib.Core.Logic.{_≢_}
@@ -75,7 +75,8 @@ pub record CanLook (W : List ℕ) (base left : ℕ) : Type 0 where
 pub data IsElse (W : List ℕ) (base left : ℕ) : Bool → Type 0 where
   few : left < 3 → IsElse W base left false
   other : isTokenAt W (wd W (base + (left - 1))) conditionalElse ≡ false → IsElse W base left false
-  looked : {r : Bool} → 3 ≤ left → isTokenAt W (wd W (base + (left - 1))) conditionalElse ≡ true → r ≡ isTokenAt W (wd W (base + (left - 3))) conditional → IsElse W base left r
+  looked : {r : Bool} → 3 ≤ left → isTokenAt W (wd W (base + (left - 1))) conditionalElse ≡ true
+      → r ≡ isTokenAt W (wd W (base + (left - 3))) conditional → IsElse W base left r
 
 -- ---- `fold_else`
 
@@ -94,8 +95,10 @@ pub data ElseFolded (W : List ℕ) (base len left right : ℕ) : ℕ → List �
   short : len - right < 3 → ElseFolded W base len left right right W
   noIf : 0 < left → isTokenAt W (wd W (base + (left - 1))) conditional ≡ false → ElseFolded W base len left right right W
   noElse : right + 2 < len → isTokenAt W (wd W (base + (right + 1))) conditionalElse ≡ false → ElseFolded W base len left right right W
-  pair : {W' : List ℕ} → 0 < left → right + 2 < len → isTokenAt W (wd W (base + (left - 1))) conditional ≡ true → isTokenAt W (wd W (base + (right + 1))) conditionalElse ≡ true
-      → Grouped W (wd W (base + (right + 1))) (wd W (base + right)) (wd W (base + (right + 2))) (base + (right + 2)) W' → ElseFolded W base len left right (right + 2) W'
+  pair : {W' : List ℕ} → 0 < left → right + 2 < len → isTokenAt W (wd W (base + (left - 1))) conditional ≡ true
+      → isTokenAt W (wd W (base + (right + 1))) conditionalElse ≡ true
+      → Grouped W (wd W (base + (right + 1))) (wd W (base + right)) (wd W (base + (right + 2))) (base + (right + 2)) W'
+      → ElseFolded W base len left right (right + 2) W'
 
 -- ---- `fold_next`
 

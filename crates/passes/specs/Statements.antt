@@ -28,7 +28,8 @@ pub record HasSemicolon (W : List ℕ) (v : Items) (r : Bool) : Type 0 where
 
 -- ---- `end_statement`
 
--- The n items from `at` on became the children of a new statement at `slot`, with the span of the first of them, and the word at their place is its.
+-- The n items from `at` on became the children of a new statement at `slot`, with the span of the first of them, and the word at their
+-- place is its.
 pub record Grouped (W : List ℕ) (slot at n : ℕ) (W' : List ℕ) : Type 0 where
   pub made : List ℕ
   pub given : List ℕ
@@ -41,7 +42,8 @@ pub record Grouped (W : List ℕ) (slot at n : ℕ) (W' : List ℕ) : Type 0 whe
 -- The item's children come first, or it is kept as it is.
 pub data InnerTo (W : List ℕ) (l : Items) (item : ℕ) (p : Pass) : Turn → List ℕ → Type 0 where
   entered : isEntered (opAt W item) ≡ true → InnerTo W l item p (Enter (walkOf l p) item) W
-  kept : {W' : List ℕ} → isEntered (opAt W item) ≡ false → W' ≡ set W (l .base + l .write) item → InnerTo W l item p (On (walkOf (movedTo l (l .read) (l .write + 1)) p)) W'
+  kept : {W' : List ℕ} → isEntered (opAt W item) ≡ false → W' ≡ set W (l .base + l .write) item
+      → InnerTo W l item p (On (walkOf (movedTo l (l .read) (l .write + 1)) p)) W'
 
 -- ---- `begin_list`, `semicolon`
 
@@ -79,4 +81,5 @@ pub record CanClose (W : List ℕ) (l : Items) (done : ℕ) : Type 0 where
 -- None is open, or the open one stands in the slot after the last finished one's.
 pub data ClosedTo (W : List ℕ) (l : Items) (done : ℕ) : ℕ → List ℕ → Type 0 where
   complete : l .write ≡ done → ClosedTo W l done done W
-  closing : {W' : List ℕ} → done < l .write → Grouped W (wd W (l .base + done - 1) + 1) (l .base + done) (l .write - done) W' → ClosedTo W l done (done + 1) W'
+  closing : {W' : List ℕ} → done < l .write → Grouped W (wd W (l .base + done - 1) + 1) (l .base + done) (l .write - done) W'
+      → ClosedTo W l done (done + 1) W'

@@ -1,5 +1,5 @@
--- A level that goes from the left has read an item of its list: what the functions on that item ask and ensure. The trees of d are done, those of
--- `rest` unread; the item's own tree stands between the two.
+-- A level that goes from the left has read an item of its list: what the functions on that item ask and ensure. The trees of d are done,
+-- those of `rest` unread; the item's own tree stands between the two.
 use Prim.Native.Nat.{ℕ, _+_, _^_, _≤_, _<_}
 use mathlib.Core.Path.{_≡_}
 use mathlib.Core.Bool.{Bool, true}
@@ -46,7 +46,8 @@ pub record AtToken (W : List ℕ) (l : Items) (b : ℕ) : Type 0 where
   pub item : AtItem W X l b lo hi d k nil rest
 
 -- The turn goes on from there, where the token is one of the pass (P) and the trees before it are as the pass leaves them (good).
-pub record TokenTurned (κ : Kind) (idle : Forest → State κ) (P : ℕ → Bool) (good : Forest → Bool) (W : List ℕ) (w : Walk) (b : ℕ) (r : Turn) (W' : List ℕ) : Type 0 where
+pub record TokenTurned (κ : Kind) (idle : Forest → State κ) (P : ℕ → Bool) (good : Forest → Bool) (W : List ℕ) (w : Walk) (b : ℕ) (r : Turn)
+    (W' : List ℕ) : Type 0 where
   pub to : (g : AtToken W (w .list) b) → P (g .k .op) ≡ true → good (g .d) ≡ true
       → TurnTo κ W' (g .X) (g .lo) (g .hi) w (idle (g .d)) (node (g .k) nil (g .rest)) r
   pub within : (g : AtToken W (w .list) b) → Within W W' (g .X) (g .lo) (g .hi) (w .list)
@@ -65,7 +66,8 @@ CallTurned kind p W l b r W' = TokenTurned (calls kind) gathered (isCall kind) u
 
 -- The turn of an operator of a binary level, before which no other of the level is left.
 abbrev pub LevelTurned : List ℕ → TokenClasses → List ℕ → Items → ℕ → Turn → List ℕ → Type 0
-LevelTurned ops classes W l b r W' = TokenTurned (binary ops) gathered (isOneOf ops) (clear (isOneOf ops)) W (walkOf l (Binary classes 0)) b r W'
+LevelTurned ops classes W l b r W' =
+    TokenTurned (binary ops) gathered (isOneOf ops) (clear (isOneOf ops)) W (walkOf l (Binary classes 0)) b r W'
 
 -- ---- the levels that seek their tokens from the left
 

@@ -1,5 +1,5 @@
--- What the functions of the unary pass ask and ensure. The unread items stand at the front of the list's words, the last one first to be read; the
--- done ones in order at their end.
+-- What the functions of the unary pass ask and ensure. The unread items stand at the front of the list's words, the last one first to be
+-- read; the done ones in order at their end.
 use Rattle.words.specs.Fields.{withOperator}
 use Prim.Native.Nat.{ℕ, _+_, _-_, _^_, _≤_, _<_}
 use mathlib.Core.Path.{_≡_}
@@ -54,12 +54,15 @@ pub record Moved (d rest d' rest' : Forest) : Type 0 where
 
 -- It stops at the end, or before a tree at the slot b that is a minus or a not, or has one below it.
 pub data SoughtBackTo (W' X : List ℕ) (lo hi : ℕ) (v : Items) (d rest : Forest) : Found → Type 0 where
-  none : {d' : Forest} {v' : Items} {l m : ℕ} → v' ≡ movedTo v (v' .read) (v' .write) → v' .read ≤ v' .write → RightList W' X lo l m hi v' d' nil → Moved d rest d' nil
+  none : {d' : Forest} {v' : Items} {l m : ℕ} → v' ≡ movedTo v (v' .read) (v' .write) → v' .read ≤ v' .write
+      → RightList W' X lo l m hi v' d' nil → Moved d rest d' nil
       → SoughtBackTo W' X lo hi v d rest (Nothing v')
-  leaf : {d' rest' : Forest} {v' : Items} {b l m : ℕ} {k : Token} → v' ≡ movedTo v (v' .read) (v' .write) → v' .read < v' .write → RightList W' X lo l m hi v' d' rest'
+  leaf : {d' rest' : Forest} {v' : Items} {b l m : ℕ} {k : Token} → v' ≡ movedTo v (v' .read) (v' .write) → v' .read < v' .write
+      → RightList W' X lo l m hi v' d' rest'
       → isPrefix (k .op) ≡ true → RepT W' X b l m k nil → Moved d rest d' (node k nil rest')
       → SoughtBackTo W' X lo hi v d rest (Leaf v' b)
-  tree : {d' rest' cs : Forest} {v' : Items} {b l m : ℕ} {k : Token} → v' ≡ movedTo v (v' .read) (v' .write) → v' .read < v' .write → RightList W' X lo l m hi v' d' rest'
+  tree : {d' rest' cs : Forest} {v' : Items} {b l m : ℕ} {k : Token} → v' ≡ movedTo v (v' .read) (v' .write) → v' .read < v' .write
+      → RightList W' X lo l m hi v' d' rest'
       → isNil cs ≡ false → RepT W' X b l m k cs → Moved d rest d' (node k cs rest')
       → SoughtBackTo W' X lo hi v d rest (Children v' b)
 
@@ -94,7 +97,8 @@ pub record CanTakeMinus (W : List ℕ) (v : Items) (b : ℕ) : Type 0 where
 
 -- The turn goes on from the token as the definition's does.
 pub record TokenTaken (W : List ℕ) (v : Items) (b : ℕ) (r : Turn) (W' : List ℕ) : Type 0 where
-  pub to : (g : CanTakeToken W v b) → TurnTo unaryMinusAndNot W' (g .X) (g .lo) (g .hi) (walkOf v Unary) (right false (g .d)) (node (g .k) nil (g .rest)) r
+  pub to : (g : CanTakeToken W v b)
+      → TurnTo unaryMinusAndNot W' (g .X) (g .lo) (g .hi) (walkOf v Unary) (right false (g .d)) (node (g .k) nil (g .rest)) r
   pub within : (g : CanTakeToken W v b) → Within W W' (g .X) (g .lo) (g .hi) v
 
 -- ---- `prefix`, `to_add`, `subtract`: the words

@@ -101,7 +101,8 @@ fn folded(work: &mut [u32], list: List, operator: u32, classes: TokenClasses) ->
 // A token of the level: it needs both sides, and a left side with nothing unfolded below it.
 pub fn operator(work: &mut [u32], list: List, item: u32, classes: TokenClasses) -> Turn
     requires { ⌜ AtToken (now work) list item ⌝ }
-    ensures { λ r. ⌜ ((ops : Words ℕ) → Covers (classes .0) (isOneOf ops) → LevelTurned ops classes (now (work .entry)) list item r (now (work .exit))) ⌝ }
+    ensures { λ r. ⌜ ((ops : Words ℕ) → Covers (classes .0) (isOneOf ops)
+        → LevelTurned ops classes (now (work .entry)) list item r (now (work .exit))) ⌝ }
 {
     if list.write == 0 {
         return Turn::Fail(Failure::BinaryAtEnd(item));

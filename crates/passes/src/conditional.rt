@@ -13,7 +13,8 @@ use ops::classes::TokenClasses;
 use ops::op;
 ghost use Rattle.levels.specs.Passes.{walkOf};
 ghost use Rattle.levels.specs.Turns.{CanTurn, Turned, CanFinish, Ends};
-ghost use Rattle.passes.specs.Conditional.{CanFoldLast, FoldedLast, CanDangle, Dangles, CanLook, IsElse, CanFoldElse, ElseFolded, CanFoldNext, FoldedNext, CanFold, FoldedAll};
+ghost use Rattle.passes.specs.Conditional.{CanFoldLast, FoldedLast, CanDangle, Dangles, CanLook, IsElse, CanFoldElse, ElseFolded};
+ghost use Rattle.passes.specs.Conditional.{CanFoldNext, FoldedNext, CanFold, FoldedAll};
 
 // Where the scan is.
 pub struct Scan {

@@ -19,12 +19,14 @@ ghost use lib.ListN.{length, set};
 ghost use Rattle.nodes.specs.Store.{slotEnd};
 ghost use Rattle.levels.specs.Passes.{walkOf, movedTo};
 ghost use Rattle.levels.specs.Turns.{CanTurn, Turned};
-ghost use Rattle.passes.specs.Unary.{CanSeekBack, SoughtBack, CanTakeToken, CanTakeMinus, TokenTaken, CanPrefix, Prefixed, Added, CanSubtract, Subtracted};
+ghost use Rattle.passes.specs.Unary.{CanSeekBack, SoughtBack, CanTakeToken, CanTakeMinus, TokenTaken, CanPrefix, Prefixed, Added};
+ghost use Rattle.passes.specs.Unary.{CanSubtract, Subtracted};
 
 // The list with `item` before its done items.
 pub fn keep_right(work: &mut [u32], list: List, item: u32) -> List
     requires { ⌜ (0 < list .write) × (list .base + list .write < length (now work) + 1) ⌝ }
-    ensures { λ r. ⌜ (r ≡ movedTo list (list .read) (list .write - 1)) × (now (work .exit) ≡ set (now (work .entry)) (list .base + (list .write - 1)) item) ⌝ }
+    ensures { λ r. ⌜ (r ≡ movedTo list (list .read) (list .write - 1))
+        × (now (work .exit) ≡ set (now (work .entry)) (list .base + (list .write - 1)) item) ⌝ }
 {
     let write = list.write - 1;
     let at = list.base + write;

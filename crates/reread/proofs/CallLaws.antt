@@ -10,7 +10,8 @@ use Rattle.molang.specs.Read.{uses, setNumber}
 use Rattle.molang.specs.Words.{operatorField, tokensOf}
 use Rattle.molang.specs.Parse.{Call, inHalves, aTree}
 use Rattle.molang.specs.WriteEntry.{tokens, unwritten, writeAnswered, listAfter}
-use Rattle.molang.specs.Reread.{Handed, writerCall, exactCall, secondCall, Rereading, handed, RereadLeft, stopped, secondTold, afterWriting, afterFirst, reread}
+use Rattle.molang.specs.Reread.{Handed, writerCall, exactCall, secondCall, Rereading, handed, RereadLeft, stopped, secondTold, afterWriting}
+use Rattle.molang.specs.Reread.{afterFirst, reread}
 use Rattle.molang.proofs.UsedSet.{exact-halves}
 use Rattle.molang.proofs.HandedTree.{unwritten-list}
 use Rattle.molang.proofs.Reread.{Readable, written-readable, demand-3}
@@ -24,7 +25,8 @@ use Rattle.reread.specs.Answers.{rereadOf, leftOf, handedOf}
 use Rattle.reread.specs.Promises.{CanRead, CanGoOn, HasReread}
 
 -- The halves of a legal list's own operators.
-module _ (list : List ℕ) (can : CanRead list) (low high : ℕ) (fits : low < 2 ^ 64) (bits : (n : ℕ) → inHalves low high n ≡ named operatorField list n) where
+module _ (list : List ℕ) (can : CanRead list) (low high : ℕ) (fits : low < 2 ^ 64)
+    (bits : (n : ℕ) → inHalves low high n ≡ named operatorField list n) where
   own-operators : (n : ℕ) → named operatorField list n ≡ uses (tokensOf list) n
   own-operators = legal-list 0 0 0 list (can .legal) (can .whole) .operators
 
@@ -46,7 +48,8 @@ same-call e p = rw e at p
 -- ---- THE WRITER AND THE SECOND READING
 
 -- What was written of a tree stands within the lent list, and is legal.
-module _ (h : Handed) (nodes count : ℕ) (can : CanGoOn (aTree nodes) (h .tree)) (wrote : tokens count ≡ writeAnswered (writerCall h nodes)) where
+module _ (h : Handed) (nodes count : ℕ) (can : CanGoOn (aTree nodes) (h .tree))
+    (wrote : tokens count ≡ writeAnswered (writerCall h nodes)) where
   written-list : Readable (take (5 * count) (listAfter (writerCall h nodes))) count
   unfolding writerCall
   written-list = written-readable (can .first) (writerCall h nodes) nodes count (can .says) (ap (take (6 * nodes)) (can .left)) (sym wrote)

@@ -1,5 +1,6 @@
--- The member pass: what `member` makes of the trees that are written and one accessor, and the loop of `members`. At its test the trees done, the last
--- first, stand in the array's front, the tokens not read yet in its end, and the definition's answer from there on is that of the whole list.
+-- The member pass: what `member` makes of the trees that are written and one accessor, and the loop of `members`. At its test the trees
+-- done, the last first, stand in the array's front, the tokens not read yet in its end, and the definition's answer from there on is that
+-- of the whole list.
 use Prim.Native.Nat.{ℕ, _+_, _-_, _≤_, _<_}
 use mathlib.Core.Path.{_≡_, refl, sym, ap, _∙_}
 use mathlib.Core.Logic.{_≢_, inl, inr, ⊎-elim}
@@ -46,10 +47,26 @@ record Last (W X : List ℕ) (base lo hi : ℕ) (ds : List ℕ) (d : Forest) : T
   word : wd W (base + length rs) ≡ b
   run : SegB W base rs
 
-last : {W X : List ℕ} (base : ℕ) {lo hi : ℕ} {ds : List ℕ} {d : Forest} → RepB W X ds lo hi d → SegB W base ds → 0 < length ds → Last W X base lo hi ds d
+last : {W X : List ℕ} (base : ℕ) {lo hi : ℕ} {ds : List ℕ} {d : Forest} → RepB W X ds lo hi d → SegB W base ds → 0 < length ds
+    → Last W X base lo hi ds d
 last base (begins h) g n = absurd (omega arith)
 last base (put {b = b} {ds = rs} {l = l} {m = m} {d = e} {t = x} {k = xs} r t h) g n =
-    record { b = b; rs = rs; l = l; m = m; x = x; xs = xs; e = e; count = omega arith; is = refl; before = r; tree = t; high = h; word = g .0; run = g .1 }
+    record {
+      b = b;
+      rs = rs;
+      l = l;
+      m = m;
+      x = x;
+      xs = xs;
+      e = e;
+      count = omega arith;
+      is = refl;
+      before = r;
+      tree = t;
+      high = h;
+      word = g .0;
+      run = g .1;
+    }
 
 -- ---- `member`
 
@@ -69,13 +86,15 @@ module _ {W : List ℕ} {base write item : ℕ} (g : MemberAt W base write item)
       rw previous
       (omega (arith, tree-below (before .tree), before .high, g .tree .low, g .below, tree-below (g .tree)), omega (arith, tree-below (g .tree), g .below))
 
-  pub member-under : (o : ℕ) (W1 W2 : List ℕ) → o ≡ opAt W (wd W (base + write - 1)) → hasMembers o ≡ true → Attached W item (wd W (base + write - 1)) W1
+  pub member-under : (o : ℕ) (W1 W2 : List ℕ) → o ≡ opAt W (wd W (base + write - 1)) → hasMembers o ≡ true
+      → Attached W item (wd W (base + write - 1)) W1
       → W2 ≡ set W1 (base + write - 1) item
       → WithMember W2 (g .X) base (g .lo) (g .m) (g .k) (g .d) write × Kept W W2 (g .X) (g .lo) (g .m) base (base + write + 1)
   member-under o W1 W2 eo h a e =
       let v = before in
       let w : Attached W item (v .b) W1 = rw previous at a in
-      let low = v .tree .low in let high = tree-below (v .tree) in let le = v .high in let ti = g .tree .low in let th = tree-below (g .tree) in
+      let low =
+      v .tree .low in let high = tree-below (v .tree) in let le = v .high in let ti = g .tree .low in let th = tree-below (g .tree) in
       let bl = back-le (v .before) in
       let own = tree-under item (inr (omega arith)) (v .tree) in
       let tree1 : RepT W1 (g .X) item (v .l) (g .m) (g .k) (node (v .x) (v .xs) nil)
@@ -105,7 +124,9 @@ module _ {W : List ℕ} {base write item : ℕ} (g : MemberAt W base write item)
             wrote = omega arith;
           };
         },
-        λ j f o. other j (⊎-elim (λ x. omega arith) (λ x. omega arith) o) ∙ kept1 j (free-part (g .X) (g .lo) (g .m) (v .l) (g .m) j bl (le-refl (g .m)) f),
+        λ j f o.
+            other j (⊎-elim (λ x. omega arith) (λ x. omega arith) o)
+            ∙ kept1 j (free-part (g .X) (g .lo) (g .m) (v .l) (g .m) j bl (le-refl (g .m)) f),
       )
 
   pub member-after : (o : ℕ) (W2 : List ℕ) → o ≡ opAt W (wd W (base + write - 1)) → hasMembers o ≡ false → W2 ≡ set W (base + write) item
@@ -122,7 +143,8 @@ module _ {W : List ℕ} {base write item : ℕ} (g : MemberAt W base write item)
 -- ---- the loop of `members`
 
 -- The trees of d are written; the tokens `rest`, at the slots rs, are not read yet.
-pub record JoinAt (W₀ : List ℕ) (base n : ℕ) (g : CanJoin W₀ base n) (W : List ℕ) (read write : ℕ) (rs : List ℕ) (rest : List Token) : Type 0 where
+pub record JoinAt (W₀ : List ℕ) (base n : ℕ) (g : CanJoin W₀ base n) (W : List ℕ) (read write : ℕ) (rs : List ℕ) (rest : List Token)
+    : Type 0 where
   pub m : ℕ
   pub d : Forest
   pub written : Written W (g .X) base (g .lo) m d write
@@ -200,7 +222,8 @@ join-turn {W₀} {base} {n} {g} {W} {read} {write} (b ∷ bs) (k ∷ ks) v h ite
       long = v .long;
     }
 
-module _ {W₀ : List ℕ} {base n : ℕ} {g : CanJoin W₀ base n} {W : List ℕ} {read write item : ℕ} (v : JoinTurn W₀ base n g W read write item) where
+module _ {W₀ : List ℕ} {base n : ℕ} {g : CanJoin W₀ base n} {W : List ℕ} {read write item : ℕ}
+    (v : JoinTurn W₀ base n g W read write item) where
   pub join-high : v .m ≤ g .hi
   join-high = rep-le (v .left)
 
@@ -242,7 +265,8 @@ module _ {W₀ : List ℕ} {base n : ℕ} {g : CanJoin W₀ base n} {W : List �
       }
 
   -- the turn ends: r items are written, and what is left stands as it did
-  turned : {e : Forest} {r : ℕ} (W' : List ℕ) → Written W' (g .X) base (g .lo) (v .m) e r → members e (leaves (v .rest)) ≡ members nil (leaves (g .ks)) → r ≤ write + 1
+  turned : {e : Forest} {r : ℕ} (W' : List ℕ) → Written W' (g .X) base (g .lo) (v .m) e r
+      → members e (leaves (v .rest)) ≡ members nil (leaves (g .ks)) → r ≤ write + 1
       → Kept W W' (g .X) (g .lo) (v .m) base (base + write + 1) → length W' ≡ length W → Joining W₀ base n g W' (read + 1) r
   turned {e} W' w a r kept long = (
     v .bs,
@@ -253,7 +277,8 @@ module _ {W₀ : List ℕ} {base n : ℕ} {g : CanJoin W₀ base n} {W : List �
       written = w;
       left = rep-beside W W' (g .X) (g .lo) (v .m) base (λ j f h. kept j f (inl h)) (g .below) (inr (le-refl (v .m))) (v .left);
       run = seg-keep W W' (base + (read + 1)) (v .bs)
-          (λ j x y. kept j (free-above (g .X) (g .lo) (v .m) j (omega (arith, join-high, g .below))) (inr (omega (arith, v .behind)))) (v .run);
+          (λ j x y. kept j (free-above (g .X) (g .lo) (v .m) j (omega (arith, join-high, g .below))) (inr (omega (arith, v .behind))))
+          (v .run);
       count = v .count;
       behind = omega (arith, v .behind);
       answer = a;
@@ -264,13 +289,16 @@ module _ {W₀ : List ℕ} {base n : ℕ} {g : CanJoin W₀ base n} {W : List �
     },
   )
 
-  pub join-member : (o : opAt W item ≡ memberAccessor) (z : write ≢ 0) (r : ℕ) (W' : List ℕ) → Membered W base write item r W' → Joining W₀ base n g W' (read + 1) r
+  pub join-member : (o : opAt W item ≡ memberAccessor) (z : write ≢ 0) (r : ℕ) (W' : List ℕ) → Membered W base write item r W'
+      → Joining W₀ base n g W' (read + 1) r
   join-member o z r W' w =
       let a = join-accessor o z in
       let j = w .joined a in
-      turned W' (j .written) (sym (members-joined (v .k) nil (v .d) (j .e) (leaves (v .rest)) (a .accessor) (j .is)) ∙ v .answer) (w .more) (w .kept a) (w .long)
+      turned W' (j .written) (sym (members-joined (v .k) nil (v .d) (j .e) (leaves (v .rest)) (a .accessor) (j .is)) ∙ v .answer) (w .more)
+      (w .kept a) (w .long)
 
-  pub join-other : opAt W item ≢ memberAccessor → (W' : List ℕ) → W' ≡ set W (base + write) item → Joining W₀ base n g W' (read + 1) (write + 1)
+  pub join-other : opAt W item ≢ memberAccessor → (W' : List ℕ) → W' ≡ set W (base + write) item
+      → Joining W₀ base n g W' (read + 1) (write + 1)
   join-other o W' e =
       turned W' (written-more W W' e (join-in .0) (omega (arith, join-high, g .below)) (v .written) (v .tree))
       (sym (members-other (v .k) nil (v .d) (leaves (v .rest)) (λ h. o (tree-op (v .tree) ∙ h))) ∙ v .answer) (le-refl (write + 1))

@@ -1,5 +1,5 @@
--- The definition one token at a time: which case of `members`, `bracket`, `closing` and `sections` it is, by what is known of the token. And what is
--- known of openers: they are leaves of a flat list, in no class.
+-- The definition one token at a time: which case of `members`, `bracket`, `closing` and `sections` it is, by what is known of the token.
+-- And what is known of openers: they are leaves of a flat list, in no class.
 use Prim.Native.Nat.{ℕ, _+_, _<_}
 use mathlib.Core.Path.{_≡_, refl, sym, ap, _∙_}
 use mathlib.Core.Logic.{_≢_, _⊎_, inl, inr, ⊎-elim}
@@ -9,10 +9,12 @@ use mathlib.Core.Option.{Option, none, some}
 use native.Mathlib.Omega.{arith}
 use lib.Dec.{eqb}
 use borrow.Author.Tests.{eq-eqb, ne-eqb, eqb-true}
-use Rattle.molang.specs.Operator.{memberAccessor, leftBrace, leftBracket, leftParenthesis, any, isOneOf, between, isMathCall, isQueryOrLoop, hasMembers, closingOf, isCloser}
+use Rattle.molang.specs.Operator.{memberAccessor, leftBrace, leftBracket, leftParenthesis, any, isOneOf, between, isMathCall, isQueryOrLoop}
+use Rattle.molang.specs.Operator.{hasMembers, closingOf, isCloser}
 use Rattle.molang.specs.Forest.{Token, Forest, nil, node, inOrder}
 use Rattle.molang.specs.Message.{Message, leadingMemberAccessor, closingMismatch, sectionNotClosed, fail, closer}
-use Rattle.molang.specs.Sections.{withMember, members, Open, section, placed, position, outermost, Walked, going, mismatch, closing, bracket, sections}
+use Rattle.molang.specs.Sections.{withMember, members, Open, section, placed, position, outermost, Walked, going, mismatch, closing}
+use Rattle.molang.specs.Sections.{bracket, sections}
 use Rattle.molang.specs.Free.{flat}
 use Rattle.molang.proofs.Trees.{both, and-true-true}
 use Rattle.ops.specs.Operators.{isOpener}
@@ -27,10 +29,12 @@ found o b y x e = rw e
 pub missed : {A B : Type 0} (o : Option B) (y : B → A) (x : A) → o ≡ none → elim o [ some c ↦ y c | none ↦ x ] ≡ x
 missed o y x e = rw e
 
-by-walked : {A : Type 0} (x : Walked) (y : Open → A) (z : List Message → A) (t : Open) → x ≡ going t → elim x [ going t ↦ y t | mismatch m ↦ z m ] ≡ y t
+by-walked : {A : Type 0} (x : Walked) (y : Open → A) (z : List Message → A) (t : Open) → x ≡ going t
+    → elim x [ going t ↦ y t | mismatch m ↦ z m ] ≡ y t
 by-walked x y z t e = rw e
 
-by-mismatch : {A : Type 0} (x : Walked) (y : Open → A) (z : List Message → A) (m : List Message) → x ≡ mismatch m → elim x [ going t ↦ y t | mismatch m ↦ z m ] ≡ z m
+by-mismatch : {A : Type 0} (x : Walked) (y : Open → A) (z : List Message → A) (m : List Message) → x ≡ mismatch m
+    → elim x [ going t ↦ y t | mismatch m ↦ z m ] ≡ z m
 by-mismatch x y z m e = rw e
 
 -- ---- `members`
@@ -39,9 +43,11 @@ pub members-other : (k : Token) (cs d f : Forest) → k .op ≢ memberAccessor �
 unfolding members
 members-other k cs d f h = passed (eqb (k .op) memberAccessor) _ _ (ne-eqb (k .op) memberAccessor h)
 
-pub members-joined : (k : Token) (cs d e f : Forest) → k .op ≡ memberAccessor → withMember k d ≡ some e → members d (node k cs f) ≡ members e f
+pub members-joined : (k : Token) (cs d e f : Forest) → k .op ≡ memberAccessor → withMember k d ≡ some e
+    → members d (node k cs f) ≡ members e f
 unfolding members
-members-joined k cs d e f h j = taken (eqb (k .op) memberAccessor) _ _ (eq-eqb (k .op) memberAccessor h) ∙ found (withMember k d) e (λ z. members z f) _ j
+members-joined k cs d e f h j =
+    taken (eqb (k .op) memberAccessor) _ _ (eq-eqb (k .op) memberAccessor h) ∙ found (withMember k d) e (λ z. members z f) _ j
 
 pub members-leading : (k : Token) (cs f : Forest) → k .op ≡ memberAccessor → members nil (node k cs f) ≡ fail (leadingMemberAccessor k ∷ [])
 unfolding members withMember
@@ -115,21 +121,27 @@ flat-first k (node c cs r) f h = let e = both (eqb (k .op) memberAccessor) (flat
 
 -- ---- `bracket`, `closing`, `sections`
 
-pub bracket-opens : (k : Token) (cs : Forest) (i : ℕ) (s : Open) → isOpener (k .op) ≡ true → bracket k cs i s ≡ going (section k (i + 1) nil s)
+pub bracket-opens : (k : Token) (cs : Forest) (i : ℕ) (s : Open) → isOpener (k .op) ≡ true
+    → bracket k cs i s ≡ going (section k (i + 1) nil s)
 unfolding bracket
 bracket-opens k cs i s h =
     let c = opener-closes (k .op) h in
     found (closingOf (k .op)) (c .0) (λ z. going (section k (i + 1) nil s)) _ (c .1)
 
-pub bracket-closes : (k : Token) (cs : Forest) (i : ℕ) (s : Open) → isOpener (k .op) ≡ false → isCloser (k .op) ≡ true → bracket k cs i s ≡ closing k cs i s
+pub bracket-closes : (k : Token) (cs : Forest) (i : ℕ) (s : Open) → isOpener (k .op) ≡ false → isCloser (k .op) ≡ true
+    → bracket k cs i s ≡ closing k cs i s
 unfolding bracket
-bracket-closes k cs i s h e = missed (closingOf (k .op)) (λ z. going (section k (i + 1) nil s)) _ (other-closes (k .op) h) ∙ taken (isCloser (k .op)) _ _ e
+bracket-closes k cs i s h e =
+    missed (closingOf (k .op)) (λ z. going (section k (i + 1) nil s)) _ (other-closes (k .op) h) ∙ taken (isCloser (k .op)) _ _ e
 
-pub bracket-places : (k : Token) (cs : Forest) (i : ℕ) (s : Open) → isOpener (k .op) ≡ false → isCloser (k .op) ≡ false → bracket k cs i s ≡ going (placed k cs s)
+pub bracket-places : (k : Token) (cs : Forest) (i : ℕ) (s : Open) → isOpener (k .op) ≡ false → isCloser (k .op) ≡ false
+    → bracket k cs i s ≡ going (placed k cs s)
 unfolding bracket
-bracket-places k cs i s h e = missed (closingOf (k .op)) (λ z. going (section k (i + 1) nil s)) _ (other-closes (k .op) h) ∙ passed (isCloser (k .op)) _ _ e
+bracket-places k cs i s h e =
+    missed (closingOf (k .op)) (λ z. going (section k (i + 1) nil s)) _ (other-closes (k .op) h) ∙ passed (isCloser (k .op)) _ _ e
 
-pub closing-takes : (k o : Token) (cs d : Forest) (i j : ℕ) (s : Open) → closer o ≡ k .op → closing k cs i (section o j d s) ≡ going (placed o (inOrder d) s)
+pub closing-takes : (k o : Token) (cs d : Forest) (i j : ℕ) (s : Open) → closer o ≡ k .op
+    → closing k cs i (section o j d s) ≡ going (placed o (inOrder d) s)
 unfolding closing
 closing-takes k o cs d i j s h = taken (eqb (closer o) (k .op)) _ _ (eq-eqb (closer o) (k .op) h)
 
@@ -138,10 +150,12 @@ pub closing-differs : (k o : Token) (cs d : Forest) (i j : ℕ) (s : Open) → c
 unfolding closing
 closing-differs k o cs d i j s h = passed (eqb (closer o) (k .op)) _ _ (ne-eqb (closer o) (k .op) h)
 
-pub sections-go : (k : Token) (cs f : Forest) (i : ℕ) (s t : Open) → bracket k cs (position i s) s ≡ going t → sections i s (node k cs f) ≡ sections (position i s) t f
+pub sections-go : (k : Token) (cs f : Forest) (i : ℕ) (s t : Open) → bracket k cs (position i s) s ≡ going t
+    → sections i s (node k cs f) ≡ sections (position i s) t f
 unfolding sections
 sections-go k cs f i s t e = by-walked (bracket k cs (position i s) s) (λ t. sections (position i s) t f) (λ m. fail m) t e
 
-pub sections-end : (k : Token) (cs f : Forest) (i : ℕ) (s : Open) (m : List Message) → bracket k cs (position i s) s ≡ mismatch m → sections i s (node k cs f) ≡ fail m
+pub sections-end : (k : Token) (cs f : Forest) (i : ℕ) (s : Open) (m : List Message) → bracket k cs (position i s) s ≡ mismatch m
+    → sections i s (node k cs f) ≡ fail m
 unfolding sections
 sections-end k cs f i s m e = by-mismatch (bracket k cs (position i s) s) (λ t. sections (position i s) t f) (λ m. fail m) m e

@@ -1,5 +1,5 @@
--- The open sections in the words: what a change elsewhere keeps, one tree more in the innermost, one section more, and what the marks of the innermost and
--- the outermost name.
+-- The open sections in the words: what a change elsewhere keeps, one tree more in the innermost, one section more, and what the marks of
+-- the innermost and the outermost name.
 use Prim.Native.Nat.{ℕ, _+_, _*_, _-_, _≤_, _<_}
 use mathlib.Core.Path.{_≡_, refl, sym, ap, _∙_}
 use mathlib.Core.Logic.{_≢_, inr}
@@ -24,7 +24,8 @@ use Rattle.sections.proofs.SectionWritten.{written-none, written-raise,
 -- ---- numbers
 
 -- an opener's interval reaches past it
-pub opener-le : {W X : List ℕ} {base marks l m k' w' k i : ℕ} {o : Token} (x : Opener W X base marks l m k' w' k o i) → (l ≤ x .q) × (x .q < m)
+pub opener-le : {W X : List ℕ} {base marks l m k' w' k i : ℕ} {o : Token} (x : Opener W X base marks l m k' w' k o i)
+    → (l ≤ x .q) × (x .q < m)
 opener-le x = (x .leaf .low, tree-below (x .leaf))
 
 pub standing-le : {W X : List ℕ} {base marks lo hi k w : ℕ} {s : Open} → Standing W X base marks lo hi k w s → lo ≤ hi
@@ -42,7 +43,8 @@ standing-depth (outer v e) = e
 standing-depth (inner st x v e) = let a = standing-depth st in omega (arith, x .level)
 
 -- the position that the code counts is the definition's
-pub standing-position : {W X : List ℕ} {base marks lo hi k w : ℕ} {s : Open} → Standing W X base marks lo hi k w s → (i r : ℕ) → (k ≡ 0 → r ≡ w) → (k ≢ 0 → r ≡ i + 1)
+pub standing-position : {W X : List ℕ} {base marks lo hi k w : ℕ} {s : Open} → Standing W X base marks lo hi k w s → (i r : ℕ)
+    → (k ≡ 0 → r ≡ w) → (k ≢ 0 → r ≡ i + 1)
     → r ≡ position i s
 unfolding position
 standing-position (outer v e) i r a b = a e ∙ v .wrote ∙ back-count (v .done)
@@ -50,8 +52,10 @@ standing-position (inner st x v e) i r a b = b (omega (arith, x .level))
 
 -- ---- a change elsewhere
 
-opener-keep : (W W' : List ℕ) {X : List ℕ} {base marks l m k' w' k i : ℕ} {o : Token} → ((j : ℕ) → j < slotStart m → wd W' j ≡ wd W j) → wd W' (base + w') ≡ wd W (base + w')
-    → wd W' (marks + 2 * k') ≡ wd W (marks + 2 * k') → wd W' (marks + 2 * k' + 1) ≡ wd W (marks + 2 * k' + 1) → Opener W X base marks l m k' w' k o i → Opener W' X base marks l m k' w' k o i
+opener-keep : (W W' : List ℕ) {X : List ℕ} {base marks l m k' w' k i : ℕ} {o : Token} → ((j : ℕ) → j < slotStart m → wd W' j ≡ wd W j)
+    → wd W' (base + w') ≡ wd W (base + w')
+    → wd W' (marks + 2 * k') ≡ wd W (marks + 2 * k') → wd W' (marks + 2 * k' + 1) ≡ wd W (marks + 2 * k' + 1)
+    → Opener W X base marks l m k' w' k o i → Opener W' X base marks l m k' w' k o i
 opener-keep W W' {m = m} low slot place start x =
     record {
       q = x .q;
@@ -78,13 +82,15 @@ standing-keep W W' {base = base} {marks = marks} low array mark (inner {k' = k'}
     e
 
 -- an interval that goes on
-pub standing-raise : {W X : List ℕ} {base marks lo hi hi' k w : ℕ} {s : Open} → hi ≤ hi' → Standing W X base marks lo hi k w s → Standing W X base marks lo hi' k w s
+pub standing-raise : {W X : List ℕ} {base marks lo hi hi' k w : ℕ} {s : Open} → hi ≤ hi' → Standing W X base marks lo hi k w s
+    → Standing W X base marks lo hi' k w s
 standing-raise h (outer v e) = outer (written-raise h v) e
 standing-raise h (inner st x v e) = inner st x (written-raise h v) e
 
 -- ---- one tree more, one section more
 
-pub standing-place : {W X : List ℕ} {base marks lo l m k w q : ℕ} {s : Open} {t : Token} {cs : Forest} → Standing W X base marks lo l k w s → RepT W X q l m t cs
+pub standing-place : {W X : List ℕ} {base marks lo l m k w q : ℕ} {s : Open} {t : Token} {cs : Forest} → Standing W X base marks lo l k w s
+    → RepT W X q l m t cs
     → wd W (base + w) ≡ q → Standing W X base marks lo m k (w + 1) (placed t cs s)
 unfolding placed
 standing-place (outer v e) t h = outer (written-put v t h) e
@@ -93,11 +99,14 @@ standing-place {base = base} {w = w} (inner {w' = w'} {v = n} st x v e) t h =
     let more : w + 1 ≡ w' + 1 + (n + 1) = omega arith in
     inner st x (written-put v t (rw at h)) more
 
-pub standing-open : {W X : List ℕ} {base marks lo l m k w q i : ℕ} {s : Open} {o : Token} → Standing W X base marks lo l k w s → RepT W X q l m o nil → isOpener (o .op) ≡ true
-    → wd W (base + w) ≡ q → wd W (marks + 2 * k) ≡ w → wd W (marks + 2 * k + 1) ≡ i → Standing W X base marks lo m (k + 1) (w + 1) (section o i nil s)
+pub standing-open : {W X : List ℕ} {base marks lo l m k w q i : ℕ} {s : Open} {o : Token} → Standing W X base marks lo l k w s
+    → RepT W X q l m o nil → isOpener (o .op) ≡ true
+    → wd W (base + w) ≡ q → wd W (marks + 2 * k) ≡ w → wd W (marks + 2 * k + 1) ≡ i
+    → Standing W X base marks lo m (k + 1) (w + 1) (section o i nil s)
 standing-open {m = m} {k = k} {w = w} {q = q} st t opens slot place start =
     let more : w + 1 ≡ w + 1 + 0 = omega arith in
-    inner {k = k + 1} st (record { q = q; slot = slot; leaf = t; opens = opens; level = refl; place = place; start = start }) (written-none m) more
+    inner {k = k + 1} st (record { q = q; slot = slot; leaf = t; opens = opens; level = refl; place = place; start = start })
+    (written-none m) more
 
 -- ---- what the marks name
 
@@ -118,7 +127,8 @@ record Outermost (W : List ℕ) (base marks w : ℕ) (t : Token) : Type 0 where
   inside : wd W (marks + 2 * 0) < w
   token : TokenAt W (wd W (base + wd W (marks + 2 * 0))) t
 
-outermost-of : {W X : List ℕ} {base marks lo l m k' w' k w i : ℕ} {s : Open} {o : Token} → Standing W X base marks lo l k' w' s → Opener W X base marks l m k' w' k o i → w' < w
+outermost-of : {W X : List ℕ} {base marks lo l m k' w' k w i : ℕ} {s : Open} {o : Token} → Standing W X base marks lo l k' w' s
+    → Opener W X base marks l m k' w' k o i → w' < w
     → Outermost W base marks w (outermost o s)
 unfolding outermost
 outermost-of {W} {marks = marks} {w' = w'} (outer v e) x h =
@@ -129,12 +139,18 @@ outermost-of {w' = w'} (inner {w' = u} st y v e) x h =
     let r = outermost-of st y below in
     record { inside = omega (arith, r .inside); token = r .token }
 
-pub standing-named : {W X : List ℕ} {base marks lo hi k w : ℕ} {s : Open} → Standing W X base marks lo hi k w s → k ≢ 0 → base + w ≤ length W → marks + 2 * k ≤ length W
+pub standing-named : {W X : List ℕ} {base marks lo hi k w : ℕ} {s : Open} → Standing W X base marks lo hi k w s → k ≢ 0
+    → base + w ≤ length W → marks + 2 * k ≤ length W
     → NamedAt W base marks k
 standing-named (outer v e) n room within = absurd (n e)
 standing-named {w = w} (inner {w' = w'} st x v e) n room within =
     let h : w' < w = omega arith in
-    record { some = omega arith; within = within; innermost = omega (arith, innermost-place x); outermost = omega (arith, outermost-of st x h .inside) }
+    record {
+      some = omega arith;
+      within = within;
+      innermost = omega (arith, innermost-place x);
+      outermost = omega (arith, outermost-of st x h .inside);
+    }
 
 -- the tokens and the number that the messages give
 pub record Names (W : List ℕ) (u : Unclosed) (o : Token) (i : ℕ) (p : Token) : Type 0 where
@@ -142,7 +158,8 @@ pub record Names (W : List ℕ) (u : Unclosed) (o : Token) (i : ℕ) (p : Token)
   pub start : u .start ≡ i
   pub outer-token : TokenAt W (u .outer) p
 
-pub names : {W X : List ℕ} {base marks lo l m k' w' k i : ℕ} {s : Open} {o : Token} {u : Unclosed} → Standing W X base marks lo l k' w' s → Opener W X base marks l m k' w' k o i
+pub names : {W X : List ℕ} {base marks lo l m k' w' k i : ℕ} {s : Open} {o : Token} {u : Unclosed} → Standing W X base marks lo l k' w' s
+    → Opener W X base marks l m k' w' k o i
     → Named W base marks k u → Names W u o i (outermost o s)
 names {w' = w'} st x n =
     let h : w' < w' + 1 = omega arith in
@@ -154,7 +171,8 @@ names {w' = w'} st x n =
 
 -- ---- the end of the list
 
-pub standing-unclosed : {W X : List ℕ} {base marks lo hi k w : ℕ} {s : Open} {u : Unclosed} → Standing W X base marks lo hi k w s → k ≢ 0 → Named W base marks k u
+pub standing-unclosed : {W X : List ℕ} {base marks lo hi k w : ℕ} {s : Open} {u : Unclosed} → Standing W X base marks lo hi k w s → k ≢ 0
+    → Named W base marks k u
     → Fails W (closed s) (Unclosing u)
 unfolding closed
 standing-unclosed (outer v e) n a = absurd (n e)

@@ -1,5 +1,5 @@
--- The section walk: its two loops have one invariant, the outer one with no section open. What is read stands as the definition's open sections, what
--- is not read yet in the array's end, and the definition's answer from there on is that of the whole list.
+-- The section walk: its two loops have one invariant, the outer one with no section open. What is read stands as the definition's open
+-- sections, what is not read yet in the array's end, and the definition's answer from there on is that of the whole list.
 use Prim.Native.Nat.{ℕ, _+_, _*_, _≤_, _<_}
 use mathlib.Core.Path.{_≡_, refl, sym, ap, _∙_, subst}
 use mathlib.Core.Logic.{_≢_, inl, inr, ⊎-elim}
@@ -16,7 +16,8 @@ use Rattle.nodes.specs.Store.{wd, Seg, RepF, RepT, Kept}
 use Rattle.nodes.proofs.Runs.{seg-keep}
 use Rattle.nodes.proofs.Store.{rep-le, rep-count, tree-first, back-count}
 use Rattle.nodes.proofs.Keeping.{free-above, free-part, kept-then, rep-beside}
-use Rattle.sections.specs.Flat.{mismatched, Stands, Fails, Standing, outer, inner, LookAt, Follows, on, ends, Looked, NamedAt, Named, CanSection}
+use Rattle.sections.specs.Flat.{mismatched, Stands, Fails, Standing, outer, inner, LookAt, Follows, on, ends, Looked, NamedAt, Named}
+use Rattle.sections.specs.Flat.{CanSection}
 use Rattle.levels.specs.Failures.{TellsMismatch}
 use Rattle.levels.specs.declared.failure.Mismatch.{Mismatch}
 use Rattle.levels.specs.declared.failure.Unclosed.{Unclosed}
@@ -37,13 +38,16 @@ record Went (W X : List ℕ) (base marks lo hi w i : ℕ) (a : Reached) (x : Wal
   more : a .write ≤ w + 1
   index : a .index ≡ i
 
-went : {W X : List ℕ} {base marks lo hi w i : ℕ} {r : Bracket} {x : Walked} (a : Reached) → Follows W X base marks lo hi w i r x → r ≡ On a → Went W X base marks lo hi w i a x
+went : {W X : List ℕ} {base marks lo hi w i : ℕ} {r : Bracket} {x : Walked} (a : Reached) → Follows W X base marks lo hi w i r x → r ≡ On a
+    → Went W X base marks lo hi w i a x
 went {W} {X} {base} {marks} {lo} {hi} {w} {i} a (on {a = b} {t = t} st d m n) e =
     let same : b ≡ a = cc in
-    subst (λ (a : Reached). Went W X base marks lo hi w i a (going t)) same (record { t = t; is = refl; standing = st; more = m; index = n })
+    subst (λ (a : Reached). Went W X base marks lo hi w i a (going t)) same
+    (record { t = t; is = refl; standing = st; more = m; index = n })
 went a (ends t) e = let z : _≡_ {A = ℕ} 0 1 = cc in absurd (omega arith)
 
-ended : {W X : List ℕ} {base marks lo hi w i : ℕ} {r : Bracket} {x : Walked} (m : Mismatch) → Follows W X base marks lo hi w i r x → r ≡ Differs m
+ended : {W X : List ℕ} {base marks lo hi w i : ℕ} {r : Bracket} {x : Walked} (m : Mismatch) → Follows W X base marks lo hi w i r x
+    → r ≡ Differs m
     → (ms : List Message) × (x ≡ mismatch ms) × TellsMismatch W m ms
 ended m (on st d w n) e = let z : _≡_ {A = ℕ} 0 1 = cc in absurd (omega arith)
 ended {W} m (ends {m = b} {ms = ms} t) e =
@@ -51,7 +55,8 @@ ended {W} m (ends {m = b} {ms = ms} t) e =
     (ms, refl, subst (λ (m : Mismatch). TellsMismatch W m ms) same t)
 
 -- no token counts more than those that are read
-position-near : {W X : List ℕ} {base marks lo hi k w i read : ℕ} {s : Open} → Standing W X base marks lo hi k w s → w ≤ read → i ≤ read → position i s ≤ read + 1
+position-near : {W X : List ℕ} {base marks lo hi k w i read : ℕ} {s : Open} → Standing W X base marks lo hi k w s → w ≤ read → i ≤ read
+    → position i s ≤ read + 1
 unfolding position
 position-near (outer v e) a b = omega (arith, v .wrote, back-count (v .done))
 position-near (inner st x v e) a b = omega arith
@@ -59,7 +64,8 @@ position-near (inner st x v e) a b = omega arith
 -- ---- the loops
 
 -- The open sections s stand; the trees `rest`, at the slots rs, are not read yet.
-pub record WalkAt (W₀ : List ℕ) (base n : ℕ) (g : CanSection W₀ base n) (W : List ℕ) (read write depth index : ℕ) (rs : List ℕ) (rest : Forest) : Type 0 where
+pub record WalkAt (W₀ : List ℕ) (base n : ℕ) (g : CanSection W₀ base n) (W : List ℕ) (read write depth index : ℕ) (rs : List ℕ)
+    (rest : Forest) : Type 0 where
   pub m : ℕ
   pub s : Open
   pub standing : Standing W (g .X) base (base + n) (g .lo) m depth write s
@@ -119,7 +125,8 @@ pub record WalkTurn (W₀ : List ℕ) (base n : ℕ) (g : CanSection W₀ base n
   pub long : length W ≡ length W₀
 
 pub walk-turn : {W₀ : List ℕ} {base n : ℕ} {g : CanSection W₀ base n} {W : List ℕ} {read write depth index : ℕ} (rs : List ℕ) (rest : Forest)
-    → WalkAt W₀ base n g W read write depth index rs rest → read < n → (item : ℕ) → item ≡ wd W (base + read) → WalkTurn W₀ base n g W read write depth index item
+    → WalkAt W₀ base n g W read write depth index rs rest → read < n → (item : ℕ) → item ≡ wd W (base + read)
+    → WalkTurn W₀ base n g W read write depth index item
 unfolding count
 walk-turn [] rest v h item e = absurd (omega (arith, v .count))
 walk-turn (b ∷ bs) nil v h item e = absurd (omega (arith, rep-count (v .left)))
@@ -150,7 +157,8 @@ walk-turn {W₀} {base} {n} {g} {W} {read} (b ∷ bs) (node k cs rest) v h item 
       long = v .long;
     }
 
-module _ {W₀ : List ℕ} {base n : ℕ} {g : CanSection W₀ base n} {W : List ℕ} {read write depth index item : ℕ} (v : WalkTurn W₀ base n g W read write depth index item) where
+module _ {W₀ : List ℕ} {base n : ℕ} {g : CanSection W₀ base n} {W : List ℕ} {read write depth index item : ℕ}
+    (v : WalkTurn W₀ base n g W read write depth index item) where
   pub walk-high : (v .m ≤ g .hi) × (depth ≤ write)
   walk-high = (rep-le (v .left), standing-written (v .standing))
 
@@ -173,14 +181,16 @@ module _ {W₀ : List ℕ} {base n : ℕ} {g : CanSection W₀ base n} {W : List
       }
 
   -- the words that a token leaves as they were, among them those of the list that are not read yet
-  turn-kept : {r : Bracket} {W' : List ℕ} → Looked W base (base + n) write depth index item r W' → Kept W₀ W' (g .X) (g .lo) (g .hi) base (base + n + 2 * n)
+  turn-kept : {r : Bracket} {W' : List ℕ} → Looked W base (base + n) write depth index item r W'
+      → Kept W₀ W' (g .X) (g .lo) (g .hi) base (base + n + 2 * n)
   turn-kept {W' = W'} w =
       let high = walk-high in let behind = v .behind in let count = v .count in
       kept-then W₀ W W' (g .X) (g .lo) (g .hi) base (base + n + 2 * n) (v .kept)
       (λ j f o. w .same walk-look j (free-part (g .X) (g .lo) (g .hi) (g .lo) (v .m) j (le-refl (g .lo)) (high .0) f)
       (⊎-elim (λ h. inl h) (λ h. inr (omega arith)) o) (⊎-elim (λ h. inl (omega arith)) (λ h. inr (omega arith)) o))
 
-  pub walk-on : (r : Bracket) (a : Reached) (W' : List ℕ) → Looked W base (base + n) write depth index item r W' → r ≡ On a → Walking W₀ base n g W' (read + 1) (a .write) (a .depth) (a .index)
+  pub walk-on : (r : Bracket) (a : Reached) (W' : List ℕ) → Looked W base (base + n) write depth index item r W' → r ≡ On a
+      → Walking W₀ base n g W' (read + 1) (a .write) (a .depth) (a .index)
   walk-on r a W' w e =
       let f = went a (w .answer walk-look) e in
       let next = position-near (v .standing) (v .behind) (v .near) in (
@@ -190,14 +200,19 @@ module _ {W₀ : List ℕ} {base n : ℕ} {g : CanSection W₀ base n} {W : List
           m = v .m;
           s = f .t;
           standing = f .standing;
-          left = rep-beside W W' (g .X) (g .lo) (v .m) base (λ j x h. w .same walk-look j x (inl h) (inl (omega arith))) (g .below) (inr (le-refl (v .m))) (v .left);
+          left =
+              rep-beside W W' (g .X) (g .lo) (v .m) base (λ j x h. w .same walk-look j x (inl h) (inl (omega arith))) (g .below)
+              (inr (le-refl (v .m))) (v .left);
           run = seg-keep W W' (base + (read + 1)) (v .bs)
-              (λ j x y. w .same walk-look j (free-above (g .X) (g .lo) (v .m) j (omega (arith, walk-high, g .below))) (inr (omega (arith, v .behind))) (inl (omega (arith, v .count)))) (v .run);
+              (λ j x y. w .same walk-look j (free-above (g .X) (g .lo) (v .m) j (omega (arith, walk-high, g .below))) (inr (omega (arith, v .behind))) (inl (omega (arith, v .count))))
+              (v .run);
           count = v .count;
           behind = omega (arith, f .more, v .behind);
           near = omega (arith, f .index);
           plain = v .after;
-          answer = ap (λ (i : ℕ). sections i (f .t) (v .rest)) (f .index) ∙ (sym (sections-go (v .k) (v .cs) (v .rest) index (v .s) (f .t) (f .is)) ∙ v .answer);
+          answer =
+              ap (λ (i : ℕ). sections i (f .t) (v .rest)) (f .index)
+              ∙ (sym (sections-go (v .k) (v .cs) (v .rest) index (v .s) (f .t) (f .is)) ∙ v .answer);
           kept = turn-kept w;
           long = w .long ∙ v .long;
         },
@@ -227,12 +242,15 @@ module _ {W₀ : List ℕ} {base n : ℕ} {g : CanSection W₀ base n} {W : List
         fewer = omega (arith, v .behind, v .count);
       }
 
-  pub walk-named : {rs : List ℕ} {rest : Forest} → WalkAt W₀ base n g W read write depth index rs rest → depth ≢ 0 → NamedAt W base (base + n) depth
+  pub walk-named : {rs : List ℕ} {rest : Forest} → WalkAt W₀ base n g W read write depth index rs rest → depth ≢ 0
+      → NamedAt W base (base + n) depth
   walk-named v z =
       let high = standing-written (v .standing) in
-      standing-named (v .standing) z (omega (arith, v .behind, v .count, v .long, g .room)) (omega (arith, v .behind, v .count, v .long, g .room))
+      standing-named (v .standing) z (omega (arith, v .behind, v .count, v .long, g .room))
+      (omega (arith, v .behind, v .count, v .long, g .room))
 
-  pub walk-unclosed : (rs : List ℕ) (rest : Forest) → WalkAt W₀ base n g W read write depth index rs rest → n ≤ read → depth ≢ 0 → (u : Unclosed) → Named W base (base + n) depth u
+  pub walk-unclosed : (rs : List ℕ) (rest : Forest) → WalkAt W₀ base n g W read write depth index rs rest → n ≤ read → depth ≢ 0
+      → (u : Unclosed) → Named W base (base + n) depth u
       → Fails W (sections 0 (outside nil) (g .f)) (Unclosing u)
   unfolding sections count
   walk-unclosed (b ∷ bs) rest v h z u a = absurd (omega (arith, v .count))

@@ -21,7 +21,8 @@ pub written-raise : {W X : List ℕ} {base lo hi hi' r : ℕ} {d : Forest} → h
 written-raise h v = record { ds = v .ds; done = back-raise h (v .done); run = v .run; wrote = v .wrote }
 
 -- a change of words above the slots and beside those that are written
-pub written-keep : (W W' : List ℕ) {X : List ℕ} {base lo hi r : ℕ} {d : Forest} → ((j : ℕ) → j < slotStart hi → wd W' j ≡ wd W j) → ((j : ℕ) → base ≤ j → j < base + r → wd W' j ≡ wd W j)
+pub written-keep : (W W' : List ℕ) {X : List ℕ} {base lo hi r : ℕ} {d : Forest} → ((j : ℕ) → j < slotStart hi → wd W' j ≡ wd W j)
+    → ((j : ℕ) → base ≤ j → j < base + r → wd W' j ≡ wd W j)
     → Written W X base lo hi d r → Written W' X base lo hi d r
 written-keep W W' {base = base} {hi = hi} low array v =
     record {
@@ -32,14 +33,16 @@ written-keep W W' {base = base} {hi = hi} low array v =
     }
 
 -- one tree more, whose slot is in the next word
-pub written-put : {W X : List ℕ} {base lo l m q r : ℕ} {d cs : Forest} {t : Token} → Written W X base lo l d r → RepT W X q l m t cs → wd W (base + r) ≡ q
+pub written-put : {W X : List ℕ} {base lo l m q r : ℕ} {d cs : Forest} {t : Token} → Written W X base lo l d r → RepT W X q l m t cs
+    → wd W (base + r) ≡ q
     → Written W X base lo m (node t cs d) (r + 1)
 written-put {base = base} {m = m} {q = q} {r = r} v t h =
     let at : base + length (v .ds) ≡ base + r = omega (arith, v .wrote) in
     record { ds = q ∷ v .ds; done = put (v .done) t (le-refl m); run = (rw at h, v .run); wrote = omega (arith, v .wrote) }
 
 -- the same, where a store has put it there
-pub written-more : (W W' : List ℕ) {X : List ℕ} {base lo l m q w : ℕ} {d cs : Forest} {t : Token} → W' ≡ set W (base + w) q → base + w < length W → slotStart m ≤ base
+pub written-more : (W W' : List ℕ) {X : List ℕ} {base lo l m q w : ℕ} {d cs : Forest} {t : Token} → W' ≡ set W (base + w) q
+    → base + w < length W → slotStart m ≤ base
     → Written W X base lo l d w → RepT W X q l m t cs → Written W' X base lo m (node t cs d) (w + 1)
 written-more W W' {base = base} {q = q} {w = w} e room below v t =
     let other = set-other W W' (base + w) q e in

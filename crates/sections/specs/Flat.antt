@@ -1,5 +1,5 @@
--- What the flat passes ask and ensure. The list is an array of slots; `members` and `sections` write it again from its start, and `sections` keeps two
--- words for each open section above it. What is ensured is the definition's answer, as it then stands in the words.
+-- What the flat passes ask and ensure. The list is an array of slots; `members` and `sections` write it again from its start, and
+-- `sections` keeps two words for each open section above it. What is ensured is the definition's answer, as it then stands in the words.
 use Prim.Native.Nat.{ℕ, suc, _+_, _*_, _-_, _^_, _≤_, _<_}
 use mathlib.Core.Path.{_≡_}
 use mathlib.Core.Logic.{_⊎_}
@@ -10,7 +10,8 @@ use lib.ListN.{length, set}
 use Rattle.molang.specs.Operator.{memberAccessor}
 use Rattle.molang.specs.Forest.{Token, Forest, nil, node, leaves}
 use Rattle.molang.specs.Message.{Message, Result, ok, fail}
-use Rattle.molang.specs.Sections.{withMember, members, Open, outside, section, position, outermost, Walked, going, mismatch, closing, bracket, sections}
+use Rattle.molang.specs.Sections.{withMember, members, Open, outside, section, position, outermost, Walked, going, mismatch, closing}
+use Rattle.molang.specs.Sections.{bracket, sections}
 use Rattle.molang.specs.Free.{flat}
 use Rattle.ops.specs.Operators.{isOpener}
 use Rattle.nodes.specs.Store.{wd, slotStart, SegB, RepT, RepB, InArray, Free, Kept}
@@ -107,8 +108,8 @@ pub record Membered (W : List ℕ) (base write item r : ℕ) (W' : List ℕ) : T
 
 -- ---- the open sections
 
--- The opener o of the innermost open section is a leaf, written at the place w' of the array, with the marks k' of its place and its position i. With it,
--- k sections are open.
+-- The opener o of the innermost open section is a leaf, written at the place w' of the array, with the marks k' of its place and its
+-- position i. With it, k sections are open.
 pub record Opener (W X : List ℕ) (base marks l m k' w' k : ℕ) (o : Token) (i : ℕ) : Type 0 where
   pub q : ℕ
   pub slot : wd W (base + w') ≡ q
@@ -118,11 +119,12 @@ pub record Opener (W X : List ℕ) (base marks l m k' w' k : ℕ) (o : Token) (i
   pub place : wd W (marks + 2 * k') ≡ w'
   pub start : wd W (marks + 2 * k' + 1) ≡ i
 
--- What has been read stands in the w words from `base` on: the trees outside every section, then each open section's opener and its contents.
--- k sections are open.
+-- What has been read stands in the w words from `base` on: the trees outside every section, then each open section's opener and its
+-- contents. k sections are open.
 pub data Standing (W X : List ℕ) (base marks lo : ℕ) : ℕ → ℕ → ℕ → Open → Type 0 where
   outer : {hi k w : ℕ} {d : Forest} → Written W X base lo hi d w → k ≡ 0 → Standing W X base marks lo hi k w (outside d)
-  inner : {l m hi k' w' v k w i : ℕ} {o : Token} {d : Forest} {s : Open} → Standing W X base marks lo l k' w' s → Opener W X base marks l m k' w' k o i
+  inner : {l m hi k' w' v k w i : ℕ} {o : Token} {d : Forest} {s : Open} → Standing W X base marks lo l k' w' s
+      → Opener W X base marks l m k' w' k o i
       → Written W X (base + (w' + 1)) m hi d v → w ≡ w' + 1 + v → Standing W X base marks lo hi k w (section o i d s)
 
 -- How many sections are open.
@@ -146,8 +148,8 @@ pub record Opened (W : List ℕ) (base marks write depth index opener : ℕ) (r 
   pub at : r .index ≡ index
   pub words : W' ≡ set (set (set W (base + write) opener) (marks + 2 * depth) write) (marks + 2 * depth + 1) (index + 1)
 
--- The open sections s stand in the words, and after them the token k, which has children only as an accessor. There is room to write it, and to
--- mark one section more.
+-- The open sections s stand in the words, and after them the token k, which has children only as an accessor. There is room to write it,
+-- and to mark one section more.
 pub record LookAt (W : List ℕ) (base marks write depth item : ℕ) : Type 0 where
   pub X : List ℕ
   pub lo : ℕ
@@ -163,16 +165,18 @@ pub record LookAt (W : List ℕ) (base marks write depth item : ℕ) : Type 0 wh
   pub apart : base + write < marks
   pub room : marks + 2 * depth + 2 ≤ length W
 
--- After the token at position i, w items being written before it: the walk goes on, and HOW MANY SECTIONS ARE OPEN is said; or it ends, and the
--- mismatch is told.
+-- After the token at position i, w items being written before it: the walk goes on, and HOW MANY SECTIONS ARE OPEN is said; or it ends, and
+-- the mismatch is told.
 pub data Follows (W X : List ℕ) (base marks lo hi w i : ℕ) : Bracket → Walked → Type 0 where
-  on : {a : Reached} {t : Open} → Standing W X base marks lo hi (a .depth) (a .write) t → a .depth ≡ depthOf t → a .write ≤ w + 1 → a .index ≡ i
+  on : {a : Reached} {t : Open} → Standing W X base marks lo hi (a .depth) (a .write) t → a .depth ≡ depthOf t → a .write ≤ w + 1
+      → a .index ≡ i
       → Follows W X base marks lo hi w i (On a) (going t)
   ends : {m : Mismatch} {ms : List Message} → TellsMismatch W m ms → Follows W X base marks lo hi w i (Differs m) (mismatch ms)
 
 -- A closer where a section is open: no word changes but those of the list's own slots.
 pub record Closed (W : List ℕ) (base marks write depth index item : ℕ) (r : Bracket) (W' : List ℕ) : Type 0 where
-  pub answer : (g : LookAt W base marks write depth item) → Follows W' (g .X) base marks (g .lo) (g .m) write index r (closing (g .k) (g .cs) index (g .s))
+  pub answer : (g : LookAt W base marks write depth item)
+      → Follows W' (g .X) base marks (g .lo) (g .m) write index r (closing (g .k) (g .cs) index (g .s))
   pub same : (g : LookAt W base marks write depth item) (j : ℕ) → Free (g .X) (g .lo) (g .m) j → wd W' j ≡ wd W j
   pub long : length W' ≡ length W
 
@@ -199,8 +203,8 @@ pub record Named (W : List ℕ) (base marks depth : ℕ) (u : Unclosed) : Type 0
 
 -- ---- `sections`
 
--- A flat list, in which only accessors have children, stands in the n words from `base` on, which lie above all its slots; after them there is
--- room for two words for each section. Places and positions fit a word.
+-- A flat list, in which only accessors have children, stands in the n words from `base` on, which lie above all its slots; after them there
+-- is room for two words for each section. Places and positions fit a word.
 pub record CanSection (W : List ℕ) (base n : ℕ) : Type 0 where
   pub X : List ℕ
   pub lo : ℕ

@@ -16,7 +16,8 @@ ghost use mathlib.Core.Logic.{_≢_};
 ghost use Prim.Native.Nat.{_+_, _*_, _-_, _^_, _≤_, _<_};
 ghost use lib.ListN.{length};
 ghost use Rattle.nodes.specs.Store.{wd};
-ghost use Rattle.sections.specs.Flat.{CanJoin, Joined, MemberAt, Membered, CanSection, Sectioned, CanOpen, Opened, LookAt, Looked, Closed, NamedAt, Named};
+ghost use Rattle.sections.specs.Flat.{CanJoin, Joined, MemberAt, Membered, CanSection, Sectioned, CanOpen, Opened, LookAt, Looked};
+ghost use Rattle.sections.specs.Flat.{Closed, NamedAt, Named};
 
 // What a flat pass leaves: how many items, or why it fails.
 pub enum Flat {

@@ -11,12 +11,14 @@ use lib.ListN.{length}
 use borrow.Author.Tests.{leb-true, eqb-true}
 use Rattle.molang.specs.Forest.{Token, Forest, nil, node, size}
 use Rattle.molang.specs.Read as read
-use Rattle.molang.specs.Words.{Field, operatorField, startField, endField, upperField, lowerField, countField, lowOf, lowFault, wordFault, variantAfter, nextInToken, Refusal, row, withPlace, withNumber, wordsRefusal}
+use Rattle.molang.specs.Words.{Field, operatorField, startField, endField, upperField, lowerField, countField, lowOf, lowFault, wordFault}
+use Rattle.molang.specs.Words.{variantAfter, nextInToken, Refusal, row, withPlace, withNumber, wordsRefusal}
 use Rattle.molang.specs.FirstFailure.{must, firstOf}
 use Rattle.molang.specs.Parse.{Call, mostTokens, refusal, reading, told, answered}
 use Rattle.molang.specs.Plain.{plainForm, seatOf, unplain, unplainAt}
 use Rattle.molang.specs.Write.{written}
-use Rattle.molang.specs.WriteEntry.{mostNodes, nextInNode, Shape, shapeAfter, continues, isWhole, treeFault, treesOf, WriteCall, forestRefusal, writeRefusal, writtenTokens, writeTold, writeAnswered}
+use Rattle.molang.specs.WriteEntry.{mostNodes, nextInNode, Shape, shapeAfter, continues, isWhole, treeFault, treesOf, WriteCall}
+use Rattle.molang.specs.WriteEntry.{forestRefusal, writeRefusal, writtenTokens, writeTold, writeAnswered}
 use Rattle.molang.proofs.Accepted.{call-accepted}
 use Rattle.molang.proofs.Bounds.{read-tree, read-messages}
 use Rattle.molang.proofs.FirstFailure.{last-one}

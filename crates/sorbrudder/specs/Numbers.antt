@@ -1,5 +1,6 @@
 -- The two entries' answers as one number, as the exports give them: bits 0-31 a count or a refusal's place, bits 32-39 a refusal's number,
--- else 0, bits 40-47 the kind of the answer: 0 a tree or tokens, 1 messages, 2 a refusal. And the way back; and the exported reader's promise.
+-- else 0, bits 40-47 the kind of the answer: 0 a tree or tokens, 1 messages, 2 a refusal. And the way back; and the exported reader's
+-- promise.
 use Prim.Native.Nat.{ℕ, zero, suc, _+_, _*_, _/_, _%_, _^_, _<_}
 use mathlib.Core.Path.{_≡_}
 use mathlib.Core.List.{List}

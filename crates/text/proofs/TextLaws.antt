@@ -27,7 +27,8 @@ wrote-then {a} {b} {c} {at} {m} {r} {s} {t} h p q =
     }
 
 -- One byte more of a text.
-pub byte-laid : (out₀ out : List ℕ) (at : ℕ) (bytes : List ℕ) (i : ℕ) → at + length bytes ≤ length out₀ → length out ≡ length out₀ → i < length bytes
+pub byte-laid : (out₀ out : List ℕ) (at : ℕ) (bytes : List ℕ) (i : ℕ) → at + length bytes ≤ length out₀ → length out ≡ length out₀
+    → i < length bytes
     → out ≡ laidAt at (take i bytes) out₀
     → set out (at + i) (getD bytes i 0) ≡ laidAt at (take (i + 1) bytes) out₀
 byte-laid out₀ out at bytes i room long h e =
@@ -93,7 +94,8 @@ few-digits n k h few = by-test (leb k 20) refl
         let long = leb-false k 20 e in
         absurd (omega (arith, few .2 (omega arith), pow-le-pow-right {n = 10} (omega arith) {i = 20} {j = k - 1} (omega arith)))
 
-pub wrote-decimal : {a b : List ℕ} {at r : ℕ} {ds : List ℕ} (n k : ℕ) → n < 2 ^ 64 → Fewest 10 1 n k → ds ≡ digits 10 k n → Wrote a at ds r b
+pub wrote-decimal : {a b : List ℕ} {at r : ℕ} {ds : List ℕ} (n k : ℕ) → n < 2 ^ 64 → Fewest 10 1 n k → ds ≡ digits 10 k n
+    → Wrote a at ds r b
     → Wrote a at (decimal n) r b
 unfolding decimal
 wrote-decimal {ds = ds} n k h few e w =

@@ -14,7 +14,8 @@ use Rattle.molang.specs.Words.{Refusal, row, operatorField, wordsRefusal, token
 use Rattle.molang.specs.Read.{Answer, read}
 use Rattle.molang.proofs.Bounds.{Bounded, fewNodes, fewMessages, read-bounded}
 use Rattle.molang.proofs.Reread.{tokens-count}
-use Rattle.molang.specs.Parse.{Call, Told, refused, inHalves, refusal, reading, told, answered, treeIn, treeAfter, messagesIn, messagesAfter}
+use Rattle.molang.specs.Parse.{Call, Told, refused, inHalves, refusal, reading, told, answered, treeIn, treeAfter, messagesIn}
+use Rattle.molang.specs.Parse.{messagesAfter}
 use Rattle.molang.proofs.FirstFailure.{last-one, after-none}
 use Rattle.derived.specs.Derived.{named, highest}
 use Rattle.derived.proofs.WordLaws.{exact-few, highest-few}
@@ -45,7 +46,8 @@ turned-empty first = refl
 
 pub turned-first : (bytes first : ℕ) → bytes % 4 ≡ 0 → (bytes ≡ 0 → ⊥) → 65535 < first → some (row 8 0) ≡ turnedBack bytes first
 unfolding must firstOf
-turned-first bytes first whole some-bytes h = rw (whole-words bytes first whole, le-leb 4 bytes (omega arith), le-ltb first 65536 (omega arith)) refl
+turned-first bytes first whole some-bytes h =
+    rw (whole-words bytes first whole, le-leb 4 bytes (omega arith), le-ltb first 65536 (omega arith)) refl
 
 pub turned-words : (bytes first : ℕ) → bytes % 4 ≡ 0 → (bytes ≡ 0 → ⊥) → first ≤ 65535 → (listLength bytes % 5 ≡ 0 → ⊥)
     → some (row 1 0) ≡ turnedBack bytes first
@@ -124,7 +126,8 @@ module _ (list tree messages : List ℕ) (ok : Readable list tree messages) (wor
 -- THE ANSWER
 module _ (bytes : ℕ) (words : List ℕ) where
   -- An input that the program turns back.
-  pub back-told : (number : ℕ) → some (row number 0) ≡ turnedBack bytes (getD words 0 0) → refused number 0 ≡ told (faultOf bytes words) (answerOf bytes words)
+  pub back-told : (number : ℕ) → some (row number 0) ≡ turnedBack bytes (getD words 0 0)
+      → refused number 0 ≡ told (faultOf bytes words) (answerOf bytes words)
   unfolding faultOf firstOf told
   back-told number h = rw (← h) refl
 

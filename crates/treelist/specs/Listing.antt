@@ -1,4 +1,5 @@
--- The program `treelist` (document 01, end of 'Lists and their trees'): what it prints for an input, by the count of its bytes and its front.
+-- The program `treelist` (document 01, end of 'Lists and their trees'): what it prints for an input, by the count of its bytes and its
+-- front.
 use Prim.Native.Nat.{ℕ, _+_, _-_, _*_, _/_, _%_, _^_, _≤_, _<_}
 use mathlib.Core.Path.{_≡_}
 use mathlib.Core.Bool.{_&&_}
@@ -29,8 +30,8 @@ wordsIn (a ∷ b ∷ c ∷ d ∷ bytes) = (a + 2 ^ 8 * b + 2 ^ 16 * c + 2 ^ 24 *
 unfoldable pub listLength : ℕ → ℕ
 listLength bytes = bytes / 4 - 1
 
--- Where the program turns an input back by its count of bytes and its first word, in this order. A word of kind 0 with no bit above the lowest
--- sixteen is below 2 ^ 16.
+-- Where the program turns an input back by its count of bytes and its first word, in this order. A word of kind 0 with no bit above the
+-- lowest sixteen is below 2 ^ 16.
 unfoldable pub turnedBack : ℕ → ℕ → Option Refusal
 turnedBack bytes first =
     firstOf

@@ -50,8 +50,10 @@ fn asked(bytes: usize, first: u32) -> Request
 fn read(list: &[u32], version: i16, tree: &mut [u32], messages: &mut [u32]) -> Answer
     requires { ⌜ Readable (now list) (now tree) (now messages) ⌝ }
     ensures { λ r. ⌜ toldOf r ≡ told (wordsRefusal 0 operatorField 0 (now (list .entry))) (readingOf (now (list .entry)) version) ⌝ }
-    ensures { λ _. ⌜ now (tree .exit) ≡ treeIn (wordsRefusal 0 operatorField 0 (now (list .entry))) (readingOf (now (list .entry)) version) (now (tree .entry)) ⌝ }
-    ensures { λ _. ⌜ now (messages .exit) ≡ messagesIn (wordsRefusal 0 operatorField 0 (now (list .entry))) (readingOf (now (list .entry)) version) (now (messages .entry)) ⌝ }
+    ensures { λ _. ⌜ now (tree .exit) ≡ treeIn (wordsRefusal 0 operatorField 0 (now (list .entry)))
+        (readingOf (now (list .entry)) version) (now (tree .entry)) ⌝ }
+    ensures { λ _. ⌜ now (messages .exit) ≡ messagesIn (wordsRefusal 0 operatorField 0 (now (list .entry)))
+        (readingOf (now (list .entry)) version) (now (messages .entry)) ⌝ }
 {
     let mut work = [0u32; 8256];
     let used = used_of(list);
@@ -72,8 +74,10 @@ fn read(list: &[u32], version: i16, tree: &mut [u32], messages: &mut [u32]) -> A
 pub fn answer(words: &[u32], bytes: usize, tree: &mut [u32], messages: &mut [u32]) -> Answer
     requires { ⌜ (length (now words) ≡ 641) × (length (now tree) ≡ 2304) × (length (now messages) ≡ 16) ⌝ }
     ensures { λ r. ⌜ toldOf r ≡ told (faultOf bytes (now (words .entry))) (answerOf bytes (now (words .entry))) ⌝ }
-    ensures { λ _. ⌜ now (tree .exit) ≡ treeIn (faultOf bytes (now (words .entry))) (answerOf bytes (now (words .entry))) (now (tree .entry)) ⌝ }
-    ensures { λ _. ⌜ now (messages .exit) ≡ messagesIn (faultOf bytes (now (words .entry))) (answerOf bytes (now (words .entry))) (now (messages .entry)) ⌝ }
+    ensures { λ _. ⌜ now (tree .exit) ≡ treeIn (faultOf bytes (now (words .entry)))
+        (answerOf bytes (now (words .entry))) (now (tree .entry)) ⌝ }
+    ensures { λ _. ⌜ now (messages .exit) ≡ messagesIn (faultOf bytes (now (words .entry)))
+        (answerOf bytes (now (words .entry))) (now (messages .entry)) ⌝ }
 {
     let first = words[0];
     let wanted = asked(bytes, first);

@@ -75,7 +75,8 @@ pub fn put_answer(out: &mut [u8], answered: Answer, tree: &[u32], messages: &[u3
     requires { ⌜ (length (now out) ≡ 32768) × (length (now tree) ≡ 2304) × (length (now messages) ≡ 16) ⌝ }
     requires { ⌜ Printable (toldOf answered) ⌝ }
     ensures { λ r. ⌜ r ≤ length (now (out .exit)) ⌝ }
-    ensures { λ r. ⌜ Wrote (now (out .entry)) 0 (answerText (toldOf answered) (now (tree .entry)) (now (messages .entry))) r (now (out .exit)) ⌝ }
+    ensures { λ r. ⌜ Wrote (now (out .entry)) 0
+        (answerText (toldOf answered) (now (tree .entry)) (now (messages .entry))) r (now (out .exit)) ⌝ }
 {
     match answered {
         Answer::Tree(n) => {

@@ -10,7 +10,8 @@ use native.Mathlib.Omega.{arith}
 use lib.Dec.{eqb, leb, ltb}
 use types.Run.{OneOf}
 use denote.Enum.Declared.{tagOf}
-use Rattle.molang.specs.Words.{kindOf, lowOf, Field, operatorField, startField, endField, upperField, lowerField, fieldKind, lowFault, wordFault, variantAfter, nextInToken, Refusal, row, withPlace, wordsRefusal}
+use Rattle.molang.specs.Words.{kindOf, lowOf, Field, operatorField, startField, endField, upperField, lowerField, fieldKind, lowFault}
+use Rattle.molang.specs.Words.{wordFault, variantAfter, nextInToken, Refusal, row, withPlace, wordsRefusal}
 use Rattle.molang.specs.FirstFailure.{must, firstOf}
 use Rattle.molang.proofs.FirstFailure.{last-one, behind, found, later-found}
 use Rattle.molang.proofs.Trees.{some-none}
@@ -28,7 +29,8 @@ pub operator-tests : (w : ℕ)
     ≡ firstOf
     (must (eqb (kindOf w) 1) 8 ∷ must (leb (operatorOf w) 110) 9 ∷ must (leb (variantOf w) 12) 10 ∷ must (ltb (lowOf w) 4096) 11 ∷ [])
 unfolding wordFault fieldKind lowFault operatorOf variantOf
-operator-tests w = behind (must (eqb (kindOf w) 1) 8) (lowFault operatorField 0 (lowOf w) ∷ []) _ (last-one (lowFault operatorField 0 (lowOf w)))
+operator-tests w =
+    behind (must (eqb (kindOf w) 1) 8) (lowFault operatorField 0 (lowOf w) ∷ []) _ (last-one (lowFault operatorField 0 (lowOf w)))
 
 pub none-bad : OneOf (1 ∷ 2 ∷ 3 ∷ 4 ∷ []) 0 → ⊥
 none-bad = ⊎-elim (λ e. omega arith) (⊎-elim (λ e. omega arith) (⊎-elim (λ e. omega arith) (λ e. omega arith)))
@@ -46,10 +48,12 @@ module _ (i : ℕ) (field : Field) (v w : ℕ) (ws : List ℕ) where
   first-bad HighVariant h e = bad-word 10 e
   first-bad OtherBit h e = bad-word 11 e
 
-  pub good-word : none ≡ wordFault field v w → wordsRefusal (suc i) (nextInToken field) (variantAfter field v w) ws ≡ wordsRefusal i field v (w ∷ ws)
+  pub good-word : none ≡ wordFault field v w
+      → wordsRefusal (suc i) (nextInToken field) (variantAfter field v w) ws ≡ wordsRefusal i field v (w ∷ ws)
   good-word e = sym (list-word i field v w ws (sym e))
 
-pub last-word : (i : ℕ) (field : Field) (v w : ℕ) (x : Word) → numberOf x ≡ wordFault field v w → withPlace i (numberOf x) ≡ wordsRefusal i field v (w ∷ [])
+pub last-word : (i : ℕ) (field : Field) (v w : ℕ) (x : Word) → numberOf x ≡ wordFault field v w
+    → withPlace i (numberOf x) ≡ wordsRefusal i field v (w ∷ [])
 unfolding wordsRefusal
 last-word i field v w Good e = good-word i field v w [] e
 last-word i field v w WrongKind e = bad-word i field v w [] 8 e

@@ -49,4 +49,5 @@ module _ (ws l : List ℕ) (at : ℕ) (room : at + length ws ≤ length l) where
 pub laid-more : (ws l : List ℕ) (at v : ℕ) → at + length ws < length l
     → set (laidAt at ws l) (at + length ws) v ≡ laidAt at (ws ++ (v ∷ [])) l
 laid-more ws l at v room =
-    rw (← laid-sets ws l at (omega arith)) (sets-more ws l at v ∙ laid-sets (ws ++ (v ∷ [])) l at (omega (arith, length-append ws (v ∷ []))))
+    rw (← laid-sets ws l at (omega arith))
+    (sets-more ws l at v ∙ laid-sets (ws ++ (v ∷ [])) l at (omega (arith, length-append ws (v ∷ []))))

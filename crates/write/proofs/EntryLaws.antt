@@ -14,7 +14,8 @@ use Rattle.molang.specs.FirstFailure.{must, firstOf}
 use Rattle.molang.specs.Words.{operatorField, lowOf, tokenOf, listWords, row}
 use Rattle.molang.specs.Parse.{mostTokens}
 use Rattle.molang.specs.Write.{written}
-use Rattle.molang.specs.WriteEntry.{treeFault, firstTrees, otherTrees, treesOf, forestRefusal, writeRefusal, writtenTokens, unwritten, tokens, writeTold, writeAnswered, listIn, listAfter}
+use Rattle.molang.specs.WriteEntry.{treeFault, firstTrees, otherTrees, treesOf, forestRefusal, writeRefusal, writtenTokens, unwritten}
+use Rattle.molang.specs.WriteEntry.{tokens, writeTold, writeAnswered, listIn, listAfter}
 use Rattle.molang.proofs.FirstFailure.{passed, withNumber-none}
 use Rattle.molang.proofs.HandedTree.{whole-tree}
 use Rattle.molang.proofs.ListWords.{listWords-length}

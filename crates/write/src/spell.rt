@@ -14,7 +14,8 @@ ghost use Prim.Native.Nat.{_+_, _≤_};
 ghost use lib.ListN.{length};
 ghost use Rattle.molang.specs.WriteEntry.{writtenTokens};
 ghost use Rattle.words.specs.Records.{laidAt};
-ghost use Rattle.write.specs.Spelling.{firstFive, bracketWords, closerWords, operandOf, filledWords, nodeWritten, operandWritten, Room};
+ghost use Rattle.write.specs.Spelling.{firstFive, bracketWords, closerWords, operandOf, filledWords, nodeWritten, operandWritten};
+ghost use Rattle.write.specs.Spelling.{Room};
 
 // Puts a token's five words into the list from `to` on, and moves `to` behind them.
 fn put(list: &mut [u32], to: &mut usize, first: u32, start: u32, end: u32, upper: u32, lower: u32)

@@ -11,15 +11,21 @@ use Rattle.molang.specs.Operator
 use Rattle.molang.specs.Operator.{isOneOf, isMathCall, isBracket}
 use Rattle.molang.specs.Forest.{Token, Forest, nil, node, size, bare}
 use Rattle.molang.specs.Calls.{calls}
-use Rattle.molang.specs.Plain.{Seat, elsewhere, rightOfQuestion, underMathCall, isRightOfQuestion, isUnderMathCall, seatUnder, seatOf, isPlainLeaf, isPlainBinary, isCall, plainForm, unplain, unplainAt}
+use Rattle.molang.specs.Plain.{Seat, elsewhere, rightOfQuestion, underMathCall, isRightOfQuestion, isUnderMathCall, seatUnder, seatOf}
+use Rattle.molang.specs.Plain.{isPlainLeaf, isPlainBinary, isCall, plainForm, unplain, unplainAt}
 use Rattle.molang.specs.Write.{openerFor, closerFor, standsAlone, standsLeft, standsRight, operandTokens, written, takenAway}
 use Rattle.molang.proofs.Booleans.{either, never, or-only-first}
 use Rattle.molang.proofs.Computed.{computed}
 use Rattle.molang.proofs.PlainTrees.{plain-parts}
 use Rattle.molang.proofs.TakingAway.{taken-later, taken-kept, taken-call, taken-bracket}
 use Rattle.molang.proofs.Writing.{written-none, written-one}
-use Rattle.molang.proofs.RoundTrip.Role.{Role, aQuery, aMathCall, aBracket, aMinus, aNot, aBinary, aComma, aQuestion, aColon, is, is-same, isAmong, allOf, among, role, role-bracket, role-comma, role-question, role-colon, role-math, role-call, role-leaf, role-binary, role-single, ruled-out}
-use Rattle.molang.proofs.RoundTrip.Expression.{Sort, nothing, atom, prefixed, bracketed, joinedBy, Exp, empty, leaf, bracket, before, between, isOperand, isJoinedBy, isWhole, isFilled, isBracketed, isFilledBracket, leafRoles, prefixRoles, joiningRoles, isLeaf, isPrefix, isJoining, takes, joinsLeft, joinsRight, tokens, ahead, amid, form, Solid}
+use Rattle.molang.proofs.RoundTrip.Role.{Role, aQuery, aMathCall, aBracket, aMinus, aNot, aBinary, aComma, aQuestion, aColon, is}
+use Rattle.molang.proofs.RoundTrip.Role.{is-same, isAmong, allOf, among, role, role-bracket, role-comma, role-question, role-colon}
+use Rattle.molang.proofs.RoundTrip.Role.{role-math, role-call, role-leaf, role-binary, role-single, ruled-out}
+use Rattle.molang.proofs.RoundTrip.Expression.{Sort, nothing, atom, prefixed, bracketed, joinedBy, Exp, empty, leaf, bracket, before}
+use Rattle.molang.proofs.RoundTrip.Expression.{between, isOperand, isJoinedBy, isWhole, isFilled, isBracketed, isFilledBracket}
+use Rattle.molang.proofs.RoundTrip.Expression.{leafRoles, prefixRoles, joiningRoles, isLeaf, isPrefix, isJoining, takes, joinsLeft}
+use Rattle.molang.proofs.RoundTrip.Expression.{joinsRight, tokens, ahead, amid, form, Solid}
 use Rattle.molang.proofs.RoundTrip.Order.{everything}
 
 -- Taking away goes through a list tree by tree.
@@ -179,7 +185,8 @@ spell-bracket p q k x xs e y w = record {
         ∙ sym (taken-call k (node x xs nil) R)
     away false R = taken-section k (y .exp) (y .filled) b R ∙ y .strips false R ∙ sym (taken-bracket k x xs R b)
 
-spell-before : (p : Seat) (k x : Token) (xs : Forest) (r : Role) → role (k .op) ≡ r → isPrefix r ≡ true → Part (takes r) (standsAlone x xs) x xs
+spell-before : (p : Seat) (k x : Token) (xs : Forest) (r : Role) → role (k .op) ≡ r → isPrefix r ≡ true
+    → Part (takes r) (standsAlone x xs) x xs
     → (not (isCall (k .op)) || standsAlone x xs) ≡ true → Spelled p k (node x xs nil)
 unfolding tokens written form ahead standsAlone
 spell-before p k x xs r e i y c =
@@ -209,7 +216,8 @@ spell-between p k x xs y ys r e j c a z =
     record {
       sort = joinedBy r;
       exp = between k r e j (a .fits) (z .fits) (a .exp) (z .exp);
-      spells = λ t. a .spells (k ∷ tokens (z .exp) t) ∙ ap (λ (ks : List Token). operandTokens (standsLeft k x xs) x (written x xs) (k ∷ ks))
+      spells =
+          λ t. a .spells (k ∷ tokens (z .exp) t) ∙ ap (λ (ks : List Token). operandTokens (standsLeft k x xs) x (written x xs) (k ∷ ks))
           (z .spells t);
       strips = λ inCall R. taken-kept inCall k (form everything (a .exp) (form everything (z .exp) nil)) R b
           ∙ ap (λ (f : Forest). node k f R) (rw q (taken-form false (a .exp) (form everything (z .exp) nil) nil
@@ -356,12 +364,14 @@ spell-one p k x xs h y = split (isBracket (k .op)) (isCall (k .op)) refl refl
   where
     call-single : isCall (k .op) ≡ true → isOneOf (Operator.leftParenthesis ∷ Operator.negate ∷ Operator.logicalNot ∷ []) (k .op) ≡ false
     call-single c =
-        ruled-out (isOneOf (Operator.leftParenthesis ∷ Operator.negate ∷ Operator.logicalNot ∷ [])) (isAmong singleRoles) role-single callRoles refl
+        ruled-out (isOneOf (Operator.leftParenthesis ∷ Operator.negate ∷ Operator.logicalNot ∷ []))
+        (isAmong singleRoles) role-single callRoles refl
         (k .op) (role (k .op)) refl (sym (role-call (k .op)) ∙ c)
 
     split : (b c : Bool) → isBracket (k .op) ≡ b → isCall (k .op) ≡ c → Spelled p k (node x xs nil)
     split true c m n =
-        spell-bracket p (seatUnder k 0) k x xs (role-is aBracket (k .op) (isBracket (k .op)) (role-bracket (k .op)) m) y (whole-left k x xs y)
+        spell-bracket p (seatUnder k 0) k x xs (role-is aBracket (k .op) (isBracket (k .op)) (role-bracket (k .op)) m) y
+        (whole-left k x xs y)
     split false true m n = spell-call p k x xs n (rw (call-single n, n) at h) y
     split false false m n =
         let s : isAmong singleRoles (role (k .op)) ≡ true =
