@@ -1,7 +1,6 @@
 -- The table of refusals, row by row: its rows before the words in two parts, the words token by token, what decides it of a call, and what
 -- is known of a call that no row turns back. Assumes nothing.
 use mathlib.Core.Path.{_≡_, refl, sym, ap, _∙_}
-use mathlib.Core.Bool.{Bool, true, false}
 use mathlib.Core.List.{List, [], _∷_, _++_}
 use mathlib.Core.Option.{Option, none, some}
 use Prim.Native.Nat.{ℕ, _+_, _*_, _/_, _%_, _^_, _≤_, _<_}
@@ -10,33 +9,24 @@ use native.Mathlib.Omega.{arith}
 use lib.Dec.{eqb, leb, ltb}
 use lib.ListN.{length, drop, getD, length-replicate}
 use lib.Seq.{drop-cons, drop-length}
-use borrow.Author.Tests.{eqb-true, leb-true, ltb-true}
+use borrow.Author.Tests.{eqb-true, leb-true}
 use types.Run.{OneOf}
 use denote.Enum.Declared.{tagOf}
-use Rattle.molang.specs.Words.{Refusal, operatorField, wordFault, lowFault, variantAfter, wordsRefusal}
-use Rattle.molang.specs.Parse.{Call, mostTokens, must, firstOf, refusal}
+use Rattle.molang.specs.FirstFailure.{must, firstOf}
+use Rattle.molang.specs.Words.{Refusal, row, operatorField, wordFault, lowFault, variantAfter, wordsRefusal}
+use Rattle.molang.specs.Parse.{Call, mostTokens, refusal}
+use Rattle.molang.proofs.FirstFailure.{passed, last-one, in-parts, behind}
+use Rattle.molang.proofs.Accepted.{call-accepted}
 use Rattle.ops.specs.declared.sets.OpSet.{OpSet}
 use Rattle.words.specs.Fields.{variantOf}
 use Rattle.words.proofs.CheckLaws.{good-token, token-refused, token-passed}
 use Rattle.accept.specs.declared.Sizes.{Sizes}
 use Rattle.accept.specs.declared.Accepted.{Accepted}
 use Rattle.accept.specs.declared.Accepted.the-variants.{Tokens, Refused}
-use Rattle.accept.specs.Accepting.{answerFor, callOf, lengthRefusal, lentRefusal}
+use Rattle.accept.specs.Accepting.{Verdict, isRead, isRefused, verdictOf, verdict, callOf, lengthRefusal, lentRefusal}
 use Rattle.accept.proofs.Accepted.{the-type}
 
 -- ---- The rows
-
--- Rows, and then others.
-joined : (rows others : List (Option Refusal)) → firstOf (rows ++ others) ≡ firstOf (firstOf rows ∷ others)
-unfolding firstOf
-joined [] others = refl
-joined (none ∷ rows) others = joined rows others
-joined (some r ∷ rows) others = refl
-
-behind : (row : Option Refusal) (rows others : List (Option Refusal)) → firstOf rows ≡ firstOf others → firstOf (row ∷ rows) ≡ firstOf (row ∷ others)
-unfolding firstOf
-behind none rows others e = e
-behind (some r) rows others e = refl
 
 -- The table in three parts: by the list's length, by what is lent, by the words.
 pub table : (list : List ℕ) (sizes : Sizes) (used : OpSet)
@@ -47,24 +37,18 @@ table list sizes used =
     let n = length list / 5 in
     let words = wordsRefusal 0 operatorField 0 list in
     let lent =
-    must (leb (18 * n) (sizes .tree)) 3
-    ∷ must (leb 16 (sizes .messages)) 4
-    ∷ must (leb (64 * n + 64) (sizes .work)) 5
-    ∷ must (ltb (used .high * 2 ^ 64 + used .low) (2 ^ 111)) 6
-    ∷ must (leb (sizes .source) 536870911) 7
+    must (leb (18 * n) (sizes .tree)) (row 3 0)
+    ∷ must (leb 16 (sizes .messages)) (row 4 0)
+    ∷ must (leb (64 * n + 64) (sizes .work)) (row 5 0)
+    ∷ must (ltb (used .high * 2 ^ 64 + used .low) (2 ^ 111)) (row 6 0)
+    ∷ must (leb (sizes .source) 536870911) (row 7 0)
     ∷ []
     in
     rw (length-replicate {A = ℕ} (sizes .tree) 0, length-replicate {A = ℕ} (sizes .messages) 0, length-replicate {A = ℕ} (sizes .work) 0)
-    (joined (must (eqb (length list % 5) 0) 1 ∷ must (leb n mostTokens) 2 ∷ []) (lent ++ (words ∷ []))
-    ∙ behind (lengthRefusal (length list)) (lent ++ (words ∷ [])) (firstOf lent ∷ words ∷ []) (joined lent (words ∷ [])))
+    (in-parts (must (eqb (length list % 5) 0) (row 1 0) ∷ must (leb n mostTokens) (row 2 0) ∷ []) (lent ++ (words ∷ []))
+    ∙ behind (lengthRefusal (length list)) (lent ++ (words ∷ [])) (firstOf lent ∷ words ∷ []) (in-parts lent (words ∷ [])))
 
--- A row that refuses nothing has its test passed.
-row-passed : (b : Bool) (n : ℕ) (rows : List (Option Refusal)) → firstOf (must b n ∷ rows) ≡ none → (b ≡ true) × (firstOf rows ≡ none)
-unfolding firstOf must
-row-passed true n rows e = (refl, e)
-row-passed false n rows e = absurd (let z : _≡_ {A = ℕ} 0 1 = cc in omega arith)
-
--- Of the buffers a refusal takes the lengths, and of the version nothing.
+-- A refusal depends on the lengths of the buffers, and not on the version.
 pub same-refusal : (c : Call)
     → refusal
     (callOf (c .list)
@@ -82,58 +66,55 @@ same-refusal c =
 -- ---- Answers
 
 -- Only the answer without a refusal has a number of tokens.
-pub accepted : (n m : ℕ) (row : Option Refusal) → Tokens n ≡ answerFor m row → (n ≡ m) × (row ≡ none)
+pub accepted : (n m : ℕ) (o : Option Refusal) → isRead n ≡ verdict m o → (n ≡ m) × (o ≡ none)
 accepted n m none e = (cc, refl)
 accepted n m (some r) e = absurd (let z : _≡_ {A = ℕ} 0 1 = cc in omega arith)
 
 -- A refusal by the first row is the whole table's.
-pub refused-first : (x : Accepted) (n : ℕ) (row : Option Refusal) (rows : List (Option Refusal)) → OneOf (1 ∷ []) (tagOf the-type x)
-    → x ≡ answerFor n row → x ≡ answerFor n (firstOf (row ∷ rows))
+pub refused-first : (x : Accepted) (n : ℕ) (o : Option Refusal) (later : List (Option Refusal)) → OneOf (1 ∷ []) (tagOf the-type x)
+    → verdictOf x ≡ verdict n o → verdictOf x ≡ verdict n (firstOf (o ∷ later))
 unfolding firstOf
-refused-first (Tokens m) n row rows h e = absurd (omega arith)
-refused-first (Refused number place) n none rows h e = absurd (let z : _≡_ {A = ℕ} 0 1 = cc in omega arith)
-refused-first (Refused number place) n (some r) rows h e = e
-
-pub last-row : (row : Option Refusal) → firstOf (row ∷ []) ≡ row
-unfolding firstOf
-last-row none = refl
-last-row (some r) = refl
+refused-first (Tokens m) n o later h e = absurd (omega arith)
+refused-first (Refused number place) n none later h e = absurd (let z : _≡_ {A = ℕ} 0 1 = cc in omega arith)
+refused-first (Refused number place) n (some r) later h e = e
 
 -- The call that the checks of a list, its sizes and its used set answer.
 module _ (list : List ℕ) (sizes : Sizes) (used : OpSet) where
   abbrev pub Answers : Accepted → Type 0
-  Answers x = x ≡ answerFor (length list / 5) (refusal (callOf list sizes used))
+  Answers x = verdictOf x ≡ verdict (length list / 5) (refusal (callOf list sizes used))
 
-  pub by-length : (x : Accepted) → OneOf (1 ∷ []) (tagOf the-type x) → x ≡ answerFor (length list / 5) (lengthRefusal (length list)) → Answers x
+  pub by-length : (x : Accepted) → OneOf (1 ∷ []) (tagOf the-type x)
+      → verdictOf x ≡ verdict (length list / 5) (lengthRefusal (length list)) → Answers x
   by-length x h e =
-      refused-first x (length list / 5) (lengthRefusal (length list)) _ h e ∙ ap (answerFor (length list / 5)) (sym (table list sizes used))
+      refused-first x (length list / 5) (lengthRefusal (length list)) _ h e ∙ ap (verdict (length list / 5)) (sym (table list sizes used))
 
   -- A list whose length refuses nothing.
-  module _ (n : ℕ) (whole : Tokens n ≡ answerFor (length list / 5) (lengthRefusal (length list))) where
+  module _ (n : ℕ) (whole : isRead n ≡ verdict (length list / 5) (lengthRefusal (length list))) where
     pub whole-tokens : (length list ≡ 5 * n) × (n ≤ 4096)
     unfolding lengthRefusal
     whole-tokens =
         let told = accepted n (length list / 5) (lengthRefusal (length list)) whole in
-        let one = row-passed (eqb (length list % 5) 0) 1 _ (told .1) in
-        let two = row-passed (leb (length list / 5) mostTokens) 2 _ (one .1) in
+        let one = passed (eqb (length list % 5) 0) (row 1 0) _ (told .1) in
+        let two = passed (leb (length list / 5) mostTokens) (row 2 0) _ (one .1) in
         let count = told .0 in
         (omega (arith, eqb-true (length list % 5) 0 (one .0)), omega (arith, leb-true (length list / 5) mostTokens (two .0)))
 
-    left : answerFor n (firstOf (lentRefusal n sizes used ∷ wordsRefusal 0 operatorField 0 list ∷ []))
-        ≡ answerFor (length list / 5) (refusal (callOf list sizes used))
+    left : verdict n (firstOf (lentRefusal n sizes used ∷ wordsRefusal 0 operatorField 0 list ∷ []))
+        ≡ verdict (length list / 5) (refusal (callOf list sizes used))
     unfolding firstOf
     left =
         let told = accepted n (length list / 5) (lengthRefusal (length list)) whole in
         rw (told .0, table list sizes used, told .1)
 
-    pub by-lent : (x : Accepted) → OneOf (1 ∷ []) (tagOf the-type x) → x ≡ answerFor n (lentRefusal n sizes used) → Answers x
+    pub by-lent : (x : Accepted) → OneOf (1 ∷ []) (tagOf the-type x) → verdictOf x ≡ verdict n (lentRefusal n sizes used) → Answers x
     by-lent x h e = refused-first x n (lentRefusal n sizes used) _ h e ∙ left
 
-    pub by-words : (m : ℕ) → Tokens m ≡ answerFor n (lentRefusal n sizes used)
-        → (x : Accepted) → x ≡ answerFor n (wordsRefusal 0 operatorField 0 list) → Answers x
+    pub by-words : (m : ℕ) → isRead m ≡ verdict n (lentRefusal n sizes used)
+        → (x : Accepted) → verdictOf x ≡ verdict n (wordsRefusal 0 operatorField 0 list) → Answers x
     unfolding firstOf
     by-words m lent x e =
-        e ∙ (ap (answerFor n) (sym (last-row (wordsRefusal 0 operatorField 0 list))) ∙ (rw (accepted m n (lentRefusal n sizes used) lent .1) at left))
+        e ∙ (ap (verdict n) (sym (last-one (wordsRefusal 0 operatorField 0 list))) ∙
+        (rw (accepted m n (lentRefusal n sizes used) lent .1) at left))
 
 -- ---- The words, token by token
 
@@ -177,7 +158,8 @@ module _ (list : List ℕ) where
         ap (wordsRefusal at operatorField 0) opens
         ∙ (token-passed at 0 (getD list at 0) (getD list (at + 1) 0) (getD list (at + 2) 0) (getD list (at + 3) 0) (getD list (at + 4) 0)
         (drop (at + 5) list)
-        (good-token at (getD list at 0) (getD list (at + 1) 0) (getD list (at + 2) 0) (getD list (at + 3) 0) (getD list (at + 4) 0) (sym good))
+        (good-token at (getD list at 0) (getD list (at + 1) 0) (getD list (at + 2) 0) (getD list (at + 3) 0) (getD list (at + 4) 0)
+        (sym good))
         ∙ any-variant (at + 5) (variantOf (getD list at 0)) (drop (at + 5) list))
 
     pub token-bad : (r : Refusal) → some r ≡ wordsRefusal at operatorField 0 (tokenAt list at) → checkFrom list at ≡ some r
@@ -204,46 +186,40 @@ pub record Readable (c : Call) (n : ℕ) : Type 0 where
   pub good : wordsRefusal 0 operatorField 0 (c .list) ≡ none
 
 pub readable : (c : Call) → refusal c ≡ none → Readable c (length (c .list) / 5)
-unfolding refusal
 readable c e =
-    let n = length (c .list) / 5 in
-    let one = row-passed (eqb (length (c .list) % 5) 0) 1 _ e in
-    let two = row-passed (leb n mostTokens) 2 _ (one .1) in
-    let three = row-passed (leb (18 * n) (length (c .tree))) 3 _ (two .1) in
-    let four = row-passed (leb 16 (length (c .messages))) 4 _ (three .1) in
-    let five = row-passed (leb (64 * n + 64) (length (c .work))) 5 _ (four .1) in
-    let six = row-passed (ltb (c .usedHigh * 2 ^ 64 + c .usedLow) (2 ^ 111)) 6 _ (five .1) in
-    let seven = row-passed (leb (c .sourceLength) 536870911) 7 _ (six .1) in
-    let whole = eqb-true (length (c .list) % 5) 0 (one .0) in
+    let a = call-accepted c e in
     record {
-      words = omega arith;
-      tokens = leb-true n mostTokens (two .0);
-      tree = leb-true (18 * n) (length (c .tree)) (three .0);
-      messages = leb-true 16 (length (c .messages)) (four .0);
-      work = leb-true (64 * n + 64) (length (c .work)) (five .0);
-      used = ltb-true (c .usedHigh * 2 ^ 64 + c .usedLow) (2 ^ 111) (six .0);
-      source = leb-true (c .sourceLength) 536870911 (seven .0);
-      good = sym (last-row (wordsRefusal 0 operatorField 0 (c .list))) ∙ seven .1;
+      words = omega (arith, a .whole);
+      tokens = a .tokens;
+      tree = a .tree;
+      messages = a .messages;
+      work = a .work;
+      used = a .used;
+      source = a .sourceLength;
+      good = a .words;
     }
 
 -- What the answer of the checks says of the call: it is read, or this is its refusal.
-abbrev pub checked : Call → Accepted
+abbrev pub checked : Call → Verdict
 checked c =
-    answerFor (length (c .list) / 5)
+    verdict (length (c .list) / 5)
     (refusal
     (callOf (c .list)
     (record { tree = length (c .tree); messages = length (c .messages); work = length (c .work); source = c .sourceLength })
     (record { low = c .usedLow; high = c .usedHigh })))
 
-pub reads-call : (c : Call) (n : ℕ) → Tokens n ≡ checked c → (refusal c ≡ none) × Readable c n
+pub reads-call : (c : Call) (n : ℕ) → isRead n ≡ checked c → (refusal c ≡ none) × Readable c n
 reads-call c n e =
     let told = accepted n _ _ e in
     let none-refused = sym (same-refusal c) ∙ told .1 in
     (none-refused, rw (told .0) (readable c none-refused))
 
-pub refuses-call : (c : Call) (number place : ℕ) → Refused number place ≡ checked c → refusal c ≡ some (record { number = number; place = place })
+pub refuses-call : (c : Call) (number place : ℕ) → isRefused number place ≡ checked c → refusal c ≡ some (row number place)
 refuses-call c number place e = sym (same-refusal c) ∙ refused-as _ _ e
   where
-    refused-as : (n : ℕ) (row : Option Refusal) → Refused number place ≡ answerFor n row → row ≡ some (record { number = number; place = place })
+    refused-as : (n : ℕ) (o : Option Refusal) → isRefused number place ≡ verdict n o → o ≡ some (row number place)
     refused-as n none d = absurd (let z : _≡_ {A = ℕ} 0 1 = cc in omega arith)
-    refused-as n (some r) d = let same-number : r .number ≡ number = cc in let same-place : r .place ≡ place = cc in λ i. some (record { number = same-number i; place = same-place i })
+    refused-as n (some r) d =
+        let same-number : r .number ≡ number = cc in
+        let same-place : r .place ≡ place = cc in
+        λ i. some (row (same-number i) (same-place i))

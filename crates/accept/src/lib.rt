@@ -10,7 +10,7 @@ ghost use Prim.Native.Nat.{_*_, _/_, _≤_};
 ghost use lib.ListN.{length};
 ghost use Rattle.molang.specs.Parse.{refusal};
 ghost use Rattle.molang.specs.Words.{operatorField, wordsRefusal};
-ghost use Rattle.accept.specs.Accepting.{answerFor, callOf, lengthRefusal, lentRefusal};
+ghost use Rattle.accept.specs.Accepting.{verdictOf, verdict, callOf, lengthRefusal, lentRefusal};
 
 // Words of the tree buffer per token, and of the work buffer per token and once more.
 pub const TREE_WORDS: usize = 18;
@@ -36,7 +36,7 @@ pub enum Accepted {
 
 // Answers 1 and 2.
 fn list_length(words: usize) -> Accepted
-    ensures { λ r. ⌜ r ≡ answerFor (words / 5) (lengthRefusal words) ⌝ }
+    ensures { λ r. ⌜ verdictOf r ≡ verdict (words / 5) (lengthRefusal words) ⌝ }
 {
     if words % fields::TOKEN_WORDS != 0 {
         return Accepted::Refused(refusals::LIST_NOT_WHOLE, 0);
@@ -51,7 +51,7 @@ fn list_length(words: usize) -> Accepted
 // Answers 3 to 7, for n tokens.
 fn buffers(n: usize, sizes: Sizes, used: OpSet) -> Accepted
     requires { ⌜ n ≤ 4096 ⌝ }
-    ensures { λ r. ⌜ r ≡ answerFor n (lentRefusal n sizes used) ⌝ }
+    ensures { λ r. ⌜ verdictOf r ≡ verdict n (lentRefusal n sizes used) ⌝ }
 {
     if sizes.tree < TREE_WORDS * n {
         return Accepted::Refused(refusals::SHORT_TREE_BUFFER, 0);
@@ -74,16 +74,16 @@ fn buffers(n: usize, sizes: Sizes, used: OpSet) -> Accepted
 // Answers 8 to 11: the words of n tokens, in list order.
 fn token_words(list: &[u32], n: usize) -> Accepted
     requires { ⌜ length (now list) ≡ 5 * n ⌝ }
-    ensures { λ r. ⌜ r ≡ answerFor n (wordsRefusal 0 operatorField 0 (now (list .entry))) ⌝ }
+    ensures { λ r. ⌜ verdictOf r ≡ verdict n (wordsRefusal 0 operatorField 0 (now (list .entry))) ⌝ }
 {
     let mut i = 0usize;
     while i < n {
-        let at = 5 * i;
+        let at = fields::TOKEN_WORDS * i;
         let first = list[at];
-        let start = list[at + 1];
-        let end = list[at + 2];
-        let upper = list[at + 3];
-        let lower = list[at + 4];
+        let start = list[at + fields::START_FIELD];
+        let end = list[at + fields::END_FIELD];
+        let upper = list[at + fields::UPPER_FIELD];
+        let lower = list[at + fields::LOWER_FIELD];
         i += 1;
         let checked = token(first, start, end, upper, lower, at);
         match checked {
@@ -98,7 +98,7 @@ fn token_words(list: &[u32], n: usize) -> Accepted
 
 // All checks, in the table's order.
 pub fn accept(list: &[u32], sizes: Sizes, used: OpSet) -> Accepted
-    ensures { λ r. ⌜ r ≡ answerFor (length (now (list .entry)) / 5) (refusal (callOf (now (list .entry)) sizes used)) ⌝ }
+    ensures { λ r. ⌜ verdictOf r ≡ verdict (length (now (list .entry)) / 5) (refusal (callOf (now (list .entry)) sizes used)) ⌝ }
 {
     let length = list_length(list.len());
     let Accepted::Tokens(n) = length else {

@@ -16,7 +16,8 @@ use Rattle.molang.specs.Forest.{leaves}
 use Rattle.molang.specs.Parse.{inHalves}
 use Rattle.molang.specs.Read.{uses, highestEnd}
 use Rattle.molang.specs.Words.{Field, operatorField, startField, endField, upperField, lowerField, countField, lowOf, lowFault, wordFault, variantAfter, nextInToken, wordsRefusal, tokenOf, tokensOf}
-use Rattle.molang.proofs.Words.{unless-none, word-faultless, next-word}
+use Rattle.molang.proofs.Words.{word-faultless, next-word}
+use Rattle.molang.proofs.FirstFailure.{passed}
 use Rattle.molang.proofs.UsedSet.{used-few}
 use Rattle.words.specs.Checks.{numberOf}
 use Rattle.words.specs.declared.checks.Word.{Word}
@@ -115,7 +116,7 @@ module _ (x : Word) (bad : OneOf (1 ∷ 2 ∷ 3 ∷ 4 ∷ []) (tagOf the-type x)
 pub operator-most : (w : ℕ) → wordFault operatorField 0 w ≡ none → lowOf w % 2 ^ 8 ≤ 110
 unfolding lowFault
 operator-most w e =
-    leb-true (lowOf w % 2 ^ 8) 110 (unless-none _ 9 _ (word-faultless operatorField 0 w e .1) .0)
+    leb-true (lowOf w % 2 ^ 8) 110 (passed _ 9 _ (word-faultless operatorField 0 w e .1) .0)
 
 -- THE BOUNDS: no operator above 110, no end above 29 bits.
 names-few : (w n : ℕ) → 111 ≤ n → names operatorField w n ≡ false

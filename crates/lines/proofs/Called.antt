@@ -9,7 +9,8 @@ use lib.IntN.{ℤ}
 use lib.ListN.{length, replicate}
 use Rattle.molang.specs.Forest.{Token}
 use Rattle.molang.specs.Read.{uses, setNumber}
-use Rattle.molang.specs.Words.{Field, operatorField, startField, endField, upperField, lowerField, countField, Legal, listWords, nextInToken, wordFault, kindOf, lowOf, fieldKind, unless}
+use Rattle.molang.specs.Words.{Field, operatorField, startField, endField, upperField, lowerField, countField, Legal, listWords, nextInToken, wordFault, kindOf, lowOf, fieldKind}
+use Rattle.molang.specs.FirstFailure.{must, firstOf}
 use Rattle.molang.specs.Lines.{tokensFrom, callFor, listCall}
 use Rattle.molang.proofs.Words.{LegalTokens, noTokens, token, tokens-back}
 use Rattle.molang.proofs.UsedSet.{no-operators, one-operator}
@@ -45,7 +46,7 @@ list-called os version h every =
 
 -- Words 0: none is the first word of a token.
 zero-names : (slot : Field) (m : ℕ) → names slot 0 m ≡ false
-unfolding names wordFault kindOf lowOf fieldKind unless
+unfolding names wordFault kindOf lowOf fieldKind firstOf must
 zero-names operatorField m = refl
 zero-names startField m = refl
 zero-names endField m = refl

@@ -56,7 +56,8 @@ read-legal ts u v l k cs h b e =
 
 -- The writer reads the tree that the reader has given.
 pub read-back : (tokens : List Token) (u : ℕ → Bool) (version : ℤ) (sourceLength : ℕ) (k : Token) (cs : Forest) → LegalTokens tokens
-    → length tokens ≤ mostTokens → read tokens u version sourceLength ≡ Answer.tree k cs → treesOf (treeWords (node k cs nil)) ≡ node k cs nil
+    → length tokens ≤ mostTokens → read tokens u version sourceLength ≡ Answer.tree k cs
+    → treesOf (treeWords (node k cs nil)) ≡ node k cs nil
 read-back ts u v l k cs h b e = trees-back (node k cs nil) (read-legal ts u v l k cs h b e)
 
 -- Nor does it answer 12 to it.

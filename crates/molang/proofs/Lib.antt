@@ -17,6 +17,7 @@ pub mod Conditional
 pub mod Sections
 pub mod Passes
 pub mod Bounds
+pub mod FirstFailure
 pub mod Words
 pub mod TreeWords
 pub mod Every

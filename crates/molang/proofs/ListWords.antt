@@ -1,7 +1,7 @@
 -- The words of legal tokens answer none of 8-11, and what is written of a legal tree is legal: what stands between the writer and a second
 -- reading.
 use Prim.Native.Nat.{ℕ, suc, _+_, _*_, _/_, _%_, _^_, _≤_}
-use mathlib.Core.Path.{_≡_, refl, _∙_}
+use mathlib.Core.Path.{_≡_, refl, ap, _∙_}
 use mathlib.Core.Bool.{Bool, true, false, false≢true}
 use mathlib.Core.List.{List, [], _∷_, _++_}
 use mathlib.Core.Option.{Option, none, some}
@@ -11,10 +11,10 @@ use borrow.Author.Tests.{ne-eqb}
 use Rattle.molang.specs.Operator.{isBracket}
 use Rattle.molang.specs.Forest.{Token, Forest, nil, node, bare, count, size}
 use Rattle.molang.specs.Read.{uses}
-use Rattle.molang.specs.Words.{word, tokenWords, Legal, listWords, treeWords, Field, operatorField, startField, endField, upperField, lowerField, wordFault, lowFault, variantAfter, nextInToken, wordsRefusal}
+use Rattle.molang.specs.Words.{word, tokenWords, Legal, listWords, treeWords, Field, operatorField, startField, endField, upperField, lowerField, wordFault, lowFault, variantAfter, nextInToken, withPlace, wordsRefusal}
 use Rattle.molang.specs.Write.{openerFor, closerFor, standsAlone, standsLeft, standsRight, operandTokens, written}
 use Rattle.molang.specs.WriteEntry.{nextInNode, Shape, shapeAfter, continues, treeFault}
-use Rattle.molang.proofs.Trees.{some-none}
+use Rattle.molang.proofs.FirstFailure.{first-none, passed, after-none}
 use Rattle.molang.proofs.Words.{LegalTokens, noTokens, token, LegalTrees, noTrees, legalTree}
 use Rattle.molang.proofs.TreeWords.{tree-unfaulted}
 use Rattle.molang.proofs.Writing.{written-none, written-one, written-two, written-more}
@@ -23,19 +23,19 @@ use Rattle.molang.proofs.Writing.{written-none, written-one, written-tw
 tree-word : (i : ℕ) (field : Field) (v : ℕ) (s : Shape) (w : ℕ) (ws : List ℕ) → treeFault i field v s (w ∷ ws) ≡ none
     → (wordFault field v w ≡ none) × (treeFault (suc i) (nextInNode field) (variantAfter field v w) (shapeAfter field w s) ws ≡ none)
 unfolding treeFault continues
-tree-word i field v s w ws h = split (wordFault field v w) (continues field v s w) refl refl
+tree-word i field v s w ws h =
+    let x = passed (continues field v s w) i _ h in
+    (split (wordFault field v w) refl (x .0), first-none _ _ (x .1) .0)
   where
-    split : (o : Option ℕ) (b : Bool) → wordFault field v w ≡ o → continues field v s w ≡ b
-        → (wordFault field v w ≡ none) × (treeFault (suc i) (nextInNode field) (variantAfter field v w) (shapeAfter field w s) ws ≡ none)
-    split o false e f = some-none (rw (f, treeFault) at h)
-    split none true e f = (e, rw (f, treeFault) at h)
-    split (some n) true e f = absurd (false≢true (rw (e, continues) at f))
+    split : (o : Option ℕ) → wordFault field v w ≡ o → continues field v s w ≡ true → wordFault field v w ≡ none
+    split none e f = e
+    split (some n) e f = absurd (false≢true (rw (e, continues) at f))
 
--- Of a list, a word without fault leaves the answer to the words after it.
-list-word : (i : ℕ) (field : Field) (v w : ℕ) (ws : List ℕ) → wordFault field v w ≡ none
+-- In a list, a word without fault leaves the answer to the words after it.
+pub list-word : (i : ℕ) (field : Field) (v w : ℕ) (ws : List ℕ) → wordFault field v w ≡ none
     → wordsRefusal i field v (w ∷ ws) ≡ wordsRefusal (suc i) (nextInToken field) (variantAfter field v w) ws
 unfolding wordsRefusal
-list-word i field v w ws h = rw (h, wordsRefusal) refl
+list-word i field v w ws h = after-none (withPlace i (wordFault field v w)) _ (ap (withPlace i) h)
 
 -- A legal token is a tree of one node, whose words have no fault; so they answer nothing in a list either.
 token-unrefused : (k : Token) → Legal k → (i v : ℕ) (ws : List ℕ) → ((i v : ℕ) → wordsRefusal i operatorField v ws ≡ none)
@@ -83,11 +83,13 @@ uses-legal (token {k = k} l ls) m h = rw (ne-eqb (k .op) m (λ e. omega (arith, 
 -- Added brackets are legal.
 opener-legal : (k : Token) → Legal k → Legal (openerFor k)
 unfolding openerFor bare
-opener-legal k h = record { op = omega arith; variant = omega arith; value = omega arith; no-payload = λ e. refl; start = h .start; end = h .end }
+opener-legal k h =
+    record { op = omega arith; variant = omega arith; value = omega arith; no-payload = λ e. refl; start = h .start; end = h .end }
 
 closer-legal : (k : Token) → Legal k → Legal (closerFor k)
 unfolding closerFor bare
-closer-legal k h = record { op = omega arith; variant = omega arith; value = omega arith; no-payload = λ e. refl; start = h .start; end = h .end }
+closer-legal k h =
+    record { op = omega arith; variant = omega arith; value = omega arith; no-payload = λ e. refl; start = h .start; end = h .end }
 
 -- F puts legal tokens before legal tokens.
 abbrev KeepsLegal : (List Token → List Token) → Type 0
@@ -112,6 +114,7 @@ written-legal k (node x xs nil) h (legalTree hx n hxs noTrees) r l = split (isBr
     split false e i = rw (written-one false k x xs r e) (token h (operand-legal (standsAlone x xs) x (written x xs) hx i r l))
 written-legal k (node x xs (node y ys nil)) h (legalTree hx n hxs (legalTree hy m hys noTrees)) r l =
     rw (written-two k x xs y ys r)
-    (operand-legal (standsLeft k x xs) x (written x xs) hx (written-legal x xs hx hxs) (k ∷ operandTokens (standsRight k y ys) y (written y ys) r)
+    (operand-legal (standsLeft k x xs) x (written x xs) hx (written-legal x xs hx hxs)
+    (k ∷ operandTokens (standsRight k y ys) y (written y ys) r)
     (token h (operand-legal (standsRight k y ys) y (written y ys) hy (written-legal y ys hy hys) r l)))
 written-legal k (node x xs (node y ys (node z zs more))) h below r l = rw (written-more k x xs y ys z zs more r) (token h l)

@@ -9,9 +9,10 @@ use lib.Dec.{eqb, leb, ltb}
 use lib.ListN.{length}
 use borrow.Author.Tests.{eqb-true, eqb-false, leb-true, ltb-true}
 use Rattle.molang.specs.Forest.{Token, Forest, nil, node, count}
-use Rattle.molang.specs.Words.{word, kindOf, lowOf, tokenWords, tokenOf, Legal, tokensOf, listWords, treeWords, Field, operatorField, startField, endField, upperField, lowerField, fieldKind, unless, lowFault, wordFault, variantAfter, nextInToken, Refusal, wordsRefusal}
+use Rattle.molang.specs.Words.{word, kindOf, lowOf, tokenWords, tokenOf, Legal, tokensOf, listWords, treeWords, Field, operatorField, startField, endField, upperField, lowerField, fieldKind, lowFault, wordFault, variantAfter, nextInToken, wordsRefusal}
 use Rattle.molang.specs.WriteEntry.{firstTrees, otherTrees, treesOf}
-use Rattle.molang.proofs.Trees.{decided, some-none}
+use Rattle.molang.proofs.Trees.{decided}
+use Rattle.molang.proofs.FirstFailure.{must-none, first-none, passed, withPlace-none}
 
 pub data LegalTokens : List Token → Type 0 where
   noTokens : LegalTokens []
@@ -34,12 +35,15 @@ high-part high low h = omega arith
 
 -- A token is read back from its words.
 pub token-back : (k : Token) → Legal k
-    → tokenOf (word 1 (k .variant * 2 ^ 8 + k .op)) (word 2 (k .start)) (word 3 (k .end)) (word 4 (k .value / 2 ^ 16)) (word 5 (k .value % 2 ^ 16)) ≡ k
+    → tokenOf (word 1 (k .variant * 2 ^ 8 + k .op)) (word 2 (k .start)) (word 3 (k .end)) (word 4 (k .value / 2 ^ 16))
+    (word 5 (k .value % 2 ^ 16)) ≡ k
 unfolding tokenOf
 token-back k h =
     let first = low-word 1 (k .variant * 2 ^ 8 + k .op) (omega arith) in
     let op : lowOf (word 1 (k .variant * 2 ^ 8 + k .op)) % 2 ^ 8 ≡ k .op = rw first (omega arith) in
-    let variant : lowOf (word 1 (k .variant * 2 ^ 8 + k .op)) / 2 ^ 8 % 2 ^ 4 ≡ k .variant = rw (first, high-part (k .variant) (k .op) (omega arith)) (omega arith) in
+    let variant : lowOf (word 1 (k .variant * 2 ^ 8 + k .op)) / 2 ^ 8 % 2 ^ 4 ≡ k .variant =
+    rw (first, high-part (k .variant) (k .op) (omega arith)) (omega arith)
+    in
     let value : lowOf (word 4 (k .value / 2 ^ 16)) % 2 ^ 16 * 2 ^ 16 + lowOf (word 5 (k .value % 2 ^ 16)) % 2 ^ 16 ≡ k .value =
     rw (low-word 4 (k .value / 2 ^ 16) (omega arith), low-word 5 (k .value % 2 ^ 16) (omega arith)) (omega arith)
     in
@@ -77,7 +81,8 @@ unfolding treesOf treeWords tokenWords beside
 trees-beside noTrees ws = refl
 trees-beside (legalTree {k = k} {cs = cs} {rest = rest} h n below later) ws =
     let trees : treesOf ((treeWords cs ++ treeWords rest) ++ ws) ≡ beside cs (beside rest (treesOf ws)) =
-    rw (append-assoc (treeWords cs) (treeWords rest) ws) (trees-beside below (treeWords rest ++ ws) ∙ ap (beside cs) (trees-beside later ws))
+    rw (append-assoc (treeWords cs) (treeWords rest) ws)
+    (trees-beside below (treeWords rest ++ ws) ∙ ap (beside cs) (trees-beside later ws))
     in
     rw (token-back k h, low-word 6 (count cs) (omega arith), trees, first-beside, other-beside) refl
 
@@ -86,25 +91,20 @@ pub trees-back : (f : Forest) → LegalTrees f → treesOf (treeWords f) ≡ f
 unfolding treesOf
 trees-back f h = ap treesOf (sym (append-nil (treeWords f))) ∙ (trees-beside h [] ∙ beside-nil f)
 
--- What no test fails.
-pub unless-none : (b : Bool) (n : ℕ) (later : Option ℕ) → unless b n later ≡ none → (b ≡ true) × (later ≡ none)
-unfolding unless
-unless-none true n later e = (refl, e)
-unless-none false n later e = some-none e
-
 -- A word without fault: its kind, and its low bits.
-pub word-faultless : (field : Field) (v w : ℕ) → wordFault field v w ≡ none → (kindOf w ≡ fieldKind field) × (lowFault field v (lowOf w) ≡ none)
+pub word-faultless : (field : Field) (v w : ℕ) → wordFault field v w ≡ none
+    → (kindOf w ≡ fieldKind field) × (lowFault field v (lowOf w) ≡ none)
 unfolding wordFault
 word-faultless field v w e =
-    let z = unless-none (eqb (kindOf w) (fieldKind field)) 8 (lowFault field v (lowOf w)) e in
-    (eqb-true (kindOf w) (fieldKind field) (z .0), z .1)
+    let z = passed (eqb (kindOf w) (fieldKind field)) 8 _ e in
+    (eqb-true (kindOf w) (fieldKind field) (z .0), first-none _ _ (z .1) .0)
 
 operator-faultless : (v low : ℕ) → lowFault operatorField v low ≡ none → (low % 2 ^ 8 ≤ 110) × (low / 2 ^ 8 % 2 ^ 4 ≤ 12) × (low < 2 ^ 12)
 unfolding lowFault
 operator-faultless v low e =
-    let x = unless-none (leb (low % 2 ^ 8) 110) 9 _ e in
-    let y = unless-none (leb (low / 2 ^ 8 % 2 ^ 4) 12) 10 _ (x .1) in
-    let z = unless-none (ltb low (2 ^ 12)) 11 none (y .1) in
+    let x = passed (leb (low % 2 ^ 8) 110) 9 _ e in
+    let y = passed (leb (low / 2 ^ 8 % 2 ^ 4) 12) 10 _ (x .1) in
+    let z = passed (ltb low (2 ^ 12)) 11 _ (y .1) in
     (leb-true (low % 2 ^ 8) 110 (x .0), leb-true (low / 2 ^ 8 % 2 ^ 4) 12 (y .0), ltb-true low (2 ^ 12) (z .0))
 
 -- Half of a payload value, in a token of variant v.
@@ -118,11 +118,11 @@ half-bound v low =
 
 upper-faultless : (v low : ℕ) → lowFault upperField v low ≡ none → Half v low
 unfolding lowFault
-upper-faultless v low e = half-bound v low (ltb-true low _ (unless-none _ 11 none e .0))
+upper-faultless v low e = half-bound v low (ltb-true low _ (must-none _ 11 e))
 
 lower-faultless : (v low : ℕ) → lowFault lowerField v low ≡ none → Half v low
 unfolding lowFault
-lower-faultless v low e = half-bound v low (ltb-true low _ (unless-none _ 11 none e .0))
+lower-faultless v low e = half-bound v low (ltb-true low _ (must-none _ 11 e))
 
 -- The five words of a token without fault.
 pub record FiveLegal (a b c d e : ℕ) : Type 0 where
@@ -203,16 +203,11 @@ five-faultless v a b c d e ha hb hc hd he =
       lower = lower-faultless u (lowOf e) (fe .1);
     }
 
-refused-none : (o : Option ℕ) (refused : ℕ → Refusal) (later : Option Refusal)
-    → _≡_ {A = Option Refusal} (elim o [ some n ↦ some (refused n) | none ↦ later ]) none → (o ≡ none) × (later ≡ none)
-refused-none none refused later e = (refl, e)
-refused-none (some n) refused later e = some-none e
-
 -- Of words that are not refused the first has no fault, and the others are not refused.
 pub next-word : (i : ℕ) (field : Field) (v w : ℕ) (ws : List ℕ) → wordsRefusal i field v (w ∷ ws) ≡ none
     → (wordFault field v w ≡ none) × (wordsRefusal (suc i) (nextInToken field) (variantAfter field v w) ws ≡ none)
 unfolding wordsRefusal
-next-word i field v w ws e = refused-none (wordFault field v w) (λ n. record { number = n; place = i }) _ e
+next-word i field v w ws e = let z = first-none _ _ e in (withPlace-none i (wordFault field v w) (z .0), first-none _ _ (z .1) .0)
 
 pub words-back : (i v : ℕ) (ws : List ℕ) → wordsRefusal i operatorField v ws ≡ none → length ws % 5 ≡ 0
     → (listWords (tokensOf ws) ≡ ws) × LegalTokens (tokensOf ws)

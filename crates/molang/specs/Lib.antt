@@ -10,6 +10,7 @@ pub mod Binary
 pub mod Conditional
 pub mod Order
 pub mod Read
+pub mod FirstFailure
 pub mod Words
 pub mod Parse
 pub mod Plain

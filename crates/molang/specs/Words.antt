@@ -1,4 +1,5 @@
--- The word formats of document 01, 'The entry and its words': tokens of five words, tree nodes of six, which words are legal, and answers 8-11.
+-- The word formats of document 01, 'The entry and its words': tokens of five words, tree nodes of six, which words are legal, and
+-- answers 8-11.
 use Prim.Native.Nat.{ℕ, _+_, _*_, _/_, _%_, _^_, _≤_, _<_, suc}
 use mathlib.Core.Path.{_≡_}
 use mathlib.Core.Bool.{Bool, true, false}
@@ -6,6 +7,7 @@ use mathlib.Core.List.{List, [], _∷_, _++_}
 use mathlib.Core.Option.{Option, none, some}
 use lib.Dec.{eqb, leb, ltb}
 use Rattle.molang.specs.Forest.{Token, Forest, nil, node, count}
+use Rattle.molang.specs.FirstFailure.{must, firstOf}
 
 -- A word has its kind in the top three bits of 32 and its value in the low 29.
 unfoldable pub word : ℕ → ℕ → ℕ
@@ -76,23 +78,19 @@ fieldKind upperField = 4
 fieldKind lowerField = 5
 fieldKind countField = 6
 
--- The first of the tests that fails gives the answer.
-unfoldable pub unless : Bool → ℕ → Option ℕ → Option ℕ
-unless true n later = later
-unless false n later = some n
-
 -- The answer to the low bits of a word of the right kind, in a token of payload variant v: 9, 10 or 11.
 unfoldable pub lowFault : Field → ℕ → ℕ → Option ℕ
-lowFault operatorField v low = unless (leb (low % 2 ^ 8) 110) 9 (unless (leb (low / 2 ^ 8 % 2 ^ 4) 12) 10 (unless (ltb low (2 ^ 12)) 11 none))
+lowFault operatorField v low =
+    firstOf (must (leb (low % 2 ^ 8) 110) 9 ∷ must (leb (low / 2 ^ 8 % 2 ^ 4) 12) 10 ∷ must (ltb low (2 ^ 12)) 11 ∷ [])
 lowFault startField v low = none
 lowFault endField v low = none
-lowFault upperField v low = unless (ltb low (elim (eqb v 0) [ true ↦ 1 | false ↦ 2 ^ 16 ])) 11 none
-lowFault lowerField v low = unless (ltb low (elim (eqb v 0) [ true ↦ 1 | false ↦ 2 ^ 16 ])) 11 none
-lowFault countField v low = unless (ltb low (2 ^ 14)) 11 none
+lowFault upperField v low = must (ltb low (elim (eqb v 0) [ true ↦ 1 | false ↦ 2 ^ 16 ])) 11
+lowFault lowerField v low = must (ltb low (elim (eqb v 0) [ true ↦ 1 | false ↦ 2 ^ 16 ])) 11
+lowFault countField v low = must (ltb low (2 ^ 14)) 11
 
 -- The answer to a word: 8 for a wrong kind, else that to its low bits.
 unfoldable pub wordFault : Field → ℕ → ℕ → Option ℕ
-wordFault field v w = unless (eqb (kindOf w) (fieldKind field)) 8 (lowFault field v (lowOf w))
+wordFault field v w = firstOf (must (eqb (kindOf w) (fieldKind field)) 8 ∷ lowFault field v (lowOf w) ∷ [])
 
 -- The payload variant of the token that a word belongs to, after the word.
 unfoldable pub variantAfter : Field → ℕ → ℕ → ℕ
@@ -112,16 +110,27 @@ nextInToken upperField = lowerField
 nextInToken lowerField = operatorField
 nextInToken countField = operatorField
 
--- An answer number with its place.
+-- A refusal's number and place.
 pub record Refusal : Type 0 where
   pub number : ℕ
   pub place : ℕ
+
+-- The refusal with this number at this place.
+abbrev pub row : ℕ → ℕ → Refusal
+row number place = record { number = number; place = place }
+
+-- A number that was found, at its place.
+abbrev pub withPlace : ℕ → Option ℕ → Option Refusal
+withPlace place none = none
+withPlace place (some number) = some (row number place)
+
+-- A place that was found, with its number.
+abbrev pub withNumber : ℕ → Option ℕ → Option Refusal
+withNumber number none = none
+withNumber number (some place) = some (row number place)
 
 -- The first word of a list that answers 8-11, i being the index of the next word.
 unfoldable pub wordsRefusal : ℕ → Field → ℕ → List ℕ → Option Refusal
 wordsRefusal i field v [] = none
 wordsRefusal i field v (w ∷ ws) =
-    elim (wordFault field v w) [
-      | some n ↦ some (record { number = n; place = i })
-      | none ↦ wordsRefusal (suc i) (nextInToken field) (variantAfter field v w) ws
-    ]
+    firstOf (withPlace i (wordFault field v w) ∷ wordsRefusal (suc i) (nextInToken field) (variantAfter field v w) ws ∷ [])

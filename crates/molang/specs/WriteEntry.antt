@@ -7,10 +7,11 @@ use mathlib.Core.Option.{Option, none, some}
 use lib.Dec.{eqb, leb}
 use lib.ListN.{length}
 use Rattle.molang.specs.Forest.{Token, Forest, nil, node}
-use Rattle.molang.specs.Words.{Field, operatorField, startField, endField, upperField, lowerField, countField, wordFault, variantAfter, lowOf, tokenOf, listWords, Refusal}
-use Rattle.molang.specs.Parse.{mostTokens, inFront, must}
+use Rattle.molang.specs.Words.{Field, operatorField, startField, endField, upperField, lowerField, countField, wordFault, variantAfter, lowOf, tokenOf, listWords, Refusal, row, withNumber}
+use Rattle.molang.specs.FirstFailure.{must, firstOf}
+use Rattle.molang.specs.Parse.{mostTokens, inFront}
 use Rattle.molang.specs.Plain.{unplainAt}
-use Rattle.molang.specs.Write.{written, writtenCount}
+use Rattle.molang.specs.Write.{written}
 
 -- The most nodes of a tree.
 abbrev pub mostNodes : ℕ
@@ -58,12 +59,9 @@ isWhole countField s = false
 
 -- Answer 12's place: the first word that cannot continue a tree, or the word count where the words run out; i is the next word's index.
 unfoldable pub treeFault : ℕ → Field → ℕ → Shape → List ℕ → Option ℕ
-treeFault i field v s [] = elim (isWhole field s) [ true ↦ none | false ↦ some i ]
+treeFault i field v s [] = must (isWhole field s) i
 treeFault i field v s (w ∷ ws) =
-    elim (continues field v s w) [
-      | false ↦ some i
-      | true ↦ treeFault (suc i) (nextInNode field) (variantAfter field v w) (shapeAfter field w s) ws
-    ]
+    firstOf (must (continues field v s w) i ∷ treeFault (suc i) (nextInNode field) (variantAfter field v w) (shapeAfter field w s) ws ∷ [])
 
 -- The first n trees of a list.
 unfoldable pub firstTrees : ℕ → Forest → Forest
@@ -93,27 +91,23 @@ pub record WriteCall : Type 0 where
   pub tree : List ℕ
   pub list : List ℕ
 
--- A refusal at the place that was found, or else what is checked later.
-unfoldable pub refusedAt : ℕ → Option ℕ → Option Refusal → Option Refusal
-refusedAt n none later = later
-refusedAt n (some place) later = some (record { number = n; place = place })
-
--- The first of two refusals.
-unfoldable pub orElse : Option Refusal → Option Refusal → Option Refusal
-orElse none later = later
-orElse (some r) later = some r
-
 -- Answers 13-15 to a tree.
 unfoldable pub forestRefusal : Forest → ℕ → Option Refusal
 forestRefusal nil room = none
 forestRefusal (node k cs rest) room =
-    refusedAt 13 (unplainAt k cs)
-    (orElse (must (leb (writtenCount k cs) mostTokens) 14) (must (leb (5 * writtenCount k cs) room) 15))
+    firstOf
+    (withNumber 13 (unplainAt k cs)
+    ∷ must (leb (length (written k cs [])) mostTokens) (row 14 0)
+    ∷ must (leb (5 * length (written k cs [])) room) (row 15 0)
+    ∷ [])
 
 -- The table's last four lines, in their order.
 unfoldable pub writeRefusal : WriteCall → Option Refusal
 writeRefusal c =
-    refusedAt 12 (treeFault 0 operatorField 0 (record { called = 1; begun = 0 }) (c .tree)) (forestRefusal (treesOf (c .tree)) (length (c .list)))
+    firstOf
+    (withNumber 12 (treeFault 0 operatorField 0 (record { called = 1; begun = 0 }) (c .tree))
+    ∷ forestRefusal (treesOf (c .tree)) (length (c .list))
+    ∷ [])
 
 -- The tokens that are written of the first tree.
 unfoldable pub writtenTokens : Forest → List Token

@@ -15,7 +15,7 @@ use Rattle.molang.specs.Words.{tokensOf}
 use Rattle.molang.specs.Parse.{Call, reading, told, answered, treeIn, treeAfter, messagesIn, messagesAfter, workIn, workAfter}
 use Rattle.ops.specs.declared.sets.OpSet.{OpSet}
 use Rattle.order.specs.Places.{usedBy, rulesOf}
-use Rattle.accept.specs.declared.Accepted.the-variants.{Tokens, Refused}
+use Rattle.accept.specs.Accepting.{isRead, isRefused}
 use Rattle.accept.proofs.AcceptLaws.{checked, reads-call, refuses-call}
 use Rattle.buffers.specs.Load.{CanLoad, Loaded}
 use Rattle.buffers.proofs.Loading.{loaded-array}
@@ -77,13 +77,13 @@ module _ {list W buffer m : List ℕ} {n : ℕ} (p : CanRead list W buffer m n) 
 abbrev pub Meets : Call → Answer → List ℕ → List ℕ → List ℕ → Type 0
 Meets c r tree messages work = (toldOf r ≡ answered c) × ((tree ≡ treeAfter c) × ((messages ≡ messagesAfter c) × (work ≡ workAfter c)))
 
-pub refused-meets : (c : Call) (number place : ℕ) → Refused number place ≡ checked c → Meets c (Turned number place) (c .tree) (c .messages) (c .work)
+pub refused-meets : (c : Call) (number place : ℕ) → isRefused number place ≡ checked c → Meets c (Turned number place) (c .tree) (c .messages) (c .work)
 unfolding answered told treeAfter treeIn messagesAfter messagesIn workAfter workIn
 refused-meets c number place e =
     let r = refuses-call c number place e in
     (rw r, (rw r, (rw r, rw r)))
 
-pub read-meets : (c : Call) (n : ℕ) (r : Answer) (tree messages work : List ℕ) → Tokens n ≡ checked c
+pub read-meets : (c : Call) (n : ℕ) (r : Answer) (tree messages work : List ℕ) → isRead n ≡ checked c
     → HasRead (c .list) (c .tree) (c .messages) (c .sourceLength) (c .version) (record { low = c .usedLow; high = c .usedHigh }) r tree messages
     → work ≡ replicate (length (c .work)) 0 → Meets c r tree messages work
 unfolding answered reading treeAfter messagesAfter workAfter workIn
@@ -92,7 +92,7 @@ read-meets c n r tree messages work e v cleared =
     (rw none-refused (v .holds .tells), (rw none-refused (v .holds .tree), (rw none-refused (v .holds .records), rw none-refused cleared)))
 
 -- The words that are handed on are just those that the tokens need.
-pub call-reads : (c : Call) (n : ℕ) → Tokens n ≡ checked c → CanRead (c .list) (take (64 * n + 64) (c .work)) (c .tree) (c .messages) n
+pub call-reads : (c : Call) (n : ℕ) → isRead n ≡ checked c → CanRead (c .list) (take (64 * n + 64) (c .work)) (c .tree) (c .messages) n
 call-reads c n e =
     let p = reads-call c n e .1 in
     record {

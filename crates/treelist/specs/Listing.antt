@@ -7,10 +7,10 @@ use mathlib.Core.Option.{Option, none, some}
 use lib.Dec.{eqb, leb, ltb}
 use lib.IntN.{ℤ}
 use lib.ListN.{length, take, drop, getD, replicate}
-use Rattle.molang.specs.Words.{Refusal, operatorField, wordsRefusal, tokensOf}
+use Rattle.molang.specs.FirstFailure.{must, firstOf}
+use Rattle.molang.specs.Words.{Refusal, row, operatorField, wordsRefusal, tokensOf}
 use Rattle.molang.specs.Read.{Answer, read}
-use Rattle.molang.specs.Parse.{told, must, firstOf, treeIn, messagesIn}
-use Rattle.molang.specs.WriteEntry.{orElse}
+use Rattle.molang.specs.Parse.{told, treeIn, messagesIn}
 use Rattle.molang.specs.Lines.{versionOf}
 use Rattle.derived.specs.Derived.{named, highest}
 use Rattle.treelist.specs.declared.asked.Request.{Request}
@@ -34,16 +34,16 @@ listLength bytes = bytes / 4 - 1
 unfoldable pub turnedBack : ℕ → ℕ → Option Refusal
 turnedBack bytes first =
     firstOf
-    (must (eqb (bytes % 4) 0) 1
-    ∷ must (leb 4 bytes && ltb first (2 ^ 16)) 8
-    ∷ must (eqb (listLength bytes % 5) 0) 1
-    ∷ must (leb (listLength bytes) 640) 2
+    (must (eqb (bytes % 4) 0) (row 1 0)
+    ∷ must (leb 4 bytes && ltb first (2 ^ 16)) (row 8 0)
+    ∷ must (eqb (listLength bytes % 5) 0) (row 1 0)
+    ∷ must (leb (listLength bytes) 640) (row 2 0)
     ∷ [])
 
 -- What each case of `Request` says.
 abbrev pub refusalOf : Request → Option Refusal
 refusalOf (Request·List n) = none
-refusalOf (Refused number) = some (record { number = number; place = 0 })
+refusalOf (Refused number) = some (row number 0)
 
 -- The reading of a list at its exact used set, its highest span end being the source length.
 unfoldable pub readingOf : List ℕ → ℤ → Answer
@@ -55,7 +55,7 @@ listOf bytes words = take (listLength bytes) (drop 1 words)
 
 -- Where an input is turned back: by the program, else at the first of its list's words that the entry turns back.
 unfoldable pub faultOf : ℕ → List ℕ → Option Refusal
-faultOf bytes words = orElse (turnedBack bytes (getD words 0 0)) (wordsRefusal 0 operatorField 0 (listOf bytes words))
+faultOf bytes words = firstOf (turnedBack bytes (getD words 0 0) ∷ wordsRefusal 0 operatorField 0 (listOf bytes words) ∷ [])
 
 -- What is read of one that is not turned back.
 unfoldable pub answerOf : ℕ → List ℕ → Answer

@@ -5,10 +5,10 @@ use crate::refusals;
 ghost use mathlib.Core.Path.{_≡_};
 ghost use mathlib.Core.List.{[], _∷_};
 ghost use Prim.Native.Nat.{_+_, _<_, _^_};
-ghost use mathlib.Core.Option.{none};
 ghost use lib.Dec.{eqb, ltb};
-ghost use Rattle.molang.specs.Words.{kindOf, lowOf, operatorField, startField, upperField, unless, lowFault, wordFault, wordsRefusal};
-ghost use Rattle.words.specs.Checks.{numberOf, refusalOf, placed};
+ghost use Rattle.molang.specs.Words.{kindOf, lowOf, operatorField, startField, upperField, lowFault, wordFault, withPlace, wordsRefusal};
+ghost use Rattle.molang.specs.FirstFailure.{must, firstOf};
+ghost use Rattle.words.specs.Checks.{numberOf, refusalOf};
 
 // What is wrong with a word.
 pub enum Word {
@@ -27,7 +27,7 @@ pub enum Checked {
 
 // Low bits that are to be below the limit.
 fn below(low: u32, limit: u32) -> Word
-    ensures { λ r. ⌜ numberOf r ≡ unless (ltb low limit) 11 none ⌝ }
+    ensures { λ r. ⌜ numberOf r ≡ must (ltb low limit) 11 ⌝ }
 {
     if limit <= low {
         return Word::OtherBit;
@@ -53,7 +53,7 @@ pub fn operator_word(w: u32) -> Word
 
 // A word of kind 2 or 3, all of whose bits are used.
 pub fn span_word(w: u32, kind: u32) -> Word
-    ensures { λ r. ⌜ numberOf r ≡ unless (eqb (kindOf w) kind) 8 (lowFault startField 0 (lowOf w)) ⌝ }
+    ensures { λ r. ⌜ numberOf r ≡ firstOf (must (eqb (kindOf w) kind) 8 ∷ lowFault startField 0 (lowOf w) ∷ []) ⌝ }
 {
     if fields::kind(w) != kind {
         return Word::WrongKind;
@@ -63,7 +63,7 @@ pub fn span_word(w: u32, kind: u32) -> Word
 
 // A word of kind 4 or 5 in a token of the given payload variant, under variant 0 of which it holds 0.
 pub fn half_word(w: u32, kind: u32, variant: u32) -> Word
-    ensures { λ r. ⌜ numberOf r ≡ unless (eqb (kindOf w) kind) 8 (lowFault upperField variant (lowOf w)) ⌝ }
+    ensures { λ r. ⌜ numberOf r ≡ firstOf (must (eqb (kindOf w) kind) 8 ∷ lowFault upperField variant (lowOf w) ∷ []) ⌝ }
 {
     if fields::kind(w) != kind {
         return Word::WrongKind;
@@ -76,7 +76,7 @@ pub fn half_word(w: u32, kind: u32, variant: u32) -> Word
 
 // The answer's number for a bad word, and its place.
 pub fn judged(word: Word, place: usize) -> Checked
-    ensures { λ r. ⌜ refusalOf r ≡ placed place (numberOf word) ⌝ }
+    ensures { λ r. ⌜ refusalOf r ≡ withPlace place (numberOf word) ⌝ }
 {
     match word {
         Word::Good => Checked::Good,

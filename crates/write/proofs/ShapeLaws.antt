@@ -11,12 +11,14 @@ use lib.ListN.{length, getD, drop, drop-of-length-le}
 use lib.Seq.{drop-cons}
 use borrow.Author.Tests.{eqb-true, leb-true, le-leb, lt-leb}
 use Rattle.molang.specs.Words.{Field, operatorField, startField, endField, upperField, lowerField, countField, wordFault, lowFault, variantAfter, lowOf, tokenWords, tokenOf}
+use Rattle.molang.specs.FirstFailure.{must}
+use Rattle.molang.proofs.FirstFailure.{must-none, must-true, must-false, first-none, passed, found, after-none}
 use Rattle.molang.specs.WriteEntry.{mostNodes, nextInNode, Shape, shapeAfter, continues, isWhole, treeFault}
-use Rattle.molang.proofs.Trees.{some-none, both}
-use Rattle.molang.proofs.Words.{word-faultless, unless-none, five-faultless, five-back}
+use Rattle.molang.proofs.Trees.{both}
+use Rattle.molang.proofs.Words.{word-faultless, five-faultless, five-back}
 use borrow.Author.Tests.{ltb-true}
 use Rattle.write.specs.Answers.{isLegal, shape}
-use Rattle.write.specs.Shaped.{Shaped, noTrees, aNode, mostChildren, OneTree}
+use Rattle.write.specs.Shaped.{nodeLength, Shaped, noTrees, aNode, mostChildren, OneTree}
 
 -- A word that continues a tree.
 record Continues (field : Field) (v : ℕ) (s : Shape) (w : ℕ) : Type 0 where
@@ -31,7 +33,9 @@ continued-by (some n) b e = absurd (true≢false (sym e))
 continues-by : (field : Field) (v : ℕ) (s : Shape) (w : ℕ) → continues field v s w ≡ true → Continues field v s w
 unfolding continues
 continues-by field v s w e =
-    let x = continued-by (wordFault field v w) (leb (shapeAfter field w s .begun) (s .called) && leb (shapeAfter field w s .called) mostNodes) e in
+    let x = continued-by (wordFault field v w)
+    (leb (shapeAfter field w s .begun) (s .called) && leb (shapeAfter field w s .called) mostNodes) e
+    in
     let y = both _ _ (x .1) in
     record { faultless = x .0; begun = leb-true _ _ (y .0); called = leb-true _ _ (y .1) }
 
@@ -62,34 +66,26 @@ module _ (field : Field) (v : ℕ) (s : Shape) (w : ℕ) where
   unfolding continues
   uncalled-stops b = failed-by (wordFault field v w) _ _ refl (rw (lt-leb _ _ b))
 
-unfaulted-by : (b : Bool) (i : ℕ) (later : Option ℕ) → _≡_ {A = Option ℕ} (elim b [ false ↦ some i | true ↦ later ]) none → (b ≡ true) × (later ≡ none)
-unfaulted-by true i later e = (refl, e)
-unfaulted-by false i later e = some-none e
-
 next-word : (i : ℕ) (field : Field) (v : ℕ) (s : Shape) (w : ℕ) (ws : List ℕ) → treeFault i field v s (w ∷ ws) ≡ none
     → Continues field v s w × (treeFault (suc i) (nextInNode field) (variantAfter field v w) (shapeAfter field w s) ws ≡ none)
 unfolding treeFault
 next-word i field v s w ws e =
-    let x = unfaulted-by (continues field v s w) i _ e in
-    (continues-by field v s w (x .0), x .1)
+    let x = passed (continues field v s w) i _ e in
+    (continues-by field v s w (x .0), first-none _ _ (x .1) .0)
 
 -- No tree ends inside a node.
 ended : (i : ℕ) (field : Field) (v : ℕ) (s : Shape) → isWhole field s ≡ false → treeFault i field v s [] ≡ none → ⊥
 unfolding treeFault
-ended i field v s e h = some-none (rw (e, treeFault) at h)
+ended i field v s e h = true≢false (sym (must-none (isWhole field s) i h) ∙ e)
 
 -- A count of a node's children, if it is legal.
 count-bound : (v w : ℕ) → wordFault countField v w ≡ none → lowOf w ≤ mostChildren
 unfolding lowFault
-count-bound v w e = omega (arith, ltb-true (lowOf w) (2 ^ 14) (unless-none _ 11 none (word-faultless countField v w e .1) .0))
-
-whole-by : (b : Bool) (i : ℕ) → _≡_ {A = Option ℕ} (elim b [ true ↦ none | false ↦ some i ]) none → b ≡ true
-whole-by true i e = refl
-whole-by false i e = some-none e
+count-bound v w e = omega (arith, ltb-true (lowOf w) (2 ^ 14) (must-none _ 11 (word-faultless countField v w e .1)))
 
 whole : (i v : ℕ) (s : Shape) → treeFault i operatorField v s [] ≡ none → s .begun ≡ s .called
 unfolding treeFault isWhole
-whole i v s h = eqb-true (s .begun) (s .called) (whole-by _ i h)
+whole i v s h = eqb-true (s .begun) (s .called) (must-none _ i h)
 
 no-trees : (p : ℕ) → p ≡ 0 → Shaped mostChildren p []
 no-trees p e = rw e noTrees
@@ -98,14 +94,15 @@ no-trees p e = rw e noTrees
 unfaulted-node : (a b c d e n : ℕ) (ws : List ℕ) (p r begun : ℕ) → tokenWords (tokenOf a b c d e) ≡ a ∷ b ∷ c ∷ d ∷ e ∷ []
     → lowOf n ≤ mostChildren
     → p ≡ suc r
-    → Shaped mostChildren (lowOf n + r) ws × (6 * suc begun + length ws ≤ 6 * mostNodes)
-    → Shaped mostChildren p (a ∷ b ∷ c ∷ d ∷ e ∷ n ∷ ws) × (6 * begun + length (a ∷ b ∷ c ∷ d ∷ e ∷ n ∷ ws) ≤ 6 * mostNodes)
+    → Shaped mostChildren (lowOf n + r) ws × (nodeLength * suc begun + length ws ≤ nodeLength * mostNodes)
+    → Shaped mostChildren p (a ∷ b ∷ c ∷ d ∷ e ∷ n ∷ ws)
+    × (nodeLength * begun + length (a ∷ b ∷ c ∷ d ∷ e ∷ n ∷ ws) ≤ nodeLength * mostNodes)
 unfaulted-node a b c d e n ws p r begun five few q later = (rw q (aNode five few (later .0)), omega (arith, later .1))
 
 -- Words without fault are as many trees as are still called for, and not too long.
 pub unfaulted : (i v p : ℕ) (s : Shape) (ws : List ℕ) → s .called ≡ s .begun + p → s .called ≤ mostNodes
     → treeFault i operatorField v s ws ≡ none
-    → Shaped mostChildren p ws × (6 * s .begun + length ws ≤ 6 * mostNodes)
+    → Shaped mostChildren p ws × (nodeLength * s .begun + length ws ≤ nodeLength * mostNodes)
 unfolding nextInNode variantAfter shapeAfter isWhole
 unfaulted i v p s [] q m h = (no-trees p (omega (arith, whole i v s h)), omega arith)
 unfaulted i v p s (a ∷ []) q m h = absurd (ended _ startField _ _ refl (next-word i operatorField v s a [] h .1))
@@ -137,7 +134,8 @@ unfaulted i v p s (a ∷ b ∷ c ∷ d ∷ e ∷ n ∷ ws) q m h =
     let five = five-back a b c d e
     (five-faultless v a b c d e (ha .0 .faultless) (hb .0 .faultless) (hc .0 .faultless) (hd .0 .faultless) (he .0 .faultless))
     in
-    unfaulted-node a b c d e n ws p (s .called - s .begun - 1) (s .begun) five (count-bound _ n (hn .0 .faultless)) (omega (arith, ha .0 .begun))
+    unfaulted-node a b c d e n ws p (s .called - s .begun - 1) (s .begun) five (count-bound _ n (hn .0 .faultless))
+    (omega (arith, ha .0 .begun))
     (unfaulted _ _ (lowOf n + (s .called - s .begun - 1)) _ ws (omega (arith, ha .0 .begun)) (hn .0 .called) (hn .1))
 
 -- What answer 12 leaves.
@@ -153,24 +151,24 @@ module _ (i : ℕ) (field : Field) (v : ℕ) (s : Shape) (ws : List ℕ) (h : i 
 
   pub fault-here : continues field v s (getD ws i 0) ≡ false → some i ≡ treeFault i field v s (drop i ws)
   unfolding treeFault
-  fault-here e = sym (fault-at ∙ rw (e, treeFault))
+  fault-here e = sym (fault-at ∙ found (must (continues field v s (getD ws i 0)) i) i _ (must-false _ i e))
 
   pub fault-later : continues field v s (getD ws i 0) ≡ true
       → treeFault i field v s (drop i ws)
       ≡ treeFault (suc i) (nextInNode field) (variantAfter field v (getD ws i 0)) (shapeAfter field (getD ws i 0) s) (drop (suc i) ws)
   unfolding treeFault
-  fault-later e = fault-at ∙ rw (e, treeFault)
+  fault-later e = fault-at ∙ after-none (must (continues field v s (getD ws i 0)) i) _ (must-true _ i e)
 
 -- At the words' end.
 pub fault-end : (i : ℕ) (field : Field) (v : ℕ) (s : Shape) (ws : List ℕ) → length ws ≤ i → isWhole field s ≡ false
     → some i ≡ treeFault i field v s (drop i ws)
 unfolding treeFault
-fault-end i field v s ws h e = rw (drop-of-length-le ws h, e, treeFault)
+fault-end i field v s ws h e = rw (drop-of-length-le ws h) (sym (must-false (isWhole field s) i e))
 
 pub fault-none : (i : ℕ) (field : Field) (v : ℕ) (s : Shape) (ws : List ℕ) → length ws ≤ i → isWhole field s ≡ true
     → none ≡ treeFault i field v s (drop i ws)
 unfolding treeFault
-fault-none i field v s ws h e = rw (drop-of-length-le ws h, e, treeFault)
+fault-none i field v s ws h e = rw (drop-of-length-le ws h) (sym (must-true (isWhole field s) i e))
 
 called-grows : (field : Field) (w : ℕ) (s : Shape) → s .called ≤ shapeAfter field w s .called
 unfolding shapeAfter

@@ -8,7 +8,7 @@ ghost use Prim.Native.Nat.{ℕ, _≤_};
 ghost use Rattle.molang.specs.Words as words;
 ghost use Rattle.molang.specs.WriteEntry as entry;
 ghost use Rattle.words.specs.Checks.{numberOf};
-ghost use Rattle.write.specs.Answers.{slotOf, placeOf, isLegal, shape};
+ghost use Rattle.write.specs.Answers.{fieldOf, refusalOf, treeRefusal, isLegal, shape};
 
 // The most nodes of a tree.
 pub const MOST_NODES: u32 = 12_288;
@@ -31,7 +31,7 @@ pub enum Fault {
 }
 
 fn next(field: Field) -> Field
-    ensures { λ r. ⌜ slotOf r ≡ entry.nextInNode (slotOf field) ⌝ }
+    ensures { λ r. ⌜ fieldOf r ≡ entry.nextInNode (fieldOf field) ⌝ }
 {
     match field {
         Field::Operator => Field::Start,
@@ -64,7 +64,7 @@ fn is_count(w: u32) -> bool
 
 // Whether the word is legal in its field, in a node of the given payload variant.
 fn is_legal(field: Field, variant: u32, w: u32) -> bool
-    ensures { λ r. ⌜ r ≡ isLegal (words.wordFault (slotOf field) variant w) ⌝ }
+    ensures { λ r. ⌜ r ≡ isLegal (words.wordFault (fieldOf field) variant w) ⌝ }
 {
     match field {
         Field::Operator => is_good(checks::operator_word(w)),
@@ -78,7 +78,7 @@ fn is_legal(field: Field, variant: u32, w: u32) -> bool
 
 // The payload variant of the node, after one of its words.
 fn variant_after(field: Field, variant: u32, w: u32) -> u32
-    ensures { λ r. ⌜ r ≡ words.variantAfter (slotOf field) variant w ⌝ }
+    ensures { λ r. ⌜ r ≡ words.variantAfter (fieldOf field) variant w ⌝ }
 {
     match field {
         Field::Operator => fields::variant(w),
@@ -89,7 +89,7 @@ fn variant_after(field: Field, variant: u32, w: u32) -> u32
 // How many nodes are called for, after a legal word: a count calls for the node's children.
 fn called_after(field: Field, called: u32, w: u32) -> u32
     requires { ⌜ called ≤ entry.mostNodes ⌝ }
-    ensures { λ r. ⌜ ((begun : ℕ) → r ≡ entry.shapeAfter (slotOf field) w (shape called begun) .called) ⌝ }
+    ensures { λ r. ⌜ ((begun : ℕ) → r ≡ entry.shapeAfter (fieldOf field) w (shape called begun) .called) ⌝ }
 {
     match field {
         Field::Count => called + fields::low(w),
@@ -100,7 +100,7 @@ fn called_after(field: Field, called: u32, w: u32) -> u32
 // How many nodes have begun, after a word.
 fn begun_after(field: Field, begun: u32) -> u32
     requires { ⌜ begun ≤ entry.mostNodes ⌝ }
-    ensures { λ r. ⌜ ((called w : ℕ) → r ≡ entry.shapeAfter (slotOf field) w (shape called begun) .begun) ⌝ }
+    ensures { λ r. ⌜ ((called w : ℕ) → r ≡ entry.shapeAfter (fieldOf field) w (shape called begun) .begun) ⌝ }
 {
     match field {
         Field::Operator => begun + 1,
@@ -111,7 +111,7 @@ fn begun_after(field: Field, begun: u32) -> u32
 // Whether the word can stand next: it is legal, a node is still called for, and no more nodes are than a tree may have.
 fn continues(field: Field, variant: u32, called: u32, begun: u32, w: u32) -> bool
     requires { ⌜ (begun ≤ called) × (called ≤ entry.mostNodes) ⌝ }
-    ensures { λ r. ⌜ r ≡ entry.continues (slotOf field) variant (shape called begun) w ⌝ }
+    ensures { λ r. ⌜ r ≡ entry.continues (fieldOf field) variant (shape called begun) w ⌝ }
 {
     if !is_legal(field, variant, w) {
         return false;
@@ -124,7 +124,7 @@ fn continues(field: Field, variant: u32, called: u32, begun: u32, w: u32) -> boo
 
 // Whether the words may end here: a node has just ended, and none is called for any more.
 fn is_whole(field: Field, called: u32, begun: u32) -> bool
-    ensures { λ r. ⌜ r ≡ entry.isWhole (slotOf field) (shape called begun) ⌝ }
+    ensures { λ r. ⌜ r ≡ entry.isWhole (fieldOf field) (shape called begun) ⌝ }
 {
     match field {
         Field::Operator => begun == called,
@@ -132,8 +132,9 @@ fn is_whole(field: Field, called: u32, begun: u32) -> bool
     }
 }
 
+// The loop over the words: the first that cannot continue a tree, or the end where they run out.
 pub fn first_fault(tree: &[u32]) -> Fault
-    ensures { λ r. ⌜ placeOf r ≡ entry.treeFault 0 words.operatorField 0 (shape 1 0) (now (tree .entry)) ⌝ }
+    ensures { λ r. ⌜ refusalOf r ≡ treeRefusal (now (tree .entry)) ⌝ }
 {
     let mut field = Field::Operator;
     let mut variant = 0u32;

@@ -1,6 +1,7 @@
 -- `accept::accept` meets its contract: the parts of the table in order. Assumes nothing.
-use mathlib.Core.Path.{sym, _∙_}
+use mathlib.Core.Path.{sym, ap, _∙_}
 use borrow.Author.Needs.{needs}
+use Rattle.accept.specs.Accepting.{verdictOf}
 use Rattle.accept.proofs.AcceptLaws.{by-length, whole-tokens, by-lent, by-words}
 use Rattle.accept.proofs.accept.Statement.{statement}
 use Rattle.accept.proofs.accept.Tie as tie
@@ -24,7 +25,7 @@ buffers-requires : tie.Need-buffers-requires
 buffers-requires c κs =
     let measured = c .before .before .before in
     let a = measured .before .before .args in
-    whole-tokens (a .list .now) (a .sizes) (a .used) _ (sym (c .before .length .given .1) ∙ measured .list-length .ensures) .1
+    whole-tokens (a .list .now) (a .sizes) (a .used) _ (sym (ap verdictOf (c .before .length .given .1)) ∙ measured .list-length .ensures) .1
 
 enum-told-2 : tie.Need-enum-told-2
 enum-told-2 c = search needs
@@ -37,7 +38,7 @@ returns-2 c =
     let lent = c .before .before in
     let measured = lent .before .before .before .before in
     let a = measured .before .before .args in
-    by-lent (a .list .now) (a .sizes) (a .used) _ (sym (lent .before .before .length .given .1) ∙ measured .list-length .ensures)
+    by-lent (a .list .now) (a .sizes) (a .used) _ (sym (ap verdictOf (lent .before .before .length .given .1)) ∙ measured .list-length .ensures)
     (lent .buffers .result) (c .before .match2 .keys2) (lent .buffers .ensures)
 
 token-words-requires : tie.Need-token-words-requires
@@ -45,15 +46,15 @@ token-words-requires c κs =
     let lent = c .before .before in
     let measured = lent .before .before .before .before in
     let a = measured .before .before .args in
-    whole-tokens (a .list .now) (a .sizes) (a .used) _ (sym (lent .before .before .length .given .1) ∙ measured .list-length .ensures) .0
+    whole-tokens (a .list .now) (a .sizes) (a .used) _ (sym (ap verdictOf (lent .before .before .length .given .1)) ∙ measured .list-length .ensures) .0
 
 returns-3 : tie.Need-returns-3
 returns-3 c =
     let lent = c .before .before .before in
     let measured = lent .before .before .before .before in
     let a = measured .before .before .args in
-    by-words (a .list .now) (a .sizes) (a .used) _ (sym (lent .before .before .length .given .1) ∙ measured .list-length .ensures)
-    _ (sym (c .before .enum-told2 .given .1) ∙ lent .buffers .ensures) (c .token-words .result) (c .token-words .ensures)
+    by-words (a .list .now) (a .sizes) (a .used) _ (sym (ap verdictOf (lent .before .before .length .given .1)) ∙ measured .list-length .ensures)
+    _ (sym (ap verdictOf (c .before .enum-told2 .given .1)) ∙ lent .buffers .ensures) (c .token-words .result) (c .token-words .ensures)
 
 pub accept-spec : {M : Type 1} → statement M
 accept-spec =

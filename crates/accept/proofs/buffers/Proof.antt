@@ -6,7 +6,7 @@ use native.Mathlib.Omega.{arith}
 use lib.Dec.{ltb}
 use borrow.Author.Needs.{needs}
 use borrow.Author.Tests.{le-leb, lt-leb, not-true, not-false}
-use Rattle.molang.specs.Parse.{must, firstOf}
+use Rattle.molang.specs.FirstFailure.{must, firstOf}
 use Rattle.accept.specs.Accepting.{lentRefusal}
 use Rattle.accept.proofs.buffers.Statement.{statement}
 use Rattle.accept.proofs.buffers.Tie as tie

@@ -2,7 +2,7 @@
 use Prim.Native.Nat.{_/_, _%_}
 use native.Mathlib.Omega.{arith}
 use borrow.Author.Tests.{eq-eqb, ne-eqb, le-leb, lt-leb}
-use Rattle.molang.specs.Parse.{must, firstOf}
+use Rattle.molang.specs.FirstFailure.{must, firstOf}
 use Rattle.accept.specs.Accepting.{lengthRefusal}
 use Rattle.accept.proofs.list_length.Statement.{statement}
 use Rattle.accept.proofs.list_length.Tie as tie

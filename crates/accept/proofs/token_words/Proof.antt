@@ -4,7 +4,7 @@ use mathlib.Core.Path.{_≡_, refl, sym, ap, _∙_}
 use mathlib.Core.Option.{none}
 use native.Mathlib.Omega.{arith}
 use Rattle.words.specs.Checks.{refusalOf}
-use Rattle.accept.specs.Accepting.{answerFor}
+use Rattle.accept.specs.Accepting.{verdict}
 use borrow.Author.Needs.{needs}
 use Rattle.accept.proofs.AcceptLaws.{PassedTo, checkFrom, token-good, token-bad, all-good}
 use Rattle.accept.proofs.token_words.Statement.{statement}
@@ -94,7 +94,7 @@ returns c =
     let s = c .before .before .before .before .before .before .before .before .before .before in
     let list = s .before .before .args .list .now in
     let at = 5 * s .loop .i in
-    ap (answerFor (s .before .before .args .n))
+    ap (verdict (s .before .before .args .n))
     (sym
     (s .loop .inv .rest
     ∙ token-bad list at (omega arith) _ (sym (ap refusalOf (c .before .checked .given .1)) ∙ c .before .before .before .token .ensures)))
@@ -102,7 +102,7 @@ returns c =
 returns-2 : tie.Need-returns-2 Inv-loop μ-loop
 returns-2 c =
     let a = c .before .before .before .args in
-    ap (answerFor (a .n)) (sym (c .before .loop .inv .rest ∙ all-good (a .list .now) (5 * c .before .loop .i) (omega arith)))
+    ap (verdict (a .n)) (sym (c .before .loop .inv .rest ∙ all-good (a .list .now) (5 * c .before .loop .i) (omega arith)))
 
 pub token-words-spec : {M : Type 1} → statement M
 token-words-spec =
