@@ -4,9 +4,8 @@ use mathlib.Core.Path.{_≡_, refl, ap, sym, _∙_}
 use mathlib.Core.Bool.{Bool, true, false, not}
 use mathlib.Core.List.{List, [], _∷_, _++_, append-assoc, append-nil}
 use native.Mathlib.Nat.{add-assoc}
-use native.Mathlib.Numerals.{add-one}
 use native.Mathlib.Omega.{arith}
-use lib.ListN.{length, take, drop, set, getD, length-append, length-drop, take-append-drop}
+use lib.ListN.{length, take, drop, getD, length-append, length-drop, take-append-drop}
 use lib.Seq.{length-take-le, take-at, drop-at, drop-drop}
 use borrow.Author.Tests.{eq-eqb, ne-eqb, eqb-true, eqb-false}
 use Rattle.molang.specs.Forest.{Token, Forest, nil, node, bare, count, size}
@@ -24,7 +23,6 @@ use Rattle.molang.proofs.Writing.{written-none, written-one, written-two, opera
 use Rattle.molang.specs.Parse.{inFront}
 use Rattle.words.specs.Fields.{operatorOf}
 use Rattle.words.specs.Records.{laidAt}
-use Rattle.words.proofs.RecordLaws.{laid-sets}
 use Rattle.write.specs.Spelling.{firstFive, bracketWords, closerWords, firstSize, operandOf, nodeWritten, operandWritten}
 
 -- Words laid behind words.
@@ -72,15 +70,7 @@ unfolding listWords
 list-words-append [] ys = refl
 list-words-append (x ∷ xs) ys = rw (list-words-append xs ys, append-assoc) refl
 
--- Five stores one after the other; no words at all.
-pub five-laid : (a b c d e to : ℕ) (list : List ℕ) → to + 5 ≤ length list
-    → set (set (set (set (set list to a) (to + 1) b) (to + 2) c) (to + 3) d) (to + 4) e ≡ laidAt to (a ∷ b ∷ c ∷ d ∷ e ∷ []) list
-five-laid a b c d e to list h =
-    let two : to + 2 ≡ suc (suc to) = omega arith in
-    let three : to + 3 ≡ suc (suc (suc to)) = omega arith in
-    let four : to + 4 ≡ suc (suc (suc (suc to))) = omega arith in
-    rw (add-one, two, three, four) (laid-sets (a ∷ b ∷ c ∷ d ∷ e ∷ []) list to h)
-
+-- No words at all.
 pub none-laid : (to : ℕ) (list : List ℕ) → list ≡ laidAt to [] list
 unfolding laidAt inFront
 none-laid to list = sym (take-append-drop to list)
