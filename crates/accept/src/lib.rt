@@ -5,6 +5,7 @@ use words::checks::Checked;
 use words::checks::token;
 use words::fields;
 use words::refusals;
+use words::tokens::TokenWords;
 ghost use mathlib.Core.Path.{_≡_};
 ghost use Prim.Native.Nat.{_*_, _/_, _≤_};
 ghost use lib.ListN.{length};
@@ -79,13 +80,9 @@ fn token_words(list: &[u32], n: usize) -> Accepted
     let mut i = 0usize;
     while i < n {
         let at = fields::TOKEN_WORDS * i;
-        let first = list[at];
-        let start = list[at + fields::START_FIELD];
-        let end = list[at + fields::END_FIELD];
-        let upper = list[at + fields::UPPER_FIELD];
-        let lower = list[at + fields::LOWER_FIELD];
+        let words = TokenWords::at(list, at);
         i += 1;
-        let checked = token(first, start, end, upper, lower, at);
+        let checked = token(words, at);
         match checked {
             Checked::Good => {}
             Checked::Bad(number, place) => {

@@ -2,12 +2,14 @@
 // specs/Checks gives the number and the place of each case.
 use crate::fields;
 use crate::refusals;
+use crate::tokens::TokenWords;
 ghost use mathlib.Core.Path.{_≡_};
 ghost use mathlib.Core.List.{[], _∷_};
 ghost use Prim.Native.Nat.{_+_, _<_, _^_};
 ghost use lib.Dec.{eqb, ltb};
 ghost use Rattle.molang.specs.Words.{kindOf, lowOf, operatorField, startField, upperField, lowFault, wordFault, withPlace, wordsRefusal};
 ghost use Rattle.molang.specs.FirstFailure.{must, firstOf};
+ghost use Rattle.words.specs.Tokens.{fiveWords};
 ghost use Rattle.words.specs.Checks.{numberOf, refusalOf};
 
 // What is wrong with a word.
@@ -89,27 +91,27 @@ pub fn judged(word: Word, place: usize) -> Checked
 
 // The first bad one of the five words of a token, which stand from `at` on in the list. The caller has read them out of the list, so
 // their places are numbers of words.
-pub fn token(first: u32, start: u32, end: u32, upper: u32, lower: u32, at: usize) -> Checked
+pub fn token(words: TokenWords, at: usize) -> Checked
     requires { ⌜ at + 4 < 2 ^ 64 ⌝ }
-    ensures { λ r. ⌜ refusalOf r ≡ wordsRefusal at operatorField 0 (first ∷ start ∷ end ∷ upper ∷ lower ∷ []) ⌝ }
+    ensures { λ r. ⌜ refusalOf r ≡ wordsRefusal at operatorField 0 (fiveWords words) ⌝ }
 {
-    let one = operator_word(first);
+    let one = operator_word(words.operator);
     let Word::Good = one else {
         return judged(one, at);
     };
-    let two = span_word(start, fields::START);
+    let two = span_word(words.start, fields::START);
     let Word::Good = two else {
         return judged(two, at + fields::START_FIELD);
     };
-    let three = span_word(end, fields::END);
+    let three = span_word(words.end, fields::END);
     let Word::Good = three else {
         return judged(three, at + fields::END_FIELD);
     };
-    let variant = fields::variant(first);
-    let four = half_word(upper, fields::UPPER, variant);
+    let variant = fields::variant(words.operator);
+    let four = half_word(words.upper, fields::UPPER, variant);
     let Word::Good = four else {
         return judged(four, at + fields::UPPER_FIELD);
     };
-    let five = half_word(lower, fields::LOWER, variant);
+    let five = half_word(words.lower, fields::LOWER, variant);
     judged(five, at + fields::LOWER_FIELD)
 }

@@ -3,9 +3,8 @@ use Prim.Native.Nat.{ℕ, suc, _+_, _*_, _≤_}
 use mathlib.Core.Path.{_≡_, refl, ap, sym, _∙_}
 use mathlib.Core.Bool.{Bool, true, false, not}
 use mathlib.Core.List.{List, [], _∷_, _++_, append-assoc, append-nil}
-use native.Mathlib.Numerals.{add-one}
 use native.Mathlib.Omega.{arith}
-use lib.ListN.{length, drop, set, getD}
+use lib.ListN.{length, drop, getD}
 use lib.Seq.{drop-drop}
 use borrow.Author.Tests.{eq-eqb, ne-eqb, eqb-true, eqb-false}
 use Rattle.molang.specs.Forest.{Token, Forest, nil, node, bare, count, size}
@@ -22,7 +21,6 @@ use Rattle.molang.specs.WriteEntry.{firstTrees, otherTrees, treesOf, writtenTok
 use Rattle.molang.proofs.Writing.{written-none, written-one, written-two, operand-before, written-before}
 use Rattle.words.specs.Fields.{operatorOf}
 use Rattle.words.specs.Records.{laidAt}
-use Rattle.words.proofs.RecordLaws.{laid-sets}
 use Rattle.write.specs.Spelling.{firstFive, bracketWords, closerWords, firstSize, operandOf, nodeWritten, operandWritten}
 
 -- The words of a list of tokens.
@@ -30,15 +28,6 @@ pub list-words-append : (xs ys : List Token) → listWords (xs ++ ys) ≡ listWo
 unfolding listWords
 list-words-append [] ys = refl
 list-words-append (x ∷ xs) ys = rw (list-words-append xs ys, append-assoc) refl
-
--- Five stores one after the other; no words at all.
-pub five-laid : (a b c d e to : ℕ) (list : List ℕ) → to + 5 ≤ length list
-    → set (set (set (set (set list to a) (to + 1) b) (to + 2) c) (to + 3) d) (to + 4) e ≡ laidAt to (a ∷ b ∷ c ∷ d ∷ e ∷ []) list
-five-laid a b c d e to list h =
-    let two : to + 2 ≡ suc (suc to) = omega arith in
-    let three : to + 3 ≡ suc (suc (suc to)) = omega arith in
-    let four : to + 4 ≡ suc (suc (suc (suc to))) = omega arith in
-    rw (add-one, two, three, four) (laid-sets (a ∷ b ∷ c ∷ d ∷ e ∷ []) list to h)
 
 -- The closer's words, by whether the node is a bracket.
 pub bracket-closer : (ws : List ℕ) → operatorOf (getD ws 0 0) ≡ 4 → closerWords ws ≡ bracketWords 5 ws

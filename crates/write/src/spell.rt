@@ -8,27 +8,24 @@ use crate::plain::seat_of_only;
 use crate::plain::seat_of_right;
 use ops::op;
 use words::fields;
+use words::tokens::TokenWords;
 ghost use mathlib.Core.Path.{_≡_};
-ghost use mathlib.Core.List.{[], _∷_};
 ghost use Prim.Native.Nat.{_+_, _≤_};
 ghost use lib.ListN.{length};
 ghost use Rattle.molang.specs.WriteEntry.{writtenTokens};
 ghost use Rattle.words.specs.Records.{laidAt};
+ghost use Rattle.words.specs.Tokens.{fiveWords};
 ghost use Rattle.write.specs.Spelling.{firstFive, bracketWords, closerWords, operandOf, filledWords, nodeWritten, operandWritten};
 ghost use Rattle.write.specs.Spelling.{Room};
 
 // Puts a token's five words into the list from `to` on, and moves `to` behind them.
-fn put(list: &mut [u32], to: &mut usize, first: u32, start: u32, end: u32, upper: u32, lower: u32)
+fn put(list: &mut [u32], to: &mut usize, token: TokenWords)
     requires { ⌜ now to + 5 ≤ length (now list) ⌝ }
-    ensures { λ _. ⌜ now (list .exit) ≡ laidAt (now (to .entry)) (first ∷ start ∷ end ∷ upper ∷ lower ∷ []) (now (list .entry)) ⌝ }
+    ensures { λ _. ⌜ now (list .exit) ≡ laidAt (now (to .entry)) (fiveWords token) (now (list .entry)) ⌝ }
     ensures { λ _. ⌜ now (to .exit) ≡ now (to .entry) + 5 ⌝ }
 {
     let at = *to;
-    list[at] = first;
-    list[at + fields::START_FIELD] = start;
-    list[at + fields::END_FIELD] = end;
-    list[at + fields::UPPER_FIELD] = upper;
-    list[at + fields::LOWER_FIELD] = lower;
+    token.lay(list, at);
     *to = at + fields::TOKEN_WORDS;
 }
 
@@ -38,37 +35,21 @@ fn put_token(words: &[u32], list: &mut [u32], to: &mut usize)
     ensures { λ _. ⌜ now (list .exit) ≡ laidAt (now (to .entry)) (firstFive (now (words .entry))) (now (list .entry)) ⌝ }
     ensures { λ _. ⌜ now (to .exit) ≡ now (to .entry) + length (firstFive (now (words .entry))) ⌝ }
 {
-    put(
-        list,
-        to,
-        words[0],
-        words[fields::START_FIELD],
-        words[fields::END_FIELD],
-        words[fields::UPPER_FIELD],
-        words[fields::LOWER_FIELD],
-    );
+    put(list, to, TokenWords::at(words, 0));
 }
 
 // A bracket of op for the node that the words open with: the node's span, payload 0.
 fn put_bracket(op: u32, words: &[u32], list: &mut [u32], to: &mut usize)
-    requires { ⌜ (3 ≤ length (now words)) × (now to + 5 ≤ length (now list)) ⌝ }
+    requires { ⌜ (5 ≤ length (now words)) × (now to + 5 ≤ length (now list)) ⌝ }
     ensures { λ _. ⌜ now (list .exit) ≡ laidAt (now (to .entry)) (bracketWords op (now (words .entry))) (now (list .entry)) ⌝ }
     ensures { λ _. ⌜ now (to .exit) ≡ now (to .entry) + length (bracketWords op (now (words .entry))) ⌝ }
 {
-    put(
-        list,
-        to,
-        fields::operator_word(op),
-        words[fields::START_FIELD],
-        words[fields::END_FIELD],
-        fields::no_upper(),
-        fields::no_lower(),
-    );
+    put(list, to, TokenWords::at(words, 0).bare(op));
 }
 
 // The closer of the node that the words open with, if it is a bracket.
 fn put_closer(words: &[u32], list: &mut [u32], to: &mut usize)
-    requires { ⌜ (3 ≤ length (now words)) × (now to + length (closerWords (now words)) ≤ length (now list)) ⌝ }
+    requires { ⌜ (5 ≤ length (now words)) × (now to + length (closerWords (now words)) ≤ length (now list)) ⌝ }
     ensures { λ _. ⌜ now (list .exit) ≡ laidAt (now (to .entry)) (closerWords (now (words .entry))) (now (list .entry)) ⌝ }
     ensures { λ _. ⌜ now (to .exit) ≡ now (to .entry) + length (closerWords (now (words .entry))) ⌝ }
 {

@@ -22,47 +22,8 @@ loop-holds c = record { within = omega arith; rest = refl }
 mul-at : tie.Need-mul-at Inv-loop μ-loop
 mul-at c = search needs
 
-mul-first : tie.Need-mul-first Inv-loop μ-loop
-mul-first c = search needs
-
-shared-slice-read-first : tie.Need-shared-slice-read-first Inv-loop μ-loop
-shared-slice-read-first c = search needs
-
-add-start : tie.Need-add-start Inv-loop μ-loop
-add-start c = search needs
-
-mul-start : tie.Need-mul-start Inv-loop μ-loop
-mul-start c = search needs
-
-shared-slice-read-start : tie.Need-shared-slice-read-start Inv-loop μ-loop
-shared-slice-read-start c = search needs
-
-add-end : tie.Need-add-end Inv-loop μ-loop
-add-end c = search needs
-
-mul-end : tie.Need-mul-end Inv-loop μ-loop
-mul-end c = search needs
-
-shared-slice-read-end : tie.Need-shared-slice-read-end Inv-loop μ-loop
-shared-slice-read-end c = search needs
-
-add-upper : tie.Need-add-upper Inv-loop μ-loop
-add-upper c = search needs
-
-mul-upper : tie.Need-mul-upper Inv-loop μ-loop
-mul-upper c = search needs
-
-shared-slice-read-upper : tie.Need-shared-slice-read-upper Inv-loop μ-loop
-shared-slice-read-upper c = search needs
-
-add-lower : tie.Need-add-lower Inv-loop μ-loop
-add-lower c = search needs
-
-mul-lower : tie.Need-mul-lower Inv-loop μ-loop
-mul-lower c = search needs
-
-shared-slice-read-lower : tie.Need-shared-slice-read-lower Inv-loop μ-loop
-shared-slice-read-lower c = search needs
+at-requires : tie.Need-at-requires Inv-loop μ-loop
+at-requires c κs = search needs
 
 add-i : tie.Need-add-i Inv-loop μ-loop
 add-i c = search needs
@@ -78,12 +39,14 @@ loop-less c = search needs
 
 loop-again : tie.Need-loop-again Inv-loop μ-loop
 loop-again c =
-    let s = c .before .before .before .before .before .before .before .before .before in
+    let token = c .before .before in
+    let words = token .before in
+    let s = words .before .before in
     let list = s .before .before .args .list .now in
     let at = 5 * s .loop .i in
-    let good : none ≡ refusalOf (c .before .before .token .result) = sym (ap refusalOf (c .enum-told .given .1)) in
+    let good : none ≡ refusalOf (token .token .result) = sym (ap refusalOf (c .enum-told .given .1)) in
     let on : at + 5 ≡ 5 * (s .loop .i + 1) = omega arith in
-    let passed = token-good list at (omega arith) (good ∙ c .before .before .token .ensures) in
+    let passed = token-good list at (omega arith) (good ∙ rw (words .at .ensures) at (token .token .ensures)) in
     record { within = omega arith; rest = s .loop .inv .rest ∙ (passed ∙ ap (checkFrom list) on) }
 
 enum-known-checked : tie.Need-enum-known-checked Inv-loop μ-loop
@@ -91,13 +54,15 @@ enum-known-checked c = search needs
 
 returns : tie.Need-returns Inv-loop μ-loop
 returns c =
-    let s = c .before .before .before .before .before .before .before .before .before .before in
+    let token = c .before .before .before in
+    let words = token .before in
+    let s = words .before .before in
     let list = s .before .before .args .list .now in
     let at = 5 * s .loop .i in
     ap (verdict (s .before .before .args .n))
     (sym
     (s .loop .inv .rest
-    ∙ token-bad list at (omega arith) _ (sym (ap refusalOf (c .before .checked .given .1)) ∙ c .before .before .before .token .ensures)))
+    ∙ token-bad list at (omega arith) _ (sym (ap refusalOf (c .before .checked .given .1)) ∙ rw (words .at .ensures) at (token .token .ensures))))
 
 returns-2 : tie.Need-returns-2 Inv-loop μ-loop
 returns-2 c =
@@ -112,20 +77,7 @@ token-words-spec =
     μ-loop
     loop-holds
     mul-at
-    mul-first
-    shared-slice-read-first
-    add-start
-    mul-start
-    shared-slice-read-start
-    add-end
-    mul-end
-    shared-slice-read-end
-    add-upper
-    mul-upper
-    shared-slice-read-upper
-    add-lower
-    mul-lower
-    shared-slice-read-lower
+    at-requires
     add-i
     token-requires
     enum-told
