@@ -34,7 +34,7 @@ use Rattle.grouping.specs.Grouped as stands
 use Rattle.levels.specs.declared.failure.Failure.the-variants.{ComplexMustEndWithSemicolon, ComplexWithoutTokens}
 use Rattle.grouping.specs.declared.grouped.Grouped.the-variants.{Failed}
 use Rattle.order.specs.Ranks.{usedBy}
-use Rattle.order.proofs.Running.{failed as failing, next, run-first, skip-first}
+use Rattle.order.proofs.Folding.{failed as failing, next, run-first, skip-first}
 use Rattle.sections.specs.Flat.{FlatTells, failed, mismatched, unclosed, Answers, CanJoin, Joined, CanSection}
 use Rattle.sections.specs.Flat as pass
 use Rattle.grouping.specs.Group.{CanGroup, FlatTo, ifRun, EndsTo, ended, unended, EndsRight, JoinedIf, SectionedIf, Flattened}
@@ -61,11 +61,11 @@ module _ (n : ℕ) (u : ℕ → Bool) (p : Pass) (ps : List Pass) (f : Forest) (
   read-on g e = go (runs u p) refl
     where
       go : (b : Bool) → runs u p ≡ b → grouped n u (p ∷ ps) [] f ≡ grouped n u ps [] g
-      go true h = run-first n u p ps h ps [] f ∙ ap (next n u p ps ps []) (does ∙ (sym (if-run (runs u p) q f h) ∙ e))
+      go true h = run-first n u p h ps [] f ∙ ap (next n u p ps []) (does ∙ (sym (if-run (runs u p) q f h) ∙ e))
       go false h =
           let same : ok f ≡ ok g = sym (if-skipped (runs u p) q f h) ∙ e in
           let same' : f ≡ g = cc in
-          skip-first n u p ps h [] f ∙ ap (grouped n u ps []) same'
+          skip-first n u p h ps [] f ∙ ap (grouped n u ps []) same'
 
   -- or it fails, which ends the reading
   read-out : (ms : List Message) → endsReading p ≡ true → ifRun (runs u p) q f ≡ fail ms → grouped n u (p ∷ ps) [] f ≡ messages ms
@@ -73,8 +73,8 @@ module _ (n : ℕ) (u : ℕ → Bool) (p : Pass) (ps : List Pass) (f : Forest) (
     where
       go : (b : Bool) → runs u p ≡ b → grouped n u (p ∷ ps) [] f ≡ messages ms
       go true h =
-          run-first n u p ps h ps [] f
-          ∙ (ap (next n u p ps ps []) (does ∙ (sym (if-run (runs u p) q f h) ∙ e)) ∙ ap (failing n u p ps ps [] ms) last)
+          run-first n u p h ps [] f
+          ∙ (ap (next n u p ps []) (does ∙ (sym (if-run (runs u p) q f h) ∙ e)) ∙ ap (failing n u p ps [] ms) last)
       go false h =
           let differ : ok f ≡ fail ms = sym (if-skipped (runs u p) q f h) ∙ e in
           let z : _≡_ {A = ℕ} 0 1 = cc in absurd (omega arith)

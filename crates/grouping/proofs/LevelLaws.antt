@@ -24,12 +24,11 @@ use Rattle.levels.specs.declared.failure.Failure.{Failure}
 use Rattle.grouping.specs.declared.grouped.Grouped.{Grouped}
 use Rattle.grouping.specs.declared.grouped.Grouped.the-variants.{Roots, Failed, Mismatched, Unclosed, PointerFailed}
 use Rattle.levels.specs.declared.turns.Pass.{Pass as State}
-use Rattle.order.specs.Ranks.{usedBy, rulesOf, ranks, rankIn, Starts, Chosen as Picked, passesFrom}
+use Rattle.order.specs.Ranks.{usedBy, rulesOf, later, Starts, Chosen as Picked}
 use Rattle.order.specs.Ranks as starts
 use Rattle.order.specs.declared.Choice.{Choice}
 use Rattle.order.specs.declared.Choice.the-variants.{Run, Skip}
-use Rattle.order.proofs.Running.{chosen}
-use Rattle.order.proofs.Folding.{grouped-first, grouped-last, grouped-skip, RankRuns, rank-runs}
+use Rattle.order.proofs.Folding.{grouped-last, grouped-skip, RankRuns, rank-runs}
 use Rattle.grouping.specs.Driver.{Outermost, CanRun, RanTo, done}
 use Rattle.grouping.specs.Driver as driver
 use Rattle.grouping.specs.Choice.{CanChoose, Chosen}
@@ -76,16 +75,16 @@ pub record LevelAt (W₀ : List ℕ) (base m : ℕ) (u : ℕ → Bool) (r : Rule
   pub F : Forest
   pub list : Outermost W base n (3 * (g .n) + 3) F
   pub light : weight nodeWeight F ≤ 3 * (g .n)
-  pub answer : grouped l u (drop 3 (order r)) [] (g .F) ≡ grouped l u (passesFrom u r k) [] F
+  pub answer : grouped l u (drop 3 (order r)) [] (g .F) ≡ grouped l u (drop k (later r)) [] F
 
 pub level-start : {W : List ℕ} {base m : ℕ} (u : ℕ → Bool) (r : Rules) (g : CanLevel W base m) (l : ℕ) → LevelAt W base m u r g l W 0 m
-level-start u r g l = record { F = g .F; list = g .list; light = g .light; answer = grouped-first l u r [] (g .F) }
+level-start u r g l = record { F = g .F; list = g .list; light = g .light; answer = refl }
 
-module _ {W₀ : List ℕ} {base m : ℕ} {u : ℕ → Bool} {r : Rules} {g : CanLevel W₀ base m} {l : ℕ} {W : List ℕ} {k n : ℕ} (below : k < 23)
+module _ {W₀ : List ℕ} {base m : ℕ} {u : ℕ → Bool} {r : Rules} {g : CanLevel W₀ base m} {l : ℕ} {W : List ℕ} {k n : ℕ}
     (long : length W ≡ length W₀) where
-  module _ (v : LevelAt W₀ base m u r g l W k n) (state : State) (c : Picked u (rankIn (ranks r) k) (Run state)) where
-    abbrev pub rank : RankRuns l u r k below [] (v .F) state
-    rank = rank-runs l u r k below [] (v .F) state c
+  module _ (v : LevelAt W₀ base m u r g l W k n) (state : State) (c : Picked u (drop k (later r)) (Run state)) where
+    abbrev pub rank : RankRuns l u r k [] (v .F) state
+    rank = rank-runs l u r k [] (v .F) state c
 
     abbrev pub level-run : CanRun W base n state
     level-run =
@@ -94,7 +93,7 @@ module _ {W₀ : List ℕ} {base m : ℕ} {u : ℕ → Bool} {r : Rules} {g : Ca
           hi = 3 * (g .n) + 3;
           F = v .F;
           runs = rank .runs-kind;
-          unlent = starts-unlent (chosen c .starts);
+          unlent = starts-unlent (rank .starts .1);
           list = v .list;
           own = omega arith;
           below = omega (arith, g .based);
@@ -103,12 +102,12 @@ module _ {W₀ : List ℕ} {base m : ℕ} {u : ℕ → Bool} {r : Rules} {g : Ca
         }
 
   -- what a rank asks, by what was chosen there
-  pub level-chooses : LevelAt W₀ base m u r g l W k n → (c : Choice) → Picked u (rankIn (ranks r) k) c → CanChoose W base n c
+  pub level-chooses : LevelAt W₀ base m u r g l W k n → (c : Choice) → Picked u (drop k (later r)) c → CanChoose W base n c
   level-chooses v (Run state) c = level-run v state c
   level-chooses v Skip c = tt
 
   -- the pass went through, or there was none
-  pub level-on : LevelAt W₀ base m u r g l W k n → (c : Choice) → Picked u (rankIn (ranks r) k) c → {W' : List ℕ} (left : ℕ)
+  pub level-on : LevelAt W₀ base m u r g l W k n → (c : Choice) → Picked u (drop k (later r)) c → {W' : List ℕ} (left : ℕ)
       → Chosen W base n c (Done left) W'
       → LevelAt W₀ base m u r g l W' (k + 1) left
   level-on v Skip c {W'} left h =
@@ -117,7 +116,7 @@ module _ {W₀ : List ℕ} {base m : ℕ} {u : ℕ → Bool} {r : Rules} {g : Ca
         F = v .F;
         list = subst₂ (λ (X : List ℕ) (y : ℕ). Outermost X base y (3 * (g .n) + 3) (v .F)) (sym (h .1)) (sym same) (v .list);
         light = v .light;
-        answer = v .answer ∙ grouped-skip l u r k below [] (v .F) c;
+        answer = v .answer ∙ grouped-skip l u r k [] (v .F) c;
       }
   level-on v (Run state) c {W'} left h = went (h .to (level-run v state c))
     where
@@ -131,7 +130,7 @@ module _ {W₀ : List ℕ} {base m : ℕ} {u : ℕ → Bool} {r : Rules} {g : Ca
           }
 
   -- the pass failed: the pointer's, which leaves the list empty, or another's
-  pub level-pointer : LevelAt W₀ base m u r g l W k n → (c : Choice) → Picked u (rankIn (ranks r) k) c → {W' : List ℕ} (f : Failure)
+  pub level-pointer : LevelAt W₀ base m u r g l W k n → (c : Choice) → Picked u (drop k (later r)) c → {W' : List ℕ} (f : Failure)
       → Chosen W base n c (Fail f) W'
       → k ≡ 3 → StandsFor W' (3 * (g .n) + 3) (g .n) l (PointerFailed f) (grouped l u (drop 3 (order r)) [] (g .F))
   level-pointer v Skip c f h at = let z : _≡_ {A = ℕ} 0 1 = cc in absurd (omega arith)
@@ -143,7 +142,7 @@ module _ {W₀ : List ℕ} {base m : ℕ} {u : ℕ → Bool} {r : Rules} {g : Ca
           subst (λ (a : Answer). StandsFor W' (3 * (g .n) + 3) (g .n) l (PointerFailed f) a)
           (sym (v .answer ∙ rank v state c .pointer-ends ms at e)) (pointerFailed t)
 
-  pub level-fails : LevelAt W₀ base m u r g l W k n → (c : Choice) → Picked u (rankIn (ranks r) k) c → {W' : List ℕ} (f : Failure)
+  pub level-fails : LevelAt W₀ base m u r g l W k n → (c : Choice) → Picked u (drop k (later r)) c → {W' : List ℕ} (f : Failure)
       → Chosen W base n c (Fail f) W'
       → k ≢ 3 → StandsFor W' (3 * (g .n) + 3) (g .n) l (Failed f) (grouped l u (drop 3 (order r)) [] (g .F))
   level-fails v Skip c f h other = let z : _≡_ {A = ℕ} 0 1 = cc in absurd (omega arith)
@@ -160,7 +159,7 @@ pub level-roots : {W₀ : List ℕ} {base m : ℕ} {u : ℕ → Bool} {r : Rules
     → LevelAt W₀ base m u r g l W k n → k ≡ 23
     → StandsFor W (3 * (g .n) + 3) (g .n) l Roots (grouped l u (drop 3 (order r)) [] (g .F))
 level-roots {u = u} {r} {g} {l} {W} {k} v e =
-    let last = ap (λ (j : ℕ). grouped l u (passesFrom u r j) [] (v .F)) e ∙ grouped-last l u r [] (v .F) in
+    let last = ap (λ (j : ℕ). grouped l u (drop j (later r)) [] (v .F)) e ∙ grouped-last l u r [] (v .F) in
     subst (λ (a : Answer). StandsFor W (3 * (g .n) + 3) (g .n) l Roots a) (sym (v .answer ∙ last))
     (roots (v .list .owned) (omega (arith, size-weight (v .F), v .light)))
 

@@ -12,7 +12,8 @@ use ops::sets::OpSet;
 use order::Choice;
 use order::POINTER;
 use order::RANKS;
-use order::pass_at;
+use order::choose;
+use order::ranks;
 use sections::Flat;
 use sections::members;
 use sections::sections;
@@ -98,10 +99,12 @@ fn levels(work: &mut [u32], base: usize, m: usize, used: OpSet, version: i16) ->
     requires { ⌜ CanLevel (now work) base m ⌝ }
     ensures { λ r. ⌜ Levelled (now (work .entry)) base m used version r (now (work .exit)) ⌝ }
 {
+    let table = ranks(version);
     let mut k = 0u32;
     let mut n = m;
     while k < RANKS {
-        let choice = pass_at(k, used, version);
+        let rank = table[k as usize];
+        let choice = choose(rank, used);
         let ran = run_choice(work, base, n, choice);
         match ran {
             Ran::Done(left) => {
