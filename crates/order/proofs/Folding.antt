@@ -15,7 +15,7 @@ use Rattle.molang.specs.Message.{Message, multipleRoots, Result, ok, fail}
 use Rattle.molang.specs.Calls.{queryOrLoop, math}
 use Rattle.molang.specs.Order.{Rules, Pass, comparisons, logic, conditionals, order, runs, apply}
 use Rattle.molang.specs.Read.{Answer, messages, endsReading, grouped, rooted}
-use Rattle.molang.specs.Work.{Kind, pass}
+use Rattle.molang.specs.Work.{Kind, passOf, pass}
 use Rattle.molang.specs.Work as kinds
 use Rattle.molang.proofs.Trees.{both as both-true}
 use Rattle.molang.proofs.Passes.{isNested, allNested, grouped-nil}
@@ -153,7 +153,7 @@ pub record OfKind (p : Pass) (state : State) : Type 0 where
   pub does : (sourceLength : ℕ) (f : Forest) → apply sourceLength p f ≡ pass kind f
 
 pub of-kind : {p : Pass} {state : State} → Starts p state → OfKind p state
-unfolding apply pass
+unfolding apply pass passOf
 of-kind call = record { kind = kinds.calls queryOrLoop; runs-kind = levels.call; does = λ n f. refl }
 of-kind unsplitPass = record { kind = kinds.statements; runs-kind = levels.unsplitPass; does = λ n f. refl }
 of-kind array = record { kind = kinds.arrays; runs-kind = levels.array; does = λ n f. refl }
