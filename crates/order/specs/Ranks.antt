@@ -50,7 +50,8 @@ pub data Starts : Pass → State → Type 0 where
 -- The first of the two tests around the call pass (`runs`).
 abbrev pub callGate : List ℕ
 callGate =
-    Operator.leftBrace ∷ Operator.leftBracket ∷ Operator.leftParenthesis ∷ Operator.queryFunction ∷ Operator.arrayVariable ∷ Operator.semicolon ∷ []
+    Operator.leftBrace ∷ Operator.leftBracket ∷ Operator.leftParenthesis ∷ Operator.queryFunction
+    ∷ Operator.arrayVariable ∷ Operator.semicolon ∷ []
 
 -- What a pass that starts in this state asks of a used set besides an operator of its rank: a call asks for one of the gate.
 abbrev pub isOpen : OpSet → State → Bool
