@@ -1,4 +1,4 @@
-// What an input asks: where the program turns it back, else a list to read. Leans on exact (used set, source length, version) and parse;
+// What an input asks: where the program turns it back, else a list to read. Leans on derived (used set, source length, version) and parse;
 // specs/Listing has the definition.
 use derived::highest_end;
 use derived::used_of;

@@ -1,5 +1,5 @@
 // The program `treelist` of document 01: reads the words of a version and of up to 128 tokens, and prints the tree, the messages or
-// the refusal. `main` only reads and writes; which text answers which bytes is the promise of `listing`. Leans on io, exact and parse.
+// the refusal. `main` only reads and writes; which text answers which bytes is the promise of `listing`. Leans on io, derived, text and parse.
 mod asked;
 mod front;
 mod rows;
