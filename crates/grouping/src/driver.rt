@@ -111,16 +111,14 @@ fn step(work: &mut [u32], walk: Walk) -> Turn
 {
     let list = walk.list;
     let pass = walk.pass;
+    let waiting = pass.waiting();
+    if waiting != 0 {
+        return arrays::array_on(work, list, waiting);
+    }
     match pass {
         Pass::Split { done } => statements::step(work, list, done),
         Pass::Unary => unary::step(work, list),
         Pass::Conditional { tokens } => conditional::step(work, list, tokens),
-        Pass::Arrays { array, .. } => {
-            if array != 0 {
-                return arrays::array_on(work, list, array);
-            }
-            seek(work, list, pass)
-        }
         _ => seek(work, list, pass),
     }
 }

@@ -9,7 +9,7 @@ use denote.Enum.Declared.{tagOf}
 use lib.Dec.{eqb}
 use borrow.Author.Tests.{eq-eqb, ne-eqb}
 use Rattle.nodes.specs.declared.frames.Held.{Held}
-use Rattle.levels.specs.Passes.{heldWords, heldOf, splitOr, resumedWith, begunOf}
+use Rattle.levels.specs.Passes.{heldWords, heldOf, splitOr, resumedWith, waitingOf, begunOf}
 use Rattle.levels.specs.declared.turns.Pass.{Pass}
 use Rattle.levels.specs.declared.turns.Pass.the-variants.{Calls, MathCalls, Unsplit, Split, Arrays, Unary, Binary, Conditional}
 use Rattle.levels.specs.declared.turns.Pass.the-variants.{Returns}
@@ -43,6 +43,19 @@ held-none Unary h = refl
 held-none (Binary classes pending) h = absurd (miss (0 ∷ 1 ∷ 2 ∷ 5 ∷ 8 ∷ []) 6 tt h)
 held-none (Conditional tokens) h = absurd (miss (0 ∷ 1 ∷ 2 ∷ 5 ∷ 8 ∷ []) 7 tt h)
 held-none Returns h = refl
+
+-- Those with no array that waits.
+pub waiting-none : (p : Pass) → OneOf (0 ∷ 1 ∷ 2 ∷ 3 ∷ 5 ∷ 6 ∷ 7 ∷ 8 ∷ []) (tagOf the-type p) → 0 ≡ waitingOf p
+unfolding waitingOf
+waiting-none Calls h = refl
+waiting-none MathCalls h = refl
+waiting-none Unsplit h = refl
+waiting-none (Split done) h = refl
+waiting-none (Arrays array lent) h = absurd (miss (0 ∷ 1 ∷ 2 ∷ 3 ∷ 5 ∷ 6 ∷ 7 ∷ 8 ∷ []) 4 tt h)
+waiting-none Unary h = refl
+waiting-none (Binary classes pending) h = refl
+waiting-none (Conditional tokens) h = refl
+waiting-none Returns h = refl
 
 -- Those of the statement pass.
 pub resumed-statements : (p : Pass) (h : Held) → OneOf (2 ∷ 3 ∷ []) (tagOf the-type p) → splitOr (h .first) (h .second) ≡ resumedWith p h

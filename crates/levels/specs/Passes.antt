@@ -70,6 +70,18 @@ resumedWith (Binary classes pending) held = Binary classes (held .first)
 resumedWith (Conditional tokens) held = Conditional (held .first)
 resumedWith Returns held = Returns
 
+-- The array that waits for an index, or 0.
+unfoldable pub waitingOf : Pass → ℕ
+waitingOf Calls = 0
+waitingOf MathCalls = 0
+waitingOf Unsplit = 0
+waitingOf (Split done) = 0
+waitingOf (Arrays array lent) = array
+waitingOf Unary = 0
+waitingOf (Binary classes pending) = 0
+waitingOf (Conditional tokens) = 0
+waitingOf Returns = 0
+
 -- A state of the same pass at the start of a list: it holds nothing but the array that is lent to the list.
 unfoldable pub begunOf : Pass → Pass
 begunOf Calls = Calls

@@ -5,7 +5,7 @@ use nodes::frames::Held;
 use nodes::frames::List;
 use ops::classes::TokenClasses;
 ghost use mathlib.Core.Path.{_≡_};
-ghost use Rattle.levels.specs.Passes.{walkOf, classesOf, heldOf, splitOr, resumedWith, begunOf};
+ghost use Rattle.levels.specs.Passes.{walkOf, classesOf, heldOf, splitOr, resumedWith, waitingOf, begunOf};
 
 // A pass, with what it holds of the list that it is on. Unary goes from the right, the others from the left.
 pub enum Pass {
@@ -129,6 +129,16 @@ impl Pass {
             },
             Pass::Conditional { tokens: _ } => Pass::Conditional { tokens: first },
             _ => self,
+        }
+    }
+
+    // The array that waits for an index, or 0.
+    pub fn waiting(self) -> u32
+        ensures { λ r. ⌜ r ≡ waitingOf self ⌝ }
+    {
+        match self {
+            Pass::Arrays { array, lent: _ } => array,
+            _ => 0,
         }
     }
 

@@ -7,7 +7,7 @@ use denote.Enum.Declared.{tagOf}
 use lib.ListN.{set}
 use Rattle.ops.specs.declared.classes.TokenClasses.{TokenClasses}
 use Rattle.nodes.specs.declared.frames.List.{List as Items}
-use Rattle.levels.specs.Passes.{walkOf, movedTo, classesOf}
+use Rattle.levels.specs.Passes.{walkOf, movedTo, classesOf, waitingOf}
 use Rattle.levels.specs.Items.{Sought}
 use Rattle.levels.specs.Turns.{CanTurn}
 use Rattle.levels.specs.declared.items.Found.{Found}
@@ -60,16 +60,18 @@ sought-of {W} {W'} {v} {c} {f} p e h = subst (λ (x : ℕ). Sought W v x f W') e
 -- ---- by the arms of the driver's functions
 
 -- The passes that only seek, at a turn.
-pub seeks-at : {W : List ℕ} {v : Items} (p : Pass) → OneOf (0 ∷ 1 ∷ 2 ∷ 6 ∷ 8 ∷ []) (tagOf the-type p) → CanTurn W (walkOf v p) → Seeks p
-seeks-at Calls t g = tt
-seeks-at MathCalls t g = tt
-seeks-at Unsplit t g = tt
-seeks-at (Split done) t g = absurd (miss (0 ∷ 1 ∷ 2 ∷ 6 ∷ 8 ∷ []) 3 tt t)
-seeks-at (Arrays array lent) t g = absurd (miss (0 ∷ 1 ∷ 2 ∷ 6 ∷ 8 ∷ []) 4 tt t)
-seeks-at Unary t g = absurd (miss (0 ∷ 1 ∷ 2 ∷ 6 ∷ 8 ∷ []) 5 tt t)
-seeks-at (Binary classes pending) t g = g .holds .turning .0
-seeks-at (Conditional tokens) t g = absurd (miss (0 ∷ 1 ∷ 2 ∷ 6 ∷ 8 ∷ []) 7 tt t)
-seeks-at Returns t g = tt
+pub seeks-at : {W : List ℕ} {v : Items} (p : Pass) → OneOf (0 ∷ 1 ∷ 2 ∷ 4 ∷ 6 ∷ 8 ∷ []) (tagOf the-type p) → waitingOf p ≡ 0 → CanTurn W (walkOf v p)
+    → Seeks p
+unfolding waitingOf
+seeks-at Calls t n g = tt
+seeks-at MathCalls t n g = tt
+seeks-at Unsplit t n g = tt
+seeks-at (Split done) t n g = absurd (miss (0 ∷ 1 ∷ 2 ∷ 4 ∷ 6 ∷ 8 ∷ []) 3 tt t)
+seeks-at (Arrays array lent) t n g = (n, g .holds .turning .0)
+seeks-at Unary t n g = absurd (miss (0 ∷ 1 ∷ 2 ∷ 4 ∷ 6 ∷ 8 ∷ []) 5 tt t)
+seeks-at (Binary classes pending) t n g = g .holds .turning .0
+seeks-at (Conditional tokens) t n g = absurd (miss (0 ∷ 1 ∷ 2 ∷ 4 ∷ 6 ∷ 8 ∷ []) 7 tt t)
+seeks-at Returns t n g = tt
 
 pub array-none : (p : Pass) {a l : ℕ} → p ≡ Arrays a l → Seeks p → p ≡ Arrays 0 0
 array-none p {a} {l} e u = let none = subst Seeks e u in e ∙ (ap (λ (x : ℕ). Arrays x l) (none .0) ∙ ap (Arrays 0) (none .1))
