@@ -1,5 +1,5 @@
 # The commands of the project; README.md says what each does.
-.PHONY: test edits library compare bench host demo
+.PHONY: test edits believed library compare bench host demo
 
 # A relative folder is meant from here, and cargo builds each crate in the crate's own.
 ifdef MOLANGX_SRC
@@ -13,6 +13,10 @@ test:
 # The must-fail edits that the gate leaves out for its time.
 edits:
 	@tools/more-edits.sh
+
+# What a reader of the promises must believe, with its lines: README.md's table.
+believed:
+	@tools/believed.py
 
 # The proved static library, target/staticlib/libsorbrudder.a. The crates below it are proved again only where they changed.
 library:

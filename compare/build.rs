@@ -1,7 +1,6 @@
-//! Finds the static library: in the folder `SORBRUDDER_LIB`, or where `rt staticlib sorbrudder` writes
-//! it. With it at hand the cfg `library` is set; without it the models are built and tested alone. The cfg `rust_source`
-//! says whether the crate `oracle` finds the Rust source, and the cfg `treelist` whether that program is built; without them the
-//! tests that need them are ignored.
+//! What there is to compare. With the static library at hand, which the crate `sys` finds and links, the cfg `library` is set; without
+//! it the models are built and tested alone. The cfg `rust_source` says whether the crate `oracle` finds the Rust source, and the cfg
+//! `treelist` whether that program is built; without them the tests that need them are ignored.
 
 use std::env;
 use std::path::PathBuf;
@@ -28,24 +27,15 @@ fn find_source() {
     }
 }
 
+/// As the crate `sys` says, which links it.
 fn find_library() {
     println!("cargo::rustc-check-cfg=cfg(library)");
-    println!("cargo::rerun-if-env-changed=SORBRUDDER_LIB");
-    let folder = match env::var_os("SORBRUDDER_LIB") {
-        Some(folder) => PathBuf::from(folder),
-        None => PathBuf::from(env!("CARGO_MANIFEST_DIR")).join("../target/staticlib"),
-    };
-    let archive = folder.join("libsorbrudder.a");
-    println!("cargo::rerun-if-changed={}", archive.display());
-    if archive.is_file() {
+    let archive = env::var("DEP_SORBRUDDER_ARCHIVE").expect("sys names the archive");
+    let found = env::var("DEP_SORBRUDDER_FOUND").expect("sys says whether it is there");
+    if found == "true" {
         println!("cargo::rustc-cfg=library");
-        println!("cargo::rustc-link-search=native={}", folder.display());
-        println!("cargo::rustc-link-lib=static=sorbrudder");
     } else {
-        println!(
-            "cargo::warning=no {}: the library is not compared",
-            archive.display()
-        );
+        println!("cargo::warning=no {archive}: the library is not compared");
     }
 }
 

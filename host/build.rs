@@ -1,21 +1,14 @@
-//! Finds the proved static library: in the folder that `SORBRUDDER_LIB` names, or where `rt staticlib sorbrudder` writes it.
+//! Fails where the proved static library, which the crate `sys` looks for and links, is not built yet.
 
 use std::env;
-use std::path::PathBuf;
 
 fn main() {
-    println!("cargo::rerun-if-env-changed=SORBRUDDER_LIB");
-    let folder = match env::var_os("SORBRUDDER_LIB") {
-        Some(folder) => PathBuf::from(folder),
-        None => PathBuf::from(env!("CARGO_MANIFEST_DIR")).join("../target/staticlib"),
-    };
-    let archive = folder.join("libsorbrudder.a");
-    println!("cargo::rerun-if-changed={}", archive.display());
-    if !archive.is_file() {
-        let archive = archive.display();
+    println!("cargo::rerun-if-changed=build.rs");
+    let archive = env::var("DEP_SORBRUDDER_ARCHIVE").expect("sys names the archive");
+    let found = env::var("DEP_SORBRUDDER_FOUND").expect("sys says whether it is there");
+    // For the test that links the archive into a C program.
+    println!("cargo::rustc-env=SORBRUDDER_ARCHIVE={archive}");
+    if found != "true" {
         println!("cargo::error=the proved library is not built yet ({archive}); run: make library");
-        return;
     }
-    println!("cargo::rustc-link-search=native={}", folder.display());
-    println!("cargo::rustc-link-lib=static=sorbrudder");
 }

@@ -1,5 +1,6 @@
 #!/usr/bin/env bash
-# The gate, called by `make test`: proves every crate from nothing, runs the Rust tests and checks the layout.
+# The gate, called by `make test`: sees that every must-fail edit applies, proves every crate from nothing, runs the Rust tests and checks
+# the layout.
 # Its last line is 'N passed, M failed'; the exit status is 0 only where M is 0.
 set -u
 cd "$(dirname "$0")/.." || exit 1
@@ -76,6 +77,9 @@ rust_tests() {
     fi
 }
 
+# An edit that no longer applies is no wrong program, and those of edits/ are not tried here.
+step "every must-fail edit applies" tools/edits-apply.sh
+
 prove
 
 # The library that the Rust crates link. Where it is not built, the host crate does not build either, and its tests count as failed.
@@ -90,16 +94,18 @@ if [ ! -f "$source/src/compile/parse/mod.rs" ]; then
 fi
 
 step "layout of the Rattle and antt files" rt fmt --check
-for crate in oracle oracle/thiserror compare host; do
+for crate in oracle oracle/thiserror sys compare host; do
     step "layout of $crate" cargo fmt --manifest-path "$crate/Cargo.toml" --check
 done
-step "documentation of host" env RUSTDOCFLAGS="-D warnings" \
-    cargo doc --manifest-path host/Cargo.toml --offline --no-deps --quiet
-if cargo clippy --version >/dev/null 2>&1; then
-    step "clippy on host" cargo clippy --manifest-path host/Cargo.toml --release --offline --all-targets --quiet -- -D warnings
-else
-    echo "gate: cargo has no clippy: it was left out"
-fi
+clippy=yes
+cargo clippy --version >/dev/null 2>&1 || clippy=
+for crate in sys host; do
+    step "documentation of $crate" env RUSTDOCFLAGS="-D warnings" \
+        cargo doc --manifest-path "$crate/Cargo.toml" --offline --no-deps --quiet
+    [ -z "$clippy" ] ||
+        step "clippy on $crate" cargo clippy --manifest-path "$crate/Cargo.toml" --release --offline --all-targets --quiet -- -D warnings
+done
+[ -n "$clippy" ] || echo "gate: cargo has no clippy: it was left out"
 
 echo "gate: seconds for each crate, slowest first:"
 sed -n 's/^rt: \([a-z0-9_]*\) proved (\([0-9]*\) s)$/\2 \1/p' "$logs/rt" | sort -rn | sed 's/^/gate:   /'

@@ -25,7 +25,7 @@ def table():
     text = (MOLANG / "src" / "lines.rt").read_text()
     names = {name: int(number.replace("_", "")) for name, number in re.findall(r"^(?:pub )?const (\w+): u32 = ([\d_]+);", text, re.M)}
     lines = []
-    for row in re.search(r"^const LINES.*?= \[\n(.*?)^\];", text, re.M | re.S)[1].splitlines():
+    for row in re.search(r"^pub const LINES.*?= \[\n(.*?)^\];", text, re.M | re.S)[1].splitlines():
         row = row.strip()
         if row.startswith("//"):
             lines.append((row.removeprefix("//").strip(), []))

@@ -169,7 +169,7 @@ fn at_limits() -> Vec<Change> {
     changes
 }
 
-/// Each way to damage the word at `place`: every other kind, every other bit, operators and variants at their limits.
+/// Each way to damage the word at index `place`: every other kind, every other bit, operators and variants at their limits.
 fn damages(call: &Call, place: usize) -> Vec<u32> {
     let given = call.list[place];
     let mut words: Vec<u32> = (0..32).map(|bit| given ^ 1 << bit).collect();
@@ -204,7 +204,7 @@ fn changed(tokens: usize) -> Vec<Call> {
     calls
 }
 
-/// A sound call of so many tokens with each damage to each word of these places.
+/// A sound call of so many tokens with each damage to each word at these indices.
 fn damaged(tokens: usize, places: Range<usize>) -> impl Iterator<Item = Call> {
     let sound = sound(tokens);
     places.flat_map(move |place| {

@@ -44,7 +44,7 @@ impl Comparison {
         }
     }
 
-    /// Compares all calls; `progress` is told of each.
+    /// Compares all calls; `progress` is called for each.
     pub fn all(
         &mut self,
         calls: impl Iterator<Item = Call>,

@@ -1,7 +1,7 @@
 //! A call of the parse entry beside what it has to leave: the answer, every word of the tree and of the messages, the
 //! work buffer zero, and all other words as they were, those around the lent slices too.
 
-use crate::library::{self, Read, Told};
+use crate::library::{self, Given, Read};
 use oracle::refusal::{Call, refusal};
 use oracle::words::{Answer, Case, NODE_WORDS, Record, decode_list};
 
@@ -65,7 +65,7 @@ impl Lent {
         &mut self.words[GUARD..GUARD + self.len]
     }
 
-    /// The place in the slice of the first word that is neither `front`'s nor as it was; before it, it is negative.
+    /// The index in the slice of the first word that is neither `front`'s nor as it was; before the slice it is negative.
     fn changed(&self, noise: &[u32], front: &[u32]) -> Option<isize> {
         let (before, rest) = self.words.split_at(GUARD);
         let (filled, after) = rest.split_at(front.len());
@@ -132,13 +132,13 @@ impl Buffers {
         for (lent, len) in lents.into_iter().zip(lens) {
             lent.fill(noise, len);
         }
-        let told = Told {
+        let given = Given {
             source_len: call.source_len,
             version: call.version,
             used: call.used,
         };
         let (tree, messages) = (self.tree.slice(), self.messages.slice());
-        let answer = library::parse(&call.list, tree, messages, self.work.slice(), told);
+        let answer = library::parse(&call.list, tree, messages, self.work.slice(), given);
         self.judge(answer, expected)?;
         Ok(answer)
     }

@@ -17,7 +17,7 @@ pub enum Written {
     Refused(u32, usize),
 }
 
-/// A tree's nodes in tree order, each with its children and its place under its parent.
+/// A tree's nodes in tree order, each with its children and its position under its parent.
 pub struct Tree {
     tokens: Vec<Token>,
     children: Vec<Vec<usize>>,

@@ -16,7 +16,7 @@ use std::fmt;
 /// assert_eq!(messages[0].span().of("a + b c"), Some("a + b c"));
 /// ```
 #[derive(Copy, Clone, Debug, PartialEq, Eq)]
-#[allow(missing_docs)] // Of the fields: a span is where the message points, the others are named for what they are.
+#[allow(missing_docs)] // The fields: a span is where the message points, the others are named for what they are.
 pub enum Message {
     /// Several roots are left, or none.
     MultipleRoots { span: Span, roots: u32 },
@@ -24,7 +24,7 @@ pub enum Message {
     ComplexMustEndWithSemicolon { span: Span },
     /// A member accessor has nothing before it.
     LeadingMemberAccessor { span: Span },
-    /// A closer does not match its opener. The place of the opener counts from 1, that of the closer from 0.
+    /// A closer does not match its opener. The opener's position counts from 1, the closer's from 0.
     ClosingMismatch {
         span: Span,
         opened_at: u32,
@@ -35,7 +35,7 @@ pub enum Message {
     },
     /// A section has no closer; follows [`Message::ClosingMismatch`] and [`Message::NoClosingSymbol`].
     SectionNotClosed { span: Span, wanted: Op, opener: Op },
-    /// The list ends within a section. The place of the opener counts from 1.
+    /// The list ends within a section. The opener's position counts from 1.
     NoClosingSymbol {
         span: Span,
         opened_at: u32,
@@ -382,21 +382,21 @@ impl std::error::Error for Messages {}
 /// assert_eq!(refused, Err(ReadError::Refused(Refusal::WrongKind { word: 0 })));
 /// ```
 #[derive(Copy, Clone, Debug, PartialEq, Eq)]
-#[allow(missing_docs)] // Of the fields: each is the place of the word.
+#[allow(missing_docs)] // The fields: each is the index of the word.
 pub enum Refusal {
-    /// The words are not a multiple of five. Only words can be this; tokens cannot.
+    /// The words are not a multiple of five. Only words can have this fault; tokens cannot.
     NotWhole,
     /// More than 4,096 tokens.
     TooManyTokens,
     /// A source length above [`Span::LAST`].
     SourceTooLong,
-    /// A word is of another kind than its place asks for. Only words can be this.
+    /// A word is of another kind than its field asks for. Only words can have this fault.
     WrongKind { word: usize },
-    /// A word names an operator above 110. Only words can be this.
+    /// A word names an operator above 110. Only words can have this fault.
     UnknownOperator { word: usize },
-    /// A word has a payload variant above 12. Only words can be this.
+    /// A word has a payload variant above 12. Only words can have this fault.
     UnknownPayload { word: usize },
-    /// A word has a bit set that has to be 0. Only words can be this.
+    /// A word has a bit set that has to be 0. Only words can have this fault.
     OtherBits { word: usize },
 }
 

@@ -1,7 +1,7 @@
 //! The reader: a token list becomes a tree or messages.
 
-use crate::entries::{self, Answer, Lent};
 use crate::{Messages, Refusal, Token, Tree, Used};
+use sorbrudder_sys::{Answer, Lent};
 use std::fmt;
 
 /// The most tokens of a list.
@@ -171,7 +171,7 @@ impl Reader {
             messages: &mut self.messages,
             work: &mut self.work[..work_len],
         };
-        match entries::parse(lent, source_len, version, used.halves()) {
+        match sorbrudder_sys::parse(lent, source_len, version, used.halves()) {
             Answer::Filled(nodes) => Ok(&self.tree[..Tree::NODE_WORDS * nodes]),
             Answer::Messages(count) => {
                 let messages = Messages::from_records(&self.messages, count);

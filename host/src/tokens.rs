@@ -27,7 +27,7 @@ use std::str::FromStr;
 pub struct Tokens(Vec<Token>);
 
 impl Tokens {
-    /// The list of words that are whole tokens; none where some word is not as its place asks for.
+    /// The list of words that are whole tokens; none where some word is not as its field asks for.
     ///
     /// ```
     /// use sorbrudder::Tokens;

@@ -1,8 +1,8 @@
 //! Trees: preorder words, with what is needed to walk them.
 
-use crate::entries::{self, Answer};
 use crate::token::LOW;
 use crate::{Op, Payload, Span, Token};
+use sorbrudder_sys::Answer;
 use std::fmt;
 
 /// A tree of at most 12,288 nodes, as words in preorder: parent first, children in order.
@@ -133,7 +133,7 @@ impl Tree {
     /// ```
     pub fn from_words(words: Vec<u32>) -> Result<Self, NotATree> {
         // A list with no room: no tree is written, and only words that are no tree are answered 12.
-        match entries::write(&words, &mut []) {
+        match sorbrudder_sys::write(&words, &mut []) {
             Answer::Refused(12, word) => Err(NotATree { word }),
             _ => Ok(Self::of_sound(words)),
         }
@@ -544,7 +544,7 @@ impl<'t> Node<'t> {
         })
     }
 
-    /// The child of this place, the first being 0.
+    /// The child with this number, the first being 0.
     ///
     /// ```
     /// use sorbrudder::{Reader, Tokens};

@@ -1,9 +1,9 @@
 //! The writer: a plain tree becomes a token list that every version reads the same.
 
-use crate::entries::{self, Answer};
 use crate::reader::MOST_TOKENS;
 use crate::tree::depth_of;
 use crate::{Token, Tokens, Tree};
+use sorbrudder_sys::Answer;
 use std::fmt;
 
 /// Writes trees as token lists with brackets round every operand that is not a leaf. It owns the list that the library
@@ -43,7 +43,7 @@ pub struct Writer {
 /// ```
 #[derive(Copy, Clone, Debug, PartialEq, Eq)]
 pub enum WriteError {
-    /// The words are not one tree. Only words can be this; a [`Tree`] cannot.
+    /// The words are not one tree. Only words can have this fault; a [`Tree`] cannot.
     NotATree {
         /// The first word that cannot continue a tree, or the word count where they run out.
         word: usize,
@@ -115,11 +115,11 @@ impl Writer {
         self.list.resize(Token::WORDS * MOST_TOKENS, 0);
         let list = &mut self.list;
         let answer = if depth <= LEVELS {
-            entries::write(tree, list)
+            sorbrudder_sys::write(tree, list)
         } else {
             std::thread::scope(|scope| {
                 let thread = std::thread::Builder::new().stack_size(STACK);
-                let written = thread.spawn_scoped(scope, || entries::write(tree, list));
+                let written = thread.spawn_scoped(scope, || sorbrudder_sys::write(tree, list));
                 let written = written.map_err(|_| WriteError::NoThread)?;
                 written.join().map_err(|_| WriteError::NoThread)
             })?

@@ -1,15 +1,7 @@
 //! A C program that includes the header, links the library and reads one list.
 
-use std::path::{Path, PathBuf};
+use std::path::Path;
 use std::process::Command;
-
-/// The folder of the static library, as build.rs finds it.
-fn library() -> PathBuf {
-    match std::env::var_os("SORBRUDDER_LIB") {
-        Some(folder) => folder.into(),
-        None => Path::new(env!("CARGO_MANIFEST_DIR")).join("../target/staticlib"),
-    }
-}
 
 #[test]
 fn a_c_program_reads_one_list() {
@@ -28,7 +20,7 @@ fn a_c_program_reads_one_list() {
         .arg("-I")
         .arg(host.join("../include"))
         .arg(host.join("tests/c/read_one.c"))
-        .arg(library().join("libsorbrudder.a"))
+        .arg(env!("SORBRUDDER_ARCHIVE"))
         .arg("-o")
         .arg(&program)
         .output()

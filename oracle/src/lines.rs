@@ -2,7 +2,7 @@
 //! trees' that a reader can answer, and what was found where document 01 can be read two ways.
 //!
 //! A list is written with a space between its tokens: `a` to `e` are floats (61), the other signs
-//! are Molang's, `.` is a member accessor (45) and a number is an operator's. The token at place i
+//! are Molang's, `.` is a member accessor (45) and a number is an operator's. The i-th token
 //! has the span i to i + 1. A tree is written as document 01 does: `9(a,6(b))`.
 
 use crate::words::{Answer, Case, Record, Token, TreeNode, bit};

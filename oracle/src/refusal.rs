@@ -5,7 +5,7 @@ use crate::words::{
     Case, LAST_OP, LAST_PLACE, LAST_VARIANT, MOST_TOKENS, TOKEN_WORDS, kind, list_words, low,
 };
 
-/// What the entry is lent and told. The lent buffers count only by their lengths.
+/// What the entry is lent and given. Only the lengths of the lent buffers count.
 #[derive(Clone, Debug, PartialEq, Eq)]
 pub struct Call {
     pub list: Vec<u32>,

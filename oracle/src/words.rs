@@ -57,7 +57,7 @@ pub struct Case {
 }
 
 impl Case {
-    /// The list with its exact used set, and as many places of source as it has tokens.
+    /// The list with its exact used set, and a source of one byte a token.
     pub fn exact(tokens: Vec<Token>, version: i16) -> Self {
         Self {
             used: exact_set(&tokens),

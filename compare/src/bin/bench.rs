@@ -20,7 +20,7 @@ fn main() {
 
 #[cfg(library)]
 mod timed {
-    use compare::library::{self, Read, Told};
+    use compare::library::{self, Given, Read};
     use compare::workloads::{self, Workload};
     use compare::writer_model::Written;
     use oracle::words::{Case, Token, TreeNode, decode_tree, list_words};
@@ -134,7 +134,7 @@ mod timed {
 
         fn read(&mut self, call: usize) -> Read {
             let (case, list) = black_box(&self.calls[call]);
-            let told = Told {
+            let given = Given {
                 source_len: u64::from(case.source_len),
                 version: case.version,
                 used: case.used,
@@ -142,7 +142,7 @@ mod timed {
             let tokens = case.tokens.len();
             let tree = &mut self.tree[..18 * tokens];
             let work = &mut self.work[..64 * tokens + 64];
-            library::parse(list, tree, &mut self.messages, work, told)
+            library::parse(list, tree, &mut self.messages, work, given)
         }
 
         fn round(&mut self) {

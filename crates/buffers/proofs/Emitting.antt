@@ -1,5 +1,5 @@
--- Emission. What is written so far and the words of the trees that are left, those of the current list before those that wait, are the whole;
--- each turn writes one node and puts its children and the trees after it in its place (`emit-step`).
+-- Emission. What is written so far and the words of the trees that are left, those of the current list before those that wait, are the
+-- whole; each turn writes one node and puts its children and the trees after it in its place (`emit-step`).
 use Prim.Native.Nat.{ℕ, _+_, _*_, _-_, _^_, _≤_, _<_}
 use mathlib.Core.Path.{_≡_, refl, sym, ap, _∙_, subst}
 use mathlib.Core.Logic.{_≢_, inl}
@@ -9,13 +9,14 @@ use lib.ListN.{length, set, length-set, length-append}
 use Rattle.molang.specs.Forest.{Forest, nil, node, count, size}
 use Rattle.molang.specs.Words.{word, tokenWords, treeWords}
 use Rattle.molang.proofs.Trees.{count-size}
-use Rattle.nodes.specs.Store.{wd, TokenAt, Chain, Seg, SegB}
+use Rattle.words.specs.Tokens.{tokenWordsAt, nodeLength, nodeWords}
+use Rattle.nodes.specs.Store.{wd, slotStart, slotEnd, firstWord, nextWord, firstAt, nextAt, TokenAt, Chain, Seg, SegB}
 use Rattle.nodes.proofs.Runs.{wd-same, wd-other, seg-keep, segB-keep}
 use Rattle.nodes.proofs.Tokens.{token-keep}
 use Rattle.nodes.proofs.Store.{rep-count}
-use Rattle.buffers.specs.Emit.{Linked, nodeWords, CanEmitNode, NodeEmitted, Stepped, over, finish, back, down, waits, CanEmit, Emitted}
+use Rattle.buffers.specs.Emit.{Linked, CanEmitNode, NodeEmitted, Stepped, over, finish, back, down, waits, CanEmit, Emitted}
 use Rattle.buffers.proofs.Runs.{seg-append}
-use Rattle.buffers.proofs.NodeWords.{token-words, six-long}
+use Rattle.buffers.proofs.NodeWords.{headWords, token-words, head-long}
 use Rattle.buffers.proofs.Linking.{linked-nil, linked-unique, linked-none, linked-open, linked-chain, linked-follow}
 
 -- ---- trees that are left
@@ -59,11 +60,11 @@ node-first : (done tw A B P : List ℕ) (c : ℕ) → done ++ ((tw ++ (c ∷ (A 
 node-first done tw A B P c = simp append-assoc
 
 module _ (W : List ℕ) (first to stack : ℕ) (p : CanEmit W first to stack) where
-  -- Of the nodes, so many are written, and the lists gs are left; the count is enough for them.
+  -- So many of the nodes are written, and the lists gs are left; the count is enough for them.
   pub record Progress (Z : List ℕ) (nodes fuel : ℕ) (gs : List Forest) : Type 0 where
     pub done : List ℕ
     pub written : Seg Z to done
-    pub count : length done ≡ 6 * nodes
+    pub count : length done ≡ nodeLength * nodes
     pub words : treeWords (p .trees) ≡ done ++ allWords gs
     pub whole : size (p .trees) ≡ nodes + allSize gs
     pub fueled : allSize gs ≤ fuel
@@ -107,15 +108,16 @@ module _ (W : List ℕ) (first to stack : ℕ) (p : CanEmit W first to stack) wh
 
   -- ---- what a turn asks
 
-  slots-same : {Z : List ℕ} {nodes fuel : ℕ} {gs : List Forest} → Progress Z nodes fuel gs → (j : ℕ) → j < 8 * p .hi → wd Z j ≡ wd W j
+  slots-same : {Z : List ℕ} {nodes fuel : ℕ} {gs : List Forest} → Progress Z nodes fuel gs → (j : ℕ) → j < slotStart (p .hi)
+      → wd Z j ≡ wd W j
   slots-same v j h = v .same j (omega (arith, p .below))
 
-  slots-within : {Z : List ℕ} {nodes fuel : ℕ} {gs : List Forest} → Progress Z nodes fuel gs → 8 * p .hi ≤ length Z
+  slots-within : {Z : List ℕ} {nodes fuel : ℕ} {gs : List Forest} → Progress Z nodes fuel gs → slotStart (p .hi) ≤ length Z
   slots-within v = omega (arith, p .below, p .spare, p .room, v .long)
 
   pub record Turn (Z : List ℕ) (s top nodes fuel : ℕ) : Type 0 where
-    pub node : CanEmitNode Z s (to + 6 * nodes)
-    pub slot : 8 * s + 8 ≤ stack
+    pub node : CanEmitNode Z s (to + nodeLength * nodes)
+    pub slot : slotEnd s ≤ stack
     pub low : stack ≤ top
     pub high : top < to
 
@@ -135,7 +137,7 @@ module _ (W : List ℕ) (first to stack : ℕ) (p : CanEmit W first to stack) wh
           let whole = g .whole in
           let long = g .long in
           let at = v .at in
-          let link : wd Z (8 * s + 5) ≡ wd W (8 * s + 5) = slots-same g (8 * s + 5) (omega arith) in
+          let link : firstAt Z s ≡ firstAt W s = slots-same g (firstWord s) (omega arith) in
           record {
             node = record {
               below = omega arith;
@@ -153,12 +155,13 @@ module _ (W : List ℕ) (first to stack : ℕ) (p : CanEmit W first to stack) wh
   record Between (Z : List ℕ) (s nodes fuel : ℕ) (fs : List Forest) : Type 0 where
     cs : Forest
     rest : Forest
-    children : Linked W (wd Z (8 * s + 5)) (p .hi) cs
-    after : Linked W (wd Z (8 * s + 6)) (p .hi) rest
+    children : Linked W (firstAt Z s) (p .hi) cs
+    after : Linked W (nextAt Z s) (p .hi) rest
     progress : Progress Z nodes fuel (cs ∷ rest ∷ fs)
 
-  between : {Z Z' : List ℕ} {s nodes fuel : ℕ} {fs : List Forest} (f : Forest) → Linked W s (p .hi) f → s ≢ 0 → Progress Z nodes fuel (f ∷ fs)
-      → NodeEmitted Z s (to + 6 * nodes) Z' → Between Z' s (nodes + 1) (fuel - 1) fs
+  between : {Z Z' : List ℕ} {s nodes fuel : ℕ} {fs : List Forest} (f : Forest) → Linked W s (p .hi) f → s ≢ 0
+      → Progress Z nodes fuel (f ∷ fs)
+      → NodeEmitted Z s (to + nodeLength * nodes) Z' → Between Z' s (nodes + 1) (fuel - 1) fs
   unfolding size treeWords
   between nil w n g x = absurd (omega (arith, some-size nil w n))
   between {Z} {Z'} {s} {nodes} {fuel} {fs} (node k cs rest) w n g x =
@@ -169,25 +172,28 @@ module _ (W : List ℕ) (first to stack : ℕ) (p : CanEmit W first to stack) wh
       let few = p .few in
       let whole = g .whole in
       let kids = o .children in
-      let link : wd Z (8 * s + 5) ≡ wd W (8 * s + 5) = slots-same g (8 * s + 5) (omega arith) in
-      let chain : Chain Z (wd Z (8 * s + 5)) (kids .bs) = rw link (linked-chain W Z (p .hi) (slots-same g) (slots-within g) (omega arith) kids) in
+      let link : firstAt Z s ≡ firstAt W s = slots-same g (firstWord s) (omega arith) in
+      let chain : Chain Z (firstAt Z s) (kids .bs) =
+      rw link (linked-chain W Z (p .hi) (slots-same g) (slots-within g) (omega arith) kids) in
       let number : length (kids .bs) ≡ count cs = rep-count (kids .rep) in
       let small : count cs < 2 ^ 14 = omega (arith, count-size cs) in
-      let token : TokenAt Z s k = token-keep W Z s (λ i h. slots-same g (8 * s + i) (omega arith)) (o .token) in
-      let end : to + length (g .done) ≡ to + 6 * nodes = omega (arith, g .count) in
-      let six : Seg Z' (to + 6 * nodes) (tokenWords k ++ (word 6 (count cs) ∷ []))
-      = subst (λ (l : List ℕ). Seg Z' (to + 6 * nodes) l) (ap (nodeWords Z s) number ∙ token-words Z s k (count cs) token small) (x .words (kids .bs) chain) in
+      let token : TokenAt Z s k = token-keep W Z s (λ i h. slots-same g (slotStart s + i) (omega arith)) (o .token) in
+      let end : to + length (g .done) ≡ to + nodeLength * nodes = omega (arith, g .count) in
+      let six : Seg Z' (to + nodeLength * nodes) (headWords k (count cs))
+      =
+      subst (λ (l : List ℕ). Seg Z' (to + nodeLength * nodes) l)
+      (ap (nodeWords (tokenWordsAt Z (slotStart s))) number ∙ token-words Z s k (count cs) token small) (x .words (kids .bs) chain) in
       let same : (j : ℕ) → j < stack → wd Z' j ≡ wd W j = λ j h. x .same j (inl (omega arith)) ∙ g .same j h in
       let older : Seg Z' to (g .done) = seg-keep Z Z' to (g .done) (λ j a b. x .same j (inl (omega (arith, g .count)))) (g .written) in
       record {
         cs = cs;
         rest = rest;
-        children = rw (same (8 * s + 5) (omega arith)) kids;
-        after = rw (same (8 * s + 6) (omega arith)) (o .after);
+        children = rw (same (firstWord s) (omega arith)) kids;
+        after = rw (same (nextWord s) (omega arith)) (o .after);
         progress = record {
-          done = g .done ++ (tokenWords k ++ (word 6 (count cs) ∷ []));
-          written = seg-append Z' to (g .done) (tokenWords k ++ (word 6 (count cs) ∷ [])) older (rw end six);
-          count = omega (arith, g .count, length-append (g .done) (tokenWords k ++ (word 6 (count cs) ∷ [])), six-long k (count cs));
+          done = g .done ++ (headWords k (count cs));
+          written = seg-append Z' to (g .done) (headWords k (count cs)) older (rw end six);
+          count = omega (arith, g .count, length-append (g .done) (headWords k (count cs)), head-long k (count cs));
           words = g .words ∙ node-first (g .done) (tokenWords k) (treeWords cs) (treeWords rest) (allWords fs) (word 6 (count cs));
           whole = omega arith;
           fueled = omega (arith, g .fueled);
@@ -199,7 +205,8 @@ module _ (W : List ℕ) (first to stack : ℕ) (p : CanEmit W first to stack) wh
   -- ---- and emission goes on
 
   -- What is left counts by its words and its size alone, so empty lists are left out.
-  relist : {Z : List ℕ} {nodes fuel : ℕ} (gs hs : List Forest) → allWords gs ≡ allWords hs → allSize gs ≡ allSize hs → Progress Z nodes fuel gs
+  relist : {Z : List ℕ} {nodes fuel : ℕ} (gs hs : List Forest) → allWords gs ≡ allWords hs → allSize gs ≡ allSize hs
+      → Progress Z nodes fuel gs
       → Progress Z nodes fuel hs
   relist gs hs e n v =
       record {
@@ -217,12 +224,14 @@ module _ (W : List ℕ) (first to stack : ℕ) (p : CanEmit W first to stack) wh
   unfolding treeWords size
   skip f gs e = relist (f ∷ gs) gs (rw e refl) (rw e (omega arith))
 
-  skip-second : {Z : List ℕ} {nodes fuel : ℕ} (g f : Forest) (gs : List Forest) → f ≡ nil → Progress Z nodes fuel (g ∷ f ∷ gs) → Progress Z nodes fuel (g ∷ gs)
+  skip-second : {Z : List ℕ} {nodes fuel : ℕ} (g f : Forest) (gs : List Forest) → f ≡ nil → Progress Z nodes fuel (g ∷ f ∷ gs)
+      → Progress Z nodes fuel (g ∷ gs)
   unfolding treeWords size
   skip-second g f gs e = relist (g ∷ f ∷ gs) (g ∷ gs) (rw e refl) (rw e (omega arith))
 
   -- One more sibling waits.
-  push : {Z : List ℕ} {nodes fuel : ℕ} {gs : List Forest} (top x : ℕ) → stack ≤ top → top < to → Progress Z nodes fuel gs → Progress (set Z top x) nodes fuel gs
+  push : {Z : List ℕ} {nodes fuel : ℕ} {gs : List Forest} (top x : ℕ) → stack ≤ top → top < to → Progress Z nodes fuel gs
+      → Progress (set Z top x) nodes fuel gs
   push {Z} top x low high v =
       record {
         done = v .done;
@@ -240,7 +249,8 @@ module _ (W : List ℕ) (first to stack : ℕ) (p : CanEmit W first to stack) wh
   length-none (w ∷ ws) e = absurd (omega arith)
 
   -- The last one that waits.
-  pop : (Z : List ℕ) {next top nodes fuel : ℕ} {ws : List ℕ} {fs : List Forest} → Wait W (p .hi) ws fs → SegB Z stack ws → top ≡ stack + length ws → top ≢ stack
+  pop : (Z : List ℕ) {next top nodes fuel : ℕ} {ws : List ℕ} {fs : List Forest} → Wait W (p .hi) ws fs → SegB Z stack ws
+      → top ≡ stack + length ws → top ≢ stack
       → next ≡ wd Z (top - 1) → Progress Z nodes fuel fs → EmitAt Z next (top - 1) nodes fuel
   pop Z nobody h e n g v = absurd (omega arith)
   pop Z {next} {top} (waiting {w = w} {ws = ws} {f = f} {fs = fs} some linked r) h e n g v =
@@ -258,7 +268,8 @@ module _ (W : List ℕ) (first to stack : ℕ) (p : CanEmit W first to stack) wh
         stops = λ z. absurd (some (sym same ∙ z));
       }
 
-  moved : {Z : List ℕ} {s top nodes fuel next top' : ℕ} {Z' : List ℕ} {ws : List ℕ} {fs : List Forest} → top < to → Between Z s nodes fuel fs → Wait W (p .hi) ws fs
+  moved : {Z : List ℕ} {s top nodes fuel next top' : ℕ} {Z' : List ℕ} {ws : List ℕ} {fs : List Forest} → top < to
+      → Between Z s nodes fuel fs → Wait W (p .hi) ws fs
       → SegB Z stack ws → top ≡ stack + length ws → Stepped Z s stack top next top' Z' → EmitAt Z' next top' nodes fuel
   moved {ws = ws} {fs = fs} high v wait held at (over e leaf some) =
       record {
@@ -302,7 +313,8 @@ module _ (W : List ℕ) (first to stack : ℕ) (p : CanEmit W first to stack) wh
   moved {Z} {top = top} {ws = ws} {fs = fs} high v wait held at (waits {wait = sibling} e some es more) =
       let room = p .room in
       let long = v .progress .long in
-      let put : wd (set Z top sibling) (stack + length ws) ≡ sibling = ap (λ (j : ℕ). wd (set Z top sibling) j) (sym at) ∙ wd-same Z top sibling (omega arith) in
+      let put : wd (set Z top sibling) (stack + length ws) ≡ sibling =
+      ap (λ (j : ℕ). wd (set Z top sibling) j) (sym at) ∙ wd-same Z top sibling (omega arith) in
       record {
         f = v .cs;
         fs = v .rest ∷ fs;
@@ -315,7 +327,8 @@ module _ (W : List ℕ) (first to stack : ℕ) (p : CanEmit W first to stack) wh
         stops = λ z. absurd (some z);
       }
 
-  pub emit-step : {Z Z' Z'' : List ℕ} {s top nodes fuel next top' : ℕ} → EmitAt Z s top nodes fuel → s ≢ 0 → NodeEmitted Z s (to + 6 * nodes) Z'
+  pub emit-step : {Z Z' Z'' : List ℕ} {s top nodes fuel next top' : ℕ} → EmitAt Z s top nodes fuel → s ≢ 0
+      → NodeEmitted Z s (to + nodeLength * nodes) Z'
       → Stepped Z' s stack top next top' Z'' → EmitAt Z'' next top' (nodes + 1) (fuel - 1)
   emit-step {Z} {Z'} {Z''} {s} v n x y =
       let high = emit-in v n .high in
@@ -324,7 +337,8 @@ module _ (W : List ℕ) (first to stack : ℕ) (p : CanEmit W first to stack) wh
 
   -- ---- the end
 
-  nothing-left : {Z : List ℕ} {nodes fuel : ℕ} {gs : List Forest} → Progress Z nodes fuel gs → allSize gs ≡ 0 → Emitted W first to stack nodes Z
+  nothing-left : {Z : List ℕ} {nodes fuel : ℕ} {gs : List Forest} → Progress Z nodes fuel gs → allSize gs ≡ 0
+      → Emitted W first to stack nodes Z
   nothing-left {Z} {nodes} {fuel} {gs} v e =
       let all : treeWords (p .trees) ≡ v .done = v .words ∙ ap (λ (l : List ℕ). v .done ++ l) (none-words gs e) ∙ append-nil (v .done) in
       let number : nodes ≡ size (p .trees) = omega (arith, v .whole) in

@@ -1,13 +1,13 @@
--- Linked trees: which trees are linked from a slot on is said by the words; how a linked list is opened at its first node; and where linked trees
--- come from.
-use Prim.Native.Nat.{ℕ, _+_, _*_, _≤_, _<_}
+-- Linked trees: which trees are linked from a slot on is said by the words; how a linked list is opened at its first node; and where linked
+-- trees come from.
+use Prim.Native.Nat.{ℕ, _≤_, _<_}
 use mathlib.Core.Path.{_≡_, refl, subst}
 use mathlib.Core.List.{List, [], _∷_}
 use native.Mathlib.Omega.{arith}
 use native.Mathlib.Nat.{le-refl}
 use lib.ListN.{length}
 use Rattle.molang.specs.Forest.{Token, Forest, nil, node}
-use Rattle.nodes.specs.Store.{wd, TokenAt, Chain, RepF, ends, more, RepT, Owned}
+use Rattle.nodes.specs.Store.{wd, slotStart, nextWord, firstAt, nextAt, TokenAt, Chain, RepF, ends, more, RepT, Owned}
 use Rattle.nodes.specs.Children.{CanFollow}
 use Rattle.nodes.proofs.Runs.{chain-unique, chain-keep}
 use Rattle.nodes.proofs.Store.{reserve-pos, roots-above, rep-le, rep-raise, rep-unique, tree-more}
@@ -22,11 +22,13 @@ linked-unique {W} {first} {hi} {hi'} {f} {g} v w =
 -- ---- where they come from
 
 -- a tree that has no sibling after it
-pub tree-linked : {W X : List ℕ} {b l m hi : ℕ} {t : Token} {k : Forest} → RepT W X b l m t k → wd W (8 * b + 6) ≡ 0 → m ≤ hi → Linked W b hi (node t k nil)
-tree-linked {X = X} {b} {l} v last h = record { X = X; bs = b ∷ []; lo = l; chain = (refl, v .pos, last); rep = tree-more (le-refl l) v (ends h) }
+pub tree-linked : {W X : List ℕ} {b l m hi : ℕ} {t : Token} {k : Forest} → RepT W X b l m t k → nextAt W b ≡ 0 → m ≤ hi
+    → Linked W b hi (node t k nil)
+tree-linked {X = X} {b} {l} v last h =
+    record { X = X; bs = b ∷ []; lo = l; chain = (refl, v .pos, last); rep = tree-more (le-refl l) v (ends h) }
 
 -- the children of a slot
-pub owned-linked : {W X : List ℕ} {q lo hi : ℕ} {f : Forest} → Owned W X q lo hi f → Linked W (wd W (8 * q + 5)) hi f
+pub owned-linked : {W X : List ℕ} {q lo hi : ℕ} {f : Forest} → Owned W X q lo hi f → Linked W (firstAt W q) hi f
 owned-linked {X = X} {q} {lo} v = record { X = q ∷ X; bs = v .cs; lo = lo; chain = v .chain; rep = v .kids }
 
 -- ---- none, or a node
@@ -45,10 +47,11 @@ linked-none v z = none-left (v .chain) (v .rep) z
 pub record Opened (W : List ℕ) (s hi : ℕ) (k : Token) (cs rest : Forest) : Type 0 where
   pub inside : s < hi
   pub token : TokenAt W s k
-  pub children : Linked W (wd W (8 * s + 5)) hi cs
-  pub after : Linked W (wd W (8 * s + 6)) hi rest
+  pub children : Linked W (firstAt W s) hi cs
+  pub after : Linked W (nextAt W s) hi rest
 
-opened : {W X bs : List ℕ} {s lo hi : ℕ} {k : Token} {cs rest : Forest} → Chain W s bs → RepF W X bs lo hi (node k cs rest) → Opened W s hi k cs rest
+opened : {W X bs : List ℕ} {s lo hi : ℕ} {k : Token} {cs rest : Forest} → Chain W s bs → RepF W X bs lo hi (node k cs rest)
+    → Opened W s hi k cs rest
 opened {X = X} ch (more {b = b} {bs = bs} {l = l} {m = m} {t = t} {k = j} {cs = cs} a c d z p tk n kids ks r) =
     let high = rep-le r in
     let pos = reserve-pos t j in
@@ -65,9 +68,9 @@ linked-open v = opened (v .chain) (v .rep)
 
 -- ---- in words that have the same slots
 
-module _ (W Z : List ℕ) (hi : ℕ) (same : (j : ℕ) → j < 8 * hi → wd Z j ≡ wd W j) (within : 8 * hi ≤ length Z) where
+module _ (W Z : List ℕ) (hi : ℕ) (same : (j : ℕ) → j < slotStart hi → wd Z j ≡ wd W j) (within : slotStart hi ≤ length Z) where
   pub linked-chain : {s : ℕ} {f : Forest} → 0 < hi → (v : Linked W s hi f) → Chain Z s (v .bs)
-  linked-chain {s} h v = chain-keep W Z s (v .bs) 1 hi (roots-above (v .rep) h) (λ c a b. same (8 * c + 6) (omega arith)) (v .chain)
+  linked-chain {s} h v = chain-keep W Z s (v .bs) 1 hi (roots-above (v .rep) h) (λ c a b. same (nextWord c) (omega arith)) (v .chain)
 
   pub linked-follow : {s : ℕ} {f : Forest} → 0 < hi → Linked W s hi f → CanFollow Z s
   linked-follow h v = record { hi = hi; cs = v .bs; chain = linked-chain h v; inc = roots-above (v .rep) h; within = within }

@@ -1,5 +1,5 @@
--- Loading: what one token's stores leave, the loop over the tokens, and THE LOADED LIST (`load-done`): leaves in three slots each are the forest
--- of the list's tokens, since a list without fault is the words of its tokens.
+-- Loading: what one token's stores leave, the loop over the tokens, and THE LOADED LIST (`load-done`): leaves in three slots each are the
+-- forest of the list's tokens, since a list without fault is the words of its tokens.
 use Prim.Native.Nat.{ℕ, zero, suc, _+_, _*_, _≤_, _<_}
 use mathlib.Core.Path.{_≡_, refl, sym, ap, _∙_}
 use mathlib.Core.Logic.{_≢_, _⊎_, inl, inr}
@@ -17,7 +17,8 @@ use Rattle.molang.proofs.ListWords.{listWords-length}
 use Rattle.words.specs.Fields.{operatorOf}
 use Rattle.ops.specs.Classes.{bitAt, inClass, classTable, entryOf, ownWord}
 use Rattle.ops.proofs.ClassLaws.{leaf-bits}
-use Rattle.nodes.specs.Store.{wd, TokenAt, Seg, RepF, ends, InArray}
+use Rattle.words.specs.Tokens.{tokenWordsAt, fiveWords}
+use Rattle.nodes.specs.Store.{wd, slotWords, slotStart, slotEnd, firstWord, classesWord, classesAt, TokenAt, Seg, RepF, ends, InArray}
 use Rattle.nodes.specs.Slots.{Laid}
 use Rattle.nodes.proofs.Runs.{wd-same, wd-other}
 use Rattle.nodes.proofs.Tokens.{token-op}
@@ -28,35 +29,35 @@ use Rattle.buffers.specs.Load.{tokenSlots, LeafAt, CanLoadToken, TokenLo
 
 -- ---- one token
 
-five-words : (W L : List ℕ) (x y : ℕ) → wd W x ≡ wd L y → wd W (x + 1) ≡ wd L (y + 1) → wd W (x + 2) ≡ wd L (y + 2) → wd W (x + 3) ≡ wd L (y + 3)
-    → wd W (x + 4) ≡ wd L (y + 4) → (o : ℕ) → o < 5 → wd W (x + o) ≡ wd L (y + o)
-five-words W L x y a b c d e zero h = rw (add-zero x, add-zero y) a
-five-words W L x y a b c d e (suc zero) h = b
-five-words W L x y a b c d e (suc (suc zero)) h = c
-five-words W L x y a b c d e (suc (suc (suc zero))) h = d
-five-words W L x y a b c d e (suc (suc (suc (suc zero)))) h = e
-five-words W L x y a b c d e (suc (suc (suc (suc (suc o))))) h = absurd (omega arith)
+-- The words of token i, in the list's order.
+five-words : (list : List ℕ) (at o : ℕ) → o < 5 → getD (fiveWords (tokenWordsAt list at)) o 0 ≡ wd list (at + o)
+five-words list at zero h = rw add-zero
+five-words list at (suc zero) h = refl
+five-words list at (suc (suc zero)) h = refl
+five-words list at (suc (suc (suc zero))) h = refl
+five-words list at (suc (suc (suc (suc zero)))) h = refl
+five-words list at (suc (suc (suc (suc (suc o))))) h = absurd (omega arith)
 
 module _ (list W table : List ℕ) (i stack : ℕ) (p : CanLoadToken list W table i stack) where
   -- The token's words laid down at its slot, and the slot put on the stack.
   pub token-stores : (W1 : List ℕ) (slot n op : ℕ) → slot ≡ 3 * i + 3
-      → Laid W slot (wd list (5 * i)) (wd list (5 * i + 1)) (wd list (5 * i + 2)) (wd list (5 * i + 3)) (wd list (5 * i + 4)) n W1
-      → op ≡ operatorOf (wd list (5 * i)) → ((c : ℕ) → bitAt n c ≡ (bitAt (entryOf table op) c || bitAt (ownWord op) c)) → TokenLoaded list W i stack (set W1 (stack + i) slot)
+      → Laid W slot (tokenWordsAt list (5 * i)) n W1
+      → op ≡ operatorOf (wd list (5 * i)) → ((c : ℕ) → bitAt n c ≡ (bitAt (entryOf table op) c || bitAt (ownWord op) c))
+      → TokenLoaded list W i stack (set W1 (stack + i) slot)
   token-stores W1 slot n op e v eo noted =
       let bits : (c : ℕ) → bitAt n c ≡ inClass c op = λ c. noted c ∙ rw (p .classes) (leaf-bits op c) in
-      let at = 8 * (3 * i + 3) in
-      let u : Laid W (3 * i + 3) (wd list (5 * i)) (wd list (5 * i + 1)) (wd list (5 * i + 2)) (wd list (5 * i + 3)) (wd list (5 * i + 4)) n W1 = rw e at v in
+      let s = 3 * i + 3 in
+      let u : Laid W s (tokenWordsAt list (5 * i)) n W1 = rw e at v in
       let W2 = set W1 (stack + i) slot in
       let below = p .below in
       let other : (j : ℕ) → j ≢ stack + i → wd W2 j ≡ wd W1 j = λ j h. wd-other W1 (stack + i) slot j h in
       let long = u .long in
       let room = p .room in
-      let mark : wd W2 (at + 7) ≡ n = other (at + 7) (omega arith) ∙ u .classes in
+      let mark : classesAt W2 s ≡ n = other (classesWord s) (omega arith) ∙ u .classes in
       record {
         leaf = record {
-          words = five-words W2 list at (5 * i) (other at (omega arith) ∙ u .operator-word) (other (at + 1) (omega arith) ∙ u .start-word)
-              (other (at + 2) (omega arith) ∙ u .end-word) (other (at + 3) (omega arith) ∙ u .upper-word) (other (at + 4) (omega arith) ∙ u .lower-word);
-          first = other (at + 5) (omega arith) ∙ u .first;
+          words = λ o h. other (slotStart s + o) (omega arith) ∙ u .words o h ∙ five-words list (5 * i) o h;
+          first = other (firstWord s) (omega arith) ∙ u .first;
           classes = λ c. ap (λ (w : ℕ). bitAt w c) mark ∙ bits c ∙ ap (λ (o : ℕ). inClass c o) eo;
         };
         slot = wd-same W1 (stack + i) slot (omega arith) ∙ e;
@@ -64,7 +65,7 @@ module _ (list W table : List ℕ) (i stack : ℕ) (p : CanLoadToken list W tabl
         long = length-set W1 (stack + i) slot ∙ long;
       }
     where
-      apart : (j : ℕ) → (j < 24 * i + 24) ⊎ (24 * i + 32 ≤ j) → (j < 8 * (3 * i + 3)) ⊎ (8 * (3 * i + 3) + 8 ≤ j)
+      apart : (j : ℕ) → (j < 24 * i + 24) ⊎ (24 * i + 32 ≤ j) → (j < slotStart (3 * i + 3)) ⊎ (slotEnd (3 * i + 3) ≤ j)
       apart j (inl h) = inl (omega arith)
       apart j (inr h) = inr (omega arith)
 
@@ -78,13 +79,28 @@ pub record LoadAt (list W : List ℕ) (n : ℕ) (Z : List ℕ) (i : ℕ) : Type 
   pub long : length Z ≡ length W
 
 pub load-start : (list W : List ℕ) (n : ℕ) → LoadAt list W n W 0
-load-start list W n = record { most = omega arith; leaf = λ j h. absurd (omega arith); slot = λ j h. absurd (omega arith); same = λ j h. refl; long = refl }
+load-start list W n =
+    record {
+      most = omega arith;
+      leaf = λ j h. absurd (omega arith);
+      slot = λ j h. absurd (omega arith);
+      same = λ j h. refl;
+      long = refl;
+    }
 
 pub load-in : {list W table : List ℕ} {n : ℕ} {Z : List ℕ} {i : ℕ} → CanLoad list W n → LoadAt list W n Z i → i < n → table ≡ classTable
     → CanLoadToken list Z table i (24 * n + 24)
-load-in p v h e = record { classes = e; few = omega (arith, p .few); within = omega (arith, p .tokens); below = omega arith; room = omega (arith, p .room, v .long) }
+load-in p v h e =
+    record {
+      classes = e;
+      few = omega (arith, p .few);
+      within = omega (arith, p .tokens);
+      below = omega arith;
+      room = omega (arith, p .room, v .long);
+    }
 
-leaf-keep : (list Z Z' : List ℕ) (j : ℕ) → ((o : ℕ) → o < 8 → wd Z' (8 * (3 * j + 3) + o) ≡ wd Z (8 * (3 * j + 3) + o)) → LeafAt list Z j → LeafAt list Z' j
+leaf-keep : (list Z Z' : List ℕ) (j : ℕ) → ((o : ℕ) → o < slotWords → wd Z' (slotStart (3 * j + 3) + o) ≡ wd Z (slotStart (3 * j + 3) + o))
+    → LeafAt list Z j → LeafAt list Z' j
 leaf-keep list Z Z' j h v =
     record {
       words = λ o b. h o (omega arith) ∙ v .words o b;
@@ -92,13 +108,15 @@ leaf-keep list Z Z' j h v =
       classes = λ c. ap (λ (w : ℕ). bitAt w c) (h 7 (omega arith)) ∙ v .classes c;
     }
 
-pub load-step : {list W : List ℕ} {n : ℕ} {Z : List ℕ} {i : ℕ} {Z' : List ℕ} → LoadAt list W n Z i → i < n → TokenLoaded list Z i (24 * n + 24) Z'
+pub load-step : {list W : List ℕ} {n : ℕ} {Z : List ℕ} {i : ℕ} {Z' : List ℕ} → LoadAt list W n Z i → i < n
+    → TokenLoaded list Z i (24 * n + 24) Z'
     → LoadAt list W n Z' (i + 1)
 load-step {list} {W} {n} {Z} {i} {Z'} v h w =
     record {
       most = omega arith;
       leaf = below-more (λ (j : ℕ). LeafAt list Z' j) i
-          (λ j b. leaf-keep list Z Z' j (λ o c. w .same (8 * (3 * j + 3) + o) (inl (omega arith)) (omega arith)) (v .leaf j b)) (w .leaf);
+          (λ j b. leaf-keep list Z Z' j (λ o c. w .same (slotStart (3 * j + 3) + o) (inl (omega arith)) (omega arith)) (v .leaf j b))
+          (w .leaf);
       slot = below-more (λ (j : ℕ). wd Z' (24 * n + 24 + j) ≡ 3 * j + 3) i
           (λ j b. w .same (24 * n + 24 + j) (inr (omega arith)) (omega arith) ∙ v .slot j b) (w .slot);
       same = λ j b. w .same j (inl (omega arith)) (omega arith) ∙ v .same j b;
@@ -122,10 +140,12 @@ slots-length i zero = refl
 slots-length i (suc n) = ap suc (slots-length (suc i) n)
 
 -- A leaf at its slot is the token k where the list's words from there on begin with those of k.
-leaf-token : (list W : List ℕ) (i : ℕ) (k : Token) (ks : List Token) → drop (5 * i) list ≡ listWords (k ∷ ks) → LegalTokens (k ∷ ks) → LeafAt list W i
+leaf-token : (list W : List ℕ) (i : ℕ) (k : Token) (ks : List Token) → drop (5 * i) list ≡ listWords (k ∷ ks) → LegalTokens (k ∷ ks)
+    → LeafAt list W i
     → TokenAt W (3 * i + 3) k
 unfolding listWords tokenWords
-leaf-token list W i k ks e (token legal later) v = record { words = λ o h. v .words o h ∙ sym (getD-drop (5 * i) list o 0) ∙ first-five o h; legal = legal }
+leaf-token list W i k ks e (token legal later) v =
+    record { words = λ o h. v .words o h ∙ sym (getD-drop (5 * i) list o 0) ∙ first-five o h; legal = legal }
   where
     first-five : (o : ℕ) → o < 5 → getD (drop (5 * i) list) o 0 ≡ getD (tokenWords k) o 0
     first-five zero h = rw e refl
@@ -135,13 +155,15 @@ leaf-token list W i k ks e (token legal later) v = record { words = λ o h. v .w
     first-five (suc (suc (suc (suc zero)))) h = rw e refl
     first-five (suc (suc (suc (suc (suc o))))) h = absurd (omega arith)
 
-drop-token : (list : List ℕ) (i : ℕ) (k : Token) (ks : List Token) → drop (5 * i) list ≡ listWords (k ∷ ks) → drop (5 * suc i) list ≡ listWords ks
+drop-token : (list : List ℕ) (i : ℕ) (k : Token) (ks : List Token) → drop (5 * i) list ≡ listWords (k ∷ ks)
+    → drop (5 * suc i) list ≡ listWords ks
 unfolding listWords tokenWords
 drop-token list i k ks e =
     let g : 5 * suc i ≡ 5 * i + 5 = omega arith in
     rw g (sym (drop-drop 5 (5 * i) list) ∙ ap (λ (l : List ℕ). drop 5 l) e)
 
-tokens-rep : (list W : List ℕ) (i : ℕ) (ks : List Token) → drop (5 * i) list ≡ listWords ks → LegalTokens ks → ((j : ℕ) → j < i + length ks → LeafAt list W j)
+tokens-rep : (list W : List ℕ) (i : ℕ) (ks : List Token) → drop (5 * i) list ≡ listWords ks → LegalTokens ks
+    → ((j : ℕ) → j < i + length ks → LeafAt list W j)
     → RepF W (0 ∷ []) (tokenSlots i (length ks)) (3 * i + 3) (3 * (i + length ks) + 3) (leaves ks)
 unfolding tokenSlots leaves
 tokens-rep list W i [] e noTokens h = let g : 3 * i + 3 ≤ 3 * (i + 0) + 3 = omega arith in ends g
@@ -151,7 +173,7 @@ tokens-rep list W i (k ∷ ks) e (token legal later) h =
     let t = leaf-token list W i k ks e (token legal later) v in
     let most = reserve-most k nil in
     let op : operatorOf (wd list (5 * i)) ≡ k .op
-    = ap operatorOf (sym (rw (add-zero (8 * b), add-zero (5 * i)) at (v .words 0 (omega arith)))) ∙ token-op t in
+    = ap operatorOf (sym (rw (add-zero (slotStart b), add-zero (5 * i)) at (v .words 0 (omega arith)))) ∙ token-op t in
     let leaf = leaf-tree {W = W} {X = 0 ∷ []} {b = b} {l = b} {m = 3 * suc i + 3} {t = k} (le-refl b) (omega arith) (omega arith) (λ s x y. (omega arith, tt)) t
     (notes-leaf (λ c x. v .classes c ∙ ap (λ (o : ℕ). inClass c o) op)) (v .first) in
     let g : 3 * (i + suc (length ks)) + 3 ≡ 3 * (suc i + length ks) + 3 = omega arith in
@@ -173,5 +195,6 @@ load-done {list} {W} {n} {Z} {i} p v h =
     }
 
 -- What is loaded is a list under work.
-pub loaded-array : {list W : List ℕ} {n : ℕ} {W' : List ℕ} → Loaded list W n W' → InArray W' (0 ∷ []) (24 * n + 24) n 3 (3 * n + 3) (leaves (tokensOf list))
+pub loaded-array : {list W : List ℕ} {n : ℕ} {W' : List ℕ} → Loaded list W n W'
+    → InArray W' (0 ∷ []) (24 * n + 24) n 3 (3 * n + 3) (leaves (tokensOf list))
 loaded-array {n = n} v = record { bs = tokenSlots 0 n; seg = v .seg; count = sym (slots-length 0 n); rep = v .rep }

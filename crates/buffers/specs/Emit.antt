@@ -1,14 +1,15 @@
 -- What emission asks and ensures: the words of the trees of a chain, each parent before its children, laid out above the siblings that wait
 -- meanwhile; and copied to the front of the caller's tree buffer.
-use Prim.Native.Nat.{ℕ, _+_, _*_, _-_, _%_, _^_, _≤_, _<_}
+use Prim.Native.Nat.{ℕ, _+_, _*_, _-_, _^_, _≤_, _<_}
 use mathlib.Core.Path.{_≡_}
 use mathlib.Core.Logic.{_≢_, _⊎_}
-use mathlib.Core.List.{List, [], _∷_}
+use mathlib.Core.List.{List}
 use lib.ListN.{length, set}
 use Rattle.molang.specs.Forest.{Forest, size}
-use Rattle.molang.specs.Words.{word, treeWords}
+use Rattle.molang.specs.Words.{treeWords}
 use Rattle.molang.specs.Parse.{mostTokens, inFront}
-use Rattle.nodes.specs.Store.{wd, Chain, Seg, RepF}
+use Rattle.words.specs.Tokens.{tokenWordsAt, nodeLength, nodeWords}
+use Rattle.nodes.specs.Store.{wd, slotStart, slotEnd, firstAt, nextAt, Chain, Seg, RepF}
 use Rattle.nodes.specs.Children.{CanFollow}
 
 -- The trees of f are linked from the slot `first` on, below the slot hi.
@@ -21,47 +22,43 @@ pub record Linked (W : List ℕ) (first hi : ℕ) (f : Forest) : Type 0 where
 
 -- ---- `emit_node`
 
--- The six words of the node at slot s, which has n children.
-abbrev pub nodeWords : List ℕ → ℕ → ℕ → List ℕ
-nodeWords W s n =
-    wd W (8 * s) ∷ wd W (8 * s + 1) ∷ wd W (8 * s + 2) ∷ wd W (8 * s + 3) ∷ wd W (8 * s + 4) ∷ word 6 (n % 2 ^ 14) ∷ []
-
--- The slot s lies below the word `at`, from which on six words are free; its children are a chain.
+-- The slot s lies below the word `at`, from which on the words of a node are free; its children are a chain.
 pub record CanEmitNode (W : List ℕ) (s at : ℕ) : Type 0 where
-  pub below : 8 * s + 8 ≤ at
-  pub room : at + 6 ≤ length W
-  pub children : CanFollow W (wd W (8 * s + 5))
+  pub below : slotEnd s ≤ at
+  pub room : at + nodeLength ≤ length W
+  pub children : CanFollow W (firstAt W s)
 
 -- The node's words stand from `at` on; all other words are as they were.
 pub record NodeEmitted (W : List ℕ) (s at : ℕ) (W' : List ℕ) : Type 0 where
-  pub words : (cs : List ℕ) → Chain W (wd W (8 * s + 5)) cs → Seg W' at (nodeWords W s (length cs))
-  pub same : (j : ℕ) → (j < at) ⊎ (at + 6 ≤ j) → wd W' j ≡ wd W j
+  pub words : (cs : List ℕ) → Chain W (firstAt W s) cs → Seg W' at (nodeWords (tokenWordsAt W (slotStart s)) (length cs))
+  pub same : (j : ℕ) → (j < at) ⊎ (at + nodeLength ≤ j) → wd W' j ≡ wd W j
   pub long : length W' ≡ length W
 
 -- ---- `node_after`
 
 -- The node after slot s, the top after it and the words after it, those that wait standing from `stack` to `top`.
 pub data Stepped (W : List ℕ) (s stack top : ℕ) : ℕ → ℕ → List ℕ → Type 0 where
-  over : {next : ℕ} → next ≡ wd W (8 * s + 6) → wd W (8 * s + 5) ≡ 0 → next ≢ 0 → Stepped W s stack top next top W
-  finish : {next : ℕ} → next ≡ wd W (8 * s + 6) → wd W (8 * s + 5) ≡ 0 → next ≡ 0 → top ≡ stack → Stepped W s stack top next top W
-  back : {next : ℕ} → next ≡ wd W (top - 1) → wd W (8 * s + 5) ≡ 0 → wd W (8 * s + 6) ≡ 0 → top ≢ stack → Stepped W s stack top next (top - 1) W
-  down : {next : ℕ} → next ≡ wd W (8 * s + 5) → next ≢ 0 → wd W (8 * s + 6) ≡ 0 → Stepped W s stack top next top W
-  waits : {next wait : ℕ} → next ≡ wd W (8 * s + 5) → next ≢ 0 → wait ≡ wd W (8 * s + 6) → wait ≢ 0
+  over : {next : ℕ} → next ≡ nextAt W s → firstAt W s ≡ 0 → next ≢ 0 → Stepped W s stack top next top W
+  finish : {next : ℕ} → next ≡ nextAt W s → firstAt W s ≡ 0 → next ≡ 0 → top ≡ stack → Stepped W s stack top next top W
+  back : {next : ℕ} → next ≡ wd W (top - 1) → firstAt W s ≡ 0 → nextAt W s ≡ 0 → top ≢ stack → Stepped W s stack top next (top - 1) W
+  down : {next : ℕ} → next ≡ firstAt W s → next ≢ 0 → nextAt W s ≡ 0 → Stepped W s stack top next top W
+  waits : {next wait : ℕ} → next ≡ firstAt W s → next ≢ 0 → wait ≡ nextAt W s → wait ≢ 0
       → Stepped W s stack top next (top + 1) (set W top wait)
 
 -- ---- `emit`
 
--- The trees stand below the stack; the stack has a word for each node, and there is room for six from `to` on.
+-- The trees stand below the stack; the stack has a word for each node, and there is room for their words from `to` on.
 pub record CanEmit (W : List ℕ) (first to stack : ℕ) : Type 0 where
   pub hi : ℕ
   pub trees : Forest
   pub linked : Linked W first hi trees
-  pub below : 8 * hi ≤ stack
+  pub below : slotStart hi ≤ stack
   pub spare : stack + size trees ≤ to
-  pub room : to + 6 * size trees ≤ length W
+  pub room : to + nodeLength * size trees ≤ length W
   pub few : size trees < 2 ^ 14
 
--- The trees' words stand from `to` on; r is the number of their nodes.
+-- The trees' words stand from `to` on; r is the number of their nodes. The words below the stack are as they were. Left free are the words
+-- between, where siblings waited, and those after the trees' words.
 pub record Emitted (W : List ℕ) (first to stack r : ℕ) (W' : List ℕ) : Type 0 where
   pub count : (hi : ℕ) (f : Forest) → Linked W first hi f → r ≡ size f
   pub words : (hi : ℕ) (f : Forest) → Linked W first hi f → Seg W' to (treeWords f)
@@ -79,7 +76,8 @@ pub record CanLayOut (W buffer : List ℕ) (root n : ℕ) : Type 0 where
   pub work-room : 64 * n + 64 ≤ length W
   pub tree-room : 18 * n ≤ length buffer
 
--- The trees' words are the front of the tree buffer; the slots are as they were.
+-- The trees' words are the front of the tree buffer; the slots are as they were. The words above them, where the trees were laid out, are
+-- left free.
 pub record LaidOut (W buffer : List ℕ) (root n r : ℕ) (W' buffer' : List ℕ) : Type 0 where
   pub count : (f : Forest) → Linked W root (3 * n + 3) f → r ≡ size f
   pub words : (f : Forest) → Linked W root (3 * n + 3) f → buffer' ≡ inFront (treeWords f) buffer

@@ -1,4 +1,5 @@
--- What loading asks and ensures: each token of a list without fault stands as a leaf at its slot, and the slots stand on the stack in the list's order.
+-- What loading asks and ensures: each token of a list without fault stands as a leaf at its slot, and the slots stand on the stack in the
+-- list's order.
 use Prim.Native.Nat.{ℕ, zero, suc, _+_, _*_, _≤_, _<_}
 use mathlib.Core.Path.{_≡_}
 use mathlib.Core.Logic.{_≢_, _⊎_}
@@ -6,11 +7,11 @@ use mathlib.Core.List.{List, [], _∷_}
 use mathlib.Core.Option.{none}
 use lib.ListN.{length}
 use Rattle.molang.specs.Forest.{leaves}
-use Rattle.molang.specs.Words.{tokensOf, operatorSlot, wordsRefusal}
+use Rattle.molang.specs.Words.{tokensOf, operatorField, wordsRefusal}
 use Rattle.molang.specs.Parse.{mostTokens}
 use Rattle.words.specs.Fields.{operatorOf}
 use Rattle.ops.specs.Classes.{bitAt, inClass, classTable}
-use Rattle.nodes.specs.Store.{wd, Seg, RepF}
+use Rattle.nodes.specs.Store.{wd, slotStart, firstAt, classesAt, Seg, RepF}
 
 -- The slots of n tokens, from token i on.
 unfoldable pub tokenSlots : ℕ → ℕ → List ℕ
@@ -19,9 +20,9 @@ tokenSlots i (suc n) = (3 * i + 3) ∷ tokenSlots (suc i) n
 
 -- Token i of the list stands at its slot, without children, and notes the classes of its operator.
 pub record LeafAt (list W : List ℕ) (i : ℕ) : Type 0 where
-  pub words : (o : ℕ) → o < 5 → wd W (8 * (3 * i + 3) + o) ≡ wd list (5 * i + o)
-  pub first : wd W (8 * (3 * i + 3) + 5) ≡ 0
-  pub classes : (c : ℕ) → bitAt (wd W (8 * (3 * i + 3) + 7)) c ≡ inClass c (operatorOf (wd list (5 * i)))
+  pub words : (o : ℕ) → o < 5 → wd W (slotStart (3 * i + 3) + o) ≡ wd list (5 * i + o)
+  pub first : firstAt W (3 * i + 3) ≡ 0
+  pub classes : (c : ℕ) → bitAt (classesAt W (3 * i + 3)) c ≡ inClass c (operatorOf (wd list (5 * i)))
 
 -- ---- `load_token`
 
@@ -44,7 +45,7 @@ pub record TokenLoaded (list W : List ℕ) (i stack : ℕ) (W' : List ℕ) : Typ
 
 -- The list is one that the entry does not turn back, of n tokens, and the work buffer is as long as the entry asks.
 pub record CanLoad (list W : List ℕ) (n : ℕ) : Type 0 where
-  pub faultless : wordsRefusal 0 operatorSlot 0 list ≡ none
+  pub faultless : wordsRefusal 0 operatorField 0 list ≡ none
   pub tokens : length list ≡ 5 * n
   pub few : n ≤ mostTokens
   pub room : 64 * n + 64 ≤ length W

@@ -6,6 +6,7 @@ use words::fields;
 ghost use mathlib.Core.Path.{_≡_};
 ghost use Prim.Native.Nat.{_+_, _*_, _^_, _≤_, _<_};
 ghost use lib.ListN.{length, take, drop, replicate};
+ghost use Rattle.nodes.specs.Store.{slotEnd};
 ghost use Rattle.molang.specs.Parse.{inFront};
 ghost use Rattle.buffers.specs.Emit.{CanEmitNode, NodeEmitted, Stepped, CanEmit, Emitted, CanLayOut, LaidOut};
 
@@ -20,24 +21,15 @@ fn emit_node(work: &mut [u32], s: u32, at: usize)
     requires { ⌜ CanEmitNode (now work) s at ⌝ }
     ensures { λ _. ⌜ NodeEmitted (now (work .entry)) s at (now (work .exit)) ⌝ }
 {
-    let operator = slots::operator_word_of(work, s);
-    let start = slots::start_word_of(work, s);
-    let end = slots::end_word_of(work, s);
-    let upper = slots::upper_word_of(work, s);
-    let lower = slots::lower_word_of(work, s);
+    let token = slots::token_of(work, s);
     let children = children::count_chain(work, slots::first_of(work, s));
-    work[at] = operator;
-    work[at + 1] = start;
-    work[at + 2] = end;
-    work[at + 3] = upper;
-    work[at + 4] = lower;
-    work[at + 5] = fields::children_word(children);
+    token.lay_node(work, at, children);
 }
 
 // The node after slot s in preorder: its first child, and its next sibling waits; or its next sibling; or the last one that
 // waits. Those that wait stand in the words from `stack` up to `top`.
 fn node_after(work: &mut [u32], s: u32, stack: usize, top: usize) -> After
-    requires { ⌜ (8 * s + 8 ≤ length (now work)) × (stack ≤ top) × (top < length (now work)) ⌝ }
+    requires { ⌜ (slotEnd s ≤ length (now work)) × (stack ≤ top) × (top < length (now work)) ⌝ }
     ensures { λ r. ⌜ Stepped (now (work .entry)) s stack top (r .next) (r .top) (now (work .exit)) ⌝ }
 {
     let first = slots::first_of(work, s);
@@ -65,8 +57,8 @@ fn node_after(work: &mut [u32], s: u32, stack: usize, top: usize) -> After
     }
 }
 
-// Writes the trees of the chain from `first` on, each parent before its children, to the words from `to` on; their number of
-// nodes. Siblings that wait stand in the words from `stack` on.
+// Writes the trees of the chain from `first` on, each parent before its children, to the words from `to` on, and gives
+// back their number of nodes. Siblings that wait stand in the words from `stack` on.
 pub fn emit(work: &mut [u32], first: u32, to: usize, stack: usize) -> usize
     requires { ⌜ CanEmit (now work) first to stack ⌝ }
     ensures { λ r. ⌜ Emitted (now (work .entry)) first to stack r (now (work .exit)) ⌝ }
@@ -109,7 +101,7 @@ pub fn tree_of(n: usize) -> usize
     28 * n + 28
 }
 
-// The words of the tree at `root`, which has no sibling after it, become the front of the tree buffer; its number of nodes.
+// The words of the tree at `root`, which has no sibling after it, become the front of the tree buffer; gives back its number of nodes.
 pub fn lay_out(work: &mut [u32], tree: &mut [u32], root: u32, n: usize) -> usize
     requires { ⌜ CanLayOut (now work) (now tree) root n ⌝ }
     ensures { λ r. ⌜ LaidOut (now (work .entry)) (now (tree .entry)) root n r (now (work .exit)) (now (tree .exit)) ⌝ }

@@ -4,6 +4,7 @@ use nodes::slots;
 use ops::classes::class_table;
 use ops::classes::leaf_classes;
 use words::fields;
+use words::tokens::TokenWords;
 ghost use Rattle.buffers.specs.Load.{CanLoadToken, TokenLoaded, CanLoad, Loaded};
 
 // Token i becomes a leaf at its slot, and its slot the i-th word of the stack.
@@ -11,15 +12,10 @@ fn load_token(list: &[u32], work: &mut [u32], table: &[u32; 111], i: usize, stac
     requires { ⌜ CanLoadToken (now list) (now work) (now table) i stack ⌝ }
     ensures { λ _. ⌜ TokenLoaded (now (list .entry)) (now (work .entry)) i stack (now (work .exit)) ⌝ }
 {
-    let at = 5 * i;
     let slot = slots::slot_of(i as u32);
-    let first = list[at];
-    let start = list[at + 1];
-    let end = list[at + 2];
-    let upper = list[at + 3];
-    let lower = list[at + 4];
-    let classes = leaf_classes(table, fields::operator(first));
-    slots::set_leaf(work, slot, first, start, end, upper, lower, classes);
+    let token = TokenWords::at(list, fields::TOKEN_WORDS * i);
+    let classes = leaf_classes(table, fields::operator(token.operator));
+    slots::set_leaf(work, slot, token, classes);
     work[stack + i] = slot;
 }
 

@@ -1,6 +1,6 @@
--- One turn of the driver (`advance`): the level goes on with its list, an item is entered, the list ends, or the pass fails. The result of the whole pass
--- stays what it was.
-use Prim.Native.Nat.{ℕ, _+_, _*_, _≤_, _<_}
+-- One turn of the driver (`advance`): the level goes on with its list, an item is entered, the list ends, or the pass fails. The result of
+-- the whole pass stays what it was.
+use Prim.Native.Nat.{ℕ, _+_, _≤_, _<_}
 use mathlib.Core.Path.{_≡_, sym, ap, _∙_, subst, subst₂}
 use mathlib.Core.Logic.{inl}
 use mathlib.Core.List.{List, _∷_}
@@ -8,21 +8,22 @@ use native.Mathlib.Omega.{arith}
 use native.Mathlib.Nat.{le-refl}
 use Rattle.molang.specs.Forest.{Forest, count, size}
 use Rattle.molang.specs.Message.{Result}
+use Rattle.molang.specs.Work.{Kind, State, work, unwound}
 use Rattle.molang.proofs.Trees.{count-size}
-use Rattle.molang.proofs.Work.{Kind, State, work, unwound}
-use Rattle.nodes.specs.Store.{wd, RepT, Free}
+use Rattle.molang.proofs.Work.{reading-size, unwound-fail}
+use Rattle.nodes.specs.Store.{wd, slotStart, RepT, Free}
 use Rattle.nodes.proofs.Keeping.{free-own, free-inner}
-use Rattle.walks.specs.Sides.{Holds, Waits}
-use Rattle.walks.specs.Turns.{SameList, Within, CanTurn, turnsLeft, Begins, TurnTo, goes, enters, ends, fails, Turned}
-use Rattle.walks.specs.declared.failure.Failure.{Failure}
-use Rattle.walks.specs.declared.turns.Walk.{Walk}
-use Rattle.walks.specs.declared.turns.Turn.{Turn}
-use Rattle.walks.specs.declared.turns.Turn.the-variants.{On, Enter, Over, Fail}
-use Rattle.grouping.specs.Driver.{Room, Stack, Full, Going, turnsBelow, Beyond, NextTo, CanDescend, Descended, CanClose, Closed, CanAdvance, Advanced}
+use Rattle.levels.specs.Sides.{Holds, Waits}
+use Rattle.levels.specs.Turns.{SameList, Within, CanTurn, turnsLeft, Begins, TurnTo, goes, enters, ends, fails, Turned}
+use Rattle.levels.specs.declared.failure.Failure.{Failure}
+use Rattle.levels.specs.declared.turns.Walk.{Walk}
+use Rattle.levels.specs.declared.turns.Turn.{Turn}
+use Rattle.levels.specs.declared.turns.Turn.the-variants.{On, Enter, Over, Fail}
+use Rattle.grouping.specs.Driver.{Room, Stack, Full, Going, turnsBelow, Beyond, NextTo, CanDescend, Descended, CanClose, Closed}
+use Rattle.grouping.specs.Driver.{CanAdvance, Advanced}
 use Rattle.grouping.specs.declared.driver.Next.{Next}
 use Rattle.grouping.specs.declared.driver.Next.the-variants.{On as Onward, Fail as Stopped}
 use Rattle.grouping.proofs.StackLaws.{Bounds, stack-bounds, stack-keep, top-beyond, beyond-then}
-use Rattle.grouping.proofs.Lasting.{reading-size, unwound-fail}
 
 pub advance-can-turn : {W : List ℕ} {w : Walk} {base0 : ℕ} → CanAdvance W w base0 → CanTurn W w
 advance-can-turn {w = w} g =
@@ -37,7 +38,8 @@ advance-can-turn {w = w} g =
       small = g .going .small;
     }
 
-next-more : {κ : Kind} {classes : ℕ} {W' : List ℕ} {base0 hi0 : ℕ} {r : Result} {turns turns' : ℕ} {x : Next} → turns ≤ turns' → NextTo κ classes W' base0 hi0 r turns x
+next-more : {κ : Kind} {classes : ℕ} {W' : List ℕ} {base0 hi0 : ℕ} {r : Result} {turns turns' : ℕ} {x : Next} → turns ≤ turns'
+    → NextTo κ classes W' base0 hi0 r turns x
     → NextTo κ classes W' base0 hi0 r turns' x
 next-more h (NextTo.goes g e t) = NextTo.goes g e (omega arith)
 next-more h (NextTo.ends e v) = NextTo.ends e v
@@ -58,26 +60,30 @@ module _ {W W1 : List ℕ} {w : Walk} {base0 : ℕ} (g : CanAdvance W w base0) (
   same1 : (j : ℕ) → Free (g .going .X) (g .going .lo) (g .going .hi) j → j < w .list .base → wd W1 j ≡ wd W j
   same1 j x y =
       turned-within .kept j
-      (free-inner (w .list .owner) (g .going .X) (g .going .lo) (g .going .hi) (g .going .lo) (g .going .hi) j (le-refl (g .going .lo)) (le-refl (g .going .hi)) x) (inl y)
+      (free-inner (w .list .owner) (g .going .X) (g .going .lo) (g .going .hi) (g .going .lo) (g .going .hi) j (le-refl (g .going .lo)) (le-refl (g .going .hi)) x)
+      (inl y)
 
   stack1 : Stack (g .κ) (g .classes) W1 base0 (g .hi0) (g .going .X) (w .list .owner) (g .going .lo) (g .going .hi) (w .list .base) (g .S)
   stack1 =
       let below = g .going .holds .sides .below in
       stack-keep W W1 (g .going .some) (g .going .stack) same1
-      (λ o x. turned-within .kept (8 * w .list .owner + o) (free-own (w .list .owner) (g .going .X) (g .going .lo) (g .going .hi) o (omega arith)) (inl (omega (arith, bounds .high))))
+      (λ o x. turned-within .kept (slotStart (w .list .owner) + o) (free-own (w .list .owner) (g .going .X) (g .going .lo) (g .going .hi) o (omega arith)) (inl (omega (arith, bounds .high))))
       (turned-within .long)
 
   stack-of : {w' : Walk} → SameList w w'
       → Stack (g .κ) (g .classes) W1 base0 (g .hi0) (g .going .X) (w' .list .owner) (g .going .lo) (g .going .hi) (w' .list .base) (g .S)
   stack-of l =
-      subst₂ (λ (x : ℕ) (y : ℕ). Stack (g .κ) (g .classes) W1 base0 (g .hi0) (g .going .X) x (g .going .lo) (g .going .hi) y (g .S)) (sym (l .owner)) (sym (l .base)) stack1
+      subst₂ (λ (x : ℕ) (y : ℕ). Stack (g .κ) (g .classes) W1 base0 (g .hi0) (g .going .X) x (g .going .lo) (g .going .hi) y (g .S))
+      (sym (l .owner)) (sym (l .base)) stack1
 
   pub turned-beyond : Beyond W W1 base0 (g .hi0)
   turned-beyond = top-beyond base0 (g .hi0) bounds same1 (turned-within .long)
 
   -- the same list, further on
-  going-on : {w' : Walk} {s' : State (g .κ)} {rest' : Forest} → SameList w w' → Holds (g .κ) W1 (w .list .owner ∷ g .going .X) (g .going .lo) (g .going .hi) w' s' rest'
-      → work (g .κ) (g .s) (g .rest) ≡ work (g .κ) s' rest' → Room W1 (w' .list) rest' → Going (g .κ) (g .classes) W1 base0 (g .hi0) w' (g .S) s' rest'
+  going-on : {w' : Walk} {s' : State (g .κ)} {rest' : Forest} → SameList w w'
+      → Holds (g .κ) W1 (w .list .owner ∷ g .going .X) (g .going .lo) (g .going .hi) w' s' rest'
+      → work (g .κ) (g .s) (g .rest) ≡ work (g .κ) s' rest' → Room W1 (w' .list) rest'
+      → Going (g .κ) (g .classes) W1 base0 (g .hi0) w' (g .S) s' rest'
   going-on {w'} {s'} {rest'} l v e room =
       record {
         X = g .going .X;
@@ -126,7 +132,8 @@ module _ {W W1 : List ℕ} {w : Walk} {base0 : ℕ} (g : CanAdvance W w base0) w
 
     descends : Entering → CanDescend W1 w' item
     unfolding Entering
-    descends (enters {l = l} {n = n} {m = m} {t = t} {u = u} {rest' = rest'} {k = k} {cs = cs} same v tree some bg e few near less waiting) =
+    descends
+        (enters {l = l} {n = n} {m = m} {t = t} {u = u} {rest' = rest'} {k = k} {cs = cs} same v tree some bg e few near less waiting) =
         let room = g .going .room in
         let long = turned-within g (Enter w' item) turned .long in
         let owner = sym (same .owner) in
@@ -172,7 +179,8 @@ module _ {W W1 : List ℕ} {w : Walk} {base0 : ℕ} (g : CanAdvance W w base0) w
           go : Entering → NextTo (g .κ) (g .classes) W2 base0 (g .hi0) (Result-of g) (Turns-of g) (Onward w2)
           go (enters {t = t} {u = u} {rest' = rest'} {k = k} {cs = cs} same v tree some bg e few near less waiting) =
               let sizes = reading-size (g .κ) cs in
-              NextTo.goes (inner .going (descends (enters same v tree some bg e few near less waiting))) (ap (unwound (g .κ) (g .S)) e) (omega arith)
+              NextTo.goes (inner .going (descends (enters same v tree some bg e few near less waiting))) (ap (unwound (g .κ) (g .S)) e)
+              (omega arith)
 
       beyond-enter : Beyond W W2 base0 (g .hi0)
       unfolding Entering descends
@@ -180,7 +188,8 @@ module _ {W W1 : List ℕ} {w : Walk} {base0 : ℕ} (g : CanAdvance W w base0) w
         where
           go : Entering → Beyond W W2 base0 (g .hi0)
           go (enters same v tree some bg e few near less waiting) =
-              beyond-then (turned-beyond g (Enter w' item) turned) (inner .beyond (descends (enters same v tree some bg e few near less waiting)))
+              beyond-then (turned-beyond g (Enter w' item) turned)
+              (inner .beyond (descends (enters same v tree some bg e few near less waiting)))
 
   -- ---- every item is done
 
@@ -192,7 +201,15 @@ module _ {W W1 : List ℕ} {w : Walk} {base0 : ℕ} (g : CanAdvance W w base0) w
     unfolding Ending count size
     closes (ends {s' = s'} same v idle e) =
         let within = v .sides .within in
-        record { κ = g .κ; classes = g .classes; hi0 = g .hi0; S = g .S; s = s'; going = going-on g (Over w') turned same v e (omega arith); idle = idle }
+        record {
+          κ = g .κ;
+          classes = g .classes;
+          hi0 = g .hi0;
+          S = g .S;
+          s = s';
+          going = going-on g (Over w') turned same v e (omega arith);
+          idle = idle;
+        }
 
     pub advance-can-close : CanClose W1 w' base0
     unfolding Ending
@@ -227,8 +244,11 @@ advanced-on {w' = w'} t = record { to = λ g. next-on g w' t; beyond = λ g. tur
 pub advanced-fail : {W W1 : List ℕ} {w : Walk} {base0 : ℕ} {f : Failure} → Turned W w (Fail f) W1 → Advanced W w base0 (Stopped f) W1
 advanced-fail {f = f} t = record { to = λ g. next-fail g f t; beyond = λ g. turned-beyond g (Fail f) t }
 
-pub advanced-enter : {W W1 W2 : List ℕ} {w w' w2 : Walk} {base0 item : ℕ} → Turned W w (Enter w' item) W1 → Descended W1 w' item w2 W2 → Advanced W w base0 (Onward w2) W2
-advanced-enter {W2 = W2} {w' = w'} {w2 = w2} {item = item} t d = record { to = λ g. next-enter g w' item t w2 W2 d; beyond = λ g. beyond-enter g w' item t w2 W2 d }
+pub advanced-enter : {W W1 W2 : List ℕ} {w w' w2 : Walk} {base0 item : ℕ} → Turned W w (Enter w' item) W1 → Descended W1 w' item w2 W2
+    → Advanced W w base0 (Onward w2) W2
+advanced-enter {W2 = W2} {w' = w'} {w2 = w2} {item = item} t d =
+    record { to = λ g. next-enter g w' item t w2 W2 d; beyond = λ g. beyond-enter g w' item t w2 W2 d }
 
-pub advanced-close : {W W1 W2 : List ℕ} {w w' : Walk} {base0 : ℕ} {x : Next} → Turned W w (Over w') W1 → Closed W1 w' base0 x W2 → Advanced W w base0 x W2
+pub advanced-close : {W W1 W2 : List ℕ} {w w' : Walk} {base0 : ℕ} {x : Next} → Turned W w (Over w') W1 → Closed W1 w' base0 x W2
+    → Advanced W w base0 x W2
 advanced-close {W2 = W2} {w' = w'} {x = x} t d = record { to = λ g. next-close g w' t x W2 d; beyond = λ g. beyond-close g w' t x W2 d }

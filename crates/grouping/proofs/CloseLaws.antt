@@ -1,6 +1,6 @@
--- The end of a list (`close`): its items become its owner's children, and the list that waits for the owner takes it back; the end of the outermost list
--- is the end of the pass.
-use Prim.Native.Nat.{ℕ, _+_, _*_, _-_, _≤_, _<_}
+-- The end of a list (`close`): its items become its owner's children, and the list that waits for the owner takes it back; the end of the
+-- outermost list is the end of the pass.
+use Prim.Native.Nat.{ℕ, _+_, _-_, _≤_, _<_}
 use mathlib.Core.Path.{_≡_, refl, sym, ap, _∙_, subst, subst₂}
 use mathlib.Core.Logic.{_≢_, inl}
 use mathlib.Core.Bool.{false, true≢false}
@@ -11,10 +11,12 @@ use lib.ListN.{length}
 use Rattle.molang.specs.Forest.{Token, Forest, nil, node, count}
 use Rattle.molang.specs.Message.{Result, ok}
 use Rattle.molang.specs.Calls.{unindexed, named, indexed, arrayLevel, arrayResume}
-use Rattle.molang.proofs.Trees.{isNil}
-use Rattle.molang.proofs.Work.{Kind, calls, statements, arrays, unaries, ternary, returns, binary, State, work, takes, andThen, Held, held, unwound}
+use Rattle.molang.specs.Free.{isNil}
+use Rattle.molang.specs.Work.{Kind, calls, statements, arrays, unaryMinusAndNot, conditional, returns, binary, State, work, takes, andThen}
+use Rattle.molang.specs.Work.{Held, held, unwound}
+use Rattle.molang.proofs.Work.{unwound-fail}
 use Rattle.ops.specs.declared.classes.TokenClasses.{TokenClasses}
-use Rattle.nodes.specs.Store.{wd, TokenAt, Out, RepT, Owned, InArray, Free}
+use Rattle.nodes.specs.Store.{wd, slotStart, TokenAt, Out, RepT, Owned, InArray, Free}
 use Rattle.nodes.specs.Children.{CanGive, Given}
 use Rattle.nodes.specs.Frames.{FrameAt, CanPop}
 use Rattle.nodes.specs.declared.frames.List.{List as Items}
@@ -22,20 +24,21 @@ use Rattle.nodes.specs.declared.frames.Frame.{Frame}
 use Rattle.nodes.proofs.Runs.{off-word}
 use Rattle.nodes.proofs.Trees.{array-give, array-owned, owned-tree}
 use Rattle.nodes.proofs.Keeping.{free-own, free-inner, give-kept}
-use Rattle.walks.specs.Passes.{walkOf, classesOf, heldOf, resumedWith, Runs, call, mathCall, plain, split, array, unary, level, tern, prefix, waits}
-use Rattle.walks.specs.Sides.{Holds}
-use Rattle.walks.specs.Turns.{Within, lentOf, CanResume, Resumed, CanFinish, FinishTo, gives, fails, Ends}
-use Rattle.walks.specs.declared.failure.Failure.{Failure}
-use Rattle.walks.specs.declared.turns.Pass.{Pass}
-use Rattle.walks.specs.declared.turns.Pass.the-variants.{Arrays, Binary}
-use Rattle.walks.specs.declared.turns.Walk.{Walk}
-use Rattle.walks.specs.declared.turns.Finished.{Finished}
-use Rattle.walks.specs.declared.turns.Finished.the-variants.{At, Fail as Failed}
-use Rattle.walks.proofs.States.{split-none, split-some}
-use Rattle.grouping.specs.Driver.{FrameOf, Stack, bottom, over, Full, Going, turnsBelow, Beyond, CanMove, Moved, NextTo, CanClose, Closed}
+use Rattle.levels.specs.Passes.{walkOf, classesOf, heldOf, resumedWith, Runs, call, mathCall, unsplitPass, split, array, unary, level}
+use Rattle.levels.specs.Passes.{conditionalPass, returnPass, waits}
+use Rattle.levels.specs.Sides.{Holds}
+use Rattle.levels.specs.Turns.{Within, lentOf, CanResume, Resumed, CanFinish, FinishTo, gives, fails, Ends}
+use Rattle.levels.specs.declared.failure.Failure.{Failure}
+use Rattle.levels.specs.declared.turns.Pass.{Pass}
+use Rattle.levels.specs.declared.turns.Pass.the-variants.{Arrays, Binary}
+use Rattle.levels.specs.declared.turns.Walk.{Walk}
+use Rattle.levels.specs.declared.turns.Finished.{Finished}
+use Rattle.levels.specs.declared.turns.Finished.the-variants.{At, Fail as Failed}
+use Rattle.levels.proofs.States.{split-none, split-some}
+use Rattle.grouping.specs.Driver.{FrameOf, Stack, bottom, over, Full, Going, turnsBelow, Beyond, CanMove, Moved, NextTo, CanClose}
+use Rattle.grouping.specs.Driver.{Closed}
 use Rattle.grouping.specs.declared.driver.Next.the-variants.{On, Done, Fail}
 use Rattle.grouping.proofs.StackLaws.{Bounds, stack-bounds, stack-keep, top-beyond, beyond-then}
-use Rattle.grouping.proofs.Lasting.{unwound-fail}
 use Rattle.grouping.proofs.OutermostLaws.{give-outermost, move-outermost}
 
 -- ---- the pass of the list that waits
@@ -48,15 +51,16 @@ resumed-pass : (κ : Kind) (p q : Pass) → Runs κ p → Runs κ q → classesO
 unfolding resumedWith
 resumed-pass κ p q call call c u = refl
 resumed-pass κ p q mathCall mathCall c u = refl
-resumed-pass κ p q plain plain c u = sym (split-none 0 0 refl)
-resumed-pass κ p q plain (split {done = n}) c u = sym (split-some 1 n (omega arith))
-resumed-pass κ p q split plain c u = sym (split-none 0 0 refl)
+resumed-pass κ p q unsplitPass unsplitPass c u = sym (split-none 0 0 refl)
+resumed-pass κ p q unsplitPass (split {done = n}) c u = sym (split-some 1 n (omega arith))
+resumed-pass κ p q split unsplitPass c u = sym (split-none 0 0 refl)
 resumed-pass κ p q split (split {done = n}) c u = sym (split-some 1 n (omega arith))
 resumed-pass κ p q array (array {array = a} {lent = b}) c u = ap (λ (x : ℕ). Arrays a x) (sym u)
 resumed-pass κ p q unary unary c u = refl
-resumed-pass κ p q (level {classes = d} h) (level {classes = e} {pending = n} i) c u = ap (λ (x : TokenClasses). Binary x n) (same-classes d e c)
-resumed-pass κ p q tern tern c u = refl
-resumed-pass κ p q prefix prefix c u = refl
+resumed-pass κ p q (level {classes = d} h) (level {classes = e} {pending = n} i) c u =
+    ap (λ (x : TokenClasses). Binary x n) (same-classes d e c)
+resumed-pass κ p q conditionalPass conditionalPass c u = refl
+resumed-pass κ p q returnPass returnPass c u = refl
 
 -- an array that waits goes on waiting
 pub takes-waits : (κ : Kind) (t : State κ) (k : Token) (kids : Forest) → waits κ (takes κ t k kids) ≤ waits κ t
@@ -66,8 +70,8 @@ takes-waits statements t k kids = le-refl 0
 takes-waits arrays (unindexed d) k kids = le-refl 0
 takes-waits arrays (named d q) k kids = omega arith
 takes-waits arrays (indexed d q c) k kids = le-refl 1
-takes-waits unaries t k kids = le-refl 0
-takes-waits ternary t k kids = le-refl 0
+takes-waits unaryMinusAndNot t k kids = le-refl 0
+takes-waits conditional t k kids = le-refl 0
 takes-waits returns t k kids = le-refl 0
 takes-waits (binary ops) t k kids = le-refl 0
 
@@ -94,7 +98,8 @@ pub record Gives (κ : Kind) (W' X : List ℕ) (lo hi : ℕ) (v : Items) (s : St
   pub low : v .base ≤ from
   pub high : from + n ≤ v .base + v .len
 
-given : {κ : Kind} {W' X : List ℕ} {lo hi : ℕ} {v : Items} {s : State κ} {from n : ℕ} → FinishTo κ W' X lo hi v s (At from n) → Gives κ W' X lo hi v s from n
+given : {κ : Kind} {W' X : List ℕ} {lo hi : ℕ} {v : Items} {s : State κ} {from n : ℕ} → FinishTo κ W' X lo hi v s (At from n)
+    → Gives κ W' X lo hi v s from n
 given (gives {f = f} e a l h) = record { f = f; result = e; array = a; low = l; high = h }
 
 failed-next : {κ : Kind} {classes : ℕ} {W' X : List ℕ} {lo hi base0 hi0 : ℕ} {v : Items} {s : State κ} {f : Failure} (S : List (Held κ)) (turns : ℕ)
@@ -108,25 +113,31 @@ module _ {W W1 : List ℕ} {w : Walk} {base0 : ℕ} (r : Finished) (ended : Ends
       let within = ended .within (close-can-finish g) in
       let G = g .going in
       top-beyond base0 (g .hi0) (stack-bounds (G .some) (G .stack))
-      (λ j x y. within .kept j (free-inner (w .list .owner) (G .X) (G .lo) (G .hi) (G .lo) (G .hi) j (le-refl (G .lo)) (le-refl (G .hi)) x) (inl y)) (within .long)
+      (λ j x y. within .kept j (free-inner (w .list .owner) (G .X) (G .lo) (G .hi) (G .lo) (G .hi) j (le-refl (G .lo)) (le-refl (G .hi)) x) (inl y))
+      (within .long)
 
   pub closed-failed : (f : Failure) → r ≡ Failed f → Closed W w base0 (Fail f) W1
   unfolding close-can-finish
   closed-failed f e =
       record {
-        to = λ g. failed-next (g .S) _ (subst (λ (x : Finished). FinishTo (g .κ) W1 (w .list .owner ∷ g .going .X) (g .going .lo) (g .going .hi) (w .list) (g .s) x) e (ended .to (close-can-finish g)));
+        to =
+            λ g.
+            failed-next (g .S) _
+            (subst (λ (x : Finished). FinishTo (g .κ) W1 (w .list .owner ∷ g .going .X) (g .going .lo) (g .going .hi) (w .list) (g .s) x) e (ended .to (close-can-finish g)));
         beyond = finished-beyond;
       }
 
 -- ---- the owner takes what the list gives
 
-owned-full : {W X : List ℕ} {q lo hi : ℕ} {o : Token} (f : Forest) → isNil f ≡ false → TokenAt W q o → 0 < q → Out q X → lo ≤ q → q < hi → Owned W X q lo hi f → RepT W X q lo hi o f
+owned-full : {W X : List ℕ} {q lo hi : ℕ} {o : Token} (f : Forest) → isNil f ≡ false → TokenAt W q o → 0 < q → Out q X → lo ≤ q → q < hi
+    → Owned W X q lo hi f → RepT W X q lo hi o f
 unfolding isNil
 owned-full nil e t p x l h v = absurd (true≢false e)
 owned-full (node c cs r) e t p x l h v = owned-tree t p x l h v
 
 -- The list that waits right below a list that is not the outermost.
-pub record TopFrame (κ : Kind) (classes : ℕ) (W : List ℕ) (base0 hi0 : ℕ) (X : List ℕ) (owner lo hi base : ℕ) (S : List (Held κ)) : Type 0 where
+pub record TopFrame (κ : Kind) (classes : ℕ) (W : List ℕ) (base0 hi0 : ℕ) (X : List ℕ) (owner lo hi base : ℕ) (S : List (Held κ))
+    : Type 0 where
   pub X' : List ℕ
   pub lo' : ℕ
   pub hi' : ℕ
@@ -145,12 +156,27 @@ top-frame : {κ : Kind} {classes : ℕ} {W : List ℕ} {base0 hi0 : ℕ} {X : Li
     → base ≢ base0 → Stack κ classes W base0 hi0 X owner lo hi base S → TopFrame κ classes W base0 hi0 X owner lo hi base S
 top-frame n bottom = absurd (n refl)
 top-frame n (over {X = X} {lo = lo} {hi = hi} {w = w} {t = t} {k = k} {rest = rest} {S = S} s f) =
-    record { X' = X; lo' = lo; hi' = hi; wait = w; t = t; k = k; rest = rest; S' = S; around = refl; lists = refl; above = refl; stack = s; frame = f }
+    record {
+      X' = X;
+      lo' = lo;
+      hi' = hi;
+      wait = w;
+      t = t;
+      k = k;
+      rest = rest;
+      S' = S;
+      around = refl;
+      lists = refl;
+      above = refl;
+      stack = s;
+      frame = f;
+    }
 
 -- at the outermost list
 outermost : {κ : Kind} {classes : ℕ} {W W1 W2 W3 : List ℕ} {base0 hi0 : ℕ} {X : List ℕ} {owner lo hi base from n : ℕ} {S : List (Held κ)} {f : Forest} {r : Result} (turns : ℕ)
-    → 0 < hi0 → base ≡ base0 → r ≡ ok f → Stack κ classes W base0 hi0 X owner lo hi base S → InArray W1 (owner ∷ X) from n lo hi f → Given W1 owner from n W2 → Moved W2 from n base W3
-    → 8 * hi ≤ base → base ≤ from → NextTo κ classes W3 base0 hi0 (unwound κ S r) turns (Done n)
+    → 0 < hi0 → base ≡ base0 → r ≡ ok f → Stack κ classes W base0 hi0 X owner lo hi base S → InArray W1 (owner ∷ X) from n lo hi f
+    → Given W1 owner from n W2 → Moved W2 from n base W3
+    → slotStart hi ≤ base → base ≤ from → NextTo κ classes W3 base0 hi0 (unwound κ S r) turns (Done n)
 unfolding unwound
 outermost turns h e q bottom v gv mv below down = NextTo.ends q (move-outermost mv (give-outermost gv v h (omega arith)) h below)
 outermost turns h e q (over s f) v gv mv below down = absurd (omega (arith, stack-bounds h s .based))
@@ -185,14 +211,17 @@ module _ {W W1 : List ℕ} {w : Walk} {base0 from n : ℕ} (g : CanClose W w bas
     same2 j x y =
         give-kept gv (gave .array .seg) (sym (gave .array .count)) (gave .array .rep) (bounds .low) (bounds .high) (bounds .out) j x
         ∙ finished-within .kept j
-        (free-inner (w .list .owner) (g .going .X) (g .going .lo) (g .going .hi) (g .going .lo) (g .going .hi) j (le-refl (g .going .lo)) (le-refl (g .going .hi)) x) (inl y)
+        (free-inner (w .list .owner) (g .going .X) (g .going .lo) (g .going .hi) (g .going .lo) (g .going .hi) j (le-refl (g .going .lo)) (le-refl (g .going .hi)) x)
+        (inl y)
 
-    own2 : (o : ℕ) → o < 5 → wd W2 (8 * w .list .owner + o) ≡ wd W (8 * w .list .owner + o)
+    own2 : (o : ℕ) → o < 5 → wd W2 (slotStart (w .list .owner) + o) ≡ wd W (slotStart (w .list .owner) + o)
     own2 o x =
         let below = g .going .holds .sides .below in
-        gv .same (gave .array .bs) (gave .array .seg) (sym (gave .array .count)) (8 * w .list .owner + o) (omega arith) (omega arith)
+        gv .same (gave .array .bs) (gave .array .seg) (sym (gave .array .count)) (slotStart (w .list .owner) + o) (omega arith)
+        (omega arith)
         (off-word (gave .array .bs) (w .list .owner) o (omega arith) (omega arith))
-        ∙ finished-within .kept (8 * w .list .owner + o) (free-own (w .list .owner) (g .going .X) (g .going .lo) (g .going .hi) o (omega arith)) (inl (omega (arith, bounds .high)))
+        ∙ finished-within .kept (slotStart (w .list .owner) + o)
+        (free-own (w .list .owner) (g .going .X) (g .going .lo) (g .going .hi) o (omega arith)) (inl (omega (arith, bounds .high)))
 
     stack2 : Stack (g .κ) (g .classes) W2 base0 (g .hi0) (g .going .X) (w .list .owner) (g .going .lo) (g .going .hi) (w .list .base) (g .S)
     stack2 = stack-keep W W2 (g .going .some) (g .going .stack) same2 own2 long2
@@ -206,8 +235,11 @@ module _ {W W1 : List ℕ} {w : Walk} {base0 from n : ℕ} (g : CanClose W w bas
         record { down = gave .low; within = omega (arith, gave .high, long2) }
 
     module _ {W3 : List ℕ} (mv : Moved W2 from n (w .list .base) W3) where
-      next-done : w .list .base ≡ base0 → NextTo (g .κ) (g .classes) W3 base0 (g .hi0) (unwound (g .κ) (g .S) (work (g .κ) (g .s) nil)) (turnsBelow (g .κ) (g .S)) (Done n)
-      next-done e = outermost (turnsBelow (g .κ) (g .S)) (g .going .some) e (gave .result) stack2 (gave .array) gv mv (g .going .holds .sides .below) (gave .low)
+      next-done : w .list .base ≡ base0
+          → NextTo (g .κ) (g .classes) W3 base0 (g .hi0) (unwound (g .κ) (g .S) (work (g .κ) (g .s) nil)) (turnsBelow (g .κ) (g .S)) (Done n)
+      next-done e =
+          outermost (turnsBelow (g .κ) (g .S)) (g .going .some) e (gave .result) stack2 (gave .array) gv mv (g .going .holds .sides .below)
+          (gave .low)
 
       done-beyond : w .list .base ≡ base0 → Beyond W W3 base0 (g .hi0)
       done-beyond e = beyond-then beyond2 (record { kept = λ j x y. mv .same j (omega arith); long = mv .long })
@@ -224,7 +256,9 @@ module _ {W W1 : List ℕ} {w : Walk} {base0 from n : ℕ} (g : CanClose W w bas
           record { six = omega arith; within = omega (arith, long2); base = rw (at, top .frame .words .base-word) (omega arith) }
 
       full2 : isNil (gave .f) ≡ false
-      full2 = subst (λ (S : List (Held (g .κ))). Full (g .κ) S (work (g .κ) (g .s) nil)) (top .lists) (g .going .full) .0 (gave .f) (gave .result)
+      full2 =
+          subst (λ (S : List (Held (g .κ))). Full (g .κ) S (work (g .κ) (g .s) nil)) (top .lists) (g .going .full) .0 (gave .f)
+          (gave .result)
 
       waiting-resumes : CanResume W2 (top .wait) (w .list .owner)
       waiting-resumes =
@@ -251,7 +285,8 @@ module _ {W W1 : List ℕ} {w : Walk} {base0 from n : ℕ} (g : CanClose W w bas
 
       -- ---- the frame's words are that list
 
-      module _ (fr : Frame) (p : Pass) (words : FrameAt W2 (w .list .base - 6) (fr .list) (fr .held)) (ep : p ≡ resumedWith (w .pass) (fr .held)) where
+      module _ (fr : Frame) (p : Pass) (words : FrameAt W2 (w .list .base - 6) (fr .list) (fr .held))
+          (ep : p ≡ resumedWith (w .pass) (fr .held)) where
         at-frame : w .list .base - 6 ≡ top .wait .list .base + top .wait .list .len
         at-frame = omega (arith, top .above)
 
@@ -278,7 +313,8 @@ module _ {W W1 : List ℕ} {w : Walk} {base0 from n : ℕ} (g : CanClose W w bas
         same-pass : p ≡ top .wait .pass
         same-pass =
             ep ∙ ap (resumedWith (w .pass)) same-held
-            ∙ resumed-pass (g .κ) (w .pass) (top .wait .pass) (g .going .holds .sides .runs) (top .frame .waiting .sides .runs) (g .going .same ∙ sym (top .frame .same)) (top .frame .unlent)
+            ∙ resumed-pass (g .κ) (w .pass) (top .wait .pass) (g .going .holds .sides .runs) (top .frame .waiting .sides .runs)
+            (g .going .same ∙ sym (top .frame .same)) (top .frame .unlent)
 
         same-walk : walkOf (fr .list) p ≡ top .wait
         same-walk = λ i. record { list = same-list i; pass = same-pass i }
@@ -300,13 +336,14 @@ module _ {W W1 : List ℕ} {w : Walk} {base0 from n : ℕ} (g : CanClose W w bas
           same3 : (j : ℕ) → Free (top .X') (top .lo') (top .hi') j → j < top .wait .list .base → wd W3 j ≡ wd W2 j
           same3 j x y =
               within3 .kept j
-              (free-inner (top .wait .list .owner) (top .X') (top .lo') (top .hi') (top .lo') (top .hi') j (le-refl (top .lo')) (le-refl (top .hi')) x) (inl y)
+              (free-inner (top .wait .list .owner) (top .X') (top .lo') (top .hi') (top .lo') (top .hi') j (le-refl (top .lo')) (le-refl (top .hi')) x)
+              (inl y)
 
           stack3 : Stack (g .κ) (g .classes) W3 base0 (g .hi0) (top .X') (top .wait .list .owner) (top .lo') (top .hi') (top .wait .list .base) (top .S')
           stack3 =
               let below = top .frame .waiting .sides .below in
               stack-keep W2 W3 (g .going .some) (top .stack) same3
-              (λ o x. within3 .kept (8 * top .wait .list .owner + o) (free-own (top .wait .list .owner) (top .X') (top .lo') (top .hi') o (omega arith))
+              (λ o x. within3 .kept (slotStart (top .wait .list .owner) + o) (free-own (top .wait .list .owner) (top .X') (top .lo') (top .hi') o (omega arith))
               (inl (omega (arith, below-bounds .high))))
               (within3 .long)
 
@@ -320,7 +357,9 @@ module _ {W W1 : List ℕ} {w : Walk} {base0 from n : ℕ} (g : CanClose W w bas
           unfolding andThen
           full3 =
               let full = subst (λ (S : List (Held (g .κ))). Full (g .κ) S (work (g .κ) (g .s) nil)) (top .lists) (g .going .full) in
-              subst (λ (r : Result). Full (g .κ) (top .S') (andThen r (λ kids. work (g .κ) (takes (g .κ) (top .t) (top .k) kids) (top .rest)))) (gave .result) (full .1)
+              subst
+              (λ (r : Result). Full (g .κ) (top .S') (andThen r (λ kids. work (g .κ) (takes (g .κ) (top .t) (top .k) kids) (top .rest))))
+              (gave .result) (full .1)
 
           going3 : Going (g .κ) (g .classes) W3 base0 (g .hi0) w3 (top .S') (takes (g .κ) (top .t) (top .k) (gave .f)) (top .rest)
           unfolding waiting-resumes
@@ -331,8 +370,13 @@ module _ {W W1 : List ℕ} {w : Walk} {base0 from n : ℕ} (g : CanClose W w bas
                 X = top .X';
                 lo = top .lo';
                 hi = top .hi';
-                stack = subst₂ (λ (x : ℕ) (y : ℕ). Stack (g .κ) (g .classes) W3 base0 (g .hi0) (top .X') x (top .lo') (top .hi') y (top .S')) (sym (l .owner)) (sym (l .base)) stack3;
-                holds = subst (λ (x : ℕ). Holds (g .κ) W3 (x ∷ top .X') (top .lo') (top .hi') w3 (takes (g .κ) (top .t) (top .k) (gave .f)) (top .rest)) (sym (l .owner))
+                stack =
+                    subst₂ (λ (x : ℕ) (y : ℕ). Stack (g .κ) (g .classes) W3 base0 (g .hi0) (top .X') x (top .lo') (top .hi') y (top .S'))
+                    (sym (l .owner)) (sym (l .base)) stack3;
+                holds =
+                    subst
+                    (λ (x : ℕ). Holds (g .κ) W3 (x ∷ top .X') (top .lo') (top .hi') w3 (takes (g .κ) (top .t) (top .k) (gave .f)) (top .rest))
+                    (sym (l .owner))
                     (back-at .holds waiting-resumes);
                 same = l .classes ∙ top .frame .same;
                 room = omega (arith, l .base, l .len, within3 .long);
@@ -355,12 +399,15 @@ module _ {W W1 : List ℕ} {w : Walk} {base0 from n : ℕ} (g : CanClose W w bas
 pub ended-at : {W W1 : List ℕ} {w : Walk} (r q : Finished) → r ≡ q → Ends W w r W1 → Ends W w q W1
 ended-at {W} {W1} {w} r q e x = subst (λ (y : Finished). Ends W w y W1) e x
 
-pub closed-done : {W W1 W2 W3 : List ℕ} {w : Walk} {base0 from n : ℕ} → Ends W w (At from n) W1 → Given W1 (w .list .owner) from n W2 → Moved W2 from n (w .list .base) W3 → w .list .base ≡ base0
+pub closed-done : {W W1 W2 W3 : List ℕ} {w : Walk} {base0 from n : ℕ} → Ends W w (At from n) W1 → Given W1 (w .list .owner) from n W2
+    → Moved W2 from n (w .list .base) W3 → w .list .base ≡ base0
     → Closed W w base0 (Done n) W3
 closed-done ended gv mv e = record { to = λ g. next-done g ended gv mv e; beyond = λ g. done-beyond g ended gv mv e }
 
-pub closed-on : {W W1 W2 W3 : List ℕ} {w w3 : Walk} {base0 from n : ℕ} → Ends W w (At from n) W1 → Given W1 (w .list .owner) from n W2 → w .list .base ≢ base0 → (fr : Frame) (p : Pass)
-    → FrameAt W2 (w .list .base - 6) (fr .list) (fr .held) → p ≡ resumedWith (w .pass) (fr .held) → Resumed W2 (walkOf (fr .list) p) (w .list .owner) w3 W3
+pub closed-on : {W W1 W2 W3 : List ℕ} {w w3 : Walk} {base0 from n : ℕ} → Ends W w (At from n) W1 → Given W1 (w .list .owner) from n W2
+    → w .list .base ≢ base0 → (fr : Frame) (p : Pass)
+    → FrameAt W2 (w .list .base - 6) (fr .list) (fr .held) → p ≡ resumedWith (w .pass) (fr .held)
+    → Resumed W2 (walkOf (fr .list) p) (w .list .owner) w3 W3
     → Closed W w base0 (On w3) W3
 closed-on ended gv inner fr p words ep back =
     record { to = λ g. next-on g ended gv inner fr p words ep back; beyond = λ g. beyond3 g ended gv inner fr p words ep back }

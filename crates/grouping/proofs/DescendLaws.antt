@@ -1,5 +1,5 @@
 -- A list waits in a frame while the children of its item are opened (`descend`).
-use Prim.Native.Nat.{ℕ, _+_, _*_, _^_, _≤_, _<_}
+use Prim.Native.Nat.{ℕ, _+_, _^_, _≤_, _<_}
 use mathlib.Core.Path.{_≡_, refl, sym, ap, _∙_, subst, subst₂}
 use mathlib.Core.Logic.{inl}
 use mathlib.Core.Bool.{false, true≢false}
@@ -8,75 +8,79 @@ use native.Mathlib.Omega.{arith}
 use lib.ListN.{length}
 use Rattle.molang.specs.Forest.{Token, Forest, nil, node, count}
 use Rattle.molang.specs.Message.{ok}
-use Rattle.molang.proofs.Trees.{isNil, count-size}
-use Rattle.molang.proofs.Work.{Kind, State, work, inReading, held}
-use Rattle.nodes.specs.Store.{wd, RepT, Owned}
+use Rattle.molang.specs.Free.{isNil}
+use Rattle.molang.specs.Work.{Kind, State, work, inReading, held}
+use Rattle.molang.proofs.Trees.{count-size}
+use Rattle.molang.proofs.Work.{reading-size, reading-count}
+use Rattle.nodes.specs.Store.{wd, slotWords, slotStart, RepT, Owned}
 use Rattle.nodes.specs.Frames.{CanPush, Pushed}
 use Rattle.nodes.specs.declared.frames.List.{List as Items}
 use Rattle.nodes.specs.declared.frames.Held.{Held as Words}
 use Rattle.nodes.proofs.Store.{tree-below, tree-out, tree-keep}
 use Rattle.nodes.proofs.Tokens.{token-keep}
 use Rattle.nodes.proofs.Trees.{tree-owned}
-use Rattle.walks.specs.Passes.{walkOf, classesOf, heldOf, Runs, call, mathCall, plain, split, array, unary, level, tern, prefix}
-use Rattle.walks.specs.Sides.{ArraySide, DoneSide, InFrame, Holds, Waits}
-use Rattle.walks.specs.Turns.{lentOf, Begins, afresh, lent}
-use Rattle.walks.specs.declared.turns.Pass.{Pass}
-use Rattle.walks.specs.declared.turns.Pass.the-variants.{Calls, Maths, Plain, Split, Arrays, Unary, Binary, Ternary, Prefix}
-use Rattle.walks.specs.declared.turns.Walk.{Walk}
+use Rattle.levels.specs.Passes.{walkOf, classesOf, heldOf, Runs, call, mathCall, unsplitPass, split, array, unary, level, conditionalPass}
+use Rattle.levels.specs.Passes.{returnPass}
+use Rattle.levels.specs.Sides.{ArraySide, DoneSide, InFrame, Holds, Waits}
+use Rattle.levels.specs.Turns.{lentOf, Begins, afresh, lent}
+use Rattle.levels.specs.declared.turns.Pass.{Pass}
+use Rattle.levels.specs.declared.turns.Pass.the-variants.{Calls, MathCalls, Unsplit, Split, Arrays, Unary, Binary, Conditional, Returns}
+use Rattle.levels.specs.declared.turns.Walk.{Walk}
 use Rattle.grouping.specs.Driver.{FrameOf, Stack, over, Going, Beyond, CanOpen, Opened, CanDescend, Descended}
 use Rattle.grouping.proofs.SideLaws.{open-array-keep}
 use Rattle.grouping.proofs.StackLaws.{waits-keep, waits-within, stack-bounds, stack-within, stack-keep, top-beyond}
 use Rattle.grouping.proofs.StartLaws.{begins-low}
-use Rattle.grouping.proofs.Lasting.{reading-size, reading-count, begun-full, lent-full}
+use Rattle.grouping.proofs.Lasting.{begun-full, lent-full}
 
 -- ---- the state in a frame
 
 -- what a frame keeps: the name is lent no more
 abbrev pub rested : Pass → Pass
 rested Calls = Calls
-rested Maths = Maths
-rested Plain = Plain
+rested MathCalls = MathCalls
+rested Unsplit = Unsplit
 rested (Split done) = Split done
 rested (Arrays a b) = Arrays a 0
 rested Unary = Unary
 rested (Binary classes pending) = Binary classes pending
-rested (Ternary tokens) = Ternary tokens
-rested Prefix = Prefix
+rested (Conditional tokens) = Conditional tokens
+rested Returns = Returns
 
 rested-held : (p : Pass) → heldOf (rested p) ≡ heldOf p
 rested-held Calls = refl
-rested-held Maths = refl
-rested-held Plain = refl
+rested-held MathCalls = refl
+rested-held Unsplit = refl
 rested-held (Split done) = refl
 rested-held (Arrays a b) = refl
 rested-held Unary = refl
 rested-held (Binary classes pending) = refl
-rested-held (Ternary tokens) = refl
-rested-held Prefix = refl
+rested-held (Conditional tokens) = refl
+rested-held Returns = refl
 
 rested-classes : (p : Pass) → classesOf (rested p) ≡ classesOf p
 rested-classes Calls = refl
-rested-classes Maths = refl
-rested-classes Plain = refl
+rested-classes MathCalls = refl
+rested-classes Unsplit = refl
 rested-classes (Split done) = refl
 rested-classes (Arrays a b) = refl
 rested-classes Unary = refl
 rested-classes (Binary classes pending) = refl
-rested-classes (Ternary tokens) = refl
-rested-classes Prefix = refl
+rested-classes (Conditional tokens) = refl
+rested-classes Returns = refl
 
 rested-unlent : (p : Pass) → lentOf (rested p) ≡ 0
 rested-unlent Calls = refl
-rested-unlent Maths = refl
-rested-unlent Plain = refl
+rested-unlent MathCalls = refl
+rested-unlent Unsplit = refl
 rested-unlent (Split done) = refl
 rested-unlent (Arrays a b) = refl
 rested-unlent Unary = refl
 rested-unlent (Binary classes pending) = refl
-rested-unlent (Ternary tokens) = refl
-rested-unlent Prefix = refl
+rested-unlent (Conditional tokens) = refl
+rested-unlent Returns = refl
 
-array-rested : {W X : List ℕ} {base write lo l a b : ℕ} {s : _} → ArraySide W X base write lo l (Arrays a b) s → ArraySide W X base write lo l (Arrays a 0) s
+array-rested : {W X : List ℕ} {base write lo l a b : ℕ} {s : _} → ArraySide W X base write lo l (Arrays a b) s
+    → ArraySide W X base write lo l (Arrays a 0) s
 array-rested (ArraySide.all v) = ArraySide.all v
 array-rested (ArraySide.growing v o) = ArraySide.growing v o
 
@@ -85,13 +89,13 @@ module _ (W X : List ℕ) (lo l m hi : ℕ) (v : Items) where
       → Runs κ (rested p) × DoneSide κ W X lo l m hi (walkOf v (rested p)) t × InFrame v (rested p)
   rested-done κ p t call d f = (call, d, f)
   rested-done κ p t mathCall d f = (mathCall, d, f)
-  rested-done κ p t plain d f = (plain, d, f)
+  rested-done κ p t unsplitPass d f = (unsplitPass, d, f)
   rested-done κ p t split d f = (split, d, f)
   rested-done κ p t array d f = (array, array-rested d, f)
   rested-done κ p t unary d f = (unary, d, f)
   rested-done κ p t (level h) d f = (level h, d, f)
-  rested-done κ p t tern d f = (tern, d, f)
-  rested-done κ p t prefix d f = (prefix, d, f)
+  rested-done κ p t conditionalPass d f = (conditionalPass, d, f)
+  rested-done κ p t returnPass d f = (returnPass, d, f)
 
 waits-rested : {κ : Kind} {W X : List ℕ} {lo l m hi : ℕ} {w : Walk} {t : State κ} {rest : Forest} → Waits κ W X lo l m hi w t rest
     → Waits κ W X lo l m hi (walkOf (w .list) (rested (w .pass))) t rest
@@ -116,7 +120,8 @@ waits-rested {κ} {W} {X} {lo} {l} {m} {hi} {w} {t} v =
 -- ---- how the children begin
 
 begins-keep : (W W' : List ℕ) {X : List ℕ} {lo n : ℕ} {cs : Forest} {κ : Kind} {p : Pass} {u : State κ}
-    → ((s o : ℕ) → s < n → o < 8 → wd W' (8 * s + o) ≡ wd W (8 * s + o)) → Begins W X lo n cs κ p u → Begins W' X lo n cs κ p u
+    → ((s o : ℕ) → s < n → o < slotWords → wd W' (slotStart s + o) ≡ wd W (slotStart s + o)) → Begins W X lo n cs κ p u
+    → Begins W' X lo n cs κ p u
 begins-keep W W' h (afresh e low) = afresh e low
 begins-keep W W' h (lent o i) = lent (open-array-keep W W' (λ s j x y z r. h s j y z) o) i
 
@@ -140,8 +145,8 @@ module _ {W : List ℕ} {w : Walk} {item : ℕ} (g : CanDescend W w item) where
       record { room = omega arith; small = g .small; read = omega arith; write = omega arith }
 
   module _ (W1 : List ℕ) (h : Words) (eh : h ≡ heldOf (w .pass)) {after : ℕ} (pushed : Pushed W (w .list) h after W1) where
-    slots-pushed : (s o : ℕ) → s < g .hi → o < 8 → wd W1 (8 * s + o) ≡ wd W (8 * s + o)
-    slots-pushed s o x y = pushed .same (8 * s + o) (inl (omega (arith, g .waiting .sides .below)))
+    slots-pushed : (s o : ℕ) → s < g .hi → o < slotWords → wd W1 (slotStart s + o) ≡ wd W (slotStart s + o)
+    slots-pushed s o x y = pushed .same (slotStart s + o) (inl (omega (arith, g .waiting .sides .below)))
 
     pub descend-can-open : CanOpen W1 item (w .list .base + w .list .len + 6) (w .pass)
     descend-can-open =
@@ -191,11 +196,13 @@ module _ {W : List ℕ} {w : Walk} {item : ℕ} (g : CanDescend W w item) where
           let top = w .list .base + w .list .len in
           let own = tree-below (g .tree) in
           record {
-            waiting = waits-keep W W2 (λ s o x y z r. same-below (8 * s + o) (omega arith)) (λ s o x y z r. same-below (8 * s + o) (omega arith)) (λ j x y. same-below j y) long-opened
+            waiting =
+                waits-keep W W2 (λ s o x y z r. same-below (slotStart s + o) (omega arith))
+                (λ s o x y z r. same-below (slotStart s + o) (omega arith)) (λ j x y. same-below j y) long-opened
                 (waits-rested (g .waiting));
             unlent = rested-unlent (w .pass);
             same = rested-classes (w .pass) ∙ g .same;
-            token = token-keep W W2 item (λ o x. same-below (8 * item + o) (omega arith)) (g .tree .token);
+            token = token-keep W W2 item (λ o x. same-below (slotStart item + o) (omega arith)) (g .tree .token);
             low = omega (arith, begins-low (g .begins), g .tree .low);
             high = own;
             pos = g .tree .pos;
@@ -217,7 +224,7 @@ module _ {W : List ℕ} {w : Walk} {item : ℕ} (g : CanDescend W w item) where
           let bounds = stack-bounds some-slot (g .stack) in
           let below = g .waiting .sides .below in
           over {w = walkOf (w .list) (rested (w .pass))}
-          (stack-keep W W2 some-slot (g .stack) (λ j x y. same-below j (omega arith)) (λ o x. same-below (8 * w .list .owner + o) (omega (arith, bounds .high))) long-opened)
+          (stack-keep W W2 some-slot (g .stack) (λ j x y. same-below j (omega arith)) (λ o x. same-below (slotStart (w .list .owner) + o) (omega (arith, bounds .high))) long-opened)
           descend-frame
 
       descended-going : Going (g .κ) (g .classes) W2 (g .base0) (g .hi0) w' (held (g .t) (g .k) (g .rest) ∷ g .S) (g .u) (inReading (g .κ) (g .cs))
@@ -234,9 +241,13 @@ module _ {W : List ℕ} {w : Walk} {item : ℕ} (g : CanDescend W w item) where
             X = w .list .owner ∷ g .X;
             lo = g .l;
             hi = g .m;
-            stack = subst₂ (λ (x : ℕ) (y : ℕ). Stack (g .κ) (g .classes) W2 (g .base0) (g .hi0) (w .list .owner ∷ g .X) x (g .l) (g .m) y (held (g .t) (g .k) (g .rest) ∷ g .S))
+            stack =
+                subst₂
+                (λ (x : ℕ) (y : ℕ). Stack (g .κ) (g .classes) W2 (g .base0) (g .hi0) (w .list .owner ∷ g .X) x (g .l) (g .m) y (held (g .t) (g .k) (g .rest) ∷ g .S))
                 (sym owned) (sym based) descend-stack;
-            holds = subst (λ (x : ℕ). Holds (g .κ) W2 (x ∷ w .list .owner ∷ g .X) (g .l) (g .m) w' (g .u) (inReading (g .κ) (g .cs))) (sym owned) holds;
+            holds =
+                subst (λ (x : ℕ). Holds (g .κ) W2 (x ∷ w .list .owner ∷ g .X) (g .l) (g .m) w' (g .u) (inReading (g .κ) (g .cs)))
+                (sym owned) holds;
             same = opened .classes ∙ g .same;
             room = omega (arith, long-opened);
             full = (begun (g .cs) (g .begins) (g .some), g .full);

@@ -1,5 +1,5 @@
--- The flat passes in the reading: each where it runs takes the definition's reading on to the next pass, or ends it; what they leave is no heavier
--- than the tokens.
+-- The flat passes in the reading: each where it runs takes the definition's reading on to the next pass, or ends it; what they leave is no
+-- heavier than the tokens.
 use Prim.Native.Nat.{ℕ, suc, _+_, _*_, _-_, _≤_, _<_}
 use mathlib.Core.Path.{_≡_, refl, sym, ap, _∙_, subst}
 use mathlib.Core.Logic.{_≢_}
@@ -19,29 +19,30 @@ use Rattle.molang.specs.Message.{Message, complexMustEndWithSemicolon, Result, 
 use Rattle.molang.specs.Sections.{members, outside, sections}
 use Rattle.molang.specs.Order.{Pass, lastToken, memberAccessors, sectioning, runs, lastOf, endsWithSemicolon, apply}
 use Rattle.molang.specs.Read.{Answer, messages, endsReading, grouped}
+use Rattle.molang.specs.Free.{flat}
+use Rattle.molang.specs.Weight.{weight, nodeWeight}
 use Rattle.molang.proofs.Walks.{failed, fine}
-use Rattle.molang.proofs.Weight.{weight}
-use Rattle.molang.proofs.Sections.{flat, Flat, Sectioned, leaves-flat, members-light, sections-light}
-use Rattle.molang.proofs.Bounds.{nodeWeight, leaves-weight}
+use Rattle.molang.proofs.Sections.{Flat, Sectioned, leaves-flat, members-light, sections-light}
+use Rattle.molang.proofs.Bounds.{leaves-weight}
 use Rattle.ops.specs.declared.sets.OpSet.{OpSet}
 use Rattle.nodes.specs.Store.{wd, TokenAt, Seg, RepF, ends, more}
 use Rattle.nodes.specs.Slots.{opAt}
 use Rattle.nodes.proofs.Store.{reserve-pos, rep-count}
 use Rattle.nodes.proofs.Tokens.{token-op}
-use Rattle.walks.specs.Grouped.{tells, notEnded, withoutTokens, StandsFor}
-use Rattle.walks.specs.Grouped as stands
-use Rattle.walks.specs.declared.failure.Failure.the-variants.{ComplexMustEndWithSemicolon, ComplexWithoutTokens}
-use Rattle.walks.specs.declared.grouped.Grouped.the-variants.{Failed}
-use Rattle.order.specs.Places.{usedBy}
-use Rattle.order.proofs.Running.{failed as failing, next, run-first, skip-first}
-use Rattle.flat.specs.Flat.{FlatTells, failed, mismatched, unclosed, Answers, CanJoin, Joined, CanSection}
-use Rattle.flat.specs.Flat as pass
+use Rattle.grouping.specs.Grouped.{tells, notEnded, withoutTokens, StandsFor}
+use Rattle.grouping.specs.Grouped as stands
+use Rattle.levels.specs.declared.failure.Failure.the-variants.{ComplexMustEndWithSemicolon, ComplexWithoutTokens}
+use Rattle.grouping.specs.declared.grouped.Grouped.the-variants.{Failed}
+use Rattle.order.specs.Ranks.{usedBy}
+use Rattle.order.proofs.Folding.{failed as failing, next, run-first, skip-first}
+use Rattle.sections.specs.Flat.{FlatTells, failed, mismatched, unclosed, Answers, CanJoin, Joined, CanSection}
+use Rattle.sections.specs.Flat as pass
 use Rattle.grouping.specs.Group.{CanGroup, FlatTo, ifRun, EndsTo, ended, unended, EndsRight, JoinedIf, SectionedIf, Flattened}
-use Rattle.flat.specs.declared.sections.Flat.{Flat as Left}
-use Rattle.flat.specs.declared.sections.Flat.the-variants.{Done, Fail, Mismatched, Unclosed as Unclosing}
-use Rattle.flat.proofs.sections.Flat.{the-type}
-use Rattle.walks.proofs.Reading.{when-true, when-false}
-use Rattle.flat.proofs.FlatCases.{found}
+use Rattle.sections.specs.declared.Flat.{Flat as Left}
+use Rattle.sections.specs.declared.Flat.the-variants.{Done, Fail, Mismatched, Unclosed as Unclosing}
+use Rattle.sections.proofs.Flat.{the-type}
+use Rattle.levels.proofs.Reading.{when-true, when-false}
+use Rattle.sections.proofs.SectionCases.{found}
 
 -- ---- one pass of the reading
 
@@ -60,11 +61,11 @@ module _ (n : ℕ) (u : ℕ → Bool) (p : Pass) (ps : List Pass) (f : Forest) (
   read-on g e = go (runs u p) refl
     where
       go : (b : Bool) → runs u p ≡ b → grouped n u (p ∷ ps) [] f ≡ grouped n u ps [] g
-      go true h = run-first n u p ps h ps [] f ∙ ap (next n u p ps ps []) (does ∙ (sym (if-run (runs u p) q f h) ∙ e))
+      go true h = run-first n u p h ps [] f ∙ ap (next n u p ps []) (does ∙ (sym (if-run (runs u p) q f h) ∙ e))
       go false h =
           let same : ok f ≡ ok g = sym (if-skipped (runs u p) q f h) ∙ e in
           let same' : f ≡ g = cc in
-          skip-first n u p ps h [] f ∙ ap (grouped n u ps []) same'
+          skip-first n u p h ps [] f ∙ ap (grouped n u ps []) same'
 
   -- or it fails, which ends the reading
   read-out : (ms : List Message) → endsReading p ≡ true → ifRun (runs u p) q f ≡ fail ms → grouped n u (p ∷ ps) [] f ≡ messages ms
@@ -72,8 +73,8 @@ module _ (n : ℕ) (u : ℕ → Bool) (p : Pass) (ps : List Pass) (f : Forest) (
     where
       go : (b : Bool) → runs u p ≡ b → grouped n u (p ∷ ps) [] f ≡ messages ms
       go true h =
-          run-first n u p ps h ps [] f
-          ∙ (ap (next n u p ps ps []) (does ∙ (sym (if-run (runs u p) q f h) ∙ e)) ∙ ap (failing n u p ps ps [] ms) last)
+          run-first n u p h ps [] f
+          ∙ (ap (next n u p ps []) (does ∙ (sym (if-run (runs u p) q f h) ∙ e)) ∙ ap (failing n u p ps [] ms) last)
       go false h =
           let differ : ok f ≡ fail ms = sym (if-skipped (runs u p) q f h) ∙ e in
           let z : _≡_ {A = ℕ} 0 1 = cc in absurd (omega arith)
@@ -98,7 +99,12 @@ last-at {W} at before (more {b = b} {t = t} {k = k} a c d z o tk n ch ks (ends h
 last-at {W} {hi = hi} at before (more {b = b} {bs = bs} {t = t} a c d z o tk n ch ks (more a' c' d' z' o' tk' n' ch' ks' r)) g some-bs =
     let later = last-at (at + 1) (some t) (more a' c' d' z' o' tk' n' ch' ks' r) (g .1) (omega arith) in
     let same : wd W (at + 1 + length bs - 1) ≡ wd W (at + length (b ∷ bs) - 1) = ap (wd W) (omega arith) in
-    record { k = later .k; is = later .is; token = subst (λ (x : ℕ). TokenAt W x (later .k)) same (later .token); below = omega (arith, later .below) }
+    record {
+      k = later .k;
+      is = later .is;
+      token = subst (λ (x : ℕ). TokenAt W x (later .k)) same (later .token);
+      below = omega (arith, later .below);
+    }
 
 leaves-count : (ks : List Token) → count (leaves ks) ≡ length ks
 unfolding count leaves
@@ -108,10 +114,12 @@ leaves-count (k ∷ ks) = ap suc (leaves-count ks)
 token-count : {W : List ℕ} {base n : ℕ} (g : CanGroup W base n) → n ≡ length (g .tokens)
 token-count g = g .array .count ∙ (rep-count (g .array .rep) ∙ leaves-count (g .tokens))
 
-pub last-token : {W : List ℕ} {base n : ℕ} (g : CanGroup W base n) → n ≢ 0 → LastAt W (wd W (base + n - 1)) (3 * n + 3) none (leaves (g .tokens))
+pub last-token : {W : List ℕ} {base n : ℕ} (g : CanGroup W base n) → n ≢ 0
+    → LastAt W (wd W (base + n - 1)) (3 * n + 3) none (leaves (g .tokens))
 last-token {W} {base} {n} g there =
     let e = g .array .count in
-    subst (λ (x : ℕ). LastAt W (wd W (base + x - 1)) (3 * n + 3) none (leaves (g .tokens))) (sym e) (last-at base none (g .array .rep) (g .array .seg) (omega arith))
+    subst (λ (x : ℕ). LastAt W (wd W (base + x - 1)) (3 * n + 3) none (leaves (g .tokens))) (sym e)
+    (last-at base none (g .array .rep) (g .array .seg) (omega arith))
 
 -- `endsWithSemicolon` by the last token
 ends-empty : (l : ℕ) (ks : List Token) → length ks ≡ 0 → endsWithSemicolon l (leaves ks) ≡ fail (complexMustEndWithSemicolon 0 l ∷ [])
@@ -121,7 +129,8 @@ ends-empty l (k ∷ ks) e = absurd (omega arith)
 
 ends-semicolon : (l : ℕ) (f : Forest) (k : Token) → lastOf none f ≡ some k → k .op ≡ Operator.semicolon → endsWithSemicolon l f ≡ ok f
 unfolding endsWithSemicolon
-ends-semicolon l f k e h = found (lastOf none f) k _ _ e ∙ when-true (eqb (k .op) Operator.semicolon) _ _ (eq-eqb (k .op) Operator.semicolon h)
+ends-semicolon l f k e h =
+    found (lastOf none f) k _ _ e ∙ when-true (eqb (k .op) Operator.semicolon) _ _ (eq-eqb (k .op) Operator.semicolon h)
 
 ends-other : (l : ℕ) (f : Forest) (k : Token) → lastOf none f ≡ some k → k .op ≢ Operator.semicolon
     → endsWithSemicolon l f ≡ fail (complexMustEndWithSemicolon (k .start) (k .end) ∷ [])
@@ -172,7 +181,8 @@ joined-used {W} {W'} {base} {n} {used} {r} e w =
       long = w .long;
     }
 
-pub joined-unused : {W : List ℕ} {base n : ℕ} {used : OpSet} → runs (usedBy used) memberAccessors ≡ false → JoinedIf W base n used (Done n) W
+pub joined-unused : {W : List ℕ} {base n : ℕ} {used : OpSet} → runs (usedBy used) memberAccessors ≡ false
+    → JoinedIf W base n used (Done n) W
 joined-unused {n = n} {used = used} e =
     record {
       answer = λ g.
@@ -185,7 +195,8 @@ joined-unused {n = n} {used = used} e =
       long = refl;
     }
 
-pub sectioned-used : {W W' : List ℕ} {base n : ℕ} {used : OpSet} {r : Left} → runs (usedBy used) sectioning ≡ true → pass.Sectioned W base n r W'
+pub sectioned-used : {W W' : List ℕ} {base n : ℕ} {used : OpSet} {r : Left} → runs (usedBy used) sectioning ≡ true
+    → pass.Sectioned W base n r W'
     → SectionedIf W base n used r W'
 sectioned-used {W} {W'} {base} {n} {used} {r} e w =
     record {
@@ -195,7 +206,8 @@ sectioned-used {W} {W'} {base} {n} {used} {r} e w =
       long = w .long;
     }
 
-pub sectioned-unused : {W : List ℕ} {base n : ℕ} {used : OpSet} → runs (usedBy used) sectioning ≡ false → SectionedIf W base n used (Done n) W
+pub sectioned-unused : {W : List ℕ} {base n : ℕ} {used : OpSet} → runs (usedBy used) sectioning ≡ false
+    → SectionedIf W base n used (Done n) W
 sectioned-unused {n = n} {used = used} e =
     record {
       answer = λ g.
@@ -213,14 +225,16 @@ sectioned-unused {n = n} {used = used} e =
 pub joined-light : (b : Bool) (ks : List Token) (f : Forest) → ifRun b (members nil) (leaves ks) ≡ ok f
     → (weight nodeWeight f ≤ weight nodeWeight (leaves ks)) × (flat f ≡ true)
 unfolding ifRun weight flat
-joined-light false ks f e = let same : leaves ks ≡ f = cc in (omega (arith, ap (weight nodeWeight) same), ap flat (sym same) ∙ leaves-flat ks)
+joined-light false ks f e =
+    let same : leaves ks ≡ f = cc in (omega (arith, ap (weight nodeWeight) same), ap flat (sym same) ∙ leaves-flat ks)
 joined-light true ks f e = list (members-light nodeWeight ks nil (weight nodeWeight (leaves ks)) (omega arith) refl) e
   where
     list : {n : ℕ} {x : Result} → Flat nodeWeight n x → x ≡ ok f → (weight nodeWeight f ≤ n) × (flat f ≡ true)
     list (failed o) e = let z : _≡_ {A = ℕ} 0 1 = cc in absurd (omega arith)
     list (fine {g = g} h) e = let same : g ≡ f = cc in (omega (arith, ap (weight nodeWeight) same, h .0), ap flat (sym same) ∙ h .1)
 
-sectioned-light : (b : Bool) (f g : Forest) → flat f ≡ true → ifRun b (sections 0 (outside nil)) f ≡ ok g → weight nodeWeight g ≤ weight nodeWeight f
+sectioned-light : (b : Bool) (f g : Forest) → flat f ≡ true → ifRun b (sections 0 (outside nil)) f ≡ ok g
+    → weight nodeWeight g ≤ weight nodeWeight f
 unfolding ifRun
 sectioned-light false f g h e = let same : f ≡ g = cc in omega (arith, ap (weight nodeWeight) same)
 sectioned-light true f g h e = list (sections-light nodeWeight f h) e
@@ -243,7 +257,8 @@ group-joins {n = n} g =
       room = omega (arith, g .based, g .room);
     }
 
-abbrev pub group-sections : {W W' : List ℕ} {base n m : ℕ} {used : OpSet} → CanGroup W base n → JoinedIf W base n used (Done m) W' → CanSection W' base m
+abbrev pub group-sections : {W W' : List ℕ} {base n m : ℕ} {used : OpSet} → CanGroup W base n → JoinedIf W base n used (Done m) W'
+    → CanSection W' base m
 group-sections {n = n} {used = used} g w =
     let a = w .answer (group-joins g) in
     record {
@@ -278,7 +293,8 @@ ended-is (Fail q) h v = absurd (miss (0 ∷ []) 1 tt h)
 ended-is (Mismatched q) h v = absurd (miss (0 ∷ []) 2 tt h)
 ended-is (Unclosing q) h v = absurd (miss (0 ∷ []) 3 tt h)
 
-pub joined-items : {W W' : List ℕ} {base n m : ℕ} {used : OpSet} (r : Left) → r ≡ Done m → JoinedIf W base n used r W' → JoinedIf W base n used (Done m) W'
+pub joined-items : {W W' : List ℕ} {base n m : ℕ} {used : OpSet} (r : Left) → r ≡ Done m → JoinedIf W base n used r W'
+    → JoinedIf W base n used (Done m) W'
 joined-items {W} {W'} {base} {n} {used = used} r e w = subst (λ (x : Left). JoinedIf W base n used x W') e w
 
 -- a failure of a flat pass, told of the reading
@@ -290,9 +306,12 @@ module _ (W : List ℕ) (base n l : ℕ) (u : ℕ → Bool) (ps : List Pass) whe
 
   fails-to : {answer : Answer} (r : Left) → Fallen r → (x : Result) → ((ms : List Message) → x ≡ fail ms → answer ≡ messages ms) → (m : ℕ)
       → Answers W (0 ∷ []) base 3 (3 * n + 3) m x r → FlatTo W base n l u ps answer r
-  fails-to (Fail f) d x h m v = subst (λ (a : Answer). FlatTo W base n l u ps a (Fail f)) (sym (h (v .messages) (v .is))) (told-to (v .told))
-  fails-to (Mismatched f) d x h m v = subst (λ (a : Answer). FlatTo W base n l u ps a (Mismatched f)) (sym (h (v .messages) (v .is))) (told-to (v .told))
-  fails-to (Unclosing f) d x h m v = subst (λ (a : Answer). FlatTo W base n l u ps a (Unclosing f)) (sym (h (v .messages) (v .is))) (told-to (v .told))
+  fails-to (Fail f) d x h m v =
+      subst (λ (a : Answer). FlatTo W base n l u ps a (Fail f)) (sym (h (v .messages) (v .is))) (told-to (v .told))
+  fails-to (Mismatched f) d x h m v =
+      subst (λ (a : Answer). FlatTo W base n l u ps a (Mismatched f)) (sym (h (v .messages) (v .is))) (told-to (v .told))
+  fails-to (Unclosing f) d x h m v =
+      subst (λ (a : Answer). FlatTo W base n l u ps a (Unclosing f)) (sym (h (v .messages) (v .is))) (told-to (v .told))
 
 module _ {W : List ℕ} {base n : ℕ} {used : OpSet} where
   -- the last token is wrong
@@ -306,14 +325,17 @@ module _ {W : List ℕ} {base n : ℕ} {used : OpSet} where
       go g l ps (Done m) d v = absurd d
       go g l ps (Fail q) d (unended {ms = ms} e s) =
           subst (λ (a : Answer). StandsFor W (3 * n + 3) n l (Failed q) a)
-          (sym (read-out l (usedBy used) lastToken (memberAccessors ∷ sectioning ∷ ps) (leaves (g .tokens)) (endsWithSemicolon l) refl ms refl e)) (stands.failed s)
+          (sym (read-out l (usedBy used) lastToken (memberAccessors ∷ sectioning ∷ ps) (leaves (g .tokens)) (endsWithSemicolon l) refl ms refl e))
+          (stands.failed s)
 
   module _ (first : Left) (there : OneOf (0 ∷ []) (tagOf the-type first)) (w : EndsRight W base n used first) where
     -- the last token is right, and the reading goes on with the members
     first-on : (g : CanGroup W base n) (l : ℕ) (ps : List Pass)
         → grouped l (usedBy used) (lastToken ∷ ps) [] (leaves (g .tokens)) ≡ grouped l (usedBy used) ps [] (leaves (g .tokens))
     unfolding apply
-    first-on g l ps = read-on l (usedBy used) lastToken ps (leaves (g .tokens)) (endsWithSemicolon l) refl (leaves (g .tokens)) (ended-is first there (w .to g l))
+    first-on g l ps =
+        read-on l (usedBy used) lastToken ps (leaves (g .tokens)) (endsWithSemicolon l) refl (leaves (g .tokens))
+        (ended-is first there (w .to g l))
 
     -- a member accessor leads
     pub flat-unjoined : {W' : List ℕ} (r : Left) → Fallen r → JoinedIf W base n used r W' → Flattened W base n used r W'
@@ -323,7 +345,8 @@ module _ {W : List ℕ} {base n : ℕ} {used : OpSet} where
           to = λ g l ps.
               fails-to W' base n l (usedBy used) ps r d (ifRun (runs (usedBy used) memberAccessors) (members nil) (leaves (g .tokens)))
               (λ ms e. first-on g l (memberAccessors ∷ sectioning ∷ ps)
-              ∙ read-out l (usedBy used) memberAccessors (sectioning ∷ ps) (leaves (g .tokens)) (members nil) refl ms refl e) n (v .answer (group-joins g));
+              ∙ read-out l (usedBy used) memberAccessors (sectioning ∷ ps) (leaves (g .tokens)) (members nil) refl ms refl e) n (v .answer
+              (group-joins g));
           long = v .long;
         }
 
@@ -333,7 +356,8 @@ module _ {W : List ℕ} {base n : ℕ} {used : OpSet} where
       unfolding apply
       second-on g l ps =
           first-on g l (memberAccessors ∷ ps)
-          ∙ read-on l (usedBy used) memberAccessors ps (leaves (g .tokens)) (members nil) refl (v .answer (group-joins g) .forest) (v .answer (group-joins g) .is)
+          ∙ read-on l (usedBy used) memberAccessors ps (leaves (g .tokens)) (members nil) refl (v .answer (group-joins g) .forest)
+          (v .answer (group-joins g) .is)
 
       third-out : (g : CanGroup W base n) (l : ℕ) (ps : List Pass) (ms : List Message)
           → ifRun (runs (usedBy used) sectioning) (sections 0 (outside nil)) (v .answer (group-joins g) .forest) ≡ fail ms

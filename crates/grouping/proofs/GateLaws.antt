@@ -1,5 +1,5 @@
 -- A pass leaves a list as it is where none of its tokens stands in it, and slot 0 notes whether one does: such a pass need not run.
-use Prim.Native.Nat.{ℕ, _+_, _*_, _≤_}
+use Prim.Native.Nat.{ℕ, _≤_}
 use mathlib.Core.Path.{_≡_, refl, sym, _∙_, subst}
 use mathlib.Core.Bool.{true, false}
 use mathlib.Core.List.{List}
@@ -8,22 +8,18 @@ use lib.ListN.{length}
 use borrow.Author.Tests.{not-false}
 use Rattle.molang.specs.Forest.{Forest}
 use Rattle.molang.specs.Message.{ok}
-use Rattle.molang.proofs.Trees.{free}
-use Rattle.molang.proofs.Calls.{call-free}
-use Rattle.molang.proofs.Arrays.{array-free}
-use Rattle.molang.proofs.Statements.{statement-free}
-use Rattle.molang.proofs.Unary.{unaryPass-free}
-use Rattle.molang.proofs.Conditional.{conditional-free}
-use Rattle.molang.proofs.Return.{return-free}
-use Rattle.molang.proofs.Binary.{binary-free}
-use Rattle.molang.proofs.Work.{Kind, calls, statements, arrays, unaries, ternary, returns, binary, pass}
+use Rattle.molang.specs.Calls.{queryOrLoop, math}
+use Rattle.molang.specs.Order
+use Rattle.molang.specs.Free.{free, operatorsOf, worksOn}
+use Rattle.molang.specs.Work.{Kind, calls, statements, arrays, unaryMinusAndNot, conditional, returns, binary, passOf, pass}
+use Rattle.molang.proofs.NoMasks.{no-masks}
 use Rattle.ops.specs.Classes.{shares}
-use Rattle.nodes.specs.Store.{wd}
+use Rattle.nodes.specs.Store.{slotEnd, classesAt}
 use Rattle.nodes.proofs.Store.{rep-legal}
 use Rattle.nodes.proofs.Classes.{notes-meet}
-use Rattle.walks.specs.Passes.{classesOf, operators}
-use Rattle.walks.specs.declared.turns.Pass.{Pass}
-use Rattle.walks.proofs.PassClasses.{runs-exact}
+use Rattle.levels.specs.Passes.{classesOf, operators}
+use Rattle.levels.specs.declared.turns.Pass.{Pass}
+use Rattle.levels.proofs.PassClasses.{runs-covers}
 use Rattle.order.specs.declared.Choice.{Choice}
 use Rattle.order.specs.declared.Choice.the-variants.{Run, Skip}
 use Rattle.grouping.specs.Driver.{CanRun, done, HasRun}
@@ -31,26 +27,29 @@ use Rattle.grouping.specs.Choice.{CanChoose, Chosen}
 use Rattle.grouping.specs.declared.driver.Ran.{Ran}
 use Rattle.grouping.specs.declared.driver.Ran.the-variants.{Done}
 
+-- 'No masks' for the passes that go through nested lists.
 pub pass-free : (κ : Kind) (f : Forest) → free (operators κ) f ≡ true → pass κ f ≡ ok f
-unfolding pass operators
-pass-free (calls kind) f h = call-free kind f h
-pass-free statements f h = statement-free f h
-pass-free arrays f h = array-free f h
-pass-free unaries f h = unaryPass-free f h
-pass-free ternary f h = conditional-free f h
-pass-free returns f h = return-free f h
-pass-free (binary ops) f h = binary-free ops f h
+unfolding pass passOf operators operatorsOf worksOn
+pass-free (calls queryOrLoop) f h = no-masks 0 Order.callPass f refl h
+pass-free (calls math) f h = no-masks 0 Order.mathCalls f refl h
+pass-free statements f h = no-masks 0 Order.statements f refl h
+pass-free arrays f h = no-masks 0 Order.arrays f refl h
+pass-free unaryMinusAndNot f h = no-masks 0 Order.unaryMinusAndNot f refl h
+pass-free conditional f h = no-masks 0 Order.conditional f refl h
+pass-free returns f h = no-masks 0 Order.returns f refl h
+pass-free (binary ops) f h = no-masks 0 (Order.binary ops) f refl h
 
 -- ---- the gate
 
 -- slot 0 notes no class of the pass
-pub gate-shut : {W : List ℕ} {base n : ℕ} {p : Pass} → CanRun W base n p → shares (wd W 7) (classesOf p) ≡ false → HasRun W base n p (Done n) W
+pub gate-shut : {W : List ℕ} {base n : ℕ} {p : Pass} → CanRun W base n p → shares (classesAt W 0) (classesOf p) ≡ false
+    → HasRun W base n p (Done n) W
 gate-shut {W} {p = p} h shut =
     record {
       to = λ g.
           let v = g .list .owned in
           done (pass-free (g .κ) (g .F) (not-false (free (operators (g .κ)) (g .F))
-          (sym (notes-meet (classesOf p) (operators (g .κ)) (runs-exact (g .κ) p (g .runs)) (v .notes) (rep-legal (v .kids))) ∙ shut))) (g .list);
+          (sym (notes-meet (classesOf p) (operators (g .κ)) (runs-covers (g .κ) p (g .runs)) (v .notes) (rep-legal (v .kids))) ∙ shut))) (g .list);
       beyond = λ g. record { kept = λ j x y. refl; long = refl };
     }
 
@@ -59,12 +58,13 @@ gate-shut {W} {p = p} h shut =
 pub chosen-can-run : {W : List ℕ} {base n : ℕ} (c : Choice) (p : Pass) → c ≡ Run p → CanChoose W base n c → CanRun W base n p
 chosen-can-run {W} {base} {n} c p e h = subst (λ (x : Choice). CanChoose W base n x) e h
 
-pub chosen-run : {W W' : List ℕ} {base n : ℕ} {r : Ran} (c : Choice) (p : Pass) → c ≡ Run p → HasRun W base n p r W' → Chosen W base n c r W'
+pub chosen-run : {W W' : List ℕ} {base n : ℕ} {r : Ran} (c : Choice) (p : Pass) → c ≡ Run p → HasRun W base n p r W'
+    → Chosen W base n c r W'
 chosen-run {W} {W'} {base} {n} {r} c p e h = subst (λ (x : Choice). Chosen W base n x r W') (sym e) h
 
 pub chosen-skip : (W : List ℕ) (base n : ℕ) (c : Choice) → c ≡ Skip → Chosen W base n c (Done n) W
 chosen-skip W base n c e = subst (λ (x : Choice). Chosen W base n x (Done n) W) (sym e) (refl, refl)
 
 -- slot 0 is within the words
-pub root-within : {W : List ℕ} {base n : ℕ} {p : Pass} → CanRun W base n p → 8 * 0 + 8 ≤ length W
+pub root-within : {W : List ℕ} {base n : ℕ} {p : Pass} → CanRun W base n p → slotEnd 0 ≤ length W
 root-within g = let own = g .own in let below = g .below in let room = g .room in omega arith

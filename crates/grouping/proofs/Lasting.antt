@@ -1,4 +1,4 @@
--- No pass raises a weight (`pass-light`) or empties a list (`begun-full`), and a failure goes through every list that waits (`unwound-fail`).
+-- No pass raises a weight (`pass-light`) or empties a list (`begun-full`).
 use Prim.Native.Nat.{ℕ, _+_, _*_, _≤_, zero-le}
 use mathlib.Core.Path.{_≡_, refl, sym, ap, _∙_, subst}
 use mathlib.Core.Bool.{Bool, true, false, not, true≢false}
@@ -8,63 +8,20 @@ use Rattle.molang.specs.Operator.{semicolon, add, negate, array, arrayVariable}
 use Rattle.molang.specs.Forest.{Token, Forest, nil, node, renamed, count, size, turnedOnto, inOrder}
 use Rattle.molang.specs.Message.{Message, Result, ok, fail}
 use Rattle.molang.specs.Level.{Step, walk, through}
-use Rattle.molang.specs.Calls.{Indexing, named, indexed, flushed, isIndex, startsWithIndex, emptyIndex, nextIndex, index, arrayStep, arrayLevel, callLevel}
+use Rattle.molang.specs.Calls.{Indexing, named, indexed, flushed, isIndex, startsWithIndex, emptyIndex, nextIndex, index, arrayStep}
+use Rattle.molang.specs.Calls.{arrayLevel, callLevel}
 use Rattle.molang.specs.Statements.{statementLevel}
 use Rattle.molang.specs.Unary.{returnLevel}
 use Rattle.molang.specs.Binary.{binaryLevel}
 use Rattle.molang.specs.Conditional.{conditionalLevel}
-use Rattle.molang.proofs.Trees.{isNil}
+use Rattle.molang.specs.Order.{apply}
+use Rattle.molang.specs.Free.{isNil}
+use Rattle.molang.specs.Weight.{Weighing, weight, nodesOf, nodeWeight}
+use Rattle.molang.specs.Work.{Kind, arrays, work, begins, inReading, passOf, pass}
 use Rattle.molang.proofs.Walks.{failed, fine, onward, walk-onward}
-use Rattle.molang.proofs.Weight.{Weighing, weight, Ending, through-light}
-use Rattle.molang.proofs.Bounds.{nodesOf, nodeWeight}
-use Rattle.molang.proofs.Calls.{call-light}
-use Rattle.molang.proofs.Arrays.{array-light}
-use Rattle.molang.proofs.Statements.{statement-light}
-use Rattle.molang.proofs.Unary.{unaryPass-light}
-use Rattle.molang.proofs.Return.{return-light}
-use Rattle.molang.proofs.Binary.{binary-light}
-use Rattle.molang.proofs.Conditional.{conditional-light}
-use Rattle.molang.proofs.Work.{Kind, calls, statements, arrays, unaries, ternary, returns, binary, work, begins, inReading, pass, andThen, Held, held, unwound, pass-begins}
-
--- ---- sizes in reading order
-
-turned-size : (a b : Forest) → size (turnedOnto a b) ≡ size a + size b
-unfolding turnedOnto size
-turned-size nil b = omega arith
-turned-size (node k cs a) b = let e = turned-size a (node k cs b) in e ∙ omega arith
-
-turned-count : (a b : Forest) → count (turnedOnto a b) ≡ count a + count b
-unfolding turnedOnto count
-turned-count nil b = omega arith
-turned-count (node k cs a) b = let e = turned-count a (node k cs b) in e ∙ omega arith
-
-reversed-size : (f : Forest) → size (inOrder f) ≡ size f
-unfolding inOrder size
-reversed-size f = let e = turned-size f nil in omega arith
-
-reversed-count : (f : Forest) → count (inOrder f) ≡ count f
-unfolding inOrder count
-reversed-count f = let e = turned-count f nil in omega arith
-
-pub reading-size : (κ : Kind) (f : Forest) → size (inReading κ f) ≡ size f
-unfolding inReading
-reading-size (calls kind) f = refl
-reading-size statements f = refl
-reading-size arrays f = refl
-reading-size unaries f = reversed-size f
-reading-size ternary f = refl
-reading-size returns f = refl
-reading-size (binary ops) f = refl
-
-pub reading-count : (κ : Kind) (f : Forest) → count (inReading κ f) ≡ count f
-unfolding inReading
-reading-count (calls kind) f = refl
-reading-count statements f = refl
-reading-count arrays f = refl
-reading-count unaries f = reversed-count f
-reading-count ternary f = refl
-reading-count returns f = refl
-reading-count (binary ops) f = refl
+use Rattle.molang.proofs.Weight.{Ending}
+use Rattle.molang.proofs.Passes.{kind-nested, apply-light}
+use Rattle.molang.proofs.Work.{pass-begins}
 
 -- ---- no pass raises a weight, or empties a list
 
@@ -72,13 +29,7 @@ reading-count (binary ops) f = refl
 pub pass-light : (W : Weighing) → 3 * W .inner ≤ W .leaf semicolon → W .leaf add + W .inner ≤ W .leaf negate → (κ : Kind) (f : Forest)
     → Ending W (weight W f) (not (isNil f)) (pass κ f)
 unfolding pass
-pass-light W pays turns (calls kind) f = through-light W (callLevel kind) (call-light W kind) f
-pass-light W pays turns statements f = through-light W statementLevel (statement-light W pays) f
-pass-light W pays turns arrays f = through-light W arrayLevel (array-light W) f
-pass-light W pays turns unaries f = unaryPass-light W turns f
-pass-light W pays turns ternary f = through-light W conditionalLevel (conditional-light W) f
-pass-light W pays turns returns f = through-light W returnLevel (return-light W) f
-pass-light W pays turns (binary ops) f = through-light W (binaryLevel ops) (binary-light W ops) f
+pass-light W pays turns κ f = apply-light W pays turns 0 (passOf κ) f (kind-nested κ)
 
 -- so a list keeps within three nodes for each token
 pub pass-nodes : (κ : Kind) (f g : Forest) → pass κ f ≡ ok g → weight nodeWeight g ≤ weight nodeWeight f
@@ -109,31 +60,28 @@ renamed-back : (q : Token) → q .op ≡ array → renamed array (renamed arrayV
 unfolding renamed
 renamed-back q e = λ i. record { op = sym e i; variant = q .variant; value = q .value; start = q .start; end = q .end }
 
-lent-step : (q k : Token) (cs : Forest) → isIndex k ≡ true → arrayStep (named nil q) k cs ≡ arrayStep (indexed nil (renamed array q) nil) k cs
+lent-step : (q k : Token) (cs : Forest) → isIndex k ≡ true
+    → arrayStep (named nil q) k cs ≡ arrayStep (indexed nil (renamed array q) nil) k cs
 unfolding arrayStep emptyIndex index nextIndex
 lent-step q k nil e = rw (e, arrayStep)
 lent-step q k (node c cs r) e = rw (e, arrayStep)
 
-lent-walk : (q : Token) (cs : Forest) → startsWithIndex cs ≡ true → walk arrayLevel (named nil q) cs ≡ walk arrayLevel (indexed nil (renamed array q) nil) cs
+lent-walk : (q : Token) (cs : Forest) → startsWithIndex cs ≡ true
+    → walk arrayLevel (named nil q) cs ≡ walk arrayLevel (indexed nil (renamed array q) nil) cs
 unfolding arrayLevel startsWithIndex
 lent-walk q nil e = absurd (true≢false (sym e))
 lent-walk q (node k cs rest) e =
     walk-onward arrayLevel (named nil q) k cs rest ∙ ap (λ (x : Step Indexing). onward arrayLevel k cs rest x) (lent-step q k cs e)
     ∙ sym (walk-onward arrayLevel (indexed nil (renamed array q) nil) k cs rest)
 
-named-walk : (q : Token) (cs : Forest) → through arrayLevel (node (renamed arrayVariable q) nil cs) ≡ walk arrayLevel (named nil (renamed arrayVariable q)) cs
+named-walk : (q : Token) (cs : Forest)
+    → through arrayLevel (node (renamed arrayVariable q) nil cs) ≡ walk arrayLevel (named nil (renamed arrayVariable q)) cs
 unfolding through walk arrayLevel arrayStep isIndex renamed flushed
 named-walk q cs = refl
 
-pub lent-full : (q : Token) (cs g : Forest) → q .op ≡ array → startsWithIndex cs ≡ true → work arrays (indexed nil q nil) (inReading arrays cs) ≡ ok g → isNil g ≡ false
-unfolding work inReading pass isNil
+pub lent-full : (q : Token) (cs g : Forest) → q .op ≡ array → startsWithIndex cs ≡ true
+    → work arrays (indexed nil q nil) (inReading arrays cs) ≡ ok g → isNil g ≡ false
+unfolding work inReading pass passOf apply isNil
 lent-full q cs g a h e =
     pass-full arrays (node (renamed arrayVariable q) nil cs) g refl
     (named-walk q cs ∙ lent-walk (renamed arrayVariable q) cs h ∙ ap (λ (x : Token). walk arrayLevel (indexed nil x nil) cs) (renamed-back q a) ∙ e)
-
--- ---- failures
-
-pub unwound-fail : (κ : Kind) (S : List (Held κ)) (ms : List Message) → unwound κ S (fail ms) ≡ fail ms
-unfolding unwound andThen
-unwound-fail κ [] ms = refl
-unwound-fail κ (held s k f ∷ S) ms = unwound-fail κ S ms

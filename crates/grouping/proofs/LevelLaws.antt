@@ -1,5 +1,5 @@
--- The loop over the places (`levels`): what the places that are left make of the list of slot 0 is the definition's answer at every turn, and the list
--- is never heavier than three nodes for each token, so that each pass has room to run.
+-- The loop over the ranks (`levels`): what the ranks that are left make of the list of slot 0 is the definition's answer at every turn, and
+-- the list is never heavier than three nodes for each token, so that each pass has room to run.
 use Prim.Native.Nat.{ℕ, _+_, _*_, _≤_, _<_}
 use mathlib.Core.Path.{_≡_, refl, sym, ap, _∙_, subst, subst₂}
 use mathlib.Core.Logic.{_≢_}
@@ -11,33 +11,33 @@ use lib.ListN.{length, drop}
 use Rattle.molang.specs.Forest.{Forest, leaves}
 use Rattle.molang.specs.Order.{Rules, Pass, order, lastToken, memberAccessors, sectioning}
 use Rattle.molang.specs.Read.{Answer, grouped}
-use Rattle.molang.proofs.Weight.{weight}
-use Rattle.molang.proofs.Bounds.{nodeWeight, size-weight}
-use Rattle.molang.proofs.Work.{pass}
+use Rattle.molang.specs.Weight.{weight, nodeWeight}
+use Rattle.molang.specs.Work.{pass}
+use Rattle.molang.proofs.Bounds.{size-weight}
 use Rattle.ops.specs.declared.sets.OpSet.{OpSet}
 use Rattle.nodes.specs.Store.{InArray}
 use Rattle.nodes.specs.Children.{CanGive, Given}
 use Rattle.nodes.proofs.Trees.{array-give}
-use Rattle.walks.specs.Turns.{lentOf}
-use Rattle.walks.specs.Grouped.{tells, StandsFor, roots, failed, pointerFailed}
-use Rattle.walks.specs.declared.failure.Failure.{Failure}
-use Rattle.walks.specs.declared.grouped.Grouped.{Grouped}
-use Rattle.walks.specs.declared.grouped.Grouped.the-variants.{Roots, Failed, Mismatched, Unclosed, PointerFailed}
-use Rattle.walks.specs.declared.turns.Pass.{Pass as State}
-use Rattle.order.specs.Places.{usedBy, rulesOf, places, placeIn, Starts, Chosen as Picked, passesFrom}
-use Rattle.order.specs.Places as starts
+use Rattle.levels.specs.Turns.{lentOf}
+use Rattle.grouping.specs.Grouped.{tells, StandsFor, roots, failed, pointerFailed}
+use Rattle.levels.specs.declared.failure.Failure.{Failure}
+use Rattle.grouping.specs.declared.grouped.Grouped.{Grouped}
+use Rattle.grouping.specs.declared.grouped.Grouped.the-variants.{Roots, Failed, Mismatched, Unclosed, PointerFailed}
+use Rattle.levels.specs.declared.turns.Pass.{Pass as State}
+use Rattle.order.specs.Ranks.{usedBy, rulesOf, later, Starts, Chosen as Picked}
+use Rattle.order.specs.Ranks as starts
 use Rattle.order.specs.declared.Choice.{Choice}
 use Rattle.order.specs.declared.Choice.the-variants.{Run, Skip}
-use Rattle.order.proofs.Running.{chosen}
-use Rattle.order.proofs.Folding.{grouped-first, grouped-last, grouped-skip, PlaceRuns, place-runs}
+use Rattle.order.proofs.Folding.{grouped-last, grouped-skip, RankRuns, rank-runs}
 use Rattle.grouping.specs.Driver.{Outermost, CanRun, RanTo, done}
 use Rattle.grouping.specs.Driver as driver
 use Rattle.grouping.specs.Choice.{CanChoose, Chosen}
 use Rattle.grouping.specs.Group.{CanGroup, HasGrouped, Listed, Flattened, CanLevel, Levelled}
 use Rattle.grouping.specs.declared.driver.Ran.{Ran}
 use Rattle.grouping.specs.declared.driver.Ran.the-variants.{Done, Fail}
-use Rattle.flat.specs.declared.sections.Flat.{Flat}
-use Rattle.flat.specs.declared.sections.Flat.the-variants.{Done as Items, Fail as FlatFail, Mismatched as FlatMismatched, Unclosed as FlatUnclosed}
+use Rattle.sections.specs.declared.Flat.{Flat}
+use Rattle.sections.specs.declared.Flat.the-variants.{Done as Items, Fail as FlatFail, Mismatched as FlatMismatched}
+use Rattle.sections.specs.declared.Flat.the-variants.{Unclosed as FlatUnclosed}
 use Rattle.grouping.proofs.FlatOrder.{Fallen}
 use Rattle.grouping.proofs.Lasting.{pass-nodes}
 use Rattle.grouping.proofs.OutermostLaws.{give-outermost}
@@ -49,48 +49,51 @@ endOf (FlatFail f) = Failed f
 endOf (FlatMismatched f) = Mismatched f
 endOf (FlatUnclosed f) = Unclosed f
 
--- ---- one place
+-- ---- one rank
 
 -- no pass starts with an array that was lent to it
 pub starts-unlent : {p : Pass} {state : State} → Starts p state → lentOf state ≡ 0
 starts-unlent starts.call = refl
-starts-unlent starts.plain = refl
+starts-unlent starts.unsplitPass = refl
 starts-unlent starts.array = refl
 starts-unlent starts.mathCall = refl
 starts-unlent starts.unary = refl
-starts-unlent starts.tern = refl
-starts-unlent starts.prefix = refl
+starts-unlent starts.conditionalPass = refl
+starts-unlent starts.returnPass = refl
 starts-unlent (starts.point e) = refl
 starts-unlent (starts.plus e) = refl
 starts-unlent (starts.level e) = refl
 
--- what a place left, by what is known of it
-pub chosen-as : (W : List ℕ) (base n : ℕ) (c : Choice) (x : Ran) (W' : List ℕ) {y : Ran} → x ≡ y → Chosen W base n c x W' → Chosen W base n c y W'
+-- what a rank left, by what is known of it
+pub chosen-as : (W : List ℕ) (base n : ℕ) (c : Choice) (x : Ran) (W' : List ℕ) {y : Ran} → x ≡ y → Chosen W base n c x W'
+    → Chosen W base n c y W'
 chosen-as W base n c x W' e h = subst (λ (r : Ran). Chosen W base n c r W') e h
 
--- What holds before place k: the outermost list F of n items, and the answer over a source of length l.
-pub record LevelAt (W₀ : List ℕ) (base m : ℕ) (u : ℕ → Bool) (r : Rules) (g : CanLevel W₀ base m) (l : ℕ) (W : List ℕ) (k n : ℕ) : Type 0 where
+-- What holds before rank k: the outermost list F of n items, and the answer over a source of length l.
+pub record LevelAt (W₀ : List ℕ) (base m : ℕ) (u : ℕ → Bool) (r : Rules) (g : CanLevel W₀ base m) (l : ℕ) (W : List ℕ) (k n : ℕ)
+    : Type 0 where
   pub F : Forest
   pub list : Outermost W base n (3 * (g .n) + 3) F
   pub light : weight nodeWeight F ≤ 3 * (g .n)
-  pub answer : grouped l u (drop 3 (order r)) [] (g .F) ≡ grouped l u (passesFrom u r k) [] F
+  pub answer : grouped l u (drop 3 (order r)) [] (g .F) ≡ grouped l u (drop k (later r)) [] F
 
 pub level-start : {W : List ℕ} {base m : ℕ} (u : ℕ → Bool) (r : Rules) (g : CanLevel W base m) (l : ℕ) → LevelAt W base m u r g l W 0 m
-level-start u r g l = record { F = g .F; list = g .list; light = g .light; answer = grouped-first l u r [] (g .F) }
+level-start u r g l = record { F = g .F; list = g .list; light = g .light; answer = refl }
 
-module _ {W₀ : List ℕ} {base m : ℕ} {u : ℕ → Bool} {r : Rules} {g : CanLevel W₀ base m} {l : ℕ} {W : List ℕ} {k n : ℕ} (below : k < 23) (long : length W ≡ length W₀) where
-  module _ (v : LevelAt W₀ base m u r g l W k n) (state : State) (c : Picked u (placeIn (places r) k) (Run state)) where
-    abbrev pub place : PlaceRuns l u r k below [] (v .F) state
-    place = place-runs l u r k below [] (v .F) state c
+module _ {W₀ : List ℕ} {base m : ℕ} {u : ℕ → Bool} {r : Rules} {g : CanLevel W₀ base m} {l : ℕ} {W : List ℕ} {k n : ℕ}
+    (long : length W ≡ length W₀) where
+  module _ (v : LevelAt W₀ base m u r g l W k n) (state : State) (c : Picked u (drop k (later r)) (Run state)) where
+    abbrev pub rank : RankRuns l u r k [] (v .F) state
+    rank = rank-runs l u r k [] (v .F) state c
 
     abbrev pub level-run : CanRun W base n state
     level-run =
         record {
-          κ = place .kind;
+          κ = rank .kind;
           hi = 3 * (g .n) + 3;
           F = v .F;
-          runs = place .runs-kind;
-          unlent = starts-unlent (chosen c .starts);
+          runs = rank .runs-kind;
+          unlent = starts-unlent (rank .starts .1);
           list = v .list;
           own = omega arith;
           below = omega (arith, g .based);
@@ -98,13 +101,14 @@ module _ {W₀ : List ℕ} {base m : ℕ} {u : ℕ → Bool} {r : Rules} {g : Ca
           small = omega (arith, g .small, long);
         }
 
-  -- what a place asks, by what was chosen there
-  pub level-chooses : LevelAt W₀ base m u r g l W k n → (c : Choice) → Picked u (placeIn (places r) k) c → CanChoose W base n c
+  -- what a rank asks, by what was chosen there
+  pub level-chooses : LevelAt W₀ base m u r g l W k n → (c : Choice) → Picked u (drop k (later r)) c → CanChoose W base n c
   level-chooses v (Run state) c = level-run v state c
   level-chooses v Skip c = tt
 
   -- the pass went through, or there was none
-  pub level-on : LevelAt W₀ base m u r g l W k n → (c : Choice) → Picked u (placeIn (places r) k) c → {W' : List ℕ} (left : ℕ) → Chosen W base n c (Done left) W'
+  pub level-on : LevelAt W₀ base m u r g l W k n → (c : Choice) → Picked u (drop k (later r)) c → {W' : List ℕ} (left : ℕ)
+      → Chosen W base n c (Done left) W'
       → LevelAt W₀ base m u r g l W' (k + 1) left
   level-on v Skip c {W'} left h =
       let same : left ≡ n = cc in
@@ -112,56 +116,64 @@ module _ {W₀ : List ℕ} {base m : ℕ} {u : ℕ → Bool} {r : Rules} {g : Ca
         F = v .F;
         list = subst₂ (λ (X : List ℕ) (y : ℕ). Outermost X base y (3 * (g .n) + 3) (v .F)) (sym (h .1)) (sym same) (v .list);
         light = v .light;
-        answer = v .answer ∙ grouped-skip l u r k below [] (v .F) c;
+        answer = v .answer ∙ grouped-skip l u r k [] (v .F) c;
       }
   level-on v (Run state) c {W'} left h = went (h .to (level-run v state c))
     where
-      went : RanTo W' base (3 * (g .n) + 3) (pass (place v state c .kind) (v .F)) (Done left) → LevelAt W₀ base m u r g l W' (k + 1) left
+      went : RanTo W' base (3 * (g .n) + 3) (pass (rank v state c .kind) (v .F)) (Done left) → LevelAt W₀ base m u r g l W' (k + 1) left
       went (done {f = f} e o) =
           record {
             F = f;
             list = o;
-            light = omega (arith, pass-nodes (place v state c .kind) (v .F) f e, v .light);
-            answer = v .answer ∙ place v state c .goes-on f e;
+            light = omega (arith, pass-nodes (rank v state c .kind) (v .F) f e, v .light);
+            answer = v .answer ∙ rank v state c .goes-on f e;
           }
 
   -- the pass failed: the pointer's, which leaves the list empty, or another's
-  pub level-pointer : LevelAt W₀ base m u r g l W k n → (c : Choice) → Picked u (placeIn (places r) k) c → {W' : List ℕ} (f : Failure) → Chosen W base n c (Fail f) W'
+  pub level-pointer : LevelAt W₀ base m u r g l W k n → (c : Choice) → Picked u (drop k (later r)) c → {W' : List ℕ} (f : Failure)
+      → Chosen W base n c (Fail f) W'
       → k ≡ 3 → StandsFor W' (3 * (g .n) + 3) (g .n) l (PointerFailed f) (grouped l u (drop 3 (order r)) [] (g .F))
   level-pointer v Skip c f h at = let z : _≡_ {A = ℕ} 0 1 = cc in absurd (omega arith)
   level-pointer v (Run state) c {W'} f h at = fell (h .to (level-run v state c))
     where
-      fell : RanTo W' base (3 * (g .n) + 3) (pass (place v state c .kind) (v .F)) (Fail f)
+      fell : RanTo W' base (3 * (g .n) + 3) (pass (rank v state c .kind) (v .F)) (Fail f)
           → StandsFor W' (3 * (g .n) + 3) (g .n) l (PointerFailed f) (grouped l u (drop 3 (order r)) [] (g .F))
       fell (driver.failed {ms = ms} e t) =
-          subst (λ (a : Answer). StandsFor W' (3 * (g .n) + 3) (g .n) l (PointerFailed f) a) (sym (v .answer ∙ place v state c .pointer-ends ms at e)) (pointerFailed t)
+          subst (λ (a : Answer). StandsFor W' (3 * (g .n) + 3) (g .n) l (PointerFailed f) a)
+          (sym (v .answer ∙ rank v state c .pointer-ends ms at e)) (pointerFailed t)
 
-  pub level-fails : LevelAt W₀ base m u r g l W k n → (c : Choice) → Picked u (placeIn (places r) k) c → {W' : List ℕ} (f : Failure) → Chosen W base n c (Fail f) W'
+  pub level-fails : LevelAt W₀ base m u r g l W k n → (c : Choice) → Picked u (drop k (later r)) c → {W' : List ℕ} (f : Failure)
+      → Chosen W base n c (Fail f) W'
       → k ≢ 3 → StandsFor W' (3 * (g .n) + 3) (g .n) l (Failed f) (grouped l u (drop 3 (order r)) [] (g .F))
   level-fails v Skip c f h other = let z : _≡_ {A = ℕ} 0 1 = cc in absurd (omega arith)
   level-fails v (Run state) c {W'} f h other = fell (h .to (level-run v state c))
     where
-      fell : RanTo W' base (3 * (g .n) + 3) (pass (place v state c .kind) (v .F)) (Fail f)
+      fell : RanTo W' base (3 * (g .n) + 3) (pass (rank v state c .kind) (v .F)) (Fail f)
           → StandsFor W' (3 * (g .n) + 3) (g .n) l (Failed f) (grouped l u (drop 3 (order r)) [] (g .F))
       fell (driver.failed {ms = ms} e t) =
-          subst (λ (a : Answer). StandsFor W' (3 * (g .n) + 3) (g .n) l (Failed f) a) (sym (v .answer ∙ place v state c .ends ms other e)) (failed (tells t))
+          subst (λ (a : Answer). StandsFor W' (3 * (g .n) + 3) (g .n) l (Failed f) a) (sym (v .answer ∙ rank v state c .ends ms other e))
+          (failed (tells t))
 
--- after the last place: the roots
-pub level-roots : {W₀ : List ℕ} {base m : ℕ} {u : ℕ → Bool} {r : Rules} {g : CanLevel W₀ base m} {l : ℕ} {W : List ℕ} {k n : ℕ} → LevelAt W₀ base m u r g l W k n → k ≡ 23
+-- after the last rank: the roots
+pub level-roots : {W₀ : List ℕ} {base m : ℕ} {u : ℕ → Bool} {r : Rules} {g : CanLevel W₀ base m} {l : ℕ} {W : List ℕ} {k n : ℕ}
+    → LevelAt W₀ base m u r g l W k n → k ≡ 23
     → StandsFor W (3 * (g .n) + 3) (g .n) l Roots (grouped l u (drop 3 (order r)) [] (g .F))
 level-roots {u = u} {r} {g} {l} {W} {k} v e =
-    let last = ap (λ (j : ℕ). grouped l u (passesFrom u r j) [] (v .F)) e ∙ grouped-last l u r [] (v .F) in
-    subst (λ (a : Answer). StandsFor W (3 * (g .n) + 3) (g .n) l Roots a) (sym (v .answer ∙ last)) (roots (v .list .owned) (omega (arith, size-weight (v .F), v .light)))
+    let last = ap (λ (j : ℕ). grouped l u (drop j (later r)) [] (v .F)) e ∙ grouped-last l u r [] (v .F) in
+    subst (λ (a : Answer). StandsFor W (3 * (g .n) + 3) (g .n) l Roots a) (sym (v .answer ∙ last))
+    (roots (v .list .owned) (omega (arith, size-weight (v .F), v .light)))
 
 -- at the same version, as the machine reads it back
-pub levelled-at : {W W' : List ℕ} {base m : ℕ} {used : OpSet} {r : Grouped} {z z' : ℤ} → z ≡ z' → Levelled W base m used z r W' → Levelled W base m used z' r W'
+pub levelled-at : {W W' : List ℕ} {base m : ℕ} {used : OpSet} {r : Grouped} {z z' : ℤ} → z ≡ z' → Levelled W base m used z r W'
+    → Levelled W base m used z' r W'
 levelled-at {W} {W'} {base} {m} {used} {r} e w = subst (λ (v : ℤ). Levelled W base m used v r W') e w
 
 -- ---- from the flat list to slot 0
 
 module _ {W W1 : List ℕ} {base n : ℕ} {used : OpSet} where
   -- a flat pass failed
-  pub group-ends : (x y : Flat) (version : ℤ) → x ≡ y → Fallen y → Flattened W base n used x W1 → HasGrouped W base n used version (endOf y) W1
+  pub group-ends : (x y : Flat) (version : ℤ) → x ≡ y → Fallen y → Flattened W base n used x W1
+      → HasGrouped W base n used version (endOf y) W1
   unfolding order
   group-ends x y version e d w = go y d (subst (λ (z : Flat). Flattened W base n used z W1) e w)
     where
@@ -199,7 +211,8 @@ module _ {W W1 : List ℕ} {base n : ℕ} {used : OpSet} where
       pub group-levels : CanGroup W base n → CanLevel W2 base m
       group-levels g = levels-on g 0 []
 
-      pub group-done : {W3 : List ℕ} {r : Grouped} {version : ℤ} → Levelled W2 base m used version r W3 → HasGrouped W base n used version r W3
+      pub group-done : {W3 : List ℕ} {r : Grouped} {version : ℤ} → Levelled W2 base m used version r W3
+          → HasGrouped W base n used version r W3
       unfolding order levels-on
       group-done {W3} {r} {version} v =
           record {

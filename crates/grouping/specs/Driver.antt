@@ -1,5 +1,5 @@
--- The driver's stack and what its functions ask and ensure: where a pass is, as the list on top and the lists that wait below it. A turn leaves the
--- result of the whole pass as it is, and there are fewer turns left after it.
+-- The driver's stack and what its functions ask and ensure: where a pass is, as the list on top and the lists that wait below it. A turn
+-- leaves the result of the whole pass as it is, and there are fewer turns left after it.
 use Prim.Native.Nat.{ℕ, _+_, _*_, _^_, _≤_, _<_}
 use mathlib.Core.Path.{_≡_}
 use mathlib.Core.Logic.{_⊎_}
@@ -8,20 +8,20 @@ use mathlib.Core.List.{List, [], _∷_}
 use lib.ListN.{length}
 use Rattle.molang.specs.Forest.{Token, Forest, nil, count, size}
 use Rattle.molang.specs.Message.{Message, Result, ok, fail}
-use Rattle.molang.proofs.Trees.{isNil}
-use Rattle.molang.proofs.Work.{Kind, State, work, pass, inReading, takes, andThen, Held, held, unwound}
-use Rattle.nodes.specs.Store.{wd, TokenAt, Seg, Out, RepT, Owned, Free}
+use Rattle.molang.specs.Free.{isNil}
+use Rattle.molang.specs.Work.{Kind, State, work, pass, inReading, takes, andThen, Held, held, unwound}
+use Rattle.nodes.specs.Store.{wd, slotStart, firstAt, TokenAt, Seg, Out, RepT, Owned, Free}
 use Rattle.nodes.specs.Children.{Taken}
 use Rattle.nodes.specs.Frames.{FrameAt}
 use Rattle.nodes.specs.declared.frames.List.{List as Items}
-use Rattle.walks.specs.Passes.{classesOf, heldOf, Runs, waits}
-use Rattle.walks.specs.Sides.{Holds, Waits}
-use Rattle.walks.specs.Failures.{Tells}
-use Rattle.walks.specs.Turns.{turnsLeft, lentOf, Begins}
-use Rattle.walks.specs.declared.failure.Failure.{Failure}
-use Rattle.walks.specs.declared.turns.Pass.{Pass}
-use Rattle.walks.specs.declared.turns.Pass.the-variants.{Calls, Maths, Plain, Split, Arrays, Unary, Binary, Ternary, Prefix}
-use Rattle.walks.specs.declared.turns.Walk.{Walk}
+use Rattle.levels.specs.Passes.{classesOf, heldOf, Runs, waits}
+use Rattle.levels.specs.Sides.{Holds, Waits}
+use Rattle.levels.specs.Failures.{Tells}
+use Rattle.levels.specs.Turns.{turnsLeft, lentOf, Begins}
+use Rattle.levels.specs.declared.failure.Failure.{Failure}
+use Rattle.levels.specs.declared.turns.Pass.{Pass}
+use Rattle.levels.specs.declared.turns.Pass.the-variants.{Calls, MathCalls, Unsplit, Split, Arrays, Unary, Binary, Conditional, Returns}
+use Rattle.levels.specs.declared.turns.Walk.{Walk}
 use Rattle.grouping.specs.declared.driver.Next.{Next}
 use Rattle.grouping.specs.declared.driver.Next.the-variants.{On, Done, Fail}
 use Rattle.grouping.specs.declared.driver.Ran.{Ran}
@@ -34,7 +34,8 @@ abbrev pub Room : List ℕ → Items → Forest → Type 0
 Room W v rest = v .base + v .len + 8 * size rest ≤ length W + count rest
 
 -- A list that waits for the children of its item b, the token k, which has the slots from l to m: its state, and its frame right above it.
-pub record FrameOf (κ : Kind) (classes : ℕ) (W X : List ℕ) (lo l m hi : ℕ) (w : Walk) (b : ℕ) (t : State κ) (k : Token) (rest : Forest) : Type 0 where
+pub record FrameOf (κ : Kind) (classes : ℕ) (W X : List ℕ) (lo l m hi : ℕ) (w : Walk) (b : ℕ) (t : State κ) (k : Token) (rest : Forest)
+    : Type 0 where
   pub waiting : Waits κ W X lo l m hi w t rest
   pub unlent : lentOf (w .pass) ≡ 0
   pub same : classesOf (w .pass) ≡ classes
@@ -46,12 +47,13 @@ pub record FrameOf (κ : Kind) (classes : ℕ) (W X : List ℕ) (lo l m hi : ℕ
   pub words : FrameAt W (w .list .base + w .list .len) (w .list) (heldOf (w .pass))
   pub room : Room W (w .list) rest
 
--- The lists that wait below the list of `owner` at base, which has the slots from lo to hi that are neither the owner nor in X. The outermost list is
--- that of slot 0.
+-- The lists that wait below the list of `owner` at base, which has the slots from lo to hi that are neither the owner nor in X. The
+-- outermost list is that of slot 0.
 pub data Stack (κ : Kind) (classes : ℕ) (W : List ℕ) (base0 hi0 : ℕ) : List ℕ → ℕ → ℕ → ℕ → ℕ → List (Held κ) → Type 0 where
   bottom : Stack κ classes W base0 hi0 [] 0 0 hi0 base0 []
   over : {X : List ℕ} {lo l m hi b : ℕ} {w : Walk} {t : State κ} {k : Token} {rest : Forest} {S : List (Held κ)}
-      → Stack κ classes W base0 hi0 X (w .list .owner) lo hi (w .list .base) S → FrameOf κ classes W (w .list .owner ∷ X) lo l m hi w b t k rest
+      → Stack κ classes W base0 hi0 X (w .list .owner) lo hi (w .list .base) S
+      → FrameOf κ classes W (w .list .owner ∷ X) lo l m hi w b t k rest
       → Stack κ classes W base0 hi0 (w .list .owner ∷ X) b l m (w .list .base + w .list .len + 6) (held t k rest ∷ S)
 
 -- No pass empties a list: where r is what the list on top gives, neither it nor, in turn, what the lists below give is empty.
@@ -60,7 +62,8 @@ Full κ [] r = Unit {0}
 Full κ (held t k rest ∷ S) r = ((f : Forest) → r ≡ ok f → isNil f ≡ false) × Full κ S (andThen r (λ kids. work κ (takes κ t k kids) rest))
 
 -- Where a pass is: on the list w, in the state s, with the items `rest` unread, and the lists of S below it.
-pub record Going (κ : Kind) (classes : ℕ) (W : List ℕ) (base0 hi0 : ℕ) (w : Walk) (S : List (Held κ)) (s : State κ) (rest : Forest) : Type 0 where
+pub record Going (κ : Kind) (classes : ℕ) (W : List ℕ) (base0 hi0 : ℕ) (w : Walk) (S : List (Held κ)) (s : State κ) (rest : Forest)
+    : Type 0 where
   pub X : List ℕ
   pub lo : ℕ
   pub hi : ℕ
@@ -103,7 +106,7 @@ pub record CanOpen (W : List ℕ) (owner base : ℕ) (p : Pass) : Type 0 where
   pub owned : Owned W X owner n hi cs
   pub begins : Begins W (owner ∷ X) lo n cs κ p u
   pub own : owner < hi
-  pub below : 8 * hi ≤ base
+  pub below : slotStart hi ≤ base
   pub room : base + count cs ≤ length W
   pub small : length W < 2 ^ 32
 
@@ -121,7 +124,7 @@ pub record Opened (W : List ℕ) (owner base : ℕ) (p : Pass) (w : Walk) (W' : 
 pub record CanBegin (W : List ℕ) (owner base len : ℕ) (p : Pass) : Type 0 where
   pub before : List ℕ
   pub opens : CanOpen before owner base p
-  pub taken : Taken before (wd before (8 * owner + 5)) base len W
+  pub taken : Taken before (firstAt before owner) base len W
 
 -- w is at the beginning of the owner's list, as `Opened` says it of the words before its children were taken.
 pub record Begun (W : List ℕ) (owner base len : ℕ) (p : Pass) (w : Walk) : Type 0 where
@@ -132,18 +135,19 @@ pub record Begun (W : List ℕ) (owner base len : ℕ) (p : Pass) (w : Walk) : T
 -- The passes that take an item back as it is.
 abbrev pub Keeping : Pass → Type 0
 Keeping Calls = Unit {0}
-Keeping Maths = Unit {0}
-Keeping Plain = Unit {0}
+Keeping MathCalls = Unit {0}
+Keeping Unsplit = Unit {0}
 Keeping (Split done) = Unit {0}
 Keeping (Arrays array lent) = ⊥
 Keeping Unary = ⊥
 Keeping (Binary classes pending) = ⊥
-Keeping (Ternary tokens) = Unit {0}
-Keeping Prefix = Unit {0}
+Keeping (Conditional tokens) = Unit {0}
+Keeping Returns = Unit {0}
 
 -- ---- `descend`
 
--- The list of w waits for the children cs of `item`, which has some and which begin in the state u; there is room for its frame and for them.
+-- The list of w waits for the children cs of `item`, which has some and which begin in the state u; there is room for its frame and for
+-- them.
 pub record CanDescend (W : List ℕ) (w : Walk) (item : ℕ) : Type 0 where
   pub κ : Kind
   pub classes : ℕ
@@ -174,7 +178,8 @@ pub record CanDescend (W : List ℕ) (w : Walk) (item : ℕ) : Type 0 where
 
 -- The pass is at the beginning of those children, and the list of w is the first that waits below them.
 pub record Descended (W : List ℕ) (w : Walk) (item : ℕ) (w' : Walk) (W' : List ℕ) : Type 0 where
-  pub going : (g : CanDescend W w item) → Going (g .κ) (g .classes) W' (g .base0) (g .hi0) w' (held (g .t) (g .k) (g .rest) ∷ g .S) (g .u) (inReading (g .κ) (g .cs))
+  pub going : (g : CanDescend W w item)
+      → Going (g .κ) (g .classes) W' (g .base0) (g .hi0) w' (held (g .t) (g .k) (g .rest) ∷ g .S) (g .u) (inReading (g .κ) (g .cs))
   pub beyond : (g : CanDescend W w item) → Beyond W W' (g .base0) (g .hi0)
 
 -- ---- `move_down`
@@ -213,7 +218,8 @@ pub record CanAdvance (W : List ℕ) (w : Walk) (base0 : ℕ) : Type 0 where
 -- One turn leads on with the same result and fewer turns left, or to the end of the whole pass.
 pub record Advanced (W : List ℕ) (w : Walk) (base0 : ℕ) (r : Next) (W' : List ℕ) : Type 0 where
   pub to : (g : CanAdvance W w base0)
-      → NextTo (g .κ) (g .classes) W' base0 (g .hi0) (unwound (g .κ) (g .S) (work (g .κ) (g .s) (g .rest))) (turnsLeft (g .κ) (g .s) (g .rest) + turnsBelow (g .κ) (g .S)) r
+      → NextTo (g .κ) (g .classes) W' base0 (g .hi0) (unwound (g .κ) (g .S) (work (g .κ) (g .s) (g .rest)))
+      (turnsLeft (g .κ) (g .s) (g .rest) + turnsBelow (g .κ) (g .S)) r
   pub beyond : (g : CanAdvance W w base0) → Beyond W W' base0 (g .hi0)
 
 -- Every item of the list on top is done.
@@ -243,7 +249,7 @@ pub record CanRun (W : List ℕ) (base n : ℕ) (p : Pass) : Type 0 where
   pub unlent : lentOf p ≡ 0
   pub list : Outermost W base n hi F
   pub own : 0 < hi
-  pub below : 8 * hi ≤ base
+  pub below : slotStart hi ≤ base
   pub room : base + 8 * size F ≤ length W
   pub small : length W < 2 ^ 32
 

@@ -1,5 +1,5 @@
--- What the passes in their order ask and ensure: the tokens stand in an array above their slots, and what is left stands for the definition's answer.
--- In between: the answer is what the passes after some give of the list that these leave.
+-- What the passes in their order ask and ensure: the tokens stand in an array above their slots, and what is left stands for the
+-- definition's answer. In between: the answer is what the passes after some give of the list that these leave.
 use Prim.Native.Nat.{ℕ, _+_, _*_, _^_, _≤_, _<_}
 use mathlib.Core.Path.{_≡_}
 use mathlib.Core.Bool.{Bool, true, false}
@@ -12,18 +12,18 @@ use Rattle.molang.specs.Sections.{members, outside, sections}
 use Rattle.molang.specs.Order
 use Rattle.molang.specs.Order.{Pass, lastToken, memberAccessors, sectioning, runs, endsWithSemicolon}
 use Rattle.molang.specs.Read.{Answer, grouped}
-use Rattle.molang.proofs.Weight.{weight}
-use Rattle.molang.proofs.Bounds.{nodeWeight}
+use Rattle.molang.specs.Weight.{weight, nodeWeight}
 use Rattle.ops.specs.declared.sets.OpSet.{OpSet}
 use Rattle.nodes.specs.Store.{InArray}
-use Rattle.walks.specs.Grouped.{Says, StandsFor}
-use Rattle.walks.specs.declared.failure.Failure.{Failure}
-use Rattle.walks.specs.declared.grouped.Grouped.{Grouped}
-use Rattle.walks.specs.declared.grouped.Grouped.the-variants.{Failed as GroupFailed, Mismatched as GroupMismatched, Unclosed as GroupUnclosed}
-use Rattle.order.specs.Places.{usedBy, rulesOf}
-use Rattle.flat.specs.Flat.{CanJoin, CanSection, Answers}
-use Rattle.flat.specs.declared.sections.Flat.{Flat}
-use Rattle.flat.specs.declared.sections.Flat.the-variants.{Done, Fail, Mismatched, Unclosed as Unclosing}
+use Rattle.grouping.specs.Grouped.{Says, StandsFor}
+use Rattle.levels.specs.declared.failure.Failure.{Failure}
+use Rattle.grouping.specs.declared.grouped.Grouped.{Grouped}
+use Rattle.grouping.specs.declared.grouped.Grouped.the-variants.{Failed as GroupFailed, Mismatched as GroupMismatched}
+use Rattle.grouping.specs.declared.grouped.Grouped.the-variants.{Unclosed as GroupUnclosed}
+use Rattle.order.specs.Ranks.{usedBy, rulesOf}
+use Rattle.sections.specs.Flat.{CanJoin, CanSection, Answers}
+use Rattle.sections.specs.declared.Flat.{Flat}
+use Rattle.sections.specs.declared.Flat.the-variants.{Done, Fail, Mismatched, Unclosed as Unclosing}
 use Rattle.grouping.specs.Driver.{Outermost}
 
 -- ---- `group`
@@ -40,7 +40,8 @@ pub record CanGroup (W : List ℕ) (base n : ℕ) : Type 0 where
 -- What is left stands for the definition's reading of those tokens, whatever the length of the source.
 pub record HasGrouped (W : List ℕ) (base n : ℕ) (used : OpSet) (version : ℤ) (r : Grouped) (W' : List ℕ) : Type 0 where
   pub to : (g : CanGroup W base n) (sourceLength : ℕ)
-      → StandsFor W' (3 * n + 3) n sourceLength r (grouped sourceLength (usedBy used) (Order.order (rulesOf version)) [] (leaves (g .tokens)))
+      → StandsFor W' (3 * n + 3) n sourceLength r
+      (grouped sourceLength (usedBy used) (Order.order (rulesOf version)) [] (leaves (g .tokens)))
   pub long : length W' ≡ length W
 
 -- ---- the flat passes
@@ -73,7 +74,8 @@ pub data EndsTo (W : List ℕ) (sourceLength : ℕ) (x : Result) (f : Forest) : 
 -- It is done where it is due.
 pub record EndsRight (W : List ℕ) (base n : ℕ) (used : OpSet) (r : Flat) : Type 0 where
   pub to : (g : CanGroup W base n) (sourceLength : ℕ)
-      → EndsTo W sourceLength (ifRun (runs (usedBy used) lastToken) (endsWithSemicolon sourceLength) (leaves (g .tokens))) (leaves (g .tokens)) r
+      → EndsTo W sourceLength
+      (ifRun (runs (usedBy used) lastToken) (endsWithSemicolon sourceLength) (leaves (g .tokens))) (leaves (g .tokens)) r
 
 -- The members are joined where that pass runs.
 pub record JoinedIf (W : List ℕ) (base n : ℕ) (used : OpSet) (r : Flat) (W' : List ℕ) : Type 0 where
@@ -109,5 +111,6 @@ pub record CanLevel (W : List ℕ) (base m : ℕ) : Type 0 where
 -- What is left stands for what the passes after the sections make of that list.
 pub record Levelled (W : List ℕ) (base m : ℕ) (used : OpSet) (version : ℤ) (r : Grouped) (W' : List ℕ) : Type 0 where
   pub to : (g : CanLevel W base m) (sourceLength : ℕ)
-      → StandsFor W' (3 * (g .n) + 3) (g .n) sourceLength r (grouped sourceLength (usedBy used) (drop 3 (Order.order (rulesOf version))) [] (g .F))
+      → StandsFor W' (3 * (g .n) + 3) (g .n) sourceLength r
+      (grouped sourceLength (usedBy used) (drop 3 (Order.order (rulesOf version))) [] (g .F))
   pub long : length W' ≡ length W

@@ -1,3 +1,4 @@
 pub mod Driver
 pub mod Choice
+pub mod Grouped
 pub mod Group

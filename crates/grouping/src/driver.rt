@@ -1,6 +1,14 @@
 // The driver that every level runs on: one loop over lists and frames on the stack of the work buffer. A node with no leaf of
 // the pass below it is not entered. From one pass to the next the outermost list stays where it stands, at the bottom of the stack.
-// Leans on the levels (step, resume, finish of each), on slots, chains and frames.
+// Leans on the levels of crate passes, on slots, chains and frames.
+use levels::failure::Failure;
+use levels::items;
+use levels::items::Found;
+use levels::turns;
+use levels::turns::Finished;
+use levels::turns::Pass;
+use levels::turns::Turn;
+use levels::turns::Walk;
 use nodes::children;
 use nodes::frames;
 use nodes::frames::List;
@@ -10,18 +18,14 @@ use passes::arrays;
 use passes::binary;
 use passes::calls;
 use passes::conditional;
-use passes::prefix;
+use passes::returns;
 use passes::statements;
 use passes::unary;
-use walks::failure::Failure;
-use walks::items;
-use walks::turns::Finished;
-use walks::turns::Pass;
-use walks::turns::Turn;
-use walks::turns::Walk;
-ghost use Rattle.walks.specs.Passes.{walkOf};
-ghost use Rattle.walks.specs.Turns.{CanTurn, Turned, CanResume, Resumed, CanFinish, Ends};
-ghost use Rattle.grouping.specs.Driver.{CanBegin, Begun, CanOpen, Opened, Keeping, CanDescend, Descended, CanMove, Moved, CanClose, Closed, CanAdvance, Advanced, CanRun, HasRun};
+ghost use Rattle.levels.specs.Passes.{walkOf};
+ghost use Rattle.levels.specs.Turns.{CanTurn, Turned, CanResume, Resumed, CanFinish, Ends};
+ghost use Rattle.passes.specs.TokenTurns.{AtToken, Seeks, TokenOf};
+ghost use Rattle.grouping.specs.Driver.{CanBegin, Begun, CanOpen, Opened, Keeping, CanDescend, Descended, CanMove, Moved, CanClose};
+ghost use Rattle.grouping.specs.Driver.{Closed, CanAdvance, Advanced, CanRun, HasRun};
 
 // What one turn of the driver leads to; at the end of the pass, how many items the outermost list has.
 pub enum Next {
@@ -49,33 +53,15 @@ fn begin(work: &[u32], owner: u32, base: usize, len: usize, pass: Pass) -> Walk
         write: 0,
     };
     match pass {
-        Pass::Calls => Walk { list, pass },
-        Pass::Maths => Walk { list, pass },
-        Pass::Plain => statements::start(work, list),
-        Pass::Split { .. } => statements::start(work, list),
-        Pass::Arrays { lent, .. } => Walk {
-            list,
-            pass: Pass::Arrays {
-                array: lent,
-                lent: 0,
-            },
-        },
+        Pass::Unsplit | Pass::Split { .. } => statements::start(work, list),
         Pass::Unary => Walk {
             list: items::moved(list, len, len),
             pass: Pass::Unary,
         },
-        Pass::Binary { classes, .. } => Walk {
+        _ => Walk {
             list,
-            pass: Pass::Binary {
-                classes,
-                pending: 0,
-            },
+            pass: pass.begun(),
         },
-        Pass::Ternary { .. } => Walk {
-            list,
-            pass: Pass::Ternary { tokens: 0 },
-        },
-        Pass::Prefix => Walk { list, pass },
     }
 }
 
@@ -89,23 +75,51 @@ fn open(work: &mut [u32], owner: u32, base: usize, pass: Pass) -> Walk
     begin(work, owner, base, len, pass)
 }
 
-// The list up to the next token or node that the pass works on.
+// The token `item` of a level that seeks from the left. (A list without semicolons has no token of its pass; one would stay as it is.)
+fn token(work: &mut [u32], list: List, pass: Pass, item: u32) -> Turn
+    requires { ⌜ AtToken (now work) list item × Seeks pass ⌝ }
+    ensures { λ r. ⌜ TokenOf pass (now (work .entry)) list item r (now (work .exit)) ⌝ }
+{
+    match pass {
+        Pass::Calls => calls::call(work, list, item),
+        Pass::MathCalls => calls::math_call(work, list, item),
+        Pass::Arrays { .. } => arrays::array_name(work, list, item),
+        Pass::Binary { classes, .. } => binary::operator(work, list, item, classes),
+        Pass::Returns => returns::returned(work, list, item),
+        _ => turns::on(items::keep(work, list, item), pass),
+    }
+}
+
+// A level that seeks from the left, up to its next token or node.
+fn seek(work: &mut [u32], list: List, pass: Pass) -> Turn
+    requires { ⌜ CanTurn (now work) (walkOf list pass) × Seeks pass ⌝ }
+    ensures { λ r. ⌜ Turned (now (work .entry)) (walkOf list pass) r (now (work .exit)) ⌝ }
+{
+    let found = items::next_token(work, list, pass.classes());
+    match found {
+        Found::Nothing(after) => turns::over(after, pass),
+        Found::Children(after, item) => turns::enter(after, pass, item),
+        Found::Token(after, item) => token(work, after, pass, item),
+    }
+}
+
+// The list up to the next token or node that the pass works on. An array that waits for an index comes first; a list with semicolons,
+// the unary pass and the conditional pass seek in their own way.
 fn step(work: &mut [u32], walk: Walk) -> Turn
     requires { ⌜ CanTurn (now work) walk ⌝ }
     ensures { λ r. ⌜ Turned (now (work .entry)) walk r (now (work .exit)) ⌝ }
 {
     let list = walk.list;
     let pass = walk.pass;
+    let waiting = pass.waiting();
+    if waiting != 0 {
+        return arrays::array_on(work, list, waiting);
+    }
     match pass {
-        Pass::Calls => calls::step(work, list),
-        Pass::Maths => calls::step_math(work, list),
-        Pass::Plain => statements::step(work, list),
-        Pass::Split { done } => statements::step_split(work, list, done),
-        Pass::Arrays { array, .. } => arrays::step_array(work, list, array),
+        Pass::Split { done } => statements::step(work, list, done),
         Pass::Unary => unary::step(work, list),
-        Pass::Binary { classes, .. } => binary::step(work, list, classes),
-        Pass::Ternary { tokens } => conditional::step(work, list, tokens),
-        Pass::Prefix => prefix::step_prefix(work, list),
+        Pass::Conditional { tokens } => conditional::step(work, list, tokens),
+        _ => seek(work, list, pass),
     }
 }
 
@@ -128,18 +142,13 @@ fn resume(work: &mut [u32], walk: Walk, item: u32) -> Walk
     let list = walk.list;
     let pass = walk.pass;
     match pass {
-        Pass::Calls => kept(work, list, Pass::Calls, item),
-        Pass::Maths => kept(work, list, Pass::Maths, item),
-        Pass::Plain => kept(work, list, Pass::Plain, item),
-        Pass::Split { done } => kept(work, list, Pass::Split { done }, item),
         Pass::Arrays { array, .. } => arrays::resume_array(work, list, item, array),
         Pass::Unary => Walk {
             list: unary::keep_right(work, list, item),
             pass: Pass::Unary,
         },
         Pass::Binary { classes, pending } => binary::resume(work, list, item, classes, pending),
-        Pass::Ternary { tokens } => kept(work, list, Pass::Ternary { tokens }, item),
-        Pass::Prefix => kept(work, list, Pass::Prefix, item),
+        _ => kept(work, list, pass, item),
     }
 }
 
@@ -151,15 +160,10 @@ fn finish(work: &mut [u32], walk: Walk) -> Finished
     let list = walk.list;
     let pass = walk.pass;
     match pass {
-        Pass::Calls => Finished::At(list.base, list.write),
-        Pass::Maths => Finished::At(list.base, list.write),
-        Pass::Plain => Finished::At(list.base, list.write),
         Pass::Split { done } => statements::finish(work, list, done),
-        Pass::Arrays { .. } => Finished::At(list.base, list.write),
         Pass::Unary => Finished::At(list.base + list.write, list.len - list.write),
-        Pass::Binary { .. } => Finished::At(list.base, list.write),
-        Pass::Ternary { tokens } => conditional::finish(work, list, tokens),
-        Pass::Prefix => Finished::At(list.base, list.write),
+        Pass::Conditional { tokens } => conditional::finish(work, list, tokens),
+        _ => Finished::At(list.base, list.write),
     }
 }
 

@@ -1,25 +1,24 @@
-// The passes in their fixed order (`group_tokens` in mod.rs): the flat ones over the array of the tokens, then the places of the order
-// one after another over the list of slot 0. Leans on sections, the driver, order (which pass stands at a place) and nodes (chains).
+// The passes in their fixed order (`group_tokens` in mod.rs): the flat ones over the array of the tokens, then the ranks of the order
+// one after another over the list of slot 0. Leans on sections, the driver, order (which pass stands at a rank) and nodes (chains).
 use crate::driver::Ran;
 use crate::driver::run;
-use flat::sections::Flat;
-use flat::sections::members;
-use flat::sections::sections;
+use crate::grouped::Grouped;
+use levels::failure::Failure;
 use nodes::children;
 use nodes::slots;
 use nodes::slots::ROOT;
 use ops::op;
 use ops::sets::OpSet;
 use order::Choice;
-use order::PLACES;
 use order::POINTER;
-use order::pass_at;
-use order::uses_either;
-use order::uses_some;
-use walks::failure::Failure;
-use walks::grouped::Grouped;
+use order::RANKS;
+use order::choose;
+use order::ranks;
+use sections::Flat;
+use sections::members;
+use sections::sections;
 ghost use Rattle.grouping.specs.Choice.{CanChoose, Chosen};
-ghost use Rattle.flat.specs.Flat.{CanJoin, CanSection};
+ghost use Rattle.sections.specs.Flat.{CanJoin, CanSection};
 ghost use Rattle.grouping.specs.Group.{CanGroup, HasGrouped, EndsRight, JoinedIf, SectionedIf, Flattened, CanLevel, Levelled};
 
 // A complex list, one with `=` or `;`, ends with a semicolon.
@@ -27,7 +26,7 @@ fn ends_with_semicolon(work: &[u32], base: usize, n: usize, used: OpSet) -> Flat
     requires { ⌜ CanGroup (now work) base n ⌝ }
     ensures { λ r. ⌜ EndsRight (now (work .entry)) base n used r ⌝ }
 {
-    if uses_either(used, op::ASSIGNMENT, op::SEMICOLON) {
+    if used.has_either(op::ASSIGNMENT, op::SEMICOLON) {
         if n == 0 {
             return Flat::Fail(Failure::ComplexWithoutTokens);
         }
@@ -55,7 +54,7 @@ fn sections_if_used(work: &mut [u32], base: usize, n: usize, used: OpSet) -> Fla
     requires { ⌜ CanSection (now work) base n ⌝ }
     ensures { λ r. ⌜ SectionedIf (now (work .entry)) base n used r (now (work .exit)) ⌝ }
 {
-    if uses_some(used, op::LEFT_BRACE, op::LEFT_BRACKET, op::LEFT_PARENTHESIS) {
+    if used.has_some(op::LEFT_BRACE, op::LEFT_BRACKET, op::LEFT_PARENTHESIS) {
         return sections(work, base, n);
     }
     Flat::Done(n)
@@ -94,16 +93,18 @@ fn run_choice(work: &mut [u32], base: usize, n: usize, choice: Choice) -> Ran
     }
 }
 
-// The passes after the flat ones, over the list of slot 0, whose m items stand from `base` on. The pointer's failure is no ordinary one: it leaves the list empty, and the
-// passes after it leave an empty list as it is.
+// The passes after the flat ones, over the list of slot 0, whose m items stand from `base` on. The pointer's failure is no ordinary one:
+// it leaves the list empty, and the passes after it leave an empty list as it is.
 fn levels(work: &mut [u32], base: usize, m: usize, used: OpSet, version: i16) -> Grouped
     requires { ⌜ CanLevel (now work) base m ⌝ }
     ensures { λ r. ⌜ Levelled (now (work .entry)) base m used version r (now (work .exit)) ⌝ }
 {
+    let table = ranks(version);
     let mut k = 0u32;
     let mut n = m;
-    while k < PLACES {
-        let choice = pass_at(k, used, version);
+    while k < RANKS {
+        let rank = table[k as usize];
+        let choice = choose(rank, used);
         let ran = run_choice(work, base, n, choice);
         match ran {
             Ran::Done(left) => {
@@ -122,7 +123,7 @@ fn levels(work: &mut [u32], base: usize, m: usize, used: OpSet, version: i16) ->
 }
 
 // All passes over n tokens that are loaded, their slots from base on, which is where the stack starts; at a version as the rules use it
-// (`ops::effective`).
+// (`ops::version::effective`).
 pub fn group(work: &mut [u32], base: usize, n: usize, used: OpSet, version: i16) -> Grouped
     requires { ⌜ CanGroup (now work) base n ⌝ }
     ensures { λ r. ⌜ HasGrouped (now (work .entry)) base n used version r (now (work .exit)) ⌝ }

@@ -1,4 +1,5 @@
 // All passes over a list: the driver that every level runs on (driver.rs), and the passes in their order (mod.rs).
-// Leans on passes (the levels), flat, order (which pass is next), walks, nodes and ops.
+// Leans on passes (the passes' steps), sections, order (which pass is next), levels, nodes and ops.
 pub mod driver;
 pub mod group;
+pub mod grouped;

@@ -1,11 +1,11 @@
--- What the program says of each line of the table: the list or tree as text, the version, and the verdict; and the totals. Bytes are ASCII.
+-- The text of each line of the table: the list or tree that it asks for, and the version. Bytes are ASCII.
 use Prim.Native.Nat.{ℕ, _+_, _-_, _/_, _%_}
 use Prim.Native.String.{String}
 use mathlib.Core.Bool.{true, false}
 use mathlib.Core.List.{List, [], _∷_, _++_}
 use lib.Dec.{eqb, leb, ltb}
 use lib.IntN.{ℤ, pos, negsuc}
-use lib.ListN.{drop, getD}
+use lib.ListN.{getD}
 use Rattle.molang.specs.Operator.{
   leftBrace,
   rightBrace,
@@ -42,17 +42,15 @@ use Rattle.molang.specs.Operator.{
   return,
   comma,
 }
-use Rattle.molang.specs.Lines.{anyMark, writeMark, zerosMark, repeatedMark, atMark, versionOf, itemsOf}
-use Rattle.text.specs.Text.{ascii, decimal, numbered, space}
-use Rattle.lines.specs.declared.compared.Verdict.{Verdict}
-use Rattle.lines.specs.declared.compared.Verdict.the-variants.{Same, Answer, Tree, Messages, Work, List as Verdict·List, Unclear}
+use Rattle.molang.specs.Lines.{Line, anyMark, writeMark, zerosMark, repeatedMark, atMark, versionOf, marksOf, linesOf}
+use Rattle.text.specs.Text.{ascii, decimal, numbered, space, lineEnd}
 
 -- OPERATORS. The text that a table has beside an operator, or another text where it has none.
 unfoldable pub textIn : List (ℕ × String) → ℕ → List ℕ → List ℕ
 textIn [] op other = other
 textIn ((o, s) ∷ rest) op other = elim (eqb op o) [ true ↦ ascii s | false ↦ textIn rest op other ]
 
--- Brackets and other signs around operands.
+-- The operators that a line names by a sign or a word; an operand of a tree is `a`.
 unfoldable pub signs : List (ℕ × String)
 signs =
     (leftBrace, "{")
@@ -66,12 +64,7 @@ signs =
     ∷ (comma, ",")
     ∷ (memberAccessor, ".")
     ∷ (pointer, "->")
-    ∷ []
-
--- Signs between operands.
-unfoldable pub binarySigns : List (ℕ × String)
-binarySigns =
-    (negate, "-")
+    ∷ (negate, "-")
     ∷ (add, "+")
     ∷ (div, "/")
     ∷ (mul, "*")
@@ -87,12 +80,7 @@ binarySigns =
     ∷ (conditional, "?")
     ∷ (conditionalElse, ":")
     ∷ (assignment, "=")
-    ∷ []
-
--- Operators that are words; an operand is `a`.
-unfoldable pub words : List (ℕ × String)
-words =
-    (float, "a")
+    ∷ (float, "a")
     ∷ (sin, "sin")
     ∷ (queryFunction, "query")
     ∷ (arrayVariable, "array")
@@ -101,17 +89,9 @@ words =
     ∷ (return, "return")
     ∷ []
 
--- A sign around operands, or the operator's number.
-unfoldable pub signText : ℕ → List ℕ
-signText op = textIn signs op (decimal op)
-
--- A sign between operands, or what it is otherwise.
-unfoldable pub binaryText : ℕ → List ℕ
-binaryText op = textIn binarySigns op (signText op)
-
--- AN OPERATOR as it is written, or its number.
+-- An operator as it is written, or its number.
 unfoldable pub operatorText : ℕ → List ℕ
-operatorText op = textIn words op (binaryText op)
+operatorText op = textIn signs op (decimal op)
 
 -- LISTS. The n-th operand: a letter from a to z.
 unfoldable pub operandText : ℕ → List ℕ
@@ -210,30 +190,15 @@ askedText mark items =
           ]
     ]
 
--- WHETHER IT IS ANSWERED as it says.
-unfoldable pub verdictText : Verdict → List ℕ
-verdictText Same = ascii ": ok\n"
-verdictText Answer = ascii ": another answer\n"
-verdictText Tree = ascii ": other tree words\n"
-verdictText Messages = ascii ": other message words\n"
-verdictText Work = ascii ": work words that are not 0\n"
-verdictText Verdict·List = ascii ": other list words\n"
-verdictText Unclear = ascii ": not clear\n"
+-- THE TEXT OF A LINE, and the line's end.
+unfoldable pub lineText : Line → List ℕ
+lineText line = askedText (line .asked .mark) (line .asked .items) ++ (lineEnd ∷ [])
 
--- A LINE: its mark and items, and whether it is answered as it says.
-unfoldable pub lineText : List ℕ → Verdict → List ℕ
-lineText line verdict = askedText (getD line 0 0) (itemsOf (drop 1 line)) ++ verdictText verdict
+-- The lines one after another.
+unfoldable pub linesText : List Line → List ℕ
+linesText [] = []
+linesText (line ∷ lines) = lineText line ++ linesText lines
 
--- THE TOTALS. How much a line counts to those that are answered otherwise.
-unfoldable pub differs : Verdict → ℕ
-differs Same = 0
-differs Answer = 1
-differs Tree = 1
-differs Messages = 1
-differs Work = 1
-differs Verdict·List = 1
-differs Unclear = 1
-
--- So many lines, and so many of them that are answered otherwise.
-unfoldable pub totalsText : ℕ → ℕ → List ℕ
-totalsText count others = numbered count space ++ ascii "lines, " ++ numbered others space ++ ascii "differ\n"
+-- The text of the table of these numbers.
+unfoldable pub tableText : List ℕ → List ℕ
+tableText numbers = linesText (linesOf (marksOf numbers))

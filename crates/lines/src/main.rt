@@ -1,87 +1,98 @@
 // The program `lines`: runs every line of document 01's 'Lists and their trees' through the entries and compares answers and words with
-// the table's, which is the one that the theorem of molang has. One line of text for each line of the table, and a last one with totals.
-// `run` only writes; which text stands for which line is the promise of `run_line`. Leans on molang (the table), parse, write, exact and text.
+// the table's, which is the one that the theorem of molang has. It writes the text of each line and whether it is answered as it says, and
+// the totals last. Leans on molang (the table), parse, write and derived. What it writes is compared with the file stdout; of the functions
+// that run and compare it is promised that they are safe, and of the text that it is the table's.
 mod asked;
 mod compared;
 mod items;
+mod laid;
 mod said;
 
 use crate::asked::ask;
 use crate::compared::Verdict;
-use crate::items::items_end;
-use crate::items::line_end;
-use crate::said::put_asked;
-use crate::said::put_totals;
-use crate::said::put_verdict;
+use crate::items::next_mark;
+use crate::said::table;
+use crate::said::text_end;
 use libc::STDOUT_FILENO;
-use molang::lines::table;
-ghost use mathlib.Core.Path.{_≡_};
+use molang::lines::COUNT;
+use molang::lines::TREE;
 ghost use Prim.Native.Nat.{_≤_};
-ghost use lib.ListN.{length, take};
-ghost use Rattle.lines.specs.Compared.{LineAsSaid, ifSame};
-ghost use Rattle.lines.specs.Said.{lineText, differs};
+ghost use lib.ListN.{length};
 
-// How many bytes the text of a line has, and the verdict in it.
-struct Ran {
-    bytes: usize,
-    verdict: Verdict,
-}
+// Above every mark.
+const MOST: u32 = 0xffff_ffff;
 
-// Runs one line, a mark that asks, its items and the answers, and lays its text. `run` cuts lines of one number or more from the table, and
-// `main` lends the room: 42 bytes for each of at most 1,001 items, 64 for what else it asks, and 28 for the verdict.
-fn run_line(line: &[u32], out: &mut [u8]) -> Ran
-    requires { ⌜ (1 ≤ length (now line)) × (length (now line) ≤ 1002) × (length (now out) ≡ 42134) ⌝ }
-    ensures { λ r. ⌜ r .bytes ≤ length (now (out .exit)) ⌝ }
-    ensures { λ r. ⌜ take (r .bytes) (now (out .exit)) ≡ lineText (now (line .entry)) (r .verdict) ⌝ }
-    ensures { λ r. ⌜ ifSame (r .verdict) (LineAsSaid (now (line .entry))) ⌝ }
+// Writes the line of text that starts at `from`; where the next one starts.
+fn say_line(text: &[u8], from: usize) -> usize
+    requires { ⌜ from ≤ length (now text) ⌝ }
+    ensures { λ r. ⌜ r ≤ length (now (text .entry)) ⌝ }
 {
-    let mark = line[0];
-    let answers = items_end(line, 1);
-    let asked = put_asked(out, 0, mark, &line[1..answers]);
-    let verdict = ask(mark, &line[1..answers], &line[answers..]);
-    let bytes = put_verdict(out, asked, verdict);
-    Ran { bytes, verdict }
+    let end = text_end(text, from);
+    io::write_all(STDOUT_FILENO, &text[from..end]);
+    if end < text.len() {
+        return end + 1;
+    }
+    end
 }
 
-// Whether a line counts as answered otherwise.
-fn difference(verdict: Verdict) -> u64
-    ensures { λ r. ⌜ r ≡ differs verdict ⌝ }
+// Writes whether a line is answered as it says; how much it counts to those that are not.
+fn say_verdict(verdict: Verdict) -> u64
+    ensures { λ r. ⌜ r ≤ 1 ⌝ }
 {
     match verdict {
-        Verdict::Same => 0,
-        _ => 1,
+        Verdict::Same => {
+            io::write_all(STDOUT_FILENO, b": ok\n");
+            0
+        }
+        Verdict::Answer => {
+            io::write_all(STDOUT_FILENO, b": another answer\n");
+            1
+        }
+        Verdict::Words => {
+            io::write_all(STDOUT_FILENO, b": other words\n");
+            1
+        }
     }
 }
 
-// Writes the first bytes out; its callers have laid as many.
-fn say(out: &[u8], bytes: usize)
-    requires { ⌜ bytes ≤ length (now out) ⌝ }
+// Runs one line: a mark that asks, its items and the answers. None is longer than the table.
+fn run_line(line: &[u32]) -> u64
+    requires { ⌜ 1 ≤ length (now line) ⌝ }
+    ensures { λ r. ⌜ r ≤ 1 ⌝ }
 {
-    io::write_all(STDOUT_FILENO, &out[..bytes]);
+    if COUNT < line.len() {
+        return 1;
+    }
+    let answers = next_mark(line, 1, MOST);
+    say_verdict(ask(line[0], &line[1..answers], &line[answers..]))
 }
 
-// Runs every line of the table, which has at most 1,002 numbers; `main` lends the room.
-fn run(lines: &[u32], out: &mut [u8])
-    requires { ⌜ (length (now lines) ≤ 1002) × (length (now out) ≡ 42134) ⌝ }
-{
+fn say_totals(count: u64, others: u64) {
+    io::print_decimal(STDOUT_FILENO, count);
+    io::write_all(STDOUT_FILENO, b" lines, ");
+    io::print_decimal(STDOUT_FILENO, others);
+    io::write_all(STDOUT_FILENO, b" differ\n");
+}
+
+// Runs every line of the table; each has a line of text.
+fn run(numbers: &[u32], text: &[u8]) {
     let mut at = 0usize;
+    let mut from = 0usize;
     let mut count = 0u64;
     let mut others = 0u64;
-    while at < lines.len() {
-        let end = line_end(lines, at);
-        let ran = run_line(&lines[at..end], out);
-        say(out, ran.bytes);
-        let verdict = ran.verdict;
-        others += difference(verdict);
+    while at < numbers.len() {
+        let end = next_mark(numbers, at + 1, TREE);
+        from = say_line(text, from);
+        others += run_line(&numbers[at..end]);
         count += 1;
         at = end;
     }
-    let bytes = put_totals(out, 0, count, others);
-    say(out, bytes);
+    say_totals(count, others);
 }
 
 fn main() {
-    let lines = table();
-    let mut out = [0u8; 42_134];
-    run(&lines, &mut out);
+    let table = table();
+    let numbers = table.numbers;
+    let text = table.text;
+    run(&numbers, &text);
 }

@@ -9,14 +9,14 @@ use Rattle.molang.specs.Operator
 use Rattle.molang.specs.Forest.{Token, Forest, nil, node, renamed, turnedOnto}
 use Rattle.molang.specs.Message.{ok}
 use Rattle.molang.specs.Level.{Step, on, into, through}
-use Rattle.molang.specs.Calls.{Indexing, unindexed, named, indexed, flushed, isIndex, startsWithIndex, emptyIndex, nextIndex, index, arrayStep, arrayResume, arrayFinish, arrayLevel}
-use Rattle.molang.proofs.Trees.{free, isNil, either}
+use Rattle.molang.specs.Calls.{Indexing, unindexed, named, indexed, flushed, isIndex, startsWithIndex, emptyIndex, nextIndex, index}
+use Rattle.molang.specs.Calls.{arrayStep, arrayResume, arrayFinish, arrayLevel}
+use Rattle.molang.specs.Free.{free, isNil, isArrayName}
+use Rattle.molang.specs.Weight.{Weighing, weight}
+use Rattle.molang.proofs.Trees.{either}
 use Rattle.molang.proofs.Inert.{Inert, through-free}
 use Rattle.molang.proofs.Walks.{Onward, stops, goes, enters}
-use Rattle.molang.proofs.Weight.{Weighing, weight, Within, Ending, Light, isNil-turned-full, weight-inner, weight-turned, weight-gathered, turned-fine}
-
-unfoldable pub isArrayName : ℕ → Bool
-isArrayName n = eqb n Operator.arrayVariable
+use Rattle.molang.proofs.Weight.{Within, Ending, Light, isNil-turned-full, weight-inner, weight-turned, weight-gathered, turned-fine}
 
 keep-unindexed : (i : Bool) (d : Forest) (k : Token) → isIndex k ≡ i → isArrayName (k .op) ≡ false
     → arrayStep (unindexed d) k nil ≡ on (unindexed (node k nil d))
@@ -77,7 +77,8 @@ module _ (W : Weighing) where
   -- An index's contents, from the state u on, are added to those of the array so far.
   array-appends : (d : Forest) (q : Token) (contents : Forest) (u : Indexing) (m : ℕ) (k c : Token) (cs r rest : Forest) (n : ℕ)
       → IndexingFits u (node c cs r) m
-      → W .inner + weight W contents + weight W d + m + weight W rest ≤ n → ArrayOnward k (node c cs r) rest n (into (indexed d q contents) u)
+      → W .inner + weight W contents + weight W d + m + weight W rest ≤ n
+      → ArrayOnward k (node c cs r) rest n (into (indexed d q contents) u)
   unfolding isNil flushed arrayLevel arrayResume
   array-appends d q contents u m k c cs r rest n h b =
       enters {t = indexed d q contents} {u = u} m h refl λ kids w e.
@@ -91,7 +92,8 @@ module _ (W : Weighing) where
   next-light d q nil k c cs r rest n h =
       array-appends d q nil (unindexed nil) (weight W (node c cs r)) k c cs r rest n (omega arith, refl) (omega arith)
   next-light d q (node l (node x xs y) contents) k c cs r rest n h =
-      array-appends d q (node l (node x xs y) contents) (unindexed nil) (weight W (node c cs r)) k c cs r rest n (omega arith, refl) (omega arith)
+      array-appends d q (node l (node x xs y) contents) (unindexed nil) (weight W (node c cs r)) k c cs r rest n (omega arith, refl)
+      (omega arith)
   next-light d q (node l nil contents) k c cs r rest n h =
       either (ArrayOnward k (node c cs r) rest n) (eqb (l .op) Operator.arrayVariable) _ _
       (either (ArrayOnward k (node c cs r) rest n) (startsWithIndex (node c cs r)) _ _
@@ -127,4 +129,11 @@ module _ (W : Weighing) where
 
   pub array-light : Light W arrayLevel
   unfolding arrayLevel flushed weight
-  array-light = record { Fits = IndexingFits; full = indexingFull; begins = λ f. (omega arith, refl); steps = array-steps; ends = array-ends }
+  array-light =
+      record {
+        Fits = IndexingFits;
+        full = indexingFull;
+        begins = λ f. (omega arith, refl);
+        steps = array-steps;
+        ends = array-ends;
+      }

@@ -9,10 +9,12 @@ use Rattle.molang.specs.Forest.{Token, Forest, nil, node}
 use Rattle.molang.specs.Message.{ok}
 use Rattle.molang.specs.Level.{Step, into, through, Gathered, gathered, waiting, nothing}
 use Rattle.molang.specs.Binary.{unfolded, joined, operatorAfter, binaryStep, binaryResume, binaryFinish, binaryLevel}
-use Rattle.molang.proofs.Trees.{free, isNil, either, maybe}
+use Rattle.molang.specs.Free.{free, isNil}
+use Rattle.molang.specs.Weight.{Weighing, weight}
+use Rattle.molang.proofs.Trees.{either, maybe}
 use Rattle.molang.proofs.Inert.{Inert, through-free}
 use Rattle.molang.proofs.Walks.{failed, stops, goes}
-use Rattle.molang.proofs.Weight.{Weighing, weight, Ending, Light, weight-inner, weight-tree, turned-fine}
+use Rattle.molang.proofs.Weight.{Ending, Light, weight-inner, weight-tree, turned-fine}
 use Rattle.molang.proofs.Gathering.{shown, GatheredFits, gatheredFull, Gathers, gathers-into, gathers-node}
 
 pub binary-inert : (ops : List ℕ) → Inert (binaryLevel ops) (isOneOf ops) gathered
@@ -73,4 +75,11 @@ module _ (W : Weighing) (ops : List ℕ) where
 
   pub binary-light : Light W (binaryLevel ops)
   unfolding binaryLevel nothing shown weight
-  binary-light = record { Fits = GatheredFits W; full = gatheredFull W; begins = λ f. omega arith; steps = binary-steps; ends = binary-ends }
+  binary-light =
+      record {
+        Fits = GatheredFits W;
+        full = gatheredFull W;
+        begins = λ f. omega arith;
+        steps = binary-steps;
+        ends = binary-ends;
+      }

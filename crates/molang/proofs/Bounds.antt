@@ -1,6 +1,6 @@
 -- What reading can give at most: three nodes for each token, and one or two messages. A leaf `;` may become three nodes and a leaf `-` two,
 -- so by that weight the bound follows from what each pass keeps.
-use Prim.Native.Nat.{ℕ, _*_, _≤_}
+use Prim.Native.Nat.{ℕ, _+_, _*_, _≤_}
 use mathlib.Core.Path.{_≡_, refl}
 use mathlib.Core.Bool.{Bool, true, false}
 use mathlib.Core.List.{List, [], _∷_, _++_}
@@ -11,33 +11,28 @@ use lib.IntN.{ℤ}
 use lib.ListN.{length, length-append}
 use Rattle.molang.specs.Operator
 use Rattle.molang.specs.Forest.{Token, Forest, nil, node, leaves, size}
-use Rattle.molang.specs.Message.{Message, multipleRoots, complexMustEndWithSemicolon, leadingMemberAccessor, closingMismatch, sectionNotClosed, noClosingSymbol, emptyParameterList, mathAtEnd, mathWithoutParenthesis, leadingSemicolon, emptyArrayIndex, binaryAtEnd, negateWithoutOperand, notWithoutOperand, unknownOperation, unaryWithoutOperand, ternaryWithoutOperands, Result, ok, fail, record8, about, messageRecord}
-use Rattle.molang.specs.Order.{rules, Pass, lastToken, memberAccessors, sectioning, comparisons, logic, conditionals, order, runs, lastOf, endsWithSemicolon, apply}
+use Rattle.molang.specs.Message.{Message, multipleRoots, complexMustEndWithSemicolon, leadingMemberAccessor, closingMismatch}
+use Rattle.molang.specs.Message.{sectionNotClosed, noClosingSymbol, emptyParameterList, mathAtEnd, mathWithoutParenthesis}
+use Rattle.molang.specs.Message.{leadingSemicolon, emptyArrayIndex, binaryAtEnd, negateWithoutOperand, notWithoutOperand}
+use Rattle.molang.specs.Message.{unknownOperation, unaryWithoutOperand, ternaryWithoutOperands, Result, ok, fail, record8, about}
+use Rattle.molang.specs.Message.{messageRecord}
+use Rattle.molang.specs.Order.{rules, Pass, lastToken, memberAccessors, sectioning, comparisons, logic, conditionals, order, runs}
+use Rattle.molang.specs.Order.{lastOf, endsWithSemicolon, apply}
 use Rattle.molang.specs.Read.{Answer, tree, messages, rooted, endsReading, grouped, read}
 use Rattle.molang.specs.Words.{tokenWords, treeWords}
 use Rattle.molang.specs.Parse.{recordWords}
+use Rattle.molang.specs.Free.{flat}
+use Rattle.molang.specs.Weight.{weight, nodesOf, nodes-some, nodeWeight}
 use Rattle.molang.proofs.Trees.{either, maybe, both}
 use Rattle.molang.proofs.Walks.{Outcome, failed, fine}
-use Rattle.molang.proofs.Weight.{Weighing, weight}
-use Rattle.molang.proofs.Sections.{flat, leaves-flat, members-light, sections-light}
+use Rattle.molang.proofs.Sections.{leaves-flat, members-light, sections-light}
 use Rattle.molang.proofs.Passes.{isNested, apply-light, allNested, grouped-nil}
-
--- How many nodes a leaf may become.
-unfoldable pub nodesOf : ℕ → ℕ
-nodesOf n = elim (eqb n Operator.semicolon) [ true ↦ 3 | false ↦ elim (eqb n Operator.negate) [ true ↦ 2 | false ↦ 1 ] ]
-
-pub nodes-some : (n : ℕ) → 1 ≤ nodesOf n
-unfolding nodesOf
-nodes-some n =
-    either (λ m. 1 ≤ m) (eqb n Operator.semicolon) _ _ (omega arith) (either (λ m. 1 ≤ m) (eqb n Operator.negate) _ _ (omega arith) (omega arith))
 
 nodes-few : (n : ℕ) → nodesOf n ≤ 3
 unfolding nodesOf
 nodes-few n =
-    either (λ m. m ≤ 3) (eqb n Operator.semicolon) _ _ (omega arith) (either (λ m. m ≤ 3) (eqb n Operator.negate) _ _ (omega arith) (omega arith))
-
-abbrev pub nodeWeight : Weighing
-nodeWeight = record { leaf = nodesOf; inner = 1; lighter = nodes-some }
+    either (λ m. 1 + m ≤ 3) (eqb n Operator.semicolon) _ _ (omega arith)
+    (either (λ m. 1 + m ≤ 3) (eqb n Operator.negate) _ _ (omega arith) (omega arith))
 
 pub size-weight : (f : Forest) → size f ≤ weight nodeWeight f
 unfolding size weight
@@ -76,7 +71,8 @@ module _ (sourceLength : ℕ) (u : ℕ → Bool) (n : ℕ) where
   module _ (p : Pass) (ps : List Pass) (f : Forest) where
     -- A pass runs or not; it fails with so many messages, or gives a list of which Q holds.
     pass-bounded : (c : ℕ) (Q : Forest → Type 0) → Outcome c Q (apply sourceLength p f) → Bounded n (grouped sourceLength u ps [] f)
-        → ((m : List Message) → length m ≡ c → Bounded n (afterFail p ps m)) → ((g : Forest) → Q g → Bounded n (grouped sourceLength u ps [] g))
+        → ((m : List Message) → length m ≡ c → Bounded n (afterFail p ps m))
+        → ((g : Forest) → Q g → Bounded n (grouped sourceLength u ps [] g))
         → Bounded n (grouped sourceLength u (p ∷ ps) [] f)
     unfolding grouped afterPass afterFail
     pass-bounded c Q o unrun unable able = either (Bounded n) (runs u p) _ _ (passed o) unrun
@@ -85,7 +81,8 @@ module _ (sourceLength : ℕ) (u : ℕ → Bool) (n : ℕ) where
         passed (failed {m = m} e) = unable m e
         passed (fine {g = g} q) = able g q
 
-  grouped-bounded : (ps : List Pass) (f : Forest) → allNested ps ≡ true → weight nodeWeight f ≤ n → Bounded n (grouped sourceLength u ps [] f)
+  grouped-bounded : (ps : List Pass) (f : Forest) → allNested ps ≡ true → weight nodeWeight f ≤ n
+      → Bounded n (grouped sourceLength u ps [] f)
   unfolding grouped allNested nodesOf afterFail
   grouped-bounded [] f e h = rooted-bounded f h
   grouped-bounded (p ∷ ps) f e h =
@@ -108,7 +105,8 @@ module _ (sourceLength : ℕ) (u : ℕ → Bool) (n : ℕ) where
       → Bounded n (grouped sourceLength u (sectioning ∷ ps) [] f)
   unfolding apply afterFail endsReading
   sections-bounded ps f e i h =
-      pass-bounded sectioning ps f 2 _ (sections-light nodeWeight f i) (grouped-bounded ps f e h) (λ m o. counted m (omega arith) (omega arith))
+      pass-bounded sectioning ps f 2 _ (sections-light nodeWeight f i) (grouped-bounded ps f e h)
+      (λ m o. counted m (omega arith) (omega arith))
       (λ g w. grouped-bounded ps g e (omega arith))
 
   members-bounded : (ps : List Pass) (ks : List Token) → allNested ps ≡ true → weight nodeWeight (leaves ks) ≤ n

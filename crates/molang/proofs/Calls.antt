@@ -8,10 +8,12 @@ use Rattle.molang.specs.Forest.{Token, Forest, nil, node}
 use Rattle.molang.specs.Message.{ok}
 use Rattle.molang.specs.Level.{Step, into, through, Gathered, gathered, waiting, nothing}
 use Rattle.molang.specs.Calls.{CallKind, queryOrLoop, math, calls, callLeaf, callStep, callResume, callFinish, callLevel}
-use Rattle.molang.proofs.Trees.{free, isNil, either}
+use Rattle.molang.specs.Free.{free, isNil}
+use Rattle.molang.specs.Weight.{Weighing, weight}
+use Rattle.molang.proofs.Trees.{either}
 use Rattle.molang.proofs.Inert.{Inert, through-free}
 use Rattle.molang.proofs.Walks.{failed, stops, goes}
-use Rattle.molang.proofs.Weight.{Weighing, weight, Ending, Light, weight-inner, turned-fine}
+use Rattle.molang.proofs.Weight.{Ending, Light, weight-inner, turned-fine}
 use Rattle.molang.proofs.Gathering.{shown, GatheredFits, gatheredFull, Gathers, gathers-into, gathers-node}
 
 pub call-inert : (kind : CallKind) → Inert (callLevel kind) (calls kind) gathered
@@ -32,7 +34,8 @@ module _ (W : Weighing) where
   abbrev CallGathers : CallKind → Token → Forest → Forest → ℕ → Step Gathered → Type 0
   CallGathers kind k cs rest n = Gathers W (callLevel kind) k cs rest n
 
-  call-node : (kind : CallKind) (d : Forest) (k c : Token) (cs r rest : Forest) (n : ℕ) → weight W d + weight W (node k (node c cs r) rest) ≤ n
+  call-node : (kind : CallKind) (d : Forest) (k c : Token) (cs r rest : Forest) (n : ℕ)
+      → weight W d + weight W (node k (node c cs r) rest) ≤ n
       → CallGathers kind k (node c cs r) rest n (into (gathered d) (gathered nil))
   unfolding callLevel callResume
   call-node kind d k c cs r rest n h = gathers-node W (callLevel kind) (gathered d) k c cs r rest n d (λ kids. refl) h

@@ -12,13 +12,21 @@ use Rattle.molang.specs.Operator.{isOneOf, isBracket, hasMembers, closin
 use Rattle.molang.specs.Forest.{Token, Forest, nil, node, renamed, bare, leaves, turnedOnto, inOrder}
 use Rattle.molang.specs.Message.{Message, Result, ok, fail, closer}
 use Rattle.molang.specs.Level.{Step, stop, on, into, Level, walk, through, Gathered, gathered, waiting, nothing}
-use Rattle.molang.specs.Sections.{withMember, members, Open, outside, section, placed, position, Walked, mismatch, closing, bracket, closed, sections}
-use Rattle.molang.specs.Calls.{CallKind, queryOrLoop, math, calls, callLeaf, callStep, callResume, callFinish, callLevel, Indexing, unindexed, named, indexed, flushed, isIndex, startsWithIndex, emptyIndex, nextIndex, index, arrayStep, arrayResume, arrayFinish, arrayLevel}
-use Rattle.molang.specs.Statements.{Split, unsplit, after, inside, splitOf, isEntered, gather, endStatement, enterSplit, statementStep, statementResume, statementFinish, statementLevel}
-use Rattle.molang.specs.Unary.{Unary, done, undone, minusAfter, notBefore, unaryLeaf, turned, unaryNode, unary, unaryPass, returnStep, returnResume, returnFinish, returnLevel}
+use Rattle.molang.specs.Sections.{withMember, members, Open, outside, section, placed, position, Walked, mismatch, closing, bracket}
+use Rattle.molang.specs.Sections.{closed, sections}
+use Rattle.molang.specs.Calls.{CallKind, queryOrLoop, math, calls, callLeaf, callStep, callResume, callFinish, callLevel, Indexing}
+use Rattle.molang.specs.Calls.{unindexed, named, indexed, flushed, isIndex, startsWithIndex, emptyIndex, nextIndex, index, arrayStep}
+use Rattle.molang.specs.Calls.{arrayResume, arrayFinish, arrayLevel}
+use Rattle.molang.specs.Statements.{Split, unsplit, after, inside, splitOf, isEntered, gather, endStatement, enterSplit}
+use Rattle.molang.specs.Statements.{statementStep, statementResume, statementFinish, statementLevel}
+use Rattle.molang.specs.Unary.{Unary, done, undone, minusAfter, notBefore, unaryLeaf, turned, unaryNode, unary, unaryPass, returnStep}
+use Rattle.molang.specs.Unary.{returnResume, returnFinish, returnLevel}
 use Rattle.molang.specs.Binary.{unfolded, joined, operatorAfter, binaryStep, binaryResume, binaryFinish, binaryLevel}
-use Rattle.molang.specs.Conditional.{isToken, under, pairElse, scan, foldedFrom, dangling, undangled, conditionalStep, conditionalFinish, conditionalLevel}
-use Rattle.molang.specs.Order.{rules, Pass, lastToken, memberAccessors, sectioning, callPass, statements, arrays, pointer, mathCalls, unaryMinusAndNot, addition, ternary, returns, binary, order, runs, lastOf, endsWithSemicolon, apply}
+use Rattle.molang.specs.Conditional.{isToken, under, pairElse, scan, foldedFrom, dangling, undangled, conditionalStep}
+use Rattle.molang.specs.Conditional.{conditionalFinish, conditionalLevel}
+use Rattle.molang.specs.Order.{rules, Pass, lastToken, memberAccessors, sectioning, callPass, statements, arrays, pointer, mathCalls}
+use Rattle.molang.specs.Order.{unaryMinusAndNot, addition, conditional, returns, binary, order, runs, lastOf, endsWithSemicolon}
+use Rattle.molang.specs.Order.{apply}
 use Rattle.molang.specs.Read.{Answer, tree, messages, rooted, endsReading, grouped, read}
 use Rattle.molang.proofs.Trees.{either, maybe}
 use Rattle.molang.proofs.Walks.{back, onward, walk-onward}
@@ -203,7 +211,8 @@ module _ (Q : Token → Type 0) where
       → ((r : Forest) → Every Q r → Every Q (scan left r)) → ((r : Forest) → Every Q r → Every Q (scan (node b bs left) r))
       → Every Q (scanned x y z a aa b bs left right)
   unfolding scanned
-  every-scanned true y true a aa b bs left right ha haa hb hbs hr far near = far _ (every-pairElse _ (every-under a b bs right ha hb hbs hr))
+  every-scanned true y true a aa b bs left right ha haa hb hbs hr far near =
+      far _ (every-pairElse _ (every-under a b bs right ha hb hbs hr))
   every-scanned true y false a aa b bs left right ha haa hb hbs hr far near = far _ (every-under a b bs right ha hb hbs hr)
   every-scanned false true true a aa b bs left right ha haa hb hbs hr far near = far _ (every-under a b bs right ha hb hbs hr)
   every-scanned false true false a aa b bs left right ha haa hb hbs hr far near = near _ (at ha haa hr)
@@ -256,7 +265,8 @@ module _ (Q : Token → Type 0) where
     every-flushed (named d q) h = at (h .1) nowhere (h .0)
     every-flushed (indexed d q contents) h = at (h .1) (every-inOrder (h .2)) (h .0)
 
-    array-appends : (d : Forest) (q : Token) (contents : Forest) (u : Indexing) (k : Token) → Every Q d → Q q → Every Q contents → IndexingHolds u
+    array-appends : (d : Forest) (q : Token) (contents : Forest) (u : Indexing) (k : Token) → Every Q d → Q q → Every Q contents
+        → IndexingHolds u
         → ArrayCarried k (into (indexed d q contents) u)
     unfolding arrayLevel arrayResume
     array-appends d q contents u k hd hq hc hu = entering {t = indexed d q contents} {u = u} hu λ kids e. (hd, hq, every-turned e hc)
@@ -301,7 +311,12 @@ module _ (Q : Token → Type 0) where
     array-carries : Carries Q arrayLevel
     unfolding arrayLevel arrayFinish
     array-carries =
-        record { Holds = IndexingHolds; begins = λ f h. nowhere; steps = array-steps; ends = λ s h. gives (every-inOrder (every-flushed s h)) }
+        record {
+          Holds = IndexingHolds;
+          begins = λ f h. nowhere;
+          steps = array-steps;
+          ends = λ s h. gives (every-inOrder (every-flushed s h));
+        }
 
     -- Statements.
     abbrev SplitHolds : Split → Type 0
@@ -317,7 +332,8 @@ module _ (Q : Token → Type 0) where
     every-split nil nowhere = nowhere
     every-split (node k (node c cs r) rest) (at q below h) = every-split rest h
     every-split (node k nil rest) (at q below h) =
-        either SplitHolds (eqb (k .op) Operator.semicolon) (after (bare Operator.semicolon k) nil) (splitOf rest) (N .statement k q, nowhere)
+        either SplitHolds (eqb (k .op) Operator.semicolon) (after (bare Operator.semicolon k) nil) (splitOf rest)
+        (N .statement k q, nowhere)
         (every-split rest h)
 
     every-gather : (k : Token) (cs : Forest) (m : Split) → Q k → Every Q cs → SplitHolds m → SplitHolds (gather k cs m)
@@ -340,7 +356,8 @@ module _ (Q : Token → Type 0) where
     enter-carried : (m : Split) (k : Token) (cs : Forest) → SplitHolds m → Q k → Every Q cs → SplitCarried k (enterSplit m k cs)
     unfolding enterSplit
     enter-carried m k cs h q c =
-        either (SplitCarried k) (isEntered (k .op)) _ _ (statement-enters m k cs h q c) (going {t = gather k cs m} (every-gather k cs m q c h))
+        either (SplitCarried k) (isEntered (k .op)) _ _ (statement-enters m k cs h q c)
+        (going {t = gather k cs m} (every-gather k cs m q c h))
 
     statement-steps : (m : Split) (k : Token) (cs : Forest) → SplitHolds m → Q k → Every Q cs → SplitCarried k (statementStep m k cs)
     unfolding statementStep
@@ -392,7 +409,8 @@ module _ (Q : Token → Type 0) where
         (either UnaryGives (eqb (k .op) Operator.logicalNot) _ _ (not-gives k r q h) (given (at q nowhere h)))
     node-gives p k (node x xs y) kids r q e h = given (at q e h)
 
-    atNode-gives : (p : Option Token) (k : Token) (cs : Forest) {x y : Unary} → Q k → UnaryGives x → UnaryGives y → UnaryGives (atNode p k cs x y)
+    atNode-gives : (p : Option Token) (k : Token) (cs : Forest) {x y : Unary} → Q k → UnaryGives x → UnaryGives y
+        → UnaryGives (atNode p k cs x y)
     unfolding atNode inNode
     atNode-gives p k cs q none-given y = none-given
     atNode-gives p k cs q (given h) none-given = none-given
@@ -484,7 +502,8 @@ module _ (Q : Token → Type 0) where
     ends-gives : (l : ℕ) (f : Forest) → Every Q f → Gives Q (endsWithSemicolon l f)
     unfolding endsWithSemicolon
     ends-gives l f h =
-        maybe (Gives Q) (lastOf none f) _ _ (λ k. either (Gives Q) (eqb (k .op) Operator.semicolon) _ _ (gives h) nothing-given) nothing-given
+        maybe (Gives Q) (lastOf none f) _ _
+        (λ k. either (Gives Q) (eqb (k .op) Operator.semicolon) _ _ (gives h) nothing-given) nothing-given
 
     -- EVERY PASS
     pub apply-gives : (sourceLength : ℕ) (p : Pass) (f : Forest) → Every Q f → Gives Q (apply sourceLength p f)
@@ -499,7 +518,7 @@ module _ (Q : Token → Type 0) where
     apply-gives l mathCalls f h = through-carries Q (callLevel math) (call-carries math) f h
     apply-gives l unaryMinusAndNot f h = unaryPass-gives f h
     apply-gives l addition f h = through-carries Q (binaryLevel (Operator.add ∷ [])) (binary-carries (Operator.add ∷ [])) f h
-    apply-gives l ternary f h = through-carries Q conditionalLevel conditional-carries f h
+    apply-gives l conditional f h = through-carries Q conditionalLevel conditional-carries f h
     apply-gives l returns f h = through-carries Q returnLevel return-carries f h
     apply-gives l (binary ops) f h = through-carries Q (binaryLevel ops) (binary-carries ops) f h
 
@@ -526,7 +545,8 @@ module _ (Q : Token → Type 0) where
       afterRun-reads : (p : Pass) (ps : List Pass) (so-far : List Message) {x : Result} → Gives Q x
           → ((so-far : List Message) (g : Forest) → Every Q g → Reads (grouped l u ps so-far g)) → Reads (afterRun p ps so-far x)
       unfolding afterRun
-      afterRun-reads p ps so-far (nothing-given {m = m}) later = either Reads (endsReading p) _ _ messages-read (later (so-far ++ m) nil nowhere)
+      afterRun-reads p ps so-far (nothing-given {m = m}) later =
+          either Reads (endsReading p) _ _ messages-read (later (so-far ++ m) nil nowhere)
       afterRun-reads p ps so-far (gives {g = g} h) later = later so-far g h
 
       grouped-reads : (ps : List Pass) (so-far : List Message) (f : Forest) → Every Q f → Reads (grouped l u ps so-far f)
@@ -543,6 +563,7 @@ module _ (Q : Token → Type 0) where
     unfolding read
     read-reads ts u v l h = grouped-reads l u (order (rules v)) [] (leaves ts) h
 
-    pub read-every : (tokens : List Token) (u : ℕ → Bool) (version : ℤ) (sourceLength : ℕ) (k : Token) (cs : Forest) → Every Q (leaves tokens)
+    pub read-every : (tokens : List Token) (u : ℕ → Bool) (version : ℤ) (sourceLength : ℕ) (k : Token) (cs : Forest)
+        → Every Q (leaves tokens)
         → read tokens u version sourceLength ≡ tree k cs → Every Q (node k cs nil)
     read-every ts u v l k cs h e = of-tree (rw e at (read-reads ts u v l h))

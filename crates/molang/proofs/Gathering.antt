@@ -5,9 +5,10 @@ use mathlib.Core.Bool.{Bool, false, not}
 use native.Mathlib.Omega.{arith}
 use Rattle.molang.specs.Forest.{Token, Forest, nil, node}
 use Rattle.molang.specs.Level.{Step, into, Level, Gathered, gathered, waiting}
-use Rattle.molang.proofs.Trees.{isNil}
+use Rattle.molang.specs.Free.{isNil}
+use Rattle.molang.specs.Weight.{Weighing, weight}
 use Rattle.molang.proofs.Walks.{Onward, enters}
-use Rattle.molang.proofs.Weight.{Weighing, weight, Within, weight-inner}
+use Rattle.molang.proofs.Weight.{Within, weight-inner}
 
 -- What a gathering level has so far, a token that waits among it.
 unfoldable pub shown : Gathered → Forest
@@ -32,7 +33,8 @@ module _ (W : Weighing) where
         → Gathers L k (node c cs r) rest n (into t (gathered nil))
     unfolding weight shown isNil
     gathers-into h =
-        enters {t = t} {u = gathered nil} (weight W (node c cs r)) (omega arith) refl λ kids w e. let z = h kids e in (omega arith, rw (z .1) refl)
+        enters {t = t} {u = gathered nil} (weight W (node c cs r)) (omega arith) refl λ kids w e. let z =
+        h kids e in (omega arith, rw (z .1) refl)
 
     -- A state that takes a node as it is, behind the trees d.
     pub gathers-node : (d : Forest) → ((kids : Forest) → L .resume t k kids ≡ gathered (node k kids d))

@@ -1,5 +1,5 @@
--- Between a first reading and the writer: the words of the tree that a parse call leaves in front of its tree buffer, and what the write entry
--- makes of them.
+-- Between a first reading and the writer: the words of the tree that a parse call leaves in front of its tree buffer, and what the write
+-- entry makes of them.
 use Prim.Native.Nat.{ℕ, _*_, _≤_, _<_}
 use mathlib.Core.Path.{_≡_, refl, ap, sym, _∙_}
 use mathlib.Core.Bool.{Bool, true, false}
@@ -12,19 +12,20 @@ use lib.Seq.{take-append-seam}
 use borrow.Author.Tests.{leb-true, leb-false, le-leb, lt-leb}
 use Rattle.molang.specs.Forest.{Token, Forest, nil, node, size}
 use Rattle.molang.specs.Read.{Answer, tree, messages}
-use Rattle.molang.specs.Words.{Refusal, operatorSlot, listWords, treeWords}
-use Rattle.molang.specs.Parse.{Call, mostTokens, must, refusal, reading, aTree, told, answered, inFront, treeIn, treeAfter}
+use Rattle.molang.specs.Words.{Refusal, row, withNumber, operatorField, listWords, treeWords}
+use Rattle.molang.specs.Parse.{Call, mostTokens, refusal, reading, aTree, told, answered, inFront, treeIn, treeAfter}
+use Rattle.molang.specs.FirstFailure.{must, firstOf}
 use Rattle.molang.specs.Reread.{bracketless}
 use Rattle.molang.specs.Plain.{unplainAt}
-use Rattle.molang.specs.Write.{written, writtenCount, takenAway}
-use Rattle.molang.specs.WriteEntry.{treeFault, treesOf, WriteCall, refusedAt, orElse, forestRefusal, writeRefusal, writtenTokens, tokens, unwritten, writeTold, writeAnswered, listIn, listAfter}
-use Rattle.molang.proofs.Trees.{some-none}
+use Rattle.molang.specs.Write.{written, takenAway}
+use Rattle.molang.specs.WriteEntry.{treeFault, treesOf, WriteCall, forestRefusal, writeRefusal, writtenTokens, tokens, unwritten}
+use Rattle.molang.specs.WriteEntry.{writeTold, writeAnswered, listIn, listAfter}
+use Rattle.molang.proofs.FirstFailure.{first-none, passed, withNumber-none, after-none}
 use Rattle.molang.proofs.Bounds.{treeWords-length}
 use Rattle.molang.proofs.Words.{LegalTokens, noTokens, LegalTrees, legalTree}
 use Rattle.molang.proofs.Legal.{read-legal, read-back, read-unfaulted}
-use Rattle.molang.proofs.Writing.{written-length}
 use Rattle.molang.proofs.ListWords.{listWords-length, written-legal}
-use Rattle.molang.proofs.Accepted.{must-none, call-accepted}
+use Rattle.molang.proofs.Accepted.{call-accepted}
 
 -- A parse call that is not turned back and reads the tree k over cs.
 pub record Parsed (c : Call) (k : Token) (cs : Forest) : Type 0 where
@@ -36,16 +37,12 @@ front-words : (ws buffer : List ℕ) (n : ℕ) → length ws ≡ n → take n (i
 unfolding inFront
 front-words ws buffer n h = ap (λ (m : ℕ). take m (ws ++ drop (length ws) buffer)) (sym h) ∙ take-append-seam ws (drop (length ws) buffer)
 
--- Tests of the writer's table that are passed.
-refused-none : (o : Option ℕ) (n : ℕ) (later : Option Refusal) → refusedAt n o later ≡ none → (o ≡ none) × (later ≡ none)
-unfolding refusedAt
-refused-none none n later h = (refl, h)
-refused-none (some i) n later h = some-none h
-
-orElse-none : (o later : Option Refusal) → orElse o later ≡ none → (o ≡ none) × (later ≡ none)
-unfolding orElse
-orElse-none none later h = (refl, h)
-orElse-none (some r) later h = some-none h
+-- Answers 13-15 are all that words may get that are a tree's.
+pub whole-tree : (w : WriteCall) → treeFault 0 operatorField 0 (record { called = 1; begun = 0 }) (w .tree) ≡ none
+    → writeRefusal w ≡ forestRefusal (treesOf (w .tree)) (length (w .list))
+unfolding writeRefusal
+whole-tree w e =
+    after-none (withNumber 12 (treeFault 0 operatorField 0 (record { called = 1; begun = 0 }) (w .tree))) _ (ap (withNumber 12) e)
 
 root-legal : (k : Token) (cs : Forest) → LegalTrees (node k cs nil) → LegalTokens (written k cs [])
 root-legal k cs (legalTree h n below after) = written-legal k cs h below [] noTokens
@@ -67,7 +64,7 @@ module _ {c : Call} {k : Token} {cs : Forest} (p : Parsed c k cs) where
   unfolding reading
   tree-back = let a = call-accepted c (p .accepted) in read-back _ _ _ _ k cs (a .legal) (a .few) (p .reads)
 
-  tree-unfaulted : treeFault 0 operatorSlot 0 (record { called = 1; begun = 0 }) (treeWords (node k cs nil)) ≡ none
+  tree-unfaulted : treeFault 0 operatorField 0 (record { called = 1; begun = 0 }) (treeWords (node k cs nil)) ≡ none
   unfolding reading
   tree-unfaulted = let a = call-accepted c (p .accepted) in read-unfaulted _ _ _ _ k cs (a .legal) (a .few) (p .reads)
 
@@ -81,8 +78,8 @@ module _ {c : Call} {k : Token} {cs : Forest} (p : Parsed c k cs) where
   tree-written-legal =
       let a = call-accepted c (p .accepted) in root-legal k cs (read-legal _ _ _ _ k cs (a .legal) (a .few) (p .reads))
 
--- WHAT THE WRITER TELLS of the tree k over cs: 13 at the first node that is not plain, else 14 or 15 by the written count and the lent list,
--- else that count; never 12.
+-- WHAT THE WRITER'S CALLER IS TOLD of the tree k over cs: 13 at the first node that is not plain, else 14 or 15 by the number of written
+-- tokens and the lent list, else that number; never 12.
 pub record WriterTells (k : Token) (cs : Forest) (w : WriteCall) : Type 0 where
   pub unplain : (n : ℕ) → unplainAt k cs ≡ some n → writeAnswered w ≡ unwritten 13 n
   pub tooMany : unplainAt k cs ≡ none → mostTokens < length (written k cs []) → writeAnswered w ≡ unwritten 14 0
@@ -102,27 +99,24 @@ module _ {c : Call} {k : Token} {cs : Forest} (p : Parsed c k cs) (w : WriteCall
   trees-handed : treesOf (w .tree) ≡ node k cs nil
   trees-handed = ap treesOf handed ∙ tree-back p
 
-  -- Answers 13-15 are all that these words may get.
   write-refusal : writeRefusal w ≡ forestRefusal (node k cs nil) (length (w .list))
-  unfolding writeRefusal refusedAt
-  write-refusal = rw (handed, tree-unfaulted p, tree-back p) refl
+  write-refusal = rw trees-handed at (whole-tree w (rw handed (tree-unfaulted p)))
 
   pub writer-tells : WriterTells k cs w
-  unfolding writeAnswered writeTold writtenTokens forestRefusal refusedAt orElse must
+  unfolding writeAnswered writeTold writtenTokens forestRefusal firstOf must
   writer-tells =
-      let n = writtenCount k cs in
-      let long = written-length k cs [] in
+      let n = length (written k cs []) in
       record {
         unplain = λ i e. rw (write-refusal, e) refl;
         tooMany = λ e over.
-            let fits : leb n mostTokens ≡ false = lt-leb n mostTokens (omega arith) in rw (write-refusal, e, fits) refl;
+            let fits : leb n mostTokens ≡ false = lt-leb n mostTokens over in rw (write-refusal, e, fits) refl;
         noRoom = λ e few short.
-            let fits : leb n mostTokens ≡ true = le-leb n mostTokens (omega arith) in
-            let room : leb (5 * n) (length (w .list)) ≡ false = lt-leb (5 * n) (length (w .list)) (omega arith) in
+            let fits : leb n mostTokens ≡ true = le-leb n mostTokens few in
+            let room : leb (5 * n) (length (w .list)) ≡ false = lt-leb (5 * n) (length (w .list)) short in
             rw (write-refusal, e, fits, room) refl;
         writes = λ e few long-enough.
-            let fits : leb n mostTokens ≡ true = le-leb n mostTokens (omega arith) in
-            let room : leb (5 * n) (length (w .list)) ≡ true = le-leb (5 * n) (length (w .list)) (omega arith) in
+            let fits : leb n mostTokens ≡ true = le-leb n mostTokens few in
+            let room : leb (5 * n) (length (w .list)) ≡ true = le-leb (5 * n) (length (w .list)) long-enough in
             rw (write-refusal, e, fits, room, trees-handed) refl;
       }
 
@@ -135,7 +129,8 @@ module _ {c : Call} {k : Token} {cs : Forest} (p : Parsed c k cs) (w : WriteCall
 
       split : (o : Option ℕ) (a b : Bool) → unplainAt k cs ≡ o → leb n mostTokens ≡ a → leb (5 * n) (length (w .list)) ≡ b → ⊥
       split (some i) a b e f g = let told = writer-tells .unplain i e in let same : _≡_ {A = ℕ} 13 12 = cc in omega arith
-      split none false b e f g = let told = writer-tells .tooMany e (leb-false n mostTokens f) in let same : _≡_ {A = ℕ} 14 12 = cc in omega arith
+      split none false b e f g =
+          let told = writer-tells .tooMany e (leb-false n mostTokens f) in let same : _≡_ {A = ℕ} 14 12 = cc in omega arith
       split none true false e f g =
           let told = writer-tells .noRoom e (leb-true n mostTokens f) (leb-false (5 * n) (length (w .list)) g) in
           let same : _≡_ {A = ℕ} 15 12 = cc in omega arith
@@ -147,12 +142,10 @@ module _ {c : Call} {k : Token} {cs : Forest} (p : Parsed c k cs) (w : WriteCall
   unfolding forestRefusal writeAnswered writeTold writtenTokens listAfter listIn
   write-done e =
       let ks = written k cs [] in
-      let plain = refused-none _ 13 _ (sym write-refusal ∙ e) in
-      let room = orElse-none _ _ (plain .1) in
-      let few : writtenCount k cs ≤ mostTokens = leb-true _ _ (must-none _ 14 (room .0)) in
+      let plain = first-none _ _ (sym write-refusal ∙ e) in
       record {
-        plain = plain .0;
-        few = omega (arith, written-length k cs []);
+        plain = withNumber-none 13 _ (plain .0);
+        few = leb-true _ _ (passed (leb (length ks) mostTokens) (row 14 0) _ (plain .1) .0);
         told = rw (e, trees-handed) refl;
         front = rw (e, trees-handed) (front-words (listWords ks) (w .list) (5 * length ks) (listWords-length ks));
       }
@@ -183,3 +176,12 @@ write-of-told w n h = split (writeRefusal w) refl
     split : (o : Option Refusal) → writeRefusal w ≡ o → writeRefusal w ≡ none
     split none e = e
     split (some r) e = let impossible : _≡_ {A = ℕ} 0 1 = cc (rw (e, writeTold) at h) in absurd (omega arith)
+
+-- One that is turned back leaves the list as it was.
+pub unwritten-list : (w : WriteCall) (n p : ℕ) → writeAnswered w ≡ unwritten n p → listAfter w ≡ w .list
+unfolding writeAnswered writeTold listAfter listIn
+unwritten-list w n p h = split (writeRefusal w) refl
+  where
+    split : (o : Option Refusal) → writeRefusal w ≡ o → listAfter w ≡ w .list
+    split none e = let impossible : _≡_ {A = ℕ} 0 1 = cc (rw (e, writeTold) at h) in absurd (omega arith)
+    split (some r) e = rw e refl

@@ -10,7 +10,8 @@ use lib.ListN.{length}
 use Rattle.molang.specs.Operator
 use Rattle.molang.specs.Forest.{Token, Forest, nil, node, renamed, bare, leaves, size}
 use Rattle.molang.specs.Read.{Answer, read}
-use Rattle.molang.specs.Words.{Legal, treeWords, operatorSlot}
+use Rattle.molang.specs.Words.{treeWords, operatorField}
+use Rattle.molang.specs.Legal.{Legal}
 use Rattle.molang.specs.Parse.{mostTokens}
 use Rattle.molang.specs.WriteEntry.{treeFault, treesOf}
 use Rattle.molang.proofs.Trees.{count-size}
@@ -56,11 +57,12 @@ read-legal ts u v l k cs h b e =
 
 -- The writer reads the tree that the reader has given.
 pub read-back : (tokens : List Token) (u : ℕ → Bool) (version : ℤ) (sourceLength : ℕ) (k : Token) (cs : Forest) → LegalTokens tokens
-    → length tokens ≤ mostTokens → read tokens u version sourceLength ≡ Answer.tree k cs → treesOf (treeWords (node k cs nil)) ≡ node k cs nil
+    → length tokens ≤ mostTokens → read tokens u version sourceLength ≡ Answer.tree k cs
+    → treesOf (treeWords (node k cs nil)) ≡ node k cs nil
 read-back ts u v l k cs h b e = trees-back (node k cs nil) (read-legal ts u v l k cs h b e)
 
 -- Nor does it answer 12 to it.
 pub read-unfaulted : (tokens : List Token) (u : ℕ → Bool) (version : ℤ) (sourceLength : ℕ) (k : Token) (cs : Forest) → LegalTokens tokens
     → length tokens ≤ mostTokens → read tokens u version sourceLength ≡ Answer.tree k cs
-    → treeFault 0 operatorSlot 0 (record { called = 1; begun = 0 }) (treeWords (node k cs nil)) ≡ none
+    → treeFault 0 operatorField 0 (record { called = 1; begun = 0 }) (treeWords (node k cs nil)) ≡ none
 read-unfaulted ts u v l k cs h b e = tree-unfaulted k cs (read-legal ts u v l k cs h b e) (omega (arith, read-tree ts u v l k cs e))

@@ -16,7 +16,10 @@ pub mod Unfolded
 pub mod Conditional
 pub mod Sections
 pub mod Passes
+pub mod NoMasks
+pub mod NoFrames
 pub mod Bounds
+pub mod FirstFailure
 pub mod Words
 pub mod TreeWords
 pub mod Every
@@ -33,3 +36,4 @@ pub mod Accepted
 pub mod HandedTree
 pub mod Entries
 pub mod Reread
+pub mod LineLaws

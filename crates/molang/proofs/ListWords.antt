@@ -1,7 +1,7 @@
 -- The words of legal tokens answer none of 8-11, and what is written of a legal tree is legal: what stands between the writer and a second
 -- reading.
 use Prim.Native.Nat.{ℕ, suc, _+_, _*_, _/_, _%_, _^_, _≤_}
-use mathlib.Core.Path.{_≡_, refl, _∙_}
+use mathlib.Core.Path.{_≡_, refl, ap, _∙_}
 use mathlib.Core.Bool.{Bool, true, false, false≢true}
 use mathlib.Core.List.{List, [], _∷_, _++_}
 use mathlib.Core.Option.{Option, none, some}
@@ -11,35 +11,37 @@ use borrow.Author.Tests.{ne-eqb}
 use Rattle.molang.specs.Operator.{isBracket}
 use Rattle.molang.specs.Forest.{Token, Forest, nil, node, bare, count, size}
 use Rattle.molang.specs.Read.{uses}
-use Rattle.molang.specs.Words.{word, tokenWords, Legal, listWords, treeWords, Slot, operatorSlot, startSlot, endSlot, upperSlot, lowerSlot, wordFault, lowFault, variantAfter, nextInToken, wordsRefusal}
+use Rattle.molang.specs.Words.{word, tokenWords, listWords, treeWords, Field, operatorField, startField, endField, upperField}
+use Rattle.molang.specs.Words.{lowerField, wordFault, lowFault, variantAfter, nextInToken, withPlace, wordsRefusal}
+use Rattle.molang.specs.Legal.{Legal}
 use Rattle.molang.specs.Write.{openerFor, closerFor, standsAlone, standsLeft, standsRight, operandTokens, written}
 use Rattle.molang.specs.WriteEntry.{nextInNode, Shape, shapeAfter, continues, treeFault}
-use Rattle.molang.proofs.Trees.{some-none}
+use Rattle.molang.proofs.FirstFailure.{first-none, passed, after-none}
 use Rattle.molang.proofs.Words.{LegalTokens, noTokens, token, LegalTrees, noTrees, legalTree}
 use Rattle.molang.proofs.TreeWords.{tree-unfaulted}
 use Rattle.molang.proofs.Writing.{written-none, written-one, written-two, written-more}
 
 -- A word of a tree that has no fault has none itself, nor have the words after it.
-tree-word : (i : ℕ) (slot : Slot) (v : ℕ) (s : Shape) (w : ℕ) (ws : List ℕ) → treeFault i slot v s (w ∷ ws) ≡ none
-    → (wordFault slot v w ≡ none) × (treeFault (suc i) (nextInNode slot) (variantAfter slot v w) (shapeAfter slot w s) ws ≡ none)
+tree-word : (i : ℕ) (field : Field) (v : ℕ) (s : Shape) (w : ℕ) (ws : List ℕ) → treeFault i field v s (w ∷ ws) ≡ none
+    → (wordFault field v w ≡ none) × (treeFault (suc i) (nextInNode field) (variantAfter field v w) (shapeAfter field w s) ws ≡ none)
 unfolding treeFault continues
-tree-word i slot v s w ws h = split (wordFault slot v w) (continues slot v s w) refl refl
+tree-word i field v s w ws h =
+    let x = passed (continues field v s w) i _ h in
+    (split (wordFault field v w) refl (x .0), first-none _ _ (x .1) .0)
   where
-    split : (o : Option ℕ) (b : Bool) → wordFault slot v w ≡ o → continues slot v s w ≡ b
-        → (wordFault slot v w ≡ none) × (treeFault (suc i) (nextInNode slot) (variantAfter slot v w) (shapeAfter slot w s) ws ≡ none)
-    split o false e f = some-none (rw (f, treeFault) at h)
-    split none true e f = (e, rw (f, treeFault) at h)
-    split (some n) true e f = absurd (false≢true (rw (e, continues) at f))
+    split : (o : Option ℕ) → wordFault field v w ≡ o → continues field v s w ≡ true → wordFault field v w ≡ none
+    split none e f = e
+    split (some n) e f = absurd (false≢true (rw (e, continues) at f))
 
--- Of a list, a word without fault leaves the answer to the words after it.
-list-word : (i : ℕ) (slot : Slot) (v w : ℕ) (ws : List ℕ) → wordFault slot v w ≡ none
-    → wordsRefusal i slot v (w ∷ ws) ≡ wordsRefusal (suc i) (nextInToken slot) (variantAfter slot v w) ws
+-- In a list, a word without fault leaves the answer to the words after it.
+pub list-word : (i : ℕ) (field : Field) (v w : ℕ) (ws : List ℕ) → wordFault field v w ≡ none
+    → wordsRefusal i field v (w ∷ ws) ≡ wordsRefusal (suc i) (nextInToken field) (variantAfter field v w) ws
 unfolding wordsRefusal
-list-word i slot v w ws h = rw (h, wordsRefusal) refl
+list-word i field v w ws h = after-none (withPlace i (wordFault field v w)) _ (ap (withPlace i) h)
 
 -- A legal token is a tree of one node, whose words have no fault; so they answer nothing in a list either.
-token-unrefused : (k : Token) → Legal k → (i v : ℕ) (ws : List ℕ) → ((i v : ℕ) → wordsRefusal i operatorSlot v ws ≡ none)
-    → wordsRefusal i operatorSlot v (tokenWords k ++ ws) ≡ none
+token-unrefused : (k : Token) → Legal k → (i v : ℕ) (ws : List ℕ) → ((i v : ℕ) → wordsRefusal i operatorField v ws ≡ none)
+    → wordsRefusal i operatorField v (tokenWords k ++ ws) ≡ none
 unfolding tokenWords treeWords count size variantAfter nextInNode nextInToken wordFault lowFault
 token-unrefused k h i v ws later =
     let a = word 1 (k .variant * 2 ^ 8 + k .op) in
@@ -48,22 +50,22 @@ token-unrefused k h i v ws later =
     let d = word 4 (k .value / 2 ^ 16) in
     let e = word 5 (k .value % 2 ^ 16) in
     let n = word 6 0 ∷ [] in
-    let u = variantAfter operatorSlot v a in
+    let u = variantAfter operatorField v a in
     let fault = tree-unfaulted k nil (legalTree h (omega arith) noTrees noTrees) (omega arith) in
-    let fa = tree-word 0 operatorSlot 0 _ a (b ∷ c ∷ d ∷ e ∷ n) fault in
-    let fb = tree-word 1 startSlot u _ b (c ∷ d ∷ e ∷ n) (fa .1) in
-    let fc = tree-word 2 endSlot u _ c (d ∷ e ∷ n) (fb .1) in
-    let fd = tree-word 3 upperSlot u _ d (e ∷ n) (fc .1) in
-    let fe = tree-word 4 lowerSlot u _ e n (fd .1) in
-    list-word i operatorSlot v a (b ∷ c ∷ d ∷ e ∷ ws) (fa .0)
-    ∙ list-word (suc i) startSlot u b (c ∷ d ∷ e ∷ ws) (fb .0)
-    ∙ list-word (suc (suc i)) endSlot u c (d ∷ e ∷ ws) (fc .0)
-    ∙ list-word (suc (suc (suc i))) upperSlot u d (e ∷ ws) (fd .0)
-    ∙ list-word (suc (suc (suc (suc i)))) lowerSlot u e ws (fe .0)
+    let fa = tree-word 0 operatorField 0 _ a (b ∷ c ∷ d ∷ e ∷ n) fault in
+    let fb = tree-word 1 startField u _ b (c ∷ d ∷ e ∷ n) (fa .1) in
+    let fc = tree-word 2 endField u _ c (d ∷ e ∷ n) (fb .1) in
+    let fd = tree-word 3 upperField u _ d (e ∷ n) (fc .1) in
+    let fe = tree-word 4 lowerField u _ e n (fd .1) in
+    list-word i operatorField v a (b ∷ c ∷ d ∷ e ∷ ws) (fa .0)
+    ∙ list-word (suc i) startField u b (c ∷ d ∷ e ∷ ws) (fb .0)
+    ∙ list-word (suc (suc i)) endField u c (d ∷ e ∷ ws) (fc .0)
+    ∙ list-word (suc (suc (suc i))) upperField u d (e ∷ ws) (fd .0)
+    ∙ list-word (suc (suc (suc (suc i)))) lowerField u e ws (fe .0)
     ∙ later (suc (suc (suc (suc (suc i))))) u
 
 -- The words of legal tokens answer none of 8-11.
-pub list-unrefused : {ks : List Token} → LegalTokens ks → (i v : ℕ) → wordsRefusal i operatorSlot v (listWords ks) ≡ none
+pub list-unrefused : {ks : List Token} → LegalTokens ks → (i v : ℕ) → wordsRefusal i operatorField v (listWords ks) ≡ none
 unfolding listWords wordsRefusal
 list-unrefused noTokens i v = refl
 list-unrefused (token {k = k} {ks = ks} h hs) i v = token-unrefused k h i v (listWords ks) (list-unrefused hs)
@@ -83,11 +85,13 @@ uses-legal (token {k = k} l ls) m h = rw (ne-eqb (k .op) m (λ e. omega (arith, 
 -- Added brackets are legal.
 opener-legal : (k : Token) → Legal k → Legal (openerFor k)
 unfolding openerFor bare
-opener-legal k h = record { op = omega arith; variant = omega arith; value = omega arith; no-payload = λ e. refl; start = h .start; end = h .end }
+opener-legal k h =
+    record { op = omega arith; variant = omega arith; value = omega arith; no-payload = λ e. refl; start = h .start; end = h .end }
 
 closer-legal : (k : Token) → Legal k → Legal (closerFor k)
 unfolding closerFor bare
-closer-legal k h = record { op = omega arith; variant = omega arith; value = omega arith; no-payload = λ e. refl; start = h .start; end = h .end }
+closer-legal k h =
+    record { op = omega arith; variant = omega arith; value = omega arith; no-payload = λ e. refl; start = h .start; end = h .end }
 
 -- F puts legal tokens before legal tokens.
 abbrev KeepsLegal : (List Token → List Token) → Type 0
@@ -112,6 +116,7 @@ written-legal k (node x xs nil) h (legalTree hx n hxs noTrees) r l = split (isBr
     split false e i = rw (written-one false k x xs r e) (token h (operand-legal (standsAlone x xs) x (written x xs) hx i r l))
 written-legal k (node x xs (node y ys nil)) h (legalTree hx n hxs (legalTree hy m hys noTrees)) r l =
     rw (written-two k x xs y ys r)
-    (operand-legal (standsLeft k x xs) x (written x xs) hx (written-legal x xs hx hxs) (k ∷ operandTokens (standsRight k y ys) y (written y ys) r)
+    (operand-legal (standsLeft k x xs) x (written x xs) hx (written-legal x xs hx hxs)
+    (k ∷ operandTokens (standsRight k y ys) y (written y ys) r)
     (token h (operand-legal (standsRight k y ys) y (written y ys) hy (written-legal y ys hy hys) r l)))
 written-legal k (node x xs (node y ys (node z zs more))) h below r l = rw (written-more k x xs y ys z zs more r) (token h l)

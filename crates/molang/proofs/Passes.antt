@@ -14,12 +14,17 @@ use Rattle.molang.specs.Statements.{splitOf, statementFinish, statementL
 use Rattle.molang.specs.Unary.{unary, unaryPass, returnFinish, returnLevel}
 use Rattle.molang.specs.Binary.{binaryFinish, binaryLevel}
 use Rattle.molang.specs.Conditional.{foldedFrom, dangling, undangled, conditionalFinish, conditionalLevel}
-use Rattle.molang.specs.Order.{Pass, lastToken, memberAccessors, sectioning, callPass, statements, arrays, pointer, mathCalls, unaryMinusAndNot, addition, ternary, returns, binary, runs, apply}
+use Rattle.molang.specs.Order.{Pass, lastToken, memberAccessors, sectioning, callPass, statements, arrays, pointer, mathCalls}
+use Rattle.molang.specs.Order.{unaryMinusAndNot, addition, conditional, returns, binary, runs, apply}
 use Rattle.molang.specs.Read.{messages, rooted, endsReading, grouped}
-use Rattle.molang.proofs.Trees.{free, isNil, decided, both, and-true-true, free-leaf, free-tree}
+use Rattle.molang.specs.Free.{free, isNil}
+use Rattle.molang.specs.Weight.{Weighing, weight}
+use Rattle.molang.specs.Work as kinds
+use Rattle.molang.specs.Work.{Kind, passOf}
+use Rattle.molang.proofs.Trees.{decided, both, and-true-true, free-leaf, free-tree}
 use Rattle.molang.proofs.Booleans.{false-true}
 use Rattle.molang.proofs.Walks.{failed, fine}
-use Rattle.molang.proofs.Weight.{Weighing, weight, Ending, through-light}
+use Rattle.molang.proofs.Weight.{Ending, through-light}
 use Rattle.molang.proofs.Calls.{call-light}
 use Rattle.molang.proofs.Arrays.{array-light}
 use Rattle.molang.proofs.Statements.{statement-light}
@@ -40,11 +45,24 @@ isNested pointer = true
 isNested mathCalls = true
 isNested unaryMinusAndNot = true
 isNested addition = true
-isNested ternary = true
+isNested conditional = true
 isNested returns = true
 isNested (binary ops) = true
 
-module _ (W : Weighing) (pays : 3 * W .inner ≤ W .leaf Operator.semicolon) (turns : W .leaf Operator.add + W .inner ≤ W .leaf Operator.negate) where
+-- Those of every kind.
+pub kind-nested : (κ : Kind) → isNested (passOf κ) ≡ true
+unfolding isNested passOf
+kind-nested (kinds.calls queryOrLoop) = refl
+kind-nested (kinds.calls math) = refl
+kind-nested kinds.statements = refl
+kind-nested kinds.arrays = refl
+kind-nested kinds.unaryMinusAndNot = refl
+kind-nested kinds.conditional = refl
+kind-nested kinds.returns = refl
+kind-nested (kinds.binary ops) = refl
+
+module _ (W : Weighing) (pays : 3 * W .inner ≤ W .leaf Operator.semicolon)
+    (turns : W .leaf Operator.add + W .inner ≤ W .leaf Operator.negate) where
   pub apply-light : (sourceLength : ℕ) (p : Pass) (f : Forest) → isNested p ≡ true
       → Ending W (weight W f) (not (isNil f)) (apply sourceLength p f)
   unfolding isNested apply
@@ -58,7 +76,7 @@ module _ (W : Weighing) (pays : 3 * W .inner ≤ W .leaf Operator.semicolon) (tu
   apply-light l mathCalls f e = through-light W (callLevel math) (call-light W math) f
   apply-light l unaryMinusAndNot f e = unaryPass-light W turns f
   apply-light l addition f e = through-light W (binaryLevel (Operator.add ∷ [])) (binary-light W (Operator.add ∷ [])) f
-  apply-light l ternary f e = through-light W conditionalLevel (conditional-light W) f
+  apply-light l conditional f e = through-light W conditionalLevel (conditional-light W) f
   apply-light l returns f e = through-light W returnLevel (return-light W) f
   apply-light l (binary ops) f e = through-light W (binaryLevel ops) (binary-light W ops) f
 
@@ -100,7 +118,8 @@ module _ (P : ℕ → Bool) where
 
   -- NOTHING ELSE MAKES SUCH LEAVES: a pass takes leaves out of a forest and puts none in. The one exception is the unary pass, which turns
   -- `-` into `+`: whatever looks for `+` looks for `-` too.
-  pub apply-keeps-free : (sourceLength : ℕ) (p : Pass) (f g : Forest) → isNested p ≡ true → (P Operator.add ≡ true → P Operator.negate ≡ true)
+  pub apply-keeps-free : (sourceLength : ℕ) (p : Pass) (f g : Forest) → isNested p ≡ true
+      → (P Operator.add ≡ true → P Operator.negate ≡ true)
       → free P f ≡ true → apply sourceLength p f ≡ ok g → free P g ≡ true
   apply-keeps-free l p f g n t h e =
       outcome-free f g (not (isNil f)) (apply-light (leavesOf P) (omega arith) (covered (P Operator.add) (P Operator.negate) t) l p f n) h e
@@ -111,7 +130,9 @@ module _ (P : ℕ → Bool) where
 
 -- THE EMPTY LIST
 pub apply-nil : (sourceLength : ℕ) (p : Pass) → isNested p ≡ true → apply sourceLength p nil ≡ ok nil
-unfolding isNested apply through walk callLevel callFinish statementLevel splitOf statementFinish arrayLevel flushed arrayFinish binaryLevel binaryFinish unaryPass unary conditionalLevel conditionalFinish foldedFrom undangled dangling returnLevel returnFinish nothing inOrder turnedOnto
+unfolding isNested apply through walk callLevel callFinish statementLevel splitOf statementFinish arrayLevel flushed arrayFinish binaryLevel
+    binaryFinish unaryPass unary conditionalLevel conditionalFinish foldedFrom undangled dangling returnLevel returnFinish nothing inOrder
+    turnedOnto
 apply-nil l lastToken e = false-true e
 apply-nil l memberAccessors e = false-true e
 apply-nil l sectioning e = false-true e
@@ -122,7 +143,7 @@ apply-nil l pointer e = refl
 apply-nil l mathCalls e = refl
 apply-nil l unaryMinusAndNot e = refl
 apply-nil l addition e = refl
-apply-nil l ternary e = refl
+apply-nil l conditional e = refl
 apply-nil l returns e = refl
 apply-nil l (binary ops) e = refl
 

@@ -1,26 +1,30 @@
--- DEMAND 3 OF THE FUNCTION THAT MAKES THE THREE CALLS (`specs/Reread`): the calls it makes are handed on as demand 3 asks, so what it tells and
--- leaves agrees; and it never tells messages of the second reading.
+-- DEMAND 3 OF THE FUNCTION THAT MAKES THE THREE CALLS (`specs/Reread`): its calls are three calls as `Entries` has them, so what is told
+-- and left is as the demand says. What a first reading hands on to the writer, and the writer to the second reading, can be handed on.
 use Prim.Native.Nat.{ℕ, _+_, _*_, _/_, _≤_}
 use mathlib.Core.Path.{_≡_, refl, ap, sym, _∙_}
 use mathlib.Core.Bool.{false}
 use mathlib.Core.List.{List, [], _∷_}
 use mathlib.Core.Option.{Option, none, some}
 use native.Mathlib.Omega.{arith}
-use lib.ListN.{length, take, length-replicate}
+use lib.ListN.{length, take, length-take, length-replicate}
 use Rattle.molang.specs.Forest.{Token, Forest, nil, node, size}
 use Rattle.molang.specs.Read.{uses}
-use Rattle.molang.specs.Words.{Refusal, operatorSlot, wordsRefusal, tokensOf, listWords}
-use Rattle.molang.specs.Parse.{Call, refusal, reading, Told, aTree, someMessages, refused, told, answered, treeAfter, messagesIn, messagesAfter, workIn, workAfter}
+use Rattle.molang.specs.Words.{Refusal, operatorField, wordsRefusal, tokensOf, listWords, treeWords}
+use Rattle.molang.specs.Parse.{Call, refusal, Told, aTree, someMessages, refused, told, answered, treeAfter, messagesIn}
+use Rattle.molang.specs.Parse.{messagesAfter, workIn, workAfter}
 use Rattle.molang.specs.Write.{written}
-use Rattle.molang.specs.WriteEntry.{WriteCall, WriteTold, tokens, unwritten, writeAnswered, listAfter}
-use Rattle.molang.specs.Reread.{bracketless, HandedOn, ReadAgain, exactCall, secondCall, RereadTold, twoTrees, firstMessages, secondMessages, turnedBack, secondTold, wroteTold, treeBy, Rereading, handed, toldWriting, firstTold, rereadTold, treeFrom, Agrees}
-use Rattle.molang.proofs.Words.{LegalTokens, tokens-back}
+use Rattle.molang.specs.WriteEntry.{WriteCall, WriteTold, tokens, unwritten, writeRefusal, writeAnswered, listAfter}
+use Rattle.molang.specs.Reread.{bracketless, Rereading, handed, writerCall, exactCall, secondCall, twoTrees, firstMessages}
+use Rattle.molang.specs.Reread.{secondMessages, turnedBack, stopped, secondTold, afterWriting, afterFirst, reread, CanReadBack}
+use Rattle.molang.specs.Reread.{HasReadBack, Demand3}
+use Rattle.molang.proofs.Words.{tokens-back}
 use Rattle.molang.proofs.ListWords.{list-unrefused, listWords-length, uses-legal}
 use Rattle.molang.proofs.UsedSet.{halves-exact}
 use Rattle.molang.proofs.Accepted.{call-accepted}
-use Rattle.molang.proofs.HandedTree.{Parsed, tree-front, tree-written-legal, write-done, tree-of-told, write-of-told}
-use Rattle.molang.proofs.Bounds.{read-tree}
-use Rattle.molang.proofs.Entries.{read-again}
+use Rattle.molang.proofs.Bounds.{treeWords-length}
+use Rattle.molang.proofs.HandedTree.{Parsed, tree-front, tree-told, front-bracketless, tree-written-legal, writer-tells, write-done}
+use Rattle.molang.proofs.HandedTree.{tree-of-told, write-of-told}
+use Rattle.molang.proofs.Entries.{ThreeCalls, three-calls}
 
 -- Five words make a token.
 pub tokens-count : (ws : List ℕ) → 5 * length (tokensOf ws) ≤ length ws
@@ -32,222 +36,164 @@ tokens-count (a ∷ b ∷ c ∷ []) = omega arith
 tokens-count (a ∷ b ∷ c ∷ d ∷ []) = omega arith
 tokens-count (a ∷ b ∷ c ∷ d ∷ e ∷ ws) = omega (arith, tokens-count ws)
 
+-- ---- What can be handed on
+
+-- A tree that is told stands within its buffer.
+pub tree-room : (c : Call) (nodes : ℕ) → answered c ≡ aTree nodes → 6 * nodes ≤ length (treeAfter c)
+tree-room c nodes h =
+    let t = tree-of-told c nodes h in
+    let tree = node (t .root) (t .children) nil in
+    omega (arith, t .nodes, treeWords-length tree, ap length (tree-front (t .parsed)), length-take (6 * size tree) (treeAfter c))
+
+-- So do the tokens that are written of it, and their words are legal.
+pub record Readable (ws : List ℕ) (count : ℕ) : Type 0 where
+  pub long : length ws ≡ 5 * count
+  pub legal : wordsRefusal 0 operatorField 0 ws ≡ none
+
+pub written-readable : (first : Call) (w : WriteCall) (nodes count : ℕ) → answered first ≡ aTree nodes
+    → w .tree ≡ take (6 * nodes) (treeAfter first)
+    → writeAnswered w ≡ tokens count
+    → Readable (take (5 * count) (listAfter w)) count
+written-readable first w nodes count parsed words wrote =
+    let t = tree-of-told first nodes parsed in
+    let p = t .parsed in
+    let got = words ∙ (ap (λ (n : ℕ). take (6 * n) (treeAfter first)) (t .nodes) ∙ tree-front p) in
+    let done = write-done p w got (write-of-told w count wrote) in
+    let said = done .told in
+    let counted : count ≡ length (written (t .root) (t .children) []) = cc in
+    let is = ap (λ (n : ℕ). take (5 * n) (listAfter w)) counted ∙ done .front in
+    record {
+      long = ap length is ∙ (listWords-length (written (t .root) (t .children) []) ∙ ap (λ (n : ℕ). 5 * n) (sym counted));
+      legal = rw is (list-unrefused (tree-written-legal p) 0 0);
+    }
+
+-- ---- The demand
+
 -- A reading that gives a tree touches no message word; the work buffer stays as long as it was.
 messages-kept : {c : Call} {k : Token} {cs : Forest} → Parsed c k cs → messagesAfter c ≡ c .messages
 unfolding messagesAfter messagesIn
 messages-kept p = rw (p .accepted, p .reads) refl
 
-work-long : (c : Call) → length (workAfter c) ≡ length (c .work)
+work-long : {c : Call} {k : Token} {cs : Forest} → Parsed c k cs → length (workAfter c) ≡ length (c .work)
 unfolding workAfter workIn
-work-long c = split (refusal c)
-  where
-    split : (o : Option Refusal) → length (workIn o (c .work)) ≡ length (c .work)
-    split none = length-replicate (length (c .work)) 0
-    split (some r) = refl
+work-long {c} p = rw (p .accepted) (length-replicate (length (c .work)) 0)
 
--- A tree that is told stands within its buffer.
-pub tree-room : (c : Call) (nodes : ℕ) → answered c ≡ aTree nodes → 6 * nodes ≤ length (c .tree)
-unfolding reading
-tree-room c nodes h =
-    let t = tree-of-told c nodes h in
-    let a = call-accepted c (t .parsed .accepted) in
-    let few = read-tree _ _ _ _ (t .root) (t .children) (t .parsed .reads) in
-    let long = tokens-count (c .list) in
-    omega (arith, t .nodes, a .tree)
+-- The writer's call and the second reading's, where the first gives the tree k over cs.
+abbrev writing : Rereading → Token → Forest → WriteCall
+writing c k cs = writerCall (handed c) (size (node k cs nil))
 
--- A call that is told a tree or messages is not turned back.
-unrefused : (c : Call) → ((n p : ℕ) → answered c ≡ refused n p → ⊥) → refusal c ≡ none
-unfolding answered told
-unrefused c h = split (refusal c) refl
-  where
-    split : (o : Option Refusal) → refusal c ≡ o → refusal c ≡ none
-    split none e = e
-    split (some r) e = absurd (h (r .number) (r .place) (rw (e, told) refl))
+abbrev second : Rereading → Token → Forest → Call
+second c k cs = secondCall (handed c) (size (node k cs nil)) (length (written k cs []))
 
--- The words that are written of a tree that was read.
-pub record Listed (ws : List ℕ) (count : ℕ) : Type 0 where
-  pub ks : List Token
-  pub is : ws ≡ listWords ks
-  pub legal : LegalTokens ks
-  pub counted : count ≡ length ks
+module _ (c : Rereading) (k : Token) (cs : Forest) (p : Parsed (c .first) k cs) where
+  tree-got : writing c k cs .tree ≡ treeWords (node k cs nil)
+  unfolding handed writerCall
+  tree-got = tree-front p
 
-module _ {ws : List ℕ} {count : ℕ} (l : Listed ws count) where
-  pub listed-tokens : tokensOf ws ≡ l .ks
-  listed-tokens = ap tokensOf (l .is) ∙ tokens-back (l .ks) (l .legal)
+  module _ (writes : writeRefusal (writing c k cs) ≡ none) where
+    list-got : take (5 * length (written k cs [])) (listAfter (writing c k cs)) ≡ listWords (written k cs [])
+    list-got = write-done p (writing c k cs) tree-got writes .front
 
-  pub listed-few : (m : ℕ) → 111 ≤ m → uses (tokensOf ws) m ≡ false
-  listed-few m above = rw listed-tokens (uses-legal (l .legal) m above)
+    -- The second reading is made.
+    made : reread c ≡ afterWriting (handed c) (size (node k cs nil)) (tokens (length (written k cs [])))
+    unfolding reread afterFirst
+    made = rw (tree-told p, write-done p (writing c k cs) tree-got writes .told) refl
 
-  pub listed-long : length ws ≡ 5 * count
-  listed-long = ap length (l .is) ∙ (listWords-length (l .ks) ∙ ap (λ (n : ℕ). 5 * n) (sym (l .counted)))
-
-  pub listed-unrefused : wordsRefusal 0 operatorSlot 0 ws ≡ none
-  listed-unrefused = rw (l .is) (list-unrefused (l .legal) 0 0)
-
--- Whatever the writer gets and writes of a tree that was read.
-pub listed-of : (first : Call) (w : WriteCall) (nodes count : ℕ) → answered first ≡ aTree nodes → w .tree ≡ take (6 * nodes) (treeAfter first)
-    → writeAnswered w ≡ tokens count
-    → Listed (take (5 * count) (listAfter w)) count
-listed-of first w nodes count parsed words wrote =
-    let t = tree-of-told first nodes parsed in
-    let p = t .parsed in
-    let handed : w .tree ≡ take (6 * size (node (t .root) (t .children) nil)) (treeAfter first) =
-    words ∙ ap (λ (n : ℕ). take (6 * n) (treeAfter first)) (t .nodes)
-    in
-    let done = write-done p w (handed ∙ tree-front p) (write-of-told w count wrote) in
-    let said = done .told in
-    let counted : count ≡ length (written (t .root) (t .children) []) = cc in
-    record {
-      ks = written (t .root) (t .children) [];
-      is = ap (λ (n : ℕ). take (5 * n) (listAfter w)) counted ∙ done .front;
-      legal = tree-written-legal p;
-      counted = counted;
-    }
-
-module _ (c : Rereading) (nodes count : ℕ) (parsed : answered (c .first) ≡ aTree nodes) (wrote : toldWriting c nodes ≡ tokens count) where
-  pub listed : Listed (take (5 * count) (listAfter (handed c nodes .write))) count
-  unfolding handed toldWriting
-  listed = listed-of (c .first) (handed c nodes .write) nodes count parsed refl wrote
-
-  module _ (treeRoom : 18 * count ≤ length (c .tree)) (workRoom : 64 * count + 64 ≤ length (c .first .work)) (legal : c .sourceLength ≤ 536870911) where
-    handed-on : HandedOn (c .first) (handed c nodes .write) (secondCall (handed c nodes) count) nodes count
-    unfolding handed toldWriting secondCall exactCall
-    handed-on =
-        let t = tree-of-told (c .first) nodes parsed in
-        let room = call-accepted (c .first) (t .parsed .accepted) .messages in
+    calls : 18 * length (written k cs []) ≤ length (c .again) → 64 * length (written k cs []) + 64 ≤ length (c .first .work)
+        → c .sourceLength ≤ 536870911
+        → ThreeCalls (c .first) (writing c k cs) (second c k cs) k cs
+    unfolding handed writerCall secondCall exactCall
+    calls treeRoom workRoom legalLength =
+        let legal = tree-written-legal p in
+        let ks = tokensOf (second c k cs .list) in
+        let same : ks ≡ written k cs [] = ap tokensOf list-got ∙ tokens-back (written k cs []) legal in
+        let few : (m : ℕ) → 111 ≤ m → uses ks m ≡ false = λ m above. rw same (uses-legal legal m above) in
         record {
-          parsed = parsed;
+          parsed = p;
           treeHanded = refl;
-          wrote = wrote;
+          writes = writes;
           listHanded = refl;
-          usedExactly = halves-exact (uses (tokensOf (take (5 * count) (listAfter (handed c nodes .write))))) (listed-few listed);
+          usedExactly = λ m. halves-exact (uses ks) few m ∙ ap (λ (l : List Token). uses l m) same;
           treeRoom = treeRoom;
-          messageRoom = rw (messages-kept (t .parsed)) room;
-          workRoom = rw (work-long (c .first)) workRoom;
-          legalLength = legal;
+          messageRoom = rw (messages-kept p) (call-accepted (c .first) (p .accepted) .messages);
+          workRoom = rw (work-long p) workRoom;
+          legalLength = legalLength;
         }
 
-    pub second-tree : ReadAgain (c .first) (secondCall (handed c nodes) count) nodes
-    second-tree = read-again (c .first) (handed c nodes .write) (secondCall (handed c nodes) count) nodes count handed-on
+    read-back : ThreeCalls (c .first) (writing c k cs) (second c k cs) k cs → HasReadBack k cs (reread c)
+    unfolding handed afterWriting secondTold
+    read-back t =
+        let same = three-calls (c .first) (writing c k cs) (second c k cs) k cs t in
+        record {
+          nodesAgain = size (node (same .root) (same .children) nil);
+          tells = rw (made, same .answers) refl;
+          listed = rw made list-got;
+          words = rw made (front-bracketless (same .parsed) ∙ (same .words ∙ sym (front-bracketless p)));
+        }
 
-  -- A second call that is not turned back had room.
-  pub second-accepted : refusal (secondCall (handed c nodes) count) ≡ none → ReadAgain (c .first) (secondCall (handed c nodes) count) nodes
-  unfolding handed secondCall exactCall
-  second-accepted e =
-      let second = secondCall (handed c nodes) count in
-      let a = call-accepted second e in
-      let long : length (second .list) ≡ 5 * count = listed-long listed in
-      let tree : 18 * (length (second .list) / 5) ≤ length (c .tree) = a .tree in
-      let work : 64 * (length (second .list) / 5) + 64 ≤ length (workAfter (c .first)) = a .work in
-      second-tree (omega arith) (omega (arith, work-long (c .first))) (a .sourceLength)
+    -- A second reading that is not turned back had room.
+    accepted : refusal (second c k cs) ≡ none → HasReadBack k cs (reread c)
+    unfolding handed secondCall exactCall
+    accepted e =
+        let n = length (written k cs []) in
+        let a = call-accepted (second c k cs) e in
+        let long : length (second c k cs .list) ≡ 5 * n = ap length list-got ∙ listWords-length (written k cs []) in
+        let tree : 18 * (length (second c k cs .list) / 5) ≤ length (c .again) = a .tree in
+        let work : 64 * (length (second c k cs .list) / 5) + 64 ≤ length (workAfter (c .first)) = a .work in
+        read-back (calls (omega arith) (omega (arith, work-long p)) (a .sourceLength))
 
-  -- What is told of all three calls.
-  pub told-second : (o : Told) → answered (secondCall (handed c nodes) count) ≡ o → rereadTold c ≡ secondTold nodes count o
-  unfolding rereadTold firstTold wroteTold
-  told-second o e = rw (parsed, wrote, e) refl
+-- EVERY CALL ENDS IN ONE OF THREE WAYS: the first reading gives messages, one of the calls is turned back, or the tree reads back.
+pub data Ends (c : Rereading) : Type 0 where
+  gaveMessages : (records : ℕ) → reread c .told ≡ firstMessages records → Ends c
+  wasTurnedBack : (call number place : ℕ) → reread c .told ≡ turnedBack call number place → Ends c
+  readBack : (k : Token) (cs : Forest) → HasReadBack k cs (reread c) → Ends c
 
-  pub left-second : treeFrom c (answered (c .first)) ≡ treeAfter (secondCall (handed c nodes) count)
-  unfolding treeFrom treeBy
-  left-second = rw (parsed, wrote) refl
-
--- Either the second call is made, or nothing of it is told.
-data Came (c : Rereading) : Type 0 where
-  made : (nodes count : ℕ) → answered (c .first) ≡ aTree nodes → toldWriting c nodes ≡ tokens count → Came c
-  stopped : ((nodes count : ℕ) (o : Told) → ((n p : ℕ) → o ≡ refused n p → ⊥) → rereadTold c ≡ secondTold nodes count o → ⊥) → Came c
-
--- A second reading's tree or messages are not told of calls before it.
-no-second : (told : RereadTold) → ((nodes count again : ℕ) → told ≡ twoTrees nodes count again → ⊥) → ((n : ℕ) → told ≡ secondMessages n → ⊥)
-    → (nodes count : ℕ) (o : Told) → ((n p : ℕ) → o ≡ refused n p → ⊥) → told ≡ secondTold nodes count o → ⊥
-unfolding secondTold
-no-second t trees messages nodes count (aTree again) h e = trees nodes count again e
-no-second t trees messages nodes count (someMessages n) h e = messages n e
-no-second t trees messages nodes count (refused n p) h e = h n p refl
-
--- Two of the cases are never the same.
-differ : {t u : RereadTold} → (t ≡ u → _≡_ {A = ℕ} 0 1) → t ≡ u → ⊥
-differ f e = let z = f e in omega arith
-
--- A call that is turned back before the second stops there.
-back-stops : (c : Rereading) (call number place : ℕ) → rereadTold c ≡ turnedBack call number place → Came c
-back-stops c call number place said =
-    stopped
-    (no-second (rereadTold c) (λ a b d q. differ {u = twoTrees a b d} (λ r. cc) q) (λ a q. differ {u = secondMessages a} (λ r. cc) q))
-
-came : (c : Rereading) → Came c
-unfolding rereadTold firstTold wroteTold
-came c = first (answered (c .first)) refl
+pub ends : (c : Rereading) → Ends c
+unfolding reread afterFirst afterWriting stopped secondTold answered told
+ends c = first (answered (c .first)) refl
   where
-    write : (n : ℕ) → answered (c .first) ≡ aTree n → (o : WriteTold) → toldWriting c n ≡ o → Came c
-    write n parsed (unwritten m p) e = back-stops c 2 m p (rw (parsed, e) refl)
-    write n parsed (tokens k) e = made n k parsed e
+    again : (k : Token) (cs : Forest) (p : Parsed (c .first) k cs) (writes : writeRefusal (writing c k cs) ≡ none) (o : Option Refusal)
+        → refusal (second c k cs) ≡ o
+        → Ends c
+    again k cs p writes none e = readBack k cs (accepted c k cs p writes e)
+    again k cs p writes (some r) e = wasTurnedBack 3 (r .number) (r .place) (rw (made c k cs p writes, e) refl)
 
-    first : (o : Told) → answered (c .first) ≡ o → Came c
-    first (refused m p) e = back-stops c 1 m p (rw e refl)
-    first (someMessages m) e =
-        let said : rereadTold c ≡ firstMessages m = rw e refl in
-        stopped (no-second (rereadTold c) (λ a b d q. differ {u = twoTrees a b d} (λ r. cc) q) (λ a q. differ {u = secondMessages a} (λ r. cc) q))
-    first (aTree n) e = write n e (toldWriting c n) refl
+    write : (k : Token) (cs : Forest) (p : Parsed (c .first) k cs) (o : WriteTold) → writeAnswered (writing c k cs) ≡ o → Ends c
+    write k cs p (unwritten m q) e = wasTurnedBack 2 m q (rw (tree-told p, e) refl)
+    write k cs p (tokens n) e = again k cs p (write-of-told (writing c k cs) n e) (refusal (second c k cs)) refl
 
--- What the second reading told.
-told-tree : (n k nodes count again : ℕ) (o : Told) → secondTold n k o ≡ twoTrees nodes count again
-    → (o ≡ aTree again) × (n ≡ nodes)
-unfolding secondTold
-told-tree n k nodes count again (aTree a) e = (cc, cc)
-told-tree n k nodes count again (someMessages m) e = let z : _≡_ {A = ℕ} 0 1 = cc in absurd (omega arith)
-told-tree n k nodes count again (refused m p) e = let z : _≡_ {A = ℕ} 0 1 = cc in absurd (omega arith)
+    first : (o : Told) → answered (c .first) ≡ o → Ends c
+    first (refused m q) e = wasTurnedBack 1 m q (rw e refl)
+    first (someMessages m) e = gaveMessages m (rw e refl)
+    first (aTree n) e =
+        let t = tree-of-told (c .first) n e in
+        write (t .root) (t .children) (t .parsed) (writeAnswered (writing c (t .root) (t .children))) refl
 
-told-messages : (n k m : ℕ) (o : Told) → secondTold n k o ≡ secondMessages m → o ≡ someMessages m
-unfolding secondTold
-told-messages n k m (aTree a) e = let z : _≡_ {A = ℕ} 0 1 = cc in absurd (omega arith)
-told-messages n k m (someMessages l) e = cc
-told-messages n k m (refused l p) e = let z : _≡_ {A = ℕ} 0 1 = cc in absurd (omega arith)
-
--- Neither is a refusal.
-tree-unrefused : (c : Call) (n : ℕ) → answered c ≡ aTree n → refusal c ≡ none
-tree-unrefused c n h = unrefused c (λ m p e. let z : _≡_ {A = ℕ} 0 1 = cc in omega arith)
-
-messages-unrefused : (c : Call) (n : ℕ) → answered c ≡ someMessages n → refusal c ≡ none
-messages-unrefused c n h = unrefused c (λ m p e. let z : _≡_ {A = ℕ} 0 1 = cc in omega arith)
-
--- THE TWO TREES AGREE.
-same-words : (c : Rereading) (nodes count again : ℕ) → rereadTold c ≡ twoTrees nodes count again
-    → bracketless (take (6 * again) (treeFrom c (answered (c .first)))) ≡ bracketless (take (6 * nodes) (treeAfter (c .first)))
-unfolding secondTold
-same-words c nodes count again h = go (came c)
-  where
-    go : Came c → bracketless (take (6 * again) (treeFrom c (answered (c .first)))) ≡ bracketless (take (6 * nodes) (treeAfter (c .first)))
-    go (stopped none-told) = absurd (none-told nodes count (aTree again) (λ n p e. let z : _≡_ {A = ℕ} 0 1 = cc in omega arith) h)
-    go (made n k parsed wrote) =
-        let second = secondCall (handed c n) k in
-        let is = told-tree n k nodes count again (answered second) (sym (told-second c n k parsed wrote (answered second) refl) ∙ h) in
-        let r = second-accepted c n k parsed wrote (tree-unrefused second again (is .0)) in
-        let answer = is .0 in
-        let answers = r .parsed in
-        let same : r .again ≡ again = cc in
-        ap (λ (ws : List ℕ). bracketless (take (6 * again) ws)) (left-second c n k parsed wrote)
-        ∙ (ap (λ (a : ℕ). bracketless (take (6 * a) (treeAfter second))) (sym same)
-        ∙ (r .words ∙ ap (λ (m : ℕ). bracketless (take (6 * m) (treeAfter (c .first)))) (is .1)))
-
-pub agrees : (c : Rereading) → Agrees c (rereadTold c) (treeAfter (c .first)) (treeFrom c (answered (c .first)))
-unfolding secondTold
-agrees c =
+-- DEMAND 3.
+pub demand-3 : (c : Rereading) → Demand3 c (reread c)
+unfolding handed writerCall
+demand-3 c =
     record {
-      ends = λ nodes count e.
-          let r = second-tree c nodes count (e .parsed) (e .wrote) (e .treeRoom) (e .workRoom) (e .legalLength) in
-          record { again = r .again; says = told-second c nodes count (e .parsed) (e .wrote) (aTree (r .again)) (r .parsed) };
-      words = same-words c;
+      readsBack = λ k cs d.
+          let p : Parsed (c .first) k cs = record { accepted = d .accepted; reads = d .reads } in
+          let tells = writer-tells p (writing c k cs) (tree-got c k cs p) .writes (d .plain) (d .few) (d .listRoom) in
+          let writes = write-of-told (writing c k cs) (length (written k cs [])) tells in
+          read-back c k cs p writes (calls c k cs p writes (d .treeRoom) (d .workRoom) (d .legalLength));
+      agree = λ nodes count nodesAgain h. agree nodes count nodesAgain h (ends c);
+      noMessages = λ records h. never records h (ends c);
     }
-
--- THE SECOND READING NEVER ENDS WITH MESSAGES.
-pub never-messages : (c : Rereading) (n : ℕ) → rereadTold c ≡ secondMessages n → ⊥
-unfolding secondTold
-never-messages c n h = go (came c)
   where
-    go : Came c → ⊥
-    go (stopped none-told) = none-told 0 0 (someMessages n) (λ m p e. let z : _≡_ {A = ℕ} 0 1 = cc in omega arith) h
-    go (made nodes k parsed wrote) =
-        let second = secondCall (handed c nodes) k in
-        let is = told-messages nodes k n (answered second) (sym (told-second c nodes k parsed wrote (answered second) refl) ∙ h) in
-        let r = second-accepted c nodes k parsed wrote (messages-unrefused second n is) in
-        let answers = r .parsed in
-        let z : _≡_ {A = ℕ} 0 1 = cc in omega arith
+    agree : (nodes count nodesAgain : ℕ) → reread c .told ≡ twoTrees nodes count nodesAgain → Ends c
+        → bracketless (take (6 * nodesAgain) (reread c .again)) ≡ bracketless (take (6 * nodes) (reread c .tree))
+    agree nodes count nodesAgain h (gaveMessages m e) = let z : _≡_ {A = ℕ} 0 1 = cc in absurd (omega arith)
+    agree nodes count nodesAgain h (wasTurnedBack m n q e) = let z : _≡_ {A = ℕ} 0 1 = cc in absurd (omega arith)
+    agree nodes count nodesAgain h (readBack k cs r) =
+        let told = r .tells in
+        let first : size (node k cs nil) ≡ nodes = cc in
+        let again : r .nodesAgain ≡ nodesAgain = cc in
+        rw (← first, ← again) (r .words)
+
+    never : (records : ℕ) → reread c .told ≡ secondMessages records → Ends c → ⊥
+    never records h (gaveMessages m e) = let z : _≡_ {A = ℕ} 0 1 = cc in omega arith
+    never records h (wasTurnedBack m n q e) = let z : _≡_ {A = ℕ} 0 1 = cc in omega arith
+    never records h (readBack k cs r) = let told = r .tells in let z : _≡_ {A = ℕ} 0 1 = cc in omega arith

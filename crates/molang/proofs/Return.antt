@@ -1,7 +1,7 @@
 -- `return`: what it leaves as it is, and that it raises no weight.
 use Prim.Native.Nat.{ℕ}
 use mathlib.Core.Path.{_≡_, refl}
-use mathlib.Core.Bool.{Bool, true}
+use mathlib.Core.Bool.{true}
 use native.Mathlib.Omega.{arith}
 use lib.Dec.{eqb}
 use Rattle.molang.specs.Operator
@@ -9,14 +9,13 @@ use Rattle.molang.specs.Forest.{Token, Forest, nil, node}
 use Rattle.molang.specs.Message.{ok}
 use Rattle.molang.specs.Level.{through, Gathered, gathered, waiting, nothing}
 use Rattle.molang.specs.Unary.{returnStep, returnResume, returnFinish, returnLevel}
-use Rattle.molang.proofs.Trees.{free, isNil, either}
+use Rattle.molang.specs.Free.{free, isNil, isReturn}
+use Rattle.molang.specs.Weight.{Weighing, weight}
+use Rattle.molang.proofs.Trees.{either}
 use Rattle.molang.proofs.Inert.{Inert, through-free}
 use Rattle.molang.proofs.Walks.{failed, goes}
-use Rattle.molang.proofs.Weight.{Weighing, weight, Ending, Light, weight-tree, turned-fine}
+use Rattle.molang.proofs.Weight.{Ending, Light, weight-tree, turned-fine}
 use Rattle.molang.proofs.Gathering.{shown, GatheredFits, gatheredFull, Gathers, gathers-node}
-
-unfoldable pub isReturn : ℕ → Bool
-isReturn n = eqb n Operator.return
 
 pub return-inert : Inert returnLevel isReturn gathered
 unfolding returnLevel nothing returnStep returnResume returnFinish isReturn
@@ -49,4 +48,11 @@ module _ (W : Weighing) where
 
   pub return-light : Light W returnLevel
   unfolding returnLevel nothing shown weight
-  return-light = record { Fits = GatheredFits W; full = gatheredFull W; begins = λ f. omega arith; steps = return-steps; ends = return-ends }
+  return-light =
+      record {
+        Fits = GatheredFits W;
+        full = gatheredFull W;
+        begins = λ f. omega arith;
+        steps = return-steps;
+        ends = return-ends;
+      }

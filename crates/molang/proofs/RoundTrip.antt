@@ -1,6 +1,6 @@
 -- DEMAND 3 OVER THE DEFINITIONS: reading what was written of a plain tree gives the tree back, up to brackets. A plain tree is spelled as a
--- bracketed expression (Spelling); each pass takes the expression's list to one in which its operators are folded too (Sections, Calls, Unary,
--- Binary, Conditional), and the passes come in an order that folds all of them, whatever the version (Order).
+-- bracketed expression (Spelling); each pass takes the expression's list to one in which its operators are folded too (Sections, Calls,
+-- Unary, Binary, Conditional), and the passes come in an order that folds all of them, whatever the version (Order).
 use Prim.Native.Nat.{ℕ}
 use mathlib.Core.Path.{_≡_, ap, sym, _∙_}
 use mathlib.Core.List.{List, []}
@@ -56,10 +56,10 @@ pub record SameWords (k : Token) (cs : Forest) (version : ℤ) (sourceLength : �
   pub reads : read (written k cs []) (uses (written k cs [])) version sourceLength ≡ tree root children
   pub words : treeWords (takenAway false (node root children nil) nil) ≡ treeWords (takenAway false (node k cs nil) nil)
 
--- DEMAND 3. Take any plain tree. At any version and source length, reading its written list with each operator of its tokens and no other gives
--- a tree; and the two trees, with every one-child bracket taken away that is no call's argument, are the same words in the same order:
--- operators, payloads, spans and child counts alike. (It does not matter which reading gave the tree, nor how long its writing is. `Entries` has
--- the demand's three calls, which say both.)
+-- DEMAND 3. Take any plain tree. At any version and source length, reading its written list with each operator of its tokens and no other
+-- gives a tree; and the two trees, with every one-child bracket taken away that is no call's argument, are the same words in the same
+-- order: operators, payloads, spans and child counts alike. (It does not matter which reading gave the tree, nor how long its writing is.
+-- `Entries` has the demand's three calls, which say both.)
 pub demand-3 : (k : Token) (cs : Forest) → unplainAt k cs ≡ none → (version : ℤ) (sourceLength : ℕ) → SameWords k cs version sourceLength
 demand-3 k cs plain version sourceLength =
     let again = round-trip k cs plain version sourceLength in

@@ -1,7 +1,7 @@
 -- Members and sections raise no weight of a flat list: one in which only member accessors have children, so that every bracket is a leaf.
 use Prim.Native.Nat.{ℕ, _+_, _≤_}
 use mathlib.Core.Path.{_≡_, refl}
-use mathlib.Core.Bool.{Bool, true, false, _&&_}
+use mathlib.Core.Bool.{true, false}
 use mathlib.Core.List.{List, [], _∷_}
 use mathlib.Core.Option.{Option, none, some}
 use native.Mathlib.Omega.{arith}
@@ -12,15 +12,13 @@ use Rattle.molang.specs.Operator
 use Rattle.molang.specs.Operator.{hasMembers, closingOf, isCloser}
 use Rattle.molang.specs.Forest.{Token, Forest, nil, node, leaves, turnedOnto, inOrder}
 use Rattle.molang.specs.Message.{Message, Result, fail, closer}
-use Rattle.molang.specs.Sections.{withMember, members, Open, outside, section, placed, position, Walked, going, mismatch, closing, bracket, closed, sections}
+use Rattle.molang.specs.Sections.{withMember, members, Open, outside, section, placed, position, Walked, going, mismatch, closing}
+use Rattle.molang.specs.Sections.{bracket, closed, sections}
+use Rattle.molang.specs.Free.{flat}
+use Rattle.molang.specs.Weight.{Weighing, weight}
 use Rattle.molang.proofs.Trees.{decided, either, maybe, both, and-true-true}
 use Rattle.molang.proofs.Walks.{Outcome, failed, fine}
-use Rattle.molang.proofs.Weight.{Weighing, weight, weight-tree, weight-inOrder}
-
-unfoldable pub flat : Forest → Bool
-flat nil = true
-flat (node k nil rest) = flat rest
-flat (node k (node c cs r) rest) = eqb (k .op) Operator.memberAccessor && flat rest
+use Rattle.molang.proofs.Weight.{weight-tree, weight-inOrder}
 
 pub leaves-flat : (ks : List Token) → flat (leaves ks) ≡ true
 unfolding flat leaves
@@ -55,6 +53,11 @@ afterMember m rest x = elim x [ none ↦ fail m | some e ↦ members e rest ]
 -- `sections` at a token, by what it makes of the open sections.
 unfoldable pub afterBracket : ℕ → Forest → Walked → Result
 afterBracket i rest x = elim x [ going t ↦ sections i t rest | mismatch m ↦ fail m ]
+
+-- A member accessor opens no section.
+pub member-unopened : (k : Token) → eqb (k .op) Operator.memberAccessor ≡ true → closingOf (k .op) ≡ none
+unfolding closingOf
+member-unopened k e = rw (eqb-true (k .op) Operator.memberAccessor e) refl
 
 -- The trees so far with one more member accessor.
 data Joined (W : Weighing) (n : ℕ) : Option Forest → Type 0 where
@@ -118,20 +121,18 @@ module _ (W : Weighing) where
 
   -- What is no opener.
   unopened-light : (k : Token) (cs : Forest) (i : ℕ) (s : Open)
-      → Walks (weight W (node k cs nil) + openWeight s) (elim (isCloser (k .op)) [ true ↦ closing k cs i s | false ↦ going (placed k cs s) ])
+      → Walks (weight W (node k cs nil) + openWeight s)
+      (elim (isCloser (k .op)) [ true ↦ closing k cs i s | false ↦ going (placed k cs s) ])
   unopened-light k cs i s =
       either (Walks (weight W (node k cs nil) + openWeight s)) (isCloser (k .op)) _ _ (closing-light k cs i s)
       (walks {s = placed k cs s} (omega (arith, placed-light k cs s)))
-
-  member-unopened : (k : Token) → eqb (k .op) Operator.memberAccessor ≡ true → closingOf (k .op) ≡ none
-  unfolding closingOf
-  member-unopened k e = rw (eqb-true (k .op) Operator.memberAccessor e) refl
 
   bracket-light : (k : Token) (cs rest : Forest) (i : ℕ) (s : Open) → flat (node k cs rest) ≡ true
       → Walks (weight W (node k cs nil) + openWeight s) (bracket k cs i s)
   unfolding bracket openWeight weight flat
   bracket-light k nil rest i s h =
-      maybe (Walks (weight W (node k nil nil) + openWeight s)) (closingOf (k .op)) _ _ (λ c. walks {s = section k (i + 1) nil s} (omega arith))
+      maybe (Walks (weight W (node k nil nil) + openWeight s)) (closingOf (k .op)) _ _
+      (λ c. walks {s = section k (i + 1) nil s} (omega arith))
       (unopened-light k nil i s)
   bracket-light k (node c cs r) rest i s h =
       rw (member-unopened k (both (eqb (k .op) Operator.memberAccessor) (flat rest) h .0), bracket) (unopened-light k (node c cs r) i s)

@@ -9,14 +9,14 @@ use Rattle.molang.specs.Operator
 use Rattle.molang.specs.Forest.{Token, Forest, nil, node, bare, inOrder}
 use Rattle.molang.specs.Message.{ok}
 use Rattle.molang.specs.Level.{Step, into, through}
-use Rattle.molang.specs.Statements.{Split, unsplit, after, inside, splitOf, isEntered, gather, endStatement, enterSplit, statementStep, statementResume, statementFinish, statementLevel}
-use Rattle.molang.proofs.Trees.{free, clear, isNil, decided, either, clear-leaf}
+use Rattle.molang.specs.Statements.{Split, unsplit, after, inside, splitOf, isEntered, gather, endStatement, enterSplit}
+use Rattle.molang.specs.Statements.{statementStep, statementResume, statementFinish, statementLevel}
+use Rattle.molang.specs.Free.{free, clear, isNil, isSemicolon}
+use Rattle.molang.specs.Weight.{Weighing, weight}
+use Rattle.molang.proofs.Trees.{decided, either, clear-leaf}
 use Rattle.molang.proofs.Inert.{Inert, through-free}
 use Rattle.molang.proofs.Walks.{fine, Onward, stops, goes, enters}
-use Rattle.molang.proofs.Weight.{Weighing, weight, Within, Ending, Light, weight-inner, weight-tree, weight-gathered, turned-fine}
-
-unfoldable pub isSemicolon : ℕ → Bool
-isSemicolon n = eqb n Operator.semicolon
+use Rattle.molang.proofs.Weight.{Within, Ending, Light, weight-inner, weight-tree, weight-gathered, turned-fine}
 
 pub split-clear : (f : Forest) → clear isSemicolon f ≡ true → splitOf f ≡ unsplit nil
 unfolding splitOf clear isSemicolon
@@ -64,7 +64,8 @@ module _ (W : Weighing) (pays : 3 * W .inner ≤ W .leaf Operator.semicolon) whe
   abbrev SplitOnward : Token → Forest → Forest → ℕ → Step Split → Type 0
   SplitOnward k cs rest n = Onward (Within W) statementLevel SplitFits splitFull k cs rest n
 
-  split-fits : (f g : Forest) (n : ℕ) → weight W g ≤ n → (clear isSemicolon f ≡ false → clear isSemicolon g ≡ false) → SplitFits (splitOf f) g n
+  split-fits : (f g : Forest) (n : ℕ) → weight W g ≤ n → (clear isSemicolon f ≡ false → clear isSemicolon g ≡ false)
+      → SplitFits (splitOf f) g n
   unfolding splitOf clear isSemicolon weight
   split-fits nil g n h c = omega arith
   split-fits (node k (node x xs y) rest) g n h c = split-fits rest g n h c
@@ -79,7 +80,8 @@ module _ (W : Weighing) (pays : 3 * W .inner ≤ W .leaf Operator.semicolon) whe
 
   gather-light : (m : Split) (k : Token) (kids cs rest : Forest) (n : ℕ) → SplitFits m (node k cs rest) n
       → weight W (node k kids nil) ≤ weight W (node k cs nil)
-      → (clear isSemicolon (node k cs rest) ≡ clear isSemicolon rest) → SplitFits (gather k kids m) rest n × (splitFull (gather k kids m) ≡ true)
+      → (clear isSemicolon (node k cs rest) ≡ clear isSemicolon rest)
+      → SplitFits (gather k kids m) rest n × (splitFull (gather k kids m) ≡ true)
   unfolding gather isNil weight
   gather-light (unsplit d) k kids cs rest n h w e = (omega (arith, weight-tree W k kids d, weight-tree W k cs rest), refl)
   gather-light (after q done) k kids cs rest n h w e =
@@ -99,7 +101,8 @@ module _ (W : Weighing) (pays : 3 * W .inner ≤ W .leaf Operator.semicolon) whe
   end-light k (inside q (node t ts done) s d) rest n e h =
       let semicolon = ap (W .leaf) (eqb-true (k .op) Operator.semicolon e) in
       let finished = node t ts done in
-      goes {t = after q (node s (inOrder d) finished)} (omega (arith, h .0, pays, semicolon, weight-gathered W s d finished (h .2)), tt) refl
+      goes {t = after q (node s (inOrder d) finished)}
+      (omega (arith, h .0, pays, semicolon, weight-gathered W s d finished (h .2)), tt) refl
 
   -- A node's children, split for themselves, come back to it.
   statement-enters : (m : Split) (k c : Token) (cs r rest : Forest) (n : ℕ) → SplitFits m (node k (node c cs r) rest) n
@@ -108,7 +111,9 @@ module _ (W : Weighing) (pays : 3 * W .inner ≤ W .leaf Operator.semicolon) whe
   statement-enters m k c cs r rest n h =
       let kids-begin = split-fits (node c cs r) (node c cs r) (weight W (node c cs r)) (omega arith) (λ e. e) in
       enters {t = m} {u = splitOf (node c cs r)} (weight W (node c cs r)) kids-begin refl
-      λ kids w e. gather-light m k kids (node c cs r) rest n h (omega (arith, weight-inner W k kids nil e, weight-inner W k (node c cs r) nil refl)) refl
+      λ kids w e.
+      gather-light m k kids (node c cs r) rest n h
+      (omega (arith, weight-inner W k kids nil e, weight-inner W k (node c cs r) nil refl)) refl
 
   enter-light : (m : Split) (k c : Token) (cs r rest : Forest) (n : ℕ) → SplitFits m (node k (node c cs r) rest) n
       → SplitOnward k (node c cs r) rest n (enterSplit m k (node c cs r))

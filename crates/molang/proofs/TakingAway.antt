@@ -76,7 +76,8 @@ single-kept c cs =
 
 taken-twice : (c : Bool) (f r R : Forest) → takenAway c (takenAway c f r) R ≡ takenAway c f (takenAway c r R)
 taken-twice c nil r R = unfold takenAway in refl
-taken-twice c (node k cs rest) r R = split c (isBracket (k .op) && isSingle cs && not c) refl (λ d. taken-twice d cs) (taken-twice c rest r R)
+taken-twice c (node k cs rest) r R =
+    split c (isBracket (k .op) && isSingle cs && not c) refl (λ d. taken-twice d cs) (taken-twice c rest r R)
   where
     split : (c b : Bool) → (isBracket (k .op) && isSingle cs && not c) ≡ b
         → ((d : Bool) (r R : Forest) → takenAway d (takenAway d cs r) R ≡ takenAway d cs (takenAway d r R))

@@ -1,4 +1,4 @@
--- Facts about forests that the laws of the passes share: which leaves stand in a forest, and what turning a gathered list round keeps.
+-- Facts that the laws of the passes share: cases on a test, which leaves stand in a forest, and what turning a gathered list round keeps.
 use Prim.Native.Nat.{ℕ, _≤_}
 use mathlib.Core.Path.{_≡_, refl}
 use mathlib.Core.Bool.{Bool, true, false, _&&_, not, and-eq-true-iff, true≢false}
@@ -6,25 +6,11 @@ use mathlib.Core.Option.{Option, none, some}
 use native.Mathlib.Omega.{arith}
 use borrow.Author.Tests.{not-true}
 use Rattle.molang.specs.Forest.{Token, Forest, nil, node, turnedOnto, count, size}
-
--- No leaf at any depth has an operator that passes P.
-unfoldable pub free : (ℕ → Bool) → Forest → Bool
-free P nil = true
-free P (node k nil rest) = not (P (k .op)) && free P rest
-free P (node k (node c cs r) rest) = free P (node c cs r) && free P rest
-
--- No tree of the list itself is such a leaf.
-unfoldable pub clear : (ℕ → Bool) → Forest → Bool
-clear P nil = true
-clear P (node k nil rest) = not (P (k .op)) && clear P rest
-clear P (node k (node c cs r) rest) = clear P rest
-
-unfoldable pub isNil : Forest → Bool
-isNil nil = true
-isNil (node k cs rest) = false
+use Rattle.molang.specs.Free.{isNil, free, clear}
 
 -- What holds of both cases of a test holds of the test's outcome.
-pub decided : {A : Type 0} (Q : A → Type 0) (b : Bool) (x y : A) → (b ≡ true → Q x) → (b ≡ false → Q y) → Q (elim b [ true ↦ x | false ↦ y ])
+pub decided : {A : Type 0} (Q : A → Type 0) (b : Bool) (x y : A) → (b ≡ true → Q x) → (b ≡ false → Q y)
+    → Q (elim b [ true ↦ x | false ↦ y ])
 decided Q true x y p q = p refl
 decided Q false x y p q = q refl
 

@@ -2,7 +2,7 @@
 -- since a minus after an operand becomes both.
 use Prim.Native.Nat.{ℕ, _+_, _≤_}
 use mathlib.Core.Path.{_≡_, refl, ap}
-use mathlib.Core.Bool.{Bool, true, false, _||_, not}
+use mathlib.Core.Bool.{Bool, true, false, not}
 use mathlib.Core.List.{List, [], _∷_}
 use mathlib.Core.Option.{Option, none, some}
 use native.Mathlib.Omega.{arith}
@@ -14,13 +14,12 @@ use Rattle.molang.specs.Operator.{isOneOf, BeforeMinus, operand, operato
 use Rattle.molang.specs.Forest.{Token, Forest, nil, node, renamed, bare}
 use Rattle.molang.specs.Message.{Message, ok, fail}
 use Rattle.molang.specs.Unary.{Unary, done, undone, minusAfter, notBefore, unaryLeaf, turned, unaryNode, unary, unaryPass}
-use Rattle.molang.proofs.Trees.{free, isNil, decided, either, free-leaf, free-tree}
+use Rattle.molang.specs.Free.{free, isNil, isPrefix}
+use Rattle.molang.specs.Weight.{Weighing, weight}
+use Rattle.molang.proofs.Trees.{decided, either, free-leaf, free-tree}
 use Rattle.molang.proofs.Booleans.{false-true, or-neither}
 use Rattle.molang.proofs.Walks.{failed, fine}
-use Rattle.molang.proofs.Weight.{Weighing, weight, Ending, weight-inner, weight-tree}
-
-unfoldable pub isPrefix : ℕ → Bool
-isPrefix n = eqb n Operator.negate || eqb n Operator.logicalNot
+use Rattle.molang.proofs.Weight.{Ending, weight-inner, weight-tree}
 
 pub unary-free : (p : Option Token) (f : Forest) → free isPrefix f ≡ true → unary p f ≡ done false f
 unfolding unary unaryNode unaryLeaf turned isPrefix
@@ -58,7 +57,8 @@ before-is-minus n =
     NegateIf b = b ≡ minus → eqb n Operator.negate ≡ true
 
 -- What holds after every kind of node before a minus holds after the node.
-pub beforeCases : {A : Type 0} (Q : A → Type 0) (b : BeforeMinus) (x y z w : A) → (b ≡ operator → Q x) → (b ≡ operand → Q y) → (b ≡ minus → Q z)
+pub beforeCases : {A : Type 0} (Q : A → Type 0) (b : BeforeMinus) (x y z w : A) → (b ≡ operator → Q x) → (b ≡ operand → Q y)
+    → (b ≡ minus → Q z)
     → (b ≡ unknown → Q w)
     → Q (elim b [ operator ↦ x | operand ↦ y | minus ↦ z | unknown ↦ w ])
 beforeCases Q operator x y z w a b c d = a refl
@@ -90,7 +90,8 @@ module _ (W : Weighing) (turns : W .leaf Operator.add + W .inner ≤ W .leaf Ope
       (λ q. reached {r = node x xs r} (omega arith) (λ f. refl) (λ t. before-is-minus (p .op) q))
       (λ q. stuck refl)
 
-  not-light : (p : Option Token) (k : Token) (r : Forest) (n : ℕ) (b : Bool) → W .leaf (k .op) + weight W r ≤ n → Reaches W n b p (notBefore k r)
+  not-light : (p : Option Token) (k : Token) (r : Forest) (n : ℕ) (b : Bool) → W .leaf (k .op) + weight W r ≤ n
+      → Reaches W n b p (notBefore k r)
   unfolding notBefore weight isNil
   not-light p k nil n b h = stuck refl
   not-light p k (node x xs r) n b h =

@@ -12,7 +12,8 @@ use Rattle.molang.specs.Forest.{Token, Forest, nil, node, turnedOnto, in
 use Rattle.molang.specs.Message.{binaryAtEnd, Result, ok, fail}
 use Rattle.molang.specs.Level.{Step, stop, on, into, Level, walk, through, Gathered, gathered, waiting, nothing}
 use Rattle.molang.specs.Binary.{firstLeaf, unfolded, joined, operatorAfter, binaryStep, binaryResume, binaryFinish, binaryLevel}
-use Rattle.molang.proofs.Trees.{free, isNil, decided, maybe, some-none, and-true-true, free-leaf, free-tree}
+use Rattle.molang.specs.Free.{free, isNil}
+use Rattle.molang.proofs.Trees.{decided, maybe, some-none, and-true-true, free-leaf, free-tree}
 use Rattle.molang.proofs.Walks.{failed, fine, Ends, Onward, stops, goes, enters, Keeps, back, onward, walk-keeps}
 use Rattle.molang.proofs.Weight.{isNil-inOrder}
 use Rattle.molang.proofs.Binary.{full-joined}
@@ -27,7 +28,8 @@ module _ (ops : List ℕ) where
     over : {b : Bool} → Late b nil
     leafThen : {b : Bool} {k : Token} {rest : Forest} → isOneOf ops (k .op) ≡ false → Late true rest → Late b (node k nil rest)
     lastly : {k : Token} → isOneOf ops (k .op) ≡ true → Late true (node k nil nil)
-    treeThen : {b : Bool} {k c : Token} {cs r rest : Forest} → Late false (node c cs r) → Late true rest → Late b (node k (node c cs r) rest)
+    treeThen : {b : Bool} {k c : Token} {cs r rest : Forest} → Late false (node c cs r) → Late true rest
+        → Late b (node k (node c cs r) rest)
 
   -- A list that the level itself gives: it holds no operator leaf of its own.
   pub data Kept : Forest → Type 0 where
@@ -68,8 +70,10 @@ module _ (ops : List ℕ) where
 
   tree-late : (o : Option Token) (d : Forest) (k c : Token) (cs r rest : Forest) → firstLeaf ops (node c cs r) ≡ o
       → walk (binaryLevel ops) (gathered nil) (node c cs r) ≡ atFirst (firstLeaf ops (node c cs r)) (node c cs r)
-      → walk (binaryLevel ops) (gathered (node k (node c cs r) d)) rest ≡ atFirst (firstLeaf ops rest) (turnedOnto (node k (node c cs r) d) rest)
-      → walk (binaryLevel ops) (gathered d) (node k (node c cs r) rest) ≡ atFirst (firstLeaf ops (node k (node c cs r) rest)) (turnedOnto (node k (node c cs r) d) rest)
+      → walk (binaryLevel ops) (gathered (node k (node c cs r) d)) rest
+      ≡ atFirst (firstLeaf ops rest) (turnedOnto (node k (node c cs r) d) rest)
+      → walk (binaryLevel ops) (gathered d) (node k (node c cs r) rest)
+      ≡ atFirst (firstLeaf ops (node k (node c cs r) rest)) (turnedOnto (node k (node c cs r) d) rest)
   unfolding walk binaryLevel binaryStep binaryResume firstLeaf atFirst
   tree-late none d k c cs r rest e below later = rw (e, firstLeaf) (rw (rw e at below, walk) later)
   tree-late (some t) d k c cs r rest e below later = rw (e, firstLeaf) (rw (rw e at below, walk) refl)
@@ -78,7 +82,8 @@ module _ (ops : List ℕ) where
       → walk (binaryLevel ops) (gathered d) f ≡ atFirst (firstLeaf ops f) (turnedOnto d f)
   unfolding walk binaryLevel binaryFinish firstLeaf atFirst turnedOnto inOrder isNil
   walk-late d over n = refl
-  walk-late d (leafThen {k = k} {rest = rest} e h) n = rw (keeps-leaf d k e, walk) (rw (e, firstLeaf) (walk-late (node k nil d) h (λ t. refl)))
+  walk-late d (leafThen {k = k} {rest = rest} e h) n =
+      rw (keeps-leaf d k e, walk) (rw (e, firstLeaf) (walk-late (node k nil d) h (λ t. refl)))
   walk-late d (lastly {k = k} e) n = last-fails d k e (n refl)
   walk-late d (treeThen {k = k} {c = c} {cs = cs} {r = r} {rest = rest} below later) n =
       tree-late (firstLeaf ops (node c cs r)) d k c cs r rest refl (walk-late nil below (λ t. absurd (false≢true t)))
@@ -93,7 +98,8 @@ module _ (ops : List ℕ) where
   late-right k nil h = late-operand (isOneOf ops (k .op)) k refl
   late-right k (node c cs r) h = treeThen (kept-late h) over
 
-  kept-joined : (d : Forest) (q k : Token) (kids : Forest) → Kept d → isNil d ≡ false → Late true (node k kids nil) → Kept (joined d q k kids)
+  kept-joined : (d : Forest) (q k : Token) (kids : Forest) → Kept d → isNil d ≡ false → Late true (node k kids nil)
+      → Kept (joined d q k kids)
   unfolding joined isNil
   kept-joined nil q k kids h n r = absurd (true≢false n)
   kept-joined (node l nil d) q k kids (leafFirst e h) n r = treeFirst (leafThen e r) h
@@ -124,7 +130,8 @@ module _ (ops : List ℕ) where
   kept-steps : (s : Gathered) (k : Token) (cs rest : Forest) (n : Unit {0}) → KeptState s → KeptOnward k cs rest (binaryStep ops s k cs)
   unfolding binaryLevel binaryStep binaryResume operatorAfter isNil
   kept-steps (gathered nil) k nil rest n h =
-      decided (KeptOnward k nil rest) (isOneOf ops (k .op)) _ _ (λ e. stops refl) (λ e. goes {t = gathered (node k nil nil)} (leafFirst e h) refl)
+      decided (KeptOnward k nil rest) (isOneOf ops (k .op)) _ _ (λ e. stops refl)
+      (λ e. goes {t = gathered (node k nil nil)} (leafFirst e h) refl)
   kept-steps (gathered (node l ls d)) k nil rest n h =
       decided (KeptOnward k nil rest) (isOneOf ops (k .op)) _ _ (λ e. goes {t = waiting (node l ls d) k} (h, refl) refl)
       (λ e. goes {t = gathered (node k nil (node l ls d))} (leafFirst e h) refl)
@@ -189,7 +196,8 @@ module _ (ops : List ℕ) where
   step-again (waiting d q) k cs h = step-waiting (unfolded ops d) d q k cs refl (again-kept d (h .0))
 
   back-again : (t : Gathered) (k : Token) (rest : Forest) {x : Result} → Ends GoodKept tt true x
-      → ((kids : Forest) → Kept kids → isNil kids ≡ false → walk againLevel (binaryResume t k kids) rest ≡ walk (binaryLevel ops) (binaryResume t k kids) rest)
+      → ((kids : Forest) → Kept kids → isNil kids ≡ false
+      → walk againLevel (binaryResume t k kids) rest ≡ walk (binaryLevel ops) (binaryResume t k kids) rest)
       → back againLevel t k rest x ≡ back (binaryLevel ops) t k rest x
   unfolding back againLevel binaryLevel
   back-again t k rest (failed o) later = refl
@@ -211,7 +219,8 @@ module _ (ops : List ℕ) where
   unfolding walk againLevel binaryLevel onward back
   walk-again s nil h = refl
   walk-again s (node k cs rest) h =
-      ap (onward againLevel k cs rest) (step-again s k cs h) ∙ onward-again k cs rest (kept-steps s k cs rest tt h) (λ t h. walk-again t rest h)
+      ap (onward againLevel k cs rest) (step-again s k cs h)
+      ∙ onward-again k cs rest (kept-steps s k cs rest tt h) (λ t h. walk-again t rest h)
       (λ u h. walk-again u cs h)
 
   -- The second walk changes nothing: the definition's level is the Rust's.

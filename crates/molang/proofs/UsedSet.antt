@@ -1,12 +1,12 @@
--- Used sets by their bits: one without operators above 110 is a number below 2 ^ 111, which the entry does not turn back; and every set of
--- operators up to 110 is one, in two halves.
+-- Used sets by their bits: one without operators above 110 is a number below 2 ^ 111, which the entry does not turn back; and two halves
+-- with exactly a set's operators are the halves of its number.
 use Prim.Native.Nat.{ℕ, zero, suc, _+_, _*_, _/_, _%_, _^_, _≤_, _<_}
 use mathlib.Core.Path.{_≡_, refl, ap, sym, _∙_, fun-ext}
 use mathlib.Core.Bool.{Bool, true, false, _&&_, false≢true}
 use native.Mathlib.Nat.{div-one, pow-suc}
 use native.Mathlib.Omega.{arith}
 use lib.Dec.{eqb, ltb, leb·zero, leb·suc-zero, leb·suc-suc, eqb·zero-suc, eqb·suc-zero, eqb·suc-suc}
-use lib.Pow.{shr-shr, shr-le, shr-lt, split}
+use lib.Pow.{shr-shr, shr-le, split}
 use borrow.Author.Tests.{eqb-false, eq-eqb, ne-eqb, leb-false}
 use Rattle.molang.specs.Read.{setNumber}
 use Rattle.molang.specs.Parse.{inHalves}
@@ -94,26 +94,6 @@ exact-halves low high f fits few exactly =
     let u = high * 2 ^ 64 + low in
     let same : u ≡ n = same-bits (u + n) u n (omega arith) (omega arith) (λ j. exactly j ∙ sym (set-bits f 111 few j)) in
     (omega arith, omega arith)
-
--- Every set of operators up to 110 is a used set in two halves.
-pub record Halves (f : ℕ → Bool) : Type 0 where
-  pub low : ℕ
-  pub high : ℕ
-  pub exactly : (m : ℕ) → inHalves low high m ≡ f m
-  pub lowFits : low < 2 ^ 64
-  pub highFits : high < 2 ^ 64
-
-high-small : {n : ℕ} → n < 2 ^ 47 → n < 2 ^ 64
-high-small h = omega arith
-
-pub halves : (f : ℕ → Bool) → ((m : ℕ) → 111 ≤ m → f m ≡ false) → Halves f
-unfolding inHalves
-halves f h =
-    let n = setNumber f 111 in
-    let whole = split n 64 in
-    let exactly = halves-exact f h in
-    let few : n < 2 ^ 111 = rw whole at (used-few (n % 2 ^ 64) (n / 2 ^ 64) (λ m b. exactly m ∙ h m b)) in
-    record { low = n % 2 ^ 64; high = n / 2 ^ 64; exactly = exactly; lowFits = omega arith; highFits = high-small (shr-lt 47 64 few) }
 
 -- The set without operators, and the set of one.
 pub no-operators : (n : ℕ) → setNumber (λ m. false) n ≡ 0

@@ -24,7 +24,8 @@ same false false f g = refl
 -- Acting as 13 changes no test against a number up to 13.
 leb-min : (k n : ℕ) → k ≤ 13 → leb k (min n 13) ≡ leb k n
 leb-min k n h =
-    same (leb k (min n 13)) (leb k n) (λ t. le→leb k n (omega (arith, leb→le k (min n 13) t))) (λ t. le→leb k (min n 13) (omega (arith, leb→le k n t)))
+    same (leb k (min n 13)) (leb k n) (λ t. le→leb k n (omega (arith, leb→le k (min n 13) t)))
+    (λ t. le→leb k (min n 13) (omega (arith, leb→le k n t)))
 
 tested : Bool → Bool → Rules
 tested from6 from5 = record { comparisonsFirst = from6; andFirst = from6; pairsRight = from5 }
@@ -44,6 +45,7 @@ rules-of-three (negsuc n) = refl
 rules-of-three (pos n) =
     rw (leb-min 6 n (omega arith), leb-min 5 n (omega arith)) (three (leb 6 n) (leb 5 n) (λ t. le→leb 5 n (omega (arith, leb→le 6 n t))))
 
-pub reads-as : (tokens : List Token) (u : ℕ → Bool) (v : ℤ) (sourceLength : ℕ) → read tokens u v sourceLength ≡ read tokens u (readsAs v) sourceLength
+pub reads-as : (tokens : List Token) (u : ℕ → Bool) (v : ℤ) (sourceLength : ℕ)
+    → read tokens u v sourceLength ≡ read tokens u (readsAs v) sourceLength
 unfolding read
 reads-as tokens u v sourceLength = rw (rules-of-three v)

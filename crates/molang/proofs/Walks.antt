@@ -8,7 +8,7 @@ use lib.ListN.{length}
 use Rattle.molang.specs.Forest.{Token, Forest, nil, node}
 use Rattle.molang.specs.Message.{Message, Result, ok, fail}
 use Rattle.molang.specs.Level.{Step, stop, on, into, Level, walk, through}
-use Rattle.molang.proofs.Trees.{isNil}
+use Rattle.molang.specs.Free.{isNil}
 
 -- A pass ends in so many messages, or in a list of which Q holds.
 pub data Outcome (count : ℕ) (Q : Forest → Type 0) : Result → Type 0 where
@@ -19,12 +19,15 @@ pub data Outcome (count : ℕ) (Q : Forest → Type 0) : Result → Type 0 where
 abbrev pub Ends : {I : Type 0} → (I → Forest → Type 0) → I → Bool → Result → Type 0
 Ends Good n full = Outcome 1 (λ g. Good n g × (full ≡ true → isNil g ≡ false))
 
-weaker : {I : Type 0} (Good : I → Forest → Type 0) (n : I) {b c : Bool} {x : Result} → (b ≡ true → c ≡ true) → Ends Good n c x → Ends Good n b x
+weaker : {I : Type 0} (Good : I → Forest → Type 0) (n : I) {b c : Bool} {x : Result} → (b ≡ true → c ≡ true) → Ends Good n c x
+    → Ends Good n b x
 weaker Good n h (failed o) = failed o
 weaker Good n h (fine e) = fine (e .0, λ b. e .1 (h b))
 
 -- What a level's next step leaves of the bound n, in terms of what it says of a state and the rest of the list.
-pub data Onward {I S : Type 0} (Good : I → Forest → Type 0) (L : Level S) (Fits : S → Forest → I → Type 0) (full : S → Bool) (k : Token) (cs rest : Forest) (n : I) : Step S → Type 0 where
+pub data Onward {I S : Type 0} (Good : I → Forest → Type 0) (L : Level S) (Fits : S → Forest → I → Type 0) (full : S → Bool)
+    (k : Token) (cs rest : Forest) (n : I)
+    : Step S → Type 0 where
   stops : {m : List Message} → length m ≡ 1 → Onward Good L Fits full k cs rest n (stop m)
   goes : {t : S} → Fits t rest n → full t ≡ true → Onward Good L Fits full k cs rest n (on t)
   enters : {t u : S} (m : I) → Fits u cs m → isNil cs ≡ false
@@ -36,7 +39,8 @@ pub record Keeps {I S : Type 0} (Good : I → Forest → Type 0) (bound : Forest
   pub Fits : S → Forest → I → Type 0
   pub full : S → Bool
   pub begins : (f : Forest) → Fits (L .start f) f (bound f)
-  pub steps : (s : S) (k : Token) (cs rest : Forest) (n : I) → Fits s (node k cs rest) n → Onward Good L Fits full k cs rest n (L .step s k cs)
+  pub steps : (s : S) (k : Token) (cs rest : Forest) (n : I) → Fits s (node k cs rest) n
+      → Onward Good L Fits full k cs rest n (L .step s k cs)
   pub ends : (s : S) (n : I) → Fits s nil n → Ends Good n (full s) (L .finish s)
 
 -- `walk` by what the next step and the children's list give.

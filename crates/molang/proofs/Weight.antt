@@ -9,19 +9,9 @@ use borrow.Author.Tests.{not-true}
 use Rattle.molang.specs.Forest.{Token, Forest, nil, node, turnedOnto, inOrder}
 use Rattle.molang.specs.Message.{Result, ok}
 use Rattle.molang.specs.Level.{Level, through}
-use Rattle.molang.proofs.Trees.{isNil}
+use Rattle.molang.specs.Free.{isNil}
+use Rattle.molang.specs.Weight.{Weighing, weight}
 use Rattle.molang.proofs.Walks.{fine, Ends, Keeps, through-keeps}
-
--- What a leaf weighs by its operator, and a node with children besides those; a leaf that gets children becomes no heavier by itself.
-pub record Weighing : Type 0 where
-  pub leaf : ℕ → ℕ
-  pub inner : ℕ
-  pub lighter : (n : ℕ) → inner ≤ leaf n
-
-unfoldable pub weight : Weighing → Forest → ℕ
-weight W nil = 0
-weight W (node k nil rest) = W .leaf (k .op) + weight W rest
-weight W (node k (node c cs r) rest) = W .inner + weight W (node c cs r) + weight W rest
 
 abbrev pub Within : Weighing → ℕ → Forest → Type 0
 Within W n g = weight W g ≤ n
@@ -34,7 +24,8 @@ Ending W = Ends (Within W)
 abbrev pub Light : Weighing → {S : Type 0} → Level S → Type 1
 Light W L = Keeps (Within W) (weight W) L
 
-pub through-light : (W : Weighing) {S : Type 0} (L : Level S) → Light W L → (f : Forest) → Ending W (weight W f) (not (isNil f)) (through L f)
+pub through-light : (W : Weighing) {S : Type 0} (L : Level S) → Light W L → (f : Forest)
+    → Ending W (weight W f) (not (isNil f)) (through L f)
 through-light W L A f = through-keeps (Within W) (weight W) L A f
 
 pub isNil-turned : (d f : Forest) → isNil f ≡ false → isNil (turnedOnto d f) ≡ false
@@ -74,7 +65,8 @@ module _ (W : Weighing) where
   weight-inOrder d = omega (arith, weight-turned d nil)
 
   -- A node over trees that were gathered the last first.
-  pub weight-gathered : (k : Token) (d rest : Forest) → isNil d ≡ false → weight W (node k (inOrder d) rest) ≡ W .inner + weight W d + weight W rest
+  pub weight-gathered : (k : Token) (d rest : Forest) → isNil d ≡ false
+      → weight W (node k (inOrder d) rest) ≡ W .inner + weight W d + weight W rest
   weight-gathered k d rest e = omega (arith, weight-inner k (inOrder d) rest (isNil-inOrder d e), weight-inOrder d)
 
   -- The end of a level that gives what it has gathered.

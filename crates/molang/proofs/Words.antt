@@ -9,9 +9,13 @@ use lib.Dec.{eqb, leb, ltb}
 use lib.ListN.{length}
 use borrow.Author.Tests.{eqb-true, eqb-false, leb-true, ltb-true}
 use Rattle.molang.specs.Forest.{Token, Forest, nil, node, count}
-use Rattle.molang.specs.Words.{word, kindOf, lowOf, tokenWords, tokenOf, Legal, tokensOf, listWords, treeWords, Slot, operatorSlot, startSlot, endSlot, upperSlot, lowerSlot, slotKind, unless, lowFault, wordFault, variantAfter, nextInToken, Refusal, wordsRefusal}
+use Rattle.molang.specs.Words.{word, kindOf, lowOf, tokenWords, tokenOf, tokensOf, listWords, treeWords, Field, operatorField}
+use Rattle.molang.specs.Words.{startField, endField, upperField, lowerField, fieldKind, lowFault, wordFault, variantAfter}
+use Rattle.molang.specs.Words.{nextInToken, wordsRefusal}
+use Rattle.molang.specs.Legal.{Legal}
 use Rattle.molang.specs.WriteEntry.{firstTrees, otherTrees, treesOf}
-use Rattle.molang.proofs.Trees.{decided, some-none}
+use Rattle.molang.proofs.Trees.{decided}
+use Rattle.molang.proofs.FirstFailure.{must-none, first-none, passed, withPlace-none}
 
 pub data LegalTokens : List Token → Type 0 where
   noTokens : LegalTokens []
@@ -34,12 +38,15 @@ high-part high low h = omega arith
 
 -- A token is read back from its words.
 pub token-back : (k : Token) → Legal k
-    → tokenOf (word 1 (k .variant * 2 ^ 8 + k .op)) (word 2 (k .start)) (word 3 (k .end)) (word 4 (k .value / 2 ^ 16)) (word 5 (k .value % 2 ^ 16)) ≡ k
+    → tokenOf (word 1 (k .variant * 2 ^ 8 + k .op)) (word 2 (k .start)) (word 3 (k .end)) (word 4 (k .value / 2 ^ 16))
+    (word 5 (k .value % 2 ^ 16)) ≡ k
 unfolding tokenOf
 token-back k h =
     let first = low-word 1 (k .variant * 2 ^ 8 + k .op) (omega arith) in
     let op : lowOf (word 1 (k .variant * 2 ^ 8 + k .op)) % 2 ^ 8 ≡ k .op = rw first (omega arith) in
-    let variant : lowOf (word 1 (k .variant * 2 ^ 8 + k .op)) / 2 ^ 8 % 2 ^ 4 ≡ k .variant = rw (first, high-part (k .variant) (k .op) (omega arith)) (omega arith) in
+    let variant : lowOf (word 1 (k .variant * 2 ^ 8 + k .op)) / 2 ^ 8 % 2 ^ 4 ≡ k .variant =
+    rw (first, high-part (k .variant) (k .op) (omega arith)) (omega arith)
+    in
     let value : lowOf (word 4 (k .value / 2 ^ 16)) % 2 ^ 16 * 2 ^ 16 + lowOf (word 5 (k .value % 2 ^ 16)) % 2 ^ 16 ≡ k .value =
     rw (low-word 4 (k .value / 2 ^ 16) (omega arith), low-word 5 (k .value % 2 ^ 16) (omega arith)) (omega arith)
     in
@@ -77,7 +84,8 @@ unfolding treesOf treeWords tokenWords beside
 trees-beside noTrees ws = refl
 trees-beside (legalTree {k = k} {cs = cs} {rest = rest} h n below later) ws =
     let trees : treesOf ((treeWords cs ++ treeWords rest) ++ ws) ≡ beside cs (beside rest (treesOf ws)) =
-    rw (append-assoc (treeWords cs) (treeWords rest) ws) (trees-beside below (treeWords rest ++ ws) ∙ ap (beside cs) (trees-beside later ws))
+    rw (append-assoc (treeWords cs) (treeWords rest) ws)
+    (trees-beside below (treeWords rest ++ ws) ∙ ap (beside cs) (trees-beside later ws))
     in
     rw (token-back k h, low-word 6 (count cs) (omega arith), trees, first-beside, other-beside) refl
 
@@ -86,25 +94,20 @@ pub trees-back : (f : Forest) → LegalTrees f → treesOf (treeWords f) ≡ f
 unfolding treesOf
 trees-back f h = ap treesOf (sym (append-nil (treeWords f))) ∙ (trees-beside h [] ∙ beside-nil f)
 
--- What no test fails.
-pub unless-none : (b : Bool) (n : ℕ) (later : Option ℕ) → unless b n later ≡ none → (b ≡ true) × (later ≡ none)
-unfolding unless
-unless-none true n later e = (refl, e)
-unless-none false n later e = some-none e
-
 -- A word without fault: its kind, and its low bits.
-pub word-faultless : (slot : Slot) (v w : ℕ) → wordFault slot v w ≡ none → (kindOf w ≡ slotKind slot) × (lowFault slot v (lowOf w) ≡ none)
+pub word-faultless : (field : Field) (v w : ℕ) → wordFault field v w ≡ none
+    → (kindOf w ≡ fieldKind field) × (lowFault field v (lowOf w) ≡ none)
 unfolding wordFault
-word-faultless slot v w e =
-    let z = unless-none (eqb (kindOf w) (slotKind slot)) 8 (lowFault slot v (lowOf w)) e in
-    (eqb-true (kindOf w) (slotKind slot) (z .0), z .1)
+word-faultless field v w e =
+    let z = passed (eqb (kindOf w) (fieldKind field)) 8 _ e in
+    (eqb-true (kindOf w) (fieldKind field) (z .0), first-none _ _ (z .1) .0)
 
-operator-faultless : (v low : ℕ) → lowFault operatorSlot v low ≡ none → (low % 2 ^ 8 ≤ 110) × (low / 2 ^ 8 % 2 ^ 4 ≤ 12) × (low < 2 ^ 12)
+operator-faultless : (v low : ℕ) → lowFault operatorField v low ≡ none → (low % 2 ^ 8 ≤ 110) × (low / 2 ^ 8 % 2 ^ 4 ≤ 12) × (low < 2 ^ 12)
 unfolding lowFault
 operator-faultless v low e =
-    let x = unless-none (leb (low % 2 ^ 8) 110) 9 _ e in
-    let y = unless-none (leb (low / 2 ^ 8 % 2 ^ 4) 12) 10 _ (x .1) in
-    let z = unless-none (ltb low (2 ^ 12)) 11 none (y .1) in
+    let x = passed (leb (low % 2 ^ 8) 110) 9 _ e in
+    let y = passed (leb (low / 2 ^ 8 % 2 ^ 4) 12) 10 _ (x .1) in
+    let z = passed (ltb low (2 ^ 12)) 11 _ (y .1) in
     (leb-true (low % 2 ^ 8) 110 (x .0), leb-true (low / 2 ^ 8 % 2 ^ 4) 12 (y .0), ltb-true low (2 ^ 12) (z .0))
 
 -- Half of a payload value, in a token of variant v.
@@ -116,13 +119,13 @@ half-bound v low =
     decided (λ bound. low < bound → Half v low) (eqb v 0) _ _ (λ e h. (omega arith, λ z. omega arith))
     (λ e h. (omega arith, λ z. absurd (eqb-false v 0 e z)))
 
-upper-faultless : (v low : ℕ) → lowFault upperSlot v low ≡ none → Half v low
+upper-faultless : (v low : ℕ) → lowFault upperField v low ≡ none → Half v low
 unfolding lowFault
-upper-faultless v low e = half-bound v low (ltb-true low _ (unless-none _ 11 none e .0))
+upper-faultless v low e = half-bound v low (ltb-true low _ (must-none _ 11 e))
 
-lower-faultless : (v low : ℕ) → lowFault lowerSlot v low ≡ none → Half v low
+lower-faultless : (v low : ℕ) → lowFault lowerField v low ≡ none → Half v low
 unfolding lowFault
-lower-faultless v low e = half-bound v low (ltb-true low _ (unless-none _ 11 none e .0))
+lower-faultless v low e = half-bound v low (ltb-true low _ (must-none _ 11 e))
 
 -- The five words of a token without fault.
 pub record FiveLegal (a b c d e : ℕ) : Type 0 where
@@ -178,22 +181,22 @@ module _ (a b c d e : ℕ) (h : FiveLegal a b c d e) where
       ) refl
 
 -- Each of a token's five words is without fault.
-pub five-faultless : (v a b c d e : ℕ) → wordFault operatorSlot v a ≡ none → wordFault startSlot (lowOf a / 2 ^ 8 % 2 ^ 4) b ≡ none
-    → wordFault endSlot (lowOf a / 2 ^ 8 % 2 ^ 4) c ≡ none
-    → wordFault upperSlot (lowOf a / 2 ^ 8 % 2 ^ 4) d ≡ none
-    → wordFault lowerSlot (lowOf a / 2 ^ 8 % 2 ^ 4) e ≡ none
+pub five-faultless : (v a b c d e : ℕ) → wordFault operatorField v a ≡ none → wordFault startField (lowOf a / 2 ^ 8 % 2 ^ 4) b ≡ none
+    → wordFault endField (lowOf a / 2 ^ 8 % 2 ^ 4) c ≡ none
+    → wordFault upperField (lowOf a / 2 ^ 8 % 2 ^ 4) d ≡ none
+    → wordFault lowerField (lowOf a / 2 ^ 8 % 2 ^ 4) e ≡ none
     → FiveLegal a b c d e
-unfolding slotKind
+unfolding fieldKind
 five-faultless v a b c d e ha hb hc hd he =
     let u = lowOf a / 2 ^ 8 % 2 ^ 4 in
-    let fa = word-faultless operatorSlot v a ha in
-    let fd = word-faultless upperSlot u d hd in
-    let fe = word-faultless lowerSlot u e he in
+    let fa = word-faultless operatorField v a ha in
+    let fd = word-faultless upperField u d hd in
+    let fe = word-faultless lowerField u e he in
     let o = operator-faultless v (lowOf a) (fa .1) in
     record {
       operatorKind = fa .0;
-      startKind = word-faultless startSlot u b hb .0;
-      endKind = word-faultless endSlot u c hc .0;
+      startKind = word-faultless startField u b hb .0;
+      endKind = word-faultless endField u c hc .0;
       upperKind = fd .0;
       lowerKind = fe .0;
       operator = o .0;
@@ -203,20 +206,15 @@ five-faultless v a b c d e ha hb hc hd he =
       lower = lower-faultless u (lowOf e) (fe .1);
     }
 
-refused-none : (o : Option ℕ) (refused : ℕ → Refusal) (later : Option Refusal)
-    → _≡_ {A = Option Refusal} (elim o [ some n ↦ some (refused n) | none ↦ later ]) none → (o ≡ none) × (later ≡ none)
-refused-none none refused later e = (refl, e)
-refused-none (some n) refused later e = some-none e
-
 -- Of words that are not refused the first has no fault, and the others are not refused.
-pub next-word : (i : ℕ) (slot : Slot) (v w : ℕ) (ws : List ℕ) → wordsRefusal i slot v (w ∷ ws) ≡ none
-    → (wordFault slot v w ≡ none) × (wordsRefusal (suc i) (nextInToken slot) (variantAfter slot v w) ws ≡ none)
+pub next-word : (i : ℕ) (field : Field) (v w : ℕ) (ws : List ℕ) → wordsRefusal i field v (w ∷ ws) ≡ none
+    → (wordFault field v w ≡ none) × (wordsRefusal (suc i) (nextInToken field) (variantAfter field v w) ws ≡ none)
 unfolding wordsRefusal
-next-word i slot v w ws e = refused-none (wordFault slot v w) (λ n. record { number = n; place = i }) _ e
+next-word i field v w ws e = let z = first-none _ _ e in (withPlace-none i (wordFault field v w) (z .0), first-none _ _ (z .1) .0)
 
-pub words-back : (i v : ℕ) (ws : List ℕ) → wordsRefusal i operatorSlot v ws ≡ none → length ws % 5 ≡ 0
+pub words-back : (i v : ℕ) (ws : List ℕ) → wordsRefusal i operatorField v ws ≡ none → length ws % 5 ≡ 0
     → (listWords (tokensOf ws) ≡ ws) × LegalTokens (tokensOf ws)
-unfolding tokensOf listWords nextInToken variantAfter slotKind
+unfolding tokensOf listWords nextInToken variantAfter fieldKind
 words-back i v [] h n = (refl, noTokens)
 words-back i v (a ∷ []) h n = absurd (omega arith)
 words-back i v (a ∷ b ∷ []) h n = absurd (omega arith)
@@ -224,11 +222,11 @@ words-back i v (a ∷ b ∷ c ∷ []) h n = absurd (omega arith)
 words-back i v (a ∷ b ∷ c ∷ d ∷ []) h n = absurd (omega arith)
 words-back i v (a ∷ b ∷ c ∷ d ∷ e ∷ ws) h n =
     let u = lowOf a / 2 ^ 8 % 2 ^ 4 in
-    let ra = next-word i operatorSlot v a (b ∷ c ∷ d ∷ e ∷ ws) h in
-    let rb = next-word (suc i) startSlot u b (c ∷ d ∷ e ∷ ws) (ra .1) in
-    let rc = next-word (suc (suc i)) endSlot u c (d ∷ e ∷ ws) (rb .1) in
-    let rd = next-word (suc (suc (suc i))) upperSlot u d (e ∷ ws) (rc .1) in
-    let re = next-word (suc (suc (suc (suc i)))) lowerSlot u e ws (rd .1) in
+    let ra = next-word i operatorField v a (b ∷ c ∷ d ∷ e ∷ ws) h in
+    let rb = next-word (suc i) startField u b (c ∷ d ∷ e ∷ ws) (ra .1) in
+    let rc = next-word (suc (suc i)) endField u c (d ∷ e ∷ ws) (rb .1) in
+    let rd = next-word (suc (suc (suc i))) upperField u d (e ∷ ws) (rc .1) in
+    let re = next-word (suc (suc (suc (suc i)))) lowerField u e ws (rd .1) in
     let five = five-faultless v a b c d e (ra .0) (rb .0) (rc .0) (rd .0) (re .0) in
     let later = words-back (suc (suc (suc (suc (suc i))))) u ws (re .1) (omega arith) in
     (rw (five-back a b c d e five, later .0) refl, token (five-legal a b c d e five) (later .1))

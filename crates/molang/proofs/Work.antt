@@ -1,117 +1,19 @@
--- What is left of a pass at a moment of its run: a state and the items that are not read yet, in reading order, give the pass's result. The
--- levels from the left have the definition's `walk`; the unary pass reads from the right, so its items stand the last first. The lists that
--- wait for the children of one of their items are unwound one after another.
+-- Laws of what is left of a pass: at its beginning it is the whole pass (`pass-begins`), a list has the same nodes in reading order
+-- (`reading-size`), and a failure goes through every list that waits (`unwound-fail`).
+use Prim.Native.Nat.{_+_}
 use mathlib.Core.Path.{_≡_, refl, ap, sym, _∙_}
 use mathlib.Core.Bool.{Bool, false}
 use mathlib.Core.List.{List, [], _∷_}
-use mathlib.Core.Option.{Option, none, some}
-use Prim.Native.Nat.{ℕ}
-use Rattle.molang.specs.Forest.{Token, Forest, nil, node, turnedOnto, inOrder}
-use Rattle.molang.specs.Message.{Result, ok, fail}
-use Rattle.molang.specs.Level.{walk, through, Gathered}
-use Rattle.molang.specs.Calls.{CallKind, Indexing, callLevel, arrayLevel}
-use Rattle.molang.specs.Statements.{Split, statementLevel}
-use Rattle.molang.specs.Unary.{Unary, done, undone, unary, unaryPass, unaryNode, turned, returnLevel}
-use Rattle.molang.specs.Binary.{binaryLevel}
-use Rattle.molang.specs.Conditional.{conditionalLevel}
-
--- The passes that go through nested lists.
-pub data Kind : Type 0 where
-  calls : CallKind → Kind
-  statements arrays unaries ternary returns : Kind
-  binary : List ℕ → Kind
-
--- What the unary pass holds of a list: whether the last unread item turns into `+`, and the trees that are done, in order.
-pub data Right : Type 0 where
-  right : Bool → Forest → Right
-
--- What a pass holds of a list.
-abbrev pub State : Kind → Type 0
-State (calls c) = Gathered
-State statements = Split
-State arrays = Indexing
-State unaries = Right
-State ternary = Forest
-State returns = Gathered
-State (binary ops) = Gathered
-
--- The token before the ones that are read, from the right.
-unfoldable pub before : Forest → Option Token
-before nil = none
-before (node k cs left) = some k
-
--- The unary pass over the items that are left, the last first.
-unfoldable pub fromRight : Right → Forest → Result
-fromRight (right pair r) nil = ok r
-fromRight (right pair r) (node k cs left) =
-    elim (unary none cs) [
-      | undone m ↦ fail m
-      | done inner kids ↦
-          elim (unaryNode (before left) (turned pair k) cs kids r) [ undone m ↦ fail m | done p s ↦ fromRight (right p s) left ]
-    ]
-
--- The pass over the items that are left, in reading order.
-unfoldable pub work : (κ : Kind) → State κ → Forest → Result
-work (calls c) s f = walk (callLevel c) s f
-work statements s f = walk statementLevel s f
-work arrays s f = walk arrayLevel s f
-work unaries s f = fromRight s f
-work ternary s f = walk conditionalLevel s f
-work returns s f = walk returnLevel s f
-work (binary ops) s f = walk (binaryLevel ops) s f
-
--- The state at the beginning of a list.
-unfoldable pub begins : (κ : Kind) → Forest → State κ
-begins (calls c) f = callLevel c .start f
-begins statements f = statementLevel .start f
-begins arrays f = arrayLevel .start f
-begins unaries f = right false nil
-begins ternary f = conditionalLevel .start f
-begins returns f = returnLevel .start f
-begins (binary ops) f = binaryLevel ops .start f
-
--- The items of a list in reading order.
-unfoldable pub inReading : Kind → Forest → Forest
-inReading (calls c) f = f
-inReading statements f = f
-inReading arrays f = f
-inReading unaries f = inOrder f
-inReading ternary f = f
-inReading returns f = f
-inReading (binary ops) f = f
-
--- An item taken back with its children as they have become.
-unfoldable pub takes : (κ : Kind) → State κ → Token → Forest → State κ
-takes (calls c) s k kids = callLevel c .resume s k kids
-takes statements s k kids = statementLevel .resume s k kids
-takes arrays s k kids = arrayLevel .resume s k kids
-takes unaries (right pair r) k kids = right false (node (turned pair k) kids r)
-takes ternary s k kids = conditionalLevel .resume s k kids
-takes returns s k kids = returnLevel .resume s k kids
-takes (binary ops) s k kids = binaryLevel ops .resume s k kids
-
--- The whole pass over a list.
-unfoldable pub pass : Kind → Forest → Result
-pass (calls c) f = through (callLevel c) f
-pass statements f = through statementLevel f
-pass arrays f = through arrayLevel f
-pass unaries f = unaryPass f
-pass ternary f = through conditionalLevel f
-pass returns f = through returnLevel f
-pass (binary ops) f = through (binaryLevel ops) f
-
-unfoldable pub andThen : Result → (Forest → Result) → Result
-andThen (ok f) g = g f
-andThen (fail m) g = fail m
-
--- A list that waits for the children of its item k: its state, and the items after k.
-pub data Held (κ : Kind) : Type 0 where
-  held : State κ → Token → Forest → Held κ
-
--- The result of the outermost list from that of the innermost.
-unfoldable pub unwound : (κ : Kind) → List (Held κ) → Result → Result
-unwound κ [] r = r
-unwound κ (held s k f ∷ S) r = unwound κ S (andThen r (λ kids. work κ (takes κ s k kids) f))
+use mathlib.Core.Option.{none, some}
+use native.Mathlib.Omega.{arith}
+use Rattle.molang.specs.Forest.{Token, Forest, nil, node, turnedOnto, inOrder, count, size}
+use Rattle.molang.specs.Message.{Message, Result, ok, fail}
+use Rattle.molang.specs.Level.{through}
+use Rattle.molang.specs.Calls.{queryOrLoop, math}
+use Rattle.molang.specs.Order.{apply}
+use Rattle.molang.specs.Unary.{Unary, done, undone, unaryLeaf, unary, unaryPass, unaryNode, turned}
+use Rattle.molang.specs.Work.{Kind, calls, statements, arrays, unaryMinusAndNot, conditional, returns, binary, right, before}
+use Rattle.molang.specs.Work.{fromRight, work, begins, inReading, passOf, pass, andThen, Held, held, unwound}
 
 -- ---- the whole pass is what is left at its beginning
 
@@ -129,7 +31,8 @@ unfolding toResult leftOf fromRight
 done-left (undone m) = refl
 done-left (done p r) = refl
 
-unary-node : (left : Forest) (k : Token) (cs f : Forest) → leftOf left (unary (before left) (node k cs f)) ≡ leftOf (node k cs left) (unary (some k) f)
+unary-node : (left : Forest) (k : Token) (cs f : Forest)
+    → leftOf left (unary (before left) (node k cs f)) ≡ leftOf (node k cs left) (unary (some k) f)
 unfolding leftOf fromRight unary
 unary-node left k cs f = go (unary (some k) f) refl (unary none cs) refl
   where
@@ -138,7 +41,10 @@ unary-node left k cs f = go (unary (some k) f) refl (unary none cs) refl
     last (done p s) = refl
 
     go : (u : Unary) → unary (some k) f ≡ u → (v : Unary) → unary none cs ≡ v
-        → leftOf left (elim u [ undone m ↦ undone m | done pair r ↦ elim v [ undone m ↦ undone m | done inner kids ↦ unaryNode (before left) (turned pair k) cs kids r ] ]) ≡ leftOf (node k cs left) u
+        → leftOf left (elim u [
+          | undone m ↦ undone m
+          | done pair r ↦ elim v [ undone m ↦ undone m | done inner kids ↦ unaryNode (before left) (turned pair k) cs kids r ]
+        ]) ≡ leftOf (node k cs left) u
     go (undone m) e v d = refl
     go (done pair r) e (undone m) d = rw (d, leftOf, fromRight) refl
     go (done pair r) e (done inner kids) d = rw (d, leftOf, fromRight) (last (unaryNode (before left) (turned pair k) cs kids r))
@@ -161,14 +67,90 @@ as-result (done p r) = refl
 
 unary-begins : (f : Forest) → unaryPass f ≡ fromRight (right false nil) (inOrder f)
 unfolding unaryPass inOrder turnedOnto leftOf unary
-unary-begins f = as-result (unary none f) ∙ ap (λ (g : Forest). toResult (unary none g)) (sym (turned-back f nil)) ∙ unary-left (inOrder f) nil
+unary-begins f =
+    as-result (unary none f) ∙ ap (λ (g : Forest). toResult (unary none g)) (sym (turned-back f nil)) ∙ unary-left (inOrder f) nil
 
+-- The whole pass, as what is left of it at its beginning.
 pub pass-begins : (κ : Kind) (f : Forest) → pass κ f ≡ work κ (begins κ f) (inReading κ f)
-unfolding pass work begins inReading through
-pass-begins (calls c) f = refl
+unfolding pass passOf apply work begins inReading through
+pass-begins (calls queryOrLoop) f = refl
+pass-begins (calls math) f = refl
 pass-begins statements f = refl
 pass-begins arrays f = refl
-pass-begins unaries f = unary-begins f
-pass-begins ternary f = refl
+pass-begins unaryMinusAndNot f = unary-begins f
+pass-begins conditional f = refl
 pass-begins returns f = refl
 pass-begins (binary ops) f = refl
+
+-- ---- one item of the unary pass
+
+-- What is left after a step that gave u.
+after-step : (left : Forest) (u : Unary) → elim u [ undone m ↦ fail m | done p s ↦ fromRight (right p s) left ] ≡ leftOf left u
+unfolding leftOf
+after-step left (undone m) = refl
+after-step left (done p s) = refl
+
+pub at-leaf : (pair : Bool) (k : Token) (d left : Forest)
+    → fromRight (right pair d) (node k nil left) ≡ leftOf left (unaryLeaf (before left) (turned pair k) d)
+unfolding fromRight unary unaryNode
+at-leaf pair k d left = after-step left (unaryLeaf (before left) (turned pair k) d)
+
+-- The children come first.
+pub at-node : (pair : Bool) (k c : Token) (cs r d left : Forest)
+    → fromRight (right pair d) (node k (node c cs r) left)
+    ≡ andThen (unaryPass (node c cs r)) (λ kids. fromRight (right false (node (turned pair k) kids d)) left)
+unfolding fromRight unaryNode unaryPass andThen
+at-node pair k c cs r d left = into (unary none (node c cs r))
+  where
+    into : (u : Unary)
+        → elim u [ undone m ↦ fail m | done inner kids ↦ fromRight (right false (node (turned pair k) kids d)) left ]
+        ≡ andThen (elim u [ undone m ↦ fail m | done p s ↦ ok s ]) (λ kids. fromRight (right false (node (turned pair k) kids d)) left)
+    into (undone m) = refl
+    into (done p s) = refl
+
+-- ---- sizes in reading order
+
+turned-size : (a b : Forest) → size (turnedOnto a b) ≡ size a + size b
+unfolding turnedOnto size
+turned-size nil b = omega arith
+turned-size (node k cs a) b = let e = turned-size a (node k cs b) in e ∙ omega arith
+
+turned-count : (a b : Forest) → count (turnedOnto a b) ≡ count a + count b
+unfolding turnedOnto count
+turned-count nil b = omega arith
+turned-count (node k cs a) b = let e = turned-count a (node k cs b) in e ∙ omega arith
+
+reversed-size : (f : Forest) → size (inOrder f) ≡ size f
+unfolding inOrder size
+reversed-size f = let e = turned-size f nil in omega arith
+
+reversed-count : (f : Forest) → count (inOrder f) ≡ count f
+unfolding inOrder count
+reversed-count f = let e = turned-count f nil in omega arith
+
+pub reading-size : (κ : Kind) (f : Forest) → size (inReading κ f) ≡ size f
+unfolding inReading
+reading-size (calls kind) f = refl
+reading-size statements f = refl
+reading-size arrays f = refl
+reading-size unaryMinusAndNot f = reversed-size f
+reading-size conditional f = refl
+reading-size returns f = refl
+reading-size (binary ops) f = refl
+
+pub reading-count : (κ : Kind) (f : Forest) → count (inReading κ f) ≡ count f
+unfolding inReading
+reading-count (calls kind) f = refl
+reading-count statements f = refl
+reading-count arrays f = refl
+reading-count unaryMinusAndNot f = reversed-count f
+reading-count conditional f = refl
+reading-count returns f = refl
+reading-count (binary ops) f = refl
+
+-- ---- failures
+
+pub unwound-fail : (κ : Kind) (S : List (Held κ)) (ms : List Message) → unwound κ S (fail ms) ≡ fail ms
+unfolding unwound andThen
+unwound-fail κ [] ms = refl
+unwound-fail κ (held s k f ∷ S) ms = unwound-fail κ S ms

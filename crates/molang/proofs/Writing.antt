@@ -1,16 +1,16 @@
--- Laws of writing: the written count is the length, and each token of the tree is put in once, with nothing added but brackets.
+-- Laws of writing: what is written before tokens, and that each token of the tree is put in once, with nothing added but brackets.
 use Prim.Native.Nat.{ℕ, suc, _+_}
-use mathlib.Core.Path.{_≡_, refl, ap, _∙_}
+use mathlib.Core.Path.{_≡_, refl, ap, sym, _∙_}
 use mathlib.Core.Bool.{Bool, true, false, false≢true}
-use mathlib.Core.List.{List, [], _∷_}
+use mathlib.Core.List.{List, [], _∷_, _++_, append-assoc}
 use mathlib.Core.Option.{none, some}
 use native.Mathlib.Omega.{arith}
-use lib.ListN.{length}
+use lib.ListN.{length, length-append}
 use Rattle.molang.specs.Operator.{isBracket}
 use Rattle.molang.specs.Forest.{Token, Forest, nil, node, size}
-use Rattle.molang.specs.Plain.{Place, elsewhere, placeUnder, plainForm, placeOf, unplain, unplainAt}
+use Rattle.molang.specs.Plain.{Seat, elsewhere, seatUnder, plainForm, seatOf, unplain, unplainAt}
 use Rattle.molang.proofs.PlainTrees.{plain-parts}
-use Rattle.molang.specs.Write.{openerFor, closerFor, standsAlone, standsLeft, standsRight, operandTokens, written, operandCount, writtenCount}
+use Rattle.molang.specs.Write.{openerFor, closerFor, standsAlone, standsLeft, standsRight, operandTokens, written}
 
 -- The writing of a node without children and with one, by whether it is a bracket.
 pub written-none : (b : Bool) (k : Token) (r : List Token) → isBracket (k .op) ≡ b
@@ -26,68 +26,64 @@ pub written-one : (b : Bool) (k x : Token) (xs : Forest) (r : List Token) → is
 unfolding written
 written-one b k x xs r h = rw (← h) refl
 
-count-none : (b : Bool) (k : Token) → isBracket (k .op) ≡ b → writtenCount k nil ≡ (elim b as (λ t. ℕ) [ true ↦ 2 | false ↦ 1 ])
-unfolding writtenCount
-count-none b k h = rw (← h) refl
-
-count-one : (b : Bool) (k x : Token) (xs : Forest) → isBracket (k .op) ≡ b
-    → writtenCount k (node x xs nil) ≡ (elim b as (λ t. ℕ) [
-      | true ↦ writtenCount x xs + 2
-      | false ↦ 1 + operandCount (standsAlone x xs) (writtenCount x xs)
-    ])
-unfolding writtenCount
-count-one b k x xs h = rw (← h) refl
-
 pub written-two : (k x : Token) (xs : Forest) (y : Token) (ys : Forest) (r : List Token)
     → written k (node x xs (node y ys nil)) r ≡ operandTokens (standsLeft k x xs) x (written x xs)
     (k ∷ operandTokens (standsRight k y ys) y (written y ys) r)
 unfolding written
 written-two k x xs y ys r = refl
 
-count-two : (k x : Token) (xs : Forest) (y : Token) (ys : Forest)
-    → writtenCount k (node x xs (node y ys nil)) ≡ operandCount (standsLeft k x xs) (writtenCount x xs) + 1 + operandCount (standsRight k y ys)
-    (writtenCount y ys)
-unfolding writtenCount
-count-two k x xs y ys = refl
-
 pub written-more : (k x : Token) (xs : Forest) (y : Token) (ys : Forest) (z : Token) (zs more : Forest) (r : List Token)
     → written k (node x xs (node y ys (node z zs more))) r ≡ k ∷ r
 unfolding written
 written-more k x xs y ys z zs more r = refl
 
-count-more : (k x : Token) (xs : Forest) (y : Token) (ys : Forest) (z : Token) (zs more : Forest)
-    → writtenCount k (node x xs (node y ys (node z zs more))) ≡ 1
-unfolding writtenCount
-count-more k x xs y ys z zs more = refl
+-- What is written before some tokens is what is written, and then these.
+pub operand-before : (b : Bool) (k : Token) (tokens : List Token → List Token) (r : List Token)
+    → ((s : List Token) → tokens s ≡ tokens [] ++ s)
+    → operandTokens b k tokens r ≡ operandTokens b k tokens [] ++ r
+unfolding operandTokens
+operand-before true k tokens r h = h r
+operand-before false k tokens r h =
+    ap (λ (l : List Token). openerFor k ∷ l)
+    (h (closerFor k ∷ r) ∙ (sym (append-assoc (tokens []) (closerFor k ∷ []) r) ∙ ap (λ (l : List Token). l ++ r)
+    (sym (h (closerFor k ∷ [])))))
 
-count-operand : (b : Bool) (k : Token) (F : List Token → List Token) (n : ℕ) → ((r : List Token) → length (F r) ≡ n + length r)
-    → (r : List Token) → length (operandTokens b k F r) ≡ operandCount b n + length r
-unfolding operandTokens operandCount
-count-operand true k F n h r = h r
-count-operand false k F n h r = let a = h (closerFor k ∷ r) in omega arith
-
--- THE WRITTEN COUNT: every tree's writing, before any tokens, is as long as the count says.
-pub written-length : (k : Token) (cs : Forest) (r : List Token) → length (written k cs r) ≡ writtenCount k cs + length r
-written-length k nil r = split (isBracket (k .op)) refl
+pub written-before : (k : Token) (cs : Forest) (r : List Token) → written k cs r ≡ written k cs [] ++ r
+written-before k nil r = split (isBracket (k .op)) refl
   where
-    split : (b : Bool) → isBracket (k .op) ≡ b → length (written k nil r) ≡ writtenCount k nil + length r
-    split true h = rw (written-none true k r h, count-none true k h) (omega arith)
-    split false h = rw (written-none false k r h, count-none false k h) (omega arith)
-written-length k (node x xs nil) r = split (isBracket (k .op)) refl (written-length x xs)
+    split : (b : Bool) → isBracket (k .op) ≡ b → written k nil r ≡ written k nil [] ++ r
+    split true h = rw (written-none true k r h, written-none true k [] h) refl
+    split false h = rw (written-none false k r h, written-none false k [] h) refl
+written-before k (node x xs nil) r = split (isBracket (k .op)) refl (written-before x xs)
   where
-    split : (b : Bool) → isBracket (k .op) ≡ b → ((r : List Token) → length (written x xs r) ≡ writtenCount x xs + length r)
-        → length (written k (node x xs nil) r) ≡ writtenCount k (node x xs nil) + length r
-    split true h i = let a = i (closerFor k ∷ r) in rw (written-one true k x xs r h, count-one true k x xs h) (omega arith)
+    split : (b : Bool) → isBracket (k .op) ≡ b → ((r : List Token) → written x xs r ≡ written x xs [] ++ r)
+        → written k (node x xs nil) r ≡ written k (node x xs nil) [] ++ r
+    split true h i =
+        rw (written-one true k x xs r h, written-one true k x xs [] h, i (closerFor k ∷ r), i (closerFor k ∷ []), append-assoc) refl
     split false h i =
-        let a = count-operand (standsAlone x xs) x (written x xs) (writtenCount x xs) i r in
-        rw (written-one false k x xs r h, count-one false k x xs h) (omega arith)
-written-length k (node x xs (node y ys nil)) r =
-    let a = count-operand (standsLeft k x xs) x (written x xs) (writtenCount x xs) (written-length x xs)
-    (k ∷ operandTokens (standsRight k y ys) y (written y ys) r) in
-    let b = count-operand (standsRight k y ys) y (written y ys) (writtenCount y ys) (written-length y ys) r in
-    rw (written-two k x xs y ys r, count-two k x xs y ys) (omega arith)
-written-length k (node x xs (node y ys (node z zs more))) r = rw (written-more k x xs y ys z zs more r, count-more k x xs y ys z zs more)
-    (omega arith)
+        rw (written-one false k x xs r h, written-one false k x xs [] h) (ap (λ (l : List Token). k ∷ l)
+        (operand-before (standsAlone x xs) x (written x xs) r i))
+written-before k (node x xs (node y ys nil)) r =
+    let right = operandTokens (standsRight k y ys) y (written y ys) in
+    let left = operandTokens (standsLeft k x xs) x (written x xs) in
+    let hr : right r ≡ right [] ++ r = operand-before (standsRight k y ys) y (written y ys) r (written-before y ys) in
+    let hl : (s : List Token) → left s ≡ left [] ++ s = λ s. operand-before (standsLeft k x xs) x (written x xs) s (written-before x xs) in
+    written-two k x xs y ys r
+    ∙ (ap (λ (l : List Token). left (k ∷ l)) hr
+    ∙ (hl (k ∷ (right [] ++ r))
+    ∙ (sym (append-assoc (left []) (k ∷ right []) r)
+    ∙ ap (λ (l : List Token). l ++ r) (sym (hl (k ∷ right [])) ∙ sym (written-two k x xs y ys [])))))
+written-before k (node x xs (node y ys (node z zs more))) r =
+    written-more k x xs y ys z zs more r ∙ ap (λ (l : List Token). l ++ r) (sym (written-more k x xs y ys z zs more []))
+
+-- So the lengths add up.
+pub operand-length : (b : Bool) (k : Token) (cs : Forest) (r : List Token)
+    → length (operandTokens b k (written k cs) r) ≡ length (operandTokens b k (written k cs) []) + length r
+operand-length b k cs r =
+    ap length (operand-before b k (written k cs) r (written-before k cs)) ∙ length-append (operandTokens b k (written k cs) []) r
+
+pub written-length : (k : Token) (cs : Forest) (r : List Token) → length (written k cs r) ≡ length (written k cs []) + length r
+written-length k cs r = ap length (written-before k cs r) ∙ length-append (written k cs []) r
 
 -- The tree's own tokens, in the order of writing: each operator between or before its operands. (No plain node has three children.)
 unfoldable pub ownTokens : Token → Forest → List Token → List Token
@@ -121,7 +117,8 @@ adds k (node x xs nil) r r' a = split (isBracket (k .op)) refl (adds x xs)
     split : (b : Bool) → isBracket (k .op) ≡ b → ((r r' : List Token) → Adds r r' → Adds (ownTokens x xs r) (written x xs r'))
         → Adds (k ∷ ownTokens x xs r) (written k (node x xs nil) r')
     split true h i = rw (written-one true k x xs r' h) (own k (i r (closerFor k ∷ r') (closer k a)))
-    split false h i = rw (written-one false k x xs r' h) (own k (adds-operand (standsAlone x xs) x (ownTokens x xs) (written x xs) i r r' a))
+    split false h i =
+        rw (written-one false k x xs r' h) (own k (adds-operand (standsAlone x xs) x (ownTokens x xs) (written x xs) i r r' a))
 adds k (node x xs (node y ys nil)) r r' a =
     rw (written-two k x xs y ys r')
     (adds-operand (standsLeft k x xs) x (ownTokens x xs) (written x xs) (adds x xs) (k ∷ ownTokens y ys r)
@@ -144,29 +141,29 @@ unfolding one
 inTrees test nil = 0
 inTrees test (node k cs rest) = one (test k) + inTrees test cs + inTrees test rest
 
-own-once : (test : Token → Bool) (p : Place) (n : ℕ) (k : Token) (cs : Forest) → plainForm p k cs ≡ true → unplain (some k) 0 n cs ≡ none
+own-once : (test : Token → Bool) (p : Seat) (n : ℕ) (k : Token) (cs : Forest) → plainForm p k cs ≡ true → unplain (some k) 0 n cs ≡ none
     → (r : List Token)
     → inList test (ownTokens k cs r) ≡ one (test k) + inTrees test cs + inList test r
-unfolding ownTokens inList inTrees placeOf
+unfolding ownTokens inList inTrees seatOf
 own-once test p n k nil h u r = omega arith
 own-once test p n k (node x xs nil) h u r =
     let a = plain-parts (some k) 0 n x xs nil u in
-    let i = own-once test (placeUnder k 0) (suc n) x xs (a .here) (a .below) r in omega arith
+    let i = own-once test (seatUnder k 0) (suc n) x xs (a .here) (a .below) r in omega arith
 own-once test p n k (node x xs (node y ys nil)) h u r =
     let a = plain-parts (some k) 0 n x xs (node y ys nil) u in
     let b = plain-parts (some k) 1 (suc n + size xs) y ys nil (a .after) in
-    let i = own-once test (placeUnder k 0) (suc n) x xs (a .here) (a .below) (k ∷ ownTokens y ys r) in
-    let j = own-once test (placeUnder k 1) (suc (suc n + size xs)) y ys (b .here) (b .below) r in omega arith
+    let i = own-once test (seatUnder k 0) (suc n) x xs (a .here) (a .below) (k ∷ ownTokens y ys r) in
+    let j = own-once test (seatUnder k 1) (suc (suc n + size xs)) y ys (b .here) (b .below) r in omega arith
 own-once test p n k (node x xs (node y ys (node z zs more))) h u r = absurd (false≢true (unfold plainForm in h))
 
--- NO TOKEN IS LOST OR INVENTED: the writing of a plain tree is its own tokens in order with added brackets between them, and its own tokens are
--- those of its nodes, each as often as it stands in the tree (any test is passed by as many of the one as of the other).
+-- NO TOKEN IS LOST OR INVENTED: the writing of a plain tree is its own tokens in order with added brackets between them, and its own
+-- tokens are those of its nodes, each as often as it stands in the tree (any test is passed by as many of the one as of the other).
 pub record PutInOnce (k : Token) (cs : Forest) : Type 0 where
   pub bracketsAdded : Adds (ownTokens k cs []) (written k cs [])
   pub eachOnce : (test : Token → Bool) → inList test (ownTokens k cs []) ≡ inTrees test (node k cs nil)
 
 pub put-in-once : (k : Token) (cs : Forest) → unplainAt k cs ≡ none → PutInOnce k cs
-unfolding unplainAt placeOf inList inTrees
+unfolding unplainAt seatOf inList inTrees
 put-in-once k cs plain = record {
   bracketsAdded = adds k cs [] [] nothing;
   eachOnce = λ test.

@@ -10,7 +10,12 @@ pub mod Binary
 pub mod Conditional
 pub mod Order
 pub mod Read
+pub mod Free
+pub mod Weight
+pub mod Work
+pub mod FirstFailure
 pub mod Words
+pub mod Legal
 pub mod Parse
 pub mod Plain
 pub mod Write

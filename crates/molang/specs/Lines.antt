@@ -1,5 +1,5 @@
--- The table of lines: what the numbers of src/lines.rt say, and that each line is answered as it says. A line asks something of an entry and
--- says what is answered. Compared are what is told and all words of the lent tree and message buffers, or of the lent list.
+-- The table of lines: what the numbers of src/lines.rt say, and that each line is answered as it says. A line asks something of an entry
+-- and says what is answered. Compared are what is told and all words of the lent tree, message and work buffers, or of the lent list.
 use mathlib.Core.Path.{_≡_}
 use Prim.Native.Nat.{ℕ, _+_, _-_, _*_, _/_, _%_, _^_}
 use mathlib.Core.Bool.{true, false}
@@ -10,7 +10,7 @@ use lib.ListN.{length, take, replicate}
 use Rattle.molang.specs.Forest.{Token}
 use Rattle.molang.specs.Read.{uses, setNumber}
 use Rattle.molang.specs.Words.{word, listWords}
-use Rattle.molang.specs.Parse.{Call, Told, aTree, someMessages, refused, answered, inFront, treeAfter, messagesAfter}
+use Rattle.molang.specs.Parse.{Call, Told, aTree, someMessages, refused, answered, inFront, treeAfter, messagesAfter, workAfter}
 use Rattle.molang.specs.WriteEntry.{WriteCall, WriteTold, tokens, unwritten, writeAnswered, listAfter}
 
 -- The marks, as src/lines.rt names them. A number from `anyMark` on is a mark, and the numbers after it up to the next mark are its items;
@@ -85,14 +85,15 @@ unfoldable pub tokensFrom : ℕ → List ℕ → List Token
 tokensFrom i [] = []
 tokensFrom i (o ∷ os) = record { op = o; variant = 0; value = 0; start = i; end = i + 1 } ∷ tokensFrom (i + 1) os
 
--- A call for n tokens: buffers of zeros just as long as the entry asks, and a source of length n.
+-- A call for n tokens: buffers just as long as the entry asks, and a source of length n. The work buffer is of ones and the others are of
+-- zeros: a work buffer that was cleared differs from one that was left as it was.
 unfoldable pub callFor : ℕ → List ℕ → ℕ → ℤ → Call
 callFor n list used version =
     record {
       list = list;
       tree = replicate (18 * n) 0;
       messages = replicate 16 0;
-      work = replicate (64 * n + 64) 0;
+      work = replicate (64 * n + 64) 1;
       sourceLength = n;
       version = version;
       usedLow = used % 2 ^ 64;
@@ -211,21 +212,33 @@ parsedBy c = parsed (answered c) (treeAfter c) (messagesAfter c)
 unfoldable pub wroteBy : WriteCall → Outcome
 wroteBy c = wrote (writeAnswered c) (listAfter c)
 
--- An outcome of the definition beside the one that a line wants.
+-- What a call with this outcome leaves in the work buffer: 0 in every word after a tree or messages, and what it held after a refusal.
+unfoldable pub workLeft : Outcome → List ℕ → List ℕ
+workLeft (parsed (aTree n) tree messages) work = replicate (length work) 0
+workLeft (parsed (someMessages n) tree messages) work = replicate (length work) 0
+workLeft (parsed (refused n place) tree messages) work = work
+workLeft (wrote told list) work = work
+workLeft unreadable work = work
+
+-- An outcome and a work buffer of the definition beside those that a line wants; a writing has no work buffer.
 pub record Compared : Type 0 where
   pub given : Outcome
   pub wanted : Outcome
+  pub work : List ℕ
+  pub wantedWork : List ℕ
 
 -- A line's calls of the parse entry, one after another.
 unfoldable pub comparedCalls : List Marked → List Call → List Compared
 comparedCalls ms [] = []
-comparedCalls ms (c ∷ cs) = record { given = parsedBy c; wanted = wantedOf ms c } ∷ comparedCalls ms cs
+comparedCalls ms (c ∷ cs) =
+    record { given = parsedBy c; wanted = wantedOf ms c; work = workAfter c; wantedWork = workLeft (wantedOf ms c) (c .work) }
+    ∷ comparedCalls ms cs
 
 -- All that a line compares. What is not clear is compared with something else, so that it does not hold.
 unfoldable pub compared : List Marked → Asked → List Compared
 compared ms (parse cs) = comparedCalls ms cs
-compared ms (write c) = record { given = wroteBy c; wanted = writeWantedOf ms c } ∷ []
-compared ms unclear = record { given = unreadable; wanted = parsed (aTree 0) [] [] } ∷ []
+compared ms (write c) = record { given = wroteBy c; wanted = writeWantedOf ms c; work = []; wantedWork = [] } ∷ []
+compared ms unclear = record { given = unreadable; wanted = parsed (aTree 0) [] []; work = []; wantedWork = [] } ∷ []
 
 -- All that the lines compare.
 unfoldable pub allCompared : List Line → List Compared
@@ -242,6 +255,16 @@ unfoldable pub wanteds : List Compared → List Outcome
 wanteds [] = []
 wanteds (c ∷ cs) = c .wanted ∷ wanteds cs
 
+-- The work buffers of the definition, line by line.
+unfoldable pub works : List Compared → List (List ℕ)
+works [] = []
+works (c ∷ cs) = c .work ∷ works cs
+
+-- Those that the lines want.
+unfoldable pub wantedWorks : List Compared → List (List ℕ)
+wantedWorks [] = []
+wantedWorks (c ∷ cs) = c .wantedWork ∷ wantedWorks cs
+
 -- The number of lines.
 unfoldable pub lineCount : List ℕ → ℕ
 lineCount table = length (linesOf (marksOf table))
@@ -249,3 +272,7 @@ lineCount table = length (linesOf (marksOf table))
 -- Every line of the table is answered as it says.
 unfoldable pub Answered : List ℕ → Type 0
 Answered table = givens (allCompared (linesOf (marksOf table))) ≡ wanteds (allCompared (linesOf (marksOf table)))
+
+-- Every line's calls leave the work buffer as the line says.
+unfoldable pub WorkAnswered : List ℕ → Type 0
+WorkAnswered table = works (allCompared (linesOf (marksOf table))) ≡ wantedWorks (allCompared (linesOf (marksOf table)))

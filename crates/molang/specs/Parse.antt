@@ -1,7 +1,7 @@
 -- The parse entry: what a call is given, where it is turned back (document 01, 'Where the entry turns a call back', answers 1-11 in the
 -- table's order), what it answers and what it leaves in each lent buffer.
 use Prim.Native.Nat.{ℕ, _+_, _*_, _/_, _%_, _^_}
-use mathlib.Core.Bool.{Bool, true, false}
+use mathlib.Core.Bool.{Bool}
 use mathlib.Core.List.{List, [], _∷_, _++_}
 use mathlib.Core.Option.{Option, none, some}
 use lib.Dec.{eqb, leb, ltb}
@@ -10,7 +10,8 @@ use lib.ListN.{length, drop, replicate}
 use Rattle.molang.specs.Forest.{nil, node, size}
 use Rattle.molang.specs.Message.{Message, messageRecord}
 use Rattle.molang.specs.Read.{Answer, tree, messages, read}
-use Rattle.molang.specs.Words.{Refusal, operatorSlot, wordsRefusal, tokensOf, treeWords}
+use Rattle.molang.specs.FirstFailure.{must, firstOf}
+use Rattle.molang.specs.Words.{Refusal, row, operatorField, wordsRefusal, tokensOf, treeWords}
 
 -- What a call is given.
 pub record Call : Type 0 where
@@ -31,30 +32,19 @@ inHalves low high n = eqb ((high * 2 ^ 64 + low) / 2 ^ n % 2) 1
 abbrev pub mostTokens : ℕ
 mostTokens = 4096
 
--- A refusal at place 0 where the test fails.
-unfoldable pub must : Bool → ℕ → Option Refusal
-must true n = none
-must false n = some (record { number = n; place = 0 })
-
--- The first refusal of several checks, if there is one.
-unfoldable pub firstOf : List (Option Refusal) → Option Refusal
-firstOf [] = none
-firstOf (none ∷ later) = firstOf later
-firstOf (some r ∷ later) = some r
-
 -- The table, from the top; the first failure wins.
 unfoldable pub refusal : Call → Option Refusal
 refusal c =
     let tokens = length (c .list) / 5 in
     firstOf
-    (must (eqb (length (c .list) % 5) 0) 1
-    ∷ must (leb tokens mostTokens) 2
-    ∷ must (leb (18 * tokens) (length (c .tree))) 3
-    ∷ must (leb 16 (length (c .messages))) 4
-    ∷ must (leb (64 * tokens + 64) (length (c .work))) 5
-    ∷ must (ltb (c .usedHigh * 2 ^ 64 + c .usedLow) (2 ^ 111)) 6
-    ∷ must (leb (c .sourceLength) 536870911) 7
-    ∷ wordsRefusal 0 operatorSlot 0 (c .list)
+    (must (eqb (length (c .list) % 5) 0) (row 1 0)
+    ∷ must (leb tokens mostTokens) (row 2 0)
+    ∷ must (leb (18 * tokens) (length (c .tree))) (row 3 0)
+    ∷ must (leb 16 (length (c .messages))) (row 4 0)
+    ∷ must (leb (64 * tokens + 64) (length (c .work))) (row 5 0)
+    ∷ must (ltb (c .usedHigh * 2 ^ 64 + c .usedLow) (2 ^ 111)) (row 6 0)
+    ∷ must (leb (c .sourceLength) 536870911) (row 7 0)
+    ∷ wordsRefusal 0 operatorField 0 (c .list)
     ∷ [])
 
 -- The reading of a list that is not turned back.

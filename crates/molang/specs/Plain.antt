@@ -8,26 +8,27 @@ use lib.Dec.{eqb}
 use Rattle.molang.specs.Operator
 use Rattle.molang.specs.Operator.{isOneOf, between, isMathCall, isBracket}
 use Rattle.molang.specs.Forest.{Token, Forest, nil, node, size}
+use Rattle.molang.specs.FirstFailure.{must, firstOf}
 
--- Where a node stands: as second child of 59, under a math call, or elsewhere.
-pub data Place : Type 0 where
-  elsewhere rightOfQuestion underMathCall : Place
+-- The seat of a node, what its form asks of its parent: as second child of 59, under a math call, or elsewhere.
+pub data Seat : Type 0 where
+  elsewhere rightOfQuestion underMathCall : Seat
 
--- The place of the second child of 59.
-unfoldable pub isRightOfQuestion : Place → Bool
+-- The seat of the second child of 59.
+unfoldable pub isRightOfQuestion : Seat → Bool
 isRightOfQuestion elsewhere = false
 isRightOfQuestion rightOfQuestion = true
 isRightOfQuestion underMathCall = false
 
--- The place of a child of a math call.
-unfoldable pub isUnderMathCall : Place → Bool
+-- The seat of a child of a math call.
+unfoldable pub isUnderMathCall : Seat → Bool
 isUnderMathCall elsewhere = false
 isUnderMathCall rightOfQuestion = false
 isUnderMathCall underMathCall = true
 
--- The place of the i-th child of p, counted from 0.
-unfoldable pub placeUnder : Token → ℕ → Place
-placeUnder p i =
+-- The seat of the i-th child of p, counted from 0.
+unfoldable pub seatUnder : Token → ℕ → Seat
+seatUnder p i =
     elim (isMathCall (p .op)) [
       | true ↦ underMathCall
       | false ↦ elim (eqb (p .op) Operator.conditional && eqb i 1) [ true ↦ rightOfQuestion | false ↦ elsewhere ]
@@ -42,33 +43,31 @@ isPlainLeaf n =
 -- 9, 20, 31, 50-59 or 75, with two children.
 unfoldable pub isPlainBinary : ℕ → Bool
 isPlainBinary n =
-    eqb n Operator.add || eqb n Operator.div || eqb n Operator.mul || between Operator.lessThan Operator.conditional n || eqb n Operator.comma
+    eqb n Operator.add || eqb n Operator.div || eqb n Operator.mul || between Operator.lessThan Operator.conditional n
+    || eqb n Operator.comma
 
 -- 40 or a math call.
 unfoldable pub isCall : ℕ → Bool
 isCall n = eqb n Operator.queryFunction || isMathCall n
 
 -- The node k over its children has a plain form.
-unfoldable pub plainForm : Place → Token → Forest → Bool
+unfoldable pub plainForm : Seat → Token → Forest → Bool
 plainForm p k nil = isPlainLeaf (k .op) || (isBracket (k .op) && isUnderMathCall p)
 plainForm p k (node x xs nil) =
     isOneOf (Operator.leftParenthesis ∷ Operator.negate ∷ Operator.logicalNot ∷ []) (k .op) || (isCall (k .op) && isBracket (x .op))
 plainForm p k (node x xs (node y ys nil)) = isPlainBinary (k .op) || (eqb (k .op) Operator.conditionalElse && isRightOfQuestion p)
 plainForm p k (node x xs (node y ys (node z zs r))) = false
 
--- The place of the i-th child of a node, or of the root.
-unfoldable pub placeOf : Option Token → ℕ → Place
-placeOf none i = elsewhere
-placeOf (some p) i = placeUnder p i
+-- The seat of the i-th child of a node, or of the root.
+unfoldable pub seatOf : Option Token → ℕ → Seat
+seatOf none i = elsewhere
+seatOf (some p) i = seatUnder p i
 
 -- The number of the first node that is not plain among trees that stand from the i-th child of p on and are numbered from n.
 unfoldable pub unplain : Option Token → ℕ → ℕ → Forest → Option ℕ
 unplain p i n nil = none
 unplain p i n (node k cs rest) =
-    elim (plainForm (placeOf p i) k cs) [
-      | false ↦ some n
-      | true ↦ elim (unplain (some k) 0 (suc n) cs) [ some m ↦ some m | none ↦ unplain p (suc i) (suc n + size cs) rest ]
-    ]
+    firstOf (must (plainForm (seatOf p i) k cs) n ∷ unplain (some k) 0 (suc n) cs ∷ unplain p (suc i) (suc n + size cs) rest ∷ [])
 
 -- Answer 13's place in the tree k over cs, if it is not plain.
 unfoldable pub unplainAt : Token → Forest → Option ℕ

@@ -6,7 +6,8 @@ use mathlib.Core.Option.{Option, none, some}
 use lib.Dec.{eqb}
 use Rattle.molang.specs.Operator.{memberAccessor, hasMembers, closingOf, isCloser}
 use Rattle.molang.specs.Forest.{Token, Forest, nil, node, inOrder, count}
-use Rattle.molang.specs.Message.{Message, leadingMemberAccessor, closingMismatch, sectionNotClosed, noClosingSymbol, Result, ok, fail, closer}
+use Rattle.molang.specs.Message.{Message, leadingMemberAccessor, closingMismatch, sectionNotClosed, noClosingSymbol, Result, ok, fail}
+use Rattle.molang.specs.Message.{closer}
 
 -- `X .name` becomes the accessor over X where X can have members; after anything else the accessor stays a leaf, and none stands first.
 unfoldable pub withMember : Token → Forest → Option Forest

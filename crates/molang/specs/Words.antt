@@ -1,11 +1,12 @@
--- The word formats of document 01, 'The entry and its words': tokens of five words, tree nodes of six, which words are legal, and answers 8-11.
-use Prim.Native.Nat.{ℕ, _+_, _*_, _/_, _%_, _^_, _≤_, _<_, suc}
-use mathlib.Core.Path.{_≡_}
+-- The word formats of document 01, 'The entry and its words': tokens of five words, tree nodes of six, which words are legal, and
+-- answers 8-11.
+use Prim.Native.Nat.{ℕ, _+_, _*_, _/_, _%_, _^_, suc}
 use mathlib.Core.Bool.{Bool, true, false}
 use mathlib.Core.List.{List, [], _∷_, _++_}
 use mathlib.Core.Option.{Option, none, some}
 use lib.Dec.{eqb, leb, ltb}
 use Rattle.molang.specs.Forest.{Token, Forest, nil, node, count}
+use Rattle.molang.specs.FirstFailure.{must, firstOf}
 
 -- A word has its kind in the top three bits of 32 and its value in the low 29.
 unfoldable pub word : ℕ → ℕ → ℕ
@@ -35,15 +36,6 @@ tokenOf a b c d e =
       end = lowOf c;
     }
 
--- A token that words can hold.
-pub record Legal (k : Token) : Type 0 where
-  pub op : k .op ≤ 110
-  pub variant : k .variant ≤ 12
-  pub value : k .value < 2 ^ 32
-  pub no-payload : k .variant ≡ 0 → k .value ≡ 0
-  pub start : k .start < 2 ^ 29
-  pub end : k .end < 2 ^ 29
-
 -- The tokens of a word list; words after the last whole token are left out.
 unfoldable pub tokensOf : List ℕ → List Token
 tokensOf [] = []
@@ -64,64 +56,71 @@ treeWords nil = []
 treeWords (node k cs rest) = tokenWords k ++ (word 6 (count cs) ∷ (treeWords cs ++ treeWords rest))
 
 -- Which word of a token or node is expected next.
-pub data Slot : Type 0 where
-  operatorSlot startSlot endSlot upperSlot lowerSlot countSlot : Slot
+pub data Field : Type 0 where
+  operatorField startField endField upperField lowerField countField : Field
 
 -- The kind of the word that is expected.
-unfoldable pub slotKind : Slot → ℕ
-slotKind operatorSlot = 1
-slotKind startSlot = 2
-slotKind endSlot = 3
-slotKind upperSlot = 4
-slotKind lowerSlot = 5
-slotKind countSlot = 6
-
--- The first of the tests that fails gives the answer.
-unfoldable pub unless : Bool → ℕ → Option ℕ → Option ℕ
-unless true n later = later
-unless false n later = some n
+unfoldable pub fieldKind : Field → ℕ
+fieldKind operatorField = 1
+fieldKind startField = 2
+fieldKind endField = 3
+fieldKind upperField = 4
+fieldKind lowerField = 5
+fieldKind countField = 6
 
 -- The answer to the low bits of a word of the right kind, in a token of payload variant v: 9, 10 or 11.
-unfoldable pub lowFault : Slot → ℕ → ℕ → Option ℕ
-lowFault operatorSlot v low = unless (leb (low % 2 ^ 8) 110) 9 (unless (leb (low / 2 ^ 8 % 2 ^ 4) 12) 10 (unless (ltb low (2 ^ 12)) 11 none))
-lowFault startSlot v low = none
-lowFault endSlot v low = none
-lowFault upperSlot v low = unless (ltb low (elim (eqb v 0) [ true ↦ 1 | false ↦ 2 ^ 16 ])) 11 none
-lowFault lowerSlot v low = unless (ltb low (elim (eqb v 0) [ true ↦ 1 | false ↦ 2 ^ 16 ])) 11 none
-lowFault countSlot v low = unless (ltb low (2 ^ 14)) 11 none
+unfoldable pub lowFault : Field → ℕ → ℕ → Option ℕ
+lowFault operatorField v low =
+    firstOf (must (leb (low % 2 ^ 8) 110) 9 ∷ must (leb (low / 2 ^ 8 % 2 ^ 4) 12) 10 ∷ must (ltb low (2 ^ 12)) 11 ∷ [])
+lowFault startField v low = none
+lowFault endField v low = none
+lowFault upperField v low = must (ltb low (elim (eqb v 0) [ true ↦ 1 | false ↦ 2 ^ 16 ])) 11
+lowFault lowerField v low = must (ltb low (elim (eqb v 0) [ true ↦ 1 | false ↦ 2 ^ 16 ])) 11
+lowFault countField v low = must (ltb low (2 ^ 14)) 11
 
 -- The answer to a word: 8 for a wrong kind, else that to its low bits.
-unfoldable pub wordFault : Slot → ℕ → ℕ → Option ℕ
-wordFault slot v w = unless (eqb (kindOf w) (slotKind slot)) 8 (lowFault slot v (lowOf w))
+unfoldable pub wordFault : Field → ℕ → ℕ → Option ℕ
+wordFault field v w = firstOf (must (eqb (kindOf w) (fieldKind field)) 8 ∷ lowFault field v (lowOf w) ∷ [])
 
 -- The payload variant of the token that a word belongs to, after the word.
-unfoldable pub variantAfter : Slot → ℕ → ℕ → ℕ
-variantAfter operatorSlot v w = lowOf w / 2 ^ 8 % 2 ^ 4
-variantAfter startSlot v w = v
-variantAfter endSlot v w = v
-variantAfter upperSlot v w = v
-variantAfter lowerSlot v w = v
-variantAfter countSlot v w = v
+unfoldable pub variantAfter : Field → ℕ → ℕ → ℕ
+variantAfter operatorField v w = lowOf w / 2 ^ 8 % 2 ^ 4
+variantAfter startField v w = v
+variantAfter endField v w = v
+variantAfter upperField v w = v
+variantAfter lowerField v w = v
+variantAfter countField v w = v
 
 -- The word after it, in a list of tokens.
-unfoldable pub nextInToken : Slot → Slot
-nextInToken operatorSlot = startSlot
-nextInToken startSlot = endSlot
-nextInToken endSlot = upperSlot
-nextInToken upperSlot = lowerSlot
-nextInToken lowerSlot = operatorSlot
-nextInToken countSlot = operatorSlot
+unfoldable pub nextInToken : Field → Field
+nextInToken operatorField = startField
+nextInToken startField = endField
+nextInToken endField = upperField
+nextInToken upperField = lowerField
+nextInToken lowerField = operatorField
+nextInToken countField = operatorField
 
--- An answer number with its place.
+-- A refusal's number and place.
 pub record Refusal : Type 0 where
   pub number : ℕ
   pub place : ℕ
 
+-- The refusal with this number at this place.
+abbrev pub row : ℕ → ℕ → Refusal
+row number place = record { number = number; place = place }
+
+-- A number that was found, at its place.
+abbrev pub withPlace : ℕ → Option ℕ → Option Refusal
+withPlace place none = none
+withPlace place (some number) = some (row number place)
+
+-- A place that was found, with its number.
+abbrev pub withNumber : ℕ → Option ℕ → Option Refusal
+withNumber number none = none
+withNumber number (some place) = some (row number place)
+
 -- The first word of a list that answers 8-11, i being the index of the next word.
-unfoldable pub wordsRefusal : ℕ → Slot → ℕ → List ℕ → Option Refusal
-wordsRefusal i slot v [] = none
-wordsRefusal i slot v (w ∷ ws) =
-    elim (wordFault slot v w) [
-      | some n ↦ some (record { number = n; place = i })
-      | none ↦ wordsRefusal (suc i) (nextInToken slot) (variantAfter slot v w) ws
-    ]
+unfoldable pub wordsRefusal : ℕ → Field → ℕ → List ℕ → Option Refusal
+wordsRefusal i field v [] = none
+wordsRefusal i field v (w ∷ ws) =
+    firstOf (withPlace i (wordFault field v w) ∷ wordsRefusal (suc i) (nextInToken field) (variantAfter field v w) ws ∷ [])

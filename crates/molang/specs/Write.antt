@@ -1,5 +1,4 @@
 -- Writing a plain tree out with brackets, and taking brackets away (document 01, 'Writing a plain tree').
-use Prim.Native.Nat.{ℕ, _+_}
 use mathlib.Core.Bool.{Bool, true, false, _||_, _&&_, not}
 use mathlib.Core.List.{List, _∷_}
 use lib.Dec.{eqb}
@@ -42,20 +41,6 @@ written k (node x xs nil) r =
 written k (node x xs (node y ys nil)) r =
     operandTokens (standsLeft k x xs) x (written x xs) (k ∷ operandTokens (standsRight k y ys) y (written y ys) r)
 written k (node x xs (node y ys (node z zs more))) r = k ∷ r
-
--- The tokens of an operand that has n: as it is, or with an added pair.
-unfoldable pub operandCount : Bool → ℕ → ℕ
-operandCount true n = n
-operandCount false n = n + 2
-
--- How many tokens that is.
-unfoldable pub writtenCount : Token → Forest → ℕ
-writtenCount k nil = elim (isBracket (k .op)) [ true ↦ 2 | false ↦ 1 ]
-writtenCount k (node x xs nil) =
-    elim (isBracket (k .op)) [ true ↦ writtenCount x xs + 2 | false ↦ 1 + operandCount (standsAlone x xs) (writtenCount x xs) ]
-writtenCount k (node x xs (node y ys nil)) =
-    operandCount (standsLeft k x xs) (writtenCount x xs) + 1 + operandCount (standsRight k y ys) (writtenCount y ys)
-writtenCount k (node x xs (node y ys (node z zs more))) = 1
 
 -- Exactly one tree.
 unfoldable pub isSingle : Forest → Bool

@@ -7,23 +7,25 @@ use mathlib.Core.Option.{Option, none, some}
 use lib.Dec.{eqb, leb}
 use lib.ListN.{length}
 use Rattle.molang.specs.Forest.{Token, Forest, nil, node}
-use Rattle.molang.specs.Words.{Slot, operatorSlot, startSlot, endSlot, upperSlot, lowerSlot, countSlot, wordFault, variantAfter, lowOf, tokenOf, listWords, Refusal}
-use Rattle.molang.specs.Parse.{mostTokens, inFront, must}
+use Rattle.molang.specs.Words.{Field, operatorField, startField, endField, upperField, lowerField, countField, wordFault}
+use Rattle.molang.specs.Words.{variantAfter, lowOf, tokenOf, listWords, Refusal, row, withNumber}
+use Rattle.molang.specs.FirstFailure.{must, firstOf}
+use Rattle.molang.specs.Parse.{mostTokens, inFront}
 use Rattle.molang.specs.Plain.{unplainAt}
-use Rattle.molang.specs.Write.{written, writtenCount}
+use Rattle.molang.specs.Write.{written}
 
 -- The most nodes of a tree.
 abbrev pub mostNodes : ℕ
 mostNodes = 12288
 
 -- The word after it, in the nodes of a tree.
-unfoldable pub nextInNode : Slot → Slot
-nextInNode operatorSlot = startSlot
-nextInNode startSlot = endSlot
-nextInNode endSlot = upperSlot
-nextInNode upperSlot = lowerSlot
-nextInNode lowerSlot = countSlot
-nextInNode countSlot = operatorSlot
+unfoldable pub nextInNode : Field → Field
+nextInNode operatorField = startField
+nextInNode startField = endField
+nextInNode endField = upperField
+nextInNode upperField = lowerField
+nextInNode lowerField = countField
+nextInNode countField = operatorField
 
 -- How many nodes the words so far call for, and how many of them have begun.
 pub record Shape : Type 0 where
@@ -31,39 +33,36 @@ pub record Shape : Type 0 where
   pub begun : ℕ
 
 -- After one more word: an operator begins a node, a count calls for children.
-unfoldable pub shapeAfter : Slot → ℕ → Shape → Shape
-shapeAfter operatorSlot w s = record { called = s .called; begun = suc (s .begun) }
-shapeAfter startSlot w s = s
-shapeAfter endSlot w s = s
-shapeAfter upperSlot w s = s
-shapeAfter lowerSlot w s = s
-shapeAfter countSlot w s = record { called = s .called + lowOf w; begun = s .begun }
+unfoldable pub shapeAfter : Field → ℕ → Shape → Shape
+shapeAfter operatorField w s = record { called = s .called; begun = suc (s .begun) }
+shapeAfter startField w s = s
+shapeAfter endField w s = s
+shapeAfter upperField w s = s
+shapeAfter lowerField w s = s
+shapeAfter countField w s = record { called = s .called + lowOf w; begun = s .begun }
 
 -- The word can stand next in a tree of at most 12,288 nodes: it is legal, a node is still called for, and no more nodes are than fit.
-unfoldable pub continues : Slot → ℕ → Shape → ℕ → Bool
-continues slot v s w =
-    elim (wordFault slot v w) [
+unfoldable pub continues : Field → ℕ → Shape → ℕ → Bool
+continues field v s w =
+    elim (wordFault field v w) [
       | some n ↦ false
-      | none ↦ leb (shapeAfter slot w s .begun) (s .called) && leb (shapeAfter slot w s .called) mostNodes
+      | none ↦ leb (shapeAfter field w s .begun) (s .called) && leb (shapeAfter field w s .called) mostNodes
     ]
 
 -- The words are a whole tree: a node has just ended and none is called for any more.
-unfoldable pub isWhole : Slot → Shape → Bool
-isWhole operatorSlot s = eqb (s .begun) (s .called)
-isWhole startSlot s = false
-isWhole endSlot s = false
-isWhole upperSlot s = false
-isWhole lowerSlot s = false
-isWhole countSlot s = false
+unfoldable pub isWhole : Field → Shape → Bool
+isWhole operatorField s = eqb (s .begun) (s .called)
+isWhole startField s = false
+isWhole endField s = false
+isWhole upperField s = false
+isWhole lowerField s = false
+isWhole countField s = false
 
 -- Answer 12's place: the first word that cannot continue a tree, or the word count where the words run out; i is the next word's index.
-unfoldable pub treeFault : ℕ → Slot → ℕ → Shape → List ℕ → Option ℕ
-treeFault i slot v s [] = elim (isWhole slot s) [ true ↦ none | false ↦ some i ]
-treeFault i slot v s (w ∷ ws) =
-    elim (continues slot v s w) [
-      | false ↦ some i
-      | true ↦ treeFault (suc i) (nextInNode slot) (variantAfter slot v w) (shapeAfter slot w s) ws
-    ]
+unfoldable pub treeFault : ℕ → Field → ℕ → Shape → List ℕ → Option ℕ
+treeFault i field v s [] = must (isWhole field s) i
+treeFault i field v s (w ∷ ws) =
+    firstOf (must (continues field v s w) i ∷ treeFault (suc i) (nextInNode field) (variantAfter field v w) (shapeAfter field w s) ws ∷ [])
 
 -- The first n trees of a list.
 unfoldable pub firstTrees : ℕ → Forest → Forest
@@ -93,27 +92,23 @@ pub record WriteCall : Type 0 where
   pub tree : List ℕ
   pub list : List ℕ
 
--- A refusal at the place that was found, or else what is checked later.
-unfoldable pub refusedAt : ℕ → Option ℕ → Option Refusal → Option Refusal
-refusedAt n none later = later
-refusedAt n (some place) later = some (record { number = n; place = place })
-
--- The first of two refusals.
-unfoldable pub orElse : Option Refusal → Option Refusal → Option Refusal
-orElse none later = later
-orElse (some r) later = some r
-
 -- Answers 13-15 to a tree.
 unfoldable pub forestRefusal : Forest → ℕ → Option Refusal
 forestRefusal nil room = none
 forestRefusal (node k cs rest) room =
-    refusedAt 13 (unplainAt k cs)
-    (orElse (must (leb (writtenCount k cs) mostTokens) 14) (must (leb (5 * writtenCount k cs) room) 15))
+    firstOf
+    (withNumber 13 (unplainAt k cs)
+    ∷ must (leb (length (written k cs [])) mostTokens) (row 14 0)
+    ∷ must (leb (5 * length (written k cs [])) room) (row 15 0)
+    ∷ [])
 
 -- The table's last four lines, in their order.
 unfoldable pub writeRefusal : WriteCall → Option Refusal
 writeRefusal c =
-    refusedAt 12 (treeFault 0 operatorSlot 0 (record { called = 1; begun = 0 }) (c .tree)) (forestRefusal (treesOf (c .tree)) (length (c .list)))
+    firstOf
+    (withNumber 12 (treeFault 0 operatorField 0 (record { called = 1; begun = 0 }) (c .tree))
+    ∷ forestRefusal (treesOf (c .tree)) (length (c .list))
+    ∷ [])
 
 -- The tokens that are written of the first tree.
 unfoldable pub writtenTokens : Forest → List Token

@@ -14,7 +14,7 @@
 //
 // a to e are Float; a star marks the starred lines.
 ghost use mathlib.Core.Path.{_≡_};
-ghost use Rattle.molang.specs.Lines.{Answered, lineCount};
+ghost use Rattle.molang.specs.Lines.{Answered, WorkAnswered, lineCount};
 
 pub const ANY: u32 = 1_000_000_000;
 
@@ -110,7 +110,7 @@ const COMMA: u32 = 75;
 
 pub const COUNT: usize = 1002;
 
-const LINES: [u32; COUNT] = [
+pub const LINES: [u32; COUNT] = [
     // * empty: message 1
     ANY,
     MESSAGE,
@@ -1220,10 +1220,17 @@ const LINES: [u32; COUNT] = [
     6,
 ];
 
-// The table, with each of its lines answered by the definition as it says. (A constant has no name in proofs/: what is shown of it is shown
-// of the function that hands it out.)
-pub fn table() -> [u32; COUNT]
+// The table, with each of its lines answered by the definition as it says. A constant has no name in proofs/: what is shown of it is shown
+// of the function that hands it out.
+fn numbers() -> [u32; COUNT]
     ensures { λ r. ⌜ Answered r × (lineCount r ≡ 105) ⌝ }
 {
     LINES
+}
+
+// The table; each of its lines also says what its calls leave in the work buffer.
+pub fn table() -> [u32; COUNT]
+    ensures { λ r. ⌜ Answered r × WorkAnswered r × (lineCount r ≡ 105) ⌝ }
+{
+    numbers()
 }

@@ -1,12 +1,12 @@
--- Noted classes: what a leaf notes, what a node notes of what it is given, and that a set of classes which is tested against a node's word is
--- tested against every leaf below it (`notes-meet`).
+-- Noted classes: what a leaf notes, what a node notes of what it is given, and that a set of classes which is tested against a node's word
+-- is tested against every leaf below it (`notes-meet`).
 use Prim.Native.Nat.{ℕ, zero, suc, _≤_, _<_}
 use mathlib.Core.Path.{_≡_, refl, sym, ap, ap₂, _∙_}
 use mathlib.Core.Bool.{Bool, true, false, _||_, _&&_, not, and-true, and-comm, and-or-distrib-right, Bool·not-not as not-not}
 use mathlib.Core.List.{List}
 use Rattle.molang.specs.Forest.{Token, Forest, nil, node}
 use Rattle.molang.specs.Order.{someBelow}
-use Rattle.molang.proofs.Trees.{free}
+use Rattle.molang.specs.Free.{free}
 use Rattle.ops.specs.Classes.{bitAt, inClass, shares, meets}
 use Rattle.ops.proofs.BitLaws.{some-same}
 use Rattle.nodes.specs.Store.{Notes, Noted, RepF, ends, more, AllLegal}
@@ -101,7 +101,8 @@ module _ (c : ℕ) where
       some-same 32 (λ i. not (not (inClass i (k .op)) && free (inClass i) rest) && bitAt c i)
       (λ i. (bitAt c i && inClass i (k .op)) || (not (free (inClass i) rest) && bitAt c i))
       (λ i h.
-      ap (λ (x : Bool). x && bitAt c i) (not-and (not (inClass i (k .op))) (free (inClass i) rest) ∙ ap (λ (x : Bool). x || not (free (inClass i) rest)) (not-not (inClass i (k .op))))
+      ap (λ (x : Bool). x && bitAt c i)
+      (not-and (not (inClass i (k .op))) (free (inClass i) rest) ∙ ap (λ (x : Bool). x || not (free (inClass i) rest)) (not-not (inClass i (k .op))))
       ∙ and-or-distrib-right (inClass i (k .op)) (not (free (inClass i) rest)) (bitAt c i)
       ∙ ap (λ (x : Bool). x || (not (free (inClass i) rest) && bitAt c i)) (and-comm (inClass i (k .op)) (bitAt c i)))
       ∙ some-or 32 (λ i. bitAt c i && inClass i (k .op)) (λ i. not (free (inClass i) rest) && bitAt c i)
@@ -128,10 +129,12 @@ module _ (c : ℕ) where
       ∙ ap₂ (λ (x : Bool) (y : Bool). x || y) (hits-free P h (node d ds r) (l .1)) (hits-free P h rest (l .2))
       ∙ sym (not-and (free P (node d ds r)) (free P rest))
 
--- A set of classes c that stands for the operators P shares a class with what a forest notes exactly where some leaf of the forest passes P.
+-- A set of classes c that stands for the operators P shares a class with what a forest notes exactly where some leaf of the forest passes
+-- P.
 pub notes-meet : {w : ℕ} {f : Forest} (c : ℕ) (P : ℕ → Bool) → ((n : ℕ) → n ≤ 110 → meets c n ≡ P n) → Notes w f → AllLegal f
     → shares w c ≡ not (free P f)
 unfolding shares hits
 notes-meet {w} {f} c P h n l =
-    some-same 32 (λ i. bitAt w i && bitAt c i) (λ i. not (free (inClass i) f) && bitAt c i) (λ i e. ap (λ (x : Bool). x && bitAt c i) (n .bits i e))
+    some-same 32 (λ i. bitAt w i && bitAt c i) (λ i. not (free (inClass i) f) && bitAt c i)
+    (λ i e. ap (λ (x : Bool). x && bitAt c i) (n .bits i e))
     ∙ hits-free c P h f l

@@ -1,5 +1,5 @@
 -- Chains of slots and runs of words: what a change of words leaves of them, and how they go on from one another.
-use Prim.Native.Nat.{ℕ, suc, _+_, _*_, _≤_, _<_}
+use Prim.Native.Nat.{ℕ, suc, _+_, _≤_, _<_}
 use mathlib.Core.Path.{_≡_, refl, sym, _∙_, subst}
 use mathlib.Core.Logic.{_≢_}
 use mathlib.Core.List.{List, [], _∷_, _++_}
@@ -7,7 +7,7 @@ use native.Mathlib.Omega.{arith}
 use native.Mathlib.Nat.{add-zero}
 use lib.ListN.{length, set, length-set}
 use lib.Seq.{getD-set-same, getD-set-other}
-use Rattle.nodes.specs.Store.{wd, Chain, Seg, SegB, Inc, Out, OffNext, onto}
+use Rattle.nodes.specs.Store.{wd, slotWords, nextField, slotStart, nextAt, Chain, Seg, SegB, Inc, Out, OffNext, onto}
 
 pub wd-same : (W : List ℕ) (i v : ℕ) → i < length W → wd (set W i v) i ≡ v
 wd-same W i v h = getD-set-same W i v 0 h
@@ -43,27 +43,27 @@ pub out-above : (cs : List ℕ) (lo hi : ℕ) {s : ℕ} → Inc lo hi cs → hi 
 out-above [] lo hi h e = tt
 out-above (c ∷ cs) lo hi h e = let r = inc-le cs (h .1) in (omega arith, out-above cs (c + 1) hi (h .1) e)
 
-pub off-above : (cs : List ℕ) (lo hi : ℕ) {j : ℕ} → Inc lo hi cs → 8 * hi ≤ j → OffNext cs j
+pub off-above : (cs : List ℕ) (lo hi : ℕ) {j : ℕ} → Inc lo hi cs → slotStart hi ≤ j → OffNext cs j
 off-above [] lo hi h e = tt
 off-above (c ∷ cs) lo hi h e = let r = inc-le cs (h .1) in (omega arith, off-above cs (c + 1) hi (h .1) e)
 
 -- any word of a slot but the `next` word
-pub off-word : (cs : List ℕ) (s o : ℕ) → o < 8 → o ≢ 6 → OffNext cs (8 * s + o)
+pub off-word : (cs : List ℕ) (s o : ℕ) → o < slotWords → o ≢ nextField → OffNext cs (slotStart s + o)
 off-word [] s o h n = tt
 off-word (c ∷ cs) s o h n = (omega arith, off-word cs s o h n)
 
-pub off-out : (cs : List ℕ) (s o : ℕ) → o < 8 → Out s cs → OffNext cs (8 * s + o)
+pub off-out : (cs : List ℕ) (s o : ℕ) → o < slotWords → Out s cs → OffNext cs (slotStart s + o)
 off-out [] s o h n = tt
 off-out (c ∷ cs) s o h n = (omega arith, off-out cs s o h (n .1))
 
 -- ---- a change of words
 
 pub chain-keep : (W W' : List ℕ) (f : ℕ) (cs : List ℕ) (lo hi : ℕ) → Inc lo hi cs
-    → ((c : ℕ) → lo ≤ c → c < hi → wd W' (8 * c + 6) ≡ wd W (8 * c + 6)) → Chain W f cs → Chain W' f cs
+    → ((c : ℕ) → lo ≤ c → c < hi → nextAt W' c ≡ nextAt W c) → Chain W f cs → Chain W' f cs
 chain-keep W W' f [] lo hi i h p = p
 chain-keep W W' f (c ∷ cs) lo hi i h p =
     let r = inc-le cs (i .1) in
-    (p .0, p .1, rw (h c (i .0) (omega arith)) (chain-keep W W' (wd W (8 * c + 6)) cs (c + 1) hi (i .1) (λ d a b. h d (omega arith) b) (p .2)))
+    (p .0, p .1, rw (h c (i .0) (omega arith)) (chain-keep W W' (nextAt W c) cs (c + 1) hi (i .1) (λ d a b. h d (omega arith) b) (p .2)))
 
 pub seg-keep : (W W' : List ℕ) (at : ℕ) (cs : List ℕ)
     → ((j : ℕ) → at ≤ j → j < at + length cs → wd W' j ≡ wd W j) → Seg W at cs → Seg W' at cs
@@ -85,8 +85,8 @@ chain-unique W f [] (d ∷ ds) p q = absurd (omega arith)
 chain-unique W f (c ∷ cs) [] p q = absurd (omega arith)
 chain-unique W f (c ∷ cs) (d ∷ ds) p q =
     let e : d ≡ c = omega arith in
-    let q' : Chain W (wd W (8 * c + 6)) ds = subst (λ (x : ℕ). Chain W (wd W (8 * x + 6)) ds) e (q .2) in
-    let r = chain-unique W (wd W (8 * c + 6)) cs ds (p .2) q' in
+    let q' : Chain W (nextAt W c) ds = subst (λ (x : ℕ). Chain W (nextAt W x) ds) e (q .2) in
+    let r = chain-unique W (nextAt W c) cs ds (p .2) q' in
     cc
 
 pub seg-unique : (W : List ℕ) (at : ℕ) (cs ds : List ℕ) → length cs ≡ length ds → Seg W at cs → Seg W at ds → cs ≡ ds

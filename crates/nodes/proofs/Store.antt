@@ -1,6 +1,6 @@
--- Forests in the work buffer: where their roots stand, how intervals widen, and THE AGREEMENT LAW (`rep-keep`, `tree-keep`, `back-keep`): words that
--- agree on the slots of the interval, those of the ancestors and the roots' `next` words aside, keep a forest as it is.
-use Prim.Native.Nat.{ℕ, suc, _+_, _*_, _≤_, _<_}
+-- Forests in the work buffer: where their roots stand, how intervals widen, and THE AGREEMENT LAW (`rep-keep`, `tree-keep`, `back-keep`):
+-- words that agree on the slots of the interval, those of the ancestors and the roots' `next` words aside, keep a forest as it is.
+use Prim.Native.Nat.{ℕ, suc, _+_, _≤_, _<_}
 use mathlib.Core.Path.{_≡_, refl, ap, _∙_, subst}
 use mathlib.Core.Logic.{_≢_, _⊎_, inl, inr, ⊎-elim}
 use mathlib.Core.Bool.{true, false}
@@ -14,7 +14,8 @@ use Rattle.molang.specs.Operator.{negate, semicolon}
 use Rattle.molang.specs.Forest.{Token, Forest, nil, node, turnedOnto, count}
 use Rattle.molang.proofs.Trees.{decided, either}
 use Rattle.ops.specs.Classes.{bitAt}
-use Rattle.nodes.specs.Store.{wd, Notes, reserve, Chain, Inc, Out, OutFrom, onto, RepF, ends, more, RepT, RepB, begins, put, AllLegal, Agree}
+use Rattle.nodes.specs.Store.{wd, slotWords, firstField, nextField, classesField, slotStart, firstAt, nextAt, Notes, reserve, Chain}
+use Rattle.nodes.specs.Store.{Inc, Out, OutFrom, onto, RepF, ends, more, RepT, RepB, begins, put, AllLegal, Agree}
 use Rattle.nodes.proofs.Runs.{inc-le, inc-lower, out-below, chain-unique}
 use Rattle.nodes.proofs.Tokens.{token-keep, token-unique}
 
@@ -44,7 +45,8 @@ reserve-minus t e = rw e
 pub reserve-other : (t : Token) → t .op ≢ semicolon → t .op ≢ negate → reserve t nil ≡ 1
 unfolding reserve
 reserve-other t a b =
-    decided (λ n. n ≡ 1) (eqb (t .op) semicolon) 3 (elim (eqb (t .op) negate) [ true ↦ 2 | false ↦ 1 ]) (λ e. absurd (a (eqb-true (t .op) semicolon e)))
+    decided (λ n. n ≡ 1) (eqb (t .op) semicolon) 3 (elim (eqb (t .op) negate) [ true ↦ 2 | false ↦ 1 ])
+    (λ e. absurd (a (eqb-true (t .op) semicolon e)))
     (λ e. decided (λ n. n ≡ 1) (eqb (t .op) negate) 2 1 (λ h. absurd (b (eqb-true (t .op) negate h))) (λ h. refl))
 
 -- a node's own slot is none of its ancestors'
@@ -86,7 +88,8 @@ pub rep-avoid : {W X Y : List ℕ} {lo hi : ℕ} {bs : List ℕ} {F : Forest} �
 rep-avoid h (ends e) = ends e
 rep-avoid h (more {b = b} a c d z p t n ch k r) =
     let e = rep-le r in
-    more a c d z (λ s u v. h s (omega arith) (omega arith) (p s u v)) t n ch (rep-avoid (λ s u v o. (o .0, h s (omega arith) (omega arith) (o .1))) k)
+    more a c d z (λ s u v. h s (omega arith) (omega arith) (p s u v)) t n ch
+    (rep-avoid (λ s u v o. (o .0, h s (omega arith) (omega arith) (o .1))) k)
     (rep-avoid (λ s u v o. h s (omega arith) v o) r)
 
 pub rep-count : {W X : List ℕ} {lo hi : ℕ} {bs : List ℕ} {F : Forest} → RepF W X bs lo hi F → length bs ≡ count F
@@ -100,12 +103,12 @@ rep-legal (more a c d z p t n ch k r) = (t .legal, rep-legal k, rep-legal r)
 
 -- a chain over the roots of a forest
 pub links-keep : (W W' : List ℕ) {X : List ℕ} {lo hi : ℕ} {bs : List ℕ} {F : Forest} (f : ℕ) → RepF W X bs lo hi F
-    → ((s : ℕ) → lo ≤ s → s < hi → Out s X → wd W' (8 * s + 6) ≡ wd W (8 * s + 6)) → Chain W f bs → Chain W' f bs
+    → ((s : ℕ) → lo ≤ s → s < hi → Out s X → nextAt W' s ≡ nextAt W s) → Chain W f bs → Chain W' f bs
 links-keep W W' f (ends e) h p = p
 links-keep W W' {X} f (more {b = b} {t = t} {k = j} a c d z q tk n ch k r) h p =
     let mh = rep-le r in
     let own = reserve-pos t j in
-    (p .0, p .1, rw (h b (omega arith) (omega arith) (own-out b t j X q)) (links-keep W W' (wd W (8 * b + 6)) r (λ s u v o. h s (omega arith) v o) (p .2)))
+    (p .0, p .1, rw (h b (omega arith) (omega arith) (own-out b t j X q)) (links-keep W W' (nextAt W b) r (λ s u v o. h s (omega arith) v o) (p .2)))
 
 -- ---- THE AGREEMENT LAW
 
@@ -116,13 +119,16 @@ rep-keep W W' {X} h (more {b = b} {bs = bs} {l = l} {m = m} {hi = hi} {t = t} {k
     let mh = rep-le r in
     let ib = roots-inc r in
     let pos = reserve-pos t j in
-    let kid : (s o : ℕ) → l ≤ s → s < m → o < 8 → Out s (b ∷ X) → wd W' (8 * s + o) ≡ wd W (8 * s + o)
+    let kid : (s o : ℕ) → l ≤ s → s < m → o < slotWords → Out s (b ∷ X) → wd W' (slotStart s + o) ≡ wd W (slotStart s + o)
     = λ s o u v w x. h s o (omega arith) (omega arith) w (x .1) (inr (x .0, out-below bs m hi ib v)) in
-    let own : (o : ℕ) → o < 8 → o ≢ 6 → wd W' (8 * b + o) ≡ wd W (8 * b + o)
+    let own : (o : ℕ) → o < slotWords → o ≢ nextField → wd W' (slotStart b + o) ≡ wd W (slotStart b + o)
     = λ o w x. h b o (omega arith) (omega arith) w (own-out b t j X p) (inl x) in
-    let ch' : Chain W' (wd W' (8 * b + 5)) cs
-    = rw (own 5 (omega arith) (omega arith)) (links-keep W W' (wd W (8 * b + 5)) k (λ s u v x. kid s 6 u v (omega arith) x) ch) in
-    more a c d z p (token-keep W W' b (λ o w. own o (omega arith) (omega arith)) tk) (noted-keep (own 7 (omega arith) (omega arith)) n)
+    let ch' : Chain W' (firstAt W' b) cs
+    =
+    rw (own firstField (omega arith) (omega arith))
+    (links-keep W W' (firstAt W b) k (λ s u v x. kid s nextField u v (omega arith) x) ch) in
+    more a c d z p (token-keep W W' b (λ o w. own o (omega arith) (omega arith)) tk)
+    (noted-keep (own classesField (omega arith) (omega arith)) n)
     ch'
     (rep-keep W W' (λ s o u v w x y. kid s o u v w x) k)
     (rep-keep W W' (λ s o u v w x y. h s o (omega arith) v w x (⊎-elim (λ q. inl q) (λ q. inr (omega arith, q)) y)) r)
@@ -144,7 +150,13 @@ pub record First (W X : List ℕ) (b : ℕ) (bs : List ℕ) (lo hi : ℕ) (t : T
 pub tree-first : {W X : List ℕ} {b : ℕ} {bs : List ℕ} {lo hi : ℕ} {t : Token} {k f : Forest} → RepF W X (b ∷ bs) lo hi (node t k f)
     → First W X b bs lo hi t k f
 tree-first (more {l = l} {m = m} {cs = cs} a c d z p t n ch k r) =
-    record { l = l; m = m; low = a; tree = record { cs = cs; low = c; high = d; pos = z; out = p; token = t; noted = n; chain = ch; kids = k }; rest = r }
+    record {
+      l = l;
+      m = m;
+      low = a;
+      tree = record { cs = cs; low = c; high = d; pos = z; out = p; token = t; noted = n; chain = ch; kids = k };
+      rest = r;
+    }
 
 pub tree-below : {W X : List ℕ} {b l m : ℕ} {t : Token} {k : Forest} → RepT W X b l m t k → b < m
 tree-below {t = t} {k = k} v = omega (arith, v .high, reserve-pos t k)
@@ -185,10 +197,10 @@ tree-avoid h v =
     }
 
 pub tree-keep : (W W' : List ℕ) {X : List ℕ} {b l m : ℕ} {t : Token} {k : Forest}
-    → ((s o : ℕ) → l ≤ s → s < m → o < 8 → Out s X → (o ≢ 6) ⊎ (s ≢ b) → wd W' (8 * s + o) ≡ wd W (8 * s + o))
+    → ((s o : ℕ) → l ≤ s → s < m → o < slotWords → Out s X → (o ≢ nextField) ⊎ (s ≢ b) → wd W' (slotStart s + o) ≡ wd W (slotStart s + o))
     → RepT W X b l m t k → RepT W' X b l m t k
 tree-keep W W' {X} {b} {l} {m} {t} {k} h v =
-    let own : (o : ℕ) → o < 8 → o ≢ 6 → wd W' (8 * b + o) ≡ wd W (8 * b + o)
+    let own : (o : ℕ) → o < slotWords → o ≢ nextField → wd W' (slotStart b + o) ≡ wd W (slotStart b + o)
     = λ o w x. h b o (v .low) (tree-below v) w (tree-out v) (inl x) in
     record {
       cs = v .cs;
@@ -197,8 +209,10 @@ tree-keep W W' {X} {b} {l} {m} {t} {k} h v =
       pos = v .pos;
       out = v .out;
       token = token-keep W W' b (λ o w. own o (omega arith) (omega arith)) (v .token);
-      noted = noted-keep (own 7 (omega arith) (omega arith)) (v .noted);
-      chain = rw (own 5 (omega arith) (omega arith)) (links-keep W W' (wd W (8 * b + 5)) (v .kids) (λ s u w x. h s 6 u w (omega arith) (x .1) (inr (x .0))) (v .chain));
+      noted = noted-keep (own classesField (omega arith) (omega arith)) (v .noted);
+      chain =
+          rw (own firstField (omega arith) (omega arith))
+          (links-keep W W' (firstAt W b) (v .kids) (λ s u w x. h s nextField u w (omega arith) (x .1) (inr (x .0))) (v .chain));
       kids = rep-keep W W' (λ s o u w z x y. h s o u w z (x .1) (inr (x .0))) (v .kids);
     }
 
@@ -217,23 +231,27 @@ pub back-avoid : {W X Y ds : List ℕ} {lo hi : ℕ} {d : Forest} → ((s : ℕ)
 back-avoid h (begins e) = begins e
 back-avoid h (put r t e) =
     let g = back-le r in
-    put (back-avoid (λ s u v o. h s u (omega (arith, t .low, tree-below t)) o) r) (tree-avoid (λ s u v o. h s (omega arith) (omega arith) o) t) e
+    put (back-avoid (λ s u v o. h s u (omega (arith, t .low, tree-below t)) o) r)
+    (tree-avoid (λ s u v o. h s (omega arith) (omega arith) o) t) e
 
 pub back-above : {W X ds : List ℕ} {lo hi : ℕ} {d : Forest} {s : ℕ} → hi ≤ s → RepB W X ds lo hi d → Out s ds
 back-above e (begins h) = tt
-back-above {s = s} e (put {l = l} r t h) = let g : l ≤ s = omega (arith, t .low, tree-below t) in (omega (arith, tree-below t), back-above g r)
+back-above {s = s} e (put {l = l} r t h) =
+    let g : l ≤ s = omega (arith, t .low, tree-below t) in (omega (arith, tree-below t), back-above g r)
 
 pub back-count : {W X ds : List ℕ} {lo hi : ℕ} {d : Forest} → RepB W X ds lo hi d → length ds ≡ count d
 unfolding count
 back-count (begins e) = refl
 back-count (put r t h) = ap suc (back-count r)
 
-pub back-keep : (W W' : List ℕ) {X ds : List ℕ} {lo hi : ℕ} {d : Forest} → Agree W W' X ds lo hi → RepB W X ds lo hi d → RepB W' X ds lo hi d
+pub back-keep : (W W' : List ℕ) {X ds : List ℕ} {lo hi : ℕ} {d : Forest} → Agree W W' X ds lo hi → RepB W X ds lo hi d
+    → RepB W' X ds lo hi d
 back-keep W W' h (begins e) = begins e
 back-keep W W' h (put r t e) =
     let g = back-le r in
     let below = tree-below t in
-    put (back-keep W W' (λ s o u v w x y. h s o u (omega (arith, t .low)) w x (⊎-elim (λ n. inl n) (λ n. inr (omega (arith, t .low), n)) y)) r)
+    put
+    (back-keep W W' (λ s o u v w x y. h s o u (omega (arith, t .low)) w x (⊎-elim (λ n. inl n) (λ n. inr (omega (arith, t .low), n)) y)) r)
     (tree-keep W W' (λ s o u v w x y. h s o (omega arith) (omega arith) w x (⊎-elim (λ n. inl n) (λ n. inr (n, back-above u r)) y)) t)
     e
 
@@ -250,14 +268,16 @@ pub onto-back : {W X ds rs : List ℕ} {lo m hi : ℕ} {d f : Forest} → RepB W
 unfolding turnedOnto
 onto-back b (ends h) = back-raise h b
 onto-back b (more {m = m} {cs = cs} a c d z p t n ch k r) =
-    onto-back (put (back-raise a b) (record { cs = cs; low = c; high = d; pos = z; out = p; token = t; noted = n; chain = ch; kids = k }) (le-refl m)) r
+    onto-back
+    (put (back-raise a b) (record { cs = cs; low = c; high = d; pos = z; out = p; token = t; noted = n; chain = ch; kids = k }) (le-refl m)) r
 
 -- ---- the words say which forest it is
 
 pub rep-unique : {W X Y : List ℕ} {lo hi lo' hi' : ℕ} {bs : List ℕ} {F G : Forest} → RepF W X bs lo hi F → RepF W Y bs lo' hi' G → F ≡ G
 rep-unique (ends a) (ends b) = refl
-rep-unique {W} {Y = Y} (more {b = b} {t = t} {k = k} {cs = cs} a c d z p tk n ch ks r) (more {l = l'} {m = m'} {t = t'} {k = k'} {cs = cs'} a' c' d' z' p' tk' n' ch' ks' r') =
-    let ek = chain-unique W (wd W (8 * b + 5)) cs' cs ch' ch in
+rep-unique {W} {Y = Y} (more {b = b} {t = t} {k = k} {cs = cs} a c d z p tk n ch ks r)
+    (more {l = l'} {m = m'} {t = t'} {k = k'} {cs = cs'} a' c' d' z' p' tk' n' ch' ks' r') =
+    let ek = chain-unique W (firstAt W b) cs' cs ch' ch in
     let e1 : k ≡ k' = rep-unique {Y = b ∷ Y} {lo' = l'} {hi' = m'} ks (subst (λ (l : List ℕ). RepF W (b ∷ Y) l l' m' k') ek ks') in
     let e2 = rep-unique r r' in
     let e3 : t ≡ t' = token-unique tk tk' in

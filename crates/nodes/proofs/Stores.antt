@@ -1,142 +1,139 @@
--- Straight-line code, store by store: the words that `set_leaf`, `attach`, `attach_two` and `push` leave. Each list is the one before with one store.
-use Prim.Native.Nat.{ℕ, zero, suc, _+_, _*_, _≤_, _<_}
+-- Straight-line code, store by store: the words that `set_leaf`, `attach`, `attach_two` and `push` leave. Each list is the one before
+-- with one store, or with words laid into it.
+use Prim.Native.Nat.{ℕ, zero, suc, _+_, _≤_, _<_}
 use mathlib.Core.Path.{_≡_, refl, ap, ap₂, _∙_}
-use mathlib.Core.Logic.{_≢_, _⊎_, inl, inr, ⊎-elim}
+use mathlib.Core.Logic.{_≢_}
 use mathlib.Core.Bool.{_||_}
-use mathlib.Core.List.{List, [], _∷_}
+use mathlib.Core.List.{List, [], _∷_, _++_}
 use native.Mathlib.Omega.{arith}
-use lib.ListN.{length, getD, set, length-set}
+use native.Mathlib.Nat.{add-zero}
+use lib.ListN.{length, getD, set}
+use Rattle.words.specs.Records.{laidAt}
+use Rattle.words.specs.Tokens.{fiveWords}
+use Rattle.words.specs.declared.tokens.TokenWords.{TokenWords}
+use Rattle.words.proofs.LaidLaws.{laid-long, laid-in, laid-out, laid-more}
 use Rattle.ops.specs.Classes.{bitAt}
-use Rattle.nodes.specs.Store.{wd}
+use Rattle.nodes.specs.Store.{wd, firstField, nextField, classesField, slotStart, slotEnd, firstWord, nextWord, classesWord}
+use Rattle.nodes.specs.Store.{classesAt}
 use Rattle.nodes.specs.Slots.{Laid}
 use Rattle.nodes.specs.Children.{Attached, AttachedTwo}
 use Rattle.nodes.specs.Frames.{Pushed}
 use Rattle.nodes.specs.declared.frames.List.{List as WorkList}
 use Rattle.nodes.specs.declared.frames.Held.{Held}
-use Rattle.nodes.proofs.Runs.{wd-same, wd-other, set-same, set-other, set-long}
+use Rattle.nodes.proofs.Runs.{set-same, set-other, set-long}
 
-module _ (W W1 W2 W3 : List ℕ) (p c x : ℕ) (own : 8 * p + 8 ≤ length W) (child : 8 * c + 8 ≤ length W)
-    (e1 : W1 ≡ set W (8 * p + 5) c) (e2 : W2 ≡ set W1 (8 * c + 6) 0) (ex : x ≡ wd W2 (8 * c + 7)) (e3 : W3 ≡ set W2 (8 * p + 7) x) where
+module _ (W W1 W2 W3 : List ℕ) (p c x : ℕ) (own : slotEnd p ≤ length W) (child : slotEnd c ≤ length W)
+    (e1 : W1 ≡ set W (firstWord p) c) (e2 : W2 ≡ set W1 (nextWord c) 0) (ex : x ≡ classesAt W2 c) (e3 : W3 ≡ set W2 (classesWord p) x) where
   pub attach-words : Attached W p c W3
   attach-words =
-      let n1 = set-long W W1 (8 * p + 5) c e1 in
-      let n2 = set-long W1 W2 (8 * c + 6) 0 e2 in
-      let n3 = set-long W2 W3 (8 * p + 7) x e3 in
-      let o1 = set-other W W1 (8 * p + 5) c e1 in
-      let o2 = set-other W1 W2 (8 * c + 6) 0 e2 in
-      let o3 = set-other W2 W3 (8 * p + 7) x e3 in
+      let n1 = set-long W W1 (firstWord p) c e1 in
+      let n2 = set-long W1 W2 (nextWord c) 0 e2 in
+      let n3 = set-long W2 W3 (classesWord p) x e3 in
+      let o1 = set-other W W1 (firstWord p) c e1 in
+      let o2 = set-other W1 W2 (nextWord c) 0 e2 in
+      let o3 = set-other W2 W3 (classesWord p) x e3 in
       record {
-        first = o3 (8 * p + 5) (omega arith) ∙ o2 (8 * p + 5) (omega arith) ∙ set-same W W1 (8 * p + 5) c e1 (omega arith);
-        last = o3 (8 * c + 6) (omega arith) ∙ set-same W1 W2 (8 * c + 6) 0 e2 (omega arith);
-        classes = set-same W2 W3 (8 * p + 7) x e3 (omega arith) ∙ ex ∙ o2 (8 * c + 7) (omega arith) ∙ o1 (8 * c + 7) (omega arith);
+        first = o3 (firstWord p) (omega arith) ∙ o2 (firstWord p) (omega arith) ∙ set-same W W1 (firstWord p) c e1 (omega arith);
+        last = o3 (nextWord c) (omega arith) ∙ set-same W1 W2 (nextWord c) 0 e2 (omega arith);
+        classes =
+            set-same W2 W3 (classesWord p) x e3 (omega arith) ∙ ex ∙ o2 (classesWord c) (omega arith) ∙ o1 (classesWord c) (omega arith);
         same = λ j a b d. o3 j d ∙ o2 j b ∙ o1 j a;
         long = n3 ∙ n2 ∙ n1;
       }
 
-module _ (W W1 W2 W3 W4 : List ℕ) (p l r x y z : ℕ) (own : 8 * p + 8 ≤ length W) (left : 8 * l + 8 ≤ length W) (right : 8 * r + 8 ≤ length W) (apart : l ≢ r)
-    (e1 : W1 ≡ set W (8 * p + 5) l) (e2 : W2 ≡ set W1 (8 * l + 6) r) (e3 : W3 ≡ set W2 (8 * r + 6) 0)
-    (ex : x ≡ wd W3 (8 * l + 7)) (ey : y ≡ wd W3 (8 * r + 7)) (ez : (i : ℕ) → bitAt z i ≡ (bitAt x i || bitAt y i)) (e4 : W4 ≡ set W3 (8 * p + 7) z) where
+module _ (W W1 W2 W3 W4 : List ℕ) (p l r x y z : ℕ) (own : slotEnd p ≤ length W) (left : slotEnd l ≤ length W)
+    (right : slotEnd r ≤ length W) (apart : l ≢ r)
+    (e1 : W1 ≡ set W (firstWord p) l) (e2 : W2 ≡ set W1 (nextWord l) r) (e3 : W3 ≡ set W2 (nextWord r) 0)
+    (ex : x ≡ classesAt W3 l) (ey : y ≡ classesAt W3 r) (ez : (i : ℕ) → bitAt z i ≡ (bitAt x i || bitAt y i))
+    (e4 : W4 ≡ set W3 (classesWord p) z) where
   pub attach-two-words : AttachedTwo W p l r W4
   attach-two-words =
-      let n1 = set-long W W1 (8 * p + 5) l e1 in
-      let n2 = set-long W1 W2 (8 * l + 6) r e2 in
-      let n3 = set-long W2 W3 (8 * r + 6) 0 e3 in
-      let n4 = set-long W3 W4 (8 * p + 7) z e4 in
-      let o1 = set-other W W1 (8 * p + 5) l e1 in
-      let o2 = set-other W1 W2 (8 * l + 6) r e2 in
-      let o3 = set-other W2 W3 (8 * r + 6) 0 e3 in
-      let o4 = set-other W3 W4 (8 * p + 7) z e4 in
-      let word : wd W4 (8 * p + 7) ≡ z = set-same W3 W4 (8 * p + 7) z e4 (omega arith) in
-      let old : (s : ℕ) → wd W3 (8 * s + 7) ≡ wd W (8 * s + 7)
-      = λ s. o3 (8 * s + 7) (omega arith) ∙ o2 (8 * s + 7) (omega arith) ∙ o1 (8 * s + 7) (omega arith) in
+      let n1 = set-long W W1 (firstWord p) l e1 in
+      let n2 = set-long W1 W2 (nextWord l) r e2 in
+      let n3 = set-long W2 W3 (nextWord r) 0 e3 in
+      let n4 = set-long W3 W4 (classesWord p) z e4 in
+      let o1 = set-other W W1 (firstWord p) l e1 in
+      let o2 = set-other W1 W2 (nextWord l) r e2 in
+      let o3 = set-other W2 W3 (nextWord r) 0 e3 in
+      let o4 = set-other W3 W4 (classesWord p) z e4 in
+      let word : classesAt W4 p ≡ z = set-same W3 W4 (classesWord p) z e4 (omega arith) in
+      let old : (s : ℕ) → classesAt W3 s ≡ classesAt W s
+      = λ s. o3 (classesWord s) (omega arith) ∙ o2 (classesWord s) (omega arith) ∙ o1 (classesWord s) (omega arith) in
       record {
-        first = o4 (8 * p + 5) (omega arith) ∙ o3 (8 * p + 5) (omega arith) ∙ o2 (8 * p + 5) (omega arith) ∙ set-same W W1 (8 * p + 5) l e1 (omega arith);
-        next = o4 (8 * l + 6) (omega arith) ∙ o3 (8 * l + 6) (omega arith) ∙ set-same W1 W2 (8 * l + 6) r e2 (omega arith);
-        last = o4 (8 * r + 6) (omega arith) ∙ set-same W2 W3 (8 * r + 6) 0 e3 (omega arith);
+        first =
+            o4 (firstWord p) (omega arith) ∙ o3 (firstWord p) (omega arith) ∙ o2 (firstWord p) (omega arith)
+            ∙ set-same W W1 (firstWord p) l e1 (omega arith);
+        next = o4 (nextWord l) (omega arith) ∙ o3 (nextWord l) (omega arith) ∙ set-same W1 W2 (nextWord l) r e2 (omega arith);
+        last = o4 (nextWord r) (omega arith) ∙ set-same W2 W3 (nextWord r) 0 e3 (omega arith);
         classes = λ i. ap (λ (w : ℕ). bitAt w i) word ∙ ez i ∙ ap₂ (λ (a : ℕ) (b : ℕ). bitAt a i || bitAt b i) (ex ∙ old l) (ey ∙ old r);
         same = λ j a b d f. o4 j f ∙ o3 j d ∙ o2 j b ∙ o1 j a;
         long = n4 ∙ n3 ∙ n2 ∙ n1;
       }
 
--- ---- stores to one word after another
-
--- the values vs stored from the word at + k on; at a numeral k the indices compute to those of the code
-abbrev pub storedFrom : List ℕ → ℕ → ℕ → List ℕ → List ℕ
-storedFrom W at k [] = W
-storedFrom W at k (v ∷ vs) = storedFrom (set W (at + k) v) at (suc k) vs
-
-pub stored-long : (W : List ℕ) (at k : ℕ) (vs : List ℕ) → length (storedFrom W at k vs) ≡ length W
-stored-long W at k [] = refl
-stored-long W at k (v ∷ vs) = stored-long (set W (at + k) v) at (suc k) vs ∙ length-set W (at + k) v
-
-pub stored-other : (W : List ℕ) (at k : ℕ) (vs : List ℕ) (j : ℕ) → (j < at + k) ⊎ (at + k + length vs ≤ j) → wd (storedFrom W at k vs) j ≡ wd W j
-stored-other W at k [] j o = refl
-stored-other W at k (v ∷ vs) j (inl o) =
-    stored-other (set W (at + k) v) at (suc k) vs j (inl (omega arith)) ∙ wd-other W (at + k) v j (omega arith)
-stored-other W at k (v ∷ vs) j (inr o) =
-    stored-other (set W (at + k) v) at (suc k) vs j (inr (omega arith)) ∙ wd-other W (at + k) v j (omega arith)
-
-pub stored-at : (W : List ℕ) (at k : ℕ) (vs : List ℕ) (i : ℕ) → at + k + length vs ≤ length W → i < length vs
-    → wd (storedFrom W at k vs) (at + (k + i)) ≡ getD vs i 0
-stored-at W at k [] i room h = absurd (omega arith)
-stored-at W at k (v ∷ vs) zero room h =
-    let e : at + (k + 0) ≡ at + k = omega arith in
-    rw e (stored-other (set W (at + k) v) at (suc k) vs (at + k) (inl (omega arith)) ∙ wd-same W (at + k) v (omega arith))
-stored-at W at k (v ∷ vs) (suc i) room h =
-    let e : at + (k + suc i) ≡ at + (suc k + i) = omega arith in
-    let n = length-set W (at + k) v in
-    rw e (stored-at (set W (at + k) v) at (suc k) vs i (omega arith) (omega arith))
-
 -- ---- a whole slot
 
-module _ (W : List ℕ) (s a b c d e n : ℕ) (room : 8 * s + 8 ≤ length W) where
-  pub laid-words : Laid W s a b c d e n (storedFrom (set W (8 * s) a) (8 * s) 1 (b ∷ c ∷ d ∷ e ∷ 0 ∷ 0 ∷ n ∷ []))
+-- The words of a leaf's slot.
+abbrev leafWords : TokenWords → ℕ → List ℕ
+leafWords k n = k .operator ∷ k .start ∷ k .end ∷ k .upper ∷ k .lower ∷ 0 ∷ 0 ∷ n ∷ []
+
+module _ (W W1 : List ℕ) (s : ℕ) (k : TokenWords) (n : ℕ) (room : slotEnd s ≤ length W)
+    (e : W1 ≡ laidAt (slotStart s) (fiveWords k) W) where
+  laid-leaf : set (set (set W1 (firstWord s) 0) (nextWord s) 0) (classesWord s) n ≡ laidAt (slotStart s) (leafWords k n) W
+  laid-leaf =
+      let at = slotStart s in
+      rw
+      (e, laid-more (fiveWords k) W at 0 (omega arith), laid-more (fiveWords k ++ (0 ∷ [])) W at 0 (omega arith))
+      (laid-more (fiveWords k ++ (0 ∷ 0 ∷ [])) W at n (omega arith))
+
+  pub laid-words : Laid W s k n (set (set (set W1 (firstWord s) 0) (nextWord s) 0) (classesWord s) n)
   laid-words =
-      let vs : List ℕ = b ∷ c ∷ d ∷ e ∷ 0 ∷ 0 ∷ n ∷ [] in
-      let Z = set W (8 * s) a in
-      let long = length-set W (8 * s) a in
-      let word : (i : ℕ) → i < 7 → wd (storedFrom Z (8 * s) 1 vs) (8 * s + (1 + i)) ≡ getD vs i 0 = λ i h. stored-at Z (8 * s) 1 vs i (omega arith) h in
-      record {
-        operator-word = stored-other Z (8 * s) 1 vs (8 * s) (inl (omega arith)) ∙ wd-same W (8 * s) a (omega arith);
-        start-word = word 0 (omega arith);
-        end-word = word 1 (omega arith);
-        upper-word = word 2 (omega arith);
-        lower-word = word 3 (omega arith);
-        first = word 4 (omega arith);
-        next = word 5 (omega arith);
-        classes = word 6 (omega arith);
-        same = λ j o.
-            stored-other Z (8 * s) 1 vs j (⊎-elim (λ x. inl (omega arith)) (λ x. inr (omega arith)) o)
-            ∙ wd-other W (8 * s) a j (⊎-elim (λ x. omega arith) (λ x. omega arith) o);
-        long = stored-long Z (8 * s) 1 vs ∙ long;
-      }
+      let ws = leafWords k n in
+      let at = slotStart s in
+      let word = laid-in ws W at room in
+      rw laid-leaf
+      (record {
+        words = five;
+        first = word firstField (omega arith);
+        next = word nextField (omega arith);
+        classes = word classesField (omega arith);
+        same = laid-out ws W at room;
+        long = laid-long ws W at room;
+      })
+    where
+      five : (i : ℕ) → i < 5 → wd (laidAt (slotStart s) (leafWords k n) W) (slotStart s + i) ≡ getD (fiveWords k) i 0
+      five zero h = laid-in (leafWords k n) W (slotStart s) room 0 (omega arith)
+      five (suc zero) h = laid-in (leafWords k n) W (slotStart s) room 1 (omega arith)
+      five (suc (suc zero)) h = laid-in (leafWords k n) W (slotStart s) room 2 (omega arith)
+      five (suc (suc (suc zero))) h = laid-in (leafWords k n) W (slotStart s) room 3 (omega arith)
+      five (suc (suc (suc (suc zero)))) h = laid-in (leafWords k n) W (slotStart s) room 4 (omega arith)
+      five (suc (suc (suc (suc (suc i))))) h = absurd (omega arith)
 
 -- ---- a frame
 
-module _ (W : List ℕ) (l : WorkList) (h : Held) (room : l .base + l .len + 6 ≤ length W) where
-  pub pushed-words :
-      Pushed W l h (l .base + l .len + 6)
-      (storedFrom (set W (l .base + l .len) (l .owner)) (l .base + l .len) 1 (l .base ∷ l .read ∷ l .write ∷ h .first ∷ h .second ∷ []))
+-- The words of a frame.
+abbrev pub frameWords : WorkList → Held → List ℕ
+frameWords l h = l .owner ∷ l .base ∷ l .read ∷ l .write ∷ h .first ∷ h .second ∷ []
+
+module _ (W W' : List ℕ) (l : WorkList) (h : Held) (room : l .base + l .len + 6 ≤ length W)
+    (e : W' ≡ laidAt (l .base + l .len) (frameWords l h) W) where
+  pub pushed-words : Pushed W l h (l .base + l .len + 6) W'
   pushed-words =
+      let ws = frameWords l h in
       let top = l .base + l .len in
-      let vs : List ℕ = l .base ∷ l .read ∷ l .write ∷ h .first ∷ h .second ∷ [] in
-      let Z = set W top (l .owner) in
-      let long = length-set W top (l .owner) in
-      let word : (i : ℕ) → i < 5 → wd (storedFrom Z top 1 vs) (top + (1 + i)) ≡ getD vs i 0 = λ i e. stored-at Z top 1 vs i (omega arith) e in
-      record {
+      let word = laid-in ws W top room in
+      rw e
+      (record {
         past = refl;
         frame =
             record {
               above = refl;
-              owner-word = stored-other Z top 1 vs top (inl (omega arith)) ∙ wd-same W top (l .owner) (omega arith);
-              base-word = word 0 (omega arith);
-              read-word = word 1 (omega arith);
-              write-word = word 2 (omega arith);
-              first-word = word 3 (omega arith);
-              second-word = word 4 (omega arith);
+              owner-word = rw add-zero at (word 0 (omega arith));
+              base-word = word 1 (omega arith);
+              read-word = word 2 (omega arith);
+              write-word = word 3 (omega arith);
+              first-word = word 4 (omega arith);
+              second-word = word 5 (omega arith);
             };
-        same = λ j o.
-            stored-other Z top 1 vs j (⊎-elim (λ x. inl (omega arith)) (λ x. inr (omega arith)) o)
-            ∙ wd-other W top (l .owner) j (⊎-elim (λ x. omega arith) (λ x. omega arith) o);
-        long = stored-long Z top 1 vs ∙ long;
-      }
+        same = laid-out ws W top room;
+        long = laid-long ws W top room;
+      })

@@ -1,12 +1,13 @@
--- The loops that follow a chain: `take_chain` copies it, `count_chain` counts it, `last_of_chain` ends at its last slot. Each has what holds at its
--- test (an `..At` record over the part that is passed and the part that is left), its start, what a turn asks, a turn, and the end.
-use Prim.Native.Nat.{ℕ, _+_, _*_, _-_, _≤_, _<_}
+-- The loops that follow a chain: `take_chain` copies it, `count_chain` counts it, `last_of_chain` ends at its last slot. Each has what
+-- holds at its test (an `..At` record over the part that is passed and the part that is left), its start, what a turn asks, a turn, and the
+-- end.
+use Prim.Native.Nat.{ℕ, _+_, _-_, _≤_, _<_}
 use mathlib.Core.Path.{_≡_, refl, sym, ap, _∙_, subst}
 use mathlib.Core.Logic.{_≢_, _⊎_, inl, inr}
 use mathlib.Core.List.{List, [], _∷_, _++_, append-assoc, append-nil}
 use native.Mathlib.Omega.{arith}
 use lib.ListN.{length, set, length-set, length-append}
-use Rattle.nodes.specs.Store.{wd, Chain, Seg, Inc}
+use Rattle.nodes.specs.Store.{wd, slotStart, slotEnd, nextWord, nextAt, Chain, Seg, Inc}
 use Rattle.nodes.specs.Children.{CanTake, Taken, CanFollow, Counted, lastFrom, IsLast}
 use Rattle.nodes.proofs.Runs.{wd-same, wd-other, inc-le, seg-keep, seg-snoc, chain-unique}
 
@@ -18,7 +19,7 @@ pub record TakeAt (W : List ℕ) (first to : ℕ) (Z : List ℕ) (s i : ℕ) (do
   pub whole : Chain W first (done ++ left)
   pub chain : Chain W s left
   pub inc : Inc lo hi left
-  pub below : 8 * hi ≤ to
+  pub below : slotStart hi ≤ to
   pub seg : Seg Z to done
   pub at : i ≡ to + length done
   pub room : i + length left ≤ length W
@@ -49,7 +50,7 @@ take-start p = (
 
 -- the slot is in the store, and there is room
 pub take-in : {W : List ℕ} {first to : ℕ} {Z : List ℕ} {s i : ℕ} {done : List ℕ} (left : List ℕ) → TakeAt W first to Z s i done left → s ≢ 0
-    → (8 * s + 8 ≤ to) × (to ≤ i) × (i < length Z)
+    → (slotEnd s ≤ to) × (to ≤ i) × (i < length Z)
 take-in [] v n = absurd (n (v .chain))
 take-in {s = s} (c ∷ left) v n =
     let e = v .chain .0 in
@@ -61,14 +62,15 @@ out-step : (W Z : List ℕ) (to i s : ℕ) → to ≤ i → ((j : ℕ) → (j < 
 out-step W Z to i s b h j (inl o) = wd-other Z i s j (omega arith) ∙ h j (inl o)
 out-step W Z to i s b h j (inr o) = wd-other Z i s j (omega arith) ∙ h j (inr (omega arith))
 
-pub take-step : {W : List ℕ} {first to : ℕ} {Z : List ℕ} {s i : ℕ} {done : List ℕ} (left : List ℕ) → TakeAt W first to Z s i done left → s ≢ 0
-    → Taking W first to (set Z i s) (wd (set Z i s) (8 * s + 6)) (i + 1)
+pub take-step : {W : List ℕ} {first to : ℕ} {Z : List ℕ} {s i : ℕ} {done : List ℕ} (left : List ℕ) → TakeAt W first to Z s i done left
+    → s ≢ 0
+    → Taking W first to (set Z i s) (nextAt (set Z i s) s) (i + 1)
 take-step [] v n = absurd (n (v .chain))
 take-step {W} {first} {to} {Z} {s} {i} {done} (c ∷ left) v n =
     let b = take-in (c ∷ left) v n in
     let e = v .chain .0 in
-    let link : wd (set Z i s) (8 * s + 6) ≡ wd W (8 * c + 6)
-    = wd-other Z i s (8 * s + 6) (omega arith) ∙ v .same (8 * s + 6) (inl (omega arith)) ∙ ap (λ (x : ℕ). wd W (8 * x + 6)) e in
+    let link : nextAt (set Z i s) s ≡ nextAt W c
+    = wd-other Z i s (nextWord s) (omega arith) ∙ v .same (nextWord s) (inl (omega arith)) ∙ ap (λ (x : ℕ). nextAt W x) e in
     let last : wd (set Z i s) (to + length done) ≡ c
     = ap (λ (x : ℕ). wd (set Z i s) x) (sym (v .at)) ∙ wd-same Z i s (b .2) ∙ e in (
       done ++ c ∷ [],
@@ -88,7 +90,8 @@ take-step {W} {first} {to} {Z} {s} {i} {done} (c ∷ left) v n =
       },
     )
 
-pub take-done : {W : List ℕ} {first to : ℕ} {Z : List ℕ} {s i : ℕ} {done : List ℕ} (left : List ℕ) → TakeAt W first to Z s i done left → s ≡ 0
+pub take-done : {W : List ℕ} {first to : ℕ} {Z : List ℕ} {s i : ℕ} {done : List ℕ} (left : List ℕ) → TakeAt W first to Z s i done left
+    → s ≡ 0
     → Taken W first to (i - to) Z
 take-done {W} {first} {to} {Z} {s} {i} {done} [] v n =
     let whole : Chain W first done = rw append-nil at (v .whole) in
@@ -110,7 +113,7 @@ pub record CountAt (W : List ℕ) (first s n : ℕ) (left : List ℕ) : Type 0 w
   pub whole : (cs : List ℕ) → Chain W first cs → length cs ≡ n + length left
   pub chain : Chain W s left
   pub inc : Inc lo hi left
-  pub within : 8 * hi ≤ length W
+  pub within : slotStart hi ≤ length W
   pub passed : n < lo
 
 abbrev pub Counting : List ℕ → ℕ → ℕ → ℕ → Type 0
@@ -131,14 +134,14 @@ count-start {W} {first} p = (
 )
 
 -- the slot is in the store, and more slots have numbers below it than are counted
-pub count-in : {W : List ℕ} {first s n : ℕ} (left : List ℕ) → CountAt W first s n left → s ≢ 0 → (8 * s + 8 ≤ length W) × (n < s)
+pub count-in : {W : List ℕ} {first s n : ℕ} (left : List ℕ) → CountAt W first s n left → s ≢ 0 → (slotEnd s ≤ length W) × (n < s)
 count-in [] v h = absurd (h (v .chain))
 count-in (c ∷ left) v h =
     let e = v .chain .0 in
     let u = inc-le left (v .inc .1) in
     omega arith
 
-pub count-step : {W : List ℕ} {first s n : ℕ} (left : List ℕ) → CountAt W first s n left → s ≢ 0 → Counting W first (wd W (8 * s + 6)) (n + 1)
+pub count-step : {W : List ℕ} {first s n : ℕ} (left : List ℕ) → CountAt W first s n left → s ≢ 0 → Counting W first (nextAt W s) (n + 1)
 count-step [] v h = absurd (h (v .chain))
 count-step {W} {first} {s} {n} (c ∷ left) v h =
     let e = v .chain .0 in (
@@ -165,13 +168,13 @@ pub record LastAt (W : List ℕ) (first last s : ℕ) (left : List ℕ) : Type 0
   pub whole : (c : ℕ) (cs : List ℕ) → Chain W first (c ∷ cs) → lastFrom c cs ≡ lastFrom last left
   pub chain : Chain W s left
   pub inc : Inc (last + 1) hi left
-  pub within : 8 * hi ≤ length W
+  pub within : slotStart hi ≤ length W
 
 abbrev pub Lasting : List ℕ → ℕ → ℕ → ℕ → Type 0
 Lasting W first last s = (left : List ℕ) × LastAt W first last s left
 
-last-from : {W : List ℕ} {first : ℕ} (hi : ℕ) (cs : List ℕ) → Chain W first cs → Inc 1 hi cs → 8 * hi ≤ length W → first ≢ 0
-    → Lasting W first first (wd W (8 * first + 6))
+last-from : {W : List ℕ} {first : ℕ} (hi : ℕ) (cs : List ℕ) → Chain W first cs → Inc 1 hi cs → slotStart hi ≤ length W → first ≢ 0
+    → Lasting W first first (nextAt W first)
 last-from hi [] ch i w n = absurd (n ch)
 last-from {W} {first} hi (c ∷ cs) ch i w n =
     let e = ch .0 in
@@ -179,32 +182,34 @@ last-from {W} {first} hi (c ∷ cs) ch i w n =
       cs,
       record {
         hi = hi;
-        whole = λ d ds p. let u = chain-unique W first (d ∷ ds) (c ∷ cs) p own in let h : d ≡ c = cc in let t : ds ≡ cs = cc in let f : first ≡ c = e in cc;
+        whole =
+            λ d ds p.
+            let u = chain-unique W first (d ∷ ds) (c ∷ cs) p own in let h : d ≡ c = cc in let t : ds ≡ cs = cc in let f : first ≡ c = e in cc;
         chain = rw e (ch .2);
         inc = rw e (i .1);
         within = w;
       },
     )
 
-pub last-start : {W : List ℕ} {first : ℕ} → CanFollow W first → first ≢ 0 → Lasting W first first (wd W (8 * first + 6))
+pub last-start : {W : List ℕ} {first : ℕ} → CanFollow W first → first ≢ 0 → Lasting W first first (nextAt W first)
 last-start p n = last-from (p .hi) (p .cs) (p .chain) (p .inc) (p .within) n
 
 -- the first slot is in the store
-pub last-first : {W : List ℕ} {first : ℕ} → CanFollow W first → first ≢ 0 → 8 * first + 8 ≤ length W
+pub last-first : {W : List ℕ} {first : ℕ} → CanFollow W first → first ≢ 0 → slotEnd first ≤ length W
 last-first {W} {first} p n = within (p .cs) (p .chain) (p .inc)
   where
-    within : (cs : List ℕ) → Chain W first cs → Inc 1 (p .hi) cs → 8 * first + 8 ≤ length W
+    within : (cs : List ℕ) → Chain W first cs → Inc 1 (p .hi) cs → slotEnd first ≤ length W
     within [] ch i = absurd (n ch)
     within (c ∷ cs) ch i = let e = ch .0 in let u = inc-le cs (i .1) in omega (arith, p .within)
 
-pub last-in : {W : List ℕ} {first last s : ℕ} (left : List ℕ) → LastAt W first last s left → s ≢ 0 → (8 * s + 8 ≤ length W) × (last < s)
+pub last-in : {W : List ℕ} {first last s : ℕ} (left : List ℕ) → LastAt W first last s left → s ≢ 0 → (slotEnd s ≤ length W) × (last < s)
 last-in [] v h = absurd (h (v .chain))
 last-in (c ∷ left) v h =
     let e = v .chain .0 in
     let u = inc-le left (v .inc .1) in
     omega arith
 
-pub last-step : {W : List ℕ} {first last s : ℕ} (left : List ℕ) → LastAt W first last s left → s ≢ 0 → Lasting W first s (wd W (8 * s + 6))
+pub last-step : {W : List ℕ} {first last s : ℕ} (left : List ℕ) → LastAt W first last s left → s ≢ 0 → Lasting W first s (nextAt W s)
 unfolding lastFrom
 last-step [] v h = absurd (h (v .chain))
 last-step {s = s} (c ∷ left) v h =

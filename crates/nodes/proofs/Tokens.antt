@@ -1,5 +1,5 @@
--- A slot's five token words, said of its token: what the fields are read from, that the words say which token it is, and what becomes of the
--- token where some of the words are written.
+-- A slot's five token words, said of its token: what the fields are read from, that the words say which token it is, and what becomes of
+-- the token where some of the words are written.
 use Prim.Native.Nat.{ℕ, zero, suc, _+_, _*_, _/_, _%_, _^_, _≤_, _<_}
 use mathlib.Core.Path.{_≡_, refl, sym, _∙_}
 use mathlib.Core.List.{List}
@@ -7,47 +7,49 @@ use native.Mathlib.Omega.{arith}
 use native.Mathlib.Nat.{add-zero}
 use lib.ListN.{length, getD, set}
 use Rattle.molang.specs.Forest.{Token, renamed, bare}
-use Rattle.molang.specs.Words.{word, lowOf, tokenWords, Legal}
+use Rattle.molang.specs.Words.{word, lowOf, tokenWords}
+use Rattle.molang.specs.Legal.{Legal}
 use Rattle.words.specs.Fields.{operatorOf, withOperator}
-use Rattle.nodes.specs.Store.{wd, TokenAt}
+use Rattle.nodes.specs.Store.{wd, slotStart, slotEnd, operatorWordAt, startWordAt, endWordAt, upperWordAt, lowerWordAt, TokenAt}
 use Rattle.nodes.specs.Slots.{opAt, startAt, endAt, Made}
 use Rattle.nodes.proofs.Runs.{set-same, set-other}
 
-pub token-keep : (W W' : List ℕ) (b : ℕ) {k : Token} → ((o : ℕ) → o < 5 → wd W' (8 * b + o) ≡ wd W (8 * b + o)) → TokenAt W b k → TokenAt W' b k
+pub token-keep : (W W' : List ℕ) (b : ℕ) {k : Token} → ((o : ℕ) → o < 5 → wd W' (slotStart b + o) ≡ wd W (slotStart b + o)) → TokenAt W b k
+    → TokenAt W' b k
 token-keep W W' b h t = record { words = λ o w. h o w ∙ t .words o w; legal = t .legal }
 
 -- ---- the words of a token, one by one
 
 module _ {W : List ℕ} {s : ℕ} {k : Token} (t : TokenAt W s k) where
-  pub operator-word : wd W (8 * s) ≡ word 1 (k .variant * 2 ^ 8 + k .op)
+  pub operator-word : operatorWordAt W s ≡ word 1 (k .variant * 2 ^ 8 + k .op)
   unfolding tokenWords
   operator-word = rw add-zero at (t .words 0 (omega arith))
 
-  pub start-word : wd W (8 * s + 1) ≡ word 2 (k .start)
+  pub start-word : startWordAt W s ≡ word 2 (k .start)
   unfolding tokenWords
   start-word = t .words 1 (omega arith)
 
-  pub end-word : wd W (8 * s + 2) ≡ word 3 (k .end)
+  pub end-word : endWordAt W s ≡ word 3 (k .end)
   unfolding tokenWords
   end-word = t .words 2 (omega arith)
 
-  pub upper-word : wd W (8 * s + 3) ≡ word 4 (k .value / 2 ^ 16)
+  pub upper-word : upperWordAt W s ≡ word 4 (k .value / 2 ^ 16)
   unfolding tokenWords
   upper-word = t .words 3 (omega arith)
 
-  pub lower-word : wd W (8 * s + 4) ≡ word 5 (k .value % 2 ^ 16)
+  pub lower-word : lowerWordAt W s ≡ word 5 (k .value % 2 ^ 16)
   unfolding tokenWords
   lower-word = t .words 4 (omega arith)
 
 -- five words make a token
 pub token-of-words : {W : List ℕ} {s : ℕ} {k : Token}
-    → wd W (8 * s) ≡ word 1 (k .variant * 2 ^ 8 + k .op) → wd W (8 * s + 1) ≡ word 2 (k .start) → wd W (8 * s + 2) ≡ word 3 (k .end)
-    → wd W (8 * s + 3) ≡ word 4 (k .value / 2 ^ 16) → wd W (8 * s + 4) ≡ word 5 (k .value % 2 ^ 16) → Legal k
+    → operatorWordAt W s ≡ word 1 (k .variant * 2 ^ 8 + k .op) → startWordAt W s ≡ word 2 (k .start) → endWordAt W s ≡ word 3 (k .end)
+    → upperWordAt W s ≡ word 4 (k .value / 2 ^ 16) → lowerWordAt W s ≡ word 5 (k .value % 2 ^ 16) → Legal k
     → TokenAt W s k
 unfolding tokenWords
 token-of-words {W} {s} {k} a b c d e l = record { words = by-place; legal = l }
   where
-    by-place : (i : ℕ) → i < 5 → wd W (8 * s + i) ≡ getD (tokenWords k) i 0
+    by-place : (i : ℕ) → i < 5 → wd W (slotStart s + i) ≡ getD (tokenWords k) i 0
     by-place zero h = rw add-zero a
     by-place (suc zero) h = b
     by-place (suc (suc zero)) h = c
@@ -83,10 +85,13 @@ same-value x y a b = omega arith
 -- the words say which token it is
 pub token-unique : {W : List ℕ} {s : ℕ} {k k' : Token} → TokenAt W s k → TokenAt W s k' → k ≡ k'
 token-unique {W} {s} {k} {k'} t u =
-    let o = same-operator (k .variant) (k .op) (k' .variant) (k' .op) (t .legal .op) (u .legal .op) (sym (operator-word t) ∙ operator-word u) in
+    let o =
+    same-operator (k .variant) (k .op) (k' .variant) (k' .op) (t .legal .op) (u .legal .op) (sym (operator-word t) ∙ operator-word u) in
     let start = same-low 2 (k .start) (k' .start) (sym (start-word t) ∙ start-word u) in
     let end = same-low 3 (k .end) (k' .end) (sym (end-word t) ∙ end-word u) in
-    let value = same-value (k .value) (k' .value) (same-low 4 _ _ (sym (upper-word t) ∙ upper-word u)) (same-low 5 _ _ (sym (lower-word t) ∙ lower-word u)) in
+    let value =
+    same-value (k .value) (k' .value) (same-low 4 _ _ (sym (upper-word t) ∙ upper-word u))
+    (same-low 5 _ _ (sym (lower-word t) ∙ lower-word u)) in
     λ i. record { op = o .1 i; variant = o .0 i; value = value i; start = start i; end = end i }
 
 -- ---- tokens that the passes make
@@ -105,18 +110,19 @@ unfolding word withOperator
 renamed-word v o p a b = omega arith
 
 -- `set_operator` renames the token
-pub token-renamed : (W W' : List ℕ) (s o : ℕ) {k : Token} → W' ≡ set W (8 * s) (withOperator (wd W (8 * s)) o) → 8 * s + 8 ≤ length W → o ≤ 110
+pub token-renamed : (W W' : List ℕ) (s o : ℕ) {k : Token} → W' ≡ set W (slotStart s) (withOperator (operatorWordAt W s) o)
+    → slotEnd s ≤ length W → o ≤ 110
     → TokenAt W s k → TokenAt W' s (renamed o k)
 unfolding renamed
 token-renamed W W' s o {k} e room h t =
-    let v = withOperator (wd W (8 * s)) o in
-    let other = set-other W W' (8 * s) v e in
+    let v = withOperator (operatorWordAt W s) o in
+    let other = set-other W W' (slotStart s) v e in
     token-of-words
-    (set-same W W' (8 * s) v e (omega arith) ∙ rw (operator-word t) (renamed-word (k .variant) (k .op) o (t .legal .op) h))
-    (other (8 * s + 1) (omega arith) ∙ start-word t)
-    (other (8 * s + 2) (omega arith) ∙ end-word t)
-    (other (8 * s + 3) (omega arith) ∙ upper-word t)
-    (other (8 * s + 4) (omega arith) ∙ lower-word t)
+    (set-same W W' (slotStart s) v e (omega arith) ∙ rw (operator-word t) (renamed-word (k .variant) (k .op) o (t .legal .op) h))
+    (other (slotStart s + 1) (omega arith) ∙ start-word t)
+    (other (slotStart s + 2) (omega arith) ∙ end-word t)
+    (other (slotStart s + 3) (omega arith) ∙ upper-word t)
+    (other (slotStart s + 4) (omega arith) ∙ lower-word t)
     (legal-renamed o h (t .legal))
 
 bare-word : (o : ℕ) → o ≤ 110 → word 1 (o % 2 ^ 8) ≡ word 1 (0 * 2 ^ 8 + o)
@@ -127,4 +133,10 @@ bare-word o h = omega arith
 pub token-made : {W W' : List ℕ} {s like o : ℕ} {k : Token} → Made W s o like W' → o ≤ 110 → TokenAt W like k → TokenAt W' s (bare o k)
 unfolding bare
 token-made {o = o} v h t =
-    token-of-words (v .operator-word ∙ bare-word o h) (v .start-word ∙ start-word t) (v .end-word ∙ end-word t) (v .upper-word) (v .lower-word) (legal-bare o h (t .legal))
+    token-of-words
+    (rw add-zero at (v .words 0 (omega arith)) ∙ bare-word o h)
+    (v .words 1 (omega arith) ∙ start-word t)
+    (v .words 2 (omega arith) ∙ end-word t)
+    (v .words 3 (omega arith))
+    (v .words 4 (omega arith))
+    (legal-bare o h (t .legal))

@@ -1,5 +1,5 @@
-// Child lists: a chain of slots from a node's first child on. Taken from a chain to an array on the stack, given back from an
-// array to a chain. A node that is given children notes the classes of all of them. Leans on the slots.
+// Child lists: a chain of slots from a node's first child on. A list is taken from a chain to an array on the stack, and given back
+// from an array to a chain. A node that is given children notes the classes of all of them. Leans on the slots.
 use crate::slots::classes_of;
 use crate::slots::next_of;
 use crate::slots::set_classes;
@@ -7,13 +7,14 @@ use crate::slots::set_first;
 use crate::slots::set_next;
 use ops::classes::TokenClasses;
 ghost use mathlib.Core.Logic.{_≢_};
-ghost use Prim.Native.Nat.{_+_, _*_, _≤_};
+ghost use Prim.Native.Nat.{_≤_};
 ghost use lib.ListN.{length};
+ghost use Rattle.nodes.specs.Store.{slotEnd};
 ghost use Rattle.nodes.specs.Children.{Attached, AttachedTwo, CanTake, Taken, CanGive, Given, CanFollow, Counted, IsLast};
 
 // `child` becomes the only child of `parent`.
 pub fn attach(work: &mut [u32], parent: u32, child: u32)
-    requires { ⌜ (8 * parent + 8 ≤ length (now work)) × (8 * child + 8 ≤ length (now work)) ⌝ }
+    requires { ⌜ (slotEnd parent ≤ length (now work)) × (slotEnd child ≤ length (now work)) ⌝ }
     ensures { λ _. ⌜ Attached (now (work .entry)) parent child (now (work .exit)) ⌝ }
 {
     set_first(work, parent, child);
@@ -24,7 +25,8 @@ pub fn attach(work: &mut [u32], parent: u32, child: u32)
 
 // `left` and `right` become the children of `parent`.
 pub fn attach_two(work: &mut [u32], parent: u32, left: u32, right: u32)
-    requires { ⌜ (8 * parent + 8 ≤ length (now work)) × (8 * left + 8 ≤ length (now work)) × (8 * right + 8 ≤ length (now work)) × (left ≢ right) ⌝ }
+    requires { ⌜ (slotEnd parent ≤ length (now work)) × (slotEnd left ≤ length (now work))
+        × (slotEnd right ≤ length (now work)) × (left ≢ right) ⌝ }
     ensures { λ _. ⌜ AttachedTwo (now (work .entry)) parent left right (now (work .exit)) ⌝ }
 {
     set_first(work, parent, left);
@@ -34,7 +36,7 @@ pub fn attach_two(work: &mut [u32], parent: u32, left: u32, right: u32)
     set_classes(work, parent, below);
 }
 
-// Copies the slots of the chain from `first` on to the words from `to` on; their number.
+// Copies the slots of the chain from `first` on to the words from `to` on, and gives back their number.
 pub fn take_chain(work: &mut [u32], first: u32, to: usize) -> usize
     requires { ⌜ CanTake (now work) first to ⌝ }
     ensures { λ r. ⌜ Taken (now (work .entry)) first to r (now (work .exit)) ⌝ }

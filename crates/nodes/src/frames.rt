@@ -1,7 +1,6 @@
 // Lists under work and their frames. A list is an array of slots on the stack; while the children of one of its items are
-// worked on, its frame, six words, stands right above it, and the inner list above that. Leans on nothing.
-
-ghost use mathlib.Core.Path.{_≡_};
+// worked on, its frame, six words, stands right above it, and the inner list above that. Leans on words.
+use words::fields::wide;
 ghost use Prim.Native.Nat.{_-_};
 ghost use Rattle.nodes.specs.Frames.{FrameAt, CanPush, Pushed, CanPop};
 
@@ -34,13 +33,7 @@ pub struct Frame {
     pub held: Held,
 }
 
-pub fn wide(x: u32) -> usize
-    ensures { λ r. ⌜ r ≡ x ⌝ }
-{
-    x as usize
-}
-
-// Writes the frame of a list right above it; the first word past the frame.
+// Writes the frame of a list right above it, and gives back the first word past the frame.
 pub fn push(work: &mut [u32], list: List, held: Held) -> usize
     requires { ⌜ CanPush (now work) list ⌝ }
     ensures { λ r. ⌜ Pushed (now (work .entry)) list held r (now (work .exit)) ⌝ }

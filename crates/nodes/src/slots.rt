@@ -1,19 +1,30 @@
 // A slot is eight words of the work buffer: the five words of a token, the first child's slot, the next sibling's slot, the
 // classes of the leaves at or below it. Slot 0 owns the outermost list; as a child or a sibling 0 means none.
 // Token i stands at slot 3(i + 1), and the two slots after it are spare for nodes that the passes make right after it.
-// What is asked of a slot, that its words lie within the buffer, the callers have from the store (specs/Store): its slots stand
-// below the stack. That a slot's number fits 32 bits, `load` has from the 4,096 tokens at most, and the passes from the length of
-// the words that `parse` works in.
+// The functions ask that a slot's words lie within the buffer. The callers have this from the store (specs/Store), whose slots stand
+// below the stack. A slot's number fits 32 bits: `load` has this from the 4,096 tokens at most, and the passes have it from the length
+// of the words that `parse` works in.
 use ops::classes::TokenClasses;
 use words::fields;
+use words::tokens::TokenWords;
 ghost use mathlib.Core.Path.{_≡_};
 ghost use Prim.Native.Nat.{_+_, _*_, _^_, _≤_, _<_};
 ghost use lib.ListN.{length, set};
 ghost use Rattle.words.specs.Fields.{withOperator};
-ghost use Rattle.nodes.specs.Store.{wd};
+ghost use Rattle.words.specs.Tokens.{tokenWordsAt};
+ghost use Rattle.nodes.specs.Store.{slotStart, slotEnd, firstWord, nextWord, classesWord, operatorWordAt, firstAt, nextAt, classesAt};
 ghost use Rattle.nodes.specs.Slots.{opAt, startAt, endAt, isLeafAt, isTokenAt, Laid, Made};
 
 pub const ROOT: u32 = 0;
+
+// How many words a slot is, and which of them come after those of its token.
+const SLOT_WORDS: usize = 8;
+
+const FIRST_FIELD: usize = 5;
+
+const NEXT_FIELD: usize = 6;
+
+const CLASSES_FIELD: usize = 7;
 
 // The slot of token i.
 pub fn slot_of(i: u32) -> u32
@@ -23,7 +34,8 @@ pub fn slot_of(i: u32) -> u32
     3 * i + 3
 }
 
-// The first spare slot after s: after a binary minus its new node, after a semicolon that ends a statement the open one behind it.
+// The first spare slot after s. A binary minus has its new node there, and a semicolon that ends a statement has the open statement
+// behind it there.
 pub fn spare(s: u32) -> u32
     requires { ⌜ s + 1 < 2 ^ 32 ⌝ }
     ensures { λ r. ⌜ r ≡ s + 1 ⌝ }
@@ -31,7 +43,7 @@ pub fn spare(s: u32) -> u32
     s + 1
 }
 
-// The second spare slot after s: after the semicolon that ends a list's first statement the node of the statement list.
+// The second spare slot after s. The semicolon that ends a list's first statement has the node of the statement list there.
 pub fn second_spare(s: u32) -> u32
     requires { ⌜ s + 2 < 2 ^ 32 ⌝ }
     ensures { λ r. ⌜ r ≡ s + 2 ⌝ }
@@ -47,111 +59,83 @@ pub fn stack_of(n: usize) -> usize
     24 * n + 24
 }
 
-// The words of slot s, one by one.
+// The words of slot s: its token's, its first child, its next sibling and its classes.
 
-pub fn operator_word_of(work: &[u32], s: u32) -> u32
-    requires { ⌜ 8 * s + 8 ≤ length (now work) ⌝ }
-    ensures { λ r. ⌜ r ≡ wd (now (work .entry)) (8 * s) ⌝ }
+pub fn token_of(work: &[u32], s: u32) -> TokenWords
+    requires { ⌜ slotEnd s ≤ length (now work) ⌝ }
+    ensures { λ r. ⌜ r ≡ tokenWordsAt (now (work .entry)) (slotStart s) ⌝ }
 {
-    work[8 * (s as usize)]
-}
-
-pub fn start_word_of(work: &[u32], s: u32) -> u32
-    requires { ⌜ 8 * s + 8 ≤ length (now work) ⌝ }
-    ensures { λ r. ⌜ r ≡ wd (now (work .entry)) (8 * s + 1) ⌝ }
-{
-    work[8 * (s as usize) + 1]
-}
-
-pub fn end_word_of(work: &[u32], s: u32) -> u32
-    requires { ⌜ 8 * s + 8 ≤ length (now work) ⌝ }
-    ensures { λ r. ⌜ r ≡ wd (now (work .entry)) (8 * s + 2) ⌝ }
-{
-    work[8 * (s as usize) + 2]
-}
-
-pub fn upper_word_of(work: &[u32], s: u32) -> u32
-    requires { ⌜ 8 * s + 8 ≤ length (now work) ⌝ }
-    ensures { λ r. ⌜ r ≡ wd (now (work .entry)) (8 * s + 3) ⌝ }
-{
-    work[8 * (s as usize) + 3]
-}
-
-pub fn lower_word_of(work: &[u32], s: u32) -> u32
-    requires { ⌜ 8 * s + 8 ≤ length (now work) ⌝ }
-    ensures { λ r. ⌜ r ≡ wd (now (work .entry)) (8 * s + 4) ⌝ }
-{
-    work[8 * (s as usize) + 4]
+    TokenWords::at(work, SLOT_WORDS * (s as usize))
 }
 
 pub fn first_of(work: &[u32], s: u32) -> u32
-    requires { ⌜ 8 * s + 8 ≤ length (now work) ⌝ }
-    ensures { λ r. ⌜ r ≡ wd (now (work .entry)) (8 * s + 5) ⌝ }
+    requires { ⌜ slotEnd s ≤ length (now work) ⌝ }
+    ensures { λ r. ⌜ r ≡ firstAt (now (work .entry)) s ⌝ }
 {
-    work[8 * (s as usize) + 5]
+    work[SLOT_WORDS * (s as usize) + FIRST_FIELD]
 }
 
 pub fn next_of(work: &[u32], s: u32) -> u32
-    requires { ⌜ 8 * s + 8 ≤ length (now work) ⌝ }
-    ensures { λ r. ⌜ r ≡ wd (now (work .entry)) (8 * s + 6) ⌝ }
+    requires { ⌜ slotEnd s ≤ length (now work) ⌝ }
+    ensures { λ r. ⌜ r ≡ nextAt (now (work .entry)) s ⌝ }
 {
-    work[8 * (s as usize) + 6]
+    work[SLOT_WORDS * (s as usize) + NEXT_FIELD]
 }
 
-// The class of a leaf; of any other node the classes of all leaves below it.
+// A leaf has its own class here, and any other node has the classes of all leaves below it.
 pub fn classes_of(work: &[u32], s: u32) -> TokenClasses
-    requires { ⌜ 8 * s + 8 ≤ length (now work) ⌝ }
-    ensures { λ r. ⌜ r .0 ≡ wd (now (work .entry)) (8 * s + 7) ⌝ }
+    requires { ⌜ slotEnd s ≤ length (now work) ⌝ }
+    ensures { λ r. ⌜ r .0 ≡ classesAt (now (work .entry)) s ⌝ }
 {
-    TokenClasses(work[8 * (s as usize) + 7])
+    TokenClasses(work[SLOT_WORDS * (s as usize) + CLASSES_FIELD])
 }
 
 pub fn set_first(work: &mut [u32], s: u32, v: u32)
-    requires { ⌜ 8 * s + 8 ≤ length (now work) ⌝ }
-    ensures { λ _. ⌜ now (work .exit) ≡ set (now (work .entry)) (8 * s + 5) v ⌝ }
+    requires { ⌜ slotEnd s ≤ length (now work) ⌝ }
+    ensures { λ _. ⌜ now (work .exit) ≡ set (now (work .entry)) (firstWord s) v ⌝ }
 {
-    work[8 * (s as usize) + 5] = v;
+    work[SLOT_WORDS * (s as usize) + FIRST_FIELD] = v;
 }
 
 pub fn set_next(work: &mut [u32], s: u32, v: u32)
-    requires { ⌜ 8 * s + 8 ≤ length (now work) ⌝ }
-    ensures { λ _. ⌜ now (work .exit) ≡ set (now (work .entry)) (8 * s + 6) v ⌝ }
+    requires { ⌜ slotEnd s ≤ length (now work) ⌝ }
+    ensures { λ _. ⌜ now (work .exit) ≡ set (now (work .entry)) (nextWord s) v ⌝ }
 {
-    work[8 * (s as usize) + 6] = v;
+    work[SLOT_WORDS * (s as usize) + NEXT_FIELD] = v;
 }
 
 pub fn set_classes(work: &mut [u32], s: u32, classes: TokenClasses)
-    requires { ⌜ 8 * s + 8 ≤ length (now work) ⌝ }
-    ensures { λ _. ⌜ now (work .exit) ≡ set (now (work .entry)) (8 * s + 7) (classes .0) ⌝ }
+    requires { ⌜ slotEnd s ≤ length (now work) ⌝ }
+    ensures { λ _. ⌜ now (work .exit) ≡ set (now (work .entry)) (classesWord s) (classes .0) ⌝ }
 {
-    work[8 * (s as usize) + 7] = classes.0;
+    work[SLOT_WORDS * (s as usize) + CLASSES_FIELD] = classes.0;
 }
 
 // What the words say.
 
 pub fn operator_of(work: &[u32], s: u32) -> u32
-    requires { ⌜ 8 * s + 8 ≤ length (now work) ⌝ }
+    requires { ⌜ slotEnd s ≤ length (now work) ⌝ }
     ensures { λ r. ⌜ r ≡ opAt (now (work .entry)) s ⌝ }
 {
-    fields::operator(operator_word_of(work, s))
+    fields::operator(work[SLOT_WORDS * (s as usize)])
 }
 
 pub fn start_of(work: &[u32], s: u32) -> u32
-    requires { ⌜ 8 * s + 8 ≤ length (now work) ⌝ }
+    requires { ⌜ slotEnd s ≤ length (now work) ⌝ }
     ensures { λ r. ⌜ r ≡ startAt (now (work .entry)) s ⌝ }
 {
-    fields::low(start_word_of(work, s))
+    fields::low(work[SLOT_WORDS * (s as usize) + fields::START_FIELD])
 }
 
 pub fn end_of(work: &[u32], s: u32) -> u32
-    requires { ⌜ 8 * s + 8 ≤ length (now work) ⌝ }
+    requires { ⌜ slotEnd s ≤ length (now work) ⌝ }
     ensures { λ r. ⌜ r ≡ endAt (now (work .entry)) s ⌝ }
 {
-    fields::low(end_word_of(work, s))
+    fields::low(work[SLOT_WORDS * (s as usize) + fields::END_FIELD])
 }
 
 pub fn is_leaf(work: &[u32], s: u32) -> bool
-    requires { ⌜ 8 * s + 8 ≤ length (now work) ⌝ }
+    requires { ⌜ slotEnd s ≤ length (now work) ⌝ }
     ensures { λ r. ⌜ r ≡ isLeafAt (now (work .entry)) s ⌝ }
 {
     first_of(work, s) == 0
@@ -159,7 +143,7 @@ pub fn is_leaf(work: &[u32], s: u32) -> bool
 
 // Whether slot s is a leaf of op.
 pub fn is_token(work: &[u32], s: u32, op: u32) -> bool
-    requires { ⌜ 8 * s + 8 ≤ length (now work) ⌝ }
+    requires { ⌜ slotEnd s ≤ length (now work) ⌝ }
     ensures { λ r. ⌜ r ≡ isTokenAt (now (work .entry)) s op ⌝ }
 {
     if first_of(work, s) != 0 {
@@ -169,55 +153,32 @@ pub fn is_token(work: &[u32], s: u32, op: u32) -> bool
 }
 
 // Slot s becomes a leaf of the five words that notes these classes.
-pub fn set_leaf(
-    work: &mut [u32],
-    s: u32,
-    first: u32,
-    start: u32,
-    end: u32,
-    upper: u32,
-    lower: u32,
-    classes: TokenClasses,
-)
-    requires { ⌜ 8 * s + 8 ≤ length (now work) ⌝ }
-    ensures { λ _. ⌜ Laid (now (work .entry)) s first start «end» upper lower (classes .0) (now (work .exit)) ⌝ }
+pub fn set_leaf(work: &mut [u32], s: u32, token: TokenWords, classes: TokenClasses)
+    requires { ⌜ slotEnd s ≤ length (now work) ⌝ }
+    ensures { λ _. ⌜ Laid (now (work .entry)) s token (classes .0) (now (work .exit)) ⌝ }
 {
-    let at = 8 * (s as usize);
-    work[at] = first;
-    work[at + 1] = start;
-    work[at + 2] = end;
-    work[at + 3] = upper;
-    work[at + 4] = lower;
-    work[at + 5] = 0;
-    work[at + 6] = 0;
-    work[at + 7] = classes.0;
+    let at = SLOT_WORDS * (s as usize);
+    token.lay(work, at);
+    work[at + FIRST_FIELD] = 0;
+    work[at + NEXT_FIELD] = 0;
+    work[at + CLASSES_FIELD] = classes.0;
 }
 
 // Slot s becomes a node of op with the span of slot `like` and payload 0. It notes no class: it is to take children.
 pub fn make(work: &mut [u32], s: u32, op: u32, like: u32)
-    requires { ⌜ (8 * s + 8 ≤ length (now work)) × (8 * like + 8 ≤ length (now work)) ⌝ }
+    requires { ⌜ (slotEnd s ≤ length (now work)) × (slotEnd like ≤ length (now work)) ⌝ }
     ensures { λ _. ⌜ Made (now (work .entry)) s op like (now (work .exit)) ⌝ }
 {
-    let start = start_word_of(work, like);
-    let end = end_word_of(work, like);
-    set_leaf(
-        work,
-        s,
-        fields::operator_word(op),
-        start,
-        end,
-        fields::no_upper(),
-        fields::no_lower(),
-        TokenClasses::NONE,
-    );
+    let token = token_of(work, like).bare(op);
+    set_leaf(work, s, token, TokenClasses::NONE);
 }
 
 // The operator of slot s becomes op, its span and payload stay. Its classes are left to the caller.
 pub fn set_operator(work: &mut [u32], s: u32, op: u32)
-    requires { ⌜ 8 * s + 8 ≤ length (now work) ⌝ }
-    ensures { λ _. ⌜ now (work .exit) ≡ set (now (work .entry)) (8 * s) (withOperator (wd (now (work .entry)) (8 * s)) op) ⌝ }
+    requires { ⌜ slotEnd s ≤ length (now work) ⌝ }
+    ensures { λ _. ⌜ now (work .exit) ≡ set (now (work .entry)) (slotStart s) (withOperator (operatorWordAt (now (work .entry)) s) op) ⌝ }
 {
-    let at = 8 * (s as usize);
+    let at = SLOT_WORDS * (s as usize);
     let w = work[at];
     work[at] = fields::with_operator(w, op);
 }

@@ -20,7 +20,7 @@ pub record Constant : Type 0 where
 abbrev only : ℕ → List ℕ → Constant
 only w os = record { word = w; operators = isOneOf os }
 
--- In the order of src/classes.rt, from NONE to EQUALITIES; ALL, which is in no pass, has every class.
+-- In the order of src/classes.rt, from NONE to EQUALITIES.
 abbrev pub constants : List Constant
 constants =
     only 0 []
@@ -49,6 +49,7 @@ constants =
     ∷ only 0x40_0000 (Operator.add ∷ [])
     ∷ only 0x80_0000 (Operator.conditional ∷ [])
     ∷ only 0x100_0000 (Operator.conditionalElse ∷ [])
+    ∷ only 0x90 (Operator.negate ∷ Operator.logicalNot ∷ Operator.add ∷ [])
     ∷ only 0x40_0080 (Operator.negate ∷ Operator.add ∷ [])
     ∷ only 0xf00 (Operator.lessThan ∷ Operator.lessEqual ∷ Operator.greaterEqual ∷ Operator.greaterThan ∷ [])
     ∷ only 0x3000 (Operator.logicalEqual ∷ Operator.logicalNotEqual ∷ [])

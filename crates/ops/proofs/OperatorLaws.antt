@@ -11,7 +11,11 @@ use native.Mathlib.Omega.{arith}
 use lib.Dec.{T, eqb}
 use types.Run.{OneOf}
 use borrow.Author.Tests.{eq-eqb, ne-eqb}
-use Rattle.molang.specs.Operator.{leftBrace, rightBrace, leftBracket, leftParenthesis, negate, logicalNot, add, div, mul, lessThan, lessEqual, greaterEqual, greaterThan, logicalEqual, logicalNotEqual, logicalOr, logicalAnd, nullCoalescing, conditional, conditionalElse, loop, forEach, break, continue, assignment, semicolon, return, comma, expressionArray, any, isOneOf, closingOf, BeforeMinus, operand, operator, minus, unknown, beforeMinus}
+use Rattle.molang.specs.Operator.{leftBrace, rightBrace, leftBracket, leftParenthesis, negate, logicalNot, add, div, mul, lessThan}
+use Rattle.molang.specs.Operator.{lessEqual, greaterEqual, greaterThan, logicalEqual, logicalNotEqual, logicalOr, logicalAnd}
+use Rattle.molang.specs.Operator.{nullCoalescing, conditional, conditionalElse, loop, forEach, break, continue, assignment, semicolon}
+use Rattle.molang.specs.Operator.{return, comma, expressionArray, any, isOneOf, closingOf, BeforeMinus, operand, operator, minus, unknown}
+use Rattle.molang.specs.Operator.{beforeMinus}
 
 -- The test passes at the k numbers from lo on.
 abbrev pub passes : (ℕ → Bool) → ℕ → ℕ → Bool

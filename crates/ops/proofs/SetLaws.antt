@@ -1,6 +1,7 @@
 -- Sets of operators in two halves of 64 bits: the bits of each half in the whole, and the math calls. Assumes nothing.
 use mathlib.Core.Path.{_≡_, refl, sym, ap, _∙_}
-use mathlib.Core.Bool.{Bool, true, false, not, _&&_, _||_, and-false}
+use mathlib.Core.List.{[], _∷_}
+use mathlib.Core.Bool.{Bool, true, false, not, _&&_, _||_, and-false, or-false}
 use Prim.Native.Nat.{ℕ, _+_, _-_, _*_, _/_, _%_, _^_, _<_, _≤_}
 use native.Mathlib.Nat.{div-eq-of-lt, lt-of-lt-of-le, lt-of-le-of-lt}
 use native.Mathlib.Omega.{arith}
@@ -9,7 +10,7 @@ use lib.Dec.{eqb, ltb}
 use lib.Pow.{pow-mono, shr-shr, high, low, field, mod-mod-pow}
 use lib.Bits.{bitAnd, and-le-l, and-block}
 use borrow.Author.Tests.{lt-ltb, le-ltb, ltb-true, ltb-false, eqb-true, eqb-false, ne-eqb}
-use Rattle.molang.specs.Operator.{isMathCall, between}
+use Rattle.molang.specs.Operator.{any, isMathCall, between}
 use Rattle.molang.specs.Order.{someBelow}
 use Rattle.molang.specs.Parse.{inHalves}
 use Rattle.ops.specs.Classes.{bitAt}
@@ -88,3 +89,22 @@ math-used l h =
     some-same 128 (λ n. inHalves l h n && inHalves 0xff_7fef_fd00 0x7fff_ffff_c000 n) (λ n. inHalves l h n && isMathCall n)
     (λ n below. ap (λ (b : Bool). inHalves l h n && b) (math-calls n below))
     ∙ simp and-false
+
+-- ---- Tests one after another
+
+-- What `||` and `&&` answer where the first side decides, and where it does not.
+pub or-first : (x a b : Bool) → x ≡ true → x ≡ a → x ≡ (a || b)
+or-first x a b t e = rw (sym e ∙ t) t
+
+pub or-second : (x a y b : Bool) → x ≡ false → x ≡ a → y ≡ b → y ≡ (a || b)
+or-second x a y b f e d = rw (sym e ∙ f) d
+
+pub and-first : (x a b : Bool) → x ≡ false → x ≡ a → x ≡ (a && b)
+and-first x a b f e = rw (sym e ∙ f) f
+
+pub and-second : (x a y b : Bool) → x ≡ true → x ≡ a → y ≡ b → y ≡ (a && b)
+and-second x a y b t e d = rw (sym e ∙ t) d
+
+pub one-used : (u : ℕ → Bool) (a : ℕ) → u a ≡ any u (a ∷ [])
+unfolding any
+one-used u a = sym (or-false (u a))

@@ -6,13 +6,13 @@ ghost use mathlib.Core.Bool.{_||_};
 ghost use Prim.Native.Nat.{ℕ};
 ghost use Rattle.ops.specs.Classes.{bitAt, shares, classTable, entryOf, ownWord};
 
-// A set of token classes. NONE and ALL are the Rust's; the others name a single class each, but for the last three.
+// A set of token classes: each constant from CALL to ONLY_CONDITIONAL_ELSE is one class, each after it several. NONE and ALL are the
+// Rust's, which notes ALL where no pass has looked yet. Here each leaf notes its own classes from the start, so no function uses ALL.
 pub struct TokenClasses(pub u32);
 
 impl TokenClasses {
     pub const NONE: Self = Self(0);
 
-    // Every class, which the Rust notes where no pass has looked yet. Here each leaf notes its own classes from the start.
     pub const ALL: Self = Self(0xffff_ffff);
 
     pub const CALL: Self = Self(0x1);
@@ -67,6 +67,9 @@ impl TokenClasses {
 
     pub const ONLY_CONDITIONAL_ELSE: Self = Self(0x100_0000);
 
+    // The classes of `-`: the unary pass makes some of them `+`.
+    pub const MINUS: Self = Self(0x90);
+
     // What a leaf `+` notes (`leaf_classes`).
     pub const LEAF_ADD: Self = Self(0x40_0080);
 
@@ -93,120 +96,120 @@ impl TokenClasses {
 // The classes of each operator number, as `class` of driver.rs has them: one for the tokens of a pass, two for `-`, none for
 // what no pass after the sections looks for.
 pub const CLASSES: [u32; 111] = [
-    0, // LEFT_BRACE
-    0, // RIGHT_BRACE
-    0, // LEFT_BRACKET
-    0, // RIGHT_BRACKET
-    0, // LEFT_PARENTHESIS
-    0, // RIGHT_PARENTHESIS
-    0x90, // NEGATE
-    0x10, // LOGICAL_NOT
-    0x20_0000, // ABS
-    0x80, // ADD
-    0x20_0000, // ACOS
-    0x20_0000, // ASIN
-    0x20_0000, // ATAN
-    0x20_0000, // ATAN2
-    0x20_0000, // CEIL
-    0x20_0000, // CLAMP
-    0x20_0000, // COPY_SIGN
-    0x20_0000, // COS
-    0x20_0000, // DIE_ROLL
-    0x20_0000, // DIE_ROLL_INT
-    0x20, // DIV
-    0x20_0000, // EXP
-    0x20_0000, // FLOOR
-    0x20_0000, // HERMITE_BLEND
-    0x20_0000, // LERP
-    0x20_0000, // LERP_ROTATE
-    0x20_0000, // LN
-    0x20_0000, // MAX
-    0x20_0000, // MIN
-    0x20_0000, // MIN_ANGLE
-    0x20_0000, // MOD
-    0x40, // MUL
-    0x20_0000, // POW
-    0x20_0000, // RANDOM
-    0x20_0000, // RANDOM_INT
-    0x20_0000, // ROUND
-    0x20_0000, // SIN
-    0x20_0000, // SIGN
-    0x20_0000, // SQRT
-    0x20_0000, // TRUNC
-    0x1, // QUERY_FUNCTION
-    0x4, // ARRAY_VARIABLE
-    0, // CONTEXT_VARIABLE
-    0, // ENTITY_VARIABLE
-    0, // TEMP_VARIABLE
-    0, // MEMBER_ACCESSOR
-    0, // STRING_LITERAL
-    0, // GEOMETRY_VARIABLE
-    0, // MATERIAL_VARIABLE
-    0, // TEXTURE_VARIABLE
-    0x100, // LESS_THAN
-    0x200, // LESS_EQUAL
-    0x400, // GREATER_EQUAL
-    0x800, // GREATER_THAN
-    0x1000, // LOGICAL_EQUAL
-    0x2000, // LOGICAL_NOT_EQUAL
-    0x4000, // LOGICAL_OR
-    0x8000, // LOGICAL_AND
-    0x2_0000, // NULL_COALESCING
-    0x1_0000, // CONDITIONAL
-    0x1_0000, // CONDITIONAL_ELSE
-    0, // FLOAT
-    0, // PI
-    0, // ARRAY
-    0, // GEOMETRY
-    0, // MATERIAL
-    0, // TEXTURE
-    0x1, // LOOP
-    0x1, // FOR_EACH
-    0, // BREAK
-    0, // CONTINUE
-    0x8_0000, // ASSIGNMENT
-    0x8, // POINTER
-    0x2, // SEMICOLON
-    0x10_0000, // RETURN
-    0x4_0000, // COMMA
-    0, // THIS
-    0, // EXPRESSION_ARRAY
-    0x20_0000, // INVERSE_LERP
-    0x20_0000, // EASE_IN_QUAD
-    0x20_0000, // EASE_OUT_QUAD
-    0x20_0000, // EASE_IN_OUT_QUAD
-    0x20_0000, // EASE_IN_CUBIC
-    0x20_0000, // EASE_OUT_CUBIC
-    0x20_0000, // EASE_IN_OUT_CUBIC
-    0x20_0000, // EASE_IN_QUART
-    0x20_0000, // EASE_OUT_QUART
-    0x20_0000, // EASE_IN_OUT_QUART
-    0x20_0000, // EASE_IN_QUINT
-    0x20_0000, // EASE_OUT_QUINT
-    0x20_0000, // EASE_IN_OUT_QUINT
-    0x20_0000, // EASE_IN_SINE
-    0x20_0000, // EASE_OUT_SINE
-    0x20_0000, // EASE_IN_OUT_SINE
-    0x20_0000, // EASE_IN_EXPO
-    0x20_0000, // EASE_OUT_EXPO
-    0x20_0000, // EASE_IN_OUT_EXPO
-    0x20_0000, // EASE_IN_CIRC
-    0x20_0000, // EASE_OUT_CIRC
-    0x20_0000, // EASE_IN_OUT_CIRC
-    0x20_0000, // EASE_IN_BOUNCE
-    0x20_0000, // EASE_OUT_BOUNCE
-    0x20_0000, // EASE_IN_OUT_BOUNCE
-    0x20_0000, // EASE_IN_BACK
-    0x20_0000, // EASE_OUT_BACK
-    0x20_0000, // EASE_IN_OUT_BACK
-    0x20_0000, // EASE_IN_ELASTIC
-    0x20_0000, // EASE_OUT_ELASTIC
-    0x20_0000, // EASE_IN_OUT_ELASTIC
-    0x20_0000, // HOST_MATH
-    0x20_0000, // HOST_MATH_VOLATILE
+    TokenClasses::NONE.0, // LEFT_BRACE
+    TokenClasses::NONE.0, // RIGHT_BRACE
+    TokenClasses::NONE.0, // LEFT_BRACKET
+    TokenClasses::NONE.0, // RIGHT_BRACKET
+    TokenClasses::NONE.0, // LEFT_PARENTHESIS
+    TokenClasses::NONE.0, // RIGHT_PARENTHESIS
+    TokenClasses::MINUS.0, // NEGATE
+    TokenClasses::UNARY.0, // LOGICAL_NOT
+    TokenClasses::MATH.0, // ABS
+    TokenClasses::ADD.0, // ADD
+    TokenClasses::MATH.0, // ACOS
+    TokenClasses::MATH.0, // ASIN
+    TokenClasses::MATH.0, // ATAN
+    TokenClasses::MATH.0, // ATAN2
+    TokenClasses::MATH.0, // CEIL
+    TokenClasses::MATH.0, // CLAMP
+    TokenClasses::MATH.0, // COPY_SIGN
+    TokenClasses::MATH.0, // COS
+    TokenClasses::MATH.0, // DIE_ROLL
+    TokenClasses::MATH.0, // DIE_ROLL_INT
+    TokenClasses::DIV.0, // DIV
+    TokenClasses::MATH.0, // EXP
+    TokenClasses::MATH.0, // FLOOR
+    TokenClasses::MATH.0, // HERMITE_BLEND
+    TokenClasses::MATH.0, // LERP
+    TokenClasses::MATH.0, // LERP_ROTATE
+    TokenClasses::MATH.0, // LN
+    TokenClasses::MATH.0, // MAX
+    TokenClasses::MATH.0, // MIN
+    TokenClasses::MATH.0, // MIN_ANGLE
+    TokenClasses::MATH.0, // MOD
+    TokenClasses::MUL.0, // MUL
+    TokenClasses::MATH.0, // POW
+    TokenClasses::MATH.0, // RANDOM
+    TokenClasses::MATH.0, // RANDOM_INT
+    TokenClasses::MATH.0, // ROUND
+    TokenClasses::MATH.0, // SIN
+    TokenClasses::MATH.0, // SIGN
+    TokenClasses::MATH.0, // SQRT
+    TokenClasses::MATH.0, // TRUNC
+    TokenClasses::CALL.0, // QUERY_FUNCTION
+    TokenClasses::ARRAY.0, // ARRAY_VARIABLE
+    TokenClasses::NONE.0, // CONTEXT_VARIABLE
+    TokenClasses::NONE.0, // ENTITY_VARIABLE
+    TokenClasses::NONE.0, // TEMP_VARIABLE
+    TokenClasses::NONE.0, // MEMBER_ACCESSOR
+    TokenClasses::NONE.0, // STRING_LITERAL
+    TokenClasses::NONE.0, // GEOMETRY_VARIABLE
+    TokenClasses::NONE.0, // MATERIAL_VARIABLE
+    TokenClasses::NONE.0, // TEXTURE_VARIABLE
+    TokenClasses::LESS_THAN.0, // LESS_THAN
+    TokenClasses::LESS_EQUAL.0, // LESS_EQUAL
+    TokenClasses::GREATER_EQUAL.0, // GREATER_EQUAL
+    TokenClasses::GREATER_THAN.0, // GREATER_THAN
+    TokenClasses::LOGICAL_EQUAL.0, // LOGICAL_EQUAL
+    TokenClasses::LOGICAL_NOT_EQUAL.0, // LOGICAL_NOT_EQUAL
+    TokenClasses::LOGICAL_OR.0, // LOGICAL_OR
+    TokenClasses::LOGICAL_AND.0, // LOGICAL_AND
+    TokenClasses::NULL_COALESCING.0, // NULL_COALESCING
+    TokenClasses::CONDITIONAL.0, // CONDITIONAL
+    TokenClasses::CONDITIONAL.0, // CONDITIONAL_ELSE
+    TokenClasses::NONE.0, // FLOAT
+    TokenClasses::NONE.0, // PI
+    TokenClasses::NONE.0, // ARRAY
+    TokenClasses::NONE.0, // GEOMETRY
+    TokenClasses::NONE.0, // MATERIAL
+    TokenClasses::NONE.0, // TEXTURE
+    TokenClasses::CALL.0, // LOOP
+    TokenClasses::CALL.0, // FOR_EACH
+    TokenClasses::NONE.0, // BREAK
+    TokenClasses::NONE.0, // CONTINUE
+    TokenClasses::ASSIGNMENT.0, // ASSIGNMENT
+    TokenClasses::POINTER.0, // POINTER
+    TokenClasses::SEMICOLON.0, // SEMICOLON
+    TokenClasses::RETURN.0, // RETURN
+    TokenClasses::COMMA.0, // COMMA
+    TokenClasses::NONE.0, // THIS
+    TokenClasses::NONE.0, // EXPRESSION_ARRAY
+    TokenClasses::MATH.0, // INVERSE_LERP
+    TokenClasses::MATH.0, // EASE_IN_QUAD
+    TokenClasses::MATH.0, // EASE_OUT_QUAD
+    TokenClasses::MATH.0, // EASE_IN_OUT_QUAD
+    TokenClasses::MATH.0, // EASE_IN_CUBIC
+    TokenClasses::MATH.0, // EASE_OUT_CUBIC
+    TokenClasses::MATH.0, // EASE_IN_OUT_CUBIC
+    TokenClasses::MATH.0, // EASE_IN_QUART
+    TokenClasses::MATH.0, // EASE_OUT_QUART
+    TokenClasses::MATH.0, // EASE_IN_OUT_QUART
+    TokenClasses::MATH.0, // EASE_IN_QUINT
+    TokenClasses::MATH.0, // EASE_OUT_QUINT
+    TokenClasses::MATH.0, // EASE_IN_OUT_QUINT
+    TokenClasses::MATH.0, // EASE_IN_SINE
+    TokenClasses::MATH.0, // EASE_OUT_SINE
+    TokenClasses::MATH.0, // EASE_IN_OUT_SINE
+    TokenClasses::MATH.0, // EASE_IN_EXPO
+    TokenClasses::MATH.0, // EASE_OUT_EXPO
+    TokenClasses::MATH.0, // EASE_IN_OUT_EXPO
+    TokenClasses::MATH.0, // EASE_IN_CIRC
+    TokenClasses::MATH.0, // EASE_OUT_CIRC
+    TokenClasses::MATH.0, // EASE_IN_OUT_CIRC
+    TokenClasses::MATH.0, // EASE_IN_BOUNCE
+    TokenClasses::MATH.0, // EASE_OUT_BOUNCE
+    TokenClasses::MATH.0, // EASE_IN_OUT_BOUNCE
+    TokenClasses::MATH.0, // EASE_IN_BACK
+    TokenClasses::MATH.0, // EASE_OUT_BACK
+    TokenClasses::MATH.0, // EASE_IN_OUT_BACK
+    TokenClasses::MATH.0, // EASE_IN_ELASTIC
+    TokenClasses::MATH.0, // EASE_OUT_ELASTIC
+    TokenClasses::MATH.0, // EASE_IN_OUT_ELASTIC
+    TokenClasses::MATH.0, // HOST_MATH
+    TokenClasses::MATH.0, // HOST_MATH_VOLATILE
 ];
 
-// The table as a value. Who looks it up often copies it to a local first, since a constant array is made anew at each use.
+// The table as a value. A caller that looks it up often copies it to a local first, since a constant array is made anew at each use.
 pub fn class_table() -> [u32; 111]
     ensures { λ r. ⌜ r ≡ classTable ⌝ }
 {
@@ -217,10 +220,10 @@ pub fn class_table() -> [u32; 111]
 pub fn class(table: &[u32; 111], op: u32) -> TokenClasses
     ensures { λ r. ⌜ r .0 ≡ entryOf (now (table .entry)) op ⌝ }
 {
-    if op < op::COUNT {
-        return TokenClasses(table[op as usize]);
+    if op::COUNT <= op {
+        return TokenClasses::NONE;
     }
-    TokenClasses::NONE
+    TokenClasses(table[op as usize])
 }
 
 // The class that op alone has, where its class in the table is another operator's too.

@@ -1,15 +1,15 @@
 // What is known of an operator by its number: its name, its classes, its closer, what it makes of a minus after it; sets of
-// operators, and the version that the rules go by. Leans on nothing; follows op.rs, set.rs, version/mod.rs and the helpers
+// operators, and the version that the rules use. Leans on nothing; follows op.rs, set.rs, version/mod.rs and the helpers
 // of the parse modules.
 pub mod classes;
 pub mod op;
 pub mod sets;
+pub mod version;
 
 ghost use mathlib.Core.Path.{_≡_};
 ghost use mathlib.Core.Option.{Option·getD};
 ghost use Rattle.molang.specs.Operator.{closingOf, isCloser, hasMembers, isMathCall, beforeMinus};
 ghost use Rattle.molang.specs.Statements.{isEntered};
-ghost use Rattle.molang.specs.Order as order;
 ghost use Rattle.ops.specs.Operators.{isOpener, meant};
 
 // Whether op opens a section.
@@ -108,36 +108,4 @@ pub fn before_minus(op: u32) -> BeforeMinus
         op::ASSIGNMENT | op::SEMICOLON | op::RETURN | op::COMMA => BeforeMinus::Operator,
         _ => BeforeMinus::Operand,
     }
-}
-
-// The newest version, and the one that an invalid number stands for.
-pub const LATEST: i16 = 13;
-
-pub const INVALID: i16 = -1;
-
-// The version whose rules a raw version follows (`RawVersion::effective`): a negative one -1, one above 13 as 13.
-pub fn effective(raw: i16) -> i16
-    ensures { λ r. ⌜ r ≡ order.effective raw ⌝ }
-{
-    if raw < 0 {
-        return INVALID;
-    }
-    if LATEST < raw {
-        return LATEST;
-    }
-    raw
-}
-
-// Whether a version is 5 or above: nested conditionals pair to the right.
-pub fn is_from_5(version: i16) -> bool
-    ensures { λ r. ⌜ r ≡ order.isFrom 5 version ⌝ }
-{
-    5 <= version
-}
-
-// Whether a version is 6 or above: comparisons come before equality, and AND before OR.
-pub fn is_from_6(version: i16) -> bool
-    ensures { λ r. ⌜ r ≡ order.isFrom 6 version ⌝ }
-{
-    6 <= version
 }

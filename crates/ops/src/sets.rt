@@ -2,9 +2,10 @@
 // Leans on nothing.
 ghost use mathlib.Core.Path.{_≡_};
 ghost use mathlib.Core.Bool.{_&&_};
+ghost use mathlib.Core.List.{[], _∷_};
 ghost use Prim.Native.Nat.{_+_, _*_, _^_};
 ghost use lib.Dec.{ltb};
-ghost use Rattle.molang.specs.Operator.{isMathCall};
+ghost use Rattle.molang.specs.Operator.{any, isMathCall};
 ghost use Rattle.molang.specs.Order.{someBelow};
 ghost use Rattle.molang.specs.Parse.{inHalves};
 
@@ -38,6 +39,20 @@ impl OpSet {
             return (self.high >> (op - 64)) % 2 == 1;
         }
         false
+    }
+
+    // Whether one of the two operators is in the set.
+    pub fn has_either(self, a: u32, b: u32) -> bool
+        ensures { λ r. ⌜ r ≡ any (inHalves (self .low) (self .high)) (a ∷ b ∷ []) ⌝ }
+    {
+        self.contains(a) || self.contains(b)
+    }
+
+    // Whether one of the three operators is in the set.
+    pub fn has_some(self, a: u32, b: u32, c: u32) -> bool
+        ensures { λ r. ⌜ r ≡ any (inHalves (self .low) (self .high)) (a ∷ b ∷ c ∷ []) ⌝ }
+    {
+        self.contains(a) || self.has_either(b, c)
     }
 
     // Whether the sets share an operator.

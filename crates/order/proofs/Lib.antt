@@ -1,5 +1,3 @@
--- The laws that the proofs of several functions share, and those that crates above cite.
-pub mod Exactness
-pub mod Choosing
-pub mod Running
+-- The laws that the proofs of this crate share, and those that crates above cite.
+pub mod Ranking
 pub mod Folding

@@ -1,21 +1,15 @@
-// Which pass is the k-th after the sections, under a used set and a version (mod.rs). Every version has the same places, some of
-// them empty, so that one loop over the places runs the passes in order. Leans on walks (the passes' states) and ops (sets,
-// classes, versions); specs/Places lays the definition's order out in places.
+// Which passes run after the sections, and in which order, under a used set and a version (mod.rs): a table of ranks for each of the
+// three rules, and whether the pass of a rank runs. Leans on levels (the passes' states) and ops (sets, classes, versions); specs/Ranks
+// says when a table is the definition's order.
+use levels::turns::Pass;
 use ops::classes::TokenClasses;
-use ops::is_from_5;
-use ops::is_from_6;
 use ops::op;
 use ops::sets::OpSet;
-use walks::turns::Pass;
-ghost use mathlib.Core.Path.{_≡_};
-ghost use mathlib.Core.Bool.{true, false};
-ghost use mathlib.Core.List.{[], _∷_};
-ghost use mathlib.Core.Option.{some};
-ghost use Rattle.molang.specs.Operator.{any};
-ghost use Rattle.molang.specs.Operator as operator;
-ghost use Rattle.molang.specs.Order.{binary, isFrom, runs, callPass};
-ghost use Rattle.order.specs.Places.{usedBy, callGate, choiceIf, levelOf, andOr};
-ghost use Rattle.order.specs.Places.{placeIn, calling, arithmetic, comparing, deciding, branching, last, rulesOf, places, Chosen};
+use ops::version::is_from_5;
+use ops::version::is_from_6;
+ghost use mathlib.Core.List.{List};
+ghost use Rattle.molang.specs.Order as definition;
+ghost use Rattle.order.specs.Ranks.{usedBy, rulesOf, later, Ranked, AtRank, Chosen};
 
 // A pass, or none where its operators are not used.
 pub enum Choice {
@@ -23,248 +17,367 @@ pub enum Choice {
     Skip,
 }
 
-// How many places there are, and which is the pointer's.
-pub const PLACES: u32 = 23;
+// How many ranks there are, and which is the pointer's.
+pub const RANKS: u32 = 23;
 
 pub const POINTER: u32 = 3;
 
-// Where the groups of places start.
-pub const ARITHMETIC: u32 = 3;
-
-pub const COMPARISONS: u32 = 9;
-
-pub const LOGIC: u32 = 15;
-
-pub const CONDITIONALS: u32 = 17;
-
-pub const LAST: u32 = 19;
-
-// The pass, where it is wanted.
-fn when(wanted: bool, pass: Pass) -> Choice
-    ensures { λ r. ⌜ r ≡ choiceIf wanted pass ⌝ }
-{
-    if wanted {
-        return Choice::Run(pass);
-    }
-    Choice::Skip
+// A pass as it starts, and the operators of which one has to be used, in two halves.
+pub struct Rank {
+    pub pass: Pass,
+    pub low: u64,
+    pub high: u64,
 }
 
-// The binary level of these classes.
-fn level(wanted: bool, classes: TokenClasses) -> Choice
-    ensures { λ r. ⌜ r ≡ choiceIf wanted (levelOf classes) ⌝ }
-{
-    when(
-        wanted,
-        Pass::Binary {
-            classes,
+impl Rank {
+    const CALLS: Self = Self {
+        pass: Pass::Calls,
+        low: 1 << op::QUERY_FUNCTION,
+        high: 1 << (op::LOOP - 64) | 1 << (op::FOR_EACH - 64),
+    };
+
+    const STATEMENTS: Self = Self {
+        pass: Pass::Unsplit,
+        low: 0,
+        high: 1 << (op::SEMICOLON - 64),
+    };
+
+    const ARRAYS: Self = Self {
+        pass: Pass::Arrays { array: 0, lent: 0 },
+        low: 1 << op::ARRAY_VARIABLE,
+        high: 0,
+    };
+
+    const POINTER: Self = Self {
+        pass: Pass::Binary {
+            classes: TokenClasses::POINTER,
             pending: 0,
         },
-    )
+        low: 0,
+        high: 1 << (op::POINTER - 64),
+    };
+
+    const MATH_CALLS: Self = Self {
+        pass: Pass::MathCalls,
+        low: OpSet::MATH_CALLS.low,
+        high: OpSet::MATH_CALLS.high,
+    };
+
+    const UNARY: Self = Self {
+        pass: Pass::Unary,
+        low: 1 << op::NEGATE | 1 << op::LOGICAL_NOT,
+        high: 0,
+    };
+
+    const DIV: Self = Self {
+        pass: Pass::Binary {
+            classes: TokenClasses::DIV,
+            pending: 0,
+        },
+        low: 1 << op::DIV,
+        high: 0,
+    };
+
+    const MUL: Self = Self {
+        pass: Pass::Binary {
+            classes: TokenClasses::MUL,
+            pending: 0,
+        },
+        low: 1 << op::MUL,
+        high: 0,
+    };
+
+    // The unary pass turns a binary `-` into `+`.
+    const ADD: Self = Self {
+        pass: Pass::Binary {
+            classes: TokenClasses::ONLY_ADD,
+            pending: 0,
+        },
+        low: 1 << op::NEGATE | 1 << op::ADD,
+        high: 0,
+    };
+
+    const LESS_THAN: Self = Self {
+        pass: Pass::Binary {
+            classes: TokenClasses::LESS_THAN,
+            pending: 0,
+        },
+        low: 1 << op::LESS_THAN,
+        high: 0,
+    };
+
+    const LOGICAL_EQUAL: Self = Self {
+        pass: Pass::Binary {
+            classes: TokenClasses::LOGICAL_EQUAL,
+            pending: 0,
+        },
+        low: 1 << op::LOGICAL_EQUAL,
+        high: 0,
+    };
+
+    const GREATER_EQUAL: Self = Self {
+        pass: Pass::Binary {
+            classes: TokenClasses::GREATER_EQUAL,
+            pending: 0,
+        },
+        low: 1 << op::GREATER_EQUAL,
+        high: 0,
+    };
+
+    const GREATER_THAN: Self = Self {
+        pass: Pass::Binary {
+            classes: TokenClasses::GREATER_THAN,
+            pending: 0,
+        },
+        low: 1 << op::GREATER_THAN,
+        high: 0,
+    };
+
+    const LESS_EQUAL: Self = Self {
+        pass: Pass::Binary {
+            classes: TokenClasses::LESS_EQUAL,
+            pending: 0,
+        },
+        low: 1 << op::LESS_EQUAL,
+        high: 0,
+    };
+
+    const LOGICAL_NOT_EQUAL: Self = Self {
+        pass: Pass::Binary {
+            classes: TokenClasses::LOGICAL_NOT_EQUAL,
+            pending: 0,
+        },
+        low: 1 << op::LOGICAL_NOT_EQUAL,
+        high: 0,
+    };
+
+    const COMPARISONS: Self = Self {
+        pass: Pass::Binary {
+            classes: TokenClasses::COMPARISONS,
+            pending: 0,
+        },
+        low: 1 << op::LESS_THAN
+            | 1 << op::LESS_EQUAL
+            | 1 << op::GREATER_EQUAL
+            | 1 << op::GREATER_THAN,
+        high: 0,
+    };
+
+    const EQUALITIES: Self = Self {
+        pass: Pass::Binary {
+            classes: TokenClasses::EQUALITIES,
+            pending: 0,
+        },
+        low: 1 << op::LOGICAL_EQUAL | 1 << op::LOGICAL_NOT_EQUAL,
+        high: 0,
+    };
+
+    const LOGICAL_OR: Self = Self {
+        pass: Pass::Binary {
+            classes: TokenClasses::LOGICAL_OR,
+            pending: 0,
+        },
+        low: 1 << op::LOGICAL_OR,
+        high: 0,
+    };
+
+    const LOGICAL_AND: Self = Self {
+        pass: Pass::Binary {
+            classes: TokenClasses::LOGICAL_AND,
+            pending: 0,
+        },
+        low: 1 << op::LOGICAL_AND,
+        high: 0,
+    };
+
+    const CONDITIONAL_ELSE: Self = Self {
+        pass: Pass::Binary {
+            classes: TokenClasses::ONLY_CONDITIONAL_ELSE,
+            pending: 0,
+        },
+        low: 1 << op::CONDITIONAL_ELSE,
+        high: 0,
+    };
+
+    const CONDITIONAL: Self = Self {
+        pass: Pass::Binary {
+            classes: TokenClasses::ONLY_CONDITIONAL,
+            pending: 0,
+        },
+        low: 1 << op::CONDITIONAL,
+        high: 0,
+    };
+
+    const CONDITIONALS: Self = Self {
+        pass: Pass::Conditional { tokens: 0 },
+        low: 1 << op::CONDITIONAL | 1 << op::CONDITIONAL_ELSE,
+        high: 0,
+    };
+
+    const NULL_COALESCING: Self = Self {
+        pass: Pass::Binary {
+            classes: TokenClasses::NULL_COALESCING,
+            pending: 0,
+        },
+        low: 1 << op::NULL_COALESCING,
+        high: 0,
+    };
+
+    const COMMA: Self = Self {
+        pass: Pass::Binary {
+            classes: TokenClasses::COMMA,
+            pending: 0,
+        },
+        low: 0,
+        high: 1 << (op::COMMA - 64),
+    };
+
+    const ASSIGNMENT: Self = Self {
+        pass: Pass::Binary {
+            classes: TokenClasses::ASSIGNMENT,
+            pending: 0,
+        },
+        low: 0,
+        high: 1 << (op::ASSIGNMENT - 64),
+    };
+
+    const RETURNS: Self = Self {
+        pass: Pass::Returns,
+        low: 0,
+        high: 1 << (op::RETURN - 64),
+    };
+
+    // After the last pass.
+    const NOTHING: Self = Self {
+        pass: Pass::Calls,
+        low: 0,
+        high: 0,
+    };
 }
 
-// The level of one operator.
-fn level_of(used: OpSet, op: u32, classes: TokenClasses) -> Choice
-    ensures { λ r. ⌜ r ≡ choiceIf (usedBy used op) (levelOf classes) ⌝ }
-{
-    level(used.contains(op), classes)
-}
+// What the calls stand behind besides: with `loop` or `for_each` alone they are not grouped.
+const CALL_GATE: OpSet = OpSet {
+    low: 1 << op::LEFT_BRACE
+        | 1 << op::LEFT_BRACKET
+        | 1 << op::LEFT_PARENTHESIS
+        | 1 << op::QUERY_FUNCTION
+        | 1 << op::ARRAY_VARIABLE,
+    high: 1 << (op::SEMICOLON - 64),
+};
 
-pub fn uses_either(used: OpSet, a: u32, b: u32) -> bool
-    ensures { λ r. ⌜ r ≡ any (usedBy used) (a ∷ b ∷ []) ⌝ }
-{
-    used.contains(a) || used.contains(b)
-}
+// Before version 5: each comparison is a level, OR comes before AND, `:` and `?` are binary operators.
+const BEFORE_5: [Rank; 23] = [
+    Rank::CALLS,
+    Rank::STATEMENTS,
+    Rank::ARRAYS,
+    Rank::POINTER,
+    Rank::MATH_CALLS,
+    Rank::UNARY,
+    Rank::DIV,
+    Rank::MUL,
+    Rank::ADD,
+    Rank::LESS_THAN,
+    Rank::LOGICAL_EQUAL,
+    Rank::GREATER_EQUAL,
+    Rank::GREATER_THAN,
+    Rank::LESS_EQUAL,
+    Rank::LOGICAL_NOT_EQUAL,
+    Rank::LOGICAL_OR,
+    Rank::LOGICAL_AND,
+    Rank::CONDITIONAL_ELSE,
+    Rank::CONDITIONAL,
+    Rank::NULL_COALESCING,
+    Rank::COMMA,
+    Rank::ASSIGNMENT,
+    Rank::RETURNS,
+];
 
-pub fn uses_some(used: OpSet, a: u32, b: u32, c: u32) -> bool
-    ensures { λ r. ⌜ r ≡ any (usedBy used) (a ∷ b ∷ c ∷ []) ⌝ }
-{
-    used.contains(a) || uses_either(used, b, c)
-}
+// At version 5: `?` and `:` are one pass.
+const AT_5: [Rank; 23] = [
+    Rank::CALLS,
+    Rank::STATEMENTS,
+    Rank::ARRAYS,
+    Rank::POINTER,
+    Rank::MATH_CALLS,
+    Rank::UNARY,
+    Rank::DIV,
+    Rank::MUL,
+    Rank::ADD,
+    Rank::LESS_THAN,
+    Rank::LOGICAL_EQUAL,
+    Rank::GREATER_EQUAL,
+    Rank::GREATER_THAN,
+    Rank::LESS_EQUAL,
+    Rank::LOGICAL_NOT_EQUAL,
+    Rank::LOGICAL_OR,
+    Rank::LOGICAL_AND,
+    Rank::CONDITIONALS,
+    Rank::NULL_COALESCING,
+    Rank::COMMA,
+    Rank::ASSIGNMENT,
+    Rank::RETURNS,
+    Rank::NOTHING,
+];
 
-// What the call pass stands behind: with `loop` or `for_each` alone calls are not grouped.
-fn is_gate_open(used: OpSet) -> bool
-    ensures { λ r. ⌜ r ≡ any (usedBy used) callGate ⌝ }
-{
-    uses_some(used, op::LEFT_BRACE, op::LEFT_BRACKET, op::LEFT_PARENTHESIS)
-        || uses_some(used, op::QUERY_FUNCTION, op::ARRAY_VARIABLE, op::SEMICOLON)
-}
+// From version 6: four comparisons together, then both equalities; AND comes before OR.
+const FROM_6: [Rank; 23] = [
+    Rank::CALLS,
+    Rank::STATEMENTS,
+    Rank::ARRAYS,
+    Rank::POINTER,
+    Rank::MATH_CALLS,
+    Rank::UNARY,
+    Rank::DIV,
+    Rank::MUL,
+    Rank::ADD,
+    Rank::COMPARISONS,
+    Rank::EQUALITIES,
+    Rank::LOGICAL_AND,
+    Rank::LOGICAL_OR,
+    Rank::CONDITIONALS,
+    Rank::NULL_COALESCING,
+    Rank::COMMA,
+    Rank::ASSIGNMENT,
+    Rank::RETURNS,
+    Rank::NOTHING,
+    Rank::NOTHING,
+    Rank::NOTHING,
+    Rank::NOTHING,
+    Rank::NOTHING,
+];
 
-fn are_calls_used(used: OpSet) -> bool
-    ensures { λ r. ⌜ r ≡ runs (usedBy used) callPass ⌝ }
-{
-    is_gate_open(used) && uses_some(used, op::QUERY_FUNCTION, op::LOOP, op::FOR_EACH)
-}
-
-// Calls, statements, arrays.
-fn calls(k: u32, used: OpSet) -> Choice
-    ensures { λ r. ⌜ Chosen (usedBy used) (placeIn calling k) r ⌝ }
-{
-    match k {
-        0 => when(are_calls_used(used), Pass::Calls),
-        1 => when(used.contains(op::SEMICOLON), Pass::Plain),
-        2 => when(
-            used.contains(op::ARRAY_VARIABLE),
-            Pass::Arrays { array: 0, lent: 0 },
-        ),
-        _ => Choice::Skip,
-    }
-}
-
-// `->`, math functions, unary `-` and `!`, `/`, `*`, `+`. (The unary pass turns a binary `-` into `+`.)
-fn pointer_and_arithmetic(k: u32, used: OpSet) -> Choice
-    ensures { λ r. ⌜ Chosen (usedBy used) (placeIn arithmetic k) r ⌝ }
-{
-    match k {
-        0 => level_of(used, op::POINTER, TokenClasses::POINTER),
-        1 => when(used.has_math_call(), Pass::Maths),
-        2 => when(uses_either(used, op::NEGATE, op::LOGICAL_NOT), Pass::Unary),
-        3 => level_of(used, op::DIV, TokenClasses::DIV),
-        4 => level_of(used, op::MUL, TokenClasses::MUL),
-        5 => level(
-            uses_either(used, op::NEGATE, op::ADD),
-            TokenClasses::ONLY_ADD,
-        ),
-        _ => Choice::Skip,
-    }
-}
-
-// Below version 6 a level for each comparison and equality.
-fn comparisons_before_6(k: u32, used: OpSet) -> Choice
-    ensures { λ r. ⌜ Chosen (usedBy used) (placeIn (comparing false) k) r ⌝ }
-{
-    match k {
-        0 => level_of(used, op::LESS_THAN, TokenClasses::LESS_THAN),
-        1 => level_of(used, op::LOGICAL_EQUAL, TokenClasses::LOGICAL_EQUAL),
-        2 => level_of(used, op::GREATER_EQUAL, TokenClasses::GREATER_EQUAL),
-        3 => level_of(used, op::GREATER_THAN, TokenClasses::GREATER_THAN),
-        4 => level_of(used, op::LESS_EQUAL, TokenClasses::LESS_EQUAL),
-        5 => level_of(used, op::LOGICAL_NOT_EQUAL, TokenClasses::LOGICAL_NOT_EQUAL),
-        _ => Choice::Skip,
-    }
-}
-
-// Whether one of `<`, `<=`, `>=`, `>` is used.
-fn are_comparisons_used(used: OpSet) -> bool
-    ensures { λ r. ⌜ r ≡ any (usedBy used) (operator.lessThan ∷ operator.lessEqual ∷ operator.greaterEqual ∷ operator.greaterThan ∷ []) ⌝ }
-{
-    used.contains(op::LESS_THAN)
-        || uses_some(used, op::LESS_EQUAL, op::GREATER_EQUAL, op::GREATER_THAN)
-}
-
-// From version 6 one level for the four comparisons and one for the two equalities.
-fn comparisons_from_6(k: u32, used: OpSet) -> Choice
-    ensures { λ r. ⌜ Chosen (usedBy used) (placeIn (comparing true) k) r ⌝ }
-{
-    match k {
-        0 => level(are_comparisons_used(used), TokenClasses::COMPARISONS),
-        1 => level(
-            uses_either(used, op::LOGICAL_EQUAL, op::LOGICAL_NOT_EQUAL),
-            TokenClasses::EQUALITIES,
-        ),
-        _ => Choice::Skip,
-    }
-}
-
-// Comparisons and equalities.
-fn comparisons(k: u32, used: OpSet, version: i16) -> Choice
-    ensures { λ r. ⌜ Chosen (usedBy used) (placeIn (comparing (isFrom 6 version)) k) r ⌝ }
+// The ranks of a version as the rules use it (`ops::version::effective`).
+pub fn ranks(version: i16) -> [Rank; 23]
+    ensures { λ r. ⌜ Ranked (later (rulesOf version)) r ⌝ }
 {
     if is_from_6(version) {
-        return comparisons_from_6(k, used);
+        return FROM_6;
     }
-    comparisons_before_6(k, used)
-}
-
-// The level of `&&`, or of `||`.
-fn and_or(conjunction: bool, used: OpSet) -> Choice
-    ensures { λ r. ⌜ Chosen (usedBy used) (some (binary (andOr conjunction ∷ []))) r ⌝ }
-{
-    if conjunction {
-        return level_of(used, op::LOGICAL_AND, TokenClasses::LOGICAL_AND);
-    }
-    level_of(used, op::LOGICAL_OR, TokenClasses::LOGICAL_OR)
-}
-
-// Logical operators, up to version 5 OR before AND, from 6 AND before OR.
-fn logic(k: u32, used: OpSet, version: i16) -> Choice
-    ensures { λ r. ⌜ Chosen (usedBy used) (placeIn (deciding (isFrom 6 version)) k) r ⌝ }
-{
-    match k {
-        0 => and_or(is_from_6(version), used),
-        1 => and_or(!is_from_6(version), used),
-        _ => Choice::Skip,
-    }
-}
-
-// Below version 5 `:` and then `?` as binary operators.
-fn conditionals_before_5(k: u32, used: OpSet) -> Choice
-    ensures { λ r. ⌜ Chosen (usedBy used) (placeIn (branching false) k) r ⌝ }
-{
-    match k {
-        0 => level_of(
-            used,
-            op::CONDITIONAL_ELSE,
-            TokenClasses::ONLY_CONDITIONAL_ELSE,
-        ),
-        1 => level_of(used, op::CONDITIONAL, TokenClasses::ONLY_CONDITIONAL),
-        _ => Choice::Skip,
-    }
-}
-
-// From version 5 one pass for both.
-fn conditionals_from_5(k: u32, used: OpSet) -> Choice
-    ensures { λ r. ⌜ Chosen (usedBy used) (placeIn (branching true) k) r ⌝ }
-{
-    match k {
-        0 => when(
-            uses_either(used, op::CONDITIONAL, op::CONDITIONAL_ELSE),
-            Pass::Ternary { tokens: 0 },
-        ),
-        _ => Choice::Skip,
-    }
-}
-
-// `?` and `:`.
-fn conditionals(k: u32, used: OpSet, version: i16) -> Choice
-    ensures { λ r. ⌜ Chosen (usedBy used) (placeIn (branching (isFrom 5 version)) k) r ⌝ }
-{
     if is_from_5(version) {
-        return conditionals_from_5(k, used);
+        return AT_5;
     }
-    conditionals_before_5(k, used)
+    BEFORE_5
 }
 
-// `??`, `,`, `=`, `return`.
-fn last_passes(k: u32, used: OpSet) -> Choice
-    ensures { λ r. ⌜ Chosen (usedBy used) (placeIn last k) r ⌝ }
+// The pass of a rank, where it runs under a used set.
+pub fn choose(rank: Rank, used: OpSet) -> Choice
+    ensures { λ r. ⌜ ((ps : List definition.Pass) → AtRank ps rank → Chosen (usedBy used) ps r) ⌝ }
 {
-    match k {
-        0 => level_of(used, op::NULL_COALESCING, TokenClasses::NULL_COALESCING),
-        1 => level_of(used, op::COMMA, TokenClasses::COMMA),
-        2 => level_of(used, op::ASSIGNMENT, TokenClasses::ASSIGNMENT),
-        3 => when(used.contains(op::RETURN), Pass::Prefix),
-        _ => Choice::Skip,
+    let pass = rank.pass;
+    let operators = OpSet {
+        low: rank.low,
+        high: rank.high,
+    };
+    if !used.intersects(operators) {
+        return Choice::Skip;
     }
-}
-
-// The pass at place k, at a version as the rules use it (`ops::effective`).
-pub fn pass_at(k: u32, used: OpSet, version: i16) -> Choice
-    ensures { λ r. ⌜ Chosen (usedBy used) (placeIn (places (rulesOf version)) k) r ⌝ }
-{
-    if k < ARITHMETIC {
-        return calls(k, used);
+    match pass {
+        Pass::Calls => {
+            if used.intersects(CALL_GATE) {
+                return Choice::Run(Pass::Calls);
+            }
+            Choice::Skip
+        }
+        _ => Choice::Run(pass),
     }
-    if k < COMPARISONS {
-        return pointer_and_arithmetic(k - ARITHMETIC, used);
-    }
-    if k < LOGIC {
-        return comparisons(k - COMPARISONS, used, version);
-    }
-    if k < CONDITIONALS {
-        return logic(k - LOGIC, used, version);
-    }
-    if k < LAST {
-        return conditionals(k - CONDITIONALS, used, version);
-    }
-    last_passes(k - LAST, used)
 }

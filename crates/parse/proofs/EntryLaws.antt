@@ -1,4 +1,5 @@
--- The entry: what is loaded can be grouped, what was grouped is the definition's reading, and the four equations of a call that is read or turned back.
+-- The entry: what is loaded can be grouped, what was grouped is the definition's reading, and the four equations of a call that is read or
+-- turned back.
 use Prim.Native.Nat.{ℕ, _+_, _*_, _≤_}
 use mathlib.Core.Path.{_≡_, ap, _∙_, subst}
 use mathlib.Core.List.{List, [], _++_}
@@ -14,15 +15,15 @@ use Rattle.molang.specs.Read.{read}
 use Rattle.molang.specs.Words.{tokensOf}
 use Rattle.molang.specs.Parse.{Call, reading, told, answered, treeIn, treeAfter, messagesIn, messagesAfter, workIn, workAfter}
 use Rattle.ops.specs.declared.sets.OpSet.{OpSet}
-use Rattle.order.specs.Places.{usedBy, rulesOf}
-use Rattle.checks.specs.declared.Accepted.the-variants.{Tokens, Refused}
-use Rattle.checks.proofs.AcceptLaws.{checked, reads-call, refuses-call}
+use Rattle.order.specs.Ranks.{usedBy, rulesOf}
+use Rattle.accept.specs.Accepting.{isRead, isRefused}
+use Rattle.accept.proofs.AcceptLaws.{checked, reads-call, refuses-call}
 use Rattle.buffers.specs.Load.{CanLoad, Loaded}
 use Rattle.buffers.proofs.Loading.{loaded-array}
-use Rattle.walks.specs.declared.grouped.Grouped.{Grouped}
+use Rattle.grouping.specs.declared.grouped.Grouped.{Grouped}
 use Rattle.parse.specs.declared.Answer.{Answer}
 use Rattle.parse.specs.declared.Answer.the-variants.{Refused as Turned}
-use Rattle.parse.specs.Answers.{toldOf}
+use Rattle.parse.specs.Answers.{HasParsed}
 use Rattle.parse.specs.Fills.{FilledAs, CanFill, Filled, CanRead, HasRead}
 use Rattle.grouping.specs.Group.{CanGroup, HasGrouped}
 
@@ -39,7 +40,8 @@ unfolding read rules
 same-reading list used version effective e sourceLength =
     ap (λ (v : ℤ). Reading.grouped sourceLength (usedBy used) (Order.order (rulesOf v)) [] (leaves (tokensOf list))) e
 
-module _ {list W buffer m : List ℕ} {n : ℕ} (p : CanRead list W buffer m n) (W1 : List ℕ) (loaded : Loaded list W n W1) (base : ℕ) (based : base ≡ 24 * n + 24) where
+module _ {list W buffer m : List ℕ} {n : ℕ} (p : CanRead list W buffer m n) (W1 : List ℕ) (loaded : Loaded list W n W1) (base : ℕ)
+    (based : base ≡ 24 * n + 24) where
   abbrev pub read-group : CanGroup W1 base n
   read-group =
       record {
@@ -73,26 +75,28 @@ module _ {list W buffer m : List ℕ} {n : ℕ} (p : CanRead list W buffer m n) 
 
 -- ---- the entry
 
--- The four equations of a call.
-abbrev pub Meets : Call → Answer → List ℕ → List ℕ → List ℕ → Type 0
-Meets c r tree messages work = (toldOf r ≡ answered c) × ((tree ≡ treeAfter c) × ((messages ≡ messagesAfter c) × (work ≡ workAfter c)))
-
-pub refused-meets : (c : Call) (number place : ℕ) → Refused number place ≡ checked c → Meets c (Turned number place) (c .tree) (c .messages) (c .work)
+pub refused-meets : (c : Call) (number place : ℕ) → isRefused number place ≡ checked c
+    → HasParsed c (Turned number place) (c .tree) (c .messages) (c .work)
 unfolding answered told treeAfter treeIn messagesAfter messagesIn workAfter workIn
 refused-meets c number place e =
     let r = refuses-call c number place e in
-    (rw r, (rw r, (rw r, rw r)))
+    record { told = rw r; tree = rw r; messages = rw r; work = rw r }
 
-pub read-meets : (c : Call) (n : ℕ) (r : Answer) (tree messages work : List ℕ) → Tokens n ≡ checked c
+pub read-meets : (c : Call) (n : ℕ) (r : Answer) (tree messages work : List ℕ) → isRead n ≡ checked c
     → HasRead (c .list) (c .tree) (c .messages) (c .sourceLength) (c .version) (record { low = c .usedLow; high = c .usedHigh }) r tree messages
-    → work ≡ replicate (length (c .work)) 0 → Meets c r tree messages work
+    → work ≡ replicate (length (c .work)) 0 → HasParsed c r tree messages work
 unfolding answered reading treeAfter messagesAfter workAfter workIn
 read-meets c n r tree messages work e v cleared =
     let none-refused = reads-call c n e .0 in
-    (rw none-refused (v .holds .tells), (rw none-refused (v .holds .tree), (rw none-refused (v .holds .records), rw none-refused cleared)))
+    record {
+      told = rw none-refused (v .holds .tells);
+      tree = rw none-refused (v .holds .tree);
+      messages = rw none-refused (v .holds .records);
+      work = rw none-refused cleared;
+    }
 
 -- The words that are handed on are just those that the tokens need.
-pub call-reads : (c : Call) (n : ℕ) → Tokens n ≡ checked c → CanRead (c .list) (take (64 * n + 64) (c .work)) (c .tree) (c .messages) n
+pub call-reads : (c : Call) (n : ℕ) → isRead n ≡ checked c → CanRead (c .list) (take (64 * n + 64) (c .work)) (c .tree) (c .messages) n
 call-reads c n e =
     let p = reads-call c n e .1 in
     record {
@@ -105,5 +109,6 @@ call-reads c n e =
     }
 
 -- A buffer whose front was lent and came back as long as it was.
-pub part-long : (front work : List ℕ) (k : ℕ) → k ≤ length work → length front ≡ length (take k work) → length (front ++ drop k work) ≡ length work
+pub part-long : (front work : List ℕ) (k : ℕ) → k ≤ length work → length front ≡ length (take k work)
+    → length (front ++ drop k work) ≡ length work
 part-long front work k h e = omega (arith, length-append front (drop k work), length-drop k work, length-take-le k work h)

@@ -12,16 +12,16 @@ use Rattle.molang.specs.Read.{rooted}
 use Rattle.molang.specs.Parse.{inFront, told, treeIn, messagesIn}
 use Rattle.words.specs.Records.{laidAt}
 use Rattle.words.proofs.RecordLaws.{laid-front}
-use Rattle.nodes.specs.Store.{wd}
+use Rattle.nodes.specs.Store.{slotEnd, firstAt, nextAt}
 use Rattle.buffers.specs.Emit.{Linked, CanLayOut, LaidOut}
 use Rattle.buffers.proofs.Linking.{owned-linked, linked-nil, linked-none, linked-open}
-use Rattle.walks.specs.Failures as failures
-use Rattle.walks.specs.Grouped.{StandsFor, roots, failed, mismatched, unclosed, pointerFailed}
-use Rattle.walks.specs.declared.failure.Failure.{Failure}
-use Rattle.walks.specs.declared.failure.Mismatch.{Mismatch}
-use Rattle.walks.specs.declared.failure.Unclosed.{Unclosed}
-use Rattle.walks.specs.declared.grouped.Grouped.{Grouped}
-use Rattle.walks.specs.declared.grouped.Grouped.the-variants.{Roots, Failed, Mismatched, Unclosed as Unclosing, PointerFailed}
+use Rattle.levels.specs.Failures as failures
+use Rattle.grouping.specs.Grouped.{StandsFor, roots, failed, mismatched, unclosed, pointerFailed}
+use Rattle.levels.specs.declared.failure.Failure.{Failure}
+use Rattle.levels.specs.declared.failure.Mismatch.{Mismatch}
+use Rattle.levels.specs.declared.failure.Unclosed.{Unclosed}
+use Rattle.grouping.specs.declared.grouped.Grouped.{Grouped}
+use Rattle.grouping.specs.declared.grouped.Grouped.the-variants.{Roots, Failed, Mismatched, Unclosed as Unclosing, PointerFailed}
 use Rattle.parse.specs.declared.Answer.{Answer}
 use Rattle.parse.specs.declared.Answer.the-variants.{Tree, Messages}
 use Rattle.parse.specs.Reports.{CanReport, Reported, CanReportTwo, CanReportRoots, RootsReported}
@@ -38,7 +38,8 @@ record RootsOf (W : List ℕ) (root n sourceLength : ℕ) (answer : reading.Answ
   linked : Linked W root (3 * n + 3) f
   nodes : size f ≤ 3 * n
 
-roots-of : {W : List ℕ} {root n sourceLength : ℕ} {answer : reading.Answer} → root ≡ wd W 5 → StandsFor W (3 * n + 3) n sourceLength Roots answer
+roots-of : {W : List ℕ} {root n sourceLength : ℕ} {answer : reading.Answer} → root ≡ firstAt W 0
+    → StandsFor W (3 * n + 3) n sourceLength Roots answer
     → RootsOf W root n sourceLength answer
 roots-of e (roots {f = f} o h) = record { f = f; answers = refl; linked = rw e (owned-linked o); nodes = h }
 
@@ -47,7 +48,8 @@ not-nil : {k : Token} {cs rest : Forest} → node k cs rest ≡ nil → ⊥
 unfolding size
 not-nil e = let z = ap size e in omega arith
 
-module _ {W buffer m : List ℕ} {n sourceLength : ℕ} (p : CanFill W buffer m n sourceLength Roots) (root : ℕ) (first : root ≡ wd W 5) where
+module _ {W buffer m : List ℕ} {n sourceLength : ℕ} (p : CanFill W buffer m n sourceLength Roots) (root : ℕ)
+    (first : root ≡ firstAt W 0) where
   v : RootsOf W root n sourceLength (p .answer)
   v = roots-of first (p .stands)
 
@@ -77,14 +79,14 @@ module _ {W buffer m : List ℕ} {n sourceLength : ℕ} (p : CanFill W buffer m 
       go (node k cs rest) w = absurd (not-nil (linked-none w z))
 
   module _ (some : root ≢ 0) where
-    pub root-within : 8 * root + 8 ≤ length W
+    pub root-within : slotEnd root ≤ length W
     root-within = go (v .f) (v .linked)
       where
-        go : (f : Forest) → Linked W root (3 * n + 3) f → 8 * root + 8 ≤ length W
+        go : (f : Forest) → Linked W root (3 * n + 3) f → slotEnd root ≤ length W
         go nil w = absurd (some (linked-nil w))
         go (node k cs rest) w = omega (arith, linked-open w .inside, p .words)
 
-    pub several-room : wd W (8 * root + 6) ≢ 0 → CanReportRoots W m root n
+    pub several-room : nextAt W root ≢ 0 → CanReportRoots W m root n
     unfolding count
     several-room next = go (v .f) (v .linked) (v .nodes)
       where
@@ -98,9 +100,10 @@ module _ {W buffer m : List ℕ} {n sourceLength : ℕ} (p : CanFill W buffer m 
               room = p .message-room;
             }
 
-    pub several-filled : (m' : List ℕ) → wd W (8 * root + 6) ≢ 0 → RootsReported W m root n m' → Filled W buffer m n sourceLength Roots (Messages 1) buffer m'
+    pub several-filled : (W' m' : List ℕ) → nextAt W root ≢ 0 → RootsReported W m root n W' m'
+        → Filled W buffer m n sourceLength Roots (Messages 1) buffer m'
     unfolding count rooted told treeIn
-    several-filled m' next u = filled-by (Messages 1) buffer m' go
+    several-filled W' m' next u = filled-by (Messages 1) buffer m' go
       where
         go : (f : Forest) → Linked W root (3 * n + 3) f → FilledAs buffer m (Messages 1) buffer m' (rooted sourceLength [] f)
         go nil w = absurd (some (linked-nil w))
@@ -119,7 +122,7 @@ module _ {W buffer m : List ℕ} {n sourceLength : ℕ} (p : CanFill W buffer m 
           tree-room = p .tree-room;
         }
 
-    pub one-filled : (nodes : ℕ) (W' buffer' : List ℕ) → wd W (8 * root + 6) ≡ 0 → LaidOut W buffer root n nodes W' buffer'
+    pub one-filled : (nodes : ℕ) (W' buffer' : List ℕ) → nextAt W root ≡ 0 → LaidOut W buffer root n nodes W' buffer'
         → Filled W buffer m n sourceLength Roots (Tree nodes) buffer' m
     unfolding rooted told treeIn messagesIn
     one-filled nodes W' buffer' next u = filled-by (Tree nodes) buffer' m go
@@ -132,7 +135,8 @@ module _ {W buffer m : List ℕ} {n sourceLength : ℕ} (p : CanFill W buffer m 
 
 -- ---- the failures
 
-pub fill-report : {W buffer m : List ℕ} {n sourceLength : ℕ} {g : Grouped} → CanFill W buffer m n sourceLength g → CanReport W m sourceLength g
+pub fill-report : {W buffer m : List ℕ} {n sourceLength : ℕ} {g : Grouped} → CanFill W buffer m n sourceLength g
+    → CanReport W m sourceLength g
 fill-report {n = n} p =
     record {
       hi = 3 * n + 3;
@@ -148,12 +152,14 @@ pub fill-report-two : {W buffer m : List ℕ} {n sourceLength : ℕ} {g : Groupe
 fill-report-two {sourceLength = sourceLength} p = record { sourceLength = sourceLength; can = fill-report p }
 
 module _ (W buffer m m' : List ℕ) (n sourceLength : ℕ) where
-  pub failed-filled : {f : Failure} → Reported W m sourceLength (Failed f) m' → Filled W buffer m n sourceLength (Failed f) (Messages 1) buffer m'
+  pub failed-filled : {f : Failure} → Reported W m sourceLength (Failed f) m'
+      → Filled W buffer m n sourceLength (Failed f) (Messages 1) buffer m'
   unfolding told treeIn
   failed-filled {f} u = record { holds = go }
     where
       go : (a : reading.Answer) → StandsFor W (3 * n + 3) n sourceLength (Failed f) a → FilledAs buffer m (Messages 1) buffer m' a
-      go a (failed {ms = ms} s) = record { tells = rw (says-one s); tree = refl; records = u .records (3 * n + 3) n (reading.messages ms) (failed s) }
+      go a (failed {ms = ms} s) =
+          record { tells = rw (says-one s); tree = refl; records = u .records (3 * n + 3) n (reading.messages ms) (failed s) }
 
   pub pointer-filled : {f : Failure} → Reported W m sourceLength (PointerFailed f) m'
       → Filled W buffer m n sourceLength (PointerFailed f) (Messages 2) buffer m'
@@ -172,11 +178,14 @@ module _ (W buffer m m' : List ℕ) (n sourceLength : ℕ) where
   mismatch-filled {k} u = record { holds = go }
     where
       go : (a : reading.Answer) → StandsFor W (3 * n + 3) n sourceLength (Mismatched k) a → FilledAs buffer m (Messages 2) buffer m' a
-      go a (mismatched (failures.mismatched s t w)) = record { tells = refl; tree = refl; records = u .records (3 * n + 3) n _ (mismatched {m = k} (failures.mismatched s t w)) }
+      go a (mismatched (failures.mismatched s t w)) =
+          record { tells = refl; tree = refl; records = u .records (3 * n + 3) n _ (mismatched {m = k} (failures.mismatched s t w)) }
 
-  pub unclosed-filled : {k : Unclosed} → Reported W m sourceLength (Unclosing k) m' → Filled W buffer m n sourceLength (Unclosing k) (Messages 2) buffer m'
+  pub unclosed-filled : {k : Unclosed} → Reported W m sourceLength (Unclosing k) m'
+      → Filled W buffer m n sourceLength (Unclosing k) (Messages 2) buffer m'
   unfolding told treeIn
   unclosed-filled {k} u = record { holds = go }
     where
       go : (a : reading.Answer) → StandsFor W (3 * n + 3) n sourceLength (Unclosing k) a → FilledAs buffer m (Messages 2) buffer m' a
-      go a (unclosed (failures.unclosed s t)) = record { tells = refl; tree = refl; records = u .records (3 * n + 3) n _ (unclosed {u = k} (failures.unclosed s t)) }
+      go a (unclosed (failures.unclosed s t)) =
+          record { tells = refl; tree = refl; records = u .records (3 * n + 3) n _ (unclosed {u = k} (failures.unclosed s t)) }

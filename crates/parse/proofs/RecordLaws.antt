@@ -1,5 +1,6 @@
--- The records of the failures: put together argument by argument, and which messages' records they are, since a slot's words give its token back.
-use Prim.Native.Nat.{ℕ, _+_, _*_, _%_, _≤_}
+-- The records of the failures: put together argument by argument, and which messages' records they are, since a slot's words give its token
+-- back.
+use Prim.Native.Nat.{ℕ, _+_, _%_, _≤_}
 use mathlib.Core.Path.{_≡_, refl, sym, ap, ap₂, _∙_, subst}
 use mathlib.Core.Bool.{Bool, true, false}
 use mathlib.Core.List.{List}
@@ -16,11 +17,13 @@ use Rattle.molang.specs.Parse.{recordWords}
 use Rattle.words.specs.Fields.{variantOf, valueOf, halfOf}
 use Rattle.words.specs.Records.{withFirst, withLast, wordsOf}
 use Rattle.words.specs.declared.records.Record.{Record}
-use Rattle.nodes.specs.Store.{wd, TokenAt}
+use Rattle.nodes.specs.Store.{slotStart, operatorWordAt, upperWordAt, lowerWordAt, TokenAt}
 use Rattle.nodes.proofs.Tokens.{operator-word, upper-word, lower-word, token-op, token-start, token-end}
-use Rattle.walks.specs.Failures.{Tells, leadingMemberAccessor, emptyParameterList, mathAtEnd, mathWithoutParenthesis, leadingSemicolon, emptyArrayIndex, binaryAtEnd, negateWithoutOperand, notWithoutOperand, unknownOperation, unaryWithoutOperand, ternaryWithoutOperands}
-use Rattle.walks.specs.Grouped.{Says, tells, notEnded, withoutTokens}
-use Rattle.walks.specs.declared.failure.Failure.{Failure}
+use Rattle.levels.specs.Failures.{Tells, leadingMemberAccessor, emptyParameterList, mathAtEnd, mathWithoutParenthesis, leadingSemicolon}
+use Rattle.levels.specs.Failures.{emptyArrayIndex, binaryAtEnd, negateWithoutOperand, notWithoutOperand, unknownOperation}
+use Rattle.levels.specs.Failures.{unaryWithoutOperand, ternaryWithoutOperands}
+use Rattle.grouping.specs.Grouped.{Says, tells, notEnded, withoutTokens}
+use Rattle.levels.specs.declared.failure.Failure.{Failure}
 use Rattle.parse.specs.Records.{Within, hostAt, closerAt, Named, recordFor}
 
 -- ---- records argument by argument
@@ -40,14 +43,14 @@ named-at W e h = subst (λ (f : Failure). Named W f) e h
 
 -- ---- a slot's host value
 
-pub no-host : (W : List ℕ) (s v : ℕ) → v ≡ variantOf (wd W (8 * s)) → (v ≡ hostMathVariant → ⊥) → _≡_ {A = ℕ} 0 (hostAt W s)
+pub no-host : (W : List ℕ) (s v : ℕ) → v ≡ variantOf (operatorWordAt W s) → (v ≡ hostMathVariant → ⊥) → _≡_ {A = ℕ} 0 (hostAt W s)
 unfolding hostAt
-no-host W s v e h = rw (hostAt, ne-eqb (variantOf (wd W (8 * s))) hostMathVariant (λ z. h (e ∙ z)))
+no-host W s v e h = rw (hostAt, ne-eqb (variantOf (operatorWordAt W s)) hostMathVariant (λ z. h (e ∙ z)))
 
-pub a-host : (W : List ℕ) (s v r a b : ℕ) → v ≡ variantOf (wd W (8 * s)) → v ≡ hostMathVariant → r ≡ valueOf a b → a ≡ wd W (8 * s + 3) → b ≡ wd W (8 * s + 4)
-    → r ≡ hostAt W s
+pub a-host : (W : List ℕ) (s v r : ℕ) → v ≡ variantOf (operatorWordAt W s) → v ≡ hostMathVariant
+    → r ≡ valueOf (upperWordAt W s) (lowerWordAt W s) → r ≡ hostAt W s
 unfolding hostAt
-a-host W s v r a b e h f x y = rw (hostAt, eq-eqb (variantOf (wd W (8 * s))) hostMathVariant (sym e ∙ h)) (f ∙ ap₂ valueOf x y)
+a-host W s v r e h f = rw (hostAt, eq-eqb (variantOf (operatorWordAt W s)) hostMathVariant (sym e ∙ h)) f
 
 -- ---- a slot's token
 
@@ -55,19 +58,19 @@ module _ {W : List ℕ} {s : ℕ} {k : Token} (t : TokenAt W s k) where
   -- Words after the last are 0, which no word of a token is.
   pub slot-within : length W % 8 ≡ 0 → Within W s
   unfolding word
-  slot-within whole = go (leb (length W) (8 * s + 4)) refl
+  slot-within whole = go (leb (length W) (slotStart s + 4)) refl
     where
-      go : (b : Bool) → leb (length W) (8 * s + 4) ≡ b → Within W s
+      go : (b : Bool) → leb (length W) (slotStart s + 4) ≡ b → Within W s
       go true e =
-          let past : wd W (8 * s + 4) ≡ 0 = List·getD-eq-default W 0 (leb-true (length W) (8 * s + 4) e) in
+          let past : lowerWordAt W s ≡ 0 = List·getD-eq-default W 0 (leb-true (length W) (slotStart s + 4) e) in
           absurd (omega (arith, lower-word t))
-      go false e = let long = leb-false (length W) (8 * s + 4) e in omega arith
+      go false e = let long = leb-false (length W) (slotStart s + 4) e in omega arith
 
-  token-variant : variantOf (wd W (8 * s)) ≡ k .variant
+  token-variant : variantOf (operatorWordAt W s) ≡ k .variant
   unfolding variantOf lowOf word
   token-variant = omega (arith, operator-word t, t .legal .op, t .legal .variant)
 
-  token-value : valueOf (wd W (8 * s + 3)) (wd W (8 * s + 4)) ≡ k .value
+  token-value : valueOf (upperWordAt W s) (lowerWordAt W s) ≡ k .value
   unfolding valueOf halfOf lowOf word
   token-value = omega (arith, upper-word t, lower-word t, t .legal .value)
 
@@ -81,7 +84,8 @@ module _ {W : List ℕ} {s : ℕ} {k : Token} (t : TokenAt W s k) where
 
 -- ---- the messages
 
-pub says-slots : {W : List ℕ} {sourceLength : ℕ} {f : Failure} {ms : List Message} → Says W sourceLength f ms → length W % 8 ≡ 0 → 8 ≤ length W → Named W f
+pub says-slots : {W : List ℕ} {sourceLength : ℕ} {f : Failure} {ms : List Message} → Says W sourceLength f ms → length W % 8 ≡ 0
+    → 8 ≤ length W → Named W f
 says-slots (tells (leadingMemberAccessor t)) h l = (slot-within t h, slot-within t h)
 says-slots (tells (emptyParameterList t u)) h l = (slot-within t h, slot-within u h)
 says-slots (tells (mathAtEnd t)) h l = (slot-within t h, slot-within t h)
@@ -97,7 +101,8 @@ says-slots (tells (ternaryWithoutOperands t)) h l = (slot-within t h, slot-withi
 says-slots (notEnded t) h l = (slot-within t h, slot-within t h)
 says-slots withoutTokens h l = (l, l)
 
-tells-words : (W : List ℕ) (sourceLength : ℕ) {f : Failure} {ms : List Message} → Tells W f ms → wordsOf (recordFor W sourceLength f) ≡ recordWords ms
+tells-words : (W : List ℕ) (sourceLength : ℕ) {f : Failure} {ms : List Message} → Tells W f ms
+    → wordsOf (recordFor W sourceLength f) ≡ recordWords ms
 unfolding wordsOf recordWords messageRecord about record8
 tells-words W l (leadingMemberAccessor t) = rw (token-start t, token-end t)
 tells-words W l (emptyParameterList t u) = rw (token-start t, token-end u, token-op t)

@@ -16,9 +16,10 @@ use Rattle.molang.proofs.Words.{LegalTrees, noTrees, legalTree, trees-back}
 use Rattle.molang.proofs.Bounds.{treeWords-length}
 use Rattle.words.specs.Records.{unnamed, withFirst, wordsOf, laidAt}
 use Rattle.words.specs.Extents.{firstExtent}
+use Rattle.words.specs.Tokens.{nodeLength}
 use Rattle.words.specs.declared.extent.Extent.{Extent}
 use Rattle.words.proofs.RecordLaws.{laid-front}
-use Rattle.nodes.specs.Store.{wd, Chain, RepF, AllLegal}
+use Rattle.nodes.specs.Store.{slotStart, nextAt, Chain, RepF, AllLegal}
 use Rattle.nodes.specs.Children.{CanFollow, Counted, IsLast, lastFrom}
 use Rattle.nodes.proofs.Store.{rep-legal, rep-keep, rep-le, rep-count, tree-first}
 use Rattle.buffers.specs.Emit.{Linked, CanEmit, Emitted}
@@ -39,13 +40,22 @@ measure-emit {n = n} p =
     let few = p .few in
     let nodes = p .nodes in
     let room = p .room in
-    record { hi = 3 * n + 3; trees = p .trees; linked = p .linked; below = omega arith; spare = omega arith; room = omega arith; few = omega arith }
+    record {
+      hi = 3 * n + 3;
+      trees = p .trees;
+      linked = p .linked;
+      below = omega arith;
+      spare = omega arith;
+      room = omega arith;
+      few = omega arith;
+    }
 
 pub measure-few : {W : List ℕ} {first n to stack r : ℕ} {W' : List ℕ} → CanMeasure W first n → Emitted W first to stack r W' → r ≤ 3 * n
 measure-few {n = n} p v = omega (arith, p .nodes, v .count (3 * n + 3) (p .trees) (p .linked))
 
 pub measured : (W W' : List ℕ) (first n to stack nodes : ℕ) (r : Extent) → CanMeasure W first n → to ≡ 28 * n + 28 → stack ≡ 24 * n + 24
-    → Emitted W first to stack nodes W' → r ≡ firstExtent (treesOf (take (to + 6 * nodes - to) (drop to W'))) → Measured W first n r W'
+    → Emitted W first to stack nodes W' → r ≡ firstExtent (treesOf (take (to + nodeLength * nodes - to) (drop to W')))
+    → Measured W first n r W'
 measured W W' first n to stack nodes r p at above v e =
     record {
       extent = λ f w. e ∙ ap firstExtent (ap treesOf (words f w) ∙ trees-back f (legal f w));
@@ -53,11 +63,11 @@ measured W W' first n to stack nodes r p at above v e =
       long = v .long;
     }
   where
-    words : (f : Forest) → Linked W first (3 * n + 3) f → take (to + 6 * nodes - to) (drop to W') ≡ treeWords f
+    words : (f : Forest) → Linked W first (3 * n + 3) f → take (to + nodeLength * nodes - to) (drop to W') ≡ treeWords f
     words f w =
         let long = treeWords-length f in
         let few = measure-few p v in
-        let count : to + 6 * nodes - to ≡ length (treeWords f) = omega (arith, v .count (3 * n + 3) f w) in
+        let count : to + nodeLength * nodes - to ≡ length (treeWords f) = omega (arith, v .count (3 * n + 3) f w) in
         rw count (seg-part W' to (treeWords f) (omega (arith, p .room, v .long)) (v .words (3 * n + 3) f w))
 
     legal : (f : Forest) → Linked W first (3 * n + 3) f → LegalTrees f
@@ -73,7 +83,8 @@ pub record LastTree (W : List ℕ) (s hi : ℕ) (k : Token) (cs rest : Forest) :
   pub ends : lastEnd k cs rest ≡ highestEnd (t .end) below
   pub small : size (node t below nil) ≤ size (node k cs rest)
 
-last-tree : {W X : List ℕ} (f b : ℕ) (bs : List ℕ) {lo hi : ℕ} (k : Token) (cs rest : Forest) → Chain W f (b ∷ bs) → RepF W X (b ∷ bs) lo hi (node k cs rest)
+last-tree : {W X : List ℕ} (f b : ℕ) (bs : List ℕ) {lo hi : ℕ} (k : Token) (cs rest : Forest) → Chain W f (b ∷ bs)
+    → RepF W X (b ∷ bs) lo hi (node k cs rest)
     → LastTree W (lastFrom b bs) hi k cs rest
 unfolding lastEnd lastFrom size count
 last-tree f b [] k cs nil c r =
@@ -82,11 +93,12 @@ last-tree f b [] k cs nil c r =
 last-tree f b (d ∷ bs) k cs nil c r = absurd (omega (arith, rep-count r))
 last-tree f b [] k cs (node l ls rest) c r = absurd (omega (arith, rep-count r))
 last-tree {W} f b (d ∷ bs) k cs (node l ls rest) c r =
-    let v = last-tree (wd W (8 * b + 6)) d bs l ls rest (c .2) (tree-first r .rest) in
+    let v = last-tree (nextAt W b) d bs l ls rest (c .2) (tree-first r .rest) in
     record { t = v .t; below = v .below; linked = v .linked; ends = v .ends; small = omega (arith, v .small) }
 
 -- The same of the slot that `last_of_chain` finds.
-last-of : {W : List ℕ} {head hi r : ℕ} {k : Token} {cs rest : Forest} → Linked W head hi (node k cs rest) → IsLast W head r → LastTree W r hi k cs rest
+last-of : {W : List ℕ} {head hi r : ℕ} {k : Token} {cs rest : Forest} → Linked W head hi (node k cs rest) → IsLast W head r
+    → LastTree W r hi k cs rest
 last-of {W} {head} {hi} {r} {k} {cs} {rest} v last = go (v .bs) (v .chain) (v .rep)
   where
     go : {X : List ℕ} {lo : ℕ} (bs : List ℕ) → Chain W head bs → RepF W X bs lo hi (node k cs rest) → LastTree W r hi k cs rest
@@ -111,7 +123,7 @@ module _ (W W' : List ℕ) (head n : ℕ) (starts : Extent) (v : Measured W head
         bs = w .bs;
         lo = w .lo;
         chain = linked-chain W W' (3 * n + 3) (λ j h. v .same j (omega arith)) (omega (arith, v .long)) (omega arith) w;
-        rep = rep-keep W W' (λ s o a b c d e. v .same (8 * s + o) (omega arith)) (w .rep);
+        rep = rep-keep W W' (λ s o a b c d e. v .same (slotStart s + o) (omega arith)) (w .rep);
       }
 
   pub last-measure : {m : List ℕ} {tail : ℕ} → CanReportRoots W m head n → IsLast W head tail → CanMeasure W' tail n
@@ -130,10 +142,13 @@ module _ (W W' : List ℕ) (head n : ℕ) (starts : Extent) (v : Measured W head
             room = omega (arith, p .measure .room, v .long);
           }
 
-  pub roots-reported : (m m' W'' : List ℕ) (tail roots : ℕ) (last : Extent) → CanReportRoots W m head n → Counted W head roots → IsLast W head tail
-      → Measured W' tail n last W'' → m' ≡ laidAt 0 (wordsOf (withFirst (unnamed 1 (starts .start) (last .end)) roots 0)) m → RootsReported W m head n m'
+  pub roots-reported : (m m' W'' : List ℕ) (tail roots : ℕ) (last : Extent) → CanReportRoots W m head n → Counted W head roots
+      → IsLast W head tail
+      → Measured W' tail n last W'' → m' ≡ laidAt 0 (wordsOf (withFirst (unnamed 1 (starts .start) (last .end)) roots 0)) m
+      → RootsReported W m head n W'' m'
   unfolding count rooted messagesIn recordWords wordsOf messageRecord record8 firstExtent lastEnd
-  roots-reported m m' W'' tail roots last p counted isLast u e = record { message = go }
+  roots-reported m m' W'' tail roots last p counted isLast u e =
+      record { message = go; same = λ j h. u .same j h ∙ v .same j h; long = u .long ∙ v .long }
     where
       go : (f : Forest) → Linked W head (3 * n + 3) f → 2 ≤ count f → (sourceLength : ℕ) → m' ≡ messagesIn none (rooted sourceLength [] f) m
       go nil w several sourceLength = absurd (omega arith)
@@ -143,6 +158,7 @@ module _ (W W' : List ℕ) (head n : ℕ) (starts : Extent) (v : Measured W head
           let t = last-of w isLast in
           let first : starts .start ≡ lowestStart (k .start) cs = ap (λ (x : Extent). x .start) (v .extent f w) in
           let end : last .end ≡ lastEnd l ls rest =
-          ap (λ (x : Extent). x .end) (u .extent (node (t .t) (t .below) nil) (kept (omega (arith, p .measure .room)) (t .linked))) ∙ sym (t .ends) in
+          ap (λ (x : Extent). x .end) (u .extent (node (t .t) (t .below) nil) (kept (omega (arith, p .measure .room)) (t .linked)))
+          ∙ sym (t .ends) in
           let number : roots ≡ count f = counted .count (w .bs) (w .chain) ∙ rep-count (w .rep) in
           e ∙ (laid-front (wordsOf (withFirst (unnamed 1 (starts .start) (last .end)) roots 0)) m ∙ rw (first, end, number))

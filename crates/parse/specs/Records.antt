@@ -1,5 +1,6 @@
--- The records of the failures, by the words of the slots that they name. The laws of proofs/ReportLaws say which messages' records these are.
-use Prim.Native.Nat.{ℕ, _+_, _*_, _≤_}
+-- The records of the failures, by the words of the slots that they name. The laws of proofs/ReportLaws say which messages' records these
+-- are.
+use Prim.Native.Nat.{ℕ, _≤_}
 use mathlib.Core.Bool.{true, false}
 use mathlib.Core.List.{List}
 use mathlib.Core.Option.{Option·getD}
@@ -10,16 +11,19 @@ use Rattle.molang.specs.Message.{hostMathVariant}
 use Rattle.words.specs.Fields.{variantOf, valueOf}
 use Rattle.words.specs.Records.{unnamed, withFirst, withLast}
 use Rattle.words.specs.declared.records.Record.{Record}
-use Rattle.nodes.specs.Store.{wd}
+use Rattle.nodes.specs.Store.{slotEnd, operatorWordAt, upperWordAt, lowerWordAt}
 use Rattle.nodes.specs.Slots.{opAt, startAt, endAt}
-use Rattle.walks.specs.declared.failure.Failure.{Failure}
-use Rattle.walks.specs.declared.failure.Failure.the-variants.{ComplexMustEndWithSemicolon, ComplexWithoutTokens, LeadingMemberAccessor, EmptyParameterList, MathAtEnd, MathWithoutParenthesis, LeadingSemicolon, EmptyArrayIndex, BinaryAtEnd, NegateWithoutOperand, NotWithoutOperand, UnknownOperation, UnaryWithoutOperand, TernaryWithoutOperands}
-use Rattle.walks.specs.declared.failure.Mismatch.{Mismatch}
-use Rattle.walks.specs.declared.failure.Unclosed.{Unclosed}
+use Rattle.levels.specs.declared.failure.Failure.{Failure}
+use Rattle.levels.specs.declared.failure.Failure.the-variants.{ComplexMustEndWithSemicolon, ComplexWithoutTokens, LeadingMemberAccessor}
+use Rattle.levels.specs.declared.failure.Failure.the-variants.{EmptyParameterList, MathAtEnd, MathWithoutParenthesis, LeadingSemicolon}
+use Rattle.levels.specs.declared.failure.Failure.the-variants.{EmptyArrayIndex, BinaryAtEnd, NegateWithoutOperand, NotWithoutOperand}
+use Rattle.levels.specs.declared.failure.Failure.the-variants.{UnknownOperation, UnaryWithoutOperand, TernaryWithoutOperands}
+use Rattle.levels.specs.declared.failure.Mismatch.{Mismatch}
+use Rattle.levels.specs.declared.failure.Unclosed.{Unclosed}
 
 -- The words of slot s lie within the buffer.
 abbrev pub Within : List ℕ → ℕ → Type 0
-Within W s = 8 * s + 8 ≤ length W
+Within W s = slotEnd s ≤ length W
 
 -- From one slot's start to another's end.
 abbrev pub spanRecord : List ℕ → ℕ → ℕ → ℕ → Record
@@ -31,7 +35,7 @@ nameRecord W number from to named = withFirst (spanRecord W number from to) (opA
 
 -- The payload value of a host math function, else 0.
 unfoldable pub hostAt : List ℕ → ℕ → ℕ
-hostAt W s = elim (eqb (variantOf (wd W (8 * s))) hostMathVariant) [ true ↦ valueOf (wd W (8 * s + 3)) (wd W (8 * s + 4)) | false ↦ 0 ]
+hostAt W s = elim (eqb (variantOf (operatorWordAt W s)) hostMathVariant) [ true ↦ valueOf (upperWordAt W s) (lowerWordAt W s) | false ↦ 0 ]
 
 -- A math function's, naming it and its host value.
 abbrev pub mathRecord : List ℕ → ℕ → ℕ → Record
@@ -48,7 +52,8 @@ openRecord W s = withFirst (spanRecord W 5 s s) (closerAt W s) (opAt W s)
 -- Message 4.
 abbrev pub mismatchRecord : List ℕ → Mismatch → Record
 mismatchRecord W m =
-    withLast (withFirst (spanRecord W 4 (m .opener) (m .closer)) (m .start) (opAt W (m .opener))) (closerAt W (m .opener)) (opAt W (m .closer)) (m .index)
+    withLast (withFirst (spanRecord W 4 (m .opener) (m .closer)) (m .start) (opAt W (m .opener))) (closerAt W (m .opener))
+    (opAt W (m .closer)) (m .index)
 
 -- Message 6.
 abbrev pub unclosedRecord : List ℕ → Unclosed → Record

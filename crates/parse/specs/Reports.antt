@@ -1,5 +1,5 @@
--- What the reports ask and ensure: words of whole slots and a message buffer for two records; in its front the records of the messages that what
--- the passes left stands for.
+-- What the reports ask and ensure: words of whole slots and a message buffer for two records; in its front the records of the messages that
+-- what the passes left stands for.
 use Prim.Native.Nat.{ℕ, _+_, _*_, _%_, _≤_, _<_}
 use mathlib.Core.Path.{_≡_}
 use mathlib.Core.List.{List, []}
@@ -12,8 +12,8 @@ use Rattle.words.specs.Extents.{firstExtent}
 use Rattle.words.specs.declared.extent.Extent.{Extent}
 use Rattle.nodes.specs.Store.{wd}
 use Rattle.buffers.specs.Emit.{Linked}
-use Rattle.walks.specs.Grouped.{StandsFor}
-use Rattle.walks.specs.declared.grouped.Grouped.{Grouped}
+use Rattle.grouping.specs.Grouped.{StandsFor}
+use Rattle.grouping.specs.declared.grouped.Grouped.{Grouped}
 
 -- The words are whole slots; what the passes left stands for an answer.
 pub record CanReport (W messages : List ℕ) (sourceLength : ℕ) (g : Grouped) : Type 0 where
@@ -48,7 +48,7 @@ pub record CanMeasure (W : List ℕ) (first n : ℕ) : Type 0 where
   pub few : n ≤ mostTokens
   pub room : 64 * n + 64 ≤ length W
 
--- The extent of the first of them; the slots are as they were.
+-- The extent of the first of them; the slots are as they were. The words above the slots, where the trees were laid out, are left free.
 pub record Measured (W : List ℕ) (first n : ℕ) (r : Extent) (W' : List ℕ) : Type 0 where
   pub extent : (f : Forest) → Linked W first (3 * n + 3) f → r ≡ firstExtent f
   pub same : (j : ℕ) → j < 24 * n + 24 → wd W' j ≡ wd W j
@@ -60,6 +60,10 @@ pub record CanReportRoots (W messages : List ℕ) (head n : ℕ) : Type 0 where
   pub several : 2 ≤ count (measure .trees)
   pub room : 16 ≤ length messages
 
--- Message 1 over them is the front of the message buffer.
-pub record RootsReported (W messages : List ℕ) (head n : ℕ) (messages' : List ℕ) : Type 0 where
-  pub message : (f : Forest) → Linked W head (3 * n + 3) f → 2 ≤ count f → (sourceLength : ℕ) → messages' ≡ messagesIn none (rooted sourceLength [] f) messages
+-- Message 1 over them is the front of the message buffer, and the slots are as they were. The words above the slots, where the trees were
+-- laid out, are left free.
+pub record RootsReported (W messages : List ℕ) (head n : ℕ) (W' messages' : List ℕ) : Type 0 where
+  pub message : (f : Forest) → Linked W head (3 * n + 3) f → 2 ≤ count f → (sourceLength : ℕ)
+      → messages' ≡ messagesIn none (rooted sourceLength [] f) messages
+  pub same : (j : ℕ) → j < 24 * n + 24 → wd W' j ≡ wd W j
+  pub long : length W' ≡ length W

@@ -1,24 +1,22 @@
 // The parse entry: a list of token words becomes a tree, messages or a refusal. Checks, reading in the work buffer, and
-// filling of the caller's buffers are functions of their own. Leans on checks, grouping, walks, buffers, nodes and ops.
-pub mod report;
+// filling of the caller's buffers are functions of their own. Leans on accept, grouping, levels, buffers, nodes and ops.
+mod report;
 
+use accept::Accepted;
+use accept::Sizes;
+use accept::WORK_WORDS;
+use accept::accept;
 use buffers::emit::clear;
 use buffers::emit::lay_out;
 use buffers::load::load;
-use checks::Accepted;
-use checks::Sizes;
-use checks::WORK_WORDS;
-use checks::accept;
 use grouping::group::group;
+use grouping::grouped::Grouped;
 use nodes::slots;
 use nodes::slots::ROOT;
-use ops::effective;
 use ops::sets::OpSet;
-use walks::grouped::Grouped;
-ghost use mathlib.Core.Path.{_≡_};
-ghost use Rattle.molang.specs.Parse.{answered, treeAfter, messagesAfter, workAfter};
-ghost use Rattle.walks.specs.declared.grouped.Grouped.the-variants.{Roots};
-ghost use Rattle.parse.specs.Answers.{toldOf, call};
+use ops::version::effective;
+ghost use Rattle.grouping.specs.declared.grouped.Grouped.the-variants.{Roots};
+ghost use Rattle.parse.specs.Answers.{call, HasParsed};
 ghost use Rattle.parse.specs.Fills.{CanFill, Filled, CanRead, HasRead};
 
 // What a call is answered: a tree of so many nodes, so many messages, or a refusal's number and place.
@@ -37,7 +35,8 @@ fn fill_roots(
     source: u32,
 ) -> Answer
     requires { ⌜ CanFill (now work) (now tree) (now messages) n source Roots ⌝ }
-    ensures { λ r. ⌜ Filled (now (work .entry)) (now (tree .entry)) (now (messages .entry)) n source Roots r (now (tree .exit)) (now (messages .exit)) ⌝ }
+    ensures { λ r. ⌜ Filled (now (work .entry)) (now (tree .entry)) (now (messages .entry)) n source Roots r
+        (now (tree .exit)) (now (messages .exit)) ⌝ }
 {
     let root = slots::first_of(work, ROOT);
     if root == 0 {
@@ -62,7 +61,8 @@ fn fill(
     grouped: Grouped,
 ) -> Answer
     requires { ⌜ CanFill (now work) (now tree) (now messages) n source grouped ⌝ }
-    ensures { λ r. ⌜ Filled (now (work .entry)) (now (tree .entry)) (now (messages .entry)) n source grouped r (now (tree .exit)) (now (messages .exit)) ⌝ }
+    ensures { λ r. ⌜ Filled (now (work .entry)) (now (tree .entry)) (now (messages .entry)) n source grouped r
+        (now (tree .exit)) (now (messages .exit)) ⌝ }
 {
     match grouped {
         Grouped::Roots => fill_roots(work, tree, messages, n, source),
@@ -97,7 +97,8 @@ fn read(
     used: OpSet,
 ) -> Answer
     requires { ⌜ CanRead (now list) (now work) (now tree) (now messages) n ⌝ }
-    ensures { λ r. ⌜ HasRead (now (list .entry)) (now (tree .entry)) (now (messages .entry)) source version used r (now (tree .exit)) (now (messages .exit)) ⌝ }
+    ensures { λ r. ⌜ HasRead (now (list .entry)) (now (tree .entry)) (now (messages .entry)) source version used r
+        (now (tree .exit)) (now (messages .exit)) ⌝ }
 {
     load(list, work, n);
     let grouped = group(work, slots::stack_of(n), n, used, effective(version));
@@ -115,10 +116,10 @@ pub fn parse(
     used_low: u64,
     used_high: u64,
 ) -> Answer
-    ensures { λ r. ⌜ toldOf r ≡ answered (call (now (list .entry)) (now (tree .entry)) (now (messages .entry)) (now (work .entry)) «source_length» version «used_low» «used_high») ⌝ }
-    ensures { λ _. ⌜ now (tree .exit) ≡ treeAfter (call (now (list .entry)) (now (tree .entry)) (now (messages .entry)) (now (work .entry)) «source_length» version «used_low» «used_high») ⌝ }
-    ensures { λ _. ⌜ now (messages .exit) ≡ messagesAfter (call (now (list .entry)) (now (tree .entry)) (now (messages .entry)) (now (work .entry)) «source_length» version «used_low» «used_high») ⌝ }
-    ensures { λ _. ⌜ now (work .exit) ≡ workAfter (call (now (list .entry)) (now (tree .entry)) (now (messages .entry)) (now (work .entry)) «source_length» version «used_low» «used_high») ⌝ }
+    ensures { λ r. ⌜ HasParsed
+        (call (now (list .entry)) (now (tree .entry)) (now (messages .entry)) (now (work .entry))
+        «source_length» version «used_low» «used_high»)
+        r (now (tree .exit)) (now (messages .exit)) (now (work .exit)) ⌝ }
 {
     let used = OpSet {
         low: used_low,

@@ -1,13 +1,13 @@
 // Message records from what a pass failed on, and from the roots that are left. A name is given as its operator number.
-// Leans on walks (failures), buffers, nodes and words; specs/Records says which record a failure has.
+// Leans on levels (failures), buffers, nodes and words; specs/Records says which record a failure has.
 use buffers::emit::emit;
 use buffers::emit::tree_of;
+use levels::failure::Failure;
+use levels::failure::Mismatch;
+use levels::failure::Unclosed;
 use nodes::children;
 use nodes::slots;
 use ops::closer_of;
-use walks::failure::Failure;
-use walks::failure::Mismatch;
-use walks::failure::Unclosed;
 use words::extent::Extent;
 use words::extent::of_tree;
 use words::fields;
@@ -18,10 +18,12 @@ ghost use mathlib.Core.Path.{_≡_};
 ghost use Prim.Native.Nat.{_+_, _*_, _≤_};
 ghost use lib.ListN.{length};
 ghost use Rattle.words.specs.Records.{laidAt};
-ghost use Rattle.parse.specs.Records.{Within, spanRecord, nameRecord, hostAt, mathRecord, openRecord, mismatchRecord, unclosedRecord, Named, recordFor};
+ghost use Rattle.parse.specs.Records.{Within, spanRecord, nameRecord, hostAt, mathRecord, openRecord, mismatchRecord, unclosedRecord};
+ghost use Rattle.parse.specs.Records.{Named, recordFor};
 ghost use Rattle.molang.specs.Message.{messageRecord, multipleRoots};
-ghost use Rattle.walks.specs.declared.grouped.Grouped.the-variants.{Failed, Mismatched, Unclosed as Unclosing, PointerFailed};
-ghost use Rattle.parse.specs.Reports.{CanReport, Reported, CanReportTwo, TwoReported, CanMeasure, Measured, CanReportRoots, RootsReported};
+ghost use Rattle.grouping.specs.declared.grouped.Grouped.the-variants.{Failed, Mismatched, Unclosed as Unclosing, PointerFailed};
+ghost use Rattle.parse.specs.Reports.{CanReport, Reported, CanReportTwo, TwoReported, CanMeasure, Measured, CanReportRoots};
+ghost use Rattle.parse.specs.Reports.{RootsReported};
 
 // A message at the span from one slot's start to another's end.
 fn spanning(work: &[u32], number: u32, from: u32, to: u32) -> Record
@@ -32,7 +34,7 @@ fn spanning(work: &[u32], number: u32, from: u32, to: u32) -> Record
 }
 
 // A message at a slot's span, with no argument.
-fn plain(work: &[u32], number: u32, s: u32) -> Record
+fn at_slot(work: &[u32], number: u32, s: u32) -> Record
     requires { ⌜ Within (now work) s ⌝ }
     ensures { λ r. ⌜ r ≡ spanRecord (now (work .entry)) number s s ⌝ }
 {
@@ -52,10 +54,11 @@ fn host_value(work: &[u32], s: u32) -> u32
     requires { ⌜ Within (now work) s ⌝ }
     ensures { λ r. ⌜ r ≡ hostAt (now (work .entry)) s ⌝ }
 {
-    if fields::variant(slots::operator_word_of(work, s)) != fields::HOST_MATH {
+    let token = slots::token_of(work, s);
+    if fields::variant(token.operator) != fields::HOST_MATH {
         return 0;
     }
-    fields::value(slots::upper_word_of(work, s), slots::lower_word_of(work, s))
+    fields::value(token.upper, token.lower)
 }
 
 // A message that names a math function.
@@ -63,7 +66,7 @@ fn naming_math(work: &[u32], number: u32, s: u32) -> Record
     requires { ⌜ Within (now work) s ⌝ }
     ensures { λ r. ⌜ r ≡ mathRecord (now (work .entry)) number s ⌝ }
 {
-    plain(work, number, s).naming(slots::operator_of(work, s), host_value(work, s))
+    at_slot(work, number, s).naming(slots::operator_of(work, s), host_value(work, s))
 }
 
 // The section of an opener is not closed.
@@ -72,7 +75,7 @@ fn not_closed(work: &[u32], opener: u32) -> Record
     ensures { λ r. ⌜ r ≡ openRecord (now (work .entry)) opener ⌝ }
 {
     let op = slots::operator_of(work, opener);
-    plain(work, records::SECTION_NOT_CLOSED, opener).naming(closer_of(op), op)
+    at_slot(work, records::SECTION_NOT_CLOSED, opener).naming(closer_of(op), op)
 }
 
 // The first record of a closer that does not match.
@@ -92,7 +95,7 @@ fn unclosed(work: &[u32], u: Unclosed) -> Record
     ensures { λ r. ⌜ r ≡ unclosedRecord (now (work .entry)) u ⌝ }
 {
     let op = slots::operator_of(work, u.inner);
-    plain(work, records::NO_CLOSING_SYMBOL, u.inner)
+    at_slot(work, records::NO_CLOSING_SYMBOL, u.inner)
         .naming(u.start, op)
         .and(closer_of(op), 0, 0)
 }
@@ -104,12 +107,12 @@ fn record_of(work: &[u32], failure: Failure, source: u32) -> Record
 {
     match failure {
         Failure::ComplexMustEndWithSemicolon(s) => {
-            plain(work, records::COMPLEX_MUST_END_WITH_SEMICOLON, s)
+            at_slot(work, records::COMPLEX_MUST_END_WITH_SEMICOLON, s)
         }
         Failure::ComplexWithoutTokens => {
             Record::new(records::COMPLEX_MUST_END_WITH_SEMICOLON, 0, source)
         }
-        Failure::LeadingMemberAccessor(s) => plain(work, records::LEADING_MEMBER_ACCESSOR, s),
+        Failure::LeadingMemberAccessor(s) => at_slot(work, records::LEADING_MEMBER_ACCESSOR, s),
         Failure::EmptyParameterList(s, to) => {
             naming(work, records::EMPTY_PARAMETER_LIST, s, to, s)
         }
@@ -117,11 +120,11 @@ fn record_of(work: &[u32], failure: Failure, source: u32) -> Record
         Failure::MathWithoutParenthesis(s) => {
             naming_math(work, records::MATH_WITHOUT_PARENTHESIS, s)
         }
-        Failure::LeadingSemicolon(s) => plain(work, records::LEADING_SEMICOLON, s),
+        Failure::LeadingSemicolon(s) => at_slot(work, records::LEADING_SEMICOLON, s),
         Failure::EmptyArrayIndex(s, to) => spanning(work, records::EMPTY_ARRAY_INDEX, s, to),
         Failure::BinaryAtEnd(s) => naming(work, records::BINARY_AT_END, s, s, s),
-        Failure::NegateWithoutOperand(s) => plain(work, records::NEGATE_WITHOUT_OPERAND, s),
-        Failure::NotWithoutOperand(s) => plain(work, records::NOT_WITHOUT_OPERAND, s),
+        Failure::NegateWithoutOperand(s) => at_slot(work, records::NEGATE_WITHOUT_OPERAND, s),
+        Failure::NotWithoutOperand(s) => at_slot(work, records::NOT_WITHOUT_OPERAND, s),
         Failure::UnknownOperation(s, before) => {
             naming(work, records::UNKNOWN_OPERATION, s, s, before)
         }
@@ -140,7 +143,7 @@ pub fn report(work: &[u32], messages: &mut [u32], failure: Failure, source: u32)
     put(messages, 0, record_of(work, failure, source));
 }
 
-// Message 1 where no root is left, over the whole source.
+// Message 1 over the whole source, where no root is left.
 pub fn no_roots(messages: &mut [u32], at: usize, source: u32)
     requires { ⌜ at + 8 ≤ length (now messages) ⌝ }
     ensures { λ _. ⌜ now (messages .exit) ≡ laidAt at (messageRecord (multipleRoots 0 source 0)) (now (messages .entry)) ⌝ }
@@ -194,7 +197,7 @@ fn extent_of(work: &mut [u32], first: u32, n: usize) -> Extent
 // one's ends.
 pub fn report_roots(work: &mut [u32], messages: &mut [u32], head: u32, n: usize)
     requires { ⌜ CanReportRoots (now work) (now messages) head n ⌝ }
-    ensures { λ _. ⌜ RootsReported (now (work .entry)) (now (messages .entry)) head n (now (messages .exit)) ⌝ }
+    ensures { λ _. ⌜ RootsReported (now (work .entry)) (now (messages .entry)) head n (now (work .exit)) (now (messages .exit)) ⌝ }
 {
     let roots = children::count_chain(work, head);
     let tail = children::last_of_chain(work, head);

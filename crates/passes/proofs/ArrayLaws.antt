@@ -6,10 +6,10 @@ use Rattle.molang.specs.Operator.{array}
 use Rattle.molang.specs.Forest.{Token, Forest, nil, node, renamed}
 use Rattle.molang.specs.Message.{Message, emptyArrayIndex, Result, ok, fail}
 use Rattle.molang.specs.Level.{on, into, stop, walk}
-use Rattle.molang.specs.Calls.{Indexing, unindexed, named, indexed, flushed, isIndex, startsWithIndex, emptyIndex, nextIndex, index, arrayStep, arrayFinish, arrayLevel}
-use Rattle.molang.proofs.Trees.{isNil}
-use Rattle.molang.proofs.Arrays.{isArrayName}
-use Rattle.molang.proofs.Work.{arrays, work, inReading, takes, andThen}
+use Rattle.molang.specs.Calls.{Indexing, unindexed, named, indexed, flushed, isIndex, startsWithIndex, emptyIndex, nextIndex, index}
+use Rattle.molang.specs.Calls.{arrayStep, arrayFinish, arrayLevel}
+use Rattle.molang.specs.Free.{isNil, isArrayName}
+use Rattle.molang.specs.Work.{arrays, work, inReading, takes, andThen}
 use Rattle.molang.proofs.Walks.{onward, back, walk-onward}
 
 -- ---- one step of the walk
@@ -49,11 +49,13 @@ flush-step s k (node c cs r) e = rw (e, arrayStep) refl
 pub flush : (s : Indexing) (rest : Forest) → startsWithIndex rest ≡ false → work arrays s rest ≡ work arrays (unindexed (flushed s)) rest
 unfolding startsWithIndex work walk arrayLevel arrayFinish flushed
 flush s nil e = refl
-flush s (node k cs rest) e = walk-step s k cs rest ∙ ap (onward arrayLevel k cs rest) (flush-step s k cs e) ∙ sym (walk-step (unindexed (flushed s)) k cs rest)
+flush s (node k cs rest) e =
+    walk-step s k cs rest ∙ ap (onward arrayLevel k cs rest) (flush-step s k cs e) ∙ sym (walk-step (unindexed (flushed s)) k cs rest)
 
 -- ---- a name, and an array's next index
 
-name-leaf : (i : Bool) (d : Forest) (k : Token) → isIndex k ≡ i → isArrayName (k .op) ≡ true → isIndex k ≡ false → arrayStep (unindexed d) k nil ≡ on (named d k)
+name-leaf : (i : Bool) (d : Forest) (k : Token) → isIndex k ≡ i → isArrayName (k .op) ≡ true → isIndex k ≡ false
+    → arrayStep (unindexed d) k nil ≡ on (named d k)
 unfolding arrayStep flushed isArrayName
 name-leaf i d k e h n = rw (n, arrayStep) (rw h refl)
 
@@ -91,11 +93,14 @@ module _ (d : Forest) (q k : Token) (e : isIndex k ≡ true) where
   indexed-lends l contents (node c cs r) n h i = rw (e, arrayStep) (rw (h, nextIndex) (rw (i, nextIndex) refl))
 
 -- a name that is lent to a list that begins with its index is an array there already
-pub lent-indexed : (d : Forest) (l : Token) (f : Forest) → startsWithIndex f ≡ true → work arrays (named d l) f ≡ work arrays (indexed d (renamed array l) nil) f
+pub lent-indexed : (d : Forest) (l : Token) (f : Forest) → startsWithIndex f ≡ true
+    → work arrays (named d l) f ≡ work arrays (indexed d (renamed array l) nil) f
 unfolding startsWithIndex nextIndex isNil
 lent-indexed d l nil e = absurd (true≢false (sym e))
 lent-indexed d l (node k nil rest) e =
-    array-stop (named d l) k nil rest _ (named-empty d l k e) ∙ sym (array-stop (indexed d (renamed array l) nil) k nil rest _ (indexed-empty d (renamed array l) k e nil))
+    array-stop (named d l) k nil rest _ (named-empty d l k e)
+    ∙ sym (array-stop (indexed d (renamed array l) nil) k nil rest _ (indexed-empty d (renamed array l) k e nil))
 lent-indexed d l (node k (node c cs r) rest) e =
     array-in (named d l) k (node c cs r) rest _ _ (named-in d l k e (node c cs r) refl)
-    ∙ sym (array-in (indexed d (renamed array l) nil) k (node c cs r) rest _ _ (indexed-in d (renamed array l) k e nil (node c cs r) refl refl))
+    ∙ sym
+    (array-in (indexed d (renamed array l) nil) k (node c cs r) rest _ _ (indexed-in d (renamed array l) k e nil (node c cs r) refl refl))

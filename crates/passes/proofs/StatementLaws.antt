@@ -1,5 +1,6 @@
--- The statement pass as laws: which semicolons a list has, what the trees between them change, and what a finished statement's words say of trees.
-use Prim.Native.Nat.{ℕ, _+_, _*_, _^_, _≤_, _<_}
+-- The statement pass as laws: which semicolons a list has, what the trees between them change, and what a finished statement's words say of
+-- trees.
+use Prim.Native.Nat.{ℕ, _+_, _≤_, _<_}
 use mathlib.Core.Path.{_≡_, refl, sym, ap, _∙_, subst}
 use mathlib.Core.Logic.{inl, inr, ⊎-elim}
 use mathlib.Core.Bool.{Bool, true, false, not, true≢false}
@@ -16,36 +17,41 @@ use Rattle.molang.specs.Message.{Message, Result, ok, fail}
 use Rattle.molang.specs.Level.{on, into, stop, walk, through}
 use Rattle.molang.specs.Conditional.{isToken}
 use Rattle.molang.specs.Order.{lastOf}
-use Rattle.molang.specs.Statements.{Split, unsplit, after, inside, splitOf, isEntered, gather, endStatement, enterSplit, statementStep, statementResume, statementLevel}
-use Rattle.molang.proofs.Trees.{free, clear, isNil, some-none, free-leaf, free-tree}
-use Rattle.molang.proofs.Statements.{isSemicolon, split-clear, statement-free}
-use Rattle.molang.proofs.Work.{Kind, statements, State, work, begins, inReading, takes, andThen}
+use Rattle.molang.specs.Statements.{Split, unsplit, after, inside, splitOf, isEntered, gather, endStatement, enterSplit, statementStep}
+use Rattle.molang.specs.Statements.{statementResume, statementLevel}
+use Rattle.molang.specs.Free.{free, clear, isNil, isSemicolon}
+use Rattle.molang.specs.Work.{Kind, statements, State, work, begins, inReading, takes, andThen}
+use Rattle.molang.proofs.Trees.{some-none, free-leaf, free-tree}
+use Rattle.molang.proofs.Statements.{split-clear, statement-free}
 use Rattle.molang.proofs.Walks.{onward, back, walk-onward}
-use Rattle.nodes.specs.Store.{wd, InArray, begins as begins-with, Seg, Inc}
+use Rattle.nodes.specs.Store.{wd, slotStart, slotEnd, InArray, begins as begins-with, Seg, Inc}
 use Rattle.nodes.specs.Slots.{isTokenAt, Laid}
+use Rattle.words.specs.declared.tokens.TokenWords.{TokenWords}
 use Rattle.nodes.specs.declared.frames.List.{List as Items}
-use Rattle.nodes.proofs.Runs.{inc-le, seg-keep, set-same, set-other, set-long}
-use Rattle.nodes.proofs.Store.{tree-below, back-le, back-raise}
+use Rattle.nodes.proofs.Runs.{inc-le, seg-keep}
+use Rattle.nodes.proofs.Store.{tree-below, back-le}
 use Rattle.nodes.proofs.Trees.{token-test}
-use Rattle.walks.specs.Passes.{walkOf, movedTo, classesOf, operators, Exact, Runs, plain, split, waits}
-use Rattle.walks.specs.Items.{BackArray, Ahead, CanSeek, Passed, here, over, SoughtTo, none as found-none, leaf, tree, Sought}
-use Rattle.walks.specs.Sides.{StatementSide, whole, closed, EndedAt, nothing, DoneSide, UnreadSide, Holds}
+use Rattle.levels.specs.Passes.{walkOf, movedTo, classesOf, operators, Covers, Runs, unsplitPass, split, waits}
+use Rattle.levels.specs.Items.{BackArray, Ahead, Passed, here, over, tree, Sought}
+use Rattle.levels.specs.Sides.{StatementSide, whole, closed, EndedAt, nothing, Holds}
 use Rattle.nodes.specs.Children.{CanGive}
-use Rattle.walks.specs.Turns.{SameList, Within, CanTurn, TurnTo, goes, enters, ends, Turned, afresh, CanStart, Started}
-use Rattle.walks.specs.declared.items.Found.{Found}
-use Rattle.walks.specs.declared.items.Found.the-variants.{Nothing, Children, Token as Leaf}
-use Rattle.walks.specs.declared.turns.Pass.{Pass}
-use Rattle.walks.specs.declared.turns.Pass.the-variants.{Plain, Split as SplitAt}
-use Rattle.walks.specs.declared.turns.Turn.the-variants.{On, Enter, Over}
+use Rattle.levels.specs.Turns.{SameList, Within, goes, CanStart, Started}
+use Rattle.levels.specs.declared.items.Found.{Found}
+use Rattle.levels.specs.declared.turns.Pass.{Pass}
+use Rattle.levels.specs.declared.turns.Pass.the-variants.{Unsplit, Split as SplitAt}
+use Rattle.levels.specs.declared.turns.Turn.{Turn}
+use Rattle.levels.specs.declared.turns.Turn.the-variants.{On}
 use Rattle.passes.specs.Statements.{HasSemicolon}
-use Rattle.walks.proofs.PassClasses.{runs-exact}
-use Rattle.walks.proofs.Reading.{AheadTo, item, ahead-item, ahead-end, ahead-le, ahead-keep, array-put}
+use Rattle.levels.proofs.PassClasses.{runs-covers}
+use Rattle.levels.proofs.Reading.{AheadTo, item, ahead-item, ahead-end, ahead-le}
+use Rattle.passes.specs.TokenTurns.{unasked, TokenTurned, Saying}
+use Rattle.passes.proofs.GatherLaws.{LeftLevel, item-holds, kept-within, Stands, stands, Standing}
 
 -- ---- which semicolons a list has
 
-pub semicolon-class : Exact 0x2 isSemicolon
+pub semicolon-class : Covers 0x2 isSemicolon
 unfolding operators
-semicolon-class = runs-exact statements Plain plain
+semicolon-class = runs-covers statements Unsplit unsplitPass
 
 -- What holds at the test of the loop of `has_semicolon`, whatever forest the list is.
 pub record LookAt (W : List ℕ) (v : Items) (g : CanStart W v) (i : ℕ) : Type 0 where
@@ -62,15 +68,26 @@ module _ {W : List ℕ} {v : Items} where
   pub look-start : Looking W v 0
   look-start =
       record {
-        at = λ g. record { rest = g .f; m = g .lo; ahead = record { n = v .len; count = omega arith; array = subst (λ (x : ℕ). InArray W (g .X) x (v .len) (g .lo) (g .hi) (g .f)) (omega arith) (g .array) }; same = refl };
+        at = λ g. record {
+          rest = g .f;
+          m = g .lo;
+          ahead =
+              record {
+                n = v .len;
+                count = omega arith;
+                array = subst (λ (x : ℕ). InArray W (g .X) x (v .len) (g .lo) (g .hi) (g .f)) (omega arith) (g .array);
+              };
+          same = refl;
+        };
         within = omega arith;
       }
 
   -- the item that a turn reads: its slot is below the stack
-  pub look-slot : {i : ℕ} (g : CanStart W v) → Looking W v i → i < v .len → 8 * wd W (v .base + i) + 8 ≤ v .base
+  pub look-slot : {i : ℕ} (g : CanStart W v) → Looking W v i → i < v .len → slotEnd (wd W (v .base + i)) ≤ v .base
   look-slot {i} g l h = go (ahead-item (wd W (v .base + i)) refl h (l .at g .ahead))
     where
-      go : {f : Forest} → AheadTo W (g .X) (v .base) i (v .len) (l .at g .m) (g .hi) (wd W (v .base + i)) f → 8 * wd W (v .base + i) + 8 ≤ v .base
+      go : {f : Forest} → AheadTo W (g .X) (v .base) i (v .len) (l .at g .m) (g .hi) (wd W (v .base + i)) f
+          → slotEnd (wd W (v .base + i)) ≤ v .base
       go (item low t r) = omega (arith, tree-below t, ahead-le r .0, g .below)
 
 leaf-token : (k : Token) (cs rest : Forest) → isToken semicolon k cs ≡ true → clear isSemicolon (node k cs rest) ≡ false
@@ -101,7 +118,10 @@ module _ {W : List ℕ} {v : Items} {i : ℕ} (l : Looking W v i) (h : i < v .le
 
 pub look-done : {W : List ℕ} {v : Items} {i : ℕ} → Looking W v i → v .len ≤ i → HasSemicolon W v false
 unfolding clear
-look-done l h = record { answer = λ g. let e = l .at g .same ∙ ap (clear isSemicolon) (ahead-end (l .at g .rest) h (l .at g .ahead)) in rw e refl }
+look-done l h =
+    record {
+      answer = λ g. let e = l .at g .same ∙ ap (clear isSemicolon) (ahead-end (l .at g .rest) h (l .at g .ahead)) in rw e refl;
+    }
 
 -- ---- the list's first semicolon
 
@@ -162,9 +182,11 @@ module _ (s : Split) (k : Token) (cs rest : Forest) where
   unfolding onward begins inReading statementLevel work
   walk-in e = walk-step ∙ ap (onward statementLevel k cs rest) e ∙ back-then (walk statementLevel (splitOf cs) cs)
 
-  walk-skip : statementStep s k cs ≡ into s (splitOf cs) → free isSemicolon cs ≡ true → work statements s (node k cs rest) ≡ work statements (gather k cs s) rest
+  walk-skip : statementStep s k cs ≡ into s (splitOf cs) → free isSemicolon cs ≡ true
+      → work statements s (node k cs rest) ≡ work statements (gather k cs s) rest
   unfolding begins inReading statementLevel work through andThen takes statementResume
-  walk-skip e h = walk-in e ∙ ap (λ (x : Result). andThen x (λ kids. work statements (takes statements s k kids) rest)) (statement-free cs h)
+  walk-skip e h =
+      walk-in e ∙ ap (λ (x : Result). andThen x (λ kids. work statements (takes statements s k kids) rest)) (statement-free cs h)
 
 -- ---- trees without a semicolon
 
@@ -177,12 +199,15 @@ enter-skip s k cs rest e h = go (isEntered (k .op)) refl
     go false i = walk-on s k cs rest (gather k cs s) (e ∙ enter-over s k cs i)
 
 -- a tree without a semicolon is gathered, whatever the state
-pub walk-gather : (s : Split) (k : Token) (cs rest : Forest) → free isSemicolon (node k cs nil) ≡ true → work statements s (node k cs rest) ≡ work statements (gather k cs s) rest
+pub walk-gather : (s : Split) (k : Token) (cs rest : Forest) → free isSemicolon (node k cs nil) ≡ true
+    → work statements s (node k cs rest) ≡ work statements (gather k cs s) rest
 unfolding statementStep
 walk-gather s k nil rest h = walk-on s k nil rest (gather k nil s) (step-leaf s k (free-leaf isSemicolon k nil h .0))
 walk-gather (unsplit d) k (node c cs r) rest h = walk-skip (unsplit d) k (node c cs r) rest refl (free-tree isSemicolon k c cs r nil h .0)
-walk-gather (after q done) k (node c cs r) rest h = enter-skip (after q done) k (node c cs r) rest refl (free-tree isSemicolon k c cs r nil h .0)
-walk-gather (inside q done s d) k (node c cs r) rest h = enter-skip (inside q done s d) k (node c cs r) rest refl (free-tree isSemicolon k c cs r nil h .0)
+walk-gather (after q done) k (node c cs r) rest h =
+    enter-skip (after q done) k (node c cs r) rest refl (free-tree isSemicolon k c cs r nil h .0)
+walk-gather (inside q done s d) k (node c cs r) rest h =
+    enter-skip (inside q done s d) k (node c cs r) rest refl (free-tree isSemicolon k c cs r nil h .0)
 
 -- ---- a split list as its finished statements and the trees after them
 
@@ -206,7 +231,8 @@ last-earliest k nil = refl
 last-earliest k (node t ts d) = last-earliest t d
 
 -- the state of the definition, where a statement is open
-pub open-inside : (q : Token) (done : Forest) (s : Token) (d : Forest) (first : Token) → lastOf none d ≡ some first → s ≡ bare semicolon first → inside q done s d ≡ openOn q done d
+pub open-inside : (q : Token) (done : Forest) (s : Token) (d : Forest) (first : Token) → lastOf none d ≡ some first
+    → s ≡ bare semicolon first → inside q done s d ≡ openOn q done d
 unfolding openOn lastOf
 open-inside q done s nil first e n = some-none (sym e)
 open-inside q done s (node k cs d) first e n =
@@ -215,17 +241,20 @@ open-inside q done s (node k cs d) first e n =
 
 -- ---- what passing over trees leaves
 
-pub passed-counts : {P : ℕ → Bool} {d rest d' rest' : Forest} → Passed P d rest d' rest' → (count rest' ≤ count rest) × (size rest' + count rest ≤ size rest + count rest') × (size rest' ≤ size rest)
+pub passed-counts : {P : ℕ → Bool} {d rest d' rest' : Forest} → Passed P d rest d' rest'
+    → (count rest' ≤ count rest) × (size rest' + count rest ≤ size rest + count rest') × (size rest' ≤ size rest)
 unfolding count size
 passed-counts here = (omega arith, omega arith, omega arith)
 passed-counts (over f p) = let e = passed-counts p in (omega (arith, e .0), omega (arith, e .1), omega (arith, e .2))
 
-pub passed-unsplit : {d rest d' rest' : Forest} → Passed isSemicolon d rest d' rest' → work statements (unsplit d) rest ≡ work statements (unsplit d') rest'
+pub passed-unsplit : {d rest d' rest' : Forest} → Passed isSemicolon d rest d' rest'
+    → work statements (unsplit d) rest ≡ work statements (unsplit d') rest'
 unfolding gather
 passed-unsplit here = refl
 passed-unsplit {d = d} (over {rest = r} {cs = cs} {k = k} f p) = walk-gather (unsplit d) k cs r f ∙ passed-unsplit p
 
-pub passed-open : {d rest d' rest' : Forest} (q : Token) (done : Forest) → Passed isSemicolon d rest d' rest' → work statements (openOn q done d) rest ≡ work statements (openOn q done d') rest'
+pub passed-open : {d rest d' rest' : Forest} (q : Token) (done : Forest) → Passed isSemicolon d rest d' rest'
+    → work statements (openOn q done d) rest ≡ work statements (openOn q done d') rest'
 passed-open q done here = refl
 passed-open {d = d} q done (over {rest = r} {cs = cs} {k = k} f p) =
     walk-gather (openOn q done d) k cs r f ∙ ap (λ (s : Split). work statements s r) (gather-open q done d k cs) ∙ passed-open q done p
@@ -237,10 +266,28 @@ passed-split (over {rest = r} {cs = cs} {k = k} f p) = split-past k cs r f ∙ p
 
 -- ---- a list begins
 
-plain-holds : {W X : List ℕ} {lo hi m m' : ℕ} {l : Items} {d rest : Forest} → BackArray W X (l .base) (l .write) lo m d → Ahead W X (l .base) (l .read) (l .len) m' hi rest → m ≤ m'
-    → l .write ≤ l .read → 8 * hi ≤ l .base → l .base + l .len ≤ length W → Holds statements W X lo hi (walkOf l Plain) (unsplit d) rest
+plain-holds : {W X : List ℕ} {lo hi m m' : ℕ} {l : Items} {d rest : Forest} → BackArray W X (l .base) (l .write) lo m d
+    → Ahead W X (l .base) (l .read) (l .len) m' hi rest → m ≤ m'
+    → l .write ≤ l .read → slotStart hi ≤ l .base → l .base + l .len ≤ length W
+    → Holds statements W X lo hi (walkOf l Unsplit) (unsplit d) rest
 plain-holds {m = m} {m' = m'} b u e t below within =
-    record { l = m; m = m'; sides = record { runs = plain; done = whole b; unread = u; agrees = tt; low = back-le (b .rep); mid = e; high = ahead-le u .0; below = below; within = within }; turning = t }
+    record {
+      l = m;
+      m = m';
+      sides =
+          record {
+            runs = unsplitPass;
+            done = whole b;
+            unread = u;
+            agrees = tt;
+            low = back-le (b .rep);
+            mid = e;
+            high = ahead-le u .0;
+            below = below;
+            within = within;
+          };
+      turning = t;
+    }
 
 module _ {W : List ℕ} {v : Items} where
   start-ahead : (g : CanStart W v) → Ahead W (g .X) (v .base) (v .read) (v .len) (g .lo) (g .hi) (g .f)
@@ -254,7 +301,8 @@ module _ {W : List ℕ} {v : Items} where
   start-none : (g : CanStart W v) → BackArray W (g .X) (v .base) (v .write) (g .lo) (g .lo) nil
   start-none g = record { ds = []; seg = tt; count = g .unwritten; rep = begins-with (le-refl (g .lo)) }
 
-  start-split : (g : CanStart W v) (q : Token) → splitOf (g .f) ≡ after q nil → Holds statements W (g .X) (g .lo) (g .hi) (walkOf v (SplitAt 0)) (after q nil) (g .f)
+  start-split : (g : CanStart W v) (q : Token) → splitOf (g .f) ≡ after q nil
+      → Holds statements W (g .X) (g .lo) (g .hi) (walkOf v (SplitAt 0)) (after q nil) (g .f)
   unfolding isNil
   start-split g q e =
       let lo = g .lo in
@@ -266,7 +314,18 @@ module _ {W : List ℕ} {v : Items} where
       record {
         l = lo;
         m = lo;
-        sides = record { runs = split; done = side; unread = ahead; agrees = e; low = le-refl lo; mid = le-refl lo; high = ahead-le ahead .0; below = g .below; within = g .within };
+        sides =
+            record {
+              runs = split;
+              done = side;
+              unread = ahead;
+              agrees = e;
+              low = le-refl lo;
+              mid = le-refl lo;
+              high = ahead-le ahead .0;
+              below = g .below;
+              within = g .within;
+            };
         turning = omega (arith, g .unwritten);
       }
 
@@ -277,21 +336,22 @@ module _ {W : List ℕ} {v : Items} where
         list = refl;
         holds = λ g.
             let e = split-some (g .f) (not-true (clear isSemicolon (g .f)) (sym (h .answer g))) in
-            subst (λ (s : Split). Holds statements W (g .X) (g .lo) (g .hi) (walkOf v (SplitAt 0)) s (g .f)) (sym (e .1)) (start-split g (e .0) (e .1));
+            subst (λ (s : Split). Holds statements W (g .X) (g .lo) (g .hi) (walkOf v (SplitAt 0)) s (g .f)) (sym (e .1))
+            (start-split g (e .0) (e .1));
       }
 
-  pub started-plain : HasSemicolon W v false → Started W v (walkOf v Plain)
+  pub started-unsplit : HasSemicolon W v false → Started W v (walkOf v Unsplit)
   unfolding begins statementLevel
-  started-plain h =
+  started-unsplit h =
       record {
         list = refl;
         holds = λ g.
             let e = split-clear (g .f) (not-false (clear isSemicolon (g .f)) (sym (h .answer g))) in
-            subst (λ (s : Split). Holds statements W (g .X) (g .lo) (g .hi) (walkOf v Plain) s (g .f)) (sym e)
+            subst (λ (s : Split). Holds statements W (g .X) (g .lo) (g .hi) (walkOf v Unsplit) s (g .f)) (sym e)
             (plain-holds (start-none g) (start-ahead g) (le-refl (g .lo)) (omega (arith, g .unwritten)) (g .below) (g .within));
       }
 
--- ---- a list without semicolons, at a turn
+-- ---- one list, further on
 
 -- The same items of a list read and written further.
 pub record Moved (l l' : Items) : Type 0 where
@@ -302,47 +362,14 @@ pub record Moved (l l' : Items) : Type 0 where
 pub moved-same : {l l' : Items} → l' ≡ movedTo l (l' .read) (l' .write) → Moved l l'
 moved-same e = record { owner = ap (λ (x : Items). x .owner) e; base = ap (λ (x : Items). x .base) e; len = ap (λ (x : Items). x .len) e }
 
-back-at : {W X : List ℕ} {at n at' n' lo m : ℕ} {d : Forest} → at ≡ at' → n ≡ n' → BackArray W X at n lo m d → BackArray W X at' n' lo m d
-back-at {W} {X} {at} {n} {at'} {n'} {lo} {m} {d} e h v = subst (λ (x : ℕ). BackArray W X at' x lo m d) h (subst (λ (x : ℕ). BackArray W X x n lo m d) e v)
+pub same-list : {l l' : Items} (p p' : Pass) → classesOf p' ≡ classesOf p → Moved l l' → SameList (walkOf l p) (walkOf l' p')
+same-list p p' e m = record { owner = m .owner; base = m .base; len = m .len; classes = e }
 
-pub data PlainView (W X : List ℕ) (lo hi : ℕ) (l : Items) : (κ : Kind) → State κ → Forest → Type 0 where
-  plainly : {d rest : Forest} {m m' : ℕ} → BackArray W X (l .base) (l .write) lo m d → Ahead W X (l .base) (l .read) (l .len) m' hi rest → m ≤ m'
-      → l .write ≤ l .read → 8 * hi ≤ l .base → l .base + l .len ≤ length W → PlainView W X lo hi l statements (unsplit d) rest
+-- what reading on changes
+pub sought-within : {W W' X : List ℕ} {lo hi c : ℕ} {l : Items} {r : Found} → Sought W l c r W' → Within W W' X lo hi l
+sought-within q = record { kept = λ j f o. q .same j (⊎-elim (λ x. inl (omega arith)) (λ x. inr x) o); long = q .long }
 
-pub plain-view : {W X : List ℕ} {lo hi : ℕ} {l : Items} {κ : Kind} {s : State κ} {rest : Forest} → Holds κ W X lo hi (walkOf l Plain) s rest → PlainView W X lo hi l κ s rest
-plain-view {W} {X} {lo} {hi} {l} h = go (h .sides .runs) (h .sides .done) (h .sides .unread) (h .sides .mid) (h .turning) (h .sides .below) (h .sides .within)
-  where
-    go : {κ : Kind} {s : State κ} {rest : Forest} {m m' : ℕ} → Runs κ Plain → DoneSide κ W X lo m m' hi (walkOf l Plain) s → UnreadSide κ W X lo m m' hi l rest → m ≤ m'
-        → l .write ≤ l .read → 8 * hi ≤ l .base → l .base + l .len ≤ length W → PlainView W X lo hi l κ s rest
-    go plain (whole b) u e t below within = plainly b u e t below within
-
-module _ {W X : List ℕ} {lo hi : ℕ} {l : Items} where
-  abbrev seek-plain : {d rest : Forest} {m m' : ℕ} → BackArray W X (l .base) (l .write) lo m d → Ahead W X (l .base) (l .read) (l .len) m' hi rest → m ≤ m'
-      → l .write ≤ l .read → 8 * hi ≤ l .base → l .base + l .len ≤ length W → length W < 2 ^ 32 → CanSeek W l
-  seek-plain {d} {rest} {m} {m'} b u e t below within small =
-      record {
-        X = X;
-        lo = lo;
-        m = m';
-        hi = hi;
-        at = l .base;
-        n = l .write;
-        d = d;
-        rest = rest;
-        done = record { ds = b .ds; seg = b .seg; count = b .count; rep = back-raise e (b .rep) };
-        reached = refl;
-        started = le-refl (l .base);
-        ahead = u;
-        behind = t;
-        below = below;
-        within = within;
-        small = small;
-      }
-
-  pub plain-seek : {κ : Kind} {s : State κ} {rest : Forest} → length W < 2 ^ 32 → PlainView W X lo hi l κ s rest → CanSeek W l
-  plain-seek small (plainly b u e t below within) = seek-plain b u e t below within small
-
--- ---- a turn on a list without semicolons
+-- ---- the level of a list without semicolons
 
 unsplit-in : (d : Forest) (k : Token) (cs : Forest) → isNil cs ≡ false → statementStep (unsplit d) k cs ≡ into (unsplit d) (splitOf cs)
 unfolding statementStep isNil
@@ -353,114 +380,60 @@ unsplit-end : (d : Forest) (k : Token) → isSemicolon (k .op) ≡ true → stat
 unfolding endStatement
 unsplit-end d k e = step-end (unsplit d) k e
 
-pub same-list : {l l' : Items} (p p' : Pass) → classesOf p' ≡ classesOf p → Moved l l' → SameList (walkOf l p) (walkOf l' p')
-same-list p p' e m = record { owner = m .owner; base = m .base; len = m .len; classes = e }
+unsplit-level : LeftLevel statements Unsplit isSemicolon unsplit unasked
+unfolding waits
+unsplit-level =
+    record {
+      covers = semicolon-class;
+      sides = λ fine done ahead low mid high below within.
+          record {
+            runs = unsplitPass;
+            done = whole done;
+            unread = ahead;
+            agrees = tt;
+            low = low;
+            mid = mid;
+            high = high;
+            below = below;
+            within = within;
+          };
+      turning = λ v h. h;
+      framed = λ v h. h;
+      calm = λ d. refl;
+      unlent = refl;
+      fresh = λ cs. refl;
+      passes = passed-unsplit;
+      keeps = λ p h. refl;
+      node = λ d k cs rest full. walk-in (unsplit d) k cs rest (unsplit-in d k cs full);
+    }
 
--- what reading on changes
-pub sought-within : {W W' X : List ℕ} {lo hi c : ℕ} {l : Items} {r : Found} → Sought W l c r W' → Within W W' X lo hi l
-sought-within q = record { kept = λ j f o. q .same j (⊎-elim (λ x. inl (omega arith)) (λ x. inr x) o); long = q .long }
+pub unsplit-stands : {T : Saying} (W : List ℕ) (v : Items) → T statements unsplit isSemicolon unasked → Standing T W v Unsplit
+unsplit-stands {T} W v t g = go (g .holds .sides .runs) (g .holds)
+  where
+    side : {X : List ℕ} {lo l m hi : ℕ} {s : Split} {rest : Forest} → StatementSide W X (v .base) (v .write) lo l Unsplit s
+        → Ahead W X (v .base) (v .read) (v .len) m hi rest
+        → l ≤ m → v .write ≤ v .read → slotStart hi ≤ v .base → v .base + v .len ≤ length W → Stands T W v Unsplit statements X lo hi s rest
+    side (whole done) ahead mid behind below within = stands unsplit-level t refl done ahead mid behind below within (g .small)
 
-module _ {W W' X : List ℕ} {lo hi : ℕ} {l l' : Items} (small : length W < 2 ^ 32) where
-  plain-over : {κ : Kind} {s : State κ} {rest : Forest} → Sought W l 0x2 (Nothing l') W' → PlainView W X lo hi l κ s rest
-      → TurnTo κ W' X lo hi (walkOf l Plain) s rest (Over (walkOf l' Plain))
-  unfolding waits
-  plain-over q (plainly {d = d} {rest = rest} b u e t below within) = go (q .to (seek-plain b u e t below within small) isSemicolon semicolon-class)
-    where
-      go : SoughtTo W' X l (l .base) lo hi isSemicolon d rest (Nothing l') → TurnTo statements W' X lo hi (walkOf l Plain) (unsplit d) rest (Over (walkOf l' Plain))
-      go (found-none moved behind passed seen) =
-          let m : Moved l l' = moved-same moved in
-          let mb = m .base in let ml = m .len in let long = q .long in
-          ends (same-list Plain Plain refl m)
-          (plain-holds (back-at (sym mb) (omega (arith, seen .reached)) (seen .done)) (seen .ahead) (le-refl hi) behind (omega arith) (omega arith))
-          refl (passed-unsplit passed)
+    go : {κ : Kind} {X : List ℕ} {lo hi : ℕ} {s : State κ} {rest : Forest} → Runs κ Unsplit → Holds κ W X lo hi (walkOf v Unsplit) s rest
+        → Stands T W v Unsplit κ X lo hi s rest
+    go unsplitPass h = side (h .sides .done) (h .sides .unread) (h .sides .mid) (h .turning) (h .sides .below) (h .sides .within)
 
-  plain-enter : {κ : Kind} {s : State κ} {rest : Forest} {b : ℕ} → Sought W l 0x2 (Children l' b) W' → PlainView W X lo hi l κ s rest
-      → TurnTo κ W' X lo hi (walkOf l Plain) s rest (Enter (walkOf l' Plain) b)
-  unfolding waits count size
-  plain-enter {b = b} q (plainly {d = d} {rest = rest} v u e t below within) = go (q .to (seek-plain v u e t below within small) isSemicolon semicolon-class)
-    where
-      go : SoughtTo W' X l (l .base) lo hi isSemicolon d rest (Children l' b) → TurnTo statements W' X lo hi (walkOf l Plain) (unsplit d) rest (Enter (walkOf l' Plain) b)
-      go (tree {d' = d'} {rest' = rest'} {cs = cs} {a = a} {m = hm} {k = k} moved before passed full unfree t seen) =
-          let m : Moved l l' = moved-same moved in
-          let mb = m .base in let ml = m .len in let long = q .long in
-          let c = passed-counts passed in
-          enters {t = unsplit d'} {u = begins statements cs} (same-list Plain Plain refl m)
-          (record {
-            sides =
-                record {
-                  runs = plain;
-                  done = whole (back-at (sym mb) (omega (arith, seen .reached)) (seen .done));
-                  unread = seen .ahead;
-                  agrees = tt;
-                  low = back-le (seen .done .rep);
-                  mid = omega (arith, t .low, tree-below t);
-                  high = ahead-le (seen .ahead) .0;
-                  below = omega arith;
-                  within = omega arith;
-                };
-            framed = before;
-          })
-          t full (afresh refl (le-refl a)) (passed-unsplit passed ∙ walk-in (unsplit d') k cs rest' (unsplit-in d' k cs full))
-          (omega (arith, c .0)) (omega (arith, c .1)) (omega (arith, c .2)) (omega arith)
-
-  plain-on : {κ : Kind} {s : State κ} {rest : Forest} {b : ℕ} (W'' : List ℕ) → Sought W l 0x2 (Leaf l' b) W' → W'' ≡ set W' (l' .base + l' .write) b → PlainView W X lo hi l κ s rest
-      → TurnTo κ W'' X lo hi (walkOf l Plain) s rest (On (walkOf (movedTo l' (l' .read) (l' .write + 1)) Plain))
-  unfolding waits count size
-  plain-on {b = b} W'' q w (plainly {d = d} {rest = rest} v u e t below within) = go (q .to (seek-plain v u e t below within small) isSemicolon semicolon-class)
-    where
-      go : SoughtTo W' X l (l .base) lo hi isSemicolon d rest (Leaf l' b)
-          → TurnTo statements W'' X lo hi (walkOf l Plain) (unsplit d) rest (On (walkOf (movedTo l' (l' .read) (l' .write + 1)) Plain))
-      go (leaf {d' = d'} {rest' = rest'} {a = a} {m = hm} {k = k} moved before passed is t seen) =
-          let m : Moved l l' = moved-same moved in
-          let mb = m .base in let ml = m .len in let long = q .long in
-          let c = passed-counts passed in
-          let al = ahead-le (seen .ahead) in
-          let other = set-other W' W'' (l' .base + l' .write) b w in
-          let keep : BackArray W'' X (l .base) (seen .n + 1) lo hm (node k nil d')
-          = array-put W' W'' (seen .done) t (le-refl a) (le-refl hm) (λ s o x y z p. other (8 * s + o) (omega arith)) (λ j x y. other j (omega (arith, seen .reached)))
-          (ap (wd W'') (seen .reached) ∙ set-same W' W'' (l' .base + l' .write) b w (omega arith)) in
-          goes {w' = walkOf (movedTo l' (l' .read) (l' .write + 1)) Plain} {s' = unsplit (node k nil d')} (same-list Plain Plain refl (record { owner = m .owner; base = mb; len = ml }))
-          (plain-holds {l = movedTo l' (l' .read) (l' .write + 1)} (back-at (sym mb) (omega (arith, seen .reached)) keep)
-          (ahead-keep W' W'' (λ s o x y z p. other (8 * s + o) (omega arith)) (λ j x y. other j (omega arith)) (seen .ahead))
-          (le-refl hm) (omega arith) (omega arith) (omega (arith, set-long W' W'' (l' .base + l' .write) b w)))
-          (passed-unsplit passed ∙ walk-on (unsplit d') k nil rest' (unsplit (node k nil d')) (unsplit-end d' k is))
-          (omega (arith, c .0)) (omega (arith, c .1)) (omega (arith, c .2))
-
-  plain-place : {κ : Kind} {s : State κ} {rest : Forest} {b : ℕ} → Sought W l 0x2 (Leaf l' b) W' → PlainView W X lo hi l κ s rest
-      → (l .base ≤ l' .base + l' .write) × (l' .base + l' .write < l .base + l .len) × (l .base + l .len ≤ length W')
-  plain-place {b = b} q (plainly {d = d} {rest = rest} v u e t below within) = go (q .to (seek-plain v u e t below within small) isSemicolon semicolon-class)
-    where
-      go : SoughtTo W' X l (l .base) lo hi isSemicolon d rest (Leaf l' b)
-          → (l .base ≤ l' .base + l' .write) × (l' .base + l' .write < l .base + l .len) × (l .base + l .len ≤ length W')
-      go (leaf moved before passed is t seen) =
-          let m : Moved l l' = moved-same moved in
-          let mb = m .base in let ml = m .len in let long = q .long in let al = ahead-le (seen .ahead) in
-          (omega arith, omega arith, omega arith)
-
-module _ {W W' : List ℕ} {l l' : Items} where
-  pub turned-plain-over : Sought W l 0x2 (Nothing l') W' → Turned W (walkOf l Plain) (Over (walkOf l' Plain)) W'
-  turned-plain-over q = record { to = λ g. plain-over (g .small) q (plain-view (g .holds)); within = λ g. sought-within q }
-
-  pub turned-plain-enter : {b : ℕ} → Sought W l 0x2 (Children l' b) W' → Turned W (walkOf l Plain) (Enter (walkOf l' Plain) b) W'
-  turned-plain-enter q = record { to = λ g. plain-enter (g .small) q (plain-view (g .holds)); within = λ g. sought-within q }
-
-  -- an item has room behind the done ones
-  pub plain-room : {b : ℕ} → Sought W l 0x2 (Leaf l' b) W' → CanTurn W (walkOf l Plain) → l' .base + l' .write < length W'
-  plain-room q g = let p = plain-place (g .small) q (plain-view (g .holds)) in omega (arith, p .1, p .2)
-
-  pub turned-plain-on : {b : ℕ} (W'' : List ℕ) → Sought W l 0x2 (Leaf l' b) W' → W'' ≡ set W' (l' .base + l' .write) b
-      → Turned W (walkOf l Plain) (On (walkOf (movedTo l' (l' .read) (l' .write + 1)) Plain)) W''
-  turned-plain-on {b} W'' q w =
-      record {
-        to = λ g. plain-on (g .small) W'' q w (plain-view (g .holds));
-        within = λ g.
-            let p = plain-place (g .small) q (plain-view (g .holds)) in
-            let p0 = p .0 in let p1 = p .1 in
-            record {
-              kept = λ j f o. set-other W' W'' (l' .base + l' .write) b w j (⊎-elim (λ x. omega arith) (λ x. omega arith) o) ∙ q .same j (⊎-elim (λ x. inl (omega arith)) (λ x. inr x) o);
-              long = set-long W' W'' (l' .base + l' .write) b w ∙ q .long;
-            };
-      }
+-- a semicolon would stay as it is
+pub unsplit-kept : {W W' : List ℕ} {v v' : Items} {b : ℕ} {r : Turn} → W' ≡ set W (v .base + v .write) b
+    → v' ≡ movedTo v (v .read) (v .write + 1) → r ≡ On (walkOf v' Unsplit)
+    → TokenTurned statements unsplit isSemicolon unasked W (walkOf v Unsplit) b r W'
+unfolding count size waits
+unsplit-kept {W} {W'} e el er =
+    rw (er, el)
+    (record {
+      to = λ g p fine.
+          goes {s' = unsplit (node (g .k) nil (g .d))} (record { owner = refl; base = refl; len = refl; classes = refl })
+          (item-holds unsplit-level (g .item) e refl)
+          (walk-on (unsplit (g .d)) (g .k) nil (g .rest) (unsplit (node (g .k) nil (g .d))) (unsplit-end (g .d) (g .k) p)) (omega arith)
+          (omega arith) (omega arith);
+      within = λ g. kept-within W W' (g .item) e;
+    })
 
 -- ---- a statement's words
 
@@ -474,7 +447,7 @@ module _ {W : List ℕ} {p from n : ℕ} where
       go (c ∷ cs) s e i = omega (arith, s .0, inc-le cs (i .1))
 
   -- a new node's slot is none of the stack's words
-  pub give-made : {W' : List ℕ} {a b c d e k : ℕ} → Laid W p a b c d e k W' → CanGive W p from n → CanGive W' p from n
+  pub give-made : {W' : List ℕ} {t : TokenWords} {k : ℕ} → Laid W p t k W' → CanGive W p from n → CanGive W' p from n
   give-made {W'} w g =
       let own = g .own in let below = g .below in
       record {

@@ -1,5 +1,5 @@
--- The unary pass from the right, as an equation between what is left of it before and after each step of the code: an item without a prefix operator
--- is passed over, a node is entered, and a minus or a not takes the next done tree, by what stands before it.
+-- The unary pass from the right, as an equation between what is left of it before and after each step of the code: an item without a prefix
+-- operator is passed over, a node is entered, and a minus or a not takes the next done tree, by what stands before it.
 use mathlib.Core.Path.{_≡_, refl, sym, ap, _∙_}
 use mathlib.Core.Bool.{Bool, true, false, _||_, true≢false}
 use mathlib.Core.List.{[], _∷_}
@@ -12,49 +12,28 @@ use Rattle.molang.specs.Operator.{operand, operator, minus, unknown, beforeMinu
 use Rattle.molang.specs.Forest.{Token, Forest, nil, node, renamed, bare, count, size}
 use Rattle.molang.specs.Message.{Result, ok, fail, negateWithoutOperand, notWithoutOperand, unknownOperation}
 use Rattle.molang.specs.Unary.{Unary, done, undone, minusAfter, notBefore, unaryLeaf, turned, unaryNode, unary, unaryPass}
-use Rattle.molang.proofs.Trees.{free, isNil, free-leaf, free-tree}
+use Rattle.molang.specs.Order.{apply}
+use Rattle.molang.specs.Free.{free, isNil, isPrefix}
+use Rattle.molang.specs.Work.{right, before, fromRight, work, begins, inReading, takes, passOf, pass, unaryMinusAndNot, andThen}
+use Rattle.molang.proofs.Trees.{free-leaf, free-tree}
 use Rattle.molang.proofs.Booleans.{or-neither}
-use Rattle.molang.proofs.Unary.{isPrefix, unary-free}
-use Rattle.molang.proofs.Work.{right, before, fromRight, leftOf, work, begins, inReading, takes, pass, unaries, andThen, pass-begins}
-use Rattle.walks.specs.Passes as passes
-use Rattle.walks.specs.Passes.{operators, Exact}
-use Rattle.walks.specs.declared.turns.Pass.the-variants.{Unary as UnaryPass}
-use Rattle.walks.proofs.PassClasses.{runs-exact}
-use Rattle.passes.specs.UnaryTurns.{Moved}
+use Rattle.molang.proofs.Unary.{unary-free}
+use Rattle.molang.proofs.Work.{leftOf, pass-begins, at-leaf, at-node}
+use Rattle.levels.specs.Passes as passes
+use Rattle.levels.specs.Passes.{operators, Covers}
+use Rattle.levels.specs.declared.turns.Pass.the-variants.{Unary as UnaryPass}
+use Rattle.levels.proofs.PassClasses.{runs-covers}
+use Rattle.passes.specs.Unary.{Moved}
 
 -- ---- one item
 
--- What is left after a step that gave u.
-after-step : (left : Forest) (u : Unary) → elim u [ undone m ↦ fail m | done p s ↦ fromRight (right p s) left ] ≡ leftOf left u
-unfolding leftOf
-after-step left (undone m) = refl
-after-step left (done p s) = refl
-
-pub at-leaf : (k : Token) (d left : Forest) → fromRight (right false d) (node k nil left) ≡ leftOf left (unaryLeaf (before left) k d)
-unfolding fromRight unary unaryNode turned
-at-leaf k d left = after-step left (unaryLeaf (before left) k d)
-
--- The children come first.
-into : (d left : Forest) (k c : Token) (cs r : Forest) (u : Unary)
-    → elim u [
-      | undone m ↦ fail m
-      | done inner kids ↦ fromRight (right false (node k kids d)) left
-    ] ≡ andThen (elim u [ undone m ↦ fail m | done p s ↦ ok s ]) (λ kids. fromRight (right false (node k kids d)) left)
-unfolding andThen
-into d left k c cs r (undone m) = refl
-into d left k c cs r (done p s) = refl
-
-at-node : (k c : Token) (cs r d left : Forest)
-    → fromRight (right false d) (node k (node c cs r) left) ≡ andThen (unaryPass (node c cs r)) (λ kids. fromRight (right false (node k kids d)) left)
-unfolding fromRight unaryNode turned unaryPass
-at-node k c cs r d left = into d left k c cs r (unary none (node c cs r))
-
 pub at-tree : (k : Token) (cs d left : Forest) → isNil cs ≡ false
-    → work unaries (right false d) (node k cs left) ≡ andThen (work unaries (right false nil) (inReading unaries cs)) (λ kids. work unaries (takes unaries (right false d) k kids) left)
-unfolding isNil work takes turned inReading pass begins
+    → work unaryMinusAndNot (right false d) (node k cs left) ≡ andThen (work unaryMinusAndNot (right false nil) (inReading unaryMinusAndNot cs)) (λ kids. work unaryMinusAndNot (takes unaryMinusAndNot (right false d) k kids) left)
+unfolding isNil work takes turned inReading pass passOf apply begins
 at-tree k nil d left e = absurd (true≢false e)
 at-tree k (node c cs r) d left e =
-    at-node k c cs r d left ∙ ap (λ (u : Result). andThen u (λ kids. fromRight (right false (node k kids d)) left)) (pass-begins unaries (node c cs r))
+    at-node false k c cs r d left
+    ∙ ap (λ (u : Result). andThen u (λ kids. fromRight (right false (node k kids d)) left)) (pass-begins unaryMinusAndNot (node c cs r))
 
 -- An item without a minus or a not stays as it is.
 kept-node : (k c : Token) (cs r d left : Forest) → unary none (node c cs r) ≡ done false (node c cs r)
@@ -62,13 +41,14 @@ kept-node : (k c : Token) (cs r d left : Forest) → unary none (node c cs r) �
 unfolding unaryPass andThen
 kept-node k c cs r d left e = rw (e, unaryPass, andThen) refl
 
-pub passed-over : (k : Token) (cs d left : Forest) → free isPrefix (node k cs nil) ≡ true → fromRight (right false d) (node k cs left) ≡ fromRight (right false (node k cs d)) left
-unfolding leftOf unaryLeaf isPrefix
+pub passed-over : (k : Token) (cs d left : Forest) → free isPrefix (node k cs nil) ≡ true
+    → fromRight (right false d) (node k cs left) ≡ fromRight (right false (node k cs d)) left
+unfolding leftOf unaryLeaf isPrefix turned
 passed-over k nil d left h =
     let o = or-neither (eqb (k .op) Operator.negate) (eqb (k .op) Operator.logicalNot) (free-leaf isPrefix k nil h .0) in
-    at-leaf k d left ∙ rw (o .0, unaryLeaf) (rw (o .1) refl)
+    at-leaf false k d left ∙ rw (o .0, unaryLeaf) (rw (o .1) refl)
 passed-over k (node c cs r) d left h =
-    at-node k c cs r d left ∙ kept-node k c cs r d left (unary-free none (node c cs r) (free-tree isPrefix k c cs r nil h .0))
+    at-node false k c cs r d left ∙ kept-node k c cs r d left (unary-free none (node c cs r) (free-tree isPrefix k c cs r nil h .0))
 
 -- ---- a minus
 
@@ -78,7 +58,8 @@ module _ (k : Token) (e : k .op ≡ Operator.negate) where
   minus-leaf p r = rw (eq-eqb (k .op) Operator.negate e, unaryLeaf) refl
 
   at-minus : (d left : Forest) → fromRight (right false d) (node k nil left) ≡ leftOf left (minusAfter (before left) k d)
-  at-minus d left = at-leaf k d left ∙ ap (leftOf left) (minus-leaf (before left) d)
+  unfolding turned
+  at-minus d left = at-leaf false k d left ∙ ap (leftOf left) (minus-leaf (before left) d)
 
   -- with nothing after it
   pub minus-alone : (left : Forest) → fromRight (right false nil) (node k nil left) ≡ fail (negateWithoutOperand k ∷ [])
@@ -86,7 +67,8 @@ module _ (k : Token) (e : k .op ≡ Operator.negate) where
   minus-alone left = at-minus nil left
 
   -- at the start of the list
-  pub minus-first : (n : Token) (ns r : Forest) → fromRight (right false (node n ns r)) (node k nil nil) ≡ fromRight (right false (node k (node n ns nil) r)) nil
+  pub minus-first : (n : Token) (ns r : Forest)
+      → fromRight (right false (node n ns r)) (node k nil nil) ≡ fromRight (right false (node k (node n ns nil) r)) nil
   unfolding minusAfter leftOf before
   minus-first n ns r = at-minus (node n ns r) nil
 
@@ -128,17 +110,19 @@ prefix-not false b h e = h
 
 module _ (k : Token) (h : isPrefix (k .op) ≡ true) (e : k .op ≡ Operator.negate → ⊥) where
   at-not : (d left : Forest) → fromRight (right false d) (node k nil left) ≡ leftOf left (notBefore k d)
-  unfolding isPrefix unaryLeaf
+  unfolding isPrefix unaryLeaf turned
   at-not d left =
       let other = ne-eqb (k .op) Operator.negate e in
-      at-leaf k d left
-      ∙ ap (leftOf left) (rw (other, unaryLeaf) (rw (prefix-not (eqb (k .op) Operator.negate) (eqb (k .op) Operator.logicalNot) h other) refl))
+      at-leaf false k d left
+      ∙ ap (leftOf left)
+      (rw (other, unaryLeaf) (rw (prefix-not (eqb (k .op) Operator.negate) (eqb (k .op) Operator.logicalNot) h other) refl))
 
   pub not-alone : (left : Forest) → fromRight (right false nil) (node k nil left) ≡ fail (notWithoutOperand k ∷ [])
   unfolding notBefore leftOf
   not-alone left = at-not nil left
 
-  pub not-takes : (n : Token) (ns r left : Forest) → fromRight (right false (node n ns r)) (node k nil left) ≡ fromRight (right false (node k (node n ns nil) r)) left
+  pub not-takes : (n : Token) (ns r left : Forest)
+      → fromRight (right false (node n ns r)) (node k nil left) ≡ fromRight (right false (node k (node n ns nil) r)) left
   unfolding notBefore leftOf
   not-takes n ns r left = at-not (node n ns r) left
 
@@ -147,7 +131,8 @@ module _ (k : Token) (h : isPrefix (k .op) ≡ true) (e : k .op ≡ Operator.neg
 pub moved-none : (d rest : Forest) → Moved d rest d rest
 moved-none d rest = record { same = refl; fewer = omega arith; smaller = omega arith }
 
-pub moved-more : {d rest d' : Forest} (k : Token) (cs rest' : Forest) → Moved d rest d' (node k cs rest') → free isPrefix (node k cs nil) ≡ true → Moved d rest (node k cs d') rest'
+pub moved-more : {d rest d' : Forest} (k : Token) (cs rest' : Forest) → Moved d rest d' (node k cs rest')
+    → free isPrefix (node k cs nil) ≡ true → Moved d rest (node k cs d') rest'
 unfolding count size
 moved-more {d' = d'} k cs rest' m h =
     let fewer = m .fewer in
@@ -156,6 +141,6 @@ moved-more {d' = d'} k cs rest' m h =
 
 -- ---- the classes
 
-pub unary-exact : Exact 0x10 isPrefix
+pub unary-covers : Covers 0x10 isPrefix
 unfolding operators
-unary-exact = runs-exact unaries UnaryPass passes.unary
+unary-covers = runs-covers unaryMinusAndNot UnaryPass passes.unary

@@ -1,7 +1,7 @@
 pub mod TokenTurns
-pub mod CallTurns
-pub mod BinaryTurns
+pub mod Calls
+pub mod Binary
 pub mod Statements
 pub mod Arrays
-pub mod UnaryTurns
-pub mod Folding
+pub mod Unary
+pub mod Conditional

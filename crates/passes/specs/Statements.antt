@@ -1,5 +1,5 @@
 -- What the statement pass's own functions ask and ensure, word by word; the laws of proofs/ lift it to trees.
-use Prim.Native.Nat.{ℕ, _+_, _*_, _-_, _^_, _≤_, _<_}
+use Prim.Native.Nat.{ℕ, _+_, _-_, _^_, _≤_, _<_}
 use mathlib.Core.Logic.{_≢_}
 use mathlib.Core.Path.{_≡_}
 use mathlib.Core.Bool.{Bool, true, false, not}
@@ -7,19 +7,18 @@ use mathlib.Core.List.{List}
 use lib.ListN.{length, set}
 use Rattle.molang.specs.Operator.{semicolon}
 use Rattle.molang.specs.Statements.{isEntered}
-use Rattle.molang.proofs.Trees.{clear}
-use Rattle.molang.proofs.Statements.{isSemicolon}
-use Rattle.nodes.specs.Store.{wd}
+use Rattle.molang.specs.Free.{clear, isSemicolon}
+use Rattle.nodes.specs.Store.{wd, slotEnd}
 use Rattle.nodes.specs.Slots.{opAt, Made}
 use Rattle.nodes.specs.Children.{CanGive, Given}
 use Rattle.nodes.specs.declared.frames.List.{List as Items}
-use Rattle.walks.specs.Passes.{walkOf, movedTo}
-use Rattle.walks.specs.Turns.{CanStart}
-use Rattle.walks.specs.declared.failure.Failure.the-variants.{LeadingSemicolon}
-use Rattle.walks.specs.declared.turns.Pass.{Pass}
-use Rattle.walks.specs.declared.turns.Pass.the-variants.{Split as SplitAt}
-use Rattle.walks.specs.declared.turns.Turn.{Turn}
-use Rattle.walks.specs.declared.turns.Turn.the-variants.{On, Enter, Fail}
+use Rattle.levels.specs.Passes.{walkOf, movedTo}
+use Rattle.levels.specs.Turns.{CanStart}
+use Rattle.levels.specs.declared.failure.Failure.the-variants.{LeadingSemicolon}
+use Rattle.levels.specs.declared.turns.Pass.{Pass}
+use Rattle.levels.specs.declared.turns.Pass.the-variants.{Split as SplitAt}
+use Rattle.levels.specs.declared.turns.Turn.{Turn}
+use Rattle.levels.specs.declared.turns.Turn.the-variants.{On, Enter, Fail}
 
 -- ---- `has_semicolon`
 
@@ -29,7 +28,8 @@ pub record HasSemicolon (W : List ℕ) (v : Items) (r : Bool) : Type 0 where
 
 -- ---- `end_statement`
 
--- The n items from `at` on became the children of a new statement at `slot`, with the span of the first of them, and the word at their place is its.
+-- The n items from `at` on became the children of a new statement at `slot`, with the span of the first of them, and the word at their
+-- place is its.
 pub record Grouped (W : List ℕ) (slot at n : ℕ) (W' : List ℕ) : Type 0 where
   pub made : List ℕ
   pub given : List ℕ
@@ -42,7 +42,8 @@ pub record Grouped (W : List ℕ) (slot at n : ℕ) (W' : List ℕ) : Type 0 whe
 -- The item's children come first, or it is kept as it is.
 pub data InnerTo (W : List ℕ) (l : Items) (item : ℕ) (p : Pass) : Turn → List ℕ → Type 0 where
   entered : isEntered (opAt W item) ≡ true → InnerTo W l item p (Enter (walkOf l p) item) W
-  kept : {W' : List ℕ} → isEntered (opAt W item) ≡ false → W' ≡ set W (l .base + l .write) item → InnerTo W l item p (On (walkOf (movedTo l (l .read) (l .write + 1)) p)) W'
+  kept : {W' : List ℕ} → isEntered (opAt W item) ≡ false → W' ≡ set W (l .base + l .write) item
+      → InnerTo W l item p (On (walkOf (movedTo l (l .read) (l .write + 1)) p)) W'
 
 -- ---- `begin_list`, `semicolon`
 
@@ -53,7 +54,7 @@ pub data ListMade (W : List ℕ) (item done : ℕ) : List ℕ → Type 0 where
 
 -- The semicolon's three slots are below the stack, and so are the open statement's items.
 pub record CanEnd (W : List ℕ) (l : Items) (item done : ℕ) : Type 0 where
-  pub own : 8 * item + 24 ≤ l .base
+  pub own : slotEnd (item + 2) ≤ l .base
   pub from : done ≤ l .write
   pub within : l .base + l .write ≤ length W
   pub small : length W < 2 ^ 32
@@ -74,10 +75,11 @@ pub record CanClose (W : List ℕ) (l : Items) (done : ℕ) : Type 0 where
   pub from : done ≤ l .write
   pub within : l .base + l .write ≤ length W
   pub small : length W < 2 ^ 32
-  pub last : 8 * wd W (l .base + done - 1) + 24 ≤ l .base
+  pub last : slotEnd (wd W (l .base + done - 1) + 2) ≤ l .base
   pub give : done < l .write → CanGive W (wd W (l .base + done - 1) + 1) (l .base + done) (l .write - done)
 
 -- None is open, or the open one stands in the slot after the last finished one's.
 pub data ClosedTo (W : List ℕ) (l : Items) (done : ℕ) : ℕ → List ℕ → Type 0 where
   complete : l .write ≡ done → ClosedTo W l done done W
-  closing : {W' : List ℕ} → done < l .write → Grouped W (wd W (l .base + done - 1) + 1) (l .base + done) (l .write - done) W' → ClosedTo W l done (done + 1) W'
+  closing : {W' : List ℕ} → done < l .write → Grouped W (wd W (l .base + done - 1) + 1) (l .base + done) (l .write - done) W'
+      → ClosedTo W l done (done + 1) W'

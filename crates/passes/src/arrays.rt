@@ -1,19 +1,18 @@
 // Array indices: the pass that gives an array name the sections `[ ]` after it (calls.rs).
-// Leans on walks (turns, items), on slots and chains.
+// Leans on levels (turns, items), on slots and chains.
+use levels::failure::Failure;
+use levels::items;
+use levels::turns;
+use levels::turns::Pass;
+use levels::turns::Turn;
+use levels::turns::Walk;
 use nodes::frames::List;
 use nodes::slots;
 use ops::classes::TokenClasses;
 use ops::op;
-use walks::failure::Failure;
-use walks::items;
-use walks::items::Found;
-use walks::turns;
-use walks::turns::Pass;
-use walks::turns::Turn;
-use walks::turns::Walk;
 ghost use mathlib.Core.Logic.{_≢_};
-ghost use Rattle.walks.specs.Passes.{walkOf};
-ghost use Rattle.walks.specs.Turns.{CanTurn, Turned, CanResume, Resumed};
+ghost use Rattle.levels.specs.Passes.{walkOf};
+ghost use Rattle.levels.specs.Turns.{CanTurn, Turned, CanResume, Resumed};
 ghost use Rattle.passes.specs.TokenTurns.{AtToken};
 ghost use Rattle.passes.specs.Arrays.{CanLend, Lent, CanIndex, Indexed, NameTurned, CanGather, Gathered, CanRound, Rounded};
 
@@ -53,7 +52,7 @@ fn array_index(work: &mut [u32], list: List, index: u32, array: u32) -> Turn
 }
 
 // `array.name` with an index after it becomes an array.
-fn array_name(work: &mut [u32], list: List, item: u32) -> Turn
+pub fn array_name(work: &mut [u32], list: List, item: u32) -> Turn
     requires { ⌜ AtToken (now work) list item ⌝ }
     ensures { λ r. ⌜ NameTurned (now (work .entry)) list item r (now (work .exit)) ⌝ }
 {
@@ -104,7 +103,7 @@ fn turn_round(work: &mut [u32], array: u32)
 }
 
 // An array that has an index already: it takes a further one, or is done.
-fn array_on(work: &mut [u32], list: List, array: u32) -> Turn
+pub fn array_on(work: &mut [u32], list: List, array: u32) -> Turn
     requires { ⌜ CanTurn (now work) (walkOf list (Pass.Arrays array 0)) × (array ≢ 0) ⌝ }
     ensures { λ r. ⌜ Turned (now (work .entry)) (walkOf list (Pass.Arrays array 0)) r (now (work .exit)) ⌝ }
 {
@@ -117,23 +116,6 @@ fn array_on(work: &mut [u32], list: List, array: u32) -> Turn
         items::keep(work, list, array),
         Pass::Arrays { array: 0, lent: 0 },
     )
-}
-
-// The array pass up to its next token or node.
-pub fn step_array(work: &mut [u32], list: List, array: u32) -> Turn
-    requires { ⌜ CanTurn (now work) (walkOf list (Pass.Arrays array 0)) ⌝ }
-    ensures { λ r. ⌜ Turned (now (work .entry)) (walkOf list (Pass.Arrays array 0)) r (now (work .exit)) ⌝ }
-{
-    if array != 0 {
-        return array_on(work, list, array);
-    }
-    let found = items::next_token(work, list, TokenClasses::ARRAY);
-    let pass = Pass::Arrays { array: 0, lent: 0 };
-    match found {
-        Found::Nothing(after) => turns::over(after, pass),
-        Found::Children(after, item) => turns::enter(after, pass, item),
-        Found::Token(after, item) => array_name(work, after, item),
-    }
 }
 
 // The array pass after the children of `item`, an index of the array or a node of the list.

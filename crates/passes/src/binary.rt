@@ -1,23 +1,22 @@
 // The binary levels: each leaf of the level's operators takes its neighbours as children, from the left (binary.rs).
-// Leans on walks (turns, items), on slots and chains.
+// Leans on levels (turns, items), on slots and chains.
+use levels::failure::Failure;
+use levels::items;
+use levels::turns;
+use levels::turns::Pass;
+use levels::turns::Turn;
+use levels::turns::Walk;
 use nodes::children;
 use nodes::frames::List;
 use nodes::slots;
 use ops::classes::TokenClasses;
-use walks::failure::Failure;
-use walks::items;
-use walks::items::Found;
-use walks::turns;
-use walks::turns::Pass;
-use walks::turns::Turn;
-use walks::turns::Walk;
 ghost use Prim.Native.Nat.{ℕ};
 ghost use mathlib.Core.List.{List as Words};
 ghost use Rattle.molang.specs.Operator.{isOneOf};
-ghost use Rattle.walks.specs.Passes.{walkOf, Exact};
-ghost use Rattle.walks.specs.Turns.{CanTurn, Turned, CanResume, Resumed};
+ghost use Rattle.levels.specs.Passes.{walkOf, Covers};
+ghost use Rattle.levels.specs.Turns.{CanResume, Resumed};
 ghost use Rattle.passes.specs.TokenTurns.{AtToken, LevelTurned};
-ghost use Rattle.passes.specs.BinaryTurns.{CanFold, Folded, CanSearch, LeafFound, CanOperate, Operated};
+ghost use Rattle.passes.specs.Binary.{CanFold, Folded, CanSearch, LeafFound, CanOperate, Operated};
 
 // `operator` takes the last done item and `right`, done itself, as its children, and stands in the former's place.
 fn fold(work: &mut [u32], list: List, operator: u32, right: u32)
@@ -100,9 +99,10 @@ fn folded(work: &mut [u32], list: List, operator: u32, classes: TokenClasses) ->
 }
 
 // A token of the level: it needs both sides, and a left side with nothing unfolded below it.
-fn operator(work: &mut [u32], list: List, item: u32, classes: TokenClasses) -> Turn
+pub fn operator(work: &mut [u32], list: List, item: u32, classes: TokenClasses) -> Turn
     requires { ⌜ AtToken (now work) list item ⌝ }
-    ensures { λ r. ⌜ ((ops : Words ℕ) → Exact (classes .0) (isOneOf ops) → LevelTurned ops classes (now (work .entry)) list item r (now (work .exit))) ⌝ }
+    ensures { λ r. ⌜ ((ops : Words ℕ) → Covers (classes .0) (isOneOf ops)
+        → LevelTurned ops classes (now (work .entry)) list item r (now (work .exit))) ⌝ }
 {
     if list.write == 0 {
         return Turn::Fail(Failure::BinaryAtEnd(item));
@@ -117,21 +117,4 @@ fn operator(work: &mut [u32], list: List, item: u32, classes: TokenClasses) -> T
         return Turn::Fail(Failure::BinaryAtEnd(leaf));
     }
     folded(work, list, item, classes)
-}
-
-// A level up to its next token or node.
-pub fn step(work: &mut [u32], list: List, classes: TokenClasses) -> Turn
-    requires { ⌜ CanTurn (now work) (walkOf list (Pass.Binary classes 0)) ⌝ }
-    ensures { λ r. ⌜ Turned (now (work .entry)) (walkOf list (Pass.Binary classes 0)) r (now (work .exit)) ⌝ }
-{
-    let pass = Pass::Binary {
-        classes,
-        pending: 0,
-    };
-    let found = items::next_token(work, list, classes);
-    match found {
-        Found::Nothing(after) => turns::over(after, pass),
-        Found::Children(after, item) => turns::enter(after, pass, item),
-        Found::Token(after, item) => operator(work, after, item, classes),
-    }
 }

@@ -1,21 +1,17 @@
 // Calls and math functions: the passes that attach a section to the token before it (calls.rs).
-// Leans on walks (turns, items), on slots and chains.
+// Leans on levels (turns, items), on slots and chains.
+use levels::failure::Failure;
+use levels::items;
+use levels::turns;
+use levels::turns::Pass;
+use levels::turns::Turn;
 use nodes::children;
 use nodes::frames::List;
 use nodes::slots;
-use ops::classes::TokenClasses;
 use ops::op;
-use walks::failure::Failure;
-use walks::items;
-use walks::items::Found;
-use walks::turns;
-use walks::turns::Pass;
-use walks::turns::Turn;
 ghost use Rattle.molang.specs.Calls.{queryOrLoop, math};
-ghost use Rattle.walks.specs.Passes.{walkOf};
-ghost use Rattle.walks.specs.Turns.{CanTurn, Turned};
 ghost use Rattle.passes.specs.TokenTurns.{AtToken, CallTurned};
-ghost use Rattle.passes.specs.CallTurns.{CanCall, Called};
+ghost use Rattle.passes.specs.Calls.{CanCall, Called};
 
 // `item`, a call, takes its arguments, which are the next item; its children come first if they have any of the pass.
 fn called(work: &mut [u32], list: List, item: u32, arguments: u32, pass: Pass) -> Turn
@@ -32,7 +28,7 @@ fn called(work: &mut [u32], list: List, item: u32, arguments: u32, pass: Pass) -
 }
 
 // A query, `loop` or `for_each` takes the section `(` right after it; an empty one is an error.
-fn call(work: &mut [u32], list: List, item: u32) -> Turn
+pub fn call(work: &mut [u32], list: List, item: u32) -> Turn
     requires { ⌜ AtToken (now work) list item ⌝ }
     ensures { λ r. ⌜ CallTurned queryOrLoop Pass.Calls (now (work .entry)) list item r (now (work .exit)) ⌝ }
 {
@@ -47,42 +43,16 @@ fn call(work: &mut [u32], list: List, item: u32) -> Turn
 }
 
 // A math function takes the section `(` right after it, which has to be there and may be empty.
-fn math_call(work: &mut [u32], list: List, item: u32) -> Turn
+pub fn math_call(work: &mut [u32], list: List, item: u32) -> Turn
     requires { ⌜ AtToken (now work) list item ⌝ }
-    ensures { λ r. ⌜ CallTurned math Pass.Maths (now (work .entry)) list item r (now (work .exit)) ⌝ }
+    ensures { λ r. ⌜ CallTurned math Pass.MathCalls (now (work .entry)) list item r (now (work .exit)) ⌝ }
 {
     let arguments = items::next_if(work, list, op::LEFT_PARENTHESIS);
     if arguments != 0 {
-        return called(work, list, item, arguments, Pass::Maths);
+        return called(work, list, item, arguments, Pass::MathCalls);
     }
     if list.read == list.len {
         return Turn::Fail(Failure::MathAtEnd(item));
     }
     Turn::Fail(Failure::MathWithoutParenthesis(item))
-}
-
-// The call pass up to its next token or node.
-pub fn step(work: &mut [u32], list: List) -> Turn
-    requires { ⌜ CanTurn (now work) (walkOf list Pass.Calls) ⌝ }
-    ensures { λ r. ⌜ Turned (now (work .entry)) (walkOf list Pass.Calls) r (now (work .exit)) ⌝ }
-{
-    let found = items::next_token(work, list, TokenClasses::CALL);
-    match found {
-        Found::Nothing(after) => turns::over(after, Pass::Calls),
-        Found::Children(after, item) => turns::enter(after, Pass::Calls, item),
-        Found::Token(after, item) => call(work, after, item),
-    }
-}
-
-// The math pass up to its next token or node.
-pub fn step_math(work: &mut [u32], list: List) -> Turn
-    requires { ⌜ CanTurn (now work) (walkOf list Pass.Maths) ⌝ }
-    ensures { λ r. ⌜ Turned (now (work .entry)) (walkOf list Pass.Maths) r (now (work .exit)) ⌝ }
-{
-    let found = items::next_token(work, list, TokenClasses::MATH);
-    match found {
-        Found::Nothing(after) => turns::over(after, Pass::Maths),
-        Found::Children(after, item) => turns::enter(after, Pass::Maths, item),
-        Found::Token(after, item) => math_call(work, after, item),
-    }
 }

@@ -1,19 +1,20 @@
 // The conditional from version 5: nested lists first, then a scan of the list from the right (conditional.rs).
-// In the scan the unread items stand in [0, left), the done ones in [right, len). Leans on walks (turns, items), on slots and chains.
+// In the scan the unread items stand in [0, left), the done ones in [right, len). Leans on levels (turns, items), on slots and chains.
+use levels::failure::Failure;
+use levels::items;
+use levels::turns;
+use levels::turns::Finished;
+use levels::turns::Pass;
+use levels::turns::Turn;
 use nodes::children;
 use nodes::frames::List;
 use nodes::slots;
 use ops::classes::TokenClasses;
 use ops::op;
-use walks::failure::Failure;
-use walks::items;
-use walks::turns;
-use walks::turns::Finished;
-use walks::turns::Pass;
-use walks::turns::Turn;
-ghost use Rattle.walks.specs.Passes.{walkOf};
-ghost use Rattle.walks.specs.Turns.{CanTurn, Turned, CanFinish, Ends};
-ghost use Rattle.passes.specs.Folding.{CanFoldLast, FoldedLast, CanDangle, Dangles, CanLook, IsElse, CanFoldElse, ElseFolded, CanFoldNext, FoldedNext, CanFold, FoldedAll};
+ghost use Rattle.levels.specs.Passes.{walkOf};
+ghost use Rattle.levels.specs.Turns.{CanTurn, Turned, CanFinish, Ends};
+ghost use Rattle.passes.specs.Conditional.{CanFoldLast, FoldedLast, CanDangle, Dangles, CanLook, IsElse, CanFoldElse, ElseFolded};
+ghost use Rattle.passes.specs.Conditional.{CanFoldNext, FoldedNext, CanFold, FoldedAll};
 
 // Where the scan is.
 pub struct Scan {
@@ -24,8 +25,8 @@ pub struct Scan {
 // The conditional pass before the scan, up to its next node with a `?` or a `:` below it. The items stay where they are, and
 // the tokens among them are counted.
 pub fn step(work: &mut [u32], list: List, tokens: u32) -> Turn
-    requires { ⌜ CanTurn (now work) (walkOf list (Pass.Ternary tokens)) ⌝ }
-    ensures { λ r. ⌜ Turned (now (work .entry)) (walkOf list (Pass.Ternary tokens)) r (now (work .exit)) ⌝ }
+    requires { ⌜ CanTurn (now work) (walkOf list (Pass.Conditional tokens)) ⌝ }
+    ensures { λ r. ⌜ Turned (now (work .entry)) (walkOf list (Pass.Conditional tokens)) r (now (work .exit)) ⌝ }
 {
     let base = list.base;
     let len = list.len;
@@ -37,14 +38,14 @@ pub fn step(work: &mut [u32], list: List, tokens: u32) -> Turn
         if slots::classes_of(work, item).intersects(TokenClasses::CONDITIONAL) {
             if !slots::is_leaf(work, item) {
                 let after = items::moved(list, read, read - 1);
-                return turns::enter(after, Pass::Ternary { tokens: seen }, item);
+                return turns::enter(after, Pass::Conditional { tokens: seen }, item);
             }
             seen += 1;
         }
     }
     turns::over(
         items::moved(list, read, read),
-        Pass::Ternary { tokens: seen },
+        Pass::Conditional { tokens: seen },
     )
 }
 
@@ -177,8 +178,8 @@ fn dangling(work: &[u32], base: usize, from: usize, len: usize) -> u32
 
 // The end of a list of the conditional pass.
 pub fn finish(work: &mut [u32], list: List, tokens: u32) -> Finished
-    requires { ⌜ CanFinish (now work) (walkOf list (Pass.Ternary tokens)) ⌝ }
-    ensures { λ r. ⌜ Ends (now (work .entry)) (walkOf list (Pass.Ternary tokens)) r (now (work .exit)) ⌝ }
+    requires { ⌜ CanFinish (now work) (walkOf list (Pass.Conditional tokens)) ⌝ }
+    ensures { λ r. ⌜ Ends (now (work .entry)) (walkOf list (Pass.Conditional tokens)) r (now (work .exit)) ⌝ }
 {
     let base = list.base;
     let len = list.len;

@@ -1,9 +1,9 @@
-// The levels of the passes over the node store, side by side with the Rust's parse modules: each turns one list, as walks says, and the
-// driver of crate grouping runs them. Leans on walks (turns, items), nodes (slots, chains) and ops (operators, classes).
+// The levels of the passes over the node store, side by side with the Rust's parse modules: each turns one list, as levels says, and the
+// driver of crate grouping runs them. Leans on levels (turns, items), nodes (slots, chains) and ops (operators, classes).
 pub mod arrays;
 pub mod binary;
 pub mod calls;
 pub mod conditional;
-pub mod prefix;
+pub mod returns;
 pub mod statements;
 pub mod unary;

@@ -1,27 +1,28 @@
 // Statements, the semicolon pass (statements.rs): a list with semicolons becomes one `;` node of its statements, each
 // gathered under a `;` node of its own. In a split list the finished statements stand in [0, done), the items of the open one
-// in [done, write). Leans on walks (turns, items), on slots and chains.
+// in [done, write). Leans on levels (turns, items), on slots and chains.
+use levels::failure::Failure;
+use levels::items;
+use levels::items::Found;
+use levels::turns;
+use levels::turns::Finished;
+use levels::turns::Pass;
+use levels::turns::Turn;
+use levels::turns::Walk;
 use nodes::children;
 use nodes::frames::List;
-use nodes::frames::wide;
 use nodes::slots;
 use ops::classes::TokenClasses;
 use ops::holds_statements;
 use ops::op;
-use walks::failure::Failure;
-use walks::items;
-use walks::items::Found;
-use walks::turns;
-use walks::turns::Finished;
-use walks::turns::Pass;
-use walks::turns::Turn;
-use walks::turns::Walk;
-ghost use Prim.Native.Nat.{_+_, _*_, _^_, _≤_, _<_};
+use words::fields::wide;
+ghost use Prim.Native.Nat.{_+_, _^_, _≤_, _<_};
 ghost use lib.ListN.{length};
+ghost use Rattle.nodes.specs.Store.{slotEnd};
 ghost use Rattle.nodes.specs.Children.{CanGive};
-ghost use Rattle.walks.specs.Passes.{walkOf};
+ghost use Rattle.levels.specs.Passes.{walkOf};
 ghost use Rattle.passes.specs.Statements.{HasSemicolon, Grouped, ListMade, CanEnd, SemicolonTo, InnerTo, CanClose, ClosedTo};
-ghost use Rattle.walks.specs.Turns.{CanTurn, Turned, CanFinish, Ends, CanStart, Started};
+ghost use Rattle.levels.specs.Turns.{CanTurn, Turned, CanFinish, Ends, CanStart, Started};
 
 // Whether a semicolon stands in the list.
 fn has_semicolon(work: &[u32], list: List) -> bool
@@ -54,20 +55,7 @@ pub fn start(work: &[u32], list: List) -> Walk
     }
     Walk {
         list,
-        pass: Pass::Plain,
-    }
-}
-
-// A list without semicolons up to its next node.
-pub fn step(work: &mut [u32], list: List) -> Turn
-    requires { ⌜ CanTurn (now work) (walkOf list Pass.Plain) ⌝ }
-    ensures { λ r. ⌜ Turned (now (work .entry)) (walkOf list Pass.Plain) r (now (work .exit)) ⌝ }
-{
-    let found = items::next_token(work, list, TokenClasses::SEMICOLON);
-    match found {
-        Found::Nothing(after) => turns::over(after, Pass::Plain),
-        Found::Children(after, item) => turns::enter(after, Pass::Plain, item),
-        Found::Token(after, item) => turns::on(items::keep(work, after, item), Pass::Plain),
+        pass: Pass::Unsplit,
     }
 }
 
@@ -85,7 +73,7 @@ fn end_statement(work: &mut [u32], slot: u32, at: usize, n: usize)
 
 // With the first statement the list's own node is made, in the last slot of the semicolon that ends it.
 fn begin_list(work: &mut [u32], item: u32, done: u32)
-    requires { ⌜ (8 * item + 24 ≤ length (now work)) × (length (now work) < 2 ^ 32) ⌝ }
+    requires { ⌜ (slotEnd (item + 2) ≤ length (now work)) × (length (now work) < 2 ^ 32) ⌝ }
     ensures { λ _. ⌜ ListMade (now (work .entry)) item done (now (work .exit)) ⌝ }
 {
     if done != 0 {
@@ -117,7 +105,7 @@ fn semicolon(work: &mut [u32], list: List, item: u32, done: u32) -> Turn
 
 // A node of a split list: `[ ]` and the arguments of queries are not searched for statements.
 fn inner(work: &mut [u32], list: List, item: u32, pass: Pass) -> Turn
-    requires { ⌜ (8 * item + 8 ≤ length (now work)) × (list .base + list .write < length (now work)) ⌝ }
+    requires { ⌜ (slotEnd item ≤ length (now work)) × (list .base + list .write < length (now work)) ⌝ }
     ensures { λ r. ⌜ InnerTo (now (work .entry)) list item pass r (now (work .exit)) ⌝ }
 {
     if holds_statements(slots::operator_of(work, item)) {
@@ -127,7 +115,7 @@ fn inner(work: &mut [u32], list: List, item: u32, pass: Pass) -> Turn
 }
 
 // A split list up to its next semicolon or node.
-pub fn step_split(work: &mut [u32], list: List, done: u32) -> Turn
+pub fn step(work: &mut [u32], list: List, done: u32) -> Turn
     requires { ⌜ CanTurn (now work) (walkOf list (Pass.Split done)) ⌝ }
     ensures { λ r. ⌜ Turned (now (work .entry)) (walkOf list (Pass.Split done)) r (now (work .exit)) ⌝ }
 {

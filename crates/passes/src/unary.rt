@@ -1,5 +1,11 @@
 // The prefix operators minus and not, from the right (unary.rs).
-// Leans on walks (turns, items), on slots and chains.
+// Leans on levels (turns, items), on slots and chains.
+use levels::failure::Failure;
+use levels::items;
+use levels::items::Found;
+use levels::turns;
+use levels::turns::Pass;
+use levels::turns::Turn;
 use nodes::children;
 use nodes::frames::List;
 use nodes::slots;
@@ -7,23 +13,20 @@ use ops::BeforeMinus;
 use ops::before_minus;
 use ops::classes::TokenClasses;
 use ops::op;
-use walks::failure::Failure;
-use walks::items;
-use walks::items::Found;
-use walks::turns;
-use walks::turns::Pass;
-use walks::turns::Turn;
 ghost use mathlib.Core.Path.{_≡_};
-ghost use Prim.Native.Nat.{_+_, _*_, _-_, _≤_, _<_};
+ghost use Prim.Native.Nat.{_+_, _-_, _≤_, _<_};
 ghost use lib.ListN.{length, set};
-ghost use Rattle.walks.specs.Passes.{walkOf, movedTo};
-ghost use Rattle.walks.specs.Turns.{CanTurn, Turned};
-ghost use Rattle.passes.specs.UnaryTurns.{CanSeekBack, SoughtBack, CanTakeToken, CanTakeMinus, TokenTaken, CanPrefix, Prefixed, Added, CanSubtract, Subtracted};
+ghost use Rattle.nodes.specs.Store.{slotEnd};
+ghost use Rattle.levels.specs.Passes.{walkOf, movedTo};
+ghost use Rattle.levels.specs.Turns.{CanTurn, Turned};
+ghost use Rattle.passes.specs.Unary.{CanSeekBack, SoughtBack, CanTakeToken, CanTakeMinus, TokenTaken, CanPrefix, Prefixed, Added};
+ghost use Rattle.passes.specs.Unary.{CanSubtract, Subtracted};
 
 // The list with `item` before its done items.
 pub fn keep_right(work: &mut [u32], list: List, item: u32) -> List
     requires { ⌜ (0 < list .write) × (list .base + list .write < length (now work) + 1) ⌝ }
-    ensures { λ r. ⌜ (r ≡ movedTo list (list .read) (list .write - 1)) × (now (work .exit) ≡ set (now (work .entry)) (list .base + (list .write - 1)) item) ⌝ }
+    ensures { λ r. ⌜ (r ≡ movedTo list (list .read) (list .write - 1))
+        × (now (work .exit) ≡ set (now (work .entry)) (list .base + (list .write - 1)) item) ⌝ }
 {
     let write = list.write - 1;
     let at = list.base + write;
@@ -46,7 +49,7 @@ fn prefix(work: &mut [u32], list: List, operator: u32)
 
 // A minus becomes a plus. (No minus has children here, but no proof leans on that: such a one would keep its classes.)
 fn to_add(work: &mut [u32], s: u32)
-    requires { ⌜ 8 * s + 8 ≤ length (now work) ⌝ }
+    requires { ⌜ slotEnd s ≤ length (now work) ⌝ }
     ensures { λ _. ⌜ Added (now (work .entry)) s (now (work .exit)) ⌝ }
 {
     if slots::is_leaf(work, s) {

@@ -1,25 +1,31 @@
--- What each case of the outcome says, and the calls that the functions' parameters make, as the definition takes them.
+-- What each case of the outcome says; and what the functions' parameters are, as the definition takes them.
 use Prim.Native.Nat.{ℕ}
 use mathlib.Core.List.{List}
 use lib.IntN.{ℤ}
 use Rattle.molang.specs.Parse.{Call}
-use Rattle.molang.specs.Reread.{Handed, Rereading, RereadTold, twoTrees, firstMessages, secondMessages, turnedBack}
+use Rattle.molang.specs.Reread.{Handed, Rereading, RereadTold, twoTrees, firstMessages, secondMessages, turnedBack, RereadLeft}
 use Rattle.reread.specs.declared.Outcome.{Outcome}
 use Rattle.reread.specs.declared.Outcome.the-variants.{Trees, Messages, MessagesAgain, Refused}
 
--- What the three calls come to.
+-- What the caller is told.
 abbrev pub rereadOf : Outcome → RereadTold
 rereadOf (Trees nodes count again) = twoTrees nodes count again
 rereadOf (Messages records) = firstMessages records
 rereadOf (MessagesAgain records) = secondMessages records
 rereadOf (Refused which number place) = turnedBack which number place
 
--- What `write_and_read` is lent and given.
+-- The outcome, and what each lent buffer holds after the calls.
+abbrev pub leftOf : Outcome → List ℕ → List ℕ → List ℕ → List ℕ → List ℕ → RereadLeft
+leftOf r tree written again messages work =
+    record { told = rereadOf r; tree = tree; written = written; again = again; messages = messages; work = work }
+
+-- What `after_first` and `write_and_read` are lent and given.
 abbrev pub handedOf : List ℕ → List ℕ → List ℕ → List ℕ → List ℕ → ℕ → ℤ → Handed
 handedOf tree written again messages work sourceLength version =
     record {
-      write = record { tree = tree; list = written };
-      tree = again;
+      tree = tree;
+      written = written;
+      again = again;
       messages = messages;
       work = work;
       sourceLength = sourceLength;
@@ -29,4 +35,4 @@ handedOf tree written again messages work sourceLength version =
 -- What `reread` is lent and given, after the first call.
 abbrev pub rereading : Call → List ℕ → List ℕ → ℕ → ℤ → Rereading
 rereading first written again sourceLength version =
-    record { first = first; written = written; tree = again; sourceLength = sourceLength; version = version }
+    record { first = first; written = written; again = again; sourceLength = sourceLength; version = version }

@@ -1,16 +1,17 @@
 // Demand 3 as a function: reads a list, writes the tree it gives, and reads exactly the tokens written again, at any version and with
-// their own operators. Leans on parse, write and exact; the definition is `Reread` of molang's specs.
-use exact::used_of;
+// their own operators. Leans on parse, write and derived; the definition is `Reread` of molang's specs.
+use derived::used_of;
 use parse::Answer;
 use parse::parse;
 use words::fields;
 use write::Written;
 use write::write;
 ghost use mathlib.Core.Path.{_≡_};
-ghost use Rattle.molang.specs.Reread.{exactCall, secondTold};
-ghost use Rattle.parse.specs.Answers.{toldOf, call};
-ghost use Rattle.reread.specs.Answers.{rereadOf, handedOf, rereading};
-ghost use Rattle.reread.specs.Promises.{CanRead, HasRead, CanWrite, HasWritten, CanGoOn, HasGoneOn, HasReread};
+ghost use Rattle.molang.specs.Parse.{aTree};
+ghost use Rattle.molang.specs.Reread.{exactCall, secondTold, afterFirst};
+ghost use Rattle.parse.specs.Answers.{toldOf, call, HasParsed};
+ghost use Rattle.reread.specs.Answers.{rereadOf, leftOf, handedOf, rereading};
+ghost use Rattle.reread.specs.Promises.{CanRead, CanGoOn, HasReread};
 
 // What the three calls come to.
 pub enum Outcome {
@@ -18,7 +19,7 @@ pub enum Outcome {
     Trees(usize, usize, usize),
     // The first reading gave so many messages.
     Messages(usize),
-    // The second did: never given (molang's `never-messages`).
+    // The second did: never given (`noMessages` of molang's `Demand3`).
     MessagesAgain(usize),
     // The call that was turned back, 1, 2 or 3, with the refusal's number and place.
     Refused(u32, u32, usize),
@@ -41,7 +42,9 @@ fn read_exactly(
     version: i16,
 ) -> Answer
     requires { ⌜ CanRead (now list) ⌝ }
-    ensures { λ r. ⌜ HasRead (exactCall (now (list .entry)) (now (tree .entry)) (now (messages .entry)) (now (work .entry)) «source_length» version) r (now (tree .exit)) (now (messages .exit)) (now (work .exit)) ⌝ }
+    ensures { λ r. ⌜ HasParsed
+        (exactCall (now (list .entry)) (now (tree .entry)) (now (messages .entry)) (now (work .entry)) «source_length» version)
+        r (now (tree .exit)) (now (messages .exit)) (now (work .exit)) ⌝ }
 {
     let used = used_of(list);
     parse(
@@ -67,7 +70,7 @@ fn after_second(nodes: usize, count: usize, second: Answer) -> Outcome
     }
 }
 
-// Writes the tree of so many nodes that a reading gave, and reads what was written.
+// Writes the tree of so many nodes that a reading left in front of its buffer, and reads what was written.
 fn write_and_read(
     tree: &[u32],
     written: &mut [u32],
@@ -78,10 +81,15 @@ fn write_and_read(
     source_length: u64,
     version: i16,
 ) -> Outcome
-    requires { ⌜ CanWrite (now tree) nodes ⌝ }
-    ensures { λ r. ⌜ HasWritten (handedOf (now (tree .entry)) (now (written .entry)) (now (again .entry)) (now (messages .entry)) (now (work .entry)) «source_length» version) nodes r (now (written .exit)) (now (again .exit)) (now (messages .exit)) (now (work .exit)) ⌝ }
+    requires { ⌜ CanGoOn (aTree nodes) (now tree) ⌝ }
+    ensures { λ r. ⌜ leftOf r (now (tree .entry)) (now (written .exit)) (now (again .exit)) (now (messages .exit)) (now (work .exit))
+        ≡ afterFirst
+        (handedOf (now (tree .entry)) (now (written .entry)) (now (again .entry)) (now (messages .entry)) (now (work .entry))
+        «source_length» version)
+        (aTree nodes) ⌝ }
 {
-    let wrote = write(tree, written);
+    let words = fields::NODE_WORDS * nodes;
+    let wrote = write(&tree[..words], written);
     match wrote {
         Written::Refused(number, place) => Outcome::Refused(WRITE, number, place),
         Written::Tokens(count) => {
@@ -99,7 +107,7 @@ fn write_and_read(
     }
 }
 
-// What the first reading's answer comes to: a tree is written, and what was written is read. `reread` hands on what its first call answered and left.
+// What the first reading's answer comes to: a tree is written, and what was written is read.
 fn after_first(
     first: Answer,
     tree: &[u32],
@@ -110,25 +118,26 @@ fn after_first(
     source_length: u64,
     version: i16,
 ) -> Outcome
-    requires { ⌜ CanGoOn first (now tree) (now messages) (now work) ⌝ }
-    ensures { λ r. ⌜ HasGoneOn first (now (tree .entry)) (now (messages .entry)) (now (work .entry)) (λ c. rereading c (now (written .entry)) (now (again .entry)) «source_length» version) r (now (written .exit)) (now (again .exit)) (now (messages .exit)) (now (work .exit)) ⌝ }
+    requires { ⌜ CanGoOn (toldOf first) (now tree) ⌝ }
+    ensures { λ r. ⌜ leftOf r (now (tree .entry)) (now (written .exit)) (now (again .exit)) (now (messages .exit)) (now (work .exit))
+        ≡ afterFirst
+        (handedOf (now (tree .entry)) (now (written .entry)) (now (again .entry)) (now (messages .entry)) (now (work .entry))
+        «source_length» version)
+        (toldOf first) ⌝ }
 {
     match first {
         Answer::Refused(number, place) => Outcome::Refused(FIRST, number, place),
         Answer::Messages(records) => Outcome::Messages(records),
-        Answer::Tree(nodes) => {
-            let end = fields::NODE_WORDS * nodes;
-            write_and_read(
-                &tree[..end],
-                written,
-                again,
-                messages,
-                work,
-                nodes,
-                source_length,
-                version,
-            )
-        }
+        Answer::Tree(nodes) => write_and_read(
+            tree,
+            written,
+            again,
+            messages,
+            work,
+            nodes,
+            source_length,
+            version,
+        ),
     }
 }
 
@@ -147,7 +156,12 @@ pub fn reread(
     source_length_again: u64,
     version_again: i16,
 ) -> Outcome
-    ensures { λ r. ⌜ HasReread (rereading (call (now (list .entry)) (now (tree .entry)) (now (messages .entry)) (now (work .entry)) «source_length» version «used_low» «used_high») (now (written .entry)) (now (again .entry)) «source_length_again» «version_again») r (now (tree .exit)) (now (written .exit)) (now (again .exit)) (now (messages .exit)) (now (work .exit)) ⌝ }
+    ensures { λ r. ⌜ HasReread
+        (rereading
+        (call (now (list .entry)) (now (tree .entry)) (now (messages .entry)) (now (work .entry))
+        «source_length» version «used_low» «used_high»)
+        (now (written .entry)) (now (again .entry)) «source_length_again» «version_again»)
+        (leftOf r (now (tree .exit)) (now (written .exit)) (now (again .exit)) (now (messages .exit)) (now (work .exit))) ⌝ }
 {
     let first = parse(
         list,

@@ -1,5 +1,5 @@
--- The values of every answer fit its number's fields: counts and places stay below 2 ^ 32, refusals' numbers below 2 ^ 8. Answer 12's place is at
--- most 73,728, since no more nodes are begun than fit; answer 13's is a node of the tree. Assumes nothing.
+-- The values of every answer fit its number's fields: counts and places stay below 2 ^ 32, refusals' numbers below 2 ^ 8. Answer 12's
+-- place is at most 73,728, since no more nodes are begun than fit; answer 13's is a node of the tree. Assumes nothing.
 use mathlib.Core.Path.{_≡_, refl}
 use mathlib.Core.Bool.{Bool, true, false}
 use mathlib.Core.List.{List, [], _∷_}
@@ -11,14 +11,17 @@ use lib.ListN.{length}
 use borrow.Author.Tests.{leb-true, eqb-true}
 use Rattle.molang.specs.Forest.{Token, Forest, nil, node, size}
 use Rattle.molang.specs.Read as read
-use Rattle.molang.specs.Words.{Slot, operatorSlot, startSlot, endSlot, upperSlot, lowerSlot, countSlot, lowOf, unless, lowFault, wordFault, variantAfter, nextInToken, Refusal, wordsRefusal}
-use Rattle.molang.specs.Parse.{Call, mostTokens, must, firstOf, refusal, reading, told, answered}
-use Rattle.molang.specs.Plain.{plainForm, placeOf, unplain, unplainAt}
-use Rattle.molang.specs.Write.{writtenCount}
-use Rattle.molang.specs.WriteEntry.{mostNodes, nextInNode, Shape, shapeAfter, continues, isWhole, treeFault, treesOf, WriteCall, refusedAt, orElse, forestRefusal, writeRefusal, writtenTokens, writeTold, writeAnswered}
+use Rattle.molang.specs.Words.{Field, operatorField, startField, endField, upperField, lowerField, countField, lowOf, lowFault, wordFault}
+use Rattle.molang.specs.Words.{variantAfter, nextInToken, Refusal, row, withPlace, withNumber, wordsRefusal}
+use Rattle.molang.specs.FirstFailure.{must, firstOf}
+use Rattle.molang.specs.Parse.{Call, mostTokens, refusal, reading, told, answered}
+use Rattle.molang.specs.Plain.{plainForm, seatOf, unplain, unplainAt}
+use Rattle.molang.specs.Write.{written}
+use Rattle.molang.specs.WriteEntry.{mostNodes, nextInNode, Shape, shapeAfter, continues, isWhole, treeFault, treesOf, WriteCall}
+use Rattle.molang.specs.WriteEntry.{forestRefusal, writeRefusal, writtenTokens, writeTold, writeAnswered}
 use Rattle.molang.proofs.Accepted.{call-accepted}
 use Rattle.molang.proofs.Bounds.{read-tree, read-messages}
-use Rattle.molang.proofs.Writing.{written-length}
+use Rattle.molang.proofs.FirstFailure.{last-one}
 use Rattle.write.proofs.RowLaws.{size-split}
 use Rattle.write.proofs.ShapeLaws.{continues-within, one-tree}
 use Rattle.sorbrudder.specs.Numbers.{FitsTold, FitsWritten}
@@ -28,60 +31,73 @@ abbrev All : {A : Type 0} → (A → Type 0) → Option A → Type 0
 All P none = Unit {0}
 All P (some a) = P a
 
+-- What holds of each answer holds of the first.
+module _ {A : Type 0} (P : A → Type 0) where
+  all-first : (o : Option A) (later : List (Option A)) → All P o → All P (firstOf later) → All P (firstOf (o ∷ later))
+  unfolding firstOf
+  all-first none later x y = y
+  all-first (some a) later x y = x
+
+  all-last : (o : Option A) → All P o → All P (firstOf (o ∷ []))
+  all-last o x = rw (last-one o) x
+
+  all-must : (b : Bool) (a : A) → P a → All P (must b a)
+  unfolding must
+  all-must true a x = tt
+  all-must false a x = x
+
 -- ---- Answer 12
 
 -- The words that a node begun still lacks.
-abbrev lacks : Slot → ℕ
-lacks operatorSlot = 0
-lacks startSlot = 5
-lacks endSlot = 4
-lacks upperSlot = 3
-lacks lowerSlot = 2
-lacks countSlot = 1
+abbrev lacks : Field → ℕ
+lacks operatorField = 0
+lacks startField = 5
+lacks endField = 4
+lacks upperField = 3
+lacks lowerField = 2
+lacks countField = 1
 
 -- A word takes up the place that it was counted for.
-taken : (slot : Slot) (w i : ℕ) (s : Shape) → i + lacks slot ≤ 6 * s .begun → suc i + lacks (nextInNode slot) ≤ 6 * shapeAfter slot w s .begun
+taken : (field : Field) (w i : ℕ) (s : Shape) → i + lacks field ≤ 6 * s .begun
+    → suc i + lacks (nextInNode field) ≤ 6 * shapeAfter field w s .begun
 unfolding nextInNode shapeAfter
-taken operatorSlot w i s h = omega arith
-taken startSlot w i s h = omega arith
-taken endSlot w i s h = omega arith
-taken upperSlot w i s h = omega arith
-taken lowerSlot w i s h = omega arith
-taken countSlot w i s h = omega arith
+taken operatorField w i s h = omega arith
+taken startField w i s h = omega arith
+taken endField w i s h = omega arith
+taken upperField w i s h = omega arith
+taken lowerField w i s h = omega arith
+taken countField w i s h = omega arith
 
-fault-place : (i : ℕ) (slot : Slot) (v : ℕ) (s : Shape) (ws : List ℕ) → s .begun ≤ s .called → s .called ≤ mostNodes
-    → i + lacks slot ≤ 6 * s .begun
-    → All (λ p. p ≤ 73728) (treeFault i slot v s ws)
-unfolding treeFault
-fault-place i slot v s [] b c h = split (isWhole slot s)
-  where
-    split : (t : Bool) → All (λ p. p ≤ 73728) (elim t [ true ↦ none | false ↦ some i ])
-    split true = tt
-    split false = omega arith
-fault-place i slot v s (w ∷ ws) b c h =
-    split (continues slot v s w) refl
+fault-place : (i : ℕ) (field : Field) (v : ℕ) (s : Shape) (ws : List ℕ) → s .begun ≤ s .called → s .called ≤ mostNodes
+    → i + lacks field ≤ 6 * s .begun
+    → All (λ p. p ≤ 73728) (treeFault i field v s ws)
+unfolding treeFault firstOf must
+fault-place i field v s [] b c h = all-must (λ p. p ≤ 73728) (isWhole field s) i (omega arith)
+fault-place i field v s (w ∷ ws) b c h =
+    split (continues field v s w) refl
     (λ e.
-    let x = continues-within slot v s w b e in
-    fault-place (suc i) (nextInNode slot) (variantAfter slot v w) (shapeAfter slot w s) ws (x .0) (x .1) (taken slot w i s h))
+    let x = continues-within field v s w b e in
+    fault-place (suc i) (nextInNode field) (variantAfter field v w) (shapeAfter field w s) ws (x .0) (x .1) (taken field w i s h))
   where
-    split : (t : Bool) → continues slot v s w ≡ t
-        → (continues slot v s w ≡ true → All (λ p. p ≤ 73728) (treeFault (suc i) (nextInNode slot) (variantAfter slot v w) (shapeAfter slot w s) ws))
-        → All (λ p. p ≤ 73728)
-        (elim t [ false ↦ some i | true ↦ treeFault (suc i) (nextInNode slot) (variantAfter slot v w) (shapeAfter slot w s) ws ])
-    split true e later = later e
-    split false e later = omega arith
+    later : Option ℕ
+    later = treeFault (suc i) (nextInNode field) (variantAfter field v w) (shapeAfter field w s) ws
+
+    split : (t : Bool) → continues field v s w ≡ t → (continues field v s w ≡ true → All (λ p. p ≤ 73728) later)
+        → All (λ p. p ≤ 73728) (firstOf (must t i ∷ later ∷ []))
+    split true e x = all-last (λ p. p ≤ 73728) later (x e)
+    split false e x = omega arith
 
 -- ---- Answer 13
 
 unplain-place : (p : Option Token) (i n : ℕ) (f : Forest) → All (λ m. m < n + size f) (unplain p i n f)
-unfolding unplain size
+unfolding unplain firstOf must size
 unplain-place p i n nil = tt
 unplain-place p i n (node k cs rest) =
-    split (plainForm (placeOf p i) k cs) (unplain (some k) 0 (suc n) cs) (unplain p (suc i) (suc n + size cs) rest)
+    split (plainForm (seatOf p i) k cs) (unplain (some k) 0 (suc n) cs) (unplain p (suc i) (suc n + size cs) rest)
     (unplain-place (some k) 0 (suc n) cs) (unplain-place p (suc i) (suc n + size cs) rest)
   where
     split : (b : Bool) (o later : Option ℕ) → All (λ m. m < suc n + size cs) o → All (λ m. m < suc n + size cs + size rest) later
-        → All (λ m. m < n + (1 + size cs + size rest)) (elim b [ false ↦ some n | true ↦ elim o [ some m ↦ some m | none ↦ later ] ])
+        → All (λ m. m < n + (1 + size cs + size rest)) (firstOf (must b n ∷ o ∷ later ∷ []))
     split false o later x y = omega arith
     split true (some m) later x y = omega arith
     split true none none x y = tt
@@ -102,29 +118,36 @@ trees-size (a ∷ b ∷ c ∷ d ∷ e ∷ n ∷ ws) = omega (arith, trees-size w
 
 -- Answers 13 to 15, or the count, of a tree of so many nodes.
 forest-fits : (f : Forest) (room : ℕ) → 6 * size f ≤ 73728 → FitsWritten (writeTold (forestRefusal f room) f)
-unfolding forestRefusal refusedAt orElse must writeTold writtenTokens size unplainAt
+unfolding forestRefusal firstOf must writeTold writtenTokens size unplainAt
 forest-fits nil room h = omega arith
 forest-fits (node k cs rest) room h =
-    split (unplain none 0 0 (node k cs nil)) (leb (writtenCount k cs) mostTokens) (leb (5 * writtenCount k cs) room) refl
-    (unplain-place none 0 0 (node k cs nil))
+    split (unplain none 0 0 (node k cs nil)) (leb n mostTokens) (leb (5 * n) room) refl (unplain-place none 0 0 (node k cs nil))
   where
-    split : (o : Option ℕ) (a b : Bool) → leb (writtenCount k cs) mostTokens ≡ a → All (λ m. m < 0 + size (node k cs nil)) o
-        → FitsWritten (writeTold (refusedAt 13 o (orElse (must a 14) (must b 15))) (node k cs rest))
+    n : ℕ
+    n = length (written k cs [])
+
+    split : (o : Option ℕ) (a b : Bool) → leb n mostTokens ≡ a → All (λ m. m < 0 + size (node k cs nil)) o
+        → FitsWritten (writeTold (firstOf (withNumber 13 o ∷ must a (row 14 0) ∷ must b (row 15 0) ∷ [])) (node k cs rest))
     split (some m) a b e x = (omega arith, omega arith)
     split none false b e x = (omega arith, omega arith)
     split none true false e x = (omega arith, omega arith)
-    split none true true e x = omega (arith, leb-true (writtenCount k cs) mostTokens e, written-length k cs [])
+    split none true true e x = omega (arith, leb-true n mostTokens e)
 
 pub written-fits : (w : WriteCall) → FitsWritten (writeAnswered w)
-unfolding writeAnswered writeRefusal refusedAt writeTold
+unfolding writeAnswered writeRefusal firstOf writeTold
 written-fits w =
-    split (treeFault 0 operatorSlot 0 (record { called = 1; begun = 0 }) (w .tree)) refl
-    (fault-place 0 operatorSlot 0 (record { called = 1; begun = 0 }) (w .tree) (omega arith) (omega arith) (omega arith))
+    split (treeFault 0 operatorField 0 (record { called = 1; begun = 0 }) (w .tree)) refl
+    (fault-place 0 operatorField 0 (record { called = 1; begun = 0 }) (w .tree) (omega arith) (omega arith) (omega arith))
   where
-    split : (o : Option ℕ) → treeFault 0 operatorSlot 0 (record { called = 1; begun = 0 }) (w .tree) ≡ o → All (λ p. p ≤ 73728) o
-        → FitsWritten (writeTold (refusedAt 12 o (forestRefusal (treesOf (w .tree)) (length (w .list)))) (treesOf (w .tree)))
+    later : Option Refusal
+    later = forestRefusal (treesOf (w .tree)) (length (w .list))
+
+    split : (o : Option ℕ) → treeFault 0 operatorField 0 (record { called = 1; begun = 0 }) (w .tree) ≡ o → All (λ p. p ≤ 73728) o
+        → FitsWritten (writeTold (firstOf (withNumber 12 o ∷ later ∷ [])) (treesOf (w .tree)))
     split (some p) e x = (omega arith, omega arith)
-    split none e x = forest-fits (treesOf (w .tree)) (length (w .list)) (omega (arith, trees-size (w .tree), one-tree (w .tree) e .small))
+    split none e x =
+        rw (last-one later)
+        (forest-fits (treesOf (w .tree)) (length (w .list)) (omega (arith, trees-size (w .tree), one-tree (w .tree) e .small)))
 
 -- ---- THE PARSE ENTRY
 
@@ -132,51 +155,42 @@ written-fits w =
 abbrev Placed : ℕ → Refusal → Type 0
 Placed most r = (r .number ≤ 11) × (r .place ≤ most)
 
-unless-most : (b : Bool) (n : ℕ) (later : Option ℕ) → n ≤ 11 → All (λ m. m ≤ 11) later → All (λ m. m ≤ 11) (unless b n later)
-unfolding unless
-unless-most true n later h x = x
-unless-most false n later h x = h
+abbrev Most : ℕ → Type 0
+Most n = n ≤ 11
 
-low-most : (slot : Slot) (v low : ℕ) → All (λ m. m ≤ 11) (lowFault slot v low)
+low-most : (field : Field) (v low : ℕ) → All Most (lowFault field v low)
 unfolding lowFault
-low-most operatorSlot v low =
-    unless-most _ 9 _ (omega arith) (unless-most _ 10 _ (omega arith) (unless-most _ 11 none (omega arith) tt))
-low-most startSlot v low = tt
-low-most endSlot v low = tt
-low-most upperSlot v low = unless-most _ 11 none (omega arith) tt
-low-most lowerSlot v low = unless-most _ 11 none (omega arith) tt
-low-most countSlot v low = unless-most _ 11 none (omega arith) tt
+low-most operatorField v low =
+    all-first Most _ _ (all-must Most _ 9 (omega arith))
+    (all-first Most _ _ (all-must Most _ 10 (omega arith)) (all-last Most _ (all-must Most _ 11 (omega arith))))
+low-most startField v low = tt
+low-most endField v low = tt
+low-most upperField v low = all-must Most _ 11 (omega arith)
+low-most lowerField v low = all-must Most _ 11 (omega arith)
+low-most countField v low = all-must Most _ 11 (omega arith)
 
-word-most : (slot : Slot) (v w : ℕ) → All (λ m. m ≤ 11) (wordFault slot v w)
+word-most : (field : Field) (v w : ℕ) → All Most (wordFault field v w)
 unfolding wordFault
-word-most slot v w = unless-most _ 8 _ (omega arith) (low-most slot v (lowOf w))
+word-most field v w = all-first Most _ _ (all-must Most _ 8 (omega arith)) (all-last Most _ (low-most field v (lowOf w)))
 
-words-placed : (i : ℕ) (slot : Slot) (v : ℕ) (ws : List ℕ) (most : ℕ) → i + length ws ≤ most → All (Placed most) (wordsRefusal i slot v ws)
+at-place : (o : Option ℕ) (place most : ℕ) → place ≤ most → All Most o → All (Placed most) (withPlace place o)
+at-place none place most h x = tt
+at-place (some n) place most h x = (x, h)
+
+words-placed : (i : ℕ) (field : Field) (v : ℕ) (ws : List ℕ) (most : ℕ) → i + length ws ≤ most
+    → All (Placed most) (wordsRefusal i field v ws)
 unfolding wordsRefusal
-words-placed i slot v [] most h = tt
-words-placed i slot v (w ∷ ws) most h =
-    split (wordFault slot v w) (word-most slot v w) (words-placed (suc i) (nextInToken slot) (variantAfter slot v w) ws most (omega arith))
-  where
-    split : (o : Option ℕ) → All (λ m. m ≤ 11) o → All (Placed most) (wordsRefusal (suc i) (nextInToken slot) (variantAfter slot v w) ws)
-        → All (Placed most)
-        (elim o [
-          | some n ↦ some (record { number = n; place = i })
-          | none ↦ wordsRefusal (suc i) (nextInToken slot) (variantAfter slot v w) ws
-        ])
-    split none x later = later
-    split (some n) x later = (x, omega arith)
+words-placed i field v [] most h = tt
+words-placed i field v (w ∷ ws) most h =
+    all-first (Placed most) _ _ (at-place (wordFault field v w) i most (omega arith) (word-most field v w))
+    (all-last (Placed most) _ (words-placed (suc i) (nextInToken field) (variantAfter field v w) ws most (omega arith)))
 
 -- A test at place 0, before others.
 must-placed : (b : Bool) (n most : ℕ) (later : List (Option Refusal)) → n ≤ 11 → (b ≡ true → All (Placed most) (firstOf later))
-    → All (Placed most) (firstOf (must b n ∷ later))
+    → All (Placed most) (firstOf (must b (row n 0) ∷ later))
 unfolding firstOf must
 must-placed true n most later h x = x refl
 must-placed false n most later h x = (h, omega arith)
-
-last-placed : (o : Option Refusal) (most : ℕ) → All (Placed most) o → All (Placed most) (firstOf (o ∷ []))
-unfolding firstOf
-last-placed none most x = tt
-last-placed (some r) most x = x
 
 refusal-placed : (c : Call) → All (Placed 20480) (refusal c)
 unfolding refusal
@@ -189,8 +203,8 @@ refusal-placed c =
     (λ w. must-placed _ 6 20480 _ (omega arith)
     (λ u. must-placed _ 7 20480 _ (omega arith)
     (λ s.
-    last-placed _ 20480
-    (words-placed 0 operatorSlot 0 (c .list) 20480
+    all-last (Placed 20480) _
+    (words-placed 0 operatorField 0 (c .list) 20480
     (omega (arith, eqb-true (length (c .list) % 5) 0 whole, leb-true (length (c .list) / 5) mostTokens few))))))))))
 
 pub told-fits : (c : Call) → FitsTold (answered c)

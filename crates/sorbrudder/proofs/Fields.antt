@@ -4,7 +4,8 @@ use Prim.Native.Nat.{ℕ, _^_, _<_}
 use native.Mathlib.Omega.{arith}
 use Rattle.molang.specs.Parse.{Call, Told, aTree, someMessages, refused, answered}
 use Rattle.molang.specs.WriteEntry.{WriteCall, WriteTold, tokens, unwritten, writeAnswered}
-use Rattle.sorbrudder.specs.Numbers.{packed, kindIn, numberIn, lowIn, toldNumber, toldBack, writeNumber, writeBack, FitsTold, FitsWritten}
+use Rattle.sorbrudder.specs.Numbers.{packed, kindIn, numberIn, lowIn, toldNumber, toldBack, writeNumber, writeBack, FitsTold}
+use Rattle.sorbrudder.specs.Numbers.{FitsWritten}
 use Rattle.sorbrudder.proofs.Bounds.{told-fits, written-fits}
 
 module _ (kind number low : ℕ) (n : number < 2 ^ 8) (l : low < 2 ^ 32) where

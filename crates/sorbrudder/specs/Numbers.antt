@@ -1,7 +1,10 @@
--- The two entries' answers as one number, as the exports give them: bits 0-31 a count or a refusal's place, bits 32-39 a refusal's number, else
--- 0, bits 40-47 the kind of the answer: 0 a tree or tokens, 1 messages, 2 a refusal. And the way back.
+-- The two entries' answers as one number, as the exports give them: bits 0-31 a count or a refusal's place, bits 32-39 a refusal's number,
+-- else 0, bits 40-47 the kind of the answer: 0 a tree or tokens, 1 messages, 2 a refusal. And the way back; and the exported reader's
+-- promise.
 use Prim.Native.Nat.{ℕ, zero, suc, _+_, _*_, _/_, _%_, _^_, _<_}
-use Rattle.molang.specs.Parse.{Told, aTree, someMessages, refused}
+use mathlib.Core.Path.{_≡_}
+use mathlib.Core.List.{List}
+use Rattle.molang.specs.Parse.{Call, Told, aTree, someMessages, refused, answered, treeAfter, messagesAfter, workAfter}
 use Rattle.molang.specs.WriteEntry.{WriteTold, tokens, unwritten}
 
 -- A number by its three fields.
@@ -60,3 +63,10 @@ FitsTold (refused number place) = (number < 2 ^ 8) × (place < 2 ^ 32)
 abbrev pub FitsWritten : WriteTold → Type 0
 FitsWritten (tokens count) = count < 2 ^ 32
 FitsWritten (unwritten number place) = (number < 2 ^ 8) × (place < 2 ^ 32)
+
+-- THE EXPORTED READER'S PROMISE: the answer's number, and what each lent buffer holds after the call.
+pub record HasParsedTo (c : Call) (number : ℕ) (tree' messages' work' : List ℕ) : Type 0 where
+  pub told : number ≡ toldNumber (answered c)
+  pub tree : tree' ≡ treeAfter c
+  pub messages : messages' ≡ messagesAfter c
+  pub work : work' ≡ workAfter c

@@ -6,11 +6,10 @@ use write::Written;
 use write::write;
 ghost use mathlib.Core.Path.{_≡_};
 ghost use Prim.Native.Nat.{_<_, _^_};
-ghost use Rattle.molang.specs.Parse.{answered, treeAfter, messagesAfter, workAfter};
 ghost use Rattle.molang.specs.WriteEntry.{writeAnswered, listAfter};
 ghost use Rattle.parse.specs.Answers.{toldOf, call as parseCall};
 ghost use Rattle.write.specs.Answers.{told, call};
-ghost use Rattle.sorbrudder.specs.Numbers.{packed, toldNumber, writeNumber, FitsTold, FitsWritten};
+ghost use Rattle.sorbrudder.specs.Numbers.{packed, toldNumber, writeNumber, FitsTold, FitsWritten, HasParsedTo};
 
 // The kinds of an answer, in bits 40-47.
 const MESSAGES: u64 = 0x100_0000_0000;
@@ -52,10 +51,10 @@ pub extern "C" fn sorbrudder_parse(
     used_low: u64,
     used_high: u64,
 ) -> u64
-    ensures { λ r. ⌜ r ≡ toldNumber (answered (parseCall (now (list .entry)) (now (tree .entry)) (now (messages .entry)) (now (work .entry)) «source_length» version «used_low» «used_high»)) ⌝ }
-    ensures { λ _. ⌜ now (tree .exit) ≡ treeAfter (parseCall (now (list .entry)) (now (tree .entry)) (now (messages .entry)) (now (work .entry)) «source_length» version «used_low» «used_high») ⌝ }
-    ensures { λ _. ⌜ now (messages .exit) ≡ messagesAfter (parseCall (now (list .entry)) (now (tree .entry)) (now (messages .entry)) (now (work .entry)) «source_length» version «used_low» «used_high») ⌝ }
-    ensures { λ _. ⌜ now (work .exit) ≡ workAfter (parseCall (now (list .entry)) (now (tree .entry)) (now (messages .entry)) (now (work .entry)) «source_length» version «used_low» «used_high») ⌝ }
+    ensures { λ r. ⌜ HasParsedTo
+        (parseCall (now (list .entry)) (now (tree .entry)) (now (messages .entry)) (now (work .entry))
+        «source_length» version «used_low» «used_high»)
+        r (now (tree .exit)) (now (messages .exit)) (now (work .exit)) ⌝ }
 {
     let answer = parse(
         list,

@@ -2,63 +2,46 @@
 use Prim.Native.Nat.{ℕ, zero, suc, _+_, _-_, _*_, _/_, _%_, _^_, _≤_, _<_}
 use mathlib.Core.Path.{_≡_, refl, ap, sym, _∙_}
 use mathlib.Core.Bool.{Bool, true, false}
-use mathlib.Core.List.{List, [], _∷_, _++_, append-assoc, append-nil}
+use mathlib.Core.List.{List, [], _∷_, _++_}
 use native.Mathlib.Numerals.{add-one}
-use native.Mathlib.Nat.{add-zero, pow-le-pow-right}
+use native.Mathlib.Nat.{pow-le-pow-right}
 use native.Mathlib.Omega.{arith, pow-step}
 use lib.Dec.{leb, ltb}
-use lib.ListN.{length, take, set, getD, length-append, length-set, length-take}
-use lib.Seq.{take-suc, take-suc-set, take-all}
+use lib.ListN.{length, take, set, getD, length-append}
+use lib.Seq.{take-suc, take-all, length-take-le}
 use borrow.Author.Tests.{lt-ltb, le-ltb, leb-true, leb-false}
 use Rattle.io.specs.Digits.{digits, glyph, Fewest}
+use Rattle.words.specs.Records.{laidAt}
+use Rattle.words.proofs.RecordLaws.{none-laid, laid-laid, laid-sets}
 use Rattle.text.specs.Text.{decimalIn, decimal, numbered, Wrote}
 
 -- Nothing is laid, and a text behind a text.
 pub wrote-none : (out : List ℕ) (at : ℕ) → Wrote out at [] at out
-wrote-none out at = record { same = refl; ends = omega arith; front = sym (append-nil (take at out)) }
+wrote-none out at = record { ends = omega arith; whole = none-laid at out }
 
-pub wrote-start : (out : List ℕ) (at : ℕ) → Wrote out at [] (at + 0) out
-wrote-start out at = rw add-zero (wrote-none out at)
-
-pub wrote-then : {a b c : List ℕ} {at m r : ℕ} {s t : List ℕ} → Wrote a at s m b → Wrote b m t r c → Wrote a at (s ++ t) r c
-wrote-then {a} {b} {c} {at} {m} {r} {s} {t} p q =
+pub wrote-then : {a b c : List ℕ} {at m r : ℕ} {s t : List ℕ} → at ≤ length a → Wrote a at s m b → Wrote b m t r c → Wrote a at (s ++ t) r c
+wrote-then {a} {b} {c} {at} {m} {r} {s} {t} h p q =
     record {
-      same = q .same ∙ p .same;
       ends = omega (arith, length-append s t, p .ends, q .ends);
-      front = q .front ∙ ap (λ (l : List ℕ). l ++ t) (p .front) ∙ append-assoc (take at a) s t;
+      whole = q .whole ∙ (λ i. laidAt (p .ends i) t (p .whole i)) ∙ laid-laid at s t a h;
     }
 
 -- One byte more of a text.
-pub wrote-byte : (out₀ out : List ℕ) (at : ℕ) (bytes : List ℕ) (i : ℕ) → at + length bytes ≤ length out₀ → i < length bytes
-    → Wrote out₀ at (take i bytes) (at + i) out
-    → Wrote out₀ at (take (i + 1) bytes) (at + (i + 1)) (set out (at + i) (getD bytes i 0))
-wrote-byte out₀ out at bytes i room h w =
-    let here : at + i < length out = omega (arith, w .same) in
-    let next : at + (i + 1) ≡ suc (at + i) = omega arith in
-    record {
-      same = length-set out (at + i) (getD bytes i 0) ∙ w .same;
-      ends = omega (arith, length-take (i + 1) bytes);
-      front =
-          ap (λ (n : ℕ). take n (set out (at + i) (getD bytes i 0))) next
-          ∙ take-suc-set out (at + i) (getD bytes i 0) here
-          ∙ ap (λ (l : List ℕ). l ++ (getD bytes i 0 ∷ [])) (w .front)
-          ∙ append-assoc (take at out₀) (take i bytes) (getD bytes i 0 ∷ [])
-          ∙ ap (λ (l : List ℕ). take at out₀ ++ l) (sym (ap (λ (n : ℕ). take n bytes) (add-one i) ∙ take-suc bytes i 0 h));
-    }
+pub byte-laid : (out₀ out : List ℕ) (at : ℕ) (bytes : List ℕ) (i : ℕ) → at + length bytes ≤ length out₀ → length out ≡ length out₀
+    → i < length bytes
+    → out ≡ laidAt at (take i bytes) out₀
+    → set out (at + i) (getD bytes i 0) ≡ laidAt at (take (i + 1) bytes) out₀
+byte-laid out₀ out at bytes i room long h e =
+    let byte = getD bytes i 0 in
+    let size : length (take i bytes) ≡ i = length-take-le i bytes (omega arith) in
+    laid-sets (byte ∷ []) out (at + i) (omega (arith, long))
+    ∙ ap (laidAt (at + i) (byte ∷ [])) e
+    ∙ (rw size at (laid-laid at (take i bytes) (byte ∷ []) out₀ (omega arith)))
+    ∙ ap (λ (l : List ℕ). laidAt at l out₀) (sym (ap (λ (n : ℕ). take n bytes) (add-one i) ∙ take-suc bytes i 0 h))
 
-pub wrote-all : {out₀ out : List ℕ} {at : ℕ} {bytes : List ℕ} {i : ℕ} → length bytes ≤ i → i ≤ length bytes
-    → Wrote out₀ at (take i bytes) (at + i) out → Wrote out₀ at bytes (at + length bytes) out
-wrote-all {out₀} {out} {at} {bytes} {i} h g w =
-    let end : at + length bytes ≡ at + i = omega arith in
-    record {
-      same = w .same;
-      ends = refl;
-      front = ap (λ (n : ℕ). take n out) end ∙ w .front ∙ ap (λ (l : List ℕ). take at out₀ ++ l) (take-all i bytes h);
-    }
-
--- A text from the first byte on.
-pub text-in : {a b s : List ℕ} {r : ℕ} (k : ℕ) → Wrote a 0 s r b → length s ≤ k → k ≤ length a → (r ≤ length b) × (take r b ≡ s)
-text-in k w h room = (omega (arith, w .ends, w .same), w .front)
+pub wrote-all : {out₀ out : List ℕ} {at : ℕ} {bytes : List ℕ} {i : ℕ} → length bytes ≤ i → out ≡ laidAt at (take i bytes) out₀
+    → Wrote out₀ at bytes (at + length bytes) out
+wrote-all {out₀} {at = at} {bytes} {i} h e = record { ends = refl; whole = e ∙ ap (λ (l : List ℕ). laidAt at l out₀) (take-all i bytes h) }
 
 -- LENGTHS
 decimal-in-length : (k n : ℕ) → length (decimalIn k n) ≤ k
@@ -111,7 +94,8 @@ few-digits n k h few = by-test (leb k 20) refl
         let long = leb-false k 20 e in
         absurd (omega (arith, few .2 (omega arith), pow-le-pow-right {n = 10} (omega arith) {i = 20} {j = k - 1} (omega arith)))
 
-pub wrote-decimal : {a b : List ℕ} {at r : ℕ} {ds : List ℕ} (n k : ℕ) → n < 2 ^ 64 → Fewest 10 1 n k → ds ≡ digits 10 k n → Wrote a at ds r b
+pub wrote-decimal : {a b : List ℕ} {at r : ℕ} {ds : List ℕ} (n k : ℕ) → n < 2 ^ 64 → Fewest 10 1 n k → ds ≡ digits 10 k n
+    → Wrote a at ds r b
     → Wrote a at (decimal n) r b
 unfolding decimal
 wrote-decimal {ds = ds} n k h few e w =

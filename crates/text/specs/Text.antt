@@ -6,7 +6,8 @@ use mathlib.Core.Path.{_≡_}
 use mathlib.Core.Bool.{true, false}
 use mathlib.Core.List.{List, [], _∷_, _++_}
 use lib.Dec.{ltb}
-use lib.ListN.{length, take}
+use lib.ListN.{length}
+use Rattle.words.specs.Records.{laidAt}
 
 -- The codes of a quoted text, which are its bytes where all its characters are ASCII.
 abbrev pub ascii : String → List ℕ
@@ -34,8 +35,7 @@ space = 32
 abbrev pub lineEnd : ℕ
 lineEnd = 10
 
--- A text laid into bytes at a place, with what stands before it as it was; `end` is the place behind it.
+-- A text laid into bytes at a place, with all else as it was; `end` is the place behind it.
 pub record Wrote (before : List ℕ) (at : ℕ) (text : List ℕ) (end : ℕ) (after : List ℕ) : Type 0 where
-  pub same : length after ≡ length before
   pub ends : end ≡ at + length text
-  pub front : take end after ≡ take at before ++ text
+  pub whole : after ≡ laidAt at text before

@@ -1,5 +1,5 @@
-// Text laid into a lent buffer of bytes, a part behind the other: bytes as they are, and numbers in decimal. Leans on io (digits);
-// specs/Text has the definitions.
+// Text laid into a lent buffer of bytes, a part behind the other: bytes as they are, and numbers in decimal. All bytes but those of the
+// text stay as they were. Leans on io (digits) and on words (what it is to be laid); specs/Text has the definitions.
 ghost use mathlib.Core.Path.{_≡_};
 ghost use Prim.Native.Nat.{_+_, _≤_};
 ghost use lib.ListN.{length};
@@ -19,17 +19,17 @@ pub fn put_bytes(out: &mut [u8], at: usize, bytes: &[u8]) -> usize
 }
 
 // A number in decimal.
-pub fn put_decimal(out: &mut [u8], at: usize, n: u64) -> usize
+pub fn put_decimal(out: &mut [u8], at: usize, n: usize) -> usize
     requires { ⌜ at + 20 ≤ length (now out) ⌝ }
     ensures { λ r. ⌜ Wrote (now (out .entry)) at (decimal n) r (now (out .exit)) ⌝ }
 {
     let mut digits = [0u8; 20];
-    let k = io::decimal(n, &mut digits);
+    let k = io::decimal(n as u64, &mut digits);
     put_bytes(out, at, &digits[..k])
 }
 
 // A number in decimal, and the byte that stands after it.
-pub fn put_number(out: &mut [u8], at: usize, n: u64, after: u8) -> usize
+pub fn put_number(out: &mut [u8], at: usize, n: usize, after: u8) -> usize
     requires { ⌜ at + 21 ≤ length (now out) ⌝ }
     ensures { λ r. ⌜ Wrote (now (out .entry)) at (numbered n after) r (now (out .exit)) ⌝ }
 {

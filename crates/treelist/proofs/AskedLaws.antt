@@ -1,6 +1,6 @@
 -- Where the program turns an input back, and what a call of the entry on a list of at most 128 tokens at its exact used set comes to.
 use Prim.Native.Nat.{ℕ, _+_, _-_, _*_, _/_, _%_, _^_, _≤_, _<_}
-use mathlib.Core.Path.{_≡_, refl, ap, _∙_, fun-ext}
+use mathlib.Core.Path.{_≡_, refl, ap, sym, _∙_, fun-ext}
 use mathlib.Core.Bool.{Bool, _&&_}
 use mathlib.Core.List.{List, [], _∷_}
 use mathlib.Core.Option.{Option, none, some}
@@ -9,45 +9,48 @@ use lib.Dec.{eqb, leb, ltb}
 use lib.IntN.{ℤ}
 use lib.ListN.{length, take, drop, getD, replicate, length-take, length-drop}
 use borrow.Author.Tests.{eq-eqb, ne-eqb, le-leb, lt-leb, lt-ltb, le-ltb}
-use Rattle.molang.specs.Words.{Refusal, operatorSlot, wordsRefusal, tokensOf}
+use Rattle.molang.specs.FirstFailure.{must, firstOf}
+use Rattle.molang.specs.Words.{Refusal, row, operatorField, wordsRefusal, tokensOf}
 use Rattle.molang.specs.Read.{Answer, read}
 use Rattle.molang.proofs.Bounds.{Bounded, fewNodes, fewMessages, read-bounded}
 use Rattle.molang.proofs.Reread.{tokens-count}
-use Rattle.molang.specs.Parse.{Call, Told, refused, must, firstOf, inHalves, refusal, reading, told, answered, treeIn, treeAfter, messagesIn, messagesAfter}
-use Rattle.checks.proofs.AcceptLaws.{last-row}
-use Rattle.exact.specs.Exact.{named, highest}
-use Rattle.exact.proofs.WordLaws.{exact-few, highest-few}
+use Rattle.molang.specs.Parse.{Call, Told, refused, inHalves, refusal, reading, told, answered, treeIn, treeAfter, messagesIn}
+use Rattle.molang.specs.Parse.{messagesAfter}
+use Rattle.molang.proofs.FirstFailure.{last-one, after-none}
+use Rattle.derived.specs.Derived.{named, highest}
+use Rattle.derived.proofs.WordLaws.{exact-few, highest-few}
 use Rattle.parse.specs.Answers.{call}
-use Rattle.molang.specs.WriteEntry.{orElse}
 use Rattle.molang.specs.Lines.{versionOf}
 use Rattle.treelist.specs.Rows.{Printable, answerText}
 use Rattle.treelist.specs.Listing.{wordsIn, printed, listLength, turnedBack, Readable, readingOf, listOf, faultOf, answerOf}
 
-abbrev at-zero : ℕ → Refusal
-at-zero n = record { number = n; place = 0 }
-
 -- WHERE AN INPUT IS TURNED BACK
-pub turned-part : (bytes first : ℕ) → (bytes % 4 ≡ 0 → ⊥) → some (at-zero 1) ≡ turnedBack bytes first
+pub turned-part : (bytes first : ℕ) → (bytes % 4 ≡ 0 → ⊥) → some (row 1 0) ≡ turnedBack bytes first
 unfolding turnedBack must firstOf
 turned-part bytes first h = rw (ne-eqb (bytes % 4) 0 h) refl
 
 -- Whole words: the other tests decide.
 whole-words : (bytes first : ℕ) → bytes % 4 ≡ 0
     → turnedBack bytes first
-    ≡ firstOf (must (leb 4 bytes && ltb first (2 ^ 16)) 8 ∷ must (eqb (listLength bytes % 5) 0) 1 ∷ must (leb (listLength bytes) 640) 2 ∷ [])
+    ≡ firstOf
+    (must (leb 4 bytes && ltb first (2 ^ 16)) (row 8 0)
+    ∷ must (eqb (listLength bytes % 5) 0) (row 1 0)
+    ∷ must (leb (listLength bytes) 640) (row 2 0)
+    ∷ [])
 unfolding turnedBack must firstOf
 whole-words bytes first h = rw (eq-eqb (bytes % 4) 0 h) refl
 
-pub turned-empty : (first : ℕ) → some (at-zero 8) ≡ turnedBack 0 first
+pub turned-empty : (first : ℕ) → some (row 8 0) ≡ turnedBack 0 first
 unfolding turnedBack must firstOf
 turned-empty first = refl
 
-pub turned-first : (bytes first : ℕ) → bytes % 4 ≡ 0 → (bytes ≡ 0 → ⊥) → 65535 < first → some (at-zero 8) ≡ turnedBack bytes first
+pub turned-first : (bytes first : ℕ) → bytes % 4 ≡ 0 → (bytes ≡ 0 → ⊥) → 65535 < first → some (row 8 0) ≡ turnedBack bytes first
 unfolding must firstOf
-turned-first bytes first whole some-bytes h = rw (whole-words bytes first whole, le-leb 4 bytes (omega arith), le-ltb first 65536 (omega arith)) refl
+turned-first bytes first whole some-bytes h =
+    rw (whole-words bytes first whole, le-leb 4 bytes (omega arith), le-ltb first 65536 (omega arith)) refl
 
 pub turned-words : (bytes first : ℕ) → bytes % 4 ≡ 0 → (bytes ≡ 0 → ⊥) → first ≤ 65535 → (listLength bytes % 5 ≡ 0 → ⊥)
-    → some (at-zero 1) ≡ turnedBack bytes first
+    → some (row 1 0) ≡ turnedBack bytes first
 unfolding must firstOf
 turned-words bytes first whole some-bytes low h =
     rw (
@@ -58,7 +61,7 @@ turned-words bytes first whole some-bytes low h =
     ) refl
 
 pub turned-long : (bytes first : ℕ) → bytes % 4 ≡ 0 → (bytes ≡ 0 → ⊥) → first ≤ 65535 → listLength bytes % 5 ≡ 0 → 640 < listLength bytes
-    → some (at-zero 2) ≡ turnedBack bytes first
+    → some (row 2 0) ≡ turnedBack bytes first
 unfolding must firstOf
 turned-long bytes first whole some-bytes low tokens h =
     rw (
@@ -83,11 +86,11 @@ not-turned bytes first whole some-bytes low tokens h =
 
 -- THE CALL OF THE ENTRY. Of its checks only those of the words are left, and its used set is the list's own.
 module _ (list tree messages : List ℕ) (ok : Readable list tree messages) (work : List ℕ) (room : length work ≡ 8256) (source : ℕ)
-    (ends : source ≡ highest operatorSlot 0 list) (version : ℤ) (low high : ℕ) (exact : (n : ℕ) → inHalves low high n ≡ named operatorSlot list n) where
+    (ends : source ≡ highest operatorField 0 list) (version : ℤ) (low high : ℕ) (exact : (n : ℕ) → inHalves low high n ≡ named operatorField list n) where
   abbrev called : Call
   called = call list tree messages work source version low high
 
-  pub called-refusal : refusal called ≡ wordsRefusal 0 operatorSlot 0 list
+  pub called-refusal : refusal called ≡ wordsRefusal 0 operatorField 0 list
   unfolding refusal must firstOf
   called-refusal =
       let few : length list / 5 ≤ 128 = omega (arith, ok .few) in
@@ -98,43 +101,44 @@ module _ (list tree messages : List ℕ) (ok : Readable list tree messages) (wor
         le-leb 16 (length messages) (omega (arith, ok .messageRoom)),
         le-leb (64 * (length list / 5) + 64) (length work) (omega arith),
         lt-ltb (high * 2 ^ 64 + low) (2 ^ 111) (exact-few low high list exact),
-        le-leb source 536870911 (omega (arith, highest-few operatorSlot 0 list (omega arith))),
+        le-leb source 536870911 (omega (arith, highest-few operatorField 0 list (omega arith))),
       )
-      (last-row (wordsRefusal 0 operatorSlot 0 list))
+      (last-one (wordsRefusal 0 operatorField 0 list))
 
   pub called-reading : reading called ≡ readingOf list version
   unfolding reading readingOf
   called-reading =
       ap (λ (u : ℕ → Bool). read (tokensOf list) u version source) (fun-ext exact)
-      ∙ ap (read (tokensOf list) (named operatorSlot list) version) ends
+      ∙ ap (read (tokensOf list) (named operatorField list) version) ends
 
-  pub told-called : answered called ≡ told (wordsRefusal 0 operatorSlot 0 list) (readingOf list version)
+  pub told-called : answered called ≡ told (wordsRefusal 0 operatorField 0 list) (readingOf list version)
   unfolding answered
   told-called = rw (called-refusal, called-reading) refl
 
-  pub tree-called : treeAfter called ≡ treeIn (wordsRefusal 0 operatorSlot 0 list) (readingOf list version) tree
+  pub tree-called : treeAfter called ≡ treeIn (wordsRefusal 0 operatorField 0 list) (readingOf list version) tree
   unfolding treeAfter
   tree-called = rw (called-refusal, called-reading) refl
 
-  pub messages-called : messagesAfter called ≡ messagesIn (wordsRefusal 0 operatorSlot 0 list) (readingOf list version) messages
+  pub messages-called : messagesAfter called ≡ messagesIn (wordsRefusal 0 operatorField 0 list) (readingOf list version) messages
   unfolding messagesAfter
   messages-called = rw (called-refusal, called-reading) refl
 
 -- THE ANSWER
 module _ (bytes : ℕ) (words : List ℕ) where
   -- An input that the program turns back.
-  pub back-told : (number : ℕ) → some (at-zero number) ≡ turnedBack bytes (getD words 0 0) → refused number 0 ≡ told (faultOf bytes words) (answerOf bytes words)
-  unfolding faultOf orElse told
+  pub back-told : (number : ℕ) → some (row number 0) ≡ turnedBack bytes (getD words 0 0)
+      → refused number 0 ≡ told (faultOf bytes words) (answerOf bytes words)
+  unfolding faultOf firstOf told
   back-told number h = rw (← h) refl
 
-  pub back-tree : (number : ℕ) → some (at-zero number) ≡ turnedBack bytes (getD words 0 0) → (tree : List ℕ)
+  pub back-tree : (number : ℕ) → some (row number 0) ≡ turnedBack bytes (getD words 0 0) → (tree : List ℕ)
       → tree ≡ treeIn (faultOf bytes words) (answerOf bytes words) tree
-  unfolding faultOf orElse treeIn
+  unfolding faultOf firstOf treeIn
   back-tree number h tree = rw (← h) refl
 
-  pub back-messages : (number : ℕ) → some (at-zero number) ≡ turnedBack bytes (getD words 0 0) → (messages : List ℕ)
+  pub back-messages : (number : ℕ) → some (row number 0) ≡ turnedBack bytes (getD words 0 0) → (messages : List ℕ)
       → messages ≡ messagesIn (faultOf bytes words) (answerOf bytes words) messages
-  unfolding faultOf orElse messagesIn
+  unfolding faultOf firstOf messagesIn
   back-messages number h messages = rw (← h) refl
 
   -- The list of one that it reads.
@@ -144,9 +148,11 @@ module _ (bytes : ℕ) (words : List ℕ) where
       let m : n + 1 - 1 ≡ listLength bytes = omega arith in ap (λ (m : ℕ). take m (drop 1 words)) m
 
   pub read-fault : (n : ℕ) → none ≡ turnedBack bytes (getD words 0 0) → n ≡ listLength bytes
-      → wordsRefusal 0 operatorSlot 0 (take (n + 1 - 1) (drop 1 words)) ≡ faultOf bytes words
-  unfolding faultOf orElse
-  read-fault n h e = rw (← h) (ap (wordsRefusal 0 operatorSlot 0) (same-list n e))
+      → wordsRefusal 0 operatorField 0 (take (n + 1 - 1) (drop 1 words)) ≡ faultOf bytes words
+  unfolding faultOf
+  read-fault n h e =
+      ap (wordsRefusal 0 operatorField 0) (same-list n e)
+      ∙ sym (after-none (turnedBack bytes (getD words 0 0)) (wordsRefusal 0 operatorField 0 (listOf bytes words)) (sym h))
 
   pub read-answer : (n : ℕ) (version : ℤ) → n ≡ listLength bytes → version ≡ versionOf (getD words 0 0)
       → readingOf (take (n + 1 - 1) (drop 1 words)) version ≡ answerOf bytes words
@@ -165,7 +171,7 @@ unfolding answerOf readingOf listOf
 printable bytes words h =
     let list = listOf bytes words in
     bounded-printable (faultOf bytes words)
-    (read-bounded (tokensOf list) (named operatorSlot list) (versionOf (getD words 0 0)) (highest operatorSlot 0 list))
+    (read-bounded (tokensOf list) (named operatorField list) (versionOf (getD words 0 0)) (highest operatorField 0 list))
     (omega (arith, tokens-count list, length-take (listLength bytes) (drop 1 words), length-drop 1 words))
 
 -- What is printed, by what was read.

@@ -37,7 +37,8 @@ pub node-rows-length : (i : ℕ) (tree : List ℕ) → length (nodeRows i tree) 
 unfolding nodeRows nodeNumbers
 node-rows-length zero tree = omega arith
 node-rows-length (suc i) tree =
-    omega (arith, length-append (nodeRows i tree) (row (nodeNumbers tree (6 * i))), node-rows-length i tree, row-length (nodeNumbers tree (6 * i)) (omega arith))
+    omega
+    (arith, length-append (nodeRows i tree) (row (nodeNumbers tree (6 * i))), node-rows-length i tree, row-length (nodeNumbers tree (6 * i)) (omega arith))
 
 pub record-rows-length : (i : ℕ) (messages : List ℕ) → 8 * i ≤ length messages → length (recordRows i messages) ≤ 168 * i
 unfolding recordRows
@@ -53,18 +54,20 @@ record-rows-length (suc i) messages h =
     )
 
 -- ROWS, one after the other
-pub spaced-on : {a b c : List ℕ} {at m r : ℕ} (ns : List ℕ) (i n : ℕ) → n ≡ getD ns i 0 → Wrote a at (spaced i ns) m b → Wrote b m (numbered n space) r c
+pub spaced-on : {a b c : List ℕ} {at m r : ℕ} → at ≤ length a → (ns : List ℕ) (i n : ℕ) → n ≡ getD ns i 0 → Wrote a at (spaced i ns) m b
+    → Wrote b m (numbered n space) r c
     → Wrote a at (spaced (i + 1) ns) r c
 unfolding spaced
-spaced-on {a} {b} {c} {at} {m} {r} ns i n e p q =
+spaced-on h ns i n e p q =
     let step : spaced (i + 1) ns ≡ spaced i ns ++ numbered (getD ns i 0) space = ap (λ (k : ℕ). spaced k ns) (add-one i) in
-    rw step (wrote-then p (rw e at q))
+    rw step (wrote-then h p (rw e at q))
 
-pub row-done : {a b c : List ℕ} {at m r : ℕ} (ns : List ℕ) (i n : ℕ) → i ≡ length ns - 1 → n ≡ getD ns (length ns - 1) 0 → Wrote a at (spaced i ns) m b
+pub row-done : {a b c : List ℕ} {at m r : ℕ} → at ≤ length a → (ns : List ℕ) (i n : ℕ) → i ≡ length ns - 1 → n ≡ getD ns (length ns - 1) 0
+    → Wrote a at (spaced i ns) m b
     → Wrote b m (numbered n lineEnd) r c
     → Wrote a at (row ns) r c
 unfolding row
-row-done ns i n k e p q = wrote-then (rw k at p) (rw e at q)
+row-done h ns i n k e p q = wrote-then h (rw k at p) (rw e at q)
 
 pub node-laid : {a b : List ℕ} {at r operator children start end : ℕ} (tree : List ℕ) (from : ℕ) → operator ≡ operatorOf (getD tree from 0)
     → children ≡ lowOf (getD tree (from + 5) 0)
@@ -75,19 +78,25 @@ pub node-laid : {a b : List ℕ} {at r operator children start end : ℕ} (tree 
 unfolding nodeNumbers
 node-laid tree from o n s e w = rw (o, n, s, e) at w
 
-pub nodes-on : {a b c : List ℕ} {at m r : ℕ} (tree : List ℕ) (i : ℕ) → Wrote a at (nodeRows i tree) m b → Wrote b m (row (nodeNumbers tree (6 * i))) r c
+pub nodes-on : {a b c : List ℕ} {at m r : ℕ} → at ≤ length a → (tree : List ℕ) (i : ℕ) → Wrote a at (nodeRows i tree) m b
+    → Wrote b m (row (nodeNumbers tree (6 * i))) r c
     → Wrote a at (nodeRows (i + 1) tree) r c
 unfolding nodeRows
-nodes-on tree i p q =
+nodes-on h tree i p q =
     let step : nodeRows (i + 1) tree ≡ nodeRows i tree ++ row (nodeNumbers tree (6 * i)) = ap (λ (k : ℕ). nodeRows k tree) (add-one i) in
-    rw step (wrote-then p q)
+    rw step (wrote-then h p q)
 
-pub records-on : {a b c : List ℕ} {at m r : ℕ} (messages : List ℕ) (i : ℕ) → Wrote a at (recordRows i messages) m b
+pub records-on : {a b c : List ℕ} {at m r : ℕ} → at ≤ length a → (messages : List ℕ) (i : ℕ) → Wrote a at (recordRows i messages) m b
     → Wrote b m (row (take 8 (drop (8 * i) messages))) r c
     → Wrote a at (recordRows (i + 1) messages) r c
 unfolding recordRows
-records-on messages i p q =
+records-on h messages i p q =
     let step : recordRows (i + 1) messages ≡ recordRows i messages ++ row (take 8 (drop (8 * i) messages)) =
     ap (λ (k : ℕ). recordRows k messages) (add-one i)
     in
-    rw step (wrote-then p q)
+    rw step (wrote-then h p q)
+
+-- Three texts from the first byte on.
+pub three : {a b c d : List ℕ} {m k r : ℕ} {s t u : List ℕ} → Wrote a 0 s m b → Wrote b m t k c → Wrote c k u r d
+    → Wrote a 0 ((s ++ t) ++ u) r d
+three {a} p q w = wrote-then {a = a} {at = 0} (omega arith) (wrote-then {a = a} {at = 0} (omega arith) p q) w

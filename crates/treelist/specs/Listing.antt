@@ -1,4 +1,5 @@
--- The program `treelist` (document 01, end of 'Lists and their trees'): what it prints for an input, by the count of its bytes and its front.
+-- The program `treelist` (document 01, end of 'Lists and their trees'): what it prints for an input, by the count of its bytes and its
+-- front.
 use Prim.Native.Nat.{ℕ, _+_, _-_, _*_, _/_, _%_, _^_, _≤_, _<_}
 use mathlib.Core.Path.{_≡_}
 use mathlib.Core.Bool.{_&&_}
@@ -7,12 +8,12 @@ use mathlib.Core.Option.{Option, none, some}
 use lib.Dec.{eqb, leb, ltb}
 use lib.IntN.{ℤ}
 use lib.ListN.{length, take, drop, getD, replicate}
-use Rattle.molang.specs.Words.{Refusal, operatorSlot, wordsRefusal, tokensOf}
+use Rattle.molang.specs.FirstFailure.{must, firstOf}
+use Rattle.molang.specs.Words.{Refusal, row, operatorField, wordsRefusal, tokensOf}
 use Rattle.molang.specs.Read.{Answer, read}
-use Rattle.molang.specs.Parse.{told, must, firstOf, treeIn, messagesIn}
-use Rattle.molang.specs.WriteEntry.{orElse}
+use Rattle.molang.specs.Parse.{told, treeIn, messagesIn}
 use Rattle.molang.specs.Lines.{versionOf}
-use Rattle.exact.specs.Exact.{named, highest}
+use Rattle.derived.specs.Derived.{named, highest}
 use Rattle.treelist.specs.declared.asked.Request.{Request}
 use Rattle.treelist.specs.declared.asked.Request.the-variants.{List as Request·List, Refused}
 use Rattle.treelist.specs.Rows.{answerText}
@@ -29,25 +30,25 @@ wordsIn (a ∷ b ∷ c ∷ d ∷ bytes) = (a + 2 ^ 8 * b + 2 ^ 16 * c + 2 ^ 24 *
 unfoldable pub listLength : ℕ → ℕ
 listLength bytes = bytes / 4 - 1
 
--- Where the program turns an input back by its count of bytes and its first word, in this order. A word of kind 0 with no bit above the lowest
--- sixteen is below 2 ^ 16.
+-- Where the program turns an input back by its count of bytes and its first word, in this order. A word of kind 0 with no bit above the
+-- lowest sixteen is below 2 ^ 16.
 unfoldable pub turnedBack : ℕ → ℕ → Option Refusal
 turnedBack bytes first =
     firstOf
-    (must (eqb (bytes % 4) 0) 1
-    ∷ must (leb 4 bytes && ltb first (2 ^ 16)) 8
-    ∷ must (eqb (listLength bytes % 5) 0) 1
-    ∷ must (leb (listLength bytes) 640) 2
+    (must (eqb (bytes % 4) 0) (row 1 0)
+    ∷ must (leb 4 bytes && ltb first (2 ^ 16)) (row 8 0)
+    ∷ must (eqb (listLength bytes % 5) 0) (row 1 0)
+    ∷ must (leb (listLength bytes) 640) (row 2 0)
     ∷ [])
 
 -- What each case of `Request` says.
 abbrev pub refusalOf : Request → Option Refusal
 refusalOf (Request·List n) = none
-refusalOf (Refused number) = some (record { number = number; place = 0 })
+refusalOf (Refused number) = some (row number 0)
 
 -- The reading of a list at its exact used set, its highest span end being the source length.
 unfoldable pub readingOf : List ℕ → ℤ → Answer
-readingOf list version = read (tokensOf list) (named operatorSlot list) version (highest operatorSlot 0 list)
+readingOf list version = read (tokensOf list) (named operatorField list) version (highest operatorField 0 list)
 
 -- The list of an input whose front is these words.
 unfoldable pub listOf : ℕ → List ℕ → List ℕ
@@ -55,7 +56,7 @@ listOf bytes words = take (listLength bytes) (drop 1 words)
 
 -- Where an input is turned back: by the program, else at the first of its list's words that the entry turns back.
 unfoldable pub faultOf : ℕ → List ℕ → Option Refusal
-faultOf bytes words = orElse (turnedBack bytes (getD words 0 0)) (wordsRefusal 0 operatorSlot 0 (listOf bytes words))
+faultOf bytes words = firstOf (turnedBack bytes (getD words 0 0) ∷ wordsRefusal 0 operatorField 0 (listOf bytes words) ∷ [])
 
 -- What is read of one that is not turned back.
 unfoldable pub answerOf : ℕ → List ℕ → Answer

@@ -18,7 +18,8 @@ row ns = spaced (length ns - 1) ns ++ numbered (getD ns (length ns - 1) 0) lineE
 
 -- The numbers of a tree's node, of which the tree words from `at` on are: operator, children, start, end.
 unfoldable pub nodeNumbers : List ℕ → ℕ → List ℕ
-nodeNumbers tree at = operatorOf (getD tree at 0) ∷ lowOf (getD tree (at + 5) 0) ∷ lowOf (getD tree (at + 1) 0) ∷ lowOf (getD tree (at + 2) 0) ∷ []
+nodeNumbers tree at =
+    operatorOf (getD tree at 0) ∷ lowOf (getD tree (at + 5) 0) ∷ lowOf (getD tree (at + 1) 0) ∷ lowOf (getD tree (at + 2) 0) ∷ []
 
 -- A line for each of the first nodes.
 unfoldable pub nodeRows : ℕ → List ℕ → List ℕ

@@ -1,14 +1,14 @@
-// What an input asks: where the program turns it back, else a list to read. Leans on exact (used set, source length, version) and parse;
+// What an input asks: where the program turns it back, else a list to read. Leans on derived (used set, source length, version) and parse;
 // specs/Listing has the definition.
-use exact::highest_end;
-use exact::used_of;
-use exact::version_of;
+use derived::highest_end;
+use derived::used_of;
+use derived::version_of;
 use parse::Answer;
 use parse::parse;
 use words::refusals;
 ghost use mathlib.Core.Path.{_≡_};
 ghost use lib.ListN.{length};
-ghost use Rattle.molang.specs.Words.{operatorSlot, wordsRefusal};
+ghost use Rattle.molang.specs.Words.{operatorField, wordsRefusal};
 ghost use Rattle.molang.specs.Parse.{told, treeIn, messagesIn};
 ghost use Rattle.parse.specs.Answers.{toldOf};
 ghost use Rattle.treelist.specs.Listing.{turnedBack, refusalOf, Counted, Readable, readingOf, faultOf, answerOf};
@@ -49,9 +49,11 @@ fn asked(bytes: usize, first: u32) -> Request
 // Reads a list at its exact used set, its highest span end being the source length.
 fn read(list: &[u32], version: i16, tree: &mut [u32], messages: &mut [u32]) -> Answer
     requires { ⌜ Readable (now list) (now tree) (now messages) ⌝ }
-    ensures { λ r. ⌜ toldOf r ≡ told (wordsRefusal 0 operatorSlot 0 (now (list .entry))) (readingOf (now (list .entry)) version) ⌝ }
-    ensures { λ _. ⌜ now (tree .exit) ≡ treeIn (wordsRefusal 0 operatorSlot 0 (now (list .entry))) (readingOf (now (list .entry)) version) (now (tree .entry)) ⌝ }
-    ensures { λ _. ⌜ now (messages .exit) ≡ messagesIn (wordsRefusal 0 operatorSlot 0 (now (list .entry))) (readingOf (now (list .entry)) version) (now (messages .entry)) ⌝ }
+    ensures { λ r. ⌜ toldOf r ≡ told (wordsRefusal 0 operatorField 0 (now (list .entry))) (readingOf (now (list .entry)) version) ⌝ }
+    ensures { λ _. ⌜ now (tree .exit) ≡ treeIn (wordsRefusal 0 operatorField 0 (now (list .entry)))
+        (readingOf (now (list .entry)) version) (now (tree .entry)) ⌝ }
+    ensures { λ _. ⌜ now (messages .exit) ≡ messagesIn (wordsRefusal 0 operatorField 0 (now (list .entry)))
+        (readingOf (now (list .entry)) version) (now (messages .entry)) ⌝ }
 {
     let mut work = [0u32; 8256];
     let used = used_of(list);
@@ -72,8 +74,10 @@ fn read(list: &[u32], version: i16, tree: &mut [u32], messages: &mut [u32]) -> A
 pub fn answer(words: &[u32], bytes: usize, tree: &mut [u32], messages: &mut [u32]) -> Answer
     requires { ⌜ (length (now words) ≡ 641) × (length (now tree) ≡ 2304) × (length (now messages) ≡ 16) ⌝ }
     ensures { λ r. ⌜ toldOf r ≡ told (faultOf bytes (now (words .entry))) (answerOf bytes (now (words .entry))) ⌝ }
-    ensures { λ _. ⌜ now (tree .exit) ≡ treeIn (faultOf bytes (now (words .entry))) (answerOf bytes (now (words .entry))) (now (tree .entry)) ⌝ }
-    ensures { λ _. ⌜ now (messages .exit) ≡ messagesIn (faultOf bytes (now (words .entry))) (answerOf bytes (now (words .entry))) (now (messages .entry)) ⌝ }
+    ensures { λ _. ⌜ now (tree .exit) ≡ treeIn (faultOf bytes (now (words .entry)))
+        (answerOf bytes (now (words .entry))) (now (tree .entry)) ⌝ }
+    ensures { λ _. ⌜ now (messages .exit) ≡ messagesIn (faultOf bytes (now (words .entry)))
+        (answerOf bytes (now (words .entry))) (now (messages .entry)) ⌝ }
 {
     let first = words[0];
     let wanted = asked(bytes, first);

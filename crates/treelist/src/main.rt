@@ -1,5 +1,5 @@
 // The program `treelist` of document 01: reads the words of a version and of up to 128 tokens, and prints the tree, the messages or
-// the refusal. `main` only reads and writes; which text answers which bytes is the promise of `listing`. Leans on io, exact and parse.
+// the refusal. `main` only reads and writes; which text answers which bytes is the promise of `listing`. Leans on io, derived, text and parse.
 mod asked;
 mod front;
 mod rows;
@@ -11,8 +11,9 @@ use libc::STDIN_FILENO;
 use libc::STDOUT_FILENO;
 ghost use mathlib.Core.Path.{_≡_};
 ghost use Prim.Native.Nat.{_≤_};
-ghost use lib.ListN.{length, take};
+ghost use lib.ListN.{length};
 ghost use Rattle.io.specs.Counts.{Counts};
+ghost use Rattle.text.specs.Text.{Wrote};
 ghost use Rattle.treelist.specs.Listing.{printed};
 
 // The bytes of a version and 128 tokens.
@@ -25,7 +26,7 @@ const TURNS: usize = 1_099_511_627_776;
 fn listing(front: &[u8], bytes: usize, out: &mut [u8]) -> usize
     requires { ⌜ (length (now front) ≡ 2564) × (length (now out) ≡ 32768) ⌝ }
     ensures { λ r. ⌜ Counts r (now (out .exit)) ⌝ }
-    ensures { λ r. ⌜ take r (now (out .exit)) ≡ printed bytes (now (front .entry)) ⌝ }
+    ensures { λ r. ⌜ Wrote (now (out .entry)) 0 (printed bytes (now (front .entry))) r (now (out .exit)) ⌝ }
 {
     let words = words_of(front);
     let mut tree = [0u32; 2304];

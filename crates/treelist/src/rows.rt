@@ -4,18 +4,13 @@ use parse::Answer;
 use text::put_bytes;
 use text::put_number;
 use words::fields;
+use words::fields::wide;
 ghost use mathlib.Core.Path.{_≡_};
 ghost use Prim.Native.Nat.{_+_, _*_, _≤_};
-ghost use lib.ListN.{length, take};
+ghost use lib.ListN.{length};
 ghost use Rattle.parse.specs.Answers.{toldOf};
 ghost use Rattle.text.specs.Text.{Wrote};
 ghost use Rattle.treelist.specs.Rows.{row, nodeRows, recordRows, nodeNumbers, answerText, Printable};
-
-fn wide(n: u32) -> u64
-    ensures { λ r. ⌜ r ≡ n ⌝ }
-{
-    n as u64
-}
 
 // A line of numbers.
 fn put_row(out: &mut [u8], at: usize, numbers: &[u32]) -> usize
@@ -80,23 +75,24 @@ pub fn put_answer(out: &mut [u8], answered: Answer, tree: &[u32], messages: &[u3
     requires { ⌜ (length (now out) ≡ 32768) × (length (now tree) ≡ 2304) × (length (now messages) ≡ 16) ⌝ }
     requires { ⌜ Printable (toldOf answered) ⌝ }
     ensures { λ r. ⌜ r ≤ length (now (out .exit)) ⌝ }
-    ensures { λ r. ⌜ take r (now (out .exit)) ≡ answerText (toldOf answered) (now (tree .entry)) (now (messages .entry)) ⌝ }
+    ensures { λ r. ⌜ Wrote (now (out .entry)) 0
+        (answerText (toldOf answered) (now (tree .entry)) (now (messages .entry))) r (now (out .exit)) ⌝ }
 {
     match answered {
         Answer::Tree(n) => {
             let named = put_bytes(out, 0, b"tree ");
-            let counted = put_number(out, named, n as u64, b'\n');
+            let counted = put_number(out, named, n, b'\n');
             put_nodes(out, counted, tree, n)
         }
         Answer::Messages(n) => {
             let named = put_bytes(out, 0, b"messages ");
-            let counted = put_number(out, named, n as u64, b'\n');
+            let counted = put_number(out, named, n, b'\n');
             put_records(out, counted, messages, n)
         }
         Answer::Refused(number, place) => {
             let named = put_bytes(out, 0, b"refused ");
             let numbered = put_number(out, named, wide(number), b' ');
-            put_number(out, numbered, place as u64, b'\n')
+            put_number(out, numbered, place, b'\n')
         }
     }
 }

@@ -1,9 +1,12 @@
--- Words laid down in a buffer: by stores one after another, in front, and after others that were. Assumes nothing.
-use mathlib.Core.Path.{_≡_, refl, sym, _∙_}
-use mathlib.Core.List.{List, _++_, append-assoc}
+-- Numbers laid down in a buffer: by stores one after another, in front, and behind others that were; how long the buffer is after.
+-- Assumes nothing.
+use mathlib.Core.Path.{_≡_, refl, ap, sym, _∙_}
+use mathlib.Core.List.{List, [], _++_, append-assoc}
 use Prim.Native.Nat.{ℕ, _+_, _≤_}
-use lib.ListN.{length, take, drop, length-append}
-use lib.Seq.{sets, sets-eq, drop-drop, take-append-seam, drop-append-seam}
+use native.Mathlib.Nat.{add-assoc}
+use native.Mathlib.Omega.{arith}
+use lib.ListN.{length, take, drop, length-append, length-drop, take-append-drop}
+use lib.Seq.{sets, sets-eq, drop-drop, length-take-le, take-at, drop-at, take-append-seam, drop-append-seam}
 use Rattle.molang.specs.Parse.{inFront}
 use Rattle.words.specs.Records.{laidAt}
 
@@ -23,3 +26,47 @@ laid-after vs ws l =
     rw
     (take-append-seam vs (drop (length vs) l), drop-append-seam vs (drop (length vs) l), drop-drop (length ws) (length vs) l, length-append vs ws)
     (sym (append-assoc vs ws (drop (length vs + length ws) l)))
+
+-- Nothing is laid.
+pub none-laid : (to : ℕ) (list : List ℕ) → list ≡ laidAt to [] list
+unfolding laidAt inFront
+none-laid to list = sym (take-append-drop to list)
+
+-- WORDS BEHIND WORDS. How far the first go.
+front-length : (to : ℕ) (ws list : List ℕ) → to ≤ length list → length (take to list ++ ws) ≡ to + length ws
+front-length to ws list h = length-append (take to list) ws ∙ ap (λ (n : ℕ). n + length ws) (length-take-le to list h)
+
+-- In two parts: up to where the words end, and after.
+laid-by : (to : ℕ) (ws list : List ℕ) → laidAt to ws list ≡ (take to list ++ ws) ++ drop (to + length ws) list
+unfolding laidAt inFront
+laid-by to ws list = rw (drop-drop (length ws) to list) (sym (append-assoc (take to list) ws (drop (to + length ws) list)))
+
+pub laid-length : (to : ℕ) (ws list : List ℕ) → to + length ws ≤ length list → length (laidAt to ws list) ≡ length list
+laid-length to ws list h =
+    rw laid-by
+    (length-append (take to list ++ ws) (drop (to + length ws) list)
+    ∙ omega (arith, front-length to ws list (omega arith), length-drop (to + length ws) list))
+
+pub laid-laid : (to : ℕ) (xs ys list : List ℕ) → to ≤ length list
+    → laidAt (to + length xs) ys (laidAt to xs list) ≡ laidAt to (xs ++ ys) list
+laid-laid to xs ys list h =
+    let front = front-length to xs list h in
+    let whole = laid-by to xs list in
+    let before : take (to + length xs) (laidAt to xs list) ≡ take to list ++ xs =
+    rw whole (take-at (take to list ++ xs) (drop (to + length xs) list) (to + length xs) front)
+    in
+    let behind : drop (to + length xs + length ys) (laidAt to xs list) ≡ drop (to + length (xs ++ ys)) list =
+    rw (
+      whole,
+      ← drop-drop (length ys) (to + length xs),
+      drop-at (take to list ++ xs) (drop (to + length xs) list) (to + length xs) front,
+      drop-drop (length ys) (to + length xs) list,
+      length-append,
+      ← add-assoc,
+    ) refl
+    in
+    let joined : (take (to + length xs) (laidAt to xs list) ++ ys) ++ drop (to + length xs + length ys) (laidAt to xs list)
+    ≡ (take to list ++ (xs ++ ys)) ++ drop (to + length (xs ++ ys)) list =
+    rw (before, behind, append-assoc (take to list) xs ys) refl
+    in
+    laid-by (to + length xs) ys (laidAt to xs list) ∙ (joined ∙ sym (laid-by to (xs ++ ys) list))

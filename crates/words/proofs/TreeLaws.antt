@@ -33,7 +33,8 @@ abbrev pub tokenIn : List ℕ → Token
 tokenIn l = tokenOf (getD l 0 0) (getD l 1 0) (getD l 2 0) (getD l 3 0) (getD l 4 0)
 
 pub first-tree : (l : List ℕ) → 6 ≤ length l
-    → treesOf l ≡ node (tokenIn l) (firstTrees (lowOf (getD l 5 0)) (treesOf (drop 6 l))) (otherTrees (lowOf (getD l 5 0)) (treesOf (drop 6 l)))
+    → treesOf l ≡ node (tokenIn l) (firstTrees (lowOf (getD l 5 0)) (treesOf (drop 6 l)))
+    (otherTrees (lowOf (getD l 5 0)) (treesOf (drop 6 l)))
 unfolding treesOf
 first-tree [] h = absurd (omega arith)
 first-tree (a ∷ []) h = absurd (omega arith)
@@ -80,7 +81,8 @@ pub from-nothing : (l : List ℕ) → extentWith (record { start = 2 ^ 29 - 1; e
 unfolding extentWith firstTrees firstExtent lowestStart highestEnd tokenOf lowOf
 from-nothing l = go (ltb (length l) 6) refl
   where
-    go : (t : Bool) → ltb (length l) 6 ≡ t → extentWith (record { start = 2 ^ 29 - 1; end = 0 }) (firstTrees 1 (treesOf l)) ≡ firstExtent (treesOf l)
+    go : (t : Bool) → ltb (length l) 6 ≡ t → extentWith (record { start = 2 ^ 29 - 1; end = 0 }) (firstTrees 1 (treesOf l))
+        ≡ firstExtent (treesOf l)
     go true e = rw (no-tree l (ltb-true (length l) 6 e))
     go false e =
         rw (first-tree l (ltb-false (length l) 6 e))

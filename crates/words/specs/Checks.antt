@@ -1,7 +1,7 @@
 -- What each case of the checks' answers means: document 01's answer number for a word, and the number and place for a token.
 use Prim.Native.Nat.{ℕ}
 use mathlib.Core.Option.{Option, none, some}
-use Rattle.molang.specs.Words.{Refusal}
+use Rattle.molang.specs.Words.{Refusal, row}
 use Rattle.words.specs.declared.checks.Word.{Word}
 use Rattle.words.specs.declared.checks.Word.the-variants.{Good, WrongKind, HighOperator, HighVariant, OtherBit}
 use Rattle.words.specs.declared.checks.Checked.{Checked}
@@ -18,9 +18,4 @@ numberOf OtherBit = some 11
 -- The answer to a token.
 abbrev pub refusalOf : Checked → Option Refusal
 refusalOf Passed = none
-refusalOf (Bad n p) = some (record { number = n; place = p })
-
--- A word's answer at its place.
-abbrev pub placed : ℕ → Option ℕ → Option Refusal
-placed p none = none
-placed p (some n) = some (record { number = n; place = p })
+refusalOf (Bad n p) = some (row n p)

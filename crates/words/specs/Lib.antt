@@ -1,4 +1,5 @@
 pub mod Fields
 pub mod Checks
 pub mod Records
+pub mod Tokens
 pub mod Extents

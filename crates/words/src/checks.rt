@@ -2,13 +2,15 @@
 // specs/Checks gives the number and the place of each case.
 use crate::fields;
 use crate::refusals;
+use crate::tokens::TokenWords;
 ghost use mathlib.Core.Path.{_≡_};
 ghost use mathlib.Core.List.{[], _∷_};
 ghost use Prim.Native.Nat.{_+_, _<_, _^_};
-ghost use mathlib.Core.Option.{none};
 ghost use lib.Dec.{eqb, ltb};
-ghost use Rattle.molang.specs.Words.{kindOf, lowOf, operatorSlot, startSlot, upperSlot, unless, lowFault, wordFault, wordsRefusal};
-ghost use Rattle.words.specs.Checks.{numberOf, refusalOf, placed};
+ghost use Rattle.molang.specs.Words.{kindOf, lowOf, operatorField, startField, upperField, lowFault, wordFault, withPlace, wordsRefusal};
+ghost use Rattle.molang.specs.FirstFailure.{must, firstOf};
+ghost use Rattle.words.specs.Tokens.{fiveWords};
+ghost use Rattle.words.specs.Checks.{numberOf, refusalOf};
 
 // What is wrong with a word.
 pub enum Word {
@@ -27,7 +29,7 @@ pub enum Checked {
 
 // Low bits that are to be below the limit.
 fn below(low: u32, limit: u32) -> Word
-    ensures { λ r. ⌜ numberOf r ≡ unless (ltb low limit) 11 none ⌝ }
+    ensures { λ r. ⌜ numberOf r ≡ must (ltb low limit) 11 ⌝ }
 {
     if limit <= low {
         return Word::OtherBit;
@@ -37,7 +39,7 @@ fn below(low: u32, limit: u32) -> Word
 
 // A word of kind 1: operator, then payload variant, then the other bits.
 pub fn operator_word(w: u32) -> Word
-    ensures { λ r. ⌜ numberOf r ≡ wordFault operatorSlot 0 w ⌝ }
+    ensures { λ r. ⌜ numberOf r ≡ wordFault operatorField 0 w ⌝ }
 {
     if fields::kind(w) != fields::OPERATOR {
         return Word::WrongKind;
@@ -53,7 +55,7 @@ pub fn operator_word(w: u32) -> Word
 
 // A word of kind 2 or 3, all of whose bits are used.
 pub fn span_word(w: u32, kind: u32) -> Word
-    ensures { λ r. ⌜ numberOf r ≡ unless (eqb (kindOf w) kind) 8 (lowFault startSlot 0 (lowOf w)) ⌝ }
+    ensures { λ r. ⌜ numberOf r ≡ firstOf (must (eqb (kindOf w) kind) 8 ∷ lowFault startField 0 (lowOf w) ∷ []) ⌝ }
 {
     if fields::kind(w) != kind {
         return Word::WrongKind;
@@ -63,7 +65,7 @@ pub fn span_word(w: u32, kind: u32) -> Word
 
 // A word of kind 4 or 5 in a token of the given payload variant, under variant 0 of which it holds 0.
 pub fn half_word(w: u32, kind: u32, variant: u32) -> Word
-    ensures { λ r. ⌜ numberOf r ≡ unless (eqb (kindOf w) kind) 8 (lowFault upperSlot variant (lowOf w)) ⌝ }
+    ensures { λ r. ⌜ numberOf r ≡ firstOf (must (eqb (kindOf w) kind) 8 ∷ lowFault upperField variant (lowOf w) ∷ []) ⌝ }
 {
     if fields::kind(w) != kind {
         return Word::WrongKind;
@@ -76,7 +78,7 @@ pub fn half_word(w: u32, kind: u32, variant: u32) -> Word
 
 // The answer's number for a bad word, and its place.
 pub fn judged(word: Word, place: usize) -> Checked
-    ensures { λ r. ⌜ refusalOf r ≡ placed place (numberOf word) ⌝ }
+    ensures { λ r. ⌜ refusalOf r ≡ withPlace place (numberOf word) ⌝ }
 {
     match word {
         Word::Good => Checked::Good,
@@ -87,28 +89,29 @@ pub fn judged(word: Word, place: usize) -> Checked
     }
 }
 
-// The five words of a token, which stand from `at` on in the list: the first bad one. That the places are numbers of words is
-// the caller's to know, who read them out of the list.
-pub fn token(first: u32, start: u32, end: u32, upper: u32, lower: u32, at: usize) -> Checked
+// The first bad one of the five words of a token, which stand from `at` on in the list. The caller has read them out of the list, so
+// their places are numbers of words.
+pub fn token(words: TokenWords, at: usize) -> Checked
     requires { ⌜ at + 4 < 2 ^ 64 ⌝ }
-    ensures { λ r. ⌜ refusalOf r ≡ wordsRefusal at operatorSlot 0 (first ∷ start ∷ end ∷ upper ∷ lower ∷ []) ⌝ }
+    ensures { λ r. ⌜ refusalOf r ≡ wordsRefusal at operatorField 0 (fiveWords words) ⌝ }
 {
-    let one = operator_word(first);
+    let one = operator_word(words.operator);
     let Word::Good = one else {
         return judged(one, at);
     };
-    let two = span_word(start, fields::START);
+    let two = span_word(words.start, fields::START);
     let Word::Good = two else {
-        return judged(two, at + 1);
+        return judged(two, at + fields::START_FIELD);
     };
-    let three = span_word(end, fields::END);
+    let three = span_word(words.end, fields::END);
     let Word::Good = three else {
-        return judged(three, at + 2);
+        return judged(three, at + fields::END_FIELD);
     };
-    let variant = fields::variant(first);
-    let four = half_word(upper, fields::UPPER, variant);
+    let variant = fields::variant(words.operator);
+    let four = half_word(words.upper, fields::UPPER, variant);
     let Word::Good = four else {
-        return judged(four, at + 3);
+        return judged(four, at + fields::UPPER_FIELD);
     };
-    judged(half_word(lower, fields::LOWER, variant), at + 4)
+    let five = half_word(words.lower, fields::LOWER, variant);
+    judged(five, at + fields::LOWER_FIELD)
 }

@@ -53,13 +53,13 @@ fn of_trees(words: &[u32], trees: usize, seen: Extent) -> Extent
     if words.len() < fields::NODE_WORDS {
         return seen;
     }
-    let wide = widened(seen, words[1], words[2]);
-    let below = fields::low(words[5]) as usize;
-    of_trees(&words[6..], trees - 1 + below, wide)
+    let wide = widened(seen, words[fields::START_FIELD], words[fields::END_FIELD]);
+    let below = fields::low(words[fields::COUNT_FIELD]) as usize;
+    of_trees(&words[fields::NODE_WORDS..], trees - 1 + below, wide)
 }
 
-// The extent of the tree that the words open with. Who calls has laid the tree out in the work buffer, in six words for each of
-// 12,288 nodes at the most.
+// The extent of the tree that the words open with. The caller has laid the tree out in the work buffer, in six words for each of
+// 12,288 nodes at most.
 pub fn of_tree(words: &[u32]) -> Extent
     requires { ⌜ length (now words) < 2 ^ 34 ⌝ }
     ensures { λ r. ⌜ r ≡ firstExtent (treesOf (now (words .entry))) ⌝ }

@@ -8,6 +8,7 @@ ghost use Rattle.words.specs.Fields.{operatorOf, variantOf, halfOf, valu
 // A word is its kind times this, and what stands in bits 0-28.
 pub const KIND: u32 = 0x2000_0000;
 
+// The kinds.
 pub const OPERATOR: u32 = 1;
 
 pub const START: u32 = 2;
@@ -20,6 +21,17 @@ pub const LOWER: u32 = 5;
 
 pub const CHILDREN: u32 = 6;
 
+// Which word of a token or node is which: the operator's is the first.
+pub const START_FIELD: usize = 1;
+
+pub const END_FIELD: usize = 2;
+
+pub const UPPER_FIELD: usize = 3;
+
+pub const LOWER_FIELD: usize = 4;
+
+pub const COUNT_FIELD: usize = 5;
+
 pub const TOKEN_WORDS: usize = 5;
 
 pub const NODE_WORDS: usize = 6;
@@ -29,13 +41,20 @@ pub const RECORD_WORDS: usize = 8;
 // The most tokens that a list can have.
 pub const MOST_TOKENS: usize = 4096;
 
-// The operators and the payload variants are those up to these.
+// The last operator and the last payload variant.
 pub const LAST_OPERATOR: u32 = 110;
 
 pub const LAST_VARIANT: u32 = 12;
 
 // The payload variant of a host math function.
 pub const HOST_MATH: u32 = 12;
+
+// A number as a count or an index. It asks its caller for no proof, as a cast of an element of a slice would.
+pub fn wide(x: u32) -> usize
+    ensures { λ r. ⌜ r ≡ x ⌝ }
+{
+    x as usize
+}
 
 pub fn kind(w: u32) -> u32
     ensures { λ r. ⌜ r ≡ kindOf w ⌝ }

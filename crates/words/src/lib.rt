@@ -5,3 +5,4 @@ pub mod extent;
 pub mod fields;
 pub mod records;
 pub mod refusals;
+pub mod tokens;

@@ -9,43 +9,44 @@ use lib.Dec.{leb}
 use lib.ListN.{length, length-append}
 use borrow.Author.Tests.{le-leb, lt-leb}
 use Rattle.molang.specs.Forest.{Token, Forest, nil, node, count, size}
-use Rattle.molang.specs.Plain.{placeOf, plainForm, unplain, unplainAt}
-use Rattle.molang.specs.Words.{operatorSlot, lowOf, tokenOf, listWords}
-use Rattle.molang.specs.Parse.{mostTokens, must}
-use Rattle.molang.specs.Write.{writtenCount}
-use Rattle.molang.specs.WriteEntry.{treeFault, firstTrees, otherTrees, treesOf, refusedAt, orElse, forestRefusal, writeRefusal, writtenTokens, unwritten, tokens, writeTold, writeAnswered, listIn, listAfter}
-use Rattle.molang.proofs.Trees.{some-none}
+use Rattle.molang.specs.Plain.{seatOf, plainForm, unplain, unplainAt}
+use Rattle.molang.specs.FirstFailure.{must, firstOf}
+use Rattle.molang.specs.Words.{operatorField, lowOf, tokenOf, listWords, row}
+use Rattle.molang.specs.Parse.{mostTokens}
+use Rattle.molang.specs.Write.{written}
+use Rattle.molang.specs.WriteEntry.{treeFault, firstTrees, otherTrees, treesOf, forestRefusal, writeRefusal, writtenTokens, unwritten}
+use Rattle.molang.specs.WriteEntry.{tokens, writeTold, writeAnswered, listIn, listAfter}
+use Rattle.molang.proofs.FirstFailure.{passed, withNumber-none}
+use Rattle.molang.proofs.HandedTree.{whole-tree}
 use Rattle.molang.proofs.ListWords.{listWords-length}
-use Rattle.molang.proofs.Writing.{written-length}
 use Rattle.words.specs.Records.{laidAt}
 use Rattle.words.proofs.RecordLaws.{laid-front}
-use Rattle.write.specs.declared.plain.Place.{Place}
-use Rattle.write.specs.declared.plain.Place.the-variants.{Enclosed}
-use Rattle.write.specs.declared.plain.Judged.the-variants.{Plain, Unplain}
-use Rattle.write.specs.Answers.{shape, call, judgement, filling, filled}
-use Rattle.write.specs.Places.{formPlace}
+use Rattle.write.specs.declared.plain.Seat.{Seat}
+use Rattle.write.specs.declared.plain.Seat.the-variants.{Enclosed}
+use Rattle.write.specs.Answers.{shape, treeRefusal, call, judgement, filling, filled}
+use Rattle.write.specs.Seats.{formSeat}
 use Rattle.write.specs.Shaped.{Shaped, noTrees, aNode, mostChildren, OneTree}
 use Rattle.write.specs.Spelling.{Room, Writable}
 use Rattle.write.proofs.RowLaws.{Opened, opened, shaped-room, shaped-count, count-first, beside-split}
-use Rattle.write.proofs.JudgeLaws.{unplain-node, unlessPlain, orLater, rowUnplain, judgedBy, judgement-by, Stand, on-none, on-one, on-two, row-beside}
+use Rattle.write.proofs.JudgeLaws.{rowUnplain, judgedBy, judgement-by, Stand, on-none, on-one, on-two, row-beside}
 
 -- What a judgement says.
-plain-says : (o : Option ℕ) (m n : ℕ) → Plain n ≡ judgedBy o m → (o ≡ none) × (n ≡ m)
+plain-says : (o : Option ℕ) (m n : ℕ) → tokens n ≡ judgedBy o m → (o ≡ none) × (n ≡ m)
 unfolding judgedBy
 plain-says none m n e = (refl, cc)
 plain-says (some i) m n e = let z : _≡_ {A = ℕ} 0 1 = cc in absurd (omega arith)
 
-unplain-says : (o : Option ℕ) (m i : ℕ) → Unplain i ≡ judgedBy o m → o ≡ some i
+unplain-says : (o : Option ℕ) (m i : ℕ) → unwritten 13 i ≡ judgedBy o m → o ≡ some i
 unfolding judgedBy
 unplain-says none m i e = let z : _≡_ {A = ℕ} 0 1 = cc in absurd (omega arith)
 unplain-says (some j) m i e = cc
 
 module _ {most : ℕ} {tree : List ℕ} (o : Opened most 1 tree) where
-  judged-by : judgement (treesOf tree) ≡ judgedBy (unplainAt (o .k) (o .cs)) (writtenCount (o .k) (o .cs))
-  unfolding judgement
-  judged-by = rw (o .trees) (judgement-by (unplainAt (o .k) (o .cs)) (writtenCount (o .k) (o .cs)) _ refl)
+  judged-by : judgement (treesOf tree) ≡ judgedBy (unplainAt (o .k) (o .cs)) (length (written (o .k) (o .cs) []))
+  unfolding judgement writtenTokens
+  judged-by = rw (o .trees) (judgement-by (unplainAt (o .k) (o .cs)) (node (o .k) (o .cs) (o .rest)))
 
-  is-plain : {n : ℕ} → Plain n ≡ judgement (treesOf tree) → (unplainAt (o .k) (o .cs) ≡ none) × (n ≡ writtenCount (o .k) (o .cs))
+  is-plain : {n : ℕ} → tokens n ≡ judgement (treesOf tree) → (unplainAt (o .k) (o .cs) ≡ none) × (n ≡ length (written (o .k) (o .cs) []))
   is-plain {n} e = plain-says (unplainAt (o .k) (o .cs)) _ n (e ∙ judged-by)
 
 -- FILLING THE LIST with a plain tree.
@@ -53,23 +54,24 @@ module _ {tree : List ℕ} {n : ℕ} (w : Writable tree n) (list : List ℕ) whe
   root : Opened 2 1 tree
   root = opened (w .shaped) (omega (arith, shaped-room (w .shaped)))
 
-  root-plain : (unplainAt (root .k) (root .cs) ≡ none) × (n ≡ writtenCount (root .k) (root .cs))
+  root-plain : (unplainAt (root .k) (root .cs) ≡ none) × (n ≡ length (written (root .k) (root .cs) []))
   root-plain = is-plain root (w .judged)
 
   counted : n ≡ length (writtenTokens (treesOf tree))
   unfolding writtenTokens
-  counted = rw (root .trees) (omega (arith, written-length (root .k) (root .cs) [], root-plain .1))
+  counted = rw (root .trees) (root-plain .1)
 
-  too-long : forestRefusal (treesOf tree) (length list) ≡ orElse (must (leb n mostTokens) 14) (must (leb (5 * n) (length list)) 15)
-  unfolding forestRefusal refusedAt
-  too-long = rw (root .trees, root-plain .0, ← root-plain .1)
+  too-long : forestRefusal (treesOf tree) (length list)
+      ≡ firstOf (must (leb n mostTokens) (row 14 0) ∷ must (leb (5 * n) (length list)) (row 15 0) ∷ [])
+  unfolding forestRefusal firstOf
+  too-long = rw (root .trees, root-plain .0, ← root-plain .1) refl
 
   pub too-many : 4096 < n → (unwritten 14 0 ≡ filling (treesOf tree) list) × (list ≡ filled (treesOf tree) list)
-  unfolding filling filled writeTold listIn must orElse
+  unfolding filling filled writeTold listIn must firstOf
   too-many h = let e = lt-leb n 4096 h in (rw (too-long, e), rw (too-long, e))
 
   pub too-short : n ≤ 4096 → length list < 5 * n → (unwritten 15 0 ≡ filling (treesOf tree) list) × (list ≡ filled (treesOf tree) list)
-  unfolding filling filled writeTold listIn must orElse
+  unfolding filling filled writeTold listIn must firstOf
   too-short a b =
       let e = le-leb n 4096 a in
       let f = lt-leb (5 * n) (length list) b in
@@ -81,39 +83,34 @@ module _ {tree : List ℕ} {n : ℕ} (w : Writable tree n) (list : List ℕ) whe
 
     pub list-filled : (list' : List ℕ) → list' ≡ laidAt 0 (listWords (writtenTokens (treesOf tree))) list
         → (tokens n ≡ filling (treesOf tree) list) × (list' ≡ filled (treesOf tree) list)
-    unfolding filling filled writeTold listIn must orElse
+    unfolding filling filled writeTold listIn must firstOf
     list-filled list' e =
         let f = le-leb n 4096 a in
         let g = le-leb (5 * n) (length list) b in
         (rw (too-long, f, g, ← counted), rw (too-long, f, g) (e ∙ laid-front (listWords (writtenTokens (treesOf tree))) list))
 
 -- A PLAIN TREE has at most two children a node.
-plain-by-none : (b : Bool) (n : ℕ) (later : Option ℕ) → unlessPlain b n later ≡ none → (b ≡ true) × (later ≡ none)
-unfolding unlessPlain
-plain-by-none true n later e = (refl, e)
-plain-by-none false n later e = some-none e
-
-few-plain : (p : Place) (k : Token) (cs : Forest) → plainForm (formPlace p) k cs ≡ true → count cs ≤ 2
+few-plain : (p : Seat) (k : Token) (cs : Forest) → plainForm (formSeat p) k cs ≡ true → count cs ≤ 2
 unfolding plainForm count
 few-plain p k nil e = omega arith
 few-plain p k (node x xs nil) e = omega arith
 few-plain p k (node x xs (node y ys nil)) e = omega arith
 few-plain p k (node x xs (node y ys (node z zs r))) e = absurd (false≢true e)
 
--- The children of a plain node stand at as many places.
+-- The children of a plain node stand at as many seats.
 record Standing (k : Token) (cs : Forest) : Type 0 where
-  places : List Place
-  stand : Stand k 0 places cs
-  all : length places ≡ count cs
+  seats : List Seat
+  stand : Stand k 0 seats cs
+  all : length seats ≡ count cs
 
-standing : (p : Place) (k : Token) (cs : Forest) → plainForm (formPlace p) k cs ≡ true → Standing k cs
+standing : (p : Seat) (k : Token) (cs : Forest) → plainForm (formSeat p) k cs ≡ true → Standing k cs
 unfolding count
-standing p k nil e = record { places = _; stand = on-none p k nil refl .0; all = refl }
-standing p k (node x xs nil) e = record { places = _; stand = on-one p k (node x xs nil) refl .0; all = refl }
-standing p k (node x xs (node y ys nil)) e = record { places = _; stand = on-two p k (node x xs (node y ys nil)) e refl .0; all = refl }
+standing p k nil e = record { seats = _; stand = on-none p k nil refl .0; all = refl }
+standing p k (node x xs nil) e = record { seats = _; stand = on-one p k (node x xs nil) refl .0; all = refl }
+standing p k (node x xs (node y ys nil)) e = record { seats = _; stand = on-two p k (node x xs (node y ys nil)) e refl .0; all = refl }
 standing p k (node x xs (node y ys (node z zs r))) e = absurd (omega (arith, few-plain p k (node x xs (node y ys (node z zs r))) e))
 
-slim : {p : ℕ} {ws : List ℕ} → Shaped mostChildren p ws → (ps : List Place) → length ps ≡ p → (n : ℕ) → rowUnplain ps n (treesOf ws) ≡ none
+slim : {p : ℕ} {ws : List ℕ} → Shaped mostChildren p ws → (ps : List Seat) → length ps ≡ p → (n : ℕ) → rowUnplain ps n (treesOf ws) ≡ none
     → Shaped 2 p ws
 unfolding treesOf rowUnplain
 slim noTrees ps h n e = noTrees
@@ -123,40 +120,46 @@ slim (aNode {trees = trees} {a = a} {b = b} {c = c} {d = d} {e = f} {n = m} {ws 
     let k = tokenOf a b c d f in
     let cs = firstTrees (lowOf m) g in
     let rest = otherTrees (lowOf m) g in
-    let x = plain-by-none (plainForm (formPlace q) k cs) n (orLater (unplain (some k) 0 (suc n) cs) (rowUnplain ps (suc n + size cs) rest)) e in
+    let x = passed (plainForm (formSeat q) k cs) n (unplain (some k) 0 (suc n) cs ∷ rowUnplain ps (suc n + size cs) rest ∷ []) e in
     let counts : count cs ≡ lowOf m = count-first (lowOf m) g (omega (arith, shaped-count later)) in
     let st = standing q k cs (x .0) in
-    let row : rowUnplain (st .places ++ ps) (suc n) g ≡ none =
-    ap (rowUnplain (st .places ++ ps) (suc n)) (sym (beside-split (lowOf m) g)) ∙ (row-beside (st .stand) ps (suc n) rest ∙ x .1)
+    let row : rowUnplain (st .seats ++ ps) (suc n) g ≡ none =
+    ap (rowUnplain (st .seats ++ ps) (suc n)) (sym (beside-split (lowOf m) g)) ∙ (row-beside (st .stand) ps (suc n) rest ∙ x .1)
     in
     let small : lowOf m ≤ 2 = omega (arith, few-plain q k cs (x .0)) in
     aNode five small
-    (slim later (st .places ++ ps) (omega (arith, length-append (st .places) ps, st .all)) (suc n) row)
+    (slim later (st .seats ++ ps) (omega (arith, length-append (st .seats) ps, st .all)) (suc n) row)
 
 -- THE ANSWERS, the first that holds.
-pub fault-answer : (tree list : List ℕ) (i : ℕ) → some i ≡ treeFault 0 operatorSlot 0 (shape 1 0) tree
+pub fault-answer : (tree list : List ℕ) (i : ℕ) → some (row 12 i) ≡ treeRefusal tree
     → (unwritten 12 i ≡ writeAnswered (call tree list)) × (list ≡ listAfter (call tree list))
-unfolding writeAnswered listAfter writeRefusal refusedAt writeTold listIn
+unfolding writeAnswered listAfter writeRefusal firstOf writeTold listIn
 fault-answer tree list i e = (rw (← e), rw (← e))
 
-pub tree-answer : (tree list : List ℕ) → none ≡ treeFault 0 operatorSlot 0 (shape 1 0) tree
-    → (filling (treesOf tree) list ≡ writeAnswered (call tree list)) × (filled (treesOf tree) list ≡ listAfter (call tree list))
-unfolding writeAnswered listAfter writeRefusal refusedAt filling filled
-tree-answer tree list whole = (rw (← whole), rw (← whole))
+pub no-fault : (tree : List ℕ) → none ≡ treeRefusal tree → none ≡ treeFault 0 operatorField 0 (shape 1 0) tree
+no-fault tree e = sym (withNumber-none 12 (treeFault 0 operatorField 0 (shape 1 0) tree) (sym e))
 
-module _ {tree : List ℕ} (list : List ℕ) (whole : none ≡ treeFault 0 operatorSlot 0 (shape 1 0) tree) (one : OneTree tree) where
+pub tree-answer : (tree list : List ℕ) → none ≡ treeFault 0 operatorField 0 (shape 1 0) tree
+    → (filling (treesOf tree) list ≡ writeAnswered (call tree list)) × (filled (treesOf tree) list ≡ listAfter (call tree list))
+unfolding writeAnswered listAfter filling filled
+tree-answer tree list whole =
+    let refused = whole-tree (call tree list) (sym whole) in
+    (rw refused, rw refused)
+
+module _ {tree : List ℕ} (list : List ℕ) (whole : none ≡ treeFault 0 operatorField 0 (shape 1 0) tree) (one : OneTree tree) where
   top : Opened mostChildren 1 tree
   top = opened (one .shaped) (omega (arith, shaped-room (one .shaped)))
 
-  pub unplain-answer : (i : ℕ) → Unplain i ≡ judgement (treesOf tree)
+  pub unplain-answer : (i : ℕ) → unwritten 13 i ≡ judgement (treesOf tree)
       → (unwritten 13 i ≡ writeAnswered (call tree list)) × (list ≡ listAfter (call tree list))
-  unfolding writeAnswered listAfter writeRefusal refusedAt forestRefusal writeTold listIn
+  unfolding writeAnswered listAfter forestRefusal firstOf writeTold listIn
   unplain-answer i e =
       let u = unplain-says _ _ i (e ∙ judged-by top) in
-      (rw (← whole, top .trees, u), rw (← whole, top .trees, u))
+      let refused = whole-tree (call tree list) (sym whole) in
+      (rw (refused, top .trees, u), rw (refused, top .trees, u))
 
-  pub plain-writable : (n : ℕ) → Plain n ≡ judgement (treesOf tree) → Writable tree n
-  unfolding rowUnplain unplainAt unplain placeOf
+  pub plain-writable : (n : ℕ) → tokens n ≡ judgement (treesOf tree) → Writable tree n
+  unfolding rowUnplain unplainAt unplain seatOf
   plain-writable n e =
-      let row : rowUnplain (Enclosed ∷ []) 0 (treesOf tree) ≡ none = rw (top .trees) (sym (unplain-node none 0 0 (top .k) (top .cs) nil) ∙ is-plain top e .0) in
+      let row : rowUnplain (Enclosed ∷ []) 0 (treesOf tree) ≡ none = rw (top .trees) (is-plain top e .0) in
       record { shaped = slim (one .shaped) (Enclosed ∷ []) refl 0 row; judged = e }

@@ -1,11 +1,11 @@
--- Answer 13 and the written count over a row of pending trees, each with its place: what the loop over the nodes keeps.
+-- Answer 13 and the written count over a row of pending trees, each with its seat: what the loop over the nodes keeps.
 use Prim.Native.Nat.{ℕ, zero, suc, _+_, _-_, _*_, _/_, _≤_, _<_}
 use mathlib.Core.Path.{_≡_, refl, ap, sym, _∙_}
 use mathlib.Core.Bool.{Bool, true, false, _||_, _&&_, not, true≢false, false≢true, or-true, or-false, Bool·not-not}
 use mathlib.Core.List.{List, [], _∷_, _++_}
 use mathlib.Core.Option.{Option, none, some}
 use native.Mathlib.Nat.{add-zero}
-use Rattle.molang.specs.Words.{lowOf, tokenOf}
+use Rattle.molang.specs.Words.{lowOf, tokenOf, withNumber}
 use Rattle.words.specs.Fields.{operatorOf}
 use native.Mathlib.Numerals.{add-one}
 use native.Mathlib.Omega.{arith}
@@ -19,118 +19,99 @@ use Rattle.molang.specs.Operator
 use Rattle.molang.specs.Operator.{between, isMathCall, isBracket}
 use Rattle.molang.specs.Forest.{Token, Forest, nil, node, count, size}
 use Rattle.molang.specs.Plain as plain
-use Rattle.molang.specs.Plain.{isRightOfQuestion, placeUnder, placeOf, plainForm, isPlainBinary, unplain, unplainAt}
-use Rattle.molang.specs.Write.{standsAlone, standsLeft, standsRight, operandCount, writtenCount}
+use Rattle.molang.specs.Plain.{isRightOfQuestion, seatUnder, seatOf, plainForm, isPlainBinary, unplain, unplainAt}
+use Rattle.molang.specs.FirstFailure.{must, firstOf}
+use Rattle.molang.specs.Write.{closerFor, standsAlone, standsLeft, standsRight, operandTokens, written}
+use Rattle.molang.proofs.FirstFailure.{after-none, last-one, in-parts, behind}
 use Rattle.molang.proofs.Words.{beside}
+use Rattle.molang.proofs.Writing.{written-none, written-one, written-two, operand-length, written-length}
 use Rattle.molang.proofs.Trees.{decided, either}
-use Rattle.write.specs.declared.plain.Place.{Place}
-use Rattle.write.specs.declared.plain.Place.the-variants.{Enclosed, UnderMathCall, LeftOfComma, RightOfQuestion, Operand}
-use Rattle.write.specs.declared.plain.Judged.{Judged}
-use Rattle.write.specs.declared.plain.Judged.the-variants.{Plain, Unplain}
-use Rattle.molang.specs.WriteEntry.{mostNodes, treesOf}
+use Rattle.write.specs.declared.plain.Seat.{Seat}
+use Rattle.write.specs.declared.plain.Seat.the-variants.{Enclosed, UnderMathCall, LeftOfComma, RightOfQuestion, Operand}
+use Rattle.molang.specs.WriteEntry.{mostNodes, treesOf, writtenTokens, WriteTold, tokens, unwritten, writeTold}
 use Rattle.write.proofs.RowLaws.{Opened, opened, shaped-room, shaped-length}
 use Rattle.write.specs.Answers.{judgement}
-use Rattle.write.specs.Shaped.{Shaped, noTrees, aNode, mostChildren, OneTree}
-use Rattle.write.specs.Places.{formPlace, onlyPlace, leftPlace, rightPlace, isPrefix, plainBy, isSpared, isPaired, ifTrue, tokensFor}
+use Rattle.write.specs.Shaped.{nodeLength, countIndex, Shaped, noTrees, aNode, mostChildren, OneTree}
+use Rattle.write.specs.Seats.{formSeat, onlySeat, leftSeat, rightSeat, isPrefix, plainBy, isSpared, isPaired, ifTrue, tokensFor}
 
--- n if the test fails, else what comes later; what is found first, else what comes later.
-unfoldable pub unlessPlain : Bool → ℕ → Option ℕ → Option ℕ
-unlessPlain false n later = some n
-unlessPlain true n later = later
-
-unfoldable pub orLater : Option ℕ → Option ℕ → Option ℕ
-orLater none later = later
-orLater (some m) later = some m
-
--- The number of the first node that is not plain in a row of trees at these places, numbered from n.
-unfoldable pub rowUnplain : List Place → ℕ → Forest → Option ℕ
+-- The number of the first node that is not plain in a row of trees at these seats, numbered from n.
+unfoldable pub rowUnplain : List Seat → ℕ → Forest → Option ℕ
 rowUnplain [] n f = none
 rowUnplain (p ∷ ps) n nil = none
 rowUnplain (p ∷ ps) n (node k cs rest) =
-    unlessPlain (plainForm (formPlace p) k cs) n (orLater (unplain (some k) 0 (suc n) cs) (rowUnplain ps (suc n + size cs) rest))
+    firstOf (must (plainForm (formSeat p) k cs) n ∷ unplain (some k) 0 (suc n) cs ∷ rowUnplain ps (suc n + size cs) rest ∷ [])
+
+-- The tokens of an operand at a seat.
+abbrev operandLength : Seat → Token → Forest → ℕ
+operandLength p k cs = length (operandTokens (not (isPaired p (k .op) (count cs))) k (written k cs) [])
 
 -- The tokens that such a row is written with.
-unfoldable pub rowCount : List Place → Forest → ℕ
+unfoldable pub rowCount : List Seat → Forest → ℕ
 rowCount [] f = 0
 rowCount (p ∷ ps) nil = 0
-rowCount (p ∷ ps) (node k cs rest) = operandCount (not (isPaired p (k .op) (count cs))) (writtenCount k cs) + rowCount ps rest
+rowCount (p ∷ ps) (node k cs rest) = operandLength p k cs + rowCount ps rest
 
-unfoldable pub judgedBy : Option ℕ → ℕ → Judged
-judgedBy none tokens = Plain tokens
-judgedBy (some n) tokens = Unplain n
+-- What is told where this seat of answer 13 is found, or so many tokens are written.
+unfoldable pub judgedBy : Option ℕ → ℕ → WriteTold
+judgedBy none count = tokens count
+judgedBy (some n) count = unwritten 13 n
 
 -- What is answered where so many tokens and nodes are behind and the row is to come.
-unfoldable pub judging : List Place → ℕ → ℕ → Forest → Judged
-judging ps tokens n f = judgedBy (rowUnplain ps n f) (tokens + rowCount ps f)
+unfoldable pub judging : List Seat → ℕ → ℕ → Forest → WriteTold
+judging ps count n f = judgedBy (rowUnplain ps n f) (count + rowCount ps f)
 
--- The children of k from the i-th on stand at these places.
-pub data Stand (k : Token) : ℕ → List Place → Forest → Type 0 where
+-- The children of k from the i-th on stand at these seats.
+pub data Stand (k : Token) : ℕ → List Seat → Forest → Type 0 where
   nowhere : {i : ℕ} → Stand k i [] nil
-  stands : {i : ℕ} {q : Place} {qs : List Place} {x : Token} {xs rest : Forest} → formPlace q ≡ placeUnder k i → Stand k (suc i) qs rest
+  stands : {i : ℕ} {q : Seat} {qs : List Seat} {x : Token} {xs rest : Forest} → formSeat q ≡ seatUnder k i → Stand k (suc i) qs rest
       → Stand k i (q ∷ qs) (node x xs rest)
 
--- The definition's search through a list of trees, in these terms.
-unplain-by : (b : Bool) (n : ℕ) (o later : Option ℕ) (s : Option ℕ)
-    → s ≡ elim b [ false ↦ some n | true ↦ elim o [ some m ↦ some m | none ↦ later ] ]
-    → s ≡ unlessPlain b n (orLater o later)
-unfolding unlessPlain orLater
-unplain-by false n o later s e = e
-unplain-by true n none later s e = e
-unplain-by true n (some m) later s e = e
-
-pub unplain-node : (p : Option Token) (i n : ℕ) (k : Token) (cs rest : Forest)
-    → unplain p i n (node k cs rest)
-    ≡ unlessPlain (plainForm (placeOf p i) k cs) n (orLater (unplain (some k) 0 (suc n) cs) (unplain p (suc i) (suc n + size cs) rest))
-unfolding unplain
-unplain-node p i n k cs rest = unplain-by (plainForm (placeOf p i) k cs) n (unplain (some k) 0 (suc n) cs) _ _ refl
-
-later-later : (b : Bool) (n : ℕ) (o u z : Option ℕ) → unlessPlain b n (orLater o (orLater u z)) ≡ orLater (unlessPlain b n (orLater o u)) z
-unfolding unlessPlain orLater
-later-later false n o u z = refl
-later-later true n none u z = refl
-later-later true n (some m) u z = refl
-
 -- The children first, then the trees after them.
-pub row-beside : {k : Token} {i : ℕ} {qs : List Place} {cs : Forest} → Stand k i qs cs → (ps : List Place) (n : ℕ) (rest : Forest)
-    → rowUnplain (qs ++ ps) n (beside cs rest) ≡ orLater (unplain (some k) i n cs) (rowUnplain ps (n + size cs) rest)
-unfolding rowUnplain beside size placeOf unplain orLater
-row-beside nowhere ps n rest = rw add-zero refl
+pub row-beside : {k : Token} {i : ℕ} {qs : List Seat} {cs : Forest} → Stand k i qs cs → (ps : List Seat) (n : ℕ) (rest : Forest)
+    → rowUnplain (qs ++ ps) n (beside cs rest) ≡ firstOf (unplain (some k) i n cs ∷ rowUnplain ps (n + size cs) rest ∷ [])
+unfolding rowUnplain beside size seatOf unplain
+row-beside nowhere ps n rest = rw add-zero (sym (after-none none (rowUnplain ps n rest) refl))
 row-beside {k = k} {i = i} (stands {q = q} {qs = qs} {x = x} {xs = xs} {rest = more} here later) ps n rest =
     let nodes : n + (1 + size xs + size more) ≡ suc n + size xs + size more = omega arith in
-    rw (here, row-beside later ps (suc n + size xs) rest, unplain-node (some k) i n x xs more, nodes)
-    (later-later (plainForm (placeUnder k i) x xs) n (unplain (some x) 0 (suc n) xs) (unplain (some k) (suc i) (suc n + size xs) more)
-    (rowUnplain ps (suc n + size xs + size more) rest))
+    let root : Option ℕ = must (plainForm (seatUnder k i) x xs) n in
+    let below = unplain (some x) 0 (suc n) xs in
+    let beside-it = unplain (some k) (suc i) (suc n + size xs) more in
+    let after = rowUnplain ps (suc n + size xs + size more) rest in
+    rw (here, row-beside later ps (suc n + size xs) rest, nodes)
+    (behind root (below ∷ firstOf (beside-it ∷ after ∷ []) ∷ []) (below ∷ beside-it ∷ after ∷ [])
+    (behind below (firstOf (beside-it ∷ after ∷ []) ∷ []) (beside-it ∷ after ∷ []) (last-one (firstOf (beside-it ∷ after ∷ []))))
+    ∙ in-parts (root ∷ below ∷ beside-it ∷ []) (after ∷ []))
 
-count-beside : {k : Token} {i : ℕ} {qs : List Place} {cs : Forest} → Stand k i qs cs → (ps : List Place) (rest : Forest)
+count-beside : {k : Token} {i : ℕ} {qs : List Seat} {cs : Forest} → Stand k i qs cs → (ps : List Seat) (rest : Forest)
     → rowCount (qs ++ ps) (beside cs rest) ≡ rowCount qs cs + rowCount ps rest
 unfolding rowCount beside
 count-beside nowhere ps rest = omega arith
 count-beside (stands here later) ps rest = omega (arith, count-beside later ps rest)
 
--- A plain node is behind: its children come next, each at its place.
-judged-on : (p : Place) (ps qs : List Place) (tokens n : ℕ) (k : Token) (cs rest : Forest) → plainForm (formPlace p) k cs ≡ true
+-- A plain node is behind: its children come next, each at its seat.
+judged-on : (p : Seat) (ps qs : List Seat) (sum n : ℕ) (k : Token) (cs rest : Forest) → plainForm (formSeat p) k cs ≡ true
     → Stand k 0 qs cs
-    → operandCount (not (isPaired p (k .op) (count cs))) (writtenCount k cs) ≡ tokensFor p (k .op) (count cs) + rowCount qs cs
-    → judging (p ∷ ps) tokens n (node k cs rest)
-    ≡ judging (qs ++ ps) (tokens + tokensFor p (k .op) (count cs)) (suc n) (beside cs rest)
-unfolding judging rowUnplain rowCount unlessPlain
-judged-on p ps qs tokens n k cs rest plain stand counted =
+    → operandLength p k cs ≡ tokensFor p (k .op) (count cs) + rowCount qs cs
+    → judging (p ∷ ps) sum n (node k cs rest)
+    ≡ judging (qs ++ ps) (sum + tokensFor p (k .op) (count cs)) (suc n) (beside cs rest)
+unfolding judging rowUnplain rowCount firstOf must
+judged-on p ps qs sum n k cs rest plain stand counted =
     let later = row-beside stand ps (suc n) rest in
-    let all : tokens + (operandCount (not (isPaired p (k .op) (count cs))) (writtenCount k cs) + rowCount ps rest)
-    ≡ tokens + tokensFor p (k .op) (count cs) + rowCount (qs ++ ps) (beside cs rest) = omega (arith, count-beside stand ps rest)
+    let all : sum + (operandLength p k cs + rowCount ps rest)
+    ≡ sum + tokensFor p (k .op) (count cs) + rowCount (qs ++ ps) (beside cs rest) = omega (arith, count-beside stand ps rest)
     in
     rw (plain, ← later, all) refl
 
 -- After the last.
-pub judging-done : (tokens n : ℕ) → judging [] tokens n nil ≡ Plain tokens
+pub judging-done : (count n : ℕ) → judging [] count n nil ≡ tokens count
 unfolding judging rowUnplain rowCount judgedBy
-judging-done tokens n = rw add-zero refl
+judging-done count n = rw add-zero refl
 
 -- At a node that is not plain.
-pub judging-unplain : (p : Place) (ps : List Place) (tokens n : ℕ) (k : Token) (cs rest : Forest) → plainForm (formPlace p) k cs ≡ false
-    → judging (p ∷ ps) tokens n (node k cs rest) ≡ Unplain n
-unfolding judging rowUnplain unlessPlain judgedBy
-judging-unplain p ps tokens n k cs rest e = rw e refl
+pub judging-unplain : (p : Seat) (ps : List Seat) (sum n : ℕ) (k : Token) (cs rest : Forest) → plainForm (formSeat p) k cs ≡ false
+    → judging (p ∷ ps) sum n (node k cs rest) ≡ unwritten 13 n
+unfolding judging rowUnplain firstOf must judgedBy
+judging-unplain p ps sum n k cs rest e = rw e refl
 
 -- The first tree's operator, 0 where there is none.
 unfoldable pub firstOperator : Forest → ℕ
@@ -143,23 +124,23 @@ first-operator noTrees = refl
 first-operator (aNode five few later) = refl
 
 -- The plain forms by numbers.
-pub plain-by : (p : Place) (k : Token) (cs rest : Forest)
-    → plainForm (formPlace p) k cs ≡ plainBy p (k .op) (count cs) (firstOperator (beside cs rest))
+pub plain-by : (p : Seat) (k : Token) (cs rest : Forest)
+    → plainForm (formSeat p) k cs ≡ plainBy p (k .op) (count cs) (firstOperator (beside cs rest))
 unfolding plainForm plainBy isPrefix count firstOperator beside
 plain-by p k nil rest = refl
 plain-by p k (node x xs nil) rest = refl
 plain-by p k (node x xs (node y ys nil)) rest = refl
 plain-by p k (node x xs (node y ys (node z zs more))) rest = refl
 
-plain-few : (p : Place) (op children first : ℕ) → plainBy p op children first ≡ true → (children ≡ 1 → ⊥) → (children ≡ 2 → ⊥) → children ≡ 0
+plain-few : (p : Seat) (op children first : ℕ) → plainBy p op children first ≡ true → (children ≡ 1 → ⊥) → (children ≡ 2 → ⊥) → children ≡ 0
 unfolding plainBy
 plain-few p op zero first e a b = refl
 plain-few p op (suc zero) first e a b = absurd (a refl)
 plain-few p op (suc (suc zero)) first e a b = absurd (b refl)
 plain-few p op (suc (suc (suc n))) first e a b = absurd (false≢true e)
 
--- An operand gets no pair where it stands alone or its place spares it.
-unpaired-by : (p : Place) (x : Token) (xs : Forest) → not (isPaired p (x .op) (count xs)) ≡ (standsAlone x xs || isSpared p (x .op))
+-- An operand gets no pair where it stands alone or its seat spares it.
+unpaired-by : (p : Seat) (x : Token) (xs : Forest) → not (isPaired p (x .op) (count xs)) ≡ (standsAlone x xs || isSpared p (x .op))
 unfolding isPaired standsAlone count
 unpaired-by p x nil = refl
 unpaired-by p x (node y ys r) = rw (ne-eqb (suc (count r)) 0 (λ e. omega arith), Bool·not-not) refl
@@ -168,50 +149,48 @@ module _ (x : Token) (xs : Forest) where
   unpaired-enclosed : not (isPaired Enclosed (x .op) (count xs)) ≡ true
   unpaired-enclosed = unpaired-by Enclosed x xs ∙ or-true (standsAlone x xs)
 
-  unpaired-alone : (p : Place) → isSpared p (x .op) ≡ false → not (isPaired p (x .op) (count xs)) ≡ standsAlone x xs
+  unpaired-alone : (p : Seat) → isSpared p (x .op) ≡ false → not (isPaired p (x .op) (count xs)) ≡ standsAlone x xs
   unpaired-alone p e = unpaired-by p x xs ∙ (ap (λ (b : Bool). standsAlone x xs || b) e ∙ or-false (standsAlone x xs))
 
-  pub unpaired-only : (k : Token) → isBracket (k .op) ≡ false → not (isPaired (onlyPlace (k .op)) (x .op) (count xs)) ≡ standsAlone x xs
-  unfolding onlyPlace
+  pub unpaired-only : (k : Token) → isBracket (k .op) ≡ false → not (isPaired (onlySeat (k .op)) (x .op) (count xs)) ≡ standsAlone x xs
+  unfolding onlySeat
   unpaired-only k e =
-      unpaired-alone (onlyPlace (k .op))
-      (rw (e, onlyPlace) (either (λ p. isSpared p (x .op) ≡ false) (isMathCall (k .op)) UnderMathCall Operand refl refl))
+      unpaired-alone (onlySeat (k .op))
+      (rw (e, onlySeat) (either (λ p. isSpared p (x .op) ≡ false) (isMathCall (k .op)) UnderMathCall Operand refl refl))
 
-  pub unpaired-bracket : (k : Token) → isBracket (k .op) ≡ true → not (isPaired (onlyPlace (k .op)) (x .op) (count xs)) ≡ true
-  unfolding onlyPlace
-  unpaired-bracket k e = rw (e, onlyPlace) unpaired-enclosed
+  pub unpaired-bracket : (k : Token) → isBracket (k .op) ≡ true → not (isPaired (onlySeat (k .op)) (x .op) (count xs)) ≡ true
+  unfolding onlySeat
+  unpaired-bracket k e = rw (e, onlySeat) unpaired-enclosed
 
-  pub unpaired-left : (k : Token) → not (isPaired (leftPlace (k .op)) (x .op) (count xs)) ≡ standsLeft k x xs
-  unfolding leftPlace standsLeft
+  pub unpaired-left : (k : Token) → not (isPaired (leftSeat (k .op)) (x .op) (count xs)) ≡ standsLeft k x xs
+  unfolding leftSeat standsLeft
   unpaired-left k =
-      unpaired-by (leftPlace (k .op)) x xs
+      unpaired-by (leftSeat (k .op)) x xs
       ∙ ap (λ (b : Bool). standsAlone x xs || b)
       (decided (λ p. isSpared p (x .op) ≡ (eqb (k .op) Operator.comma && eqb (x .op) Operator.comma)) (eqb (k .op) Operator.comma)
       LeftOfComma Operand (λ e. rw e refl) (λ e. rw e refl))
 
-  pub unpaired-right : (k : Token) → not (isPaired (rightPlace (k .op)) (x .op) (count xs)) ≡ standsRight k x xs
-  unfolding rightPlace standsRight
+  pub unpaired-right : (k : Token) → not (isPaired (rightSeat (k .op)) (x .op) (count xs)) ≡ standsRight k x xs
+  unfolding rightSeat standsRight
   unpaired-right k =
-      unpaired-by (rightPlace (k .op)) x xs
+      unpaired-by (rightSeat (k .op)) x xs
       ∙ ap (λ (b : Bool). standsAlone x xs || b)
       (decided (λ p. isSpared p (x .op) ≡ (eqb (k .op) Operator.conditional && eqb (x .op) Operator.conditionalElse))
       (eqb (k .op) Operator.conditional) RightOfQuestion Operand (λ e. rw e refl) (λ e. rw e refl))
 
 -- Before the first node.
-pub judgement-by : (o : Option ℕ) (n : ℕ) (j : Judged) → j ≡ elim o [ some m ↦ Unplain m | none ↦ Plain n ] → j ≡ judgedBy o n
-unfolding judgedBy
-judgement-by none n j e = e
-judgement-by (some m) n j e = e
+pub judgement-by : (o : Option ℕ) (f : Forest) → writeTold (withNumber 13 o) f ≡ judgedBy o (length (writtenTokens f))
+unfolding writeTold judgedBy
+judgement-by none f = refl
+judgement-by (some n) f = refl
 
 pub judging-start : (k : Token) (cs rest : Forest) → judging (Enclosed ∷ []) 0 0 (node k cs rest) ≡ judgement (node k cs rest)
-unfolding judging rowUnplain rowCount judgement unplainAt placeOf unplain operandCount
+unfolding judging rowUnplain rowCount judgement unplainAt seatOf unplain operandTokens writtenTokens
 judging-start k cs rest =
-    let all : 0 + (operandCount (not (isPaired Enclosed (k .op) (count cs))) (writtenCount k cs) + 0) ≡ writtenCount k cs =
-    rw (unpaired-enclosed k cs) (omega arith)
-    in
-    rw (all, ← unplain-node none 0 0 k cs nil) (sym (judgement-by (unplain none 0 0 (node k cs nil)) (writtenCount k cs) _ refl))
+    let all : 0 + (operandLength Enclosed k cs + 0) ≡ length (written k cs []) = rw (unpaired-enclosed k cs) (omega arith) in
+    rw all (sym (judgement-by (unplainAt k cs) (node k cs rest)))
 
--- Who stands over two children in a plain tree is no bracket and no math call.
+-- What stands over two children in a plain tree is no bracket and no math call.
 abbrev overTwo : ℕ → Bool
 overTwo n = isPlainBinary n || eqb n Operator.conditionalElse
 
@@ -226,7 +205,8 @@ none-over false b c e t = absurd (true≢false (sym e))
 
 over-by : (n : ℕ) (b : Bool) → leb n 110 ≡ b → overTwo n ≡ true → (isBracket n ≡ false) × (isMathCall n ≡ false)
 unfolding isPlainBinary isBracket isMathCall between
-over-by n true h e = none-over (overTwo n) (isBracket n) (isMathCall n) e (passes-at noneOver 0 111 tt n (omega arith) (omega (arith, leb-true n 110 h)))
+over-by n true h e =
+    none-over (overTwo n) (isBracket n) (isMathCall n) e (passes-at noneOver 0 111 tt n (omega arith) (omega (arith, leb-true n 110 h)))
 over-by n false h e = (ne-eqb n 4 (λ q. omega (arith, leb-false n 110 h)), no-math n (omega (arith, leb-false n 110 h)))
 
 two-or-else : (a b c : Bool) → (a || (b && c)) ≡ true → (a || b) ≡ true
@@ -234,116 +214,124 @@ two-or-else true b c e = refl
 two-or-else false true c e = refl
 two-or-else false false c e = e
 
-pub over-two : (p : Place) (k x y : Token) (xs ys : Forest) → plainForm (formPlace p) k (node x xs (node y ys nil)) ≡ true
+pub over-two : (p : Seat) (k x y : Token) (xs ys : Forest) → plainForm (formSeat p) k (node x xs (node y ys nil)) ≡ true
     → (isBracket (k .op) ≡ false) × (isMathCall (k .op) ≡ false)
 unfolding plainForm
 over-two p k x y xs ys e =
     over-by (k .op) (leb (k .op) 110) refl
-    (two-or-else (isPlainBinary (k .op)) (eqb (k .op) Operator.conditionalElse) (isRightOfQuestion (formPlace p)) e)
+    (two-or-else (isPlainBinary (k .op)) (eqb (k .op) Operator.conditionalElse) (isRightOfQuestion (formSeat p)) e)
 
--- The children stand at the places of the definition.
+-- The children stand at the seats of the definition.
 never-right : (a : Bool)
-    → _≡_ {A = plain.Place} plain.elsewhere (elim (a && false) [ true ↦ plain.rightOfQuestion | false ↦ plain.elsewhere ])
+    → _≡_ {A = plain.Seat} plain.elsewhere (elim (a && false) [ true ↦ plain.rightOfQuestion | false ↦ plain.elsewhere ])
 never-right true = refl
 never-right false = refl
 
 right-by : (a : Bool)
-    → _≡_ {A = plain.Place} (formPlace (elim a [ true ↦ RightOfQuestion | false ↦ Operand ]))
+    → _≡_ {A = plain.Seat} (formSeat (elim a [ true ↦ RightOfQuestion | false ↦ Operand ]))
     (elim (a && true) [ true ↦ plain.rightOfQuestion | false ↦ plain.elsewhere ])
 right-by true = refl
 right-by false = refl
 
-first-elsewhere : (k : Token) → isMathCall (k .op) ≡ false → plain.elsewhere ≡ placeUnder k 0
-unfolding placeUnder
-first-elsewhere k e = rw (e, placeUnder) (never-right (eqb (k .op) Operator.conditional))
+first-elsewhere : (k : Token) → isMathCall (k .op) ≡ false → plain.elsewhere ≡ seatUnder k 0
+unfolding seatUnder
+first-elsewhere k e = rw (e, seatUnder) (never-right (eqb (k .op) Operator.conditional))
 
-under-math : (k : Token) → isMathCall (k .op) ≡ true → plain.underMathCall ≡ placeUnder k 0
-unfolding placeUnder
-under-math k e = rw (e, placeUnder) refl
+under-math : (k : Token) → isMathCall (k .op) ≡ true → plain.underMathCall ≡ seatUnder k 0
+unfolding seatUnder
+under-math k e = rw (e, seatUnder) refl
 
 bracket-no-math : (n : ℕ) → isBracket n ≡ true → isMathCall n ≡ false
 unfolding isBracket isMathCall between
 bracket-no-math n e = rw (eqb-true n 4 e) refl
 
-only-place : (k : Token) → formPlace (onlyPlace (k .op)) ≡ placeUnder k 0
-unfolding onlyPlace
-only-place k =
-    decided (λ p. formPlace p ≡ placeUnder k 0) (isBracket (k .op)) Enclosed
+only-seat : (k : Token) → formSeat (onlySeat (k .op)) ≡ seatUnder k 0
+unfolding onlySeat
+only-seat k =
+    decided (λ p. formSeat p ≡ seatUnder k 0) (isBracket (k .op)) Enclosed
     (elim (isMathCall (k .op)) [ true ↦ UnderMathCall | false ↦ Operand ])
     (λ e. first-elsewhere k (bracket-no-math (k .op) e))
-    (λ _. decided (λ p. formPlace p ≡ placeUnder k 0) (isMathCall (k .op)) UnderMathCall Operand (under-math k) (first-elsewhere k))
+    (λ _. decided (λ p. formSeat p ≡ seatUnder k 0) (isMathCall (k .op)) UnderMathCall Operand (under-math k) (first-elsewhere k))
 
-left-place : (k : Token) → isMathCall (k .op) ≡ false → formPlace (leftPlace (k .op)) ≡ placeUnder k 0
-unfolding leftPlace
-left-place k e =
-    either (λ p. formPlace p ≡ placeUnder k 0) (eqb (k .op) Operator.comma) LeftOfComma Operand (first-elsewhere k e) (first-elsewhere k e)
+left-seat : (k : Token) → isMathCall (k .op) ≡ false → formSeat (leftSeat (k .op)) ≡ seatUnder k 0
+unfolding leftSeat
+left-seat k e =
+    either (λ p. formSeat p ≡ seatUnder k 0) (eqb (k .op) Operator.comma) LeftOfComma Operand (first-elsewhere k e) (first-elsewhere k e)
 
-right-place : (k : Token) → isMathCall (k .op) ≡ false → formPlace (rightPlace (k .op)) ≡ placeUnder k 1
-unfolding rightPlace placeUnder
-right-place k e = rw (e, placeUnder) (right-by (eqb (k .op) Operator.conditional))
+right-seat : (k : Token) → isMathCall (k .op) ≡ false → formSeat (rightSeat (k .op)) ≡ seatUnder k 1
+unfolding rightSeat seatUnder
+right-seat k e = rw (e, seatUnder) (right-by (eqb (k .op) Operator.conditional))
 
 -- The tokens of a node are its own and its children's.
-pair-count : (b : Bool) (n : ℕ) → operandCount (not b) n ≡ n + ifTrue b 2
-unfolding operandCount
-pair-count true n = refl
-pair-count false n = omega arith
+pair-length : (b : Bool) (k : Token) (cs : Forest)
+    → length (operandTokens (not b) k (written k cs) []) ≡ length (written k cs []) + ifTrue b 2
+unfolding operandTokens
+pair-length true k cs = omega (arith, written-length k cs (closerFor k ∷ []))
+pair-length false k cs = omega arith
 
-module _ (p : Place) (k : Token) where
-  counted-leaf : operandCount (not (isPaired p (k .op) 0)) (writtenCount k nil) ≡ tokensFor p (k .op) 0 + rowCount [] nil
-  unfolding writtenCount tokensFor rowCount
-  counted-leaf =
-      pair-count (isPaired p (k .op) 0) _
-      ∙ decided (λ n. n + ifTrue (isPaired p (k .op) 0) 2 ≡ 1 + ifTrue (isBracket (k .op)) 1 + ifTrue (isPaired p (k .op) 0) 2 + 0)
-      (isBracket (k .op)) 2 1 (λ e. rw e (omega arith)) (λ e. rw e (omega arith))
+module _ (p : Seat) (k : Token) where
+  -- A node's tokens with its pair, where so many stand inside it.
+  with-own : (cs : Forest) (inside : ℕ) → length (written k cs []) ≡ 1 + ifTrue (isBracket (k .op)) 1 + inside
+      → operandLength p k cs ≡ tokensFor p (k .op) (count cs) + inside
+  unfolding tokensFor
+  with-own cs inside e = omega (arith, pair-length (isPaired p (k .op) (count cs)) k cs)
+
+  counted-leaf : length (written k nil []) ≡ 1 + ifTrue (isBracket (k .op)) 1 + rowCount [] nil
+  unfolding rowCount
+  counted-leaf = split (isBracket (k .op)) refl
+    where
+      split : (b : Bool) → isBracket (k .op) ≡ b → length (written k nil []) ≡ 1 + ifTrue (isBracket (k .op)) 1 + 0
+      split true e = rw (written-none true k [] e, e) refl
+      split false e = rw (written-none false k [] e, e) refl
 
   counted-only : (x : Token) (xs : Forest)
-      → operandCount (not (isPaired p (k .op) 1)) (writtenCount k (node x xs nil))
-      ≡ tokensFor p (k .op) 1 + rowCount (onlyPlace (k .op) ∷ []) (node x xs nil)
-  unfolding writtenCount tokensFor rowCount operandCount
-  counted-only x xs =
-      pair-count (isPaired p (k .op) 1) _
-      ∙ decided
-      (λ n. n + ifTrue (isPaired p (k .op) 1) 2
-      ≡ 1 + ifTrue (isBracket (k .op)) 1 + ifTrue (isPaired p (k .op) 1) 2
-      + (operandCount (not (isPaired (onlyPlace (k .op)) (x .op) (count xs))) (writtenCount x xs) + 0))
-      (isBracket (k .op)) (writtenCount x xs + 2) (1 + operandCount (standsAlone x xs) (writtenCount x xs))
-      (λ e. rw (unpaired-bracket x xs k e, e) (omega arith))
-      (λ e. rw (unpaired-only x xs k e, e) (omega arith))
+      → length (written k (node x xs nil) []) ≡ 1 + ifTrue (isBracket (k .op)) 1 + rowCount (onlySeat (k .op) ∷ []) (node x xs nil)
+  unfolding rowCount operandTokens
+  counted-only x xs = split (isBracket (k .op)) refl
+    where
+      split : (b : Bool) → isBracket (k .op) ≡ b
+          → length (written k (node x xs nil) []) ≡ 1 + ifTrue (isBracket (k .op)) 1 + (operandLength (onlySeat (k .op)) x xs + 0)
+      split true e =
+          rw (written-one true k x xs [] e, unpaired-bracket x xs k e, e) (omega (arith, written-length x xs (closerFor k ∷ [])))
+      split false e = rw (written-one false k x xs [] e, unpaired-only x xs k e, e) (omega arith)
 
   counted-two : (x y : Token) (xs ys : Forest) → isBracket (k .op) ≡ false
-      → operandCount (not (isPaired p (k .op) 2)) (writtenCount k (node x xs (node y ys nil)))
-      ≡ tokensFor p (k .op) 2 + rowCount (leftPlace (k .op) ∷ rightPlace (k .op) ∷ []) (node x xs (node y ys nil))
-  unfolding writtenCount tokensFor rowCount
+      → length (written k (node x xs (node y ys nil)) [])
+      ≡ 1 + ifTrue (isBracket (k .op)) 1 + rowCount (leftSeat (k .op) ∷ rightSeat (k .op) ∷ []) (node x xs (node y ys nil))
+  unfolding rowCount
   counted-two x y xs ys e =
-      pair-count (isPaired p (k .op) 2) _ ∙ rw (unpaired-left x xs k, unpaired-right y ys k, e) (omega arith)
+      rw (written-two k x xs y ys [], unpaired-left x xs k, unpaired-right y ys k, e)
+      (omega (arith, operand-length (standsLeft k x xs) x xs (k ∷ operandTokens (standsRight k y ys) y (written y ys) [])))
 
   -- Where the children of a plain node stand, by their number, and that their tokens and its own are all.
-  abbrev pub Goes : List Place → Forest → Type 0
+  abbrev pub Goes : List Seat → Forest → Type 0
   Goes qs cs =
       Stand k 0 qs cs
-      × (operandCount (not (isPaired p (k .op) (count cs))) (writtenCount k cs) ≡ tokensFor p (k .op) (count cs) + rowCount qs cs)
+      × (operandLength p k cs ≡ tokensFor p (k .op) (count cs) + rowCount qs cs)
 
   pub on-none : (cs : Forest) → count cs ≡ 0 → Goes [] cs
   unfolding count
-  on-none nil e = (nowhere, counted-leaf)
+  on-none nil e = (nowhere, with-own nil _ counted-leaf)
   on-none (node x xs r) e = absurd (omega arith)
 
-  pub on-one : (cs : Forest) → count cs ≡ 1 → Goes (onlyPlace (k .op) ∷ []) cs
+  pub on-one : (cs : Forest) → count cs ≡ 1 → Goes (onlySeat (k .op) ∷ []) cs
   unfolding count
   on-one nil e = absurd (omega arith)
-  on-one (node x xs nil) e = (stands (only-place k) nowhere, counted-only x xs)
+  on-one (node x xs nil) e = (stands (only-seat k) nowhere, with-own (node x xs nil) _ (counted-only x xs))
   on-one (node x xs (node y ys r)) e = absurd (omega arith)
 
-  pub on-two : (cs : Forest) → plainForm (formPlace p) k cs ≡ true → count cs ≡ 2 → Goes (leftPlace (k .op) ∷ rightPlace (k .op) ∷ []) cs
+  pub on-two : (cs : Forest) → plainForm (formSeat p) k cs ≡ true → count cs ≡ 2 → Goes (leftSeat (k .op) ∷ rightSeat (k .op) ∷ []) cs
   unfolding count
   on-two nil plain e = absurd (omega arith)
   on-two (node x xs nil) plain e = absurd (omega arith)
   on-two (node x xs (node y ys nil)) plain e =
-      let over = over-two p k x y xs ys plain in
-      (stands (left-place k (over .1)) (stands (right-place k (over .1)) nowhere), counted-two x y xs ys (over .0))
+      let over = over-two p k x y xs ys plain in (
+        stands (left-seat k (over .1)) (stands (right-seat k (over .1)) nowhere),
+        with-own (node x xs (node y ys nil)) _ (counted-two x y xs ys (over .0)),
+      )
   on-two (node x xs (node y ys (node z zs r))) plain e = absurd (omega arith)
 
-pub few-tokens : (p : Place) (op children : ℕ) → tokensFor p op children ≤ 4
+pub few-tokens : (p : Seat) (op children : ℕ) → tokensFor p op children ≤ 4
 unfolding tokensFor
 few-tokens p op children = omega (arith, at-most (isBracket op) 1, at-most (isPaired p op children) 2)
   where
@@ -351,36 +339,39 @@ few-tokens p op children = omega (arith, at-most (isBracket op) 1, at-most (isPa
     at-most true n = omega arith
     at-most false n = omega arith
 
--- The places on the stack, the next one first.
-unfoldable pub pending : List Place → ℕ → List Place
+-- The seats on the stack, the next one first.
+unfoldable pub pending : List Seat → ℕ → List Seat
 pending waiting zero = []
 pending waiting (suc top) = getD waiting top Enclosed ∷ pending waiting top
 
--- THE LOOP'S INVARIANT: the nodes before this one are plain, and the places of the trees that are still called for are on the stack.
-pub record Judging (tree : List ℕ) (waiting : List Place) (top tokens n : ℕ) : Type 0 where
-  pub within : 6 * n ≤ length tree
-  pub shaped : Shaped mostChildren top (drop (6 * n) tree)
-  pub few : tokens ≤ 4 * n
+-- THE LOOP'S INVARIANT: the n nodes before `at` are plain, and the seats of the trees that are still called for are on the stack.
+pub record Judging (tree : List ℕ) (waiting : List Seat) (top sum n at : ℕ) : Type 0 where
+  pub within : at ≤ length tree
+  pub stands : at ≡ nodeLength * n
+  pub shaped : Shaped mostChildren top (drop at tree)
+  pub few : sum ≤ 4 * n
   pub room : length waiting ≡ mostNodes
-  pub same : judging (pending waiting top) tokens n (treesOf (drop (6 * n) tree)) ≡ judgement (treesOf tree)
+  pub same : judging (pending waiting top) sum n (treesOf (drop at tree)) ≡ judgement (treesOf tree)
 
-pending-set : (waiting : List Place) (top i : ℕ) (p : Place) → top ≤ i → pending (set waiting i p) top ≡ pending waiting top
+pending-set : (waiting : List Seat) (top i : ℕ) (p : Seat) → top ≤ i → pending (set waiting i p) top ≡ pending waiting top
 unfolding pending
 pending-set waiting zero i p h = refl
-pending-set waiting (suc top) i p h = rw (getD-set-other waiting i top p Enclosed (λ e. omega arith), pending-set waiting top i p (omega arith))
+pending-set waiting (suc top) i p h =
+    rw (getD-set-other waiting i top p Enclosed (λ e. omega arith), pending-set waiting top i p (omega arith))
 
-pushed : (waiting : List Place) (top : ℕ) (p : Place) → top < length waiting → pending (set waiting top p) (suc top) ≡ p ∷ pending waiting top
+pushed : (waiting : List Seat) (top : ℕ) (p : Seat) → top < length waiting → pending (set waiting top p) (suc top) ≡ p ∷ pending waiting top
 unfolding pending
 pushed waiting top p h = rw (getD-set-same waiting top p Enclosed h, pending-set waiting top top p (omega arith))
 
 -- Before the first node.
-pub judging-begins : (tree : List ℕ) (waiting : List Place) → OneTree tree → length waiting ≡ mostNodes → getD waiting 0 Enclosed ≡ Enclosed
-    → Judging tree waiting 1 0 0
+pub judging-begins : (tree : List ℕ) (waiting : List Seat) → OneTree tree → length waiting ≡ mostNodes → getD waiting 0 Enclosed ≡ Enclosed
+    → Judging tree waiting 1 0 0 0
 unfolding pending
 judging-begins tree waiting one room e =
     let o = opened (one .shaped) (omega (arith, shaped-room (one .shaped))) in
     record {
       within = omega arith;
+      stands = refl;
       shaped = one .shaped;
       few = omega arith;
       room = room;
@@ -388,112 +379,116 @@ judging-begins tree waiting one room e =
     }
 
 -- After the last.
-pub judging-ends : {tree : List ℕ} {waiting : List Place} {top tokens n : ℕ} → Judging tree waiting top tokens n → length tree / 6 ≤ n
-    → Plain tokens ≡ judgement (treesOf tree)
+pub judging-ends : {tree : List ℕ} {waiting : List Seat} {top sum n at : ℕ} → Judging tree waiting top sum n at → length tree ≤ at
+    → tokens sum ≡ judgement (treesOf tree)
 unfolding pending treesOf
-judging-ends {tree = tree} {waiting = waiting} {top = top} {tokens = tokens} {n = n} j h =
-    let short : length tree ≤ 6 * n = omega (arith, shaped-length (j .shaped), length-drop (6 * n) tree) in
-    let here : drop (6 * n) tree ≡ [] = drop-of-length-le tree short in
+judging-ends {tree = tree} {waiting = waiting} {top = top} {sum = sum} {n = n} {at = at} j h =
+    let here : drop at tree ≡ [] = drop-of-length-le tree h in
     let last : top ≡ 0 = omega (arith, shaped-room (j .shaped), ap length here) in
-    sym (judging-done tokens n) ∙ (rw (here, last) at (j .same))
+    sym (judging-done sum n) ∙ (rw (here, last) at (j .same))
 
 -- At a node: what stands there, and the ways on.
-module _ {tree : List ℕ} {waiting : List Place} {top tokens n : ℕ} (one : OneTree tree) (j : Judging tree waiting top tokens n)
-    (h : n < length tree / 6) where
-  node-at : Opened mostChildren top (drop (6 * n) tree)
+module _ {tree : List ℕ} {waiting : List Seat} {top sum n at : ℕ} (one : OneTree tree) (j : Judging tree waiting top sum n at)
+    (h : at < length tree) where
+  node-at : Opened mostChildren top (drop at tree)
   node-at = opened (j .shaped) (rw length-drop (omega arith))
 
-  pub judging-room : (6 * n + 6 ≤ length tree) × (1 ≤ top) × (top + n ≤ mostNodes)
+  pub judging-room : (at + nodeLength ≤ length tree) × (1 ≤ top) × (top + n ≤ mostNodes)
   judging-room =
-      let room = length-drop (6 * n) tree in
+      let room = length-drop at tree in
+      let whole = shaped-length (j .shaped) in
       (omega arith, omega (arith, node-at .isTop), omega (arith, shaped-room (j .shaped), one .small))
 
-  next-words : drop 6 (drop (6 * n) tree) ≡ drop (6 * (n + 1)) tree
-  next-words = let six : 6 * n + 6 ≡ 6 * (n + 1) = omega arith in drop-drop 6 (6 * n) tree ∙ ap (λ (m : ℕ). drop m tree) six
-
 -- A turn of the loop: what stands at the node, as it was read.
-pub record Turn (tree : List ℕ) (waiting : List Place) (top tokens n op children first : ℕ) (p : Place) : Type 0 where
+pub record Turn (tree : List ℕ) (waiting : List Seat) (top sum n at op children first after : ℕ) (p : Seat) : Type 0 where
   pub one : OneTree tree
-  pub inv : Judging tree waiting top tokens n
-  pub within : n < length tree / 6
-  pub isOp : op ≡ operatorOf (getD tree (6 * n) 0)
-  pub isCount : children ≡ lowOf (getD tree (6 * n + 5) 0)
-  pub isFirst : first ≡ operatorOf (getD tree (6 * n + 6) 0)
-  pub isPlace : p ≡ getD waiting (top - 1) Enclosed
+  pub inv : Judging tree waiting top sum n at
+  pub within : at < length tree
+  pub isOp : op ≡ operatorOf (getD tree at 0)
+  pub isCount : children ≡ lowOf (getD tree (at + countIndex) 0)
+  pub isFirst : first ≡ operatorOf (getD tree (at + nodeLength) 0)
+  pub isAfter : after ≡ at + nodeLength
+  pub isSeat : p ≡ getD waiting (top - 1) Enclosed
 
-module _ {tree : List ℕ} {waiting : List Place} {top tokens n op children first : ℕ} {p : Place}
-    (t : Turn tree waiting top tokens n op children first p) where
-  here : Opened mostChildren top (drop (6 * n) tree)
+module _ {tree : List ℕ} {waiting : List Seat} {top sum n at op children first after : ℕ} {p : Seat}
+    (t : Turn tree waiting top sum n at op children first after p) where
+  here : Opened mostChildren top (drop at tree)
   here = node-at (t .one) (t .inv) (t .within)
 
-  bounds : (6 * n + 6 ≤ length tree) × (1 ≤ top) × (top + n ≤ mostNodes)
+  bounds : (at + nodeLength ≤ length tree) × (1 ≤ top) × (top + n ≤ mostNodes)
   bounds = judging-room (t .one) (t .inv) (t .within)
 
-  next : drop 6 (drop (6 * n) tree) ≡ drop (6 * (n + 1)) tree
-  next = next-words (t .one) (t .inv) (t .within)
+  next : drop nodeLength (drop at tree) ≡ drop (at + nodeLength) tree
+  next = drop-drop nodeLength at tree
 
   here-op : here .k .op ≡ op
   here-op =
-      here .op ∙ (ap operatorOf (getD-drop (6 * n) tree 0 0 ∙ ap (λ (m : ℕ). getD tree m 0) (add-zero (6 * n))) ∙ sym (t .isOp))
+      here .op ∙ (ap operatorOf (getD-drop at tree 0 0 ∙ ap (λ (m : ℕ). getD tree m 0) (add-zero at)) ∙ sym (t .isOp))
 
   here-count : count (here .cs) ≡ children
-  here-count = here .children ∙ (ap lowOf (getD-drop (6 * n) tree 5 0) ∙ sym (t .isCount))
+  here-count = here .children ∙ (ap lowOf (getD-drop at tree countIndex 0) ∙ sym (t .isCount))
 
   here-first : firstOperator (beside (here .cs) (here .rest)) ≡ first
   here-first =
       ap firstOperator (sym (here .below))
       ∙ (first-operator (here .shaped)
-      ∙ (ap operatorOf (getD-drop 6 (drop (6 * n) tree) 0 0 ∙ getD-drop (6 * n) tree 6 0) ∙ sym (t .isFirst)))
+      ∙ (ap operatorOf (getD-drop nodeLength (drop at tree) 0 0 ∙ getD-drop at tree nodeLength 0) ∙ sym (t .isFirst)))
 
-  here-plain : plainForm (formPlace p) (here .k) (here .cs) ≡ plainBy p op children first
+  here-plain : plainForm (formSeat p) (here .k) (here .cs) ≡ plainBy p op children first
   here-plain = plain-by p (here .k) (here .cs) (here .rest) ∙ rw (here-op, here-count, here-first)
 
-  still : judging (p ∷ pending waiting (top - 1)) tokens n (node (here .k) (here .cs) (here .rest)) ≡ judgement (treesOf tree)
+  still : judging (p ∷ pending waiting (top - 1)) sum n (node (here .k) (here .cs) (here .rest)) ≡ judgement (treesOf tree)
   unfolding pending
   still =
       let left : top ≡ suc (top - 1) = omega (arith, here .isTop) in
-      let places : pending waiting top ≡ p ∷ pending waiting (top - 1) =
-      ap (pending waiting) left ∙ ap (λ (q : Place). q ∷ pending waiting (top - 1)) (sym (t .isPlace))
+      let seats : pending waiting top ≡ p ∷ pending waiting (top - 1) =
+      ap (pending waiting) left ∙ ap (λ (q : Seat). q ∷ pending waiting (top - 1)) (sym (t .isSeat))
       in
-      rw (places, here .trees) at (t .inv .same)
+      rw (seats, here .trees) at (t .inv .same)
 
-  pub judging-refused : plainBy p op children first ≡ false → Unplain n ≡ judgement (treesOf tree)
+  -- The words that are left fall.
+  pub falls : length tree - after < length tree - at
+  falls = omega (arith, t .isAfter, t .within)
+
+  pub judging-refused : plainBy p op children first ≡ false → unwritten 13 n ≡ judgement (treesOf tree)
   judging-refused e =
-      sym (judging-unplain p (pending waiting (top - 1)) tokens n (here .k) (here .cs) (here .rest) (here-plain ∙ e)) ∙ still
+      sym (judging-unplain p (pending waiting (top - 1)) sum n (here .k) (here .cs) (here .rest) (here-plain ∙ e)) ∙ still
 
-  later-shaped : {m : ℕ} → Shaped mostChildren m (drop 6 (drop (6 * n) tree)) → m ≡ children + (top - 1)
-      → Shaped mostChildren (children + (top - 1)) (drop 6 (drop (6 * n) tree))
+  later-shaped : {m : ℕ} → Shaped mostChildren m (drop nodeLength (drop at tree)) → m ≡ children + (top - 1)
+      → Shaped mostChildren (children + (top - 1)) (drop nodeLength (drop at tree))
   later-shaped s e = rw e at s
 
-  -- The state after a plain node whose children stand at these places.
-  passed : {waiting' : List Place} {top' : ℕ} (qs : List Place) → plainBy p op children first ≡ true → Goes p (here .k) qs (here .cs)
+  -- The state after a plain node whose children stand at these seats.
+  passed : {waiting' : List Seat} {top' : ℕ} (qs : List Seat) → plainBy p op children first ≡ true → Goes p (here .k) qs (here .cs)
       → length waiting' ≡ mostNodes
       → top' ≡ children + (top - 1)
       → pending waiting' top' ≡ qs ++ pending waiting (top - 1)
-      → Judging tree waiting' top' (tokens + tokensFor p op children) (n + 1)
-  passed {waiting' = waiting'} qs plain goes room height places =
-      let on = judged-on p (pending waiting (top - 1)) qs tokens n (here .k) (here .cs) (here .rest) (here-plain ∙ plain) (goes .0) (goes .1) in
+      → Judging tree waiting' top' (sum + tokensFor p op children) (n + 1) after
+  passed {waiting' = waiting'} qs plain goes room height seats =
+      let on = judged-on p (pending waiting (top - 1)) qs sum n (here .k) (here .cs) (here .rest) (here-plain ∙ plain) (goes .0)
+      (goes .1) in
       record {
-        within = omega (arith, bounds .0);
-        shaped = rw (height, ← next) (later-shaped (here .shaped) (omega (arith, here .isTop, here .children, here-count)));
+        within = omega (arith, bounds .0, t .isAfter);
+        stands = omega (arith, t .inv .stands, t .isAfter);
+        shaped = rw (height, t .isAfter, ← next) (later-shaped (here .shaped) (omega (arith, here .isTop, here .children, here-count)));
         few = omega (arith, few-tokens p op children);
         room = room;
-        same = rw (places, ← next, here .below, add-one) (rw (here-op, here-count) at (sym on) ∙ still);
+        same = rw (seats, t .isAfter, ← next, here .below, add-one) (rw (here-op, here-count) at (sym on) ∙ still);
       }
 
   pub judging-none : plainBy p op children first ≡ true → (children ≡ 1 → ⊥) → (children ≡ 2 → ⊥)
-      → Judging tree waiting (top - 1) (tokens + tokensFor p op children) (n + 1)
+      → Judging tree waiting (top - 1) (sum + tokensFor p op children) (n + 1) after
   judging-none plain a b =
       let zero-children = plain-few p op children first plain a b in
       passed [] plain (on-none p (here .k) (here .cs) (here-count ∙ zero-children)) (t .inv .room) (omega arith) refl
 
   pub judging-one : plainBy p op children first ≡ true → children ≡ 1
-      → Judging tree (set waiting (top - 1) (onlyPlace op)) (top - 1 + 1) (tokens + tokensFor p op children) (n + 1)
+      → Judging tree (set waiting (top - 1) (onlySeat op)) (top - 1 + 1) (sum + tokensFor p op children) (n + 1) after
   judging-one plain e =
       let below : top - 1 < length waiting = omega (arith, t .inv .room, bounds .1, bounds .2) in
-      passed (onlyPlace (here .k .op) ∷ []) plain (on-one p (here .k) (here .cs) (here-count ∙ e))
-      (length-set waiting (top - 1) (onlyPlace op) ∙ t .inv .room) (omega arith)
-      (rw (add-one, here-op) (pushed waiting (top - 1) (onlyPlace op) below))
+      passed (onlySeat (here .k .op) ∷ []) plain (on-one p (here .k) (here .cs) (here-count ∙ e))
+      (length-set waiting (top - 1) (onlySeat op) ∙ t .inv .room) (omega arith)
+      (rw (add-one, here-op) (pushed waiting (top - 1) (onlySeat op) below))
 
   pub judging-room-two : children ≡ 2 → top - 1 + 1 < mostNodes
   judging-room-two e =
@@ -503,21 +498,21 @@ module _ {tree : List ℕ} {waiting : List Place} {top tokens n op children firs
         here .isTop,
         here .children,
         here-count,
-        length-drop 6 (drop (6 * n) tree),
-        length-drop (6 * n) tree,
+        length-drop nodeLength (drop at tree),
+        length-drop at tree,
         t .one .small,
       )
 
   pub judging-two : plainBy p op children first ≡ true → children ≡ 2
-      → Judging tree (set (set waiting (top - 1) (rightPlace op)) (top - 1 + 1) (leftPlace op)) (top - 1 + 2)
-      (tokens + tokensFor p op children) (n + 1)
+      → Judging tree (set (set waiting (top - 1) (rightSeat op)) (top - 1 + 1) (leftSeat op)) (top - 1 + 2)
+      (sum + tokensFor p op children) (n + 1) after
   judging-two plain e =
-      let bottom = set waiting (top - 1) (rightPlace op) in
-      let room : length bottom ≡ mostNodes = length-set waiting (top - 1) (rightPlace op) ∙ t .inv .room in
+      let bottom = set waiting (top - 1) (rightSeat op) in
+      let room : length bottom ≡ mostNodes = length-set waiting (top - 1) (rightSeat op) ∙ t .inv .room in
       let left : top - 1 < length waiting = omega (arith, t .inv .room, bounds .1, bounds .2) in
       let right : suc (top - 1) < length bottom = omega (arith, room, judging-room-two e) in
       let height : top - 1 + 2 ≡ suc (suc (top - 1)) = omega arith in
-      passed (leftPlace (here .k .op) ∷ rightPlace (here .k .op) ∷ []) plain
+      passed (leftSeat (here .k .op) ∷ rightSeat (here .k .op) ∷ []) plain
       (on-two p (here .k) (here .cs) (here-plain ∙ plain) (here-count ∙ e))
-      (length-set bottom (top - 1 + 1) (leftPlace op) ∙ room) (omega arith)
-      (rw (height, add-one, here-op, pushed bottom (suc (top - 1)) (leftPlace op) right, pushed waiting (top - 1) (rightPlace op) left))
+      (length-set bottom (top - 1 + 1) (leftSeat op) ∙ room) (omega arith)
+      (rw (height, add-one, here-op, pushed bottom (suc (top - 1)) (leftSeat op) right, pushed waiting (top - 1) (rightSeat op) left))

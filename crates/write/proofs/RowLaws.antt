@@ -12,7 +12,7 @@ use Rattle.molang.proofs.Words.{beside}
 use Rattle.words.specs.Fields.{operatorOf}
 use Rattle.words.proofs.TreeLaws.{none-first}
 use Rattle.write.specs.Spelling.{firstFive}
-use Rattle.write.specs.Shaped.{Shaped, noTrees, aNode}
+use Rattle.write.specs.Shaped.{nodeLength, countIndex, Shaped, noTrees, aNode}
 
 -- The first trees and the others are the row.
 pub beside-split : (n : ℕ) (f : Forest) → beside (firstTrees n f) (otherTrees n f) ≡ f
@@ -65,20 +65,20 @@ shaped-count (aNode {trees = trees} {n = n} {ws = ws} five few later) =
     omega (arith, shaped-count later, count-other (lowOf n) (treesOf ws))
 
 -- Six words a node.
-pub shaped-length : {most p : ℕ} {ws : List ℕ} → Shaped most p ws → length ws ≡ 6 * size (treesOf ws)
+pub shaped-length : {most p : ℕ} {ws : List ℕ} → Shaped most p ws → length ws ≡ nodeLength * size (treesOf ws)
 unfolding treesOf size
 shaped-length noTrees = refl
 shaped-length (aNode {n = n} {ws = ws} five few later) = omega (arith, shaped-length later, size-split (lowOf n) (treesOf ws))
 
 -- At least six words a tree.
-pub shaped-room : {most p : ℕ} {ws : List ℕ} → Shaped most p ws → 6 * p ≤ length ws
+pub shaped-room : {most p : ℕ} {ws : List ℕ} → Shaped most p ws → nodeLength * p ≤ length ws
 shaped-room noTrees = omega arith
 shaped-room (aNode five few later) = omega (arith, shaped-room later)
 
 -- What stands after the first trees: the other trees, whose words begin where those of the first end.
 pub record After (most p q : ℕ) (ws : List ℕ) : Type 0 where
-  pub shaped : Shaped most p (drop (6 * size (firstTrees q (treesOf ws))) ws)
-  pub trees : treesOf (drop (6 * size (firstTrees q (treesOf ws))) ws) ≡ otherTrees q (treesOf ws)
+  pub shaped : Shaped most p (drop (nodeLength * size (firstTrees q (treesOf ws))) ws)
+  pub trees : treesOf (drop (nodeLength * size (firstTrees q (treesOf ws))) ws) ≡ otherTrees q (treesOf ws)
 
 after-none : {most r : ℕ} {ws : List ℕ} (p : ℕ) → r ≡ 0 + p → Shaped most r ws → After most p 0 ws
 unfolding firstTrees otherTrees size
@@ -91,9 +91,10 @@ after-trees noTrees p (suc q) e = absurd (omega arith)
 after-trees (aNode five few later) p zero e = after-none p e (aNode five few later)
 after-trees (aNode {trees = trees} {n = n} {ws = ws} five few later) p (suc q) e =
     let g = treesOf ws in
-    let m = 6 * size (firstTrees (lowOf n + q) g) in
+    let m = nodeLength * size (firstTrees (lowOf n + q) g) in
     let x = after-trees later p (lowOf n + q) (omega arith) in
-    let six : 6 * (1 + size (firstTrees (lowOf n) g) + size (firstTrees q (otherTrees (lowOf n) g))) ≡ suc (suc (suc (suc (suc (suc m))))) =
+    let six : nodeLength * (1 + size (firstTrees (lowOf n) g) + size (firstTrees q (otherTrees (lowOf n) g)))
+    ≡ suc (suc (suc (suc (suc (suc m))))) =
     omega (arith, size-more (lowOf n) q g)
     in
     record { shaped = rw six (x .shaped); trees = rw (six, ← other-more (lowOf n) q g) (x .trees) }
@@ -108,11 +109,11 @@ pub record Opened (most top : ℕ) (ws : List ℕ) : Type 0 where
   pub trees : treesOf ws ≡ node k cs rest
   pub five : tokenWords k ≡ firstFive ws
   pub op : k .op ≡ operatorOf (getD ws 0 0)
-  pub children : count cs ≡ lowOf (getD ws 5 0)
-  pub few : lowOf (getD ws 5 0) ≤ most
-  pub below : treesOf (drop 6 ws) ≡ beside cs rest
-  pub shaped : Shaped most (lowOf (getD ws 5 0) + others) (drop 6 ws)
-  pub long : 6 ≤ length ws
+  pub children : count cs ≡ lowOf (getD ws countIndex 0)
+  pub few : lowOf (getD ws countIndex 0) ≤ most
+  pub below : treesOf (drop nodeLength ws) ≡ beside cs rest
+  pub shaped : Shaped most (lowOf (getD ws countIndex 0) + others) (drop nodeLength ws)
+  pub long : nodeLength ≤ length ws
 
 pub opened : {most top : ℕ} {ws : List ℕ} → Shaped most top ws → 0 < length ws → Opened most top ws
 unfolding treesOf firstFive operatorOf tokenOf

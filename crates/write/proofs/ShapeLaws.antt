@@ -10,28 +10,33 @@ use lib.Dec.{leb}
 use lib.ListN.{length, getD, drop, drop-of-length-le}
 use lib.Seq.{drop-cons}
 use borrow.Author.Tests.{eqb-true, leb-true, le-leb, lt-leb}
-use Rattle.molang.specs.Words.{Slot, operatorSlot, startSlot, endSlot, upperSlot, lowerSlot, countSlot, wordFault, lowFault, variantAfter, lowOf, tokenWords, tokenOf}
+use Rattle.molang.specs.Words.{Field, operatorField, startField, endField, upperField, lowerField, countField, wordFault, lowFault}
+use Rattle.molang.specs.Words.{variantAfter, lowOf, tokenWords, tokenOf}
+use Rattle.molang.specs.FirstFailure.{must}
+use Rattle.molang.proofs.FirstFailure.{must-none, must-true, must-false, first-none, passed, found, after-none}
 use Rattle.molang.specs.WriteEntry.{mostNodes, nextInNode, Shape, shapeAfter, continues, isWhole, treeFault}
-use Rattle.molang.proofs.Trees.{some-none, both}
-use Rattle.molang.proofs.Words.{word-faultless, unless-none, five-faultless, five-back}
+use Rattle.molang.proofs.Trees.{both}
+use Rattle.molang.proofs.Words.{word-faultless, five-faultless, five-back}
 use borrow.Author.Tests.{ltb-true}
 use Rattle.write.specs.Answers.{isLegal, shape}
-use Rattle.write.specs.Shaped.{Shaped, noTrees, aNode, mostChildren, OneTree}
+use Rattle.write.specs.Shaped.{nodeLength, Shaped, noTrees, aNode, mostChildren, OneTree}
 
 -- A word that continues a tree.
-record Continues (slot : Slot) (v : ℕ) (s : Shape) (w : ℕ) : Type 0 where
-  faultless : wordFault slot v w ≡ none
-  begun : shapeAfter slot w s .begun ≤ s .called
-  called : shapeAfter slot w s .called ≤ mostNodes
+record Continues (field : Field) (v : ℕ) (s : Shape) (w : ℕ) : Type 0 where
+  faultless : wordFault field v w ≡ none
+  begun : shapeAfter field w s .begun ≤ s .called
+  called : shapeAfter field w s .called ≤ mostNodes
 
 continued-by : (o : Option ℕ) (b : Bool) → _≡_ {A = Bool} (elim o [ some n ↦ false | none ↦ b ]) true → (o ≡ none) × (b ≡ true)
 continued-by none b e = (refl, e)
 continued-by (some n) b e = absurd (true≢false (sym e))
 
-continues-by : (slot : Slot) (v : ℕ) (s : Shape) (w : ℕ) → continues slot v s w ≡ true → Continues slot v s w
+continues-by : (field : Field) (v : ℕ) (s : Shape) (w : ℕ) → continues field v s w ≡ true → Continues field v s w
 unfolding continues
-continues-by slot v s w e =
-    let x = continued-by (wordFault slot v w) (leb (shapeAfter slot w s .begun) (s .called) && leb (shapeAfter slot w s .called) mostNodes) e in
+continues-by field v s w e =
+    let x = continued-by (wordFault field v w)
+    (leb (shapeAfter field w s .begun) (s .called) && leb (shapeAfter field w s .called) mostNodes) e
+    in
     let y = both _ _ (x .1) in
     record { faultless = x .0; begun = leb-true _ _ (y .0); called = leb-true _ _ (y .1) }
 
@@ -48,48 +53,40 @@ failed-by : (o : Option ℕ) (b : Bool) (r : Bool) → r ≡ elim o [ some n ↦
 failed-by none b r e h = sym (e ∙ h)
 failed-by (some n) b r e h = sym e
 
-module _ (slot : Slot) (v : ℕ) (s : Shape) (w : ℕ) where
-  pub illegal-stops : isLegal (wordFault slot v w) ≡ false → false ≡ continues slot v s w
+module _ (field : Field) (v : ℕ) (s : Shape) (w : ℕ) where
+  pub illegal-stops : isLegal (wordFault field v w) ≡ false → false ≡ continues field v s w
   unfolding continues
-  illegal-stops h = stopped-by (wordFault slot v w) _ _ refl h
+  illegal-stops h = stopped-by (wordFault field v w) _ _ refl h
 
-  pub continues-if : isLegal (wordFault slot v w) ≡ true → shapeAfter slot w s .begun ≤ s .called
-      → leb (shapeAfter slot w s .called) mostNodes ≡ continues slot v s w
+  pub continues-if : isLegal (wordFault field v w) ≡ true → shapeAfter field w s .begun ≤ s .called
+      → leb (shapeAfter field w s .called) mostNodes ≡ continues field v s w
   unfolding continues
-  continues-if h b = rw (legal-none (wordFault slot v w) h, continues, le-leb _ _ b)
+  continues-if h b = rw (legal-none (wordFault field v w) h, continues, le-leb _ _ b)
 
-  pub uncalled-stops : s .called < shapeAfter slot w s .begun → false ≡ continues slot v s w
+  pub uncalled-stops : s .called < shapeAfter field w s .begun → false ≡ continues field v s w
   unfolding continues
-  uncalled-stops b = failed-by (wordFault slot v w) _ _ refl (rw (lt-leb _ _ b))
+  uncalled-stops b = failed-by (wordFault field v w) _ _ refl (rw (lt-leb _ _ b))
 
-unfaulted-by : (b : Bool) (i : ℕ) (later : Option ℕ) → _≡_ {A = Option ℕ} (elim b [ false ↦ some i | true ↦ later ]) none → (b ≡ true) × (later ≡ none)
-unfaulted-by true i later e = (refl, e)
-unfaulted-by false i later e = some-none e
-
-next-word : (i : ℕ) (slot : Slot) (v : ℕ) (s : Shape) (w : ℕ) (ws : List ℕ) → treeFault i slot v s (w ∷ ws) ≡ none
-    → Continues slot v s w × (treeFault (suc i) (nextInNode slot) (variantAfter slot v w) (shapeAfter slot w s) ws ≡ none)
+next-word : (i : ℕ) (field : Field) (v : ℕ) (s : Shape) (w : ℕ) (ws : List ℕ) → treeFault i field v s (w ∷ ws) ≡ none
+    → Continues field v s w × (treeFault (suc i) (nextInNode field) (variantAfter field v w) (shapeAfter field w s) ws ≡ none)
 unfolding treeFault
-next-word i slot v s w ws e =
-    let x = unfaulted-by (continues slot v s w) i _ e in
-    (continues-by slot v s w (x .0), x .1)
+next-word i field v s w ws e =
+    let x = passed (continues field v s w) i _ e in
+    (continues-by field v s w (x .0), first-none _ _ (x .1) .0)
 
 -- No tree ends inside a node.
-ended : (i : ℕ) (slot : Slot) (v : ℕ) (s : Shape) → isWhole slot s ≡ false → treeFault i slot v s [] ≡ none → ⊥
+ended : (i : ℕ) (field : Field) (v : ℕ) (s : Shape) → isWhole field s ≡ false → treeFault i field v s [] ≡ none → ⊥
 unfolding treeFault
-ended i slot v s e h = some-none (rw (e, treeFault) at h)
+ended i field v s e h = true≢false (sym (must-none (isWhole field s) i h) ∙ e)
 
 -- A count of a node's children, if it is legal.
-count-bound : (v w : ℕ) → wordFault countSlot v w ≡ none → lowOf w ≤ mostChildren
+count-bound : (v w : ℕ) → wordFault countField v w ≡ none → lowOf w ≤ mostChildren
 unfolding lowFault
-count-bound v w e = omega (arith, ltb-true (lowOf w) (2 ^ 14) (unless-none _ 11 none (word-faultless countSlot v w e .1) .0))
+count-bound v w e = omega (arith, ltb-true (lowOf w) (2 ^ 14) (must-none _ 11 (word-faultless countField v w e .1)))
 
-whole-by : (b : Bool) (i : ℕ) → _≡_ {A = Option ℕ} (elim b [ true ↦ none | false ↦ some i ]) none → b ≡ true
-whole-by true i e = refl
-whole-by false i e = some-none e
-
-whole : (i v : ℕ) (s : Shape) → treeFault i operatorSlot v s [] ≡ none → s .begun ≡ s .called
+whole : (i v : ℕ) (s : Shape) → treeFault i operatorField v s [] ≡ none → s .begun ≡ s .called
 unfolding treeFault isWhole
-whole i v s h = eqb-true (s .begun) (s .called) (whole-by _ i h)
+whole i v s h = eqb-true (s .begun) (s .called) (must-none _ i h)
 
 no-trees : (p : ℕ) → p ≡ 0 → Shaped mostChildren p []
 no-trees p e = rw e noTrees
@@ -98,127 +95,129 @@ no-trees p e = rw e noTrees
 unfaulted-node : (a b c d e n : ℕ) (ws : List ℕ) (p r begun : ℕ) → tokenWords (tokenOf a b c d e) ≡ a ∷ b ∷ c ∷ d ∷ e ∷ []
     → lowOf n ≤ mostChildren
     → p ≡ suc r
-    → Shaped mostChildren (lowOf n + r) ws × (6 * suc begun + length ws ≤ 6 * mostNodes)
-    → Shaped mostChildren p (a ∷ b ∷ c ∷ d ∷ e ∷ n ∷ ws) × (6 * begun + length (a ∷ b ∷ c ∷ d ∷ e ∷ n ∷ ws) ≤ 6 * mostNodes)
+    → Shaped mostChildren (lowOf n + r) ws × (nodeLength * suc begun + length ws ≤ nodeLength * mostNodes)
+    → Shaped mostChildren p (a ∷ b ∷ c ∷ d ∷ e ∷ n ∷ ws)
+    × (nodeLength * begun + length (a ∷ b ∷ c ∷ d ∷ e ∷ n ∷ ws) ≤ nodeLength * mostNodes)
 unfaulted-node a b c d e n ws p r begun five few q later = (rw q (aNode five few (later .0)), omega (arith, later .1))
 
 -- Words without fault are as many trees as are still called for, and not too long.
 pub unfaulted : (i v p : ℕ) (s : Shape) (ws : List ℕ) → s .called ≡ s .begun + p → s .called ≤ mostNodes
-    → treeFault i operatorSlot v s ws ≡ none
-    → Shaped mostChildren p ws × (6 * s .begun + length ws ≤ 6 * mostNodes)
+    → treeFault i operatorField v s ws ≡ none
+    → Shaped mostChildren p ws × (nodeLength * s .begun + length ws ≤ nodeLength * mostNodes)
 unfolding nextInNode variantAfter shapeAfter isWhole
 unfaulted i v p s [] q m h = (no-trees p (omega (arith, whole i v s h)), omega arith)
-unfaulted i v p s (a ∷ []) q m h = absurd (ended _ startSlot _ _ refl (next-word i operatorSlot v s a [] h .1))
+unfaulted i v p s (a ∷ []) q m h = absurd (ended _ startField _ _ refl (next-word i operatorField v s a [] h .1))
 unfaulted i v p s (a ∷ b ∷ []) q m h =
-    let ha = next-word i operatorSlot v s a (b ∷ []) h in
-    absurd (ended _ endSlot _ _ refl (next-word (suc i) startSlot _ _ b [] (ha .1) .1))
+    let ha = next-word i operatorField v s a (b ∷ []) h in
+    absurd (ended _ endField _ _ refl (next-word (suc i) startField _ _ b [] (ha .1) .1))
 unfaulted i v p s (a ∷ b ∷ c ∷ []) q m h =
-    let ha = next-word i operatorSlot v s a (b ∷ c ∷ []) h in
-    let hb = next-word (suc i) startSlot _ _ b (c ∷ []) (ha .1) in
-    absurd (ended _ upperSlot _ _ refl (next-word _ endSlot _ _ c [] (hb .1) .1))
+    let ha = next-word i operatorField v s a (b ∷ c ∷ []) h in
+    let hb = next-word (suc i) startField _ _ b (c ∷ []) (ha .1) in
+    absurd (ended _ upperField _ _ refl (next-word _ endField _ _ c [] (hb .1) .1))
 unfaulted i v p s (a ∷ b ∷ c ∷ d ∷ []) q m h =
-    let ha = next-word i operatorSlot v s a (b ∷ c ∷ d ∷ []) h in
-    let hb = next-word (suc i) startSlot _ _ b (c ∷ d ∷ []) (ha .1) in
-    let hc = next-word _ endSlot _ _ c (d ∷ []) (hb .1) in
-    absurd (ended _ lowerSlot _ _ refl (next-word _ upperSlot _ _ d [] (hc .1) .1))
+    let ha = next-word i operatorField v s a (b ∷ c ∷ d ∷ []) h in
+    let hb = next-word (suc i) startField _ _ b (c ∷ d ∷ []) (ha .1) in
+    let hc = next-word _ endField _ _ c (d ∷ []) (hb .1) in
+    absurd (ended _ lowerField _ _ refl (next-word _ upperField _ _ d [] (hc .1) .1))
 unfaulted i v p s (a ∷ b ∷ c ∷ d ∷ e ∷ []) q m h =
-    let ha = next-word i operatorSlot v s a (b ∷ c ∷ d ∷ e ∷ []) h in
-    let hb = next-word (suc i) startSlot _ _ b (c ∷ d ∷ e ∷ []) (ha .1) in
-    let hc = next-word _ endSlot _ _ c (d ∷ e ∷ []) (hb .1) in
-    let hd = next-word _ upperSlot _ _ d (e ∷ []) (hc .1) in
-    absurd (ended _ countSlot _ _ refl (next-word _ lowerSlot _ _ e [] (hd .1) .1))
+    let ha = next-word i operatorField v s a (b ∷ c ∷ d ∷ e ∷ []) h in
+    let hb = next-word (suc i) startField _ _ b (c ∷ d ∷ e ∷ []) (ha .1) in
+    let hc = next-word _ endField _ _ c (d ∷ e ∷ []) (hb .1) in
+    let hd = next-word _ upperField _ _ d (e ∷ []) (hc .1) in
+    absurd (ended _ countField _ _ refl (next-word _ lowerField _ _ e [] (hd .1) .1))
 unfaulted i v p s (a ∷ b ∷ c ∷ d ∷ e ∷ n ∷ ws) q m h =
-    let ha = next-word i operatorSlot v s a (b ∷ c ∷ d ∷ e ∷ n ∷ ws) h in
-    let hb = next-word (suc i) startSlot _ _ b (c ∷ d ∷ e ∷ n ∷ ws) (ha .1) in
-    let hc = next-word _ endSlot _ _ c (d ∷ e ∷ n ∷ ws) (hb .1) in
-    let hd = next-word _ upperSlot _ _ d (e ∷ n ∷ ws) (hc .1) in
-    let he = next-word _ lowerSlot _ _ e (n ∷ ws) (hd .1) in
-    let hn = next-word _ countSlot _ _ n ws (he .1) in
+    let ha = next-word i operatorField v s a (b ∷ c ∷ d ∷ e ∷ n ∷ ws) h in
+    let hb = next-word (suc i) startField _ _ b (c ∷ d ∷ e ∷ n ∷ ws) (ha .1) in
+    let hc = next-word _ endField _ _ c (d ∷ e ∷ n ∷ ws) (hb .1) in
+    let hd = next-word _ upperField _ _ d (e ∷ n ∷ ws) (hc .1) in
+    let he = next-word _ lowerField _ _ e (n ∷ ws) (hd .1) in
+    let hn = next-word _ countField _ _ n ws (he .1) in
     let five = five-back a b c d e
     (five-faultless v a b c d e (ha .0 .faultless) (hb .0 .faultless) (hc .0 .faultless) (hd .0 .faultless) (he .0 .faultless))
     in
-    unfaulted-node a b c d e n ws p (s .called - s .begun - 1) (s .begun) five (count-bound _ n (hn .0 .faultless)) (omega (arith, ha .0 .begun))
+    unfaulted-node a b c d e n ws p (s .called - s .begun - 1) (s .begun) five (count-bound _ n (hn .0 .faultless))
+    (omega (arith, ha .0 .begun))
     (unfaulted _ _ (lowOf n + (s .called - s .begun - 1)) _ ws (omega (arith, ha .0 .begun)) (hn .0 .called) (hn .1))
 
 -- What answer 12 leaves.
-pub one-tree : (ws : List ℕ) → treeFault 0 operatorSlot 0 (record { called = 1; begun = 0 }) ws ≡ none → OneTree ws
+pub one-tree : (ws : List ℕ) → treeFault 0 operatorField 0 (record { called = 1; begun = 0 }) ws ≡ none → OneTree ws
 one-tree ws h =
     let x = unfaulted 0 0 1 (record { called = 1; begun = 0 }) ws (omega arith) (omega arith) h in
     record { shaped = x .0; small = omega (arith, x .1) }
 
 -- The loop over the words: where it stands, the fault of the rest is the fault of all.
-module _ (i : ℕ) (slot : Slot) (v : ℕ) (s : Shape) (ws : List ℕ) (h : i < length ws) where
-  fault-at : treeFault i slot v s (drop i ws) ≡ treeFault i slot v s (getD ws i 0 ∷ drop (suc i) ws)
+module _ (i : ℕ) (field : Field) (v : ℕ) (s : Shape) (ws : List ℕ) (h : i < length ws) where
+  fault-at : treeFault i field v s (drop i ws) ≡ treeFault i field v s (getD ws i 0 ∷ drop (suc i) ws)
   fault-at = rw (drop-cons ws i 0 h)
 
-  pub fault-here : continues slot v s (getD ws i 0) ≡ false → some i ≡ treeFault i slot v s (drop i ws)
+  pub fault-here : continues field v s (getD ws i 0) ≡ false → some i ≡ treeFault i field v s (drop i ws)
   unfolding treeFault
-  fault-here e = sym (fault-at ∙ rw (e, treeFault))
+  fault-here e = sym (fault-at ∙ found (must (continues field v s (getD ws i 0)) i) i _ (must-false _ i e))
 
-  pub fault-later : continues slot v s (getD ws i 0) ≡ true
-      → treeFault i slot v s (drop i ws)
-      ≡ treeFault (suc i) (nextInNode slot) (variantAfter slot v (getD ws i 0)) (shapeAfter slot (getD ws i 0) s) (drop (suc i) ws)
+  pub fault-later : continues field v s (getD ws i 0) ≡ true
+      → treeFault i field v s (drop i ws)
+      ≡ treeFault (suc i) (nextInNode field) (variantAfter field v (getD ws i 0)) (shapeAfter field (getD ws i 0) s) (drop (suc i) ws)
   unfolding treeFault
-  fault-later e = fault-at ∙ rw (e, treeFault)
+  fault-later e = fault-at ∙ after-none (must (continues field v s (getD ws i 0)) i) _ (must-true _ i e)
 
 -- At the words' end.
-pub fault-end : (i : ℕ) (slot : Slot) (v : ℕ) (s : Shape) (ws : List ℕ) → length ws ≤ i → isWhole slot s ≡ false
-    → some i ≡ treeFault i slot v s (drop i ws)
+pub fault-end : (i : ℕ) (field : Field) (v : ℕ) (s : Shape) (ws : List ℕ) → length ws ≤ i → isWhole field s ≡ false
+    → some i ≡ treeFault i field v s (drop i ws)
 unfolding treeFault
-fault-end i slot v s ws h e = rw (drop-of-length-le ws h, e, treeFault)
+fault-end i field v s ws h e = rw (drop-of-length-le ws h) (sym (must-false (isWhole field s) i e))
 
-pub fault-none : (i : ℕ) (slot : Slot) (v : ℕ) (s : Shape) (ws : List ℕ) → length ws ≤ i → isWhole slot s ≡ true
-    → none ≡ treeFault i slot v s (drop i ws)
+pub fault-none : (i : ℕ) (field : Field) (v : ℕ) (s : Shape) (ws : List ℕ) → length ws ≤ i → isWhole field s ≡ true
+    → none ≡ treeFault i field v s (drop i ws)
 unfolding treeFault
-fault-none i slot v s ws h e = rw (drop-of-length-le ws h, e, treeFault)
+fault-none i field v s ws h e = rw (drop-of-length-le ws h) (sym (must-true (isWhole field s) i e))
 
-called-grows : (slot : Slot) (w : ℕ) (s : Shape) → s .called ≤ shapeAfter slot w s .called
+called-grows : (field : Field) (w : ℕ) (s : Shape) → s .called ≤ shapeAfter field w s .called
 unfolding shapeAfter
-called-grows operatorSlot w s = omega arith
-called-grows startSlot w s = omega arith
-called-grows endSlot w s = omega arith
-called-grows upperSlot w s = omega arith
-called-grows lowerSlot w s = omega arith
-called-grows countSlot w s = omega arith
+called-grows operatorField w s = omega arith
+called-grows startField w s = omega arith
+called-grows endField w s = omega arith
+called-grows upperField w s = omega arith
+called-grows lowerField w s = omega arith
+called-grows countField w s = omega arith
 
 -- A word that continues a tree leaves as many nodes begun as called for at the most.
-pub continues-within : (slot : Slot) (v : ℕ) (s : Shape) (w : ℕ) → s .begun ≤ s .called → continues slot v s w ≡ true
-    → (shapeAfter slot w s .begun ≤ shapeAfter slot w s .called) × (shapeAfter slot w s .called ≤ mostNodes)
-continues-within slot v s w b e =
-    let x = continues-by slot v s w e in
-    (omega (arith, x .begun, called-grows slot w s), x .called)
+pub continues-within : (field : Field) (v : ℕ) (s : Shape) (w : ℕ) → s .begun ≤ s .called → continues field v s w ≡ true
+    → (shapeAfter field w s .begun ≤ shapeAfter field w s .called) × (shapeAfter field w s .called ≤ mostNodes)
+continues-within field v s w b e =
+    let x = continues-by field v s w e in
+    (omega (arith, x .begun, called-grows field w s), x .called)
 
 -- THE LOOP'S INVARIANT: what was seen up to the word i, at which the fault of the words that are left is the fault of all.
-pub record Seen (tree : List ℕ) (slot : Slot) (variant called begun i : ℕ) : Type 0 where
+pub record Seen (tree : List ℕ) (field : Field) (variant called begun i : ℕ) : Type 0 where
   pub within : i ≤ length tree
   pub enough : begun ≤ called
   pub few : called ≤ mostNodes
-  pub same : treeFault i slot variant (shape called begun) (drop i tree) ≡ treeFault 0 operatorSlot 0 (shape 1 0) tree
+  pub same : treeFault i field variant (shape called begun) (drop i tree) ≡ treeFault 0 operatorField 0 (shape 1 0) tree
 
-pub seen-start : (tree : List ℕ) → Seen tree operatorSlot 0 1 0 0
+pub seen-start : (tree : List ℕ) → Seen tree operatorField 0 1 0 0
 seen-start tree = record { within = omega arith; enough = omega arith; few = omega arith; same = refl }
 
-module _ {tree : List ℕ} {slot : Slot} {variant called begun i : ℕ} (seen : Seen tree slot variant called begun i) where
-  pub seen-fault : i < length tree → continues slot variant (shape called begun) (getD tree i 0) ≡ false
-      → some i ≡ treeFault 0 operatorSlot 0 (shape 1 0) tree
-  seen-fault h e = fault-here i slot variant (shape called begun) tree h e ∙ seen .same
+module _ {tree : List ℕ} {field : Field} {variant called begun i : ℕ} (seen : Seen tree field variant called begun i) where
+  pub seen-fault : i < length tree → continues field variant (shape called begun) (getD tree i 0) ≡ false
+      → some i ≡ treeFault 0 operatorField 0 (shape 1 0) tree
+  seen-fault h e = fault-here i field variant (shape called begun) tree h e ∙ seen .same
 
-  pub seen-more : i < length tree → continues slot variant (shape called begun) (getD tree i 0) ≡ true
-      → {slot' : Slot} {variant' called' begun' : ℕ} → slot' ≡ nextInNode slot → variant' ≡ variantAfter slot variant (getD tree i 0)
-      → called' ≡ shapeAfter slot (getD tree i 0) (shape called begun) .called
-      → begun' ≡ shapeAfter slot (getD tree i 0) (shape called begun) .begun
-      → Seen tree slot' variant' called' begun' (i + 1)
+  pub seen-more : i < length tree → continues field variant (shape called begun) (getD tree i 0) ≡ true
+      → {field' : Field} {variant' called' begun' : ℕ} → field' ≡ nextInNode field → variant' ≡ variantAfter field variant (getD tree i 0)
+      → called' ≡ shapeAfter field (getD tree i 0) (shape called begun) .called
+      → begun' ≡ shapeAfter field (getD tree i 0) (shape called begun) .begun
+      → Seen tree field' variant' called' begun' (i + 1)
   seen-more h e es ev ec eb =
-      let x = continues-within slot variant (shape called begun) (getD tree i 0) (seen .enough) e in
+      let x = continues-within field variant (shape called begun) (getD tree i 0) (seen .enough) e in
       record {
         within = omega arith;
         enough = rw (ec, eb) (x .0);
         few = rw ec (x .1);
-        same = rw (es, ev, ec, eb, add-one) (sym (fault-later i slot variant (shape called begun) tree h e) ∙ seen .same);
+        same = rw (es, ev, ec, eb, add-one) (sym (fault-later i field variant (shape called begun) tree h e) ∙ seen .same);
       }
 
-  pub seen-end : length tree ≤ i → isWhole slot (shape called begun) ≡ false → some i ≡ treeFault 0 operatorSlot 0 (shape 1 0) tree
-  seen-end h e = fault-end i slot variant (shape called begun) tree h e ∙ seen .same
+  pub seen-end : length tree ≤ i → isWhole field (shape called begun) ≡ false → some i ≡ treeFault 0 operatorField 0 (shape 1 0) tree
+  seen-end h e = fault-end i field variant (shape called begun) tree h e ∙ seen .same
 
-  pub seen-none : length tree ≤ i → isWhole slot (shape called begun) ≡ true → none ≡ treeFault 0 operatorSlot 0 (shape 1 0) tree
-  seen-none h e = fault-none i slot variant (shape called begun) tree h e ∙ seen .same
+  pub seen-none : length tree ≤ i → isWhole field (shape called begun) ≡ true → none ≡ treeFault 0 operatorField 0 (shape 1 0) tree
+  seen-none h e = fault-none i field variant (shape called begun) tree h e ∙ seen .same

@@ -3,124 +3,31 @@ use Prim.Native.Nat.{ℕ, suc, _+_, _*_, _≤_}
 use mathlib.Core.Path.{_≡_, refl, ap, sym, _∙_}
 use mathlib.Core.Bool.{Bool, true, false, not}
 use mathlib.Core.List.{List, [], _∷_, _++_, append-assoc, append-nil}
-use native.Mathlib.Nat.{add-assoc}
-use native.Mathlib.Numerals.{add-one}
 use native.Mathlib.Omega.{arith}
-use lib.ListN.{length, take, drop, set, getD, length-append, length-drop, take-append-drop}
-use lib.Seq.{length-take-le, take-at, drop-at, drop-drop}
+use lib.ListN.{length, drop, getD}
+use lib.Seq.{drop-drop}
 use borrow.Author.Tests.{eq-eqb, ne-eqb, eqb-true, eqb-false}
 use Rattle.molang.specs.Forest.{Token, Forest, nil, node, bare, count, size}
 use Rattle.molang.specs.Operator.{isBracket}
 use Rattle.write.proofs.JudgeLaws.{unpaired-only, unpaired-bracket, unpaired-left, unpaired-right}
 use Rattle.molang.proofs.Words.{beside}
-use Rattle.write.specs.declared.plain.Place.{Place}
-use Rattle.write.specs.Places.{isPaired, onlyPlace, leftPlace, rightPlace}
-use Rattle.write.specs.Shaped.{Shaped}
+use Rattle.write.specs.declared.plain.Seat.{Seat}
+use Rattle.write.specs.Seats.{isPaired, onlySeat, leftSeat, rightSeat}
+use Rattle.write.specs.Shaped.{nodeLength, countIndex, Shaped}
 use Rattle.write.proofs.RowLaws.{Opened, after-trees, shaped-length, no-kids, one-kid, two-kids}
 use Rattle.molang.specs.Words.{lowOf, word, tokenWords, listWords}
 use Rattle.molang.specs.Write.{openerFor, closerFor, standsAlone, standsLeft, standsRight, operandTokens, written}
 use Rattle.molang.specs.WriteEntry.{firstTrees, otherTrees, treesOf, writtenTokens}
-use Rattle.molang.proofs.Writing.{written-none, written-one, written-two, written-more}
-use Rattle.molang.specs.Parse.{inFront}
+use Rattle.molang.proofs.Writing.{written-none, written-one, written-two, operand-before, written-before}
 use Rattle.words.specs.Fields.{operatorOf}
 use Rattle.words.specs.Records.{laidAt}
-use Rattle.words.proofs.RecordLaws.{laid-sets}
-use Rattle.write.specs.Spelling.{firstFive, bracketWords, closerWords, firstSize, operandOf}
-
--- Words laid behind words.
-laid-front : (to : ℕ) (ws list : List ℕ) → to ≤ length list → length (take to list ++ ws) ≡ to + length ws
-laid-front to ws list h = length-append (take to list) ws ∙ ap (λ (n : ℕ). n + length ws) (length-take-le to list h)
-
--- In two parts: up to where the words end, and after.
-laid-by : (to : ℕ) (ws list : List ℕ) → laidAt to ws list ≡ (take to list ++ ws) ++ drop (to + length ws) list
-unfolding laidAt inFront
-laid-by to ws list = rw (drop-drop (length ws) to list) (sym (append-assoc (take to list) ws (drop (to + length ws) list)))
-
-pub laid-length : (to : ℕ) (ws list : List ℕ) → to + length ws ≤ length list → length (laidAt to ws list) ≡ length list
-laid-length to ws list h =
-    rw laid-by
-    (length-append (take to list ++ ws) (drop (to + length ws) list)
-    ∙ omega (arith, laid-front to ws list (omega arith), length-drop (to + length ws) list))
-
-pub laid-laid : (to : ℕ) (xs ys list : List ℕ) → to + length xs + length ys ≤ length list
-    → laidAt (to + length xs) ys (laidAt to xs list) ≡ laidAt to (xs ++ ys) list
-laid-laid to xs ys list h =
-    let front = laid-front to xs list (omega arith) in
-    let whole = laid-by to xs list in
-    let before : take (to + length xs) (laidAt to xs list) ≡ take to list ++ xs =
-    rw whole (take-at (take to list ++ xs) (drop (to + length xs) list) (to + length xs) front)
-    in
-    let behind : drop (to + length xs + length ys) (laidAt to xs list) ≡ drop (to + length (xs ++ ys)) list =
-    rw (
-      whole,
-      ← drop-drop (length ys) (to + length xs),
-      drop-at (take to list ++ xs) (drop (to + length xs) list) (to + length xs) front,
-      drop-drop (length ys) (to + length xs) list,
-      length-append,
-      ← add-assoc,
-    ) refl
-    in
-    let joined : (take (to + length xs) (laidAt to xs list) ++ ys) ++ drop (to + length xs + length ys) (laidAt to xs list)
-    ≡ (take to list ++ (xs ++ ys)) ++ drop (to + length (xs ++ ys)) list =
-    rw (before, behind, append-assoc (take to list) xs ys) refl
-    in
-    laid-by (to + length xs) ys (laidAt to xs list) ∙ (joined ∙ sym (laid-by to (xs ++ ys) list))
+use Rattle.write.specs.Spelling.{firstFive, bracketWords, closerWords, firstSize, operandOf, nodeWritten, operandWritten}
 
 -- The words of a list of tokens.
 pub list-words-append : (xs ys : List Token) → listWords (xs ++ ys) ≡ listWords xs ++ listWords ys
 unfolding listWords
 list-words-append [] ys = refl
 list-words-append (x ∷ xs) ys = rw (list-words-append xs ys, append-assoc) refl
-
--- What is written before some tokens is what is written, and then these.
-operand-before : (b : Bool) (k : Token) (tokens : List Token → List Token) (r : List Token) → ((s : List Token) → tokens s ≡ tokens [] ++ s)
-    → operandTokens b k tokens r ≡ operandTokens b k tokens [] ++ r
-unfolding operandTokens
-operand-before true k tokens r h = h r
-operand-before false k tokens r h =
-    ap (λ (l : List Token). openerFor k ∷ l)
-    (h (closerFor k ∷ r) ∙ (sym (append-assoc (tokens []) (closerFor k ∷ []) r) ∙ ap (λ (l : List Token). l ++ r) (sym (h (closerFor k ∷ [])))))
-
-pub written-before : (k : Token) (cs : Forest) (r : List Token) → written k cs r ≡ written k cs [] ++ r
-written-before k nil r = split (isBracket (k .op)) refl
-  where
-    split : (b : Bool) → isBracket (k .op) ≡ b → written k nil r ≡ written k nil [] ++ r
-    split true h = rw (written-none true k r h, written-none true k [] h) refl
-    split false h = rw (written-none false k r h, written-none false k [] h) refl
-written-before k (node x xs nil) r = split (isBracket (k .op)) refl (written-before x xs)
-  where
-    split : (b : Bool) → isBracket (k .op) ≡ b → ((r : List Token) → written x xs r ≡ written x xs [] ++ r)
-        → written k (node x xs nil) r ≡ written k (node x xs nil) [] ++ r
-    split true h i =
-        rw (written-one true k x xs r h, written-one true k x xs [] h, i (closerFor k ∷ r), i (closerFor k ∷ []), append-assoc) refl
-    split false h i =
-        rw (written-one false k x xs r h, written-one false k x xs [] h) (ap (λ (l : List Token). k ∷ l)
-        (operand-before (standsAlone x xs) x (written x xs) r i))
-written-before k (node x xs (node y ys nil)) r =
-    let right = operandTokens (standsRight k y ys) y (written y ys) in
-    let left = operandTokens (standsLeft k x xs) x (written x xs) in
-    let hr : right r ≡ right [] ++ r = operand-before (standsRight k y ys) y (written y ys) r (written-before y ys) in
-    let hl : (s : List Token) → left s ≡ left [] ++ s = λ s. operand-before (standsLeft k x xs) x (written x xs) s (written-before x xs) in
-    written-two k x xs y ys r
-    ∙ (ap (λ (l : List Token). left (k ∷ l)) hr
-    ∙ (hl (k ∷ (right [] ++ r))
-    ∙ (sym (append-assoc (left []) (k ∷ right []) r)
-    ∙ ap (λ (l : List Token). l ++ r) (sym (hl (k ∷ right [])) ∙ sym (written-two k x xs y ys [])))))
-written-before k (node x xs (node y ys (node z zs more))) r =
-    written-more k x xs y ys z zs more r ∙ ap (λ (l : List Token). l ++ r) (sym (written-more k x xs y ys z zs more []))
-
--- Five stores one after the other; no words at all.
-pub five-laid : (a b c d e to : ℕ) (list : List ℕ) → to + 5 ≤ length list
-    → set (set (set (set (set list to a) (to + 1) b) (to + 2) c) (to + 3) d) (to + 4) e ≡ laidAt to (a ∷ b ∷ c ∷ d ∷ e ∷ []) list
-five-laid a b c d e to list h =
-    let two : to + 2 ≡ suc (suc to) = omega arith in
-    let three : to + 3 ≡ suc (suc (suc to)) = omega arith in
-    let four : to + 4 ≡ suc (suc (suc (suc to))) = omega arith in
-    rw (add-one, two, three, four) (laid-sets (a ∷ b ∷ c ∷ d ∷ e ∷ []) list to h)
-
-pub none-laid : (to : ℕ) (list : List ℕ) → list ≡ laidAt to [] list
-unfolding laidAt inFront
-none-laid to list = sym (take-append-drop to list)
 
 -- The closer's words, by whether the node is a bracket.
 pub bracket-closer : (ws : List ℕ) → operatorOf (getD ws 0 0) ≡ 4 → closerWords ws ≡ bracketWords 5 ws
@@ -151,34 +58,34 @@ module _ (k : Token) (ws : List ℕ) (five : tokenWords k ≡ firstFive ws) wher
 
 -- The tokens of a node and the words that its tree fills, by the number of its children.
 pub record NoneBelow (W : List ℕ) : Type 0 where
-  pub words : listWords (writtenTokens (treesOf W)) ≡ firstFive W ++ closerWords W
-  pub fills : 6 * firstSize (treesOf W) ≡ 6
+  pub words : nodeWritten W ≡ firstFive W ++ closerWords W
+  pub fills : nodeLength * firstSize (treesOf W) ≡ nodeLength
 
 abbrev pub onlyWords : List ℕ → List ℕ
-onlyWords W = listWords (operandOf (onlyPlace (operatorOf (getD W 0 0))) (treesOf (drop 6 W)))
+onlyWords W = operandWritten (onlySeat (operatorOf (getD W 0 0))) (drop nodeLength W)
 
 pub record OneBelow (others : ℕ) (W : List ℕ) : Type 0 where
-  pub shaped : Shaped 2 (suc others) (drop 6 W)
-  pub words : listWords (writtenTokens (treesOf W)) ≡ firstFive W ++ (onlyWords W ++ closerWords W)
-  pub fills : 6 * firstSize (treesOf W) ≡ 6 + 6 * firstSize (treesOf (drop 6 W))
+  pub shaped : Shaped 2 (suc others) (drop nodeLength W)
+  pub words : nodeWritten W ≡ firstFive W ++ (onlyWords W ++ closerWords W)
+  pub fills : nodeLength * firstSize (treesOf W) ≡ nodeLength + nodeLength * firstSize (treesOf (drop nodeLength W))
 
 abbrev pub leftWords : List ℕ → List ℕ
-leftWords W = listWords (operandOf (leftPlace (operatorOf (getD W 0 0))) (treesOf (drop 6 W)))
+leftWords W = operandWritten (leftSeat (operatorOf (getD W 0 0))) (drop nodeLength W)
 
 abbrev pub leftSize : List ℕ → ℕ
-leftSize W = 6 * firstSize (treesOf (drop 6 W))
+leftSize W = nodeLength * firstSize (treesOf (drop nodeLength W))
 
 abbrev pub rightPart : List ℕ → List ℕ
-rightPart W = drop (6 + leftSize W) W
+rightPart W = drop (nodeLength + leftSize W) W
 
 abbrev pub rightWords : List ℕ → List ℕ
-rightWords W = listWords (operandOf (rightPlace (operatorOf (getD W 0 0))) (treesOf (rightPart W)))
+rightWords W = operandWritten (rightSeat (operatorOf (getD W 0 0))) (rightPart W)
 
 pub record TwoBelow (others : ℕ) (W : List ℕ) : Type 0 where
-  pub left : Shaped 2 (suc (suc others)) (drop 6 W)
+  pub left : Shaped 2 (suc (suc others)) (drop nodeLength W)
   pub right : Shaped 2 (suc others) (rightPart W)
-  pub words : listWords (writtenTokens (treesOf W)) ≡ leftWords W ++ (firstFive W ++ rightWords W)
-  pub fills : 6 * firstSize (treesOf W) ≡ 6 + leftSize W + 6 * firstSize (treesOf (rightPart W))
+  pub words : nodeWritten W ≡ leftWords W ++ (firstFive W ++ rightWords W)
+  pub fills : nodeLength * firstSize (treesOf W) ≡ nodeLength + leftSize W + nodeLength * firstSize (treesOf (rightPart W))
 
 first-size : (f : Forest) → firstSize f ≤ size f
 unfolding firstSize size
@@ -191,7 +98,7 @@ first-tree nil = refl
 first-tree (node k cs rest) = omega arith
 
 -- The first tree's words are some of all.
-pub first-within : {most p : ℕ} {W : List ℕ} → Shaped most p W → 6 * firstSize (treesOf W) ≤ length W
+pub first-within : {most p : ℕ} {W : List ℕ} → Shaped most p W → nodeLength * firstSize (treesOf W) ≤ length W
 first-within {W = W} s = omega (arith, shaped-length s, first-size (treesOf W))
 
 list-words-cons : (k : Token) (ks : List Token) → listWords (k ∷ ks) ≡ tokenWords k ++ listWords ks
@@ -213,7 +120,7 @@ module _ {others : ℕ} {W : List ℕ} (o : Opened 2 (suc others) W) where
   closer-by true e = bracket-closer W (sym (o .op) ∙ eqb-true (o .k .op) 4 e) ∙ sym (closer-words (o .k) W (o .five))
   closer-by false e = no-closer W (λ h. eqb-false (o .k .op) 4 e (o .op ∙ h))
 
-  pub none-below : lowOf (getD W 5 0) ≡ 0 → NoneBelow W
+  pub none-below : lowOf (getD W countIndex 0) ≡ 0 → NoneBelow W
   unfolding writtenTokens firstSize size
   none-below e =
       let leaf : treesOf W ≡ node (o .k) nil (o .rest) = rw (← no-kids (o .cs) (o .children ∙ e)) (o .trees) in
@@ -223,13 +130,15 @@ module _ {others : ℕ} {W : List ℕ} (o : Opened 2 (suc others) W) where
       split true h = rw (written-none true (o .k) [] h, closer-by true h, list-words-cons, o .five, list-words-one)
       split false h = rw (written-none false (o .k) [] h, closer-by false h, list-words-cons, o .five, list-words-none)
 
-  pub one-below : lowOf (getD W 5 0) ≡ 1 → OneBelow others W
+  pub one-below : lowOf (getD W countIndex 0) ≡ 1 → OneBelow others W
   unfolding writtenTokens operandOf operandTokens firstSize size beside
   one-below e =
       let kid = one-kid (o .cs) (o .children ∙ e) in
       let trees : treesOf W ≡ node (o .k) (node (kid .x) (kid .xs) nil) (o .rest) = rw (← kid .is) (o .trees) in
-      let below : treesOf (drop 6 W) ≡ node (kid .x) (kid .xs) (o .rest) = o .below ∙ ap (λ (f : Forest). beside f (o .rest)) (kid .is) in
-      let same : lowOf (getD W 5 0) + o .others ≡ suc others = omega (arith, o .isTop) in
+      let below : treesOf (drop nodeLength W) ≡ node (kid .x) (kid .xs) (o .rest) =
+      o .below ∙ ap (λ (f : Forest). beside f (o .rest)) (kid .is)
+      in
+      let same : lowOf (getD W countIndex 0) + o .others ≡ suc others = omega (arith, o .isTop) in
       record {
         shaped = rw same at (o .shaped);
         words = rw (trees, below, ← o .op) (split (kid .x) (kid .xs) (isBracket (o .k .op)) refl);
@@ -239,7 +148,7 @@ module _ {others : ℕ} {W : List ℕ} (o : Opened 2 (suc others) W) where
       split : (x : Token) (xs : Forest) (b : Bool) → isBracket (o .k .op) ≡ b
           → listWords (written (o .k) (node x xs nil) [])
           ≡ firstFive W
-          ++ (listWords (operandTokens (not (isPaired (onlyPlace (o .k .op)) (x .op) (count xs))) x (written x xs) []) ++ closerWords W)
+          ++ (listWords (operandTokens (not (isPaired (onlySeat (o .k .op)) (x .op) (count xs))) x (written x xs) []) ++ closerWords W)
       split x xs true h =
           rw (
             written-one true (o .k) x xs [] h,
@@ -254,7 +163,7 @@ module _ {others : ℕ} {W : List ℕ} (o : Opened 2 (suc others) W) where
       split x xs false h =
           rw (written-one false (o .k) x xs [] h, unpaired-only x xs (o .k) h, closer-by false h, list-words-cons, o .five, append-nil)
 
-  pub two-below : lowOf (getD W 5 0) ≡ 2 → TwoBelow others W
+  pub two-below : lowOf (getD W countIndex 0) ≡ 2 → TwoBelow others W
   unfolding writtenTokens operandOf firstSize size beside otherTrees
   two-below e =
       let kids = two-kids (o .cs) (o .children ∙ e) in
@@ -263,12 +172,14 @@ module _ {others : ℕ} {W : List ℕ} (o : Opened 2 (suc others) W) where
       let y = kids .y in
       let ys = kids .ys in
       let trees : treesOf W ≡ node (o .k) (node x xs (node y ys nil)) (o .rest) = rw (← kids .is) (o .trees) in
-      let below : treesOf (drop 6 W) ≡ node x xs (node y ys (o .rest)) = o .below ∙ ap (λ (f : Forest). beside f (o .rest)) (kids .is) in
-      let same : lowOf (getD W 5 0) + o .others ≡ suc (suc others) = omega (arith, o .isTop) in
-      let left : Shaped 2 (suc (suc others)) (drop 6 W) = rw same at (o .shaped) in
+      let below : treesOf (drop nodeLength W) ≡ node x xs (node y ys (o .rest)) =
+      o .below ∙ ap (λ (f : Forest). beside f (o .rest)) (kids .is)
+      in
+      let same : lowOf (getD W countIndex 0) + o .others ≡ suc (suc others) = omega (arith, o .isTop) in
+      let left : Shaped 2 (suc (suc others)) (drop nodeLength W) = rw same at (o .shaped) in
       let after = after-trees left (suc others) 1 (omega arith) in
-      let there : drop (6 * size (firstTrees 1 (treesOf (drop 6 W)))) (drop 6 W) ≡ rightPart W =
-      rw (first-tree (treesOf (drop 6 W))) (drop-drop (leftSize W) 6 W)
+      let there : drop (nodeLength * size (firstTrees 1 (treesOf (drop nodeLength W)))) (drop nodeLength W) ≡ rightPart W =
+      rw (first-tree (treesOf (drop nodeLength W))) (drop-drop (leftSize W) nodeLength W)
       in
       let right : treesOf (rightPart W) ≡ node y ys (o .rest) = ap treesOf (sym there) ∙ (after .trees ∙ ap (otherTrees 1) below) in
       record {
@@ -280,9 +191,9 @@ module _ {others : ℕ} {W : List ℕ} (o : Opened 2 (suc others) W) where
     where
       spelt : (x y : Token) (xs ys : Forest)
           → listWords (written (o .k) (node x xs (node y ys nil)) [])
-          ≡ listWords (operandTokens (not (isPaired (leftPlace (o .k .op)) (x .op) (count xs))) x (written x xs) [])
+          ≡ listWords (operandTokens (not (isPaired (leftSeat (o .k .op)) (x .op) (count xs))) x (written x xs) [])
           ++ (firstFive W
-          ++ listWords (operandTokens (not (isPaired (rightPlace (o .k .op)) (y .op) (count ys))) y (written y ys) []))
+          ++ listWords (operandTokens (not (isPaired (rightSeat (o .k .op)) (y .op) (count ys))) y (written y ys) []))
       spelt x y xs ys =
           rw (
             written-two (o .k) x xs y ys [],
@@ -296,8 +207,8 @@ module _ {others : ℕ} {W : List ℕ} (o : Opened 2 (suc others) W) where
           )
 
   -- An operand: in an added pair, or as it is.
-  pub paired-words : (p : Place) → isPaired p (operatorOf (getD W 0 0)) (lowOf (getD W 5 0)) ≡ true
-      → listWords (operandOf p (treesOf W)) ≡ bracketWords 4 W ++ (listWords (writtenTokens (treesOf W)) ++ bracketWords 5 W)
+  pub paired-words : (p : Seat) → isPaired p (operatorOf (getD W 0 0)) (lowOf (getD W countIndex 0)) ≡ true
+      → operandWritten p W ≡ bracketWords 4 W ++ (nodeWritten W ++ bracketWords 5 W)
   unfolding operandOf writtenTokens operandTokens
   paired-words p e =
       let paired : isPaired p (o .k .op) (count (o .cs)) ≡ true = rw (o .op, o .children) e in
@@ -312,8 +223,8 @@ module _ {others : ℕ} {W : List ℕ} (o : Opened 2 (suc others) W) where
         closer-words (o .k) W (o .five),
       )
 
-  pub unpaired-words : (p : Place) → isPaired p (operatorOf (getD W 0 0)) (lowOf (getD W 5 0)) ≡ false
-      → listWords (operandOf p (treesOf W)) ≡ listWords (writtenTokens (treesOf W))
+  pub unpaired-words : (p : Seat) → isPaired p (operatorOf (getD W 0 0)) (lowOf (getD W countIndex 0)) ≡ false
+      → operandWritten p W ≡ nodeWritten W
   unfolding operandOf writtenTokens operandTokens
   unpaired-words p e =
       let alone : isPaired p (o .k .op) (count (o .cs)) ≡ false = rw (o .op, o .children) e in

@@ -1,5 +1,5 @@
 -- The steps of writing a node or an operand: before each call there is room, and after the last one all is written.
-use Prim.Native.Nat.{ℕ, zero, suc, _+_, _-_, _*_, _≤_}
+use Prim.Native.Nat.{ℕ, zero, suc, _+_, _-_, _*_, _≤_, _/_, _<_}
 use mathlib.Core.Path.{_≡_, refl, ap, _∙_}
 use mathlib.Core.Bool.{true, false}
 use mathlib.Core.List.{List, _++_, append-assoc}
@@ -10,12 +10,15 @@ use Rattle.molang.specs.Words.{lowOf, listWords}
 use Rattle.molang.specs.WriteEntry.{treesOf, writtenTokens}
 use Rattle.words.specs.Fields.{operatorOf}
 use Rattle.words.specs.Records.{laidAt}
-use Rattle.write.specs.declared.plain.Place.{Place}
-use Rattle.write.specs.Places.{isPaired, onlyPlace, leftPlace, rightPlace}
-use Rattle.write.specs.Shaped.{Shaped}
-use Rattle.write.specs.Spelling.{firstFive, bracketWords, closerWords, firstSize, operandOf, Room}
+use Rattle.words.proofs.RecordLaws.{laid-length, laid-laid}
+use Rattle.write.specs.declared.plain.Seat.{Seat}
+use Rattle.write.specs.Seats.{isPaired, onlySeat, leftSeat, rightSeat}
+use Rattle.write.specs.Shaped.{nodeLength, countIndex, Shaped}
+use Rattle.write.specs.Spelling.{firstFive, bracketWords, closerWords, firstSize, operandOf, filledWords, nodeWritten, operandWritten}
+use Rattle.write.specs.Spelling.{Room}
 use Rattle.write.proofs.RowLaws.{Opened, opened, shaped-room}
-use Rattle.write.proofs.SpellLaws.{laid-length, laid-laid, first-within, none-below, OneBelow, one-below, onlyWords, TwoBelow, two-below, leftWords, leftSize, rightPart, rightWords, paired-words, unpaired-words}
+use Rattle.write.proofs.SpellLaws.{first-within, none-below, OneBelow, one-below, onlyWords, TwoBelow, two-below, leftWords}
+use Rattle.write.proofs.SpellLaws.{leftSize, rightPart, rightWords, paired-words, unpaired-words}
 
 -- The part from a word on.
 abbrev pub tail : ℕ → List ℕ → List ℕ
@@ -24,16 +27,23 @@ tail n W = take (length W - n) (drop n W)
 tail-part : (n : ℕ) (W : List ℕ) → tail n W ≡ drop n W
 tail-part n W = take-all (length W - n) (drop n W) (omega (arith, length-drop n W))
 
-pub tail-length : (n : ℕ) (W : List ℕ) → length (tail n W) ≡ length W - n
+tail-length : (n : ℕ) (W : List ℕ) → length (tail n W) ≡ length W - n
 tail-length n W = rw tail-part (length-drop n W)
 
--- Words laid into the list from a place on, which goes on behind them.
+-- The nodes that the words still hold, six words each: document 01's remaining node count, which falls with a node's own words.
+abbrev pub nodesLeft : List ℕ → ℕ
+nodesLeft W = length W / nodeLength
+
+pub fewer-nodes : (n : ℕ) (W : List ℕ) → nodeLength ≤ n → nodeLength ≤ length W → nodesLeft (tail n W) < nodesLeft W
+fewer-nodes n W six long = omega (arith, tail-length n W)
+
+-- Words laid into the list from `to` on, which goes on behind them.
 abbrev pub Puts : List ℕ → List ℕ → ℕ → List ℕ → ℕ → Type 0
 Puts ws L to L' to' = (L' ≡ laidAt to ws L) × (to' ≡ to + length ws)
 
--- What a call of `write_node` or `write_operand` leaves: the part of the words, the list and the place in it.
+-- What a call of `write_node` or `write_operand` leaves: the part of the words, the list and where it goes on.
 abbrev pub Writes : List ℕ → List ℕ → List ℕ → ℕ → List ℕ → List ℕ → ℕ → Type 0
-Writes ws W L to part L' to' = (part ≡ take (6 * firstSize (treesOf W)) W) × Puts ws L to L' to'
+Writes ws W L to part L' to' = (part ≡ filledWords W) × Puts ws L to L' to'
 
 puts-more : (to : ℕ) (xs ys L : List ℕ) {L1 L2 : List ℕ} {to1 to2 : ℕ} → to + length (xs ++ ys) ≤ length L → Puts xs L to L1 to1
     → Puts ys L1 to1 L2 to2
@@ -45,8 +55,9 @@ puts-more to xs ys L room a b =
 puts-length : (to : ℕ) (xs L : List ℕ) {L1 : List ℕ} {to1 : ℕ} → to + length xs ≤ length L → Puts xs L to L1 to1 → length L1 ≡ length L
 puts-length to xs L room a = rw (a .0) (laid-length to xs L room)
 
-part-length : {most p : ℕ} {W l : List ℕ} → Shaped most p W → l ≡ take (6 * firstSize (treesOf W)) W → length l ≡ 6 * firstSize (treesOf W)
-part-length {W = W} s e = rw e (length-take-le (6 * firstSize (treesOf W)) W (first-within s))
+part-length : {most p : ℕ} {W l : List ℕ} → Shaped most p W → l ≡ take (nodeLength * firstSize (treesOf W)) W
+    → length l ≡ nodeLength * firstSize (treesOf W)
+part-length {W = W} s e = rw e (length-take-le (nodeLength * firstSize (treesOf W)) W (first-within s))
 
 -- One of three numbers.
 one-left : (n : ℕ) → n ≤ 2 → (n ≡ 2 → ⊥) → (n ≡ 0 → ⊥) → n ≡ 1
@@ -64,14 +75,14 @@ module _ {W L : List ℕ} {to : ℕ} (r : Room writtenTokens W L to) where
   here : Opened 2 (suc (r .others)) W
   here = opened (r .shaped) (omega (arith, shaped-room (r .shaped)))
 
-  pub node-long : 6 ≤ length W
+  pub node-long : nodeLength ≤ length W
   node-long = here .long
 
   -- NO CHILDREN: the token, then a bracket's closer.
-  none-room : lowOf (getD W 5 0) ≡ 0 → to + length (firstFive W ++ closerWords W) ≤ length L
+  none-room : lowOf (getD W countIndex 0) ≡ 0 → to + length (firstFive W ++ closerWords W) ≤ length L
   none-room e = rw (none-below here e .words) at (r .room)
 
-  module _ (e : lowOf (getD W 5 0) ≡ 0) (L1 : List ℕ) (to1 : ℕ) (w1 : Puts (firstFive W) L to L1 to1) where
+  module _ (e : lowOf (getD W countIndex 0) ≡ 0) (L1 : List ℕ) (to1 : ℕ) (w1 : Puts (firstFive W) L to L1 to1) where
     pub none-closer : to1 + length (closerWords W) ≤ length L1
     none-closer =
         let all = none-room e in
@@ -79,35 +90,38 @@ module _ {W L : List ℕ} {to : ℕ} (r : Room writtenTokens W L to) where
         omega (arith, w1 .1, puts-length to (firstFive W) L (omega arith) w1)
 
     pub none-length : (L2 : List ℕ) (to2 : ℕ) → Puts (closerWords W) L1 to1 L2 to2 → length L2 ≡ length L
-    none-length L2 to2 w2 = puts-length to (firstFive W ++ closerWords W) L (none-room e) (puts-more to (firstFive W) (closerWords W) L (none-room e) w1 w2)
+    none-length L2 to2 w2 =
+        puts-length to (firstFive W ++ closerWords W) L (none-room e) (puts-more to (firstFive W) (closerWords W) L (none-room e) w1 w2)
 
     pub none-writes : (L2 : List ℕ) (to2 : ℕ) → Puts (closerWords W) L1 to1 L2 to2
-        → Writes (listWords (writtenTokens (treesOf W))) W L to (take 6 W) L2 to2
+        → Writes (nodeWritten W) W L to (take nodeLength W) L2 to2
     none-writes L2 to2 w2 =
         rw (none-below here e .words, none-below here e .fills) (refl, puts-more to (firstFive W) (closerWords W) L (none-room e) w1 w2)
 
   -- ONE CHILD: the token, the child, then a bracket's closer.
-  one-child : (lowOf (getD W 5 0) ≡ 2 → ⊥) → (lowOf (getD W 5 0) ≡ 0 → ⊥) → lowOf (getD W 5 0) ≡ 1
-  one-child a b = one-left (lowOf (getD W 5 0)) (here .few) a b
+  one-child : (lowOf (getD W countIndex 0) ≡ 2 → ⊥) → (lowOf (getD W countIndex 0) ≡ 0 → ⊥) → lowOf (getD W countIndex 0) ≡ 1
+  one-child a b = one-left (lowOf (getD W countIndex 0)) (here .few) a b
 
-  one-room : lowOf (getD W 5 0) ≡ 1 → to + length (firstFive W ++ (onlyWords W ++ closerWords W)) ≤ length L
+  one-room : lowOf (getD W countIndex 0) ≡ 1 → to + length (firstFive W ++ (onlyWords W ++ closerWords W)) ≤ length L
   one-room e = rw (one-below here e .words) at (r .room)
 
-  pub token-room : (lowOf (getD W 5 0) ≡ 2 → ⊥) → to + 5 ≤ length L
+  pub token-room : (lowOf (getD W countIndex 0) ≡ 2 → ⊥) → to + 5 ≤ length L
   unfolding firstFive
   token-room a =
-      or-not (lowOf (getD W 5 0)) (to + 5 ≤ length L) (λ e. omega (arith, none-room e, length-append (firstFive W) (closerWords W)))
+      or-not (lowOf (getD W countIndex 0)) (to + 5 ≤ length L)
+      (λ e. omega (arith, none-room e, length-append (firstFive W) (closerWords W)))
       (λ b. omega (arith, one-room (one-child a b), length-append (firstFive W) (onlyWords W ++ closerWords W)))
 
-  module _ (a : lowOf (getD W 5 0) ≡ 2 → ⊥) (b : lowOf (getD W 5 0) ≡ 0 → ⊥) {op : ℕ} (isOp : op ≡ operatorOf (getD W 0 0)) (p : Place)
-      (isPlace : p ≡ onlyPlace op) (L1 : List ℕ) (to1 : ℕ) (w1 : Puts (firstFive W) L to L1 to1) where
+  module _ (a : lowOf (getD W countIndex 0) ≡ 2 → ⊥) (b : lowOf (getD W countIndex 0) ≡ 0 → ⊥) {op : ℕ}
+      (isOp : op ≡ operatorOf (getD W 0 0)) (p : Seat)
+      (isSeat : p ≡ onlySeat op) (L1 : List ℕ) (to1 : ℕ) (w1 : Puts (firstFive W) L to L1 to1) where
     one : OneBelow (r .others) W
     one = one-below here (one-child a b)
 
-    one-words : listWords (operandOf p (treesOf (tail 6 W))) ≡ onlyWords W
-    one-words = rw (isPlace, isOp, tail-part)
+    one-words : operandWritten p (tail nodeLength W) ≡ onlyWords W
+    one-words = rw (isSeat, isOp, tail-part)
 
-    pub one-only : Room (operandOf p) (tail 6 W) L1 to1
+    pub one-only : Room (operandOf p) (tail nodeLength W) L1 to1
     one-only =
         let all = one-room (one-child a b) in
         let front = length-append (firstFive W) (onlyWords W ++ closerWords W) in
@@ -115,11 +129,12 @@ module _ {W L : List ℕ} {to : ℕ} (r : Room writtenTokens W L to) where
         let put = puts-length to (firstFive W) L (omega arith) w1 in
         record {
           others = r .others;
-          shaped = rw (tail-part 6 W) (one .shaped);
+          shaped = rw (tail-part nodeLength W) (one .shaped);
           room = rw one-words (omega (arith, w1 .1));
         }
 
-    module _ (l L2 : List ℕ) (to2 : ℕ) (w2 : Writes (listWords (operandOf p (treesOf (tail 6 W)))) (tail 6 W) L1 to1 l L2 to2) where
+    module _ (l L2 : List ℕ) (to2 : ℕ)
+        (w2 : Writes (operandWritten p (tail nodeLength W)) (tail nodeLength W) L1 to1 l L2 to2) where
       one-puts : Puts (firstFive W ++ onlyWords W) L to L2 to2
       one-puts =
           let all = one-room (one-child a b) in
@@ -136,13 +151,15 @@ module _ {W L : List ℕ} {to : ℕ} (r : Room writtenTokens W L to) where
           let two = length-append (firstFive W) (onlyWords W) in
           omega (arith, one-puts .1, puts-length to (firstFive W ++ onlyWords W) L (omega arith) one-puts)
 
-      one-part : 6 + length l ≡ 6 * firstSize (treesOf W)
+      one-part : nodeLength + length l ≡ nodeLength * firstSize (treesOf W)
       one-part =
-          let s : Shaped 2 (suc (r .others)) (tail 6 W) = rw (tail-part 6 W) (one .shaped) in
-          let same : 6 * firstSize (treesOf (tail 6 W)) ≡ 6 * firstSize (treesOf (drop 6 W)) = rw (tail-part 6 W) in
+          let s : Shaped 2 (suc (r .others)) (tail nodeLength W) = rw (tail-part nodeLength W) (one .shaped) in
+          let same : nodeLength * firstSize (treesOf (tail nodeLength W)) ≡ nodeLength * firstSize (treesOf (drop nodeLength W)) =
+          rw (tail-part nodeLength W)
+          in
           omega (arith, part-length s (w2 .0), one .fills)
 
-      pub one-end : 6 + length l ≤ length W
+      pub one-end : nodeLength + length l ≤ length W
       one-end = omega (arith, one-part, first-within (r .shaped))
 
       module _ (L3 : List ℕ) (to3 : ℕ) (w3 : Puts (closerWords W) L2 to2 L3 to3) where
@@ -155,26 +172,31 @@ module _ {W L : List ℕ} {to : ℕ} (r : Room writtenTokens W L to) where
         pub one-length : length L3 ≡ length L
         one-length = puts-length to (firstFive W ++ (onlyWords W ++ closerWords W)) L (one-room (one-child a b)) one-all
 
-        pub one-writes : Writes (listWords (writtenTokens (treesOf W))) W L to (take (6 + length l) W) L3 to3
+        pub one-writes : Writes (nodeWritten W) W L to (take (nodeLength + length l) W) L3 to3
         one-writes = rw (one .words, ← one-part) (refl, one-all)
 
   -- TWO CHILDREN: the left one, the token, the right one.
-  module _ (e : lowOf (getD W 5 0) ≡ 2) {op : ℕ} (isOp : op ≡ operatorOf (getD W 0 0)) (p : Place) (isPlace : p ≡ leftPlace op) where
+  module _ (e : lowOf (getD W countIndex 0) ≡ 2) {op : ℕ} (isOp : op ≡ operatorOf (getD W 0 0)) (p : Seat) (isSeat : p ≡ leftSeat op) where
     two : TwoBelow (r .others) W
     two = two-below here e
 
-    left-words : listWords (operandOf p (treesOf (tail 6 W))) ≡ leftWords W
-    left-words = rw (isPlace, isOp, tail-part)
+    left-words : operandWritten p (tail nodeLength W) ≡ leftWords W
+    left-words = rw (isSeat, isOp, tail-part)
 
     two-room : to + length (leftWords W ++ (firstFive W ++ rightWords W)) ≤ length L
     two-room = rw (two .words) at (r .room)
 
-    pub two-left : Room (operandOf p) (tail 6 W) L to
+    pub two-left : Room (operandOf p) (tail nodeLength W) L to
     two-left =
         let front = length-append (leftWords W) (firstFive W ++ rightWords W) in
-        record { others = suc (r .others); shaped = rw (tail-part 6 W) (two .left); room = rw left-words (omega (arith, two-room)) }
+        record {
+          others = suc (r .others);
+          shaped = rw (tail-part nodeLength W) (two .left);
+          room = rw left-words (omega (arith, two-room));
+        }
 
-    module _ (l L1 : List ℕ) (to1 : ℕ) (w1 : Writes (listWords (operandOf p (treesOf (tail 6 W)))) (tail 6 W) L to l L1 to1) where
+    module _ (l L1 : List ℕ) (to1 : ℕ)
+        (w1 : Writes (operandWritten p (tail nodeLength W)) (tail nodeLength W) L to l L1 to1) where
       left-puts : Puts (leftWords W) L to L1 to1
       left-puts = rw left-words at (w1 .1)
 
@@ -192,14 +214,14 @@ module _ {W L : List ℕ} {to : ℕ} (r : Room writtenTokens W L to) where
 
       left-part : length l ≡ leftSize W
       left-part =
-          let s : Shaped 2 (suc (suc (r .others))) (tail 6 W) = rw (tail-part 6 W) (two .left) in
-          let same : 6 * firstSize (treesOf (tail 6 W)) ≡ leftSize W = rw (tail-part 6 W) in
+          let s : Shaped 2 (suc (suc (r .others))) (tail nodeLength W) = rw (tail-part nodeLength W) (two .left) in
+          let same : nodeLength * firstSize (treesOf (tail nodeLength W)) ≡ leftSize W = rw (tail-part nodeLength W) in
           omega (arith, part-length s (w1 .0))
 
-      pub two-next : 6 + length l ≤ length W
+      pub two-next : nodeLength + length l ≤ length W
       two-next = omega (arith, left-part, two .fills, first-within (r .shaped))
 
-      module _ (L2 : List ℕ) (to2 : ℕ) (w2 : Puts (firstFive W) L1 to1 L2 to2) (q : Place) (isRight : q ≡ rightPlace op) where
+      module _ (L2 : List ℕ) (to2 : ℕ) (w2 : Puts (firstFive W) L1 to1 L2 to2) (q : Seat) (isRight : q ≡ rightSeat op) where
         token-puts : Puts (leftWords W ++ firstFive W) L to L2 to2
         token-puts =
             let front = length-append (leftWords W) (firstFive W ++ rightWords W) in
@@ -207,13 +229,13 @@ module _ {W L : List ℕ} {to : ℕ} (r : Room writtenTokens W L to) where
             let both = length-append (leftWords W) (firstFive W) in
             puts-more to (leftWords W) (firstFive W) L (omega (arith, two-room)) left-puts w2
 
-        there : tail (6 + length l) W ≡ rightPart W
-        there = tail-part (6 + length l) W ∙ ap (λ (n : ℕ). drop (6 + n) W) left-part
+        there : tail (nodeLength + length l) W ≡ rightPart W
+        there = tail-part (nodeLength + length l) W ∙ ap (λ (n : ℕ). drop (nodeLength + n) W) left-part
 
-        right-words : listWords (operandOf q (treesOf (tail (6 + length l) W))) ≡ rightWords W
+        right-words : operandWritten q (tail (nodeLength + length l) W) ≡ rightWords W
         right-words = rw (isRight, isOp, there)
 
-        pub two-right : Room (operandOf q) (tail (6 + length l) W) L2 to2
+        pub two-right : Room (operandOf q) (tail (nodeLength + length l) W) L2 to2
         two-right =
             let front = length-append (leftWords W) (firstFive W ++ rightWords W) in
             let back = length-append (firstFive W) (rightWords W) in
@@ -226,51 +248,55 @@ module _ {W L : List ℕ} {to : ℕ} (r : Room writtenTokens W L to) where
             }
 
         module _ (m L3 : List ℕ) (to3 : ℕ)
-            (w3 : Writes (listWords (operandOf q (treesOf (tail (6 + length l) W)))) (tail (6 + length l) W) L2 to2 m L3 to3) where
+            (w3 : Writes (operandWritten q (tail (nodeLength + length l) W))
+            (tail (nodeLength + length l) W) L2 to2 m L3 to3) where
           two-all : Puts (leftWords W ++ (firstFive W ++ rightWords W)) L to L3 to3
           two-all =
               rw (← append-assoc (leftWords W) (firstFive W) (rightWords W))
               (puts-more to (leftWords W ++ firstFive W) (rightWords W) L
               (rw (append-assoc (leftWords W) (firstFive W) (rightWords W)) two-room) token-puts (rw right-words at (w3 .1)))
 
-          two-part : 6 + length l + length m ≡ 6 * firstSize (treesOf W)
+          two-part : nodeLength + length l + length m ≡ nodeLength * firstSize (treesOf W)
           two-part =
-              let s : Shaped 2 (suc (r .others)) (tail (6 + length l) W) = rw there (two .right) in
-              let same : 6 * firstSize (treesOf (tail (6 + length l) W)) ≡ 6 * firstSize (treesOf (rightPart W)) = rw there in
+              let s : Shaped 2 (suc (r .others)) (tail (nodeLength + length l) W) = rw there (two .right) in
+              let same : nodeLength * firstSize (treesOf (tail (nodeLength + length l) W))
+              ≡ nodeLength * firstSize (treesOf (rightPart W)) =
+              rw there
+              in
               omega (arith, part-length s (w3 .0), left-part, two .fills)
 
-          pub two-end : 6 + length l + length m ≤ length W
+          pub two-end : nodeLength + length l + length m ≤ length W
           two-end = omega (arith, two-part, first-within (r .shaped))
 
           pub two-length : length L3 ≡ length L
           two-length = puts-length to (leftWords W ++ (firstFive W ++ rightWords W)) L two-room two-all
 
-          pub two-writes : Writes (listWords (writtenTokens (treesOf W))) W L to (take (6 + length l + length m) W) L3 to3
+          pub two-writes : Writes (nodeWritten W) W L to (take (nodeLength + length l + length m) W) L3 to3
           two-writes = rw (two .words, ← two-part) (refl, two-all)
 
--- An operand that is to be written at its place.
-module _ {W L : List ℕ} {to : ℕ} (p : Place) (r : Room (operandOf p) W L to) where
+-- An operand that is to be written in its seat.
+module _ {W L : List ℕ} {to : ℕ} (p : Seat) (r : Room (operandOf p) W L to) where
   operand : Opened 2 (suc (r .others)) W
   operand = opened (r .shaped) (omega (arith, shaped-room (r .shaped)))
 
-  pub operand-long : 6 ≤ length W
+  pub operand-long : nodeLength ≤ length W
   operand-long = operand .long
 
   -- As it is.
-  module _ (alone : isPaired p (operatorOf (getD W 0 0)) (lowOf (getD W 5 0)) ≡ false) where
+  module _ (alone : isPaired p (operatorOf (getD W 0 0)) (lowOf (getD W countIndex 0)) ≡ false) where
     pub alone-room : Room writtenTokens W L to
     alone-room = record { others = r .others; shaped = r .shaped; room = rw (← unpaired-words operand p alone) (r .room) }
 
-    pub alone-writes : (l L1 : List ℕ) (to1 : ℕ) → Writes (listWords (writtenTokens (treesOf W))) W L to l L1 to1
-        → Writes (listWords (operandOf p (treesOf W))) W L to l L1 to1
+    pub alone-writes : (l L1 : List ℕ) (to1 : ℕ) → Writes (nodeWritten W) W L to l L1 to1
+        → Writes (operandWritten p W) W L to l L1 to1
     alone-writes l L1 to1 w1 = rw (unpaired-words operand p alone) w1
 
   -- In an added pair.
-  module _ (paired : isPaired p (operatorOf (getD W 0 0)) (lowOf (getD W 5 0)) ≡ true) where
+  module _ (paired : isPaired p (operatorOf (getD W 0 0)) (lowOf (getD W countIndex 0)) ≡ true) where
     inner : List ℕ
-    inner = listWords (writtenTokens (treesOf W))
+    inner = nodeWritten W
 
-    pair-words : listWords (operandOf p (treesOf W)) ≡ bracketWords 4 W ++ (inner ++ bracketWords 5 W)
+    pair-words : operandWritten p W ≡ bracketWords 4 W ++ (inner ++ bracketWords 5 W)
     unfolding inner
     pair-words = paired-words operand p paired
 
@@ -290,7 +316,7 @@ module _ {W L : List ℕ} {to : ℕ} (p : Place) (r : Room (operandOf p) W L to)
           let list = puts-length to (bracketWords 4 W) L (omega (arith, pair-room)) w1 in
           record { others = r .others; shaped = r .shaped; room = omega (arith, pair-room, w1 .1) }
 
-      module _ (l L2 : List ℕ) (to2 : ℕ) (w2 : Writes (listWords (writtenTokens (treesOf W))) W L1 to1 l L2 to2) where
+      module _ (l L2 : List ℕ) (to2 : ℕ) (w2 : Writes (nodeWritten W) W L1 to1 l L2 to2) where
         inner-puts : Puts (bracketWords 4 W ++ inner) L to L2 to2
         unfolding inner
         inner-puts =
@@ -317,5 +343,5 @@ module _ {W L : List ℕ} {to : ℕ} (p : Place) (r : Room (operandOf p) W L to)
           pub pair-length : length L3 ≡ length L
           pair-length = puts-length to (bracketWords 4 W ++ (inner ++ bracketWords 5 W)) L pair-room pair-all
 
-          pub pair-writes : Writes (listWords (operandOf p (treesOf W))) W L to l L3 to3
+          pub pair-writes : Writes (operandWritten p W) W L to l L3 to3
           pair-writes = rw pair-words (w2 .0, pair-all)

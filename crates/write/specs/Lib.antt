@@ -1,5 +1,5 @@
 pub mod Answers
-pub mod Places
+pub mod Seats
 pub mod Reading
 pub mod Shaped
 pub mod Spelling

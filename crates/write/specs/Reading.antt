@@ -7,6 +7,7 @@ use Rattle.molang.specs.Words.{lowOf}
 use Rattle.words.specs.Fields.{operatorOf}
 use Rattle.write.specs.declared.reader.TreeReader.{TreeReader}
 use Rattle.write.specs.declared.reader.NodeView.{NodeView}
+use Rattle.write.specs.Shaped.{nodeLength, countIndex}
 
 -- The operator of the node that starts at a word; a word past the last reads as 0.
 abbrev pub operatorAt : List ℕ → ℕ → ℕ
@@ -14,12 +15,13 @@ operatorAt words at = operatorOf (getD words at 0)
 
 -- Its child count.
 abbrev pub childrenAt : List ℕ → ℕ → ℕ
-childrenAt words at = lowOf (getD words (at + 5) 0)
+childrenAt words at = lowOf (getD words (at + countIndex) 0)
 
 -- The reader over these words at a position.
 abbrev pub readerAt : RefT (List ℕ) → ℕ → TreeReader
 readerAt words at = record { words = words; at = at }
 
--- What is seen of the node that starts at a word.
+-- What is seen of the node that starts at a word, with where the next one stands.
 abbrev pub viewAt : List ℕ → ℕ → NodeView
-viewAt words at = record { op = operatorAt words at; children = childrenAt words at; next = operatorAt words (at + 6) }
+viewAt words at =
+    record { op = operatorAt words at; children = childrenAt words at; next = operatorAt words (at + nodeLength); after = at + nodeLength }

@@ -6,6 +6,14 @@ use lib.ListN.{length}
 use Rattle.molang.specs.Words.{lowOf, tokenWords, tokenOf}
 use Rattle.molang.specs.WriteEntry.{mostNodes}
 
+-- A node is six words.
+abbrev pub nodeLength : ℕ
+nodeLength = 6
+
+-- Its child count is the last of them.
+abbrev pub countIndex : ℕ
+countIndex = 5
+
 -- The words are so many trees, of at most so many children a node; each node's five words are those of a token.
 pub data Shaped (most : ℕ) : ℕ → List ℕ → Type 0 where
   noTrees : Shaped most 0 []
@@ -20,4 +28,4 @@ mostChildren = 16383
 -- The words are one tree that is not too large.
 pub record OneTree (ws : List ℕ) : Type 0 where
   pub shaped : Shaped mostChildren 1 ws
-  pub small : length ws ≤ 6 * mostNodes
+  pub small : length ws ≤ nodeLength * mostNodes

@@ -1,21 +1,20 @@
 -- The words that writing lays into the list, and the part of the tree words that a tree fills.
-use Prim.Native.Nat.{ℕ, suc, _+_, _%_, _^_, _≤_}
+use Prim.Native.Nat.{ℕ, suc, _+_, _*_, _%_, _^_, _≤_}
 use mathlib.Core.Path.{_≡_}
 use mathlib.Core.List.{List, [], _∷_}
 use mathlib.Core.Bool.{true, false, not}
-use lib.ListN.{length, getD}
+use lib.ListN.{length, take, getD}
 use Rattle.molang.specs.Forest.{Token, Forest, nil, node, count, size}
 use Rattle.molang.specs.Operator
 use Rattle.molang.specs.Operator.{isBracket}
 use Rattle.molang.specs.Words.{word, listWords}
 use Rattle.words.specs.Fields.{operatorOf}
 use Rattle.molang.specs.Write.{written, operandTokens}
-use Rattle.molang.specs.WriteEntry.{treesOf}
-use Rattle.write.specs.declared.plain.Place.{Place}
-use Rattle.write.specs.declared.plain.Judged.the-variants.{Plain}
+use Rattle.molang.specs.WriteEntry.{treesOf, writtenTokens, tokens}
+use Rattle.write.specs.declared.plain.Seat.{Seat}
 use Rattle.write.specs.Answers.{judgement}
-use Rattle.write.specs.Places.{isPaired}
-use Rattle.write.specs.Shaped.{Shaped}
+use Rattle.write.specs.Seats.{isPaired}
+use Rattle.write.specs.Shaped.{nodeLength, Shaped}
 
 -- The token words that a list of words opens with.
 unfoldable pub firstFive : List ℕ → List ℕ
@@ -34,18 +33,30 @@ unfoldable pub firstSize : Forest → ℕ
 firstSize nil = 0
 firstSize (node k cs rest) = 1 + size cs
 
--- The tokens of the first tree as an operand at a place.
-unfoldable pub operandOf : Place → Forest → List Token
+-- The tokens of the first tree as an operand in its seat.
+unfoldable pub operandOf : Seat → Forest → List Token
 operandOf p nil = []
 operandOf p (node k cs rest) = operandTokens (not (isPaired p (k .op) (count cs))) k (written k cs) []
 
--- The words open with a tree of at most two children a node, and the list has room for the tokens from a place on.
-pub record Room (tokens : Forest → List Token) (words list : List ℕ) (to : ℕ) : Type 0 where
+-- The words that the first tree fills.
+abbrev pub filledWords : List ℕ → List ℕ
+filledWords ws = take (nodeLength * firstSize (treesOf ws)) ws
+
+-- The words that are written of the first tree.
+abbrev pub nodeWritten : List ℕ → List ℕ
+nodeWritten ws = listWords (writtenTokens (treesOf ws))
+
+-- Those of it as an operand in its seat.
+abbrev pub operandWritten : Seat → List ℕ → List ℕ
+operandWritten p ws = listWords (operandOf p (treesOf ws))
+
+-- The words open with a tree of at most two children a node, and from `to` on the list has room for its tokens.
+pub record Room (spelt : Forest → List Token) (words list : List ℕ) (to : ℕ) : Type 0 where
   pub others : ℕ
   pub shaped : Shaped 2 (suc others) words
-  pub room : to + length (listWords (tokens (treesOf words))) ≤ length list
+  pub room : to + length (listWords (spelt (treesOf words))) ≤ length list
 
 -- The words are one tree of at most two children a node, which is plain and written with so many tokens.
-pub record Writable (words : List ℕ) (tokens : ℕ) : Type 0 where
+pub record Writable (words : List ℕ) (count : ℕ) : Type 0 where
   pub shaped : Shaped 2 1 words
-  pub judged : Plain tokens ≡ judgement (treesOf words)
+  pub judged : tokens count ≡ judgement (treesOf words)

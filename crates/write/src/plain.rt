@@ -1,19 +1,18 @@
-// Answer 13 and the written count, in one loop over the nodes in tree order: a node is judged by its own operator, its place under
-// its parent and its first child's operator. The places of the nodes that are called for and have not come yet stand on a stack,
+// Answer 13 and the written count, in one loop over the nodes in tree order: a node is judged by its own operator, its seat under
+// its parent and its first child's operator. The seats of the nodes that are called for and have not come yet stand on a stack,
 // the next one on top. The words are read by the reader. Leans on ops and words.
 use crate::reader::view_node;
 use ops::is_math_call;
 use ops::op;
-use words::fields;
 ghost use mathlib.Core.Path.{_≡_};
 ghost use Rattle.molang.specs.Plain as plain;
 ghost use Rattle.molang.specs.WriteEntry.{treesOf};
-ghost use Rattle.write.specs.Answers.{judgement};
-ghost use Rattle.write.specs.Places.{formPlace, onlyPlace, leftPlace, rightPlace, isPrefix, plainBy, isPaired, tokensFor};
+ghost use Rattle.write.specs.Answers.{verdictOf, judgement};
+ghost use Rattle.write.specs.Seats.{formSeat, onlySeat, leftSeat, rightSeat, isPrefix, plainBy, isPaired, tokensFor};
 ghost use Rattle.write.specs.Shaped.{OneTree};
 
-// Where a node stands, as far as its form and its pair of brackets go by it.
-pub enum Place {
+// The seat of a node under its parent, as far as its form and its pair of brackets depend on it.
+pub enum Seat {
     // The root, or a bracket's child.
     Enclosed,
     // The bracket under a math call.
@@ -26,6 +25,7 @@ pub enum Place {
     Operand,
 }
 
+// What a tree is found to be.
 pub enum Judged {
     // Every node is plain, and so many tokens are written.
     Plain(usize),
@@ -33,36 +33,37 @@ pub enum Judged {
     Unplain(usize),
 }
 
-// The place of the one child of op.
-pub fn place_of_only(op: u32) -> Place
-    ensures { λ r. ⌜ r ≡ onlyPlace op ⌝ }
+// The seat of the one child of op.
+pub fn seat_of_only(op: u32) -> Seat
+    ensures { λ r. ⌜ r ≡ onlySeat op ⌝ }
 {
     if op == op::LEFT_PARENTHESIS {
-        return Place::Enclosed;
+        return Seat::Enclosed;
     }
     if is_math_call(op) {
-        return Place::UnderMathCall;
+        return Seat::UnderMathCall;
     }
-    Place::Operand
+    Seat::Operand
 }
 
-// The places of the two children of op.
-pub fn place_of_left(op: u32) -> Place
-    ensures { λ r. ⌜ r ≡ leftPlace op ⌝ }
+// The seat of the first of two children of op.
+pub fn seat_of_left(op: u32) -> Seat
+    ensures { λ r. ⌜ r ≡ leftSeat op ⌝ }
 {
     if op == op::COMMA {
-        return Place::LeftOfComma;
+        return Seat::LeftOfComma;
     }
-    Place::Operand
+    Seat::Operand
 }
 
-pub fn place_of_right(op: u32) -> Place
-    ensures { λ r. ⌜ r ≡ rightPlace op ⌝ }
+// The seat of the second.
+pub fn seat_of_right(op: u32) -> Seat
+    ensures { λ r. ⌜ r ≡ rightSeat op ⌝ }
 {
     if op == op::CONDITIONAL {
-        return Place::RightOfQuestion;
+        return Seat::RightOfQuestion;
     }
-    Place::Operand
+    Seat::Operand
 }
 
 // The leaves of document 01's plain forms: 40, 42-44, 46-49, 61, 62 or 76.
@@ -95,30 +96,30 @@ fn is_call(op: u32) -> bool
     op == op::QUERY_FUNCTION || is_math_call(op)
 }
 
-fn is_under_math_call(place: Place) -> bool
-    ensures { λ r. ⌜ r ≡ plain.isUnderMathCall (formPlace place) ⌝ }
+fn is_under_math_call(seat: Seat) -> bool
+    ensures { λ r. ⌜ r ≡ plain.isUnderMathCall (formSeat seat) ⌝ }
 {
-    match place {
-        Place::UnderMathCall => true,
+    match seat {
+        Seat::UnderMathCall => true,
         _ => false,
     }
 }
 
-fn is_right_of_question(place: Place) -> bool
-    ensures { λ r. ⌜ r ≡ plain.isRightOfQuestion (formPlace place) ⌝ }
+fn is_right_of_question(seat: Seat) -> bool
+    ensures { λ r. ⌜ r ≡ plain.isRightOfQuestion (formSeat seat) ⌝ }
 {
-    match place {
-        Place::RightOfQuestion => true,
+    match seat {
+        Seat::RightOfQuestion => true,
         _ => false,
     }
 }
 
 // A leaf; a bracket may be empty under a math call.
-fn is_plain_without_children(place: Place, op: u32) -> bool
-    ensures { λ r. ⌜ r ≡ plainBy place op 0 0 ⌝ }
+fn is_plain_without_children(seat: Seat, op: u32) -> bool
+    ensures { λ r. ⌜ r ≡ plainBy seat op 0 0 ⌝ }
 {
     if op == op::LEFT_PARENTHESIS {
-        return is_under_math_call(place);
+        return is_under_math_call(seat);
     }
     is_plain_leaf(op)
 }
@@ -135,7 +136,7 @@ fn is_prefix(op: u32) -> bool
 
 // A prefix over anything; a call over its bracket.
 fn is_plain_over_one(op: u32, first: u32) -> bool
-    ensures { λ r. ⌜ r ≡ plainBy Place.Operand op 1 first ⌝ }
+    ensures { λ r. ⌜ r ≡ plainBy Seat.Operand op 1 first ⌝ }
 {
     if is_prefix(op) {
         return true;
@@ -147,30 +148,30 @@ fn is_plain_over_one(op: u32, first: u32) -> bool
 }
 
 // A binary operator; `:` right of its `?` only.
-fn is_plain_over_two(place: Place, op: u32) -> bool
-    ensures { λ r. ⌜ r ≡ plainBy place op 2 0 ⌝ }
+fn is_plain_over_two(seat: Seat, op: u32) -> bool
+    ensures { λ r. ⌜ r ≡ plainBy seat op 2 0 ⌝ }
 {
     if op == op::CONDITIONAL_ELSE {
-        return is_right_of_question(place);
+        return is_right_of_question(seat);
     }
     is_plain_binary(op)
 }
 
 // Whether a node of op has a plain form; `first` is its first child's operator, if it has children.
-pub fn is_plain(place: Place, op: u32, children: u32, first: u32) -> bool
-    ensures { λ r. ⌜ r ≡ plainBy place op children first ⌝ }
+pub fn is_plain(seat: Seat, op: u32, children: u32, first: u32) -> bool
+    ensures { λ r. ⌜ r ≡ plainBy seat op children first ⌝ }
 {
     match children {
-        0 => is_plain_without_children(place, op),
+        0 => is_plain_without_children(seat, op),
         1 => is_plain_over_one(op, first),
-        2 => is_plain_over_two(place, op),
+        2 => is_plain_over_two(seat, op),
         _ => false,
     }
 }
 
-// Whether an operand gets an added pair of brackets: not a leaf or a bracket, and not where its place spares it.
-pub fn is_paired(place: Place, op: u32, children: u32) -> bool
-    ensures { λ r. ⌜ r ≡ isPaired place op children ⌝ }
+// Whether an operand gets an added pair of brackets: a leaf and a bracket get none, and some seats spare their node the pair.
+pub fn is_paired(seat: Seat, op: u32, children: u32) -> bool
+    ensures { λ r. ⌜ r ≡ isPaired seat op children ⌝ }
 {
     if children == 0 {
         return false;
@@ -178,57 +179,58 @@ pub fn is_paired(place: Place, op: u32, children: u32) -> bool
     if op == op::LEFT_PARENTHESIS {
         return false;
     }
-    match place {
-        Place::Enclosed => false,
-        Place::LeftOfComma => op != op::COMMA,
-        Place::RightOfQuestion => op != op::CONDITIONAL_ELSE,
+    match seat {
+        Seat::Enclosed => false,
+        Seat::LeftOfComma => op != op::COMMA,
+        Seat::RightOfQuestion => op != op::CONDITIONAL_ELSE,
         _ => true,
     }
 }
 
 // The tokens that are written for a node alone: itself, a bracket's closer, an added pair.
-fn tokens_for(place: Place, op: u32, children: u32) -> usize
-    ensures { λ r. ⌜ r ≡ tokensFor place op children ⌝ }
+fn tokens_for(seat: Seat, op: u32, children: u32) -> usize
+    ensures { λ r. ⌜ r ≡ tokensFor seat op children ⌝ }
 {
     if op == op::LEFT_PARENTHESIS {
         return 2;
     }
-    if is_paired(place, op, children) {
+    if is_paired(seat, op, children) {
         return 3;
     }
     1
 }
 
-// The first node of a tree that is not plain, or the number of tokens that writing gives. A tree of at most 12,288 nodes never has
-// more than these waiting.
+// The first node of a tree that is not plain, or the number of tokens that are written. The reader says where the next node stands.
+// No more than 12,288 nodes wait, since a tree has no more.
 pub fn judge(tree: &[u32]) -> Judged
     requires { ⌜ OneTree (now tree) ⌝ }
-    ensures { λ r. ⌜ r ≡ judgement (treesOf (now (tree .entry))) ⌝ }
+    ensures { λ r. ⌜ verdictOf r ≡ judgement (treesOf (now (tree .entry))) ⌝ }
 {
-    let nodes = tree.len() / fields::NODE_WORDS;
-    let mut waiting = [Place::Enclosed; 12_288];
+    let mut waiting = [Seat::Enclosed; 12_288];
     let mut top = 1usize;
     let mut tokens = 0usize;
     let mut node = 0usize;
-    while node < nodes {
-        let seen = view_node(tree, fields::NODE_WORDS * node);
+    let mut at = 0usize;
+    while at < tree.len() {
+        let seen = view_node(tree, at);
         let op = seen.op;
         let children = seen.children;
         top -= 1;
-        let place = waiting[top];
-        if !is_plain(place, op, children, seen.next) {
+        let seat = waiting[top];
+        if !is_plain(seat, op, children, seen.next) {
             return Judged::Unplain(node);
         }
         node += 1;
-        tokens += tokens_for(place, op, children);
+        at = seen.after;
+        tokens += tokens_for(seat, op, children);
         if children == 1 {
-            waiting[top] = place_of_only(op);
+            waiting[top] = seat_of_only(op);
             top += 1;
             continue;
         }
         if children == 2 {
-            waiting[top] = place_of_right(op);
-            waiting[top + 1] = place_of_left(op);
+            waiting[top] = seat_of_right(op);
+            waiting[top + 1] = seat_of_left(op);
             top += 2;
         }
     }

@@ -1,21 +1,23 @@
-// A reader over the lent tree words that carries its position: the place of a node's first word. Each of its functions takes it apart
-// and leaves the reading to a function over the words and a number. `view_node` is what the writer calls. Leans on words.
+// A reader over the lent tree words that carries its position: where a node's first word stands. To look at the node it is taken apart, and
+// a function over the words and a number looks. `view_node` is what the writer calls. Leans on words.
 use words::fields;
 ghost use mathlib.Core.Path.{_≡_};
 ghost use Prim.Native.Nat.{_+_, _≤_};
 ghost use lib.ListN.{length};
-ghost use Rattle.write.specs.Reading.{operatorAt, childrenAt, readerAt, viewAt};
+ghost use Rattle.write.specs.Reading.{operatorAt, readerAt, viewAt};
+ghost use Rattle.write.specs.Shaped.{nodeLength};
 
 pub struct TreeReader<'a> {
     words: &'a [u32],
     at: usize,
 }
 
-// What a node is judged by, but for its place: its operator, its children and the next node's operator, 0 after the last.
+// What is seen of a node: its operator, its children, the next node's operator, 0 after the last, and where the next node stands.
 pub struct NodeView {
     pub op: u32,
     pub children: u32,
     pub next: u32,
+    pub after: usize,
 }
 
 // The operator of the node that starts at `at`, 0 past the last.
@@ -28,12 +30,18 @@ fn operator_at(words: &[u32], at: usize) -> u32
     0
 }
 
-// The child count of the node that starts at `at`.
-fn children_at(words: &[u32], at: usize) -> u32
-    requires { ⌜ at + 6 ≤ length (now words) ⌝ }
-    ensures { λ r. ⌜ r ≡ childrenAt (now (words .entry)) at ⌝ }
+// What is seen of the node that starts at `from`.
+fn look_at(words: &[u32], from: usize) -> NodeView
+    requires { ⌜ from + nodeLength ≤ length (now words) ⌝ }
+    ensures { λ r. ⌜ r ≡ viewAt (now (words .entry)) from ⌝ }
 {
-    fields::low(words[at + 5])
+    let after = from + fields::NODE_WORDS;
+    NodeView {
+        op: fields::operator(words[from]),
+        children: fields::low(words[from + fields::COUNT_FIELD]),
+        next: operator_at(words, after),
+        after,
+    }
 }
 
 impl<'a> TreeReader<'a> {
@@ -43,40 +51,19 @@ impl<'a> TreeReader<'a> {
         TreeReader { words, at }
     }
 
-    pub fn operator(self) -> u32
-        ensures { λ r. ⌜ r ≡ operatorAt (now (self .entry .words)) (self .entry .at) ⌝ }
+    // What is seen of the node that the reader stands at.
+    pub fn look(self) -> NodeView
+        requires { ⌜ self .at + nodeLength ≤ length (now (self .words)) ⌝ }
+        ensures { λ r. ⌜ r ≡ viewAt (now (self .entry .words)) (self .entry .at) ⌝ }
     {
-        operator_at(self.words, self.at)
-    }
-
-    pub fn children(self) -> u32
-        requires { ⌜ self .at + 6 ≤ length (now (self .words)) ⌝ }
-        ensures { λ r. ⌜ r ≡ childrenAt (now (self .entry .words)) (self .entry .at) ⌝ }
-    {
-        children_at(self.words, self.at)
-    }
-
-    // The reader at the next node, or past the last.
-    pub fn advance(self) -> TreeReader<'a>
-        requires { ⌜ self .at + 6 ≤ length (now (self .words)) ⌝ }
-        ensures { λ r. ⌜ r ≡ readerAt (self .entry .words) (self .entry .at + 6) ⌝ }
-    {
-        TreeReader {
-            words: self.words,
-            at: self.at + fields::NODE_WORDS,
-        }
+        look_at(self.words, self.at)
     }
 }
 
-// What stands at a node and right after it.
+// A reader's look at the node that starts at `at`.
 pub fn view_node(words: &[u32], at: usize) -> NodeView
-    requires { ⌜ at + 6 ≤ length (now words) ⌝ }
+    requires { ⌜ at + nodeLength ≤ length (now words) ⌝ }
     ensures { λ r. ⌜ r ≡ viewAt (now (words .entry)) at ⌝ }
 {
-    let node = TreeReader::new(words, at);
-    NodeView {
-        op: node.operator(),
-        children: node.children(),
-        next: node.advance().operator(),
-    }
+    TreeReader::new(words, at).look()
 }

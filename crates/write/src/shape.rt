@@ -8,13 +8,13 @@ ghost use Prim.Native.Nat.{ℕ, _≤_};
 ghost use Rattle.molang.specs.Words as words;
 ghost use Rattle.molang.specs.WriteEntry as entry;
 ghost use Rattle.words.specs.Checks.{numberOf};
-ghost use Rattle.write.specs.Answers.{slotOf, placeOf, isLegal, shape};
+ghost use Rattle.write.specs.Answers.{fieldOf, refusalOf, treeRefusal, isLegal, shape};
 
 // The most nodes of a tree.
 pub const MOST_NODES: u32 = 12_288;
 
 // Which word of a node is expected next.
-pub enum Slot {
+pub enum Field {
     Operator,
     Start,
     End,
@@ -30,16 +30,16 @@ pub enum Fault {
     At(usize),
 }
 
-fn next(slot: Slot) -> Slot
-    ensures { λ r. ⌜ slotOf r ≡ entry.nextInNode (slotOf slot) ⌝ }
+fn next(field: Field) -> Field
+    ensures { λ r. ⌜ fieldOf r ≡ entry.nextInNode (fieldOf field) ⌝ }
 {
-    match slot {
-        Slot::Operator => Slot::Start,
-        Slot::Start => Slot::End,
-        Slot::End => Slot::Upper,
-        Slot::Upper => Slot::Lower,
-        Slot::Lower => Slot::Count,
-        Slot::Count => Slot::Operator,
+    match field {
+        Field::Operator => Field::Start,
+        Field::Start => Field::End,
+        Field::End => Field::Upper,
+        Field::Upper => Field::Lower,
+        Field::Lower => Field::Count,
+        Field::Count => Field::Operator,
     }
 }
 
@@ -54,7 +54,7 @@ fn is_good(word: Word) -> bool
 
 // Whether the word is of kind 6, of which bits 0-13 are used.
 fn is_count(w: u32) -> bool
-    ensures { λ r. ⌜ r ≡ isLegal (words.wordFault words.countSlot 0 w) ⌝ }
+    ensures { λ r. ⌜ r ≡ isLegal (words.wordFault words.countField 0 w) ⌝ }
 {
     if fields::kind(w) != fields::CHILDREN {
         return false;
@@ -62,96 +62,97 @@ fn is_count(w: u32) -> bool
     fields::low(w) < 16_384
 }
 
-// Whether the word is legal in its slot, in a node of the given payload variant.
-fn is_legal(slot: Slot, variant: u32, w: u32) -> bool
-    ensures { λ r. ⌜ r ≡ isLegal (words.wordFault (slotOf slot) variant w) ⌝ }
+// Whether the word is legal in its field, in a node of the given payload variant.
+fn is_legal(field: Field, variant: u32, w: u32) -> bool
+    ensures { λ r. ⌜ r ≡ isLegal (words.wordFault (fieldOf field) variant w) ⌝ }
 {
-    match slot {
-        Slot::Operator => is_good(checks::operator_word(w)),
-        Slot::Start => is_good(checks::span_word(w, fields::START)),
-        Slot::End => is_good(checks::span_word(w, fields::END)),
-        Slot::Upper => is_good(checks::half_word(w, fields::UPPER, variant)),
-        Slot::Lower => is_good(checks::half_word(w, fields::LOWER, variant)),
-        Slot::Count => is_count(w),
+    match field {
+        Field::Operator => is_good(checks::operator_word(w)),
+        Field::Start => is_good(checks::span_word(w, fields::START)),
+        Field::End => is_good(checks::span_word(w, fields::END)),
+        Field::Upper => is_good(checks::half_word(w, fields::UPPER, variant)),
+        Field::Lower => is_good(checks::half_word(w, fields::LOWER, variant)),
+        Field::Count => is_count(w),
     }
 }
 
 // The payload variant of the node, after one of its words.
-fn variant_after(slot: Slot, variant: u32, w: u32) -> u32
-    ensures { λ r. ⌜ r ≡ words.variantAfter (slotOf slot) variant w ⌝ }
+fn variant_after(field: Field, variant: u32, w: u32) -> u32
+    ensures { λ r. ⌜ r ≡ words.variantAfter (fieldOf field) variant w ⌝ }
 {
-    match slot {
-        Slot::Operator => fields::variant(w),
+    match field {
+        Field::Operator => fields::variant(w),
         _ => variant,
     }
 }
 
 // How many nodes are called for, after a legal word: a count calls for the node's children.
-fn called_after(slot: Slot, called: u32, w: u32) -> u32
+fn called_after(field: Field, called: u32, w: u32) -> u32
     requires { ⌜ called ≤ entry.mostNodes ⌝ }
-    ensures { λ r. ⌜ ((begun : ℕ) → r ≡ entry.shapeAfter (slotOf slot) w (shape called begun) .called) ⌝ }
+    ensures { λ r. ⌜ ((begun : ℕ) → r ≡ entry.shapeAfter (fieldOf field) w (shape called begun) .called) ⌝ }
 {
-    match slot {
-        Slot::Count => called + fields::low(w),
+    match field {
+        Field::Count => called + fields::low(w),
         _ => called,
     }
 }
 
 // How many nodes have begun, after a word.
-fn begun_after(slot: Slot, begun: u32) -> u32
+fn begun_after(field: Field, begun: u32) -> u32
     requires { ⌜ begun ≤ entry.mostNodes ⌝ }
-    ensures { λ r. ⌜ ((called w : ℕ) → r ≡ entry.shapeAfter (slotOf slot) w (shape called begun) .begun) ⌝ }
+    ensures { λ r. ⌜ ((called w : ℕ) → r ≡ entry.shapeAfter (fieldOf field) w (shape called begun) .begun) ⌝ }
 {
-    match slot {
-        Slot::Operator => begun + 1,
+    match field {
+        Field::Operator => begun + 1,
         _ => begun,
     }
 }
 
 // Whether the word can stand next: it is legal, a node is still called for, and no more nodes are than a tree may have.
-fn continues(slot: Slot, variant: u32, called: u32, begun: u32, w: u32) -> bool
+fn continues(field: Field, variant: u32, called: u32, begun: u32, w: u32) -> bool
     requires { ⌜ (begun ≤ called) × (called ≤ entry.mostNodes) ⌝ }
-    ensures { λ r. ⌜ r ≡ entry.continues (slotOf slot) variant (shape called begun) w ⌝ }
+    ensures { λ r. ⌜ r ≡ entry.continues (fieldOf field) variant (shape called begun) w ⌝ }
 {
-    if !is_legal(slot, variant, w) {
+    if !is_legal(field, variant, w) {
         return false;
     }
-    if called < begun_after(slot, begun) {
+    if called < begun_after(field, begun) {
         return false;
     }
-    called_after(slot, called, w) <= MOST_NODES
+    called_after(field, called, w) <= MOST_NODES
 }
 
 // Whether the words may end here: a node has just ended, and none is called for any more.
-fn is_whole(slot: Slot, called: u32, begun: u32) -> bool
-    ensures { λ r. ⌜ r ≡ entry.isWhole (slotOf slot) (shape called begun) ⌝ }
+fn is_whole(field: Field, called: u32, begun: u32) -> bool
+    ensures { λ r. ⌜ r ≡ entry.isWhole (fieldOf field) (shape called begun) ⌝ }
 {
-    match slot {
-        Slot::Operator => begun == called,
+    match field {
+        Field::Operator => begun == called,
         _ => false,
     }
 }
 
+// The loop over the words: the first that cannot continue a tree, or the end where they run out.
 pub fn first_fault(tree: &[u32]) -> Fault
-    ensures { λ r. ⌜ placeOf r ≡ entry.treeFault 0 words.operatorSlot 0 (shape 1 0) (now (tree .entry)) ⌝ }
+    ensures { λ r. ⌜ refusalOf r ≡ treeRefusal (now (tree .entry)) ⌝ }
 {
-    let mut slot = Slot::Operator;
+    let mut field = Field::Operator;
     let mut variant = 0u32;
     let mut called = 1u32;
     let mut begun = 0u32;
     let mut i = 0usize;
     while i < tree.len() {
         let w = tree[i];
-        if !continues(slot, variant, called, begun, w) {
+        if !continues(field, variant, called, begun, w) {
             return Fault::At(i);
         }
-        variant = variant_after(slot, variant, w);
-        called = called_after(slot, called, w);
-        begun = begun_after(slot, begun);
-        slot = next(slot);
+        variant = variant_after(field, variant, w);
+        called = called_after(field, called, w);
+        begun = begun_after(field, begun);
+        field = next(field);
         i += 1;
     }
-    if is_whole(slot, called, begun) {
+    if is_whole(field, called, begun) {
         return Fault::Nowhere;
     }
     Fault::At(i)

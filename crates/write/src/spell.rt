@@ -1,35 +1,32 @@
 // The writing of a plain tree: each operator between or before its operands, copied as it came, with added pairs where an operand
-// needs them. `write_node` and `write_operand` call each other over the preorder words; each gives back the part of them that its
-// tree fills, so the next operand is known to start right after it. Leans on plain (places), ops and words.
-use crate::plain::Place;
+// needs them. `write_node` and `write_operand` call each other over the preorder words, the remaining node count falling; each gives
+// back the part of the words that its tree fills, so the next operand starts right after it. Leans on plain (seats), ops and words.
+use crate::plain::Seat;
 use crate::plain::is_paired;
-use crate::plain::place_of_left;
-use crate::plain::place_of_only;
-use crate::plain::place_of_right;
+use crate::plain::seat_of_left;
+use crate::plain::seat_of_only;
+use crate::plain::seat_of_right;
 use ops::op;
 use words::fields;
+use words::tokens::TokenWords;
 ghost use mathlib.Core.Path.{_≡_};
-ghost use mathlib.Core.List.{[], _∷_};
-ghost use Prim.Native.Nat.{_+_, _*_, _≤_};
-ghost use lib.ListN.{length, take};
-ghost use Rattle.molang.specs.Words.{listWords};
-ghost use Rattle.molang.specs.WriteEntry.{treesOf, writtenTokens};
+ghost use Prim.Native.Nat.{_+_, _≤_};
+ghost use lib.ListN.{length};
+ghost use Rattle.molang.specs.WriteEntry.{writtenTokens};
 ghost use Rattle.words.specs.Records.{laidAt};
-ghost use Rattle.write.specs.Spelling.{firstFive, bracketWords, closerWords, firstSize, operandOf, Room};
+ghost use Rattle.words.specs.Tokens.{fiveWords};
+ghost use Rattle.write.specs.Spelling.{firstFive, bracketWords, closerWords, operandOf, filledWords, nodeWritten, operandWritten};
+ghost use Rattle.write.specs.Spelling.{Room};
 
-// Puts a token's five words to the list's place `to`, which goes on behind them.
-fn put(list: &mut [u32], to: &mut usize, first: u32, start: u32, end: u32, upper: u32, lower: u32)
+// Puts a token's five words into the list from `to` on, and moves `to` behind them.
+fn put(list: &mut [u32], to: &mut usize, token: TokenWords)
     requires { ⌜ now to + 5 ≤ length (now list) ⌝ }
-    ensures { λ _. ⌜ now (list .exit) ≡ laidAt (now (to .entry)) (first ∷ start ∷ end ∷ upper ∷ lower ∷ []) (now (list .entry)) ⌝ }
+    ensures { λ _. ⌜ now (list .exit) ≡ laidAt (now (to .entry)) (fiveWords token) (now (list .entry)) ⌝ }
     ensures { λ _. ⌜ now (to .exit) ≡ now (to .entry) + 5 ⌝ }
 {
     let at = *to;
-    list[at] = first;
-    list[at + 1] = start;
-    list[at + 2] = end;
-    list[at + 3] = upper;
-    list[at + 4] = lower;
-    *to = at + 5;
+    token.lay(list, at);
+    *to = at + fields::TOKEN_WORDS;
 }
 
 // The token of the node that the words open with, as it came.
@@ -38,29 +35,21 @@ fn put_token(words: &[u32], list: &mut [u32], to: &mut usize)
     ensures { λ _. ⌜ now (list .exit) ≡ laidAt (now (to .entry)) (firstFive (now (words .entry))) (now (list .entry)) ⌝ }
     ensures { λ _. ⌜ now (to .exit) ≡ now (to .entry) + length (firstFive (now (words .entry))) ⌝ }
 {
-    put(list, to, words[0], words[1], words[2], words[3], words[4]);
+    put(list, to, TokenWords::at(words, 0));
 }
 
 // A bracket of op for the node that the words open with: the node's span, payload 0.
 fn put_bracket(op: u32, words: &[u32], list: &mut [u32], to: &mut usize)
-    requires { ⌜ (3 ≤ length (now words)) × (now to + 5 ≤ length (now list)) ⌝ }
+    requires { ⌜ (5 ≤ length (now words)) × (now to + 5 ≤ length (now list)) ⌝ }
     ensures { λ _. ⌜ now (list .exit) ≡ laidAt (now (to .entry)) (bracketWords op (now (words .entry))) (now (list .entry)) ⌝ }
     ensures { λ _. ⌜ now (to .exit) ≡ now (to .entry) + length (bracketWords op (now (words .entry))) ⌝ }
 {
-    put(
-        list,
-        to,
-        fields::operator_word(op),
-        words[1],
-        words[2],
-        fields::no_upper(),
-        fields::no_lower(),
-    );
+    put(list, to, TokenWords::at(words, 0).bare(op));
 }
 
 // The closer of the node that the words open with, if it is a bracket.
 fn put_closer(words: &[u32], list: &mut [u32], to: &mut usize)
-    requires { ⌜ (3 ≤ length (now words)) × (now to + length (closerWords (now words)) ≤ length (now list)) ⌝ }
+    requires { ⌜ (5 ≤ length (now words)) × (now to + length (closerWords (now words)) ≤ length (now list)) ⌝ }
     ensures { λ _. ⌜ now (list .exit) ≡ laidAt (now (to .entry)) (closerWords (now (words .entry))) (now (list .entry)) ⌝ }
     ensures { λ _. ⌜ now (to .exit) ≡ now (to .entry) + length (closerWords (now (words .entry))) ⌝ }
 {
@@ -72,17 +61,17 @@ fn put_closer(words: &[u32], list: &mut [u32], to: &mut usize)
 // Writes the tree that the words open with; gives back the words that it fills.
 pub fn write_node<'a>(words: &'a [u32], list: &mut [u32], to: &mut usize) -> &'a [u32]
     requires { ⌜ Room writtenTokens (now words) (now list) (now to) ⌝ }
-    ensures { λ r. ⌜ now r ≡ take (6 * firstSize (treesOf (now (words .entry)))) (now (words .entry)) ⌝ }
-    ensures { λ _. ⌜ now (list .exit) ≡ laidAt (now (to .entry)) (listWords (writtenTokens (treesOf (now (words .entry))))) (now (list .entry)) ⌝ }
-    ensures { λ _. ⌜ now (to .exit) ≡ now (to .entry) + length (listWords (writtenTokens (treesOf (now (words .entry))))) ⌝ }
+    ensures { λ r. ⌜ now r ≡ filledWords (now (words .entry)) ⌝ }
+    ensures { λ _. ⌜ now (list .exit) ≡ laidAt (now (to .entry)) (nodeWritten (now (words .entry))) (now (list .entry)) ⌝ }
+    ensures { λ _. ⌜ now (to .exit) ≡ now (to .entry) + length (nodeWritten (now (words .entry))) ⌝ }
 {
     let op = fields::operator(words[0]);
-    let children = fields::low(words[5]);
+    let children = fields::low(words[fields::COUNT_FIELD]);
     if children == 2 {
-        let left = write_operand(&words[fields::NODE_WORDS..], place_of_left(op), list, to);
+        let left = write_operand(&words[fields::NODE_WORDS..], seat_of_left(op), list, to);
         put_token(words, list, to);
         let next = fields::NODE_WORDS + left.len();
-        let right = write_operand(&words[next..], place_of_right(op), list, to);
+        let right = write_operand(&words[next..], seat_of_right(op), list, to);
         return &words[..next + right.len()];
     }
     put_token(words, list, to);
@@ -90,20 +79,24 @@ pub fn write_node<'a>(words: &'a [u32], list: &mut [u32], to: &mut usize) -> &'a
         put_closer(words, list, to);
         return &words[..fields::NODE_WORDS];
     }
-    let only = write_operand(&words[fields::NODE_WORDS..], place_of_only(op), list, to);
+    let only = write_operand(&words[fields::NODE_WORDS..], seat_of_only(op), list, to);
     put_closer(words, list, to);
     &words[..fields::NODE_WORDS + only.len()]
 }
 
-// Writes the tree that the words open with as an operand at its place, in an added pair if it needs one; gives back the words
+// Writes the tree that the words open with as an operand in its seat, in an added pair if it needs one; gives back the words
 // that it fills.
-fn write_operand<'a>(words: &'a [u32], place: Place, list: &mut [u32], to: &mut usize) -> &'a [u32]
-    requires { ⌜ Room (operandOf place) (now words) (now list) (now to) ⌝ }
-    ensures { λ r. ⌜ now r ≡ take (6 * firstSize (treesOf (now (words .entry)))) (now (words .entry)) ⌝ }
-    ensures { λ _. ⌜ now (list .exit) ≡ laidAt (now (to .entry)) (listWords ((operandOf place) (treesOf (now (words .entry))))) (now (list .entry)) ⌝ }
-    ensures { λ _. ⌜ now (to .exit) ≡ now (to .entry) + length (listWords ((operandOf place) (treesOf (now (words .entry))))) ⌝ }
+fn write_operand<'a>(words: &'a [u32], seat: Seat, list: &mut [u32], to: &mut usize) -> &'a [u32]
+    requires { ⌜ Room (operandOf seat) (now words) (now list) (now to) ⌝ }
+    ensures { λ r. ⌜ now r ≡ filledWords (now (words .entry)) ⌝ }
+    ensures { λ _. ⌜ now (list .exit) ≡ laidAt (now (to .entry)) (operandWritten seat (now (words .entry))) (now (list .entry)) ⌝ }
+    ensures { λ _. ⌜ now (to .exit) ≡ now (to .entry) + length (operandWritten seat (now (words .entry))) ⌝ }
 {
-    if !is_paired(place, fields::operator(words[0]), fields::low(words[5])) {
+    if !is_paired(
+        seat,
+        fields::operator(words[0]),
+        fields::low(words[fields::COUNT_FIELD]),
+    ) {
         return write_node(words, list, to);
     }
     put_bracket(op::LEFT_PARENTHESIS, words, list, to);

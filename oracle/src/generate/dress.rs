@@ -87,7 +87,7 @@ enum Spans {
 }
 
 impl Spans {
-    /// The span of the token at a place of so many, the last one having ended at `at`.
+    /// The span of one of so many tokens, by its index; the one before it ended at `at`.
     fn next(self, rng: &mut Rng, (place, count): (usize, usize), at: u32) -> (u32, u32) {
         let (place, length) = (place as u32, 1 + rng.below(5) as u32);
         match self {

@@ -3,11 +3,11 @@
 
 use std::collections::BTreeMap;
 
-/// A query's place among the caller's names.
+/// A query's index among the caller's names.
 #[derive(Copy, Clone, Debug, PartialEq, Eq)]
 pub struct QueryIndex(pub(crate) u32);
 
-/// A host math function's place among the caller's names.
+/// A host math function's index among the caller's names.
 #[derive(Copy, Clone, Debug, PartialEq, Eq)]
 pub struct MathRef(pub(crate) u32);
 

@@ -3,7 +3,7 @@
 //! The file is the eight bytes `SORBVEC1`, the number of records as four bytes (little-endian) and
 //! the records. A number is a varint: seven bits a byte, lowest first, the top bit set on all bytes
 //! but the last. A word of a list is kept as the number `word XOR (kind << 29)`, `kind` being the
-//! one that its place asks for (1 to 5 in turn); a word of a tree likewise (1 to 6 in turn).
+//! one that its field asks for (1 to 5 in turn); a word of a tree likewise (1 to 6 in turn).
 //!
 //! A record is
 //!
@@ -50,7 +50,7 @@ pub struct Malformed {
     pub at: usize,
 }
 
-/// The place of the file in the repository.
+/// Where the file stands in the repository.
 pub fn path() -> std::path::PathBuf {
     std::path::Path::new(env!("CARGO_MANIFEST_DIR")).join("../vectors/vectors.bin")
 }
@@ -86,7 +86,7 @@ fn put_words(bytes: &mut Vec<u8>, words: &[u32], kinds: usize) {
     }
 }
 
-/// The bits of the kind that a place asks for.
+/// The bits of the kind that a field asks for.
 fn word_kind(place: usize, kinds: usize) -> u32 {
     word((place % kinds) as u32 + 1, 0)
 }

@@ -1,24 +1,28 @@
--- `lines::run` is safe and ends. Assumes nothing.
+-- `lines::run` meets its contract: the numbers left fall. Assumes nothing.
 use Prim.Native.Nat.{_-_, _≤_}
-use mathlib.Core.Path.{_≡_, refl}
 use native.Mathlib.Omega.{arith}
-use lib.ListN.{length, drop, length-take, length-drop}
-use Rattle.lines.proofs.SaidLaws.{totals-length, differs-most}
-use borrow.Author.Needs.{needs}
+use lib.ListN.{length}
 use Rattle.lines.proofs.run.Statement.{statement}
 use Rattle.lines.proofs.run.Tie as tie
 
 abbrev Inv-loop : tie.InvT-loop
-Inv-loop lines out₀ at₀ count₀ others₀ out at count others = (at ≤ length lines) × (count ≤ at) × (others ≤ count) × (length out ≡ length out₀)
+Inv-loop numbers text at₀ from₀ count₀ others₀ at from count others =
+    (at ≤ length numbers) × (from ≤ length text) × (count ≤ at) × (others ≤ count)
 
 abbrev μ-loop : tie.MeasureT-loop
-μ-loop lines out₀ at₀ count₀ others₀ out at count others = length lines - at
+μ-loop numbers text at₀ from₀ count₀ others₀ at from count others = length numbers - at
 
 loop-holds : tie.Need-loop-holds Inv-loop μ-loop
-loop-holds c = (omega arith, omega arith, omega arith, refl)
+loop-holds c = omega arith
 
-line-end-requires : tie.Need-line-end-requires Inv-loop μ-loop
-line-end-requires c κs = omega arith
+add-next-mark : tie.Need-add-next-mark Inv-loop μ-loop
+add-next-mark c = omega arith
+
+next-mark-requires : tie.Need-next-mark-requires Inv-loop μ-loop
+next-mark-requires c κs = omega arith
+
+say-line-requires : tie.Need-say-line-requires Inv-loop μ-loop
+say-line-requires c κs = omega arith
 
 mul-run-line : tie.Need-mul-run-line Inv-loop μ-loop
 mul-run-line c = omega arith
@@ -33,20 +37,10 @@ part-run-line-end : tie.Need-part-run-line-end Inv-loop μ-loop
 part-run-line-end c = omega arith
 
 run-line-requires : tie.Need-run-line-requires Inv-loop μ-loop
-run-line-requires c κs =
-    let at = c .before .before .before .before .loop .at in
-    let lines = c .before .before .before .before .before .before .before .args .lines .now in
-    let size = c .before .before .line-end .result - at in
-    let long = length-take size (drop at lines) in (omega (arith, length-drop at lines), omega (arith, length-drop at lines), omega arith)
-
-say-requires : tie.Need-say-requires Inv-loop μ-loop
-say-requires c κs = omega arith
-
-difference-requires : tie.Need-difference-requires Inv-loop μ-loop
-difference-requires c κs = tt
+run-line-requires c κs = omega arith
 
 add-others : tie.Need-add-others Inv-loop μ-loop
-add-others c = omega (arith, c .difference .ensures, differs-most (c .before .before .before .before .before .run-line .result .verdict))
+add-others c = omega arith
 
 add-count : tie.Need-add-count Inv-loop μ-loop
 add-count c = omega arith
@@ -55,19 +49,10 @@ loop-less : tie.Need-loop-less Inv-loop μ-loop
 loop-less c = omega arith
 
 loop-again : tie.Need-loop-again Inv-loop μ-loop
-loop-again c =
-    let one = differs-most (c .before .before .before .before .before .run-line .result .verdict) in (omega arith, omega arith, omega (arith, c .difference .ensures), search needs)
+loop-again c = omega arith
 
-put-totals-requires : tie.Need-put-totals-requires Inv-loop μ-loop
-put-totals-requires c κs = omega arith
-
-say-requires-2 : tie.Need-say-requires-2 Inv-loop μ-loop
-say-requires-2 c κs =
-    let l = c .before .before .before .before .before .before .loop in
-    let w = c .before .before .before .put-totals .ensures in omega (arith, w .same, w .ends, totals-length (l .count) (l .others))
-
-same-length : tie.Need-same-length Inv-loop μ-loop
-same-length c = search needs
+say-totals-requires : tie.Need-say-totals-requires Inv-loop μ-loop
+say-totals-requires c κs = tt
 
 returns : tie.Need-returns Inv-loop μ-loop
 returns c = tt
@@ -79,19 +64,17 @@ run-spec =
     Inv-loop
     μ-loop
     loop-holds
-    line-end-requires
+    add-next-mark
+    next-mark-requires
+    say-line-requires
     mul-run-line
     sub-run-line
     part-run-line-start
     part-run-line-end
     run-line-requires
-    say-requires
-    difference-requires
     add-others
     add-count
     loop-less
     loop-again
-    put-totals-requires
-    say-requires-2
-    same-length
+    say-totals-requires
     returns)

@@ -12,9 +12,13 @@ use Rattle.molang.specs.Level.{Level, walk, Gathered, gathered, waiting}
 use Rattle.molang.specs.Binary.{firstLeaf, unfolded, joined, operatorAfter, binaryStep, binaryResume, binaryFinish, binaryLevel}
 use Rattle.molang.proofs.Booleans.{never, or-second}
 use Rattle.molang.proofs.Forests.{Turns}
-use Rattle.molang.proofs.RoundTrip.Role.{Role, aBracket, aComma, aQuestion, aColon, is, among, role, op-of-comma, op-of-question, op-of-colon}
-use Rattle.molang.proofs.RoundTrip.Expression.{Sort, Exp, empty, leaf, bracket, before, between, isOperand, isJoinedBy, leafRoles, prefixRoles, isLeaf, isPrefix, isJoining, isWhole, takes, joinsLeft, joinsRight, excepted, ahead, amid, form, also, turned-form}
-use Rattle.molang.proofs.RoundTrip.Walk.{walk-on, walk-into, Gathers, Carries, Passes, carry-both, carry-node, carry-token, carry-whole}
+use Rattle.molang.proofs.RoundTrip.Role.{Role, aBracket, aComma, aQuestion, aColon, is, among, role, op-of-comma, op-of-question}
+use Rattle.molang.proofs.RoundTrip.Role.{op-of-colon}
+use Rattle.molang.proofs.RoundTrip.Expression.{Sort, Exp, empty, leaf, bracket, before, between, isOperand, isJoinedBy, leafRoles}
+use Rattle.molang.proofs.RoundTrip.Expression.{prefixRoles, isLeaf, isPrefix, isJoining, isWhole, takes, joinsLeft, joinsRight}
+use Rattle.molang.proofs.RoundTrip.Expression.{excepted, ahead, amid, form, also, turned-form}
+use Rattle.molang.proofs.RoundTrip.Walk.{walk-on, walk-into, Gathers, Carries, Passes, carry-both, carry-node, carry-token}
+use Rattle.molang.proofs.RoundTrip.Walk.{carry-whole}
 
 -- When a level can come: its operators join operands and stand flat, and a `?` comes after its `:`.
 pub record Ready (σ : ℕ → Bool) (ops : List ℕ) : Type 0 where
@@ -69,18 +73,21 @@ module _ (σ : ℕ → Bool) (ops : List ℕ) (w : Ready σ ops) where
   unfolding binaryLevel binaryStep
   passes k q d = rw (q, binaryStep) refl
 
-  carry : (k : Token) (cs cs' : Forest) → isOneOf ops (k .op) ≡ false → walk level (gathered nil) cs ≡ ok cs' → Carried (node k cs) (node k cs')
+  carry : (k : Token) (cs cs' : Forest) → isOneOf ops (k .op) ≡ false → walk level (gathered nil) cs ≡ ok cs'
+      → Carried (node k cs) (node k cs')
   carry k cs cs' q e = carry-node level gathered anything gathers k cs cs' (passes k q) e
 
   -- An operator of the level takes the node before it and the node after it.
-  taken : (d : Forest) (l : Token) (ls : Forest) (k m : Token) (ms ms' r : Forest) → firstLeaf ops ls ≡ none → walk level (gathered nil) ms ≡ ok ms'
+  taken : (d : Forest) (l : Token) (ls : Forest) (k m : Token) (ms ms' r : Forest) → firstLeaf ops ls ≡ none
+      → walk level (gathered nil) ms ≡ ok ms'
       → walk level (waiting (node l ls d) k) (node m ms r) ≡ walk level (gathered (node k (node l ls (node m ms' nil)) d)) r
   unfolding binaryLevel binaryStep binaryResume binaryFinish unfolded joined walk inOrder turnedOnto
   taken d l ls k m nil ms' r c e =
       walk-on level (waiting (node l ls d) k) (gathered (joined (node l ls d) k m nil)) m nil r (rw (c, binaryStep) refl)
       ∙ ap (λ (c : Forest). walk level (gathered (node k (node l ls (node m c nil)) d)) r) (let n : ok nil ≡ ok ms' = e in cc)
   taken d l ls k m (node c cs rest) ms' r n e =
-      walk-into level (waiting (node l ls d) k) (waiting (node l ls d) k) (gathered nil) m (node c cs rest) ms' r (rw (n, binaryStep) refl) e
+      walk-into level (waiting (node l ls d) k) (waiting (node l ls d) k) (gathered nil) m (node c cs rest) ms' r
+      (rw (n, binaryStep) refl) e
 
   fold : (k : Token) (X X' Y Y' : Forest → Forest) → isOneOf ops (k .op) ≡ true → Carried X X' → After X' → Single Y Y'
       → Carried (amid false k X Y) (amid true k X' Y')
@@ -102,11 +109,13 @@ module _ (σ : ℕ → Bool) (ops : List ℕ) (w : Ready σ ops) where
   carry-ahead false false k X X' q n x = carry-token level gathered anything k X X' (passes k q) x
 
   carry-amid : (a b : Bool) (k : Token) (X X' Y Y' : Forest → Forest) → isOneOf ops (k .op) ≡ b → (b ≡ true → a ≡ false)
-      → Carried X X' → Turns X' → Carried Y Y' → (b ≡ true → After X') → (b ≡ true → Single Y Y') → Carried (amid a k X Y) (amid (a || b) k X' Y')
+      → Carried X X' → Turns X' → Carried Y Y' → (b ≡ true → After X') → (b ≡ true → Single Y Y')
+      → Carried (amid a k X Y) (amid (a || b) k X' Y')
   unfolding amid turnedOnto
   carry-amid true true k X X' Y Y' q n x t y s o = absurd (true≢false (n refl))
   carry-amid true false k X X' Y Y' q n x t y s o =
-      carry k (X (Y nil)) (X' (Y' nil)) q (whole (λ r. X (Y r)) (λ r. X' (Y' r)) (carry-both level gathered anything X X' Y Y' x y t (λ r f. refl)))
+      carry k (X (Y nil)) (X' (Y' nil)) q
+      (whole (λ r. X (Y r)) (λ r. X' (Y' r)) (carry-both level gathered anything X X' Y Y' x y t (λ r f. refl)))
   carry-amid false true k X X' Y Y' q n x t y s o = unfold amid in fold k X X' Y Y' q x (s refl) (o refl)
   carry-amid false false k X X' Y Y' q n x t y s o =
       carry-both level gathered anything X X' (λ r. node k nil (Y r)) (λ r. node k nil (Y' r)) x
@@ -118,7 +127,8 @@ module _ (σ : ℕ → Bool) (ops : List ℕ) (w : Ready σ ops) where
   skip k nil r q c = rw (q, firstLeaf) refl
   skip k (node c cs rest) r q n = rw (n, firstLeaf) refl
 
-  skip-node : (k c : Token) (cs rest r : Forest) → firstLeaf ops (node c cs rest) ≡ none → firstLeaf ops (node k (node c cs rest) r) ≡ firstLeaf ops r
+  skip-node : (k c : Token) (cs rest r : Forest) → firstLeaf ops (node c cs rest) ≡ none
+      → firstLeaf ops (node k (node c cs rest) r) ≡ firstLeaf ops r
   unfolding firstLeaf
   skip-node k c cs rest r n = rw (n, firstLeaf) refl
 
@@ -156,7 +166,8 @@ module _ (σ : ℕ → Bool) (ops : List ℕ) (w : Ready σ ops) where
   after-amid true k X Y h x y = record { label = k; inside = X (Y nil); becomes = λ r. refl; clean = x (Y nil) ∙ y nil ∙ none-left }
   after-amid false k X Y h x y = absurd (false≢true h)
 
-  single-amid : (a b : Bool) (k : Token) (X X' Y Y' : Forest → Forest) → a ≡ true → Carried X X' → Turns X' → Carried Y Y' → Clean X' → Clean Y'
+  single-amid : (a b : Bool) (k : Token) (X X' Y Y' : Forest → Forest) → a ≡ true → Carried X X' → Turns X' → Carried Y Y' → Clean X'
+      → Clean Y'
       → Single (amid a k X Y) (amid (a || b) k X' Y')
   unfolding amid Clean after-amid
   single-amid true b k X X' Y Y' h x t y c e = record {
@@ -175,21 +186,39 @@ module _ (σ : ℕ → Bool) (ops : List ℕ) (w : Ready σ ops) where
 
   folded-empty : Folded empty
   unfolding form Clean turnedOnto
-  folded-empty = record { carried = λ d r f. refl; clean = λ r. refl; after = λ h. absurd (false≢true h); single = λ h. absurd (false≢true h) }
+  folded-empty =
+      record {
+        carried = λ d r f. refl;
+        clean = λ r. refl;
+        after = λ h. absurd (false≢true h);
+        single = λ h. absurd (false≢true h);
+      }
 
   -- A leaf or a bracket k over x.
   operand : (k : Token) (x x' : Forest) → isOneOf ops (k .op) ≡ false → walk level (gathered nil) x ≡ ok x' → firstLeaf ops x' ≡ none
       → Single (node k x) (node k x')
-  operand k x x' q e c = record { after = record { label = k; inside = x'; becomes = λ r. refl; clean = c }; before = x; was = λ r. refl; walked = e }
+  operand k x x' q e c =
+      record {
+        after = record { label = k; inside = x'; becomes = λ r. refl; clean = c };
+        before = x;
+        was = λ r. refl;
+        walked = e;
+      }
 
   folded-leaf : (k : Token) (r : Role) (e : role (k .op) ≡ r) (l : isLeaf r ≡ true) → Folded (leaf k r e l)
   unfolding form Clean
   folded-leaf k r e l =
       let q = quiet (k .op) r e (among leafRoles (λ r. not (isJoining r)) refl r l) in
       let o = operand k nil nil q (gathers .begins) none-left in
-      record { carried = carry k nil nil q (gathers .begins); clean = λ r. skip k nil r q none-left; after = λ h. o .after; single = λ h. o }
+      record {
+        carried = carry k nil nil q (gathers .begins);
+        clean = λ r. skip k nil r q none-left;
+        after = λ h. o .after;
+        single = λ h. o;
+      }
 
-  folded-bracket : {s : Sort} (k : Token) (e : role (k .op) ≡ aBracket) (h : isWhole s ≡ true) (x : Exp s) → Folded x → Folded (bracket k e h x)
+  folded-bracket : {s : Sort} (k : Token) (e : role (k .op) ≡ aBracket) (h : isWhole s ≡ true) (x : Exp s) → Folded x
+      → Folded (bracket k e h x)
   unfolding form Clean
   folded-bracket k e h x i =
       let q = quiet (k .op) aBracket e refl in
@@ -202,7 +231,8 @@ module _ (σ : ℕ → Bool) (ops : List ℕ) (w : Ready σ ops) where
         single = λ h. o;
       }
 
-  folded-before : {s : Sort} (k : Token) (r : Role) (e : role (k .op) ≡ r) (p : isPrefix r ≡ true) (t : takes r s ≡ true) (x : Exp s) → Folded x
+  folded-before : {s : Sort} (k : Token) (r : Role) (e : role (k .op) ≡ r) (p : isPrefix r ≡ true) (t : takes r s ≡ true) (x : Exp s)
+      → Folded x
       → Folded (before k r e p t x)
   unfolding form also
   folded-before k r e p t x i =

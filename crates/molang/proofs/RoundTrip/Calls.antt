@@ -12,9 +12,14 @@ use Rattle.molang.specs.Level.{Level, walk, Gathered, gathered, waiting}
 use Rattle.molang.specs.Calls.{CallKind, queryOrLoop, math, calls, callLeaf, callStep, callResume, callFinish, callLevel}
 use Rattle.molang.proofs.Booleans.{either, or-only-first}
 use Rattle.molang.proofs.Forests.{Turns}
-use Rattle.molang.proofs.RoundTrip.Role.{Role, aBracket, aQuery, aLoop, aMathCall, is, isAmong, among, role, role-bracket, role-math, role-query, ruled-out}
-use Rattle.molang.proofs.RoundTrip.Expression.{Sort, nothing, atom, prefixed, bracketed, joinedBy, Exp, empty, leaf, bracket, before, between, isOperand, isBracketed, isFilled, isFilledBracket, leafRoles, prefixRoles, joiningRoles, isLeaf, isPrefix, isJoining, takes, ahead, amid, form, also, turned-form, Filled, filled-form}
-use Rattle.molang.proofs.RoundTrip.Walk.{walk-on, walk-into, walk-same, Gathers, Carries, Passes, carry-both, carry-node, carry-token, carry-whole}
+use Rattle.molang.proofs.RoundTrip.Role.{Role, aBracket, aQuery, aLoop, aMathCall, is, isAmong, among, role, role-bracket, role-math}
+use Rattle.molang.proofs.RoundTrip.Role.{role-query, ruled-out}
+use Rattle.molang.proofs.RoundTrip.Expression.{Sort, nothing, atom, prefixed, bracketed, joinedBy, Exp, empty, leaf, bracket, before}
+use Rattle.molang.proofs.RoundTrip.Expression.{between, isOperand, isBracketed, isFilled, isFilledBracket, leafRoles, prefixRoles}
+use Rattle.molang.proofs.RoundTrip.Expression.{joiningRoles, isLeaf, isPrefix, isJoining, takes, ahead, amid, form, also}
+use Rattle.molang.proofs.RoundTrip.Expression.{turned-form, Filled, filled-form}
+use Rattle.molang.proofs.RoundTrip.Walk.{walk-on, walk-into, walk-same, Gathers, Carries, Passes, carry-both, carry-node}
+use Rattle.molang.proofs.RoundTrip.Walk.{carry-token, carry-whole}
 
 -- When a call pass can come: its calls and all that joins operands still stand flat.
 pub record Uncalled (σ : ℕ → Bool) (kind : CallKind) : Type 0 where
@@ -34,7 +39,8 @@ fills math s = true
 abbrev callable : CallKind → Sort → Bool
 callable kind s = isBracketed s && fills kind s
 
-must-fill : (kind : CallKind) (s : Sort) → callable kind (bracketed s) ≡ true → callable kind (bracketed nothing) ≡ false → isFilled s ≡ true
+must-fill : (kind : CallKind) (s : Sort) → callable kind (bracketed s) ≡ true → callable kind (bracketed nothing) ≡ false
+    → isFilled s ≡ true
 must-fill queryOrLoop s h n = h
 must-fill math s h n = absurd (true≢false n)
 
@@ -78,7 +84,8 @@ module _ (kind : CallKind) where
   unfolding callLevel callStep callLeaf
   passes k q d = rw (q, callLeaf) refl
 
-  carry : (k : Token) (cs cs' : Forest) → calls kind (k .op) ≡ false → walk level (gathered nil) cs ≡ ok cs' → Carried (node k cs) (node k cs')
+  carry : (k : Token) (cs cs' : Forest) → calls kind (k .op) ≡ false → walk level (gathered nil) cs ≡ ok cs'
+      → Carried (node k cs) (node k cs')
   carry k cs cs' q e = carry-node level gathered noBracket gathers k cs cs' (passes k q) e
 
   -- A call token that waits takes the bracket.
@@ -122,10 +129,13 @@ settles k q d r f = walk-on (callLevel queryOrLoop) (gathered d) (waiting d k) k
         (rw (not-true (isBracket (b .op)) (unfold noBracket in f), callStep) refl)
 
 leaf-settles : (kind : CallKind) (k : Token) (r : Role) → role (k .op) ≡ r → isLeaf r ≡ true → Carried kind (node k nil) (node k nil)
-leaf-settles math k r e l = carry math k nil nil (ruled-out (calls math) (is aMathCall) role-math leafRoles refl (k .op) r e l) (gathers math .begins)
-leaf-settles queryOrLoop k r e l = either (calls queryOrLoop (k .op)) (settles k) (λ q. carry queryOrLoop k nil nil q (gathers queryOrLoop .begins))
+leaf-settles math k r e l =
+    carry math k nil nil (ruled-out (calls math) (is aMathCall) role-math leafRoles refl (k .op) r e l) (gathers math .begins)
+leaf-settles queryOrLoop k r e l =
+    either (calls queryOrLoop (k .op)) (settles k) (λ q. carry queryOrLoop k nil nil q (gathers queryOrLoop .begins))
 
-take-bracket : (kind : CallKind) (b : Token) (cs cs' : Forest) → isBracket (b .op) ≡ true → (callable kind (bracketed nothing) ≡ false → Filled cs)
+take-bracket : (kind : CallKind) (b : Token) (cs cs' : Forest) → isBracket (b .op) ≡ true
+    → (callable kind (bracketed nothing) ≡ false → Filled cs)
     → walk (callLevel kind) (gathered nil) cs ≡ ok cs' → Takes kind (node b cs) (node b cs')
 unfolding Takes callLevel callStep callResume callFinish walk inOrder turnedOnto
 take-bracket math b nil cs' h f e d k r =

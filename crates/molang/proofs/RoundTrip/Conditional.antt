@@ -11,12 +11,17 @@ use Rattle.molang.specs.Operator.{any, isOneOf}
 use Rattle.molang.specs.Forest.{Token, Forest, nil, node, turnedOnto, inOrder}
 use Rattle.molang.specs.Message.{ok}
 use Rattle.molang.specs.Level.{walk}
-use Rattle.molang.specs.Conditional.{isToken, startsWith, under, scan, foldedFrom, dangling, undangled, conditionalStep, conditionalFinish, conditionalLevel}
+use Rattle.molang.specs.Conditional.{isToken, startsWith, under, scan, foldedFrom, dangling, undangled, conditionalStep}
+use Rattle.molang.specs.Conditional.{conditionalFinish, conditionalLevel}
 use Rattle.molang.proofs.Booleans.{either, never}
 use Rattle.molang.proofs.Conditional.{scanned, scan-once, undangled-calm}
 use Rattle.molang.proofs.Forests.{Turns, inOrder-turned}
-use Rattle.molang.proofs.RoundTrip.Role.{Role, aBracket, aComma, aQuestion, aColon, is, is-same, isAmong, among, role, role-conditional, role-question, role-colon, op-of-question, op-of-colon}
-use Rattle.molang.proofs.RoundTrip.Expression.{Sort, nothing, atom, prefixed, bracketed, joinedBy, Exp, empty, leaf, bracket, before, between, isOperand, isJoinedBy, isWhole, leafRoles, prefixRoles, isLeaf, isPrefix, isJoining, takes, joinsLeft, joinsRight, excepted, operand-only, ahead, amid, form, also, turned-form, Solid, operand-solid, takes-operand}
+use Rattle.molang.proofs.RoundTrip.Role.{Role, aBracket, aComma, aQuestion, aColon, is, is-same, isAmong, among, role}
+use Rattle.molang.proofs.RoundTrip.Role.{role-conditional, role-question, role-colon, op-of-question, op-of-colon}
+use Rattle.molang.proofs.RoundTrip.Expression.{Sort, nothing, atom, prefixed, bracketed, joinedBy, Exp, empty, leaf, bracket, before}
+use Rattle.molang.proofs.RoundTrip.Expression.{between, isOperand, isJoinedBy, isWhole, leafRoles, prefixRoles, isLeaf, isPrefix}
+use Rattle.molang.proofs.RoundTrip.Expression.{isJoining, takes, joinsLeft, joinsRight, excepted, operand-only, ahead, amid, form}
+use Rattle.molang.proofs.RoundTrip.Expression.{also, turned-form, Solid, operand-solid, takes-operand}
 use Rattle.molang.proofs.RoundTrip.Walk.{Gathers, Carries, Passes, carry-both, carry-node, carry-token}
 
 abbrev pub conditionals : ℕ → Bool
@@ -86,7 +91,8 @@ question-token q cs c r = refl
 fold-question : (q hx : Token) (x : Forest) (hy : Token) (y : Forest) → eqb (q .op) Operator.conditional ≡ true
     → conditionalFinish (turnedOnto (node hx x (node q nil (node hy y nil))) nil) ≡ ok (node q (node hx x (node hy y nil)) nil)
 unfolding conditionalFinish turnedOnto foldedFrom
-fold-question q hx x hy y e = ap undangled folds ∙ undangled-calm (node q (node hx x (node hy y nil)) nil) (question-token q x hx (node hy y nil))
+fold-question q hx x hy y e =
+    ap undangled folds ∙ undangled-calm (node q (node hx x (node hy y nil)) nil) (question-token q x hx (node hy y nil))
   where
     folds : scan (node q nil (node hx x nil)) (node hy y nil) ≡ node q (node hx x (node hy y nil)) nil
     folds = unfold scan scanned startsWith isToken under in scan-step true (eqb (q .op) Operator.conditionalElse) false q nil hx x nil
@@ -129,7 +135,8 @@ data Right (M G : Forest → Forest) : Type 0 where
   one : (h : Token) (f : Forest) → ((r : Forest) → M r ≡ node h f r) → ((r : Forest) → G r ≡ node h f r) → Right M G
   two : (c : Token) → eqb (c .op) Operator.conditional ≡ false → eqb (c .op) Operator.conditionalElse ≡ true
       → (hy : Token) (y : Forest) (hz : Token) (z : Forest)
-      → ((r : Forest) → M r ≡ node hy y (node c nil (node hz z r))) → ((r : Forest) → G r ≡ node c (node hy y (node hz z nil)) r) → Right M G
+      → ((r : Forest) → M r ≡ node hy y (node c nil (node hz z r))) → ((r : Forest) → G r ≡ node c (node hy y (node hz z nil)) r)
+      → Right M G
 
 fold-right : (q hx : Token) (x : Forest) (M G : Forest → Forest) → eqb (q .op) Operator.conditional ≡ true → Right M G
     → conditionalFinish (turnedOnto (node hx x (node q nil (M nil))) nil) ≡ ok (node q (node hx x (G nil)) nil)
@@ -159,7 +166,8 @@ left-calm r nothing h = refl
 left-calm r atom h = refl
 left-calm r prefixed h = refl
 left-calm r (bracketed s) h = refl
-left-calm r (joinedBy q) h = ap (λ (q : Role). isCalm (joinedBy q)) (sym (is-same aComma q (and-eq-true-iff (is aComma q) (is aComma r) .0 h .0)))
+left-calm r (joinedBy q) h =
+    ap (λ (q : Role). isCalm (joinedBy q)) (sym (is-same aComma q (and-eq-true-iff (is aComma q) (is aComma r) .0 h .0)))
 
 module _ (σ : ℕ → Bool) (w : Unpaired σ) where
   abbrev σ' : ℕ → Bool
@@ -195,7 +203,8 @@ module _ (σ : ℕ → Bool) (w : Unpaired σ) where
   unfolding walk conditionalLevel
   finish F M g c e = c nil nil refl ∙ e
 
-  finish-calm : (F M : Forest → Forest) (g : Forest) → Carried F M → M nil ≡ g → dangling g ≡ none → walk conditionalLevel nil (F nil) ≡ ok g
+  finish-calm : (F M : Forest → Forest) (g : Forest) → Carried F M → M nil ≡ g → dangling g ≡ none
+      → walk conditionalLevel nil (F nil) ≡ ok g
   finish-calm F M g c e h = finish F M g c (ap (λ (f : Forest). conditionalFinish (turnedOnto f nil)) e ∙ calm-finish g h)
 
   record Calm (M G : Forest → Forest) : Type 0 where
@@ -239,10 +248,12 @@ module _ (σ : ℕ → Bool) (w : Unpaired σ) where
   paired-leaf : (k : Token) (r : Role) (e : role (k .op) ≡ r) (l : isLeaf r ≡ true) → Paired (leaf k r e l)
   unfolding mid form
   paired-leaf k r e l =
-      paired-operand (leaf k r e l) k nil nil (carry-node conditionalLevel gatheredIn anything gathers k nil nil (passes k) (gathers .begins))
+      paired-operand (leaf k r e l) k nil nil
+      (carry-node conditionalLevel gatheredIn anything gathers k nil nil (passes k) (gathers .begins))
       (λ r. refl) (λ r. refl) (calm-node k r e (among leafRoles isOther refl r l) nil)
 
-  paired-bracket : {s : Sort} (k : Token) (e : role (k .op) ≡ aBracket) (h : isWhole s ≡ true) (x : Exp s) → Paired x → Paired (bracket k e h x)
+  paired-bracket : {s : Sort} (k : Token) (e : role (k .op) ≡ aBracket) (h : isWhole s ≡ true) (x : Exp s) → Paired x
+      → Paired (bracket k e h x)
   unfolding mid form
   paired-bracket k e h x i =
       paired-operand (bracket k e h x) k (form σ x nil) (form σ' x nil)
@@ -255,7 +266,8 @@ module _ (σ : ℕ → Bool) (w : Unpaired σ) where
   carry-ahead true k X M x e = carry-node conditionalLevel gatheredIn anything gathers k (X nil) (M nil) (passes k) e
   carry-ahead false k X M x e = carry-token conditionalLevel gatheredIn anything k X M (passes k) x
 
-  calm-ahead : (a b : Bool) (k : Token) (M G : Forest → Forest) → b ≡ false → ((cs r : Forest) → dangling (node k cs r) ≡ dangling r) → Calm M G
+  calm-ahead : (a b : Bool) (k : Token) (M G : Forest → Forest) → b ≡ false → ((cs r : Forest) → dangling (node k cs r) ≡ dangling r)
+      → Calm M G
       → Calm (ahead a k M) (ahead (a || b) k G)
   unfolding ahead
   calm-ahead a true k M G n t c = absurd (true≢false n)
@@ -265,7 +277,8 @@ module _ (σ : ℕ → Bool) (w : Unpaired σ) where
   unconditional : (n : ℕ) (r : Role) → role n ≡ r → isOther r ≡ true → conditionals n ≡ false
   unconditional n r e h = role-conditional n ∙ ap (isAmong (aQuestion ∷ aColon ∷ [])) e ∙ not-true (isAmong (aQuestion ∷ aColon ∷ []) r) h
 
-  paired-before : {s : Sort} (k : Token) (r : Role) (e : role (k .op) ≡ r) (p : isPrefix r ≡ true) (t : takes r s ≡ true) (x : Exp s) → Paired x
+  paired-before : {s : Sort} (k : Token) (r : Role) (e : role (k .op) ≡ r) (p : isPrefix r ≡ true) (t : takes r s ≡ true) (x : Exp s)
+      → Paired x
       → Paired (before k r e p t x)
   unfolding mid form also
   paired-before {s} k r e p t x i =
@@ -283,7 +296,8 @@ module _ (σ : ℕ → Bool) (w : Unpaired σ) where
             (calm .stays nil) (calm .free nil ∙ none-left);
       }
 
-  carry-amid : (a : Bool) (k : Token) (X M G Y N H : Forest → Forest) → Carried X M → Calm M G → Turns G → Carried Y N → (a ≡ true → Calm N H)
+  carry-amid : (a : Bool) (k : Token) (X M G Y N H : Forest → Forest) → Carried X M → Calm M G → Turns G → Carried Y N
+      → (a ≡ true → Calm N H)
       → Carried (amid a k X Y) (amid a k M N)
   unfolding amid
   carry-amid true k X M G Y N H x c t y d =
@@ -296,7 +310,8 @@ module _ (σ : ℕ → Bool) (w : Unpaired σ) where
       carry-both conditionalLevel gatheredIn anything X M (λ r. node k nil (Y r)) (λ r. node k nil (N r)) x
       (carry-token conditionalLevel gatheredIn anything k Y N (passes k) y) (turns-mid M G c t) (λ r f. refl)
 
-  calm-amid : (a b : Bool) (k : Token) (M G N H : Forest → Forest) → b ≡ false → ((cs r : Forest) → dangling (node k cs r) ≡ dangling r) → Calm M G
+  calm-amid : (a b : Bool) (k : Token) (M G N H : Forest → Forest) → b ≡ false → ((cs r : Forest) → dangling (node k cs r) ≡ dangling r)
+      → Calm M G
       → Calm N H
       → Calm (amid a k M N) (amid (a || b) k G H)
   unfolding amid
@@ -349,11 +364,13 @@ module _ (σ : ℕ → Bool) (w : Unpaired σ) where
       let left = i .calm (left-calm r s l) in
       let solid : is aComma r ≡ false → Solid (form σ' x) = λ f. operand-solid σ' x
       (operand-only (isOperand s) (isJoinedBy aComma s) (is aComma r) f l) in
-      let operand : is aQuestion r ≡ false → isOperand t ≡ true = λ q. operand-only (isOperand t) (isJoinedBy aColon t) (is aQuestion r) q m in
+      let operand : is aQuestion r ≡ false → isOperand t ≡ true =
+      λ q. operand-only (isOperand t) (isJoinedBy aColon t) (is aQuestion r) q m in
       let c = carry-amid (σ (k .op)) k (form σ x) (mid x) (form σ' x) (form σ y) (mid y) (form σ' y) (i .carried) left (turned-form σ' x) (n .carried)
       (λ h. n .calm (operand-calm t (operand (folded-other (k .op) r e h)))) in
       let calm : isOther r ≡ true → Calm (amid (σ (k .op)) k (mid x) (mid y)) (amid (σ' (k .op)) k (form σ' x) (form σ' y)) = λ h.
-      calm-amid (σ (k .op)) (conditionals (k .op)) k (mid x) (form σ' x) (mid y) (form σ' y) (unconditional (k .op) r e h) (calm-node k r e h) left
+      calm-amid (σ (k .op)) (conditionals (k .op)) k (mid x) (form σ' x) (mid y) (form σ' y) (unconditional (k .op) r e h)
+      (calm-node k r e h) left
       (n .calm (operand-calm t (operand (other-neither (is aQuestion r) (is aColon r) h .0)))) in
       record {
         carried = c;
@@ -364,11 +381,13 @@ module _ (σ : ℕ → Bool) (w : Unpaired σ) where
             let f : isOperand t ≡ true = operand (ap (is aQuestion) (sym p)) in
             colon-right (σ (k .op)) (conditionals (k .op)) k (mid x) (form σ' x) (mid y) (form σ' y) (ap σ o ∙ w .colon)
             (conditional-op (k .op) Operator.conditionalElse o refl)
-            (ap (λ (n : ℕ). eqb n Operator.conditional) o) (ap (λ (n : ℕ). eqb n Operator.conditionalElse) o) left (solid (ap (is aComma) (sym p)))
+            (ap (λ (n : ℕ). eqb n Operator.conditional) o) (ap (λ (n : ℕ). eqb n Operator.conditionalElse) o) left
+            (solid (ap (is aComma) (sym p)))
             (n .calm (operand-calm t f)) (operand-solid σ' y f);
         whole = λ h. either (is aQuestion r)
             (λ q. let o = op-of-question (k .op) r e q in
-            question-whole (σ (k .op)) (conditionals (k .op)) k (form σ x) (mid x) (form σ' x) (form σ y) (mid y) (form σ' y) (ap σ o ∙ w .question)
+            question-whole (σ (k .op)) (conditionals (k .op)) k (form σ x) (mid x) (form σ' x) (form σ y) (mid y) (form σ' y)
+            (ap σ o ∙ w .question)
             (conditional-op (k .op) Operator.conditional o refl) (ap (λ (n : ℕ). eqb n Operator.conditional) o) c left
             (solid (ap (is aComma) (sym (is-same aQuestion r q))))
             (n .right (rw (and-true (isJoinedBy aColon t)) at (excepted (isOperand t) (isJoinedBy aColon t) (is aQuestion r) true m (λ h. refl)))))
@@ -384,5 +403,6 @@ module _ (σ : ℕ → Bool) (w : Unpaired σ) where
   paired (before k r e p t x) = paired-before k r e p t x (paired x)
   paired (between k r e j l m x y) = paired-between k r e j l m x y (paired x) (paired y)
 
-  pub conditional-pass : {s : Sort} (e : Exp s) → isWhole s ≡ true → walk conditionalLevel nil (form σ e nil) ≡ ok (form (also σ conditionals) e nil)
+  pub conditional-pass : {s : Sort} (e : Exp s) → isWhole s ≡ true
+      → walk conditionalLevel nil (form σ e nil) ≡ ok (form (also σ conditionals) e nil)
   conditional-pass e h = paired e .whole h

@@ -1,6 +1,6 @@
--- Computed examples. That demand 3 is not empty: a list with three different trees at 4, 5 and 6, each of which is plain and, once written, is
--- read alike at all three. And what demand 3 alone would not notice, since it would change both of its sides: how a tree is written, and which
--- brackets are taken away.
+-- Computed examples. That demand 3 is not empty: a list with three different trees at 4, 5 and 6, each of which is plain and, once written,
+-- is read alike at all three. And what demand 3 alone would not notice, since it would change both of its sides: how a tree is written, and
+-- which brackets are taken away.
 use Prim.Native.Nat.{ℕ, _+_}
 use mathlib.Core.Path.{_≡_, refl, ap}
 use mathlib.Core.List.{List, [], _∷_}

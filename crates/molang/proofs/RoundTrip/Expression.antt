@@ -1,5 +1,6 @@
--- Bracketed expressions: the trees whose operands are leaves and brackets, up to the two exceptions of document 01 (a comma left of a comma,
--- the `:` right of its `?`). Writing a plain tree spells such an expression (Spelling), each pass of reading folds some of its operators.
+-- Bracketed expressions: the trees whose operands are leaves and brackets, up to the two exceptions of document 01 (a comma left of a
+-- comma, the `:` right of its `?`). Writing a plain tree spells such an expression (Spelling), each pass of reading folds some of its
+-- operators.
 use Prim.Native.Nat.{ℕ}
 use mathlib.Core.Path.{_≡_, refl, ap, sym, _∙_}
 use mathlib.Core.Bool.{Bool, true, false, _||_, _&&_, not, false≢true, and-false}
@@ -7,10 +8,11 @@ use mathlib.Core.List.{List, [], _∷_}
 use Rattle.molang.specs.Forest.{Token, Forest, nil, node, turnedOnto}
 use Rattle.molang.specs.Write.{closerFor}
 use Rattle.molang.proofs.Forests.{Turns}
-use Rattle.molang.proofs.RoundTrip.Role.{Role, aLeaf, aQuery, aMathCall, aBracket, aMinus, aNot, aBinary, aComma, aQuestion, aColon, is, isAmong, role}
+use Rattle.molang.proofs.RoundTrip.Role.{Role, aLeaf, aQuery, aMathCall, aBracket, aMinus, aNot, aBinary, aComma, aQuestion, aColon}
+use Rattle.molang.proofs.RoundTrip.Role.{is, isAmong, role}
 
--- What an expression's list looks like from outside: nothing at all, a leaf, a bracket and what stands in it, an operator before its operand,
--- operands joined by an operator of some role.
+-- What an expression's list looks like from outside: nothing at all, a leaf, a bracket and what stands in it, an operator before its
+-- operand, operands joined by an operator of some role.
 pub data Sort : Type 0 where
   nothing atom prefixed : Sort
   bracketed : Sort → Sort
@@ -99,7 +101,8 @@ pub data Exp : Sort → Type 0 where
   leaf : (k : Token) (r : Role) → role (k .op) ≡ r → isLeaf r ≡ true → Exp atom
   bracket : {s : Sort} (k : Token) → role (k .op) ≡ aBracket → isWhole s ≡ true → Exp s → Exp (bracketed s)
   before : {s : Sort} (k : Token) (r : Role) → role (k .op) ≡ r → isPrefix r ≡ true → takes r s ≡ true → Exp s → Exp prefixed
-  between : {s t : Sort} (k : Token) (r : Role) → role (k .op) ≡ r → isJoining r ≡ true → joinsLeft r s ≡ true → joinsRight r t ≡ true → Exp s
+  between : {s t : Sort} (k : Token) (r : Role) → role (k .op) ≡ r → isJoining r ≡ true → joinsLeft r s ≡ true → joinsRight r t ≡ true
+      → Exp s
       → Exp t → Exp (joinedBy r)
 
 -- The tokens of an expression, before those of r.

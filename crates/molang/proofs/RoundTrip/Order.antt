@@ -1,5 +1,5 @@
--- All passes in their order, gated by the operators of an expression's own tokens: its tokens are read to its tree, under every order that a
--- version can ask for. A pass says which operators it folds and when it can come; that each order is in order is computed.
+-- All passes in their order, gated by the operators of an expression's own tokens: its tokens are read to its tree, under every order that
+-- a version can ask for. A pass says which operators it folds and when it can come; that each order is in order is computed.
 use Prim.Native.Nat.{ℕ, _<_}
 use mathlib.Core.Path.{_≡_, refl, ap, sym, _∙_, fun-ext}
 use mathlib.Core.Bool.{Bool, true, false, _||_, _&&_, not, true≢false, false≢true, and-eq-true-iff, or-false}
@@ -17,13 +17,17 @@ use Rattle.molang.specs.Level as Levels
 use Rattle.molang.specs.Calls.{CallKind, queryOrLoop, math, calls, callLevel}
 use Rattle.molang.specs.Binary.{binaryLevel}
 use Rattle.molang.specs.Conditional.{conditionalLevel}
-use Rattle.molang.specs.Order.{Rules, Pass, lastToken, memberAccessors, sectioning, callPass, statements, arrays, pointer, mathCalls, unaryMinusAndNot, addition, ternary, returns, binary, order, someBelow, runs, apply}
+use Rattle.molang.specs.Order.{Rules, Pass, lastToken, memberAccessors, sectioning, callPass, statements, arrays, pointer, mathCalls}
+use Rattle.molang.specs.Order.{unaryMinusAndNot, addition, conditional, returns, binary, order, someBelow, runs, apply}
 use Rattle.molang.specs.Read.{rooted, grouped, uses}
 use Rattle.molang.specs.Write.{closerFor}
 use Rattle.molang.proofs.Booleans.{either, never, or-first, or-second, or-neither, or-only-first}
 use Rattle.molang.proofs.Computed.{computed}
-use Rattle.molang.proofs.RoundTrip.Role.{Role, aQuery, aMathCall, aBracket, aCloser, aMinus, aNot, aLoop, another, is, is-same, isUnwritten, isAmong, among, role, role-above, none-below, role-bracket, role-query, role-math, role-prefix}
-use Rattle.molang.proofs.RoundTrip.Expression.{Sort, Exp, empty, leaf, bracket, before, between, isWhole, leafRoles, prefixRoles, joiningRoles, isPrefix, isJoining, tokens, ahead, amid, form, also}
+use Rattle.molang.proofs.RoundTrip.Role.{Role, aQuery, aMathCall, aBracket, aCloser, aMinus, aNot, aLoop, another, is, is-same}
+use Rattle.molang.proofs.RoundTrip.Role.{isUnwritten, isAmong, among, role, role-above, none-below, role-bracket, role-query}
+use Rattle.molang.proofs.RoundTrip.Role.{role-math, role-prefix}
+use Rattle.molang.proofs.RoundTrip.Expression.{Sort, Exp, empty, leaf, bracket, before, between, isWhole, leafRoles, prefixRoles}
+use Rattle.molang.proofs.RoundTrip.Expression.{joiningRoles, isPrefix, isJoining, tokens, ahead, amid, form, also}
 use Rattle.molang.proofs.RoundTrip.Sections.{nothingYet, section-pass}
 use Rattle.molang.proofs.RoundTrip.Calls.{Uncalled, call-pass}
 use Rattle.molang.proofs.RoundTrip.Unary.{prefixes, unary-pass}
@@ -42,7 +46,7 @@ folds pointer n = isOneOf (Operator.pointer ∷ []) n
 folds mathCalls n = calls math n
 folds unaryMinusAndNot n = prefixes n
 folds addition n = isOneOf (Operator.add ∷ []) n
-folds ternary n = conditionals n
+folds conditional n = conditionals n
 folds returns n = false
 folds (binary ops) n = isOneOf ops n
 
@@ -77,7 +81,8 @@ isForeign : ℕ → Bool
 isForeign n = isUnwritten (role n)
 
 flatJoining : (ℕ → Bool) → List ℕ → Bool
-flatJoining σ ops = each (λ n. isJoining (role n) && not (σ n)) ops && (not (isOneOf ops Operator.conditional) || σ Operator.conditionalElse)
+flatJoining σ ops =
+    each (λ n. isJoining (role n) && not (σ n)) ops && (not (isOneOf ops Operator.conditional) || σ Operator.conditionalElse)
 
 -- The pass can come where the operators of σ are folded, or has nothing to do.
 ready : (ℕ → Bool) → Pass → Bool
@@ -91,7 +96,7 @@ ready σ pointer = true
 ready σ mathCalls = below (λ n. not (σ n) || not (calls math n || isJoining (role n)))
 ready σ unaryMinusAndNot = below (λ n. not (σ n) || not (prefixes n))
 ready σ addition = flatJoining σ (Operator.add ∷ [])
-ready σ ternary = not (σ Operator.conditional) && not (σ Operator.conditionalElse)
+ready σ conditional = not (σ Operator.conditional) && not (σ Operator.conditionalElse)
 ready σ returns = true
 ready σ (binary ops) = each isForeign ops || flatJoining σ ops
 
@@ -169,7 +174,8 @@ within u (between k _ _ _ _ _ x y) r h =
 skip : (n : ℕ) (k : Token) (r : Role) (ks : List Token) → isUnwritten (role n) ≡ true → role (k .op) ≡ r → not (isUnwritten r) ≡ true
     → uses (k ∷ ks) n ≡ uses ks n
 unfolding uses
-skip n k r ks h e q = rw (ne-eqb (k .op) n (λ p. true≢false (sym h ∙ ap (λ (n : ℕ). isUnwritten (role n)) (sym p) ∙ ap isUnwritten e ∙ not-true
+skip n k r ks h e q =
+    rw (ne-eqb (k .op) n (λ p. true≢false (sym h ∙ ap (λ (n : ℕ). isUnwritten (role n)) (sym p) ∙ ap isUnwritten e ∙ not-true
     (isUnwritten r) q))) refl
 
 closer-role : (k : Token) → role (closerFor k .op) ≡ aCloser
@@ -183,7 +189,8 @@ foreign n h (leaf k q e l) r = skip n k q r h e (among leafRoles (λ r. not (isU
 foreign n h (bracket k e w x) r = skip n k aBracket _ h e refl ∙ foreign n h x (closerFor k ∷ r)
     ∙ skip n (closerFor k) aCloser r h (closer-role k) refl
 foreign n h (before k q e p t x) r = skip n k q _ h e (among prefixRoles (λ r. not (isUnwritten r)) refl q p) ∙ foreign n h x r
-foreign n h (between k q e j l m x y) r = foreign n h x (k ∷ tokens y r) ∙ skip n k q _ h e (among joiningRoles (λ r. not (isUnwritten r)) refl q j)
+foreign n h (between k q e j l m x y) r =
+    foreign n h x (k ∷ tokens y r) ∙ skip n k q _ h e (among joiningRoles (λ r. not (isUnwritten r)) refl q j)
     ∙ foreign n h y r
 
 -- Operators that the expression does not have are folded or not, it is the same.
@@ -203,7 +210,8 @@ agree u σ o a (between k _ _ _ _ _ x y) w r =
 abbrev pub everything : ℕ → Bool
 everything n = true
 
-finished : (σ : ℕ → Bool) → ((n : ℕ) (r : Role) → role n ≡ r → (isPrefix r || isJoining r) ≡ true → σ n ≡ true) → {s : Sort} (e : Exp s) (r : Forest)
+finished : (σ : ℕ → Bool) → ((n : ℕ) (r : Role) → role n ≡ r → (isPrefix r || isJoining r) ≡ true → σ n ≡ true)
+    → {s : Sort} (e : Exp s) (r : Forest)
     → form σ e r ≡ form everything e r
 unfolding form
 finished σ a empty r = refl
@@ -212,7 +220,8 @@ finished σ a (bracket k _ _ x) r = ap (λ (f : Forest). node k f r) (finished �
 finished σ a (before k q e p t x) r =
     rw (a (k .op) q e (or-first (isPrefix q) (isJoining q) p)) (ap (λ (X : Forest → Forest). ahead true k X r) (fun-ext (finished σ a x)))
 finished σ a (between k q e j l m x y) r =
-    rw (a (k .op) q e (or-second (isPrefix q) (isJoining q) j)) (λ i. amid true k (fun-ext (finished σ a x) i) (fun-ext (finished σ a y) i) r)
+    rw (a (k .op) q e (or-second (isPrefix q) (isJoining q) j))
+    (λ i. amid true k (fun-ext (finished σ a x) i) (fun-ext (finished σ a y) i) r)
 
 -- A list with no bracket is its own section list.
 bracketless : (u : ℕ → Bool) → u Operator.leftParenthesis ≡ false → {s : Sort} (e : Exp s) → Within u e → (r : List Token)
@@ -233,10 +242,12 @@ any-off u (o ∷ os) h n t =
     let parts = or-neither (u o) (any u os) h in
     rw (ne-eqb n o (λ p. true≢false (sym t ∙ ap u p ∙ parts .0))) (any-off u os (parts .1) n t)
 
-any-foreign : (u : ℕ → Bool) → ((n : ℕ) → isUnwritten (role n) ≡ true → u n ≡ false) → (ops : List ℕ) → each isForeign ops ≡ true → any u ops ≡ false
+any-foreign : (u : ℕ → Bool) → ((n : ℕ) → isUnwritten (role n) ≡ true → u n ≡ false) → (ops : List ℕ) → each isForeign ops ≡ true
+    → any u ops ≡ false
 unfolding any each isForeign
 any-foreign u f [] h = refl
-any-foreign u f (o ∷ os) h = let b = and-eq-true-iff (isUnwritten (role o)) (each isForeign os) .0 h in rw (f o (b .0)) (any-foreign u f os (b .1))
+any-foreign u f (o ∷ os) h =
+    let b = and-eq-true-iff (isUnwritten (role o)) (each isForeign os) .0 h in rw (f o (b .0)) (any-foreign u f os (b .1))
 
 any-on : (u : ℕ → Bool) (ops : List ℕ) (o : ℕ) → u o ≡ true → isOneOf ops o ≡ true → any u ops ≡ true
 any-on u ops o t m = either (any u ops) (λ h. h) (λ h. absurd (true≢false (sym m ∙ any-off u ops h o t)))
@@ -244,9 +255,11 @@ any-on u ops o t m = either (any u ops) (λ h. h) (λ h. absurd (true≢false (s
 -- An operator that a test tells by its role plays one.
 plays-told : (test : ℕ → Bool) (told : Role → Bool) → ((n : ℕ) → test n ≡ told (role n)) → told another ≡ false → (n : ℕ) → test n ≡ true
     → is another (role n) ≡ false
-plays-told test told law o n h = never (is another (role n)) (λ p. true≢false (sym h ∙ law n ∙ ap told (sym (is-same another (role n) p)) ∙ o))
+plays-told test told law o n h =
+    never (is another (role n)) (λ p. true≢false (sym h ∙ law n ∙ ap told (sym (is-same another (role n) p)) ∙ o))
 
-final : (c a p : Bool) (n : ℕ) (r : Role) → role n ≡ r → (isPrefix r || isJoining r) ≡ true → afterAll nothingYet (laterPasses (ruled c a p)) n ≡ true
+final : (c a p : Bool) (n : ℕ) (r : Role) → role n ≡ r → (isPrefix r || isJoining r) ≡ true
+    → afterAll nothingYet (laterPasses (ruled c a p)) n ≡ true
 unfolding foldable
 final c a p n r e h =
     let f : foldable (role n) ≡ true = ap foldable e ∙ h in
@@ -302,7 +315,7 @@ module _ {s : Sort} (e : Exp s) (w : isWhole s ≡ true) where
   left-out mathCalls h n t = no-math h n t
   left-out unaryMinusAndNot h n t = any-off u (Operator.negate ∷ Operator.logicalNot ∷ []) h n t
   left-out addition h n t = any-off u (Operator.add ∷ []) (unfold any in or-neither (u Operator.negate) (u Operator.add || false) h .1) n t
-  left-out ternary h n t = any-off u (Operator.conditional ∷ Operator.conditionalElse ∷ []) h n t
+  left-out conditional h n t = any-off u (Operator.conditional ∷ Operator.conditionalElse ∷ []) h n t
   left-out returns h n t = refl
   left-out (binary ops) h n t = any-off u ops h n t
 
@@ -323,8 +336,10 @@ module _ {s : Sort} (e : Exp s) (w : isWhole s ≡ true) where
       }
 
   -- What is told of every operator, of those that a test finds.
-  not-yet : (σ test : ℕ → Bool) → below (λ n. not (σ n) || not (test n)) ≡ true → (n : ℕ) → is another (role n) ≡ false → test n ≡ true → σ n ≡ false
-  not-yet σ test h n p t = not-true (σ n) (or-only-first (not (σ n)) (not (test n)) (ap not t) (below-all (λ n. not (σ n) || not (test n)) h n p))
+  not-yet : (σ test : ℕ → Bool) → below (λ n. not (σ n) || not (test n)) ≡ true → (n : ℕ) → is another (role n) ≡ false → test n ≡ true
+      → σ n ≡ false
+  not-yet σ test h n p t =
+      not-true (σ n) (or-only-first (not (σ n)) (not (test n)) (ap not t) (below-all (λ n. not (σ n) || not (test n)) h n p))
 
   plays-call : (kind : CallKind) (n : ℕ) → calls kind n ≡ true → is another (role n) ≡ false
   plays-call queryOrLoop = plays-told (calls queryOrLoop) (isAmong (aQuery ∷ aLoop ∷ [])) role-query refl
@@ -335,8 +350,11 @@ module _ {s : Sort} (e : Exp s) (w : isWhole s ≡ true) where
 
   uncalled : (σ : ℕ → Bool) (kind : CallKind) → below (λ n. not (σ n) || not (calls kind n || isJoining (role n))) ≡ true → Uncalled σ kind
   uncalled σ kind h = record {
-    flat = λ n c. not-yet σ (λ n. calls kind n || isJoining (role n)) h n (plays-call kind n c) (or-first (calls kind n) (isJoining (role n)) c);
-    unjoined = λ n j. not-yet σ (λ n. calls kind n || isJoining (role n)) h n (plays-told (λ n. isJoining (role n)) isJoining (λ n. refl) refl n j)
+    flat =
+        λ n c.
+        not-yet σ (λ n. calls kind n || isJoining (role n)) h n (plays-call kind n c) (or-first (calls kind n) (isJoining (role n)) c);
+    unjoined =
+        λ n j. not-yet σ (λ n. calls kind n || isJoining (role n)) h n (plays-told (λ n. isJoining (role n)) isJoining (λ n. refl) refl n j)
         (or-second (calls kind n) (isJoining (role n)) j);
   }
 
@@ -353,7 +371,7 @@ module _ {s : Sort} (e : Exp s) (w : isWhole s ≡ true) where
   applied len mathCalls σ r h = call-pass σ math (uncalled σ math r) e
   applied len unaryMinusAndNot σ r h = unary-pass σ (record { flat = λ n p. not-yet σ prefixes r n (plays-prefix n p) p }) e
   applied len addition σ r h = binary-pass σ (Operator.add ∷ []) (flat-binary σ (Operator.add ∷ []) r) e
-  applied len ternary σ r h =
+  applied len conditional σ r h =
       let parts = and-eq-true-iff (not (σ Operator.conditional)) (not (σ Operator.conditionalElse)) .0 r in
       conditional-pass σ (record {
         question = not-true (σ Operator.conditional) (parts .0);
@@ -363,7 +381,8 @@ module _ {s : Sort} (e : Exp s) (w : isWhole s ≡ true) where
   applied len returns σ r h = none-foreign (Operator.return ∷ []) (unfold each isForeign computed role in refl) h
   applied len (binary ops) σ r h = split (each isForeign ops) refl
     where
-      split : (b : Bool) → each isForeign ops ≡ b → walk (binaryLevel ops) (gathered nil) (form σ e nil) ≡ ok (form (also σ (isOneOf ops)) e nil)
+      split : (b : Bool) → each isForeign ops ≡ b
+          → walk (binaryLevel ops) (gathered nil) (form σ e nil) ≡ ok (form (also σ (isOneOf ops)) e nil)
       split true f = none-foreign ops f h
       split false f = binary-pass σ ops (flat-binary σ ops (rw f at r)) e
 
@@ -389,7 +408,8 @@ module _ {s : Sort} (e : Exp s) (w : isWhole s ≡ true) where
   unfolding grouped
   skipped len p ps f h = rw (h, grouped) refl
 
-  sectioned : (sourceLength : ℕ) (ps : List Pass) → grouped sourceLength u (sectioning ∷ ps) [] (leaves (tokens e [])) ≡ grouped sourceLength u ps []
+  sectioned : (sourceLength : ℕ) (ps : List Pass)
+      → grouped sourceLength u (sectioning ∷ ps) [] (leaves (tokens e [])) ≡ grouped sourceLength u ps []
       (form nothingYet e nil)
   unfolding grouped apply
   sectioned len ps = split (runs u sectioning) refl

@@ -148,7 +148,8 @@ role-prefix =
     by-role (isOneOf (Operator.negate ∷ Operator.logicalNot ∷ [])) (isAmong (aMinus ∷ aNot ∷ [])) refl
     (λ n l. rw (not-one 6 (lit< tt) n l, not-one 7 (lit< tt) n l) refl)
 
-pub role-conditional : (n : ℕ) → isOneOf (Operator.conditional ∷ Operator.conditionalElse ∷ []) n ≡ isAmong (aQuestion ∷ aColon ∷ []) (role n)
+pub role-conditional : (n : ℕ)
+    → isOneOf (Operator.conditional ∷ Operator.conditionalElse ∷ []) n ≡ isAmong (aQuestion ∷ aColon ∷ []) (role n)
 unfolding computed role
 role-conditional =
     by-role (isOneOf (Operator.conditional ∷ Operator.conditionalElse ∷ [])) (isAmong (aQuestion ∷ aColon ∷ [])) refl
@@ -225,7 +226,8 @@ role-single =
     (λ n l. rw (not-one 4 (lit< tt) n l, not-one 6 (lit< tt) n l, not-one 7 (lit< tt) n l) refl)
 
 -- A test that a role tells fails of every operator whose role it does not tell.
-pub ruled-out : (test : ℕ → Bool) (told : Role → Bool) → ((n : ℕ) → test n ≡ told (role n)) → (rs : List Role) → allOf (λ r. not (told r)) rs ≡ true
+pub ruled-out : (test : ℕ → Bool) (told : Role → Bool) → ((n : ℕ) → test n ≡ told (role n)) → (rs : List Role)
+    → allOf (λ r. not (told r)) rs ≡ true
     → (n : ℕ) (r : Role) → role n ≡ r → isAmong rs r ≡ true → test n ≡ false
 ruled-out test told law rs h n r e m = law n ∙ ap told e ∙ not-true (told r) (among rs (λ r. not (told r)) h r m)
 

@@ -15,7 +15,8 @@ use Rattle.molang.specs.Sections as Definition
 use Rattle.molang.specs.Write.{closerFor}
 use Rattle.molang.proofs.Forests.{Turns, inOrder-turned}
 use Rattle.molang.proofs.RoundTrip.Role.{aBracket, is, isAmong, among, role, role-bracket, textRoles, role-text}
-use Rattle.molang.proofs.RoundTrip.Expression.{Sort, Exp, empty, leaf, bracket, before, between, leafRoles, prefixRoles, joiningRoles, tokens, ahead, amid, form, turned-form}
+use Rattle.molang.proofs.RoundTrip.Expression.{Sort, Exp, empty, leaf, bracket, before, between, leafRoles, prefixRoles}
+use Rattle.molang.proofs.RoundTrip.Expression.{joiningRoles, tokens, ahead, amid, form, turned-form}
 
 abbrev pub nothingYet : ℕ → Bool
 nothingYet n = false
@@ -43,7 +44,8 @@ unfolding over turnedOnto
 over-nil (outside d) = refl
 over-nil (section o i d s) = refl
 
-read-both : (F F' : List Token → List Token) (G G' : Forest → Forest) → Turns G → Reads F G → Reads F' G' → Reads (λ r. F (F' r)) (λ r. G (G' r))
+read-both : (F F' : List Token → List Token) (G G' : Forest → Forest) → Turns G → Reads F G → Reads F' G'
+    → Reads (λ r. F (F' r)) (λ r. G (G' r))
 read-both F F' G G' t f f' i s r =
     let a = f i s (F' r) in
     let b = f' (a .0) (over (G nil) s) r in
@@ -81,13 +83,15 @@ reads : {s : Sort} (e : Exp s) → Reads (tokens e) (form nothingYet e)
 unfolding tokens form ahead amid isBracket turnedOnto
 reads empty i s r = (i, ap (λ (t : Open). sections i t (leaves r)) (sym (over-nil s)))
 reads (leaf k q e l) i s r = read-token k (among leafRoles (isAmong textRoles) refl (role (k .op)) (ap (isAmong leafRoles) e ∙ l)) i s r
-reads (bracket k e h x) i s r = read-bracket k (eqb-true (k .op) Operator.leftParenthesis (role-bracket (k .op) ∙ ap (is aBracket) e)) (tokens x)
+reads (bracket k e h x) i s r =
+    read-bracket k (eqb-true (k .op) Operator.leftParenthesis (role-bracket (k .op) ∙ ap (is aBracket) e)) (tokens x)
     (form nothingYet x) (reads x) i s r
 reads (before k q e p t x) i s r =
     read-both (λ r. k ∷ r) (tokens x) (node k nil) (form nothingYet x) (λ r d. refl)
     (read-token k (among prefixRoles (isAmong textRoles) refl (role (k .op)) (ap (isAmong prefixRoles) e ∙ p))) (reads x) i s r
 reads (between k q e j l m x y) i s r =
-    read-both (tokens x) (λ r. k ∷ tokens y r) (form nothingYet x) (λ r. node k nil (form nothingYet y r)) (turned-form nothingYet x) (reads x)
+    read-both (tokens x) (λ r. k ∷ tokens y r) (form nothingYet x) (λ r. node k nil (form nothingYet y r)) (turned-form nothingYet x)
+    (reads x)
     (read-both (λ r. k ∷ r) (tokens y) (node k nil) (form nothingYet y) (λ r d. refl)
     (read-token k (among joiningRoles (isAmong textRoles) refl (role (k .op)) (ap (isAmong joiningRoles) e ∙ j))) (reads y)) i s r
 

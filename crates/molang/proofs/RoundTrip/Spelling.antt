@@ -11,15 +11,21 @@ use Rattle.molang.specs.Operator
 use Rattle.molang.specs.Operator.{isOneOf, isMathCall, isBracket}
 use Rattle.molang.specs.Forest.{Token, Forest, nil, node, size, bare}
 use Rattle.molang.specs.Calls.{calls}
-use Rattle.molang.specs.Plain.{Place, elsewhere, rightOfQuestion, underMathCall, isRightOfQuestion, isUnderMathCall, placeUnder, placeOf, isPlainLeaf, isPlainBinary, isCall, plainForm, unplain, unplainAt}
+use Rattle.molang.specs.Plain.{Seat, elsewhere, rightOfQuestion, underMathCall, isRightOfQuestion, isUnderMathCall, seatUnder, seatOf}
+use Rattle.molang.specs.Plain.{isPlainLeaf, isPlainBinary, isCall, plainForm, unplain, unplainAt}
 use Rattle.molang.specs.Write.{openerFor, closerFor, standsAlone, standsLeft, standsRight, operandTokens, written, takenAway}
 use Rattle.molang.proofs.Booleans.{either, never, or-only-first}
 use Rattle.molang.proofs.Computed.{computed}
 use Rattle.molang.proofs.PlainTrees.{plain-parts}
 use Rattle.molang.proofs.TakingAway.{taken-later, taken-kept, taken-call, taken-bracket}
 use Rattle.molang.proofs.Writing.{written-none, written-one}
-use Rattle.molang.proofs.RoundTrip.Role.{Role, aQuery, aMathCall, aBracket, aMinus, aNot, aBinary, aComma, aQuestion, aColon, is, is-same, isAmong, allOf, among, role, role-bracket, role-comma, role-question, role-colon, role-math, role-call, role-leaf, role-binary, role-single, ruled-out}
-use Rattle.molang.proofs.RoundTrip.Expression.{Sort, nothing, atom, prefixed, bracketed, joinedBy, Exp, empty, leaf, bracket, before, between, isOperand, isJoinedBy, isWhole, isFilled, isBracketed, isFilledBracket, leafRoles, prefixRoles, joiningRoles, isLeaf, isPrefix, isJoining, takes, joinsLeft, joinsRight, tokens, ahead, amid, form, Solid}
+use Rattle.molang.proofs.RoundTrip.Role.{Role, aQuery, aMathCall, aBracket, aMinus, aNot, aBinary, aComma, aQuestion, aColon, is}
+use Rattle.molang.proofs.RoundTrip.Role.{is-same, isAmong, allOf, among, role, role-bracket, role-comma, role-question, role-colon}
+use Rattle.molang.proofs.RoundTrip.Role.{role-math, role-call, role-leaf, role-binary, role-single, ruled-out}
+use Rattle.molang.proofs.RoundTrip.Expression.{Sort, nothing, atom, prefixed, bracketed, joinedBy, Exp, empty, leaf, bracket, before}
+use Rattle.molang.proofs.RoundTrip.Expression.{between, isOperand, isJoinedBy, isWhole, isFilled, isBracketed, isFilledBracket}
+use Rattle.molang.proofs.RoundTrip.Expression.{leafRoles, prefixRoles, joiningRoles, isLeaf, isPrefix, isJoining, takes, joinsLeft}
+use Rattle.molang.proofs.RoundTrip.Expression.{joinsRight, tokens, ahead, amid, form, Solid}
 use Rattle.molang.proofs.RoundTrip.Order.{everything}
 
 -- Taking away goes through a list tree by tree.
@@ -41,7 +47,7 @@ filled-solid (before k _ _ _ _ x) h = record { label = k; inside = form everythi
 filled-solid (between k _ _ _ _ _ x y) h = record { label = k; inside = form everything x (form everything y nil); becomes = λ r. refl }
 
 -- The expression that a plain node at a place is spelled as.
-pub record Spelled (p : Place) (k : Token) (cs : Forest) : Type 0 where
+pub record Spelled (p : Seat) (k : Token) (cs : Forest) : Type 0 where
   pub sort : Sort
   pub exp : Exp sort
   pub spells : (r : List Token) → tokens exp r ≡ written k cs r
@@ -75,7 +81,7 @@ taken-section : (k : Token) {s : Sort} (x : Exp s) → isFilled s ≡ true → i
     → takenAway false (node k (form everything x nil) nil) R ≡ takenAway false (form everything x nil) R
 taken-section k x f h R = let o = filled-solid x f in rw (o .becomes nil) (taken-bracket k (o .label) (o .inside) R h)
 
-part : (joins : Sort → Bool) (b : Bool) (p : Place) (k : Token) (cs : Forest) (x : Spelled p k cs) → (b ≡ true → joins (x .sort) ≡ true)
+part : (joins : Sort → Bool) (b : Bool) (p : Seat) (k : Token) (cs : Forest) (x : Spelled p k cs) → (b ≡ true → joins (x .sort) ≡ true)
     → (b ≡ false → isWhole (x .sort) ≡ true) → (b ≡ false → joins (bracketed (x .sort)) ≡ true) → Part joins b k cs
 unfolding operandTokens form tokens closerFor openerFor bare
 part joins true p k cs x t f j = record { sort = x .sort; exp = x .exp; fits = t refl; spells = x .spells; strips = λ c h R. x .strips c R }
@@ -121,7 +127,7 @@ no-call = ruled-out isCall (isAmong callRoles) role-call
 unlike : (a : Role) (rs : List Role) → allOf (λ r. not (is a r)) rs ≡ true → (r : Role) → isAmong rs r ≡ true → is a r ≡ false
 unlike a rs h r m = not-true (is a r) (among rs (λ r. not (is a r)) h r m)
 
-spell-leaf : (p : Place) (k : Token) (r : Role) → role (k .op) ≡ r → isLeaf r ≡ true → Spelled p k nil
+spell-leaf : (p : Seat) (k : Token) (r : Role) → role (k .op) ≡ r → isLeaf r ≡ true → Spelled p k nil
 unfolding tokens written form standsAlone
 spell-leaf p k r e l = record {
   sort = atom;
@@ -137,7 +143,7 @@ spell-leaf p k r e l = record {
   full = λ h n. absurd (false≢true h);
 }
 
-spell-hollow : (p : Place) (k : Token) → role (k .op) ≡ aBracket → isUnderMathCall p ≡ true → Spelled p k nil
+spell-hollow : (p : Seat) (k : Token) → role (k .op) ≡ aBracket → isUnderMathCall p ≡ true → Spelled p k nil
 unfolding tokens written form standsAlone
 spell-hollow p k e m = record {
   sort = bracketed nothing;
@@ -153,7 +159,7 @@ spell-hollow p k e m = record {
   full = λ h n. absurd (true≢false (sym m ∙ n));
 }
 
-spell-bracket : (p q : Place) (k x : Token) (xs : Forest) → role (k .op) ≡ aBracket → (y : Spelled q x xs) → isWhole (y .sort) ≡ true
+spell-bracket : (p q : Seat) (k x : Token) (xs : Forest) → role (k .op) ≡ aBracket → (y : Spelled q x xs) → isWhole (y .sort) ≡ true
     → Spelled p k (node x xs nil)
 unfolding tokens written form standsAlone
 spell-bracket p q k x xs e y w = record {
@@ -179,7 +185,8 @@ spell-bracket p q k x xs e y w = record {
         ∙ sym (taken-call k (node x xs nil) R)
     away false R = taken-section k (y .exp) (y .filled) b R ∙ y .strips false R ∙ sym (taken-bracket k x xs R b)
 
-spell-before : (p : Place) (k x : Token) (xs : Forest) (r : Role) → role (k .op) ≡ r → isPrefix r ≡ true → Part (takes r) (standsAlone x xs) x xs
+spell-before : (p : Seat) (k x : Token) (xs : Forest) (r : Role) → role (k .op) ≡ r → isPrefix r ≡ true
+    → Part (takes r) (standsAlone x xs) x xs
     → (not (isCall (k .op)) || standsAlone x xs) ≡ true → Spelled p k (node x xs nil)
 unfolding tokens written form ahead standsAlone
 spell-before p k x xs r e i y c =
@@ -199,7 +206,7 @@ spell-before p k x xs r e i y c =
       full = λ h n. absurd (false≢true h);
     }
 
-spell-between : (p : Place) (k x : Token) (xs : Forest) (y : Token) (ys : Forest) (r : Role) → role (k .op) ≡ r → isJoining r ≡ true
+spell-between : (p : Seat) (k x : Token) (xs : Forest) (y : Token) (ys : Forest) (r : Role) → role (k .op) ≡ r → isJoining r ≡ true
     → (is aColon r ≡ true → isRightOfQuestion p ≡ true)
     → Part (joinsLeft r) (standsLeft k x xs) x xs → Part (joinsRight r) (standsRight k y ys) y ys → Spelled p k (node x xs (node y ys nil))
 unfolding tokens written form amid standsAlone
@@ -209,7 +216,8 @@ spell-between p k x xs y ys r e j c a z =
     record {
       sort = joinedBy r;
       exp = between k r e j (a .fits) (z .fits) (a .exp) (z .exp);
-      spells = λ t. a .spells (k ∷ tokens (z .exp) t) ∙ ap (λ (ks : List Token). operandTokens (standsLeft k x xs) x (written x xs) (k ∷ ks))
+      spells =
+          λ t. a .spells (k ∷ tokens (z .exp) t) ∙ ap (λ (ks : List Token). operandTokens (standsLeft k x xs) x (written x xs) (k ∷ ks))
           (z .spells t);
       strips = λ inCall R. taken-kept inCall k (form everything (a .exp) (form everything (z .exp) nil)) R b
           ∙ ap (λ (f : Forest). node k f R) (rw q (taken-form false (a .exp) (form everything (z .exp) nil) nil
@@ -227,28 +235,28 @@ spell-between p k x xs y ys r e j c a z =
 
 -- Where a node's children stand.
 place-by : (m q : Bool) (k : Token) (i : ℕ) → isMathCall (k .op) ≡ m → (eqb (k .op) Operator.conditional && eqb i 1) ≡ q
-    → placeUnder k i ≡ (elim m as (λ t. Place) [
+    → seatUnder k i ≡ (elim m as (λ t. Seat) [
       | true ↦ underMathCall
       | false ↦ elim q as
-          (λ t. Place) [ true ↦ rightOfQuestion | false ↦ elsewhere ]
+          (λ t. Seat) [ true ↦ rightOfQuestion | false ↦ elsewhere ]
     ])
-unfolding placeUnder
-place-by true q k i h t = rw (h, placeUnder) refl
-place-by false true k i h t = rw (h, placeUnder) (rw t refl)
-place-by false false k i h t = rw (h, placeUnder) (rw t refl)
+unfolding seatUnder
+place-by true q k i h t = rw (h, seatUnder) refl
+place-by false true k i h t = rw (h, seatUnder) (rw t refl)
+place-by false false k i h t = rw (h, seatUnder) (rw t refl)
 
-left-place : (k : Token) → isRightOfQuestion (placeUnder k 0) ≡ false
+left-place : (k : Token) → isRightOfQuestion (seatUnder k 0) ≡ false
 unfolding isRightOfQuestion
 left-place k =
     let unquestioned = and-false (eqb (k .op) Operator.conditional) in
     either (isMathCall (k .op)) (λ h. ap isRightOfQuestion (place-by true false k 0 h unquestioned))
     (λ h. ap isRightOfQuestion (place-by false false k 0 h unquestioned))
 
-argument-place : (k : Token) → isMathCall (k .op) ≡ false → isUnderMathCall (placeUnder k 0) ≡ false
+argument-place : (k : Token) → isMathCall (k .op) ≡ false → isUnderMathCall (seatUnder k 0) ≡ false
 unfolding isUnderMathCall
 argument-place k h = ap isUnderMathCall (place-by false false k 0 h (and-false (eqb (k .op) Operator.conditional)))
 
-right-place : (k : Token) → isRightOfQuestion (placeUnder k 1) ≡ true → eqb (k .op) Operator.conditional ≡ true
+right-place : (k : Token) → isRightOfQuestion (seatUnder k 1) ≡ true → eqb (k .op) Operator.conditional ≡ true
 unfolding isRightOfQuestion
 right-place k h = split (isMathCall (k .op)) (eqb (k .op) Operator.conditional) refl refl
   where
@@ -258,7 +266,7 @@ right-place k h = split (isMathCall (k .op)) (eqb (k .op) Operator.conditional) 
     split false false a b = absurd (false≢true (sym (ap isRightOfQuestion (place-by false false k 1 a (rw b refl))) ∙ h))
 
 -- Only right of its `?` is a node's expression held by a `:`.
-whole-left : (k x : Token) (xs : Forest) (y : Spelled (placeUnder k 0) x xs) → isWhole (y .sort) ≡ true
+whole-left : (k x : Token) (xs : Forest) (y : Spelled (seatUnder k 0) x xs) → isWhole (y .sort) ≡ true
 whole-left k x xs y = ap not (never (isJoinedBy aColon (y .sort)) (λ h. true≢false (sym (y .placed h) ∙ left-place k)))
 
 role-is : (a : Role) (n : ℕ) (b : Bool) → b ≡ is a (role n) → b ≡ true → role n ≡ a
@@ -288,18 +296,18 @@ bracketed-operand (bracketed s) h = refl
 bracketed-operand (joinedBy r) h = h
 
 -- A prefix before its operand.
-spell-prefix : (p : Place) (k x : Token) (xs : Forest) → isAmong (aMinus ∷ aNot ∷ []) (role (k .op)) ≡ true → Spelled (placeUnder k 0) x xs
+spell-prefix : (p : Seat) (k x : Token) (xs : Forest) → isAmong (aMinus ∷ aNot ∷ []) (role (k .op)) ≡ true → Spelled (seatUnder k 0) x xs
     → Spelled p k (node x xs nil)
 spell-prefix p k x xs h y =
     let r = role (k .op) in
     let c = no-call (aMinus ∷ aNot ∷ []) refl (k .op) r refl h in
     spell-before p k x xs r refl (among (aMinus ∷ aNot ∷ []) isPrefix refl r h)
-    (part (takes r) (standsAlone x xs) (placeUnder k 0) x xs y (λ t. prefix-takes r h (y .sort) (sym (y .alone) ∙ t)) (λ t. whole-left k x xs y)
+    (part (takes r) (standsAlone x xs) (seatUnder k 0) x xs y (λ t. prefix-takes r h (y .sort) (sym (y .alone) ∙ t)) (λ t. whole-left k x xs y)
     (λ t. prefix-takes r h (bracketed (y .sort)) refl))
     (rw c refl)
 
 -- A call before its bracket.
-spell-call : (p : Place) (k x : Token) (xs : Forest) → isCall (k .op) ≡ true → isBracket (x .op) ≡ true → Spelled (placeUnder k 0) x xs
+spell-call : (p : Seat) (k x : Token) (xs : Forest) → isCall (k .op) ≡ true → isBracket (x .op) ≡ true → Spelled (seatUnder k 0) x xs
     → Spelled p k (node x xs nil)
 unfolding calls
 spell-call p k x xs h b y =
@@ -309,7 +317,7 @@ spell-call p k x xs h b y =
     let fits : takes r (y .sort) ≡ true = call-takes r (y .sort) bracketed
     (λ q. y .full bracketed (argument-place k (role-math (k .op) ∙ ap (is aMathCall) (sym (is-same aQuery r q))))) in
     spell-before p k x xs r refl (among callRoles isPrefix refl r (sym (role-call (k .op)) ∙ h))
-    (part (takes r) (standsAlone x xs) (placeUnder k 0) x xs y (λ t. fits) (λ t. whole-left k x xs y) (λ t. absurd (true≢false (sym alone ∙ t))))
+    (part (takes r) (standsAlone x xs) (seatUnder k 0) x xs y (λ t. fits) (λ t. whole-left k x xs y) (λ t. absurd (true≢false (sym alone ∙ t))))
     (rw alone (or-true (not (isCall (k .op)))))
 
 -- A binary operator between its operands, with the two exceptions.
@@ -319,25 +327,25 @@ joins-excepted false true true d h e = rw (← e) refl
 joins-excepted false true false d h e = absurd (false≢true h)
 joins-excepted false false c d h e = absurd (false≢true h)
 
-left-part : (k x : Token) (xs : Forest) → Spelled (placeUnder k 0) x xs → Part (joinsLeft (role (k .op))) (standsLeft k x xs) x xs
+left-part : (k x : Token) (xs : Forest) → Spelled (seatUnder k 0) x xs → Part (joinsLeft (role (k .op))) (standsLeft k x xs) x xs
 unfolding standsLeft
 left-part k x xs y =
-    part (joinsLeft (role (k .op))) (standsLeft k x xs) (placeUnder k 0) x xs y
+    part (joinsLeft (role (k .op))) (standsLeft k x xs) (seatUnder k 0) x xs y
     (λ h. rw (role-comma (k .op), y .comma) at (joins-excepted (standsAlone x xs) (eqb (k .op) Operator.comma) (eqb (x .op) Operator.comma)
     (isOperand (y .sort)) h (y .alone)))
     (λ h. whole-left k x xs y) (λ h. refl)
 
-right-part : (k x : Token) (xs : Forest) → Spelled (placeUnder k 1) x xs → Part (joinsRight (role (k .op))) (standsRight k x xs) x xs
+right-part : (k x : Token) (xs : Forest) → Spelled (seatUnder k 1) x xs → Part (joinsRight (role (k .op))) (standsRight k x xs) x xs
 unfolding standsRight
 right-part k x xs y =
-    part (joinsRight (role (k .op))) (standsRight k x xs) (placeUnder k 1) x xs y
+    part (joinsRight (role (k .op))) (standsRight k x xs) (seatUnder k 1) x xs y
     (λ h. rw (role-question (k .op), y .colon) at (joins-excepted (standsAlone x xs) (eqb (k .op) Operator.conditional)
     (eqb (x .op) Operator.conditionalElse) (isOperand (y .sort)) h (y .alone)))
     (λ h. ap not (never (isJoinedBy aColon (y .sort))
     (λ c. true≢false (sym (rw (right-place k (y .placed c), y .colon ∙ c) (or-true (standsAlone x xs))) ∙ h)))) (λ h. refl)
 
-spell-two : (p : Place) (k x : Token) (xs : Forest) (y : Token) (ys : Forest) → plainForm p k (node x xs (node y ys nil)) ≡ true
-    → Spelled (placeUnder k 0) x xs → Spelled (placeUnder k 1) y ys → Spelled p k (node x xs (node y ys nil))
+spell-two : (p : Seat) (k x : Token) (xs : Forest) (y : Token) (ys : Forest) → plainForm p k (node x xs (node y ys nil)) ≡ true
+    → Spelled (seatUnder k 0) x xs → Spelled (seatUnder k 1) y ys → Spelled p k (node x xs (node y ys nil))
 unfolding plainForm
 spell-two p k x xs y ys h a b =
     either (isPlainBinary (k .op))
@@ -349,19 +357,21 @@ spell-two p k x xs y ys h a b =
     (ap isJoining (role-is aColon (k .op) (eqb (k .op) Operator.conditionalElse) (role-colon (k .op)) (parts .0))) (λ c. parts .1)
     (left-part k x xs a) (right-part k y ys b))
 
-spell-one : (p : Place) (k x : Token) (xs : Forest) → plainForm p k (node x xs nil) ≡ true → Spelled (placeUnder k 0) x xs
+spell-one : (p : Seat) (k x : Token) (xs : Forest) → plainForm p k (node x xs nil) ≡ true → Spelled (seatUnder k 0) x xs
     → Spelled p k (node x xs nil)
 unfolding plainForm
 spell-one p k x xs h y = split (isBracket (k .op)) (isCall (k .op)) refl refl
   where
     call-single : isCall (k .op) ≡ true → isOneOf (Operator.leftParenthesis ∷ Operator.negate ∷ Operator.logicalNot ∷ []) (k .op) ≡ false
     call-single c =
-        ruled-out (isOneOf (Operator.leftParenthesis ∷ Operator.negate ∷ Operator.logicalNot ∷ [])) (isAmong singleRoles) role-single callRoles refl
+        ruled-out (isOneOf (Operator.leftParenthesis ∷ Operator.negate ∷ Operator.logicalNot ∷ []))
+        (isAmong singleRoles) role-single callRoles refl
         (k .op) (role (k .op)) refl (sym (role-call (k .op)) ∙ c)
 
     split : (b c : Bool) → isBracket (k .op) ≡ b → isCall (k .op) ≡ c → Spelled p k (node x xs nil)
     split true c m n =
-        spell-bracket p (placeUnder k 0) k x xs (role-is aBracket (k .op) (isBracket (k .op)) (role-bracket (k .op)) m) y (whole-left k x xs y)
+        spell-bracket p (seatUnder k 0) k x xs (role-is aBracket (k .op) (isBracket (k .op)) (role-bracket (k .op)) m) y
+        (whole-left k x xs y)
     split false true m n = spell-call p k x xs n (rw (call-single n, n) at h) y
     split false false m n =
         let s : isAmong singleRoles (role (k .op)) ≡ true =
@@ -370,28 +380,28 @@ spell-one p k x xs h y = split (isBracket (k .op)) (isCall (k .op)) refl refl
         (isCall (k .op) && isBracket (x .op)) (rw n refl) h in
         spell-prefix p k x xs (rw (sym (role-bracket (k .op)) ∙ m) at s) y
 
-spell-none : (p : Place) (k : Token) → plainForm p k nil ≡ true → Spelled p k nil
+spell-none : (p : Seat) (k : Token) → plainForm p k nil ≡ true → Spelled p k nil
 unfolding plainForm
 spell-none p k h =
     either (isPlainLeaf (k .op)) (λ l. spell-leaf p k (role (k .op)) refl (sym (role-leaf (k .op)) ∙ l))
     (λ l. let parts = and-eq-true-iff (isBracket (k .op)) (isUnderMathCall p) .0 (rw l at h) in
     spell-hollow p k (role-is aBracket (k .op) (isBracket (k .op)) (role-bracket (k .op)) (parts .0)) (parts .1))
 
-spelled : (p : Place) (n : ℕ) (k : Token) (cs : Forest) → plainForm p k cs ≡ true → unplain (some k) 0 n cs ≡ none → Spelled p k cs
-unfolding placeOf
+spelled : (p : Seat) (n : ℕ) (k : Token) (cs : Forest) → plainForm p k cs ≡ true → unplain (some k) 0 n cs ≡ none → Spelled p k cs
+unfolding seatOf
 spelled p n k nil h u = spell-none p k h
 spelled p n k (node x xs nil) h u = let a = plain-parts (some k) 0 n x xs nil u in spell-one p k x xs h
-    (spelled (placeUnder k 0) (suc n) x xs (a .here) (a .below))
+    (spelled (seatUnder k 0) (suc n) x xs (a .here) (a .below))
 spelled p n k (node x xs (node y ys nil)) h u =
     let a = plain-parts (some k) 0 n x xs (node y ys nil) u in
     let b = plain-parts (some k) 1 (suc n + size xs) y ys nil (a .after) in
-    spell-two p k x xs y ys h (spelled (placeUnder k 0) (suc n) x xs (a .here) (a .below))
-    (spelled (placeUnder k 1) (suc (suc n + size xs)) y ys (b .here) (b .below))
+    spell-two p k x xs y ys h (spelled (seatUnder k 0) (suc n) x xs (a .here) (a .below))
+    (spelled (seatUnder k 1) (suc (suc n + size xs)) y ys (b .here) (b .below))
 spelled p n k (node x xs (node y ys (node z zs r))) h u = absurd (false≢true (unfold plainForm in h))
 
 -- A plain tree is spelled as an expression that stands on its own.
 pub plain-spelled : (k : Token) (cs : Forest) → unplainAt k cs ≡ none → (e : Spelled elsewhere k cs) × (isWhole (e .sort) ≡ true)
-unfolding unplainAt placeOf isRightOfQuestion
+unfolding unplainAt seatOf isRightOfQuestion
 plain-spelled k cs h =
     let a = plain-parts none 0 0 k cs nil h in
     let e = spelled elsewhere 1 k cs (a .here) (a .below) in (e, ap not (never (isJoinedBy aColon (e .sort)) (λ c. false≢true (e .placed c))))

@@ -11,7 +11,9 @@ use Rattle.molang.specs.Forest.{Token, Forest, nil, node}
 use Rattle.molang.specs.Message.{ok}
 use Rattle.molang.specs.Unary.{done, minusAfter, notBefore, unaryLeaf, turned, unaryNode, unary, unaryPass}
 use Rattle.molang.proofs.RoundTrip.Role.{Role, aBracket, aMinus, aNot, isAmong, allOf, role, role-prefix, ruled-out}
-use Rattle.molang.proofs.RoundTrip.Expression.{Sort, nothing, atom, prefixed, bracketed, joinedBy, Exp, empty, leaf, bracket, before, between, isOperand, leafRoles, joiningRoles, joinsLeft, joinsRight, ahead, amid, form, also, Solid, operand-solid, takes-operand}
+use Rattle.molang.proofs.RoundTrip.Expression.{Sort, nothing, atom, prefixed, bracketed, joinedBy, Exp, empty, leaf, bracket, before}
+use Rattle.molang.proofs.RoundTrip.Expression.{between, isOperand, leafRoles, joiningRoles, joinsLeft, joinsRight, ahead, amid, form}
+use Rattle.molang.proofs.RoundTrip.Expression.{also, Solid, operand-solid, takes-operand}
 
 abbrev pub prefixes : ℕ → Bool
 prefixes n = isOneOf (Operator.negate ∷ Operator.logicalNot ∷ []) n
@@ -68,9 +70,11 @@ whole s F G b = b nil nil settled-nil none (stands-first s)
 keep : (k : Token) (cs cs' r R : Forest) → prefixes (k .op) ≡ false → unary none cs ≡ done false cs' → Settled r R
     → Settled (node k cs r) (node k cs' R)
 unfolding unary unaryNode unaryLeaf turned isOneOf any
-keep k cs cs' r R q e s p = rw (s (some k), unary) (rw e (kept cs e (eqb (k .op) Operator.negate) (eqb (k .op) Operator.logicalNot) refl refl q))
+keep k cs cs' r R q e s p =
+    rw (s (some k), unary) (rw e (kept cs e (eqb (k .op) Operator.negate) (eqb (k .op) Operator.logicalNot) refl refl q))
   where
-    kept : (cs : Forest) → unary none cs ≡ done false cs' → (a b : Bool) → eqb (k .op) Operator.negate ≡ a → eqb (k .op) Operator.logicalNot ≡ b
+    kept : (cs : Forest) → unary none cs ≡ done false cs' → (a b : Bool) → eqb (k .op) Operator.negate ≡ a
+        → eqb (k .op) Operator.logicalNot ≡ b
         → (a || (b || false)) ≡ false → unaryNode p k cs cs' R ≡ done false (node k cs' R)
     kept nil e true b m n q = absurd (true≢false q)
     kept nil e false true m n q = absurd (true≢false q)
@@ -115,7 +119,8 @@ bind-amid true false k s X X' Y Y' q n x t y r R h p = keep k (X (Y nil)) (X' (Y
 bind-amid false false k s X X' Y Y' q n x t y r R h p = x (node k nil (Y r)) (node k nil (Y' R))
     (keep k nil nil (Y r) (Y' R) q (settled-nil none) (y r R h)) p (t p)
 
-unbound : (rs : List Role) → allOf (λ r. not (isAmong (aMinus ∷ aNot ∷ []) r)) rs ≡ true → (n : ℕ) (r : Role) → role n ≡ r → isAmong rs r ≡ true
+unbound : (rs : List Role) → allOf (λ r. not (isAmong (aMinus ∷ aNot ∷ []) r)) rs ≡ true → (n : ℕ) (r : Role) → role n ≡ r
+    → isAmong rs r ≡ true
     → prefixes n ≡ false
 unbound = ruled-out prefixes (isAmong (aMinus ∷ aNot ∷ [])) role-prefix
 
@@ -135,13 +140,15 @@ module _ (σ : ℕ → Bool) (w : Unbound σ) where
   binds empty r R s p h = s p
   binds (leaf k q e l) r R s p h = keep k nil nil r R (unbound leafRoles refl (k .op) q e l) (settled-nil none) s p
   binds (bracket {s = t} k e c x) r R s p h =
-      keep k (form σ x nil) (form σ' x nil) r R (unbound (aBracket ∷ []) refl (k .op) aBracket e refl) (whole t (form σ x) (form σ' x) (binds x)) s p
+      keep k (form σ x nil) (form σ' x nil) r R (unbound (aBracket ∷ []) refl (k .op) aBracket e refl)
+      (whole t (form σ x) (form σ' x) (binds x)) s p
   binds (before {s = t} k q e c u x) r R s p h =
       let o = takes-operand q t u in
       bind-ahead (σ (k .op)) (prefixes (k .op)) k (form σ x) (form σ' x) refl (w .flat (k .op))
       (λ r R s p. binds x r R s p (operand-stands t p o)) (operand-solid σ' x o) r R s p h
   binds (between {s = t} {t = u} k q e j l m x y) r R s p h =
-      bind-amid (σ (k .op)) (prefixes (k .op)) k t (form σ x) (form σ' x) (form σ y) (form σ' y) refl (unbound joiningRoles refl (k .op) q e j)
+      bind-amid (σ (k .op)) (prefixes (k .op)) k t (form σ x) (form σ' x) (form σ y) (form σ' y) refl
+      (unbound joiningRoles refl (k .op) q e j)
       (binds x) (λ p. stands-left q t p l) (λ r R s p. binds y r R s p (stands-right q u p m)) r R s p
 
   pub unary-pass : {s : Sort} (e : Exp s) → unaryPass (form σ e nil) ≡ ok (form (also σ prefixes) e nil)

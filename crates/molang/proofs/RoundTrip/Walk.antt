@@ -1,4 +1,5 @@
--- What the proofs of the passes from the left share: one step of a level, and the parts of a list that a level carries over one after another.
+-- What the proofs of the passes from the left share: one step of a level, and the parts of a list that a level carries over one after
+-- another.
 use mathlib.Core.Path.{_≡_, refl, ap, sym, _∙_}
 use mathlib.Core.Bool.{Bool, true}
 use Rattle.molang.specs.Forest.{Token, Forest, nil, node, turnedOnto, inOrder}
@@ -37,7 +38,8 @@ module _ {S : Type 0} (L : Level S) (at : Forest → S) (next : Forest → Bool)
   abbrev pub Passes : Token → Type 0
   Passes k = (d : Forest) → L .step (at d) k nil ≡ on (at (node k nil d))
 
-  pub carry-both : (X X' Y Y' : Forest → Forest) → Carries X X' → Carries Y Y' → Turns X' → ((r : Forest) → next r ≡ true → next (Y r) ≡ true)
+  pub carry-both : (X X' Y Y' : Forest → Forest) → Carries X X' → Carries Y Y' → Turns X'
+      → ((r : Forest) → next r ≡ true → next (Y r) ≡ true)
       → Carries (λ r. X (Y r)) (λ r. X' (Y' r))
   carry-both X X' Y Y' x y t n d r f = x d (Y r) (n r f) ∙ y _ r f ∙ ap (λ (d : Forest). walk L (at d) r) (sym (t (Y' nil) d))
 
@@ -47,10 +49,12 @@ module _ {S : Type 0} (L : Level S) (at : Forest → S) (next : Forest → Bool)
       walk-on L (at d) (at (node k nil d)) k nil r (p d)
       ∙ ap (λ (c : Forest). walk L (at (node k c d)) r) (let n : ok nil ≡ ok cs' = sym (g .begins) ∙ e in cc)
   carry-node g k (node c cs rest) cs' p e d r f =
-      walk-into L (at d) (at d) (at nil) k (node c cs rest) cs' r (g .enters d k c cs rest) e ∙ ap (λ (s : S). walk L s r) (g .resumes d k cs')
+      walk-into L (at d) (at d) (at nil) k (node c cs rest) cs' r (g .enters d k c cs rest) e
+      ∙ ap (λ (s : S). walk L s r) (g .resumes d k cs')
 
   -- A token that is only gathered, whatever follows it.
-  pub carry-token : (k : Token) (X X' : Forest → Forest) → Passes k → Carries X X' → Carries (λ r. node k nil (X r)) (λ r. node k nil (X' r))
+  pub carry-token : (k : Token) (X X' : Forest → Forest) → Passes k → Carries X X'
+      → Carries (λ r. node k nil (X r)) (λ r. node k nil (X' r))
   unfolding turnedOnto
   carry-token k X X' p x d r f = walk-on L (at d) (at (node k nil d)) k nil (X r) (p d) ∙ x (node k nil d) r f
 

@@ -46,7 +46,7 @@ returns-2 c =
     let start = c .before .before .before .before .before .before .before .before .before .before .before .before .before .before .before .before in
     let first = c .before .before .before .before .before .before .before .before .before .before .before .first-of in
     let report = c .before .before .before .before .report-roots in
-    several-filled (start .pre) (first .result) (first .ensures) (c .before .before .before .before .before .before .before .before .before .before .if1 .left) (report .last .1 .0) (λ z. c .before .before .before .before .before .before .before .if2 .taken (c .before .before .before .before .before .before .before .before .next-of .ensures ∙ z)) (report .ensures)
+    several-filled (start .pre) (first .result) (first .ensures) (c .before .before .before .before .before .before .before .before .before .before .if1 .left) (report .last .0) (report .last .1 .0) (λ z. c .before .before .before .before .before .before .before .if2 .taken (c .before .before .before .before .before .before .before .before .next-of .ensures ∙ z)) (report .ensures)
 
 lay-out-requires : tie.Need-lay-out-requires
 lay-out-requires c κs =

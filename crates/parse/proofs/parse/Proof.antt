@@ -6,8 +6,8 @@ use mir.Facts.{toZ-ofZ}
 use mathlib.Core.Path.{_≡_, sym, ap, _∙_}
 use native.Mathlib.Omega.{arith}
 use Rattle.molang.specs.Parse.{Call}
-use Rattle.checks.specs.declared.Accepted.the-variants.{Tokens}
-use Rattle.checks.proofs.AcceptLaws.{Readable, checked, reads-call}
+use Rattle.accept.specs.Accepting.{isRead, verdictOf}
+use Rattle.accept.proofs.AcceptLaws.{Readable, checked, reads-call}
 use Rattle.parse.specs.Answers.{call}
 use Rattle.parse.specs.Fills.{CanRead}
 use Rattle.parse.proofs.EntryLaws.{refused-meets, read-meets, call-reads, part-long}
@@ -21,8 +21,8 @@ the-call start =
     call (a .list .now) (a .tree .now) (a .messages .now) (a .work .now) (a .source-length) (a .version) (a .used-low) (a .used-high)
 
 -- What the checks say of a call that is read.
-is-read : (c : tie.After-accepted2) → Tokens (c .accepted2 .given .0 .0) ≡ checked (the-call (c .before .before .before .before .before .before .before))
-is-read c = sym (c .accepted2 .given .1) ∙ c .before .before .accept .ensures
+is-read : (c : tie.After-accepted2) → isRead (c .accepted2 .given .0 .0) ≡ checked (the-call (c .before .before .before .before .before .before .before))
+is-read c = sym (ap verdictOf (c .accepted2 .given .1)) ∙ c .before .before .accept .ensures
 
 known : (c : tie.After-accepted2) → Readable (the-call (c .before .before .before .before .before .before .before)) (c .accepted2 .given .0 .0)
 known c = reads-call (the-call (c .before .before .before .before .before .before .before)) (c .accepted2 .given .0 .0) (is-read c) .1
@@ -66,7 +66,7 @@ clear-requires c κs = search needs
 returns : tie.Need-returns
 returns c =
     let told = c .before .accepted .given in
-    refused-meets (the-call (c .before .before .before .before .before .before .before .before)) (told .0 .0) (told .0 .1 .0) (sym (told .1) ∙ c .before .before .before .accept .ensures)
+    refused-meets (the-call (c .before .before .before .before .before .before .before .before)) (told .0 .0) (told .0 .1 .0) (sym (ap verdictOf (told .1)) ∙ c .before .before .before .accept .ensures)
 
 same-length : tie.Need-same-length
 same-length c = search needs

@@ -1,5 +1,5 @@
 -- `reread::read_exactly` meets its contract: the call's two halves are the list's own operators. Assumes nothing.
-use Rattle.reread.proofs.CallLaws.{exact-call, has-read}
+use Rattle.reread.proofs.CallLaws.{exact-call, same-call}
 use borrow.Author.Needs.{needs}
 use mir.Facts.{toZ-ofZ}
 use Rattle.reread.proofs.read_exactly.Statement.{statement}
@@ -25,11 +25,10 @@ returns c =
     let start = c .before .before .before .before .before .before .before .before .before .before .before .before .before .before .before in
     let a = start .args in
     let used = c .before .before .before .before .before .before .before .before .before .before .used-of in
-    let read = c .before .before .before .before .before .before .parse .ensures in
-    has-read
+    same-call
     (exact-call (a .list .now) (start .pre) (used .result .low) (used .result .high) (search needs) (used .ensures) (a .tree .now) (a .messages .now)
     (a .work .now) (a .source-length) (toZ-ofZ (start .fits .version)))
-    (read .0) (read .1 .0) (read .1 .1 .0) (read .1 .1 .1)
+    (c .before .before .before .before .before .before .parse .ensures)
 
 pub read-exactly-spec : {M : Type 1} → statement M
 read-exactly-spec =

@@ -1,12 +1,11 @@
--- `reread::reread` meets its contract: what the first call answered and left is handed on, and so the three calls are made. Assumes nothing.
-use mathlib.Core.Path.{ap}
+-- `reread::reread` meets its contract: what the first call told and left is handed on, and so the three calls are made. Assumes nothing.
+use mathlib.Core.Path.{sym, ap}
 use lib.IntN.{ℤ}
 use mir.Facts.{toZ-ofZ}
 use Rattle.molang.specs.Parse.{Call}
-use Rattle.parse.specs.Answers.{call}
+use Rattle.parse.specs.Answers.{call, HasParsed}
 use Rattle.reread.specs.Answers.{rereading}
-use Rattle.reread.specs.Promises.{HasRead}
-use Rattle.reread.proofs.CallLaws.{has-read, has-reread}
+use Rattle.reread.proofs.CallLaws.{same-call, has-reread}
 use borrow.Author.Needs.{needs}
 use Rattle.reread.proofs.reread.Statement.{statement}
 use Rattle.reread.proofs.reread.Tie as tie
@@ -20,25 +19,25 @@ first s =
     let a = s .args in
     call (a .list .now) (a .tree .now) (a .messages .now) (a .work .now) (a .source-length) (a .version) (a .used-low) (a .used-high)
 
--- What it answered and left.
+-- What it told and left.
 parsed : (c : tie.After-parse)
-    → HasRead (first (c .before .before .before .before .before .before .before .before .before .before)) (c .parse .result) (c .parse .last .1 .0) (c .parse .last .1 .1 .0) (c .parse .last .1 .1 .1 .0)
+    → HasParsed (first (c .before .before .before .before .before .before .before .before .before .before)) (c .parse .result) (c .parse .last .1 .0) (c .parse .last .1 .1 .0) (c .parse .last .1 .1 .1 .0)
 parsed c =
     let s = c .before .before .before .before .before .before .before .before .before .before in
     let a = s .args in
-    let e = c .parse .ensures in
-    has-read
+    same-call
     (ap (λ (z : ℤ). call (a .list .now) (a .tree .now) (a .messages .now) (a .work .now) (a .source-length) z (a .used-low) (a .used-high))
     (toZ-ofZ (s .fits .version)))
-    (e .0) (e .1 .0) (e .1 .1 .0) (e .1 .1 .1)
+    (c .parse .ensures)
 
 after-first-requires : tie.Need-after-first-requires
 after-first-requires c κs =
     let at = c .before .before .before .before .before .before .before .before .before .before .before in
+    let p = parsed at in
     record {
-      call = first (at .before .before .before .before .before .before .before .before .before .before);
-      read = parsed at;
-      long = at .parse .kept .1 .0;
+      first = first (at .before .before .before .before .before .before .before .before .before .before);
+      says = sym (p .told);
+      left = p .tree;
     }
 
 same-length : tie.Need-same-length
@@ -62,8 +61,9 @@ returns c =
     let at = on .before .before .before .before .before .before .before .before .before .before .before .before in
     let s = at .before .before .before .before .before .before .before .before .before .before in
     let a = s .args in
-    has-reread (ap (rereading (first s) (a .written .now) (a .again .now) (a .source-length-again)) (toZ-ofZ (s .fits .version-again)))
-    (on .after-first .ensures .reread (first s) (parsed at))
+    has-reread (rereading (first s) (a .written .now) (a .again .now) (a .source-length-again) (a .version-again)) (parsed at)
+    (toZ-ofZ (s .fits .version-again))
+    (on .after-first .ensures)
 
 pub reread-spec : {M : Type 1} → statement M
 reread-spec =

@@ -5,15 +5,31 @@ use mathlib.Core.List.{List}
 use native.Mathlib.Omega.{arith}
 use mir.Facts.{toZ-ofZ}
 use lib.ListN.{length, take, length-take}
-use Rattle.molang.specs.WriteEntry.{tokens, writeAnswered}
+use Rattle.molang.specs.WriteEntry.{tokens, writeAnswered, listAfter}
+use Rattle.molang.specs.Reread.{Handed, writerCall}
+use Rattle.molang.proofs.Reread.{tree-room}
 use Rattle.write.specs.Answers.{told}
-use Rattle.write.specs.Answers as writer
 use Rattle.reread.specs.Answers.{handedOf}
 use Rattle.reread.specs.Promises.{CanRead}
-use Rattle.reread.proofs.CallLaws.{written-room, written-readable, has-unwritten, has-written}
+use Rattle.reread.proofs.CallLaws.{written-room, list-readable, has-unwritten, has-written}
 use borrow.Author.Needs.{needs}
 use Rattle.reread.proofs.write_and_read.Statement.{statement}
 use Rattle.reread.proofs.write_and_read.Tie as tie
+
+-- What is handed on, and that the tree stands within its buffer.
+abbrev given : tie.Start → Handed
+given s =
+    let a = s .args in handedOf (a .tree .now) (a .written .now) (a .again .now) (a .messages .now) (a .work .now) (a .source-length) (a .version)
+
+tree-within : (s : tie.Start) → 6 * (s .args .nodes) ≤ length (s .args .tree .now)
+tree-within s = omega (arith, tree-room (s .pre .first) (s .args .nodes) (s .pre .says), ap length (s .pre .left))
+
+mul-words : tie.Need-mul-words
+mul-words c = omega (arith, tree-within (c .before .before .before .before .before))
+
+slice-aggregate-write : tie.Need-slice-aggregate-write
+slice-aggregate-write c =
+    let s = c .before .before .before .before .before .before in omega (arith, tree-within s, length-take (6 * (s .args .nodes)) (s .args .tree .now))
 
 write-requires : tie.Need-write-requires
 write-requires c κs = search needs
@@ -24,18 +40,25 @@ enum-known-wrote c = search needs
 enum-known-wrote-2 : tie.Need-enum-known-wrote-2
 enum-known-wrote-2 c = search needs
 
--- The writer's call, and that it wrote so many tokens.
-wrote : (c : tie.After-known-told2)
-    → let a = c .before .before .before .before .before .before .before .before .before .before .before .before .args in tokens (c .before .wrote2 .given .0 .0) ≡ writeAnswered (writer.call (a .tree .now) (a .written .now))
-wrote c = ap told (sym (c .before .wrote2 .given .1)) ∙ c .before .before .before .before .before .write .ensures .0
+-- What the writer told and left.
+module _ (c : tie.After-write) where
+  writer-told : told (c .write .result) ≡ writeAnswered (writerCall (given (c .before .before .before .before .before .before .before .before)) (c .before .before .before .before .before .before .before .before .args .nodes))
+  unfolding writerCall
+  writer-told = c .write .ensures .0
 
--- The list then.
-room : (c : tie.After-known-told2) → 5 * (c .before .wrote2 .given .0 .0) ≤ length (c .before .before .before .before .before .write .last .1 .0)
-room c =
-    let start = c .before .before .before .before .before .before .before .before .before .before .before .before in
-    let a = start .args in
-    rw (c .before .before .before .before .before .write .ensures .1)
-    (written-room (writer.call (a .tree .now) (a .written .now)) (a .nodes) (c .before .wrote2 .given .0 .0) (start .pre) (wrote c))
+  list-left : c .write .last .1 .0 ≡ listAfter (writerCall (given (c .before .before .before .before .before .before .before .before)) (c .before .before .before .before .before .before .before .before .args .nodes))
+  unfolding writerCall
+  list-left = c .write .ensures .1
+
+-- It wrote so many tokens, which stand within the list.
+module _ (c : tie.After-known-told2) where
+  wrote : tokens (c .before .wrote2 .given .0 .0) ≡ writeAnswered (writerCall (given (c .before .before .before .before .before .before .before .before .before .before .before .before .before)) (c .before .before .before .before .before .before .before .before .before .before .before .before .before .args .nodes))
+  wrote = ap told (sym (c .before .wrote2 .given .1)) ∙ writer-told (c .before .before .before .before .before)
+
+  room : 5 * (c .before .wrote2 .given .0 .0) ≤ length (c .before .before .before .before .before .write .last .1 .0)
+  room =
+      let s = c .before .before .before .before .before .before .before .before .before .before .before .before .before in
+      rw (list-left (c .before .before .before .before .before)) (written-room (given s) (s .args .nodes) (c .before .wrote2 .given .0 .0) (s .pre) wrote)
 
 mul-end : tie.Need-mul-end
 mul-end c = omega (arith, room c)
@@ -52,11 +75,10 @@ slice-aggregate-read-exactly c =
 read-exactly-requires : tie.Need-read-exactly-requires
 read-exactly-requires c κs =
     let at = c .before .before .before .before in
-    let start = at .before .before .before .before .before .before .before .before .before .before .before .before in
-    let a = start .args in
+    let s = at .before .before .before .before .before .before .before .before .before .before .before .before .before in
     let count = at .before .wrote2 .given .0 .0 in
-    subst (λ (l : List ℕ). CanRead (take (5 * count) l)) (sym (at .before .before .before .before .before .write .ensures .1))
-    (written-readable (writer.call (a .tree .now) (a .written .now)) (a .nodes) count (start .pre) (wrote at))
+    subst (λ (l : List ℕ). CanRead (take (5 * count) l)) (sym (list-left (at .before .before .before .before .before)))
+    (list-readable (given s) (s .args .nodes) count (s .pre) (wrote at))
 
 after-second-requires : tie.Need-after-second-requires
 after-second-requires c κs = search needs
@@ -66,11 +88,11 @@ same-length c = search needs
 
 returns : tie.Need-returns
 returns c =
-    let a = c .before .before .before .before .before .before .before .before .before .before .before .before .args in
-    let writing = c .before .before .before .before .before .write .ensures in
-    has-unwritten (handedOf (a .tree .now) (a .written .now) (a .again .now) (a .messages .now) (a .work .now) (a .source-length) (a .version)) (a .nodes)
-    (c .before .before .before .before .before .write .last .1 .0) (writing .1) (c .before .wrote .given .0 .0) (c .before .wrote .given .0 .1 .0)
-    (ap told (sym (c .before .wrote .given .1)) ∙ writing .0)
+    let w = c .before .before .before .before .before in
+    let s = w .before .before .before .before .before .before .before .before in
+    let back = c .before .wrote .given in
+    has-unwritten (given s) (s .args .nodes) (w .write .last .1 .0) (list-left w) (back .0 .0) (back .0 .1 .0)
+    (ap told (sym (back .1)) ∙ writer-told w)
 
 same-length-2 : tie.Need-same-length-2
 same-length-2 c = search needs
@@ -86,18 +108,19 @@ same-length-5 c = search needs
 
 returns-2 : tie.Need-returns-2
 returns-2 c =
-    let read = c .before .before .before .before .before .before .before .read-exactly in
     let at = c .before .before .before .before .before .before .before .before .before .before .before .before in
-    let a = at .before .before .before .before .before .before .before .before .before .before .before .before .args in
-    has-written (handedOf (a .tree .now) (a .written .now) (a .again .now) (a .messages .now) (a .work .now) (a .source-length) (a .version)) (a .nodes)
-    (at .before .before .before .before .before .write .last .1 .0) (at .before .before .before .before .before .write .ensures .1) (at .before .wrote2 .given .0 .0) (wrote at)
-    (rw (toZ-ofZ (at .before .before .before .before .before .before .before .before .before .before .before .before .fits .version)) at (read .ensures))
+    let w = at .before .before .before .before .before in
+    let s = w .before .before .before .before .before .before .before .before in
+    has-written (given s) (s .args .nodes) (w .write .last .1 .0) (list-left w) (at .before .wrote2 .given .0 .0) (wrote at) (c .after-second .result)
+    (rw (toZ-ofZ (s .fits .version)) at (c .before .before .before .before .before .before .before .read-exactly .ensures))
     (c .after-second .ensures)
 
 pub write-and-read-spec : {M : Type 1} → statement M
 write-and-read-spec =
     tie.close
     (tie.spec
+    mul-words
+    slice-aggregate-write
     write-requires
     enum-known-wrote
     enum-known-wrote-2

@@ -12,7 +12,7 @@ parse-requires : tie.Need-parse-requires
 parse-requires c κs = search needs
 
 parsed-number-requires : tie.Need-parsed-number-requires
-parsed-number-requires c κs = subst (λ (o : Told). FitsTold o) (sym (c .before .before .before .before .before .before .parse .ensures .0)) (told-fits _)
+parsed-number-requires c κs = subst (λ (o : Told). FitsTold o) (sym (c .before .before .before .before .before .before .parse .ensures .told)) (told-fits _)
 
 same-length : tie.Need-same-length
 same-length c = search needs
@@ -27,7 +27,7 @@ returns : tie.Need-returns
 returns c =
     let version = toZ-ofZ (c .before .before .before .before .before .before .before .before .before .before .before .before .before .before .before .fits .version) in
     let read = rw version at (c .before .before .before .before .before .before .before .parse .ensures) in
-    (c .parsed-number .ensures ∙ ap toldNumber (read .0), read .1)
+    record { told = c .parsed-number .ensures ∙ ap toldNumber (read .told); tree = read .tree; messages = read .messages; work = read .work }
 
 pub sorbrudder-parse-spec : {M : Type 1} → statement M
 sorbrudder-parse-spec =

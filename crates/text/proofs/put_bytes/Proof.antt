@@ -1,21 +1,22 @@
 -- `text::put_bytes` meets its contract: the first i bytes are laid. Assumes nothing.
 use Prim.Native.Nat.{_+_, _-_, _≤_}
-use mathlib.Core.Path.{_≡_, refl}
+use mathlib.Core.Path.{_≡_, refl, _∙_}
 use native.Mathlib.Omega.{arith}
-use lib.ListN.{length, take}
-use Rattle.text.specs.Text.{Wrote}
-use Rattle.text.proofs.TextLaws.{wrote-start, wrote-byte, wrote-all}
+use lib.ListN.{length, take, getD, length-set}
+use Rattle.words.specs.Records.{laidAt}
+use Rattle.words.proofs.RecordLaws.{none-laid}
+use Rattle.text.proofs.TextLaws.{byte-laid, wrote-all}
 use Rattle.text.proofs.put_bytes.Statement.{statement}
 use Rattle.text.proofs.put_bytes.Tie as tie
 
 abbrev Inv-loop : tie.InvT-loop
-Inv-loop out₀ at bytes i₀ out i = (i ≤ length bytes) × (length out ≡ length out₀) × Wrote out₀ at (take i bytes) (at + i) out
+Inv-loop out₀ at bytes i₀ out i = (i ≤ length bytes) × (length out ≡ length out₀) × (out ≡ laidAt at (take i bytes) out₀)
 
 abbrev μ-loop : tie.MeasureT-loop
 μ-loop out₀ at bytes i₀ out i = length bytes - i
 
 loop-holds : tie.Need-loop-holds Inv-loop μ-loop
-loop-holds c = (omega arith, refl, wrote-start _ _)
+loop-holds c = (omega arith, refl, none-laid _ _)
 
 shared-slice-read-out : tie.Need-shared-slice-read-out Inv-loop μ-loop
 shared-slice-read-out c = omega arith
@@ -37,8 +38,7 @@ loop-again c =
     let a = c .before .before .before .args in
     let v = c .before .before .loop .inv in
     let i = c .before .before .loop .i in
-    let w = wrote-byte (a .out .now) (c .before .before .loop .out) (a .at) (a .bytes .now) i (c .before .before .before .pre) (omega arith) (v .2) in
-    (omega arith, w .same, w)
+    (omega arith, length-set (c .before .before .loop .out) (a .at + i) (getD (a .bytes .now) i 0) ∙ v .1, byte-laid (a .out .now) (c .before .before .loop .out) (a .at) (a .bytes .now) i (c .before .before .before .pre) (v .1) (omega arith) (v .2))
 
 add-result : tie.Need-add-result Inv-loop μ-loop
 add-result c = omega arith
@@ -47,7 +47,7 @@ same-length : tie.Need-same-length Inv-loop μ-loop
 same-length c = c .before .loop .inv .1
 
 returns : tie.Need-returns Inv-loop μ-loop
-returns c = wrote-all (omega arith) (c .before .loop .inv .0) (c .before .loop .inv .2)
+returns c = wrote-all {i = c .before .loop .i} (omega arith) (c .before .loop .inv .2)
 
 pub put-bytes-spec : {M : Type 1} → statement M
 put-bytes-spec =

@@ -15,14 +15,14 @@ slice-aggregate-put-bytes c = search needs
 put-bytes-requires : tie.Need-put-bytes-requires
 put-bytes-requires c κs =
     let w = c .before .before .before .before .put-decimal .ensures in
-    omega (arith, w .same, w .ends, decimal-length (c .before .before .before .before .before .before .before .args .n))
+    omega (arith, w .ends, decimal-length (c .before .before .before .before .before .before .before .args .n))
 
 same-length : tie.Need-same-length
 same-length c = search needs
 
 returns : tie.Need-returns
 unfolding numbered
-returns c = wrote-then (c .before .before .before .before .before .before .before .put-decimal .ensures) (c .before .before .put-bytes .ensures)
+returns c = wrote-then (omega arith) (c .before .before .before .before .before .before .before .put-decimal .ensures) (c .before .before .put-bytes .ensures)
 
 pub put-number-spec : {M : Type 1} → statement M
 put-number-spec =

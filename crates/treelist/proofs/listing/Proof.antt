@@ -1,5 +1,5 @@
 -- `treelist::listing` meets its contract: the words of the bytes, the answer to them, its text. Assumes nothing.
-use mathlib.Core.Path.{_≡_, sym, _∙_}
+use mathlib.Core.Path.{_≡_, sym}
 use lib.ListN.{length}
 use lib.Seq.{length-take-le}
 use Rattle.treelist.proofs.AskedLaws.{printable, listed}
@@ -44,9 +44,8 @@ returns c =
     let answered = c .before .before .before .before .before .before .before .before .answer .ensures in
     let put = c .before .before .put-answer .ensures in (
       (put .0, sym (length-take-le _ _ (put .0))),
-      put .1
-          ∙ listed (start .args .bytes) (start .args .front .now) (c .before .before .before .before .before .before .before .before .before .before .before .before .words-of .result) _ _ _ (c .before .before .before .before .before .before .before .before .before .before .before .before .words-of .ensures) (answered .0) (answered .1 .0)
-          (answered .1 .1),
+      rw (listed (start .args .bytes) (start .args .front .now) (c .before .before .before .before .before .before .before .before .before .before .before .before .words-of .result) _ _ _ (c .before .before .before .before .before .before .before .before .before .before .before .before .words-of .ensures) (answered .0) (answered .1 .0)
+          (answered .1 .1)) at (put .1),
     )
 
 pub listing-spec : {M : Type 1} → statement M

@@ -1,20 +1,20 @@
 -- `open`: the owner's children are taken, and the list begins with them.
-use Prim.Native.Nat.{ℕ, _+_, _*_, _≤_}
+use Prim.Native.Nat.{ℕ, _≤_}
 use mathlib.Core.Path.{sym, subst}
 use mathlib.Core.List.{List}
 use native.Mathlib.Omega.{arith}
 use lib.ListN.{length}
-use Rattle.nodes.specs.Store.{wd}
+use Rattle.nodes.specs.Store.{slotEnd}
 use Rattle.nodes.specs.Children.{CanTake}
 use Rattle.nodes.specs.Children as children
-use Rattle.walks.specs.declared.turns.Pass.{Pass}
+use Rattle.levels.specs.declared.turns.Pass.{Pass}
 use Rattle.grouping.specs.Driver.{CanOpen, CanBegin}
 use Rattle.grouping.proofs.StartLaws.{open-can-take}
 use borrow.Author.Needs.{needs}
 use Rattle.grouping.proofs.driver.open.Statement.{statement}
 use Rattle.grouping.proofs.driver.open.Tie as tie
 
-slot : {W : List ℕ} {owner base : ℕ} {p : Pass} → CanOpen W owner base p → 8 * owner + 8 ≤ length W
+slot : {W : List ℕ} {owner base : ℕ} {p : Pass} → CanOpen W owner base p → slotEnd owner ≤ length W
 slot g = let own = g .own in let below = g .below in let room = g .room in omega arith
 
 -- the owner's chain, in the list's words

@@ -7,12 +7,12 @@ use borrow.Author.Needs.{needs}
 use Rattle.grouping.proofs.group.ends_with_semicolon.Statement.{statement}
 use Rattle.grouping.proofs.group.ends_with_semicolon.Tie as tie
 
-uses-either-requires : tie.Need-uses-either-requires
-uses-either-requires c κs = search needs
+has-either-requires : tie.Need-has-either-requires
+has-either-requires c κs = search needs
 
 returns : tie.Need-returns
 unfolding runs
-returns c = last-missing (sym (c .before .before .uses-either .ensures) ∙ c .before .if1 .taken) (c .if2 .taken)
+returns c = last-missing (sym (c .before .before .has-either .ensures) ∙ c .before .if1 .taken) (c .if2 .taken)
 
 add-last : tie.Need-add-last
 add-last c = let g = c .before .before .before .before .pre in omega (arith, g .based, g .room, g .small)
@@ -32,24 +32,24 @@ operator-of-requires c κs = let g = c .before .before .before .before .before .
 returns-2 : tie.Need-returns-2
 unfolding runs
 returns-2 c =
-    last-other (sym (c .before .before .before .before .before .uses-either .ensures) ∙ c .before .before .before .before .if1 .taken) (c .before .before .before .if2 .left)
+    last-other (sym (c .before .before .before .before .before .has-either .ensures) ∙ c .before .before .before .before .if1 .taken) (c .before .before .before .if2 .left)
     (λ e. c .if3 .taken (c .before .operator-of .ensures ∙ e))
 
 returns-3 : tie.Need-returns-3
 unfolding runs
 returns-3 c =
-    last-semicolon (sym (c .before .before .before .before .before .uses-either .ensures) ∙ c .before .before .before .before .if1 .taken) (c .before .before .before .if2 .left)
+    last-semicolon (sym (c .before .before .before .before .before .has-either .ensures) ∙ c .before .before .before .before .if1 .taken) (c .before .before .before .if2 .left)
     (sym (c .before .operator-of .ensures) ∙ c .if3 .left)
 
 returns-4 : tie.Need-returns-4
 unfolding runs
-returns-4 c = last-unused (sym (c .before .uses-either .ensures) ∙ c .if1 .left)
+returns-4 c = last-unused (sym (c .before .has-either .ensures) ∙ c .if1 .left)
 
 pub ends-with-semicolon-spec : {M : Type 1} → statement M
 ends-with-semicolon-spec =
     tie.close
     (tie.spec
-    uses-either-requires
+    has-either-requires
     returns
     add-last
     sub-last

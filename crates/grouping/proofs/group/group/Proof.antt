@@ -1,7 +1,7 @@
 -- `group::group` meets its contract.
 use mir.Facts.{toZ-ofZ}
 use borrow.Author.Needs.{needs}
-use Rattle.flat.specs.declared.sections.Flat.the-variants.{Fail, Mismatched, Unclosed}
+use Rattle.sections.specs.declared.Flat.the-variants.{Fail, Mismatched, Unclosed}
 use Rattle.grouping.proofs.LevelLaws.{levelled-at, group-ends, group-gives, group-levels, group-done}
 use Rattle.grouping.proofs.group.group.Statement.{statement}
 use Rattle.grouping.proofs.group.group.Tie as tie

@@ -7,82 +7,99 @@ use mir.Syntax.{w16}
 use mir.Val.{toZ, ofZ}
 use borrow.Author.Needs.{needs}
 use lib.ListN.{length}
-use Rattle.order.specs.Places.{usedBy, rulesOf}
+use Rattle.order.specs.Ranks.{usedBy, rulesOf, later, Ranked}
 use Rattle.grouping.specs.Group.{CanLevel}
 use Rattle.grouping.proofs.LevelLaws.{LevelAt, level-start, level-chooses, chosen-as, levelled-at, level-on, level-pointer, level-fails, level-roots}
 use Rattle.grouping.proofs.group.levels.Statement.{statement}
 use Rattle.grouping.proofs.group.levels.Tie as tie
 
 abbrev Inv-loop : tie.InvT-loop
-Inv-loop work₀ base m used version k₀ n₀ work k n =
+Inv-loop work₀ base m used version table k₀ n₀ work k n =
     CanLevel work₀ base m × ((g : CanLevel work₀ base m) (l : ℕ) → LevelAt work₀ base m (usedBy used) (rulesOf (toZ w16 version)) g l work k n) × (k ≤ 23)
     × (length work ≡ length work₀)
+    × Ranked (later (rulesOf (toZ w16 version))) table
 
 abbrev μ-loop : tie.MeasureT-loop
-μ-loop work₀ base m used version k₀ n₀ work k n = 23 - k
+μ-loop work₀ base m used version table k₀ n₀ work k n = 23 - k
+
+ranks-requires : tie.Need-ranks-requires Inv-loop μ-loop
+ranks-requires c κs = search needs
 
 loop-holds : tie.Need-loop-holds Inv-loop μ-loop
-loop-holds c = let a = c .before .args in (c .before .pre, λ g l. level-start (usedBy (a .used)) (rulesOf (toZ w16 (ofZ w16 (a .version)))) g l, omega arith, refl)
+loop-holds c =
+    let a = c .before .before .args in
+    (c .before .before .pre, λ g l. level-start (usedBy (a .used)) (rulesOf (toZ w16 (ofZ w16 (a .version)))) g l, omega arith, refl, c .ranks .ensures)
 
-pass-at-requires : tie.Need-pass-at-requires Inv-loop μ-loop
-pass-at-requires c κs = search needs
+cast-rank : tie.Need-cast-rank Inv-loop μ-loop
+cast-rank c = search needs
+
+mul-rank : tie.Need-mul-rank Inv-loop μ-loop
+mul-rank c = search needs
+
+array-copy-out-rank : tie.Need-array-copy-out-rank Inv-loop μ-loop
+array-copy-out-rank c = search needs
+
+choose-requires : tie.Need-choose-requires Inv-loop μ-loop
+choose-requires c κs = search needs
 
 run-choice-requires : tie.Need-run-choice-requires Inv-loop μ-loop
 run-choice-requires c κs =
-    let t = c .before .before in
+    let t = c .before .before .before in
     let v = t .before .loop .inv in
-    let p = c .before .pass-at in
-    level-chooses (t .loop-test .taken) (v .3) (v .1 (v .0) 0) (p .result) (p .ensures)
+    let p = c .before .choose in
+    level-chooses (v .3) (v .1 (v .0) 0) (p .result) (p .ensures _ (v .4 (t .before .loop .k)))
 
 enum-known-ran : tie.Need-enum-known-ran Inv-loop μ-loop
 enum-known-ran c = search needs
 
 add-k : tie.Need-add-k Inv-loop μ-loop
-add-k c = let h = c .before .before .before .before .before .before .before .before .loop-test .taken in omega arith
+add-k c = let h = c .before .before .before .before .before .before .before .before .before .loop-test .taken in omega arith
 
 loop-less : tie.Need-loop-less Inv-loop μ-loop
-loop-less c = let h = c .before .before .before .before .before .before .before .before .loop-test .taken in omega arith
+loop-less c = let h = c .before .before .before .before .before .before .before .before .before .loop-test .taken in omega arith
 
 loop-again : tie.Need-loop-again Inv-loop μ-loop
 loop-again c =
-    let t = c .before .before .before .before .before .before .before .before in
+    let t = c .before .before .before .before .before .before .before .before .before in
     let v = t .before .loop .inv in
-    let p = c .before .before .before .before .before .before .before .pass-at in
+    let p = c .before .before .before .before .before .before .before .choose in
     let x = c .before .before .before .before .before .run-choice in (
       v .0,
-      λ g l. level-on (t .loop-test .taken) (v .3) (v .1 g l) (p .result) (p .ensures) _ (chosen-as _ _ _ (p .result) (x .result) (x .last .0) (c .before .ran .given .1) (x .ensures)),
+      λ g l. level-on (v .3) (v .1 g l) (p .result) (p .ensures _ (v .4 (t .before .loop .k))) _
+          (chosen-as _ _ _ (p .result) (x .result) (x .last .0) (c .before .ran .given .1) (x .ensures)),
       omega (arith, t .loop-test .taken),
       x .kept .0 ∙ v .3,
+      v .4,
     )
 
 enum-known-ran-2 : tie.Need-enum-known-ran-2 Inv-loop μ-loop
 enum-known-ran-2 c = search needs
 
 same-length : tie.Need-same-length Inv-loop μ-loop
-same-length c = c .before .before .before .before .before .before .run-choice .kept .0 ∙ c .before .before .before .before .before .before .before .before .before .before .loop .inv .3
+same-length c = c .before .before .before .before .before .before .run-choice .kept .0 ∙ c .before .before .before .before .before .before .before .before .before .before .before .loop .inv .3
 
 returns : tie.Need-returns Inv-loop μ-loop
 returns c =
-    let t = c .before .before .before .before .before .before .before .before .before in
+    let t = c .before .before .before .before .before .before .before .before .before .before in
     let v = t .before .loop .inv in
-    let p = c .before .before .before .before .before .before .before .before .pass-at in
+    let p = c .before .before .before .before .before .before .before .before .choose in
     let x = c .before .before .before .before .before .before .run-choice in
-    levelled-at (toZ-ofZ (c .before .before .before .before .before .before .before .before .before .before .before .before .fits .version)) (record {
-      to = λ g l. level-pointer (t .loop-test .taken) (v .3) (v .1 g l) (p .result) (p .ensures) _ (chosen-as _ _ _ (p .result) (x .result) (x .last .0) (c .before .before .ran2 .given .1) (x .ensures)) (c .if1 .taken);
+    levelled-at (toZ-ofZ (c .before .before .before .before .before .before .before .before .before .before .before .before .before .before .fits .version)) (record {
+      to = λ g l. level-pointer (v .3) (v .1 g l) (p .result) (p .ensures _ (v .4 (t .before .loop .k))) _ (chosen-as _ _ _ (p .result) (x .result) (x .last .0) (c .before .before .ran2 .given .1) (x .ensures)) (c .if1 .taken);
       long = x .kept .0 ∙ v .3;
     })
 
 same-length-2 : tie.Need-same-length-2 Inv-loop μ-loop
-same-length-2 c = c .before .before .before .before .before .before .run-choice .kept .0 ∙ c .before .before .before .before .before .before .before .before .before .before .loop .inv .3
+same-length-2 c = c .before .before .before .before .before .before .run-choice .kept .0 ∙ c .before .before .before .before .before .before .before .before .before .before .before .loop .inv .3
 
 returns-2 : tie.Need-returns-2 Inv-loop μ-loop
 returns-2 c =
-    let t = c .before .before .before .before .before .before .before .before .before in
+    let t = c .before .before .before .before .before .before .before .before .before .before in
     let v = t .before .loop .inv in
-    let p = c .before .before .before .before .before .before .before .before .pass-at in
+    let p = c .before .before .before .before .before .before .before .before .choose in
     let x = c .before .before .before .before .before .before .run-choice in
-    levelled-at (toZ-ofZ (c .before .before .before .before .before .before .before .before .before .before .before .before .fits .version)) (record {
-      to = λ g l. level-fails (t .loop-test .taken) (v .3) (v .1 g l) (p .result) (p .ensures) _ (chosen-as _ _ _ (p .result) (x .result) (x .last .0) (c .before .before .ran2 .given .1) (x .ensures)) (c .if1 .left);
+    levelled-at (toZ-ofZ (c .before .before .before .before .before .before .before .before .before .before .before .before .before .before .fits .version)) (record {
+      to = λ g l. level-fails (v .3) (v .1 g l) (p .result) (p .ensures _ (v .4 (t .before .loop .k))) _ (chosen-as _ _ _ (p .result) (x .result) (x .last .0) (c .before .before .ran2 .given .1) (x .ensures)) (c .if1 .left);
       long = x .kept .0 ∙ v .3;
     })
 
@@ -90,8 +107,9 @@ same-length-3 : tie.Need-same-length-3 Inv-loop μ-loop
 same-length-3 c = c .before .loop .inv .3
 
 returns-3 : tie.Need-returns-3 Inv-loop μ-loop
-returns-3 c = let v = c .before .loop .inv in
-    levelled-at (toZ-ofZ (c .before .before .before .fits .version)) (record { to = λ g l. level-roots (v .1 g l) (omega (arith, v .2, c .loop-test .left)); long = v .3 })
+returns-3 c =
+    let v = c .before .loop .inv in
+    levelled-at (toZ-ofZ (c .before .before .before .before .fits .version)) (record { to = λ g l. level-roots (v .1 g l) (omega (arith, v .2, c .loop-test .left)); long = v .3 })
 
 pub levels-spec : {M : Type 1} → statement M
 levels-spec =
@@ -99,8 +117,12 @@ levels-spec =
     (tie.spec
     Inv-loop
     μ-loop
+    ranks-requires
     loop-holds
-    pass-at-requires
+    cast-rank
+    mul-rank
+    array-copy-out-rank
+    choose-requires
     run-choice-requires
     enum-known-ran
     add-k

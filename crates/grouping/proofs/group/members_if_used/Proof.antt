@@ -1,7 +1,7 @@
 -- `group::members_if_used` meets its contract.
 use mathlib.Core.Path.{sym, _∙_}
 use Rattle.molang.specs.Order.{runs}
-use Rattle.order.proofs.Choosing.{one-used}
+use Rattle.ops.proofs.SetLaws.{one-used}
 use Rattle.grouping.proofs.FlatOrder.{joined-used, joined-unused}
 use borrow.Author.Needs.{needs}
 use Rattle.grouping.proofs.group.members_if_used.Statement.{statement}

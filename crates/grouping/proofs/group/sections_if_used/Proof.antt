@@ -6,8 +6,8 @@ use borrow.Author.Needs.{needs}
 use Rattle.grouping.proofs.group.sections_if_used.Statement.{statement}
 use Rattle.grouping.proofs.group.sections_if_used.Tie as tie
 
-uses-some-requires : tie.Need-uses-some-requires
-uses-some-requires c κs = search needs
+has-some-requires : tie.Need-has-some-requires
+has-some-requires c κs = search needs
 
 sections-requires : tie.Need-sections-requires
 sections-requires c κs = search needs
@@ -17,12 +17,12 @@ same-length c = search needs
 
 returns : tie.Need-returns
 unfolding runs
-returns c = sectioned-used (sym (c .before .before .before .before .before .uses-some .ensures) ∙ c .before .before .before .before .if1 .taken) (c .before .before .sections .ensures)
+returns c = sectioned-used (sym (c .before .before .before .before .before .has-some .ensures) ∙ c .before .before .before .before .if1 .taken) (c .before .before .sections .ensures)
 
 returns-2 : tie.Need-returns-2
 unfolding runs
-returns-2 c = sectioned-unused (sym (c .before .uses-some .ensures) ∙ c .if1 .left)
+returns-2 c = sectioned-unused (sym (c .before .has-some .ensures) ∙ c .if1 .left)
 
 pub sections-if-used-spec : {M : Type 1} → statement M
 sections-if-used-spec =
-    tie.close (tie.spec uses-some-requires sections-requires same-length returns returns-2)
+    tie.close (tie.spec has-some-requires sections-requires same-length returns returns-2)

@@ -1,26 +1,55 @@
--- `lines::asked::read_at` meets its contract. Assumes nothing.
-use mathlib.Core.Path.{_≡_}
-use mir.Syntax.{w16}
-use mir.Val.{toZ, ofZ}
-use mir.Facts.{toZ-ofZ}
+-- `lines::asked::read_at` meets its contract: the versions left fall. Assumes nothing.
+use Prim.Native.Nat.{_+_, _-_}
+use native.Mathlib.Omega.{arith}
 use borrow.Author.Needs.{needs}
 use Rattle.lines.proofs.asked.read_at.Statement.{statement}
 use Rattle.lines.proofs.asked.read_at.Tie as tie
 
-returns : tie.Need-returns
-returns c = search needs
+abbrev Inv-loop : tie.InvT-loop
+Inv-loop list words first last answers bits₀ bits = Unit {0}
 
-version-of-requires : tie.Need-version-of-requires
-version-of-requires c κs = search needs
+abbrev μ-loop : tie.MeasureT-loop
+μ-loop list words first last answers bits₀ bits = last + 1 - bits
 
-read-operators-requires : tie.Need-read-operators-requires
-read-operators-requires c κs = search needs
+loop-holds : tie.Need-loop-holds Inv-loop μ-loop
+loop-holds c = tt
 
-returns-2 : tie.Need-returns-2
-returns-2 c =
-    let version = c .before .version-of in
-    let back : toZ w16 (ofZ w16 (version .result)) ≡ version .result = toZ-ofZ (record { sfits = version .ok }) in
-    rw (back, version .ensures) at (c .read-operators .ensures)
+version-of-requires : tie.Need-version-of-requires Inv-loop μ-loop
+version-of-requires c κs = omega arith
+
+read-requires : tie.Need-read-requires Inv-loop μ-loop
+read-requires c κs = omega arith
+
+enum-told : tie.Need-enum-told Inv-loop μ-loop
+enum-told c = search needs
+
+returns : tie.Need-returns Inv-loop μ-loop
+returns c = tt
+
+add-bits : tie.Need-add-bits Inv-loop μ-loop
+add-bits c = omega arith
+
+loop-less : tie.Need-loop-less Inv-loop μ-loop
+loop-less c = omega arith
+
+loop-again : tie.Need-loop-again Inv-loop μ-loop
+loop-again c = tt
+
+returns-2 : tie.Need-returns-2 Inv-loop μ-loop
+returns-2 c = tt
 
 pub read-at-spec : {M : Type 1} → statement M
-read-at-spec = tie.close (tie.spec returns version-of-requires read-operators-requires returns-2)
+read-at-spec =
+    tie.close
+    (tie.spec
+    Inv-loop
+    μ-loop
+    loop-holds
+    version-of-requires
+    read-requires
+    enum-told
+    returns
+    add-bits
+    loop-less
+    loop-again
+    returns-2)

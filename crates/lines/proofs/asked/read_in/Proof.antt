@@ -1,11 +1,8 @@
--- `lines::asked::read_in` meets its contract: what is handed on of the buffers are zeros. Assumes nothing.
-use Prim.Native.Nat.{_+_, _*_}
+-- `lines::asked::read_in` meets its contract: each part is as long as it says. Assumes nothing.
 use mathlib.Core.Path.{sym}
 use native.Mathlib.Omega.{arith}
 use lib.Seq.{length-take-le}
 use borrow.Author.Needs.{needs}
-use mir.Facts.{toZ-ofZ}
-use Rattle.lines.proofs.Zeros.{take-zeros}
 use Rattle.lines.proofs.asked.read_in.Statement.{statement}
 use Rattle.lines.proofs.asked.read_in.Tie as tie
 
@@ -18,28 +15,23 @@ mul-slots c = search needs
 add-slots : tie.Need-add-slots
 add-slots c = search needs
 
-slice-relend-prefix-read-with : tie.Need-slice-relend-prefix-read-with
-slice-relend-prefix-read-with c = search needs
-
 slice-aggregate-read-with : tie.Need-slice-aggregate-read-with
 slice-aggregate-read-with c = sym (length-take-le _ _ (omega arith))
 
-slice-relend-prefix-read-with-2 : tie.Need-slice-relend-prefix-read-with-2
-slice-relend-prefix-read-with-2 c = search needs
+slice-relend-prefix-read-with : tie.Need-slice-relend-prefix-read-with
+slice-relend-prefix-read-with c = search needs
 
 slice-aggregate-read-with-2 : tie.Need-slice-aggregate-read-with-2
 slice-aggregate-read-with-2 c = sym (length-take-le _ _ (omega arith))
 
+slice-relend-prefix-read-with-2 : tie.Need-slice-relend-prefix-read-with-2
+slice-relend-prefix-read-with-2 c = search needs
+
+slice-aggregate-read-with-3 : tie.Need-slice-aggregate-read-with-3
+slice-aggregate-read-with-3 c = sym (length-take-le _ _ (omega arith))
+
 read-with-requires : tie.Need-read-with-requires
-read-with-requires c κs =
-    let start = c .before .before .before .before .before .before .before .before in
-    let a = start .args in
-    let room = start .pre .1 in
-    record {
-      tree = take-zeros (18 * a .n) (a .tree .now) (room .tree) (omega arith);
-      messages = room .messages;
-      work = take-zeros (64 * a .n + 64) (a .work .now) (room .work) (omega arith);
-    }
+read-with-requires c κs = search needs
 
 same-length : tie.Need-same-length
 same-length c = search needs
@@ -51,8 +43,7 @@ same-length-3 : tie.Need-same-length-3
 same-length-3 c = search needs
 
 returns : tie.Need-returns
-returns c =
-    let start = c .before .before .before .before .before .before .before .before .before .before .before .before .before .before .before in rw (toZ-ofZ (start .fits .version)) at (c .before .before .before .before .before .before .read-with .ensures)
+returns c = search needs
 
 pub read-in-spec : {M : Type 1} → statement M
 read-in-spec =
@@ -61,10 +52,11 @@ read-in-spec =
     mul-nodes
     mul-slots
     add-slots
-    slice-relend-prefix-read-with
     slice-aggregate-read-with
-    slice-relend-prefix-read-with-2
+    slice-relend-prefix-read-with
     slice-aggregate-read-with-2
+    slice-relend-prefix-read-with-2
+    slice-aggregate-read-with-3
     read-with-requires
     same-length
     same-length-2

@@ -1,7 +1,8 @@
 -- `nodes::children::count_chain` meets its contract: a step of the count for the first slot, one for the second, then one at each turn of the loop.
-use Prim.Native.Nat.{_+_, _*_, _-_, _^_, _≤_, _<_}
+use Prim.Native.Nat.{_-_, _^_, _≤_, _<_}
 use native.Mathlib.Omega.{arith}
 use lib.ListN.{length}
+use Rattle.nodes.specs.Store.{slotEnd}
 use Rattle.nodes.proofs.Taking.{Counting, count-start, count-in, count-step, count-done}
 use Rattle.nodes.proofs.children.count_chain.Statement.{statement}
 use Rattle.nodes.proofs.children.count_chain.Tie as tie
@@ -37,7 +38,7 @@ loop-holds c =
 
 bounds : (c : tie.In-loop Inv-loop μ-loop)
     → let w = c .before .loop in
-    (8 * w .s + 8 ≤ length (c .before .before .before .before .before .before .before .args .work .now)) × (w .n < w .s)
+    (slotEnd (w .s) ≤ length (c .before .before .before .before .before .before .before .args .work .now)) × (w .n < w .s)
 bounds c = let v = c .before .loop .inv .0 in count-in (v .0) (v .1) (c .loop-test .taken)
 
 add-n : tie.Need-add-n Inv-loop μ-loop

@@ -1,11 +1,11 @@
 -- `nodes::children::give_children` meets its contract.
-use Prim.Native.Nat.{ℕ, _+_, _*_, _-_, _≤_, _<_}
+use Prim.Native.Nat.{ℕ, _+_, _-_, _≤_, _<_}
 use mathlib.Core.Path.{refl, ap, _∙_}
 use mathlib.Core.Bool.{_||_}
 use native.Mathlib.Omega.{arith}
 use lib.ListN.{length}
 use Rattle.ops.specs.Classes.{bitAt}
-use Rattle.nodes.specs.Store.{wd}
+use Rattle.nodes.specs.Store.{wd, slotEnd}
 use Rattle.nodes.proofs.Giving.{Giving, give-start, give-in, give-step, give-done}
 use Rattle.nodes.proofs.children.give_children.Statement.{statement}
 use Rattle.nodes.proofs.children.give_children.Tie as tie
@@ -25,7 +25,7 @@ sub-i c = omega arith
 bounds : (c : tie.In-loop Inv-loop μ-loop)
     → let w = c .before .loop in
     let at = c .before .before .before .args .from + (w .i - 1) in
-    (at < length (w .work)) × (8 * wd (w .work) at + 8 ≤ length (w .work))
+    (at < length (w .work)) × (slotEnd (wd (w .work) at) ≤ length (w .work))
 bounds c = let v = c .before .loop .inv in give-in (v .0) (v .2) (c .loop-test .taken)
 
 add-s : tie.Need-add-s Inv-loop μ-loop

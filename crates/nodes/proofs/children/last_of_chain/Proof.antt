@@ -1,7 +1,8 @@
 -- `nodes::children::last_of_chain` meets its contract.
-use Prim.Native.Nat.{_+_, _*_, _-_, _≤_, _<_}
+use Prim.Native.Nat.{_-_, _≤_, _<_}
 use native.Mathlib.Omega.{arith}
 use lib.ListN.{length}
+use Rattle.nodes.specs.Store.{slotEnd}
 use Rattle.nodes.proofs.Taking.{Lasting, last-start, last-first, last-in, last-step, last-done}
 use Rattle.nodes.proofs.children.last_of_chain.Statement.{statement}
 use Rattle.nodes.proofs.children.last_of_chain.Tie as tie
@@ -20,7 +21,7 @@ loop-holds c = rw (c .next-of .ensures) (last-start (c .before .before .pre .0) 
 
 bounds : (c : tie.In-loop Inv-loop μ-loop)
     → let w = c .before .loop in
-    (8 * w .s + 8 ≤ length (c .before .before .before .before .args .work .now)) × (w .last < w .s)
+    (slotEnd (w .s) ≤ length (c .before .before .before .before .args .work .now)) × (w .last < w .s)
 bounds c = let v = c .before .loop .inv in last-in (v .0) (v .1) (c .loop-test .taken)
 
 next-of-requires-2 : tie.Need-next-of-requires-2 Inv-loop μ-loop

@@ -1,7 +1,8 @@
 -- `nodes::children::take_chain` meets its contract.
-use Prim.Native.Nat.{_+_, _*_, _-_, _≤_, _<_}
+use Prim.Native.Nat.{_-_, _≤_, _<_}
 use native.Mathlib.Omega.{arith}
 use lib.ListN.{length, length-set}
+use Rattle.nodes.specs.Store.{slotEnd}
 use Rattle.nodes.proofs.Taking.{Taking, take-start, take-in, take-step, take-done}
 use Rattle.nodes.proofs.children.take_chain.Statement.{statement}
 use Rattle.nodes.proofs.children.take_chain.Tie as tie
@@ -18,7 +19,7 @@ loop-holds c = take-start (c .before .pre)
 bounds : (c : tie.In-loop Inv-loop μ-loop)
     → let w = c .before .loop in
     let to = c .before .before .before .args .to in
-    (8 * w .s + 8 ≤ to) × (to ≤ w .i) × (w .i < length (w .work))
+    (slotEnd (w .s) ≤ to) × (to ≤ w .i) × (w .i < length (w .work))
 bounds c = let v = c .before .loop .inv in take-in (v .1) (v .2) (c .loop-test .taken)
 
 mul-work : tie.Need-mul-work Inv-loop μ-loop

@@ -1,6 +1,9 @@
 -- `nodes::frames::push` meets its contract.
+use Prim.Native.Nat.{_+_}
+use native.Mathlib.Numerals.{towards-suc}
 use lib.ListN.{length-set}
-use Rattle.nodes.proofs.Stores.{pushed-words}
+use Rattle.words.proofs.RecordLaws.{laid-sets}
+use Rattle.nodes.proofs.Stores.{frameWords, pushed-words}
 use borrow.Author.Needs.{needs}
 use Rattle.nodes.proofs.frames.push.Statement.{statement}
 use Rattle.nodes.proofs.frames.push.Tie as tie
@@ -77,7 +80,9 @@ same-length c = search needs
 returns : tie.Need-returns
 returns c =
     let s = c .before .before .before .before in
-    pushed-words (s .args .work .now) (s .args .list) (s .args .held) (s .pre .room)
+    let a = s .args in
+    pushed-words (a .work .now) _ (a .list) (a .held) (s .pre .room)
+    (simp towards-suc (laid-sets (frameWords (a .list) (a .held)) (a .work .now) (a .list .base + a .list .len) (s .pre .room)))
 
 pub push-spec : {M : Type 1} → statement M
 push-spec =

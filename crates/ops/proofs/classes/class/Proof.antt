@@ -11,10 +11,10 @@ element-copy-out-t8 : tie.Need-element-copy-out-t8
 element-copy-out-t8 c = search needs
 
 returns : tie.Need-returns
-returns c = entry-at (c .before .before .args .table .now) (c .before .before .args .op) (search needs)
+returns c = entry-past (c .before .args .table .now) (c .before .args .op) (search needs)
 
 returns-2 : tie.Need-returns-2
-returns-2 c = entry-past (c .before .args .table .now) (c .before .args .op) (search needs)
+returns-2 c = entry-at (c .before .before .args .table .now) (c .before .before .args .op) (search needs)
 
 pub class-spec : {M : Type 1} → statement M
-class-spec = tie.close (tie.spec mul-t5 element-copy-out-t8 returns returns-2)
+class-spec = tie.close (tie.spec returns mul-t5 element-copy-out-t8 returns-2)

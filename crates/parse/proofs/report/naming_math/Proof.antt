@@ -4,8 +4,8 @@ use Rattle.parse.proofs.RecordLaws.{with-first}
 use Rattle.parse.proofs.report.naming_math.Statement.{statement}
 use Rattle.parse.proofs.report.naming_math.Tie as tie
 
-plain-requires : tie.Need-plain-requires
-plain-requires c κs = search needs
+at-slot-requires : tie.Need-at-slot-requires
+at-slot-requires c κs = search needs
 
 operator-of-requires : tie.Need-operator-of-requires
 operator-of-requires c κs = search needs
@@ -17,9 +17,9 @@ naming-requires : tie.Need-naming-requires
 naming-requires c κs = search needs
 
 returns : tie.Need-returns
-returns c = with-first (c .naming .ensures) (c .before .before .before .plain .ensures) (c .before .before .operator-of .ensures) (c .before .host-value .ensures)
+returns c = with-first (c .naming .ensures) (c .before .before .before .at-slot .ensures) (c .before .before .operator-of .ensures) (c .before .host-value .ensures)
 
 pub naming-math-spec : {M : Type 1} → statement M
 naming-math-spec =
     tie.close
-    (tie.spec plain-requires operator-of-requires host-value-requires naming-requires returns)
+    (tie.spec at-slot-requires operator-of-requires host-value-requires naming-requires returns)

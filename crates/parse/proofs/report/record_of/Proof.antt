@@ -1,7 +1,7 @@
 -- `parse::report::record_of` meets its contract: each arm is the case of `recordFor` that its variant has. Assumes nothing.
 use mathlib.Core.Path.{_≡_}
 use borrow.Author.Needs.{needs}
-use Rattle.walks.specs.declared.failure.Failure.{Failure}
+use Rattle.levels.specs.declared.failure.Failure.{Failure}
 use Rattle.parse.specs.Records.{Named}
 use Rattle.parse.proofs.RecordLaws.{named-at}
 use Rattle.parse.proofs.report.record_of.Statement.{statement}
@@ -14,8 +14,8 @@ slots-at start e = named-at (start .args .work .now) e (start .pre)
 enum-known-failure : tie.Need-enum-known-failure
 enum-known-failure c = search needs
 
-plain-requires : tie.Need-plain-requires
-plain-requires c κs = slots-at (c .before .before .before .before) (c .before .failure .given .1) .0
+at-slot-requires : tie.Need-at-slot-requires
+at-slot-requires c κs = slots-at (c .before .before .before .before) (c .before .failure .given .1) .0
 
 enum-told : tie.Need-enum-told
 enum-told c = search needs
@@ -26,8 +26,8 @@ new-requires c κs = search needs
 enum-known-failure-2 : tie.Need-enum-known-failure-2
 enum-known-failure-2 c = search needs
 
-plain-requires-2 : tie.Need-plain-requires-2
-plain-requires-2 c κs = slots-at (c .before .before .before .before) (c .before .failure2 .given .1) .0
+at-slot-requires-2 : tie.Need-at-slot-requires-2
+at-slot-requires-2 c κs = slots-at (c .before .before .before .before) (c .before .failure2 .given .1) .0
 
 enum-known-failure-3 : tie.Need-enum-known-failure-3
 enum-known-failure-3 c = search needs
@@ -50,8 +50,8 @@ naming-math-requires-2 c κs = slots-at (c .before .before .before .before) (c .
 enum-known-failure-6 : tie.Need-enum-known-failure-6
 enum-known-failure-6 c = search needs
 
-plain-requires-3 : tie.Need-plain-requires-3
-plain-requires-3 c κs = slots-at (c .before .before .before .before) (c .before .failure6 .given .1) .0
+at-slot-requires-3 : tie.Need-at-slot-requires-3
+at-slot-requires-3 c κs = slots-at (c .before .before .before .before) (c .before .failure6 .given .1) .0
 
 enum-known-failure-7 : tie.Need-enum-known-failure-7
 enum-known-failure-7 c = search needs
@@ -68,14 +68,14 @@ naming-requires-2 c κs = let slots = slots-at (c .before .before .before .befor
 enum-known-failure-9 : tie.Need-enum-known-failure-9
 enum-known-failure-9 c = search needs
 
-plain-requires-4 : tie.Need-plain-requires-4
-plain-requires-4 c κs = slots-at (c .before .before .before .before) (c .before .failure9 .given .1) .0
+at-slot-requires-4 : tie.Need-at-slot-requires-4
+at-slot-requires-4 c κs = slots-at (c .before .before .before .before) (c .before .failure9 .given .1) .0
 
 enum-known-failure-10 : tie.Need-enum-known-failure-10
 enum-known-failure-10 c = search needs
 
-plain-requires-5 : tie.Need-plain-requires-5
-plain-requires-5 c κs = slots-at (c .before .before .before .before) (c .before .failure10 .given .1) .0
+at-slot-requires-5 : tie.Need-at-slot-requires-5
+at-slot-requires-5 c κs = slots-at (c .before .before .before .before) (c .before .failure10 .given .1) .0
 
 enum-known-failure-11 : tie.Need-enum-known-failure-11
 enum-known-failure-11 c = search needs
@@ -96,13 +96,13 @@ naming-requires-5 : tie.Need-naming-requires-5
 naming-requires-5 c κs = let slots = slots-at (c .before .before .before .before) (c .before .failure13 .given .1) in (slots .0, slots .0, slots .0)
 
 returns : tie.Need-returns
-returns c = rw (c .before .before .failure .given .1) (c .plain .ensures)
+returns c = rw (c .before .before .failure .given .1) (c .at-slot .ensures)
 
 returns-2 : tie.Need-returns-2
 returns-2 c = rw (c .before .enum-told .given .1) (c .new .ensures)
 
 returns-3 : tie.Need-returns-3
-returns-3 c = rw (c .before .before .failure2 .given .1) (c .plain2 .ensures)
+returns-3 c = rw (c .before .before .failure2 .given .1) (c .at-slot2 .ensures)
 
 returns-4 : tie.Need-returns-4
 returns-4 c = rw (c .before .before .failure3 .given .1) (c .naming .ensures)
@@ -114,7 +114,7 @@ returns-6 : tie.Need-returns-6
 returns-6 c = rw (c .before .before .failure5 .given .1) (c .naming-math2 .ensures)
 
 returns-7 : tie.Need-returns-7
-returns-7 c = rw (c .before .before .failure6 .given .1) (c .plain3 .ensures)
+returns-7 c = rw (c .before .before .failure6 .given .1) (c .at-slot3 .ensures)
 
 returns-8 : tie.Need-returns-8
 returns-8 c = rw (c .before .before .failure7 .given .1) (c .spanning .ensures)
@@ -123,10 +123,10 @@ returns-9 : tie.Need-returns-9
 returns-9 c = rw (c .before .before .failure8 .given .1) (c .naming2 .ensures)
 
 returns-10 : tie.Need-returns-10
-returns-10 c = rw (c .before .before .failure9 .given .1) (c .plain4 .ensures)
+returns-10 c = rw (c .before .before .failure9 .given .1) (c .at-slot4 .ensures)
 
 returns-11 : tie.Need-returns-11
-returns-11 c = rw (c .before .before .failure10 .given .1) (c .plain5 .ensures)
+returns-11 c = rw (c .before .before .failure10 .given .1) (c .at-slot5 .ensures)
 
 returns-12 : tie.Need-returns-12
 returns-12 c = rw (c .before .before .failure11 .given .1) (c .naming3 .ensures)
@@ -142,11 +142,11 @@ record-of-spec =
     tie.close
     (tie.spec
     enum-known-failure
-    plain-requires
+    at-slot-requires
     enum-told
     new-requires
     enum-known-failure-2
-    plain-requires-2
+    at-slot-requires-2
     enum-known-failure-3
     naming-requires
     enum-known-failure-4
@@ -154,15 +154,15 @@ record-of-spec =
     enum-known-failure-5
     naming-math-requires-2
     enum-known-failure-6
-    plain-requires-3
+    at-slot-requires-3
     enum-known-failure-7
     spanning-requires
     enum-known-failure-8
     naming-requires-2
     enum-known-failure-9
-    plain-requires-4
+    at-slot-requires-4
     enum-known-failure-10
-    plain-requires-5
+    at-slot-requires-5
     enum-known-failure-11
     naming-requires-3
     enum-known-failure-12

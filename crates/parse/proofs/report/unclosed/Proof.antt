@@ -8,8 +8,8 @@ use Rattle.parse.proofs.report.unclosed.Tie as tie
 operator-of-requires : tie.Need-operator-of-requires
 operator-of-requires c κs = search needs
 
-plain-requires : tie.Need-plain-requires
-plain-requires c κs = search needs
+at-slot-requires : tie.Need-at-slot-requires
+at-slot-requires c κs = search needs
 
 naming-requires : tie.Need-naming-requires
 naming-requires c κs = search needs
@@ -23,7 +23,7 @@ and-requires c κs = search needs
 returns : tie.Need-returns
 returns c =
     let op = c .before .before .before .before .operator-of .ensures in
-    with-last (c .and .ensures) (with-first (c .before .before .naming .ensures) (c .before .before .before .plain .ensures) refl op)
+    with-last (c .and .ensures) (with-first (c .before .before .naming .ensures) (c .before .before .before .at-slot .ensures) refl op)
     (closer-read (c .before .closer-of .ensures) op) refl refl
 
 pub unclosed-spec : {M : Type 1} → statement M
@@ -31,7 +31,7 @@ unclosed-spec =
     tie.close
     (tie.spec
     operator-of-requires
-    plain-requires
+    at-slot-requires
     naming-requires
     closer-of-requires
     and-requires

@@ -2,7 +2,7 @@
 use mathlib.Core.Path.{refl, sym, _∙_}
 use borrow.Author.Needs.{needs}
 use Rattle.passes.specs.Arrays.{empty}
-use Rattle.passes.proofs.GrowingLaws.{index-opens}
+use Rattle.passes.proofs.ArrayGrowing.{index-opens}
 use Rattle.passes.proofs.arrays.array_index.Statement.{statement}
 use Rattle.passes.proofs.arrays.array_index.Tie as tie
 

@@ -1,6 +1,6 @@
 use native.Mathlib.Omega.{arith}
 use lib.ListN.{length}
-use Rattle.passes.proofs.ChainLaws.{Gathering, gather-start, gather-in, gather-step, gather-done, toTurn, gather-falls}
+use Rattle.passes.proofs.ArrayChain.{Gathering, gather-start, gather-in, gather-step, gather-done, toTurn, gather-falls}
 use Rattle.passes.proofs.arrays.gather.Statement.{statement}
 use Rattle.passes.proofs.arrays.gather.Tie as tie
 

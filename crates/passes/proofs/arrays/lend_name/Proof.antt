@@ -1,7 +1,7 @@
--- `lend_name`: the array's last child, its name and the index's contents are looked at (GrowingLaws).
+-- `lend_name`: the array's last child, its name and the index's contents are looked at (ArrayGrowing).
 use borrow.Author.Needs.{needs}
 use borrow.Author.Tests.{not-true, not-false}
-use Rattle.passes.proofs.GrowingLaws.{lent-no-child, lent-no-name, lent-no-index, lent-name}
+use Rattle.passes.proofs.ArrayGrowing.{lent-no-child, lent-no-name, lent-no-index, lent-name}
 use Rattle.passes.proofs.arrays.lend_name.Statement.{statement}
 use Rattle.passes.proofs.arrays.lend_name.Tie as tie
 

@@ -1,10 +1,10 @@
--- `turn_round`: the loop's laws are ChainLaws'.
+-- `turn_round`: the loop's laws are ArrayChain'.
 use native.Mathlib.Omega.{arith}
 use Prim.Native.Nat.{ℕ}
 use mathlib.Core.Path.{ap, _∙_}
 use mathlib.Core.Bool.{_||_}
 use Rattle.ops.specs.Classes.{bitAt}
-use Rattle.passes.proofs.ChainLaws.{Rounding, round-start, round-in, round-less, round-step, round-done}
+use Rattle.passes.proofs.ArrayChain.{Rounding, round-start, round-in, round-less, round-step, round-done}
 use Rattle.passes.proofs.arrays.turn_round.Statement.{statement}
 use Rattle.passes.proofs.arrays.turn_round.Tie as tie
 

@@ -1,9 +1,9 @@
--- `first_leaf`: its loop goes down or on, and has turns enough (SearchLaws).
+-- `first_leaf`: its loop goes down or on, and has turns enough (BinarySearch).
 use native.Mathlib.Omega.{arith}
 use mathlib.Core.Path.{refl}
 use borrow.Author.Needs.{needs}
 use Rattle.passes.proofs.CallLaws.{shares-as}
-use Rattle.passes.proofs.SearchLaws.{Searching, search-start, search-in, search-down, search-next, search-done, search-left}
+use Rattle.passes.proofs.BinarySearch.{Searching, search-start, search-in, search-down, search-next, search-done, search-left}
 use Rattle.passes.proofs.binary.first_leaf.Statement.{statement}
 use Rattle.passes.proofs.binary.first_leaf.Tie as tie
 
@@ -20,7 +20,7 @@ sub-fuel : tie.Need-sub-fuel Inv-loop μ-loop
 sub-fuel c = omega arith
 
 returns : tie.Need-returns Inv-loop μ-loop
-returns c = λ g ops exact. search-done (c .before .before .loop .inv g) (c .if1 .taken) ops exact
+returns c = λ g ops covers. search-done (c .before .before .loop .inv g) (c .if1 .taken) ops covers
 
 classes-of-requires : tie.Need-classes-of-requires Inv-loop μ-loop
 classes-of-requires c κs = search-in (c .before .before .loop .inv (c .before .before .before .before .pre)) (c .if1 .left)
@@ -53,7 +53,7 @@ loop-again-2 c = λ g.
     (shares-as (c .before .before .intersects .ensures) (c .before .before .before .classes-of .ensures) refl (c .before .if2 .left)))
 
 returns-2 : tie.Need-returns-2 Inv-loop μ-loop
-returns-2 c = λ g ops exact. absurd (omega (arith, search-left (c .before .loop .inv g), c .loop-test .left))
+returns-2 c = λ g ops covers. absurd (omega (arith, search-left (c .before .loop .inv g), c .loop-test .left))
 
 pub first-leaf-spec : {M : Type 1} → statement M
 first-leaf-spec =

@@ -9,10 +9,10 @@ use Rattle.passes.proofs.binary.operator.Statement.{statement}
 use Rattle.passes.proofs.binary.operator.Tie as tie
 
 returns : tie.Need-returns
-returns c = λ ops exact. operator-begins (c .before .before .before .args .classes) ops exact (c .if1 .taken)
+returns c = λ ops covers. operator-begins (c .before .before .before .args .classes) ops covers (c .if1 .taken)
 
 returns-2 : tie.Need-returns-2
-returns-2 c = λ ops exact. operator-ends (c .before .before .before .before .before .args .classes) ops exact (c .if2 .taken)
+returns-2 c = λ ops covers. operator-ends (c .before .before .before .before .before .args .classes) ops covers (c .if2 .taken)
 
 add-at : tie.Need-add-at
 add-at c = search needs
@@ -39,9 +39,9 @@ same-length : tie.Need-same-length
 same-length c = search needs
 
 returns-3 : tie.Need-returns-3
-returns-3 c = λ ops exact.
+returns-3 c = λ ops covers.
     let has = c .before .before .before .before .before .before .before .before .before .before .if1 .left in
-    operator-fails (c .before .before .before .before .before .before .before .before .before .before .before .before .before .args .classes) ops exact (omega arith) (next-room (c .before .before .before .before .before .before .before .before .before .before .before .before .before .pre) (c .before .before .before .before .before .before .before .before .if2 .left) .0) (shares-as (c .before .before .before .intersects .ensures) (c .before .before .before .before .classes-of .ensures) refl (c .before .before .if3 .taken)) (c .first-leaf .ensures)
+    operator-fails (c .before .before .before .before .before .before .before .before .before .before .before .before .before .args .classes) ops covers (omega arith) (next-room (c .before .before .before .before .before .before .before .before .before .before .before .before .before .pre) (c .before .before .before .before .before .before .before .before .if2 .left) .0) (shares-as (c .before .before .before .intersects .ensures) (c .before .before .before .before .classes-of .ensures) refl (c .before .before .if3 .taken)) (c .first-leaf .ensures)
 
 folded-requires : tie.Need-folded-requires
 folded-requires c κs =
@@ -52,9 +52,9 @@ same-length-2 : tie.Need-same-length-2
 same-length-2 c = search needs
 
 returns-4 : tie.Need-returns-4
-returns-4 c = λ ops exact.
+returns-4 c = λ ops covers.
     let has = c .before .before .before .before .before .before .before .before .before .before .before .before .if1 .left in
-    operated (c .before .before .before .before .before .before .before .before .before .before .before .before .before .before .before .args .classes) ops exact (omega arith) (next-room (c .before .before .before .before .before .before .before .before .before .before .before .before .before .before .before .pre) (c .before .before .before .before .before .before .before .before .before .before .if2 .left) .0) (shares-as (c .before .before .before .before .before .intersects .ensures) (c .before .before .before .before .before .before .classes-of .ensures) refl (c .before .before .before .before .if3 .left)) (c .before .before .folded .ensures)
+    operated (c .before .before .before .before .before .before .before .before .before .before .before .before .before .before .before .args .classes) ops covers (omega arith) (next-room (c .before .before .before .before .before .before .before .before .before .before .before .before .before .before .before .pre) (c .before .before .before .before .before .before .before .before .before .before .if2 .left) .0) (shares-as (c .before .before .before .before .before .intersects .ensures) (c .before .before .before .before .before .before .classes-of .ensures) refl (c .before .before .before .before .if3 .left)) (c .before .before .folded .ensures)
 
 pub operator-spec : {M : Type 1} → statement M
 operator-spec =

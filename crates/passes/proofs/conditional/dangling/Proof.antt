@@ -1,11 +1,11 @@
 -- `passes::conditional::dangling` meets its contract.
 use mathlib.Core.Path.{sym, _∙_}
-use Prim.Native.Nat.{_+_, _*_, _-_, _^_, _≤_, _<_}
+use Prim.Native.Nat.{_+_, _-_, _^_, _≤_, _<_}
 use native.Mathlib.Omega.{arith}
 use lib.ListN.{length}
-use Rattle.nodes.specs.Store.{wd}
-use Rattle.passes.specs.Folding.{CanDangle}
-use Rattle.passes.proofs.DanglingLaws.{Dangling, dangle-start, dangle-in, dangle-next, dangles-if, dangles-else, dangles-none}
+use Rattle.nodes.specs.Store.{wd, slotEnd}
+use Rattle.passes.specs.Conditional.{CanDangle}
+use Rattle.passes.proofs.ConditionalDangling.{Dangling, dangle-start, dangle-in, dangle-next, dangles-if, dangles-else, dangles-none}
 use Rattle.passes.proofs.conditional.dangling.Statement.{statement}
 use Rattle.passes.proofs.conditional.dangling.Tie as tie
 
@@ -19,7 +19,7 @@ loop-holds : tie.Need-loop-holds Inv-loop μ-loop
 loop-holds c = (c .before .pre, dangle-start)
 
 bounds : (c : tie.In-loop Inv-loop μ-loop) → let a = c .before .before .before .args in let at = a .base + c .before .loop .i in
-    (at < length (a .work .now)) × (8 * wd (a .work .now) at + 8 ≤ length (a .work .now)) × (length (a .work .now) < 2 ^ 32)
+    (at < length (a .work .now)) × (slotEnd (wd (a .work .now) at) ≤ length (a .work .now)) × (length (a .work .now) < 2 ^ 32)
 bounds c = let v = c .before .loop .inv in dangle-in (v .1) (v .0) (c .loop-test .taken)
 
 add-item : tie.Need-add-item Inv-loop μ-loop

@@ -3,8 +3,8 @@ use Prim.Native.Nat.{_+_, _^_, _≤_, _<_}
 use mathlib.Core.Path.{_≡_, refl}
 use native.Mathlib.Omega.{arith}
 use lib.ListN.{length}
-use Rattle.passes.specs.Folding.{CanFold}
-use Rattle.passes.proofs.ScanLoop.{Scanning, scan-start, scan-in, next-can, scan-next, folded-few, folded-none, folded-one}
+use Rattle.passes.specs.Conditional.{CanFold}
+use Rattle.passes.proofs.ConditionalLoop.{Scanning, scan-start, scan-in, next-can, scan-next, folded-few, folded-none, folded-one}
 use Rattle.passes.proofs.conditional.fold_conditionals.Statement.{statement}
 use Rattle.passes.proofs.conditional.fold_conditionals.Tie as tie
 

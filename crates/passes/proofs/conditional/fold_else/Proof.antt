@@ -2,7 +2,7 @@
 use Prim.Native.Nat.{_+_, _-_, _<_}
 use mathlib.Core.Path.{refl, sym, _∙_}
 use native.Mathlib.Omega.{arith}
-use Rattle.passes.specs.Folding.{start, short, noIf, noElse, pair}
+use Rattle.passes.specs.Conditional.{start, short, noIf, noElse, pair}
 use borrow.Author.Needs.{needs}
 use Rattle.passes.proofs.conditional.fold_else.Statement.{statement}
 use Rattle.passes.proofs.conditional.fold_else.Tie as tie

@@ -1,9 +1,9 @@
 -- `passes::conditional::fold_next` meets its contract.
-use Rattle.passes.proofs.PairLaws.{else-can, next-if}
+use Rattle.passes.proofs.ConditionalPair.{else-can, next-if}
 use Prim.Native.Nat.{_-_}
 use mathlib.Core.Path.{refl, sym, _∙_}
 use native.Mathlib.Omega.{arith}
-use Rattle.passes.proofs.ScanLaws.{scan-look, scan-fold, next-else, next-on}
+use Rattle.passes.proofs.ConditionalScan.{scan-look, scan-fold, next-else, next-on}
 use borrow.Author.Needs.{needs}
 use Rattle.passes.proofs.conditional.fold_next.Statement.{statement}
 use Rattle.passes.proofs.conditional.fold_next.Tie as tie

@@ -2,7 +2,7 @@
 use Prim.Native.Nat.{_-_, _≤_}
 use mathlib.Core.Path.{sym, _∙_}
 use native.Mathlib.Omega.{arith}
-use Rattle.passes.specs.Folding.{few, other, looked}
+use Rattle.passes.specs.Conditional.{few, other, looked}
 use borrow.Author.Needs.{needs}
 use Rattle.passes.proofs.conditional.is_else.Statement.{statement}
 use Rattle.passes.proofs.conditional.is_else.Tie as tie

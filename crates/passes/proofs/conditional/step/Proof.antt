@@ -1,11 +1,11 @@
 -- `passes::conditional::step` meets its contract.
 use mathlib.Core.Path.{refl, sym, _∙_}
-use Prim.Native.Nat.{_+_, _*_, _-_, _^_, _≤_, _<_}
+use Prim.Native.Nat.{_+_, _-_, _^_, _≤_, _<_}
 use native.Mathlib.Omega.{arith}
 use lib.ListN.{length}
 use borrow.Author.Tests.{not-true, not-false}
-use Rattle.nodes.specs.Store.{wd}
-use Rattle.passes.proofs.ConditionalLaws.{CanGather, can-gather, Gathering, gather-start, gather-in, gather-passes, gather-counts, ternary-test, step-enter, step-over}
+use Rattle.nodes.specs.Store.{wd, slotEnd}
+use Rattle.passes.proofs.ConditionalLaws.{CanGather, can-gather, Gathering, gather-start, gather-in, gather-passes, gather-counts, conditional-test, step-enter, step-over}
 use Rattle.passes.proofs.conditional.step.Statement.{statement}
 use Rattle.passes.proofs.conditional.step.Tie as tie
 
@@ -20,7 +20,7 @@ loop-holds c =
     let g = can-gather (c .before .pre) in (g, gather-start (c .before .args .list) (c .before .args .tokens) g)
 
 bounds : (c : tie.In-loop Inv-loop μ-loop) → let w = c .before .loop in let a = c .before .before .before .args in
-    (a .list .base + w .read < length (a .work .now)) × (8 * wd (a .work .now) (a .list .base + w .read) + 8 ≤ length (a .work .now)) × (length (a .work .now) < 2 ^ 32)
+    (a .list .base + w .read < length (a .work .now)) × (slotEnd (wd (a .work .now) (a .list .base + w .read)) ≤ length (a .work .now)) × (length (a .work .now) < 2 ^ 32)
 bounds c = let v = c .before .loop .inv in gather-in (v .1) (v .0) (c .loop-test .taken)
 
 add-item : tie.Need-add-item Inv-loop μ-loop
@@ -70,14 +70,14 @@ loop-less c =
 
 loop-again : tie.Need-loop-again Inv-loop μ-loop
 loop-again c =
-    (c .before .before .before .before .before .before .before .before .before .loop .inv .0, gather-counts (c .before .before .before .before .before .before .before .before .before .loop .inv .1) (c .before .before .before .before .before .before .before .before .loop-test .taken) (ternary-test (c .before .before .before .before .before .classes-of .ensures) (c .before .before .before .before .intersects .ensures) ∙ c .before .before .before .if1 .taken) (sym (c .before .is-leaf .ensures) ∙ not-false (c .before .is-leaf .result) (c .if2 .left)))
+    (c .before .before .before .before .before .before .before .before .before .loop .inv .0, gather-counts (c .before .before .before .before .before .before .before .before .before .loop .inv .1) (c .before .before .before .before .before .before .before .before .loop-test .taken) (conditional-test (c .before .before .before .before .before .classes-of .ensures) (c .before .before .before .before .intersects .ensures) ∙ c .before .before .before .if1 .taken) (sym (c .before .is-leaf .ensures) ∙ not-false (c .before .is-leaf .result) (c .if2 .left)))
 
 loop-less-2 : tie.Need-loop-less-2 Inv-loop μ-loop
 loop-less-2 c = let h = c .before .before .before .before .before .loop-test .taken in omega arith
 
 loop-again-2 : tie.Need-loop-again-2 Inv-loop μ-loop
 loop-again-2 c =
-    (c .before .before .before .before .before .before .loop .inv .0, gather-passes (c .before .before .before .before .before .before .loop .inv .1) (c .before .before .before .before .before .loop-test .taken) (ternary-test (c .before .before .classes-of .ensures) (c .before .intersects .ensures) ∙ c .if1 .left))
+    (c .before .before .before .before .before .before .loop .inv .0, gather-passes (c .before .before .before .before .before .before .loop .inv .1) (c .before .before .before .before .before .loop-test .taken) (conditional-test (c .before .before .classes-of .ensures) (c .before .intersects .ensures) ∙ c .if1 .left))
 
 moved-requires-2 : tie.Need-moved-requires-2 Inv-loop μ-loop
 moved-requires-2 c κs = tt

@@ -3,7 +3,7 @@ use mathlib.Core.Path.{refl, ap, _∙_}
 use native.Mathlib.Omega.{arith}
 use lib.ListN.{set}
 use Rattle.nodes.proofs.Runs.{set-long}
-use Rattle.passes.proofs.FinishLaws.{finish-closes, finish-asks, split-ends}
+use Rattle.passes.proofs.StatementFinish.{finish-closes, finish-asks, split-ends}
 use borrow.Author.Needs.{needs}
 use Rattle.passes.proofs.statements.finish.Statement.{statement}
 use Rattle.passes.proofs.statements.finish.Tie as tie

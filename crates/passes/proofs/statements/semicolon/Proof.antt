@@ -1,6 +1,6 @@
 use mathlib.Core.Path.{_∙_}
 use Rattle.passes.specs.Statements.{leading, again}
-use Rattle.passes.proofs.SemicolonLaws.{can-end-give, semicolon-ended}
+use Rattle.passes.proofs.StatementSemicolon.{can-end-give, semicolon-ended}
 use borrow.Author.Needs.{needs}
 use Rattle.passes.proofs.statements.semicolon.Statement.{statement}
 use Rattle.passes.proofs.statements.semicolon.Tie as tie

@@ -1,4 +1,4 @@
-use Rattle.passes.proofs.StatementLaws.{started-split, started-plain}
+use Rattle.passes.proofs.StatementLaws.{started-split, started-unsplit}
 use borrow.Author.Needs.{needs}
 use Rattle.passes.proofs.statements.start.Statement.{statement}
 use Rattle.passes.proofs.statements.start.Tie as tie
@@ -10,7 +10,7 @@ returns : tie.Need-returns
 returns c = started-split (rw (c .if1 .taken) at (c .before .has-semicolon .ensures))
 
 returns-2 : tie.Need-returns-2
-returns-2 c = started-plain (rw (c .if1 .left) at (c .before .has-semicolon .ensures))
+returns-2 c = started-unsplit (rw (c .if1 .left) at (c .before .has-semicolon .ensures))
 
 pub start-spec : {M : Type 1} → statement M
 start-spec = tie.close (tie.spec has-semicolon-requires returns returns-2)

@@ -1,10 +1,11 @@
+use Rattle.passes.proofs.StatementSemicolon.{can-end, turned-split-semicolon}
+use Rattle.passes.proofs.StatementSplit.{split-view, split-seek, turned-split-over, turned-split-inner, split-room}
 use borrow.Author.Needs.{needs}
-use Rattle.passes.proofs.StatementLaws.{plain-view, plain-seek, turned-plain-over, turned-plain-enter, turned-plain-on, plain-room}
 use Rattle.passes.proofs.statements.step.Statement.{statement}
 use Rattle.passes.proofs.statements.step.Tie as tie
 
 next-token-requires : tie.Need-next-token-requires
-next-token-requires c κs = plain-seek (c .before .before .pre .small) (plain-view (c .before .before .pre .holds))
+next-token-requires c κs = split-seek (c .before .before .pre .small) (split-view (c .before .before .pre .holds))
 
 enum-known-found : tie.Need-enum-known-found
 enum-known-found c = search needs
@@ -15,19 +16,18 @@ over-requires c κs = search needs
 enum-known-found-2 : tie.Need-enum-known-found-2
 enum-known-found-2 c = search needs
 
-enter-requires : tie.Need-enter-requires
-enter-requires c κs = search needs
+inner-requires : tie.Need-inner-requires
+inner-requires c κs =
+    let f = c .before .before .found2 .given in
+    split-room (rw (f .1) at (c .before .before .before .before .before .before .next-token .ensures)) (c .before .before .before .before .before .before .before .before .before .pre)
 
 enum-known-found-3 : tie.Need-enum-known-found-3
 enum-known-found-3 c = search needs
 
-keep-requires : tie.Need-keep-requires
-keep-requires c κs =
+semicolon-requires : tie.Need-semicolon-requires
+semicolon-requires c κs =
     let f = c .before .before .found3 .given in
-    plain-room (rw (f .1) at (c .before .before .before .before .before .before .next-token .ensures)) (c .before .before .before .before .before .before .before .before .before .pre)
-
-on-requires : tie.Need-on-requires
-on-requires c κs = search needs
+    can-end (rw (f .1) at (c .before .before .before .before .before .before .next-token .ensures)) (c .before .before .before .before .before .before .before .before .before .pre)
 
 same-length : tie.Need-same-length
 same-length c = search needs
@@ -35,24 +35,23 @@ same-length c = search needs
 returns : tie.Need-returns
 returns c =
     let f = c .before .before .found .given in
-    rw (c .over .ensures) (turned-plain-over (rw (f .1) at (c .before .before .before .before .before .before .next-token .ensures)))
+    rw (c .over .ensures) (turned-split-over (rw (f .1) at (c .before .before .before .before .before .before .next-token .ensures)))
 
 same-length-2 : tie.Need-same-length-2
 same-length-2 c = search needs
 
 returns-2 : tie.Need-returns-2
 returns-2 c =
-    let f = c .before .before .found2 .given in
-    rw (c .enter .ensures) (turned-plain-enter (rw (f .1) at (c .before .before .before .before .before .before .next-token .ensures)))
+    let f = c .before .before .before .before .before .found2 .given in
+    turned-split-inner (rw (f .1) at (c .before .before .before .before .before .before .before .before .before .next-token .ensures)) (c .before .before .inner .ensures)
 
 same-length-3 : tie.Need-same-length-3
 same-length-3 c = search needs
 
 returns-3 : tie.Need-returns-3
 returns-3 c =
-    let f = c .before .before .before .before .before .before .found3 .given in
-    let k = c .before .before .before .keep .ensures in
-    rw (c .on .ensures) (rw (k .0) (turned-plain-on _ (rw (f .1) at (c .before .before .before .before .before .before .before .before .before .before .next-token .ensures)) (k .1)))
+    let f = c .before .before .before .before .before .found3 .given in
+    turned-split-semicolon (rw (f .1) at (c .before .before .before .before .before .before .before .before .before .next-token .ensures)) (c .before .before .semicolon .ensures)
 
 pub step-spec : {M : Type 1} → statement M
 step-spec =
@@ -62,10 +61,9 @@ step-spec =
     enum-known-found
     over-requires
     enum-known-found-2
-    enter-requires
+    inner-requires
     enum-known-found-3
-    keep-requires
-    on-requires
+    semicolon-requires
     same-length
     returns
     same-length-2

@@ -1,5 +1,5 @@
 -- `passes::unary::minus` meets its contract.
-use Rattle.passes.proofs.PrefixLaws.{can-prefix, minus-subtract, read-some, what-before, previous-slot, taken-first, taken-operator, taken-operand, taken-minus, taken-unknown}
+use Rattle.passes.proofs.UnaryPrefix.{can-prefix, minus-subtract, read-some, what-before, previous-slot, taken-first, taken-operator, taken-operand, taken-minus, taken-unknown}
 use borrow.Author.Needs.{needs}
 use Rattle.passes.proofs.unary.minus.Statement.{statement}
 use Rattle.passes.proofs.unary.minus.Tie as tie

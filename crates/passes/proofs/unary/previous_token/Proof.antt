@@ -1,11 +1,11 @@
 -- `passes::unary::previous_token` meets its contract.
 use mathlib.Core.Path.{_≡_, refl, sym, _∙_}
-use Prim.Native.Nat.{_+_, _*_, _-_, _^_, _≤_, _<_}
+use Prim.Native.Nat.{_+_, _-_, _^_, _≤_, _<_}
 use native.Mathlib.Omega.{arith}
 use lib.ListN.{length}
-use Rattle.nodes.specs.Store.{wd}
-use Rattle.passes.specs.UnaryTurns.{CanSeekBack}
-use Rattle.passes.proofs.RightLaws.{SeekingBack, unary-test, seek-back-start, seek-back-in, seek-back-turn, sought-back-leaf, sought-back-tree, sought-back-none}
+use Rattle.nodes.specs.Store.{wd, slotEnd}
+use Rattle.passes.specs.Unary.{CanSeekBack}
+use Rattle.passes.proofs.UnaryRight.{SeekingBack, unary-test, seek-back-start, seek-back-in, seek-back-turn, sought-back-leaf, sought-back-tree, sought-back-none}
 use Rattle.passes.proofs.unary.previous_token.Statement.{statement}
 use Rattle.passes.proofs.unary.previous_token.Tie as tie
 
@@ -19,7 +19,7 @@ loop-holds : tie.Need-loop-holds Inv-loop μ-loop
 loop-holds c = (c .before .pre, refl, seek-back-start (c .before .args .list) (c .before .pre))
 
 bounds : (c : tie.In-loop Inv-loop μ-loop) → let w = c .before .loop in let base = c .before .before .before .args .list .base in
-    (base + (w .read - 1) < length (w .work)) × (8 * wd (w .work) (base + (w .read - 1)) + 8 ≤ length (w .work)) × (base + w .write < length (w .work) + 1) × (length (w .work) < 2 ^ 32)
+    (base + (w .read - 1) < length (w .work)) × (slotEnd (wd (w .work) (base + (w .read - 1))) ≤ length (w .work)) × (base + w .write < length (w .work) + 1) × (length (w .work) < 2 ^ 32)
 bounds c = let v = c .before .loop .inv in seek-back-in (v .2) (v .0) (c .loop-test .taken)
 
 sub-read : tie.Need-sub-read Inv-loop μ-loop

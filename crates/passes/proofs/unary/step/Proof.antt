@@ -1,5 +1,5 @@
 -- `passes::unary::step` meets its contract.
-use Rattle.passes.proofs.RightLaws.{seek-back}
+use Rattle.passes.proofs.UnaryRight.{seek-back}
 use Rattle.passes.proofs.UnaryStep.{token-found, step-over, step-enter, step-token}
 use borrow.Author.Needs.{needs}
 use Rattle.passes.proofs.unary.step.Statement.{statement}

@@ -1,5 +1,5 @@
 -- `passes::unary::subtract` meets its contract.
-use Rattle.passes.proofs.PrefixLaws.{prefix-made, subtracted}
+use Rattle.passes.proofs.UnaryPrefix.{prefix-made, subtracted}
 use borrow.Author.Needs.{needs}
 use Rattle.passes.proofs.unary.subtract.Statement.{statement}
 use Rattle.passes.proofs.unary.subtract.Tie as tie

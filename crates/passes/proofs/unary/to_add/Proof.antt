@@ -1,6 +1,6 @@
 -- `passes::unary::to_add` meets its contract.
 use mathlib.Core.Path.{sym, _∙_}
-use Rattle.passes.proofs.PrefixLaws.{added-leaf-words, added-inner-words}
+use Rattle.passes.proofs.UnaryPrefix.{added-leaf-words, added-inner-words}
 use borrow.Author.Needs.{needs}
 use Rattle.passes.proofs.unary.to_add.Statement.{statement}
 use Rattle.passes.proofs.unary.to_add.Tie as tie

@@ -1,6 +1,6 @@
 -- `passes::unary::token` meets its contract.
 use mathlib.Core.Path.{sym, _∙_}
-use Rattle.passes.proofs.PrefixLaws.{token-within, can-prefix, operand-some, taken-negate-alone, taken-not-alone, taken-not}
+use Rattle.passes.proofs.UnaryPrefix.{token-within, can-prefix, operand-some, taken-negate-alone, taken-not-alone, taken-not}
 use borrow.Author.Needs.{needs}
 use Rattle.passes.proofs.unary.token.Statement.{statement}
 use Rattle.passes.proofs.unary.token.Tie as tie

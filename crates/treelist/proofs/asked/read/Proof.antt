@@ -40,14 +40,14 @@ returns c =
     let raw = toZ w16 (ofZ w16 (a .version)) in
     let back = toZ-ofZ (start .fits .version) in (
       rw back at
-          (p .0 ∙ told-called (a .list .now) (a .tree .now) (a .messages .now) (start .pre) (replicate 8256 0) refl (source .result) (source .ensures) raw
+          (p .told ∙ told-called (a .list .now) (a .tree .now) (a .messages .now) (start .pre) (replicate 8256 0) refl (source .result) (source .ensures) raw
           (used .result .low) (used .result .high) (used .ensures)),
       (
         rw back at
-            (p .1 .0 ∙ tree-called (a .list .now) (a .tree .now) (a .messages .now) (start .pre) (replicate 8256 0) refl (source .result) (source .ensures) raw
+            (p .tree ∙ tree-called (a .list .now) (a .tree .now) (a .messages .now) (start .pre) (replicate 8256 0) refl (source .result) (source .ensures) raw
             (used .result .low) (used .result .high) (used .ensures)),
         rw back at
-            (p .1 .1 .0 ∙ messages-called (a .list .now) (a .tree .now) (a .messages .now) (start .pre) (replicate 8256 0) refl (source .result) (source .ensures) raw
+            (p .messages ∙ messages-called (a .list .now) (a .tree .now) (a .messages .now) (start .pre) (replicate 8256 0) refl (source .result) (source .ensures) raw
             (used .result .low) (used .result .high) (used .ensures)),
       ),
     )

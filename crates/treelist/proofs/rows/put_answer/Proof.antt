@@ -1,11 +1,8 @@
 -- `treelist::rows::put_answer` meets its contract: the name, the numbers of its line, and the lines after it. Assumes nothing.
-use mathlib.Core.List.{_++_}
 use native.Mathlib.Omega.{arith}
-use lib.ListN.{length-append}
-use Rattle.text.specs.Text.{ascii, numbered}
-use Rattle.treelist.specs.Rows.{nodeRows, recordRows, answerText}
-use Rattle.text.proofs.TextLaws.{numbered-length, wrote-then, text-in}
-use Rattle.treelist.proofs.RowLaws.{node-rows-length, record-rows-length}
+use Rattle.treelist.specs.Rows.{answerText}
+use Rattle.text.proofs.TextLaws.{numbered-length}
+use Rattle.treelist.proofs.RowLaws.{node-rows-length, record-rows-length, three}
 use borrow.Author.Needs.{needs}
 use Rattle.treelist.proofs.rows.put_answer.Statement.{statement}
 use Rattle.treelist.proofs.rows.put_answer.Tie as tie
@@ -28,7 +25,7 @@ put-nodes-requires c κs =
     let count = c .before .before .before .put-number .ensures in
     let start = c .before .before .before .before .before .before .before .before .before .before .before .before .before .before .before .before in
     let few = rw (c .before .before .before .before .before .before .before .before .before .before .before .answered .given .1) at (start .pre .1) in
-    (omega (arith, few, start .pre .0, name .same, name .ends, count .same, count .ends, numbered-length (c .before .before .before .before .before .before .before .before .before .before .before .answered .given .0 .0) 10), omega (arith, few, start .pre .0))
+    (omega (arith, few, start .pre .0, c .before .before .before .before .before .before .before .put-bytes .kept .0, name .ends, c .before .before .before .put-number .kept .0, count .ends, numbered-length (c .before .before .before .before .before .before .before .before .before .before .before .answered .given .0 .0) 10), omega (arith, few, start .pre .0))
 
 enum-known-answered-2 : tie.Need-enum-known-answered-2
 enum-known-answered-2 c = search needs
@@ -48,7 +45,7 @@ put-records-requires c κs =
     let count = c .before .before .before .put-number2 .ensures in
     let start = c .before .before .before .before .before .before .before .before .before .before .before .before .before .before .before .before in
     let few = rw (c .before .before .before .before .before .before .before .before .before .before .before .answered2 .given .1) at (start .pre .1) in
-    (omega (arith, few, start .pre .0, name .same, name .ends, count .same, count .ends, numbered-length (c .before .before .before .before .before .before .before .before .before .before .before .answered2 .given .0 .0) 10), omega (arith, few, start .pre .0))
+    (omega (arith, few, start .pre .0, c .before .before .before .before .before .before .before .put-bytes2 .kept .0, name .ends, c .before .before .before .put-number2 .kept .0, count .ends, numbered-length (c .before .before .before .before .before .before .before .before .before .before .before .answered2 .given .0 .0) 10), omega (arith, few, start .pre .0))
 
 enum-known-answered-3 : tie.Need-enum-known-answered-3
 enum-known-answered-3 c = search needs
@@ -69,7 +66,7 @@ put-number-requires-4 : tie.Need-put-number-requires-4
 put-number-requires-4 c κs =
     let name = c .before .before .before .before .before .before .before .before .put-bytes3 .ensures in
     let first = c .before .before .before .put-number3 .ensures in
-    omega (arith, c .before .before .before .before .before .before .before .before .before .before .before .before .before .before .before .before .before .pre .0, name .same, name .ends, first .same, first .ends, numbered-length (c .before .before .before .before .wide .result) 32)
+    omega (arith, c .before .before .before .before .before .before .before .before .before .before .before .before .before .before .before .before .before .pre .0, c .before .before .before .before .before .before .before .before .put-bytes3 .kept .0, name .ends, c .before .before .before .put-number3 .kept .0, first .ends, numbered-length (c .before .before .before .before .wide .result) 32)
 
 same-length : tie.Need-same-length
 same-length c = search needs
@@ -81,10 +78,11 @@ returns c =
     let case = c .before .before .before .before .before .before .before .before .before .before .before .before .before .before .answered .given in
     let n = case .0 .0 in
     let few = rw (case .1) at (start .pre .1) in
-    let w = wrote-then (wrote-then (c .before .before .before .before .before .before .before .before .before .before .put-bytes .ensures) (c .before .before .before .before .before .before .put-number .ensures)) (c .before .before .put-nodes .ensures) in
-    let rows = node-rows-length n (start .args .tree .now) in
+    let name = c .before .before .before .before .before .before .before .before .before .before .put-bytes in
+    let count = c .before .before .before .before .before .before .put-number in
+    let rows = c .before .before .put-nodes in
     rw (case .1)
-    (text-in 32768 w (omega (arith, few, rows, numbered-length n 10, length-append (ascii "tree " ++ numbered n 10) (nodeRows n (start .args .tree .now)), length-append (ascii "tree ") (numbered n 10))) (omega (arith, start .pre .0)))
+    (omega (arith, few, node-rows-length n (start .args .tree .now), numbered-length n 10, name .ensures .ends, count .ensures .ends, rows .ensures .ends, name .kept .0, count .kept .0, rows .kept .0, start .pre .0), three (name .ensures) (count .ensures) (rows .ensures))
 
 same-length-2 : tie.Need-same-length-2
 same-length-2 c = search needs
@@ -96,10 +94,12 @@ returns-2 c =
     let case = c .before .before .before .before .before .before .before .before .before .before .before .before .before .before .answered2 .given in
     let n = case .0 .0 in
     let few = rw (case .1) at (start .pre .1) in
-    let w = wrote-then (wrote-then (c .before .before .before .before .before .before .before .before .before .before .put-bytes2 .ensures) (c .before .before .before .before .before .before .put-number2 .ensures)) (c .before .before .put-records .ensures) in
-    let rows = record-rows-length n (start .args .messages .now) (omega (arith, few, start .pre .0)) in
+    let name = c .before .before .before .before .before .before .before .before .before .before .put-bytes2 in
+    let count = c .before .before .before .before .before .before .put-number2 in
+    let rows = c .before .before .put-records in
+    let room = record-rows-length n (start .args .messages .now) (omega (arith, few, start .pre .0)) in
     rw (case .1)
-    (text-in 32768 w (omega (arith, few, rows, numbered-length n 10, length-append (ascii "messages " ++ numbered n 10) (recordRows n (start .args .messages .now)), length-append (ascii "messages ") (numbered n 10))) (omega (arith, start .pre .0)))
+    (omega (arith, few, room, numbered-length n 10, name .ensures .ends, count .ensures .ends, rows .ensures .ends, name .kept .0, count .kept .0, rows .kept .0, start .pre .0), three (name .ensures) (count .ensures) (rows .ensures))
 
 same-length-3 : tie.Need-same-length-3
 same-length-3 c = search needs
@@ -109,12 +109,12 @@ unfolding answerText
 returns-3 c =
     let start = c .before .before .before .before .before .before .before .before .before .before .before .before .before .before .before .before .before .before .before .before in
     let case = c .before .before .before .before .before .before .before .before .before .before .before .before .before .before .before .answered3 .given in
-    let n = case .0 .0 in
-    let place = case .0 .1 .0 in
-    let number = rw (c .before .before .before .before .before .before .before .wide .ensures) at (c .before .before .before .before .before .before .put-number3 .ensures) in
-    let w = wrote-then (wrote-then (c .before .before .before .before .before .before .before .before .before .before .before .put-bytes3 .ensures) number) (c .before .before .put-number4 .ensures) in
+    let name = c .before .before .before .before .before .before .before .before .before .before .before .put-bytes3 in
+    let first = c .before .before .before .before .before .before .put-number3 in
+    let last = c .before .before .put-number4 in
+    let number = rw (c .before .before .before .before .before .before .before .wide .ensures) at (first .ensures) in
     rw (case .1)
-    (text-in 32768 w (omega (arith, numbered-length n 32, numbered-length place 10, length-append (ascii "refused " ++ numbered n 32) (numbered place 10), length-append (ascii "refused ") (numbered n 32))) (omega (arith, start .pre .0)))
+    (omega (arith, numbered-length (case .0 .0) 32, numbered-length (case .0 .1 .0) 10, name .ensures .ends, number .ends, last .ensures .ends, name .kept .0, first .kept .0, last .kept .0, start .pre .0), three (name .ensures) number (last .ensures))
 
 pub put-answer-spec : {M : Type 1} → statement M
 put-answer-spec =

@@ -1,6 +1,6 @@
 -- `treelist::rows::put_nodes` meets its contract: the lines of the first i nodes are laid. Assumes nothing.
 use Prim.Native.Nat.{_-_, _≤_}
-use mathlib.Core.Path.{_≡_, refl, _∙_}
+use mathlib.Core.Path.{_≡_, refl}
 use native.Mathlib.Omega.{arith}
 use lib.ListN.{length}
 use Rattle.text.specs.Text.{Wrote}
@@ -37,7 +37,7 @@ loop-less c = omega arith
 loop-again : tie.Need-loop-again Inv-loop μ-loop
 loop-again c =
     let l = c .before .before .before .before .before .loop in
-    let w = c .before .before .put-node .ensures in (omega arith, w .same ∙ l .inv .1, nodes-on (c .before .before .before .before .before .before .before .before .args .tree .now) (l .i) (l .inv .2) w)
+    let w = c .before .before .put-node .ensures in (omega arith, omega arith, nodes-on (omega arith) (c .before .before .before .before .before .before .before .before .args .tree .now) (l .i) (l .inv .2) w)
 
 same-length : tie.Need-same-length Inv-loop μ-loop
 same-length c = c .before .loop .inv .1

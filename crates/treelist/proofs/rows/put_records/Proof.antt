@@ -1,6 +1,6 @@
 -- `treelist::rows::put_records` meets its contract: the lines of the first i records are laid. Assumes nothing.
 use Prim.Native.Nat.{_+_, _-_, _*_, _≤_}
-use mathlib.Core.Path.{_≡_, refl, _∙_}
+use mathlib.Core.Path.{_≡_, refl}
 use native.Mathlib.Omega.{arith}
 use lib.ListN.{length, take, drop, length-take, length-drop}
 use Rattle.text.specs.Text.{Wrote}
@@ -58,7 +58,7 @@ loop-again c =
     let l = c .before .before .before .before .before .before .loop in
     let i = l .i in
     let size : 8 * i + 8 - 8 * i ≡ 8 = omega arith in
-    let w = c .before .before .put-row .ensures in (omega arith, w .same ∙ l .inv .1, records-on (c .before .before .before .before .before .before .before .before .before .args .messages .now) i (l .inv .2) (rw size at w))
+    let w = c .before .before .put-row .ensures in (omega arith, omega arith, records-on (omega arith) (c .before .before .before .before .before .before .before .before .before .args .messages .now) i (l .inv .2) (rw size at w))
 
 same-length : tie.Need-same-length Inv-loop μ-loop
 same-length c = c .before .loop .inv .1

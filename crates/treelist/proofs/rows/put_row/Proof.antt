@@ -1,6 +1,6 @@
 -- `treelist::rows::put_row` meets its contract: the first i numbers are laid, each with a space. Assumes nothing.
 use Prim.Native.Nat.{_-_, _≤_}
-use mathlib.Core.Path.{_≡_, refl, _∙_}
+use mathlib.Core.Path.{_≡_, refl}
 use native.Mathlib.Omega.{arith}
 use lib.ListN.{length}
 use Rattle.text.specs.Text.{Wrote}
@@ -46,7 +46,7 @@ loop-again : tie.Need-loop-again Inv-loop μ-loop
 loop-again c =
     let l = c .before .before .before .before .before .before .before .loop in
     let w = c .before .before .put-number .ensures in
-    (omega arith, w .same ∙ l .inv .1, spaced-on (c .before .before .before .before .before .before .before .before .before .before .args .numbers .now) (l .i) _ (c .before .before .before .wide .ensures) (l .inv .2) w)
+    (omega arith, omega arith, spaced-on (omega arith) (c .before .before .before .before .before .before .before .before .before .before .args .numbers .now) (l .i) _ (c .before .before .before .wide .ensures) (l .inv .2) w)
 
 mul-wide-2 : tie.Need-mul-wide-2 Inv-loop μ-loop
 mul-wide-2 c = omega arith
@@ -62,12 +62,12 @@ put-number-requires-2 c κs =
     let l = c .before .before .before .before .loop in omega (arith, l .inv .2 .ends, spaced-length (l .i) (c .before .before .before .before .before .before .before .args .numbers .now))
 
 same-length : tie.Need-same-length Inv-loop μ-loop
-same-length c = c .before .before .put-number2 .ensures .same ∙ c .before .before .before .before .before .before .before .loop .inv .1
+same-length c = omega arith
 
 returns : tie.Need-returns Inv-loop μ-loop
 returns c =
     let l = c .before .before .before .before .before .before .before .loop in
-    row-done (c .before .before .before .before .before .before .before .before .before .before .args .numbers .now) (l .i) _ (omega arith) (c .before .before .before .wide2 .ensures) (l .inv .2) (c .before .before .put-number2 .ensures)
+    row-done (omega arith) (c .before .before .before .before .before .before .before .before .before .before .args .numbers .now) (l .i) _ (omega arith) (c .before .before .before .wide2 .ensures) (l .inv .2) (c .before .before .put-number2 .ensures)
 
 pub put-row-spec : {M : Type 1} → statement M
 put-row-spec =

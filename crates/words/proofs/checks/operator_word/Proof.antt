@@ -1,8 +1,9 @@
 -- `words::checks::operator_word` meets its contract: kind, operator, payload variant, other bits, in this order. Assumes nothing.
-use mathlib.Core.Path.{_∙_}
+use mathlib.Core.Path.{sym, _∙_}
 use borrow.Author.Needs.{needs}
 use borrow.Author.Tests.{eq-eqb, ne-eqb, le-leb, lt-leb}
-use Rattle.molang.specs.Words.{unless}
+use Rattle.molang.specs.FirstFailure.{must, firstOf}
+use Rattle.molang.proofs.FirstFailure.{last-one}
 use Rattle.words.proofs.CheckLaws.{operator-tests}
 use Rattle.words.proofs.checks.operator_word.Statement.{statement}
 use Rattle.words.proofs.checks.operator_word.Tie as tie
@@ -11,7 +12,7 @@ kind-requires : tie.Need-kind-requires
 kind-requires c κs = search needs
 
 returns : tie.Need-returns
-unfolding unless
+unfolding firstOf must
 returns c =
     let kind = c .before .kind in
     rw (
@@ -24,7 +25,7 @@ operator-requires : tie.Need-operator-requires
 operator-requires c κs = search needs
 
 returns-2 : tie.Need-returns-2
-unfolding unless
+unfolding firstOf must
 returns-2 c =
     let kind = c .before .before .before .kind in
     rw (
@@ -39,7 +40,7 @@ variant-requires : tie.Need-variant-requires
 variant-requires c κs = search needs
 
 returns-3 : tie.Need-returns-3
-unfolding unless
+unfolding firstOf must
 returns-3 c =
     let kind = c .before .before .before .before .before .kind in
     rw (
@@ -59,7 +60,7 @@ below-requires : tie.Need-below-requires
 below-requires c κs = search needs
 
 returns-4 : tie.Need-returns-4
-unfolding unless
+unfolding firstOf must
 returns-4 c =
     let kind = c .before .before .before .before .before .before .before .kind in
     c .below .ensures
@@ -72,7 +73,7 @@ returns-4 c =
       ← c .before .before .before .variant .ensures,
       le-leb (c .before .before .before .variant .result) 12 (c .before .before .if3 .left),
       ← c .before .low .ensures,
-    )
+    ) (sym (last-one _))
 
 pub operator-word-spec : {M : Type 1} → statement M
 operator-word-spec =

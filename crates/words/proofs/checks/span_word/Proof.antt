@@ -1,7 +1,8 @@
 -- `words::checks::span_word` meets its contract: one test. Assumes nothing.
 use borrow.Author.Needs.{needs}
 use borrow.Author.Tests.{eq-eqb, ne-eqb}
-use Rattle.molang.specs.Words.{unless, lowFault}
+use Rattle.molang.specs.FirstFailure.{must, firstOf}
+use Rattle.molang.specs.Words.{lowFault}
 use Rattle.words.proofs.checks.span_word.Statement.{statement}
 use Rattle.words.proofs.checks.span_word.Tie as tie
 
@@ -9,11 +10,11 @@ kind-requires : tie.Need-kind-requires
 kind-requires c κs = search needs
 
 returns : tie.Need-returns
-unfolding unless
+unfolding firstOf must
 returns c = rw (← c .before .kind .ensures, ne-eqb (c .before .kind .result) (c .before .before .args .kind) (c .if1 .taken))
 
 returns-2 : tie.Need-returns-2
-unfolding unless lowFault
+unfolding firstOf must lowFault
 returns-2 c = rw (← c .before .kind .ensures, eq-eqb (c .before .kind .result) (c .before .before .args .kind) (c .if1 .left))
 
 pub span-word-spec : {M : Type 1} → statement M

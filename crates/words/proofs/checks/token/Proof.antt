@@ -4,44 +4,45 @@ use mathlib.Core.List.{[], _∷_}
 use mathlib.Core.Option.{Option}
 use Prim.Native.Nat.{_+_}
 use borrow.Author.Needs.{needs}
-use Rattle.molang.specs.Words.{operatorSlot, startSlot, endSlot, upperSlot, lowerSlot, Refusal, wordsRefusal}
+use Rattle.molang.specs.Words.{operatorField, startField, endField, upperField, lowerField, Refusal, wordsRefusal}
 use Rattle.words.specs.Fields.{variantOf}
 use Rattle.words.specs.Checks.{numberOf}
+use Rattle.words.specs.Tokens.{fiveWords}
 use Rattle.words.proofs.CheckLaws.{first-bad, last-word, start-tests, end-tests, upper-tests, lower-tests, after-first, after-start, after-end, after-upper}
 use Rattle.words.proofs.checks.token.Statement.{statement}
 use Rattle.words.proofs.checks.token.Tie as tie
 
 -- The answer to the whole token.
 abbrev whole : tie.Start → Option Refusal
-whole s = wordsRefusal (s .args .at) operatorSlot 0 (s .args .first ∷ s .args .start ∷ s .args .end ∷ s .args .upper ∷ s .args .lower ∷ [])
+whole s = wordsRefusal (s .args .at) operatorField 0 (fiveWords (s .args .words))
 
 -- What is left to answer after one, two, three and four good words.
 first-good : (c : tie.After-enum-told)
     → let a = c .before .before .before .args in
-    wordsRefusal (a .at + 1) startSlot (variantOf (a .first)) (a .start ∷ a .end ∷ a .upper ∷ a .lower ∷ []) ≡ whole (c .before .before .before)
+    wordsRefusal (a .at + 1) startField (variantOf (a .words .operator)) (a .words .start ∷ a .words .end ∷ a .words .upper ∷ a .words .lower ∷ []) ≡ whole (c .before .before .before)
 first-good c =
     let a = c .before .before .before .args in
-    after-first (a .at) (a .first) (a .start) (a .end) (a .upper) (a .lower)
+    after-first (a .at) (a .words .operator) (a .words .start) (a .words .end) (a .words .upper) (a .words .lower)
     (sym (ap numberOf (c .enum-told .given .1)) ∙ c .before .before .operator-word .ensures)
 
 second-good : (c : tie.After-enum-told2)
     → let a = c .before .before .before .before .before .before .args in
-    wordsRefusal (a .at + 2) endSlot (variantOf (a .first)) (a .end ∷ a .upper ∷ a .lower ∷ [])
+    wordsRefusal (a .at + 2) endField (variantOf (a .words .operator)) (a .words .end ∷ a .words .upper ∷ a .words .lower ∷ [])
     ≡ whole (c .before .before .before .before .before .before)
 second-good c =
     let a = c .before .before .before .before .before .before .args in
-    after-start (a .at) (a .first) (a .start) (a .end) (a .upper) (a .lower) (variantOf (a .first))
-    (sym (ap numberOf (c .enum-told2 .given .1)) ∙ (c .before .before .span-word .ensures ∙ start-tests (variantOf (a .first)) (a .start)))
+    after-start (a .at) (a .words .operator) (a .words .start) (a .words .end) (a .words .upper) (a .words .lower) (variantOf (a .words .operator))
+    (sym (ap numberOf (c .enum-told2 .given .1)) ∙ (c .before .before .span-word .ensures ∙ start-tests (variantOf (a .words .operator)) (a .words .start)))
     ∙ first-good (c .before .before .before)
 
 third-good : (c : tie.After-enum-told3)
     → let a = c .before .before .before .before .before .before .before .before .before .args in
-    wordsRefusal (a .at + 3) upperSlot (variantOf (a .first)) (a .upper ∷ a .lower ∷ [])
+    wordsRefusal (a .at + 3) upperField (variantOf (a .words .operator)) (a .words .upper ∷ a .words .lower ∷ [])
     ≡ whole (c .before .before .before .before .before .before .before .before .before)
 third-good c =
     let a = c .before .before .before .before .before .before .before .before .before .args in
-    after-end (a .at) (a .first) (a .start) (a .end) (a .upper) (a .lower) (variantOf (a .first))
-    (sym (ap numberOf (c .enum-told3 .given .1)) ∙ (c .before .before .span-word2 .ensures ∙ end-tests (variantOf (a .first)) (a .end)))
+    after-end (a .at) (a .words .operator) (a .words .start) (a .words .end) (a .words .upper) (a .words .lower) (variantOf (a .words .operator))
+    (sym (ap numberOf (c .enum-told3 .given .1)) ∙ (c .before .before .span-word2 .ensures ∙ end-tests (variantOf (a .words .operator)) (a .words .end)))
     ∙ second-good (c .before .before .before)
 
 operator-word-requires : tie.Need-operator-word-requires
@@ -58,7 +59,7 @@ returns c =
     let a = c .before .before .before .args in
     let one = c .before .before .operator-word in
     c .judged .ensures
-    ∙ first-bad (a .at) operatorSlot 0 (a .first) (a .start ∷ a .end ∷ a .upper ∷ a .lower ∷ []) (one .result)
+    ∙ first-bad (a .at) operatorField 0 (a .words .operator) (a .words .start ∷ a .words .end ∷ a .words .upper ∷ a .words .lower ∷ []) (one .result)
     (c .before .match .keys2) (one .ensures)
 
 span-word-requires : tie.Need-span-word-requires
@@ -76,11 +77,11 @@ judged-requires-2 c κs = search needs
 returns-2 : tie.Need-returns-2
 returns-2 c =
     let a = c .before .before .before .before .before .before .args in
-    let v = variantOf (a .first) in
+    let v = variantOf (a .words .operator) in
     let two = c .before .before .span-word in
     c .judged2 .ensures
-    ∙ (first-bad (a .at + 1) startSlot v (a .start) (a .end ∷ a .upper ∷ a .lower ∷ []) (two .result) (c .before .match2 .keys2)
-    (two .ensures ∙ start-tests v (a .start))
+    ∙ (first-bad (a .at + 1) startField v (a .words .start) (a .words .end ∷ a .words .upper ∷ a .words .lower ∷ []) (two .result) (c .before .match2 .keys2)
+    (two .ensures ∙ start-tests v (a .words .start))
     ∙ first-good (c .before .before .before))
 
 span-word-requires-2 : tie.Need-span-word-requires-2
@@ -98,11 +99,11 @@ judged-requires-3 c κs = search needs
 returns-3 : tie.Need-returns-3
 returns-3 c =
     let a = c .before .before .before .before .before .before .before .before .before .args in
-    let v = variantOf (a .first) in
+    let v = variantOf (a .words .operator) in
     let three = c .before .before .span-word2 in
     c .judged3 .ensures
-    ∙ (first-bad (a .at + 2) endSlot v (a .end) (a .upper ∷ a .lower ∷ []) (three .result) (c .before .match3 .keys2)
-    (three .ensures ∙ end-tests v (a .end))
+    ∙ (first-bad (a .at + 2) endField v (a .words .end) (a .words .upper ∷ a .words .lower ∷ []) (three .result) (c .before .match3 .keys2)
+    (three .ensures ∙ end-tests v (a .words .end))
     ∙ second-good (c .before .before .before))
 
 variant-requires : tie.Need-variant-requires
@@ -126,8 +127,8 @@ returns-4 c =
     let v = c .before .before .before .variant in
     let four = c .before .before .half-word in
     c .judged4 .ensures
-    ∙ (first-bad (a .at + 3) upperSlot (v .result) (a .upper) (a .lower ∷ []) (four .result) (c .before .match4 .keys2)
-    (four .ensures ∙ upper-tests (v .result) (a .upper))
+    ∙ (first-bad (a .at + 3) upperField (v .result) (a .words .upper) (a .words .lower ∷ []) (four .result) (c .before .match4 .keys2)
+    (four .ensures ∙ upper-tests (v .result) (a .words .upper))
     ∙ rw (v .ensures) (third-good (c .before .before .before .before)))
 
 half-word-requires-2 : tie.Need-half-word-requires-2
@@ -146,9 +147,9 @@ returns-5 c =
     let four = c .before .before .before .before .half-word in
     let five = c .before .half-word2 in
     c .judged5 .ensures
-    ∙ (last-word (a .at + 4) lowerSlot (v .result) (a .lower) (five .result) (five .ensures ∙ lower-tests (v .result) (a .lower))
-    ∙ (after-upper (a .at) (a .first) (a .start) (a .end) (a .upper) (a .lower) (v .result)
-    (sym (ap numberOf (c .before .before .enum-told4 .given .1)) ∙ (four .ensures ∙ upper-tests (v .result) (a .upper)))
+    ∙ (last-word (a .at + 4) lowerField (v .result) (a .words .lower) (five .result) (five .ensures ∙ lower-tests (v .result) (a .words .lower))
+    ∙ (after-upper (a .at) (a .words .operator) (a .words .start) (a .words .end) (a .words .upper) (a .words .lower) (v .result)
+    (sym (ap numberOf (c .before .before .enum-told4 .given .1)) ∙ (four .ensures ∙ upper-tests (v .result) (a .words .upper)))
     ∙ rw (v .ensures) (third-good (c .before .before .before .before .before .before))))
 
 pub token-spec : {M : Type 1} → statement M

@@ -1,7 +1,7 @@
--- `write::plain::is_paired` meets its contract: by the node, then by its place. Assumes nothing.
+-- `write::plain::is_paired` meets its contract: by the node, then by its seat. Assumes nothing.
 use borrow.Author.Tests.{eq-eqb, ne-eqb}
 use Rattle.molang.specs.Operator.{isBracket}
-use Rattle.write.specs.Places.{isPaired}
+use Rattle.write.specs.Seats.{isPaired}
 use Rattle.write.proofs.CaseLaws.{operand-unspared}
 use borrow.Author.Needs.{needs}
 use Rattle.write.proofs.plain.is_paired.Statement.{statement}

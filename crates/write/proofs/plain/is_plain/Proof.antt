@@ -1,5 +1,5 @@
 -- `write::plain::is_plain` meets its contract: by the number of children. Assumes nothing.
-use Rattle.write.specs.Places.{plainBy}
+use Rattle.write.specs.Seats.{plainBy}
 use Rattle.write.proofs.CaseLaws.{over-many}
 use borrow.Author.Needs.{needs}
 use Rattle.write.proofs.plain.is_plain.Statement.{statement}
@@ -27,7 +27,7 @@ unfolding plainBy
 returns-3 c = rw (c .before .match .keys3) (c .is-plain-over-two .ensures)
 
 returns-4 : tie.Need-returns-4
-returns-4 c = let a = c .before .args in over-many (a .place) (a .op) (a .children) (a .first) (c .match .rest .0 .0 .1) (c .match .rest .0 .1) (c .match .rest .1)
+returns-4 c = let a = c .before .args in over-many (a .seat) (a .op) (a .children) (a .first) (c .match .rest .0 .0 .1) (c .match .rest .0 .1) (c .match .rest .1)
 
 pub is-plain-spec : {M : Type 1} → statement M
 is-plain-spec =

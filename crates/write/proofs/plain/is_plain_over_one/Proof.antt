@@ -3,7 +3,7 @@ use mathlib.Core.Path.{sym, _∙_}
 use mathlib.Core.Bool.{and-true, and-false}
 use borrow.Author.Tests.{eq-eqb, ne-eqb}
 use Rattle.molang.specs.Operator.{isBracket}
-use Rattle.write.specs.Places.{plainBy}
+use Rattle.write.specs.Seats.{plainBy}
 use borrow.Author.Needs.{needs}
 use Rattle.write.proofs.plain.is_plain_over_one.Statement.{statement}
 use Rattle.write.proofs.plain.is_plain_over_one.Tie as tie

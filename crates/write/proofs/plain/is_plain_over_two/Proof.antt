@@ -3,7 +3,7 @@ use mathlib.Core.Bool.{or-false}
 use borrow.Author.Tests.{ne-eqb}
 use Rattle.molang.specs.Operator.{between}
 use Rattle.molang.specs.Plain.{isPlainBinary}
-use Rattle.write.specs.Places.{plainBy}
+use Rattle.write.specs.Seats.{plainBy}
 use borrow.Author.Needs.{needs}
 use Rattle.write.proofs.plain.is_plain_over_two.Statement.{statement}
 use Rattle.write.proofs.plain.is_plain_over_two.Tie as tie

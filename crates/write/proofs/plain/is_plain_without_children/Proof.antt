@@ -3,7 +3,7 @@ use mathlib.Core.Bool.{or-false}
 use borrow.Author.Tests.{ne-eqb}
 use Rattle.molang.specs.Operator.{between, isBracket}
 use Rattle.molang.specs.Plain.{isPlainLeaf}
-use Rattle.write.specs.Places.{plainBy}
+use Rattle.write.specs.Seats.{plainBy}
 use borrow.Author.Needs.{needs}
 use Rattle.write.proofs.plain.is_plain_without_children.Statement.{statement}
 use Rattle.write.proofs.plain.is_plain_without_children.Tie as tie

@@ -3,7 +3,7 @@ use native.Mathlib.Omega.{arith}
 use borrow.Author.Tests.{ne-eqb}
 use Rattle.molang.specs.Operator.{any, isOneOf}
 use Rattle.ops.proofs.OperatorLaws.{true-at}
-use Rattle.write.specs.Places.{isPrefix}
+use Rattle.write.specs.Seats.{isPrefix}
 use Rattle.write.proofs.plain.is_prefix.Statement.{statement}
 use Rattle.write.proofs.plain.is_prefix.Tie as tie
 

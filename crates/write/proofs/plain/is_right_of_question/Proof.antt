@@ -1,4 +1,4 @@
--- `write::plain::is_right_of_question` meets its contract: that place, and the others. Assumes nothing.
+-- `write::plain::is_right_of_question` meets its contract: that seat, and the others. Assumes nothing.
 use Rattle.molang.specs.Plain.{isRightOfQuestion}
 use Rattle.write.proofs.CaseLaws.{not-right-of-question}
 use borrow.Author.Needs.{needs}
@@ -13,7 +13,7 @@ unfolding isRightOfQuestion
 returns c = rw (c .enum-told .given .1)
 
 returns-2 : tie.Need-returns-2
-returns-2 c = not-right-of-question (c .before .args .place) (c .match .keys2)
+returns-2 c = not-right-of-question (c .before .args .seat) (c .match .keys2)
 
 pub is-right-of-question-spec : {M : Type 1} → statement M
 is-right-of-question-spec = tie.close (tie.spec enum-told returns returns-2)

@@ -1,5 +1,5 @@
--- `write::plain::judge` meets its contract. The loop's invariant is `Judging`; the measure is the nodes that are left. Assumes nothing.
-use Prim.Native.Nat.{_+_, _-_, _*_, _≤_}
+-- `write::plain::judge` meets its contract. The loop's invariant is `Judging`; the measure is the words that are left. Assumes nothing.
+use Prim.Native.Nat.{_+_, _-_, _≤_}
 use mathlib.Core.Path.{_≡_, refl, ap, sym, _∙_}
 use mathlib.Core.Bool.{true}
 use native.Mathlib.Omega.{arith}
@@ -7,29 +7,30 @@ use borrow.Author.Needs.{needs}
 use borrow.Author.Tests.{not-true, not-false}
 use lib.ListN.{length, getD}
 use Rattle.molang.specs.WriteEntry.{mostNodes}
-use Rattle.write.specs.declared.plain.Place.the-variants.{Enclosed}
+use Rattle.write.specs.declared.plain.Seat.the-variants.{Enclosed}
 use Rattle.write.specs.declared.reader.NodeView.{NodeView}
-use Rattle.write.specs.Places.{plainBy}
-use Rattle.write.proofs.JudgeLaws.{Judging, Turn, few-tokens, judging-begins, judging-room, judging-room-two, judging-refused, judging-none, judging-one, judging-two, judging-ends}
+use Rattle.write.specs.Seats.{plainBy}
+use Rattle.write.proofs.JudgeLaws.{Judging, Turn, few-tokens, judging-begins, judging-room, judging-room-two, judging-refused, judging-none, judging-one, judging-two, judging-ends, falls}
 use Rattle.write.proofs.plain.judge.Statement.{statement}
 use Rattle.write.proofs.plain.judge.Tie as tie
+use Rattle.write.specs.Shaped.{nodeLength}
 
 abbrev Inv-loop : tie.InvT-loop
-Inv-loop tree nodes waiting₀ top₀ tokens₀ node₀ waiting top tokens node = Judging tree waiting top tokens node
+Inv-loop tree waiting₀ top₀ tokens₀ node₀ at₀ waiting top tokens node at = Judging tree waiting top tokens node at
 
 abbrev μ-loop : tie.MeasureT-loop
-μ-loop tree nodes waiting₀ top₀ tokens₀ node₀ waiting top tokens node = nodes - node
+μ-loop tree waiting₀ top₀ tokens₀ node₀ at₀ waiting top tokens node at = length tree - at
 
 -- In a turn: the room that there is, what was read of the node, and that it is plain.
 room : (c : tie.In-loop Inv-loop μ-loop)
-    → (6 * c .before .loop .node + 6 ≤ length (c .before .before .before .args .tree .now))
+    → (c .before .loop .at + nodeLength ≤ length (c .before .before .before .args .tree .now))
     × (1 ≤ c .before .loop .top)
     × (c .before .loop .top + c .before .loop .node ≤ mostNodes)
 room c = judging-room (c .before .before .before .pre) (c .before .loop .inv) (c .loop-test .taken)
 
-turn : (c : tie.After-place Inv-loop μ-loop)
-    → Turn (c .before .before .before .before .before .args .tree .now) (c .before .before .before .loop .waiting) (c .before .before .before .loop .top) (c .before .before .before .loop .tokens) (c .before .before .before .loop .node)
-    (c .before .view-node .result .op) (c .before .view-node .result .children) (c .before .view-node .result .next)
+turn : (c : tie.After-seat Inv-loop μ-loop)
+    → Turn (c .before .before .before .before .before .args .tree .now) (c .before .before .before .loop .waiting) (c .before .before .before .loop .top) (c .before .before .before .loop .tokens) (c .before .before .before .loop .node) (c .before .before .before .loop .at)
+    (c .before .view-node .result .op) (c .before .view-node .result .children) (c .before .view-node .result .next) (c .before .view-node .result .after)
     (getD (c .before .before .before .loop .waiting) (c .before .before .before .loop .top - 1) Enclosed)
 turn c =
     let seen = c .before .view-node .ensures in
@@ -40,7 +41,8 @@ turn c =
       isOp = ap (λ (v : NodeView). v .op) seen;
       isCount = ap (λ (v : NodeView). v .children) seen;
       isFirst = ap (λ (v : NodeView). v .next) seen;
-      isPlace = refl;
+      isAfter = ap (λ (v : NodeView). v .after) seen;
+      isSeat = refl;
     }
 
 plain : (c : tie.Else1 Inv-loop μ-loop)
@@ -52,17 +54,14 @@ plain c = sym (c .before .is-plain .ensures) ∙ not-false _ (c .if1 .left)
 loop-holds : tie.Need-loop-holds Inv-loop μ-loop
 loop-holds c = judging-begins (c .before .args .tree .now) _ (c .before .pre) refl refl
 
-mul-view-node : tie.Need-mul-view-node Inv-loop μ-loop
-mul-view-node c = search needs
-
 view-node-requires : tie.Need-view-node-requires Inv-loop μ-loop
 view-node-requires c κs = room c .0
 
 sub-top : tie.Need-sub-top Inv-loop μ-loop
 sub-top c = room (c .before) .1
 
-array-copy-out-place : tie.Need-array-copy-out-place Inv-loop μ-loop
-array-copy-out-place c = omega (arith, room (c .before) .2)
+array-copy-out-seat : tie.Need-array-copy-out-seat Inv-loop μ-loop
+array-copy-out-seat c = omega (arith, room (c .before) .2)
 
 is-plain-requires : tie.Need-is-plain-requires Inv-loop μ-loop
 is-plain-requires c κs = search needs
@@ -79,18 +78,18 @@ tokens-for-requires c κs = search needs
 add-tokens : tie.Need-add-tokens Inv-loop μ-loop
 add-tokens c =
     let head = c .before .before .before .before .before .before in
-    let place = getD (head .loop .waiting) (head .loop .top - 1) Enclosed in
+    let seat = getD (head .loop .waiting) (head .loop .top - 1) Enclosed in
     let seen = c .before .before .before .before .view-node .result in
     omega (
       arith,
       c .tokens-for .ensures,
       head .loop .inv .few,
       room (c .before .before .before .before .before) .2,
-      few-tokens place (seen .op) (seen .children),
+      few-tokens seat (seen .op) (seen .children),
     )
 
-place-of-only-requires : tie.Need-place-of-only-requires Inv-loop μ-loop
-place-of-only-requires c κs = search needs
+seat-of-only-requires : tie.Need-seat-of-only-requires Inv-loop μ-loop
+seat-of-only-requires c κs = search needs
 
 array-set-from-waiting : tie.Need-array-set-from-waiting Inv-loop μ-loop
 array-set-from-waiting c = omega (arith, room (c .before .before .before .before .before .before .before) .2)
@@ -99,20 +98,20 @@ add-top : tie.Need-add-top Inv-loop μ-loop
 add-top c = omega (arith, room (c .before .before .before .before .before .before .before) .2)
 
 loop-less : tie.Need-loop-less Inv-loop μ-loop
-loop-less c = omega (arith, c .before .before .before .before .before .before .before .loop-test .taken)
+loop-less c = falls (turn (c .before .before .before .before .before))
 
 loop-again : tie.Need-loop-again Inv-loop μ-loop
 loop-again c =
-    rw (c .place-of-only .ensures, c .before .before .tokens-for .ensures) (judging-one (turn (c .before .before .before .before .before)) (plain (c .before .before .before)) (c .before .if2 .taken))
+    rw (c .seat-of-only .ensures, c .before .before .tokens-for .ensures) (judging-one (turn (c .before .before .before .before .before)) (plain (c .before .before .before)) (c .before .if2 .taken))
 
-place-of-right-requires : tie.Need-place-of-right-requires Inv-loop μ-loop
-place-of-right-requires c κs = search needs
+seat-of-right-requires : tie.Need-seat-of-right-requires Inv-loop μ-loop
+seat-of-right-requires c κs = search needs
 
 array-set-from-waiting-2 : tie.Need-array-set-from-waiting-2 Inv-loop μ-loop
 array-set-from-waiting-2 c = omega (arith, room (c .before .before .before .before .before .before .before .before) .2)
 
-place-of-left-requires : tie.Need-place-of-left-requires Inv-loop μ-loop
-place-of-left-requires c κs = search needs
+seat-of-left-requires : tie.Need-seat-of-left-requires Inv-loop μ-loop
+seat-of-left-requires c κs = search needs
 
 add-waiting : tie.Need-add-waiting Inv-loop μ-loop
 add-waiting c = omega (arith, room (c .before .before .before .before .before .before .before .before .before) .2)
@@ -124,15 +123,15 @@ add-top-2 : tie.Need-add-top-2 Inv-loop μ-loop
 add-top-2 c = omega (arith, room (c .before .before .before .before .before .before .before .before .before) .2)
 
 loop-less-2 : tie.Need-loop-less-2 Inv-loop μ-loop
-loop-less-2 c = omega (arith, c .before .before .before .before .before .before .before .before .before .loop-test .taken)
+loop-less-2 c = falls (turn (c .before .before .before .before .before .before .before))
 
 loop-again-2 : tie.Need-loop-again-2 Inv-loop μ-loop
 loop-again-2 c =
-    rw (c .place-of-left .ensures, c .before .place-of-right .ensures, c .before .before .before .before .tokens-for .ensures)
+    rw (c .seat-of-left .ensures, c .before .seat-of-right .ensures, c .before .before .before .before .tokens-for .ensures)
     (judging-two (turn (c .before .before .before .before .before .before .before)) (plain (c .before .before .before .before .before)) (c .before .before .if3 .taken))
 
 loop-less-3 : tie.Need-loop-less-3 Inv-loop μ-loop
-loop-less-3 c = omega (arith, c .before .before .before .before .before .before .before .loop-test .taken)
+loop-less-3 c = falls (turn (c .before .before .before .before .before))
 
 loop-again-3 : tie.Need-loop-again-3 Inv-loop μ-loop
 loop-again-3 c =
@@ -148,23 +147,22 @@ judge-spec =
     Inv-loop
     μ-loop
     loop-holds
-    mul-view-node
     view-node-requires
     sub-top
-    array-copy-out-place
+    array-copy-out-seat
     is-plain-requires
     returns
     add-node
     tokens-for-requires
     add-tokens
-    place-of-only-requires
+    seat-of-only-requires
     array-set-from-waiting
     add-top
     loop-less
     loop-again
-    place-of-right-requires
+    seat-of-right-requires
     array-set-from-waiting-2
-    place-of-left-requires
+    seat-of-left-requires
     add-waiting
     array-set-from-waiting-3
     add-top-2

@@ -2,7 +2,7 @@
 use mathlib.Core.Path.{sym, _∙_}
 use borrow.Author.Tests.{eq-eqb, ne-eqb}
 use Rattle.molang.specs.Operator.{isBracket}
-use Rattle.write.specs.Places.{tokensFor}
+use Rattle.write.specs.Seats.{tokensFor}
 use Rattle.write.proofs.CaseLaws.{bracket-unpaired}
 use borrow.Author.Needs.{needs}
 use Rattle.write.proofs.plain.tokens_for.Statement.{statement}
@@ -10,7 +10,7 @@ use Rattle.write.proofs.plain.tokens_for.Tie as tie
 
 returns : tie.Need-returns
 unfolding tokensFor isBracket
-returns c = let a = c .before .args in rw (bracket-unpaired (a .place) (a .op) (a .children) (eq-eqb (a .op) 4 (c .if1 .taken)), eq-eqb (a .op) 4 (c .if1 .taken))
+returns c = let a = c .before .args in rw (bracket-unpaired (a .seat) (a .op) (a .children) (eq-eqb (a .op) 4 (c .if1 .taken)), eq-eqb (a .op) 4 (c .if1 .taken))
 
 is-paired-requires : tie.Need-is-paired-requires
 is-paired-requires c κs = search needs

@@ -17,7 +17,7 @@ unfolding shapeAfter
 returns c = λ called w. rw (c .enum-told .given .1, add-one)
 
 returns-2 : tie.Need-returns-2
-returns-2 c = λ called w. begun-kept (c .before .args .slot) w _ (c .match .keys2)
+returns-2 c = λ called w. begun-kept (c .before .args .field) w _ (c .match .keys2)
 
 pub begun-after-spec : {M : Type 1} → statement M
 begun-after-spec = tie.close (tie.spec enum-told add-result returns returns-2)

@@ -22,7 +22,7 @@ unfolding shapeAfter
 returns c = λ begun. rw (c .before .enum-told .given .1, c .low .ensures)
 
 returns-2 : tie.Need-returns-2
-returns-2 c = λ begun. called-kept (c .before .args .slot) (c .before .args .w) _ (c .match .keys2)
+returns-2 c = λ begun. called-kept (c .before .args .field) (c .before .args .w) _ (c .match .keys2)
 
 pub called-after-spec : {M : Type 1} → statement M
 called-after-spec = tie.close (tie.spec enum-told low-requires add-result returns returns-2)

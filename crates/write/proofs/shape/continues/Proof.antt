@@ -2,7 +2,7 @@
 use mathlib.Core.Path.{sym, _∙_}
 use native.Mathlib.Omega.{arith}
 use borrow.Author.Tests.{not-true, not-false}
-use Rattle.write.specs.Answers.{slotOf, shape}
+use Rattle.write.specs.Answers.{fieldOf, shape}
 use Rattle.write.proofs.ShapeLaws.{illegal-stops, uncalled-stops, continues-if}
 use borrow.Author.Needs.{needs}
 use Rattle.write.proofs.shape.continues.Statement.{statement}
@@ -14,7 +14,7 @@ is-legal-requires c κs = search needs
 returns : tie.Need-returns
 returns c =
     let a = c .before .before .args in
-    illegal-stops (slotOf (a .slot)) (a .variant) (shape (a .called) (a .begun)) (a .w)
+    illegal-stops (fieldOf (a .field)) (a .variant) (shape (a .called) (a .begun)) (a .w)
     (sym (c .before .is-legal .ensures) ∙ not-true _ (c .if1 .taken))
 
 begun-after-requires : tie.Need-begun-after-requires
@@ -23,7 +23,7 @@ begun-after-requires c κs = search needs
 returns-2 : tie.Need-returns-2
 returns-2 c =
     let a = c .before .before .before .before .args in
-    uncalled-stops (slotOf (a .slot)) (a .variant) (shape (a .called) (a .begun)) (a .w) (omega (arith, c .before .begun-after .ensures (a .called) (a .w)))
+    uncalled-stops (fieldOf (a .field)) (a .variant) (shape (a .called) (a .begun)) (a .w) (omega (arith, c .before .begun-after .ensures (a .called) (a .w)))
 
 called-after-requires : tie.Need-called-after-requires
 called-after-requires c κs = search needs
@@ -32,7 +32,7 @@ returns-3 : tie.Need-returns-3
 returns-3 c =
     let a = c .before .before .before .before .before .args in
     rw (c .called-after .ensures (a .begun))
-    (continues-if (slotOf (a .slot)) (a .variant) (shape (a .called) (a .begun)) (a .w)
+    (continues-if (fieldOf (a .field)) (a .variant) (shape (a .called) (a .begun)) (a .w)
     (sym (c .before .before .before .before .is-legal .ensures) ∙ not-false _ (c .before .before .before .if1 .left))
     (omega (arith, c .before .before .begun-after .ensures (a .called) (a .w))))
 

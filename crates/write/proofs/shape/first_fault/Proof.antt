@@ -1,22 +1,23 @@
 -- `write::shape::first_fault` meets its contract. The loop's invariant: the fault of the words that are left, at what was seen so
 -- far, is the fault of all. The measure is what is left of the words. Assumes nothing.
 use Prim.Native.Nat.{_-_}
-use mathlib.Core.Path.{sym, _∙_}
+use mathlib.Core.Path.{sym, ap, _∙_}
 use native.Mathlib.Omega.{arith}
 use borrow.Author.Needs.{needs}
 use borrow.Author.Tests.{not-true, not-false}
 use lib.ListN.{length}
-use Rattle.write.specs.Answers.{slotOf}
+use Rattle.molang.specs.Words.{withNumber}
+use Rattle.write.specs.Answers.{fieldOf}
 use Rattle.write.proofs.ShapeLaws.{Seen, seen-start, seen-fault, seen-more, seen-none, seen-end}
 use Rattle.write.proofs.shape.first_fault.Statement.{statement}
 use Rattle.write.proofs.shape.first_fault.Tie as tie
 
 abbrev Inv-loop : tie.InvT-loop
-Inv-loop tree slot₀ variant₀ called₀ begun₀ i₀ slot variant called begun i =
-    Seen tree (slotOf slot) variant called begun i
+Inv-loop tree field₀ variant₀ called₀ begun₀ i₀ field variant called begun i =
+    Seen tree (fieldOf field) variant called begun i
 
 abbrev μ-loop : tie.MeasureT-loop
-μ-loop tree slot₀ variant₀ called₀ begun₀ i₀ slot variant called begun i = length tree - i
+μ-loop tree field₀ variant₀ called₀ begun₀ i₀ field variant called begun i = length tree - i
 
 loop-holds : tie.Need-loop-holds Inv-loop μ-loop
 loop-holds c = seen-start (c .before .args .tree .now)
@@ -33,7 +34,8 @@ continues-requires c κs = (c .before .before .loop .inv .enough, c .before .bef
 returns : tie.Need-returns Inv-loop μ-loop
 returns c =
     let h = c .before .before .before .before in
-    seen-fault (h .loop .inv) (c .before .before .before .loop-test .taken) (sym (c .before .continues .ensures) ∙ not-true _ (c .if1 .taken))
+    ap (withNumber 12)
+    (seen-fault (h .loop .inv) (c .before .before .before .loop-test .taken) (sym (c .before .continues .ensures) ∙ not-true _ (c .if1 .taken)))
 
 variant-after-requires : tie.Need-variant-after-requires Inv-loop μ-loop
 variant-after-requires c κs = search needs
@@ -67,12 +69,12 @@ is-whole-requires c κs = search needs
 returns-2 : tie.Need-returns-2 Inv-loop μ-loop
 returns-2 c =
     let h = c .before .before .before in
-    seen-none (h .loop .inv) (c .before .before .loop-test .left) (sym (c .before .is-whole .ensures) ∙ c .if2 .taken)
+    ap (withNumber 12) (seen-none (h .loop .inv) (c .before .before .loop-test .left) (sym (c .before .is-whole .ensures) ∙ c .if2 .taken))
 
 returns-3 : tie.Need-returns-3 Inv-loop μ-loop
 returns-3 c =
     let h = c .before .before .before in
-    seen-end (h .loop .inv) (c .before .before .loop-test .left) (sym (c .before .is-whole .ensures) ∙ c .if2 .left)
+    ap (withNumber 12) (seen-end (h .loop .inv) (c .before .before .loop-test .left) (sym (c .before .is-whole .ensures) ∙ c .if2 .left))
 
 pub first-fault-spec : {M : Type 1} → statement M
 first-fault-spec =

@@ -1,9 +1,10 @@
 -- `write::shape::is_count` meets its contract: by the word's kind and its low bits. Assumes nothing.
 use mathlib.Core.Path.{sym, _∙_}
 use borrow.Author.Needs.{needs}
-use borrow.Author.Tests.{eq-eqb, ne-eqb}
-use Rattle.molang.specs.Words.{slotKind, unless, lowFault, wordFault}
-use Rattle.write.proofs.CaseLaws.{legal-unless}
+use borrow.Author.Tests.{ne-eqb}
+use Rattle.molang.specs.Words.{fieldKind, wordFault}
+use Rattle.molang.specs.FirstFailure.{must, firstOf}
+use Rattle.write.proofs.CaseLaws.{legal-count}
 use Rattle.write.proofs.shape.is_count.Statement.{statement}
 use Rattle.write.proofs.shape.is_count.Tie as tie
 
@@ -11,15 +12,14 @@ kind-requires : tie.Need-kind-requires
 kind-requires c κs = search needs
 
 returns : tie.Need-returns
-unfolding wordFault slotKind unless
+unfolding wordFault fieldKind firstOf must
 returns c = rw (ne-eqb _ 6 (rw (c .before .kind .ensures) at (c .if1 .taken)))
 
 low-requires : tie.Need-low-requires
 low-requires c κs = search needs
 
 returns-2 : tie.Need-returns-2
-unfolding wordFault slotKind unless lowFault
-returns-2 c = rw (eq-eqb _ 6 (sym (c .before .before .kind .ensures) ∙ c .before .if1 .left), c .low .ensures, legal-unless)
+returns-2 c = rw (c .low .ensures) (sym (legal-count _ (sym (c .before .before .kind .ensures) ∙ c .before .if1 .left)))
 
 pub is-count-spec : {M : Type 1} → statement M
 is-count-spec = tie.close (tie.spec kind-requires returns low-requires returns-2)

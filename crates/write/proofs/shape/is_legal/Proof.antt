@@ -1,6 +1,6 @@
--- `write::shape::is_legal` meets its contract: slot by slot, by the check of that word. Assumes nothing.
+-- `write::shape::is_legal` meets its contract: field by field, by the check of that word. Assumes nothing.
 use mathlib.Core.Path.{ap, _∙_}
-use Rattle.molang.specs.Words.{slotKind, lowFault, wordFault}
+use Rattle.molang.specs.Words.{fieldKind, lowFault, wordFault}
 use Rattle.write.specs.Answers.{isLegal}
 use borrow.Author.Needs.{needs}
 use Rattle.write.proofs.shape.is_legal.Statement.{statement}
@@ -58,27 +58,27 @@ is-count-requires : tie.Need-is-count-requires
 is-count-requires c κs = search needs
 
 returns : tie.Need-returns
-unfolding wordFault slotKind lowFault
+unfolding wordFault fieldKind lowFault
 returns c = rw (c .before .before .enum-told .given .1) (c .is-good .ensures ∙ ap isLegal (c .before .operator-word .ensures))
 
 returns-2 : tie.Need-returns-2
-unfolding wordFault slotKind lowFault
+unfolding wordFault fieldKind lowFault
 returns-2 c = rw (c .before .before .enum-told2 .given .1) (c .is-good2 .ensures ∙ ap isLegal (c .before .span-word .ensures))
 
 returns-3 : tie.Need-returns-3
-unfolding wordFault slotKind lowFault
+unfolding wordFault fieldKind lowFault
 returns-3 c = rw (c .before .before .enum-told3 .given .1) (c .is-good3 .ensures ∙ ap isLegal (c .before .span-word2 .ensures))
 
 returns-4 : tie.Need-returns-4
-unfolding wordFault slotKind lowFault
+unfolding wordFault fieldKind lowFault
 returns-4 c = rw (c .before .before .enum-told4 .given .1) (c .is-good4 .ensures ∙ ap isLegal (c .before .half-word .ensures))
 
 returns-5 : tie.Need-returns-5
-unfolding wordFault slotKind lowFault
+unfolding wordFault fieldKind lowFault
 returns-5 c = rw (c .before .before .enum-told5 .given .1) (c .is-good5 .ensures ∙ ap isLegal (c .before .half-word2 .ensures))
 
 returns-6 : tie.Need-returns-6
-unfolding wordFault slotKind lowFault
+unfolding wordFault fieldKind lowFault
 returns-6 c = rw (c .before .enum-told6 .given .1) (c .is-count .ensures)
 
 pub is-legal-spec : {M : Type 1} → statement M

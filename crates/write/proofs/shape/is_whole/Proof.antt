@@ -13,7 +13,7 @@ unfolding isWhole
 returns c = rw (c .enum-told .given .1)
 
 returns-2 : tie.Need-returns-2
-returns-2 c = not-whole (c .before .args .slot) _ (c .match .keys2)
+returns-2 c = not-whole (c .before .args .field) _ (c .match .keys2)
 
 pub is-whole-spec : {M : Type 1} → statement M
 is-whole-spec = tie.close (tie.spec enum-told returns returns-2)

@@ -17,7 +17,7 @@ unfolding variantAfter variantOf
 returns c = rw (c .before .enum-told .given .1) (c .variant .ensures)
 
 returns-2 : tie.Need-returns-2
-returns-2 c = variant-kept (c .before .args .slot) (c .before .args .variant) (c .before .args .w) (c .match .keys2)
+returns-2 c = variant-kept (c .before .args .field) (c .before .args .variant) (c .before .args .w) (c .match .keys2)
 
 pub variant-after-spec : {M : Type 1} → statement M
 variant-after-spec = tie.close (tie.spec enum-told variant-requires returns returns-2)

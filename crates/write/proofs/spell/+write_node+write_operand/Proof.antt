@@ -1,6 +1,6 @@
--- The proof of the cycle of calls {write_node, write_operand}: writing a node and writing an operand. Both measures are of the words that
--- are left: a node's operand has six words less, and an operand's node as many. Each answer is one of StepLaws, handed what the calls on
--- the way gave. Assumes nothing.
+-- The proof of the cycle of calls {write_node, write_operand}: writing a node and writing an operand. Both fall by the remaining node count:
+-- a node's operand has a node less, and an operand's node as many. Each answer is one of StepLaws, handed what the calls on the way gave.
+-- Assumes nothing.
 use Prim.Native.Nat.{ℕ, _+_, _*_, _≤_, _<_}
 use mathlib.Core.Path.{sym, _∙_}
 use native.Mathlib.Omega.{arith}
@@ -13,9 +13,9 @@ use lib.Seq.{length-take-le}
 use Rattle.words.proofs.fields.low.Reads as low-reads
 use Rattle.words.proofs.fields.operator.Reads as operator-reads
 use Rattle.write.proofs.plain.is_paired.Reads as is-paired-reads
-use Rattle.write.proofs.plain.place_of_left.Reads as place-of-left-reads
-use Rattle.write.proofs.plain.place_of_only.Reads as place-of-only-reads
-use Rattle.write.proofs.plain.place_of_right.Reads as place-of-right-reads
+use Rattle.write.proofs.plain.seat_of_left.Reads as seat-of-left-reads
+use Rattle.write.proofs.plain.seat_of_only.Reads as seat-of-only-reads
+use Rattle.write.proofs.plain.seat_of_right.Reads as seat-of-right-reads
 use Rattle.write.proofs.spell.put_bracket.Reads as put-bracket-reads
 use Rattle.write.proofs.spell.put_closer.Reads as put-closer-reads
 use Rattle.write.proofs.spell.put_token.Reads as put-token-reads
@@ -27,13 +27,14 @@ use Rattle.write.proofs.spell.write_operand.Kinds as write-operand-kind
 use Rattle.write.proofs.spell.+write_node+write_operand.Lts-write_operand as write-operand-lts
 use Rattle.write.proofs.spell.+write_node+write_operand.{statement}
 use Rattle.write.proofs.spell.+write_node+write_operand.Tie.{close}
-use Rattle.write.proofs.StepLaws.{tail, tail-length, node-long, none-closer, none-length, none-writes, token-room, one-only, one-closer, one-end, one-length, one-writes, two-left, two-token, two-next, two-right, two-end, two-length, two-writes, operand-long, alone-room, alone-writes, open-room, inner-room, close-room, pair-length, pair-writes}
+use Rattle.write.proofs.StepLaws.{tail, nodesLeft, fewer-nodes, node-long, none-closer, none-length, none-writes, token-room, one-only, one-closer, one-end, one-length, one-writes, two-left, two-token, two-next, two-right, two-end, two-length, two-writes, operand-long, alone-room, alone-writes, open-room, inner-room, close-room, pair-length, pair-writes}
+use Rattle.write.specs.Shaped.{nodeLength}
 
 abbrev μ-write-node : Measures 3 write-node-kinds.ps ℕ
-μ-write-node κs a = 2 * length (a .0 .now)
+μ-write-node κs a = 2 * nodesLeft (a .0 .now)
 
 abbrev μ-write-operand : Measures 3 write-operand-kinds.ps ℕ
-μ-write-operand κs a = 2 * length (a .0 .now) + 1
+μ-write-operand κs a = 2 * nodesLeft (a .0 .now) + 1
 
 -- What each is given at the measure t, and what a call of it asks below t.
 abbrev write-node-at : ℕ → In 3 write-node-kinds.ps
@@ -50,36 +51,36 @@ write-operand-below t = and 3 write-operand-kinds.ps (falls 3 write-operand-kind
 
 -- What the calls of each ask and give.
 abbrev node-calls : ℕ → write-node-lts.Claims
-node-calls t = (operator-reads.Asked, operator-reads.Learnt, low-reads.Asked, low-reads.Learnt, place-of-left-reads.Asked, place-of-left-reads.Learnt, write-operand-below t, write-operand.Post, put-token-reads.Asked, put-token-reads.Learnt, place-of-right-reads.Asked, place-of-right-reads.Learnt, put-closer-reads.Asked, put-closer-reads.Learnt, place-of-only-reads.Asked, place-of-only-reads.Learnt)
+node-calls t = (operator-reads.Asked, operator-reads.Learnt, low-reads.Asked, low-reads.Learnt, seat-of-left-reads.Asked, seat-of-left-reads.Learnt, write-operand-below t, write-operand.Post, put-token-reads.Asked, put-token-reads.Learnt, seat-of-right-reads.Asked, seat-of-right-reads.Learnt, put-closer-reads.Asked, put-closer-reads.Learnt, seat-of-only-reads.Asked, seat-of-only-reads.Learnt)
 
 abbrev operand-calls : ℕ → write-operand-lts.Claims
 operand-calls t = (operator-reads.Asked, operator-reads.Learnt, low-reads.Asked, low-reads.Learnt, is-paired-reads.Asked, is-paired-reads.Learnt, write-node-below t, write-node.Post, put-bracket-reads.Asked, put-bracket-reads.Learnt)
 
 -- Where an operand ends, within the words.
-left-ends : (t : ℕ) (c : write-node-lts.After-write-operand (node-calls t) (write-node-at t) write-node.Post) → 6 + length (c .write-operand .result .now) ≤ length (c .before .before .before .before .before .before .before .before .before .before .before .before .args .words .now)
+left-ends : (t : ℕ) (c : write-node-lts.After-write-operand (node-calls t) (write-node-at t) write-node.Post) → nodeLength + length (c .write-operand .result .now) ≤ length (c .before .before .before .before .before .before .before .before .before .before .before .before .args .words .now)
 left-ends t c =
     let start = c .before .before .before .before .before .before .before .before .before .before .before .before in
     let op = c .before .before .before .before .before .before .before .before .operator in
     let count = c .before .before .before .before .before .before .low in
     let test = c .before .before .before .before .before .if1 in
-    let left = c .before .before .before .place-of-left in
+    let left = c .before .before .before .seat-of-left in
     let first = c .write-operand in
     two-next (start .pre .1) (sym (count .ensures) ∙ test .taken) (op .ensures) (left .result) (left .ensures) (first .result .now) (first .last .1 .1 .0) (first .last .1 .1 .1 .0) (first .ensures)
 
-right-ends : (t : ℕ) (c : write-node-lts.After-write-operand2 (node-calls t) (write-node-at t) write-node.Post) → 6 + length (c .before .before .before .before .before .before .before .before .before .before .before .before .write-operand .result .now) + length (c .write-operand2 .result .now) ≤ length (c .before .before .before .before .before .before .before .before .before .before .before .before .before .before .before .before .before .before .before .before .before .before .before .before .args .words .now)
+right-ends : (t : ℕ) (c : write-node-lts.After-write-operand2 (node-calls t) (write-node-at t) write-node.Post) → nodeLength + length (c .before .before .before .before .before .before .before .before .before .before .before .before .write-operand .result .now) + length (c .write-operand2 .result .now) ≤ length (c .before .before .before .before .before .before .before .before .before .before .before .before .before .before .before .before .before .before .before .before .before .before .before .before .args .words .now)
 right-ends t c =
     let start = c .before .before .before .before .before .before .before .before .before .before .before .before .before .before .before .before .before .before .before .before .before .before .before .before in
     let op = c .before .before .before .before .before .before .before .before .before .before .before .before .before .before .before .before .before .before .before .before .operator in
     let count = c .before .before .before .before .before .before .before .before .before .before .before .before .before .before .before .before .before .before .low in
     let test = c .before .before .before .before .before .before .before .before .before .before .before .before .before .before .before .before .before .if1 in
-    let left = c .before .before .before .before .before .before .before .before .before .before .before .before .before .before .before .place-of-left in
+    let left = c .before .before .before .before .before .before .before .before .before .before .before .before .before .before .before .seat-of-left in
     let first = c .before .before .before .before .before .before .before .before .before .before .before .before .write-operand in
     let token = c .before .before .before .before .before .before .before .put-token in
-    let right = c .before .before .before .place-of-right in
+    let right = c .before .before .before .seat-of-right in
     let second = c .write-operand2 in
     two-end (start .pre .1) (sym (count .ensures) ∙ test .taken) (op .ensures) (left .result) (left .ensures) (first .result .now) (first .last .1 .1 .0) (first .last .1 .1 .1 .0) (first .ensures) (token .last .1 .0) (token .last .1 .1 .0) (token .ensures) (right .result) (right .ensures) (second .result .now) (second .last .1 .1 .0) (second .last .1 .1 .1 .0) (second .ensures)
 
-only-ends : (t : ℕ) (c : write-node-lts.After-write-operand3 (node-calls t) (write-node-at t) write-node.Post) → 6 + length (c .write-operand3 .result .now) ≤ length (c .before .before .before .before .before .before .before .before .before .before .before .before .before .before .before .before .before .before .args .words .now)
+only-ends : (t : ℕ) (c : write-node-lts.After-write-operand3 (node-calls t) (write-node-at t) write-node.Post) → nodeLength + length (c .write-operand3 .result .now) ≤ length (c .before .before .before .before .before .before .before .before .before .before .before .before .before .before .before .before .before .before .args .words .now)
 only-ends t c =
     let start = c .before .before .before .before .before .before .before .before .before .before .before .before .before .before .before .before .before .before in
     let op = c .before .before .before .before .before .before .before .before .before .before .before .before .before .before .operator in
@@ -87,9 +88,9 @@ only-ends t c =
     let test = c .before .before .before .before .before .before .before .before .before .before .before .if1 in
     let token = c .before .before .before .before .before .before .before .before .put-token2 in
     let leaf = c .before .before .before .before .before .if2 in
-    let place = c .before .before .before .place-of-only in
+    let seat = c .before .before .before .seat-of-only in
     let child = c .write-operand3 in
-    one-end (start .pre .1) (λ e. test .left (count .ensures ∙ e)) (λ e. leaf .left (count .ensures ∙ e)) (op .ensures) (place .result) (place .ensures) (token .last .1 .0) (token .last .1 .1 .0) (token .ensures) (child .result .now) (child .last .1 .1 .0) (child .last .1 .1 .1 .0) (child .ensures)
+    one-end (start .pre .1) (λ e. test .left (count .ensures ∙ e)) (λ e. leaf .left (count .ensures ∙ e)) (op .ensures) (seat .result) (seat .ensures) (token .last .1 .0) (token .last .1 .1 .0) (token .ensures) (child .result .now) (child .last .1 .1 .0) (child .last .1 .1 .1 .0) (child .ensures)
 
 write-node-shared-slice-read-operator : (t : ℕ) → write-node-lts.Need-shared-slice-read-operator (node-calls t) (write-node-at t) write-node.Post
 write-node-shared-slice-read-operator t c = omega (arith, node-long (c .before .before .before .pre .1))
@@ -112,8 +113,8 @@ write-node-part-write-operand-start t c = node-long (c .before .before .before .
 write-node-part-write-operand-end : (t : ℕ) → write-node-lts.Need-part-write-operand-end (node-calls t) (write-node-at t) write-node.Post
 write-node-part-write-operand-end t c = omega arith
 
-write-node-place-of-left-requires : (t : ℕ) → write-node-lts.Need-place-of-left-requires (node-calls t) (write-node-at t) write-node.Post
-write-node-place-of-left-requires t c κs = search needs
+write-node-seat-of-left-requires : (t : ℕ) → write-node-lts.Need-seat-of-left-requires (node-calls t) (write-node-at t) write-node.Post
+write-node-seat-of-left-requires t c κs = search needs
 
 write-node-write-operand-requires : (t : ℕ) → write-node-lts.Need-write-operand-requires (node-calls t) (write-node-at t) write-node.Post
 write-node-write-operand-requires t c κs =
@@ -121,9 +122,9 @@ write-node-write-operand-requires t c κs =
     let op = c .before .before .before .before .before .before .before .operator in
     let count = c .before .before .before .before .before .low in
     let test = c .before .before .before .before .if1 in
-    let left = c .before .before .place-of-left in
+    let left = c .before .before .seat-of-left in
     let words = start .args .words .now in
-    let less : 2 * length (tail 6 words) + 1 < t = omega (arith, start .pre .0, tail-length 6 words, node-long (start .pre .1)) in
+    let less : 2 * nodesLeft (tail nodeLength words) + 1 < t = omega (arith, start .pre .0, fewer-nodes nodeLength words (omega arith) (node-long (start .pre .1))) in
     (less, two-left (start .pre .1) (sym (count .ensures) ∙ test .taken) (op .ensures) (left .result) (left .ensures))
 
 write-node-put-token-requires : (t : ℕ) → write-node-lts.Need-put-token-requires (node-calls t) (write-node-at t) write-node.Post
@@ -132,7 +133,7 @@ write-node-put-token-requires t c κs =
     let op = c .before .before .before .before .before .before .before .before .before .before .before .before .operator in
     let count = c .before .before .before .before .before .before .before .before .before .before .low in
     let test = c .before .before .before .before .before .before .before .before .before .if1 in
-    let left = c .before .before .before .before .before .before .before .place-of-left in
+    let left = c .before .before .before .before .before .before .before .seat-of-left in
     let first = c .before .before .before .before .write-operand in
     (omega (arith, node-long (start .pre .1)), two-token (start .pre .1) (sym (count .ensures) ∙ test .taken) (op .ensures) (left .result) (left .ensures) (first .result .now) (first .last .1 .1 .0) (first .last .1 .1 .1 .0) (first .ensures))
 
@@ -151,8 +152,8 @@ write-node-part-write-operand-start-2 t c = left-ends t (c .before .before .befo
 write-node-part-write-operand-end-2 : (t : ℕ) → write-node-lts.Need-part-write-operand-end-2 (node-calls t) (write-node-at t) write-node.Post
 write-node-part-write-operand-end-2 t c = omega arith
 
-write-node-place-of-right-requires : (t : ℕ) → write-node-lts.Need-place-of-right-requires (node-calls t) (write-node-at t) write-node.Post
-write-node-place-of-right-requires t c κs = search needs
+write-node-seat-of-right-requires : (t : ℕ) → write-node-lts.Need-seat-of-right-requires (node-calls t) (write-node-at t) write-node.Post
+write-node-seat-of-right-requires t c κs = search needs
 
 write-node-write-operand-requires-2 : (t : ℕ) → write-node-lts.Need-write-operand-requires-2 (node-calls t) (write-node-at t) write-node.Post
 write-node-write-operand-requires-2 t c κs =
@@ -160,13 +161,13 @@ write-node-write-operand-requires-2 t c κs =
     let op = c .before .before .before .before .before .before .before .before .before .before .before .before .before .before .before .before .before .before .before .operator in
     let count = c .before .before .before .before .before .before .before .before .before .before .before .before .before .before .before .before .before .low in
     let test = c .before .before .before .before .before .before .before .before .before .before .before .before .before .before .before .before .if1 in
-    let left = c .before .before .before .before .before .before .before .before .before .before .before .before .before .before .place-of-left in
+    let left = c .before .before .before .before .before .before .before .before .before .before .before .before .before .before .seat-of-left in
     let first = c .before .before .before .before .before .before .before .before .before .before .before .write-operand in
     let token = c .before .before .before .before .before .before .put-token in
-    let right = c .before .before .place-of-right in
+    let right = c .before .before .seat-of-right in
     let words = start .args .words .now in
-    let next = 6 + length (first .result .now) in
-    let less : 2 * length (tail next words) + 1 < t = omega (arith, start .pre .0, tail-length next words, node-long (start .pre .1)) in
+    let next = nodeLength + length (first .result .now) in
+    let less : 2 * nodesLeft (tail next words) + 1 < t = omega (arith, start .pre .0, fewer-nodes next words (omega arith) (node-long (start .pre .1))) in
     (less, two-right (start .pre .1) (sym (count .ensures) ∙ test .taken) (op .ensures) (left .result) (left .ensures) (first .result .now) (first .last .1 .1 .0) (first .last .1 .1 .1 .0) (first .ensures) (token .last .1 .0) (token .last .1 .1 .0) (token .ensures) (right .result) (right .ensures))
 
 write-node-add-result : (t : ℕ) → write-node-lts.Need-add-result (node-calls t) (write-node-at t) write-node.Post
@@ -174,7 +175,7 @@ write-node-add-result t c = omega (arith, c .before .before .before .before .bef
 
 write-node-slice-aggregate-result : (t : ℕ) → write-node-lts.Need-slice-aggregate-result (node-calls t) (write-node-at t) write-node.Post
 write-node-slice-aggregate-result t c =
-    let size = 6 + length (c .before .before .before .before .before .before .before .before .before .before .before .before .before .before .before .write-operand .result .now) + length (c .before .before .before .write-operand2 .result .now) in
+    let size = nodeLength + length (c .before .before .before .before .before .before .before .before .before .before .before .before .before .before .before .write-operand .result .now) + length (c .before .before .before .write-operand2 .result .now) in
     sym (length-take-le size (c .before .before .before .before .before .before .before .before .before .before .before .before .before .before .before .before .before .before .before .before .before .before .before .before .before .before .before .args .words .now) (right-ends t (c .before .before .before)))
 
 write-node-same-length : (t : ℕ) → write-node-lts.Need-same-length (node-calls t) (write-node-at t) write-node.Post
@@ -183,10 +184,10 @@ write-node-same-length t c =
     let op = c .before .before .before .before .before .before .before .before .before .before .before .before .before .before .before .before .before .before .before .before .before .before .before .operator in
     let count = c .before .before .before .before .before .before .before .before .before .before .before .before .before .before .before .before .before .before .before .before .before .low in
     let test = c .before .before .before .before .before .before .before .before .before .before .before .before .before .before .before .before .before .before .before .before .if1 in
-    let left = c .before .before .before .before .before .before .before .before .before .before .before .before .before .before .before .before .before .before .place-of-left in
+    let left = c .before .before .before .before .before .before .before .before .before .before .before .before .before .before .before .before .before .before .seat-of-left in
     let first = c .before .before .before .before .before .before .before .before .before .before .before .before .before .before .before .write-operand in
     let token = c .before .before .before .before .before .before .before .before .before .before .put-token in
-    let right = c .before .before .before .before .before .before .place-of-right in
+    let right = c .before .before .before .before .before .before .seat-of-right in
     let second = c .before .before .before .write-operand2 in
     two-length (start .pre .1) (sym (count .ensures) ∙ test .taken) (op .ensures) (left .result) (left .ensures) (first .result .now) (first .last .1 .1 .0) (first .last .1 .1 .1 .0) (first .ensures) (token .last .1 .0) (token .last .1 .1 .0) (token .ensures) (right .result) (right .ensures) (second .result .now) (second .last .1 .1 .0) (second .last .1 .1 .1 .0) (second .ensures)
 
@@ -196,10 +197,10 @@ write-node-returns t c =
     let op = c .before .before .before .before .before .before .before .before .before .before .before .before .before .before .before .before .before .before .before .before .before .before .before .operator in
     let count = c .before .before .before .before .before .before .before .before .before .before .before .before .before .before .before .before .before .before .before .before .before .low in
     let test = c .before .before .before .before .before .before .before .before .before .before .before .before .before .before .before .before .before .before .before .before .if1 in
-    let left = c .before .before .before .before .before .before .before .before .before .before .before .before .before .before .before .before .before .before .place-of-left in
+    let left = c .before .before .before .before .before .before .before .before .before .before .before .before .before .before .before .before .before .before .seat-of-left in
     let first = c .before .before .before .before .before .before .before .before .before .before .before .before .before .before .before .write-operand in
     let token = c .before .before .before .before .before .before .before .before .before .before .put-token in
-    let right = c .before .before .before .before .before .before .place-of-right in
+    let right = c .before .before .before .before .before .before .seat-of-right in
     let second = c .before .before .before .write-operand2 in
     two-writes (start .pre .1) (sym (count .ensures) ∙ test .taken) (op .ensures) (left .result) (left .ensures) (first .result .now) (first .last .1 .1 .0) (first .last .1 .1 .1 .0) (first .ensures) (token .last .1 .0) (token .last .1 .1 .0) (token .ensures) (right .result) (right .ensures) (second .result .now) (second .last .1 .1 .0) (second .last .1 .1 .1 .0) (second .ensures)
 
@@ -248,8 +249,8 @@ write-node-part-write-operand-start-3 t c = node-long (c .before .before .before
 write-node-part-write-operand-end-3 : (t : ℕ) → write-node-lts.Need-part-write-operand-end-3 (node-calls t) (write-node-at t) write-node.Post
 write-node-part-write-operand-end-3 t c = omega arith
 
-write-node-place-of-only-requires : (t : ℕ) → write-node-lts.Need-place-of-only-requires (node-calls t) (write-node-at t) write-node.Post
-write-node-place-of-only-requires t c κs = search needs
+write-node-seat-of-only-requires : (t : ℕ) → write-node-lts.Need-seat-of-only-requires (node-calls t) (write-node-at t) write-node.Post
+write-node-seat-of-only-requires t c κs = search needs
 
 write-node-write-operand-requires-3 : (t : ℕ) → write-node-lts.Need-write-operand-requires-3 (node-calls t) (write-node-at t) write-node.Post
 write-node-write-operand-requires-3 t c κs =
@@ -259,10 +260,10 @@ write-node-write-operand-requires-3 t c κs =
     let test = c .before .before .before .before .before .before .before .before .before .before .if1 in
     let token = c .before .before .before .before .before .before .before .put-token2 in
     let leaf = c .before .before .before .before .if2 in
-    let place = c .before .before .place-of-only in
+    let seat = c .before .before .seat-of-only in
     let words = start .args .words .now in
-    let less : 2 * length (tail 6 words) + 1 < t = omega (arith, start .pre .0, tail-length 6 words, node-long (start .pre .1)) in
-    (less, one-only (start .pre .1) (λ e. test .left (count .ensures ∙ e)) (λ e. leaf .left (count .ensures ∙ e)) (op .ensures) (place .result) (place .ensures) (token .last .1 .0) (token .last .1 .1 .0) (token .ensures))
+    let less : 2 * nodesLeft (tail nodeLength words) + 1 < t = omega (arith, start .pre .0, fewer-nodes nodeLength words (omega arith) (node-long (start .pre .1))) in
+    (less, one-only (start .pre .1) (λ e. test .left (count .ensures ∙ e)) (λ e. leaf .left (count .ensures ∙ e)) (op .ensures) (seat .result) (seat .ensures) (token .last .1 .0) (token .last .1 .1 .0) (token .ensures))
 
 write-node-put-closer-requires-2 : (t : ℕ) → write-node-lts.Need-put-closer-requires-2 (node-calls t) (write-node-at t) write-node.Post
 write-node-put-closer-requires-2 t c κs =
@@ -272,16 +273,16 @@ write-node-put-closer-requires-2 t c κs =
     let test = c .before .before .before .before .before .before .before .before .before .before .before .before .before .before .before .if1 in
     let token = c .before .before .before .before .before .before .before .before .before .before .before .before .put-token2 in
     let leaf = c .before .before .before .before .before .before .before .before .before .if2 in
-    let place = c .before .before .before .before .before .before .before .place-of-only in
+    let seat = c .before .before .before .before .before .before .before .seat-of-only in
     let child = c .before .before .before .before .write-operand3 in
-    (omega (arith, node-long (start .pre .1)), one-closer (start .pre .1) (λ e. test .left (count .ensures ∙ e)) (λ e. leaf .left (count .ensures ∙ e)) (op .ensures) (place .result) (place .ensures) (token .last .1 .0) (token .last .1 .1 .0) (token .ensures) (child .result .now) (child .last .1 .1 .0) (child .last .1 .1 .1 .0) (child .ensures))
+    (omega (arith, node-long (start .pre .1)), one-closer (start .pre .1) (λ e. test .left (count .ensures ∙ e)) (λ e. leaf .left (count .ensures ∙ e)) (op .ensures) (seat .result) (seat .ensures) (token .last .1 .0) (token .last .1 .1 .0) (token .ensures) (child .result .now) (child .last .1 .1 .0) (child .last .1 .1 .1 .0) (child .ensures))
 
 write-node-add-result-2 : (t : ℕ) → write-node-lts.Need-add-result-2 (node-calls t) (write-node-at t) write-node.Post
 write-node-add-result-2 t c = omega (arith, c .before .before .before .before .before .before .before .before .before .before .before .before .before .before .before .before .before .before .before .before .before .before .before .before .before .good .0 .0, only-ends t (c .before .before .before .before .before .before .before))
 
 write-node-slice-aggregate-result-3 : (t : ℕ) → write-node-lts.Need-slice-aggregate-result-3 (node-calls t) (write-node-at t) write-node.Post
 write-node-slice-aggregate-result-3 t c =
-    sym (length-take-le (6 + length (c .before .before .before .before .before .before .before .before .write-operand3 .result .now)) (c .before .before .before .before .before .before .before .before .before .before .before .before .before .before .before .before .before .before .before .before .before .before .before .before .before .before .args .words .now) (only-ends t (c .before .before .before .before .before .before .before .before)))
+    sym (length-take-le (nodeLength + length (c .before .before .before .before .before .before .before .before .write-operand3 .result .now)) (c .before .before .before .before .before .before .before .before .before .before .before .before .before .before .before .before .before .before .before .before .before .before .before .before .before .before .args .words .now) (only-ends t (c .before .before .before .before .before .before .before .before)))
 
 write-node-same-length-3 : (t : ℕ) → write-node-lts.Need-same-length-3 (node-calls t) (write-node-at t) write-node.Post
 write-node-same-length-3 t c =
@@ -291,10 +292,10 @@ write-node-same-length-3 t c =
     let test = c .before .before .before .before .before .before .before .before .before .before .before .before .before .before .before .before .before .before .before .if1 in
     let token = c .before .before .before .before .before .before .before .before .before .before .before .before .before .before .before .before .put-token2 in
     let leaf = c .before .before .before .before .before .before .before .before .before .before .before .before .before .if2 in
-    let place = c .before .before .before .before .before .before .before .before .before .before .before .place-of-only in
+    let seat = c .before .before .before .before .before .before .before .before .before .before .before .seat-of-only in
     let child = c .before .before .before .before .before .before .before .before .write-operand3 in
     let closer = c .before .before .before .put-closer2 in
-    one-length (start .pre .1) (λ e. test .left (count .ensures ∙ e)) (λ e. leaf .left (count .ensures ∙ e)) (op .ensures) (place .result) (place .ensures) (token .last .1 .0) (token .last .1 .1 .0) (token .ensures) (child .result .now) (child .last .1 .1 .0) (child .last .1 .1 .1 .0) (child .ensures) (closer .last .1 .0) (closer .last .1 .1 .0) (closer .ensures)
+    one-length (start .pre .1) (λ e. test .left (count .ensures ∙ e)) (λ e. leaf .left (count .ensures ∙ e)) (op .ensures) (seat .result) (seat .ensures) (token .last .1 .0) (token .last .1 .1 .0) (token .ensures) (child .result .now) (child .last .1 .1 .0) (child .last .1 .1 .1 .0) (child .ensures) (closer .last .1 .0) (closer .last .1 .1 .0) (closer .ensures)
 
 write-node-returns-3 : (t : ℕ) → write-node-lts.Need-returns-3 (node-calls t) (write-node-at t) write-node.Post
 write-node-returns-3 t c =
@@ -304,19 +305,19 @@ write-node-returns-3 t c =
     let test = c .before .before .before .before .before .before .before .before .before .before .before .before .before .before .before .before .before .before .before .if1 in
     let token = c .before .before .before .before .before .before .before .before .before .before .before .before .before .before .before .before .put-token2 in
     let leaf = c .before .before .before .before .before .before .before .before .before .before .before .before .before .if2 in
-    let place = c .before .before .before .before .before .before .before .before .before .before .before .place-of-only in
+    let seat = c .before .before .before .before .before .before .before .before .before .before .before .seat-of-only in
     let child = c .before .before .before .before .before .before .before .before .write-operand3 in
     let closer = c .before .before .before .put-closer2 in
-    one-writes (start .pre .1) (λ e. test .left (count .ensures ∙ e)) (λ e. leaf .left (count .ensures ∙ e)) (op .ensures) (place .result) (place .ensures) (token .last .1 .0) (token .last .1 .1 .0) (token .ensures) (child .result .now) (child .last .1 .1 .0) (child .last .1 .1 .1 .0) (child .ensures) (closer .last .1 .0) (closer .last .1 .1 .0) (closer .ensures)
+    one-writes (start .pre .1) (λ e. test .left (count .ensures ∙ e)) (λ e. leaf .left (count .ensures ∙ e)) (op .ensures) (seat .result) (seat .ensures) (token .last .1 .0) (token .last .1 .1 .0) (token .ensures) (child .result .now) (child .last .1 .1 .0) (child .last .1 .1 .1 .0) (child .ensures) (closer .last .1 .0) (closer .last .1 .1 .0) (closer .ensures)
 
 write-operand-shared-slice-read-operator : (t : ℕ) → write-operand-lts.Need-shared-slice-read-operator (operand-calls t) (write-operand-at t) write-operand.Post
-write-operand-shared-slice-read-operator t c = omega (arith, operand-long (c .before .before .before .args .place) (c .before .before .before .pre .1))
+write-operand-shared-slice-read-operator t c = omega (arith, operand-long (c .before .before .before .args .seat) (c .before .before .before .pre .1))
 
 write-operand-operator-requires : (t : ℕ) → write-operand-lts.Need-operator-requires (operand-calls t) (write-operand-at t) write-operand.Post
 write-operand-operator-requires t c κs = search needs
 
 write-operand-shared-slice-read-low : (t : ℕ) → write-operand-lts.Need-shared-slice-read-low (operand-calls t) (write-operand-at t) write-operand.Post
-write-operand-shared-slice-read-low t c = omega (arith, operand-long (c .before .before .before .before .before .args .place) (c .before .before .before .before .before .pre .1))
+write-operand-shared-slice-read-low t c = omega (arith, operand-long (c .before .before .before .before .before .args .seat) (c .before .before .before .before .before .pre .1))
 
 write-operand-low-requires : (t : ℕ) → write-operand-lts.Need-low-requires (operand-calls t) (write-operand-at t) write-operand.Post
 write-operand-low-requires t c κs = search needs
@@ -331,8 +332,8 @@ write-operand-write-node-requires t c κs =
     let count = c .before .before .before .before .low in
     let pair = c .before .before .before .is-paired in
     let test = c .before .before .if1 in
-    let less : 2 * length (start .args .words .now) < t = omega (arith, start .pre .0) in
-    (less, alone-room (start .args .place) (start .pre .1) (rw (op .ensures, count .ensures) at (sym (pair .ensures) ∙ not-true _ (test .taken))))
+    let less : 2 * nodesLeft (start .args .words .now) < t = omega (arith, start .pre .0) in
+    (less, alone-room (start .args .seat) (start .pre .1) (rw (op .ensures, count .ensures) at (sym (pair .ensures) ∙ not-true _ (test .taken))))
 
 write-operand-same-length : (t : ℕ) → write-operand-lts.Need-same-length (operand-calls t) (write-operand-at t) write-operand.Post
 write-operand-same-length t c = c .before .before .write-node .kept .1 .0
@@ -345,7 +346,7 @@ write-operand-returns t c =
     let pair = c .before .before .before .before .before .before .is-paired in
     let test = c .before .before .before .before .before .if1 in
     let node = c .before .before .write-node in
-    alone-writes (start .args .place) (start .pre .1) (rw (op .ensures, count .ensures) at (sym (pair .ensures) ∙ not-true _ (test .taken))) (node .result .now) (node .last .1 .0) (node .last .1 .1 .0) (node .ensures)
+    alone-writes (start .args .seat) (start .pre .1) (rw (op .ensures, count .ensures) at (sym (pair .ensures) ∙ not-true _ (test .taken))) (node .result .now) (node .last .1 .0) (node .last .1 .1 .0) (node .ensures)
 
 write-operand-put-bracket-requires : (t : ℕ) → write-operand-lts.Need-put-bracket-requires (operand-calls t) (write-operand-at t) write-operand.Post
 write-operand-put-bracket-requires t c κs =
@@ -354,7 +355,7 @@ write-operand-put-bracket-requires t c κs =
     let count = c .before .before .before .before .low in
     let pair = c .before .before .before .is-paired in
     let test = c .before .before .if1 in
-    (omega (arith, operand-long (start .args .place) (start .pre .1)), open-room (start .args .place) (start .pre .1) (rw (op .ensures, count .ensures) at (sym (pair .ensures) ∙ not-false _ (test .left))))
+    (omega (arith, operand-long (start .args .seat) (start .pre .1)), open-room (start .args .seat) (start .pre .1) (rw (op .ensures, count .ensures) at (sym (pair .ensures) ∙ not-false _ (test .left))))
 
 write-operand-write-node-requires-2 : (t : ℕ) → write-operand-lts.Need-write-node-requires-2 (operand-calls t) (write-operand-at t) write-operand.Post
 write-operand-write-node-requires-2 t c κs =
@@ -364,8 +365,8 @@ write-operand-write-node-requires-2 t c κs =
     let pair = c .before .before .before .before .before .before .before .before .is-paired in
     let test = c .before .before .before .before .before .before .before .if1 in
     let opener = c .before .before .before .before .put-bracket in
-    let less : 2 * length (start .args .words .now) < t = omega (arith, start .pre .0) in
-    (less, inner-room (start .args .place) (start .pre .1) (rw (op .ensures, count .ensures) at (sym (pair .ensures) ∙ not-false _ (test .left))) (opener .last .1 .1 .0) (opener .last .1 .1 .1 .0) (opener .ensures))
+    let less : 2 * nodesLeft (start .args .words .now) < t = omega (arith, start .pre .0) in
+    (less, inner-room (start .args .seat) (start .pre .1) (rw (op .ensures, count .ensures) at (sym (pair .ensures) ∙ not-false _ (test .left))) (opener .last .1 .1 .0) (opener .last .1 .1 .1 .0) (opener .ensures))
 
 write-operand-put-bracket-requires-2 : (t : ℕ) → write-operand-lts.Need-put-bracket-requires-2 (operand-calls t) (write-operand-at t) write-operand.Post
 write-operand-put-bracket-requires-2 t c κs =
@@ -376,7 +377,7 @@ write-operand-put-bracket-requires-2 t c κs =
     let test = c .before .before .before .before .before .before .before .before .before .before .before .before .if1 in
     let opener = c .before .before .before .before .before .before .before .before .before .put-bracket in
     let node = c .before .before .before .before .write-node2 in
-    (omega (arith, operand-long (start .args .place) (start .pre .1)), close-room (start .args .place) (start .pre .1) (rw (op .ensures, count .ensures) at (sym (pair .ensures) ∙ not-false _ (test .left))) (opener .last .1 .1 .0) (opener .last .1 .1 .1 .0) (opener .ensures) (node .result .now) (node .last .1 .0) (node .last .1 .1 .0) (node .ensures))
+    (omega (arith, operand-long (start .args .seat) (start .pre .1)), close-room (start .args .seat) (start .pre .1) (rw (op .ensures, count .ensures) at (sym (pair .ensures) ∙ not-false _ (test .left))) (opener .last .1 .1 .0) (opener .last .1 .1 .1 .0) (opener .ensures) (node .result .now) (node .last .1 .0) (node .last .1 .1 .0) (node .ensures))
 
 write-operand-same-length-2 : (t : ℕ) → write-operand-lts.Need-same-length-2 (operand-calls t) (write-operand-at t) write-operand.Post
 write-operand-same-length-2 t c =
@@ -388,7 +389,7 @@ write-operand-same-length-2 t c =
     let opener = c .before .before .before .before .before .before .before .before .before .before .before .before .put-bracket in
     let node = c .before .before .before .before .before .before .before .write-node2 in
     let closer = c .before .before .put-bracket2 in
-    pair-length (start .args .place) (start .pre .1) (rw (op .ensures, count .ensures) at (sym (pair .ensures) ∙ not-false _ (test .left))) (opener .last .1 .1 .0) (opener .last .1 .1 .1 .0) (opener .ensures) (node .result .now) (node .last .1 .0) (node .last .1 .1 .0) (node .ensures) (closer .last .1 .1 .0) (closer .last .1 .1 .1 .0) (closer .ensures)
+    pair-length (start .args .seat) (start .pre .1) (rw (op .ensures, count .ensures) at (sym (pair .ensures) ∙ not-false _ (test .left))) (opener .last .1 .1 .0) (opener .last .1 .1 .1 .0) (opener .ensures) (node .result .now) (node .last .1 .0) (node .last .1 .1 .0) (node .ensures) (closer .last .1 .1 .0) (closer .last .1 .1 .1 .0) (closer .ensures)
 
 write-operand-returns-2 : (t : ℕ) → write-operand-lts.Need-returns-2 (operand-calls t) (write-operand-at t) write-operand.Post
 write-operand-returns-2 t c =
@@ -400,10 +401,10 @@ write-operand-returns-2 t c =
     let opener = c .before .before .before .before .before .before .before .before .before .before .before .before .put-bracket in
     let node = c .before .before .before .before .before .before .before .write-node2 in
     let closer = c .before .before .put-bracket2 in
-    pair-writes (start .args .place) (start .pre .1) (rw (op .ensures, count .ensures) at (sym (pair .ensures) ∙ not-false _ (test .left))) (opener .last .1 .1 .0) (opener .last .1 .1 .1 .0) (opener .ensures) (node .result .now) (node .last .1 .0) (node .last .1 .1 .0) (node .ensures) (closer .last .1 .1 .0) (closer .last .1 .1 .1 .0) (closer .ensures)
+    pair-writes (start .args .seat) (start .pre .1) (rw (op .ensures, count .ensures) at (sym (pair .ensures) ∙ not-false _ (test .left))) (opener .last .1 .1 .0) (opener .last .1 .1 .1 .0) (opener .ensures) (node .result .now) (node .last .1 .0) (node .last .1 .1 .0) (node .ensures) (closer .last .1 .1 .0) (closer .last .1 .1 .1 .0) (closer .ensures)
 
 pub +write-node+write-operand-spec : {M : Type 1} → statement M
 +write-node+write-operand-spec =
     close μ-write-node μ-write-operand
-    (λ t. write-node-lts.spec (node-calls t) (write-node-at t) write-node.Post (write-node-shared-slice-read-operator t) (write-node-operator-requires t) (write-node-shared-slice-read-low t) (write-node-low-requires t) (write-node-sub-write-operand t) (write-node-part-write-operand-start t) (write-node-part-write-operand-end t) (write-node-place-of-left-requires t) (write-node-write-operand-requires t) (write-node-put-token-requires t) (write-node-add-next t) (write-node-mul-write-operand t) (write-node-sub-write-operand-2 t) (write-node-part-write-operand-start-2 t) (write-node-part-write-operand-end-2 t) (write-node-place-of-right-requires t) (write-node-write-operand-requires-2 t) (write-node-add-result t) (write-node-slice-aggregate-result t) (write-node-same-length t) (write-node-returns t) (write-node-put-token-requires-2 t) (write-node-put-closer-requires t) (write-node-slice-aggregate-result-2 t) (write-node-same-length-2 t) (write-node-returns-2 t) (write-node-sub-write-operand-3 t) (write-node-part-write-operand-start-3 t) (write-node-part-write-operand-end-3 t) (write-node-place-of-only-requires t) (write-node-write-operand-requires-3 t) (write-node-put-closer-requires-2 t) (write-node-add-result-2 t) (write-node-slice-aggregate-result-3 t) (write-node-same-length-3 t) (write-node-returns-3 t))
+    (λ t. write-node-lts.spec (node-calls t) (write-node-at t) write-node.Post (write-node-shared-slice-read-operator t) (write-node-operator-requires t) (write-node-shared-slice-read-low t) (write-node-low-requires t) (write-node-sub-write-operand t) (write-node-part-write-operand-start t) (write-node-part-write-operand-end t) (write-node-seat-of-left-requires t) (write-node-write-operand-requires t) (write-node-put-token-requires t) (write-node-add-next t) (write-node-mul-write-operand t) (write-node-sub-write-operand-2 t) (write-node-part-write-operand-start-2 t) (write-node-part-write-operand-end-2 t) (write-node-seat-of-right-requires t) (write-node-write-operand-requires-2 t) (write-node-add-result t) (write-node-slice-aggregate-result t) (write-node-same-length t) (write-node-returns t) (write-node-put-token-requires-2 t) (write-node-put-closer-requires t) (write-node-slice-aggregate-result-2 t) (write-node-same-length-2 t) (write-node-returns-2 t) (write-node-sub-write-operand-3 t) (write-node-part-write-operand-start-3 t) (write-node-part-write-operand-end-3 t) (write-node-seat-of-only-requires t) (write-node-write-operand-requires-3 t) (write-node-put-closer-requires-2 t) (write-node-add-result-2 t) (write-node-slice-aggregate-result-3 t) (write-node-same-length-3 t) (write-node-returns-3 t))
     (λ t. write-operand-lts.spec (operand-calls t) (write-operand-at t) write-operand.Post (write-operand-shared-slice-read-operator t) (write-operand-operator-requires t) (write-operand-shared-slice-read-low t) (write-operand-low-requires t) (write-operand-is-paired-requires t) (write-operand-write-node-requires t) (write-operand-same-length t) (write-operand-returns t) (write-operand-put-bracket-requires t) (write-operand-write-node-requires-2 t) (write-operand-put-bracket-requires-2 t) (write-operand-same-length-2 t) (write-operand-returns-2 t))

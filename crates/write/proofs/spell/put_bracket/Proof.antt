@@ -4,20 +4,11 @@ use borrow.Author.Needs.{needs}
 use Rattle.write.proofs.spell.put_bracket.Statement.{statement}
 use Rattle.write.proofs.spell.put_bracket.Tie as tie
 
-operator-word-requires : tie.Need-operator-word-requires
-operator-word-requires c κs = search needs
+at-requires : tie.Need-at-requires
+at-requires c κs = search needs
 
-shared-slice-read-put : tie.Need-shared-slice-read-put
-shared-slice-read-put c = search needs
-
-shared-slice-read-put-2 : tie.Need-shared-slice-read-put-2
-shared-slice-read-put-2 c = search needs
-
-no-upper-requires : tie.Need-no-upper-requires
-no-upper-requires c κs = search needs
-
-no-lower-requires : tie.Need-no-lower-requires
-no-lower-requires c κs = search needs
+bare-requires : tie.Need-bare-requires
+bare-requires c κs = search needs
 
 put-requires : tie.Need-put-requires
 put-requires c κs = search needs
@@ -28,24 +19,8 @@ same-length c = search needs
 returns : tie.Need-returns
 unfolding bracketWords
 returns c =
-    let put = c .before .before .put .ensures in (
-      rw (
-        ← c .before .before .before .before .before .before .before .operator-word .ensures,
-        ← c .before .before .before .before .no-upper .ensures,
-        ← c .before .before .before .no-lower .ensures,
-      ) (put .0),
-      put .1,
-    )
+    let put = c .before .before in
+    (rw (put .before .bare .ensures, put .before .before .at .ensures) at (put .put .ensures .0), put .put .ensures .1)
 
 pub put-bracket-spec : {M : Type 1} → statement M
-put-bracket-spec =
-    tie.close
-    (tie.spec
-    operator-word-requires
-    shared-slice-read-put
-    shared-slice-read-put-2
-    no-upper-requires
-    no-lower-requires
-    put-requires
-    same-length
-    returns)
+put-bracket-spec = tie.close (tie.spec at-requires bare-requires put-requires same-length returns)

@@ -4,7 +4,8 @@ use native.Mathlib.Nat.{add-zero}
 use native.Mathlib.Omega.{arith}
 use lib.ListN.{length}
 use Rattle.write.specs.Spelling.{bracketWords}
-use Rattle.write.proofs.SpellLaws.{none-laid, bracket-closer, no-closer}
+use Rattle.words.proofs.RecordLaws.{none-laid}
+use Rattle.write.proofs.SpellLaws.{bracket-closer, no-closer}
 use borrow.Author.Needs.{needs}
 use Rattle.write.proofs.spell.put_closer.Statement.{statement}
 use Rattle.write.proofs.spell.put_closer.Tie as tie

@@ -4,20 +4,8 @@ use borrow.Author.Needs.{needs}
 use Rattle.write.proofs.spell.put_token.Statement.{statement}
 use Rattle.write.proofs.spell.put_token.Tie as tie
 
-shared-slice-read-put : tie.Need-shared-slice-read-put
-shared-slice-read-put c = search needs
-
-shared-slice-read-put-2 : tie.Need-shared-slice-read-put-2
-shared-slice-read-put-2 c = search needs
-
-shared-slice-read-put-3 : tie.Need-shared-slice-read-put-3
-shared-slice-read-put-3 c = search needs
-
-shared-slice-read-put-4 : tie.Need-shared-slice-read-put-4
-shared-slice-read-put-4 c = search needs
-
-shared-slice-read-put-5 : tie.Need-shared-slice-read-put-5
-shared-slice-read-put-5 c = search needs
+at-requires : tie.Need-at-requires
+at-requires c κs = search needs
 
 put-requires : tie.Need-put-requires
 put-requires c κs = search needs
@@ -27,17 +15,9 @@ same-length c = search needs
 
 returns : tie.Need-returns
 unfolding firstFive
-returns c = c .before .before .put .ensures
+returns c =
+    let put = c .before .before in
+    (rw (put .before .at .ensures) at (put .put .ensures .0), put .put .ensures .1)
 
 pub put-token-spec : {M : Type 1} → statement M
-put-token-spec =
-    tie.close
-    (tie.spec
-    shared-slice-read-put
-    shared-slice-read-put-2
-    shared-slice-read-put-3
-    shared-slice-read-put-4
-    shared-slice-read-put-5
-    put-requires
-    same-length
-    returns)
+put-token-spec = tie.close (tie.spec at-requires put-requires same-length returns)

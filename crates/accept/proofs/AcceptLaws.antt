@@ -1,0 +1,225 @@
+-- The table of refusals, row by row: its rows before the words in two parts, the words token by token, what decides it of a call, and what
+-- is known of a call that no row turns back. Assumes nothing.
+use mathlib.Core.Path.{_≡_, refl, sym, ap, _∙_}
+use mathlib.Core.List.{List, [], _∷_, _++_}
+use mathlib.Core.Option.{Option, none, some}
+use Prim.Native.Nat.{ℕ, _+_, _*_, _/_, _%_, _^_, _≤_, _<_}
+use native.Mathlib.Numerals.{add-one}
+use native.Mathlib.Omega.{arith}
+use lib.Dec.{eqb, leb, ltb}
+use lib.ListN.{length, drop, getD, length-replicate}
+use lib.Seq.{drop-cons, drop-length}
+use borrow.Author.Tests.{eqb-true, leb-true}
+use types.Run.{OneOf}
+use denote.Enum.Declared.{tagOf}
+use Rattle.molang.specs.FirstFailure.{must, firstOf}
+use Rattle.molang.specs.Words.{Refusal, row, operatorField, wordFault, lowFault, variantAfter, wordsRefusal}
+use Rattle.molang.specs.Parse.{Call, mostTokens, refusal}
+use Rattle.molang.proofs.FirstFailure.{passed, last-one, in-parts, behind}
+use Rattle.molang.proofs.Accepted.{call-accepted}
+use Rattle.ops.specs.declared.sets.OpSet.{OpSet}
+use Rattle.words.specs.Fields.{variantOf}
+use Rattle.words.proofs.CheckLaws.{good-token, token-refused, token-passed}
+use Rattle.accept.specs.declared.Sizes.{Sizes}
+use Rattle.accept.specs.declared.Accepted.{Accepted}
+use Rattle.accept.specs.declared.Accepted.the-variants.{Tokens, Refused}
+use Rattle.accept.specs.Accepting.{Verdict, isRead, isRefused, verdictOf, verdict, callOf, lengthRefusal, lentRefusal}
+use Rattle.accept.proofs.Accepted.{the-type}
+
+-- ---- The rows
+
+-- The table in three parts: by the list's length, by what is lent, by the words.
+pub table : (list : List ℕ) (sizes : Sizes) (used : OpSet)
+    → refusal (callOf list sizes used)
+    ≡ firstOf (lengthRefusal (length list) ∷ lentRefusal (length list / 5) sizes used ∷ wordsRefusal 0 operatorField 0 list ∷ [])
+unfolding refusal lengthRefusal lentRefusal
+table list sizes used =
+    let n = length list / 5 in
+    let words = wordsRefusal 0 operatorField 0 list in
+    let lent =
+    must (leb (18 * n) (sizes .tree)) (row 3 0)
+    ∷ must (leb 16 (sizes .messages)) (row 4 0)
+    ∷ must (leb (64 * n + 64) (sizes .work)) (row 5 0)
+    ∷ must (ltb (used .high * 2 ^ 64 + used .low) (2 ^ 111)) (row 6 0)
+    ∷ must (leb (sizes .source) 536870911) (row 7 0)
+    ∷ []
+    in
+    rw (length-replicate {A = ℕ} (sizes .tree) 0, length-replicate {A = ℕ} (sizes .messages) 0, length-replicate {A = ℕ} (sizes .work) 0)
+    (in-parts (must (eqb (length list % 5) 0) (row 1 0) ∷ must (leb n mostTokens) (row 2 0) ∷ []) (lent ++ (words ∷ []))
+    ∙ behind (lengthRefusal (length list)) (lent ++ (words ∷ [])) (firstOf lent ∷ words ∷ []) (in-parts lent (words ∷ [])))
+
+-- A refusal depends on the lengths of the buffers, and not on the version.
+pub same-refusal : (c : Call)
+    → refusal
+    (callOf (c .list)
+    (record { tree = length (c .tree); messages = length (c .messages); work = length (c .work); source = c .sourceLength })
+    (record { low = c .usedLow; high = c .usedHigh }))
+    ≡ refusal c
+unfolding refusal
+same-refusal c =
+    rw (
+      length-replicate {A = ℕ} (length (c .tree)) 0,
+      length-replicate {A = ℕ} (length (c .messages)) 0,
+      length-replicate {A = ℕ} (length (c .work)) 0,
+    )
+
+-- ---- Answers
+
+-- Only the answer without a refusal has a number of tokens.
+pub accepted : (n m : ℕ) (o : Option Refusal) → isRead n ≡ verdict m o → (n ≡ m) × (o ≡ none)
+accepted n m none e = (cc, refl)
+accepted n m (some r) e = absurd (let z : _≡_ {A = ℕ} 0 1 = cc in omega arith)
+
+-- A refusal by the first row is the whole table's.
+pub refused-first : (x : Accepted) (n : ℕ) (o : Option Refusal) (later : List (Option Refusal)) → OneOf (1 ∷ []) (tagOf the-type x)
+    → verdictOf x ≡ verdict n o → verdictOf x ≡ verdict n (firstOf (o ∷ later))
+unfolding firstOf
+refused-first (Tokens m) n o later h e = absurd (omega arith)
+refused-first (Refused number place) n none later h e = absurd (let z : _≡_ {A = ℕ} 0 1 = cc in omega arith)
+refused-first (Refused number place) n (some r) later h e = e
+
+-- The call that the checks of a list, its sizes and its used set answer.
+module _ (list : List ℕ) (sizes : Sizes) (used : OpSet) where
+  abbrev pub Answers : Accepted → Type 0
+  Answers x = verdictOf x ≡ verdict (length list / 5) (refusal (callOf list sizes used))
+
+  pub by-length : (x : Accepted) → OneOf (1 ∷ []) (tagOf the-type x)
+      → verdictOf x ≡ verdict (length list / 5) (lengthRefusal (length list)) → Answers x
+  by-length x h e =
+      refused-first x (length list / 5) (lengthRefusal (length list)) _ h e ∙ ap (verdict (length list / 5)) (sym (table list sizes used))
+
+  -- A list whose length refuses nothing.
+  module _ (n : ℕ) (whole : isRead n ≡ verdict (length list / 5) (lengthRefusal (length list))) where
+    pub whole-tokens : (length list ≡ 5 * n) × (n ≤ 4096)
+    unfolding lengthRefusal
+    whole-tokens =
+        let told = accepted n (length list / 5) (lengthRefusal (length list)) whole in
+        let one = passed (eqb (length list % 5) 0) (row 1 0) _ (told .1) in
+        let two = passed (leb (length list / 5) mostTokens) (row 2 0) _ (one .1) in
+        let count = told .0 in
+        (omega (arith, eqb-true (length list % 5) 0 (one .0)), omega (arith, leb-true (length list / 5) mostTokens (two .0)))
+
+    left : verdict n (firstOf (lentRefusal n sizes used ∷ wordsRefusal 0 operatorField 0 list ∷ []))
+        ≡ verdict (length list / 5) (refusal (callOf list sizes used))
+    unfolding firstOf
+    left =
+        let told = accepted n (length list / 5) (lengthRefusal (length list)) whole in
+        rw (told .0, table list sizes used, told .1)
+
+    pub by-lent : (x : Accepted) → OneOf (1 ∷ []) (tagOf the-type x) → verdictOf x ≡ verdict n (lentRefusal n sizes used) → Answers x
+    by-lent x h e = refused-first x n (lentRefusal n sizes used) _ h e ∙ left
+
+    pub by-words : (m : ℕ) → isRead m ≡ verdict n (lentRefusal n sizes used)
+        → (x : Accepted) → verdictOf x ≡ verdict n (wordsRefusal 0 operatorField 0 list) → Answers x
+    unfolding firstOf
+    by-words m lent x e =
+        e ∙ (ap (verdict n) (sym (last-one (wordsRefusal 0 operatorField 0 list))) ∙
+        (rw (accepted m n (lentRefusal n sizes used) lent .1) at left))
+
+-- ---- The words, token by token
+
+-- The payload variant before a token's first word does not matter.
+any-variant : (i v : ℕ) (ws : List ℕ) → wordsRefusal i operatorField v ws ≡ wordsRefusal i operatorField 0 ws
+unfolding wordsRefusal wordFault lowFault variantAfter
+any-variant i v [] = refl
+any-variant i v (w ∷ ws) = refl
+
+-- The check of the words from `at` on, where a token starts.
+abbrev pub checkFrom : List ℕ → ℕ → Option Refusal
+checkFrom list at = wordsRefusal at operatorField 0 (drop at list)
+
+-- The first i of n tokens are without fault.
+pub record PassedTo (list : List ℕ) (n i : ℕ) : Type 0 where
+  pub within : i ≤ n
+  pub rest : checkFrom list 0 ≡ checkFrom list (5 * i)
+
+abbrev pub tokenAt : List ℕ → ℕ → List ℕ
+tokenAt list at = getD list at 0 ∷ getD list (at + 1) 0 ∷ getD list (at + 2) 0 ∷ getD list (at + 3) 0 ∷ getD list (at + 4) 0 ∷ []
+
+module _ (list : List ℕ) where
+  next : (j k : ℕ) → k ≡ j + 1 → j < length list → drop j list ≡ getD list j 0 ∷ drop k list
+  next j k e h = drop-cons list j 0 h ∙ ap (λ (m : ℕ). getD list j 0 ∷ drop m list) (sym (e ∙ add-one j))
+
+  module _ (at : ℕ) (fits : at + 4 < length list) where
+    opens : drop at list ≡ tokenAt list at ++ drop (at + 5) list
+    opens =
+        next at (at + 1) refl (omega arith)
+        ∙ ap (λ (l : List ℕ). getD list at 0 ∷ l)
+        (next (at + 1) (at + 2) (omega arith) (omega arith)
+        ∙ ap (λ (l : List ℕ). getD list (at + 1) 0 ∷ l)
+        (next (at + 2) (at + 3) (omega arith) (omega arith)
+        ∙ ap (λ (l : List ℕ). getD list (at + 2) 0 ∷ l)
+        (next (at + 3) (at + 4) (omega arith) (omega arith)
+        ∙ ap (λ (l : List ℕ). getD list (at + 3) 0 ∷ l) (next (at + 4) (at + 5) (omega arith) (omega arith)))))
+
+    -- A token without fault hands the check on, and any other ends it.
+    pub token-good : none ≡ wordsRefusal at operatorField 0 (tokenAt list at) → checkFrom list at ≡ checkFrom list (at + 5)
+    token-good good =
+        ap (wordsRefusal at operatorField 0) opens
+        ∙ (token-passed at 0 (getD list at 0) (getD list (at + 1) 0) (getD list (at + 2) 0) (getD list (at + 3) 0) (getD list (at + 4) 0)
+        (drop (at + 5) list)
+        (good-token at (getD list at 0) (getD list (at + 1) 0) (getD list (at + 2) 0) (getD list (at + 3) 0) (getD list (at + 4) 0)
+        (sym good))
+        ∙ any-variant (at + 5) (variantOf (getD list at 0)) (drop (at + 5) list))
+
+    pub token-bad : (r : Refusal) → some r ≡ wordsRefusal at operatorField 0 (tokenAt list at) → checkFrom list at ≡ some r
+    token-bad r bad =
+        ap (wordsRefusal at operatorField 0) opens
+        ∙ token-refused at 0 (getD list at 0) (getD list (at + 1) 0) (getD list (at + 2) 0) (getD list (at + 3) 0) (getD list (at + 4) 0)
+        (drop (at + 5) list) r (sym bad)
+
+  pub all-good : (at : ℕ) → length list ≡ at → checkFrom list at ≡ none
+  unfolding wordsRefusal
+  all-good at e = rw (← e, drop-length list)
+
+-- ---- What acceptance gives
+
+-- A call that is read, of n tokens.
+pub record Readable (c : Call) (n : ℕ) : Type 0 where
+  pub words : length (c .list) ≡ 5 * n
+  pub tokens : n ≤ 4096
+  pub tree : 18 * n ≤ length (c .tree)
+  pub messages : 16 ≤ length (c .messages)
+  pub work : 64 * n + 64 ≤ length (c .work)
+  pub used : c .usedHigh * 2 ^ 64 + c .usedLow < 2 ^ 111
+  pub source : c .sourceLength ≤ 536870911
+  pub good : wordsRefusal 0 operatorField 0 (c .list) ≡ none
+
+pub readable : (c : Call) → refusal c ≡ none → Readable c (length (c .list) / 5)
+readable c e =
+    let a = call-accepted c e in
+    record {
+      words = omega (arith, a .whole);
+      tokens = a .tokens;
+      tree = a .tree;
+      messages = a .messages;
+      work = a .work;
+      used = a .used;
+      source = a .sourceLength;
+      good = a .words;
+    }
+
+-- What the answer of the checks says of the call: it is read, or this is its refusal.
+abbrev pub checked : Call → Verdict
+checked c =
+    verdict (length (c .list) / 5)
+    (refusal
+    (callOf (c .list)
+    (record { tree = length (c .tree); messages = length (c .messages); work = length (c .work); source = c .sourceLength })
+    (record { low = c .usedLow; high = c .usedHigh })))
+
+pub reads-call : (c : Call) (n : ℕ) → isRead n ≡ checked c → (refusal c ≡ none) × Readable c n
+reads-call c n e =
+    let told = accepted n _ _ e in
+    let none-refused = sym (same-refusal c) ∙ told .1 in
+    (none-refused, rw (told .0) (readable c none-refused))
+
+pub refuses-call : (c : Call) (number place : ℕ) → isRefused number place ≡ checked c → refusal c ≡ some (row number place)
+refuses-call c number place e = sym (same-refusal c) ∙ refused-as _ _ e
+  where
+    refused-as : (n : ℕ) (o : Option Refusal) → isRefused number place ≡ verdict n o → o ≡ some (row number place)
+    refused-as n none d = absurd (let z : _≡_ {A = ℕ} 0 1 = cc in omega arith)
+    refused-as n (some r) d =
+        let same-number : r .number ≡ number = cc in
+        let same-place : r .place ≡ place = cc in
+        λ i. some (row (same-number i) (same-place i))

@@ -1,0 +1,59 @@
+-- What each answer of the checks says, the call that a list and the sizes beside it stand for, and the parts of the table that come before
+-- the words.
+use Prim.Native.Nat.{ℕ, _+_, _*_, _/_, _%_, _^_}
+use mathlib.Core.List.{List, [], _∷_}
+use mathlib.Core.Option.{Option, none, some}
+use lib.Dec.{eqb, leb, ltb}
+use lib.IntN.{pos}
+use lib.ListN.{replicate}
+use Rattle.molang.specs.FirstFailure.{must, firstOf}
+use Rattle.molang.specs.Words.{Refusal, row}
+use Rattle.molang.specs.Parse.{Call, mostTokens}
+use Rattle.ops.specs.declared.sets.OpSet.{OpSet}
+use Rattle.accept.specs.declared.Sizes.{Sizes}
+use Rattle.accept.specs.declared.Accepted.{Accepted}
+use Rattle.accept.specs.declared.Accepted.the-variants.{Tokens, Refused}
+
+-- What the checks find of a call: it is read, with so many tokens, or it is turned back with document 01's number and place.
+pub data Verdict : Type 0 where
+  isRead : ℕ → Verdict
+  isRefused : ℕ → ℕ → Verdict
+
+-- What each case of `Accepted` says.
+abbrev pub verdictOf : Accepted → Verdict
+verdictOf (Tokens n) = isRead n
+verdictOf (Refused number place) = isRefused number place
+
+-- What is to be said of a list of n tokens, by its refusal.
+abbrev pub verdict : ℕ → Option Refusal → Verdict
+verdict n none = isRead n
+verdict n (some r) = isRefused (r .number) (r .place)
+
+-- A call with these lengths. What the lent buffers hold, and the version, decide no refusal (`same-refusal`).
+abbrev pub callOf : List ℕ → Sizes → OpSet → Call
+callOf list sizes used =
+    record {
+      list = list;
+      tree = replicate (sizes .tree) 0;
+      messages = replicate (sizes .messages) 0;
+      work = replicate (sizes .work) 0;
+      sourceLength = sizes .source;
+      version = pos 0;
+      usedLow = used .low;
+      usedHigh = used .high;
+    }
+
+-- Answers 1 and 2.
+unfoldable pub lengthRefusal : ℕ → Option Refusal
+lengthRefusal words = firstOf (must (eqb (words % 5) 0) (row 1 0) ∷ must (leb (words / 5) mostTokens) (row 2 0) ∷ [])
+
+-- Answers 3 to 7.
+unfoldable pub lentRefusal : ℕ → Sizes → OpSet → Option Refusal
+lentRefusal tokens sizes used =
+    firstOf
+    (must (leb (18 * tokens) (sizes .tree)) (row 3 0)
+    ∷ must (leb 16 (sizes .messages)) (row 4 0)
+    ∷ must (leb (64 * tokens + 64) (sizes .work)) (row 5 0)
+    ∷ must (ltb (used .high * 2 ^ 64 + used .low) (2 ^ 111)) (row 6 0)
+    ∷ must (leb (sizes .source) 536870911) (row 7 0)
+    ∷ [])

@@ -1,0 +1,89 @@
+-- Laws of 'first failure wins': when no check answers, and checks in parts.
+use mathlib.Core.Path.{_≡_, refl, sym, _∙_}
+use mathlib.Core.Bool.{Bool, true, false}
+use mathlib.Core.List.{List, [], _∷_, _++_}
+use mathlib.Core.Option.{Option, none, some}
+use Prim.Native.Nat.{ℕ}
+use Rattle.molang.specs.FirstFailure.{must, firstOf}
+use Rattle.molang.specs.Words.{withPlace, withNumber}
+use Rattle.molang.proofs.Trees.{some-none}
+
+module _ {A : Type 0} where
+  -- A test that answers nothing holds.
+  pub must-none : (b : Bool) (a : A) → must b a ≡ none → b ≡ true
+  unfolding must
+  must-none true a e = refl
+  must-none false a e = some-none e
+
+  pub must-true : (b : Bool) (a : A) → b ≡ true → must b a ≡ none
+  unfolding must
+  must-true b a e = rw e
+
+  pub must-false : (b : Bool) (a : A) → b ≡ false → must b a ≡ some a
+  unfolding must
+  must-false b a e = rw e
+
+  -- No check answers: not the first, and none after it.
+  pub first-none : (o : Option A) (later : List (Option A)) → firstOf (o ∷ later) ≡ none → (o ≡ none) × (firstOf later ≡ none)
+  unfolding firstOf
+  first-none none later e = (refl, e)
+  first-none (some a) later e = some-none e
+
+  pub then-none : (o : Option A) (later : List (Option A)) → o ≡ none → firstOf later ≡ none → firstOf (o ∷ later) ≡ none
+  unfolding firstOf
+  then-none o later e h = rw e h
+
+  -- The same where the first check is a test.
+  pub passed : (b : Bool) (a : A) (later : List (Option A)) → firstOf (must b a ∷ later) ≡ none → (b ≡ true) × (firstOf later ≡ none)
+  passed b a later e = let both = first-none (must b a) later e in (must-none b a (both .0), both .1)
+
+  pub passes : (b : Bool) (a : A) (later : List (Option A)) → b ≡ true → firstOf later ≡ none → firstOf (must b a ∷ later) ≡ none
+  passes b a later e = then-none (must b a) later (must-true b a e)
+
+  pub all-passed : firstOf {A = A} [] ≡ none
+  unfolding firstOf
+  all-passed = refl
+
+  -- The first check answers.
+  pub found : (o : Option A) (a : A) (later : List (Option A)) → o ≡ some a → firstOf (o ∷ later) ≡ some a
+  unfolding firstOf
+  found o a later e = rw e
+
+  -- One check alone, after one that does not answer.
+  pub last-one : (o : Option A) → firstOf (o ∷ []) ≡ o
+  unfolding firstOf
+  last-one none = refl
+  last-one (some a) = refl
+
+  pub after-none : (o last : Option A) → o ≡ none → firstOf (o ∷ last ∷ []) ≡ last
+  unfolding firstOf
+  after-none o last e = rw e (last-one last)
+
+  -- An answer stays where it stays of the last check.
+  pub later-found : (o x y : Option A) (a : A) → (x ≡ some a → y ≡ some a) → firstOf (o ∷ x ∷ []) ≡ some a → firstOf (o ∷ y ∷ []) ≡ some a
+  unfolding firstOf
+  later-found none x y a h e = last-one y ∙ h (sym (last-one x) ∙ e)
+  later-found (some b) x y a h e = e
+
+  -- Checks that are made first, as one of them all.
+  pub in-parts : (checks later : List (Option A)) → firstOf (checks ++ later) ≡ firstOf (firstOf checks ∷ later)
+  unfolding firstOf
+  in-parts [] later = refl
+  in-parts (none ∷ checks) later = in-parts checks later
+  in-parts (some a ∷ checks) later = refl
+
+  -- Checks behind the same first one.
+  pub behind : (o : Option A) (checks others : List (Option A)) → firstOf checks ≡ firstOf others
+      → firstOf (o ∷ checks) ≡ firstOf (o ∷ others)
+  unfolding firstOf
+  behind none checks others e = e
+  behind (some a) checks others e = refl
+
+-- Nothing was found.
+pub withPlace-none : (place : ℕ) (o : Option ℕ) → withPlace place o ≡ none → o ≡ none
+withPlace-none place none e = refl
+withPlace-none place (some n) e = some-none e
+
+pub withNumber-none : (number : ℕ) (o : Option ℕ) → withNumber number o ≡ none → o ≡ none
+withNumber-none number none e = refl
+withNumber-none number (some n) e = some-none e

@@ -1,0 +1,14 @@
+-- A token that words can hold. The definitions of reading and writing do not use this: the laws of the word formats and the contracts of
+-- the node store speak of it.
+use Prim.Native.Nat.{ℕ, _^_, _≤_, _<_}
+use mathlib.Core.Path.{_≡_}
+use Rattle.molang.specs.Forest.{Token}
+
+-- Its operator, its payload variant, its value and both ends of its span fit their words; under variant 0 the value is 0.
+pub record Legal (k : Token) : Type 0 where
+  pub op : k .op ≤ 110
+  pub variant : k .variant ≤ 12
+  pub value : k .value < 2 ^ 32
+  pub no-payload : k .variant ≡ 0 → k .value ≡ 0
+  pub start : k .start < 2 ^ 29
+  pub end : k .end < 2 ^ 29

@@ -1,0 +1,33 @@
+-- `ops::sets::OpSet::has_either` meets its contract. Assumes nothing.
+use mathlib.Core.Path.{_∙_}
+use mathlib.Core.List.{[], _∷_}
+use Rattle.molang.specs.Operator.{any}
+use Rattle.molang.specs.Parse.{inHalves}
+use Rattle.ops.proofs.SetLaws.{or-first, or-second, one-used}
+use borrow.Author.Needs.{needs}
+use Rattle.ops.proofs.sets.OpSet.has_either.Statement.{statement}
+use Rattle.ops.proofs.sets.OpSet.has_either.Tie as tie
+
+contains-requires : tie.Need-contains-requires
+contains-requires c κs = search needs
+
+contains-requires-2 : tie.Need-contains-requires-2
+contains-requires-2 c κs = search needs
+
+returns : tie.Need-returns
+unfolding any
+returns c =
+    let a = c .before .before .args in
+    let u = inHalves (a .self .low) (a .self .high) in
+    or-first (c .before .contains .result) (u (a .a)) (any u (a .b ∷ [])) (c .if1 .taken) (c .before .contains .ensures)
+
+returns-2 : tie.Need-returns-2
+unfolding any
+returns-2 c =
+    let a = c .before .before .before .args in
+    let u = inHalves (a .self .low) (a .self .high) in
+    or-second (c .before .before .contains .result) (u (a .a)) (c .contains2 .result) (any u (a .b ∷ [])) (c .before .if1 .left)
+    (c .before .before .contains .ensures) (c .contains2 .ensures ∙ one-used u (a .b))
+
+pub has-either-spec : {M : Type 1} → statement M
+has-either-spec = tie.close (tie.spec contains-requires contains-requires-2 returns returns-2)

@@ -1,0 +1,53 @@
+-- `order::choose` meets its contract. Assumes nothing.
+use mathlib.Core.Path.{sym, _∙_}
+use borrow.Author.Tests.{not-true, not-false}
+use borrow.Author.Needs.{needs}
+use Rattle.order.proofs.Ranking.{chosen-run, chosen-unused, chosen-call, chosen-shut, gate-open, open-other}
+use Rattle.order.proofs.choose.Statement.{statement}
+use Rattle.order.proofs.choose.Tie as tie
+
+intersects-requires : tie.Need-intersects-requires
+intersects-requires c κs = search needs
+
+returns : tie.Need-returns
+returns c =
+    let s = c .before .before in
+    let told = c .before .intersects in
+    chosen-unused (s .args .used) (s .args .rank) (sym (told .ensures) ∙ not-true (told .result) (c .if1 .taken))
+
+enum-told : tie.Need-enum-told
+enum-told c = search needs
+
+intersects-requires-2 : tie.Need-intersects-requires-2
+intersects-requires-2 c κs = search needs
+
+returns-2 : tie.Need-returns-2
+returns-2 c =
+    let s = c .before .before .before .before .before .before in
+    let told = c .before .before .before .before .before .intersects in
+    chosen-call (s .args .used) (s .args .rank) (c .before .before .enum-told .given .1) (sym (told .ensures) ∙ not-false (told .result) (c .before .before .before .before .if1 .left))
+    (gate-open (s .args .used) ∙ (sym (c .before .intersects2 .ensures) ∙ c .if2 .taken))
+
+returns-3 : tie.Need-returns-3
+returns-3 c =
+    let s = c .before .before .before .before .before .before in
+    chosen-shut (s .args .used) (s .args .rank) (c .before .before .enum-told .given .1) (gate-open (s .args .used) ∙ (sym (c .before .intersects2 .ensures) ∙ c .if2 .left))
+
+returns-4 : tie.Need-returns-4
+returns-4 c =
+    let s = c .before .before .before in
+    let told = c .before .before .intersects in
+    chosen-run (s .args .used) (s .args .rank) (sym (told .ensures) ∙ not-false (told .result) (c .before .if1 .left))
+    (open-other (s .args .used) (s .args .rank .pass) (c .match .keys2))
+
+pub choose-spec : {M : Type 1} → statement M
+choose-spec =
+    tie.close
+    (tie.spec
+    intersects-requires
+    returns
+    enum-told
+    intersects-requires-2
+    returns-2
+    returns-3
+    returns-4)

@@ -1,0 +1,132 @@
+-- `sections::close_section` meets its contract.
+use Prim.Native.Nat.{ℕ, _+_, _-_, _≤_, _<_}
+use mathlib.Core.Path.{_≡_, refl, ap, _∙_}
+use mathlib.Core.Option.{Option·getD}
+use native.Mathlib.Omega.{arith}
+use borrow.Author.Needs.{needs}
+use lib.ListN.{length}
+use Rattle.molang.specs.Operator.{closingOf}
+use Rattle.nodes.specs.Store.{wd, slotEnd}
+use Rattle.nodes.specs.Slots.{opAt}
+use Rattle.nodes.specs.Children.{CanGive}
+use Rattle.nodes.proofs.Store.{tree-below}
+use Rattle.sections.proofs.SectionOpen.{standing-named}
+use Rattle.sections.proofs.SectionLooking.{close-in, close-differs, close-takes, look-in}
+use Rattle.sections.proofs.close_section.Statement.{statement}
+use Rattle.sections.proofs.close_section.Tie as tie
+
+-- the innermost opener is written, its slot is in the store, and what is written after it can be given to it
+body : (c : tie.After-opener-at) → let a = c .before .before .before .before .args in let p = c .opener-at .result in let W = a .work .now in
+    (p < a .at .write) × (slotEnd (wd W (a .base + p)) ≤ a .base) × CanGive W (wd W (a .base + p)) (a .base + (p + 1)) (a .at .write - (p + 1))
+body c =
+    let s = c .before .before .before .before in
+    let g = s .pre .0 in
+    close-in (g .standing) (s .pre .1) (c .opener-at .result) (c .opener-at .ensures) (omega (arith, g .below, g .tree .low, tree-below (g .tree))) (omega (arith, g .apart, g .room))
+
+within : (c : tie.After-opener-at) → let a = c .before .before .before .before .args in a .base + c .opener-at .result < length (a .work .now)
+within c = let g = c .before .before .before .before .pre .0 in omega (arith, body c .0, g .apart, g .room)
+
+-- the closer that is looked for
+looked-for : (c : tie.After-closer-of) → let o = c .before .before .before .before in let a = o .before .before .before .before .args in
+    c .closer-of .result ≡ Option·getD (closingOf (opAt (a .work .now) (wd (a .work .now) (a .base + o .opener-at .result)))) 0
+looked-for c = c .closer-of .ensures ∙ ap (λ (n : ℕ). Option·getD (closingOf n) 0) (c .before .operator-of .ensures)
+
+sub-inner : tie.Need-sub-inner
+sub-inner c = search needs
+
+opener-at-requires : tie.Need-opener-at-requires
+opener-at-requires c κs = search needs
+
+add-opener : tie.Need-add-opener
+add-opener c = omega (arith, within c)
+
+mul-opener : tie.Need-mul-opener
+mul-opener c = omega (arith, within c)
+
+slice-read-opener : tie.Need-slice-read-opener
+slice-read-opener c = within (c .before)
+
+operator-of-requires : tie.Need-operator-of-requires
+operator-of-requires c κs = let o = c .before .before in omega (arith, body o .1, within o)
+
+closer-of-requires : tie.Need-closer-of-requires
+closer-of-requires c κs = search needs
+
+operator-of-requires-2 : tie.Need-operator-of-requires-2
+operator-of-requires-2 c κs = let s = c .before .before .before .before .before .before .before .before .before in let g = s .pre .0 in omega (arith, look-in g, g .apart, g .room)
+
+still-open-requires : tie.Need-still-open-requires
+still-open-requires c κs = let s = c .before .before .before .before .before .before .before .before .before .before .before .before in let g = s .pre .0 in standing-named (g .standing) (s .pre .1) (omega (arith, g .apart, g .room)) (omega (arith, g .room))
+
+cast-t26 : tie.Need-cast-t26
+cast-t26 c = search needs
+
+same-length : tie.Need-same-length
+same-length c = search needs
+
+returns : tie.Need-returns
+returns c =
+    let test = c .before .before .before .before in
+    let o = test .before .before .before .before .before .before in
+    let s = o .before .before .before .before in
+    record {
+      answer = λ g.
+          close-differs (g .standing) (s .pre .1) (g .tree) (o .opener-at .result) _ _ (s .args .at .index) (c .before .still-open .result) (o .opener-at .ensures)
+          (looked-for (test .before .before)) (test .operator-of2 .ensures) (c .before .before .before .if1 .taken) (c .before .still-open .ensures);
+      same = λ g j f. refl;
+      long = refl;
+    }
+
+add-from : tie.Need-add-from
+add-from c = omega (arith, within (c .before .before .before .before .before .before .before))
+
+add-give-children : tie.Need-add-give-children
+add-give-children c = omega (arith, within (c .before .before .before .before .before .before .before .before))
+
+sub-give-children : tie.Need-sub-give-children
+sub-give-children c = omega (arith, body (c .before .before .before .before .before .before .before .before .before) .0)
+
+give-children-requires : tie.Need-give-children-requires
+give-children-requires c κs = body (c .before .before .before .before .before .before .before .before .before) .2
+
+same-length-2 : tie.Need-same-length-2
+same-length-2 c = search needs
+
+returns-2 : tie.Need-returns-2
+returns-2 c =
+    let test = c .before .before .before .before .before .before in
+    let o = test .before .before .before .before .before .before in
+    let s = o .before .before .before .before in
+    let given = c .before .before .give-children in
+    record {
+      answer = λ g.
+          close-takes (g .standing) (s .pre .1) (g .tree) (g .below) (g .apart) (o .opener-at .result) _ _ (s .args .at .index) (given .last .0) (o .opener-at .ensures)
+          (looked-for (test .before .before)) (test .operator-of2 .ensures) (c .before .before .before .before .before .if1 .left) (given .ensures) .0;
+      same = λ g.
+          close-takes (g .standing) (s .pre .1) (g .tree) (g .below) (g .apart) (o .opener-at .result) _ _ (s .args .at .index) (given .last .0) (o .opener-at .ensures)
+          (looked-for (test .before .before)) (test .operator-of2 .ensures) (c .before .before .before .before .before .if1 .left) (given .ensures) .1;
+      long = given .ensures .long;
+    }
+
+pub close-section-spec : {M : Type 1} → statement M
+close-section-spec =
+    tie.close
+    (tie.spec
+    sub-inner
+    opener-at-requires
+    add-opener
+    mul-opener
+    slice-read-opener
+    operator-of-requires
+    closer-of-requires
+    operator-of-requires-2
+    still-open-requires
+    cast-t26
+    same-length
+    returns
+    add-from
+    add-give-children
+    sub-give-children
+    give-children-requires
+    same-length-2
+    returns-2)

@@ -1,0 +1,124 @@
+-- `sections::look` meets its contract.
+use Prim.Native.Nat.{_+_, _^_, _<_}
+use mathlib.Core.Path.{_≡_, refl, sym, _∙_}
+use mathlib.Core.Logic.{_⊎_, inl, inr, ⊎-elim}
+use mathlib.Core.Bool.{true, false}
+use native.Mathlib.Omega.{arith}
+use borrow.Author.Needs.{needs}
+use lib.ListN.{length-set}
+use Rattle.molang.specs.Operator.{isCloser}
+use Rattle.ops.specs.Operators.{isOpener}
+use Rattle.nodes.proofs.Runs.{set-other}
+use Rattle.sections.proofs.SectionLooking.{look-in, look-position, look-places, look-other, look-opens, look-closes, position-small, opens-same}
+use Rattle.sections.proofs.look.Statement.{statement}
+use Rattle.sections.proofs.look.Tie as tie
+
+small : (c : tie.After-position) → c .position .result + 1 < 2 ^ 32
+small c = let s = c .before .before in let e = c .position .ensures in let a = s .args .at in position-small (a .depth) (a .write) (a .index) (c .position .result) (2 ^ 32) (e .0) (e .1) (s .pre .1) (s .pre .2)
+
+position-requires : tie.Need-position-requires
+position-requires c κs = search needs
+
+operator-of-requires : tie.Need-operator-of-requires
+operator-of-requires c κs = let g = c .before .before .before .pre .0 in omega (arith, look-in g, g .apart, g .room)
+
+is-opener-requires : tie.Need-is-opener-requires
+is-opener-requires c κs = search needs
+
+open-section-requires : tie.Need-open-section-requires
+open-section-requires c κs = let s = c .before .before .before .before .before .before .before in let g = s .pre .0 in record { apart = g .apart; room = g .room; place = omega (arith, s .pre .1); start = small (c .before .before .before .before .before) }
+
+same-length : tie.Need-same-length
+same-length c = search needs
+
+returns : tie.Need-returns
+returns c =
+    let s = c .before .before .before .before .before .before .before .before .before .before in
+    let e = c .before .before .before .before .before .before .before .before .position in
+    let o = c .before .before .before .before .before .before .operator-of in
+    let h : isOpener (o .result) ≡ true = sym (c .before .before .before .before .before .is-opener .ensures) ∙ c .before .before .before .before .if1 .taken in
+    let r = c .before .before .open-section in
+    record {
+      answer = λ g.
+          look-position g (s .args .at .index) (e .result) _ (r .last .0) (e .ensures .0) (e .ensures .1)
+          (look-opens g (o .result) (e .result) (r .result) (r .last .0) (o .ensures) h (r .ensures .words) (r .ensures .more) (r .ensures .deeper) (r .ensures .at));
+      same = λ g j f x y.
+          opens-same (s .args .work .now) (r .last .0) (s .args .base) (s .args .marks) (s .args .at .write) (s .args .at .depth) (s .args .item) (e .result) (r .ensures .words) j x y;
+      long = r .kept .0;
+    }
+
+is-closer-requires : tie.Need-is-closer-requires
+is-closer-requires c κs = search needs
+
+close-section-requires : tie.Need-close-section-requires
+close-section-requires c κs = let s = c .before .before .before .before .before .before .before .before .before .before in (s .pre .0, c .before .if3 .taken, omega (arith, small (c .before .before .before .before .before .before .before .before)))
+
+same-length-2 : tie.Need-same-length-2
+same-length-2 c = search needs
+
+returns-2 : tie.Need-returns-2
+returns-2 c =
+    let s = c .before .before .before .before .before .before .before .before .before .before .before .before .before in
+    let e = c .before .before .before .before .before .before .before .before .before .before .before .position in
+    let o = c .before .before .before .before .before .before .before .before .before .operator-of in
+    let h : isOpener (o .result) ≡ false = sym (c .before .before .before .before .before .before .before .before .is-opener .ensures) ∙ c .before .before .before .before .before .before .before .if1 .left in
+    let closes : isCloser (o .result) ≡ true = sym (c .before .before .before .before .before .before .is-closer .ensures) ∙ c .before .before .before .before .before .if2 .taken in
+    let r = c .before .before .close-section in
+    record {
+      answer = λ g.
+          look-position g (s .args .at .index) (e .result) (r .result) (r .last .0) (e .ensures .0) (e .ensures .1)
+          (look-closes g (o .result) (e .result) (r .result) (r .last .0) (o .ensures) h closes (r .ensures));
+      same = λ g j f x y. r .ensures .same g j f;
+      long = r .ensures .long;
+    }
+
+add-work : tie.Need-add-work
+add-work c = search needs
+
+mul-work : tie.Need-mul-work
+mul-work c = search needs
+
+slice-write-work : tie.Need-slice-write-work
+slice-write-work c = search needs
+
+add-written : tie.Need-add-written
+add-written c = search needs
+
+same-length-3 : tie.Need-same-length-3
+same-length-3 c = search needs
+
+returns-3 : tie.Need-returns-3
+returns-3 c =
+    let s = c .before .before .before .before .before .before .before .before in
+    let e = c .before .before .before .before .before .before .position in
+    let o = c .before .before .before .before .operator-of in
+    let h : isOpener (o .result) ≡ false = sym (c .before .before .before .is-opener .ensures) ∙ c .before .before .if1 .left in
+    let other : (isCloser (o .result) ≡ false) ⊎ (s .args .at .depth ≡ 0) = ⊎-elim (λ w. inr (w .1 .left)) (λ w. inl (sym (c .before .is-closer .ensures) ∙ w .left)) (c .if2 .came) in
+    record {
+      answer = λ g.
+          look-position g (s .args .at .index) (e .result) _ _ (e .ensures .0) (e .ensures .1)
+          (look-places g (e .result) _ refl (look-other g (o .result) (e .result) (o .ensures) h other));
+      same = λ g j f x y. set-other (s .args .work .now) _ (s .args .base + s .args .at .write) (s .args .item) refl j (⊎-elim (λ w. omega arith) (λ w. omega arith) x);
+      long = simp length-set;
+    }
+
+pub look-spec : {M : Type 1} → statement M
+look-spec =
+    tie.close
+    (tie.spec
+    position-requires
+    operator-of-requires
+    is-opener-requires
+    open-section-requires
+    same-length
+    returns
+    is-closer-requires
+    close-section-requires
+    same-length-2
+    returns-2
+    add-work
+    mul-work
+    slice-write-work
+    add-written
+    same-length-3
+    returns-3)

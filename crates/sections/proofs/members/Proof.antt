@@ -1,0 +1,136 @@
+-- `sections::members` meets its contract.
+use Prim.Native.Nat.{_+_, _-_, _≤_, _<_}
+use mathlib.Core.Path.{refl, sym, _∙_}
+use native.Mathlib.Omega.{arith}
+use lib.ListN.{length}
+use Rattle.nodes.specs.Store.{wd, slotEnd}
+use Rattle.sections.specs.Flat.{CanJoin}
+use Rattle.sections.proofs.MemberLaws.{Joining, JoinTurn, join-start, join-turn, join-in, join-leading, join-accessor, join-member, join-other, join-done}
+use Rattle.sections.proofs.members.Statement.{statement}
+use Rattle.sections.proofs.members.Tie as tie
+
+abbrev Inv-loop : tie.InvT-loop
+Inv-loop work₀ base n read₀ write₀ work read write = CanJoin work₀ base n × ((g : CanJoin work₀ base n) → Joining work₀ base n g work read write)
+
+abbrev μ-loop : tie.MeasureT-loop
+μ-loop work₀ base n read₀ write₀ work read write = n - read
+
+-- there is a token to read
+inside : (c : tie.In-loop Inv-loop μ-loop) → let a = c .before .before .before .args in let w = c .before .loop in a .base + w .read < length (w .work)
+inside c = let g = c .before .loop .inv .0 in let v = c .before .loop .inv .1 g .2 in omega (arith, c .loop-test .taken, v .long, g .room)
+
+turn : (c : tie.In-loop Inv-loop μ-loop) → let a = c .before .before .before .args in let w = c .before .loop in
+    (g : CanJoin (a .work .now) (a .base) (a .n)) → JoinTurn (a .work .now) (a .base) (a .n) g (w .work) (w .read) (w .write) (wd (w .work) (a .base + w .read))
+turn c g = let v = c .before .loop .inv .1 g in join-turn (v .0) (v .1) (v .2) (c .loop-test .taken) _ refl
+
+bounds : (c : tie.In-loop Inv-loop μ-loop) → let a = c .before .before .before .args in let w = c .before .loop in
+    (a .base + w .write < length (w .work)) × (slotEnd (wd (w .work) (a .base + w .read)) ≤ length (w .work))
+bounds c = join-in (turn c (c .before .loop .inv .0))
+
+loop-holds : tie.Need-loop-holds Inv-loop μ-loop
+loop-holds c = (c .before .pre, λ g. join-start g)
+
+add-item : tie.Need-add-item Inv-loop μ-loop
+add-item c = let b = inside c in omega arith
+
+mul-item : tie.Need-mul-item Inv-loop μ-loop
+mul-item c = let b = inside c in omega arith
+
+slice-read-item : tie.Need-slice-read-item Inv-loop μ-loop
+slice-read-item c = inside (c .before)
+
+add-read : tie.Need-add-read Inv-loop μ-loop
+add-read c = let b = inside (c .before) in omega arith
+
+operator-of-requires : tie.Need-operator-of-requires Inv-loop μ-loop
+operator-of-requires c κs = bounds (c .before .before) .1
+
+same-length : tie.Need-same-length Inv-loop μ-loop
+same-length c = let v = c .before .before .before .before .before .before .loop .inv in v .1 (v .0) .2 .long
+
+returns : tie.Need-returns Inv-loop μ-loop
+returns c =
+    let t = c .before .before .before .before .before in
+    let v = t .before .loop .inv in
+    record {
+      answer = λ g. join-leading (turn t g) (sym (c .before .before .operator-of .ensures) ∙ c .before .if1 .taken) (c .if2 .taken);
+      kept = λ g. v .1 g .2 .kept;
+      long = v .1 (v .0) .2 .long;
+    }
+
+member-requires : tie.Need-member-requires Inv-loop μ-loop
+member-requires c κs =
+    let t = c .before .before .before .before .before .before in
+    join-accessor (turn t (t .before .loop .inv .0)) (sym (c .before .before .before .operator-of .ensures) ∙ c .before .before .if1 .taken) (c .before .if2 .left)
+
+loop-less : tie.Need-loop-less Inv-loop μ-loop
+loop-less c = let t = c .before .before .before .before .before .before .before .before .before in let h = t .loop-test .taken in omega arith
+
+loop-again : tie.Need-loop-again Inv-loop μ-loop
+loop-again c =
+    let t = c .before .before .before .before .before .before .before .before .before in
+    let v = t .before .loop .inv in
+    let m = c .before .before .member in (
+      v .0,
+      λ g.
+          join-member (turn t g) (sym (c .before .before .before .before .before .before .operator-of .ensures) ∙ c .before .before .before .before .before .if1 .taken)
+          (c .before .before .before .before .if2 .left) (m .result) (m .last .0) (m .ensures),
+    )
+
+add-work : tie.Need-add-work Inv-loop μ-loop
+add-work c = let t = c .before .before .before .before in let v = t .before .loop .inv in omega (arith, bounds t .0, v .1 (v .0) .2 .long, t .before .before .before .good)
+
+mul-work : tie.Need-mul-work Inv-loop μ-loop
+mul-work c = let t = c .before .before .before .before in let v = t .before .loop .inv in omega (arith, bounds t .0, v .1 (v .0) .2 .long, t .before .before .before .good)
+
+slice-write-work : tie.Need-slice-write-work Inv-loop μ-loop
+slice-write-work c = bounds (c .before .before .before .before) .0
+
+add-write : tie.Need-add-write Inv-loop μ-loop
+add-write c = let t = c .before .before .before .before in let v = t .before .loop .inv in omega (arith, bounds t .0, v .1 (v .0) .2 .long, t .before .before .before .good)
+
+loop-less-2 : tie.Need-loop-less-2 Inv-loop μ-loop
+loop-less-2 c = let h = c .before .before .before .before .loop-test .taken in omega arith
+
+loop-again-2 : tie.Need-loop-again-2 Inv-loop μ-loop
+loop-again-2 c =
+    let t = c .before .before .before .before in
+    (t .before .loop .inv .0, λ g. join-other (turn t g) (λ e. c .if1 .left (c .before .operator-of .ensures ∙ e)) _ refl)
+
+same-length-2 : tie.Need-same-length-2 Inv-loop μ-loop
+same-length-2 c = let v = c .before .loop .inv in v .1 (v .0) .2 .long
+
+returns-2 : tie.Need-returns-2 Inv-loop μ-loop
+returns-2 c =
+    let v = c .before .loop .inv in
+    record {
+      answer = λ g. let j = v .1 g in join-done (j .0) (j .1) (j .2) (c .loop-test .left);
+      kept = λ g. v .1 g .2 .kept;
+      long = v .1 (v .0) .2 .long;
+    }
+
+pub members-spec : {M : Type 1} → statement M
+members-spec =
+    tie.close
+    (tie.spec
+    Inv-loop
+    μ-loop
+    loop-holds
+    add-item
+    mul-item
+    slice-read-item
+    add-read
+    operator-of-requires
+    same-length
+    returns
+    member-requires
+    loop-less
+    loop-again
+    add-work
+    mul-work
+    slice-write-work
+    add-write
+    loop-less-2
+    loop-again-2
+    same-length-2
+    returns-2)

@@ -1,6 +1,0 @@
-pub mod Passes
-pub mod Items
-pub mod Sides
-pub mod Failures
-pub mod Turns
-pub mod Grouped

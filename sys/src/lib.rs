@@ -1,0 +1,99 @@
+//! The two entries of the static library by the C convention, as include/sorbrudder.h declares them: a slice is a pointer and a length,
+//! and an answer is one number. This crate holds the declarations, a safe function over each, and the number taken apart, once for all
+//! Rust of the project.
+
+#![warn(missing_docs)]
+
+unsafe extern "C" {
+    fn sorbrudder_parse(
+        list: *const u32,
+        list_words: usize,
+        tree: *mut u32,
+        tree_words: usize,
+        messages: *mut u32,
+        message_words: usize,
+        work: *mut u32,
+        work_words: usize,
+        source_length: u64,
+        version: i16,
+        used_low: u64,
+        used_high: u64,
+    ) -> u64;
+    fn sorbrudder_write(
+        tree: *const u32,
+        tree_words: usize,
+        list: *mut u32,
+        list_words: usize,
+    ) -> u64;
+}
+
+/// What an entry answers.
+#[derive(Copy, Clone, Debug, PartialEq, Eq)]
+pub enum Answer {
+    /// So many nodes of a tree, or so many tokens of a list, fill the lent slice's front.
+    Filled(usize),
+    /// So many message records fill the message slice's front. The write entry never answers this.
+    Messages(usize),
+    /// A refusal's number and place; no lent word was changed.
+    Refused(u32, usize),
+}
+
+impl Answer {
+    /// An answer's number taken apart as include/sorbrudder.h says: bits 0-31 hold a count or a place, bits 32-39 a refusal's number, the
+    /// bits above them 0 for a tree or a list, 1 for messages, 2 for a refusal. The library is proved to answer no other number.
+    #[inline]
+    fn of(answer: u64) -> Self {
+        let (kind, number) = (answer >> 40, u32::from((answer >> 32) as u8));
+        let low = answer as u32 as usize;
+        match (kind, number) {
+            (0, 0) => Self::Filled(low),
+            (1, 0) => Self::Messages(low),
+            (2, _) => Self::Refused(number, low),
+            _ => panic!("the library never answers {answer:#x}"),
+        }
+    }
+}
+
+/// What the parse entry is lent.
+#[derive(Debug)]
+pub struct Lent<'b> {
+    /// The list's words, five a token.
+    pub list: &'b [u32],
+    /// Where a tree's words go, six a node.
+    pub tree: &'b mut [u32],
+    /// Where the words of messages go, eight a message.
+    pub messages: &'b mut [u32],
+    /// Words to work in; all are zero after a call that is not refused.
+    pub work: &'b mut [u32],
+}
+
+/// Reads a list's words: over a source of that length, at a pack's declared version, under the used set in two halves.
+#[inline]
+pub fn parse(lent: Lent<'_>, source_len: u64, version: i16, used: (u64, u64)) -> Answer {
+    // SAFETY: each slice is passed with its own length, the borrows keep them apart, and the entry keeps none of them.
+    Answer::of(unsafe {
+        sorbrudder_parse(
+            lent.list.as_ptr(),
+            lent.list.len(),
+            lent.tree.as_mut_ptr(),
+            lent.tree.len(),
+            lent.messages.as_mut_ptr(),
+            lent.messages.len(),
+            lent.work.as_mut_ptr(),
+            lent.work.len(),
+            source_len,
+            version,
+            used.0,
+            used.1,
+        )
+    })
+}
+
+/// Writes a tree's words as a list's.
+#[inline]
+pub fn write(tree: &[u32], list: &mut [u32]) -> Answer {
+    // SAFETY: both slices are passed with their own lengths, the borrows keep them apart, and the entry keeps neither.
+    Answer::of(unsafe {
+        sorbrudder_write(tree.as_ptr(), tree.len(), list.as_mut_ptr(), list.len())
+    })
+}

@@ -1,0 +1,100 @@
+#!/usr/bin/env python3
+"""Prints what a reader of the promises must believe, with its lines of code: non-blank lines that are no comment and no `use`.
+
+    tools/believed.py
+
+It starts from the contract of each public entry and follows the definitions that it cites, file by file, to those that they lean on. Files
+of code, laws and proofs are not among them: the checker holds those to the contracts. It fails where a promise reaches a file of proofs/.
+"""
+
+import re
+import sys
+from pathlib import Path
+
+CRATES = Path(__file__).resolve().parent.parent / "crates"
+# The entries: the crate, the file of its contract and the function.
+ENTRIES = [
+    ("parse", "src/lib.rt", "parse"),
+    ("write", "src/lib.rt", "write"),
+    ("reread", "src/lib.rt", "reread"),
+    ("sorbrudder", "src/lib.rt", "sorbrudder_parse"),
+    ("sorbrudder", "src/lib.rt", "sorbrudder_write"),
+    ("treelist", "src/main.rt", "listing"),
+]
+# `use Rattle.CRATE.specs.MODULE.{NAMES}`, with the part named twice within the crate itself; in code with `ghost` and `;`.
+USE = re.compile(r"(?:ghost )?use Rattle·(\w+)(?:·\w+)?\.(?:specs\.)?(specs|proofs|declared)\.([\w.]+?)(?:\.\{(.*)\})?(?: as (\w+))?;?$")
+# Files of molang/specs that are apart from the rules, and what they are.
+APART = {"Operator": "the operators' names and sets", "Lines": "the table of examples"}
+
+
+def cited(line):
+    """The crate, the part (specs or proofs), the module and the names of a `use` line of a project's crate; or nothing."""
+    found = USE.match(line)
+    if not found or ".declared." in f".{found[2]}.{found[3]}." or not (CRATES / found[1]).is_dir():
+        return None
+    names = [part.split(" as ")[-1].strip() for part in (found[4] or "").split(",") if part.strip()]
+    return found[1], found[2], found[3], names + [found[5] or found[3].split(".")[-1]]
+
+
+def file_of(crate, part, module):
+    return CRATES / crate / part / f"{module.replace('.', '/')}.antt"
+
+
+def contract(crate, file, function):
+    """The clauses of a function, and the `use` lines whose names stand in them."""
+    lines = (CRATES / crate / file).read_text().splitlines()
+    start = next(i for i, line in enumerate(lines) if re.match(rf"(pub )?(extern \"C\" )?fn {function}\b", line))
+    end = next(i for i in range(start, len(lines)) if lines[i] == "{")
+    first = next((i for i in range(start, end) if re.match(r"\s+(ensures|requires)\b", lines[i])), None)
+    if first is None:
+        sys.exit(f"believed: {crate}::{function} promises nothing")
+    clauses = lines[first:end]
+    words = set(re.findall(r"[\w·'-]+", " ".join(clauses)))
+    return clauses, [c for c in map(cited, lines) if c and words & set(c[3])]
+
+
+def closure(uses):
+    """The files of definitions that these lean on, as (crate, module)."""
+    seen, todo = [], [(crate, part, module) for crate, part, module, _ in uses]
+    while todo:
+        crate, part, module = todo.pop(0)
+        if part == "proofs":
+            sys.exit(f"believed: a promise reaches {crate}/proofs/{module}")
+        if (crate, module) in seen:
+            continue
+        seen.append((crate, module))
+        todo += [c[:3] for c in map(cited, file_of(crate, "specs", module).read_text().splitlines()) if c]
+    return seen
+
+
+def lines_of(path):
+    kept = [line.strip() for line in path.read_text().splitlines()]
+    return sum(bool(line) and not line.startswith(("--", "use ")) for line in kept)
+
+
+def main():
+    by_file, clauses = {}, {}
+    for crate, file, function in ENTRIES:
+        clauses[crate, function], uses = contract(crate, file, function)
+        for key in closure(uses):
+            by_file.setdefault(key, []).append(function)
+    rows = []
+    rules = [key for key in by_file if key[0] == "molang" and key[1] not in APART]
+    names = ", ".join(sorted(module for _, module in rules))
+    total = sum(lines_of(file_of(crate, "specs", module)) for crate, module in rules)
+    rows.append((f"`molang/specs`: {names}", "the rules of reading and writing", total))
+    for module, what in APART.items():
+        if ("molang", module) in by_file:
+            rows.append((f"`molang/specs`: {module}", what, lines_of(file_of("molang", "specs", module))))
+    for crate, module in sorted(key for key in by_file if key[0] != "molang"):
+        users = ", ".join(f"`{function}`" for function in sorted(by_file[crate, module]))
+        rows.append((f"`{crate}/specs`: {module}", f"what the promise of {users} cites", lines_of(file_of(crate, "specs", module))))
+    for (crate, function), said in clauses.items():
+        rows.append((f"`{crate}/src`: `{function}`", "its contract", len(said)))
+    print("| where | what | lines |\n|---|---|---|")
+    for name, what, lines in rows:
+        print(f"| {name} | {what} | {lines} |")
+    print(f"| together | | {sum(row[2] for row in rows)} |")
+
+
+main()
