@@ -19,9 +19,7 @@ const WORK_WORDS: usize = 64;
 /// Reads token lists. It owns the buffers that the library asks for and uses them again from list to list, so keep one
 /// where many lists are read; it is cheap to make and grows with the longest list it met, to less than 3 MiB.
 ///
-/// Reading takes a few KiB of stack whatever the list's nesting, with one exception: the message about several roots is
-/// found by recursion over the first and the last of them, 48 bytes a node, which is 300 KiB at the very most (2,047
-/// differences and one operand more).
+/// The library takes at most 2 KiB of stack to read a list, whatever its nesting and whatever is answered.
 ///
 /// ```
 /// use sorbrudder::{Reader, Tokens};

@@ -42,7 +42,7 @@ fn on_stack<T: Send>(kib: usize, run: impl FnOnce() -> T + Send) -> T {
 }
 
 #[test]
-fn deep_lists_are_read_on_256_kib_of_stack() {
+fn deep_lists_are_read_on_64_kib_of_stack() {
     let lists = [
         nest("(", "a", ")", ""),
         nest("!", "a", "", ""),
@@ -57,7 +57,7 @@ fn deep_lists_are_read_on_256_kib_of_stack() {
         nest("{", "a;", "};", ""),
         nest("return", "a;", "", ""),
     ];
-    on_stack(256, || {
+    on_stack(64, || {
         let mut reader = Reader::new();
         for (list, version) in lists.iter().flat_map(|list| [4, 5, 6].map(|v| (list, v))) {
             assert!(list.len() > MOST_TOKENS - 8, "{}", list.len());
@@ -68,8 +68,7 @@ fn deep_lists_are_read_on_256_kib_of_stack() {
 }
 
 #[test]
-fn several_deep_roots_are_named_on_512_kib_of_stack() {
-    // The one recursion of reading: 48 bytes for each node of the first and of the last root.
+fn several_deep_roots_are_named_on_64_kib_of_stack() {
     let lists = [
         nest("a -", "a", "", "b"),
         nest("a +", "a", "", "b"),
@@ -78,7 +77,7 @@ fn several_deep_roots_are_named_on_512_kib_of_stack() {
         nest("a ? b :", "c", "", "d"),
         nest("a", "a", "", ""),
     ];
-    on_stack(512, || {
+    on_stack(64, || {
         let mut reader = Reader::new();
         for list in &lists {
             let Err(ReadError::Messages(messages)) = reader.read(list, 6) else {
