@@ -134,7 +134,7 @@ fn bracketing(tokens: &[Token]) -> [bool; 3] {
 #[test]
 fn the_lists_of_brackets_have_every_kind_span_and_used_set() {
     let mut rng = Rng::new(21);
-    let (mut kinds, mut faults, mut spans, mut sets) = ([0; 6], [0; 4], [0; 3], [0; 4]);
+    let (mut kinds, mut faults, mut spans, mut sets) = ([0; 6], [0; 4], [0; 4], [0; 4]);
     for _ in 0..20_000 {
         let case = brackets::case(&mut rng, 16);
         let tokens = &case.tokens;
@@ -151,6 +151,16 @@ fn the_lists_of_brackets_have_every_kind_span_and_used_set() {
         spans[0] += usize::from(tokens.iter().any(|t| t.start > t.end));
         spans[1] += usize::from(tokens.len() > 1 && spans_of.len() == 1);
         spans[2] += usize::from(spans_of.len() == tokens.len());
+        // Two openers alike that close apart: only their places in the list tell them apart.
+        let closes = oracle::closing::closes(tokens, case.used);
+        let openers: BTreeSet<_> = tokens
+            .iter()
+            .zip(closes)
+            .filter(|(token, _)| matches!(token.op, 0 | 2 | 4))
+            .map(|(token, close)| ((token.op, token.start, token.end), close))
+            .collect();
+        let alike: BTreeSet<_> = openers.iter().map(|(token, _)| token).collect();
+        spans[3] += usize::from(alike.len() < openers.len());
         let openers = |set: (u64, u64)| set.0 & 0b01_0101;
         let exact = exact_set(tokens);
         let set = match openers(case.used) {

@@ -19,11 +19,18 @@ pub fn case(rng: &mut Rng, most: usize) -> Case {
     if rng.chance(15) {
         ops.push(73);
     }
-    let tokens = if rng.chance(20) {
+    let mut tokens = if rng.chance(20) {
         dress::plain(&ops)
     } else {
         dress::wild(rng, &ops)
     };
+    if rng.chance(35) {
+        // One span for all openers, wherever they close.
+        for token in &mut tokens {
+            let ends = if OPENERS.contains(&token.op) { 1 } else { 9 };
+            (token.start, token.end) = (2, rng.below(ends) as u32);
+        }
+    }
     Case {
         used: used_set(rng, &tokens),
         source_len: dress::source_len(rng, &tokens),
