@@ -74,7 +74,7 @@ pub record CanLayOut (W buffer : List ℕ) (root n : ℕ) : Type 0 where
   pub nodes : size trees ≤ 3 * n
   pub few : n ≤ mostTokens
   pub work-room : 64 * n + 64 ≤ length W
-  pub tree-room : 18 * n ≤ length buffer
+  pub tree-room : 21 * n ≤ length buffer
 
 -- The trees' words are the front of the tree buffer; the slots are as they were. The words above them, where the trees were laid out, are
 -- left free.
