@@ -151,9 +151,10 @@ fn close_section(work: &mut [u32], base: usize, marks: usize, at: Reached, close
             outer: named.outer,
         });
     }
-    slots::set_close(work, opener, slots::end_of(work, closer));
+    let end = slots::end_of(work, closer);
     let from = place + 1;
     children::give_children(work, opener, base + from, at.write - from);
+    slots::set_close(work, opener, end);
     Bracket::On(Reached {
         write: from,
         depth: inner,
