@@ -104,16 +104,16 @@ callFor n list used version =
 unfoldable pub listCall : List ℕ → ℤ → Call
 listCall os version = callFor (length os) (listWords (tokensFrom 0 os)) (setNumber (uses (tokensFrom 0 os)) 111) version
 
--- Where a node of the table closes: a node from 20,000,000 on begins with the end of its closer.
+-- Where a node of the table closes: at the digit in front of its other eight, or at its own end.
 unfoldable pub closeIn : ℕ → ℕ
-closeIn n = elim (ltb n 20000000) [ true ↦ n % 100 | false ↦ n / 20000000 ]
+closeIn n = elim (ltb n 100000000) [ true ↦ n % 100 | false ↦ n / 100000000 ]
 
 -- A tree node is op_c_ss_ee in decimal digits: operator, child count (one digit), span start and end (two digits each); payload 0. A closed
--- section has 20,000,000 times the end of its closer added.
+-- section is z_ooo_c_ss_ee, z being the end of its closer.
 unfoldable pub nodeWords : List ℕ → List ℕ
 nodeWords [] = []
 nodeWords (n ∷ ns) =
-    let m = n % 20000000 in
+    let m = n % 100000000 in
     word 1 (m / 100000)
     ∷ word 2 (m / 100 % 100)
     ∷ word 3 (m % 100)
@@ -148,7 +148,7 @@ unfoldable pub repeatedCall : List ℕ → Asked
 repeatedCall [] = unclear
 repeatedCall (n ∷ []) = unclear
 repeatedCall (n ∷ o ∷ []) =
-    let k = record { op = o; variant = 0; value = 0; start = 0; end = 0; close = 0 } in
+    let k : Token = record { op = o; variant = 0; value = 0; start = 0; end = 0; close = 0 } in
     parse (callFor n (listWords (replicate n k)) (2 ^ o) (pos 6) ∷ [])
 repeatedCall (n ∷ o ∷ m ∷ ms) = unclear
 
