@@ -107,6 +107,20 @@ pub fn with_operator(w: u32, op: u32) -> u32
     w - w % 256 + op % 256
 }
 
+// A word of kind 2 for a span that starts at n.
+pub fn start_word(n: u32) -> u32
+    ensures { λ r. ⌜ r ≡ word 2 (lowOf n) ⌝ }
+{
+    START * KIND + n % KIND
+}
+
+// A word of kind 3 for a span that ends at n.
+pub fn end_word(n: u32) -> u32
+    ensures { λ r. ⌜ r ≡ word 3 (lowOf n) ⌝ }
+{
+    END * KIND + n % KIND
+}
+
 // A word of kind 6 for n children.
 pub fn children_word(n: u32) -> u32
     ensures { λ r. ⌜ r ≡ word 6 (n % 2 ^ 14) ⌝ }

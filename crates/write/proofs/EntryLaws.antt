@@ -23,11 +23,12 @@ use Rattle.words.specs.Records.{laidAt}
 use Rattle.words.proofs.RecordLaws.{laid-front}
 use Rattle.write.specs.declared.plain.Seat.{Seat}
 use Rattle.write.specs.declared.plain.Seat.the-variants.{Enclosed}
-use Rattle.write.specs.Answers.{shape, treeRefusal, call, judgement, filling, filled}
+use Rattle.shape.specs.Answers.{shape, treeRefusal}
+use Rattle.write.specs.Answers.{call, judgement, filling, filled}
 use Rattle.write.specs.Seats.{formSeat}
-use Rattle.write.specs.Shaped.{Shaped, noTrees, aNode, mostChildren, OneTree}
+use Rattle.shape.specs.Shaped.{Shaped, noTrees, aNode, mostChildren, OneTree}
 use Rattle.write.specs.Spelling.{Room, Writable}
-use Rattle.write.proofs.RowLaws.{Opened, opened, shaped-room, shaped-count, count-first, beside-split}
+use Rattle.shape.proofs.RowLaws.{Opened, opened, shaped-room, shaped-count, count-first, beside-split}
 use Rattle.write.proofs.JudgeLaws.{rowUnplain, judgedBy, judgement-by, Stand, on-none, on-one, on-two, row-beside}
 
 -- What a judgement says.

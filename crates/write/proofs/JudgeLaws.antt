@@ -29,9 +29,9 @@ use Rattle.molang.proofs.Trees.{decided, either}
 use Rattle.write.specs.declared.plain.Seat.{Seat}
 use Rattle.write.specs.declared.plain.Seat.the-variants.{Enclosed, UnderMathCall, LeftOfComma, RightOfQuestion, Operand}
 use Rattle.molang.specs.WriteEntry.{mostNodes, treesOf, writtenTokens, WriteTold, tokens, unwritten, writeTold}
-use Rattle.write.proofs.RowLaws.{Opened, opened, shaped-room, shaped-length}
+use Rattle.shape.proofs.RowLaws.{Opened, opened, shaped-room, shaped-length}
 use Rattle.write.specs.Answers.{judgement}
-use Rattle.write.specs.Shaped.{nodeLength, countIndex, Shaped, noTrees, aNode, mostChildren, OneTree}
+use Rattle.shape.specs.Shaped.{nodeLength, countIndex, Shaped, noTrees, aNode, mostChildren, OneTree}
 use Rattle.write.specs.Seats.{formSeat, onlySeat, leftSeat, rightSeat, isPrefix, plainBy, isSpared, isPaired, ifTrue, tokensFor}
 
 -- The number of the first node that is not plain in a row of trees at these seats, numbered from n.
