@@ -111,7 +111,7 @@ close-differs {t = t} {cs = cs} (inner {i = j} {o = o} {d = d} {s = s'} st z v e
     rw is (ends (mismatched (b .inner-token) (tree .token) (b .outer-token)))
 
 -- it is the innermost section's: the words of its interval change, and no others
-pub close-takes : {W X : List ℕ} {base marks lo l m k w item : ℕ} {s : Open} {t : Token} {cs : Forest} → Standing W X base marks lo l k w s
+close-takes : {W X : List ℕ} {base marks lo l m k w item : ℕ} {s : Open} {t : Token} {cs : Forest} → Standing W X base marks lo l k w s
     → k ≢ 0 → RepT W X item l m t cs
     → slotStart m ≤ base → base + w < marks → (p x y i end : ℕ) (W1 W' : List ℕ) → p ≡ wd W (marks + 2 * (k - 1))
     → x ≡ Option·getD (closingOf (opAt W (wd W (base + p)))) 0 → y ≡ opAt W item → x ≡ y → end ≡ endAt W item
@@ -150,6 +150,22 @@ close-takes {W} {X} {base} {marks} {lo} {l} {m} {k} {w} {t = t} {cs = cs}
       rw (closing-takes t o cs d i j s' is) (on all (standing-depth all) (fewer r place e) refl),
       λ j f. taken .same j (free-part X lo m l' m j sl (le-refl m) f),
     )
+
+pub close-closed : {W : List ℕ} {base marks k w item : ℕ} → k ≢ 0 → (p x y i end : ℕ) (W1 W' : List ℕ) → p ≡ wd W (marks + 2 * (k - 1))
+    → x ≡ Option·getD (closingOf (opAt W (wd W (base + p)))) 0 → y ≡ opAt W item → x ≡ y → end ≡ endAt W item
+    → Given W (wd W (base + p)) (base + (p + 1)) (w - (p + 1)) W1
+    → W' ≡ set W1 (closeWord (wd W (base + p))) (word 7 (lowOf end)) → slotEnd (wd W (base + p)) ≤ length W1
+    → Closed W base marks w k i item (On (record { write = p + 1; depth = k - 1; index = i })) W'
+close-closed {W} {base} {marks} {k} {w} {item} n p x y i end W1 W' ep ex ey h he a e2 room =
+    record {
+      answer = λ g. takes g .0;
+      same = λ g. takes g .1;
+      long = set-long W1 W' (closeWord (wd W (base + p))) (word 7 (lowOf end)) e2 ∙ a .long;
+    }
+  where
+    takes : (g : LookAt W base marks w k item)
+        → Follows W' (g .X) base marks (g .lo) (g .m) w i (On (record { write = p + 1; depth = k - 1; index = i })) (closing (g .k) (g .cs) i (g .s)) × ((j : ℕ) → Free (g .X) (g .lo) (g .m) j → wd W' j ≡ wd W j)
+    takes g = close-takes (g .standing) n (g .tree) (g .below) (g .apart) p x y i end W1 W' ep ex ey h he a e2 room
 
 -- ---- `look`
 
