@@ -154,20 +154,20 @@ token-renamed W W' s o {k} e room h t =
     (legal-renamed o h (t .legal))
 
 -- `set_close` closes the token at the end of another
-pub token-closed : (W W' : List ℕ) (s end : ℕ) {k o : Token} → W' ≡ set W (closeWord s) (word 7 (lowOf end))
-    → slotEnd s ≤ length W → end ≡ k .end → Legal k
+pub token-closed : (W W' : List ℕ) (s closer : ℕ) {k o : Token} → W' ≡ set W (closeWord s) (word 7 (endAt W closer))
+    → slotEnd s ≤ length W → TokenAt W closer k
     → TokenAt W s o → TokenAt W' s (closedBy k o)
-unfolding closedBy lowOf
-token-closed W W' s end {k} e room h l t =
-    let other = set-other W W' (closeWord s) (word 7 (lowOf end)) e in
-    let low : lowOf end ≡ k .end = omega (arith, l .end) in
+unfolding closedBy
+token-closed W W' s closer e room u t =
+    let v = word 7 (endAt W closer) in
+    let other = set-other W W' (closeWord s) v e in
     token-of-words
     (other (slotStart s) (omega arith) ∙ operator-word t)
     (other (slotStart s + 1) (omega arith) ∙ start-word t)
     (other (slotStart s + 2) (omega arith) ∙ end-word t)
     (other (slotStart s + 3) (omega arith) ∙ value-word t)
-    (set-same W W' (closeWord s) (word 7 (lowOf end)) e (omega arith) ∙ ap (word 7) low)
-    (legal-closed l (t .legal))
+    (set-same W W' (closeWord s) v e (omega arith) ∙ ap (word 7) (token-end u))
+    (legal-closed (u .legal) (t .legal))
 
 bare-word : (o : ℕ) → o ≤ 110 → word 1 (o % 2 ^ 8) ≡ word 1 (0 * 2 ^ 8 + o)
 unfolding word

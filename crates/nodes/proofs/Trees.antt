@@ -130,11 +130,11 @@ module _ {W W' X : List ℕ} {q from n lo hi : ℕ} {bs : List ℕ} {f : Forest}
             (λ s o x y z p y'. w .same bs g e (slotStart s + o) (omega arith) (omega arith) (⊎-elim (λ m. off-word bs s o z m) (λ m. off-out bs s o z m) y')) r;
       }
 
-  -- the words of the owner's own token stay
-  pub give-token : {o : Token} → TokenAt W q o → TokenAt W' q o
-  give-token t =
-      token-keep W W' q
-      (λ i h. w .same bs g e (slotStart q + i) (omega arith) (omega arith) (off-word bs q i (omega arith) (omega arith))) t
+  -- the words of every token stay
+  pub give-token : {s : ℕ} {o : Token} → TokenAt W s o → TokenAt W' s o
+  give-token {s} t =
+      token-keep W W' s
+      (λ i h. w .same bs g e (slotStart s + i) (omega arith) (omega arith) (off-word bs s i (omega arith) (omega arith))) t
 
 -- the same of an array
 pub array-give : {W X : List ℕ} {q at n lo hi : ℕ} {f : Forest} → InArray W X at n lo hi f → q < hi → slotStart hi ≤ at → at + n ≤ length W

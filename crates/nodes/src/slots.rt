@@ -12,7 +12,7 @@ ghost use mathlib.Core.Path.{_≡_};
 ghost use Prim.Native.Nat.{_+_, _*_, _^_, _≤_, _<_};
 ghost use lib.ListN.{length, set};
 ghost use Rattle.words.specs.Fields.{withOperator};
-ghost use Rattle.molang.specs.Words.{word, lowOf};
+ghost use Rattle.molang.specs.Words.{word};
 ghost use Rattle.nodes.specs.Store.{slotStart, slotEnd, closeWord, firstWord, nextWord, classesWord, operatorWordAt};
 ghost use Rattle.nodes.specs.Store.{firstAt, nextAt, classesAt};
 ghost use Rattle.nodes.specs.Stored.{storedAt};
@@ -107,11 +107,12 @@ pub fn set_next(work: &mut [u32], s: u32, v: u32)
     work[SLOT_WORDS * (s as usize) + NEXT_FIELD] = v;
 }
 
-// Slot s closes at this end: a section, at its closer's.
-pub fn set_close(work: &mut [u32], s: u32, end: u32)
-    requires { ⌜ slotEnd s ≤ length (now work) ⌝ }
-    ensures { λ _. ⌜ now (work .exit) ≡ set (now (work .entry)) (closeWord s) (word 7 (lowOf end)) ⌝ }
+// Slot s, a section, closes at the end of slot `closer`.
+pub fn set_close(work: &mut [u32], s: u32, closer: u32)
+    requires { ⌜ (slotEnd s ≤ length (now work)) × (slotEnd closer ≤ length (now work)) ⌝ }
+    ensures { λ _. ⌜ now (work .exit) ≡ set (now (work .entry)) (closeWord s) (word 7 (endAt (now (work .entry)) closer)) ⌝ }
 {
+    let end = work[SLOT_WORDS * (closer as usize) + fields::END_FIELD];
     work[SLOT_WORDS * (s as usize) + CLOSE_FIELD] = fields::close_word(end);
 }
 

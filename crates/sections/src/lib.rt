@@ -151,10 +151,9 @@ fn close_section(work: &mut [u32], base: usize, marks: usize, at: Reached, close
             outer: named.outer,
         });
     }
-    let end = slots::end_of(work, closer);
     let from = place + 1;
     children::give_children(work, opener, base + from, at.write - from);
-    slots::set_close(work, opener, end);
+    slots::set_close(work, opener, closer);
     Bracket::On(Reached {
         write: from,
         depth: inner,

@@ -58,8 +58,8 @@ operator-of-requires-2 c κs = let s = c .before .before .before .before .before
 still-open-requires : tie.Need-still-open-requires
 still-open-requires c κs = let s = c .before .before .before .before .before .before .before .before .before .before .before .before in let g = s .pre .0 in standing-named (g .standing) (s .pre .1) (omega (arith, g .apart, g .room)) (omega (arith, g .room))
 
-cast-t27 : tie.Need-cast-t27
-cast-t27 c = search needs
+cast-t26 : tie.Need-cast-t26
+cast-t26 c = search needs
 
 same-length : tie.Need-same-length
 same-length c = search needs
@@ -81,31 +81,28 @@ returns c =
 abbrev found : tie.Else1 → tie.After-opener-at
 found c = c .before .before .before .before .before .before .before
 
-end-of-requires : tie.Need-end-of-requires
-end-of-requires c κs = let g = found (c .before) .before .before .before .before .pre .0 in omega (arith, look-in g, g .apart, g .room)
-
 add-from : tie.Need-add-from
-add-from c = omega (arith, within (found (c .before .before)))
+add-from c = omega (arith, within (found c))
 
 add-give-children : tie.Need-add-give-children
-add-give-children c = omega (arith, within (found (c .before .before .before)))
+add-give-children c = omega (arith, within (found (c .before)))
 
 sub-give-children : tie.Need-sub-give-children
-sub-give-children c = omega (arith, body (found (c .before .before .before .before)) .0)
+sub-give-children c = omega (arith, body (found (c .before .before)) .0)
 
 give-children-requires : tie.Need-give-children-requires
-give-children-requires c κs = body (found (c .before .before .before .before)) .2
+give-children-requires c κs = body (found (c .before .before)) .2
 
 -- the opener's slot lies within the words that have its children
-opener-in : (c : tie.After-give-children) → let o = found (c .before .before .before .before .before) in
-    let a = o .before .before .before .before .args in
+opener-in : (c : tie.After-give-children) → let o = found (c .before .before .before) in let a = o .before .before .before .before .args in
     slotEnd (wd (a .work .now) (a .base + o .opener-at .result)) ≤ length (c .give-children .last .0)
-opener-in c =
-    let o = found (c .before .before .before .before .before) in
-    omega (arith, body o .1, within o, c .give-children .ensures .long)
+opener-in c = let o = found (c .before .before .before) in omega (arith, body o .1, within o, c .give-children .ensures .long)
 
 set-close-requires : tie.Need-set-close-requires
-set-close-requires c κs = opener-in (c .before .before .before)
+set-close-requires c κs =
+    let given = c .before .before .before in
+    let g = found (given .before .before .before) .before .before .before .before .pre .0 in
+    (opener-in given, omega (arith, look-in g, g .apart, g .room, given .give-children .ensures .long))
 
 same-length-2 : tie.Need-same-length-2
 same-length-2 c = search needs
@@ -114,13 +111,12 @@ returns-2 : tie.Need-returns-2
 returns-2 c =
     let set = c .before .before .set-close in
     let given = c .before .before .before .before .before .before in
-    let end = given .before .before .before .end-of in
-    let same = given .before .before .before .before .before in
+    let same = given .before .before .before in
     let test = same .before in
     let o = found same in
     let s = o .before .before .before .before in
-    close-closed (s .pre .1) (o .opener-at .result) _ _ (s .args .at .index) (end .result) (given .give-children .last .0) (set .last .0)
-    (o .opener-at .ensures) (looked-for (test .before .before)) (test .operator-of2 .ensures) (same .if1 .left) (end .ensures)
+    close-closed (s .pre .1) (o .opener-at .result) _ _ (s .args .at .index) (given .give-children .last .0) (set .last .0)
+    (o .opener-at .ensures) (looked-for (test .before .before)) (test .operator-of2 .ensures) (same .if1 .left)
     (given .give-children .ensures) (set .ensures) (opener-in given)
 
 pub close-section-spec : {M : Type 1} → statement M
@@ -136,10 +132,9 @@ close-section-spec =
     closer-of-requires
     operator-of-requires-2
     still-open-requires
-    cast-t27
+    cast-t26
     same-length
     returns
-    end-of-requires
     add-from
     add-give-children
     sub-give-children

@@ -3,6 +3,18 @@ use borrow.Author.Needs.{needs}
 use Rattle.nodes.proofs.slots.set_close.Statement.{statement}
 use Rattle.nodes.proofs.slots.set_close.Tie as tie
 
+mul-end : tie.Need-mul-end
+mul-end c = search needs
+
+add-end : tie.Need-add-end
+add-end c = search needs
+
+mul-end-2 : tie.Need-mul-end-2
+mul-end-2 c = search needs
+
+slice-read-end : tie.Need-slice-read-end
+slice-read-end c = search needs
+
 close-word-requires : tie.Need-close-word-requires
 close-word-requires c κs = search needs
 
@@ -28,6 +40,10 @@ pub set-close-spec : {M : Type 1} → statement M
 set-close-spec =
     tie.close
     (tie.spec
+    mul-end
+    add-end
+    mul-end-2
+    slice-read-end
     close-word-requires
     mul-work
     add-work
