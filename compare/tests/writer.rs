@@ -264,6 +264,23 @@ fn a_tree_that_was_read_and_is_plain_reads_as_it_was() {
     assert!(plain > 4_000, "only {plain} plain trees");
 }
 
+#[test]
+#[cfg_attr(not(rust_source), ignore = "the Rust source is not at hand")]
+fn an_opener_that_was_never_closed_is_written_with_a_closer_at_its_own_end() {
+    let mut case = Case::exact(oracle::lines::tokens_of("36 ("), 6);
+    case.used = oracle::words::bit(36);
+    let Some(Some(nodes)) = tree_if_at_hand(&case) else {
+        panic!("36(4)");
+    };
+    assert_eq!(nodes, [node(36, 1, 0), node(4, 0, 1)]);
+    let (answer, list) = writer_model::write(&tree_words(&nodes), usize::MAX);
+    assert_eq!(answer, Written::Tokens(3));
+    assert_eq!(list[11..13], [word(2, 2), word(3, 2)]);
+    for version in [4, 5, 6] {
+        assert_eq!(read_again(&list, version), Some(nodes.clone()));
+    }
+}
+
 #[cfg(library)]
 mod library {
     use super::*;
