@@ -27,7 +27,7 @@ pub fn moved(list: List, read: usize, write: usize) -> List
     after
 }
 
-// The list with its next item read.
+// The list with its next item read. Each caller has looked at that item, so it is in the list.
 pub fn past(list: List) -> List
     requires { ⌜ list .read + 1 < 2 ^ 64 ⌝ }
     ensures { λ r. ⌜ r ≡ movedTo list (list .read + 1) (list .write) ⌝ }
@@ -37,7 +37,7 @@ pub fn past(list: List) -> List
     after
 }
 
-// The list with `item` after its done items.
+// The list with `item` after its done items. Each caller has read more items than are done, so a word is free.
 pub fn keep(work: &mut [u32], list: List, item: u32) -> List
     requires { ⌜ list .base + list .write < length (now work) ⌝ }
     ensures { λ r. ⌜ (r ≡ movedTo list (list .read) (list .write + 1))
@@ -50,7 +50,7 @@ pub fn keep(work: &mut [u32], list: List, item: u32) -> List
     after
 }
 
-// The next unread item if it is of op, else 0 (`next_if` of driver.rs).
+// The next unread item if it is of op, else 0 (`next_if` of driver.rs). Each caller has the store's law for its list, here and below.
 pub fn next_if(work: &[u32], list: List, op: u32) -> u32
     requires { ⌜ CanPeek (now work) list ⌝ }
     ensures { λ r. ⌜ r ≡ nextIf (now (work .entry)) list op ⌝ }
