@@ -1,9 +1,9 @@
--- `lines::items::next_mark` meets its contract: the first mark found stands behind the place. Assumes nothing.
+-- `lines::next_mark` meets its contract: the first mark found stands behind the place. Assumes nothing.
 use Prim.Native.Nat.{_-_, _≤_}
 use native.Mathlib.Omega.{arith}
 use lib.ListN.{length}
-use Rattle.lines.proofs.items.next_mark.Statement.{statement}
-use Rattle.lines.proofs.items.next_mark.Tie as tie
+use Rattle.lines.proofs.next_mark.Statement.{statement}
+use Rattle.lines.proofs.next_mark.Tie as tie
 
 abbrev Inv-loop : tie.InvT-loop
 Inv-loop numbers from last end₀ end = (from ≤ end) × (end ≤ length numbers)
