@@ -1,6 +1,7 @@
 // The writing of a plain tree: each operator between or before its operands, copied as it came, a section's closer where the section
-// closes, and added pairs where an operand needs them. `write_node` and `write_operand` call each other over the preorder words, the remaining node count falling; each gives
-// back the part of the words that its tree fills, so the next operand starts right after it. Leans on plain (seats), ops and words.
+// closes, and added pairs where an operand needs them. `write_node` and `write_operand` call each other over the preorder words, the
+// remaining node count falling; each gives back the part of the words that its tree fills, so the next operand starts right after it.
+// Leans on plain (seats), ops and words.
 use crate::plain::Seat;
 use crate::plain::is_paired;
 use crate::plain::seat_of_left;
@@ -16,7 +17,8 @@ ghost use Rattle.molang.specs.WriteEntry.{writtenTokens};
 ghost use Rattle.words.specs.Records.{laidAt};
 ghost use Rattle.words.specs.Tokens.{fiveWords};
 ghost use Rattle.shape.specs.Shaped.{nodeLength, firstFive};
-ghost use Rattle.write.specs.Spelling.{bracketWords, closerAt, closerWords, operandOf, filledWords, nodeWritten, operandWritten, Room};
+ghost use Rattle.write.specs.Spelling.{bracketWords, closerAt, closerWords, operandOf, filledWords, nodeWritten, operandWritten};
+ghost use Rattle.write.specs.Spelling.{Room};
 
 // Puts a token's five words into the list from `to` on, and moves `to` behind them.
 fn put(list: &mut [u32], to: &mut usize, token: TokenWords)
