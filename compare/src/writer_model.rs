@@ -1,6 +1,6 @@
-//! Plain, writing and taking away, from document 01's 'Writing a plain tree', lines 12 to 15 of its
-//! table and card 2. Nothing here follows the library: trees are an arena of nodes, each with its parent, and
-//! answer 12 asks of a prefix of the words whether any tree goes on from it.
+//! Plain, writing and taking away, from document 01's 'Writing a plain tree', lines 12 to 15 of its table, and cards 2
+//! and 3. Nothing here follows the library: trees are an arena of nodes, each with its parent, answer 12 asks of a prefix
+//! of the words whether any tree goes on from it, and the extent of an operand is looked for anew at each added pair.
 
 use oracle::words::{NODE_WORDS, TOKEN_WORDS, Token, TreeNode, decode_tree, kind, list_words, low};
 
@@ -99,6 +99,18 @@ impl Tree {
         )
     }
 
+    /// The lowest start and the highest end among the spans of a node and all below it.
+    pub fn extent(&self, node: usize) -> (u32, u32) {
+        let mut below = vec![node];
+        let (mut low, mut high) = (u32::MAX, 0);
+        while let Some(next) = below.pop() {
+            low = low.min(self.tokens[next].start);
+            high = high.max(self.tokens[next].end);
+            below.extend(&self.children[next]);
+        }
+        (low, high)
+    }
+
     /// The number of the first node that is not plain.
     pub fn unplain(&self) -> Option<usize> {
         (0..self.tokens.len()).find(|&node| !self.is_plain(node))
@@ -122,9 +134,10 @@ impl Tree {
                 Step::Node(node) => node,
             };
             let own = self.tokens[node];
+            let pair = self.is_paired(node).then(|| self.extent(node));
             let mut row = Vec::new();
-            if self.is_paired(node) {
-                row.push(Step::Put(bracket(4, own)));
+            if let Some((start, end)) = pair {
+                row.push(Step::Put(bracket(4, start, end)));
             }
             match *self.children[node] {
                 [left, right] => {
@@ -136,26 +149,15 @@ impl Tree {
                 }
             }
             if self.is_bracket(node) {
-                row.push(Step::Put(self.closer(node)));
+                // The closer of a bracket of the tree starts and ends where the bracket closes.
+                row.push(Step::Put(bracket(5, self.closes[node], self.closes[node])));
             }
-            if self.is_paired(node) {
-                row.push(Step::Put(bracket(5, own)));
+            if let Some((_, end)) = pair {
+                row.push(Step::Put(bracket(5, end, end)));
             }
             steps.extend(row.into_iter().rev());
         }
         list
-    }
-
-    /// The closer of a bracket of the tree: it starts and ends where the bracket closes.
-    fn closer(&self, node: usize) -> Token {
-        let close = self.closes[node];
-        Token {
-            op: 5,
-            variant: 0,
-            value: 0,
-            start: close,
-            end: close,
-        }
     }
 
     /// The nodes of the tree without the brackets that are taken away.
@@ -185,12 +187,13 @@ pub fn is_call(op: u8) -> bool {
     op == 40 || is_math_call(op)
 }
 
-fn bracket(op: u8, node: Token) -> Token {
+fn bracket(op: u8, start: u32, end: u32) -> Token {
     Token {
         op,
         variant: 0,
         value: 0,
-        ..node
+        start,
+        end,
     }
 }
 
