@@ -116,6 +116,13 @@ impl Tree {
         (0..self.tokens.len()).find(|&node| !self.is_plain(node))
     }
 
+    /// How many tokens a plain tree is written as: each node, a closer for each bracket, the added pairs.
+    fn written_count(&self) -> usize {
+        let tokens =
+            |node| 1 + usize::from(self.is_bracket(node)) + 2 * usize::from(self.is_paired(node));
+        (0..self.tokens.len()).map(tokens).sum()
+    }
+
     /// The tokens of a plain tree.
     pub fn written(&self) -> Vec<Token> {
         enum Step {
@@ -246,12 +253,14 @@ pub fn write(words: &[u32], room: usize) -> (Written, Vec<u32>) {
     if let Some(node) = tree.unplain() {
         return refused(13, node);
     }
-    let list = tree.written();
-    if list.len() > MOST_TOKENS {
+    let count = tree.written_count();
+    if count > MOST_TOKENS {
         return refused(14, 0);
     }
-    if room < TOKEN_WORDS * list.len() {
+    if room < TOKEN_WORDS * count {
         return refused(15, 0);
     }
-    (Written::Tokens(list.len()), list_words(&list))
+    let list = tree.written();
+    assert_eq!(list.len(), count, "tokens of {words:x?}");
+    (Written::Tokens(count), list_words(&list))
 }
