@@ -23,6 +23,28 @@ use std::fmt;
 /// let written = Writer::new().write(&tree).unwrap();
 /// assert_eq!(written.to_string(), "(a ? b : c) ? d : e");
 /// ```
+///
+/// Tokens of the tree keep their spans. An added pair covers its operand: the opener's span is from the lowest start to the
+/// highest end of the operand and all below it, and the closer stands at that end. So an editor that shows a written list
+/// finds what was bracketed in the source:
+///
+/// ```
+/// use sorbrudder::{Op, Reader, Tokens, Writer};
+///
+/// let source = "a + b * c";
+/// let list: Tokens = source.parse().unwrap();
+/// let tree = Reader::new().read(&list, 6).unwrap();
+/// let written = Writer::new().write(&tree).unwrap();
+/// assert_eq!(written.to_string(), "a + (b * c)");
+///
+/// let clicked = written[2];
+/// assert_eq!(clicked.op, Op::LEFT_PARENTHESIS);
+/// assert_eq!(clicked.span.of(source), Some("b * c"));
+///
+/// // The closer is its pair's end, with nothing in it.
+/// let closer = written[6].span;
+/// assert_eq!((closer.start(), closer.end()), (9, 9));
+/// ```
 #[derive(Clone, Debug, Default)]
 pub struct Writer {
     list: Vec<u32>,

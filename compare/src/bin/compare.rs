@@ -150,7 +150,7 @@ mod run {
         Ok(done)
     }
 
-    /// Writes `count` trees of any spans by the library and by the second writer, two in three of them plain.
+    /// Writes `count` trees of any spans by the library and by the second writer, most of them plain.
     fn writing(count: u64, seed: u64) -> Result<u64, (u64, String)> {
         let mut progress = Progress::new("trees written");
         let mut rng = Rng::new(seed ^ 0x77EE);
