@@ -24,12 +24,11 @@ use std::fmt;
 /// assert_eq!(written.to_string(), "(a ? b : c) ? d : e");
 /// ```
 ///
-/// Tokens of the tree keep their spans. An added pair covers its operand: the opener's span is from the lowest start to the
-/// highest end of the operand and all below it, and the closer stands at that end. So an editor that shows a written list
-/// finds what was bracketed in the source:
+/// An added bracket has no place of its own in the source. Its opener covers all of its operand, so an editor that is asked
+/// about the bracket shows what it was added round; its closer stands where the operand ends, and is empty:
 ///
 /// ```
-/// use sorbrudder::{Op, Reader, Tokens, Writer};
+/// use sorbrudder::{Reader, Span, Tokens, Writer};
 ///
 /// let source = "a + b * c";
 /// let list: Tokens = source.parse().unwrap();
@@ -37,13 +36,9 @@ use std::fmt;
 /// let written = Writer::new().write(&tree).unwrap();
 /// assert_eq!(written.to_string(), "a + (b * c)");
 ///
-/// let clicked = written[2];
-/// assert_eq!(clicked.op, Op::LEFT_PARENTHESIS);
-/// assert_eq!(clicked.span.of(source), Some("b * c"));
-///
-/// // The closer is its pair's end, with nothing in it.
-/// let closer = written[6].span;
-/// assert_eq!((closer.start(), closer.end()), (9, 9));
+/// let (opener, closer) = (written[2], written[6]);
+/// assert_eq!(opener.span.of(source), Some("b * c"));
+/// assert_eq!(closer.span, Span::new(9, 9).unwrap());
 /// ```
 #[derive(Clone, Debug, Default)]
 pub struct Writer {

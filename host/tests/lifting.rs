@@ -51,6 +51,9 @@ fn a_product_under_a_sum_is_written_in_brackets() {
     let tree = Reader::new().read(&list, 6).expect("a tree");
     let written = Writer::new().write(&tree).expect("a plain tree");
     assert_eq!(written.to_string(), "a + (b * c)");
+    let source = "a + b * c";
+    assert_eq!(written[2].span.of(source), Some("b * c"));
+    assert_eq!((written[6].span.start(), written[6].span.end()), (9, 9));
 }
 
 #[test]
@@ -81,6 +84,7 @@ fn an_added_pair_covers_its_operand() {
 #[test]
 fn what_was_written_is_written_as_it_is() {
     let (mut reader, mut writer) = (Reader::new(), Writer::new());
+    let mut written_lists = 0;
     for text in lists().step_by(7) {
         let list: Tokens = text.parse().expect("the notation");
         let Ok(tree) = reader.read(&list, 4) else {
@@ -93,7 +97,9 @@ fn what_was_written_is_written_as_it_is() {
             let again = reader.read(&written, version).expect("a written list");
             assert_eq!(writer.write(&again).as_ref(), Ok(&written), "{text}");
         }
+        written_lists += 1;
     }
+    assert!(written_lists > 100, "only {written_lists} lists");
 }
 
 #[test]
