@@ -46,6 +46,14 @@ fn a_product_under_a_sum_gets_a_pair_that_covers_the_product() {
 }
 
 #[test]
+fn the_smallest_operand_that_is_wider_than_its_operator() {
+    // ! ! a, of which docs/DIFFERENCES.md speaks.
+    let found = spans(&[node(7, 1, 0), node(7, 1, 1), float(2)]);
+    let list = [(7, 0, 1), (4, 1, 3), (7, 1, 2), (61, 2, 3), (5, 3, 3)];
+    assert_eq!(found, list);
+}
+
+#[test]
 fn a_pair_takes_in_the_pairs_below_it_and_nothing_beside_it() {
     // (!((a + b) * c)) > d, of the list ! a + b * c > d.
     let nodes = [
