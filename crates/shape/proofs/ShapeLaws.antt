@@ -19,7 +19,8 @@ use Rattle.molang.proofs.Trees.{both}
 use Rattle.molang.proofs.Words.{word-faultless, five-faultless, five-back}
 use borrow.Author.Tests.{ltb-true}
 use Rattle.shape.specs.Answers.{isLegal, shape}
-use Rattle.shape.specs.Shaped.{nodeLength, Shaped, noTrees, aNode, mostChildren, OneTree}
+use Rattle.shape.specs.Seen.{Seen, NextNode}
+use Rattle.shape.specs.Shaped.{nodeLength, countIndex, Shaped, noTrees, aNode, mostChildren, OneTree}
 
 -- A word that continues a tree.
 record Continues (field : Field) (v : ℕ) (s : Shape) (w : ℕ) : Type 0 where
@@ -196,13 +197,7 @@ continues-within field v s w b e =
     let x = continues-by field v s w e in
     (omega (arith, x .begun, called-grows field w s), x .called)
 
--- THE LOOP'S INVARIANT: what was seen up to the word i, at which the fault of the words that are left is the fault of all.
-pub record Seen (tree : List ℕ) (field : Field) (variant called begun i : ℕ) : Type 0 where
-  pub within : i ≤ length tree
-  pub enough : begun ≤ called
-  pub few : called ≤ mostNodes
-  pub same : treeFault i field variant (shape called begun) (drop i tree) ≡ treeFault 0 operatorField 0 (shape 1 0) tree
-
+-- The loops' invariant, at the start and after a word.
 pub seen-start : (tree : List ℕ) → Seen tree operatorField 0 1 0 0
 seen-start tree = record { within = omega arith; enough = omega arith; few = omega arith; same = refl }
 
@@ -230,3 +225,44 @@ module _ {tree : List ℕ} {field : Field} {variant called begun i : ℕ} (seen 
 
   pub seen-none : length tree ≤ i → isWhole field (shape called begun) ≡ true → none ≡ treeFault 0 operatorField 0 (shape 1 0) tree
   seen-none h e = fault-none i field variant (shape called begun) tree h e ∙ seen .same
+
+  -- A legal word that leaves no more nodes begun than were called for, and no more called for than fit.
+  seen-legal : (j called' begun' : ℕ) → i < length tree → j ≡ i + 1 → isLegal (wordFault field variant (getD tree i 0)) ≡ true
+      → called' ≡ shapeAfter field (getD tree i 0) (shape called begun) .called
+      → begun' ≡ shapeAfter field (getD tree i 0) (shape called begun) .begun
+      → begun' ≤ called
+      → called' ≤ mostNodes
+      → Seen tree (nextInNode field) (variantAfter field variant (getD tree i 0)) called' begun' j
+  seen-legal j called' begun' h e l ec eb b c =
+      let on = continues-if field variant (shape called begun) (getD tree i 0) l (rw eb at b) in
+      rw e (seen-more h (sym on ∙ le-leb _ _ (rw ec at c)) refl refl ec eb)
+
+-- Where a node begins, the variant of the node before it does not matter.
+any-variant : (i u v : ℕ) (s : Shape) (ws : List ℕ) → treeFault i operatorField u s ws ≡ treeFault i operatorField v s ws
+unfolding treeFault continues wordFault lowFault variantAfter
+any-variant i u v s [] = refl
+any-variant i u v s (w ∷ ws) = refl
+
+-- A node that can stand next leaves the answer to the words after it.
+pub seen-node : {tree : List ℕ} {called begun at called' : ℕ} → Seen tree operatorField 0 called begun at → at + nodeLength ≤ length tree
+    → NextNode tree called begun at
+    → called' ≡ called + lowOf (getD tree (at + countIndex) 0)
+    → Seen tree operatorField 0 called' (begun + 1) (at + nodeLength)
+unfolding wordFault lowFault nextInNode variantAfter shapeAfter
+seen-node {tree = tree} {called = called} {begun = begun} {at = at} {called' = called'} seen h node e =
+    let legal = node .legal in
+    let due : begun + 1 ≤ called = omega (arith, node .due) in
+    let few : called' ≤ mostNodes = omega (arith, node .few) in
+    let a = seen-legal seen (at + 1) called (begun + 1) (omega arith) refl (legal .operator) refl (omega arith) due (seen .few) in
+    let b = seen-legal a (at + 2) called (begun + 1) (omega arith) (omega arith) (legal .start) refl refl due (a .few) in
+    let c = seen-legal b (at + 3) called (begun + 1) (omega arith) (omega arith) (legal .end) refl refl due (a .few) in
+    let d = seen-legal c (at + 4) called (begun + 1) (omega arith) (omega arith) (legal .upper) refl refl due (a .few) in
+    let l = seen-legal d (at + 5) called (begun + 1) (omega arith) (omega arith) (legal .lower) refl refl due (a .few) in
+    let n = seen-legal l (at + 6) called' (begun + 1) (omega arith) (omega arith) (legal .count) e refl due few in
+    let g = seen-legal n (at + 7) called' (begun + 1) (omega arith) (omega arith) (legal .close) refl refl (n .enough) few in
+    record {
+      within = g .within;
+      enough = g .enough;
+      few = g .few;
+      same = any-variant (at + 7) 0 _ (shape called' (begun + 1)) (drop (at + 7) tree) ∙ g .same;
+    }

@@ -1,14 +1,19 @@
-// Answer 12: the words are exactly one tree of at most 12,288 nodes, or the first word that cannot continue one is found. Word
-// by word, with the nodes that the words so far call for and those that have begun. Leans on words (the check of each word).
+// Answer 12: the words are exactly one tree of at most 12,288 nodes, or the first word that cannot continue one is found. Node by
+// node for as long as each node continues the tree, then word by word, which finds the place; with the nodes that the words so far
+// call for and those that have begun. Leans on words (the check of each word).
 use words::checks;
 use words::checks::Word;
 use words::fields;
 ghost use mathlib.Core.Path.{_≡_};
-ghost use Prim.Native.Nat.{ℕ, _≤_};
+ghost use mathlib.Core.Bool.{true};
+ghost use Prim.Native.Nat.{ℕ, _+_, _≤_};
+ghost use lib.ListN.{length};
 ghost use Rattle.molang.specs.Words as words;
 ghost use Rattle.molang.specs.WriteEntry as entry;
 ghost use Rattle.words.specs.Checks.{numberOf};
 ghost use Rattle.shape.specs.Answers.{fieldOf, refusalOf, treeRefusal, isLegal, shape};
+ghost use Rattle.shape.specs.Seen.{Seen, LegalNode, NextNode};
+ghost use Rattle.shape.specs.Shaped.{nodeLength};
 
 // The most nodes of a tree.
 pub const MOST_NODES: u32 = 12_288;
@@ -22,6 +27,13 @@ pub enum Field {
     Lower,
     Count,
     Close,
+}
+
+// The whole nodes before `at`: how many nodes they call for, and how many have begun.
+struct Nodes {
+    called: u32,
+    begun: u32,
+    at: usize,
 }
 
 pub enum Fault {
@@ -135,15 +147,78 @@ fn is_whole(field: Field, called: u32, begun: u32) -> bool
     }
 }
 
-// The loop over the words: the first that cannot continue a tree, or the end where they run out.
-pub fn first_fault(tree: &[u32]) -> Fault
+// Whether the seven words from `at` on are legal, each in its field.
+fn is_node(tree: &[u32], at: usize) -> bool
+    requires { ⌜ at + nodeLength ≤ length (now tree) ⌝ }
+    ensures { λ r. ⌜ (r ≡ true → LegalNode (now (tree .entry)) at) ⌝ }
+{
+    let operator = tree[at];
+    if !is_legal(Field::Operator, 0, operator) {
+        return false;
+    }
+    if !is_legal(Field::Start, 0, tree[at + fields::START_FIELD]) {
+        return false;
+    }
+    if !is_legal(Field::End, 0, tree[at + fields::END_FIELD]) {
+        return false;
+    }
+    let variant = fields::variant(operator);
+    if !is_legal(Field::Upper, variant, tree[at + fields::UPPER_FIELD]) {
+        return false;
+    }
+    if !is_legal(Field::Lower, variant, tree[at + fields::LOWER_FIELD]) {
+        return false;
+    }
+    if !is_legal(Field::Count, 0, tree[at + fields::COUNT_FIELD]) {
+        return false;
+    }
+    is_legal(Field::Close, 0, tree[at + fields::CLOSE_FIELD])
+}
+
+// Whether a whole node stands next: it is called for, its words are legal, and its children are not too many.
+fn node_continues(tree: &[u32], at: usize, called: u32, begun: u32) -> bool
+    requires { ⌜ at + nodeLength ≤ length (now tree) ⌝ }
+    requires { ⌜ called ≤ entry.mostNodes ⌝ }
+    ensures { λ r. ⌜ (r ≡ true → NextNode (now (tree .entry)) called begun at) ⌝ }
+{
+    if called <= begun {
+        return false;
+    }
+    if !is_node(tree, at) {
+        return false;
+    }
+    called + fields::low(tree[at + fields::COUNT_FIELD]) <= MOST_NODES
+}
+
+// The loop over the whole nodes at the front, up to the first that does not continue the tree. A node's words are read in a row,
+// without a test of which word is expected next.
+fn whole_nodes(tree: &[u32]) -> Nodes
+    ensures { λ r. ⌜ Seen (now (tree .entry)) words.operatorField 0 (r .called) (r .begun) (r .at) ⌝ }
+{
+    let mut called = 1u32;
+    let mut begun = 0u32;
+    let mut at = 0usize;
+    while fields::NODE_WORDS <= tree.len() - at {
+        if !node_continues(tree, at, called, begun) {
+            return Nodes { called, begun, at };
+        }
+        called += fields::low(tree[at + fields::COUNT_FIELD]);
+        begun += 1;
+        at += fields::NODE_WORDS;
+    }
+    Nodes { called, begun, at }
+}
+
+// The loop over the words after them: the first that cannot continue a tree, or the end where they run out.
+fn fault_after(tree: &[u32], nodes: Nodes) -> Fault
+    requires { ⌜ Seen (now tree) words.operatorField 0 (nodes .called) (nodes .begun) (nodes .at) ⌝ }
     ensures { λ r. ⌜ refusalOf r ≡ treeRefusal (now (tree .entry)) ⌝ }
 {
     let mut field = Field::Operator;
     let mut variant = 0u32;
-    let mut called = 1u32;
-    let mut begun = 0u32;
-    let mut i = 0usize;
+    let mut called = nodes.called;
+    let mut begun = nodes.begun;
+    let mut i = nodes.at;
     while i < tree.len() {
         let w = tree[i];
         if !continues(field, variant, called, begun, w) {
@@ -159,4 +234,11 @@ pub fn first_fault(tree: &[u32]) -> Fault
         return Fault::Nowhere;
     }
     Fault::At(i)
+}
+
+// The words are one tree, or the first word that cannot continue one.
+pub fn first_fault(tree: &[u32]) -> Fault
+    ensures { λ r. ⌜ refusalOf r ≡ treeRefusal (now (tree .entry)) ⌝ }
+{
+    fault_after(tree, whole_nodes(tree))
 }
