@@ -30,7 +30,7 @@ ghost use lib.ListN.{length};
 // The words of a list, of a tree and of a work buffer for 4,097 tokens, which are one more than the entry reads.
 const LIST_WORDS: usize = 20_485;
 
-const TREE_WORDS: usize = 73_746;
+const TREE_WORDS: usize = 86_037;
 
 const WORK_WORDS: usize = 262_272;
 
@@ -85,19 +85,31 @@ fn next_mark(numbers: &[u32], from: usize, last: u32) -> usize
 fn token_word(field: usize, op: u32, start: u32, end: u32) -> u32 {
     match field {
         0 => fields::operator_word(op),
-        1 => fields::START * fields::KIND + start % fields::KIND,
-        2 => fields::END * fields::KIND + end % fields::KIND,
-        3 => fields::no_upper(),
-        _ => fields::no_lower(),
+        1 => fields::start_word(start),
+        2 => fields::end_word(end),
+        3 => fields::upper_word(0),
+        _ => fields::lower_word(0),
     }
 }
 
-// A word of a node, which is op_c_ss_ee.
-fn node_word(field: usize, node: u32) -> u32 {
-    if field == fields::COUNT_FIELD {
-        return fields::children_word(node / 10_000 % 10);
+// Where a node closes: at the digit in front of its other eight, or at its own end.
+fn close_of(node: u32) -> u32 {
+    if node < 100_000_000 {
+        return node % 100;
     }
-    token_word(field, node / 100_000, node / 100 % 100, node % 100)
+    node / 100_000_000
+}
+
+// A word of a node, which is op_c_ss_ee, or z_ooo_c_ss_ee where it is a section that closes at z.
+fn node_word(field: usize, node: u32) -> u32 {
+    if field == fields::CLOSE_FIELD {
+        return fields::close_word(close_of(node));
+    }
+    let own = node % 100_000_000;
+    if field == fields::COUNT_FIELD {
+        return fields::children_word(own / 10_000 % 10);
+    }
+    token_word(field, own / 100_000, own / 100 % 100, own % 100)
 }
 
 // A word of a message record: the first item is number_ss_ee, and the others are the arguments up to the last that is not 0.
@@ -174,14 +186,22 @@ fn records(items: &[u32]) -> usize {
     1
 }
 
+// Whether the line says this mark and this many.
+fn is_count(mark: u32, n: usize, answer: u32, said: usize) -> bool {
+    mark == answer && n == said
+}
+
+// Whether the line says this refusal.
+fn is_refusal(number: u32, place: usize, answer: u32, items: &[u32]) -> bool {
+    answer == REFUSED && number == at(items, 0) && place == wide(at(items, 1))
+}
+
 // Whether a parse call told what the line says.
 fn is_read(answered: Answer, answer: u32, items: &[u32]) -> bool {
     match answered {
-        Answer::Tree(n) => answer == TREE && n == items.len(),
-        Answer::Messages(n) => answer == MESSAGE && n == records(items),
-        Answer::Refused(number, place) => {
-            answer == REFUSED && number == at(items, 0) && place == wide(at(items, 1))
-        }
+        Answer::Tree(n) => is_count(TREE, n, answer, items.len()),
+        Answer::Messages(n) => is_count(MESSAGE, n, answer, records(items)),
+        Answer::Refused(number, place) => is_refusal(number, place, answer, items),
     }
 }
 
@@ -204,10 +224,42 @@ fn is_left(tree: &[u32], messages: &[u32], work: &[u32], answer: u32, items: &[u
         && holds(work, ZEROS, items, 0, kept)
 }
 
-// Reads a list of n tokens with these buffers, and compares.
+// What a call is answered and what it leaves, each as the line says or not.
+fn compared(told: bool, left: bool) -> Verdict {
+    if !told {
+        return Verdict::Answer;
+    }
+    if !left {
+        return Verdict::Words;
+    }
+    Verdict::Same
+}
+
+// Parses a list whose text is as long as it has tokens, with the operators that it has. Nothing here asks what the entry promises.
+fn parsed(
+    list: &[u32],
+    tree: &mut [u32],
+    messages: &mut [u32],
+    work: &mut [u32],
+    version: i16,
+) -> Answer {
+    let n = list.len() / fields::TOKEN_WORDS;
+    let used = used_of(list);
+    parse(
+        list,
+        tree,
+        messages,
+        work,
+        n as u64,
+        version,
+        used.low,
+        used.high,
+    )
+}
+
+// Reads a list with these buffers, and compares.
 fn read_with(
     list: &[u32],
-    n: usize,
     version: i16,
     tree: &mut [u32],
     work: &mut [u32],
@@ -215,24 +267,10 @@ fn read_with(
     items: &[u32],
 ) -> Verdict {
     let mut messages = [0u32; 16];
-    let used = used_of(list);
-    let answered = parse(
-        list,
-        tree,
-        &mut messages,
-        work,
-        n as u64,
-        version,
-        used.low,
-        used.high,
-    );
-    if !is_read(answered, answer, items) {
-        return Verdict::Answer;
-    }
-    if is_left(tree, &messages, work, answer, items) {
-        return Verdict::Same;
-    }
-    Verdict::Words
+    let answered = parsed(list, tree, &mut messages, work, version);
+    let told = is_read(answered, answer, items);
+    let left = is_left(tree, &messages, work, answer, items);
+    compared(told, left)
 }
 
 // Reads a list at a version with buffers as long as the entry asks: work of ones, and the others of zeros.
@@ -243,11 +281,10 @@ fn read(list: &[u32], version: i16, answer: u32, items: &[u32]) -> Verdict {
         return Verdict::Words;
     }
     let n = list.len() / fields::TOKEN_WORDS;
-    let nodes = 18 * n;
+    let nodes = 21 * n;
     let slots = 64 * n + 64;
     read_with(
         list,
-        n,
         version,
         &mut tree[..nodes],
         &mut work[..slots],
@@ -272,27 +309,26 @@ fn read_at(list: &[u32], first: u32, end: u32, answer: u32, items: &[u32]) -> Ve
 // Whether a write call told what the line says.
 fn is_written(written: Written, answer: u32, items: &[u32]) -> bool {
     match written {
-        Written::Tokens(n) => answer == LIST && n == items.len(),
-        Written::Refused(number, place) => {
-            answer == REFUSED && number == at(items, 0) && place == wide(at(items, 1))
-        }
+        Written::Tokens(n) => is_count(LIST, n, answer, items.len()),
+        Written::Refused(number, place) => is_refusal(number, place, answer, items),
     }
+}
+
+// Whether it left what the line says, the list having been of zeros.
+fn is_listed(list: &[u32], answer: u32, items: &[u32]) -> bool {
+    let mut tokens = 0usize;
+    if answer == LIST {
+        tokens = fields::TOKEN_WORDS * items.len();
+    }
+    holds(list, LIST, items, tokens, 0)
 }
 
 // Writes a tree into a list of zeros, and compares.
 fn write_with(tree: &[u32], list: &mut [u32], answer: u32, items: &[u32]) -> Verdict {
     let written = write(tree, list);
-    if !is_written(written, answer, items) {
-        return Verdict::Answer;
-    }
-    let mut tokens = 0usize;
-    if answer == LIST {
-        tokens = fields::TOKEN_WORDS * items.len();
-    }
-    if holds(list, LIST, items, tokens, 0) {
-        return Verdict::Same;
-    }
-    Verdict::Words
+    let told = is_written(written, answer, items);
+    let left = is_listed(list, answer, items);
+    compared(told, left)
 }
 
 // Writes the tree of these nodes into a list with room for three tokens a node, and compares. A longer one is none of the table's.
@@ -330,24 +366,43 @@ fn list_words(mark: u32, items: &[u32]) -> usize
     fields::TOKEN_WORDS * n
 }
 
+// The first version that a mark asks for, by its sixteen bits where it names one.
+fn first_version(mark: u32) -> u32
+    ensures { λ r. ⌜ r ≤ 3194967295 ⌝ }
+{
+    if AT <= mark {
+        return mark - AT;
+    }
+    if mark == ANY {
+        return 4;
+    }
+    6
+}
+
+// The one after the last.
+fn end_version(mark: u32) -> u32 {
+    if mark == ANY {
+        return 7;
+    }
+    first_version(mark) + 1
+}
+
 // Makes the calls of a line, which are those of molang's specs/Lines, and compares.
 fn ask(mark: u32, asked: &[u32], answer: u32, items: &[u32]) -> Verdict {
     if mark == WRITE {
         return write_nodes(asked, answer, items);
     }
     let mut list = [0u32; LIST_WORDS];
-    let mut first = 6u32;
-    let mut end = 7u32;
-    if mark == ANY {
-        first = 4;
-    }
-    if AT <= mark {
-        first = mark - AT;
-        end = first + 1;
-    }
     lay(&mut list, mark, asked);
     let words = list_words(mark, asked);
+    let first = first_version(mark);
+    let end = end_version(mark);
     read_at(&list[..words], first, end, answer, items)
+}
+
+// Writes a text.
+fn say(text: &[u8]) {
+    io::write_all(STDOUT_FILENO, text);
 }
 
 // Writes whether a line is answered as it says; how much it counts to those that are not.
@@ -356,15 +411,15 @@ fn say_verdict(verdict: Verdict) -> u64
 {
     match verdict {
         Verdict::Same => {
-            io::write_all(STDOUT_FILENO, b": ok\n");
+            say(b": ok\n");
             0
         }
         Verdict::Answer => {
-            io::write_all(STDOUT_FILENO, b": another answer\n");
+            say(b": another answer\n");
             1
         }
         Verdict::Words => {
-            io::write_all(STDOUT_FILENO, b": other words\n");
+            say(b": other words\n");
             1
         }
     }
@@ -388,7 +443,7 @@ fn say_line(text: &[u8], from: usize) -> usize
     let mut end = from;
     while end < text.len() {
         if text[end] == b'\n' {
-            io::write_all(STDOUT_FILENO, &text[from..end]);
+            say(&text[from..end]);
             return end + 1;
         }
         end += 1;
@@ -398,9 +453,9 @@ fn say_line(text: &[u8], from: usize) -> usize
 
 fn say_totals(count: u64, others: u64) {
     io::print_decimal(STDOUT_FILENO, count);
-    io::write_all(STDOUT_FILENO, b" lines, ");
+    say(b" lines, ");
     io::print_decimal(STDOUT_FILENO, others);
-    io::write_all(STDOUT_FILENO, b" differ\n");
+    say(b" differ\n");
 }
 
 // Runs every line of the table; each has a line of text.

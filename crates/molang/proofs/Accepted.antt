@@ -21,7 +21,7 @@ pub record Accepted (c : Call) : Type 0 where
   pub few : length (tokensOf (c .list)) ≤ mostTokens
   pub whole : length (c .list) % 5 ≡ 0
   pub tokens : length (c .list) / 5 ≤ mostTokens
-  pub tree : 18 * (length (c .list) / 5) ≤ length (c .tree)
+  pub tree : 21 * (length (c .list) / 5) ≤ length (c .tree)
   pub messages : 16 ≤ length (c .messages)
   pub work : 64 * (length (c .list) / 5) + 64 ≤ length (c .work)
   pub used : c .usedHigh * 2 ^ 64 + c .usedLow < 2 ^ 111
@@ -34,7 +34,7 @@ call-accepted c h =
     let n = length (c .list) / 5 in
     let one = passed (eqb (length (c .list) % 5) 0) (row 1 0) _ h in
     let two = passed (leb n mostTokens) (row 2 0) _ (one .1) in
-    let three = passed (leb (18 * n) (length (c .tree))) (row 3 0) _ (two .1) in
+    let three = passed (leb (21 * n) (length (c .tree))) (row 3 0) _ (two .1) in
     let four = passed (leb 16 (length (c .messages))) (row 4 0) _ (three .1) in
     let five = passed (leb (64 * n + 64) (length (c .work))) (row 5 0) _ (four .1) in
     let six = passed (ltb (c .usedHigh * 2 ^ 64 + c .usedLow) (2 ^ 111)) (row 6 0) _ (five .1) in
@@ -63,7 +63,7 @@ pub record Acceptable (d : Call) (ks : List Token) : Type 0 where
   pub list : d .list ≡ listWords ks
   pub legal : LegalTokens ks
   pub few : length ks ≤ mostTokens
-  pub tree : 18 * length ks ≤ length (d .tree)
+  pub tree : 21 * length ks ≤ length (d .tree)
   pub messages : 16 ≤ length (d .messages)
   pub work : 64 * length ks + 64 ≤ length (d .work)
   pub used : d .usedHigh * 2 ^ 64 + d .usedLow < 2 ^ 111
@@ -76,7 +76,7 @@ call-acceptable d ks a =
     let words : wordsRefusal 0 operatorField 0 (d .list) ≡ none = rw (a .list) (list-unrefused (a .legal) 0 0) in
     let whole : length (d .list) % 5 ≡ 0 = omega arith in
     let fits : length (d .list) / 5 ≤ mostTokens = omega arith in
-    let treeRoom : 18 * (length (d .list) / 5) ≤ length (d .tree) = omega arith in
+    let treeRoom : 21 * (length (d .list) / 5) ≤ length (d .tree) = omega arith in
     let workRoom : 64 * (length (d .list) / 5) + 64 ≤ length (d .work) = omega arith in
     passes _ (row 1 0) _ (eq-eqb _ _ whole)
     (passes _ (row 2 0) _ (le-leb _ _ fits)

@@ -19,7 +19,7 @@ use Rattle.molang.specs.Message.{messageRecord}
 use Rattle.molang.specs.Order.{rules, Pass, lastToken, memberAccessors, sectioning, comparisons, logic, conditionals, order, runs}
 use Rattle.molang.specs.Order.{lastOf, endsWithSemicolon, apply}
 use Rattle.molang.specs.Read.{Answer, tree, messages, rooted, endsReading, grouped, read}
-use Rattle.molang.specs.Words.{tokenWords, treeWords}
+use Rattle.molang.specs.Words.{tokenWords, nodeWordsOf, treeWords}
 use Rattle.molang.specs.Parse.{recordWords}
 use Rattle.molang.specs.Free.{flat}
 use Rattle.molang.specs.Weight.{weight, nodesOf, nodes-some, nodeWeight}
@@ -195,8 +195,8 @@ unfolding recordWords
 records-length [] = refl
 records-length (m ∷ ms) = omega (arith, length-append (messageRecord m) (recordWords ms), record-length m, records-length ms)
 
--- The trees' words, six to a node.
-pub treeWords-length : (f : Forest) → length (treeWords f) ≡ 6 * size f
-unfolding treeWords tokenWords size
+-- The trees' words, seven to a node.
+pub treeWords-length : (f : Forest) → length (treeWords f) ≡ 7 * size f
+unfolding treeWords nodeWordsOf tokenWords size
 treeWords-length nil = refl
 treeWords-length (node k cs rest) = omega (arith, length-append (treeWords cs) (treeWords rest), treeWords-length cs, treeWords-length rest)

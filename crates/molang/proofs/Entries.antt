@@ -12,25 +12,25 @@ use Rattle.molang.specs.Words.{tokensOf, listWords, treeWords}
 use Rattle.molang.specs.Parse.{Call, inHalves, reading, aTree, answered, treeAfter}
 use Rattle.molang.specs.Write.{written, takenAway}
 use Rattle.molang.specs.WriteEntry.{WriteCall, writeRefusal, tokens, writeAnswered, listAfter}
-use Rattle.molang.proofs.Words.{LegalTokens, tokens-back}
+use Rattle.molang.proofs.Words.{LegalTokens, AtEnds, tokens-back}
 use Rattle.molang.proofs.ListWords.{uses-legal}
 use Rattle.molang.proofs.UsedSet.{used-few}
 use Rattle.molang.proofs.Accepted.{Acceptable, call-acceptable}
-use Rattle.molang.proofs.HandedTree.{Parsed, tree-front, tree-told, tree-written-legal, write-done}
+use Rattle.molang.proofs.HandedTree.{Parsed, tree-front, tree-told, tree-written-legal, tree-written-ends, write-done}
 use Rattle.molang.proofs.RoundTrip.{round-trip}
 
 -- THE THREE CALLS, the first of which reads the tree k over cs; nobody else writes the tree buffer or the list in between.
 pub record ThreeCalls (first : Call) (write : WriteCall) (second : Call) (k : Token) (cs : Forest) : Type 0 where
   -- The first call is not turned back and ends with the tree.
   pub parsed : Parsed first k cs
-  -- The writer gets the words that the first call put into the tree buffer, six to a node, and is not turned back.
-  pub treeHanded : write .tree ≡ take (6 * size (node k cs nil)) (treeAfter first)
+  -- The writer gets the words that the first call put into the tree buffer, seven to a node, and is not turned back.
+  pub treeHanded : write .tree ≡ take (7 * size (node k cs nil)) (treeAfter first)
   pub writes : writeRefusal write ≡ none
   -- The second call gets exactly the words written, five to a token; its used set has each operator of those tokens and no other.
   pub listHanded : second .list ≡ take (5 * length (written k cs [])) (listAfter write)
   pub usedExactly : (m : ℕ) → inHalves (second .usedLow) (second .usedHigh) m ≡ uses (written k cs []) m
   -- Its buffers are long enough by the table and its source length is legal. Its version is any.
-  pub treeRoom : 18 * length (written k cs []) ≤ length (second .tree)
+  pub treeRoom : 21 * length (written k cs []) ≤ length (second .tree)
   pub messageRoom : 16 ≤ length (second .messages)
   pub workRoom : 64 * length (written k cs []) + 64 ≤ length (second .work)
   pub legalLength : second .sourceLength ≤ 536870911
@@ -46,17 +46,17 @@ pub record SameTrees (first : Call) (write : WriteCall) (second : Call) (k : Tok
   pub children : Forest
   pub parsed : Parsed second root children
   pub answers : answered second ≡ aTree (size (node root children nil))
-  pub front : take (6 * size (node root children nil)) (treeAfter second) ≡ treeWords (node root children nil)
+  pub front : take (7 * size (node root children nil)) (treeAfter second) ≡ treeWords (node root children nil)
   -- The two trees, with brackets taken away, have the same words in the same order.
   pub words : treeWords (takenAway false (node root children nil) nil) ≡ treeWords (takenAway false (node k cs nil) nil)
 
 -- A call whose list is the words of legal tokens, and whose used set is exactly theirs, reads those tokens.
-reads-list : (d : Call) (ks : List Token) → d .list ≡ listWords ks → LegalTokens ks
+reads-list : (d : Call) (ks : List Token) → d .list ≡ listWords ks → LegalTokens ks → AtEnds ks
     → ((m : ℕ) → inHalves (d .usedLow) (d .usedHigh) m ≡ uses ks m)
     → reading d ≡ read ks (uses ks) (d .version) (d .sourceLength)
 unfolding reading
-reads-list d ks list legal used =
-    let same : inHalves (d .usedLow) (d .usedHigh) ≡ uses ks = λ i m. used m i in rw (list, tokens-back ks legal, same) refl
+reads-list d ks list legal ends used =
+    let same : inHalves (d .usedLow) (d .usedHigh) ≡ uses ks = λ i m. used m i in rw (list, tokens-back ks legal ends, same) refl
 
 -- DEMAND 3 OVER THE ENTRIES.
 pub three-calls : (first : Call) (write : WriteCall) (second : Call) (k : Token) (cs : Forest) → ThreeCalls first write second k cs
@@ -82,7 +82,7 @@ three-calls first write second k cs t =
     in
     let again = round-trip k cs (wrote .plain) (second .version) (second .sourceLength) in
     let parsed : Parsed second (again .root) (again .children) =
-    record { accepted = call-acceptable second ks acceptable; reads = reads-list second ks listGot legal (t .usedExactly) ∙ again .reads }
+    record { accepted = call-acceptable second ks acceptable; reads = reads-list second ks listGot legal (tree-written-ends p (wrote .plain)) (t .usedExactly) ∙ again .reads }
     in
     record {
       treeGot = treeGot;

@@ -1,15 +1,16 @@
 -- What holds of every token of a list holds of every token of what a pass makes of it, if it holds of the new tokens too: those that get
 -- another operator, and those that get another's span. So the tree of a legal list is legal (Legal).
 use Prim.Native.Nat.{ℕ, _+_}
-use mathlib.Core.Path.{_≡_}
-use mathlib.Core.Bool.{Bool, true, false}
+use mathlib.Core.Path.{_≡_, refl}
+use mathlib.Core.Bool.{Bool, true, false, false≢true}
 use mathlib.Core.List.{List, [], _∷_, _++_}
 use mathlib.Core.Option.{Option, none, some}
 use lib.Dec.{eqb}
 use lib.IntN.{ℤ}
+use borrow.Author.Tests.{eqb-true}
 use Rattle.molang.specs.Operator
 use Rattle.molang.specs.Operator.{isOneOf, isBracket, hasMembers, closingOf, isCloser, beforeMinus}
-use Rattle.molang.specs.Forest.{Token, Forest, nil, node, renamed, bare, leaves, turnedOnto, inOrder}
+use Rattle.molang.specs.Forest.{Token, Forest, nil, node, renamed, bare, closedBy, leaves, turnedOnto, inOrder}
 use Rattle.molang.specs.Message.{Message, Result, ok, fail, closer}
 use Rattle.molang.specs.Level.{Step, stop, on, into, Level, walk, through, Gathered, gathered, waiting, nothing}
 use Rattle.molang.specs.Sections.{withMember, members, Open, outside, section, placed, position, Walked, mismatch, closing, bracket}
@@ -28,9 +29,9 @@ use Rattle.molang.specs.Order.{rules, Pass, lastToken, memberAccessors, 
 use Rattle.molang.specs.Order.{unaryMinusAndNot, addition, conditional, returns, binary, order, runs, lastOf, endsWithSemicolon}
 use Rattle.molang.specs.Order.{apply}
 use Rattle.molang.specs.Read.{Answer, tree, messages, rooted, endsReading, grouped, read}
-use Rattle.molang.proofs.Trees.{either, maybe}
+use Rattle.molang.proofs.Trees.{decided, either, maybe}
 use Rattle.molang.proofs.Walks.{back, onward, walk-onward}
-use Rattle.molang.proofs.Unary.{beforeCases, inNode, atNode}
+use Rattle.molang.proofs.Unary.{beforeCases, before-is-minus, inNode, atNode}
 use Rattle.molang.proofs.Conditional.{scanned, scan-once}
 use Rattle.molang.proofs.Sections.{afterMember, afterBracket}
 
@@ -39,12 +40,13 @@ pub data Every (Q : Token → Type 0) : Forest → Type 0 where
   nowhere : Every Q nil
   at : {k : Token} {cs rest : Forest} → Q k → Every Q cs → Every Q rest → Every Q (node k cs rest)
 
--- The new tokens.
+-- The new tokens: of a minus, of an array's name, of a statement's first token, and the section of an opener and its closer.
 pub record Renewable (Q : Token → Type 0) : Type 0 where
-  pub plus : (k : Token) → Q k → Q (renamed Operator.add k)
-  pub array : (k : Token) → Q k → Q (renamed Operator.array k)
+  pub plus : (k : Token) → k .op ≡ Operator.negate → Q k → Q (renamed Operator.add k)
+  pub array : (k : Token) → k .op ≡ Operator.arrayVariable → Q k → Q (renamed Operator.array k)
   pub statement : (k : Token) → Q k → Q (bare Operator.semicolon k)
   pub minus : (k : Token) → Q k → Q (bare Operator.negate k)
+  pub section : (k o : Token) → closer o ≡ k .op → isCloser (k .op) ≡ true → Q k → Q o → Q (closedBy k o)
 
 -- Messages, or a list of which every token is Q.
 pub data Gives (Q : Token → Type 0) : Result → Type 0 where
@@ -253,7 +255,7 @@ module _ (Q : Token → Type 0) where
     -- Arrays.
     abbrev IndexingHolds : Indexing → Type 0
     IndexingHolds (unindexed d) = Every Q d
-    IndexingHolds (named d q) = Every Q d × Q q
+    IndexingHolds (named d q) = Every Q d × Q q × (q .op ≡ Operator.arrayVariable)
     IndexingHolds (indexed d q contents) = Every Q d × Q q × Every Q contents
 
     abbrev ArrayCarried : Token → Step Indexing → Type 0
@@ -289,22 +291,24 @@ module _ (Q : Token → Type 0) where
         array-appends d p (node l (node x xs y) contents) (unindexed nil) k hd hp hc nowhere
     next-carried d p (node l nil contents) cs k hd hp (at hl hls hc) =
         let plain = array-appends d p (node l nil contents) (unindexed nil) k hd hp (at hl hls hc) nowhere in
-        either (ArrayCarried k) (eqb (l .op) Operator.arrayVariable) _ _
-        (either (ArrayCarried k) (startsWithIndex cs) _ _ (array-appends d p contents (named nil l) k hd hp hc (nowhere, hl)) plain) plain
+        decided (ArrayCarried k) (eqb (l .op) Operator.arrayVariable) _ _
+        (λ e. either (ArrayCarried k) (startsWithIndex cs) _ _
+        (array-appends d p contents (named nil l) k hd hp hc (nowhere, hl, eqb-true (l .op) Operator.arrayVariable e)) plain) (λ e. plain)
 
     index-carried : (s : Indexing) (cs : Forest) (k : Token) → IndexingHolds s → Q k → ArrayCarried k (index s cs)
     unfolding index
     index-carried (unindexed d) cs k h q = array-node d k h q
     index-carried (named d p) cs k h q =
-        array-appends d (renamed Operator.array p) nil (unindexed nil) k (h .0) (N .array p (h .1)) nowhere nowhere
+        array-appends d (renamed Operator.array p) nil (unindexed nil) k (h .0) (N .array p (h .2) (h .1)) nowhere nowhere
     index-carried (indexed d p contents) cs k h q = next-carried d p contents cs k (h .0) (h .1) (h .2)
 
     array-steps : (s : Indexing) (k : Token) (cs : Forest) → IndexingHolds s → Q k → Every Q cs → ArrayCarried k (arrayStep s k cs)
     unfolding arrayStep
     array-steps s k nil h q c =
         either (ArrayCarried k) (isIndex k) _ _ (empty-carried s k h q)
-        (either (ArrayCarried k) (eqb (k .op) Operator.arrayVariable) _ _ (going {t = named (flushed s) k} (every-flushed s h, q))
-        (going {t = unindexed (node k nil (flushed s))} (at q c (every-flushed s h))))
+        (decided (ArrayCarried k) (eqb (k .op) Operator.arrayVariable) _ _
+        (λ e. going {t = named (flushed s) k} (every-flushed s h, q, eqb-true (k .op) Operator.arrayVariable e))
+        (λ e. going {t = unindexed (node k nil (flushed s))} (at q c (every-flushed s h))))
     array-steps s k (node x xs y) h q c =
         either (ArrayCarried k) (isIndex k) _ _ (index-carried s (node x xs y) k h q) (array-node (flushed s) k (every-flushed s h) q)
 
@@ -378,57 +382,66 @@ module _ (Q : Token → Type 0) where
     unfolding statementLevel
     statement-carries = record { Holds = SplitHolds; begins = every-split; steps = statement-steps; ends = statement-ends }
 
-    -- The unary pass.
-    data UnaryGives : Unary → Type 0 where
-      none-given : {m : List Message} → UnaryGives (undone m)
-      given : {pair : Bool} {r : Forest} → Every Q r → UnaryGives (done pair r)
+    -- The unary pass. What made a pair with the token before it has a minus there.
+    abbrev IsMinus : Option Token → Type 0
+    IsMinus none = ⊥
+    IsMinus (some p) = p .op ≡ Operator.negate
 
-    minus-gives : (p : Option Token) (k : Token) (r : Forest) → Q k → Every Q r → UnaryGives (minusAfter p k r)
+    data UnaryGives (p : Option Token) : Unary → Type 0 where
+      none-given : {m : List Message} → UnaryGives p (undone m)
+      given : {pair : Bool} {r : Forest} → (pair ≡ true → IsMinus p) → Every Q r → UnaryGives p (done pair r)
+
+    no-pair : {A : Type 0} → false ≡ true → A
+    no-pair e = absurd (false≢true e)
+
+    minus-gives : (p : Option Token) (k : Token) (r : Forest) → k .op ≡ Operator.negate → Q k → Every Q r → UnaryGives p (minusAfter p k r)
     unfolding minusAfter
-    minus-gives p k nil q h = none-given
-    minus-gives none k (node n ns r) q (at hn hns hr) = given (at q (at hn hns nowhere) hr)
-    minus-gives (some p) k (node n ns r) q (at hn hns hr) =
+    minus-gives p k nil m q h = none-given
+    minus-gives none k (node n ns r) m q (at hn hns hr) = given no-pair (at q (at hn hns nowhere) hr)
+    minus-gives (some p) k (node n ns r) m q (at hn hns hr) =
         let taken = at q (at hn hns nowhere) hr in
-        beforeCases UnaryGives (beforeMinus (p .op)) _ _ _ _ (λ e. given taken)
-        (λ e. given (at (N .plus k q) nowhere (at (N .minus k q) (at hn hns nowhere) hr))) (λ e. given (at hn hns hr)) (λ e. none-given)
+        beforeCases (UnaryGives (some p)) (beforeMinus (p .op)) _ _ _ _ (λ e. given no-pair taken)
+        (λ e. given no-pair (at (N .plus k m q) nowhere (at (N .minus k q) (at hn hns nowhere) hr)))
+        (λ e. given (λ t. eqb-true (p .op) Operator.negate (before-is-minus (p .op) e)) (at hn hns hr)) (λ e. none-given)
 
-    not-gives : (k : Token) (r : Forest) → Q k → Every Q r → UnaryGives (notBefore k r)
+    not-gives : (p : Option Token) (k : Token) (r : Forest) → Q k → Every Q r → UnaryGives p (notBefore k r)
     unfolding notBefore
-    not-gives k nil q h = none-given
-    not-gives k (node n ns r) q (at hn hns hr) = given (at q (at hn hns nowhere) hr)
+    not-gives p k nil q h = none-given
+    not-gives p k (node n ns r) q (at hn hns hr) = given no-pair (at q (at hn hns nowhere) hr)
 
-    every-turnedInto : (pair : Bool) (k : Token) → Q k → Q (turned pair k)
+    every-turnedInto : (pair : Bool) (k : Token) → (pair ≡ true → k .op ≡ Operator.negate) → Q k → Q (turned pair k)
     unfolding turned
-    every-turnedInto true k q = N .plus k q
-    every-turnedInto false k q = q
+    every-turnedInto true k m q = N .plus k (m refl) q
+    every-turnedInto false k m q = q
 
-    node-gives : (p : Option Token) (k : Token) (cs kids r : Forest) → Q k → Every Q kids → Every Q r → UnaryGives (unaryNode p k cs kids r)
+    node-gives : (p : Option Token) (k : Token) (cs kids r : Forest) → Q k → Every Q kids → Every Q r
+        → UnaryGives p (unaryNode p k cs kids r)
     unfolding unaryNode unaryLeaf
     node-gives p k nil kids r q e h =
-        either UnaryGives (eqb (k .op) Operator.negate) _ _ (minus-gives p k r q h)
-        (either UnaryGives (eqb (k .op) Operator.logicalNot) _ _ (not-gives k r q h) (given (at q nowhere h)))
-    node-gives p k (node x xs y) kids r q e h = given (at q e h)
+        decided (UnaryGives p) (eqb (k .op) Operator.negate) _ _ (λ m. minus-gives p k r (eqb-true (k .op) Operator.negate m) q h)
+        (λ m. either (UnaryGives p) (eqb (k .op) Operator.logicalNot) _ _ (not-gives p k r q h) (given no-pair (at q nowhere h)))
+    node-gives p k (node x xs y) kids r q e h = given no-pair (at q e h)
 
-    atNode-gives : (p : Option Token) (k : Token) (cs : Forest) {x y : Unary} → Q k → UnaryGives x → UnaryGives y
-        → UnaryGives (atNode p k cs x y)
+    atNode-gives : (p : Option Token) (k : Token) (cs : Forest) {x y : Unary} → Q k → UnaryGives (some k) x → UnaryGives none y
+        → UnaryGives p (atNode p k cs x y)
     unfolding atNode inNode
     atNode-gives p k cs q none-given y = none-given
-    atNode-gives p k cs q (given h) none-given = none-given
-    atNode-gives p k cs q (given {pair = pair} {r = r} h) (given {r = kids} e) =
-        node-gives p (turned pair k) cs kids r (every-turnedInto pair k q) e h
+    atNode-gives p k cs q (given m h) none-given = none-given
+    atNode-gives p k cs q (given {pair = pair} {r = r} m h) (given {r = kids} n e) =
+        node-gives p (turned pair k) cs kids r (every-turnedInto pair k m q) e h
 
-    unary-gives : (p : Option Token) (f : Forest) → Every Q f → UnaryGives (unary p f)
+    unary-gives : (p : Option Token) (f : Forest) → Every Q f → UnaryGives p (unary p f)
     unfolding unary atNode inNode
-    unary-gives p nil nowhere = given nowhere
+    unary-gives p nil nowhere = given no-pair nowhere
     unary-gives p (node k cs rest) (at q below later) = atNode-gives p k cs q (unary-gives (some k) rest later) (unary-gives none cs below)
 
     unaryPass-gives : (f : Forest) → Every Q f → Gives Q (unaryPass f)
     unfolding unaryPass
     unaryPass-gives f h = pass (unary-gives none f h)
       where
-        pass : {x : Unary} → UnaryGives x → Gives Q (elim x [ undone m ↦ fail m | done pair r ↦ ok r ])
+        pass : {x : Unary} → UnaryGives none x → Gives Q (elim x [ undone m ↦ fail m | done pair r ↦ ok r ])
         pass none-given = nothing-given
-        pass (given e) = gives e
+        pass (given m e) = gives e
 
     -- Members and sections.
     data MemberGives : Option Forest → Type 0 where
@@ -469,18 +482,22 @@ module _ (Q : Token → Type 0) where
       differing : {m : List Message} → WalkedGives (mismatch m)
       on-with : {s : Open} → OpenHolds s → WalkedGives (Walked.going s)
 
-    closing-gives : (k : Token) (cs : Forest) (i : ℕ) (s : Open) → Q k → Every Q cs → OpenHolds s → WalkedGives (closing k cs i s)
+    closing-gives : (k : Token) (cs : Forest) (i : ℕ) (s : Open) → isCloser (k .op) ≡ true → Q k → Every Q cs → OpenHolds s
+        → WalkedGives (closing k cs i s)
     unfolding closing
-    closing-gives k cs i (outside d) q c h = on-with {s = outside (node k cs d)} (at q c h)
-    closing-gives k cs i (section o j d s) q c h =
-        either WalkedGives (eqb (closer o) (k .op)) _ _
-        (on-with {s = placed o (inOrder d) s} (every-placed o (inOrder d) s (h .0) (every-inOrder (h .1)) (h .2))) differing
+    closing-gives k cs i (outside d) m q c h = on-with {s = outside (node k cs d)} (at q c h)
+    closing-gives k cs i (section o j d s) m q c h =
+        decided WalkedGives (eqb (closer o) (k .op)) _ _
+        (λ e. on-with {s = placed (closedBy k o) (inOrder d) s}
+        (every-placed (closedBy k o) (inOrder d) s (N .section k o (eqb-true (closer o) (k .op) e) m q (h .0)) (every-inOrder (h .1)) (h .2)))
+        (λ e. differing)
 
     bracket-gives : (k : Token) (cs : Forest) (i : ℕ) (s : Open) → Q k → Every Q cs → OpenHolds s → WalkedGives (bracket k cs i s)
     unfolding bracket
     bracket-gives k cs i s q c h =
         maybe WalkedGives (closingOf (k .op)) _ _ (λ o. on-with {s = section k (i + 1) nil s} (q, nowhere, h))
-        (either WalkedGives (isCloser (k .op)) _ _ (closing-gives k cs i s q c h) (on-with {s = placed k cs s} (every-placed k cs s q c h)))
+        (decided WalkedGives (isCloser (k .op)) _ _ (λ m. closing-gives k cs i s m q c h)
+        (λ m. on-with {s = placed k cs s} (every-placed k cs s q c h)))
 
     closed-gives : (s : Open) → OpenHolds s → Gives Q (closed s)
     unfolding closed

@@ -22,10 +22,11 @@ use Rattle.molang.specs.WriteEntry.{treeFault, treesOf, WriteCall, fores
 use Rattle.molang.specs.WriteEntry.{writeTold, writeAnswered, listIn, listAfter}
 use Rattle.molang.proofs.FirstFailure.{first-none, passed, withNumber-none, after-none}
 use Rattle.molang.proofs.Bounds.{treeWords-length}
-use Rattle.molang.proofs.Words.{LegalTokens, noTokens, LegalTrees, legalTree}
+use Rattle.molang.proofs.Words.{LegalTokens, noTokens, LegalTrees, legalTree, AtEnds, tokens-end}
 use Rattle.molang.proofs.Legal.{read-legal, read-back, read-unfaulted}
 use Rattle.molang.proofs.ListWords.{listWords-length, written-legal}
 use Rattle.molang.proofs.Accepted.{call-accepted}
+use Rattle.molang.proofs.Closes.{read-closes, plain-ends}
 
 -- A parse call that is not turned back and reads the tree k over cs.
 pub record Parsed (c : Call) (k : Token) (cs : Forest) : Type 0 where
@@ -48,12 +49,12 @@ root-legal : (k : Token) (cs : Forest) → LegalTrees (node k cs nil) → LegalT
 root-legal k cs (legalTree h n below after) = written-legal k cs h below [] noTokens
 
 module _ {c : Call} {k : Token} {cs : Forest} (p : Parsed c k cs) where
-  -- The call leaves the tree's words in front of the tree buffer, six to a node, and answers the node count.
-  pub tree-front : take (6 * size (node k cs nil)) (treeAfter c) ≡ treeWords (node k cs nil)
+  -- The call leaves the tree's words in front of the tree buffer, seven to a node, and answers the node count.
+  pub tree-front : take (7 * size (node k cs nil)) (treeAfter c) ≡ treeWords (node k cs nil)
   unfolding treeAfter treeIn
   tree-front =
       rw (p .accepted, p .reads)
-      (front-words (treeWords (node k cs nil)) (c .tree) (6 * size (node k cs nil)) (treeWords-length (node k cs nil)))
+      (front-words (treeWords (node k cs nil)) (c .tree) (7 * size (node k cs nil)) (treeWords-length (node k cs nil)))
 
   pub tree-told : answered c ≡ aTree (size (node k cs nil))
   unfolding answered told
@@ -68,7 +69,7 @@ module _ {c : Call} {k : Token} {cs : Forest} (p : Parsed c k cs) where
   unfolding reading
   tree-unfaulted = let a = call-accepted c (p .accepted) in read-unfaulted _ _ _ _ k cs (a .legal) (a .few) (p .reads)
 
-  pub front-bracketless : bracketless (take (6 * size (node k cs nil)) (treeAfter c)) ≡ treeWords (takenAway false (node k cs nil) nil)
+  pub front-bracketless : bracketless (take (7 * size (node k cs nil)) (treeAfter c)) ≡ treeWords (takenAway false (node k cs nil) nil)
   unfolding bracketless
   front-bracketless = rw (tree-front, tree-back) refl
 
@@ -77,6 +78,11 @@ module _ {c : Call} {k : Token} {cs : Forest} (p : Parsed c k cs) where
   unfolding reading
   tree-written-legal =
       let a = call-accepted c (p .accepted) in root-legal k cs (read-legal _ _ _ _ k cs (a .legal) (a .few) (p .reads))
+
+  -- Where the tree is plain, each of its tokens closes at its own end.
+  pub tree-written-ends : unplainAt k cs ≡ none → AtEnds (written k cs [])
+  unfolding reading
+  tree-written-ends plain = plain-ends k cs plain (read-closes _ _ _ _ k cs (tokens-end (c .list)) (p .reads))
 
 -- WHAT THE WRITER'S CALLER IS TOLD of the tree k over cs: 13 at the first node that is not plain, else 14 or 15 by the number of written
 -- tokens and the lent list, else that number; never 12.

@@ -8,7 +8,7 @@ use native.Mathlib.Omega.{arith}
 use lib.IntN.{ℤ}
 use lib.ListN.{length}
 use Rattle.molang.specs.Operator
-use Rattle.molang.specs.Forest.{Token, Forest, nil, node, renamed, bare, leaves, size}
+use Rattle.molang.specs.Forest.{Token, Forest, nil, node, renamed, bare, closedBy, leaves, size}
 use Rattle.molang.specs.Read.{Answer, read}
 use Rattle.molang.specs.Words.{treeWords, operatorField}
 use Rattle.molang.specs.Legal.{Legal}
@@ -24,19 +24,35 @@ use Rattle.molang.proofs.Every.{Every, nowhere, at, Renewable, read-eve
 legal-renamed : (o : ℕ) (k : Token) → o ≤ 110 → Legal k → Legal (renamed o k)
 unfolding renamed
 legal-renamed o k b h =
-    record { op = b; variant = h .variant; value = h .value; no-payload = h .no-payload; start = h .start; end = h .end }
+    record { op = b; variant = h .variant; value = h .value; no-payload = h .no-payload; start = h .start; end = h .end; close = h .close }
 
 legal-bare : (o : ℕ) (k : Token) → o ≤ 110 → Legal k → Legal (bare o k)
 unfolding bare
-legal-bare o k b h = record { op = b; variant = omega arith; value = omega arith; no-payload = λ e. refl; start = h .start; end = h .end }
+legal-bare o k b h =
+    record { op = b; variant = omega arith; value = omega arith; no-payload = λ e. refl; start = h .start; end = h .end; close = h .end }
+
+-- So is a section that is closed by a legal token.
+legal-closed : (k o : Token) → Legal k → Legal o → Legal (closedBy k o)
+unfolding closedBy
+legal-closed k o h g =
+    record {
+      op = g .op;
+      variant = g .variant;
+      value = g .value;
+      no-payload = g .no-payload;
+      start = g .start;
+      end = g .end;
+      close = h .end;
+    }
 
 legal-new : Renewable Legal
 legal-new =
     record {
-      plus = λ k h. legal-renamed Operator.add k (omega arith) h;
-      array = λ k h. legal-renamed Operator.array k (omega arith) h;
+      plus = λ k m h. legal-renamed Operator.add k (omega arith) h;
+      array = λ k m h. legal-renamed Operator.array k (omega arith) h;
       statement = λ k h. legal-bare Operator.semicolon k (omega arith) h;
       minus = λ k h. legal-bare Operator.negate k (omega arith) h;
+      section = λ k o m c h g. legal-closed k o h g;
     }
 
 legal-leaves : {ks : List Token} → LegalTokens ks → Every Legal (leaves ks)

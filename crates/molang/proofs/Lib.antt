@@ -28,6 +28,7 @@ pub mod Booleans
 pub mod Forests
 pub mod PlainTrees
 pub mod Writing
+pub mod Closes
 pub mod TakingAway
 pub mod RoundTrip
 pub mod ListWords

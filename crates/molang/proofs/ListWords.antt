@@ -9,12 +9,12 @@ use native.Mathlib.Omega.{arith}
 use lib.ListN.{length}
 use borrow.Author.Tests.{ne-eqb}
 use Rattle.molang.specs.Operator.{isBracket}
-use Rattle.molang.specs.Forest.{Token, Forest, nil, node, bare, count, size}
+use Rattle.molang.specs.Forest.{Token, Forest, nil, node, bare, closedBy, unclosed, count, size}
 use Rattle.molang.specs.Read.{uses}
-use Rattle.molang.specs.Words.{word, tokenWords, listWords, treeWords, Field, operatorField, startField, endField, upperField}
-use Rattle.molang.specs.Words.{lowerField, wordFault, lowFault, variantAfter, nextInToken, withPlace, wordsRefusal}
+use Rattle.molang.specs.Words.{word, tokenWords, nodeWordsOf, listWords, treeWords, Field, operatorField, startField, endField}
+use Rattle.molang.specs.Words.{upperField, lowerField, wordFault, lowFault, variantAfter, nextInToken, withPlace, wordsRefusal}
 use Rattle.molang.specs.Legal.{Legal}
-use Rattle.molang.specs.Write.{openerFor, closerFor, standsAlone, standsLeft, standsRight, operandTokens, written}
+use Rattle.molang.specs.Write.{openerFor, closerFor, closerOf, standsAlone, standsLeft, standsRight, operandTokens, written}
 use Rattle.molang.specs.WriteEntry.{nextInNode, Shape, shapeAfter, continues, treeFault}
 use Rattle.molang.proofs.FirstFailure.{first-none, passed, after-none}
 use Rattle.molang.proofs.Words.{LegalTokens, noTokens, token, LegalTrees, noTrees, legalTree}
@@ -42,14 +42,14 @@ list-word i field v w ws h = after-none (withPlace i (wordFault field v w)) _ (a
 -- A legal token is a tree of one node, whose words have no fault; so they answer nothing in a list either.
 token-unrefused : (k : Token) → Legal k → (i v : ℕ) (ws : List ℕ) → ((i v : ℕ) → wordsRefusal i operatorField v ws ≡ none)
     → wordsRefusal i operatorField v (tokenWords k ++ ws) ≡ none
-unfolding tokenWords treeWords count size variantAfter nextInNode nextInToken wordFault lowFault
+unfolding nodeWordsOf tokenWords treeWords count size variantAfter nextInNode nextInToken wordFault lowFault
 token-unrefused k h i v ws later =
     let a = word 1 (k .variant * 2 ^ 8 + k .op) in
     let b = word 2 (k .start) in
     let c = word 3 (k .end) in
     let d = word 4 (k .value / 2 ^ 16) in
     let e = word 5 (k .value % 2 ^ 16) in
-    let n = word 6 0 ∷ [] in
+    let n = word 6 0 ∷ word 7 (k .close) ∷ [] in
     let u = variantAfter operatorField v a in
     let fault = tree-unfaulted k nil (legalTree h (omega arith) noTrees noTrees) (omega arith) in
     let fa = tree-word 0 operatorField 0 _ a (b ∷ c ∷ d ∷ e ∷ n) fault in
@@ -86,12 +86,55 @@ uses-legal (token {k = k} l ls) m h = rw (ne-eqb (k .op) m (λ e. omega (arith, 
 opener-legal : (k : Token) → Legal k → Legal (openerFor k)
 unfolding openerFor bare
 opener-legal k h =
-    record { op = omega arith; variant = omega arith; value = omega arith; no-payload = λ e. refl; start = h .start; end = h .end }
+    record {
+      op = omega arith;
+      variant = omega arith;
+      value = omega arith;
+      no-payload = λ e. refl;
+      start = h .start;
+      end = h .end;
+      close = h .end;
+    }
 
 closer-legal : (k : Token) → Legal k → Legal (closerFor k)
 unfolding closerFor bare
 closer-legal k h =
-    record { op = omega arith; variant = omega arith; value = omega arith; no-payload = λ e. refl; start = h .start; end = h .end }
+    record {
+      op = omega arith;
+      variant = omega arith;
+      value = omega arith;
+      no-payload = λ e. refl;
+      start = h .start;
+      end = h .end;
+      close = h .end;
+    }
+
+-- So are the two tokens of a section.
+unclosed-legal : (k : Token) → Legal k → Legal (unclosed k)
+unfolding unclosed closedBy
+unclosed-legal k h =
+    record {
+      op = h .op;
+      variant = h .variant;
+      value = h .value;
+      no-payload = h .no-payload;
+      start = h .start;
+      end = h .end;
+      close = h .end;
+    }
+
+section-end-legal : (k : Token) → Legal k → Legal (closerOf k)
+unfolding closerOf
+section-end-legal k h =
+    record {
+      op = omega arith;
+      variant = omega arith;
+      value = omega arith;
+      no-payload = λ e. refl;
+      start = h .close;
+      end = h .close;
+      close = h .close;
+    }
 
 -- F puts legal tokens before legal tokens.
 abbrev KeepsLegal : (List Token → List Token) → Type 0
@@ -107,12 +150,12 @@ pub written-legal : (k : Token) (cs : Forest) → Legal k → LegalTrees cs → 
 written-legal k nil h below r l = split (isBracket (k .op)) refl
   where
     split : (b : Bool) → isBracket (k .op) ≡ b → LegalTokens (written k nil r)
-    split true e = rw (written-none true k r e) (token h (token (closer-legal k h) l))
+    split true e = rw (written-none true k r e) (token (unclosed-legal k h) (token (section-end-legal k h) l))
     split false e = rw (written-none false k r e) (token h l)
 written-legal k (node x xs nil) h (legalTree hx n hxs noTrees) r l = split (isBracket (k .op)) refl (written-legal x xs hx hxs)
   where
     split : (b : Bool) → isBracket (k .op) ≡ b → KeepsLegal (written x xs) → LegalTokens (written k (node x xs nil) r)
-    split true e i = rw (written-one true k x xs r e) (token h (i (closerFor k ∷ r) (token (closer-legal k h) l)))
+    split true e i = rw (written-one true k x xs r e) (token (unclosed-legal k h) (i (closerOf k ∷ r) (token (section-end-legal k h) l)))
     split false e i = rw (written-one false k x xs r e) (token h (operand-legal (standsAlone x xs) x (written x xs) hx i r l))
 written-legal k (node x xs (node y ys nil)) h (legalTree hx n hxs (legalTree hy m hys noTrees)) r l =
     rw (written-two k x xs y ys r)

@@ -22,8 +22,8 @@ use Rattle.molang.proofs.ListWords.{list-unrefused, listWords-length, u
 use Rattle.molang.proofs.UsedSet.{halves-exact}
 use Rattle.molang.proofs.Accepted.{call-accepted}
 use Rattle.molang.proofs.Bounds.{treeWords-length}
-use Rattle.molang.proofs.HandedTree.{Parsed, tree-front, tree-told, front-bracketless, tree-written-legal, writer-tells, write-done}
-use Rattle.molang.proofs.HandedTree.{tree-of-told, write-of-told}
+use Rattle.molang.proofs.HandedTree.{Parsed, tree-front, tree-told, front-bracketless, tree-written-legal, writer-tells}
+use Rattle.molang.proofs.HandedTree.{tree-written-ends, write-done, tree-of-told, write-of-told}
 use Rattle.molang.proofs.Entries.{ThreeCalls, three-calls}
 
 -- Five words make a token.
@@ -39,11 +39,11 @@ tokens-count (a ∷ b ∷ c ∷ d ∷ e ∷ ws) = omega (arith, tokens-count ws)
 -- ---- What can be handed on
 
 -- A tree that is told stands within its buffer.
-pub tree-room : (c : Call) (nodes : ℕ) → answered c ≡ aTree nodes → 6 * nodes ≤ length (treeAfter c)
+pub tree-room : (c : Call) (nodes : ℕ) → answered c ≡ aTree nodes → 7 * nodes ≤ length (treeAfter c)
 tree-room c nodes h =
     let t = tree-of-told c nodes h in
     let tree = node (t .root) (t .children) nil in
-    omega (arith, t .nodes, treeWords-length tree, ap length (tree-front (t .parsed)), length-take (6 * size tree) (treeAfter c))
+    omega (arith, t .nodes, treeWords-length tree, ap length (tree-front (t .parsed)), length-take (7 * size tree) (treeAfter c))
 
 -- So do the tokens that are written of it, and their words are legal.
 pub record Readable (ws : List ℕ) (count : ℕ) : Type 0 where
@@ -51,13 +51,13 @@ pub record Readable (ws : List ℕ) (count : ℕ) : Type 0 where
   pub legal : wordsRefusal 0 operatorField 0 ws ≡ none
 
 pub written-readable : (first : Call) (w : WriteCall) (nodes count : ℕ) → answered first ≡ aTree nodes
-    → w .tree ≡ take (6 * nodes) (treeAfter first)
+    → w .tree ≡ take (7 * nodes) (treeAfter first)
     → writeAnswered w ≡ tokens count
     → Readable (take (5 * count) (listAfter w)) count
 written-readable first w nodes count parsed words wrote =
     let t = tree-of-told first nodes parsed in
     let p = t .parsed in
-    let got = words ∙ (ap (λ (n : ℕ). take (6 * n) (treeAfter first)) (t .nodes) ∙ tree-front p) in
+    let got = words ∙ (ap (λ (n : ℕ). take (7 * n) (treeAfter first)) (t .nodes) ∙ tree-front p) in
     let done = write-done p w got (write-of-told w count wrote) in
     let said = done .told in
     let counted : count ≡ length (written (t .root) (t .children) []) = cc in
@@ -99,14 +99,14 @@ module _ (c : Rereading) (k : Token) (cs : Forest) (p : Parsed (c .first) k cs) 
     unfolding reread afterFirst
     made = rw (tree-told p, write-done p (writing c k cs) tree-got writes .told) refl
 
-    calls : 18 * length (written k cs []) ≤ length (c .again) → 64 * length (written k cs []) + 64 ≤ length (c .first .work)
+    calls : 21 * length (written k cs []) ≤ length (c .again) → 64 * length (written k cs []) + 64 ≤ length (c .first .work)
         → c .sourceLength ≤ 536870911
         → ThreeCalls (c .first) (writing c k cs) (second c k cs) k cs
     unfolding handed writerCall secondCall exactCall
     calls treeRoom workRoom legalLength =
         let legal = tree-written-legal p in
         let ks = tokensOf (second c k cs .list) in
-        let same : ks ≡ written k cs [] = ap tokensOf list-got ∙ tokens-back (written k cs []) legal in
+        let same : ks ≡ written k cs [] = ap tokensOf list-got ∙ tokens-back (written k cs []) legal (tree-written-ends p (write-done p (writing c k cs) tree-got writes .plain)) in
         let few : (m : ℕ) → 111 ≤ m → uses ks m ≡ false = λ m above. rw same (uses-legal legal m above) in
         record {
           parsed = p;
@@ -138,7 +138,7 @@ module _ (c : Rereading) (k : Token) (cs : Forest) (p : Parsed (c .first) k cs) 
         let n = length (written k cs []) in
         let a = call-accepted (second c k cs) e in
         let long : length (second c k cs .list) ≡ 5 * n = ap length list-got ∙ listWords-length (written k cs []) in
-        let tree : 18 * (length (second c k cs .list) / 5) ≤ length (c .again) = a .tree in
+        let tree : 21 * (length (second c k cs .list) / 5) ≤ length (c .again) = a .tree in
         let work : 64 * (length (second c k cs .list) / 5) + 64 ≤ length (workAfter (c .first)) = a .work in
         read-back (calls (omega arith) (omega (arith, work-long p)) (a .sourceLength))
 
@@ -184,7 +184,7 @@ demand-3 c =
     }
   where
     agree : (nodes count nodesAgain : ℕ) → reread c .told ≡ twoTrees nodes count nodesAgain → Ends c
-        → bracketless (take (6 * nodesAgain) (reread c .again)) ≡ bracketless (take (6 * nodes) (reread c .tree))
+        → bracketless (take (7 * nodesAgain) (reread c .again)) ≡ bracketless (take (7 * nodes) (reread c .tree))
     agree nodes count nodesAgain h (gaveMessages m e) = let z : _≡_ {A = ℕ} 0 1 = cc in absurd (omega arith)
     agree nodes count nodesAgain h (wasTurnedBack m n q e) = let z : _≡_ {A = ℕ} 0 1 = cc in absurd (omega arith)
     agree nodes count nodesAgain h (readBack k cs r) =

@@ -10,7 +10,7 @@ use lib.ListN.{length}
 use borrow.Author.Tests.{eqb-true}
 use Rattle.molang.specs.Operator
 use Rattle.molang.specs.Operator.{hasMembers, closingOf, isCloser}
-use Rattle.molang.specs.Forest.{Token, Forest, nil, node, leaves, turnedOnto, inOrder}
+use Rattle.molang.specs.Forest.{Token, Forest, nil, node, closedBy, leaves, turnedOnto, inOrder}
 use Rattle.molang.specs.Message.{Message, Result, fail, closer}
 use Rattle.molang.specs.Sections.{withMember, members, Open, outside, section, placed, position, Walked, going, mismatch, closing}
 use Rattle.molang.specs.Sections.{bracket, closed, sections}
@@ -113,11 +113,12 @@ module _ (W : Weighing) where
     differs : {m : List Message} → length m ≡ 2 → Walks n (mismatch m)
 
   closing-light : (k : Token) (cs : Forest) (i : ℕ) (s : Open) → Walks (weight W (node k cs nil) + openWeight s) (closing k cs i s)
-  unfolding closing openWeight
+  unfolding closing openWeight closedBy
   closing-light k cs i (outside d) = walks {s = outside (node k cs d)} (omega (arith, weight-tree W k cs d))
   closing-light k cs i (section o j d s) =
       either (Walks (weight W (node k cs nil) + (W .leaf (o .op) + weight W d + openWeight s))) (eqb (closer o) (k .op)) _ _
-      (walks {s = placed o (inOrder d) s} (omega (arith, placed-light o (inOrder d) s, section-light o d))) (differs refl)
+      (walks {s = placed (closedBy k o) (inOrder d) s}
+      (omega (arith, placed-light (closedBy k o) (inOrder d) s, section-light (closedBy k o) d))) (differs refl)
 
   -- What is no opener.
   unopened-light : (k : Token) (cs : Forest) (i : ℕ) (s : Open)

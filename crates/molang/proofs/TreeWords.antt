@@ -8,8 +8,8 @@ use native.Mathlib.Omega.{arith}
 use lib.Dec.{eqb, ltb}
 use borrow.Author.Tests.{eqb-true, eq-eqb, le-leb, lt-ltb}
 use Rattle.molang.specs.Forest.{Token, Forest, nil, node, count, size}
-use Rattle.molang.specs.Words.{word, tokenWords, treeWords, Field, operatorField, startField, endField, upperField, lowerField}
-use Rattle.molang.specs.Words.{countField, fieldKind, lowFault, wordFault, variantAfter}
+use Rattle.molang.specs.Words.{word, tokenWords, nodeWordsOf, treeWords, Field, operatorField, startField, endField, upperField}
+use Rattle.molang.specs.Words.{lowerField, countField, closeField, fieldKind, lowFault, wordFault, variantAfter}
 use Rattle.molang.specs.Legal.{Legal}
 use Rattle.molang.specs.FirstFailure.{must}
 use Rattle.molang.specs.WriteEntry.{mostNodes, nextInNode, Shape, shapeAfter, continues, isWhole, treeFault}
@@ -65,6 +65,10 @@ count-passes : (v n : ℕ) → n < 2 ^ 14 → wordFault countField v (word 6 n) 
 unfolding fieldKind lowFault
 count-passes v n b = word-passes countField v n (omega arith) (must-true _ 11 (lt-ltb n (2 ^ 14) b))
 
+close-passes : (v n : ℕ) → n < 2 ^ 29 → wordFault closeField v (word 7 n) ≡ none
+unfolding fieldKind lowFault
+close-passes v n b = word-passes closeField v n b refl
+
 -- A word without fault that leaves no more nodes begun than called for, and no more called for than fit.
 word-continues : (field : Field) (v : ℕ) (s : Shape) (w : ℕ) → wordFault field v w ≡ none → shapeAfter field w s .begun ≤ s .called
     → shapeAfter field w s .called ≤ mostNodes → continues field v s w ≡ true
@@ -82,18 +86,19 @@ variant-read : (k : Token) → Legal k → (v : ℕ) → variantAfter operatorFi
 unfolding variantAfter
 variant-read k h v = rw (low-word 1 (k .variant * 2 ^ 8 + k .op) (omega arith), high-part (k .variant) (k .op) (omega arith)) (omega arith)
 
--- The shape after a node's six words.
+-- The shape after a node's seven words.
 abbrev withNode : Shape → ℕ → Shape
 withNode s n = record { called = s .called + n; begun = suc (s .begun) }
 
 node-continues : (k : Token) → Legal k → (n : ℕ) → n < 2 ^ 14 → (i v : ℕ) (s : Shape) (ws : List ℕ) → s .begun < s .called
     → s .called + n ≤ mostNodes
-    → treeFault i operatorField v s (tokenWords k ++ (word 6 n ∷ ws))
-    ≡ treeFault (suc (suc (suc (suc (suc (suc i)))))) operatorField (k .variant) (withNode s n) ws
-unfolding tokenWords nextInNode shapeAfter variantAfter
+    → treeFault i operatorField v s (nodeWordsOf k n ++ ws)
+    ≡ treeFault (suc (suc (suc (suc (suc (suc (suc i))))))) operatorField (k .variant) (withNode s n) ws
+unfolding nodeWordsOf tokenWords nextInNode shapeAfter variantAfter
 node-continues k h n m i v s ws b c =
     let begun : Shape = record { called = s .called; begun = suc (s .begun) } in
-    let counted = word 6 n ∷ ws in
+    let closed = word 7 (k .close) ∷ ws in
+    let counted = word 6 n ∷ closed in
     let lower = word 5 (k .value % 2 ^ 16) ∷ counted in
     let upper = word 4 (k .value / 2 ^ 16) ∷ lower in
     let end = word 3 (k .end) ∷ upper in
@@ -108,17 +113,19 @@ node-continues k h n m i v s ws b c =
     (omega arith)
     ∙ (next-continues (suc (suc (suc (suc i)))) lowerField (k .variant) begun (word 5 (k .value % 2 ^ 16)) counted (lower-passes k h)
     (omega arith) (omega arith)
-    ∙ rw (low-word 6 n (omega arith)) at
-    (next-continues (suc (suc (suc (suc (suc i))))) countField (k .variant) begun (word 6 n) ws (count-passes (k .variant) n m)
+    ∙ (rw (low-word 6 n (omega arith)) at
+    (next-continues (suc (suc (suc (suc (suc i))))) countField (k .variant) begun (word 6 n) closed (count-passes (k .variant) n m)
     (omega arith)
-    (omega (arith, low-word 6 n (omega arith))))))))
+    (omega (arith, low-word 6 n (omega arith))))
+    ∙ next-continues (suc (suc (suc (suc (suc (suc i)))))) closeField (k .variant) (withNode s n) (word 7 (k .close)) ws
+    (close-passes (k .variant) (k .close) (h .close)) (omega arith) (omega arith))))))
 
 -- The words of legal trees, before words that a tree may go on with.
 trees-continue : {f : Forest} → LegalTrees f → (i v : ℕ) (s t : Shape) (ws : List ℕ) → s .begun + count f ≤ s .called
     → s .called + size f ≤ mostNodes + count f
     → t .begun ≡ s .begun + size f → t .called + count f ≡ s .called + size f → ((i v : ℕ) → treeFault i operatorField v t ws ≡ none)
     → treeFault i operatorField v s (treeWords f ++ ws) ≡ none
-unfolding treeWords tokenWords count size
+unfolding treeWords nodeWordsOf tokenWords count size
 trees-continue noTrees i v s t ws b c p q later =
     let called : t .called ≡ s .called = omega arith in
     let begun : t .begun ≡ s .begun = omega arith in

@@ -46,7 +46,7 @@ data Reaches (W : Weighing) (n : ℕ) (full : Bool) (p : Option Token) : Unary �
   reached : {pair : Bool} {r : Forest} → weight W r ≤ n → (full ≡ true → isNil r ≡ false) → (pair ≡ true → isMinus p ≡ true)
       → Reaches W n full p (done pair r)
 
-before-is-minus : (n : ℕ) → beforeMinus n ≡ minus → eqb n Operator.negate ≡ true
+pub before-is-minus : (n : ℕ) → beforeMinus n ≡ minus → eqb n Operator.negate ≡ true
 unfolding beforeMinus
 before-is-minus n =
     decided NegateIf (eqb n Operator.negate) _ _ (λ e h. e)

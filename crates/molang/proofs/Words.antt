@@ -8,9 +8,9 @@ use native.Mathlib.Omega.{arith}
 use lib.Dec.{eqb, leb, ltb}
 use lib.ListN.{length}
 use borrow.Author.Tests.{eqb-true, eqb-false, leb-true, ltb-true}
-use Rattle.molang.specs.Forest.{Token, Forest, nil, node, count}
-use Rattle.molang.specs.Words.{word, kindOf, lowOf, tokenWords, tokenOf, tokensOf, listWords, treeWords, Field, operatorField}
-use Rattle.molang.specs.Words.{startField, endField, upperField, lowerField, fieldKind, lowFault, wordFault, variantAfter}
+use Rattle.molang.specs.Forest.{Token, Forest, nil, node, count, closedBy, unclosed}
+use Rattle.molang.specs.Words.{word, kindOf, lowOf, tokenWords, tokenOf, nodeWordsOf, nodeOf, tokensOf, listWords, treeWords, Field}
+use Rattle.molang.specs.Words.{operatorField, startField, endField, upperField, lowerField, fieldKind, lowFault, wordFault, variantAfter}
 use Rattle.molang.specs.Words.{nextInToken, wordsRefusal}
 use Rattle.molang.specs.Legal.{Legal}
 use Rattle.molang.specs.WriteEntry.{firstTrees, otherTrees, treesOf}
@@ -20,6 +20,11 @@ use Rattle.molang.proofs.FirstFailure.{must-none, first-none, passed, w
 pub data LegalTokens : List Token → Type 0 where
   noTokens : LegalTokens []
   token : {k : Token} {ks : List Token} → Legal k → LegalTokens ks → LegalTokens (k ∷ ks)
+
+-- Each token closes at its own end, as the tokens of a word list do.
+abbrev pub AtEnds : List Token → Type 0
+AtEnds [] = Unit {0}
+AtEnds (k ∷ ks) = (k .close ≡ k .end) × AtEnds ks
 
 pub data LegalTrees : Forest → Type 0 where
   noTrees : LegalTrees nil
@@ -36,11 +41,11 @@ kind-word kind low h = omega arith
 pub high-part : (high low : ℕ) → low < 2 ^ 8 → (high * 2 ^ 8 + low) / 2 ^ 8 ≡ high
 high-part high low h = omega arith
 
--- A token is read back from its words.
+-- A token is read back from its words, closing at its own end.
 pub token-back : (k : Token) → Legal k
     → tokenOf (word 1 (k .variant * 2 ^ 8 + k .op)) (word 2 (k .start)) (word 3 (k .end)) (word 4 (k .value / 2 ^ 16))
-    (word 5 (k .value % 2 ^ 16)) ≡ k
-unfolding tokenOf
+    (word 5 (k .value % 2 ^ 16)) ≡ unclosed k
+unfolding tokenOf unclosed closedBy
 token-back k h =
     let first = low-word 1 (k .variant * 2 ^ 8 + k .op) (omega arith) in
     let op : lowOf (word 1 (k .variant * 2 ^ 8 + k .op)) % 2 ^ 8 ≡ k .op = rw first (omega arith) in
@@ -52,12 +57,35 @@ token-back k h =
     in
     let start = low-word 2 (k .start) (h .start) in
     let end = low-word 3 (k .end) (h .end) in
-    λ i. record { op = op i; variant = variant i; value = value i; start = start i; end = end i }
+    λ i. record { op = op i; variant = variant i; value = value i; start = start i; end = end i; close = end i }
 
-pub tokens-back : (ks : List Token) → LegalTokens ks → tokensOf (listWords ks) ≡ ks
+-- A token that closes at its own end is its own opener.
+pub unclosed-end : (k : Token) → k .close ≡ k .end → unclosed k ≡ k
+unfolding unclosed closedBy
+unclosed-end k e =
+    λ i. record { op = k .op; variant = k .variant; value = k .value; start = k .start; end = k .end; close = sym e i }
+
+pub tokens-back : (ks : List Token) → LegalTokens ks → AtEnds ks → tokensOf (listWords ks) ≡ ks
 unfolding tokensOf listWords tokenWords
-tokens-back [] noTokens = refl
-tokens-back (k ∷ ks) (token h hs) = rw (token-back k h, tokens-back ks hs) refl
+tokens-back [] noTokens e = refl
+tokens-back (k ∷ ks) (token h hs) e = rw (token-back k h, unclosed-end k (e .0), tokens-back ks hs (e .1)) refl
+
+-- The tokens of a word list close at their own ends.
+pub tokens-end : (ws : List ℕ) → AtEnds (tokensOf ws)
+unfolding tokensOf tokenOf
+tokens-end [] = tt
+tokens-end (a ∷ []) = tt
+tokens-end (a ∷ b ∷ []) = tt
+tokens-end (a ∷ b ∷ c ∷ []) = tt
+tokens-end (a ∷ b ∷ c ∷ d ∷ []) = tt
+tokens-end (a ∷ b ∷ c ∷ d ∷ e ∷ ws) = (refl, tokens-end ws)
+
+-- A node's label is read back from its words.
+node-back : (k : Token) → Legal k
+    → nodeOf (word 1 (k .variant * 2 ^ 8 + k .op)) (word 2 (k .start)) (word 3 (k .end)) (word 4 (k .value / 2 ^ 16))
+    (word 5 (k .value % 2 ^ 16)) (word 7 (k .close)) ≡ k
+unfolding nodeOf unclosed closedBy
+node-back k h = rw (token-back k h, low-word 7 (k .close) (h .close)) refl
 
 -- The trees of the first list before those of the second.
 unfoldable pub beside : Forest → Forest → Forest
@@ -80,14 +108,14 @@ beside-nil nil = refl
 beside-nil (node k cs rest) = ap (node k cs) (beside-nil rest)
 
 trees-beside : {f : Forest} → LegalTrees f → (ws : List ℕ) → treesOf (treeWords f ++ ws) ≡ beside f (treesOf ws)
-unfolding treesOf treeWords tokenWords beside
+unfolding treesOf treeWords nodeWordsOf tokenWords beside
 trees-beside noTrees ws = refl
 trees-beside (legalTree {k = k} {cs = cs} {rest = rest} h n below later) ws =
     let trees : treesOf ((treeWords cs ++ treeWords rest) ++ ws) ≡ beside cs (beside rest (treesOf ws)) =
     rw (append-assoc (treeWords cs) (treeWords rest) ws)
     (trees-beside below (treeWords rest ++ ws) ∙ ap (beside cs) (trees-beside later ws))
     in
-    rw (token-back k h, low-word 6 (count cs) (omega arith), trees, first-beside, other-beside) refl
+    rw (node-back k h, low-word 6 (count cs) (omega arith), trees, first-beside, other-beside) refl
 
 -- Legal trees are read back from their words.
 pub trees-back : (f : Forest) → LegalTrees f → treesOf (treeWords f) ≡ f
@@ -159,6 +187,7 @@ module _ (a b c d e : ℕ) (h : FiveLegal a b c d e) where
         value = omega arith;
         start = low-bound b;
         end = low-bound c;
+        close = low-bound c;
         no-payload = λ z. omega (arith, h .upper .1 z, h .lower .1 z);
       }
 

@@ -7,20 +7,20 @@ use mathlib.Core.Option.{none, some}
 use native.Mathlib.Omega.{arith}
 use lib.ListN.{length, length-append}
 use Rattle.molang.specs.Operator.{isBracket}
-use Rattle.molang.specs.Forest.{Token, Forest, nil, node, size}
+use Rattle.molang.specs.Forest.{Token, Forest, nil, node, size, unclosed}
 use Rattle.molang.specs.Plain.{Seat, elsewhere, seatUnder, plainForm, seatOf, unplain, unplainAt}
 use Rattle.molang.proofs.PlainTrees.{plain-parts}
-use Rattle.molang.specs.Write.{openerFor, closerFor, standsAlone, standsLeft, standsRight, operandTokens, written}
+use Rattle.molang.specs.Write.{openerFor, closerFor, closerOf, standsAlone, standsLeft, standsRight, operandTokens, written}
 
 -- The writing of a node without children and with one, by whether it is a bracket.
 pub written-none : (b : Bool) (k : Token) (r : List Token) → isBracket (k .op) ≡ b
-    → written k nil r ≡ (elim b as (λ t. List Token) [ true ↦ k ∷ closerFor k ∷ r | false ↦ k ∷ r ])
+    → written k nil r ≡ (elim b as (λ t. List Token) [ true ↦ unclosed k ∷ closerOf k ∷ r | false ↦ k ∷ r ])
 unfolding written
 written-none b k r h = rw (← h) refl
 
 pub written-one : (b : Bool) (k x : Token) (xs : Forest) (r : List Token) → isBracket (k .op) ≡ b
     → written k (node x xs nil) r ≡ (elim b as (λ t. List Token) [
-      | true ↦ k ∷ written x xs (closerFor k ∷ r)
+      | true ↦ unclosed k ∷ written x xs (closerOf k ∷ r)
       | false ↦ k ∷ operandTokens (standsAlone x xs) x (written x xs) r
     ])
 unfolding written
@@ -59,7 +59,7 @@ written-before k (node x xs nil) r = split (isBracket (k .op)) refl (written-bef
     split : (b : Bool) → isBracket (k .op) ≡ b → ((r : List Token) → written x xs r ≡ written x xs [] ++ r)
         → written k (node x xs nil) r ≡ written k (node x xs nil) [] ++ r
     split true h i =
-        rw (written-one true k x xs r h, written-one true k x xs [] h, i (closerFor k ∷ r), i (closerFor k ∷ []), append-assoc) refl
+        rw (written-one true k x xs r h, written-one true k x xs [] h, i (closerOf k ∷ r), i (closerOf k ∷ []), append-assoc) refl
     split false h i =
         rw (written-one false k x xs r h, written-one false k x xs [] h) (ap (λ (l : List Token). k ∷ l)
         (operand-before (standsAlone x xs) x (written x xs) r i))
@@ -92,10 +92,13 @@ ownTokens k (node x xs nil) r = k ∷ ownTokens x xs r
 ownTokens k (node x xs (node y ys nil)) r = ownTokens x xs (k ∷ ownTokens y ys r)
 ownTokens k (node x xs (node y ys (node z zs more))) r = k ∷ r
 
--- The second list is the first, token by token, with brackets added: openers and closers with some token's span and payload 0.
+-- The second list is the first, token by token, with brackets added: openers and closers with some token's span and payload 0. A section's
+-- opener closes at its own end in the list; where the section closes, its closer stands.
 pub data Adds : List Token → List Token → Type 0 where
   nothing : Adds [] []
   own : (k : Token) {ks ls : List Token} → Adds ks ls → Adds (k ∷ ks) (k ∷ ls)
+  section : (k : Token) {ks ls : List Token} → Adds ks ls → Adds (k ∷ ks) (unclosed k ∷ ls)
+  sectionEnd : (k : Token) {ks ls : List Token} → Adds ks ls → Adds ks (closerOf k ∷ ls)
   opener : (k : Token) {ks ls : List Token} → Adds ks ls → Adds ks (openerFor k ∷ ls)
   closer : (k : Token) {ks ls : List Token} → Adds ks ls → Adds ks (closerFor k ∷ ls)
 
@@ -110,13 +113,13 @@ unfolding ownTokens
 adds k nil r r' a = split (isBracket (k .op)) refl
   where
     split : (b : Bool) → isBracket (k .op) ≡ b → Adds (k ∷ r) (written k nil r')
-    split true h = rw (written-none true k r' h) (own k (closer k a))
+    split true h = rw (written-none true k r' h) (section k (sectionEnd k a))
     split false h = rw (written-none false k r' h) (own k a)
 adds k (node x xs nil) r r' a = split (isBracket (k .op)) refl (adds x xs)
   where
     split : (b : Bool) → isBracket (k .op) ≡ b → ((r r' : List Token) → Adds r r' → Adds (ownTokens x xs r) (written x xs r'))
         → Adds (k ∷ ownTokens x xs r) (written k (node x xs nil) r')
-    split true h i = rw (written-one true k x xs r' h) (own k (i r (closerFor k ∷ r') (closer k a)))
+    split true h i = rw (written-one true k x xs r' h) (section k (i r (closerOf k ∷ r') (sectionEnd k a)))
     split false h i =
         rw (written-one false k x xs r' h) (own k (adds-operand (standsAlone x xs) x (ownTokens x xs) (written x xs) i r r' a))
 adds k (node x xs (node y ys nil)) r r' a =
@@ -171,16 +174,23 @@ put-in-once k cs plain = record {
       let i = own-once test elsewhere 1 k cs (a .here) (a .below) [] in omega arith;
 }
 
--- So a token that is no such bracket stands in the writing as often as in the tree.
-others-once : (test : Token → Bool) → ((k : Token) → test (openerFor k) ≡ false) → ((k : Token) → test (closerFor k) ≡ false)
-    → {ks ls : List Token} → Adds ks ls → inList test ls ≡ inList test ks
-unfolding inList one
-others-once test o c nothing = refl
-others-once test o c (own k a) = ap (λ (n : ℕ). one (test k) + n) (others-once test o c a)
-others-once test o c (opener k a) = let i = others-once test o c a in rw (o k) (omega arith)
-others-once test o c (closer k a) = let i = others-once test o c a in rw (c k) (omega arith)
+-- A test that passes none of these brackets and does not look at where a token closes, which the list does not say.
+pub record Unbracketing (test : Token → Bool) : Type 0 where
+  pub opener : (k : Token) → test (openerFor k) ≡ false
+  pub closer : (k : Token) → test (closerFor k) ≡ false
+  pub sectionEnd : (k : Token) → test (closerOf k) ≡ false
+  pub unclosing : (k : Token) → test (unclosed k) ≡ test k
 
-pub written-once : (k : Token) (cs : Forest) → unplainAt k cs ≡ none → (test : Token → Bool) → ((k : Token) → test (openerFor k) ≡ false)
-    → ((k : Token) → test (closerFor k) ≡ false)
+-- So a token that is no such bracket stands in the writing as often as in the tree.
+others-once : (test : Token → Bool) → Unbracketing test → {ks ls : List Token} → Adds ks ls → inList test ls ≡ inList test ks
+unfolding inList one
+others-once test t nothing = refl
+others-once test t (own k a) = ap (λ (n : ℕ). one (test k) + n) (others-once test t a)
+others-once test t (section k a) = let i = others-once test t a in rw (t .unclosing k) (omega arith)
+others-once test t (sectionEnd k a) = let i = others-once test t a in rw (t .sectionEnd k) (omega arith)
+others-once test t (opener k a) = let i = others-once test t a in rw (t .opener k) (omega arith)
+others-once test t (closer k a) = let i = others-once test t a in rw (t .closer k) (omega arith)
+
+pub written-once : (k : Token) (cs : Forest) → unplainAt k cs ≡ none → (test : Token → Bool) → Unbracketing test
     → inList test (written k cs []) ≡ inTrees test (node k cs nil)
-written-once k cs plain test o c = let p = put-in-once k cs plain in others-once test o c (p .bracketsAdded) ∙ p .eachOnce test
+written-once k cs plain test t = let p = put-in-once k cs plain in others-once test t (p .bracketsAdded) ∙ p .eachOnce test

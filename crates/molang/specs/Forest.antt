@@ -4,13 +4,15 @@
 use Prim.Native.Nat.{ℕ, suc, _+_}
 use mathlib.Core.List.{List, [], _∷_}
 
--- A token of a list, and the label of a tree's node: operator number 0-110, payload variant 0-12 and value, span start and end.
+-- A token of a list, and the label of a tree's node: operator number 0-110, payload variant 0-12 and value, span start and end, and where
+-- it closes (a node's seventh word): a closed section at the end of its closer, everything else at its own span end.
 pub record Token : Type 0 where
   pub op : ℕ
   pub variant : ℕ
   pub value : ℕ
   pub start : ℕ
   pub end : ℕ
+  pub close : ℕ
 
 -- A list of trees: the first tree's token and its children, then the trees after it.
 pub data Forest : Type 0 where
@@ -19,11 +21,20 @@ pub data Forest : Type 0 where
 
 -- The same token under another operator.
 unfoldable pub renamed : ℕ → Token → Token
-renamed o k = record { op = o; variant = k .variant; value = k .value; start = k .start; end = k .end }
+renamed o k = record { op = o; variant = k .variant; value = k .value; start = k .start; end = k .end; close = k .close }
 
--- A new token with the span of k and payload 0 (`Node::token(op, Payload::None, span)` in the Rust).
+-- A new token with the span of k and payload 0 (`Node::token(op, Payload::None, span)` in the Rust). It closes at its own end, also
+-- where k is a section that closes later.
 unfoldable pub bare : ℕ → Token → Token
-bare o k = record { op = o; variant = 0; value = 0; start = k .start; end = k .end }
+bare o k = record { op = o; variant = 0; value = 0; start = k .start; end = k .end; close = k .end }
+
+-- The section of the opener o, closed by k: it closes at the end of its closer (card 2).
+unfoldable pub closedBy : Token → Token → Token
+closedBy k o = record { op = o .op; variant = o .variant; value = o .value; start = o .start; end = o .end; close = k .end }
+
+-- The opener of a section, as a token of a list: it closes at its own end.
+unfoldable pub unclosed : Token → Token
+unclosed k = closedBy k k
 
 -- The token list as a list of leaves.
 unfoldable pub leaves : List Token → Forest

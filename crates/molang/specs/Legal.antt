@@ -4,7 +4,8 @@ use Prim.Native.Nat.{ℕ, _^_, _≤_, _<_}
 use mathlib.Core.Path.{_≡_}
 use Rattle.molang.specs.Forest.{Token}
 
--- Its operator, its payload variant, its value and both ends of its span fit their words; under variant 0 the value is 0.
+-- Its operator, its payload variant, its value, both ends of its span and where it closes fit their words; under variant 0 the value is
+-- 0.
 pub record Legal (k : Token) : Type 0 where
   pub op : k .op ≤ 110
   pub variant : k .variant ≤ 12
@@ -12,3 +13,4 @@ pub record Legal (k : Token) : Type 0 where
   pub no-payload : k .variant ≡ 0 → k .value ≡ 0
   pub start : k .start < 2 ^ 29
   pub end : k .end < 2 ^ 29
+  pub close : k .close < 2 ^ 29

@@ -83,7 +83,7 @@ linesOf (m ∷ ms) = elim (leb treeMark (m .mark)) [ true ↦ linesOf ms | false
 -- WHAT IS ASKED. A list is given by its operators: payload 0, the i-th token at the span i to i + 1.
 unfoldable pub tokensFrom : ℕ → List ℕ → List Token
 tokensFrom i [] = []
-tokensFrom i (o ∷ os) = record { op = o; variant = 0; value = 0; start = i; end = i + 1 } ∷ tokensFrom (i + 1) os
+tokensFrom i (o ∷ os) = record { op = o; variant = 0; value = 0; start = i; end = i + 1; close = i + 1 } ∷ tokensFrom (i + 1) os
 
 -- A call for n tokens: buffers just as long as the entry asks, and a source of length n. The work buffer is of ones and the others are of
 -- zeros: a work buffer that was cleared differs from one that was left as it was.
@@ -91,7 +91,7 @@ unfoldable pub callFor : ℕ → List ℕ → ℕ → ℤ → Call
 callFor n list used version =
     record {
       list = list;
-      tree = replicate (18 * n) 0;
+      tree = replicate (21 * n) 0;
       messages = replicate 16 0;
       work = replicate (64 * n + 64) 1;
       sourceLength = n;
@@ -104,11 +104,24 @@ callFor n list used version =
 unfoldable pub listCall : List ℕ → ℤ → Call
 listCall os version = callFor (length os) (listWords (tokensFrom 0 os)) (setNumber (uses (tokensFrom 0 os)) 111) version
 
--- A tree node is op_c_ss_ee in decimal digits: operator, child count (one digit), span start and end (two digits each); payload 0.
+-- Where a node of the table closes: at the digit in front of its other eight, or at its own end.
+unfoldable pub closeIn : ℕ → ℕ
+closeIn n = elim (ltb n 100000000) [ true ↦ n % 100 | false ↦ n / 100000000 ]
+
+-- A tree node is op_c_ss_ee in decimal digits: operator, child count (one digit), span start and end (two digits each); payload 0. A closed
+-- section is z_ooo_c_ss_ee, z being the end of its closer.
 unfoldable pub nodeWords : List ℕ → List ℕ
 nodeWords [] = []
 nodeWords (n ∷ ns) =
-    word 1 (n / 100000) ∷ word 2 (n / 100 % 100) ∷ word 3 (n % 100) ∷ word 4 0 ∷ word 5 0 ∷ word 6 (n / 10000 % 10) ∷ nodeWords ns
+    let m = n % 100000000 in
+    word 1 (m / 100000)
+    ∷ word 2 (m / 100 % 100)
+    ∷ word 3 (m % 100)
+    ∷ word 4 0
+    ∷ word 5 0
+    ∷ word 6 (m / 10000 % 10)
+    ∷ word 7 (closeIn n)
+    ∷ nodeWords ns
 
 -- A tree to be written, and room for the three tokens that a node can bring.
 unfoldable pub treeCall : List ℕ → WriteCall
@@ -135,7 +148,8 @@ unfoldable pub repeatedCall : List ℕ → Asked
 repeatedCall [] = unclear
 repeatedCall (n ∷ []) = unclear
 repeatedCall (n ∷ o ∷ []) =
-    parse (callFor n (listWords (replicate n (record { op = o; variant = 0; value = 0; start = 0; end = 0 }))) (2 ^ o) (pos 6) ∷ [])
+    let k : Token = record { op = o; variant = 0; value = 0; start = 0; end = 0; close = 0 } in
+    parse (callFor n (listWords (replicate n k)) (2 ^ o) (pos 6) ∷ [])
 repeatedCall (n ∷ o ∷ m ∷ ms) = unclear
 
 -- A line that names no version is read at 4, 5 and 6.
@@ -173,7 +187,7 @@ recordsOf (m ∷ ms) = recordOf (m .items) ++ recordsOf ms
 -- A written token is op_ss_ee.
 unfoldable pub writtenOf : List ℕ → List Token
 writtenOf [] = []
-writtenOf (n ∷ ns) = record { op = n / 10000; variant = 0; value = 0; start = n / 100 % 100; end = n % 100 } ∷ writtenOf ns
+writtenOf (n ∷ ns) = record { op = n / 10000; variant = 0; value = 0; start = n / 100 % 100; end = n % 100; close = n % 100 } ∷ writtenOf ns
 
 -- A refusal is its number and place.
 unfoldable pub refusalOf : (ℕ → ℕ → Outcome) → List ℕ → Outcome

@@ -39,7 +39,7 @@ refusal c =
     firstOf
     (must (eqb (length (c .list) % 5) 0) (row 1 0)
     ∷ must (leb tokens mostTokens) (row 2 0)
-    ∷ must (leb (18 * tokens) (length (c .tree))) (row 3 0)
+    ∷ must (leb (21 * tokens) (length (c .tree))) (row 3 0)
     ∷ must (leb 16 (length (c .messages))) (row 4 0)
     ∷ must (leb (64 * tokens + 64) (length (c .work))) (row 5 0)
     ∷ must (ltb (c .usedHigh * 2 ^ 64 + c .usedLow) (2 ^ 111)) (row 6 0)

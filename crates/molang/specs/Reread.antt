@@ -53,7 +53,7 @@ handed c =
 
 -- The writer gets the tree of so many nodes as the first reading gave it.
 unfoldable pub writerCall : Handed → ℕ → WriteCall
-writerCall h nodes = record { tree = take (6 * nodes) (h .tree); list = h .written }
+writerCall h nodes = record { tree = take (7 * nodes) (h .tree); list = h .written }
 
 -- The call that reads a list with each operator of its tokens and no other.
 unfoldable pub exactCall : List ℕ → List ℕ → List ℕ → List ℕ → ℕ → ℤ → Call
@@ -143,7 +143,7 @@ pub record CanReadBack (c : Rereading) (k : Token) (cs : Forest) : Type 0 where
   pub plain : unplainAt k cs ≡ none
   pub few : length (written k cs []) ≤ mostTokens
   pub listRoom : 5 * length (written k cs []) ≤ length (c .written)
-  pub treeRoom : 18 * length (written k cs []) ≤ length (c .again)
+  pub treeRoom : 21 * length (written k cs []) ≤ length (c .again)
   pub workRoom : 64 * length (written k cs []) + 64 ≤ length (c .first .work)
   pub legalLength : c .sourceLength ≤ 536870911
 
@@ -153,12 +153,12 @@ pub record HasReadBack (k : Token) (cs : Forest) (l : RereadLeft) : Type 0 where
   pub nodesAgain : ℕ
   pub tells : l .told ≡ twoTrees (size (node k cs nil)) (length (written k cs [])) nodesAgain
   pub listed : take (5 * length (written k cs [])) (l .written) ≡ listWords (written k cs [])
-  pub words : bracketless (take (6 * nodesAgain) (l .again)) ≡ bracketless (take (6 * size (node k cs nil)) (l .tree))
+  pub words : bracketless (take (7 * nodesAgain) (l .again)) ≡ bracketless (take (7 * size (node k cs nil)) (l .tree))
 
 -- DEMAND 3 OF A CALL, by what is told and left. Where the demand's premise holds, the tree reads back. Of every call: whenever two trees
 -- are told, these have the same words with brackets taken away, and no messages of the second reading are told.
 pub record Demand3 (c : Rereading) (l : RereadLeft) : Type 0 where
   pub readsBack : (k : Token) (cs : Forest) → CanReadBack c k cs → HasReadBack k cs l
   pub agree : (nodes count nodesAgain : ℕ) → l .told ≡ twoTrees nodes count nodesAgain
-      → bracketless (take (6 * nodesAgain) (l .again)) ≡ bracketless (take (6 * nodes) (l .tree))
+      → bracketless (take (7 * nodesAgain) (l .again)) ≡ bracketless (take (7 * nodes) (l .tree))
   pub noMessages : (records : ℕ) → l .told ≡ secondMessages records → ⊥

@@ -5,7 +5,7 @@ use mathlib.Core.List.{List, [], _∷_}
 use mathlib.Core.Option.{Option, none, some}
 use lib.Dec.{eqb}
 use Rattle.molang.specs.Operator.{memberAccessor, hasMembers, closingOf, isCloser}
-use Rattle.molang.specs.Forest.{Token, Forest, nil, node, inOrder, count}
+use Rattle.molang.specs.Forest.{Token, Forest, nil, node, inOrder, count, closedBy}
 use Rattle.molang.specs.Message.{Message, leadingMemberAccessor, closingMismatch, sectionNotClosed, noClosingSymbol, Result, ok, fail}
 use Rattle.molang.specs.Message.{closer}
 
@@ -50,12 +50,12 @@ pub data Walked : Type 0 where
   going : Open → Walked
   mismatch : List Message → Walked
 
--- A closer with nothing open stays a leaf.
+-- A closer that matches ends the innermost section, which closes at the closer's end; with nothing open it stays a leaf.
 unfoldable pub closing : Token → Forest → ℕ → Open → Walked
 closing k cs i (outside d) = going (outside (node k cs d))
 closing k cs i (section o j d s) =
     elim (eqb (closer o) (k .op)) [
-      | true ↦ going (placed o (inOrder d) s)
+      | true ↦ going (placed (closedBy k o) (inOrder d) s)
       | false ↦ mismatch (closingMismatch o j k i ∷ sectionNotClosed (outermost o s) ∷ [])
     ]
 

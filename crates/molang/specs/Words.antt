@@ -1,5 +1,5 @@
--- The word formats of document 01, 'The entry and its words': tokens of five words, tree nodes of six, which words are legal, and
--- answers 8-11.
+-- The word formats of document 01, 'The entry and its words': tokens of five words, tree nodes of seven (card 2), which words are legal,
+-- and answers 8-11.
 use Prim.Native.Nat.{ℕ, _+_, _*_, _/_, _%_, _^_, suc}
 use mathlib.Core.Bool.{Bool, true, false}
 use mathlib.Core.List.{List, [], _∷_, _++_}
@@ -25,7 +25,7 @@ unfoldable pub tokenWords : Token → List ℕ
 tokenWords k =
     word 1 (k .variant * 2 ^ 8 + k .op) ∷ word 2 (k .start) ∷ word 3 (k .end) ∷ word 4 (k .value / 2 ^ 16) ∷ word 5 (k .value % 2 ^ 16) ∷ []
 
--- The token of five words.
+-- The token of five words; it closes at its end.
 unfoldable pub tokenOf : ℕ → ℕ → ℕ → ℕ → ℕ → Token
 tokenOf a b c d e =
     record {
@@ -34,6 +34,7 @@ tokenOf a b c d e =
       value = lowOf d % 2 ^ 16 * 2 ^ 16 + lowOf e % 2 ^ 16;
       start = lowOf b;
       end = lowOf c;
+      close = lowOf c;
     }
 
 -- The tokens of a word list; words after the last whole token are left out.
@@ -50,14 +51,24 @@ unfoldable pub listWords : List Token → List ℕ
 listWords [] = []
 listWords (k ∷ ks) = tokenWords k ++ listWords ks
 
--- The words of trees: each node's token and child count, parent first, children in order.
+-- A node's seven words: those of its token, its child count and where it closes.
+unfoldable pub nodeWordsOf : Token → ℕ → List ℕ
+nodeWordsOf k children = tokenWords k ++ (word 6 children ∷ word 7 (k .close) ∷ [])
+
+-- The label of a node by its words but the child count, the last of them saying where it closes.
+unfoldable pub nodeOf : ℕ → ℕ → ℕ → ℕ → ℕ → ℕ → Token
+nodeOf a b c d e g =
+    let k = tokenOf a b c d e in
+    record { op = k .op; variant = k .variant; value = k .value; start = k .start; end = k .end; close = lowOf g }
+
+-- The words of trees: each node's, parent first, children in order.
 unfoldable pub treeWords : Forest → List ℕ
 treeWords nil = []
-treeWords (node k cs rest) = tokenWords k ++ (word 6 (count cs) ∷ (treeWords cs ++ treeWords rest))
+treeWords (node k cs rest) = nodeWordsOf k (count cs) ++ (treeWords cs ++ treeWords rest)
 
 -- Which word of a token or node is expected next.
 pub data Field : Type 0 where
-  operatorField startField endField upperField lowerField countField : Field
+  operatorField startField endField upperField lowerField countField closeField : Field
 
 -- The kind of the word that is expected.
 unfoldable pub fieldKind : Field → ℕ
@@ -67,6 +78,7 @@ fieldKind endField = 3
 fieldKind upperField = 4
 fieldKind lowerField = 5
 fieldKind countField = 6
+fieldKind closeField = 7
 
 -- The answer to the low bits of a word of the right kind, in a token of payload variant v: 9, 10 or 11.
 unfoldable pub lowFault : Field → ℕ → ℕ → Option ℕ
@@ -77,6 +89,7 @@ lowFault endField v low = none
 lowFault upperField v low = must (ltb low (elim (eqb v 0) [ true ↦ 1 | false ↦ 2 ^ 16 ])) 11
 lowFault lowerField v low = must (ltb low (elim (eqb v 0) [ true ↦ 1 | false ↦ 2 ^ 16 ])) 11
 lowFault countField v low = must (ltb low (2 ^ 14)) 11
+lowFault closeField v low = none
 
 -- The answer to a word: 8 for a wrong kind, else that to its low bits.
 unfoldable pub wordFault : Field → ℕ → ℕ → Option ℕ
@@ -90,6 +103,7 @@ variantAfter endField v w = v
 variantAfter upperField v w = v
 variantAfter lowerField v w = v
 variantAfter countField v w = v
+variantAfter closeField v w = v
 
 -- The word after it, in a list of tokens.
 unfoldable pub nextInToken : Field → Field
@@ -99,6 +113,7 @@ nextInToken endField = upperField
 nextInToken upperField = lowerField
 nextInToken lowerField = operatorField
 nextInToken countField = operatorField
+nextInToken closeField = operatorField
 
 -- A refusal's number and place.
 pub record Refusal : Type 0 where

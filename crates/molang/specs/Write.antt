@@ -3,7 +3,7 @@ use mathlib.Core.Bool.{Bool, true, false, _||_, _&&_, not}
 use mathlib.Core.List.{List, _∷_}
 use lib.Dec.{eqb}
 use Rattle.molang.specs.Operator
-use Rattle.molang.specs.Forest.{Token, Forest, nil, node, bare}
+use Rattle.molang.specs.Forest.{Token, Forest, nil, node, bare, unclosed}
 use Rattle.molang.specs.Operator.{isBracket}
 use Rattle.molang.specs.Plain.{isCall}
 
@@ -11,9 +11,13 @@ use Rattle.molang.specs.Plain.{isCall}
 unfoldable pub openerFor : Token → Token
 openerFor k = bare Operator.leftParenthesis k
 
--- A closer carries its opener's span and payload 0.
+-- An added closer carries its opener's span and payload 0.
 unfoldable pub closerFor : Token → Token
 closerFor k = bare Operator.rightParenthesis k
+
+-- The closer of a section of the tree starts and ends where the section closes, and has payload 0 (card 2).
+unfoldable pub closerOf : Token → Token
+closerOf k = record { op = Operator.rightParenthesis; variant = 0; value = 0; start = k .close; end = k .close; close = k .close }
 
 -- An operand that is a leaf or a bracket gets no pair.
 unfoldable pub standsAlone : Token → Forest → Bool
@@ -35,9 +39,12 @@ operandTokens false k tokens r = openerFor k ∷ tokens (closerFor k ∷ r)
 
 -- THE WRITING: the tokens of the node k over its children, before the tokens r. (No plain node has three children.)
 unfoldable pub written : Token → Forest → List Token → List Token
-written k nil r = elim (isBracket (k .op)) [ true ↦ k ∷ closerFor k ∷ r | false ↦ k ∷ r ]
+written k nil r = elim (isBracket (k .op)) [ true ↦ unclosed k ∷ closerOf k ∷ r | false ↦ k ∷ r ]
 written k (node x xs nil) r =
-    elim (isBracket (k .op)) [ true ↦ k ∷ written x xs (closerFor k ∷ r) | false ↦ k ∷ operandTokens (standsAlone x xs) x (written x xs) r ]
+    elim (isBracket (k .op)) [
+      | true ↦ unclosed k ∷ written x xs (closerOf k ∷ r)
+      | false ↦ k ∷ operandTokens (standsAlone x xs) x (written x xs) r
+    ]
 written k (node x xs (node y ys nil)) r =
     operandTokens (standsLeft k x xs) x (written x xs) (k ∷ operandTokens (standsRight k y ys) y (written y ys) r)
 written k (node x xs (node y ys (node z zs more))) r = k ∷ r

@@ -7,8 +7,8 @@ use mathlib.Core.Option.{Option, none, some}
 use lib.Dec.{eqb, leb}
 use lib.ListN.{length}
 use Rattle.molang.specs.Forest.{Token, Forest, nil, node}
-use Rattle.molang.specs.Words.{Field, operatorField, startField, endField, upperField, lowerField, countField, wordFault}
-use Rattle.molang.specs.Words.{variantAfter, lowOf, tokenOf, listWords, Refusal, row, withNumber}
+use Rattle.molang.specs.Words.{Field, operatorField, startField, endField, upperField, lowerField, countField, closeField}
+use Rattle.molang.specs.Words.{wordFault, variantAfter, lowOf, nodeOf, listWords, Refusal, row, withNumber}
 use Rattle.molang.specs.FirstFailure.{must, firstOf}
 use Rattle.molang.specs.Parse.{mostTokens, inFront}
 use Rattle.molang.specs.Plain.{unplainAt}
@@ -25,7 +25,8 @@ nextInNode startField = endField
 nextInNode endField = upperField
 nextInNode upperField = lowerField
 nextInNode lowerField = countField
-nextInNode countField = operatorField
+nextInNode countField = closeField
+nextInNode closeField = operatorField
 
 -- How many nodes the words so far call for, and how many of them have begun.
 pub record Shape : Type 0 where
@@ -40,6 +41,7 @@ shapeAfter endField w s = s
 shapeAfter upperField w s = s
 shapeAfter lowerField w s = s
 shapeAfter countField w s = record { called = s .called + lowOf w; begun = s .begun }
+shapeAfter closeField w s = s
 
 -- The word can stand next in a tree of at most 12,288 nodes: it is legal, a node is still called for, and no more nodes are than fit.
 unfoldable pub continues : Field → ℕ → Shape → ℕ → Bool
@@ -57,6 +59,7 @@ isWhole endField s = false
 isWhole upperField s = false
 isWhole lowerField s = false
 isWhole countField s = false
+isWhole closeField s = false
 
 -- Answer 12's place: the first word that cannot continue a tree, or the word count where the words run out; i is the next word's index.
 unfoldable pub treeFault : ℕ → Field → ℕ → Shape → List ℕ → Option ℕ
@@ -84,8 +87,9 @@ treesOf (a ∷ b ∷ []) = nil
 treesOf (a ∷ b ∷ c ∷ []) = nil
 treesOf (a ∷ b ∷ c ∷ d ∷ []) = nil
 treesOf (a ∷ b ∷ c ∷ d ∷ e ∷ []) = nil
-treesOf (a ∷ b ∷ c ∷ d ∷ e ∷ n ∷ ws) =
-    let after = treesOf ws in node (tokenOf a b c d e) (firstTrees (lowOf n) after) (otherTrees (lowOf n) after)
+treesOf (a ∷ b ∷ c ∷ d ∷ e ∷ n ∷ []) = nil
+treesOf (a ∷ b ∷ c ∷ d ∷ e ∷ n ∷ g ∷ ws) =
+    let after = treesOf ws in node (nodeOf a b c d e g) (firstTrees (lowOf n) after) (otherTrees (lowOf n) after)
 
 -- A call's tree words and the list to fill.
 pub record WriteCall : Type 0 where

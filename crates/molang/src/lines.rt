@@ -8,7 +8,8 @@
 //   The token at place i has span i to i + 1 and payload 0; the used set is exact, the source as long as the list.
 // - `WRITE`, nodes: the tree is written, into a list with room for three tokens a node.
 // - `ZEROS`, n: a list of n words 0. `REPEATED`, n, operator: a list of n such tokens, all at the span 0 to 0. Both read at 6.
-// - `TREE`, nodes: op_c_ss_ee in decimal digits, that is operator, child count, span start, span end, parent first.
+// - `TREE`, nodes: op_c_ss_ee in decimal digits, that is operator, child count, span start, span end, parent first. A closed section is
+//   z_ooo_c_ss_ee, its closer's end z in front; every other node closes at its own end.
 // - `MESSAGE`, number_ss_ee, arguments up to the last that is not 0; once for each message.
 // - `LIST`, tokens: op_ss_ee. `REFUSED`, number, place.
 //
@@ -299,7 +300,7 @@ pub const LINES: [u32; COUNT] = [
     B,
     CLOSE,
     TREE,
-    4_2_00_01,
+    4_004_2_00_01,
     61_0_01_02,
     61_0_02_03,
     // `a ->`: message 12, then message 1
@@ -326,7 +327,7 @@ pub const LINES: [u32; COUNT] = [
     CLOSE,
     TREE,
     36_1_00_01,
-    4_0_01_02,
+    3_004_0_01_02,
     // * writing 9(a,31(b,c)): `a + ( b * c )`
     WRITE,
     9_2_01_02,
@@ -491,7 +492,7 @@ pub const LINES: [u32; COUNT] = [
     B,
     TREE,
     9_2_03_04,
-    4_1_00_01,
+    3_004_1_00_01,
     61_0_01_02,
     6_1_03_04,
     61_0_04_05,
@@ -813,7 +814,7 @@ pub const LINES: [u32; COUNT] = [
     TREE,
     73_1_04_05,
     73_1_00_01,
-    0_1_00_01,
+    4_000_1_00_01,
     73_1_02_03,
     73_1_01_02,
     61_0_01_02,
@@ -829,7 +830,7 @@ pub const LINES: [u32; COUNT] = [
     73_1_05_06,
     73_1_00_01,
     40_1_00_01,
-    4_2_01_02,
+    5_004_2_01_02,
     61_0_02_03,
     73_0_03_04,
     // `( query ( a ; ) ) ;`: 73(73(4(40(4(73(73(a))))))) (but in a list without)
@@ -845,9 +846,9 @@ pub const LINES: [u32; COUNT] = [
     TREE,
     73_1_07_08,
     73_1_00_01,
-    4_1_00_01,
+    7_004_1_00_01,
     40_1_01_02,
-    4_1_02_03,
+    6_004_1_02_03,
     73_1_04_05,
     73_1_03_04,
     61_0_03_04,
@@ -861,7 +862,7 @@ pub const LINES: [u32; COUNT] = [
     TREE,
     73_1_04_05,
     73_1_00_01,
-    2_2_00_01,
+    4_002_2_00_01,
     61_0_01_02,
     73_0_02_03,
     // `return a ;`: 73(73(74(a)))
@@ -886,7 +887,7 @@ pub const LINES: [u32; COUNT] = [
     73_1_05_06,
     73_1_00_01,
     74_1_00_01,
-    4_2_01_02,
+    5_004_2_01_02,
     74_0_02_03,
     61_0_03_04,
     // `return + a`: 9(74(a))
@@ -936,7 +937,7 @@ pub const LINES: [u32; COUNT] = [
     CLOSE,
     TREE,
     40_1_00_01,
-    4_1_01_02,
+    6_004_1_01_02,
     75_2_03_04,
     61_0_02_03,
     61_0_04_05,
@@ -953,7 +954,7 @@ pub const LINES: [u32; COUNT] = [
     CLOSE,
     TREE,
     36_1_00_01,
-    4_1_01_02,
+    4_004_1_01_02,
     61_0_02_03,
     // `sin`: message 8
     ANY,
@@ -1137,7 +1138,7 @@ pub const LINES: [u32; COUNT] = [
     5_02_03,
     // writing 4(9(a,b)): `( a + b )`
     WRITE,
-    4_1_00_01,
+    5_004_1_00_01,
     9_2_02_03,
     61_0_01_02,
     61_0_03_04,
@@ -1146,31 +1147,31 @@ pub const LINES: [u32; COUNT] = [
     61_01_02,
     9_02_03,
     61_03_04,
-    5_00_01,
+    5_05_05,
     // writing 31(4(a),b): `( a ) * b`
     WRITE,
     31_2_03_04,
-    4_1_00_01,
+    3_004_1_00_01,
     61_0_01_02,
     61_0_04_05,
     LIST,
     4_00_01,
     61_01_02,
-    5_00_01,
+    5_03_03,
     31_03_04,
     61_04_05,
     // writing 36(4): `36 ( )`
     WRITE,
     36_1_00_01,
-    4_0_01_02,
+    3_004_0_01_02,
     LIST,
     36_00_01,
     4_01_02,
-    5_01_02,
+    5_03_03,
     // writing 40(4(75(a,b))): `40 ( a , b )`
     WRITE,
     40_1_00_01,
-    4_1_01_02,
+    6_004_1_01_02,
     75_2_03_04,
     61_0_02_03,
     61_0_04_05,
@@ -1180,7 +1181,7 @@ pub const LINES: [u32; COUNT] = [
     61_02_03,
     75_03_04,
     61_04_05,
-    5_01_02,
+    5_06_06,
     // writing 9(a,9), the tree of `a + +`: refused 13 2
     WRITE,
     9_2_01_02,
@@ -1192,32 +1193,32 @@ pub const LINES: [u32; COUNT] = [
     // writing 40(4): refused 13 1
     WRITE,
     40_1_00_01,
-    4_0_01_02,
+    3_004_0_01_02,
     REFUSED,
     13,
     1,
     // writing 4(a,b): refused 13 0
     WRITE,
-    4_2_00_01,
+    4_004_2_00_01,
     61_0_01_02,
     61_0_02_03,
     REFUSED,
     13,
     0,
-    // writing a node too few: refused 12 12
+    // writing a node too few: refused 12 14
     WRITE,
     9_2_01_02,
     61_0_00_01,
     REFUSED,
     12,
-    12,
-    // writing a node too many: refused 12 6
+    14,
+    // writing a node too many: refused 12 7
     WRITE,
     61_0_00_01,
     61_0_01_02,
     REFUSED,
     12,
-    6,
+    7,
 ];
 
 // The table, with each of its lines answered by the definition as it says. A constant has no name in proofs/: what is shown of it is shown

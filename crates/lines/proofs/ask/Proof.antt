@@ -12,9 +12,6 @@ write-nodes-requires c κs = search needs
 returns : tie.Need-returns
 returns c = search needs
 
-add-end : tie.Need-add-end
-add-end c = search needs
-
 slice-aggregate-lay : tie.Need-slice-aggregate-lay
 slice-aggregate-lay c = search needs
 
@@ -23,6 +20,12 @@ lay-requires c κs = search needs
 
 list-words-requires : tie.Need-list-words-requires
 list-words-requires c κs = search needs
+
+first-version-requires : tie.Need-first-version-requires
+first-version-requires c κs = search needs
+
+end-version-requires : tie.Need-end-version-requires
+end-version-requires c κs = search needs
 
 array-share-prefix-list : tie.Need-array-share-prefix-list
 array-share-prefix-list c = search needs
@@ -42,10 +45,11 @@ ask-spec =
     (tie.spec
     write-nodes-requires
     returns
-    add-end
     slice-aggregate-lay
     lay-requires
     list-words-requires
+    first-version-requires
+    end-version-requires
     array-share-prefix-list
     slice-aggregate-read-at
     read-at-requires

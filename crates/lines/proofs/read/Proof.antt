@@ -1,8 +1,7 @@
 -- `lines::read` meets its contract: each part is as long as it says. Assumes nothing.
-use mathlib.Core.Path.{sym}
-use lib.Seq.{length-take-le}
 use native.Mathlib.Omega.{arith}
 use borrow.Author.Needs.{needs}
+use Rattle.lines.proofs.PartLaws.{within-fresh, front-of-fresh}
 use Rattle.lines.proofs.read.Statement.{statement}
 use Rattle.lines.proofs.read.Tie as tie
 
@@ -10,25 +9,25 @@ returns : tie.Need-returns
 returns c = search needs
 
 mul-nodes : tie.Need-mul-nodes
-mul-nodes c = search needs
+mul-nodes c = omega arith
 
 mul-slots : tie.Need-mul-slots
-mul-slots c = search needs
+mul-slots c = omega arith
 
 add-slots : tie.Need-add-slots
-add-slots c = search needs
+add-slots c = omega arith
 
 array-borrow-prefix-tree : tie.Need-array-borrow-prefix-tree
-array-borrow-prefix-tree c = search needs
+array-borrow-prefix-tree c = within-fresh _ 86037 0 (omega arith)
 
 slice-aggregate-read-with : tie.Need-slice-aggregate-read-with
-slice-aggregate-read-with c = sym (length-take-le _ _ (omega arith))
+slice-aggregate-read-with c = front-of-fresh _ 86037 0 (omega arith)
 
 array-borrow-prefix-work : tie.Need-array-borrow-prefix-work
-array-borrow-prefix-work c = search needs
+array-borrow-prefix-work c = within-fresh _ 262272 1 (omega arith)
 
 slice-aggregate-read-with-2 : tie.Need-slice-aggregate-read-with-2
-slice-aggregate-read-with-2 c = sym (length-take-le _ _ (omega arith))
+slice-aggregate-read-with-2 c = front-of-fresh _ 262272 1 (omega arith)
 
 read-with-requires : tie.Need-read-with-requires
 read-with-requires c κs = search needs

@@ -17,17 +17,17 @@ loop-holds c = omega arith
 shared-slice-read-if1 : tie.Need-shared-slice-read-if1 Inv-loop μ-loop
 shared-slice-read-if1 c = omega arith
 
-sub-write-all : tie.Need-sub-write-all Inv-loop μ-loop
-sub-write-all c = omega arith
+sub-say : tie.Need-sub-say Inv-loop μ-loop
+sub-say c = omega arith
 
-part-write-all-start : tie.Need-part-write-all-start Inv-loop μ-loop
-part-write-all-start c = omega arith
+part-say-start : tie.Need-part-say-start Inv-loop μ-loop
+part-say-start c = omega arith
 
-part-write-all-end : tie.Need-part-write-all-end Inv-loop μ-loop
-part-write-all-end c = omega arith
+part-say-end : tie.Need-part-say-end Inv-loop μ-loop
+part-say-end c = omega arith
 
-write-all-requires : tie.Need-write-all-requires Inv-loop μ-loop
-write-all-requires c κs = omega arith
+say-requires : tie.Need-say-requires Inv-loop μ-loop
+say-requires c κs = omega arith
 
 add-result : tie.Need-add-result Inv-loop μ-loop
 add-result c = omega arith
@@ -55,10 +55,10 @@ say-line-spec =
     μ-loop
     loop-holds
     shared-slice-read-if1
-    sub-write-all
-    part-write-all-start
-    part-write-all-end
-    write-all-requires
+    sub-say
+    part-say-start
+    part-say-end
+    say-requires
     add-result
     returns
     add-end

@@ -3,6 +3,7 @@ use mathlib.Core.Path.{sym}
 use lib.Seq.{length-take-le}
 use native.Mathlib.Omega.{arith}
 use borrow.Author.Needs.{needs}
+use Rattle.lines.proofs.PartLaws.{within-fresh, front-of-fresh}
 use Rattle.lines.proofs.write_nodes.Statement.{statement}
 use Rattle.lines.proofs.write_nodes.Tie as tie
 
@@ -16,13 +17,13 @@ lay-requires : tie.Need-lay-requires
 lay-requires c κs = search needs
 
 mul-words : tie.Need-mul-words
-mul-words c = search needs
+mul-words c = omega arith
 
 mul-room : tie.Need-mul-room
-mul-room c = search needs
+mul-room c = omega arith
 
 mul-room-2 : tie.Need-mul-room-2
-mul-room-2 c = search needs
+mul-room-2 c = omega arith
 
 array-share-prefix-tree : tie.Need-array-share-prefix-tree
 array-share-prefix-tree c = search needs
@@ -31,10 +32,10 @@ slice-aggregate-write-with : tie.Need-slice-aggregate-write-with
 slice-aggregate-write-with c = sym (length-take-le _ _ (omega arith))
 
 array-borrow-prefix-list : tie.Need-array-borrow-prefix-list
-array-borrow-prefix-list c = search needs
+array-borrow-prefix-list c = within-fresh _ 20485 0 (omega arith)
 
 slice-aggregate-write-with-2 : tie.Need-slice-aggregate-write-with-2
-slice-aggregate-write-with-2 c = sym (length-take-le _ _ (omega arith))
+slice-aggregate-write-with-2 c = front-of-fresh _ 20485 0 (omega arith)
 
 write-with-requires : tie.Need-write-with-requires
 write-with-requires c κs = search needs

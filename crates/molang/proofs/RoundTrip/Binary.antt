@@ -14,8 +14,8 @@ use Rattle.molang.proofs.Booleans.{never, or-second}
 use Rattle.molang.proofs.Forests.{Turns}
 use Rattle.molang.proofs.RoundTrip.Role.{Role, aBracket, aComma, aQuestion, aColon, is, among, role, op-of-comma, op-of-question}
 use Rattle.molang.proofs.RoundTrip.Role.{op-of-colon}
-use Rattle.molang.proofs.RoundTrip.Expression.{Sort, Exp, empty, leaf, bracket, before, between, isOperand, isJoinedBy, leafRoles}
-use Rattle.molang.proofs.RoundTrip.Expression.{prefixRoles, isLeaf, isPrefix, isJoining, isWhole, takes, joinsLeft, joinsRight}
+use Rattle.molang.proofs.RoundTrip.Expression.{Sort, Pair, Exp, empty, leaf, bracket, before, between, isOperand, isJoinedBy}
+use Rattle.molang.proofs.RoundTrip.Expression.{leafRoles, prefixRoles, isLeaf, isPrefix, isJoining, isWhole, takes, joinsLeft, joinsRight}
 use Rattle.molang.proofs.RoundTrip.Expression.{excepted, ahead, amid, form, also, turned-form}
 use Rattle.molang.proofs.RoundTrip.Walk.{walk-on, walk-into, Gathers, Carries, Passes, carry-both, carry-node, carry-token}
 use Rattle.molang.proofs.RoundTrip.Walk.{carry-whole}
@@ -217,11 +217,11 @@ module _ (σ : ℕ → Bool) (ops : List ℕ) (w : Ready σ ops) where
         single = λ h. o;
       }
 
-  folded-bracket : {s : Sort} (k : Token) (e : role (k .op) ≡ aBracket) (h : isWhole s ≡ true) (x : Exp s) → Folded x
+  folded-bracket : {s : Sort} (k : Token) (e : Pair k) (h : isWhole s ≡ true) (x : Exp s) → Folded x
       → Folded (bracket k e h x)
   unfolding form Clean
   folded-bracket k e h x i =
-      let q = quiet (k .op) aBracket e refl in
+      let q = quiet (k .op) aBracket (e .brackets) refl in
       let t = whole (form σ x) (form σ' x) (i .carried) in
       let o = operand k (form σ x nil) (form σ' x nil) q t (i .clean nil ∙ none-left) in
       record {

@@ -182,11 +182,11 @@ module _ (σ : ℕ → Bool) (kind : CallKind) (w : Uncalled σ kind) where
   called empty = record { carried = λ d r f. unfold turnedOnto in refl; taken = λ h. absurd (false≢true h) }
   called (leaf k r e l) = record { carried = leaf-settles kind k r e l; taken = λ h. absurd (false≢true h) }
   called (bracket {s} k e h x) =
-      let q = uncalled-bracket kind (k .op) e in
+      let q = uncalled-bracket kind (k .op) (e .brackets) in
       let t = whole kind (form σ x) (form σ' x) (called x .carried) in
       record {
         carried = carry kind k (form σ x nil) (form σ' x nil) q t;
-        taken = λ h. take-bracket kind k (form σ x nil) (form σ' x nil) (role-bracket (k .op) ∙ ap (is aBracket) e)
+        taken = λ h. take-bracket kind k (form σ x nil) (form σ' x nil) (role-bracket (k .op) ∙ ap (is aBracket) (e .brackets))
             (λ n. filled-form σ x (must-fill kind s h n) nil) t;
       }
   called (before {s} k r e p t x) =

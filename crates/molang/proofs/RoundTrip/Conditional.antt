@@ -18,8 +18,8 @@ use Rattle.molang.proofs.Conditional.{scanned, scan-once, undangled-cal
 use Rattle.molang.proofs.Forests.{Turns, inOrder-turned}
 use Rattle.molang.proofs.RoundTrip.Role.{Role, aBracket, aComma, aQuestion, aColon, is, is-same, isAmong, among, role}
 use Rattle.molang.proofs.RoundTrip.Role.{role-conditional, role-question, role-colon, op-of-question, op-of-colon}
-use Rattle.molang.proofs.RoundTrip.Expression.{Sort, nothing, atom, prefixed, bracketed, joinedBy, Exp, empty, leaf, bracket, before}
-use Rattle.molang.proofs.RoundTrip.Expression.{between, isOperand, isJoinedBy, isWhole, leafRoles, prefixRoles, isLeaf, isPrefix}
+use Rattle.molang.proofs.RoundTrip.Expression.{Sort, nothing, atom, prefixed, bracketed, joinedBy, Pair, Exp, empty, leaf, bracket}
+use Rattle.molang.proofs.RoundTrip.Expression.{before, between, isOperand, isJoinedBy, isWhole, leafRoles, prefixRoles, isLeaf, isPrefix}
 use Rattle.molang.proofs.RoundTrip.Expression.{isJoining, takes, joinsLeft, joinsRight, excepted, operand-only, ahead, amid, form}
 use Rattle.molang.proofs.RoundTrip.Expression.{also, turned-form, Solid, operand-solid, takes-operand}
 use Rattle.molang.proofs.RoundTrip.Walk.{Gathers, Carries, Passes, carry-both, carry-node, carry-token}
@@ -252,13 +252,13 @@ module _ (σ : ℕ → Bool) (w : Unpaired σ) where
       (carry-node conditionalLevel gatheredIn anything gathers k nil nil (passes k) (gathers .begins))
       (λ r. refl) (λ r. refl) (calm-node k r e (among leafRoles isOther refl r l) nil)
 
-  paired-bracket : {s : Sort} (k : Token) (e : role (k .op) ≡ aBracket) (h : isWhole s ≡ true) (x : Exp s) → Paired x
+  paired-bracket : {s : Sort} (k : Token) (e : Pair k) (h : isWhole s ≡ true) (x : Exp s) → Paired x
       → Paired (bracket k e h x)
   unfolding mid form
   paired-bracket k e h x i =
       paired-operand (bracket k e h x) k (form σ x nil) (form σ' x nil)
       (carry-node conditionalLevel gatheredIn anything gathers k (form σ x nil) (form σ' x nil) (passes k) (i .whole h))
-      (λ r. refl) (λ r. refl) (calm-node k aBracket e refl (form σ' x nil))
+      (λ r. refl) (λ r. refl) (calm-node k aBracket (e .brackets) refl (form σ' x nil))
 
   carry-ahead : (a : Bool) (k : Token) (X M : Forest → Forest) → Carried X M → walk conditionalLevel nil (X nil) ≡ ok (M nil)
       → Carried (ahead a k X) (ahead a k M)

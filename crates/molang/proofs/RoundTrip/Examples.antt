@@ -17,7 +17,7 @@ use Rattle.molang.proofs.Computed.{computed}
 
 -- The token at a position, and trees of it, before others.
 abbrev at : ℕ → ℕ → Token
-at o i = record { op = o; variant = 0; value = 0; start = i; end = i + 1 }
+at o i = record { op = o; variant = 0; value = 0; start = i; end = i + 1; close = i + 1 }
 
 abbrev leaf : ℕ → Forest → Forest
 leaf i rest = node (at Operator.float i) nil rest

@@ -5,8 +5,8 @@ use Prim.Native.Nat.{ℕ}
 use mathlib.Core.Path.{_≡_, refl, ap, sym, _∙_}
 use mathlib.Core.Bool.{Bool, true, false, _||_, _&&_, not, false≢true, and-false}
 use mathlib.Core.List.{List, [], _∷_}
-use Rattle.molang.specs.Forest.{Token, Forest, nil, node, turnedOnto}
-use Rattle.molang.specs.Write.{closerFor}
+use Rattle.molang.specs.Operator
+use Rattle.molang.specs.Forest.{Token, Forest, nil, node, closedBy, turnedOnto}
 use Rattle.molang.proofs.Forests.{Turns}
 use Rattle.molang.proofs.RoundTrip.Role.{Role, aLeaf, aQuery, aMathCall, aBracket, aMinus, aNot, aBinary, aComma, aQuestion, aColon}
 use Rattle.molang.proofs.RoundTrip.Role.{is, isAmong, role}
@@ -96,10 +96,19 @@ pub operand-only : (operand joined joining : Bool) → joining ≡ false → (op
 operand-only true j g n h = refl
 operand-only false j g n h = rw (n, and-false j) at h
 
+-- The two tokens between which the bracket k stands in a list.
+pub record Pair (k : Token) : Type 0 where
+  pub opener : Token
+  pub closer : Token
+  pub brackets : role (k .op) ≡ aBracket
+  pub opens : opener .op ≡ k .op
+  pub closes : closer .op ≡ Operator.rightParenthesis
+  pub joined : closedBy closer opener ≡ k
+
 pub data Exp : Sort → Type 0 where
   empty : Exp nothing
   leaf : (k : Token) (r : Role) → role (k .op) ≡ r → isLeaf r ≡ true → Exp atom
-  bracket : {s : Sort} (k : Token) → role (k .op) ≡ aBracket → isWhole s ≡ true → Exp s → Exp (bracketed s)
+  bracket : {s : Sort} (k : Token) → Pair k → isWhole s ≡ true → Exp s → Exp (bracketed s)
   before : {s : Sort} (k : Token) (r : Role) → role (k .op) ≡ r → isPrefix r ≡ true → takes r s ≡ true → Exp s → Exp prefixed
   between : {s t : Sort} (k : Token) (r : Role) → role (k .op) ≡ r → isJoining r ≡ true → joinsLeft r s ≡ true → joinsRight r t ≡ true
       → Exp s
@@ -109,7 +118,7 @@ pub data Exp : Sort → Type 0 where
 unfoldable pub tokens : {s : Sort} → Exp s → List Token → List Token
 tokens empty r = r
 tokens (leaf k _ _ _) r = k ∷ r
-tokens (bracket k _ _ x) r = k ∷ tokens x (closerFor k ∷ r)
+tokens (bracket k e _ x) r = e .opener ∷ tokens x (e .closer ∷ r)
 tokens (before k _ _ _ _ x) r = k ∷ tokens x r
 tokens (between k _ _ _ _ _ x y) r = tokens x (k ∷ tokens y r)
 

@@ -20,7 +20,6 @@ use Rattle.molang.specs.Conditional.{conditionalLevel}
 use Rattle.molang.specs.Order.{Rules, Pass, lastToken, memberAccessors, sectioning, callPass, statements, arrays, pointer, mathCalls}
 use Rattle.molang.specs.Order.{unaryMinusAndNot, addition, conditional, returns, binary, order, someBelow, runs, apply}
 use Rattle.molang.specs.Read.{rooted, grouped, uses}
-use Rattle.molang.specs.Write.{closerFor}
 use Rattle.molang.proofs.Booleans.{either, never, or-first, or-second, or-neither, or-only-first}
 use Rattle.molang.proofs.Computed.{computed}
 use Rattle.molang.proofs.RoundTrip.Role.{Role, aQuery, aMathCall, aBracket, aCloser, aMinus, aNot, aLoop, another, is, is-same}
@@ -164,8 +163,9 @@ within : (u : ℕ → Bool) {s : Sort} (e : Exp s) (r : List Token) → Uses u (
 unfolding tokens
 within u empty r h = (tt, h)
 within u (leaf k _ _ _) r h = (tt, uses-rest u k r h)
-within u (bracket k _ _ x) r h =
-    let i = within u x (closerFor k ∷ r) (uses-rest u k _ h) in ((uses-first u k _ h, i .0), uses-rest u (closerFor k) r (i .1))
+within u (bracket k e _ x) r h =
+    let i = within u x (e .closer ∷ r) (uses-rest u (e .opener) _ h) in
+    ((ap u (sym (e .opens)) ∙ uses-first u (e .opener) _ h, i .0), uses-rest u (e .closer) r (i .1))
 within u (before k _ _ _ _ x) r h = let i = within u x r (uses-rest u k _ h) in ((uses-first u k _ h, i .0), i .1)
 within u (between k _ _ _ _ _ x y) r h =
     let i = within u x (k ∷ tokens y r) h in let j = within u y r (uses-rest u k _ (i .1)) in ((uses-first u k _ (i .1), i .0, j .0), j .1)
@@ -178,16 +178,16 @@ skip n k r ks h e q =
     rw (ne-eqb (k .op) n (λ p. true≢false (sym h ∙ ap (λ (n : ℕ). isUnwritten (role n)) (sym p) ∙ ap isUnwritten e ∙ not-true
     (isUnwritten r) q))) refl
 
-closer-role : (k : Token) → role (closerFor k .op) ≡ aCloser
+closer-role : (k : Token) → k .op ≡ Operator.rightParenthesis → role (k .op) ≡ aCloser
 unfolding computed role
-closer-role k = refl
+closer-role k e = ap role e
 
 foreign : (n : ℕ) → isUnwritten (role n) ≡ true → {s : Sort} (e : Exp s) (r : List Token) → uses (tokens e r) n ≡ uses r n
 unfolding tokens
 foreign n h empty r = refl
 foreign n h (leaf k q e l) r = skip n k q r h e (among leafRoles (λ r. not (isUnwritten r)) refl q l)
-foreign n h (bracket k e w x) r = skip n k aBracket _ h e refl ∙ foreign n h x (closerFor k ∷ r)
-    ∙ skip n (closerFor k) aCloser r h (closer-role k) refl
+foreign n h (bracket k e w x) r = skip n (e .opener) aBracket _ h (ap role (e .opens) ∙ e .brackets) refl ∙ foreign n h x (e .closer ∷ r)
+    ∙ skip n (e .closer) aCloser r h (closer-role (e .closer) (e .closes)) refl
 foreign n h (before k q e p t x) r = skip n k q _ h e (among prefixRoles (λ r. not (isUnwritten r)) refl q p) ∙ foreign n h x r
 foreign n h (between k q e j l m x y) r =
     foreign n h x (k ∷ tokens y r) ∙ skip n k q _ h e (among joiningRoles (λ r. not (isUnwritten r)) refl q j)
@@ -230,7 +230,7 @@ unfolding form tokens leaves ahead amid isBracket
 bracketless u h empty w r = refl
 bracketless u h (leaf k _ _ _) w r = refl
 bracketless u h (bracket k e _ x) w r =
-    absurd (true≢false (sym (w .0) ∙ ap u (eqb-true (k .op) Operator.leftParenthesis (role-bracket (k .op) ∙ ap (is aBracket) e)) ∙ h))
+    absurd (true≢false (sym (w .0) ∙ ap u (eqb-true (k .op) Operator.leftParenthesis (role-bracket (k .op) ∙ ap (is aBracket) (e .brackets))) ∙ h))
 bracketless u h (before k _ _ _ _ x) w r = ap (node k nil) (bracketless u h x (w .1) r)
 bracketless u h (between k _ _ _ _ _ x y) w r = ap (λ (f : Forest). form nothingYet x (node k nil f)) (bracketless u h y (w .2) r)
     ∙ bracketless u h x (w .1) (k ∷ tokens y r)

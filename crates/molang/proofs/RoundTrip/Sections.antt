@@ -8,14 +8,13 @@ use lib.Dec.{eqb}
 use borrow.Author.Tests.{eqb-true}
 use Rattle.molang.specs.Operator
 use Rattle.molang.specs.Operator.{any, isOneOf, isBracket, closingOf, isCloser}
-use Rattle.molang.specs.Forest.{Token, Forest, nil, node, bare, leaves, turnedOnto, inOrder}
+use Rattle.molang.specs.Forest.{Token, Forest, nil, node, closedBy, leaves, turnedOnto, inOrder}
 use Rattle.molang.specs.Message.{ok, closer}
 use Rattle.molang.specs.Sections.{Open, outside, section, placed, position, closing, closed, sections}
 use Rattle.molang.specs.Sections as Definition
-use Rattle.molang.specs.Write.{closerFor}
 use Rattle.molang.proofs.Forests.{Turns, inOrder-turned}
 use Rattle.molang.proofs.RoundTrip.Role.{aBracket, is, isAmong, among, role, role-bracket, textRoles, role-text}
-use Rattle.molang.proofs.RoundTrip.Expression.{Sort, Exp, empty, leaf, bracket, before, between, leafRoles, prefixRoles}
+use Rattle.molang.proofs.RoundTrip.Expression.{Sort, Pair, Exp, empty, leaf, bracket, before, between, leafRoles, prefixRoles}
 use Rattle.molang.proofs.RoundTrip.Expression.{joiningRoles, tokens, ahead, amid, form, turned-form}
 
 abbrev pub nothingYet : ℕ → Bool
@@ -62,20 +61,24 @@ opens : (k : Token) → k .op ≡ Operator.leftParenthesis → (i : ℕ) (s : Op
 unfolding sections Definition.bracket closingOf
 opens k h i s r = rw (ap closingOf h, Definition.bracket, sections) refl
 
-shuts : (k : Token) → k .op ≡ Operator.leftParenthesis → (d : Forest) (i j : ℕ) (s : Open) (r : Forest)
-    → sections i (section k j d s) (node (closerFor k) nil r) ≡ sections (i + 1) (over (node k (inOrder d) nil) s) r
-unfolding sections Definition.bracket closingOf isCloser isOneOf any closing closer closerFor bare position
-shuts k h d i j s r =
-    rw (ap (λ (n : ℕ). eqb (Option·getD (closingOf n) 0) Operator.rightParenthesis) h, closing, Definition.bracket, sections)
-    (ap (λ (t : Open). sections (i + 1) t r) (over-node k (inOrder d) s))
+shuts : (o c : Token) → o .op ≡ Operator.leftParenthesis → c .op ≡ Operator.rightParenthesis → (d : Forest) (i j : ℕ) (s : Open) (r : Forest)
+    → sections i (section o j d s) (node c nil r) ≡ sections (i + 1) (over (node (closedBy c o) (inOrder d) nil) s) r
+unfolding sections Definition.bracket closingOf isCloser isOneOf any closing closer position
+shuts o c h g d i j s r =
+    let matches : eqb (closer o) (c .op) ≡ true = rw (g, h) refl in
+    rw (ap closingOf g, Definition.bracket, sections)
+    (rw (ap isCloser g) (rw (matches, closing) (ap (λ (t : Open). sections (i + 1) t r) (over-node (closedBy c o) (inOrder d) s))))
 
-read-bracket : (k : Token) → k .op ≡ Operator.leftParenthesis → (F : List Token → List Token) (G : Forest → Forest) → Reads F G
-    → Reads (λ r. k ∷ F (closerFor k ∷ r)) (node k (G nil))
-unfolding leaves over
-read-bracket k h F G f i s r =
-    let a = f (position i s) (section k (position i s + 1) nil s) (closerFor k ∷ r) in (
+read-bracket : (k : Token) (e : Pair k) (F : List Token → List Token) (G : Forest → Forest) → Reads F G
+    → Reads (λ r. e .opener ∷ F (e .closer ∷ r)) (node k (G nil))
+unfolding leaves over isBracket
+read-bracket k e F G f i s r =
+    let h = e .opens ∙ eqb-true (k .op) Operator.leftParenthesis (role-bracket (k .op) ∙ ap (is aBracket) (e .brackets)) in
+    let a = f (position i s) (section (e .opener) (position i s + 1) nil s) (e .closer ∷ r) in (
       a .0 + 1,
-      opens k h i s _ ∙ a .1 ∙ shuts k h (turnedOnto (G nil) nil) (a .0) (position i s + 1) s (leaves r)
+      opens (e .opener) h i s _ ∙ a .1
+          ∙ shuts (e .opener) (e .closer) h (e .closes) (turnedOnto (G nil) nil) (a .0) (position i s + 1) s (leaves r)
+          ∙ ap (λ (t : Token). sections (a .0 + 1) (over (node t (inOrder (turnedOnto (G nil) nil)) nil) s) (leaves r)) (e .joined)
           ∙ ap (λ (c : Forest). sections (a .0 + 1) (over (node k c nil) s) (leaves r)) (inOrder-turned (G nil)),
     )
 
@@ -84,8 +87,7 @@ unfolding tokens form ahead amid isBracket turnedOnto
 reads empty i s r = (i, ap (λ (t : Open). sections i t (leaves r)) (sym (over-nil s)))
 reads (leaf k q e l) i s r = read-token k (among leafRoles (isAmong textRoles) refl (role (k .op)) (ap (isAmong leafRoles) e ∙ l)) i s r
 reads (bracket k e h x) i s r =
-    read-bracket k (eqb-true (k .op) Operator.leftParenthesis (role-bracket (k .op) ∙ ap (is aBracket) e)) (tokens x)
-    (form nothingYet x) (reads x) i s r
+    read-bracket k e (tokens x) (form nothingYet x) (reads x) i s r
 reads (before k q e p t x) i s r =
     read-both (λ r. k ∷ r) (tokens x) (node k nil) (form nothingYet x) (λ r d. refl)
     (read-token k (among prefixRoles (isAmong textRoles) refl (role (k .op)) (ap (isAmong prefixRoles) e ∙ p))) (reads x) i s r

@@ -9,11 +9,12 @@ use lib.Dec.{eqb}
 use borrow.Author.Tests.{not-true}
 use Rattle.molang.specs.Operator
 use Rattle.molang.specs.Operator.{isOneOf, isMathCall, isBracket}
-use Rattle.molang.specs.Forest.{Token, Forest, nil, node, size, bare}
+use Rattle.molang.specs.Forest.{Token, Forest, nil, node, size, bare, closedBy, unclosed}
 use Rattle.molang.specs.Calls.{calls}
 use Rattle.molang.specs.Plain.{Seat, elsewhere, rightOfQuestion, underMathCall, isRightOfQuestion, isUnderMathCall, seatUnder, seatOf}
 use Rattle.molang.specs.Plain.{isPlainLeaf, isPlainBinary, isCall, plainForm, unplain, unplainAt}
-use Rattle.molang.specs.Write.{openerFor, closerFor, standsAlone, standsLeft, standsRight, operandTokens, written, takenAway}
+use Rattle.molang.specs.Write.{openerFor, closerFor, closerOf, standsAlone, standsLeft, standsRight, operandTokens, written}
+use Rattle.molang.specs.Write.{takenAway}
 use Rattle.molang.proofs.Booleans.{either, never, or-only-first}
 use Rattle.molang.proofs.Computed.{computed}
 use Rattle.molang.proofs.PlainTrees.{plain-parts}
@@ -22,8 +23,8 @@ use Rattle.molang.proofs.Writing.{written-none, written-one}
 use Rattle.molang.proofs.RoundTrip.Role.{Role, aQuery, aMathCall, aBracket, aMinus, aNot, aBinary, aComma, aQuestion, aColon, is}
 use Rattle.molang.proofs.RoundTrip.Role.{is-same, isAmong, allOf, among, role, role-bracket, role-comma, role-question, role-colon}
 use Rattle.molang.proofs.RoundTrip.Role.{role-math, role-call, role-leaf, role-binary, role-single, ruled-out}
-use Rattle.molang.proofs.RoundTrip.Expression.{Sort, nothing, atom, prefixed, bracketed, joinedBy, Exp, empty, leaf, bracket, before}
-use Rattle.molang.proofs.RoundTrip.Expression.{between, isOperand, isJoinedBy, isWhole, isFilled, isBracketed, isFilledBracket}
+use Rattle.molang.proofs.RoundTrip.Expression.{Sort, nothing, atom, prefixed, bracketed, joinedBy, Pair, Exp, empty, leaf, bracket}
+use Rattle.molang.proofs.RoundTrip.Expression.{before, between, isOperand, isJoinedBy, isWhole, isFilled, isBracketed, isFilledBracket}
 use Rattle.molang.proofs.RoundTrip.Expression.{leafRoles, prefixRoles, joiningRoles, isLeaf, isPrefix, isJoining, takes, joinsLeft}
 use Rattle.molang.proofs.RoundTrip.Expression.{joinsRight, tokens, ahead, amid, form, Solid}
 use Rattle.molang.proofs.RoundTrip.Order.{everything}
@@ -73,6 +74,16 @@ opener-role : (k : Token) → role (openerFor k .op) ≡ aBracket
 unfolding computed role
 opener-role k = refl
 
+-- An added pair, and the two tokens of a bracket of the tree.
+added-pair : (k : Token) → Pair (openerFor k)
+unfolding openerFor closerFor bare closedBy
+added-pair k =
+    record { opener = openerFor k; closer = closerFor k; brackets = opener-role k; opens = refl; closes = refl; joined = refl }
+
+own-pair : (k : Token) → role (k .op) ≡ aBracket → Pair k
+unfolding unclosed closerOf closedBy
+own-pair k e = record { opener = unclosed k; closer = closerOf k; brackets = e; opens = refl; closes = refl; joined = refl }
+
 opener-bracket : (k : Token) → isBracket (openerFor k .op) ≡ true
 unfolding computed
 opener-bracket k = refl
@@ -83,11 +94,11 @@ taken-section k x f h R = let o = filled-solid x f in rw (o .becomes nil) (taken
 
 part : (joins : Sort → Bool) (b : Bool) (p : Seat) (k : Token) (cs : Forest) (x : Spelled p k cs) → (b ≡ true → joins (x .sort) ≡ true)
     → (b ≡ false → isWhole (x .sort) ≡ true) → (b ≡ false → joins (bracketed (x .sort)) ≡ true) → Part joins b k cs
-unfolding operandTokens form tokens closerFor openerFor bare
+unfolding operandTokens form tokens closerFor openerFor bare added-pair
 part joins true p k cs x t f j = record { sort = x .sort; exp = x .exp; fits = t refl; spells = x .spells; strips = λ c h R. x .strips c R }
 part joins false p k cs x t f j = record {
   sort = bracketed (x .sort);
-  exp = bracket (openerFor k) (opener-role k) (f refl) (x .exp);
+  exp = bracket (openerFor k) (added-pair k) (f refl) (x .exp);
   fits = j refl;
   spells = λ r. ap (λ (ks : List Token). openerFor k ∷ ks) (x .spells (closerFor k ∷ r));
   strips = λ c h R. away c h R;
@@ -144,10 +155,10 @@ spell-leaf p k r e l = record {
 }
 
 spell-hollow : (p : Seat) (k : Token) → role (k .op) ≡ aBracket → isUnderMathCall p ≡ true → Spelled p k nil
-unfolding tokens written form standsAlone
+unfolding tokens written form standsAlone own-pair
 spell-hollow p k e m = record {
   sort = bracketed nothing;
-  exp = bracket k e refl empty;
+  exp = bracket k (own-pair k e) refl empty;
   spells = λ t. sym (written-none true k t (role-bracket (k .op) ∙ ap (is aBracket) e));
   strips = λ c R. refl;
   filled = refl;
@@ -161,11 +172,11 @@ spell-hollow p k e m = record {
 
 spell-bracket : (p q : Seat) (k x : Token) (xs : Forest) → role (k .op) ≡ aBracket → (y : Spelled q x xs) → isWhole (y .sort) ≡ true
     → Spelled p k (node x xs nil)
-unfolding tokens written form standsAlone
+unfolding tokens written form standsAlone own-pair
 spell-bracket p q k x xs e y w = record {
   sort = bracketed (y .sort);
-  exp = bracket k e w (y .exp);
-  spells = λ t. ap (λ (ks : List Token). k ∷ ks) (y .spells (closerFor k ∷ t)) ∙ sym (written-one true k x xs t b);
+  exp = bracket k (own-pair k e) w (y .exp);
+  spells = λ t. ap (λ (ks : List Token). unclosed k ∷ ks) (y .spells (closerOf k ∷ t)) ∙ sym (written-one true k x xs t b);
   strips = away;
   filled = refl;
   alone = b;

@@ -140,7 +140,7 @@ module _ (σ : ℕ → Bool) (w : Unbound σ) where
   binds empty r R s p h = s p
   binds (leaf k q e l) r R s p h = keep k nil nil r R (unbound leafRoles refl (k .op) q e l) (settled-nil none) s p
   binds (bracket {s = t} k e c x) r R s p h =
-      keep k (form σ x nil) (form σ' x nil) r R (unbound (aBracket ∷ []) refl (k .op) aBracket e refl)
+      keep k (form σ x nil) (form σ' x nil) r R (unbound (aBracket ∷ []) refl (k .op) aBracket (e .brackets) refl)
       (whole t (form σ x) (form σ' x) (binds x)) s p
   binds (before {s = t} k q e c u x) r R s p h =
       let o = takes-operand q t u in

@@ -1,0 +1,135 @@
+-- Where nodes close (card 2): in the tree of a reading every node that is no opener closes at its own end. So do all tokens that are written
+-- of a plain tree, as the tokens of a word list must.
+use Prim.Native.Nat.{ℕ, suc, _+_}
+use mathlib.Core.Path.{_≡_, refl, ap, sym, _∙_}
+use mathlib.Core.Bool.{Bool, true, false, false≢true, true≢false}
+use mathlib.Core.List.{List, [], _∷_}
+use mathlib.Core.Option.{none, some, Option·getD}
+use lib.Dec.{eqb}
+use lib.IntN.{ℤ}
+use borrow.Author.Tests.{eqb-true}
+use Rattle.molang.specs.Operator
+use Rattle.molang.specs.Operator.{closingOf, isCloser, isBracket, isOneOf}
+use Rattle.molang.specs.Forest.{Token, Forest, nil, node, renamed, bare, closedBy, unclosed, leaves, size}
+use Rattle.molang.specs.Message.{closer}
+use Rattle.molang.specs.Read.{Answer, read}
+use Rattle.molang.specs.Plain.{Seat, elsewhere, seatUnder, seatOf, isPlainLeaf, isPlainBinary, isCall, plainForm, unplain, unplainAt}
+use Rattle.molang.specs.Write.{openerFor, closerFor, closerOf, standsAlone, standsLeft, standsRight, operandTokens, written}
+use Rattle.molang.proofs.Computed.{computed}
+use Rattle.molang.proofs.PlainTrees.{plain-parts}
+use Rattle.molang.proofs.Words.{AtEnds}
+use Rattle.molang.proofs.Every.{Every, nowhere, at, Renewable, read-every}
+use Rattle.molang.proofs.Writing.{written-none, written-one, written-two}
+
+-- A node that is no opener closes at its own end.
+abbrev pub Closes : Token → Type 0
+Closes k = closingOf (k .op) ≡ none → k .close ≡ k .end
+
+-- What a closer matches is an opener.
+closer-matches : (k o : Token) → closer o ≡ k .op → isCloser (k .op) ≡ true → closingOf (o .op) ≡ none → o .end ≡ k .end
+unfolding closer computed
+closer-matches k o e c h =
+    let zero : k .op ≡ 0 = sym e ∙ ap (λ c. Option·getD c 0) h in absurd (false≢true (sym (ap isCloser zero) ∙ c))
+
+closes-new : Renewable Closes
+unfolding renamed bare closedBy computed
+closes-new =
+    record {
+      plus = λ k m h e. h (ap closingOf m);
+      array = λ k m h e. h (ap closingOf m);
+      statement = λ k h e. refl;
+      minus = λ k h e. refl;
+      section = λ k o m c h g e. sym (closer-matches k o m c e);
+    }
+
+closes-leaves : (ks : List Token) → AtEnds ks → Every Closes (leaves ks)
+unfolding leaves
+closes-leaves [] h = nowhere
+closes-leaves (k ∷ ks) h = at (λ e. h .0) nowhere (closes-leaves ks (h .1))
+
+-- EVERY READING: outside sections a node's seventh word is its span's end.
+pub read-closes : (tokens : List Token) (u : ℕ → Bool) (version : ℤ) (sourceLength : ℕ) (k : Token) (cs : Forest) → AtEnds tokens
+    → read tokens u version sourceLength ≡ Answer.tree k cs → Every Closes (node k cs nil)
+read-closes ts u v l k cs h e = read-every Closes closes-new ts u v l k cs (closes-leaves ts h) e
+
+-- No form is plain for an operator that none of the forms names.
+unnamed : (p : Seat) (k : Token) (cs : Forest) (n : ℕ) → k .op ≡ n → isPlainLeaf n ≡ false → isBracket n ≡ false
+    → isOneOf (Operator.leftParenthesis ∷ Operator.negate ∷ Operator.logicalNot ∷ []) n ≡ false → isCall n ≡ false → isPlainBinary n ≡ false
+    → eqb n Operator.conditionalElse ≡ false
+    → plainForm p k cs ≡ false
+unfolding plainForm
+unnamed p k nil n e l b s c t q = rw (e, l, b) refl
+unnamed p k (node x xs nil) n e l b s c t q = rw (e, s, c) refl
+unnamed p k (node x xs (node y ys nil)) n e l b s c t q = rw (e, t, q) refl
+unnamed p k (node x xs (node y ys (node z zs r))) n e l b s c t q = refl
+
+no-brace : (p : Seat) (k : Token) (cs : Forest) → k .op ≡ Operator.leftBrace → plainForm p k cs ≡ false
+unfolding computed
+no-brace p k cs e = unnamed p k cs Operator.leftBrace e refl refl refl refl refl refl
+
+no-square : (p : Seat) (k : Token) (cs : Forest) → k .op ≡ Operator.leftBracket → plainForm p k cs ≡ false
+unfolding computed
+no-square p k cs e = unnamed p k cs Operator.leftBracket e refl refl refl refl refl refl
+
+-- A bracket over two children is not plain.
+no-bracket : (p : Seat) (k x : Token) (xs : Forest) (y : Token) (ys : Forest) → isBracket (k .op) ≡ true
+    → plainForm p k (node x xs (node y ys nil)) ≡ false
+unfolding computed
+no-bracket p k x xs y ys e =
+    let four : k .op ≡ Operator.leftParenthesis = eqb-true (k .op) Operator.leftParenthesis e in rw four refl
+
+-- The one plain opener is the bracket.
+plain-opener : (p : Seat) (k : Token) (cs : Forest) → plainForm p k cs ≡ true → isBracket (k .op) ≡ false → closingOf (k .op) ≡ none
+unfolding closingOf isBracket
+plain-opener p k cs h b = split (eqb (k .op) Operator.leftBrace) (eqb (k .op) Operator.leftBracket) refl refl
+  where
+    split : (x y : Bool) → eqb (k .op) Operator.leftBrace ≡ x → eqb (k .op) Operator.leftBracket ≡ y → closingOf (k .op) ≡ none
+    split true y d e = absurd (true≢false (sym h ∙ no-brace p k cs (eqb-true (k .op) Operator.leftBrace d)))
+    split false true d e = absurd (true≢false (sym h ∙ no-square p k cs (eqb-true (k .op) Operator.leftBracket e)))
+    split false false d e = rw (d, closingOf) (rw e (rw b refl))
+
+-- F puts tokens that close at their own ends before such tokens.
+abbrev KeepsEnds : (List Token → List Token) → Type 0
+KeepsEnds F = (r : List Token) → AtEnds r → AtEnds (F r)
+
+operand-ends : (b : Bool) (k : Token) (F : List Token → List Token) → KeepsEnds F → KeepsEnds (operandTokens b k F)
+unfolding operandTokens openerFor closerFor bare
+operand-ends true k F f r l = f r l
+operand-ends false k F f r l = (refl, f (closerFor k ∷ r) (refl, l))
+
+written-ends : (p : Seat) (n : ℕ) (k : Token) (cs : Forest) → plainForm p k cs ≡ true → unplain (some k) 0 n cs ≡ none → Closes k
+    → Every Closes cs → KeepsEnds (written k cs)
+unfolding seatOf unclosed closedBy closerOf
+written-ends p n k nil h u c below r l = split (isBracket (k .op)) refl
+  where
+    split : (b : Bool) → isBracket (k .op) ≡ b → AtEnds (written k nil r)
+    split true e = rw (written-none true k r e) (refl, (refl, l))
+    split false e = rw (written-none false k r e) (c (plain-opener p k nil h e), l)
+written-ends p n k (node x xs nil) h u c (at cx cxs nowhere) r l =
+    let a = plain-parts (some k) 0 n x xs nil u in
+    split (isBracket (k .op)) refl (written-ends (seatUnder k 0) (suc n) x xs (a .here) (a .below) cx cxs)
+  where
+    split : (b : Bool) → isBracket (k .op) ≡ b → KeepsEnds (written x xs) → AtEnds (written k (node x xs nil) r)
+    split true e i = rw (written-one true k x xs r e) (refl, i (closerOf k ∷ r) (refl, l))
+    split false e i =
+        rw (written-one false k x xs r e)
+        (c (plain-opener p k (node x xs nil) h e), operand-ends (standsAlone x xs) x (written x xs) i r l)
+written-ends p n k (node x xs (node y ys nil)) h u c (at cx cxs (at cy cys nowhere)) r l =
+    let a = plain-parts (some k) 0 n x xs (node y ys nil) u in
+    let b = plain-parts (some k) 1 (suc n + size xs) y ys nil (a .after) in
+    let right = operand-ends (standsRight k y ys) y (written y ys)
+    (written-ends (seatUnder k 1) (suc (suc n + size xs)) y ys (b .here) (b .below) cy cys) r l in
+    rw (written-two k x xs y ys r)
+    (operand-ends (standsLeft k x xs) x (written x xs)
+    (written-ends (seatUnder k 0) (suc n) x xs (a .here) (a .below) cx cxs) _ (own (isBracket (k .op)) refl, right))
+  where
+    own : (b : Bool) → isBracket (k .op) ≡ b → k .close ≡ k .end
+    own true e = absurd (false≢true (sym (no-bracket p k x xs y ys e) ∙ h))
+    own false e = c (plain-opener p k (node x xs (node y ys nil)) h e)
+written-ends p n k (node x xs (node y ys (node z zs more))) h u c below r l = absurd (false≢true (unfold plainForm in h))
+
+-- The tokens that are written of a plain tree, outside whose sections nodes close at their own ends, close at their own ends.
+pub plain-ends : (k : Token) (cs : Forest) → unplainAt k cs ≡ none → Every Closes (node k cs nil) → AtEnds (written k cs [])
+unfolding unplainAt seatOf
+plain-ends k cs plain (at c below nowhere) =
+    let a = plain-parts none 0 0 k cs nil plain in written-ends elsewhere 1 k cs (a .here) (a .below) c below [] tt
