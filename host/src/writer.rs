@@ -12,7 +12,7 @@ use std::fmt;
 /// A tree is plain if all its nodes are operands, operators with their operands, brackets with one child, conditionals
 /// with both sides, queries and math calls; statements, assignments, arrays, members and pointers are not.
 ///
-/// Writing recurses in the library, 350 bytes of stack a level. A tree of more than 256 levels is written on a thread of its
+/// Writing recurses in the library, 380 bytes of stack a level. A tree of more than 256 levels is written on a thread of its
 /// own with stack enough, so the caller's needs no more than 128 KiB.
 ///
 /// ```
