@@ -3,8 +3,8 @@
  * Buffers are lent as a pointer to 32-bit words, aligned as a uint32_t is, and their number of words. A buffer that is written overlaps no
  * other buffer of the call, and nobody else writes any of them while the call runs. A pointer is never null, not even beside a length of 0.
  *
- * The call stack is the caller's to provide, and the proofs say nothing of it: measured, reading takes at most 2 KiB and writing at most 920 KiB
- * (docs/notes/host.md).
+ * The call stack is the caller's to provide, and the proofs say nothing of it: measured, reading takes at most 2 KiB and writing at most
+ * 1,000 KiB (docs/notes/host.md).
  *
  * An answer is one number. Bits 0-31: the count of nodes, tokens or messages, or a refusal's place. Bits 32-39: a refusal's number, else 0.
  * Bits 40-47: 0 for a tree or a written list, 1 for messages, 2 for a refusal. The functions at the end take it apart.
@@ -52,6 +52,8 @@ uint64_t sorbrudder_parse(const uint32_t *list, size_t list_words, uint32_t *tre
 
 /* Writes the plain tree whose words are `tree` as a list of tokens into the front of `list`; the words after it stay as they were. The
  * closer of a bracket of the tree starts and ends where the bracket closes. Of the other nodes' words of kind 7 only the kind is looked at.
+ * Added brackets have payload 0: the opener's span is from the lowest start to the highest end among the spans of its operand and all below
+ * it, and its closer starts and ends at that end.
  * Done: the number of tokens, five words each. Refused, the list unchanged: 12 not one tree (place: the word, 86,016 at the most), 13 a
  * node that is not plain (place: its number in tree order), 14 more than 4,096 tokens, 15 the list is too short. */
 uint64_t sorbrudder_write(const uint32_t *tree, size_t tree_words, uint32_t *list, size_t list_words);

@@ -1,4 +1,5 @@
-//! A list read, written, and the written list read again at three versions, all by the library, beside the second writer.
+//! A list read, written, and the written list read again at three versions and written again, all by the library, beside
+//! the second writer.
 
 use crate::library::{self, Read};
 use crate::plain_trees;
@@ -103,7 +104,7 @@ pub fn write(rng: &mut Rng, words: &[u32], room: usize) -> Result<(Written, Vec<
     Ok((answer, front))
 }
 
-/// Reads, writes and reads again; what became of the list, or a difference.
+/// Reads, writes, reads again and writes again; what became of the list, or a difference.
 pub fn reread(buffers: &mut Buffers, rng: &mut Rng, case: &Case) -> Result<Reread, String> {
     let Some(words) = read(buffers, case)? else {
         return Ok(Reread::Messages);
@@ -127,16 +128,21 @@ pub fn reread(buffers: &mut Buffers, rng: &mut Rng, case: &Case) -> Result<Rerea
             },
             tokens: tokens.clone(),
         };
-        reads_as(buffers, &again, &away)?;
+        let second = reads_as(buffers, &again, &away)?;
+        // Lifting twice is lifting once: the same tokens in the same room.
+        if write(rng, &second, list.len())? != (answer, list.clone()) {
+            return Err(format!("another list after the written {again:?}"));
+        }
     }
     Ok(Reread::Again)
 }
 
-fn reads_as(buffers: &mut Buffers, case: &Case, away: &[TreeNode]) -> Result<(), String> {
+/// The words of the tree that a written list is read as, which is the first tree, brackets taken away.
+fn reads_as(buffers: &mut Buffers, case: &Case, away: &[TreeNode]) -> Result<Vec<u32>, String> {
     let words = read(buffers, case)?.ok_or_else(|| format!("messages to the written {case:?}"))?;
     let nodes = decode_tree(&words).ok_or("the second tree's words are no tree")?;
     if Tree::of(&nodes).taken_away() != away {
         return Err(format!("another tree of the written {case:?}"));
     }
-    Ok(())
+    Ok(words)
 }

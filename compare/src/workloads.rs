@@ -194,14 +194,26 @@ fn arguments(len: usize, _: u64) -> Vec<u8> {
     [&[40, 4], &nest(len - 3, &[61, 75], &[])[..], &[5]].concat()
 }
 
-const PLAIN: [(&str, Make); 4] = [
+/// A ladder without brackets, of two thirds of the tokens: each step but the first is written in an added pair.
+fn paired_ladder(len: usize, seed: u64) -> Vec<u8> {
+    ladder((2 * len).div_ceil(3), seed)
+}
+
+/// A sum without brackets, of half of the tokens: each sum but the last is the next one's left side, in an added pair.
+fn paired_sums(len: usize, seed: u64) -> Vec<u8> {
+    flat_sum(len.div_ceil(2), seed)
+}
+
+const PLAIN: [(&str, Make); 6] = [
     ("balanced sums and products", balanced),
     ("nested brackets", brackets),
     ("many arguments", arguments),
     ("ladder in brackets", ladder_in_brackets),
+    ("ladder in added pairs", paired_ladder),
+    ("sum in added pairs", paired_sums),
 ];
 
-/// Lists whose trees the writer takes, of about `len` tokens.
+/// Lists whose trees the writer takes, of about `len` written tokens.
 pub fn plain(len: usize) -> Vec<Workload> {
     let made = PLAIN.iter();
     made.map(|&(name, make)| workload(name, make, len, 6))

@@ -1,6 +1,6 @@
-//! Plain, writing and taking away, from document 01's 'Writing a plain tree', lines 12 to 15 of its
-//! table and card 2. Nothing here follows the library: trees are an arena of nodes, each with its parent, and
-//! answer 12 asks of a prefix of the words whether any tree goes on from it.
+//! Plain, writing and taking away, from document 01's 'Writing a plain tree', lines 12 to 15 of its table, and cards 2
+//! and 3. Nothing here follows the library: trees are an arena of nodes, each with its parent, answer 12 asks of a prefix
+//! of the words whether any tree goes on from it, and the extent of an operand is looked for anew at each added pair.
 
 use oracle::words::{NODE_WORDS, TOKEN_WORDS, Token, TreeNode, decode_tree, kind, list_words, low};
 
@@ -99,9 +99,28 @@ impl Tree {
         )
     }
 
+    /// The lowest start and the highest end among the spans of a node and all below it.
+    pub fn extent(&self, node: usize) -> (u32, u32) {
+        let mut below = vec![node];
+        let (mut low, mut high) = (u32::MAX, 0);
+        while let Some(next) = below.pop() {
+            low = low.min(self.tokens[next].start);
+            high = high.max(self.tokens[next].end);
+            below.extend(&self.children[next]);
+        }
+        (low, high)
+    }
+
     /// The number of the first node that is not plain.
     pub fn unplain(&self) -> Option<usize> {
         (0..self.tokens.len()).find(|&node| !self.is_plain(node))
+    }
+
+    /// How many tokens a plain tree is written as: each node, a closer for each bracket, the added pairs.
+    fn written_count(&self) -> usize {
+        let tokens =
+            |node| 1 + usize::from(self.is_bracket(node)) + 2 * usize::from(self.is_paired(node));
+        (0..self.tokens.len()).map(tokens).sum()
     }
 
     /// The tokens of a plain tree.
@@ -122,9 +141,10 @@ impl Tree {
                 Step::Node(node) => node,
             };
             let own = self.tokens[node];
+            let pair = self.is_paired(node).then(|| self.extent(node));
             let mut row = Vec::new();
-            if self.is_paired(node) {
-                row.push(Step::Put(bracket(4, own)));
+            if let Some((start, end)) = pair {
+                row.push(Step::Put(bracket(4, start, end)));
             }
             match *self.children[node] {
                 [left, right] => {
@@ -136,26 +156,15 @@ impl Tree {
                 }
             }
             if self.is_bracket(node) {
-                row.push(Step::Put(self.closer(node)));
+                // The closer of a bracket of the tree starts and ends where the bracket closes.
+                row.push(Step::Put(bracket(5, self.closes[node], self.closes[node])));
             }
-            if self.is_paired(node) {
-                row.push(Step::Put(bracket(5, own)));
+            if let Some((_, end)) = pair {
+                row.push(Step::Put(bracket(5, end, end)));
             }
             steps.extend(row.into_iter().rev());
         }
         list
-    }
-
-    /// The closer of a bracket of the tree: it starts and ends where the bracket closes.
-    fn closer(&self, node: usize) -> Token {
-        let close = self.closes[node];
-        Token {
-            op: 5,
-            variant: 0,
-            value: 0,
-            start: close,
-            end: close,
-        }
     }
 
     /// The nodes of the tree without the brackets that are taken away.
@@ -185,12 +194,13 @@ pub fn is_call(op: u8) -> bool {
     op == 40 || is_math_call(op)
 }
 
-fn bracket(op: u8, node: Token) -> Token {
+fn bracket(op: u8, start: u32, end: u32) -> Token {
     Token {
         op,
         variant: 0,
         value: 0,
-        ..node
+        start,
+        end,
     }
 }
 
@@ -243,12 +253,14 @@ pub fn write(words: &[u32], room: usize) -> (Written, Vec<u32>) {
     if let Some(node) = tree.unplain() {
         return refused(13, node);
     }
-    let list = tree.written();
-    if list.len() > MOST_TOKENS {
+    let count = tree.written_count();
+    if count > MOST_TOKENS {
         return refused(14, 0);
     }
-    if room < TOKEN_WORDS * list.len() {
+    if room < TOKEN_WORDS * count {
         return refused(15, 0);
     }
-    (Written::Tokens(list.len()), list_words(&list))
+    let list = tree.written();
+    assert_eq!(list.len(), count, "tokens of {words:x?}");
+    (Written::Tokens(count), list_words(&list))
 }

@@ -27,11 +27,71 @@ fn refusal(words: &[u32]) -> Written {
     writer_model::write(words, usize::MAX).0
 }
 
+/// Operator, start and end of each token of a plain tree.
+fn spans(nodes: &[TreeNode]) -> Vec<(u8, u32, u32)> {
+    let list = Tree::of(nodes).written();
+    let spans = list.iter();
+    spans
+        .map(|token| (token.op, token.start, token.end))
+        .collect()
+}
+
 #[test]
-fn a_product_under_a_sum_gets_a_pair_with_the_products_span() {
+fn a_product_under_a_sum_gets_a_pair_that_covers_the_product() {
     let nodes = [node(9, 2, 1), float(0), node(31, 2, 3), float(2), float(4)];
-    let list = [(61, 0), (9, 1), (4, 3), (61, 2), (31, 3), (61, 4), (5, 3)];
+    let list = [(61, 0), (9, 1), (4, 2), (61, 2), (31, 3), (61, 4), (5, 5)];
     assert_eq!(written(&nodes), list);
+    let found = spans(&nodes);
+    assert_eq!((found[2], found[6]), ((4, 2, 5), (5, 5, 5)));
+}
+
+#[test]
+fn the_smallest_operand_that_is_wider_than_its_operator() {
+    // ! ! a, of which docs/DIFFERENCES.md speaks.
+    let found = spans(&[node(7, 1, 0), node(7, 1, 1), float(2)]);
+    let list = [(7, 0, 1), (4, 1, 3), (7, 1, 2), (61, 2, 3), (5, 3, 3)];
+    assert_eq!(found, list);
+}
+
+#[test]
+fn a_pair_takes_in_the_pairs_below_it_and_nothing_beside_it() {
+    // (!((a + b) * c)) > d, of the list ! a + b * c > d.
+    let nodes = [
+        node(53, 2, 6),
+        node(7, 1, 0),
+        node(31, 2, 4),
+        node(9, 2, 2),
+        float(1),
+        float(3),
+        float(5),
+        float(7),
+    ];
+    let found = spans(&nodes);
+    let openers = [found[0], found[2], found[3]];
+    assert_eq!(openers, [(4, 0, 6), (4, 1, 6), (4, 1, 4)]);
+    let closers = [found[7], found[10], found[11]];
+    assert_eq!(closers, [(5, 4, 4), (5, 6, 6), (5, 6, 6)]);
+}
+
+#[test]
+fn an_added_pair_covers_all_below_it_wherever_it_stands() {
+    // The lowest start and the highest end stand in the inner pair's leaves, a start above its end among them.
+    let mut nodes = [
+        node(6, 1, 50),
+        node(9, 2, 40),
+        float(30),
+        node(31, 2, 35),
+        float(20),
+        float(33),
+    ];
+    (nodes[4].token.start, nodes[4].token.end) = (90, 7);
+    (nodes[5].token.start, nodes[5].token.end) = (12, 60);
+    let found = spans(&nodes);
+    assert_eq!((found[1], found[9]), ((4, 12, 60), (5, 60, 60)));
+    assert_eq!((found[4], found[8]), ((4, 12, 60), (5, 60, 60)));
+    // What stands beside an operand is none of its extent: the pair of the product begins where the product does.
+    let nodes = [node(9, 2, 1), float(0), node(31, 2, 8), float(7), float(9)];
+    assert_eq!(spans(&nodes)[2], (4, 7, 10));
 }
 
 #[test]
@@ -71,18 +131,23 @@ fn the_closer_of_a_section_starts_and_ends_where_the_section_closes() {
         end: 40,
     };
     assert_eq!((list[2], list[6]), (nodes[2].token, closer));
-    // An added pair keeps its operand's span, whatever the operand's seventh word is.
-    let mut nodes = [node(6, 1, 0), node(31, 2, 2), float(1), float(3)];
-    nodes[1].close = 99;
-    let spans = |nodes: &[TreeNode]| -> Vec<(u8, u32, u32)> {
-        let list = Tree::of(nodes).written();
-        let spans = list.iter();
-        spans
-            .map(|token| (token.op, token.start, token.end))
-            .collect()
-    };
-    let found = spans(&nodes);
-    assert_eq!((found[1], found[5]), ((4, 2, 3), (5, 2, 3)));
+}
+
+#[test]
+fn where_a_node_closes_does_not_count_in_an_extent() {
+    let mut nodes = [
+        node(6, 1, 0),
+        node(31, 2, 2),
+        node(4, 1, 1),
+        float(2),
+        float(3),
+    ];
+    for close in [0, 99] {
+        (nodes[1].close, nodes[2].close, nodes[3].close) = (close, close, close);
+        let found = spans(&nodes);
+        assert_eq!((found[1], found[7]), ((4, 1, 4), (5, 4, 4)));
+        assert_eq!(found[4], (5, close, close), "the section's own closer");
+    }
 }
 
 #[test]
@@ -220,12 +285,15 @@ fn tree_if_at_hand(case: &Case) -> Option<Option<Vec<TreeNode>>> {
     }
 }
 
-/// The written list of a plain tree reads as the tree, brackets taken away, at three versions.
+/// The written list of a plain tree reads as the tree, brackets taken away, at four versions, and what was read is written
+/// as the same list: lifting twice is lifting once.
 fn reads_as_written(rng: &mut Rng, nodes: &[TreeNode], list: &[u32]) {
     let away = Tree::of(nodes).taken_away();
     for version in [4, 5, 6, rng.below(20) as i16 - 3] {
         if let Some(again) = read_again(list, version) {
             assert_eq!(Tree::of(&again).taken_away(), away, "at version {version}");
+            let (_, twice) = writer_model::write(&tree_words(&again), usize::MAX);
+            assert_eq!(twice, list, "at version {version}");
         }
     }
 }
@@ -488,7 +556,7 @@ mod library {
     }
 
     #[test]
-    fn tokens_are_copied_and_brackets_carry_the_span_alone() {
+    fn tokens_are_copied_and_brackets_carry_the_extent_alone() {
         let paid = Token {
             op: 31,
             variant: 12,
@@ -503,12 +571,15 @@ mod library {
         let answer = library::write(&tree_words(&nodes), &mut list);
         assert_eq!(answer, Written::Tokens(6));
         let list = decode_list(&list).expect("the list is legal");
-        let bracket = |op| Token {
+        // The leaves are at 0 to 0: the lowest start is theirs, the highest end the product's.
+        let bracket = |op, start| Token {
             op,
             variant: 0,
             value: 0,
-            ..paid
+            start,
+            end: 3,
         };
-        assert_eq!((list[1], list[3], list[5]), (bracket(4), paid, bracket(5)));
+        let pair = (bracket(4, 0), bracket(5, 3));
+        assert_eq!((list[1], list[3], list[5]), (pair.0, paid, pair.1));
     }
 }

@@ -64,7 +64,7 @@ impl Tokens {
     }
 
     /// The list with each token as it stands in the source: for lists whose spans lie in a text. Brackets that the writer
-    /// added have their operand's span and are shown as brackets.
+    /// added cover their operand and are shown as brackets.
     ///
     /// ```
     /// use sorbrudder::{Tokens, lift};

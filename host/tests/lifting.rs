@@ -51,10 +51,55 @@ fn a_product_under_a_sum_is_written_in_brackets() {
     let tree = Reader::new().read(&list, 6).expect("a tree");
     let written = Writer::new().write(&tree).expect("a plain tree");
     assert_eq!(written.to_string(), "a + (b * c)");
-    assert_eq!(
-        written[2].span, written[4].span,
-        "a pair has its operand's span"
-    );
+    let source = "a + b * c";
+    assert_eq!(written[2].span.of(source), Some("b * c"));
+    assert_eq!((written[6].span.start(), written[6].span.end()), (9, 9));
+}
+
+#[test]
+fn an_added_pair_covers_its_operand() {
+    let source = "d && a + b * c == f || e";
+    let list: Tokens = source.parse().expect("the notation");
+    let tree = Reader::new().read(&list, 5).expect("a tree");
+    let written = Writer::new().write(&tree).expect("a plain tree");
+    let shown = "d && (((a + (b * c)) == f) || e)";
+    assert_eq!(written.shown_in(source).to_string(), shown);
+    let of = |place: usize| written[place].span.of(source).expect("in the source");
+    let openers = [2, 3, 4, 7].map(of);
+    let covered = [
+        "a + b * c == f || e",
+        "a + b * c == f",
+        "a + b * c",
+        "b * c",
+    ];
+    assert_eq!(openers, covered);
+    // A closer stands at its pair's end, and covers nothing.
+    for (opener, closer) in [(2, 18), (3, 15), (4, 12), (7, 11)] {
+        let end = written[opener].span.end();
+        let span = written[closer].span;
+        assert_eq!((span.start(), span.end()), (end, end));
+    }
+}
+
+#[test]
+fn what_was_written_is_written_as_it_is() {
+    let (mut reader, mut writer) = (Reader::new(), Writer::new());
+    let mut written_lists = 0;
+    for text in lists().step_by(7) {
+        let list: Tokens = text.parse().expect("the notation");
+        let Ok(tree) = reader.read(&list, 4) else {
+            continue;
+        };
+        let Ok(written) = writer.write(&tree) else {
+            continue;
+        };
+        for version in [0, 4, 5, 6, 13] {
+            let again = reader.read(&written, version).expect("a written list");
+            assert_eq!(writer.write(&again).as_ref(), Ok(&written), "{text}");
+        }
+        written_lists += 1;
+    }
+    assert!(written_lists > 100, "only {written_lists} lists");
 }
 
 #[test]

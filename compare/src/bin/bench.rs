@@ -228,9 +228,19 @@ mod timed {
     /// A tree of the plain Rust writer.
     struct Node {
         token: Token,
-        /// The start and the end of its closer, where it is a bracket.
-        closer: (u32, u32),
+        /// Where it closes.
+        close: u32,
         children: Vec<Node>,
+    }
+
+    fn bracket(op: u8, start: u32, end: u32) -> Token {
+        Token {
+            op,
+            variant: 0,
+            value: 0,
+            start,
+            end,
+        }
     }
 
     impl Node {
@@ -241,54 +251,59 @@ mod timed {
             let children = (0..low(node[TOKEN_WORDS]))
                 .map(|_| Self::of(nodes))
                 .collect();
-            // Before card 2 a closer had its opener's span.
-            let close = node.get(TOKEN_WORDS + 1).map(|close| low(*close));
+            // Before card 2 a node did not say where it closes.
+            let close = node.get(TOKEN_WORDS + 1);
             Self {
                 token,
-                closer: close.map_or((token.start, token.end), |close| (close, close)),
+                close: close.map_or(token.end, |close| low(*close)),
                 children,
             }
         }
 
-        fn bracket(&self, op: u8, (start, end): (u32, u32)) -> Token {
-            Token {
-                op,
-                variant: 0,
-                value: 0,
-                start,
-                end,
-            }
-        }
-
-        fn write(&self, list: &mut Vec<u32>) {
+        /// Writes the tree; the lowest start and the highest end of its spans.
+        fn write(&self, list: &mut Vec<u32>) -> (u32, u32) {
+            let own = (self.token.start, self.token.end);
             match &self.children[..] {
-                [] => list.extend(self.token.words()),
+                [] => {
+                    list.extend(self.token.words());
+                    own
+                }
                 [only] if self.token.op == 4 => {
                     list.extend(self.token.words());
-                    only.write(list);
-                    list.extend(self.bracket(5, self.closer).words());
+                    let below = only.write(list);
+                    list.extend(bracket(5, self.close, self.close).words());
+                    wider(own, below)
                 }
                 [only] => {
                     list.extend(self.token.words());
-                    only.write_operand(list, false);
+                    wider(own, only.write_operand(list, false))
                 }
                 [left, right, ..] => {
-                    left.write_operand(list, self.token.op == 75 && left.token.op == 75);
+                    let alone = self.token.op == 75 && left.token.op == 75;
+                    let before = left.write_operand(list, alone);
                     list.extend(self.token.words());
-                    right.write_operand(list, self.token.op == 59 && right.token.op == 60);
+                    let alone = self.token.op == 59 && right.token.op == 60;
+                    wider(wider(own, before), right.write_operand(list, alone))
                 }
             }
         }
 
-        fn write_operand(&self, list: &mut Vec<u32>, alone: bool) {
+        fn write_operand(&self, list: &mut Vec<u32>, alone: bool) -> (u32, u32) {
             if alone || self.children.is_empty() || self.token.op == 4 {
                 return self.write(list);
             }
-            let span = (self.token.start, self.token.end);
-            list.extend(self.bracket(4, span).words());
-            self.write(list);
-            list.extend(self.bracket(5, span).words());
+            // The opener is filled in when the operand's extent is known.
+            let at = list.len();
+            list.extend([0; TOKEN_WORDS]);
+            let (start, end) = self.write(list);
+            list[at..at + TOKEN_WORDS].copy_from_slice(&bracket(4, start, end).words());
+            list.extend(bracket(5, end, end).words());
+            (start, end)
         }
+    }
+
+    fn wider(one: (u32, u32), other: (u32, u32)) -> (u32, u32) {
+        (one.0.min(other.0), one.1.max(other.1))
     }
 
     /// A tree's words as one library has them, and the list that it is written into.
@@ -346,18 +361,24 @@ mod timed {
             let now = Written::new(libraries.now, &mut reading);
             let before = libraries.before;
             let before = before.map(|before| Written::new(before, &mut reading));
-            for written in [Some(&now), before.as_ref()].into_iter().flatten() {
-                let mut list = Vec::new();
-                written.built().write(&mut list);
-                assert!(list == written.list, "{name}: two lists");
+            let (root, mut rust_list) = (now.built(), Vec::new());
+            root.write(&mut rust_list);
+            assert!(rust_list == now.list, "{name}: two lists");
+            if let Some(before) = &before {
+                // Before cards 2 and 3 brackets had other spans.
+                let operators = |list: &[u32]| -> Vec<u32> {
+                    list.iter().step_by(TOKEN_WORDS).copied().collect()
+                };
+                let same = operators(&before.list) == operators(&now.list);
+                assert!(same, "{name}: another list before");
             }
             Self {
                 line: Line::new(name, now.list.len() / TOKEN_WORDS),
                 with_building: Batches::default(),
-                root: now.built(),
+                root,
                 now,
                 before,
-                rust_list: Vec::new(),
+                rust_list,
             }
         }
 

@@ -1,6 +1,6 @@
-//! The long comparison (`make compare`): reading through the C convention beside the Rust, then reading, writing and
-//! reading again beside the second writer. The last line is `N lists, 0 differences`; a difference ends the run with a
-//! status that is not 0, after the smallest list that shows it.
+//! The long comparison (`make compare`): reading through the C convention beside the Rust, writing trees beside the second
+//! writer, then reading, writing and reading again. The last line is `N lists, 0 differences`; a difference ends the run
+//! with a status that is not 0, after the smallest list that shows it.
 //!
 //!     compare [LISTS] [SEED]
 
@@ -44,10 +44,13 @@ fn main() -> ExitCode {
 mod run {
     use compare::calls;
     use compare::comparison::Comparison;
+    use compare::plain_trees;
     use compare::reading::Buffers;
-    use compare::rereading::{Lists, Reread, reread};
+    use compare::rereading::{Lists, Reread, reread, write};
+    use compare::writer_model::Written;
     use oracle::generate::Rng;
     use oracle::refusal::Call;
+    use oracle::words::tree_words;
     use std::io::{IsTerminal as _, Write as _};
     use std::time::{Duration, Instant};
 
@@ -138,10 +141,48 @@ mod run {
         let shapes = &mut lens.into_iter().flat_map(calls::shapes);
         part("every shape, at 4, 5 and 6", shapes)?;
         part("every refusal at its limits", &mut calls::limits())?;
-        match rereading(lists as u64 / 5, seed) {
-            Ok(count) => Ok(done + count),
-            Err((count, difference)) => Err((done + count, difference)),
+        for part in [writing, rereading] {
+            let written = part(lists as u64 / 5, seed);
+            let (Ok(count) | Err((count, _))) = written;
+            done += count;
+            written.map_err(|(_, difference)| (done, difference))?;
         }
+        Ok(done)
+    }
+
+    /// Writes `count` trees of any spans by the library and by the second writer, most of them plain.
+    fn writing(count: u64, seed: u64) -> Result<u64, (u64, String)> {
+        let mut progress = Progress::new("trees written");
+        let mut rng = Rng::new(seed ^ 0x77EE);
+        let (mut tokens, mut refused) = (0, 0);
+        while progress.done < count {
+            let (answer, _) = one_tree(&mut rng).map_err(|why| (progress.done, why))?;
+            match answer {
+                Written::Tokens(written) => tokens += written,
+                Written::Refused(..) => refused += 1,
+            }
+            progress.one_more();
+        }
+        let done = progress.done;
+        progress.end(&format!("{tokens} tokens, {refused} trees turned back"));
+        Ok(done)
+    }
+
+    fn one_tree(rng: &mut Rng) -> Result<(Written, Vec<u32>), String> {
+        let most = if rng.chance(2) { 300 } else { 24 };
+        let size = 1 + rng.below(most);
+        let mut nodes = plain_trees::plain(rng, size);
+        if rng.chance(50) {
+            nodes = plain_trees::disturbed(rng, nodes);
+        }
+        let words = tree_words(&nodes);
+        let room = 5 * rng.below(4 * nodes.len() + 1);
+        let room = if rng.chance(5) {
+            room
+        } else {
+            20 * nodes.len()
+        };
+        write(rng, &words, room)
     }
 
     fn reading(

@@ -14,7 +14,7 @@ use Rattle.molang.specs.Forest.{Token, Forest, nil, node, renamed, bare,
 use Rattle.molang.specs.Message.{closer}
 use Rattle.molang.specs.Read.{Answer, read}
 use Rattle.molang.specs.Plain.{Seat, elsewhere, seatUnder, seatOf, isPlainLeaf, isPlainBinary, isCall, plainForm, unplain, unplainAt}
-use Rattle.molang.specs.Write.{openerFor, closerFor, closerOf, standsAlone, standsLeft, standsRight, operandTokens, written}
+use Rattle.molang.specs.Write.{spanning, openerFor, closerFor, closerOf, standsAlone, standsLeft, standsRight, operandTokens, written}
 use Rattle.molang.proofs.Computed.{computed}
 use Rattle.molang.proofs.PlainTrees.{plain-parts}
 use Rattle.molang.proofs.Words.{AtEnds}
@@ -92,14 +92,14 @@ plain-opener p k cs h b = split (eqb (k .op) Operator.leftBrace) (eqb (k .op) Op
 abbrev KeepsEnds : (List Token → List Token) → Type 0
 KeepsEnds F = (r : List Token) → AtEnds r → AtEnds (F r)
 
-operand-ends : (b : Bool) (k : Token) (F : List Token → List Token) → KeepsEnds F → KeepsEnds (operandTokens b k F)
-unfolding operandTokens openerFor closerFor bare
-operand-ends true k F f r l = f r l
-operand-ends false k F f r l = (refl, f (closerFor k ∷ r) (refl, l))
+operand-ends : (b : Bool) (k : Token) (cs : Forest) (F : List Token → List Token) → KeepsEnds F → KeepsEnds (operandTokens b k cs F)
+unfolding operandTokens openerFor closerFor spanning
+operand-ends true k cs F f r l = f r l
+operand-ends false k cs F f r l = (refl, f (closerFor k cs ∷ r) (refl, l))
 
 written-ends : (p : Seat) (n : ℕ) (k : Token) (cs : Forest) → plainForm p k cs ≡ true → unplain (some k) 0 n cs ≡ none → Closes k
     → Every Closes cs → KeepsEnds (written k cs)
-unfolding seatOf unclosed closedBy closerOf
+unfolding seatOf unclosed closedBy closerOf spanning
 written-ends p n k nil h u c below r l = split (isBracket (k .op)) refl
   where
     split : (b : Bool) → isBracket (k .op) ≡ b → AtEnds (written k nil r)
@@ -113,14 +113,14 @@ written-ends p n k (node x xs nil) h u c (at cx cxs nowhere) r l =
     split true e i = rw (written-one true k x xs r e) (refl, i (closerOf k ∷ r) (refl, l))
     split false e i =
         rw (written-one false k x xs r e)
-        (c (plain-opener p k (node x xs nil) h e), operand-ends (standsAlone x xs) x (written x xs) i r l)
+        (c (plain-opener p k (node x xs nil) h e), operand-ends (standsAlone x xs) x xs (written x xs) i r l)
 written-ends p n k (node x xs (node y ys nil)) h u c (at cx cxs (at cy cys nowhere)) r l =
     let a = plain-parts (some k) 0 n x xs (node y ys nil) u in
     let b = plain-parts (some k) 1 (suc n + size xs) y ys nil (a .after) in
-    let right = operand-ends (standsRight k y ys) y (written y ys)
+    let right = operand-ends (standsRight k y ys) y ys (written y ys)
     (written-ends (seatUnder k 1) (suc (suc n + size xs)) y ys (b .here) (b .below) cy cys) r l in
     rw (written-two k x xs y ys r)
-    (operand-ends (standsLeft k x xs) x (written x xs)
+    (operand-ends (standsLeft k x xs) x xs (written x xs)
     (written-ends (seatUnder k 0) (suc n) x xs (a .here) (a .below) cx cxs) _ (own (isBracket (k .op)) refl, right))
   where
     own : (b : Bool) → isBracket (k .op) ≡ b → k .close ≡ k .end

@@ -1,6 +1,6 @@
 -- The words of legal tokens answer none of 8-11, and what is written of a legal tree is legal: what stands between the writer and a second
 -- reading.
-use Prim.Native.Nat.{ℕ, suc, _+_, _*_, _/_, _%_, _^_, _≤_}
+use Prim.Native.Nat.{ℕ, suc, _+_, _*_, _/_, _%_, _^_, _≤_, _<_, min, max}
 use mathlib.Core.Path.{_≡_, refl, ap, _∙_}
 use mathlib.Core.Bool.{Bool, true, false, false≢true}
 use mathlib.Core.List.{List, [], _∷_, _++_}
@@ -8,13 +8,14 @@ use mathlib.Core.Option.{Option, none, some}
 use native.Mathlib.Omega.{arith}
 use lib.ListN.{length}
 use borrow.Author.Tests.{ne-eqb}
+use Rattle.molang.specs.Operator
 use Rattle.molang.specs.Operator.{isBracket}
-use Rattle.molang.specs.Forest.{Token, Forest, nil, node, bare, closedBy, unclosed, count, size}
-use Rattle.molang.specs.Read.{uses}
+use Rattle.molang.specs.Forest.{Token, Forest, nil, node, closedBy, unclosed, count, size}
+use Rattle.molang.specs.Read.{lowestStart, highestEnd, uses}
 use Rattle.molang.specs.Words.{word, tokenWords, nodeWordsOf, listWords, treeWords, Field, operatorField, startField, endField}
 use Rattle.molang.specs.Words.{upperField, lowerField, wordFault, lowFault, variantAfter, nextInToken, withPlace, wordsRefusal}
 use Rattle.molang.specs.Legal.{Legal}
-use Rattle.molang.specs.Write.{openerFor, closerFor, closerOf, standsAlone, standsLeft, standsRight, operandTokens, written}
+use Rattle.molang.specs.Write.{spanning, openerFor, closerFor, closerOf, standsAlone, standsLeft, standsRight, operandTokens, written}
 use Rattle.molang.specs.WriteEntry.{nextInNode, Shape, shapeAfter, continues, treeFault}
 use Rattle.molang.proofs.FirstFailure.{first-none, passed, after-none}
 use Rattle.molang.proofs.Words.{LegalTokens, noTokens, token, LegalTrees, noTrees, legalTree}
@@ -82,32 +83,34 @@ unfolding uses
 uses-legal noTokens m h = refl
 uses-legal (token {k = k} l ls) m h = rw (ne-eqb (k .op) m (λ e. omega (arith, l .op)), uses-legal ls m h) refl
 
--- Added brackets are legal.
-opener-legal : (k : Token) → Legal k → Legal (openerFor k)
-unfolding openerFor bare
-opener-legal k h =
-    record {
-      op = omega arith;
-      variant = omega arith;
-      value = omega arith;
-      no-payload = λ e. refl;
-      start = h .start;
-      end = h .end;
-      close = h .end;
-    }
+-- The extent of legal trees fits its words.
+lowest-legal : {f : Forest} → LegalTrees f → (m : ℕ) → m < 2 ^ 29 → lowestStart m f < 2 ^ 29
+unfolding lowestStart
+lowest-legal noTrees m b = b
+lowest-legal (legalTree {k = k} h n below after) m b =
+    lowest-legal after _ (lowest-legal below (min m (k .start)) (omega (arith, h .start)))
 
-closer-legal : (k : Token) → Legal k → Legal (closerFor k)
-unfolding closerFor bare
-closer-legal k h =
-    record {
-      op = omega arith;
-      variant = omega arith;
-      value = omega arith;
-      no-payload = λ e. refl;
-      start = h .start;
-      end = h .end;
-      close = h .end;
-    }
+highest-legal : {f : Forest} → LegalTrees f → (m : ℕ) → m < 2 ^ 29 → highestEnd m f < 2 ^ 29
+unfolding highestEnd
+highest-legal noTrees m b = b
+highest-legal (legalTree {k = k} h n below after) m b = highest-legal after _ (highest-legal below (max m (k .end)) (omega (arith, h .end)))
+
+-- A bracket of a legal span is legal.
+spanning-legal : (o start end : ℕ) → o ≤ 110 → start < 2 ^ 29 → end < 2 ^ 29 → Legal (spanning o start end)
+unfolding spanning
+spanning-legal o start end h s e =
+    record { op = h; variant = omega arith; value = omega arith; no-payload = λ z. refl; start = s; end = e; close = e }
+
+-- Added brackets are legal.
+opener-legal : (k : Token) (cs : Forest) → Legal k → LegalTrees cs → Legal (openerFor k cs)
+unfolding openerFor
+opener-legal k cs h below =
+    spanning-legal Operator.leftParenthesis _ _ (omega arith) (lowest-legal below (k .start) (h .start)) (highest-legal below (k .end) (h .end))
+
+closer-legal : (k : Token) (cs : Forest) → Legal k → LegalTrees cs → Legal (closerFor k cs)
+unfolding closerFor
+closer-legal k cs h below =
+    let end = highest-legal below (k .end) (h .end) in spanning-legal Operator.rightParenthesis _ _ (omega arith) end end
 
 -- So are the two tokens of a section.
 unclosed-legal : (k : Token) → Legal k → Legal (unclosed k)
@@ -125,25 +128,18 @@ unclosed-legal k h =
 
 section-end-legal : (k : Token) → Legal k → Legal (closerOf k)
 unfolding closerOf
-section-end-legal k h =
-    record {
-      op = omega arith;
-      variant = omega arith;
-      value = omega arith;
-      no-payload = λ e. refl;
-      start = h .close;
-      end = h .close;
-      close = h .close;
-    }
+section-end-legal k h = spanning-legal Operator.rightParenthesis _ _ (omega arith) (h .close) (h .close)
 
 -- F puts legal tokens before legal tokens.
 abbrev KeepsLegal : (List Token → List Token) → Type 0
 KeepsLegal F = (r : List Token) → LegalTokens r → LegalTokens (F r)
 
-operand-legal : (b : Bool) (k : Token) (F : List Token → List Token) → Legal k → KeepsLegal F → KeepsLegal (operandTokens b k F)
+operand-legal : (b : Bool) (k : Token) (cs : Forest) (F : List Token → List Token) → Legal k → LegalTrees cs → KeepsLegal F
+    → KeepsLegal (operandTokens b k cs F)
 unfolding operandTokens
-operand-legal true k F h f r l = f r l
-operand-legal false k F h f r l = token (opener-legal k h) (f (closerFor k ∷ r) (token (closer-legal k h) l))
+operand-legal true k cs F h below f r l = f r l
+operand-legal false k cs F h below f r l =
+    token (opener-legal k cs h below) (f (closerFor k cs ∷ r) (token (closer-legal k cs h below) l))
 
 -- The writing of a legal tree is legal.
 pub written-legal : (k : Token) (cs : Forest) → Legal k → LegalTrees cs → KeepsLegal (written k cs)
@@ -156,10 +152,10 @@ written-legal k (node x xs nil) h (legalTree hx n hxs noTrees) r l = split (isBr
   where
     split : (b : Bool) → isBracket (k .op) ≡ b → KeepsLegal (written x xs) → LegalTokens (written k (node x xs nil) r)
     split true e i = rw (written-one true k x xs r e) (token (unclosed-legal k h) (i (closerOf k ∷ r) (token (section-end-legal k h) l)))
-    split false e i = rw (written-one false k x xs r e) (token h (operand-legal (standsAlone x xs) x (written x xs) hx i r l))
+    split false e i = rw (written-one false k x xs r e) (token h (operand-legal (standsAlone x xs) x xs (written x xs) hx hxs i r l))
 written-legal k (node x xs (node y ys nil)) h (legalTree hx n hxs (legalTree hy m hys noTrees)) r l =
     rw (written-two k x xs y ys r)
-    (operand-legal (standsLeft k x xs) x (written x xs) hx (written-legal x xs hx hxs)
-    (k ∷ operandTokens (standsRight k y ys) y (written y ys) r)
-    (token h (operand-legal (standsRight k y ys) y (written y ys) hy (written-legal y ys hy hys) r l)))
+    (operand-legal (standsLeft k x xs) x xs (written x xs) hx hxs (written-legal x xs hx hxs)
+    (k ∷ operandTokens (standsRight k y ys) y ys (written y ys) r)
+    (token h (operand-legal (standsRight k y ys) y ys (written y ys) hy hys (written-legal y ys hy hys) r l)))
 written-legal k (node x xs (node y ys (node z zs more))) h below r l = rw (written-more k x xs y ys z zs more r) (token h l)

@@ -21,14 +21,14 @@ written-none b k r h = rw (← h) refl
 pub written-one : (b : Bool) (k x : Token) (xs : Forest) (r : List Token) → isBracket (k .op) ≡ b
     → written k (node x xs nil) r ≡ (elim b as (λ t. List Token) [
       | true ↦ unclosed k ∷ written x xs (closerOf k ∷ r)
-      | false ↦ k ∷ operandTokens (standsAlone x xs) x (written x xs) r
+      | false ↦ k ∷ operandTokens (standsAlone x xs) x xs (written x xs) r
     ])
 unfolding written
 written-one b k x xs r h = rw (← h) refl
 
 pub written-two : (k x : Token) (xs : Forest) (y : Token) (ys : Forest) (r : List Token)
-    → written k (node x xs (node y ys nil)) r ≡ operandTokens (standsLeft k x xs) x (written x xs)
-    (k ∷ operandTokens (standsRight k y ys) y (written y ys) r)
+    → written k (node x xs (node y ys nil)) r ≡ operandTokens (standsLeft k x xs) x xs (written x xs)
+    (k ∷ operandTokens (standsRight k y ys) y ys (written y ys) r)
 unfolding written
 written-two k x xs y ys r = refl
 
@@ -38,15 +38,15 @@ unfolding written
 written-more k x xs y ys z zs more r = refl
 
 -- What is written before some tokens is what is written, and then these.
-pub operand-before : (b : Bool) (k : Token) (tokens : List Token → List Token) (r : List Token)
+pub operand-before : (b : Bool) (k : Token) (cs : Forest) (tokens : List Token → List Token) (r : List Token)
     → ((s : List Token) → tokens s ≡ tokens [] ++ s)
-    → operandTokens b k tokens r ≡ operandTokens b k tokens [] ++ r
+    → operandTokens b k cs tokens r ≡ operandTokens b k cs tokens [] ++ r
 unfolding operandTokens
-operand-before true k tokens r h = h r
-operand-before false k tokens r h =
-    ap (λ (l : List Token). openerFor k ∷ l)
-    (h (closerFor k ∷ r) ∙ (sym (append-assoc (tokens []) (closerFor k ∷ []) r) ∙ ap (λ (l : List Token). l ++ r)
-    (sym (h (closerFor k ∷ [])))))
+operand-before true k cs tokens r h = h r
+operand-before false k cs tokens r h =
+    ap (λ (l : List Token). openerFor k cs ∷ l)
+    (h (closerFor k cs ∷ r) ∙ (sym (append-assoc (tokens []) (closerFor k cs ∷ []) r) ∙ ap (λ (l : List Token). l ++ r)
+    (sym (h (closerFor k cs ∷ [])))))
 
 pub written-before : (k : Token) (cs : Forest) (r : List Token) → written k cs r ≡ written k cs [] ++ r
 written-before k nil r = split (isBracket (k .op)) refl
@@ -62,12 +62,12 @@ written-before k (node x xs nil) r = split (isBracket (k .op)) refl (written-bef
         rw (written-one true k x xs r h, written-one true k x xs [] h, i (closerOf k ∷ r), i (closerOf k ∷ []), append-assoc) refl
     split false h i =
         rw (written-one false k x xs r h, written-one false k x xs [] h) (ap (λ (l : List Token). k ∷ l)
-        (operand-before (standsAlone x xs) x (written x xs) r i))
+        (operand-before (standsAlone x xs) x xs (written x xs) r i))
 written-before k (node x xs (node y ys nil)) r =
-    let right = operandTokens (standsRight k y ys) y (written y ys) in
-    let left = operandTokens (standsLeft k x xs) x (written x xs) in
-    let hr : right r ≡ right [] ++ r = operand-before (standsRight k y ys) y (written y ys) r (written-before y ys) in
-    let hl : (s : List Token) → left s ≡ left [] ++ s = λ s. operand-before (standsLeft k x xs) x (written x xs) s (written-before x xs) in
+    let right = operandTokens (standsRight k y ys) y ys (written y ys) in
+    let left = operandTokens (standsLeft k x xs) x xs (written x xs) in
+    let hr : right r ≡ right [] ++ r = operand-before (standsRight k y ys) y ys (written y ys) r (written-before y ys) in
+    let hl : (s : List Token) → left s ≡ left [] ++ s = λ s. operand-before (standsLeft k x xs) x xs (written x xs) s (written-before x xs) in
     written-two k x xs y ys r
     ∙ (ap (λ (l : List Token). left (k ∷ l)) hr
     ∙ (hl (k ∷ (right [] ++ r))
@@ -78,9 +78,9 @@ written-before k (node x xs (node y ys (node z zs more))) r =
 
 -- So the lengths add up.
 pub operand-length : (b : Bool) (k : Token) (cs : Forest) (r : List Token)
-    → length (operandTokens b k (written k cs) r) ≡ length (operandTokens b k (written k cs) []) + length r
+    → length (operandTokens b k cs (written k cs) r) ≡ length (operandTokens b k cs (written k cs) []) + length r
 operand-length b k cs r =
-    ap length (operand-before b k (written k cs) r (written-before k cs)) ∙ length-append (operandTokens b k (written k cs) []) r
+    ap length (operand-before b k cs (written k cs) r (written-before k cs)) ∙ length-append (operandTokens b k cs (written k cs) []) r
 
 pub written-length : (k : Token) (cs : Forest) (r : List Token) → length (written k cs r) ≡ length (written k cs []) + length r
 written-length k cs r = ap length (written-before k cs r) ∙ length-append (written k cs []) r
@@ -92,21 +92,21 @@ ownTokens k (node x xs nil) r = k ∷ ownTokens x xs r
 ownTokens k (node x xs (node y ys nil)) r = ownTokens x xs (k ∷ ownTokens y ys r)
 ownTokens k (node x xs (node y ys (node z zs more))) r = k ∷ r
 
--- The second list is the first, token by token, with brackets added: openers and closers with some token's span and payload 0. A section's
+-- The second list is the first, token by token, with brackets added: openers and closers over some tree's extent with payload 0. A section's
 -- opener closes at its own end in the list; where the section closes, its closer stands.
 pub data Adds : List Token → List Token → Type 0 where
   nothing : Adds [] []
   own : (k : Token) {ks ls : List Token} → Adds ks ls → Adds (k ∷ ks) (k ∷ ls)
   section : (k : Token) {ks ls : List Token} → Adds ks ls → Adds (k ∷ ks) (unclosed k ∷ ls)
   sectionEnd : (k : Token) {ks ls : List Token} → Adds ks ls → Adds ks (closerOf k ∷ ls)
-  opener : (k : Token) {ks ls : List Token} → Adds ks ls → Adds ks (openerFor k ∷ ls)
-  closer : (k : Token) {ks ls : List Token} → Adds ks ls → Adds ks (closerFor k ∷ ls)
+  opener : (k : Token) (cs : Forest) {ks ls : List Token} → Adds ks ls → Adds ks (openerFor k cs ∷ ls)
+  closer : (k : Token) (cs : Forest) {ks ls : List Token} → Adds ks ls → Adds ks (closerFor k cs ∷ ls)
 
-adds-operand : (b : Bool) (k : Token) (F G : List Token → List Token) → ((r r' : List Token) → Adds r r' → Adds (F r) (G r'))
-    → (r r' : List Token) → Adds r r' → Adds (F r) (operandTokens b k G r')
+adds-operand : (b : Bool) (k : Token) (cs : Forest) (F G : List Token → List Token) → ((r r' : List Token) → Adds r r' → Adds (F r) (G r'))
+    → (r r' : List Token) → Adds r r' → Adds (F r) (operandTokens b k cs G r')
 unfolding operandTokens
-adds-operand true k F G f r r' a = f r r' a
-adds-operand false k F G f r r' a = opener k (f r (closerFor k ∷ r') (closer k a))
+adds-operand true k cs F G f r r' a = f r r' a
+adds-operand false k cs F G f r r' a = opener k cs (f r (closerFor k cs ∷ r') (closer k cs a))
 
 adds : (k : Token) (cs : Forest) (r r' : List Token) → Adds r r' → Adds (ownTokens k cs r) (written k cs r')
 unfolding ownTokens
@@ -121,12 +121,12 @@ adds k (node x xs nil) r r' a = split (isBracket (k .op)) refl (adds x xs)
         → Adds (k ∷ ownTokens x xs r) (written k (node x xs nil) r')
     split true h i = rw (written-one true k x xs r' h) (section k (i r (closerOf k ∷ r') (sectionEnd k a)))
     split false h i =
-        rw (written-one false k x xs r' h) (own k (adds-operand (standsAlone x xs) x (ownTokens x xs) (written x xs) i r r' a))
+        rw (written-one false k x xs r' h) (own k (adds-operand (standsAlone x xs) x xs (ownTokens x xs) (written x xs) i r r' a))
 adds k (node x xs (node y ys nil)) r r' a =
     rw (written-two k x xs y ys r')
-    (adds-operand (standsLeft k x xs) x (ownTokens x xs) (written x xs) (adds x xs) (k ∷ ownTokens y ys r)
-    (k ∷ operandTokens (standsRight k y ys) y (written y ys) r')
-    (own k (adds-operand (standsRight k y ys) y (ownTokens y ys) (written y ys) (adds y ys) r r' a)))
+    (adds-operand (standsLeft k x xs) x xs (ownTokens x xs) (written x xs) (adds x xs) (k ∷ ownTokens y ys r)
+    (k ∷ operandTokens (standsRight k y ys) y ys (written y ys) r')
+    (own k (adds-operand (standsRight k y ys) y ys (ownTokens y ys) (written y ys) (adds y ys) r r' a)))
 adds k (node x xs (node y ys (node z zs more))) r r' a = rw (written-more k x xs y ys z zs more r') (own k a)
 
 -- How many tokens of a list, and how many nodes of trees, pass a test.
@@ -176,8 +176,8 @@ put-in-once k cs plain = record {
 
 -- A test that passes none of these brackets and does not look at where a token closes, which the list does not say.
 pub record Unbracketing (test : Token → Bool) : Type 0 where
-  pub opener : (k : Token) → test (openerFor k) ≡ false
-  pub closer : (k : Token) → test (closerFor k) ≡ false
+  pub opener : (k : Token) (cs : Forest) → test (openerFor k cs) ≡ false
+  pub closer : (k : Token) (cs : Forest) → test (closerFor k cs) ≡ false
   pub sectionEnd : (k : Token) → test (closerOf k) ≡ false
   pub unclosing : (k : Token) → test (unclosed k) ≡ test k
 
@@ -188,8 +188,8 @@ others-once test t nothing = refl
 others-once test t (own k a) = ap (λ (n : ℕ). one (test k) + n) (others-once test t a)
 others-once test t (section k a) = let i = others-once test t a in rw (t .unclosing k) (omega arith)
 others-once test t (sectionEnd k a) = let i = others-once test t a in rw (t .sectionEnd k) (omega arith)
-others-once test t (opener k a) = let i = others-once test t a in rw (t .opener k) (omega arith)
-others-once test t (closer k a) = let i = others-once test t a in rw (t .closer k) (omega arith)
+others-once test t (opener k cs a) = let i = others-once test t a in rw (t .opener k cs) (omega arith)
+others-once test t (closer k cs a) = let i = others-once test t a in rw (t .closer k cs) (omega arith)
 
 pub written-once : (k : Token) (cs : Forest) → unplainAt k cs ≡ none → (test : Token → Bool) → Unbracketing test
     → inList test (written k cs []) ≡ inTrees test (node k cs nil)

@@ -1,23 +1,29 @@
 -- Writing a plain tree out with brackets, and taking brackets away (document 01, 'Writing a plain tree').
+use Prim.Native.Nat.{ℕ}
 use mathlib.Core.Bool.{Bool, true, false, _||_, _&&_, not}
 use mathlib.Core.List.{List, _∷_}
 use lib.Dec.{eqb}
 use Rattle.molang.specs.Operator
-use Rattle.molang.specs.Forest.{Token, Forest, nil, node, bare, unclosed}
+use Rattle.molang.specs.Forest.{Token, Forest, nil, node, unclosed}
 use Rattle.molang.specs.Operator.{isBracket}
 use Rattle.molang.specs.Plain.{isCall}
+use Rattle.molang.specs.Read.{lowestStart, highestEnd}
 
--- An added opener carries the operand node's own span and payload 0.
-unfoldable pub openerFor : Token → Token
-openerFor k = bare Operator.leftParenthesis k
+-- A token of an operator and a span, with payload 0.
+unfoldable pub spanning : ℕ → ℕ → ℕ → Token
+spanning o start end = record { op = o; variant = 0; value = 0; start = start; end = end; close = end }
 
--- An added closer carries its opener's span and payload 0.
-unfoldable pub closerFor : Token → Token
-closerFor k = bare Operator.rightParenthesis k
+-- The opener of an added pair covers its operand, the node k over cs, from the lowest start to the highest end of all its spans (card 3).
+unfoldable pub openerFor : Token → Forest → Token
+openerFor k cs = spanning Operator.leftParenthesis (lowestStart (k .start) cs) (highestEnd (k .end) cs)
 
--- The closer of a section of the tree starts and ends where the section closes, and has payload 0 (card 2).
+-- Its closer carries that end twice (card 3).
+unfoldable pub closerFor : Token → Forest → Token
+closerFor k cs = spanning Operator.rightParenthesis (highestEnd (k .end) cs) (highestEnd (k .end) cs)
+
+-- The closer of a section of the tree starts and ends where the section closes (card 2).
 unfoldable pub closerOf : Token → Token
-closerOf k = record { op = Operator.rightParenthesis; variant = 0; value = 0; start = k .close; end = k .close; close = k .close }
+closerOf k = spanning Operator.rightParenthesis (k .close) (k .close)
 
 -- An operand that is a leaf or a bracket gets no pair.
 unfoldable pub standsAlone : Token → Forest → Bool
@@ -32,10 +38,10 @@ standsLeft p k cs = standsAlone k cs || (eqb (p .op) Operator.comma && eqb (k .o
 unfoldable pub standsRight : Token → Token → Forest → Bool
 standsRight p k cs = standsAlone k cs || (eqb (p .op) Operator.conditional && eqb (k .op) Operator.conditionalElse)
 
--- An operand with the given root and tokens, before the tokens r: as it is, or in an added pair.
-unfoldable pub operandTokens : Bool → Token → (List Token → List Token) → List Token → List Token
-operandTokens true k tokens r = tokens r
-operandTokens false k tokens r = openerFor k ∷ tokens (closerFor k ∷ r)
+-- An operand, the node k over cs, with its tokens, before the tokens r: as it is, or in an added pair.
+unfoldable pub operandTokens : Bool → Token → Forest → (List Token → List Token) → List Token → List Token
+operandTokens true k cs tokens r = tokens r
+operandTokens false k cs tokens r = openerFor k cs ∷ tokens (closerFor k cs ∷ r)
 
 -- THE WRITING: the tokens of the node k over its children, before the tokens r. (No plain node has three children.)
 unfoldable pub written : Token → Forest → List Token → List Token
@@ -43,10 +49,10 @@ written k nil r = elim (isBracket (k .op)) [ true ↦ unclosed k ∷ closerOf k 
 written k (node x xs nil) r =
     elim (isBracket (k .op)) [
       | true ↦ unclosed k ∷ written x xs (closerOf k ∷ r)
-      | false ↦ k ∷ operandTokens (standsAlone x xs) x (written x xs) r
+      | false ↦ k ∷ operandTokens (standsAlone x xs) x xs (written x xs) r
     ]
 written k (node x xs (node y ys nil)) r =
-    operandTokens (standsLeft k x xs) x (written x xs) (k ∷ operandTokens (standsRight k y ys) y (written y ys) r)
+    operandTokens (standsLeft k x xs) x xs (written x xs) (k ∷ operandTokens (standsRight k y ys) y ys (written y ys) r)
 written k (node x xs (node y ys (node z zs more))) r = k ∷ r
 
 -- Exactly one tree.

@@ -90,23 +90,24 @@ all-plain = refl
 abbrev again : ℕ → Forest → ℕ → Answer
 again i cs version = read (written (at Operator.conditional i) cs []) (uses (written (at Operator.conditional i) cs [])) (pos version) 13
 
--- An added bracket over one tree.
-abbrev inPair : ℕ → (Forest → Forest) → Forest → Forest
-inPair i inside rest = over Operator.leftParenthesis i (inside nil) rest
+-- An added bracket over one tree, from its lowest start to its highest end.
+abbrev inPair : ℕ → ℕ → (Forest → Forest) → Forest → Forest
+inPair lowest highest inside rest =
+    node (record { op = Operator.leftParenthesis; variant = 0; value = 0; start = lowest; end = highest; close = highest }) (inside nil) rest
 
 abbrev orInPair : Forest → Forest
-orInPair rest = inPair 1 (over Operator.logicalAnd 1 (leaf 0 (inPair 3 (over Operator.logicalOr 3 (leaf 2 (leaf 4 nil))) nil))) rest
+orInPair rest = inPair 0 5 (over Operator.logicalAnd 1 (leaf 0 (inPair 2 5 (over Operator.logicalOr 3 (leaf 2 (leaf 4 nil))) nil))) rest
 
 abbrev andInPair : Forest → Forest
-andInPair rest = inPair 3 (over Operator.logicalOr 3 (inPair 1 (over Operator.logicalAnd 1 (leaf 0 (leaf 2 nil))) (leaf 4 nil))) rest
+andInPair rest = inPair 0 5 (over Operator.logicalOr 3 (inPair 0 3 (over Operator.logicalAnd 1 (leaf 0 (leaf 2 nil))) (leaf 4 nil))) rest
 
 abbrev secondInPair : (Forest → Forest) → Forest
 secondInPair logic =
-    logic (over Operator.conditionalElse 7 (leaf 6 (inPair 9 (over Operator.conditional 9
+    logic (over Operator.conditionalElse 7 (leaf 6 (inPair 8 13 (over Operator.conditional 9
     (leaf 8 (over Operator.conditionalElse 11 (leaf 10 (leaf 12 nil)) nil))) nil)) nil)
 
 abbrev firstInPair : Forest
-firstInPair = inPair 5 (over Operator.conditional 5 (orInPair (over Operator.conditionalElse 7 (leaf 6 (leaf 8 nil)) nil)))
+firstInPair = inPair 0 9 (over Operator.conditional 5 (orInPair (over Operator.conditionalElse 7 (leaf 6 (leaf 8 nil)) nil)))
     (over Operator.conditionalElse 11 (leaf 10 (leaf 12 nil)) nil)
 
 readings : List Answer

@@ -9,11 +9,11 @@ use lib.Dec.{eqb}
 use borrow.Author.Tests.{not-true}
 use Rattle.molang.specs.Operator
 use Rattle.molang.specs.Operator.{isOneOf, isMathCall, isBracket}
-use Rattle.molang.specs.Forest.{Token, Forest, nil, node, size, bare, closedBy, unclosed}
+use Rattle.molang.specs.Forest.{Token, Forest, nil, node, size, closedBy, unclosed}
 use Rattle.molang.specs.Calls.{calls}
 use Rattle.molang.specs.Plain.{Seat, elsewhere, rightOfQuestion, underMathCall, isRightOfQuestion, isUnderMathCall, seatUnder, seatOf}
 use Rattle.molang.specs.Plain.{isPlainLeaf, isPlainBinary, isCall, plainForm, unplain, unplainAt}
-use Rattle.molang.specs.Write.{openerFor, closerFor, closerOf, standsAlone, standsLeft, standsRight, operandTokens, written}
+use Rattle.molang.specs.Write.{spanning, openerFor, closerFor, closerOf, standsAlone, standsLeft, standsRight, operandTokens, written}
 use Rattle.molang.specs.Write.{takenAway}
 use Rattle.molang.proofs.Booleans.{either, never, or-only-first}
 use Rattle.molang.proofs.Computed.{computed}
@@ -66,27 +66,27 @@ record Part (joins : Sort → Bool) (b : Bool) (k : Token) (cs : Forest) : Type 
   sort : Sort
   exp : Exp sort
   fits : joins sort ≡ true
-  spells : (r : List Token) → tokens exp r ≡ operandTokens b k (written k cs) r
+  spells : (r : List Token) → tokens exp r ≡ operandTokens b k cs (written k cs) r
   strips : (inCall : Bool) → (not inCall || b) ≡ true → (R : Forest)
       → takenAway inCall (form everything exp nil) R ≡ takenAway inCall (node k cs nil) R
 
-opener-role : (k : Token) → role (openerFor k .op) ≡ aBracket
+opener-role : (k : Token) (cs : Forest) → role (openerFor k cs .op) ≡ aBracket
 unfolding computed role
-opener-role k = refl
+opener-role k cs = refl
 
 -- An added pair, and the two tokens of a bracket of the tree.
-added-pair : (k : Token) → Pair (openerFor k)
-unfolding openerFor closerFor bare closedBy
-added-pair k =
-    record { opener = openerFor k; closer = closerFor k; brackets = opener-role k; opens = refl; closes = refl; joined = refl }
+added-pair : (k : Token) (cs : Forest) → Pair (openerFor k cs)
+unfolding openerFor closerFor spanning closedBy
+added-pair k cs =
+    record { opener = openerFor k cs; closer = closerFor k cs; brackets = opener-role k cs; opens = refl; closes = refl; joined = refl }
 
 own-pair : (k : Token) → role (k .op) ≡ aBracket → Pair k
-unfolding unclosed closerOf closedBy
+unfolding unclosed closerOf spanning closedBy
 own-pair k e = record { opener = unclosed k; closer = closerOf k; brackets = e; opens = refl; closes = refl; joined = refl }
 
-opener-bracket : (k : Token) → isBracket (openerFor k .op) ≡ true
+opener-bracket : (k : Token) (cs : Forest) → isBracket (openerFor k cs .op) ≡ true
 unfolding computed
-opener-bracket k = refl
+opener-bracket k cs = refl
 
 taken-section : (k : Token) {s : Sort} (x : Exp s) → isFilled s ≡ true → isBracket (k .op) ≡ true → (R : Forest)
     → takenAway false (node k (form everything x nil) nil) R ≡ takenAway false (form everything x nil) R
@@ -94,20 +94,20 @@ taken-section k x f h R = let o = filled-solid x f in rw (o .becomes nil) (taken
 
 part : (joins : Sort → Bool) (b : Bool) (p : Seat) (k : Token) (cs : Forest) (x : Spelled p k cs) → (b ≡ true → joins (x .sort) ≡ true)
     → (b ≡ false → isWhole (x .sort) ≡ true) → (b ≡ false → joins (bracketed (x .sort)) ≡ true) → Part joins b k cs
-unfolding operandTokens form tokens closerFor openerFor bare added-pair
+unfolding operandTokens form tokens closerFor openerFor spanning added-pair
 part joins true p k cs x t f j = record { sort = x .sort; exp = x .exp; fits = t refl; spells = x .spells; strips = λ c h R. x .strips c R }
 part joins false p k cs x t f j = record {
   sort = bracketed (x .sort);
-  exp = bracket (openerFor k) (added-pair k) (f refl) (x .exp);
+  exp = bracket (openerFor k cs) (added-pair k cs) (f refl) (x .exp);
   fits = j refl;
-  spells = λ r. ap (λ (ks : List Token). openerFor k ∷ ks) (x .spells (closerFor k ∷ r));
+  spells = λ r. ap (λ (ks : List Token). openerFor k cs ∷ ks) (x .spells (closerFor k cs ∷ r));
   strips = λ c h R. away c h R;
 }
   where
     away : (inCall : Bool) → (not inCall || false) ≡ true → (R : Forest)
-        → takenAway inCall (node (openerFor k) (form everything (x .exp) nil) nil) R ≡ takenAway inCall (node k cs nil) R
+        → takenAway inCall (node (openerFor k cs) (form everything (x .exp) nil) nil) R ≡ takenAway inCall (node k cs nil) R
     away true h R = absurd (false≢true h)
-    away false h R = taken-section (openerFor k) (x .exp) (x .filled) (opener-bracket k) R ∙ x .strips false R
+    away false h R = taken-section (openerFor k cs) (x .exp) (x .filled) (opener-bracket k cs) R ∙ x .strips false R
 
 abbrev callRoles : List Role
 callRoles = aQuery ∷ aMathCall ∷ []
@@ -228,7 +228,7 @@ spell-between p k x xs y ys r e j c a z =
       sort = joinedBy r;
       exp = between k r e j (a .fits) (z .fits) (a .exp) (z .exp);
       spells =
-          λ t. a .spells (k ∷ tokens (z .exp) t) ∙ ap (λ (ks : List Token). operandTokens (standsLeft k x xs) x (written x xs) (k ∷ ks))
+          λ t. a .spells (k ∷ tokens (z .exp) t) ∙ ap (λ (ks : List Token). operandTokens (standsLeft k x xs) x xs (written x xs) (k ∷ ks))
           (z .spells t);
       strips = λ inCall R. taken-kept inCall k (form everything (a .exp) (form everything (z .exp) nil)) R b
           ∙ ap (λ (f : Forest). node k f R) (rw q (taken-form false (a .exp) (form everything (z .exp) nil) nil
