@@ -15,8 +15,8 @@ use denote.Enum.Declared.{tagOf}
 use Rattle.molang.specs.Forest.{leaves}
 use Rattle.molang.specs.Parse.{inHalves}
 use Rattle.molang.specs.Read.{uses, highestEnd}
-use Rattle.molang.specs.Words.{Field, operatorField, startField, endField, upperField, lowerField, countField, lowOf, lowFault, wordFault}
-use Rattle.molang.specs.Words.{variantAfter, nextInToken, wordsRefusal, tokenOf, tokensOf}
+use Rattle.molang.specs.Words.{Field, operatorField, startField, endField, upperField, lowerField, countField, closeField, lowOf, lowFault}
+use Rattle.molang.specs.Words.{wordFault, variantAfter, nextInToken, wordsRefusal, tokenOf, tokensOf}
 use Rattle.molang.proofs.Words.{word-faultless, next-word}
 use Rattle.molang.proofs.FirstFailure.{passed}
 use Rattle.molang.proofs.UsedSet.{used-few}
@@ -137,6 +137,7 @@ named-few endField (w ∷ ws) n above = named-few upperField ws n above
 named-few upperField (w ∷ ws) n above = named-few lowerField ws n above
 named-few lowerField (w ∷ ws) n above = named-few operatorField ws n above
 named-few countField (w ∷ ws) n above = named-few operatorField ws n above
+named-few closeField (w ∷ ws) n above = named-few operatorField ws n above
 
 low-few : (w : ℕ) → lowOf w ≤ 536870911
 unfolding lowOf
@@ -158,6 +159,7 @@ highest-few endField m (w ∷ ws) h = highest-few upperField _ ws (end-few m w h
 highest-few upperField m (w ∷ ws) h = highest-few lowerField m ws h
 highest-few lowerField m (w ∷ ws) h = highest-few operatorField m ws h
 highest-few countField m (w ∷ ws) h = highest-few operatorField m ws h
+highest-few closeField m (w ∷ ws) h = highest-few operatorField m ws h
 
 -- A set with exactly these operators is one that the entry does not turn back.
 pub exact-few : (low high : ℕ) (ws : List ℕ) → ((n : ℕ) → inHalves low high n ≡ named operatorField ws n) → high * 2 ^ 64 + low < 2 ^ 111

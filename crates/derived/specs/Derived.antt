@@ -5,8 +5,8 @@ use mathlib.Core.Bool.{Bool, false, _||_}
 use mathlib.Core.List.{List, [], _∷_}
 use mathlib.Core.Option.{none, some}
 use lib.Dec.{eqb}
-use Rattle.molang.specs.Words.{Field, operatorField, startField, endField, upperField, lowerField, countField, lowOf, wordFault}
-use Rattle.molang.specs.Words.{nextInToken}
+use Rattle.molang.specs.Words.{Field, operatorField, startField, endField, upperField, lowerField, countField, closeField}
+use Rattle.molang.specs.Words.{lowOf, wordFault, nextInToken}
 
 -- The word names the operator n: it stands first in its token, is legal there, and has n.
 unfoldable pub names : Field → ℕ → ℕ → Bool
@@ -16,6 +16,7 @@ names endField w n = false
 names upperField w n = false
 names lowerField w n = false
 names countField w n = false
+names closeField w n = false
 
 -- THE EXACT USED SET of words, the first of which stands in this field.
 unfoldable pub named : Field → List ℕ → ℕ → Bool
@@ -30,6 +31,7 @@ endAfter endField m w = elim (wordFault endField 0 w) [ some fault ↦ m | none 
 endAfter upperField m w = m
 endAfter lowerField m w = m
 endAfter countField m w = m
+endAfter closeField m w = m
 
 -- THE HIGHEST SPAN END of words, the first of which stands in this field; m is the highest before them, 0 at the start.
 unfoldable pub highest : Field → ℕ → List ℕ → ℕ

@@ -52,7 +52,7 @@ module _ (h : Handed) (nodes count : ℕ) (can : CanGoOn (aTree nodes) (h .tree)
     (wrote : tokens count ≡ writeAnswered (writerCall h nodes)) where
   written-list : Readable (take (5 * count) (listAfter (writerCall h nodes))) count
   unfolding writerCall
-  written-list = written-readable (can .first) (writerCall h nodes) nodes count (can .says) (ap (take (6 * nodes)) (can .left)) (sym wrote)
+  written-list = written-readable (can .first) (writerCall h nodes) nodes count (can .says) (ap (take (7 * nodes)) (can .left)) (sym wrote)
 
   pub written-room : 5 * count ≤ length (listAfter (writerCall h nodes))
   written-room = omega (arith, written-list .long, length-take (5 * count) (listAfter (writerCall h nodes)))

@@ -1,5 +1,5 @@
 -- The values of every answer fit its number's fields: counts and places stay below 2 ^ 32, refusals' numbers below 2 ^ 8. Answer 12's
--- place is at most 73,728, since no more nodes are begun than fit; answer 13's is a node of the tree. Assumes nothing.
+-- place is at most 86,016, since no more nodes are begun than fit; answer 13's is a node of the tree. Assumes nothing.
 use mathlib.Core.Path.{_≡_, refl}
 use mathlib.Core.Bool.{Bool, true, false}
 use mathlib.Core.List.{List, [], _∷_}
@@ -11,8 +11,8 @@ use lib.ListN.{length}
 use borrow.Author.Tests.{leb-true, eqb-true}
 use Rattle.molang.specs.Forest.{Token, Forest, nil, node, size}
 use Rattle.molang.specs.Read as read
-use Rattle.molang.specs.Words.{Field, operatorField, startField, endField, upperField, lowerField, countField, lowOf, lowFault, wordFault}
-use Rattle.molang.specs.Words.{variantAfter, nextInToken, Refusal, row, withPlace, withNumber, wordsRefusal}
+use Rattle.molang.specs.Words.{Field, operatorField, startField, endField, upperField, lowerField, countField, closeField, lowOf, lowFault}
+use Rattle.molang.specs.Words.{wordFault, variantAfter, nextInToken, Refusal, row, withPlace, withNumber, wordsRefusal}
 use Rattle.molang.specs.FirstFailure.{must, firstOf}
 use Rattle.molang.specs.Parse.{Call, mostTokens, refusal, reading, told, answered}
 use Rattle.molang.specs.Plain.{plainForm, seatOf, unplain, unplainAt}
@@ -22,8 +22,8 @@ use Rattle.molang.specs.WriteEntry.{forestRefusal, writeRefusal, writtenTokens,
 use Rattle.molang.proofs.Accepted.{call-accepted}
 use Rattle.molang.proofs.Bounds.{read-tree, read-messages}
 use Rattle.molang.proofs.FirstFailure.{last-one}
-use Rattle.write.proofs.RowLaws.{size-split}
-use Rattle.write.proofs.ShapeLaws.{continues-within, one-tree}
+use Rattle.shape.proofs.RowLaws.{size-split}
+use Rattle.shape.proofs.ShapeLaws.{continues-within, one-tree}
 use Rattle.sorbrudder.specs.Numbers.{FitsTold, FitsWritten}
 
 -- What an option holds is at most n, or satisfies a test.
@@ -51,15 +51,16 @@ module _ {A : Type 0} (P : A → Type 0) where
 -- The words that a node begun still lacks.
 abbrev lacks : Field → ℕ
 lacks operatorField = 0
-lacks startField = 5
-lacks endField = 4
-lacks upperField = 3
-lacks lowerField = 2
-lacks countField = 1
+lacks startField = 6
+lacks endField = 5
+lacks upperField = 4
+lacks lowerField = 3
+lacks countField = 2
+lacks closeField = 1
 
 -- A word takes up the place that it was counted for.
-taken : (field : Field) (w i : ℕ) (s : Shape) → i + lacks field ≤ 6 * s .begun
-    → suc i + lacks (nextInNode field) ≤ 6 * shapeAfter field w s .begun
+taken : (field : Field) (w i : ℕ) (s : Shape) → i + lacks field ≤ 7 * s .begun
+    → suc i + lacks (nextInNode field) ≤ 7 * shapeAfter field w s .begun
 unfolding nextInNode shapeAfter
 taken operatorField w i s h = omega arith
 taken startField w i s h = omega arith
@@ -67,12 +68,13 @@ taken endField w i s h = omega arith
 taken upperField w i s h = omega arith
 taken lowerField w i s h = omega arith
 taken countField w i s h = omega arith
+taken closeField w i s h = omega arith
 
 fault-place : (i : ℕ) (field : Field) (v : ℕ) (s : Shape) (ws : List ℕ) → s .begun ≤ s .called → s .called ≤ mostNodes
-    → i + lacks field ≤ 6 * s .begun
-    → All (λ p. p ≤ 73728) (treeFault i field v s ws)
+    → i + lacks field ≤ 7 * s .begun
+    → All (λ p. p ≤ 86016) (treeFault i field v s ws)
 unfolding treeFault firstOf must
-fault-place i field v s [] b c h = all-must (λ p. p ≤ 73728) (isWhole field s) i (omega arith)
+fault-place i field v s [] b c h = all-must (λ p. p ≤ 86016) (isWhole field s) i (omega arith)
 fault-place i field v s (w ∷ ws) b c h =
     split (continues field v s w) refl
     (λ e.
@@ -82,9 +84,9 @@ fault-place i field v s (w ∷ ws) b c h =
     later : Option ℕ
     later = treeFault (suc i) (nextInNode field) (variantAfter field v w) (shapeAfter field w s) ws
 
-    split : (t : Bool) → continues field v s w ≡ t → (continues field v s w ≡ true → All (λ p. p ≤ 73728) later)
-        → All (λ p. p ≤ 73728) (firstOf (must t i ∷ later ∷ []))
-    split true e x = all-last (λ p. p ≤ 73728) later (x e)
+    split : (t : Bool) → continues field v s w ≡ t → (continues field v s w ≡ true → All (λ p. p ≤ 86016) later)
+        → All (λ p. p ≤ 86016) (firstOf (must t i ∷ later ∷ []))
+    split true e x = all-last (λ p. p ≤ 86016) later (x e)
     split false e x = omega arith
 
 -- ---- Answer 13
@@ -103,8 +105,8 @@ unplain-place p i n (node k cs rest) =
     split true none none x y = tt
     split true none (some m) x y = omega arith
 
--- Six words to a node.
-trees-size : (ws : List ℕ) → 6 * size (treesOf ws) ≤ length ws
+-- Seven words to a node.
+trees-size : (ws : List ℕ) → 7 * size (treesOf ws) ≤ length ws
 unfolding treesOf size
 trees-size [] = omega arith
 trees-size (a ∷ []) = omega arith
@@ -112,12 +114,13 @@ trees-size (a ∷ b ∷ []) = omega arith
 trees-size (a ∷ b ∷ c ∷ []) = omega arith
 trees-size (a ∷ b ∷ c ∷ d ∷ []) = omega arith
 trees-size (a ∷ b ∷ c ∷ d ∷ e ∷ []) = omega arith
-trees-size (a ∷ b ∷ c ∷ d ∷ e ∷ n ∷ ws) = omega (arith, trees-size ws, size-split (lowOf n) (treesOf ws))
+trees-size (a ∷ b ∷ c ∷ d ∷ e ∷ n ∷ []) = omega arith
+trees-size (a ∷ b ∷ c ∷ d ∷ e ∷ n ∷ g ∷ ws) = omega (arith, trees-size ws, size-split (lowOf n) (treesOf ws))
 
 -- ---- THE WRITE ENTRY
 
 -- Answers 13 to 15, or the count, of a tree of so many nodes.
-forest-fits : (f : Forest) (room : ℕ) → 6 * size f ≤ 73728 → FitsWritten (writeTold (forestRefusal f room) f)
+forest-fits : (f : Forest) (room : ℕ) → 7 * size f ≤ 86016 → FitsWritten (writeTold (forestRefusal f room) f)
 unfolding forestRefusal firstOf must writeTold writtenTokens size unplainAt
 forest-fits nil room h = omega arith
 forest-fits (node k cs rest) room h =
@@ -142,7 +145,7 @@ written-fits w =
     later : Option Refusal
     later = forestRefusal (treesOf (w .tree)) (length (w .list))
 
-    split : (o : Option ℕ) → treeFault 0 operatorField 0 (record { called = 1; begun = 0 }) (w .tree) ≡ o → All (λ p. p ≤ 73728) o
+    split : (o : Option ℕ) → treeFault 0 operatorField 0 (record { called = 1; begun = 0 }) (w .tree) ≡ o → All (λ p. p ≤ 86016) o
         → FitsWritten (writeTold (firstOf (withNumber 12 o ∷ later ∷ [])) (treesOf (w .tree)))
     split (some p) e x = (omega arith, omega arith)
     split none e x =
@@ -168,6 +171,7 @@ low-most endField v low = tt
 low-most upperField v low = all-must Most _ 11 (omega arith)
 low-most lowerField v low = all-must Most _ 11 (omega arith)
 low-most countField v low = all-must Most _ 11 (omega arith)
+low-most closeField v low = tt
 
 word-most : (field : Field) (v w : ℕ) → All Most (wordFault field v w)
 unfolding wordFault

@@ -97,7 +97,7 @@ module _ (list tree messages : List ℕ) (ok : Readable list tree messages) (wor
       rw (
         eq-eqb (length list % 5) 0 (ok .whole),
         le-leb (length list / 5) 4096 (omega arith),
-        le-leb (18 * (length list / 5)) (length tree) (omega (arith, ok .treeRoom)),
+        le-leb (21 * (length list / 5)) (length tree) (omega (arith, ok .treeRoom)),
         le-leb 16 (length messages) (omega (arith, ok .messageRoom)),
         le-leb (64 * (length list / 5) + 64) (length work) (omega arith),
         lt-ltb (high * 2 ^ 64 + low) (2 ^ 111) (exact-few low high list exact),
@@ -177,12 +177,12 @@ printable bytes words h =
 -- What is printed, by what was read.
 pub listed : (bytes : ℕ) (front words : List ℕ) (t : Told) (tree messages : List ℕ) → words ≡ wordsIn front
     → t ≡ told (faultOf bytes words) (answerOf bytes words)
-    → tree ≡ treeIn (faultOf bytes words) (answerOf bytes words) (replicate 2304 0)
+    → tree ≡ treeIn (faultOf bytes words) (answerOf bytes words) (replicate 2688 0)
     → messages ≡ messagesIn (faultOf bytes words) (answerOf bytes words) (replicate 16 0)
     → answerText t tree messages ≡ printed bytes front
 unfolding printed
 listed bytes front words t tree messages e a b d =
     (λ i. answerText (a i) (b i) (d i))
     ∙ ap (λ (ws : List ℕ).
-    answerText (told (faultOf bytes ws) (answerOf bytes ws)) (treeIn (faultOf bytes ws) (answerOf bytes ws) (replicate 2304 0))
+    answerText (told (faultOf bytes ws) (answerOf bytes ws)) (treeIn (faultOf bytes ws) (answerOf bytes ws) (replicate 2688 0))
     (messagesIn (faultOf bytes ws) (answerOf bytes ws) (replicate 16 0))) e

@@ -38,7 +38,7 @@ unfolding nodeRows nodeNumbers
 node-rows-length zero tree = omega arith
 node-rows-length (suc i) tree =
     omega
-    (arith, length-append (nodeRows i tree) (row (nodeNumbers tree (6 * i))), node-rows-length i tree, row-length (nodeNumbers tree (6 * i)) (omega arith))
+    (arith, length-append (nodeRows i tree) (row (nodeNumbers tree (7 * i))), node-rows-length i tree, row-length (nodeNumbers tree (7 * i)) (omega arith))
 
 pub record-rows-length : (i : ℕ) (messages : List ℕ) → 8 * i ≤ length messages → length (recordRows i messages) ≤ 168 * i
 unfolding recordRows
@@ -79,11 +79,11 @@ unfolding nodeNumbers
 node-laid tree from o n s e w = rw (o, n, s, e) at w
 
 pub nodes-on : {a b c : List ℕ} {at m r : ℕ} → at ≤ length a → (tree : List ℕ) (i : ℕ) → Wrote a at (nodeRows i tree) m b
-    → Wrote b m (row (nodeNumbers tree (6 * i))) r c
+    → Wrote b m (row (nodeNumbers tree (7 * i))) r c
     → Wrote a at (nodeRows (i + 1) tree) r c
 unfolding nodeRows
 nodes-on h tree i p q =
-    let step : nodeRows (i + 1) tree ≡ nodeRows i tree ++ row (nodeNumbers tree (6 * i)) = ap (λ (k : ℕ). nodeRows k tree) (add-one i) in
+    let step : nodeRows (i + 1) tree ≡ nodeRows i tree ++ row (nodeNumbers tree (7 * i)) = ap (λ (k : ℕ). nodeRows k tree) (add-one i) in
     rw step (wrote-then h p q)
 
 pub records-on : {a b c : List ℕ} {at m r : ℕ} → at ≤ length a → (messages : List ℕ) (i : ℕ) → Wrote a at (recordRows i messages) m b

@@ -67,7 +67,7 @@ unfoldable pub printed : ℕ → List ℕ → List ℕ
 printed bytes front =
     let fault = faultOf bytes (wordsIn front) in
     let answer = answerOf bytes (wordsIn front) in
-    answerText (told fault answer) (treeIn fault answer (replicate 2304 0)) (messagesIn fault answer (replicate 16 0))
+    answerText (told fault answer) (treeIn fault answer (replicate 2688 0)) (messagesIn fault answer (replicate 16 0))
 
 -- What a list that is asked for keeps to.
 abbrev pub Counted : Request → ℕ → ℕ → Type 0
@@ -78,5 +78,5 @@ Counted (Refused number) bytes first = Unit {0}
 pub record Readable (list tree messages : List ℕ) : Type 0 where
   pub few : length list ≤ 640
   pub whole : length list % 5 ≡ 0
-  pub treeRoom : length tree ≡ 2304
+  pub treeRoom : length tree ≡ 2688
   pub messageRoom : length messages ≡ 16

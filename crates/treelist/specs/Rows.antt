@@ -24,7 +24,7 @@ nodeNumbers tree at =
 -- A line for each of the first nodes.
 unfoldable pub nodeRows : ℕ → List ℕ → List ℕ
 nodeRows zero tree = []
-nodeRows (suc i) tree = nodeRows i tree ++ row (nodeNumbers tree (6 * i))
+nodeRows (suc i) tree = nodeRows i tree ++ row (nodeNumbers tree (7 * i))
 
 -- A line for each of the first message records.
 unfoldable pub recordRows : ℕ → List ℕ → List ℕ

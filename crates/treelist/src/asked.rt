@@ -72,7 +72,7 @@ fn read(list: &[u32], version: i16, tree: &mut [u32], messages: &mut [u32]) -> A
 
 // The answer to an input of so many bytes, whose front is these words. A tree or messages are left in their buffers.
 pub fn answer(words: &[u32], bytes: usize, tree: &mut [u32], messages: &mut [u32]) -> Answer
-    requires { ⌜ (length (now words) ≡ 641) × (length (now tree) ≡ 2304) × (length (now messages) ≡ 16) ⌝ }
+    requires { ⌜ (length (now words) ≡ 641) × (length (now tree) ≡ 2688) × (length (now messages) ≡ 16) ⌝ }
     ensures { λ r. ⌜ toldOf r ≡ told (faultOf bytes (now (words .entry))) (answerOf bytes (now (words .entry))) ⌝ }
     ensures { λ _. ⌜ now (tree .exit) ≡ treeIn (faultOf bytes (now (words .entry)))
         (answerOf bytes (now (words .entry))) (now (tree .entry)) ⌝ }

@@ -29,7 +29,7 @@ fn listing(front: &[u8], bytes: usize, out: &mut [u8]) -> usize
     ensures { λ r. ⌜ Wrote (now (out .entry)) 0 (printed bytes (now (front .entry))) r (now (out .exit)) ⌝ }
 {
     let words = words_of(front);
-    let mut tree = [0u32; 2304];
+    let mut tree = [0u32; 2688];
     let mut messages = [0u32; 16];
     let answered = answer(&words, bytes, &mut tree, &mut messages);
     put_answer(out, answered, &tree, &messages)

@@ -29,7 +29,7 @@ fn put_row(out: &mut [u8], at: usize, numbers: &[u32]) -> usize
 
 // A line for the node whose words stand from `from` on: operator, children, start, end.
 fn put_node(out: &mut [u8], at: usize, tree: &[u32], from: usize) -> usize
-    requires { ⌜ (at + 84 ≤ length (now out)) × (from + 6 ≤ length (now tree)) ⌝ }
+    requires { ⌜ (at + 84 ≤ length (now out)) × (from + 7 ≤ length (now tree)) ⌝ }
     ensures { λ r. ⌜ Wrote (now (out .entry)) at (row (nodeNumbers (now (tree .entry)) from)) r (now (out .exit)) ⌝ }
 {
     let operator = fields::operator(tree[from]);
@@ -42,7 +42,7 @@ fn put_node(out: &mut [u8], at: usize, tree: &[u32], from: usize) -> usize
 
 // A line for each of the first n nodes.
 fn put_nodes(out: &mut [u8], at: usize, tree: &[u32], n: usize) -> usize
-    requires { ⌜ (at + 84 * n ≤ length (now out)) × (6 * n ≤ length (now tree)) ⌝ }
+    requires { ⌜ (at + 84 * n ≤ length (now out)) × (7 * n ≤ length (now tree)) ⌝ }
     ensures { λ r. ⌜ Wrote (now (out .entry)) at (nodeRows n (now (tree .entry))) r (now (out .exit)) ⌝ }
 {
     let mut end = at;
@@ -72,7 +72,7 @@ fn put_records(out: &mut [u8], at: usize, messages: &[u32], n: usize) -> usize
 
 // The text of an answer, from the first byte on; how many bytes it has.
 pub fn put_answer(out: &mut [u8], answered: Answer, tree: &[u32], messages: &[u32]) -> usize
-    requires { ⌜ (length (now out) ≡ 32768) × (length (now tree) ≡ 2304) × (length (now messages) ≡ 16) ⌝ }
+    requires { ⌜ (length (now out) ≡ 32768) × (length (now tree) ≡ 2688) × (length (now messages) ≡ 16) ⌝ }
     requires { ⌜ Printable (toldOf answered) ⌝ }
     ensures { λ r. ⌜ r ≤ length (now (out .exit)) ⌝ }
     ensures { λ r. ⌜ Wrote (now (out .entry)) 0

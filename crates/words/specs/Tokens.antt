@@ -26,8 +26,8 @@ fiveWords k = k .operator ∷ k .start ∷ k .end ∷ k .upper ∷ k .lower ∷ 
 
 -- How many words a node is.
 abbrev pub nodeLength : ℕ
-nodeLength = 6
+nodeLength = 7
 
--- The words of a node: those of its token, and how many children it has.
-abbrev pub nodeWords : TokenWords → ℕ → List ℕ
-nodeWords k children = fiveWords k ++ (word 6 (children % 2 ^ 14) ∷ [])
+-- The words of a node: those of its token, how many children it has, and the word of where it closes.
+abbrev pub nodeWords : TokenWords → ℕ → ℕ → List ℕ
+nodeWords k children close = fiveWords k ++ (word 6 (children % 2 ^ 14) ∷ close ∷ [])

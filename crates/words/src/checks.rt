@@ -53,7 +53,7 @@ pub fn operator_word(w: u32) -> Word
     below(fields::low(w), 4096)
 }
 
-// A word of kind 2 or 3, all of whose bits are used.
+// A word of kind 2, 3 or 7, all of whose bits are used.
 pub fn span_word(w: u32, kind: u32) -> Word
     ensures { λ r. ⌜ numberOf r ≡ firstOf (must (eqb (kindOf w) kind) 8 ∷ lowFault startField 0 (lowOf w) ∷ []) ⌝ }
 {

@@ -41,7 +41,7 @@ fn widened(seen: Extent, start_word: u32, end_word: u32) -> Extent
 }
 
 // The extent of the tree that the words open with, by a loop over its nodes: each one's span is taken in, and its children are called for
-// before the trees after it. The caller has laid the tree out in the work buffer, in six words for each of 12,288 nodes at most.
+// before the trees after it. The caller has laid the tree out in the work buffer, in seven words for each of 12,288 nodes at most.
 pub fn of_tree(words: &[u32]) -> Extent
     requires { ⌜ length (now words) < 2 ^ 34 ⌝ }
     ensures { λ r. ⌜ r ≡ firstExtent (treesOf (now (words .entry))) ⌝ }

@@ -1,7 +1,8 @@
-// Kinds and fields of words: the top three bits are the kind. A token is five words, a tree node those and its child count.
+// Kinds and fields of words: the top three bits are the kind. A token is five words, a tree node those, its child count and where it
+// closes.
 // Leans on nothing; specs/Fields names the fields as the definition reads them.
 ghost use mathlib.Core.Path.{_≡_};
-ghost use Prim.Native.Nat.{_%_, _^_};
+ghost use Prim.Native.Nat.{_/_, _%_, _^_};
 ghost use Rattle.molang.specs.Words.{word, kindOf, lowOf};
 ghost use Rattle.words.specs.Fields.{operatorOf, variantOf, halfOf, valueOf, withOperator};
 
@@ -21,6 +22,8 @@ pub const LOWER: u32 = 5;
 
 pub const CHILDREN: u32 = 6;
 
+pub const CLOSE: u32 = 7;
+
 // Which word of a token or node is which: the operator's is the first.
 pub const START_FIELD: usize = 1;
 
@@ -32,9 +35,11 @@ pub const LOWER_FIELD: usize = 4;
 
 pub const COUNT_FIELD: usize = 5;
 
+pub const CLOSE_FIELD: usize = 6;
+
 pub const TOKEN_WORDS: usize = 5;
 
-pub const NODE_WORDS: usize = 6;
+pub const NODE_WORDS: usize = 7;
 
 pub const RECORD_WORDS: usize = 8;
 
@@ -62,7 +67,7 @@ pub fn kind(w: u32) -> u32
     w / KIND
 }
 
-// Bits 0-28: a span's start or end, or how many children a node has.
+// Bits 0-28: a span's start or end, how many children a node has, or where it closes.
 pub fn low(w: u32) -> u32
     ensures { λ r. ⌜ r ≡ lowOf w ⌝ }
 {
@@ -102,6 +107,20 @@ pub fn with_operator(w: u32, op: u32) -> u32
     w - w % 256 + op % 256
 }
 
+// A word of kind 2 for a span that starts at n.
+pub fn start_word(n: u32) -> u32
+    ensures { λ r. ⌜ r ≡ word 2 (lowOf n) ⌝ }
+{
+    START * KIND + n % KIND
+}
+
+// A word of kind 3 for a span that ends at n.
+pub fn end_word(n: u32) -> u32
+    ensures { λ r. ⌜ r ≡ word 3 (lowOf n) ⌝ }
+{
+    END * KIND + n % KIND
+}
+
 // A word of kind 6 for n children.
 pub fn children_word(n: u32) -> u32
     ensures { λ r. ⌜ r ≡ word 6 (n % 2 ^ 14) ⌝ }
@@ -109,18 +128,25 @@ pub fn children_word(n: u32) -> u32
     CHILDREN * KIND + n % 16384
 }
 
-// The upper half of a payload value that is 0.
-pub fn no_upper() -> u32
-    ensures { λ r. ⌜ r ≡ word 4 0 ⌝ }
+// A word of kind 7 for a node that closes at n.
+pub fn close_word(n: u32) -> u32
+    ensures { λ r. ⌜ r ≡ word 7 (lowOf n) ⌝ }
 {
-    UPPER * KIND
+    CLOSE * KIND + n % KIND
 }
 
-// The lower half of a payload value that is 0.
-pub fn no_lower() -> u32
-    ensures { λ r. ⌜ r ≡ word 5 0 ⌝ }
+// The word of the upper half of a payload value.
+pub fn upper_word(value: u32) -> u32
+    ensures { λ r. ⌜ r ≡ word 4 (value / 2 ^ 16) ⌝ }
 {
-    LOWER * KIND
+    UPPER * KIND + value / 65536
+}
+
+// The word of the lower half of a payload value.
+pub fn lower_word(value: u32) -> u32
+    ensures { λ r. ⌜ r ≡ word 5 (value % 2 ^ 16) ⌝ }
+{
+    LOWER * KIND + value % 65536
 }
 
 // The payload value of two halves.

@@ -1,4 +1,4 @@
-// The five words of a token and the six of a node: the one place where they are read from a buffer and laid into one.
+// The five words of a token and the seven of a node: the one place where they are read from a buffer and laid into one.
 // Leans on the fields; specs/Tokens says which words they are.
 use crate::fields;
 ghost use mathlib.Core.Path.{_≡_};
@@ -39,8 +39,8 @@ impl TokenWords {
             operator: fields::operator_word(op),
             start: self.start,
             end: self.end,
-            upper: fields::no_upper(),
-            lower: fields::no_lower(),
+            upper: fields::upper_word(0),
+            lower: fields::lower_word(0),
         }
     }
 
@@ -56,12 +56,13 @@ impl TokenWords {
         words[at + fields::LOWER_FIELD] = self.lower;
     }
 
-    // Writes the words of a node of this token with so many children to the buffer from `at` on.
-    pub fn lay_node(self, words: &mut [u32], at: usize, children: u32)
+    // Writes the words of a node of this token to the buffer from `at` on: so many children, and the word of where it closes.
+    pub fn lay_node(self, words: &mut [u32], at: usize, children: u32, close: u32)
         requires { ⌜ at + nodeLength ≤ length (now words) ⌝ }
-        ensures { λ _. ⌜ now (words .exit) ≡ laidAt at (nodeWords self children) (now (words .entry)) ⌝ }
+        ensures { λ _. ⌜ now (words .exit) ≡ laidAt at (nodeWords self children close) (now (words .entry)) ⌝ }
     {
         self.lay(words, at);
         words[at + fields::COUNT_FIELD] = fields::children_word(children);
+        words[at + fields::CLOSE_FIELD] = close;
     }
 }

@@ -11,7 +11,7 @@ use borrow.Author.Tests.{le-leb, lt-leb}
 use Rattle.molang.specs.Forest.{Token, Forest, nil, node, count, size}
 use Rattle.molang.specs.Plain.{seatOf, plainForm, unplain, unplainAt}
 use Rattle.molang.specs.FirstFailure.{must, firstOf}
-use Rattle.molang.specs.Words.{operatorField, lowOf, tokenOf, listWords, row}
+use Rattle.molang.specs.Words.{operatorField, lowOf, nodeOf, listWords, row}
 use Rattle.molang.specs.Parse.{mostTokens}
 use Rattle.molang.specs.Write.{written}
 use Rattle.molang.specs.WriteEntry.{treeFault, firstTrees, otherTrees, treesOf, forestRefusal, writeRefusal, writtenTokens, unwritten}
@@ -23,11 +23,12 @@ use Rattle.words.specs.Records.{laidAt}
 use Rattle.words.proofs.RecordLaws.{laid-front}
 use Rattle.write.specs.declared.plain.Seat.{Seat}
 use Rattle.write.specs.declared.plain.Seat.the-variants.{Enclosed}
-use Rattle.write.specs.Answers.{shape, treeRefusal, call, judgement, filling, filled}
+use Rattle.shape.specs.Answers.{shape, treeRefusal}
+use Rattle.write.specs.Answers.{call, judgement, filling, filled}
 use Rattle.write.specs.Seats.{formSeat}
-use Rattle.write.specs.Shaped.{Shaped, noTrees, aNode, mostChildren, OneTree}
+use Rattle.shape.specs.Shaped.{Shaped, noTrees, aNode, mostChildren, OneTree}
 use Rattle.write.specs.Spelling.{Room, Writable}
-use Rattle.write.proofs.RowLaws.{Opened, opened, shaped-room, shaped-count, count-first, beside-split}
+use Rattle.shape.proofs.RowLaws.{Opened, opened, shaped-room, shaped-count, count-first, beside-split}
 use Rattle.write.proofs.JudgeLaws.{rowUnplain, judgedBy, judgement-by, Stand, on-none, on-one, on-two, row-beside}
 
 -- What a judgement says.
@@ -115,9 +116,9 @@ slim : {p : ℕ} {ws : List ℕ} → Shaped mostChildren p ws → (ps : List Sea
 unfolding treesOf rowUnplain
 slim noTrees ps h n e = noTrees
 slim (aNode five few later) [] h n e = absurd (omega arith)
-slim (aNode {trees = trees} {a = a} {b = b} {c = c} {d = d} {e = f} {n = m} {ws = ws} five few later) (q ∷ ps) h n e =
+slim (aNode {trees = trees} {a = a} {b = b} {c = c} {d = d} {e = f} {n = m} {g = w} {ws = ws} five few later) (q ∷ ps) h n e =
     let g = treesOf ws in
-    let k = tokenOf a b c d f in
+    let k = nodeOf a b c d f w in
     let cs = firstTrees (lowOf m) g in
     let rest = otherTrees (lowOf m) g in
     let x = passed (plainForm (formSeat q) k cs) n (unplain (some k) 0 (suc n) cs ∷ rowUnplain ps (suc n + size cs) rest ∷ []) e in

@@ -5,7 +5,7 @@ use mathlib.Core.Bool.{Bool, true, false, _||_, _&&_, not, true≢false, false�
 use mathlib.Core.List.{List, [], _∷_, _++_}
 use mathlib.Core.Option.{Option, none, some}
 use native.Mathlib.Nat.{add-zero}
-use Rattle.molang.specs.Words.{lowOf, tokenOf, withNumber}
+use Rattle.molang.specs.Words.{lowOf, tokenOf, nodeOf, withNumber}
 use Rattle.words.specs.Fields.{operatorOf}
 use native.Mathlib.Numerals.{add-one}
 use native.Mathlib.Omega.{arith}
@@ -21,7 +21,7 @@ use Rattle.molang.specs.Forest.{Token, Forest, nil, node, count, size}
 use Rattle.molang.specs.Plain as plain
 use Rattle.molang.specs.Plain.{isRightOfQuestion, seatUnder, seatOf, plainForm, isPlainBinary, unplain, unplainAt}
 use Rattle.molang.specs.FirstFailure.{must, firstOf}
-use Rattle.molang.specs.Write.{closerFor, standsAlone, standsLeft, standsRight, operandTokens, written}
+use Rattle.molang.specs.Write.{closerFor, closerOf, standsAlone, standsLeft, standsRight, operandTokens, written}
 use Rattle.molang.proofs.FirstFailure.{after-none, last-one, in-parts, behind}
 use Rattle.molang.proofs.Words.{beside}
 use Rattle.molang.proofs.Writing.{written-none, written-one, written-two, operand-length, written-length}
@@ -29,9 +29,9 @@ use Rattle.molang.proofs.Trees.{decided, either}
 use Rattle.write.specs.declared.plain.Seat.{Seat}
 use Rattle.write.specs.declared.plain.Seat.the-variants.{Enclosed, UnderMathCall, LeftOfComma, RightOfQuestion, Operand}
 use Rattle.molang.specs.WriteEntry.{mostNodes, treesOf, writtenTokens, WriteTold, tokens, unwritten, writeTold}
-use Rattle.write.proofs.RowLaws.{Opened, opened, shaped-room, shaped-length}
+use Rattle.shape.proofs.RowLaws.{Opened, opened, shaped-room, shaped-length}
 use Rattle.write.specs.Answers.{judgement}
-use Rattle.write.specs.Shaped.{nodeLength, countIndex, Shaped, noTrees, aNode, mostChildren, OneTree}
+use Rattle.shape.specs.Shaped.{nodeLength, countIndex, Shaped, noTrees, aNode, mostChildren, OneTree}
 use Rattle.write.specs.Seats.{formSeat, onlySeat, leftSeat, rightSeat, isPrefix, plainBy, isSpared, isPaired, ifTrue, tokensFor}
 
 -- The number of the first node that is not plain in a row of trees at these seats, numbered from n.
@@ -119,7 +119,7 @@ firstOperator nil = 0
 firstOperator (node k cs rest) = k .op
 
 first-operator : {most p : ℕ} {ws : List ℕ} → Shaped most p ws → firstOperator (treesOf ws) ≡ operatorOf (getD ws 0 0)
-unfolding firstOperator treesOf operatorOf lowOf tokenOf
+unfolding firstOperator treesOf operatorOf lowOf tokenOf nodeOf
 first-operator noTrees = refl
 first-operator (aNode five few later) = refl
 
@@ -292,7 +292,7 @@ module _ (p : Seat) (k : Token) where
       split : (b : Bool) → isBracket (k .op) ≡ b
           → length (written k (node x xs nil) []) ≡ 1 + ifTrue (isBracket (k .op)) 1 + (operandLength (onlySeat (k .op)) x xs + 0)
       split true e =
-          rw (written-one true k x xs [] e, unpaired-bracket x xs k e, e) (omega (arith, written-length x xs (closerFor k ∷ [])))
+          rw (written-one true k x xs [] e, unpaired-bracket x xs k e, e) (omega (arith, written-length x xs (closerOf k ∷ [])))
       split false e = rw (written-one false k x xs [] e, unpaired-only x xs k e, e) (omega arith)
 
   counted-two : (x y : Token) (xs ys : Forest) → isBracket (k .op) ≡ false

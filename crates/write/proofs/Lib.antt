@@ -1,5 +1,3 @@
-pub mod ShapeLaws
-pub mod RowLaws
 pub mod JudgeLaws
 pub mod SpellLaws
 pub mod CaseLaws

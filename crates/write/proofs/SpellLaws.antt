@@ -7,21 +7,22 @@ use native.Mathlib.Omega.{arith}
 use lib.ListN.{length, drop, getD}
 use lib.Seq.{drop-drop}
 use borrow.Author.Tests.{eq-eqb, ne-eqb, eqb-true, eqb-false}
-use Rattle.molang.specs.Forest.{Token, Forest, nil, node, bare, count, size}
+use Rattle.molang.specs.Forest.{Token, Forest, nil, node, bare, closedBy, unclosed, count, size}
 use Rattle.molang.specs.Operator.{isBracket}
 use Rattle.write.proofs.JudgeLaws.{unpaired-only, unpaired-bracket, unpaired-left, unpaired-right}
 use Rattle.molang.proofs.Words.{beside}
 use Rattle.write.specs.declared.plain.Seat.{Seat}
 use Rattle.write.specs.Seats.{isPaired, onlySeat, leftSeat, rightSeat}
-use Rattle.write.specs.Shaped.{nodeLength, countIndex, Shaped}
-use Rattle.write.proofs.RowLaws.{Opened, after-trees, shaped-length, no-kids, one-kid, two-kids}
+use Rattle.shape.specs.Shaped.{nodeLength, countIndex, closeIndex, firstFive, Shaped}
+use Rattle.shape.proofs.RowLaws.{Opened, after-trees, shaped-length, no-kids, one-kid, two-kids}
 use Rattle.molang.specs.Words.{lowOf, word, tokenWords, listWords}
-use Rattle.molang.specs.Write.{openerFor, closerFor, standsAlone, standsLeft, standsRight, operandTokens, written}
+use Rattle.molang.specs.Write.{openerFor, closerFor, closerOf, standsAlone, standsLeft, standsRight, operandTokens, written}
 use Rattle.molang.specs.WriteEntry.{firstTrees, otherTrees, treesOf, writtenTokens}
 use Rattle.molang.proofs.Writing.{written-none, written-one, written-two, operand-before, written-before}
 use Rattle.words.specs.Fields.{operatorOf}
 use Rattle.words.specs.Records.{laidAt}
-use Rattle.write.specs.Spelling.{firstFive, bracketWords, closerWords, firstSize, operandOf, nodeWritten, operandWritten}
+use Rattle.words.specs.Tokens.{fiveWords}
+use Rattle.write.specs.Spelling.{bracketWords, closerAt, closerWords, firstSize, operandOf, nodeWritten, operandWritten}
 
 -- The words of a list of tokens.
 pub list-words-append : (xs ys : List Token) → listWords (xs ++ ys) ≡ listWords xs ++ listWords ys
@@ -30,7 +31,7 @@ list-words-append [] ys = refl
 list-words-append (x ∷ xs) ys = rw (list-words-append xs ys, append-assoc) refl
 
 -- The closer's words, by whether the node is a bracket.
-pub bracket-closer : (ws : List ℕ) → operatorOf (getD ws 0 0) ≡ 4 → closerWords ws ≡ bracketWords 5 ws
+pub bracket-closer : (ws : List ℕ) → operatorOf (getD ws 0 0) ≡ 4 → closerWords ws ≡ fiveWords (closerAt (getD ws closeIndex 0))
 unfolding closerWords isBracket
 bracket-closer ws e = rw (eq-eqb (operatorOf (getD ws 0 0)) 4 e, closerWords)
 
@@ -55,6 +56,15 @@ module _ (k : Token) (ws : List ℕ) (five : tokenWords k ≡ firstFive ws) wher
   closer-words : tokenWords (closerFor k) ≡ bracketWords 5 ws
   unfolding tokenWords closerFor bare bracketWords
   closer-words = rw (start-word, end-word)
+
+-- The words of a section's closer, by where the section closes; and of its opener, which are those of its node.
+section-closer : (k : Token) (g : ℕ) → k .close ≡ lowOf g → tokenWords (closerOf k) ≡ fiveWords (closerAt g)
+unfolding tokenWords closerOf
+section-closer k g e = rw e
+
+section-opener : (k : Token) → tokenWords (unclosed k) ≡ tokenWords k
+unfolding tokenWords unclosed closedBy
+section-opener k = refl
 
 -- The tokens of a node and the words that its tree fills, by the number of its children.
 pub record NoneBelow (W : List ℕ) : Type 0 where
@@ -115,9 +125,10 @@ list-words-none = refl
 
 module _ {others : ℕ} {W : List ℕ} (o : Opened 2 (suc others) W) where
   closer-by : (b : Bool) → isBracket (o .k .op) ≡ b
-      → closerWords W ≡ (elim b as (λ t. List ℕ) [ true ↦ tokenWords (closerFor (o .k)) | false ↦ [] ])
+      → closerWords W ≡ (elim b as (λ t. List ℕ) [ true ↦ tokenWords (closerOf (o .k)) | false ↦ [] ])
   unfolding isBracket
-  closer-by true e = bracket-closer W (sym (o .op) ∙ eqb-true (o .k .op) 4 e) ∙ sym (closer-words (o .k) W (o .five))
+  closer-by true e =
+      bracket-closer W (sym (o .op) ∙ eqb-true (o .k .op) 4 e) ∙ sym (section-closer (o .k) (getD W closeIndex 0) (o .close))
   closer-by false e = no-closer W (λ h. eqb-false (o .k .op) 4 e (o .op ∙ h))
 
   pub none-below : lowOf (getD W countIndex 0) ≡ 0 → NoneBelow W
@@ -127,7 +138,7 @@ module _ {others : ℕ} {W : List ℕ} (o : Opened 2 (suc others) W) where
       record { words = rw leaf (split (isBracket (o .k .op)) refl); fills = rw leaf }
     where
       split : (b : Bool) → isBracket (o .k .op) ≡ b → listWords (written (o .k) nil []) ≡ firstFive W ++ closerWords W
-      split true h = rw (written-none true (o .k) [] h, closer-by true h, list-words-cons, o .five, list-words-one)
+      split true h = rw (written-none true (o .k) [] h, closer-by true h, list-words-cons, section-opener (o .k), o .five, list-words-one)
       split false h = rw (written-none false (o .k) [] h, closer-by false h, list-words-cons, o .five, list-words-none)
 
   pub one-below : lowOf (getD W countIndex 0) ≡ 1 → OneBelow others W
@@ -154,8 +165,9 @@ module _ {others : ℕ} {W : List ℕ} (o : Opened 2 (suc others) W) where
             written-one true (o .k) x xs [] h,
             unpaired-bracket x xs (o .k) h,
             closer-by true h,
-            written-before x xs (closerFor (o .k) ∷ []),
+            written-before x xs (closerOf (o .k) ∷ []),
             list-words-cons,
+            section-opener (o .k),
             o .five,
             list-words-append,
             list-words-one,

@@ -13,10 +13,10 @@ use Rattle.words.specs.Records.{laidAt}
 use Rattle.words.proofs.RecordLaws.{laid-length, laid-laid}
 use Rattle.write.specs.declared.plain.Seat.{Seat}
 use Rattle.write.specs.Seats.{isPaired, onlySeat, leftSeat, rightSeat}
-use Rattle.write.specs.Shaped.{nodeLength, countIndex, Shaped}
-use Rattle.write.specs.Spelling.{firstFive, bracketWords, closerWords, firstSize, operandOf, filledWords, nodeWritten, operandWritten}
+use Rattle.shape.specs.Shaped.{nodeLength, countIndex, firstFive, Shaped}
+use Rattle.write.specs.Spelling.{bracketWords, closerWords, firstSize, operandOf, filledWords, nodeWritten, operandWritten}
 use Rattle.write.specs.Spelling.{Room}
-use Rattle.write.proofs.RowLaws.{Opened, opened, shaped-room}
+use Rattle.shape.proofs.RowLaws.{Opened, opened, shaped-room}
 use Rattle.write.proofs.SpellLaws.{first-within, none-below, OneBelow, one-below, onlyWords, TwoBelow, two-below, leftWords}
 use Rattle.write.proofs.SpellLaws.{leftSize, rightPart, rightWords, paired-words, unpaired-words}
 
@@ -30,12 +30,12 @@ tail-part n W = take-all (length W - n) (drop n W) (omega (arith, length-drop n 
 tail-length : (n : ℕ) (W : List ℕ) → length (tail n W) ≡ length W - n
 tail-length n W = rw tail-part (length-drop n W)
 
--- The nodes that the words still hold, six words each: document 01's remaining node count, which falls with a node's own words.
+-- The nodes that the words still hold, seven words each: document 01's remaining node count, which falls with a node's own words.
 abbrev pub nodesLeft : List ℕ → ℕ
 nodesLeft W = length W / nodeLength
 
 pub fewer-nodes : (n : ℕ) (W : List ℕ) → nodeLength ≤ n → nodeLength ≤ length W → nodesLeft (tail n W) < nodesLeft W
-fewer-nodes n W six long = omega (arith, tail-length n W)
+fewer-nodes n W enough long = omega (arith, tail-length n W)
 
 -- Words laid into the list from `to` on, which goes on behind them.
 abbrev pub Puts : List ℕ → List ℕ → ℕ → List ℕ → ℕ → Type 0

@@ -1,5 +1,4 @@
 pub mod Answers
 pub mod Seats
 pub mod Reading
-pub mod Shaped
 pub mod Spelling

@@ -7,26 +7,35 @@ use lib.ListN.{length, take, getD}
 use Rattle.molang.specs.Forest.{Token, Forest, nil, node, count, size}
 use Rattle.molang.specs.Operator
 use Rattle.molang.specs.Operator.{isBracket}
-use Rattle.molang.specs.Words.{word, listWords}
+use Rattle.molang.specs.Words.{word, lowOf, listWords}
 use Rattle.words.specs.Fields.{operatorOf}
+use Rattle.words.specs.Tokens.{fiveWords}
+use Rattle.words.specs.declared.tokens.TokenWords.{TokenWords}
 use Rattle.molang.specs.Write.{written, operandTokens}
 use Rattle.molang.specs.WriteEntry.{treesOf, writtenTokens, tokens}
 use Rattle.write.specs.declared.plain.Seat.{Seat}
 use Rattle.write.specs.Answers.{judgement}
 use Rattle.write.specs.Seats.{isPaired}
-use Rattle.write.specs.Shaped.{nodeLength, Shaped}
+use Rattle.shape.specs.Shaped.{nodeLength, closeIndex, Shaped}
 
--- The token words that a list of words opens with.
-unfoldable pub firstFive : List ℕ → List ℕ
-firstFive ws = getD ws 0 0 ∷ getD ws 1 0 ∷ getD ws 2 0 ∷ getD ws 3 0 ∷ getD ws 4 0 ∷ []
-
--- Those of a bracket with the same span and payload 0.
+-- The words of a bracket of op with the span of the node that the words open with, and payload 0.
 unfoldable pub bracketWords : ℕ → List ℕ → List ℕ
 bracketWords op ws = word 1 (op % 2 ^ 8) ∷ getD ws 1 0 ∷ getD ws 2 0 ∷ word 4 0 ∷ word 5 0 ∷ []
 
--- Those of its closer, if it is a bracket.
+-- The words of the closer of a section that closes where the word g says.
+abbrev pub closerAt : ℕ → TokenWords
+closerAt g =
+    record {
+      operator = word 1 (Operator.rightParenthesis % 2 ^ 8);
+      start = word 2 (lowOf g);
+      end = word 3 (lowOf g);
+      upper = word 4 0;
+      lower = word 5 0;
+    }
+
+-- The words of the closer of the node that the words open with, if it is a bracket.
 unfoldable pub closerWords : List ℕ → List ℕ
-closerWords ws = elim (isBracket (operatorOf (getD ws 0 0))) [ true ↦ bracketWords Operator.rightParenthesis ws | false ↦ [] ]
+closerWords ws = elim (isBracket (operatorOf (getD ws 0 0))) [ true ↦ fiveWords (closerAt (getD ws closeIndex 0)) | false ↦ [] ]
 
 -- The nodes of the first tree.
 unfoldable pub firstSize : Forest → ℕ

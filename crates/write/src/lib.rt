@@ -1,16 +1,15 @@
 // The write entry: the words of a plain tree become the words of a token list. What turns a call back is found first, from the
 // table's top and without recursion, so a tree that cannot be written leaves the list as it was and takes little of the call stack.
-// Leans on words and ops.
+// Leans on shape, words and ops.
 mod plain;
 mod reader;
-mod shape;
 mod spell;
 
 use crate::plain::Judged;
 use crate::plain::judge;
-use crate::shape::Fault;
-use crate::shape::first_fault;
 use crate::spell::write_node;
+use shape::Fault;
+use shape::first_fault;
 use words::fields;
 use words::refusals;
 ghost use mathlib.Core.Path.{_≡_};

@@ -9,7 +9,7 @@ ghost use Rattle.molang.specs.Plain as plain;
 ghost use Rattle.molang.specs.WriteEntry.{treesOf};
 ghost use Rattle.write.specs.Answers.{verdictOf, judgement};
 ghost use Rattle.write.specs.Seats.{formSeat, onlySeat, leftSeat, rightSeat, isPrefix, plainBy, isPaired, tokensFor};
-ghost use Rattle.write.specs.Shaped.{OneTree};
+ghost use Rattle.shape.specs.Shaped.{OneTree};
 
 // The seat of a node under its parent, as far as its form and its pair of brackets depend on it.
 pub enum Seat {

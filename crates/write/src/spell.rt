@@ -1,5 +1,5 @@
-// The writing of a plain tree: each operator between or before its operands, copied as it came, with added pairs where an operand
-// needs them. `write_node` and `write_operand` call each other over the preorder words, the remaining node count falling; each gives
+// The writing of a plain tree: each operator between or before its operands, copied as it came, a section's closer where the section
+// closes, and added pairs where an operand needs them. `write_node` and `write_operand` call each other over the preorder words, the remaining node count falling; each gives
 // back the part of the words that its tree fills, so the next operand starts right after it. Leans on plain (seats), ops and words.
 use crate::plain::Seat;
 use crate::plain::is_paired;
@@ -15,8 +15,8 @@ ghost use lib.ListN.{length};
 ghost use Rattle.molang.specs.WriteEntry.{writtenTokens};
 ghost use Rattle.words.specs.Records.{laidAt};
 ghost use Rattle.words.specs.Tokens.{fiveWords};
-ghost use Rattle.write.specs.Spelling.{firstFive, bracketWords, closerWords, operandOf, filledWords, nodeWritten, operandWritten};
-ghost use Rattle.write.specs.Spelling.{Room};
+ghost use Rattle.shape.specs.Shaped.{nodeLength, firstFive};
+ghost use Rattle.write.specs.Spelling.{bracketWords, closerAt, closerWords, operandOf, filledWords, nodeWritten, operandWritten, Room};
 
 // Puts a token's five words into the list from `to` on, and moves `to` behind them.
 fn put(list: &mut [u32], to: &mut usize, token: TokenWords)
@@ -47,14 +47,27 @@ fn put_bracket(op: u32, words: &[u32], list: &mut [u32], to: &mut usize)
     put(list, to, TokenWords::at(words, 0).bare(op));
 }
 
+// The closer of a section that closes where the word says: it starts and ends there, and has payload 0.
+fn closer_at(close: u32) -> TokenWords
+    ensures { λ r. ⌜ r ≡ closerAt close ⌝ }
+{
+    TokenWords {
+        operator: fields::operator_word(op::RIGHT_PARENTHESIS),
+        start: fields::start_word(close),
+        end: fields::end_word(close),
+        upper: fields::upper_word(0),
+        lower: fields::lower_word(0),
+    }
+}
+
 // The closer of the node that the words open with, if it is a bracket.
 fn put_closer(words: &[u32], list: &mut [u32], to: &mut usize)
-    requires { ⌜ (5 ≤ length (now words)) × (now to + length (closerWords (now words)) ≤ length (now list)) ⌝ }
+    requires { ⌜ (nodeLength ≤ length (now words)) × (now to + length (closerWords (now words)) ≤ length (now list)) ⌝ }
     ensures { λ _. ⌜ now (list .exit) ≡ laidAt (now (to .entry)) (closerWords (now (words .entry))) (now (list .entry)) ⌝ }
     ensures { λ _. ⌜ now (to .exit) ≡ now (to .entry) + length (closerWords (now (words .entry))) ⌝ }
 {
     if fields::operator(words[0]) == op::LEFT_PARENTHESIS {
-        put_bracket(op::RIGHT_PARENTHESIS, words, list, to);
+        put(list, to, closer_at(words[fields::CLOSE_FIELD]));
     }
 }
 

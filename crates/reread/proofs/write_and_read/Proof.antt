@@ -21,7 +21,7 @@ abbrev given : tie.Start → Handed
 given s =
     let a = s .args in handedOf (a .tree .now) (a .written .now) (a .again .now) (a .messages .now) (a .work .now) (a .source-length) (a .version)
 
-tree-within : (s : tie.Start) → 6 * (s .args .nodes) ≤ length (s .args .tree .now)
+tree-within : (s : tie.Start) → 7 * (s .args .nodes) ≤ length (s .args .tree .now)
 tree-within s = omega (arith, tree-room (s .pre .first) (s .args .nodes) (s .pre .says), ap length (s .pre .left))
 
 mul-words : tie.Need-mul-words
@@ -29,7 +29,7 @@ mul-words c = omega (arith, tree-within (c .before .before .before .before .befo
 
 slice-aggregate-write : tie.Need-slice-aggregate-write
 slice-aggregate-write c =
-    let s = c .before .before .before .before .before .before in omega (arith, tree-within s, length-take (6 * (s .args .nodes)) (s .args .tree .now))
+    let s = c .before .before .before .before .before .before in omega (arith, tree-within s, length-take (7 * (s .args .nodes)) (s .args .tree .now))
 
 write-requires : tie.Need-write-requires
 write-requires c κs = search needs

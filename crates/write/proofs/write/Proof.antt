@@ -4,9 +4,10 @@ use mathlib.Core.Path.{_≡_, sym, ap, _∙_}
 use mathlib.Core.Option.{none}
 use Rattle.molang.specs.Words.{operatorField}
 use Rattle.molang.specs.WriteEntry.{treeFault}
-use Rattle.write.specs.Answers.{refusalOf, shape, verdictOf}
-use Rattle.write.specs.Shaped.{OneTree}
-use Rattle.write.proofs.ShapeLaws.{one-tree}
+use Rattle.write.specs.Answers.{verdictOf}
+use Rattle.shape.specs.Answers.{refusalOf, shape}
+use Rattle.shape.specs.Shaped.{OneTree}
+use Rattle.shape.proofs.ShapeLaws.{one-tree}
 use Rattle.write.proofs.EntryLaws.{fault-answer, no-fault, tree-answer, unplain-answer, plain-writable}
 use borrow.Author.Needs.{needs}
 use Rattle.write.proofs.write.Statement.{statement}

@@ -29,16 +29,16 @@ none-called : (e : Extent) (f : _) → extentWith e (firstTrees 0 f) ≡ e
 unfolding firstTrees extentWith lowestStart highestEnd
 none-called e f = refl
 
-none-left : (e : Extent) (t : ℕ) (l : List ℕ) → length l < 6 → extentWith e (firstTrees t (treesOf l)) ≡ e
+none-left : (e : Extent) (t : ℕ) (l : List ℕ) → length l < 7 → extentWith e (firstTrees t (treesOf l)) ≡ e
 unfolding extentWith lowestStart highestEnd
 none-left e t l h = rw (no-tree l h, none-first t) refl
 
 -- A node is taken in.
-step-at : (W : List ℕ) (at t : ℕ) (e : Extent) → at + 6 ≤ length W
-    → extentWith (wider e (getD W (at + 1) 0) (getD W (at + 2) 0)) (firstTrees (t + lowOf (getD W (at + 5) 0)) (treesOf (drop (at + 6) W)))
+step-at : (W : List ℕ) (at t : ℕ) (e : Extent) → at + 7 ≤ length W
+    → extentWith (wider e (getD W (at + 1) 0) (getD W (at + 2) 0)) (firstTrees (t + lowOf (getD W (at + 5) 0)) (treesOf (drop (at + 7) W)))
     ≡ extentWith e (firstTrees (suc t) (treesOf (drop at W)))
 step-at W at t e h =
-    rw (getD-drop at W 1 0, getD-drop at W 2 0, getD-drop at W 5 0, drop-drop 6 at W) at (extent-step (drop at W) t e (omega (arith, length-drop at W)))
+    rw (getD-drop at W 1 0, getD-drop at W 2 0, getD-drop at W 5 0, drop-drop 7 at W) at (extent-step (drop at W) t e (omega (arith, length-drop at W)))
 
 sub-t6 : tie.Need-sub-t6 Inv-loop μ-loop
 sub-t6 c = search needs

@@ -13,7 +13,7 @@ use Rattle.write.specs.Seats.{plainBy}
 use Rattle.write.proofs.JudgeLaws.{Judging, Turn, few-tokens, judging-begins, judging-room, judging-room-two, judging-refused, judging-none, judging-one, judging-two, judging-ends, falls}
 use Rattle.write.proofs.plain.judge.Statement.{statement}
 use Rattle.write.proofs.plain.judge.Tie as tie
-use Rattle.write.specs.Shaped.{nodeLength}
+use Rattle.shape.specs.Shaped.{nodeLength}
 
 abbrev Inv-loop : tie.InvT-loop
 Inv-loop tree waiting₀ top₀ tokens₀ node₀ at₀ waiting top tokens node at = Judging tree waiting top tokens node at

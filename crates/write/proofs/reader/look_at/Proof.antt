@@ -38,7 +38,7 @@ returns c =
       op = c .before .before .before .operator .ensures i;
       children = c .before .low .ensures i;
       next = c .operator-at .ensures i;
-      after = a .from + 6;
+      after = a .from + 7;
     }
 
 pub look-at-spec : {M : Type 1} → statement M

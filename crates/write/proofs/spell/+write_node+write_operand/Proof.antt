@@ -28,7 +28,7 @@ use Rattle.write.proofs.spell.+write_node+write_operand.Lts-write_opera
 use Rattle.write.proofs.spell.+write_node+write_operand.{statement}
 use Rattle.write.proofs.spell.+write_node+write_operand.Tie.{close}
 use Rattle.write.proofs.StepLaws.{tail, nodesLeft, fewer-nodes, node-long, none-closer, none-length, none-writes, token-room, one-only, one-closer, one-end, one-length, one-writes, two-left, two-token, two-next, two-right, two-end, two-length, two-writes, operand-long, alone-room, alone-writes, open-room, inner-room, close-room, pair-length, pair-writes}
-use Rattle.write.specs.Shaped.{nodeLength}
+use Rattle.shape.specs.Shaped.{nodeLength}
 
 abbrev μ-write-node : Measures 3 write-node-kinds.ps ℕ
 μ-write-node κs a = 2 * nodesLeft (a .0 .now)
@@ -220,7 +220,7 @@ write-node-put-closer-requires t c κs =
     (omega (arith, node-long (start .pre .1)), none-closer (start .pre .1) (sym (count .ensures) ∙ leaf .taken) (token .last .1 .0) (token .last .1 .1 .0) (token .ensures))
 
 write-node-slice-aggregate-result-2 : (t : ℕ) → write-node-lts.Need-slice-aggregate-result-2 (node-calls t) (write-node-at t) write-node.Post
-write-node-slice-aggregate-result-2 t c = sym (length-take-le 6 (c .before .before .before .before .before .before .before .before .before .before .before .before .before .before .before .before .before .before .before .args .words .now) (node-long (c .before .before .before .before .before .before .before .before .before .before .before .before .before .before .before .before .before .before .before .pre .1)))
+write-node-slice-aggregate-result-2 t c = sym (length-take-le 7 (c .before .before .before .before .before .before .before .before .before .before .before .before .before .before .before .before .before .before .before .args .words .now) (node-long (c .before .before .before .before .before .before .before .before .before .before .before .before .before .before .before .before .before .before .before .pre .1)))
 
 write-node-same-length-2 : (t : ℕ) → write-node-lts.Need-same-length-2 (node-calls t) (write-node-at t) write-node.Post
 write-node-same-length-2 t c =

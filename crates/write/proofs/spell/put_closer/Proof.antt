@@ -3,7 +3,6 @@ use mathlib.Core.Path.{sym, ap, _∙_}
 use native.Mathlib.Nat.{add-zero}
 use native.Mathlib.Omega.{arith}
 use lib.ListN.{length}
-use Rattle.write.specs.Spelling.{bracketWords}
 use Rattle.words.proofs.RecordLaws.{none-laid}
 use Rattle.write.proofs.SpellLaws.{bracket-closer, no-closer}
 use borrow.Author.Needs.{needs}
@@ -16,22 +15,29 @@ shared-slice-read-operator c = search needs
 operator-requires : tie.Need-operator-requires
 operator-requires c κs = search needs
 
-put-bracket-requires : tie.Need-put-bracket-requires
-unfolding bracketWords
-put-bracket-requires c κs =
-    let start = c .before .before .before .before .before .before .before in
-    let closer = bracket-closer (start .args .words .now) (sym (c .before .before .before .operator .ensures) ∙ c .before .before .if1 .taken) in
-    (start .pre .0, omega (arith, start .pre .1, ap length closer))
+shared-slice-read-closer-at : tie.Need-shared-slice-read-closer-at
+shared-slice-read-closer-at c = search needs
+
+closer-at-requires : tie.Need-closer-at-requires
+closer-at-requires c κs = search needs
+
+put-requires : tie.Need-put-requires
+put-requires c κs =
+    let taken = c .before .before .before .before in
+    let start = taken .before .before .before .before .before in
+    let closer = bracket-closer (start .args .words .now) (sym (taken .before .operator .ensures) ∙ taken .if1 .taken) in
+    omega (arith, start .pre .1, ap length closer)
 
 same-length : tie.Need-same-length
 same-length c = search needs
 
 returns : tie.Need-returns
-unfolding bracketWords
 returns c =
-    let closer = bracket-closer (c .before .before .before .before .before .before .before .before .before .before .args .words .now) (sym (c .before .before .before .before .before .before .operator .ensures) ∙ c .before .before .before .before .before .if1 .taken) in
-    let put = c .before .before .put-bracket .ensures in
-    (rw closer (put .0), rw closer (put .1))
+    let put = c .before .before in
+    let taken = put .before .before .before .before .before in
+    let start = taken .before .before .before .before .before in
+    let closer = bracket-closer (start .args .words .now) (sym (taken .before .operator .ensures) ∙ taken .if1 .taken) in
+    (rw closer (rw (put .before .closer-at .ensures) at (put .put .ensures .0)), rw closer (put .put .ensures .1))
 
 returns-2 : tie.Need-returns-2
 returns-2 c =
@@ -45,7 +51,9 @@ put-closer-spec =
     (tie.spec
     shared-slice-read-operator
     operator-requires
-    put-bracket-requires
+    shared-slice-read-closer-at
+    closer-at-requires
+    put-requires
     same-length
     returns
     returns-2)

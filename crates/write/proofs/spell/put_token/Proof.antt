@@ -1,5 +1,5 @@
 -- `write::spell::put_token` meets its contract: by that of `put`. Assumes nothing.
-use Rattle.write.specs.Spelling.{firstFive}
+use Rattle.shape.specs.Shaped.{firstFive}
 use borrow.Author.Needs.{needs}
 use Rattle.write.proofs.spell.put_token.Statement.{statement}
 use Rattle.write.proofs.spell.put_token.Tie as tie

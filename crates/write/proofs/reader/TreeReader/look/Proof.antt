@@ -50,7 +50,7 @@ use Rattle.write.proofs.reader.TreeReader.look.Key.{name as #look}
 use Rattle.write.proofs.reader.TreeReader.look as looking
 use Rattle.write.proofs.reader.TreeReader.look.Statement as stated
 use Rattle.write.proofs.reader.TreeReader.look.Code as code
-use Rattle.write.specs.Shaped.{nodeLength}
+use Rattle.shape.specs.Shaped.{nodeLength}
 
 abbrev stayed : Stays (looking.ended .signature .params) (looking.ended .kept)
 stayed = (stay-none Row yes, tt)

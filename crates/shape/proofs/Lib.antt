@@ -1,0 +1,4 @@
+-- The laws that the proofs of several functions share, and those that crates above cite.
+pub mod ShapeLaws
+pub mod RowLaws
+pub mod CaseLaws

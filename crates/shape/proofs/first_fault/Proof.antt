@@ -1,0 +1,99 @@
+-- `shape::first_fault` meets its contract. The loop's invariant: the fault of the words that are left, at what was seen so
+-- far, is the fault of all. The measure is what is left of the words. Assumes nothing.
+use Prim.Native.Nat.{_-_}
+use mathlib.Core.Path.{sym, ap, _∙_}
+use native.Mathlib.Omega.{arith}
+use borrow.Author.Needs.{needs}
+use borrow.Author.Tests.{not-true, not-false}
+use lib.ListN.{length}
+use Rattle.molang.specs.Words.{withNumber}
+use Rattle.shape.specs.Answers.{fieldOf}
+use Rattle.shape.proofs.ShapeLaws.{Seen, seen-start, seen-fault, seen-more, seen-none, seen-end}
+use Rattle.shape.proofs.first_fault.Statement.{statement}
+use Rattle.shape.proofs.first_fault.Tie as tie
+
+abbrev Inv-loop : tie.InvT-loop
+Inv-loop tree field₀ variant₀ called₀ begun₀ i₀ field variant called begun i =
+    Seen tree (fieldOf field) variant called begun i
+
+abbrev μ-loop : tie.MeasureT-loop
+μ-loop tree field₀ variant₀ called₀ begun₀ i₀ field variant called begun i = length tree - i
+
+loop-holds : tie.Need-loop-holds Inv-loop μ-loop
+loop-holds c = seen-start (c .before .args .tree .now)
+
+mul-w : tie.Need-mul-w Inv-loop μ-loop
+mul-w c = search needs
+
+shared-slice-read-w : tie.Need-shared-slice-read-w Inv-loop μ-loop
+shared-slice-read-w c = search needs
+
+continues-requires : tie.Need-continues-requires Inv-loop μ-loop
+continues-requires c κs = (c .before .before .loop .inv .enough, c .before .before .loop .inv .few)
+
+returns : tie.Need-returns Inv-loop μ-loop
+returns c =
+    let h = c .before .before .before .before in
+    ap (withNumber 12)
+    (seen-fault (h .loop .inv) (c .before .before .before .loop-test .taken) (sym (c .before .continues .ensures) ∙ not-true _ (c .if1 .taken)))
+
+variant-after-requires : tie.Need-variant-after-requires Inv-loop μ-loop
+variant-after-requires c κs = search needs
+
+called-after-requires : tie.Need-called-after-requires Inv-loop μ-loop
+called-after-requires c κs = c .before .before .before .before .before .loop .inv .few
+
+begun-after-requires : tie.Need-begun-after-requires Inv-loop μ-loop
+begun-after-requires c κs = let seen = c .before .before .before .before .before .before .loop .inv in omega (arith, seen .enough, seen .few)
+
+next-requires : tie.Need-next-requires Inv-loop μ-loop
+next-requires c κs = search needs
+
+add-i : tie.Need-add-i Inv-loop μ-loop
+add-i c = search needs
+
+loop-less : tie.Need-loop-less Inv-loop μ-loop
+loop-less c = search needs
+
+loop-again : tie.Need-loop-again Inv-loop μ-loop
+loop-again c =
+    let turn = c .before .before .before .before .before in
+    let h = turn .before .before .before in
+    seen-more (h .loop .inv) (turn .before .before .loop-test .taken) (sym (turn .continues .ensures) ∙ not-false _ (c .before .before .before .before .if1 .left))
+    (c .next .ensures) (c .before .before .before .variant-after .ensures) (c .before .before .called-after .ensures (h .loop .begun))
+    (c .before .begun-after .ensures (h .loop .called) _)
+
+is-whole-requires : tie.Need-is-whole-requires Inv-loop μ-loop
+is-whole-requires c κs = search needs
+
+returns-2 : tie.Need-returns-2 Inv-loop μ-loop
+returns-2 c =
+    let h = c .before .before .before in
+    ap (withNumber 12) (seen-none (h .loop .inv) (c .before .before .loop-test .left) (sym (c .before .is-whole .ensures) ∙ c .if2 .taken))
+
+returns-3 : tie.Need-returns-3 Inv-loop μ-loop
+returns-3 c =
+    let h = c .before .before .before in
+    ap (withNumber 12) (seen-end (h .loop .inv) (c .before .before .loop-test .left) (sym (c .before .is-whole .ensures) ∙ c .if2 .left))
+
+pub first-fault-spec : {M : Type 1} → statement M
+first-fault-spec =
+    tie.close
+    (tie.spec
+    Inv-loop
+    μ-loop
+    loop-holds
+    mul-w
+    shared-slice-read-w
+    continues-requires
+    returns
+    variant-after-requires
+    called-after-requires
+    begun-after-requires
+    next-requires
+    add-i
+    loop-less
+    loop-again
+    is-whole-requires
+    returns-2
+    returns-3)

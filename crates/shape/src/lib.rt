@@ -1,0 +1,162 @@
+// Answer 12: the words are exactly one tree of at most 12,288 nodes, or the first word that cannot continue one is found. Word
+// by word, with the nodes that the words so far call for and those that have begun. Leans on words (the check of each word).
+use words::checks;
+use words::checks::Word;
+use words::fields;
+ghost use mathlib.Core.Path.{_≡_};
+ghost use Prim.Native.Nat.{ℕ, _≤_};
+ghost use Rattle.molang.specs.Words as words;
+ghost use Rattle.molang.specs.WriteEntry as entry;
+ghost use Rattle.words.specs.Checks.{numberOf};
+ghost use Rattle.shape.specs.Answers.{fieldOf, refusalOf, treeRefusal, isLegal, shape};
+
+// The most nodes of a tree.
+pub const MOST_NODES: u32 = 12_288;
+
+// Which word of a node is expected next.
+pub enum Field {
+    Operator,
+    Start,
+    End,
+    Upper,
+    Lower,
+    Count,
+    Close,
+}
+
+pub enum Fault {
+    // The words are one tree.
+    Nowhere,
+    // The first word that cannot continue one, or the number of words where they run out.
+    At(usize),
+}
+
+fn next(field: Field) -> Field
+    ensures { λ r. ⌜ fieldOf r ≡ entry.nextInNode (fieldOf field) ⌝ }
+{
+    match field {
+        Field::Operator => Field::Start,
+        Field::Start => Field::End,
+        Field::End => Field::Upper,
+        Field::Upper => Field::Lower,
+        Field::Lower => Field::Count,
+        Field::Count => Field::Close,
+        Field::Close => Field::Operator,
+    }
+}
+
+fn is_good(word: Word) -> bool
+    ensures { λ r. ⌜ r ≡ isLegal (numberOf word) ⌝ }
+{
+    match word {
+        Word::Good => true,
+        _ => false,
+    }
+}
+
+// Whether the word is of kind 6, of which bits 0-13 are used.
+fn is_count(w: u32) -> bool
+    ensures { λ r. ⌜ r ≡ isLegal (words.wordFault words.countField 0 w) ⌝ }
+{
+    if fields::kind(w) != fields::CHILDREN {
+        return false;
+    }
+    fields::low(w) < 16_384
+}
+
+// Whether the word is legal in its field, in a node of the given payload variant.
+fn is_legal(field: Field, variant: u32, w: u32) -> bool
+    ensures { λ r. ⌜ r ≡ isLegal (words.wordFault (fieldOf field) variant w) ⌝ }
+{
+    match field {
+        Field::Operator => is_good(checks::operator_word(w)),
+        Field::Start => is_good(checks::span_word(w, fields::START)),
+        Field::End => is_good(checks::span_word(w, fields::END)),
+        Field::Upper => is_good(checks::half_word(w, fields::UPPER, variant)),
+        Field::Lower => is_good(checks::half_word(w, fields::LOWER, variant)),
+        Field::Count => is_count(w),
+        Field::Close => is_good(checks::span_word(w, fields::CLOSE)),
+    }
+}
+
+// The payload variant of the node, after one of its words.
+fn variant_after(field: Field, variant: u32, w: u32) -> u32
+    ensures { λ r. ⌜ r ≡ words.variantAfter (fieldOf field) variant w ⌝ }
+{
+    match field {
+        Field::Operator => fields::variant(w),
+        _ => variant,
+    }
+}
+
+// How many nodes are called for, after a legal word: a count calls for the node's children.
+fn called_after(field: Field, called: u32, w: u32) -> u32
+    requires { ⌜ called ≤ entry.mostNodes ⌝ }
+    ensures { λ r. ⌜ ((begun : ℕ) → r ≡ entry.shapeAfter (fieldOf field) w (shape called begun) .called) ⌝ }
+{
+    match field {
+        Field::Count => called + fields::low(w),
+        _ => called,
+    }
+}
+
+// How many nodes have begun, after a word.
+fn begun_after(field: Field, begun: u32) -> u32
+    requires { ⌜ begun ≤ entry.mostNodes ⌝ }
+    ensures { λ r. ⌜ ((called w : ℕ) → r ≡ entry.shapeAfter (fieldOf field) w (shape called begun) .begun) ⌝ }
+{
+    match field {
+        Field::Operator => begun + 1,
+        _ => begun,
+    }
+}
+
+// Whether the word can stand next: it is legal, a node is still called for, and no more nodes are than a tree may have.
+fn continues(field: Field, variant: u32, called: u32, begun: u32, w: u32) -> bool
+    requires { ⌜ (begun ≤ called) × (called ≤ entry.mostNodes) ⌝ }
+    ensures { λ r. ⌜ r ≡ entry.continues (fieldOf field) variant (shape called begun) w ⌝ }
+{
+    if !is_legal(field, variant, w) {
+        return false;
+    }
+    if called < begun_after(field, begun) {
+        return false;
+    }
+    called_after(field, called, w) <= MOST_NODES
+}
+
+// Whether the words may end here: a node has just ended, and none is called for any more.
+fn is_whole(field: Field, called: u32, begun: u32) -> bool
+    ensures { λ r. ⌜ r ≡ entry.isWhole (fieldOf field) (shape called begun) ⌝ }
+{
+    match field {
+        Field::Operator => begun == called,
+        _ => false,
+    }
+}
+
+// The loop over the words: the first that cannot continue a tree, or the end where they run out.
+pub fn first_fault(tree: &[u32]) -> Fault
+    ensures { λ r. ⌜ refusalOf r ≡ treeRefusal (now (tree .entry)) ⌝ }
+{
+    let mut field = Field::Operator;
+    let mut variant = 0u32;
+    let mut called = 1u32;
+    let mut begun = 0u32;
+    let mut i = 0usize;
+    while i < tree.len() {
+        let w = tree[i];
+        if !continues(field, variant, called, begun, w) {
+            return Fault::At(i);
+        }
+        variant = variant_after(field, variant, w);
+        called = called_after(field, called, w);
+        begun = begun_after(field, begun);
+        field = next(field);
+        i += 1;
+    }
+    if is_whole(field, called, begun) {
+        return Fault::Nowhere;
+    }
+    Fault::At(i)
+}
