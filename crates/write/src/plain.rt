@@ -1,6 +1,7 @@
 // Answer 13 and the written count, in one loop over the nodes in tree order: a node is judged by its own operator, its seat under
 // its parent and its first child's operator. The seats of the nodes that are called for and have not come yet stand on a stack,
-// the next one on top. The words are read by the reader. Leans on ops and words.
+// the next one on top. Of a script the root is judged first, by its children's operators. The words are read by the reader. Leans on
+// ops and words.
 use crate::reader::view_node;
 use ops::is_math_call;
 use ops::op;
@@ -13,7 +14,9 @@ ghost use Rattle.shape.specs.Shaped.{OneTree};
 
 // The seat of a node under its parent, as far as its form and its pair of brackets depend on it.
 pub enum Seat {
-    // The root, or a bracket's child.
+    // A statement of a script, or what a statement holds.
+    UnderSemicolon,
+    // The root of an expression, or a bracket's child.
     Enclosed,
     // The bracket under a math call.
     UnderMathCall,
@@ -39,6 +42,9 @@ pub fn seat_of_only(op: u32) -> Seat
 {
     if op == op::LEFT_PARENTHESIS {
         return Seat::Enclosed;
+    }
+    if op == op::SEMICOLON {
+        return Seat::UnderSemicolon;
     }
     if is_math_call(op) {
         return Seat::UnderMathCall;
@@ -114,6 +120,15 @@ fn is_right_of_question(seat: Seat) -> bool
     }
 }
 
+fn is_under_semicolon(seat: Seat) -> bool
+    ensures { λ r. ⌜ r ≡ plain.isUnderSemicolon (formSeat seat) ⌝ }
+{
+    match seat {
+        Seat::UnderSemicolon => true,
+        _ => false,
+    }
+}
+
 // A leaf; a bracket may be empty under a math call.
 fn is_plain_without_children(seat: Seat, op: u32) -> bool
     ensures { λ r. ⌜ r ≡ plainBy seat op 0 0 ⌝ }
@@ -134,12 +149,18 @@ fn is_prefix(op: u32) -> bool
     }
 }
 
-// A prefix over anything; a call over its bracket.
-fn is_plain_over_one(op: u32, first: u32) -> bool
-    ensures { λ r. ⌜ r ≡ plainBy Seat.Operand op 1 first ⌝ }
+// A prefix over anything; a call over its bracket; a statement over what is none, and a return in a statement.
+fn is_plain_over_one(seat: Seat, op: u32, first: u32) -> bool
+    ensures { λ r. ⌜ r ≡ plainBy seat op 1 first ⌝ }
 {
     if is_prefix(op) {
         return true;
+    }
+    if op == op::SEMICOLON {
+        return is_under_semicolon(seat) && first != op::SEMICOLON;
+    }
+    if op == op::RETURN {
+        return is_under_semicolon(seat);
     }
     if first == op::LEFT_PARENTHESIS {
         return is_call(op);
@@ -147,12 +168,15 @@ fn is_plain_over_one(op: u32, first: u32) -> bool
     false
 }
 
-// A binary operator; `:` right of its `?` only.
+// A binary operator; `:` right of its `?` only, an assignment in a statement only.
 fn is_plain_over_two(seat: Seat, op: u32) -> bool
     ensures { λ r. ⌜ r ≡ plainBy seat op 2 0 ⌝ }
 {
     if op == op::CONDITIONAL_ELSE {
         return is_right_of_question(seat);
+    }
+    if op == op::ASSIGNMENT {
+        return is_under_semicolon(seat);
     }
     is_plain_binary(op)
 }
@@ -163,7 +187,7 @@ pub fn is_plain(seat: Seat, op: u32, children: u32, first: u32) -> bool
 {
     match children {
         0 => is_plain_without_children(seat, op),
-        1 => is_plain_over_one(op, first),
+        1 => is_plain_over_one(seat, op, first),
         2 => is_plain_over_two(seat, op),
         _ => false,
     }
@@ -180,7 +204,7 @@ pub fn is_paired(seat: Seat, op: u32, children: u32) -> bool
         return false;
     }
     match seat {
-        Seat::Enclosed => false,
+        Seat::UnderSemicolon | Seat::Enclosed => false,
         Seat::LeftOfComma => op != op::COMMA,
         Seat::RightOfQuestion => op != op::CONDITIONAL_ELSE,
         _ => true,
