@@ -18,11 +18,13 @@ use Spelling.{filled-solid, plain-spelled}
 pub mod Role
 pub mod Expression
 pub mod Walk
+pub mod Lacking
 pub mod Sections
 pub mod Calls
 pub mod Unary
 pub mod Binary
 pub mod Conditional
+pub mod Return
 pub mod Order
 pub mod Spelling
 pub mod Examples

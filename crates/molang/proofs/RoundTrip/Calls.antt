@@ -165,7 +165,7 @@ called-takes queryOrLoop r s m p t =
     filled-bracket : (s : Sort) → isFilledBracket s ≡ true → callable queryOrLoop s ≡ true
     filled-bracket nothing h = h
     filled-bracket atom h = h
-    filled-bracket prefixed h = h
+    filled-bracket (prefixed r) h = h
     filled-bracket (bracketed s) h = h
     filled-bracket (joinedBy r) h = h
 
