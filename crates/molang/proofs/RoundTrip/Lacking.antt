@@ -12,10 +12,10 @@ use Rattle.molang.specs.Read.{uses}
 use Rattle.molang.specs.Free.{free}
 use Rattle.molang.proofs.Booleans.{never, or-neither, or-first}
 use Rattle.molang.proofs.Computed.{computed}
-use Rattle.molang.proofs.RoundTrip.Role.{Role, aBracket, aCloser, aComma, aColon, is, is-same, isAmong, allOf, among, role, closer-role}
+use Rattle.molang.proofs.RoundTrip.Role.{Role, aBracket, aCloser, aComma, aColon, aSemicolon, is, is-same, isAmong, allOf, among, role, closer-role}
 use Rattle.molang.proofs.RoundTrip.Expression.{Sort, nothing, atom, prefixed, bracketed, joinedBy, Exp, empty, leaf, bracket, before}
-use Rattle.molang.proofs.RoundTrip.Expression.{between, isOperand, isHeaded, statementRoles, isWhole, isHeld, leafRoles, takes}
-use Rattle.molang.proofs.RoundTrip.Expression.{joinsLeft, joinsRight, tokens, ahead, amid, form, also, takes-operand}
+use Rattle.molang.proofs.RoundTrip.Expression.{between, isOperand, isHeaded, statementRoles, isWhole, isHeld, leafRoles, prefixRoles}
+use Rattle.molang.proofs.RoundTrip.Expression.{joiningRoles, takes, joinsLeft, joinsRight, tokens, ahead, amid, form, also, takes-operand}
 
 -- No token of the expression has the role q. (Brackets have their own.)
 abbrev pub Lacks : Role → {s : Sort} → Exp s → Type 0
@@ -84,6 +84,17 @@ lacking q m (before {s} k r e p t x) h =
     (or-neither (is q r) false h .0, lacking q m x (operand-headless q s (takes-operand r s t)))
 lacking q m (between {s} {t} k r e j l n x y) h =
     (or-neither (is q r) false h .0, lacking q m x (left-headless q r s m l), lacking q m y (right-headless q r t m n))
+
+-- No expression has a semicolon.
+pub no-semicolon : {s : Sort} (e : Exp s) → Lacks aSemicolon e
+no-semicolon e = lacking aSemicolon refl e (headless e)
+  where
+    headless : {s : Sort} → Exp s → heads aSemicolon s ≡ false
+    headless empty = refl
+    headless (leaf k _ _ _) = refl
+    headless (bracket k _ _ x) = refl
+    headless (before k r e p t x) = rw (apart (aSemicolon ∷ []) prefixRoles refl aSemicolon r refl p) refl
+    headless (between k r e j l m x y) = rw (apart (aSemicolon ∷ []) joiningRoles refl aSemicolon r refl j) refl
 
 -- The list has no leaf of it.
 module _ (P : ℕ → Bool) (q : Role) (law : (n : ℕ) → P n ≡ is q (role n)) where
