@@ -79,7 +79,7 @@ calm-folded (node a aa (node b bs nil)) h = refl
 calm-folded (node a aa (node b bs (node c cs left))) h = calm-scan (node b bs (node c cs left)) (node a aa nil)
     (token-free a aa (node b bs (node c cs left)) h .2)
 
-calm-finish : (f : Forest) → dangling f ≡ none → conditionalFinish (turnedOnto f nil) ≡ ok f
+pub calm-finish : (f : Forest) → dangling f ≡ none → conditionalFinish (turnedOnto f nil) ≡ ok f
 unfolding conditionalFinish dangling
 calm-finish f h = ap undangled (calm-folded (turnedOnto f nil) (calm-turned f nil h refl) ∙ inOrder-turned f) ∙ undangled-calm f h
 

@@ -40,22 +40,27 @@ operand-headless q (bracketed s) h = refl
 operand-headless q (prefixed r) h = absurd (false≢true h)
 operand-headless q (joinedBy r) h = absurd (false≢true h)
 
-held-headless : (q : Role) (s : Sort) → isAmong statementRoles q ≡ true → isHeld s ≡ true → heads q s ≡ false
-held-headless q s m h = outside s (not-true (isHeaded statementRoles s) (and-eq-true-iff (isWhole s) (not (isHeaded statementRoles s)) .0 h .1))
+pub headless : (rs : List Role) (q : Role) (s : Sort) → isAmong rs q ≡ true → isHeaded rs s ≡ false → heads q s ≡ false
+headless rs q s m h = outside s h
   where
-    other : (r : Role) → isAmong statementRoles r ≡ false → (is q r || false) ≡ false
-    other r n = never (is q r || false) (λ e. true≢false (sym m ∙ ap (isAmong statementRoles) (is-same q r (first (is q r) e)) ∙ n))
-      where
-        first : (b : Bool) → (b || false) ≡ true → b ≡ true
-        first true h = refl
-        first false h = h
+    first : (b : Bool) → (b || false) ≡ true → b ≡ true
+    first true h = refl
+    first false h = h
 
-    outside : (s : Sort) → isHeaded statementRoles s ≡ false → heads q s ≡ false
+    other : (r : Role) → isAmong rs r ≡ false → (is q r || false) ≡ false
+    other r n = never (is q r || false) (λ e. true≢false (sym m ∙ ap (isAmong rs) (is-same q r (first (is q r) e)) ∙ n))
+
+    outside : (s : Sort) → isHeaded rs s ≡ false → heads q s ≡ false
     outside nothing n = refl
     outside atom n = refl
     outside (bracketed s) n = refl
     outside (prefixed r) n = other r n
     outside (joinedBy r) n = other r n
+
+held-headless : (q : Role) (s : Sort) → isAmong statementRoles q ≡ true → isHeld s ≡ true → heads q s ≡ false
+held-headless q s m h =
+    headless statementRoles q s m
+    (not-true (isHeaded statementRoles s) (and-eq-true-iff (isWhole s) (not (isHeaded statementRoles s)) .0 h .1))
 
 -- Beside an operator stands an operand, or the one list that it excepts, which a comma or a `:` holds.
 left-headless : (q r : Role) (s : Sort) → isAmong statementRoles q ≡ true → joinsLeft r s ≡ true → heads q s ≡ false
@@ -87,14 +92,14 @@ lacking q m (between {s} {t} k r e j l n x y) h =
 
 -- No expression has a semicolon.
 pub no-semicolon : {s : Sort} (e : Exp s) → Lacks aSemicolon e
-no-semicolon e = lacking aSemicolon refl e (headless e)
+no-semicolon e = lacking aSemicolon refl e (unheaded e)
   where
-    headless : {s : Sort} → Exp s → heads aSemicolon s ≡ false
-    headless empty = refl
-    headless (leaf k _ _ _) = refl
-    headless (bracket k _ _ x) = refl
-    headless (before k r e p t x) = rw (apart (aSemicolon ∷ []) prefixRoles refl aSemicolon r refl p) refl
-    headless (between k r e j l m x y) = rw (apart (aSemicolon ∷ []) joiningRoles refl aSemicolon r refl j) refl
+    unheaded : {s : Sort} → Exp s → heads aSemicolon s ≡ false
+    unheaded empty = refl
+    unheaded (leaf k _ _ _) = refl
+    unheaded (bracket k _ _ x) = refl
+    unheaded (before k r e p t x) = rw (apart (aSemicolon ∷ []) prefixRoles refl aSemicolon r refl p) refl
+    unheaded (between k r e j l m x y) = rw (apart (aSemicolon ∷ []) joiningRoles refl aSemicolon r refl j) refl
 
 -- The list has no leaf of it.
 module _ (P : ℕ → Bool) (q : Role) (law : (n : ℕ) → P n ≡ is q (role n)) where

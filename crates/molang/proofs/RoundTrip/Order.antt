@@ -122,6 +122,7 @@ pub calls-first : ready nothingYet callPass ≡ true
 unfolding computed role ready below
 calls-first = refl
 
+
 abbrev pub ruled : Bool → Bool → Bool → Rules
 ruled c a p = record { comparisonsFirst = c; andFirst = a; pairsRight = p }
 
@@ -317,6 +318,26 @@ uncalled σ kind h = record {
       (or-second (calls kind n) (isJoining (role n)) j);
 }
 
+pub uncalled-first : Uncalled nothingYet queryOrLoop
+unfolding ready
+uncalled-first = uncalled nothingYet queryOrLoop calls-first
+
+-- The passes that take on each list of a list of nodes by itself.
+unfoldable pub isLifted : Pass → Bool
+isLifted lastToken = false
+isLifted memberAccessors = false
+isLifted sectioning = false
+isLifted callPass = true
+isLifted statements = false
+isLifted arrays = false
+isLifted pointer = true
+isLifted mathCalls = true
+isLifted unaryMinusAndNot = true
+isLifted addition = true
+isLifted conditional = true
+isLifted returns = true
+isLifted (binary ops) = true
+
 -- u is the used set, which has no operator that no writing has.
 module _ (u : ℕ → Bool) (unknown : (n : ℕ) → isUnwritten (role n) ≡ true → u n ≡ false) where
   plays : (n : ℕ) → u n ≡ true → is another (role n) ≡ false
@@ -354,6 +375,23 @@ module _ (u : ℕ → Bool) (unknown : (n : ℕ) → isUnwritten (role n) ≡ tr
 
   none-foreign : {A : Type 0} (ops : List ℕ) → each isForeign ops ≡ true → any u ops ≡ true → A
   none-foreign ops f h = absurd (true≢false (sym h ∙ any-foreign u unknown ops f))
+
+  -- A pass that can come, and runs, is such a pass.
+  pub lifts : (σ : ℕ → Bool) (p : Pass) → ready σ p ≡ true → runs u p ≡ true → isLifted p ≡ true
+  unfolding ready runs isLifted
+  lifts σ lastToken r h = r
+  lifts σ memberAccessors r h = none-foreign (Operator.memberAccessor ∷ []) (unfold each isForeign computed role in refl) h
+  lifts σ sectioning r h = r
+  lifts σ callPass r h = refl
+  lifts σ statements r h = r
+  lifts σ arrays r h = none-foreign (Operator.arrayVariable ∷ []) (unfold each isForeign computed role in refl) h
+  lifts σ pointer r h = refl
+  lifts σ mathCalls r h = refl
+  lifts σ unaryMinusAndNot r h = refl
+  lifts σ addition r h = refl
+  lifts σ conditional r h = refl
+  lifts σ returns r h = refl
+  lifts σ (binary ops) r h = refl
 
   module _ {s : Sort} (e : Exp s) (w : isWhole s ≡ true) where
     pub applied : (sourceLength : ℕ) (p : Pass) (σ : ℕ → Bool) → ready σ p ≡ true → runs u p ≡ true
