@@ -7,6 +7,12 @@ override MOLANGX_SRC := $(abspath $(MOLANGX_SRC))
 export MOLANGX_SRC
 endif
 
+# The folder of an archive that `bench` times beside the library.
+ifdef SORBRUDDER_BEFORE
+override SORBRUDDER_BEFORE := $(abspath $(SORBRUDDER_BEFORE))
+export SORBRUDDER_BEFORE
+endif
+
 test:
 	@tools/gate.sh
 

@@ -1,6 +1,7 @@
 //! What there is to compare. With the static library at hand, which the crate `sys` finds and links, the cfg `library` is set; without
 //! it the models are built and tested alone. The cfg `rust_source` says whether the crate `oracle` finds the Rust source, and the cfg
-//! `treelist` whether that program is built; without them the tests that need them are ignored.
+//! `treelist` whether that program is built; without them the tests that need them are ignored. The cfg `before` says that a second
+//! library is linked, the one before, for `bench`.
 
 use std::env;
 use std::path::PathBuf;
@@ -36,6 +37,11 @@ fn find_library() {
         println!("cargo::rustc-cfg=library");
     } else {
         println!("cargo::warning=no {archive}: the library is not compared");
+    }
+    println!("cargo::rustc-check-cfg=cfg(before)");
+    let before = env::var("DEP_SORBRUDDER_BEFORE").expect("sys says whether there is one before");
+    if before == "true" {
+        println!("cargo::rustc-cfg=before");
     }
 }
 

@@ -24,31 +24,36 @@ extern "C" {
 #define SORBRUDDER_MESSAGES 1
 #define SORBRUDDER_REFUSED 2
 
-/* Words of a token, of a tree node and of a message. */
+/* Words of a token, of a tree node and of a message. Bits 29-31 of a word are its kind. A token is its operator (bits 0-7) and payload
+ * variant (8-11), kind 1; its span's start, kind 2, and end, kind 3; its payload value's upper and lower half, kinds 4 and 5. A node is a
+ * token, the number of its children, kind 6, and where it closes, kind 7: a closed section, whose span is its opener's, at the end of its
+ * closer, every other node at its own span's end. */
 #define SORBRUDDER_TOKEN_WORDS 5
-#define SORBRUDDER_NODE_WORDS 6
+#define SORBRUDDER_NODE_WORDS 7
 #define SORBRUDDER_MESSAGE_WORDS 8
 
 /* The most tokens of a list, and the buffers that reading n tokens asks for, in words. */
 #define SORBRUDDER_MOST_TOKENS 4096
-#define SORBRUDDER_TREE_BUFFER(n) (18 * (size_t)(n))
+#define SORBRUDDER_TREE_BUFFER(n) (21 * (size_t)(n))
 #define SORBRUDDER_MESSAGE_BUFFER 16
 #define SORBRUDDER_WORK_BUFFER(n) (64 * (size_t)(n) + 64)
 
-/* Reads the list of tokens whose words are `list`, five words each, at a pack's declared version, under the operator set in two halves of 64 bits
- * (operator 0 is the lowest bit of `used_low`), over a source of that length.
- * Done: the number of nodes; the tree's words, six a node, fill the front of `tree`. Messages: their number, one or two; their words, eight a
- * message, fill the front of `messages`. The words after them, and the other of the two buffers, stay as they were; `work` is all zero.
- * Refused, every buffer unchanged: 1 words that are no multiple of five, 2 more than 4,096 tokens, 3 the tree buffer, 4 the message buffer or
- * 5 the work buffer is too short, 6 a bit of the set above operator 110, 7 a source above 536,870,911, and at a word of the list (place: the word)
- * 8 another kind, 9 an operator above 110, 10 a payload variant above 12, 11 another bit. */
+/* Reads the list of tokens whose words are `list`, five words each, at a pack's declared version, under the operator set in two halves of
+ * 64 bits (operator 0 is the lowest bit of `used_low`), over a source of that length.
+ * Done: the number of nodes; the tree's words, seven a node, fill the front of `tree`. Messages: their number, one or two; their words,
+ * eight a message, fill the front of `messages`. The words after them, and the other of the two buffers, stay as they were; `work` is all
+ * zero.
+ * Refused, every buffer unchanged: 1 words that are no multiple of five, 2 more than 4,096 tokens, 3 the tree buffer, 4 the message buffer
+ * or 5 the work buffer is too short, 6 a bit of the set above operator 110, 7 a source above 536,870,911, and at a word of the list (place:
+ * the word) 8 another kind, 9 an operator above 110, 10 a payload variant above 12, 11 another bit. */
 uint64_t sorbrudder_parse(const uint32_t *list, size_t list_words, uint32_t *tree, size_t tree_words, uint32_t *messages,
                           size_t message_words, uint32_t *work, size_t work_words, uint64_t source_length, int16_t version,
                           uint64_t used_low, uint64_t used_high);
 
-/* Writes the plain tree whose words are `tree` as a list of tokens into the front of `list`; the words after it stay as they were.
- * Done: the number of tokens, five words each. Refused, the list unchanged: 12 not one tree (place: the word), 13 a node that is not plain
- * (place: its number in tree order), 14 more than 4,096 tokens, 15 the list is too short. */
+/* Writes the plain tree whose words are `tree` as a list of tokens into the front of `list`; the words after it stay as they were. The
+ * closer of a bracket of the tree starts and ends where the bracket closes. Of the other nodes' words of kind 7 only the kind is looked at.
+ * Done: the number of tokens, five words each. Refused, the list unchanged: 12 not one tree (place: the word, 86,016 at the most), 13 a
+ * node that is not plain (place: its number in tree order), 14 more than 4,096 tokens, 15 the list is too short. */
 uint64_t sorbrudder_write(const uint32_t *tree, size_t tree_words, uint32_t *list, size_t list_words);
 
 /* The parts of an answer. */

@@ -5,7 +5,9 @@
 
 Takes N cases (default 3000) of at most M tokens (default 16) from the oracle's program `cases`, writes each as an equation between the
 definition's answer and the oracle's, both in words, into scratch crates under target/definition-check/, and has the checker compute both
-sides. The definition is the specs/ of crates/molang as it stands; nothing of this is kept in the tree.
+sides. The definition is the specs/ of crates/molang as it stands; nothing of this is kept in the tree. Six words of a node are the oracle's;
+where it closes, the seventh, is found from the list by a stack of brackets (card 2). A case with two openers alike that close apart is left
+out, since the oracle's answer does not say which of them a node is.
 
 The last line is `N cases, D differences`; the exit status is 0 only where D is 0. A difference is printed with its list, the shortest first.
 A case whose answer is changed by one must be found to differ, or the run fails: a check that cannot fail says nothing.
@@ -26,6 +28,7 @@ from scratch import ROOT, crate, refused
 
 SCRATCH = ROOT / "target" / "definition-check"
 BATCH = 50
+OPENERS, CLOSERS = (0, 2, 4), (1, 3, 5)
 
 HEAD = """use Prim.Native.Nat.{ℕ}
 use mathlib.Core.Path.{_≡_, refl}
@@ -70,9 +73,26 @@ class Case:
         """The two sides: a record's first word is at most 17 and a tree's has a kind, so the two never mix."""
         version = f"(pos {self.version})" if self.version >= 0 else f"(negsuc {-1 - self.version})"
         words = [word for token in self.tokens for word in token_words(token)]
-        wanted = [word for node in self.tree for word in token_words(node[:5]) + [6 << 29 | node[5]]]
+        nodes = zip(self.tree, self.closes())
+        wanted = [word for node, ends in nodes for word in token_words(node[:5]) + [6 << 29 | node[5], 7 << 29 | min(ends)]]
         wanted += [number for message in self.messages for number in message]
         return f"asked {version} {self.source} {self.used[0]} {self.used[1]} {listed(words)}", listed(wanted)
+
+    def closes(self):
+        """Where each node may close: a node that opens a section at the closers' ends of the tokens like it, any other at its own end."""
+        ends = [token[4] for token in self.tokens]
+        opened = []
+        # Where no opener is used no section is made.
+        for place, token in enumerate(self.tokens if self.used[0] & 0b010101 else []):
+            if token[0] in OPENERS:
+                opened.append(place)
+            elif token[0] in CLOSERS and opened:
+                ends[opened.pop()] = token[4]
+        alike = lambda node: {end for token, end in zip(self.tokens, ends) if token == node[:5]}
+        return [alike(node) if node[0] in OPENERS else {node[4]} for node in self.tree]
+
+    def clear(self):
+        return all(len(ends) == 1 for ends in self.closes())
 
     def exact(self):
         used = 0
@@ -149,6 +169,7 @@ def covered(cases):
         "payload variant 12": sum(any(t[1] == 12 for t in case.tokens) for case in cases),
         "operators": len({t[0] for case in cases for t in case.tokens}),
         "pairs of messages": sum(len(case.messages) == 2 for case in cases),
+        "sections": sum(any(min(ends) != node[4] for node, ends in zip(case.tree, case.closes())) for case in cases),
     }
     lacking = [f"message {n}" for n in range(1, 18) if not numbers[n]]
     lacking += [f"version {v}" for v in (-32768, -1, 4, 5, 6, 13, 14, 32767) if not versions[v]]
@@ -182,10 +203,11 @@ def differing(name, cases):
 
 
 def planted(case):
-    """The check refuses a case whose wanted words are off by one."""
+    """The check refuses a case whose first or last wanted word is off by one; the last one is where a node closes."""
     left, right = case.equation()
-    wrong = re.sub(r"\d+", lambda found: str(int(found[0]) + 1), right, count=1)
-    if refused_batches("planted", [[(left, right)], [(left, wrong)]]) != [1]:
+    first = re.sub(r"\d+", lambda found: str(int(found[0]) + 1), right, count=1)
+    last = re.sub(r"(\d+) ∷ \[\]", lambda found: f"{int(found[1]) + 1} ∷ []", right)
+    if refused_batches("planted", [[(left, right)], [(left, first)], [(left, last)]]) != [1, 2]:
         sys.exit("definition-check: a planted difference was not found")
 
 
@@ -198,7 +220,9 @@ def main():
     options.add_argument("--oracle", type=Path, default=ROOT / "oracle")
     options = options.parse_args()
     began = time.monotonic()
-    cases = ask_oracle(options)
+    asked = ask_oracle(options)
+    cases = [case for case in asked if case.clear()]
+    print(f"{len(asked) - len(cases)} cases left out: two openers alike close apart")
     print("answered by the Rust" if source_at_hand(options) else "the Rust source is not at hand: kept answers")
     for line in covered(cases):
         print(line)

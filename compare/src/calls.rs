@@ -2,7 +2,7 @@
 
 use oracle::generate::alphabets::{ALPHABETS, Alphabet};
 use oracle::generate::shapes::SHAPES;
-use oracle::generate::{Mixed, Rng, damage, dress};
+use oracle::generate::{Mixed, Rng, brackets, damage, dress};
 use oracle::lines;
 use oracle::refusal::Call;
 use oracle::words::{
@@ -50,6 +50,12 @@ pub fn generated(seed: u64, most: usize) -> impl Iterator<Item = Call> {
         }
         call
     })
+}
+
+/// Lists of brackets of about `most` tokens: what a node says of its closer.
+pub fn bracketed(seed: u64, most: usize) -> impl Iterator<Item = Call> {
+    let mut rng = Rng::new(seed ^ 0xB4AC);
+    std::iter::from_fn(move || Some(Call::of(&brackets::case(&mut rng, most))))
 }
 
 fn exact(ops: &[u8], version: i16) -> Case {
@@ -151,6 +157,12 @@ fn at_limits() -> Vec<Change> {
         changes.push(Box::new(move |call| call.work_len = moved(call.work_len)));
         changes.push(Box::new(move |call| {
             call.source_len = moved(call.source_len)
+        }));
+    }
+    // The tree buffer at 18 and at 20 words a token, too short by a word a node and by a word a token.
+    for words in [18, 20] {
+        changes.push(Box::new(move |call| {
+            call.tree_len = words * (call.list.len() / TOKEN_WORDS) as u64
         }));
     }
     for zero in 0..3 {

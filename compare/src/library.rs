@@ -51,3 +51,76 @@ pub fn write(tree: &[u32], list: &mut [u32]) -> Written {
         Answer::Messages(count) => panic!("the write entry never answers {count} messages"),
     }
 }
+
+/// A library that is timed.
+#[derive(Copy, Clone)]
+pub struct Library {
+    parse: fn(Lent<'_>, u64, i16, (u64, u64)) -> Answer,
+    write: fn(&[u32], &mut [u32]) -> Answer,
+    /// Words of a node: six before card 2.
+    pub node_words: usize,
+}
+
+impl Library {
+    /// The library that is linked.
+    pub fn now() -> Self {
+        Self::of(sorbrudder_sys::parse, sorbrudder_sys::write)
+    }
+
+    /// The one before it, where `SORBRUDDER_BEFORE` named it when this was built.
+    pub fn before() -> Option<Self> {
+        #[cfg(before)]
+        return Some(Self::of(
+            sorbrudder_sys::before::parse,
+            sorbrudder_sys::before::write,
+        ));
+        #[cfg(not(before))]
+        None
+    }
+
+    fn of(
+        parse: fn(Lent<'_>, u64, i16, (u64, u64)) -> Answer,
+        write: fn(&[u32], &mut [u32]) -> Answer,
+    ) -> Self {
+        let library = |node_words| Self {
+            parse,
+            write,
+            node_words,
+        };
+        // Where nodes have seven words, a tree buffer of eighteen is too short for a token.
+        let leaf = [1, 2, 3, 4, 5].map(|kind| kind << 29);
+        let (mut tree, mut work) = ([0; 18], [0; 128]);
+        let given = Given {
+            source_len: 0,
+            version: 6,
+            used: (0, 0),
+        };
+        match library(6).parse(&leaf, &mut tree, &mut [0; 16], &mut work, given) {
+            Answer::Refused(3, _) => library(7),
+            _ => library(6),
+        }
+    }
+
+    /// Its parse entry.
+    pub fn parse(
+        &self,
+        list: &[u32],
+        tree: &mut [u32],
+        messages: &mut [u32],
+        work: &mut [u32],
+        given: Given,
+    ) -> Answer {
+        let lent = Lent {
+            list,
+            tree,
+            messages,
+            work,
+        };
+        (self.parse)(lent, given.source_len, given.version, given.used)
+    }
+
+    /// Its write entry.
+    pub fn write(&self, tree: &[u32], list: &mut [u32]) -> Answer {
+        (self.write)(tree, list)
+    }
+}

@@ -7,15 +7,19 @@ const LEAVES: [u8; 11] = [40, 42, 43, 44, 46, 47, 48, 49, 61, 62, 76];
 const BINARIES: [u8; 14] = [9, 20, 31, 50, 51, 52, 53, 54, 55, 56, 57, 58, 75, 75];
 const MATH_CALLS: [u8; 8] = [8, 10, 19, 21, 39, 78, 109, 110];
 
-/// A token of this operator with any payload and span.
-pub fn token(rng: &mut Rng, op: u8) -> Token {
-    let variant = rng.below(13) as u8;
-    let mut place = || match rng.below(4) {
+/// Somewhere in a source, often at its ends.
+fn place(rng: &mut Rng) -> u32 {
+    match rng.below(4) {
         0 => LAST_PLACE,
         1 => 0,
         _ => rng.below(1000) as u32,
-    };
-    let (start, end) = (place(), place());
+    }
+}
+
+/// A token of this operator with any payload and span.
+pub fn token(rng: &mut Rng, op: u8) -> Token {
+    let variant = rng.below(13) as u8;
+    let (start, end) = (place(rng), place(rng));
     let value = if variant == 0 { 0 } else { rng.bits() as u32 };
     Token {
         op,
@@ -26,16 +30,20 @@ pub fn token(rng: &mut Rng, op: u8) -> Token {
     }
 }
 
-/// A node of this operator, payload 0 and span 0 to 0.
+/// A node of this operator, payload 0 and span 0 to 0, that closes at 0.
 pub fn bare(op: u8, children: u32) -> TreeNode {
     let token = Token {
         op,
         ..Token::default()
     };
-    TreeNode { token, children }
+    TreeNode {
+        token,
+        children,
+        close: 0,
+    }
 }
 
-/// A plain tree of about `size` nodes.
+/// A plain tree of about `size` nodes. As in every tree that is read, only brackets close elsewhere than at their own end.
 pub fn plain(rng: &mut Rng, size: usize) -> Vec<TreeNode> {
     /// What may come next: an operand, the bracket of a call, or what stands right of `?`.
     #[derive(Copy, Clone)]
@@ -66,18 +74,24 @@ pub fn plain(rng: &mut Rng, size: usize) -> Vec<TreeNode> {
                 _ => (*rng.pick(&BINARIES), &[Operand, Operand]),
             },
         };
-        let node = TreeNode {
-            token: token(rng, op),
+        let token = token(rng, op);
+        nodes.push(TreeNode {
+            token,
             children: below.len() as u32,
-        };
-        nodes.push(node);
+            close: if op == 4 { place(rng) } else { token.end },
+        });
         wanted.extend(below.iter().rev());
     }
     nodes
 }
 
-/// The tree with one node's operator or child count changed, as often plain as not.
+/// The tree with one node's operator or child count changed, as often plain as not; now and then its nodes close anywhere.
 pub fn disturbed(rng: &mut Rng, mut nodes: Vec<TreeNode>) -> Vec<TreeNode> {
+    if rng.chance(30) {
+        for node in &mut nodes {
+            node.close = place(rng);
+        }
+    }
     let node = rng.below(nodes.len());
     if rng.chance(80) {
         nodes[node].token.op = match rng.below(3) {

@@ -1,9 +1,11 @@
-//! A call of the parse entry beside what it has to leave: the answer, every word of the tree and of the messages, the
-//! work buffer zero, and all other words as they were, those around the lent slices too.
+//! A call of the parse entry beside what it has to leave: the answer, every word of the tree (six of a node by the Rust, the
+//! seventh by the list) and of the messages, the work buffer zero, and all other words as they were, those around the lent
+//! slices too.
 
 use crate::library::{self, Given, Read};
+use oracle::closing::{closed, numbered};
 use oracle::refusal::{Call, refusal};
-use oracle::words::{Answer, Case, NODE_WORDS, Record, decode_list};
+use oracle::words::{Answer, Case, NODE_WORDS, Record, decode_list, low, tree_words};
 
 /// What a call has to leave.
 #[derive(Clone, Debug, PartialEq, Eq)]
@@ -15,10 +17,15 @@ pub enum Expected {
     Something,
 }
 
-impl From<Answer> for Expected {
-    fn from(answer: Answer) -> Self {
+impl Expected {
+    /// What the Rust answers to a case, with the seventh word of each node; `names` names the tokens of a numbered case's
+    /// nodes.
+    pub fn answered(case: &Case, answer: Answer, names: impl FnOnce(&Case) -> Vec<u32>) -> Self {
         match answer {
-            Answer::Tree(words) => Self::Tree(words),
+            Answer::Tree(nodes) => {
+                let names = names(&numbered(case));
+                Self::Tree(tree_words(&closed(case, &nodes, &names)))
+            }
             Answer::Messages(records) => Self::Messages(records),
         }
     }
@@ -36,9 +43,16 @@ pub fn expected(call: &Call) -> Expected {
         version: call.version,
     };
     match oracle::answer_if_at_hand(&case) {
-        Some(answer) => answer.into(),
+        Some(answer) => Expected::answered(&case, answer, names_by_the_rust),
         None => Expected::Something,
     }
+}
+
+/// The tokens of a numbered case's nodes, as the Rust reads it.
+fn names_by_the_rust(numbered: &Case) -> Vec<u32> {
+    let answer = oracle::answer_if_at_hand(numbered).expect("the Rust is at hand");
+    let starts = answer.nodes().iter().map(|node| node.token.start);
+    starts.collect()
 }
 
 /// Words before and after each lent slice.
@@ -146,6 +160,17 @@ impl Buffers {
     /// The words that the last call put in front of the tree buffer, for an answer of so many nodes.
     pub fn tree(&mut self, nodes: usize) -> &[u32] {
         &self.tree.slice()[..NODE_WORDS * nodes]
+    }
+
+    /// The tokens of a numbered case's nodes, as the library reads it: where only the Rust's kept answers are at hand.
+    pub fn names(&mut self, numbered: &Case) -> Result<Vec<u32>, String> {
+        match self.call(&Call::of(numbered), &Expected::Something)? {
+            Read::Tree(nodes) => {
+                let words = self.tree(nodes).chunks(NODE_WORDS);
+                Ok(words.map(|node| low(node[1])).collect())
+            }
+            other => Err(format!("{other:?} to {numbered:?}")),
+        }
     }
 
     /// The words that stand in front of the tree and of the message buffer, if the answer is what is expected.

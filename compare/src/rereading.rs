@@ -6,7 +6,7 @@ use crate::reading::{Buffers, Expected};
 use crate::writer_model::{self, Tree, Written};
 use oracle::generate::{Mixed, Rng};
 use oracle::refusal::Call;
-use oracle::words::{Case, Token, TreeNode, decode_list, decode_tree, exact_set};
+use oracle::words::{Case, NODE_WORDS, Token, TreeNode, decode_list, decode_tree, exact_set};
 
 /// What became of a list.
 #[derive(Copy, Clone, Debug, PartialEq, Eq)]
@@ -108,7 +108,7 @@ pub fn reread(buffers: &mut Buffers, rng: &mut Rng, case: &Case) -> Result<Rerea
     let Some(words) = read(buffers, case)? else {
         return Ok(Reread::Messages);
     };
-    let room = 5 * (4 * words.len() / 6).min(writer_model::MOST_TOKENS);
+    let room = 5 * (4 * words.len() / NODE_WORDS).min(writer_model::MOST_TOKENS);
     let (answer, list) = write(rng, &words, room)?;
     if let Written::Refused(..) = answer {
         return Ok(Reread::Refused);

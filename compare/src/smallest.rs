@@ -1,7 +1,7 @@
 //! The smallest call that still shows a difference, found by taking tokens out and making the rest plain.
 
 use oracle::refusal::Call;
-use oracle::words::{TOKEN_WORDS, exact_set, low, word};
+use oracle::words::{TOKEN_WORDS, TREE_WORDS, exact_set, low, word};
 
 /// Takes out runs of tokens and makes the others plain for as long as the call still differs.
 pub fn smallest(mut call: Call, mut differs: impl FnMut(&Call) -> bool) -> Call {
@@ -22,7 +22,7 @@ fn fewer_tokens(mut call: Call, differs: &mut impl FnMut(&Call) -> bool) -> Call
         while (at + run) * TOKEN_WORDS <= call.list.len() {
             let mut less = call.clone();
             less.list.drain(at * TOKEN_WORDS..(at + run) * TOKEN_WORDS);
-            less.tree_len = less.tree_len.saturating_sub(18 * run as u64);
+            less.tree_len = less.tree_len.saturating_sub((TREE_WORDS * run) as u64);
             less.work_len = less.work_len.saturating_sub(64 * run as u64);
             if differs(&less) {
                 call = less;
@@ -107,7 +107,7 @@ mod tests {
         for call in calls.filter(|call| minuses(call) >= 2).take(50) {
             let least = smallest(call, |call| minuses(call) >= 2);
             assert_eq!(least.list.len(), 2 * TOKEN_WORDS);
-            assert_eq!((least.tree_len, least.work_len), (36, 192));
+            assert_eq!((least.tree_len, least.work_len), (42, 192));
             assert_eq!(
                 (least.used, least.source_len, least.version),
                 ((64, 0), 2, 6)

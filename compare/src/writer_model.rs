@@ -1,5 +1,5 @@
-//! Plain, writing and taking away, from document 01's 'Writing a plain tree' and lines 12 to 15 of its
-//! table. Nothing here follows the library: trees are an arena of nodes, each with its parent, and
+//! Plain, writing and taking away, from document 01's 'Writing a plain tree', lines 12 to 15 of its
+//! table and card 2. Nothing here follows the library: trees are an arena of nodes, each with its parent, and
 //! answer 12 asks of a prefix of the words whether any tree goes on from it.
 
 use oracle::words::{NODE_WORDS, TOKEN_WORDS, Token, TreeNode, decode_tree, kind, list_words, low};
@@ -20,6 +20,8 @@ pub enum Written {
 /// A tree's nodes in tree order, each with its children and its position under its parent.
 pub struct Tree {
     tokens: Vec<Token>,
+    /// Where each node closes.
+    closes: Vec<u32>,
     children: Vec<Vec<usize>>,
     /// The parent and which of its children this is; none for the root.
     parents: Vec<Option<(usize, usize)>>,
@@ -30,6 +32,7 @@ impl Tree {
     pub fn of(nodes: &[TreeNode]) -> Self {
         let mut tree = Self {
             tokens: nodes.iter().map(|node| node.token).collect(),
+            closes: nodes.iter().map(|node| node.close).collect(),
             children: vec![Vec::new(); nodes.len()],
             parents: vec![None; nodes.len()],
         };
@@ -132,12 +135,27 @@ impl Tree {
                     row.extend(self.children[node].iter().map(|&child| Step::Node(child)));
                 }
             }
-            if self.is_bracket(node) || self.is_paired(node) {
+            if self.is_bracket(node) {
+                row.push(Step::Put(self.closer(node)));
+            }
+            if self.is_paired(node) {
                 row.push(Step::Put(bracket(5, own)));
             }
             steps.extend(row.into_iter().rev());
         }
         list
+    }
+
+    /// The closer of a bracket of the tree: it starts and ends where the bracket closes.
+    fn closer(&self, node: usize) -> Token {
+        let close = self.closes[node];
+        Token {
+            op: 5,
+            variant: 0,
+            value: 0,
+            start: close,
+            end: close,
+        }
     }
 
     /// The nodes of the tree without the brackets that are taken away.
@@ -152,6 +170,7 @@ impl Tree {
         kept.map(|node| TreeNode {
             token: self.tokens[node],
             children: self.children[node].len() as u32,
+            close: self.closes[node],
         })
         .collect()
     }
@@ -181,10 +200,10 @@ fn begins_a_tree(words: &[u32]) -> bool {
     for node in words.chunks(NODE_WORDS) {
         begun += 1;
         // A node that is cut off goes on with words that are legal after those it has.
-        let mut whole = [1, 2, 3, 4, 5, 6].map(|kind| kind << 29);
+        let mut whole = [1, 2, 3, 4, 5, 6, 7].map(|kind| kind << 29);
         whole[..node.len()].copy_from_slice(node);
-        let count = whole[TOKEN_WORDS];
-        let legal = Token::of_words(&whole[..TOKEN_WORDS]).is_some();
+        let [count, close] = [whole[TOKEN_WORDS], whole[TOKEN_WORDS + 1]];
+        let legal = Token::of_words(&whole[..TOKEN_WORDS]).is_some() && kind(close) == 7;
         if !legal || kind(count) != 6 || low(count) >= 1 << 14 || called < begun {
             return false;
         }

@@ -23,9 +23,16 @@ fn compared(calls: impl Iterator<Item = Call>) -> (u64, u64, u64) {
 #[test]
 fn every_kept_answer() {
     let mut comparison = Comparison::default();
+    let mut buffers = Buffers::default();
     for record in stored() {
         let (call, expected) = match record {
-            Stored::Answered(case, answer) => (Call::of(&case), Expected::from(answer)),
+            Stored::Answered(case, answer) => {
+                let names = |numbered: &_| match buffers.names(numbered) {
+                    Ok(names) => names,
+                    Err(difference) => panic!("{difference}"),
+                };
+                (Call::of(&case), Expected::answered(&case, answer, names))
+            }
             Stored::Refused(call, refusal) => {
                 let place = refusal.place as usize;
                 (call, Expected::Refused(refusal.number, place))
@@ -56,6 +63,14 @@ fn generated_lists() {
 fn long_generated_lists() {
     compared(calls::generated(2, 300).take(10_000));
     compared(calls::generated(3, 4_096).take(300));
+}
+
+#[test]
+#[cfg_attr(not(rust_source), ignore = "the Rust source is not at hand")]
+fn lists_of_brackets() {
+    let (trees, messages, _) = compared(calls::bracketed(7, 16).take(100_000));
+    assert!(trees > 30_000 && messages > 20_000, "{trees}, {messages}");
+    compared(calls::bracketed(8, 600).take(2_000));
 }
 
 #[test]

@@ -7,7 +7,7 @@ use std::path::PathBuf;
 use std::process::{Command, Stdio};
 
 use oracle::vectors::{self, Stored};
-use oracle::words::{Answer, Token, exact_set, list_words, low, word};
+use oracle::words::{Answer, Token, exact_set, list_words, word};
 
 fn program() -> PathBuf {
     match std::env::var_os("TREELIST") {
@@ -63,11 +63,11 @@ fn list(ops: &[u8]) -> Vec<u32> {
 /// The text of an answer of the entry.
 fn text(answer: &Answer) -> String {
     match answer {
-        Answer::Tree(words) => {
-            let mut text = format!("tree {}\n", words.len() / 6);
-            for node in words.chunks(6) {
-                let op = low(node[0]) & 0xFF;
-                let [start, end, children] = [node[1], node[2], node[5]].map(low);
+        Answer::Tree(nodes) => {
+            let mut text = format!("tree {}\n", nodes.len());
+            for node in nodes {
+                let Token { op, start, end, .. } = node.token;
+                let children = node.children;
                 text += &format!("{op} {children} {start} {end}\n");
             }
             text

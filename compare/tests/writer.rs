@@ -3,9 +3,7 @@
 use compare::plain_trees::{self, bare};
 use compare::writer_model::{self, Tree, Written};
 use oracle::generate::{Mixed, Rng};
-use oracle::words::{
-    Answer, Case, TreeNode, decode_list, decode_tree, exact_set, tree_words, word,
-};
+use oracle::words::{Case, NODE_WORDS, Token, TreeNode, decode_list, exact_set, tree_words, word};
 
 fn float(place: u32) -> TreeNode {
     node(61, 0, place)
@@ -15,6 +13,7 @@ fn node(op: u8, children: u32, start: u32) -> TreeNode {
     let mut node = bare(op, children);
     node.token.start = start;
     node.token.end = start + 1;
+    node.close = start + 1;
     node
 }
 
@@ -51,6 +50,52 @@ fn a_comma_left_of_a_comma_and_a_colon_right_of_its_question_stand_alone() {
     );
 }
 
+/// A bracket of this span and payload that closes at 40, over the product of `b` and `c`, right of a sum's `a`.
+fn bracketed_product() -> [TreeNode; 6] {
+    let mut bracket = node(4, 1, 2);
+    (bracket.token.variant, bracket.token.value) = (12, 0xFFFE_0001);
+    bracket.close = 40;
+    let (sum, product) = (node(9, 2, 1), node(31, 2, 4));
+    [sum, float(0), bracket, product, float(3), float(5)]
+}
+
+#[test]
+fn the_closer_of_a_section_starts_and_ends_where_the_section_closes() {
+    let nodes = bracketed_product();
+    let list = Tree::of(&nodes).written();
+    let closer = Token {
+        op: 5,
+        variant: 0,
+        value: 0,
+        start: 40,
+        end: 40,
+    };
+    assert_eq!((list[2], list[6]), (nodes[2].token, closer));
+    // An added pair keeps its operand's span, whatever the operand's seventh word is.
+    let mut nodes = [node(6, 1, 0), node(31, 2, 2), float(1), float(3)];
+    nodes[1].close = 99;
+    let spans = |nodes: &[TreeNode]| -> Vec<(u8, u32, u32)> {
+        let list = Tree::of(nodes).written();
+        let spans = list.iter();
+        spans
+            .map(|token| (token.op, token.start, token.end))
+            .collect()
+    };
+    let found = spans(&nodes);
+    assert_eq!((found[1], found[5]), ((4, 2, 3), (5, 2, 3)));
+}
+
+#[test]
+fn a_bracket_that_stays_keeps_where_it_closes_and_one_taken_away_loses_it() {
+    let nodes = bracketed_product();
+    let away = Tree::of(&nodes).taken_away();
+    assert_eq!(away, [&nodes[..2], &nodes[3..]].concat());
+    let mut call = nodes.to_vec();
+    call[0] = node(40, 1, 1);
+    call.remove(1);
+    assert_eq!(Tree::of(&call).taken_away(), call);
+}
+
 #[test]
 fn a_lone_colon_is_not_plain() {
     let nodes = [bare(60, 2), bare(61, 0), bare(61, 0)];
@@ -74,7 +119,7 @@ fn words_that_are_not_one_tree_fail_where_no_tree_goes_on() {
     let longer = [&sum[..], &[0]].concat();
     assert_eq!(
         refusal(&longer),
-        Written::Refused(12, 18),
+        Written::Refused(12, 21),
         "a word after the tree"
     );
     let damaged = |place: usize, to: u32| {
@@ -83,23 +128,58 @@ fn words_that_are_not_one_tree_fail_where_no_tree_goes_on() {
         refusal(&words)
     };
     let edges = [
-        (6, word(1, 111), "an operator above 110"),
-        (6, word(1, 13 << 8 | 61), "a variant above 12"),
-        (6, word(1, 1 << 12 | 61), "another bit"),
-        (7, word(3, 0), "a wrong kind"),
-        (9, word(4, 1), "an upper half under variant 0"),
-        (10, word(5, 1), "a lower half under variant 0"),
-        (11, word(6, 1 << 14), "a count of more than fourteen bits"),
-        (11, word(6, 12_286), "a count that calls for 12,289 nodes"),
+        (7, word(1, 111), "an operator above 110"),
+        (7, word(1, 13 << 8 | 61), "a variant above 12"),
+        (7, word(1, 1 << 12 | 61), "another bit"),
+        (8, word(3, 0), "a wrong kind"),
+        (10, word(4, 1), "an upper half under variant 0"),
+        (11, word(5, 1), "a lower half under variant 0"),
+        (12, word(6, 1 << 14), "a count of more than fourteen bits"),
+        (12, word(6, 12_286), "a count that calls for 12,289 nodes"),
+        (13, word(6, 0), "a seventh word of kind 6"),
+        (13, word(1, 61), "the next node after six words"),
     ];
     for (place, to, edge) in edges {
         assert_eq!(damaged(place, to), Written::Refused(12, place), "{edge}");
     }
     assert_eq!(
-        damaged(11, word(6, 12_285)),
-        Written::Refused(12, 18),
+        damaged(12, word(6, 12_285)),
+        Written::Refused(12, 21),
         "12,288 nodes may come"
     );
+}
+
+/// As many tree words as a list of n tokens asks room for, some fewer, and some more.
+#[test]
+fn trees_of_three_nodes_a_token_at_each_number_of_words() {
+    for tokens in [1, 2, 3, 100, 682] {
+        let words = tree_words(&plain_trees::nested_brackets(3 * tokens - 1));
+        assert_eq!(words.len(), 21 * tokens);
+        for len in [18 * tokens, 20 * tokens, 21 * tokens - 1] {
+            assert_eq!(refusal(&words[..len]), Written::Refused(12, len));
+        }
+        assert_eq!(refusal(&words), Written::Tokens(6 * tokens - 1));
+        let longer = [&words[..], &[word(1, 61)]].concat();
+        assert_eq!(refusal(&longer), Written::Refused(12, 21 * tokens));
+    }
+    let most = tree_words(&plain_trees::nested_brackets(12_287));
+    let longer = [&most[..], &[word(1, 61)]].concat();
+    assert_eq!(refusal(&longer), Written::Refused(12, 86_016));
+}
+
+#[test]
+fn a_seventh_word_is_looked_at_for_its_kind_alone() {
+    let words = tree_words(&bracketed_product());
+    let sound = Written::Tokens(7);
+    for place in (6..words.len()).step_by(NODE_WORDS) {
+        for bit in 0..32 {
+            let mut flipped = words.clone();
+            flipped[place] ^= 1 << bit;
+            let fault = Written::Refused(12, place);
+            let wanted = if bit < 29 { sound } else { fault };
+            assert_eq!(refusal(&flipped), wanted, "bit {bit} of word {place}");
+        }
+    }
 }
 
 #[test]
@@ -109,7 +189,7 @@ fn the_limits_of_nodes_and_tokens() {
     assert_eq!(refusal(&deep(2_048)), Written::Refused(14, 0));
     assert_eq!(refusal(&deep(12_287)), Written::Refused(14, 0));
     // The last bracket's count is one node too many.
-    assert_eq!(refusal(&deep(12_288)), Written::Refused(12, 6 * 12_287 + 5));
+    assert_eq!(refusal(&deep(12_288)), Written::Refused(12, 7 * 12_287 + 5));
     let not = [vec![bare(7, 1)], plain_trees::nested_brackets(2_047)].concat();
     assert_eq!(refusal(&tree_words(&not)), Written::Tokens(4_096));
     let commas = tree_words(&plain_trees::comma_list(2_048));
@@ -125,9 +205,18 @@ fn read_again(list: &[u32], version: i16) -> Option<Vec<TreeNode>> {
         version,
         tokens,
     };
-    match oracle::answer_if_at_hand(&case)? {
-        Answer::Tree(words) => decode_tree(&words),
-        Answer::Messages(records) => panic!("{records:?} at {version} to {:?}", case.tokens),
+    let tree = tree_if_at_hand(&case)?;
+    Some(tree.unwrap_or_else(|| panic!("messages at {version} to {:?}", case.tokens)))
+}
+
+/// The tree of a case, none where it has messages, if the Rust source is at hand.
+fn tree_if_at_hand(case: &Case) -> Option<Option<Vec<TreeNode>>> {
+    #[cfg(rust_source)]
+    return Some(oracle::closing::tree(case));
+    #[cfg(not(rust_source))]
+    {
+        let _ = case;
+        None
     }
 }
 
@@ -163,27 +252,39 @@ fn a_tree_that_was_read_and_is_plain_reads_as_it_was() {
     let mut rng = Rng::new(12);
     let mut plain = 0;
     for case in Mixed::new(12, 24).take(60_000) {
-        let Some(Answer::Tree(words)) = oracle::answer_if_at_hand(&case) else {
+        let Some(Some(nodes)) = tree_if_at_hand(&case) else {
             continue;
         };
-        let (answer, list) = writer_model::write(&words, usize::MAX);
+        let (answer, list) = writer_model::write(&tree_words(&nodes), usize::MAX);
         if let Written::Tokens(_) = answer {
             plain += 1;
-            reads_as_written(
-                &mut rng,
-                &decode_tree(&words).expect("an answer is a tree"),
-                &list,
-            );
+            reads_as_written(&mut rng, &nodes, &list);
         }
     }
     assert!(plain > 4_000, "only {plain} plain trees");
+}
+
+#[test]
+#[cfg_attr(not(rust_source), ignore = "the Rust source is not at hand")]
+fn an_opener_that_was_never_closed_is_written_with_a_closer_at_its_own_end() {
+    let mut case = Case::exact(oracle::lines::tokens_of("36 ("), 6);
+    case.used = oracle::words::bit(36);
+    let Some(Some(nodes)) = tree_if_at_hand(&case) else {
+        panic!("36(4)");
+    };
+    assert_eq!(nodes, [node(36, 1, 0), node(4, 0, 1)]);
+    let (answer, list) = writer_model::write(&tree_words(&nodes), usize::MAX);
+    assert_eq!(answer, Written::Tokens(3));
+    assert_eq!(list[11..13], [word(2, 2), word(3, 2)]);
+    for version in [4, 5, 6] {
+        assert_eq!(read_again(&list, version), Some(nodes.clone()));
+    }
 }
 
 #[cfg(library)]
 mod library {
     use super::*;
     use compare::{library, rereading};
-    use oracle::words::Token;
 
     /// The library answers as the model does, and fills a list of so many words as that says.
     fn agrees_in(rng: &mut Rng, words: &[u32], room: usize) -> Written {
@@ -253,8 +354,8 @@ mod library {
         let deep = plain_trees::nested_brackets(12_287);
         for (nodes, first) in [(&nodes, 0), (&deep, deep.len() - 2)] {
             let words = tree_words(nodes);
-            let last = (words.len() - 6..words.len()).chain(0..6);
-            let places = (6 * first..words.len()).chain(last);
+            let last = (words.len() - NODE_WORDS..words.len()).chain(0..NODE_WORDS);
+            let places = (NODE_WORDS * first..words.len()).chain(last);
             for place in places {
                 for bit in 0..32 {
                     let mut damaged = words.clone();
@@ -262,6 +363,41 @@ mod library {
                     agrees_in(&mut rng, &damaged, 300);
                 }
             }
+        }
+    }
+
+    #[test]
+    fn each_bit_of_each_seventh_word_of_a_written_tree() {
+        let mut rng = Rng::new(28);
+        let mut trees: Vec<Vec<TreeNode>> = vec![bracketed_product().to_vec()];
+        trees.extend((0..20).map(|_| plain_trees::plain(&mut rng, 30)));
+        for nodes in trees {
+            let words = tree_words(&nodes);
+            let sound = agrees_in(&mut rng, &words, 1_000);
+            assert!(matches!(sound, Written::Tokens(_)));
+            for place in (6..words.len()).step_by(NODE_WORDS) {
+                for bit in 0..32 {
+                    let mut flipped = words.clone();
+                    flipped[place] ^= 1 << bit;
+                    let fault = Written::Refused(12, place);
+                    let wanted = if bit < 29 { sound } else { fault };
+                    assert_eq!(agrees_in(&mut rng, &flipped, 1_000), wanted);
+                }
+            }
+        }
+    }
+
+    #[test]
+    fn trees_of_three_nodes_a_token_at_each_number_of_words() {
+        let mut rng = Rng::new(29);
+        for tokens in [1, 2, 7, 682, 683, 4_096] {
+            let words = tree_words(&plain_trees::nested_brackets(3 * tokens - 1));
+            for len in [18 * tokens, 20 * tokens, 21 * tokens - 1, 21 * tokens] {
+                agrees_in(&mut rng, &words[..len], 20_480);
+            }
+            let longer = [&words[..], &[word(1, 61)]].concat();
+            let after = Written::Refused(12, 21 * tokens);
+            assert_eq!(agrees_in(&mut rng, &longer, 20_480), after);
         }
     }
 
@@ -294,7 +430,7 @@ mod library {
                 let place = rng.below(words.len());
                 words[place] = match rng.below(4) {
                     0 => words[place] ^ 1 << rng.below(32),
-                    1 => word(1 + rng.below(6) as u32, words[place] & 0x1FFF_FFFF),
+                    1 => word(rng.below(8) as u32, words[place] & 0x1FFF_FFFF),
                     2 => word(6, *rng.pick(&[0, 1, 2, 3, 12_286, 12_287, 12_288, 16_383])),
                     _ => rng.bits() as u32,
                 };
@@ -345,8 +481,8 @@ mod library {
     fn trees_that_were_read() {
         let mut rng = Rng::new(25);
         for case in Mixed::new(25, 24).take(100_000) {
-            if let Some(Answer::Tree(words)) = oracle::answer_if_at_hand(&case) {
-                agrees(&mut rng, &words);
+            if let Some(Some(nodes)) = tree_if_at_hand(&case) {
+                agrees(&mut rng, &tree_words(&nodes));
             }
         }
     }
@@ -361,7 +497,7 @@ mod library {
             end: 3,
         };
         let mut product = bare(31, 2);
-        product.token = paid;
+        (product.token, product.close) = (paid, 70);
         let nodes = [bare(6, 1), product, bare(61, 0), bare(62, 0)];
         let mut list = vec![0; 30];
         let answer = library::write(&tree_words(&nodes), &mut list);

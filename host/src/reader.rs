@@ -12,7 +12,7 @@ use std::fmt;
 pub const MOST_TOKENS: usize = 4096;
 
 /// Words of the tree buffer per token, of the message buffer, and of the work buffer per token and once more.
-const TREE_WORDS: usize = 18;
+const TREE_WORDS: usize = 3 * Tree::NODE_WORDS;
 const MESSAGE_WORDS: usize = 16;
 const WORK_WORDS: usize = 64;
 
@@ -145,7 +145,7 @@ impl Reader {
     /// let mut words = list.words();
     /// let used = Used::exact_words(&words);
     /// let mut reader = Reader::new();
-    /// assert_eq!(reader.parse_words(&words, 6, used, 5).unwrap().len(), 3 * 6);
+    /// assert_eq!(reader.parse_words(&words, 6, used, 5).unwrap().len(), 3 * 7);
     /// words.pop();
     /// let refused = reader.parse_words(&words, 6, used, 5);
     /// assert_eq!(refused, Err(ReadError::Refused(Refusal::NotWhole)));

@@ -90,7 +90,7 @@ impl Tree {
     /// let tree = Reader::new().read(&list, 6).unwrap();
     /// assert_eq!(tree.words().len(), sorbrudder::Tree::NODE_WORDS);
     /// ```
-    pub const NODE_WORDS: usize = 6;
+    pub const NODE_WORDS: usize = 7;
 
     /// The tree of words that the library made, or that it found to be one tree.
     pub(crate) fn of_sound(words: Vec<u32>) -> Self {
@@ -127,9 +127,10 @@ impl Tree {
     /// ```
     /// use sorbrudder::{NotATree, Tree};
     ///
-    /// let leaf = vec![0x2000_003D, 0x4000_0000, 0x6000_0001, 0x8000_0000, 0xA000_0000, 0xC000_0000];
+    /// let token = [0x2000_003D, 0x4000_0000, 0x6000_0001, 0x8000_0000, 0xA000_0000];
+    /// let leaf = [&token[..], &[0xC000_0000, 0xE000_0001]].concat();
     /// assert_eq!(Tree::from_words(leaf.clone()).unwrap().to_string(), "a");
-    /// assert_eq!(Tree::from_words(leaf[..5].to_vec()).unwrap_err(), NotATree { word: 5 });
+    /// assert_eq!(Tree::from_words(leaf[..6].to_vec()).unwrap_err(), NotATree { word: 6 });
     /// ```
     pub fn from_words(words: Vec<u32>) -> Result<Self, NotATree> {
         // A list with no room: no tree is written, and only words that are no tree are answered 12.
@@ -139,7 +140,7 @@ impl Tree {
         }
     }
 
-    /// The tree of nodes in preorder, each with the number of its children.
+    /// The tree of nodes in preorder, each with the number of its children. Every node closes at the end of its own span.
     ///
     /// ```
     /// use sorbrudder::{Op, Span, Token, Tree};
@@ -149,12 +150,32 @@ impl Tree {
     /// assert_eq!(Tree::from_nodes(sum).unwrap().to_string(), "9(a,62)");
     /// ```
     pub fn from_nodes(nodes: impl IntoIterator<Item = (Token, usize)>) -> Result<Self, NotATree> {
+        let nodes = nodes.into_iter();
+        Self::from_closed_nodes(nodes.map(|(token, count)| (token, count, token.span.end())))
+    }
+
+    /// The tree of nodes in preorder, each with the number of its children and with where it closes
+    /// ([`Node::close`]); a number above [`Span::LAST`] is refused at its word.
+    ///
+    /// ```
+    /// use sorbrudder::{Reader, Tokens, Tree};
+    ///
+    /// let list: Tokens = "(a + b) * c".parse().unwrap();
+    /// let tree = Reader::new().read(&list, 6).unwrap();
+    /// let nodes = tree.nodes().map(|node| (node.token(), node.child_count(), node.close()));
+    /// assert_eq!(Tree::from_closed_nodes(nodes).unwrap(), tree);
+    /// ```
+    pub fn from_closed_nodes(
+        nodes: impl IntoIterator<Item = (Token, usize, u32)>,
+    ) -> Result<Self, NotATree> {
         let mut words = Vec::new();
         // One node more than a tree can have is enough to be refused.
-        for (token, children) in nodes.into_iter().take(MOST_NODES + 1) {
+        for (token, children, close) in nodes.into_iter().take(MOST_NODES + 1) {
             words.extend(token.words());
             // A count that has no room in its word is too many for any tree.
             words.push(6 << 29 | children.min(LOW as usize) as u32);
+            // A word of kind 0 stands for a close that has no room in its word; no tree has it.
+            words.push(if close <= LOW { 7 << 29 | close } else { 0 });
         }
         Self::from_words(words)
     }
@@ -179,7 +200,7 @@ impl Tree {
     ///
     /// let list: Tokens = "a".parse().unwrap();
     /// let tree = Reader::new().read(&list, 6).unwrap();
-    /// assert_eq!(tree.into_words().len(), 6);
+    /// assert_eq!(tree.into_words().len(), 7);
     /// ```
     pub fn into_words(self) -> Vec<u32> {
         self.words
@@ -395,14 +416,14 @@ pub struct Node<'t> {
 }
 
 impl<'t> Node<'t> {
-    /// The node's six words.
+    /// The node's seven words: its token's five, how many children it has, and where it closes.
     ///
     /// ```
     /// use sorbrudder::{Reader, Tokens};
     ///
     /// let list: Tokens = "a + b".parse().unwrap();
     /// let tree = Reader::new().read(&list, 6).unwrap();
-    /// assert_eq!(tree.root().words()[5], 0xC000_0002);
+    /// assert_eq!(tree.root().words()[5..], [0xC000_0002, 0xE000_0003]);
     /// ```
     pub fn words(self) -> &'t [u32] {
         let from = self.number * Tree::NODE_WORDS;
@@ -460,6 +481,29 @@ impl<'t> Node<'t> {
     pub fn span(self) -> Span {
         let words = self.words();
         Span::new(words[1] & LOW, words[2] & LOW).expect(SOUND)
+    }
+
+    /// Where the node closes: a section (`(`, `[` or `{` with its closer) at the end of its closer, every other node at the
+    /// end of its own span. A section's span is its opener's, so an editor that colours a bracket from opener to closer
+    /// takes the start of the one and this:
+    ///
+    /// ```
+    /// use sorbrudder::{Reader, Span, Tokens};
+    ///
+    /// let source = "(a + b) * c";
+    /// let list: Tokens = source.parse().unwrap();
+    /// let tree = Reader::new().read(&list, 6).unwrap();
+    /// let section = tree.root().child(0).unwrap();
+    /// assert_eq!(section.span().of(source), Some("("));
+    ///
+    /// let coloured = Span::new(section.span().start(), section.close()).unwrap();
+    /// assert_eq!(coloured.of(source), Some("(a + b)"));
+    ///
+    /// let times = tree.root();
+    /// assert_eq!(times.close(), times.span().end());
+    /// ```
+    pub fn close(self) -> u32 {
+        self.words()[Token::WORDS + 1] & LOW
     }
 
     /// The node's token.

@@ -240,9 +240,16 @@ fn every_refusal_of_the_writer_is_mapped_or_cannot_happen() {
     let counted = Tree::from_nodes([(bare(Op::FLOAT), usize::MAX)]);
     assert_eq!(counted.map_err(|why| why.word), Err(5));
     let endless = Tree::from_nodes(std::iter::repeat((bare(Op::NEGATE), 1)));
-    assert_eq!(endless.map_err(|why| why.word), Err(6 * 12_287 + 5));
+    assert_eq!(endless.map_err(|why| why.word), Err(7 * 12_287 + 5));
     let two = Tree::from_nodes(std::iter::repeat((bare(Op::FLOAT), 0)));
-    assert_eq!(two.map_err(|why| why.word), Err(6));
+    assert_eq!(two.map_err(|why| why.word), Err(7));
+    // A seventh word is looked at for its kind alone; a close that it has no room for cannot be put into it.
+    let closed = |close| Tree::from_closed_nodes([(bare(Op::FLOAT), 0, close)]);
+    assert_eq!(
+        closed(Span::LAST).map(|tree| tree.root().close()),
+        Ok(Span::LAST)
+    );
+    assert_eq!(closed(Span::LAST + 1).map_err(|why| why.word), Err(6));
 }
 
 #[test]
@@ -252,7 +259,7 @@ fn nothing_panics_on_words_of_any_kind() {
     let mut trees = 0;
     for round in 0..60_000 {
         let len = rng.below(if round % 100 == 0 { 3_000 } else { 60 });
-        let kinds = 5 + rng.below(2);
+        let kinds = 5 + rng.below(3);
         let mut word = |place: usize| {
             let kind = place % kinds + 1;
             // Value halves without a value, so that now and then all of it is sound.

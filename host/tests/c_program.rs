@@ -34,12 +34,15 @@ fn a_c_program_reads_one_list() {
     let printed = String::from_utf8_lossy(&run.stdout);
     assert!(run.status.success(), "{}, after {printed}", run.status);
     let lines = [
-        "tree 3",
-        "9 2 1 2",
-        "61 0 0 1",
-        "61 0 2 3",
-        "tokens 3",
+        "tree 4",
+        "4 1 0 1 closes 5",
+        "9 2 2 3 closes 3",
+        "61 0 1 2 closes 2",
+        "61 0 3 4 closes 4",
+        "tokens 5",
         "refused 8 0",
+        "refused 3 0",
+        "refused 12 27",
     ];
     assert_eq!(printed.lines().collect::<Vec<_>>(), lines);
 }

@@ -1,7 +1,10 @@
 //! The kept answers of the Rust parser (vectors/vectors.bin) through the safe interface: every tree's words, every message's
-//! record, every refusal that a list can have.
+//! record, every refusal that a list can have. Where a node closes is not the Rust's word: it is found from the list.
 
 use sorbrudder::{ReadError, Reader, Refusal, Tokens, Tree, Used};
+
+/// The bits of a word below its kind.
+const LOW: u32 = (1 << 29) - 1;
 
 /// The file's numbers, as vectors/README.md describes them.
 struct Bytes<'b>(&'b [u8]);
@@ -65,16 +68,60 @@ impl Call {
         Ok(words.to_vec())
     }
 
+    /// Where the section of each token closes, or the token's own end: the brackets are matched where one of the used
+    /// set opens a section.
+    fn closes(&self) -> Vec<u32> {
+        let mut closes: Vec<u32> = self.list.chunks(5).map(|token| token[2] & LOW).collect();
+        let used = self.used.expect("a legal set").halves().0;
+        let mut open = Vec::new();
+        for (place, token) in self.list.chunks(5).enumerate() {
+            match token[0] & 0xFF {
+                _ if used & 0b01_0101 == 0 => break,
+                0 | 2 | 4 => open.push(place),
+                1 | 3 | 5 => {
+                    if let Some(opener) = open.pop() {
+                        closes[opener] = token[2] & LOW;
+                    }
+                }
+                _ => {}
+            }
+        }
+        closes
+    }
+
+    /// The kept words of a tree, six a node, with the seventh: reading the list with each token's number as its span
+    /// says which token a node was made of.
+    fn closed(&self, reader: &mut Reader, kept: &[u32]) -> Vec<u32> {
+        let mut numbered = self.list.clone();
+        for (number, token) in numbered.chunks_mut(5).enumerate() {
+            (token[1], token[2]) = (2 << 29 | number as u32, 3 << 29 | number as u32);
+        }
+        let used = self.used.expect("a legal set");
+        let named = reader.parse_words(&numbered, self.version, used, self.source_len);
+        let named = named.expect("spans decide nothing");
+        let closes = self.closes();
+        let close = |node: &[u32], named: &[u32]| match node[0] & 0xFF {
+            0 | 2 | 4 => closes[(named[1] & LOW) as usize],
+            _ => node[2] & LOW,
+        };
+        let nodes = kept.chunks(6).zip(named.chunks(Tree::NODE_WORDS));
+        nodes
+            .flat_map(|(node, named)| [node, &[7 << 29 | close(node, named)]].concat())
+            .collect()
+    }
+
     /// The same tree comes of words, of tokens, and of its own nodes.
-    fn is_tree(&self, reader: &mut Reader, words: Vec<u32>) {
+    fn is_tree(&self, reader: &mut Reader, kept: &[u32]) {
+        let words = self.closed(reader, kept);
         assert_eq!(self.read(reader), Ok(words.clone()));
         let tree = Tree::from_words(words).expect("an answer is a tree");
         let tokens = Tokens::from_words(&self.list).expect("a list that is read");
         let used = self.used.expect("a legal set");
         let typed = reader.parse(&tokens, self.version, used, self.source_len as u32);
         assert_eq!(typed, Ok(tree.clone()));
-        let nodes = tree.nodes().map(|node| (node.token(), node.child_count()));
-        assert_eq!(Tree::from_nodes(nodes).expect("the same tree"), tree);
+        let nodes = tree.nodes();
+        let nodes = nodes.map(|node| (node.token(), node.child_count(), node.close()));
+        assert_eq!(Tree::from_closed_nodes(nodes).expect("the same tree"), tree);
     }
 
     fn has_messages(&self, reader: &mut Reader, records: &[u32]) {
@@ -118,7 +165,7 @@ fn every_kept_answer() {
         match head & 3 {
             0 => {
                 let nodes = bytes.number();
-                call.is_tree(&mut reader, bytes.words(6 * nodes, 6));
+                call.is_tree(&mut reader, &bytes.words(6 * nodes, 6));
             }
             1 => {
                 let count = bytes.number();

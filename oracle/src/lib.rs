@@ -5,11 +5,13 @@
 //! `answer_case`, and everything else is built and tested without it:
 //!
 //! - [`words`]: the word format of document 01, cases and answers;
+//! - [`closing`]: where each node closes, its seventh word, from the list alone (card 2);
 //! - [`refusal`]: answers 1 to 11, written from document 01's table and not from the Rust;
 //! - [`generate`]: lists from a seed;
 //! - [`lines`]: the lines of document 01's section 'Lists and their trees', and what was found;
 //! - [`vectors`]: the answers that are kept in the repository.
 
+pub mod closing;
 pub mod generate;
 pub mod lines;
 pub mod refusal;

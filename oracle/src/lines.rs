@@ -5,7 +5,7 @@
 //! are Molang's, `.` is a member accessor (45) and a number is an operator's. The i-th token
 //! has the span i to i + 1. A tree is written as document 01 does: `9(a,6(b))`.
 
-use crate::words::{Answer, Case, Record, Token, TreeNode, bit};
+use crate::words::{Answer, Case, Record, RustNode, Token, bit};
 use std::ops::RangeInclusive;
 
 /// The signs of the notation and their operator numbers.
@@ -82,7 +82,7 @@ impl Line {
     /// Whether `answer` is what the line says.
     pub fn agrees(&self, answer: &Answer) -> bool {
         match &self.says {
-            Says::Tree(tree) => notation(&answer.nodes()) == *tree,
+            Says::Tree(tree) => notation(answer.nodes()) == *tree,
             Says::Messages(records) => answer.records() == records,
         }
     }
@@ -122,7 +122,7 @@ pub fn case_of(list: &str) -> Case {
 }
 
 /// A tree in the notation.
-pub fn notation(nodes: &[TreeNode]) -> String {
+pub fn notation(nodes: &[RustNode]) -> String {
     let mut text = String::new();
     let mut awaited: Vec<u32> = Vec::new();
     for node in nodes {

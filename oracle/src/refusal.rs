@@ -2,7 +2,8 @@
 //! first failure winning. Written from the table; the Rust has no part of it.
 
 use crate::words::{
-    Case, LAST_OP, LAST_PLACE, LAST_VARIANT, MOST_TOKENS, TOKEN_WORDS, kind, list_words, low,
+    Case, LAST_OP, LAST_PLACE, LAST_VARIANT, MOST_TOKENS, TOKEN_WORDS, TREE_WORDS, kind,
+    list_words, low,
 };
 
 /// What the entry is lent and given. Only the lengths of the lent buffers count.
@@ -30,7 +31,7 @@ impl Call {
         let tokens = case.tokens.len() as u64;
         Self {
             list: list_words(&case.tokens),
-            tree_len: 18 * tokens,
+            tree_len: TREE_WORDS as u64 * tokens,
             messages_len: 16,
             work_len: 64 * tokens + 64,
             used: case.used,
@@ -46,7 +47,7 @@ pub fn refusal(call: &Call) -> Option<Refusal> {
     let whole: [(u32, bool); 7] = [
         (1, !call.list.len().is_multiple_of(TOKEN_WORDS)),
         (2, tokens > MOST_TOKENS as u64),
-        (3, call.tree_len < 18 * tokens),
+        (3, call.tree_len < TREE_WORDS as u64 * tokens),
         (4, call.messages_len < 16),
         (5, call.work_len < 64 * tokens + 64),
         (6, call.used.1 >> (LAST_OP - 63) != 0),
@@ -163,6 +164,11 @@ mod tests {
     #[test]
     fn each_buffer_is_one_word_too_short() {
         assert_eq!(answer(|call| call.tree_len -= 1), Some((3, 0)));
+        let trees = [(18, false), (20, false), (21, true), (22, true)];
+        for (words, taken) in trees {
+            let answer = answer(|call| call.tree_len = words * 3);
+            assert_eq!(answer.is_none(), taken, "{words} words a token");
+        }
         assert_eq!(answer(|call| call.messages_len -= 1), Some((4, 0)));
         assert_eq!(answer(|call| call.work_len -= 1), Some((5, 0)));
     }

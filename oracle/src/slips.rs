@@ -60,7 +60,7 @@ fn readings(slipped: Reader, list: &str) -> (Answer, Answer) {
 
 fn trees(slipped: Reader, list: &str) -> (String, String) {
     let (with, without) = readings(slipped, list);
-    (notation(&with.nodes()), notation(&without.nodes()))
+    (notation(with.nodes()), notation(without.nodes()))
 }
 
 #[test]
@@ -82,7 +82,7 @@ fn stopping_after_a_failed_pointer_pass_is_exposed() {
 #[test]
 fn leaving_out_the_second_walk_of_an_unfolded_left_side_is_exposed() {
     let (with, without) = readings(no_second_walk::compile::answer, "a + + + b");
-    assert_eq!(notation(&with.nodes()), "9(9(a,9),b)");
+    assert_eq!(notation(with.nodes()), "9(9(a,9),b)");
     assert_eq!(without.records().len(), 1);
     exposed(no_second_walk::compile::answer);
 }

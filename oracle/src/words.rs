@@ -2,12 +2,15 @@
 //!
 //! A word has 32 bits, the top three its kind. A token is five words, of kinds 1 to 5: operator
 //! and payload variant, span start, span end, and the two halves of the payload value. A tree node
-//! is a token and a word of kind 6 with the number of its children.
+//! is a token, a word of kind 6 with the number of its children, and a word of kind 7 with where it
+//! closes (card 2). The Rust has no such word: its nodes are [`RustNode`]s, and `closing` finds it.
 
 /// Words of a token.
 pub const TOKEN_WORDS: usize = 5;
 /// Words of a tree node.
-pub const NODE_WORDS: usize = 6;
+pub const NODE_WORDS: usize = 7;
+/// Words of the tree buffer for each token of the list: three nodes.
+pub const TREE_WORDS: usize = 3 * NODE_WORDS;
 /// The largest operator number.
 pub const LAST_OP: u8 = 110;
 /// The largest payload variant.
@@ -35,12 +38,22 @@ pub struct Token {
     pub end: u32,
 }
 
+/// A node of a tree in preorder, as the Rust has it.
+#[derive(Copy, Clone, Debug, PartialEq, Eq, Hash)]
+pub struct RustNode {
+    pub token: Token,
+    /// How many children follow.
+    pub children: u32,
+}
+
 /// A node of a tree in preorder.
 #[derive(Copy, Clone, Debug, PartialEq, Eq, Hash)]
 pub struct TreeNode {
     pub token: Token,
     /// How many children follow.
     pub children: u32,
+    /// Where it closes, below 2^29: the end of a section's closer, else its own end.
+    pub close: u32,
 }
 
 /// A message: number, span start, span end and five arguments.
@@ -68,21 +81,21 @@ impl Case {
     }
 }
 
-/// What is answered.
+/// What the Rust answers.
 #[derive(Clone, Debug, PartialEq, Eq, Hash)]
 pub enum Answer {
-    /// The words of the tree.
-    Tree(Vec<u32>),
+    /// The tree's nodes in preorder.
+    Tree(Vec<RustNode>),
     /// One or two records.
     Messages(Vec<Record>),
 }
 
 impl Answer {
     /// The tree's nodes in preorder; none for messages.
-    pub fn nodes(&self) -> Vec<TreeNode> {
+    pub fn nodes(&self) -> &[RustNode] {
         match self {
-            Self::Tree(words) => decode_tree(words).expect("an answer's words are one tree"),
-            Self::Messages(_) => Vec::new(),
+            Self::Tree(nodes) => nodes,
+            Self::Messages(_) => &[],
         }
     }
 
@@ -156,6 +169,7 @@ pub fn tree_words(nodes: &[TreeNode]) -> Vec<u32> {
     for node in nodes {
         words.extend(node.token.words());
         words.push(word(6, node.children));
+        words.push(word(7, node.close));
     }
     words
 }
@@ -165,25 +179,32 @@ pub fn decode_tree(words: &[u32]) -> Option<Vec<TreeNode>> {
     let mut nodes = Vec::with_capacity(words.len() / NODE_WORDS);
     let mut awaited = 1;
     for words in words.chunks(NODE_WORDS) {
-        let (&count, token) = words.split_last()?;
+        let (token, &[count, close]) = words.split_at_checked(TOKEN_WORDS)? else {
+            return None;
+        };
         let token = Token::of_words(token)?;
-        if kind(count) != 6 || low(count) >= 1 << 14 || awaited == 0 {
+        let sound = kind(count) == 6 && low(count) < 1 << 14 && kind(close) == 7;
+        if !sound || awaited == 0 {
             return None;
         }
         awaited = awaited - 1 + low(count);
         nodes.push(TreeNode {
             token,
             children: low(count),
+            close: low(close),
         });
     }
     (awaited == 0).then_some(nodes)
 }
 
-/// How many levels a tree has, 1 for a leaf.
-pub fn depth(nodes: &[TreeNode]) -> usize {
+/// How many levels a tree has, 1 for a leaf; none where the nodes are not exactly one tree.
+pub fn depth(nodes: &[RustNode]) -> Option<usize> {
     let mut awaited: Vec<u32> = Vec::new();
     let mut deepest = 0;
-    for node in nodes {
+    for (place, node) in nodes.iter().enumerate() {
+        if awaited.is_empty() && place > 0 {
+            return None;
+        }
         deepest = deepest.max(awaited.len() + 1);
         awaited.push(node.children);
         while awaited.last() == Some(&0) {
@@ -193,7 +214,7 @@ pub fn depth(nodes: &[TreeNode]) -> usize {
             }
         }
     }
-    deepest
+    (deepest > 0 && awaited.is_empty()).then_some(deepest)
 }
 
 /// The bit of an operator in a used set.
@@ -233,7 +254,11 @@ mod tests {
             start: LAST_PLACE,
             end: 0,
         };
-        TreeNode { token, children }
+        TreeNode {
+            token,
+            children,
+            close: LAST_PLACE,
+        }
     }
 
     #[test]
@@ -255,13 +280,25 @@ mod tests {
     fn a_tree_is_exactly_as_many_nodes_as_its_counts_say() {
         let nodes = [node(9, 2), node(61, 0), node(6, 1), node(61, 0)];
         let words = tree_words(&nodes);
-        assert_eq!(words[5], 0xC000_0002);
+        assert_eq!(words[5..NODE_WORDS], [0xC000_0002, 0xFFFF_FFFF]);
         assert_eq!(decode_tree(&words), Some(nodes.to_vec()));
         for len in 0..words.len() {
             assert_eq!(decode_tree(&words[..len]), None, "cut to {len} words");
         }
         let two = [&words[..], &words[..]].concat();
         assert_eq!(decode_tree(&two), None);
+    }
+
+    #[test]
+    fn a_seventh_word_is_of_kind_7_and_holds_any_value() {
+        let sound = tree_words(&[node(61, 0)]);
+        for bit in 0..32 {
+            let mut words = sound.clone();
+            words[6] ^= 1 << bit;
+            let close = decode_tree(&words).map(|nodes| nodes[0].close);
+            let wanted = (bit < KIND).then_some(LAST_PLACE ^ (1 << bit));
+            assert_eq!(close, wanted, "bit {bit}");
+        }
     }
 
     #[test]

@@ -1,6 +1,6 @@
 //! The program `cases`: what it prints can be read back, and covers what its help promises.
 
-use oracle::words::{Answer, Case, FULL_SET, Token, TreeNode, exact_set, tree_words};
+use oracle::words::{Answer, Case, FULL_SET, RustNode, Token, exact_set};
 use std::collections::BTreeSet;
 use std::process::Command;
 use std::str::Lines;
@@ -54,11 +54,11 @@ fn read_case(lines: &mut Lines) -> (Case, Answer) {
     assert_eq!(lines.next(), Some("end"));
     let answer = match kind {
         "tree" => {
-            let node = |row: &Vec<u32>| TreeNode {
+            let node = |row: &Vec<u32>| RustNode {
                 token: token(row),
                 children: row[5],
             };
-            Answer::Tree(tree_words(&rows.iter().map(node).collect::<Vec<_>>()))
+            Answer::Tree(rows.iter().map(node).collect())
         }
         "messages" => {
             let record = |row: Vec<u32>| row.try_into().expect("eight numbers");

@@ -3,7 +3,7 @@
 use oracle::generate::alphabets::ALPHABETS;
 use oracle::generate::damage::damaged;
 use oracle::generate::shapes::SHAPES;
-use oracle::generate::{Mixed, Rng, dress};
+use oracle::generate::{Mixed, Rng, brackets, dress};
 use oracle::refusal::{Call, refusal};
 use oracle::words::{Case, FULL_SET, Token, decode_list, exact_set, list_words};
 use std::collections::BTreeSet;
@@ -112,6 +112,86 @@ fn damage_is_turned_back_where_it_was_done() {
     let bits = [(9, 0), (10, 0), (11, 0), (11, 3), (11, 4)];
     assert!(kinds.chain(bits).all(|field| fields.contains(&field)));
     assert!(numbers[1..].iter().all(|&count| count > 50), "{numbers:?}");
+}
+
+/// How a list's brackets are: a closer that does not match, a section not closed, a closer with nothing open.
+fn bracketing(tokens: &[Token]) -> [bool; 3] {
+    let (mut open, mut lone) = (Vec::new(), false);
+    for token in tokens {
+        match token.op {
+            0 | 2 | 4 => open.push(token.op),
+            1 | 3 | 5 => match open.pop() {
+                Some(opener) if opener + 1 != token.op => return [true, false, lone],
+                Some(_) => {}
+                None => lone = true,
+            },
+            _ => {}
+        }
+    }
+    [false, !open.is_empty(), lone]
+}
+
+#[test]
+fn the_lists_of_brackets_have_every_kind_span_and_used_set() {
+    let mut rng = Rng::new(21);
+    let (mut kinds, mut faults, mut spans, mut sets) = ([0; 6], [0; 4], [0; 4], [0; 4]);
+    for _ in 0..20_000 {
+        let case = brackets::case(&mut rng, 16);
+        let tokens = &case.tokens;
+        assert_eq!(refusal(&Call::of(&case)), None, "{case:?}");
+        for token in tokens.iter().filter(|token| token.op <= 5) {
+            kinds[usize::from(token.op)] += 1;
+        }
+        let found = bracketing(tokens);
+        for (count, fault) in faults.iter_mut().zip(found) {
+            *count += usize::from(fault);
+        }
+        faults[3] += usize::from(found == [false; 3]);
+        let spans_of: BTreeSet<_> = tokens.iter().map(|t| (t.start, t.end)).collect();
+        spans[0] += usize::from(tokens.iter().any(|t| t.start > t.end));
+        spans[1] += usize::from(tokens.len() > 1 && spans_of.len() == 1);
+        spans[2] += usize::from(spans_of.len() == tokens.len());
+        // Two openers alike that close apart: only their places in the list tell them apart.
+        let closes = oracle::closing::closes(tokens, case.used);
+        let openers: BTreeSet<_> = tokens
+            .iter()
+            .zip(closes)
+            .filter(|(token, _)| matches!(token.op, 0 | 2 | 4))
+            .map(|(token, close)| ((token.op, token.start, token.end), close))
+            .collect();
+        let alike: BTreeSet<_> = openers.iter().map(|(token, _)| token).collect();
+        spans[3] += usize::from(alike.len() < openers.len());
+        let openers = |set: (u64, u64)| set.0 & 0b01_0101;
+        let exact = exact_set(tokens);
+        let set = match openers(case.used) {
+            same if same == openers(exact) => 0,
+            0 => 1,
+            0b01_0101 => 2,
+            _ => 3,
+        };
+        sets[set] += usize::from(openers(exact) != 0);
+    }
+    for counts in [&kinds[..], &faults, &spans, &sets] {
+        assert!(counts.iter().all(|&count| count > 400), "{counts:?}");
+    }
+}
+
+#[cfg(molangx)]
+#[test]
+fn the_lists_of_brackets_are_often_trees_with_sections_and_with_openers_as_leaves() {
+    let (mut rng, mut sections, mut leaves) = (Rng::new(22), 0, 0);
+    for _ in 0..20_000 {
+        let case = brackets::case(&mut rng, 16);
+        let answer = oracle::answer_case(&case);
+        let opener = answer
+            .nodes()
+            .iter()
+            .any(|node| matches!(node.token.op, 0 | 2 | 4));
+        let run = case.used.0 & 0b01_0101 != 0;
+        sections += usize::from(opener && run);
+        leaves += usize::from(opener && !run);
+    }
+    assert!(sections > 4_000 && leaves > 100, "{sections}, {leaves}");
 }
 
 /// Every bit of a token's five words, turned over by itself.

@@ -1,14 +1,13 @@
 //! Document 01's section 'Lists and their trees', and what was found beside it.
 
 use oracle::lines::{case_of, findings, lines, notation, tokens_of};
-use oracle::words::TreeNode;
+use oracle::words::RustNode;
 
 #[cfg(molangx)]
 mod with_the_rust {
     use super::*;
     use oracle::answer_case;
     use oracle::lines::Line;
-    use oracle::words::{Answer, decode_tree};
 
     fn check(line: &Line, version: i16) {
         let answer = answer_case(&line.at_version(version));
@@ -18,7 +17,7 @@ mod with_the_rust {
             line.story,
             answer.records(),
             line.says,
-            notation(&answer.nodes()),
+            notation(answer.nodes()),
         );
     }
 
@@ -40,16 +39,17 @@ mod with_the_rust {
         }
     }
 
-    fn tree(list: &str) -> Vec<TreeNode> {
-        answer_case(&case_of(list)).nodes()
+    fn tree(list: &str) -> Vec<RustNode> {
+        answer_case(&case_of(list)).nodes().to_vec()
     }
 
     #[test]
     fn a_binary_minus_gives_its_payload_to_the_plus_and_none_to_the_negation() {
         let mut case = case_of("a - b");
         (case.tokens[1].variant, case.tokens[1].value) = (5, 0xDEAD_BEEF);
-        let nodes = answer_case(&case).nodes();
-        assert_eq!(notation(&nodes), "9(a,6(b))");
+        let answer = answer_case(&case);
+        let nodes = answer.nodes();
+        assert_eq!(notation(nodes), "9(a,6(b))");
         let (plus, negation) = (nodes[0].token, nodes[2].token);
         assert_eq!((plus.variant, plus.value), (5, 0xDEAD_BEEF));
         assert_eq!((negation.variant, negation.value), (0, 0));
@@ -68,8 +68,9 @@ mod with_the_rust {
         let mut case = case_of("41 [ a ] ;");
         (case.tokens[0].variant, case.tokens[0].value) = (7, 41);
         (case.tokens[4].variant, case.tokens[4].value) = (7, 73);
-        let nodes = answer_case(&case).nodes();
-        assert_eq!(notation(&nodes), "73(73(63(a)))");
+        let answer = answer_case(&case);
+        let nodes = answer.nodes();
+        assert_eq!(notation(nodes), "73(73(63(a)))");
         assert_eq!((nodes[0].token.variant, nodes[0].token.value), (0, 0));
         assert_eq!((nodes[1].token.variant, nodes[1].token.value), (0, 0));
         assert_eq!((nodes[2].token.variant, nodes[2].token.value), (7, 41));
@@ -91,10 +92,9 @@ mod with_the_rust {
             for value in values {
                 let mut case = case_of("a");
                 (case.tokens[0].variant, case.tokens[0].value) = (variant, value);
-                let Answer::Tree(words) = answer_case(&case) else {
-                    panic!("one token is one tree");
-                };
-                assert_eq!(decode_tree(&words).unwrap()[0].token, case.tokens[0]);
+                let nodes = answer_case(&case).nodes().to_vec();
+                assert_eq!(nodes.len(), 1, "one token is one tree");
+                assert_eq!(nodes[0].token, case.tokens[0]);
             }
         }
     }
@@ -129,7 +129,7 @@ fn lists_and_trees_are_written_as_document_01_writes_them() {
     let case = case_of("a ? ( 40 . ) : - b ;");
     let ops: Vec<u8> = case.tokens.iter().map(|token| token.op).collect();
     assert_eq!(ops, [61, 59, 4, 40, 45, 5, 60, 6, 61, 73]);
-    let node = |sign: &str, children| TreeNode {
+    let node = |sign: &str, children| RustNode {
         token: tokens_of(sign)[0],
         children,
     };

@@ -71,12 +71,12 @@ fn every_refused_call_has_the_answer_of_the_table() {
 #[test]
 fn every_tree_holds_together() {
     for (case, answer) in answered() {
-        let Answer::Tree(words) = &answer else {
+        let Answer::Tree(nodes) = &answer else {
             continue;
         };
-        let nodes = oracle::words::decode_tree(words).expect("the words are one tree");
         assert!(2 * nodes.len() <= 3 * case.tokens.len(), "{case:?}");
-        assert!(depth(&nodes) <= case.tokens.len() + 1, "{case:?}");
+        let levels = depth(nodes).expect("the nodes are one tree");
+        assert!(levels <= case.tokens.len() + 1, "{case:?}");
         let spans: BTreeSet<_> = case.tokens.iter().map(|t| (t.start, t.end)).collect();
         for node in nodes {
             let span = (node.token.start, node.token.end);
@@ -168,7 +168,7 @@ fn every_message_operator_variant_and_version_is_kept() {
         versions.insert(case.version);
         ops.extend(case.tokens.iter().map(|token| token.op));
         variants.extend(case.tokens.iter().map(|token| token.variant));
-        let parents = answer.nodes().into_iter().filter(|node| node.children > 0);
+        let parents = answer.nodes().iter().filter(|node| node.children > 0);
         made.extend(parents.map(|node| node.token.op));
     }
     assert_eq!(numbers, (1..=17).collect());

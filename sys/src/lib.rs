@@ -1,8 +1,28 @@
 //! The two entries of the static library by the C convention, as include/sorbrudder.h declares them: a slice is a pointer and a length,
 //! and an answer is one number. This crate holds the declarations, a safe function over each, and the number taken apart, once for all
-//! Rust of the project.
+//! Rust of the project. Where `SORBRUDDER_BEFORE` names another archive when this is built, its entries are in `before`, for timing two
+//! libraries in one run.
 
 #![warn(missing_docs)]
+
+/// The parse entry, of this library or of the one before it.
+type ParseEntry = unsafe extern "C" fn(
+    *const u32,
+    usize,
+    *mut u32,
+    usize,
+    *mut u32,
+    usize,
+    *mut u32,
+    usize,
+    u64,
+    i16,
+    u64,
+    u64,
+) -> u64;
+
+/// The write entry, of this library or of the one before it.
+type WriteEntry = unsafe extern "C" fn(*const u32, usize, *mut u32, usize) -> u64;
 
 unsafe extern "C" {
     fn sorbrudder_parse(
@@ -59,7 +79,7 @@ impl Answer {
 pub struct Lent<'b> {
     /// The list's words, five a token.
     pub list: &'b [u32],
-    /// Where a tree's words go, six a node.
+    /// Where a tree's words go, seven a node.
     pub tree: &'b mut [u32],
     /// Where the words of messages go, eight a message.
     pub messages: &'b mut [u32],
@@ -70,9 +90,26 @@ pub struct Lent<'b> {
 /// Reads a list's words: over a source of that length, at a pack's declared version, under the used set in two halves.
 #[inline]
 pub fn parse(lent: Lent<'_>, source_len: u64, version: i16, used: (u64, u64)) -> Answer {
+    parse_by(sorbrudder_parse, lent, source_len, version, used)
+}
+
+/// Writes a tree's words as a list's.
+#[inline]
+pub fn write(tree: &[u32], list: &mut [u32]) -> Answer {
+    write_by(sorbrudder_write, tree, list)
+}
+
+#[inline]
+fn parse_by(
+    entry: ParseEntry,
+    lent: Lent<'_>,
+    source_len: u64,
+    version: i16,
+    used: (u64, u64),
+) -> Answer {
     // SAFETY: each slice is passed with its own length, the borrows keep them apart, and the entry keeps none of them.
     Answer::of(unsafe {
-        sorbrudder_parse(
+        entry(
             lent.list.as_ptr(),
             lent.list.len(),
             lent.tree.as_mut_ptr(),
@@ -89,11 +126,52 @@ pub fn parse(lent: Lent<'_>, source_len: u64, version: i16, used: (u64, u64)) ->
     })
 }
 
-/// Writes a tree's words as a list's.
 #[inline]
-pub fn write(tree: &[u32], list: &mut [u32]) -> Answer {
+fn write_by(entry: WriteEntry, tree: &[u32], list: &mut [u32]) -> Answer {
     // SAFETY: both slices are passed with their own lengths, the borrows keep them apart, and the entry keeps neither.
-    Answer::of(unsafe {
-        sorbrudder_write(tree.as_ptr(), tree.len(), list.as_mut_ptr(), list.len())
-    })
+    Answer::of(unsafe { entry(tree.as_ptr(), tree.len(), list.as_mut_ptr(), list.len()) })
+}
+
+/// The library before this one, as `build.rs` renamed its entries. A node may have fewer words in it.
+#[cfg(before)]
+pub mod before {
+    use super::{Answer, Lent};
+
+    mod renamed {
+        unsafe extern "C" {
+            pub fn sorbrudder_before_parse(
+                list: *const u32,
+                list_words: usize,
+                tree: *mut u32,
+                tree_words: usize,
+                messages: *mut u32,
+                message_words: usize,
+                work: *mut u32,
+                work_words: usize,
+                source_length: u64,
+                version: i16,
+                used_low: u64,
+                used_high: u64,
+            ) -> u64;
+            pub fn sorbrudder_before_write(
+                tree: *const u32,
+                tree_words: usize,
+                list: *mut u32,
+                list_words: usize,
+            ) -> u64;
+        }
+    }
+
+    /// Reads a list's words as the library before did.
+    #[inline]
+    pub fn parse(lent: Lent<'_>, source_len: u64, version: i16, used: (u64, u64)) -> Answer {
+        let entry = renamed::sorbrudder_before_parse;
+        super::parse_by(entry, lent, source_len, version, used)
+    }
+
+    /// Writes a tree's words as the library before did.
+    #[inline]
+    pub fn write(tree: &[u32], list: &mut [u32]) -> Answer {
+        super::write_by(renamed::sorbrudder_before_write, tree, list)
+    }
 }

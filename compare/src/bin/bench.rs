@@ -2,7 +2,8 @@
 //! check, the emission and the clearing of a work buffer of exactly 64 words per token plus 64, into buffers that are
 //! reused; the Rust is timed building its list, grouping it and dropping the tree. Writing is timed beside a plain Rust
 //! writer over a tree of `Vec`s that checks nothing. Rounds of batches go over all workloads in turn, and the least batch
-//! counts. The last line is `least ratio R, mean ratio M, greatest growth G`, of reading.
+//! counts. The last line is `least ratio R, mean ratio M, greatest growth G`, of reading. Where `SORBRUDDER_BEFORE` names the
+//! folder of another archive when this is built, that library is timed in the same rounds (docs/notes/bench.md).
 //!
 //!     bench [ROUNDS]
 
@@ -20,10 +21,10 @@ fn main() {
 
 #[cfg(library)]
 mod timed {
-    use compare::library::{self, Given, Read};
+    use compare::library::{Given, Library};
     use compare::workloads::{self, Workload};
-    use compare::writer_model::Written;
-    use oracle::words::{Case, Token, TreeNode, decode_tree, list_words};
+    use oracle::words::{Case, NODE_WORDS, TOKEN_WORDS, Token, list_words, low};
+    use sorbrudder_sys::Answer;
     use std::hint::black_box;
     use std::time::Instant;
 
@@ -57,11 +58,27 @@ mod timed {
         }
     }
 
+    /// The library that is timed, and the one before it.
+    #[derive(Copy, Clone)]
+    enum Side {
+        Now,
+        Before,
+    }
+
+    /// Both sides, each first in every other round.
+    fn sides(round: usize) -> [Side; 2] {
+        match round % 2 {
+            0 => [Side::Now, Side::Before],
+            _ => [Side::Before, Side::Now],
+        }
+    }
+
     /// A workload with what was measured of it.
     struct Line {
         name: String,
         tokens: usize,
         ours: Batches,
+        before: Batches,
         rust: Batches,
     }
 
@@ -71,7 +88,15 @@ mod timed {
                 name: name.to_string(),
                 tokens,
                 ours: Batches::default(),
+                before: Batches::default(),
                 rust: Batches::default(),
+            }
+        }
+
+        fn side(&mut self, side: Side) -> &mut Batches {
+            match side {
+                Side::Now => &mut self.ours,
+                Side::Before => &mut self.before,
             }
         }
 
@@ -79,17 +104,23 @@ mod timed {
             self.rust.least() / self.ours.least()
         }
 
+        /// How many times as long it takes as in the library before.
+        fn beside_before(&self) -> f64 {
+            self.ours.least() / self.before.least()
+        }
+
         fn print(&self) {
-            let (ours, rust) = (self.ours.least(), self.rust.least());
-            let (name, tokens) = (&self.name, self.tokens);
+            let (ours, before, rust) = (self.ours.least(), self.before.least(), self.rust.least());
+            print!("{:28} {:5} tokens  {ours:6.1} ns", self.name, self.tokens);
+            if before.is_finite() {
+                let times = self.beside_before();
+                print!("  before {before:6.1} ns  times {times:4.2}");
+            }
             if rust.is_finite() {
                 let ratio = self.ratio();
-                println!(
-                    "{name:28} {tokens:5} tokens  {ours:6.1} ns  Rust {rust:6.1} ns  ratio {ratio:5.2}"
-                );
-            } else {
-                println!("{name:28} {tokens:5} tokens  {ours:6.1} ns");
+                print!("  Rust {rust:6.1} ns  ratio {ratio:5.2}");
             }
+            println!();
         }
     }
 
@@ -102,13 +133,30 @@ mod timed {
         /// All tokens of the lists together.
         tokens: usize,
         calls: Vec<(Case, Vec<u32>)>,
+        libraries: Libraries,
         tree: Vec<u32>,
         messages: Vec<u32>,
         work: Vec<u32>,
     }
 
+    /// The library that is timed, and the one before it if there is one.
+    #[derive(Copy, Clone)]
+    struct Libraries {
+        now: Library,
+        before: Option<Library>,
+    }
+
+    impl Libraries {
+        fn of(self, side: Side) -> Option<Library> {
+            match side {
+                Side::Now => Some(self.now),
+                Side::Before => self.before,
+            }
+        }
+    }
+
     impl Reading {
-        fn new(workload: Workload) -> Self {
+        fn new(libraries: Libraries, workload: Workload) -> Self {
             let name = workload.name;
             let tokens = workload.cases.iter().map(|case| case.tokens.len());
             let (sum, most) = (tokens.clone().sum(), tokens.max().unwrap_or(0));
@@ -120,19 +168,27 @@ mod timed {
                 line: Line::new(name, most),
                 tokens: sum,
                 calls: workload.cases.into_iter().map(with_words).collect(),
-                tree: vec![0; 18 * most],
+                libraries,
+                tree: vec![0; 3 * NODE_WORDS * most],
                 messages: vec![0; 16],
                 work: vec![0; 64 * most + 64],
             };
             for call in 0..reading.calls.len() {
                 let case = &reading.calls[call].0;
                 assert_ne!(oracle::grouped_if_at_hand(case), Some(false), "{name}");
-                assert!(matches!(reading.read(call), Read::Tree(_)), "{name}");
+                for library in [Some(libraries.now), libraries.before]
+                    .into_iter()
+                    .flatten()
+                {
+                    let answer = reading.read(library, call);
+                    assert!(matches!(answer, Answer::Filled(_)), "{name}: {answer:?}");
+                }
             }
             reading
         }
 
-        fn read(&mut self, call: usize) -> Read {
+        /// Reads one list into buffers of exactly the lengths that the library asks for.
+        fn read(&mut self, library: Library, call: usize) -> Answer {
             let (case, list) = black_box(&self.calls[call]);
             let given = Given {
                 source_len: u64::from(case.source_len),
@@ -140,20 +196,25 @@ mod timed {
                 used: case.used,
             };
             let tokens = case.tokens.len();
-            let tree = &mut self.tree[..18 * tokens];
+            let tree = &mut self.tree[..3 * library.node_words * tokens];
             let work = &mut self.work[..64 * tokens + 64];
-            library::parse(list, tree, &mut self.messages, work, given)
+            library.parse(list, tree, &mut self.messages, work, given)
         }
 
-        fn round(&mut self) {
+        fn round(&mut self, round: usize) {
             let repeats = BATCH.div_ceil(self.tokens);
-            let mut ours = std::mem::take(&mut self.line.ours);
-            ours.add(repeats, self.tokens, || {
-                for call in 0..self.calls.len() {
-                    black_box(self.read(call));
-                }
-            });
-            self.line.ours = ours;
+            for side in sides(round) {
+                let Some(library) = self.libraries.of(side) else {
+                    continue;
+                };
+                let mut batches = std::mem::take(self.line.side(side));
+                batches.add(repeats, self.tokens, || {
+                    for call in 0..self.calls.len() {
+                        black_box(self.read(library, call));
+                    }
+                });
+                *self.line.side(side) = batches;
+            }
             if oracle::COMPARED {
                 self.line.rust.add(repeats.div_ceil(4), self.tokens, || {
                     for (case, _) in black_box(&self.calls) {
@@ -167,25 +228,35 @@ mod timed {
     /// A tree of the plain Rust writer.
     struct Node {
         token: Token,
+        /// The start and the end of its closer, where it is a bracket.
+        closer: (u32, u32),
         children: Vec<Node>,
     }
 
     impl Node {
-        fn of(nodes: &mut impl Iterator<Item = TreeNode>) -> Self {
+        /// The next tree of words, a node being so many of them.
+        fn of<'w>(nodes: &mut impl Iterator<Item = &'w [u32]>) -> Self {
             let node = nodes.next().expect("the tree is whole");
-            let children = (0..node.children).map(|_| Self::of(nodes)).collect();
+            let token = Token::of_words(&node[..TOKEN_WORDS]).expect("a node has a token");
+            let children = (0..low(node[TOKEN_WORDS]))
+                .map(|_| Self::of(nodes))
+                .collect();
+            // Before card 2 a closer had its opener's span.
+            let close = node.get(TOKEN_WORDS + 1).map(|close| low(*close));
             Self {
-                token: node.token,
+                token,
+                closer: close.map_or((token.start, token.end), |close| (close, close)),
                 children,
             }
         }
 
-        fn bracket(&self, op: u8) -> Token {
+        fn bracket(&self, op: u8, (start, end): (u32, u32)) -> Token {
             Token {
                 op,
                 variant: 0,
                 value: 0,
-                ..self.token
+                start,
+                end,
             }
         }
 
@@ -195,7 +266,7 @@ mod timed {
                 [only] if self.token.op == 4 => {
                     list.extend(self.token.words());
                     only.write(list);
-                    list.extend(self.bracket(5).words());
+                    list.extend(self.bracket(5, self.closer).words());
                 }
                 [only] => {
                     list.extend(self.token.words());
@@ -213,65 +284,98 @@ mod timed {
             if alone || self.children.is_empty() || self.token.op == 4 {
                 return self.write(list);
             }
-            list.extend(self.bracket(4).words());
+            let span = (self.token.start, self.token.end);
+            list.extend(self.bracket(4, span).words());
             self.write(list);
-            list.extend(self.bracket(5).words());
+            list.extend(self.bracket(5, span).words());
         }
     }
 
-    /// Writing: a tree's words, the same tree of `Vec`s, and the lists.
+    /// A tree's words as one library has them, and the list that it is written into.
+    struct Written {
+        library: Library,
+        tree: Vec<u32>,
+        list: Vec<u32>,
+    }
+
+    impl Written {
+        /// The first list of a workload, read and written; the list is as long as what is written.
+        fn new(library: Library, reading: &mut Reading) -> Self {
+            let Answer::Filled(nodes) = reading.read(library, 0) else {
+                unreachable!("the reading was a tree");
+            };
+            let tree = reading.tree[..library.node_words * nodes].to_vec();
+            let mut list = vec![0; 20_480];
+            let answer = library.write(&tree, &mut list);
+            let Answer::Filled(tokens) = answer else {
+                panic!("{}: {answer:?}", reading.line.name);
+            };
+            list.truncate(5 * tokens);
+            Self {
+                library,
+                tree,
+                list,
+            }
+        }
+
+        /// The tree of `Vec`s of the words.
+        fn built(&self) -> Node {
+            Node::of(&mut black_box(&self.tree).chunks(self.library.node_words))
+        }
+
+        fn write(&mut self) -> Answer {
+            self.library.write(black_box(&self.tree), &mut self.list)
+        }
+    }
+
+    /// Writing: what the libraries write, the same tree of `Vec`s, and the Rust's list.
     struct Writing {
         line: Line,
         /// The Rust's time where it has to build its tree from the words and to drop it.
         with_building: Batches,
-        tree: Vec<u32>,
+        now: Written,
+        before: Option<Written>,
         root: Node,
-        list: Vec<u32>,
         rust_list: Vec<u32>,
     }
 
-    /// The tree of `Vec`s of words that are one tree.
-    fn built(words: &[u32]) -> Node {
-        Node::of(
-            &mut decode_tree(words)
-                .expect("the words are a tree")
-                .into_iter(),
-        )
-    }
-
     impl Writing {
-        fn new(workload: Workload) -> Self {
+        fn new(libraries: Libraries, workload: Workload) -> Self {
             let name = workload.name;
-            let mut reading = Reading::new(workload);
-            let Read::Tree(nodes) = reading.read(0) else {
-                unreachable!("the reading was a tree");
-            };
-            let tree = reading.tree[..6 * nodes].to_vec();
-            let root = built(&tree);
-            let (mut list, mut rust_list) = (vec![0; 20_480], Vec::new());
-            let answer = library::write(&tree, &mut list);
-            let Written::Tokens(tokens) = answer else {
-                panic!("{name}: {answer:?}");
-            };
-            list.truncate(5 * tokens);
-            root.write(&mut rust_list);
-            assert!(list == rust_list, "{name}: two lists");
+            let mut reading = Reading::new(libraries, workload);
+            let now = Written::new(libraries.now, &mut reading);
+            let before = libraries.before;
+            let before = before.map(|before| Written::new(before, &mut reading));
+            for written in [Some(&now), before.as_ref()].into_iter().flatten() {
+                let mut list = Vec::new();
+                written.built().write(&mut list);
+                assert!(list == written.list, "{name}: two lists");
+            }
             Self {
-                line: Line::new(name, tokens),
+                line: Line::new(name, now.list.len() / TOKEN_WORDS),
                 with_building: Batches::default(),
-                tree,
-                root,
-                list,
-                rust_list,
+                root: now.built(),
+                now,
+                before,
+                rust_list: Vec::new(),
             }
         }
 
-        fn round(&mut self) {
+        fn round(&mut self, round: usize) {
             let tokens = self.line.tokens;
             let repeats = BATCH.div_ceil(tokens);
-            self.line.ours.add(repeats, tokens, || {
-                black_box(library::write(black_box(&self.tree), &mut self.list));
-            });
+            for side in sides(round) {
+                let written = match side {
+                    Side::Now => Some(&mut self.now),
+                    Side::Before => self.before.as_mut(),
+                };
+                if let Some(written) = written {
+                    let batches = self.line.side(side);
+                    batches.add(repeats, tokens, || {
+                        black_box(written.write());
+                    });
+                }
+            }
             self.line.rust.add(repeats, tokens, || {
                 self.rust_list.clear();
                 black_box(&self.root).write(&mut self.rust_list);
@@ -279,7 +383,7 @@ mod timed {
             });
             self.with_building.add(repeats.div_ceil(4), tokens, || {
                 self.rust_list.clear();
-                built(black_box(&self.tree)).write(&mut self.rust_list);
+                self.now.built().write(&mut self.rust_list);
                 black_box(&self.rust_list);
             });
         }
@@ -307,21 +411,41 @@ mod timed {
             let (from, to) = (few.ours.least(), many.ours.least());
             let growth = to / from;
             let name = &many.name;
-            println!(
+            print!(
                 "growth of {name:28} {from:6.1} ns at {} tokens, {to:6.1} ns at {}: {growth:.2}",
                 few.tokens, many.tokens
             );
+            if few.before.least().is_finite() {
+                let times = few.beside_before();
+                print!("  times {times:4.2} of before at {} tokens", few.tokens);
+            }
+            println!();
             greatest = greatest.max(growth);
         }
         greatest
     }
 
-    /// The least ratio and the geometric mean.
+    /// The geometric mean.
+    fn mean(ratios: &[f64]) -> f64 {
+        let logarithms: f64 = ratios.iter().map(|ratio| ratio.ln()).sum();
+        (logarithms / ratios.len() as f64).exp()
+    }
+
+    /// The least ratio to the Rust and the mean.
     fn ratios<'l>(lines: impl Iterator<Item = &'l Line>) -> (f64, f64) {
         let ratios: Vec<f64> = lines.map(Line::ratio).collect();
         let least = ratios.iter().copied().fold(f64::INFINITY, f64::min);
-        let logarithms: f64 = ratios.iter().map(|ratio| ratio.ln()).sum();
-        (least, (logarithms / ratios.len() as f64).exp())
+        (least, mean(&ratios))
+    }
+
+    /// Says by how much the workloads take longer than in the library before.
+    fn print_beside<'l>(what: &str, lines: impl Iterator<Item = &'l Line>) {
+        let times: Vec<f64> = lines.map(Line::beside_before).collect();
+        let greatest = times.iter().copied().fold(0.0, f64::max);
+        let (count, mean) = (times.len(), mean(&times));
+        println!(
+            "{what} beside the library before, {count} workloads: greatest {greatest:.2}, mean {mean:.2}"
+        );
     }
 
     /// All workloads, and the same of few tokens where the growth is measured.
@@ -335,11 +459,19 @@ mod timed {
 
     impl Timed {
         fn new() -> Self {
-            let read = |workloads: Vec<Workload>| workloads.into_iter().map(Reading::new).collect();
+            let libraries = Libraries {
+                now: Library::now(),
+                before: Library::before(),
+            };
+            let read = |workloads: Vec<Workload>| {
+                let read = workloads.into_iter();
+                read.map(|workload| Reading::new(libraries, workload))
+                    .collect()
+            };
             let write = |len| {
-                workloads::plain(len)
-                    .into_iter()
-                    .map(Writing::new)
+                let written = workloads::plain(len).into_iter();
+                written
+                    .map(|workload| Writing::new(libraries, workload))
                     .collect()
             };
             Self {
@@ -351,11 +483,12 @@ mod timed {
             }
         }
 
-        fn round(&mut self) {
+        fn round(&mut self, round: usize) {
             let readings = self.short.iter_mut().chain(&mut self.many);
-            readings.chain(&mut self.few).for_each(Reading::round);
+            let readings = readings.chain(&mut self.few);
+            readings.for_each(|reading| reading.round(round));
             let writings = self.written.iter_mut().chain(&mut self.written_few);
-            writings.for_each(Writing::round);
+            writings.for_each(|writing| writing.round(round));
         }
 
         fn read(&self) -> impl Iterator<Item = &Line> {
@@ -391,6 +524,18 @@ mod timed {
             );
         }
 
+        /// All lists that are read, of few tokens too.
+        fn all_read(&self) -> impl Iterator<Item = &Line> {
+            self.read().chain(self.few.iter().map(|few| &few.line))
+        }
+
+        fn print_beside_before(&self) {
+            if Library::before().is_some() {
+                print_beside("reading", self.all_read());
+                print_beside("writing", self.writings().map(|writing| &writing.line));
+            }
+        }
+
         fn print_noise(&self) {
             let lines = self
                 .read()
@@ -403,12 +548,13 @@ mod timed {
 
     pub fn all(rounds: usize) {
         let mut timed = Timed::new();
-        for _ in 0..rounds {
-            timed.round();
+        for round in 0..rounds {
+            timed.round(round);
         }
         let greatest = timed.print_reading();
         timed.print_writing();
         timed.print_noise();
+        timed.print_beside_before();
         let (least, mean) = ratios(timed.read());
         if oracle::COMPARED {
             println!("least ratio {least:.2}, mean ratio {mean:.2}, greatest growth {greatest:.2}");

@@ -116,6 +116,10 @@ mod run {
         part("generated lists of up to 300 tokens", long)?;
         let longest = &mut generated(2, 4_096).take(lists / 5_000);
         part("generated lists of up to 4,096 tokens", longest)?;
+        let brackets = &mut calls::bracketed(seed, 16).take(lists);
+        part("lists of brackets of about 16 tokens", brackets)?;
+        let brackets = &mut calls::bracketed(seed + 1, 300).take(lists / 100);
+        part("lists of brackets of about 300 tokens", brackets)?;
         let eights = &mut calls::over_eights(5);
         part(
             "every list of up to 5 over three alphabets of 8, at 4, 5 and 6",

@@ -37,7 +37,7 @@ table list sizes used =
     let n = length list / 5 in
     let words = wordsRefusal 0 operatorField 0 list in
     let lent =
-    must (leb (18 * n) (sizes .tree)) (row 3 0)
+    must (leb (21 * n) (sizes .tree)) (row 3 0)
     ∷ must (leb 16 (sizes .messages)) (row 4 0)
     ∷ must (leb (64 * n + 64) (sizes .work)) (row 5 0)
     ∷ must (ltb (used .high * 2 ^ 64 + used .low) (2 ^ 111)) (row 6 0)
@@ -178,7 +178,7 @@ module _ (list : List ℕ) where
 pub record Readable (c : Call) (n : ℕ) : Type 0 where
   pub words : length (c .list) ≡ 5 * n
   pub tokens : n ≤ 4096
-  pub tree : 18 * n ≤ length (c .tree)
+  pub tree : 21 * n ≤ length (c .tree)
   pub messages : 16 ≤ length (c .messages)
   pub work : 64 * n + 64 ≤ length (c .work)
   pub used : c .usedHigh * 2 ^ 64 + c .usedLow < 2 ^ 111

@@ -51,7 +51,7 @@ lengthRefusal words = firstOf (must (eqb (words % 5) 0) (row 1 0) ∷ must (leb 
 unfoldable pub lentRefusal : ℕ → Sizes → OpSet → Option Refusal
 lentRefusal tokens sizes used =
     firstOf
-    (must (leb (18 * tokens) (sizes .tree)) (row 3 0)
+    (must (leb (21 * tokens) (sizes .tree)) (row 3 0)
     ∷ must (leb 16 (sizes .messages)) (row 4 0)
     ∷ must (leb (64 * tokens + 64) (sizes .work)) (row 5 0)
     ∷ must (ltb (used .high * 2 ^ 64 + used .low) (2 ^ 111)) (row 6 0)

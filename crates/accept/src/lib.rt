@@ -14,7 +14,7 @@ ghost use Rattle.molang.specs.Words.{operatorField, wordsRefusal};
 ghost use Rattle.accept.specs.Accepting.{verdictOf, verdict, callOf, lengthRefusal, lentRefusal};
 
 // Words of the tree buffer per token, and of the work buffer per token and once more.
-pub const TREE_WORDS: usize = 18;
+pub const TREE_WORDS: usize = 21;
 
 pub const WORK_WORDS: usize = 64;
 

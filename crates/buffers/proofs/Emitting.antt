@@ -7,16 +7,17 @@ use mathlib.Core.List.{List, [], _∷_, _++_, append-assoc, append-nil}
 use native.Mathlib.Omega.{arith}
 use lib.ListN.{length, set, length-set, length-append}
 use Rattle.molang.specs.Forest.{Forest, nil, node, count, size}
-use Rattle.molang.specs.Words.{word, tokenWords, treeWords}
+use Rattle.molang.specs.Words.{nodeWordsOf, treeWords}
 use Rattle.molang.proofs.Trees.{count-size}
-use Rattle.words.specs.Tokens.{tokenWordsAt, nodeLength, nodeWords}
-use Rattle.nodes.specs.Store.{wd, slotStart, slotEnd, firstWord, nextWord, firstAt, nextAt, TokenAt, Chain, Seg, SegB}
+use Rattle.words.specs.Tokens.{nodeLength, nodeWords}
+use Rattle.nodes.specs.Store.{wd, slotStart, slotEnd, firstWord, nextWord, closeWordAt, firstAt, nextAt, TokenAt, Chain, Seg, SegB}
+use Rattle.nodes.specs.Stored.{storedAt, tokenOfStored}
 use Rattle.nodes.proofs.Runs.{wd-same, wd-other, seg-keep, segB-keep}
 use Rattle.nodes.proofs.Tokens.{token-keep}
 use Rattle.nodes.proofs.Store.{rep-count}
 use Rattle.buffers.specs.Emit.{Linked, CanEmitNode, NodeEmitted, Stepped, over, finish, back, down, waits, CanEmit, Emitted}
 use Rattle.buffers.proofs.Runs.{seg-append}
-use Rattle.buffers.proofs.NodeWords.{headWords, token-words, head-long}
+use Rattle.buffers.proofs.NodeWords.{node-words, node-long}
 use Rattle.buffers.proofs.Linking.{linked-nil, linked-unique, linked-none, linked-open, linked-chain, linked-follow}
 
 -- ---- trees that are left
@@ -56,8 +57,8 @@ wait-few : {W : List ℕ} {hi : ℕ} {ws : List ℕ} {fs : List Forest} → Wait
 wait-few nobody = omega arith
 wait-few (waiting {f = f} n v r) = let few = wait-few r in let some = some-size f v n in omega arith
 
-node-first : (done tw A B P : List ℕ) (c : ℕ) → done ++ ((tw ++ (c ∷ (A ++ B))) ++ P) ≡ (done ++ (tw ++ (c ∷ []))) ++ (A ++ (B ++ P))
-node-first done tw A B P c = simp append-assoc
+node-first : (done own A B P : List ℕ) → done ++ ((own ++ (A ++ B)) ++ P) ≡ (done ++ own) ++ (A ++ (B ++ P))
+node-first done own A B P = simp append-assoc
 
 module _ (W : List ℕ) (first to stack : ℕ) (p : CanEmit W first to stack) where
   -- So many of the nodes are written, and the lists gs are left; the count is enough for them.
@@ -179,10 +180,11 @@ module _ (W : List ℕ) (first to stack : ℕ) (p : CanEmit W first to stack) wh
       let small : count cs < 2 ^ 14 = omega (arith, count-size cs) in
       let token : TokenAt Z s k = token-keep W Z s (λ i h. slots-same g (slotStart s + i) (omega arith)) (o .token) in
       let end : to + length (g .done) ≡ to + nodeLength * nodes = omega (arith, g .count) in
-      let six : Seg Z' (to + nodeLength * nodes) (headWords k (count cs))
+      let own : Seg Z' (to + nodeLength * nodes) (nodeWordsOf k (count cs))
       =
       subst (λ (l : List ℕ). Seg Z' (to + nodeLength * nodes) l)
-      (ap (nodeWords (tokenWordsAt Z (slotStart s))) number ∙ token-words Z s k (count cs) token small) (x .words (kids .bs) chain) in
+      (ap (λ (n : ℕ). nodeWords (tokenOfStored (storedAt Z (slotStart s))) n (closeWordAt Z s)) number
+      ∙ node-words Z s k (count cs) token small) (x .words (kids .bs) chain) in
       let same : (j : ℕ) → j < stack → wd Z' j ≡ wd W j = λ j h. x .same j (inl (omega arith)) ∙ g .same j h in
       let older : Seg Z' to (g .done) = seg-keep Z Z' to (g .done) (λ j a b. x .same j (inl (omega (arith, g .count)))) (g .written) in
       record {
@@ -191,10 +193,10 @@ module _ (W : List ℕ) (first to stack : ℕ) (p : CanEmit W first to stack) wh
         children = rw (same (firstWord s) (omega arith)) kids;
         after = rw (same (nextWord s) (omega arith)) (o .after);
         progress = record {
-          done = g .done ++ (headWords k (count cs));
-          written = seg-append Z' to (g .done) (headWords k (count cs)) older (rw end six);
-          count = omega (arith, g .count, length-append (g .done) (headWords k (count cs)), head-long k (count cs));
-          words = g .words ∙ node-first (g .done) (tokenWords k) (treeWords cs) (treeWords rest) (allWords fs) (word 6 (count cs));
+          done = g .done ++ nodeWordsOf k (count cs);
+          written = seg-append Z' to (g .done) (nodeWordsOf k (count cs)) older (rw end own);
+          count = omega (arith, g .count, length-append (g .done) (nodeWordsOf k (count cs)), node-long k (count cs));
+          words = g .words ∙ node-first (g .done) (nodeWordsOf k (count cs)) (treeWords cs) (treeWords rest) (allWords fs);
           whole = omega arith;
           fueled = omega (arith, g .fueled);
           same = same;

@@ -1,27 +1,28 @@
 -- Loading: what one token's stores leave, the loop over the tokens, and THE LOADED LIST (`load-done`): leaves in three slots each are the
 -- forest of the list's tokens, since a list without fault is the words of its tokens.
-use Prim.Native.Nat.{ℕ, zero, suc, _+_, _*_, _≤_, _<_}
-use mathlib.Core.Path.{_≡_, refl, sym, ap, _∙_}
+use Prim.Native.Nat.{ℕ, zero, suc, _+_, _*_, _/_, _%_, _^_, _≤_, _<_}
+use mathlib.Core.Path.{_≡_, refl, sym, ap, ap₂, _∙_}
 use mathlib.Core.Logic.{_≢_, _⊎_, inl, inr}
 use mathlib.Core.Bool.{_||_}
-use mathlib.Core.List.{List, [], _∷_}
+use mathlib.Core.List.{List, [], _∷_, _++_}
 use native.Mathlib.Omega.{arith}
 use native.Mathlib.Nat.{add-zero, le-refl}
 use borrow.Author.Count.{below-more}
 use lib.ListN.{length, getD, drop, set, length-set}
 use lib.Seq.{getD-drop, drop-drop}
 use Rattle.molang.specs.Forest.{Token, nil, leaves}
-use Rattle.molang.specs.Words.{tokenWords, tokensOf, listWords}
-use Rattle.molang.proofs.Words.{LegalTokens, noTokens, token, words-back}
+use Rattle.molang.specs.Words.{word, lowOf, tokenWords, tokensOf, listWords}
+use Rattle.molang.proofs.Words.{LegalTokens, noTokens, token, AtEnds, words-back, tokens-end}
 use Rattle.molang.proofs.ListWords.{listWords-length}
-use Rattle.words.specs.Fields.{operatorOf}
+use Rattle.words.specs.Fields.{operatorOf, halfOf, valueOf}
 use Rattle.ops.specs.Classes.{bitAt, inClass, classTable, entryOf, ownWord}
 use Rattle.ops.proofs.ClassLaws.{leaf-bits}
-use Rattle.words.specs.Tokens.{tokenWordsAt, fiveWords}
+use Rattle.words.specs.Tokens.{tokenWordsAt}
 use Rattle.nodes.specs.Store.{wd, slotWords, slotStart, slotEnd, firstWord, classesWord, classesAt, TokenAt, Seg, RepF, ends, InArray}
+use Rattle.nodes.specs.Stored.{storedOf}
 use Rattle.nodes.specs.Slots.{Laid}
 use Rattle.nodes.proofs.Runs.{wd-same, wd-other}
-use Rattle.nodes.proofs.Tokens.{token-op}
+use Rattle.nodes.proofs.Tokens.{token-of-words, token-op}
 use Rattle.nodes.proofs.Classes.{notes-leaf}
 use Rattle.nodes.proofs.Store.{reserve-most, tree-more}
 use Rattle.nodes.proofs.Trees.{leaf-tree}
@@ -29,25 +30,16 @@ use Rattle.buffers.specs.Load.{tokenSlots, LeafAt, CanLoadToken, TokenLo
 
 -- ---- one token
 
--- The words of token i, in the list's order.
-five-words : (list : List ℕ) (at o : ℕ) → o < 5 → getD (fiveWords (tokenWordsAt list at)) o 0 ≡ wd list (at + o)
-five-words list at zero h = rw add-zero
-five-words list at (suc zero) h = refl
-five-words list at (suc (suc zero)) h = refl
-five-words list at (suc (suc (suc zero))) h = refl
-five-words list at (suc (suc (suc (suc zero)))) h = refl
-five-words list at (suc (suc (suc (suc (suc o))))) h = absurd (omega arith)
-
 module _ (list W table : List ℕ) (i stack : ℕ) (p : CanLoadToken list W table i stack) where
   -- The token's words laid down at its slot, and the slot put on the stack.
   pub token-stores : (W1 : List ℕ) (slot n op : ℕ) → slot ≡ 3 * i + 3
-      → Laid W slot (tokenWordsAt list (5 * i)) n W1
+      → Laid W slot (storedOf (tokenWordsAt list (5 * i))) n W1
       → op ≡ operatorOf (wd list (5 * i)) → ((c : ℕ) → bitAt n c ≡ (bitAt (entryOf table op) c || bitAt (ownWord op) c))
       → TokenLoaded list W i stack (set W1 (stack + i) slot)
   token-stores W1 slot n op e v eo noted =
       let bits : (c : ℕ) → bitAt n c ≡ inClass c op = λ c. noted c ∙ rw (p .classes) (leaf-bits op c) in
       let s = 3 * i + 3 in
-      let u : Laid W s (tokenWordsAt list (5 * i)) n W1 = rw e at v in
+      let u : Laid W s (storedOf (tokenWordsAt list (5 * i))) n W1 = rw e at v in
       let W2 = set W1 (stack + i) slot in
       let below = p .below in
       let other : (j : ℕ) → j ≢ stack + i → wd W2 j ≡ wd W1 j = λ j h. wd-other W1 (stack + i) slot j h in
@@ -56,7 +48,7 @@ module _ (list W table : List ℕ) (i stack : ℕ) (p : CanLoadToken list W tabl
       let mark : classesAt W2 s ≡ n = other (classesWord s) (omega arith) ∙ u .classes in
       record {
         leaf = record {
-          words = λ o h. other (slotStart s + o) (omega arith) ∙ u .words o h ∙ five-words list (5 * i) o h;
+          words = λ o h. other (slotStart s + o) (omega arith) ∙ u .words o h;
           first = other (firstWord s) (omega arith) ∙ u .first;
           classes = λ c. ap (λ (w : ℕ). bitAt w c) mark ∙ bits c ∙ ap (λ (o : ℕ). inClass c o) eo;
         };
@@ -139,21 +131,30 @@ unfolding tokenSlots
 slots-length i zero = refl
 slots-length i (suc n) = ap suc (slots-length (suc i) n)
 
--- A leaf at its slot is the token k where the list's words from there on begin with those of k.
+-- The words of a value's two halves give it back, and a token of a list closes at its end.
+halves-back : (v : ℕ) → v < 2 ^ 32 → valueOf (word 4 (v / 2 ^ 16)) (word 5 (v % 2 ^ 16)) ≡ v
+unfolding valueOf halfOf lowOf word
+halves-back v h = omega arith
+
+end-back : (e c : ℕ) → e < 2 ^ 29 → c ≡ e → word 7 (lowOf (word 3 e)) ≡ word 7 c
+unfolding lowOf word
+end-back e c h same = omega arith
+
+-- A leaf at its slot is the token k where the list's words from there on begin with those of k, and k closes at its end.
 leaf-token : (list W : List ℕ) (i : ℕ) (k : Token) (ks : List Token) → drop (5 * i) list ≡ listWords (k ∷ ks) → LegalTokens (k ∷ ks)
-    → LeafAt list W i
+    → k .close ≡ k .end → LeafAt list W i
     → TokenAt W (3 * i + 3) k
 unfolding listWords tokenWords
-leaf-token list W i k ks e (token legal later) v =
-    record { words = λ o h. v .words o h ∙ sym (getD-drop (5 * i) list o 0) ∙ first-five o h; legal = legal }
-  where
-    first-five : (o : ℕ) → o < 5 → getD (drop (5 * i) list) o 0 ≡ getD (tokenWords k) o 0
-    first-five zero h = rw e refl
-    first-five (suc zero) h = rw e refl
-    first-five (suc (suc zero)) h = rw e refl
-    first-five (suc (suc (suc zero))) h = rw e refl
-    first-five (suc (suc (suc (suc zero)))) h = rw e refl
-    first-five (suc (suc (suc (suc (suc o))))) h = absurd (omega arith)
+leaf-token list W i k ks e (token legal later) close v =
+    let here : (o : ℕ) → wd list (5 * i + o) ≡ getD (tokenWords k ++ listWords ks) o 0
+    = λ o. sym (getD-drop (5 * i) list o 0) ∙ ap (λ (l : List ℕ). getD l o 0) e in
+    token-of-words
+    (rw add-zero at (v .words 0 (omega arith)) ∙ rw add-zero at (here 0))
+    (v .words 1 (omega arith) ∙ here 1)
+    (v .words 2 (omega arith) ∙ here 2)
+    (v .words 3 (omega arith) ∙ ap₂ valueOf (here 3) (here 4) ∙ halves-back (k .value) (legal .value))
+    (v .words 4 (omega arith) ∙ ap (λ (w : ℕ). word 7 (lowOf w)) (here 2) ∙ end-back (k .end) (k .close) (legal .end) close)
+    legal
 
 drop-token : (list : List ℕ) (i : ℕ) (k : Token) (ks : List Token) → drop (5 * i) list ≡ listWords (k ∷ ks)
     → drop (5 * suc i) list ≡ listWords ks
@@ -162,29 +163,29 @@ drop-token list i k ks e =
     let g : 5 * suc i ≡ 5 * i + 5 = omega arith in
     rw g (sym (drop-drop 5 (5 * i) list) ∙ ap (λ (l : List ℕ). drop 5 l) e)
 
-tokens-rep : (list W : List ℕ) (i : ℕ) (ks : List Token) → drop (5 * i) list ≡ listWords ks → LegalTokens ks
+tokens-rep : (list W : List ℕ) (i : ℕ) (ks : List Token) → drop (5 * i) list ≡ listWords ks → LegalTokens ks → AtEnds ks
     → ((j : ℕ) → j < i + length ks → LeafAt list W j)
     → RepF W (0 ∷ []) (tokenSlots i (length ks)) (3 * i + 3) (3 * (i + length ks) + 3) (leaves ks)
 unfolding tokenSlots leaves
-tokens-rep list W i [] e noTokens h = let g : 3 * i + 3 ≤ 3 * (i + 0) + 3 = omega arith in ends g
-tokens-rep list W i (k ∷ ks) e (token legal later) h =
+tokens-rep list W i [] e noTokens closes h = let g : 3 * i + 3 ≤ 3 * (i + 0) + 3 = omega arith in ends g
+tokens-rep list W i (k ∷ ks) e (token legal later) closes h =
     let b = 3 * i + 3 in
     let v = h i (omega arith) in
-    let t = leaf-token list W i k ks e (token legal later) v in
+    let t = leaf-token list W i k ks e (token legal later) (closes .0) v in
     let most = reserve-most k nil in
     let op : operatorOf (wd list (5 * i)) ≡ k .op
-    = ap operatorOf (sym (rw (add-zero (slotStart b), add-zero (5 * i)) at (v .words 0 (omega arith)))) ∙ token-op t in
+    = ap operatorOf (sym (rw (add-zero (slotStart b)) at (v .words 0 (omega arith)))) ∙ token-op t in
     let leaf = leaf-tree {W = W} {X = 0 ∷ []} {b = b} {l = b} {m = 3 * suc i + 3} {t = k} (le-refl b) (omega arith) (omega arith) (λ s x y. (omega arith, tt)) t
     (notes-leaf (λ c x. v .classes c ∙ ap (λ (o : ℕ). inClass c o) op)) (v .first) in
     let g : 3 * (i + suc (length ks)) + 3 ≡ 3 * (suc i + length ks) + 3 = omega arith in
-    rw g (tree-more (le-refl b) leaf (tokens-rep list W (suc i) ks (drop-token list i k ks e) later (λ j x. h j (omega arith))))
+    rw g (tree-more (le-refl b) leaf (tokens-rep list W (suc i) ks (drop-token list i k ks e) later (closes .1) (λ j x. h j (omega arith))))
 
 pub load-done : {list W : List ℕ} {n : ℕ} {Z : List ℕ} {i : ℕ} → CanLoad list W n → LoadAt list W n Z i → n ≤ i → Loaded list W n Z
 load-done {list} {W} {n} {Z} {i} p v h =
     let ks = tokensOf list in
     let whole = words-back 0 0 list (p .faultless) (omega (arith, p .tokens)) in
     let count : length ks ≡ n = omega (arith, listWords-length ks, ap length (whole .0), p .tokens) in
-    let rep = tokens-rep list Z 0 ks (sym (whole .0)) (whole .1) (λ j x. v .leaf j (omega arith)) in
+    let rep = tokens-rep list Z 0 ks (sym (whole .0)) (whole .1) (tokens-end list) (λ j x. v .leaf j (omega arith)) in
     let here : RepF Z (0 ∷ []) (tokenSlots 0 (length ks)) 3 (3 * (0 + length ks) + 3) (leaves ks) = rep in
     let z : 0 + length ks ≡ n = omega arith in
     record {

@@ -1,25 +1,26 @@
--- The six words of a node: that they stand where `emit_node` laid them, and that they are those of its token and its child count.
+-- The seven words of a node: that they stand where `emit_node` laid them, and that they are the definition's, by its token and its child
+-- count.
 use Prim.Native.Nat.{ℕ, _%_, _^_, _<_}
 use mathlib.Core.Path.{_≡_, refl, ap}
-use mathlib.Core.List.{List, [], _∷_, _++_}
+use mathlib.Core.List.{List}
 use native.Mathlib.Omega.{arith}
 use lib.ListN.{length}
 use Rattle.molang.specs.Forest.{Token}
-use Rattle.molang.specs.Words.{word, tokenWords}
+use Rattle.molang.specs.Words.{tokenWords, nodeWordsOf}
 use Rattle.words.specs.Records.{laidAt}
-use Rattle.words.specs.Tokens.{tokenWordsAt, nodeLength, nodeWords}
+use Rattle.words.specs.Tokens.{nodeLength, nodeWords}
 use Rattle.words.proofs.LaidLaws.{laid-long, laid-in, laid-out}
-use Rattle.nodes.specs.Store.{slotStart, firstAt, TokenAt, Seg}
+use Rattle.nodes.specs.Store.{slotStart, closeWordAt, firstAt, TokenAt, Seg}
+use Rattle.nodes.specs.Stored.{storedAt, tokenOfStored}
 use Rattle.nodes.specs.Children.{Counted}
-use Rattle.nodes.proofs.Tokens.{operator-word, start-word, end-word, upper-word, lower-word}
+use Rattle.nodes.proofs.Tokens.{operator-word, start-word, end-word, value-word, close-word}
 use Rattle.buffers.specs.Emit.{CanEmitNode, NodeEmitted}
 use Rattle.buffers.proofs.Runs.{seg-of-words}
 
 pub node-emitted : (W W' : List ℕ) (s at n : ℕ) → CanEmitNode W s at → Counted W (firstAt W s) n
-    → W' ≡ laidAt at (nodeWords (tokenWordsAt W (slotStart s)) n) W → NodeEmitted W s at W'
+    → W' ≡ laidAt at (nodeWords (tokenOfStored (storedAt W (slotStart s))) n (closeWordAt W s)) W → NodeEmitted W s at W'
 node-emitted W W' s at n p counted e =
-    let k = tokenWordsAt W (slotStart s) in
-    let ws = nodeWords k n in
+    let ws = nodeWords (tokenOfStored (storedAt W (slotStart s))) n (closeWordAt W s) in
     let here : Seg W' at ws = rw e (seg-of-words (laidAt at ws W) at ws (laid-in ws W at (p .room))) in
     record {
       words = λ cs ch. rw (counted .count cs ch) at here;
@@ -27,18 +28,14 @@ node-emitted W W' s at n p counted e =
       long = rw e (laid-long ws W at (p .room));
     }
 
--- The words of a node of the token k with n children, as `treeWords` of the definition has them.
-abbrev pub headWords : Token → ℕ → List ℕ
-headWords k n = tokenWords k ++ (word 6 n ∷ [])
-
--- For a slot that holds the token k they are these.
-pub token-words : (W : List ℕ) (s : ℕ) (k : Token) (n : ℕ) → TokenAt W s k → n < 2 ^ 14
-    → nodeWords (tokenWordsAt W (slotStart s)) n ≡ headWords k n
-unfolding tokenWords
-token-words W s k n t few =
+-- For a slot that holds the token k they are the definition's.
+pub node-words : (W : List ℕ) (s : ℕ) (k : Token) (n : ℕ) → TokenAt W s k → n < 2 ^ 14
+    → nodeWords (tokenOfStored (storedAt W (slotStart s))) n (closeWordAt W s) ≡ nodeWordsOf k n
+unfolding nodeWordsOf tokenWords
+node-words W s k n t few =
     let small : n % 2 ^ 14 ≡ n = omega arith in
-    rw (operator-word t, start-word t, end-word t, upper-word t, lower-word t, small) refl
+    rw (operator-word t, start-word t, end-word t, value-word t, close-word t, small) refl
 
-pub head-long : (k : Token) (n : ℕ) → length (headWords k n) ≡ nodeLength
-unfolding tokenWords
-head-long k n = refl
+pub node-long : (k : Token) (n : ℕ) → length (nodeWordsOf k n) ≡ nodeLength
+unfolding nodeWordsOf tokenWords
+node-long k n = refl

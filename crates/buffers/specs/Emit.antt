@@ -8,8 +8,9 @@ use lib.ListN.{length, set}
 use Rattle.molang.specs.Forest.{Forest, size}
 use Rattle.molang.specs.Words.{treeWords}
 use Rattle.molang.specs.Parse.{mostTokens, inFront}
-use Rattle.words.specs.Tokens.{tokenWordsAt, nodeLength, nodeWords}
-use Rattle.nodes.specs.Store.{wd, slotStart, slotEnd, firstAt, nextAt, Chain, Seg, RepF}
+use Rattle.words.specs.Tokens.{nodeLength, nodeWords}
+use Rattle.nodes.specs.Store.{wd, slotStart, slotEnd, closeWordAt, firstAt, nextAt, Chain, Seg, RepF}
+use Rattle.nodes.specs.Stored.{storedAt, tokenOfStored}
 use Rattle.nodes.specs.Children.{CanFollow}
 
 -- The trees of f are linked from the slot `first` on, below the slot hi.
@@ -30,7 +31,8 @@ pub record CanEmitNode (W : List ℕ) (s at : ℕ) : Type 0 where
 
 -- The node's words stand from `at` on; all other words are as they were.
 pub record NodeEmitted (W : List ℕ) (s at : ℕ) (W' : List ℕ) : Type 0 where
-  pub words : (cs : List ℕ) → Chain W (firstAt W s) cs → Seg W' at (nodeWords (tokenWordsAt W (slotStart s)) (length cs))
+  pub words : (cs : List ℕ) → Chain W (firstAt W s) cs
+      → Seg W' at (nodeWords (tokenOfStored (storedAt W (slotStart s))) (length cs) (closeWordAt W s))
   pub same : (j : ℕ) → (j < at) ⊎ (at + nodeLength ≤ j) → wd W' j ≡ wd W j
   pub long : length W' ≡ length W
 
@@ -74,7 +76,7 @@ pub record CanLayOut (W buffer : List ℕ) (root n : ℕ) : Type 0 where
   pub nodes : size trees ≤ 3 * n
   pub few : n ≤ mostTokens
   pub work-room : 64 * n + 64 ≤ length W
-  pub tree-room : 18 * n ≤ length buffer
+  pub tree-room : 21 * n ≤ length buffer
 
 -- The trees' words are the front of the tree buffer; the slots are as they were. The words above them, where the trees were laid out, are
 -- left free.

@@ -5,22 +5,24 @@ use mathlib.Core.Path.{_≡_}
 use mathlib.Core.Logic.{_≢_, _⊎_}
 use mathlib.Core.List.{List, [], _∷_}
 use mathlib.Core.Option.{none}
-use lib.ListN.{length}
+use lib.ListN.{length, getD}
 use Rattle.molang.specs.Forest.{leaves}
 use Rattle.molang.specs.Words.{tokensOf, operatorField, wordsRefusal}
 use Rattle.molang.specs.Parse.{mostTokens}
 use Rattle.words.specs.Fields.{operatorOf}
+use Rattle.words.specs.Tokens.{tokenWordsAt}
 use Rattle.ops.specs.Classes.{bitAt, inClass, classTable}
 use Rattle.nodes.specs.Store.{wd, slotStart, firstAt, classesAt, Seg, RepF}
+use Rattle.nodes.specs.Stored.{storedOf, storedList}
 
 -- The slots of n tokens, from token i on.
 unfoldable pub tokenSlots : ℕ → ℕ → List ℕ
 tokenSlots i zero = []
 tokenSlots i (suc n) = (3 * i + 3) ∷ tokenSlots (suc i) n
 
--- Token i of the list stands at its slot, without children, and notes the classes of its operator.
+-- Token i of the list stands at its slot, in the words of the store, without children, and notes the classes of its operator.
 pub record LeafAt (list W : List ℕ) (i : ℕ) : Type 0 where
-  pub words : (o : ℕ) → o < 5 → wd W (slotStart (3 * i + 3) + o) ≡ wd list (5 * i + o)
+  pub words : (o : ℕ) → o < 5 → wd W (slotStart (3 * i + 3) + o) ≡ getD (storedList (storedOf (tokenWordsAt list (5 * i)))) o 0
   pub first : firstAt W (3 * i + 3) ≡ 0
   pub classes : (c : ℕ) → bitAt (classesAt W (3 * i + 3)) c ≡ inClass c (operatorOf (wd list (5 * i)))
 

@@ -16,14 +16,14 @@ pub struct After {
     pub top: usize,
 }
 
-// Writes the six words of the node at slot s to the words from `at` on.
+// Writes the seven words of the node at slot s to the words from `at` on.
 fn emit_node(work: &mut [u32], s: u32, at: usize)
     requires { ⌜ CanEmitNode (now work) s at ⌝ }
     ensures { λ _. ⌜ NodeEmitted (now (work .entry)) s at (now (work .exit)) ⌝ }
 {
     let token = slots::token_of(work, s);
     let children = children::count_chain(work, slots::first_of(work, s));
-    token.lay_node(work, at, children);
+    token.token().lay_node(work, at, children, token.close);
 }
 
 // The node after slot s in preorder: its first child, and its next sibling waits; or its next sibling; or the last one that

@@ -1,6 +1,7 @@
 // Loading: the tokens of a checked list become leaves of the node store, and their slots the flat list on the stack.
 // Leans on nodes, and on ops (the class table).
 use nodes::slots;
+use nodes::stored::StoredWords;
 use ops::classes::class_table;
 use ops::classes::leaf_classes;
 use words::fields;
@@ -15,7 +16,7 @@ fn load_token(list: &[u32], work: &mut [u32], table: &[u32; 111], i: usize, stac
     let slot = slots::slot_of(i as u32);
     let token = TokenWords::at(list, fields::TOKEN_WORDS * i);
     let classes = leaf_classes(table, fields::operator(token.operator));
-    slots::set_leaf(work, slot, token, classes);
+    slots::set_leaf(work, slot, StoredWords::of(token), classes);
     work[stack + i] = slot;
 }
 

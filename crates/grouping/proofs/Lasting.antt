@@ -58,7 +58,7 @@ begun-full κ f g h e = pass-full κ f g h (pass-begins κ f ∙ e)
 
 renamed-back : (q : Token) → q .op ≡ array → renamed array (renamed arrayVariable q) ≡ q
 unfolding renamed
-renamed-back q e = λ i. record { op = sym e i; variant = q .variant; value = q .value; start = q .start; end = q .end }
+renamed-back q e = λ i. record { op = sym e i; variant = q .variant; value = q .value; start = q .start; end = q .end; close = q .close }
 
 lent-step : (q k : Token) (cs : Forest) → isIndex k ≡ true
     → arrayStep (named nil q) k cs ≡ arrayStep (indexed nil (renamed array q) nil) k cs

@@ -24,7 +24,7 @@ ghost use Prim.Native.Nat.{_^_, _≤_, _<_};
 ghost use lib.ListN.{length};
 
 // The words of a tree and of a work buffer for 4,097 tokens.
-const TREE_WORDS: usize = 73_746;
+const TREE_WORDS: usize = 86_037;
 
 const WORK_WORDS: usize = 262_272;
 
@@ -65,10 +65,10 @@ fn read_in(
     answers: &[u32],
 ) -> Verdict
     requires { ⌜ (words ≤ length (now list)) × (words ≤ 20485) × (length (now answers) ≤ 1002) ⌝ }
-    requires { ⌜ (73746 ≤ length (now tree)) × (262272 ≤ length (now work)) ⌝ }
+    requires { ⌜ (86037 ≤ length (now tree)) × (262272 ≤ length (now work)) ⌝ }
 {
     let n = words / fields::TOKEN_WORDS;
-    let nodes = 18 * n;
+    let nodes = 21 * n;
     let slots = 64 * n + 64;
     read_with(
         &list[..words],

@@ -5,79 +5,71 @@ use molang::lines::ANY;
 use molang::lines::LIST;
 use molang::lines::REPEATED;
 use words::fields;
+use words::tokens::TokenWords;
 ghost use Prim.Native.Nat.{_+_, _*_, _≤_};
 ghost use lib.ListN.{length};
 
 // Words for 4,097 tokens, which are one more than the entry reads.
 pub const WORDS: usize = 20_485;
 
-// A token of payload 0.
-struct Token {
-    op: u32,
-    start: u32,
-    end: u32,
+// Numbers from here on are nodes that are closed sections.
+const CLOSED: u32 = 100_000_000;
+
+// The words of a token of payload 0.
+fn token(op: u32, start: u32, end: u32) -> TokenWords {
+    TokenWords {
+        operator: fields::operator_word(op),
+        start: fields::start_word(start),
+        end: fields::end_word(end),
+        upper: fields::upper_word(0),
+        lower: fields::lower_word(0),
+    }
 }
 
 // The i-th token of a list that is answered (op_ss_ee), of one that is repeated (at the span 0 to 0), or of operators (at the span i to i +
 // 1).
-fn token_of(mark: u32, items: &[u32], i: usize) -> Token
+fn token_of(mark: u32, items: &[u32], i: usize) -> TokenWords
     requires { ⌜ i ≤ 4096 ⌝ }
 {
     match mark {
         LIST => {
             let item = at(items, i);
-            Token {
-                op: item / 10_000,
-                start: item / 100 % 100,
-                end: item % 100,
-            }
+            token(item / 10_000, item / 100 % 100, item % 100)
         }
-        REPEATED => Token {
-            op: at(items, 1),
-            start: 0,
-            end: 0,
-        },
-        _ => Token {
-            op: at(items, i),
-            start: i as u32,
-            end: i as u32 + 1,
-        },
+        REPEATED => token(at(items, 1), 0, 0),
+        _ => token(at(items, i), i as u32, i as u32 + 1),
     }
 }
 
-// Lays the words of a token. Here and below the caller goes over at most as many tokens, nodes or records as the words hold.
-fn lay_token(words: &mut [u32], to: usize, token: Token)
-    requires { ⌜ to + 5 ≤ length (now words) ⌝ }
-{
-    words[to] = fields::operator_word(token.op);
-    words[to + 1] = fields::START * fields::KIND + token.start % fields::KIND;
-    words[to + 2] = fields::END * fields::KIND + token.end % fields::KIND;
-    words[to + 3] = fields::no_upper();
-    words[to + 4] = fields::no_lower();
-}
-
-// The first n tokens.
+// The first n tokens. Here and below the caller goes over at most as many tokens, nodes or records as the words hold.
 pub fn lay_tokens(words: &mut [u32], mark: u32, items: &[u32], n: usize)
     requires { ⌜ (n ≤ 4097) × (20485 ≤ length (now words)) ⌝ }
 {
     let mut i = 0usize;
     while i < n {
-        lay_token(words, fields::TOKEN_WORDS * i, token_of(mark, items, i));
+        token_of(mark, items, i).lay(words, fields::TOKEN_WORDS * i);
         i += 1;
     }
 }
 
-// Lays the words of a node, which is op_c_ss_ee.
+// Where a node closes: at the digit in front of its other eight, or at its own end.
+fn close_of(node: u32) -> u32 {
+    if node < CLOSED {
+        return node % 100;
+    }
+    node / CLOSED
+}
+
+// Lays the words of a node, which is op_c_ss_ee, or z_ooo_c_ss_ee if it is a closed section.
 fn lay_node(words: &mut [u32], to: usize, node: u32)
-    requires { ⌜ to + 6 ≤ length (now words) ⌝ }
+    requires { ⌜ to + 7 ≤ length (now words) ⌝ }
 {
-    let token = Token {
-        op: node / 100_000,
-        start: node / 100 % 100,
-        end: node % 100,
-    };
-    lay_token(words, to, token);
-    words[to + 5] = fields::children_word(node / 10_000 % 10);
+    token(node / 100_000 % 1_000, node / 100 % 100, node % 100).lay_node(
+        words,
+        to,
+        node / 10_000 % 10,
+        fields::close_word(close_of(node)),
+    );
 }
 
 pub fn lay_nodes(words: &mut [u32], nodes: &[u32])

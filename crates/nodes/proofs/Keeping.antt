@@ -9,7 +9,7 @@ use native.Mathlib.Omega.{arith}
 use native.Mathlib.Decide.{decLt}
 use lib.ListN.{length}
 use Rattle.molang.specs.Forest.{Token, Forest}
-use Rattle.words.specs.declared.tokens.TokenWords.{TokenWords}
+use Rattle.nodes.specs.declared.stored.StoredWords.{StoredWords}
 use Rattle.nodes.specs.Store.{wd, slotWords, firstField, nextField, classesField, slotStart, slotEnd, Seg, Out, OffNext, RepF, ends}
 use Rattle.nodes.specs.Store.{more, RepT, RepB, Free, Kept}
 use Rattle.nodes.specs.Slots.{Laid}
@@ -82,7 +82,7 @@ give-kept {X = X} {q = q} {lo = lo} {hi = hi} {bs = bs} w g e r low high out j f
     w .same bs g e j (f q firstField low high (omega arith) out) (f q classesField low high (omega arith) out)
     (roots-off j r (free-inner q X lo hi lo hi j (omega arith) (omega arith) f))
 
-pub laid-kept : {W W' : List ℕ} {s n : ℕ} {k : TokenWords} (X : List ℕ) (lo hi : ℕ) → Laid W s k n W' → lo ≤ s → s < hi → Out s X
+pub laid-kept : {W W' : List ℕ} {s n : ℕ} {k : StoredWords} (X : List ℕ) (lo hi : ℕ) → Laid W s k n W' → lo ≤ s → s < hi → Out s X
     → (j : ℕ) → Free X lo hi j → wd W' j ≡ wd W j
 laid-kept {W} {W'} {s} X lo hi w low high out j f =
     elim (decLt j (slotStart s)) [

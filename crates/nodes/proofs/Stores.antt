@@ -9,15 +9,15 @@ use native.Mathlib.Omega.{arith}
 use native.Mathlib.Nat.{add-zero}
 use lib.ListN.{length, getD, set}
 use Rattle.words.specs.Records.{laidAt}
-use Rattle.words.specs.Tokens.{fiveWords}
-use Rattle.words.specs.declared.tokens.TokenWords.{TokenWords}
 use Rattle.words.proofs.LaidLaws.{laid-long, laid-in, laid-out, laid-more}
 use Rattle.ops.specs.Classes.{bitAt}
 use Rattle.nodes.specs.Store.{wd, firstField, nextField, classesField, slotStart, slotEnd, firstWord, nextWord, classesWord}
 use Rattle.nodes.specs.Store.{classesAt}
+use Rattle.nodes.specs.Stored.{storedList}
 use Rattle.nodes.specs.Slots.{Laid}
 use Rattle.nodes.specs.Children.{Attached, AttachedTwo}
 use Rattle.nodes.specs.Frames.{Pushed}
+use Rattle.nodes.specs.declared.stored.StoredWords.{StoredWords}
 use Rattle.nodes.specs.declared.frames.List.{List as WorkList}
 use Rattle.nodes.specs.declared.frames.Held.{Held}
 use Rattle.nodes.proofs.Runs.{set-same, set-other, set-long}
@@ -73,17 +73,17 @@ module _ (W W1 W2 W3 W4 : List ℕ) (p l r x y z : ℕ) (own : slotEnd p ≤ len
 -- ---- a whole slot
 
 -- The words of a leaf's slot.
-abbrev leafWords : TokenWords → ℕ → List ℕ
-leafWords k n = k .operator ∷ k .start ∷ k .end ∷ k .upper ∷ k .lower ∷ 0 ∷ 0 ∷ n ∷ []
+abbrev leafWords : StoredWords → ℕ → List ℕ
+leafWords k n = k .operator ∷ k .start ∷ k .end ∷ k .value ∷ k .close ∷ 0 ∷ 0 ∷ n ∷ []
 
-module _ (W W1 : List ℕ) (s : ℕ) (k : TokenWords) (n : ℕ) (room : slotEnd s ≤ length W)
-    (e : W1 ≡ laidAt (slotStart s) (fiveWords k) W) where
+module _ (W W1 : List ℕ) (s : ℕ) (k : StoredWords) (n : ℕ) (room : slotEnd s ≤ length W)
+    (e : W1 ≡ laidAt (slotStart s) (storedList k) W) where
   laid-leaf : set (set (set W1 (firstWord s) 0) (nextWord s) 0) (classesWord s) n ≡ laidAt (slotStart s) (leafWords k n) W
   laid-leaf =
       let at = slotStart s in
       rw
-      (e, laid-more (fiveWords k) W at 0 (omega arith), laid-more (fiveWords k ++ (0 ∷ [])) W at 0 (omega arith))
-      (laid-more (fiveWords k ++ (0 ∷ 0 ∷ [])) W at n (omega arith))
+      (e, laid-more (storedList k) W at 0 (omega arith), laid-more (storedList k ++ (0 ∷ [])) W at 0 (omega arith))
+      (laid-more (storedList k ++ (0 ∷ 0 ∷ [])) W at n (omega arith))
 
   pub laid-words : Laid W s k n (set (set (set W1 (firstWord s) 0) (nextWord s) 0) (classesWord s) n)
   laid-words =
@@ -100,7 +100,7 @@ module _ (W W1 : List ℕ) (s : ℕ) (k : TokenWords) (n : ℕ) (room : slotEnd 
         long = laid-long ws W at room;
       })
     where
-      five : (i : ℕ) → i < 5 → wd (laidAt (slotStart s) (leafWords k n) W) (slotStart s + i) ≡ getD (fiveWords k) i 0
+      five : (i : ℕ) → i < 5 → wd (laidAt (slotStart s) (leafWords k n) W) (slotStart s + i) ≡ getD (storedList k) i 0
       five zero h = laid-in (leafWords k n) W (slotStart s) room 0 (omega arith)
       five (suc zero) h = laid-in (leafWords k n) W (slotStart s) room 1 (omega arith)
       five (suc (suc zero)) h = laid-in (leafWords k n) W (slotStart s) room 2 (omega arith)

@@ -1,16 +1,17 @@
 -- A slot's five token words, said of its token: what the fields are read from, that the words say which token it is, and what becomes of
 -- the token where some of the words are written.
-use Prim.Native.Nat.{ℕ, zero, suc, _+_, _*_, _/_, _%_, _^_, _≤_, _<_}
-use mathlib.Core.Path.{_≡_, refl, sym, _∙_}
+use Prim.Native.Nat.{ℕ, zero, suc, _+_, _*_, _%_, _^_, _≤_, _<_}
+use mathlib.Core.Path.{_≡_, refl, sym, ap, _∙_}
 use mathlib.Core.List.{List}
 use native.Mathlib.Omega.{arith}
 use native.Mathlib.Nat.{add-zero}
 use lib.ListN.{length, getD, set}
-use Rattle.molang.specs.Forest.{Token, renamed, bare}
-use Rattle.molang.specs.Words.{word, lowOf, tokenWords}
+use Rattle.molang.specs.Forest.{Token, renamed, bare, closedBy}
+use Rattle.molang.specs.Words.{word, lowOf}
 use Rattle.molang.specs.Legal.{Legal}
 use Rattle.words.specs.Fields.{operatorOf, withOperator}
-use Rattle.nodes.specs.Store.{wd, slotStart, slotEnd, operatorWordAt, startWordAt, endWordAt, upperWordAt, lowerWordAt, TokenAt}
+use Rattle.nodes.specs.Store.{wd, slotStart, slotEnd, closeWord, operatorWordAt, startWordAt, endWordAt, valueWordAt, closeWordAt}
+use Rattle.nodes.specs.Store.{storedWords, TokenAt}
 use Rattle.nodes.specs.Slots.{opAt, startAt, endAt, Made}
 use Rattle.nodes.proofs.Runs.{set-same, set-other}
 
@@ -22,34 +23,34 @@ token-keep W W' b h t = record { words = λ o w. h o w ∙ t .words o w; legal =
 
 module _ {W : List ℕ} {s : ℕ} {k : Token} (t : TokenAt W s k) where
   pub operator-word : operatorWordAt W s ≡ word 1 (k .variant * 2 ^ 8 + k .op)
-  unfolding tokenWords
+  unfolding storedWords
   operator-word = rw add-zero at (t .words 0 (omega arith))
 
   pub start-word : startWordAt W s ≡ word 2 (k .start)
-  unfolding tokenWords
+  unfolding storedWords
   start-word = t .words 1 (omega arith)
 
   pub end-word : endWordAt W s ≡ word 3 (k .end)
-  unfolding tokenWords
+  unfolding storedWords
   end-word = t .words 2 (omega arith)
 
-  pub upper-word : upperWordAt W s ≡ word 4 (k .value / 2 ^ 16)
-  unfolding tokenWords
-  upper-word = t .words 3 (omega arith)
+  pub value-word : valueWordAt W s ≡ k .value
+  unfolding storedWords
+  value-word = t .words 3 (omega arith)
 
-  pub lower-word : lowerWordAt W s ≡ word 5 (k .value % 2 ^ 16)
-  unfolding tokenWords
-  lower-word = t .words 4 (omega arith)
+  pub close-word : closeWordAt W s ≡ word 7 (k .close)
+  unfolding storedWords
+  close-word = t .words 4 (omega arith)
 
 -- five words make a token
 pub token-of-words : {W : List ℕ} {s : ℕ} {k : Token}
     → operatorWordAt W s ≡ word 1 (k .variant * 2 ^ 8 + k .op) → startWordAt W s ≡ word 2 (k .start) → endWordAt W s ≡ word 3 (k .end)
-    → upperWordAt W s ≡ word 4 (k .value / 2 ^ 16) → lowerWordAt W s ≡ word 5 (k .value % 2 ^ 16) → Legal k
+    → valueWordAt W s ≡ k .value → closeWordAt W s ≡ word 7 (k .close) → Legal k
     → TokenAt W s k
-unfolding tokenWords
+unfolding storedWords
 token-of-words {W} {s} {k} a b c d e l = record { words = by-place; legal = l }
   where
-    by-place : (i : ℕ) → i < 5 → wd W (slotStart s + i) ≡ getD (tokenWords k) i 0
+    by-place : (i : ℕ) → i < 5 → wd W (slotStart s + i) ≡ getD (storedWords k) i 0
     by-place zero h = rw add-zero a
     by-place (suc zero) h = b
     by-place (suc (suc zero)) h = c
@@ -79,9 +80,6 @@ same-low : (kind x y : ℕ) → word kind x ≡ word kind y → x ≡ y
 unfolding word
 same-low kind x y e = omega arith
 
-same-value : (x y : ℕ) → x / 2 ^ 16 ≡ y / 2 ^ 16 → x % 2 ^ 16 ≡ y % 2 ^ 16 → x ≡ y
-same-value x y a b = omega arith
-
 -- the words say which token it is
 pub token-unique : {W : List ℕ} {s : ℕ} {k k' : Token} → TokenAt W s k → TokenAt W s k' → k ≡ k'
 token-unique {W} {s} {k} {k'} t u =
@@ -89,20 +87,50 @@ token-unique {W} {s} {k} {k'} t u =
     same-operator (k .variant) (k .op) (k' .variant) (k' .op) (t .legal .op) (u .legal .op) (sym (operator-word t) ∙ operator-word u) in
     let start = same-low 2 (k .start) (k' .start) (sym (start-word t) ∙ start-word u) in
     let end = same-low 3 (k .end) (k' .end) (sym (end-word t) ∙ end-word u) in
-    let value =
-    same-value (k .value) (k' .value) (same-low 4 _ _ (sym (upper-word t) ∙ upper-word u))
-    (same-low 5 _ _ (sym (lower-word t) ∙ lower-word u)) in
-    λ i. record { op = o .1 i; variant = o .0 i; value = value i; start = start i; end = end i }
+    let value = sym (value-word t) ∙ value-word u in
+    let close = same-low 7 (k .close) (k' .close) (sym (close-word t) ∙ close-word u) in
+    λ i. record { op = o .1 i; variant = o .0 i; value = value i; start = start i; end = end i; close = close i }
 
 -- ---- tokens that the passes make
 
 pub legal-renamed : (o : ℕ) {k : Token} → o ≤ 110 → Legal k → Legal (renamed o k)
 unfolding renamed
-legal-renamed o h l = record { op = h; variant = l .variant; value = l .value; no-payload = l .no-payload; start = l .start; end = l .end }
+legal-renamed o h l =
+    record {
+      op = h;
+      variant = l .variant;
+      value = l .value;
+      no-payload = l .no-payload;
+      start = l .start;
+      end = l .end;
+      close = l .close;
+    }
 
 pub legal-bare : (o : ℕ) {k : Token} → o ≤ 110 → Legal k → Legal (bare o k)
 unfolding bare
-legal-bare o h l = record { op = h; variant = omega arith; value = omega arith; no-payload = λ e. refl; start = l .start; end = l .end }
+legal-bare o h l =
+    record {
+      op = h;
+      variant = omega arith;
+      value = omega arith;
+      no-payload = λ e. refl;
+      start = l .start;
+      end = l .end;
+      close = l .end;
+    }
+
+pub legal-closed : {k o : Token} → Legal k → Legal o → Legal (closedBy k o)
+unfolding closedBy
+legal-closed l m =
+    record {
+      op = m .op;
+      variant = m .variant;
+      value = m .value;
+      no-payload = m .no-payload;
+      start = m .start;
+      end = m .end;
+      close = l .end;
+    }
 
 -- the operator word with another operator in it
 renamed-word : (v o p : ℕ) → o ≤ 110 → p ≤ 110 → withOperator (word 1 (v * 2 ^ 8 + o)) p ≡ word 1 (v * 2 ^ 8 + p)
@@ -121,9 +149,25 @@ token-renamed W W' s o {k} e room h t =
     (set-same W W' (slotStart s) v e (omega arith) ∙ rw (operator-word t) (renamed-word (k .variant) (k .op) o (t .legal .op) h))
     (other (slotStart s + 1) (omega arith) ∙ start-word t)
     (other (slotStart s + 2) (omega arith) ∙ end-word t)
-    (other (slotStart s + 3) (omega arith) ∙ upper-word t)
-    (other (slotStart s + 4) (omega arith) ∙ lower-word t)
+    (other (slotStart s + 3) (omega arith) ∙ value-word t)
+    (other (closeWord s) (omega arith) ∙ close-word t)
     (legal-renamed o h (t .legal))
+
+-- `set_close` closes the token at the end of another
+pub token-closed : (W W' : List ℕ) (s closer : ℕ) {k o : Token} → W' ≡ set W (closeWord s) (word 7 (endAt W closer))
+    → slotEnd s ≤ length W → TokenAt W closer k
+    → TokenAt W s o → TokenAt W' s (closedBy k o)
+unfolding closedBy
+token-closed W W' s closer e room u t =
+    let v = word 7 (endAt W closer) in
+    let other = set-other W W' (closeWord s) v e in
+    token-of-words
+    (other (slotStart s) (omega arith) ∙ operator-word t)
+    (other (slotStart s + 1) (omega arith) ∙ start-word t)
+    (other (slotStart s + 2) (omega arith) ∙ end-word t)
+    (other (slotStart s + 3) (omega arith) ∙ value-word t)
+    (set-same W W' (closeWord s) v e (omega arith) ∙ ap (word 7) (token-end u))
+    (legal-closed (u .legal) (t .legal))
 
 bare-word : (o : ℕ) → o ≤ 110 → word 1 (o % 2 ^ 8) ≡ word 1 (0 * 2 ^ 8 + o)
 unfolding word
@@ -138,5 +182,5 @@ token-made {o = o} v h t =
     (v .words 1 (omega arith) ∙ start-word t)
     (v .words 2 (omega arith) ∙ end-word t)
     (v .words 3 (omega arith))
-    (v .words 4 (omega arith))
+    (v .words 4 (omega arith) ∙ ap (word 7) (token-end t))
     (legal-bare o h (t .legal))

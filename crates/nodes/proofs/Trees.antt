@@ -8,16 +8,17 @@ use mathlib.Core.List.{List, [], _∷_}
 use native.Mathlib.Omega.{arith}
 use native.Mathlib.Nat.{le-refl}
 use borrow.Author.Tests.{eq-eqb, ne-eqb}
-use lib.ListN.{length}
+use lib.ListN.{length, set}
 use Rattle.molang.specs.Forest.{Token, Forest, nil, node, inOrder, count}
 use Rattle.molang.specs.Conditional.{isToken}
 use Rattle.molang.specs.Free.{free, isNil}
 use Rattle.ops.specs.Classes.{inClass}
-use Rattle.nodes.specs.Store.{wd, firstField, nextField, classesField, slotStart, firstAt, classesAt, TokenAt, Noted, reserve, Chain}
+use Rattle.nodes.specs.Store.{wd, firstField, nextField, classesField, slotStart, firstWord, nextWord, classesWord, firstAt, classesAt}
+use Rattle.nodes.specs.Store.{TokenAt, Noted, reserve, Chain}
 use Rattle.nodes.specs.Store.{Seg, SegB, Out, OutFrom, onto, RepF, ends, more, RepT, Owned, RepB, InArray, Free}
 use Rattle.nodes.specs.Slots.{opAt, isLeafAt, isTokenAt}
 use Rattle.nodes.specs.Children.{Attached, AttachedTwo, CanTake, Taken, CanGive, Given}
-use Rattle.nodes.proofs.Runs.{off-word, off-out, segB-onto, length-onto}
+use Rattle.nodes.proofs.Runs.{set-other, chain-keep, off-word, off-out, segB-onto, length-onto}
 use Rattle.nodes.proofs.Tokens.{token-keep, token-op}
 use Rattle.nodes.proofs.Store.{reserve-pos, roots-above, rep-keep, rep-count, tree-more, tree-below, tree-out, tree-keep, tree-avoid}
 use Rattle.nodes.proofs.Store.{back-onto}
@@ -129,11 +130,11 @@ module _ {W W' X : List ℕ} {q from n lo hi : ℕ} {bs : List ℕ} {f : Forest}
             (λ s o x y z p y'. w .same bs g e (slotStart s + o) (omega arith) (omega arith) (⊎-elim (λ m. off-word bs s o z m) (λ m. off-out bs s o z m) y')) r;
       }
 
-  -- the words of the owner's own token stay
-  pub give-token : {o : Token} → TokenAt W q o → TokenAt W' q o
-  give-token t =
-      token-keep W W' q
-      (λ i h. w .same bs g e (slotStart q + i) (omega arith) (omega arith) (off-word bs q i (omega arith) (omega arith))) t
+  -- the words of every token stay
+  pub give-token : {s : ℕ} {o : Token} → TokenAt W s o → TokenAt W' s o
+  give-token {s} t =
+      token-keep W W' s
+      (λ i h. w .same bs g e (slotStart s + i) (omega arith) (omega arith) (off-word bs s i (omega arith) (omega arith))) t
 
 -- the same of an array
 pub array-give : {W X : List ℕ} {q at n lo hi : ℕ} {f : Forest} → InArray W X at n lo hi f → q < hi → slotStart hi ≤ at → at + n ≤ length W
@@ -181,6 +182,19 @@ owned-tree {X = X} {q = q} {o = o} token pos out low high v =
       noted = notes-over o (v .notes);
       chain = v .chain;
       kids = v .kids;
+    }
+
+-- a store to a word of the owner's token leaves its list as it was
+pub owned-store : (W W' : List ℕ) (v : ℕ) {X : List ℕ} {q lo hi i : ℕ} {f : Forest} → W' ≡ set W (slotStart q + i) v → i < 5 → q < hi
+    → Owned W X q lo hi f → Owned W' X q lo hi f
+owned-store W W' v {q = q} {hi = hi} {i = i} e inside own o =
+    let other = set-other W W' (slotStart q + i) v e in
+    record {
+      cs = o .cs;
+      chain = rw (other (firstWord q) (omega arith))
+          (chain-keep W W' (firstAt W q) (o .cs) 1 hi (roots-above (o .kids) (omega arith)) (λ c a b. other (nextWord c) (omega arith)) (o .chain));
+      notes = rw (other (classesWord q) (omega arith)) (o .notes);
+      kids = rep-keep W W' (λ s p x y z out n. let apart = out .0 in other (slotStart s + p) (omega arith)) (o .kids);
     }
 
 -- an owner that was given nothing is a leaf of no class

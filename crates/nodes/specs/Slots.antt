@@ -8,9 +8,9 @@ use lib.Dec.{eqb}
 use lib.ListN.{length, getD}
 use Rattle.molang.specs.Words.{lowOf}
 use Rattle.words.specs.Fields.{operatorOf}
-use Rattle.words.specs.Tokens.{tokenWordsAt, bareWords, fiveWords}
-use Rattle.words.specs.declared.tokens.TokenWords.{TokenWords}
 use Rattle.nodes.specs.Store.{wd, slotStart, slotEnd, operatorWordAt, startWordAt, endWordAt, firstAt, nextAt, classesAt}
+use Rattle.nodes.specs.Stored.{storedAt, bareStored, storedList}
+use Rattle.nodes.specs.declared.stored.StoredWords.{StoredWords}
 
 -- The operator of slot s.
 abbrev pub opAt : List ℕ → ℕ → ℕ
@@ -33,14 +33,14 @@ abbrev pub isTokenAt : List ℕ → ℕ → ℕ → Bool
 isTokenAt W s op = isLeafAt W s && eqb (opAt W s) op
 
 -- Slot s is a leaf of the five words k that notes the classes n; all other words are as they were.
-pub record Laid (W : List ℕ) (s : ℕ) (k : TokenWords) (n : ℕ) (W' : List ℕ) : Type 0 where
-  pub words : (i : ℕ) → i < 5 → wd W' (slotStart s + i) ≡ getD (fiveWords k) i 0
+pub record Laid (W : List ℕ) (s : ℕ) (k : StoredWords) (n : ℕ) (W' : List ℕ) : Type 0 where
+  pub words : (i : ℕ) → i < 5 → wd W' (slotStart s + i) ≡ getD (storedList k) i 0
   pub first : firstAt W' s ≡ 0
   pub next : nextAt W' s ≡ 0
   pub classes : classesAt W' s ≡ n
   pub same : (j : ℕ) → (j < slotStart s) ⊎ (slotEnd s ≤ j) → wd W' j ≡ wd W j
   pub long : length W' ≡ length W
 
--- Slot s is a new node of op, with the span words of slot `like`, payload 0 and no class.
+-- Slot s is a new node of op, with the span words of slot `like`, payload 0 and no class, which closes at its end.
 abbrev pub Made : List ℕ → ℕ → ℕ → ℕ → List ℕ → Type 0
-Made W s op like W' = Laid W s (bareWords op (tokenWordsAt W (slotStart like))) 0 W'
+Made W s op like W' = Laid W s (bareStored op (storedAt W (slotStart like))) 0 W'

@@ -2,7 +2,7 @@
 -- Intervals of slots keep siblings apart. They cannot keep a node apart from what is below it: an operator stands between its operands, and
 -- in the tree of `return + a`, `+` over `return` over `a`, the root's slot even lies between those of its child and grandchild. So the
 -- slots of the ancestors are carried along as a list, and the slots below avoid it.
-use Prim.Native.Nat.{ℕ, _+_, _*_, _≤_, _<_}
+use Prim.Native.Nat.{ℕ, _+_, _*_, _^_, _≤_, _<_}
 use mathlib.Core.Path.{_≡_}
 use mathlib.Core.Logic.{_≢_, _⊎_}
 use mathlib.Core.Bool.{true, false, not}
@@ -11,7 +11,7 @@ use lib.Dec.{eqb}
 use lib.ListN.{length, getD}
 use Rattle.molang.specs.Operator.{negate, semicolon}
 use Rattle.molang.specs.Forest.{Token, Forest, nil, node}
-use Rattle.molang.specs.Words.{tokenWords}
+use Rattle.molang.specs.Words.{word}
 use Rattle.molang.specs.Legal.{Legal}
 use Rattle.molang.specs.Free.{free}
 use Rattle.ops.specs.Classes.{bitAt, inClass}
@@ -20,7 +20,7 @@ use Rattle.ops.specs.Classes.{bitAt, inClass}
 abbrev pub wd : List ℕ → ℕ → ℕ
 wd W j = getD W j 0
 
--- ---- one slot: five token words, then the first child's slot, the next sibling's slot, and the classes that it notes
+-- ---- one slot: a token in five words, then the first child's slot, the next sibling's slot, and the classes that it notes
 
 -- How many words a slot is.
 abbrev pub slotWords : ℕ
@@ -44,7 +44,10 @@ slotStart s = slotWords * s
 abbrev pub slotEnd : ℕ → ℕ
 slotEnd s = slotStart s + slotWords
 
--- Where its first child, its next sibling and its classes stand.
+-- Where it says where it closes, and where its first child, its next sibling and its classes stand.
+abbrev pub closeWord : ℕ → ℕ
+closeWord s = slotStart s + 4
+
 abbrev pub firstWord : ℕ → ℕ
 firstWord s = slotStart s + firstField
 
@@ -64,11 +67,11 @@ startWordAt W s = wd W (slotStart s + 1)
 abbrev pub endWordAt : List ℕ → ℕ → ℕ
 endWordAt W s = wd W (slotStart s + 2)
 
-abbrev pub upperWordAt : List ℕ → ℕ → ℕ
-upperWordAt W s = wd W (slotStart s + 3)
+abbrev pub valueWordAt : List ℕ → ℕ → ℕ
+valueWordAt W s = wd W (slotStart s + 3)
 
-abbrev pub lowerWordAt : List ℕ → ℕ → ℕ
-lowerWordAt W s = wd W (slotStart s + 4)
+abbrev pub closeWordAt : List ℕ → ℕ → ℕ
+closeWordAt W s = wd W (closeWord s)
 
 -- Its first child, 0 where it has none.
 abbrev pub firstAt : List ℕ → ℕ → ℕ
@@ -82,9 +85,14 @@ nextAt W s = wd W (nextWord s)
 abbrev pub classesAt : List ℕ → ℕ → ℕ
 classesAt W s = wd W (classesWord s)
 
+-- The words of a token in the store: the payload value is one word, and the word of kind 7 says where it closes.
+unfoldable pub storedWords : Token → List ℕ
+storedWords k =
+    word 1 (k .variant * 2 ^ 8 + k .op) ∷ word 2 (k .start) ∷ word 3 (k .end) ∷ k .value ∷ word 7 (k .close) ∷ []
+
 -- Slot s holds the words of the token k.
 pub record TokenAt (W : List ℕ) (s : ℕ) (k : Token) : Type 0 where
-  pub words : (i : ℕ) → i < 5 → wd W (slotStart s + i) ≡ getD (tokenWords k) i 0
+  pub words : (i : ℕ) → i < 5 → wd W (slotStart s + i) ≡ getD (storedWords k) i 0
   pub legal : Legal k
 
 -- The classes in w are exactly those of the leaves of the forest, at any depth.

@@ -1,18 +1,21 @@
-// A slot is eight words of the work buffer: the five words of a token, the first child's slot, the next sibling's slot, the
+// A slot is eight words of the work buffer: a token in five words (stored), the first child's slot, the next sibling's slot, the
 // classes of the leaves at or below it. Slot 0 owns the outermost list; as a child or a sibling 0 means none.
 // Token i stands at slot 3(i + 1), and the two slots after it are spare for nodes that the passes make right after it.
 // The functions ask that a slot's words lie within the buffer. The callers have this from the store (specs/Store), whose slots stand
 // below the stack. A slot's number fits 32 bits: `load` has this from the 4,096 tokens at most, and the passes have it from the length
 // of the words that `parse` works in.
+use crate::stored::CLOSE_FIELD;
+use crate::stored::StoredWords;
 use ops::classes::TokenClasses;
 use words::fields;
-use words::tokens::TokenWords;
 ghost use mathlib.Core.Path.{_≡_};
 ghost use Prim.Native.Nat.{_+_, _*_, _^_, _≤_, _<_};
 ghost use lib.ListN.{length, set};
 ghost use Rattle.words.specs.Fields.{withOperator};
-ghost use Rattle.words.specs.Tokens.{tokenWordsAt};
-ghost use Rattle.nodes.specs.Store.{slotStart, slotEnd, firstWord, nextWord, classesWord, operatorWordAt, firstAt, nextAt, classesAt};
+ghost use Rattle.molang.specs.Words.{word};
+ghost use Rattle.nodes.specs.Store.{slotStart, slotEnd, closeWord, firstWord, nextWord, classesWord, operatorWordAt};
+ghost use Rattle.nodes.specs.Store.{firstAt, nextAt, classesAt};
+ghost use Rattle.nodes.specs.Stored.{storedAt};
 ghost use Rattle.nodes.specs.Slots.{opAt, startAt, endAt, isLeafAt, isTokenAt, Laid, Made};
 
 pub const ROOT: u32 = 0;
@@ -61,11 +64,11 @@ pub fn stack_of(n: usize) -> usize
 
 // The words of slot s: its token's, its first child, its next sibling and its classes.
 
-pub fn token_of(work: &[u32], s: u32) -> TokenWords
+pub fn token_of(work: &[u32], s: u32) -> StoredWords
     requires { ⌜ slotEnd s ≤ length (now work) ⌝ }
-    ensures { λ r. ⌜ r ≡ tokenWordsAt (now (work .entry)) (slotStart s) ⌝ }
+    ensures { λ r. ⌜ r ≡ storedAt (now (work .entry)) (slotStart s) ⌝ }
 {
-    TokenWords::at(work, SLOT_WORDS * (s as usize))
+    StoredWords::at(work, SLOT_WORDS * (s as usize))
 }
 
 pub fn first_of(work: &[u32], s: u32) -> u32
@@ -102,6 +105,15 @@ pub fn set_next(work: &mut [u32], s: u32, v: u32)
     ensures { λ _. ⌜ now (work .exit) ≡ set (now (work .entry)) (nextWord s) v ⌝ }
 {
     work[SLOT_WORDS * (s as usize) + NEXT_FIELD] = v;
+}
+
+// Slot s, a section, closes at the end of slot `closer`.
+pub fn set_close(work: &mut [u32], s: u32, closer: u32)
+    requires { ⌜ (slotEnd s ≤ length (now work)) × (slotEnd closer ≤ length (now work)) ⌝ }
+    ensures { λ _. ⌜ now (work .exit) ≡ set (now (work .entry)) (closeWord s) (word 7 (endAt (now (work .entry)) closer)) ⌝ }
+{
+    let end = work[SLOT_WORDS * (closer as usize) + fields::END_FIELD];
+    work[SLOT_WORDS * (s as usize) + CLOSE_FIELD] = fields::close_word(end);
 }
 
 pub fn set_classes(work: &mut [u32], s: u32, classes: TokenClasses)
@@ -153,7 +165,7 @@ pub fn is_token(work: &[u32], s: u32, op: u32) -> bool
 }
 
 // Slot s becomes a leaf of the five words that notes these classes.
-pub fn set_leaf(work: &mut [u32], s: u32, token: TokenWords, classes: TokenClasses)
+pub fn set_leaf(work: &mut [u32], s: u32, token: StoredWords, classes: TokenClasses)
     requires { ⌜ slotEnd s ≤ length (now work) ⌝ }
     ensures { λ _. ⌜ Laid (now (work .entry)) s token (classes .0) (now (work .exit)) ⌝ }
 {
@@ -164,7 +176,8 @@ pub fn set_leaf(work: &mut [u32], s: u32, token: TokenWords, classes: TokenClass
     work[at + CLASSES_FIELD] = classes.0;
 }
 
-// Slot s becomes a node of op with the span of slot `like` and payload 0. It notes no class: it is to take children.
+// Slot s becomes a node of op with the span of slot `like` and payload 0, which closes at its end. It notes no class: it is to take
+// children.
 pub fn make(work: &mut [u32], s: u32, op: u32, like: u32)
     requires { ⌜ (slotEnd s ≤ length (now work)) × (slotEnd like ≤ length (now work)) ⌝ }
     ensures { λ _. ⌜ Made (now (work .entry)) s op like (now (work .exit)) ⌝ }
@@ -173,7 +186,7 @@ pub fn make(work: &mut [u32], s: u32, op: u32, like: u32)
     set_leaf(work, s, token, TokenClasses::NONE);
 }
 
-// The operator of slot s becomes op, its span and payload stay. Its classes are left to the caller.
+// The operator of slot s becomes op, its span, its payload and where it closes stay. Its classes are left to the caller.
 pub fn set_operator(work: &mut [u32], s: u32, op: u32)
     requires { ⌜ slotEnd s ≤ length (now work) ⌝ }
     ensures { λ _. ⌜ now (work .exit) ≡ set (now (work .entry)) (slotStart s) (withOperator (operatorWordAt (now (work .entry)) s) op) ⌝ }

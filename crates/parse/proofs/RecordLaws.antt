@@ -14,11 +14,11 @@ use Rattle.molang.specs.Forest.{Token}
 use Rattle.molang.specs.Message.{Message, messageRecord, hostMathVariant, hostValue, closer, record8, about}
 use Rattle.molang.specs.Words.{word, lowOf}
 use Rattle.molang.specs.Parse.{recordWords}
-use Rattle.words.specs.Fields.{variantOf, valueOf, halfOf}
+use Rattle.words.specs.Fields.{variantOf}
 use Rattle.words.specs.Records.{withFirst, withLast, wordsOf}
 use Rattle.words.specs.declared.records.Record.{Record}
-use Rattle.nodes.specs.Store.{slotStart, operatorWordAt, upperWordAt, lowerWordAt, TokenAt}
-use Rattle.nodes.proofs.Tokens.{operator-word, upper-word, lower-word, token-op, token-start, token-end}
+use Rattle.nodes.specs.Store.{slotStart, operatorWordAt, valueWordAt, closeWordAt, TokenAt}
+use Rattle.nodes.proofs.Tokens.{operator-word, value-word, close-word, token-op, token-start, token-end}
 use Rattle.levels.specs.Failures.{Tells, leadingMemberAccessor, emptyParameterList, mathAtEnd, mathWithoutParenthesis, leadingSemicolon}
 use Rattle.levels.specs.Failures.{emptyArrayIndex, binaryAtEnd, negateWithoutOperand, notWithoutOperand, unknownOperation}
 use Rattle.levels.specs.Failures.{unaryWithoutOperand, ternaryWithoutOperands}
@@ -48,35 +48,31 @@ unfolding hostAt
 no-host W s v e h = rw (hostAt, ne-eqb (variantOf (operatorWordAt W s)) hostMathVariant (λ z. h (e ∙ z)))
 
 pub a-host : (W : List ℕ) (s v r : ℕ) → v ≡ variantOf (operatorWordAt W s) → v ≡ hostMathVariant
-    → r ≡ valueOf (upperWordAt W s) (lowerWordAt W s) → r ≡ hostAt W s
+    → r ≡ valueWordAt W s → r ≡ hostAt W s
 unfolding hostAt
 a-host W s v r e h f = rw (hostAt, eq-eqb (variantOf (operatorWordAt W s)) hostMathVariant (sym e ∙ h)) f
 
 -- ---- a slot's token
 
 module _ {W : List ℕ} {s : ℕ} {k : Token} (t : TokenAt W s k) where
-  -- Words after the last are 0, which no word of a token is.
+  -- Words after the last are 0, which the word of where a token closes is not.
   pub slot-within : length W % 8 ≡ 0 → Within W s
   unfolding word
   slot-within whole = go (leb (length W) (slotStart s + 4)) refl
     where
       go : (b : Bool) → leb (length W) (slotStart s + 4) ≡ b → Within W s
       go true e =
-          let past : lowerWordAt W s ≡ 0 = List·getD-eq-default W 0 (leb-true (length W) (slotStart s + 4) e) in
-          absurd (omega (arith, lower-word t))
+          let past : closeWordAt W s ≡ 0 = List·getD-eq-default W 0 (leb-true (length W) (slotStart s + 4) e) in
+          absurd (omega (arith, close-word t))
       go false e = let long = leb-false (length W) (slotStart s + 4) e in omega arith
 
   token-variant : variantOf (operatorWordAt W s) ≡ k .variant
   unfolding variantOf lowOf word
   token-variant = omega (arith, operator-word t, t .legal .op, t .legal .variant)
 
-  token-value : valueOf (upperWordAt W s) (lowerWordAt W s) ≡ k .value
-  unfolding valueOf halfOf lowOf word
-  token-value = omega (arith, upper-word t, lower-word t, t .legal .value)
-
   host-token : hostAt W s ≡ hostValue k
   unfolding hostAt hostValue
-  host-token = λ i. elim (eqb (token-variant i) hostMathVariant) [ true ↦ token-value i | false ↦ 0 ]
+  host-token = λ i. elim (eqb (token-variant i) hostMathVariant) [ true ↦ value-word t i | false ↦ 0 ]
 
   pub closer-token : closerAt W s ≡ closer k
   unfolding closer

@@ -29,7 +29,7 @@ pub record CanFill (W buffer messages : List ℕ) (n sourceLength : ℕ) (g : Gr
   pub stands : StandsFor W (3 * n + 3) n sourceLength g answer
   pub few : n ≤ mostTokens
   pub words : length W ≡ 64 * n + 64
-  pub tree-room : 18 * n ≤ length buffer
+  pub tree-room : 21 * n ≤ length buffer
   pub message-room : 16 ≤ length messages
 
 -- Whatever answer that is, it is told and laid out. The work buffer is left free: the entry clears it.
@@ -45,7 +45,7 @@ pub record CanRead (list W buffer messages : List ℕ) (n : ℕ) : Type 0 where
   pub tokens : length list ≡ 5 * n
   pub few : n ≤ mostTokens
   pub words : length W ≡ 64 * n + 64
-  pub tree-room : 18 * n ≤ length buffer
+  pub tree-room : 21 * n ≤ length buffer
   pub message-room : 16 ≤ length messages
 
 -- The definition's reading of the list's tokens is told and laid out. The work buffer is left free: the entry clears it.

@@ -8,10 +8,10 @@ use lib.Dec.{eqb}
 use lib.ListN.{length}
 use Rattle.molang.specs.Operator.{closingOf}
 use Rattle.molang.specs.Message.{hostMathVariant}
-use Rattle.words.specs.Fields.{variantOf, valueOf}
+use Rattle.words.specs.Fields.{variantOf}
 use Rattle.words.specs.Records.{unnamed, withFirst, withLast}
 use Rattle.words.specs.declared.records.Record.{Record}
-use Rattle.nodes.specs.Store.{slotEnd, operatorWordAt, upperWordAt, lowerWordAt}
+use Rattle.nodes.specs.Store.{slotEnd, operatorWordAt, valueWordAt}
 use Rattle.nodes.specs.Slots.{opAt, startAt, endAt}
 use Rattle.levels.specs.declared.failure.Failure.{Failure}
 use Rattle.levels.specs.declared.failure.Failure.the-variants.{ComplexMustEndWithSemicolon, ComplexWithoutTokens, LeadingMemberAccessor}
@@ -35,7 +35,7 @@ nameRecord W number from to named = withFirst (spanRecord W number from to) (opA
 
 -- The payload value of a host math function, else 0.
 unfoldable pub hostAt : List ℕ → ℕ → ℕ
-hostAt W s = elim (eqb (variantOf (operatorWordAt W s)) hostMathVariant) [ true ↦ valueOf (upperWordAt W s) (lowerWordAt W s) | false ↦ 0 ]
+hostAt W s = elim (eqb (variantOf (operatorWordAt W s)) hostMathVariant) [ true ↦ valueWordAt W s | false ↦ 0 ]
 
 -- A math function's, naming it and its host value.
 abbrev pub mathRecord : List ℕ → ℕ → ℕ → Record

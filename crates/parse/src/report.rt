@@ -58,7 +58,7 @@ fn host_value(work: &[u32], s: u32) -> u32
     if fields::variant(token.operator) != fields::HOST_MATH {
         return 0;
     }
-    fields::value(token.upper, token.lower)
+    token.value
 }
 
 // A message that names a math function.

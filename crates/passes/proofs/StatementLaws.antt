@@ -26,7 +26,7 @@ use Rattle.molang.proofs.Statements.{split-clear, statement-free}
 use Rattle.molang.proofs.Walks.{onward, back, walk-onward}
 use Rattle.nodes.specs.Store.{wd, slotStart, slotEnd, InArray, begins as begins-with, Seg, Inc}
 use Rattle.nodes.specs.Slots.{isTokenAt, Laid}
-use Rattle.words.specs.declared.tokens.TokenWords.{TokenWords}
+use Rattle.nodes.specs.declared.stored.StoredWords.{StoredWords}
 use Rattle.nodes.specs.declared.frames.List.{List as Items}
 use Rattle.nodes.proofs.Runs.{inc-le, seg-keep}
 use Rattle.nodes.proofs.Store.{tree-below, back-le}
@@ -447,7 +447,7 @@ module _ {W : List ℕ} {p from n : ℕ} where
       go (c ∷ cs) s e i = omega (arith, s .0, inc-le cs (i .1))
 
   -- a new node's slot is none of the stack's words
-  pub give-made : {W' : List ℕ} {t : TokenWords} {k : ℕ} → Laid W p t k W' → CanGive W p from n → CanGive W' p from n
+  pub give-made : {W' : List ℕ} {t : StoredWords} {k : ℕ} → Laid W p t k W' → CanGive W p from n → CanGive W' p from n
   give-made {W'} w g =
       let own = g .own in let below = g .below in
       record {

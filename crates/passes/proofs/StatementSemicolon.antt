@@ -18,7 +18,7 @@ use Rattle.molang.specs.Statements.{after, splitOf, endStatement}
 use Rattle.molang.specs.Free.{isNil, isSemicolon}
 use Rattle.molang.specs.Work.{Kind, statements, State}
 use Rattle.nodes.specs.Store.{wd, slotStart, slotEnd, TokenAt, Out, OutFrom, RepT, RepB, begins as begins-with, put, InArray, Free}
-use Rattle.words.specs.declared.tokens.TokenWords.{TokenWords}
+use Rattle.nodes.specs.declared.stored.StoredWords.{StoredWords}
 use Rattle.nodes.specs.Slots.{Laid, Made}
 use Rattle.nodes.specs.Children.{CanGive}
 use Rattle.nodes.specs.declared.frames.List.{List as Items}
@@ -49,7 +49,7 @@ use Rattle.passes.proofs.StatementSplit.{split-sides, open-items}
 -- ---- what `semicolon` asks
 
 -- a node laid down below the items
-give-laid : {W W' : List ℕ} {s p from n k : ℕ} {t : TokenWords} → Laid W s t k W' → slotEnd s ≤ from → CanGive W p from n
+give-laid : {W W' : List ℕ} {s p from n k : ℕ} {t : StoredWords} → Laid W s t k W' → slotEnd s ≤ from → CanGive W p from n
     → CanGive W' p from n
 give-laid {W} {W'} {from = from} w h g =
     record {

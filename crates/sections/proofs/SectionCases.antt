@@ -11,7 +11,7 @@ use lib.Dec.{eqb}
 use borrow.Author.Tests.{eq-eqb, ne-eqb, eqb-true}
 use Rattle.molang.specs.Operator.{memberAccessor, leftBrace, leftBracket, leftParenthesis, any, isOneOf, between, isMathCall, isQueryOrLoop}
 use Rattle.molang.specs.Operator.{hasMembers, closingOf, isCloser}
-use Rattle.molang.specs.Forest.{Token, Forest, nil, node, inOrder}
+use Rattle.molang.specs.Forest.{Token, Forest, nil, node, inOrder, closedBy}
 use Rattle.molang.specs.Message.{Message, leadingMemberAccessor, closingMismatch, sectionNotClosed, fail, closer}
 use Rattle.molang.specs.Sections.{withMember, members, Open, section, placed, position, outermost, Walked, going, mismatch, closing}
 use Rattle.molang.specs.Sections.{bracket, sections}
@@ -141,7 +141,7 @@ bracket-places k cs i s h e =
     missed (closingOf (k .op)) (λ z. going (section k (i + 1) nil s)) _ (other-closes (k .op) h) ∙ passed (isCloser (k .op)) _ _ e
 
 pub closing-takes : (k o : Token) (cs d : Forest) (i j : ℕ) (s : Open) → closer o ≡ k .op
-    → closing k cs i (section o j d s) ≡ going (placed o (inOrder d) s)
+    → closing k cs i (section o j d s) ≡ going (placed (closedBy k o) (inOrder d) s)
 unfolding closing
 closing-takes k o cs d i j s h = taken (eqb (closer o) (k .op)) _ _ (eq-eqb (closer o) (k .op) h)
 

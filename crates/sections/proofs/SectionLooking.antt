@@ -9,18 +9,20 @@ use native.Mathlib.Omega.{arith}
 use native.Mathlib.Nat.{le-refl}
 use lib.ListN.{length, set}
 use Rattle.molang.specs.Operator.{closingOf, isCloser}
-use Rattle.molang.specs.Forest.{Token, Forest, nil, node, inOrder}
+use Rattle.molang.specs.Forest.{Token, Forest, nil, node, inOrder, closedBy}
 use Rattle.molang.specs.Message.{closingMismatch, sectionNotClosed, closer}
+use Rattle.molang.specs.Words.{word}
 use Rattle.molang.specs.Sections.{Open, outside, section, placed, position, outermost, going, mismatch, closing, bracket}
 use Rattle.molang.proofs.Trees.{decided}
 use Rattle.ops.specs.Operators.{isOpener}
-use Rattle.nodes.specs.Store.{wd, slotStart, slotEnd, TokenAt, reserve, Seg, Out, RepF, RepT, Owned, InArray, Free}
-use Rattle.nodes.specs.Slots.{opAt}
+use Rattle.nodes.specs.Store.{wd, slotStart, slotEnd, closeWord, TokenAt, reserve, Seg, Out, RepF, RepT, Owned, InArray, Free}
+use Rattle.nodes.specs.Slots.{opAt, endAt}
 use Rattle.nodes.specs.Children.{CanGive, Given}
 use Rattle.nodes.proofs.Runs.{set-same, set-other, set-long}
+use Rattle.nodes.proofs.Tokens.{token-closed}
 use Rattle.nodes.proofs.Store.{reserve-pos, rep-lower, rep-raise, tree-below, tree-out, back-le, back-avoid}
 use Rattle.nodes.proofs.Keeping.{free-above, free-part, tree-beside, give-kept}
-use Rattle.nodes.proofs.Trees.{tree-op, array-give, owned-tree, owned-leaf, give-owned, give-token}
+use Rattle.nodes.proofs.Trees.{tree-op, array-give, owned-tree, owned-leaf, owned-store, give-owned, give-token}
 use Rattle.sections.specs.Flat.{Opener, Standing, outer, inner, LookAt, Follows, on, ends, Closed, Named}
 use Rattle.levels.specs.Failures.{mismatched}
 use Rattle.levels.specs.declared.failure.Unclosed.{Unclosed}
@@ -45,23 +47,30 @@ section-tree : {W X : List ℕ} {q l m : ℕ} {o : Token} (kids : Forest) → To
 section-tree {o = o} nil token pos keeps out low high opens v = owned-leaf token pos keeps low high (classless (o .op) opens) v
 section-tree {o = o} (node c cs r) token pos keeps out low high opens v = owned-tree token pos out low (omega (arith, reserve-pos o nil)) v
 
--- the words of the opener and of what it is given change, and no others
+-- the section's node stands; the words of the opener and of what it is given change, and no others
 record Taken (W X : List ℕ) (q l hi : ℕ) (o : Token) (kids : Forest) (W' : List ℕ) : Type 0 where
   tree : RepT W' X q l hi o kids
   same : (j : ℕ) → Free X l hi j → wd W' j ≡ wd W j
 
-section-taken : {W W' X : List ℕ} {q from n l m hi hi' : ℕ} {o : Token} {kids : Forest} (bs : List ℕ) → Given W q from n W' → Seg W from bs
-    → n ≡ length bs → RepF W (q ∷ X) bs m hi kids
-    → RepT W X q l m o nil → m ≤ hi → hi ≤ hi' → isOpener (o .op) ≡ true → Taken W X q l hi' o kids W'
-section-taken {X = X} {l = l} {m = m} {hi = hi} {hi' = hi'} {o = o} {kids = kids} bs w g count r v h h' opens =
+section-taken : {W W1 W' X : List ℕ} {q from n l m hi hi' closer : ℕ} {o k : Token} {kids : Forest} (bs : List ℕ) → Given W q from n W1
+    → Seg W from bs → n ≡ length bs → RepF W (q ∷ X) bs m hi kids
+    → RepT W X q l m o nil → m ≤ hi → hi ≤ hi' → isOpener (o .op) ≡ true → TokenAt W closer k
+    → W' ≡ set W1 (closeWord q) (word 7 (endAt W1 closer)) → slotEnd q ≤ length W1
+    → Taken W X q l hi' (closedBy k o) kids W'
+unfolding closedBy reserve
+section-taken {W1 = W1} {W' = W'} {X = X} {q = q} {l = l} {m = m} {hi = hi} {hi' = hi'} {closer = closer} {o = o} {kids = kids} bs w g count r v h h'
+    opens t close room =
     let e = sym count in
     let low = v .low in let high = v .high in let own = tree-below v in
     let owned = give-owned w g e r in
+    let token = token-closed W1 W' q closer close room (give-token w g e r t) (give-token w g e r (v .token)) in
     record {
-      tree = section-tree kids (give-token w g e r (v .token)) (v .pos) (v .out) (tree-out v) (v .low) (omega arith) opens
-          (record { cs = owned .cs; chain = owned .chain; notes = owned .notes; kids = rep-raise h' (rep-lower (omega arith) (owned .kids)) });
+      tree = section-tree kids token (v .pos) (v .out) (tree-out v) (v .low) (omega arith) opens
+          (owned-store W1 W' (word 7 (endAt W1 closer)) close (omega arith) (omega arith)
+          (record { cs = owned .cs; chain = owned .chain; notes = owned .notes; kids = rep-raise h' (rep-lower (omega arith) (owned .kids)) }));
       same = λ j f.
-          give-kept w g e (rep-lower (omega arith) r) (v .low) (omega arith) (tree-out v) j (free-part X l hi' l hi j (le-refl l) h' f);
+          set-other W1 W' (closeWord q) (word 7 (endAt W1 closer)) close j (f q 4 low (omega arith) (omega arith) (tree-out v))
+          ∙ give-kept w g e (rep-lower (omega arith) r) (v .low) (omega arith) (tree-out v) j (free-part X l hi' l hi j (le-refl l) h' f);
     }
 
 -- what its body asks, p being where the innermost opener is written
@@ -101,40 +110,60 @@ close-differs {t = t} {cs = cs} (inner {i = j} {o = o} {d = d} {s = s'} st z v e
     rw is (ends (mismatched (b .inner-token) (tree .token) (b .outer-token)))
 
 -- it is the innermost section's: the words of its interval change, and no others
-pub close-takes : {W X : List ℕ} {base marks lo l m k w item : ℕ} {s : Open} {t : Token} {cs : Forest} → Standing W X base marks lo l k w s
+close-takes : {W X : List ℕ} {base marks lo l m k w item : ℕ} {s : Open} {t : Token} {cs : Forest} → Standing W X base marks lo l k w s
     → k ≢ 0 → RepT W X item l m t cs
-    → slotStart m ≤ base → base + w < marks → (p x y i : ℕ) (W' : List ℕ) → p ≡ wd W (marks + 2 * (k - 1))
+    → slotStart m ≤ base → base + w < marks → (p x y i : ℕ) (W1 W' : List ℕ) → p ≡ wd W (marks + 2 * (k - 1))
     → x ≡ Option·getD (closingOf (opAt W (wd W (base + p)))) 0 → y ≡ opAt W item → x ≡ y
-    → Given W (wd W (base + p)) (base + (p + 1)) (w - (p + 1)) W'
+    → Given W (wd W (base + p)) (base + (p + 1)) (w - (p + 1)) W1
+    → W' ≡ set W1 (closeWord (wd W (base + p))) (word 7 (endAt W1 item)) → slotEnd (wd W (base + p)) ≤ length W1
     → Follows W' X base marks lo m w i (On (record { write = p + 1; depth = k - 1; index = i })) (closing t cs i s) × ((j : ℕ) → Free X lo m j → wd W' j ≡ wd W j)
 unfolding closer
-close-takes (outer v e) n tree below apart p x y i W' ep ex ey h a = absurd (n e)
-close-takes {W} {X} {base} {marks} {lo} {l} {m} {k} {w} {t = t} {cs = cs}
-    (inner {l = l'} {m = m'} {k' = k'} {w' = w'} {v = r} {i = j} {o = o} {d = d} {s = s'} st z v e) n tree below apart p x y i W' ep ex ey h a =
+close-takes (outer v e) n tree below apart p x y i W1 W' ep ex ey h a close room = absurd (n e)
+close-takes {W} {X} {base} {marks} {lo} {l} {m} {k} {w} {item} {t = t} {cs = cs}
+    (inner {l = l'} {m = m'} {k' = k'} {w' = w'} {v = r} {i = j} {o = o} {d = d} {s = s'} st z v e) n tree below apart p x y i W1 W' ep ex ey h a
+    close room =
     let b = opener-le z in
     let c = back-le (v .done) in
     let tl = tree .low in let th = tree-below tree in let sl = standing-le st in
     let place : p ≡ w' = ep ∙ innermost-place z in
     let count : w - (w' + 1) ≡ r = omega arith in
     let level : k - 1 ≡ k' = omega (arith, z .level) in
-    let given : Given W (z .q) (base + (w' + 1)) r W' = rw (place, z .slot, count) at a in
+    let given : Given W (z .q) (base + (w' + 1)) r W1 = rw (place, z .slot, count) at a in
+    let closed : W' ≡ set W1 (closeWord (z .q)) (word 7 (endAt W1 item)) = rw (place, z .slot) at close in
+    let inside : slotEnd (z .q) ≤ length W1 = rw (place, z .slot) at room in
     let array : InArray W (z .q ∷ X) (base + (w' + 1)) r m' l (inOrder d)
     =
     written-array
     (record { ds = v .ds; done = back-avoid (λ s' from to out. (omega arith, out)) (v .done); run = v .run; wrote = v .wrote }) in
-    let taken : Taken W X (z .q) l' m o (inOrder d) W' =
-    section-taken (array .bs) given (array .seg) (array .count) (array .rep) (z .leaf) c (omega arith) (z .opens) in
+    let taken : Taken W X (z .q) l' m (closedBy t o) (inOrder d) W' =
+    section-taken (array .bs) given (array .seg) (array .count) (array .rep) (z .leaf) c (omega arith) (z .opens) (tree .token) closed inside in
     let above : (j : ℕ) → base ≤ j → wd W' j ≡ wd W j = λ j h. taken .same j (free-above X l' m j (omega arith)) in
     let low : (j : ℕ) → j < slotStart l' → wd W' j ≡ wd W j = λ j h. taken .same j (λ s o from to inside out. omega arith) in
     let before : Standing W' X base marks lo l' k' w' s' =
     standing-keep W W' low (λ j h h'. above j h) (λ j h h'. above j (omega arith)) st in
-    let after : Standing W' X base marks lo m k' (w' + 1) (placed o (inOrder d) s') =
+    let after : Standing W' X base marks lo m k' (w' + 1) (placed (closedBy t o) (inOrder d) s') =
     standing-place before (taken .tree) (above (base + w') (omega arith) ∙ z .slot) in
     let is : closer o ≡ t .op = sym (ap (λ (q : ℕ). Option·getD (closingOf q) 0) (innermost-op z p ep)) ∙ sym ex ∙ h ∙ ey ∙ tree-op tree in
-    let all : Standing W' X base marks lo m (k - 1) (p + 1) (placed o (inOrder d) s') = rw (place, level) after in (
+    let all : Standing W' X base marks lo m (k - 1) (p + 1) (placed (closedBy t o) (inOrder d) s') = rw (place, level) after in (
       rw (closing-takes t o cs d i j s' is) (on all (standing-depth all) (fewer r place e) refl),
       λ j f. taken .same j (free-part X lo m l' m j sl (le-refl m) f),
     )
+
+pub close-closed : {W : List ℕ} {base marks k w item : ℕ} → k ≢ 0 → (p x y i : ℕ) (W1 W' : List ℕ) → p ≡ wd W (marks + 2 * (k - 1))
+    → x ≡ Option·getD (closingOf (opAt W (wd W (base + p)))) 0 → y ≡ opAt W item → x ≡ y
+    → Given W (wd W (base + p)) (base + (p + 1)) (w - (p + 1)) W1
+    → W' ≡ set W1 (closeWord (wd W (base + p))) (word 7 (endAt W1 item)) → slotEnd (wd W (base + p)) ≤ length W1
+    → Closed W base marks w k i item (On (record { write = p + 1; depth = k - 1; index = i })) W'
+close-closed {W} {base} {marks} {k} {w} {item} n p x y i W1 W' ep ex ey h a close room =
+    record {
+      answer = λ g. takes g .0;
+      same = λ g. takes g .1;
+      long = set-long W1 W' (closeWord (wd W (base + p))) (word 7 (endAt W1 item)) close ∙ a .long;
+    }
+  where
+    takes : (g : LookAt W base marks w k item)
+        → Follows W' (g .X) base marks (g .lo) (g .m) w i (On (record { write = p + 1; depth = k - 1; index = i })) (closing (g .k) (g .cs) i (g .s)) × ((j : ℕ) → Free (g .X) (g .lo) (g .m) j → wd W' j ≡ wd W j)
+    takes g = close-takes (g .standing) n (g .tree) (g .below) (g .apart) p x y i W1 W' ep ex ey h a close room
 
 -- ---- `look`
 

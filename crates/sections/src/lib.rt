@@ -132,7 +132,8 @@ fn open_section(work: &mut [u32], base: usize, marks: usize, at: Reached, opener
     }
 }
 
-// A closer in an open section: it closes the innermost one, which takes what was written after its opener, or differs.
+// A closer in an open section: it closes the innermost one, which closes at its end and takes what was written after its opener, or
+// it differs.
 fn close_section(work: &mut [u32], base: usize, marks: usize, at: Reached, closer: u32) -> Bracket
     requires { ⌜ LookAt (now work) base marks (at .write) (at .depth) closer × (at .depth ≢ 0) × (at .index < 2 ^ 32) ⌝ }
     ensures { λ r. ⌜ Closed (now (work .entry)) base marks (at .write) (at .depth) (at .index) closer r (now (work .exit)) ⌝ }
@@ -152,6 +153,7 @@ fn close_section(work: &mut [u32], base: usize, marks: usize, at: Reached, close
     }
     let from = place + 1;
     children::give_children(work, opener, base + from, at.write - from);
+    slots::set_close(work, opener, closer);
     Bracket::On(Reached {
         write: from,
         depth: inner,

@@ -3,7 +3,7 @@
 use oracle::generate::dress;
 use oracle::lines::{Line, findings, lines};
 use oracle::vectors::{Stored, stored};
-use oracle::words::{Answer, Case, FULL_SET, Token, decode_tree, exact_set};
+use oracle::words::{Answer, Case, FULL_SET, Token, exact_set};
 use std::io::Write;
 use std::process::exit;
 
@@ -205,8 +205,7 @@ fn print(out: &mut impl Write, place: usize, case: &Case, answer: &Answer) -> st
         )?;
     }
     match answer {
-        Answer::Tree(words) => {
-            let nodes = decode_tree(words).expect("an answer's words are one tree");
+        Answer::Tree(nodes) => {
             writeln!(out, "tree {}", nodes.len())?;
             for node in nodes {
                 let t = node.token;

@@ -69,7 +69,7 @@ mod seen {
             if self.trees == 1 || nodes.len() * self.nodes.1 > self.nodes.0 * tokens {
                 self.nodes = (nodes.len(), tokens);
             }
-            let levels = depth(&nodes);
+            let levels = depth(nodes).expect("an answer is one tree");
             if self.trees == 1 || levels + self.levels.1 > self.levels.0 + tokens {
                 self.levels = (levels, tokens);
             }

@@ -3,7 +3,7 @@
 
 use super::Rng;
 use crate::refusal::{Call, Refusal};
-use crate::words::{Case, LAST_PLACE, MOST_TOKENS, TOKEN_WORDS, kind, low, word};
+use crate::words::{Case, LAST_PLACE, MOST_TOKENS, TOKEN_WORDS, TREE_WORDS, kind, low, word};
 
 /// What can be spoiled, by the number of its answer.
 const NUMBERS: [u32; 16] = [1, 1, 2, 3, 4, 5, 6, 7, 8, 8, 8, 9, 10, 11, 11, 11];
@@ -59,10 +59,10 @@ fn spoil_call(rng: &mut Rng, call: &mut Call, number: u32) -> Refusal {
             while call.list.len() <= MOST_TOKENS * TOKEN_WORDS {
                 call.list.extend(&token);
             }
-            call.tree_len = 18 * MOST_TOKENS as u64 + 18;
+            call.tree_len = (TREE_WORDS * (MOST_TOKENS + 1)) as u64;
             call.work_len = 64 * MOST_TOKENS as u64 + 128;
         }
-        3 if tokens > 0 => call.tree_len = rng.below(18 * tokens as usize) as u64,
+        3 if tokens > 0 => call.tree_len = rng.below(TREE_WORDS * tokens as usize) as u64,
         5 => call.work_len = rng.below(64 * tokens as usize + 64) as u64,
         6 => call.used.1 |= 1 << (47 + rng.below(17)),
         7 => call.source_len = u64::from(LAST_PLACE) + 1 + (rng.bits() >> (8 + rng.below(50))),

@@ -3,9 +3,10 @@
 //! The parts make operator lists: [`alphabets`] every list over a few operators, [`random`] lists
 //! weighted to what goes wrong, [`grammar`] expressions and scripts, [`patterns`] every operator in
 //! a certain place, [`shapes`] flat, deep and ladder lists of a given length. [`case`] dresses one with payloads, spans, a used set, a source
-//! length and a version; [`damage`] spoils the words of a case. [`Mixed`] goes through them all.
+//! length and a version; [`damage`] spoils the words of a case. [`Mixed`] goes through them all. [`brackets`] makes cases of its own.
 
 pub mod alphabets;
+pub mod brackets;
 pub mod damage;
 pub mod dress;
 pub mod grammar;

@@ -11,7 +11,7 @@ use crate::catalog::{MathCatalog, MathRef, QueryIndex};
 use crate::diag::LanguageMessage as Msg;
 use crate::ops::{ExpressionOp, OpSet};
 use crate::version::{MolangVersion, RawVersion};
-use crate::words::{Answer, Case, Record, Token, TreeNode, tree_words};
+use crate::words::{Answer, Case, Record, RustNode, Token};
 use std::fmt::{Display, Write as _};
 
 /// A pass failed; the reason is already logged.
@@ -161,12 +161,12 @@ fn leaf(token: &Token) -> Node {
 }
 
 /// The nodes of a tree, parent first.
-fn preorder(root: &Node) -> Vec<TreeNode> {
+fn preorder(root: &Node) -> Vec<RustNode> {
     let mut nodes = Vec::new();
     let mut open = vec![root];
     while let Some(node) = open.pop() {
         let (variant, value) = variant_and_value(&node.value);
-        nodes.push(TreeNode {
+        nodes.push(RustNode {
             token: Token {
                 op: node.op.ordinal(),
                 variant,
@@ -191,7 +191,7 @@ pub(crate) fn answer(case: &Case) -> Answer {
     match grouped(&mut cx, case) {
         Some(root) => {
             assert!(cx.records.is_empty(), "a tree comes without a message");
-            Answer::Tree(tree_words(&preorder(&root)))
+            Answer::Tree(preorder(&root))
         }
         None => Answer::Messages(cx.records),
     }

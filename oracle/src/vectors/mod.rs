@@ -3,7 +3,8 @@
 //! The file is the eight bytes `SORBVEC1`, the number of records as four bytes (little-endian) and
 //! the records. A number is a varint: seven bits a byte, lowest first, the top bit set on all bytes
 //! but the last. A word of a list is kept as the number `word XOR (kind << 29)`, `kind` being the
-//! one that its field asks for (1 to 5 in turn); a word of a tree likewise (1 to 6 in turn).
+//! one that its field asks for (1 to 5 in turn); a word of a tree likewise (1 to 6 in turn: where a
+//! node closes, its seventh word, is not the Rust's and not kept; `closing` finds it from the list).
 //!
 //! A record is
 //!
@@ -19,8 +20,8 @@
 
 use crate::refusal::{Call, Refusal};
 use crate::words::{
-    Answer, Case, FULL_SET, LAST_PLACE, NODE_WORDS, Record, TOKEN_WORDS, decode_list, exact_set,
-    list_words, word,
+    Answer, Case, FULL_SET, LAST_PLACE, Record, RustNode, TOKEN_WORDS, Token, decode_list,
+    exact_set, kind, list_words, low, word,
 };
 
 #[cfg(molangx)]
@@ -33,6 +34,9 @@ pub use made::made;
 pub const SEED: u64 = 20_261_115;
 
 const MAGIC: &[u8; 8] = b"SORBVEC1";
+
+/// Words of a kept node: a token's and its child count.
+const KEPT_WORDS: usize = TOKEN_WORDS + 1;
 
 /// A record of the file.
 #[derive(Clone, Debug, PartialEq, Eq)]
@@ -127,9 +131,13 @@ fn put_record(bytes: &mut Vec<u8>, record: &Stored) {
 
 fn put_answer(bytes: &mut Vec<u8>, record: &Stored) {
     match record {
-        Stored::Answered(_, Answer::Tree(words)) => {
-            put_number(bytes, (words.len() / NODE_WORDS) as u64);
-            put_words(bytes, words, NODE_WORDS);
+        Stored::Answered(_, Answer::Tree(nodes)) => {
+            put_number(bytes, nodes.len() as u64);
+            for node in nodes {
+                let mut words = node.token.words().to_vec();
+                words.push(word(6, node.children));
+                put_words(bytes, &words, KEPT_WORDS);
+            }
         }
         Stored::Answered(_, Answer::Messages(records)) => {
             put_number(bytes, records.len() as u64);
@@ -258,8 +266,8 @@ impl<'b> Reader<'b> {
         let count = self.number()?;
         match kind {
             0 => {
-                let words = count.saturating_mul(NODE_WORDS as u64);
-                Ok(Answer::Tree(self.words(words, NODE_WORDS)?))
+                let nodes = (0..count).map(|_| self.node());
+                Ok(Answer::Tree(nodes.collect::<Result<_, _>>()?))
             }
             1 => {
                 let messages = (0..count).map(|_| self.message());
@@ -267,6 +275,20 @@ impl<'b> Reader<'b> {
             }
             _ => Err(self.malformed("no such answer")),
         }
+    }
+
+    fn node(&mut self) -> Result<RustNode, Malformed> {
+        let words = self.words(KEPT_WORDS as u64, KEPT_WORDS)?;
+        let token = Token::of_words(&words[..TOKEN_WORDS]);
+        let token = token.ok_or_else(|| self.malformed("a node without a token"))?;
+        let count = words[TOKEN_WORDS];
+        if kind(count) != 6 {
+            return Err(self.malformed("a node without a child count"));
+        }
+        Ok(RustNode {
+            token,
+            children: low(count),
+        })
     }
 
     fn message(&mut self) -> Result<Record, Malformed> {

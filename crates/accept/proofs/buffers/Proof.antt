@@ -18,7 +18,7 @@ returns : tie.Need-returns
 unfolding lentRefusal firstOf must
 returns c =
     let a = c .before .before .args in
-    rw (lt-leb (18 * a .n) (a .sizes .tree) (omega arith))
+    rw (lt-leb (21 * a .n) (a .sizes .tree) (omega arith))
 
 mul-if2 : tie.Need-mul-if2
 mul-if2 c = search needs
@@ -27,7 +27,7 @@ returns-2 : tie.Need-returns-2
 unfolding lentRefusal firstOf must
 returns-2 c =
     let a = c .before .before .before .before .args in
-    rw (le-leb (18 * a .n) (a .sizes .tree) (omega arith), lt-leb 16 (a .sizes .messages) (omega arith))
+    rw (le-leb (21 * a .n) (a .sizes .tree) (omega arith), lt-leb 16 (a .sizes .messages) (omega arith))
 
 mul-if3 : tie.Need-mul-if3
 mul-if3 c = search needs
@@ -40,7 +40,7 @@ unfolding lentRefusal firstOf must
 returns-3 c =
     let a = c .before .before .before .before .before .before .args in
     rw (
-      le-leb (18 * a .n) (a .sizes .tree) (omega arith),
+      le-leb (21 * a .n) (a .sizes .tree) (omega arith),
       le-leb 16 (a .sizes .messages) (omega arith),
       lt-leb (64 * a .n + 64) (a .sizes .work) (omega arith),
     )
@@ -56,7 +56,7 @@ returns-4 c =
     sym (c .before .is-legal .ensures) ∙ not-true (c .before .is-legal .result) (c .if4 .taken)
     in
     rw (
-      le-leb (18 * a .n) (a .sizes .tree) (omega arith),
+      le-leb (21 * a .n) (a .sizes .tree) (omega arith),
       le-leb 16 (a .sizes .messages) (omega arith),
       le-leb (64 * a .n + 64) (a .sizes .work) (omega arith),
       illegal,
@@ -70,7 +70,7 @@ returns-5 c =
     sym (c .before .before .before .is-legal .ensures) ∙ not-false (c .before .before .before .is-legal .result) (c .before .before .if4 .left)
     in
     rw (
-      le-leb (18 * a .n) (a .sizes .tree) (omega arith),
+      le-leb (21 * a .n) (a .sizes .tree) (omega arith),
       le-leb 16 (a .sizes .messages) (omega arith),
       le-leb (64 * a .n + 64) (a .sizes .work) (omega arith),
       legal,
@@ -85,7 +85,7 @@ returns-6 c =
     sym (c .before .before .before .is-legal .ensures) ∙ not-false (c .before .before .before .is-legal .result) (c .before .before .if4 .left)
     in
     rw (
-      le-leb (18 * a .n) (a .sizes .tree) (omega arith),
+      le-leb (21 * a .n) (a .sizes .tree) (omega arith),
       le-leb 16 (a .sizes .messages) (omega arith),
       le-leb (64 * a .n + 64) (a .sizes .work) (omega arith),
       legal,

@@ -11,7 +11,7 @@ use Rattle.nodes.specs.Slots.{opAt}
 use Rattle.nodes.specs.Children.{CanGive}
 use Rattle.nodes.proofs.Store.{tree-below}
 use Rattle.sections.proofs.SectionOpen.{standing-named}
-use Rattle.sections.proofs.SectionLooking.{close-in, close-differs, close-takes, look-in}
+use Rattle.sections.proofs.SectionLooking.{close-in, close-differs, close-closed, look-in}
 use Rattle.sections.proofs.close_section.Statement.{statement}
 use Rattle.sections.proofs.close_section.Tie as tie
 
@@ -77,36 +77,47 @@ returns c =
       long = refl;
     }
 
+-- where the opener was found, from where its closer is known to match
+abbrev found : tie.Else1 → tie.After-opener-at
+found c = c .before .before .before .before .before .before .before
+
 add-from : tie.Need-add-from
-add-from c = omega (arith, within (c .before .before .before .before .before .before .before))
+add-from c = omega (arith, within (found c))
 
 add-give-children : tie.Need-add-give-children
-add-give-children c = omega (arith, within (c .before .before .before .before .before .before .before .before))
+add-give-children c = omega (arith, within (found (c .before)))
 
 sub-give-children : tie.Need-sub-give-children
-sub-give-children c = omega (arith, body (c .before .before .before .before .before .before .before .before .before) .0)
+sub-give-children c = omega (arith, body (found (c .before .before)) .0)
 
 give-children-requires : tie.Need-give-children-requires
-give-children-requires c κs = body (c .before .before .before .before .before .before .before .before .before) .2
+give-children-requires c κs = body (found (c .before .before)) .2
+
+-- the opener's slot lies within the words that have its children
+opener-in : (c : tie.After-give-children) → let o = found (c .before .before .before) in let a = o .before .before .before .before .args in
+    slotEnd (wd (a .work .now) (a .base + o .opener-at .result)) ≤ length (c .give-children .last .0)
+opener-in c = let o = found (c .before .before .before) in omega (arith, body o .1, within o, c .give-children .ensures .long)
+
+set-close-requires : tie.Need-set-close-requires
+set-close-requires c κs =
+    let given = c .before .before .before in
+    let g = found (given .before .before .before) .before .before .before .before .pre .0 in
+    (opener-in given, omega (arith, look-in g, g .apart, g .room, given .give-children .ensures .long))
 
 same-length-2 : tie.Need-same-length-2
 same-length-2 c = search needs
 
 returns-2 : tie.Need-returns-2
 returns-2 c =
-    let test = c .before .before .before .before .before .before in
-    let o = test .before .before .before .before .before .before in
+    let set = c .before .before .set-close in
+    let given = c .before .before .before .before .before .before in
+    let same = given .before .before .before in
+    let test = same .before in
+    let o = found same in
     let s = o .before .before .before .before in
-    let given = c .before .before .give-children in
-    record {
-      answer = λ g.
-          close-takes (g .standing) (s .pre .1) (g .tree) (g .below) (g .apart) (o .opener-at .result) _ _ (s .args .at .index) (given .last .0) (o .opener-at .ensures)
-          (looked-for (test .before .before)) (test .operator-of2 .ensures) (c .before .before .before .before .before .if1 .left) (given .ensures) .0;
-      same = λ g.
-          close-takes (g .standing) (s .pre .1) (g .tree) (g .below) (g .apart) (o .opener-at .result) _ _ (s .args .at .index) (given .last .0) (o .opener-at .ensures)
-          (looked-for (test .before .before)) (test .operator-of2 .ensures) (c .before .before .before .before .before .if1 .left) (given .ensures) .1;
-      long = given .ensures .long;
-    }
+    close-closed (s .pre .1) (o .opener-at .result) _ _ (s .args .at .index) (given .give-children .last .0) (set .last .0)
+    (o .opener-at .ensures) (looked-for (test .before .before)) (test .operator-of2 .ensures) (same .if1 .left)
+    (given .give-children .ensures) (set .ensures) (opener-in given)
 
 pub close-section-spec : {M : Type 1} → statement M
 close-section-spec =
@@ -128,5 +139,6 @@ close-section-spec =
     add-give-children
     sub-give-children
     give-children-requires
+    set-close-requires
     same-length-2
     returns-2)

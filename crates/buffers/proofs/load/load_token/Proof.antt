@@ -22,6 +22,9 @@ operator-requires c κs = search needs
 leaf-classes-requires : tie.Need-leaf-classes-requires
 leaf-classes-requires c κs = search needs
 
+of-requires : tie.Need-of-requires
+of-requires c κs = search needs
+
 set-leaf-requires : tie.Need-set-leaf-requires
 set-leaf-requires c κs = search needs
 
@@ -40,14 +43,15 @@ same-length c = search needs
 returns : tie.Need-returns
 returns c =
     let laid = c .before .before in
-    let classes = laid .before .before in
+    let stored = laid .before in
+    let classes = stored .before .before in
     let token = classes .before .before in
     let slot = token .before in
     let start = slot .before .before .before in
     let a = start .args in
     token-stores (a .list .now) (a .work .now) (a .table .now) (a .i) (a .stack) (start .pre) (laid .set-leaf .last .0)
     (slot .slot-of .result) (classes .leaf-classes .result .0) (classes .before .operator .result) (slot .slot-of .ensures)
-    (rw (token .at .ensures) at (laid .set-leaf .ensures)) (rw (token .at .ensures) at (classes .before .operator .ensures)) (classes .leaf-classes .ensures)
+    (rw (stored .of .ensures, token .at .ensures) at (laid .set-leaf .ensures)) (rw (token .at .ensures) at (classes .before .operator .ensures)) (classes .leaf-classes .ensures)
 
 pub load-token-spec : {M : Type 1} → statement M
 load-token-spec =
@@ -59,6 +63,7 @@ load-token-spec =
     at-requires
     operator-requires
     leaf-classes-requires
+    of-requires
     set-leaf-requires
     add-work
     mul-work

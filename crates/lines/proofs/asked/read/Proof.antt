@@ -19,7 +19,7 @@ slice-aggregate-read-in-3 : tie.Need-slice-aggregate-read-in-3
 slice-aggregate-read-in-3 c = search needs
 
 read-in-requires : tie.Need-read-in-requires
-read-in-requires c κs = (omega arith, (long 73746 73746 0 (omega arith), long 262272 262272 1 (omega arith)))
+read-in-requires c κs = (omega arith, (long 86037 86037 0 (omega arith), long 262272 262272 1 (omega arith)))
 
 returns : tie.Need-returns
 returns c = search needs

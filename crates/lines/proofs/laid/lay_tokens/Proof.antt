@@ -5,7 +5,6 @@ use native.Mathlib.Omega.{arith}
 use lib.ListN.{length}
 use Rattle.lines.proofs.laid.lay_tokens.Statement.{statement}
 use Rattle.lines.proofs.laid.lay_tokens.Tie as tie
-use Rattle.lines.proofs.laid.lay_token.Reads as lay-token-reads
 use Rattle.lines.proofs.laid.token_of.Reads as token-of-reads
 
 abbrev Inv-loop : tie.InvT-loop
@@ -17,14 +16,14 @@ abbrev μ-loop : tie.MeasureT-loop
 loop-holds : tie.Need-loop-holds Inv-loop μ-loop
 loop-holds c = omega arith
 
-mul-lay-token : tie.Need-mul-lay-token Inv-loop μ-loop
-mul-lay-token c = omega arith
-
 token-of-requires : tie.Need-token-of-requires Inv-loop μ-loop
 token-of-requires c κs = omega arith
 
-lay-token-requires : tie.Need-lay-token-requires Inv-loop μ-loop
-lay-token-requires c κs = omega arith
+mul-lay : tie.Need-mul-lay Inv-loop μ-loop
+mul-lay c = omega arith
+
+lay-requires : tie.Need-lay-requires Inv-loop μ-loop
+lay-requires c κs = omega arith
 
 add-i : tie.Need-add-i Inv-loop μ-loop
 add-i c = omega arith
@@ -48,9 +47,9 @@ lay-tokens-spec =
     Inv-loop
     μ-loop
     loop-holds
-    mul-lay-token
     token-of-requires
-    lay-token-requires
+    mul-lay
+    lay-requires
     add-i
     loop-less
     loop-again

@@ -1,4 +1,5 @@
 -- `parse::report::host_value` meets its contract. Assumes nothing.
+use mathlib.Core.Path.{ap}
 use borrow.Author.Needs.{needs}
 use Rattle.parse.proofs.RecordLaws.{no-host, a-host}
 use Rattle.parse.proofs.report.host_value.Statement.{statement}
@@ -17,16 +18,13 @@ returns c =
     let variant = c .before .variant in
     no-host (a .work .now) (a .s) (variant .result) (rw (token .token-of .ensures) at (variant .ensures)) (c .if1 .taken)
 
-value-requires : tie.Need-value-requires
-value-requires c κs = search needs
-
 returns-2 : tie.Need-returns-2
 returns-2 c =
-    let token = c .before .before .before in
+    let token = c .before .before in
     let a = token .before .before .args in
-    let variant = c .before .before .variant in
-    a-host (a .work .now) (a .s) (variant .result) (c .value .result) (rw (token .token-of .ensures) at (variant .ensures)) (c .before .if1 .left)
-    (rw (token .token-of .ensures) at (c .value .ensures))
+    let variant = c .before .variant in
+    a-host (a .work .now) (a .s) (variant .result) (token .token-of .result .value) (rw (token .token-of .ensures) at (variant .ensures)) (c .if1 .left)
+    (ap (λ k. k .value) (token .token-of .ensures))
 
 pub host-value-spec : {M : Type 1} → statement M
-host-value-spec = tie.close (tie.spec token-of-requires variant-requires returns value-requires returns-2)
+host-value-spec = tie.close (tie.spec token-of-requires variant-requires returns returns-2)
