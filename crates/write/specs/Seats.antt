@@ -6,21 +6,30 @@ use lib.Dec.{eqb}
 use Rattle.molang.specs.Operator
 use Rattle.molang.specs.Operator.{isOneOf, isMathCall, isBracket}
 use Rattle.molang.specs.Plain as plain
-use Rattle.molang.specs.Plain.{isPlainLeaf, isPlainBinary, isCall, isRightOfQuestion, isUnderMathCall}
+use Rattle.molang.specs.Plain.{isPlainLeaf, isPlainBinary, isCall, isRightOfQuestion, isUnderMathCall, isUnderSemicolon}
 use Rattle.write.specs.declared.plain.Seat.{Seat}
-use Rattle.write.specs.declared.plain.Seat.the-variants.{Enclosed, UnderMathCall, LeftOfComma, RightOfQuestion, Operand}
+use Rattle.write.specs.declared.plain.Seat.the-variants.{Enclosed, UnderMathCall, LeftOfComma, RightOfQuestion, Operand, UnderSemicolon}
 
--- The definition's seat, by which the plain forms go.
+-- The definition's seat, by which the plain forms go. (The root of an expression has the forms of a node elsewhere.)
 abbrev pub formSeat : Seat → plain.Seat
 formSeat Enclosed = plain.elsewhere
 formSeat UnderMathCall = plain.underMathCall
 formSeat LeftOfComma = plain.elsewhere
 formSeat RightOfQuestion = plain.rightOfQuestion
 formSeat Operand = plain.elsewhere
+formSeat UnderSemicolon = plain.underSemicolon
 
 -- The seat of the one child of an operator.
 unfoldable pub onlySeat : ℕ → Seat
-onlySeat op = elim (isBracket op) [ true ↦ Enclosed | false ↦ elim (isMathCall op) [ true ↦ UnderMathCall | false ↦ Operand ] ]
+onlySeat op =
+    elim (isBracket op) [
+      | true ↦ Enclosed
+      | false ↦
+          elim (eqb op Operator.semicolon) [
+            | true ↦ UnderSemicolon
+            | false ↦ elim (isMathCall op) [ true ↦ UnderMathCall | false ↦ Operand ]
+          ]
+    ]
 
 -- The seat of the first of two children.
 unfoldable pub leftSeat : ℕ → Seat
@@ -34,12 +43,25 @@ rightSeat op = elim (eqb op Operator.conditional) [ true ↦ RightOfQuestion | f
 unfoldable pub isPrefix : ℕ → Bool
 isPrefix op = isOneOf (Operator.leftParenthesis ∷ Operator.negate ∷ Operator.logicalNot ∷ []) op
 
--- The plain forms, over a number of children of which the first has the operator `first`.
+-- The plain forms of what is no semicolon, over a number of children of which the first has the operator `first`.
+unfoldable pub expressionBy : Seat → ℕ → ℕ → ℕ → Bool
+expressionBy p op zero first = isPlainLeaf op || (isBracket op && isUnderMathCall (formSeat p))
+expressionBy p op (suc zero) first =
+    isPrefix op || (isCall op && isBracket first) || (eqb op Operator.return && isUnderSemicolon (formSeat p))
+expressionBy p op (suc (suc zero)) first =
+    isPlainBinary op || (eqb op Operator.conditionalElse && isRightOfQuestion (formSeat p))
+    || (eqb op Operator.assignment && isUnderSemicolon (formSeat p))
+expressionBy p op (suc (suc (suc n))) first = false
+
+-- That of a statement: under a semicolon, over one child that is none.
+unfoldable pub statementBy : Seat → ℕ → ℕ → Bool
+statementBy p zero first = false
+statementBy p (suc zero) first = not (eqb first Operator.semicolon) && isUnderSemicolon (formSeat p)
+statementBy p (suc (suc n)) first = false
+
+-- The plain forms.
 unfoldable pub plainBy : Seat → ℕ → ℕ → ℕ → Bool
-plainBy p op zero first = isPlainLeaf op || (isBracket op && isUnderMathCall (formSeat p))
-plainBy p op (suc zero) first = isPrefix op || (isCall op && isBracket first)
-plainBy p op (suc (suc zero)) first = isPlainBinary op || (eqb op Operator.conditionalElse && isRightOfQuestion (formSeat p))
-plainBy p op (suc (suc (suc n))) first = false
+plainBy p op children first = elim (eqb op Operator.semicolon) [ true ↦ statementBy p children first | false ↦ expressionBy p op children first ]
 
 -- The seat spares a node of this operator its pair.
 abbrev pub isSpared : Seat → ℕ → Bool
@@ -48,6 +70,7 @@ isSpared UnderMathCall op = false
 isSpared LeftOfComma op = eqb op Operator.comma
 isSpared RightOfQuestion op = eqb op Operator.conditionalElse
 isSpared Operand op = false
+isSpared UnderSemicolon op = true
 
 -- A node of this operator and so many children gets an added pair.
 unfoldable pub isPaired : Seat → ℕ → ℕ → Bool

@@ -9,13 +9,12 @@ ghost use mathlib.Core.Path.{_≡_};
 ghost use Rattle.molang.specs.Plain as plain;
 ghost use Rattle.molang.specs.WriteEntry.{treesOf};
 ghost use Rattle.write.specs.Answers.{verdictOf, judgement};
-ghost use Rattle.write.specs.Seats.{formSeat, onlySeat, leftSeat, rightSeat, isPrefix, plainBy, isPaired, tokensFor};
+ghost use Rattle.write.specs.Seats.{formSeat, onlySeat, leftSeat, rightSeat, isPrefix, statementBy, expressionBy, plainBy, isPaired};
+ghost use Rattle.write.specs.Seats.{tokensFor};
 ghost use Rattle.shape.specs.Shaped.{OneTree};
 
 // The seat of a node under its parent, as far as its form and its pair of brackets depend on it.
 pub enum Seat {
-    // A statement of a script, or what a statement holds.
-    UnderSemicolon,
     // The root of an expression, or a bracket's child.
     Enclosed,
     // The bracket under a math call.
@@ -26,6 +25,8 @@ pub enum Seat {
     RightOfQuestion,
     // Any other operand.
     Operand,
+    // A statement of a script, or what a statement holds.
+    UnderSemicolon,
 }
 
 // What a tree is found to be.
@@ -131,7 +132,7 @@ fn is_under_semicolon(seat: Seat) -> bool
 
 // A leaf; a bracket may be empty under a math call.
 fn is_plain_without_children(seat: Seat, op: u32) -> bool
-    ensures { λ r. ⌜ r ≡ plainBy seat op 0 0 ⌝ }
+    ensures { λ r. ⌜ r ≡ expressionBy seat op 0 0 ⌝ }
 {
     if op == op::LEFT_PARENTHESIS {
         return is_under_math_call(seat);
@@ -149,15 +150,12 @@ fn is_prefix(op: u32) -> bool
     }
 }
 
-// A prefix over anything; a call over its bracket; a statement over what is none, and a return in a statement.
+// A prefix over anything; a call over its bracket; a return in a statement only.
 fn is_plain_over_one(seat: Seat, op: u32, first: u32) -> bool
-    ensures { λ r. ⌜ r ≡ plainBy seat op 1 first ⌝ }
+    ensures { λ r. ⌜ r ≡ expressionBy seat op 1 first ⌝ }
 {
     if is_prefix(op) {
         return true;
-    }
-    if op == op::SEMICOLON {
-        return is_under_semicolon(seat) && first != op::SEMICOLON;
     }
     if op == op::RETURN {
         return is_under_semicolon(seat);
@@ -170,7 +168,7 @@ fn is_plain_over_one(seat: Seat, op: u32, first: u32) -> bool
 
 // A binary operator; `:` right of its `?` only, an assignment in a statement only.
 fn is_plain_over_two(seat: Seat, op: u32) -> bool
-    ensures { λ r. ⌜ r ≡ plainBy seat op 2 0 ⌝ }
+    ensures { λ r. ⌜ r ≡ expressionBy seat op 2 0 ⌝ }
 {
     if op == op::CONDITIONAL_ELSE {
         return is_right_of_question(seat);
@@ -181,10 +179,26 @@ fn is_plain_over_two(seat: Seat, op: u32) -> bool
     is_plain_binary(op)
 }
 
+// A statement: under a semicolon, over one child that is none.
+fn is_statement(seat: Seat, children: u32, first: u32) -> bool
+    ensures { λ r. ⌜ r ≡ statementBy seat children first ⌝ }
+{
+    if children != 1 {
+        return false;
+    }
+    if first == op::SEMICOLON {
+        return false;
+    }
+    is_under_semicolon(seat)
+}
+
 // Whether a node of op has a plain form; `first` is its first child's operator, if it has children.
 pub fn is_plain(seat: Seat, op: u32, children: u32, first: u32) -> bool
     ensures { λ r. ⌜ r ≡ plainBy seat op children first ⌝ }
 {
+    if op == op::SEMICOLON {
+        return is_statement(seat, children, first);
+    }
     match children {
         0 => is_plain_without_children(seat, op),
         1 => is_plain_over_one(seat, op, first),
@@ -204,7 +218,7 @@ pub fn is_paired(seat: Seat, op: u32, children: u32) -> bool
         return false;
     }
     match seat {
-        Seat::UnderSemicolon | Seat::Enclosed => false,
+        Seat::Enclosed | Seat::UnderSemicolon => false,
         Seat::LeftOfComma => op != op::COMMA,
         Seat::RightOfQuestion => op != op::CONDITIONAL_ELSE,
         _ => true,

@@ -122,7 +122,6 @@ pub calls-first : ready nothingYet callPass ≡ true
 unfolding computed role ready below
 calls-first = refl
 
-
 abbrev pub ruled : Bool → Bool → Bool → Rules
 ruled c a p = record { comparisonsFirst = c; andFirst = a; pairsRight = p }
 
