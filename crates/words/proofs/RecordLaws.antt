@@ -6,7 +6,7 @@ use Prim.Native.Nat.{ℕ, _+_, _≤_}
 use native.Mathlib.Nat.{add-assoc}
 use native.Mathlib.Omega.{arith}
 use lib.ListN.{length, take, drop, length-append, length-drop, take-append-drop}
-use lib.Seq.{sets, sets-eq, drop-drop, length-take-le, take-at, drop-at, take-append-seam, drop-append-seam}
+use lib.Seq.{sets, sets-eq, drop-drop, length-take-le, take-at, drop-at, take-append-le, take-take, take-append-seam, drop-append-seam}
 use Rattle.molang.specs.Parse.{inFront}
 use Rattle.words.specs.Records.{laidAt}
 
@@ -70,3 +70,20 @@ laid-laid to xs ys list h =
     rw (before, behind, append-assoc (take to list) xs ys) refl
     in
     laid-by (to + length xs) ys (laidAt to xs list) ∙ (joined ∙ sym (laid-by to (xs ++ ys) list))
+
+-- Words before words that were laid.
+pub laid-before : (to : ℕ) (xs ys list : List ℕ) → to + length xs ≤ length list
+    → laidAt to xs (laidAt (to + length xs) ys list) ≡ laidAt to (xs ++ ys) list
+laid-before to xs ys list h =
+    let n = to + length xs in
+    let behind = drop (n + length ys) list in
+    let front = length-take-le n list h in
+    let whole : laidAt n ys list ≡ take n list ++ (ys ++ behind) = laid-by n ys list ∙ append-assoc (take n list) ys behind in
+    let before : take to (laidAt n ys list) ≡ take to list =
+    rw whole (take-append-le to (take n list) (ys ++ behind) (omega (arith, front)) ∙ take-take to n list (omega arith))
+    in
+    let after : drop n (laidAt n ys list) ≡ ys ++ behind = rw whole (drop-at (take n list) (ys ++ behind) n front) in
+    let joined : (take to list ++ xs) ++ (ys ++ behind) ≡ (take to list ++ (xs ++ ys)) ++ drop (to + length (xs ++ ys)) list =
+    rw (length-append, ← add-assoc, ← append-assoc (take to list ++ xs) ys behind, append-assoc (take to list) xs ys) refl
+    in
+    laid-by to xs (laidAt n ys list) ∙ (rw (before, after) joined ∙ sym (laid-by to (xs ++ ys) list))

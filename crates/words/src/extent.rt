@@ -31,7 +31,7 @@ fn greater(a: u32, b: u32) -> u32
 }
 
 // A span of two words taken into an extent.
-fn widened(seen: Extent, start_word: u32, end_word: u32) -> Extent
+pub fn widened(seen: Extent, start_word: u32, end_word: u32) -> Extent
     ensures { λ r. ⌜ r ≡ wider seen «start_word» «end_word» ⌝ }
 {
     Extent {

@@ -43,7 +43,7 @@ rowUnplain (p ∷ ps) n (node k cs rest) =
 
 -- The tokens of an operand at a seat.
 abbrev operandLength : Seat → Token → Forest → ℕ
-operandLength p k cs = length (operandTokens (not (isPaired p (k .op) (count cs))) k (written k cs) [])
+operandLength p k cs = length (operandTokens (not (isPaired p (k .op) (count cs))) k cs (written k cs) [])
 
 -- The tokens that such a row is written with.
 unfoldable pub rowCount : List Seat → Forest → ℕ
@@ -264,9 +264,9 @@ right-seat k e = rw (e, seatUnder) (right-by (eqb (k .op) Operator.conditional))
 
 -- The tokens of a node are its own and its children's.
 pair-length : (b : Bool) (k : Token) (cs : Forest)
-    → length (operandTokens (not b) k (written k cs) []) ≡ length (written k cs []) + ifTrue b 2
+    → length (operandTokens (not b) k cs (written k cs) []) ≡ length (written k cs []) + ifTrue b 2
 unfolding operandTokens
-pair-length true k cs = omega (arith, written-length k cs (closerFor k ∷ []))
+pair-length true k cs = omega (arith, written-length k cs (closerFor k cs ∷ []))
 pair-length false k cs = omega arith
 
 module _ (p : Seat) (k : Token) where
@@ -301,7 +301,7 @@ module _ (p : Seat) (k : Token) where
   unfolding rowCount
   counted-two x y xs ys e =
       rw (written-two k x xs y ys [], unpaired-left x xs k, unpaired-right y ys k, e)
-      (omega (arith, operand-length (standsLeft k x xs) x xs (k ∷ operandTokens (standsRight k y ys) y (written y ys) [])))
+      (omega (arith, operand-length (standsLeft k x xs) x xs (k ∷ operandTokens (standsRight k y ys) y ys (written y ys) [])))
 
   -- Where the children of a plain node stand, by their number, and that their tokens and its own are all.
   abbrev pub Goes : List Seat → Forest → Type 0

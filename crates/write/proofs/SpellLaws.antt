@@ -1,5 +1,6 @@
 -- The writing in words: words laid into the list one after the other, and the tokens of a node as those of its operands.
-use Prim.Native.Nat.{ℕ, suc, _+_, _*_, _≤_}
+use Prim.Native.Nat.{ℕ, suc, _+_, _*_, _%_, _^_, _≤_, _<_}
+use native.Mathlib.Nat.{zero-add}
 use mathlib.Core.Path.{_≡_, refl, ap, sym, _∙_}
 use mathlib.Core.Bool.{Bool, true, false, not}
 use mathlib.Core.List.{List, [], _∷_, _++_, append-assoc, append-nil}
@@ -16,13 +17,17 @@ use Rattle.write.specs.Seats.{isPaired, onlySeat, leftSeat, rightSeat}
 use Rattle.shape.specs.Shaped.{nodeLength, countIndex, closeIndex, firstFive, Shaped}
 use Rattle.shape.proofs.RowLaws.{Opened, after-trees, shaped-length, no-kids, one-kid, two-kids}
 use Rattle.molang.specs.Words.{lowOf, word, tokenWords, listWords}
-use Rattle.molang.specs.Write.{openerFor, closerFor, closerOf, standsAlone, standsLeft, standsRight, operandTokens, written}
+use Rattle.molang.specs.Read.{lowestStart, highestEnd}
+use Rattle.molang.specs.Write.{spanning, openerFor, closerFor, closerOf, standsAlone, standsLeft, standsRight, operandTokens, written}
 use Rattle.molang.specs.WriteEntry.{firstTrees, otherTrees, treesOf, writtenTokens}
 use Rattle.molang.proofs.Writing.{written-none, written-one, written-two, operand-before, written-before}
+use Rattle.words.specs.Extents.{wider, extentWith, firstExtent}
 use Rattle.words.specs.Fields.{operatorOf}
-use Rattle.words.specs.Records.{laidAt}
+use Rattle.words.specs.declared.extent.Extent.{Extent}
+use Rattle.words.proofs.TreeLaws.{Fits, first-fits, in-one, extent-step}
 use Rattle.words.specs.Tokens.{fiveWords}
-use Rattle.write.specs.Spelling.{bracketWords, closerAt, closerWords, firstSize, operandOf, nodeWritten, operandWritten}
+use Rattle.write.specs.Spelling.{spanningWords, pairOpener, pairCloser, closerWords, seenWith}
+use Rattle.write.specs.Spelling.{firstSize, operandOf, nodeWritten, operandWritten}
 
 -- The words of a list of tokens.
 pub list-words-append : (xs ys : List Token) → listWords (xs ++ ys) ≡ listWords xs ++ listWords ys
@@ -31,7 +36,7 @@ list-words-append [] ys = refl
 list-words-append (x ∷ xs) ys = rw (list-words-append xs ys, append-assoc) refl
 
 -- The closer's words, by whether the node is a bracket.
-pub bracket-closer : (ws : List ℕ) → operatorOf (getD ws 0 0) ≡ 4 → closerWords ws ≡ fiveWords (closerAt (getD ws closeIndex 0))
+pub bracket-closer : (ws : List ℕ) → operatorOf (getD ws 0 0) ≡ 4 → closerWords ws ≡ pairCloser (getD ws closeIndex 0)
 unfolding closerWords isBracket
 bracket-closer ws e = rw (eq-eqb (operatorOf (getD ws 0 0)) 4 e, closerWords)
 
@@ -39,37 +44,47 @@ pub no-closer : (ws : List ℕ) → (operatorOf (getD ws 0 0) ≡ 4 → ⊥) →
 unfolding closerWords isBracket
 no-closer ws e = rw (ne-eqb (operatorOf (getD ws 0 0)) 4 e, closerWords)
 
--- The words of a node's bracket: the node's span, payload 0.
-module _ (k : Token) (ws : List ℕ) (five : tokenWords k ≡ firstFive ws) where
-  start-word : word 2 (k .start) ≡ getD ws 1 0
-  unfolding tokenWords firstFive
-  start-word = ap (λ (l : List ℕ). getD l 1 0) five
-
-  end-word : word 3 (k .end) ≡ getD ws 2 0
-  unfolding tokenWords firstFive
-  end-word = ap (λ (l : List ℕ). getD l 2 0) five
-
-  opener-words : tokenWords (openerFor k) ≡ bracketWords 4 ws
-  unfolding tokenWords openerFor bare bracketWords
-  opener-words = rw (start-word, end-word)
-
-  closer-words : tokenWords (closerFor k) ≡ bracketWords 5 ws
-  unfolding tokenWords closerFor bare bracketWords
-  closer-words = rw (start-word, end-word)
-
 -- The words of a section's closer, by where the section closes; and of its opener, which are those of its node.
-section-closer : (k : Token) (g : ℕ) → k .close ≡ lowOf g → tokenWords (closerOf k) ≡ fiveWords (closerAt g)
-unfolding tokenWords closerOf
+section-closer : (k : Token) (g : ℕ) → k .close ≡ lowOf g → tokenWords (closerOf k) ≡ pairCloser g
+unfolding tokenWords closerOf spanning
 section-closer k g e = rw e
 
 section-opener : (k : Token) → tokenWords (unclosed k) ≡ tokenWords k
 unfolding tokenWords unclosed closedBy
 section-opener k = refl
 
--- The tokens of a node and the words that its tree fills, by the number of its children.
+-- The words of a token over a span that fits them.
+spanning-words : (o s t : ℕ) → o % 2 ^ 8 ≡ o → s < 2 ^ 29 → t < 2 ^ 29 → tokenWords (spanning o s t) ≡ fiveWords (spanningWords o s t)
+unfolding tokenWords spanning lowOf
+spanning-words o s t h a b =
+    let starts : s % 2 ^ 29 ≡ s = omega arith in
+    let ends : t % 2 ^ 29 ≡ t = omega arith in
+    rw (starts, ends, h, zero-add)
+
+-- The words of an added pair over a tree.
+module _ (k : Token) (cs rest : Forest) (h : Fits (firstExtent (node k cs rest))) where
+  opener-words : tokenWords (openerFor k cs) ≡ pairOpener (firstExtent (node k cs rest) .start) (firstExtent (node k cs rest) .end)
+  unfolding openerFor firstExtent
+  opener-words = spanning-words 4 (lowestStart (k .start) cs) (highestEnd (k .end) cs) refl (h .0) (h .1)
+
+  closer-words : tokenWords (closerFor k cs) ≡ pairCloser (firstExtent (node k cs rest) .end)
+  unfolding closerFor firstExtent
+  closer-words = spanning-words 5 (highestEnd (k .end) cs) (highestEnd (k .end) cs) refl (h .1) (h .1)
+
+-- The spans of a node taken into an extent: its own, then those of the trees below it, which are as many as its count says.
+node-spans : (W : List ℕ) (n : ℕ) → nodeLength ≤ length W → lowOf (getD W countIndex 0) ≡ n → (e : Extent)
+    → extentWith (wider e (getD W 1 0) (getD W 2 0)) (firstTrees n (treesOf (drop nodeLength W))) ≡ seenWith e W
+node-spans W n long is e = rw (zero-add, is) at (extent-step W 0 e long)
+
+none-taken : (e : Extent) (f : Forest) → e ≡ extentWith e (firstTrees 0 f)
+unfolding extentWith firstTrees lowestStart highestEnd
+none-taken e f = refl
+
+-- The tokens of a node, the words that its tree fills and the spans that are taken in, by the number of its children.
 pub record NoneBelow (W : List ℕ) : Type 0 where
   pub words : nodeWritten W ≡ firstFive W ++ closerWords W
   pub fills : nodeLength * firstSize (treesOf W) ≡ nodeLength
+  pub spans : (e : Extent) → wider e (getD W 1 0) (getD W 2 0) ≡ seenWith e W
 
 abbrev pub onlyWords : List ℕ → List ℕ
 onlyWords W = operandWritten (onlySeat (operatorOf (getD W 0 0))) (drop nodeLength W)
@@ -78,6 +93,7 @@ pub record OneBelow (others : ℕ) (W : List ℕ) : Type 0 where
   pub shaped : Shaped 2 (suc others) (drop nodeLength W)
   pub words : nodeWritten W ≡ firstFive W ++ (onlyWords W ++ closerWords W)
   pub fills : nodeLength * firstSize (treesOf W) ≡ nodeLength + nodeLength * firstSize (treesOf (drop nodeLength W))
+  pub spans : (e : Extent) → seenWith (wider e (getD W 1 0) (getD W 2 0)) (drop nodeLength W) ≡ seenWith e W
 
 abbrev pub leftWords : List ℕ → List ℕ
 leftWords W = operandWritten (leftSeat (operatorOf (getD W 0 0))) (drop nodeLength W)
@@ -96,6 +112,8 @@ pub record TwoBelow (others : ℕ) (W : List ℕ) : Type 0 where
   pub right : Shaped 2 (suc others) (rightPart W)
   pub words : nodeWritten W ≡ leftWords W ++ (firstFive W ++ rightWords W)
   pub fills : nodeLength * firstSize (treesOf W) ≡ nodeLength + leftSize W + nodeLength * firstSize (treesOf (rightPart W))
+  pub spans : (e : Extent)
+      → seenWith (seenWith (wider e (getD W 1 0) (getD W 2 0)) (drop nodeLength W)) (rightPart W) ≡ seenWith e W
 
 first-size : (f : Forest) → firstSize f ≤ size f
 unfolding firstSize size
@@ -135,7 +153,11 @@ module _ {others : ℕ} {W : List ℕ} (o : Opened 2 (suc others) W) where
   unfolding writtenTokens firstSize size
   none-below e =
       let leaf : treesOf W ≡ node (o .k) nil (o .rest) = rw (← no-kids (o .cs) (o .children ∙ e)) (o .trees) in
-      record { words = rw leaf (split (isBracket (o .k .op)) refl); fills = rw leaf }
+      record {
+        words = rw leaf (split (isBracket (o .k .op)) refl);
+        fills = rw leaf;
+        spans = λ e'. none-taken (wider e' (getD W 1 0) (getD W 2 0)) (treesOf (drop nodeLength W)) ∙ node-spans W 0 (o .long) e e';
+      }
     where
       split : (b : Bool) → isBracket (o .k .op) ≡ b → listWords (written (o .k) nil []) ≡ firstFive W ++ closerWords W
       split true h = rw (written-none true (o .k) [] h, closer-by true h, list-words-cons, section-opener (o .k), o .five, list-words-one)
@@ -154,12 +176,13 @@ module _ {others : ℕ} {W : List ℕ} (o : Opened 2 (suc others) W) where
         shaped = rw same at (o .shaped);
         words = rw (trees, below, ← o .op) (split (kid .x) (kid .xs) (isBracket (o .k .op)) refl);
         fills = rw (trees, below) (omega arith);
+        spans = node-spans W 1 (o .long) e;
       }
     where
       split : (x : Token) (xs : Forest) (b : Bool) → isBracket (o .k .op) ≡ b
           → listWords (written (o .k) (node x xs nil) [])
           ≡ firstFive W
-          ++ (listWords (operandTokens (not (isPaired (onlySeat (o .k .op)) (x .op) (count xs))) x (written x xs) []) ++ closerWords W)
+          ++ (listWords (operandTokens (not (isPaired (onlySeat (o .k .op)) (x .op) (count xs))) x xs (written x xs) []) ++ closerWords W)
       split x xs true h =
           rw (
             written-one true (o .k) x xs [] h,
@@ -199,40 +222,48 @@ module _ {others : ℕ} {W : List ℕ} (o : Opened 2 (suc others) W) where
         right = rw there at (after .shaped);
         words = rw (trees, right, below, ← o .op) (spelt x y xs ys);
         fills = rw (trees, right, below) (omega arith);
+        spans =
+            λ e'.
+            ap (λ (f : Forest). extentWith (seenWith (wider e' (getD W 1 0) (getD W 2 0)) (drop nodeLength W)) (firstTrees 1 f))
+            (ap treesOf (sym there) ∙ after .trees)
+            ∙ (in-one 1 1 (treesOf (drop nodeLength W)) (wider e' (getD W 1 0) (getD W 2 0)) ∙ node-spans W 2 (o .long) e e');
       }
     where
       spelt : (x y : Token) (xs ys : Forest)
           → listWords (written (o .k) (node x xs (node y ys nil)) [])
-          ≡ listWords (operandTokens (not (isPaired (leftSeat (o .k .op)) (x .op) (count xs))) x (written x xs) [])
+          ≡ listWords (operandTokens (not (isPaired (leftSeat (o .k .op)) (x .op) (count xs))) x xs (written x xs) [])
           ++ (firstFive W
-          ++ listWords (operandTokens (not (isPaired (rightSeat (o .k .op)) (y .op) (count ys))) y (written y ys) []))
+          ++ listWords (operandTokens (not (isPaired (rightSeat (o .k .op)) (y .op) (count ys))) y ys (written y ys) []))
       spelt x y xs ys =
           rw (
             written-two (o .k) x xs y ys [],
             unpaired-left x xs (o .k),
             unpaired-right y ys (o .k),
-            operand-before (standsLeft (o .k) x xs) x (written x xs) (o .k ∷ operandTokens (standsRight (o .k) y ys) y (written y ys) [])
+            operand-before (standsLeft (o .k) x xs) x xs (written x xs) (o .k ∷ operandTokens (standsRight (o .k) y ys) y ys (written y ys) [])
                 (written-before x xs),
             list-words-append,
             list-words-cons,
             o .five,
           )
 
-  -- An operand: in an added pair, or as it is.
+  -- An operand: in an added pair over its extent, or as it is.
   pub paired-words : (p : Seat) → isPaired p (operatorOf (getD W 0 0)) (lowOf (getD W countIndex 0)) ≡ true
-      → operandWritten p W ≡ bracketWords 4 W ++ (nodeWritten W ++ bracketWords 5 W)
+      → operandWritten p W
+      ≡ pairOpener (firstExtent (treesOf W) .start) (firstExtent (treesOf W) .end)
+      ++ (nodeWritten W ++ pairCloser (firstExtent (treesOf W) .end))
   unfolding operandOf writtenTokens operandTokens
   paired-words p e =
       let paired : isPaired p (o .k .op) (count (o .cs)) ≡ true = rw (o .op, o .children) e in
+      let fits : Fits (firstExtent (node (o .k) (o .cs) (o .rest))) = rw (o .trees) at (first-fits W) in
       rw (
         o .trees,
         paired,
-        written-before (o .k) (o .cs) (closerFor (o .k) ∷ []),
+        written-before (o .k) (o .cs) (closerFor (o .k) (o .cs) ∷ []),
         list-words-cons,
         list-words-append,
         list-words-one,
-        opener-words (o .k) W (o .five),
-        closer-words (o .k) W (o .five),
+        opener-words (o .k) (o .cs) (o .rest) fits,
+        closer-words (o .k) (o .cs) (o .rest) fits,
       )
 
   pub unpaired-words : (p : Seat) → isPaired p (operatorOf (getD W 0 0)) (lowOf (getD W countIndex 0)) ≡ false

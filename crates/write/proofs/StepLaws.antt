@@ -1,5 +1,5 @@
 -- The steps of writing a node or an operand: before each call there is room, and after the last one all is written.
-use Prim.Native.Nat.{ℕ, zero, suc, _+_, _-_, _*_, _≤_, _/_, _<_}
+use Prim.Native.Nat.{ℕ, zero, suc, _+_, _-_, _*_, _^_, _≤_, _/_, _<_}
 use mathlib.Core.Path.{_≡_, refl, ap, _∙_}
 use mathlib.Core.Bool.{true, false}
 use mathlib.Core.List.{List, _++_, append-assoc}
@@ -10,11 +10,15 @@ use Rattle.molang.specs.Words.{lowOf, listWords}
 use Rattle.molang.specs.WriteEntry.{treesOf, writtenTokens}
 use Rattle.words.specs.Fields.{operatorOf}
 use Rattle.words.specs.Records.{laidAt}
-use Rattle.words.proofs.RecordLaws.{laid-length, laid-laid}
+use Rattle.words.specs.Extents.{wider, firstExtent}
+use Rattle.words.specs.declared.extent.Extent.{Extent}
+use Rattle.words.proofs.RecordLaws.{laid-length, laid-laid, laid-before}
+use Rattle.words.proofs.TreeLaws.{from-nothing, extent-taken}
 use Rattle.write.specs.declared.plain.Seat.{Seat}
 use Rattle.write.specs.Seats.{isPaired, onlySeat, leftSeat, rightSeat}
 use Rattle.shape.specs.Shaped.{nodeLength, countIndex, firstFive, Shaped}
-use Rattle.write.specs.Spelling.{bracketWords, closerWords, firstSize, operandOf, filledWords, nodeWritten, operandWritten}
+use Rattle.write.specs.Spelling.{pairOpener, pairCloser, closerWords, seen, seenWith}
+use Rattle.write.specs.Spelling.{firstSize, operandOf, filledWords, nodeWritten, operandWritten}
 use Rattle.write.specs.Spelling.{Room}
 use Rattle.shape.proofs.RowLaws.{Opened, opened, shaped-room}
 use Rattle.write.proofs.SpellLaws.{first-within, none-below, OneBelow, one-below, onlyWords, TwoBelow, two-below, leftWords}
@@ -97,6 +101,19 @@ module _ {W L : List ℕ} {to : ℕ} (r : Room writtenTokens W L to) where
         → Writes (nodeWritten W) W L to (take nodeLength W) L2 to2
     none-writes L2 to2 w2 =
         rw (none-below here e .words, none-below here e .fills) (refl, puts-more to (firstFive W) (closerWords W) L (none-room e) w1 w2)
+
+  -- The spans that are taken in: e at first, e1 with the node's own.
+  module _ (e e1 : Extent) (own : e1 ≡ wider e (getD W 1 0) (getD W 2 0)) where
+    pub none-spans : lowOf (getD W countIndex 0) ≡ 0 → e1 ≡ seenWith e W
+    none-spans z = own ∙ none-below here z .spans e
+
+    pub one-spans : (lowOf (getD W countIndex 0) ≡ 2 → ⊥) → (lowOf (getD W countIndex 0) ≡ 0 → ⊥) → (e2 : Extent)
+        → e2 ≡ seenWith e1 (tail nodeLength W)
+        → e2 ≡ seenWith e W
+    one-spans a b e2 w2 =
+        w2
+        ∙ rw (own, tail-part nodeLength W)
+        (one-below here (one-left (lowOf (getD W countIndex 0)) (here .few) a b) .spans e)
 
   -- ONE CHILD: the token, the child, then a bracket's closer.
   one-child : (lowOf (getD W countIndex 0) ≡ 2 → ⊥) → (lowOf (getD W countIndex 0) ≡ 0 → ⊥) → lowOf (getD W countIndex 0) ≡ 1
@@ -268,6 +285,11 @@ module _ {W L : List ℕ} {to : ℕ} (r : Room writtenTokens W L to) where
           pub two-end : nodeLength + length l + length m ≤ length W
           two-end = omega (arith, two-part, first-within (r .shaped))
 
+          pub two-spans : (e e1 e2 e3 : Extent) → e1 ≡ wider e (getD W 1 0) (getD W 2 0) → e2 ≡ seenWith e1 (tail nodeLength W)
+              → e3 ≡ seenWith e2 (tail (nodeLength + length l) W)
+              → e3 ≡ seenWith e W
+          two-spans e e1 e2 e3 own first second = second ∙ rw (first, own, there, tail-part nodeLength W) (two .spans e)
+
           pub two-length : length L3 ≡ length L
           two-length = puts-length to (leftWords W ++ (firstFive W ++ rightWords W)) L two-room two-all
 
@@ -291,57 +313,82 @@ module _ {W L : List ℕ} {to : ℕ} (p : Seat) (r : Room (operandOf p) W L to) 
         → Writes (operandWritten p W) W L to l L1 to1
     alone-writes l L1 to1 w1 = rw (unpaired-words operand p alone) w1
 
-  -- In an added pair.
+  -- In an added pair: the operand is written behind the five words of the opener, which are laid after it.
   module _ (paired : isPaired p (operatorOf (getD W 0 0)) (lowOf (getD W countIndex 0)) ≡ true) where
     inner : List ℕ
     inner = nodeWritten W
 
-    pair-words : operandWritten p W ≡ bracketWords 4 W ++ (inner ++ bracketWords 5 W)
-    unfolding inner
+    covered : Extent
+    covered = firstExtent (treesOf W)
+
+    opens : List ℕ
+    opens = pairOpener (covered .start) (covered .end)
+
+    closes : List ℕ
+    closes = pairCloser (covered .end)
+
+    pair-words : operandWritten p W ≡ opens ++ (inner ++ closes)
+    unfolding inner covered opens closes
     pair-words = paired-words operand p paired
 
-    pair-room : to + length (bracketWords 4 W ++ (inner ++ bracketWords 5 W)) ≤ length L
+    pair-room : to + length (opens ++ (inner ++ closes)) ≤ length L
     pair-room = rw pair-words at (r .room)
 
     pub open-room : to + 5 ≤ length L
-    unfolding bracketWords
-    open-room = omega (arith, pair-room, length-append (bracketWords 4 W) (inner ++ bracketWords 5 W))
+    unfolding opens
+    open-room = omega (arith, pair-room, length-append opens (inner ++ closes))
 
-    module _ (L1 : List ℕ) (to1 : ℕ) (w1 : Puts (bracketWords 4 W) L to L1 to1) where
-      pub inner-room : Room writtenTokens W L1 to1
+    pub inner-room : Room writtenTokens W L (to + 5)
+    unfolding inner opens closes
+    inner-room =
+        let front = length-append opens (inner ++ closes) in
+        let back = length-append inner closes in
+        record { others = r .others; shaped = r .shaped; room = omega (arith, pair-room) }
+
+    module _ (l L1 : List ℕ) (to1 : ℕ) (w1 : Writes (nodeWritten W) W L (to + 5) l L1 to1) where
+      inner-length : length L1 ≡ length L
       unfolding inner
-      inner-room =
-          let front = length-append (bracketWords 4 W) (inner ++ bracketWords 5 W) in
-          let back = length-append inner (bracketWords 5 W) in
-          let list = puts-length to (bracketWords 4 W) L (omega (arith, pair-room)) w1 in
-          record { others = r .others; shaped = r .shaped; room = omega (arith, pair-room, w1 .1) }
+      inner-length = puts-length (to + 5) inner L (inner-room .room) (w1 .1)
 
-      module _ (l L2 : List ℕ) (to2 : ℕ) (w2 : Writes (nodeWritten W) W L1 to1 l L2 to2) where
-        inner-puts : Puts (bracketWords 4 W ++ inner) L to L2 to2
-        unfolding inner
-        inner-puts =
-            let front = length-append (bracketWords 4 W) (inner ++ bracketWords 5 W) in
-            let back = length-append inner (bracketWords 5 W) in
-            let both = length-append (bracketWords 4 W) inner in
-            puts-more to (bracketWords 4 W) inner L (omega (arith, pair-room)) w1 (w2 .1)
+      pub close-room : (to + 5 ≤ length L1) × (to1 + 5 ≤ length L1)
+      unfolding inner opens closes
+      close-room =
+          let front = length-append opens (inner ++ closes) in
+          let back = length-append inner closes in
+          (omega (arith, pair-room, inner-length), omega (arith, pair-room, inner-length, w1 .1 .1))
 
-        pub close-room : to2 + 5 ≤ length L2
-        unfolding bracketWords
-        close-room =
-            let front = length-append (bracketWords 4 W) (inner ++ bracketWords 5 W) in
-            let back = length-append inner (bracketWords 5 W) in
-            let both = length-append (bracketWords 4 W) inner in
-            omega (arith, pair-room, inner-puts .1, puts-length to (bracketWords 4 W ++ inner) L (omega (arith, pair-room)) inner-puts)
+      module _ (s t : ℕ) (spans : seen s t ≡ seenWith (seen (2 ^ 29 - 1) 0) W) where
+        is-covered : seen s t ≡ covered
+        unfolding covered
+        is-covered = spans ∙ from-nothing W
 
-        module _ (L3 : List ℕ) (to3 : ℕ) (w3 : Puts (bracketWords 5 W) L2 to2 L3 to3) where
-          pair-all : Puts (bracketWords 4 W ++ (inner ++ bracketWords 5 W)) L to L3 to3
+        pub pair-spans : (e e1 : Extent) → e1 ≡ wider e s t → e1 ≡ seenWith e W
+        unfolding covered
+        pair-spans e e1 w =
+            w
+            ∙ (ap (λ (x : Extent). wider e (x .start) (x .end)) is-covered ∙ extent-taken W e (operand .long))
+
+        module _ (L2 : List ℕ) (to2 : ℕ) (laid : L2 ≡ laidAt to1 (pairCloser t) (laidAt to (pairOpener s t) L1)) (on : to2 ≡ to1 + 5) where
+          opened-puts : Puts (opens ++ inner) L to (laidAt to opens L1) to1
+          unfolding inner opens
+          opened-puts =
+              let both = length-append opens inner in
+              (rw (w1 .1 .0) (laid-before to opens inner L open-room), omega (arith, w1 .1 .1))
+
+          closed-puts : Puts closes (laidAt to opens L1) to1 L2 to2
+          unfolding opens closes
+          closed-puts = (
+            laid ∙ ap (λ (x : Extent). laidAt to1 (pairCloser (x .end)) (laidAt to (pairOpener (x .start) (x .end)) L1)) is-covered,
+            on,
+          )
+
+          pair-all : Puts (opens ++ (inner ++ closes)) L to L2 to2
           pair-all =
-              rw (← append-assoc (bracketWords 4 W) inner (bracketWords 5 W))
-              (puts-more to (bracketWords 4 W ++ inner) (bracketWords 5 W) L
-              (rw (append-assoc (bracketWords 4 W) inner (bracketWords 5 W)) pair-room) inner-puts w3)
+              rw (← append-assoc opens inner closes)
+              (puts-more to (opens ++ inner) closes L (rw (append-assoc opens inner closes) pair-room) opened-puts closed-puts)
 
-          pub pair-length : length L3 ≡ length L
-          pair-length = puts-length to (bracketWords 4 W ++ (inner ++ bracketWords 5 W)) L pair-room pair-all
+          pub pair-length : length L2 ≡ length L
+          pair-length = puts-length to (opens ++ (inner ++ closes)) L pair-room pair-all
 
-          pub pair-writes : Writes (operandWritten p W) W L to l L3 to3
-          pair-writes = rw pair-words (w2 .0, pair-all)
+          pub pair-writes : Writes (operandWritten p W) W L to l L2 to2
+          pair-writes = rw pair-words (w1 .0, pair-all)

@@ -8,34 +8,42 @@ use Rattle.molang.specs.Forest.{Token, Forest, nil, node, count, size}
 use Rattle.molang.specs.Operator
 use Rattle.molang.specs.Operator.{isBracket}
 use Rattle.molang.specs.Words.{word, lowOf, listWords}
+use Rattle.words.specs.Extents.{extentWith}
 use Rattle.words.specs.Fields.{operatorOf}
 use Rattle.words.specs.Tokens.{fiveWords}
+use Rattle.words.specs.declared.extent.Extent.{Extent}
 use Rattle.words.specs.declared.tokens.TokenWords.{TokenWords}
 use Rattle.molang.specs.Write.{written, operandTokens}
-use Rattle.molang.specs.WriteEntry.{treesOf, writtenTokens, tokens}
+use Rattle.molang.specs.WriteEntry.{firstTrees, treesOf, writtenTokens, tokens}
 use Rattle.write.specs.declared.plain.Seat.{Seat}
 use Rattle.write.specs.Answers.{judgement}
 use Rattle.write.specs.Seats.{isPaired}
 use Rattle.shape.specs.Shaped.{nodeLength, closeIndex, Shaped}
 
--- The words of a bracket of op with the span of the node that the words open with, and payload 0.
-unfoldable pub bracketWords : ℕ → List ℕ → List ℕ
-bracketWords op ws = word 1 (op % 2 ^ 8) ∷ getD ws 1 0 ∷ getD ws 2 0 ∷ word 4 0 ∷ word 5 0 ∷ []
+-- The words of a token of op over a span, with payload 0.
+abbrev pub spanningWords : ℕ → ℕ → ℕ → TokenWords
+spanningWords op start end =
+    record { operator = word 1 (op % 2 ^ 8); start = word 2 (lowOf start); end = word 3 (lowOf end); upper = word 4 0; lower = word 5 0 }
 
--- The words of the closer of a section that closes where the word g says.
-abbrev pub closerAt : ℕ → TokenWords
-closerAt g =
-    record {
-      operator = word 1 (Operator.rightParenthesis % 2 ^ 8);
-      start = word 2 (lowOf g);
-      end = word 3 (lowOf g);
-      upper = word 4 0;
-      lower = word 5 0;
-    }
+-- The words of the opener of an added pair over an extent.
+abbrev pub pairOpener : ℕ → ℕ → List ℕ
+pairOpener start end = fiveWords (spanningWords Operator.leftParenthesis start end)
+
+-- The words of a closer where a pair or a section ends: it carries that end twice.
+abbrev pub pairCloser : ℕ → List ℕ
+pairCloser end = fiveWords (spanningWords Operator.rightParenthesis end end)
 
 -- The words of the closer of the node that the words open with, if it is a bracket.
 unfoldable pub closerWords : List ℕ → List ℕ
-closerWords ws = elim (isBracket (operatorOf (getD ws 0 0))) [ true ↦ fiveWords (closerAt (getD ws closeIndex 0)) | false ↦ [] ]
+closerWords ws = elim (isBracket (operatorOf (getD ws 0 0))) [ true ↦ pairCloser (getD ws closeIndex 0) | false ↦ [] ]
+
+-- An extent, of its two numbers.
+abbrev pub seen : ℕ → ℕ → Extent
+seen low high = record { start = low; end = high }
+
+-- An extent with that of the first tree taken in.
+abbrev pub seenWith : Extent → List ℕ → Extent
+seenWith e ws = extentWith e (firstTrees 1 (treesOf ws))
 
 -- The nodes of the first tree.
 unfoldable pub firstSize : Forest → ℕ
@@ -45,7 +53,7 @@ firstSize (node k cs rest) = 1 + size cs
 -- The tokens of the first tree as an operand in its seat.
 unfoldable pub operandOf : Seat → Forest → List Token
 operandOf p nil = []
-operandOf p (node k cs rest) = operandTokens (not (isPaired p (k .op) (count cs))) k (written k cs) []
+operandOf p (node k cs rest) = operandTokens (not (isPaired p (k .op) (count cs))) k cs (written k cs) []
 
 -- The words that the first tree fills.
 abbrev pub filledWords : List ℕ → List ℕ

@@ -36,7 +36,9 @@ fn fill(tree: &[u32], list: &mut [u32], tokens: usize) -> Written
         return Written::Refused(refusals::SHORT_LIST, 0);
     }
     let mut to = 0usize;
-    write_node(tree, list, &mut to);
+    let mut low = fields::KIND - 1;
+    let mut high = 0u32;
+    write_node(tree, list, &mut to, &mut low, &mut high);
     Written::Tokens(tokens)
 }
 

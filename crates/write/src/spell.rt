@@ -1,22 +1,28 @@
 // The writing of a plain tree: each operator between or before its operands, copied as it came, a section's closer where the section
-// closes, and added pairs where an operand needs them. `write_node` and `write_operand` call each other over the preorder words, the remaining node count falling; each gives
-// back the part of the words that its tree fills, so the next operand starts right after it. Leans on plain (seats), ops and words.
+// closes, and added pairs where an operand needs them. `write_node` and `write_operand` call each other over the preorder words, the
+// remaining node count falling; each gives back the part of the words that its tree fills, so the next operand starts right after it, and
+// takes the tree's spans into two numbers, so that a pair knows its operand's extent when the operand is written. Leans on plain (seats),
+// ops and words.
 use crate::plain::Seat;
 use crate::plain::is_paired;
 use crate::plain::seat_of_left;
 use crate::plain::seat_of_only;
 use crate::plain::seat_of_right;
 use ops::op;
+use words::extent::Extent;
+use words::extent::widened;
 use words::fields;
 use words::tokens::TokenWords;
 ghost use mathlib.Core.Path.{_≡_};
 ghost use Prim.Native.Nat.{_+_, _≤_};
 ghost use lib.ListN.{length};
 ghost use Rattle.molang.specs.WriteEntry.{writtenTokens};
+ghost use Rattle.words.specs.Extents.{wider};
 ghost use Rattle.words.specs.Records.{laidAt};
 ghost use Rattle.words.specs.Tokens.{fiveWords};
 ghost use Rattle.shape.specs.Shaped.{nodeLength, firstFive};
-ghost use Rattle.write.specs.Spelling.{bracketWords, closerAt, closerWords, operandOf, filledWords, nodeWritten, operandWritten, Room};
+ghost use Rattle.write.specs.Spelling.{spanningWords, closerWords, pairOpener, pairCloser, seen, seenWith};
+ghost use Rattle.write.specs.Spelling.{operandOf, filledWords, nodeWritten, operandWritten, Room};
 
 // Puts a token's five words into the list from `to` on, and moves `to` behind them.
 fn put(list: &mut [u32], to: &mut usize, token: TokenWords)
@@ -38,23 +44,14 @@ fn put_token(words: &[u32], list: &mut [u32], to: &mut usize)
     put(list, to, TokenWords::at(words, 0));
 }
 
-// A bracket of op for the node that the words open with: the node's span, payload 0.
-fn put_bracket(op: u32, words: &[u32], list: &mut [u32], to: &mut usize)
-    requires { ⌜ (5 ≤ length (now words)) × (now to + 5 ≤ length (now list)) ⌝ }
-    ensures { λ _. ⌜ now (list .exit) ≡ laidAt (now (to .entry)) (bracketWords op (now (words .entry))) (now (list .entry)) ⌝ }
-    ensures { λ _. ⌜ now (to .exit) ≡ now (to .entry) + length (bracketWords op (now (words .entry))) ⌝ }
-{
-    put(list, to, TokenWords::at(words, 0).bare(op));
-}
-
-// The closer of a section that closes where the word says: it starts and ends there, and has payload 0.
-fn closer_at(close: u32) -> TokenWords
-    ensures { λ r. ⌜ r ≡ closerAt close ⌝ }
+// A token of op over a span, with payload 0.
+fn spanning(op: u32, start: u32, end: u32) -> TokenWords
+    ensures { λ r. ⌜ r ≡ spanningWords op start end ⌝ }
 {
     TokenWords {
-        operator: fields::operator_word(op::RIGHT_PARENTHESIS),
-        start: fields::start_word(close),
-        end: fields::end_word(close),
+        operator: fields::operator_word(op),
+        start: fields::start_word(start),
+        end: fields::end_word(end),
         upper: fields::upper_word(0),
         lower: fields::lower_word(0),
     }
@@ -67,24 +64,67 @@ fn put_closer(words: &[u32], list: &mut [u32], to: &mut usize)
     ensures { λ _. ⌜ now (to .exit) ≡ now (to .entry) + length (closerWords (now (words .entry))) ⌝ }
 {
     if fields::operator(words[0]) == op::LEFT_PARENTHESIS {
-        put(list, to, closer_at(words[fields::CLOSE_FIELD]));
+        let close = words[fields::CLOSE_FIELD];
+        put(list, to, spanning(op::RIGHT_PARENTHESIS, close, close));
     }
 }
 
-// Writes the tree that the words open with; gives back the words that it fills.
-pub fn write_node<'a>(words: &'a [u32], list: &mut [u32], to: &mut usize) -> &'a [u32]
+// An added pair over an operand's extent: the opener into the five words that were kept free at `at`, the closer, which carries the end
+// twice, behind the operand.
+fn put_pair(start: u32, end: u32, at: usize, list: &mut [u32], to: &mut usize)
+    requires { ⌜ (at + 5 ≤ length (now list)) × (now to + 5 ≤ length (now list)) ⌝ }
+    ensures { λ _. ⌜ now (list .exit) ≡ laidAt (now (to .entry)) (pairCloser end) (laidAt at (pairOpener start end) (now (list .entry))) ⌝ }
+    ensures { λ _. ⌜ now (to .exit) ≡ now (to .entry) + 5 ⌝ }
+{
+    spanning(op::LEFT_PARENTHESIS, start, end).lay(list, at);
+    put(list, to, spanning(op::RIGHT_PARENTHESIS, end, end));
+}
+
+// Takes a span into the extent from `low` to `high`.
+fn widen(low: &mut u32, high: &mut u32, start: u32, end: u32)
+    ensures { λ _. ⌜ seen (now (low .exit)) (now (high .exit)) ≡ wider (seen (now (low .entry)) (now (high .entry))) start end ⌝ }
+{
+    let wider = widened(
+        Extent {
+            start: *low,
+            end: *high,
+        },
+        start,
+        end,
+    );
+    *low = wider.start;
+    *high = wider.end;
+}
+
+// Writes the tree that the words open with, and takes its spans into the extent from `low` to `high`: its own first, then those below it.
+// Gives back the words that it fills.
+pub fn write_node<'a>(
+    words: &'a [u32],
+    list: &mut [u32],
+    to: &mut usize,
+    low: &mut u32,
+    high: &mut u32,
+) -> &'a [u32]
     requires { ⌜ Room writtenTokens (now words) (now list) (now to) ⌝ }
+    ensures { λ _. ⌜ seen (now (low .exit)) (now (high .exit)) ≡ seenWith (seen (now (low .entry)) (now (high .entry))) (now (words .entry)) ⌝ }
     ensures { λ r. ⌜ now r ≡ filledWords (now (words .entry)) ⌝ }
     ensures { λ _. ⌜ now (list .exit) ≡ laidAt (now (to .entry)) (nodeWritten (now (words .entry))) (now (list .entry)) ⌝ }
     ensures { λ _. ⌜ now (to .exit) ≡ now (to .entry) + length (nodeWritten (now (words .entry))) ⌝ }
 {
     let op = fields::operator(words[0]);
     let children = fields::low(words[fields::COUNT_FIELD]);
+    let below = &words[fields::NODE_WORDS..];
+    widen(
+        low,
+        high,
+        words[fields::START_FIELD],
+        words[fields::END_FIELD],
+    );
     if children == 2 {
-        let left = write_operand(&words[fields::NODE_WORDS..], seat_of_left(op), list, to);
+        let left = write_operand(below, seat_of_left(op), list, to, low, high);
         put_token(words, list, to);
         let next = fields::NODE_WORDS + left.len();
-        let right = write_operand(&words[next..], seat_of_right(op), list, to);
+        let right = write_operand(&words[next..], seat_of_right(op), list, to, low, high);
         return &words[..next + right.len()];
     }
     put_token(words, list, to);
@@ -92,15 +132,23 @@ pub fn write_node<'a>(words: &'a [u32], list: &mut [u32], to: &mut usize) -> &'a
         put_closer(words, list, to);
         return &words[..fields::NODE_WORDS];
     }
-    let only = write_operand(&words[fields::NODE_WORDS..], seat_of_only(op), list, to);
+    let only = write_operand(below, seat_of_only(op), list, to, low, high);
     put_closer(words, list, to);
     &words[..fields::NODE_WORDS + only.len()]
 }
 
-// Writes the tree that the words open with as an operand in its seat, in an added pair if it needs one; gives back the words
-// that it fills.
-fn write_operand<'a>(words: &'a [u32], seat: Seat, list: &mut [u32], to: &mut usize) -> &'a [u32]
+// Writes the tree that the words open with as an operand in its seat, and takes its spans in; gives back the words that it fills. An added
+// pair covers the operand's extent, which is known when the operand is written: the words of its opener are kept free until then.
+fn write_operand<'a>(
+    words: &'a [u32],
+    seat: Seat,
+    list: &mut [u32],
+    to: &mut usize,
+    low: &mut u32,
+    high: &mut u32,
+) -> &'a [u32]
     requires { ⌜ Room (operandOf seat) (now words) (now list) (now to) ⌝ }
+    ensures { λ _. ⌜ seen (now (low .exit)) (now (high .exit)) ≡ seenWith (seen (now (low .entry)) (now (high .entry))) (now (words .entry)) ⌝ }
     ensures { λ r. ⌜ now r ≡ filledWords (now (words .entry)) ⌝ }
     ensures { λ _. ⌜ now (list .exit) ≡ laidAt (now (to .entry)) (operandWritten seat (now (words .entry))) (now (list .entry)) ⌝ }
     ensures { λ _. ⌜ now (to .exit) ≡ now (to .entry) + length (operandWritten seat (now (words .entry))) ⌝ }
@@ -110,10 +158,14 @@ fn write_operand<'a>(words: &'a [u32], seat: Seat, list: &mut [u32], to: &mut us
         fields::operator(words[0]),
         fields::low(words[fields::COUNT_FIELD]),
     ) {
-        return write_node(words, list, to);
+        return write_node(words, list, to, low, high);
     }
-    put_bracket(op::LEFT_PARENTHESIS, words, list, to);
-    let operand = write_node(words, list, to);
-    put_bracket(op::RIGHT_PARENTHESIS, words, list, to);
+    let at = *to;
+    *to = at + fields::TOKEN_WORDS;
+    let mut starts = fields::KIND - 1;
+    let mut ends = 0u32;
+    let operand = write_node(words, list, to, &mut starts, &mut ends);
+    put_pair(starts, ends, at, list, to);
+    widen(low, high, starts, ends);
     operand
 }

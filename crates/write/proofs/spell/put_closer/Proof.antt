@@ -15,11 +15,11 @@ shared-slice-read-operator c = search needs
 operator-requires : tie.Need-operator-requires
 operator-requires c κs = search needs
 
-shared-slice-read-closer-at : tie.Need-shared-slice-read-closer-at
-shared-slice-read-closer-at c = search needs
+shared-slice-read-close : tie.Need-shared-slice-read-close
+shared-slice-read-close c = search needs
 
-closer-at-requires : tie.Need-closer-at-requires
-closer-at-requires c κs = search needs
+spanning-requires : tie.Need-spanning-requires
+spanning-requires c κs = search needs
 
 put-requires : tie.Need-put-requires
 put-requires c κs =
@@ -37,7 +37,7 @@ returns c =
     let taken = put .before .before .before .before .before in
     let start = taken .before .before .before .before .before in
     let closer = bracket-closer (start .args .words .now) (sym (taken .before .operator .ensures) ∙ taken .if1 .taken) in
-    (rw closer (rw (put .before .closer-at .ensures) at (put .put .ensures .0)), rw closer (put .put .ensures .1))
+    (rw closer (rw (put .before .spanning .ensures) at (put .put .ensures .0)), rw closer (put .put .ensures .1))
 
 returns-2 : tie.Need-returns-2
 returns-2 c =
@@ -51,8 +51,8 @@ put-closer-spec =
     (tie.spec
     shared-slice-read-operator
     operator-requires
-    shared-slice-read-closer-at
-    closer-at-requires
+    shared-slice-read-close
+    spanning-requires
     put-requires
     same-length
     returns

@@ -1,7 +1,7 @@
--- `write::spell::closer_at` meets its contract: by its five made words. Assumes nothing.
+-- `write::spell::spanning` meets its contract: by its five made words. Assumes nothing.
 use borrow.Author.Needs.{needs}
-use Rattle.write.proofs.spell.closer_at.Statement.{statement}
-use Rattle.write.proofs.spell.closer_at.Tie as tie
+use Rattle.write.proofs.spell.spanning.Statement.{statement}
+use Rattle.write.proofs.spell.spanning.Tie as tie
 
 operator-word-requires : tie.Need-operator-word-requires
 operator-word-requires c κs = search needs
@@ -25,8 +25,8 @@ returns c =
     let end = c .before .before .end-word in
     rw (op .ensures, start .ensures, end .ensures, c .before .upper-word .ensures, c .lower-word .ensures)
 
-pub closer-at-spec : {M : Type 1} → statement M
-closer-at-spec =
+pub spanning-spec : {M : Type 1} → statement M
+spanning-spec =
     tie.close
     (tie.spec
     operator-word-requires
