@@ -21,15 +21,7 @@ formSeat UnderSemicolon = plain.underSemicolon
 
 -- The seat of the one child of an operator.
 unfoldable pub onlySeat : ℕ → Seat
-onlySeat op =
-    elim (isBracket op) [
-      | true ↦ Enclosed
-      | false ↦
-          elim (eqb op Operator.semicolon) [
-            | true ↦ UnderSemicolon
-            | false ↦ elim (isMathCall op) [ true ↦ UnderMathCall | false ↦ Operand ]
-          ]
-    ]
+onlySeat op = elim (isBracket op) [ true ↦ Enclosed | false ↦ elim (isMathCall op) [ true ↦ UnderMathCall | false ↦ Operand ] ]
 
 -- The seat of the first of two children.
 unfoldable pub leftSeat : ℕ → Seat
@@ -39,29 +31,26 @@ leftSeat op = elim (eqb op Operator.comma) [ true ↦ LeftOfComma | false ↦ Op
 unfoldable pub rightSeat : ℕ → Seat
 rightSeat op = elim (eqb op Operator.conditional) [ true ↦ RightOfQuestion | false ↦ Operand ]
 
+-- The seat by which the one child of an operator is judged: what a statement holds stands under its semicolon.
+unfoldable pub belowSeat : ℕ → Seat
+belowSeat op = elim (eqb op Operator.semicolon) [ true ↦ UnderSemicolon | false ↦ onlySeat op ]
+
 -- What stands before any one operand in a plain tree.
 unfoldable pub isPrefix : ℕ → Bool
 isPrefix op = isOneOf (Operator.leftParenthesis ∷ Operator.negate ∷ Operator.logicalNot ∷ []) op
 
--- The plain forms of what is no semicolon, over a number of children of which the first has the operator `first`.
-unfoldable pub expressionBy : Seat → ℕ → ℕ → ℕ → Bool
-expressionBy p op zero first = isPlainLeaf op || (isBracket op && isUnderMathCall (formSeat p))
-expressionBy p op (suc zero) first =
-    isPrefix op || (isCall op && isBracket first) || (eqb op Operator.return && isUnderSemicolon (formSeat p))
-expressionBy p op (suc (suc zero)) first =
+-- What stands before one operand in a statement only: a return, and the statement itself over what is none.
+unfoldable pub holdsOne : ℕ → ℕ → Bool
+holdsOne op first = eqb op Operator.return || (eqb op Operator.semicolon && not (eqb first Operator.semicolon))
+
+-- The plain forms, over a number of children of which the first has the operator `first`.
+unfoldable pub plainBy : Seat → ℕ → ℕ → ℕ → Bool
+plainBy p op zero first = isPlainLeaf op || (isBracket op && isUnderMathCall (formSeat p))
+plainBy p op (suc zero) first = isPrefix op || (isCall op && isBracket first) || (holdsOne op first && isUnderSemicolon (formSeat p))
+plainBy p op (suc (suc zero)) first =
     isPlainBinary op || (eqb op Operator.conditionalElse && isRightOfQuestion (formSeat p))
     || (eqb op Operator.assignment && isUnderSemicolon (formSeat p))
-expressionBy p op (suc (suc (suc n))) first = false
-
--- That of a statement: under a semicolon, over one child that is none.
-unfoldable pub statementBy : Seat → ℕ → ℕ → Bool
-statementBy p zero first = false
-statementBy p (suc zero) first = not (eqb first Operator.semicolon) && isUnderSemicolon (formSeat p)
-statementBy p (suc (suc n)) first = false
-
--- The plain forms.
-unfoldable pub plainBy : Seat → ℕ → ℕ → ℕ → Bool
-plainBy p op children first = elim (eqb op Operator.semicolon) [ true ↦ statementBy p children first | false ↦ expressionBy p op children first ]
+plainBy p op (suc (suc (suc n))) first = false
 
 -- The seat spares a node of this operator its pair.
 abbrev pub isSpared : Seat → ℕ → Bool
