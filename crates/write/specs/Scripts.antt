@@ -4,17 +4,17 @@ use mathlib.Core.Path.{_≡_}
 use mathlib.Core.Bool.{Bool, true, false, _&&_}
 use mathlib.Core.List.{List, []}
 use lib.Dec.{eqb}
-use lib.ListN.{length, drop}
+use lib.ListN.{length, drop, getD}
 use Rattle.molang.specs.Operator
 use Rattle.molang.specs.Forest.{Token, Forest, nil, node, count}
 use Rattle.molang.specs.Plain as plain
-use Rattle.molang.specs.Words.{listWords}
+use Rattle.molang.specs.Words.{lowOf, listWords}
 use Rattle.molang.specs.Write.{writtenStatements}
 use Rattle.molang.specs.WriteEntry.{firstTrees, treesOf}
 use Rattle.write.specs.declared.plain.Seat.{Seat}
 use Rattle.write.specs.declared.plain.Seat.the-variants.{Enclosed, UnderSemicolon}
-use Rattle.write.specs.Reading.{operatorAt, childrenAt}
-use Rattle.shape.specs.Shaped.{nodeLength, Shaped}
+use Rattle.write.specs.Reading.{operatorAt}
+use Rattle.shape.specs.Shaped.{nodeLength, countIndex, Shaped}
 
 -- The first tree's root has the children of a script's.
 unfoldable pub holdsStatements : Forest → Bool
@@ -26,7 +26,7 @@ holdsStatements (node k cs rest) = plain.semicolonForm plain.atRoot cs
 pub data Begins (tree : List ℕ) : Seat → ℕ → ℕ → Type 0 where
   anExpression : (operatorAt tree 0 ≡ Operator.semicolon → ⊥) → Begins tree Enclosed 1 0
   aScript : operatorAt tree 0 ≡ Operator.semicolon → holdsStatements (treesOf tree) ≡ true
-      → Begins tree UnderSemicolon (childrenAt tree 0) 1
+      → Begins tree UnderSemicolon (lowOf (getD tree countIndex 0)) 1
 
 -- Each tree of a row has one child.
 unfoldable pub eachHoldsOne : Forest → Bool
@@ -49,7 +49,7 @@ statementsWritten ws = listWords (writtenStatements (treesOf ws) [])
 pub record StatementRoom (words list : List ℕ) (to : ℕ) : Type 0 where
   pub others : ℕ
   pub shaped : Shaped 2 (suc others) words
-  pub one : childrenAt words 0 ≡ 1
+  pub one : lowOf (getD words countIndex 0) ≡ 1
   pub room : to + length (statementWritten words) ≤ length list
 
 -- The words behind a root are statements that hold one tree each, and the list has room for their tokens.

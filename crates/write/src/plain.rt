@@ -252,26 +252,26 @@ fn tokens_for(seat: Seat, op: u32, children: u32) -> usize
     1
 }
 
-// Whether the root of a script is plain: it has a child, and each of its children is a semicolon. `open` is the number of nodes that the
+// Whether the root of a script is plain: it has a child, and each of its children is a semicolon. `due` is the number of nodes that the
 // child which came last still calls for, so the next child comes where it is 0.
 fn holds_statements(tree: &[u32]) -> bool
     requires { ⌜ OneTree (now tree) ⌝ }
     ensures { λ r. ⌜ r ≡ holdsStatements (treesOf (now (tree .entry))) ⌝ }
 {
-    let mut open = 0u32;
+    let mut due = 0u32;
     let mut at = fields::NODE_WORDS;
     while at < tree.len() {
         let seen = view_node(tree, at);
         let children = seen.children;
         at = seen.after;
-        if open == 0 {
+        if due == 0 {
             if seen.op != op::SEMICOLON {
                 return false;
             }
-            open = children;
+            due = children;
             continue;
         }
-        open = open - 1 + children;
+        due = due - 1 + children;
     }
     fields::NODE_WORDS < at
 }
