@@ -53,7 +53,7 @@ abbrev operandLength : Seat → Token → Forest → ℕ
 operandLength p k cs = length (operandTokens (not (isPaired p (k .op) (count cs))) k cs (written k cs) [])
 
 -- The tokens of a tree at a seat: of a statement what it holds and its semicolon.
-unfoldable treeLength : Seat → Token → Forest → ℕ
+unfoldable pub treeLength : Seat → Token → Forest → ℕ
 treeLength p k cs =
     elim (eqb (k .op) Operator.semicolon && isUnderSemicolon (formSeat p)) [
       | true ↦ length (writtenStatements (node k cs nil) [])

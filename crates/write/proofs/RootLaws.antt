@@ -4,7 +4,7 @@ use mathlib.Core.Path.{_≡_, refl, ap, sym, _∙_}
 use mathlib.Core.Bool.{true, false, _&&_}
 use mathlib.Core.List.{List, []}
 use native.Mathlib.Omega.{arith}
-use native.Mathlib.Nat.{add-zero}
+use native.Mathlib.Nat.{add-zero, add-suc}
 use lib.Dec.{eqb, ltb}
 use lib.ListN.{length, getD, drop, drop-of-length-le, length-drop}
 use lib.Seq.{getD-drop, drop-drop}
@@ -44,9 +44,9 @@ pub record Holding (tree : List ℕ) (due at : ℕ) : Type 0 where
 
 pub holding-begins : {tree : List ℕ} → OneTree tree → Holding tree 0 nodeLength
 unfolding otherTrees
-holding-begins one =
+holding-begins {tree = tree} one =
     let o = opened (one .shaped) (omega (arith, shaped-room (one .shaped))) in
-    record { others = _; behind = omega arith; within = o .long; shaped = o .shaped; same = refl }
+    record { others = lowOf (getD tree countIndex 0) + o .others; behind = omega arith; within = o .long; shaped = rw add-zero (o .shaped); same = refl }
 
 -- The root's form by its children.
 not-all : (cs : Forest) → allSemicolons cs ≡ false → false ≡ semicolonForm plain.atRoot cs
@@ -63,8 +63,8 @@ all-hold (node x xs rest) words e a = lt-ltb nodeLength words (omega (arith, e))
 -- The trees behind a node's children and some trees after these.
 other-behind : (ks rest : Forest) (m : ℕ) → otherTrees (m + count ks) (beside ks rest) ≡ otherTrees m rest
 unfolding otherTrees count beside
-other-behind nil rest m = refl
-other-behind (node x xs more) rest m = other-behind more rest m
+other-behind nil rest m = ap (λ (n : ℕ). otherTrees n rest) (add-zero m)
+other-behind (node x xs more) rest m = rw add-suc (other-behind more rest m)
 
 module _ {tree : List ℕ} (one : OneTree tree) where
   root : Opened mostChildren 1 tree

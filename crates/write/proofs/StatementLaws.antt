@@ -29,18 +29,18 @@ use Rattle.write.proofs.StepLaws.{tail, tail-part, tail-length, Puts, W
 
 -- The words of a semicolon: the span of the node that the words open with, payload 0.
 abbrev semicolonWords : List ℕ → List ℕ
-semicolonWords V = fiveWords (bareWords Operator.semicolon (tokenWordsAt V 0))
+semicolonWords H = fiveWords (bareWords Operator.semicolon (tokenWordsAt H 0))
 
-module _ (k : Token) (V : List ℕ) (five : tokenWords k ≡ firstFive V) where
-  start-word : word 2 (k .start) ≡ getD V 1 0
+module _ (k : Token) (H : List ℕ) (five : tokenWords k ≡ firstFive H) where
+  start-word : word 2 (k .start) ≡ getD H 1 0
   unfolding tokenWords firstFive
   start-word = ap (λ (l : List ℕ). getD l 1 0) five
 
-  end-word : word 3 (k .end) ≡ getD V 2 0
+  end-word : word 3 (k .end) ≡ getD H 2 0
   unfolding tokenWords firstFive
   end-word = ap (λ (l : List ℕ). getD l 2 0) five
 
-  semicolon-words : tokenWords (bare Operator.semicolon k) ≡ semicolonWords V
+  semicolon-words : tokenWords (bare Operator.semicolon k) ≡ semicolonWords H
   unfolding tokenWords bare
   semicolon-words = rw (start-word, end-word)
 
@@ -125,8 +125,9 @@ module _ {W L : List ℕ} {to : ℕ} (r : StatementRoom W L to) where
 
     pub statement-end : nodeLength + length l ≡ nodeLength * firstSize (treesOf W)
     statement-end =
+        let s : Shaped 2 (suc (r .others)) (tail nodeLength W) = rw (tail-part nodeLength W) held-shaped in
         let part : length l ≡ nodeLength * firstSize (treesOf (drop nodeLength W)) =
-        rw (tail-part nodeLength W) at (part-length (rw (tail-part nodeLength W) held-shaped) (w1 .0))
+        (rw (tail-part nodeLength W) at (part-length s (w1 .0)))
         in
         omega (arith, part, fills)
 
@@ -172,7 +173,7 @@ stating-begins r =
 pub stating-ends : {tree list₀ list : List ℕ} {to at : ℕ} → Stating tree list₀ list to at → length tree ≤ at
     → list ≡ laidAt 0 (statementsWritten (drop nodeLength tree)) list₀
 unfolding treesOf writtenStatements
-stating-ends {tree = tree} {list = list} {to = to} {at = at} s left =
+stating-ends {tree = tree} {list₀ = list₀} {list = list} {to = to} {at = at} s left =
     let last : drop at tree ≡ [] = drop-of-length-le tree left in
     let done : laidAt to (listWords []) list ≡ laidAt 0 (statementsWritten (drop nodeLength tree)) list₀ = (rw last at (s .same)) in
     none-laid to list ∙ (rw list-words-none at done)

@@ -146,8 +146,8 @@ loop-again-3 c =
 returns-2 : tie.Need-returns-2 Inv-loop μ-loop
 returns-2 c = judging-ends (c .before .loop .inv) (c .loop-test .left)
 
-pub judge-spec : {M : Type 1} → statement M
-judge-spec =
+pub judge-from-spec : {M : Type 1} → statement M
+judge-from-spec =
     tie.close
     (tie.spec
     Inv-loop

@@ -33,13 +33,25 @@ put-requires c κs =
     semicolon-room (node .before .before .before .before .before .before .before .before .pre) (node .write-node .ensures .1)
 
 add-result : tie.Need-add-result
-add-result c = ?
+add-result c =
+    let node = c .before .before .before .before .before .before .before .before .before in
+    let start = node .before .before .before .before .before .before .before .before in
+    omega (arith, statement-within (start .pre) (node .write-node .ensures .1), start .before .shared-slice-known .given)
 
 same-length : tie.Need-same-length
-same-length c = ?
+same-length c =
+    let put = c .before .before in
+    let node = put .before .before .before .before .before .before .before in
+    let start = node .before .before .before .before .before .before .before .before in
+    statement-list (start .pre) (node .write-node .ensures .1) (put .put .ensures)
 
 returns : tie.Need-returns
-returns c = ?
+returns c =
+    let put = c .before .before in
+    let node = put .before .before .before .before .before .before .before in
+    let start = node .before .before .before .before .before .before .before .before in
+    statement-writes (start .pre) (node .write-node .ensures .1)
+    (rw (put .before .bare .ensures, put .before .before .at .ensures) at (put .put .ensures))
 
 pub write-statement-spec : {M : Type 1} → statement M
 write-statement-spec =

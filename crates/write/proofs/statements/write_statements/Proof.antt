@@ -35,13 +35,25 @@ write-statement-requires c κs =
     stating-room (turn .before .loop .inv) (turn .loop-test .taken)
 
 add-at : tie.Need-add-at Inv-loop μ-loop
-add-at c = ?
+add-at c =
+    let written = c .before .before in
+    let turn = written .before .before .before .before in
+    let e = written .write-statement .ensures in
+    omega (arith, stating-within (turn .before .loop .inv) (turn .loop-test .taken) (e .0) (e .1))
 
 loop-less : tie.Need-loop-less Inv-loop μ-loop
-loop-less c = ?
+loop-less c =
+    let written = c .before .before in
+    let turn = written .before .before .before .before in
+    let e = written .write-statement .ensures in
+    stating-falls (turn .before .loop .inv) (turn .loop-test .taken) (e .0) (e .1)
 
 loop-again : tie.Need-loop-again Inv-loop μ-loop
-loop-again c = ?
+loop-again c =
+    let written = c .before .before in
+    let turn = written .before .before .before .before in
+    let e = written .write-statement .ensures in
+    stating-on (turn .before .loop .inv) (turn .loop-test .taken) (e .0) (e .1)
 
 same-length : tie.Need-same-length Inv-loop μ-loop
 same-length c = c .before .loop .inv .kept
