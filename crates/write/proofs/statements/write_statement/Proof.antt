@@ -36,14 +36,15 @@ add-result : tie.Need-add-result
 add-result c =
     let node = c .before .before .before .before .before .before .before .before .before in
     let start = node .before .before .before .before .before .before .before .before in
-    omega (arith, statement-within (start .pre) (node .write-node .ensures .1), start .before .shared-slice-known .given)
+    omega (arith, start .good .0 .0, statement-within (start .pre) (node .write-node .ensures .1))
 
 same-length : tie.Need-same-length
 same-length c =
     let put = c .before .before in
     let node = put .before .before .before .before .before .before .before in
     let start = node .before .before .before .before .before .before .before .before in
-    statement-list (start .pre) (node .write-node .ensures .1) (put .put .ensures)
+    statement-list (start .pre) (node .write-node .ensures .1)
+    (rw (put .before .bare .ensures, put .before .before .at .ensures) at (put .put .ensures))
 
 returns : tie.Need-returns
 returns c =
