@@ -12,7 +12,7 @@ use Rattle.molang.specs.Read.{uses}
 use Rattle.molang.specs.Words.{Refusal, operatorField, wordsRefusal, tokensOf, listWords, treeWords}
 use Rattle.molang.specs.Parse.{Call, refusal, Told, aTree, someMessages, refused, told, answered, treeAfter, messagesIn}
 use Rattle.molang.specs.Parse.{messagesAfter, workIn, workAfter}
-use Rattle.molang.specs.Write.{written}
+use Rattle.molang.specs.Write.{writtenTree}
 use Rattle.molang.specs.WriteEntry.{WriteCall, WriteTold, tokens, unwritten, writeRefusal, writeAnswered, listAfter}
 use Rattle.molang.specs.Reread.{bracketless, Rereading, handed, writerCall, exactCall, secondCall, twoTrees, firstMessages}
 use Rattle.molang.specs.Reread.{secondMessages, turnedBack, stopped, secondTold, afterWriting, afterFirst, reread, CanReadBack}
@@ -60,10 +60,10 @@ written-readable first w nodes count parsed words wrote =
     let got = words ∙ (ap (λ (n : ℕ). take (7 * n) (treeAfter first)) (t .nodes) ∙ tree-front p) in
     let done = write-done p w got (write-of-told w count wrote) in
     let said = done .told in
-    let counted : count ≡ length (written (t .root) (t .children) []) = cc in
+    let counted : count ≡ length (writtenTree (t .root) (t .children)) = cc in
     let is = ap (λ (n : ℕ). take (5 * n) (listAfter w)) counted ∙ done .front in
     record {
-      long = ap length is ∙ (listWords-length (written (t .root) (t .children) []) ∙ ap (λ (n : ℕ). 5 * n) (sym counted));
+      long = ap length is ∙ (listWords-length (writtenTree (t .root) (t .children)) ∙ ap (λ (n : ℕ). 5 * n) (sym counted));
       legal = rw is (list-unrefused (tree-written-legal p) 0 0);
     }
 
@@ -83,7 +83,7 @@ abbrev writing : Rereading → Token → Forest → WriteCall
 writing c k cs = writerCall (handed c) (size (node k cs nil))
 
 abbrev second : Rereading → Token → Forest → Call
-second c k cs = secondCall (handed c) (size (node k cs nil)) (length (written k cs []))
+second c k cs = secondCall (handed c) (size (node k cs nil)) (length (writtenTree k cs))
 
 module _ (c : Rereading) (k : Token) (cs : Forest) (p : Parsed (c .first) k cs) where
   tree-got : writing c k cs .tree ≡ treeWords (node k cs nil)
@@ -91,22 +91,22 @@ module _ (c : Rereading) (k : Token) (cs : Forest) (p : Parsed (c .first) k cs) 
   tree-got = tree-front p
 
   module _ (writes : writeRefusal (writing c k cs) ≡ none) where
-    list-got : take (5 * length (written k cs [])) (listAfter (writing c k cs)) ≡ listWords (written k cs [])
+    list-got : take (5 * length (writtenTree k cs)) (listAfter (writing c k cs)) ≡ listWords (writtenTree k cs)
     list-got = write-done p (writing c k cs) tree-got writes .front
 
     -- The second reading is made.
-    made : reread c ≡ afterWriting (handed c) (size (node k cs nil)) (tokens (length (written k cs [])))
+    made : reread c ≡ afterWriting (handed c) (size (node k cs nil)) (tokens (length (writtenTree k cs)))
     unfolding reread afterFirst
     made = rw (tree-told p, write-done p (writing c k cs) tree-got writes .told) refl
 
-    calls : 21 * length (written k cs []) ≤ length (c .again) → 64 * length (written k cs []) + 64 ≤ length (c .first .work)
+    calls : 21 * length (writtenTree k cs) ≤ length (c .again) → 64 * length (writtenTree k cs) + 64 ≤ length (c .first .work)
         → c .sourceLength ≤ 536870911
         → ThreeCalls (c .first) (writing c k cs) (second c k cs) k cs
     unfolding handed writerCall secondCall exactCall
     calls treeRoom workRoom legalLength =
         let legal = tree-written-legal p in
         let ks = tokensOf (second c k cs .list) in
-        let same : ks ≡ written k cs [] = ap tokensOf list-got ∙ tokens-back (written k cs []) legal (tree-written-ends p (write-done p (writing c k cs) tree-got writes .plain)) in
+        let same : ks ≡ writtenTree k cs = ap tokensOf list-got ∙ tokens-back (writtenTree k cs) legal (tree-written-ends p (write-done p (writing c k cs) tree-got writes .plain)) in
         let few : (m : ℕ) → 111 ≤ m → uses ks m ≡ false = λ m above. rw same (uses-legal legal m above) in
         record {
           parsed = p;
@@ -135,9 +135,9 @@ module _ (c : Rereading) (k : Token) (cs : Forest) (p : Parsed (c .first) k cs) 
     accepted : refusal (second c k cs) ≡ none → HasReadBack k cs (reread c)
     unfolding handed secondCall exactCall
     accepted e =
-        let n = length (written k cs []) in
+        let n = length (writtenTree k cs) in
         let a = call-accepted (second c k cs) e in
-        let long : length (second c k cs .list) ≡ 5 * n = ap length list-got ∙ listWords-length (written k cs []) in
+        let long : length (second c k cs .list) ≡ 5 * n = ap length list-got ∙ listWords-length (writtenTree k cs) in
         let tree : 21 * (length (second c k cs .list) / 5) ≤ length (c .again) = a .tree in
         let work : 64 * (length (second c k cs .list) / 5) + 64 ≤ length (workAfter (c .first)) = a .work in
         read-back (calls (omega arith) (omega (arith, work-long p)) (a .sourceLength))
@@ -177,7 +177,7 @@ demand-3 c =
       readsBack = λ k cs d.
           let p : Parsed (c .first) k cs = record { accepted = d .accepted; reads = d .reads } in
           let tells = writer-tells p (writing c k cs) (tree-got c k cs p) .writes (d .plain) (d .few) (d .listRoom) in
-          let writes = write-of-told (writing c k cs) (length (written k cs [])) tells in
+          let writes = write-of-told (writing c k cs) (length (writtenTree k cs)) tells in
           read-back c k cs p writes (calls c k cs p writes (d .treeRoom) (d .workRoom) (d .legalLength));
       agree = λ nodes count nodesAgain h. agree nodes count nodesAgain h (ends c);
       noMessages = λ records h. never records h (ends c);

@@ -15,7 +15,7 @@ use Rattle.molang.proofs.Forests.{Turns}
 use Rattle.molang.proofs.RoundTrip.Role.{Role, aBracket, aComma, aQuestion, aColon, is, among, role, op-of-comma, op-of-question}
 use Rattle.molang.proofs.RoundTrip.Role.{op-of-colon}
 use Rattle.molang.proofs.RoundTrip.Expression.{Sort, Pair, Exp, empty, leaf, bracket, before, between, isOperand, isJoinedBy}
-use Rattle.molang.proofs.RoundTrip.Expression.{leafRoles, prefixRoles, isLeaf, isPrefix, isJoining, isWhole, takes, joinsLeft, joinsRight}
+use Rattle.molang.proofs.RoundTrip.Expression.{leafRoles, prefixRoles, isLeaf, isPrefix, isJoining, isHeld, takes, joinsLeft, joinsRight}
 use Rattle.molang.proofs.RoundTrip.Expression.{excepted, ahead, amid, form, also, turned-form}
 use Rattle.molang.proofs.RoundTrip.Walk.{walk-on, walk-into, Gathers, Carries, Passes, carry-both, carry-node, carry-token}
 use Rattle.molang.proofs.RoundTrip.Walk.{carry-whole}
@@ -217,7 +217,7 @@ module _ (σ : ℕ → Bool) (ops : List ℕ) (w : Ready σ ops) where
         single = λ h. o;
       }
 
-  folded-bracket : {s : Sort} (k : Token) (e : Pair k) (h : isWhole s ≡ true) (x : Exp s) → Folded x
+  folded-bracket : {s : Sort} (k : Token) (e : Pair k) (h : isHeld s ≡ true) (x : Exp s) → Folded x
       → Folded (bracket k e h x)
   unfolding form Clean
   folded-bracket k e h x i =
