@@ -10,7 +10,7 @@ use lib.ListN.{length, take}
 use Rattle.molang.specs.Operator
 use Rattle.molang.specs.Forest.{Token, Forest, nil, node, size}
 use Rattle.molang.specs.Read.{read, uses}
-use Rattle.molang.specs.Words.{tokensOf, listWords, treeWords}
+use Rattle.molang.specs.Words.{listWords, treeWords}
 use Rattle.molang.specs.Parse.{Call, inHalves, reading, aTree, answered, treeAfter}
 use Rattle.molang.specs.Write.{writtenTree, takenAway, comparable}
 use Rattle.molang.specs.WriteEntry.{WriteCall, writeRefusal, tokens, writeAnswered, listAfter}

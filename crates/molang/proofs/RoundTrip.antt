@@ -17,9 +17,9 @@ use Rattle.molang.specs.Read.{tree, rooted, read, uses}
 use Rattle.molang.specs.Words.{treeWords}
 use Rattle.molang.specs.Free.{isNil}
 use Rattle.molang.specs.Plain.{unplainAt}
-use Rattle.molang.specs.Write.{spanning, written, writtenStatements, writtenTree, takenAway, comparableToken, comparableTrees, comparable}
+use Rattle.molang.specs.Write.{spanning, writtenStatements, writtenTree, takenAway, comparableToken, comparableTrees, comparable}
 use Rattle.molang.proofs.Computed.{computed}
-use Rattle.molang.proofs.PlainTrees.{PlainStatements, PlainTree, expression, script, plain-tree}
+use Rattle.molang.proofs.PlainTrees.{PlainTree, expression, script, plain-tree}
 use Rattle.molang.proofs.TakingAway.{taken-kept}
 use Rattle.molang.proofs.Writing.{writtenTree-expression, writtenTree-script}
 use borrow.Author.Tests.{eqb-true}

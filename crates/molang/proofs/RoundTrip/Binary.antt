@@ -15,8 +15,8 @@ use Rattle.molang.proofs.Forests.{Turns}
 use Rattle.molang.proofs.RoundTrip.Role.{Role, aBracket, aComma, aQuestion, aColon, is, among, role, op-of-comma, op-of-question}
 use Rattle.molang.proofs.RoundTrip.Role.{op-of-colon}
 use Rattle.molang.proofs.RoundTrip.Expression.{Sort, Pair, Exp, empty, leaf, bracket, before, between, isOperand, isJoinedBy}
-use Rattle.molang.proofs.RoundTrip.Expression.{leafRoles, prefixRoles, isLeaf, isPrefix, isJoining, isHeld, takes, joinsLeft, joinsRight}
-use Rattle.molang.proofs.RoundTrip.Expression.{excepted, ahead, amid, form, also, turned-form}
+use Rattle.molang.proofs.RoundTrip.Expression.{leafRoles, prefixRoles, isLeaf, isPrefix, isJoining, isHeld, takes, joinsLeft}
+use Rattle.molang.proofs.RoundTrip.Expression.{joinsRight, excepted, ahead, amid, form, also, turned-form}
 use Rattle.molang.proofs.RoundTrip.Walk.{walk-on, walk-into, Gathers, Carries, Passes, carry-both, carry-node, carry-token}
 use Rattle.molang.proofs.RoundTrip.Walk.{carry-whole}
 

@@ -19,9 +19,10 @@ use Rattle.molang.proofs.Forests.{Turns, inOrder-turned}
 use Rattle.molang.proofs.RoundTrip.Role.{Role, aBracket, aComma, aQuestion, aColon, is, is-same, isAmong, among, role}
 use Rattle.molang.proofs.RoundTrip.Role.{role-conditional, role-question, role-colon, op-of-question, op-of-colon}
 use Rattle.molang.proofs.RoundTrip.Expression.{Sort, nothing, atom, prefixed, bracketed, joinedBy, Pair, Exp, empty, leaf, bracket}
-use Rattle.molang.proofs.RoundTrip.Expression.{before, between, isOperand, isJoinedBy, isWhole, isHeaded, statementRoles, isHeld, leafRoles}
-use Rattle.molang.proofs.RoundTrip.Expression.{prefixRoles, isLeaf, isPrefix, isJoining, takes, joinsLeft, joinsRight, excepted, operand-only, ahead, amid, form}
-use Rattle.molang.proofs.RoundTrip.Expression.{also, turned-form, Solid, operand-solid, takes-operand}
+use Rattle.molang.proofs.RoundTrip.Expression.{before, between, isOperand, isJoinedBy, isWhole, isHeaded, statementRoles, isHeld}
+use Rattle.molang.proofs.RoundTrip.Expression.{leafRoles, prefixRoles, isLeaf, isPrefix, isJoining, takes, joinsLeft, joinsRight}
+use Rattle.molang.proofs.RoundTrip.Expression.{excepted, operand-only, ahead, amid, form, also, turned-form, Solid, operand-solid}
+use Rattle.molang.proofs.RoundTrip.Expression.{takes-operand}
 use Rattle.molang.proofs.RoundTrip.Walk.{Gathers, Carries, Passes, carry-both, carry-node, carry-token}
 
 abbrev pub conditionals : ℕ → Bool

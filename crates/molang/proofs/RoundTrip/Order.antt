@@ -24,9 +24,9 @@ use Rattle.molang.specs.Order.{unaryMinusAndNot, addition, conditional, 
 use Rattle.molang.specs.Read.{rooted, grouped, uses}
 use Rattle.molang.proofs.Booleans.{either, never, or-first, or-second, or-neither, or-only-first}
 use Rattle.molang.proofs.Computed.{computed}
-use Rattle.molang.proofs.RoundTrip.Role.{Role, aQuery, aMathCall, aBracket, aCloser, aMinus, aNot, aLoop, another, aSemicolon, anAssignment}
-use Rattle.molang.proofs.RoundTrip.Role.{is, is-same, isUnwritten, isAmong, among, role, closer-role, role-above, none-below, role-bracket, role-query}
-use Rattle.molang.proofs.RoundTrip.Role.{role-math, role-prefix}
+use Rattle.molang.proofs.RoundTrip.Role.{Role, aQuery, aMathCall, aBracket, aCloser, aMinus, aNot, aLoop, another, aSemicolon}
+use Rattle.molang.proofs.RoundTrip.Role.{anAssignment, is, is-same, isUnwritten, isAmong, among, role, closer-role, role-above}
+use Rattle.molang.proofs.RoundTrip.Role.{none-below, role-bracket, role-query, role-math, role-prefix}
 use Rattle.molang.proofs.RoundTrip.Expression.{Sort, Exp, empty, leaf, bracket, before, between, isWhole, leafRoles, prefixRoles}
 use Rattle.molang.proofs.RoundTrip.Expression.{joiningRoles, isPrefix, isJoining, tokens, ahead, amid, form, also}
 use Rattle.molang.proofs.RoundTrip.Lacking.{heads, lacking, no-semicolon, lacks-uses}
@@ -121,7 +121,6 @@ called = also nothingYet (calls queryOrLoop)
 pub calls-first : ready nothingYet callPass ≡ true
 unfolding computed role ready below
 calls-first = refl
-
 
 abbrev pub ruled : Bool → Bool → Bool → Rules
 ruled c a p = record { comparisonsFirst = c; andFirst = a; pairsRight = p }

@@ -3,11 +3,10 @@
 -- of a script, gated by their own operators, are read to the tree of its statements' trees.
 use Prim.Native.Nat.{ℕ}
 use mathlib.Core.Path.{_≡_, refl, ap, sym, _∙_}
-use mathlib.Core.Bool.{Bool, true, false, not, true≢false, false≢true}
+use mathlib.Core.Bool.{Bool, true, false, not, false≢true}
 use mathlib.Core.List.{List, [], _∷_}
 use mathlib.Core.Option.{Option, none, some}
 use native.Mathlib.Omega.{arith}
-use lib.Dec.{eqb}
 use borrow.Author.Tests.{eq-eqb}
 use Rattle.molang.specs.Operator
 use Rattle.molang.specs.Operator.{any, isOneOf, isBracket}
@@ -15,35 +14,37 @@ use Rattle.molang.specs.Forest.{Token, Forest, nil, node, bare, leaves, 
 use Rattle.molang.specs.Message.{Result, ok, fail}
 use Rattle.molang.specs.Level.{into, Level, walk, through, gathered}
 use Rattle.molang.specs.Level as Levels
-use Rattle.molang.specs.Sections.{outside, sections}
+use Rattle.molang.specs.Sections.{sections}
 use Rattle.molang.specs.Calls.{CallKind, queryOrLoop, math, calls, callStep, callResume, callFinish, callLevel}
 use Rattle.molang.specs.Statements.{Split, unsplit, after, inside, splitOf, isEntered, gather, endStatement, enterSplit}
 use Rattle.molang.specs.Statements.{statementStep, statementResume, statementFinish, statementLevel}
-use Rattle.molang.specs.Unary.{Unary, done, undone, turned, unaryNode, unary, unaryPass, returnStep, returnResume, returnFinish, returnLevel}
+use Rattle.molang.specs.Unary.{Unary, done, undone, turned, unaryNode, unary, unaryPass, returnStep, returnResume, returnFinish}
+use Rattle.molang.specs.Unary.{returnLevel}
 use Rattle.molang.specs.Binary.{binaryStep, binaryResume, binaryFinish, binaryLevel}
 use Rattle.molang.specs.Conditional.{isToken, foldedFrom, dangling, undangled, conditionalStep, conditionalFinish, conditionalLevel}
 use Rattle.molang.specs.Order.{Rules, Pass, lastToken, memberAccessors, sectioning, callPass, statements, arrays, pointer, mathCalls}
-use Rattle.molang.specs.Order.{unaryMinusAndNot, addition, conditional, returns, binary, order, runs, lastOf, endsWithSemicolon, apply}
+use Rattle.molang.specs.Order.{unaryMinusAndNot, addition, conditional, returns, binary, order, runs, lastOf, endsWithSemicolon}
+use Rattle.molang.specs.Order.{apply}
 use Rattle.molang.specs.Read.{rooted, grouped, uses}
 use Rattle.molang.specs.Free.{free, clear, isSemicolon}
 use Rattle.molang.proofs.Booleans.{either}
 use Rattle.molang.proofs.Computed.{computed}
 use Rattle.molang.proofs.Forests.{followedBy, followedBy-nil, turned-twice, inOrder-turned, Turns}
-use Rattle.molang.proofs.Trees.{decided, clear-leaf, free-leaf, free-tree, free-clear}
+use Rattle.molang.proofs.Trees.{clear-leaf, free-leaf, free-tree, free-clear}
 use Rattle.molang.proofs.Inert.{walk-free}
 use Rattle.molang.proofs.Statements.{split-clear, statement-inert}
 use Rattle.molang.proofs.RoundTrip.Role.{aSemicolon, isUnwritten, textRoles, isAmong, role, role-semicolon}
-use Rattle.molang.proofs.RoundTrip.Expression.{Sort, Exp, empty, leaf, bracket, before, between, isWhole, isFilled, tokens, form, also}
-use Rattle.molang.proofs.RoundTrip.Expression.{turned-form, Filled, filled-form}
-use Rattle.molang.proofs.RoundTrip.Walk.{walk-on, walk-into, Gathers, Carries, carry-both, carry-token}
+use Rattle.molang.proofs.RoundTrip.Expression.{Sort, Exp, empty, leaf, bracket, before, between, isWhole, isFilled, tokens, form}
+use Rattle.molang.proofs.RoundTrip.Expression.{also, turned-form, Filled, filled-form}
+use Rattle.molang.proofs.RoundTrip.Walk.{walk-on, walk-into, Gathers, carry-both, carry-token}
 use Rattle.molang.proofs.RoundTrip.Lacking.{no-semicolon, lacks-free}
 use Rattle.molang.proofs.RoundTrip.Sections.{nothingYet, Reads, over-nil, read-both, read-token, reads, whole-reads}
 use Rattle.molang.proofs.RoundTrip.Calls.{Uncalled, noBracket, Carried, passes, whole, carried-calls}
 use Rattle.molang.proofs.RoundTrip.Conditional.{calm-finish}
-use Rattle.molang.proofs.RoundTrip.Order.{folds, isForeign, each, ready, afterAll, laterPasses, called, ruled, in-order}
-use Rattle.molang.proofs.RoundTrip.Order.{Within, Uses, uses-first, uses-rest, within, skip, foreign, agree, everything, finished}
-use Rattle.molang.proofs.RoundTrip.Order.{bracketless, any-foreign, any-on, final, left-out, isLifted, lifts, applied, skipped, passed}
-use Rattle.molang.proofs.RoundTrip.Order.{all-passes, no-brackets, uncalled-first}
+use Rattle.molang.proofs.RoundTrip.Order.{folds, isForeign, each, ready, afterAll, laterPasses, called, ruled, in-order, Within}
+use Rattle.molang.proofs.RoundTrip.Order.{Uses, uses-first, uses-rest, within, skip, foreign, agree, everything, finished}
+use Rattle.molang.proofs.RoundTrip.Order.{bracketless, any-foreign, any-on, final, left-out, isLifted, lifts, applied, skipped}
+use Rattle.molang.proofs.RoundTrip.Order.{passed, all-passes, no-brackets, uncalled-first}
 
 -- What a statement holds, and its semicolon.
 pub record Statement : Type 0 where
