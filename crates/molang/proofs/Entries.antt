@@ -88,7 +88,10 @@ three-calls first write second k cs t =
     in
     let again = round-trip k cs (wrote .plain) (second .version) (second .sourceLength) in
     let parsed : Parsed second (again .root) (again .children) =
-    record { accepted = call-acceptable second ks acceptable; reads = reads-list second ks listGot legal (tree-written-ends p (wrote .plain)) (t .usedExactly) ∙ again .reads }
+    record {
+      accepted = call-acceptable second ks acceptable;
+      reads = reads-list second ks listGot legal (tree-written-ends p (wrote .plain)) (t .usedExactly) ∙ again .reads;
+    }
     in
     record {
       treeGot = treeGot;

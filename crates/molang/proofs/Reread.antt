@@ -108,7 +108,8 @@ module _ (c : Rereading) (k : Token) (cs : Forest) (p : Parsed (c .first) k cs) 
     calls treeRoom workRoom legalLength =
         let legal = tree-written-legal p in
         let ks = tokensOf (second c k cs .list) in
-        let same : ks ≡ writtenTree k cs = ap tokensOf list-got ∙ tokens-back (writtenTree k cs) legal (tree-written-ends p (write-done p (writing c k cs) tree-got writes .plain)) in
+        let ends = tree-written-ends p (write-done p (writing c k cs) tree-got writes .plain) in
+        let same : ks ≡ writtenTree k cs = ap tokensOf list-got ∙ tokens-back (writtenTree k cs) legal ends in
         let few : (m : ℕ) → 111 ≤ m → uses ks m ≡ false = λ m above. rw same (uses-legal legal m above) in
         record {
           parsed = p;

@@ -126,7 +126,8 @@ left-unstated : (p : Seat) (n : ℕ) (k : Token) (cs : Forest) → PlainExpressi
 left-unstated p n k nil e c R =
     record { first = k; below = _; rest = R; starts = several-kept c k nil R (unfold isSingle in refl); other = e .other }
 left-unstated p n k (node x xs nil) e c R =
-    let a = inner k 0 n x xs nil (e .other) (e .below) in split (isBracket (k .op)) c refl (left-unstated (seatUnder k 0) (suc n) x xs (a .0) false R)
+    let a = inner k 0 n x xs nil (e .other) (e .below) in
+    split (isBracket (k .op)) c refl (left-unstated (seatUnder k 0) (suc n) x xs (a .0) false R)
   where
     split : (b c : Bool) → isBracket (k .op) ≡ b → Unstated (takenAway false (node x xs nil) R)
         → Unstated (takenAway c (node k (node x xs nil) nil) R)

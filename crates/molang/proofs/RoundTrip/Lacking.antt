@@ -28,7 +28,8 @@ abbrev pub heads : Role → Sort → Bool
 heads q s = isHeaded (q ∷ []) s
 
 -- A role of the one list is none of the other.
-pub apart : (ps rs : List Role) → allOf (λ a. allOf (λ r. not (is a r)) rs) ps ≡ true → (a r : Role) → isAmong ps a ≡ true → isAmong rs r ≡ true
+pub apart : (ps rs : List Role) → allOf (λ a. allOf (λ r. not (is a r)) rs) ps ≡ true → (a r : Role) → isAmong ps a ≡ true
+    → isAmong rs r ≡ true
     → is a r ≡ false
 apart ps rs h a r m n = not-true (is a r) (among rs (λ r. not (is a r)) (among ps (λ a. allOf (λ r. not (is a r)) rs) h a m) r n)
 

@@ -237,7 +237,8 @@ unfolding form tokens leaves ahead amid isBracket
 bracketless u h empty w r = refl
 bracketless u h (leaf k _ _ _) w r = refl
 bracketless u h (bracket k e _ x) w r =
-    absurd (true≢false (sym (w .0) ∙ ap u (eqb-true (k .op) Operator.leftParenthesis (role-bracket (k .op) ∙ ap (is aBracket) (e .brackets))) ∙ h))
+    let opens = eqb-true (k .op) Operator.leftParenthesis (role-bracket (k .op) ∙ ap (is aBracket) (e .brackets)) in
+    absurd (true≢false (sym (w .0) ∙ ap u opens ∙ h))
 bracketless u h (before k _ _ _ _ x) w r = ap (node k nil) (bracketless u h x (w .1) r)
 bracketless u h (between k _ _ _ _ _ x y) w r = ap (λ (f : Forest). form nothingYet x (node k nil f)) (bracketless u h y (w .2) r)
     ∙ bracketless u h x (w .1) (k ∷ tokens y r)
@@ -276,7 +277,8 @@ final c a p n r e h =
 -- The operators that the call pass asks for (`runs`).
 abbrev callStarts : List ℕ
 callStarts =
-    Operator.leftBrace ∷ Operator.leftBracket ∷ Operator.leftParenthesis ∷ Operator.queryFunction ∷ Operator.arrayVariable ∷ Operator.semicolon ∷ []
+    Operator.leftBrace ∷ Operator.leftBracket ∷ Operator.leftParenthesis ∷ Operator.queryFunction ∷ Operator.arrayVariable
+    ∷ Operator.semicolon ∷ []
 
 abbrev callers : List ℕ
 callers = Operator.queryFunction ∷ Operator.loop ∷ Operator.forEach ∷ []
@@ -342,13 +344,15 @@ module _ (u : ℕ → Bool) (unknown : (n : ℕ) → isUnwritten (role n) ≡ tr
   plays : (n : ℕ) → u n ≡ true → is another (role n) ≡ false
   plays n t =
       never (is another (role n))
-      (λ h. true≢false (sym t ∙ unknown n (or-second (is aLoop (role n)) (is another (role n) || false) (or-first (is another (role n)) false h))))
+      (λ h. true≢false (sym t
+      ∙ unknown n (or-second (is aLoop (role n)) (is another (role n) || false) (or-first (is another (role n)) false h))))
 
   no-query : runs u callPass ≡ false → (n : ℕ) → u n ≡ true → calls queryOrLoop n ≡ false
   unfolding computed role
   no-query h n t =
       let q = never (u Operator.queryFunction)
-      (λ q. true≢false (sym (rw (any-on u callStarts Operator.queryFunction q refl, any-on u callers Operator.queryFunction q refl) refl) ∙ h)) in
+      (λ q. true≢false (sym (rw (any-on u callStarts Operator.queryFunction q refl, any-on u callers Operator.queryFunction q refl) refl)
+      ∙ h)) in
       any-off u callers (rw (q, unknown Operator.loop refl, unknown Operator.forEach refl) refl) n t
 
   no-math : runs u mathCalls ≡ false → (n : ℕ) → u n ≡ true → calls math n ≡ false

@@ -150,7 +150,8 @@ foreign-script : (n : ℕ) → isUnwritten (role n) ≡ true → (xs : List Stat
 unfolding scriptTokens
 foreign-script n h [] r = refl
 foreign-script n h (x ∷ xs) r =
-    foreign n h (x .exp) (x .end ∷ scriptTokens xs r) ∙ skip n (x .end) aSemicolon _ h (named (x .end .op) (x .ends)) refl ∙ foreign-script n h xs r
+    foreign n h (x .exp) (x .end ∷ scriptTokens xs r) ∙ skip n (x .end) aSemicolon _ h (named (x .end .op) (x .ends)) refl
+    ∙ foreign-script n h xs r
   where
     named : (n : ℕ) → n ≡ Operator.semicolon → role n ≡ aSemicolon
     named n e = unfold computed role in ap role e
@@ -236,7 +237,8 @@ gathered-free m k (node c cs more) r h = stepped m
 
     walked : walk statementLevel (splitOf (node c cs more)) (node c cs more) ≡ ok (node c cs more)
     walked =
-        ap (λ (m : Split). walk statementLevel m (node c cs more)) (split-clear (node c cs more) (free-clear isSemicolon (node c cs more) below-free))
+        ap (λ (m : Split). walk statementLevel m (node c cs more))
+        (split-clear (node c cs more) (free-clear isSemicolon (node c cs more) below-free))
         ∙ (unfold turnedOnto in walk-free statementLevel isSemicolon statement-inert nil (node c cs more) (unfold clear in refl) below-free)
 
     entered : (m : Split) → statementStep m k (node c cs more) ≡ into m (splitOf (node c cs more))
@@ -298,7 +300,8 @@ same-first : {k l : Token} {cs ds r t : Forest} → node k cs r ≡ node l ds t 
 same-first e = cc e
 
 all-statements : (xs : List Statement) (q : Token) (past : Forest)
-    → walk statementLevel (after q past) (flatScript called xs nil) ≡ walk statementLevel (after q (turnedOnto (statementTrees called xs) past)) nil
+    → walk statementLevel (after q past) (flatScript called xs nil)
+    ≡ walk statementLevel (after q (turnedOnto (statementTrees called xs) past)) nil
 unfolding flatScript statementTrees turnedOnto
 all-statements [] q past = refl
 all-statements (x ∷ xs) q past =
@@ -311,14 +314,16 @@ all-statements (x ∷ xs) q past =
     ∙ all-statements xs q (node (labelOf x) f past)
 
 statement-pass : (x : Statement) (xs : List Statement)
-    → through statementLevel (flatScript called (x ∷ xs) nil) ≡ ok (node (bare Operator.semicolon (x .end)) (statementTrees called (x ∷ xs)) nil)
+    → through statementLevel (flatScript called (x ∷ xs) nil)
+    ≡ ok (node (bare Operator.semicolon (x .end)) (statementTrees called (x ∷ xs)) nil)
 unfolding through flatScript splitOf walk statementLevel statementFinish
 statement-pass x xs =
     let all = flatScript called (x ∷ xs) nil in
     let r = flatScript called xs nil in
     let begins : splitOf all ≡ after (bare Operator.semicolon (x .end)) nil =
     ap splitOf (turns-followed (form called (x .exp)) (turned-form called (x .exp)) (node (x .end) nil r))
-    ∙ split-after (form called (x .exp) nil) (node (x .end) nil r) (free-clear isSemicolon (form called (x .exp) nil) (form-free called (x .exp)))
+    ∙ split-after (form called (x .exp) nil) (node (x .end) nil r)
+    (free-clear isSemicolon (form called (x .exp) nil) (form-free called (x .exp)))
     ∙ rw (eq-eqb (x .end .op) Operator.semicolon (x .ends), splitOf) refl in
     ap (λ (m : Split). walk statementLevel m all) begins
     ∙ all-statements (x ∷ xs) (bare Operator.semicolon (x .end)) nil
@@ -462,7 +467,8 @@ module _ (x : Statement) (xs : List Statement) where
   stays p σ h = ap (λ (f : Forest). node root f nil) (trees-agree u σ (folds p) (left-out u unknown p h) all used)
 
   sectioned : (sourceLength : ℕ) (ps : List Pass)
-      → grouped sourceLength u (sectioning ∷ ps) [] (leaves (scriptTokens all [])) ≡ grouped sourceLength u ps [] (flatScript nothingYet all nil)
+      → grouped sourceLength u (sectioning ∷ ps) [] (leaves (scriptTokens all []))
+      ≡ grouped sourceLength u ps [] (flatScript nothingYet all nil)
   unfolding apply
   sectioned len ps =
       either (runs u sectioning)
