@@ -170,12 +170,16 @@ left-calm r (bracketed s) h = refl
 left-calm r (joinedBy q) h =
     ap (λ (q : Role). isCalm (joinedBy q)) (sym (is-same aComma q (and-eq-true-iff (is aComma q) (is aComma r) .0 h .0)))
 
+abbrev pub gatheredIn : Forest → Forest
+gatheredIn d = d
+
+pub gathers : Gathers conditionalLevel gatheredIn
+unfolding walk conditionalLevel conditionalStep conditionalFinish foldedFrom undangled dangling
+gathers = record { enters = λ d k c cs r. refl; resumes = λ d k kids. refl; begins = refl }
+
 module _ (σ : ℕ → Bool) (w : Unpaired σ) where
   abbrev σ' : ℕ → Bool
   σ' = also σ conditionals
-
-  abbrev gatheredIn : Forest → Forest
-  gatheredIn d = d
 
   abbrev anything : Forest → Bool
   anything r = true
@@ -190,10 +194,6 @@ module _ (σ : ℕ → Bool) (w : Unpaired σ) where
   mid (bracket k _ _ x) r = node k (form σ' x nil) r
   mid (before k _ _ _ _ x) r = ahead (σ (k .op)) k (mid x) r
   mid (between k _ _ _ _ _ x y) r = amid (σ (k .op)) k (mid x) (mid y) r
-
-  gathers : Gathers conditionalLevel gatheredIn
-  unfolding walk conditionalLevel conditionalStep conditionalFinish foldedFrom undangled dangling
-  gathers = record { enters = λ d k c cs r. refl; resumes = λ d k kids. refl; begins = refl }
 
   passes : (k : Token) → Passes conditionalLevel gatheredIn anything k
   unfolding conditionalLevel conditionalStep

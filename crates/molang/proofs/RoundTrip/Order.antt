@@ -30,7 +30,7 @@ use Rattle.molang.proofs.RoundTrip.Role.{none-below, role-bracket, role
 use Rattle.molang.proofs.RoundTrip.Expression.{Sort, Exp, empty, leaf, bracket, before, between, isWhole, leafRoles, prefixRoles}
 use Rattle.molang.proofs.RoundTrip.Expression.{joiningRoles, isPrefix, isJoining, tokens, ahead, amid, form, also}
 use Rattle.molang.proofs.RoundTrip.Lacking.{heads, lacking, no-semicolon, lacks-uses}
-use Rattle.molang.proofs.RoundTrip.Sections.{nothingYet, section-pass}
+use Rattle.molang.proofs.RoundTrip.Sections.{nothingYet, Reads, reads, whole-reads}
 use Rattle.molang.proofs.RoundTrip.Calls.{Uncalled, call-pass}
 use Rattle.molang.proofs.RoundTrip.Unary.{prefixes, unary-pass}
 use Rattle.molang.proofs.RoundTrip.Binary.{Ready, binary-pass}
@@ -454,13 +454,21 @@ module _ (u : ℕ → Bool) (F : (ℕ → Bool) → Forest)
       let parts = and-eq-true-iff (ready σ p) (allReady (also σ (folds p)) ps) .0 h in
       one-pass len p ps σ (parts .0) ∙ all-passes len ps (also σ (folds p)) (parts .1)
 
--- Where the section pass is left out, no bracket is used.
-pub no-brackets : (u : ℕ → Bool) → runs u sectioning ≡ false → u Operator.leftParenthesis ≡ false
-unfolding runs isOneOf any
-no-brackets u h =
-    never (u Operator.leftParenthesis)
-    (λ t. true≢false (sym (any-on u (Operator.leftBrace ∷ Operator.leftBracket ∷ Operator.leftParenthesis ∷ []) Operator.leftParenthesis t
-    refl) ∙ h))
+-- The section pass over tokens that it reads, or, where it is left out and no bracket is used, over leaves that are read already.
+pub sectioned : (u : ℕ → Bool) (F : List Token → List Token) (G : Forest → Forest) → Reads F G
+    → (u Operator.leftParenthesis ≡ false → G nil ≡ leaves (F []))
+    → (sourceLength : ℕ) (ps : List Pass)
+    → grouped sourceLength u (sectioning ∷ ps) [] (leaves (F [])) ≡ grouped sourceLength u ps [] (G nil)
+unfolding apply runs
+sectioned u F G f flat len ps =
+    either (runs u sectioning) (λ h. passed u len sectioning ps (leaves (F [])) (G nil) h (whole-reads F G f))
+    (λ h. skipped u len sectioning ps (leaves (F [])) h ∙ ap (grouped len u ps []) (sym (flat (unused h))))
+  where
+    unused : any u (Operator.leftBrace ∷ Operator.leftBracket ∷ Operator.leftParenthesis ∷ []) ≡ false → u Operator.leftParenthesis ≡ false
+    unused h =
+        never (u Operator.leftParenthesis)
+        (λ t. true≢false (sym (any-on u (Operator.leftBrace ∷ Operator.leftBracket ∷ Operator.leftParenthesis ∷ [])
+        Operator.leftParenthesis t (unfold isOneOf any in refl)) ∙ h))
 
 -- An expression that assigns nothing stands on its own.
 module _ {s : Sort} (e : Exp s) (w : isWhole s ≡ true) (assigns : heads anAssignment s ≡ false) where
@@ -483,16 +491,6 @@ module _ {s : Sort} (e : Exp s) (w : isWhole s ≡ true) (assigns : heads anAssi
   unfolding u uses computed role
   no-assignments = lacks-uses Operator.assignment anAssignment refl refl refl e (lacking anAssignment refl e assigns) []
 
-  sectioned : (sourceLength : ℕ) (ps : List Pass)
-      → grouped sourceLength u (sectioning ∷ ps) [] (leaves (tokens e [])) ≡ grouped sourceLength u ps []
-      (form nothingYet e nil)
-  unfolding apply
-  sectioned len ps =
-      either (runs u sectioning)
-      (λ h. passed u len sectioning ps (leaves (tokens e [])) (form nothingYet e nil) h (section-pass e))
-      (λ h. skipped u len sectioning ps (leaves (tokens e [])) h
-      ∙ ap (grouped len u ps []) (sym (unfold leaves in bracketless u (no-brackets u h) e used [])))
-
   pub reading : (r : Rules) (sourceLength : ℕ) → grouped sourceLength (uses (tokens e [])) (order r) []
       (leaves (tokens e [])) ≡ rooted sourceLength [] (form everything e nil)
   unfolding order laterPasses u runs any folds
@@ -507,7 +505,8 @@ module _ {s : Sort} (e : Exp s) (w : isWhole s ≡ true) (assigns : heads anAssi
       (rw (no-assignments, no-semicolons) refl)
       ∙ skipped u len memberAccessors (sectioning ∷ callPass ∷ statements ∷ ps) (leaves (tokens e []))
       (any-foreign u unknown (Operator.memberAccessor ∷ []) (unfold each isForeign computed role in refl))
-      ∙ sectioned len (callPass ∷ statements ∷ ps)
+      ∙ sectioned u (tokens e) (form nothingYet e) (reads e) (λ h. unfold leaves in bracketless u h e used []) len
+      (callPass ∷ statements ∷ ps)
       ∙ one-pass u F goes stays len callPass (statements ∷ ps) nothingYet calls-first
       ∙ skipped u len statements ps (form (also nothingYet (folds callPass)) e nil) (rw no-semicolons refl)
       ∙ all-passes u F goes stays len ps called (in-order (r .comparisonsFirst) (r .andFirst) (r .pairsRight))

@@ -15,13 +15,13 @@ use Rattle.molang.specs.Message.{Result, ok, fail}
 use Rattle.molang.specs.Level.{into, Level, walk, through, gathered}
 use Rattle.molang.specs.Level as Levels
 use Rattle.molang.specs.Sections.{sections}
-use Rattle.molang.specs.Calls.{CallKind, queryOrLoop, math, calls, callStep, callResume, callFinish, callLevel}
+use Rattle.molang.specs.Calls.{CallKind, queryOrLoop, math, calls, callLevel}
 use Rattle.molang.specs.Statements.{Split, unsplit, after, inside, splitOf, isEntered, gather, endStatement, enterSplit}
 use Rattle.molang.specs.Statements.{statementStep, statementResume, statementFinish, statementLevel}
 use Rattle.molang.specs.Unary.{Unary, done, undone, turned, unaryNode, unary, unaryPass, returnStep, returnResume, returnFinish}
 use Rattle.molang.specs.Unary.{returnLevel}
-use Rattle.molang.specs.Binary.{binaryStep, binaryResume, binaryFinish, binaryLevel}
-use Rattle.molang.specs.Conditional.{isToken, foldedFrom, dangling, undangled, conditionalStep, conditionalFinish, conditionalLevel}
+use Rattle.molang.specs.Binary.{binaryLevel}
+use Rattle.molang.specs.Conditional.{isToken, dangling, conditionalLevel}
 use Rattle.molang.specs.Order.{Rules, Pass, lastToken, memberAccessors, sectioning, callPass, statements, arrays, pointer, mathCalls}
 use Rattle.molang.specs.Order.{unaryMinusAndNot, addition, conditional, returns, binary, order, runs, lastOf, endsWithSemicolon}
 use Rattle.molang.specs.Order.{apply}
@@ -38,13 +38,16 @@ use Rattle.molang.proofs.RoundTrip.Expression.{Sort, Exp, empty, leaf, 
 use Rattle.molang.proofs.RoundTrip.Expression.{also, turned-form, Filled, filled-form}
 use Rattle.molang.proofs.RoundTrip.Walk.{walk-on, walk-into, Gathers, carry-both, carry-token}
 use Rattle.molang.proofs.RoundTrip.Lacking.{no-semicolon, lacks-free}
-use Rattle.molang.proofs.RoundTrip.Sections.{nothingYet, Reads, over-nil, read-both, read-token, reads, whole-reads}
+use Rattle.molang.proofs.RoundTrip.Sections.{nothingYet, Reads, over-nil, read-both, read-token, reads}
 use Rattle.molang.proofs.RoundTrip.Calls.{Uncalled, noBracket, Carried, passes, whole, carried-calls}
+use Rattle.molang.proofs.RoundTrip.Calls as Calls
+use Rattle.molang.proofs.RoundTrip.Binary as Binary
 use Rattle.molang.proofs.RoundTrip.Conditional.{calm-finish}
+use Rattle.molang.proofs.RoundTrip.Conditional as Conditional
 use Rattle.molang.proofs.RoundTrip.Order.{folds, isForeign, each, ready, afterAll, laterPasses, called, ruled, in-order, Within}
 use Rattle.molang.proofs.RoundTrip.Order.{Uses, uses-first, uses-rest, within, skip, foreign, agree, everything, finished}
 use Rattle.molang.proofs.RoundTrip.Order.{bracketless, any-foreign, any-on, final, left-out, isLifted, lifts, applied, skipped}
-use Rattle.molang.proofs.RoundTrip.Order.{passed, all-passes, no-brackets, uncalled-first}
+use Rattle.molang.proofs.RoundTrip.Order.{passed, all-passes, sectioned, uncalled-first}
 
 -- What a statement holds, and its semicolon.
 pub record Statement : Type 0 where
@@ -373,29 +376,17 @@ unary-each (more s {f} {g} {rest} {rest'} full _ e later) p =
     kept : (f : Forest) → Filled f → unaryNode p (turned false s) f g rest' ≡ done false (node s g rest')
     kept f full = ap (λ (f : Forest). unaryNode p (turned false s) f g rest') (full .starts) ∙ (unfold unaryNode turned in refl)
 
-call-gathers : (kind : CallKind) → Gathers (callLevel kind) gathered
-unfolding walk callLevel callStep callResume callFinish inOrder turnedOnto
-call-gathers kind = record { enters = λ d k c cs r. refl; resumes = λ d k kids. refl; begins = refl }
-
-binary-gathers : (ops : List ℕ) → Gathers (binaryLevel ops) gathered
-unfolding walk binaryLevel binaryStep binaryResume binaryFinish inOrder turnedOnto
-binary-gathers ops = record { enters = λ d k c cs r. refl; resumes = λ d k kids. refl; begins = refl }
-
 return-gathers : Gathers returnLevel gathered
 unfolding walk returnLevel returnStep returnResume returnFinish inOrder turnedOnto
 return-gathers = record { enters = λ d k c cs r. refl; resumes = λ d k kids. refl; begins = refl }
 
-conditional-gathers : Gathers conditionalLevel (λ d. d)
-unfolding walk conditionalLevel conditionalStep conditionalFinish foldedFrom undangled dangling
-conditional-gathers = record { enters = λ d k c cs r. refl; resumes = λ d k kids. refl; begins = refl }
-
 binary-each : (ops : List ℕ) {F H : Forest} → Each (λ f g. walk (binaryLevel ops) (gathered nil) f ≡ ok g) F H
     → walk (binaryLevel ops) (gathered nil) F ≡ ok H
-binary-each ops e = level-each (binaryLevel ops) gathered (binary-gathers ops) (λ d. unfold binaryLevel binaryFinish in refl) e
+binary-each ops e = level-each (binaryLevel ops) gathered (Binary.gathers ops) (Binary.ends ops) e
 
 call-each : (kind : CallKind) {F H : Forest} → Each (λ f g. walk (callLevel kind) (gathered nil) f ≡ ok g) F H
     → walk (callLevel kind) (gathered nil) F ≡ ok H
-call-each kind e = level-each (callLevel kind) gathered (call-gathers kind) (λ d. unfold callLevel callFinish in refl) e
+call-each kind e = level-each (callLevel kind) gathered (Calls.gathers kind) (Calls.ends kind) e
 
 -- ONE PASS over a list of such nodes.
 each-pass : (sourceLength : ℕ) (p : Pass) → isLifted p ≡ true → {F H : Forest} → Each (λ f g. apply sourceLength p f ≡ ok g) F H
@@ -411,7 +402,7 @@ each-pass len pointer l e = binary-each (Operator.pointer ∷ []) e
 each-pass len mathCalls l e = call-each math e
 each-pass len unaryMinusAndNot l e = unfold unaryPass in rw (unary-each e none, unaryPass) refl
 each-pass len addition l e = binary-each (Operator.add ∷ []) e
-each-pass len conditional l {F} {H} e = walk-each conditionalLevel (λ d. d) conditional-gathers e nil ∙ calm-finish H (each-calm e)
+each-pass len conditional l {F} {H} e = walk-each conditionalLevel Conditional.gatheredIn Conditional.gathers e nil ∙ calm-finish H (each-calm e)
 each-pass len returns l e = level-each returnLevel gathered return-gathers (λ d. unfold returnFinish in refl) e
 each-pass len (binary ops) l e = binary-each ops e
 
@@ -466,17 +457,6 @@ module _ (x : Statement) (xs : List Statement) where
   unfolding F
   stays p σ h = ap (λ (f : Forest). node root f nil) (trees-agree u σ (folds p) (left-out u unknown p h) all used)
 
-  sectioned : (sourceLength : ℕ) (ps : List Pass)
-      → grouped sourceLength u (sectioning ∷ ps) [] (leaves (scriptTokens all []))
-      ≡ grouped sourceLength u ps [] (flatScript nothingYet all nil)
-  unfolding apply
-  sectioned len ps =
-      either (runs u sectioning)
-      (λ h. passed u len sectioning ps _ (flatScript nothingYet all nil) h
-      (whole-reads (scriptTokens all) (flatScript nothingYet all) (reads-script all)))
-      (λ h. skipped u len sectioning ps _ h
-      ∙ ap (grouped len u ps []) (sym (unfold leaves in bracketless-script u (no-brackets u h) all used [])))
-
   called-first : (sourceLength : ℕ) (ps : List Pass)
       → grouped sourceLength u (callPass ∷ ps) [] (flatScript nothingYet all nil) ≡ grouped sourceLength u ps [] (flatScript called all nil)
   unfolding apply through Levels.nothing callLevel folds
@@ -500,7 +480,8 @@ module _ (x : Statement) (xs : List Statement) where
       (script-ends len x xs)
       ∙ skipped u len memberAccessors (sectioning ∷ callPass ∷ statements ∷ ps) ts
       (any-foreign u unknown (Operator.memberAccessor ∷ []) (unfold each isForeign computed role in refl))
-      ∙ sectioned len (callPass ∷ statements ∷ ps)
+      ∙ sectioned u (scriptTokens all) (flatScript nothingYet all) (reads-script all)
+      (λ h. unfold leaves in bracketless-script u h all used []) len (callPass ∷ statements ∷ ps)
       ∙ called-first len (statements ∷ ps)
       ∙ passed u len statements ps (flatScript called all nil) (F called)
       (any-on u (Operator.semicolon ∷ []) Operator.semicolon semicolons (unfold isOneOf any in refl)) (statement-pass x xs)

@@ -97,9 +97,7 @@ reads (between k q e j l m x y) i s r =
     (read-both (λ r. k ∷ r) (tokens y) (node k nil) (form nothingYet y) (λ r d. refl)
     (read-token k (among joiningRoles (isAmong textRoles) refl (role (k .op)) (ap (isAmong joiningRoles) e ∙ j))) (reads y)) i s r
 
+-- THE PASS over a whole list.
 pub whole-reads : (F : List Token → List Token) (G : Forest → Forest) → Reads F G → sections 0 (outside nil) (leaves (F [])) ≡ ok (G nil)
 unfolding leaves over sections closed
 whole-reads F G f = f 0 (outside nil) [] .1 ∙ ap ok (inOrder-turned (G nil))
-
-pub section-pass : {s : Sort} (e : Exp s) → sections 0 (outside nil) (leaves (tokens e [])) ≡ ok (form nothingYet e nil)
-section-pass e = whole-reads (tokens e) (form nothingYet e) (reads e)
