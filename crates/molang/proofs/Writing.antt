@@ -81,7 +81,8 @@ written-before k (node x xs (node y ys nil)) r =
     let right = operandTokens (standsRight k y ys) y ys (written y ys) in
     let left = operandTokens (standsLeft k x xs) x xs (written x xs) in
     let hr : right r ≡ right [] ++ r = operand-before (standsRight k y ys) y ys (written y ys) r (written-before y ys) in
-    let hl : (s : List Token) → left s ≡ left [] ++ s = λ s. operand-before (standsLeft k x xs) x xs (written x xs) s (written-before x xs) in
+    let hl : (s : List Token) → left s ≡ left [] ++ s =
+    λ s. operand-before (standsLeft k x xs) x xs (written x xs) s (written-before x xs) in
     written-two k x xs y ys r
     ∙ (ap (λ (l : List Token). left (k ∷ l)) hr
     ∙ (hl (k ∷ (right [] ++ r))
@@ -117,8 +118,8 @@ ownTokens k (node x xs nil) r = k ∷ ownTokens x xs r
 ownTokens k (node x xs (node y ys nil)) r = ownTokens x xs (k ∷ ownTokens y ys r)
 ownTokens k (node x xs (node y ys (node z zs more))) r = k ∷ r
 
--- The second list is the first, token by token, with brackets added: openers and closers over some tree's extent with payload 0. A section's
--- opener closes at its own end in the list; where the section closes, its closer stands.
+-- The second list is the first, token by token, with brackets added: openers and closers over some tree's extent with payload 0. A
+-- section's opener closes at its own end in the list; where the section closes, its closer stands.
 pub data Adds : List Token → List Token → Type 0 where
   nothing : Adds [] []
   own : (k : Token) {ks ls : List Token} → Adds ks ls → Adds (k ∷ ks) (k ∷ ls)

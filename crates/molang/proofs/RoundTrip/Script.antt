@@ -402,7 +402,8 @@ each-pass len pointer l e = binary-each (Operator.pointer ∷ []) e
 each-pass len mathCalls l e = call-each math e
 each-pass len unaryMinusAndNot l e = unfold unaryPass in rw (unary-each e none, unaryPass) refl
 each-pass len addition l e = binary-each (Operator.add ∷ []) e
-each-pass len conditional l {F} {H} e = walk-each conditionalLevel Conditional.gatheredIn Conditional.gathers e nil ∙ calm-finish H (each-calm e)
+each-pass len conditional l {F} {H} e =
+    walk-each conditionalLevel Conditional.gatheredIn Conditional.gathers e nil ∙ calm-finish H (each-calm e)
 each-pass len returns l e = level-each returnLevel gathered return-gathers (λ d. unfold returnFinish in refl) e
 each-pass len (binary ops) l e = binary-each ops e
 

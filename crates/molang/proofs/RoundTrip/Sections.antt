@@ -54,14 +54,16 @@ pub read-token : (k : Token) → isAmong textRoles (role (k .op)) ≡ true → R
 unfolding leaves sections Definition.bracket
 read-token k h i s r =
     let t = role-text (k .op) h in
-    (position i s, rw (t .0, Definition.bracket, sections) (rw (t .1) (ap (λ (t : Open). sections (position i s) t (leaves r)) (over-node k nil s))))
+    let placed = ap (λ (t : Open). sections (position i s) t (leaves r)) (over-node k nil s) in
+    (position i s, rw (t .0, Definition.bracket, sections) (rw (t .1) placed))
 
 opens : (k : Token) → k .op ≡ Operator.leftParenthesis → (i : ℕ) (s : Open) (r : Forest)
     → sections i s (node k nil r) ≡ sections (position i s) (section k (position i s + 1) nil s) r
 unfolding sections Definition.bracket closingOf
 opens k h i s r = rw (ap closingOf h, Definition.bracket, sections) refl
 
-shuts : (o c : Token) → o .op ≡ Operator.leftParenthesis → c .op ≡ Operator.rightParenthesis → (d : Forest) (i j : ℕ) (s : Open) (r : Forest)
+shuts : (o c : Token) → o .op ≡ Operator.leftParenthesis → c .op ≡ Operator.rightParenthesis → (d : Forest) (i j : ℕ) (s : Open)
+    (r : Forest)
     → sections i (section o j d s) (node c nil r) ≡ sections (i + 1) (over (node (closedBy c o) (inOrder d) nil) s) r
 unfolding sections Definition.bracket closingOf isCloser isOneOf any closing closer position
 shuts o c h g d i j s r =
