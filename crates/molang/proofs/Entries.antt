@@ -10,7 +10,7 @@ use lib.ListN.{length, take}
 use Rattle.molang.specs.Operator
 use Rattle.molang.specs.Forest.{Token, Forest, nil, node, size}
 use Rattle.molang.specs.Read.{read, uses}
-use Rattle.molang.specs.Words.{tokensOf, listWords, treeWords}
+use Rattle.molang.specs.Words.{listWords, treeWords}
 use Rattle.molang.specs.Parse.{Call, inHalves, reading, aTree, answered, treeAfter}
 use Rattle.molang.specs.Write.{writtenTree, takenAway, comparable}
 use Rattle.molang.specs.WriteEntry.{WriteCall, writeRefusal, tokens, writeAnswered, listAfter}
@@ -88,7 +88,10 @@ three-calls first write second k cs t =
     in
     let again = round-trip k cs (wrote .plain) (second .version) (second .sourceLength) in
     let parsed : Parsed second (again .root) (again .children) =
-    record { accepted = call-acceptable second ks acceptable; reads = reads-list second ks listGot legal (tree-written-ends p (wrote .plain)) (t .usedExactly) ∙ again .reads }
+    record {
+      accepted = call-acceptable second ks acceptable;
+      reads = reads-list second ks listGot legal (tree-written-ends p (wrote .plain)) (t .usedExactly) ∙ again .reads;
+    }
     in
     record {
       treeGot = treeGot;

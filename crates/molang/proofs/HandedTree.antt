@@ -74,6 +74,11 @@ module _ {c : Call} {k : Token} {cs : Forest} (p : Parsed c k cs) where
   unfolding bracketless
   front-bracketless = rw (tree-front, tree-back) refl
 
+  -- All that is left of it, also in a script.
+  pub front-left : treeWords (takenAway false (treesOf (take (7 * size (node k cs nil)) (treeAfter c))) nil) ≡ treeWords
+      (takenAway false (node k cs nil) nil)
+  front-left = rw (tree-front, tree-back) refl
+
   -- The tree's writing is legal.
   pub tree-written-legal : LegalTokens (writtenTree k cs)
   unfolding reading

@@ -109,7 +109,8 @@ spanning-legal o start end h s e =
 opener-legal : (k : Token) (cs : Forest) → Legal k → LegalTrees cs → Legal (openerFor k cs)
 unfolding openerFor
 opener-legal k cs h below =
-    spanning-legal Operator.leftParenthesis _ _ (omega arith) (lowest-legal below (k .start) (h .start)) (highest-legal below (k .end) (h .end))
+    spanning-legal Operator.leftParenthesis _ _ (omega arith) (lowest-legal below (k .start) (h .start))
+    (highest-legal below (k .end) (h .end))
 
 closer-legal : (k : Token) (cs : Forest) → Legal k → LegalTrees cs → Legal (closerFor k cs)
 unfolding closerFor

@@ -1,11 +1,11 @@
 -- What `unplain` says of a list of trees that has no node that is not plain, tree by tree: a plain tree is an expression, or a script each
 -- of whose statements holds one; and the seats that its nodes have.
 use Prim.Native.Nat.{ℕ, suc, _+_}
-use mathlib.Core.Path.{_≡_, refl, ap, sym, _∙_}
-use mathlib.Core.Bool.{Bool, true, false, _&&_, not, true≢false, false≢true}
+use mathlib.Core.Path.{_≡_, refl, sym, _∙_}
+use mathlib.Core.Bool.{true, false, _&&_, true≢false, false≢true}
 use mathlib.Core.Option.{Option, none, some}
 use lib.Dec.{eqb}
-use borrow.Author.Tests.{eqb-true, eq-eqb, not-true}
+use borrow.Author.Tests.{eqb-true, not-true}
 use Rattle.molang.specs.Operator
 use Rattle.molang.specs.Operator.{isMathCall}
 use Rattle.molang.specs.Forest.{Token, Forest, nil, node, size}

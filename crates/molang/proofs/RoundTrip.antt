@@ -17,9 +17,9 @@ use Rattle.molang.specs.Read.{tree, rooted, read, uses}
 use Rattle.molang.specs.Words.{treeWords}
 use Rattle.molang.specs.Free.{isNil}
 use Rattle.molang.specs.Plain.{unplainAt}
-use Rattle.molang.specs.Write.{spanning, written, writtenStatements, writtenTree, takenAway, comparableToken, comparableTrees, comparable}
+use Rattle.molang.specs.Write.{spanning, writtenStatements, writtenTree, takenAway, comparableToken, comparableTrees, comparable}
 use Rattle.molang.proofs.Computed.{computed}
-use Rattle.molang.proofs.PlainTrees.{PlainStatements, PlainTree, expression, script, plain-tree}
+use Rattle.molang.proofs.PlainTrees.{PlainTree, expression, script, plain-tree}
 use Rattle.molang.proofs.TakingAway.{taken-kept}
 use Rattle.molang.proofs.Writing.{writtenTree-expression, writtenTree-script}
 use borrow.Author.Tests.{eqb-true}
@@ -41,8 +41,8 @@ pub mod Script
 pub mod Spelling
 pub mod Examples
 
--- Reading the writing of the tree k over cs with exactly its operators gives a tree, which is the same once brackets are taken away: what is
--- compared of it, and where the root is no semicolon all of it.
+-- Reading the writing of the tree k over cs with exactly its operators gives a tree, which is the same once brackets are taken away: what
+-- is compared of it, and where the root is no semicolon all of it.
 pub record ReadsBack (k : Token) (cs : Forest) (version : ℤ) (sourceLength : ℕ) : Type 0 where
   pub root : Token
   pub children : Forest
@@ -69,7 +69,8 @@ expression-back k cs other found version len =
 
 -- What is compared of a script are its statements.
 script-compared : (k : Token) (cs : Forest) → k .op ≡ Operator.semicolon
-    → comparable (takenAway false (node k cs nil) nil) ≡ node (spanning Operator.semicolon 0 0) (comparableTrees (takenAway false cs nil)) nil
+    → comparable (takenAway false (node k cs nil) nil)
+    ≡ node (spanning Operator.semicolon 0 0) (comparableTrees (takenAway false cs nil)) nil
 unfolding comparable comparableTrees comparableToken computed
 script-compared k cs e = ap comparable (taken-kept false k cs nil (ap isBracket e)) ∙ rw e refl
 
@@ -79,7 +80,8 @@ script-back : (k x : Token) (xs rest : Forest) → eqb (k .op) Operator.semicolo
 unfolding read rooted
 script-back k x xs rest h found version len = back (found .statements) (found .full) (found .spells []) (found .strips)
   where
-    back : (ys : List Statement) → (isNil (node x xs rest) ≡ false → isEmpty ys ≡ false) → scriptTokens ys [] ≡ writtenStatements (node x xs rest) []
+    back : (ys : List Statement) → (isNil (node x xs rest) ≡ false → isEmpty ys ≡ false)
+        → scriptTokens ys [] ≡ writtenStatements (node x xs rest) []
         → comparableTrees (takenAway false (statementTrees everything ys) nil) ≡ comparableTrees (takenAway false (node x xs rest) nil)
         → ReadsBack k (node x xs rest) version len
     back [] full spells strips = absurd (true≢false (unfold isEmpty isNil in full refl))

@@ -11,7 +11,7 @@ use lib.ListN.{length, length-append}
 use Rattle.molang.specs.Operator
 use Rattle.molang.specs.Operator.{isBracket}
 use Rattle.molang.specs.Forest.{Token, Forest, nil, node, size, bare, unclosed}
-use Rattle.molang.specs.Plain.{Seat, seatUnder, expressionForm, unplainAt}
+use Rattle.molang.specs.Plain.{Seat, atRoot, underSemicolon, seatUnder, expressionForm, unplainAt}
 use Rattle.molang.specs.Write.{openerFor, closerFor, closerOf, standsAlone, standsLeft, standsRight, operandTokens, written}
 use Rattle.molang.specs.Write.{writtenStatements, writtenTree}
 use Rattle.molang.proofs.PlainTrees.{PlainExpression, PlainStatements, ended, statement, PlainTree, expression, script, inner}
@@ -81,7 +81,8 @@ written-before k (node x xs (node y ys nil)) r =
     let right = operandTokens (standsRight k y ys) y ys (written y ys) in
     let left = operandTokens (standsLeft k x xs) x xs (written x xs) in
     let hr : right r ≡ right [] ++ r = operand-before (standsRight k y ys) y ys (written y ys) r (written-before y ys) in
-    let hl : (s : List Token) → left s ≡ left [] ++ s = λ s. operand-before (standsLeft k x xs) x xs (written x xs) s (written-before x xs) in
+    let hl : (s : List Token) → left s ≡ left [] ++ s =
+    λ s. operand-before (standsLeft k x xs) x xs (written x xs) s (written-before x xs) in
     written-two k x xs y ys r
     ∙ (ap (λ (l : List Token). left (k ∷ l)) hr
     ∙ (hl (k ∷ (right [] ++ r))
@@ -117,9 +118,8 @@ ownTokens k (node x xs nil) r = k ∷ ownTokens x xs r
 ownTokens k (node x xs (node y ys nil)) r = ownTokens x xs (k ∷ ownTokens y ys r)
 ownTokens k (node x xs (node y ys (node z zs more))) r = k ∷ r
 
--- The second list is the first, token by token, with brackets added: openers and closers over some tree's extent with payload 0; and with
--- semicolons, which have the span of some token and payload 0. A section's opener closes at its own end in the list; where the section
--- closes, its closer stands.
+-- The second list is the first, token by token, with brackets added: openers and closers over some tree's extent with payload 0. A
+-- section's opener closes at its own end in the list; where the section closes, its closer stands.
 pub data Adds : List Token → List Token → Type 0 where
   nothing : Adds [] []
   own : (k : Token) {ks ls : List Token} → Adds ks ls → Adds (k ∷ ks) (k ∷ ls)
@@ -127,7 +127,6 @@ pub data Adds : List Token → List Token → Type 0 where
   sectionEnd : (k : Token) {ks ls : List Token} → Adds ks ls → Adds ks (closerOf k ∷ ls)
   opener : (k : Token) (cs : Forest) {ks ls : List Token} → Adds ks ls → Adds ks (openerFor k cs ∷ ls)
   closer : (k : Token) (cs : Forest) {ks ls : List Token} → Adds ks ls → Adds ks (closerFor k cs ∷ ls)
-  statementEnd : (x : Token) {ks ls : List Token} → Adds ks ls → Adds ks (bare Operator.semicolon x ∷ ls)
 
 adds-operand : (b : Bool) (k : Token) (cs : Forest) (F G : List Token → List Token) → ((r r' : List Token) → Adds r r' → Adds (F r) (G r'))
     → (r r' : List Token) → Adds r r' → Adds (F r) (operandTokens b k cs G r')
@@ -185,68 +184,58 @@ own-once test p n k (node x xs (node y ys nil)) e r =
     let j = own-once test (seatUnder k 1) (suc (suc n + size xs)) y ys (b .0) r in omega arith
 own-once test p n k (node x xs (node y ys (node z zs more))) e r = absurd (false≢true (unfold expressionForm in e .form))
 
--- The tokens of what the statements hold, and how many nodes of it pass a test: the semicolons of the tree are not among them.
-unfoldable pub ownStatements : Forest → List Token → List Token
-ownStatements nil r = r
-ownStatements (node s nil rest) r = ownStatements rest r
-ownStatements (node s (node x xs more) rest) r = ownTokens x xs (ownStatements rest r)
-
-unfoldable pub inStatements : (Token → Bool) → Forest → ℕ
-inStatements test nil = 0
-inStatements test (node s cs rest) = inTrees test cs + inStatements test rest
-
-statements-once : (test : Token → Bool) (cs : Forest) → PlainStatements cs → inList test (ownStatements cs []) ≡ inStatements test cs
-unfolding ownStatements inStatements inList inTrees
-statements-once test nil ended = refl
-statements-once test (node s (node x xs nil) rest) (statement _ n _ h e later) =
-    let i = own-once test _ n x xs e (ownStatements rest []) in let j = statements-once test rest later in omega arith
-
-adds-statements : (cs : Forest) → Adds (ownStatements cs []) (writtenStatements cs [])
-unfolding ownStatements writtenStatements
-adds-statements nil = nothing
-adds-statements (node s nil rest) = adds-statements rest
-adds-statements (node s (node x xs more) rest) = adds x xs _ _ (statementEnd x (adds-statements rest))
-
--- NO TOKEN IS LOST OR INVENTED: the writing of a plain expression is its own tokens in order with added brackets between them, and its own
--- tokens are those of its nodes, each as often as it stands in the tree (any test is passed by as many of the one as of the other).
+-- NO TOKEN IS LOST OR INVENTED: the writing of a plain expression, or of what a statement holds, is its own tokens in order with added
+-- brackets between them, and its own tokens are those of its nodes, each as often as it stands in the tree (any test is passed by as many
+-- of the one as of the other).
 pub record PutInOnce (k : Token) (cs : Forest) : Type 0 where
-  pub bracketsAdded : Adds (ownTokens k cs []) (writtenTree k cs)
+  pub bracketsAdded : Adds (ownTokens k cs []) (written k cs [])
   pub eachOnce : (test : Token → Bool) → inList test (ownTokens k cs []) ≡ inTrees test (node k cs nil)
 
--- The writing of a script is the own tokens of what its statements hold, in order, with added brackets and semicolons between them.
-pub record StatementsOnce (k : Token) (cs : Forest) : Type 0 where
-  pub semicolonsAdded : Adds (ownStatements cs []) (writtenTree k cs)
-  pub eachOnce : (test : Token → Bool) → inList test (ownStatements cs []) ≡ inStatements test cs
+expression-once : (p : Seat) (n : ℕ) (k : Token) (cs : Forest) → PlainExpression p n k cs → PutInOnce k cs
+unfolding inList inTrees
+expression-once p n k cs e = record {
+  bracketsAdded = adds k cs [] [] nothing;
+  eachOnce = λ test. let i = own-once test p n k cs e [] in omega arith;
+}
 
+-- The list is what is written of each statement, one after another: of what it holds, and then a semicolon with the span of that child and
+-- payload 0. The semicolons of the tree are not written.
+pub data StatementsOnce : Forest → List Token → Type 0 where
+  noStatement : StatementsOnce nil []
+  statementOnce : (s x : Token) {xs rest : Forest} {ls : List Token} → PutInOnce x xs → StatementsOnce rest ls
+      → StatementsOnce (node s (node x xs nil) rest) (written x xs [] ++ (bare Operator.semicolon x ∷ ls))
+
+statements-once : (cs : Forest) → PlainStatements cs → StatementsOnce cs (writtenStatements cs [])
+unfolding writtenStatements
+statements-once nil ended = noStatement
+statements-once (node s (node x xs nil) rest) (statement _ n _ h e later) =
+    rw (written-before x xs (bare Operator.semicolon x ∷ writtenStatements rest []))
+    (statementOnce s x (expression-once underSemicolon n x xs e) (statements-once rest later))
+
+-- The writing of a plain tree: of an expression it is put in once, of a script each statement is.
 pub put-in-once : (k : Token) (cs : Forest) → unplainAt k cs ≡ none → eqb (k .op) Operator.semicolon ≡ false → PutInOnce k cs
 put-in-once k cs plain other = split cs (plain-tree k cs plain)
   where
     split : (cs : Forest) → PlainTree k cs → PutInOnce k cs
-    split cs (expression e) = record {
-      bracketsAdded = rw (writtenTree-expression k cs other) (adds k cs [] [] nothing);
-      eachOnce = λ test. unfold inList inTrees in (let i = own-once test _ 1 k cs e [] in omega arith);
-    }
+    split cs (expression e) = expression-once atRoot 1 k cs e
     split cs (script h s) = absurd (true≢false (sym h ∙ other))
 
-pub statements-put-in-once : (k : Token) (cs : Forest) → unplainAt k cs ≡ none → eqb (k .op) Operator.semicolon ≡ true → StatementsOnce k cs
+pub statements-put-in-once : (k : Token) (cs : Forest) → unplainAt k cs ≡ none → eqb (k .op) Operator.semicolon ≡ true
+    → StatementsOnce cs (writtenTree k cs)
 statements-put-in-once k cs plain semicolon = split cs (plain-tree k cs plain)
   where
-    split : (cs : Forest) → PlainTree k cs → StatementsOnce k cs
+    split : (cs : Forest) → PlainTree k cs → StatementsOnce cs (writtenTree k cs)
     split cs (expression e) = absurd (true≢false (sym semicolon ∙ e .other))
-    split cs (script h s) = record {
-      semicolonsAdded = rw (writtenTree-script k cs semicolon) (adds-statements cs);
-      eachOnce = λ test. statements-once test cs s;
-    }
+    split cs (script h s) = rw (writtenTree-script k cs semicolon) (statements-once cs s)
 
--- A test that passes none of these brackets and semicolons and does not look at where a token closes, which the list does not say.
+-- A test that passes none of these brackets and does not look at where a token closes, which the list does not say.
 pub record Unbracketing (test : Token → Bool) : Type 0 where
   pub opener : (k : Token) (cs : Forest) → test (openerFor k cs) ≡ false
   pub closer : (k : Token) (cs : Forest) → test (closerFor k cs) ≡ false
   pub sectionEnd : (k : Token) → test (closerOf k) ≡ false
-  pub statementEnd : (x : Token) → test (bare Operator.semicolon x) ≡ false
   pub unclosing : (k : Token) → test (unclosed k) ≡ test k
 
--- So a token that is no such bracket or semicolon stands in the writing as often as in the tree.
+-- So a token that is no such bracket stands in the writing as often as in the tree.
 others-once : (test : Token → Bool) → Unbracketing test → {ks ls : List Token} → Adds ks ls → inList test ls ≡ inList test ks
 unfolding inList one
 others-once test t nothing = refl
@@ -255,15 +244,10 @@ others-once test t (section k a) = let i = others-once test t a in rw (t .unclos
 others-once test t (sectionEnd k a) = let i = others-once test t a in rw (t .sectionEnd k) (omega arith)
 others-once test t (opener k cs a) = let i = others-once test t a in rw (t .opener k cs) (omega arith)
 others-once test t (closer k cs a) = let i = others-once test t a in rw (t .closer k cs) (omega arith)
-others-once test t (statementEnd x a) = let i = others-once test t a in rw (t .statementEnd x) (omega arith)
 
 pub written-once : (k : Token) (cs : Forest) → unplainAt k cs ≡ none → eqb (k .op) Operator.semicolon ≡ false → (test : Token → Bool)
     → Unbracketing test
     → inList test (writtenTree k cs) ≡ inTrees test (node k cs nil)
 written-once k cs plain other test t =
-    let p = put-in-once k cs plain other in others-once test t (p .bracketsAdded) ∙ p .eachOnce test
-
-pub statements-written-once : (k : Token) (cs : Forest) → unplainAt k cs ≡ none → eqb (k .op) Operator.semicolon ≡ true
-    → (test : Token → Bool) → Unbracketing test → inList test (writtenTree k cs) ≡ inStatements test cs
-statements-written-once k cs plain semicolon test t =
-    let p = statements-put-in-once k cs plain semicolon in others-once test t (p .semicolonsAdded) ∙ p .eachOnce test
+    let p = put-in-once k cs plain other in
+    ap (inList test) (writtenTree-expression k cs other) ∙ (others-once test t (p .bracketsAdded) ∙ p .eachOnce test)

@@ -68,11 +68,11 @@ module _ (kind : CallKind) where
   abbrev pub Carried : (Forest → Forest) → (Forest → Forest) → Type 0
   Carried = Carries level gathered noBracket
 
-  gathers : Gathers level gathered
+  pub gathers : Gathers level gathered
   unfolding walk callLevel callStep callResume callFinish inOrder turnedOnto
   gathers = record { enters = λ d k c cs r. refl; resumes = λ d k kids. refl; begins = refl }
 
-  ends : (d : Forest) → level .finish (gathered d) ≡ ok (inOrder d)
+  pub ends : (d : Forest) → level .finish (gathered d) ≡ ok (inOrder d)
   unfolding callLevel callFinish
   ends d = refl
 

@@ -19,9 +19,10 @@ use Rattle.molang.proofs.Forests.{Turns, inOrder-turned}
 use Rattle.molang.proofs.RoundTrip.Role.{Role, aBracket, aComma, aQuestion, aColon, is, is-same, isAmong, among, role}
 use Rattle.molang.proofs.RoundTrip.Role.{role-conditional, role-question, role-colon, op-of-question, op-of-colon}
 use Rattle.molang.proofs.RoundTrip.Expression.{Sort, nothing, atom, prefixed, bracketed, joinedBy, Pair, Exp, empty, leaf, bracket}
-use Rattle.molang.proofs.RoundTrip.Expression.{before, between, isOperand, isJoinedBy, isWhole, isHeaded, statementRoles, isHeld, leafRoles}
-use Rattle.molang.proofs.RoundTrip.Expression.{prefixRoles, isLeaf, isPrefix, isJoining, takes, joinsLeft, joinsRight, excepted, operand-only, ahead, amid, form}
-use Rattle.molang.proofs.RoundTrip.Expression.{also, turned-form, Solid, operand-solid, takes-operand}
+use Rattle.molang.proofs.RoundTrip.Expression.{before, between, isOperand, isJoinedBy, isWhole, isHeaded, statementRoles, isHeld}
+use Rattle.molang.proofs.RoundTrip.Expression.{leafRoles, prefixRoles, isLeaf, isPrefix, isJoining, takes, joinsLeft, joinsRight}
+use Rattle.molang.proofs.RoundTrip.Expression.{excepted, operand-only, ahead, amid, form, also, turned-form, Solid, operand-solid}
+use Rattle.molang.proofs.RoundTrip.Expression.{takes-operand}
 use Rattle.molang.proofs.RoundTrip.Walk.{Gathers, Carries, Passes, carry-both, carry-node, carry-token}
 
 abbrev pub conditionals : ℕ → Bool
@@ -169,12 +170,16 @@ left-calm r (bracketed s) h = refl
 left-calm r (joinedBy q) h =
     ap (λ (q : Role). isCalm (joinedBy q)) (sym (is-same aComma q (and-eq-true-iff (is aComma q) (is aComma r) .0 h .0)))
 
+abbrev pub gatheredIn : Forest → Forest
+gatheredIn d = d
+
+pub gathers : Gathers conditionalLevel gatheredIn
+unfolding walk conditionalLevel conditionalStep conditionalFinish foldedFrom undangled dangling
+gathers = record { enters = λ d k c cs r. refl; resumes = λ d k kids. refl; begins = refl }
+
 module _ (σ : ℕ → Bool) (w : Unpaired σ) where
   abbrev σ' : ℕ → Bool
   σ' = also σ conditionals
-
-  abbrev gatheredIn : Forest → Forest
-  gatheredIn d = d
 
   abbrev anything : Forest → Bool
   anything r = true
@@ -189,10 +194,6 @@ module _ (σ : ℕ → Bool) (w : Unpaired σ) where
   mid (bracket k _ _ x) r = node k (form σ' x nil) r
   mid (before k _ _ _ _ x) r = ahead (σ (k .op)) k (mid x) r
   mid (between k _ _ _ _ _ x y) r = amid (σ (k .op)) k (mid x) (mid y) r
-
-  gathers : Gathers conditionalLevel gatheredIn
-  unfolding walk conditionalLevel conditionalStep conditionalFinish foldedFrom undangled dangling
-  gathers = record { enters = λ d k c cs r. refl; resumes = λ d k kids. refl; begins = refl }
 
   passes : (k : Token) → Passes conditionalLevel gatheredIn anything k
   unfolding conditionalLevel conditionalStep

@@ -4,18 +4,17 @@ use Prim.Native.Nat.{ℕ}
 use mathlib.Core.Path.{_≡_, refl, ap, sym, _∙_, fun-ext}
 use mathlib.Core.Bool.{Bool, true, false, _||_, _&&_, not, true≢false, false≢true, and-eq-true-iff, or-false}
 use mathlib.Core.List.{List, [], _∷_}
-use lib.Dec.{eqb}
 use borrow.Author.Tests.{not-true, eq-eqb, ne-eqb}
 use Rattle.molang.specs.Operator
 use Rattle.molang.specs.Forest.{Token, Forest, nil, node}
 use Rattle.molang.specs.Read.{uses}
 use Rattle.molang.specs.Free.{free}
-use Rattle.molang.proofs.Booleans.{never, or-neither, or-first}
-use Rattle.molang.proofs.Computed.{computed}
-use Rattle.molang.proofs.RoundTrip.Role.{Role, aBracket, aCloser, aComma, aColon, aSemicolon, is, is-same, isAmong, allOf, among, role, closer-role}
+use Rattle.molang.proofs.Booleans.{never, or-neither}
+use Rattle.molang.proofs.RoundTrip.Role.{Role, aBracket, aCloser, aComma, aColon, aSemicolon, is, is-same, isAmong, allOf, among}
+use Rattle.molang.proofs.RoundTrip.Role.{role, closer-role}
 use Rattle.molang.proofs.RoundTrip.Expression.{Sort, nothing, atom, prefixed, bracketed, joinedBy, Exp, empty, leaf, bracket, before}
 use Rattle.molang.proofs.RoundTrip.Expression.{between, isOperand, isHeaded, statementRoles, isWhole, isHeld, leafRoles, prefixRoles}
-use Rattle.molang.proofs.RoundTrip.Expression.{joiningRoles, takes, joinsLeft, joinsRight, tokens, ahead, amid, form, also, takes-operand}
+use Rattle.molang.proofs.RoundTrip.Expression.{joiningRoles, joinsLeft, joinsRight, tokens, ahead, amid, form, also, takes-operand}
 
 -- No token of the expression has the role q. (Brackets have their own.)
 abbrev pub Lacks : Role → {s : Sort} → Exp s → Type 0
@@ -29,7 +28,8 @@ abbrev pub heads : Role → Sort → Bool
 heads q s = isHeaded (q ∷ []) s
 
 -- A role of the one list is none of the other.
-pub apart : (ps rs : List Role) → allOf (λ a. allOf (λ r. not (is a r)) rs) ps ≡ true → (a r : Role) → isAmong ps a ≡ true → isAmong rs r ≡ true
+pub apart : (ps rs : List Role) → allOf (λ a. allOf (λ r. not (is a r)) rs) ps ≡ true → (a r : Role) → isAmong ps a ≡ true
+    → isAmong rs r ≡ true
     → is a r ≡ false
 apart ps rs h a r m n = not-true (is a r) (among rs (λ r. not (is a r)) (among ps (λ a. allOf (λ r. not (is a r)) rs) h a m) r n)
 

@@ -24,13 +24,13 @@ use Rattle.molang.specs.Order.{unaryMinusAndNot, addition, conditional, 
 use Rattle.molang.specs.Read.{rooted, grouped, uses}
 use Rattle.molang.proofs.Booleans.{either, never, or-first, or-second, or-neither, or-only-first}
 use Rattle.molang.proofs.Computed.{computed}
-use Rattle.molang.proofs.RoundTrip.Role.{Role, aQuery, aMathCall, aBracket, aCloser, aMinus, aNot, aLoop, another, aSemicolon, anAssignment}
-use Rattle.molang.proofs.RoundTrip.Role.{is, is-same, isUnwritten, isAmong, among, role, closer-role, role-above, none-below, role-bracket, role-query}
-use Rattle.molang.proofs.RoundTrip.Role.{role-math, role-prefix}
+use Rattle.molang.proofs.RoundTrip.Role.{Role, aQuery, aMathCall, aBracket, aCloser, aMinus, aNot, aLoop, another, aSemicolon}
+use Rattle.molang.proofs.RoundTrip.Role.{anAssignment, is, is-same, isUnwritten, isAmong, among, role, closer-role, role-above}
+use Rattle.molang.proofs.RoundTrip.Role.{none-below, role-bracket, role-query, role-math, role-prefix}
 use Rattle.molang.proofs.RoundTrip.Expression.{Sort, Exp, empty, leaf, bracket, before, between, isWhole, leafRoles, prefixRoles}
 use Rattle.molang.proofs.RoundTrip.Expression.{joiningRoles, isPrefix, isJoining, tokens, ahead, amid, form, also}
 use Rattle.molang.proofs.RoundTrip.Lacking.{heads, lacking, no-semicolon, lacks-uses}
-use Rattle.molang.proofs.RoundTrip.Sections.{nothingYet, section-pass}
+use Rattle.molang.proofs.RoundTrip.Sections.{nothingYet, Reads, reads, whole-reads}
 use Rattle.molang.proofs.RoundTrip.Calls.{Uncalled, call-pass}
 use Rattle.molang.proofs.RoundTrip.Unary.{prefixes, unary-pass}
 use Rattle.molang.proofs.RoundTrip.Binary.{Ready, binary-pass}
@@ -237,7 +237,8 @@ unfolding form tokens leaves ahead amid isBracket
 bracketless u h empty w r = refl
 bracketless u h (leaf k _ _ _) w r = refl
 bracketless u h (bracket k e _ x) w r =
-    absurd (true≢false (sym (w .0) ∙ ap u (eqb-true (k .op) Operator.leftParenthesis (role-bracket (k .op) ∙ ap (is aBracket) (e .brackets))) ∙ h))
+    let opens = eqb-true (k .op) Operator.leftParenthesis (role-bracket (k .op) ∙ ap (is aBracket) (e .brackets)) in
+    absurd (true≢false (sym (w .0) ∙ ap u opens ∙ h))
 bracketless u h (before k _ _ _ _ x) w r = ap (node k nil) (bracketless u h x (w .1) r)
 bracketless u h (between k _ _ _ _ _ x y) w r = ap (λ (f : Forest). form nothingYet x (node k nil f)) (bracketless u h y (w .2) r)
     ∙ bracketless u h x (w .1) (k ∷ tokens y r)
@@ -276,7 +277,8 @@ final c a p n r e h =
 -- The operators that the call pass asks for (`runs`).
 abbrev callStarts : List ℕ
 callStarts =
-    Operator.leftBrace ∷ Operator.leftBracket ∷ Operator.leftParenthesis ∷ Operator.queryFunction ∷ Operator.arrayVariable ∷ Operator.semicolon ∷ []
+    Operator.leftBrace ∷ Operator.leftBracket ∷ Operator.leftParenthesis ∷ Operator.queryFunction ∷ Operator.arrayVariable
+    ∷ Operator.semicolon ∷ []
 
 abbrev callers : List ℕ
 callers = Operator.queryFunction ∷ Operator.loop ∷ Operator.forEach ∷ []
@@ -342,13 +344,15 @@ module _ (u : ℕ → Bool) (unknown : (n : ℕ) → isUnwritten (role n) ≡ tr
   plays : (n : ℕ) → u n ≡ true → is another (role n) ≡ false
   plays n t =
       never (is another (role n))
-      (λ h. true≢false (sym t ∙ unknown n (or-second (is aLoop (role n)) (is another (role n) || false) (or-first (is another (role n)) false h))))
+      (λ h. true≢false (sym t
+      ∙ unknown n (or-second (is aLoop (role n)) (is another (role n) || false) (or-first (is another (role n)) false h))))
 
   no-query : runs u callPass ≡ false → (n : ℕ) → u n ≡ true → calls queryOrLoop n ≡ false
   unfolding computed role
   no-query h n t =
       let q = never (u Operator.queryFunction)
-      (λ q. true≢false (sym (rw (any-on u callStarts Operator.queryFunction q refl, any-on u callers Operator.queryFunction q refl) refl) ∙ h)) in
+      (λ q. true≢false (sym (rw (any-on u callStarts Operator.queryFunction q refl, any-on u callers Operator.queryFunction q refl) refl)
+      ∙ h)) in
       any-off u callers (rw (q, unknown Operator.loop refl, unknown Operator.forEach refl) refl) n t
 
   no-math : runs u mathCalls ≡ false → (n : ℕ) → u n ≡ true → calls math n ≡ false
@@ -450,13 +454,21 @@ module _ (u : ℕ → Bool) (F : (ℕ → Bool) → Forest)
       let parts = and-eq-true-iff (ready σ p) (allReady (also σ (folds p)) ps) .0 h in
       one-pass len p ps σ (parts .0) ∙ all-passes len ps (also σ (folds p)) (parts .1)
 
--- Where the section pass is left out, no bracket is used.
-pub no-brackets : (u : ℕ → Bool) → runs u sectioning ≡ false → u Operator.leftParenthesis ≡ false
-unfolding runs isOneOf any
-no-brackets u h =
-    never (u Operator.leftParenthesis)
-    (λ t. true≢false (sym (any-on u (Operator.leftBrace ∷ Operator.leftBracket ∷ Operator.leftParenthesis ∷ []) Operator.leftParenthesis t
-    refl) ∙ h))
+-- The section pass over tokens that it reads, or, where it is left out and no bracket is used, over leaves that are read already.
+pub sectioned : (u : ℕ → Bool) (F : List Token → List Token) (G : Forest → Forest) → Reads F G
+    → (u Operator.leftParenthesis ≡ false → G nil ≡ leaves (F []))
+    → (sourceLength : ℕ) (ps : List Pass)
+    → grouped sourceLength u (sectioning ∷ ps) [] (leaves (F [])) ≡ grouped sourceLength u ps [] (G nil)
+unfolding apply runs
+sectioned u F G f flat len ps =
+    either (runs u sectioning) (λ h. passed u len sectioning ps (leaves (F [])) (G nil) h (whole-reads F G f))
+    (λ h. skipped u len sectioning ps (leaves (F [])) h ∙ ap (grouped len u ps []) (sym (flat (unused h))))
+  where
+    unused : any u (Operator.leftBrace ∷ Operator.leftBracket ∷ Operator.leftParenthesis ∷ []) ≡ false → u Operator.leftParenthesis ≡ false
+    unused h =
+        never (u Operator.leftParenthesis)
+        (λ t. true≢false (sym (any-on u (Operator.leftBrace ∷ Operator.leftBracket ∷ Operator.leftParenthesis ∷ [])
+        Operator.leftParenthesis t (unfold isOneOf any in refl)) ∙ h))
 
 -- An expression that assigns nothing stands on its own.
 module _ {s : Sort} (e : Exp s) (w : isWhole s ≡ true) (assigns : heads anAssignment s ≡ false) where
@@ -479,16 +491,6 @@ module _ {s : Sort} (e : Exp s) (w : isWhole s ≡ true) (assigns : heads anAssi
   unfolding u uses computed role
   no-assignments = lacks-uses Operator.assignment anAssignment refl refl refl e (lacking anAssignment refl e assigns) []
 
-  sectioned : (sourceLength : ℕ) (ps : List Pass)
-      → grouped sourceLength u (sectioning ∷ ps) [] (leaves (tokens e [])) ≡ grouped sourceLength u ps []
-      (form nothingYet e nil)
-  unfolding apply
-  sectioned len ps =
-      either (runs u sectioning)
-      (λ h. passed u len sectioning ps (leaves (tokens e [])) (form nothingYet e nil) h (section-pass e))
-      (λ h. skipped u len sectioning ps (leaves (tokens e [])) h
-      ∙ ap (grouped len u ps []) (sym (unfold leaves in bracketless u (no-brackets u h) e used [])))
-
   pub reading : (r : Rules) (sourceLength : ℕ) → grouped sourceLength (uses (tokens e [])) (order r) []
       (leaves (tokens e [])) ≡ rooted sourceLength [] (form everything e nil)
   unfolding order laterPasses u runs any folds
@@ -503,7 +505,8 @@ module _ {s : Sort} (e : Exp s) (w : isWhole s ≡ true) (assigns : heads anAssi
       (rw (no-assignments, no-semicolons) refl)
       ∙ skipped u len memberAccessors (sectioning ∷ callPass ∷ statements ∷ ps) (leaves (tokens e []))
       (any-foreign u unknown (Operator.memberAccessor ∷ []) (unfold each isForeign computed role in refl))
-      ∙ sectioned len (callPass ∷ statements ∷ ps)
+      ∙ sectioned u (tokens e) (form nothingYet e) (reads e) (λ h. unfold leaves in bracketless u h e used []) len
+      (callPass ∷ statements ∷ ps)
       ∙ one-pass u F goes stays len callPass (statements ∷ ps) nothingYet calls-first
       ∙ skipped u len statements ps (form (also nothingYet (folds callPass)) e nil) (rw no-semicolons refl)
       ∙ all-passes u F goes stays len ps called (in-order (r .comparisonsFirst) (r .andFirst) (r .pairsRight))

@@ -1,8 +1,8 @@
 -- The return pass takes the list of what a statement holds to the list in which a `return` at its top holds its operand. Below it no
 -- `return` stands, so it does not matter that the pass takes the operand as it is.
 use Prim.Native.Nat.{ℕ}
-use mathlib.Core.Path.{_≡_, refl, ap, sym, _∙_, fun-ext}
-use mathlib.Core.Bool.{Bool, true, false, _||_, not, true≢false, false≢true, or-false}
+use mathlib.Core.Path.{_≡_, refl, ap, sym, _∙_}
+use mathlib.Core.Bool.{Bool, true, false, _||_, true≢false, false≢true, or-false}
 use mathlib.Core.List.{[], _∷_}
 use lib.Dec.{eqb}
 use borrow.Author.Tests.{eqb-true}
@@ -14,11 +14,11 @@ use Rattle.molang.specs.Level.{walk, through, gathered, waiting}
 use Rattle.molang.specs.Level as Levels
 use Rattle.molang.specs.Unary.{returnStep, returnFinish, returnLevel}
 use Rattle.molang.specs.Free.{isReturn, free}
-use Rattle.molang.proofs.Booleans.{either, or-neither}
+use Rattle.molang.proofs.Booleans.{either}
 use Rattle.molang.proofs.Return.{return-free}
-use Rattle.molang.proofs.RoundTrip.Role.{Role, aBracket, aReturn, is, is-same, isAmong, among, role, role-return}
-use Rattle.molang.proofs.RoundTrip.Expression.{Sort, Exp, empty, leaf, bracket, before, between, isHeaded, isOperand, joiningRoles}
-use Rattle.molang.proofs.RoundTrip.Expression.{isPrefix, isJoining, takes, ahead, amid, form, also, Solid, operand-solid, takes-operand}
+use Rattle.molang.proofs.RoundTrip.Role.{Role, aReturn, is, role, role-return}
+use Rattle.molang.proofs.RoundTrip.Expression.{Sort, Exp, empty, leaf, bracket, before, between, joiningRoles, isPrefix, takes}
+use Rattle.molang.proofs.RoundTrip.Expression.{ahead, form, also, Solid, operand-solid, takes-operand}
 use Rattle.molang.proofs.RoundTrip.Lacking.{Lacks, apart, operand-headless, lacking, lacks-free, lacks-same}
 use Rattle.molang.proofs.RoundTrip.Walk.{walk-on}
 

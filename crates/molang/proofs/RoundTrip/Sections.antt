@@ -54,14 +54,16 @@ pub read-token : (k : Token) → isAmong textRoles (role (k .op)) ≡ true → R
 unfolding leaves sections Definition.bracket
 read-token k h i s r =
     let t = role-text (k .op) h in
-    (position i s, rw (t .0, Definition.bracket, sections) (rw (t .1) (ap (λ (t : Open). sections (position i s) t (leaves r)) (over-node k nil s))))
+    let placed = ap (λ (t : Open). sections (position i s) t (leaves r)) (over-node k nil s) in
+    (position i s, rw (t .0, Definition.bracket, sections) (rw (t .1) placed))
 
 opens : (k : Token) → k .op ≡ Operator.leftParenthesis → (i : ℕ) (s : Open) (r : Forest)
     → sections i s (node k nil r) ≡ sections (position i s) (section k (position i s + 1) nil s) r
 unfolding sections Definition.bracket closingOf
 opens k h i s r = rw (ap closingOf h, Definition.bracket, sections) refl
 
-shuts : (o c : Token) → o .op ≡ Operator.leftParenthesis → c .op ≡ Operator.rightParenthesis → (d : Forest) (i j : ℕ) (s : Open) (r : Forest)
+shuts : (o c : Token) → o .op ≡ Operator.leftParenthesis → c .op ≡ Operator.rightParenthesis → (d : Forest) (i j : ℕ) (s : Open)
+    (r : Forest)
     → sections i (section o j d s) (node c nil r) ≡ sections (i + 1) (over (node (closedBy c o) (inOrder d) nil) s) r
 unfolding sections Definition.bracket closingOf isCloser isOneOf any closing closer position
 shuts o c h g d i j s r =
@@ -97,9 +99,7 @@ reads (between k q e j l m x y) i s r =
     (read-both (λ r. k ∷ r) (tokens y) (node k nil) (form nothingYet y) (λ r d. refl)
     (read-token k (among joiningRoles (isAmong textRoles) refl (role (k .op)) (ap (isAmong joiningRoles) e ∙ j))) (reads y)) i s r
 
+-- THE PASS over a whole list.
 pub whole-reads : (F : List Token → List Token) (G : Forest → Forest) → Reads F G → sections 0 (outside nil) (leaves (F [])) ≡ ok (G nil)
 unfolding leaves over sections closed
 whole-reads F G f = f 0 (outside nil) [] .1 ∙ ap ok (inOrder-turned (G nil))
-
-pub section-pass : {s : Sort} (e : Exp s) → sections 0 (outside nil) (leaves (tokens e [])) ≡ ok (form nothingYet e nil)
-section-pass e = whole-reads (tokens e) (form nothingYet e) (reads e)

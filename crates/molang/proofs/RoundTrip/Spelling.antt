@@ -20,13 +20,14 @@ use Rattle.molang.proofs.Computed.{computed}
 use Rattle.molang.proofs.PlainTrees.{seat-cases, other-seat, PlainExpression, inner, PlainStatements, ended, statement}
 use Rattle.molang.proofs.TakingAway.{taken-later, taken-kept, taken-call, taken-bracket}
 use Rattle.molang.proofs.Writing.{written-none, written-one}
-use Rattle.molang.proofs.RoundTrip.Role.{Role, aQuery, aMathCall, aBracket, aMinus, aNot, aBinary, aComma, aQuestion, aColon, anAssignment}
-use Rattle.molang.proofs.RoundTrip.Role.{aReturn, is, is-same, isAmong, allOf, among, role, role-bracket, role-comma, role-question, role-colon}
-use Rattle.molang.proofs.RoundTrip.Role.{role-assignment, role-return, role-math, role-call, role-leaf, role-binary, role-single, ruled-out}
+use Rattle.molang.proofs.RoundTrip.Role.{Role, aQuery, aMathCall, aBracket, aMinus, aNot, aBinary, aComma, aQuestion, aColon}
+use Rattle.molang.proofs.RoundTrip.Role.{anAssignment, aReturn, is, is-same, isAmong, allOf, among, role, role-bracket, role-comma}
+use Rattle.molang.proofs.RoundTrip.Role.{role-question, role-colon, role-assignment, role-return, role-math, role-call, role-leaf}
+use Rattle.molang.proofs.RoundTrip.Role.{role-binary, role-single, ruled-out}
 use Rattle.molang.proofs.RoundTrip.Expression.{Sort, nothing, atom, prefixed, bracketed, joinedBy, Pair, Exp, empty, leaf, bracket}
-use Rattle.molang.proofs.RoundTrip.Expression.{before, between, isOperand, isJoinedBy, isWhole, isHeaded, statementRoles, isHeld, isFilled}
-use Rattle.molang.proofs.RoundTrip.Expression.{isBracketed, isFilledBracket, leafRoles, prefixRoles, joiningRoles, isLeaf, isPrefix, isJoining, takes, joinsLeft}
-use Rattle.molang.proofs.RoundTrip.Expression.{joinsRight, tokens, ahead, amid, form, Solid}
+use Rattle.molang.proofs.RoundTrip.Expression.{before, between, isOperand, isJoinedBy, isWhole, isHeaded, statementRoles, isHeld}
+use Rattle.molang.proofs.RoundTrip.Expression.{isFilled, isBracketed, isFilledBracket, leafRoles, prefixRoles, joiningRoles, isLeaf}
+use Rattle.molang.proofs.RoundTrip.Expression.{isPrefix, isJoining, takes, joinsLeft, joinsRight, tokens, ahead, amid, form, Solid}
 use Rattle.molang.proofs.RoundTrip.Lacking.{apart, heads, headless}
 use Rattle.molang.proofs.RoundTrip.Order.{everything}
 use Rattle.molang.proofs.RoundTrip.Script.{Statement, isEmpty, scriptTokens, labelOf, label-op, statementTrees}
