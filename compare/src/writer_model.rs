@@ -1,5 +1,5 @@
 //! Plain, writing and taking away, from document 01's 'Writing a plain tree', lines 12 to 15 of its
-//! table and card 2. Nothing here follows the library: trees are an arena of nodes, each with its parent, and
+//! table, and cards 2 and 3. Nothing here follows the library: trees are an arena of nodes, each with its parent, and
 //! answer 12 asks of a prefix of the words whether any tree goes on from it.
 
 use oracle::words::{NODE_WORDS, TOKEN_WORDS, Token, TreeNode, decode_tree, kind, list_words, low};
@@ -123,8 +123,9 @@ impl Tree {
             };
             let own = self.tokens[node];
             let mut row = Vec::new();
-            if self.is_paired(node) {
-                row.push(Step::Put(bracket(4, own)));
+            let pair = self.is_paired(node).then(|| self.extent(node));
+            if let Some((start, end)) = pair {
+                row.push(Step::Put(bracket(4, start, end)));
             }
             match *self.children[node] {
                 [left, right] => {
@@ -136,26 +137,25 @@ impl Tree {
                 }
             }
             if self.is_bracket(node) {
-                row.push(Step::Put(self.closer(node)));
+                let close = self.closes[node];
+                row.push(Step::Put(bracket(5, close, close)));
             }
-            if self.is_paired(node) {
-                row.push(Step::Put(bracket(5, own)));
+            if let Some((_, end)) = pair {
+                row.push(Step::Put(bracket(5, end, end)));
             }
             steps.extend(row.into_iter().rev());
         }
         list
     }
 
-    /// The closer of a bracket of the tree: it starts and ends where the bracket closes.
-    fn closer(&self, node: usize) -> Token {
-        let close = self.closes[node];
-        Token {
-            op: 5,
-            variant: 0,
-            value: 0,
-            start: close,
-            end: close,
-        }
+    /// A node's extent: the lowest start and the highest end among its own span and those of all nodes below it. Where a
+    /// node closes does not count.
+    fn extent(&self, node: usize) -> (u32, u32) {
+        let own = self.tokens[node];
+        let below = self.children[node].iter().map(|&child| self.extent(child));
+        below.fold((own.start, own.end), |(low, high), (start, end)| {
+            (low.min(start), high.max(end))
+        })
     }
 
     /// The nodes of the tree without the brackets that are taken away.
@@ -185,12 +185,13 @@ pub fn is_call(op: u8) -> bool {
     op == 40 || is_math_call(op)
 }
 
-fn bracket(op: u8, node: Token) -> Token {
+fn bracket(op: u8, start: u32, end: u32) -> Token {
     Token {
         op,
         variant: 0,
         value: 0,
-        ..node
+        start,
+        end,
     }
 }
 

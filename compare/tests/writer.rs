@@ -28,10 +28,40 @@ fn refusal(words: &[u32]) -> Written {
 }
 
 #[test]
-fn a_product_under_a_sum_gets_a_pair_with_the_products_span() {
+fn a_product_under_a_sum_gets_a_pair_that_covers_the_product() {
     let nodes = [node(9, 2, 1), float(0), node(31, 2, 3), float(2), float(4)];
-    let list = [(61, 0), (9, 1), (4, 3), (61, 2), (31, 3), (61, 4), (5, 3)];
+    let list = [(61, 0), (9, 1), (4, 2), (61, 2), (31, 3), (61, 4), (5, 5)];
     assert_eq!(written(&nodes), list);
+}
+
+/// Operator, start and end of each token of a plain tree.
+fn spans(nodes: &[TreeNode]) -> Vec<(u8, u32, u32)> {
+    let list = Tree::of(nodes).written();
+    let spans = list.iter();
+    spans
+        .map(|token| (token.op, token.start, token.end))
+        .collect()
+}
+
+#[test]
+fn an_added_pair_covers_all_below_it_wherever_it_stands() {
+    // The lowest start and the highest end stand in the inner pair's leaves, a start above its end among them.
+    let mut nodes = [
+        node(6, 1, 50),
+        node(9, 2, 40),
+        float(30),
+        node(31, 2, 35),
+        float(20),
+        float(33),
+    ];
+    (nodes[4].token.start, nodes[4].token.end) = (90, 7);
+    (nodes[5].token.start, nodes[5].token.end) = (12, 60);
+    let found = spans(&nodes);
+    assert_eq!((found[1], found[9]), ((4, 12, 60), (5, 60, 60)));
+    assert_eq!((found[4], found[8]), ((4, 12, 60), (5, 60, 60)));
+    // What stands beside an operand is none of its extent: the pair of the product begins where the product does.
+    let nodes = [node(9, 2, 1), float(0), node(31, 2, 8), float(7), float(9)];
+    assert_eq!(spans(&nodes)[2], (4, 7, 10));
 }
 
 #[test]
@@ -71,18 +101,11 @@ fn the_closer_of_a_section_starts_and_ends_where_the_section_closes() {
         end: 40,
     };
     assert_eq!((list[2], list[6]), (nodes[2].token, closer));
-    // An added pair keeps its operand's span, whatever the operand's seventh word is.
+    // An added pair covers its operand's spans, whatever the seventh words below it are.
     let mut nodes = [node(6, 1, 0), node(31, 2, 2), float(1), float(3)];
     nodes[1].close = 99;
-    let spans = |nodes: &[TreeNode]| -> Vec<(u8, u32, u32)> {
-        let list = Tree::of(nodes).written();
-        let spans = list.iter();
-        spans
-            .map(|token| (token.op, token.start, token.end))
-            .collect()
-    };
     let found = spans(&nodes);
-    assert_eq!((found[1], found[5]), ((4, 2, 3), (5, 2, 3)));
+    assert_eq!((found[1], found[5]), ((4, 1, 4), (5, 4, 4)));
 }
 
 #[test]
@@ -488,7 +511,7 @@ mod library {
     }
 
     #[test]
-    fn tokens_are_copied_and_brackets_carry_the_span_alone() {
+    fn tokens_are_copied_and_brackets_carry_the_extent_alone() {
         let paid = Token {
             op: 31,
             variant: 12,
@@ -503,12 +526,15 @@ mod library {
         let answer = library::write(&tree_words(&nodes), &mut list);
         assert_eq!(answer, Written::Tokens(6));
         let list = decode_list(&list).expect("the list is legal");
-        let bracket = |op| Token {
+        // The leaves stand at 0 to 0.
+        let bracket = |op, start, end| Token {
             op,
             variant: 0,
             value: 0,
-            ..paid
+            start,
+            end,
         };
-        assert_eq!((list[1], list[3], list[5]), (bracket(4), paid, bracket(5)));
+        let (opener, closer) = (bracket(4, 0, 3), bracket(5, 3, 3));
+        assert_eq!((list[1], list[3], list[5]), (opener, paid, closer));
     }
 }

@@ -12,7 +12,7 @@ use std::fmt;
 /// A tree is plain if all its nodes are operands, operators with their operands, brackets with one child, conditionals
 /// with both sides, queries and math calls; statements, assignments, arrays, members and pointers are not.
 ///
-/// Writing recurses in the library, 350 bytes of stack a level. A tree of more than 256 levels is written on a thread of its
+/// Writing recurses in the library, 380 bytes of stack a level. A tree of more than 256 levels is written on a thread of its
 /// own with stack enough, so the caller's needs no more than 128 KiB.
 ///
 /// ```
@@ -22,6 +22,23 @@ use std::fmt;
 /// let tree = Reader::new().read(&list, 4).unwrap();
 /// let written = Writer::new().write(&tree).unwrap();
 /// assert_eq!(written.to_string(), "(a ? b : c) ? d : e");
+/// ```
+///
+/// An added bracket has no place of its own in the source. Its opener covers all of its operand, so an editor that is asked
+/// about the bracket shows what it was added round; its closer stands where the operand ends, and is empty:
+///
+/// ```
+/// use sorbrudder::{Reader, Span, Tokens, Writer};
+///
+/// let source = "a + b * c";
+/// let list: Tokens = source.parse().unwrap();
+/// let tree = Reader::new().read(&list, 6).unwrap();
+/// let written = Writer::new().write(&tree).unwrap();
+/// assert_eq!(written.to_string(), "a + (b * c)");
+///
+/// let (opener, closer) = (written[2], written[6]);
+/// assert_eq!(opener.span.of(source), Some("b * c"));
+/// assert_eq!(closer.span, Span::new(9, 9).unwrap());
 /// ```
 #[derive(Clone, Debug, Default)]
 pub struct Writer {

@@ -51,10 +51,9 @@ fn a_product_under_a_sum_is_written_in_brackets() {
     let tree = Reader::new().read(&list, 6).expect("a tree");
     let written = Writer::new().write(&tree).expect("a plain tree");
     assert_eq!(written.to_string(), "a + (b * c)");
-    assert_eq!(
-        written[2].span, written[4].span,
-        "a pair has its operand's span"
-    );
+    let source = "a + b * c";
+    assert_eq!(written[2].span.of(source), Some("b * c"));
+    assert_eq!((written[6].span.start(), written[6].span.end()), (9, 9));
 }
 
 #[test]

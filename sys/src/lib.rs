@@ -5,25 +5,6 @@
 
 #![warn(missing_docs)]
 
-/// The parse entry, of this library or of the one before it.
-type ParseEntry = unsafe extern "C" fn(
-    *const u32,
-    usize,
-    *mut u32,
-    usize,
-    *mut u32,
-    usize,
-    *mut u32,
-    usize,
-    u64,
-    i16,
-    u64,
-    u64,
-) -> u64;
-
-/// The write entry, of this library or of the one before it.
-type WriteEntry = unsafe extern "C" fn(*const u32, usize, *mut u32, usize) -> u64;
-
 unsafe extern "C" {
     fn sorbrudder_parse(
         list: *const u32,
@@ -46,6 +27,25 @@ unsafe extern "C" {
         list_words: usize,
     ) -> u64;
 }
+
+/// The parse entry, of this library or of the one before it.
+type ParseEntry = unsafe extern "C" fn(
+    *const u32,
+    usize,
+    *mut u32,
+    usize,
+    *mut u32,
+    usize,
+    *mut u32,
+    usize,
+    u64,
+    i16,
+    u64,
+    u64,
+) -> u64;
+
+/// The write entry, of this library or of the one before it.
+type WriteEntry = unsafe extern "C" fn(*const u32, usize, *mut u32, usize) -> u64;
 
 /// What an entry answers.
 #[derive(Copy, Clone, Debug, PartialEq, Eq)]

@@ -49,7 +49,7 @@ fn list_length(words: usize) -> Accepted
     Accepted::Tokens(n)
 }
 
-// Answers 3 to 7, for n tokens.
+// Answers 3 to 7, for n tokens, which are no more than `list_length` lets through.
 fn buffers(n: usize, sizes: Sizes, used: OpSet) -> Accepted
     requires { ⌜ n ≤ 4096 ⌝ }
     ensures { λ r. ⌜ verdictOf r ≡ verdict n (lentRefusal n sizes used) ⌝ }
@@ -72,7 +72,7 @@ fn buffers(n: usize, sizes: Sizes, used: OpSet) -> Accepted
     Accepted::Tokens(n)
 }
 
-// Answers 8 to 11: the words of n tokens, in list order.
+// Answers 8 to 11: the words of n tokens, in list order. `list_length` has counted them.
 fn token_words(list: &[u32], n: usize) -> Accepted
     requires { ⌜ length (now list) ≡ 5 * n ⌝ }
     ensures { λ r. ⌜ verdictOf r ≡ verdict n (wordsRefusal 0 operatorField 0 (now (list .entry))) ⌝ }

@@ -77,4 +77,5 @@ module _ (l h op : ℕ) (small : l < 2 ^ 64) where
           sym (in-high l (bitOr h (2 ^ (op - 64))) small n high)
           ∙ (more h (op - 64) (n - 64)
           ∙
-          (ap (λ (b : Bool). b || eqb (op - 64) (n - 64)) (in-high l h small n high) ∙ ap (λ (b : Bool). inHalves l h n || b) (shifted high)))
+          (ap (λ (b : Bool). b || eqb (op - 64) (n - 64)) (in-high l h small n high)
+          ∙ ap (λ (b : Bool). inHalves l h n || b) (shifted high)))

@@ -70,7 +70,8 @@ module _ (list : List ℕ) (i : ℕ) where
   highest-on below m =
       ap (highest endField m) (drop-cons list i 0 below)
       ∙
-      (third-only (endAfter endField m (getD list i 0)) (drop (suc i) list) ∙ ap (highest endField (endAfter endField m (getD list i 0))) five-on)
+      (third-only (endAfter endField m (getD list i 0)) (drop (suc i) list)
+      ∙ ap (highest endField (endAfter endField m (getD list i 0))) five-on)
 
   -- No token is left.
   pub named-end : length list ≤ i → (n : ℕ) → named operatorField (drop i list) n ≡ false

@@ -15,7 +15,7 @@ ghost use Rattle.molang.specs.Words.{operatorField, endField};
 ghost use Rattle.molang.specs.Lines.{versionOf};
 ghost use Rattle.derived.specs.Derived.{names, named, endAfter, highest};
 
-// The set with op in it.
+// The set with op in it, which is the operator of a legal word.
 fn with(used: OpSet, op: u32) -> OpSet
     requires { ⌜ op ≤ 110 ⌝ }
     ensures { λ r. ⌜ ((n : ℕ) → inHalves (r .low) (r .high) n ≡ (inHalves (used .low) (used .high) n || eqb op n)) ⌝ }

@@ -119,7 +119,7 @@ fn step(work: &mut [u32], walk: Walk) -> Turn
         Pass::Split { done } => statements::step(work, list, done),
         Pass::Unary => unary::step(work, list),
         Pass::Conditional { tokens } => conditional::step(work, list, tokens),
-        _ => seek(work, list, pass),
+        _ => seek(work, list, pass.anew()),
     }
 }
 

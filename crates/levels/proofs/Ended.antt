@@ -68,4 +68,5 @@ ended-at-keep W W' {X} {base} {n} {lo} {l} {q} {done} slots words v =
         let p = wd W base in
         let low = f .low in let high = f .high in
         subst (λ (x : ℕ). TokenAt W' (x + 2) q) same
-        (token-keep W W' (p + 2) (λ o z. slots (p + 2) o (omega arith) (omega arith) (omega arith) (f .out (p + 2) (omega arith) (omega arith))) (v .list e))
+        (token-keep W W' (p + 2)
+        (λ o z. slots (p + 2) o (omega arith) (omega arith) (omega arith) (f .out (p + 2) (omega arith) (omega arith))) (v .list e))

@@ -214,7 +214,8 @@ pub next-to : {W X : List ℕ} {lo hi : ℕ} {f : Forest} (l : Items) (op : ℕ)
     → NextTo W X l lo hi op (nextIf W l op) f
 next-to {W} {X} {lo} {hi} {f} l op v =
     elim (ℕ-discrete (l .read) (l .len)) [
-      | yes e ↦ subst₂ (λ (x : ℕ) (g : Forest). NextTo W X l lo hi op x g) (next-if-end W l op e) (sym (ahead-end f (omega arith) v)) (ended e)
+      | yes e ↦
+          subst₂ (λ (x : ℕ) (g : Forest). NextTo W X l lo hi op x g) (next-if-end W l op e) (sym (ahead-end f (omega arith) v)) (ended e)
       | no n ↦ go n (ahead-item (wd W (l .base + l .read)) refl (omega (arith, ahead-le v .1)) v)
     ]
   where

@@ -21,23 +21,24 @@ pub enum Found {
 pub fn moved(list: List, read: usize, write: usize) -> List
     ensures { λ r. ⌜ r ≡ movedTo list read write ⌝ }
 {
-    let mut after = list;
-    after.read = read;
-    after.write = write;
-    after
+    List {
+        owner: list.owner,
+        base: list.base,
+        len: list.len,
+        read,
+        write,
+    }
 }
 
-// The list with its next item read.
+// The list with its next item read. Each caller has looked at that item, so it is in the list.
 pub fn past(list: List) -> List
     requires { ⌜ list .read + 1 < 2 ^ 64 ⌝ }
     ensures { λ r. ⌜ r ≡ movedTo list (list .read + 1) (list .write) ⌝ }
 {
-    let mut after = list;
-    after.read = list.read + 1;
-    after
+    moved(list, list.read + 1, list.write)
 }
 
-// The list with `item` after its done items.
+// The list with `item` after its done items. Each caller has read more items than are done, so a word is free.
 pub fn keep(work: &mut [u32], list: List, item: u32) -> List
     requires { ⌜ list .base + list .write < length (now work) ⌝ }
     ensures { λ r. ⌜ (r ≡ movedTo list (list .read) (list .write + 1))
@@ -45,12 +46,10 @@ pub fn keep(work: &mut [u32], list: List, item: u32) -> List
 {
     let at = list.base + list.write;
     work[at] = item;
-    let mut after = list;
-    after.write = list.write + 1;
-    after
+    moved(list, list.read, list.write + 1)
 }
 
-// The next unread item if it is of op, else 0 (`next_if` of driver.rs).
+// The next unread item if it is of op, else 0 (`next_if` of driver.rs). Each caller has the store's law for its list, here and below.
 pub fn next_if(work: &[u32], list: List, op: u32) -> u32
     requires { ⌜ CanPeek (now work) list ⌝ }
     ensures { λ r. ⌜ r ≡ nextIf (now (work .entry)) list op ⌝ }

@@ -132,6 +132,23 @@ impl Pass {
         }
     }
 
+    // The same pass, put together anew: a whole copy would take along the bytes that no field has, at every turn of the driver.
+    pub fn anew(self) -> Self
+        ensures { λ r. ⌜ r ≡ self ⌝ }
+    {
+        match self {
+            Pass::Calls => Pass::Calls,
+            Pass::MathCalls => Pass::MathCalls,
+            Pass::Unsplit => Pass::Unsplit,
+            Pass::Split { done } => Pass::Split { done },
+            Pass::Arrays { array, lent } => Pass::Arrays { array, lent },
+            Pass::Unary => Pass::Unary,
+            Pass::Binary { classes, pending } => Pass::Binary { classes, pending },
+            Pass::Conditional { tokens } => Pass::Conditional { tokens },
+            Pass::Returns => Pass::Returns,
+        }
+    }
+
     // The array that waits for an index, or 0.
     pub fn waiting(self) -> u32
         ensures { λ r. ⌜ r ≡ waitingOf self ⌝ }

@@ -3,8 +3,6 @@
 use molang::lines::COUNT;
 use molang::lines::LINES;
 ghost use mathlib.Core.Path.{_≡_};
-ghost use Prim.Native.Nat.{_≤_};
-ghost use lib.ListN.{length};
 ghost use Rattle.lines.specs.Said.{tableText};
 
 const BYTES: usize = 2150;
@@ -130,19 +128,4 @@ pub fn table() -> Lines
         numbers: LINES,
         text: TEXT,
     }
-}
-
-// Where the line of text ends that starts at `from`: at its line end, or with the text.
-pub fn text_end(text: &[u8], from: usize) -> usize
-    requires { ⌜ from ≤ length (now text) ⌝ }
-    ensures { λ r. ⌜ (from ≤ r) × (r ≤ length (now (text .entry))) ⌝ }
-{
-    let mut at = from;
-    while at < text.len() {
-        if text[at] == b'\n' {
-            return at;
-        }
-        at += 1;
-    }
-    at
 }

@@ -83,7 +83,8 @@ math-calls n below = agree-at (inHalves 0xff_7fef_fd00 0x7fff_ffff_c000) isMathC
 
 -- A used set has a math call: above operator 110 there is none.
 pub math-used : (l h : ℕ)
-    → someBelow 128 (λ n. inHalves l h n && inHalves 0xff_7fef_fd00 0x7fff_ffff_c000 n) ≡ someBelow 111 (λ n. inHalves l h n && isMathCall n)
+    → someBelow 128 (λ n. inHalves l h n && inHalves 0xff_7fef_fd00 0x7fff_ffff_c000 n)
+    ≡ someBelow 111 (λ n. inHalves l h n && isMathCall n)
 unfolding someBelow isMathCall between
 math-used l h =
     some-same 128 (λ n. inHalves l h n && inHalves 0xff_7fef_fd00 0x7fff_ffff_c000 n) (λ n. inHalves l h n && isMathCall n)

@@ -5,7 +5,7 @@ ghost use mathlib.Core.Bool.{_&&_};
 ghost use mathlib.Core.List.{[], _∷_};
 ghost use Prim.Native.Nat.{_+_, _*_, _^_};
 ghost use lib.Dec.{ltb};
-ghost use Rattle.molang.specs.Operator.{any, isMathCall};
+ghost use Rattle.molang.specs.Operator.{any};
 ghost use Rattle.molang.specs.Order.{someBelow};
 ghost use Rattle.molang.specs.Parse.{inHalves};
 
@@ -15,7 +15,7 @@ pub struct OpSet {
 }
 
 impl OpSet {
-    // The math calls (`is_math_call`).
+    // The math calls (`is_math_call`). That it has those and no others is part of the computed rule of the tables of `order`.
     pub const MATH_CALLS: Self = Self {
         low: 0xff_7fef_fd00,
         high: 0x7fff_ffff_c000,
@@ -60,12 +60,5 @@ impl OpSet {
         ensures { λ r. ⌜ r ≡ someBelow 128 (λ n. inHalves (self .low) (self .high) n && inHalves (other .low) (other .high) n) ⌝ }
     {
         self.low & other.low != 0 || self.high & other.high != 0
-    }
-
-    // Whether a math call is in the set.
-    pub fn has_math_call(self) -> bool
-        ensures { λ r. ⌜ r ≡ someBelow 111 (λ n. inHalves (self .low) (self .high) n && isMathCall n) ⌝ }
-    {
-        self.intersects(OpSet::MATH_CALLS)
     }
 }

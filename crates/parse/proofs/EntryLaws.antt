@@ -83,7 +83,8 @@ refused-meets c number place e =
     record { told = rw r; tree = rw r; messages = rw r; work = rw r }
 
 pub read-meets : (c : Call) (n : ℕ) (r : Answer) (tree messages work : List ℕ) → isRead n ≡ checked c
-    → HasRead (c .list) (c .tree) (c .messages) (c .sourceLength) (c .version) (record { low = c .usedLow; high = c .usedHigh }) r tree messages
+    → HasRead (c .list) (c .tree) (c .messages) (c .sourceLength) (c .version) (record { low = c .usedLow; high = c .usedHigh })
+    r tree messages
     → work ≡ replicate (length (c .work)) 0 → HasParsed c r tree messages work
 unfolding answered reading treeAfter messagesAfter workAfter workIn
 read-meets c n r tree messages work e v cleared =

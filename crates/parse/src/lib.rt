@@ -26,7 +26,7 @@ pub enum Answer {
     Refused(u32, usize),
 }
 
-// One root is a tree, whose words fill the front of the tree buffer; none or several are a message.
+// One root is a tree, whose words fill the front of the tree buffer; none or several are a message. `fill` has all that it asks.
 fn fill_roots(
     work: &mut [u32],
     tree: &mut [u32],
@@ -51,7 +51,7 @@ fn fill_roots(
     Answer::Tree(nodes)
 }
 
-// Fills the caller's buffers with what the passes left.
+// Fills the caller's buffers with what the passes left. `group` promises the store, and `read` is lent the buffers.
 fn fill(
     work: &mut [u32],
     tree: &mut [u32],
@@ -85,7 +85,7 @@ fn fill(
     }
 }
 
-// Reads a list without fault in a work buffer of just the words that its n tokens need.
+// Reads a list without fault in a work buffer of just the words that its n tokens need. `parse` calls it where `accept` found no fault.
 fn read(
     list: &[u32],
     tree: &mut [u32],

@@ -25,7 +25,7 @@ ghost use Rattle.grouping.specs.declared.grouped.Grouped.the-variants.{Failed, 
 ghost use Rattle.parse.specs.Reports.{CanReport, Reported, CanReportTwo, TwoReported, CanMeasure, Measured, CanReportRoots};
 ghost use Rattle.parse.specs.Reports.{RootsReported};
 
-// A message at the span from one slot's start to another's end.
+// A message at the span from one slot's start to another's end. A failure names slots of the store (`Named`), here and up to `record_of`.
 fn spanning(work: &[u32], number: u32, from: u32, to: u32) -> Record
     requires { ⌜ Within (now work) from × Within (now work) to ⌝ }
     ensures { λ r. ⌜ r ≡ spanRecord (now (work .entry)) number from to ⌝ }
@@ -135,7 +135,7 @@ fn record_of(work: &[u32], failure: Failure, source: u32) -> Record
     }
 }
 
-// Writes the record of a failure to the front of the message buffer.
+// Writes the record of a failure to the front of the message buffer. `fill` has what it and those below ask: `CanFill` says it by cases.
 pub fn report(work: &[u32], messages: &mut [u32], failure: Failure, source: u32)
     requires { ⌜ CanReport (now work) (now messages) source (Failed failure) ⌝ }
     ensures { λ _. ⌜ Reported (now (work .entry)) (now (messages .entry)) source (Failed failure) (now (messages .exit)) ⌝ }
@@ -182,7 +182,8 @@ pub fn report_unclosed(work: &[u32], messages: &mut [u32], u: Unclosed)
     put(messages, fields::RECORD_WORDS, not_closed(work, u.outer));
 }
 
-// The extent of the first tree of those linked from the slot `first` on, which are laid out as tree words for it.
+// The extent of the first tree of those linked from the slot `first` on, which are laid out as tree words for it. The first and the last
+// root that `report_roots` is given are such slots.
 fn extent_of(work: &mut [u32], first: u32, n: usize) -> Extent
     requires { ⌜ CanMeasure (now work) first n ⌝ }
     ensures { λ r. ⌜ Measured (now (work .entry)) first n r (now (work .exit)) ⌝ }

@@ -86,16 +86,17 @@ fn folded(work: &mut [u32], list: List, operator: u32, classes: TokenClasses) ->
             classes,
             pending: operator,
         };
-        return turns::enter(after, pass, right);
+        turns::enter(after, pass, right)
+    } else {
+        fold(work, after, operator, right);
+        turns::on(
+            after,
+            Pass::Binary {
+                classes,
+                pending: 0,
+            },
+        )
     }
-    fold(work, after, operator, right);
-    turns::on(
-        after,
-        Pass::Binary {
-            classes,
-            pending: 0,
-        },
-    )
 }
 
 // A token of the level: it needs both sides, and a left side with nothing unfolded below it.
@@ -114,7 +115,8 @@ pub fn operator(work: &mut [u32], list: List, item: u32, classes: TokenClasses) 
     let left = work[at];
     if slots::classes_of(work, left).intersects(classes) {
         let leaf = first_leaf(work, left, classes);
-        return Turn::Fail(Failure::BinaryAtEnd(leaf));
+        Turn::Fail(Failure::BinaryAtEnd(leaf))
+    } else {
+        folded(work, list, item, classes)
     }
-    folded(work, list, item, classes)
 }

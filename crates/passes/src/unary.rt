@@ -31,9 +31,7 @@ pub fn keep_right(work: &mut [u32], list: List, item: u32) -> List
     let write = list.write - 1;
     let at = list.base + write;
     work[at] = item;
-    let mut after = list;
-    after.write = write;
-    after
+    items::moved(list, list.read, write)
 }
 
 // `operator` takes the first done item as its child and stands in its place.

@@ -87,4 +87,5 @@ pub has-reread : (c : Rereading) {first : Answer} {tree messages work : List ℕ
     → HasReread c l
 unfolding reread handed
 has-reread c p v {l} e =
-    let left : l ≡ reread c = e ∙ rw (p .told, p .tree, p .messages, p .work, v) refl in record { left = left; demand3 = rw left (demand-3 c) }
+    let left : l ≡ reread c = e ∙ rw (p .told, p .tree, p .messages, p .work, v) refl in
+    record { left = left; demand3 = rw left (demand-3 c) }

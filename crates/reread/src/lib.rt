@@ -32,7 +32,7 @@ pub const WRITE: u32 = 2;
 
 pub const SECOND: u32 = 3;
 
-// Reads a list with exactly its own operators.
+// Reads a list with exactly its own operators. What the writer lays is a legal list.
 fn read_exactly(
     list: &[u32],
     tree: &mut [u32],
@@ -70,7 +70,8 @@ fn after_second(nodes: usize, count: usize, second: Answer) -> Outcome
     }
 }
 
-// Writes the tree of so many nodes that a reading left in front of its buffer, and reads what was written.
+// Writes the tree of so many nodes that a reading left in front of its buffer, and reads what was written. `parse` promises what it and
+// `after_first` ask.
 fn write_and_read(
     tree: &[u32],
     written: &mut [u32],

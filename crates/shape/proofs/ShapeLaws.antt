@@ -10,8 +10,8 @@ use lib.Dec.{leb}
 use lib.ListN.{length, getD, drop, drop-of-length-le}
 use lib.Seq.{drop-cons}
 use borrow.Author.Tests.{eqb-true, leb-true, le-leb, lt-leb}
-use Rattle.molang.specs.Words.{Field, operatorField, startField, endField, upperField, lowerField, countField, closeField, wordFault, lowFault}
-use Rattle.molang.specs.Words.{variantAfter, lowOf, tokenWords, tokenOf}
+use Rattle.molang.specs.Words.{Field, operatorField, startField, endField, upperField, lowerField, countField, closeField, wordFault}
+use Rattle.molang.specs.Words.{lowFault, variantAfter, lowOf, tokenWords, tokenOf}
 use Rattle.molang.specs.FirstFailure.{must}
 use Rattle.molang.proofs.FirstFailure.{must-none, must-true, must-false, first-none, passed, found, after-none}
 use Rattle.molang.specs.WriteEntry.{mostNodes, nextInNode, Shape, shapeAfter, continues, isWhole, treeFault}

@@ -19,7 +19,7 @@ const REFUSED: u64 = 0x200_0000_0000;
 // A refusal's number stands from bit 32 on.
 const NUMBER: u64 = 0x1_0000_0000;
 
-// A refusal as one number.
+// A refusal as one number. Both callers have the bounds of an answer, which are shown in proofs/Bounds, here and below.
 fn refusal(number: u32, place: usize) -> u64
     requires { ⌜ (number < 2 ^ 8) × (place < 2 ^ 32) ⌝ }
     ensures { λ r. ⌜ r ≡ packed 2 number place ⌝ }

@@ -86,7 +86,8 @@ not-turned bytes first whole some-bytes low tokens h =
 
 -- THE CALL OF THE ENTRY. Of its checks only those of the words are left, and its used set is the list's own.
 module _ (list tree messages : List ℕ) (ok : Readable list tree messages) (work : List ℕ) (room : length work ≡ 8256) (source : ℕ)
-    (ends : source ≡ highest operatorField 0 list) (version : ℤ) (low high : ℕ) (exact : (n : ℕ) → inHalves low high n ≡ named operatorField list n) where
+    (ends : source ≡ highest operatorField 0 list) (version : ℤ) (low high : ℕ)
+    (exact : (n : ℕ) → inHalves low high n ≡ named operatorField list n) where
   abbrev called : Call
   called = call list tree messages work source version low high
 

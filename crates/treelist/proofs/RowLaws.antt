@@ -37,8 +37,12 @@ pub node-rows-length : (i : ℕ) (tree : List ℕ) → length (nodeRows i tree) 
 unfolding nodeRows nodeNumbers
 node-rows-length zero tree = omega arith
 node-rows-length (suc i) tree =
-    omega
-    (arith, length-append (nodeRows i tree) (row (nodeNumbers tree (7 * i))), node-rows-length i tree, row-length (nodeNumbers tree (7 * i)) (omega arith))
+    omega (
+      arith,
+      length-append (nodeRows i tree) (row (nodeNumbers tree (7 * i))),
+      node-rows-length i tree,
+      row-length (nodeNumbers tree (7 * i)) (omega arith),
+    )
 
 pub record-rows-length : (i : ℕ) (messages : List ℕ) → 8 * i ≤ length messages → length (recordRows i messages) ≤ 168 * i
 unfolding recordRows

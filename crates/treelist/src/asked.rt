@@ -46,7 +46,7 @@ fn asked(bytes: usize, first: u32) -> Request
     Request::List(words)
 }
 
-// Reads a list at its exact used set, its highest span end being the source length.
+// Reads a list at its exact used set, its highest span end being the source length. `answer` calls it where `asked` found no fault.
 fn read(list: &[u32], version: i16, tree: &mut [u32], messages: &mut [u32]) -> Answer
     requires { ⌜ Readable (now list) (now tree) (now messages) ⌝ }
     ensures { λ r. ⌜ toldOf r ≡ told (wordsRefusal 0 operatorField 0 (now (list .entry))) (readingOf (now (list .entry)) version) ⌝ }
@@ -70,7 +70,8 @@ fn read(list: &[u32], version: i16, tree: &mut [u32], messages: &mut [u32]) -> A
     )
 }
 
-// The answer to an input of so many bytes, whose front is these words. A tree or messages are left in their buffers.
+// The answer to an input of so many bytes, whose front is these words. A tree or messages are left in their buffers, which are of the
+// lengths that `listing` gives them.
 pub fn answer(words: &[u32], bytes: usize, tree: &mut [u32], messages: &mut [u32]) -> Answer
     requires { ⌜ (length (now words) ≡ 641) × (length (now tree) ≡ 2688) × (length (now messages) ≡ 16) ⌝ }
     ensures { λ r. ⌜ toldOf r ≡ told (faultOf bytes (now (words .entry))) (answerOf bytes (now (words .entry))) ⌝ }

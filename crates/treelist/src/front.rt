@@ -11,7 +11,7 @@ fn word_of(a: u8, b: u8, c: u8, d: u8) -> u32
     a as u32 + 256 * (b as u32) + 65_536 * (c as u32) + 16_777_216 * (d as u32)
 }
 
-// The words of the front's bytes.
+// The words of the front's bytes, of which `main` has exactly so many.
 pub fn words_of(front: &[u8]) -> [u32; 641]
     requires { ⌜ length (now front) ≡ 2564 ⌝ }
     ensures { λ r. ⌜ r ≡ wordsIn (now (front .entry)) ⌝ }

@@ -1,5 +1,6 @@
 // The program `treelist` of document 01: reads the words of a version and of up to 128 tokens, and prints the tree, the messages or
-// the refusal. `main` only reads and writes; which text answers which bytes is the promise of `listing`. Leans on io, derived, text and parse.
+// the refusal. `main` only reads and writes; which text answers which bytes is the promise of `listing`. Leans on io, derived, text and
+// parse.
 mod asked;
 mod front;
 mod rows;
@@ -22,7 +23,7 @@ const FRONT: usize = 2564;
 // How often the rest of an input is read on. A proved loop has to end, and nothing says that an input does: no run uses this up.
 const TURNS: usize = 1_099_511_627_776;
 
-// The text that answers an input of so many bytes, whose front is given; how many bytes it has.
+// The text that answers an input of so many bytes, whose front is given; how many bytes it has. `main` lends both buffers.
 fn listing(front: &[u8], bytes: usize, out: &mut [u8]) -> usize
     requires { ⌜ (length (now front) ≡ 2564) × (length (now out) ≡ 32768) ⌝ }
     ensures { λ r. ⌜ Counts r (now (out .exit)) ⌝ }

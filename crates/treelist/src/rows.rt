@@ -12,7 +12,7 @@ ghost use Rattle.parse.specs.Answers.{toldOf};
 ghost use Rattle.text.specs.Text.{Wrote};
 ghost use Rattle.treelist.specs.Rows.{row, nodeRows, recordRows, nodeNumbers, answerText, Printable};
 
-// A line of numbers.
+// A line of numbers. `put_answer` has room for the longest text of each line, here and below.
 fn put_row(out: &mut [u8], at: usize, numbers: &[u32]) -> usize
     requires { ⌜ (at + 21 * length (now numbers) ≤ length (now out)) × (1 ≤ length (now numbers)) ⌝ }
     ensures { λ r. ⌜ Wrote (now (out .entry)) at (row (now (numbers .entry))) r (now (out .exit)) ⌝ }
@@ -70,7 +70,7 @@ fn put_records(out: &mut [u8], at: usize, messages: &[u32], n: usize) -> usize
     end
 }
 
-// The text of an answer, from the first byte on; how many bytes it has.
+// The text of an answer, from the first byte on; how many bytes it has. `listing` makes the buffers, and `answer` promises what is told.
 pub fn put_answer(out: &mut [u8], answered: Answer, tree: &[u32], messages: &[u32]) -> usize
     requires { ⌜ (length (now out) ≡ 32768) × (length (now tree) ≡ 2688) × (length (now messages) ≡ 16) ⌝ }
     requires { ⌜ Printable (toldOf answered) ⌝ }

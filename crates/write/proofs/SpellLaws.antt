@@ -239,7 +239,8 @@ module _ {others : ℕ} {W : List ℕ} (o : Opened 2 (suc others) W) where
             written-two (o .k) x xs y ys [],
             unpaired-left x xs (o .k),
             unpaired-right y ys (o .k),
-            operand-before (standsLeft (o .k) x xs) x xs (written x xs) (o .k ∷ operandTokens (standsRight (o .k) y ys) y ys (written y ys) [])
+            operand-before (standsLeft (o .k) x xs) x xs (written x xs)
+                (o .k ∷ operandTokens (standsRight (o .k) y ys) y ys (written y ys) [])
                 (written-before x xs),
             list-words-append,
             list-words-cons,

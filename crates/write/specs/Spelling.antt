@@ -45,6 +45,10 @@ seen low high = record { start = low; end = high }
 abbrev pub seenWith : Extent → List ℕ → Extent
 seenWith e ws = extentWith e (firstTrees 1 (treesOf ws))
 
+-- The extent of two numbers with that of the first tree taken in.
+abbrev pub seenAfter : ℕ → ℕ → List ℕ → Extent
+seenAfter low high ws = seenWith (seen low high) ws
+
 -- The nodes of the first tree.
 unfoldable pub firstSize : Forest → ℕ
 firstSize nil = 0

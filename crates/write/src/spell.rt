@@ -20,7 +20,7 @@ ghost use Rattle.words.specs.Extents.{wider};
 ghost use Rattle.words.specs.Records.{laidAt};
 ghost use Rattle.words.specs.Tokens.{fiveWords};
 ghost use Rattle.shape.specs.Shaped.{nodeLength, firstFive};
-ghost use Rattle.write.specs.Spelling.{spanningWords, closerWords, pairOpener, pairCloser, seen, seenWith};
+ghost use Rattle.write.specs.Spelling.{spanningWords, closerWords, pairOpener, pairCloser, seen, seenAfter};
 ghost use Rattle.write.specs.Spelling.{nodeTokens, operandOf, filledWords, nodeWritten, operandWritten, Room};
 
 // Puts a token's five words into the list from `to` on, and moves `to` behind them.
@@ -105,7 +105,7 @@ pub fn write_node<'a>(
     high: &mut u32,
 ) -> &'a [u32]
     requires { ⌜ Room nodeTokens (now words) (now list) (now to) ⌝ }
-    ensures { λ _. ⌜ seen (now (low .exit)) (now (high .exit)) ≡ seenWith (seen (now (low .entry)) (now (high .entry))) (now (words .entry)) ⌝ }
+    ensures { λ _. ⌜ seen (now (low .exit)) (now (high .exit)) ≡ seenAfter (now (low .entry)) (now (high .entry)) (now (words .entry)) ⌝ }
     ensures { λ r. ⌜ now r ≡ filledWords (now (words .entry)) ⌝ }
     ensures { λ _. ⌜ now (list .exit) ≡ laidAt (now (to .entry)) (nodeWritten (now (words .entry))) (now (list .entry)) ⌝ }
     ensures { λ _. ⌜ now (to .exit) ≡ now (to .entry) + length (nodeWritten (now (words .entry))) ⌝ }
@@ -147,7 +147,7 @@ fn write_operand<'a>(
     high: &mut u32,
 ) -> &'a [u32]
     requires { ⌜ Room (operandOf seat) (now words) (now list) (now to) ⌝ }
-    ensures { λ _. ⌜ seen (now (low .exit)) (now (high .exit)) ≡ seenWith (seen (now (low .entry)) (now (high .entry))) (now (words .entry)) ⌝ }
+    ensures { λ _. ⌜ seen (now (low .exit)) (now (high .exit)) ≡ seenAfter (now (low .entry)) (now (high .entry)) (now (words .entry)) ⌝ }
     ensures { λ r. ⌜ now r ≡ filledWords (now (words .entry)) ⌝ }
     ensures { λ _. ⌜ now (list .exit) ≡ laidAt (now (to .entry)) (operandWritten seat (now (words .entry))) (now (list .entry)) ⌝ }
     ensures { λ _. ⌜ now (to .exit) ≡ now (to .entry) + length (operandWritten seat (now (words .entry))) ⌝ }

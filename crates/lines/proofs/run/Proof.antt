@@ -52,10 +52,10 @@ loop-again : tie.Need-loop-again Inv-loop μ-loop
 loop-again c = omega arith
 
 say-totals-requires : tie.Need-say-totals-requires Inv-loop μ-loop
-say-totals-requires c κs = tt
+say-totals-requires c κs = omega arith
 
 returns : tie.Need-returns Inv-loop μ-loop
-returns c = tt
+returns c = omega arith
 
 pub run-spec : {M : Type 1} → statement M
 run-spec =

@@ -1,6 +1,7 @@
 -- `step`, arm by arm: the level's turn.
-use mathlib.Core.Path.{sym, _∙_}
+use mathlib.Core.Path.{sym, subst, _∙_}
 use borrow.Author.Needs.{needs}
+use Rattle.passes.specs.TokenTurns.{Seeks}
 use Rattle.passes.proofs.TurnLaws.{turn-at, turned-by, turn-waiting}
 use Rattle.passes.proofs.SeekLaws.{seeks-at}
 use Rattle.grouping.proofs.driver.step.Statement.{statement}
@@ -50,11 +51,16 @@ step-requires-3 c κs =
     let s = c .before .before .before .before .before .before .before .before in
     turn-at (s .args .walk .list) (s .args .walk .pass) _ (c .before .before .pass2 .given .1) (s .pre)
 
+anew-requires : tie.Need-anew-requires
+anew-requires c κs = search needs
+
 seek-requires : tie.Need-seek-requires
 seek-requires c κs =
-    let s = c .before .before .before .before .before .before in
-    let none = sym (c .before .before .before .waiting .ensures) ∙ c .before .before .if1 .left in
-    (s .pre, seeks-at (s .args .walk .pass) (c .before .match .keys4) none (s .pre))
+    let s = c .before .before .before .before .before .before .before in
+    let same = sym (c .anew .ensures) in
+    let none = sym (c .before .before .before .before .waiting .ensures) ∙ c .before .before .before .if1 .left in
+    let seeks = seeks-at (s .args .walk .pass) (c .before .before .match .keys4) none (s .pre) in
+    (turn-at (s .args .walk .list) (s .args .walk .pass) _ same (s .pre), subst Seeks same seeks)
 
 same-length-2 : tie.Need-same-length-2
 same-length-2 c = search needs
@@ -84,7 +90,9 @@ same-length-5 : tie.Need-same-length-5
 same-length-5 c = search needs
 
 returns-5 : tie.Need-returns-5
-returns-5 c = search needs
+returns-5 c =
+    let s = c .before .before .before .before .before .before .before .before .before .before in
+    turned-by (s .args .walk .list) (s .args .walk .pass) _ (sym (c .before .before .before .anew .ensures)) (c .before .before .seek .ensures)
 
 pub step-spec : {M : Type 1} → statement M
 step-spec =
@@ -100,6 +108,7 @@ step-spec =
     step-requires-2
     enum-known-pass-2
     step-requires-3
+    anew-requires
     seek-requires
     same-length-2
     returns-2

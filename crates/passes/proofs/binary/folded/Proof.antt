@@ -23,17 +23,17 @@ is-inner-requires c κs = operate-room (c .before .before .before .before .befor
 enter-requires : tie.Need-enter-requires
 enter-requires c κs = search needs
 
-same-length : tie.Need-same-length
-same-length c = search needs
-
-returns : tie.Need-returns
-returns c = operated-opens (c .before .before .before .before .past .result) (sym (c .before .before .is-inner .ensures) ∙ c .before .if1 .taken) refl (c .before .before .before .before .past .ensures) (c .enter .ensures)
-
 fold-requires : tie.Need-fold-requires
 fold-requires c κs = operate-folds (c .before .before .before .before .past .result) (c .before .before .before .before .before .before .before .before .pre) (c .before .before .before .before .past .ensures)
 
 on-requires : tie.Need-on-requires
 on-requires c κs = search needs
+
+same-length : tie.Need-same-length
+same-length c = search needs
+
+returns : tie.Need-returns
+returns c = operated-opens (c .before .before .before .before .past .result) (sym (c .before .before .is-inner .ensures) ∙ c .before .if1 .taken) refl (c .before .before .before .before .past .ensures) (c .enter .ensures)
 
 same-length-2 : tie.Need-same-length-2
 same-length-2 c = search needs
@@ -51,9 +51,9 @@ folded-spec =
     past-requires
     is-inner-requires
     enter-requires
-    same-length
-    returns
     fold-requires
     on-requires
+    same-length
+    returns
     same-length-2
     returns-2)

@@ -35,6 +35,11 @@ intersects-requires c κs = search needs
 first-leaf-requires : tie.Need-first-leaf-requires
 first-leaf-requires c κs = can-search (c .before .before .before .before .before .before .before .before .before .before .before .before .args .classes .0) (c .before .before .before .before .before .before .before .before .before .before .before .before .pre) (c .before .before .before .before .before .before .before .before .before .if1 .left) (shares-as (c .before .before .intersects .ensures) (c .before .before .before .classes-of .ensures) refl (c .before .if3 .taken))
 
+folded-requires : tie.Need-folded-requires
+folded-requires c κs =
+    let has = c .before .before .before .before .before .before .before .before .before .if1 .left in
+    record { token = c .before .before .before .before .before .before .before .before .before .before .before .before .pre; some = omega arith; more = next-room (c .before .before .before .before .before .before .before .before .before .before .before .before .pre) (c .before .before .before .before .before .before .before .if2 .left) .0; clean = (shares-as (c .before .before .intersects .ensures) (c .before .before .before .classes-of .ensures) refl (c .before .if3 .left)) }
+
 same-length : tie.Need-same-length
 same-length c = search needs
 
@@ -42,11 +47,6 @@ returns-3 : tie.Need-returns-3
 returns-3 c = λ ops covers.
     let has = c .before .before .before .before .before .before .before .before .before .before .if1 .left in
     operator-fails (c .before .before .before .before .before .before .before .before .before .before .before .before .before .args .classes) ops covers (omega arith) (next-room (c .before .before .before .before .before .before .before .before .before .before .before .before .before .pre) (c .before .before .before .before .before .before .before .before .if2 .left) .0) (shares-as (c .before .before .before .intersects .ensures) (c .before .before .before .before .classes-of .ensures) refl (c .before .before .if3 .taken)) (c .first-leaf .ensures)
-
-folded-requires : tie.Need-folded-requires
-folded-requires c κs =
-    let has = c .before .before .before .before .before .before .before .before .before .if1 .left in
-    record { token = c .before .before .before .before .before .before .before .before .before .before .before .before .pre; some = omega arith; more = next-room (c .before .before .before .before .before .before .before .before .before .before .before .before .pre) (c .before .before .before .before .before .before .before .if2 .left) .0; clean = (shares-as (c .before .before .intersects .ensures) (c .before .before .before .classes-of .ensures) refl (c .before .if3 .left)) }
 
 same-length-2 : tie.Need-same-length-2
 same-length-2 c = search needs
@@ -69,8 +69,8 @@ operator-spec =
     classes-of-requires
     intersects-requires
     first-leaf-requires
+    folded-requires
     same-length
     returns-3
-    folded-requires
     same-length-2
     returns-4)

@@ -1,0 +1,54 @@
+-- `lines::read_at` meets its contract: the versions left fall. Assumes nothing.
+use Prim.Native.Nat.{_-_}
+use native.Mathlib.Omega.{arith}
+use Rattle.lines.proofs.read_at.Statement.{statement}
+use Rattle.lines.proofs.read_at.Tie as tie
+
+abbrev Inv-loop : tie.InvT-loop
+Inv-loop list first end answer items bits₀ bits = Unit {0}
+
+abbrev μ-loop : tie.MeasureT-loop
+μ-loop list first end answer items bits₀ bits = end - bits
+
+loop-holds : tie.Need-loop-holds Inv-loop μ-loop
+loop-holds c = omega arith
+
+version-of-requires : tie.Need-version-of-requires Inv-loop μ-loop
+version-of-requires c κs = omega arith
+
+read-requires : tie.Need-read-requires Inv-loop μ-loop
+read-requires c κs = omega arith
+
+enum-told : tie.Need-enum-told Inv-loop μ-loop
+enum-told c = omega arith
+
+returns : tie.Need-returns Inv-loop μ-loop
+returns c = omega arith
+
+add-bits : tie.Need-add-bits Inv-loop μ-loop
+add-bits c = omega arith
+
+loop-less : tie.Need-loop-less Inv-loop μ-loop
+loop-less c = omega arith
+
+loop-again : tie.Need-loop-again Inv-loop μ-loop
+loop-again c = omega arith
+
+returns-2 : tie.Need-returns-2 Inv-loop μ-loop
+returns-2 c = omega arith
+
+pub read-at-spec : {M : Type 1} → statement M
+read-at-spec =
+    tie.close
+    (tie.spec
+    Inv-loop
+    μ-loop
+    loop-holds
+    version-of-requires
+    read-requires
+    enum-told
+    returns
+    add-bits
+    loop-less
+    loop-again
+    returns-2)
