@@ -8,7 +8,8 @@ use types.Run.{OneOf, miss}
 use Rattle.molang.specs.Operator.{isBracket}
 use Rattle.molang.specs.Plain.{isUnderMathCall, isRightOfQuestion, isUnderSemicolon}
 use Rattle.write.specs.declared.plain.Seat.{Seat}
-use Rattle.write.specs.declared.plain.Seat.the-variants.{Enclosed, UnderMathCall, LeftOfComma, RightOfQuestion, Operand, UnderSemicolon}
+use Rattle.write.specs.declared.plain.Seat.the-variants.{Enclosed, UnderMathCall, LeftOfComma, RightOfQuestion, Operand}
+use Rattle.write.specs.declared.plain.Seat.the-variants.{UnderSemicolon}
 use Rattle.write.proofs.plain.Seat as seat
 use Rattle.write.specs.Seats.{formSeat, plainBy, isSpared, isPaired}
 

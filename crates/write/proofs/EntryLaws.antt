@@ -184,7 +184,8 @@ module _ {tree : List ℕ} {n : ℕ} (w : Writable tree n) (list : List ℕ) whe
       root-holds : semicolonForm plain.atRoot (root .cs) ≡ true
       unfolding unplainAt seatOf
       root-holds =
-          sym (semicolon-form plain.atRoot (root .k) (root .cs) semicolon) ∙ plain-parts none 0 0 (root .k) (root .cs) nil (root-plain .0) .here
+          sym (semicolon-form plain.atRoot (root .k) (root .cs) semicolon)
+          ∙ plain-parts none 0 0 (root .k) (root .cs) nil (root-plain .0) .here
 
       statements-shaped : Shaped mostChildren (lowOf (getD tree countIndex 0)) (drop nodeLength tree)
       statements-shaped =

@@ -10,7 +10,8 @@ use Rattle.words.specs.Fields.{operatorOf}
 use native.Mathlib.Numerals.{add-one}
 use native.Mathlib.Omega.{arith}
 use lib.Dec.{T, eqb, leb}
-use lib.ListN.{length, length-append, getD, drop, drop-of-length-le, set, length-set, length-drop, replicate, length-replicate, getD-replicate}
+use lib.ListN.{length, length-append, getD, drop, drop-of-length-le, length-drop, set, length-set, replicate, length-replicate}
+use lib.ListN.{getD-replicate}
 use lib.Seq.{getD-set-same, getD-set-other, getD-drop, drop-drop}
 use borrow.Author.Tests.{eqb-true, eq-eqb, ne-eqb, not-true, leb-true, leb-false}
 use Rattle.molang.proofs.RoundTrip.Role.{no-math}
@@ -31,7 +32,8 @@ use Rattle.molang.proofs.PlainTrees.{semicolon-seat, other-seat}
 use Rattle.molang.proofs.Booleans as booleans
 use Rattle.molang.proofs.Trees.{decided, either, both}
 use Rattle.write.specs.declared.plain.Seat.{Seat}
-use Rattle.write.specs.declared.plain.Seat.the-variants.{Enclosed, UnderMathCall, LeftOfComma, RightOfQuestion, Operand, UnderSemicolon}
+use Rattle.write.specs.declared.plain.Seat.the-variants.{Enclosed, UnderMathCall, LeftOfComma, RightOfQuestion, Operand}
+use Rattle.write.specs.declared.plain.Seat.the-variants.{UnderSemicolon}
 use Rattle.molang.specs.WriteEntry.{mostNodes, treesOf, writtenTokens, WriteTold, tokens, unwritten, writeTold}
 use Rattle.shape.proofs.RowLaws.{Opened, opened, shaped-room, shaped-length}
 use Rattle.write.specs.Answers.{judgement}
@@ -157,28 +159,37 @@ expression-by p k (node x xs nil) rest e = rw (e, or-false, plainForm)
 expression-by p k (node x xs (node y ys nil)) rest e = rw (e, plainForm)
 expression-by p k (node x xs (node y ys (node z zs more))) rest e = rw (e, plainForm)
 
-no-statement : (p : Seat) (cs rest : Forest) → isUnderSemicolon (formSeat p) ≡ false
-    → false ≡ plainBy p Operator.semicolon (count cs) (firstOperator (beside cs rest))
-unfolding plainBy isPlainLeaf isPlainBinary isPrefix isOneOf any isCall isMathCall isBracket between count
-no-statement p nil rest e = refl
-no-statement p (node x xs nil) rest e = rw (e, and-false)
-no-statement p (node x xs (node y ys nil)) rest e = refl
-no-statement p (node x xs (node y ys (node z zs more))) rest e = refl
+one-by : (p : Seat) (first : ℕ)
+    → plainBy p Operator.semicolon 1 first ≡ (not (eqb first Operator.semicolon) && isUnderSemicolon (formSeat p))
+unfolding plainBy holdsOne isPrefix isOneOf any isCall isMathCall between
+one-by p first = refl
+
+many-by : (p : Seat) (children first : ℕ) → (children ≡ 1 → ⊥) → plainBy p Operator.semicolon children first ≡ false
+unfolding plainBy isPlainLeaf isPlainBinary isBracket between
+many-by p zero first h = refl
+many-by p (suc zero) first h = absurd (h refl)
+many-by p (suc (suc zero)) first h = refl
+many-by p (suc (suc (suc n))) first h = refl
+
+not-under : (p : Seat) (children first : ℕ) → isUnderSemicolon (formSeat p) ≡ false → false ≡ plainBy p Operator.semicolon children first
+not-under p zero first e = sym (many-by p 0 first (λ h. omega arith))
+not-under p (suc zero) first e = sym (rw (one-by p first, e) (and-false (not (eqb first Operator.semicolon))))
+not-under p (suc (suc n)) first e = sym (many-by p (suc (suc n)) first (λ h. omega arith))
 
 semicolon-by : (p : Seat) (cs rest : Forest)
     → semicolonForm (formSeat p) cs ≡ plainBy p Operator.semicolon (count cs) (firstOperator (beside cs rest))
-unfolding semicolonForm isUnderSemicolon plainBy holdsOne isPlainLeaf isPlainBinary isPrefix isOneOf any isCall isMathCall isBracket between count firstOperator beside
-semicolon-by Enclosed cs rest = no-statement Enclosed cs rest refl
-semicolon-by UnderMathCall cs rest = no-statement UnderMathCall cs rest refl
-semicolon-by LeftOfComma cs rest = no-statement LeftOfComma cs rest refl
-semicolon-by RightOfQuestion cs rest = no-statement RightOfQuestion cs rest refl
-semicolon-by Operand cs rest = no-statement Operand cs rest refl
-semicolon-by UnderSemicolon nil rest = refl
-semicolon-by UnderSemicolon (node x xs nil) rest = rw (and-true)
-semicolon-by UnderSemicolon (node x xs (node y ys nil)) rest = refl
-semicolon-by UnderSemicolon (node x xs (node y ys (node z zs more))) rest = refl
+unfolding semicolonForm isUnderSemicolon count firstOperator beside
+semicolon-by Enclosed cs rest = not-under Enclosed (count cs) (firstOperator (beside cs rest)) refl
+semicolon-by UnderMathCall cs rest = not-under UnderMathCall (count cs) (firstOperator (beside cs rest)) refl
+semicolon-by LeftOfComma cs rest = not-under LeftOfComma (count cs) (firstOperator (beside cs rest)) refl
+semicolon-by RightOfQuestion cs rest = not-under RightOfQuestion (count cs) (firstOperator (beside cs rest)) refl
+semicolon-by Operand cs rest = not-under Operand (count cs) (firstOperator (beside cs rest)) refl
+semicolon-by UnderSemicolon nil rest = sym (many-by UnderSemicolon 0 (firstOperator rest) (λ e. omega arith))
+semicolon-by UnderSemicolon (node x xs nil) rest = sym (one-by UnderSemicolon (x .op) ∙ and-true (not (eqb (x .op) Operator.semicolon)))
+semicolon-by UnderSemicolon (node x xs (node y ys r)) rest = sym (many-by UnderSemicolon (suc (suc (count r))) (x .op) (λ e. omega arith))
 
-pub semicolon-form : (s : plain.Seat) (k : Token) (cs : Forest) → eqb (k .op) Operator.semicolon ≡ true → plainForm s k cs ≡ semicolonForm s cs
+pub semicolon-form : (s : plain.Seat) (k : Token) (cs : Forest) → eqb (k .op) Operator.semicolon ≡ true
+    → plainForm s k cs ≡ semicolonForm s cs
 unfolding plainForm
 semicolon-form s k cs e = rw (e, plainForm)
 
@@ -199,19 +210,12 @@ plain-at-most p op (suc (suc zero)) first e = omega arith
 plain-at-most p op (suc (suc (suc n))) first e = absurd (false≢true e)
 
 -- A plain node that has not one child is no semicolon.
-statement-one : (p : Seat) (children first : ℕ) → plainBy p Operator.semicolon children first ≡ true → children ≡ 1
-unfolding plainBy isPlainLeaf isPlainBinary isBracket between
-statement-one p zero first e = absurd (false≢true e)
-statement-one p (suc zero) first e = refl
-statement-one p (suc (suc zero)) first e = absurd (false≢true e)
-statement-one p (suc (suc (suc n))) first e = absurd (false≢true e)
-
 other-op : (p : Seat) (k : Token) (cs : Forest) → plainForm (formSeat p) k cs ≡ true → (count cs ≡ 1 → ⊥)
     → eqb (k .op) Operator.semicolon ≡ false
 other-op p k cs plain h =
     booleans.never (eqb (k .op) Operator.semicolon)
-    (λ e. h (statement-one p (count cs) (firstOperator (beside cs nil))
-    (sym (semicolon-by p cs nil) ∙ (sym (semicolon-form (formSeat p) k cs e) ∙ plain))))
+    (λ e. false≢true (sym (many-by p (count cs) (firstOperator (beside cs nil)) h)
+    ∙ (sym (semicolon-by p cs nil) ∙ (sym (semicolon-form (formSeat p) k cs e) ∙ plain))))
 
 plain-few : (p : Seat) (op children first : ℕ) → plainBy p op children first ≡ true → (children ≡ 1 → ⊥) → (children ≡ 2 → ⊥) → children ≡ 0
 unfolding plainBy
@@ -266,7 +270,8 @@ judgement-by none f = refl
 judgement-by (some n) f = refl
 
 -- The root of an expression has the forms of a node elsewhere.
-pub root-form : (k : Token) (cs : Forest) → eqb (k .op) Operator.semicolon ≡ false → plainForm plain.elsewhere k cs ≡ plainForm plain.atRoot k cs
+pub root-form : (k : Token) (cs : Forest) → eqb (k .op) Operator.semicolon ≡ false
+    → plainForm plain.elsewhere k cs ≡ plainForm plain.atRoot k cs
 unfolding plainForm expressionForm isRightOfQuestion isUnderMathCall isUnderSemicolon
 root-form k nil e = rw (e, plainForm)
 root-form k (node x xs nil) e = rw (e, plainForm)
@@ -481,8 +486,7 @@ under-is UnderSemicolon e = refl
 -- A plain semicolon over one child is a statement.
 holds-other : (p : Seat) (first : ℕ) → plainBy p Operator.semicolon 1 first ≡ true
     → (not (eqb first Operator.semicolon) ≡ true) × (isUnderSemicolon (formSeat p) ≡ true)
-unfolding plainBy holdsOne isPrefix isOneOf any isCall isMathCall between
-holds-other p first e = both (not (eqb first Operator.semicolon)) (isUnderSemicolon (formSeat p)) e
+holds-other p first e = both (not (eqb first Operator.semicolon)) (isUnderSemicolon (formSeat p)) (sym (one-by p first) ∙ e)
 
 pub on-one : (p : Seat) (k : Token) (cs : Forest) → plainForm (formSeat p) k cs ≡ true → count cs ≡ 1
     → Goes p k (belowSeat (k .op) ∷ []) cs
@@ -497,7 +501,8 @@ on-one p k (node x xs nil) plain e = (
     statement : eqb (k .op) Operator.semicolon ≡ true
         → treeLength p k (node x xs nil) ≡ tokensFor p (k .op) 1 + rowCount (belowSeat (k .op) ∷ []) (node x xs nil)
     statement f =
-        let h = holds-other p (x .op) (sym (semicolon-by p (node x xs nil) nil) ∙ (sym (semicolon-form (formSeat p) k (node x xs nil) f) ∙ plain)) in
+        let form = semicolon-form (formSeat p) k (node x xs nil) f in
+        let h = holds-other p (x .op) (sym (semicolon-by p (node x xs nil) nil) ∙ (sym form ∙ plain)) in
         rw (under-is p (h .1)) (statement-count k x xs f (not-true (eqb (x .op) Operator.semicolon) (h .0)))
 on-one p k (node x xs (node y ys r)) plain e = absurd (omega arith)
 
@@ -609,7 +614,12 @@ judging-script k cs rest e form =
     let st = all-stand k 0 cs e in
     let all : 0 + rowCount seats (beside cs rest) ≡ length (writtenTokens (node k cs rest)) =
     rw (writtenTree-script k cs e)
-    (omega (arith, ap (λ (l : List Seat). rowCount l (beside cs rest)) (append-nil seats), count-beside st [] rest, statements-count cs (script-all cs form)))
+    (omega (
+      arith,
+      ap (λ (l : List Seat). rowCount l (beside cs rest)) (append-nil seats),
+      count-beside st [] rest,
+      statements-count cs (script-all cs form),
+    ))
     in
     rw (all, script-row k cs rest e form) (sym (judgement-by (unplainAt k cs) (node k cs rest)))
 

@@ -46,7 +46,13 @@ pub holding-begins : {tree : List ℕ} → OneTree tree → Holding tree 0 nodeL
 unfolding otherTrees
 holding-begins {tree = tree} one =
     let o = opened (one .shaped) (omega (arith, shaped-room (one .shaped))) in
-    record { others = lowOf (getD tree countIndex 0) + o .others; behind = omega arith; within = o .long; shaped = rw add-zero (o .shaped); same = refl }
+    record {
+      others = lowOf (getD tree countIndex 0) + o .others;
+      behind = omega arith;
+      within = o .long;
+      shaped = rw add-zero (o .shaped);
+      same = refl;
+    }
 
 -- The root's form by its children.
 not-all : (cs : Forest) → allSemicolons cs ≡ false → false ≡ semicolonForm plain.atRoot cs
@@ -126,7 +132,9 @@ module _ {tree : List ℕ} (one : OneTree tree) where
           let yes : eqb (here .k .op) Operator.semicolon ≡ true = rw here-op (eq-eqb op Operator.semicolon semicolon) in
           let trees : lowOf (getD (drop at tree) countIndex 0) + here .others ≡ here .others + children = omega (arith, here-low) in
           let shaped : Shaped mostChildren (here .others + children) (drop nodeLength (drop at tree)) = rw trees at (here .shaped) in
-          let still : allSemicolons (here .rest) ≡ allSemicolons (treesOf (drop nodeLength tree)) = (rw (none, here .trees, yes) at (h .same)) in
+          let still : allSemicolons (here .rest) ≡ allSemicolons (treesOf (drop nodeLength tree)) =
+          (rw (none, here .trees, yes) at (h .same))
+          in
           record {
             others = here .others;
             behind = omega (arith, h .behind, isAfter);
@@ -154,7 +162,9 @@ module _ {tree : List ℕ} (one : OneTree tree) where
           let trees : lowOf (getD (drop at tree) countIndex 0) + here .others ≡ h .others + (due - 1 + children) =
           omega (arith, here-low, here .isTop, left)
           in
-          let shaped : Shaped mostChildren (h .others + (due - 1 + children)) (drop nodeLength (drop at tree)) = rw trees at (here .shaped) in
+          let shaped : Shaped mostChildren (h .others + (due - 1 + children)) (drop nodeLength (drop at tree)) =
+          rw trees at (here .shaped)
+          in
           let still : allSemicolons (otherTrees (due - 1) (here .rest)) ≡ allSemicolons (treesOf (drop nodeLength tree)) =
           ap (λ (n : ℕ). allSemicolons (otherTrees n (node (here .k) (here .cs) (here .rest)))) (sym left) ∙ (rw (here .trees) at (h .same))
           in

@@ -254,7 +254,8 @@ module _ {tree list₀ list : List ℕ} {to at : ℕ} (s : Stating tree list₀ 
         let here : Puts (statementWritten (drop at tree)) list to list1 to1 = (rw (tail-part at tree) at puts) in
         let parts = length-append (statementWritten (drop at tree)) (statementsWritten (drop (at + next) tree)) in
         let kept = puts-length to (statementWritten (drop at tree)) list (omega (arith, room-here)) here in
-        let both-laid = laid-laid to (statementWritten (drop at tree)) (statementsWritten (drop (at + next) tree)) list (omega (arith, room-here)) in
+        let front : to ≤ length list = omega (arith, room-here) in
+        let both-laid = laid-laid to (statementWritten (drop at tree)) (statementsWritten (drop (at + next) tree)) list front in
         record {
           left = first .others;
           within = stating-within;

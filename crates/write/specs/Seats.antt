@@ -8,7 +8,8 @@ use Rattle.molang.specs.Operator.{isOneOf, isMathCall, isBracket}
 use Rattle.molang.specs.Plain as plain
 use Rattle.molang.specs.Plain.{isPlainLeaf, isPlainBinary, isCall, isRightOfQuestion, isUnderMathCall, isUnderSemicolon}
 use Rattle.write.specs.declared.plain.Seat.{Seat}
-use Rattle.write.specs.declared.plain.Seat.the-variants.{Enclosed, UnderMathCall, LeftOfComma, RightOfQuestion, Operand, UnderSemicolon}
+use Rattle.write.specs.declared.plain.Seat.the-variants.{Enclosed, UnderMathCall, LeftOfComma, RightOfQuestion, Operand}
+use Rattle.write.specs.declared.plain.Seat.the-variants.{UnderSemicolon}
 
 -- The definition's seat, by which the plain forms go. (The root of an expression has the forms of a node elsewhere.)
 abbrev pub formSeat : Seat → plain.Seat

@@ -1,4 +1,5 @@
--- `write::plain::judge` meets its contract: from the root of an expression, a root that is not plain, or from the statements. Assumes nothing.
+-- `write::plain::judge` meets its contract: from the root of an expression, a root that is not plain, or from the statements.
+-- Assumes nothing.
 use mathlib.Core.Path.{sym, _∙_}
 use native.Mathlib.Omega.{arith}
 use borrow.Author.Needs.{needs}

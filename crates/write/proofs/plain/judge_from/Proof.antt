@@ -1,4 +1,5 @@
--- `write::plain::judge_from` meets its contract. The loop's invariant is `Judging`; the measure is the words that are left. Assumes nothing.
+-- `write::plain::judge_from` meets its contract. The loop's invariant is `Judging`; the measure is the words that are left. Assumes
+-- nothing.
 use Prim.Native.Nat.{_+_, _-_, _≤_}
 use mathlib.Core.Path.{_≡_, refl, ap, sym, _∙_}
 use mathlib.Core.Bool.{true}
