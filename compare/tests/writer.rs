@@ -519,6 +519,21 @@ fn an_opener_that_was_never_closed_is_written_with_a_closer_at_its_own_end() {
     }
 }
 
+#[test]
+#[cfg_attr(not(rust_source), ignore = "the Rust source is not at hand")]
+fn a_statement_that_begins_with_an_added_bracket_has_another_span_than_before() {
+    let case = Case::exact(oracle::generate::dress::plain(&[7, 61, 71, 61, 73]), 6);
+    let Some(Some(nodes)) = tree_if_at_hand(&case) else {
+        panic!("73(73(71(7(a),b)))");
+    };
+    let (answer, list) = writer_model::write(&tree_words(&nodes), usize::MAX);
+    assert_eq!(answer, Written::Tokens(7));
+    let again = read_again(&list, 4).expect("the source is at hand");
+    let span = |nodes: &[TreeNode]| (nodes[1].token.start, nodes[1].token.end);
+    assert_eq!((span(&nodes), span(&again)), ((0, 1), (0, 2)));
+    assert_eq!(Tree::of(&again).compared(), Tree::of(&nodes).compared());
+}
+
 #[cfg(library)]
 mod library {
     use super::*;
