@@ -3,8 +3,8 @@
  * Buffers are lent as a pointer to 32-bit words, aligned as a uint32_t is, and their number of words. A buffer that is written overlaps no
  * other buffer of the call, and nobody else writes any of them while the call runs. A pointer is never null, not even beside a length of 0.
  *
- * The call stack is the caller's to provide, and the proofs say nothing of it: measured, reading takes at most 2 KiB and writing at most 920 KiB
- * (docs/notes/host.md).
+ * The call stack is the caller's to provide, and the proofs say nothing of it: measured, reading takes at most 2 KiB and writing at most
+ * 1,000 KiB (docs/notes/host.md).
  *
  * An answer is one number. Bits 0-31: the count of nodes, tokens or messages, or a refusal's place. Bits 32-39: a refusal's number, else 0.
  * Bits 40-47: 0 for a tree or a written list, 1 for messages, 2 for a refusal. The functions at the end take it apart.

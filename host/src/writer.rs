@@ -14,7 +14,7 @@ use std::fmt;
 /// whose statements holds such an expression, an assignment of one to another or the return of one. A statement is written
 /// with a semicolon after it, which has the span of what the statement holds.
 ///
-/// Writing recurses in the library, 350 bytes of stack a level. A tree of more than 256 levels is written on a thread of its
+/// Writing recurses in the library, 380 bytes of stack a level. A tree of more than 256 levels is written on a thread of its
 /// own with stack enough, so the caller's needs no more than 128 KiB.
 ///
 /// ```

@@ -123,9 +123,9 @@ listText (op ∷ ops) = itemsText 0 (op ∷ ops)
 unfoldable pub childrenText : ℕ → List ℕ
 childrenText n = elim (eqb n 0) [ true ↦ [] | false ↦ ascii "/" ++ decimal n ]
 
--- A node, which is op_c_ss_ee in decimal digits.
+-- A node, which is op_c_ss_ee in decimal digits, with the end of its closer in front if it is a closed section.
 unfoldable pub nodeText : ℕ → List ℕ
-nodeText node = operatorText (node / 100000) ++ childrenText (node / 10000 % 10) ++ ascii " "
+nodeText node = operatorText (node / 100000 % 1000) ++ childrenText (node / 10000 % 10) ++ ascii " "
 
 -- The nodes of a tree, parent first.
 unfoldable pub treeText : List ℕ → List ℕ

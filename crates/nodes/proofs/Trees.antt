@@ -13,8 +13,8 @@ use Rattle.molang.specs.Forest.{Token, Forest, nil, node, inOrder, count}
 use Rattle.molang.specs.Conditional.{isToken}
 use Rattle.molang.specs.Free.{free, isNil}
 use Rattle.ops.specs.Classes.{inClass}
-use Rattle.nodes.specs.Store.{wd, firstField, nextField, classesField, slotStart, firstWord, nextWord, classesWord, firstAt, classesAt}
-use Rattle.nodes.specs.Store.{TokenAt, Noted, reserve, Chain}
+use Rattle.nodes.specs.Store.{wd, firstField, nextField, classesField, slotStart, firstWord, nextWord, classesWord, firstAt}
+use Rattle.nodes.specs.Store.{classesAt, TokenAt, Noted, reserve, Chain}
 use Rattle.nodes.specs.Store.{Seg, SegB, Out, OutFrom, onto, RepF, ends, more, RepT, Owned, RepB, InArray, Free}
 use Rattle.nodes.specs.Slots.{opAt, isLeafAt, isTokenAt}
 use Rattle.nodes.specs.Children.{Attached, AttachedTwo, CanTake, Taken, CanGive, Given}
@@ -192,7 +192,8 @@ owned-store W W' v {q = q} {hi = hi} {i = i} e inside own o =
     record {
       cs = o .cs;
       chain = rw (other (firstWord q) (omega arith))
-          (chain-keep W W' (firstAt W q) (o .cs) 1 hi (roots-above (o .kids) (omega arith)) (λ c a b. other (nextWord c) (omega arith)) (o .chain));
+          (chain-keep W W' (firstAt W q) (o .cs) 1 hi (roots-above (o .kids) (omega arith)) (λ c a b. other (nextWord c) (omega arith))
+          (o .chain));
       notes = rw (other (classesWord q) (omega arith)) (o .notes);
       kids = rep-keep W W' (λ s p x y z out n. let apart = out .0 in other (slotStart s + p) (omega arith)) (o .kids);
     }

@@ -12,7 +12,7 @@ use Rattle.molang.specs.Operator.{closingOf, isCloser}
 use Rattle.molang.specs.Forest.{Token, Forest, nil, node, inOrder, closedBy}
 use Rattle.molang.specs.Message.{closingMismatch, sectionNotClosed, closer}
 use Rattle.molang.specs.Words.{word}
-use Rattle.molang.specs.Sections.{Open, outside, section, placed, position, outermost, going, mismatch, closing, bracket}
+use Rattle.molang.specs.Sections.{Open, outside, section, placed, position, outermost, Walked, going, mismatch, closing, bracket}
 use Rattle.molang.proofs.Trees.{decided}
 use Rattle.ops.specs.Operators.{isOpener}
 use Rattle.nodes.specs.Store.{wd, slotStart, slotEnd, closeWord, TokenAt, reserve, Seg, Out, RepF, RepT, Owned, InArray, Free}
@@ -52,24 +52,29 @@ record Taken (W X : List ℕ) (q l hi : ℕ) (o : Token) (kids : Forest) (W' : L
   tree : RepT W' X q l hi o kids
   same : (j : ℕ) → Free X l hi j → wd W' j ≡ wd W j
 
-section-taken : {W W1 W' X : List ℕ} {q from n l m hi hi' closer : ℕ} {o k : Token} {kids : Forest} (bs : List ℕ) → Given W q from n W1
+section-taken : {W W1 W' X : List ℕ} {q from n l m hi hi' item : ℕ} {o k : Token} {kids : Forest} (bs : List ℕ) → Given W q from n W1
     → Seg W from bs → n ≡ length bs → RepF W (q ∷ X) bs m hi kids
-    → RepT W X q l m o nil → m ≤ hi → hi ≤ hi' → isOpener (o .op) ≡ true → TokenAt W closer k
-    → W' ≡ set W1 (closeWord q) (word 7 (endAt W1 closer)) → slotEnd q ≤ length W1
+    → RepT W X q l m o nil → m ≤ hi → hi ≤ hi' → isOpener (o .op) ≡ true → TokenAt W item k
+    → W' ≡ set W1 (closeWord q) (word 7 (endAt W1 item)) → slotEnd q ≤ length W1
     → Taken W X q l hi' (closedBy k o) kids W'
 unfolding closedBy reserve
-section-taken {W1 = W1} {W' = W'} {X = X} {q = q} {l = l} {m = m} {hi = hi} {hi' = hi'} {closer = closer} {o = o} {kids = kids} bs w g count r v h h'
-    opens t close room =
+section-taken {W1 = W1} {W' = W'} {X = X} {q = q} {l = l} {m = m} {hi = hi} {hi' = hi'} {item = item} {o = o} {kids = kids} bs w g count
+    r v h h' opens t close room =
     let e = sym count in
     let low = v .low in let high = v .high in let own = tree-below v in
     let owned = give-owned w g e r in
-    let token = token-closed W1 W' q closer close room (give-token w g e r t) (give-token w g e r (v .token)) in
+    let token = token-closed W1 W' q item close room (give-token w g e r t) (give-token w g e r (v .token)) in
     record {
       tree = section-tree kids token (v .pos) (v .out) (tree-out v) (v .low) (omega arith) opens
-          (owned-store W1 W' (word 7 (endAt W1 closer)) close (omega arith) (omega arith)
-          (record { cs = owned .cs; chain = owned .chain; notes = owned .notes; kids = rep-raise h' (rep-lower (omega arith) (owned .kids)) }));
+          (owned-store W1 W' (word 7 (endAt W1 item)) close (omega arith) (omega arith)
+          (record {
+            cs = owned .cs;
+            chain = owned .chain;
+            notes = owned .notes;
+            kids = rep-raise h' (rep-lower (omega arith) (owned .kids));
+          }));
       same = λ j f.
-          set-other W1 W' (closeWord q) (word 7 (endAt W1 closer)) close j (f q 4 low (omega arith) (omega arith) (tree-out v))
+          set-other W1 W' (closeWord q) (word 7 (endAt W1 item)) close j (f q 4 low (omega arith) (omega arith) (tree-out v))
           ∙ give-kept w g e (rep-lower (omega arith) r) (v .low) (omega arith) (tree-out v) j (free-part X l hi' l hi j (le-refl l) h' f);
     }
 
@@ -109,6 +114,12 @@ close-differs {t = t} {cs = cs} (inner {i = j} {o = o} {d = d} {s = s'} st z v e
     ∙ ap (λ (q : ℕ). mismatch (closingMismatch o q t i ∷ sectionNotClosed (outermost o s') ∷ [])) (sym (b .start)) in
     rw is (ends (mismatched (b .inner-token) (tree .token) (b .outer-token)))
 
+-- The walk goes on after the opener that is written at the place p, of the k-th section; the words beside the interval are as they were.
+abbrev Closes : List ℕ → List ℕ → List ℕ → ℕ → ℕ → ℕ → ℕ → ℕ → ℕ → ℕ → ℕ → Walked → Type 0
+Closes W W' X base marks lo m k w p i walked =
+    Follows W' X base marks lo m w i (On (record { write = p + 1; depth = k - 1; index = i })) walked
+    × ((j : ℕ) → Free X lo m j → wd W' j ≡ wd W j)
+
 -- it is the innermost section's: the words of its interval change, and no others
 close-takes : {W X : List ℕ} {base marks lo l m k w item : ℕ} {s : Open} {t : Token} {cs : Forest} → Standing W X base marks lo l k w s
     → k ≢ 0 → RepT W X item l m t cs
@@ -116,12 +127,12 @@ close-takes : {W X : List ℕ} {base marks lo l m k w item : ℕ} {s : Open} {t 
     → x ≡ Option·getD (closingOf (opAt W (wd W (base + p)))) 0 → y ≡ opAt W item → x ≡ y
     → Given W (wd W (base + p)) (base + (p + 1)) (w - (p + 1)) W1
     → W' ≡ set W1 (closeWord (wd W (base + p))) (word 7 (endAt W1 item)) → slotEnd (wd W (base + p)) ≤ length W1
-    → Follows W' X base marks lo m w i (On (record { write = p + 1; depth = k - 1; index = i })) (closing t cs i s) × ((j : ℕ) → Free X lo m j → wd W' j ≡ wd W j)
+    → Closes W W' X base marks lo m k w p i (closing t cs i s)
 unfolding closer
 close-takes (outer v e) n tree below apart p x y i W1 W' ep ex ey h a close room = absurd (n e)
 close-takes {W} {X} {base} {marks} {lo} {l} {m} {k} {w} {item} {t = t} {cs = cs}
-    (inner {l = l'} {m = m'} {k' = k'} {w' = w'} {v = r} {i = j} {o = o} {d = d} {s = s'} st z v e) n tree below apart p x y i W1 W' ep ex ey h a
-    close room =
+    (inner {l = l'} {m = m'} {k' = k'} {w' = w'} {v = r} {i = j} {o = o} {d = d} {s = s'} st z v e) n tree below apart p x y i W1 W' ep ex ey h
+    a close room =
     let b = opener-le z in
     let c = back-le (v .done) in
     let tl = tree .low in let th = tree-below tree in let sl = standing-le st in
@@ -136,7 +147,8 @@ close-takes {W} {X} {base} {marks} {lo} {l} {m} {k} {w} {item} {t = t} {cs = cs}
     written-array
     (record { ds = v .ds; done = back-avoid (λ s' from to out. (omega arith, out)) (v .done); run = v .run; wrote = v .wrote }) in
     let taken : Taken W X (z .q) l' m (closedBy t o) (inOrder d) W' =
-    section-taken (array .bs) given (array .seg) (array .count) (array .rep) (z .leaf) c (omega arith) (z .opens) (tree .token) closed inside in
+    section-taken (array .bs) given (array .seg) (array .count) (array .rep) (z .leaf) c (omega arith) (z .opens) (tree .token) closed
+    inside in
     let above : (j : ℕ) → base ≤ j → wd W' j ≡ wd W j = λ j h. taken .same j (free-above X l' m j (omega arith)) in
     let low : (j : ℕ) → j < slotStart l' → wd W' j ≡ wd W j = λ j h. taken .same j (λ s o from to inside out. omega arith) in
     let before : Standing W' X base marks lo l' k' w' s' =
@@ -162,7 +174,7 @@ close-closed {W} {base} {marks} {k} {w} {item} n p x y i W1 W' ep ex ey h a clos
     }
   where
     takes : (g : LookAt W base marks w k item)
-        → Follows W' (g .X) base marks (g .lo) (g .m) w i (On (record { write = p + 1; depth = k - 1; index = i })) (closing (g .k) (g .cs) i (g .s)) × ((j : ℕ) → Free (g .X) (g .lo) (g .m) j → wd W' j ≡ wd W j)
+        → Closes W W' (g .X) base marks (g .lo) (g .m) k w p i (closing (g .k) (g .cs) i (g .s))
     takes g = close-takes (g .standing) n (g .tree) (g .below) (g .apart) p x y i W1 W' ep ex ey h a close room
 
 -- ---- `look`

@@ -31,7 +31,8 @@ returns c =
     let start = token .before .before .before in
     let a = start .args in
     node-emitted (a .work .now) (laid .lay-node .last .1 .0) (a .s) (a .at) (count .count-chain .result) (start .pre)
-    (rw (count .before .first-of .ensures) at (count .count-chain .ensures)) (rw (made .token .ensures, token .token-of .ensures) at (laid .lay-node .ensures))
+    (rw (count .before .first-of .ensures) at (count .count-chain .ensures))
+    (rw (made .token .ensures, token .token-of .ensures) at (laid .lay-node .ensures))
 
 pub emit-node-spec : {M : Type 1} → statement M
 emit-node-spec =

@@ -51,7 +51,8 @@ returns c =
     let a = start .args in
     token-stores (a .list .now) (a .work .now) (a .table .now) (a .i) (a .stack) (start .pre) (laid .set-leaf .last .0)
     (slot .slot-of .result) (classes .leaf-classes .result .0) (classes .before .operator .result) (slot .slot-of .ensures)
-    (rw (stored .of .ensures, token .at .ensures) at (laid .set-leaf .ensures)) (rw (token .at .ensures) at (classes .before .operator .ensures)) (classes .leaf-classes .ensures)
+    (rw (stored .of .ensures, token .at .ensures) at (laid .set-leaf .ensures))
+    (rw (token .at .ensures) at (classes .before .operator .ensures)) (classes .leaf-classes .ensures)
 
 pub load-token-spec : {M : Type 1} → statement M
 load-token-spec =

@@ -23,7 +23,8 @@ returns-2 c =
     let token = c .before .before in
     let a = token .before .before .args in
     let variant = c .before .variant in
-    a-host (a .work .now) (a .s) (variant .result) (token .token-of .result .value) (rw (token .token-of .ensures) at (variant .ensures)) (c .if1 .left)
+    a-host (a .work .now) (a .s) (variant .result) (token .token-of .result .value)
+    (rw (token .token-of .ensures) at (variant .ensures)) (c .if1 .left)
     (ap (λ k. k .value) (token .token-of .ensures))
 
 pub host-value-spec : {M : Type 1} → statement M
