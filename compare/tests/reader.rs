@@ -128,8 +128,8 @@ fn a_written_script_reads_as_the_same_tree_at_three_versions() {
 
 #[test]
 fn every_short_script_reads_as_the_same_tree_at_three_versions() {
-    let again = read_again(calls::over_scripts(5));
-    assert!(again > 500, "only {again} lists were read again");
+    let again = read_again(calls::over_scripts(6));
+    assert!(again > 1_000, "only {again} lists were read again");
 }
 
 #[test]

@@ -74,13 +74,24 @@ fn a_pair_takes_in_the_pairs_below_it_and_nothing_beside_it() {
 }
 
 #[test]
-fn an_extent_is_a_lowest_start_and_a_highest_end_whatever_their_order() {
-    let mut nodes = [node(6, 1, 0), node(31, 2, 2), float(1), float(3)];
-    for (node, span) in nodes.iter_mut().zip([(0, 0), (70, 20), (90, 30), (80, 10)]) {
-        (node.token.start, node.token.end) = span;
-    }
+fn an_added_pair_covers_all_below_it_wherever_it_stands() {
+    // The lowest start and the highest end stand in the inner pair's leaves, a start above its end among them.
+    let mut nodes = [
+        node(6, 1, 50),
+        node(9, 2, 40),
+        float(30),
+        node(31, 2, 35),
+        float(20),
+        float(33),
+    ];
+    (nodes[4].token.start, nodes[4].token.end) = (90, 7);
+    (nodes[5].token.start, nodes[5].token.end) = (12, 60);
     let found = spans(&nodes);
-    assert_eq!((found[1], found[5]), ((4, 70, 30), (5, 30, 30)));
+    assert_eq!((found[1], found[9]), ((4, 12, 60), (5, 60, 60)));
+    assert_eq!((found[4], found[8]), ((4, 12, 60), (5, 60, 60)));
+    // What stands beside an operand is none of its extent: the pair of the product begins where the product does.
+    let nodes = [node(9, 2, 1), float(0), node(31, 2, 8), float(7), float(9)];
+    assert_eq!(spans(&nodes)[2], (4, 7, 10));
 }
 
 #[test]
@@ -517,6 +528,21 @@ fn an_opener_that_was_never_closed_is_written_with_a_closer_at_its_own_end() {
     for version in [4, 5, 6] {
         assert_eq!(read_again(&list, version), Some(nodes.clone()));
     }
+}
+
+#[test]
+#[cfg_attr(not(rust_source), ignore = "the Rust source is not at hand")]
+fn a_statement_that_begins_with_an_added_bracket_has_another_span_than_before() {
+    let case = Case::exact(oracle::generate::dress::plain(&[7, 61, 71, 61, 73]), 6);
+    let Some(Some(nodes)) = tree_if_at_hand(&case) else {
+        panic!("73(73(71(7(a),b)))");
+    };
+    let (answer, list) = writer_model::write(&tree_words(&nodes), usize::MAX);
+    assert_eq!(answer, Written::Tokens(7));
+    let again = read_again(&list, 4).expect("the source is at hand");
+    let span = |nodes: &[TreeNode]| (nodes[1].token.start, nodes[1].token.end);
+    assert_eq!((span(&nodes), span(&again)), ((0, 1), (0, 2)));
+    assert_eq!(Tree::of(&again).compared(), Tree::of(&nodes).compared());
 }
 
 #[cfg(library)]

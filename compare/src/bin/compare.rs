@@ -212,8 +212,8 @@ mod run {
     }
 
     fn short_scripts(_: u64, seed: u64) -> Result<u64, (u64, String)> {
-        let name = "every list of up to 6 and a semicolon over three alphabets, at 4, 5 and 6, read, written and read again";
-        rereading(name, calls::over_scripts(6), u64::MAX, seed)
+        let name = "every list of up to 7 and a semicolon over three alphabets, at 4, 5 and 6, read, written and read again";
+        rereading(name, calls::over_scripts(7), u64::MAX, seed)
     }
 
     /// Goes on until `count` lists were written and read again, or to the end of the lists.
