@@ -50,10 +50,11 @@ uint64_t sorbrudder_parse(const uint32_t *list, size_t list_words, uint32_t *tre
                           size_t message_words, uint32_t *work, size_t work_words, uint64_t source_length, int16_t version,
                           uint64_t used_low, uint64_t used_high);
 
-/* Writes the plain tree whose words are `tree` as a list of tokens into the front of `list`; the words after it stay as they were. The
- * closer of a bracket of the tree starts and ends where the bracket closes. Of the other nodes' words of kind 7 only the kind is looked at.
- * Added brackets have payload 0: the opener's span is from the lowest start to the highest end among the spans of its operand and all below
- * it, and its closer starts and ends at that end.
+/* Writes the plain tree whose words are `tree` as a list of tokens into the front of `list`; the words after it stay as they were. A tree
+ * whose root is a semicolon (73) is a script: each of its statements is written with a semicolon after it, of payload 0 and the span of the
+ * node that the statement holds. The closer of a bracket of the tree starts and ends where the bracket closes. Of the other nodes' words of
+ * kind 7 only the kind is looked at. Added brackets have payload 0: the opener's span is from the lowest start to the highest end among the
+ * spans of its operand and all below it, and its closer starts and ends at that end.
  * Done: the number of tokens, five words each. Refused, the list unchanged: 12 not one tree (place: the word, 86,016 at the most), 13 a
  * node that is not plain (place: its number in tree order), 14 more than 4,096 tokens, 15 the list is too short. */
 uint64_t sorbrudder_write(const uint32_t *tree, size_t tree_words, uint32_t *list, size_t list_words);

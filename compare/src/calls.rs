@@ -26,6 +26,30 @@ pub static EIGHTS: [Alphabet; 3] = [
     ),
 ];
 
+/// Operators whose lists are scripts, and what no plain script holds: 41, `:` and 69 under a statement, braces. Every list
+/// ends with a semicolon.
+pub static SCRIPTS: [Alphabet; 3] = [
+    ended(
+        "statements, assignments, returns, brackets",
+        &[61, 73, 71, 74, 4, 5, 6],
+    ),
+    ended(
+        "statements, conditionals, 41, 69",
+        &[61, 73, 41, 60, 69, 59, 4, 5],
+    ),
+    ended(
+        "statements, braces, commas, logic",
+        &[61, 73, 71, 0, 1, 75, 56, 57],
+    ),
+];
+
+const fn ended(name: &'static str, ops: &'static [u8]) -> Alphabet {
+    Alphabet {
+        ending: &[73],
+        ..eight(name, ops)
+    }
+}
+
 const fn eight(name: &'static str, ops: &'static [u8]) -> Alphabet {
     Alphabet {
         name,
@@ -77,6 +101,12 @@ fn over(alphabets: &'static [Alphabet], most: usize) -> impl Iterator<Item = Cal
 /// Every list of up to `most` operators over the alphabets of eight, at versions 4, 5 and 6.
 pub fn over_eights(most: usize) -> impl Iterator<Item = Call> {
     over(&EIGHTS, most)
+}
+
+/// Every list of up to `most` operators and a semicolon over the alphabets of scripts, at versions 4, 5 and 6.
+pub fn over_scripts(most: usize) -> impl Iterator<Item = Case> {
+    let lists = SCRIPTS.iter().flat_map(move |all| all.every_list(most));
+    lists.flat_map(|ops| [4, 5, 6].map(|version| exact(&ops, version)))
 }
 
 /// Every list of up to `most` operators over the generator's small alphabets, at versions 4, 5 and 6.

@@ -43,22 +43,30 @@ pub fn bare(op: u8, children: u32) -> TreeNode {
     }
 }
 
-/// A plain tree of about `size` nodes. As in every tree that is read, only brackets close elsewhere than at their own end.
-pub fn plain(rng: &mut Rng, size: usize) -> Vec<TreeNode> {
-    /// What may come next: an operand, the bracket of a call, or what stands right of `?`.
-    #[derive(Copy, Clone)]
-    enum Wanted {
-        Operand,
-        QueryBracket,
-        MathBracket,
-        RightOfQuestion,
-    }
-    use Wanted::{MathBracket, Operand, QueryBracket, RightOfQuestion};
-    let mut nodes = Vec::new();
-    let mut wanted = vec![Operand];
+/// What may come next in a plain tree: an operand, the bracket of a call, what stands right of `?`, a statement, or what a
+/// statement holds.
+#[derive(Copy, Clone)]
+enum Wanted {
+    Operand,
+    QueryBracket,
+    MathBracket,
+    RightOfQuestion,
+    Statement,
+    Held,
+}
+
+/// Puts a plain tree of about `size` nodes after others. As in every tree that is read, only brackets close elsewhere than
+/// at their own end.
+fn put_plain(rng: &mut Rng, nodes: &mut Vec<TreeNode>, size: usize, root: Wanted) {
+    use Wanted::{Held, MathBracket, Operand, QueryBracket, RightOfQuestion, Statement};
+    let size = nodes.len() + size;
+    let mut wanted = vec![root];
     while let Some(next) = wanted.pop() {
         let grows = nodes.len() + wanted.len() < size;
         let (op, below): (u8, &[Wanted]) = match next {
+            Statement => (73, &[Held]),
+            Held if rng.chance(50) => (71, &[Operand, Operand]),
+            Held if rng.chance(30) => (74, &[Operand]),
             MathBracket if !grows || rng.chance(30) => (4, &[]),
             MathBracket | QueryBracket => (4, &[Operand]),
             RightOfQuestion if rng.chance(70) => (60, &[Operand, Operand]),
@@ -82,7 +90,37 @@ pub fn plain(rng: &mut Rng, size: usize) -> Vec<TreeNode> {
         });
         wanted.extend(below.iter().rev());
     }
+}
+
+/// A plain expression of about `size` nodes.
+pub fn plain(rng: &mut Rng, size: usize) -> Vec<TreeNode> {
+    let mut nodes = Vec::new();
+    put_plain(rng, &mut nodes, size, Wanted::Operand);
     nodes
+}
+
+/// A script of so many statements, each of at most about `most` nodes.
+pub fn script(rng: &mut Rng, statements: usize, most: usize) -> Vec<TreeNode> {
+    let token = token(rng, 73);
+    let mut nodes = vec![TreeNode {
+        token,
+        children: statements as u32,
+        close: token.end,
+    }];
+    for _ in 0..statements {
+        let size = 1 + rng.below(most);
+        put_plain(rng, &mut nodes, size, Wanted::Statement);
+    }
+    nodes
+}
+
+/// A plain tree: two in three are expressions, the others scripts.
+pub fn any(rng: &mut Rng, size: usize) -> Vec<TreeNode> {
+    if rng.chance(67) {
+        return plain(rng, size);
+    }
+    let statements = 1 + rng.below(size.div_ceil(4));
+    script(rng, statements, size.div_ceil(statements))
 }
 
 /// The tree with one node's operator or child count changed, as often plain as not; now and then its nodes close anywhere.
@@ -96,7 +134,7 @@ pub fn disturbed(rng: &mut Rng, mut nodes: Vec<TreeNode>) -> Vec<TreeNode> {
     if rng.chance(80) {
         nodes[node].token.op = match rng.below(3) {
             0 => rng.below(111) as u8,
-            1 => *rng.pick(&[4, 40, 60, 75, 59, 8, 110]),
+            1 => *rng.pick(&[4, 40, 60, 75, 59, 8, 110, 71, 73, 74, 41]),
             _ => *rng.pick(&LEAVES),
         };
     } else {
@@ -109,6 +147,13 @@ pub fn disturbed(rng: &mut Rng, mut nodes: Vec<TreeNode>) -> Vec<TreeNode> {
 pub fn nested_brackets(levels: usize) -> Vec<TreeNode> {
     let mut nodes = vec![bare(4, 1); levels];
     nodes.push(bare(61, 0));
+    nodes
+}
+
+/// A script of statements that hold a leaf each.
+pub fn short_statements(statements: usize) -> Vec<TreeNode> {
+    let mut nodes = vec![bare(73, statements as u32)];
+    nodes.extend([bare(73, 1), bare(61, 0)].repeat(statements));
     nodes
 }
 

@@ -7,7 +7,7 @@ use crate::reading::{Buffers, Expected};
 use crate::writer_model::{self, Tree, Written};
 use oracle::generate::{Mixed, Rng};
 use oracle::refusal::Call;
-use oracle::words::{Case, NODE_WORDS, Token, TreeNode, decode_list, decode_tree, exact_set};
+use oracle::words::{Case, NODE_WORDS, Token, TreeNode, bit, decode_list, decode_tree, exact_set};
 
 /// What became of a list.
 #[derive(Copy, Clone, Debug, PartialEq, Eq)]
@@ -25,22 +25,41 @@ pub enum Reread {
 pub struct Lists {
     rng: Rng,
     mixed: Mixed,
+    /// Whether the trees are scripts, and not expressions.
+    scripts: bool,
 }
 
 impl Lists {
+    /// Lists of expressions.
     pub fn new(seed: u64) -> Self {
         Self {
             rng: Rng::new(seed),
             mixed: Mixed::new(seed, 24),
+            scripts: false,
         }
+    }
+
+    /// Lists of statements.
+    pub fn scripts(seed: u64) -> Self {
+        Self {
+            scripts: true,
+            ..Self::new(seed)
+        }
+    }
+
+    fn nodes(&mut self) -> Vec<TreeNode> {
+        let long = self.rng.chance(2);
+        if self.scripts {
+            let statements = 1 + self.rng.below(if long { 60 } else { 4 });
+            return plain_trees::script(&mut self.rng, statements, 10);
+        }
+        let size = 1 + self.rng.below(if long { 300 } else { 20 });
+        plain_trees::plain(&mut self.rng, size)
     }
 
     /// The tokens of a plain tree, written, without some of its brackets.
     fn unbracketed(&mut self) -> Vec<Token> {
-        let size = 1 + self
-            .rng
-            .below(if self.rng.clone().chance(2) { 300 } else { 20 });
-        let nodes = plain_trees::plain(&mut self.rng, size);
+        let nodes = self.nodes();
         let lost = self.rng.below(100);
         let list = Tree::of(&nodes).written();
         let mut stays = vec![true; list.len()];
@@ -70,8 +89,13 @@ impl Iterator for Lists {
             return self.mixed.next();
         }
         let tokens = self.unbracketed();
+        let mut used = exact_set(&tokens);
+        if self.rng.chance(5) {
+            let other = bit(self.rng.below(111) as u8);
+            used = (used.0 ^ other.0, used.1 ^ other.1);
+        }
         Some(Case {
-            used: exact_set(&tokens),
+            used,
             source_len: 9,
             version: self.rng.below(18) as i16 - 2,
             tokens,
@@ -115,7 +139,7 @@ pub fn reread(buffers: &mut Buffers, rng: &mut Rng, case: &Case) -> Result<Rerea
         return Ok(Reread::Refused);
     }
     let first = decode_tree(&words).ok_or("the tree's words are no tree")?;
-    let away = Tree::of(&first).taken_away();
+    let compared = Tree::of(&first).compared();
     let tokens = decode_list(&list).ok_or("the written words are no list")?;
     for _ in 0..3 {
         let again = Case {
@@ -128,7 +152,7 @@ pub fn reread(buffers: &mut Buffers, rng: &mut Rng, case: &Case) -> Result<Rerea
             },
             tokens: tokens.clone(),
         };
-        let second = reads_as(buffers, &again, &away)?;
+        let second = reads_as(buffers, &again, &compared)?;
         // Lifting twice is lifting once: the same tokens in the same room.
         if write(rng, &second, list.len())? != (answer, list.clone()) {
             return Err(format!("another list after the written {again:?}"));
@@ -137,11 +161,11 @@ pub fn reread(buffers: &mut Buffers, rng: &mut Rng, case: &Case) -> Result<Rerea
     Ok(Reread::Again)
 }
 
-/// The words of the tree that a written list is read as, which is the first tree, brackets taken away.
-fn reads_as(buffers: &mut Buffers, case: &Case, away: &[TreeNode]) -> Result<Vec<u32>, String> {
+/// The words of the tree that a written list is read as, which agrees with the first tree.
+fn reads_as(buffers: &mut Buffers, case: &Case, first: &[TreeNode]) -> Result<Vec<u32>, String> {
     let words = read(buffers, case)?.ok_or_else(|| format!("messages to the written {case:?}"))?;
     let nodes = decode_tree(&words).ok_or("the second tree's words are no tree")?;
-    if Tree::of(&nodes).taken_away() != away {
+    if Tree::of(&nodes).compared() != first {
         return Err(format!("another tree of the written {case:?}"));
     }
     Ok(words)

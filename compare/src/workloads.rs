@@ -204,13 +204,37 @@ fn paired_sums(len: usize, seed: u64) -> Vec<u8> {
     flat_sum(len.div_ceil(2), seed)
 }
 
-const PLAIN: [(&str, Make); 6] = [
+/// Statements of a bracket each, `( a ) ;`: of 4,000 tokens a thousand of them.
+fn short_statements(len: usize, _: u64) -> Vec<u8> {
+    [4, 61, 5, 73].repeat(len / 4)
+}
+
+/// The same tokens as one expression, with commas for semicolons but for the last.
+fn same_with_commas(len: usize, _: u64) -> Vec<u8> {
+    let mut ops = [4, 61, 5, 75].repeat(len / 4);
+    ops.pop();
+    ops
+}
+
+/// `v = a ;`, over and over.
+fn assignments(len: usize, _: u64) -> Vec<u8> {
+    [43, 71, 61, 73].repeat(len / 4)
+}
+
+/// The names of a script and of the same tokens as one expression, which `bench` holds beside each other.
+pub const SCRIPT: &str = "script of short statements";
+pub const SAME_AS_ONE: &str = "the same as one expression";
+
+const PLAIN: [(&str, Make); 9] = [
     ("balanced sums and products", balanced),
     ("nested brackets", brackets),
     ("many arguments", arguments),
     ("ladder in brackets", ladder_in_brackets),
     ("ladder in added pairs", paired_ladder),
     ("sum in added pairs", paired_sums),
+    (SCRIPT, short_statements),
+    (SAME_AS_ONE, same_with_commas),
+    ("script of assignments", assignments),
 ];
 
 /// Lists whose trees the writer takes, of about `len` written tokens.

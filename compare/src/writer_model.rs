@@ -1,12 +1,16 @@
-//! Plain, writing and taking away, from document 01's 'Writing a plain tree', lines 12 to 15 of its table, and cards 2
-//! and 3. Nothing here follows the library: trees are an arena of nodes, each with its parent, answer 12 asks of a prefix
-//! of the words whether any tree goes on from it, and the extent of an operand is looked for anew at each added pair.
+//! Plain, writing and taking away, from document 01's 'Writing a plain tree', lines 12 to 15 of its table, and cards 1,
+//! 2 and 3. Nothing here follows the library: trees are an arena of nodes, each with its parent, answer 12 asks of a prefix
+//! of the words whether any tree goes on from it, and the extent of an operand is looked for anew at each added pair. Plain
+//! is judged twice: a node at a time by its neighbours' operators, and from the root down by card 1's sentence.
 
 use oracle::words::{NODE_WORDS, TOKEN_WORDS, Token, TreeNode, decode_tree, kind, list_words, low};
 
 /// The most nodes of a tree, and the most tokens of a list.
 pub const MOST_NODES: usize = 12_288;
 pub const MOST_TOKENS: usize = 4_096;
+
+/// A script's root and statements, and what is written after each.
+pub const SEMICOLON: u8 = 73;
 
 /// What the write entry answers.
 #[derive(Copy, Clone, Debug, PartialEq, Eq)]
@@ -62,8 +66,12 @@ impl Tree {
         self.op(node) == 4
     }
 
-    /// Whether the node has one of document 01's plain forms.
-    fn is_plain(&self, node: usize) -> bool {
+    fn is_semicolon(&self, node: usize) -> bool {
+        self.op(node) == SEMICOLON
+    }
+
+    /// Whether the node has one of document 01's plain forms, all of them of expressions.
+    fn is_expression(&self, node: usize) -> bool {
         let op = self.op(node);
         let parent = self.parents[node].map(|(parent, child)| (self.op(parent), child));
         match *self.children[node] {
@@ -85,12 +93,69 @@ impl Tree {
         }
     }
 
+    /// Whether the node has a plain form, by its own, its parent's and its children's operators. A semicolon is blamed only
+    /// where its child could not be: as root for children that are none, else for a child that is one, or for their number.
+    fn is_plain(&self, node: usize) -> bool {
+        let under_semicolon = match self.parents[node] {
+            None => false,
+            Some((parent, _)) => self.is_semicolon(parent),
+        };
+        match (self.op(node), &self.children[node][..]) {
+            (SEMICOLON, []) => false,
+            (SEMICOLON, below) if node == 0 => below.iter().all(|&child| self.is_semicolon(child)),
+            (SEMICOLON, &[only]) => under_semicolon && !self.is_semicolon(only),
+            (SEMICOLON, _) => false,
+            (71, [_, _]) | (74, [_]) => under_semicolon,
+            _ => self.is_expression(node),
+        }
+    }
+
+    /// The first of a tree's nodes that is no plain expression; the tree's numbers follow its root's.
+    fn no_expression(&self, root: usize) -> Option<usize> {
+        let mut last = root;
+        while let Some(&child) = self.children[last].last() {
+            last = child;
+        }
+        (root..=last).find(|&node| !self.is_expression(node))
+    }
+
+    /// What is not plain of a statement: it has one child, a plain expression, a 71 over two or a 74 over one.
+    fn no_statement(&self, statement: usize) -> Option<usize> {
+        let [held] = *self.children[statement] else {
+            return Some(statement);
+        };
+        match (self.op(held), &self.children[held][..]) {
+            (SEMICOLON, _) => Some(statement),
+            (71, &[left, right]) => self
+                .no_expression(left)
+                .or_else(|| self.no_expression(right)),
+            (74, &[only]) => self.no_expression(only),
+            _ => self.no_expression(held),
+        }
+    }
+
+    /// The number of the first node that is not plain, by card 1's sentence from the root down.
+    pub fn unplain_by_the_sentence(&self) -> Option<usize> {
+        if !self.is_semicolon(0) {
+            return self.no_expression(0);
+        }
+        let statements = &self.children[0];
+        if statements.is_empty() || !statements.iter().all(|&child| self.is_semicolon(child)) {
+            return Some(0);
+        }
+        let mut faults = statements.iter();
+        faults.find_map(|&statement| self.no_statement(statement))
+    }
+
     /// Whether the node is written inside an added pair.
     fn is_paired(&self, node: usize) -> bool {
         let Some((parent, child)) = self.parents[node] else {
             return false;
         };
         if self.children[node].is_empty() || self.is_bracket(node) || self.is_bracket(parent) {
+            return false;
+        }
+        if self.is_semicolon(parent) {
             return false;
         }
         !matches!(
@@ -111,16 +176,18 @@ impl Tree {
         (low, high)
     }
 
-    /// The number of the first node that is not plain.
+    /// The number of the first node that is not plain, a node at a time.
     pub fn unplain(&self) -> Option<usize> {
         (0..self.tokens.len()).find(|&node| !self.is_plain(node))
     }
 
-    /// How many tokens a plain tree is written as: each node, a closer for each bracket, the added pairs.
+    /// How many tokens a plain tree is written as: each node but the root of a script (a statement is its semicolon), a
+    /// closer for each bracket, the added pairs.
     fn written_count(&self) -> usize {
         let tokens =
             |node| 1 + usize::from(self.is_bracket(node)) + 2 * usize::from(self.is_paired(node));
-        (0..self.tokens.len()).map(tokens).sum()
+        let all: usize = (0..self.tokens.len()).map(tokens).sum();
+        all - usize::from(self.is_semicolon(0))
     }
 
     /// The tokens of a plain tree.
@@ -144,9 +211,17 @@ impl Tree {
             let pair = self.is_paired(node).then(|| self.extent(node));
             let mut row = Vec::new();
             if let Some((start, end)) = pair {
-                row.push(Step::Put(bracket(4, start, end)));
+                row.push(Step::Put(spanning(4, start, end)));
             }
             match *self.children[node] {
+                _ if node == 0 && self.is_semicolon(node) => {
+                    row.extend(self.children[node].iter().map(|&child| Step::Node(child)));
+                }
+                [held] if self.is_semicolon(node) => {
+                    let span = self.tokens[held];
+                    let semicolon = spanning(SEMICOLON, span.start, span.end);
+                    row.extend([Step::Node(held), Step::Put(semicolon)]);
+                }
                 [left, right] => {
                     row.extend([Step::Node(left), Step::Put(own), Step::Node(right)]);
                 }
@@ -157,10 +232,10 @@ impl Tree {
             }
             if self.is_bracket(node) {
                 // The closer of a bracket of the tree starts and ends where the bracket closes.
-                row.push(Step::Put(bracket(5, self.closes[node], self.closes[node])));
+                row.push(Step::Put(spanning(5, self.closes[node], self.closes[node])));
             }
             if let Some((_, end)) = pair {
-                row.push(Step::Put(bracket(5, end, end)));
+                row.push(Step::Put(spanning(5, end, end)));
             }
             steps.extend(row.into_iter().rev());
         }
@@ -183,6 +258,18 @@ impl Tree {
         })
         .collect()
     }
+
+    /// What is compared of the tree: its brackets are taken away, and where its root is a semicolon nothing but the operator
+    /// and the children of a semicolon counts.
+    pub fn compared(&self) -> Vec<TreeNode> {
+        let mut nodes = self.taken_away();
+        if nodes.first().is_some_and(|root| root.token.op == SEMICOLON) {
+            for node in nodes.iter_mut().filter(|node| node.token.op == SEMICOLON) {
+                (node.token, node.close) = (spanning(SEMICOLON, 0, 0), 0);
+            }
+        }
+        nodes
+    }
 }
 
 fn is_math_call(op: u8) -> bool {
@@ -194,7 +281,8 @@ pub fn is_call(op: u8) -> bool {
     op == 40 || is_math_call(op)
 }
 
-fn bracket(op: u8, start: u32, end: u32) -> Token {
+/// A token with payload 0.
+fn spanning(op: u8, start: u32, end: u32) -> Token {
     Token {
         op,
         variant: 0,
@@ -250,7 +338,9 @@ pub fn write(words: &[u32], room: usize) -> (Written, Vec<u32>) {
         return refused(12, place);
     }
     let tree = Tree::of(&decode_tree(words).expect("the words are one tree"));
-    if let Some(node) = tree.unplain() {
+    let unplain = tree.unplain();
+    assert_eq!(unplain, tree.unplain_by_the_sentence(), "{words:x?}");
+    if let Some(node) = unplain {
         return refused(13, node);
     }
     let count = tree.written_count();

@@ -9,6 +9,7 @@ use compare::rereading::{self, Lists, Reread};
 use oracle::generate::Rng;
 use oracle::refusal::Call;
 use oracle::vectors::{Stored, stored};
+use oracle::words::Case;
 
 /// Compares all calls; the counts of trees, messages and refusals.
 fn compared(calls: impl Iterator<Item = Call>) -> (u64, u64, u64) {
@@ -98,19 +99,37 @@ fn used_sets_that_are_not_exact() {
     assert!(trees > 5_000 && messages > 5_000 && refused == 0);
 }
 
-#[test]
-fn a_written_list_reads_as_the_same_tree_at_three_versions() {
+/// How many of the lists were written, read again at three versions and written again, without a difference.
+fn read_again(lists: impl Iterator<Item = Case>) -> usize {
     let mut buffers = Buffers::default();
     let mut rng = Rng::new(5);
     let mut again = 0;
-    for case in Lists::new(5).take(60_000) {
+    for case in lists {
         match rereading::reread(&mut buffers, &mut rng, &case) {
             Ok(Reread::Again) => again += 1,
             Ok(_) => {}
             Err(difference) => panic!("{difference}\nof {case:?}"),
         }
     }
+    again
+}
+
+#[test]
+fn a_written_list_reads_as_the_same_tree_at_three_versions() {
+    let again = read_again(Lists::new(5).take(60_000));
     assert!(again > 20_000, "only {again} lists were read again");
+}
+
+#[test]
+fn a_written_script_reads_as_the_same_tree_at_three_versions() {
+    let again = read_again(Lists::scripts(7).take(60_000));
+    assert!(again > 20_000, "only {again} scripts were read again");
+}
+
+#[test]
+fn every_short_script_reads_as_the_same_tree_at_three_versions() {
+    let again = read_again(calls::over_scripts(6));
+    assert!(again > 1_000, "only {again} lists were read again");
 }
 
 #[test]

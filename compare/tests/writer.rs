@@ -167,6 +167,169 @@ fn a_lone_colon_is_not_plain() {
     assert_eq!(refusal(&tree_words(&nodes)), Written::Refused(13, 0));
 }
 
+/// The answer to a tree of operators and child counts, all of payload 0 and span 0 to 0.
+fn answer(nodes: &[(u8, u32)]) -> Written {
+    let nodes: Vec<TreeNode> = nodes.iter().map(|&(op, below)| bare(op, below)).collect();
+    refusal(&tree_words(&nodes))
+}
+
+#[test]
+fn answer_13_blames_a_semicolon_only_where_its_child_could_not_be() {
+    let places: [(&[(u8, u32)], usize); 17] = [
+        // 73(a), 73(73(41),a), 73
+        (&[(73, 1), (61, 0)], 0),
+        (&[(73, 2), (73, 1), (41, 0), (61, 0)], 0),
+        (&[(73, 0)], 0),
+        // 73(73(73(a))), 73(73(a,b)), 73(73), 73(73(a),73)
+        (&[(73, 1), (73, 1), (73, 1), (61, 0)], 1),
+        (&[(73, 1), (73, 2), (61, 0), (61, 0)], 1),
+        (&[(73, 1), (73, 0)], 1),
+        (&[(73, 2), (73, 1), (61, 0), (73, 0)], 3),
+        // 73(73(41)), 73(73(69)) of `break ;`, 73(73(60(a,b)))
+        (&[(73, 1), (73, 1), (41, 0)], 2),
+        (&[(73, 1), (73, 1), (69, 0)], 2),
+        (&[(73, 1), (73, 1), (60, 2), (61, 0), (61, 0)], 2),
+        // 73(73(71(a))), 73(73(74(a,b))), 73(73(74))
+        (&[(73, 1), (73, 1), (71, 1), (61, 0)], 2),
+        (&[(73, 1), (73, 1), (74, 2), (61, 0), (61, 0)], 2),
+        (&[(73, 1), (73, 1), (74, 0)], 2),
+        // 73(73(4(71(a,b)))), 73(73(74(74(a)))), 4(73(73(a)))
+        (&[(73, 1), (73, 1), (4, 1), (71, 2), (61, 0), (61, 0)], 3),
+        (&[(73, 1), (73, 1), (74, 1), (74, 1), (61, 0)], 3),
+        (&[(4, 1), (73, 1), (73, 1), (61, 0)], 1),
+        // 71(a,b)
+        (&[(71, 2), (61, 0), (61, 0)], 0),
+    ];
+    for (nodes, place) in places {
+        assert_eq!(answer(nodes), Written::Refused(13, place), "{nodes:?}");
+    }
+    // 73(73(71(a,71(b,c))))
+    let chain = [
+        (73, 1),
+        (73, 1),
+        (71, 2),
+        (61, 0),
+        (71, 2),
+        (61, 0),
+        (61, 0),
+    ];
+    assert_eq!(answer(&chain), Written::Refused(13, 4));
+    assert_eq!(answer(&[(74, 1), (61, 0)]), Written::Refused(13, 0));
+}
+
+#[test]
+fn each_statement_is_written_with_a_semicolon_of_its_childs_span() {
+    // v = a ? b : c ; return - x ; ( y ) ;
+    let mut nodes = [
+        node(73, 3, 1),
+        node(73, 1, 0),
+        node(71, 2, 1),
+        float(0),
+        node(59, 2, 3),
+        float(2),
+        node(60, 2, 5),
+        float(4),
+        float(6),
+        node(73, 1, 8),
+        node(74, 1, 8),
+        node(6, 1, 9),
+        float(10),
+        node(73, 1, 12),
+        node(4, 1, 12),
+        float(13),
+    ];
+    nodes[14].close = 15;
+    for node in &mut nodes {
+        (node.token.variant, node.token.value) = (3, 7);
+    }
+    let list = [
+        (61, 0, 1),
+        (71, 1, 2),
+        (4, 2, 7),
+        (61, 2, 3),
+        (59, 3, 4),
+        (61, 4, 5),
+        (60, 5, 6),
+        (61, 6, 7),
+        (5, 7, 7),
+        (73, 1, 2),
+        (74, 8, 9),
+        (4, 9, 11),
+        (6, 9, 10),
+        (61, 10, 11),
+        (5, 11, 11),
+        (73, 8, 9),
+        (4, 12, 13),
+        (61, 13, 14),
+        (5, 15, 15),
+        (73, 12, 13),
+    ];
+    assert_eq!(spans(&nodes), list);
+    let written = Tree::of(&nodes).written();
+    let made = written.iter().filter(|token| token.variant == 0);
+    let made: Vec<u8> = made.map(|token| token.op).collect();
+    assert_eq!(made, [4, 5, 73, 4, 5, 73, 5, 73], "these have payload 0");
+}
+
+#[test]
+fn semicolons_are_compared_by_their_operators_under_a_semicolon_alone() {
+    let (statement, leaf) = (node(73, 1, 5), float(3));
+    let script = [node(73, 1, 4), statement, leaf];
+    let blank = |children| bare(73, children);
+    let compared = Tree::of(&script).compared();
+    assert_eq!(compared, [blank(1), blank(1), leaf]);
+    // Not of a block, nor of a lone statement in a call's bracket.
+    for root in [0, 36] {
+        let other = [node(root, 1, 4), statement, leaf];
+        assert_eq!(Tree::of(&other).compared(), other);
+    }
+}
+
+/// Every tree of at most `most` nodes, as its nodes' operators and child counts.
+fn every_tree(ops: &[u8], most: usize, mut each: impl FnMut(&[(u8, u32)])) {
+    /// Adds the nodes that are still called for.
+    fn grow(
+        ops: &[u8],
+        most: usize,
+        called: usize,
+        nodes: &mut Vec<(u8, u32)>,
+        each: &mut impl FnMut(&[(u8, u32)]),
+    ) {
+        if called == nodes.len() {
+            return each(nodes);
+        }
+        for &op in ops {
+            for below in 0..=most - called {
+                nodes.push((op, below as u32));
+                grow(ops, most, called + below, nodes, each);
+                nodes.pop();
+            }
+        }
+    }
+    grow(ops, most, 1, &mut Vec::new(), &mut each);
+}
+
+/// Leaves, brackets, `?`, `:`, what a statement holds, semicolons and what is never plain.
+const OF_SCRIPTS: [u8; 8] = [61, 4, 59, 60, 71, 73, 74, 41];
+
+#[test]
+fn small_trees_are_judged_alike_from_the_root_down_and_a_node_at_a_time() {
+    let (mut plain, mut scripts) = (0, 0);
+    every_tree(&OF_SCRIPTS, 5, |nodes| {
+        let bares: Vec<TreeNode> = nodes.iter().map(|&(op, below)| bare(op, below)).collect();
+        let tree = Tree::of(&bares);
+        assert_eq!(tree.unplain(), tree.unplain_by_the_sentence(), "{nodes:?}");
+        if tree.unplain().is_none() {
+            plain += 1;
+            scripts += usize::from(nodes[0].0 == 73);
+        }
+    });
+    assert!(
+        plain > 20 && scripts > 5,
+        "{plain} plain, {scripts} scripts"
+    );
+}
+
 #[test]
 fn an_empty_bracket_is_plain_under_a_math_call_only() {
     let calls = |op| tree_words(&[bare(op, 1), bare(4, 0)]);
@@ -259,6 +422,23 @@ fn the_limits_of_nodes_and_tokens() {
     assert_eq!(refusal(&tree_words(&not)), Written::Tokens(4_096));
     let commas = tree_words(&plain_trees::comma_list(2_048));
     assert_eq!(refusal(&commas), Written::Tokens(4_095));
+    let statements = |count| tree_words(&plain_trees::short_statements(count));
+    assert_eq!(refusal(&statements(1_000)), Written::Tokens(2_000));
+    assert_eq!(refusal(&statements(2_048)), Written::Tokens(4_096));
+    assert_eq!(refusal(&statements(2_049)), Written::Refused(14, 0));
+    assert_eq!(refusal(&statements(6_143)), Written::Refused(14, 0));
+    // The last statement's leaf is one node too many.
+    let place = 7 * 12_287 + 5;
+    assert_eq!(refusal(&statements(6_144)), Written::Refused(12, place));
+    assert_eq!(refusal(&odd_script()), Written::Refused(14, 0));
+}
+
+/// 2,047 statements of a leaf and one of `! a`: 4,097 tokens.
+fn odd_script() -> Vec<u32> {
+    let mut nodes = plain_trees::short_statements(2_047);
+    nodes[0].children += 1;
+    nodes.extend([bare(73, 1), bare(7, 1), bare(61, 0)]);
+    tree_words(&nodes)
 }
 
 /// Reads a list at a version, if the Rust source is at hand.
@@ -285,13 +465,14 @@ fn tree_if_at_hand(case: &Case) -> Option<Option<Vec<TreeNode>>> {
     }
 }
 
-/// The written list of a plain tree reads as the tree, brackets taken away, at four versions, and what was read is written
-/// as the same list: lifting twice is lifting once.
+/// The written list of a plain tree reads as the tree, brackets taken away and semicolons compared by their operators, at
+/// four versions, and what was read is written as the same list: lifting twice is lifting once.
 fn reads_as_written(rng: &mut Rng, nodes: &[TreeNode], list: &[u32]) {
-    let away = Tree::of(nodes).taken_away();
+    let compared = Tree::of(nodes).compared();
     for version in [4, 5, 6, rng.below(20) as i16 - 3] {
         if let Some(again) = read_again(list, version) {
-            assert_eq!(Tree::of(&again).taken_away(), away, "at version {version}");
+            let again_compared = Tree::of(&again).compared();
+            assert_eq!(again_compared, compared, "at version {version}");
             let (_, twice) = writer_model::write(&tree_words(&again), usize::MAX);
             assert_eq!(twice, list, "at version {version}");
         }
@@ -304,7 +485,7 @@ fn a_written_tree_reads_as_it_was() {
     let mut rng = Rng::new(11);
     for round in 0..20_000 {
         let size = 1 + rng.below(if round % 50 == 0 { 900 } else { 24 });
-        let nodes = plain_trees::plain(&mut rng, size);
+        let nodes = plain_trees::any(&mut rng, size);
         let (answer, list) = writer_model::write(&tree_words(&nodes), usize::MAX);
         if let Written::Tokens(_) = answer {
             reads_as_written(&mut rng, &nodes, &list);
@@ -349,6 +530,21 @@ fn an_opener_that_was_never_closed_is_written_with_a_closer_at_its_own_end() {
     }
 }
 
+#[test]
+#[cfg_attr(not(rust_source), ignore = "the Rust source is not at hand")]
+fn a_statement_that_begins_with_an_added_bracket_has_another_span_than_before() {
+    let case = Case::exact(oracle::generate::dress::plain(&[7, 61, 71, 61, 73]), 6);
+    let Some(Some(nodes)) = tree_if_at_hand(&case) else {
+        panic!("73(73(71(7(a),b)))");
+    };
+    let (answer, list) = writer_model::write(&tree_words(&nodes), usize::MAX);
+    assert_eq!(answer, Written::Tokens(7));
+    let again = read_again(&list, 4).expect("the source is at hand");
+    let span = |nodes: &[TreeNode]| (nodes[1].token.start, nodes[1].token.end);
+    assert_eq!((span(&nodes), span(&again)), ((0, 1), (0, 2)));
+    assert_eq!(Tree::of(&again).compared(), Tree::of(&nodes).compared());
+}
+
 #[cfg(library)]
 mod library {
     use super::*;
@@ -389,6 +585,16 @@ mod library {
         ] {
             assert_eq!(agrees_in(&mut rng, &longest, room), answer);
             assert_eq!(agrees_in(&mut rng, &longer, room), Written::Refused(14, 0));
+        }
+        let script = tree_words(&plain_trees::short_statements(2_048));
+        for (room, answer) in [
+            (20_480, Written::Tokens(4_096)),
+            (20_479, Written::Refused(15, 0)),
+            (0, Written::Refused(15, 0)),
+        ] {
+            assert_eq!(agrees_in(&mut rng, &script, room), answer);
+            let longer = agrees_in(&mut rng, &odd_script(), room);
+            assert_eq!(longer, Written::Refused(14, 0));
         }
         let leaf = tree_words(&[bare(61, 0)]);
         for (room, answer) in [
@@ -475,7 +681,7 @@ mod library {
         let mut answers = [0; 4];
         for round in 0..60_000 {
             let size = 1 + rng.below(if round % 50 == 0 { 6_000 } else { 20 });
-            let mut nodes = plain_trees::plain(&mut rng, size);
+            let mut nodes = plain_trees::any(&mut rng, size);
             if rng.chance(60) {
                 nodes = plain_trees::disturbed(&mut rng, nodes);
             }
@@ -492,7 +698,7 @@ mod library {
         let mut rng = Rng::new(22);
         for _ in 0..60_000 {
             let size = 1 + rng.below(12);
-            let nodes = plain_trees::plain(&mut rng, size);
+            let nodes = plain_trees::any(&mut rng, size);
             let mut words = tree_words(&nodes);
             for _ in 0..1 + rng.below(2) {
                 let place = rng.below(words.len());
@@ -525,6 +731,8 @@ mod library {
                         nodes.extend((0..below).map(|_| bare([61, 4][below as usize % 2], 0)));
                     }
                     agrees(&mut rng, &tree_words(&nodes));
+                    let script = [vec![bare(73, 1), bare(73, 1)], nodes];
+                    agrees(&mut rng, &tree_words(&script.concat()));
                 }
             }
         }
@@ -541,7 +749,50 @@ mod library {
             agrees(&mut rng, &tree_words(&plain_trees::comma_list(size)));
             agrees(&mut rng, &tree_words(&plain_trees::right_sums(size)));
             agrees(&mut rng, &tree_words(&vec![bare(7, 1); size]));
+            let statements = plain_trees::short_statements(size.div_ceil(2));
+            agrees(&mut rng, &tree_words(&statements));
+            let empty = [vec![bare(73, size as u32 - 1)], vec![bare(73, 0); size - 1]];
+            agrees(&mut rng, &tree_words(&empty.concat()));
         }
+    }
+
+    #[test]
+    fn every_small_tree_with_semicolons() {
+        let mut rng = Rng::new(30);
+        every_tree(&OF_SCRIPTS, 4, |nodes| {
+            let dressed = nodes.iter().map(|&(op, below)| {
+                let token = plain_trees::token(&mut rng, op);
+                let (children, close) = (below, token.end);
+                TreeNode {
+                    token,
+                    children,
+                    close,
+                }
+            });
+            let words = tree_words(&dressed.collect::<Vec<_>>());
+            agrees(&mut rng, &words);
+        });
+    }
+
+    #[test]
+    fn scripts_of_a_thousand_statements_and_of_4096_tokens() {
+        let mut rng = Rng::new(31);
+        let mut longest = 0;
+        for statements in [1, 2, 999, 1_000, 1_001, 1_024] {
+            for most in [1, 4, 6] {
+                let nodes = plain_trees::script(&mut rng, statements, most);
+                for last in 0..3 {
+                    let mut nodes = nodes.clone();
+                    let disturbed = nodes.len() - 1 - last.min(nodes.len() - 1);
+                    nodes[disturbed].token.op = [61, 73, 71][last];
+                    agrees(&mut rng, &tree_words(&nodes));
+                }
+                if let Written::Tokens(tokens) = agrees(&mut rng, &tree_words(&nodes)) {
+                    longest = longest.max(tokens);
+                }
+            }
+        }
+        assert!(longest > 2_000, "only {longest} tokens");
     }
 
     #[test]

@@ -5,9 +5,10 @@
 //!
 //! A file is little-endian words. A list is a word of kind 0 whose bits 0-15 are its version, as `treelist` reads it, and
 //! its tokens' words up to the next word of kind 0. The output has the same lists in the same order, at the new version. A
-//! list that cannot be lifted stays as it is, at its own version, and is named. `--sample` writes a file to try.
+//! list that cannot be lifted stays as it is, at its own version, and is named. The last line counts the lists, and how many
+//! of those that are now at the new version are scripts. `--sample` writes a file to try.
 
-use sorbrudder::{LiftError, Lifter, ReadError, Tokens};
+use sorbrudder::{LiftError, Lifter, Op, ReadError, Tokens};
 use std::error::Error;
 use std::ffi::{OsStr, OsString};
 use std::io::{IsTerminal as _, Write as _};
@@ -57,6 +58,8 @@ fn sample(file: &Path) -> Result<(), Box<dyn Error>> {
         (5, "a > b == c"),
         (4, "a + b * c"),
         (4, "{ a = b ; } ;"),
+        (4, "v = a ? b : c ? d : e ; return v ;"),
+        (4, "v = a + b ;"),
         (4, "a : b"),
         (6, "a + ( b"),
     ];
@@ -93,6 +96,8 @@ fn lists_of(words: &[u32]) -> Result<Vec<List<'_>>, Box<dyn Error>> {
 struct Totals {
     unchanged: usize,
     changed: usize,
+    /// Of the unchanged and the changed.
+    scripts: usize,
     no_tree: usize,
     not_written: usize,
     turned_back: usize,
@@ -121,10 +126,11 @@ fn lift_file(input: &Path, output: &Path, version: &OsStr) -> Result<(), Box<dyn
     write_words(output, &out)?;
     let _ = writeln!(
         report,
-        "{} lists: {} unchanged, {} written anew, {} no tree at their version, {} not writable, {} not lists",
+        "{} lists: {} unchanged, {} written anew, {} of these scripts; {} no tree at their version, {} not writable, {} not lists",
         lists.len(),
         totals.unchanged,
         totals.changed,
+        totals.scripts,
         totals.no_tree,
         totals.not_written,
         totals.turned_back,
@@ -152,6 +158,7 @@ fn lift_words(
         Err(LiftError::Write(_)) => totals.not_written += 1,
     }
     let lifted = lifted.map_err(|why| why.to_string())?;
+    totals.scripts += usize::from(lifted.tree.root().op() == Op::SEMICOLON);
     Ok(lifted.tokens.words())
 }
 

@@ -1,6 +1,6 @@
 //! Lifting: a list of one version becomes one that another version reads as the same tree.
 
-use crate::{ReadError, Reader, Token, Tokens, Tree, WriteError, Writer};
+use crate::{Node, Op, ReadError, Reader, Span, Token, Tokens, Tree, WriteError, Writer};
 use std::fmt;
 
 /// A list that two versions read as the same tree.
@@ -18,7 +18,8 @@ pub struct Lifted {
     pub tokens: Tokens,
     /// Whether the list had to change: the new version read the given one as another tree, or not at all.
     pub changed: bool,
-    /// The tree that both versions agree on, with the brackets taken away that only group.
+    /// The tree that both versions agree on, with the brackets taken away that only group. Of a script's semicolons they
+    /// agree on operators and children; their spans and payloads here are those that the old version gave.
     pub tree: Tree,
 }
 
@@ -99,6 +100,24 @@ impl Lifter {
     /// let lifted = Lifter::new().lift(&list, 5, 6).unwrap();
     /// assert_eq!(lifted.tokens.to_string(), "a > (b == c)");
     /// ```
+    ///
+    /// A script is lifted as a whole: each statement is written with a semicolon after it.
+    ///
+    /// ```
+    /// use sorbrudder::{Lifter, Reader, Tokens};
+    ///
+    /// let source = "v = a ? b : c ? d : e; return v;";
+    /// let list: Tokens = source.parse().unwrap();
+    /// let lifted = Lifter::new().lift(&list, 4, 5).unwrap();
+    /// let shown = lifted.tokens.shown_in(source).to_string();
+    /// assert_eq!(shown, "v = ((a ? b : c) ? d : e); return v;");
+    ///
+    /// // Version 4 reads the lifted list as it read the given one, and so does every other.
+    /// let mut reader = Reader::new();
+    /// let at_4 = reader.read(&lifted.tokens, 4).unwrap();
+    /// assert_eq!(at_4, reader.read(&lifted.tokens, 5).unwrap());
+    /// assert_eq!(at_4.without_brackets().to_string(), lifted.tree.to_string());
+    /// ```
     pub fn lift(&mut self, tokens: &[Token], from: i16, to: i16) -> Result<Lifted, LiftError> {
         let old = self.reader.read(tokens, from).map_err(LiftError::Read)?;
         let tree = old.without_brackets();
@@ -111,10 +130,8 @@ impl Lifter {
         }
         let written = self.writer.write(&old).map_err(LiftError::Write)?;
         debug_assert_eq!(
-            self.reader
-                .read(&written, to)
-                .map(|again| again.without_brackets()),
-            Ok(tree.clone())
+            self.reader.read(&written, to).map(|again| agreed(&again)),
+            Ok(agreed(&tree))
         );
         Ok(Lifted {
             tokens: written,
@@ -122,6 +139,21 @@ impl Lifter {
             tree,
         })
     }
+}
+
+/// What the readings of a written list agree on: each node with its child count and where it closes, but for brackets that
+/// only group, and of a script's semicolons the operator and the child count alone.
+fn agreed(tree: &Tree) -> Vec<(Token, usize, u32)> {
+    let tree = tree.without_brackets();
+    let script = tree.root().op() == Op::SEMICOLON;
+    let part = |node: Node<'_>| {
+        let children = node.child_count();
+        if script && node.op() == Op::SEMICOLON {
+            return (Token::bare(Op::SEMICOLON, Span::default()), children, 0);
+        }
+        (node.token(), children, node.close())
+    };
+    tree.nodes().map(part).collect()
 }
 
 /// Lifts one list: [`Lifter::lift`] with buffers of its own.

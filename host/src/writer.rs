@@ -10,7 +10,9 @@ use std::fmt;
 /// fills and uses it again.
 ///
 /// A tree is plain if all its nodes are operands, operators with their operands, brackets with one child, conditionals
-/// with both sides, queries and math calls; statements, assignments, arrays, members and pointers are not.
+/// with both sides, queries and math calls; arrays, members, pointers, loops and blocks are not. So is a script, each of
+/// whose statements holds such an expression, an assignment of one to another or the return of one. A statement is written
+/// with a semicolon after it, which has the span of what the statement holds.
 ///
 /// Writing recurses in the library, 380 bytes of stack a level. A tree of more than 256 levels is written on a thread of its
 /// own with stack enough, so the caller's needs no more than 128 KiB.
@@ -52,11 +54,12 @@ pub struct Writer {
 /// ```
 /// use sorbrudder::{Reader, Tokens, WriteError, Writer};
 ///
-/// let list: Tokens = "a = b;".parse().unwrap();
+/// let list: Tokens = "a = b = c;".parse().unwrap();
 /// let tree = Reader::new().read(&list, 6).unwrap();
+/// assert_eq!(tree.to_string(), "73(73(71(71(a,b),c)))");
 /// let why = Writer::new().write(&tree).unwrap_err();
-/// assert_eq!(why, WriteError::NotPlain { node: 0 });
-/// assert_eq!(why.to_string(), "node 0 has no plain form");
+/// assert_eq!(why, WriteError::NotPlain { node: 3 });
+/// assert_eq!(why.to_string(), "node 3 has no plain form");
 /// ```
 #[derive(Copy, Clone, Debug, PartialEq, Eq)]
 pub enum WriteError {

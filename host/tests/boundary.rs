@@ -100,6 +100,8 @@ fn deep_trees_are_written_and_lifted_on_128_kib_of_stack() {
         nest("a + (", "a", ")", ""),
         nest("(a ? b : c) ? (", "d", ") : e", ""),
         nest("a,", "a", "", ""),
+        nest("!(", "a", ")", ";"),
+        nest("a = b;", "return c;", "", ""),
     ];
     on_stack(128, || {
         let (mut reader, mut writer, mut lifter) = (Reader::new(), Writer::new(), Lifter::new());
@@ -107,7 +109,8 @@ fn deep_trees_are_written_and_lifted_on_128_kib_of_stack() {
             let tree = reader.read(list, 6).expect("a tree");
             let written = writer.write(&tree).expect("the tree is plain");
             let again = reader.read(&written, 4).expect("a written list is a tree");
-            assert_eq!(again.without_brackets(), tree.without_brackets());
+            let shape = |tree: &Tree| tree.without_brackets().to_string();
+            assert_eq!(shape(&again), shape(&tree));
             assert_eq!(writer.write_words(tree.words()), Ok(&written.words()[..]));
             assert!(lifter.lift(list, 6, 4).is_ok());
         }

@@ -64,13 +64,13 @@ fn lift_carries_a_file_over_and_counts() {
     let [given, lifted, again] = ["given", "lifted", "again"].map(path);
     let text = |path: &PathBuf| path.to_str().expect("a path in text").to_string();
     let [given, lifted, again] = [&given, &lifted, &again].map(text);
-    assert_eq!(example("lift", &["--sample", &given]), "7 lists\n");
+    assert_eq!(example("lift", &["--sample", &given]), "9 lists\n");
     let told = example("lift", &[&given, &lifted, "6"]);
-    let totals = "7 lists: 2 unchanged, 3 written anew, 1 no tree at their version, 1 not writable, 0 not lists";
+    let totals = "9 lists: 3 unchanged, 4 written anew, 3 of these scripts; 1 no tree at their version, 1 not writable, 0 not lists";
     assert_eq!(told.lines().last(), Some(totals));
     // What was lifted is lifted by now: nothing is written anew.
     let told = example("lift", &[&lifted, &again, "6"]);
-    let totals = "7 lists: 5 unchanged, 0 written anew, 1 no tree at their version, 1 not writable, 0 not lists";
+    let totals = "9 lists: 7 unchanged, 0 written anew, 3 of these scripts; 1 no tree at their version, 1 not writable, 0 not lists";
     assert_eq!(told.lines().last(), Some(totals));
     let bytes = |path: &str| std::fs::read(path).expect("the file was written");
     assert_eq!(bytes(&lifted), bytes(&again));

@@ -1,6 +1,8 @@
 //! Document 01's lines through the notation, and lists lifted between versions.
 
-use sorbrudder::{LiftError, Lifter, ReadError, Reader, Tokens, WriteError, Writer, lift};
+use sorbrudder::{
+    LiftError, Lifter, Node, Op, ReadError, Reader, Tokens, Tree, WriteError, Writer, lift,
+};
 
 fn read(text: &str, version: i16) -> String {
     let list: Tokens = text.parse().expect("the notation");
@@ -107,6 +109,80 @@ fn a_list_that_versions_agree_on_is_left_alone() {
     let list: Tokens = "return {a = b;} ;".parse().expect("the notation");
     let lifted = lift(&list, 4, 6).expect("both read it alike");
     assert!(!lifted.changed && lifted.tokens == list);
+}
+
+/// What is compared of a tree: all of its words but those of semicolons after the operator, the child count apart.
+fn compared(tree: &Tree) -> Vec<Vec<u32>> {
+    let tree = tree.without_brackets();
+    let part = |node: Node<'_>| {
+        let words = node.words();
+        if node.op() == Op::SEMICOLON {
+            return vec![u32::from(node.op().number()), words[5]];
+        }
+        words.to_vec()
+    };
+    tree.nodes().map(part).collect()
+}
+
+#[test]
+fn a_lifted_script_is_one_tree_at_every_version() {
+    let (mut reader, mut writer, mut lifter) = (Reader::new(), Writer::new(), Lifter::new());
+    let mut changed = 0;
+    for (number, text) in lists().enumerate().step_by(5) {
+        let statements = [
+            "v = TEXT;",
+            "return TEXT;",
+            "TEXT;",
+            "v = (TEXT); return v;",
+        ];
+        let script = statements[number % 4].replace("TEXT", &text);
+        let script = format!("{script} w = a ? b : c ? d : e;");
+        let list: Tokens = script.parse().expect("the notation");
+        for (from, to) in [(4, 5), (5, 6), (6, 4)] {
+            let lifted = match lifter.lift(&list, from, to) {
+                Ok(lifted) if lifted.changed => lifted,
+                Ok(_) | Err(LiftError::Read(_) | LiftError::Write(_)) => continue,
+            };
+            changed += 1;
+            let old = compared(&lifted.tree);
+            for version in [0, 4, 5, 6, 13] {
+                let again = reader.read(&lifted.tokens, version).expect("a lifted list");
+                assert_eq!(compared(&again), old, "{script} at {version}");
+                let twice = writer.write(&again);
+                assert_eq!(twice.as_ref(), Ok(&lifted.tokens), "{script}");
+            }
+        }
+    }
+    assert!(changed > 300, "only {changed} scripts");
+}
+
+#[test]
+fn a_semicolon_has_the_span_of_what_its_statement_holds() {
+    let source = "v = a ? b : c ? d : e; return v; (w);";
+    let list: Tokens = source.parse().expect("the notation");
+    let lifted = lift(&list, 4, 6).expect("a plain script");
+    let shown = "v = ((a ? b : c) ? d : e); return v; (w);";
+    assert_eq!(lifted.tokens.shown_in(source).to_string(), shown);
+    let semicolons = lifted.tokens.iter();
+    let semicolons = semicolons.filter(|token| token.op == Op::SEMICOLON);
+    let spans: Vec<_> = semicolons.map(|token| token.span.of(source)).collect();
+    assert_eq!(spans, [Some("="), Some("return"), Some("(")]);
+}
+
+#[test]
+fn what_no_script_holds_is_named() {
+    let node = |text: &str| {
+        let list: Tokens = text.parse().expect("the notation");
+        let tree = Reader::new().read(&list, 4).expect("a tree");
+        match Writer::new().write(&tree) {
+            Err(WriteError::NotPlain { node }) => node,
+            other => panic!("{text}: {other:?}"),
+        }
+    };
+    assert_eq!(node("break;"), 2);
+    assert_eq!(node("a; b : c;"), 4);
+    assert_eq!(node("{a = b;};"), 2);
+    assert_eq!(node("v = array_variable[a];"), 4);
 }
 
 #[test]

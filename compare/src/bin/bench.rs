@@ -22,7 +22,7 @@ fn main() {
 #[cfg(library)]
 mod timed {
     use compare::library::{Given, Library};
-    use compare::workloads::{self, Workload};
+    use compare::workloads::{self, SAME_AS_ONE, SCRIPT, Workload};
     use oracle::words::{Case, NODE_WORDS, TOKEN_WORDS, Token, list_words, low};
     use sorbrudder_sys::Answer;
     use std::hint::black_box;
@@ -233,7 +233,7 @@ mod timed {
         children: Vec<Node>,
     }
 
-    fn bracket(op: u8, start: u32, end: u32) -> Token {
+    fn bare(op: u8, start: u32, end: u32) -> Token {
         Token {
             op,
             variant: 0,
@@ -260,7 +260,22 @@ mod timed {
             }
         }
 
-        /// Writes the tree; the lowest start and the highest end of its spans.
+        /// Writes a script, or an expression.
+        fn write_tree(&self, list: &mut Vec<u32>) {
+            if self.token.op != 73 {
+                self.write(list);
+                return;
+            }
+            for statement in &self.children {
+                for held in &statement.children {
+                    held.write(list);
+                    let Token { start, end, .. } = held.token;
+                    list.extend(bare(73, start, end).words());
+                }
+            }
+        }
+
+        /// Writes an expression, or what a statement holds; the lowest start and the highest end of its spans.
         fn write(&self, list: &mut Vec<u32>) -> (u32, u32) {
             let own = (self.token.start, self.token.end);
             match &self.children[..] {
@@ -271,7 +286,7 @@ mod timed {
                 [only] if self.token.op == 4 => {
                     list.extend(self.token.words());
                     let below = only.write(list);
-                    list.extend(bracket(5, self.close, self.close).words());
+                    list.extend(bare(5, self.close, self.close).words());
                     wider(own, below)
                 }
                 [only] => {
@@ -296,8 +311,8 @@ mod timed {
             let at = list.len();
             list.extend([0; TOKEN_WORDS]);
             let (start, end) = self.write(list);
-            list[at..at + TOKEN_WORDS].copy_from_slice(&bracket(4, start, end).words());
-            list.extend(bracket(5, end, end).words());
+            list[at..at + TOKEN_WORDS].copy_from_slice(&bare(4, start, end).words());
+            list.extend(bare(5, end, end).words());
             (start, end)
         }
     }
@@ -314,23 +329,22 @@ mod timed {
     }
 
     impl Written {
-        /// The first list of a workload, read and written; the list is as long as what is written.
-        fn new(library: Library, reading: &mut Reading) -> Self {
+        /// The first list of a workload, read and written, if its tree is plain; the list is as long as what is written.
+        fn new(library: Library, reading: &mut Reading) -> Option<Self> {
             let Answer::Filled(nodes) = reading.read(library, 0) else {
                 unreachable!("the reading was a tree");
             };
             let tree = reading.tree[..library.node_words * nodes].to_vec();
             let mut list = vec![0; 20_480];
-            let answer = library.write(&tree, &mut list);
-            let Answer::Filled(tokens) = answer else {
-                panic!("{}: {answer:?}", reading.line.name);
+            let Answer::Filled(tokens) = library.write(&tree, &mut list) else {
+                return None;
             };
             list.truncate(5 * tokens);
-            Self {
+            Some(Self {
                 library,
                 tree,
                 list,
-            }
+            })
         }
 
         /// The tree of `Vec`s of the words.
@@ -358,11 +372,12 @@ mod timed {
         fn new(libraries: Libraries, workload: Workload) -> Self {
             let name = workload.name;
             let mut reading = Reading::new(libraries, workload);
-            let now = Written::new(libraries.now, &mut reading);
+            let now = Written::new(libraries.now, &mut reading).expect("a plain tree");
+            // Before card 1 no script was plain.
             let before = libraries.before;
-            let before = before.map(|before| Written::new(before, &mut reading));
+            let before = before.and_then(|before| Written::new(before, &mut reading));
             let (root, mut rust_list) = (now.built(), Vec::new());
-            root.write(&mut rust_list);
+            root.write_tree(&mut rust_list);
             assert!(rust_list == now.list, "{name}: two lists");
             if let Some(before) = &before {
                 // Before cards 2 and 3 brackets had other spans.
@@ -399,12 +414,12 @@ mod timed {
             }
             self.line.rust.add(repeats, tokens, || {
                 self.rust_list.clear();
-                black_box(&self.root).write(&mut self.rust_list);
+                black_box(&self.root).write_tree(&mut self.rust_list);
                 black_box(&self.rust_list);
             });
             self.with_building.add(repeats.div_ceil(4), tokens, || {
                 self.rust_list.clear();
-                self.now.built().write(&mut self.rust_list);
+                self.now.built().write_tree(&mut self.rust_list);
                 black_box(&self.rust_list);
             });
         }
@@ -461,7 +476,9 @@ mod timed {
 
     /// Says by how much the workloads take longer than in the library before.
     fn print_beside<'l>(what: &str, lines: impl Iterator<Item = &'l Line>) {
-        let times: Vec<f64> = lines.map(Line::beside_before).collect();
+        let times = lines.map(Line::beside_before);
+        // A workload that the library before turned back has no time there.
+        let times: Vec<f64> = times.filter(|times| *times > 0.0).collect();
         let greatest = times.iter().copied().fold(0.0, f64::max);
         let (count, mean) = (times.len(), mean(&times));
         println!(
@@ -543,6 +560,22 @@ mod timed {
             println!(
                 "writing: least ratio {least:.2}, mean ratio {mean:.2}, greatest growth {grown:.2}"
             );
+            self.print_script();
+        }
+
+        /// Says what a script takes beside the same tokens as one expression.
+        fn print_script(&self) {
+            let named = |name: &'static str| {
+                let lines = self.writings().map(|writing| &writing.line);
+                lines.filter(move |line| line.name == name)
+            };
+            for (script, expression) in named(SCRIPT).zip(named(SAME_AS_ONE)) {
+                let times = script.ours.least() / expression.ours.least();
+                let tokens = script.tokens;
+                println!(
+                    "a script of {tokens} tokens beside the same as one expression: {times:.2}"
+                );
+            }
         }
 
         /// All lists that are read, of few tokens too.

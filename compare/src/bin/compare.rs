@@ -50,7 +50,7 @@ mod run {
     use compare::writer_model::Written;
     use oracle::generate::Rng;
     use oracle::refusal::Call;
-    use oracle::words::tree_words;
+    use oracle::words::{Case, tree_words};
     use std::io::{IsTerminal as _, Write as _};
     use std::time::{Duration, Instant};
 
@@ -141,7 +141,7 @@ mod run {
         let shapes = &mut lens.into_iter().flat_map(calls::shapes);
         part("every shape, at 4, 5 and 6", shapes)?;
         part("every refusal at its limits", &mut calls::limits())?;
-        for part in [writing, rereading] {
+        for part in [writing, expressions, scripts, short_scripts] {
             let written = part(lists as u64 / 5, seed);
             let (Ok(count) | Err((count, _))) = written;
             done += count;
@@ -171,7 +171,7 @@ mod run {
     fn one_tree(rng: &mut Rng) -> Result<(Written, Vec<u32>), String> {
         let most = if rng.chance(2) { 300 } else { 24 };
         let size = 1 + rng.below(most);
-        let mut nodes = plain_trees::plain(rng, size);
+        let mut nodes = plain_trees::any(rng, size);
         if rng.chance(50) {
             nodes = plain_trees::disturbed(rng, nodes);
         }
@@ -201,12 +201,32 @@ mod run {
         Ok(tally.calls)
     }
 
-    /// Goes on until `count` lists were written and read again.
-    fn rereading(count: u64, seed: u64) -> Result<u64, (u64, String)> {
-        let mut progress = Progress::new("lists read, written and read again at three versions");
+    fn expressions(count: u64, seed: u64) -> Result<u64, (u64, String)> {
+        let name = "expressions read, written and read again at three versions";
+        rereading(name, Lists::new(seed), count, seed)
+    }
+
+    fn scripts(count: u64, seed: u64) -> Result<u64, (u64, String)> {
+        let name = "scripts read, written and read again at three versions";
+        rereading(name, Lists::scripts(seed), count, seed)
+    }
+
+    fn short_scripts(_: u64, seed: u64) -> Result<u64, (u64, String)> {
+        let name = "every list of up to 7 and a semicolon over three alphabets, at 4, 5 and 6, read, written and read again";
+        rereading(name, calls::over_scripts(7), u64::MAX, seed)
+    }
+
+    /// Goes on until `count` lists were written and read again, or to the end of the lists.
+    fn rereading(
+        name: &'static str,
+        lists: impl Iterator<Item = Case>,
+        count: u64,
+        seed: u64,
+    ) -> Result<u64, (u64, String)> {
+        let mut progress = Progress::new(name);
         let (mut buffers, mut rng) = (Buffers::default(), Rng::new(seed));
         let mut refused = 0;
-        for case in Lists::new(seed) {
+        for case in lists {
             match reread(&mut buffers, &mut rng, &case) {
                 Ok(Reread::Again) => progress.one_more(),
                 Ok(Reread::Refused) => refused += 1,

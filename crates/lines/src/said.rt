@@ -5,7 +5,7 @@ use molang::lines::LINES;
 ghost use mathlib.Core.Path.{_≡_};
 ghost use Rattle.lines.specs.Said.{tableText};
 
-const BYTES: usize = 2150;
+const BYTES: usize = 2408;
 
 // A line of text for each line of the table.
 const TEXT: [u8; BYTES] = *b"no tokens at 4, 5 and 6
@@ -108,9 +108,18 @@ writing (/1 +/2 a a\x20
 writing */2 (/1 a a\x20
 writing sin/1 (\x20
 writing query/1 (/1 ,/2 a a\x20
+writing ;/1 ;/1 =/2 variable ?/2 a :/2 a a\x20
+writing ;/2 ;/1 =/2 variable a ;/1 return/1 variable\x20
+writing ;/1 ;/1 (/1 +/2 a a\x20
 writing +/2 a +\x20
 writing query/1 (\x20
 writing (/2 a a\x20
+writing ;/1 a\x20
+writing ;/2 ;/1 array a\x20
+writing ;/1 ;/1 ;/1 a\x20
+writing ;/1 ;/2 a a\x20
+writing ;/1 ;/1 array\x20
+writing =/2 variable a\x20
 writing +/2 a\x20
 writing a a\x20
 ";

@@ -5,12 +5,14 @@ use mathlib.Core.Path.{_≡_, refl, ap, _∙_}
 use mathlib.Core.Bool.{false}
 use mathlib.Core.List.{List, []}
 use mathlib.Core.Option.{none}
+use lib.Dec.{eqb}
 use lib.ListN.{length, take}
+use Rattle.molang.specs.Operator
 use Rattle.molang.specs.Forest.{Token, Forest, nil, node, size}
 use Rattle.molang.specs.Read.{read, uses}
-use Rattle.molang.specs.Words.{tokensOf, listWords, treeWords}
+use Rattle.molang.specs.Words.{listWords, treeWords}
 use Rattle.molang.specs.Parse.{Call, inHalves, reading, aTree, answered, treeAfter}
-use Rattle.molang.specs.Write.{written, takenAway}
+use Rattle.molang.specs.Write.{writtenTree, takenAway, comparable}
 use Rattle.molang.specs.WriteEntry.{WriteCall, writeRefusal, tokens, writeAnswered, listAfter}
 use Rattle.molang.proofs.Words.{LegalTokens, AtEnds, tokens-back}
 use Rattle.molang.proofs.ListWords.{uses-legal}
@@ -27,28 +29,32 @@ pub record ThreeCalls (first : Call) (write : WriteCall) (second : Call) (k : To
   pub treeHanded : write .tree ≡ take (7 * size (node k cs nil)) (treeAfter first)
   pub writes : writeRefusal write ≡ none
   -- The second call gets exactly the words written, five to a token; its used set has each operator of those tokens and no other.
-  pub listHanded : second .list ≡ take (5 * length (written k cs [])) (listAfter write)
-  pub usedExactly : (m : ℕ) → inHalves (second .usedLow) (second .usedHigh) m ≡ uses (written k cs []) m
+  pub listHanded : second .list ≡ take (5 * length (writtenTree k cs)) (listAfter write)
+  pub usedExactly : (m : ℕ) → inHalves (second .usedLow) (second .usedHigh) m ≡ uses (writtenTree k cs) m
   -- Its buffers are long enough by the table and its source length is legal. Its version is any.
-  pub treeRoom : 21 * length (written k cs []) ≤ length (second .tree)
+  pub treeRoom : 21 * length (writtenTree k cs) ≤ length (second .tree)
   pub messageRoom : 16 ≤ length (second .messages)
-  pub workRoom : 64 * length (written k cs []) + 64 ≤ length (second .work)
+  pub workRoom : 64 * length (writtenTree k cs) + 64 ≤ length (second .work)
   pub legalLength : second .sourceLength ≤ 536870911
 
 -- WHAT COMES OF THEM.
 pub record SameTrees (first : Call) (write : WriteCall) (second : Call) (k : Token) (cs : Forest) : Type 0 where
   -- Handed on were the first tree's words, and the words of its writing, whose token count the writer told.
   pub treeGot : write .tree ≡ treeWords (node k cs nil)
-  pub told : writeAnswered write ≡ tokens (length (written k cs []))
-  pub listGot : second .list ≡ listWords (written k cs [])
+  pub told : writeAnswered write ≡ tokens (length (writtenTree k cs))
+  pub listGot : second .list ≡ listWords (writtenTree k cs)
   -- The second call is not turned back and ends with a tree; it answers the node count and leaves the words in front of its tree buffer.
   pub root : Token
   pub children : Forest
   pub parsed : Parsed second root children
   pub answers : answered second ≡ aTree (size (node root children nil))
   pub front : take (7 * size (node root children nil)) (treeAfter second) ≡ treeWords (node root children nil)
-  -- The two trees, with brackets taken away, have the same words in the same order.
-  pub words : treeWords (takenAway false (node root children nil) nil) ≡ treeWords (takenAway false (node k cs nil) nil)
+  -- What is compared of the two trees, with brackets taken away, has the same words in the same order; where the first root is no
+  -- semicolon, that is everything.
+  pub words : treeWords (comparable (takenAway false (node root children nil) nil)) ≡ treeWords
+      (comparable (takenAway false (node k cs nil) nil))
+  pub allWords : eqb (k .op) Operator.semicolon ≡ false
+      → treeWords (takenAway false (node root children nil) nil) ≡ treeWords (takenAway false (node k cs nil) nil)
 
 -- A call whose list is the words of legal tokens, and whose used set is exactly theirs, reads those tokens.
 reads-list : (d : Call) (ks : List Token) → d .list ≡ listWords ks → LegalTokens ks → AtEnds ks
@@ -62,7 +68,7 @@ reads-list d ks list legal ends used =
 pub three-calls : (first : Call) (write : WriteCall) (second : Call) (k : Token) (cs : Forest) → ThreeCalls first write second k cs
     → SameTrees first write second k cs
 three-calls first write second k cs t =
-    let ks = written k cs [] in
+    let ks = writtenTree k cs in
     let p = t .parsed in
     let treeGot = t .treeHanded ∙ tree-front p in
     let wrote = write-done p write treeGot (t .writes) in
@@ -82,7 +88,10 @@ three-calls first write second k cs t =
     in
     let again = round-trip k cs (wrote .plain) (second .version) (second .sourceLength) in
     let parsed : Parsed second (again .root) (again .children) =
-    record { accepted = call-acceptable second ks acceptable; reads = reads-list second ks listGot legal (tree-written-ends p (wrote .plain)) (t .usedExactly) ∙ again .reads }
+    record {
+      accepted = call-acceptable second ks acceptable;
+      reads = reads-list second ks listGot legal (tree-written-ends p (wrote .plain)) (t .usedExactly) ∙ again .reads;
+    }
     in
     record {
       treeGot = treeGot;
@@ -94,4 +103,5 @@ three-calls first write second k cs t =
       answers = tree-told parsed;
       front = tree-front parsed;
       words = ap treeWords (again .agrees);
+      allWords = λ h. ap treeWords (again .agreesInAll h);
     }

@@ -17,14 +17,14 @@ use Rattle.molang.specs.Parse.{Call, mostTokens, refusal, reading, aTree
 use Rattle.molang.specs.FirstFailure.{must, firstOf}
 use Rattle.molang.specs.Reread.{bracketless}
 use Rattle.molang.specs.Plain.{unplainAt}
-use Rattle.molang.specs.Write.{written, takenAway}
+use Rattle.molang.specs.Write.{writtenTree, takenAway, comparable}
 use Rattle.molang.specs.WriteEntry.{treeFault, treesOf, WriteCall, forestRefusal, writeRefusal, writtenTokens, tokens, unwritten}
 use Rattle.molang.specs.WriteEntry.{writeTold, writeAnswered, listIn, listAfter}
 use Rattle.molang.proofs.FirstFailure.{first-none, passed, withNumber-none, after-none}
 use Rattle.molang.proofs.Bounds.{treeWords-length}
-use Rattle.molang.proofs.Words.{LegalTokens, noTokens, LegalTrees, legalTree, AtEnds, tokens-end}
+use Rattle.molang.proofs.Words.{LegalTokens, LegalTrees, legalTree, AtEnds, tokens-end}
 use Rattle.molang.proofs.Legal.{read-legal, read-back, read-unfaulted}
-use Rattle.molang.proofs.ListWords.{listWords-length, written-legal}
+use Rattle.molang.proofs.ListWords.{listWords-length, writtenTree-legal}
 use Rattle.molang.proofs.Accepted.{call-accepted}
 use Rattle.molang.proofs.Closes.{read-closes, plain-ends}
 
@@ -45,8 +45,8 @@ unfolding writeRefusal
 whole-tree w e =
     after-none (withNumber 12 (treeFault 0 operatorField 0 (record { called = 1; begun = 0 }) (w .tree))) _ (ap (withNumber 12) e)
 
-root-legal : (k : Token) (cs : Forest) → LegalTrees (node k cs nil) → LegalTokens (written k cs [])
-root-legal k cs (legalTree h n below after) = written-legal k cs h below [] noTokens
+root-legal : (k : Token) (cs : Forest) → LegalTrees (node k cs nil) → LegalTokens (writtenTree k cs)
+root-legal k cs (legalTree h n below after) = writtenTree-legal k cs h below
 
 module _ {c : Call} {k : Token} {cs : Forest} (p : Parsed c k cs) where
   -- The call leaves the tree's words in front of the tree buffer, seven to a node, and answers the node count.
@@ -69,18 +69,24 @@ module _ {c : Call} {k : Token} {cs : Forest} (p : Parsed c k cs) where
   unfolding reading
   tree-unfaulted = let a = call-accepted c (p .accepted) in read-unfaulted _ _ _ _ k cs (a .legal) (a .few) (p .reads)
 
-  pub front-bracketless : bracketless (take (7 * size (node k cs nil)) (treeAfter c)) ≡ treeWords (takenAway false (node k cs nil) nil)
+  pub front-bracketless : bracketless (take (7 * size (node k cs nil)) (treeAfter c)) ≡ treeWords
+      (comparable (takenAway false (node k cs nil) nil))
   unfolding bracketless
   front-bracketless = rw (tree-front, tree-back) refl
 
+  -- All that is left of it, also in a script.
+  pub front-left : treeWords (takenAway false (treesOf (take (7 * size (node k cs nil)) (treeAfter c))) nil) ≡ treeWords
+      (takenAway false (node k cs nil) nil)
+  front-left = rw (tree-front, tree-back) refl
+
   -- The tree's writing is legal.
-  pub tree-written-legal : LegalTokens (written k cs [])
+  pub tree-written-legal : LegalTokens (writtenTree k cs)
   unfolding reading
   tree-written-legal =
       let a = call-accepted c (p .accepted) in root-legal k cs (read-legal _ _ _ _ k cs (a .legal) (a .few) (p .reads))
 
   -- Where the tree is plain, each of its tokens closes at its own end.
-  pub tree-written-ends : unplainAt k cs ≡ none → AtEnds (written k cs [])
+  pub tree-written-ends : unplainAt k cs ≡ none → AtEnds (writtenTree k cs)
   unfolding reading
   tree-written-ends plain = plain-ends k cs plain (read-closes _ _ _ _ k cs (tokens-end (c .list)) (p .reads))
 
@@ -88,18 +94,18 @@ module _ {c : Call} {k : Token} {cs : Forest} (p : Parsed c k cs) where
 -- tokens and the lent list, else that number; never 12.
 pub record WriterTells (k : Token) (cs : Forest) (w : WriteCall) : Type 0 where
   pub unplain : (n : ℕ) → unplainAt k cs ≡ some n → writeAnswered w ≡ unwritten 13 n
-  pub tooMany : unplainAt k cs ≡ none → mostTokens < length (written k cs []) → writeAnswered w ≡ unwritten 14 0
-  pub noRoom : unplainAt k cs ≡ none → length (written k cs []) ≤ mostTokens → length (w .list) < 5 * length (written k cs [])
+  pub tooMany : unplainAt k cs ≡ none → mostTokens < length (writtenTree k cs) → writeAnswered w ≡ unwritten 14 0
+  pub noRoom : unplainAt k cs ≡ none → length (writtenTree k cs) ≤ mostTokens → length (w .list) < 5 * length (writtenTree k cs)
       → writeAnswered w ≡ unwritten 15 0
-  pub writes : unplainAt k cs ≡ none → length (written k cs []) ≤ mostTokens → 5 * length (written k cs []) ≤ length (w .list)
-      → writeAnswered w ≡ tokens (length (written k cs []))
+  pub writes : unplainAt k cs ≡ none → length (writtenTree k cs) ≤ mostTokens → 5 * length (writtenTree k cs) ≤ length (w .list)
+      → writeAnswered w ≡ tokens (length (writtenTree k cs))
 
 -- What a write call that is not turned back says of the tree, tells and leaves: the written words in front of the list, five to a token.
 pub record Wrote (k : Token) (cs : Forest) (w : WriteCall) : Type 0 where
   pub plain : unplainAt k cs ≡ none
-  pub few : length (written k cs []) ≤ mostTokens
-  pub told : writeAnswered w ≡ tokens (length (written k cs []))
-  pub front : take (5 * length (written k cs [])) (listAfter w) ≡ listWords (written k cs [])
+  pub few : length (writtenTree k cs) ≤ mostTokens
+  pub told : writeAnswered w ≡ tokens (length (writtenTree k cs))
+  pub front : take (5 * length (writtenTree k cs)) (listAfter w) ≡ listWords (writtenTree k cs)
 
 module _ {c : Call} {k : Token} {cs : Forest} (p : Parsed c k cs) (w : WriteCall) (handed : w .tree ≡ treeWords (node k cs nil)) where
   trees-handed : treesOf (w .tree) ≡ node k cs nil
@@ -111,7 +117,7 @@ module _ {c : Call} {k : Token} {cs : Forest} (p : Parsed c k cs) (w : WriteCall
   pub writer-tells : WriterTells k cs w
   unfolding writeAnswered writeTold writtenTokens forestRefusal firstOf must
   writer-tells =
-      let n = length (written k cs []) in
+      let n = length (writtenTree k cs) in
       record {
         unplain = λ i e. rw (write-refusal, e) refl;
         tooMany = λ e over.
@@ -131,7 +137,7 @@ module _ {c : Call} {k : Token} {cs : Forest} (p : Parsed c k cs) (w : WriteCall
   never-12 place h = split (unplainAt k cs) (leb n mostTokens) (leb (5 * n) (length (w .list))) refl refl refl
     where
       n : ℕ
-      n = length (written k cs [])
+      n = length (writtenTree k cs)
 
       split : (o : Option ℕ) (a b : Bool) → unplainAt k cs ≡ o → leb n mostTokens ≡ a → leb (5 * n) (length (w .list)) ≡ b → ⊥
       split (some i) a b e f g = let told = writer-tells .unplain i e in let same : _≡_ {A = ℕ} 13 12 = cc in omega arith
@@ -147,7 +153,7 @@ module _ {c : Call} {k : Token} {cs : Forest} (p : Parsed c k cs) (w : WriteCall
   pub write-done : writeRefusal w ≡ none → Wrote k cs w
   unfolding forestRefusal writeAnswered writeTold writtenTokens listAfter listIn
   write-done e =
-      let ks = written k cs [] in
+      let ks = writtenTree k cs in
       let plain = first-none _ _ (sym write-refusal ∙ e) in
       record {
         plain = withNumber-none 13 _ (plain .0);

@@ -26,7 +26,7 @@ unfolding renamed
 legal-renamed o k b h =
     record { op = b; variant = h .variant; value = h .value; no-payload = h .no-payload; start = h .start; end = h .end; close = h .close }
 
-legal-bare : (o : ℕ) (k : Token) → o ≤ 110 → Legal k → Legal (bare o k)
+pub legal-bare : (o : ℕ) (k : Token) → o ≤ 110 → Legal k → Legal (bare o k)
 unfolding bare
 legal-bare o k b h =
     record { op = b; variant = omega arith; value = omega arith; no-payload = λ e. refl; start = h .start; end = h .end; close = h .end }

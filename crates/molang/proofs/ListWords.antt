@@ -6,6 +6,7 @@ use mathlib.Core.Bool.{Bool, true, false, false≢true}
 use mathlib.Core.List.{List, [], _∷_, _++_}
 use mathlib.Core.Option.{Option, none, some}
 use native.Mathlib.Omega.{arith}
+use lib.Dec.{eqb}
 use lib.ListN.{length}
 use borrow.Author.Tests.{ne-eqb}
 use Rattle.molang.specs.Operator
@@ -16,10 +17,13 @@ use Rattle.molang.specs.Words.{word, tokenWords, nodeWordsOf, listWords,
 use Rattle.molang.specs.Words.{upperField, lowerField, wordFault, lowFault, variantAfter, nextInToken, withPlace, wordsRefusal}
 use Rattle.molang.specs.Legal.{Legal}
 use Rattle.molang.specs.Write.{spanning, openerFor, closerFor, closerOf, standsAlone, standsLeft, standsRight, operandTokens, written}
+use Rattle.molang.specs.Write.{writtenStatements, writtenTree}
 use Rattle.molang.specs.WriteEntry.{nextInNode, Shape, shapeAfter, continues, treeFault}
+use Rattle.molang.proofs.Trees.{either}
 use Rattle.molang.proofs.FirstFailure.{first-none, passed, after-none}
 use Rattle.molang.proofs.Words.{LegalTokens, noTokens, token, LegalTrees, noTrees, legalTree}
 use Rattle.molang.proofs.TreeWords.{tree-unfaulted}
+use Rattle.molang.proofs.Legal.{legal-bare}
 use Rattle.molang.proofs.Writing.{written-none, written-one, written-two, written-more}
 
 -- A word of a tree that has no fault has none itself, nor have the words after it.
@@ -105,7 +109,8 @@ spanning-legal o start end h s e =
 opener-legal : (k : Token) (cs : Forest) → Legal k → LegalTrees cs → Legal (openerFor k cs)
 unfolding openerFor
 opener-legal k cs h below =
-    spanning-legal Operator.leftParenthesis _ _ (omega arith) (lowest-legal below (k .start) (h .start)) (highest-legal below (k .end) (h .end))
+    spanning-legal Operator.leftParenthesis _ _ (omega arith) (lowest-legal below (k .start) (h .start))
+    (highest-legal below (k .end) (h .end))
 
 closer-legal : (k : Token) (cs : Forest) → Legal k → LegalTrees cs → Legal (closerFor k cs)
 unfolding closerFor
@@ -159,3 +164,16 @@ written-legal k (node x xs (node y ys nil)) h (legalTree hx n hxs (legalTree hy 
     (k ∷ operandTokens (standsRight k y ys) y ys (written y ys) r)
     (token h (operand-legal (standsRight k y ys) y ys (written y ys) hy hys (written-legal y ys hy hys) r l)))
 written-legal k (node x xs (node y ys (node z zs more))) h below r l = rw (written-more k x xs y ys z zs more r) (token h l)
+
+-- So is that of statements, with their semicolons, and that of a tree.
+statements-legal : (cs : Forest) → LegalTrees cs → LegalTokens (writtenStatements cs [])
+unfolding writtenStatements
+statements-legal nil noTrees = noTokens
+statements-legal (node s nil rest) (legalTree h n below after) = statements-legal rest after
+statements-legal (node s (node x xs more) rest) (legalTree h n (legalTree hx m hxs others) after) =
+    written-legal x xs hx hxs _ (token (legal-bare Operator.semicolon x (omega arith) hx) (statements-legal rest after))
+
+pub writtenTree-legal : (k : Token) (cs : Forest) → Legal k → LegalTrees cs → LegalTokens (writtenTree k cs)
+unfolding writtenTree
+writtenTree-legal k cs h below =
+    either LegalTokens (eqb (k .op) Operator.semicolon) _ _ (statements-legal cs below) (written-legal k cs h below [] noTokens)

@@ -1,11 +1,20 @@
--- What `unplain` says of a list of trees that has no node that is not plain, tree by tree.
+-- What `unplain` says of a list of trees that has no node that is not plain, tree by tree: a plain tree is an expression, or a script each
+-- of whose statements holds one; and the seats that its nodes have.
 use Prim.Native.Nat.{ℕ, suc, _+_}
-use mathlib.Core.Path.{_≡_}
-use mathlib.Core.Bool.{true}
+use mathlib.Core.Path.{_≡_, refl, sym, _∙_}
+use mathlib.Core.Bool.{true, false, _&&_, true≢false, false≢true}
 use mathlib.Core.Option.{Option, none, some}
-use Rattle.molang.specs.Forest.{Token, Forest, node, size}
-use Rattle.molang.specs.Plain.{plainForm, seatOf, unplain}
+use lib.Dec.{eqb}
+use borrow.Author.Tests.{eqb-true, not-true}
+use Rattle.molang.specs.Operator
+use Rattle.molang.specs.Operator.{isMathCall}
+use Rattle.molang.specs.Forest.{Token, Forest, nil, node, size}
+use Rattle.molang.specs.Plain.{Seat, atRoot, underSemicolon, elsewhere, rightOfQuestion, underMathCall, isUnderSemicolon, seatUnder}
+use Rattle.molang.specs.Plain.{expressionForm, allSemicolons, semicolonForm, plainForm, seatOf, unplain, unplainAt}
 use Rattle.molang.proofs.FirstFailure.{first-none, passed}
+use Rattle.molang.proofs.Booleans.{either}
+use Rattle.molang.proofs.Trees.{decided, both}
+use Rattle.molang.proofs.Computed.{computed}
 
 -- The first tree's root has a plain form, and there is no other node below it or in the trees after it.
 pub record Plain (p : Option Token) (i n : ℕ) (k : Token) (cs rest : Forest) : Type 0 where
@@ -20,3 +29,115 @@ plain-parts p i n k cs rest h =
     let root = passed (plainForm (seatOf p i) k cs) n _ h in
     let trees = first-none _ _ (root .1) in
     record { here = root .0; below = trees .0; after = first-none _ _ (trees .1) .0 }
+
+-- ---- Seats
+
+-- What holds of every seat that the i-th child of k can have holds of its seat.
+pub seat-cases : (Q : Seat → Type 0) (k : Token) (i : ℕ) → (isMathCall (k .op) ≡ true → Q underMathCall)
+    → (eqb (k .op) Operator.semicolon ≡ true → Q underSemicolon)
+    → ((eqb (k .op) Operator.conditional && eqb i 1) ≡ true → Q rightOfQuestion) → Q elsewhere → Q (seatUnder k i)
+unfolding seatUnder
+seat-cases Q k i m s c e =
+    decided Q (isMathCall (k .op)) underMathCall _ m
+    (λ a. decided Q (eqb (k .op) Operator.semicolon) underSemicolon _ s
+    (λ b. decided Q (eqb (k .op) Operator.conditional && eqb i 1) rightOfQuestion elsewhere c (λ d. e)))
+
+-- The children of a semicolon stand under it.
+pub semicolon-seat : (k : Token) (i : ℕ) → eqb (k .op) Operator.semicolon ≡ true → seatUnder k i ≡ underSemicolon
+unfolding computed
+semicolon-seat k i h = let e : k .op ≡ Operator.semicolon = eqb-true (k .op) Operator.semicolon h in rw e refl
+
+-- No child of another node stands under a semicolon, or is one.
+pub other-seat : (k : Token) (i : ℕ) → eqb (k .op) Operator.semicolon ≡ false → isUnderSemicolon (seatUnder k i) ≡ false
+unfolding isUnderSemicolon
+other-seat k i h =
+    seat-cases (λ s. isUnderSemicolon s ≡ false) k i (λ e. refl) (λ e. absurd (true≢false (sym e ∙ h))) (λ e. refl) refl
+
+no-statements : (k : Token) (i : ℕ) (cs : Forest) → eqb (k .op) Operator.semicolon ≡ false → semicolonForm (seatUnder k i) cs ≡ false
+unfolding semicolonForm
+no-statements k i cs h =
+    seat-cases (λ s. semicolonForm s cs ≡ false) k i (λ e. refl) (λ e. absurd (true≢false (sym e ∙ h))) (λ e. refl) refl
+
+-- ---- Forms
+
+form-other : (p : Seat) (k : Token) (cs : Forest) → eqb (k .op) Operator.semicolon ≡ false → plainForm p k cs ≡ true
+    → expressionForm p k cs ≡ true
+unfolding plainForm
+form-other p k cs e h = rw (e, plainForm) at h
+
+form-semicolon : (p : Seat) (k : Token) (cs : Forest) → eqb (k .op) Operator.semicolon ≡ true → plainForm p k cs ≡ true
+    → semicolonForm p cs ≡ true
+unfolding plainForm
+form-semicolon p k cs e h = rw (e, plainForm) at h
+
+-- An expression, or what a statement holds: the root is no semicolon and has a plain form, and every node below it is plain.
+pub record PlainExpression (p : Seat) (n : ℕ) (k : Token) (cs : Forest) : Type 0 where
+  pub other : eqb (k .op) Operator.semicolon ≡ false
+  pub form : expressionForm p k cs ≡ true
+  pub below : unplain (some k) 0 n cs ≡ none
+
+-- Its children are such expressions too.
+pub inner : (k : Token) (i n : ℕ) (x : Token) (xs rest : Forest) → eqb (k .op) Operator.semicolon ≡ false
+    → unplain (some k) i n (node x xs rest) ≡ none
+    → PlainExpression (seatUnder k i) (suc n) x xs × (unplain (some k) (suc i) (suc n + size xs) rest ≡ none)
+unfolding seatOf
+inner k i n x xs rest o u =
+    let a = plain-parts (some k) i n x xs rest u in
+    let other = either (eqb (x .op) Operator.semicolon)
+    (λ e. absurd (true≢false (sym (form-semicolon (seatUnder k i) x xs e (a .here)) ∙ no-statements k i xs o))) (λ e. e) in
+    (record { other = other; form = form-other (seatUnder k i) x xs other (a .here); below = a .below }, a .after)
+
+-- Statements, each of which is a semicolon over one expression.
+pub data PlainStatements : Forest → Type 0 where
+  ended : PlainStatements nil
+  statement : (s : Token) (n : ℕ) (x : Token) {xs rest : Forest} → s .op ≡ Operator.semicolon → PlainExpression underSemicolon n x xs
+      → PlainStatements rest
+      → PlainStatements (node s (node x xs nil) rest)
+
+statements-of : (k : Token) (i n : ℕ) (cs : Forest) → eqb (k .op) Operator.semicolon ≡ true → allSemicolons cs ≡ true
+    → unplain (some k) i n cs ≡ none
+    → PlainStatements cs
+unfolding allSemicolons seatOf
+statements-of k i n nil h all u = ended
+statements-of k i n (node s nil rest) h all u =
+    let a = plain-parts (some k) i n s nil rest u in
+    let semi = both (eqb (s .op) Operator.semicolon) (allSemicolons rest) all in
+    let form = form-semicolon underSemicolon s nil (semi .0) (rw (semicolon-seat k i h) at (a .here)) in
+    absurd (false≢true (unfold semicolonForm in form))
+statements-of k i n (node s (node x xs nil) rest) h all u =
+    let a = plain-parts (some k) i n s (node x xs nil) rest u in
+    let semi = both (eqb (s .op) Operator.semicolon) (allSemicolons rest) all in
+    let form = form-semicolon underSemicolon s (node x xs nil) (semi .0) (rw (semicolon-seat k i h) at (a .here)) in
+    let other = not-true (eqb (x .op) Operator.semicolon) (unfold semicolonForm in form) in
+    let b = plain-parts (some s) 0 (suc n) x xs nil (a .below) in
+    statement s (suc (suc n)) x (eqb-true (s .op) Operator.semicolon (semi .0))
+    (record {
+      other = other;
+      form = form-other underSemicolon x xs other (rw (semicolon-seat s 0 (semi .0)) at (b .here));
+      below = b .below;
+    })
+    (statements-of k (suc i) (suc n + size (node x xs nil)) rest h (semi .1) (a .after))
+statements-of k i n (node s (node x xs (node y ys r)) rest) h all u =
+    let a = plain-parts (some k) i n s (node x xs (node y ys r)) rest u in
+    let semi = both (eqb (s .op) Operator.semicolon) (allSemicolons rest) all in
+    let form = form-semicolon underSemicolon s (node x xs (node y ys r)) (semi .0) (rw (semicolon-seat k i h) at (a .here)) in
+    absurd (false≢true (unfold semicolonForm in form))
+
+-- A PLAIN TREE is an expression, or a script of one statement or more.
+pub data PlainTree (k : Token) : Forest → Type 0 where
+  expression : {cs : Forest} → PlainExpression atRoot 1 k cs → PlainTree k cs
+  script : {x : Token} {xs rest : Forest} → eqb (k .op) Operator.semicolon ≡ true → PlainStatements (node x xs rest)
+      → PlainTree k (node x xs rest)
+
+pub plain-tree : (k : Token) (cs : Forest) → unplainAt k cs ≡ none → PlainTree k cs
+unfolding unplainAt seatOf
+plain-tree k cs h =
+    let a = plain-parts none 0 0 k cs nil h in
+    either (eqb (k .op) Operator.semicolon)
+    (λ e. statements cs e (form-semicolon atRoot k cs e (a .here)) (a .below))
+    (λ e. expression (record { other = e; form = form-other atRoot k cs e (a .here); below = a .below }))
+  where
+    statements : (cs : Forest) → eqb (k .op) Operator.semicolon ≡ true → semicolonForm atRoot cs ≡ true → unplain (some k) 0 1 cs ≡ none
+        → PlainTree k cs
+    statements nil e f u = absurd (false≢true (unfold semicolonForm in f))
+    statements (node x xs rest) e f u = script e (statements-of k 0 1 (node x xs rest) e (unfold semicolonForm in f) u)

@@ -6,14 +6,16 @@ use mathlib.Core.Bool.{false}
 use mathlib.Core.List.{List, [], _∷_}
 use mathlib.Core.Option.{Option, none, some}
 use native.Mathlib.Omega.{arith}
+use lib.Dec.{eqb}
 use lib.ListN.{length, take, length-take, length-replicate}
+use Rattle.molang.specs.Operator
 use Rattle.molang.specs.Forest.{Token, Forest, nil, node, size}
 use Rattle.molang.specs.Read.{uses}
 use Rattle.molang.specs.Words.{Refusal, operatorField, wordsRefusal, tokensOf, listWords, treeWords}
 use Rattle.molang.specs.Parse.{Call, refusal, Told, aTree, someMessages, refused, told, answered, treeAfter, messagesIn}
 use Rattle.molang.specs.Parse.{messagesAfter, workIn, workAfter}
-use Rattle.molang.specs.Write.{written}
-use Rattle.molang.specs.WriteEntry.{WriteCall, WriteTold, tokens, unwritten, writeRefusal, writeAnswered, listAfter}
+use Rattle.molang.specs.Write.{writtenTree, takenAway}
+use Rattle.molang.specs.WriteEntry.{treesOf, WriteCall, WriteTold, tokens, unwritten, writeRefusal, writeAnswered, listAfter}
 use Rattle.molang.specs.Reread.{bracketless, Rereading, handed, writerCall, exactCall, secondCall, twoTrees, firstMessages}
 use Rattle.molang.specs.Reread.{secondMessages, turnedBack, stopped, secondTold, afterWriting, afterFirst, reread, CanReadBack}
 use Rattle.molang.specs.Reread.{HasReadBack, Demand3}
@@ -22,9 +24,9 @@ use Rattle.molang.proofs.ListWords.{list-unrefused, listWords-length, u
 use Rattle.molang.proofs.UsedSet.{halves-exact}
 use Rattle.molang.proofs.Accepted.{call-accepted}
 use Rattle.molang.proofs.Bounds.{treeWords-length}
-use Rattle.molang.proofs.HandedTree.{Parsed, tree-front, tree-told, front-bracketless, tree-written-legal, writer-tells}
+use Rattle.molang.proofs.HandedTree.{Parsed, tree-front, tree-told, front-bracketless, front-left, tree-written-legal, writer-tells}
 use Rattle.molang.proofs.HandedTree.{tree-written-ends, write-done, tree-of-told, write-of-told}
-use Rattle.molang.proofs.Entries.{ThreeCalls, three-calls}
+use Rattle.molang.proofs.Entries.{ThreeCalls, SameTrees, three-calls}
 
 -- Five words make a token.
 pub tokens-count : (ws : List ℕ) → 5 * length (tokensOf ws) ≤ length ws
@@ -60,10 +62,10 @@ written-readable first w nodes count parsed words wrote =
     let got = words ∙ (ap (λ (n : ℕ). take (7 * n) (treeAfter first)) (t .nodes) ∙ tree-front p) in
     let done = write-done p w got (write-of-told w count wrote) in
     let said = done .told in
-    let counted : count ≡ length (written (t .root) (t .children) []) = cc in
+    let counted : count ≡ length (writtenTree (t .root) (t .children)) = cc in
     let is = ap (λ (n : ℕ). take (5 * n) (listAfter w)) counted ∙ done .front in
     record {
-      long = ap length is ∙ (listWords-length (written (t .root) (t .children) []) ∙ ap (λ (n : ℕ). 5 * n) (sym counted));
+      long = ap length is ∙ (listWords-length (writtenTree (t .root) (t .children)) ∙ ap (λ (n : ℕ). 5 * n) (sym counted));
       legal = rw is (list-unrefused (tree-written-legal p) 0 0);
     }
 
@@ -83,7 +85,7 @@ abbrev writing : Rereading → Token → Forest → WriteCall
 writing c k cs = writerCall (handed c) (size (node k cs nil))
 
 abbrev second : Rereading → Token → Forest → Call
-second c k cs = secondCall (handed c) (size (node k cs nil)) (length (written k cs []))
+second c k cs = secondCall (handed c) (size (node k cs nil)) (length (writtenTree k cs))
 
 module _ (c : Rereading) (k : Token) (cs : Forest) (p : Parsed (c .first) k cs) where
   tree-got : writing c k cs .tree ≡ treeWords (node k cs nil)
@@ -91,22 +93,23 @@ module _ (c : Rereading) (k : Token) (cs : Forest) (p : Parsed (c .first) k cs) 
   tree-got = tree-front p
 
   module _ (writes : writeRefusal (writing c k cs) ≡ none) where
-    list-got : take (5 * length (written k cs [])) (listAfter (writing c k cs)) ≡ listWords (written k cs [])
+    list-got : take (5 * length (writtenTree k cs)) (listAfter (writing c k cs)) ≡ listWords (writtenTree k cs)
     list-got = write-done p (writing c k cs) tree-got writes .front
 
     -- The second reading is made.
-    made : reread c ≡ afterWriting (handed c) (size (node k cs nil)) (tokens (length (written k cs [])))
+    made : reread c ≡ afterWriting (handed c) (size (node k cs nil)) (tokens (length (writtenTree k cs)))
     unfolding reread afterFirst
     made = rw (tree-told p, write-done p (writing c k cs) tree-got writes .told) refl
 
-    calls : 21 * length (written k cs []) ≤ length (c .again) → 64 * length (written k cs []) + 64 ≤ length (c .first .work)
+    calls : 21 * length (writtenTree k cs) ≤ length (c .again) → 64 * length (writtenTree k cs) + 64 ≤ length (c .first .work)
         → c .sourceLength ≤ 536870911
         → ThreeCalls (c .first) (writing c k cs) (second c k cs) k cs
     unfolding handed writerCall secondCall exactCall
     calls treeRoom workRoom legalLength =
         let legal = tree-written-legal p in
         let ks = tokensOf (second c k cs .list) in
-        let same : ks ≡ written k cs [] = ap tokensOf list-got ∙ tokens-back (written k cs []) legal (tree-written-ends p (write-done p (writing c k cs) tree-got writes .plain)) in
+        let ends = tree-written-ends p (write-done p (writing c k cs) tree-got writes .plain) in
+        let same : ks ≡ writtenTree k cs = ap tokensOf list-got ∙ tokens-back (writtenTree k cs) legal ends in
         let few : (m : ℕ) → 111 ≤ m → uses ks m ≡ false = λ m above. rw same (uses-legal legal m above) in
         record {
           parsed = p;
@@ -120,24 +123,41 @@ module _ (c : Rereading) (k : Token) (cs : Forest) (p : Parsed (c .first) k cs) 
           legalLength = legalLength;
         }
 
-    read-back : ThreeCalls (c .first) (writing c k cs) (second c k cs) k cs → HasReadBack k cs (reread c)
+    abbrev again : ThreeCalls (c .first) (writing c k cs) (second c k cs) k cs → SameTrees (c .first) (writing c k cs) (second c k cs) k cs
+    again t = three-calls (c .first) (writing c k cs) (second c k cs) k cs t
+
+    abbrev nodesOf : ThreeCalls (c .first) (writing c k cs) (second c k cs) k cs → ℕ
+    nodesOf t = size (node (again t .root) (again t .children) nil)
+
+    told-again : (t : ThreeCalls (c .first) (writing c k cs) (second c k cs) k cs)
+        → reread c .told ≡ twoTrees (size (node k cs nil)) (length (writtenTree k cs)) (nodesOf t)
     unfolding handed afterWriting secondTold
+    told-again t = rw (made, again t .answers) refl
+
+    read-back : ThreeCalls (c .first) (writing c k cs) (second c k cs) k cs → HasReadBack k cs (reread c)
+    unfolding handed afterWriting
     read-back t =
-        let same = three-calls (c .first) (writing c k cs) (second c k cs) k cs t in
         record {
-          nodesAgain = size (node (same .root) (same .children) nil);
-          tells = rw (made, same .answers) refl;
+          nodesAgain = nodesOf t;
+          tells = told-again t;
           listed = rw made list-got;
-          words = rw made (front-bracketless (same .parsed) ∙ (same .words ∙ sym (front-bracketless p)));
+          words = rw made (front-bracketless (again t .parsed) ∙ (again t .words ∙ sym (front-bracketless p)));
         }
+
+    -- Where the root is no semicolon, nothing is left out of the comparison.
+    read-in-all : (t : ThreeCalls (c .first) (writing c k cs) (second c k cs) k cs) → eqb (k .op) Operator.semicolon ≡ false
+        → treeWords (takenAway false (treesOf (take (7 * nodesOf t) (reread c .again))) nil)
+        ≡ treeWords (takenAway false (treesOf (take (7 * size (node k cs nil)) (reread c .tree))) nil)
+    unfolding handed afterWriting
+    read-in-all t other = rw made (front-left (again t .parsed) ∙ (again t .allWords other ∙ sym (front-left p)))
 
     -- A second reading that is not turned back had room.
     accepted : refusal (second c k cs) ≡ none → HasReadBack k cs (reread c)
     unfolding handed secondCall exactCall
     accepted e =
-        let n = length (written k cs []) in
+        let n = length (writtenTree k cs) in
         let a = call-accepted (second c k cs) e in
-        let long : length (second c k cs .list) ≡ 5 * n = ap length list-got ∙ listWords-length (written k cs []) in
+        let long : length (second c k cs .list) ≡ 5 * n = ap length list-got ∙ listWords-length (writtenTree k cs) in
         let tree : 21 * (length (second c k cs .list) / 5) ≤ length (c .again) = a .tree in
         let work : 64 * (length (second c k cs .list) / 5) + 64 ≤ length (workAfter (c .first)) = a .work in
         read-back (calls (omega arith) (omega (arith, work-long p)) (a .sourceLength))
@@ -177,7 +197,7 @@ demand-3 c =
       readsBack = λ k cs d.
           let p : Parsed (c .first) k cs = record { accepted = d .accepted; reads = d .reads } in
           let tells = writer-tells p (writing c k cs) (tree-got c k cs p) .writes (d .plain) (d .few) (d .listRoom) in
-          let writes = write-of-told (writing c k cs) (length (written k cs [])) tells in
+          let writes = write-of-told (writing c k cs) (length (writtenTree k cs)) tells in
           read-back c k cs p writes (calls c k cs p writes (d .treeRoom) (d .workRoom) (d .legalLength));
       agree = λ nodes count nodesAgain h. agree nodes count nodesAgain h (ends c);
       noMessages = λ records h. never records h (ends c);
@@ -197,3 +217,19 @@ demand-3 c =
     never records h (gaveMessages m e) = let z : _≡_ {A = ℕ} 0 1 = cc in omega arith
     never records h (wasTurnedBack m n q e) = let z : _≡_ {A = ℕ} 0 1 = cc in omega arith
     never records h (readBack k cs r) = let told = r .tells in let z : _≡_ {A = ℕ} 0 1 = cc in omega arith
+
+-- AND OF EXPRESSIONS EVERYTHING AGREES: where the first tree's root is no semicolon, all words that are left are the same.
+pub demand-3-in-all : (c : Rereading) (k : Token) (cs : Forest) → CanReadBack c k cs → eqb (k .op) Operator.semicolon ≡ false
+    → (nodes count nodesAgain : ℕ) → reread c .told ≡ twoTrees nodes count nodesAgain
+    → treeWords (takenAway false (treesOf (take (7 * nodesAgain) (reread c .again))) nil)
+    ≡ treeWords (takenAway false (treesOf (take (7 * nodes) (reread c .tree))) nil)
+unfolding handed writerCall
+demand-3-in-all c k cs d other nodes count nodesAgain h =
+    let p : Parsed (c .first) k cs = record { accepted = d .accepted; reads = d .reads } in
+    let tells = writer-tells p (writing c k cs) (tree-got c k cs p) .writes (d .plain) (d .few) (d .listRoom) in
+    let writes = write-of-told (writing c k cs) (length (writtenTree k cs)) tells in
+    let t = calls c k cs p writes (d .treeRoom) (d .workRoom) (d .legalLength) in
+    let told = told-again c k cs p writes t in
+    let first : size (node k cs nil) ≡ nodes = cc in
+    let second : nodesOf c k cs p writes t ≡ nodesAgain = cc in
+    rw (← first, ← second) (read-in-all c k cs p writes t other)

@@ -1,14 +1,18 @@
--- Laws of taking brackets away: what stays of a node, tree by tree; and that taking away twice is taking away once.
+-- Laws of taking brackets away: what stays of a node, tree by tree; that taking away twice is taking away once; and that of a plain
+-- expression everything that is left is compared.
 use Prim.Native.Nat.{ℕ, suc, _+_}
 use mathlib.Core.Path.{_≡_, refl, ap, sym, _∙_}
-use mathlib.Core.Bool.{Bool, true, false, _&&_, not, false≢true, and-eq-true-iff, and-false}
+use mathlib.Core.Bool.{Bool, true, false, _&&_, not, true≢false, false≢true, and-eq-true-iff, and-false}
+use mathlib.Core.Option.{none}
 use native.Mathlib.Omega.{arith}
 use lib.Dec.{eqb}
 use borrow.Author.Tests.{ne-eqb}
+use Rattle.molang.specs.Operator
 use Rattle.molang.specs.Operator.{isBracket}
 use Rattle.molang.specs.Forest.{Token, Forest, nil, node, count}
-use Rattle.molang.specs.Plain.{isCall}
-use Rattle.molang.specs.Write.{isSingle, takenAway}
+use Rattle.molang.specs.Plain.{Seat, atRoot, seatUnder, isCall, unplainAt}
+use Rattle.molang.specs.Write.{isSingle, takenAway, comparable}
+use Rattle.molang.proofs.PlainTrees.{PlainExpression, inner, PlainTree, expression, script, plain-tree}
 
 taken-by : (taken c : Bool) (k : Token) (cs rest r : Forest) → (isBracket (k .op) && isSingle cs && not c) ≡ taken
     → takenAway c (node k cs rest) r ≡ (elim taken as (λ t. Forest) [
@@ -100,3 +104,62 @@ taken-twice c (node k cs rest) r R =
 pub taken-idempotent : (c : Bool) (f : Forest) → takenAway c (takenAway c f nil) nil ≡ takenAway c f nil
 unfolding takenAway
 taken-idempotent c f = taken-twice c f nil nil
+
+-- ---- What is compared
+
+-- The list begins with a tree whose root is no semicolon.
+record Unstated (f : Forest) : Type 0 where
+  first : Token
+  below : Forest
+  rest : Forest
+  starts : f ≡ node first below rest
+  other : eqb (first .op) Operator.semicolon ≡ false
+
+several-kept : (c : Bool) (k : Token) (cs R : Forest) → isSingle cs ≡ false
+    → takenAway c (node k cs nil) R ≡ node k (takenAway (isCall (k .op)) cs nil) R
+unfolding takenAway
+several-kept c k cs R h = taken-by false c k cs nil R (rw (h, and-false (isBracket (k .op))) refl)
+
+-- What is left of a plain expression begins with no semicolon.
+left-unstated : (p : Seat) (n : ℕ) (k : Token) (cs : Forest) → PlainExpression p n k cs → (c : Bool) (R : Forest)
+    → Unstated (takenAway c (node k cs nil) R)
+left-unstated p n k nil e c R =
+    record { first = k; below = _; rest = R; starts = several-kept c k nil R (unfold isSingle in refl); other = e .other }
+left-unstated p n k (node x xs nil) e c R =
+    let a = inner k 0 n x xs nil (e .other) (e .below) in
+    split (isBracket (k .op)) c refl (left-unstated (seatUnder k 0) (suc n) x xs (a .0) false R)
+  where
+    split : (b c : Bool) → isBracket (k .op) ≡ b → Unstated (takenAway false (node x xs nil) R)
+        → Unstated (takenAway c (node k (node x xs nil) nil) R)
+    split true false h i = record {
+      first = i .first;
+      below = i .below;
+      rest = i .rest;
+      starts = taken-bracket k x xs R h ∙ i .starts;
+      other = i .other;
+    }
+    split true true h i = record { first = k; below = _; rest = R; starts = taken-call k (node x xs nil) R; other = e .other }
+    split false c h i = record { first = k; below = _; rest = R; starts = taken-kept c k (node x xs nil) R h; other = e .other }
+left-unstated p n k (node x xs (node y ys r)) e c R =
+    record {
+      first = k;
+      below = _;
+      rest = R;
+      starts = several-kept c k (node x xs (node y ys r)) R (unfold isSingle in refl);
+      other = e .other;
+    }
+
+compared-first : (k : Token) (cs rest : Forest) → eqb (k .op) Operator.semicolon ≡ false → comparable (node k cs rest) ≡ node k cs rest
+unfolding comparable
+compared-first k cs rest h = rw (h, comparable) refl
+
+-- OF A PLAIN EXPRESSION EVERYTHING IS COMPARED: what is compared of it, with brackets taken away, is all that is left.
+pub compared-in-all : (k : Token) (cs : Forest) → unplainAt k cs ≡ none → eqb (k .op) Operator.semicolon ≡ false
+    → comparable (takenAway false (node k cs nil) nil) ≡ takenAway false (node k cs nil) nil
+compared-in-all k cs plain other = split cs (plain-tree k cs plain)
+  where
+    split : (cs : Forest) → PlainTree k cs → comparable (takenAway false (node k cs nil) nil) ≡ takenAway false (node k cs nil) nil
+    split cs (expression e) =
+        let f = left-unstated atRoot 1 k cs e false nil in
+        ap comparable (f .starts) ∙ compared-first (f .first) (f .below) (f .rest) (f .other) ∙ sym (f .starts)
+    split cs (script h s) = absurd (true≢false (sym h ∙ other))

@@ -1,16 +1,21 @@
--- Laws of writing: what is written before tokens, and that each token of the tree is put in once, with nothing added but brackets.
+-- Laws of writing: what is written before tokens, and that each token of the tree is put in once, with nothing added but brackets and the
+-- statements' semicolons.
 use Prim.Native.Nat.{ℕ, suc, _+_}
 use mathlib.Core.Path.{_≡_, refl, ap, sym, _∙_}
-use mathlib.Core.Bool.{Bool, true, false, false≢true}
+use mathlib.Core.Bool.{Bool, true, false, true≢false, false≢true}
 use mathlib.Core.List.{List, [], _∷_, _++_, append-assoc}
-use mathlib.Core.Option.{none, some}
+use mathlib.Core.Option.{none}
 use native.Mathlib.Omega.{arith}
+use lib.Dec.{eqb}
 use lib.ListN.{length, length-append}
+use Rattle.molang.specs.Operator
 use Rattle.molang.specs.Operator.{isBracket}
-use Rattle.molang.specs.Forest.{Token, Forest, nil, node, size, unclosed}
-use Rattle.molang.specs.Plain.{Seat, elsewhere, seatUnder, plainForm, seatOf, unplain, unplainAt}
-use Rattle.molang.proofs.PlainTrees.{plain-parts}
+use Rattle.molang.specs.Forest.{Token, Forest, nil, node, size, bare, unclosed}
+use Rattle.molang.specs.Plain.{Seat, atRoot, underSemicolon, seatUnder, expressionForm, unplainAt}
 use Rattle.molang.specs.Write.{openerFor, closerFor, closerOf, standsAlone, standsLeft, standsRight, operandTokens, written}
+use Rattle.molang.specs.Write.{writtenStatements, writtenTree}
+use Rattle.molang.proofs.PlainTrees.{PlainExpression, PlainStatements, ended, statement, PlainTree, expression, script, inner}
+use Rattle.molang.proofs.PlainTrees.{plain-tree}
 
 -- The writing of a node without children and with one, by whether it is a bracket.
 pub written-none : (b : Bool) (k : Token) (r : List Token) → isBracket (k .op) ≡ b
@@ -36,6 +41,15 @@ pub written-more : (k x : Token) (xs : Forest) (y : Token) (ys : Forest) (z : To
     → written k (node x xs (node y ys (node z zs more))) r ≡ k ∷ r
 unfolding written
 written-more k x xs y ys z zs more r = refl
+
+-- The writing of a tree, by whether its root is a semicolon.
+pub writtenTree-expression : (k : Token) (cs : Forest) → eqb (k .op) Operator.semicolon ≡ false → writtenTree k cs ≡ written k cs []
+unfolding writtenTree
+writtenTree-expression k cs h = rw (h, writtenTree) refl
+
+pub writtenTree-script : (k : Token) (cs : Forest) → eqb (k .op) Operator.semicolon ≡ true → writtenTree k cs ≡ writtenStatements cs []
+unfolding writtenTree
+writtenTree-script k cs h = rw (h, writtenTree) refl
 
 -- What is written before some tokens is what is written, and then these.
 pub operand-before : (b : Bool) (k : Token) (cs : Forest) (tokens : List Token → List Token) (r : List Token)
@@ -67,7 +81,8 @@ written-before k (node x xs (node y ys nil)) r =
     let right = operandTokens (standsRight k y ys) y ys (written y ys) in
     let left = operandTokens (standsLeft k x xs) x xs (written x xs) in
     let hr : right r ≡ right [] ++ r = operand-before (standsRight k y ys) y ys (written y ys) r (written-before y ys) in
-    let hl : (s : List Token) → left s ≡ left [] ++ s = λ s. operand-before (standsLeft k x xs) x xs (written x xs) s (written-before x xs) in
+    let hl : (s : List Token) → left s ≡ left [] ++ s =
+    λ s. operand-before (standsLeft k x xs) x xs (written x xs) s (written-before x xs) in
     written-two k x xs y ys r
     ∙ (ap (λ (l : List Token). left (k ∷ l)) hr
     ∙ (hl (k ∷ (right [] ++ r))
@@ -75,6 +90,17 @@ written-before k (node x xs (node y ys nil)) r =
     ∙ ap (λ (l : List Token). l ++ r) (sym (hl (k ∷ right [])) ∙ sym (written-two k x xs y ys [])))))
 written-before k (node x xs (node y ys (node z zs more))) r =
     written-more k x xs y ys z zs more r ∙ ap (λ (l : List Token). l ++ r) (sym (written-more k x xs y ys z zs more []))
+
+pub statements-before : (cs : Forest) (r : List Token) → writtenStatements cs r ≡ writtenStatements cs [] ++ r
+unfolding writtenStatements
+statements-before nil r = refl
+statements-before (node s nil rest) r = statements-before rest r
+statements-before (node s (node x xs more) rest) r =
+    let semi = bare Operator.semicolon x in
+    ap (λ (l : List Token). written x xs (semi ∷ l)) (statements-before rest r)
+    ∙ (written-before x xs (semi ∷ (writtenStatements rest [] ++ r))
+    ∙ (sym (append-assoc (written x xs []) (semi ∷ writtenStatements rest []) r)
+    ∙ ap (λ (l : List Token). l ++ r) (sym (written-before x xs (semi ∷ writtenStatements rest [])))))
 
 -- So the lengths add up.
 pub operand-length : (b : Bool) (k : Token) (cs : Forest) (r : List Token)
@@ -92,8 +118,8 @@ ownTokens k (node x xs nil) r = k ∷ ownTokens x xs r
 ownTokens k (node x xs (node y ys nil)) r = ownTokens x xs (k ∷ ownTokens y ys r)
 ownTokens k (node x xs (node y ys (node z zs more))) r = k ∷ r
 
--- The second list is the first, token by token, with brackets added: openers and closers over some tree's extent with payload 0. A section's
--- opener closes at its own end in the list; where the section closes, its closer stands.
+-- The second list is the first, token by token, with brackets added: openers and closers over some tree's extent with payload 0. A
+-- section's opener closes at its own end in the list; where the section closes, its closer stands.
 pub data Adds : List Token → List Token → Type 0 where
   nothing : Adds [] []
   own : (k : Token) {ks ls : List Token} → Adds ks ls → Adds (k ∷ ks) (k ∷ ls)
@@ -144,35 +170,63 @@ unfolding one
 inTrees test nil = 0
 inTrees test (node k cs rest) = one (test k) + inTrees test cs + inTrees test rest
 
-own-once : (test : Token → Bool) (p : Seat) (n : ℕ) (k : Token) (cs : Forest) → plainForm p k cs ≡ true → unplain (some k) 0 n cs ≡ none
-    → (r : List Token)
+own-once : (test : Token → Bool) (p : Seat) (n : ℕ) (k : Token) (cs : Forest) → PlainExpression p n k cs → (r : List Token)
     → inList test (ownTokens k cs r) ≡ one (test k) + inTrees test cs + inList test r
-unfolding ownTokens inList inTrees seatOf
-own-once test p n k nil h u r = omega arith
-own-once test p n k (node x xs nil) h u r =
-    let a = plain-parts (some k) 0 n x xs nil u in
-    let i = own-once test (seatUnder k 0) (suc n) x xs (a .here) (a .below) r in omega arith
-own-once test p n k (node x xs (node y ys nil)) h u r =
-    let a = plain-parts (some k) 0 n x xs (node y ys nil) u in
-    let b = plain-parts (some k) 1 (suc n + size xs) y ys nil (a .after) in
-    let i = own-once test (seatUnder k 0) (suc n) x xs (a .here) (a .below) (k ∷ ownTokens y ys r) in
-    let j = own-once test (seatUnder k 1) (suc (suc n + size xs)) y ys (b .here) (b .below) r in omega arith
-own-once test p n k (node x xs (node y ys (node z zs more))) h u r = absurd (false≢true (unfold plainForm in h))
+unfolding ownTokens inList inTrees
+own-once test p n k nil e r = omega arith
+own-once test p n k (node x xs nil) e r =
+    let a = inner k 0 n x xs nil (e .other) (e .below) in
+    let i = own-once test (seatUnder k 0) (suc n) x xs (a .0) r in omega arith
+own-once test p n k (node x xs (node y ys nil)) e r =
+    let a = inner k 0 n x xs (node y ys nil) (e .other) (e .below) in
+    let b = inner k 1 (suc n + size xs) y ys nil (e .other) (a .1) in
+    let i = own-once test (seatUnder k 0) (suc n) x xs (a .0) (k ∷ ownTokens y ys r) in
+    let j = own-once test (seatUnder k 1) (suc (suc n + size xs)) y ys (b .0) r in omega arith
+own-once test p n k (node x xs (node y ys (node z zs more))) e r = absurd (false≢true (unfold expressionForm in e .form))
 
--- NO TOKEN IS LOST OR INVENTED: the writing of a plain tree is its own tokens in order with added brackets between them, and its own
--- tokens are those of its nodes, each as often as it stands in the tree (any test is passed by as many of the one as of the other).
+-- NO TOKEN IS LOST OR INVENTED: the writing of a plain expression, or of what a statement holds, is its own tokens in order with added
+-- brackets between them, and its own tokens are those of its nodes, each as often as it stands in the tree (any test is passed by as many
+-- of the one as of the other).
 pub record PutInOnce (k : Token) (cs : Forest) : Type 0 where
   pub bracketsAdded : Adds (ownTokens k cs []) (written k cs [])
   pub eachOnce : (test : Token → Bool) → inList test (ownTokens k cs []) ≡ inTrees test (node k cs nil)
 
-pub put-in-once : (k : Token) (cs : Forest) → unplainAt k cs ≡ none → PutInOnce k cs
-unfolding unplainAt seatOf inList inTrees
-put-in-once k cs plain = record {
+expression-once : (p : Seat) (n : ℕ) (k : Token) (cs : Forest) → PlainExpression p n k cs → PutInOnce k cs
+unfolding inList inTrees
+expression-once p n k cs e = record {
   bracketsAdded = adds k cs [] [] nothing;
-  eachOnce = λ test.
-      let a = plain-parts none 0 0 k cs nil plain in
-      let i = own-once test elsewhere 1 k cs (a .here) (a .below) [] in omega arith;
+  eachOnce = λ test. let i = own-once test p n k cs e [] in omega arith;
 }
+
+-- The list is what is written of each statement, one after another: of what it holds, and then a semicolon with the span of that child and
+-- payload 0. The semicolons of the tree are not written.
+pub data StatementsOnce : Forest → List Token → Type 0 where
+  noStatement : StatementsOnce nil []
+  statementOnce : (s x : Token) {xs rest : Forest} {ls : List Token} → PutInOnce x xs → StatementsOnce rest ls
+      → StatementsOnce (node s (node x xs nil) rest) (written x xs [] ++ (bare Operator.semicolon x ∷ ls))
+
+statements-once : (cs : Forest) → PlainStatements cs → StatementsOnce cs (writtenStatements cs [])
+unfolding writtenStatements
+statements-once nil ended = noStatement
+statements-once (node s (node x xs nil) rest) (statement _ n _ h e later) =
+    rw (written-before x xs (bare Operator.semicolon x ∷ writtenStatements rest []))
+    (statementOnce s x (expression-once underSemicolon n x xs e) (statements-once rest later))
+
+-- The writing of a plain tree: of an expression it is put in once, of a script each statement is.
+pub put-in-once : (k : Token) (cs : Forest) → unplainAt k cs ≡ none → eqb (k .op) Operator.semicolon ≡ false → PutInOnce k cs
+put-in-once k cs plain other = split cs (plain-tree k cs plain)
+  where
+    split : (cs : Forest) → PlainTree k cs → PutInOnce k cs
+    split cs (expression e) = expression-once atRoot 1 k cs e
+    split cs (script h s) = absurd (true≢false (sym h ∙ other))
+
+pub statements-put-in-once : (k : Token) (cs : Forest) → unplainAt k cs ≡ none → eqb (k .op) Operator.semicolon ≡ true
+    → StatementsOnce cs (writtenTree k cs)
+statements-put-in-once k cs plain semicolon = split cs (plain-tree k cs plain)
+  where
+    split : (cs : Forest) → PlainTree k cs → StatementsOnce cs (writtenTree k cs)
+    split cs (expression e) = absurd (true≢false (sym semicolon ∙ e .other))
+    split cs (script h s) = rw (writtenTree-script k cs semicolon) (statements-once cs s)
 
 -- A test that passes none of these brackets and does not look at where a token closes, which the list does not say.
 pub record Unbracketing (test : Token → Bool) : Type 0 where
@@ -191,6 +245,9 @@ others-once test t (sectionEnd k a) = let i = others-once test t a in rw (t .sec
 others-once test t (opener k cs a) = let i = others-once test t a in rw (t .opener k cs) (omega arith)
 others-once test t (closer k cs a) = let i = others-once test t a in rw (t .closer k cs) (omega arith)
 
-pub written-once : (k : Token) (cs : Forest) → unplainAt k cs ≡ none → (test : Token → Bool) → Unbracketing test
-    → inList test (written k cs []) ≡ inTrees test (node k cs nil)
-written-once k cs plain test t = let p = put-in-once k cs plain in others-once test t (p .bracketsAdded) ∙ p .eachOnce test
+pub written-once : (k : Token) (cs : Forest) → unplainAt k cs ≡ none → eqb (k .op) Operator.semicolon ≡ false → (test : Token → Bool)
+    → Unbracketing test
+    → inList test (writtenTree k cs) ≡ inTrees test (node k cs nil)
+written-once k cs plain other test t =
+    let p = put-in-once k cs plain other in
+    ap (inList test) (writtenTree-expression k cs other) ∙ (others-once test t (p .bracketsAdded) ∙ p .eachOnce test)

@@ -14,7 +14,7 @@ use Rattle.molang.specs.Words.{tokensOf, listWords, treeWords}
 use Rattle.molang.specs.Parse.{Call, mostTokens, refusal, reading, Told, aTree, someMessages, refused, answered, treeAfter}
 use Rattle.molang.specs.Parse.{messagesAfter, workAfter}
 use Rattle.molang.specs.Plain.{unplainAt}
-use Rattle.molang.specs.Write.{written, takenAway}
+use Rattle.molang.specs.Write.{writtenTree, takenAway, comparable}
 use Rattle.molang.specs.WriteEntry.{treesOf, WriteCall, WriteTold, tokens, unwritten, writeAnswered, listAfter}
 
 -- ---- The three calls
@@ -130,9 +130,9 @@ reread c = afterFirst (handed c) (answered (c .first))
 
 -- ---- The demand
 
--- A tree's words with its brackets taken away.
+-- What is compared of a tree's words: with its brackets taken away, and in a script without the spans, payloads and closes of semicolons.
 unfoldable pub bracketless : List ℕ → List ℕ
-bracketless ws = treeWords (takenAway false (treesOf ws) nil)
+bracketless ws = treeWords (comparable (takenAway false (treesOf ws) nil))
 
 -- What demand 3 asks of a call: the first reading is not turned back and gives the tree k over cs, which is plain; what is written of it
 -- has at most 4,096 tokens, and the lent buffers and the second source length are such as the table asks. (The first call asked for the
@@ -141,18 +141,18 @@ pub record CanReadBack (c : Rereading) (k : Token) (cs : Forest) : Type 0 where
   pub accepted : refusal (c .first) ≡ none
   pub reads : reading (c .first) ≡ tree k cs
   pub plain : unplainAt k cs ≡ none
-  pub few : length (written k cs []) ≤ mostTokens
-  pub listRoom : 5 * length (written k cs []) ≤ length (c .written)
-  pub treeRoom : 21 * length (written k cs []) ≤ length (c .again)
-  pub workRoom : 64 * length (written k cs []) + 64 ≤ length (c .first .work)
+  pub few : length (writtenTree k cs) ≤ mostTokens
+  pub listRoom : 5 * length (writtenTree k cs) ≤ length (c .written)
+  pub treeRoom : 21 * length (writtenTree k cs) ≤ length (c .again)
+  pub workRoom : 64 * length (writtenTree k cs) + 64 ≤ length (c .first .work)
   pub legalLength : c .sourceLength ≤ 536870911
 
 -- What comes of it: both node counts and the token count are told, the list opens with what is written of the tree, and with brackets taken
 -- away the two trees have the same words in the same order.
 pub record HasReadBack (k : Token) (cs : Forest) (l : RereadLeft) : Type 0 where
   pub nodesAgain : ℕ
-  pub tells : l .told ≡ twoTrees (size (node k cs nil)) (length (written k cs [])) nodesAgain
-  pub listed : take (5 * length (written k cs [])) (l .written) ≡ listWords (written k cs [])
+  pub tells : l .told ≡ twoTrees (size (node k cs nil)) (length (writtenTree k cs)) nodesAgain
+  pub listed : take (5 * length (writtenTree k cs)) (l .written) ≡ listWords (writtenTree k cs)
   pub words : bracketless (take (7 * nodesAgain) (l .again)) ≡ bracketless (take (7 * size (node k cs nil)) (l .tree))
 
 -- DEMAND 3 OF A CALL, by what is told and left. Where the demand's premise holds, the tree reads back. Of every call: whenever two trees

@@ -1,10 +1,10 @@
 -- Writing a plain tree out with brackets, and taking brackets away (document 01, 'Writing a plain tree').
 use Prim.Native.Nat.{ℕ}
 use mathlib.Core.Bool.{Bool, true, false, _||_, _&&_, not}
-use mathlib.Core.List.{List, _∷_}
+use mathlib.Core.List.{List, [], _∷_}
 use lib.Dec.{eqb}
 use Rattle.molang.specs.Operator
-use Rattle.molang.specs.Forest.{Token, Forest, nil, node, unclosed}
+use Rattle.molang.specs.Forest.{Token, Forest, nil, node, bare, unclosed}
 use Rattle.molang.specs.Operator.{isBracket}
 use Rattle.molang.specs.Plain.{isCall}
 use Rattle.molang.specs.Read.{lowestStart, highestEnd}
@@ -43,7 +43,8 @@ unfoldable pub operandTokens : Bool → Token → Forest → (List Token → Lis
 operandTokens true k cs tokens r = tokens r
 operandTokens false k cs tokens r = openerFor k cs ∷ tokens (closerFor k cs ∷ r)
 
--- THE WRITING: the tokens of the node k over its children, before the tokens r. (No plain node has three children.)
+-- WRITING AN EXPRESSION, or what a statement holds: the tokens of the node k over its children, before the tokens r. (No plain node that is
+-- no semicolon has three children.)
 unfoldable pub written : Token → Forest → List Token → List Token
 written k nil r = elim (isBracket (k .op)) [ true ↦ unclosed k ∷ closerOf k ∷ r | false ↦ k ∷ r ]
 written k (node x xs nil) r =
@@ -54,6 +55,17 @@ written k (node x xs nil) r =
 written k (node x xs (node y ys nil)) r =
     operandTokens (standsLeft k x xs) x xs (written x xs) (k ∷ operandTokens (standsRight k y ys) y ys (written y ys) r)
 written k (node x xs (node y ys (node z zs more))) r = k ∷ r
+
+-- The statements of a script, before the tokens r: what each holds, and after it a semicolon with the span of that child and payload 0
+-- (card 1). (No plain statement is empty, and none holds two trees.)
+unfoldable pub writtenStatements : Forest → List Token → List Token
+writtenStatements nil r = r
+writtenStatements (node s nil rest) r = writtenStatements rest r
+writtenStatements (node s (node x xs more) rest) r = written x xs (bare Operator.semicolon x ∷ writtenStatements rest r)
+
+-- THE WRITING of the tree k over cs: of a root semicolon its statements, of any other root the expression.
+unfoldable pub writtenTree : Token → Forest → List Token
+writtenTree k cs = elim (eqb (k .op) Operator.semicolon) [ true ↦ writtenStatements cs [] | false ↦ written k cs [] ]
 
 -- Exactly one tree.
 unfoldable pub isSingle : Forest → Bool
@@ -70,3 +82,17 @@ takenAway inCall (node k cs rest) r =
       | true ↦ takenAway false cs (takenAway inCall rest r)
       | false ↦ node k (takenAway (isCall (k .op)) cs nil) (takenAway inCall rest r)
     ]
+
+-- What is compared of a script's token: of a semicolon its operator alone.
+unfoldable pub comparableToken : Token → Token
+comparableToken k = elim (eqb (k .op) Operator.semicolon) [ true ↦ spanning Operator.semicolon 0 0 | false ↦ k ]
+
+-- Of its trees.
+unfoldable pub comparableTrees : Forest → Forest
+comparableTrees nil = nil
+comparableTrees (node k cs rest) = node (comparableToken k) (comparableTrees cs) (comparableTrees rest)
+
+-- WHAT IS COMPARED of a tree (card 1): where its root is a semicolon, all but the spans, payloads and closes of semicolons; else all.
+unfoldable pub comparable : Forest → Forest
+comparable nil = nil
+comparable (node k cs rest) = elim (eqb (k .op) Operator.semicolon) [ true ↦ comparableTrees (node k cs rest) | false ↦ node k cs rest ]

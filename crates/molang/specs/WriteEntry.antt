@@ -12,7 +12,7 @@ use Rattle.molang.specs.Words.{wordFault, variantAfter, lowOf, nodeOf, l
 use Rattle.molang.specs.FirstFailure.{must, firstOf}
 use Rattle.molang.specs.Parse.{mostTokens, inFront}
 use Rattle.molang.specs.Plain.{unplainAt}
-use Rattle.molang.specs.Write.{written}
+use Rattle.molang.specs.Write.{writtenTree}
 
 -- The most nodes of a tree.
 abbrev pub mostNodes : ℕ
@@ -102,8 +102,8 @@ forestRefusal nil room = none
 forestRefusal (node k cs rest) room =
     firstOf
     (withNumber 13 (unplainAt k cs)
-    ∷ must (leb (length (written k cs [])) mostTokens) (row 14 0)
-    ∷ must (leb (5 * length (written k cs [])) room) (row 15 0)
+    ∷ must (leb (length (writtenTree k cs)) mostTokens) (row 14 0)
+    ∷ must (leb (5 * length (writtenTree k cs)) room) (row 15 0)
     ∷ [])
 
 -- The table's last four lines, in their order.
@@ -117,7 +117,7 @@ writeRefusal c =
 -- The tokens that are written of the first tree.
 unfoldable pub writtenTokens : Forest → List Token
 writtenTokens nil = []
-writtenTokens (node k cs rest) = written k cs []
+writtenTokens (node k cs rest) = writtenTree k cs
 
 -- What the caller is told: the token count, or a refusal.
 pub data WriteTold : Type 0 where

@@ -16,7 +16,7 @@ use Rattle.molang.specs.Words.{wordFault, variantAfter, nextInToken, Refusal, r
 use Rattle.molang.specs.FirstFailure.{must, firstOf}
 use Rattle.molang.specs.Parse.{Call, mostTokens, refusal, reading, told, answered}
 use Rattle.molang.specs.Plain.{plainForm, seatOf, unplain, unplainAt}
-use Rattle.molang.specs.Write.{written}
+use Rattle.molang.specs.Write.{writtenTree}
 use Rattle.molang.specs.WriteEntry.{mostNodes, nextInNode, Shape, shapeAfter, continues, isWhole, treeFault, treesOf, WriteCall}
 use Rattle.molang.specs.WriteEntry.{forestRefusal, writeRefusal, writtenTokens, writeTold, writeAnswered}
 use Rattle.molang.proofs.Accepted.{call-accepted}
@@ -127,7 +127,7 @@ forest-fits (node k cs rest) room h =
     split (unplain none 0 0 (node k cs nil)) (leb n mostTokens) (leb (5 * n) room) refl (unplain-place none 0 0 (node k cs nil))
   where
     n : ℕ
-    n = length (written k cs [])
+    n = length (writtenTree k cs)
 
     split : (o : Option ℕ) (a b : Bool) → leb n mostTokens ≡ a → All (λ m. m < 0 + size (node k cs nil)) o
         → FitsWritten (writeTold (firstOf (withNumber 13 o ∷ must a (row 14 0) ∷ must b (row 15 0) ∷ [])) (node k cs rest))

@@ -4,3 +4,5 @@ pub mod CaseLaws
 pub mod StepLaws
 pub mod ReaderLaws
 pub mod EntryLaws
+pub mod RootLaws
+pub mod StatementLaws

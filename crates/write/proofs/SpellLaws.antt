@@ -19,7 +19,7 @@ use Rattle.shape.proofs.RowLaws.{Opened, after-trees, shaped-length, no-kids, o
 use Rattle.molang.specs.Words.{lowOf, word, tokenWords, listWords}
 use Rattle.molang.specs.Read.{lowestStart, highestEnd}
 use Rattle.molang.specs.Write.{spanning, openerFor, closerFor, closerOf, standsAlone, standsLeft, standsRight, operandTokens, written}
-use Rattle.molang.specs.WriteEntry.{firstTrees, otherTrees, treesOf, writtenTokens}
+use Rattle.molang.specs.WriteEntry.{firstTrees, otherTrees, treesOf}
 use Rattle.molang.proofs.Writing.{written-none, written-one, written-two, operand-before, written-before}
 use Rattle.words.specs.Extents.{wider, extentWith, firstExtent}
 use Rattle.words.specs.Fields.{operatorOf}
@@ -27,7 +27,7 @@ use Rattle.words.specs.declared.extent.Extent.{Extent}
 use Rattle.words.proofs.TreeLaws.{Fits, first-fits, in-one, extent-step}
 use Rattle.words.specs.Tokens.{fiveWords}
 use Rattle.write.specs.Spelling.{spanningWords, pairOpener, pairCloser, closerWords, seenWith}
-use Rattle.write.specs.Spelling.{firstSize, operandOf, nodeWritten, operandWritten}
+use Rattle.write.specs.Spelling.{firstSize, nodeTokens, operandOf, nodeWritten, operandWritten}
 
 -- The words of a list of tokens.
 pub list-words-append : (xs ys : List Token) → listWords (xs ++ ys) ≡ listWords xs ++ listWords ys
@@ -120,7 +120,7 @@ unfolding firstSize size
 first-size nil = omega arith
 first-size (node k cs rest) = omega arith
 
-first-tree : (f : Forest) → size (firstTrees 1 f) ≡ firstSize f
+pub first-tree : (f : Forest) → size (firstTrees 1 f) ≡ firstSize f
 unfolding firstTrees firstSize size
 first-tree nil = refl
 first-tree (node k cs rest) = omega arith
@@ -133,11 +133,11 @@ list-words-cons : (k : Token) (ks : List Token) → listWords (k ∷ ks) ≡ tok
 unfolding listWords
 list-words-cons k ks = refl
 
-list-words-one : (k : Token) → listWords (k ∷ []) ≡ tokenWords k
+pub list-words-one : (k : Token) → listWords (k ∷ []) ≡ tokenWords k
 unfolding listWords
 list-words-one k = append-nil (tokenWords k)
 
-list-words-none : listWords [] ≡ []
+pub list-words-none : listWords [] ≡ []
 unfolding listWords
 list-words-none = refl
 
@@ -150,7 +150,7 @@ module _ {others : ℕ} {W : List ℕ} (o : Opened 2 (suc others) W) where
   closer-by false e = no-closer W (λ h. eqb-false (o .k .op) 4 e (o .op ∙ h))
 
   pub none-below : lowOf (getD W countIndex 0) ≡ 0 → NoneBelow W
-  unfolding writtenTokens firstSize size
+  unfolding nodeTokens firstSize size
   none-below e =
       let leaf : treesOf W ≡ node (o .k) nil (o .rest) = rw (← no-kids (o .cs) (o .children ∙ e)) (o .trees) in
       record {
@@ -164,7 +164,7 @@ module _ {others : ℕ} {W : List ℕ} (o : Opened 2 (suc others) W) where
       split false h = rw (written-none false (o .k) [] h, closer-by false h, list-words-cons, o .five, list-words-none)
 
   pub one-below : lowOf (getD W countIndex 0) ≡ 1 → OneBelow others W
-  unfolding writtenTokens operandOf operandTokens firstSize size beside
+  unfolding nodeTokens operandOf operandTokens firstSize size beside
   one-below e =
       let kid = one-kid (o .cs) (o .children ∙ e) in
       let trees : treesOf W ≡ node (o .k) (node (kid .x) (kid .xs) nil) (o .rest) = rw (← kid .is) (o .trees) in
@@ -199,7 +199,7 @@ module _ {others : ℕ} {W : List ℕ} (o : Opened 2 (suc others) W) where
           rw (written-one false (o .k) x xs [] h, unpaired-only x xs (o .k) h, closer-by false h, list-words-cons, o .five, append-nil)
 
   pub two-below : lowOf (getD W countIndex 0) ≡ 2 → TwoBelow others W
-  unfolding writtenTokens operandOf firstSize size beside otherTrees
+  unfolding nodeTokens operandOf firstSize size beside otherTrees
   two-below e =
       let kids = two-kids (o .cs) (o .children ∙ e) in
       let x = kids .x in
@@ -252,7 +252,7 @@ module _ {others : ℕ} {W : List ℕ} (o : Opened 2 (suc others) W) where
       → operandWritten p W
       ≡ pairOpener (firstExtent (treesOf W) .start) (firstExtent (treesOf W) .end)
       ++ (nodeWritten W ++ pairCloser (firstExtent (treesOf W) .end))
-  unfolding operandOf writtenTokens operandTokens
+  unfolding operandOf nodeTokens operandTokens
   paired-words p e =
       let paired : isPaired p (o .k .op) (count (o .cs)) ≡ true = rw (o .op, o .children) e in
       let fits : Fits (firstExtent (node (o .k) (o .cs) (o .rest))) = rw (o .trees) at (first-fits W) in
@@ -269,7 +269,7 @@ module _ {others : ℕ} {W : List ℕ} (o : Opened 2 (suc others) W) where
 
   pub unpaired-words : (p : Seat) → isPaired p (operatorOf (getD W 0 0)) (lowOf (getD W countIndex 0)) ≡ false
       → operandWritten p W ≡ nodeWritten W
-  unfolding operandOf writtenTokens operandTokens
+  unfolding operandOf nodeTokens operandTokens
   unpaired-words p e =
       let alone : isPaired p (o .k .op) (count (o .cs)) ≡ false = rw (o .op, o .children) e in
       rw (o .trees, alone)

@@ -7,7 +7,7 @@ use native.Mathlib.Omega.{arith}
 use lib.ListN.{length, take, drop, getD, length-append, length-drop}
 use lib.Seq.{take-all, length-take-le}
 use Rattle.molang.specs.Words.{lowOf, listWords}
-use Rattle.molang.specs.WriteEntry.{treesOf, writtenTokens}
+use Rattle.molang.specs.WriteEntry.{treesOf}
 use Rattle.words.specs.Fields.{operatorOf}
 use Rattle.words.specs.Records.{laidAt}
 use Rattle.words.specs.Extents.{wider, firstExtent}
@@ -18,7 +18,7 @@ use Rattle.write.specs.declared.plain.Seat.{Seat}
 use Rattle.write.specs.Seats.{isPaired, onlySeat, leftSeat, rightSeat}
 use Rattle.shape.specs.Shaped.{nodeLength, countIndex, firstFive, Shaped}
 use Rattle.write.specs.Spelling.{pairOpener, pairCloser, closerWords, seen, seenWith}
-use Rattle.write.specs.Spelling.{firstSize, operandOf, filledWords, nodeWritten, operandWritten}
+use Rattle.write.specs.Spelling.{firstSize, nodeTokens, operandOf, filledWords, nodeWritten, operandWritten}
 use Rattle.write.specs.Spelling.{Room}
 use Rattle.shape.proofs.RowLaws.{Opened, opened, shaped-room}
 use Rattle.write.proofs.SpellLaws.{first-within, none-below, OneBelow, one-below, onlyWords, TwoBelow, two-below, leftWords}
@@ -28,7 +28,7 @@ use Rattle.write.proofs.SpellLaws.{leftSize, rightPart, rightWords, pai
 abbrev pub tail : ℕ → List ℕ → List ℕ
 tail n W = take (length W - n) (drop n W)
 
-tail-part : (n : ℕ) (W : List ℕ) → tail n W ≡ drop n W
+pub tail-part : (n : ℕ) (W : List ℕ) → tail n W ≡ drop n W
 tail-part n W = take-all (length W - n) (drop n W) (omega (arith, length-drop n W))
 
 tail-length : (n : ℕ) (W : List ℕ) → length (tail n W) ≡ length W - n
@@ -49,17 +49,17 @@ Puts ws L to L' to' = (L' ≡ laidAt to ws L) × (to' ≡ to + length ws)
 abbrev pub Writes : List ℕ → List ℕ → List ℕ → ℕ → List ℕ → List ℕ → ℕ → Type 0
 Writes ws W L to part L' to' = (part ≡ filledWords W) × Puts ws L to L' to'
 
-puts-more : (to : ℕ) (xs ys L : List ℕ) {L1 L2 : List ℕ} {to1 to2 : ℕ} → to + length (xs ++ ys) ≤ length L → Puts xs L to L1 to1
+pub puts-more : (to : ℕ) (xs ys L : List ℕ) {L1 L2 : List ℕ} {to1 to2 : ℕ} → to + length (xs ++ ys) ≤ length L → Puts xs L to L1 to1
     → Puts ys L1 to1 L2 to2
     → Puts (xs ++ ys) L to L2 to2
 puts-more to xs ys L room a b =
     let both = length-append xs ys in
     (b .0 ∙ rw (a .0, a .1) (laid-laid to xs ys L (omega arith)), omega (arith, a .1, b .1))
 
-puts-length : (to : ℕ) (xs L : List ℕ) {L1 : List ℕ} {to1 : ℕ} → to + length xs ≤ length L → Puts xs L to L1 to1 → length L1 ≡ length L
+pub puts-length : (to : ℕ) (xs L : List ℕ) {L1 : List ℕ} {to1 : ℕ} → to + length xs ≤ length L → Puts xs L to L1 to1 → length L1 ≡ length L
 puts-length to xs L room a = rw (a .0) (laid-length to xs L room)
 
-part-length : {most p : ℕ} {W l : List ℕ} → Shaped most p W → l ≡ take (nodeLength * firstSize (treesOf W)) W
+pub part-length : {most p : ℕ} {W l : List ℕ} → Shaped most p W → l ≡ take (nodeLength * firstSize (treesOf W)) W
     → length l ≡ nodeLength * firstSize (treesOf W)
 part-length {W = W} s e = rw e (length-take-le (nodeLength * firstSize (treesOf W)) W (first-within s))
 
@@ -75,7 +75,7 @@ or-not zero P f g = f refl
 or-not (suc n) P f g = g (λ e. omega arith)
 
 -- A node that is to be written.
-module _ {W L : List ℕ} {to : ℕ} (r : Room writtenTokens W L to) where
+module _ {W L : List ℕ} {to : ℕ} (r : Room nodeTokens W L to) where
   here : Opened 2 (suc (r .others)) W
   here = opened (r .shaped) (omega (arith, shaped-room (r .shaped)))
 
@@ -306,7 +306,7 @@ module _ {W L : List ℕ} {to : ℕ} (p : Seat) (r : Room (operandOf p) W L to) 
 
   -- As it is.
   module _ (alone : isPaired p (operatorOf (getD W 0 0)) (lowOf (getD W countIndex 0)) ≡ false) where
-    pub alone-room : Room writtenTokens W L to
+    pub alone-room : Room nodeTokens W L to
     alone-room = record { others = r .others; shaped = r .shaped; room = rw (← unpaired-words operand p alone) (r .room) }
 
     pub alone-writes : (l L1 : List ℕ) (to1 : ℕ) → Writes (nodeWritten W) W L to l L1 to1
@@ -338,7 +338,7 @@ module _ {W L : List ℕ} {to : ℕ} (p : Seat) (r : Room (operandOf p) W L to) 
     unfolding opens
     open-room = omega (arith, pair-room, length-append opens (inner ++ closes))
 
-    pub inner-room : Room writtenTokens W L (to + 5)
+    pub inner-room : Room nodeTokens W L (to + 5)
     unfolding inner opens closes
     inner-room =
         let front = length-append opens (inner ++ closes) in

@@ -6,17 +6,19 @@ use lib.Dec.{eqb}
 use Rattle.molang.specs.Operator
 use Rattle.molang.specs.Operator.{isOneOf, isMathCall, isBracket}
 use Rattle.molang.specs.Plain as plain
-use Rattle.molang.specs.Plain.{isPlainLeaf, isPlainBinary, isCall, isRightOfQuestion, isUnderMathCall}
+use Rattle.molang.specs.Plain.{isPlainLeaf, isPlainBinary, isCall, isRightOfQuestion, isUnderMathCall, isUnderSemicolon}
 use Rattle.write.specs.declared.plain.Seat.{Seat}
 use Rattle.write.specs.declared.plain.Seat.the-variants.{Enclosed, UnderMathCall, LeftOfComma, RightOfQuestion, Operand}
+use Rattle.write.specs.declared.plain.Seat.the-variants.{UnderSemicolon}
 
--- The definition's seat, by which the plain forms go.
+-- The definition's seat, by which the plain forms go. (The root of an expression has the forms of a node elsewhere.)
 abbrev pub formSeat : Seat → plain.Seat
 formSeat Enclosed = plain.elsewhere
 formSeat UnderMathCall = plain.underMathCall
 formSeat LeftOfComma = plain.elsewhere
 formSeat RightOfQuestion = plain.rightOfQuestion
 formSeat Operand = plain.elsewhere
+formSeat UnderSemicolon = plain.underSemicolon
 
 -- The seat of the one child of an operator.
 unfoldable pub onlySeat : ℕ → Seat
@@ -30,15 +32,25 @@ leftSeat op = elim (eqb op Operator.comma) [ true ↦ LeftOfComma | false ↦ Op
 unfoldable pub rightSeat : ℕ → Seat
 rightSeat op = elim (eqb op Operator.conditional) [ true ↦ RightOfQuestion | false ↦ Operand ]
 
+-- The seat by which the one child of an operator is judged: what a statement holds stands under its semicolon.
+unfoldable pub belowSeat : ℕ → Seat
+belowSeat op = elim (eqb op Operator.semicolon) [ true ↦ UnderSemicolon | false ↦ onlySeat op ]
+
 -- What stands before any one operand in a plain tree.
 unfoldable pub isPrefix : ℕ → Bool
 isPrefix op = isOneOf (Operator.leftParenthesis ∷ Operator.negate ∷ Operator.logicalNot ∷ []) op
 
+-- What stands before one operand in a statement only: a return, and the statement itself over what is none.
+unfoldable pub holdsOne : ℕ → ℕ → Bool
+holdsOne op first = eqb op Operator.return || (eqb op Operator.semicolon && not (eqb first Operator.semicolon))
+
 -- The plain forms, over a number of children of which the first has the operator `first`.
 unfoldable pub plainBy : Seat → ℕ → ℕ → ℕ → Bool
 plainBy p op zero first = isPlainLeaf op || (isBracket op && isUnderMathCall (formSeat p))
-plainBy p op (suc zero) first = isPrefix op || (isCall op && isBracket first)
-plainBy p op (suc (suc zero)) first = isPlainBinary op || (eqb op Operator.conditionalElse && isRightOfQuestion (formSeat p))
+plainBy p op (suc zero) first = isPrefix op || (isCall op && isBracket first) || (holdsOne op first && isUnderSemicolon (formSeat p))
+plainBy p op (suc (suc zero)) first =
+    isPlainBinary op || (eqb op Operator.conditionalElse && isRightOfQuestion (formSeat p))
+    || (eqb op Operator.assignment && isUnderSemicolon (formSeat p))
 plainBy p op (suc (suc (suc n))) first = false
 
 -- The seat spares a node of this operator its pair.
@@ -48,6 +60,7 @@ isSpared UnderMathCall op = false
 isSpared LeftOfComma op = eqb op Operator.comma
 isSpared RightOfQuestion op = eqb op Operator.conditionalElse
 isSpared Operand op = false
+isSpared UnderSemicolon op = true
 
 -- A node of this operator and so many children gets an added pair.
 unfoldable pub isPaired : Seat → ℕ → ℕ → Bool

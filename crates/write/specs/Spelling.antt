@@ -14,11 +14,11 @@ use Rattle.words.specs.Tokens.{fiveWords}
 use Rattle.words.specs.declared.extent.Extent.{Extent}
 use Rattle.words.specs.declared.tokens.TokenWords.{TokenWords}
 use Rattle.molang.specs.Write.{written, operandTokens}
-use Rattle.molang.specs.WriteEntry.{firstTrees, treesOf, writtenTokens, tokens}
+use Rattle.molang.specs.WriteEntry.{firstTrees, treesOf, tokens}
 use Rattle.write.specs.declared.plain.Seat.{Seat}
 use Rattle.write.specs.Answers.{judgement}
 use Rattle.write.specs.Seats.{isPaired}
-use Rattle.shape.specs.Shaped.{nodeLength, closeIndex, Shaped}
+use Rattle.shape.specs.Shaped.{nodeLength, closeIndex, Shaped, OneTree}
 
 -- The words of a token of op over a span, with payload 0.
 abbrev pub spanningWords : ℕ → ℕ → ℕ → TokenWords
@@ -54,7 +54,12 @@ unfoldable pub firstSize : Forest → ℕ
 firstSize nil = 0
 firstSize (node k cs rest) = 1 + size cs
 
--- The tokens of the first tree as an operand in its seat.
+-- The tokens of the first tree as an expression, or as what a statement holds.
+unfoldable pub nodeTokens : Forest → List Token
+nodeTokens nil = []
+nodeTokens (node k cs rest) = written k cs []
+
+-- Those of it as an operand in its seat.
 unfoldable pub operandOf : Seat → Forest → List Token
 operandOf p nil = []
 operandOf p (node k cs rest) = operandTokens (not (isPaired p (k .op) (count cs))) k cs (written k cs) []
@@ -65,9 +70,9 @@ filledWords ws = take (nodeLength * firstSize (treesOf ws)) ws
 
 -- The words that are written of the first tree.
 abbrev pub nodeWritten : List ℕ → List ℕ
-nodeWritten ws = listWords (writtenTokens (treesOf ws))
+nodeWritten ws = listWords (nodeTokens (treesOf ws))
 
--- Those of it as an operand in its seat.
+-- Those of it as an operand.
 abbrev pub operandWritten : Seat → List ℕ → List ℕ
 operandWritten p ws = listWords (operandOf p (treesOf ws))
 
@@ -77,7 +82,7 @@ pub record Room (spelt : Forest → List Token) (words list : List ℕ) (to : �
   pub shaped : Shaped 2 (suc others) words
   pub room : to + length (listWords (spelt (treesOf words))) ≤ length list
 
--- The words are one tree of at most two children a node, which is plain and written with so many tokens.
+-- The words are one tree, which is plain and written with so many tokens.
 pub record Writable (words : List ℕ) (count : ℕ) : Type 0 where
-  pub shaped : Shaped 2 1 words
+  pub one : OneTree words
   pub judged : tokens count ≡ judgement (treesOf words)

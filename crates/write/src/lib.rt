@@ -4,10 +4,13 @@
 mod plain;
 mod reader;
 mod spell;
+mod statements;
 
 use crate::plain::Judged;
 use crate::plain::judge;
 use crate::spell::write_node;
+use crate::statements::write_statements;
+use ops::op;
 use shape::Fault;
 use shape::first_fault;
 use words::fields;
@@ -23,7 +26,8 @@ pub enum Written {
     Refused(u32, usize),
 }
 
-// Writes a plain tree of so many tokens, if the list has room for them.
+// Writes a plain tree of so many tokens, if the list has room for them: of a root semicolon its statements, of any other root the
+// expression.
 fn fill(tree: &[u32], list: &mut [u32], tokens: usize) -> Written
     requires { ⌜ Writable (now tree) tokens ⌝ }
     ensures { λ r. ⌜ told r ≡ filling (treesOf (now (tree .entry))) (now (list .entry)) ⌝ }
@@ -34,6 +38,10 @@ fn fill(tree: &[u32], list: &mut [u32], tokens: usize) -> Written
     }
     if list.len() < fields::TOKEN_WORDS * tokens {
         return Written::Refused(refusals::SHORT_LIST, 0);
+    }
+    if fields::operator(tree[0]) == op::SEMICOLON {
+        write_statements(tree, list);
+        return Written::Tokens(tokens);
     }
     let mut to = 0usize;
     let mut low = fields::KIND - 1;

@@ -1,19 +1,26 @@
 // Answer 13 and the written count, in one loop over the nodes in tree order: a node is judged by its own operator, its seat under
 // its parent and its first child's operator. The seats of the nodes that are called for and have not come yet stand on a stack,
-// the next one on top. The words are read by the reader. Leans on ops and words.
+// the next one on top. Of a script the root is judged first, by its children's operators, and the loop begins behind it. The words are
+// read by the reader. Leans on ops and words.
 use crate::reader::view_node;
 use ops::is_math_call;
 use ops::op;
+use words::fields;
 ghost use mathlib.Core.Path.{_≡_};
+ghost use mathlib.Core.Bool.{_&&_, not};
+ghost use lib.Dec.{eqb};
+ghost use Rattle.molang.specs.Operator;
+ghost use Rattle.molang.specs.Operator.{isBracket};
 ghost use Rattle.molang.specs.Plain as plain;
 ghost use Rattle.molang.specs.WriteEntry.{treesOf};
 ghost use Rattle.write.specs.Answers.{verdictOf, judgement};
-ghost use Rattle.write.specs.Seats.{formSeat, onlySeat, leftSeat, rightSeat, isPrefix, plainBy, isPaired, tokensFor};
+ghost use Rattle.write.specs.Seats.{formSeat, onlySeat, leftSeat, rightSeat, belowSeat, isPrefix, plainBy, isPaired, tokensFor};
+ghost use Rattle.write.specs.Scripts.{holdsStatements, Begins};
 ghost use Rattle.shape.specs.Shaped.{OneTree};
 
 // The seat of a node under its parent, as far as its form and its pair of brackets depend on it.
 pub enum Seat {
-    // The root, or a bracket's child.
+    // The root of an expression, or a bracket's child.
     Enclosed,
     // The bracket under a math call.
     UnderMathCall,
@@ -23,6 +30,8 @@ pub enum Seat {
     RightOfQuestion,
     // Any other operand.
     Operand,
+    // A statement of a script, or what a statement holds.
+    UnderSemicolon,
 }
 
 // What a tree is found to be.
@@ -64,6 +73,16 @@ pub fn seat_of_right(op: u32) -> Seat
         return Seat::RightOfQuestion;
     }
     Seat::Operand
+}
+
+// The seat by which the one child of op is judged: what a statement holds stands under its semicolon.
+fn seat_below(op: u32) -> Seat
+    ensures { λ r. ⌜ r ≡ belowSeat op ⌝ }
+{
+    if op == op::SEMICOLON {
+        return Seat::UnderSemicolon;
+    }
+    seat_of_only(op)
 }
 
 // The leaves of document 01's plain forms: 40, 42-44, 46-49, 61, 62 or 76.
@@ -114,6 +133,15 @@ fn is_right_of_question(seat: Seat) -> bool
     }
 }
 
+fn is_under_semicolon(seat: Seat) -> bool
+    ensures { λ r. ⌜ r ≡ plain.isUnderSemicolon (formSeat seat) ⌝ }
+{
+    match seat {
+        Seat::UnderSemicolon => true,
+        _ => false,
+    }
+}
+
 // A leaf; a bracket may be empty under a math call.
 fn is_plain_without_children(seat: Seat, op: u32) -> bool
     ensures { λ r. ⌜ r ≡ plainBy seat op 0 0 ⌝ }
@@ -134,25 +162,49 @@ fn is_prefix(op: u32) -> bool
     }
 }
 
-// A prefix over anything; a call over its bracket.
-fn is_plain_over_one(op: u32, first: u32) -> bool
-    ensures { λ r. ⌜ r ≡ plainBy Seat.Operand op 1 first ⌝ }
+// A call over its bracket.
+fn is_call_over(op: u32, first: u32) -> bool
+    ensures { λ r. ⌜ r ≡ (plain.isCall op && isBracket first) ⌝ }
 {
-    if is_prefix(op) {
-        return true;
-    }
     if first == op::LEFT_PARENTHESIS {
         return is_call(op);
     }
     false
 }
 
-// A binary operator; `:` right of its `?` only.
+// A statement: under a semicolon, over what is none.
+fn is_statement(seat: Seat, first: u32) -> bool
+    ensures { λ r. ⌜ r ≡ (not (eqb first Operator.semicolon) && plain.isUnderSemicolon (formSeat seat)) ⌝ }
+{
+    if first == op::SEMICOLON {
+        return false;
+    }
+    is_under_semicolon(seat)
+}
+
+// A prefix over anything; a call over its bracket; under a semicolon only, a return over anything and a statement over what is none.
+fn is_plain_over_one(seat: Seat, op: u32, first: u32) -> bool
+    ensures { λ r. ⌜ r ≡ plainBy seat op 1 first ⌝ }
+{
+    if is_prefix(op) {
+        return true;
+    }
+    match op {
+        op::RETURN => is_under_semicolon(seat),
+        op::SEMICOLON => is_statement(seat, first),
+        _ => is_call_over(op, first),
+    }
+}
+
+// A binary operator; `:` right of its `?` only, an assignment in a statement only.
 fn is_plain_over_two(seat: Seat, op: u32) -> bool
     ensures { λ r. ⌜ r ≡ plainBy seat op 2 0 ⌝ }
 {
     if op == op::CONDITIONAL_ELSE {
         return is_right_of_question(seat);
+    }
+    if op == op::ASSIGNMENT {
+        return is_under_semicolon(seat);
     }
     is_plain_binary(op)
 }
@@ -163,7 +215,7 @@ pub fn is_plain(seat: Seat, op: u32, children: u32, first: u32) -> bool
 {
     match children {
         0 => is_plain_without_children(seat, op),
-        1 => is_plain_over_one(op, first),
+        1 => is_plain_over_one(seat, op, first),
         2 => is_plain_over_two(seat, op),
         _ => false,
     }
@@ -180,7 +232,7 @@ pub fn is_paired(seat: Seat, op: u32, children: u32) -> bool
         return false;
     }
     match seat {
-        Seat::Enclosed => false,
+        Seat::Enclosed | Seat::UnderSemicolon => false,
         Seat::LeftOfComma => op != op::COMMA,
         Seat::RightOfQuestion => op != op::CONDITIONAL_ELSE,
         _ => true,
@@ -200,17 +252,43 @@ fn tokens_for(seat: Seat, op: u32, children: u32) -> usize
     1
 }
 
-// The first node of a tree that is not plain, or the number of tokens that are written. The reader says where the next node stands.
-// No more than 12,288 nodes wait, since a tree has no more.
-pub fn judge(tree: &[u32]) -> Judged
+// Whether the root of a script is plain: it has a child, and each of its children is a semicolon. `due` is the number of nodes that the
+// child which came last still calls for, so the next child comes where it is 0.
+fn holds_statements(tree: &[u32]) -> bool
     requires { ⌜ OneTree (now tree) ⌝ }
+    ensures { λ r. ⌜ r ≡ holdsStatements (treesOf (now (tree .entry))) ⌝ }
+{
+    let mut due = 0u32;
+    let mut at = fields::NODE_WORDS;
+    while at < tree.len() {
+        let seen = view_node(tree, at);
+        let children = seen.children;
+        at = seen.after;
+        if due == 0 {
+            if seen.op != op::SEMICOLON {
+                return false;
+            }
+            due = children;
+            continue;
+        }
+        due = due - 1 + children;
+    }
+    fields::NODE_WORDS < at
+}
+
+// The first node from `node` on that is not plain, or the number of tokens that are written, where so many trees are called for there, the
+// first of them in the given seat and the others under a semicolon. The reader says where the next node stands. No more than 12,288 nodes
+// wait, since a tree has no more.
+fn judge_from(tree: &[u32], first: Seat, trees: usize, begin: usize) -> Judged
+    requires { ⌜ OneTree (now tree) × Begins (now tree) first trees begin ⌝ }
     ensures { λ r. ⌜ verdictOf r ≡ judgement (treesOf (now (tree .entry))) ⌝ }
 {
-    let mut waiting = [Seat::Enclosed; 12_288];
-    let mut top = 1usize;
+    let mut waiting = [Seat::UnderSemicolon; 12_288];
+    waiting[0] = first;
+    let mut top = trees;
     let mut tokens = 0usize;
-    let mut node = 0usize;
-    let mut at = 0usize;
+    let mut node = begin;
+    let mut at = fields::NODE_WORDS * begin;
     while at < tree.len() {
         let seen = view_node(tree, at);
         let op = seen.op;
@@ -224,7 +302,7 @@ pub fn judge(tree: &[u32]) -> Judged
         at = seen.after;
         tokens += tokens_for(seat, op, children);
         if children == 1 {
-            waiting[top] = seat_of_only(op);
+            waiting[top] = seat_below(op);
             top += 1;
             continue;
         }
@@ -235,4 +313,20 @@ pub fn judge(tree: &[u32]) -> Judged
         }
     }
     Judged::Plain(tokens)
+}
+
+// The first node of a tree that is not plain, or the number of tokens that are written: from the root on, or from the statements of a root
+// that is plain.
+pub fn judge(tree: &[u32]) -> Judged
+    requires { ⌜ OneTree (now tree) ⌝ }
+    ensures { λ r. ⌜ verdictOf r ≡ judgement (treesOf (now (tree .entry))) ⌝ }
+{
+    if fields::operator(tree[0]) != op::SEMICOLON {
+        return judge_from(tree, Seat::Enclosed, 1, 0);
+    }
+    if !holds_statements(tree) {
+        return Judged::Unplain(0);
+    }
+    let statements = fields::low(tree[fields::COUNT_FIELD]) as usize;
+    judge_from(tree, Seat::UnderSemicolon, statements, 1)
 }

@@ -16,16 +16,15 @@ use words::tokens::TokenWords;
 ghost use mathlib.Core.Path.{_≡_};
 ghost use Prim.Native.Nat.{_+_, _≤_};
 ghost use lib.ListN.{length};
-ghost use Rattle.molang.specs.WriteEntry.{writtenTokens};
 ghost use Rattle.words.specs.Extents.{wider};
 ghost use Rattle.words.specs.Records.{laidAt};
 ghost use Rattle.words.specs.Tokens.{fiveWords};
 ghost use Rattle.shape.specs.Shaped.{nodeLength, firstFive};
 ghost use Rattle.write.specs.Spelling.{spanningWords, closerWords, pairOpener, pairCloser, seen, seenAfter};
-ghost use Rattle.write.specs.Spelling.{operandOf, filledWords, nodeWritten, operandWritten, Room};
+ghost use Rattle.write.specs.Spelling.{nodeTokens, operandOf, filledWords, nodeWritten, operandWritten, Room};
 
 // Puts a token's five words into the list from `to` on, and moves `to` behind them.
-fn put(list: &mut [u32], to: &mut usize, token: TokenWords)
+pub fn put(list: &mut [u32], to: &mut usize, token: TokenWords)
     requires { ⌜ now to + 5 ≤ length (now list) ⌝ }
     ensures { λ _. ⌜ now (list .exit) ≡ laidAt (now (to .entry)) (fiveWords token) (now (list .entry)) ⌝ }
     ensures { λ _. ⌜ now (to .exit) ≡ now (to .entry) + 5 ⌝ }
@@ -105,7 +104,7 @@ pub fn write_node<'a>(
     low: &mut u32,
     high: &mut u32,
 ) -> &'a [u32]
-    requires { ⌜ Room writtenTokens (now words) (now list) (now to) ⌝ }
+    requires { ⌜ Room nodeTokens (now words) (now list) (now to) ⌝ }
     ensures { λ _. ⌜ seen (now (low .exit)) (now (high .exit)) ≡ seenAfter (now (low .entry)) (now (high .entry)) (now (words .entry)) ⌝ }
     ensures { λ r. ⌜ now r ≡ filledWords (now (words .entry)) ⌝ }
     ensures { λ _. ⌜ now (list .exit) ≡ laidAt (now (to .entry)) (nodeWritten (now (words .entry))) (now (list .entry)) ⌝ }

@@ -15,8 +15,8 @@ use Rattle.molang.proofs.Forests.{Turns}
 use Rattle.molang.proofs.RoundTrip.Role.{Role, aBracket, aComma, aQuestion, aColon, is, among, role, op-of-comma, op-of-question}
 use Rattle.molang.proofs.RoundTrip.Role.{op-of-colon}
 use Rattle.molang.proofs.RoundTrip.Expression.{Sort, Pair, Exp, empty, leaf, bracket, before, between, isOperand, isJoinedBy}
-use Rattle.molang.proofs.RoundTrip.Expression.{leafRoles, prefixRoles, isLeaf, isPrefix, isJoining, isWhole, takes, joinsLeft, joinsRight}
-use Rattle.molang.proofs.RoundTrip.Expression.{excepted, ahead, amid, form, also, turned-form}
+use Rattle.molang.proofs.RoundTrip.Expression.{leafRoles, prefixRoles, isLeaf, isPrefix, isJoining, isHeld, takes, joinsLeft}
+use Rattle.molang.proofs.RoundTrip.Expression.{joinsRight, excepted, ahead, amid, form, also, turned-form}
 use Rattle.molang.proofs.RoundTrip.Walk.{walk-on, walk-into, Gathers, Carries, Passes, carry-both, carry-node, carry-token}
 use Rattle.molang.proofs.RoundTrip.Walk.{carry-whole}
 
@@ -25,6 +25,14 @@ pub record Ready (σ : ℕ → Bool) (ops : List ℕ) : Type 0 where
   pub joining : (n : ℕ) → isOneOf ops n ≡ true → isJoining (role n) ≡ true
   pub flat : (n : ℕ) → isOneOf ops n ≡ true → σ n ≡ false
   pub paired : isOneOf ops Operator.conditional ≡ true → σ Operator.conditionalElse ≡ true
+
+pub gathers : (ops : List ℕ) → Gathers (binaryLevel ops) gathered
+unfolding walk binaryLevel binaryStep binaryResume binaryFinish inOrder turnedOnto
+gathers ops = record { enters = λ d k c cs r. refl; resumes = λ d k kids. refl; begins = refl }
+
+pub ends : (ops : List ℕ) (d : Forest) → binaryLevel ops .finish (gathered d) ≡ ok (inOrder d)
+unfolding binaryLevel binaryFinish
+ends ops d = refl
 
 module _ (σ : ℕ → Bool) (ops : List ℕ) (w : Ready σ ops) where
   abbrev level : Level Gathered
@@ -58,16 +66,8 @@ module _ (σ : ℕ → Bool) (ops : List ℕ) (w : Ready σ ops) where
   quiet : (n : ℕ) (r : Role) → role n ≡ r → not (isJoining r) ≡ true → isOneOf ops n ≡ false
   quiet n r e q = never (isOneOf ops n) (λ t. false≢true (sym (ap not (sym (ap isJoining e) ∙ w .joining n t)) ∙ q))
 
-  gathers : Gathers level gathered
-  unfolding walk binaryLevel binaryStep binaryResume binaryFinish inOrder turnedOnto
-  gathers = record { enters = λ d k c cs r. refl; resumes = λ d k kids. refl; begins = refl }
-
-  ends : (d : Forest) → level .finish (gathered d) ≡ ok (inOrder d)
-  unfolding binaryLevel binaryFinish
-  ends d = refl
-
   whole : (F G : Forest → Forest) → Carried F G → walk level (gathered nil) (F nil) ≡ ok (G nil)
-  whole F G c = carry-whole level gathered anything ends refl F G c
+  whole F G c = carry-whole level gathered anything (ends ops) refl F G c
 
   passes : (k : Token) → isOneOf ops (k .op) ≡ false → Passes level gathered anything k
   unfolding binaryLevel binaryStep
@@ -75,7 +75,7 @@ module _ (σ : ℕ → Bool) (ops : List ℕ) (w : Ready σ ops) where
 
   carry : (k : Token) (cs cs' : Forest) → isOneOf ops (k .op) ≡ false → walk level (gathered nil) cs ≡ ok cs'
       → Carried (node k cs) (node k cs')
-  carry k cs cs' q e = carry-node level gathered anything gathers k cs cs' (passes k q) e
+  carry k cs cs' q e = carry-node level gathered anything (gathers ops) k cs cs' (passes k q) e
 
   -- An operator of the level takes the node before it and the node after it.
   taken : (d : Forest) (l : Token) (ls : Forest) (k m : Token) (ms ms' r : Forest) → firstLeaf ops ls ≡ none
@@ -209,15 +209,15 @@ module _ (σ : ℕ → Bool) (ops : List ℕ) (w : Ready σ ops) where
   unfolding form Clean
   folded-leaf k r e l =
       let q = quiet (k .op) r e (among leafRoles (λ r. not (isJoining r)) refl r l) in
-      let o = operand k nil nil q (gathers .begins) none-left in
+      let o = operand k nil nil q (gathers ops .begins) none-left in
       record {
-        carried = carry k nil nil q (gathers .begins);
+        carried = carry k nil nil q (gathers ops .begins);
         clean = λ r. skip k nil r q none-left;
         after = λ h. o .after;
         single = λ h. o;
       }
 
-  folded-bracket : {s : Sort} (k : Token) (e : Pair k) (h : isWhole s ≡ true) (x : Exp s) → Folded x
+  folded-bracket : {s : Sort} (k : Token) (e : Pair k) (h : isHeld s ≡ true) (x : Exp s) → Folded x
       → Folded (bracket k e h x)
   unfolding form Clean
   folded-bracket k e h x i =

@@ -27,7 +27,7 @@ pub record Uncalled (σ : ℕ → Bool) (kind : CallKind) : Type 0 where
   pub unjoined : (n : ℕ) → isJoining (role n) ≡ true → σ n ≡ false
 
 -- A query leaf is no call where no bracket follows.
-noBracket : Forest → Bool
+unfoldable pub noBracket : Forest → Bool
 noBracket nil = true
 noBracket (node k cs r) = not (isBracket (k .op))
 
@@ -62,25 +62,25 @@ uncalled-joining queryOrLoop = ruled-out (calls queryOrLoop) (told queryOrLoop) 
 uncalled-joining math = ruled-out (calls math) (told math) role-math joiningRoles refl
 
 module _ (kind : CallKind) where
-  abbrev level : Level Gathered
+  abbrev pub level : Level Gathered
   level = callLevel kind
 
-  abbrev Carried : (Forest → Forest) → (Forest → Forest) → Type 0
+  abbrev pub Carried : (Forest → Forest) → (Forest → Forest) → Type 0
   Carried = Carries level gathered noBracket
 
-  gathers : Gathers level gathered
+  pub gathers : Gathers level gathered
   unfolding walk callLevel callStep callResume callFinish inOrder turnedOnto
   gathers = record { enters = λ d k c cs r. refl; resumes = λ d k kids. refl; begins = refl }
 
-  ends : (d : Forest) → level .finish (gathered d) ≡ ok (inOrder d)
+  pub ends : (d : Forest) → level .finish (gathered d) ≡ ok (inOrder d)
   unfolding callLevel callFinish
   ends d = refl
 
-  whole : (F G : Forest → Forest) → Carried F G → walk level (gathered nil) (F nil) ≡ ok (G nil)
+  pub whole : (F G : Forest → Forest) → Carried F G → walk level (gathered nil) (F nil) ≡ ok (G nil)
   unfolding noBracket
   whole F G c = carry-whole level gathered noBracket ends refl F G c
 
-  passes : (k : Token) → calls kind (k .op) ≡ false → Passes level gathered noBracket k
+  pub passes : (k : Token) → calls kind (k .op) ≡ false → Passes level gathered noBracket k
   unfolding callLevel callStep callLeaf
   passes k q d = rw (q, callLeaf) refl
 
@@ -165,7 +165,7 @@ called-takes queryOrLoop r s m p t =
     filled-bracket : (s : Sort) → isFilledBracket s ≡ true → callable queryOrLoop s ≡ true
     filled-bracket nothing h = h
     filled-bracket atom h = h
-    filled-bracket prefixed h = h
+    filled-bracket (prefixed r) h = h
     filled-bracket (bracketed s) h = h
     filled-bracket (joinedBy r) h = h
 
@@ -204,6 +204,9 @@ module _ (σ : ℕ → Bool) (kind : CallKind) (w : Uncalled σ kind) where
             (called y .carried);
         taken = λ h. absurd (false≢true h);
       }
+
+  pub carried-calls : {s : Sort} (e : Exp s) → Carried kind (form σ e) (form (also σ (calls kind)) e)
+  carried-calls e = called e .carried
 
   pub call-pass : {s : Sort} (e : Exp s) → walk (callLevel kind) (gathered nil) (form σ e nil) ≡ ok (form (also σ (calls kind)) e nil)
   call-pass e = whole kind (form σ e) (form σ' e) (called e .carried)

@@ -19,9 +19,10 @@ use Rattle.molang.proofs.Forests.{Turns, inOrder-turned}
 use Rattle.molang.proofs.RoundTrip.Role.{Role, aBracket, aComma, aQuestion, aColon, is, is-same, isAmong, among, role}
 use Rattle.molang.proofs.RoundTrip.Role.{role-conditional, role-question, role-colon, op-of-question, op-of-colon}
 use Rattle.molang.proofs.RoundTrip.Expression.{Sort, nothing, atom, prefixed, bracketed, joinedBy, Pair, Exp, empty, leaf, bracket}
-use Rattle.molang.proofs.RoundTrip.Expression.{before, between, isOperand, isJoinedBy, isWhole, leafRoles, prefixRoles, isLeaf, isPrefix}
-use Rattle.molang.proofs.RoundTrip.Expression.{isJoining, takes, joinsLeft, joinsRight, excepted, operand-only, ahead, amid, form}
-use Rattle.molang.proofs.RoundTrip.Expression.{also, turned-form, Solid, operand-solid, takes-operand}
+use Rattle.molang.proofs.RoundTrip.Expression.{before, between, isOperand, isJoinedBy, isWhole, isHeaded, statementRoles, isHeld}
+use Rattle.molang.proofs.RoundTrip.Expression.{leafRoles, prefixRoles, isLeaf, isPrefix, isJoining, takes, joinsLeft, joinsRight}
+use Rattle.molang.proofs.RoundTrip.Expression.{excepted, operand-only, ahead, amid, form, also, turned-form, Solid, operand-solid}
+use Rattle.molang.proofs.RoundTrip.Expression.{takes-operand}
 use Rattle.molang.proofs.RoundTrip.Walk.{Gathers, Carries, Passes, carry-both, carry-node, carry-token}
 
 abbrev pub conditionals : ℕ → Bool
@@ -79,7 +80,7 @@ calm-folded (node a aa (node b bs nil)) h = refl
 calm-folded (node a aa (node b bs (node c cs left))) h = calm-scan (node b bs (node c cs left)) (node a aa nil)
     (token-free a aa (node b bs (node c cs left)) h .2)
 
-calm-finish : (f : Forest) → dangling f ≡ none → conditionalFinish (turnedOnto f nil) ≡ ok f
+pub calm-finish : (f : Forest) → dangling f ≡ none → conditionalFinish (turnedOnto f nil) ≡ ok f
 unfolding conditionalFinish dangling
 calm-finish f h = ap undangled (calm-folded (turnedOnto f nil) (calm-turned f nil h refl) ∙ inOrder-turned f) ∙ undangled-calm f h
 
@@ -150,31 +151,35 @@ isCalm s = not (isJoinedBy aQuestion s || (isJoinedBy aColon s || false))
 operand-calm : (s : Sort) → isOperand s ≡ true → isCalm s ≡ true
 operand-calm nothing h = refl
 operand-calm atom h = refl
-operand-calm prefixed h = refl
+operand-calm (prefixed r) h = refl
 operand-calm (bracketed s) h = refl
 operand-calm (joinedBy r) h = absurd (false≢true h)
 
 operand-whole : (s : Sort) → isOperand s ≡ true → isWhole s ≡ true
 operand-whole nothing h = refl
 operand-whole atom h = refl
-operand-whole prefixed h = refl
+operand-whole (prefixed r) h = refl
 operand-whole (bracketed s) h = refl
 operand-whole (joinedBy r) h = absurd (false≢true h)
 
 left-calm : (r : Role) (s : Sort) → joinsLeft r s ≡ true → isCalm s ≡ true
 left-calm r nothing h = refl
 left-calm r atom h = refl
-left-calm r prefixed h = refl
+left-calm r (prefixed q) h = refl
 left-calm r (bracketed s) h = refl
 left-calm r (joinedBy q) h =
     ap (λ (q : Role). isCalm (joinedBy q)) (sym (is-same aComma q (and-eq-true-iff (is aComma q) (is aComma r) .0 h .0)))
 
+abbrev pub gatheredIn : Forest → Forest
+gatheredIn d = d
+
+pub gathers : Gathers conditionalLevel gatheredIn
+unfolding walk conditionalLevel conditionalStep conditionalFinish foldedFrom undangled dangling
+gathers = record { enters = λ d k c cs r. refl; resumes = λ d k kids. refl; begins = refl }
+
 module _ (σ : ℕ → Bool) (w : Unpaired σ) where
   abbrev σ' : ℕ → Bool
   σ' = also σ conditionals
-
-  abbrev gatheredIn : Forest → Forest
-  gatheredIn d = d
 
   abbrev anything : Forest → Bool
   anything r = true
@@ -189,10 +194,6 @@ module _ (σ : ℕ → Bool) (w : Unpaired σ) where
   mid (bracket k _ _ x) r = node k (form σ' x nil) r
   mid (before k _ _ _ _ x) r = ahead (σ (k .op)) k (mid x) r
   mid (between k _ _ _ _ _ x y) r = amid (σ (k .op)) k (mid x) (mid y) r
-
-  gathers : Gathers conditionalLevel gatheredIn
-  unfolding walk conditionalLevel conditionalStep conditionalFinish foldedFrom undangled dangling
-  gathers = record { enters = λ d k c cs r. refl; resumes = λ d k kids. refl; begins = refl }
 
   passes : (k : Token) → Passes conditionalLevel gatheredIn anything k
   unfolding conditionalLevel conditionalStep
@@ -252,12 +253,13 @@ module _ (σ : ℕ → Bool) (w : Unpaired σ) where
       (carry-node conditionalLevel gatheredIn anything gathers k nil nil (passes k) (gathers .begins))
       (λ r. refl) (λ r. refl) (calm-node k r e (among leafRoles isOther refl r l) nil)
 
-  paired-bracket : {s : Sort} (k : Token) (e : Pair k) (h : isWhole s ≡ true) (x : Exp s) → Paired x
+  paired-bracket : {s : Sort} (k : Token) (e : Pair k) (h : isHeld s ≡ true) (x : Exp s) → Paired x
       → Paired (bracket k e h x)
   unfolding mid form
-  paired-bracket k e h x i =
+  paired-bracket {s} k e h x i =
+      let whole = and-eq-true-iff (isWhole s) (not (isHeaded statementRoles s)) .0 h .0 in
       paired-operand (bracket k e h x) k (form σ x nil) (form σ' x nil)
-      (carry-node conditionalLevel gatheredIn anything gathers k (form σ x nil) (form σ' x nil) (passes k) (i .whole h))
+      (carry-node conditionalLevel gatheredIn anything gathers k (form σ x nil) (form σ' x nil) (passes k) (i .whole whole))
       (λ r. refl) (λ r. refl) (calm-node k aBracket (e .brackets) refl (form σ' x nil))
 
   carry-ahead : (a : Bool) (k : Token) (X M : Forest → Forest) → Carried X M → walk conditionalLevel nil (X nil) ≡ ok (M nil)

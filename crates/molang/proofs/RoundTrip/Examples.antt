@@ -12,7 +12,7 @@ use Rattle.molang.specs.Operator
 use Rattle.molang.specs.Forest.{Token, Forest, nil, node}
 use Rattle.molang.specs.Read.{Answer, tree, messages, read, uses}
 use Rattle.molang.specs.Plain.{unplainAt}
-use Rattle.molang.specs.Write.{written, takenAway}
+use Rattle.molang.specs.Write.{written, writtenTree, takenAway, comparable}
 use Rattle.molang.proofs.Computed.{computed}
 
 -- The token at a position, and trees of it, before others.
@@ -223,3 +223,45 @@ what-is-left : takings ≡
     ∷ []
 unfolding computed takings
 what-is-left = refl
+
+-- A script, `v = a ? b : c ; return v ;` as it is read at 4: its statements are written with their semicolons, it is read alike at 4, 5
+-- and 6, and what is compared of it is what it was. A semicolon has the span of what its statement holds.
+abbrev statement : ℕ → Forest → Forest → Forest
+statement i holds rest = over Operator.semicolon i holds rest
+
+abbrev variable : ℕ → Forest → Forest
+variable i rest = node (at Operator.tempVariable i) nil rest
+
+abbrev script : Forest
+script =
+    statement 0 (over Operator.assignment 1 (variable 0
+    (over Operator.conditional 3 (leaf 2 (over Operator.conditionalElse 5 (leaf 4 (leaf 6 nil)) nil)) nil)) nil)
+    (statement 8 (over Operator.return 8 (variable 9 nil) nil) nil)
+
+abbrev scriptList : List Token
+scriptList = writtenTree (at Operator.semicolon 7) script
+
+abbrev scriptAgain : ℕ → Answer
+scriptAgain version = read scriptList (uses scriptList) (pos version) 11
+
+compared : Answer → Forest
+compared (tree k cs) = comparable (left (node k cs nil))
+compared (messages ms) = nil
+
+scripts : List Forest
+scripts = compared (scriptAgain 4) ∷ compared (scriptAgain 5) ∷ compared (scriptAgain 6) ∷ []
+
+script-alike : scripts ≡ comparable (node (at Operator.semicolon 7) script nil) ∷ comparable (node (at Operator.semicolon 7) script nil)
+    ∷ comparable (node (at Operator.semicolon 7) script nil) ∷ []
+unfolding computed scripts compared
+script-alike = refl
+
+script-written : operators scriptList ≡
+    Operator.tempVariable ∷ Operator.assignment ∷ opener ∷ x ∷ Operator.conditional ∷ x ∷ Operator.conditionalElse ∷ x ∷ closer
+    ∷ Operator.semicolon ∷ Operator.return ∷ Operator.tempVariable ∷ Operator.semicolon ∷ []
+unfolding computed operators
+script-written = refl
+
+script-plain : unplainAt (at Operator.semicolon 7) script ≡ none
+unfolding computed
+script-plain = refl

@@ -1,6 +1,6 @@
 -- Bracketed expressions: the trees whose operands are leaves and brackets, up to the two exceptions of document 01 (a comma left of a
--- comma, the `:` right of its `?`). Writing a plain tree spells such an expression (Spelling), each pass of reading folds some of its
--- operators.
+-- comma, the `:` right of its `?`). An assignment and a `return`, which a statement may hold, are such expressions too, but stand in
+-- no other. Writing a plain tree spells such expressions (Spelling), each pass of reading folds some of their operators.
 use Prim.Native.Nat.{ℕ}
 use mathlib.Core.Path.{_≡_, refl, ap, sym, _∙_}
 use mathlib.Core.Bool.{Bool, true, false, _||_, _&&_, not, false≢true, and-false}
@@ -9,26 +9,26 @@ use Rattle.molang.specs.Operator
 use Rattle.molang.specs.Forest.{Token, Forest, nil, node, closedBy, turnedOnto}
 use Rattle.molang.proofs.Forests.{Turns}
 use Rattle.molang.proofs.RoundTrip.Role.{Role, aLeaf, aQuery, aMathCall, aBracket, aMinus, aNot, aBinary, aComma, aQuestion, aColon}
-use Rattle.molang.proofs.RoundTrip.Role.{is, isAmong, role}
+use Rattle.molang.proofs.RoundTrip.Role.{aSemicolon, anAssignment, aReturn, is, isAmong, role}
 
--- What an expression's list looks like from outside: nothing at all, a leaf, a bracket and what stands in it, an operator before its
--- operand, operands joined by an operator of some role.
+-- What an expression's list looks like from outside: nothing at all, a leaf, a bracket and what stands in it, an operator of some role
+-- before its operand, operands joined by one.
 pub data Sort : Type 0 where
-  nothing atom prefixed : Sort
+  nothing atom : Sort
   bracketed : Sort → Sort
-  joinedBy : Role → Sort
+  prefixed joinedBy : Role → Sort
 
 abbrev pub isOperand : Sort → Bool
 isOperand nothing = false
 isOperand atom = true
-isOperand prefixed = false
+isOperand (prefixed r) = false
 isOperand (bracketed s) = true
 isOperand (joinedBy r) = false
 
 abbrev pub isJoinedBy : Role → Sort → Bool
 isJoinedBy r nothing = false
 isJoinedBy r atom = false
-isJoinedBy r prefixed = false
+isJoinedBy r (prefixed q) = false
 isJoinedBy r (bracketed s) = false
 isJoinedBy r (joinedBy q) = is r q
 
@@ -36,24 +36,40 @@ isJoinedBy r (joinedBy q) = is r q
 abbrev pub isWhole : Sort → Bool
 isWhole s = not (isJoinedBy aColon s)
 
+-- The operator outside all operands is of one of these roles.
+abbrev pub isHeaded : List Role → Sort → Bool
+isHeaded rs nothing = false
+isHeaded rs atom = false
+isHeaded rs (bracketed s) = false
+isHeaded rs (prefixed r) = isAmong rs r
+isHeaded rs (joinedBy r) = isAmong rs r
+
+-- What only a statement holds.
+abbrev pub statementRoles : List Role
+statementRoles = aSemicolon ∷ anAssignment ∷ aReturn ∷ []
+
+-- What a bracket may hold.
+abbrev pub isHeld : Sort → Bool
+isHeld s = isWhole s && not (isHeaded statementRoles s)
+
 abbrev pub isFilled : Sort → Bool
 isFilled nothing = false
 isFilled atom = true
-isFilled prefixed = true
+isFilled (prefixed r) = true
 isFilled (bracketed s) = true
 isFilled (joinedBy r) = true
 
 abbrev pub isBracketed : Sort → Bool
 isBracketed nothing = false
 isBracketed atom = false
-isBracketed prefixed = false
+isBracketed (prefixed r) = false
 isBracketed (bracketed s) = true
 isBracketed (joinedBy r) = false
 
 abbrev pub isFilledBracket : Sort → Bool
 isFilledBracket nothing = false
 isFilledBracket atom = false
-isFilledBracket prefixed = false
+isFilledBracket (prefixed r) = false
 isFilledBracket (bracketed s) = isFilled s
 isFilledBracket (joinedBy r) = false
 
@@ -62,10 +78,10 @@ leafRoles = aLeaf ∷ aQuery ∷ []
 
 -- Prefixes, and calls before their bracket.
 abbrev pub prefixRoles : List Role
-prefixRoles = aMinus ∷ aNot ∷ aQuery ∷ aMathCall ∷ []
+prefixRoles = aMinus ∷ aNot ∷ aQuery ∷ aMathCall ∷ aReturn ∷ []
 
 abbrev pub joiningRoles : List Role
-joiningRoles = aBinary ∷ aComma ∷ aQuestion ∷ aColon ∷ []
+joiningRoles = aBinary ∷ aComma ∷ aQuestion ∷ aColon ∷ anAssignment ∷ []
 
 abbrev pub isLeaf : Role → Bool
 isLeaf r = isAmong leafRoles r
@@ -108,8 +124,8 @@ pub record Pair (k : Token) : Type 0 where
 pub data Exp : Sort → Type 0 where
   empty : Exp nothing
   leaf : (k : Token) (r : Role) → role (k .op) ≡ r → isLeaf r ≡ true → Exp atom
-  bracket : {s : Sort} (k : Token) → Pair k → isWhole s ≡ true → Exp s → Exp (bracketed s)
-  before : {s : Sort} (k : Token) (r : Role) → role (k .op) ≡ r → isPrefix r ≡ true → takes r s ≡ true → Exp s → Exp prefixed
+  bracket : {s : Sort} (k : Token) → Pair k → isHeld s ≡ true → Exp s → Exp (bracketed s)
+  before : {s : Sort} (k : Token) (r : Role) → role (k .op) ≡ r → isPrefix r ≡ true → takes r s ≡ true → Exp s → Exp (prefixed r)
   between : {s t : Sort} (k : Token) (r : Role) → role (k .op) ≡ r → isJoining r ≡ true → joinsLeft r s ≡ true → joinsRight r t ≡ true
       → Exp s
       → Exp t → Exp (joinedBy r)
@@ -171,7 +187,7 @@ pub record Filled (f : Forest) : Type 0 where
 filled-left : (r : Role) (s : Sort) → joinsLeft r s ≡ true → isFilled s ≡ true
 filled-left r nothing h = h
 filled-left r atom h = refl
-filled-left r prefixed h = refl
+filled-left r (prefixed q) h = refl
 filled-left r (bracketed s) h = refl
 filled-left r (joinedBy q) h = refl
 
@@ -210,6 +226,6 @@ operand-solid σ (between k _ _ _ _ _ x y) h = absurd (false≢true h)
 pub takes-operand : (r : Role) (s : Sort) → takes r s ≡ true → isOperand s ≡ true
 takes-operand r nothing h = h
 takes-operand r atom h = refl
-takes-operand r prefixed h = h
+takes-operand r (prefixed q) h = h
 takes-operand r (bracketed s) h = refl
 takes-operand r (joinedBy q) h = h

@@ -1,5 +1,6 @@
--- All passes in their order, gated by the operators of an expression's own tokens: its tokens are read to its tree, under every order that
--- a version can ask for. A pass says which operators it folds and when it can come; that each order is in order is computed.
+-- All passes in their order, gated by a used set: each pass takes an expression's list on, whatever else the set has; and an expression's
+-- tokens, gated by their own operators, are read to its tree, under every order that a version can ask for. A pass says which operators it
+-- folds and when it can come; that each order is in order is computed.
 use Prim.Native.Nat.{ℕ, _<_}
 use mathlib.Core.Path.{_≡_, refl, ap, sym, _∙_, fun-ext}
 use mathlib.Core.Bool.{Bool, true, false, _||_, _&&_, not, true≢false, false≢true, and-eq-true-iff, or-false}
@@ -17,24 +18,27 @@ use Rattle.molang.specs.Level as Levels
 use Rattle.molang.specs.Calls.{CallKind, queryOrLoop, math, calls, callLevel}
 use Rattle.molang.specs.Binary.{binaryLevel}
 use Rattle.molang.specs.Conditional.{conditionalLevel}
+use Rattle.molang.specs.Unary.{returnLevel}
 use Rattle.molang.specs.Order.{Rules, Pass, lastToken, memberAccessors, sectioning, callPass, statements, arrays, pointer, mathCalls}
 use Rattle.molang.specs.Order.{unaryMinusAndNot, addition, conditional, returns, binary, order, someBelow, runs, apply}
 use Rattle.molang.specs.Read.{rooted, grouped, uses}
 use Rattle.molang.proofs.Booleans.{either, never, or-first, or-second, or-neither, or-only-first}
 use Rattle.molang.proofs.Computed.{computed}
-use Rattle.molang.proofs.RoundTrip.Role.{Role, aQuery, aMathCall, aBracket, aCloser, aMinus, aNot, aLoop, another, is, is-same}
-use Rattle.molang.proofs.RoundTrip.Role.{isUnwritten, isAmong, among, role, role-above, none-below, role-bracket, role-query}
-use Rattle.molang.proofs.RoundTrip.Role.{role-math, role-prefix}
+use Rattle.molang.proofs.RoundTrip.Role.{Role, aQuery, aMathCall, aBracket, aCloser, aMinus, aNot, aLoop, another, aSemicolon}
+use Rattle.molang.proofs.RoundTrip.Role.{anAssignment, is, is-same, isUnwritten, isAmong, among, role, closer-role, role-above}
+use Rattle.molang.proofs.RoundTrip.Role.{none-below, role-bracket, role-query, role-math, role-prefix}
 use Rattle.molang.proofs.RoundTrip.Expression.{Sort, Exp, empty, leaf, bracket, before, between, isWhole, leafRoles, prefixRoles}
 use Rattle.molang.proofs.RoundTrip.Expression.{joiningRoles, isPrefix, isJoining, tokens, ahead, amid, form, also}
-use Rattle.molang.proofs.RoundTrip.Sections.{nothingYet, section-pass}
+use Rattle.molang.proofs.RoundTrip.Lacking.{heads, lacking, no-semicolon, lacks-uses}
+use Rattle.molang.proofs.RoundTrip.Sections.{nothingYet, Reads, reads, whole-reads}
 use Rattle.molang.proofs.RoundTrip.Calls.{Uncalled, call-pass}
 use Rattle.molang.proofs.RoundTrip.Unary.{prefixes, unary-pass}
 use Rattle.molang.proofs.RoundTrip.Binary.{Ready, binary-pass}
 use Rattle.molang.proofs.RoundTrip.Conditional.{conditionals, conditional-pass}
+use Rattle.molang.proofs.RoundTrip.Return.{returning, return-pass}
 
 -- The operators that a pass folds.
-folds : Pass → ℕ → Bool
+unfoldable pub folds : Pass → ℕ → Bool
 folds lastToken n = false
 folds memberAccessors n = false
 folds sectioning n = false
@@ -46,7 +50,7 @@ folds mathCalls n = calls math n
 folds unaryMinusAndNot n = prefixes n
 folds addition n = isOneOf (Operator.add ∷ []) n
 folds conditional n = conditionals n
-folds returns n = false
+folds returns n = returning n
 folds (binary ops) n = isOneOf ops n
 
 -- Every operator that plays a role passes the test.
@@ -63,7 +67,7 @@ unfolding below
 below-all test h n p =
     not-false (test n) (none-below 111 (λ n. not (test n)) (not-true (someBelow 111 (λ n. not (test n))) h) n (plays-below n p))
 
-each : (ℕ → Bool) → List ℕ → Bool
+unfoldable pub each : (ℕ → Bool) → List ℕ → Bool
 each test [] = true
 each test (o ∷ os) = test o && each test os
 
@@ -76,7 +80,7 @@ each-one test (o ∷ os) h n m =
     either (eqb n o) (λ e. ap test (eqb-true n o e) ∙ parts .0) (λ e. later (rw e at m))
 
 -- No expression has such a token.
-isForeign : ℕ → Bool
+unfoldable pub isForeign : ℕ → Bool
 isForeign n = isUnwritten (role n)
 
 flatJoining : (ℕ → Bool) → List ℕ → Bool
@@ -84,38 +88,45 @@ flatJoining σ ops =
     each (λ n. isJoining (role n) && not (σ n)) ops && (not (isOneOf ops Operator.conditional) || σ Operator.conditionalElse)
 
 -- The pass can come where the operators of σ are folded, or has nothing to do.
-ready : (ℕ → Bool) → Pass → Bool
-ready σ lastToken = true
+pub ready : (ℕ → Bool) → Pass → Bool
+ready σ lastToken = false
 ready σ memberAccessors = true
 ready σ sectioning = false
 ready σ callPass = below (λ n. not (σ n) || not (calls queryOrLoop n || isJoining (role n)))
-ready σ statements = true
+ready σ statements = false
 ready σ arrays = true
 ready σ pointer = true
 ready σ mathCalls = below (λ n. not (σ n) || not (calls math n || isJoining (role n)))
 ready σ unaryMinusAndNot = below (λ n. not (σ n) || not (prefixes n))
 ready σ addition = flatJoining σ (Operator.add ∷ [])
 ready σ conditional = not (σ Operator.conditional) && not (σ Operator.conditionalElse)
-ready σ returns = true
+ready σ returns = not (σ Operator.return)
 ready σ (binary ops) = each isForeign ops || flatJoining σ ops
 
-afterAll : (ℕ → Bool) → List Pass → ℕ → Bool
+pub afterAll : (ℕ → Bool) → List Pass → ℕ → Bool
 afterAll σ [] = σ
 afterAll σ (p ∷ ps) = afterAll (also σ (folds p)) ps
 
-allReady : (ℕ → Bool) → List Pass → Bool
+pub allReady : (ℕ → Bool) → List Pass → Bool
 allReady σ [] = true
 allReady σ (p ∷ ps) = ready σ p && allReady (also σ (folds p)) ps
 
--- The passes after the section pass.
-laterPasses : Rules → List Pass
-laterPasses r = drop 3 (order r)
+-- The passes after the statement pass; the call pass has come before it.
+unfoldable pub laterPasses : Rules → List Pass
+laterPasses r = drop 5 (order r)
 
-abbrev ruled : Bool → Bool → Bool → Rules
+abbrev pub called : ℕ → Bool
+called = also nothingYet (calls queryOrLoop)
+
+pub calls-first : ready nothingYet callPass ≡ true
+unfolding computed role ready below
+calls-first = refl
+
+abbrev pub ruled : Bool → Bool → Bool → Rules
 ruled c a p = record { comparisonsFirst = c; andFirst = a; pairsRight = p }
 
 -- Each order is in order, and folds every operator of an expression.
-in-order : (c a p : Bool) → allReady nothingYet (laterPasses (ruled c a p)) ≡ true
+pub in-order : (c a p : Bool) → allReady called (laterPasses (ruled c a p)) ≡ true
 unfolding computed role laterPasses allReady ready folds also below each flatJoining isForeign
 in-order true true true = refl
 in-order true true false = refl
@@ -129,7 +140,7 @@ in-order false false false = refl
 foldable : Role → Bool
 foldable r = isPrefix r || isJoining r
 
-complete : (c a p : Bool) → below (λ n. not (foldable (role n)) || afterAll nothingYet (laterPasses (ruled c a p)) n) ≡ true
+complete : (c a p : Bool) → below (λ n. not (foldable (role n)) || afterAll called (laterPasses (ruled c a p)) n) ≡ true
 unfolding computed role laterPasses afterAll folds also below foldable
 complete true true true = refl
 complete true true false = refl
@@ -141,25 +152,25 @@ complete false false true = refl
 complete false false false = refl
 
 -- The operators of the expression, its brackets among them, are in the used set.
-abbrev Within : (ℕ → Bool) → {s : Sort} → Exp s → Type 0
+abbrev pub Within : (ℕ → Bool) → {s : Sort} → Exp s → Type 0
 Within u empty = Unit {0}
 Within u (leaf k _ _ _) = Unit {0}
 Within u (bracket k _ _ x) = (u (k .op) ≡ true) × Within u x
 Within u (before k _ _ _ _ x) = (u (k .op) ≡ true) × Within u x
 Within u (between k _ _ _ _ _ x y) = (u (k .op) ≡ true) × Within u x × Within u y
 
-abbrev Uses : (ℕ → Bool) → List Token → Type 0
+abbrev pub Uses : (ℕ → Bool) → List Token → Type 0
 Uses u ks = (n : ℕ) → uses ks n ≡ true → u n ≡ true
 
-uses-first : (u : ℕ → Bool) (k : Token) (ks : List Token) → Uses u (k ∷ ks) → u (k .op) ≡ true
+pub uses-first : (u : ℕ → Bool) (k : Token) (ks : List Token) → Uses u (k ∷ ks) → u (k .op) ≡ true
 unfolding uses
 uses-first u k ks h = h (k .op) (or-first (eqb (k .op) (k .op)) (uses ks (k .op)) (eq-eqb (k .op) (k .op) refl))
 
-uses-rest : (u : ℕ → Bool) (k : Token) (ks : List Token) → Uses u (k ∷ ks) → Uses u ks
+pub uses-rest : (u : ℕ → Bool) (k : Token) (ks : List Token) → Uses u (k ∷ ks) → Uses u ks
 unfolding uses
 uses-rest u k ks h n t = h n (or-second (eqb (k .op) n) (uses ks n) t)
 
-within : (u : ℕ → Bool) {s : Sort} (e : Exp s) (r : List Token) → Uses u (tokens e r) → Within u e × Uses u r
+pub within : (u : ℕ → Bool) {s : Sort} (e : Exp s) (r : List Token) → Uses u (tokens e r) → Within u e × Uses u r
 unfolding tokens
 within u empty r h = (tt, h)
 within u (leaf k _ _ _) r h = (tt, uses-rest u k r h)
@@ -171,30 +182,26 @@ within u (between k _ _ _ _ _ x y) r h =
     let i = within u x (k ∷ tokens y r) h in let j = within u y r (uses-rest u k _ (i .1)) in ((uses-first u k _ (i .1), i .0, j .0), j .1)
 
 -- A token of an expression is not foreign.
-skip : (n : ℕ) (k : Token) (r : Role) (ks : List Token) → isUnwritten (role n) ≡ true → role (k .op) ≡ r → not (isUnwritten r) ≡ true
+pub skip : (n : ℕ) (k : Token) (r : Role) (ks : List Token) → isUnwritten (role n) ≡ true → role (k .op) ≡ r → not (isUnwritten r) ≡ true
     → uses (k ∷ ks) n ≡ uses ks n
 unfolding uses
 skip n k r ks h e q =
     rw (ne-eqb (k .op) n (λ p. true≢false (sym h ∙ ap (λ (n : ℕ). isUnwritten (role n)) (sym p) ∙ ap isUnwritten e ∙ not-true
     (isUnwritten r) q))) refl
 
-closer-role : (k : Token) → k .op ≡ Operator.rightParenthesis → role (k .op) ≡ aCloser
-unfolding computed role
-closer-role k e = ap role e
-
-foreign : (n : ℕ) → isUnwritten (role n) ≡ true → {s : Sort} (e : Exp s) (r : List Token) → uses (tokens e r) n ≡ uses r n
+pub foreign : (n : ℕ) → isUnwritten (role n) ≡ true → {s : Sort} (e : Exp s) (r : List Token) → uses (tokens e r) n ≡ uses r n
 unfolding tokens
 foreign n h empty r = refl
 foreign n h (leaf k q e l) r = skip n k q r h e (among leafRoles (λ r. not (isUnwritten r)) refl q l)
 foreign n h (bracket k e w x) r = skip n (e .opener) aBracket _ h (ap role (e .opens) ∙ e .brackets) refl ∙ foreign n h x (e .closer ∷ r)
-    ∙ skip n (e .closer) aCloser r h (closer-role (e .closer) (e .closes)) refl
+    ∙ skip n (e .closer) aCloser r h (closer-role (e .closer .op) (e .closes)) refl
 foreign n h (before k q e p t x) r = skip n k q _ h e (among prefixRoles (λ r. not (isUnwritten r)) refl q p) ∙ foreign n h x r
 foreign n h (between k q e j l m x y) r =
     foreign n h x (k ∷ tokens y r) ∙ skip n k q _ h e (among joiningRoles (λ r. not (isUnwritten r)) refl q j)
     ∙ foreign n h y r
 
 -- Operators that the expression does not have are folded or not, it is the same.
-agree : (u σ o : ℕ → Bool) → ((n : ℕ) → u n ≡ true → o n ≡ false) → {s : Sort} (e : Exp s) → Within u e → (r : Forest)
+pub agree : (u σ o : ℕ → Bool) → ((n : ℕ) → u n ≡ true → o n ≡ false) → {s : Sort} (e : Exp s) → Within u e → (r : Forest)
     → form (also σ o) e r ≡ form σ e r
 unfolding form also
 agree u σ o a empty w r = refl
@@ -210,7 +217,7 @@ agree u σ o a (between k _ _ _ _ _ x y) w r =
 abbrev pub everything : ℕ → Bool
 everything n = true
 
-finished : (σ : ℕ → Bool) → ((n : ℕ) (r : Role) → role n ≡ r → (isPrefix r || isJoining r) ≡ true → σ n ≡ true)
+pub finished : (σ : ℕ → Bool) → ((n : ℕ) (r : Role) → role n ≡ r → (isPrefix r || isJoining r) ≡ true → σ n ≡ true)
     → {s : Sort} (e : Exp s) (r : Forest)
     → form σ e r ≡ form everything e r
 unfolding form
@@ -224,13 +231,14 @@ finished σ a (between k q e j l m x y) r =
     (λ i. amid true k (fun-ext (finished σ a x) i) (fun-ext (finished σ a y) i) r)
 
 -- A list with no bracket is its own section list.
-bracketless : (u : ℕ → Bool) → u Operator.leftParenthesis ≡ false → {s : Sort} (e : Exp s) → Within u e → (r : List Token)
+pub bracketless : (u : ℕ → Bool) → u Operator.leftParenthesis ≡ false → {s : Sort} (e : Exp s) → Within u e → (r : List Token)
     → form nothingYet e (leaves r) ≡ leaves (tokens e r)
 unfolding form tokens leaves ahead amid isBracket
 bracketless u h empty w r = refl
 bracketless u h (leaf k _ _ _) w r = refl
 bracketless u h (bracket k e _ x) w r =
-    absurd (true≢false (sym (w .0) ∙ ap u (eqb-true (k .op) Operator.leftParenthesis (role-bracket (k .op) ∙ ap (is aBracket) (e .brackets))) ∙ h))
+    let opens = eqb-true (k .op) Operator.leftParenthesis (role-bracket (k .op) ∙ ap (is aBracket) (e .brackets)) in
+    absurd (true≢false (sym (w .0) ∙ ap u opens ∙ h))
 bracketless u h (before k _ _ _ _ x) w r = ap (node k nil) (bracketless u h x (w .1) r)
 bracketless u h (between k _ _ _ _ _ x y) w r = ap (λ (f : Forest). form nothingYet x (node k nil f)) (bracketless u h y (w .2) r)
     ∙ bracketless u h x (w .1) (k ∷ tokens y r)
@@ -242,14 +250,14 @@ any-off u (o ∷ os) h n t =
     let parts = or-neither (u o) (any u os) h in
     rw (ne-eqb n o (λ p. true≢false (sym t ∙ ap u p ∙ parts .0))) (any-off u os (parts .1) n t)
 
-any-foreign : (u : ℕ → Bool) → ((n : ℕ) → isUnwritten (role n) ≡ true → u n ≡ false) → (ops : List ℕ) → each isForeign ops ≡ true
+pub any-foreign : (u : ℕ → Bool) → ((n : ℕ) → isUnwritten (role n) ≡ true → u n ≡ false) → (ops : List ℕ) → each isForeign ops ≡ true
     → any u ops ≡ false
 unfolding any each isForeign
 any-foreign u f [] h = refl
 any-foreign u f (o ∷ os) h =
     let b = and-eq-true-iff (isUnwritten (role o)) (each isForeign os) .0 h in rw (f o (b .0)) (any-foreign u f os (b .1))
 
-any-on : (u : ℕ → Bool) (ops : List ℕ) (o : ℕ) → u o ≡ true → isOneOf ops o ≡ true → any u ops ≡ true
+pub any-on : (u : ℕ → Bool) (ops : List ℕ) (o : ℕ) → u o ≡ true → isOneOf ops o ≡ true → any u ops ≡ true
 any-on u ops o t m = either (any u ops) (λ h. h) (λ h. absurd (true≢false (sym m ∙ any-off u ops h o t)))
 
 -- An operator that a test tells by its role plays one.
@@ -258,44 +266,93 @@ plays-told : (test : ℕ → Bool) (told : Role → Bool) → ((n : ℕ) → tes
 plays-told test told law o n h =
     never (is another (role n)) (λ p. true≢false (sym h ∙ law n ∙ ap told (sym (is-same another (role n) p)) ∙ o))
 
-final : (c a p : Bool) (n : ℕ) (r : Role) → role n ≡ r → (isPrefix r || isJoining r) ≡ true
-    → afterAll nothingYet (laterPasses (ruled c a p)) n ≡ true
+pub final : (c a p : Bool) (n : ℕ) (r : Role) → role n ≡ r → (isPrefix r || isJoining r) ≡ true
+    → afterAll called (laterPasses (ruled c a p)) n ≡ true
 unfolding foldable
 final c a p n r e h =
     let f : foldable (role n) ≡ true = ap foldable e ∙ h in
     let plays = plays-told (λ n. foldable (role n)) foldable (λ n. refl) refl n f in
-    rw f at (below-all (λ n. not (foldable (role n)) || afterAll nothingYet (laterPasses (ruled c a p)) n) (complete c a p) n plays)
+    rw f at (below-all (λ n. not (foldable (role n)) || afterAll called (laterPasses (ruled c a p)) n) (complete c a p) n plays)
 
 -- The operators that the call pass asks for (`runs`).
 abbrev callStarts : List ℕ
 callStarts =
-    Operator.leftBrace ∷ Operator.leftBracket ∷ Operator.leftParenthesis ∷ Operator.queryFunction ∷ Operator.arrayVariable ∷ Operator.semicolon ∷ []
+    Operator.leftBrace ∷ Operator.leftBracket ∷ Operator.leftParenthesis ∷ Operator.queryFunction ∷ Operator.arrayVariable
+    ∷ Operator.semicolon ∷ []
 
 abbrev callers : List ℕ
 callers = Operator.queryFunction ∷ Operator.loop ∷ Operator.forEach ∷ []
 
-module _ {s : Sort} (e : Exp s) (w : isWhole s ≡ true) where
-  u : ℕ → Bool
-  u = uses (tokens e [])
+flat-binary : (σ : ℕ → Bool) (ops : List ℕ) → flatJoining σ ops ≡ true → Ready σ ops
+unfolding flatJoining
+flat-binary σ ops h =
+    let parts = and-eq-true-iff (each (λ n. isJoining (role n) && not (σ n)) ops)
+    (not (isOneOf ops Operator.conditional) || σ Operator.conditionalElse) .0 h in
+    let both : (n : ℕ) → isOneOf ops n ≡ true → (isJoining (role n) ≡ true) × (not (σ n) ≡ true) =
+    λ n m. and-eq-true-iff (isJoining (role n)) (not (σ n)) .0 (each-one (λ n. isJoining (role n) && not (σ n)) ops (parts .0) n m) in
+    record {
+      joining = λ n m. both n m .0;
+      flat = λ n m. not-true (σ n) (both n m .1);
+      paired = λ m. rw m at (parts .1);
+    }
 
-  used : Within u e
-  unfolding u
-  used = within u e [] (λ n h. h) .0
+-- What is told of every operator, of those that a test finds.
+not-yet : (σ test : ℕ → Bool) → below (λ n. not (σ n) || not (test n)) ≡ true → (n : ℕ) → is another (role n) ≡ false → test n ≡ true
+    → σ n ≡ false
+not-yet σ test h n p t =
+    not-true (σ n) (or-only-first (not (σ n)) (not (test n)) (ap not t) (below-all (λ n. not (σ n) || not (test n)) h n p))
 
-  unknown : (n : ℕ) → isUnwritten (role n) ≡ true → u n ≡ false
-  unfolding u uses
-  unknown n h = foreign n h e []
+plays-call : (kind : CallKind) (n : ℕ) → calls kind n ≡ true → is another (role n) ≡ false
+plays-call queryOrLoop = plays-told (calls queryOrLoop) (isAmong (aQuery ∷ aLoop ∷ [])) role-query refl
+plays-call math = plays-told (calls math) (is aMathCall) role-math refl
 
+plays-prefix : (n : ℕ) → prefixes n ≡ true → is another (role n) ≡ false
+plays-prefix = plays-told prefixes (isAmong (aMinus ∷ aNot ∷ [])) role-prefix refl
+
+uncalled : (σ : ℕ → Bool) (kind : CallKind) → below (λ n. not (σ n) || not (calls kind n || isJoining (role n))) ≡ true → Uncalled σ kind
+uncalled σ kind h = record {
+  flat =
+      λ n c.
+      not-yet σ (λ n. calls kind n || isJoining (role n)) h n (plays-call kind n c) (or-first (calls kind n) (isJoining (role n)) c);
+  unjoined =
+      λ n j. not-yet σ (λ n. calls kind n || isJoining (role n)) h n (plays-told (λ n. isJoining (role n)) isJoining (λ n. refl) refl n j)
+      (or-second (calls kind n) (isJoining (role n)) j);
+}
+
+pub uncalled-first : Uncalled nothingYet queryOrLoop
+unfolding ready
+uncalled-first = uncalled nothingYet queryOrLoop calls-first
+
+-- The passes that take on each list of a list of nodes by itself.
+unfoldable pub isLifted : Pass → Bool
+isLifted lastToken = false
+isLifted memberAccessors = false
+isLifted sectioning = false
+isLifted callPass = true
+isLifted statements = false
+isLifted arrays = false
+isLifted pointer = true
+isLifted mathCalls = true
+isLifted unaryMinusAndNot = true
+isLifted addition = true
+isLifted conditional = true
+isLifted returns = true
+isLifted (binary ops) = true
+
+-- u is the used set, which has no operator that no writing has.
+module _ (u : ℕ → Bool) (unknown : (n : ℕ) → isUnwritten (role n) ≡ true → u n ≡ false) where
   plays : (n : ℕ) → u n ≡ true → is another (role n) ≡ false
   plays n t =
       never (is another (role n))
-      (λ h. true≢false (sym t ∙ unknown n (or-second (is aLoop (role n)) (is another (role n) || false) (or-first (is another (role n)) false h))))
+      (λ h. true≢false (sym t
+      ∙ unknown n (or-second (is aLoop (role n)) (is another (role n) || false) (or-first (is another (role n)) false h))))
 
   no-query : runs u callPass ≡ false → (n : ℕ) → u n ≡ true → calls queryOrLoop n ≡ false
   unfolding computed role
   no-query h n t =
       let q = never (u Operator.queryFunction)
-      (λ q. true≢false (sym (rw (any-on u callStarts Operator.queryFunction q refl, any-on u callers Operator.queryFunction q refl) refl) ∙ h)) in
+      (λ q. true≢false (sym (rw (any-on u callStarts Operator.queryFunction q refl, any-on u callers Operator.queryFunction q refl) refl)
+      ∙ h)) in
       any-off u callers (rw (q, unknown Operator.loop refl, unknown Operator.forEach refl) refl) n t
 
   no-math : runs u mathCalls ≡ false → (n : ℕ) → u n ≡ true → calls math n ≡ false
@@ -303,7 +360,7 @@ module _ {s : Sort} (e : Exp s) (w : isWhole s ≡ true) where
   no-math h n t = rw t at (none-below 111 (λ n. u n && isMathCall n) h n (plays-below n (plays n t)))
 
   -- A pass that is left out folds nothing that the expression has.
-  left-out : (p : Pass) → runs u p ≡ false → (n : ℕ) → u n ≡ true → folds p n ≡ false
+  pub left-out : (p : Pass) → runs u p ≡ false → (n : ℕ) → u n ≡ true → folds p n ≡ false
   unfolding folds runs calls
   left-out lastToken h n t = refl
   left-out memberAccessors h n t = refl
@@ -316,124 +373,141 @@ module _ {s : Sort} (e : Exp s) (w : isWhole s ≡ true) where
   left-out unaryMinusAndNot h n t = any-off u (Operator.negate ∷ Operator.logicalNot ∷ []) h n t
   left-out addition h n t = any-off u (Operator.add ∷ []) (unfold any in or-neither (u Operator.negate) (u Operator.add || false) h .1) n t
   left-out conditional h n t = any-off u (Operator.conditional ∷ Operator.conditionalElse ∷ []) h n t
-  left-out returns h n t = refl
+  left-out returns h n t = any-off u (Operator.return ∷ []) h n t
   left-out (binary ops) h n t = any-off u ops h n t
 
   none-foreign : {A : Type 0} (ops : List ℕ) → each isForeign ops ≡ true → any u ops ≡ true → A
   none-foreign ops f h = absurd (true≢false (sym h ∙ any-foreign u unknown ops f))
 
-  flat-binary : (σ : ℕ → Bool) (ops : List ℕ) → flatJoining σ ops ≡ true → Ready σ ops
-  unfolding flatJoining
-  flat-binary σ ops h =
-      let parts = and-eq-true-iff (each (λ n. isJoining (role n) && not (σ n)) ops)
-      (not (isOneOf ops Operator.conditional) || σ Operator.conditionalElse) .0 h in
-      let both : (n : ℕ) → isOneOf ops n ≡ true → (isJoining (role n) ≡ true) × (not (σ n) ≡ true) =
-      λ n m. and-eq-true-iff (isJoining (role n)) (not (σ n)) .0 (each-one (λ n. isJoining (role n) && not (σ n)) ops (parts .0) n m) in
-      record {
-        joining = λ n m. both n m .0;
-        flat = λ n m. not-true (σ n) (both n m .1);
-        paired = λ m. rw m at (parts .1);
-      }
+  -- A pass that can come, and runs, is such a pass.
+  pub lifts : (σ : ℕ → Bool) (p : Pass) → ready σ p ≡ true → runs u p ≡ true → isLifted p ≡ true
+  unfolding ready runs isLifted
+  lifts σ lastToken r h = r
+  lifts σ memberAccessors r h = none-foreign (Operator.memberAccessor ∷ []) (unfold each isForeign computed role in refl) h
+  lifts σ sectioning r h = r
+  lifts σ callPass r h = refl
+  lifts σ statements r h = r
+  lifts σ arrays r h = none-foreign (Operator.arrayVariable ∷ []) (unfold each isForeign computed role in refl) h
+  lifts σ pointer r h = refl
+  lifts σ mathCalls r h = refl
+  lifts σ unaryMinusAndNot r h = refl
+  lifts σ addition r h = refl
+  lifts σ conditional r h = refl
+  lifts σ returns r h = refl
+  lifts σ (binary ops) r h = refl
 
-  -- What is told of every operator, of those that a test finds.
-  not-yet : (σ test : ℕ → Bool) → below (λ n. not (σ n) || not (test n)) ≡ true → (n : ℕ) → is another (role n) ≡ false → test n ≡ true
-      → σ n ≡ false
-  not-yet σ test h n p t =
-      not-true (σ n) (or-only-first (not (σ n)) (not (test n)) (ap not t) (below-all (λ n. not (σ n) || not (test n)) h n p))
+  module _ {s : Sort} (e : Exp s) (w : isWhole s ≡ true) where
+    pub applied : (sourceLength : ℕ) (p : Pass) (σ : ℕ → Bool) → ready σ p ≡ true → runs u p ≡ true
+        → apply sourceLength p (form σ e nil) ≡ ok (form (also σ (folds p)) e nil)
+    unfolding apply through ready runs folds Levels.nothing callLevel binaryLevel conditionalLevel returnLevel
+    applied len lastToken σ r h = absurd (false≢true r)
+    applied len memberAccessors σ r h = none-foreign (Operator.memberAccessor ∷ []) (unfold each isForeign computed role in refl) h
+    applied len sectioning σ r h = absurd (false≢true r)
+    applied len callPass σ r h = call-pass σ queryOrLoop (uncalled σ queryOrLoop r) e
+    applied len statements σ r h = absurd (false≢true r)
+    applied len arrays σ r h = none-foreign (Operator.arrayVariable ∷ []) (unfold each isForeign computed role in refl) h
+    applied len pointer σ r h = none-foreign (Operator.pointer ∷ []) (unfold each isForeign computed role in refl) h
+    applied len mathCalls σ r h = call-pass σ math (uncalled σ math r) e
+    applied len unaryMinusAndNot σ r h = unary-pass σ (record { flat = λ n p. not-yet σ prefixes r n (plays-prefix n p) p }) e
+    applied len addition σ r h = binary-pass σ (Operator.add ∷ []) (flat-binary σ (Operator.add ∷ []) r) e
+    applied len conditional σ r h =
+        let parts = and-eq-true-iff (not (σ Operator.conditional)) (not (σ Operator.conditionalElse)) .0 r in
+        conditional-pass σ (record {
+          question = not-true (σ Operator.conditional) (parts .0);
+          colon = not-true (σ Operator.conditionalElse)
+              (parts .1);
+        }) e w
+    applied len returns σ r h = return-pass σ (not-true (σ Operator.return) r) e
+    applied len (binary ops) σ r h = split (each isForeign ops) refl
+      where
+        split : (b : Bool) → each isForeign ops ≡ b
+            → walk (binaryLevel ops) (gathered nil) (form σ e nil) ≡ ok (form (also σ (isOneOf ops)) e nil)
+        split true f = none-foreign ops f h
+        split false f = binary-pass σ ops (flat-binary σ ops (rw f at r)) e
 
-  plays-call : (kind : CallKind) (n : ℕ) → calls kind n ≡ true → is another (role n) ≡ false
-  plays-call queryOrLoop = plays-told (calls queryOrLoop) (isAmong (aQuery ∷ aLoop ∷ [])) role-query refl
-  plays-call math = plays-told (calls math) (is aMathCall) role-math refl
+pub skipped : (u : ℕ → Bool) (sourceLength : ℕ) (p : Pass) (ps : List Pass) (f : Forest) → runs u p ≡ false
+    → grouped sourceLength u (p ∷ ps) [] f ≡ grouped sourceLength u ps [] f
+unfolding grouped
+skipped u len p ps f h = rw (h, grouped) refl
 
-  plays-prefix : (n : ℕ) → prefixes n ≡ true → is another (role n) ≡ false
-  plays-prefix = plays-told prefixes (isAmong (aMinus ∷ aNot ∷ [])) role-prefix refl
+pub passed : (u : ℕ → Bool) (sourceLength : ℕ) (p : Pass) (ps : List Pass) (f g : Forest) → runs u p ≡ true → apply sourceLength p f ≡ ok g
+    → grouped sourceLength u (p ∷ ps) [] f ≡ grouped sourceLength u ps [] g
+unfolding grouped
+passed u len p ps f g h e = rw (h, grouped) (rw e refl)
 
-  uncalled : (σ : ℕ → Bool) (kind : CallKind) → below (λ n. not (σ n) || not (calls kind n || isJoining (role n))) ≡ true → Uncalled σ kind
-  uncalled σ kind h = record {
-    flat =
-        λ n c.
-        not-yet σ (λ n. calls kind n || isJoining (role n)) h n (plays-call kind n c) (or-first (calls kind n) (isJoining (role n)) c);
-    unjoined =
-        λ n j. not-yet σ (λ n. calls kind n || isJoining (role n)) h n (plays-told (λ n. isJoining (role n)) isJoining (λ n. refl) refl n j)
-        (or-second (calls kind n) (isJoining (role n)) j);
-  }
+-- Passes over a list F σ, in which the operators of σ are folded: each pass takes it on, or is left out and folds nothing in it.
+module _ (u : ℕ → Bool) (F : (ℕ → Bool) → Forest)
+    (goes : (sourceLength : ℕ) (p : Pass) (σ : ℕ → Bool) → ready σ p ≡ true → runs u p ≡ true
+    → apply sourceLength p (F σ) ≡ ok (F (also σ (folds p))))
+    (stays : (p : Pass) (σ : ℕ → Bool) → runs u p ≡ false → F (also σ (folds p)) ≡ F σ) where
+  pub one-pass : (sourceLength : ℕ) (p : Pass) (ps : List Pass) (σ : ℕ → Bool) → ready σ p ≡ true
+      → grouped sourceLength u (p ∷ ps) [] (F σ) ≡ grouped sourceLength u ps [] (F (also σ (folds p)))
+  one-pass len p ps σ r =
+      either (runs u p) (λ h. passed u len p ps (F σ) (F (also σ (folds p))) h (goes len p σ r h))
+      (λ h. skipped u len p ps (F σ) h ∙ ap (grouped len u ps []) (sym (stays p σ h)))
 
-  applied : (sourceLength : ℕ) (p : Pass) (σ : ℕ → Bool) → ready σ p ≡ true → runs u p ≡ true
-      → apply sourceLength p (form σ e nil) ≡ ok (form (also σ (folds p)) e nil)
-  unfolding apply through ready runs folds Levels.nothing callLevel binaryLevel conditionalLevel
-  applied len lastToken σ r h = none-foreign (Operator.assignment ∷ Operator.semicolon ∷ []) (unfold each isForeign computed role in refl) h
-  applied len memberAccessors σ r h = none-foreign (Operator.memberAccessor ∷ []) (unfold each isForeign computed role in refl) h
-  applied len sectioning σ r h = absurd (false≢true r)
-  applied len callPass σ r h = call-pass σ queryOrLoop (uncalled σ queryOrLoop r) e
-  applied len statements σ r h = none-foreign (Operator.semicolon ∷ []) (unfold each isForeign computed role in refl) h
-  applied len arrays σ r h = none-foreign (Operator.arrayVariable ∷ []) (unfold each isForeign computed role in refl) h
-  applied len pointer σ r h = none-foreign (Operator.pointer ∷ []) (unfold each isForeign computed role in refl) h
-  applied len mathCalls σ r h = call-pass σ math (uncalled σ math r) e
-  applied len unaryMinusAndNot σ r h = unary-pass σ (record { flat = λ n p. not-yet σ prefixes r n (plays-prefix n p) p }) e
-  applied len addition σ r h = binary-pass σ (Operator.add ∷ []) (flat-binary σ (Operator.add ∷ []) r) e
-  applied len conditional σ r h =
-      let parts = and-eq-true-iff (not (σ Operator.conditional)) (not (σ Operator.conditionalElse)) .0 r in
-      conditional-pass σ (record {
-        question = not-true (σ Operator.conditional) (parts .0);
-        colon = not-true (σ Operator.conditionalElse)
-            (parts .1);
-      }) e w
-  applied len returns σ r h = none-foreign (Operator.return ∷ []) (unfold each isForeign computed role in refl) h
-  applied len (binary ops) σ r h = split (each isForeign ops) refl
-    where
-      split : (b : Bool) → each isForeign ops ≡ b
-          → walk (binaryLevel ops) (gathered nil) (form σ e nil) ≡ ok (form (also σ (isOneOf ops)) e nil)
-      split true f = none-foreign ops f h
-      split false f = binary-pass σ ops (flat-binary σ ops (rw f at r)) e
-
-  one-pass : (sourceLength : ℕ) (p : Pass) (ps : List Pass) (σ : ℕ → Bool) → ready σ p ≡ true
-      → grouped sourceLength u (p ∷ ps) [] (form σ e nil) ≡ grouped sourceLength u ps [] (form (also σ (folds p)) e nil)
-  unfolding grouped
-  one-pass len p ps σ r = split (runs u p) refl
-    where
-      split : (b : Bool) → runs u p ≡ b → grouped len u (p ∷ ps) [] (form σ e nil) ≡ grouped len u ps [] (form (also σ (folds p)) e nil)
-      split true h = rw (h, grouped) (rw (applied len p σ r h) refl)
-      split false h = rw (h, grouped) (ap (grouped len u ps []) (sym (agree u σ (folds p) (left-out p h) e used nil)))
-
-  all-passes : (sourceLength : ℕ) (ps : List Pass) (σ : ℕ → Bool) → allReady σ ps ≡ true
-      → grouped sourceLength u ps [] (form σ e nil) ≡ rooted sourceLength [] (form (afterAll σ ps) e nil)
+  pub all-passes : (sourceLength : ℕ) (ps : List Pass) (σ : ℕ → Bool) → allReady σ ps ≡ true
+      → grouped sourceLength u ps [] (F σ) ≡ rooted sourceLength [] (F (afterAll σ ps))
   unfolding allReady afterAll
   all-passes len [] σ h = unfold grouped in refl
   all-passes len (p ∷ ps) σ h =
       let parts = and-eq-true-iff (ready σ p) (allReady (also σ (folds p)) ps) .0 h in
       one-pass len p ps σ (parts .0) ∙ all-passes len ps (also σ (folds p)) (parts .1)
 
-  skipped : (sourceLength : ℕ) (p : Pass) (ps : List Pass) (f : Forest) → runs u p ≡ false
-      → grouped sourceLength u (p ∷ ps) [] f ≡ grouped sourceLength u ps [] f
-  unfolding grouped
-  skipped len p ps f h = rw (h, grouped) refl
+-- The section pass over tokens that it reads, or, where it is left out and no bracket is used, over leaves that are read already.
+pub sectioned : (u : ℕ → Bool) (F : List Token → List Token) (G : Forest → Forest) → Reads F G
+    → (u Operator.leftParenthesis ≡ false → G nil ≡ leaves (F []))
+    → (sourceLength : ℕ) (ps : List Pass)
+    → grouped sourceLength u (sectioning ∷ ps) [] (leaves (F [])) ≡ grouped sourceLength u ps [] (G nil)
+unfolding apply runs
+sectioned u F G f flat len ps =
+    either (runs u sectioning) (λ h. passed u len sectioning ps (leaves (F [])) (G nil) h (whole-reads F G f))
+    (λ h. skipped u len sectioning ps (leaves (F [])) h ∙ ap (grouped len u ps []) (sym (flat (unused h))))
+  where
+    unused : any u (Operator.leftBrace ∷ Operator.leftBracket ∷ Operator.leftParenthesis ∷ []) ≡ false → u Operator.leftParenthesis ≡ false
+    unused h =
+        never (u Operator.leftParenthesis)
+        (λ t. true≢false (sym (any-on u (Operator.leftBrace ∷ Operator.leftBracket ∷ Operator.leftParenthesis ∷ [])
+        Operator.leftParenthesis t (unfold isOneOf any in refl)) ∙ h))
 
-  sectioned : (sourceLength : ℕ) (ps : List Pass)
-      → grouped sourceLength u (sectioning ∷ ps) [] (leaves (tokens e [])) ≡ grouped sourceLength u ps []
-      (form nothingYet e nil)
-  unfolding grouped apply
-  sectioned len ps = split (runs u sectioning) refl
-    where
-      split : (b : Bool) → runs u sectioning ≡ b → grouped len u (sectioning ∷ ps) [] (leaves (tokens e [])) ≡ grouped len u ps []
-          (form nothingYet e nil)
-      split true h = rw (h, grouped) (rw (section-pass e) refl)
-      split false h =
-          rw (h, grouped)
-          (ap (grouped len u ps []) (sym (unfold leaves in bracketless u
-          (never (u Operator.leftParenthesis)
-          (λ t. true≢false (sym (any-on u (Operator.leftBrace ∷ Operator.leftBracket ∷ Operator.leftParenthesis ∷ []) Operator.leftParenthesis t
-          (unfold isOneOf any in refl)) ∙ (unfold runs in h))))
-          e used [])))
+-- An expression that assigns nothing stands on its own.
+module _ {s : Sort} (e : Exp s) (w : isWhole s ≡ true) (assigns : heads anAssignment s ≡ false) where
+  u : ℕ → Bool
+  u = uses (tokens e [])
+
+  used : Within u e
+  unfolding u
+  used = within u e [] (λ n h. h) .0
+
+  unknown : (n : ℕ) → isUnwritten (role n) ≡ true → u n ≡ false
+  unfolding u uses
+  unknown n h = foreign n h e []
+
+  no-semicolons : u Operator.semicolon ≡ false
+  unfolding u uses computed role
+  no-semicolons = lacks-uses Operator.semicolon aSemicolon refl refl refl e (no-semicolon e) []
+
+  no-assignments : u Operator.assignment ≡ false
+  unfolding u uses computed role
+  no-assignments = lacks-uses Operator.assignment anAssignment refl refl refl e (lacking anAssignment refl e assigns) []
 
   pub reading : (r : Rules) (sourceLength : ℕ) → grouped sourceLength (uses (tokens e [])) (order r) []
       (leaves (tokens e [])) ≡ rooted sourceLength [] (form everything e nil)
-  unfolding order laterPasses u runs
+  unfolding order laterPasses u runs any folds
   reading r len =
       let ps = laterPasses r in
-      skipped len lastToken (memberAccessors ∷ sectioning ∷ ps) (leaves (tokens e []))
-      (any-foreign u unknown (Operator.assignment ∷ Operator.semicolon ∷ []) (unfold each isForeign computed role in refl))
-      ∙ skipped len memberAccessors (sectioning ∷ ps) (leaves (tokens e []))
+      let F : (ℕ → Bool) → Forest = λ σ. form σ e nil in
+      let goes : (sourceLength : ℕ) (p : Pass) (σ : ℕ → Bool) → ready σ p ≡ true → runs u p ≡ true
+      → apply sourceLength p (F σ) ≡ ok (F (also σ (folds p))) = applied u unknown e w in
+      let stays : (p : Pass) (σ : ℕ → Bool) → runs u p ≡ false → F (also σ (folds p)) ≡ F σ =
+      λ p σ h. agree u σ (folds p) (left-out u unknown p h) e used nil in
+      skipped u len lastToken (memberAccessors ∷ sectioning ∷ callPass ∷ statements ∷ ps) (leaves (tokens e []))
+      (rw (no-assignments, no-semicolons) refl)
+      ∙ skipped u len memberAccessors (sectioning ∷ callPass ∷ statements ∷ ps) (leaves (tokens e []))
       (any-foreign u unknown (Operator.memberAccessor ∷ []) (unfold each isForeign computed role in refl))
-      ∙ sectioned len ps
-      ∙ all-passes len ps nothingYet (in-order (r .comparisonsFirst) (r .andFirst) (r .pairsRight))
-      ∙ ap (rooted len []) (finished (afterAll nothingYet ps) (final (r .comparisonsFirst) (r .andFirst) (r .pairsRight)) e nil)
+      ∙ sectioned u (tokens e) (form nothingYet e) (reads e) (λ h. unfold leaves in bracketless u h e used []) len
+      (callPass ∷ statements ∷ ps)
+      ∙ one-pass u F goes stays len callPass (statements ∷ ps) nothingYet calls-first
+      ∙ skipped u len statements ps (form (also nothingYet (folds callPass)) e nil) (rw no-semicolons refl)
+      ∙ all-passes u F goes stays len ps called (in-order (r .comparisonsFirst) (r .andFirst) (r .pairsRight))
+      ∙ ap (rooted len []) (finished (afterAll called ps) (final (r .comparisonsFirst) (r .andFirst) (r .pairsRight)) e nil)

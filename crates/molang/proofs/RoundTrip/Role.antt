@@ -58,6 +58,15 @@ aLoop = record { code = 11 }
 abbrev pub another : Role
 another = record { code = 12 }
 
+abbrev pub aSemicolon : Role
+aSemicolon = record { code = 13 }
+
+abbrev pub anAssignment : Role
+anAssignment = record { code = 14 }
+
+abbrev pub aReturn : Role
+aReturn = record { code = 15 }
+
 -- The two roles are the same.
 abbrev pub is : Role → Role → Bool
 is a b = eqb (a .code) (b .code)
@@ -100,7 +109,10 @@ role n =
     (orElse (eqb n Operator.queryFunction) aQuery
     (orElse (isPlainLeaf n) aLeaf
     (orElse (isPlainBinary n) aBinary
-    (orElse (isQueryOrLoop n) aLoop another))))))))))))
+    (orElse (isQueryOrLoop n) aLoop
+    (orElse (eqb n Operator.semicolon) aSemicolon
+    (orElse (eqb n Operator.assignment) anAssignment
+    (orElse (eqb n Operator.return) aReturn another)))))))))))))))
 
 -- What no number below m passes.
 pub none-below : (m : ℕ) (test : ℕ → Bool) → someBelow m test ≡ false → (n : ℕ) → n < m → test n ≡ false
@@ -166,6 +178,18 @@ role-question = by-role (λ n. eqb n Operator.conditional) (is aQuestion) refl (
 pub role-colon : (n : ℕ) → eqb n Operator.conditionalElse ≡ is aColon (role n)
 unfolding computed role
 role-colon = by-role (λ n. eqb n Operator.conditionalElse) (is aColon) refl (not-one 60 (lit< tt))
+
+pub role-semicolon : (n : ℕ) → eqb n Operator.semicolon ≡ is aSemicolon (role n)
+unfolding computed role
+role-semicolon = by-role (λ n. eqb n Operator.semicolon) (is aSemicolon) refl (not-one 73 (lit< tt))
+
+pub role-assignment : (n : ℕ) → eqb n Operator.assignment ≡ is anAssignment (role n)
+unfolding computed role
+role-assignment = by-role (λ n. eqb n Operator.assignment) (is anAssignment) refl (not-one 71 (lit< tt))
+
+pub role-return : (n : ℕ) → eqb n Operator.return ≡ is aReturn (role n)
+unfolding computed role
+role-return = by-role (λ n. eqb n Operator.return) (is aReturn) refl (not-one 74 (lit< tt))
 
 -- No math call is above 110.
 pub no-math : (n : ℕ) → 110 < n → isMathCall n ≡ false
@@ -241,9 +265,14 @@ op-of-question n r e h = eqb-true n Operator.conditional (role-question n ∙ ap
 pub op-of-colon : (n : ℕ) (r : Role) → role n ≡ r → is aColon r ≡ true → n ≡ Operator.conditionalElse
 op-of-colon n r e h = eqb-true n Operator.conditionalElse (role-colon n ∙ ap (is aColon) e ∙ h)
 
+pub closer-role : (n : ℕ) → n ≡ Operator.rightParenthesis → role n ≡ aCloser
+unfolding computed role
+closer-role n e = ap role e
+
 -- The roles of the tokens that the section pass leaves as they are.
 abbrev pub textRoles : List Role
-textRoles = aLeaf ∷ aQuery ∷ aMathCall ∷ aMinus ∷ aNot ∷ aBinary ∷ aComma ∷ aQuestion ∷ aColon ∷ []
+textRoles =
+    aLeaf ∷ aQuery ∷ aMathCall ∷ aMinus ∷ aNot ∷ aBinary ∷ aComma ∷ aQuestion ∷ aColon ∷ aSemicolon ∷ anAssignment ∷ aReturn ∷ []
 
 isNone : Option ℕ → Bool
 isNone none = true

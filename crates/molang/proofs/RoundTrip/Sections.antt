@@ -21,11 +21,11 @@ abbrev pub nothingYet : ℕ → Bool
 nothingYet n = false
 
 -- More trees in the innermost open section.
-over : Forest → Open → Open
+unfoldable pub over : Forest → Open → Open
 over f (outside d) = outside (turnedOnto f d)
 over f (section o i d s) = section o i (turnedOnto f d) s
 
-abbrev Reads : (List Token → List Token) → (Forest → Forest) → Type 0
+abbrev pub Reads : (List Token → List Token) → (Forest → Forest) → Type 0
 Reads F G = (i : ℕ) (s : Open) (r : List Token) → (j : ℕ) × (sections i s (leaves (F r)) ≡ sections j (over (G nil) s) (leaves r))
 
 over-both : (G H : Forest → Forest) → Turns G → (s : Open) → over (H nil) (over (G nil) s) ≡ over (G (H nil)) s
@@ -38,30 +38,32 @@ unfolding over placed turnedOnto
 over-node k cs (outside d) = refl
 over-node k cs (section o i d s) = refl
 
-over-nil : (s : Open) → over nil s ≡ s
+pub over-nil : (s : Open) → over nil s ≡ s
 unfolding over turnedOnto
 over-nil (outside d) = refl
 over-nil (section o i d s) = refl
 
-read-both : (F F' : List Token → List Token) (G G' : Forest → Forest) → Turns G → Reads F G → Reads F' G'
+pub read-both : (F F' : List Token → List Token) (G G' : Forest → Forest) → Turns G → Reads F G → Reads F' G'
     → Reads (λ r. F (F' r)) (λ r. G (G' r))
 read-both F F' G G' t f f' i s r =
     let a = f i s (F' r) in
     let b = f' (a .0) (over (G nil) s) r in
     (b .0, a .1 ∙ b .1 ∙ ap (λ (t : Open). sections (b .0) t (leaves r)) (over-both G G' t s))
 
-read-token : (k : Token) → isAmong textRoles (role (k .op)) ≡ true → Reads (λ r. k ∷ r) (node k nil)
+pub read-token : (k : Token) → isAmong textRoles (role (k .op)) ≡ true → Reads (λ r. k ∷ r) (node k nil)
 unfolding leaves sections Definition.bracket
 read-token k h i s r =
     let t = role-text (k .op) h in
-    (position i s, rw (t .0, Definition.bracket, sections) (rw (t .1) (ap (λ (t : Open). sections (position i s) t (leaves r)) (over-node k nil s))))
+    let placed = ap (λ (t : Open). sections (position i s) t (leaves r)) (over-node k nil s) in
+    (position i s, rw (t .0, Definition.bracket, sections) (rw (t .1) placed))
 
 opens : (k : Token) → k .op ≡ Operator.leftParenthesis → (i : ℕ) (s : Open) (r : Forest)
     → sections i s (node k nil r) ≡ sections (position i s) (section k (position i s + 1) nil s) r
 unfolding sections Definition.bracket closingOf
 opens k h i s r = rw (ap closingOf h, Definition.bracket, sections) refl
 
-shuts : (o c : Token) → o .op ≡ Operator.leftParenthesis → c .op ≡ Operator.rightParenthesis → (d : Forest) (i j : ℕ) (s : Open) (r : Forest)
+shuts : (o c : Token) → o .op ≡ Operator.leftParenthesis → c .op ≡ Operator.rightParenthesis → (d : Forest) (i j : ℕ) (s : Open)
+    (r : Forest)
     → sections i (section o j d s) (node c nil r) ≡ sections (i + 1) (over (node (closedBy c o) (inOrder d) nil) s) r
 unfolding sections Definition.bracket closingOf isCloser isOneOf any closing closer position
 shuts o c h g d i j s r =
@@ -82,7 +84,7 @@ read-bracket k e F G f i s r =
           ∙ ap (λ (c : Forest). sections (a .0 + 1) (over (node k c nil) s) (leaves r)) (inOrder-turned (G nil)),
     )
 
-reads : {s : Sort} (e : Exp s) → Reads (tokens e) (form nothingYet e)
+pub reads : {s : Sort} (e : Exp s) → Reads (tokens e) (form nothingYet e)
 unfolding tokens form ahead amid isBracket turnedOnto
 reads empty i s r = (i, ap (λ (t : Open). sections i t (leaves r)) (sym (over-nil s)))
 reads (leaf k q e l) i s r = read-token k (among leafRoles (isAmong textRoles) refl (role (k .op)) (ap (isAmong leafRoles) e ∙ l)) i s r
@@ -97,6 +99,7 @@ reads (between k q e j l m x y) i s r =
     (read-both (λ r. k ∷ r) (tokens y) (node k nil) (form nothingYet y) (λ r d. refl)
     (read-token k (among joiningRoles (isAmong textRoles) refl (role (k .op)) (ap (isAmong joiningRoles) e ∙ j))) (reads y)) i s r
 
-pub section-pass : {s : Sort} (e : Exp s) → sections 0 (outside nil) (leaves (tokens e [])) ≡ ok (form nothingYet e nil)
+-- THE PASS over a whole list.
+pub whole-reads : (F : List Token → List Token) (G : Forest → Forest) → Reads F G → sections 0 (outside nil) (leaves (F [])) ≡ ok (G nil)
 unfolding leaves over sections closed
-section-pass e = reads e 0 (outside nil) [] .1 ∙ ap ok (inOrder-turned (form nothingYet e nil))
+whole-reads F G f = f 0 (outside nil) [] .1 ∙ ap ok (inOrder-turned (G nil))

@@ -1,33 +1,36 @@
--- Writing a plain tree spells a bracketed expression: the written list is the expression's tokens, and with brackets taken away the
--- expression's tree is the tree.
+-- Writing a plain expression spells a bracketed expression: the written list is the expression's tokens, and with brackets taken away the
+-- expression's tree is the tree. So does writing what a statement holds, and a script is spelled statement by statement.
 use Prim.Native.Nat.{ℕ, suc, _+_}
 use mathlib.Core.Path.{_≡_, refl, ap, sym, _∙_}
 use mathlib.Core.Bool.{Bool, true, false, _||_, _&&_, not, true≢false, false≢true, and-eq-true-iff, and-false, or-true}
 use mathlib.Core.List.{List, [], _∷_}
-use mathlib.Core.Option.{none, some}
 use lib.Dec.{eqb}
-use borrow.Author.Tests.{not-true}
+use borrow.Author.Tests.{not-true, eq-eqb}
 use Rattle.molang.specs.Operator
 use Rattle.molang.specs.Operator.{isOneOf, isMathCall, isBracket}
-use Rattle.molang.specs.Forest.{Token, Forest, nil, node, size, closedBy, unclosed}
+use Rattle.molang.specs.Forest.{Token, Forest, nil, node, size, bare, closedBy, unclosed}
 use Rattle.molang.specs.Calls.{calls}
-use Rattle.molang.specs.Plain.{Seat, elsewhere, rightOfQuestion, underMathCall, isRightOfQuestion, isUnderMathCall, seatUnder, seatOf}
-use Rattle.molang.specs.Plain.{isPlainLeaf, isPlainBinary, isCall, plainForm, unplain, unplainAt}
+use Rattle.molang.specs.Free.{isNil}
+use Rattle.molang.specs.Plain.{Seat, atRoot, underSemicolon, isRightOfQuestion, isUnderMathCall, isUnderSemicolon, seatUnder}
+use Rattle.molang.specs.Plain.{isPlainLeaf, isPlainBinary, isCall, expressionForm}
 use Rattle.molang.specs.Write.{spanning, openerFor, closerFor, closerOf, standsAlone, standsLeft, standsRight, operandTokens, written}
-use Rattle.molang.specs.Write.{takenAway}
+use Rattle.molang.specs.Write.{writtenStatements, takenAway, comparableToken, comparableTrees}
 use Rattle.molang.proofs.Booleans.{either, never, or-only-first}
 use Rattle.molang.proofs.Computed.{computed}
-use Rattle.molang.proofs.PlainTrees.{plain-parts}
+use Rattle.molang.proofs.PlainTrees.{seat-cases, other-seat, PlainExpression, inner, PlainStatements, ended, statement}
 use Rattle.molang.proofs.TakingAway.{taken-later, taken-kept, taken-call, taken-bracket}
 use Rattle.molang.proofs.Writing.{written-none, written-one}
-use Rattle.molang.proofs.RoundTrip.Role.{Role, aQuery, aMathCall, aBracket, aMinus, aNot, aBinary, aComma, aQuestion, aColon, is}
-use Rattle.molang.proofs.RoundTrip.Role.{is-same, isAmong, allOf, among, role, role-bracket, role-comma, role-question, role-colon}
-use Rattle.molang.proofs.RoundTrip.Role.{role-math, role-call, role-leaf, role-binary, role-single, ruled-out}
+use Rattle.molang.proofs.RoundTrip.Role.{Role, aQuery, aMathCall, aBracket, aMinus, aNot, aBinary, aComma, aQuestion, aColon}
+use Rattle.molang.proofs.RoundTrip.Role.{anAssignment, aReturn, is, is-same, isAmong, allOf, among, role, role-bracket, role-comma}
+use Rattle.molang.proofs.RoundTrip.Role.{role-question, role-colon, role-assignment, role-return, role-math, role-call, role-leaf}
+use Rattle.molang.proofs.RoundTrip.Role.{role-binary, role-single, ruled-out}
 use Rattle.molang.proofs.RoundTrip.Expression.{Sort, nothing, atom, prefixed, bracketed, joinedBy, Pair, Exp, empty, leaf, bracket}
-use Rattle.molang.proofs.RoundTrip.Expression.{before, between, isOperand, isJoinedBy, isWhole, isFilled, isBracketed, isFilledBracket}
-use Rattle.molang.proofs.RoundTrip.Expression.{leafRoles, prefixRoles, joiningRoles, isLeaf, isPrefix, isJoining, takes, joinsLeft}
-use Rattle.molang.proofs.RoundTrip.Expression.{joinsRight, tokens, ahead, amid, form, Solid}
+use Rattle.molang.proofs.RoundTrip.Expression.{before, between, isOperand, isJoinedBy, isWhole, isHeaded, statementRoles, isHeld}
+use Rattle.molang.proofs.RoundTrip.Expression.{isFilled, isBracketed, isFilledBracket, leafRoles, prefixRoles, joiningRoles, isLeaf}
+use Rattle.molang.proofs.RoundTrip.Expression.{isPrefix, isJoining, takes, joinsLeft, joinsRight, tokens, ahead, amid, form, Solid}
+use Rattle.molang.proofs.RoundTrip.Lacking.{apart, heads, headless}
 use Rattle.molang.proofs.RoundTrip.Order.{everything}
+use Rattle.molang.proofs.RoundTrip.Script.{Statement, isEmpty, scriptTokens, labelOf, label-op, statementTrees}
 
 -- Taking away goes through a list tree by tree.
 taken-form : (c : Bool) {s : Sort} (e : Exp s) (r R : Forest)
@@ -58,6 +61,7 @@ pub record Spelled (p : Seat) (k : Token) (cs : Forest) : Type 0 where
   pub comma : eqb (k .op) Operator.comma ≡ isJoinedBy aComma sort
   pub colon : eqb (k .op) Operator.conditionalElse ≡ isJoinedBy aColon sort
   pub placed : isJoinedBy aColon sort ≡ true → isRightOfQuestion p ≡ true
+  pub stated : isHeaded statementRoles sort ≡ true → isUnderSemicolon p ≡ true
   pub bracketing : isBracket (k .op) ≡ isBracketed sort
   pub full : isBracketed sort ≡ true → isUnderMathCall p ≡ false → isFilledBracket sort ≡ true
 
@@ -93,7 +97,7 @@ taken-section : (k : Token) {s : Sort} (x : Exp s) → isFilled s ≡ true → i
 taken-section k x f h R = let o = filled-solid x f in rw (o .becomes nil) (taken-bracket k (o .label) (o .inside) R h)
 
 part : (joins : Sort → Bool) (b : Bool) (p : Seat) (k : Token) (cs : Forest) (x : Spelled p k cs) → (b ≡ true → joins (x .sort) ≡ true)
-    → (b ≡ false → isWhole (x .sort) ≡ true) → (b ≡ false → joins (bracketed (x .sort)) ≡ true) → Part joins b k cs
+    → (b ≡ false → isHeld (x .sort) ≡ true) → (b ≡ false → joins (bracketed (x .sort)) ≡ true) → Part joins b k cs
 unfolding operandTokens form tokens closerFor openerFor spanning added-pair
 part joins true p k cs x t f j = record { sort = x .sort; exp = x .exp; fits = t refl; spells = x .spells; strips = λ c h R. x .strips c R }
 part joins false p k cs x t f j = record {
@@ -150,6 +154,7 @@ spell-leaf p k r e l = record {
   comma = no-comma leafRoles refl (k .op) r e l;
   colon = no-colon leafRoles refl (k .op) r e l;
   placed = λ h. absurd (false≢true h);
+  stated = λ h. absurd (false≢true h);
   bracketing = no-bracket leafRoles refl (k .op) r e l;
   full = λ h n. absurd (false≢true h);
 }
@@ -166,11 +171,12 @@ spell-hollow p k e m = record {
   comma = role-comma (k .op) ∙ ap (is aComma) e;
   colon = role-colon (k .op) ∙ ap (is aColon) e;
   placed = λ h. absurd (false≢true h);
+  stated = λ h. absurd (false≢true h);
   bracketing = role-bracket (k .op) ∙ ap (is aBracket) e;
   full = λ h n. absurd (true≢false (sym m ∙ n));
 }
 
-spell-bracket : (p q : Seat) (k x : Token) (xs : Forest) → role (k .op) ≡ aBracket → (y : Spelled q x xs) → isWhole (y .sort) ≡ true
+spell-bracket : (p q : Seat) (k x : Token) (xs : Forest) → role (k .op) ≡ aBracket → (y : Spelled q x xs) → isHeld (y .sort) ≡ true
     → Spelled p k (node x xs nil)
 unfolding tokens written form standsAlone own-pair
 spell-bracket p q k x xs e y w = record {
@@ -183,6 +189,7 @@ spell-bracket p q k x xs e y w = record {
   comma = role-comma (k .op) ∙ ap (is aComma) e;
   colon = role-colon (k .op) ∙ ap (is aColon) e;
   placed = λ h. absurd (false≢true h);
+  stated = λ h. absurd (false≢true h);
   bracketing = b;
   full = λ h n. y .filled;
 }
@@ -198,12 +205,13 @@ spell-bracket p q k x xs e y w = record {
 
 spell-before : (p : Seat) (k x : Token) (xs : Forest) (r : Role) → role (k .op) ≡ r → isPrefix r ≡ true
     → Part (takes r) (standsAlone x xs) x xs
-    → (not (isCall (k .op)) || standsAlone x xs) ≡ true → Spelled p k (node x xs nil)
+    → (not (isCall (k .op)) || standsAlone x xs) ≡ true → (isAmong statementRoles r ≡ true → isUnderSemicolon p ≡ true)
+    → Spelled p k (node x xs nil)
 unfolding tokens written form ahead standsAlone
-spell-before p k x xs r e i y c =
+spell-before p k x xs r e i y c g =
     let b = no-bracket prefixRoles refl (k .op) r e i in
     record {
-      sort = prefixed;
+      sort = prefixed r;
       exp = before k r e i (y .fits) (y .exp);
       spells = λ t. ap (λ (ks : List Token). k ∷ ks) (y .spells t) ∙ sym (written-one false k x xs t b);
       strips = λ inCall R. taken-kept inCall k (form everything (y .exp) nil) R b
@@ -213,15 +221,16 @@ spell-before p k x xs r e i y c =
       comma = no-comma prefixRoles refl (k .op) r e i;
       colon = no-colon prefixRoles refl (k .op) r e i;
       placed = λ h. absurd (false≢true h);
+      stated = g;
       bracketing = b;
       full = λ h n. absurd (false≢true h);
     }
 
 spell-between : (p : Seat) (k x : Token) (xs : Forest) (y : Token) (ys : Forest) (r : Role) → role (k .op) ≡ r → isJoining r ≡ true
-    → (is aColon r ≡ true → isRightOfQuestion p ≡ true)
+    → (is aColon r ≡ true → isRightOfQuestion p ≡ true) → (isAmong statementRoles r ≡ true → isUnderSemicolon p ≡ true)
     → Part (joinsLeft r) (standsLeft k x xs) x xs → Part (joinsRight r) (standsRight k y ys) y ys → Spelled p k (node x xs (node y ys nil))
 unfolding tokens written form amid standsAlone
-spell-between p k x xs y ys r e j c a z =
+spell-between p k x xs y ys r e j c g a z =
     let b = no-bracket joiningRoles refl (k .op) r e j in
     let q = no-call joiningRoles refl (k .op) r e j in
     record {
@@ -240,56 +249,52 @@ spell-between p k x xs y ys r e j c a z =
       comma = role-comma (k .op) ∙ ap (is aComma) e;
       colon = role-colon (k .op) ∙ ap (is aColon) e;
       placed = c;
+      stated = g;
       bracketing = b;
       full = λ h n. absurd (false≢true h);
     }
 
 -- Where a node's children stand.
-place-by : (m q : Bool) (k : Token) (i : ℕ) → isMathCall (k .op) ≡ m → (eqb (k .op) Operator.conditional && eqb i 1) ≡ q
-    → seatUnder k i ≡ (elim m as (λ t. Seat) [
-      | true ↦ underMathCall
-      | false ↦ elim q as
-          (λ t. Seat) [ true ↦ rightOfQuestion | false ↦ elsewhere ]
-    ])
-unfolding seatUnder
-place-by true q k i h t = rw (h, seatUnder) refl
-place-by false true k i h t = rw (h, seatUnder) (rw t refl)
-place-by false false k i h t = rw (h, seatUnder) (rw t refl)
-
 left-place : (k : Token) → isRightOfQuestion (seatUnder k 0) ≡ false
 unfolding isRightOfQuestion
 left-place k =
-    let unquestioned = and-false (eqb (k .op) Operator.conditional) in
-    either (isMathCall (k .op)) (λ h. ap isRightOfQuestion (place-by true false k 0 h unquestioned))
-    (λ h. ap isRightOfQuestion (place-by false false k 0 h unquestioned))
+    seat-cases (λ s. isRightOfQuestion s ≡ false) k 0 (λ e. refl) (λ e. refl)
+    (λ e. absurd (false≢true (sym (and-false (eqb (k .op) Operator.conditional)) ∙ e))) refl
 
 argument-place : (k : Token) → isMathCall (k .op) ≡ false → isUnderMathCall (seatUnder k 0) ≡ false
 unfolding isUnderMathCall
-argument-place k h = ap isUnderMathCall (place-by false false k 0 h (and-false (eqb (k .op) Operator.conditional)))
+argument-place k h =
+    seat-cases (λ s. isUnderMathCall s ≡ false) k 0 (λ e. absurd (true≢false (sym e ∙ h))) (λ e. refl) (λ e. refl) refl
 
 right-place : (k : Token) → isRightOfQuestion (seatUnder k 1) ≡ true → eqb (k .op) Operator.conditional ≡ true
 unfolding isRightOfQuestion
-right-place k h = split (isMathCall (k .op)) (eqb (k .op) Operator.conditional) refl refl
-  where
-    split : (m q : Bool) → isMathCall (k .op) ≡ m → eqb (k .op) Operator.conditional ≡ q → eqb (k .op) Operator.conditional ≡ true
-    split m true a b = b
-    split true false a b = absurd (false≢true (sym (ap isRightOfQuestion (place-by true false k 1 a (rw b refl))) ∙ h))
-    split false false a b = absurd (false≢true (sym (ap isRightOfQuestion (place-by false false k 1 a (rw b refl))) ∙ h))
+right-place k =
+    seat-cases (λ s. isRightOfQuestion s ≡ true → eqb (k .op) Operator.conditional ≡ true) k 1 (λ e h. absurd (false≢true h))
+    (λ e h. absurd (false≢true h)) (λ e h. and-eq-true-iff (eqb (k .op) Operator.conditional) (eqb 1 1) .0 e .0)
+    (λ h. absurd (false≢true h))
 
--- Only right of its `?` is a node's expression held by a `:`.
-whole-left : (k x : Token) (xs : Forest) (y : Spelled (seatUnder k 0) x xs) → isWhole (y .sort) ≡ true
-whole-left k x xs y = ap not (never (isJoinedBy aColon (y .sort)) (λ h. true≢false (sym (y .placed h) ∙ left-place k)))
+-- Only right of its `?` is a node's expression held by a `:`, and only in a statement by an assignment or a `return`.
+held : (k : Token) (i : ℕ) (x : Token) (xs : Forest) (y : Spelled (seatUnder k i) x xs) → eqb (k .op) Operator.semicolon ≡ false
+    → isJoinedBy aColon (y .sort) ≡ false
+    → isHeld (y .sort) ≡ true
+held k i x xs y o c =
+    rw (c, never (isHeaded statementRoles (y .sort)) (λ h. true≢false (sym (y .stated h) ∙ other-seat k i o))) refl
+
+held-left : (k x : Token) (xs : Forest) (y : Spelled (seatUnder k 0) x xs) → eqb (k .op) Operator.semicolon ≡ false
+    → isHeld (y .sort) ≡ true
+held-left k x xs y o = held k 0 x xs y o (never (isJoinedBy aColon (y .sort)) (λ h. true≢false (sym (y .placed h) ∙ left-place k)))
 
 role-is : (a : Role) (n : ℕ) (b : Bool) → b ≡ is a (role n) → b ≡ true → role n ≡ a
 role-is a n b law h = sym (is-same a (role n) (sym law ∙ h))
 
-prefix-takes : (r : Role) → isAmong (aMinus ∷ aNot ∷ []) r ≡ true → (s : Sort) → isOperand s ≡ true → takes r s ≡ true
-prefix-takes r h s o = rw (o, unlike aMathCall (aMinus ∷ aNot ∷ []) refl r h, unlike aQuery (aMinus ∷ aNot ∷ []) refl r h) refl
+prefix-takes : (r : Role) → isAmong (aMinus ∷ aNot ∷ aReturn ∷ []) r ≡ true → (s : Sort) → isOperand s ≡ true → takes r s ≡ true
+prefix-takes r h s o =
+    rw (o, unlike aMathCall (aMinus ∷ aNot ∷ aReturn ∷ []) refl r h, unlike aQuery (aMinus ∷ aNot ∷ aReturn ∷ []) refl r h) refl
 
 call-takes : (r : Role) (s : Sort) → isBracketed s ≡ true → (is aQuery r ≡ true → isFilledBracket s ≡ true) → takes r s ≡ true
 call-takes r nothing b f = absurd (false≢true b)
 call-takes r atom b f = absurd (false≢true b)
-call-takes r prefixed b f = absurd (false≢true b)
+call-takes r (prefixed q) b f = absurd (false≢true b)
 call-takes r (joinedBy q) b f = absurd (false≢true b)
 call-takes r (bracketed s) b f = fill (not (is aMathCall r)) (is aQuery r) f
   where
@@ -302,34 +307,49 @@ call-takes r (bracketed s) b f = fill (not (is aMathCall r)) (is aQuery r) f
 bracketed-operand : (s : Sort) → isBracketed s ≡ true → isOperand s ≡ true
 bracketed-operand nothing h = h
 bracketed-operand atom h = refl
-bracketed-operand prefixed h = h
+bracketed-operand (prefixed r) h = h
 bracketed-operand (bracketed s) h = refl
 bracketed-operand (joinedBy r) h = h
 
+-- What role no statement alone holds.
+unstated : (rs : List Role) → allOf (λ a. allOf (λ r. not (is a r)) rs) statementRoles ≡ true → (r : Role) → isAmong rs r ≡ true
+    → {A : Type 0} → isAmong statementRoles r ≡ true → A
+unstated rs h r m s = absurd (true≢false (sym (eq-eqb (r .code) (r .code) refl) ∙ apart statementRoles rs h r r s m))
+
 -- A prefix before its operand.
-spell-prefix : (p : Seat) (k x : Token) (xs : Forest) → isAmong (aMinus ∷ aNot ∷ []) (role (k .op)) ≡ true → Spelled (seatUnder k 0) x xs
+abbrev prefixOnly : List Role
+prefixOnly = aMinus ∷ aNot ∷ aReturn ∷ []
+
+spell-prefix : (p : Seat) (k x : Token) (xs : Forest) → isAmong prefixOnly (role (k .op)) ≡ true
+    → (isAmong statementRoles (role (k .op)) ≡ true → isUnderSemicolon p ≡ true) → eqb (k .op) Operator.semicolon ≡ false
+    → Spelled (seatUnder k 0) x xs
     → Spelled p k (node x xs nil)
-spell-prefix p k x xs h y =
+spell-prefix p k x xs h g o y =
     let r = role (k .op) in
-    let c = no-call (aMinus ∷ aNot ∷ []) refl (k .op) r refl h in
-    spell-before p k x xs r refl (among (aMinus ∷ aNot ∷ []) isPrefix refl r h)
-    (part (takes r) (standsAlone x xs) (seatUnder k 0) x xs y (λ t. prefix-takes r h (y .sort) (sym (y .alone) ∙ t)) (λ t. whole-left k x xs y)
+    let c = no-call prefixOnly refl (k .op) r refl h in
+    spell-before p k x xs r refl (among prefixOnly isPrefix refl r h)
+    (part (takes r) (standsAlone x xs) (seatUnder k 0) x xs y (λ t. prefix-takes r h (y .sort) (sym (y .alone) ∙ t))
+    (λ t. held-left k x xs y o)
     (λ t. prefix-takes r h (bracketed (y .sort)) refl))
-    (rw c refl)
+    (rw c refl) g
 
 -- A call before its bracket.
-spell-call : (p : Seat) (k x : Token) (xs : Forest) → isCall (k .op) ≡ true → isBracket (x .op) ≡ true → Spelled (seatUnder k 0) x xs
+spell-call : (p : Seat) (k x : Token) (xs : Forest) → isCall (k .op) ≡ true → isBracket (x .op) ≡ true
+    → eqb (k .op) Operator.semicolon ≡ false
+    → Spelled (seatUnder k 0) x xs
     → Spelled p k (node x xs nil)
 unfolding calls
-spell-call p k x xs h b y =
+spell-call p k x xs h b o y =
     let r = role (k .op) in
     let bracketed : isBracketed (y .sort) ≡ true = sym (y .bracketing) ∙ b in
     let alone : standsAlone x xs ≡ true = y .alone ∙ bracketed-operand (y .sort) bracketed in
     let fits : takes r (y .sort) ≡ true = call-takes r (y .sort) bracketed
     (λ q. y .full bracketed (argument-place k (role-math (k .op) ∙ ap (is aMathCall) (sym (is-same aQuery r q))))) in
-    spell-before p k x xs r refl (among callRoles isPrefix refl r (sym (role-call (k .op)) ∙ h))
-    (part (takes r) (standsAlone x xs) (seatUnder k 0) x xs y (λ t. fits) (λ t. whole-left k x xs y) (λ t. absurd (true≢false (sym alone ∙ t))))
-    (rw alone (or-true (not (isCall (k .op)))))
+    let called : isAmong callRoles r ≡ true = sym (role-call (k .op)) ∙ h in
+    spell-before p k x xs r refl (among callRoles isPrefix refl r called)
+    (part (takes r) (standsAlone x xs) (seatUnder k 0) x xs y (λ t. fits) (λ t. held-left k x xs y o)
+    (λ t. absurd (true≢false (sym alone ∙ t))))
+    (rw alone (or-true (not (isCall (k .op))))) (unstated callRoles refl r called)
 
 -- A binary operator between its operands, with the two exceptions.
 joins-excepted : (a b c d : Bool) → (a || (b && c)) ≡ true → a ≡ d → (d || (c && b)) ≡ true
@@ -338,81 +358,170 @@ joins-excepted false true true d h e = rw (← e) refl
 joins-excepted false true false d h e = absurd (false≢true h)
 joins-excepted false false c d h e = absurd (false≢true h)
 
-left-part : (k x : Token) (xs : Forest) → Spelled (seatUnder k 0) x xs → Part (joinsLeft (role (k .op))) (standsLeft k x xs) x xs
+left-part : (k x : Token) (xs : Forest) → eqb (k .op) Operator.semicolon ≡ false → Spelled (seatUnder k 0) x xs
+    → Part (joinsLeft (role (k .op))) (standsLeft k x xs) x xs
 unfolding standsLeft
-left-part k x xs y =
+left-part k x xs o y =
     part (joinsLeft (role (k .op))) (standsLeft k x xs) (seatUnder k 0) x xs y
     (λ h. rw (role-comma (k .op), y .comma) at (joins-excepted (standsAlone x xs) (eqb (k .op) Operator.comma) (eqb (x .op) Operator.comma)
     (isOperand (y .sort)) h (y .alone)))
-    (λ h. whole-left k x xs y) (λ h. refl)
+    (λ h. held-left k x xs y o) (λ h. refl)
 
-right-part : (k x : Token) (xs : Forest) → Spelled (seatUnder k 1) x xs → Part (joinsRight (role (k .op))) (standsRight k x xs) x xs
+right-part : (k x : Token) (xs : Forest) → eqb (k .op) Operator.semicolon ≡ false → Spelled (seatUnder k 1) x xs
+    → Part (joinsRight (role (k .op))) (standsRight k x xs) x xs
 unfolding standsRight
-right-part k x xs y =
+right-part k x xs o y =
     part (joinsRight (role (k .op))) (standsRight k x xs) (seatUnder k 1) x xs y
     (λ h. rw (role-question (k .op), y .colon) at (joins-excepted (standsAlone x xs) (eqb (k .op) Operator.conditional)
     (eqb (x .op) Operator.conditionalElse) (isOperand (y .sort)) h (y .alone)))
-    (λ h. ap not (never (isJoinedBy aColon (y .sort))
+    (λ h. held k 1 x xs y o (never (isJoinedBy aColon (y .sort))
     (λ c. true≢false (sym (rw (right-place k (y .placed c), y .colon ∙ c) (or-true (standsAlone x xs))) ∙ h)))) (λ h. refl)
 
-spell-two : (p : Seat) (k x : Token) (xs : Forest) (y : Token) (ys : Forest) → plainForm p k (node x xs (node y ys nil)) ≡ true
+spell-two : (p : Seat) (k x : Token) (xs : Forest) (y : Token) (ys : Forest) → eqb (k .op) Operator.semicolon ≡ false
+    → expressionForm p k (node x xs (node y ys nil)) ≡ true
     → Spelled (seatUnder k 0) x xs → Spelled (seatUnder k 1) y ys → Spelled p k (node x xs (node y ys nil))
-unfolding plainForm
-spell-two p k x xs y ys h a b =
-    either (isPlainBinary (k .op))
-    (λ t. let m : isAmong binaryRoles (role (k .op)) ≡ true = sym (role-binary (k .op)) ∙ t in
-    spell-between p k x xs y ys (role (k .op)) refl (among binaryRoles isJoining refl (role (k .op)) m)
-    (λ c. absurd (true≢false (sym c ∙ unlike aColon binaryRoles refl (role (k .op)) m))) (left-part k x xs a) (right-part k y ys b))
-    (λ t. let parts = and-eq-true-iff (eqb (k .op) Operator.conditionalElse) (isRightOfQuestion p) .0 (rw t at h) in
-    spell-between p k x xs y ys (role (k .op)) refl
-    (ap isJoining (role-is aColon (k .op) (eqb (k .op) Operator.conditionalElse) (role-colon (k .op)) (parts .0))) (λ c. parts .1)
-    (left-part k x xs a) (right-part k y ys b))
-
-spell-one : (p : Seat) (k x : Token) (xs : Forest) → plainForm p k (node x xs nil) ≡ true → Spelled (seatUnder k 0) x xs
-    → Spelled p k (node x xs nil)
-unfolding plainForm
-spell-one p k x xs h y = split (isBracket (k .op)) (isCall (k .op)) refl refl
+unfolding expressionForm
+spell-two p k x xs y ys o h a b = split (isPlainBinary (k .op)) (eqb (k .op) Operator.conditionalElse) refl refl
   where
-    call-single : isCall (k .op) ≡ true → isOneOf (Operator.leftParenthesis ∷ Operator.negate ∷ Operator.logicalNot ∷ []) (k .op) ≡ false
-    call-single c =
-        ruled-out (isOneOf (Operator.leftParenthesis ∷ Operator.negate ∷ Operator.logicalNot ∷ []))
-        (isAmong singleRoles) role-single callRoles refl
-        (k .op) (role (k .op)) refl (sym (role-call (k .op)) ∙ c)
+    left : Part (joinsLeft (role (k .op))) (standsLeft k x xs) x xs
+    left = left-part k x xs o a
 
-    split : (b c : Bool) → isBracket (k .op) ≡ b → isCall (k .op) ≡ c → Spelled p k (node x xs nil)
-    split true c m n =
+    right : Part (joinsRight (role (k .op))) (standsRight k y ys) y ys
+    right = right-part k y ys o b
+
+    split : (d c : Bool) → isPlainBinary (k .op) ≡ d → eqb (k .op) Operator.conditionalElse ≡ c → Spelled p k (node x xs (node y ys nil))
+    split true c t q =
+        let m : isAmong binaryRoles (role (k .op)) ≡ true = sym (role-binary (k .op)) ∙ t in
+        spell-between p k x xs y ys (role (k .op)) refl (among binaryRoles isJoining refl (role (k .op)) m)
+        (λ c. absurd (true≢false (sym c ∙ unlike aColon binaryRoles refl (role (k .op)) m)))
+        (unstated binaryRoles refl (role (k .op)) m) left right
+    split false true t q =
+        let e : role (k .op) ≡ aColon = role-is aColon (k .op) (eqb (k .op) Operator.conditionalElse) (role-colon (k .op)) q in
+        let n : eqb (k .op) Operator.assignment ≡ false = role-assignment (k .op) ∙ ap (is anAssignment) e in
+        let r : isRightOfQuestion p ≡ true = or-only-first (isRightOfQuestion p) (eqb (k .op) Operator.assignment && isUnderSemicolon p)
+        (rw n refl) (rw (t, q) at h) in
+        spell-between p k x xs y ys (role (k .op)) refl (ap isJoining e) (λ c. r)
+        (unstated (aColon ∷ []) refl (role (k .op)) (ap (isAmong (aColon ∷ [])) e)) left right
+    split false false t q =
+        let parts = and-eq-true-iff (eqb (k .op) Operator.assignment) (isUnderSemicolon p) .0 (rw (t, q) at h) in
+        let e : role (k .op) ≡ anAssignment =
+        role-is anAssignment (k .op) (eqb (k .op) Operator.assignment) (role-assignment (k .op)) (parts .0) in
+        spell-between p k x xs y ys (role (k .op)) refl (ap isJoining e)
+        (λ c. absurd (true≢false (sym c ∙ ap (is aColon) e))) (λ s. parts .1) left right
+
+spell-one : (p : Seat) (k x : Token) (xs : Forest) → eqb (k .op) Operator.semicolon ≡ false → expressionForm p k (node x xs nil) ≡ true
+    → Spelled (seatUnder k 0) x xs
+    → Spelled p k (node x xs nil)
+unfolding expressionForm
+spell-one p k x xs o h y = split (isBracket (k .op)) (isCall (k .op)) (eqb (k .op) Operator.return) refl refl refl
+  where
+    -- Neither a call nor a `return` is one of the three.
+    not-single : isAmong (aQuery ∷ aMathCall ∷ aReturn ∷ []) (role (k .op)) ≡ true
+        → isOneOf (Operator.leftParenthesis ∷ Operator.negate ∷ Operator.logicalNot ∷ []) (k .op) ≡ false
+    not-single m =
+        ruled-out (isOneOf (Operator.leftParenthesis ∷ Operator.negate ∷ Operator.logicalNot ∷ []))
+        (isAmong singleRoles) role-single (aQuery ∷ aMathCall ∷ aReturn ∷ []) refl (k .op) (role (k .op)) refl m
+
+    split : (b c t : Bool) → isBracket (k .op) ≡ b → isCall (k .op) ≡ c → eqb (k .op) Operator.return ≡ t → Spelled p k (node x xs nil)
+    split true c t m n q =
         spell-bracket p (seatUnder k 0) k x xs (role-is aBracket (k .op) (isBracket (k .op)) (role-bracket (k .op)) m) y
-        (whole-left k x xs y)
-    split false true m n = spell-call p k x xs n (rw (call-single n, n) at h) y
-    split false false m n =
+        (held-left k x xs y o)
+    split false true t m n q =
+        let called : isAmong callRoles (role (k .op)) ≡ true = sym (role-call (k .op)) ∙ n in
+        let r : eqb (k .op) Operator.return ≡ false =
+        ruled-out (λ n. eqb n Operator.return) (is aReturn) role-return callRoles refl (k .op) (role (k .op)) refl called in
+        let s = not-single (among callRoles (isAmong (aQuery ∷ aMathCall ∷ aReturn ∷ [])) refl (role (k .op)) called) in
+        spell-call p k x xs n (or-only-first (isBracket (x .op)) (eqb (k .op) Operator.return && isUnderSemicolon p) (rw r refl)
+        (rw (s, n) at h)) o y
+    split false false true m n q =
+        let e : role (k .op) ≡ aReturn = role-is aReturn (k .op) (eqb (k .op) Operator.return) (role-return (k .op)) q in
+        let s = not-single (ap (isAmong (aQuery ∷ aMathCall ∷ aReturn ∷ [])) e) in
+        let under : isUnderSemicolon p ≡ true = rw (s, n, q) at h in
+        spell-prefix p k x xs (ap (isAmong prefixOnly) e) (λ t. under) o y
+    split false false false m n q =
         let s : isAmong singleRoles (role (k .op)) ≡ true =
         sym (role-single (k .op))
-        ∙ or-only-first (isOneOf (Operator.leftParenthesis ∷ Operator.negate ∷ Operator.logicalNot ∷ []) (k .op))
-        (isCall (k .op) && isBracket (x .op)) (rw n refl) h in
-        spell-prefix p k x xs (rw (sym (role-bracket (k .op)) ∙ m) at s) y
+        ∙ either (isOneOf (Operator.leftParenthesis ∷ Operator.negate ∷ Operator.logicalNot ∷ []) (k .op)) (λ t. t)
+        (λ t. absurd (false≢true (rw (t, n, q) at h))) in
+        let only : isAmong (aMinus ∷ aNot ∷ []) (role (k .op)) ≡ true = rw (sym (role-bracket (k .op)) ∙ m) at s in
+        spell-prefix p k x xs (among (aMinus ∷ aNot ∷ []) (isAmong prefixOnly) refl (role (k .op)) only)
+        (unstated (aMinus ∷ aNot ∷ []) refl (role (k .op)) only) o y
 
-spell-none : (p : Seat) (k : Token) → plainForm p k nil ≡ true → Spelled p k nil
-unfolding plainForm
+spell-none : (p : Seat) (k : Token) → expressionForm p k nil ≡ true → Spelled p k nil
+unfolding expressionForm
 spell-none p k h =
     either (isPlainLeaf (k .op)) (λ l. spell-leaf p k (role (k .op)) refl (sym (role-leaf (k .op)) ∙ l))
     (λ l. let parts = and-eq-true-iff (isBracket (k .op)) (isUnderMathCall p) .0 (rw l at h) in
     spell-hollow p k (role-is aBracket (k .op) (isBracket (k .op)) (role-bracket (k .op)) (parts .0)) (parts .1))
 
-spelled : (p : Seat) (n : ℕ) (k : Token) (cs : Forest) → plainForm p k cs ≡ true → unplain (some k) 0 n cs ≡ none → Spelled p k cs
-unfolding seatOf
-spelled p n k nil h u = spell-none p k h
-spelled p n k (node x xs nil) h u = let a = plain-parts (some k) 0 n x xs nil u in spell-one p k x xs h
-    (spelled (seatUnder k 0) (suc n) x xs (a .here) (a .below))
-spelled p n k (node x xs (node y ys nil)) h u =
-    let a = plain-parts (some k) 0 n x xs (node y ys nil) u in
-    let b = plain-parts (some k) 1 (suc n + size xs) y ys nil (a .after) in
-    spell-two p k x xs y ys h (spelled (seatUnder k 0) (suc n) x xs (a .here) (a .below))
-    (spelled (seatUnder k 1) (suc (suc n + size xs)) y ys (b .here) (b .below))
-spelled p n k (node x xs (node y ys (node z zs r))) h u = absurd (false≢true (unfold plainForm in h))
+spelled : (p : Seat) (n : ℕ) (k : Token) (cs : Forest) → PlainExpression p n k cs → Spelled p k cs
+spelled p n k nil h = spell-none p k (h .form)
+spelled p n k (node x xs nil) h =
+    let a = inner k 0 n x xs nil (h .other) (h .below) in
+    spell-one p k x xs (h .other) (h .form) (spelled (seatUnder k 0) (suc n) x xs (a .0))
+spelled p n k (node x xs (node y ys nil)) h =
+    let a = inner k 0 n x xs (node y ys nil) (h .other) (h .below) in
+    let b = inner k 1 (suc n + size xs) y ys nil (h .other) (a .1) in
+    spell-two p k x xs y ys (h .other) (h .form) (spelled (seatUnder k 0) (suc n) x xs (a .0))
+    (spelled (seatUnder k 1) (suc (suc n + size xs)) y ys (b .0))
+spelled p n k (node x xs (node y ys (node z zs r))) h = absurd (false≢true (unfold expressionForm in h .form))
 
--- A plain tree is spelled as an expression that stands on its own.
-pub plain-spelled : (k : Token) (cs : Forest) → unplainAt k cs ≡ none → (e : Spelled elsewhere k cs) × (isWhole (e .sort) ≡ true)
-unfolding unplainAt seatOf isRightOfQuestion
-plain-spelled k cs h =
-    let a = plain-parts none 0 0 k cs nil h in
-    let e = spelled elsewhere 1 k cs (a .here) (a .below) in (e, ap not (never (isJoinedBy aColon (e .sort)) (λ c. false≢true (e .placed c))))
+-- An expression at the root is spelled as one that stands on its own and assigns nothing.
+pub record SpelledRoot (k : Token) (cs : Forest) : Type 0 where
+  pub spelling : Spelled atRoot k cs
+  pub whole : isWhole (spelling .sort) ≡ true
+  pub assigns : heads anAssignment (spelling .sort) ≡ false
+
+pub root-spelled : (k : Token) (cs : Forest) → PlainExpression atRoot 1 k cs → SpelledRoot k cs
+unfolding isRightOfQuestion isUnderSemicolon
+root-spelled k cs h =
+    let e = spelled atRoot 1 k cs h in
+    record {
+      spelling = e;
+      whole = ap not (never (isJoinedBy aColon (e .sort)) (λ c. false≢true (e .placed c)));
+      assigns = headless statementRoles anAssignment (e .sort) refl
+          (never (isHeaded statementRoles (e .sort)) (λ c. false≢true (e .stated c)));
+    }
+
+-- A script's statements are spelled as statements, each with its semicolon.
+pub record SpelledScript (cs : Forest) : Type 0 where
+  pub statements : List Statement
+  pub full : isNil cs ≡ false → isEmpty statements ≡ false
+  pub spells : (r : List Token) → scriptTokens statements r ≡ writtenStatements cs r
+  pub strips : comparableTrees (takenAway false (statementTrees everything statements) nil) ≡ comparableTrees (takenAway false cs nil)
+
+-- What is compared of a statement is what it holds.
+statement-compared : (k : Token) (cs rest : Forest) → k .op ≡ Operator.semicolon
+    → comparableTrees (takenAway false (node k cs rest) nil) ≡ node (spanning Operator.semicolon 0 0)
+    (comparableTrees (takenAway false cs nil)) (comparableTrees (takenAway false rest nil))
+unfolding comparableTrees comparableToken computed
+statement-compared k cs rest e =
+    ap comparableTrees (taken-later false k cs rest nil ∙ taken-kept false k cs (takenAway false rest nil) (ap isBracket e))
+    ∙ rw e refl
+
+pub script-spelled : (cs : Forest) → PlainStatements cs → SpelledScript cs
+unfolding scriptTokens writtenStatements statementTrees isNil isEmpty
+script-spelled nil ended = record { statements = []; full = λ h. absurd (true≢false h); spells = λ r. refl; strips = refl }
+script-spelled (node s (node x xs nil) rest) (statement _ n _ h e later) =
+    let y = spelled underSemicolon n x xs e in
+    let i = script-spelled rest later in
+    let one : Statement =
+    record {
+      sort = y .sort;
+      exp = y .exp;
+      whole = ap not (never (isJoinedBy aColon (y .sort)) (λ c. unfold isRightOfQuestion in false≢true (y .placed c)));
+      filled = y .filled;
+      end = bare Operator.semicolon x;
+      ends = unfold bare in refl;
+    }
+    in
+    record {
+      statements = one ∷ i .statements;
+      full = λ h. refl;
+      spells = λ r.
+          y .spells (bare Operator.semicolon x ∷ scriptTokens (i .statements) r)
+          ∙ ap (λ (ks : List Token). written x xs (bare Operator.semicolon x ∷ ks)) (i .spells r);
+      strips = statement-compared (labelOf one) (form everything (y .exp) nil) (statementTrees everything (i .statements)) (label-op one)
+          ∙ (λ j. node (spanning Operator.semicolon 0 0) (comparableTrees (y .strips false nil j)) (i .strips j))
+          ∙ sym (statement-compared s (node x xs nil) rest h);
+    }

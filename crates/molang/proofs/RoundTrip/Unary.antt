@@ -26,29 +26,29 @@ pub record Unbound (σ : ℕ → Bool) : Type 0 where
 abbrev stands : Sort → Option Token → Bool
 stands nothing p = true
 stands atom p = true
-stands prefixed none = true
-stands prefixed (some k) = false
+stands (prefixed r) none = true
+stands (prefixed r) (some k) = false
 stands (bracketed s) p = true
 stands (joinedBy r) p = true
 
 stands-first : (s : Sort) → stands s none ≡ true
 stands-first nothing = refl
 stands-first atom = refl
-stands-first prefixed = refl
+stands-first (prefixed r) = refl
 stands-first (bracketed s) = refl
 stands-first (joinedBy r) = refl
 
 stands-left : (r : Role) (s : Sort) (p : Option Token) → joinsLeft r s ≡ true → stands s p ≡ true
 stands-left r nothing p h = refl
 stands-left r atom p h = refl
-stands-left r prefixed p h = absurd (false≢true h)
+stands-left r (prefixed q) p h = absurd (false≢true h)
 stands-left r (bracketed s) p h = refl
 stands-left r (joinedBy q) p h = refl
 
 stands-right : (r : Role) (s : Sort) (p : Option Token) → joinsRight r s ≡ true → stands s p ≡ true
 stands-right r nothing p h = refl
 stands-right r atom p h = refl
-stands-right r prefixed p h = absurd (false≢true h)
+stands-right r (prefixed q) p h = absurd (false≢true h)
 stands-right r (bracketed s) p h = refl
 stands-right r (joinedBy q) p h = refl
 
@@ -94,18 +94,18 @@ bind k h f r R q s = rw (s (some k), unary) (bound (eqb (k .op) Operator.negate)
     bound false true m n q = rw (m, n, unaryLeaf) refl
     bound false false m n q = absurd (false≢true q)
 
-first-only : (p : Option Token) → stands prefixed p ≡ true → p ≡ none
-first-only none h = refl
-first-only (some k) h = absurd (false≢true h)
+first-only : (q : Role) (p : Option Token) → stands (prefixed q) p ≡ true → p ≡ none
+first-only q none h = refl
+first-only q (some k) h = absurd (false≢true h)
 
-bind-ahead : (a b : Bool) (k : Token) (X X' : Forest → Forest) → prefixes (k .op) ≡ b → (b ≡ true → a ≡ false)
-    → ((r R : Forest) → Settled r R → Settled (X r) (X' R)) → Solid X' → Binds prefixed (ahead a k X) (ahead (a || b) k X')
+bind-ahead : (u : Role) (a b : Bool) (k : Token) (X X' : Forest → Forest) → prefixes (k .op) ≡ b → (b ≡ true → a ≡ false)
+    → ((r R : Forest) → Settled r R → Settled (X r) (X' R)) → Solid X' → Binds (prefixed u) (ahead a k X) (ahead (a || b) k X')
 unfolding ahead
-bind-ahead true true k X X' q n x o r R s p h = absurd (true≢false (n refl))
-bind-ahead true false k X X' q n x o r R s p h = keep k (X nil) (X' nil) r R q (x nil nil settled-nil none) s p
-bind-ahead false false k X X' q n x o r R s p h = keep k nil nil (X r) (X' R) q (settled-nil none) (x r R s) p
-bind-ahead false true k X X' q n x o r R s p h =
-    ap (λ (p : Option Token). unary p (node k nil (X r))) (first-only p h)
+bind-ahead u true true k X X' q n x o r R s p h = absurd (true≢false (n refl))
+bind-ahead u true false k X X' q n x o r R s p h = keep k (X nil) (X' nil) r R q (x nil nil settled-nil none) s p
+bind-ahead u false false k X X' q n x o r R s p h = keep k nil nil (X r) (X' R) q (settled-nil none) (x r R s) p
+bind-ahead u false true k X X' q n x o r R s p h =
+    ap (λ (p : Option Token). unary p (node k nil (X r))) (first-only u p h)
     ∙ bind k (o .label) (o .inside) (X r) R q (λ p. x r R s p ∙ ap (done false) (o .becomes R))
     ∙ ap (λ (f : Forest). done false (node k f R)) (sym (o .becomes nil))
 
@@ -127,7 +127,7 @@ unbound = ruled-out prefixes (isAmong (aMinus ∷ aNot ∷ [])) role-prefix
 operand-stands : (s : Sort) (p : Option Token) → isOperand s ≡ true → stands s p ≡ true
 operand-stands nothing p h = refl
 operand-stands atom p h = refl
-operand-stands prefixed p h = absurd (false≢true h)
+operand-stands (prefixed r) p h = absurd (false≢true h)
 operand-stands (bracketed s) p h = refl
 operand-stands (joinedBy r) p h = refl
 
@@ -144,7 +144,7 @@ module _ (σ : ℕ → Bool) (w : Unbound σ) where
       (whole t (form σ x) (form σ' x) (binds x)) s p
   binds (before {s = t} k q e c u x) r R s p h =
       let o = takes-operand q t u in
-      bind-ahead (σ (k .op)) (prefixes (k .op)) k (form σ x) (form σ' x) refl (w .flat (k .op))
+      bind-ahead q (σ (k .op)) (prefixes (k .op)) k (form σ x) (form σ' x) refl (w .flat (k .op))
       (λ r R s p. binds x r R s p (operand-stands t p o)) (operand-solid σ' x o) r R s p h
   binds (between {s = t} {t = u} k q e j l m x y) r R s p h =
       bind-amid (σ (k .op)) (prefixes (k .op)) k t (form σ x) (form σ' x) (form σ y) (form σ' y) refl

@@ -1,8 +1,9 @@
 -- `write::plain::is_paired` meets its contract: by the node, then by its seat. Assumes nothing.
+use mathlib.Core.Bool.{or-true}
 use borrow.Author.Tests.{eq-eqb, ne-eqb}
 use Rattle.molang.specs.Operator.{isBracket}
 use Rattle.write.specs.Seats.{isPaired}
-use Rattle.write.proofs.CaseLaws.{operand-unspared}
+use Rattle.write.proofs.CaseLaws.{operand-unspared, enclosed-spared}
 use borrow.Author.Needs.{needs}
 use Rattle.write.proofs.plain.is_paired.Statement.{statement}
 use Rattle.write.proofs.plain.is_paired.Tie as tie
@@ -21,35 +22,21 @@ enum-told c = search needs
 enum-told-2 : tie.Need-enum-told-2
 enum-told-2 c = search needs
 
-enum-told-3 : tie.Need-enum-told-3
-enum-told-3 c = search needs
-
 returns-3 : tie.Need-returns-3
 unfolding isPaired isBracket
-returns-3 c = rw (c .enum-told .given .1, ne-eqb _ 0 (c .before .before .before .if1 .left), ne-eqb _ 4 (c .before .before .if2 .left))
+returns-3 c = rw (enclosed-spared _ _ (c .match .keys1), or-true, or-true)
 
 returns-4 : tie.Need-returns-4
 unfolding isPaired isBracket
-returns-4 c = rw (c .enum-told2 .given .1, ne-eqb _ 0 (c .before .before .before .if1 .left), ne-eqb _ 4 (c .before .before .if2 .left))
+returns-4 c = rw (c .enum-told .given .1, ne-eqb _ 0 (c .before .before .before .if1 .left), ne-eqb _ 4 (c .before .before .if2 .left))
 
 returns-5 : tie.Need-returns-5
 unfolding isPaired isBracket
-returns-5 c = rw (c .enum-told3 .given .1, ne-eqb _ 0 (c .before .before .before .if1 .left), ne-eqb _ 4 (c .before .before .if2 .left))
+returns-5 c = rw (c .enum-told2 .given .1, ne-eqb _ 0 (c .before .before .before .if1 .left), ne-eqb _ 4 (c .before .before .if2 .left))
 
 returns-6 : tie.Need-returns-6
 unfolding isPaired isBracket
 returns-6 c = rw (operand-unspared _ _ (c .match .keys4), ne-eqb _ 0 (c .before .before .if1 .left), ne-eqb _ 4 (c .before .if2 .left))
 
 pub is-paired-spec : {M : Type 1} → statement M
-is-paired-spec =
-    tie.close
-    (tie.spec
-    returns
-    returns-2
-    enum-told
-    enum-told-2
-    enum-told-3
-    returns-3
-    returns-4
-    returns-5
-    returns-6)
+is-paired-spec = tie.close (tie.spec returns returns-2 enum-told enum-told-2 returns-3 returns-4 returns-5 returns-6)

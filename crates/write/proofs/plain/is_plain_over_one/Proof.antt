@@ -1,9 +1,10 @@
 -- `write::plain::is_plain_over_one` meets its contract: by the operator, then by the first child. Assumes nothing.
 use mathlib.Core.Path.{sym, _∙_}
-use mathlib.Core.Bool.{and-true, and-false}
-use borrow.Author.Tests.{eq-eqb, ne-eqb}
-use Rattle.molang.specs.Operator.{isBracket}
-use Rattle.write.specs.Seats.{plainBy}
+use mathlib.Core.Bool.{or-false}
+use borrow.Author.Tests.{ne-eqb}
+use Rattle.molang.specs.Operator.{any, isOneOf, between, isMathCall}
+use Rattle.molang.specs.Plain.{isCall, isUnderSemicolon}
+use Rattle.write.specs.Seats.{isPrefix, holdsOne, plainBy}
 use borrow.Author.Needs.{needs}
 use Rattle.write.proofs.plain.is_plain_over_one.Statement.{statement}
 use Rattle.write.proofs.plain.is_plain_over_one.Tie as tie
@@ -12,20 +13,43 @@ is-prefix-requires : tie.Need-is-prefix-requires
 is-prefix-requires c κs = search needs
 
 returns : tie.Need-returns
-unfolding plainBy isBracket
+unfolding plainBy
 returns c = rw (sym (c .before .is-prefix .ensures) ∙ c .if1 .taken)
 
-is-call-requires : tie.Need-is-call-requires
-is-call-requires c κs = search needs
+is-under-semicolon-requires : tie.Need-is-under-semicolon-requires
+is-under-semicolon-requires c κs = search needs
+
+is-statement-requires : tie.Need-is-statement-requires
+is-statement-requires c κs = search needs
+
+is-call-over-requires : tie.Need-is-call-over-requires
+is-call-over-requires c κs = search needs
 
 returns-2 : tie.Need-returns-2
-unfolding plainBy isBracket
-returns-2 c = rw (sym (c .before .before .before .is-prefix .ensures) ∙ c .before .before .if1 .left, eq-eqb _ 4 (c .before .if2 .taken), and-true) (c .is-call .ensures)
+unfolding plainBy isPrefix isOneOf any isCall isMathCall between holdsOne isUnderSemicolon
+returns-2 c = rw (c .before .match .keys1) (c .is-under-semicolon .ensures)
 
 returns-3 : tie.Need-returns-3
-unfolding plainBy isBracket
-returns-3 c = rw (sym (c .before .before .is-prefix .ensures) ∙ c .before .if1 .left, ne-eqb _ 4 (c .if2 .left), and-false)
+unfolding plainBy isPrefix isOneOf any isCall isMathCall between holdsOne isUnderSemicolon
+returns-3 c = rw (c .before .match .keys2) (c .is-statement .ensures)
+
+returns-4 : tie.Need-returns-4
+unfolding plainBy holdsOne
+returns-4 c =
+    let other = c .before .match .rest in
+    let prefix = c .before .before .before in
+    rw (sym (prefix .is-prefix .ensures) ∙ c .before .before .if1 .left, ne-eqb _ 74 (other .0 .1), ne-eqb _ 73 (other .1), or-false)
+    (c .is-call-over .ensures)
 
 pub is-plain-over-one-spec : {M : Type 1} → statement M
 is-plain-over-one-spec =
-    tie.close (tie.spec is-prefix-requires returns is-call-requires returns-2 returns-3)
+    tie.close
+    (tie.spec
+    is-prefix-requires
+    returns
+    is-under-semicolon-requires
+    is-statement-requires
+    is-call-over-requires
+    returns-2
+    returns-3
+    returns-4)

@@ -1,173 +1,71 @@
--- `write::plain::judge` meets its contract. The loop's invariant is `Judging`; the measure is the words that are left. Assumes nothing.
-use Prim.Native.Nat.{_+_, _-_, _≤_}
-use mathlib.Core.Path.{_≡_, refl, ap, sym, _∙_}
-use mathlib.Core.Bool.{true}
+-- `write::plain::judge` meets its contract: from the root of an expression, a root that is not plain, or from the statements.
+-- Assumes nothing.
+use mathlib.Core.Path.{sym, _∙_}
 use native.Mathlib.Omega.{arith}
 use borrow.Author.Needs.{needs}
 use borrow.Author.Tests.{not-true, not-false}
-use lib.ListN.{length, getD}
-use Rattle.molang.specs.WriteEntry.{mostNodes}
-use Rattle.write.specs.declared.plain.Seat.the-variants.{Enclosed}
-use Rattle.write.specs.declared.reader.NodeView.{NodeView}
-use Rattle.write.specs.Seats.{plainBy}
-use Rattle.write.proofs.JudgeLaws.{Judging, Turn, few-tokens, judging-begins, judging-room, judging-room-two, judging-refused, judging-none, judging-one, judging-two, judging-ends, falls}
+use Rattle.write.specs.Scripts.{anExpression, aScript}
+use Rattle.shape.proofs.RowLaws.{shaped-room}
+use Rattle.write.proofs.JudgeLaws.{root-refused}
 use Rattle.write.proofs.plain.judge.Statement.{statement}
 use Rattle.write.proofs.plain.judge.Tie as tie
-use Rattle.shape.specs.Shaped.{nodeLength}
 
-abbrev Inv-loop : tie.InvT-loop
-Inv-loop tree waiting₀ top₀ tokens₀ node₀ at₀ waiting top tokens node at = Judging tree waiting top tokens node at
+shared-slice-read-operator : tie.Need-shared-slice-read-operator
+shared-slice-read-operator c = omega (arith, shaped-room (c .before .before .pre .shaped))
 
-abbrev μ-loop : tie.MeasureT-loop
-μ-loop tree waiting₀ top₀ tokens₀ node₀ at₀ waiting top tokens node at = length tree - at
+operator-requires : tie.Need-operator-requires
+operator-requires c κs = search needs
 
--- In a turn: the room that there is, what was read of the node, and that it is plain.
-room : (c : tie.In-loop Inv-loop μ-loop)
-    → (c .before .loop .at + nodeLength ≤ length (c .before .before .before .args .tree .now))
-    × (1 ≤ c .before .loop .top)
-    × (c .before .loop .top + c .before .loop .node ≤ mostNodes)
-room c = judging-room (c .before .before .before .pre) (c .before .loop .inv) (c .loop-test .taken)
+judge-from-requires : tie.Need-judge-from-requires
+judge-from-requires c κs =
+    let read = c .before in
+    (read .before .before .before .pre, anExpression (λ e. c .if1 .taken (read .operator .ensures ∙ e)))
 
-turn : (c : tie.After-seat Inv-loop μ-loop)
-    → Turn (c .before .before .before .before .before .args .tree .now) (c .before .before .before .loop .waiting) (c .before .before .before .loop .top) (c .before .before .before .loop .tokens) (c .before .before .before .loop .node) (c .before .before .before .loop .at)
-    (c .before .view-node .result .op) (c .before .view-node .result .children) (c .before .view-node .result .next) (c .before .view-node .result .after)
-    (getD (c .before .before .before .loop .waiting) (c .before .before .before .loop .top - 1) Enclosed)
-turn c =
-    let seen = c .before .view-node .ensures in
-    record {
-      one = c .before .before .before .before .before .pre;
-      inv = c .before .before .before .loop .inv;
-      within = c .before .before .loop-test .taken;
-      isOp = ap (λ (v : NodeView). v .op) seen;
-      isCount = ap (λ (v : NodeView). v .children) seen;
-      isFirst = ap (λ (v : NodeView). v .next) seen;
-      isAfter = ap (λ (v : NodeView). v .after) seen;
-      isSeat = refl;
-    }
+returns : tie.Need-returns
+returns c = c .judge-from .ensures
 
-plain : (c : tie.Else1 Inv-loop μ-loop)
-    → plainBy (getD (c .before .before .before .before .before .loop .waiting) (c .before .before .before .before .before .loop .top - 1) Enclosed)
-    (c .before .before .before .view-node .result .op) (c .before .before .before .view-node .result .children) (c .before .before .before .view-node .result .next)
-    ≡ true
-plain c = sym (c .before .is-plain .ensures) ∙ not-false _ (c .if1 .left)
+holds-statements-requires : tie.Need-holds-statements-requires
+holds-statements-requires c κs = c .before .before .before .before .pre
 
-loop-holds : tie.Need-loop-holds Inv-loop μ-loop
-loop-holds c = judging-begins (c .before .args .tree .now) _ (c .before .pre) refl refl
+returns-2 : tie.Need-returns-2
+returns-2 c =
+    let read = c .before .before .before in
+    root-refused (read .before .before .before .pre) (sym (read .operator .ensures) ∙ c .before .before .if1 .left)
+    (sym (c .before .holds-statements .ensures) ∙ not-true _ (c .if2 .taken))
 
-view-node-requires : tie.Need-view-node-requires Inv-loop μ-loop
-view-node-requires c κs = room c .0
+shared-slice-read-low : tie.Need-shared-slice-read-low
+shared-slice-read-low c = omega (arith, shaped-room (c .before .before .before .before .before .before .before .pre .shaped))
 
-sub-top : tie.Need-sub-top Inv-loop μ-loop
-sub-top c = room (c .before) .1
+low-requires : tie.Need-low-requires
+low-requires c κs = search needs
 
-array-copy-out-seat : tie.Need-array-copy-out-seat Inv-loop μ-loop
-array-copy-out-seat c = omega (arith, room (c .before) .2)
+cast-statements : tie.Need-cast-statements
+cast-statements c = search needs
 
-is-plain-requires : tie.Need-is-plain-requires Inv-loop μ-loop
-is-plain-requires c κs = search needs
-
-returns : tie.Need-returns Inv-loop μ-loop
-returns c = judging-refused (turn (c .before .before)) (sym (c .before .is-plain .ensures) ∙ not-true _ (c .if1 .taken))
-
-add-node : tie.Need-add-node Inv-loop μ-loop
-add-node c = search needs
-
-tokens-for-requires : tie.Need-tokens-for-requires Inv-loop μ-loop
-tokens-for-requires c κs = search needs
-
-add-tokens : tie.Need-add-tokens Inv-loop μ-loop
-add-tokens c =
-    let head = c .before .before .before .before .before .before in
-    let seat = getD (head .loop .waiting) (head .loop .top - 1) Enclosed in
-    let seen = c .before .before .before .before .view-node .result in
-    omega (
-      arith,
-      c .tokens-for .ensures,
-      head .loop .inv .few,
-      room (c .before .before .before .before .before) .2,
-      few-tokens seat (seen .op) (seen .children),
+judge-from-requires-2 : tie.Need-judge-from-requires-2
+judge-from-requires-2 c κs =
+    let held = c .before .before .before in
+    let read = held .before .before in (
+      read .before .before .before .pre,
+      rw (c .low .ensures) (aScript (sym (read .operator .ensures) ∙ held .before .if1 .left)
+          (sym (held .holds-statements .ensures) ∙ not-false _ (c .before .before .if2 .left))),
     )
 
-seat-of-only-requires : tie.Need-seat-of-only-requires Inv-loop μ-loop
-seat-of-only-requires c κs = search needs
-
-array-set-from-waiting : tie.Need-array-set-from-waiting Inv-loop μ-loop
-array-set-from-waiting c = omega (arith, room (c .before .before .before .before .before .before .before) .2)
-
-add-top : tie.Need-add-top Inv-loop μ-loop
-add-top c = omega (arith, room (c .before .before .before .before .before .before .before) .2)
-
-loop-less : tie.Need-loop-less Inv-loop μ-loop
-loop-less c = falls (turn (c .before .before .before .before .before))
-
-loop-again : tie.Need-loop-again Inv-loop μ-loop
-loop-again c =
-    rw (c .seat-of-only .ensures, c .before .before .tokens-for .ensures) (judging-one (turn (c .before .before .before .before .before)) (plain (c .before .before .before)) (c .before .if2 .taken))
-
-seat-of-right-requires : tie.Need-seat-of-right-requires Inv-loop μ-loop
-seat-of-right-requires c κs = search needs
-
-array-set-from-waiting-2 : tie.Need-array-set-from-waiting-2 Inv-loop μ-loop
-array-set-from-waiting-2 c = omega (arith, room (c .before .before .before .before .before .before .before .before) .2)
-
-seat-of-left-requires : tie.Need-seat-of-left-requires Inv-loop μ-loop
-seat-of-left-requires c κs = search needs
-
-add-waiting : tie.Need-add-waiting Inv-loop μ-loop
-add-waiting c = omega (arith, room (c .before .before .before .before .before .before .before .before .before) .2)
-
-array-set-from-waiting-3 : tie.Need-array-set-from-waiting-3 Inv-loop μ-loop
-array-set-from-waiting-3 c = judging-room-two (turn (c .before .before .before .before .before .before .before)) (c .before .before .if3 .taken)
-
-add-top-2 : tie.Need-add-top-2 Inv-loop μ-loop
-add-top-2 c = omega (arith, room (c .before .before .before .before .before .before .before .before .before) .2)
-
-loop-less-2 : tie.Need-loop-less-2 Inv-loop μ-loop
-loop-less-2 c = falls (turn (c .before .before .before .before .before .before .before))
-
-loop-again-2 : tie.Need-loop-again-2 Inv-loop μ-loop
-loop-again-2 c =
-    rw (c .seat-of-left .ensures, c .before .seat-of-right .ensures, c .before .before .before .before .tokens-for .ensures)
-    (judging-two (turn (c .before .before .before .before .before .before .before)) (plain (c .before .before .before .before .before)) (c .before .before .if3 .taken))
-
-loop-less-3 : tie.Need-loop-less-3 Inv-loop μ-loop
-loop-less-3 c = falls (turn (c .before .before .before .before .before))
-
-loop-again-3 : tie.Need-loop-again-3 Inv-loop μ-loop
-loop-again-3 c =
-    rw (c .before .before .tokens-for .ensures) (judging-none (turn (c .before .before .before .before .before)) (plain (c .before .before .before)) (c .before .if2 .left) (c .if3 .left))
-
-returns-2 : tie.Need-returns-2 Inv-loop μ-loop
-returns-2 c = judging-ends (c .before .loop .inv) (c .loop-test .left)
+returns-3 : tie.Need-returns-3
+returns-3 c = c .judge-from2 .ensures
 
 pub judge-spec : {M : Type 1} → statement M
 judge-spec =
     tie.close
     (tie.spec
-    Inv-loop
-    μ-loop
-    loop-holds
-    view-node-requires
-    sub-top
-    array-copy-out-seat
-    is-plain-requires
+    shared-slice-read-operator
+    operator-requires
+    judge-from-requires
     returns
-    add-node
-    tokens-for-requires
-    add-tokens
-    seat-of-only-requires
-    array-set-from-waiting
-    add-top
-    loop-less
-    loop-again
-    seat-of-right-requires
-    array-set-from-waiting-2
-    seat-of-left-requires
-    add-waiting
-    array-set-from-waiting-3
-    add-top-2
-    loop-less-2
-    loop-again-2
-    loop-less-3
-    loop-again-3
-    returns-2)
+    holds-statements-requires
+    returns-2
+    shared-slice-read-low
+    low-requires
+    cast-statements
+    judge-from-requires-2
+    returns-3)

@@ -1,0 +1,182 @@
+-- `write::plain::judge_from` meets its contract. The loop's invariant is `Judging`; the measure is the words that are left. Assumes
+-- nothing.
+use Prim.Native.Nat.{_+_, _-_, _≤_}
+use mathlib.Core.Path.{_≡_, refl, ap, sym, _∙_}
+use mathlib.Core.Bool.{true}
+use native.Mathlib.Omega.{arith}
+use borrow.Author.Needs.{needs}
+use borrow.Author.Tests.{not-true, not-false}
+use lib.ListN.{length, getD}
+use Rattle.molang.specs.WriteEntry.{mostNodes}
+use Rattle.write.specs.declared.plain.Seat.the-variants.{Enclosed}
+use Rattle.write.specs.declared.reader.NodeView.{NodeView}
+use Rattle.write.specs.Seats.{plainBy}
+use Rattle.write.proofs.JudgeLaws.{Judging, Turn, few-tokens, begins-early, judging-begins, judging-room, judging-room-two, judging-refused, judging-none, judging-one, judging-two, judging-ends, falls}
+use Rattle.write.proofs.plain.judge_from.Statement.{statement}
+use Rattle.write.proofs.plain.judge_from.Tie as tie
+use Rattle.shape.specs.Shaped.{nodeLength}
+
+abbrev Inv-loop : tie.InvT-loop
+Inv-loop tree trees begin waiting₀ top₀ tokens₀ node₀ at₀ waiting top tokens node at = Judging tree waiting top tokens node at
+
+abbrev μ-loop : tie.MeasureT-loop
+μ-loop tree trees begin waiting₀ top₀ tokens₀ node₀ at₀ waiting top tokens node at = length tree - at
+
+-- In a turn: the room that there is, what was read of the node, and that it is plain.
+room : (c : tie.In-loop Inv-loop μ-loop)
+    → (c .before .loop .at + nodeLength ≤ length (c .before .before .before .args .tree .now))
+    × (1 ≤ c .before .loop .top)
+    × (c .before .loop .top + c .before .loop .node ≤ mostNodes)
+room c = judging-room (c .before .before .before .pre .0) (c .before .loop .inv) (c .loop-test .taken)
+
+turn : (c : tie.After-seat Inv-loop μ-loop)
+    → Turn (c .before .before .before .before .before .args .tree .now) (c .before .before .before .loop .waiting) (c .before .before .before .loop .top) (c .before .before .before .loop .tokens) (c .before .before .before .loop .node) (c .before .before .before .loop .at)
+    (c .before .view-node .result .op) (c .before .view-node .result .children) (c .before .view-node .result .next) (c .before .view-node .result .after)
+    (getD (c .before .before .before .loop .waiting) (c .before .before .before .loop .top - 1) Enclosed)
+turn c =
+    let seen = c .before .view-node .ensures in
+    record {
+      one = c .before .before .before .before .before .pre .0;
+      inv = c .before .before .before .loop .inv;
+      within = c .before .before .loop-test .taken;
+      isOp = ap (λ (v : NodeView). v .op) seen;
+      isCount = ap (λ (v : NodeView). v .children) seen;
+      isFirst = ap (λ (v : NodeView). v .next) seen;
+      isAfter = ap (λ (v : NodeView). v .after) seen;
+      isSeat = refl;
+    }
+
+plain : (c : tie.Else1 Inv-loop μ-loop)
+    → plainBy (getD (c .before .before .before .before .before .loop .waiting) (c .before .before .before .before .before .loop .top - 1) Enclosed)
+    (c .before .before .before .view-node .result .op) (c .before .before .before .view-node .result .children) (c .before .before .before .view-node .result .next)
+    ≡ true
+plain c = sym (c .before .is-plain .ensures) ∙ not-false _ (c .if1 .left)
+
+array-set-from-waiting : tie.Need-array-set-from-waiting Inv-loop μ-loop
+array-set-from-waiting c = search needs
+
+mul-at : tie.Need-mul-at Inv-loop μ-loop
+mul-at c = omega (arith, begins-early (c .before .pre .1))
+
+loop-holds : tie.Need-loop-holds Inv-loop μ-loop
+loop-holds c = judging-begins (c .before .pre .0) (c .before .pre .1)
+
+view-node-requires : tie.Need-view-node-requires Inv-loop μ-loop
+view-node-requires c κs = room c .0
+
+sub-top : tie.Need-sub-top Inv-loop μ-loop
+sub-top c = room (c .before) .1
+
+array-copy-out-seat : tie.Need-array-copy-out-seat Inv-loop μ-loop
+array-copy-out-seat c = omega (arith, room (c .before) .2)
+
+is-plain-requires : tie.Need-is-plain-requires Inv-loop μ-loop
+is-plain-requires c κs = search needs
+
+returns : tie.Need-returns Inv-loop μ-loop
+returns c = judging-refused (turn (c .before .before)) (sym (c .before .is-plain .ensures) ∙ not-true _ (c .if1 .taken))
+
+add-node : tie.Need-add-node Inv-loop μ-loop
+add-node c = search needs
+
+tokens-for-requires : tie.Need-tokens-for-requires Inv-loop μ-loop
+tokens-for-requires c κs = search needs
+
+add-tokens : tie.Need-add-tokens Inv-loop μ-loop
+add-tokens c =
+    let head = c .before .before .before .before .before .before in
+    let seat = getD (head .loop .waiting) (head .loop .top - 1) Enclosed in
+    let seen = c .before .before .before .before .view-node .result in
+    omega (
+      arith,
+      c .tokens-for .ensures,
+      head .loop .inv .few,
+      room (c .before .before .before .before .before) .2,
+      few-tokens seat (seen .op) (seen .children),
+    )
+
+seat-below-requires : tie.Need-seat-below-requires Inv-loop μ-loop
+seat-below-requires c κs = search needs
+
+array-set-from-waiting-2 : tie.Need-array-set-from-waiting-2 Inv-loop μ-loop
+array-set-from-waiting-2 c = omega (arith, room (c .before .before .before .before .before .before .before) .2)
+
+add-top : tie.Need-add-top Inv-loop μ-loop
+add-top c = omega (arith, room (c .before .before .before .before .before .before .before) .2)
+
+loop-less : tie.Need-loop-less Inv-loop μ-loop
+loop-less c = falls (turn (c .before .before .before .before .before))
+
+loop-again : tie.Need-loop-again Inv-loop μ-loop
+loop-again c =
+    rw (c .seat-below .ensures, c .before .before .tokens-for .ensures) (judging-one (turn (c .before .before .before .before .before)) (plain (c .before .before .before)) (c .before .if2 .taken))
+
+seat-of-right-requires : tie.Need-seat-of-right-requires Inv-loop μ-loop
+seat-of-right-requires c κs = search needs
+
+array-set-from-waiting-3 : tie.Need-array-set-from-waiting-3 Inv-loop μ-loop
+array-set-from-waiting-3 c = omega (arith, room (c .before .before .before .before .before .before .before .before) .2)
+
+seat-of-left-requires : tie.Need-seat-of-left-requires Inv-loop μ-loop
+seat-of-left-requires c κs = search needs
+
+add-waiting : tie.Need-add-waiting Inv-loop μ-loop
+add-waiting c = omega (arith, room (c .before .before .before .before .before .before .before .before .before) .2)
+
+array-set-from-waiting-4 : tie.Need-array-set-from-waiting-4 Inv-loop μ-loop
+array-set-from-waiting-4 c = judging-room-two (turn (c .before .before .before .before .before .before .before)) (c .before .before .if3 .taken)
+
+add-top-2 : tie.Need-add-top-2 Inv-loop μ-loop
+add-top-2 c = omega (arith, room (c .before .before .before .before .before .before .before .before .before) .2)
+
+loop-less-2 : tie.Need-loop-less-2 Inv-loop μ-loop
+loop-less-2 c = falls (turn (c .before .before .before .before .before .before .before))
+
+loop-again-2 : tie.Need-loop-again-2 Inv-loop μ-loop
+loop-again-2 c =
+    rw (c .seat-of-left .ensures, c .before .seat-of-right .ensures, c .before .before .before .before .tokens-for .ensures)
+    (judging-two (turn (c .before .before .before .before .before .before .before)) (plain (c .before .before .before .before .before)) (c .before .before .if3 .taken))
+
+loop-less-3 : tie.Need-loop-less-3 Inv-loop μ-loop
+loop-less-3 c = falls (turn (c .before .before .before .before .before))
+
+loop-again-3 : tie.Need-loop-again-3 Inv-loop μ-loop
+loop-again-3 c =
+    rw (c .before .before .tokens-for .ensures) (judging-none (turn (c .before .before .before .before .before)) (plain (c .before .before .before)) (c .before .if2 .left) (c .if3 .left))
+
+returns-2 : tie.Need-returns-2 Inv-loop μ-loop
+returns-2 c = judging-ends (c .before .loop .inv) (c .loop-test .left)
+
+pub judge-from-spec : {M : Type 1} → statement M
+judge-from-spec =
+    tie.close
+    (tie.spec
+    Inv-loop
+    μ-loop
+    array-set-from-waiting
+    mul-at
+    loop-holds
+    view-node-requires
+    sub-top
+    array-copy-out-seat
+    is-plain-requires
+    returns
+    add-node
+    tokens-for-requires
+    add-tokens
+    seat-below-requires
+    array-set-from-waiting-2
+    add-top
+    loop-less
+    loop-again
+    seat-of-right-requires
+    array-set-from-waiting-3
+    seat-of-left-requires
+    add-waiting
+    array-set-from-waiting-4
+    add-top-2
+    loop-less-2
+    loop-again-2
+    loop-less-3
+    loop-again-3
+    returns-2)
