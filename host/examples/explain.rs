@@ -40,7 +40,7 @@ fn explain(source: &str, version: i16) {
     };
     match Reader::new().read(&list, version) {
         Ok(tree) => println!("is a tree at version {version}: {}", tree.shown_in(source)),
-        Err(ReadError::Refused(why)) => println!("{why}"),
+
         Err(ReadError::Messages(messages)) => {
             for message in messages.iter() {
                 let (start, end) = (
@@ -54,6 +54,7 @@ fn explain(source: &str, version: i16) {
                 println!("{before}{under} {message}");
             }
         }
+        Err(why) => println!("{why}"),
     }
     println!();
 }

@@ -143,13 +143,13 @@ fn lift_words(
         totals.turned_back += 1;
         return Err("its words are not tokens".to_string());
     };
-    let lifted = lifter.lift(&tokens, from, to);
+    let lifted = lifter.lift(&tokens).from(from).to(to);
     match &lifted {
         Ok(lifted) if lifted.changed => totals.changed += 1,
         Ok(_) => totals.unchanged += 1,
         Err(LiftError::Read(ReadError::Refused(_))) => totals.turned_back += 1,
-        Err(LiftError::Read(ReadError::Messages(_))) => totals.no_tree += 1,
-        Err(LiftError::Write(_)) => totals.not_written += 1,
+        Err(LiftError::Read(_)) => totals.no_tree += 1,
+        Err(_) => totals.not_written += 1,
     }
     let lifted = lifted.map_err(|why| why.to_string())?;
     Ok(lifted.tokens.words())

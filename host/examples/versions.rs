@@ -2,7 +2,7 @@
 //!
 //!     cargo run --release --example versions -- 'a && b || c'
 
-use sorbrudder::{LiftError, Lifter, Node, ReadError, Reader, Tokens, Tree};
+use sorbrudder::{Lifter, Node, ReadError, Reader, Tokens, Tree};
 
 const VERSIONS: [i16; 3] = [4, 5, 6];
 
@@ -46,12 +46,12 @@ fn show(source: &str, list: &Tokens) {
 
 /// What carries the list over from one version to the next.
 fn lifted(source: &str, list: &Tokens, from: i16, to: i16) -> String {
-    match Lifter::new().lift(list, from, to) {
+    match Lifter::new().lift(list).from(from).to(to) {
         Ok(lifted) => {
             let (tokens, tree) = (lifted.tokens.shown_in(source), lifted.tree.shown_in(source));
             format!("{from} to {to}: {tokens}   which both read as {tree}")
         }
-        Err(LiftError::Write(why)) => format!("{from} to {to}: cannot be lifted: {why}"),
+
         Err(why) => format!("{from} to {to}: {why}"),
     }
 }

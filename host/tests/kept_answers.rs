@@ -1,35 +1,10 @@
 //! The kept answers of the Rust parser (vectors/vectors.bin) through the safe interface: every tree's words, every message's
 //! record, every refusal that a list can have.
 
+mod common;
+
+use common::{Bytes, KEPT_NODE_WORDS, vectors};
 use sorbrudder::{ReadError, Reader, Refusal, Tokens, Tree, Used};
-
-/// The file's numbers, as vectors/README.md describes them.
-struct Bytes<'b>(&'b [u8]);
-
-impl Bytes<'_> {
-    fn byte(&mut self) -> u8 {
-        let (first, rest) = self.0.split_first().expect("the file is whole");
-        self.0 = rest;
-        *first
-    }
-
-    fn number(&mut self) -> u64 {
-        let (mut number, mut shift) = (0, 0);
-        loop {
-            let byte = self.byte();
-            number |= u64::from(byte & 0x7F) << shift;
-            shift += 7;
-            if byte < 0x80 {
-                return number;
-            }
-        }
-    }
-
-    fn words(&mut self, len: u64, kinds: u64) -> Vec<u32> {
-        let word = |place| self.number() as u32 ^ ((place % kinds + 1) << 29) as u32;
-        (0..len).map(word).collect()
-    }
-}
 
 /// A kept call: the used set is none where it has a bit that no operator has.
 struct Call {
@@ -98,7 +73,7 @@ impl Call {
             | Refusal::UnknownOperator { word }
             | Refusal::UnknownPayload { word }
             | Refusal::OtherBits { word } => word as u64,
-            Refusal::NotWhole | Refusal::TooManyTokens | Refusal::SourceTooLong => 0,
+            _ => 0,
         };
         assert_eq!((refusal.number(), word), (number, place));
     }
@@ -106,9 +81,8 @@ impl Call {
 
 #[test]
 fn every_kept_answer() {
-    let path = concat!(env!("CARGO_MANIFEST_DIR"), "/../vectors/vectors.bin");
-    let file = std::fs::read(path).expect("vectors/vectors.bin");
-    let mut bytes = Bytes(&file[12..]);
+    let file = vectors();
+    let mut bytes = Bytes(&file);
     let mut reader = Reader::new();
     let mut counts = [0; 3];
     while !bytes.0.is_empty() {
@@ -118,7 +92,10 @@ fn every_kept_answer() {
         match head & 3 {
             0 => {
                 let nodes = bytes.number();
-                call.is_tree(&mut reader, bytes.words(6 * nodes, 6));
+                call.is_tree(
+                    &mut reader,
+                    bytes.words(KEPT_NODE_WORDS * nodes, KEPT_NODE_WORDS),
+                );
             }
             1 => {
                 let count = bytes.number();
