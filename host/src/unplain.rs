@@ -1,4 +1,5 @@
-//! Why a node has no plain form, said in words. The library decides which node that is; what is said here follows `crates/molang/specs/Plain`.
+//! Why a node has no plain form, said in words. The library decides which node that is; what is said here follows
+//! `crates/molang/specs/Plain`.
 
 use crate::{Node, Op};
 use std::fmt;

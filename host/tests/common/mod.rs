@@ -1,6 +1,8 @@
 //! What several tests use: numbers from a seed, and the lists that the generator left in vectors/.
 #![allow(dead_code)] // Each test uses its part.
 
+pub mod command;
+
 use std::path::Path;
 
 /// Numbers from a seed (splitmix64).
