@@ -12,7 +12,13 @@ use std::time::Instant;
 fn lists() -> Vec<Tokens> {
     let alike = "math.clamp(query.1 * 2.5 - variable.3, 0, 1) + (temp.4 ? variable.5 : 7) / 3";
     let unlike = "query.1 > 0.5 && variable.2 == 3 || !query.4 && variable.5 < 10 ? 1 : 0";
-    let text = |number: usize| if number % 4 == 0 { unlike } else { alike };
+    let text = |number: usize| {
+        if number.is_multiple_of(4) {
+            unlike
+        } else {
+            alike
+        }
+    };
     let lists = (0..200).map(|number| text(number).parse());
     lists.map(|list| list.expect("the notation")).collect()
 }

@@ -9,8 +9,11 @@ use std::fs::File;
 use std::io::BufWriter;
 use std::path::Path;
 
-/// The archives: a name, how they are kept, and their lists with their versions.
-const ARCHIVES: [(&str, Format, &[(i16, &str)]); 3] = [
+/// Lists with their versions.
+type Lists = &'static [(i16, &'static str)];
+
+/// The archives: a name, how they are kept, and their lists.
+const ARCHIVES: [(&str, Format, Lists); 3] = [
     (
         "gates.lists",
         Format::Container,

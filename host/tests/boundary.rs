@@ -241,7 +241,7 @@ fn nothing_panics_on_words_of_any_kind() {
     let mut trees = 0;
     for round in 0..60_000 {
         let len = rng.below(if round % 100 == 0 { 3_000 } else { 60 });
-        let kinds = 5 + rng.below(2);
+        let kinds = [Token::WORDS, Tree::NODE_WORDS][rng.below(2)];
         let mut word = |place: usize| {
             let kind = place % kinds + 1;
             // Value halves without a value, so that now and then all of it is sound.

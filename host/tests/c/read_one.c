@@ -12,30 +12,37 @@ enum { LIST_WORDS = SORBRUDDER_TOKEN_WORDS * TOKENS };
 static uint64_t read_list(const uint32_t *list, size_t words, uint32_t *tree) {
     uint32_t messages[SORBRUDDER_MESSAGE_BUFFER];
     uint32_t work[SORBRUDDER_WORK_BUFFER(TOKENS)];
-    const uint64_t used = UINT64_C(1) << 61 | UINT64_C(1) << 9;
+    uint64_t used_low, used_high, source_length;
+    sorbrudder_used(list, words, &used_low, &used_high, &source_length);
     return sorbrudder_parse(list, words, tree, SORBRUDDER_TREE_BUFFER(TOKENS), messages,
-                            SORBRUDDER_MESSAGE_BUFFER, work, SORBRUDDER_WORK_BUFFER(TOKENS), 3, 6,
-                            used, 0);
+                            SORBRUDDER_MESSAGE_BUFFER, work, SORBRUDDER_WORK_BUFFER(TOKENS),
+                            source_length, 6, used_low, used_high);
 }
 
 int main(void) {
-    const uint32_t list[LIST_WORDS] = {TOKEN(61, 0, 1), TOKEN(9, 1, 2), TOKEN(61, 2, 3)};
+    const uint32_t list[LIST_WORDS] = {TOKEN(SORBRUDDER_OP_FLOAT, 0, 1),
+                                       TOKEN(SORBRUDDER_OP_ADD, 1, 2),
+                                       TOKEN(SORBRUDDER_OP_FLOAT, 2, 3)};
     uint32_t tree[SORBRUDDER_TREE_BUFFER(TOKENS)];
-    uint32_t written[LIST_WORDS];
+    static uint32_t written[SORBRUDDER_LIST_BUFFER];
 
+    if (sorbrudder_abi_version() != SORBRUDDER_ABI_VERSION) {
+        return 5;
+    }
     uint64_t answer = read_list(list, LIST_WORDS, tree);
     if (sorbrudder_kind(answer) != SORBRUDDER_DONE) {
         return 1;
     }
     uint32_t nodes = sorbrudder_count(answer);
     printf("tree %u\n", nodes);
-    for (uint32_t node = 0; node < nodes; node++) {
-        const uint32_t *words = tree + SORBRUDDER_NODE_WORDS * node;
-        printf("%u %u %u %u\n", words[0] & 0xFF, words[5] & 0x3FFF, words[1] & 0x1FFFFFFF,
-               words[2] & 0x1FFFFFFF);
+    for (uint32_t number = 0; number < nodes; number++) {
+        const uint32_t *node = tree + SORBRUDDER_NODE_WORDS * number;
+        printf("%u %u %u %u\n", sorbrudder_op_of(node), sorbrudder_children_of(node),
+               sorbrudder_start_of(node), sorbrudder_end_of(node));
     }
 
-    answer = sorbrudder_write(tree, SORBRUDDER_NODE_WORDS * (size_t)nodes, written, LIST_WORDS);
+    answer = sorbrudder_write(tree, SORBRUDDER_NODE_WORDS * (size_t)nodes, written,
+                              SORBRUDDER_LIST_BUFFER);
     if (sorbrudder_kind(answer) != SORBRUDDER_DONE) {
         return 2;
     }
@@ -48,7 +55,7 @@ int main(void) {
 
     /* The last word alone is of the wrong kind for a first one. */
     answer = read_list(list + 4, SORBRUDDER_TOKEN_WORDS, tree);
-    if (sorbrudder_kind(answer) != SORBRUDDER_REFUSED) {
+    if (sorbrudder_refusal(answer) != SORBRUDDER_REFUSAL_WRONG_KIND) {
         return 4;
     }
     printf("refused %u %u\n", sorbrudder_refusal(answer), sorbrudder_count(answer));

@@ -114,7 +114,7 @@ fn compare(old: &mut Reader, new: &mut Reader, list: &List<'_>, to: i16) -> Line
         (Ok(old), Ok(new)) => differing((old, from), (new, to)),
         (Ok(tree), Err(why)) => one_sided("only-old", (tree, from), (&why, to), to),
         (Err(why), Ok(tree)) => one_sided("only-new", (tree, to), (&why, from), to),
-        (Err(why), Err(_)) if is_refused(&why) => Line::of_read_error(&why, Some(to)),
+        (Err(why), Err(_)) if is_refused(&why) || from == to => Line::of_read_error(&why, Some(to)),
         (Err(why), Err(_)) => Line {
             text: format!("no tree at {from} and at {to}: {why}"),
             ..Line::of_read_error(&why, Some(to))

@@ -20,7 +20,7 @@ main { display: flex; flex-wrap: wrap; gap: 1rem; }
 section { flex: 1 1 20rem; min-width: 0; border: 1px solid var(--line); padding: .75rem; overflow-x: auto; }
 .line { overflow-wrap: anywhere; }
 .tree { list-style: none; margin: 0; padding: 0; }
-.tree li { white-space: pre; line-height: 1.35; }
+.tree li { white-space: pre; line-height: 1.2; }
 .branches { color: gray; }
 .words { font-family: system-ui, sans-serif; font-size: .9em; }
 .differs .label { font-weight: bold; color: var(--mark); }
@@ -68,7 +68,7 @@ pub fn html(source: &str, readings: &[Reading; 2]) -> String {
         marked_source(source, &differences),
         rule.map_or(String::new(), |rule| format!(
             "<p class=\"rule\">{}</p>\n",
-            with_code(rule)
+            with_code(&sentence(rule))
         )),
         columns.concat(),
     )
@@ -140,6 +140,13 @@ fn marked_source(source: &str, differences: &[Difference<'_>]) -> String {
         at = end;
     }
     html + &escaped(source.get(at..).unwrap_or(""))
+}
+
+/// A clause as a sentence of its own.
+fn sentence(clause: &str) -> String {
+    let mut rest = clause.chars();
+    let first = rest.next().map(|first| first.to_ascii_uppercase());
+    first.into_iter().chain(rest).chain(['.']).collect()
 }
 
 /// A sentence with what stands between back quotes as code.
