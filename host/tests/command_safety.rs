@@ -50,7 +50,7 @@ fn killed_at_any_moment_the_file_is_the_old_or_the_new_one() {
     assert_eq!(run(&folder, &IN_PLACE).status, Some(0));
     let whole_run = since.elapsed();
     let (mut killed, mut ended) = (0, 0);
-    for point in 0..60u32 {
+    for point in 0..40u32 {
         std::fs::write(folder.join("big"), &old).expect("a file");
         let mut child = command();
         child
@@ -59,7 +59,7 @@ fn killed_at_any_moment_the_file_is_the_old_or_the_new_one() {
             .stdout(Stdio::null())
             .stderr(Stdio::null());
         let mut child = child.spawn().expect("it runs");
-        std::thread::sleep(whole_run * point / 48);
+        std::thread::sleep(whole_run * point / 32);
         child.kill().expect("it is killed or has ended");
         let status = child.wait().expect("it ends");
         let file = std::fs::read(folder.join("big")).expect("the file is there");
@@ -84,6 +84,85 @@ fn killed_at_any_moment_the_file_is_the_old_or_the_new_one() {
         clear(&folder);
     }
     assert!(killed >= 10, "{killed} killed, {ended} ended");
+}
+
+/// The library that stops a program at one of its calls.
+fn stopper(folder: &Path) -> PathBuf {
+    let library = folder.join("stop_at.so");
+    let source = Path::new(env!("CARGO_MANIFEST_DIR")).join("tests/c/stop_at.c");
+    let compiler = std::env::var("CC").unwrap_or_else(|_| "cc".to_string());
+    let mut compile = Command::new(compiler);
+    compile.args([
+        "-std=c11", "-Wall", "-Wextra", "-Werror", "-shared", "-fPIC", "-O1", "-o",
+    ]);
+    let compiled = compile
+        .arg(&library)
+        .arg(source)
+        .arg("-ldl")
+        .output()
+        .expect("a C compiler");
+    assert!(
+        compiled.status.success(),
+        "{}",
+        String::from_utf8_lossy(&compiled.stderr)
+    );
+    library
+}
+
+/// Stops the run at its first call that changes a file, at its second and so on, until it is not stopped any more; how often it was.
+fn stopped_everywhere(name: &str, is_full: bool) -> usize {
+    let folder = folder(name);
+    let (old, new) = old_and_new(&folder, 2_000);
+    let library = stopper(&folder);
+    for at in 1..1_000 {
+        std::fs::write(folder.join("big"), &old).expect("a file");
+        let _ = std::fs::remove_file(folder.join("big.bak"));
+        let mut child = command();
+        child.current_dir(&folder).args(IN_PLACE).arg("--backup");
+        child
+            .env("LD_PRELOAD", &library)
+            .env("STOP_AT", at.to_string());
+        child.envs(is_full.then_some(("STOP_FULL", "yes")));
+        let ran = Run::of(child.output().expect("it runs"));
+        let file = std::fs::read(folder.join("big")).expect("the file is there");
+        let is_whole = file == old || file == new;
+        assert!(
+            is_whole,
+            "stopped at call {at}: {} bytes, {ran:?}",
+            file.len()
+        );
+        if let Ok(backup) = std::fs::read(folder.join("big.bak")) {
+            assert!(
+                backup == old,
+                "stopped at call {at}: the backup is another file"
+            );
+        }
+        match ran.status {
+            None => assert!(!is_full, "call {at}: {ran:?}"),
+            Some(3) => assert!(is_full && file == old, "call {at}: {ran:?}"),
+            status => {
+                assert_eq!(status, Some(0), "call {at}: {ran:?}");
+                assert!(file == new, "call {at}");
+                return at - 1;
+            }
+        }
+        assert!(!is_full || left_over(&folder).is_empty(), "call {at}");
+        clear(&folder);
+    }
+    panic!("it never runs to its end");
+}
+
+#[test]
+fn killed_at_every_call_the_file_is_whole() {
+    // To open, to give rights, some ten writes, to sync, to link, to sync again, to rename, to sync the folder.
+    let stopped = stopped_everywhere("killed_at_calls", false);
+    assert!(stopped > 10, "{stopped}");
+}
+
+#[test]
+fn on_a_disk_that_is_full_from_any_call_on_the_file_is_whole() {
+    let stopped = stopped_everywhere("full_at_calls", true);
+    assert!(stopped > 10, "{stopped}");
 }
 
 /// Runs the command by a shell, after a line of the shell's own.
