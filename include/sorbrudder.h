@@ -198,8 +198,8 @@ static inline uint32_t sorbrudder_start_of(const uint32_t *token) { return token
 static inline uint32_t sorbrudder_end_of(const uint32_t *token) { return token[SORBRUDDER_WORD_END] & 0x1fffffff; }
 static inline uint32_t sorbrudder_children_of(const uint32_t *node) { return node[SORBRUDDER_WORD_CHILDREN] & 0x3fff; }
 
-/* The exact used set of a list, each operator of its tokens and no other, and its highest span end, which is its source length where nothing
- * else is known. What names no operator is passed over; the call that follows turns it back. */
+/* The exact used set of a list, each operator of its tokens and no other, and its highest span end, which is its source length where
+ * nothing else is known. What names no operator is passed over; the call that follows turns it back. */
 static inline void sorbrudder_used(const uint32_t *list, size_t list_words, uint64_t *used_low, uint64_t *used_high,
                                    uint64_t *source_length) {
     uint64_t half[2] = {0, 0}, length = 0;
