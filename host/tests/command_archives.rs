@@ -90,6 +90,15 @@ fn a_plain_file_is_told_of_and_the_highest_status_counts() {
         "3 files, 7 lists: 6 trees, 1 no trees, 0 refused; 2 files not read to their end\n";
     assert!(several.err.ends_with(summary), "{}", several.err);
     assert_eq!(run_line(&folder, "check missing").status, Some(3));
+    let json = run_line(&folder, "check cut missing --json");
+    let failed: Vec<&str> = json
+        .out
+        .lines()
+        .filter(|line| !line.contains("\"list\":"))
+        .collect();
+    assert_eq!(failed.len(), 2, "{}", json.out);
+    assert!(failed[0].starts_with(r#"{"file":"cut","result":"damaged","text":"cut: damaged at"#));
+    assert!(failed[1].starts_with(r#"{"file":"missing","result":"failed","text":"missing: "#));
 }
 
 #[test]
