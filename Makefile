@@ -20,7 +20,7 @@ help:
 	@echo 'make library    proves the library and builds it, where something changed; without rt the prebuilt one is used'
 	@echo 'make host       runs the tests of the host crate'
 	@echo 'make browser    looks at a drawing in a headless Chromium, and takes a screenshot'
-	@echo 'make test       the gate: everything from nothing, an hour; removes target/ first'
+	@echo 'make test       the gate: everything from nothing, which takes long; removes target/ first'
 	@echo 'make compare    compares the library with the Rust parser (LISTS=5000000 SEED=1)'
 	@echo 'make bench      times reading, writing and lifting (SORBRUDDER_BEFORE=folder of an archive to time beside)'
 	@echo 'make edits      tries the must-fail edits that the gate leaves out, hours'

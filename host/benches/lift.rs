@@ -69,52 +69,67 @@ fn timed(tokens: usize, mut run: impl FnMut() -> usize) -> (f64, usize) {
     (since.elapsed().as_nanos() as f64 / tokens as f64, sum)
 }
 
+/// The lists, and what lifts them: the raw calls, a lifter of words, and a lifter of tokens.
+struct Bench {
+    lists: Vec<Tokens>,
+    words: Vec<Vec<u32>>,
+    tokens: usize,
+    raw: Raw,
+    by_words: Lifter,
+    by_tokens: Lifter,
+}
+
+impl Bench {
+    fn new() -> Self {
+        let lists = lists();
+        Self {
+            words: lists.iter().map(Tokens::words).collect(),
+            tokens: lists.iter().map(|list| list.len()).sum(),
+            lists,
+            raw: Raw {
+                old: vec![0; tree_buffer(100)],
+                new: vec![0; tree_buffer(100)],
+                messages: [0; MESSAGE_BUFFER],
+                work: vec![0; work_buffer(100)],
+                list: vec![0; sorbrudder_sys::TOKEN_WORDS * sorbrudder_sys::MOST_TOKENS],
+            },
+            by_words: Lifter::new(),
+            by_tokens: Lifter::new(),
+        }
+    }
+
+    fn by_raw_calls(&mut self) -> usize {
+        let lists = self.words.iter();
+        lists.map(|list| self.raw.lift(black_box(list))).sum()
+    }
+
+    fn by_words(&mut self) -> usize {
+        let lifted = |list: &Vec<u32>| {
+            let lifted = self.by_words.lift_words(black_box(list)).from(5).to(6);
+            lifted.expect("a plain list").words.len()
+        };
+        self.words.iter().map(lifted).sum()
+    }
+
+    fn by_tokens(&mut self) -> usize {
+        let lifted = |list: &Tokens| {
+            let lifted = self.by_tokens.lift(black_box(list)).from(5).to(6);
+            sorbrudder_sys::TOKEN_WORDS * lifted.expect("a plain list").tokens.len()
+        };
+        self.lists.iter().map(lifted).sum()
+    }
+}
+
 fn main() {
     let rounds = std::env::args().skip(1).find_map(|word| word.parse().ok());
-    let lists = lists();
-    let words: Vec<Vec<u32>> = lists.iter().map(Tokens::words).collect();
-    let tokens: usize = lists.iter().map(|list| list.len()).sum();
-    let (tree, work) = (vec![0; tree_buffer(100)], vec![0; work_buffer(100)]);
-    let mut raw = Raw {
-        old: tree.clone(),
-        new: tree,
-        messages: [0; MESSAGE_BUFFER],
-        work,
-        list: vec![0; 5 * 4_096],
-    };
-    let (mut by_words, mut by_tokens) = (Lifter::new(), Lifter::new());
+    let mut bench = Bench::new();
+    let tokens = bench.tokens;
     let mut least = [f64::INFINITY; 3];
     for _ in 0..rounds.unwrap_or(2_000) {
         let runs = [
-            timed(tokens, || {
-                words.iter().map(|list| raw.lift(black_box(list))).sum()
-            }),
-            timed(tokens, || {
-                let mut lifted = |list| {
-                    by_words
-                        .lift_words(list)
-                        .from(5)
-                        .to(6)
-                        .map(|l| l.words.len())
-                };
-                words
-                    .iter()
-                    .map(|list| lifted(black_box(list)).expect("plain"))
-                    .sum()
-            }),
-            timed(tokens, || {
-                let mut lifted = |list| {
-                    by_tokens
-                        .lift(list)
-                        .from(5)
-                        .to(6)
-                        .map(|l| 5 * l.tokens.len())
-                };
-                lists
-                    .iter()
-                    .map(|list| lifted(black_box(list)).expect("plain"))
-                    .sum()
-            }),
+            timed(tokens, || bench.by_raw_calls()),
+            timed(tokens, || bench.by_words()),
+            timed(tokens, || bench.by_tokens()),
         ];
         assert!(
             runs.iter().all(|(_, sum)| *sum == runs[0].1),
@@ -124,10 +139,7 @@ fn main() {
             *least = least.min(time);
         }
     }
-    let [raw, by_words, by_tokens] = least;
-    println!("raw calls {raw:.1} ns a token, lift_words {by_words:.1} ns, lift {by_tokens:.1} ns");
-    println!(
-        "lift_words takes {:.2} of the raw calls' time",
-        by_words / raw
-    );
+    let [raw, words, tokens] = least;
+    println!("raw calls {raw:.1} ns a token, lift_words {words:.1} ns, lift {tokens:.1} ns");
+    println!("lift_words takes {:.2} of the raw calls' time", words / raw);
 }

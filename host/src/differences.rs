@@ -5,6 +5,15 @@ use std::fmt;
 
 /// A node of one tree and the node in its place in another: the nodes themselves differ, in operator, payload, span, number of
 /// children or close, and all above them are alike.
+///
+/// ```
+/// use sorbrudder::{Difference, Reader, Tokens};
+///
+/// let read = |text: &str| Reader::new().read(&text.parse::<Tokens>().unwrap(), 6).unwrap();
+/// let (old, new) = (read("a + b"), read("a * b"));
+/// let Difference { old, new } = old.differences(&new).next().unwrap();
+/// assert_eq!((old.op().words(), new.op().words()), ("sum", "product"));
+/// ```
 #[derive(Copy, Clone, Debug, PartialEq, Eq)]
 pub struct Difference<'t> {
     /// The node of the first tree.
@@ -14,6 +23,15 @@ pub struct Difference<'t> {
 }
 
 /// The differences between two trees, from the left: what [`Tree::differences`] gives.
+///
+/// ```
+/// use sorbrudder::{Reader, Tokens};
+///
+/// let read = |text: &str| Reader::new().read(&text.parse::<Tokens>().unwrap(), 6).unwrap();
+/// let (old, new) = (read("(a < b) + (a < b)"), read("(a > b) + (a > b)"));
+/// let numbers = old.differences(&new).map(|difference| difference.old.number());
+/// assert_eq!(numbers.collect::<Vec<_>>(), [2, 6]);
+/// ```
 #[derive(Clone)]
 pub struct Differences<'t> {
     old: TreeRef<'t>,

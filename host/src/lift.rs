@@ -27,6 +27,15 @@ pub struct Lifted {
 
 /// A list of words that two versions read as the same tree, brackets taken away that only group. Its words stand in the lifter, or are
 /// those that were given.
+///
+/// ```
+/// use sorbrudder::{Lifter, Tokens};
+///
+/// let (list, mut lifter): (Tokens, _) = ("(a)".parse().unwrap(), Lifter::new());
+/// let words = list.words();
+/// let lifted = lifter.lift_words(&words).from(4).to(6).unwrap();
+/// assert_eq!((lifted.words, lifted.changed, lifted.tree.len()), (&words[..], false, 2));
+/// ```
 #[derive(Copy, Clone, Debug, PartialEq, Eq)]
 #[non_exhaustive]
 pub struct LiftedWords<'l> {
@@ -58,6 +67,11 @@ pub struct Lifter {
 }
 
 /// A lift that is still to be told the version that the list is of: `.from(5).to(6)`.
+///
+/// ```compile_fail
+/// // Without its versions it is no lift.
+/// let lifted = sorbrudder::lift(&[]).to(6);
+/// ```
 #[derive(Debug)]
 #[must_use = "a lift begins when it is told both versions"]
 pub struct Lift<L, T> {
@@ -66,6 +80,11 @@ pub struct Lift<L, T> {
 }
 
 /// A lift that is still to be told the version that is to read the list: `.to(6)`.
+///
+/// ```
+/// let from_5 = sorbrudder::lift(&[]).from(5);
+/// assert!(from_5.to(6).is_err(), "nothing is no tree");
+/// ```
 #[derive(Debug)]
 #[must_use = "a lift begins when it is told both versions"]
 pub struct LiftFrom<L, T> {

@@ -212,6 +212,13 @@ impl<'w> IntoIterator for TreeRef<'w> {
 }
 
 /// The nodes of a tree in preorder.
+///
+/// ```
+/// use sorbrudder::{Reader, Tokens};
+///
+/// let tree = Reader::new().read(&"!a".parse::<Tokens>().unwrap(), 6).unwrap();
+/// assert_eq!(tree.view().nodes().len(), 2);
+/// ```
 #[derive(Clone)]
 pub struct Nodes<'w> {
     tree: TreeRef<'w>,

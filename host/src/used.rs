@@ -172,6 +172,10 @@ impl IntoIterator for Used {
 }
 
 /// The operators of a set, by number: what [`Used`] iterates by.
+///
+/// ```
+/// assert_eq!(sorbrudder::Used::FULL.into_iter().count(), 111);
+/// ```
 #[derive(Clone, Debug)]
 pub struct UsedOps(u128);
 

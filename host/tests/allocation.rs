@@ -43,6 +43,10 @@ fn allocations<T>(run: impl FnOnce() -> T) -> usize {
 }
 
 #[test]
+#[cfg_attr(
+    debug_assertions,
+    ignore = "a build with debug assertions reads again and compares"
+)]
 fn lifting_words_allocates_nothing() {
     let long = format!("a{}", " && b || c".repeat(200));
     let texts = [

@@ -70,7 +70,7 @@ fn a_c_program_reads_one_list() {
 fn a_cpp_program_reads_one_list() {
     let is_there = Command::new("c++").arg("--version").output().is_ok();
     if is_there {
-        let language = ["-std=c++17", "-x", "c++", "-Wno-vla"];
+        let language = ["-std=c++17", "-x", "c++"];
         reads_one(&compiled("c++", &language, &read_one(), "read_one_cpp"));
     }
 }
@@ -112,9 +112,12 @@ fn messages() -> BTreeSet<(String, u64)> {
     found
 }
 
-/// Every number of the header that the crate has too.
-fn numbers() -> Vec<(String, u64)> {
-    let named = |prefix: &str, name: &str| format!("SORBRUDDER_{prefix}_{name}");
+fn named(prefix: &str, name: &str) -> String {
+    format!("SORBRUDDER_{prefix}_{name}")
+}
+
+/// The enums of the header, by what the crate has.
+fn enums() -> Vec<(String, u64)> {
     let ops = Op::all().map(|op| (named("OP", op.name()), u64::from(op.number())));
     let payloads = (0..13).map(|number| {
         let payload = Payload::from_bits(number, 0).expect("a variant");
@@ -129,19 +132,22 @@ fn numbers() -> Vec<(String, u64)> {
         Refusal::UnknownPayload { word: 0 },
         Refusal::OtherBits { word: 0 },
     ];
-    let refusals = refusals.map(|refusal| {
-        (
-            named("REFUSAL", &variant(refusal)),
-            u64::from(refusal.number()),
-        )
-    });
-    let messages: Vec<_> = messages()
-        .into_iter()
-        .map(|(name, number)| (named("MESSAGE", &name), number))
-        .collect();
+    let refusal = |refusal: Refusal| (named("REFUSAL", &variant(refusal)), refusal.number().into());
+    let messages = messages();
     assert_eq!(messages.len(), 17);
-    let version: Vec<u64> = env!("CARGO_PKG_VERSION")
-        .split('.')
+    let messages = messages
+        .into_iter()
+        .map(|(name, number)| (named("MESSAGE", &name), number));
+    ops.chain(payloads)
+        .chain(refusals.map(refusal))
+        .chain(messages)
+        .collect()
+}
+
+/// The sizes and versions of the header, by what the crate has.
+fn sizes() -> Vec<(String, u64)> {
+    let version = env!("CARGO_PKG_VERSION").split('.');
+    let version: Vec<usize> = version
         .map(|part| part.parse().expect("a number"))
         .collect();
     let sizes = [
@@ -157,22 +163,19 @@ fn numbers() -> Vec<(String, u64)> {
         ("WORK_BUFFER(4096)", sorbrudder_sys::work_buffer(4096)),
         ("WORD_CHILDREN", Token::WORDS),
         ("WORD_CLOSE", Tree::NODE_WORDS - 1),
-        ("VERSION_MAJOR", version[0] as usize),
-        ("VERSION_MINOR", version[1] as usize),
-        ("VERSION_PATCH", version[2] as usize),
+        ("VERSION_MAJOR", version[0]),
+        ("VERSION_MINOR", version[1]),
+        ("VERSION_PATCH", version[2]),
     ];
-    let sizes = sizes.map(|(name, number)| (format!("SORBRUDDER_{name}"), number as u64));
-    ops.chain(payloads)
-        .chain(refusals)
-        .chain(messages)
-        .chain(sizes)
-        .collect()
+    sizes
+        .map(|(name, number)| (format!("SORBRUDDER_{name}"), number as u64))
+        .to_vec()
 }
 
 #[test]
 fn every_number_of_the_header_is_the_crates() {
     let mut program = String::from("#include \"sorbrudder.h\"\n");
-    for (name, number) in numbers() {
+    for (name, number) in enums().into_iter().chain(sizes()) {
         program += &format!("_Static_assert({name} == {number}, \"{name}\");\n");
     }
     program +=

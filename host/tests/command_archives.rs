@@ -2,8 +2,8 @@
 
 mod common;
 
-use common::command::{SEVEN, archive, folder, lists, run, run_with};
-use sorbrudder::archive::Format;
+use common::command::{SEVEN, archive, folder, lists, run, run_line, run_with, words};
+use sorbrudder::archive::{Format, ListsWriter};
 use std::path::Path;
 
 fn write(folder: &Path, name: &str, bytes: &[u8]) {
@@ -44,50 +44,61 @@ fn check_counts_lists_and_tells_of_those_that_are_no_trees() {
 }
 
 #[test]
-fn damage_is_status_4_and_a_plain_file_is_told_of() {
+fn damage_is_status_4_and_nothing_is_written() {
     let folder = folder("damage");
-    let whole = seven(Format::Container);
-    write(&folder, "whole", &whole);
-    write(&folder, "cut", &whole[..whole.len() - 24]);
+    let (whole, plain) = (seven(Format::Container), seven(Format::Words));
     let mut turned = whole.clone();
     turned[40] ^= 4;
-    write(&folder, "turned", &turned);
-    write(&folder, "zeros", &vec![0; 4 << 20]);
-    write(&folder, "empty", b"");
-    write(&folder, "text", b"these are no lists");
-    let plain = seven(Format::Words);
-    write(&folder, "plain", &plain);
-    write(&folder, "in_token", &plain[..plain.len() - 8]);
-    for name in ["cut", "turned", "zeros", "empty", "text", "in_token"] {
-        for words in [
-            &["check", name][..],
-            &["diff", name, "--to", "6"],
-            &["lift", name, "-o", "out", "--to", "6"],
-        ] {
-            let run = run(&folder, words);
-            assert_eq!(run.status, Some(4), "{words:?}: {run:?}");
+    let damaged: [(&str, &[u8]); 6] = [
+        ("cut", &whole[..whole.len() - 24]),
+        ("turned", &turned),
+        ("zeros", &[0; 1 << 20]),
+        ("empty", b""),
+        ("text", b"these are no lists"),
+        ("in_token", &plain[..plain.len() - 8]),
+    ];
+    for (name, bytes) in damaged {
+        write(&folder, name, bytes);
+        for line in ["check NAME", "diff NAME --to 6", "lift NAME -o out --to 6"] {
+            let run = run_line(&folder, &line.replace("NAME", name));
+            assert_eq!(run.status, Some(4), "{line} {name}: {run:?}");
             assert!(run.err.contains("damaged at byte"), "{}", run.err);
             assert!(
                 run.out.len() < 4_000,
-                "{words:?} tells {} bytes",
+                "{line} {name}: {} bytes",
                 run.out.len()
             );
-            assert!(!folder.join("out").exists(), "{words:?}");
+            assert!(!folder.join("out").exists(), "{line} {name}");
         }
     }
+}
+
+#[test]
+fn a_plain_file_is_told_of_and_the_highest_status_counts() {
+    let folder = folder("statuses");
+    let whole = seven(Format::Container);
+    write(&folder, "whole", &whole);
+    write(&folder, "cut", &whole[..whole.len() - 24]);
+    write(&folder, "plain", &seven(Format::Words));
     let note = "that it was cut at a token's end could not be seen";
-    assert!(run(&folder, &["check", "plain"]).err.contains(note));
-    assert!(!run(&folder, &["check", "whole"]).err.contains(note));
-    // The other files are read all the same, and the highest status counts.
-    let several = run(&folder, &["check", "cut", "missing", "whole"]);
+    assert!(run_line(&folder, "check plain").err.contains(note));
+    assert!(!run_line(&folder, "check whole").err.contains(note));
+    let several = run_line(&folder, "check cut missing whole");
     assert_eq!(several.status, Some(4));
     assert!(several.err.contains("missing: "), "{}", several.err);
-    assert!(
-        several.err.ends_with("2 files not read to their end\n"),
-        "{}",
-        several.err
-    );
-    assert_eq!(run(&folder, &["check", "missing"]).status, Some(3));
+    let summary =
+        "3 files, 7 lists: 6 trees, 1 no trees, 0 refused; 2 files not read to their end\n";
+    assert!(several.err.ends_with(summary), "{}", several.err);
+    assert_eq!(run_line(&folder, "check missing").status, Some(3));
+    let json = run_line(&folder, "check cut missing --json");
+    let failed: Vec<&str> = json
+        .out
+        .lines()
+        .filter(|line| !line.contains("\"list\":"))
+        .collect();
+    assert_eq!(failed.len(), 2, "{}", json.out);
+    assert!(failed[0].starts_with(r#"{"file":"cut","result":"damaged","text":"cut: damaged at"#));
+    assert!(failed[1].starts_with(r#"{"file":"missing","result":"failed","text":"missing: "#));
 }
 
 #[test]
@@ -133,30 +144,17 @@ fn diff_names_the_node_and_the_rule() {
 fn lift_carries_over_and_ends_with_1_where_lists_stay_behind() {
     let folder = folder("lift");
     write(&folder, "seven", &seven(Format::Container));
-    let lifted = run(
-        &folder,
-        &[
-            "lift", "seven", "-o", "six", "--to", "6", "--report", "report",
-        ],
-    );
+    let lifted = run_line(&folder, "lift seven -o six --to 6");
     assert_eq!(lifted.status, Some(1), "{lifted:?}");
-    assert!(
-        lifted.err.starts_with(
-            "7 lists to version 6: 3 written anew, 2 left alone (both versions read them alike), \
-         2 stayed behind (1 no trees, 0 refused, 1 not writable)\n"
-        ),
-        "{}",
-        lifted.err
-    );
-    assert!(
-        lifted
-            .err
-            .contains("rewrite them before the pack declares version 6")
-    );
+    let summary = "7 lists to version 6: 3 written anew, 2 left alone (both versions read them alike), \
+                   2 stayed behind (1 no trees, 0 refused, 1 not writable)\n";
+    assert!(lifted.err.starts_with(summary), "{}", lifted.err);
+    let warning = "rewrite them before the pack declares version 6";
+    assert!(lifted.err.contains(warning), "{}", lifted.err);
     let behind: Vec<&str> = lifted.out.lines().collect();
     assert_eq!(behind.len(), 2);
-    assert!(behind[0].ends_with("stays behind: cannot be written: node 0, `:` at 2-3, a `:` that is not the right side of a `?`"));
-    let bytes = std::fs::read(folder.join("six")).expect("a file");
+    let why = "stays behind: cannot be written: node 0, `:` at 2-3, a `:` that is not the right side of a `?`";
+    assert!(behind[0].ends_with(why), "{}", behind[0]);
     let expected = [
         (6, "(a ? b : c) ? d : e"),
         (6, "a && (b || c)"),
@@ -166,35 +164,48 @@ fn lift_carries_over_and_ends_with_1_where_lists_stay_behind() {
         (4, "a : b"),
         (6, "a + (b"),
     ];
-    assert_eq!(
-        lists(&bytes),
-        expected.map(|(version, text)| (version, text.to_string()))
-    );
+    let bytes = std::fs::read(folder.join("six")).expect("a file");
+    let expected = expected.map(|(version, text)| (version, text.to_string()));
+    assert_eq!(lists(&bytes), expected);
+}
+
+#[test]
+fn what_is_lifted_stays_as_it_is_and_is_status_0() {
+    let folder = folder("again");
+    write(&folder, "seven", &seven(Format::Container));
+    write(&folder, "good", &archive(Format::Container, &SEVEN[..5]));
+    run_line(&folder, "lift seven -o six --to 6");
+    let again = run_line(&folder, "lift six -o again --to 6");
+    let summary = "7 lists to version 6: 0 written anew, 5 left alone";
+    assert!(again.err.starts_with(summary), "{}", again.err);
+    let bytes = |name: &str| std::fs::read(folder.join(name)).expect("a file");
+    assert_eq!(bytes("again"), bytes("six"));
+    let good = run_line(&folder, "lift good -o better --to 6");
+    assert_eq!((good.status, good.out.as_str()), (Some(0), ""));
+    assert_eq!(run_line(&folder, "diff better --to 6").status, Some(0));
+}
+
+#[test]
+fn the_report_has_a_line_for_every_list() {
+    let folder = folder("report");
+    write(&folder, "seven", &seven(Format::Container));
+    run_line(&folder, "lift seven -o six --to 6 --report report");
     let report = std::fs::read_to_string(folder.join("report")).expect("a report");
     assert_eq!(report.lines().count(), 7);
     let stays = r#""version":4,"to":6,"result":"stays","node":0,"op":60,"operator":":","start":2,"end":3,"reason":"else-without-if","#;
-    assert!(
-        report
-            .lines()
-            .nth(5)
-            .is_some_and(|line| line.contains(stays)),
-        "{report}"
-    );
-    // What was lifted is lifted by now.
-    let again = run(&folder, &["lift", "six", "-o", "again", "--to", "6"]);
-    assert!(
-        again
-            .err
-            .starts_with("7 lists to version 6: 0 written anew, 5 left alone"),
-        "{}",
-        again.err
-    );
-    assert_eq!(std::fs::read(folder.join("again")).expect("a file"), bytes);
-    write(&folder, "good", &archive(Format::Container, &SEVEN[..5]));
-    assert_eq!(
-        run(&folder, &["lift", "good", "-o", "better", "--to", "6"]).status,
-        Some(0)
-    );
+    let sixth = report.lines().nth(5).expect("a line");
+    assert!(sixth.contains(stays), "{sixth}");
+    let json = run_line(&folder, "lift seven -o six --to 6 --json");
+    assert_eq!(json.out, report);
+}
+
+/// Files that a run has left beside its targets.
+fn left_over(folder: &Path) -> usize {
+    let names = std::fs::read_dir(folder).expect("a folder");
+    let names = names.map(|name| name.expect("a name").file_name());
+    names
+        .filter(|name| name.to_string_lossy().starts_with('.'))
+        .count()
 }
 
 #[test]
@@ -202,75 +213,114 @@ fn lift_writes_nothing_where_it_is_told_so() {
     let folder = folder("careful");
     let bytes = seven(Format::Container);
     write(&folder, "seven", &bytes);
-    let here = |name: &str| std::fs::read(folder.join(name)).ok();
-    let dry = run(&folder, &["lift", "seven", "--dry-run", "--to", "6"]);
+    let dry = run_line(&folder, "lift seven --dry-run --to 6");
     assert!(
         dry.status == Some(1) && dry.err.contains("nothing was written"),
         "{dry:?}"
     );
-    let strict = run(
-        &folder,
-        &["lift", "seven", "-o", "out", "--strict", "--to", "6"],
-    );
-    assert!(
-        strict.status == Some(1) && strict.err.contains("1 files were not written"),
-        "{strict:?}"
-    );
-    assert_eq!(here("out"), None);
-    let strict = run(
-        &folder,
-        &["lift", "seven", "--in-place", "--strict", "--to", "6"],
-    );
-    assert_eq!(
-        (strict.status, here("seven")),
-        (Some(1), Some(bytes.clone()))
-    );
-    for words in [
-        &["lift", "seven", "-o", "seven", "--to", "6"][..],
-        &["lift", "seven", "-o", "./../careful/seven", "--to", "6"],
-        &["lift", "seven", "--to", "6"],
-        &["lift", "seven", "-o", "out", "--in-place", "--to", "6"],
-        &["lift", "seven", "-o", "out", "--backup", "--to", "6"],
-        &["lift", "seven", "-o", "out"],
-        &["lift", "-", "--in-place", "--to", "6"],
-        &["lift", ".", "-o", "deeper/..", "--to", "6"],
-        &["lift", ".", "-o", "-", "--to", "6"],
+    for line in [
+        "lift seven -o out --strict --to 6",
+        "lift seven --in-place --strict --to 6",
     ] {
-        std::fs::create_dir_all(folder.join("deeper")).expect("a folder");
-        assert_eq!(run(&folder, words).status, Some(2), "{words:?}");
+        let strict = run_line(&folder, line);
+        assert_eq!(strict.status, Some(1), "{strict:?}");
+        assert!(
+            strict.err.contains("1 files were not written"),
+            "{strict:?}"
+        );
     }
-    assert_eq!(here("seven"), Some(bytes.clone()));
-    let device = run(&folder, &["lift", "seven", "-o", "/dev/null", "--to", "6"]);
+    let device = run_line(&folder, "lift seven -o /dev/null --to 6");
     assert_eq!(
         device.status,
         Some(3),
         "a device is not replaced: {device:?}"
     );
-    let kept = run(
-        &folder,
-        &["lift", "seven", "--in-place", "--backup", "--to", "6"],
-    );
-    assert_eq!(
-        (kept.status, here("seven.bak")),
-        (Some(1), Some(bytes.clone()))
-    );
-    assert_ne!(here("seven"), Some(bytes));
+    assert!(!folder.join("out").exists());
+    assert_eq!(std::fs::read(folder.join("seven")).expect("a file"), bytes);
+    assert_eq!(left_over(&folder), 0);
+}
+
+#[test]
+fn lift_asks_where_to_and_never_takes_its_input_for_its_output() {
+    let folder = folder("where_to");
+    let bytes = seven(Format::Container);
+    write(&folder, "seven", &bytes);
+    std::fs::create_dir(folder.join("deeper")).expect("a folder");
+    for line in [
+        "lift seven -o seven --to 6",
+        "lift seven -o ./../where_to/seven --to 6",
+        "lift seven --to 6",
+        "lift seven -o out --in-place --to 6",
+        "lift seven -o out --backup --to 6",
+        "lift seven -o out",
+        "lift - --in-place --to 6",
+        "lift . -o deeper/.. --to 6",
+        "lift . -o deeper --to 6",
+        "lift . -o - --to 6",
+    ] {
+        assert_eq!(run_line(&folder, line).status, Some(2), "{line}");
+    }
+    assert_eq!(std::fs::read(folder.join("seven")).expect("a file"), bytes);
+}
+
+#[test]
+fn a_backup_is_the_old_file_and_replaces_none() {
+    let folder = folder("backup");
+    let bytes = seven(Format::Container);
+    write(&folder, "seven", &bytes);
+    let here = |name: &str| std::fs::read(folder.join(name)).expect("a file");
+    let kept = run_line(&folder, "lift seven --in-place --backup --to 6");
+    assert_eq!(kept.status, Some(1), "{kept:?}");
+    assert!(here("seven.bak") == bytes && here("seven") != bytes);
     let lifted = here("seven");
-    let taken = run(
-        &folder,
-        &["lift", "seven", "--in-place", "--backup", "--to", "5"],
+    let taken = run_line(&folder, "lift seven --in-place --backup --to 5");
+    assert_eq!(taken.status, Some(3), "{taken:?}");
+    assert!(here("seven.bak") == bytes && here("seven") == lifted);
+    assert_eq!(left_over(&folder), 0);
+}
+
+#[test]
+fn lists_that_are_refused_are_carried_along() {
+    let folder = folder("refused");
+    let mut writer = ListsWriter::new(Vec::new(), Format::Container).expect("bytes");
+    let long = words(&"a ".repeat(4_097));
+    let kept = [
+        vec![1 << 29 | 111, 0, 7],
+        words("a + b")[1..].to_vec(),
+        long,
+    ];
+    for list in &kept {
+        writer.write(4, list).expect("bytes");
+    }
+    write(&folder, "refused", &writer.finish().expect("bytes").0);
+    let checked = run_line(&folder, "check refused --json");
+    assert_eq!(checked.status, Some(1), "{checked:?}");
+    let results = checked
+        .out
+        .lines()
+        .filter(|line| line.contains(r#""result":"refused""#));
+    assert_eq!(results.count(), 3, "{}", checked.out);
+    let lifted = run_line(&folder, "lift refused -o out --to 6");
+    assert_eq!(lifted.status, Some(1), "{lifted:?}");
+    assert!(
+        lifted
+            .err
+            .contains("3 stayed behind (0 no trees, 3 refused"),
+        "{}",
+        lifted.err
     );
+    let bytes = |name: &str| std::fs::read(folder.join(name)).expect("a file");
+    assert_eq!(bytes("out"), bytes("refused"));
+    for number in 0..3 {
+        let shown = run(&folder, &["read", &format!("refused#{number}")]);
+        assert_eq!(shown.status, Some(1), "{shown:?}");
+    }
+    // A word of kind 0 within a list cannot be written plainly.
+    let plain = run_line(&folder, "lift refused -o plain --to 6 --plain");
     assert_eq!(
-        (taken.status, here("seven")),
-        (Some(3), lifted),
-        "{taken:?}"
+        (plain.status, folder.join("plain").exists()),
+        (Some(3), false)
     );
-    let names = std::fs::read_dir(&folder).expect("a folder");
-    let left = names.filter(|name| {
-        name.as_ref()
-            .is_ok_and(|name| name.file_name().to_string_lossy().starts_with('.'))
-    });
-    assert_eq!(left.count(), 0, "nothing is left over");
 }
 
 #[test]

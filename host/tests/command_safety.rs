@@ -202,6 +202,25 @@ fn where_the_file_cannot_grow_the_old_one_is_whole() {
     assert!(!folder.join("other").exists());
 }
 
+/// Runs a shell's lines where file systems can be mounted; none where the system does not allow it, which is said.
+fn run_in_namespace(folder: &Path, script: &str) -> Option<Run> {
+    let mut unshare = Command::new("unshare");
+    unshare
+        .current_dir(folder)
+        .args(["-r", "-m", "sh", "-c", script]);
+    let ran = unshare
+        .arg(env!("CARGO_BIN_EXE_sorbrudder"))
+        .output()
+        .map(Run::of);
+    match ran {
+        Ok(ran) if ran.status != Some(77) && !ran.err.starts_with("unshare:") => Some(ran),
+        other => {
+            eprintln!("no file system can be mounted here, and the test was left out: {other:?}");
+            None
+        }
+    }
+}
+
 #[test]
 fn on_a_full_file_system_the_old_file_is_whole() {
     let folder = folder("small");
@@ -213,27 +232,25 @@ fn on_a_full_file_system_the_old_file_is_whole() {
          cmp big ../big && ls -A",
         old.len() * 3 / 2 / 1024
     );
-    let mut unshare = Command::new("unshare");
-    unshare.current_dir(&folder).args([
-        "-r",
-        "-m",
-        "sh",
-        "-c",
-        &script,
-        env!("CARGO_BIN_EXE_sorbrudder"),
-    ]);
-    let Ok(output) = unshare.output() else {
-        return eprintln!("no unshare: the small file system was left out");
+    let Some(ran) = run_in_namespace(&folder, &script) else {
+        return;
     };
-    let ran = Run::of(output);
-    if ran.status == Some(77) || ran.err.starts_with("unshare:") {
-        return eprintln!(
-            "no mount: the small file system was left out ({})",
-            ran.err.trim_end()
-        );
-    }
     assert_eq!(ran.out, "3\nbig\n", "{ran:?}");
     assert!(ran.err.contains("No space left on device"), "{ran:?}");
+}
+
+#[test]
+fn in_a_folder_that_cannot_be_written_the_old_file_is_whole() {
+    let folder = folder("read_only");
+    old_and_new(&folder, 10);
+    std::fs::create_dir(folder.join("disk")).expect("a folder");
+    let script = "mount -t tmpfs none disk || exit 77; cp big disk/big; mount -o remount,ro disk || exit 77; cd disk; \
+                  \"$0\" lift big --in-place --to 6; echo $?; cmp big ../big && ls -A";
+    let Some(ran) = run_in_namespace(&folder, script) else {
+        return;
+    };
+    assert_eq!(ran.out, "3\nbig\n", "{ran:?}");
+    assert!(ran.err.contains("Read-only file system"), "{ran:?}");
 }
 
 #[test]

@@ -2,7 +2,7 @@
 
 mod common;
 
-use common::command::{SEVEN, archive, command, folder, run};
+use common::command::{SEVEN, archive, command, folder, run, run_line};
 use sorbrudder::archive::Format;
 use std::io::Read as _;
 use std::path::Path;
@@ -146,56 +146,60 @@ fn the_page_marks_what_differs_and_needs_nothing_else() {
 }
 
 #[test]
-fn help_is_help_and_wrong_words_are_told() {
-    let run = |words: &[&str]| run(Path::new("."), words);
-    for words in [
-        &["--help"][..],
-        &["help"],
-        &["-h"],
-        &["help", "lift"],
-        &["lift", "--help"],
+fn help_is_help() {
+    let run = |line: &str| run_line(Path::new("."), line);
+    for line in [
+        "--help",
+        "help",
+        "-h",
+        "help lift",
+        "lift --help",
+        "lift x -o y -h",
     ] {
-        let help = run(words);
-        assert_eq!((help.status, help.err.as_str()), (Some(0), ""), "{words:?}");
-        assert!(help.out.starts_with("sorbrudder"), "{words:?}");
+        let help = run(line);
+        assert_eq!((help.status, help.err.as_str()), (Some(0), ""), "{line}");
+        assert!(help.out.starts_with("sorbrudder"), "{line}");
     }
+    let all = run("--help").out;
     for command in [
         "check", "diff", "lift", "read", "versions", "explain", "draw", "ops",
     ] {
-        let help = run(&[command, "--help"]);
+        let help = run(&format!("{command} --help"));
         assert!(
             help.status == Some(0) && help.out.contains(command),
             "{command}"
         );
+        assert!(all.contains(&format!("sorbrudder {command}")), "{command}");
+    }
+}
+
+#[test]
+fn wrong_words_are_told() {
+    for line in [
+        "lst",
+        "help lst",
+        "check",
+        "check --jsn x",
+        "check --json=yes x",
+        "diff x",
+        "diff x --to 32768",
+        "diff x --to",
+        "read -e $",
+        "read",
+        "draw -e a",
+        "draw -e a --at 4 -o x",
+        "ops x",
+    ] {
+        let wrong = run_line(Path::new("."), line);
+        assert_eq!((wrong.status, wrong.out.as_str()), (Some(2), ""), "{line}");
         assert!(
-            run(&["--help"])
-                .out
-                .contains(&format!("sorbrudder {command}"))
+            wrong.err.starts_with("sorbrudder: "),
+            "{line}: {}",
+            wrong.err
         );
     }
-    let wrong: [&[&str]; 12] = [
-        &[],
-        &["lst"],
-        &["help", "lst"],
-        &["check"],
-        &["check", "--jsn", "x"],
-        &["diff", "x"],
-        &["diff", "x", "--to", "32768"],
-        &["diff", "x", "--to"],
-        &["read", "-e", "a $ b"],
-        &["read"],
-        &["draw", "-e", "a"],
-        &["ops", "x"],
-    ];
-    for words in wrong {
-        let wrong = run(words);
-        assert_eq!(
-            (wrong.status, wrong.out.as_str()),
-            (Some(2), ""),
-            "{words:?}"
-        );
-        assert!(!wrong.err.is_empty(), "{words:?}");
-    }
+    let nothing = run(Path::new("."), &[]);
+    assert_eq!((nothing.status, nothing.out.as_str()), (Some(2), ""));
 }
 
 #[test]

@@ -4,6 +4,14 @@ use super::{MOST_WORDS, ZEROS};
 use std::{fmt, io};
 
 /// Why the next list of a file cannot be had.
+///
+/// ```
+/// use sorbrudder::archive::{ArchiveError, Damage, Lists};
+///
+/// let why = Lists::new(&[][..]).unwrap_err();
+/// assert!(matches!(why, ArchiveError::Damaged { damage: Damage::Empty, byte: 0, list: 0 }));
+/// assert_eq!(why.to_string(), "damaged at byte 0 (list 0): the file is empty");
+/// ```
 #[derive(Debug)]
 #[non_exhaustive]
 pub enum ArchiveError {
@@ -21,6 +29,10 @@ pub enum ArchiveError {
 }
 
 /// What is wrong with a file's bytes.
+///
+/// ```
+/// assert_eq!(sorbrudder::archive::Damage::CutWord.to_string(), "it ends within a word");
+/// ```
 #[derive(Copy, Clone, Debug, PartialEq, Eq)]
 #[non_exhaustive]
 pub enum Damage {

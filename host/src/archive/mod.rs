@@ -33,6 +33,14 @@ pub use read::{List, Lists};
 pub use write::{ListsWriter, Totals};
 
 /// How a file holds its lists.
+///
+/// ```
+/// use sorbrudder::archive::{Format, ListsWriter};
+///
+/// let writer = ListsWriter::new(Vec::new(), Format::Container)?;
+/// assert!(writer.finish()?.0.starts_with(b"\x89SBR"));
+/// # Ok::<(), std::io::Error>(())
+/// ```
 #[derive(Copy, Clone, Debug, PartialEq, Eq, Hash)]
 pub enum Format {
     /// Lists one after the other, each opened by a word of kind 0 with its version. Nothing says how many there are: a file that is cut
@@ -55,6 +63,12 @@ const LAYOUT: u32 = 1;
 const END: u32 = u32::MAX;
 
 /// The most words of a list in a file. A list that can be read has at most 20,480; a longer one is carried along as it is.
+///
+/// ```
+/// use sorbrudder::{MOST_TOKENS, Token, archive};
+///
+/// assert!(MOST_TOKENS * Token::WORDS < archive::MOST_WORDS);
+/// ```
 pub const MOST_WORDS: usize = 65_536;
 
 /// So many empty lists of version 0 in a row are no lists but zeros, as a failing disk or a crash leaves them.

@@ -9,6 +9,15 @@ use crate::Token;
 use std::io::Read;
 
 /// A list of a file.
+///
+/// ```
+/// use sorbrudder::archive::Lists;
+///
+/// let mut lists = Lists::new(&[4, 0, 0, 0, 6, 0, 0, 0][..]).unwrap();
+/// lists.next_list().unwrap();
+/// let second = lists.next_list().unwrap().unwrap();
+/// assert_eq!((second.number, second.byte, second.version, second.words), (1, 4, 6, &[][..]));
+/// ```
 #[derive(Copy, Clone, Debug, PartialEq, Eq)]
 #[non_exhaustive]
 pub struct List<'w> {
@@ -23,6 +32,17 @@ pub struct List<'w> {
 }
 
 /// Reads the lists of a stream of either format. It holds one list, however long the stream is.
+///
+/// ```
+/// use sorbrudder::archive::Lists;
+///
+/// let file: &[u8] = &[6, 0, 0, 0];
+/// let mut lists = Lists::new(file)?;
+/// while let Some(list) = lists.next_list()? {
+///     assert_eq!(list.version, 6);
+/// }
+/// # Ok::<(), sorbrudder::archive::ArchiveError>(())
+/// ```
 #[derive(Debug)]
 pub struct Lists<R> {
     words: Words<R>,
@@ -80,16 +100,36 @@ impl<R: Read> Lists<R> {
     }
 
     /// The format of the stream.
+    ///
+    /// ```
+    /// use sorbrudder::archive::{Format, Lists};
+    ///
+    /// assert_eq!(Lists::new(&[6, 0, 0, 0][..]).unwrap().format(), Format::Words);
+    /// ```
     pub fn format(&self) -> Format {
         self.format
     }
 
     /// How many lists and words were read so far.
+    ///
+    /// ```
+    /// use sorbrudder::archive::Lists;
+    ///
+    /// let mut lists = Lists::new(&[6, 0, 0, 0][..]).unwrap();
+    /// while lists.next_list().unwrap().is_some() {}
+    /// assert_eq!((lists.totals().lists, lists.totals().words), (1, 0));
+    /// ```
     pub fn totals(&self) -> Totals {
         self.totals
     }
 
-    /// The byte of the stream that was read last.
+    /// The byte of the stream after what was read.
+    ///
+    /// ```
+    /// use sorbrudder::archive::Lists;
+    ///
+    /// assert_eq!(Lists::new(&[6, 0, 0, 0][..]).unwrap().byte(), 4);
+    /// ```
     pub fn byte(&self) -> u64 {
         self.words.byte()
     }

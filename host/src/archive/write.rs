@@ -5,6 +5,15 @@ use super::{END, Format, LAYOUT, MAGIC, MOST_WORDS, version_word};
 use std::io::{self, Write};
 
 /// How many lists, and how many words of lists.
+///
+/// ```
+/// use sorbrudder::archive::{Format, ListsWriter};
+///
+/// let mut writer = ListsWriter::new(Vec::new(), Format::Words).unwrap();
+/// writer.write(6, &[1 << 29]).unwrap();
+/// let (_, totals) = writer.finish().unwrap();
+/// assert_eq!((totals.lists, totals.words), (1, 1));
+/// ```
 #[derive(Copy, Clone, Debug, Default, PartialEq, Eq, Hash)]
 #[non_exhaustive]
 pub struct Totals {
@@ -29,6 +38,14 @@ impl Totals {
 }
 
 /// Writes lists to a stream of either format. What it holds does not grow; give it a buffered stream.
+///
+/// ```
+/// use sorbrudder::archive::{Format, ListsWriter};
+///
+/// let mut writer = ListsWriter::new(Vec::new(), Format::Container).unwrap();
+/// writer.write(6, &[]).unwrap();
+/// assert_eq!(writer.finish().unwrap().0.len(), 16 + 12 + 24);
+/// ```
 pub struct ListsWriter<W> {
     to: W,
     format: Format,
@@ -67,6 +84,14 @@ impl<W: Write> ListsWriter<W> {
     ///
     /// A list of more than [`MOST_WORDS`] words is an error, and so is, in a file of words, a list with a word of kind 0, which would
     /// begin another list.
+    ///
+    /// ```
+    /// use sorbrudder::archive::{Format, ListsWriter};
+    ///
+    /// let mut writer = ListsWriter::new(Vec::new(), Format::Words).unwrap();
+    /// assert!(writer.write(6, &[1 << 29]).is_ok());
+    /// assert!(writer.write(6, &[0]).is_err());
+    /// ```
     pub fn write(&mut self, version: i16, words: &[u32]) -> io::Result<()> {
         let splits = self.format == Format::Words && words.iter().any(|word| word >> 29 == 0);
         if words.len() > MOST_WORDS || splits {
@@ -93,6 +118,13 @@ impl<W: Write> ListsWriter<W> {
     }
 
     /// Writes the end, and gives the stream back, flushed, with how much was written.
+    ///
+    /// ```
+    /// use sorbrudder::archive::{Format, ListsWriter};
+    ///
+    /// let writer = ListsWriter::new(Vec::new(), Format::Words).unwrap();
+    /// assert_eq!(writer.finish().unwrap().0, []);
+    /// ```
     pub fn finish(mut self) -> io::Result<(W, Totals)> {
         if self.format == Format::Container {
             let [a, b, c, d] = self.totals.as_words();

@@ -1,5 +1,5 @@
-/* Stops a program at the Nth of its calls that change files, to be loaded before it (LD_PRELOAD). STOP_AT is N, counted from 1. The program is
- * killed there, a write half done; with STOP_FULL the call fails as on a full disk, and so do all writes after it. */
+/* Stops a program at the Nth of its calls that change files, to be loaded before it (LD_PRELOAD). STOP_AT is N, counted from 1. The
+ * program is killed there, a write half done; with STOP_FULL the call fails as on a full disk, and so do all such calls after it. */
 #define _GNU_SOURCE
 #include <dlfcn.h>
 #include <errno.h>

@@ -9,6 +9,7 @@ use std::process::{Command, Output, Stdio};
 /// An empty folder of this name.
 pub fn folder(name: &str) -> PathBuf {
     let folder = Path::new(env!("CARGO_TARGET_TMPDIR")).join(name);
+    let _ = std::fs::remove_file(&folder);
     let _ = std::fs::remove_dir_all(&folder);
     std::fs::create_dir_all(&folder).expect("a folder for the test");
     folder
@@ -41,6 +42,11 @@ impl Run {
 pub fn run(folder: &Path, words: &[&str]) -> Run {
     let run = command().current_dir(folder).args(words).output();
     Run::of(run.expect("cargo test builds the command"))
+}
+
+/// Runs the command in a folder with the words of a line.
+pub fn run_line(folder: &Path, line: &str) -> Run {
+    run(folder, &line.split(' ').collect::<Vec<_>>())
 }
 
 /// Runs the command with these bytes as its input; gives its output too, which may be no text.

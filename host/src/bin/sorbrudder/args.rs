@@ -58,25 +58,36 @@ impl Args {
                 args.rest.push(word.clone());
                 continue;
             }
-            let (name, joined) = match text.split_once('=') {
-                Some((name, joined)) => (name, Some(OsString::from(joined))),
-                None => (&*text, None),
-            };
-            let Some(option) = known.iter().find(|option| option.name == name) else {
-                return Err(args.wrong(&format!("there is no option `{name}`")));
-            };
-            let value = match (option.has_value, joined) {
-                (true, Some(joined)) => joined,
-                (true, None) => match words.next() {
-                    Some(value) => value.clone(),
-                    None => return Err(args.wrong(&format!("`{name}` lacks its value"))),
-                },
-                (false, None) => OsString::new(),
-                (false, Some(_)) => return Err(args.wrong(&format!("`{name}` takes no value"))),
-            };
-            args.options.push((option.name, value));
+            args.take(&text, known, &mut words)?;
         }
         Ok(args)
+    }
+
+    /// An option, with its value from the same word or from the next.
+    fn take<'w>(
+        &mut self,
+        word: &str,
+        known: &[Option],
+        words: &mut impl Iterator<Item = &'w OsString>,
+    ) -> Result<(), Failure> {
+        let (name, joined) = match word.split_once('=') {
+            Some((name, joined)) => (name, Some(OsString::from(joined))),
+            None => (word, None),
+        };
+        let Some(option) = known.iter().find(|option| option.name == name) else {
+            return Err(self.wrong(&format!("there is no option `{name}`")));
+        };
+        let value = match (option.has_value, joined) {
+            (true, Some(joined)) => joined,
+            (true, None) => match words.next() {
+                Some(value) => value.clone(),
+                None => return Err(self.wrong(&format!("`{name}` lacks its value"))),
+            },
+            (false, None) => OsString::new(),
+            (false, Some(_)) => return Err(self.wrong(&format!("`{name}` takes no value"))),
+        };
+        self.options.push((option.name, value));
+        Ok(())
     }
 
     /// A complaint about the arguments.

@@ -43,7 +43,7 @@ pub fn run(args: &Args) -> Result<Status, Failure> {
         is_closed: false,
     };
     let check = |file: &Path, teller: &mut Teller<Found>| check_file(file, is_json, teller);
-    let status = several::each(&files, &mut stdout, check, |found| {
+    let status = several::each(&files, is_json, &mut stdout, check, |found| {
         sum.files += 1;
         sum.lists += found.lists;
         sum.trees += found.trees;

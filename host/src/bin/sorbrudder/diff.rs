@@ -64,7 +64,7 @@ pub fn run(args: &Args) -> Result<Status, Failure> {
         is_closed: false,
     };
     let diff = |file: &Path, teller: &mut Teller<Found>| diff_file(file, to, is_json, teller);
-    let status = several::each(&files, &mut stdout, diff, |found| sum.join(found))?;
+    let status = several::each(&files, is_json, &mut stdout, diff, |found| sum.join(found))?;
     eprintln!(
         "{} lists at version {to}: {} read alike, {} otherwise, {} trees no longer, {} trees only then, {} no trees at all, {} refused",
         sum.lists, sum.same, sum.differ, sum.only_old, sum.only_new, sum.no_trees, sum.refused,

@@ -18,7 +18,7 @@ sorbrudder: archives of Molang token lists, checked, compared, lifted to a versi
 
 `sorbrudder COMMAND --help` says more. Lists are numbered from 0. A folder stands for all files in it, by name, but for those whose
 names begin with a dot or end in `.bak`. `-` is standard input or output. What is told of lists goes to standard output, `--json`
-makes it a line of JSON a list; progress and the summary go to standard error. NO_COLOR is heeded.
+makes it a line of JSON a list (and one for a file that fails); progress and the summary go to standard error. NO_COLOR is heeded.
 
 Exit status: 0 all well, 1 some lists differ, stayed behind or are no trees, 2 wrong arguments, 3 input or output failed,
 4 an archive is damaged.

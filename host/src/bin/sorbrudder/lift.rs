@@ -53,7 +53,9 @@ pub fn run(args: &Args) -> Result<Status, Failure> {
     let mut lines = Lines { lines, report };
     let mut sum = Carried::default();
     let lift = |file: &Path, teller: &mut Teller<Carried>| carry::carry(file, &options, teller);
-    let status = several::each(&files, &mut lines, lift, |carried| sum.join(carried))?;
+    let status = several::each(&files, options.is_json, &mut lines, lift, |carried| {
+        sum.join(carried)
+    })?;
     if let Some(report) = lines.report {
         report.put_in_place()?;
     }

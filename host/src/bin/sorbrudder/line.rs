@@ -1,5 +1,6 @@
 //! What is told of one list: a line of text, or a line of JSON.
 
+use crate::failure::Failure;
 use crate::json::Object;
 use sorbrudder::archive::List;
 use sorbrudder::{LiftError, Op, ReadError, Span};
@@ -47,6 +48,21 @@ pub struct Line {
     pub reason: Option<&'static str>,
     /// The numbers of messages, or the number of a refusal.
     pub numbers: Vec<u32>,
+}
+
+/// The line of JSON about a file that could not be read or written to its end.
+pub fn of_failure(file: &Path, failure: &Failure) -> String {
+    let result = match failure {
+        Failure::Damaged(_) => "damaged",
+        Failure::Closed => return String::new(),
+        _ => "failed",
+    };
+    let mut object = Object::new();
+    object
+        .text("file", &file.to_string_lossy())
+        .text("result", result)
+        .text("text", failure.text().unwrap_or_default());
+    object.done() + "\n"
 }
 
 impl Line {

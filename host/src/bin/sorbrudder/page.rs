@@ -44,14 +44,7 @@ pub fn html(source: &str, readings: &[Reading; 2]) -> String {
         .collect();
     let rule = rules::between(*old, *new, &ops);
     let title = format!("Versions {old} and {new}");
-    let verdict = match (first, second, differences.len()) {
-        (Ok(_), Ok(_), 0) => "Both versions read the same tree.".to_string(),
-        (Ok(_), Ok(_), 1) => "The versions read one part otherwise; it is marked.".to_string(),
-        (Ok(_), Ok(_), count) => {
-            format!("The versions read {count} parts otherwise; they are marked.")
-        }
-        _ => "Not every version reads a tree.".to_string(),
-    };
+    let verdict = verdict(first.is_ok() && second.is_ok(), differences.len());
     let columns = [
         section(source, &readings[0], &differences, |difference| {
             difference.old
@@ -74,6 +67,17 @@ pub fn html(source: &str, readings: &[Reading; 2]) -> String {
     )
 }
 
+/// What there is to see, in a sentence.
+fn verdict(are_trees: bool, differences: usize) -> String {
+    match (are_trees, differences) {
+        (false, _) => "Not every version reads a tree.".to_string(),
+        (true, 0) => "Both versions read the same tree.".to_string(),
+        (true, 1) => "The versions read one part otherwise; it is marked.".to_string(),
+        (true, count) => format!("The versions read {count} parts otherwise; they are marked."),
+    }
+}
+
+/// A version's line and tree, or why it reads none.
 fn section<'t>(
     source: &str,
     (version, read): &Reading,

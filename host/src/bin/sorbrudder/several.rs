@@ -1,6 +1,7 @@
 //! Several files, two at a time, their output in the order of the files.
 
 use crate::failure::{Failure, Status};
+use crate::line::of_failure;
 use crate::paths::is_stream;
 use crate::progress::{PAUSE, Progress};
 use std::collections::VecDeque;
@@ -109,9 +110,11 @@ impl Sink for Stderr {
     }
 }
 
-/// Works on each file, and adds up what comes of it. A file that fails is told of, and the others are worked on all the same.
+/// Works on each file, and adds up what comes of it. A file that fails is told of, in JSON too where that is asked for, and the others are
+/// worked on all the same.
 pub fn each<T: Send>(
     files: &[PathBuf],
+    is_json: bool,
     sink: &mut dyn Sink,
     work: impl Fn(&Path, &mut Teller<T>) -> Result<T, Failure> + Sync,
     mut add: impl FnMut(T),
@@ -125,7 +128,7 @@ pub fn each<T: Send>(
             while begun.len() < AT_ONCE
                 && let Some(file) = waiting.next()
             {
-                begun.push_back(begin(scope, file, &work)?);
+                begun.push_back(begin(scope, file, is_json, &work)?);
             }
             let Some(told) = begun.pop_front() else {
                 return Ok(());
@@ -158,6 +161,7 @@ fn bytes_of(files: &[PathBuf]) -> u64 {
 fn begin<'s, T: Send + 's>(
     scope: &'s Scope<'s, '_>,
     file: &'s Path,
+    is_json: bool,
     work: &'s (impl Fn(&Path, &mut Teller<T>) -> Result<T, Failure> + Sync),
 ) -> Result<Receiver<Told<T>>, Failure> {
     let (to, told) = sync_channel(WAITING);
@@ -169,6 +173,11 @@ fn begin<'s, T: Send + 's>(
             is_closed: false,
         };
         let done = work(file, &mut teller);
+        if let Err(failure) = &done {
+            let line = of_failure(file, failure);
+            teller.report(&line);
+            teller.text(if is_json { &line } else { "" });
+        }
         teller.send();
         let _ = teller.to.send(Told::Done(done));
     };
