@@ -101,6 +101,14 @@ version 6   no tree
 }
 
 #[test]
+fn nodes_in_json_have_their_place() {
+    let json = shown(&["read", "--at", "6", "--json", "-e", "(a) * b"]);
+    let section = r#"{"op":4,"operator":"(","children":1,"start":0,"end":1,"close":3}"#;
+    let operand = r#"{"op":61,"operator":"float","children":0,"start":1,"end":2,"close":2}"#;
+    assert!(json.contains(&format!("{section},{operand}")), "{json}");
+}
+
+#[test]
 fn a_list_of_an_archive_is_shown_by_its_number() {
     let folder = folder("show");
     std::fs::write(folder.join("seven"), archive(Format::Container, &SEVEN)).expect("a file");

@@ -20,13 +20,29 @@ fn both_trees_are_walked_alike() {
             let numbers = |node: sorbrudder::Node<'_>| {
                 let children: Vec<usize> = node.children().map(|child| child.number()).collect();
                 let above: Vec<usize> = node.ancestors().map(|above| above.number()).collect();
-                (children, above, node.subtree().count())
+                (children, above, node.subtree().count(), node.close())
             };
             assert_eq!(numbers(owned), numbers(seen), "{tree}");
         }
         assert_eq!(borrowed.without_brackets(), tree.without_brackets());
     }
     assert!(trees > 3_000, "{trees}");
+}
+
+#[test]
+fn a_borrowed_section_reaches_to_its_closer() {
+    let source = "[x] ? 0 : -((a + b) * (c))";
+    let list: Tokens = source.parse().expect("the notation");
+    let mut reader = Reader::new();
+    let tree = reader.read_words(&list.words(), 6).expect("a tree");
+    let openers = tree
+        .nodes()
+        .filter(|node| node.close() != node.span().end());
+    let extents: Vec<_> = openers
+        .map(|node| node.subtree_span().of(source).expect("in the source"))
+        .collect();
+    assert_eq!(extents, ["[x]", "((a + b) * (c))", "(a + b)", "(c)"]);
+    assert_eq!(tree.root().subtree_span().of(source), Some(source));
 }
 
 fn read(text: &str, version: i16) -> Tree {
