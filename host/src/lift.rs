@@ -330,13 +330,13 @@ fn agreed(words: &[u32]) -> Vec<u32> {
     words
 }
 
-/// Whether a written list is the one that was given, but for where its closers start: the writer's start where they end, and no version
-/// looks at it.
+/// Whether a written list is the one that was given, but for where its closers start and for the spans and payloads of its semicolons: the
+/// writer gives these of its own, and no version looks at them.
 fn is_given(written: &[u32], given: &[u32]) -> bool {
-    let is_same = |(written, given): (&[u32], &[u32])| {
-        let is_closer = layout::op(written) == Some(Op::RIGHT_PARENTHESIS);
-        let from = if is_closer { 2 } else { 1 };
-        written[0] == given[0] && written[from..] == given[from..]
+    let is_same = |(written, given): (&[u32], &[u32])| match layout::op(written) {
+        Some(Op::SEMICOLON) => layout::op(given) == Some(Op::SEMICOLON),
+        Some(Op::RIGHT_PARENTHESIS) => written[0] == given[0] && written[2..] == given[2..],
+        _ => written == given,
     };
     let written_tokens = written.chunks_exact(Token::WORDS);
     let mut tokens = written_tokens.zip(given.chunks_exact(Token::WORDS));

@@ -88,9 +88,6 @@ fn what_is_not_plain_is_told_by_operator_place_and_reason() {
     assert_eq!(told("v = {a && b || c};", 5, 6).2, Unplain::NoExpression);
     let inside = Unplain::InExpression;
     assert_eq!(told("v = w = a && b || c;", 5, 6).2, inside);
-    assert_eq!(
-        told("query.x(a; b && c || d;);", 5, 6).2,
-        Unplain::Semicolon
-    );
+    assert_eq!(told("(a; b && c || d;);", 5, 6).2, Unplain::Semicolon);
     assert_eq!(told("a + + && b || c", 5, 6).2, Unplain::NoOperands);
 }
