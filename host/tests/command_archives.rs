@@ -146,7 +146,7 @@ fn lift_carries_over_and_ends_with_1_where_lists_stay_behind() {
     write(&folder, "seven", &seven(Format::Container));
     let lifted = run_line(&folder, "lift seven -o six --to 6");
     assert_eq!(lifted.status, Some(1), "{lifted:?}");
-    let summary = "7 lists to version 6: 3 written anew, 2 left alone (both versions read them alike), \
+    let summary = "7 lists to version 6: 3 written anew (0 of them scripts), 2 left alone (both versions read them alike), \
                    2 stayed behind (1 no trees, 0 refused, 1 not writable)\n";
     assert!(lifted.err.starts_with(summary), "{}", lifted.err);
     let warning = "rewrite them before the pack declares version 6";
@@ -170,13 +170,35 @@ fn lift_carries_over_and_ends_with_1_where_lists_stay_behind() {
 }
 
 #[test]
+fn scripts_are_lifted_and_counted() {
+    let folder = folder("scripts");
+    let script = "v = a ? b : c ? d : e; return v;";
+    let two = [(4, script), (4, "a ? b : c ? d : e")];
+    write(&folder, "two", &archive(Format::Container, &two));
+    let lifted = run_line(&folder, "lift two -o five --to 5");
+    let summary = "2 lists to version 5: 2 written anew (1 of them scripts), 0 left alone";
+    assert!(lifted.err.starts_with(summary), "{}", lifted.err);
+    assert_eq!(lifted.status, Some(0));
+    let bytes = std::fs::read(folder.join("five")).expect("a file");
+    let texts: Vec<String> = lists(&bytes).into_iter().map(|(_, text)| text).collect();
+    let expected = [
+        "v = ((a ? b : c) ? d : e); return v;",
+        "(a ? b : c) ? d : e",
+    ];
+    assert_eq!(texts.len(), expected.len());
+    assert_eq!(texts[1], expected[1]);
+    assert_eq!(texts[0].matches('(').count(), 2, "{}", texts[0]);
+    assert!(texts[0].ends_with(';'), "{}", texts[0]);
+}
+
+#[test]
 fn what_is_lifted_stays_as_it_is_and_is_status_0() {
     let folder = folder("again");
     write(&folder, "seven", &seven(Format::Container));
     write(&folder, "good", &archive(Format::Container, &SEVEN[..5]));
     run_line(&folder, "lift seven -o six --to 6");
     let again = run_line(&folder, "lift six -o again --to 6");
-    let summary = "7 lists to version 6: 0 written anew, 5 left alone";
+    let summary = "7 lists to version 6: 0 written anew (0 of them scripts), 5 left alone";
     assert!(again.err.starts_with(summary), "{}", again.err);
     let bytes = |name: &str| std::fs::read(folder.join(name)).expect("a file");
     assert_eq!(bytes("again"), bytes("six"));

@@ -71,9 +71,9 @@ pub fn run(args: &Args) -> Result<Status, Failure> {
 fn tell(sum: &Carried, options: &Options) {
     let (to, stayed) = (options.to, sum.stayed());
     eprintln!(
-        "{} lists to version {to}: {} written anew, {} left alone (both versions read them alike), {stayed} stayed behind \
+        "{} lists to version {to}: {} written anew ({} of them scripts), {} left alone (both versions read them alike), {stayed} stayed behind \
          ({} no trees, {} refused, {} not writable)",
-        sum.lists, sum.written, sum.same, sum.no_trees, sum.refused, sum.not_writable,
+        sum.lists, sum.written, sum.scripts, sum.same, sum.no_trees, sum.refused, sum.not_writable,
     );
     if options.target == Target::Nothing {
         eprintln!("nothing was written (--dry-run)");

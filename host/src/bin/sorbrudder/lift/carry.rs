@@ -8,7 +8,7 @@ use crate::line::{About, Line};
 use crate::replace::{self, Replacement};
 use crate::several::Teller;
 use sorbrudder::archive::{List, Lists, ListsWriter};
-use sorbrudder::{LiftError, LiftedWords, Lifter};
+use sorbrudder::{LiftError, LiftedWords, Lifter, Op};
 use std::io::{self, BufWriter, Write};
 use std::path::Path;
 use std::time::SystemTime;
@@ -18,6 +18,8 @@ use std::time::SystemTime;
 pub struct Carried {
     pub lists: u64,
     pub written: u64,
+    /// How many of those are scripts: lists of statements.
+    pub scripts: u64,
     pub same: u64,
     pub no_trees: u64,
     pub refused: u64,
@@ -46,6 +48,7 @@ impl Carried {
     pub fn join(&mut self, other: Self) {
         self.lists += other.lists;
         self.written += other.written;
+        self.scripts += other.scripts;
         self.same += other.same;
         self.no_trees += other.no_trees;
         self.refused += other.refused;
@@ -144,7 +147,11 @@ fn carry_lists<W: Write>(
     while let Some(list) = input.next_list()? {
         let about = About::list(&path, &list);
         let (line, version, words) = match lift_list(&mut lifter, &list, options) {
-            Ok(lifted) => (told(&lifted, options), options.to, lifted.words),
+            Ok(lifted) => {
+                let is_script = lifted.tree.root().op() == Op::SEMICOLON;
+                carried.scripts += u64::from(lifted.changed && is_script);
+                (told(&lifted, options), options.to, lifted.words)
+            }
             Err(why) => (
                 Line::of_lift_error(&why, options.to),
                 list.version,
