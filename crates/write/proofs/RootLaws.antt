@@ -1,7 +1,7 @@
 -- The root of a script: what the loop over its children keeps.
 use Prim.Native.Nat.{ℕ, zero, suc, _+_, _-_, _*_, _≤_, _<_}
 use mathlib.Core.Path.{_≡_, refl, ap, sym, _∙_}
-use mathlib.Core.Bool.{true, false, _&&_}
+use mathlib.Core.Bool.{true, false}
 use mathlib.Core.List.{List, []}
 use native.Mathlib.Omega.{arith}
 use native.Mathlib.Nat.{add-zero, add-suc}
@@ -19,6 +19,8 @@ use Rattle.molang.proofs.Words.{beside, other-beside}
 use Rattle.words.specs.Fields.{operatorOf}
 use Rattle.shape.specs.Shaped.{nodeLength, countIndex, Shaped, mostChildren, OneTree}
 use Rattle.shape.proofs.RowLaws.{Opened, opened, shaped-room, shaped-count, shaped-length, no-kids}
+use Rattle.write.specs.declared.reader.NodeView.{NodeView}
+use Rattle.write.specs.Reading.{viewAt}
 use Rattle.write.specs.Scripts.{holdsStatements}
 
 -- The children of a lone root are the row behind it.
@@ -76,9 +78,6 @@ module _ {tree : List ℕ} (one : OneTree tree) where
   root : Opened mostChildren 1 tree
   root = opened (one .shaped) (omega (arith, shaped-room (one .shaped)))
 
-  pub root-long : nodeLength ≤ length tree
-  root-long = root .long
-
   root-refuses : allSemicolons (treesOf (drop nodeLength tree)) ≡ false → false ≡ holdsStatements (treesOf tree)
   unfolding holdsStatements
   root-refuses e = rw (root .trees) (not-all (root .cs) (ap allSemicolons (sym (children-row (one .shaped) root)) ∙ e))
@@ -102,36 +101,44 @@ module _ {tree : List ℕ} (one : OneTree tree) where
     next : drop nodeLength (drop at tree) ≡ drop (at + nodeLength) tree
     next = drop-drop nodeLength at tree
 
-    -- What was read of the node.
-    module _ {op children after : ℕ} (isOp : op ≡ operatorOf (getD tree at 0)) (isCount : children ≡ lowOf (getD tree (at + countIndex) 0))
-        (isAfter : after ≡ at + nodeLength) where
-      here-op : here .k .op ≡ op
+    -- What was seen of the node.
+    module _ {v : NodeView} (seen : v ≡ viewAt tree at) where
+      isOp : v .op ≡ operatorOf (getD tree at 0)
+      isOp = ap (λ (w : NodeView). w .op) seen
+
+      isCount : v .children ≡ lowOf (getD tree (at + countIndex) 0)
+      isCount = ap (λ (w : NodeView). w .children) seen
+
+      isAfter : v .after ≡ at + nodeLength
+      isAfter = ap (λ (w : NodeView). w .after) seen
+
+      here-op : here .k .op ≡ (v .op)
       here-op =
           here .op ∙ (ap operatorOf (getD-drop at tree 0 0 ∙ ap (λ (m : ℕ). getD tree m 0) (add-zero at)) ∙ sym isOp)
 
-      here-low : lowOf (getD (drop at tree) countIndex 0) ≡ children
+      here-low : lowOf (getD (drop at tree) countIndex 0) ≡ (v .children)
       here-low = ap lowOf (getD-drop at tree countIndex 0) ∙ sym isCount
 
-      here-count : count (here .cs) ≡ children
+      here-count : count (here .cs) ≡ (v .children)
       here-count = here .children ∙ here-low
 
-      pub holding-falls : length tree - after < length tree - at
+      pub holding-falls : length tree - (v .after) < length tree - at
       holding-falls = omega (arith, isAfter, taken)
 
       -- A child that is no semicolon.
-      pub holding-refused : due ≡ 0 → (op ≡ Operator.semicolon → ⊥) → false ≡ holdsStatements (treesOf tree)
+      pub holding-refused : due ≡ 0 → ((v .op) ≡ Operator.semicolon → ⊥) → false ≡ holdsStatements (treesOf tree)
       unfolding otherTrees allSemicolons
       holding-refused none other =
-          let no : eqb (here .k .op) Operator.semicolon ≡ false = rw here-op (ne-eqb op Operator.semicolon other) in
+          let no : eqb (here .k .op) Operator.semicolon ≡ false = rw here-op (ne-eqb (v .op) Operator.semicolon other) in
           root-refuses (sym (h .same) ∙ rw (none, here .trees, no))
 
       -- A child that is one.
-      pub holding-child : due ≡ 0 → op ≡ Operator.semicolon → Holding tree children after
+      pub holding-child : due ≡ 0 → (v .op) ≡ Operator.semicolon → Holding tree (v .children) (v .after)
       unfolding otherTrees allSemicolons
       holding-child none semicolon =
-          let yes : eqb (here .k .op) Operator.semicolon ≡ true = rw here-op (eq-eqb op Operator.semicolon semicolon) in
-          let trees : lowOf (getD (drop at tree) countIndex 0) + here .others ≡ here .others + children = omega (arith, here-low) in
-          let shaped : Shaped mostChildren (here .others + children) (drop nodeLength (drop at tree)) = rw trees at (here .shaped) in
+          let yes : eqb (here .k .op) Operator.semicolon ≡ true = rw here-op (eq-eqb (v .op) Operator.semicolon semicolon) in
+          let trees : lowOf (getD (drop at tree) countIndex 0) + here .others ≡ here .others + (v .children) = omega (arith, here-low) in
+          let shaped : Shaped mostChildren (here .others + (v .children)) (drop nodeLength (drop at tree)) = rw trees at (here .shaped) in
           let still : allSemicolons (here .rest) ≡ allSemicolons (treesOf (drop nodeLength tree)) =
           (rw (none, here .trees, yes) at (h .same))
           in
@@ -143,7 +150,7 @@ module _ {tree : List ℕ} (one : OneTree tree) where
             same = rw (isAfter, ← next, here .below, ← here-count, other-beside (here .cs) (here .rest)) still;
           }
 
-      pub holding-few : (due ≡ 0 → ⊥) → due - 1 + children ≤ length tree
+      pub holding-few : (due ≡ 0 → ⊥) → due - 1 + (v .children) ≤ length tree
       holding-few some =
           omega (
             arith,
@@ -155,14 +162,14 @@ module _ {tree : List ℕ} (one : OneTree tree) where
           )
 
       -- A node below the child that came last.
-      pub holding-below : (due ≡ 0 → ⊥) → Holding tree (due - 1 + children) after
+      pub holding-below : (due ≡ 0 → ⊥) → Holding tree (due - 1 + (v .children)) (v .after)
       unfolding otherTrees
       holding-below some =
           let left : due ≡ suc (due - 1) = positive due some in
-          let trees : lowOf (getD (drop at tree) countIndex 0) + here .others ≡ h .others + (due - 1 + children) =
+          let trees : lowOf (getD (drop at tree) countIndex 0) + here .others ≡ h .others + (due - 1 + (v .children)) =
           omega (arith, here-low, here .isTop, left)
           in
-          let shaped : Shaped mostChildren (h .others + (due - 1 + children)) (drop nodeLength (drop at tree)) =
+          let shaped : Shaped mostChildren (h .others + (due - 1 + (v .children))) (drop nodeLength (drop at tree)) =
           rw trees at (here .shaped)
           in
           let still : allSemicolons (otherTrees (due - 1) (here .rest)) ≡ allSemicolons (treesOf (drop nodeLength tree)) =

@@ -25,7 +25,7 @@ use Rattle.write.specs.Spelling.{firstSize, nodeTokens, nodeWritten, Roo
 use Rattle.write.specs.Scripts.{eachHoldsOne, statementTokens, statementWritten, statementsWritten, StatementRoom, ScriptRoom}
 use Rattle.write.proofs.JudgeLaws.{statements-split}
 use Rattle.write.proofs.SpellLaws.{list-words-append, list-words-one, list-words-none, first-tree, first-within}
-use Rattle.write.proofs.StepLaws.{tail, tail-part, tail-length, Puts, Writes, puts-more, puts-length, part-length}
+use Rattle.write.proofs.StepLaws.{tail, tail-part, Puts, Writes, puts-more, puts-length, part-length}
 
 -- The words of a semicolon: the span of the node that the words open with, payload 0.
 abbrev semicolonWords : List ℕ → List ℕ

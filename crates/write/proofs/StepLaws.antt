@@ -31,7 +31,7 @@ tail n W = take (length W - n) (drop n W)
 pub tail-part : (n : ℕ) (W : List ℕ) → tail n W ≡ drop n W
 tail-part n W = take-all (length W - n) (drop n W) (omega (arith, length-drop n W))
 
-pub tail-length : (n : ℕ) (W : List ℕ) → length (tail n W) ≡ length W - n
+tail-length : (n : ℕ) (W : List ℕ) → length (tail n W) ≡ length W - n
 tail-length n W = rw tail-part (length-drop n W)
 
 -- The nodes that the words still hold, seven words each: document 01's remaining node count, which falls with a node's own words.

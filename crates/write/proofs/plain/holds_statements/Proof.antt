@@ -1,12 +1,11 @@
 -- `write::plain::holds_statements` meets its contract. The loop's invariant is `Holding`; the measure is the words that are left. Assumes
 -- nothing.
-use Prim.Native.Nat.{_+_, _-_, _≤_}
-use mathlib.Core.Path.{refl, ap, sym, _∙_}
+use Prim.Native.Nat.{_-_}
 use native.Mathlib.Omega.{arith}
 use borrow.Author.Needs.{needs}
 use lib.ListN.{length}
-use Rattle.write.specs.declared.reader.NodeView.{NodeView}
-use Rattle.write.proofs.RootLaws.{Holding, holding-begins, holding-room, holding-few, holding-falls, holding-refused, holding-child, holding-below, holding-ends}
+use Rattle.write.proofs.RootLaws.{Holding, holding-begins, holding-room, holding-few, holding-falls, holding-refused}
+use Rattle.write.proofs.RootLaws.{holding-child, holding-below, holding-ends}
 use Rattle.write.proofs.plain.holds_statements.Statement.{statement}
 use Rattle.write.proofs.plain.holds_statements.Tie as tie
 
@@ -26,25 +25,19 @@ returns : tie.Need-returns Inv-loop μ-loop
 returns c =
     let view = c .before .before .before in
     let head = view .before .before in
-    let seen = view .view-node .ensures in
-    holding-refused (head .before .before .pre) (head .loop .inv) (view .before .loop-test .taken) (ap (λ (v : NodeView). v .op) seen)
-    (ap (λ (v : NodeView). v .children) seen) (ap (λ (v : NodeView). v .after) seen) (c .before .before .if1 .taken) (c .if2 .taken)
+    holding-refused (head .before .before .pre) (head .loop .inv) (view .before .loop-test .taken) (view .view-node .ensures) (c .before .before .if1 .taken) (c .if2 .taken)
 
 loop-less : tie.Need-loop-less Inv-loop μ-loop
 loop-less c =
     let view = c .before .before .before in
     let head = view .before .before in
-    let seen = view .view-node .ensures in
-    holding-falls (head .before .before .pre) (head .loop .inv) (view .before .loop-test .taken) (ap (λ (v : NodeView). v .op) seen)
-    (ap (λ (v : NodeView). v .children) seen) (ap (λ (v : NodeView). v .after) seen)
+    holding-falls (head .before .before .pre) (head .loop .inv) (view .before .loop-test .taken) (view .view-node .ensures)
 
 loop-again : tie.Need-loop-again Inv-loop μ-loop
 loop-again c =
     let view = c .before .before .before in
     let head = view .before .before in
-    let seen = view .view-node .ensures in
-    holding-child (head .before .before .pre) (head .loop .inv) (view .before .loop-test .taken) (ap (λ (v : NodeView). v .op) seen)
-    (ap (λ (v : NodeView). v .children) seen) (ap (λ (v : NodeView). v .after) seen) (c .before .before .if1 .taken) (c .if2 .left)
+    holding-child (head .before .before .pre) (head .loop .inv) (view .before .loop-test .taken) (view .view-node .ensures) (c .before .before .if1 .taken) (c .if2 .left)
 
 sub-due : tie.Need-sub-due Inv-loop μ-loop
 sub-due c = search needs
@@ -53,26 +46,20 @@ add-due : tie.Need-add-due Inv-loop μ-loop
 add-due c =
     let view = c .before in
     let head = view .before .before in
-    let seen = view .view-node .ensures in
-    let few = holding-few (head .before .before .pre) (head .loop .inv) (view .before .loop-test .taken) (ap (λ (v : NodeView). v .op) seen)
-    (ap (λ (v : NodeView). v .children) seen) (ap (λ (v : NodeView). v .after) seen) (c .if1 .left) in
+    let few = holding-few (head .before .before .pre) (head .loop .inv) (view .before .loop-test .taken) (view .view-node .ensures) (c .if1 .left) in
     omega (arith, few)
 
 loop-less-2 : tie.Need-loop-less-2 Inv-loop μ-loop
 loop-less-2 c =
     let view = c .before in
     let head = view .before .before in
-    let seen = view .view-node .ensures in
-    holding-falls (head .before .before .pre) (head .loop .inv) (view .before .loop-test .taken) (ap (λ (v : NodeView). v .op) seen)
-    (ap (λ (v : NodeView). v .children) seen) (ap (λ (v : NodeView). v .after) seen)
+    holding-falls (head .before .before .pre) (head .loop .inv) (view .before .loop-test .taken) (view .view-node .ensures)
 
 loop-again-2 : tie.Need-loop-again-2 Inv-loop μ-loop
 loop-again-2 c =
     let view = c .before in
     let head = view .before .before in
-    let seen = view .view-node .ensures in
-    holding-below (head .before .before .pre) (head .loop .inv) (view .before .loop-test .taken) (ap (λ (v : NodeView). v .op) seen)
-    (ap (λ (v : NodeView). v .children) seen) (ap (λ (v : NodeView). v .after) seen) (c .if1 .left)
+    holding-below (head .before .before .pre) (head .loop .inv) (view .before .loop-test .taken) (view .view-node .ensures) (c .if1 .left)
 
 returns-2 : tie.Need-returns-2 Inv-loop μ-loop
 returns-2 c = holding-ends (c .before .before .before .pre) (c .before .loop .inv) (c .loop-test .left)

@@ -1,8 +1,8 @@
 -- `write::statements::write_statement` meets its contract: what the statement holds, then its semicolon. Assumes nothing.
-use mathlib.Core.Path.{_≡_, ap, sym, _∙_}
 use native.Mathlib.Omega.{arith}
 use borrow.Author.Needs.{needs}
-use Rattle.write.proofs.StatementLaws.{statement-long, held-room, semicolon-long, semicolon-room, statement-within, statement-list, statement-writes}
+use Rattle.write.proofs.StatementLaws.{statement-long, held-room, semicolon-long, semicolon-room, statement-within}
+use Rattle.write.proofs.StatementLaws.{statement-list, statement-writes}
 use Rattle.write.proofs.statements.write_statement.Statement.{statement}
 use Rattle.write.proofs.statements.write_statement.Tie as tie
 
