@@ -1,5 +1,5 @@
-# The commands of the project; README.md says what each does.
-.PHONY: test edits believed library compare bench host demo
+# The commands of the project; `make` alone lists them, and README.md says more of each.
+.PHONY: help test edits believed library compare bench host command demo install prebuilt browser
 
 # A relative folder is meant from here, and cargo builds each crate in the crate's own.
 ifdef MOLANGX_SRC
@@ -13,6 +13,20 @@ override SORBRUDDER_BEFORE := $(abspath $(SORBRUDDER_BEFORE))
 export SORBRUDDER_BEFORE
 endif
 
+help:
+	@echo 'make command    builds the command host/target/release/sorbrudder'
+	@echo 'make demo       writes sample archives to target/sample, and checks, compares, lifts and draws them'
+	@echo 'make install    installs the command, the library, its header and its pkg-config file (PREFIX=/usr/local DESTDIR=)'
+	@echo 'make library    proves the library and builds it, where something changed; without rt the prebuilt one is used'
+	@echo 'make host       runs the tests of the host crate'
+	@echo 'make browser    looks at a drawing in a headless Chromium, and takes a screenshot'
+	@echo 'make test       the gate: everything from nothing, which takes long; removes target/ first'
+	@echo 'make compare    compares the library with the Rust parser (LISTS=5000000 SEED=1)'
+	@echo 'make bench      times reading, writing and lifting (SORBRUDDER_BEFORE=folder of an archive to time beside)'
+	@echo 'make edits      tries the must-fail edits that the gate leaves out, hours'
+	@echo 'make believed   prints what must be believed, with its lines'
+	@echo 'make prebuilt   fills prebuilt/ with the library as it is proved here'
+
 test:
 	@tools/gate.sh
 
@@ -24,9 +38,16 @@ edits:
 believed:
 	@tools/believed.py
 
-# The proved static library, target/staticlib/libsorbrudder.a. The crates below it are proved again only where they changed.
-library:
-	@rt staticlib sorbrudder
+# The proved static library. It is built again only where something that it is proved from changed.
+LIBRARY := target/staticlib/libsorbrudder.a
+library: $(LIBRARY)
+
+$(LIBRARY): crates.txt $(shell find crates -name must-fail -prune -o -type f -print)
+	@tools/library.sh
+
+# The library as it is proved here, for machines without rt; the gate compares it with what it builds.
+prebuilt: library
+	@tools/prebuilt.sh
 
 LISTS ?= 5000000
 
@@ -34,12 +55,24 @@ compare: library
 	@cd compare && cargo run --release --offline --quiet --bin compare $(LISTS) $(SEED)
 
 bench: library
+	@cd host && cargo bench --offline --quiet --bench lift
 	@cd compare && cargo run --release --offline --quiet --bin bench
 
 host: library
 	@cd host && cargo test --release --offline
 
-demo: library
-	@cd host && cargo run --release --offline --quiet --example versions
+command: library
+	@cd host && cargo build --release --offline --quiet --bin sorbrudder
+
+demo: command
+	@tools/demo.sh
+
+browser: command
+	@tools/browser.sh
+
+PREFIX ?= /usr/local
+DESTDIR ?=
+install: command
+	@tools/install.sh '$(DESTDIR)' '$(PREFIX)'
 
 include tools/definition-check.mk

@@ -1,13 +1,39 @@
 /* Sorbrudder by the C convention: Molang token lists read into trees, and plain trees written as token lists.
  *
- * Buffers are lent as a pointer to 32-bit words, aligned as a uint32_t is, and their number of words. A buffer that is written overlaps no
- * other buffer of the call, and nobody else writes any of them while the call runs. A pointer is never null, not even beside a length of 0.
+ * Words. Lists, trees and messages are arrays of 32-bit words. The top three bits of a token's or a node's word are its kind; bits that are
+ * not named below are 0.
  *
- * The call stack is the caller's to provide, and the proofs say nothing of it: measured, reading takes at most 2 KiB and writing at most
- * 1,000 KiB (docs/notes/host.md).
+ *   a token, five words              kind   the other bits
+ *     0  SORBRUDDER_WORD_OP          1      bits 0-7 the operator (SORBRUDDER_OP_..), bits 8-11 what it carries (SORBRUDDER_PAYLOAD_..)
+ *     1  SORBRUDDER_WORD_START       2      bits 0-28 where it starts in the source
+ *     2  SORBRUDDER_WORD_END         3      bits 0-28 where it ends; the start may exceed the end
+ *     3  SORBRUDDER_WORD_UPPER       4      bits 0-15 the upper half of the value that it carries
+ *     4  SORBRUDDER_WORD_LOWER       5      bits 0-15 the lower half; both are 0 where it carries nothing
+ *   a tree's node, a token's words and
+ *     5  SORBRUDDER_WORD_CHILDREN    6      bits 0-13 the number of its children
+ *     6  SORBRUDDER_WORD_CLOSE       7      bits 0-28 where it closes: a closed section, whose span is its opener's, at the end of its
+ *                                           closer, every other node at its own span's end
+ *
+ * The nodes of a tree stand parent first, then its children in order, each with all that is below it.
+ *
+ *   a message, eight words
+ *     0      its number (SORBRUDDER_MESSAGE_..)
+ *     1, 2   where in the source it points: start, end
+ *     3-7    its arguments, 0 where it has fewer; an operator is given as its number:
+ *            MULTIPLE_ROOTS: how many roots. CLOSING_MISMATCH: place of the opener from 1, opener, closer wanted, closer found, its place
+ *            from 0. SECTION_NOT_CLOSED: closer wanted, opener. NO_CLOSING_SYMBOL: place of the opener from 1, opener, closer wanted.
+ *            MATH_AT_END, MATH_WITHOUT_PARENTHESIS: the function, and its value where it is one of the host's. EMPTY_PARAMETER_LIST,
+ *            BINARY_AT_END, UNKNOWN_OPERATION, UNARY_WITHOUT_OPERAND, TERNARY_WITHOUT_OPERANDS: the operator. The others have none.
+ *
+ * Buffers are lent as a pointer to words, aligned as a uint32_t is, and their number of words. A buffer that is written overlaps no other
+ * buffer of the call, and nobody else writes any of them while the call runs. A pointer is never null, not even beside a length of 0.
+ *
+ * Threads. The functions keep nothing between calls and have no state of their own: any number of threads may call them at once, each with
+ * buffers of its own. The call stack is the caller's to provide, and the proofs say nothing of it: measured, reading takes at most 2 KiB
+ * and writing at most 1,000 KiB (docs/notes/host.md).
  *
  * An answer is one number. Bits 0-31: the count of nodes, tokens or messages, or a refusal's place. Bits 32-39: a refusal's number, else 0.
- * Bits 40-47: 0 for a tree or a written list, 1 for messages, 2 for a refusal. The functions at the end take it apart.
+ * Bits 40-47: 0 for a tree or a written list, 1 for messages, 2 for a refusal. The functions below take it apart.
  */
 #ifndef SORBRUDDER_H
 #define SORBRUDDER_H
@@ -19,33 +45,139 @@
 extern "C" {
 #endif
 
+/* The version of this header, and the number of the layout and the calls that it describes. */
+#define SORBRUDDER_VERSION_MAJOR 0
+#define SORBRUDDER_VERSION_MINOR 1
+#define SORBRUDDER_VERSION_PATCH 0
+#define SORBRUDDER_ABI_VERSION 1
+
 /* What an answer is (`sorbrudder_kind`). */
 #define SORBRUDDER_DONE 0
 #define SORBRUDDER_MESSAGES 1
 #define SORBRUDDER_REFUSED 2
 
-/* Words of a token, of a tree node and of a message. Bits 29-31 of a word are its kind. A token is its operator (bits 0-7) and payload
- * variant (8-11), kind 1; its span's start, kind 2, and end, kind 3; its payload value's upper and lower half, kinds 4 and 5. A node is a
- * token, the number of its children, kind 6, and where it closes, kind 7: a closed section, whose span is its opener's, at the end of its
- * closer, every other node at its own span's end. */
+/* Words of a token, of a tree node and of a message. */
 #define SORBRUDDER_TOKEN_WORDS 5
 #define SORBRUDDER_NODE_WORDS 7
 #define SORBRUDDER_MESSAGE_WORDS 8
 
 /* The most tokens of a list, and the buffers that reading n tokens asks for, in words. */
 #define SORBRUDDER_MOST_TOKENS 4096
-#define SORBRUDDER_TREE_BUFFER(n) (21 * (size_t)(n))
-#define SORBRUDDER_MESSAGE_BUFFER 16
+#define SORBRUDDER_TREE_BUFFER(n) (3 * SORBRUDDER_NODE_WORDS * (size_t)(n))
+#define SORBRUDDER_MESSAGE_BUFFER (2 * SORBRUDDER_MESSAGE_WORDS)
 #define SORBRUDDER_WORK_BUFFER(n) (64 * (size_t)(n) + 64)
 
-/* Reads the list of tokens whose words are `list`, five words each, at a pack's declared version, under the operator set in two halves of
- * 64 bits (operator 0 is the lowest bit of `used_low`), over a source of that length.
- * Done: the number of nodes; the tree's words, seven a node, fill the front of `tree`. Messages: their number, one or two; their words,
- * eight a message, fill the front of `messages`. The words after them, and the other of the two buffers, stay as they were; `work` is all
- * zero.
- * Refused, every buffer unchanged: 1 words that are no multiple of five, 2 more than 4,096 tokens, 3 the tree buffer, 4 the message buffer
- * or 5 the work buffer is too short, 6 a bit of the set above operator 110, 7 a source above 536,870,911, and at a word of the list (place:
- * the word) 8 another kind, 9 an operator above 110, 10 a payload variant above 12, 11 another bit. */
+/* A list in which every tree that can be written has room, in words. */
+#define SORBRUDDER_LIST_BUFFER (SORBRUDDER_TOKEN_WORDS * SORBRUDDER_MOST_TOKENS)
+
+/* Which word of a token or a node is which. */
+enum sorbrudder_word {
+    SORBRUDDER_WORD_OP = 0,
+    SORBRUDDER_WORD_START = 1,
+    SORBRUDDER_WORD_END = 2,
+    SORBRUDDER_WORD_UPPER = 3,
+    SORBRUDDER_WORD_LOWER = 4,
+    SORBRUDDER_WORD_CHILDREN = 5,
+    SORBRUDDER_WORD_CLOSE = 6
+};
+
+/* What a token carries: nothing, a number literal, a string's hash, or the number of a name that is the caller's own. */
+enum sorbrudder_payload {
+    SORBRUDDER_PAYLOAD_NONE = 0,
+    SORBRUDDER_PAYLOAD_FLOAT = 1,
+    SORBRUDDER_PAYLOAD_HASH = 2,
+    SORBRUDDER_PAYLOAD_CONTEXT = 3,
+    SORBRUDDER_PAYLOAD_ENTITY = 4,
+    SORBRUDDER_PAYLOAD_TEMP = 5,
+    SORBRUDDER_PAYLOAD_MEMBER = 6,
+    SORBRUDDER_PAYLOAD_ARRAY_VARIABLE = 7,
+    SORBRUDDER_PAYLOAD_GEOMETRY = 8,
+    SORBRUDDER_PAYLOAD_MATERIAL = 9,
+    SORBRUDDER_PAYLOAD_TEXTURE = 10,
+    SORBRUDDER_PAYLOAD_QUERY = 11,
+    SORBRUDDER_PAYLOAD_HOST_MATH = 12
+};
+
+/* The operators; `sorbrudder ops` prints them with their signs. */
+enum sorbrudder_op {
+    SORBRUDDER_OP_LEFT_BRACE = 0, SORBRUDDER_OP_RIGHT_BRACE = 1, SORBRUDDER_OP_LEFT_BRACKET = 2, SORBRUDDER_OP_RIGHT_BRACKET = 3,
+    SORBRUDDER_OP_LEFT_PARENTHESIS = 4, SORBRUDDER_OP_RIGHT_PARENTHESIS = 5, SORBRUDDER_OP_NEGATE = 6, SORBRUDDER_OP_LOGICAL_NOT = 7,
+    SORBRUDDER_OP_ABS = 8, SORBRUDDER_OP_ADD = 9, SORBRUDDER_OP_ACOS = 10, SORBRUDDER_OP_ASIN = 11, SORBRUDDER_OP_ATAN = 12,
+    SORBRUDDER_OP_ATAN2 = 13, SORBRUDDER_OP_CEIL = 14, SORBRUDDER_OP_CLAMP = 15, SORBRUDDER_OP_COPY_SIGN = 16, SORBRUDDER_OP_COS = 17,
+    SORBRUDDER_OP_DIE_ROLL = 18, SORBRUDDER_OP_DIE_ROLL_INT = 19, SORBRUDDER_OP_DIV = 20, SORBRUDDER_OP_EXP = 21,
+    SORBRUDDER_OP_FLOOR = 22, SORBRUDDER_OP_HERMITE_BLEND = 23, SORBRUDDER_OP_LERP = 24, SORBRUDDER_OP_LERP_ROTATE = 25,
+    SORBRUDDER_OP_LN = 26, SORBRUDDER_OP_MAX = 27, SORBRUDDER_OP_MIN = 28, SORBRUDDER_OP_MIN_ANGLE = 29, SORBRUDDER_OP_MOD = 30,
+    SORBRUDDER_OP_MUL = 31, SORBRUDDER_OP_POW = 32, SORBRUDDER_OP_RANDOM = 33, SORBRUDDER_OP_RANDOM_INT = 34, SORBRUDDER_OP_ROUND = 35,
+    SORBRUDDER_OP_SIN = 36, SORBRUDDER_OP_SIGN = 37, SORBRUDDER_OP_SQRT = 38, SORBRUDDER_OP_TRUNC = 39,
+    SORBRUDDER_OP_QUERY_FUNCTION = 40, SORBRUDDER_OP_ARRAY_VARIABLE = 41, SORBRUDDER_OP_CONTEXT_VARIABLE = 42,
+    SORBRUDDER_OP_ENTITY_VARIABLE = 43, SORBRUDDER_OP_TEMP_VARIABLE = 44, SORBRUDDER_OP_MEMBER_ACCESSOR = 45,
+    SORBRUDDER_OP_STRING_LITERAL = 46, SORBRUDDER_OP_GEOMETRY_VARIABLE = 47, SORBRUDDER_OP_MATERIAL_VARIABLE = 48,
+    SORBRUDDER_OP_TEXTURE_VARIABLE = 49, SORBRUDDER_OP_LESS_THAN = 50, SORBRUDDER_OP_LESS_EQUAL = 51, SORBRUDDER_OP_GREATER_EQUAL = 52,
+    SORBRUDDER_OP_GREATER_THAN = 53, SORBRUDDER_OP_LOGICAL_EQUAL = 54, SORBRUDDER_OP_LOGICAL_NOT_EQUAL = 55,
+    SORBRUDDER_OP_LOGICAL_OR = 56, SORBRUDDER_OP_LOGICAL_AND = 57, SORBRUDDER_OP_NULL_COALESCING = 58, SORBRUDDER_OP_CONDITIONAL = 59,
+    SORBRUDDER_OP_CONDITIONAL_ELSE = 60, SORBRUDDER_OP_FLOAT = 61, SORBRUDDER_OP_PI = 62, SORBRUDDER_OP_ARRAY = 63,
+    SORBRUDDER_OP_GEOMETRY = 64, SORBRUDDER_OP_MATERIAL = 65, SORBRUDDER_OP_TEXTURE = 66, SORBRUDDER_OP_LOOP = 67,
+    SORBRUDDER_OP_FOR_EACH = 68, SORBRUDDER_OP_BREAK = 69, SORBRUDDER_OP_CONTINUE = 70, SORBRUDDER_OP_ASSIGNMENT = 71,
+    SORBRUDDER_OP_POINTER = 72, SORBRUDDER_OP_SEMICOLON = 73, SORBRUDDER_OP_RETURN = 74, SORBRUDDER_OP_COMMA = 75,
+    SORBRUDDER_OP_THIS = 76, SORBRUDDER_OP_EXPRESSION_ARRAY = 77, SORBRUDDER_OP_INVERSE_LERP = 78, SORBRUDDER_OP_EASE_IN_QUAD = 79,
+    SORBRUDDER_OP_EASE_OUT_QUAD = 80, SORBRUDDER_OP_EASE_IN_OUT_QUAD = 81, SORBRUDDER_OP_EASE_IN_CUBIC = 82,
+    SORBRUDDER_OP_EASE_OUT_CUBIC = 83, SORBRUDDER_OP_EASE_IN_OUT_CUBIC = 84, SORBRUDDER_OP_EASE_IN_QUART = 85,
+    SORBRUDDER_OP_EASE_OUT_QUART = 86, SORBRUDDER_OP_EASE_IN_OUT_QUART = 87, SORBRUDDER_OP_EASE_IN_QUINT = 88,
+    SORBRUDDER_OP_EASE_OUT_QUINT = 89, SORBRUDDER_OP_EASE_IN_OUT_QUINT = 90, SORBRUDDER_OP_EASE_IN_SINE = 91,
+    SORBRUDDER_OP_EASE_OUT_SINE = 92, SORBRUDDER_OP_EASE_IN_OUT_SINE = 93, SORBRUDDER_OP_EASE_IN_EXPO = 94,
+    SORBRUDDER_OP_EASE_OUT_EXPO = 95, SORBRUDDER_OP_EASE_IN_OUT_EXPO = 96, SORBRUDDER_OP_EASE_IN_CIRC = 97,
+    SORBRUDDER_OP_EASE_OUT_CIRC = 98, SORBRUDDER_OP_EASE_IN_OUT_CIRC = 99, SORBRUDDER_OP_EASE_IN_BOUNCE = 100,
+    SORBRUDDER_OP_EASE_OUT_BOUNCE = 101, SORBRUDDER_OP_EASE_IN_OUT_BOUNCE = 102, SORBRUDDER_OP_EASE_IN_BACK = 103,
+    SORBRUDDER_OP_EASE_OUT_BACK = 104, SORBRUDDER_OP_EASE_IN_OUT_BACK = 105, SORBRUDDER_OP_EASE_IN_ELASTIC = 106,
+    SORBRUDDER_OP_EASE_OUT_ELASTIC = 107, SORBRUDDER_OP_EASE_IN_OUT_ELASTIC = 108, SORBRUDDER_OP_HOST_MATH = 109,
+    SORBRUDDER_OP_HOST_MATH_VOLATILE = 110
+};
+
+/* Why a list is no tree. */
+enum sorbrudder_message {
+    SORBRUDDER_MESSAGE_MULTIPLE_ROOTS = 1,
+    SORBRUDDER_MESSAGE_COMPLEX_MUST_END_WITH_SEMICOLON = 2,
+    SORBRUDDER_MESSAGE_LEADING_MEMBER_ACCESSOR = 3,
+    SORBRUDDER_MESSAGE_CLOSING_MISMATCH = 4,
+    SORBRUDDER_MESSAGE_SECTION_NOT_CLOSED = 5,
+    SORBRUDDER_MESSAGE_NO_CLOSING_SYMBOL = 6,
+    SORBRUDDER_MESSAGE_EMPTY_PARAMETER_LIST = 7,
+    SORBRUDDER_MESSAGE_MATH_AT_END = 8,
+    SORBRUDDER_MESSAGE_MATH_WITHOUT_PARENTHESIS = 9,
+    SORBRUDDER_MESSAGE_LEADING_SEMICOLON = 10,
+    SORBRUDDER_MESSAGE_EMPTY_ARRAY_INDEX = 11,
+    SORBRUDDER_MESSAGE_BINARY_AT_END = 12,
+    SORBRUDDER_MESSAGE_NEGATE_WITHOUT_OPERAND = 13,
+    SORBRUDDER_MESSAGE_NOT_WITHOUT_OPERAND = 14,
+    SORBRUDDER_MESSAGE_UNKNOWN_OPERATION = 15,
+    SORBRUDDER_MESSAGE_UNARY_WITHOUT_OPERAND = 16,
+    SORBRUDDER_MESSAGE_TERNARY_WITHOUT_OPERANDS = 17
+};
+
+/* Why a call is turned back (`sorbrudder_refusal`). */
+enum sorbrudder_refusal_number {
+    SORBRUDDER_REFUSAL_NOT_WHOLE = 1,         /* the list's words are no multiple of five */
+    SORBRUDDER_REFUSAL_TOO_MANY_TOKENS = 2,   /* more than 4,096 tokens */
+    SORBRUDDER_REFUSAL_TREE_BUFFER = 3,       /* the tree buffer is too short */
+    SORBRUDDER_REFUSAL_MESSAGE_BUFFER = 4,    /* the message buffer is too short */
+    SORBRUDDER_REFUSAL_WORK_BUFFER = 5,       /* the work buffer is too short */
+    SORBRUDDER_REFUSAL_USED_SET = 6,          /* a bit of the set above operator 110 */
+    SORBRUDDER_REFUSAL_SOURCE_TOO_LONG = 7,   /* a source above 536,870,911 */
+    SORBRUDDER_REFUSAL_WRONG_KIND = 8,        /* place: the word, here and below */
+    SORBRUDDER_REFUSAL_UNKNOWN_OPERATOR = 9,  /* an operator above 110 */
+    SORBRUDDER_REFUSAL_UNKNOWN_PAYLOAD = 10,  /* what it carries is above 12 */
+    SORBRUDDER_REFUSAL_OTHER_BITS = 11,       /* a bit that has to be 0 */
+    SORBRUDDER_REFUSAL_NOT_A_TREE = 12,       /* place: the first word that cannot continue a tree, or the word count; 86,016 at the most */
+    SORBRUDDER_REFUSAL_NOT_PLAIN = 13,        /* place: the number of the first such node in tree order */
+    SORBRUDDER_REFUSAL_WRITTEN_TOO_LONG = 14, /* the written list has more than 4,096 tokens */
+    SORBRUDDER_REFUSAL_LIST_BUFFER = 15       /* the lent list is too short */
+};
+
+/* Reads the list of tokens whose words are `list` at a pack's declared version, under the operator set in two halves of 64 bits (operator 0
+ * is the lowest bit of `used_low`; `sorbrudder_used` finds the list's own), over a source of that length.
+ * Done: the number of nodes; the tree's words fill the front of `tree`. Messages: their number, one or two; their words fill the front of
+ * `messages`. The words after them, and the other of the two buffers, stay as they were; `work` is all zero.
+ * Refused, 1 to 11: every buffer is unchanged. The first of the refusals that applies is the answer. */
 uint64_t sorbrudder_parse(const uint32_t *list, size_t list_words, uint32_t *tree, size_t tree_words, uint32_t *messages,
                           size_t message_words, uint32_t *work, size_t work_words, uint64_t source_length, int16_t version,
                           uint64_t used_low, uint64_t used_high);
@@ -55,8 +187,7 @@ uint64_t sorbrudder_parse(const uint32_t *list, size_t list_words, uint32_t *tre
  * node that the statement holds. The closer of a bracket of the tree starts and ends where the bracket closes. Of the other nodes' words of
  * kind 7 only the kind is looked at. Added brackets have payload 0: the opener's span is from the lowest start to the highest end among the
  * spans of its operand and all below it, and its closer starts and ends at that end.
- * Done: the number of tokens, five words each. Refused, the list unchanged: 12 not one tree (place: the word, 86,016 at the most), 13 a
- * node that is not plain (place: its number in tree order), 14 more than 4,096 tokens, 15 the list is too short. */
+ * Done: the number of tokens. Refused, 12 to 15: the list is unchanged. The place of 12 is 86,016 at the most. */
 uint64_t sorbrudder_write(const uint32_t *tree, size_t tree_words, uint32_t *list, size_t list_words);
 
 /* The parts of an answer. */
@@ -67,6 +198,48 @@ static inline uint32_t sorbrudder_count(uint64_t answer) { return (uint32_t)answ
 
 /* Of a refusal: its number, 1-15. */
 static inline unsigned sorbrudder_refusal(uint64_t answer) { return (unsigned)(answer >> 32) & 0xff; }
+
+/* The parts of a token's or a node's words. */
+static inline unsigned sorbrudder_op_of(const uint32_t *token) { return token[SORBRUDDER_WORD_OP] & 0xff; }
+static inline uint32_t sorbrudder_start_of(const uint32_t *token) { return token[SORBRUDDER_WORD_START] & 0x1fffffff; }
+static inline uint32_t sorbrudder_end_of(const uint32_t *token) { return token[SORBRUDDER_WORD_END] & 0x1fffffff; }
+static inline uint32_t sorbrudder_children_of(const uint32_t *node) { return node[SORBRUDDER_WORD_CHILDREN] & 0x3fff; }
+static inline uint32_t sorbrudder_close_of(const uint32_t *node) { return node[SORBRUDDER_WORD_CLOSE] & 0x1fffffff; }
+
+/* The exact used set of a list, each operator of its tokens and no other, and its highest span end, which is its source length where
+ * nothing else is known. What names no operator is passed over; the call that follows turns it back. */
+static inline void sorbrudder_used(const uint32_t *list, size_t list_words, uint64_t *used_low, uint64_t *used_high,
+                                   uint64_t *source_length) {
+    uint64_t half[2] = {0, 0}, length = 0;
+    for (size_t at = 0; at + SORBRUDDER_TOKEN_WORDS <= list_words; at += SORBRUDDER_TOKEN_WORDS) {
+        unsigned op = sorbrudder_op_of(list + at);
+        uint32_t end = sorbrudder_end_of(list + at);
+        if (op <= SORBRUDDER_OP_HOST_MATH_VOLATILE) {
+            half[op / 64] |= UINT64_C(1) << (op % 64);
+        }
+        if (length < end) {
+            length = end;
+        }
+    }
+    *used_low = half[0];
+    *used_high = half[1];
+    *source_length = length;
+}
+
+/* SORBRUDDER_ABI_VERSION where the linked library has this header's layout, else 0. It is found by asking the library: a list of one token
+ * is read into a tree buffer of exactly the length that this header says, and refused with one of a word less. */
+static inline unsigned sorbrudder_abi_version(void) {
+    const uint32_t list[SORBRUDDER_TOKEN_WORDS] = {0x20000000u | SORBRUDDER_OP_FLOAT, 0x40000000u, 0x60000000u, 0x80000000u,
+                                                   0xa0000000u};
+    uint32_t tree[SORBRUDDER_TREE_BUFFER(1)], messages[SORBRUDDER_MESSAGE_BUFFER], work[SORBRUDDER_WORK_BUFFER(1)];
+    uint64_t low, high, length, longer, shorter;
+    sorbrudder_used(list, SORBRUDDER_TOKEN_WORDS, &low, &high, &length);
+    longer = sorbrudder_parse(list, SORBRUDDER_TOKEN_WORDS, tree, SORBRUDDER_TREE_BUFFER(1), messages, SORBRUDDER_MESSAGE_BUFFER, work,
+                              SORBRUDDER_WORK_BUFFER(1), length, 6, low, high);
+    shorter = sorbrudder_parse(list, SORBRUDDER_TOKEN_WORDS, tree, SORBRUDDER_TREE_BUFFER(1) - 1, messages, SORBRUDDER_MESSAGE_BUFFER,
+                               work, SORBRUDDER_WORK_BUFFER(1), length, 6, low, high);
+    return longer == 1 && sorbrudder_refusal(shorter) == SORBRUDDER_REFUSAL_TREE_BUFFER ? SORBRUDDER_ABI_VERSION : 0;
+}
 
 #ifdef __cplusplus
 }

@@ -1,31 +1,64 @@
-//! Finds the proved static library: in the folder that `SORBRUDDER_LIB` names, or where `rt staticlib sorbrudder` writes it. It links the
-//! library where it is there. The build scripts of the crates above read the archive's path as `DEP_SORBRUDDER_ARCHIVE` and whether it is
-//! there as `DEP_SORBRUDDER_FOUND` (`true` or `false`), since each has its own answer to a library that is not built yet. A second archive,
-//! in the folder that `SORBRUDDER_BEFORE` names, is linked with its two entries renamed, and `DEP_SORBRUDDER_BEFORE` says so.
+//! Finds the proved static library and links it where it is there: in the folder that `SORBRUDDER_LIB` names; else where `rt staticlib
+//! sorbrudder` writes it, or the prebuilt one for this target. The build scripts of the crates above read the archive's path as
+//! `DEP_SORBRUDDER_ARCHIVE`, whether it is there as `DEP_SORBRUDDER_FOUND` (`true` or `false`), and what to do where it is not as
+//! `DEP_SORBRUDDER_ADVICE`, since each has its own answer to a library that is not built yet. A second archive, in the folder that
+//! `SORBRUDDER_BEFORE` names, is linked with its two entries renamed, and `DEP_SORBRUDDER_BEFORE` says so.
 
 use std::env;
 use std::path::{Path, PathBuf};
 use std::process::Command;
 
+const NAME: &str = "libsorbrudder.a";
+
 fn main() {
+    println!("cargo::rerun-if-changed=build.rs");
     link_library();
     link_before();
 }
 
 fn link_library() {
     println!("cargo::rerun-if-env-changed=SORBRUDDER_LIB");
-    let folder = match env::var_os("SORBRUDDER_LIB") {
-        Some(folder) => PathBuf::from(folder),
-        None => PathBuf::from(env!("CARGO_MANIFEST_DIR")).join("../target/staticlib"),
+    let (folder, advice) = match env::var_os("SORBRUDDER_LIB") {
+        Some(named) => named_folder(PathBuf::from(named)),
+        None => own_folder(),
     };
-    let archive = folder.join("libsorbrudder.a");
+    let archive = folder.join(NAME);
     let found = archive.is_file();
     println!("cargo::rerun-if-changed={}", archive.display());
     println!("cargo::metadata=ARCHIVE={}", archive.display());
     println!("cargo::metadata=FOUND={found}");
+    println!("cargo::metadata=ADVICE={advice}");
     if found {
         println!("cargo::rustc-link-search=native={}", folder.display());
         println!("cargo::rustc-link-lib=static=sorbrudder");
+    }
+}
+
+/// The folder that the environment names, and nothing else: a wrong name is told.
+fn named_folder(folder: PathBuf) -> (PathBuf, String) {
+    let advice = format!(
+        "SORBRUDDER_LIB names {}, where there is no {NAME}; name the folder that has it, or unset SORBRUDDER_LIB",
+        folder.display()
+    );
+    (folder, advice)
+}
+
+/// Where the proofs put the library, or the prebuilt one.
+fn own_folder() -> (PathBuf, String) {
+    let root = Path::new(env!("CARGO_MANIFEST_DIR")).join("..");
+    let built = root.join("target/staticlib");
+    let target = |part: &str| env::var(format!("CARGO_CFG_TARGET_{part}")).unwrap_or_default();
+    let system = format!("{}-{}", target("ARCH"), target("OS"));
+    let prebuilt = root.join("prebuilt").join(&system);
+    for folder in [&built, &prebuilt] {
+        println!("cargo::rerun-if-changed={}", folder.join(NAME).display());
+    }
+    let advice = format!(
+        "the proved library is not built yet, and there is no prebuilt one for {system}; run `make library`, which needs `rt`"
+    );
+    match built.join(NAME).is_file() || !prebuilt.join(NAME).is_file() {
+        true => (built, advice),
+        false => (prebuilt, advice),
     }
 }
 
@@ -37,7 +70,7 @@ fn link_before() {
     let Some(folder) = folder else {
         return;
     };
-    let archive = PathBuf::from(folder).join("libsorbrudder.a");
+    let archive = PathBuf::from(folder).join(NAME);
     println!("cargo::rerun-if-changed={}", archive.display());
     let out = PathBuf::from(env::var_os("OUT_DIR").expect("cargo names a folder"));
     rename_entries(&archive, &out.join("libsorbrudder_before.a"));

@@ -84,9 +84,12 @@ prove
 
 # The library that the Rust crates link. Where it is not built, the host crate does not build either, and its tests count as failed.
 step "the static library" rt staticlib sorbrudder
+step "the prebuilt library is the one that is proved here" tools/prebuilt.sh --check
 for crate in oracle compare host; do
     rust_tests "$crate"
 done
+
+step "the drawing in a browser" tools/browser.sh --if-there
 
 source=${MOLANGX_SRC:-../shared/docs/src}
 if [ ! -f "$source/src/compile/parse/mod.rs" ]; then

@@ -6,41 +6,62 @@
 //! ```
 //! use sorbrudder::{Reader, Tokens, lift};
 //!
-//! let list: Tokens = "a ? b : c ? d : e".parse()?;
+//! let source = "dosed ? hold : under ? open : shut";
+//! let list: Tokens = source.parse()?;
 //! let mut reader = Reader::new();
 //! assert_eq!(reader.read(&list, 4)?.to_string(), "59(59(a,60(b,c)),60(d,e))");
 //! assert_eq!(reader.read(&list, 5)?.to_string(), "59(a,60(b,59(c,60(d,e))))");
 //!
-//! let lifted = lift(&list, 4, 5)?;
-//! assert_eq!(lifted.tokens.to_string(), "(a ? b : c) ? d : e");
+//! let lifted = lift(&list).from(5).to(4)?;
+//! assert_eq!(lifted.tokens.shown_in(source).to_string(), "dosed ? hold : (under ? open : shut)");
 //! assert_eq!(reader.read(&lifted.tokens, 4)?, reader.read(&lifted.tokens, 5)?);
 //! # Ok::<(), Box<dyn std::error::Error>>(())
 //! ```
 //!
-//! Real lists come as words, five a token, or are put together from [`Token`]s; the notation of [`Tokens`] is for examples
-//! and tests. What a list means is answered by a static library that is proved to give what a definition gives, for every
-//! list, operator set and version. This crate adds the buffers that the library asks for, types that its words cannot be
-//! wrong in, and nothing that decides an answer.
+//! Real lists come as words, five a token ([`Token`] says how they are laid out), or are put together from [`Token`]s; the notation of
+//! [`Tokens`] is for examples and tests. [`archive`] reads and writes files of lists. What a list means is answered by a static library
+//! that is proved to give what a definition gives, for every list, operator set and version. This crate adds the buffers that the library
+//! asks for, types that its words cannot be wrong in, and nothing that decides an answer.
 
 #![forbid(unsafe_code)]
 #![warn(missing_docs)]
 
+pub mod archive;
+mod differences;
+mod layout;
 mod lift;
+mod lift_error;
 mod message;
+mod messages;
+mod names;
+mod node;
+mod notation;
 mod op;
+mod op_words;
 mod reader;
+mod refusal;
 mod token;
 mod tokens;
 mod tree;
+mod tree_ref;
+mod unplain;
 mod used;
 mod writer;
 
-pub use lift::{LiftError, Lifted, Lifter, lift};
-pub use message::{Message, Messages, Refusal};
-pub use op::Op;
+pub use differences::{Difference, Differences};
+pub use lift::{Lift, LiftFrom, Lifted, LiftedWords, Lifter, lift};
+pub use lift_error::LiftError;
+pub use message::Message;
+pub use messages::Messages;
+pub use node::Node;
+pub use notation::NotationError;
+pub use op::{Op, UnknownOp};
 pub use reader::{MOST_TOKENS, ReadError, Reader};
+pub use refusal::Refusal;
 pub use token::{Payload, Span, Token};
-pub use tokens::{NotationError, Tokens};
-pub use tree::{Node, NotATree, Tree};
-pub use used::Used;
+pub use tokens::Tokens;
+pub use tree::{NotATree, Tree};
+pub use tree_ref::{Nodes, TreeRef};
+pub use unplain::Unplain;
+pub use used::{Used, UsedOps};
 pub use writer::{WriteError, Writer};

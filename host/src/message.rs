@@ -1,4 +1,4 @@
-//! What the reader has to say of a list that is no tree, and which calls it turns back.
+//! What the reader has to say of a list that is no tree.
 
 use crate::{Op, Span};
 use std::fmt;
@@ -15,7 +15,8 @@ use std::fmt;
 /// assert!(matches!(messages[0], Message::MultipleRoots { roots: 2, .. }));
 /// assert_eq!(messages[0].span().of("a + b c"), Some("a + b c"));
 /// ```
-#[derive(Copy, Clone, Debug, PartialEq, Eq)]
+#[derive(Copy, Clone, Debug, PartialEq, Eq, Hash)]
+#[non_exhaustive]
 #[allow(missing_docs)] // The fields: a span is where the message points, the others are named for what they are.
 pub enum Message {
     /// Several roots are left, or none.
@@ -314,137 +315,3 @@ impl fmt::Display for Message {
 }
 
 impl std::error::Error for Message {}
-
-/// The one or two messages of a list that is no tree.
-///
-/// ```
-/// use sorbrudder::{ReadError, Reader, Tokens};
-///
-/// let list: Tokens = "(a]".parse().unwrap();
-/// let Err(ReadError::Messages(messages)) = Reader::new().read(&list, 6) else {
-///     panic!("the brackets do not match");
-/// };
-/// assert_eq!(messages.len(), 2);
-/// assert_eq!(messages.to_string().split("; ").next(), Some("`(` is closed by `]` and not by `)` (at 0-3)"));
-/// ```
-#[derive(Copy, Clone, Debug, PartialEq, Eq)]
-pub struct Messages {
-    first: [Message; 2],
-    count: usize,
-}
-
-impl Messages {
-    /// The messages of the records in front of the message buffer.
-    pub(crate) fn from_records(records: &[u32], count: usize) -> Option<Self> {
-        let mut parsed = records.chunks(8).take(count).map(Message::from_record);
-        let first = parsed.next()??;
-        let second = match parsed.next() {
-            Some(second) => second?,
-            None => first,
-        };
-        Some(Self {
-            first: [first, second],
-            count,
-        })
-    }
-}
-
-impl std::ops::Deref for Messages {
-    type Target = [Message];
-
-    fn deref(&self) -> &[Message] {
-        &self.first[..self.count.min(2)]
-    }
-}
-
-impl fmt::Display for Messages {
-    fn fmt(&self, f: &mut fmt::Formatter<'_>) -> fmt::Result {
-        for (place, message) in self.iter().enumerate() {
-            let before = if place > 0 { "; " } else { "" };
-            write!(f, "{before}{message} (at {})", message.span())?;
-        }
-        Ok(())
-    }
-}
-
-impl std::error::Error for Messages {}
-
-/// A call that is turned back before a list is read. Words are counted from 0.
-///
-/// The library's other refusals cannot happen here: 3, 4 and 5 are about buffers, which the reader owns and keeps long
-/// enough, and 6 is about bits that a [`Used`](crate::Used) cannot have.
-///
-/// ```
-/// use sorbrudder::{ReadError, Reader, Refusal, Used};
-///
-/// let mut reader = Reader::new();
-/// let refused = reader.parse_words(&[0; 5], 6, Used::EMPTY, 0);
-/// assert_eq!(refused, Err(ReadError::Refused(Refusal::WrongKind { word: 0 })));
-/// ```
-#[derive(Copy, Clone, Debug, PartialEq, Eq)]
-#[allow(missing_docs)] // The fields: each is the index of the word.
-pub enum Refusal {
-    /// The words are not a multiple of five. Only words can have this fault; tokens cannot.
-    NotWhole,
-    /// More than 4,096 tokens.
-    TooManyTokens,
-    /// A source length above [`Span::LAST`].
-    SourceTooLong,
-    /// A word is of another kind than its field asks for. Only words can have this fault.
-    WrongKind { word: usize },
-    /// A word names an operator above 110. Only words can have this fault.
-    UnknownOperator { word: usize },
-    /// A word has a payload variant above 12. Only words can have this fault.
-    UnknownPayload { word: usize },
-    /// A word has a bit set that has to be 0. Only words can have this fault.
-    OtherBits { word: usize },
-}
-
-impl Refusal {
-    /// The library's number for it.
-    ///
-    /// ```
-    /// assert_eq!(sorbrudder::Refusal::TooManyTokens.number(), 2);
-    /// ```
-    pub const fn number(self) -> u32 {
-        match self {
-            Self::NotWhole => 1,
-            Self::TooManyTokens => 2,
-            Self::SourceTooLong => 7,
-            Self::WrongKind { .. } => 8,
-            Self::UnknownOperator { .. } => 9,
-            Self::UnknownPayload { .. } => 10,
-            Self::OtherBits { .. } => 11,
-        }
-    }
-
-    /// The refusal of a number and a place.
-    pub(crate) fn of(number: u32, word: usize) -> Option<Self> {
-        Some(match number {
-            1 => Self::NotWhole,
-            2 => Self::TooManyTokens,
-            7 => Self::SourceTooLong,
-            8 => Self::WrongKind { word },
-            9 => Self::UnknownOperator { word },
-            10 => Self::UnknownPayload { word },
-            11 => Self::OtherBits { word },
-            _ => return None,
-        })
-    }
-}
-
-impl fmt::Display for Refusal {
-    fn fmt(&self, f: &mut fmt::Formatter<'_>) -> fmt::Result {
-        match self {
-            Self::NotWhole => write!(f, "the words are not whole tokens"),
-            Self::TooManyTokens => write!(f, "the list has more than 4,096 tokens"),
-            Self::SourceTooLong => write!(f, "the source length is above {}", Span::LAST),
-            Self::WrongKind { word } => write!(f, "word {word} is of a wrong kind"),
-            Self::UnknownOperator { word } => write!(f, "word {word} names no operator"),
-            Self::UnknownPayload { word } => write!(f, "word {word} names no payload"),
-            Self::OtherBits { word } => write!(f, "word {word} has a bit that has to be 0"),
-        }
-    }
-}
-
-impl std::error::Error for Refusal {}

@@ -1,6 +1,7 @@
 //! Operators by number and name.
 
 use std::fmt;
+use std::str::FromStr;
 
 /// One of the 111 operators of a token list: what the Rust parser calls an `ExpressionOp`.
 ///
@@ -215,9 +216,78 @@ impl Op {
         matches!(self.0, 8 | 10..=19 | 21..=30 | 32..=39 | 78..=110)
     }
 
-    /// Whether a bracket below it is part of the call, and not one that can be taken away.
-    pub(crate) const fn is_call(self) -> bool {
+    /// Whether a bracket below it is part of the call, and not one that can be taken away: a query or a math function.
+    ///
+    /// ```
+    /// use sorbrudder::Op;
+    ///
+    /// assert!(Op::SIN.is_call() && Op::QUERY_FUNCTION.is_call() && !Op::ADD.is_call());
+    /// ```
+    pub const fn is_call(self) -> bool {
         self.0 == Self::QUERY_FUNCTION.0 || self.is_math_call()
+    }
+}
+
+/// A number or a text that no operator has.
+///
+/// ```
+/// use sorbrudder::Op;
+///
+/// assert_eq!(Op::try_from(111).unwrap_err().to_string(), "there is no such operator");
+/// ```
+#[derive(Copy, Clone, Debug, PartialEq, Eq)]
+#[non_exhaustive]
+pub struct UnknownOp;
+
+impl fmt::Display for UnknownOp {
+    fn fmt(&self, f: &mut fmt::Formatter<'_>) -> fmt::Result {
+        f.write_str("there is no such operator")
+    }
+}
+
+impl std::error::Error for UnknownOp {}
+
+/// ```
+/// use sorbrudder::Op;
+///
+/// assert_eq!(Op::try_from(9), Ok(Op::ADD));
+/// ```
+impl TryFrom<u8> for Op {
+    type Error = UnknownOp;
+
+    fn try_from(number: u8) -> Result<Self, UnknownOp> {
+        Self::new(number).ok_or(UnknownOp)
+    }
+}
+
+/// ```
+/// use sorbrudder::Op;
+///
+/// assert_eq!(u8::from(Op::ADD), 9);
+/// ```
+impl From<Op> for u8 {
+    fn from(op: Op) -> Self {
+        op.number()
+    }
+}
+
+/// By its sign, its name in Molang or the name of its constant, in capitals or not.
+///
+/// ```
+/// use sorbrudder::Op;
+///
+/// assert_eq!("+".parse(), Ok(Op::ADD));
+/// assert_eq!("math.sin".parse(), Ok(Op::SIN));
+/// assert_eq!("sin".parse(), Ok(Op::SIN));
+/// assert!("sinus".parse::<Op>().is_err());
+/// ```
+impl FromStr for Op {
+    type Err = UnknownOp;
+
+    fn from_str(text: &str) -> Result<Self, UnknownOp> {
+        let by_text = Self::all().find(|op| op.text().eq_ignore_ascii_case(text));
+        let by_name = || Self::all().find(|op| op.name().eq_ignore_ascii_case(text));
+        by_text.or_else(by_name).ok_or(UnknownOp)
     }
 }
 

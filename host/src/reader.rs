@@ -1,7 +1,8 @@
 //! The reader: a token list becomes a tree or messages.
 
-use crate::{Messages, Refusal, Token, Tree, Used};
-use sorbrudder_sys::{Answer, Lent};
+use crate::token::LOW;
+use crate::{Messages, Refusal, Token, Tree, TreeRef, Used};
+use sorbrudder_sys::{Answer, Lent, MESSAGE_BUFFER, tree_buffer, work_buffer};
 use std::fmt;
 
 /// The most tokens of a list.
@@ -9,17 +10,13 @@ use std::fmt;
 /// ```
 /// assert_eq!(sorbrudder::MOST_TOKENS, 4096);
 /// ```
-pub const MOST_TOKENS: usize = 4096;
-
-/// Words of the tree buffer per token, of the message buffer, and of the work buffer per token and once more.
-const TREE_WORDS: usize = 3 * Tree::NODE_WORDS;
-const MESSAGE_WORDS: usize = 16;
-const WORK_WORDS: usize = 64;
+pub const MOST_TOKENS: usize = sorbrudder_sys::MOST_TOKENS;
 
 /// Reads token lists. It owns the buffers that the library asks for and uses them again from list to list, so keep one
 /// where many lists are read; it is cheap to make and grows with the longest list it met, to less than 3 MiB.
 ///
-/// The library takes at most 2 KiB of stack to read a list, whatever its nesting and whatever is answered.
+/// The library takes at most 2 KiB of stack to read a list, whatever its nesting and whatever is answered. Readers of several threads
+/// do not know of each other.
 ///
 /// ```
 /// use sorbrudder::{Reader, Tokens};
@@ -33,8 +30,7 @@ const WORK_WORDS: usize = 64;
 pub struct Reader {
     list: Vec<u32>,
     tree: Vec<u32>,
-    messages: [u32; MESSAGE_WORDS],
-    work: Vec<u32>,
+    work: Work,
 }
 
 /// Why there is no tree.
@@ -49,6 +45,7 @@ pub struct Reader {
 /// assert_eq!(none.unwrap_err().to_string(), "there is nothing to read (at 0-0)");
 /// ```
 #[derive(Copy, Clone, Debug, PartialEq, Eq)]
+#[non_exhaustive]
 pub enum ReadError {
     /// The call was turned back; the list was not read.
     Refused(Refusal),
@@ -65,19 +62,100 @@ impl fmt::Display for ReadError {
     }
 }
 
-impl std::error::Error for ReadError {
-    fn source(&self) -> Option<&(dyn std::error::Error + 'static)> {
-        match self {
-            Self::Refused(refusal) => Some(refusal),
-            Self::Messages(messages) => Some(messages),
+/// Its text says all: there is no source that would say it again.
+impl std::error::Error for ReadError {}
+
+impl From<Refusal> for ReadError {
+    fn from(refusal: Refusal) -> Self {
+        Self::Refused(refusal)
+    }
+}
+
+impl From<Messages> for ReadError {
+    fn from(messages: Messages) -> Self {
+        Self::Messages(messages)
+    }
+}
+
+/// What is known of a call beside the list's words.
+#[derive(Copy, Clone)]
+pub(crate) struct Given {
+    pub version: i16,
+    pub used: Used,
+    pub source_len: u64,
+}
+
+impl Given {
+    /// What is meant where nothing else is known: the list's own operators and its highest span end.
+    pub(crate) fn exact(list: &[u32], version: i16) -> Self {
+        let ends = list.chunks_exact(Token::WORDS).map(|token| token[2] & LOW);
+        Self {
+            version,
+            used: Used::exact_words(list),
+            source_len: u64::from(ends.max().unwrap_or(0)),
         }
     }
 }
 
-/// The highest span end of a list, which is its source length where nothing else is known.
-fn source_len(tokens: &[Token]) -> u32 {
-    let ends = tokens.iter().map(|token| token.span.end());
-    ends.max().unwrap_or(0)
+/// The buffers that a call works in, and the messages that it leaves.
+#[derive(Clone, Debug, Default)]
+pub(crate) struct Work {
+    messages: [u32; MESSAGE_BUFFER],
+    work: Vec<u32>,
+}
+
+impl Work {
+    /// Reads a list's words into a tree buffer, and gives the part of it that the tree fills.
+    pub(crate) fn parse<'t>(
+        &mut self,
+        list: &[u32],
+        given: Given,
+        tree: &'t mut Vec<u32>,
+    ) -> Result<&'t [u32], ReadError> {
+        let tokens = (list.len() / Token::WORDS).min(MOST_TOKENS);
+        let (tree_len, work_len) = (tree_buffer(tokens), work_buffer(tokens));
+        if tree.len() < tree_len {
+            tree.resize(tree_len, 0);
+        }
+        if self.work.len() < work_len {
+            self.work.resize(work_len, 0);
+        }
+        let lent = Lent {
+            list,
+            tree: &mut tree[..tree_len],
+            messages: &mut self.messages,
+            work: &mut self.work[..work_len],
+        };
+        let halves = given.used.halves();
+        match sorbrudder_sys::parse(lent, given.source_len, given.version, halves) {
+            Answer::Filled(nodes) => Ok(&tree[..Tree::NODE_WORDS * nodes]),
+            Answer::Messages(count) => {
+                let messages = Messages::from_records(&self.messages, count);
+                Err(ReadError::Messages(messages.expect(
+                    "the library's records are those of the definition, 1 to 17",
+                )))
+            }
+            Answer::Refused(number, place) => {
+                let refusal = Refusal::of(number, place);
+                Err(ReadError::Refused(refusal.expect(
+                    "the buffers are long enough (3 to 5), a used set has no other bit (6)",
+                )))
+            }
+        }
+    }
+}
+
+/// The tokens' words, in a list that is used again. More than can be read are not laid out.
+pub(crate) fn lay_out(tokens: &[Token], list: &mut Vec<u32>) -> Result<(), Refusal> {
+    if tokens.len() > MOST_TOKENS {
+        return Err(Refusal::TooManyTokens);
+    }
+    list.clear();
+    list.reserve(tokens.len() * Token::WORDS);
+    for token in tokens {
+        list.extend_from_slice(&token.words());
+    }
+    Ok(())
 }
 
 impl Reader {
@@ -90,7 +168,7 @@ impl Reader {
         Self::default()
     }
 
-    /// Reads a list by the rules of a version, with its own operators as the used set and its last span end as the source
+    /// Reads a list by the rules of a version, with its own operators as the used set and its highest span end as the source
     /// length: what is meant where nothing else is known.
     ///
     /// ```
@@ -100,7 +178,9 @@ impl Reader {
     /// assert_eq!(Reader::new().read(&list, 6).unwrap().to_string(), "9(a,6(b))");
     /// ```
     pub fn read(&mut self, tokens: &[Token], version: i16) -> Result<Tree, ReadError> {
-        self.parse(tokens, version, Used::exact(tokens), source_len(tokens))
+        lay_out(tokens, &mut self.list)?;
+        let given = Given::exact(&self.list, version);
+        self.parse_laid_out(given)
     }
 
     /// Reads a list. The version is the one that a pack declares; below 0 and above 13 the library makes it effective as
@@ -124,28 +204,45 @@ impl Reader {
         used: Used,
         source_len: u32,
     ) -> Result<Tree, ReadError> {
-        if tokens.len() > MOST_TOKENS {
-            return Err(ReadError::Refused(Refusal::TooManyTokens));
-        }
-        let mut list = std::mem::take(&mut self.list);
-        list.clear();
-        list.extend(tokens.iter().flat_map(|token| token.words()));
-        let read = self.parse_words(&list, version, used, u64::from(source_len));
-        let tree = read.map(|words| Tree::of_sound(words.to_vec()));
-        self.list = list;
-        tree
+        lay_out(tokens, &mut self.list)?;
+        self.parse_laid_out(Given {
+            version,
+            used,
+            source_len: u64::from(source_len),
+        })
+    }
+
+    fn parse_laid_out(&mut self, given: Given) -> Result<Tree, ReadError> {
+        let words = self.work.parse(&self.list, given, &mut self.tree)?;
+        Ok(Tree::of_sound(words.to_vec()))
+    }
+
+    /// Reads a list of words as [`Reader::read`] does; the tree's words stand in the reader until its next list.
+    ///
+    /// ```
+    /// use sorbrudder::{Reader, Tokens};
+    ///
+    /// let list: Tokens = "a - b".parse().unwrap();
+    /// let mut reader = Reader::new();
+    /// let tree = reader.read_words(&list.words(), 6).unwrap();
+    /// assert_eq!(tree.root().op().text(), "+");
+    /// ```
+    pub fn read_words(&mut self, list: &[u32], version: i16) -> Result<TreeRef<'_>, ReadError> {
+        let given = Given::exact(list, version);
+        let words = self.work.parse(list, given, &mut self.tree)?;
+        Ok(TreeRef::of_sound(words))
     }
 
     /// Reads a list of words, for those who have words already; the tree's words stand in the reader until its next list.
     ///
     /// ```
-    /// use sorbrudder::{Reader, ReadError, Refusal, Tokens, Used};
+    /// use sorbrudder::{Reader, ReadError, Refusal, Tokens, Tree, Used};
     ///
     /// let list: Tokens = "a + b".parse().unwrap();
     /// let mut words = list.words();
     /// let used = Used::exact_words(&words);
     /// let mut reader = Reader::new();
-    /// assert_eq!(reader.parse_words(&words, 6, used, 5).unwrap().len(), 3 * 7);
+    /// assert_eq!(reader.parse_words(&words, 6, used, 5).unwrap().len(), 3 * Tree::NODE_WORDS);
     /// words.pop();
     /// let refused = reader.parse_words(&words, 6, used, 5);
     /// assert_eq!(refused, Err(ReadError::Refused(Refusal::NotWhole)));
@@ -157,32 +254,11 @@ impl Reader {
         used: Used,
         source_len: u64,
     ) -> Result<&[u32], ReadError> {
-        let tokens = (list.len() / Token::WORDS).min(MOST_TOKENS);
-        let (tree_len, work_len) = (TREE_WORDS * tokens, WORK_WORDS * (tokens + 1));
-        if self.work.len() < work_len {
-            self.tree.resize(tree_len, 0);
-            self.work.resize(work_len, 0);
-        }
-        let lent = Lent {
-            list,
-            tree: &mut self.tree[..tree_len],
-            messages: &mut self.messages,
-            work: &mut self.work[..work_len],
+        let given = Given {
+            version,
+            used,
+            source_len,
         };
-        match sorbrudder_sys::parse(lent, source_len, version, used.halves()) {
-            Answer::Filled(nodes) => Ok(&self.tree[..Tree::NODE_WORDS * nodes]),
-            Answer::Messages(count) => {
-                let messages = Messages::from_records(&self.messages, count);
-                Err(ReadError::Messages(messages.expect(
-                    "the library's records are those of the definition, 1 to 17",
-                )))
-            }
-            Answer::Refused(number, place) => {
-                let refusal = Refusal::of(number, place);
-                Err(ReadError::Refused(refusal.expect(
-                    "the buffers are long enough (3 to 5), a used set has no other bit (6)",
-                )))
-            }
-        }
+        self.work.parse(list, given, &mut self.tree)
     }
 }

@@ -2,6 +2,7 @@
 
 use crate::Op;
 use std::fmt;
+use std::hash::{Hash, Hasher};
 
 /// A byte range of the source. The start may exceed the end.
 ///
@@ -177,6 +178,12 @@ impl PartialEq for Payload {
 
 impl Eq for Payload {}
 
+impl Hash for Payload {
+    fn hash<H: Hasher>(&self, state: &mut H) {
+        self.bits().hash(state);
+    }
+}
+
 /// A token of a list, and a tree node's own part.
 ///
 /// ```
@@ -189,7 +196,20 @@ impl Eq for Payload {}
 /// };
 /// assert_eq!(Token::from_words(half.words()), Some(half));
 /// ```
-#[derive(Copy, Clone, Debug, PartialEq, Eq)]
+///
+/// As words it is five of 32 bits, the top three bits of each saying which it is; bits that are not named are 0:
+///
+/// | word | top bits | the other bits |
+/// |---|---|---|
+/// | 0 | 1 | bits 0-7 the operator's number, bits 8-11 the payload's variant ([`Payload::bits`]) |
+/// | 1 | 2 | bits 0-28 the span's start |
+/// | 2 | 3 | bits 0-28 the span's end |
+/// | 3 | 4 | bits 0-15 the upper half of the payload's value |
+/// | 4 | 5 | bits 0-15 the lower half of the payload's value |
+///
+/// A tree's node has these and two more: one whose top bits are 6 and whose bits 0-13 are the number of its children, and one whose top
+/// bits are 7 and whose bits 0-28 are where it closes ([`Node::close`](crate::Node::close)).
+#[derive(Copy, Clone, Debug, PartialEq, Eq, Hash)]
 pub struct Token {
     /// The operator.
     pub op: Op,
@@ -216,7 +236,7 @@ impl Token {
     /// let list: Tokens = "a + b".parse().unwrap();
     /// assert_eq!(list.words().len(), 3 * Token::WORDS);
     /// ```
-    pub const WORDS: usize = 5;
+    pub const WORDS: usize = sorbrudder_sys::TOKEN_WORDS;
 
     /// A token with nothing to carry.
     ///

@@ -1,9 +1,11 @@
-//! Trees: preorder words, with what is needed to walk them.
+//! Trees that own their words.
 
-use crate::token::LOW;
-use crate::{Op, Payload, Span, Token};
-use sorbrudder_sys::Answer;
+use crate::layout::{self, children, node_words};
+use crate::tree_ref::{Link, Shown};
+use crate::{Node, Token, TreeRef};
+use sorbrudder_sys::{Answer, MOST_NODES};
 use std::fmt;
+use std::hash::{Hash, Hasher};
 
 /// A tree of at most 12,288 nodes, as words in preorder: parent first, children in order.
 ///
@@ -17,6 +19,9 @@ use std::fmt;
 /// let ops: Vec<Op> = tree.nodes().map(|node| node.op()).collect();
 /// assert_eq!(ops, [Op::ADD, Op::FLOAT, Op::MUL, Op::FLOAT, Op::FLOAT]);
 /// ```
+///
+/// A node is [`Tree::NODE_WORDS`] words: the five of its [`Token`]; a word whose top three bits are 6 and whose bits 0-13 are the number of
+/// its children; and a word whose top three bits are 7 and whose bits 0-28 are where it closes ([`Node::close`]).
 #[derive(Clone)]
 pub struct Tree {
     words: Vec<u32>,
@@ -24,21 +29,15 @@ pub struct Tree {
     depth: usize,
 }
 
-/// Where a node hangs: its parent (its own number for the root), and the number after its last descendant.
-#[derive(Copy, Clone)]
-struct Link {
-    parent: u16,
-    end: u16,
-}
-
 /// Words that are not exactly one tree of at most 12,288 nodes.
 ///
 /// ```
-/// use sorbrudder::{NotATree, Tree};
+/// use sorbrudder::Tree;
 ///
-/// assert_eq!(Tree::from_words(Vec::new()).err(), Some(NotATree { word: 0 }));
+/// assert_eq!(Tree::from_words(Vec::new()).unwrap_err().word, 0);
 /// ```
 #[derive(Copy, Clone, Debug, PartialEq, Eq)]
+#[non_exhaustive]
 pub struct NotATree {
     /// The first word that cannot continue a tree, or the word count where they run out.
     pub word: usize,
@@ -52,32 +51,13 @@ impl fmt::Display for NotATree {
 
 impl std::error::Error for NotATree {}
 
-/// The most nodes of a tree.
-const MOST_NODES: usize = 12_288;
-
-/// Why a node's words are a token's.
-const SOUND: &str = "a tree's words were made or judged by the library";
-
-/// How many children a node's words say it has.
-fn children(node: &[u32]) -> usize {
-    (node[Token::WORDS] & LOW) as usize
-}
-
-/// How many levels the nodes of a tree's words have; of other words some number, found in their first 12,288 nodes.
-pub(crate) fn depth_of(words: &[u32]) -> usize {
-    let mut open: Vec<usize> = Vec::new();
-    let mut depth = 0;
-    for node in words.chunks_exact(Tree::NODE_WORDS).take(MOST_NODES) {
-        depth = depth.max(open.len() + 1);
-        open.push(children(node));
-        while open.last() == Some(&0) {
-            open.pop();
-            if let Some(left) = open.last_mut() {
-                *left = left.saturating_sub(1);
-            }
-        }
+/// Whether words are one tree. The library judges them.
+pub(crate) fn judge(words: &[u32]) -> Result<(), NotATree> {
+    // A list with no room: no tree is written, and only words that are no tree are answered 12.
+    match sorbrudder_sys::write(words, &mut []) {
+        Answer::Refused(12, word) => Err(NotATree { word }),
+        _ => Ok(()),
     }
-    depth
 }
 
 impl Tree {
@@ -90,7 +70,7 @@ impl Tree {
     /// let tree = Reader::new().read(&list, 6).unwrap();
     /// assert_eq!(tree.words().len(), sorbrudder::Tree::NODE_WORDS);
     /// ```
-    pub const NODE_WORDS: usize = 7;
+    pub const NODE_WORDS: usize = sorbrudder_sys::NODE_WORDS;
 
     /// The tree of words that the library made, or that it found to be one tree.
     pub(crate) fn of_sound(words: Vec<u32>) -> Self {
@@ -99,7 +79,7 @@ impl Tree {
         // The nodes whose children are still coming, with how many.
         let mut open: Vec<(usize, usize)> = Vec::new();
         let mut depth = 0;
-        for (number, node) in words.chunks_exact(Self::NODE_WORDS).enumerate() {
+        for (number, node) in layout::nodes(&words).enumerate() {
             let parent = open.last().map_or(number, |(parent, _)| *parent);
             links.push(Link {
                 parent: parent as u16,
@@ -125,19 +105,17 @@ impl Tree {
     /// The tree of preorder words. The library judges them.
     ///
     /// ```
-    /// use sorbrudder::{NotATree, Tree};
+    /// use sorbrudder::{Reader, Tokens, Tree};
     ///
-    /// let token = [0x2000_003D, 0x4000_0000, 0x6000_0001, 0x8000_0000, 0xA000_0000];
-    /// let leaf = [&token[..], &[0xC000_0000, 0xE000_0001]].concat();
-    /// assert_eq!(Tree::from_words(leaf.clone()).unwrap().to_string(), "a");
-    /// assert_eq!(Tree::from_words(leaf[..6].to_vec()).unwrap_err(), NotATree { word: 6 });
+    /// let list: Tokens = "a + b".parse().unwrap();
+    /// let words = Reader::new().read(&list, 6).unwrap().into_words();
+    /// assert_eq!(Tree::from_words(words.clone()).unwrap().to_string(), "9(a,b)");
+    /// assert_eq!(Tree::from_words(words[..5].to_vec()).unwrap_err().word, 5);
+    /// assert_eq!(Tree::from_words(words[..20].to_vec()).unwrap_err().word, 20);
     /// ```
     pub fn from_words(words: Vec<u32>) -> Result<Self, NotATree> {
-        // A list with no room: no tree is written, and only words that are no tree are answered 12.
-        match sorbrudder_sys::write(&words, &mut []) {
-            Answer::Refused(12, word) => Err(NotATree { word }),
-            _ => Ok(Self::of_sound(words)),
-        }
+        judge(&words)?;
+        Ok(Self::of_sound(words))
     }
 
     /// The tree of nodes in preorder, each with the number of its children. Every node closes at the end of its own span.
@@ -155,7 +133,7 @@ impl Tree {
     }
 
     /// The tree of nodes in preorder, each with the number of its children and with where it closes
-    /// ([`Node::close`]); a number above [`Span::LAST`] is refused at its word.
+    /// ([`Node::close`]); a number above [`Span::LAST`](crate::Span::LAST) is refused at its word.
     ///
     /// ```
     /// use sorbrudder::{Reader, Tokens, Tree};
@@ -168,16 +146,23 @@ impl Tree {
     pub fn from_closed_nodes(
         nodes: impl IntoIterator<Item = (Token, usize, u32)>,
     ) -> Result<Self, NotATree> {
-        let mut words = Vec::new();
         // One node more than a tree can have is enough to be refused.
-        for (token, children, close) in nodes.into_iter().take(MOST_NODES + 1) {
-            words.extend(token.words());
-            // A count that has no room in its word is too many for any tree.
-            words.push(6 << 29 | children.min(LOW as usize) as u32);
-            // A word of kind 0 stands for a close that has no room in its word; no tree has it.
-            words.push(if close <= LOW { 7 << 29 | close } else { 0 });
-        }
-        Self::from_words(words)
+        let nodes = nodes.into_iter().take(MOST_NODES + 1);
+        let words = nodes.flat_map(|(token, children, close)| node_words(token, children, close));
+        Self::from_words(words.collect())
+    }
+
+    /// The tree over its own words, as [`TreeRef`] walks it.
+    ///
+    /// ```
+    /// use sorbrudder::{Reader, Tokens};
+    ///
+    /// let list: Tokens = "a + b".parse().unwrap();
+    /// let tree = Reader::new().read(&list, 6).unwrap();
+    /// assert_eq!(tree.view().to_string(), tree.to_string());
+    /// ```
+    pub fn view(&self) -> TreeRef<'_> {
+        TreeRef::linked(&self.words, &self.links)
     }
 
     /// The tree's words.
@@ -196,11 +181,11 @@ impl Tree {
     /// The tree's words, for the caller to keep.
     ///
     /// ```
-    /// use sorbrudder::{Reader, Tokens};
+    /// use sorbrudder::{Reader, Tokens, Tree};
     ///
     /// let list: Tokens = "a".parse().unwrap();
     /// let tree = Reader::new().read(&list, 6).unwrap();
-    /// assert_eq!(tree.into_words().len(), 7);
+    /// assert_eq!(tree.into_words().len(), Tree::NODE_WORDS);
     /// ```
     pub fn into_words(self) -> Vec<u32> {
         self.words
@@ -243,10 +228,7 @@ impl Tree {
     /// assert_eq!(tree.root().op(), sorbrudder::Op::LOGICAL_NOT);
     /// ```
     pub fn root(&self) -> Node<'_> {
-        Node {
-            tree: self,
-            number: 0,
-        }
+        self.view().root()
     }
 
     /// The node of this number in preorder, the root being 0.
@@ -260,7 +242,7 @@ impl Tree {
     /// assert!(tree.node(2).is_none());
     /// ```
     pub fn node(&self, number: usize) -> Option<Node<'_>> {
-        (number < self.len()).then_some(Node { tree: self, number })
+        self.view().node(number)
     }
 
     /// All nodes in preorder.
@@ -273,7 +255,7 @@ impl Tree {
     /// assert_eq!(tree.nodes().filter(|node| node.is_leaf()).count(), 2);
     /// ```
     pub fn nodes(&self) -> impl ExactSizeIterator<Item = Node<'_>> + DoubleEndedIterator {
-        (0..self.len()).map(|number| Node { tree: self, number })
+        self.view().nodes()
     }
 
     /// The tree with every bracket taken away that only groups: each with exactly one child whose parent is neither a
@@ -291,13 +273,26 @@ impl Tree {
     /// ```
     #[must_use]
     pub fn without_brackets(&self) -> Self {
-        let stays = |node: &Node<'_>| {
-            node.op() != Op::LEFT_PARENTHESIS
-                || node.child_count() != 1
-                || node.parent().is_some_and(|parent| parent.op().is_call())
-        };
-        let kept = self.nodes().filter(stays);
-        Self::of_sound(kept.flat_map(|node| node.words().to_vec()).collect())
+        self.view().without_brackets()
+    }
+
+    /// Where this tree and another differ: the highest nodes that do, each beside the one in its place.
+    ///
+    /// ```
+    /// use sorbrudder::{Reader, Tokens};
+    ///
+    /// let source = "x + (a && b || c)";
+    /// let list: Tokens = source.parse().unwrap();
+    /// let mut reader = Reader::new();
+    /// let (old, new) = (reader.read(&list, 5).unwrap(), reader.read(&list, 6).unwrap());
+    /// let found: Vec<_> = old.differences(&new).collect();
+    /// assert_eq!(found.len(), 1);
+    /// assert_eq!((found[0].old.op().text(), found[0].new.op().text()), ("&&", "||"));
+    /// assert_eq!(found[0].old.subtree_span().of(source), Some("a && b || c"));
+    /// assert_eq!(old.differences(&old).count(), 0);
+    /// ```
+    pub fn differences<'t>(&'t self, other: &'t Self) -> crate::Differences<'t> {
+        self.view().differences(other.view())
     }
 
     /// The tree with each leaf as it stands in the source: for lists whose spans lie in a text.
@@ -313,7 +308,7 @@ impl Tree {
     /// ```
     pub fn shown_in<'s>(&'s self, source: &'s str) -> impl fmt::Display + 's {
         Shown {
-            tree: self,
+            tree: self.view(),
             source: Some(source),
         }
     }
@@ -327,324 +322,37 @@ impl PartialEq for Tree {
 
 impl Eq for Tree {}
 
+impl Hash for Tree {
+    fn hash<H: Hasher>(&self, state: &mut H) {
+        self.words.hash(state);
+    }
+}
+
+impl<'t> From<&'t Tree> for TreeRef<'t> {
+    fn from(tree: &'t Tree) -> Self {
+        tree.view()
+    }
+}
+
+impl<'t> IntoIterator for &'t Tree {
+    type Item = Node<'t>;
+    type IntoIter = crate::Nodes<'t>;
+
+    fn into_iter(self) -> Self::IntoIter {
+        self.view().into_iter()
+    }
+}
+
 /// As document 01 writes trees: `9(a,31(b,c))`. An operator is its number, a float its value; floats that carry none are
 /// `a`, `b`, `c` and so on from the left.
 impl fmt::Display for Tree {
     fn fmt(&self, f: &mut fmt::Formatter<'_>) -> fmt::Result {
-        let shown = Shown {
-            tree: self,
-            source: None,
-        };
-        shown.fmt(f)
+        self.view().fmt(f)
     }
 }
 
 impl fmt::Debug for Tree {
     fn fmt(&self, f: &mut fmt::Formatter<'_>) -> fmt::Result {
         write!(f, "Tree({self})")
-    }
-}
-
-/// The letter of the nth float that carries nothing.
-pub(crate) struct Letter(pub usize);
-
-impl fmt::Display for Letter {
-    fn fmt(&self, f: &mut fmt::Formatter<'_>) -> fmt::Result {
-        let letter = char::from(b'a' + (self.0 % 26) as u8);
-        match self.0 / 26 {
-            0 => write!(f, "{letter}"),
-            round => write!(f, "{letter}{round}"),
-        }
-    }
-}
-
-struct Shown<'t> {
-    tree: &'t Tree,
-    source: Option<&'t str>,
-}
-
-impl fmt::Display for Shown<'_> {
-    fn fmt(&self, f: &mut fmt::Formatter<'_>) -> fmt::Result {
-        let mut letters = 0;
-        // The ends of the nodes whose children are being shown.
-        let mut open: Vec<usize> = Vec::new();
-        for node in self.tree.nodes() {
-            let text = self.source.and_then(|source| node.span().of(source));
-            match (node.is_leaf(), text, node.payload()) {
-                (true, Some(text), _) if !text.is_empty() => write!(f, "{text}")?,
-                (true, _, Payload::Float(float)) if node.op() == Op::FLOAT => write!(f, "{float}")?,
-                (true, _, Payload::None) if node.op() == Op::FLOAT => {
-                    write!(f, "{}", Letter(letters))?;
-                    letters += 1;
-                }
-                _ => write!(f, "{}", node.op().number())?,
-            }
-            if !node.is_leaf() {
-                f.write_str("(")?;
-                open.push(node.end());
-                continue;
-            }
-            while open.last() == Some(&(node.number() + 1)) {
-                f.write_str(")")?;
-                open.pop();
-            }
-            if !open.is_empty() {
-                f.write_str(",")?;
-            }
-        }
-        Ok(())
-    }
-}
-
-/// A node of a tree.
-///
-/// ```
-/// use sorbrudder::{Op, Reader, Tokens};
-///
-/// let list: Tokens = "a + b * c".parse().unwrap();
-/// let tree = Reader::new().read(&list, 6).unwrap();
-/// let product = tree.root().children().nth(1).unwrap();
-/// assert_eq!((product.op(), product.number()), (Op::MUL, 2));
-/// assert_eq!(product.parent(), Some(tree.root()));
-/// assert_eq!(product.span().of("a + b * c"), Some("*"));
-/// assert_eq!(product.child(1).unwrap().span().of("a + b * c"), Some("c"));
-/// ```
-#[derive(Copy, Clone)]
-pub struct Node<'t> {
-    tree: &'t Tree,
-    number: usize,
-}
-
-impl<'t> Node<'t> {
-    /// The node's seven words: its token's five, how many children it has, and where it closes.
-    ///
-    /// ```
-    /// use sorbrudder::{Reader, Tokens};
-    ///
-    /// let list: Tokens = "a + b".parse().unwrap();
-    /// let tree = Reader::new().read(&list, 6).unwrap();
-    /// assert_eq!(tree.root().words()[5..], [0xC000_0002, 0xE000_0003]);
-    /// ```
-    pub fn words(self) -> &'t [u32] {
-        let from = self.number * Tree::NODE_WORDS;
-        &self.tree.words[from..from + Tree::NODE_WORDS]
-    }
-
-    /// The node's number in preorder, the root's being 0.
-    ///
-    /// ```
-    /// use sorbrudder::{Reader, Tokens};
-    ///
-    /// let list: Tokens = "a + b".parse().unwrap();
-    /// let tree = Reader::new().read(&list, 6).unwrap();
-    /// assert_eq!(tree.root().child(1).unwrap().number(), 2);
-    /// ```
-    pub fn number(self) -> usize {
-        self.number
-    }
-
-    /// The node's operator.
-    ///
-    /// ```
-    /// use sorbrudder::{Reader, Tokens};
-    ///
-    /// let list: Tokens = "a + b".parse().unwrap();
-    /// let tree = Reader::new().read(&list, 6).unwrap();
-    /// assert_eq!(tree.root().op().text(), "+");
-    /// ```
-    pub fn op(self) -> Op {
-        Op::new(self.words()[0] as u8).expect(SOUND)
-    }
-
-    /// What the node carries.
-    ///
-    /// ```
-    /// use sorbrudder::{Reader, Tokens};
-    ///
-    /// let list: Tokens = "a".parse().unwrap();
-    /// let tree = Reader::new().read(&list, 6).unwrap();
-    /// assert_eq!(tree.root().payload(), sorbrudder::Payload::None);
-    /// ```
-    pub fn payload(self) -> Payload {
-        self.token().payload
-    }
-
-    /// Where the node's own token stands in the source.
-    ///
-    /// ```
-    /// use sorbrudder::{Reader, Tokens};
-    ///
-    /// let list: Tokens = "a + b".parse().unwrap();
-    /// let tree = Reader::new().read(&list, 6).unwrap();
-    /// assert_eq!(tree.root().span().of("a + b"), Some("+"));
-    /// ```
-    pub fn span(self) -> Span {
-        let words = self.words();
-        Span::new(words[1] & LOW, words[2] & LOW).expect(SOUND)
-    }
-
-    /// Where the node closes: a section (`(`, `[` or `{` with its closer) at the end of its closer, every other node at the
-    /// end of its own span. A section's span is its opener's, so an editor that colours a bracket from opener to closer
-    /// takes the start of the one and this:
-    ///
-    /// ```
-    /// use sorbrudder::{Reader, Span, Tokens};
-    ///
-    /// let source = "(a + b) * c";
-    /// let list: Tokens = source.parse().unwrap();
-    /// let tree = Reader::new().read(&list, 6).unwrap();
-    /// let section = tree.root().child(0).unwrap();
-    /// assert_eq!(section.span().of(source), Some("("));
-    ///
-    /// let coloured = Span::new(section.span().start(), section.close()).unwrap();
-    /// assert_eq!(coloured.of(source), Some("(a + b)"));
-    ///
-    /// let times = tree.root();
-    /// assert_eq!(times.close(), times.span().end());
-    /// ```
-    pub fn close(self) -> u32 {
-        self.words()[Token::WORDS + 1] & LOW
-    }
-
-    /// The node's token.
-    ///
-    /// ```
-    /// use sorbrudder::{Reader, Tokens};
-    ///
-    /// let list: Tokens = "a + b".parse().unwrap();
-    /// let tree = Reader::new().read(&list, 6).unwrap();
-    /// assert_eq!(tree.root().token(), list[1]);
-    /// ```
-    pub fn token(self) -> Token {
-        let words = self.words();
-        Token::from_words([words[0], words[1], words[2], words[3], words[4]]).expect(SOUND)
-    }
-
-    /// How many children the node has.
-    ///
-    /// ```
-    /// use sorbrudder::{Reader, Tokens};
-    ///
-    /// let list: Tokens = "a + b".parse().unwrap();
-    /// let tree = Reader::new().read(&list, 6).unwrap();
-    /// assert_eq!(tree.root().child_count(), 2);
-    /// ```
-    pub fn child_count(self) -> usize {
-        children(self.words())
-    }
-
-    /// Whether the node has no child.
-    ///
-    /// ```
-    /// use sorbrudder::{Reader, Tokens};
-    ///
-    /// let list: Tokens = "a".parse().unwrap();
-    /// let tree = Reader::new().read(&list, 6).unwrap();
-    /// assert!(tree.root().is_leaf());
-    /// ```
-    pub fn is_leaf(self) -> bool {
-        self.child_count() == 0
-    }
-
-    /// The node's parent; none for the root.
-    ///
-    /// ```
-    /// use sorbrudder::{Reader, Tokens};
-    ///
-    /// let list: Tokens = "!a".parse().unwrap();
-    /// let tree = Reader::new().read(&list, 6).unwrap();
-    /// assert_eq!(tree.node(1).unwrap().parent(), Some(tree.root()));
-    /// assert_eq!(tree.root().parent(), None);
-    /// ```
-    pub fn parent(self) -> Option<Self> {
-        let parent = usize::from(self.tree.links[self.number].parent);
-        (parent != self.number).then_some(Self {
-            number: parent,
-            ..self
-        })
-    }
-
-    /// The node's children, in order.
-    ///
-    /// ```
-    /// use sorbrudder::{Reader, Tokens};
-    ///
-    /// let list: Tokens = "!a + b".parse().unwrap();
-    /// let tree = Reader::new().read(&list, 6).unwrap();
-    /// let ops = tree.root().children().map(|child| child.op().text());
-    /// assert_eq!(ops.collect::<Vec<_>>(), ["!", "float"]);
-    /// ```
-    pub fn children(self) -> impl Iterator<Item = Self> {
-        let end = self.end();
-        let first = self.number + 1;
-        let mut next = first;
-        std::iter::from_fn(move || {
-            let child = (next < end).then_some(Self {
-                number: next,
-                ..self
-            })?;
-            next = child.end();
-            Some(child)
-        })
-    }
-
-    /// The child with this number, the first being 0.
-    ///
-    /// ```
-    /// use sorbrudder::{Reader, Tokens};
-    ///
-    /// let list: Tokens = "a + b".parse().unwrap();
-    /// let tree = Reader::new().read(&list, 6).unwrap();
-    /// assert!(tree.root().child(2).is_none());
-    /// ```
-    pub fn child(self, place: usize) -> Option<Self> {
-        self.children().nth(place)
-    }
-
-    /// The node and all nodes below it, in preorder.
-    ///
-    /// ```
-    /// use sorbrudder::{Reader, Tokens};
-    ///
-    /// let list: Tokens = "!a + b".parse().unwrap();
-    /// let tree = Reader::new().read(&list, 6).unwrap();
-    /// assert_eq!(tree.root().child(0).unwrap().subtree().count(), 2);
-    /// ```
-    pub fn subtree(self) -> impl Iterator<Item = Self> {
-        (self.number..self.end()).map(move |number| Self { number, ..self })
-    }
-
-    /// The words of the node and of all nodes below it: a tree by itself.
-    ///
-    /// ```
-    /// use sorbrudder::{Reader, Tokens};
-    ///
-    /// let list: Tokens = "!a + b".parse().unwrap();
-    /// let tree = Reader::new().read(&list, 6).unwrap();
-    /// let not = tree.root().child(0).unwrap().subtree_words();
-    /// assert_eq!(sorbrudder::Tree::from_words(not.to_vec()).unwrap().to_string(), "7(a)");
-    /// ```
-    pub fn subtree_words(self) -> &'t [u32] {
-        &self.tree.words[self.number * Tree::NODE_WORDS..self.end() * Tree::NODE_WORDS]
-    }
-
-    /// The number after the node's last descendant.
-    fn end(self) -> usize {
-        usize::from(self.tree.links[self.number].end)
-    }
-}
-
-/// Two nodes are equal where they are the same node of the same tree.
-impl PartialEq for Node<'_> {
-    fn eq(&self, other: &Self) -> bool {
-        self.number == other.number && std::ptr::eq(self.tree, other.tree)
-    }
-}
-
-impl Eq for Node<'_> {}
-
-impl fmt::Debug for Node<'_> {
-    fn fmt(&self, f: &mut fmt::Formatter<'_>) -> fmt::Result {
-        write!(f, "node {}: {:?}", self.number, self.op())
     }
 }

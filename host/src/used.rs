@@ -2,6 +2,7 @@
 
 use crate::{Op, Token};
 use std::fmt;
+use std::ops::{BitAnd, BitOr, Sub};
 
 /// The operators that a list uses. A pass runs only where its operators are in the set.
 ///
@@ -56,8 +57,11 @@ impl Used {
     /// assert_eq!(Used::exact_words(&list.words()), Used::exact(&list));
     /// ```
     pub fn exact_words(list: &[u32]) -> Self {
-        let numbers = list.iter().step_by(Token::WORDS).map(|word| *word as u8);
-        numbers.filter_map(Op::new).collect()
+        let mut set = 0;
+        for token in list.chunks(Token::WORDS) {
+            set |= bit(token[0] as u8);
+        }
+        Self(set & Self::FULL.0)
     }
 
     /// Whether the operator is in the set.
@@ -104,7 +108,7 @@ impl Used {
     /// assert_eq!(used.ops().collect::<Vec<_>>(), [Op::ADD, Op::MUL]);
     /// ```
     pub fn ops(self) -> impl Iterator<Item = Op> {
-        Op::all().filter(move |op| self.contains(*op))
+        self.into_iter()
     }
 
     /// The two halves that cross to the library: operator 0 is the lowest bit of the first.
@@ -133,6 +137,90 @@ impl Used {
         } else {
             None
         }
+    }
+}
+
+/// The bit of a number that may be an operator's. Above 127 there is none.
+const fn bit(number: u8) -> u128 {
+    match 1u128.checked_shl(number as u32) {
+        Some(bit) => bit,
+        None => 0,
+    }
+}
+
+impl Extend<Op> for Used {
+    fn extend<I: IntoIterator<Item = Op>>(&mut self, ops: I) {
+        *self = ops.into_iter().fold(*self, Self::with);
+    }
+}
+
+/// The operators of the set, by number.
+///
+/// ```
+/// use sorbrudder::{Op, Used};
+///
+/// let used: Used = [Op::MUL, Op::ADD].into_iter().collect();
+/// assert_eq!(used.into_iter().next(), Some(Op::ADD));
+/// ```
+impl IntoIterator for Used {
+    type Item = Op;
+    type IntoIter = UsedOps;
+
+    fn into_iter(self) -> UsedOps {
+        UsedOps(self.0)
+    }
+}
+
+/// The operators of a set, by number: what [`Used`] iterates by.
+///
+/// ```
+/// assert_eq!(sorbrudder::Used::FULL.into_iter().count(), 111);
+/// ```
+#[derive(Clone, Debug)]
+pub struct UsedOps(u128);
+
+impl Iterator for UsedOps {
+    type Item = Op;
+
+    fn next(&mut self) -> Option<Op> {
+        let op = Op::new(self.0.trailing_zeros() as u8)?;
+        self.0 &= self.0 - 1;
+        Some(op)
+    }
+}
+
+/// The operators of either set.
+///
+/// ```
+/// use sorbrudder::{Op, Used};
+///
+/// let (add, mul) = (Used::EMPTY.with(Op::ADD), Used::EMPTY.with(Op::MUL));
+/// assert_eq!((add | mul) & mul, mul);
+/// assert_eq!((add | mul) - mul, add);
+/// ```
+impl BitOr for Used {
+    type Output = Self;
+
+    fn bitor(self, other: Self) -> Self {
+        Self(self.0 | other.0)
+    }
+}
+
+/// The operators of both sets.
+impl BitAnd for Used {
+    type Output = Self;
+
+    fn bitand(self, other: Self) -> Self {
+        Self(self.0 & other.0)
+    }
+}
+
+/// The operators of the first set that are not in the second.
+impl Sub for Used {
+    type Output = Self;
+
+    fn sub(self, other: Self) -> Self {
+        Self(self.0 & !other.0)
     }
 }
 

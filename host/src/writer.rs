@@ -1,7 +1,7 @@
 //! The writer: a plain tree becomes a token list that every version reads the same.
 
+use crate::layout::depth_of;
 use crate::reader::MOST_TOKENS;
-use crate::tree::depth_of;
 use crate::{Token, Tokens, Tree};
 use sorbrudder_sys::Answer;
 use std::fmt;
@@ -45,6 +45,8 @@ use std::fmt;
 #[derive(Clone, Debug, Default)]
 pub struct Writer {
     list: Vec<u32>,
+    /// To find a tree's depth in.
+    open: Vec<usize>,
 }
 
 /// Why a tree is not written.
@@ -62,13 +64,14 @@ pub struct Writer {
 /// assert_eq!(why.to_string(), "node 3 has no plain form");
 /// ```
 #[derive(Copy, Clone, Debug, PartialEq, Eq)]
+#[non_exhaustive]
 pub enum WriteError {
     /// The words are not one tree. Only words can have this fault; a [`Tree`] cannot.
     NotATree {
         /// The first word that cannot continue a tree, or the word count where they run out.
         word: usize,
     },
-    /// A node has no plain form.
+    /// A node has no plain form; [`Node::unplain`](crate::Node::unplain) says why.
     NotPlain {
         /// The first such node's number in preorder.
         node: usize,
@@ -128,11 +131,19 @@ impl Writer {
     /// assert_eq!(Writer::new().write_words(&[]), Err(WriteError::NotATree { word: 0 }));
     /// ```
     pub fn write_words(&mut self, tree: &[u32]) -> Result<&[u32], WriteError> {
-        self.write_to_depth(tree, depth_of(tree))
+        let nodes = tree.len() / Tree::NODE_WORDS;
+        // A tree has no more levels than nodes.
+        let depth = match nodes {
+            0..=LEVELS => nodes,
+            _ => depth_of(tree, &mut self.open),
+        };
+        self.write_to_depth(tree, depth)
     }
 
     fn write_to_depth(&mut self, tree: &[u32], depth: usize) -> Result<&[u32], WriteError> {
-        self.list.resize(Token::WORDS * MOST_TOKENS, 0);
+        if self.list.is_empty() {
+            self.list.resize(Token::WORDS * MOST_TOKENS, 0);
+        }
         let list = &mut self.list;
         let answer = if depth <= LEVELS {
             sorbrudder_sys::write(tree, list)

@@ -1,26 +1,12 @@
 //! The crate at its limits: small stacks, many threads, lists that are too long, every refusal, words of any kind.
 
+mod common;
+
+use common::Rng;
 use sorbrudder::{
     Lifter, MOST_TOKENS, Message, Op, ReadError, Reader, Refusal, Span, Token, Tokens, Tree, Used,
     WriteError, Writer,
 };
-
-/// Numbers from a seed (splitmix64).
-struct Rng(u64);
-
-impl Rng {
-    fn bits(&mut self) -> u64 {
-        self.0 = self.0.wrapping_add(0x9E37_79B9_7F4A_7C15);
-        let mut mixed = self.0;
-        mixed = (mixed ^ (mixed >> 30)).wrapping_mul(0xBF58_476D_1CE4_E5B9);
-        mixed = (mixed ^ (mixed >> 27)).wrapping_mul(0x94D0_49BB_1331_11EB);
-        mixed ^ (mixed >> 31)
-    }
-
-    fn below(&mut self, bound: usize) -> usize {
-        (self.bits() % bound as u64) as usize
-    }
-}
 
 /// `steps`, the middle, as many `backs`, and what comes after, of at most 4,096 tokens.
 fn nest(step: &str, middle: &str, back: &str, after: &str) -> Tokens {
@@ -112,7 +98,7 @@ fn deep_trees_are_written_and_lifted_on_128_kib_of_stack() {
             let shape = |tree: &Tree| tree.without_brackets().to_string();
             assert_eq!(shape(&again), shape(&tree));
             assert_eq!(writer.write_words(tree.words()), Ok(&written.words()[..]));
-            assert!(lifter.lift(list, 6, 4).is_ok());
+            assert!(lifter.lift(list).from(6).to(4).is_ok());
         }
         // Deeper than any list that could be written, and too long.
         let bare = |op| Token::bare(op, Span::default());
@@ -241,11 +227,14 @@ fn every_refusal_of_the_writer_is_mapped_or_cannot_happen() {
     let array = array.expect("one tree");
     assert_eq!(write(array.words()), Err(WriteError::NotPlain { node: 1 }));
     let counted = Tree::from_nodes([(bare(Op::FLOAT), usize::MAX)]);
-    assert_eq!(counted.map_err(|why| why.word), Err(5));
+    assert_eq!(counted.map_err(|why| why.word), Err(Token::WORDS));
     let endless = Tree::from_nodes(std::iter::repeat((bare(Op::NEGATE), 1)));
-    assert_eq!(endless.map_err(|why| why.word), Err(7 * 12_287 + 5));
+    assert_eq!(
+        endless.map_err(|why| why.word),
+        Err(Tree::NODE_WORDS * 12_287 + Token::WORDS)
+    );
     let two = Tree::from_nodes(std::iter::repeat((bare(Op::FLOAT), 0)));
-    assert_eq!(two.map_err(|why| why.word), Err(7));
+    assert_eq!(two.map_err(|why| why.word), Err(Tree::NODE_WORDS));
     // A seventh word is looked at for its kind alone; a close that it has no room for cannot be put into it.
     let closed = |close| Tree::from_closed_nodes([(bare(Op::FLOAT), 0, close)]);
     assert_eq!(

@@ -1,36 +1,45 @@
-//! A C program that includes the header, links the library and reads one list.
+//! C programs that include the header and link the library: one reads a list, one holds every number of the header to the crate's.
 
-use std::path::Path;
+mod common;
+
+use common::kept_lists;
+use sorbrudder::{Op, Payload, ReadError, Reader, Refusal, Token, Tree};
+use std::collections::BTreeSet;
+use std::path::{Path, PathBuf};
 use std::process::Command;
 
-#[test]
-fn a_c_program_reads_one_list() {
-    let host = Path::new(env!("CARGO_MANIFEST_DIR"));
-    let program = Path::new(env!("CARGO_TARGET_TMPDIR")).join("read_one");
-    let compiler = std::env::var("CC").unwrap_or_else(|_| "cc".to_string());
-    let built = Command::new(compiler)
-        .args([
-            "-std=c11",
-            "-Wall",
-            "-Wextra",
-            "-Wpedantic",
-            "-Werror",
-            "-O1",
-        ])
-        .arg("-I")
-        .arg(host.join("../include"))
-        .arg(host.join("tests/c/read_one.c"))
+/// Compiles a program, with warnings as errors, and gives its path.
+fn compiled(compiler: &str, language: &[&str], source: &Path, name: &str) -> PathBuf {
+    let program = Path::new(env!("CARGO_TARGET_TMPDIR")).join(name);
+    let include = Path::new(env!("CARGO_MANIFEST_DIR")).join("../include");
+    let mut command = Command::new(compiler);
+    command
+        .args(language)
+        .args(["-Wall", "-Wextra", "-Wpedantic", "-Werror", "-O1"]);
+    command.arg("-I").arg(include).arg(source);
+    // The archive is no source of the language.
+    command
+        .args(["-x", "none"])
         .arg(env!("SORBRUDDER_ARCHIVE"))
         .arg("-o")
-        .arg(&program)
-        .output()
-        .expect("a C compiler: cc, or the one that CC names");
-    assert!(
-        built.status.success(),
-        "{}",
-        String::from_utf8_lossy(&built.stderr)
-    );
-    let run = Command::new(&program).output().expect("the program runs");
+        .arg(&program);
+    let built = command.output().expect("a compiler");
+    let told = String::from_utf8_lossy(&built.stderr);
+    assert!(built.status.success(), "{told}");
+    program
+}
+
+fn c_compiler() -> String {
+    std::env::var("CC").unwrap_or_else(|_| "cc".to_string())
+}
+
+fn read_one() -> PathBuf {
+    Path::new(env!("CARGO_MANIFEST_DIR")).join("tests/c/read_one.c")
+}
+
+/// Runs the program that reads one list, and looks at what it prints.
+fn reads_one(program: &Path) {
+    let run = Command::new(program).output().expect("the program runs");
     let printed = String::from_utf8_lossy(&run.stdout);
     assert!(run.status.success(), "{}, after {printed}", run.status);
     let lines = [
@@ -45,4 +54,161 @@ fn a_c_program_reads_one_list() {
         "refused 12 27",
     ];
     assert_eq!(printed.lines().collect::<Vec<_>>(), lines);
+}
+
+#[test]
+fn a_c_program_reads_one_list() {
+    reads_one(&compiled(
+        &c_compiler(),
+        &["-std=c11"],
+        &read_one(),
+        "read_one",
+    ));
+}
+
+#[test]
+fn a_cpp_program_reads_one_list() {
+    let is_there = Command::new("c++").arg("--version").output().is_ok();
+    if is_there {
+        let language = ["-std=c++17", "-x", "c++"];
+        reads_one(&compiled("c++", &language, &read_one(), "read_one_cpp"));
+    }
+}
+
+/// A name of a Rust variant as the header writes it: `NotWhole` as `NOT_WHOLE`.
+fn snake(name: &str) -> String {
+    let mut snake = String::new();
+    for c in name.chars() {
+        if c.is_ascii_uppercase() && !snake.is_empty() {
+            snake.push('_');
+        }
+        snake.push(c.to_ascii_uppercase());
+    }
+    snake
+}
+
+/// The name of a variant, out of its Debug text.
+fn variant(value: impl std::fmt::Debug) -> String {
+    let text = format!("{value:?}");
+    let name: String = text
+        .chars()
+        .take_while(char::is_ascii_alphanumeric)
+        .collect();
+    snake(&name)
+}
+
+/// The messages' names and numbers, of all lists that were kept.
+fn messages() -> BTreeSet<(String, u64)> {
+    let mut found = BTreeSet::new();
+    let mut reader = Reader::new();
+    for (list, version) in kept_lists()
+        .iter()
+        .flat_map(|list| [4, 6].map(|v| (list, v)))
+    {
+        if let Err(ReadError::Messages(messages)) = reader.read_words(list, version) {
+            found.extend(messages.iter().map(|m| (variant(m), u64::from(m.number()))));
+        }
+    }
+    found
+}
+
+fn named(prefix: &str, name: &str) -> String {
+    format!("SORBRUDDER_{prefix}_{name}")
+}
+
+/// The enums of the header, by what the crate has.
+fn enums() -> Vec<(String, u64)> {
+    let ops = Op::all().map(|op| (named("OP", op.name()), u64::from(op.number())));
+    let payloads = (0..13).map(|number| {
+        let payload = Payload::from_bits(number, 0).expect("a variant");
+        (named("PAYLOAD", &variant(payload)), u64::from(number))
+    });
+    let refusals = [
+        Refusal::NotWhole,
+        Refusal::TooManyTokens,
+        Refusal::SourceTooLong,
+        Refusal::WrongKind { word: 0 },
+        Refusal::UnknownOperator { word: 0 },
+        Refusal::UnknownPayload { word: 0 },
+        Refusal::OtherBits { word: 0 },
+    ];
+    let refusal = |refusal: Refusal| (named("REFUSAL", &variant(refusal)), refusal.number().into());
+    let messages = messages();
+    assert_eq!(messages.len(), 17);
+    let messages = messages
+        .into_iter()
+        .map(|(name, number)| (named("MESSAGE", &name), number));
+    ops.chain(payloads)
+        .chain(refusals.map(refusal))
+        .chain(messages)
+        .collect()
+}
+
+/// The sizes and versions of the header, by what the crate has.
+fn sizes() -> Vec<(String, u64)> {
+    let version = env!("CARGO_PKG_VERSION").split('.');
+    let version: Vec<usize> = version
+        .map(|part| part.parse().expect("a number"))
+        .collect();
+    let sizes = [
+        ("TOKEN_WORDS", Token::WORDS),
+        ("NODE_WORDS", Tree::NODE_WORDS),
+        ("MESSAGE_WORDS", sorbrudder_sys::MESSAGE_WORDS),
+        ("MOST_TOKENS", sorbrudder::MOST_TOKENS),
+        ("MESSAGE_BUFFER", sorbrudder_sys::MESSAGE_BUFFER),
+        ("LIST_BUFFER", Token::WORDS * sorbrudder::MOST_TOKENS),
+        ("TREE_BUFFER(1)", sorbrudder_sys::tree_buffer(1)),
+        ("TREE_BUFFER(4096)", sorbrudder_sys::tree_buffer(4096)),
+        ("WORK_BUFFER(1)", sorbrudder_sys::work_buffer(1)),
+        ("WORK_BUFFER(4096)", sorbrudder_sys::work_buffer(4096)),
+        ("WORD_CHILDREN", Token::WORDS),
+        ("WORD_CLOSE", Tree::NODE_WORDS - 1),
+        ("VERSION_MAJOR", version[0]),
+        ("VERSION_MINOR", version[1]),
+        ("VERSION_PATCH", version[2]),
+    ];
+    sizes
+        .map(|(name, number)| (format!("SORBRUDDER_{name}"), number as u64))
+        .to_vec()
+}
+
+#[test]
+fn every_number_of_the_header_is_the_crates() {
+    let mut program = String::from("#include \"sorbrudder.h\"\n");
+    for (name, number) in enums().into_iter().chain(sizes()) {
+        program += &format!("_Static_assert({name} == {number}, \"{name}\");\n");
+    }
+    program +=
+        "int main(void) { return sorbrudder_abi_version() == SORBRUDDER_ABI_VERSION ? 0 : 1; }\n";
+    let source = Path::new(env!("CARGO_TARGET_TMPDIR")).join("numbers.c");
+    std::fs::write(&source, program).expect("a file");
+    let program = compiled(&c_compiler(), &["-std=c11"], &source, "numbers");
+    let run = Command::new(program).status().expect("the program runs");
+    assert!(run.success(), "{run}");
+}
+
+#[test]
+fn a_header_of_another_layout_is_found_out() {
+    let include = Path::new(env!("CARGO_MANIFEST_DIR")).join("../include/sorbrudder.h");
+    let header = std::fs::read_to_string(include).expect("the header");
+    let of_nodes = |words: usize| format!("#define SORBRUDDER_NODE_WORDS {words}\n");
+    for words in [Tree::NODE_WORDS - 1, Tree::NODE_WORDS + 1] {
+        let other = header.replace(&of_nodes(Tree::NODE_WORDS), &of_nodes(words));
+        assert_ne!(other, header);
+        let program = other + "int main(void) { return (int)sorbrudder_abi_version(); }\n";
+        let source = Path::new(env!("CARGO_TARGET_TMPDIR")).join(format!("other{words}.c"));
+        std::fs::write(&source, program).expect("a file");
+        let program = compiled(
+            &c_compiler(),
+            &["-std=c11"],
+            &source,
+            &format!("other{words}"),
+        );
+        let run = Command::new(program).status().expect("the program runs");
+        assert_eq!(
+            run.code(),
+            Some(0),
+            "{words} words a node are not the library's"
+        );
+    }
 }

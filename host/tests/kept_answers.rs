@@ -1,38 +1,13 @@
 //! The kept answers of the Rust parser (vectors/vectors.bin) through the safe interface: every tree's words, every message's
 //! record, every refusal that a list can have. Where a node closes is not the Rust's word: it is found from the list.
 
+mod common;
+
+use common::{Bytes, KEPT_NODE_WORDS, vectors};
 use sorbrudder::{ReadError, Reader, Refusal, Tokens, Tree, Used};
 
 /// The bits of a word below its kind.
 const LOW: u32 = (1 << 29) - 1;
-
-/// The file's numbers, as vectors/README.md describes them.
-struct Bytes<'b>(&'b [u8]);
-
-impl Bytes<'_> {
-    fn byte(&mut self) -> u8 {
-        let (first, rest) = self.0.split_first().expect("the file is whole");
-        self.0 = rest;
-        *first
-    }
-
-    fn number(&mut self) -> u64 {
-        let (mut number, mut shift) = (0, 0);
-        loop {
-            let byte = self.byte();
-            number |= u64::from(byte & 0x7F) << shift;
-            shift += 7;
-            if byte < 0x80 {
-                return number;
-            }
-        }
-    }
-
-    fn words(&mut self, len: u64, kinds: u64) -> Vec<u32> {
-        let word = |place| self.number() as u32 ^ ((place % kinds + 1) << 29) as u32;
-        (0..len).map(word).collect()
-    }
-}
 
 /// A kept call: the used set is none where it has a bit that no operator has.
 struct Call {
@@ -104,7 +79,9 @@ impl Call {
             0 | 2 | 4 => closes[(named[1] & LOW) as usize],
             _ => node[2] & LOW,
         };
-        let nodes = kept.chunks(6).zip(named.chunks(Tree::NODE_WORDS));
+        let nodes = kept
+            .chunks(KEPT_NODE_WORDS as usize)
+            .zip(named.chunks(Tree::NODE_WORDS));
         nodes
             .flat_map(|(node, named)| [node, &[7 << 29 | close(node, named)]].concat())
             .collect()
@@ -145,7 +122,7 @@ impl Call {
             | Refusal::UnknownOperator { word }
             | Refusal::UnknownPayload { word }
             | Refusal::OtherBits { word } => word as u64,
-            Refusal::NotWhole | Refusal::TooManyTokens | Refusal::SourceTooLong => 0,
+            _ => 0,
         };
         assert_eq!((refusal.number(), word), (number, place));
     }
@@ -153,9 +130,8 @@ impl Call {
 
 #[test]
 fn every_kept_answer() {
-    let path = concat!(env!("CARGO_MANIFEST_DIR"), "/../vectors/vectors.bin");
-    let file = std::fs::read(path).expect("vectors/vectors.bin");
-    let mut bytes = Bytes(&file[12..]);
+    let file = vectors();
+    let mut bytes = Bytes(&file);
     let mut reader = Reader::new();
     let mut counts = [0; 3];
     while !bytes.0.is_empty() {
@@ -165,7 +141,8 @@ fn every_kept_answer() {
         match head & 3 {
             0 => {
                 let nodes = bytes.number();
-                call.is_tree(&mut reader, &bytes.words(6 * nodes, 6));
+                let words = bytes.words(KEPT_NODE_WORDS * nodes, KEPT_NODE_WORDS);
+                call.is_tree(&mut reader, &words);
             }
             1 => {
                 let count = bytes.number();

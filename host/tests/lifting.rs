@@ -1,7 +1,7 @@
 //! Document 01's lines through the notation, and lists lifted between versions.
 
 use sorbrudder::{
-    LiftError, Lifter, Node, Op, ReadError, Reader, Tokens, Tree, WriteError, Writer, lift,
+    LiftError, Lifter, Node, Op, ReadError, Reader, Tokens, Tree, Unplain, WriteError, Writer, lift,
 };
 
 fn read(text: &str, version: i16) -> String {
@@ -13,6 +13,7 @@ fn read(text: &str, version: i16) -> String {
             format!("messages {}", numbers.join(" "))
         }
         Err(ReadError::Refused(refusal)) => format!("refused {}", refusal.number()),
+        Err(why) => format!("{why}"),
     }
 }
 
@@ -37,8 +38,8 @@ fn the_lines_of_document_01() {
         ("(a]", 6, "messages 4 5"),
         ("(a b)", 6, "4(a,b)"),
         ("a->", 6, "messages 12 1"),
-        ("40()", 6, "messages 7"),
-        ("36()", 6, "36(4)"),
+        ("#40()", 6, "messages 7"),
+        ("#36()", 6, "36(4)"),
         ("a:b", 4, "60(a,b)"),
         ("a:b", 5, "messages 17"),
     ];
@@ -107,7 +108,7 @@ fn what_was_written_is_written_as_it_is() {
 #[test]
 fn a_list_that_versions_agree_on_is_left_alone() {
     let list: Tokens = "return {a = b;} ;".parse().expect("the notation");
-    let lifted = lift(&list, 4, 6).expect("both read it alike");
+    let lifted = lift(&list).from(4).to(6).expect("both read it alike");
     assert!(!lifted.changed && lifted.tokens == list);
 }
 
@@ -139,9 +140,9 @@ fn a_lifted_script_is_one_tree_at_every_version() {
         let script = format!("{script} w = a ? b : c ? d : e;");
         let list: Tokens = script.parse().expect("the notation");
         for (from, to) in [(4, 5), (5, 6), (6, 4)] {
-            let lifted = match lifter.lift(&list, from, to) {
+            let lifted = match lifter.lift(&list).from(from).to(to) {
                 Ok(lifted) if lifted.changed => lifted,
-                Ok(_) | Err(LiftError::Read(_) | LiftError::Write(_)) => continue,
+                Ok(_) | Err(_) => continue,
             };
             changed += 1;
             let old = compared(&lifted.tree);
@@ -160,7 +161,7 @@ fn a_lifted_script_is_one_tree_at_every_version() {
 fn a_semicolon_has_the_span_of_what_its_statement_holds() {
     let source = "v = a ? b : c ? d : e; return v; (w);";
     let list: Tokens = source.parse().expect("the notation");
-    let lifted = lift(&list, 4, 6).expect("a plain script");
+    let lifted = lift(&list).from(4).to(6).expect("a plain script");
     let shown = "v = ((a ? b : c) ? d : e); return v; (w);";
     assert_eq!(lifted.tokens.shown_in(source).to_string(), shown);
     let semicolons = lifted.tokens.iter();
@@ -186,12 +187,38 @@ fn what_no_script_holds_is_named() {
 }
 
 #[test]
+fn a_list_with_all_its_brackets_is_settled() {
+    let list: Tokens = "(a + (b * c)) * (math.sin(d))"
+        .parse()
+        .expect("the notation");
+    let settled = Lifter::new().settle(&list, 6).expect("a plain tree");
+    assert_eq!(settled.tokens, list);
+    assert!(!settled.changed);
+    // The writer's closers start where they end.
+    let tree = Reader::new().read(&list, 6).expect("a tree");
+    let written = Writer::new().write(&tree).expect("a plain tree");
+    assert_eq!(written.to_string(), list.to_string());
+    assert_ne!(written, list);
+}
+
+#[test]
 fn what_cannot_be_lifted_says_why() {
     let list: Tokens = "a : b".parse().expect("the notation");
-    let unplain = Err(LiftError::Write(WriteError::NotPlain { node: 0 }));
-    assert_eq!(lift(&list, 4, 5), unplain);
+    let why = lift(&list)
+        .from(4)
+        .to(5)
+        .expect_err("`:` alone is not written");
+    assert!(matches!(
+        why,
+        LiftError::NotPlain {
+            node: 0,
+            op: Op::CONDITIONAL_ELSE,
+            reason: Unplain::ElseWithoutIf,
+            ..
+        }
+    ));
     let list: Tokens = "a +".parse().expect("the notation");
-    let Err(LiftError::Read(ReadError::Messages(messages))) = lift(&list, 4, 5) else {
+    let Err(LiftError::Read(ReadError::Messages(messages))) = lift(&list).from(4).to(5) else {
         panic!("no tree is lifted");
     };
     assert_eq!(messages[0].number(), 12);
@@ -220,9 +247,11 @@ fn a_lifted_list_is_one_tree_at_every_version() {
     for text in lists() {
         let list: Tokens = text.parse().expect("the notation");
         for (from, to) in [(4, 5), (5, 6), (6, 4), (4, 6)] {
-            let lifted = match lifter.lift(&list, from, to) {
+            let lifted = match lifter.lift(&list).from(from).to(to) {
                 Ok(lifted) => lifted,
-                Err(LiftError::Read(ReadError::Messages(_)) | LiftError::Write(_)) => continue,
+                Err(LiftError::Read(ReadError::Messages(_)) | LiftError::NotPlain { .. }) => {
+                    continue;
+                }
                 Err(why) => panic!("{text}: {why}"),
             };
             let old = reader.read(&list, from).expect("it was lifted");

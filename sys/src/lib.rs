@@ -5,6 +5,31 @@
 
 #![warn(missing_docs)]
 
+/// Words of a token.
+pub const TOKEN_WORDS: usize = 5;
+/// Words of a tree node: a token's, the word of its child count, and the word of where it closes.
+pub const NODE_WORDS: usize = TOKEN_WORDS + 2;
+/// Words of a message record.
+pub const MESSAGE_WORDS: usize = 8;
+/// The most tokens of a list.
+pub const MOST_TOKENS: usize = 4_096;
+/// The most nodes that reading makes of a token.
+pub const NODES_PER_TOKEN: usize = 3;
+/// The most nodes of a tree.
+pub const MOST_NODES: usize = NODES_PER_TOKEN * MOST_TOKENS;
+/// Words of the message buffer: two records.
+pub const MESSAGE_BUFFER: usize = 2 * MESSAGE_WORDS;
+
+/// Words of the tree buffer that reading so many tokens asks for.
+pub const fn tree_buffer(tokens: usize) -> usize {
+    NODES_PER_TOKEN * NODE_WORDS * tokens
+}
+
+/// Words of the work buffer that reading so many tokens asks for.
+pub const fn work_buffer(tokens: usize) -> usize {
+    64 * tokens + 64
+}
+
 unsafe extern "C" {
     fn sorbrudder_parse(
         list: *const u32,
@@ -77,11 +102,11 @@ impl Answer {
 /// What the parse entry is lent.
 #[derive(Debug)]
 pub struct Lent<'b> {
-    /// The list's words, five a token.
+    /// The list's words, [`TOKEN_WORDS`] a token.
     pub list: &'b [u32],
-    /// Where a tree's words go, seven a node.
+    /// Where a tree's words go, [`NODE_WORDS`] a node.
     pub tree: &'b mut [u32],
-    /// Where the words of messages go, eight a message.
+    /// Where the words of messages go, [`MESSAGE_WORDS`] a message.
     pub messages: &'b mut [u32],
     /// Words to work in; all are zero after a call that is not refused.
     pub work: &'b mut [u32],

@@ -1,0 +1,151 @@
+//! Writes lists one after the other.
+
+use super::checksum::Checksum;
+use super::{END, Format, LAYOUT, MAGIC, MOST_WORDS, version_word};
+use std::io::{self, Write};
+
+/// How many lists, and how many words of lists.
+///
+/// ```
+/// use sorbrudder::archive::{Format, ListsWriter};
+///
+/// let mut writer = ListsWriter::new(Vec::new(), Format::Words).unwrap();
+/// writer.write(6, &[1 << 29]).unwrap();
+/// let (_, totals) = writer.finish().unwrap();
+/// assert_eq!((totals.lists, totals.words), (1, 1));
+/// ```
+#[derive(Copy, Clone, Debug, Default, PartialEq, Eq, Hash)]
+#[non_exhaustive]
+pub struct Totals {
+    /// The lists.
+    pub lists: u64,
+    /// Their words, without those of versions, lengths and checksums.
+    pub words: u64,
+}
+
+impl Totals {
+    pub(super) fn add(&mut self, list: &[u32]) {
+        self.lists += 1;
+        self.words += list.len() as u64;
+    }
+
+    /// As they stand at the end of a container: the lower half of each number first.
+    pub(super) fn as_words(self) -> [u32; 4] {
+        let halves = |number: u64| [number as u32, (number >> 32) as u32];
+        let ([a, b], [c, d]) = (halves(self.lists), halves(self.words));
+        [a, b, c, d]
+    }
+}
+
+/// Writes lists to a stream of either format. What it holds does not grow; give it a buffered stream.
+///
+/// ```
+/// use sorbrudder::archive::{Format, ListsWriter};
+///
+/// let mut writer = ListsWriter::new(Vec::new(), Format::Container).unwrap();
+/// writer.write(6, &[]).unwrap();
+/// assert_eq!(writer.finish().unwrap().0.len(), 16 + 12 + 24);
+/// ```
+pub struct ListsWriter<W> {
+    to: W,
+    format: Format,
+    bytes: Vec<u8>,
+    totals: Totals,
+    sums: Checksum,
+}
+
+impl<W: Write> ListsWriter<W> {
+    /// Begins to write.
+    ///
+    /// ```
+    /// use sorbrudder::archive::{Format, ListsWriter};
+    ///
+    /// let mut writer = ListsWriter::new(Vec::new(), Format::Words).unwrap();
+    /// writer.write(6, &[]).unwrap();
+    /// assert_eq!(writer.finish().unwrap().0, [6, 0, 0, 0]);
+    /// ```
+    pub fn new(to: W, format: Format) -> io::Result<Self> {
+        let mut writer = Self {
+            to,
+            format,
+            bytes: Vec::new(),
+            totals: Totals::default(),
+            sums: Checksum::new(),
+        };
+        if format == Format::Container {
+            let head = [MAGIC[0], MAGIC[1], LAYOUT];
+            writer.put(&head)?;
+            writer.put(&[Checksum::of(&head).value()])?;
+        }
+        Ok(writer)
+    }
+
+    /// Writes a list.
+    ///
+    /// A list of more than [`MOST_WORDS`] words is an error, and so is, in a file of words, a list with a word of kind 0, which would
+    /// begin another list.
+    ///
+    /// ```
+    /// use sorbrudder::archive::{Format, ListsWriter};
+    ///
+    /// let mut writer = ListsWriter::new(Vec::new(), Format::Words).unwrap();
+    /// assert!(writer.write(6, &[1 << 29]).is_ok());
+    /// assert!(writer.write(6, &[0]).is_err());
+    /// ```
+    pub fn write(&mut self, version: i16, words: &[u32]) -> io::Result<()> {
+        let splits = self.format == Format::Words && words.iter().any(|word| word >> 29 == 0);
+        if words.len() > MOST_WORDS || splits {
+            let why = "the words cannot be one list of this format";
+            return Err(io::Error::new(io::ErrorKind::InvalidInput, why));
+        }
+        self.totals.add(words);
+        let opener = version_word(version);
+        match self.format {
+            Format::Words => {
+                self.put(&[opener])?;
+                self.put(words)
+            }
+            Format::Container => {
+                let head = [opener, words.len() as u32];
+                let mut sum = Checksum::of(&head);
+                words.iter().for_each(|word| sum.add(*word));
+                self.sums.add(sum.value());
+                self.put(&head)?;
+                self.put(words)?;
+                self.put(&[sum.value()])
+            }
+        }
+    }
+
+    /// Writes the end, and gives the stream back, flushed, with how much was written.
+    ///
+    /// ```
+    /// use sorbrudder::archive::{Format, ListsWriter};
+    ///
+    /// let writer = ListsWriter::new(Vec::new(), Format::Words).unwrap();
+    /// assert_eq!(writer.finish().unwrap().0, []);
+    /// ```
+    pub fn finish(mut self) -> io::Result<(W, Totals)> {
+        if self.format == Format::Container {
+            let [a, b, c, d] = self.totals.as_words();
+            let mut sum = self.sums;
+            [END, a, b, c, d].iter().for_each(|word| sum.add(*word));
+            self.put(&[END, a, b, c, d, sum.value()])?;
+        }
+        self.to.flush()?;
+        Ok((self.to, self.totals))
+    }
+
+    fn put(&mut self, words: &[u32]) -> io::Result<()> {
+        self.bytes.clear();
+        self.bytes
+            .extend(words.iter().flat_map(|word| word.to_le_bytes()));
+        self.to.write_all(&self.bytes)
+    }
+}
+
+impl<W> std::fmt::Debug for ListsWriter<W> {
+    fn fmt(&self, f: &mut std::fmt::Formatter<'_>) -> std::fmt::Result {
+        write!(f, "ListsWriter({:?}, {:?})", self.format, self.totals)
+    }
+}

@@ -1,0 +1,167 @@
+//! `sorbrudder diff`: which lists another version reads otherwise, where, and by which rule. It writes nothing.
+
+use crate::args::{self, Args};
+use crate::bracketed;
+use crate::check::{is_refused, note_words};
+use crate::failure::{Failure, Status};
+use crate::input::Input;
+use crate::line::{About, Line, Place};
+use crate::paths;
+use crate::rules;
+use crate::several::{self, Stdout, Teller};
+use sorbrudder::archive::List;
+use sorbrudder::{Op, ReadError, Reader, TreeRef};
+use std::path::Path;
+
+pub const OPTIONS: &[args::Option] = &[args::flag("--json"), args::value("--to")];
+
+/// What was found, by the words of the results.
+#[derive(Clone, Copy, Debug, Default)]
+struct Found {
+    lists: u64,
+    same: u64,
+    differ: u64,
+    only_old: u64,
+    only_new: u64,
+    no_trees: u64,
+    refused: u64,
+}
+
+impl Found {
+    fn add(&mut self, result: &str) {
+        self.lists += 1;
+        *match result {
+            "same" => &mut self.same,
+            "differs" => &mut self.differ,
+            "only-old" => &mut self.only_old,
+            "only-new" => &mut self.only_new,
+            "no-tree" => &mut self.no_trees,
+            _ => &mut self.refused,
+        } += 1;
+    }
+
+    fn join(&mut self, other: Self) {
+        self.lists += other.lists;
+        self.same += other.same;
+        self.differ += other.differ;
+        self.only_old += other.only_old;
+        self.only_new += other.only_new;
+        self.no_trees += other.no_trees;
+        self.refused += other.refused;
+    }
+}
+
+pub fn run(args: &Args) -> Result<Status, Failure> {
+    if args.rest.is_empty() {
+        return Err(args.wrong("name the files or folders to compare"));
+    }
+    let to = args.needed_version("--to")?;
+    let files = paths::files(&args.rest)?;
+    let is_json = args.has("--json");
+    let mut sum = Found::default();
+    let mut stdout = Stdout {
+        goes_on: false,
+        is_closed: false,
+    };
+    let diff = |file: &Path, teller: &mut Teller<Found>| diff_file(file, to, is_json, teller);
+    let status = several::each(&files, is_json, &mut stdout, diff, |found| sum.join(found))?;
+    eprintln!(
+        "{} lists at version {to}: {} read alike, {} otherwise, {} trees no longer, {} trees only then, {} no trees at all, {} refused",
+        sum.lists, sum.same, sum.differ, sum.only_old, sum.only_new, sum.no_trees, sum.refused,
+    );
+    let found = if sum.same < sum.lists {
+        Status::Found
+    } else {
+        Status::Well
+    };
+    Ok(status.max(found))
+}
+
+fn diff_file(
+    file: &Path,
+    to: i16,
+    is_json: bool,
+    teller: &mut Teller<Found>,
+) -> Result<Found, Failure> {
+    let mut input = Input::open(file)?;
+    note_words(&input, teller);
+    let (mut old, mut new) = (Reader::new(), Reader::new());
+    let mut found = Found::default();
+    while let Some(list) = input.next_list()? {
+        let line = compare(&mut old, &mut new, &list, to);
+        found.add(line.result);
+        let about = About::list(file, &list);
+        if is_json {
+            teller.text(&line.as_json(about));
+        } else if line.result != "same" {
+            teller.text(&line.as_text(about));
+        }
+        if teller.is_closed() {
+            return Err(Failure::Closed);
+        }
+    }
+    Ok(found)
+}
+
+fn compare(old: &mut Reader, new: &mut Reader, list: &List<'_>, to: i16) -> Line {
+    let from = list.version;
+    let read = (
+        old.read_words(list.words, from),
+        new.read_words(list.words, to),
+    );
+    match read {
+        (Ok(old), Ok(new)) if old == new => Line::new("same", Some(to)),
+        (Ok(old), Ok(new)) => differing((old, from), (new, to)),
+        (Ok(tree), Err(why)) => one_sided("only-old", (tree, from), (&why, to), to),
+        (Err(why), Ok(tree)) => one_sided("only-new", (tree, to), (&why, from), to),
+        (Err(why), Err(_)) if is_refused(&why) || from == to => Line::of_read_error(&why, Some(to)),
+        (Err(why), Err(_)) => Line {
+            text: format!("no tree at {from} and at {to}: {why}"),
+            ..Line::of_read_error(&why, Some(to))
+        },
+    }
+}
+
+/// Two trees: the highest node that differs, and the rule.
+fn differing((old, from): (TreeRef<'_>, i16), (new, to): (TreeRef<'_>, i16)) -> Line {
+    let mut line = Line::new("differs", Some(to));
+    let lines = [old, new].map(|tree| bracketed::line(tree, None));
+    line.text = format!("{from} reads {}, {to} reads {}", lines[0], lines[1]);
+    if let Some(first) = old.differences(new).next() {
+        let (one, other) = (first.old, first.new);
+        let rule = rules::between(from, to, &[one.op(), other.op()]);
+        line.text += &format!(
+            "; from node {}, `{}` at {}, on",
+            one.number(),
+            one.op(),
+            one.span()
+        );
+        line.text += &rule.map_or(String::new(), |rule| format!(": {rule}"));
+        line.place = Some(Place {
+            node: one.number(),
+            op: one.op(),
+            span: one.span(),
+        });
+        line.reason = rule;
+    }
+    line
+}
+
+/// A tree at one version only.
+fn one_sided(
+    result: &'static str,
+    (tree, at): (TreeRef<'_>, i16),
+    (why, none_at): (&ReadError, i16),
+    to: i16,
+) -> Line {
+    let ops: Vec<Op> = tree.nodes().map(|node| node.op()).collect();
+    let rule = rules::between(at, none_at, &ops);
+    let read = bracketed::line(tree, None);
+    let because = rule.map_or(String::new(), |rule| format!(": {rule}"));
+    Line {
+        result,
+        text: format!("{at} reads {read}, {none_at} no tree ({why}){because}"),
+        reason: rule,
+        ..Line::of_read_error(why, Some(to))
+    }
+}

@@ -1,0 +1,43 @@
+//! `sorbrudder draw`: two readings of a list as a page for a browser.
+
+use crate::args::{self, Args};
+use crate::failure::{Failure, Status};
+use crate::one_list::{self, OneList};
+use crate::output;
+use crate::page;
+use crate::paths::is_stream;
+use crate::replace::Replacement;
+use sorbrudder::Reader;
+use std::io::Write as _;
+
+pub const OPTIONS: &[args::Option] = &[
+    one_list::E,
+    one_list::SOURCE,
+    args::value("--at"),
+    args::value("-o"),
+];
+
+/// What is drawn where nothing is said.
+const USUAL: [i16; 2] = [4, 6];
+
+pub fn run(args: &Args) -> Result<Status, Failure> {
+    let Some(target) = args.path("-o") else {
+        return Err(args.wrong("`-o OUT.html` is missing"));
+    };
+    let versions = args.versions("--at")?.unwrap_or(USUAL.to_vec());
+    let [old, new] = versions[..] else {
+        return Err(args.wrong("`--at` takes two versions, as in `--at 4,6`"));
+    };
+    let one = OneList::of(args)?;
+    let mut reader = Reader::new();
+    let read = [old, new].map(|version| (version, reader.read(&one.list, version)));
+    let page = page::html(&one.source, &read);
+    if is_stream(&target) {
+        return output::print(&page);
+    }
+    let mut replacement = Replacement::of(&target)?;
+    let written = replacement.write_all(page.as_bytes());
+    written.map_err(|why| Failure::io(&target, &why))?;
+    replacement.put_in_place()?;
+    Ok(Status::Well)
+}

@@ -1,0 +1,96 @@
+//! `sorbrudder explain`: why a list is no tree, each message under the tokens that it points at.
+
+use crate::args::{self, Args};
+use crate::failure::{Failure, Status};
+use crate::json::Object;
+use crate::one_list::{self, OneList};
+use crate::output;
+use crate::read::{self, NEWEST};
+use sorbrudder::{Message, ReadError, Reader, Span};
+
+pub const OPTIONS: &[args::Option] = &[
+    one_list::E,
+    one_list::SOURCE,
+    args::value("--at"),
+    args::flag("--json"),
+];
+
+pub fn run(args: &Args) -> Result<Status, Failure> {
+    let one = OneList::of(args)?;
+    let version = args.version("--at")?.or(one.version).unwrap_or(NEWEST);
+    match Reader::new().read(&one.list, version) {
+        Ok(tree) if args.has("--json") => {
+            let mut object = Object::new();
+            object
+                .number("version", version)
+                .text("result", "tree")
+                .text("tree", &tree.to_string());
+            output::print(&(object.done() + "\n"))
+        }
+        Ok(tree) => output::print(&format!(
+            "It is a tree.\n\n{}",
+            read::as_text(&tree, &one, version)
+        )),
+        Err(why) => {
+            output::print(&complaint(&one, version, &why, args.has("--json")))?;
+            Ok(Status::Found)
+        }
+    }
+}
+
+/// What is said of a list that is no tree.
+pub fn complaint(one: &OneList, version: i16, why: &ReadError, is_json: bool) -> String {
+    let messages: Vec<Message> = match why {
+        ReadError::Messages(messages) => messages.to_vec(),
+        _ => Vec::new(),
+    };
+    if is_json {
+        return as_json(one, version, why, &messages);
+    }
+    let mut text = format!("version {version}   no tree\n\n{}\n", one.source);
+    for message in &messages {
+        text += &format!("{} {message}\n", under(&one.source, message.span()));
+    }
+    if messages.is_empty() {
+        text += &format!("{why}\n");
+    }
+    text
+}
+
+/// Signs under what a span covers of a text, of at least one place.
+fn under(source: &str, span: Span) -> String {
+    let before = |byte: u32| {
+        let byte = (byte as usize).min(source.len());
+        let starts = source.char_indices().map(|(start, _)| start);
+        starts.filter(|start| *start < byte).count()
+    };
+    let (start, end) = (before(span.start()), before(span.end()));
+    " ".repeat(start) + &"^".repeat(end.saturating_sub(start).max(1))
+}
+
+fn as_json(one: &OneList, version: i16, why: &ReadError, messages: &[Message]) -> String {
+    let message = |message: &Message| {
+        let mut object = Object::new();
+        object
+            .number("number", message.number())
+            .number("start", message.span().start())
+            .number("end", message.span().end())
+            .text("text", &message.to_string());
+        object
+    };
+    let mut object = Object::new();
+    object
+        .number("version", version)
+        .text(
+            "result",
+            if messages.is_empty() {
+                "refused"
+            } else {
+                "no-tree"
+            },
+        )
+        .text("source", &one.source)
+        .text("text", &why.to_string())
+        .objects("messages", messages.iter().map(message));
+    object.done() + "\n"
+}

@@ -1,0 +1,53 @@
+//! An archive that is read, from a file or from standard input.
+
+use crate::failure::Failure;
+use crate::paths::is_stream;
+use sorbrudder::archive::{Format, List, Lists};
+use std::fs::File;
+use std::io::{self, Read};
+use std::path::{Path, PathBuf};
+use std::sync::atomic::{AtomicU64, Ordering};
+
+/// How many bytes all inputs together have given.
+pub static READ: AtomicU64 = AtomicU64::new(0);
+
+/// Bytes that are counted while they are read.
+pub struct Counted(Box<dyn Read + Send>);
+
+impl Read for Counted {
+    fn read(&mut self, bytes: &mut [u8]) -> io::Result<usize> {
+        let count = self.0.read(bytes)?;
+        READ.fetch_add(count as u64, Ordering::Relaxed);
+        Ok(count)
+    }
+}
+
+/// The lists of an archive.
+pub struct Input {
+    pub path: PathBuf,
+    lists: Lists<Counted>,
+}
+
+impl Input {
+    pub fn open(path: &Path) -> Result<Self, Failure> {
+        let from: Box<dyn Read + Send> = if is_stream(path) {
+            Box::new(io::stdin())
+        } else {
+            Box::new(File::open(path).map_err(|why| Failure::io(path, &why))?)
+        };
+        let lists = Lists::new(Counted(from)).map_err(|why| Failure::archive(path, &why))?;
+        Ok(Self {
+            path: path.to_path_buf(),
+            lists,
+        })
+    }
+
+    pub fn is_words(&self) -> bool {
+        self.lists.format() == Format::Words
+    }
+
+    pub fn next_list(&mut self) -> Result<Option<List<'_>>, Failure> {
+        let next = self.lists.next_list();
+        next.map_err(|why| Failure::archive(&self.path, &why))
+    }
+}

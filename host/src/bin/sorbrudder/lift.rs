@@ -1,0 +1,90 @@
+//! `sorbrudder lift`: carries archives over to a version.
+
+mod carry;
+mod options;
+
+use crate::args::Args;
+use crate::failure::{Failure, Status};
+use crate::paths;
+use crate::replace::Replacement;
+use crate::several::{self, Sink, Stderr, Stdout, Teller};
+use carry::Carried;
+pub use options::OPTIONS;
+use options::{Options, Target};
+use std::io::Write as _;
+use std::path::Path;
+
+/// Where the lines about lists go, and the report's file.
+struct Lines {
+    lines: Box<dyn Sink>,
+    report: Option<Replacement>,
+}
+
+impl Sink for Lines {
+    fn text(&mut self, text: &str) -> Result<(), Failure> {
+        self.lines.text(text)
+    }
+
+    fn report(&mut self, text: &str) -> Result<(), Failure> {
+        let Some(report) = &mut self.report else {
+            return Ok(());
+        };
+        let written = report.write_all(text.as_bytes());
+        written.map_err(|why| Failure::Io(format!("the report: {why}")))
+    }
+}
+
+pub fn run(args: &Args) -> Result<Status, Failure> {
+    let options = Options::of(args)?;
+    let files = paths::files(&args.rest)?;
+    let lines: Box<dyn Sink> = if options.target == Target::Stdout {
+        Box::new(Stderr)
+    } else {
+        // Where nobody reads the lines to their end, the archives are lifted all the same.
+        Box::new(Stdout {
+            goes_on: true,
+            is_closed: false,
+        })
+    };
+    let report = args
+        .path("--report")
+        .map(|file| Replacement::of(&file))
+        .transpose()?;
+    let mut lines = Lines { lines, report };
+    let mut sum = Carried::default();
+    let lift = |file: &Path, teller: &mut Teller<Carried>| carry::carry(file, &options, teller);
+    let status = several::each(&files, options.is_json, &mut lines, lift, |carried| {
+        sum.join(carried)
+    })?;
+    if let Some(report) = lines.report {
+        report.put_in_place()?;
+    }
+    tell(&sum, &options);
+    let found = if sum.stayed() > 0 {
+        Status::Found
+    } else {
+        Status::Well
+    };
+    Ok(status.max(found))
+}
+
+fn tell(sum: &Carried, options: &Options) {
+    let (to, stayed) = (options.to, sum.stayed());
+    eprintln!(
+        "{} lists to version {to}: {} written anew ({} of them scripts), {} left alone (both versions read them alike), {stayed} stayed behind \
+         ({} no trees, {} refused, {} not writable)",
+        sum.lists, sum.written, sum.scripts, sum.same, sum.no_trees, sum.refused, sum.not_writable,
+    );
+    if options.target == Target::Nothing {
+        eprintln!("nothing was written (--dry-run)");
+    } else if sum.held_back > 0 {
+        eprintln!(
+            "{} files were not written, since lists stayed behind (--strict)",
+            sum.held_back
+        );
+    } else if stayed > 0 {
+        eprintln!(
+            "the lists that stayed behind keep their own version: rewrite them before the pack declares version {to}"
+        );
+    }
+}

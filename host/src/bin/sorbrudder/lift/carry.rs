@@ -1,0 +1,233 @@
+//! One archive carried over to a version.
+
+use super::options::{Options, Target};
+use crate::check::note_words;
+use crate::failure::Failure;
+use crate::input::Input;
+use crate::line::{About, Line};
+use crate::replace::{self, Replacement};
+use crate::several::Teller;
+use sorbrudder::archive::{List, Lists, ListsWriter};
+use sorbrudder::{LiftError, LiftedWords, Lifter, Op};
+use std::io::{self, BufWriter, Write};
+use std::path::Path;
+use std::time::SystemTime;
+
+/// What became of lists.
+#[derive(Clone, Copy, Debug, Default)]
+pub struct Carried {
+    pub lists: u64,
+    pub written: u64,
+    /// How many of those are scripts: lists of statements.
+    pub scripts: u64,
+    pub same: u64,
+    pub no_trees: u64,
+    pub refused: u64,
+    pub not_writable: u64,
+    /// Files that were not written, since lists stayed behind.
+    pub held_back: u64,
+}
+
+impl Carried {
+    /// How many lists keep their own version.
+    pub fn stayed(&self) -> u64 {
+        self.no_trees + self.refused + self.not_writable
+    }
+
+    fn add(&mut self, result: &str) {
+        self.lists += 1;
+        *match result {
+            "lifted" | "settled" => &mut self.written,
+            "same" => &mut self.same,
+            "no-tree" => &mut self.no_trees,
+            "refused" => &mut self.refused,
+            _ => &mut self.not_writable,
+        } += 1;
+    }
+
+    pub fn join(&mut self, other: Self) {
+        self.lists += other.lists;
+        self.written += other.written;
+        self.scripts += other.scripts;
+        self.same += other.same;
+        self.no_trees += other.no_trees;
+        self.refused += other.refused;
+        self.not_writable += other.not_writable;
+        self.held_back += other.held_back;
+    }
+}
+
+/// A number over lists: equal for equal lists in the same order.
+#[derive(Clone, Copy, Debug, PartialEq, Eq)]
+struct Digest {
+    lists: u64,
+    mixed: u64,
+}
+
+impl Digest {
+    fn new() -> Self {
+        Self {
+            lists: 0,
+            mixed: 0xCBF2_9CE4_8422_2325,
+        }
+    }
+
+    fn add(&mut self, version: i16, words: &[u32]) {
+        self.lists += 1;
+        let mut mix =
+            |number: u64| self.mixed = (self.mixed ^ number).wrapping_mul(0x100_0000_01B3);
+        mix(version as u64);
+        mix(words.len() as u64);
+        words.iter().for_each(|word| mix(u64::from(*word)));
+    }
+}
+
+/// Lifts a file to where it goes.
+pub fn carry(
+    file: &Path,
+    options: &Options,
+    teller: &mut Teller<Carried>,
+) -> Result<Carried, Failure> {
+    let mut input = Input::open(file)?;
+    note_words(&input, teller);
+    let Some(target) = options.target_of(file) else {
+        let out: Box<dyn Write> = match options.target {
+            Target::Stdout => Box::new(BufWriter::with_capacity(1 << 16, io::stdout())),
+            _ => Box::new(io::sink()),
+        };
+        let (carried, _, _) = carry_lists(&mut input, options, out, teller)?;
+        return Ok(carried);
+    };
+    let before = last_change(file);
+    if let (Target::Folder(..), Some(folder)) = (&options.target, target.parent()) {
+        std::fs::create_dir_all(folder).map_err(|why| Failure::io(folder, &why))?;
+    }
+    let replacement = Replacement::of(&target)?;
+    let (mut carried, digest, mut replacement) =
+        carry_lists(&mut input, options, replacement, teller)?;
+    read_back(&mut replacement, digest, &target)?;
+    if options.is_strict && carried.stayed() > 0 {
+        carried.held_back = 1;
+        return Ok(carried);
+    }
+    if options.target == Target::InPlace && last_change(file) != before {
+        let why = "it was changed while it was lifted; nothing was written";
+        return Err(Failure::Io(format!("{}: {why}", file.display())));
+    }
+    if options.backs_up {
+        replace::back_up(file)?;
+    }
+    replacement.put_in_place()?;
+    Ok(carried)
+}
+
+/// When a file was changed last, and its length.
+fn last_change(file: &Path) -> Option<(SystemTime, u64)> {
+    let file = std::fs::metadata(file).ok()?;
+    Some((file.modified().ok()?, file.len()))
+}
+
+/// Lifts every list, writes it, and tells of it.
+fn carry_lists<W: Write>(
+    input: &mut Input,
+    options: &Options,
+    out: W,
+    teller: &mut Teller<Carried>,
+) -> Result<(Carried, Digest, W), Failure> {
+    let path = input.path.clone();
+    let failed = |why: io::Error| {
+        Failure::Io(format!(
+            "writing what {} is lifted to: {why}",
+            path.display()
+        ))
+    };
+    let mut writer = ListsWriter::new(out, options.format).map_err(failed)?;
+    let (mut carried, mut digest) = (Carried::default(), Digest::new());
+    let mut lifter = Lifter::new();
+    while let Some(list) = input.next_list()? {
+        let about = About::list(&path, &list);
+        let (line, version, words) = match lift_list(&mut lifter, &list, options) {
+            Ok(lifted) => {
+                let is_script = lifted.tree.root().op() == Op::SEMICOLON;
+                carried.scripts += u64::from(lifted.changed && is_script);
+                (told(&lifted, options), options.to, lifted.words)
+            }
+            Err(why) => (
+                Line::of_lift_error(&why, options.to),
+                list.version,
+                list.words,
+            ),
+        };
+        writer.write(version, words).map_err(failed)?;
+        digest.add(version, words);
+        carried.add(line.result);
+        tell(&line, about, options, teller);
+    }
+    let (out, _) = writer.finish().map_err(failed)?;
+    Ok((carried, digest, out))
+}
+
+fn lift_list<'l>(
+    lifter: &'l mut Lifter,
+    list: &'l List<'_>,
+    options: &Options,
+) -> Result<LiftedWords<'l>, LiftError> {
+    // A list that is not plain is not settled; it can stay as it is where both versions read it alike. (Settled twice, since a borrow
+    // that is given back on one way only would last on the other too.)
+    if options.settles && lifter.settle_words(list.words, list.version).is_ok() {
+        return lifter.settle_words(list.words, list.version);
+    }
+    lifter
+        .lift_words(list.words)
+        .from(list.version)
+        .to(options.to)
+}
+
+/// The line about a list that was lifted.
+fn told(lifted: &LiftedWords<'_>, options: &Options) -> Line {
+    let result = match (lifted.changed, options.settles) {
+        (true, true) => "settled",
+        (true, false) => "lifted",
+        (false, _) => "same",
+    };
+    Line::new(result, Some(options.to))
+}
+
+/// Tells of a list: in text only where it stays behind.
+fn tell(line: &Line, about: About<'_>, options: &Options, teller: &mut Teller<Carried>) {
+    if options.reports {
+        teller.report(&line.as_json(about));
+    }
+    if options.is_json {
+        teller.text(&line.as_json(about));
+    } else if !matches!(line.result, "lifted" | "settled" | "same") {
+        let stays = Line {
+            text: format!("stays behind: {}", line.text),
+            ..line.clone()
+        };
+        teller.text(&stays.as_text(about));
+    }
+}
+
+/// Reads what was written, and compares it with what was meant, before anything is replaced by it.
+fn read_back(written: &mut Replacement, meant: Digest, target: &Path) -> Result<(), Failure> {
+    let file = written.synced()?;
+    let failed = |why| {
+        Failure::Io(format!(
+            "{}: what was written reads back otherwise: {why}",
+            target.display()
+        ))
+    };
+    if meant.lists == 0 && file.metadata().is_ok_and(|file| file.len() == 0) {
+        return Ok(());
+    }
+    let mut lists = Lists::new(file).map_err(|why| failed(why.to_string()))?;
+    let mut found = Digest::new();
+    while let Some(list) = lists.next_list().map_err(|why| failed(why.to_string()))? {
+        found.add(list.version, list.words);
+    }
+    match found == meant {
+        true => Ok(()),
+        false => Err(failed(format!("{} lists of {}", found.lists, meant.lists))),
+    }
+}

@@ -1,0 +1,121 @@
+//! What `sorbrudder lift` is told.
+
+use crate::args::{self, Args};
+use crate::failure::Failure;
+use crate::paths::is_stream;
+use sorbrudder::archive::Format;
+use std::path::{Path, PathBuf};
+
+pub const OPTIONS: &[args::Option] = &[
+    args::value("-o"),
+    args::value("--to"),
+    args::value("--report"),
+    args::flag("--in-place"),
+    args::flag("--backup"),
+    args::flag("--dry-run"),
+    args::flag("--strict"),
+    args::flag("--settle"),
+    args::flag("--plain"),
+    args::flag("--json"),
+];
+
+/// Where lifted lists go.
+#[derive(Clone, Debug, PartialEq, Eq)]
+pub enum Target {
+    Nothing,
+    Stdout,
+    InPlace,
+    File(PathBuf),
+    /// The files of the first folder go under the second, by the same names.
+    Folder(PathBuf, PathBuf),
+}
+
+#[derive(Clone, Debug)]
+pub struct Options {
+    pub to: i16,
+    pub target: Target,
+    pub format: Format,
+    pub backs_up: bool,
+    pub is_strict: bool,
+    pub settles: bool,
+    pub is_json: bool,
+    pub reports: bool,
+}
+
+impl Options {
+    pub fn of(args: &Args) -> Result<Self, Failure> {
+        let target = target(args)?;
+        if args.has("--backup") && target != Target::InPlace {
+            return Err(args.wrong("`--backup` goes with `--in-place`"));
+        }
+        Ok(Self {
+            to: args.needed_version("--to")?,
+            target,
+            format: if args.has("--plain") {
+                Format::Words
+            } else {
+                Format::Container
+            },
+            backs_up: args.has("--backup"),
+            is_strict: args.has("--strict"),
+            settles: args.has("--settle"),
+            is_json: args.has("--json"),
+            reports: args.has("--report"),
+        })
+    }
+
+    /// Where the lists of a file go.
+    pub fn target_of(&self, file: &Path) -> Option<PathBuf> {
+        match &self.target {
+            Target::Nothing | Target::Stdout => None,
+            Target::InPlace => Some(file.to_path_buf()),
+            Target::File(target) => Some(target.clone()),
+            Target::Folder(from, to) => Some(to.join(file.strip_prefix(from).unwrap_or(file))),
+        }
+    }
+}
+
+fn target(args: &Args) -> Result<Target, Failure> {
+    let given = (
+        args.path("-o"),
+        args.has("--in-place"),
+        args.has("--dry-run"),
+    );
+    if args.rest.is_empty() {
+        return Err(args.wrong("name what to lift"));
+    }
+    match given {
+        (Some(_), true, _) => Err(args.wrong("`-o` and `--in-place` exclude each other")),
+        (_, _, true) => Ok(Target::Nothing),
+        (None, false, _) => Err(args.wrong("say where to: `-o OUT` or `--in-place`")),
+        (None, true, _) if args.rest.iter().any(|word| word == "-") => {
+            Err(args.wrong("standard input is not lifted in place"))
+        }
+        (None, true, _) => Ok(Target::InPlace),
+        (Some(out), false, _) => match &args.rest[..] {
+            [from] => beside(args, Path::new(from), out),
+            _ => Err(args.wrong("with `-o`, lift one file or one folder")),
+        },
+    }
+}
+
+/// The target of one file or folder that is not lifted in place.
+fn beside(args: &Args, from: &Path, out: PathBuf) -> Result<Target, Failure> {
+    let is_folder = !is_stream(from) && from.is_dir();
+    if is_stream(&out) {
+        return match is_folder {
+            true => Err(args.wrong("a folder cannot go to standard output")),
+            false => Ok(Target::Stdout),
+        };
+    }
+    let places = (from.canonicalize().ok(), out.canonicalize().ok());
+    if let (Some(from), Some(out)) = &places
+        && (from == out || is_folder && out.starts_with(from))
+    {
+        return Err(args.wrong("input and output are the same; `--in-place` replaces the input"));
+    }
+    match is_folder {
+        true => Ok(Target::Folder(from.to_path_buf(), out)),
+        false => Ok(Target::File(out)),
+    }
+}

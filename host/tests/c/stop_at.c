@@ -1,0 +1,81 @@
+/* Stops a program at the Nth of its calls that change files, to be loaded before it (LD_PRELOAD). STOP_AT is N, counted from 1. The
+ * program is killed there, a write half done; with STOP_FULL the call fails as on a full disk, and so do all such calls after it. */
+#define _GNU_SOURCE
+#include <dlfcn.h>
+#include <errno.h>
+#include <fcntl.h>
+#include <signal.h>
+#include <stdarg.h>
+#include <stdlib.h>
+#include <sys/stat.h>
+#include <unistd.h>
+
+static int calls;
+
+/* Whether this call is the one; a killed program does not come back from here. */
+static int is_stopped(void) {
+    const char *at = getenv("STOP_AT");
+    if (at == NULL || __sync_add_and_fetch(&calls, 1) < atoi(at)) {
+        return 0;
+    }
+    if (getenv("STOP_FULL") == NULL) {
+        kill(getpid(), SIGKILL);
+        pause();
+    }
+    errno = ENOSPC;
+    return 1;
+}
+
+ssize_t write(int file, const void *bytes, size_t count) {
+    ssize_t (*real)(int, const void *, size_t) = dlsym(RTLD_NEXT, "write");
+    /* What is told to a person is no file that could be damaged. */
+    if (file > 2) {
+        const char *at = getenv("STOP_AT");
+        if (at != NULL && calls + 1 == atoi(at) && getenv("STOP_FULL") == NULL) {
+            real(file, bytes, count / 2);
+        }
+        if (is_stopped()) {
+            return -1;
+        }
+    }
+    return real(file, bytes, count);
+}
+
+int open64(const char *path, int flags, ...) {
+    int (*real)(const char *, int, mode_t) = dlsym(RTLD_NEXT, "open64");
+    va_list more;
+    va_start(more, flags);
+    mode_t mode = va_arg(more, mode_t);
+    va_end(more);
+    return (flags & (O_WRONLY | O_RDWR)) && is_stopped() ? -1 : real(path, flags, mode);
+}
+
+int fsync(int file) {
+    int (*real)(int) = dlsym(RTLD_NEXT, "fsync");
+    return is_stopped() ? -1 : real(file);
+}
+
+int rename(const char *from, const char *to) {
+    int (*real)(const char *, const char *) = dlsym(RTLD_NEXT, "rename");
+    return is_stopped() ? -1 : real(from, to);
+}
+
+int linkat(int from_folder, const char *from, int to_folder, const char *to, int flags) {
+    int (*real)(int, const char *, int, const char *, int) = dlsym(RTLD_NEXT, "linkat");
+    return is_stopped() ? -1 : real(from_folder, from, to_folder, to, flags);
+}
+
+int chmod(const char *path, mode_t mode) {
+    int (*real)(const char *, mode_t) = dlsym(RTLD_NEXT, "chmod");
+    return is_stopped() ? -1 : real(path, mode);
+}
+
+int ftruncate64(int file, off64_t length) {
+    int (*real)(int, off64_t) = dlsym(RTLD_NEXT, "ftruncate64");
+    return is_stopped() ? -1 : real(file, length);
+}
+
+ssize_t copy_file_range(int from, off64_t *from_at, int to, off64_t *to_at, size_t count, unsigned flags) {
+    ssize_t (*real)(int, off64_t *, int, off64_t *, size_t, unsigned) = dlsym(RTLD_NEXT, "copy_file_range");
+    return is_stopped() ? -1 : real(from, from_at, to, to_at, count, flags);
+}

@@ -1,0 +1,440 @@
+//! The command goes through archives: what it counts, tells and writes, and its exit statuses.
+
+mod common;
+
+use common::command::{SEVEN, archive, folder, lists, run, run_line, run_with, words};
+use sorbrudder::archive::{Format, ListsWriter};
+use std::path::Path;
+
+fn write(folder: &Path, name: &str, bytes: &[u8]) {
+    let path = folder.join(name);
+    std::fs::create_dir_all(path.parent().expect("a folder")).expect("a folder");
+    std::fs::write(path, bytes).expect("a file");
+}
+
+fn seven(format: Format) -> Vec<u8> {
+    archive(format, &SEVEN)
+}
+
+#[test]
+fn check_counts_lists_and_tells_of_those_that_are_no_trees() {
+    let folder = folder("check");
+    write(&folder, "seven", &seven(Format::Container));
+    write(&folder, "good", &archive(Format::Container, &SEVEN[..3]));
+    let good = run(&folder, &["check", "good"]);
+    assert_eq!((good.status, good.out.as_str()), (Some(0), ""));
+    let checked = run(&folder, &["check", "seven"]);
+    assert_eq!(checked.status, Some(1));
+    let told = "seven list 6 (byte 768, version 6): no tree: the list ends within this `(`, \
+                before its `)` (at 4-5); no `)` closes this `(` (at 4-5)\n";
+    assert_eq!(checked.out, told);
+    assert_eq!(
+        checked.err,
+        "1 files, 7 lists: 6 trees, 1 no trees, 0 refused; 0 files not read to their end\n"
+    );
+    let json = run(&folder, &["check", "seven", "--json"]);
+    assert_eq!(json.out.lines().count(), 7);
+    let first = r#"{"file":"seven","list":0,"byte":16,"version":4,"result":"tree"}"#;
+    assert_eq!(json.out.lines().next(), Some(first));
+    let last = json.out.lines().last().expect("a line");
+    assert!(
+        last.contains(r#""result":"no-tree","messages":[{"number":6},{"number":5}]"#),
+        "{last}"
+    );
+}
+
+#[test]
+fn damage_is_status_4_and_nothing_is_written() {
+    let folder = folder("damage");
+    let (whole, plain) = (seven(Format::Container), seven(Format::Words));
+    let mut turned = whole.clone();
+    turned[40] ^= 4;
+    let damaged: [(&str, &[u8]); 6] = [
+        ("cut", &whole[..whole.len() - 24]),
+        ("turned", &turned),
+        ("zeros", &[0; 1 << 20]),
+        ("empty", b""),
+        ("text", b"these are no lists"),
+        ("in_token", &plain[..plain.len() - 8]),
+    ];
+    for (name, bytes) in damaged {
+        write(&folder, name, bytes);
+        for line in ["check NAME", "diff NAME --to 6", "lift NAME -o out --to 6"] {
+            let run = run_line(&folder, &line.replace("NAME", name));
+            assert_eq!(run.status, Some(4), "{line} {name}: {run:?}");
+            assert!(run.err.contains("damaged at byte"), "{}", run.err);
+            assert!(
+                run.out.len() < 4_000,
+                "{line} {name}: {} bytes",
+                run.out.len()
+            );
+            assert!(!folder.join("out").exists(), "{line} {name}");
+        }
+    }
+}
+
+#[test]
+fn a_plain_file_is_told_of_and_the_highest_status_counts() {
+    let folder = folder("statuses");
+    let whole = seven(Format::Container);
+    write(&folder, "whole", &whole);
+    write(&folder, "cut", &whole[..whole.len() - 24]);
+    write(&folder, "plain", &seven(Format::Words));
+    let note = "that it was cut at a token's end could not be seen";
+    assert!(run_line(&folder, "check plain").err.contains(note));
+    assert!(!run_line(&folder, "check whole").err.contains(note));
+    let several = run_line(&folder, "check cut missing whole");
+    assert_eq!(several.status, Some(4));
+    assert!(several.err.contains("missing: "), "{}", several.err);
+    let summary =
+        "3 files, 7 lists: 6 trees, 1 no trees, 0 refused; 2 files not read to their end\n";
+    assert!(several.err.ends_with(summary), "{}", several.err);
+    assert_eq!(run_line(&folder, "check missing").status, Some(3));
+    let json = run_line(&folder, "check cut missing --json");
+    let failed: Vec<&str> = json
+        .out
+        .lines()
+        .filter(|line| !line.contains("\"list\":"))
+        .collect();
+    assert_eq!(failed.len(), 2, "{}", json.out);
+    assert!(failed[0].starts_with(r#"{"file":"cut","result":"damaged","text":"cut: damaged at"#));
+    assert!(failed[1].starts_with(r#"{"file":"missing","result":"failed","text":"missing: "#));
+}
+
+#[test]
+fn diff_names_the_node_and_the_rule() {
+    let folder = folder("diff");
+    write(&folder, "seven", &seven(Format::Container));
+    let diff = run(&folder, &["diff", "seven", "--to", "6"]);
+    assert_eq!(diff.status, Some(1));
+    let second = diff.out.lines().nth(1).expect("a line");
+    assert_eq!(
+        second,
+        "seven list 1 (byte 208, version 5): 5 reads a && (b || c), 6 reads (a && b) || c; from node 0, `&&` at 2-4, on: \
+         up to version 5 `||` is paired before `&&`, from 6 on `&&` before `||`"
+    );
+    assert!(
+        diff.out.contains("no tree (`:` lacks what belongs to it"),
+        "{}",
+        diff.out
+    );
+    assert_eq!(
+        diff.err,
+        "7 lists at version 6: 2 read alike, 3 otherwise, 1 trees no longer, 0 trees only then, 1 no trees at all, 0 refused\n"
+    );
+    let json = run(&folder, &["diff", "seven", "--to", "6", "--json"]);
+    let second = json.out.lines().nth(1).expect("a line");
+    let place = r#""version":5,"to":6,"result":"differs","node":0,"op":57,"operator":"&&","start":2,"end":4,"reason":"up to"#;
+    assert!(second.contains(place), "{second}");
+    write(
+        &folder,
+        "alone",
+        &archive(Format::Container, &[(5, "a : b"), (4, "a : b")]),
+    );
+    let only_new = run(&folder, &["diff", "alone", "--to", "4", "--json"]);
+    let results = only_new.out.lines().map(|line| {
+        let result = line.split("\"result\":\"").nth(1);
+        result.and_then(|rest| rest.split('"').next())
+    });
+    let results: Vec<Option<&str>> = results.collect();
+    assert_eq!(results, [Some("only-new"), Some("same")]);
+}
+
+#[test]
+fn lift_carries_over_and_ends_with_1_where_lists_stay_behind() {
+    let folder = folder("lift");
+    write(&folder, "seven", &seven(Format::Container));
+    let lifted = run_line(&folder, "lift seven -o six --to 6");
+    assert_eq!(lifted.status, Some(1), "{lifted:?}");
+    let summary = "7 lists to version 6: 3 written anew (0 of them scripts), 2 left alone (both versions read them alike), \
+                   2 stayed behind (1 no trees, 0 refused, 1 not writable)\n";
+    assert!(lifted.err.starts_with(summary), "{}", lifted.err);
+    let warning = "rewrite them before the pack declares version 6";
+    assert!(lifted.err.contains(warning), "{}", lifted.err);
+    let behind: Vec<&str> = lifted.out.lines().collect();
+    assert_eq!(behind.len(), 2);
+    let why = "stays behind: cannot be written: node 0, `:` at 2-3, a `:` that is not the right side of a `?`";
+    assert!(behind[0].ends_with(why), "{}", behind[0]);
+    let expected = [
+        (6, "(a ? b : c) ? d : e"),
+        (6, "a && (b || c)"),
+        (6, "a > (b == c)"),
+        (6, "a + b * c"),
+        (6, "{a = b;};"),
+        (4, "a : b"),
+        (6, "a + (b"),
+    ];
+    let bytes = std::fs::read(folder.join("six")).expect("a file");
+    let expected = expected.map(|(version, text)| (version, text.to_string()));
+    assert_eq!(lists(&bytes), expected);
+}
+
+#[test]
+fn scripts_are_lifted_and_counted() {
+    let folder = folder("scripts");
+    let script = "v = a ? b : c ? d : e; return v;";
+    let two = [(4, script), (4, "a ? b : c ? d : e")];
+    write(&folder, "two", &archive(Format::Container, &two));
+    let lifted = run_line(&folder, "lift two -o five --to 5");
+    let summary = "2 lists to version 5: 2 written anew (1 of them scripts), 0 left alone";
+    assert!(lifted.err.starts_with(summary), "{}", lifted.err);
+    assert_eq!(lifted.status, Some(0));
+    let bytes = std::fs::read(folder.join("five")).expect("a file");
+    let texts: Vec<String> = lists(&bytes).into_iter().map(|(_, text)| text).collect();
+    let expected = [
+        "v = ((a ? b : c) ? d : e); return v;",
+        "(a ? b : c) ? d : e",
+    ];
+    assert_eq!(texts.len(), expected.len());
+    assert_eq!(texts[1], expected[1]);
+    assert_eq!(texts[0].matches('(').count(), 2, "{}", texts[0]);
+    assert!(texts[0].ends_with(';'), "{}", texts[0]);
+}
+
+#[test]
+fn what_is_lifted_stays_as_it_is_and_is_status_0() {
+    let folder = folder("again");
+    write(&folder, "seven", &seven(Format::Container));
+    write(&folder, "good", &archive(Format::Container, &SEVEN[..5]));
+    run_line(&folder, "lift seven -o six --to 6");
+    let again = run_line(&folder, "lift six -o again --to 6");
+    let summary = "7 lists to version 6: 0 written anew (0 of them scripts), 5 left alone";
+    assert!(again.err.starts_with(summary), "{}", again.err);
+    let bytes = |name: &str| std::fs::read(folder.join(name)).expect("a file");
+    assert_eq!(bytes("again"), bytes("six"));
+    let good = run_line(&folder, "lift good -o better --to 6");
+    assert_eq!((good.status, good.out.as_str()), (Some(0), ""));
+    assert_eq!(run_line(&folder, "diff better --to 6").status, Some(0));
+}
+
+#[test]
+fn the_report_has_a_line_for_every_list() {
+    let folder = folder("report");
+    write(&folder, "seven", &seven(Format::Container));
+    run_line(&folder, "lift seven -o six --to 6 --report report");
+    let report = std::fs::read_to_string(folder.join("report")).expect("a report");
+    assert_eq!(report.lines().count(), 7);
+    let stays = r#""version":4,"to":6,"result":"stays","node":0,"op":60,"operator":":","start":2,"end":3,"reason":"else-without-if","#;
+    let sixth = report.lines().nth(5).expect("a line");
+    assert!(sixth.contains(stays), "{sixth}");
+    let json = run_line(&folder, "lift seven -o six --to 6 --json");
+    assert_eq!(json.out, report);
+}
+
+/// Files that a run has left beside its targets.
+fn left_over(folder: &Path) -> usize {
+    let names = std::fs::read_dir(folder).expect("a folder");
+    let names = names.map(|name| name.expect("a name").file_name());
+    names
+        .filter(|name| name.to_string_lossy().starts_with('.'))
+        .count()
+}
+
+#[test]
+fn lift_writes_nothing_where_it_is_told_so() {
+    let folder = folder("careful");
+    let bytes = seven(Format::Container);
+    write(&folder, "seven", &bytes);
+    let dry = run_line(&folder, "lift seven --dry-run --to 6");
+    assert!(
+        dry.status == Some(1) && dry.err.contains("nothing was written"),
+        "{dry:?}"
+    );
+    for line in [
+        "lift seven -o out --strict --to 6",
+        "lift seven --in-place --strict --to 6",
+    ] {
+        let strict = run_line(&folder, line);
+        assert_eq!(strict.status, Some(1), "{strict:?}");
+        assert!(
+            strict.err.contains("1 files were not written"),
+            "{strict:?}"
+        );
+    }
+    let device = run_line(&folder, "lift seven -o /dev/null --to 6");
+    assert_eq!(
+        device.status,
+        Some(3),
+        "a device is not replaced: {device:?}"
+    );
+    assert!(!folder.join("out").exists());
+    assert_eq!(std::fs::read(folder.join("seven")).expect("a file"), bytes);
+    assert_eq!(left_over(&folder), 0);
+}
+
+#[test]
+fn lift_asks_where_to_and_never_takes_its_input_for_its_output() {
+    let folder = folder("where_to");
+    let bytes = seven(Format::Container);
+    write(&folder, "seven", &bytes);
+    std::fs::create_dir(folder.join("deeper")).expect("a folder");
+    for line in [
+        "lift seven -o seven --to 6",
+        "lift seven -o ./../where_to/seven --to 6",
+        "lift seven --to 6",
+        "lift seven -o out --in-place --to 6",
+        "lift seven -o out --backup --to 6",
+        "lift seven -o out",
+        "lift - --in-place --to 6",
+        "lift . -o deeper/.. --to 6",
+        "lift . -o deeper --to 6",
+        "lift . -o - --to 6",
+    ] {
+        assert_eq!(run_line(&folder, line).status, Some(2), "{line}");
+    }
+    assert_eq!(std::fs::read(folder.join("seven")).expect("a file"), bytes);
+}
+
+#[test]
+fn a_backup_is_the_old_file_and_replaces_none() {
+    let folder = folder("backup");
+    let bytes = seven(Format::Container);
+    write(&folder, "seven", &bytes);
+    let here = |name: &str| std::fs::read(folder.join(name)).expect("a file");
+    let kept = run_line(&folder, "lift seven --in-place --backup --to 6");
+    assert_eq!(kept.status, Some(1), "{kept:?}");
+    assert!(here("seven.bak") == bytes && here("seven") != bytes);
+    let lifted = here("seven");
+    let taken = run_line(&folder, "lift seven --in-place --backup --to 5");
+    assert_eq!(taken.status, Some(3), "{taken:?}");
+    assert!(here("seven.bak") == bytes && here("seven") == lifted);
+    assert_eq!(left_over(&folder), 0);
+}
+
+#[test]
+fn lists_that_are_refused_are_carried_along() {
+    let folder = folder("refused");
+    let mut writer = ListsWriter::new(Vec::new(), Format::Container).expect("bytes");
+    let long = words(&"a ".repeat(4_097));
+    let kept = [
+        vec![1 << 29 | 111, 0, 7],
+        words("a + b")[1..].to_vec(),
+        long,
+    ];
+    for list in &kept {
+        writer.write(4, list).expect("bytes");
+    }
+    write(&folder, "refused", &writer.finish().expect("bytes").0);
+    let checked = run_line(&folder, "check refused --json");
+    assert_eq!(checked.status, Some(1), "{checked:?}");
+    let results = checked
+        .out
+        .lines()
+        .filter(|line| line.contains(r#""result":"refused""#));
+    assert_eq!(results.count(), 3, "{}", checked.out);
+    let lifted = run_line(&folder, "lift refused -o out --to 6");
+    assert_eq!(lifted.status, Some(1), "{lifted:?}");
+    assert!(
+        lifted
+            .err
+            .contains("3 stayed behind (0 no trees, 3 refused"),
+        "{}",
+        lifted.err
+    );
+    let bytes = |name: &str| std::fs::read(folder.join(name)).expect("a file");
+    assert_eq!(bytes("out"), bytes("refused"));
+    for number in 0..3 {
+        let shown = run(&folder, &["read", &format!("refused#{number}")]);
+        assert_eq!(shown.status, Some(1), "{shown:?}");
+    }
+    // A word of kind 0 within a list cannot be written plainly.
+    let plain = run_line(&folder, "lift refused -o plain --to 6 --plain");
+    assert_eq!(
+        (plain.status, folder.join("plain").exists()),
+        (Some(3), false)
+    );
+}
+
+#[test]
+fn settled_lists_have_all_their_brackets() {
+    let folder = folder("settle");
+    write(
+        &folder,
+        "lists",
+        &archive(
+            Format::Container,
+            &[(4, "a + b * c"), (4, "a + b"), (4, "a = b;"), (4, "(a b)")],
+        ),
+    );
+    let settled = run(
+        &folder,
+        &[
+            "lift", "lists", "-o", "out", "--settle", "--to", "6", "--json",
+        ],
+    );
+    assert_eq!(settled.status, Some(0), "{settled:?}");
+    let results: Vec<bool> = settled
+        .out
+        .lines()
+        .map(|line| line.contains("\"settled\""))
+        .collect();
+    assert_eq!(results, [true, false, false, false], "{}", settled.out);
+    let bytes = std::fs::read(folder.join("out")).expect("a file");
+    let texts: Vec<String> = lists(&bytes).into_iter().map(|(_, text)| text).collect();
+    assert_eq!(texts, ["a + (b * c)", "a + b", "a = b;", "(a b)"]);
+}
+
+#[test]
+fn words_and_containers_carry_the_same_lists() {
+    let folder = folder("formats");
+    write(&folder, "words", &seven(Format::Words));
+    write(&folder, "container", &seven(Format::Container));
+    let lift = |from: &str, to: &str, plain: &[&str]| {
+        let words = [&["lift", from, "-o", to, "--to", "6"], plain].concat();
+        assert_eq!(run(&folder, &words).status, Some(1));
+        std::fs::read(folder.join(to)).expect("a file")
+    };
+    let (a, b) = (lift("words", "a", &[]), lift("container", "b", &[]));
+    assert_eq!(a, b);
+    let (c, d) = (
+        lift("words", "c", &["--plain"]),
+        lift("container", "d", &["--plain"]),
+    );
+    assert_eq!(c, d);
+    assert_eq!(lists(&a), lists(&c));
+    assert!(a.starts_with(b"\x89SBR") && c.starts_with(&[6, 0, 0, 0]));
+    // From standard input to standard output.
+    let (streamed, bytes) = run_with(
+        &folder,
+        &["lift", "-", "-o", "-", "--to", "6"],
+        &seven(Format::Words),
+    );
+    assert_eq!((streamed.status, &bytes), (Some(1), &a));
+    assert!(
+        streamed.err.contains("stays behind"),
+        "the lines are on standard error"
+    );
+    let (checked, _) = run_with(&folder, &["check", "-"], &a);
+    assert_eq!(checked.status, Some(1));
+}
+
+#[test]
+fn folders_are_gone_through_by_name() {
+    let folder = folder("folders");
+    for number in 0..12 {
+        let name = format!("in/{}/{number:02}", number % 3);
+        write(
+            &folder,
+            &name,
+            &archive(Format::Container, &vec![(6, "a b"); 700 * (number % 4) + 1]),
+        );
+    }
+    write(&folder, "in/.hidden", b"passed over");
+    write(&folder, "in/0/old.bak", b"passed over");
+    let checked = run(&folder, &["check", "in"]);
+    assert_eq!(checked.status, Some(1));
+    let mut files: Vec<&str> = checked.out.lines().map(|line| &line[..7]).collect();
+    files.dedup();
+    let sorted = {
+        let mut sorted = files.clone();
+        sorted.sort_unstable();
+        sorted
+    };
+    assert_eq!((files.len(), &files), (12, &sorted));
+    assert_eq!(run(&folder, &["check", "in"]).out, checked.out);
+    let lifted = run(&folder, &["lift", "in", "-o", "out", "--to", "6"]);
+    assert_eq!(lifted.status, Some(1));
+    let copied = run(&folder, &["check", "out"]);
+    assert_eq!(copied.out, checked.out.replace("in/", "out/"));
+    assert!(!folder.join("out/.hidden").exists() && !folder.join("out/0/old.bak").exists());
+}

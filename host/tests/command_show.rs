@@ -1,0 +1,253 @@
+//! The command shows lists: by operator, with brackets, with messages, as a page.
+
+mod common;
+
+use common::command::{SEVEN, archive, command, folder, run, run_line};
+use sorbrudder::archive::Format;
+use std::io::Read as _;
+use std::path::Path;
+use std::process::Stdio;
+
+fn shown(words: &[&str]) -> String {
+    let run = run(Path::new("."), words);
+    assert!(run.status < Some(2), "{words:?}: {run:?}");
+    run.out
+}
+
+/// The lines of a drawing.
+fn drawing(list: &str) -> Vec<String> {
+    let text = shown(&["read", "--at", "6", "-e", list]);
+    text.lines().skip(2).map(String::from).collect()
+}
+
+#[test]
+fn nodes_are_drawn_by_their_operators() {
+    assert_eq!(
+        drawing("a - b"),
+        ["+ sum", "├─ a", "└─ - negative", "   └─ b"]
+    );
+    assert_eq!(drawing("a - - b"), ["+ sum", "├─ a", "└─ b"]);
+    let returned = [
+        "; statement",
+        "└─ ; statement",
+        "   └─ return",
+        "      └─ a",
+    ];
+    assert_eq!(drawing("return a;"), returned);
+    assert_eq!(
+        drawing("math.sin(dosed)"),
+        ["math.sin", "└─ ( brackets", "   └─ dosed"]
+    );
+    let bracketed = shown(&["read", "--at", "5", "-e", "a - b && c || d"]);
+    assert!(bracketed.starts_with("version 5   (a + (- b)) && (c || d)\n"));
+}
+
+#[test]
+fn versions_prints_the_lines_and_then_each_tree_once() {
+    let drawn = "\
+dosed ? hold : under ? open : shut
+
+version 4    (dosed ? hold : under) ? open : shut
+version 5    dosed ? hold : (under ? open : shut)
+version 6    dosed ? hold : (under ? open : shut)
+
+  version 4                  version 5, 6
+* ? if                     * ? if
+* ├─ ? if                  * ├─ dosed
+* │  ├─ dosed              * └─ : then and else
+* │  └─ : then and else    *    ├─ hold
+* │     ├─ hold            *    └─ ? if
+* │     └─ under           *       ├─ under
+* └─ : then and else       *       └─ : then and else
+*    ├─ open               *          ├─ open
+*    └─ shut               *          └─ shut
+
+below version 5 every `:` is paired, then every `?` from the left; from 5 on `?` and `:` belong together, nested to the right
+";
+    let list = "dosed ? hold : under ? open : shut";
+    assert_eq!(shown(&["versions", "-e", list]), drawn);
+    let alike = shown(&["versions", "-e", "a + b * c"]);
+    assert_eq!(
+        alike.lines().count(),
+        5,
+        "no tree where all read alike: {alike}"
+    );
+    let part = shown(&["versions", "-e", "x + (a && b || c)", "--at", "5,6"]);
+    let marked = part.lines().filter(|line| line.starts_with("* ")).count();
+    assert_eq!(marked, 5, "only what differs is marked: {part}");
+}
+
+#[test]
+fn explain_points_at_the_tokens() {
+    let explained = "\
+version 6   no tree
+
+(a + b] * c
+^^^^^^^ `(` is closed by `]` and not by `)`
+^ no `)` closes this `(`
+";
+    let run = run(
+        Path::new("."),
+        &["explain", "--at", "6", "-e", "(a + b] * c"],
+    );
+    assert_eq!((run.status, run.out.as_str()), (Some(1), explained));
+    assert!(shown(&["explain", "-e", "a + b"]).starts_with("It is a tree."));
+    let json = shown(&["explain", "--json", "--at", "6", "-e", "a b"]);
+    let head = r#"{"version":6,"result":"no-tree","source":"a b","#;
+    let text = "2 parts are left that no operator joins";
+    let message = format!(r#"{{"number":1,"start":0,"end":3,"text":"{text}"}}"#);
+    let object = format!(r#"{head}"text":"{text} (at 0-3)","messages":[{message}]}}"#);
+    assert_eq!(json.trim_end(), object);
+}
+
+#[test]
+fn nodes_in_json_have_their_place() {
+    let json = shown(&["read", "--at", "6", "--json", "-e", "(a) * b"]);
+    let section = r#"{"op":4,"operator":"(","children":1,"start":0,"end":1,"close":3}"#;
+    let operand = r#"{"op":61,"operator":"float","children":0,"start":1,"end":2,"close":2}"#;
+    assert!(json.contains(&format!("{section},{operand}")), "{json}");
+}
+
+#[test]
+fn a_list_of_an_archive_is_shown_by_its_number() {
+    let folder = folder("show");
+    std::fs::write(folder.join("seven"), archive(Format::Container, &SEVEN)).expect("a file");
+    let of = |word: &str| run(&folder, &["read", word]);
+    assert!(of("seven#1").out.starts_with("version 5   a && (b || c)\n"));
+    assert_eq!(of("seven#6").status, Some(1));
+    assert_eq!(of("seven#7").status, Some(1));
+    assert_eq!(of("seven").status, Some(2));
+    assert_eq!(of("missing#0").status, Some(3));
+    std::fs::write(folder.join("text"), "x &&  y||z").expect("a file");
+    let source = ["versions", "seven#1", "--source", "text", "--at", "5"];
+    assert_eq!(run(&folder, &source).status, Some(0));
+}
+
+#[test]
+fn the_page_marks_what_differs_and_needs_nothing_else() {
+    let folder = folder("page");
+    let list = "x < 3 + (a && b || c)";
+    let draw = run(
+        &folder,
+        &["draw", "-e", list, "--at", "5,6", "-o", "page.html"],
+    );
+    assert_eq!(draw.status, Some(0), "{draw:?}");
+    let page = std::fs::read_to_string(folder.join("page.html")).expect("a page");
+    assert!(
+        page.contains("x &lt; 3 + (<mark>a &amp;&amp; b || c</mark>)"),
+        "{page}"
+    );
+    assert_eq!(page.matches("class=\"node differs\"").count(), 10);
+    assert_eq!(page.matches("class=\"node\"").count(), 10);
+    for outside in ["<script", "http:", "https:", "src=", "@import", "url("] {
+        assert!(!page.contains(outside), "{outside}");
+    }
+    let streamed = run(&folder, &["draw", "-e", list, "--at", "5,6", "-o", "-"]);
+    assert_eq!(streamed.out, page);
+    let deep = format!("{}a{}", "(".repeat(2_000), ")".repeat(2_000));
+    let draw = run(&folder, &["draw", "-e", &deep, "-o", "deep.html"]);
+    assert_eq!(draw.status, Some(0), "{draw:?}");
+    let size = std::fs::metadata(folder.join("deep.html"))
+        .expect("a page")
+        .len();
+    assert!(size < 4_000_000, "{size}");
+}
+
+#[test]
+fn help_is_help() {
+    let run = |line: &str| run_line(Path::new("."), line);
+    for line in [
+        "--help",
+        "help",
+        "-h",
+        "help lift",
+        "lift --help",
+        "lift x -o y -h",
+    ] {
+        let help = run(line);
+        assert_eq!((help.status, help.err.as_str()), (Some(0), ""), "{line}");
+        assert!(help.out.starts_with("sorbrudder"), "{line}");
+    }
+    let all = run("--help").out;
+    for command in [
+        "check", "diff", "lift", "read", "versions", "explain", "draw", "ops",
+    ] {
+        let help = run(&format!("{command} --help"));
+        assert!(
+            help.status == Some(0) && help.out.contains(command),
+            "{command}"
+        );
+        assert!(all.contains(&format!("sorbrudder {command}")), "{command}");
+    }
+}
+
+#[test]
+fn wrong_words_are_told() {
+    for line in [
+        "lst",
+        "help lst",
+        "check",
+        "check --jsn x",
+        "check --json=yes x",
+        "diff x",
+        "diff x --to 32768",
+        "diff x --to",
+        "read -e $",
+        "read",
+        "draw -e a",
+        "draw -e a --at 4 -o x",
+        "ops x",
+    ] {
+        let wrong = run_line(Path::new("."), line);
+        assert_eq!((wrong.status, wrong.out.as_str()), (Some(2), ""), "{line}");
+        assert!(
+            wrong.err.starts_with("sorbrudder: "),
+            "{line}: {}",
+            wrong.err
+        );
+    }
+    let nothing = run(Path::new("."), &[]);
+    assert_eq!((nothing.status, nothing.out.as_str()), (Some(2), ""));
+}
+
+#[test]
+fn ops_lists_every_operator() {
+    assert_eq!(shown(&["ops"]).lines().count(), 111);
+    let json = shown(&["ops", "--json"]);
+    let sum = r#"{"op":9,"name":"ADD","operator":"+","words":"sum"}"#;
+    assert_eq!(json.lines().nth(9), Some(sum));
+}
+
+#[test]
+fn a_closed_pipe_ends_it_quietly() {
+    let folder = folder("pipe");
+    let many: Vec<(i16, &str)> = vec![(6, "a b"); 20_000];
+    std::fs::write(folder.join("many"), archive(Format::Container, &many)).expect("a file");
+    for words in [
+        &["ops"][..],
+        &["check", "many"],
+        &["check", "--json", "many"],
+    ] {
+        let mut child = command();
+        child
+            .current_dir(&folder)
+            .args(words)
+            .stdout(Stdio::piped())
+            .stderr(Stdio::piped());
+        let mut child = child.spawn().expect("it runs");
+        // One byte is read, and then nobody reads any more.
+        let mut out = child.stdout.take().expect("a pipe");
+        out.read_exact(&mut [0]).expect("a byte");
+        drop(out);
+        let output = child.wait_with_output().expect("it ends");
+        let told = String::from_utf8_lossy(&output.stderr).into_owned();
+        assert!(
+            !told.contains("panicked") && !told.contains("pipe"),
+            "{words:?}: {told}"
+        );
+        assert!(
+            output.status.code().is_some_and(|status| status < 2),
+            "{words:?}"
+        );
+    }
+}
