@@ -97,15 +97,12 @@ closing-matches : (k : Token) (i : ℕ) (s : Open) (ks : List Token) → Succeed
     → succeeds (afterBracket i (leaves ks) (closing k nil i s)) ≡ closes (k .op) ks (waited s)
 unfolding closing afterBracket waited closes
 closing-matches k i (outside d) ks later = later (outside (node k nil d))
-closing-matches k i (section o j d s) ks later = by (eqb (closer o) (k .op)) _
+closing-matches k i (section o j d s) ks later = by (eqb (closer o) (k .op)) _ _ (waited-placed _ _ s)
   where
-    by : (b : Bool) (ms : List Message)
-        → succeeds (afterBracket i (leaves ks) (elim b [ true ↦ going (placed (closedBy k o) (inOrder d) s) | false ↦ mismatch ms ]))
-        ≡ (b && matched (waited s) ks)
-    by true ms =
-        unfold afterBracket in
-        later (placed (closedBy k o) (inOrder d) s) ∙ ap (λ (w : List ℕ). matched w ks) (waited-placed (closedBy k o) (inOrder d) s)
-    by false ms = unfold afterBracket succeeds in refl
+    by : (b : Bool) (t : Open) (ms : List Message) → waited t ≡ waited s
+        → succeeds (afterBracket i (leaves ks) (elim b [ true ↦ going t | false ↦ mismatch ms ])) ≡ (b && matched (waited s) ks)
+    by true t ms e = unfold afterBracket in later t ∙ ap (λ (w : List ℕ). matched w ks) e
+    by false t ms e = unfold afterBracket succeeds in refl
 
 token-matches : (k : Token) (i : ℕ) (s : Open) (ks : List Token) (c : Option ℕ) (b : Bool) → closingOf (k .op) ≡ c → isCloser (k .op) ≡ b
     → Succeeds i ks → succeeds (afterBracket i (leaves ks) (bracket k nil i s)) ≡ matched (waited s) (k ∷ ks)
