@@ -95,14 +95,12 @@ Succeeds i ks = (t : Open) → succeeds (sections i t (leaves ks)) ≡ matched (
 
 closing-matches : (k : Token) (i : ℕ) (s : Open) (ks : List Token) → Succeeds i ks
     → succeeds (afterBracket i (leaves ks) (closing k nil i s)) ≡ closes (k .op) ks (waited s)
-unfolding closing afterBracket waited closes
+unfolding closing afterBracket waited closes succeeds
 closing-matches k i (outside d) ks later = later (outside (node k nil d))
-closing-matches k i (section o j d s) ks later = by (eqb (closer o) (k .op)) _ _ (waited-placed _ _ s)
-  where
-    by : (b : Bool) (t : Open) (ms : List Message) → waited t ≡ waited s
-        → succeeds (afterBracket i (leaves ks) (elim b [ true ↦ going t | false ↦ mismatch ms ])) ≡ (b && matched (waited s) ks)
-    by true t ms e = unfold afterBracket in later t ∙ ap (λ (w : List ℕ). matched w ks) e
-    by false t ms e = unfold afterBracket succeeds in refl
+closing-matches k i (section o j d s) ks later =
+    let by : Bool → Bool = λ b. b && matched (waited s) ks in
+    decided (λ x. succeeds (afterBracket i (leaves ks) x) ≡ by (eqb (closer o) (k .op))) (eqb (closer o) (k .op)) _ _
+    (λ e. later _ ∙ ap (λ (w : List ℕ). matched w ks) (waited-placed _ _ s) ∙ ap by (sym e)) (λ e. ap by (sym e))
 
 token-matches : (k : Token) (i : ℕ) (s : Open) (ks : List Token) (c : Option ℕ) (b : Bool) → closingOf (k .op) ≡ c → isCloser (k .op) ≡ b
     → Succeeds i ks → succeeds (afterBracket i (leaves ks) (bracket k nil i s)) ≡ matched (waited s) (k ∷ ks)
@@ -189,15 +187,12 @@ placed-adds k s e o =
 closing-adds : (k : Token) (i : ℕ) (s : Open) → closingOf (k .op) ≡ none → Openers s → Adds k s (closing k nil i s)
 unfolding closing spelledOpen placed
 closing-adds k i (outside d) e h = placed-adds k (outside d) e h
-closing-adds k i (section o j d s) e (opened f h) = by (eqb (closer o) (k .op)) _ refl
-  where
-    by : (b : Bool) (ms : List Message) → eqb (closer o) (k .op) ≡ b
-        → Adds k (section o j d s) (elim b [ true ↦ going (placed (closedBy k o) (inOrder d) s) | false ↦ mismatch ms ])
-    by true ms q =
-        adds {t = placed (closedBy k o) (inOrder d) s} (placed-openers (closedBy k o) (inOrder d) h)
-        (λ r. spelled-placed (closedBy k o) (inOrder d) s r ∙ ap (spelledOpen s) (spelled-section k o (inOrder d) r f)
-        ∙ ap (λ (n : ℕ). spelledOpen s (o .op ∷ spelled (inOrder d) (n ∷ r))) (eqb-true (closer o) (k .op) q))
-    by false ms q = differs
+closing-adds k i (section o j d s) e (opened f h) =
+    decided (Adds k (section o j d s)) (eqb (closer o) (k .op)) _ _
+    (λ q. adds {t = placed (closedBy k o) (inOrder d) s} (placed-openers (closedBy k o) (inOrder d) h)
+    (λ r. spelled-placed (closedBy k o) (inOrder d) s r ∙ ap (spelledOpen s) (spelled-section k o (inOrder d) r f)
+    ∙ ap (λ (n : ℕ). spelledOpen s (o .op ∷ spelled (inOrder d) (n ∷ r))) (eqb-true (closer o) (k .op) q)))
+    (λ q. differs)
 
 token-adds : (k : Token) (i : ℕ) (s : Open) (c : Option ℕ) (b : Bool) → closingOf (k .op) ≡ c → isCloser (k .op) ≡ b → Openers s
     → Adds k s (bracket k nil i s)
