@@ -1,4 +1,5 @@
--- Laws on lists of trees that the definition's passes use: turning round, and putting one list before another.
+-- Laws on lists of trees that the definition's passes use: turning round, and putting one list before another (`followedBy`, a definition
+-- of specs/Matching that is passed on from here).
 use mathlib.Core.Path.{_≡_, refl, ap, _∙_}
 use Rattle.molang.specs.Forest.{Token, Forest, nil, node, turnedOnto, inOrder}
 unfoldable pub use Rattle.molang.specs.Matching.{followedBy}

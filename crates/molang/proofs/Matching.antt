@@ -6,7 +6,7 @@ use Prim.Native.Nat.{ℕ, _+_}
 use mathlib.Core.Path.{_≡_, refl, ap, sym, _∙_, subst}
 use mathlib.Core.Bool.{Bool, true, false, _&&_, true≢false, false≢true}
 use mathlib.Core.List.{List, [], _∷_, _++_}
-use mathlib.Core.Option.{Option, none, some, Option·getD}
+use mathlib.Core.Option.{Option, none, some}
 use lib.Dec.{eqb}
 use native.Mathlib.Omega.{arith}
 use borrow.Author.Tests.{eqb-true}
@@ -16,7 +16,7 @@ use Rattle.molang.specs.Forest.{Token, Forest, nil, node, closedBy, leav
 use Rattle.molang.specs.Message.{Message, Result, ok, fail, closer}
 use Rattle.molang.specs.Sections.{Open, outside, section, placed, position, Walked, going, mismatch, closing, bracket, closed}
 use Rattle.molang.specs.Sections.{sections}
-use Rattle.molang.specs.Matching.{noneOpen, matched, succeeds, operatorsIn, withCloser, spelled, followedBy, LeafBetween, Whole}
+use Rattle.molang.specs.Matching.{noneOpen, matched, succeeds, operatorsIn, withCloser, spelled, followedBy, LeafBetween}
 use Rattle.molang.specs.Matching.{NothingLost}
 use Rattle.molang.proofs.Trees.{decided}
 use Rattle.molang.proofs.Forests.{turned-followed, inOrder-followed, inOrder-more}

@@ -1,8 +1,7 @@
 -- What `sections` leaves is the definition's answer, and the bracket step of the definition loses nothing of a childless list; so neither
 -- does the function.
 use Prim.Native.Nat.{ℕ}
-use mathlib.Core.Path.{_≡_, refl, sym, ap, _∙_, subst}
-use mathlib.Core.Bool.{Bool, true, false}
+use mathlib.Core.Path.{_≡_, refl, sym, _∙_, subst}
 use mathlib.Core.List.{List, []}
 use Rattle.molang.specs.Forest.{Token, Forest, nil, leaves}
 use Rattle.molang.specs.Message.{Result}
