@@ -156,7 +156,7 @@ mod beside {
         /// Compares every list of up to `most` brackets and floats; `progress` is called for each.
         pub fn all(&mut self, most: usize, mut progress: impl FnMut()) -> Result<(), String> {
             for (number, ops) in BRACKETS.every_list(most).enumerate() {
-                let version = 4 + number as i16 % 3;
+                let version = 4 + (number % 3) as i16;
                 self.list(&ops, version)
                     .map_err(|why| format!("{why}\nof the operators {ops:?}"))?;
                 progress();
