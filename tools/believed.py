@@ -5,6 +5,7 @@
 
 It starts from the contract of each public entry and follows the definitions that it cites, file by file, to those that they lean on. Files
 of code, laws and proofs are not among them: the checker holds those to the contracts. It fails where a promise reaches a file of proofs/.
+Theorems about the definition that no entry's promise cites have their statements listed too.
 """
 
 import re
@@ -25,6 +26,8 @@ ENTRIES = [
 USE = re.compile(r"(?:ghost )?use Rattle·(\w+)(?:·\w+)?\.(?:specs\.)?(specs|proofs|declared)\.([\w.]+?)(?:\.\{(.*)\})?(?: as (\w+))?;?$")
 # Files of molang/specs that are apart from the rules, and what they are.
 APART = {"Operator": "the operators' names and sets", "Lines": "the table of examples"}
+# Files of molang/specs that no entry reaches, with the statement of a theorem of molang/proofs, and the theorem.
+STATEMENTS = {"Matching": "nothing-lost"}
 
 
 def cited(line):
@@ -86,6 +89,9 @@ def main():
     for module, what in APART.items():
         if ("molang", module) in by_file:
             rows.append((f"`molang/specs`: {module}", what, lines_of(file_of("molang", "specs", module))))
+    for module, theorem in STATEMENTS.items():
+        if ("molang", module) not in by_file:
+            rows.append((f"`molang/specs`: {module}", f"what the theorem `{theorem}` says", lines_of(file_of("molang", "specs", module))))
     for crate, module in sorted(key for key in by_file if key[0] != "molang"):
         users = ", ".join(f"`{function}`" for function in sorted(by_file[crate, module]))
         rows.append((f"`{crate}/specs`: {module}", f"what the promise of {users} cites", lines_of(file_of(crate, "specs", module))))

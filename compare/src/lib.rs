@@ -5,6 +5,7 @@ pub mod calls;
 pub mod comparison;
 #[cfg(library)]
 pub mod library;
+pub mod matching;
 pub mod plain_trees;
 #[cfg(library)]
 pub mod reading;

@@ -162,6 +162,12 @@ impl Buffers {
         &self.tree.slice()[..NODE_WORDS * nodes]
     }
 
+    /// The numbers of the messages that the last call left, for an answer of so many.
+    pub fn messages(&mut self, count: usize) -> Vec<u32> {
+        let records = self.messages.slice()[..8 * count].chunks(8);
+        records.map(|record| record[0]).collect()
+    }
+
     /// The tokens of a numbered case's nodes, as the library reads it: where only the Rust's kept answers are at hand.
     pub fn names(&mut self, numbered: &Case) -> Result<Vec<u32>, String> {
         match self.call(&Call::of(numbered), &Expected::Something)? {

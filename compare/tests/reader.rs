@@ -4,6 +4,7 @@
 
 use compare::calls;
 use compare::comparison::Comparison;
+use compare::matching::Matching;
 use compare::reading::{Buffers, Expected};
 use compare::rereading::{self, Lists, Reread};
 use oracle::generate::Rng;
@@ -72,6 +73,18 @@ fn lists_of_brackets() {
     let (trees, messages, _) = compared(calls::bracketed(7, 16).take(100_000));
     assert!(trees > 30_000 && messages > 20_000, "{trees}, {messages}");
     compared(calls::bracketed(8, 600).take(2_000));
+}
+
+/// Beside the Rust where it is at hand, and always beside the three sentences of card 13.
+#[test]
+fn nothing_is_lost_in_the_brackets_of_any_list_of_up_to_seven() {
+    let mut matching = Matching::default();
+    if let Err(difference) = matching.all(7, || {}) {
+        panic!("{difference}");
+    }
+    assert_eq!(matching.lists, (0..=7).map(|len| 7u64.pow(len)).sum());
+    // As counted length by length, by how many sections are open.
+    assert_eq!((matching.matched, matching.lone), (67_211, 64_947));
 }
 
 #[test]

@@ -44,6 +44,7 @@ fn main() -> ExitCode {
 mod run {
     use compare::calls;
     use compare::comparison::Comparison;
+    use compare::matching::Matching;
     use compare::plain_trees;
     use compare::reading::Buffers;
     use compare::rereading::{Lists, Reread, reread, write};
@@ -141,13 +142,26 @@ mod run {
         let shapes = &mut lens.into_iter().flat_map(calls::shapes);
         part("every shape, at 4, 5 and 6", shapes)?;
         part("every refusal at its limits", &mut calls::limits())?;
-        for part in [writing, expressions, scripts, short_scripts] {
+        for part in [short_brackets, writing, expressions, scripts, short_scripts] {
             let written = part(lists as u64 / 5, seed);
             let (Ok(count) | Err((count, _))) = written;
             done += count;
             written.map_err(|(_, difference)| (done, difference))?;
         }
         Ok(done)
+    }
+
+    /// Reads every short list of brackets beside the Rust and beside what is not lost in them.
+    fn short_brackets(_: u64, _: u64) -> Result<u64, (u64, String)> {
+        let mut progress = Progress::new("every list of up to 7 over the six brackets and a float");
+        let mut matching = Matching::default();
+        let ended = matching.all(7, || progress.one_more());
+        ended.map_err(|difference| (matching.lists, difference))?;
+        progress.end(&format!(
+            "{} matched, {} of them with a closer met with nothing open; their trees once more with commas between",
+            matching.matched, matching.lone
+        ));
+        Ok(matching.lists)
     }
 
     /// Writes `count` trees of any spans by the library and by the second writer, most of them plain.

@@ -1,16 +1,39 @@
--- Laws on lists of trees that the definition's passes use: turning round, and putting one list before another.
-use mathlib.Core.Path.{_≡_, refl, ap}
-use Rattle.molang.specs.Forest.{Forest, nil, node, turnedOnto, inOrder}
-
--- The trees of the first list, then those of the second.
-unfoldable pub followedBy : Forest → Forest → Forest
-followedBy nil r = r
-followedBy (node k cs f) r = node k cs (followedBy f r)
+-- Laws on lists of trees that the definition's passes use: turning round, and putting one list before another (`followedBy`, a definition
+-- of specs/Matching that is passed on from here).
+use mathlib.Core.Path.{_≡_, refl, ap, _∙_}
+use Rattle.molang.specs.Forest.{Token, Forest, nil, node, turnedOnto, inOrder}
+unfoldable pub use Rattle.molang.specs.Matching.{followedBy}
 
 pub followedBy-nil : (f : Forest) → followedBy f nil ≡ f
 unfolding followedBy
 followedBy-nil nil = refl
 followedBy-nil (node k cs f) = ap (node k cs) (followedBy-nil f)
+
+pub followed-twice : (f g h : Forest) → followedBy (followedBy f g) h ≡ followedBy f (followedBy g h)
+unfolding followedBy
+followed-twice nil g h = refl
+followed-twice (node k cs f) g h = ap (node k cs) (followed-twice f g h)
+
+pub turned-followed : (d g f : Forest) → turnedOnto d (followedBy g f) ≡ followedBy (turnedOnto d g) f
+unfolding turnedOnto followedBy
+turned-followed nil g f = refl
+turned-followed (node k cs d) g f = turned-followed d (node k cs g) f
+
+pub followed-turned : (e d f : Forest) → turnedOnto (followedBy e d) f ≡ turnedOnto d (turnedOnto e f)
+unfolding turnedOnto followedBy
+followed-turned nil d f = refl
+followed-turned (node k cs e) d f = followed-turned e d (node k cs f)
+
+-- The trees of d, gathered before those of e, stand before them in order.
+pub inOrder-followed : (e d : Forest) → inOrder (followedBy e d) ≡ followedBy (inOrder d) (inOrder e)
+unfolding inOrder followedBy
+inOrder-followed e d = followed-turned e d nil ∙ turned-followed d nil (turnedOnto e nil)
+
+-- One tree more, gathered last, stands last in order.
+pub inOrder-more : (k : Token) (cs d f : Forest) → followedBy (inOrder (node k cs d)) f ≡ followedBy (inOrder d) (node k cs f)
+unfolding inOrder turnedOnto followedBy
+inOrder-more k cs d f =
+    ap (λ (g : Forest). followedBy g f) (turned-followed d nil (node k cs nil)) ∙ followed-twice (turnedOnto d nil) (node k cs nil) f
 
 pub turned-twice : (f o r : Forest) → turnedOnto (turnedOnto f o) r ≡ turnedOnto o (followedBy f r)
 unfolding turnedOnto followedBy

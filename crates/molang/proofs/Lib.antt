@@ -17,6 +17,7 @@ pub mod Conditional
 pub mod Sections
 pub mod Passes
 pub mod NoMasks
+pub mod Matching
 pub mod NoFrames
 pub mod Bounds
 pub mod FirstFailure

@@ -13,6 +13,7 @@ pub mod Read
 pub mod Free
 pub mod Weight
 pub mod Work
+pub mod Matching
 pub mod FirstFailure
 pub mod Words
 pub mod Legal

@@ -4,3 +4,4 @@ pub mod MemberLaws
 pub mod SectionOpen
 pub mod SectionLooking
 pub mod SectionWalk
+pub mod MatchingLaws

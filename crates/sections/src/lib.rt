@@ -18,6 +18,7 @@ ghost use lib.ListN.{length};
 ghost use Rattle.nodes.specs.Store.{wd};
 ghost use Rattle.sections.specs.Flat.{CanJoin, Joined, MemberAt, Membered, CanSection, Sectioned, CanOpen, Opened, LookAt, Looked};
 ghost use Rattle.sections.specs.Flat.{Closed, NamedAt, Named};
+ghost use Rattle.sections.specs.Matching.{LosesNothing};
 
 // What a flat pass leaves: how many items, or why it fails.
 pub enum Flat {
@@ -195,10 +196,12 @@ fn look(work: &mut [u32], base: usize, marks: usize, at: Reached, item: u32) -> 
 
 // The section pass: a walk over the n tokens from base on, and in it over the open sections. From a token outside on, where
 // it opens a section, the tokens up to its closer are looked at. The first bracket that does not match ends both walks.
+// It is the definition's bracket step, and of a childless list nothing is lost in it.
 // What it asks, `grouping::group` meets with what the member pass leaves.
 pub fn sections(work: &mut [u32], base: usize, n: usize) -> Flat
     requires { ⌜ CanSection (now work) base n ⌝ }
     ensures { λ r. ⌜ Sectioned (now (work .entry)) base n r (now (work .exit)) ⌝ }
+    ensures { λ r. ⌜ LosesNothing (now (work .entry)) base n r (now (work .exit)) ⌝ }
 {
     let marks = base + n;
     let mut read = 0usize;

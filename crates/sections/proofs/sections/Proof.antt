@@ -8,6 +8,7 @@ use lib.ListN.{length}
 use Rattle.nodes.specs.Store.{wd}
 use Rattle.sections.specs.Flat.{CanSection}
 use Rattle.sections.proofs.SectionWalk.{Walking, WalkTurn, walk-start, walk-turn, walk-look, walk-on, walk-differs, walk-done, walk-named, walk-unclosed}
+use Rattle.sections.proofs.MatchingLaws.{loses-nothing}
 use Rattle.sections.proofs.sections.Statement.{statement}
 use Rattle.sections.proofs.sections.Tie as tie
 
@@ -116,11 +117,12 @@ same-length c = let v = c .before .tokens .inv in v .2 (v .0) .2 .long
 returns : tie.Need-returns Inv-open μ-open Inv-tokens μ-tokens
 returns c =
     let v = c .before .tokens .inv in
-    record {
+    loses-nothing
+    (record {
       answer = λ g. let w = v .2 g in walk-done (w .0) (w .1) (w .2) (c .if1 .taken) (v .1);
       kept = λ g. v .2 g .2 .kept;
       long = v .2 (v .0) .2 .long;
-    }
+    })
 
 same-length-2 : tie.Need-same-length-2 Inv-open μ-open Inv-tokens μ-tokens
 same-length-2 c =
@@ -134,13 +136,14 @@ returns-2 c =
     let s = c .before .before .before .before in
     let o = s .before .before .before .before .before .before .before .before .before in
     let pre = o .before .before .before .before .pre in
-    record {
+    loses-nothing
+    (record {
       answer = λ g.
           let w = walked s g (now-at o g) in
           walk-unclosed (w .0) (w .1) (w .2) (c .before .before .if3 .taken) (c .before .before .before .if2 .left) (c .still-open .result) (c .still-open .ensures);
       kept = λ g. walked s g (now-at o g) .2 .kept;
       long = walked s pre (now-at o pre) .2 .long;
-    }
+    })
 
 same-length-3 : tie.Need-same-length-3 Inv-open μ-open Inv-tokens μ-tokens
 same-length-3 c =
@@ -154,11 +157,12 @@ returns-3 c =
     let pre = o .before .before .before .before .pre in
     let r = c .before .before .before .before .before .look in
     let given = c .before .looked2 .given in
-    record {
+    loses-nothing
+    (record {
       answer = λ g. walk-differs (turn o g (now-at o g)) (r .result) (given .0 .0) (r .last .0) (r .ensures) (given .1) .0;
       kept = λ g. walk-differs (turn o g (now-at o g)) (r .result) (given .0 .0) (r .last .0) (r .ensures) (given .1) .1;
       long = r .ensures .long ∙ now-at o pre .2 .long;
-    }
+    })
 
 pub sections-spec : {M : Type 1} → statement M
 sections-spec =
