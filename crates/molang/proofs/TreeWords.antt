@@ -10,12 +10,12 @@ use borrow.Author.Tests.{eqb-true, eq-eqb, le-leb, lt-ltb}
 use Rattle.molang.specs.Forest.{Token, Forest, nil, node, count, size}
 use Rattle.molang.specs.Words.{word, tokenWords, nodeWordsOf, treeWords, Field, operatorField, startField, endField, upperField}
 use Rattle.molang.specs.Words.{lowerField, countField, closeField, fieldKind, lowFault, wordFault, variantAfter}
-use Rattle.molang.specs.Legal.{Legal}
+use Rattle.molang.specs.Legal.{Legal, LegalTrees, noTrees, legalTree}
 use Rattle.molang.specs.FirstFailure.{must}
 use Rattle.molang.specs.WriteEntry.{mostNodes, nextInNode, Shape, shapeAfter, continues, isWhole, treeFault}
 use Rattle.molang.proofs.Trees.{decided, count-size, and-true-true}
 use Rattle.molang.proofs.FirstFailure.{must-true, then-none, passes, all-passed, after-none}
-use Rattle.molang.proofs.Words.{LegalTrees, noTrees, legalTree, low-word, kind-word, high-part}
+use Rattle.molang.proofs.Words.{low-word, kind-word, high-part}
 
 -- A word of the right kind whose low bits have no fault.
 word-passes : (field : Field) (v low : ℕ) → low < 2 ^ 29 → lowFault field v low ≡ none

@@ -12,7 +12,7 @@ use Rattle.molang.specs.Forest.{Token, Forest, nil, node, count, closedB
 use Rattle.molang.specs.Words.{word, kindOf, lowOf, tokenWords, tokenOf, nodeWordsOf, nodeOf, tokensOf, listWords, treeWords, Field}
 use Rattle.molang.specs.Words.{operatorField, startField, endField, upperField, lowerField, fieldKind, lowFault, wordFault, variantAfter}
 use Rattle.molang.specs.Words.{nextInToken, wordsRefusal}
-use Rattle.molang.specs.Legal.{Legal}
+use Rattle.molang.specs.Legal.{Legal, LegalTrees, noTrees, legalTree}
 use Rattle.molang.specs.WriteEntry.{firstTrees, otherTrees, treesOf}
 use Rattle.molang.proofs.Trees.{decided}
 use Rattle.molang.proofs.FirstFailure.{must-none, first-none, passed, withPlace-none}
@@ -25,10 +25,6 @@ pub data LegalTokens : List Token → Type 0 where
 abbrev pub AtEnds : List Token → Type 0
 AtEnds [] = Unit {0}
 AtEnds (k ∷ ks) = (k .close ≡ k .end) × AtEnds ks
-
-pub data LegalTrees : Forest → Type 0 where
-  noTrees : LegalTrees nil
-  legalTree : {k : Token} {cs rest : Forest} → Legal k → count cs < 2 ^ 14 → LegalTrees cs → LegalTrees rest → LegalTrees (node k cs rest)
 
 pub low-word : (kind low : ℕ) → low < 2 ^ 29 → lowOf (word kind low) ≡ low
 unfolding lowOf word
