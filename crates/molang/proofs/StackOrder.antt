@@ -9,28 +9,20 @@ use Rattle.molang.specs.Words.{tokenWords, nodeWordsOf, treeWords}
 use Rattle.molang.specs.Legal.{Legal, LegalTrees, noTrees, legalTree}
 use Rattle.molang.specs.WriteEntry.{firstTrees, otherTrees, treesOf}
 use Rattle.molang.specs.StackOrder.{stackWords, stackTrees, IsOneTree}
-use Rattle.molang.proofs.Words.{low-word, node-back, beside, first-beside, other-beside, trees-back}
+use Rattle.molang.proofs.Words.{low-word, node-back, first-beside, other-beside, trees-back}
 use Rattle.molang.proofs.Bounds.{treeWords-length}
 use Rattle.molang.proofs.Forests.{inOrder-turned, reversed-count}
+use Rattle.molang.proofs.Rows.{turnedOnto-beside}
 
 -- ---- Trees are read back
 
 -- Trees that were gathered last are the first of the list.
-turned-beside : (f o d : Forest) → turnedOnto f (beside o d) ≡ beside (turnedOnto f o) d
-unfolding turnedOnto beside
-turned-beside nil o d = refl
-turned-beside (node k cs rest) o d = turned-beside rest (node k cs o) d
-
-gathered-beside : (f d : Forest) → turnedOnto f d ≡ beside (inOrder f) d
-unfolding inOrder beside
-gathered-beside f d = turned-beside f nil d
-
 gathered-first : (f d : Forest) → inOrder (firstTrees (count f) (turnedOnto f d)) ≡ f
 unfolding inOrder
-gathered-first f d = rw (gathered-beside f d, ← reversed-count f, first-beside (inOrder f) d) (inOrder-turned f)
+gathered-first f d = rw (turnedOnto-beside f d, ← reversed-count f, first-beside (inOrder f) d) (inOrder-turned f)
 
 gathered-others : (f d : Forest) → otherTrees (count f) (turnedOnto f d) ≡ d
-gathered-others f d = rw (gathered-beside f d, ← reversed-count f) (other-beside (inOrder f) d)
+gathered-others f d = rw (turnedOnto-beside f d, ← reversed-count f) (other-beside (inOrder f) d)
 
 -- A node takes its children from the trees done.
 node-onto : (k : Token) → Legal k → (n : ℕ) → n < 2 ^ 14 → (d : Forest) (ws : List ℕ)
