@@ -1,8 +1,8 @@
 -- A walk along the words of nodes that stops at the first word which cannot stand there: what answers 12 and 24 have in common. Seven legal
 -- words are passed as a node, and seven that were passed are the words of one.
 use Prim.Native.Nat.{ℕ, suc, _+_, _*_, _/_, _%_, _^_, _≤_, _<_}
-use mathlib.Core.Path.{_≡_, refl, ap, _∙_}
-use mathlib.Core.Bool.{true, false, _&&_, false≢true}
+use mathlib.Core.Path.{_≡_, refl, ap, sym, _∙_}
+use mathlib.Core.Bool.{Bool, true, false, _&&_}
 use mathlib.Core.List.{List, [], _∷_, _++_}
 use mathlib.Core.Option.{Option, none, some}
 use native.Mathlib.Omega.{arith}
@@ -13,9 +13,11 @@ use Rattle.molang.specs.Words.{word, lowOf, tokenWords, nodeWordsOf, nod
 use Rattle.molang.specs.Words.{upperField, lowerField, countField, closeField, fieldKind, lowFault, wordFault, variantAfter}
 use Rattle.molang.specs.Legal.{Legal}
 use Rattle.molang.specs.FirstFailure.{must, firstOf}
-use Rattle.molang.specs.WriteEntry.{nextInNode}
+use Rattle.molang.specs.WriteEntry.{mostNodes, nextInNode}
 use Rattle.molang.proofs.Trees.{decided, some-none, both, and-true-true}
-use Rattle.molang.proofs.FirstFailure.{must-true, must-none, first-none, then-none, passed, passes, all-passed, after-none}
+use Rattle.molang.proofs.Booleans.{false-true}
+use Rattle.molang.proofs.FirstFailure.{must-true, must-none, must-some, first-none, then-none, passed, passes, all-passed}
+use Rattle.molang.proofs.FirstFailure.{after-none, one-of}
 use Rattle.molang.proofs.Words.{low-word, kind-word, high-part, low-bound, word-back, word-faultless, five-legal}
 use Rattle.molang.proofs.Words.{five-back, five-faultless}
 
@@ -84,11 +86,6 @@ abbrev fieldAfter : Field → List ℕ → Field
 fieldAfter field [] = field
 fieldAfter field (w ∷ ws) = fieldAfter (nextInNode field) ws
 
--- The payload variant after them.
-abbrev variantOf : Field → ℕ → List ℕ → ℕ
-variantOf field v [] = v
-variantOf field v (w ∷ ws) = variantOf (nextInNode field) (variantAfter field v w) ws
-
 -- Each word is legal in its field.
 abbrev AllLegal : Field → ℕ → List ℕ → Type 0
 AllLegal field v [] = Unit {0}
@@ -98,16 +95,13 @@ AllLegal field v (w ∷ ws) = (wordFault field v w ≡ none) × AllLegal (nextIn
 node-legal : (k : Token) → Legal k → (n : ℕ) → n < 2 ^ 14 → (v : ℕ) → AllLegal operatorField v (nodeWordsOf k n)
 unfolding nodeWordsOf tokenWords nextInNode variantAfter
 node-legal k h n b v =
-    rw (variant-read k h v) (
-      operator-passes k h v,
-      (
-        start-passes k h _,
-        (
-          end-passes k h _,
-          (upper-passes k h, (lower-passes k h, (count-passes _ n b, (close-passes k h _, tt)))),
-        ),
-      ),
-    )
+    let counted : AllLegal countField (k .variant) (word 6 n ∷ word 7 (k .close) ∷ []) =
+    (count-passes (k .variant) n b, (close-passes k h (k .variant), tt))
+    in
+    let valued : AllLegal upperField (k .variant) (word 4 (k .value / 2 ^ 16) ∷ word 5 (k .value % 2 ^ 16) ∷ word 6 n ∷ word 7 (k .close) ∷ []) =
+    (upper-passes k h, (lower-passes k h, counted))
+    in
+    rw (variant-read k h v) (operator-passes k h v, (start-passes k h (k .variant), (end-passes k h (k .variant), valued)))
 
 -- Seven legal words are those of a legal node.
 pub record NodeRead (a b c d e n g : ℕ) : Type 0 where
@@ -151,35 +145,108 @@ Between lowerField = ⊥
 Between countField = ⊥
 Between closeField = ⊥
 
--- A walk: its state after a word, what it asks of a word beside being legal, and its fault. A legal word that fits is passed and no other
--- is; the words do not end inside a node.
-pub record Walk (S : Type 0) : Type 1 where
+-- The nodes that a word begins.
+abbrev pub begins : Field → ℕ
+begins operatorField = 1
+begins startField = 0
+begins endField = 0
+begins upperField = 0
+begins lowerField = 0
+begins countField = 0
+begins closeField = 0
+
+-- A walk: its state after a word, the nodes that have begun, and its fault. A word is passed that is legal, asks for no more than is there
+-- and leaves a tree of no more nodes than fit; the words end where a node does.
+pub record Walk (S : Type 0) : Type 0 where
   pub after : Field → ℕ → S → S
-  pub Fits : Field → ℕ → S → Type 0
+  pub begun : S → ℕ
+  pub asked : Field → ℕ → S → ℕ
+  pub there : Field → ℕ → S → ℕ
+  pub nodes : Field → ℕ → S → ℕ
+  pub whole : Field → S → Bool
   pub fault : ℕ → Field → ℕ → S → List ℕ → Option ℕ
-  pub goes : (i : ℕ) (field : Field) (v : ℕ) (s : S) (w : ℕ) (ws : List ℕ) → wordFault field v w ≡ none → Fits field w s
-      → fault i field v s (w ∷ ws) ≡ fault (suc i) (nextInNode field) (variantAfter field v w) (after field w s) ws
-  pub went : (i : ℕ) (field : Field) (v : ℕ) (s : S) (w : ℕ) (ws : List ℕ) → fault i field v s (w ∷ ws) ≡ none
-      → (wordFault field v w ≡ none) × Fits field w s
-      × (fault (suc i) (nextInNode field) (variantAfter field v w) (after field w s) ws ≡ none)
-  pub ends : (i : ℕ) (field : Field) (v : ℕ) (s : S) → fault i field v s [] ≡ none → Between field
+  pub at-end : (i : ℕ) (field : Field) (v : ℕ) (s : S) → fault i field v s [] ≡ must (whole field s) i
+  pub at-word : (i : ℕ) (field : Field) (v : ℕ) (s : S) (w : ℕ) (ws : List ℕ)
+      → fault i field v s (w ∷ ws)
+      ≡ firstOf
+      (must (elim (wordFault field v w)
+      [ some n ↦ false | none ↦ leb (asked field w s) (there field w s) && leb (nodes field w s) mostNodes ]) i
+      ∷ fault (suc i) (nextInNode field) (variantAfter field v w) (after field w s) ws
+      ∷ [])
+  pub between : (field : Field) (s : S) → whole field s ≡ true → Between field
+  pub more : (field : Field) (w : ℕ) (s : S) → begun (after field w s) ≡ begun s + begins field
+  pub few : (field : Field) (w : ℕ) (s : S) → asked field w s ≤ there field w s → begun (after field w s) ≤ nodes field w s
 
--- The test that both answers make of a word: it is legal, and two numbers are at most two others.
-module _ (p q r t i : ℕ) (later : Option ℕ) where
-  pub test-goes : (o : Option ℕ) → o ≡ none → (p ≤ q) × (r ≤ t)
-      → firstOf (must (elim o [ some n ↦ false | none ↦ leb p q && leb r t ]) i ∷ later ∷ []) ≡ later
-  test-goes none e f = after-none _ later (must-true _ i (and-true-true _ _ (le-leb p q (f .0)) (le-leb r t (f .1))))
-  test-goes (some n) e f = some-none e
+-- The words that a node begun still lacks.
+abbrev lacks : Field → ℕ
+lacks operatorField = 0
+lacks startField = 6
+lacks endField = 5
+lacks upperField = 4
+lacks lowerField = 3
+lacks countField = 2
+lacks closeField = 1
 
-  pub test-went : (o : Option ℕ) → firstOf (must (elim o [ some n ↦ false | none ↦ leb p q && leb r t ]) i ∷ later ∷ []) ≡ none
-      → (o ≡ none) × ((p ≤ q) × (r ≤ t)) × (later ≡ none)
-  test-went none e =
-      let x = passed (leb p q && leb r t) i _ e in
-      let y = both (leb p q) (leb r t) (x .0) in
-      (refl, (leb-true p q (y .0), leb-true r t (y .1)), first-none later [] (x .1) .0)
-  test-went (some n) e = absurd (false≢true (passed false i _ e .0))
+-- A word takes up the place that it was counted for.
+taken : (field : Field) (i n : ℕ) → i + lacks field ≤ 7 * n → suc i + lacks (nextInNode field) ≤ 7 * (n + begins field)
+unfolding nextInNode
+taken operatorField i n h = omega arith
+taken startField i n h = omega arith
+taken endField i n h = omega arith
+taken upperField i n h = omega arith
+taken lowerField i n h = omega arith
+taken countField i n h = omega arith
+taken closeField i n h = omega arith
+
+-- A legal word of two tests.
+tested : (o : Option ℕ) (a b : Bool) → o ≡ none → (a ≡ true) × (b ≡ true) → _≡_ {A = Bool} (elim o [ some n ↦ false | none ↦ a && b ]) true
+tested none a b e t = and-true-true a b (t .0) (t .1)
+tested (some n) a b e t = some-none e
+
+tests : (o : Option ℕ) (a b : Bool) → _≡_ {A = Bool} (elim o [ some n ↦ false | none ↦ a && b ]) true
+    → (o ≡ none) × (a ≡ true) × (b ≡ true)
+tests none a b e = let t = both a b e in (refl, t .0, t .1)
+tests (some n) a b e = false-true e
 
 module _ {S : Type 0} (W : Walk S) where
+  -- What is asked of a word beside being legal.
+  abbrev pub Fits : Field → ℕ → S → Type 0
+  Fits field w s = (W .asked field w s ≤ W .there field w s) × (W .nodes field w s ≤ mostNodes)
+
+  -- The fault of the words after a word.
+  abbrev later : ℕ → Field → ℕ → S → ℕ → List ℕ → Option ℕ
+  later i field v s w ws = W .fault (suc i) (nextInNode field) (variantAfter field v w) (W .after field w s) ws
+
+  goes : (i : ℕ) (field : Field) (v : ℕ) (s : S) (w : ℕ) (ws : List ℕ) → wordFault field v w ≡ none → Fits field w s
+      → W .fault i field v s (w ∷ ws) ≡ later i field v s w ws
+  goes i field v s w ws e f =
+      W .at-word i field v s w ws
+      ∙ after-none _ _ (must-true _ i (tested (wordFault field v w) _ _ e (le-leb _ _ (f .0), le-leb _ _ (f .1))))
+
+  went : (i : ℕ) (field : Field) (v : ℕ) (s : S) (w : ℕ) (ws : List ℕ) → W .fault i field v s (w ∷ ws) ≡ none
+      → (wordFault field v w ≡ none) × Fits field w s × (later i field v s w ws ≡ none)
+  went i field v s w ws h =
+      let x = passed _ i _ (sym (W .at-word i field v s w ws) ∙ h) in
+      let t = tests (wordFault field v w) _ _ (x .0) in
+      (t .0, (leb-true _ _ (t .1), leb-true _ _ (t .2)), first-none _ [] (x .1) .0)
+
+  ends : (i : ℕ) (field : Field) (v : ℕ) (s : S) → W .fault i field v s [] ≡ none → W .whole field s ≡ true
+  ends i field v s h = must-none _ i (sym (W .at-end i field v s) ∙ h)
+
+  -- A fault's place: no node begins after the last that fits.
+  pub place : (p : ℕ) (ws : List ℕ) (i : ℕ) (field : Field) (v : ℕ) (s : S) → W .begun s ≤ mostNodes → i + lacks field ≤ 7 * W .begun s
+      → W .fault i field v s ws ≡ some p
+      → p ≤ 86016
+  place p [] i field v s b h e = omega (arith, must-some _ i p (sym (W .at-end i field v s) ∙ e))
+  place p (w ∷ ws) i field v s b h e =
+      one-of _ i p _ (sym (W .at-word i field v s w ws) ∙ e) (λ here. omega arith)
+      (λ t found.
+      let x = tests (wordFault field v w) _ _ t in
+      let few = W .few field w s (leb-true _ _ (x .1)) in
+      let room : W .nodes field w s ≤ mostNodes = leb-true _ _ (x .2) in
+      place p ws (suc i) (nextInNode field) (variantAfter field v w) (W .after field w s) (omega arith)
+      (rw (W .more field w s) (taken field i (W .begun s) h)) found)
+
   -- The state after words.
   abbrev pub afterAll : Field → List ℕ → S → S
   afterAll field [] s = s
@@ -188,7 +255,7 @@ module _ {S : Type 0} (W : Walk S) where
   -- Each word fits.
   abbrev pub AllFit : Field → List ℕ → S → Type 0
   AllFit field [] s = Unit {0}
-  AllFit field (w ∷ ws) s = W .Fits field w s × AllFit (nextInNode field) ws (W .after field w s)
+  AllFit field (w ∷ ws) s = Fits field w s × AllFit (nextInNode field) ws (W .after field w s)
 
   -- Words that are legal and fit are passed.
   all-go : (xs ws : List ℕ) (i : ℕ) (field : Field) (v : ℕ) (s : S) → AllLegal field v xs → AllFit field xs s
@@ -196,23 +263,23 @@ module _ {S : Type 0} (W : Walk S) where
       → W .fault i field v s (xs ++ ws) ≡ none
   all-go [] ws i field v s l f later = later i v
   all-go (x ∷ xs) ws i field v s l f later =
-      W .goes i field v s x (xs ++ ws) (l .0) (f .0)
+      goes i field v s x (xs ++ ws) (l .0) (f .0)
       ∙ all-go xs ws (suc i) (nextInNode field) (variantAfter field v x) (W .after field x s) (l .1) (f .1) later
 
   -- Words that were passed are legal and fit.
   all-went : (xs ws : List ℕ) (i : ℕ) (field : Field) (v : ℕ) (s : S) → W .fault i field v s (xs ++ ws) ≡ none
       → AllLegal field v xs × AllFit field xs s
-      × ((j : ℕ) × (W .fault j (fieldAfter field xs) (variantOf field v xs) (afterAll field xs s) ws ≡ none))
-  all-went [] ws i field v s h = (tt, tt, (i, h))
+      × ((j : ℕ) × (u : ℕ) × (W .fault j (fieldAfter field xs) u (afterAll field xs s) ws ≡ none))
+  all-went [] ws i field v s h = (tt, tt, (i, v, h))
   all-went (x ∷ xs) ws i field v s h =
-      let here = W .went i field v s x (xs ++ ws) h in
+      let here = went i field v s x (xs ++ ws) h in
       let later = all-went xs ws (suc i) (nextInNode field) (variantAfter field v x) (W .after field x s) (here .2) in
       ((here .0, later .0), (here .1, later .1), later .2)
 
   -- The words end where a node does.
   all-end : (xs : List ℕ) (i : ℕ) (field : Field) (v : ℕ) (s : S) → W .fault i field v s xs ≡ none → Between (fieldAfter field xs)
-  all-end [] i field v s h = W .ends i field v s h
-  all-end (x ∷ xs) i field v s h = all-end xs (suc i) (nextInNode field) _ _ (W .went i field v s x xs h .2)
+  all-end [] i field v s h = W .between field s (ends i field v s h)
+  all-end (x ∷ xs) i field v s h = all-end xs (suc i) (nextInNode field) _ _ (went i field v s x xs h .2)
 
   -- A legal node whose words fit is passed.
   pub node-goes : (k : Token) → Legal k → (n : ℕ) → n < 2 ^ 14 → (i v : ℕ) (s : S) (ws : List ℕ)
@@ -223,13 +290,13 @@ module _ {S : Type 0} (W : Walk S) where
   node-goes k h n b i v s ws f later = all-go (nodeWordsOf k n) ws i operatorField v s (node-legal k h n b v) f later
 
   -- What holds of no words, and of a legal node's before any of which it holds, holds of words without fault.
-  pub along : (P : S → List ℕ → Type 0) → ((i v : ℕ) (s : S) → W .fault i operatorField v s [] ≡ none → P s [])
-      → ((a b c d e n g : ℕ) (ws : List ℕ) (s : S) → NodeRead a b c d e n g → W .Fits operatorField a s
-      → W .Fits countField n (afterAll operatorField (a ∷ b ∷ c ∷ d ∷ e ∷ []) s)
+  pub along : (P : S → List ℕ → Type 0) → ((s : S) → W .whole operatorField s ≡ true → P s [])
+      → ((a b c d e n g : ℕ) (ws : List ℕ) (s : S) → NodeRead a b c d e n g → Fits operatorField a s
+      → Fits countField n (afterAll operatorField (a ∷ b ∷ c ∷ d ∷ e ∷ []) s)
       → P (afterAll operatorField (a ∷ b ∷ c ∷ d ∷ e ∷ n ∷ g ∷ []) s) ws → P s (a ∷ b ∷ c ∷ d ∷ e ∷ n ∷ g ∷ ws))
       → (i v : ℕ) (s : S) (ws : List ℕ) → W .fault i operatorField v s ws ≡ none → P s ws
   unfolding nextInNode
-  along P last more i v s [] h = last i v s h
+  along P last more i v s [] h = last s (ends i operatorField v s h)
   along P last more i v s (a ∷ []) h = absurd (all-end (a ∷ []) i operatorField v s h)
   along P last more i v s (a ∷ b ∷ []) h = absurd (all-end (a ∷ b ∷ []) i operatorField v s h)
   along P last more i v s (a ∷ b ∷ c ∷ []) h = absurd (all-end (a ∷ b ∷ c ∷ []) i operatorField v s h)
@@ -239,4 +306,4 @@ module _ {S : Type 0} (W : Walk S) where
   along P last more i v s (a ∷ b ∷ c ∷ d ∷ e ∷ n ∷ g ∷ ws) h =
       let x = all-went (a ∷ b ∷ c ∷ d ∷ e ∷ n ∷ g ∷ []) ws i operatorField v s h in
       more a b c d e n g ws s (node-read v a b c d e n g (x .0)) (x .1 .0) (x .1 .1 .1 .1 .1 .1 .0)
-      (along P last more (x .2 .0) _ _ ws (x .2 .1))
+      (along P last more (x .2 .0) (x .2 .1) _ ws (x .2 .2))

@@ -2,7 +2,7 @@
 -- at most 86,016.
 use Prim.Native.Nat.{ℕ, suc, _+_, _-_, _*_, _^_, _≤_, _<_}
 use mathlib.Core.Path.{_≡_, refl, ap, sym, _∙_}
-use mathlib.Core.Bool.{Bool, true, false, true≢false}
+use mathlib.Core.Bool.{true, false, _&&_}
 use mathlib.Core.List.{List, [], _∷_, _++_, append-assoc, append-nil}
 use mathlib.Core.Logic.{_↔_}
 use mathlib.Core.Option.{Option, none, some}
@@ -13,45 +13,81 @@ use Rattle.molang.specs.Forest.{Token, Forest, nil, node, turnedOnto, in
 use Rattle.molang.specs.Words.{lowOf, nodeOf, tokenWords, nodeWordsOf, Field, operatorField, startField, endField, upperField}
 use Rattle.molang.specs.Words.{lowerField, countField, closeField, wordFault, variantAfter}
 use Rattle.molang.specs.Legal.{Legal, LegalTrees, noTrees, legalTree}
+use Rattle.molang.specs.FirstFailure.{must, firstOf}
 use Rattle.molang.specs.WriteEntry.{mostNodes, nextInNode}
 use Rattle.molang.specs.StackOrder.{stackWords, Stack, stackAfter, treesAsked, leastNodes, stackContinues, isOneStack, stackFault}
 use Rattle.molang.specs.StackOrder.{IsOneTree}
-use Rattle.molang.proofs.Trees.{decided, either}
-use Rattle.molang.proofs.FirstFailure.{must-true, must-none}
+use Rattle.molang.proofs.Trees.{either}
+use Rattle.molang.proofs.Booleans.{false-true}
+use Rattle.molang.proofs.FirstFailure.{must-true}
 use Rattle.molang.proofs.Forests.{reversed-count, reversed-size}
 use Rattle.molang.proofs.Words.{low-word, beside}
 use Rattle.molang.proofs.Rows.{parted, count-beside, size-beside, legal-beside, legal-inOrder, turnedOnto-beside, one-tree}
-use Rattle.molang.proofs.NodeWalk.{Between, Walk, test-goes, test-went, node-goes, NodeRead, along}
+use Rattle.molang.proofs.NodeWalk.{Between, begins, Walk, place, node-goes, NodeRead, along}
 
 -- ---- Answer 24's walk
 
--- What is asked of a word beside being legal: as many trees are done as it asks for, and the tree fits.
-abbrev Fits : Field → ℕ → Stack → Type 0
-Fits field w s = (treesAsked field w ≤ s .done) × (leastNodes field (stackAfter field w s) ≤ mostNodes)
-
-stack-goes : (i : ℕ) (field : Field) (v : ℕ) (s : Stack) (w : ℕ) (ws : List ℕ) → wordFault field v w ≡ none → Fits field w s
-    → stackFault i field v s (w ∷ ws) ≡ stackFault (suc i) (nextInNode field) (variantAfter field v w) (stackAfter field w s) ws
+stack-word : (i : ℕ) (field : Field) (v : ℕ) (s : Stack) (w : ℕ) (ws : List ℕ)
+    → stackFault i field v s (w ∷ ws)
+    ≡ firstOf
+    (must (elim (wordFault field v w)
+    [ some n ↦ false | none ↦ leb (treesAsked field w) (s .done) && leb (leastNodes field (stackAfter field w s)) mostNodes ]) i
+    ∷ stackFault (suc i) (nextInNode field) (variantAfter field v w) (stackAfter field w s) ws
+    ∷ [])
 unfolding stackFault stackContinues
-stack-goes i field v s w ws e f = test-goes _ _ _ _ i _ (wordFault field v w) e f
+stack-word i field v s w ws = refl
 
-stack-went : (i : ℕ) (field : Field) (v : ℕ) (s : Stack) (w : ℕ) (ws : List ℕ) → stackFault i field v s (w ∷ ws) ≡ none
-    → (wordFault field v w ≡ none) × Fits field w s
-    × (stackFault (suc i) (nextInNode field) (variantAfter field v w) (stackAfter field w s) ws ≡ none)
-unfolding stackFault stackContinues
-stack-went i field v s w ws e = test-went _ _ _ _ i _ (wordFault field v w) e
+stack-end : (i : ℕ) (field : Field) (v : ℕ) (s : Stack) → stackFault i field v s [] ≡ must (isOneStack field s) i
+unfolding stackFault
+stack-end i field v s = refl
 
-stack-ends : (i : ℕ) (field : Field) (v : ℕ) (s : Stack) → stackFault i field v s [] ≡ none → Between field
-unfolding stackFault isOneStack
-stack-ends i operatorField v s h = tt
-stack-ends i startField v s h = true≢false (sym (must-none _ i h))
-stack-ends i endField v s h = true≢false (sym (must-none _ i h))
-stack-ends i upperField v s h = true≢false (sym (must-none _ i h))
-stack-ends i lowerField v s h = true≢false (sym (must-none _ i h))
-stack-ends i countField v s h = true≢false (sym (must-none _ i h))
-stack-ends i closeField v s h = true≢false (sym (must-none _ i h))
+stack-between : (field : Field) (s : Stack) → isOneStack field s ≡ true → Between field
+unfolding isOneStack
+stack-between operatorField s e = tt
+stack-between startField s e = false-true e
+stack-between endField s e = false-true e
+stack-between upperField s e = false-true e
+stack-between lowerField s e = false-true e
+stack-between countField s e = false-true e
+stack-between closeField s e = false-true e
 
+stack-more : (field : Field) (w : ℕ) (s : Stack) → stackAfter field w s .begun ≡ s .begun + begins field
+unfolding stackAfter
+stack-more operatorField w s = omega arith
+stack-more startField w s = omega arith
+stack-more endField w s = omega arith
+stack-more upperField w s = omega arith
+stack-more lowerField w s = omega arith
+stack-more countField w s = omega arith
+stack-more closeField w s = omega arith
+
+least-begun : (field : Field) (s : Stack) → s .begun ≤ leastNodes field s
+unfolding leastNodes
+least-begun operatorField s = omega arith
+least-begun startField s = omega arith
+least-begun endField s = omega arith
+least-begun upperField s = omega arith
+least-begun lowerField s = omega arith
+least-begun countField s = either (λ n. s .begun ≤ n) (leb (s .done) 1) _ _ (omega arith) (omega arith)
+least-begun closeField s = omega arith
+
+-- As many trees are done as a word asks for, and the tree fits.
 abbrev stackWalk : Walk Stack
-stackWalk = record { after = stackAfter; Fits = Fits; fault = stackFault; goes = stack-goes; went = stack-went; ends = stack-ends }
+stackWalk =
+    record {
+      after = stackAfter;
+      begun = λ s. s .begun;
+      asked = λ field w s. treesAsked field w;
+      there = λ field w s. s .done;
+      nodes = λ field w s. leastNodes field (stackAfter field w s);
+      whole = isOneStack;
+      fault = stackFault;
+      at-end = stack-end;
+      at-word = stack-word;
+      between = stack-between;
+      more = stack-more;
+      few = λ field w s h. least-begun field (stackAfter field w s);
+    }
 
 -- A count that leaves one tree, or before which there is room for one node more.
 least-one : (s : Stack) → s .done ≤ 1 → s .begun ≤ mostNodes → leastNodes countField s ≤ mostNodes
@@ -76,20 +112,7 @@ node-continues : (k : Token) → Legal k → (n : ℕ) → n < 2 ^ 14 → (i v :
 unfolding nodeWordsOf tokenWords nextInNode stackAfter treesAsked leastNodes
 node-continues k h n m i v s ws b c few later =
     let low = low-word 6 n (omega arith) in
-    node-goes stackWalk k h n m i v s ws (
-      (omega arith, omega arith),
-      (
-        (omega arith, omega arith),
-        (
-          (omega arith, omega arith),
-          (
-            (omega arith, omega arith),
-            ((omega arith, omega arith), ((omega arith, rw low few), ((omega arith, omega arith), tt))),
-          ),
-        ),
-      ),
-    )
-    (rw low later)
+    node-goes stackWalk k h n m i v s ws (rw low (omega arith)) (rw low later)
 
 -- The words of legal trees, where a node is still to come.
 trees-continue : {f : Forest} → LegalTrees f → (i v : ℕ) (s t : Stack) (ws : List ℕ) → s .begun + size f < mostNodes
@@ -194,9 +217,9 @@ gathered-tree : (i v : ℕ) (s : Stack) (ws : List ℕ) → stackFault i operato
 unfolding nextInNode stackAfter treesAsked leastNodes stackFault isOneStack
 gathered-tree =
     along stackWalk (λ s ws. (all : List ℕ) → Gathered s ws all → s .begun ≤ mostNodes → IsOneTree stackWords all)
-    (λ i v s h all t b.
+    (λ s h all t b.
     one-tree stackWords all (inOrder (t .forest)) (legal-inOrder (t .legal))
-    (reversed-count (t .forest) ∙ (t .counted ∙ eqb-true (s .done) 1 (must-none _ i h)))
+    (reversed-count (t .forest) ∙ (t .counted ∙ eqb-true (s .done) 1 h))
     (omega (arith, reversed-size (t .forest)))
     (t .words ∙ append-nil (stackWords (inOrder (t .forest)))))
     (λ a b c d e n g ws s r operator counted later all t few.
@@ -211,3 +234,7 @@ stack-exact ws = (
       (record { forest = nil; legal = noTrees; counted = refl; sized = refl; words = refl }) (omega arith),
   λ t. rw (t .words) (stack-unfaulted (t .root) (t .children) (t .legal) (t .few)),
 )
+
+-- Answer 24's place.
+pub stack-place : (ws : List ℕ) (p : ℕ) → stackFault 0 operatorField 0 (record { done = 0; begun = 0 }) ws ≡ some p → p ≤ 86016
+stack-place ws p e = place stackWalk p ws 0 operatorField 0 (record { done = 0; begun = 0 }) (omega arith) (omega arith) e

@@ -1,54 +1,92 @@
 -- ANSWER 12 IS EXACT: it is given to no words of a legal tree of at most 12,288 nodes, and to all other words.
 use Prim.Native.Nat.{ℕ, suc, _+_, _-_, _*_, _^_, _≤_, _<_}
 use mathlib.Core.Path.{_≡_, refl, ap, sym, _∙_}
-use mathlib.Core.Bool.{true≢false}
+use mathlib.Core.Bool.{true, false, _&&_}
 use mathlib.Core.List.{List, [], _∷_, _++_, append-assoc, append-nil}
 use mathlib.Core.Logic.{_↔_}
 use mathlib.Core.Option.{Option, none, some}
 use native.Mathlib.Omega.{arith}
+use lib.Dec.{leb}
 use borrow.Author.Tests.{eqb-true, eq-eqb}
 use Rattle.molang.specs.Forest.{Token, Forest, nil, node, count, size}
 use Rattle.molang.specs.Words.{lowOf, nodeOf, tokenWords, nodeWordsOf, treeWords, Field, operatorField, startField, endField}
 use Rattle.molang.specs.Words.{upperField, lowerField, countField, closeField, wordFault, variantAfter}
 use Rattle.molang.specs.Legal.{Legal, LegalTrees, noTrees, legalTree}
-use Rattle.molang.specs.FirstFailure.{must}
+use Rattle.molang.specs.FirstFailure.{must, firstOf}
 use Rattle.molang.specs.WriteEntry.{mostNodes, nextInNode, Shape, shapeAfter, continues, isWhole, treeFault}
 use Rattle.molang.specs.StackOrder.{IsOneTree}
 use Rattle.molang.proofs.Trees.{count-size}
-use Rattle.molang.proofs.FirstFailure.{must-true, must-none}
+use Rattle.molang.proofs.Booleans.{false-true}
+use Rattle.molang.proofs.FirstFailure.{must-true}
 use Rattle.molang.proofs.Words.{low-word, beside}
 use Rattle.molang.proofs.Rows.{parted, count-beside, size-beside, legal-beside, one-tree}
-use Rattle.molang.proofs.NodeWalk.{Between, Walk, test-goes, test-went, node-goes, NodeRead, along}
+use Rattle.molang.proofs.NodeWalk.{Between, begins, Walk, place, node-goes, NodeRead, along}
 
 -- ---- Answer 12's walk
 
--- What is asked of a word beside being legal: a node is still called for, and no more nodes are than fit.
-abbrev Fits : Field → ℕ → Shape → Type 0
-Fits field w s = (shapeAfter field w s .begun ≤ s .called) × (shapeAfter field w s .called ≤ mostNodes)
-
-tree-goes : (i : ℕ) (field : Field) (v : ℕ) (s : Shape) (w : ℕ) (ws : List ℕ) → wordFault field v w ≡ none → Fits field w s
-    → treeFault i field v s (w ∷ ws) ≡ treeFault (suc i) (nextInNode field) (variantAfter field v w) (shapeAfter field w s) ws
+tree-word : (i : ℕ) (field : Field) (v : ℕ) (s : Shape) (w : ℕ) (ws : List ℕ)
+    → treeFault i field v s (w ∷ ws)
+    ≡ firstOf
+    (must (elim (wordFault field v w)
+    [ some n ↦ false | none ↦ leb (shapeAfter field w s .begun) (s .called) && leb (shapeAfter field w s .called) mostNodes ]) i
+    ∷ treeFault (suc i) (nextInNode field) (variantAfter field v w) (shapeAfter field w s) ws
+    ∷ [])
 unfolding treeFault continues
-tree-goes i field v s w ws e f = test-goes _ _ _ _ i _ (wordFault field v w) e f
+tree-word i field v s w ws = refl
 
-tree-went : (i : ℕ) (field : Field) (v : ℕ) (s : Shape) (w : ℕ) (ws : List ℕ) → treeFault i field v s (w ∷ ws) ≡ none
-    → (wordFault field v w ≡ none) × Fits field w s
-    × (treeFault (suc i) (nextInNode field) (variantAfter field v w) (shapeAfter field w s) ws ≡ none)
-unfolding treeFault continues
-tree-went i field v s w ws e = test-went _ _ _ _ i _ (wordFault field v w) e
+tree-end : (i : ℕ) (field : Field) (v : ℕ) (s : Shape) → treeFault i field v s [] ≡ must (isWhole field s) i
+unfolding treeFault
+tree-end i field v s = refl
 
-tree-ends : (i : ℕ) (field : Field) (v : ℕ) (s : Shape) → treeFault i field v s [] ≡ none → Between field
-unfolding treeFault isWhole
-tree-ends i operatorField v s h = tt
-tree-ends i startField v s h = true≢false (sym (must-none _ i h))
-tree-ends i endField v s h = true≢false (sym (must-none _ i h))
-tree-ends i upperField v s h = true≢false (sym (must-none _ i h))
-tree-ends i lowerField v s h = true≢false (sym (must-none _ i h))
-tree-ends i countField v s h = true≢false (sym (must-none _ i h))
-tree-ends i closeField v s h = true≢false (sym (must-none _ i h))
+tree-between : (field : Field) (s : Shape) → isWhole field s ≡ true → Between field
+unfolding isWhole
+tree-between operatorField s e = tt
+tree-between startField s e = false-true e
+tree-between endField s e = false-true e
+tree-between upperField s e = false-true e
+tree-between lowerField s e = false-true e
+tree-between countField s e = false-true e
+tree-between closeField s e = false-true e
 
+tree-more : (field : Field) (w : ℕ) (s : Shape) → shapeAfter field w s .begun ≡ s .begun + begins field
+unfolding shapeAfter
+tree-more operatorField w s = omega arith
+tree-more startField w s = omega arith
+tree-more endField w s = omega arith
+tree-more upperField w s = omega arith
+tree-more lowerField w s = omega arith
+tree-more countField w s = omega arith
+tree-more closeField w s = omega arith
+
+-- No word calls for less than was called for.
+tree-few : (field : Field) (w : ℕ) (s : Shape) → shapeAfter field w s .begun ≤ s .called
+    → shapeAfter field w s .begun ≤ shapeAfter field w s .called
+unfolding shapeAfter
+tree-few operatorField w s h = omega arith
+tree-few startField w s h = omega arith
+tree-few endField w s h = omega arith
+tree-few upperField w s h = omega arith
+tree-few lowerField w s h = omega arith
+tree-few countField w s h = omega arith
+tree-few closeField w s h = omega arith
+
+-- A node is still called for, and no more nodes are than fit.
 abbrev treeWalk : Walk Shape
-treeWalk = record { after = shapeAfter; Fits = Fits; fault = treeFault; goes = tree-goes; went = tree-went; ends = tree-ends }
+treeWalk =
+    record {
+      after = shapeAfter;
+      begun = λ s. s .begun;
+      asked = λ field w s. shapeAfter field w s .begun;
+      there = λ field w s. s .called;
+      nodes = λ field w s. shapeAfter field w s .called;
+      whole = isWhole;
+      fault = treeFault;
+      at-end = tree-end;
+      at-word = tree-word;
+      between = tree-between;
+      more = tree-more;
+      few = tree-few;
+    }
 
 -- ---- A tree's words have no fault
 
@@ -63,20 +101,7 @@ node-continues : (k : Token) → Legal k → (n : ℕ) → n < 2 ^ 14 → (i v :
 unfolding nodeWordsOf tokenWords nextInNode shapeAfter
 node-continues k h n m i v s ws b c later =
     let low = low-word 6 n (omega arith) in
-    node-goes treeWalk k h n m i v s ws (
-      (omega arith, omega arith),
-      (
-        (omega arith, omega arith),
-        (
-          (omega arith, omega arith),
-          (
-            (omega arith, omega arith),
-            ((omega arith, omega arith), ((omega arith, omega arith), ((omega arith, omega arith), tt))),
-          ),
-        ),
-      ),
-    )
-    (rw low later)
+    node-goes treeWalk k h n m i v s ws (rw low (omega arith)) (rw low later)
 
 -- The words of legal trees, before words that a tree may go on with.
 trees-continue : {f : Forest} → LegalTrees f → (i v : ℕ) (s t : Shape) (ws : List ℕ) → s .begun + count f ≤ s .called
@@ -159,8 +184,8 @@ unfaulted-trees : (i v : ℕ) (s : Shape) (ws : List ℕ) → treeFault i operat
 unfolding nextInNode shapeAfter treeFault isWhole count size treeWords
 unfaulted-trees =
     along treeWalk (λ s ws. s .begun ≤ s .called → s .called ≤ mostNodes → Trees (s .called - s .begun) (mostNodes - s .begun) ws)
-    (λ i v s h b c.
-    let same = eqb-true (s .begun) (s .called) (must-none _ i h) in
+    (λ s h b c.
+    let same = eqb-true (s .begun) (s .called) h in
     record { forest = nil; legal = noTrees; counted = omega arith; few = omega arith; words = refl })
     (λ a b c d e n g ws s r operator counted later within fit.
     node-trees a b c d e n g ws (s .called - s .begun) (mostNodes - s .begun) (s .called + lowOf n - suc (s .begun))
@@ -175,3 +200,7 @@ tree-exact ws = (
       one-tree treeWords ws (t .forest) (t .legal) (t .counted) (t .few) (t .words),
   λ t. rw (t .words) (tree-unfaulted (t .root) (t .children) (t .legal) (t .few)),
 )
+
+-- Answer 12's place.
+pub tree-place : (ws : List ℕ) (p : ℕ) → treeFault 0 operatorField 0 (record { called = 1; begun = 0 }) ws ≡ some p → p ≤ 86016
+tree-place ws p e = place treeWalk p ws 0 operatorField 0 (record { called = 1; begun = 0 }) (omega arith) (omega arith) e
