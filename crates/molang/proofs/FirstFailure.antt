@@ -66,12 +66,12 @@ module _ {A : Type 0} where
   after-none o last e = rw e (last-one last)
 
   -- What is answered by a test or, where it holds, by the check after it.
-  pub one-of : {Q : Type 0} (b : Bool) (a c : A) (last : Option A) → firstOf (must b a ∷ last ∷ []) ≡ some c → (a ≡ c → Q)
+  pub one-of : {Q : Type 0} (b : Bool) (a c : A) (last : Option A) → firstOf (must b a ∷ last ∷ []) ≡ some c → (b ≡ false → a ≡ c → Q)
       → (b ≡ true → last ≡ some c → Q)
       → Q
   unfolding firstOf must
   one-of true a c last e first later = later refl (sym (last-one last) ∙ e)
-  one-of false a c last e first later = first (cc)
+  one-of false a c last e first later = first refl (cc)
 
   -- An answer stays where it stays of the last check.
   pub later-found : (o x y : Option A) (a : A) → (x ≡ some a → y ≡ some a) → firstOf (o ∷ x ∷ []) ≡ some a → firstOf (o ∷ y ∷ []) ≡ some a

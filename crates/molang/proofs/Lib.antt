@@ -41,4 +41,5 @@ pub mod Entries
 pub mod Reread
 pub mod LineLaws
 pub mod StackWords
+pub mod Places
 pub mod StackOrder

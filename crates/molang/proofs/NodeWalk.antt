@@ -7,6 +7,7 @@ use mathlib.Core.List.{List, [], _∷_, _++_}
 use mathlib.Core.Option.{Option, none, some}
 use native.Mathlib.Omega.{arith}
 use lib.Dec.{eqb, leb, ltb}
+use lib.ListN.{length, take}
 use borrow.Author.Tests.{eqb-true, eq-eqb, leb-true, le-leb, ltb-true, lt-ltb}
 use Rattle.molang.specs.Forest.{Token}
 use Rattle.molang.specs.Words.{word, lowOf, tokenWords, nodeWordsOf, nodeOf, Field, operatorField, startField, endField}
@@ -17,7 +18,7 @@ use Rattle.molang.specs.WriteEntry.{mostNodes, nextInNode}
 use Rattle.molang.proofs.Trees.{decided, some-none, both, and-true-true}
 use Rattle.molang.proofs.Booleans.{false-true}
 use Rattle.molang.proofs.FirstFailure.{must-true, must-none, must-some, first-none, then-none, passed, passes, all-passed}
-use Rattle.molang.proofs.FirstFailure.{after-none, one-of}
+use Rattle.molang.proofs.FirstFailure.{must-false, found, after-none, one-of}
 use Rattle.molang.proofs.Words.{low-word, kind-word, high-part, low-bound, word-back, word-faultless, five-legal}
 use Rattle.molang.proofs.Words.{five-back, five-faultless}
 
@@ -75,9 +76,23 @@ module _ (k : Token) (h : Legal k) where
   unfolding variantAfter
   variant-read v = rw (low-word 1 (k .variant * 2 ^ 8 + k .op) (omega arith), high-part (k .variant) (k .op) (omega arith)) (omega arith)
 
-count-passes : (v n : ℕ) → n < 2 ^ 14 → wordFault countField v (word 6 n) ≡ none
+pub count-passes : (v n : ℕ) → n < 2 ^ 14 → wordFault countField v (word 6 n) ≡ none
 unfolding fieldKind lowFault
 count-passes v n b = word-passes countField v n (omega arith) (must-true _ 11 (lt-ltb n (2 ^ 14) b))
+
+-- A word of zeros is legal in every field.
+zero-low : (field : Field) (v : ℕ) → lowFault field v 0 ≡ none
+unfolding lowFault firstOf must
+zero-low operatorField v = refl
+zero-low startField v = refl
+zero-low endField v = refl
+zero-low upperField v = half-passes v 0 (omega arith) (λ e. refl)
+zero-low lowerField v = half-passes v 0 (omega arith) (λ e. refl)
+zero-low countField v = refl
+zero-low closeField v = refl
+
+pub zero-passes : (field : Field) (v : ℕ) → wordFault field v (word (fieldKind field) 0) ≡ none
+zero-passes field v = word-passes field v 0 (omega arith) (zero-low field v)
 
 -- ---- Words, one after the other
 
@@ -95,10 +110,9 @@ AllLegal field v (w ∷ ws) = (wordFault field v w ≡ none) × AllLegal (nextIn
 node-legal : (k : Token) → Legal k → (n : ℕ) → n < 2 ^ 14 → (v : ℕ) → AllLegal operatorField v (nodeWordsOf k n)
 unfolding nodeWordsOf tokenWords nextInNode variantAfter
 node-legal k h n b v =
-    let counted : AllLegal countField (k .variant) (word 6 n ∷ word 7 (k .close) ∷ []) =
-    (count-passes (k .variant) n b, (close-passes k h (k .variant), tt))
-    in
-    let valued : AllLegal upperField (k .variant) (word 4 (k .value / 2 ^ 16) ∷ word 5 (k .value % 2 ^ 16) ∷ word 6 n ∷ word 7 (k .close) ∷ []) =
+    let counts = word 6 n ∷ word 7 (k .close) ∷ [] in
+    let counted : AllLegal countField (k .variant) counts = (count-passes (k .variant) n b, (close-passes k h (k .variant), tt)) in
+    let valued : AllLegal upperField (k .variant) (word 4 (k .value / 2 ^ 16) ∷ word 5 (k .value % 2 ^ 16) ∷ counts) =
     (upper-passes k h, (lower-passes k h, counted))
     in
     rw (variant-read k h v) (operator-passes k h v, (start-passes k h (k .variant), (end-passes k h (k .variant), valued)))
@@ -239,13 +253,75 @@ module _ {S : Type 0} (W : Walk S) where
       → p ≤ 86016
   place p [] i field v s b h e = omega (arith, must-some _ i p (sym (W .at-end i field v s) ∙ e))
   place p (w ∷ ws) i field v s b h e =
-      one-of _ i p _ (sym (W .at-word i field v s w ws) ∙ e) (λ here. omega arith)
-      (λ t found.
+      one-of _ i p _ (sym (W .at-word i field v s w ws) ∙ e) (λ t here. omega arith)
+      (λ t below.
       let x = tests (wordFault field v w) _ _ t in
       let few = W .few field w s (leb-true _ _ (x .1)) in
       let room : W .nodes field w s ≤ mostNodes = leb-true _ _ (x .2) in
       place p ws (suc i) (nextInNode field) (variantAfter field v w) (W .after field w s) (omega arith)
-      (rw (W .more field w s) (taken field i (W .begun s) h)) found)
+      (rw (W .more field w s) (taken field i (W .begun s) h)) below)
+
+  -- Words that the walk can end with.
+  pub record Ending (field : Field) (s : S) : Type 0 where
+    pub words : List ℕ
+    pub unfaulted : (i v : ℕ) → W .fault i field v s words ≡ none
+
+  pub one-more : (field : Field) (s : S) (w : ℕ) → ((v : ℕ) → wordFault field v w ≡ none) → Fits field w s
+      → Ending (nextInNode field) (W .after field w s)
+      → Ending field s
+  one-more field s w legal fits e =
+      record { words = w ∷ e .words; unfaulted = λ i v. goes i field v s w (e .words) (legal v) fits ∙ e .unfaulted _ _ }
+
+  -- Where a fault is: before the word the walk could have ended without fault, with it it cannot.
+  pub record Placed (i : ℕ) (field : Field) (v : ℕ) (s : S) (ws : List ℕ) (p : ℕ) : Type 0 where
+    pub passed : ℕ
+    pub is : p ≡ i + passed
+    pub within : passed ≤ length ws
+    pub rest : List ℕ
+    pub going : W .fault i field v s (take passed ws ++ rest) ≡ none
+    pub stops : passed < length ws → (us : List ℕ) → W .fault i field v s (take (suc passed) ws ++ us) ≡ some p
+
+  pub placed : (Going : Field → S → Type 0) → ((field : Field) (s : S) → Going field s → Ending field s)
+      → ((field : Field) (w : ℕ) (s : S) → Going field s → Fits field w s → Going (nextInNode field) (W .after field w s))
+      → (ws : List ℕ) (i : ℕ) (field : Field) (v : ℕ) (s : S) (p : ℕ) → Going field s → W .fault i field v s ws ≡ some p
+      → Placed i field v s ws p
+  placed Going ending keeps [] i field v s p g e =
+      let here = must-some _ i p (sym (W .at-end i field v s) ∙ e) in
+      let x = ending field s g in
+      record {
+        passed = 0;
+        is = omega arith;
+        within = omega arith;
+        rest = x .words;
+        going = x .unfaulted i v;
+        stops = λ h us. absurd (omega arith);
+      }
+  placed Going ending keeps (w ∷ ws) i field v s p g e =
+      one-of _ i p _ (sym (W .at-word i field v s w ws) ∙ e)
+      (λ t here.
+      let x = ending field s g in
+      record {
+        passed = 0;
+        is = omega arith;
+        within = omega arith;
+        rest = x .words;
+        going = x .unfaulted i v;
+        stops = λ h us. W .at-word i field v s w us ∙ (found _ i _ (must-false _ i t) ∙ ap some here);
+      })
+      (λ t below.
+      let x = tests (wordFault field v w) _ _ t in
+      let fits : Fits field w s = (leb-true _ _ (x .1), leb-true _ _ (x .2)) in
+      let y = placed Going ending keeps ws (suc i) (nextInNode field) (variantAfter field v w) (W .after field w s) p
+      (keeps field w s g fits) below
+      in
+      record {
+        passed = suc (y .passed);
+        is = omega (arith, y .is);
+        within = omega (arith, y .within);
+        rest = y .rest;
+        going = goes i field v s w _ (x .0) fits ∙ y .going;
+        stops = λ h us. goes i field v s w _ (x .0) fits ∙ y .stops (omega arith) us;
+      })
 
   -- The state after words.
   abbrev pub afterAll : Field → List ℕ → S → S

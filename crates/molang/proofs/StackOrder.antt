@@ -1,4 +1,5 @@
--- Laws of stack order: trees are read back from their words in it, seven to a node.
+-- EXPORT AND IMPORT UNDO EACH OTHER: trees are read back from stack order, both entries accept exactly the words of one tree that the output
+-- has room for, and either gives back what the other was given.
 use Prim.Native.Nat.{ℕ, _*_, _/_, _^_, _≤_, _<_}
 use mathlib.Core.Path.{_≡_, refl, ap, sym, _∙_}
 use mathlib.Core.List.{List, [], _∷_, _++_, append-assoc, append-nil}

@@ -1,11 +1,11 @@
 -- ANSWER 24 IS EXACT: it is given to no words of a legal tree of at most 12,288 nodes in stack order, and to all other words. Its place is
 -- at most 86,016.
-use Prim.Native.Nat.{ℕ, suc, _+_, _-_, _*_, _^_, _≤_, _<_}
-use mathlib.Core.Path.{_≡_, refl, ap, sym, _∙_}
+use Prim.Native.Nat.{ℕ, suc, _+_, _-_, _^_, _≤_, _<_}
+use mathlib.Core.Path.{_≡_, refl, ap, _∙_}
 use mathlib.Core.Bool.{true, false, _&&_}
 use mathlib.Core.List.{List, [], _∷_, _++_, append-assoc, append-nil}
 use mathlib.Core.Logic.{_↔_}
-use mathlib.Core.Option.{Option, none, some}
+use mathlib.Core.Option.{none, some}
 use native.Mathlib.Omega.{arith}
 use lib.Dec.{leb}
 use borrow.Author.Tests.{eqb-true, eq-eqb, le-leb}
@@ -27,7 +27,7 @@ use Rattle.molang.proofs.NodeWalk.{Between, begins, Walk, place, node-g
 
 -- ---- Answer 24's walk
 
-stack-word : (i : ℕ) (field : Field) (v : ℕ) (s : Stack) (w : ℕ) (ws : List ℕ)
+pub stack-word : (i : ℕ) (field : Field) (v : ℕ) (s : Stack) (w : ℕ) (ws : List ℕ)
     → stackFault i field v s (w ∷ ws)
     ≡ firstOf
     (must (elim (wordFault field v w)
@@ -37,11 +37,11 @@ stack-word : (i : ℕ) (field : Field) (v : ℕ) (s : Stack) (w : ℕ) (ws : Lis
 unfolding stackFault stackContinues
 stack-word i field v s w ws = refl
 
-stack-end : (i : ℕ) (field : Field) (v : ℕ) (s : Stack) → stackFault i field v s [] ≡ must (isOneStack field s) i
+pub stack-end : (i : ℕ) (field : Field) (v : ℕ) (s : Stack) → stackFault i field v s [] ≡ must (isOneStack field s) i
 unfolding stackFault
 stack-end i field v s = refl
 
-stack-between : (field : Field) (s : Stack) → isOneStack field s ≡ true → Between field
+pub stack-between : (field : Field) (s : Stack) → isOneStack field s ≡ true → Between field
 unfolding isOneStack
 stack-between operatorField s e = tt
 stack-between startField s e = false-true e
@@ -51,7 +51,7 @@ stack-between lowerField s e = false-true e
 stack-between countField s e = false-true e
 stack-between closeField s e = false-true e
 
-stack-more : (field : Field) (w : ℕ) (s : Stack) → stackAfter field w s .begun ≡ s .begun + begins field
+pub stack-more : (field : Field) (w : ℕ) (s : Stack) → stackAfter field w s .begun ≡ s .begun + begins field
 unfolding stackAfter
 stack-more operatorField w s = omega arith
 stack-more startField w s = omega arith
@@ -61,7 +61,7 @@ stack-more lowerField w s = omega arith
 stack-more countField w s = omega arith
 stack-more closeField w s = omega arith
 
-least-begun : (field : Field) (s : Stack) → s .begun ≤ leastNodes field s
+pub least-begun : (field : Field) (s : Stack) → s .begun ≤ leastNodes field s
 unfolding leastNodes
 least-begun operatorField s = omega arith
 least-begun startField s = omega arith
@@ -72,7 +72,7 @@ least-begun countField s = either (λ n. s .begun ≤ n) (leb (s .done) 1) _ _ (
 least-begun closeField s = omega arith
 
 -- As many trees are done as a word asks for, and the tree fits.
-abbrev stackWalk : Walk Stack
+abbrev pub stackWalk : Walk Stack
 stackWalk =
     record {
       after = stackAfter;
@@ -90,7 +90,7 @@ stackWalk =
     }
 
 -- A count that leaves one tree, or before which there is room for one node more.
-least-one : (s : Stack) → s .done ≤ 1 → s .begun ≤ mostNodes → leastNodes countField s ≤ mostNodes
+pub least-one : (s : Stack) → s .done ≤ 1 → s .begun ≤ mostNodes → leastNodes countField s ≤ mostNodes
 unfolding leastNodes
 least-one s h b = rw (le-leb (s .done) 1 h, leastNodes) b
 
@@ -101,10 +101,10 @@ least-more s b = either (λ n. n ≤ mostNodes) (leb (s .done) 1) _ _ (omega ari
 -- ---- A tree's words have no fault
 
 -- The trees done and the nodes begun after a node's seven words.
-abbrev withNode : Stack → ℕ → Stack
+abbrev pub withNode : Stack → ℕ → Stack
 withNode s n = record { done = suc (s .done - n); begun = suc (s .begun) }
 
-node-continues : (k : Token) → Legal k → (n : ℕ) → n < 2 ^ 14 → (i v : ℕ) (s : Stack) (ws : List ℕ) → n ≤ s .done
+pub node-continues : (k : Token) → Legal k → (n : ℕ) → n < 2 ^ 14 → (i v : ℕ) (s : Stack) (ws : List ℕ) → n ≤ s .done
     → s .begun < mostNodes
     → leastNodes countField (withNode s n) ≤ mostNodes
     → ((i v : ℕ) → stackFault i operatorField v (withNode s n) ws ≡ none)

@@ -1,10 +1,10 @@
 -- ANSWER 12 IS EXACT: it is given to no words of a legal tree of at most 12,288 nodes, and to all other words.
-use Prim.Native.Nat.{ℕ, suc, _+_, _-_, _*_, _^_, _≤_, _<_}
-use mathlib.Core.Path.{_≡_, refl, ap, sym, _∙_}
+use Prim.Native.Nat.{ℕ, suc, _+_, _-_, _^_, _≤_, _<_}
+use mathlib.Core.Path.{_≡_, refl, ap, _∙_}
 use mathlib.Core.Bool.{true, false, _&&_}
 use mathlib.Core.List.{List, [], _∷_, _++_, append-assoc, append-nil}
 use mathlib.Core.Logic.{_↔_}
-use mathlib.Core.Option.{Option, none, some}
+use mathlib.Core.Option.{none, some}
 use native.Mathlib.Omega.{arith}
 use lib.Dec.{leb}
 use borrow.Author.Tests.{eqb-true, eq-eqb}
@@ -24,7 +24,7 @@ use Rattle.molang.proofs.NodeWalk.{Between, begins, Walk, place, node-g
 
 -- ---- Answer 12's walk
 
-tree-word : (i : ℕ) (field : Field) (v : ℕ) (s : Shape) (w : ℕ) (ws : List ℕ)
+pub tree-word : (i : ℕ) (field : Field) (v : ℕ) (s : Shape) (w : ℕ) (ws : List ℕ)
     → treeFault i field v s (w ∷ ws)
     ≡ firstOf
     (must (elim (wordFault field v w)
@@ -34,11 +34,11 @@ tree-word : (i : ℕ) (field : Field) (v : ℕ) (s : Shape) (w : ℕ) (ws : List
 unfolding treeFault continues
 tree-word i field v s w ws = refl
 
-tree-end : (i : ℕ) (field : Field) (v : ℕ) (s : Shape) → treeFault i field v s [] ≡ must (isWhole field s) i
+pub tree-end : (i : ℕ) (field : Field) (v : ℕ) (s : Shape) → treeFault i field v s [] ≡ must (isWhole field s) i
 unfolding treeFault
 tree-end i field v s = refl
 
-tree-between : (field : Field) (s : Shape) → isWhole field s ≡ true → Between field
+pub tree-between : (field : Field) (s : Shape) → isWhole field s ≡ true → Between field
 unfolding isWhole
 tree-between operatorField s e = tt
 tree-between startField s e = false-true e
@@ -48,7 +48,7 @@ tree-between lowerField s e = false-true e
 tree-between countField s e = false-true e
 tree-between closeField s e = false-true e
 
-tree-more : (field : Field) (w : ℕ) (s : Shape) → shapeAfter field w s .begun ≡ s .begun + begins field
+pub tree-more : (field : Field) (w : ℕ) (s : Shape) → shapeAfter field w s .begun ≡ s .begun + begins field
 unfolding shapeAfter
 tree-more operatorField w s = omega arith
 tree-more startField w s = omega arith
@@ -59,7 +59,7 @@ tree-more countField w s = omega arith
 tree-more closeField w s = omega arith
 
 -- No word calls for less than was called for.
-tree-few : (field : Field) (w : ℕ) (s : Shape) → shapeAfter field w s .begun ≤ s .called
+pub tree-few : (field : Field) (w : ℕ) (s : Shape) → shapeAfter field w s .begun ≤ s .called
     → shapeAfter field w s .begun ≤ shapeAfter field w s .called
 unfolding shapeAfter
 tree-few operatorField w s h = omega arith
@@ -71,7 +71,7 @@ tree-few countField w s h = omega arith
 tree-few closeField w s h = omega arith
 
 -- A node is still called for, and no more nodes are than fit.
-abbrev treeWalk : Walk Shape
+abbrev pub treeWalk : Walk Shape
 treeWalk =
     record {
       after = shapeAfter;
@@ -91,10 +91,10 @@ treeWalk =
 -- ---- A tree's words have no fault
 
 -- The shape after a node's seven words.
-abbrev withNode : Shape → ℕ → Shape
+abbrev pub withNode : Shape → ℕ → Shape
 withNode s n = record { called = s .called + n; begun = suc (s .begun) }
 
-node-continues : (k : Token) → Legal k → (n : ℕ) → n < 2 ^ 14 → (i v : ℕ) (s : Shape) (ws : List ℕ) → s .begun < s .called
+pub node-continues : (k : Token) → Legal k → (n : ℕ) → n < 2 ^ 14 → (i v : ℕ) (s : Shape) (ws : List ℕ) → s .begun < s .called
     → s .called + n ≤ mostNodes
     → ((i v : ℕ) → treeFault i operatorField v (withNode s n) ws ≡ none)
     → treeFault i operatorField v s (nodeWordsOf k n ++ ws) ≡ none
