@@ -1,8 +1,8 @@
--- EXPORT AND IMPORT UNDO EACH OTHER: trees are read back from stack order, both entries accept exactly the words of one tree that the output
--- has room for, and either gives back what the other was given.
+-- EXPORT AND IMPORT UNDO EACH OTHER: trees are read back from stack order, both entries accept exactly the words of one tree that the
+-- output has room for, and either gives back what the other was given.
 use Prim.Native.Nat.{ℕ, _*_, _/_, _^_, _≤_, _<_}
 use mathlib.Core.Path.{_≡_, refl, ap, sym, _∙_}
-use mathlib.Core.List.{List, [], _∷_, _++_, append-assoc, append-nil}
+use mathlib.Core.List.{List, [], _∷_, _++_, append-nil}
 use mathlib.Core.Logic.{_↔_}
 use mathlib.Core.Option.{Option, none}
 use native.Mathlib.Omega.{arith}
@@ -24,7 +24,7 @@ use Rattle.molang.proofs.Bounds.{treeWords-length}
 use Rattle.molang.proofs.Forests.{inOrder-turned, reversed-count}
 use Rattle.molang.proofs.Rows.{turnedOnto-beside}
 use Rattle.molang.proofs.TreeWords.{tree-exact}
-use Rattle.molang.proofs.StackWords.{stack-exact}
+use Rattle.molang.proofs.StackWords.{words-after, stack-exact}
 use Rattle.molang.proofs.HandedTree.{front-words}
 
 -- ---- Trees are read back
@@ -49,9 +49,8 @@ pub stack-onto : {f : Forest} → LegalTrees f → (done : Forest) (ws : List �
 unfolding stackWords turnedOnto
 stack-onto noTrees done ws = refl
 stack-onto (legalTree {k = k} {cs = cs} {rest = rest} h n below after) done ws =
-    let own = nodeWordsOf k (count cs) in
-    rw (append-assoc (stackWords cs) (own ++ stackWords rest) ws, append-assoc own (stackWords rest) ws)
-    (stack-onto below done (own ++ (stackWords rest ++ ws))
+    ap (stackTrees done) (words-after k cs rest ws)
+    ∙ (stack-onto below done (nodeWordsOf k (count cs) ++ (stackWords rest ++ ws))
     ∙ (node-onto k h (count cs) n (turnedOnto cs done) (stackWords rest ++ ws)
     ∙ rw (gathered-first cs done, gathered-others cs done) (stack-onto after (node k cs done) ws)))
 

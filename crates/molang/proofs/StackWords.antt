@@ -1,7 +1,7 @@
 -- ANSWER 24 IS EXACT: it is given to no words of a legal tree of at most 12,288 nodes in stack order, and to all other words. Its place is
 -- at most 86,016.
 use Prim.Native.Nat.{ℕ, suc, _+_, _-_, _^_, _≤_, _<_}
-use mathlib.Core.Path.{_≡_, refl, ap, _∙_}
+use mathlib.Core.Path.{_≡_, refl, ap, sym, _∙_}
 use mathlib.Core.Bool.{true, false, _&&_}
 use mathlib.Core.List.{List, [], _∷_, _++_, append-assoc, append-nil}
 use mathlib.Core.Logic.{_↔_}
@@ -114,6 +114,12 @@ node-continues k h n m i v s ws b c few later =
     let low = low-word 6 n (omega arith) in
     node-goes stackWalk k h n m i v s ws (rw low (omega arith)) (rw low later)
 
+-- A node's words stand after those of its children.
+pub words-after : (k : Token) (cs rest : Forest) (ws : List ℕ)
+    → stackWords (node k cs rest) ++ ws ≡ stackWords cs ++ (nodeWordsOf k (count cs) ++ (stackWords rest ++ ws))
+unfolding stackWords
+words-after k cs rest ws = simp append-assoc
+
 -- The words of legal trees, where a node is still to come.
 trees-continue : {f : Forest} → LegalTrees f → (i v : ℕ) (s t : Stack) (ws : List ℕ) → s .begun + size f < mostNodes
     → t .done ≡ s .done + count f
@@ -128,9 +134,8 @@ trees-continue noTrees i v s t ws b p q later =
     rw same at (later i v)
 trees-continue (legalTree {k = k} {cs = cs} {rest = rest} h n below after) i v s t ws b p q later =
     let inside : Stack = record { done = s .done + count cs; begun = s .begun + size cs } in
-    let own = nodeWordsOf k (count cs) in
-    rw (append-assoc (stackWords cs) (own ++ stackWords rest) ws, append-assoc own (stackWords rest) ws)
-    (trees-continue below i v s inside (own ++ (stackWords rest ++ ws)) (omega arith) refl refl
+    rw (words-after k cs rest ws)
+    (trees-continue below i v s inside (nodeWordsOf k (count cs) ++ (stackWords rest ++ ws)) (omega arith) refl refl
     (λ i v. node-continues k h (count cs) n i v inside (stackWords rest ++ ws) (omega arith) (omega arith)
     (least-more (withNode inside (count cs)) (omega arith))
     (λ i v. trees-continue after i v (withNode inside (count cs)) t ws (omega arith) (omega arith) (omega arith) later)))
@@ -152,13 +157,7 @@ stack-unfaulted k cs (legalTree h n below after) b =
 words-beside : (f g : Forest) → stackWords (beside f g) ≡ stackWords f ++ stackWords g
 unfolding stackWords beside
 words-beside nil g = refl
-words-beside (node k cs rest) g =
-    rw (
-      words-beside rest g,
-      append-assoc (stackWords cs) (nodeWordsOf k (count cs) ++ stackWords rest) (stackWords g),
-      append-assoc
-          (nodeWordsOf k (count cs)) (stackWords rest) (stackWords g),
-    ) refl
+words-beside (node k cs rest) g = rw (words-beside rest g) (sym (words-after k cs rest (stackWords g)))
 
 -- The words of trees that were gathered before others.
 words-turned : (d f : Forest) → stackWords (turnedOnto d f) ≡ stackWords (inOrder d) ++ stackWords f
@@ -210,16 +209,21 @@ gathered-node a b c d e n g ws all s r enough t =
       words = t .words ∙ rw (same, words-node k children (p .others), own) (simp append-assoc);
     }
 
+-- A stack that is a whole tree holds one.
+one-done : (s : Stack) → isOneStack operatorField s ≡ true → s .done ≡ 1
+unfolding isOneStack
+one-done s h = omega (arith, eqb-true)
+
 -- All the words, if those to come have no fault.
 gathered-tree : (i v : ℕ) (s : Stack) (ws : List ℕ) → stackFault i operatorField v s ws ≡ none → (all : List ℕ) → Gathered s ws all
     → s .begun ≤ mostNodes
     → IsOneTree stackWords all
-unfolding nextInNode stackAfter treesAsked leastNodes stackFault isOneStack
+unfolding nextInNode stackAfter treesAsked leastNodes
 gathered-tree =
     along stackWalk (λ s ws. (all : List ℕ) → Gathered s ws all → s .begun ≤ mostNodes → IsOneTree stackWords all)
     (λ s h all t b.
     one-tree stackWords all (inOrder (t .forest)) (legal-inOrder (t .legal))
-    (reversed-count (t .forest) ∙ (t .counted ∙ eqb-true (s .done) 1 h))
+    (reversed-count (t .forest) ∙ (t .counted ∙ one-done s h))
     (omega (arith, reversed-size (t .forest)))
     (t .words ∙ append-nil (stackWords (inOrder (t .forest)))))
     (λ a b c d e n g ws s r operator counted later all t few.

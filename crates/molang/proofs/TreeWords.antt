@@ -148,13 +148,7 @@ record Trees (trees most : ℕ) (ws : List ℕ) : Type 0 where
 words-beside : (f g : Forest) → treeWords (beside f g) ≡ treeWords f ++ treeWords g
 unfolding treeWords beside
 words-beside nil g = refl
-words-beside (node k cs rest) g =
-    rw (
-      words-beside rest g,
-      append-assoc (nodeWordsOf k (count cs)) (treeWords cs ++ treeWords rest) (treeWords g),
-      append-assoc
-          (treeWords cs) (treeWords rest) (treeWords g),
-    ) refl
+words-beside (node k cs rest) g = rw (words-beside rest g) (simp append-assoc)
 
 -- A node, before trees of which the first are its children.
 node-trees : (a b c d e n g : ℕ) (ws : List ℕ) (trees most later fewer : ℕ) → NodeRead a b c d e n g → Trees later fewer ws
@@ -181,7 +175,7 @@ node-trees a b c d e n g ws trees most later fewer r t same enough room =
 unfaulted-trees : (i v : ℕ) (s : Shape) (ws : List ℕ) → treeFault i operatorField v s ws ≡ none → s .begun ≤ s .called
     → s .called ≤ mostNodes
     → Trees (s .called - s .begun) (mostNodes - s .begun) ws
-unfolding nextInNode shapeAfter treeFault isWhole count size treeWords
+unfolding nextInNode shapeAfter isWhole count size treeWords
 unfaulted-trees =
     along treeWalk (λ s ws. s .begun ≤ s .called → s .called ≤ mostNodes → Trees (s .called - s .begun) (mostNodes - s .begun) ws)
     (λ s h b c.
