@@ -8,13 +8,13 @@ use mathlib.Core.Option.{none, some}
 use native.Mathlib.Omega.{arith}
 use lib.Dec.{eqb, leb}
 use lib.ListN.{length, take}
-use borrow.Author.Tests.{eqb-false, eq-eqb, leb-true}
+use borrow.Author.Tests.{eqb-true, eqb-false, eq-eqb, leb-true}
 use Rattle.molang.specs.Forest.{Token, Forest}
 use Rattle.molang.specs.Words.{word, lowOf, nodeWordsOf, treeWords, Field, operatorField, startField, endField, upperField}
 use Rattle.molang.specs.Words.{lowerField, countField, closeField, fieldKind}
 use Rattle.molang.specs.Legal.{Legal}
 use Rattle.molang.specs.WriteEntry.{mostNodes, nextInNode, Shape, shapeAfter, isWhole, treeFault}
-use Rattle.molang.specs.StackOrder.{stackWords, Stack, stackAfter, treesAsked, leastNodes, isOneStack, stackFault, IsOneTree}
+use Rattle.molang.specs.StackOrder.{stackWords, Stack, stackAfter, treesAsked, leastNodes, stackFault, IsOneTree}
 use Rattle.molang.proofs.Trees.{some-none, decided}
 use Rattle.molang.proofs.Booleans.{either}
 use Rattle.molang.proofs.FirstFailure.{must-true}
@@ -23,7 +23,7 @@ use Rattle.molang.proofs.NodeWalk.{zero-passes, count-passes, Walk, Fit
 use Rattle.molang.proofs.TreeWords as tree
 use Rattle.molang.proofs.TreeWords.{treeWalk, tree-exact}
 use Rattle.molang.proofs.StackWords as stack
-use Rattle.molang.proofs.StackWords.{stackWalk, least-one, stack-exact}
+use Rattle.molang.proofs.StackWords.{done-one, stackWalk, least-one, stack-exact}
 
 -- The words before p begin a tree in the order of `inWords`, and those up to the word at p do not.
 pub record FirstWrong (inWords : Forest → List ℕ) (ws : List ℕ) (p : ℕ) : Type 0 where
@@ -158,9 +158,9 @@ Going closeField s = Outside s
 
 -- One tree is the end; else a node takes all trees that are done.
 stack-operator : (s : Stack) → Outside s → Ending stackWalk operatorField s
-unfolding stackFault isOneStack
+unfolding stackFault
 stack-operator s g =
-    either (eqb (s .done) 1) (λ e. record { words = []; unfaulted = λ i v. must-true _ i e })
+    either (eqb (s .done) 1) (λ e. record { words = []; unfaulted = λ i v. must-true _ i (done-one s (eqb-true (s .done) 1 e)) })
     (λ e.
     let room = g .2 (eqb-false (s .done) 1 e) in
     record {
@@ -168,7 +168,7 @@ stack-operator s g =
       unfaulted =
           λ i v. stack.node-continues blank blank-legal (s .done) (omega arith) i v s [] (omega arith) room
           (least-one (stack.withNode s (s .done)) (omega arith) (omega arith))
-          (λ i v. must-true _ i (eq-eqb (suc (s .done - s .done)) 1 (omega arith)));
+          (λ i v. must-true _ i (done-one (stack.withNode s (s .done)) (omega arith)));
     })
 
 -- A node that has begun takes them all.

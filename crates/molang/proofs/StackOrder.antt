@@ -63,8 +63,7 @@ stack-back f h = ap (stackTrees nil) (sym (append-nil (stackWords f))) ∙ (stac
 pub stackWords-length : (f : Forest) → length (stackWords f) ≡ 7 * size f
 unfolding stackWords nodeWordsOf tokenWords size
 stackWords-length nil = refl
-stackWords-length (node k cs rest) =
-    omega (arith, length-append (stackWords cs) (nodeWordsOf k (count cs) ++ stackWords rest), stackWords-length cs, stackWords-length rest)
+stackWords-length (node k cs rest) = simp length-append (omega (arith, stackWords-length cs, stackWords-length rest))
 
 -- ---- One tree
 

@@ -8,7 +8,7 @@ use mathlib.Core.Logic.{_↔_}
 use mathlib.Core.Option.{none, some}
 use native.Mathlib.Omega.{arith}
 use lib.Dec.{leb}
-use borrow.Author.Tests.{eqb-true, eq-eqb, le-leb}
+use borrow.Author.Tests.{eqb-true, le-leb}
 use Rattle.molang.specs.Forest.{Token, Forest, nil, node, turnedOnto, inOrder, count, size}
 use Rattle.molang.specs.Words.{lowOf, nodeOf, tokenWords, nodeWordsOf, Field, operatorField, startField, endField, upperField}
 use Rattle.molang.specs.Words.{lowerField, countField, closeField, wordFault, variantAfter}
@@ -70,6 +70,15 @@ least-begun upperField s = omega arith
 least-begun lowerField s = omega arith
 least-begun countField s = either (λ n. s .begun ≤ n) (leb (s .done) 1) _ _ (omega arith) (omega arith)
 least-begun closeField s = omega arith
+
+-- The words may end where one tree is done.
+one-done : (s : Stack) → isOneStack operatorField s ≡ true → s .done ≡ 1
+unfolding isOneStack
+one-done s h = omega (arith, eqb-true)
+
+pub done-one : (s : Stack) → s .done ≡ 1 → isOneStack operatorField s ≡ true
+unfolding isOneStack
+done-one s e = rw e refl
 
 -- As many trees are done as a word asks for, and the tree fits.
 abbrev pub stackWalk : Walk Stack
@@ -143,14 +152,14 @@ trees-continue (legalTree {k = k} {cs = cs} {rest = rest} h n below after) i v s
 -- No answer 24: the root leaves one tree done.
 pub stack-unfaulted : (k : Token) (cs : Forest) → LegalTrees (node k cs nil) → size (node k cs nil) ≤ mostNodes
     → stackFault 0 operatorField 0 (record { done = 0; begun = 0 }) (stackWords (node k cs nil)) ≡ none
-unfolding stackWords size stackFault isOneStack
+unfolding stackWords size stackFault
 stack-unfaulted k cs (legalTree h n below after) b =
     let children : Stack = record { done = count cs; begun = size cs } in
     trees-continue below 0 0 (record { done = 0; begun = 0 }) children (nodeWordsOf k (count cs) ++ []) (omega arith) (omega arith)
     (omega arith)
     (λ i v. node-continues k h (count cs) n i v children [] (omega arith) (omega arith)
     (least-one (withNode children (count cs)) (omega arith) (omega arith))
-    (λ i v. must-true _ i (eq-eqb (suc (count cs - count cs)) 1 (omega arith))))
+    (λ i v. must-true _ i (done-one (withNode children (count cs)) (omega arith))))
 
 -- ---- Words without fault are a tree's
 
@@ -208,11 +217,6 @@ gathered-node a b c d e n g ws all s r enough t =
       sized = omega (arith, size-beside (p .first) (p .others), ap size (p .is), reversed-size (p .first));
       words = t .words ∙ rw (same, words-node k children (p .others), own) (simp append-assoc);
     }
-
--- A stack that is a whole tree holds one.
-one-done : (s : Stack) → isOneStack operatorField s ≡ true → s .done ≡ 1
-unfolding isOneStack
-one-done s h = omega (arith, eqb-true)
 
 -- All the words, if those to come have no fault.
 gathered-tree : (i v : ℕ) (s : Stack) (ws : List ℕ) → stackFault i operatorField v s ws ≡ none → (all : List ℕ) → Gathered s ws all
