@@ -1,6 +1,6 @@
 -- `stackorder::fault::least_nodes` meets its contract: only where a count leaves several trees does one more node join them. Assumes
 -- nothing.
-use native.Mathlib.Numerals.{add-one}
+use native.Mathlib.Omega.{arith}
 use Rattle.shape.specs.Answers.{fieldOf}
 use Rattle.stackorder.specs.Faults.{stack}
 use Rattle.stackorder.proofs.FaultLaws.{least-of-one, least-of-many, least-begun}
@@ -20,7 +20,7 @@ add-result c = search needs
 returns-2 : tie.Need-returns-2
 returns-2 c =
     let a = c .before .before .before .args in
-    rw (c .enum-told .given .1, add-one) (least-of-many (stack (a .done) (a .begun)) (c .before .before .if1 .left))
+    rw (c .enum-told .given .1) (omega (arith, least-of-many (stack (a .done) (a .begun)) (c .before .before .if1 .left)))
 
 returns-3 : tie.Need-returns-3
 returns-3 c = let a = c .before .before .args in least-begun (a .field) (stack (a .done) (a .begun)) (c .match .keys2)
