@@ -38,3 +38,4 @@ pub mod HandedTree
 pub mod Entries
 pub mod Reread
 pub mod LineLaws
+pub mod StackOrder

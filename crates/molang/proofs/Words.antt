@@ -77,7 +77,7 @@ tokens-end (a ∷ b ∷ c ∷ d ∷ []) = tt
 tokens-end (a ∷ b ∷ c ∷ d ∷ e ∷ ws) = (refl, tokens-end ws)
 
 -- A node's label is read back from its words.
-node-back : (k : Token) → Legal k
+pub node-back : (k : Token) → Legal k
     → nodeOf (word 1 (k .variant * 2 ^ 8 + k .op)) (word 2 (k .start)) (word 3 (k .end)) (word 4 (k .value / 2 ^ 16))
     (word 5 (k .value % 2 ^ 16)) (word 7 (k .close)) ≡ k
 unfolding nodeOf unclosed closedBy
