@@ -43,6 +43,7 @@ pub enum Fault {
     At(usize),
 }
 
+// Which word of a node is expected after it.
 pub fn next(field: Field) -> Field
     ensures { λ r. ⌜ fieldOf r ≡ entry.nextInNode (fieldOf field) ⌝ }
 {

@@ -3,7 +3,7 @@ use Prim.Native.Nat.{ℕ, suc, _+_, _≤_, _<_}
 use mathlib.Core.Path.{_≡_, refl, sym, _∙_}
 use mathlib.Core.Bool.{Bool, true, false, _&&_}
 use mathlib.Core.List.{List, [], _∷_}
-use mathlib.Core.Option.{Option, none, some}
+use mathlib.Core.Option.{none, some}
 use native.Mathlib.Numerals.{add-one}
 use native.Mathlib.Omega.{arith}
 use denote.Enum.Declared
@@ -13,9 +13,8 @@ use lib.ListN.{length, getD, drop, drop-of-length-le}
 use lib.Seq.{drop-cons}
 use borrow.Author.Tests.{leb-true, le-leb, lt-leb}
 use Rattle.molang.specs.FirstFailure.{must}
-use Rattle.molang.specs.Words as words
 use Rattle.molang.specs.Words.{Field, operatorField, startField, endField, upperField, lowerField, countField, closeField}
-use Rattle.molang.specs.Words.{wordFault, lowFault, variantAfter, lowOf}
+use Rattle.molang.specs.Words.{wordFault, lowFault, variantAfter}
 use Rattle.molang.specs.WriteEntry.{mostNodes, nextInNode, shapeAfter}
 use Rattle.molang.specs.StackOrder.{Stack, stackAfter, treesAsked, leastNodes, stackContinues, isOneStack, stackFault}
 use Rattle.molang.proofs.FirstFailure.{must-true, must-false, found, after-none}
@@ -30,7 +29,7 @@ use Rattle.stackorder.specs.Faults.{stack, uncounted, Stacked, NextStack
 
 -- ---- By the field
 
--- Only a count asks for trees and changes how many are done, and no tree ends inside a node.
+-- Only a count asks for trees, changes how many are done and leaves several for a node that joins them, and no tree ends inside a node.
 pub none-asked : (s : the-fields.Field) (w : ℕ)
     → OneOf (0 ∷ 1 ∷ 2 ∷ 3 ∷ 4 ∷ 6 ∷ []) (Declared.tagOf field.the-type s) → 0 ≡ treesAsked (fieldOf s) w
 unfolding treesAsked
@@ -97,7 +96,7 @@ begun-within lowerField w s = omega arith
 begun-within countField w s = omega arith
 begun-within closeField w s = omega arith
 
--- A node has at most one tree done more than before it began.
+-- No more trees are done than nodes have begun, apart from the one whose count is still to come.
 enough-after : (f : Field) (w : ℕ) (s : Stack) → s .done + uncounted f ≤ s .begun
     → stackAfter f w s .done + uncounted (nextInNode f) ≤ stackAfter f w s .begun
 unfolding stackAfter nextInNode
@@ -135,7 +134,7 @@ least-of-one lowerField s h = refl
 least-of-one countField s h = rw (leastNodes, le-leb _ _ h)
 least-of-one closeField s h = refl
 
--- With more, a count asks for one that does.
+-- With several, a count leaves them for one that does.
 pub least-of-many : (s : Stack) → 1 < s .done → suc (s .begun) ≡ leastNodes countField s
 unfolding leastNodes
 least-of-many s h = rw (leastNodes, lt-leb _ _ h)

@@ -87,8 +87,8 @@ fn is_one(field: Field, done: u32) -> bool
     }
 }
 
-// Whether a whole node stands next, with room for one more, which may have to join it to others: its words are legal, and as many
-// trees are done as its count asks for. The last node that fits is left to the words.
+// Whether a whole node stands next: its words are legal, and as many trees are done as its count asks for. It is to leave room for
+// one node more, which joins the trees where several are left; so a 12,288th node is judged word by word.
 fn node_continues(words: &[u32], at: usize, done: u32, begun: u32) -> bool
     requires { ⌜ at + nodeLength ≤ length (now words) ⌝ }
     ensures { λ r. ⌜ (r ≡ true → NextStacked (now (words .entry)) done begun at) ⌝ }
