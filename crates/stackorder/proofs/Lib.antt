@@ -3,3 +3,4 @@ pub mod FaultLaws
 pub mod Orders
 pub mod Standing
 pub mod ReorderLaws
+pub mod EntryLaws
