@@ -1,7 +1,9 @@
-//! The lists that reading and writing are timed over: all of them are trees at their version, by the Rust and by the library.
+//! The lists that reading and writing are timed over: all of them are trees at their version, by the Rust and by the library. And
+//! the trees that export and import are timed over.
 
+use crate::plain_trees::{self, bare};
 use oracle::generate::{Rng, dress};
-use oracle::words::Case;
+use oracle::words::{Case, TreeNode};
 
 /// Lists that are read one after the other, with the name they are printed under.
 pub struct Workload {
@@ -242,4 +244,55 @@ pub fn plain(len: usize) -> Vec<Workload> {
     let made = PLAIN.iter();
     made.map(|&(name, make)| workload(name, make, len, 6))
         .collect()
+}
+
+/// Trees that are exported and imported one after the other, with the name they are printed under.
+pub struct Trees {
+    pub name: &'static str,
+    pub trees: Vec<Vec<TreeNode>>,
+}
+
+/// Makes a tree of about so many nodes, a random one from a seed.
+type MakeTree = fn(usize, u64) -> Vec<TreeNode>;
+
+/// Two children each, with as many nodes below the one as below the other, or one more.
+fn balanced_tree(size: usize) -> Vec<TreeNode> {
+    let (left, right) = (size / 2, (size - 1) / 2);
+    let below = [left, right].into_iter().filter(|&below| below > 0);
+    let children = below.clone().count();
+    let op = [61, 6, 9][children];
+    let below = below.flat_map(balanced_tree);
+    [bare(op, children as u32)]
+        .into_iter()
+        .chain(below)
+        .collect()
+}
+
+const TREES: [(&str, MakeTree); 7] = [
+    ("flat", |size, _| plain_trees::flat(size)),
+    ("deep", |size, _| plain_trees::nested_brackets(size - 1)),
+    ("to the left", |size, _| {
+        plain_trees::comma_list(size.div_ceil(2))
+    }),
+    ("to the right", |size, _| {
+        plain_trees::right_sums(size.div_ceil(2))
+    }),
+    ("balanced", |size, _| balanced_tree(size)),
+    ("random, 0-2 children", |size, seed| {
+        plain_trees::of_children(&mut Rng::new(seed), size, 2)
+    }),
+    ("random, 0-8 children", |size, seed| {
+        plain_trees::of_children(&mut Rng::new(seed), size, 8)
+    }),
+];
+
+/// Trees of about `size` nodes each, and of 12,288 together, each from its own seed.
+pub fn trees(size: usize) -> Vec<Trees> {
+    let count = (12_288 / size) as u64;
+    let made = TREES.iter();
+    made.map(|&(name, make)| Trees {
+        name,
+        trees: (0..count).map(|seed| make(size, seed)).collect(),
+    })
+    .collect()
 }
