@@ -249,11 +249,12 @@ pub fn plain(len: usize) -> Vec<Workload> {
 /// Trees that are exported and imported one after the other, with the name they are printed under.
 pub struct Trees {
     pub name: &'static str,
+    pub is_random: bool,
     pub trees: Vec<Vec<TreeNode>>,
 }
 
-/// Makes a tree of about so many nodes, a random one from a seed.
-type MakeTree = fn(usize, u64) -> Vec<TreeNode>;
+/// Makes a tree of about so many nodes.
+type MakeTree = fn(usize) -> Vec<TreeNode>;
 
 /// Two children each, with as many nodes below the one as below the other, or one more.
 fn balanced_tree(size: usize) -> Vec<TreeNode> {
@@ -268,31 +269,36 @@ fn balanced_tree(size: usize) -> Vec<TreeNode> {
         .collect()
 }
 
-const TREES: [(&str, MakeTree); 7] = [
-    ("flat", |size, _| plain_trees::flat(size)),
-    ("deep", |size, _| plain_trees::nested_brackets(size - 1)),
-    ("to the left", |size, _| {
+const SHAPES: [(&str, MakeTree); 5] = [
+    ("flat", plain_trees::flat),
+    ("deep", |size| plain_trees::nested_brackets(size - 1)),
+    ("to the left", |size| {
         plain_trees::comma_list(size.div_ceil(2))
     }),
-    ("to the right", |size, _| {
+    ("to the right", |size| {
         plain_trees::right_sums(size.div_ceil(2))
     }),
-    ("balanced", |size, _| balanced_tree(size)),
-    ("random, 0-2 children", |size, seed| {
-        plain_trees::of_children(&mut Rng::new(seed), size, 2)
-    }),
-    ("random, 0-8 children", |size, seed| {
-        plain_trees::of_children(&mut Rng::new(seed), size, 8)
-    }),
+    ("balanced", balanced_tree),
 ];
 
-/// Trees of about `size` nodes each, and of 12,288 together, each from its own seed.
+/// The most children of a node, in random trees.
+const RANDOM: [(&str, usize); 2] = [("random, 0-2 children", 2), ("random, 0-8 children", 8)];
+
+/// Trees of about `size` nodes each. Of one shape they have 12,288 nodes together; random ones, each from its own seed, four times as
+/// many, since the processor would learn the branches of fewer by heart.
 pub fn trees(size: usize) -> Vec<Trees> {
-    let count = (12_288 / size) as u64;
-    let made = TREES.iter();
-    made.map(|&(name, make)| Trees {
+    let count = 12_288 / size;
+    let shapes = SHAPES.iter().map(|&(name, make)| Trees {
         name,
-        trees: (0..count).map(|seed| make(size, seed)).collect(),
-    })
-    .collect()
+        is_random: false,
+        trees: vec![make(size); count],
+    });
+    let random = RANDOM.iter().map(|&(name, most)| Trees {
+        name,
+        is_random: true,
+        trees: (0..4 * count as u64)
+            .map(|seed| plain_trees::of_children(&mut Rng::new(seed), size, most))
+            .collect(),
+    });
+    shapes.chain(random).collect()
 }

@@ -477,6 +477,7 @@ mod timed {
     /// Export or import of trees, into outputs that are as long as what they take.
     struct Reordering {
         line: Line,
+        is_random: bool,
         /// All nodes of the trees together.
         nodes: usize,
         way: Way,
@@ -489,13 +490,14 @@ mod timed {
     impl Reordering {
         fn both(trees: &Trees) -> [Self; 2] {
             let words: Vec<Vec<u32>> = trees.trees.iter().map(|tree| tree_words(tree)).collect();
-            let export = Self::new(trees.name, Way::Export, words);
+            let export = Self::new(trees, Way::Export, words);
             let stacks = export.calls.iter().map(|words| export.plain_of(words));
-            let import = Self::new(trees.name, Way::Import, stacks.collect());
+            let import = Self::new(trees, Way::Import, stacks.collect());
             [export, import]
         }
 
-        fn new(name: &str, way: Way, calls: Vec<Vec<u32>>) -> Self {
+        fn new(trees: &Trees, way: Way, calls: Vec<Vec<u32>>) -> Self {
+            let name = trees.name;
             let nodes = calls.iter().map(|words| words.len() / NODE_WORDS);
             let (sum, most) = (nodes.clone().sum(), nodes.max().unwrap_or(0));
             let verb = match way {
@@ -504,6 +506,7 @@ mod timed {
             };
             let reordering = Self {
                 line: Line::of_nodes(&format!("{verb}, {name}"), most),
+                is_random: trees.is_random,
                 nodes: sum,
                 way,
                 calls,
@@ -686,21 +689,24 @@ mod timed {
         }
 
         /// All exports and imports, of few nodes too.
-        fn all_reordered(&self) -> impl Iterator<Item = &Line> {
-            let all = self.reordered_few.iter().chain(&self.reordered);
-            all.map(|reordering| &reordering.line)
+        fn reorderings(&self) -> impl Iterator<Item = &Reordering> {
+            self.reordered_few.iter().chain(&self.reordered)
         }
 
         fn print_stack_order(&self) {
             println!("Export and import, nanoseconds per node:");
-            self.all_reordered().for_each(Line::print);
+            let lines = || self.reorderings().map(|reordering| &reordering.line);
+            lines().for_each(Line::print);
             let few = self.reordered_few.iter().map(|few| &few.line);
             let grown = growth(self.reordered.iter().map(|many| &many.line), few);
-            let most = self.all_reordered().map(|line| line.ours.least());
-            let most = most.fold(0.0, f64::max);
-            let (least, mean) = ratios(self.all_reordered());
+            let most = |is_random: bool| {
+                let some = self.reorderings().filter(|one| one.is_random == is_random);
+                some.map(|one| one.line.ours.least()).fold(0.0, f64::max)
+            };
+            let (shapes, random) = (most(false), most(true));
+            let (least, mean) = ratios(lines());
             println!(
-                "stack order: at most {most:.1} ns, least ratio {least:.2}, mean ratio {mean:.2}, greatest growth {grown:.2}"
+                "stack order: at most {shapes:.1} ns a node, {random:.1} ns of random trees, least ratio {least:.2}, mean ratio {mean:.2}, greatest growth {grown:.2}"
             );
         }
 
@@ -735,7 +741,7 @@ mod timed {
             let lines = self
                 .read()
                 .chain(self.writings().map(|writing| &writing.line))
-                .chain(self.all_reordered());
+                .chain(self.reorderings().map(|reordering| &reordering.line));
             let noise = lines.map(|line| line.ours.noise()).fold(0.0, f64::max);
             let percent = 100.0 * noise;
             println!("noise: the middle batch is at most {percent:.0} % above the least");
