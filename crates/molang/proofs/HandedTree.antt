@@ -35,7 +35,7 @@ pub record Parsed (c : Call) (k : Token) (cs : Forest) : Type 0 where
   pub reads : reading c ≡ tree k cs
 
 -- The words in front of a buffer are found there.
-front-words : (ws buffer : List ℕ) (n : ℕ) → length ws ≡ n → take n (inFront ws buffer) ≡ ws
+pub front-words : (ws buffer : List ℕ) (n : ℕ) → length ws ≡ n → take n (inFront ws buffer) ≡ ws
 unfolding inFront
 front-words ws buffer n h = ap (λ (m : ℕ). take m (ws ++ drop (length ws) buffer)) (sym h) ∙ take-append-seam ws (drop (length ws) buffer)
 

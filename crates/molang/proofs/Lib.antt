@@ -21,6 +21,8 @@ pub mod NoFrames
 pub mod Bounds
 pub mod FirstFailure
 pub mod Words
+pub mod Rows
+pub mod NodeWalk
 pub mod TreeWords
 pub mod Every
 pub mod Legal
@@ -38,3 +40,6 @@ pub mod HandedTree
 pub mod Entries
 pub mod Reread
 pub mod LineLaws
+pub mod StackWords
+pub mod Places
+pub mod StackOrder

@@ -77,7 +77,7 @@ tokens-end (a ∷ b ∷ c ∷ d ∷ []) = tt
 tokens-end (a ∷ b ∷ c ∷ d ∷ e ∷ ws) = (refl, tokens-end ws)
 
 -- A node's label is read back from its words.
-node-back : (k : Token) → Legal k
+pub node-back : (k : Token) → Legal k
     → nodeOf (word 1 (k .variant * 2 ^ 8 + k .op)) (word 2 (k .start)) (word 3 (k .end)) (word 4 (k .value / 2 ^ 16))
     (word 5 (k .value % 2 ^ 16)) (word 7 (k .close)) ≡ k
 unfolding nodeOf unclosed closedBy
@@ -164,12 +164,12 @@ pub record FiveLegal (a b c d e : ℕ) : Type 0 where
   upper : Half (lowOf a / 2 ^ 8 % 2 ^ 4) (lowOf d)
   lower : Half (lowOf a / 2 ^ 8 % 2 ^ 4) (lowOf e)
 
-low-bound : (w : ℕ) → lowOf w < 2 ^ 29
+pub low-bound : (w : ℕ) → lowOf w < 2 ^ 29
 unfolding lowOf
 low-bound w = omega arith
 
 -- A word is its kind and its low bits.
-word-back : (kind w : ℕ) → kindOf w ≡ kind → word kind (lowOf w) ≡ w
+pub word-back : (kind w : ℕ) → kindOf w ≡ kind → word kind (lowOf w) ≡ w
 unfolding kindOf lowOf word
 word-back kind w h = omega arith
 
