@@ -1,6 +1,6 @@
 // Stack order: a tree's words with each node's seven after those of its children. Export gives that order, import takes it; each judges
 // the words first, then the output's length, so a call that is turned back leaves the output as it was. Leans on shape and words.
-pub mod fault;
+mod fault;
 mod reorder;
 
 use crate::fault::stack_fault;
