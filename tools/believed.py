@@ -17,8 +17,12 @@ ENTRIES = [
     ("parse", "src/lib.rt", "parse"),
     ("write", "src/lib.rt", "write"),
     ("reread", "src/lib.rt", "reread"),
+    ("stackorder", "src/lib.rt", "export"),
+    ("stackorder", "src/lib.rt", "import"),
     ("sorbrudder", "src/lib.rt", "sorbrudder_parse"),
     ("sorbrudder", "src/lib.rt", "sorbrudder_write"),
+    ("sorbrudder", "src/lib.rt", "sorbrudder_export"),
+    ("sorbrudder", "src/lib.rt", "sorbrudder_import"),
     ("treelist", "src/main.rt", "listing"),
 ]
 # `use Rattle.CRATE.specs.MODULE.{NAMES}`, with the part named twice within the crate itself; in code with `ghost` and `;`.

@@ -13,7 +13,8 @@ use words::refusals;
 ghost use mathlib.Core.Path.{_≡_};
 ghost use Rattle.molang.specs.StackOrder.{IsOneTree, exportAnswered, exportedAfter, importAnswered, importedAfter};
 ghost use Rattle.stackorder.specs.Reorder.{readIn};
-ghost use Rattle.stackorder.specs.Answers.{told, call, HasFilled};
+ghost use Rattle.stackorder.specs.Answers.{told, call};
+ghost use Rattle.stackorder.specs.Filling.{HasFilled};
 
 // What a call is answered: the number of nodes that were put into the other order, or a refusal's number and place.
 pub enum Reordered {
