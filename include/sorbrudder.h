@@ -1,4 +1,5 @@
-/* Sorbrudder by the C convention: Molang token lists read into trees, and plain trees written as token lists.
+/* Sorbrudder by the C convention: Molang token lists read into trees, plain trees written as token lists, and trees put into stack order
+ * and back.
  *
  * Words. Lists, trees and messages are arrays of 32-bit words. The top three bits of a token's or a node's word are its kind; bits that are
  * not named below are 0.
@@ -14,7 +15,8 @@
  *     6  SORBRUDDER_WORD_CLOSE       7      bits 0-28 where it closes: a closed section, whose span is its opener's, at the end of its
  *                                           closer, every other node at its own span's end
  *
- * The nodes of a tree stand parent first, then its children in order, each with all that is below it.
+ * The nodes of a tree stand parent first, then its children in order, each with all that is below it. In stack order each node's seven
+ * words stand after those of its children in order, so the root's come last; the words of a node are the same.
  *
  *   a message, eight words
  *     0      its number (SORBRUDDER_MESSAGE_..)
@@ -29,11 +31,11 @@
  * buffer of the call, and nobody else writes any of them while the call runs. A pointer is never null, not even beside a length of 0.
  *
  * Threads. The functions keep nothing between calls and have no state of their own: any number of threads may call them at once, each with
- * buffers of its own. The call stack is the caller's to provide, and the proofs say nothing of it: measured, reading takes at most 2 KiB
- * and writing at most 1,000 KiB (docs/notes/host.md).
+ * buffers of its own. The call stack is the caller's to provide, and the proofs say nothing of it: measured, reading takes at most 2 KiB,
+ * writing at most 1,000 KiB, export and import at most 1 KiB (docs/notes/host.md).
  *
  * An answer is one number. Bits 0-31: the count of nodes, tokens or messages, or a refusal's place. Bits 32-39: a refusal's number, else 0.
- * Bits 40-47: 0 for a tree or a written list, 1 for messages, 2 for a refusal. The functions below take it apart.
+ * Bits 40-47: 0 for a tree, in either order, or a written list, 1 for messages, 2 for a refusal. The functions below take it apart.
  */
 #ifndef SORBRUDDER_H
 #define SORBRUDDER_H
@@ -170,7 +172,9 @@ enum sorbrudder_refusal_number {
     SORBRUDDER_REFUSAL_NOT_A_TREE = 12,       /* place: the first word that cannot continue a tree, or the word count; 86,016 at the most */
     SORBRUDDER_REFUSAL_NOT_PLAIN = 13,        /* place: the number of the first such node in tree order */
     SORBRUDDER_REFUSAL_WRITTEN_TOO_LONG = 14, /* the written list has more than 4,096 tokens */
-    SORBRUDDER_REFUSAL_LIST_BUFFER = 15       /* the lent list is too short */
+    SORBRUDDER_REFUSAL_LIST_BUFFER = 15,      /* the lent list is too short */
+    SORBRUDDER_REFUSAL_NOT_A_STACK = 24,      /* words in stack order that are not one tree; place as for 12 */
+    SORBRUDDER_REFUSAL_OUTPUT_BUFFER = 25     /* the lent output is shorter than the words that are put into the other order */
 };
 
 /* Reads the list of tokens whose words are `list` at a pack's declared version, under the operator set in two halves of 64 bits (operator 0
@@ -190,13 +194,24 @@ uint64_t sorbrudder_parse(const uint32_t *list, size_t list_words, uint32_t *tre
  * Done: the number of tokens. Refused, 12 to 15: the list is unchanged. The place of 12 is 86,016 at the most. */
 uint64_t sorbrudder_write(const uint32_t *tree, size_t tree_words, uint32_t *list, size_t list_words);
 
+/* Puts the words of a tree into stack order, in the front of `output`; the words after them stay as they were.
+ * Done: the number of nodes. Refused, 12 or 25: the output is unchanged. The output is looked at last: words that are no tree are 12
+ * whatever its length. The place of 12 is 86,016 at the most. */
+uint64_t sorbrudder_export(const uint32_t *tree, size_t tree_words, uint32_t *output, size_t output_words);
+
+/* Puts the words of a tree in stack order back: the tree, parent first, fills the front of `output`; the words after it stay as they were.
+ * Taken are exactly the words that `sorbrudder_export` gives of some tree, and each of the two undoes the other.
+ * Done: the number of nodes. Refused, 24 or 25: the output is unchanged. A whole tree may be followed by more, since it can become a child;
+ * words that are several trees run out, so the place of 24 is then the word count. It is 86,016 at the most. */
+uint64_t sorbrudder_import(const uint32_t *stack, size_t stack_words, uint32_t *output, size_t output_words);
+
 /* The parts of an answer. */
 static inline unsigned sorbrudder_kind(uint64_t answer) { return (unsigned)(answer >> 40); }
 
 /* The count of nodes, tokens or messages; of a refusal, its place. */
 static inline uint32_t sorbrudder_count(uint64_t answer) { return (uint32_t)answer; }
 
-/* Of a refusal: its number, 1-15. */
+/* Of a refusal: its number, 1-15, 24 or 25. */
 static inline unsigned sorbrudder_refusal(uint64_t answer) { return (unsigned)(answer >> 32) & 0xff; }
 
 /* The parts of a token's or a node's words. */

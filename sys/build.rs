@@ -2,7 +2,7 @@
 //! sorbrudder` writes it, or the prebuilt one for this target. The build scripts of the crates above read the archive's path as
 //! `DEP_SORBRUDDER_ARCHIVE`, whether it is there as `DEP_SORBRUDDER_FOUND` (`true` or `false`), and what to do where it is not as
 //! `DEP_SORBRUDDER_ADVICE`, since each has its own answer to a library that is not built yet. A second archive, in the folder that
-//! `SORBRUDDER_BEFORE` names, is linked with its two entries renamed, and `DEP_SORBRUDDER_BEFORE` says so.
+//! `SORBRUDDER_BEFORE` names, is linked with its entries renamed, and `DEP_SORBRUDDER_BEFORE` says so.
 
 use std::env;
 use std::path::{Path, PathBuf};
@@ -79,11 +79,15 @@ fn link_before() {
     println!("cargo::rustc-cfg=before");
 }
 
-/// The two entries are all that an archive exports.
+/// All that an archive exports; one from before card 14 has only the first two, and what it lacks is not looked for.
+const ENTRIES: [&str; 4] = ["parse", "write", "export", "import"];
+
 fn rename_entries(archive: &Path, renamed: &Path) {
     let done = Command::new("objcopy")
-        .args(["--redefine-sym", "sorbrudder_parse=sorbrudder_before_parse"])
-        .args(["--redefine-sym", "sorbrudder_write=sorbrudder_before_write"])
+        .args(
+            ENTRIES
+                .map(|name| format!("--redefine-sym=sorbrudder_{name}=sorbrudder_before_{name}")),
+        )
         .args([archive, renamed])
         .status()
         .expect("objcopy, which renames the entries of the library before");

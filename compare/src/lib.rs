@@ -1,4 +1,4 @@
-//! What the library's entries answer, beside the Rust (through `oracle`) and models that were written from document 01 alone.
+//! What the library's entries answer, beside the Rust (through `oracle`) and models that were written from document 01 and the cards alone.
 
 pub mod calls;
 #[cfg(library)]
@@ -10,7 +10,10 @@ pub mod plain_trees;
 #[cfg(library)]
 pub mod reading;
 #[cfg(library)]
+pub mod reordering;
+#[cfg(library)]
 pub mod rereading;
 pub mod smallest;
+pub mod stack_model;
 pub mod workloads;
 pub mod writer_model;

@@ -1,5 +1,6 @@
 //! The entries of the static library, with answers that are compared.
 
+use crate::stack_model::Reordered;
 use crate::writer_model::Written;
 use sorbrudder_sys::{Answer, Lent};
 
@@ -49,6 +50,24 @@ pub fn write(tree: &[u32], list: &mut [u32]) -> Written {
         Answer::Filled(tokens) => Written::Tokens(tokens),
         Answer::Refused(number, place) => Written::Refused(number, place),
         Answer::Messages(count) => panic!("the write entry never answers {count} messages"),
+    }
+}
+
+/// The export entry.
+pub fn export(tree: &[u32], output: &mut [u32]) -> Reordered {
+    reordered(sorbrudder_sys::export(tree, output))
+}
+
+/// The import entry.
+pub fn import(stack: &[u32], output: &mut [u32]) -> Reordered {
+    reordered(sorbrudder_sys::import(stack, output))
+}
+
+fn reordered(answer: Answer) -> Reordered {
+    match answer {
+        Answer::Filled(nodes) => Reordered::Nodes(nodes),
+        Answer::Refused(number, place) => Reordered::Refused(number, place),
+        Answer::Messages(count) => panic!("export and import never answer {count} messages"),
     }
 }
 

@@ -1,7 +1,7 @@
-//! Trees from a seed: plain ones, plain ones with one thing changed, and those of a given shape.
+//! Trees from a seed: plain ones, plain ones with one thing changed, any shape, damaged words, and those of a given shape.
 
 use oracle::generate::Rng;
-use oracle::words::{LAST_PLACE, Token, TreeNode};
+use oracle::words::{LAST_PLACE, Token, TreeNode, low, word};
 
 const LEAVES: [u8; 11] = [40, 42, 43, 44, 46, 47, 48, 49, 61, 62, 76];
 const BINARIES: [u8; 14] = [9, 20, 31, 50, 51, 52, 53, 54, 55, 56, 57, 58, 75, 75];
@@ -143,6 +143,76 @@ pub fn disturbed(rng: &mut Rng, mut nodes: Vec<TreeNode>) -> Vec<TreeNode> {
     nodes
 }
 
+/// A tree of `size` nodes of any operator and shape, each of which closes anywhere.
+pub fn any_shape(rng: &mut Rng, size: usize) -> Vec<TreeNode> {
+    // Now and then few children each, so that the tree is deep, or many.
+    let most = *rng.pick(&[1, 2, 4, size]);
+    of_children(rng, size, most)
+}
+
+/// The same with at most so many children each.
+pub fn of_children(rng: &mut Rng, size: usize, most: usize) -> Vec<TreeNode> {
+    let mut called = 1;
+    let mut nodes: Vec<TreeNode> = Vec::new();
+    while nodes.len() < size {
+        let is_last = called == nodes.len() + 1;
+        let children = rng.below(1 + most.min(size - called));
+        let children = children.max(usize::from(is_last && called < size));
+        called += children;
+        let op = rng.below(111) as u8;
+        nodes.push(TreeNode {
+            token: token(rng, op),
+            children: children as u32,
+            close: place(rng),
+        });
+    }
+    nodes
+}
+
+/// The words with one or two of them damaged, in any field; now and then cut off, or with one more.
+pub fn damaged(rng: &mut Rng, mut words: Vec<u32>) -> Vec<u32> {
+    for _ in 0..1 + rng.below(2) {
+        let place = rng.below(words.len());
+        words[place] = match rng.below(4) {
+            0 => words[place] ^ 1 << rng.below(32),
+            1 => word(rng.below(8) as u32, low(words[place])),
+            2 => word(6, *rng.pick(&[0, 1, 2, 3, 12_286, 12_287, 12_288, 16_383])),
+            _ => rng.bits() as u32,
+        };
+    }
+    if rng.chance(20) {
+        words.truncate(rng.below(words.len() + 1));
+    }
+    if rng.chance(10) {
+        words.push(rng.bits() as u32);
+    }
+    words
+}
+
+/// Every tree of at most `most` nodes, as its nodes' operators and child counts.
+pub fn every_tree(ops: &[u8], most: usize, mut each: impl FnMut(&[(u8, u32)])) {
+    /// Adds the nodes that are still called for.
+    fn grow(
+        ops: &[u8],
+        most: usize,
+        called: usize,
+        nodes: &mut Vec<(u8, u32)>,
+        each: &mut impl FnMut(&[(u8, u32)]),
+    ) {
+        if called == nodes.len() {
+            return each(nodes);
+        }
+        for &op in ops {
+            for below in 0..=most - called {
+                nodes.push((op, below as u32));
+                grow(ops, most, called + below, nodes, each);
+                nodes.pop();
+            }
+        }
+    }
+    grow(ops, most, 1, &mut Vec::new(), &mut each);
+}
+
 /// Brackets in brackets round a leaf.
 pub fn nested_brackets(levels: usize) -> Vec<TreeNode> {
     let mut nodes = vec![bare(4, 1); levels];
@@ -168,5 +238,12 @@ pub fn comma_list(leaves: usize) -> Vec<TreeNode> {
 pub fn right_sums(leaves: usize) -> Vec<TreeNode> {
     let mut nodes = [bare(9, 2), bare(61, 0)].repeat(leaves - 1);
     nodes.push(bare(61, 0));
+    nodes
+}
+
+/// A node over leaves, of so many nodes together.
+pub fn flat(size: usize) -> Vec<TreeNode> {
+    let mut nodes = vec![bare(61, 0); size];
+    nodes[0] = bare(40, size as u32 - 1);
     nodes
 }

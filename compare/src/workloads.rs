@@ -1,7 +1,9 @@
-//! The lists that reading and writing are timed over: all of them are trees at their version, by the Rust and by the library.
+//! The lists that reading and writing are timed over: all of them are trees at their version, by the Rust and by the library. And
+//! the trees that export and import are timed over.
 
+use crate::plain_trees::{self, bare};
 use oracle::generate::{Rng, dress};
-use oracle::words::Case;
+use oracle::words::{Case, TreeNode};
 
 /// Lists that are read one after the other, with the name they are printed under.
 pub struct Workload {
@@ -242,4 +244,61 @@ pub fn plain(len: usize) -> Vec<Workload> {
     let made = PLAIN.iter();
     made.map(|&(name, make)| workload(name, make, len, 6))
         .collect()
+}
+
+/// Trees that are exported and imported one after the other, with the name they are printed under.
+pub struct Trees {
+    pub name: &'static str,
+    pub is_random: bool,
+    pub trees: Vec<Vec<TreeNode>>,
+}
+
+/// Makes a tree of about so many nodes.
+type MakeTree = fn(usize) -> Vec<TreeNode>;
+
+/// Two children each, with as many nodes below the one as below the other, or one more.
+fn balanced_tree(size: usize) -> Vec<TreeNode> {
+    let (left, right) = (size / 2, (size - 1) / 2);
+    let below = [left, right].into_iter().filter(|&below| below > 0);
+    let children = below.clone().count();
+    let op = [61, 6, 9][children];
+    let below = below.flat_map(balanced_tree);
+    [bare(op, children as u32)]
+        .into_iter()
+        .chain(below)
+        .collect()
+}
+
+const SHAPES: [(&str, MakeTree); 5] = [
+    ("flat", plain_trees::flat),
+    ("deep", |size| plain_trees::nested_brackets(size - 1)),
+    ("to the left", |size| {
+        plain_trees::comma_list(size.div_ceil(2))
+    }),
+    ("to the right", |size| {
+        plain_trees::right_sums(size.div_ceil(2))
+    }),
+    ("balanced", balanced_tree),
+];
+
+/// The most children of a node, in random trees.
+const RANDOM: [(&str, usize); 2] = [("random, 0-2 children", 2), ("random, 0-8 children", 8)];
+
+/// Trees of about `size` nodes each. Of one shape they have 12,288 nodes together; random ones, each from its own seed, four times as
+/// many, since the processor would learn the branches of fewer by heart.
+pub fn trees(size: usize) -> Vec<Trees> {
+    let count = 12_288 / size;
+    let shapes = SHAPES.iter().map(|&(name, make)| Trees {
+        name,
+        is_random: false,
+        trees: vec![make(size); count],
+    });
+    let random = RANDOM.iter().map(|&(name, most)| Trees {
+        name,
+        is_random: true,
+        trees: (0..4 * count as u64)
+            .map(|seed| plain_trees::of_children(&mut Rng::new(seed), size, most))
+            .collect(),
+    });
+    shapes.chain(random).collect()
 }

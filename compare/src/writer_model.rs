@@ -292,20 +292,33 @@ fn spanning(op: u8, start: u32, end: u32) -> Token {
     }
 }
 
+/// Whether these are the seven words of a node.
+pub fn is_node(words: &[u32]) -> bool {
+    let (token, &[count, close]) = words.split_at(TOKEN_WORDS) else {
+        return false;
+    };
+    let counts = kind(count) == 6 && low(count) < 1 << 14;
+    Token::of_words(token).is_some() && counts && kind(close) == 7
+}
+
+/// A node that is cut off goes on with words that are legal after those it has; without its count it has so many children.
+pub fn completed(cut: &[u32], children: usize) -> [u32; NODE_WORDS] {
+    let mut whole = [1, 2, 3, 4, 5, 6, 7].map(|kind| kind << 29);
+    whole[TOKEN_WORDS] |= children as u32;
+    whole[..cut.len()].copy_from_slice(cut);
+    whole
+}
+
 /// Whether some tree of at most 12,288 nodes begins with these words.
 fn begins_a_tree(words: &[u32]) -> bool {
     let (mut called, mut begun) = (1, 0);
     for node in words.chunks(NODE_WORDS) {
         begun += 1;
-        // A node that is cut off goes on with words that are legal after those it has.
-        let mut whole = [1, 2, 3, 4, 5, 6, 7].map(|kind| kind << 29);
-        whole[..node.len()].copy_from_slice(node);
-        let [count, close] = [whole[TOKEN_WORDS], whole[TOKEN_WORDS + 1]];
-        let legal = Token::of_words(&whole[..TOKEN_WORDS]).is_some() && kind(close) == 7;
-        if !legal || kind(count) != 6 || low(count) >= 1 << 14 || called < begun {
+        let whole = completed(node, 0);
+        if !is_node(&whole) || called < begun {
             return false;
         }
-        called += low(count) as usize;
+        called += low(whole[TOKEN_WORDS]) as usize;
         if called > MOST_NODES {
             return false;
         }
@@ -313,22 +326,28 @@ fn begins_a_tree(words: &[u32]) -> bool {
     true
 }
 
-/// Answer 12's place.
-fn shape_fault(words: &[u32]) -> Option<usize> {
-    if begins_a_tree(words) {
-        return decode_tree(words).is_none().then_some(words.len());
+/// How many of the words some tree begins with, where `begins` says it of a prefix of them. What begins no tree begins none however
+/// it goes on.
+pub fn longest_beginning(words: &[u32], begins: impl Fn(&[u32]) -> bool) -> usize {
+    if begins(words) {
+        return words.len();
     }
-    // What begins no tree begins none however it goes on.
     let (mut good, mut bad) = (0, words.len());
     while bad - good > 1 {
         let middle = good.midpoint(bad);
-        if begins_a_tree(&words[..middle]) {
+        if begins(&words[..middle]) {
             good = middle;
         } else {
             bad = middle;
         }
     }
-    Some(good)
+    good
+}
+
+/// Answer 12's place.
+pub fn shape_fault(words: &[u32]) -> Option<usize> {
+    let place = longest_beginning(words, begins_a_tree);
+    (place < words.len() || decode_tree(words).is_none()).then_some(place)
 }
 
 /// What the write entry answers, and the words that it puts in front of a list of `room` words.

@@ -1,6 +1,6 @@
 //! The write entry: the model by itself over document 01's lines, then the library beside it.
 
-use compare::plain_trees::{self, bare};
+use compare::plain_trees::{self, bare, every_tree};
 use compare::writer_model::{self, Tree, Written};
 use oracle::generate::{Mixed, Rng};
 use oracle::words::{Case, NODE_WORDS, Token, TreeNode, decode_list, exact_set, tree_words, word};
@@ -283,30 +283,6 @@ fn semicolons_are_compared_by_their_operators_under_a_semicolon_alone() {
         let other = [node(root, 1, 4), statement, leaf];
         assert_eq!(Tree::of(&other).compared(), other);
     }
-}
-
-/// Every tree of at most `most` nodes, as its nodes' operators and child counts.
-fn every_tree(ops: &[u8], most: usize, mut each: impl FnMut(&[(u8, u32)])) {
-    /// Adds the nodes that are still called for.
-    fn grow(
-        ops: &[u8],
-        most: usize,
-        called: usize,
-        nodes: &mut Vec<(u8, u32)>,
-        each: &mut impl FnMut(&[(u8, u32)]),
-    ) {
-        if called == nodes.len() {
-            return each(nodes);
-        }
-        for &op in ops {
-            for below in 0..=most - called {
-                nodes.push((op, below as u32));
-                grow(ops, most, called + below, nodes, each);
-                nodes.pop();
-            }
-        }
-    }
-    grow(ops, most, 1, &mut Vec::new(), &mut each);
 }
 
 /// Leaves, brackets, `?`, `:`, what a statement holds, semicolons and what is never plain.
@@ -699,22 +675,7 @@ mod library {
         for _ in 0..60_000 {
             let size = 1 + rng.below(12);
             let nodes = plain_trees::any(&mut rng, size);
-            let mut words = tree_words(&nodes);
-            for _ in 0..1 + rng.below(2) {
-                let place = rng.below(words.len());
-                words[place] = match rng.below(4) {
-                    0 => words[place] ^ 1 << rng.below(32),
-                    1 => word(rng.below(8) as u32, words[place] & 0x1FFF_FFFF),
-                    2 => word(6, *rng.pick(&[0, 1, 2, 3, 12_286, 12_287, 12_288, 16_383])),
-                    _ => rng.bits() as u32,
-                };
-            }
-            if rng.chance(20) {
-                words.truncate(rng.below(words.len() + 1));
-            }
-            if rng.chance(10) {
-                words.push(rng.bits() as u32);
-            }
+            let words = plain_trees::damaged(&mut rng, tree_words(&nodes));
             agrees(&mut rng, &words);
         }
     }

@@ -29,12 +29,13 @@ pub struct Tree {
     depth: usize,
 }
 
-/// Words that are not exactly one tree of at most 12,288 nodes.
+/// Words that are not exactly one tree of at most 12,288 nodes: the library's refusal 12, of words in stack order 24.
 ///
 /// ```
 /// use sorbrudder::Tree;
 ///
 /// assert_eq!(Tree::from_words(Vec::new()).unwrap_err().word, 0);
+/// assert_eq!(Tree::from_stack(&[]).unwrap_err().word, 0);
 /// ```
 #[derive(Copy, Clone, Debug, PartialEq, Eq)]
 #[non_exhaustive]
@@ -152,6 +153,33 @@ impl Tree {
         Self::from_words(words.collect())
     }
 
+    /// The tree of words in stack order, in which each node's come after those of its children in order: what
+    /// [`Tree::to_stack`] gives. The library judges them.
+    ///
+    /// A whole tree may be followed by more, since it can become a child; so where words are several trees they run out.
+    ///
+    /// ```
+    /// use sorbrudder::{Reader, Tokens, Tree};
+    ///
+    /// let list: Tokens = "a + b * c".parse().unwrap();
+    /// let tree = Reader::new().read(&list, 6).unwrap();
+    /// let stack = tree.to_stack();
+    /// assert_eq!(Tree::from_stack(&stack).unwrap(), tree);
+    ///
+    /// // `a` alone is a tree; `a` and `b` are two, and run out. In the tree's own words the root comes first, before its children.
+    /// assert_eq!(Tree::from_stack(&stack[..7]).unwrap().to_string(), "a");
+    /// assert_eq!(Tree::from_stack(&stack[..14]).unwrap_err().word, 14);
+    /// assert_eq!(Tree::from_stack(tree.words()).unwrap_err().word, 5);
+    /// ```
+    pub fn from_stack(stack: &[u32]) -> Result<Self, NotATree> {
+        // Words of more nodes than a tree has are refused before it is asked whether they have room.
+        let mut words = vec![0; stack.len().min(Self::NODE_WORDS * MOST_NODES)];
+        match sorbrudder_sys::import(stack, &mut words) {
+            Answer::Refused(_, word) => Err(NotATree { word }),
+            _ => Ok(Self::of_sound(words)),
+        }
+    }
+
     /// The tree over its own words, as [`TreeRef`] walks it.
     ///
     /// ```
@@ -189,6 +217,44 @@ impl Tree {
     /// ```
     pub fn into_words(self) -> Vec<u32> {
         self.words
+    }
+
+    /// The tree's words in stack order: each node's [`Tree::NODE_WORDS`] after those of its children in order, so that the root's come
+    /// last. [`Tree::from_stack`] takes them back.
+    ///
+    /// A runtime that works on a stack goes through them once. It pushes the value of a leaf; for every other node it takes as many
+    /// values off the stack as the node has children, the last child's first, and pushes what comes of them:
+    ///
+    /// ```
+    /// use sorbrudder::{Op, Payload, Reader, Token, Tokens, Tree};
+    ///
+    /// /// The value of numbers, sums and products.
+    /// fn value(stack_order: &[u32]) -> Option<f32> {
+    ///     let mut stack = Vec::new();
+    ///     for node in stack_order.chunks(Tree::NODE_WORDS) {
+    ///         let token = Token::from_words(*node.first_chunk()?)?;
+    ///         let value = match (token.op, token.payload) {
+    ///             (Op::FLOAT, Payload::Float(number)) => number,
+    ///             (Op::ADD, _) => stack.pop()? + stack.pop()?,
+    ///             (Op::MUL, _) => stack.pop()? * stack.pop()?,
+    ///             _ => return None,
+    ///         };
+    ///         stack.push(value);
+    ///     }
+    ///     stack.pop()
+    /// }
+    ///
+    /// let list: Tokens = "2 + 3 * 4".parse().unwrap();
+    /// let tree = Reader::new().read(&list, 6).unwrap();
+    /// assert_eq!(tree.to_string(), "9(2,31(3,4))");
+    ///
+    /// let stack_order = tree.to_stack(); // 2 3 4 * +
+    /// assert_eq!(value(&stack_order), Some(14.0));
+    /// assert_eq!(Tree::from_stack(&stack_order).unwrap(), tree);
+    /// ```
+    #[must_use]
+    pub fn to_stack(&self) -> Vec<u32> {
+        self.view().to_stack()
     }
 
     /// How many nodes the tree has: one at least.

@@ -4,6 +4,7 @@ use crate::layout;
 use crate::names::Letter;
 use crate::tree::judge;
 use crate::{Node, NotATree, Op, Payload, Tree};
+use sorbrudder_sys::Answer;
 use std::fmt;
 use std::hash::{Hash, Hasher};
 
@@ -140,6 +141,25 @@ impl<'w> TreeRef<'w> {
     /// ```
     pub fn to_tree(self) -> Tree {
         Tree::of_sound(self.words.to_vec())
+    }
+
+    /// The tree's words in stack order, each node's after those of its children, as [`Tree::to_stack`].
+    ///
+    /// ```
+    /// use sorbrudder::{Reader, Tokens};
+    ///
+    /// let list: Tokens = "!a".parse().unwrap();
+    /// let mut reader = Reader::new();
+    /// let tree = reader.read_words(&list.words(), 6).unwrap();
+    /// assert_eq!(tree.to_stack(), [tree.node(1).unwrap().words(), tree.root().words()].concat());
+    /// ```
+    #[must_use]
+    pub fn to_stack(self) -> Vec<u32> {
+        let mut stack = vec![0; self.words.len()];
+        let answer = sorbrudder_sys::export(self.words, &mut stack);
+        // Neither 12 nor 25: the words are one tree, and there is room for them.
+        assert_eq!(answer, Answer::Filled(self.len()), "a tree is exported");
+        stack
     }
 
     /// The tree with every bracket taken away that only groups, as [`Tree::without_brackets`].

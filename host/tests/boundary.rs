@@ -112,6 +112,23 @@ fn deep_trees_are_written_and_lifted_on_128_kib_of_stack() {
 }
 
 #[test]
+fn the_largest_trees_are_put_into_stack_order_and_back_on_64_kib_of_stack() {
+    let bare = |op| Token::bare(op, Span::default());
+    let (leaf, not) = ((bare(Op::FLOAT), 0), (bare(Op::LOGICAL_NOT), 1));
+    let deep = [vec![not; 12_287], vec![leaf]].concat();
+    let flat = [vec![(bare(Op::QUERY_FUNCTION), 12_287)], vec![leaf; 12_287]].concat();
+    let sums = [vec![(bare(Op::ADD), 2); 6_143], vec![leaf; 6_144]].concat();
+    on_stack(64, || {
+        for nodes in [deep, flat, sums] {
+            let tree = Tree::from_nodes(nodes).expect("one tree");
+            let stack = tree.to_stack();
+            assert_eq!(stack[stack.len() - 7..], *tree.root().words());
+            assert_eq!(Tree::from_stack(&stack), Ok(tree));
+        }
+    });
+}
+
+#[test]
 fn lists_that_are_too_long_are_turned_back() {
     let mut reader = Reader::new();
     let token = Token::bare(Op::FLOAT, Span::default());
@@ -245,10 +262,34 @@ fn every_refusal_of_the_writer_is_mapped_or_cannot_happen() {
 }
 
 #[test]
+fn every_refusal_of_stack_order_is_mapped_or_cannot_happen() {
+    // 12 and 25: a tree's words are one tree, and the output is as long as they are. 24: words only.
+    let import = |words: &[u32]| Tree::from_stack(words).map_err(|why| why.word);
+    let bare = |op| Token::bare(op, Span::default());
+    let leaf = Tree::from_nodes([(bare(Op::FLOAT), 0)]).expect("a leaf");
+    let leaf = leaf.words();
+    assert_eq!(import(&[]).err(), Some(0));
+    assert_eq!(import(&[0]).err(), Some(0));
+    assert_eq!(import(&leaf[..6]).err(), Some(6));
+    assert_eq!(import(&leaf.repeat(2)).err(), Some(14));
+    let not = Tree::from_nodes([(bare(Op::LOGICAL_NOT), 1), (bare(Op::FLOAT), 0)]);
+    let not = not.expect("two nodes");
+    assert_eq!(import(not.words()).err(), Some(Token::WORDS));
+    assert_eq!(import(&not.to_stack()), Ok(not));
+    // Of many leaves the 12,288th would need a 12,289th node above it, however many follow.
+    for leaves in [12_288, 12_289, 300_000] {
+        let word = Tree::NODE_WORDS * 12_287 + Token::WORDS;
+        assert_eq!(import(&leaf.repeat(leaves)).err(), Some(word));
+    }
+    let why = Tree::from_stack(&[0]).expect_err("no tree");
+    assert_eq!(why.to_string(), "the words are not one tree: word 0");
+}
+
+#[test]
 fn nothing_panics_on_words_of_any_kind() {
     let mut rng = Rng(7);
     let (mut reader, mut writer) = (Reader::new(), Writer::new());
-    let mut trees = 0;
+    let (mut trees, mut stacks) = (0, 0);
     for round in 0..60_000 {
         let len = rng.below(if round % 100 == 0 { 3_000 } else { 60 });
         let kinds = 5 + rng.below(3);
@@ -270,6 +311,10 @@ fn nothing_panics_on_words_of_any_kind() {
         let version = rng.bits() as i16;
         let _ = reader.parse_words(&words, version, used, rng.bits() >> 34);
         let _ = writer.write_words(&words);
+        if let Ok(tree) = Tree::from_stack(&words) {
+            stacks += 1;
+            assert_eq!(tree.to_stack(), words);
+        }
         if let Ok(tree) = Tree::from_words(words) {
             trees += 1;
             assert_eq!(
@@ -277,7 +322,8 @@ fn nothing_panics_on_words_of_any_kind() {
                 1
             );
             let _ = (tree.to_string(), tree.without_brackets());
+            assert_eq!(Tree::from_stack(&tree.to_stack()), Ok(tree));
         }
     }
-    assert!(trees > 50, "only {trees} trees");
+    assert!(trees > 50 && stacks > 50, "{trees} trees, {stacks} stacks");
 }

@@ -1,4 +1,5 @@
-//! C programs that include the header and link the library: one reads a list, one holds every number of the header to the crate's.
+//! C programs that include the header and link the library: one reads a list, one puts a tree into stack order and runs it there, one
+//! holds every number of the header to the crate's.
 
 mod common;
 
@@ -33,16 +34,15 @@ fn c_compiler() -> String {
     std::env::var("CC").unwrap_or_else(|_| "cc".to_string())
 }
 
-fn read_one() -> PathBuf {
-    Path::new(env!("CARGO_MANIFEST_DIR")).join("tests/c/read_one.c")
+/// A program of tests/c, and the lines that it prints.
+struct Program {
+    name: &'static str,
+    lines: &'static [&'static str],
 }
 
-/// Runs the program that reads one list, and looks at what it prints.
-fn reads_one(program: &Path) {
-    let run = Command::new(program).output().expect("the program runs");
-    let printed = String::from_utf8_lossy(&run.stdout);
-    assert!(run.status.success(), "{}, after {printed}", run.status);
-    let lines = [
+const READ_ONE: Program = Program {
+    name: "read_one",
+    lines: &[
         "tree 4",
         "4 1 0 1 closes 5",
         "9 2 2 3 closes 3",
@@ -52,27 +52,63 @@ fn reads_one(program: &Path) {
         "refused 8 0",
         "refused 3 0",
         "refused 12 27",
-    ];
-    assert_eq!(printed.lines().collect::<Vec<_>>(), lines);
+    ],
+};
+
+const STACK_ORDER: Program = Program {
+    name: "stack_order",
+    lines: &[
+        "nodes 5: 61 61 61 31 9",
+        "value 14",
+        "refused 12 34",
+        "refused 24 5",
+        "refused 25 0",
+        "refused 25 0",
+    ],
+};
+
+impl Program {
+    fn runs_in_c(&self) {
+        self.runs(&c_compiler(), &["-std=c11"], self.name);
+    }
+
+    fn runs_in_cpp(&self) {
+        let is_there = Command::new("c++").arg("--version").output().is_ok();
+        if is_there {
+            let language = ["-std=c++17", "-x", "c++"];
+            self.runs("c++", &language, &format!("{}_cpp", self.name));
+        }
+    }
+
+    /// Compiles the program, runs it and looks at what it prints.
+    fn runs(&self, compiler: &str, language: &[&str], name: &str) {
+        let source = Path::new(env!("CARGO_MANIFEST_DIR")).join(format!("tests/c/{}.c", self.name));
+        let program = compiled(compiler, language, &source, name);
+        let run = Command::new(program).output().expect("the program runs");
+        let printed = String::from_utf8_lossy(&run.stdout);
+        assert!(run.status.success(), "{}, after {printed}", run.status);
+        assert_eq!(printed.lines().collect::<Vec<_>>(), self.lines);
+    }
 }
 
 #[test]
 fn a_c_program_reads_one_list() {
-    reads_one(&compiled(
-        &c_compiler(),
-        &["-std=c11"],
-        &read_one(),
-        "read_one",
-    ));
+    READ_ONE.runs_in_c();
 }
 
 #[test]
 fn a_cpp_program_reads_one_list() {
-    let is_there = Command::new("c++").arg("--version").output().is_ok();
-    if is_there {
-        let language = ["-std=c++17", "-x", "c++"];
-        reads_one(&compiled("c++", &language, &read_one(), "read_one_cpp"));
-    }
+    READ_ONE.runs_in_cpp();
+}
+
+#[test]
+fn a_c_program_runs_a_tree_in_stack_order() {
+    STACK_ORDER.runs_in_c();
+}
+
+#[test]
+fn a_cpp_program_runs_a_tree_in_stack_order() {
+    STACK_ORDER.runs_in_cpp();
 }
 
 /// A name of a Rust variant as the header writes it: `NotWhole` as `NOT_WHOLE`.

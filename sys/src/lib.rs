@@ -1,7 +1,7 @@
-//! The two entries of the static library by the C convention, as include/sorbrudder.h declares them: a slice is a pointer and a length,
-//! and an answer is one number. This crate holds the declarations, a safe function over each, and the number taken apart, once for all
-//! Rust of the project. Where `SORBRUDDER_BEFORE` names another archive when this is built, its entries are in `before`, for timing two
-//! libraries in one run.
+//! The entries of the static library by the C convention, as include/sorbrudder.h declares them: a slice is a pointer and a length, and an
+//! answer is one number. This crate holds the declarations, a safe function over each, and the number taken apart, once for all Rust of
+//! the project. Where `SORBRUDDER_BEFORE` names another archive when this is built, its reading and writing entries are in `before`, for
+//! timing two libraries in one run.
 
 #![warn(missing_docs)]
 
@@ -51,6 +51,18 @@ unsafe extern "C" {
         list: *mut u32,
         list_words: usize,
     ) -> u64;
+    fn sorbrudder_export(
+        tree: *const u32,
+        tree_words: usize,
+        output: *mut u32,
+        output_words: usize,
+    ) -> u64;
+    fn sorbrudder_import(
+        stack: *const u32,
+        stack_words: usize,
+        output: *mut u32,
+        output_words: usize,
+    ) -> u64;
 }
 
 /// The parse entry, of this library or of the one before it.
@@ -69,17 +81,18 @@ type ParseEntry = unsafe extern "C" fn(
     u64,
 ) -> u64;
 
-/// The write entry, of this library or of the one before it.
-type WriteEntry = unsafe extern "C" fn(*const u32, usize, *mut u32, usize) -> u64;
+/// An entry that makes words of words: the write entry, of this library or of the one before it, and export and import.
+type WordsEntry = unsafe extern "C" fn(*const u32, usize, *mut u32, usize) -> u64;
 
 /// What an entry answers.
 #[derive(Copy, Clone, Debug, PartialEq, Eq)]
 pub enum Answer {
     /// So many nodes of a tree, or so many tokens of a list, fill the lent slice's front.
     Filled(usize),
-    /// So many message records fill the message slice's front. The write entry never answers this.
+    /// So many message records fill the message slice's front. Only the parse entry answers this.
     Messages(usize),
-    /// A refusal's number and place; no lent word was changed.
+    /// A refusal's number and place; no lent word was changed. Reading is refused with 1 to 11, writing with 12 to 15, export with 12 and
+    /// 25, import with 24 and 25.
     Refused(u32, usize),
 }
 
@@ -121,7 +134,19 @@ pub fn parse(lent: Lent<'_>, source_len: u64, version: i16, used: (u64, u64)) ->
 /// Writes a tree's words as a list's.
 #[inline]
 pub fn write(tree: &[u32], list: &mut [u32]) -> Answer {
-    write_by(sorbrudder_write, tree, list)
+    words_by(sorbrudder_write, tree, list)
+}
+
+/// Puts a tree's words into stack order, each node's after those of its children in order, in the front of `output`.
+#[inline]
+pub fn export(tree: &[u32], output: &mut [u32]) -> Answer {
+    words_by(sorbrudder_export, tree, output)
+}
+
+/// Puts a tree's words in stack order back into tree order, parent first, in the front of `output`.
+#[inline]
+pub fn import(stack: &[u32], output: &mut [u32]) -> Answer {
+    words_by(sorbrudder_import, stack, output)
 }
 
 #[inline]
@@ -152,9 +177,16 @@ fn parse_by(
 }
 
 #[inline]
-fn write_by(entry: WriteEntry, tree: &[u32], list: &mut [u32]) -> Answer {
+fn words_by(entry: WordsEntry, words: &[u32], output: &mut [u32]) -> Answer {
     // SAFETY: both slices are passed with their own lengths, the borrows keep them apart, and the entry keeps neither.
-    Answer::of(unsafe { entry(tree.as_ptr(), tree.len(), list.as_mut_ptr(), list.len()) })
+    Answer::of(unsafe {
+        entry(
+            words.as_ptr(),
+            words.len(),
+            output.as_mut_ptr(),
+            output.len(),
+        )
+    })
 }
 
 /// The library before this one, as `build.rs` renamed its entries. A node may have fewer words in it.
@@ -197,6 +229,6 @@ pub mod before {
     /// Writes a tree's words as the library before did.
     #[inline]
     pub fn write(tree: &[u32], list: &mut [u32]) -> Answer {
-        super::write_by(renamed::sorbrudder_before_write, tree, list)
+        super::words_by(renamed::sorbrudder_before_write, tree, list)
     }
 }

@@ -1,9 +1,10 @@
 //! What reading and writing take beside the Rust (`make bench`). Reading is timed through the C convention, with every
 //! check, the emission and the clearing of a work buffer of exactly 64 words per token plus 64, into buffers that are
 //! reused; the Rust is timed building its list, grouping it and dropping the tree. Writing is timed beside a plain Rust
-//! writer over a tree of `Vec`s that checks nothing. Rounds of batches go over all workloads in turn, and the least batch
-//! counts. The last line is `least ratio R, mean ratio M, greatest growth G`, of reading. Where `SORBRUDDER_BEFORE` names the
-//! folder of another archive when this is built, that library is timed in the same rounds (docs/notes/bench.md).
+//! writer over a tree of `Vec`s that checks nothing, export and import beside a plain Rust function that checks nothing
+//! either. Rounds of batches go over all workloads in turn, and the least batch counts. The last line is `least ratio R, mean
+//! ratio M, greatest growth G`, of reading. Where `SORBRUDDER_BEFORE` names the folder of another archive when this is built,
+//! that library is timed in the same rounds (docs/notes/bench.md).
 //!
 //!     bench [ROUNDS]
 
@@ -22,13 +23,15 @@ fn main() {
 #[cfg(library)]
 mod timed {
     use compare::library::{Given, Library};
-    use compare::workloads::{self, SAME_AS_ONE, SCRIPT, Workload};
-    use oracle::words::{Case, NODE_WORDS, TOKEN_WORDS, Token, list_words, low};
+    use compare::reordering::Way;
+    use compare::stack_model::Reordered;
+    use compare::workloads::{self, SAME_AS_ONE, SCRIPT, Trees, Workload};
+    use oracle::words::{Case, NODE_WORDS, TOKEN_WORDS, Token, list_words, low, tree_words};
     use sorbrudder_sys::Answer;
     use std::hint::black_box;
     use std::time::Instant;
 
-    /// Batches of one side: nanoseconds per token.
+    /// Batches of one side: nanoseconds per token, or per node.
     #[derive(Default)]
     struct Batches(Vec<f64>);
 
@@ -46,7 +49,7 @@ mod timed {
                 .map_or(0.0, |middle| middle / self.least() - 1.0)
         }
 
-        /// Times `repeats` runs of `run` over `tokens` tokens, after one that brings what they use into the caches again.
+        /// Times `repeats` runs of `run` over `tokens` tokens or nodes, after one that brings what they use into the caches again.
         fn add(&mut self, repeats: usize, tokens: usize, mut run: impl FnMut()) {
             run();
             let since = Instant::now();
@@ -77,6 +80,8 @@ mod timed {
     struct Line {
         name: String,
         tokens: usize,
+        /// What `tokens` counts.
+        unit: &'static str,
         ours: Batches,
         before: Batches,
         rust: Batches,
@@ -87,9 +92,17 @@ mod timed {
             Self {
                 name: name.to_string(),
                 tokens,
+                unit: "tokens",
                 ours: Batches::default(),
                 before: Batches::default(),
                 rust: Batches::default(),
+            }
+        }
+
+        fn of_nodes(name: &str, nodes: usize) -> Self {
+            Self {
+                unit: "nodes",
+                ..Self::new(name, nodes)
             }
         }
 
@@ -111,7 +124,8 @@ mod timed {
 
         fn print(&self) {
             let (ours, before, rust) = (self.ours.least(), self.before.least(), self.rust.least());
-            print!("{:28} {:5} tokens  {ours:6.1} ns", self.name, self.tokens);
+            let (name, tokens, unit) = (&self.name, self.tokens, self.unit);
+            print!("{name:28} {tokens:5} {unit}  {ours:6.1} ns");
             if before.is_finite() {
                 let times = self.beside_before();
                 print!("  before {before:6.1} ns  times {times:4.2}");
@@ -434,10 +448,109 @@ mod timed {
         }
     }
 
+    /// About how many nodes a batch of export or import goes over.
+    const NODES: usize = 240_000;
+
+    /// A plain Rust function for both, which checks nothing: export takes the nodes from the first on and fills the output from its
+    /// front, import does both from the other end. A node's words go out when those of all its children have.
+    fn plain(way: Way, words: &[u32], output: &mut [u32], open: &mut Vec<(usize, u32)>) {
+        let (nodes, _) = words.as_chunks::<NODE_WORDS>();
+        let (output, _) = output.as_chunks_mut::<NODE_WORDS>();
+        let at = |count: usize| match way {
+            Way::Export => count,
+            Way::Import => nodes.len() - 1 - count,
+        };
+        let mut out = 0;
+        for number in (0..nodes.len()).map(at) {
+            open.push((number, low(nodes[number][TOKEN_WORDS])));
+            while let Some(&(done, 0)) = open.last() {
+                open.pop();
+                output[at(out)] = nodes[done];
+                out += 1;
+                if let Some((_, left)) = open.last_mut() {
+                    *left -= 1;
+                }
+            }
+        }
+    }
+
+    /// Export or import of trees, into outputs that are as long as what they take.
+    struct Reordering {
+        line: Line,
+        is_random: bool,
+        /// All nodes of the trees together.
+        nodes: usize,
+        way: Way,
+        calls: Vec<Vec<u32>>,
+        output: Vec<u32>,
+        /// The plain function's open nodes.
+        open: Vec<(usize, u32)>,
+    }
+
+    impl Reordering {
+        fn both(trees: &Trees) -> [Self; 2] {
+            let words: Vec<Vec<u32>> = trees.trees.iter().map(|tree| tree_words(tree)).collect();
+            let export = Self::new(trees, Way::Export, words);
+            let stacks = export.calls.iter().map(|words| export.plain_of(words));
+            let import = Self::new(trees, Way::Import, stacks.collect());
+            [export, import]
+        }
+
+        fn new(trees: &Trees, way: Way, calls: Vec<Vec<u32>>) -> Self {
+            let name = trees.name;
+            let nodes = calls.iter().map(|words| words.len() / NODE_WORDS);
+            let (sum, most) = (nodes.clone().sum(), nodes.max().unwrap_or(0));
+            let verb = match way {
+                Way::Export => "export",
+                Way::Import => "import",
+            };
+            let reordering = Self {
+                line: Line::of_nodes(&format!("{verb}, {name}"), most),
+                is_random: trees.is_random,
+                nodes: sum,
+                way,
+                calls,
+                output: vec![0; NODE_WORDS * most],
+                open: Vec::new(),
+            };
+            for words in &reordering.calls {
+                let mut output = vec![0; words.len()];
+                let answer = way.library(words, &mut output);
+                assert_eq!(answer, Reordered::Nodes(words.len() / NODE_WORDS), "{name}");
+                assert!(output == reordering.plain_of(words), "{name}: two orders");
+            }
+            reordering
+        }
+
+        /// The words in the other order, by the plain function.
+        fn plain_of(&self, words: &[u32]) -> Vec<u32> {
+            let mut output = vec![0; words.len()];
+            plain(self.way, words, &mut output, &mut Vec::new());
+            output
+        }
+
+        fn round(&mut self) {
+            let repeats = NODES.div_ceil(self.nodes);
+            let (way, output, open) = (self.way, &mut self.output, &mut self.open);
+            self.line.ours.add(repeats, self.nodes, || {
+                for words in black_box(&self.calls) {
+                    black_box(way.library(words, &mut output[..words.len()]));
+                }
+            });
+            self.line.rust.add(repeats, self.nodes, || {
+                for words in black_box(&self.calls) {
+                    plain(way, words, &mut output[..words.len()], open);
+                    black_box(&output);
+                }
+            });
+        }
+    }
+
     const FEW: usize = 512;
     const MANY: usize = 4_096;
+    const MOST_NODES: usize = 12_288;
 
-    /// By how much a token takes longer at 4,096 tokens than at 512, a line for each; the greatest.
+    /// By how much a token takes longer at 4,096 tokens than at 512, or a node at 12,288, a line for each; the greatest.
     fn growth<'l>(
         many: impl Iterator<Item = &'l Line>,
         few: impl Iterator<Item = &'l Line>,
@@ -446,9 +559,9 @@ mod timed {
         for (many, few) in many.zip(few) {
             let (from, to) = (few.ours.least(), many.ours.least());
             let growth = to / from;
-            let name = &many.name;
+            let (name, unit) = (&many.name, many.unit);
             print!(
-                "growth of {name:28} {from:6.1} ns at {} tokens, {to:6.1} ns at {}: {growth:.2}",
+                "growth of {name:28} {from:6.1} ns at {} {unit}, {to:6.1} ns at {}: {growth:.2}",
                 few.tokens, many.tokens
             );
             if few.before.least().is_finite() {
@@ -493,6 +606,8 @@ mod timed {
         few: Vec<Reading>,
         written: Vec<Writing>,
         written_few: Vec<Writing>,
+        reordered: Vec<Reordering>,
+        reordered_few: Vec<Reordering>,
     }
 
     impl Timed {
@@ -518,6 +633,14 @@ mod timed {
                 few: read(workloads::long(FEW)),
                 written: write(MANY),
                 written_few: write(FEW),
+                reordered: workloads::trees(MOST_NODES)
+                    .iter()
+                    .flat_map(Reordering::both)
+                    .collect(),
+                reordered_few: workloads::trees(FEW)
+                    .iter()
+                    .flat_map(Reordering::both)
+                    .collect(),
             }
         }
 
@@ -527,6 +650,8 @@ mod timed {
             readings.for_each(|reading| reading.round(round));
             let writings = self.written.iter_mut().chain(&mut self.written_few);
             writings.for_each(|writing| writing.round(round));
+            let reordered = self.reordered.iter_mut().chain(&mut self.reordered_few);
+            reordered.for_each(Reordering::round);
         }
 
         fn read(&self) -> impl Iterator<Item = &Line> {
@@ -563,6 +688,28 @@ mod timed {
             self.print_script();
         }
 
+        /// All exports and imports, of few nodes too.
+        fn reorderings(&self) -> impl Iterator<Item = &Reordering> {
+            self.reordered_few.iter().chain(&self.reordered)
+        }
+
+        fn print_stack_order(&self) {
+            println!("Export and import, nanoseconds per node:");
+            let lines = || self.reorderings().map(|reordering| &reordering.line);
+            lines().for_each(Line::print);
+            let few = self.reordered_few.iter().map(|few| &few.line);
+            let grown = growth(self.reordered.iter().map(|many| &many.line), few);
+            let most = |is_random: bool| {
+                let some = self.reorderings().filter(|one| one.is_random == is_random);
+                some.map(|one| one.line.ours.least()).fold(0.0, f64::max)
+            };
+            let (shapes, random) = (most(false), most(true));
+            let (least, mean) = ratios(lines());
+            println!(
+                "stack order: at most {shapes:.1} ns a node, {random:.1} ns of random trees, least ratio {least:.2}, mean ratio {mean:.2}, greatest growth {grown:.2}"
+            );
+        }
+
         /// Says what a script takes beside the same tokens as one expression.
         fn print_script(&self) {
             let named = |name: &'static str| {
@@ -593,7 +740,8 @@ mod timed {
         fn print_noise(&self) {
             let lines = self
                 .read()
-                .chain(self.writings().map(|writing| &writing.line));
+                .chain(self.writings().map(|writing| &writing.line))
+                .chain(self.reorderings().map(|reordering| &reordering.line));
             let noise = lines.map(|line| line.ours.noise()).fold(0.0, f64::max);
             let percent = 100.0 * noise;
             println!("noise: the middle batch is at most {percent:.0} % above the least");
@@ -607,6 +755,7 @@ mod timed {
         }
         let greatest = timed.print_reading();
         timed.print_writing();
+        timed.print_stack_order();
         timed.print_noise();
         timed.print_beside_before();
         let (least, mean) = ratios(timed.read());

@@ -1,6 +1,6 @@
 //! The long comparison (`make compare`): reading through the C convention beside the Rust, writing trees beside the second
-//! writer, then reading, writing and reading again. The last line is `N lists, 0 differences`; a difference ends the run
-//! with a status that is not 0, after the smallest list that shows it.
+//! writer, export and import beside their model and each other, then reading, writing and reading again. The last line is `N
+//! lists, 0 differences`; a difference ends the run with a status that is not 0, after the smallest list that shows it.
 //!
 //!     compare [LISTS] [SEED]
 
@@ -47,7 +47,9 @@ mod run {
     use compare::matching::Matching;
     use compare::plain_trees;
     use compare::reading::Buffers;
+    use compare::reordering::{Way, reorder};
     use compare::rereading::{Lists, Reread, reread, write};
+    use compare::stack_model::{Reordered, on_deep_stack};
     use compare::writer_model::Written;
     use oracle::generate::Rng;
     use oracle::refusal::Call;
@@ -142,7 +144,7 @@ mod run {
         let shapes = &mut lens.into_iter().flat_map(calls::shapes);
         part("every shape, at 4, 5 and 6", shapes)?;
         part("every refusal at its limits", &mut calls::limits())?;
-        for part in [short_brackets, writing, expressions, scripts, short_scripts] {
+        for part in [short_brackets, writing, reordering, expressions, scripts, short_scripts] {
             let written = part(lists as u64 / 5, seed);
             let (Ok(count) | Err((count, _))) = written;
             done += count;
@@ -197,6 +199,51 @@ mod run {
             20 * nodes.len()
         };
         write(rng, &words, room)
+    }
+
+    /// Exports `count` trees of any shape and imports as many, half of them damaged, by the library and by the model.
+    fn reordering(count: u64, seed: u64) -> Result<u64, (u64, String)> {
+        let mut progress = Progress::new("trees exported, and imported");
+        let mut rng = Rng::new(seed ^ 0x57AC);
+        let (mut nodes, mut refused) = (0, 0);
+        on_deep_stack(|| {
+            while progress.done < count {
+                for way in Way::BOTH {
+                    let answer = one_order(&mut rng, way).map_err(|why| (progress.done, why))?;
+                    match answer {
+                        Reordered::Nodes(count) => nodes += count,
+                        Reordered::Refused(..) => refused += 1,
+                    }
+                    progress.one_more();
+                }
+            }
+            let done = progress.done;
+            progress.end(&format!("{nodes} nodes, {refused} turned back"));
+            Ok(done)
+        })
+    }
+
+    fn one_order(rng: &mut Rng, way: Way) -> Result<Reordered, String> {
+        let most = match rng.below(1_000) {
+            0 => 12_288,
+            1..20 => 300,
+            _ => 24,
+        };
+        let size = 1 + rng.below(most);
+        let tree = tree_words(&plain_trees::any_shape(rng, size));
+        let mut words = match way {
+            Way::Export => tree,
+            Way::Import => Way::Export.model(&tree, tree.len()).1,
+        };
+        if rng.chance(50) {
+            words = plain_trees::damaged(rng, words);
+        }
+        let room = match rng.below(10) {
+            0 => rng.below(words.len() + 1),
+            1..5 => words.len() + rng.below(9),
+            _ => words.len(),
+        };
+        reorder(rng, way, &words, room)
     }
 
     fn reading(

@@ -23,6 +23,12 @@ module _ {A : Type 0} where
   unfolding must
   must-false b a e = rw e
 
+  -- What a test answers is its answer.
+  pub must-some : (b : Bool) (a c : A) → must b a ≡ some c → a ≡ c
+  unfolding must
+  must-some true a c e = some-none (sym e)
+  must-some false a c e = cc
+
   -- No check answers: not the first, and none after it.
   pub first-none : (o : Option A) (later : List (Option A)) → firstOf (o ∷ later) ≡ none → (o ≡ none) × (firstOf later ≡ none)
   unfolding firstOf
@@ -58,6 +64,14 @@ module _ {A : Type 0} where
   pub after-none : (o last : Option A) → o ≡ none → firstOf (o ∷ last ∷ []) ≡ last
   unfolding firstOf
   after-none o last e = rw e (last-one last)
+
+  -- What is answered by a test or, where it holds, by the check after it.
+  pub one-of : {Q : Type 0} (b : Bool) (a c : A) (last : Option A) → firstOf (must b a ∷ last ∷ []) ≡ some c → (b ≡ false → a ≡ c → Q)
+      → (b ≡ true → last ≡ some c → Q)
+      → Q
+  unfolding firstOf must
+  one-of true a c last e first later = later refl (sym (last-one last) ∙ e)
+  one-of false a c last e first later = first refl (cc)
 
   -- An answer stays where it stays of the last check.
   pub later-found : (o x y : Option A) (a : A) → (x ≡ some a → y ≡ some a) → firstOf (o ∷ x ∷ []) ≡ some a → firstOf (o ∷ y ∷ []) ≡ some a

@@ -1,7 +1,9 @@
 -- Laws on lists of trees that the definition's passes use: turning round, and putting one list before another (`followedBy`, a definition
 -- of specs/Matching that is passed on from here).
+use Prim.Native.Nat.{_+_}
 use mathlib.Core.Path.{_≡_, refl, ap, _∙_}
-use Rattle.molang.specs.Forest.{Token, Forest, nil, node, turnedOnto, inOrder}
+use native.Mathlib.Omega.{arith}
+use Rattle.molang.specs.Forest.{Token, Forest, nil, node, turnedOnto, inOrder, count, size}
 unfoldable pub use Rattle.molang.specs.Matching.{followedBy}
 
 pub followedBy-nil : (f : Forest) → followedBy f nil ≡ f
@@ -44,6 +46,25 @@ turned-twice (node k cs f) o r = turned-twice f (node k cs o) r
 pub inOrder-turned : (f : Forest) → inOrder (turnedOnto f nil) ≡ f
 unfolding inOrder turnedOnto
 inOrder-turned f = rw (turned-twice f nil nil) (followedBy-nil f)
+
+-- Turning round keeps the nodes and the trees.
+pub turned-size : (a b : Forest) → size (turnedOnto a b) ≡ size a + size b
+unfolding turnedOnto size
+turned-size nil b = omega arith
+turned-size (node k cs a) b = let e = turned-size a (node k cs b) in e ∙ omega arith
+
+pub turned-count : (a b : Forest) → count (turnedOnto a b) ≡ count a + count b
+unfolding turnedOnto count
+turned-count nil b = omega arith
+turned-count (node k cs a) b = let e = turned-count a (node k cs b) in e ∙ omega arith
+
+pub reversed-size : (f : Forest) → size (inOrder f) ≡ size f
+unfolding inOrder size
+reversed-size f = let e = turned-size f nil in omega arith
+
+pub reversed-count : (f : Forest) → count (inOrder f) ≡ count f
+unfolding inOrder count
+reversed-count f = let e = turned-count f nil in omega arith
 
 -- F puts some trees before a list.
 abbrev pub Turns : (Forest → Forest) → Type 0

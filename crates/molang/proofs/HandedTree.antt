@@ -13,6 +13,7 @@ use borrow.Author.Tests.{leb-true, leb-false, le-leb, lt-leb}
 use Rattle.molang.specs.Forest.{Token, Forest, nil, node, size}
 use Rattle.molang.specs.Read.{Answer, tree, messages}
 use Rattle.molang.specs.Words.{Refusal, row, withNumber, operatorField, listWords, treeWords}
+use Rattle.molang.specs.Legal.{LegalTrees, legalTree}
 use Rattle.molang.specs.Parse.{Call, mostTokens, refusal, reading, aTree, told, answered, inFront, treeIn, treeAfter}
 use Rattle.molang.specs.FirstFailure.{must, firstOf}
 use Rattle.molang.specs.Reread.{bracketless}
@@ -22,7 +23,7 @@ use Rattle.molang.specs.WriteEntry.{treeFault, treesOf, WriteCall, fores
 use Rattle.molang.specs.WriteEntry.{writeTold, writeAnswered, listIn, listAfter}
 use Rattle.molang.proofs.FirstFailure.{first-none, passed, withNumber-none, after-none}
 use Rattle.molang.proofs.Bounds.{treeWords-length}
-use Rattle.molang.proofs.Words.{LegalTokens, LegalTrees, legalTree, AtEnds, tokens-end}
+use Rattle.molang.proofs.Words.{LegalTokens, AtEnds, tokens-end}
 use Rattle.molang.proofs.Legal.{read-legal, read-back, read-unfaulted}
 use Rattle.molang.proofs.ListWords.{listWords-length, writtenTree-legal}
 use Rattle.molang.proofs.Accepted.{call-accepted}
@@ -34,7 +35,7 @@ pub record Parsed (c : Call) (k : Token) (cs : Forest) : Type 0 where
   pub reads : reading c ≡ tree k cs
 
 -- The words in front of a buffer are found there.
-front-words : (ws buffer : List ℕ) (n : ℕ) → length ws ≡ n → take n (inFront ws buffer) ≡ ws
+pub front-words : (ws buffer : List ℕ) (n : ℕ) → length ws ≡ n → take n (inFront ws buffer) ≡ ws
 unfolding inFront
 front-words ws buffer n h = ap (λ (m : ℕ). take m (ws ++ drop (length ws) buffer)) (sym h) ∙ take-append-seam ws (drop (length ws) buffer)
 

@@ -11,12 +11,12 @@ use Rattle.molang.specs.Operator
 use Rattle.molang.specs.Forest.{Token, Forest, nil, node, renamed, bare, closedBy, leaves, size}
 use Rattle.molang.specs.Read.{Answer, read}
 use Rattle.molang.specs.Words.{treeWords, operatorField}
-use Rattle.molang.specs.Legal.{Legal}
+use Rattle.molang.specs.Legal.{Legal, LegalTrees, noTrees, legalTree}
 use Rattle.molang.specs.Parse.{mostTokens}
 use Rattle.molang.specs.WriteEntry.{treeFault, treesOf}
 use Rattle.molang.proofs.Trees.{count-size}
 use Rattle.molang.proofs.Bounds.{read-tree}
-use Rattle.molang.proofs.Words.{LegalTokens, noTokens, token, LegalTrees, noTrees, legalTree, trees-back}
+use Rattle.molang.proofs.Words.{LegalTokens, noTokens, token, trees-back}
 use Rattle.molang.proofs.TreeWords.{tree-unfaulted}
 use Rattle.molang.proofs.Every.{Every, nowhere, at, Renewable, read-every}
 

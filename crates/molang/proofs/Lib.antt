@@ -22,6 +22,8 @@ pub mod NoFrames
 pub mod Bounds
 pub mod FirstFailure
 pub mod Words
+pub mod Rows
+pub mod NodeWalk
 pub mod TreeWords
 pub mod Every
 pub mod Legal
@@ -39,3 +41,6 @@ pub mod HandedTree
 pub mod Entries
 pub mod Reread
 pub mod LineLaws
+pub mod StackWords
+pub mod Places
+pub mod StackOrder

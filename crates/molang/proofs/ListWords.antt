@@ -15,13 +15,13 @@ use Rattle.molang.specs.Forest.{Token, Forest, nil, node, closedBy, uncl
 use Rattle.molang.specs.Read.{lowestStart, highestEnd, uses}
 use Rattle.molang.specs.Words.{word, tokenWords, nodeWordsOf, listWords, treeWords, Field, operatorField, startField, endField}
 use Rattle.molang.specs.Words.{upperField, lowerField, wordFault, lowFault, variantAfter, nextInToken, withPlace, wordsRefusal}
-use Rattle.molang.specs.Legal.{Legal}
+use Rattle.molang.specs.Legal.{Legal, LegalTrees, noTrees, legalTree}
 use Rattle.molang.specs.Write.{spanning, openerFor, closerFor, closerOf, standsAlone, standsLeft, standsRight, operandTokens, written}
 use Rattle.molang.specs.Write.{writtenStatements, writtenTree}
 use Rattle.molang.specs.WriteEntry.{nextInNode, Shape, shapeAfter, continues, treeFault}
 use Rattle.molang.proofs.Trees.{either}
 use Rattle.molang.proofs.FirstFailure.{first-none, passed, after-none}
-use Rattle.molang.proofs.Words.{LegalTokens, noTokens, token, LegalTrees, noTrees, legalTree}
+use Rattle.molang.proofs.Words.{LegalTokens, noTokens, token}
 use Rattle.molang.proofs.TreeWords.{tree-unfaulted}
 use Rattle.molang.proofs.Legal.{legal-bare}
 use Rattle.molang.proofs.Writing.{written-none, written-one, written-two, written-more}

@@ -12,7 +12,7 @@ use Rattle.molang.specs.Forest.{Token, Forest, nil, node, count, closedB
 use Rattle.molang.specs.Words.{word, kindOf, lowOf, tokenWords, tokenOf, nodeWordsOf, nodeOf, tokensOf, listWords, treeWords, Field}
 use Rattle.molang.specs.Words.{operatorField, startField, endField, upperField, lowerField, fieldKind, lowFault, wordFault, variantAfter}
 use Rattle.molang.specs.Words.{nextInToken, wordsRefusal}
-use Rattle.molang.specs.Legal.{Legal}
+use Rattle.molang.specs.Legal.{Legal, LegalTrees, noTrees, legalTree}
 use Rattle.molang.specs.WriteEntry.{firstTrees, otherTrees, treesOf}
 use Rattle.molang.proofs.Trees.{decided}
 use Rattle.molang.proofs.FirstFailure.{must-none, first-none, passed, withPlace-none}
@@ -25,10 +25,6 @@ pub data LegalTokens : List Token → Type 0 where
 abbrev pub AtEnds : List Token → Type 0
 AtEnds [] = Unit {0}
 AtEnds (k ∷ ks) = (k .close ≡ k .end) × AtEnds ks
-
-pub data LegalTrees : Forest → Type 0 where
-  noTrees : LegalTrees nil
-  legalTree : {k : Token} {cs rest : Forest} → Legal k → count cs < 2 ^ 14 → LegalTrees cs → LegalTrees rest → LegalTrees (node k cs rest)
 
 pub low-word : (kind low : ℕ) → low < 2 ^ 29 → lowOf (word kind low) ≡ low
 unfolding lowOf word
@@ -81,7 +77,7 @@ tokens-end (a ∷ b ∷ c ∷ d ∷ []) = tt
 tokens-end (a ∷ b ∷ c ∷ d ∷ e ∷ ws) = (refl, tokens-end ws)
 
 -- A node's label is read back from its words.
-node-back : (k : Token) → Legal k
+pub node-back : (k : Token) → Legal k
     → nodeOf (word 1 (k .variant * 2 ^ 8 + k .op)) (word 2 (k .start)) (word 3 (k .end)) (word 4 (k .value / 2 ^ 16))
     (word 5 (k .value % 2 ^ 16)) (word 7 (k .close)) ≡ k
 unfolding nodeOf unclosed closedBy
@@ -168,12 +164,12 @@ pub record FiveLegal (a b c d e : ℕ) : Type 0 where
   upper : Half (lowOf a / 2 ^ 8 % 2 ^ 4) (lowOf d)
   lower : Half (lowOf a / 2 ^ 8 % 2 ^ 4) (lowOf e)
 
-low-bound : (w : ℕ) → lowOf w < 2 ^ 29
+pub low-bound : (w : ℕ) → lowOf w < 2 ^ 29
 unfolding lowOf
 low-bound w = omega arith
 
 -- A word is its kind and its low bits.
-word-back : (kind w : ℕ) → kindOf w ≡ kind → word kind (lowOf w) ≡ w
+pub word-back : (kind w : ℕ) → kindOf w ≡ kind → word kind (lowOf w) ≡ w
 unfolding kindOf lowOf word
 word-back kind w h = omega arith
 

@@ -1,11 +1,9 @@
 -- Laws of what is left of a pass: at its beginning it is the whole pass (`pass-begins`), a list has the same nodes in reading order
 -- (`reading-size`), and a failure goes through every list that waits (`unwound-fail`).
-use Prim.Native.Nat.{_+_}
 use mathlib.Core.Path.{_≡_, refl, ap, sym, _∙_}
 use mathlib.Core.Bool.{Bool, false}
 use mathlib.Core.List.{List, [], _∷_}
 use mathlib.Core.Option.{none, some}
-use native.Mathlib.Omega.{arith}
 use Rattle.molang.specs.Forest.{Token, Forest, nil, node, turnedOnto, inOrder, count, size}
 use Rattle.molang.specs.Message.{Message, Result, ok, fail}
 use Rattle.molang.specs.Level.{through}
@@ -14,6 +12,7 @@ use Rattle.molang.specs.Order.{apply}
 use Rattle.molang.specs.Unary.{Unary, done, undone, unaryLeaf, unary, unaryPass, unaryNode, turned}
 use Rattle.molang.specs.Work.{Kind, calls, statements, arrays, unaryMinusAndNot, conditional, returns, binary, right, before}
 use Rattle.molang.specs.Work.{fromRight, work, begins, inReading, passOf, pass, andThen, Held, held, unwound}
+use Rattle.molang.proofs.Forests.{reversed-size, reversed-count}
 
 -- ---- the whole pass is what is left at its beginning
 
@@ -109,24 +108,6 @@ at-node pair k c cs r d left = into (unary none (node c cs r))
     into (done p s) = refl
 
 -- ---- sizes in reading order
-
-turned-size : (a b : Forest) → size (turnedOnto a b) ≡ size a + size b
-unfolding turnedOnto size
-turned-size nil b = omega arith
-turned-size (node k cs a) b = let e = turned-size a (node k cs b) in e ∙ omega arith
-
-turned-count : (a b : Forest) → count (turnedOnto a b) ≡ count a + count b
-unfolding turnedOnto count
-turned-count nil b = omega arith
-turned-count (node k cs a) b = let e = turned-count a (node k cs b) in e ∙ omega arith
-
-reversed-size : (f : Forest) → size (inOrder f) ≡ size f
-unfolding inOrder size
-reversed-size f = let e = turned-size f nil in omega arith
-
-reversed-count : (f : Forest) → count (inOrder f) ≡ count f
-unfolding inOrder count
-reversed-count f = let e = turned-count f nil in omega arith
 
 pub reading-size : (κ : Kind) (f : Forest) → size (inReading κ f) ≡ size f
 unfolding inReading

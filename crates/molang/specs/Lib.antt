@@ -22,4 +22,5 @@ pub mod Plain
 pub mod Write
 pub mod WriteEntry
 pub mod Reread
+pub mod StackOrder
 pub mod Lines

@@ -9,10 +9,11 @@ use Rattle.molang.specs.Forest.{Token, Forest, nil, node, count, size}
 use Rattle.molang.specs.Message.{messageRecord, record8}
 use Rattle.molang.specs.Read.{lowestStart, highestEnd, lastEnd, rooted}
 use Rattle.molang.specs.Words.{treeWords}
+use Rattle.molang.specs.Legal.{LegalTrees, noTrees, legalTree}
 use Rattle.molang.specs.WriteEntry.{treesOf}
 use Rattle.molang.specs.Parse.{recordWords, messagesIn}
 use Rattle.molang.proofs.Trees.{count-size}
-use Rattle.molang.proofs.Words.{LegalTrees, noTrees, legalTree, trees-back}
+use Rattle.molang.proofs.Words.{trees-back}
 use Rattle.molang.proofs.Bounds.{treeWords-length}
 use Rattle.words.specs.Records.{unnamed, withFirst, wordsOf, laidAt}
 use Rattle.words.specs.Extents.{firstExtent}

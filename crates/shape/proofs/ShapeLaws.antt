@@ -28,7 +28,7 @@ record Continues (field : Field) (v : ℕ) (s : Shape) (w : ℕ) : Type 0 where
   begun : shapeAfter field w s .begun ≤ s .called
   called : shapeAfter field w s .called ≤ mostNodes
 
-continued-by : (o : Option ℕ) (b : Bool) → _≡_ {A = Bool} (elim o [ some n ↦ false | none ↦ b ]) true → (o ≡ none) × (b ≡ true)
+pub continued-by : (o : Option ℕ) (b : Bool) → _≡_ {A = Bool} (elim o [ some n ↦ false | none ↦ b ]) true → (o ≡ none) × (b ≡ true)
 continued-by none b e = (refl, e)
 continued-by (some n) b e = absurd (true≢false (sym e))
 
@@ -42,15 +42,15 @@ continues-by field v s w e =
     record { faultless = x .0; begun = leb-true _ _ (y .0); called = leb-true _ _ (y .1) }
 
 -- The three tests of a word, one after the other.
-legal-none : (o : Option ℕ) → isLegal o ≡ true → o ≡ none
+pub legal-none : (o : Option ℕ) → isLegal o ≡ true → o ≡ none
 legal-none none e = refl
 legal-none (some n) e = absurd (true≢false (sym e))
 
-stopped-by : (o : Option ℕ) (b : Bool) (r : Bool) → r ≡ elim o [ some n ↦ false | none ↦ b ] → isLegal o ≡ false → false ≡ r
+pub stopped-by : (o : Option ℕ) (b : Bool) (r : Bool) → r ≡ elim o [ some n ↦ false | none ↦ b ] → isLegal o ≡ false → false ≡ r
 stopped-by none b r e h = absurd (true≢false h)
 stopped-by (some n) b r e h = sym e
 
-failed-by : (o : Option ℕ) (b : Bool) (r : Bool) → r ≡ elim o [ some n ↦ false | none ↦ b ] → b ≡ false → false ≡ r
+pub failed-by : (o : Option ℕ) (b : Bool) (r : Bool) → r ≡ elim o [ some n ↦ false | none ↦ b ] → b ≡ false → false ≡ r
 failed-by none b r e h = sym (e ∙ h)
 failed-by (some n) b r e h = sym e
 

@@ -43,7 +43,8 @@ pub enum Fault {
     At(usize),
 }
 
-fn next(field: Field) -> Field
+// Which word of a node is expected after it.
+pub fn next(field: Field) -> Field
     ensures { λ r. ⌜ fieldOf r ≡ entry.nextInNode (fieldOf field) ⌝ }
 {
     match field {
@@ -77,7 +78,7 @@ fn is_count(w: u32) -> bool
 }
 
 // Whether the word is legal in its field, in a node of the given payload variant.
-fn is_legal(field: Field, variant: u32, w: u32) -> bool
+pub fn is_legal(field: Field, variant: u32, w: u32) -> bool
     ensures { λ r. ⌜ r ≡ isLegal (words.wordFault (fieldOf field) variant w) ⌝ }
 {
     match field {
@@ -92,7 +93,7 @@ fn is_legal(field: Field, variant: u32, w: u32) -> bool
 }
 
 // The payload variant of the node, after one of its words.
-fn variant_after(field: Field, variant: u32, w: u32) -> u32
+pub fn variant_after(field: Field, variant: u32, w: u32) -> u32
     ensures { λ r. ⌜ r ≡ words.variantAfter (fieldOf field) variant w ⌝ }
 {
     match field {
@@ -113,7 +114,7 @@ fn called_after(field: Field, called: u32, w: u32) -> u32
 }
 
 // How many nodes have begun, after a word.
-fn begun_after(field: Field, begun: u32) -> u32
+pub fn begun_after(field: Field, begun: u32) -> u32
     requires { ⌜ begun ≤ entry.mostNodes ⌝ }
     ensures { λ r. ⌜ ((called w : ℕ) → r ≡ entry.shapeAfter (fieldOf field) w (shape called begun) .begun) ⌝ }
 {
@@ -148,7 +149,7 @@ fn is_whole(field: Field, called: u32, begun: u32) -> bool
 }
 
 // Whether the seven words from `at` on are legal, each in its field.
-fn is_node(tree: &[u32], at: usize) -> bool
+pub fn is_node(tree: &[u32], at: usize) -> bool
     requires { ⌜ at + nodeLength ≤ length (now tree) ⌝ }
     ensures { λ r. ⌜ (r ≡ true → LegalNode (now (tree .entry)) at) ⌝ }
 {

@@ -1,4 +1,5 @@
-// The numbers of the refusals of document 01's table that reading a list and writing a tree can meet. Leans on nothing.
+// The numbers of the refusals of document 01's table and of stack order, which reading a list, writing a tree, export and import can meet.
+// Leans on nothing.
 
 pub const LIST_NOT_WHOLE: u32 = 1;
 
@@ -29,3 +30,7 @@ pub const NOT_PLAIN: u32 = 13;
 pub const WRITTEN_TOO_LONG: u32 = 14;
 
 pub const SHORT_LIST: u32 = 15;
+
+pub const NOT_ONE_STACK: u32 = 24;
+
+pub const SHORT_OUTPUT: u32 = 25;
