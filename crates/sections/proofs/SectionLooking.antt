@@ -101,7 +101,8 @@ pub close-differs : {W X : List ℕ} {base marks lo l m k w item : ℕ} {s : Ope
     → Standing W X base marks lo l k w s → k ≢ 0 → RepT W X item l m t cs
     → (p x y i : ℕ) (u : Unclosed) → p ≡ wd W (marks + 2 * (k - 1)) → x ≡ Option·getD (closingOf (opAt W (wd W (base + p)))) 0
     → y ≡ opAt W item → x ≢ y → Named W base marks k u
-    → Follows W X base marks lo m w i (Differs (record { opener = u .inner; start = u .start; closer = item; index = i; outer = u .outer })) (closing t cs i s)
+    → Follows W X base marks lo m w i (Differs (record { opener = u .inner; start = u .start; closer = item; index = i; outer = u .outer }))
+    (closing t cs i s)
 unfolding closer
 close-differs (outer v e) n tree p x y i u ep ex ey h a = absurd (n e)
 close-differs {t = t} {cs = cs} (inner {i = j} {o = o} {d = d} {s = s'} st z v e) n tree p x y i u ep ex ey h a =
@@ -131,7 +132,8 @@ close-takes : {W X : List ℕ} {base marks lo l m k w item : ℕ} {s : Open} {t 
 unfolding closer
 close-takes (outer v e) n tree below apart p x y i W1 W' ep ex ey h a close room = absurd (n e)
 close-takes {W} {X} {base} {marks} {lo} {l} {m} {k} {w} {item} {t = t} {cs = cs}
-    (inner {l = l'} {m = m'} {k' = k'} {w' = w'} {v = r} {i = j} {o = o} {d = d} {s = s'} st z v e) n tree below apart p x y i W1 W' ep ex ey h
+    (inner {l = l'} {m = m'} {k' = k'} {w' = w'} {v = r} {i = j} {o = o} {d = d}
+    {s = s'} st z v e) n tree below apart p x y i W1 W' ep ex ey h
     a close room =
     let b = opener-le z in
     let c = back-le (v .done) in
@@ -216,7 +218,8 @@ module _ {W : List ℕ} {base marks write depth item : ℕ} (g : LookAt W base m
   -- a token that is written as it is
   pub look-places : (i : ℕ) (W' : List ℕ) → W' ≡ set W (base + write) item
       → bracket (g .k) (g .cs) i (g .s) ≡ going (placed (g .k) (g .cs) (g .s))
-      → Follows W' (g .X) base marks (g .lo) (g .m) write i (On (record { write = write + 1; depth = depth; index = i })) (bracket (g .k) (g .cs) i (g .s))
+      → Follows W' (g .X) base marks (g .lo) (g .m) write i (On (record { write = write + 1; depth = depth; index = i }))
+      (bracket (g .k) (g .cs) i (g .s))
   look-places i W' e is =
       let other = set-other W W' (base + write) item e in
       let low : (j : ℕ) → j < base + write → wd W' j ≡ wd W j = λ j h. other j (omega arith) in
