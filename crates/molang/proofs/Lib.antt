@@ -15,6 +15,7 @@ pub mod Binary
 pub mod Unfolded
 pub mod Conditional
 pub mod Sections
+pub mod OpenCount
 pub mod Passes
 pub mod NoMasks
 pub mod Matching
