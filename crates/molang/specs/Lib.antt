@@ -16,6 +16,7 @@ pub mod Work
 pub mod FirstFailure
 pub mod Words
 pub mod Legal
+pub mod Nesting
 pub mod Parse
 pub mod Plain
 pub mod Write

@@ -10,7 +10,7 @@ use lib.ListN.{length, take, replicate}
 use Rattle.molang.specs.Forest.{Token}
 use Rattle.molang.specs.Read.{uses, setNumber}
 use Rattle.molang.specs.Words.{word, listWords}
-use Rattle.molang.specs.Parse.{Call, Told, aTree, someMessages, refused, answered, inFront, treeAfter, messagesAfter, workAfter}
+use Rattle.molang.specs.Parse.{Call, mostTokens, Told, aTree, someMessages, refused, answered, inFront, treeAfter, messagesAfter, workAfter}
 use Rattle.molang.specs.WriteEntry.{WriteCall, WriteTold, tokens, unwritten, writeAnswered, listAfter}
 
 -- The marks, as src/lines.rt names them. A number from `anyMark` on is a mark, and the numbers after it up to the next mark are its items;
@@ -98,6 +98,7 @@ callFor n list used version =
       version = version;
       usedLow = used % 2 ^ 64;
       usedHigh = used / 2 ^ 64;
+      limit = mostTokens;
     }
 
 -- The list of these operators, read at a version under its exact used set.
