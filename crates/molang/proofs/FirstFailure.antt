@@ -87,3 +87,6 @@ withPlace-none place (some n) e = some-none e
 pub withNumber-none : (number : ℕ) (o : Option ℕ) → withNumber number o ≡ none → o ≡ none
 withNumber-none number none e = refl
 withNumber-none number (some n) e = some-none e
+
+pub without-number : (number : ℕ) (o : Option ℕ) → o ≡ none → withNumber number o ≡ none
+without-number number o e = rw e
