@@ -79,6 +79,33 @@ module _ {A : Type 0} where
   behind none checks others e = e
   behind (some a) checks others e = refl
 
+-- What holds of what was found, if anything was.
+abbrev pub All : {A : Type 0} → (A → Type 0) → Option A → Type 0
+All P none = Unit {0}
+All P (some a) = P a
+
+-- What holds of each answer holds of the first.
+module _ {A : Type 0} (P : A → Type 0) where
+  pub all-first : (o : Option A) (later : List (Option A)) → All P o → All P (firstOf later) → All P (firstOf (o ∷ later))
+  unfolding firstOf
+  all-first none later x y = y
+  all-first (some a) later x y = x
+
+  pub all-last : (o : Option A) → All P o → All P (firstOf (o ∷ []))
+  all-last o x = rw (last-one o) x
+
+  pub all-must : (b : Bool) (a : A) → P a → All P (must b a)
+  unfolding must
+  all-must true a x = tt
+  all-must false a x = x
+
+  -- The later ones are asked where the first test holds.
+  pub all-unless : (b : Bool) (a : A) (later : List (Option A)) → P a → (b ≡ true → All P (firstOf later))
+      → All P (firstOf (must b a ∷ later))
+  unfolding firstOf must
+  all-unless true a later x y = y refl
+  all-unless false a later x y = x
+
 -- Nothing was found.
 pub withPlace-none : (place : ℕ) (o : Option ℕ) → withPlace place o ≡ none → o ≡ none
 withPlace-none place none e = refl

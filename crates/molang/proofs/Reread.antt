@@ -3,7 +3,7 @@
 use Prim.Native.Nat.{ℕ, _+_, _*_, _/_, _≤_}
 use mathlib.Core.Path.{_≡_, refl, ap, sym, _∙_}
 use mathlib.Core.Bool.{true, false}
-use mathlib.Core.List.{List, [], _∷_}
+use mathlib.Core.List.{List}
 use mathlib.Core.Option.{Option, none, some}
 use native.Mathlib.Omega.{arith}
 use lib.Dec.{eqb}
@@ -28,16 +28,6 @@ use Rattle.molang.proofs.Bounds.{treeWords-length}
 use Rattle.molang.proofs.HandedTree.{Parsed, tree-front, tree-told, front-bracketless, front-left, tree-written-legal, writer-tells}
 use Rattle.molang.proofs.HandedTree.{tree-written-ends, write-done, tree-of-told, write-of-told}
 use Rattle.molang.proofs.Entries.{ThreeCalls, SameTrees, three-calls}
-
--- Five words make a token.
-pub tokens-count : (ws : List ℕ) → 5 * length (tokensOf ws) ≤ length ws
-unfolding tokensOf
-tokens-count [] = omega arith
-tokens-count (a ∷ []) = omega arith
-tokens-count (a ∷ b ∷ []) = omega arith
-tokens-count (a ∷ b ∷ c ∷ []) = omega arith
-tokens-count (a ∷ b ∷ c ∷ d ∷ []) = omega arith
-tokens-count (a ∷ b ∷ c ∷ d ∷ e ∷ ws) = omega (arith, tokens-count ws)
 
 -- ---- What can be handed on
 
