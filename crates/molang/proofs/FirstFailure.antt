@@ -49,7 +49,7 @@ module _ {A : Type 0} where
   unfolding firstOf
   found o a later e = rw e
 
-  -- One check alone, after one that does not answer.
+  -- One check alone, after one that does not answer, or before one that does not.
   pub last-one : (o : Option A) → firstOf (o ∷ []) ≡ o
   unfolding firstOf
   last-one none = refl
@@ -58,6 +58,11 @@ module _ {A : Type 0} where
   pub after-none : (o last : Option A) → o ≡ none → firstOf (o ∷ last ∷ []) ≡ last
   unfolding firstOf
   after-none o last e = rw e (last-one last)
+
+  pub before-none : (o last : Option A) → last ≡ none → firstOf (o ∷ last ∷ []) ≡ o
+  unfolding firstOf
+  before-none none last e = rw e
+  before-none (some a) last e = refl
 
   -- An answer stays where it stays of the last check.
   pub later-found : (o x y : Option A) (a : A) → (x ≡ some a → y ≡ some a) → firstOf (o ∷ x ∷ []) ≡ some a → firstOf (o ∷ y ∷ []) ≡ some a

@@ -15,6 +15,7 @@ pub mod Binary
 pub mod Unfolded
 pub mod Conditional
 pub mod Sections
+pub mod OpenCount
 pub mod Passes
 pub mod NoMasks
 pub mod NoFrames
@@ -36,6 +37,7 @@ pub mod UsedSet
 pub mod Refusals
 pub mod Accepted
 pub mod Nesting
+pub mod OpenInLimit
 pub mod HandedTree
 pub mod Entries
 pub mod Reread
