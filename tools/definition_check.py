@@ -55,7 +55,18 @@ unfoldable pub asked : ℤ → ℕ → ℕ → ℕ → List ℕ → List ℕ
 unfolding answerWords
 asked version source low high list =
     answerWords
-    (reading (record { list = list; tree = []; messages = []; work = []; sourceLength = source; version = version; usedLow = low; usedHigh = high }))
+    (reading
+    (record {
+      list = list;
+      tree = [];
+      messages = [];
+      work = [];
+      sourceLength = source;
+      version = version;
+      usedLow = low;
+      usedHigh = high;
+      limit = 4096;
+    }))
 """
 
 

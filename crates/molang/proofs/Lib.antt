@@ -35,7 +35,10 @@ pub mod TakingAway
 pub mod RoundTrip
 pub mod ListWords
 pub mod UsedSet
+pub mod Refusals
 pub mod Accepted
+pub mod Nesting
+pub mod OpenInLimit
 pub mod HandedTree
 pub mod Entries
 pub mod Reread
