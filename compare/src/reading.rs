@@ -31,7 +31,7 @@ impl Expected {
     }
 }
 
-/// What document 01's table and the Rust say to a call.
+/// What document 01's table with card 8's rows, and the Rust, say to a call.
 pub fn expected(call: &Call) -> Expected {
     if let Some(refused) = refusal(call) {
         return Expected::Refused(refused.number, refused.place as usize);
@@ -150,6 +150,7 @@ impl Buffers {
             source_len: call.source_len,
             version: call.version,
             used: call.used,
+            limit: call.limit,
         };
         let (tree, messages) = (self.tree.slice(), self.messages.slice());
         let answer = library::parse(&call.list, tree, messages, self.work.slice(), given);
@@ -160,6 +161,14 @@ impl Buffers {
     /// The words that the last call put in front of the tree buffer, for an answer of so many nodes.
     pub fn tree(&mut self, nodes: usize) -> &[u32] {
         &self.tree.slice()[..NODE_WORDS * nodes]
+    }
+
+    /// The records that the last call put in front of the message buffer, for an answer of so many messages.
+    pub fn records(&mut self, count: usize) -> Vec<Record> {
+        let words = self.messages.slice()[..8 * count].chunks_exact(8);
+        words
+            .map(|record| record.try_into().expect("eight words"))
+            .collect()
     }
 
     /// The tokens of a numbered case's nodes, as the library reads it: where only the Rust's kept answers are at hand.
