@@ -52,6 +52,8 @@ fn reads_one(program: &Path) {
         "refused 8 0",
         "refused 3 0",
         "refused 12 27",
+        "refused 17 0",
+        "refused 18 1",
     ];
     assert_eq!(printed.lines().collect::<Vec<_>>(), lines);
 }
@@ -133,6 +135,9 @@ fn enums() -> Vec<(String, u64)> {
         Refusal::OtherBits { word: 0 },
     ];
     let refusal = |refusal: Refusal| (named("REFUSAL", &variant(refusal)), refusal.number().into());
+    // No limit of the crate is refused, and a list that is too deep is an error of its own.
+    let nesting =
+        [("LIMIT", 17), ("TOO_DEEP", 18)].map(|(name, number)| (named("REFUSAL", name), number));
     let messages = messages();
     assert_eq!(messages.len(), 17);
     let messages = messages
@@ -140,6 +145,7 @@ fn enums() -> Vec<(String, u64)> {
         .map(|(name, number)| (named("MESSAGE", &name), number));
     ops.chain(payloads)
         .chain(refusals.map(refusal))
+        .chain(nesting)
         .chain(messages)
         .collect()
 }
@@ -155,6 +161,7 @@ fn sizes() -> Vec<(String, u64)> {
         ("NODE_WORDS", Tree::NODE_WORDS),
         ("MESSAGE_WORDS", sorbrudder_sys::MESSAGE_WORDS),
         ("MOST_TOKENS", sorbrudder::MOST_TOKENS),
+        ("MOST_NESTING", sorbrudder::Limit::MOST.get() as usize),
         ("MESSAGE_BUFFER", sorbrudder_sys::MESSAGE_BUFFER),
         ("LIST_BUFFER", Token::WORDS * sorbrudder::MOST_TOKENS),
         ("TREE_BUFFER(1)", sorbrudder_sys::tree_buffer(1)),
