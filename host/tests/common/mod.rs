@@ -56,8 +56,10 @@ pub fn vectors() -> Vec<u8> {
     std::fs::read(path).expect("vectors/vectors.bin")[12..].to_vec()
 }
 
-/// The bit of a record's first byte that says that a nesting limit is kept, and whether its used set is.
+/// The bit of a record's first byte that says that a nesting limit is kept.
 pub const LIMITED: u8 = 1 << 6;
+
+/// The bits of it that say which used set there is; 0 where it is kept.
 pub const USED: u8 = 3 << 4;
 
 /// The words of a kept tree's node, which are those of the Rust's answer.
