@@ -29,3 +29,7 @@ pub const NOT_PLAIN: u32 = 13;
 pub const WRITTEN_TOO_LONG: u32 = 14;
 
 pub const SHORT_LIST: u32 = 15;
+
+pub const LIMIT_OUT_OF_RANGE: u32 = 17;
+
+pub const NESTED_TOO_DEEP: u32 = 18;
