@@ -63,7 +63,18 @@ unfoldable pub asked : ℤ → ℕ → ℕ → ℕ → List ℕ → List ℕ
 unfolding above answerWords
 asked version source low high list =
     (above 1 list ∷ above 2 list ∷ above 3 list ∷ []) ++ answerWords
-    (reading (record { list = list; tree = []; messages = []; work = []; sourceLength = source; version = version; usedLow = low; usedHigh = high; limit = 4096 }))
+    (reading
+    (record {
+      list = list;
+      tree = [];
+      messages = [];
+      work = [];
+      sourceLength = source;
+      version = version;
+      usedLow = low;
+      usedHigh = high;
+      limit = 4096;
+    }))
 """
 
 
