@@ -4,7 +4,8 @@
 //! writer over a tree of `Vec`s that checks nothing, export and import beside a plain Rust function that checks nothing
 //! either. Rounds of batches go over all workloads in turn, and the least batch counts. The last line is `least ratio R, mean
 //! ratio M, greatest growth G`, of reading. Where `SORBRUDDER_BEFORE` names the folder of another archive when this is built,
-//! that library is timed in the same rounds (docs/notes/bench.md).
+//! that library is timed in the same rounds (docs/notes/bench.md). Reading is timed under the greatest nesting limit, and long
+//! lists that nest less also under the limit 64.
 //!
 //!     bench [ROUNDS]
 
@@ -26,6 +27,7 @@ mod timed {
     use compare::reordering::Way;
     use compare::stack_model::Reordered;
     use compare::workloads::{self, SAME_AS_ONE, SCRIPT, Trees, Workload};
+    use oracle::nesting::{MOST_NESTING, least_limit};
     use oracle::words::{Case, NODE_WORDS, TOKEN_WORDS, Token, list_words, low, tree_words};
     use sorbrudder_sys::Answer;
     use std::hint::black_box;
@@ -61,20 +63,24 @@ mod timed {
         }
     }
 
-    /// The library that is timed, and the one before it.
-    #[derive(Copy, Clone)]
+    /// The library that is timed, under the greatest nesting limit and under a lower one, and the one before it.
+    #[derive(Copy, Clone, PartialEq, Eq)]
     enum Side {
         Now,
+        Limited,
         Before,
     }
 
-    /// Both sides, each first in every other round.
-    fn sides(round: usize) -> [Side; 2] {
+    /// All sides, the library and the one before it each first in every other round.
+    fn sides(round: usize) -> [Side; 3] {
         match round % 2 {
-            0 => [Side::Now, Side::Before],
-            _ => [Side::Before, Side::Now],
+            0 => [Side::Now, Side::Limited, Side::Before],
+            _ => [Side::Before, Side::Limited, Side::Now],
         }
     }
+
+    /// A limit that the brackets of a long list have to be counted for.
+    const LIMIT: u32 = 64;
 
     /// A workload with what was measured of it.
     struct Line {
@@ -83,6 +89,7 @@ mod timed {
         /// What `tokens` counts.
         unit: &'static str,
         ours: Batches,
+        limited: Batches,
         before: Batches,
         rust: Batches,
     }
@@ -94,6 +101,7 @@ mod timed {
                 tokens,
                 unit: "tokens",
                 ours: Batches::default(),
+                limited: Batches::default(),
                 before: Batches::default(),
                 rust: Batches::default(),
             }
@@ -109,12 +117,19 @@ mod timed {
         fn side(&mut self, side: Side) -> &mut Batches {
             match side {
                 Side::Now => &mut self.ours,
+                Side::Limited => &mut self.limited,
                 Side::Before => &mut self.before,
             }
         }
 
         fn ratio(&self) -> f64 {
             self.rust.least() / self.ours.least()
+        }
+
+        /// How many nanoseconds a token takes more under the lower limit; none where it was not timed so.
+        fn for_the_limit(&self) -> Option<f64> {
+            let limited = self.limited.least();
+            limited.is_finite().then(|| limited - self.ours.least())
         }
 
         /// How many times as long it takes as in the library before.
@@ -147,6 +162,8 @@ mod timed {
         /// All tokens of the lists together.
         tokens: usize,
         calls: Vec<(Case, Vec<u32>)>,
+        /// Whether it is read under the lower limit too.
+        is_limited: bool,
         libraries: Libraries,
         tree: Vec<u32>,
         messages: Vec<u32>,
@@ -163,7 +180,7 @@ mod timed {
     impl Libraries {
         fn of(self, side: Side) -> Option<Library> {
             match side {
-                Side::Now => Some(self.now),
+                Side::Now | Side::Limited => Some(self.now),
                 Side::Before => self.before,
             }
         }
@@ -178,9 +195,11 @@ mod timed {
                 let words = list_words(&case.tokens);
                 (case, words)
             };
+            let within = |case: &Case| least_limit(&case.tokens) <= LIMIT;
             let mut reading = Self {
                 line: Line::new(name, most),
                 tokens: sum,
+                is_limited: most >= MANY - 100 && workload.cases.iter().all(within),
                 calls: workload.cases.into_iter().map(with_words).collect(),
                 libraries,
                 tree: vec![0; 3 * NODE_WORDS * most],
@@ -190,41 +209,47 @@ mod timed {
             for call in 0..reading.calls.len() {
                 let case = &reading.calls[call].0;
                 assert_ne!(oracle::grouped_if_at_hand(case), Some(false), "{name}");
-                for library in [Some(libraries.now), libraries.before]
-                    .into_iter()
-                    .flatten()
-                {
-                    let answer = reading.read(library, call);
-                    assert!(matches!(answer, Answer::Filled(_)), "{name}: {answer:?}");
+                for side in sides(0) {
+                    if let Some(answer) = reading.read(side, call) {
+                        assert!(matches!(answer, Answer::Filled(_)), "{name}: {answer:?}");
+                    }
                 }
             }
             reading
         }
 
-        /// Reads one list into buffers of exactly the lengths that the library asks for.
-        fn read(&mut self, library: Library, call: usize) -> Answer {
+        /// Reads one list into buffers of exactly the lengths that the library asks for, if it is read on that side.
+        #[inline]
+        fn read(&mut self, side: Side, call: usize) -> Option<Answer> {
+            let library = self.libraries.of(side)?;
+            let limit = match side {
+                Side::Limited if !self.is_limited => return None,
+                Side::Limited => LIMIT,
+                _ => MOST_NESTING,
+            };
             let (case, list) = black_box(&self.calls[call]);
             let given = Given {
                 source_len: u64::from(case.source_len),
                 version: case.version,
                 used: case.used,
+                limit,
             };
             let tokens = case.tokens.len();
             let tree = &mut self.tree[..3 * library.node_words * tokens];
             let work = &mut self.work[..64 * tokens + 64];
-            library.parse(list, tree, &mut self.messages, work, given)
+            Some(library.parse(list, tree, &mut self.messages, work, given))
         }
 
         fn round(&mut self, round: usize) {
             let repeats = BATCH.div_ceil(self.tokens);
             for side in sides(round) {
-                let Some(library) = self.libraries.of(side) else {
+                if self.read(side, 0).is_none() {
                     continue;
-                };
+                }
                 let mut batches = std::mem::take(self.line.side(side));
                 batches.add(repeats, self.tokens, || {
                     for call in 0..self.calls.len() {
-                        black_box(self.read(library, call));
+                        black_box(self.read(side, call));
                     }
                 });
                 *self.line.side(side) = batches;
@@ -344,8 +369,9 @@ mod timed {
 
     impl Written {
         /// The first list of a workload, read and written, if its tree is plain; the list is as long as what is written.
-        fn new(library: Library, reading: &mut Reading) -> Option<Self> {
-            let Answer::Filled(nodes) = reading.read(library, 0) else {
+        fn new(side: Side, reading: &mut Reading) -> Option<Self> {
+            let library = reading.libraries.of(side)?;
+            let Some(Answer::Filled(nodes)) = reading.read(side, 0) else {
                 unreachable!("the reading was a tree");
             };
             let tree = reading.tree[..library.node_words * nodes].to_vec();
@@ -386,10 +412,9 @@ mod timed {
         fn new(libraries: Libraries, workload: Workload) -> Self {
             let name = workload.name;
             let mut reading = Reading::new(libraries, workload);
-            let now = Written::new(libraries.now, &mut reading).expect("a plain tree");
+            let now = Written::new(Side::Now, &mut reading).expect("a plain tree");
             // Before card 1 no script was plain.
-            let before = libraries.before;
-            let before = before.and_then(|before| Written::new(before, &mut reading));
+            let before = Written::new(Side::Before, &mut reading);
             let (root, mut rust_list) = (now.built(), Vec::new());
             root.write_tree(&mut rust_list);
             assert!(rust_list == now.list, "{name}: two lists");
@@ -417,6 +442,8 @@ mod timed {
             for side in sides(round) {
                 let written = match side {
                     Side::Now => Some(&mut self.now),
+                    // The writer takes no limit.
+                    Side::Limited => None,
                     Side::Before => self.before.as_mut(),
                 };
                 if let Some(written) = written {
@@ -730,6 +757,28 @@ mod timed {
             self.read().chain(self.few.iter().map(|few| &few.line))
         }
 
+        /// Says what the count of brackets takes where a limit asks for it.
+        fn print_limited(&self) {
+            let lines = self.many.iter().map(|reading| &reading.line);
+            let mut greatest: f64 = f64::NEG_INFINITY;
+            let mut workloads = 0;
+            for line in lines {
+                let Some(more) = line.for_the_limit() else {
+                    continue;
+                };
+                let (at_most, limited) = (line.ours.least(), line.limited.least());
+                println!(
+                    "{:28} {:5} tokens  {at_most:6.1} ns  at limit {LIMIT} {limited:6.1} ns  more {more:5.2} ns",
+                    line.name, line.tokens
+                );
+                greatest = greatest.max(more);
+                workloads += 1;
+            }
+            println!(
+                "reading at limit {LIMIT}, {workloads} workloads: at most {greatest:.2} ns a token more"
+            );
+        }
+
         fn print_beside_before(&self) {
             if Library::before().is_some() {
                 print_beside("reading", self.all_read());
@@ -754,6 +803,7 @@ mod timed {
             timed.round(round);
         }
         let greatest = timed.print_reading();
+        timed.print_limited();
         timed.print_writing();
         timed.print_stack_order();
         timed.print_noise();

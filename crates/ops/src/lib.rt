@@ -8,8 +8,10 @@ pub mod version;
 
 ghost use mathlib.Core.Path.{_≡_};
 ghost use mathlib.Core.Option.{Option·getD};
+ghost use Prim.Native.Nat.{_+_, _^_, _<_};
 ghost use Rattle.molang.specs.Operator.{closingOf, isCloser, hasMembers, isMathCall, beforeMinus};
 ghost use Rattle.molang.specs.Statements.{isEntered};
+ghost use Rattle.molang.specs.Nesting.{openAfter};
 ghost use Rattle.ops.specs.Operators.{isOpener, meant};
 
 // Whether op opens a section.
@@ -41,6 +43,20 @@ pub fn closer_of(op: u32) -> u32
         op::LEFT_BRACKET => op::RIGHT_BRACKET,
         op::LEFT_PARENTHESIS => op::RIGHT_PARENTHESIS,
         _ => 0,
+    }
+}
+
+// How many brackets are open after op, where so many are open before it.
+pub fn open_after(depth: usize, op: u32) -> usize
+    requires { ⌜ depth + 1 < 2 ^ 64 ⌝ }
+    ensures { λ r. ⌜ r ≡ openAfter depth op ⌝ }
+{
+    match op {
+        op::LEFT_BRACE | op::LEFT_BRACKET | op::LEFT_PARENTHESIS => depth + 1,
+        op::RIGHT_BRACE | op::RIGHT_BRACKET | op::RIGHT_PARENTHESIS => {
+            if depth == 0 { 0 } else { depth - 1 }
+        }
+        _ => depth,
     }
 }
 

@@ -31,6 +31,10 @@ pub const WRITTEN_TOO_LONG: u32 = 14;
 
 pub const SHORT_LIST: u32 = 15;
 
+pub const LIMIT_OUT_OF_RANGE: u32 = 17;
+
+pub const NESTED_TOO_DEEP: u32 = 18;
+
 pub const NOT_ONE_STACK: u32 = 24;
 
 pub const SHORT_OUTPUT: u32 = 25;
