@@ -18,14 +18,23 @@ ENTRIES = [
     ("parse", "src/lib.rt", "parse"),
     ("write", "src/lib.rt", "write"),
     ("reread", "src/lib.rt", "reread"),
+    ("stackorder", "src/lib.rt", "export"),
+    ("stackorder", "src/lib.rt", "import"),
     ("sorbrudder", "src/lib.rt", "sorbrudder_parse"),
     ("sorbrudder", "src/lib.rt", "sorbrudder_write"),
+    ("sorbrudder", "src/lib.rt", "sorbrudder_export"),
+    ("sorbrudder", "src/lib.rt", "sorbrudder_import"),
     ("treelist", "src/main.rt", "listing"),
 ]
 # `use Rattle.CRATE.specs.MODULE.{NAMES}`, with the part named twice within the crate itself; in code with `ghost` and `;`.
 USE = re.compile(r"(?:ghost )?use Rattle·(\w+)(?:·\w+)?\.(?:specs\.)?(specs|proofs|declared)\.([\w.]+?)(?:\.\{(.*)\})?(?: as (\w+))?;?$")
 # Files of molang/specs that are apart from the rules, and what they are.
-APART = {"Operator": "the operators' names and sets", "Lines": "the table of examples"}
+APART = {
+    "StackOrder": "stack order, into it and back",
+    "Legal": "what a word can hold of a token",
+    "Operator": "the operators' names and sets",
+    "Lines": "the table of examples",
+}
 # Files of molang/specs that no entry reaches, with the statement of a theorem of molang/proofs, and the theorem.
 STATEMENTS = {"Matching": "nothing-lost"}
 

@@ -1,6 +1,6 @@
--- The values of every answer fit its number's fields: counts and places stay below 2 ^ 32, refusals' numbers below 2 ^ 8. Answer 12's
--- place is at most 86,016, since no more nodes are begun than fit; answer 13's is a node of the tree. Assumes nothing.
-use mathlib.Core.Path.{_≡_, refl}
+-- The values of every answer fit its number's fields: counts and places stay below 2 ^ 32, refusals' numbers below 2 ^ 8. The places of
+-- answers 12 and 24 are at most 86,016; answer 13's is a node of the tree. Assumes nothing.
+use mathlib.Core.Path.{_≡_, refl, ap}
 use mathlib.Core.Bool.{Bool, true, false}
 use mathlib.Core.List.{List, [], _∷_}
 use mathlib.Core.Option.{Option, none, some}
@@ -11,64 +11,23 @@ use lib.ListN.{length}
 use borrow.Author.Tests.{leb-true}
 use Rattle.molang.specs.Forest.{Token, Forest, nil, node, size}
 use Rattle.molang.specs.Read as read
-use Rattle.molang.specs.Words.{Field, operatorField, startField, endField, upperField, lowerField, countField, closeField, lowOf}
-use Rattle.molang.specs.Words.{variantAfter, Refusal, row, withNumber}
+use Rattle.molang.specs.Words.{Refusal, row, withNumber, operatorField}
 use Rattle.molang.specs.FirstFailure.{must, firstOf}
 use Rattle.molang.specs.Parse.{Call, mostTokens, refusal, reading, told, answered}
 use Rattle.molang.specs.Plain.{plainForm, seatOf, unplain, unplainAt}
 use Rattle.molang.specs.Write.{writtenTree}
-use Rattle.molang.specs.WriteEntry.{mostNodes, nextInNode, Shape, shapeAfter, continues, isWhole, treeFault, treesOf, WriteCall}
+use Rattle.molang.specs.WriteEntry.{treeFault, treesOf, WriteCall}
 use Rattle.molang.specs.WriteEntry.{forestRefusal, writeRefusal, writtenTokens, writeTold, writeAnswered}
+use Rattle.molang.specs.StackOrder.{ReorderCall, stackFault, outputRefusal, exportRefusal, importRefusal, reorderTold, exportAnswered}
+use Rattle.molang.specs.StackOrder.{importAnswered}
 use Rattle.molang.proofs.Accepted.{call-accepted}
 use Rattle.molang.proofs.Bounds.{read-tree, read-messages}
-use Rattle.molang.proofs.FirstFailure.{All, all-last, all-must, last-one}
+use Rattle.molang.proofs.FirstFailure.{All, last-one}
 use Rattle.molang.proofs.Refusals.{Within, refusal-within}
-use Rattle.shape.proofs.RowLaws.{size-split}
-use Rattle.shape.proofs.ShapeLaws.{continues-within, one-tree}
-use Rattle.sorbrudder.specs.Numbers.{FitsTold, FitsWritten}
-
--- ---- Answer 12
-
--- The words that a node begun still lacks.
-abbrev lacks : Field → ℕ
-lacks operatorField = 0
-lacks startField = 6
-lacks endField = 5
-lacks upperField = 4
-lacks lowerField = 3
-lacks countField = 2
-lacks closeField = 1
-
--- A word takes up the place that it was counted for.
-taken : (field : Field) (w i : ℕ) (s : Shape) → i + lacks field ≤ 7 * s .begun
-    → suc i + lacks (nextInNode field) ≤ 7 * shapeAfter field w s .begun
-unfolding nextInNode shapeAfter
-taken operatorField w i s h = omega arith
-taken startField w i s h = omega arith
-taken endField w i s h = omega arith
-taken upperField w i s h = omega arith
-taken lowerField w i s h = omega arith
-taken countField w i s h = omega arith
-taken closeField w i s h = omega arith
-
-fault-place : (i : ℕ) (field : Field) (v : ℕ) (s : Shape) (ws : List ℕ) → s .begun ≤ s .called → s .called ≤ mostNodes
-    → i + lacks field ≤ 7 * s .begun
-    → All (λ p. p ≤ 86016) (treeFault i field v s ws)
-unfolding treeFault firstOf must
-fault-place i field v s [] b c h = all-must (λ p. p ≤ 86016) (isWhole field s) i (omega arith)
-fault-place i field v s (w ∷ ws) b c h =
-    split (continues field v s w) refl
-    (λ e.
-    let x = continues-within field v s w b e in
-    fault-place (suc i) (nextInNode field) (variantAfter field v w) (shapeAfter field w s) ws (x .0) (x .1) (taken field w i s h))
-  where
-    later : Option ℕ
-    later = treeFault (suc i) (nextInNode field) (variantAfter field v w) (shapeAfter field w s) ws
-
-    split : (t : Bool) → continues field v s w ≡ t → (continues field v s w ≡ true → All (λ p. p ≤ 86016) later)
-        → All (λ p. p ≤ 86016) (firstOf (must t i ∷ later ∷ []))
-    split true e x = all-last (λ p. p ≤ 86016) later (x e)
-    split false e x = omega arith
+use Rattle.molang.proofs.TreeWords.{tree-exact, tree-place}
+use Rattle.molang.proofs.StackWords.{stack-exact, stack-place}
+use Rattle.molang.proofs.StackOrder.{trees-of-tree, tree-few, stack-few}
+use Rattle.sorbrudder.specs.Numbers.{FitsTold, FitsWritten, FitsReordered}
 
 -- ---- Answer 13
 
@@ -85,18 +44,6 @@ unplain-place p i n (node k cs rest) =
     split true (some m) later x y = omega arith
     split true none none x y = tt
     split true none (some m) x y = omega arith
-
--- Seven words to a node.
-trees-size : (ws : List ℕ) → 7 * size (treesOf ws) ≤ length ws
-unfolding treesOf size
-trees-size [] = omega arith
-trees-size (a ∷ []) = omega arith
-trees-size (a ∷ b ∷ []) = omega arith
-trees-size (a ∷ b ∷ c ∷ []) = omega arith
-trees-size (a ∷ b ∷ c ∷ d ∷ []) = omega arith
-trees-size (a ∷ b ∷ c ∷ d ∷ e ∷ []) = omega arith
-trees-size (a ∷ b ∷ c ∷ d ∷ e ∷ n ∷ []) = omega arith
-trees-size (a ∷ b ∷ c ∷ d ∷ e ∷ n ∷ g ∷ ws) = omega (arith, trees-size ws, size-split (lowOf n) (treesOf ws))
 
 -- ---- THE WRITE ENTRY
 
@@ -119,19 +66,47 @@ forest-fits (node k cs rest) room h =
 
 pub written-fits : (w : WriteCall) → FitsWritten (writeAnswered w)
 unfolding writeAnswered writeRefusal firstOf writeTold
-written-fits w =
-    split (treeFault 0 operatorField 0 (record { called = 1; begun = 0 }) (w .tree)) refl
-    (fault-place 0 operatorField 0 (record { called = 1; begun = 0 }) (w .tree) (omega arith) (omega arith) (omega arith))
+written-fits w = split (treeFault 0 operatorField 0 (record { called = 1; begun = 0 }) (w .tree)) refl
   where
     later : Option Refusal
     later = forestRefusal (treesOf (w .tree)) (length (w .list))
 
-    split : (o : Option ℕ) → treeFault 0 operatorField 0 (record { called = 1; begun = 0 }) (w .tree) ≡ o → All (λ p. p ≤ 86016) o
+    split : (o : Option ℕ) → treeFault 0 operatorField 0 (record { called = 1; begun = 0 }) (w .tree) ≡ o
         → FitsWritten (writeTold (firstOf (withNumber 12 o ∷ later ∷ [])) (treesOf (w .tree)))
-    split (some p) e x = (omega arith, omega arith)
-    split none e x =
+    split (some p) e = (omega arith, omega (arith, tree-place (w .tree) p e))
+    split none e =
+        let t = tree-exact (w .tree) .0 e in
         rw (last-one later)
-        (forest-fits (treesOf (w .tree)) (length (w .list)) (omega (arith, trees-size (w .tree), one-tree (w .tree) e .small)))
+        (forest-fits (treesOf (w .tree)) (length (w .list)) (omega (arith, ap size (trees-of-tree t), t .few)))
+
+-- ---- EXPORT AND IMPORT
+
+-- Answer 25, or the count, of so many words.
+output-fits : (c : ReorderCall) → length (c .words) ≤ 86016 → FitsReordered (reorderTold (outputRefusal c) (c .words))
+unfolding outputRefusal must reorderTold
+output-fits c h = split (leb (length (c .words)) (length (c .output)))
+  where
+    split : (b : Bool) → FitsReordered (reorderTold (must b (row 25 0)) (c .words))
+    split true = omega arith
+    split false = (omega arith, omega arith)
+
+pub exported-fits : (c : ReorderCall) → FitsReordered (exportAnswered c)
+unfolding exportAnswered exportRefusal firstOf reorderTold
+exported-fits c = split (treeFault 0 operatorField 0 (record { called = 1; begun = 0 }) (c .words)) refl
+  where
+    split : (o : Option ℕ) → treeFault 0 operatorField 0 (record { called = 1; begun = 0 }) (c .words) ≡ o
+        → FitsReordered (reorderTold (firstOf (withNumber 12 o ∷ outputRefusal c ∷ [])) (c .words))
+    split (some p) e = (omega arith, omega (arith, tree-place (c .words) p e))
+    split none e = rw (last-one (outputRefusal c)) (output-fits c (tree-few (tree-exact (c .words) .0 e)))
+
+pub imported-fits : (c : ReorderCall) → FitsReordered (importAnswered c)
+unfolding importAnswered importRefusal firstOf reorderTold
+imported-fits c = split (stackFault 0 operatorField 0 (record { done = 0; begun = 0 }) (c .words)) refl
+  where
+    split : (o : Option ℕ) → stackFault 0 operatorField 0 (record { done = 0; begun = 0 }) (c .words) ≡ o
+        → FitsReordered (reorderTold (firstOf (withNumber 24 o ∷ outputRefusal c ∷ [])) (c .words))
+    split (some p) e = (omega arith, omega (arith, stack-place (c .words) p e))
+    split none e = rw (last-one (outputRefusal c)) (output-fits c (stack-few (stack-exact (c .words) .0 e)))
 
 -- ---- THE PARSE ENTRY
 

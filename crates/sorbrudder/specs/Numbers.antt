@@ -1,11 +1,12 @@
--- The two entries' answers as one number, as the exports give them: bits 0-31 a count or a refusal's place, bits 32-39 a refusal's number,
--- else 0, bits 40-47 the kind of the answer: 0 a tree or tokens, 1 messages, 2 a refusal. And the way back; and the exported reader's
--- promise.
+-- The entries' answers as one number, as the exports give them: bits 0-31 a count or a refusal's place, bits 32-39 a refusal's number, else
+-- 0, bits 40-47 the kind of the answer: 0 a tree, tokens or nodes in the other order, 1 messages, 2 a refusal. And the way back; and the
+-- exported reader's promise.
 use Prim.Native.Nat.{ℕ, zero, suc, _+_, _*_, _/_, _%_, _^_, _<_}
 use mathlib.Core.Path.{_≡_}
 use mathlib.Core.List.{List}
 use Rattle.molang.specs.Parse.{Call, Told, aTree, someMessages, refused, answered, treeAfter, messagesAfter, workAfter}
 use Rattle.molang.specs.WriteEntry.{WriteTold, tokens, unwritten}
+use Rattle.molang.specs.StackOrder.{ReorderTold, reordered, notReordered}
 
 -- A number by its three fields.
 abbrev pub packed : ℕ → ℕ → ℕ → ℕ
@@ -53,6 +54,20 @@ writeOfKind (suc k) number low = unwritten number low
 abbrev pub writeBack : ℕ → WriteTold
 writeBack n = writeOfKind (kindIn n) (numberIn n) (lowIn n)
 
+-- THE ANSWER OF EXPORT AND IMPORT as a number.
+abbrev pub reorderNumber : ReorderTold → ℕ
+reorderNumber (reordered nodes) = packed 0 0 nodes
+reorderNumber (notReordered number place) = packed 2 number place
+
+-- The answer of a kind with these values.
+abbrev pub reorderOfKind : ℕ → ℕ → ℕ → ReorderTold
+reorderOfKind zero number low = reordered low
+reorderOfKind (suc k) number low = notReordered number low
+
+-- The answer that a number stands for.
+abbrev pub reorderBack : ℕ → ReorderTold
+reorderBack n = reorderOfKind (kindIn n) (numberIn n) (lowIn n)
+
 -- An answer whose values fit the fields.
 abbrev pub FitsTold : Told → Type 0
 FitsTold (aTree nodes) = nodes < 2 ^ 32
@@ -63,6 +78,11 @@ FitsTold (refused number place) = (number < 2 ^ 8) × (place < 2 ^ 32)
 abbrev pub FitsWritten : WriteTold → Type 0
 FitsWritten (tokens count) = count < 2 ^ 32
 FitsWritten (unwritten number place) = (number < 2 ^ 8) × (place < 2 ^ 32)
+
+-- The same of the answer of export and import.
+abbrev pub FitsReordered : ReorderTold → Type 0
+FitsReordered (reordered nodes) = nodes < 2 ^ 32
+FitsReordered (notReordered number place) = (number < 2 ^ 8) × (place < 2 ^ 32)
 
 -- THE EXPORTED READER'S PROMISE: the answer's number, and what each lent buffer holds after the call.
 pub record HasParsedTo (c : Call) (number : ℕ) (tree' messages' work' : List ℕ) : Type 0 where

@@ -1,15 +1,21 @@
 // The exports of the library, by the C convention: word slices as pointer and length, numbers as themselves, an answer as one number
-// (specs/Numbers; include/sorbrudder.h takes it apart). Leans on parse and write.
+// (specs/Numbers; include/sorbrudder.h takes it apart). Leans on parse, write and stackorder.
 use parse::Answer;
 use parse::parse;
+use stackorder::Reordered;
+use stackorder::export;
+use stackorder::import;
 use write::Written;
 use write::write;
 ghost use mathlib.Core.Path.{_≡_};
 ghost use Prim.Native.Nat.{_<_, _^_};
 ghost use Rattle.molang.specs.WriteEntry.{writeAnswered, listAfter};
+ghost use Rattle.molang.specs.StackOrder.{exportAnswered, exportedAfter, importAnswered, importedAfter};
 ghost use Rattle.parse.specs.Answers.{toldOf, call as parseCall};
 ghost use Rattle.write.specs.Answers.{told, call};
-ghost use Rattle.sorbrudder.specs.Numbers.{packed, toldNumber, writeNumber, FitsTold, FitsWritten, HasParsedTo};
+ghost use Rattle.stackorder.specs.Answers.{told as toldReordered, call as reorderCall};
+ghost use Rattle.sorbrudder.specs.Numbers.{packed, toldNumber, writeNumber, reorderNumber, FitsTold, FitsWritten};
+ghost use Rattle.sorbrudder.specs.Numbers.{FitsReordered, HasParsedTo};
 
 // The kinds of an answer, in bits 40-47.
 const MESSAGES: u64 = 0x100_0000_0000;
@@ -19,7 +25,7 @@ const REFUSED: u64 = 0x200_0000_0000;
 // A refusal's number stands from bit 32 on.
 const NUMBER: u64 = 0x1_0000_0000;
 
-// A refusal as one number. Both callers have the bounds of an answer, which are shown in proofs/Bounds, here and below.
+// A refusal as one number. The callers have the bounds of an answer, which are shown in proofs/Bounds, here and below.
 fn refusal(number: u32, place: usize) -> u64
     requires { ⌜ (number < 2 ^ 8) × (place < 2 ^ 32) ⌝ }
     ensures { λ r. ⌜ r ≡ packed 2 number place ⌝ }
@@ -90,4 +96,35 @@ pub extern "C" fn sorbrudder_write(tree: &[u32], list: &mut [u32]) -> u64
 {
     let written = write(tree, list);
     written_number(written)
+}
+
+// The answer of export and import as one number.
+fn reordered_number(reordered: Reordered) -> u64
+    requires { ⌜ FitsReordered (toldReordered reordered) ⌝ }
+    ensures { λ r. ⌜ r ≡ reorderNumber (toldReordered reordered) ⌝ }
+{
+    match reordered {
+        Reordered::Nodes(count) => count as u64,
+        Reordered::Refused(number, place) => refusal(number, place),
+    }
+}
+
+// Puts a tree into stack order: `export`, with its answer as one number.
+#[no_mangle]
+pub extern "C" fn sorbrudder_export(tree: &[u32], output: &mut [u32]) -> u64
+    ensures { λ r. ⌜ r ≡ reorderNumber (exportAnswered (reorderCall (now (tree .entry)) (now (output .entry)))) ⌝ }
+    ensures { λ _. ⌜ now (output .exit) ≡ exportedAfter (reorderCall (now (tree .entry)) (now (output .entry))) ⌝ }
+{
+    let exported = export(tree, output);
+    reordered_number(exported)
+}
+
+// Takes a tree from stack order: `import`, with its answer as one number.
+#[no_mangle]
+pub extern "C" fn sorbrudder_import(words: &[u32], output: &mut [u32]) -> u64
+    ensures { λ r. ⌜ r ≡ reorderNumber (importAnswered (reorderCall (now (words .entry)) (now (output .entry)))) ⌝ }
+    ensures { λ _. ⌜ now (output .exit) ≡ importedAfter (reorderCall (now (words .entry)) (now (output .entry))) ⌝ }
+{
+    let imported = import(words, output);
+    reordered_number(imported)
 }

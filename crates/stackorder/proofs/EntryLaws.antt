@@ -21,7 +21,8 @@ use Rattle.stackorder.specs.declared.reorder.Direction.{Direction}
 use Rattle.stackorder.specs.declared.reorder.Direction.the-variants.{Forward, Backward}
 use Rattle.stackorder.specs.Reorder.{HasReordered}
 use Rattle.stackorder.specs.Faults.{stack}
-use Rattle.stackorder.specs.Answers.{call, told, HasFilled}
+use Rattle.stackorder.specs.Answers.{call, told}
+use Rattle.stackorder.specs.Filled.{HasFilled}
 
 -- ---- `fill`
 

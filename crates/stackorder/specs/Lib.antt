@@ -1,3 +1,4 @@
 pub mod Faults
 pub mod Reorder
 pub mod Answers
+pub mod Filled

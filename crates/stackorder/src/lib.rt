@@ -1,6 +1,6 @@
 // Stack order: a tree's words with each node's seven after those of its children. Export gives that order, import takes it; each judges
 // the words first, then the output's length, so a call that is turned back leaves the output as it was. Leans on shape and words.
-pub mod fault;
+mod fault;
 mod reorder;
 
 use crate::fault::stack_fault;
@@ -13,7 +13,8 @@ use words::refusals;
 ghost use mathlib.Core.Path.{_≡_};
 ghost use Rattle.molang.specs.StackOrder.{IsOneTree, exportAnswered, exportedAfter, importAnswered, importedAfter};
 ghost use Rattle.stackorder.specs.Reorder.{readIn};
-ghost use Rattle.stackorder.specs.Answers.{told, call, HasFilled};
+ghost use Rattle.stackorder.specs.Answers.{told, call};
+ghost use Rattle.stackorder.specs.Filled.{HasFilled};
 
 // What a call is answered: the number of nodes that were put into the other order, or a refusal's number and place.
 pub enum Reordered {
