@@ -1,5 +1,5 @@
-// What is known of an operator by its number: its name, its classes, its closer, what it makes of a minus after it; sets of
-// operators, and the version that the rules use. Leans on nothing; follows op.rs, set.rs, version/mod.rs and the helpers
+// What is known of an operator by its number: its name, its classes, its closer, how many brackets are open after it, what it makes of a
+// minus after it; sets of operators, and the version that the rules use. Leans on nothing; follows op.rs, set.rs, version/mod.rs and the helpers
 // of the parse modules.
 pub mod classes;
 pub mod op;
@@ -47,7 +47,7 @@ pub fn closer_of(op: u32) -> u32
 }
 
 // What op adds to the number of open brackets, and one: an opener 2, a closer 0, anything else 1. The brackets are the operators 0 to 5,
-// the openers the even ones. By numbers, since brackets come in no order that a branch could be foretold by.
+// the openers the even ones. It is computed without a branch: brackets come in no order that a processor could foretell.
 fn raise_of(op: u32) -> usize
     ensures { λ r. ⌜ r ≡ raiseOf op ⌝ }
 {
