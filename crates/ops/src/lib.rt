@@ -1,6 +1,6 @@
 // What is known of an operator by its number: its name, its classes, its closer, how many brackets are open after it, what it makes of a
-// minus after it; sets of operators, and the version that the rules use. Leans on nothing; follows op.rs, set.rs, version/mod.rs and the helpers
-// of the parse modules.
+// minus after it; sets of operators, and the version that the rules use. Leans on nothing; follows op.rs, set.rs, version/mod.rs and the
+// helpers of the parse modules.
 pub mod classes;
 pub mod op;
 pub mod sets;
