@@ -1,4 +1,5 @@
-// The numbers of the refusals of document 01's table that reading a list and writing a tree can meet. Leans on nothing.
+// The numbers of the refusals that reading a list and writing a tree can meet: of document 01's table, and 17 and 18 of document 02's
+// card 8. Leans on nothing.
 
 pub const LIST_NOT_WHOLE: u32 = 1;
 
