@@ -5,7 +5,7 @@
 //! either. Rounds of batches go over all workloads in turn, and the least batch counts. The last line is `least ratio R, mean
 //! ratio M, greatest growth G`, of reading. Where `SORBRUDDER_BEFORE` names the folder of another archive when this is built,
 //! that library is timed in the same rounds (docs/notes/bench.md). Reading is timed under the greatest nesting limit, and long
-//! lists that nest less also under the limit 64.
+//! lists that nest less also under the limit 64, call by call in turn.
 //!
 //!     bench [ROUNDS]
 
@@ -42,13 +42,17 @@ mod timed {
             self.0.iter().copied().fold(f64::INFINITY, f64::min)
         }
 
-        /// By how much the middle batch is above the least.
-        fn noise(&self) -> f64 {
+        /// The batch that one in so many is below.
+        fn low(&self, part: usize) -> Option<f64> {
             let mut sorted = self.0.clone();
             sorted.sort_by(f64::total_cmp);
-            sorted
-                .get(sorted.len() / 2)
-                .map_or(0.0, |middle| middle / self.least() - 1.0)
+            sorted.get(sorted.len() / part).copied()
+        }
+
+        /// By how much the middle batch is above the least.
+        fn noise(&self) -> f64 {
+            let middle = self.low(2);
+            middle.map_or(0.0, |middle| middle / self.least() - 1.0)
         }
 
         /// Times `repeats` runs of `run` over `tokens` tokens or nodes, after one that brings what they use into the caches again.
@@ -63,24 +67,23 @@ mod timed {
         }
     }
 
-    /// The library that is timed, under the greatest nesting limit and under a lower one, and the one before it.
-    #[derive(Copy, Clone, PartialEq, Eq)]
+    /// The library that is timed, and the one before it.
+    #[derive(Copy, Clone)]
     enum Side {
         Now,
-        Limited,
         Before,
     }
 
-    /// All sides, the library and the one before it each first in every other round.
-    fn sides(round: usize) -> [Side; 3] {
+    /// Both sides, each first in every other round.
+    fn sides(round: usize) -> [Side; 2] {
         match round % 2 {
-            0 => [Side::Now, Side::Limited, Side::Before],
-            _ => [Side::Before, Side::Limited, Side::Now],
+            0 => [Side::Now, Side::Before],
+            _ => [Side::Before, Side::Now],
         }
     }
 
-    /// A limit that the brackets of a long list have to be counted for.
-    const LIMIT: u32 = 64;
+    /// The nesting limits that are timed call by call: the greatest, and one that the brackets of a long list are counted for.
+    const LIMITS: [u32; 2] = [MOST_NESTING, 64];
 
     /// A workload with what was measured of it.
     struct Line {
@@ -89,9 +92,10 @@ mod timed {
         /// What `tokens` counts.
         unit: &'static str,
         ours: Batches,
-        limited: Batches,
         before: Batches,
         rust: Batches,
+        /// Single calls under each of the limits.
+        limited: [Batches; 2],
     }
 
     impl Line {
@@ -101,9 +105,9 @@ mod timed {
                 tokens,
                 unit: "tokens",
                 ours: Batches::default(),
-                limited: Batches::default(),
                 before: Batches::default(),
                 rust: Batches::default(),
+                limited: Default::default(),
             }
         }
 
@@ -117,7 +121,6 @@ mod timed {
         fn side(&mut self, side: Side) -> &mut Batches {
             match side {
                 Side::Now => &mut self.ours,
-                Side::Limited => &mut self.limited,
                 Side::Before => &mut self.before,
             }
         }
@@ -126,10 +129,11 @@ mod timed {
             self.rust.least() / self.ours.least()
         }
 
-        /// How many nanoseconds a token takes more under the lower limit; none where it was not timed so.
+        /// How many nanoseconds a token takes more under the lower limit, where it was timed: of each the call that a fifth of them
+        /// are below, since so little does not show in the least.
         fn for_the_limit(&self) -> Option<f64> {
-            let limited = self.limited.least();
-            limited.is_finite().then(|| limited - self.ours.least())
+            let [greatest, lower] = &self.limited;
+            Some(lower.low(5)? - greatest.low(5)?)
         }
 
         /// How many times as long it takes as in the library before.
@@ -162,8 +166,6 @@ mod timed {
         /// All tokens of the lists together.
         tokens: usize,
         calls: Vec<(Case, Vec<u32>)>,
-        /// Whether it is read under the lower limit too.
-        is_limited: bool,
         libraries: Libraries,
         tree: Vec<u32>,
         messages: Vec<u32>,
@@ -180,7 +182,7 @@ mod timed {
     impl Libraries {
         fn of(self, side: Side) -> Option<Library> {
             match side {
-                Side::Now | Side::Limited => Some(self.now),
+                Side::Now => Some(self.now),
                 Side::Before => self.before,
             }
         }
@@ -195,11 +197,9 @@ mod timed {
                 let words = list_words(&case.tokens);
                 (case, words)
             };
-            let within = |case: &Case| least_limit(&case.tokens) <= LIMIT;
             let mut reading = Self {
                 line: Line::new(name, most),
                 tokens: sum,
-                is_limited: most >= MANY - 100 && workload.cases.iter().all(within),
                 calls: workload.cases.into_iter().map(with_words).collect(),
                 libraries,
                 tree: vec![0; 3 * NODE_WORDS * most],
@@ -209,24 +209,19 @@ mod timed {
             for call in 0..reading.calls.len() {
                 let case = &reading.calls[call].0;
                 assert_ne!(oracle::grouped_if_at_hand(case), Some(false), "{name}");
-                for side in sides(0) {
-                    if let Some(answer) = reading.read(side, call) {
-                        assert!(matches!(answer, Answer::Filled(_)), "{name}: {answer:?}");
-                    }
+                for library in [Some(libraries.now), libraries.before]
+                    .into_iter()
+                    .flatten()
+                {
+                    let answer = reading.read(library, call, MOST_NESTING);
+                    assert!(matches!(answer, Answer::Filled(_)), "{name}: {answer:?}");
                 }
             }
             reading
         }
 
-        /// Reads one list into buffers of exactly the lengths that the library asks for, if it is read on that side.
-        #[inline]
-        fn read(&mut self, side: Side, call: usize) -> Option<Answer> {
-            let library = self.libraries.of(side)?;
-            let limit = match side {
-                Side::Limited if !self.is_limited => return None,
-                Side::Limited => LIMIT,
-                _ => MOST_NESTING,
-            };
+        /// Reads one list into buffers of exactly the lengths that the library asks for.
+        fn read(&mut self, library: Library, call: usize, limit: u32) -> Answer {
             let (case, list) = black_box(&self.calls[call]);
             let given = Given {
                 source_len: u64::from(case.source_len),
@@ -237,19 +232,19 @@ mod timed {
             let tokens = case.tokens.len();
             let tree = &mut self.tree[..3 * library.node_words * tokens];
             let work = &mut self.work[..64 * tokens + 64];
-            Some(library.parse(list, tree, &mut self.messages, work, given))
+            library.parse(list, tree, &mut self.messages, work, given)
         }
 
         fn round(&mut self, round: usize) {
             let repeats = BATCH.div_ceil(self.tokens);
             for side in sides(round) {
-                if self.read(side, 0).is_none() {
+                let Some(library) = self.libraries.of(side) else {
                     continue;
-                }
+                };
                 let mut batches = std::mem::take(self.line.side(side));
                 batches.add(repeats, self.tokens, || {
                     for call in 0..self.calls.len() {
-                        black_box(self.read(side, call));
+                        black_box(self.read(library, call, MOST_NESTING));
                     }
                 });
                 *self.line.side(side) = batches;
@@ -260,6 +255,25 @@ mod timed {
                         black_box(oracle::grouped_if_at_hand(case));
                     }
                 });
+            }
+        }
+
+        /// Whether every list is within the lower limit.
+        fn is_within(&self) -> bool {
+            let mut cases = self.calls.iter().map(|(case, _)| case);
+            cases.all(|case| least_limit(&case.tokens) <= LIMITS[1])
+        }
+
+        /// Reads the first list under both limits in turn, each first in every other turn.
+        fn round_of_limits(&mut self) {
+            let tokens = self.calls[0].0.tokens.len();
+            for turn in 0..BATCH.div_ceil(tokens) {
+                for which in [turn % 2, (turn + 1) % 2] {
+                    let since = Instant::now();
+                    black_box(self.read(self.libraries.now, 0, LIMITS[which]));
+                    let nanoseconds = since.elapsed().as_nanos() as f64;
+                    self.line.limited[which].0.push(nanoseconds / tokens as f64);
+                }
             }
         }
     }
@@ -369,9 +383,8 @@ mod timed {
 
     impl Written {
         /// The first list of a workload, read and written, if its tree is plain; the list is as long as what is written.
-        fn new(side: Side, reading: &mut Reading) -> Option<Self> {
-            let library = reading.libraries.of(side)?;
-            let Some(Answer::Filled(nodes)) = reading.read(side, 0) else {
+        fn new(library: Library, reading: &mut Reading) -> Option<Self> {
+            let Answer::Filled(nodes) = reading.read(library, 0, MOST_NESTING) else {
                 unreachable!("the reading was a tree");
             };
             let tree = reading.tree[..library.node_words * nodes].to_vec();
@@ -412,9 +425,10 @@ mod timed {
         fn new(libraries: Libraries, workload: Workload) -> Self {
             let name = workload.name;
             let mut reading = Reading::new(libraries, workload);
-            let now = Written::new(Side::Now, &mut reading).expect("a plain tree");
+            let now = Written::new(libraries.now, &mut reading).expect("a plain tree");
             // Before card 1 no script was plain.
-            let before = Written::new(Side::Before, &mut reading);
+            let before = libraries.before;
+            let before = before.and_then(|before| Written::new(before, &mut reading));
             let (root, mut rust_list) = (now.built(), Vec::new());
             root.write_tree(&mut rust_list);
             assert!(rust_list == now.list, "{name}: two lists");
@@ -442,8 +456,6 @@ mod timed {
             for side in sides(round) {
                 let written = match side {
                     Side::Now => Some(&mut self.now),
-                    // The writer takes no limit.
-                    Side::Limited => None,
                     Side::Before => self.before.as_mut(),
                 };
                 if let Some(written) = written {
@@ -675,6 +687,8 @@ mod timed {
             let readings = self.short.iter_mut().chain(&mut self.many);
             let readings = readings.chain(&mut self.few);
             readings.for_each(|reading| reading.round(round));
+            let limited = self.many.iter_mut().filter(|reading| reading.is_within());
+            limited.for_each(Reading::round_of_limits);
             let writings = self.written.iter_mut().chain(&mut self.written_few);
             writings.for_each(|writing| writing.round(round));
             let reordered = self.reordered.iter_mut().chain(&mut self.reordered_few);
@@ -759,23 +773,22 @@ mod timed {
 
         /// Says what the count of brackets takes where a limit asks for it.
         fn print_limited(&self) {
-            let lines = self.many.iter().map(|reading| &reading.line);
-            let mut greatest: f64 = f64::NEG_INFINITY;
+            let limit = LIMITS[1];
+            let mut greatest = f64::NEG_INFINITY;
             let mut workloads = 0;
-            for line in lines {
+            for line in self.many.iter().map(|reading| &reading.line) {
                 let Some(more) = line.for_the_limit() else {
                     continue;
                 };
-                let (at_most, limited) = (line.ours.least(), line.limited.least());
                 println!(
-                    "{:28} {:5} tokens  {at_most:6.1} ns  at limit {LIMIT} {limited:6.1} ns  more {more:5.2} ns",
+                    "{:28} {:5} tokens  at limit {limit} {more:5.2} ns more",
                     line.name, line.tokens
                 );
-                greatest = greatest.max(more);
+                greatest = more.max(greatest);
                 workloads += 1;
             }
             println!(
-                "reading at limit {LIMIT}, {workloads} workloads: at most {greatest:.2} ns a token more"
+                "reading at limit {limit}, {workloads} workloads: at most {greatest:.2} ns a token more"
             );
         }
 
