@@ -8,6 +8,7 @@ mod statements;
 
 use crate::plain::Judged;
 use crate::plain::judge;
+use crate::spell::LAST_START;
 use crate::spell::write_node;
 use crate::statements::write_statements;
 use ops::op;
@@ -44,7 +45,7 @@ fn fill(tree: &[u32], list: &mut [u32], tokens: usize) -> Written
         return Written::Tokens(tokens);
     }
     let mut to = 0usize;
-    let mut low = fields::KIND - 1;
+    let mut low = LAST_START;
     let mut high = 0u32;
     write_node(tree, list, &mut to, &mut low, &mut high);
     Written::Tokens(tokens)

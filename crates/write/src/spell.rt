@@ -23,6 +23,9 @@ ghost use Rattle.shape.specs.Shaped.{nodeLength, firstFive};
 ghost use Rattle.write.specs.Spelling.{spanningWords, closerWords, pairOpener, pairCloser, seen, seenAfter};
 ghost use Rattle.write.specs.Spelling.{nodeTokens, operandOf, filledWords, nodeWritten, operandWritten, Room};
 
+// The greatest start that a word holds. The extent of nothing goes from it to 0, and every span widens that.
+pub const LAST_START: u32 = fields::KIND - 1;
+
 // Puts a token's five words into the list from `to` on, and moves `to` behind them.
 pub fn put(list: &mut [u32], to: &mut usize, token: TokenWords)
     requires { ⌜ now to + 5 ≤ length (now list) ⌝ }
@@ -137,7 +140,8 @@ pub fn write_node<'a>(
 }
 
 // Writes the tree that the words open with as an operand in its seat, and takes its spans in; gives back the words that it fills. An added
-// pair covers the operand's extent, which is known when the operand is written: the words of its opener are kept free until then.
+// pair covers the operand's extent, which is known when the operand is written: the words of its opener are kept free until then, and
+// `low` and `high` start anew for the operand. Its extent is taken into what they were.
 fn write_operand<'a>(
     words: &'a [u32],
     seat: Seat,
@@ -161,10 +165,16 @@ fn write_operand<'a>(
     }
     let at = *to;
     *to = at + fields::TOKEN_WORDS;
-    let mut starts = fields::KIND - 1;
-    let mut ends = 0u32;
-    let operand = write_node(words, list, to, &mut starts, &mut ends);
-    put_pair(starts, ends, at, list, to);
-    widen(low, high, starts, ends);
+    let outer_low = *low;
+    let outer_high = *high;
+    *low = LAST_START;
+    *high = 0;
+    let operand = write_node(words, list, to, low, high);
+    let start = *low;
+    let end = *high;
+    put_pair(start, end, at, list, to);
+    *low = outer_low;
+    *high = outer_high;
+    widen(low, high, start, end);
     operand
 }

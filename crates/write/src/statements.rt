@@ -1,5 +1,6 @@
 // The writing of a script: what each statement holds, and behind it a semicolon with the span of that child and payload 0. The root and
 // the statements have no tokens of their own. Leans on spell, ops and words.
+use crate::spell::LAST_START;
 use crate::spell::put;
 use crate::spell::write_node;
 use ops::op;
@@ -23,7 +24,7 @@ fn write_statement(words: &[u32], list: &mut [u32], to: &mut usize) -> usize
     ensures { λ _. ⌜ now (to .exit) ≡ now (to .entry) + length (statementWritten (now (words .entry))) ⌝ }
 {
     let held = &words[fields::NODE_WORDS..];
-    let mut low = fields::KIND - 1;
+    let mut low = LAST_START;
     let mut high = 0u32;
     let written = write_node(held, list, to, &mut low, &mut high);
     put(list, to, TokenWords::at(held, 0).bare(op::SEMICOLON));

@@ -44,9 +44,6 @@ returns-3 c =
     (sym (read .operator .ensures) ∙ written .before .before .if3 .taken) (written .write-statements .last .1 .0)
     (written .write-statements .ensures)
 
-sub-low : tie.Need-sub-low
-sub-low c = search needs
-
 write-node-requires : tie.Need-write-node-requires
 write-node-requires c κs =
     let other = c .before .before .before .before in
@@ -81,7 +78,6 @@ fill-spec =
     write-statements-requires
     same-length
     returns-3
-    sub-low
     write-node-requires
     same-length-2
     returns-4)

@@ -397,26 +397,23 @@ write-operand-add-to t c =
     let test = c .before .if1 in
     omega (arith, start .good .0 .0, open-room (start .args .seat) (start .pre .1) (rw (op .ensures, count .ensures) at (sym (pair .ensures) ∙ not-false _ (test .left))))
 
-write-operand-sub-starts : (t : ℕ) → write-operand-lts.Need-sub-starts (operand-calls t) (write-operand-at t) write-operand.Post
-write-operand-sub-starts t c = search needs
-
 write-operand-write-node-requires-2 : (t : ℕ) → write-operand-lts.Need-write-node-requires-2 (operand-calls t) (write-operand-at t) write-operand.Post
 write-operand-write-node-requires-2 t c κs =
-    let start = c .before .before .before .before .before .before .before .before .before .before .before .before .before in
-    let op = c .before .before .before .before .before .before .before .before .before .operator in
-    let count = c .before .before .before .before .before .before .before .low in
-    let pair = c .before .before .before .before .before .before .is-paired in
-    let test = c .before .before .before .before .before .if1 in
+    let start = c .before .before .before .before .before .before .before .before .before .before .before .before .before .before .before in
+    let op = c .before .before .before .before .before .before .before .before .before .before .before .operator in
+    let count = c .before .before .before .before .before .before .before .before .before .low in
+    let pair = c .before .before .before .before .before .before .before .before .is-paired in
+    let test = c .before .before .before .before .before .before .before .if1 in
     let less : 2 * nodesLeft (start .args .words .now) < t = omega (arith, start .pre .0) in
     (less, inner-room (start .args .seat) (start .pre .1) (rw (op .ensures, count .ensures) at (sym (pair .ensures) ∙ not-false _ (test .left))))
 
 write-operand-put-pair-requires : (t : ℕ) → write-operand-lts.Need-put-pair-requires (operand-calls t) (write-operand-at t) write-operand.Post
 write-operand-put-pair-requires t c κs =
-    let start = c .before .before .before .before .before .before .before .before .before .before .before .before .before .before .before .before .before .before in
-    let op = c .before .before .before .before .before .before .before .before .before .before .before .before .before .before .operator in
-    let count = c .before .before .before .before .before .before .before .before .before .before .before .before .low in
-    let pair = c .before .before .before .before .before .before .before .before .before .before .before .is-paired in
-    let test = c .before .before .before .before .before .before .before .before .before .before .if1 in
+    let start = c .before .before .before .before .before .before .before .before .before .before .before .before .before .before .before .before .before .before .before .before in
+    let op = c .before .before .before .before .before .before .before .before .before .before .before .before .before .before .before .before .operator in
+    let count = c .before .before .before .before .before .before .before .before .before .before .before .before .before .before .low in
+    let pair = c .before .before .before .before .before .before .before .before .before .before .before .before .before .is-paired in
+    let test = c .before .before .before .before .before .before .before .before .before .before .before .before .if1 in
     let node = c .before .before .before .before .write-node2 in
     close-room (start .args .seat) (start .pre .1) (rw (op .ensures, count .ensures) at (sym (pair .ensures) ∙ not-false _ (test .left))) (node .result .now) (node .last .1 .0) (node .last .1 .1 .0) (node .ensures .1)
 
@@ -425,22 +422,22 @@ write-operand-widen-requires t c κs = search needs
 
 write-operand-same-length-2 : (t : ℕ) → write-operand-lts.Need-same-length-2 (operand-calls t) (write-operand-at t) write-operand.Post
 write-operand-same-length-2 t c =
-    let start = c .before .before .before .before .before .before .before .before .before .before .before .before .before .before .before .before .before .before .before .before .before .before .before .before in
-    let op = c .before .before .before .before .before .before .before .before .before .before .before .before .before .before .before .before .before .before .before .before .operator in
-    let count = c .before .before .before .before .before .before .before .before .before .before .before .before .before .before .before .before .before .before .low in
-    let pair = c .before .before .before .before .before .before .before .before .before .before .before .before .before .before .before .before .before .is-paired in
-    let test = c .before .before .before .before .before .before .before .before .before .before .before .before .before .before .before .before .if1 in
+    let start = c .before .before .before .before .before .before .before .before .before .before .before .before .before .before .before .before .before .before .before .before .before .before .before .before .before .before in
+    let op = c .before .before .before .before .before .before .before .before .before .before .before .before .before .before .before .before .before .before .before .before .before .before .operator in
+    let count = c .before .before .before .before .before .before .before .before .before .before .before .before .before .before .before .before .before .before .before .before .low in
+    let pair = c .before .before .before .before .before .before .before .before .before .before .before .before .before .before .before .before .before .before .before .is-paired in
+    let test = c .before .before .before .before .before .before .before .before .before .before .before .before .before .before .before .before .before .before .if1 in
     let node = c .before .before .before .before .before .before .before .before .before .before .write-node2 in
     let added = c .before .before .before .before .before .put-pair in
     pair-length (start .args .seat) (start .pre .1) (rw (op .ensures, count .ensures) at (sym (pair .ensures) ∙ not-false _ (test .left))) (node .result .now) (node .last .1 .0) (node .last .1 .1 .0) (node .ensures .1) (node .last .1 .1 .1 .0) (node .last .1 .1 .1 .1 .0) (node .ensures .0) (added .last .1 .1 .1 .0) (added .last .1 .1 .1 .1 .0) (added .ensures .0) (added .ensures .1)
 
 write-operand-returns-2 : (t : ℕ) → write-operand-lts.Need-returns-2 (operand-calls t) (write-operand-at t) write-operand.Post
 write-operand-returns-2 t c =
-    let start = c .before .before .before .before .before .before .before .before .before .before .before .before .before .before .before .before .before .before .before .before .before .before .before .before in
-    let op = c .before .before .before .before .before .before .before .before .before .before .before .before .before .before .before .before .before .before .before .before .operator in
-    let count = c .before .before .before .before .before .before .before .before .before .before .before .before .before .before .before .before .before .before .low in
-    let pair = c .before .before .before .before .before .before .before .before .before .before .before .before .before .before .before .before .before .is-paired in
-    let test = c .before .before .before .before .before .before .before .before .before .before .before .before .before .before .before .before .if1 in
+    let start = c .before .before .before .before .before .before .before .before .before .before .before .before .before .before .before .before .before .before .before .before .before .before .before .before .before .before in
+    let op = c .before .before .before .before .before .before .before .before .before .before .before .before .before .before .before .before .before .before .before .before .before .before .operator in
+    let count = c .before .before .before .before .before .before .before .before .before .before .before .before .before .before .before .before .before .before .before .before .low in
+    let pair = c .before .before .before .before .before .before .before .before .before .before .before .before .before .before .before .before .before .before .before .is-paired in
+    let test = c .before .before .before .before .before .before .before .before .before .before .before .before .before .before .before .before .before .before .if1 in
     let node = c .before .before .before .before .before .before .before .before .before .before .write-node2 in
     let added = c .before .before .before .before .before .put-pair in
     let wide = c .widen in
@@ -450,4 +447,4 @@ pub +write-node+write-operand-spec : {M : Type 1} → statement M
 +write-node+write-operand-spec =
     close μ-write-node μ-write-operand
     (λ t. write-node-lts.spec (node-calls t) (write-node-at t) write-node.Post (write-node-shared-slice-read-operator t) (write-node-operator-requires t) (write-node-shared-slice-read-low t) (write-node-low-requires t) (write-node-sub-below t) (write-node-part-below-start t) (write-node-part-below-end t) (write-node-shared-slice-read-widen t) (write-node-shared-slice-read-widen-2 t) (write-node-widen-requires t) (write-node-seat-of-left-requires t) (write-node-write-operand-requires t) (write-node-put-token-requires t) (write-node-add-next t) (write-node-mul-write-operand t) (write-node-sub-write-operand t) (write-node-part-write-operand-start t) (write-node-part-write-operand-end t) (write-node-seat-of-right-requires t) (write-node-write-operand-requires-2 t) (write-node-add-result t) (write-node-slice-aggregate-result t) (write-node-same-length t) (write-node-returns t) (write-node-put-token-requires-2 t) (write-node-put-closer-requires t) (write-node-slice-aggregate-result-2 t) (write-node-same-length-2 t) (write-node-returns-2 t) (write-node-seat-of-only-requires t) (write-node-write-operand-requires-3 t) (write-node-put-closer-requires-2 t) (write-node-add-result-2 t) (write-node-slice-aggregate-result-3 t) (write-node-same-length-3 t) (write-node-returns-3 t))
-    (λ t. write-operand-lts.spec (operand-calls t) (write-operand-at t) write-operand.Post (write-operand-shared-slice-read-operator t) (write-operand-operator-requires t) (write-operand-shared-slice-read-low t) (write-operand-low-requires t) (write-operand-is-paired-requires t) (write-operand-write-node-requires t) (write-operand-same-length t) (write-operand-returns t) (write-operand-add-to t) (write-operand-sub-starts t) (write-operand-write-node-requires-2 t) (write-operand-put-pair-requires t) (write-operand-widen-requires t) (write-operand-same-length-2 t) (write-operand-returns-2 t))
+    (λ t. write-operand-lts.spec (operand-calls t) (write-operand-at t) write-operand.Post (write-operand-shared-slice-read-operator t) (write-operand-operator-requires t) (write-operand-shared-slice-read-low t) (write-operand-low-requires t) (write-operand-is-paired-requires t) (write-operand-write-node-requires t) (write-operand-same-length t) (write-operand-returns t) (write-operand-add-to t) (write-operand-write-node-requires-2 t) (write-operand-put-pair-requires t) (write-operand-widen-requires t) (write-operand-same-length-2 t) (write-operand-returns-2 t))

@@ -15,9 +15,6 @@ part-held-start c = statement-long (c .before .before .pre)
 part-held-end : tie.Need-part-held-end
 part-held-end c = omega arith
 
-sub-low : tie.Need-sub-low
-sub-low c = search needs
-
 write-node-requires : tie.Need-write-node-requires
 write-node-requires c κs = held-room (c .before .before .before .before .before .before .before .pre)
 
@@ -61,7 +58,6 @@ write-statement-spec =
     sub-held
     part-held-start
     part-held-end
-    sub-low
     write-node-requires
     at-requires
     bare-requires
