@@ -175,7 +175,8 @@ tokens-rep list W i (k ∷ ks) e (token legal later) closes h =
     let most = reserve-most k nil in
     let op : operatorOf (wd list (5 * i)) ≡ k .op
     = ap operatorOf (sym (rw (add-zero (slotStart b)) at (v .words 0 (omega arith)))) ∙ token-op t in
-    let leaf = leaf-tree {W = W} {X = 0 ∷ []} {b = b} {l = b} {m = 3 * suc i + 3} {t = k} (le-refl b) (omega arith) (omega arith) (λ s x y. (omega arith, tt)) t
+    let leaf = leaf-tree {W = W} {X = 0 ∷ []} {b = b} {l = b} {m = 3 * suc i + 3} {t = k} (le-refl b) (omega arith) (omega arith)
+    (λ s x y. (omega arith, tt)) t
     (notes-leaf (λ c x. v .classes c ∙ ap (λ (o : ℕ). inClass c o) op)) (v .first) in
     let g : 3 * (i + suc (length ks)) + 3 ≡ 3 * (suc i + length ks) + 3 = omega arith in
     rw g (tree-more (le-refl b) leaf (tokens-rep list W (suc i) ks (drop-token list i k ks e) later (closes .1) (λ j x. h j (omega arith))))

@@ -60,14 +60,16 @@ module _ {W W1 : List ℕ} {w : Walk} {base0 : ℕ} (g : CanAdvance W w base0) (
   same1 : (j : ℕ) → Free (g .going .X) (g .going .lo) (g .going .hi) j → j < w .list .base → wd W1 j ≡ wd W j
   same1 j x y =
       turned-within .kept j
-      (free-inner (w .list .owner) (g .going .X) (g .going .lo) (g .going .hi) (g .going .lo) (g .going .hi) j (le-refl (g .going .lo)) (le-refl (g .going .hi)) x)
+      (free-inner (w .list .owner) (g .going .X) (g .going .lo) (g .going .hi) (g .going .lo) (g .going .hi) j (le-refl (g .going .lo))
+      (le-refl (g .going .hi)) x)
       (inl y)
 
   stack1 : Stack (g .κ) (g .classes) W1 base0 (g .hi0) (g .going .X) (w .list .owner) (g .going .lo) (g .going .hi) (w .list .base) (g .S)
   stack1 =
       let below = g .going .holds .sides .below in
       stack-keep W W1 (g .going .some) (g .going .stack) same1
-      (λ o x. turned-within .kept (slotStart (w .list .owner) + o) (free-own (w .list .owner) (g .going .X) (g .going .lo) (g .going .hi) o (omega arith)) (inl (omega (arith, bounds .high))))
+      (λ o x. turned-within .kept (slotStart (w .list .owner) + o)
+      (free-own (w .list .owner) (g .going .X) (g .going .lo) (g .going .hi) o (omega arith)) (inl (omega (arith, bounds .high))))
       (turned-within .long)
 
   stack-of : {w' : Walk} → SameList w w'
@@ -223,7 +225,8 @@ module _ {W W1 : List ℕ} {w : Walk} {base0 : ℕ} (g : CanAdvance W w base0) w
           go : Ending → NextTo (g .κ) (g .classes) W2 base0 (g .hi0) (Result-of g) (Turns-of g) x
           go (ends {s' = s'} same v idle e) =
               next-more (omega arith)
-              (subst (λ (y : Result). NextTo (g .κ) (g .classes) W2 base0 (g .hi0) y (turnsBelow (g .κ) (g .S)) x) (sym (ap (unwound (g .κ) (g .S)) e))
+              (subst (λ (y : Result). NextTo (g .κ) (g .classes) W2 base0 (g .hi0) y (turnsBelow (g .κ) (g .S)) x)
+              (sym (ap (unwound (g .κ) (g .S)) e))
               (closed .to (closes (ends same v idle e))))
 
       beyond-close : Beyond W W2 base0 (g .hi0)

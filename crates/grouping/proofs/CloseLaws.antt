@@ -102,7 +102,8 @@ given : {κ : Kind} {W' X : List ℕ} {lo hi : ℕ} {v : Items} {s : State κ} {
     → Gives κ W' X lo hi v s from n
 given (gives {f = f} e a l h) = record { f = f; result = e; array = a; low = l; high = h }
 
-failed-next : {κ : Kind} {classes : ℕ} {W' X : List ℕ} {lo hi base0 hi0 : ℕ} {v : Items} {s : State κ} {f : Failure} (S : List (Held κ)) (turns : ℕ)
+failed-next : {κ : Kind} {classes : ℕ} {W' X : List ℕ} {lo hi base0 hi0 : ℕ} {v : Items} {s : State κ} {f : Failure} (S : List (Held κ))
+    (turns : ℕ)
     → FinishTo κ W' X lo hi v s (Failed f) → NextTo κ classes W' base0 hi0 (unwound κ S (work κ s nil)) turns (Fail f)
 failed-next {κ} S turns (fails {ms = ms} t e) = NextTo.fails (ap (unwound κ S) e ∙ unwound-fail κ S ms) t
 
@@ -113,7 +114,8 @@ module _ {W W1 : List ℕ} {w : Walk} {base0 : ℕ} (r : Finished) (ended : Ends
       let within = ended .within (close-can-finish g) in
       let G = g .going in
       top-beyond base0 (g .hi0) (stack-bounds (G .some) (G .stack))
-      (λ j x y. within .kept j (free-inner (w .list .owner) (G .X) (G .lo) (G .hi) (G .lo) (G .hi) j (le-refl (G .lo)) (le-refl (G .hi)) x) (inl y))
+      (λ j x y. within .kept j (free-inner (w .list .owner) (G .X) (G .lo) (G .hi) (G .lo) (G .hi) j (le-refl (G .lo)) (le-refl (G .hi)) x)
+      (inl y))
       (within .long)
 
   pub closed-failed : (f : Failure) → r ≡ Failed f → Closed W w base0 (Fail f) W1
@@ -123,7 +125,8 @@ module _ {W W1 : List ℕ} {w : Walk} {base0 : ℕ} (r : Finished) (ended : Ends
         to =
             λ g.
             failed-next (g .S) _
-            (subst (λ (x : Finished). FinishTo (g .κ) W1 (w .list .owner ∷ g .going .X) (g .going .lo) (g .going .hi) (w .list) (g .s) x) e (ended .to (close-can-finish g)));
+            (subst (λ (x : Finished). FinishTo (g .κ) W1 (w .list .owner ∷ g .going .X) (g .going .lo) (g .going .hi) (w .list) (g .s) x) e
+            (ended .to (close-can-finish g)));
         beyond = finished-beyond;
       }
 
@@ -173,7 +176,8 @@ top-frame n (over {X = X} {lo = lo} {hi = hi} {w = w} {t = t} {k = k} {rest = re
     }
 
 -- at the outermost list
-outermost : {κ : Kind} {classes : ℕ} {W W1 W2 W3 : List ℕ} {base0 hi0 : ℕ} {X : List ℕ} {owner lo hi base from n : ℕ} {S : List (Held κ)} {f : Forest} {r : Result} (turns : ℕ)
+outermost : {κ : Kind} {classes : ℕ} {W W1 W2 W3 : List ℕ} {base0 hi0 : ℕ} {X : List ℕ} {owner lo hi base from n : ℕ} {S : List (Held κ)}
+    {f : Forest} {r : Result} (turns : ℕ)
     → 0 < hi0 → base ≡ base0 → r ≡ ok f → Stack κ classes W base0 hi0 X owner lo hi base S → InArray W1 (owner ∷ X) from n lo hi f
     → Given W1 owner from n W2 → Moved W2 from n base W3
     → slotStart hi ≤ base → base ≤ from → NextTo κ classes W3 base0 hi0 (unwound κ S r) turns (Done n)
@@ -211,7 +215,8 @@ module _ {W W1 : List ℕ} {w : Walk} {base0 from n : ℕ} (g : CanClose W w bas
     same2 j x y =
         give-kept gv (gave .array .seg) (sym (gave .array .count)) (gave .array .rep) (bounds .low) (bounds .high) (bounds .out) j x
         ∙ finished-within .kept j
-        (free-inner (w .list .owner) (g .going .X) (g .going .lo) (g .going .hi) (g .going .lo) (g .going .hi) j (le-refl (g .going .lo)) (le-refl (g .going .hi)) x)
+        (free-inner (w .list .owner) (g .going .X) (g .going .lo) (g .going .hi) (g .going .lo) (g .going .hi) j (le-refl (g .going .lo))
+        (le-refl (g .going .hi)) x)
         (inl y)
 
     own2 : (o : ℕ) → o < 5 → wd W2 (slotStart (w .list .owner) + o) ≡ wd W (slotStart (w .list .owner) + o)
@@ -236,7 +241,8 @@ module _ {W W1 : List ℕ} {w : Walk} {base0 from n : ℕ} (g : CanClose W w bas
 
     module _ {W3 : List ℕ} (mv : Moved W2 from n (w .list .base) W3) where
       next-done : w .list .base ≡ base0
-          → NextTo (g .κ) (g .classes) W3 base0 (g .hi0) (unwound (g .κ) (g .S) (work (g .κ) (g .s) nil)) (turnsBelow (g .κ) (g .S)) (Done n)
+          → NextTo (g .κ) (g .classes) W3 base0 (g .hi0) (unwound (g .κ) (g .S) (work (g .κ) (g .s) nil)) (turnsBelow (g .κ) (g .S))
+          (Done n)
       next-done e =
           outermost (turnsBelow (g .κ) (g .S)) (g .going .some) e (gave .result) stack2 (gave .array) gv mv (g .going .holds .sides .below)
           (gave .low)
@@ -245,7 +251,8 @@ module _ {W W1 : List ℕ} {w : Walk} {base0 from n : ℕ} (g : CanClose W w bas
       done-beyond e = beyond-then beyond2 (record { kept = λ j x y. mv .same j (omega arith); long = mv .long })
 
     module _ (inner : w .list .base ≢ base0) where
-      top : TopFrame (g .κ) (g .classes) W2 base0 (g .hi0) (g .going .X) (w .list .owner) (g .going .lo) (g .going .hi) (w .list .base) (g .S)
+      top : TopFrame (g .κ) (g .classes) W2 base0 (g .hi0) (g .going .X) (w .list .owner) (g .going .lo) (g .going .hi) (w .list .base)
+          (g .S)
       top = top-frame inner stack2
 
       pub close-can-pop : CanPop W2 (w .list .base)
@@ -336,18 +343,22 @@ module _ {W W1 : List ℕ} {w : Walk} {base0 from n : ℕ} (g : CanClose W w bas
           same3 : (j : ℕ) → Free (top .X') (top .lo') (top .hi') j → j < top .wait .list .base → wd W3 j ≡ wd W2 j
           same3 j x y =
               within3 .kept j
-              (free-inner (top .wait .list .owner) (top .X') (top .lo') (top .hi') (top .lo') (top .hi') j (le-refl (top .lo')) (le-refl (top .hi')) x)
+              (free-inner (top .wait .list .owner) (top .X') (top .lo') (top .hi') (top .lo') (top .hi') j (le-refl (top .lo'))
+              (le-refl (top .hi')) x)
               (inl y)
 
-          stack3 : Stack (g .κ) (g .classes) W3 base0 (g .hi0) (top .X') (top .wait .list .owner) (top .lo') (top .hi') (top .wait .list .base) (top .S')
+          stack3 : Stack (g .κ) (g .classes) W3 base0 (g .hi0) (top .X') (top .wait .list .owner) (top .lo') (top .hi')
+              (top .wait .list .base) (top .S')
           stack3 =
               let below = top .frame .waiting .sides .below in
               stack-keep W2 W3 (g .going .some) (top .stack) same3
-              (λ o x. within3 .kept (slotStart (top .wait .list .owner) + o) (free-own (top .wait .list .owner) (top .X') (top .lo') (top .hi') o (omega arith))
+              (λ o x. within3 .kept (slotStart (top .wait .list .owner) + o)
+              (free-own (top .wait .list .owner) (top .X') (top .lo') (top .hi') o (omega arith))
               (inl (omega (arith, below-bounds .high))))
               (within3 .long)
 
-          result3 : unwound (g .κ) (g .S) (work (g .κ) (g .s) nil) ≡ unwound (g .κ) (top .S') (work (g .κ) (takes (g .κ) (top .t) (top .k) (gave .f)) (top .rest))
+          result3 : unwound (g .κ) (g .S) (work (g .κ) (g .s) nil)
+              ≡ unwound (g .κ) (top .S') (work (g .κ) (takes (g .κ) (top .t) (top .k) (gave .f)) (top .rest))
           unfolding unwound andThen
           result3 =
               ap (λ (S : List (Held (g .κ))). unwound (g .κ) S (work (g .κ) (g .s) nil)) (top .lists)
@@ -375,7 +386,8 @@ module _ {W W1 : List ℕ} {w : Walk} {base0 from n : ℕ} (g : CanClose W w bas
                     (sym (l .owner)) (sym (l .base)) stack3;
                 holds =
                     subst
-                    (λ (x : ℕ). Holds (g .κ) W3 (x ∷ top .X') (top .lo') (top .hi') w3 (takes (g .κ) (top .t) (top .k) (gave .f)) (top .rest))
+                    (λ (x : ℕ). Holds (g .κ) W3 (x ∷ top .X') (top .lo') (top .hi') w3 (takes (g .κ) (top .t) (top .k) (gave .f))
+                    (top .rest))
                     (sym (l .owner))
                     (back-at .holds waiting-resumes);
                 same = l .classes ∙ top .frame .same;
@@ -385,7 +397,8 @@ module _ {W W1 : List ℕ} {w : Walk} {base0 from n : ℕ} (g : CanClose W w bas
                 small = omega (arith, g .going .small, long2, within3 .long);
               }
 
-          next-on : NextTo (g .κ) (g .classes) W3 base0 (g .hi0) (unwound (g .κ) (g .S) (work (g .κ) (g .s) nil)) (turnsBelow (g .κ) (g .S)) (On w3)
+          next-on : NextTo (g .κ) (g .classes) W3 base0 (g .hi0) (unwound (g .κ) (g .S) (work (g .κ) (g .s) nil)) (turnsBelow (g .κ) (g .S))
+              (On w3)
           next-on =
               let few = takes-waits (g .κ) (top .t) (top .k) (gave .f) in
               let all = ap (turnsBelow (g .κ)) (top .lists) in

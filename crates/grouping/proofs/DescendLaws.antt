@@ -186,7 +186,8 @@ module _ {W : List ℕ} {w : Walk} {item : ℕ} (g : CanDescend W w item) where
       some-slot : 0 < g .hi0
       some-slot = omega (arith, stack-within (g .stack), g .waiting .sides .high, tree-below (g .tree))
 
-      descend-frame : FrameOf (g .κ) (g .classes) W2 (w .list .owner ∷ g .X) (g .lo) (g .l) (g .m) (g .hi) (walkOf (w .list) (rested (w .pass))) item (g .t) (g .k) (g .rest)
+      descend-frame : FrameOf (g .κ) (g .classes) W2 (w .list .owner ∷ g .X) (g .lo) (g .l) (g .m) (g .hi)
+          (walkOf (w .list) (rested (w .pass))) item (g .t) (g .k) (g .rest)
       descend-frame =
           let below = g .waiting .sides .below in
           let high = g .waiting .sides .high in
@@ -219,15 +220,18 @@ module _ {W : List ℕ} {w : Walk} {item : ℕ} (g : CanDescend W w item) where
             room = rw long-opened (g .room);
           }
 
-      descend-stack : Stack (g .κ) (g .classes) W2 (g .base0) (g .hi0) (w .list .owner ∷ g .X) item (g .l) (g .m) (w .list .base + w .list .len + 6) (held (g .t) (g .k) (g .rest) ∷ g .S)
+      descend-stack : Stack (g .κ) (g .classes) W2 (g .base0) (g .hi0) (w .list .owner ∷ g .X) item (g .l) (g .m)
+          (w .list .base + w .list .len + 6) (held (g .t) (g .k) (g .rest) ∷ g .S)
       descend-stack =
           let bounds = stack-bounds some-slot (g .stack) in
           let below = g .waiting .sides .below in
           over {w = walkOf (w .list) (rested (w .pass))}
-          (stack-keep W W2 some-slot (g .stack) (λ j x y. same-below j (omega arith)) (λ o x. same-below (slotStart (w .list .owner) + o) (omega (arith, bounds .high))) long-opened)
+          (stack-keep W W2 some-slot (g .stack) (λ j x y. same-below j (omega arith))
+          (λ o x. same-below (slotStart (w .list .owner) + o) (omega (arith, bounds .high))) long-opened)
           descend-frame
 
-      descended-going : Going (g .κ) (g .classes) W2 (g .base0) (g .hi0) w' (held (g .t) (g .k) (g .rest) ∷ g .S) (g .u) (inReading (g .κ) (g .cs))
+      descended-going : Going (g .κ) (g .classes) W2 (g .base0) (g .hi0) w' (held (g .t) (g .k) (g .rest) ∷ g .S) (g .u)
+          (inReading (g .κ) (g .cs))
       unfolding descend-can-open
       descended-going =
           let owned = opened .owned in
@@ -243,7 +247,8 @@ module _ {W : List ℕ} {w : Walk} {item : ℕ} (g : CanDescend W w item) where
             hi = g .m;
             stack =
                 subst₂
-                (λ (x : ℕ) (y : ℕ). Stack (g .κ) (g .classes) W2 (g .base0) (g .hi0) (w .list .owner ∷ g .X) x (g .l) (g .m) y (held (g .t) (g .k) (g .rest) ∷ g .S))
+                (λ (x : ℕ) (y : ℕ). Stack (g .κ) (g .classes) W2 (g .base0) (g .hi0) (w .list .owner ∷ g .X) x (g .l) (g .m) y
+                (held (g .t) (g .k) (g .rest) ∷ g .S))
                 (sym owned) (sym based) descend-stack;
             holds =
                 subst (λ (x : ℕ). Holds (g .κ) W2 (x ∷ w .list .owner ∷ g .X) (g .l) (g .m) w' (g .u) (inReading (g .κ) (g .cs)))

@@ -321,11 +321,13 @@ module _ {W : List ℕ} {base n : ℕ} {used : OpSet} where
     where
       go : (g : CanGroup W base n) (l : ℕ) (ps : List Pass) (r : Left) → Fallen r
           → EndsTo W l (ifRun (runs (usedBy used) lastToken) (endsWithSemicolon l) (leaves (g .tokens))) (leaves (g .tokens)) r
-          → FlatTo W base n l (usedBy used) ps (grouped l (usedBy used) (lastToken ∷ memberAccessors ∷ sectioning ∷ ps) [] (leaves (g .tokens))) r
+          → FlatTo W base n l (usedBy used) ps (grouped l (usedBy used)
+          (lastToken ∷ memberAccessors ∷ sectioning ∷ ps) [] (leaves (g .tokens))) r
       go g l ps (Done m) d v = absurd d
       go g l ps (Fail q) d (unended {ms = ms} e s) =
           subst (λ (a : Answer). StandsFor W (3 * n + 3) n l (Failed q) a)
-          (sym (read-out l (usedBy used) lastToken (memberAccessors ∷ sectioning ∷ ps) (leaves (g .tokens)) (endsWithSemicolon l) refl ms refl e))
+          (sym (read-out l (usedBy used) lastToken (memberAccessors ∷ sectioning ∷ ps) (leaves (g .tokens))
+          (endsWithSemicolon l) refl ms refl e))
           (stands.failed s)
 
   module _ (first : Left) (there : OneOf (0 ∷ []) (tagOf the-type first)) (w : EndsRight W base n used first) where
@@ -352,7 +354,8 @@ module _ {W : List ℕ} {base n : ℕ} {used : OpSet} where
 
     module _ {W1 : List ℕ} {m1 : ℕ} (v : JoinedIf W base n used (Done m1) W1) where
       second-on : (g : CanGroup W base n) (l : ℕ) (ps : List Pass)
-          → grouped l (usedBy used) (lastToken ∷ memberAccessors ∷ ps) [] (leaves (g .tokens)) ≡ grouped l (usedBy used) ps [] (v .answer (group-joins g) .forest)
+          → grouped l (usedBy used) (lastToken ∷ memberAccessors ∷ ps) [] (leaves (g .tokens))
+          ≡ grouped l (usedBy used) ps [] (v .answer (group-joins g) .forest)
       unfolding apply
       second-on g l ps =
           first-on g l (memberAccessors ∷ ps)
@@ -373,8 +376,10 @@ module _ {W : List ℕ} {base n : ℕ} {used : OpSet} where
       flat-sectioned {W'} r z = record { to = λ g l ps. go g l ps r (z .answer (group-sections g v)); long = z .long ∙ v .long }
         where
           go : (g : CanGroup W base n) (l : ℕ) (ps : List Pass) (r : Left)
-              → Answers W' (0 ∷ []) base 3 (3 * n + 3) m1 (ifRun (runs (usedBy used) sectioning) (sections 0 (outside nil)) (v .answer (group-joins g) .forest)) r
-              → FlatTo W' base n l (usedBy used) ps (grouped l (usedBy used) (lastToken ∷ memberAccessors ∷ sectioning ∷ ps) [] (leaves (g .tokens))) r
+              → Answers W' (0 ∷ []) base 3 (3 * n + 3) m1 (ifRun (runs (usedBy used) sectioning) (sections 0 (outside nil))
+              (v .answer (group-joins g) .forest)) r
+              → FlatTo W' base n l (usedBy used) ps (grouped l (usedBy used)
+              (lastToken ∷ memberAccessors ∷ sectioning ∷ ps) [] (leaves (g .tokens))) r
           go g l ps (Done k) a =
               let f = v .answer (group-joins g) in
               let joined = joined-light (runs (usedBy used) memberAccessors) (g .tokens) (f .forest) (f .is) in

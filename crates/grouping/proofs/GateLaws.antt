@@ -49,7 +49,8 @@ gate-shut {W} {p = p} h shut =
       to = λ g.
           let v = g .list .owned in
           done (pass-free (g .κ) (g .F) (not-false (free (operators (g .κ)) (g .F))
-          (sym (notes-meet (classesOf p) (operators (g .κ)) (runs-covers (g .κ) p (g .runs)) (v .notes) (rep-legal (v .kids))) ∙ shut))) (g .list);
+          (sym (notes-meet (classesOf p) (operators (g .κ)) (runs-covers (g .κ) p (g .runs)) (v .notes) (rep-legal (v .kids))) ∙ shut)))
+          (g .list);
       beyond = λ g. record { kept = λ j x y. refl; long = refl };
     }
 

@@ -84,4 +84,5 @@ pub lent-full : (q : Token) (cs g : Forest) → q .op ≡ array → startsWithIn
 unfolding work inReading pass passOf apply isNil
 lent-full q cs g a h e =
     pass-full arrays (node (renamed arrayVariable q) nil cs) g refl
-    (named-walk q cs ∙ lent-walk (renamed arrayVariable q) cs h ∙ ap (λ (x : Token). walk arrayLevel (indexed nil x nil) cs) (renamed-back q a) ∙ e)
+    (named-walk q cs ∙ lent-walk (renamed arrayVariable q) cs h
+    ∙ ap (λ (x : Token). walk arrayLevel (indexed nil x nil) cs) (renamed-back q a) ∙ e)

@@ -185,7 +185,8 @@ module _ {W W1 : List ℕ} {base n : ℕ} {used : OpSet} where
 
   module _ (x : Flat) (m : ℕ) (e : x ≡ Items m) (w : Flattened W base n used x W1) where
     left : (g : CanGroup W base n) (l : ℕ) (ps : List Pass)
-        → Listed W1 base n l (usedBy used) ps (grouped l (usedBy used) (lastToken ∷ memberAccessors ∷ sectioning ∷ ps) [] (leaves (g .tokens))) m
+        → Listed W1 base n l (usedBy used) ps (grouped l (usedBy used)
+        (lastToken ∷ memberAccessors ∷ sectioning ∷ ps) [] (leaves (g .tokens))) m
     left g l ps = subst (λ (z : Flat). Flattened W base n used z W1) e w .to g l ps
 
     pub group-gives : CanGroup W base n → CanGive W1 0 base m

@@ -26,7 +26,8 @@ give-outermost {W} {W'} {at} {n} {lo} {hi} w v own below =
     let items : v .bs ≡ o .cs = chain-unique W' (firstAt W' 0) (v .bs) (o .cs) (w .linked (v .bs) (v .seg) (sym (v .count))) (o .chain) in
     let stays : Seg W' at (v .bs)
     = seg-keep W W' at (v .bs)
-    (λ j a b. w .same (v .bs) (v .seg) (sym (v .count)) j (omega arith) (omega arith) (off-above (v .bs) 1 hi (roots-above (v .rep) own) (omega arith)))
+    (λ j a b. w .same (v .bs) (v .seg) (sym (v .count)) j (omega arith) (omega arith)
+    (off-above (v .bs) 1 hi (roots-above (v .rep) own) (omega arith)))
     (v .seg) in
     record {
       owned = record { cs = o .cs; chain = o .chain; notes = o .notes; kids = rep-lower (omega arith) (o .kids) };
@@ -38,8 +39,12 @@ seg-move : (W W' : List ℕ) (at to : ℕ) (cs : List ℕ) → ((i : ℕ) → i 
     → Seg W' to cs
 seg-move W W' at to [] h s = tt
 seg-move W W' at to (c ∷ cs) h s =
-    let first : wd W' to ≡ wd W at = rw (sym (add-zero to), sym (add-zero at)) (h 0 (omega arith)) in
-    (first ∙ s .0, seg-move W W' (at + 1) (to + 1) cs (λ i e. subst (λ (x : ℕ). wd W' x ≡ wd W (at + 1 + i)) (omega arith) (subst (λ (x : ℕ). wd W' (to + (1 + i)) ≡ wd W x) (omega arith) (h (1 + i) (omega arith)))) (s .1))
+    let first : wd W' to ≡ wd W at = rw (sym (add-zero to), sym (add-zero at)) (h 0 (omega arith)) in (
+      first ∙ s .0,
+      seg-move W W' (at + 1) (to + 1) cs
+          (λ i e. subst (λ (x : ℕ). wd W' x ≡ wd W (at + 1 + i)) (omega arith)
+          (subst (λ (x : ℕ). wd W' (to + (1 + i)) ≡ wd W x) (omega arith) (h (1 + i) (omega arith)))) (s .1),
+    )
 
 -- its items are moved to other words above the slots
 pub move-outermost : {W W' : List ℕ} {from n base hi : ℕ} {f : Forest} → Moved W from n base W' → Outermost W from n hi f → 0 < hi

@@ -217,10 +217,12 @@ module _ {W W0 : List ℕ} {base n : ℕ} {p : Pass} {w0 : Walk} (opened : Opene
   ran-beyond g = beyond-then (open-beyond opened g) (run-beyond x adv (run-starts opened g) (ran-at g))
 
   ran-next : (g : CanRun W base n p)
-      → NextTo (g .κ) (classesOf (w0 .pass)) Z' base (g .hi) (pass (g .κ) (g .F)) (turnsLeft (g .κ) (ran-at g .s) (ran-at g .rest) + turnsBelow (g .κ) (ran-at g .S)) x
+      → NextTo (g .κ) (classesOf (w0 .pass)) Z' base (g .hi) (pass (g .κ) (g .F))
+      (turnsLeft (g .κ) (ran-at g .s) (ran-at g .rest) + turnsBelow (g .κ) (ran-at g .S)) x
   ran-next g =
       subst
-      (λ (r : Result). NextTo (g .κ) (classesOf (w0 .pass)) Z' base (g .hi) r (turnsLeft (g .κ) (ran-at g .s) (ran-at g .rest) + turnsBelow (g .κ) (ran-at g .S)) x)
+      (λ (r : Result). NextTo (g .κ) (classesOf (w0 .pass)) Z' base (g .hi) r
+      (turnsLeft (g .κ) (ran-at g .s) (ran-at g .rest) + turnsBelow (g .κ) (ran-at g .S)) x)
       (sym (whole g))
       (run-next x adv (run-starts opened g) (ran-at g))
 

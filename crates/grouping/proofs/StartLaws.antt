@@ -112,7 +112,8 @@ module _ (W' X : List ℕ) (owner base len lo n hi : ℕ) (cs : Forest) (v : InA
       (ArraySide.growing (record { ds = []; seg = tt; count = refl; rep = RepB.begins (le-refl lo) }) o) all-ahead (inr h) (refl, le-refl 0)
 
   -- from the right
-  start-unary : Holds unaryMinusAndNot W' X lo hi (walkOf (record { owner = owner; base = base; len = len; read = len; write = len }) Unary) (begins unaryMinusAndNot cs) (inOrder cs)
+  start-unary : Holds unaryMinusAndNot W' X lo hi (walkOf (record { owner = owner; base = base; len = len; read = len; write = len }) Unary)
+      (begins unaryMinusAndNot cs) (inOrder cs)
   unfolding begins inOrder
   start-unary =
       let high = rep-le (v .rep) in
@@ -202,7 +203,8 @@ module _ (W W' : List ℕ) (owner base len : ℕ) where
       start-lent W' (owner ∷ X) owner base len lo n hi cs v (omega arith) below within b q
       (open-array-keep W W' (λ s i x y z r. same (slotStart s + i) (omega arith)) o) h
 
-  pub opens-unary : Opens W W' owner base len Unary (walkOf (record { owner = owner; base = base; len = len; read = len; write = len }) Unary)
+  pub opens-unary : Opens W W' owner base len Unary
+      (walkOf (record { owner = owner; base = base; len = len; read = len; write = len }) Unary)
   unfolding inReading
   opens-unary κ X lo n hi cs u unary (afresh e low) v below within small same =
       start-unary W' (owner ∷ X) owner base len lo n hi cs v low below within

@@ -97,7 +97,8 @@ module _ (W : Weighing) where
   next-light d q (node l nil contents) k c cs r rest n h =
       either (ArrayOnward k (node c cs r) rest n) (eqb (l .op) Operator.arrayVariable) _ _
       (either (ArrayOnward k (node c cs r) rest n) (startsWithIndex (node c cs r)) _ _
-      (array-appends d q contents (named nil l) (W .leaf (l .op) + weight W (node c cs r)) k c cs r rest n (omega arith, refl) (omega arith))
+      (array-appends d q contents (named nil l) (W .leaf (l .op) + weight W (node c cs r)) k c cs r rest n (omega arith, refl)
+      (omega arith))
       (array-appends d q (node l nil contents) (unindexed nil) (weight W (node c cs r)) k c cs r rest n (omega arith, refl) (omega arith)))
       (array-appends d q (node l nil contents) (unindexed nil) (weight W (node c cs r)) k c cs r rest n (omega arith, refl) (omega arith))
 

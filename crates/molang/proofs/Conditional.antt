@@ -121,7 +121,19 @@ module _ (W : Weighing) where
       let apart = weight-tree W f fs (node c cs (node x xs r)) in
       let paired = weight-tree W f fs (node x xs nil) in
       decided (Folds n) (isToken Operator.conditionalElse c cs) _ _
-      (λ e. let was = weight-token Operator.conditionalElse c cs e in (omega (arith, h .0, was, apart, paired, weight-tree W c cs (node x xs r), weight-tree W x xs r), refl))
+      (λ e. let was = weight-token Operator.conditionalElse c cs e in (
+        omega (
+          arith,
+          h .0,
+          was,
+          apart,
+          paired,
+          weight-tree W c cs
+              (node x xs r),
+          weight-tree W x xs r,
+        ),
+        refl,
+      ))
       (λ e. h)
 
   module _ (a : Token) (aa : Forest) (b : Token) (bs left right : Forest) (n : ℕ)

@@ -117,7 +117,8 @@ module _ (Q : Token → Type 0) where
   call-steps kind (gathered d) k (node x xs y) h q c = entering {t = gathered d} {u = gathered nil} nowhere λ kids e. at q e h
   call-steps queryOrLoop (waiting d p) k nil h q c =
       either (CallCarried queryOrLoop k) (isBracket (k .op)) _ _ stopped
-      (either (CallCarried queryOrLoop k) (calls queryOrLoop (k .op)) _ _ (going {t = waiting (node p nil d) k} (at (h .1) nowhere (h .0), q))
+      (either (CallCarried queryOrLoop k) (calls queryOrLoop (k .op)) _ _
+      (going {t = waiting (node p nil d) k} (at (h .1) nowhere (h .0), q))
       (going {t = gathered (node k nil (node p nil d))} (at q nowhere (at (h .1) nowhere (h .0)))))
   call-steps queryOrLoop (waiting d p) k (node x xs y) h q c =
       either (CallCarried queryOrLoop k) (isBracket (k .op)) _ _
@@ -489,7 +490,8 @@ module _ (Q : Token → Type 0) where
     closing-gives k cs i (section o j d s) m q c h =
         decided WalkedGives (eqb (closer o) (k .op)) _ _
         (λ e. on-with {s = placed (closedBy k o) (inOrder d) s}
-        (every-placed (closedBy k o) (inOrder d) s (N .section k o (eqb-true (closer o) (k .op) e) m q (h .0)) (every-inOrder (h .1)) (h .2)))
+        (every-placed (closedBy k o) (inOrder d) s (N .section k o (eqb-true (closer o) (k .op) e) m q (h .0)) (every-inOrder (h .1))
+        (h .2)))
         (λ e. differing)
 
     bracket-gives : (k : Token) (cs : Forest) (i : ℕ) (s : Open) → Q k → Every Q cs → OpenHolds s → WalkedGives (bracket k cs i s)
@@ -514,7 +516,8 @@ module _ (Q : Token → Type 0) where
     unfolding sections afterBracket
     sections-gives i s nil h nowhere = closed-gives s h
     sections-gives i s (node k cs rest) h (at q below later) =
-        afterBracket-gives (position i s) rest (bracket-gives k cs (position i s) s q below h) λ t z. sections-gives (position i s) t rest z later
+        afterBracket-gives (position i s) rest (bracket-gives k cs (position i s) s q below h) λ t z. sections-gives
+        (position i s) t rest z later
 
     ends-gives : (l : ℕ) (f : Forest) → Every Q f → Gives Q (endsWithSemicolon l f)
     unfolding endsWithSemicolon

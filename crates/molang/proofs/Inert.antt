@@ -29,7 +29,8 @@ module _ {S : Type 0} (L : Level S) (P : ℕ → Bool) {idle : Forest → S} (I 
       let e = free-tree P k c cs r rest h in
       rw (I .enters d k c cs r, walk)
       (rw (I .begins (node c cs r) (free-clear P (node c cs r) (e .0)))
-      (rw (walk-free nil (node c cs r) refl (e .0)) (rw (I .takesBack d k (node c cs r)) (walk-free (node k (node c cs r) d) rest hd (e .1)))))
+      (rw (walk-free nil (node c cs r) refl (e .0)) (rw (I .takesBack d k (node c cs r))
+      (walk-free (node k (node c cs r) d) rest hd (e .1)))))
 
   pub through-free : (f : Forest) → free P f ≡ true → through L f ≡ ok f
   unfolding through turnedOnto clear

@@ -10,8 +10,8 @@ use lib.ListN.{length}
 use borrow.Author.Tests.{eqb-true, eqb-false, leb-true, ltb-true}
 use Rattle.molang.specs.Forest.{Token, Forest, nil, node, count, closedBy, unclosed}
 use Rattle.molang.specs.Words.{word, kindOf, lowOf, tokenWords, tokenOf, nodeWordsOf, nodeOf, tokensOf, listWords, treeWords, Field}
-use Rattle.molang.specs.Words.{operatorField, startField, endField, upperField, lowerField, fieldKind, lowFault, wordFault, variantAfter}
-use Rattle.molang.specs.Words.{nextInToken, wordsRefusal}
+use Rattle.molang.specs.Words.{operatorField, startField, endField, upperField, lowerField, fieldKind, lowFault, wordFault}
+use Rattle.molang.specs.Words.{variantAfter, nextInToken, wordsRefusal}
 use Rattle.molang.specs.Legal.{Legal, LegalTrees, noTrees, legalTree}
 use Rattle.molang.specs.WriteEntry.{firstTrees, otherTrees, treesOf}
 use Rattle.molang.proofs.Trees.{decided}

@@ -78,7 +78,8 @@ exactCall list again messages work sourceLength version limit =
 -- The second reading gets exactly the tokens written, of which there are `count`.
 unfoldable pub secondCall : Handed → ℕ → ℕ → Call
 secondCall h nodes count =
-    exactCall (take (5 * count) (listAfter (writerCall h nodes))) (h .again) (h .messages) (h .work) (h .sourceLength) (h .version) (h .limit)
+    exactCall (take (5 * count) (listAfter (writerCall h nodes))) (h .again) (h .messages) (h .work) (h .sourceLength) (h .version)
+    (h .limit)
 
 -- ---- What is told and left
 

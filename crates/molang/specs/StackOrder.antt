@@ -93,7 +93,10 @@ isOneStack closeField s = false
 unfoldable pub stackFault : ℕ → Field → ℕ → Stack → List ℕ → Option ℕ
 stackFault i field v s [] = must (isOneStack field s) i
 stackFault i field v s (w ∷ ws) =
-    firstOf (must (stackContinues field v s w) i ∷ stackFault (suc i) (nextInNode field) (variantAfter field v w) (stackAfter field w s) ws ∷ [])
+    firstOf
+    (must (stackContinues field v s w) i
+    ∷ stackFault (suc i) (nextInNode field) (variantAfter field v w) (stackAfter field w s) ws
+    ∷ [])
 
 -- ---- The two entries
 

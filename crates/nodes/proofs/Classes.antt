@@ -102,7 +102,8 @@ module _ (c : ℕ) where
       (λ i. (bitAt c i && inClass i (k .op)) || (not (free (inClass i) rest) && bitAt c i))
       (λ i h.
       ap (λ (x : Bool). x && bitAt c i)
-      (not-and (not (inClass i (k .op))) (free (inClass i) rest) ∙ ap (λ (x : Bool). x || not (free (inClass i) rest)) (not-not (inClass i (k .op))))
+      (not-and (not (inClass i (k .op))) (free (inClass i) rest)
+      ∙ ap (λ (x : Bool). x || not (free (inClass i) rest)) (not-not (inClass i (k .op))))
       ∙ and-or-distrib-right (inClass i (k .op)) (not (free (inClass i) rest)) (bitAt c i)
       ∙ ap (λ (x : Bool). x || (not (free (inClass i) rest) && bitAt c i)) (and-comm (inClass i (k .op)) (bitAt c i)))
       ∙ some-or 32 (λ i. bitAt c i && inClass i (k .op)) (λ i. not (free (inClass i) rest) && bitAt c i)

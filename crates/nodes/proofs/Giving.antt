@@ -101,7 +101,8 @@ give-step {W} {p} {from} {n} {Z} {i} {head} {classes} (c ∷ left) {done} v h Z'
     =
     other (classesWord s) (omega arith) ∙ v .same (classesWord s) (off-word done s classesField (omega arith) (omega arith))
     ∙ ap (λ (x : ℕ). classesAt W x) sc in
-    let rest : Chain Z' head done = chain-keep Z Z' head done (c + 1) (v .hi) (q .2 .1) (λ d x y. other (nextWord d) (omega arith)) (v .chain) in (
+    let rest : Chain Z' head done = chain-keep Z Z' head done (c + 1) (v .hi) (q .2 .1) (λ d x y. other (nextWord d) (omega arith))
+    (v .chain) in (
       left,
       c ∷ done,
       record {

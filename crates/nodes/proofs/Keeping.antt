@@ -72,8 +72,11 @@ pub roots-off : {W X : List ℕ} {lo hi : ℕ} {bs : List ℕ} {F : Forest} (j :
 roots-off j (ends e) f = tt
 roots-off {X = X} {lo} {hi} j (more {b = b} {m = m} {t = t} {k = k} a c d z p tk n ch ks r) f =
     let g = rep-le r in
-    let pos = reserve-pos t k in
-    (f b nextField (omega arith) (omega arith) (omega arith) (own-out b t k X p), roots-off j r (free-part X lo hi m hi j (omega arith) (omega arith) f))
+    let pos = reserve-pos t k in (
+      f b nextField (omega arith) (omega arith) (omega arith) (own-out b t k X p),
+      roots-off j r
+          (free-part X lo hi m hi j (omega arith) (omega arith) f),
+    )
 
 pub give-kept : {W W' X : List ℕ} {q from n lo hi : ℕ} {bs : List ℕ} {f : Forest} → Given W q from n W' → Seg W from bs → length bs ≡ n
     → RepF W (q ∷ X) bs lo hi f

@@ -107,8 +107,12 @@ pub links-keep : (W W' : List ℕ) {X : List ℕ} {lo hi : ℕ} {bs : List ℕ} 
 links-keep W W' f (ends e) h p = p
 links-keep W W' {X} f (more {b = b} {t = t} {k = j} a c d z q tk n ch k r) h p =
     let mh = rep-le r in
-    let own = reserve-pos t j in
-    (p .0, p .1, rw (h b (omega arith) (omega arith) (own-out b t j X q)) (links-keep W W' (nextAt W b) r (λ s u v o. h s (omega arith) v o) (p .2)))
+    let own = reserve-pos t j in (
+      p .0,
+      p .1,
+      rw (h b (omega arith) (omega arith) (own-out b t j X q))
+          (links-keep W W' (nextAt W b) r (λ s u v o. h s (omega arith) v o) (p .2)),
+    )
 
 -- ---- THE AGREEMENT LAW
 
@@ -269,7 +273,8 @@ unfolding turnedOnto
 onto-back b (ends h) = back-raise h b
 onto-back b (more {m = m} {cs = cs} a c d z p t n ch k r) =
     onto-back
-    (put (back-raise a b) (record { cs = cs; low = c; high = d; pos = z; out = p; token = t; noted = n; chain = ch; kids = k }) (le-refl m)) r
+    (put (back-raise a b) (record { cs = cs; low = c; high = d; pos = z; out = p; token = t; noted = n; chain = ch; kids = k })
+    (le-refl m)) r
 
 -- ---- the words say which forest it is
 

@@ -184,7 +184,11 @@ last-from {W} {first} hi (c ∷ cs) ch i w n =
         hi = hi;
         whole =
             λ d ds p.
-            let u = chain-unique W first (d ∷ ds) (c ∷ cs) p own in let h : d ≡ c = cc in let t : ds ≡ cs = cc in let f : first ≡ c = e in cc;
+            let u = chain-unique W first (d ∷ ds) (c ∷ cs) p own in
+            let h : d ≡ c = cc in
+            let t : ds ≡ cs = cc in
+            let f : first ≡ c = e in
+            cc;
         chain = rw e (ch .2);
         inc = rw e (i .1);
         within = w;

@@ -90,11 +90,13 @@ module _ {W W' X : List ℕ} {q b c lo l m l' m' hi : ℕ} {t u : Token} {k j : 
       let left : RepT W' (q ∷ X) b l m t k
       =
       tree-keep W W'
-      (λ s i y z e p n. w .same (slotStart s + i) (omega arith) (⊎-elim (λ g. omega arith) (λ g. omega arith) n) (omega arith) (omega arith)) v in
+      (λ s i y z e p n. w .same (slotStart s + i) (omega arith) (⊎-elim (λ g. omega arith) (λ g. omega arith) n) (omega arith)
+      (omega arith)) v in
       let right : RepT W' (q ∷ X) c l' m' u j
       =
       tree-keep W W'
-      (λ s i y z e p n. w .same (slotStart s + i) (omega arith) (omega arith) (⊎-elim (λ g. omega arith) (λ g. omega arith) n) (omega arith)) x in
+      (λ s i y z e p n. w .same (slotStart s + i) (omega arith) (omega arith) (⊎-elim (λ g. omega arith) (λ g. omega arith) n)
+      (omega arith)) x in
       record {
         cs = b ∷ c ∷ [];
         low = low;
@@ -127,7 +129,8 @@ module _ {W W' X : List ℕ} {q from n lo hi : ℕ} {bs : List ℕ} {f : Forest}
         notes = record { bits = λ i h. w .classes bs g e i ∙ roots-note r i h };
         kids =
             rep-keep W W'
-            (λ s o x y z p y'. w .same bs g e (slotStart s + o) (omega arith) (omega arith) (⊎-elim (λ m. off-word bs s o z m) (λ m. off-out bs s o z m) y')) r;
+            (λ s o x y z p y'. w .same bs g e (slotStart s + o) (omega arith) (omega arith)
+            (⊎-elim (λ m. off-word bs s o z m) (λ m. off-out bs s o z m) y')) r;
       }
 
   -- the words of every token stay

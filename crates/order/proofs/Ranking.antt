@@ -105,7 +105,8 @@ asked : (u : ℕ → Bool) (os : List ℕ) (low high : ℕ) → T (masks os low 
 asked u os low high t =
     any-some u 128 os (and-left (below (λ n. true) 128 os) _ t)
     ∙ some-same 128 (λ n. u n && isOneOf os n) (λ n. u n && inHalves low high n)
-    (λ n h. ap (λ (b : Bool). u n && b) (sym (agree-at (inHalves low high) (isOneOf os) 128 (and-right (below (λ n. true) 128 os) _ t) n h)))
+    (λ n h. ap (λ (b : Bool). u n && b) (sym (agree-at (inHalves low high) (isOneOf os) 128
+    (and-right (below (λ n. true) 128 os) _ t) n h)))
 
 -- ---- A rank
 
@@ -184,7 +185,11 @@ front-each : {ps : List Pass} {rs : List Rank} → Each ps rs → Each (front ps
 unfolding any isOneOf between isMathCall isQueryOrLoop someBelow passClasses ownClasses inClass bitAt meets inHalves runs
 front-each e =
     next
-    ((call, λ set. ap (λ (b : Bool). any (usedBy set) callGate && b) (asked (usedBy set) (Operator.queryFunction ∷ Operator.loop ∷ Operator.forEach ∷ []) 0x100_0000_0000 0x18 tt)))
+    ((
+      call,
+      λ set. ap (λ (b : Bool). any (usedBy set) callGate && b)
+          (asked (usedBy set) (Operator.queryFunction ∷ Operator.loop ∷ Operator.forEach ∷ []) 0x100_0000_0000 0x18 tt),
+    ))
     (next (by (Operator.semicolon ∷ []) 0 0x200 unsplitPass (λ set. refl) (λ set. refl) tt)
     (next (by (Operator.arrayVariable ∷ []) 0x200_0000_0000 0 array (λ set. refl) (λ set. refl) tt)
     (next (by (Operator.pointer ∷ []) 0 0x100 (point (stands-for 0x8 (isOneOf (Operator.pointer ∷ [])) tt)) (λ set. refl) (λ set. refl) tt)
@@ -192,7 +197,8 @@ front-each e =
     (next (by (Operator.negate ∷ Operator.logicalNot ∷ []) 0xc0 0 unary (λ set. refl) (λ set. refl) tt)
     (next (of-level (Operator.div ∷ []) 0x20 0x10_0000 0 tt tt)
     (next (of-level (Operator.mul ∷ []) 0x40 0x8000_0000 0 tt tt)
-    (next (by (Operator.negate ∷ Operator.add ∷ []) 0x240 0 (plus (stands-for 0x40_0000 (isOneOf (Operator.add ∷ [])) tt)) (λ set. refl) (λ set. refl) tt) e))))))))
+    (next (by (Operator.negate ∷ Operator.add ∷ []) 0x240 0 (plus (stands-for 0x40_0000 (isOneOf (Operator.add ∷ [])) tt)) (λ set. refl)
+    (λ set. refl) tt) e))))))))
 
 -- Below version 6 each comparison.
 abbrev compared : List Pass → List Pass
@@ -236,7 +242,8 @@ compared-together-each : {ps : List Pass} {rs : List Rank} → Each ps rs → Ea
 unfolding any isOneOf between isMathCall isQueryOrLoop someBelow passClasses ownClasses inClass bitAt meets inHalves runs
 compared-together-each e =
     next
-    (of-level (Operator.lessThan ∷ Operator.lessEqual ∷ Operator.greaterEqual ∷ Operator.greaterThan ∷ []) 0xf00 0x3c_0000_0000_0000 0 tt tt)
+    (of-level (Operator.lessThan ∷ Operator.lessEqual ∷ Operator.greaterEqual ∷ Operator.greaterThan ∷ []) 0xf00
+    0x3c_0000_0000_0000 0 tt tt)
     (next (of-level (Operator.logicalEqual ∷ Operator.logicalNotEqual ∷ []) 0x3000 0xc0_0000_0000_0000 0 tt tt) e)
 
 -- OR before AND, and AND before OR.
@@ -345,7 +352,9 @@ module _ (v : ℤ) where
   at-5 e6 e5 = table-is false true _ e6 e5 (front-each (compared-each (or-and-each (folded-each (end-each (empty done))))))
 
   pub from-6 : isFrom 6 v ≡ true
-      → Ranked (later (rulesOf v)) (front-ranks (compared-together-ranks (and-or-ranks (folded-ranks (end-ranks (unranked ∷ unranked ∷ unranked ∷ unranked ∷ unranked ∷ []))))))
+      → Ranked (later (rulesOf v))
+      (front-ranks (compared-together-ranks (and-or-ranks (folded-ranks (end-ranks
+      (unranked ∷ unranked ∷ unranked ∷ unranked ∷ unranked ∷ []))))))
   unfolding order comparisons logic conditionals
   from-6 e6 =
       table-is true true _ e6 (six-five v e6)

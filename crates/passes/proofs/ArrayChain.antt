@@ -98,8 +98,12 @@ turn-step {W} {cs} {ds} {Z} {head} {s} {hi} Z' v n e room = go (v .lo) (v .left)
           ahead =
               chain-keep Z Z' (nextAt Z s) left (d + 1) hi (i .1)
               (λ x y z. set-other Z Z' (nextWord s) head e (nextWord x) (omega arith)) links;
-          turned =
-              (refl, omega (arith, c .1), subst (λ (x : ℕ). Chain Z' x (v .back)) (sym (set-same Z Z' (nextWord s) head e (omega arith))) (beside-chain Z Z' s head head (v .back) e out (v .turned)));
+          turned = (
+            refl,
+            omega (arith, c .1),
+            subst (λ (x : ℕ). Chain Z' x (v .back)) (sym (set-same Z Z' (nextWord s) head e (omega arith)))
+                (beside-chain Z Z' s head head (v .back) e out (v .turned)),
+          );
           whole = subst (λ (x : ℕ). onto left (x ∷ v .back) ≡ onto cs ds) (sym at) w;
           inc = i .1;
           apart = subst (λ (x : ℕ). Apart left (x ∷ v .back)) (sym at) (apart-more d (d + 1) hi left (v .back) (omega arith) (i .1) (a .1));
@@ -281,8 +285,12 @@ module _ {W : List ℕ} {a : ℕ} {Z : List ℕ} {head classes s : ℕ} (v : Rou
             ahead =
                 subst (λ (x : ℕ). Chain Z' x left) next'
                 (beside-chain Z Z' s head (nextAt Z d) left e (dec-out left d s (f .1) (omega arith)) (c .2));
-            turned =
-                (at, c .1, subst (λ (x : ℕ). Chain Z' (nextAt Z' x) (t .back)) at (subst (λ (x : ℕ). Chain Z' x (t .back)) (sym link) kept));
+            turned = (
+              at,
+              c .1,
+              subst (λ (x : ℕ). Chain Z' (nextAt Z' x) (t .back)) at
+                  (subst (λ (x : ℕ). Chain Z' x (t .back)) (sym link) kept),
+            );
             whole = w;
             falls = f .1;
             rises = (le-refl d, inc-lower (t .back) (g .hi) (omega arith) (t .rises));
@@ -298,7 +306,8 @@ module _ {W : List ℕ} {a : ℕ} {Z : List ℕ} {head classes s : ℕ} (v : Rou
       record {
         linked = λ g.
             subst (λ (x : List ℕ). Chain Y' (firstAt Y' a) x) (all g)
-            (subst (λ (x : ℕ). Chain Y' x (v .at g .back)) (sym (first g)) (noted-chain (v .at g .back) head (first-chain Z Y a head head (v .at g .back) ey (v .at g .turned))));
+            (subst (λ (x : ℕ). Chain Y' x (v .at g .back)) (sym (first g))
+            (noted-chain (v .at g .back) head (first-chain Z Y a head head (v .at g .back) ey (v .at g .turned))));
         classes = λ g i. ap (λ (x : ℕ). bitAt x i) (word g) ∙ v .at g .noted i ∙ ap (λ (x : List ℕ). someNotes W x i) (all g);
         same =
             λ g j p q o.

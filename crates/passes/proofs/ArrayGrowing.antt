@@ -125,8 +125,10 @@ module _ {W X : List ℕ} {a b lo l m : ℕ} {q k : Token} {contents kids : Fore
           isArray = o .isArray;
           chain = w .linked gathering;
           kids = onto-back
-              (back-keep W W' (λ s i x y z p n. w .same gathering (slotStart s + i) (omega (arith, p .0)) (off-out (t .cs) s i z (out-below (t .cs) l m (roots-inc (t .kids)) y))) (o .kids))
-              (rep-keep W W' (λ s i x y z p n. w .same gathering (slotStart s + i) (omega (arith, p .0)) (⊎-elim (λ e. off-word (t .cs) s i z e) (λ e. off-out (t .cs) s i z e) n)) kid);
+              (back-keep W W' (λ s i x y z p n. w .same gathering (slotStart s + i) (omega (arith, p .0))
+              (off-out (t .cs) s i z (out-below (t .cs) l m (roots-inc (t .kids)) y))) (o .kids))
+              (rep-keep W W' (λ s i x y z p n. w .same gathering (slotStart s + i) (omega (arith, p .0))
+              (⊎-elim (λ e. off-word (t .cs) s i z e) (λ e. off-out (t .cs) s i z e) n)) kid);
         }
 
     pub gathered-slot : (s i : ℕ) → i < slotWords → (s < a) ⊎ (m ≤ s) → wd W' (slotStart s + i) ≡ wd W (slotStart s + i)
@@ -184,14 +186,16 @@ module _ {W X : List ℕ} {a lo l : ℕ} {q : Token} {contents : Forest} (o : Op
     rounded-tree =
         let low = o .low in
         array-tree (inOrder contents)
-        (token-keep W W' a (λ i x. w .same rounding (slotStart a + i) (omega arith) (omega arith) (off-word (onto (o .cs) []) a i (omega arith) (omega arith))) (o .token))
+        (token-keep W W' a (λ i x. w .same rounding (slotStart a + i) (omega arith) (omega arith)
+        (off-word (onto (o .cs) []) a i (omega arith) (omega arith))) (o .token))
         (o .isArray) (o .pos) (o .out) low (o .high)
         (record {
           cs = onto (o .cs) [];
           chain = w .linked rounding;
           notes = record { bits = λ i h. w .classes rounding i ∙ roots-note in-order i h };
           kids = rep-lower (omega arith)
-              (rep-keep W W' (λ s i x y z p n. w .same rounding (slotStart s + i) (omega (arith, p .0)) (omega (arith, p .0)) (⊎-elim (λ e. off-word (onto (o .cs) []) s i z e) (λ e. off-out (onto (o .cs) []) s i z e) n))
+              (rep-keep W W' (λ s i x y z p n. w .same rounding (slotStart s + i) (omega (arith, p .0)) (omega (arith, p .0))
+              (⊎-elim (λ e. off-word (onto (o .cs) []) s i z e) (λ e. off-out (onto (o .cs) []) s i z e) n))
               in-order);
         })
 
@@ -363,14 +367,19 @@ module _ {W W' X : List ℕ} {a b lo l n m r : ℕ} {q k : Token} {cs : Forest} 
     where
       links : (ds : List ℕ) (f : ℕ) → ((j : ℕ) → j ≢ firstWord a → j ≢ slotStart r → wd W' j ≡ wd W j) → Chain W f ds → Chain W' f ds
       links [] f other c = c
-      links (d ∷ ds) f other c =
-          (c .0, c .1, subst (λ (z : ℕ). Chain W' z ds) (sym (other (nextWord d) (omega arith) (omega arith))) (links ds (nextAt W d) other (c .2)))
+      links (d ∷ ds) f other c = (
+        c .0,
+        c .1,
+        subst (λ (z : ℕ). Chain W' z ds) (sym (other (nextWord d) (omega arith) (omega arith)))
+            (links ds (nextAt W d) other (c .2)),
+      )
 
   pub lent-to : {contents : Forest} → OpenArray W X a lo l q contents → Lent W a b r W' → LentTo W W' X a b lo l n r q cs contents
   lent-to o (nothing z e why) =
       none z e
       (λ d. lends-not d q cs (o .chain) (o .kids)
-      (⊎-elim (λ x. inl x) (λ x. inr (⊎-elim (λ y. inl y) (λ y. inr (starts-index cs full t ∙ ne-eqb (opAt W (firstAt W b)) leftBracket y)) x)) why))
+      (⊎-elim (λ x. inl x) (λ x. inr (⊎-elim (λ y. inl y)
+      (λ y. inr (starts-index cs full t ∙ ne-eqb (opAt W (firstAt W b)) leftBracket y)) x)) why))
   lent-to o (name nz er et ei e1 e2) =
       lends o (starts-index cs full t ∙ eq-eqb (opAt W (firstAt W b)) leftBracket ei) e1 e2
       (last-name (subst (λ (x : ℕ). Chain W x (o .cs)) (sym er) (o .chain)) (o .kids) nz et)

@@ -48,7 +48,8 @@ use Rattle.passes.proofs.CallLaws.{next-of}
 -- ---- the level, where no array waits
 
 array-node : (d : Forest) (k : Token) (cs rest : Forest) → isNil cs ≡ false
-    → work arrays (unindexed d) (node k cs rest) ≡ andThen (work arrays (begins arrays cs) (inReading arrays cs)) (λ kids. work arrays (takes arrays (unindexed d) k kids) rest)
+    → work arrays (unindexed d) (node k cs rest) ≡ andThen (work arrays (begins arrays cs) (inReading arrays cs))
+    (λ kids. work arrays (takes arrays (unindexed d) k kids) rest)
 unfolding work begins inReading takes through arrayLevel arrayResume isNil
 array-node d k nil rest e = absurd (true≢false e)
 array-node d k (node c cs r) rest e = walk-node arrayLevel isArrayName array-inert d k c cs r rest
@@ -167,7 +168,8 @@ module _ {W X : List ℕ} {v : Items} {a b lo hi : ℕ} {d : Forest} {q : Token}
 
   module _ {s : Indexing} {rest0 : Forest} (z : ℕ) (same : work arrays s rest0 ≡ work arrays (indexed d q contents) (node k cs rest))
       (less : count (node k cs rest) ≤ count rest0)
-      (fewer : size (node k cs rest) + count rest0 ≤ size rest0 + count (node k cs rest)) (one : isNil contents ≡ false → waits arrays s ≡ 1) where
+      (fewer : size (node k cs rest) + count rest0 ≤ size rest0 + count (node k cs rest))
+      (one : isNil contents ≡ false → waits arrays s ≡ 1) where
     index-empty : isNil cs ≡ true → TurnTo arrays W X lo hi (walkOf v (Arrays z 0)) s rest0 (Fail (EmptyArrayIndex a b))
     unfolding isNil
     index-empty e = go cs e (i .tree) same
@@ -187,7 +189,8 @@ module _ {W X : List ℕ} {v : Items} {a b lo hi : ℕ} {d : Forest} {q : Token}
         rw e
         (enters {t = indexed d q contents} {u = begins arrays cs} (record { owner = refl; base = refl; len = refl; classes = refl })
         (index-waits c (i .done) (i .grows) (i .ahead) (le-refl (i .l)) refl) (i .tree) full (afresh nought (i .apart))
-        (same ∙ array-in (indexed d q contents) k cs rest (indexed d q contents) (unindexed nil) (indexed-in d q k (is-index k (i .bracket)) contents cs full (next d)))
+        (same ∙ array-in (indexed d q contents) k cs rest (indexed d q contents) (unindexed nil)
+        (indexed-in d q k (is-index k (i .bracket)) contents cs full (next d)))
         (omega arith) (omega arith) (omega arith) (omega arith))
     index-entered {W'} c full (some {t = x} {inner = inner} {p = p} is isx starts low o o' other long out) =
         let e =
@@ -206,7 +209,8 @@ module _ {W X : List ℕ} {v : Items} {a b lo hi : ℕ} {d : Forest} {q : Token}
         (tree-keep W W' (λ y u f g h _ n. slot y u h (inr f)) (i .tree)) full (lent o' starts)
         (same
         ∙ array-in (indexed d q contents) k cs rest (indexed d q inner) (named nil x)
-        (ap (λ (y : Forest). arrayStep (indexed d q y) k cs) is ∙ indexed-lends d q k (is-index k (i .bracket)) x inner cs full (is-name x isx) starts)
+        (ap (λ (y : Forest). arrayStep (indexed d q y) k cs) is
+        ∙ indexed-lends d q k (is-index k (i .bracket)) x inner cs full (is-name x isx) starts)
         ∙ ap (λ (y : Result). andThen y (λ kids. work arrays (takes arrays (indexed d q inner) k kids) rest))
         (lent-indexed nil x cs starts))
         (omega arith) (omega arith) (omega arith) (omega arith)
@@ -249,7 +253,8 @@ starts-none z (found x o pos low tree ahead) = absurd (omega arith)
 name-alone : {W W' X : List ℕ} {v : Items} {b lo hi : ℕ} {d : Forest} {k : Token} {rest : Forest} → W' ≡ set W (v .base + v .write) b
     → AtItem W X v b lo hi d k nil rest
     → isArrayName (k .op) ≡ true → startsWithIndex rest ≡ false
-    → TurnTo arrays W' X lo hi (walkOf v (Arrays 0 0)) (unindexed d) (node k nil rest) (On (walkOf (movedTo v (v .read) (v .write + 1)) (Arrays 0 0)))
+    → TurnTo arrays W' X lo hi (walkOf v (Arrays 0 0)) (unindexed d) (node k nil rest)
+    (On (walkOf (movedTo v (v .read) (v .write + 1)) (Arrays 0 0)))
 unfolding count size waits flushed
 name-alone {d = d} {k = k} {rest = rest} s i p bare =
     goes {s' = unindexed (node k nil d)} (record { owner = refl; base = refl; len = refl; classes = refl }) (item-holds array-left i s refl)
@@ -314,7 +319,8 @@ unfolding count size isNil startsWithIndex
 name-turn {d = d} {k = k} isname w (next {t = t} {ts = ts} {rest = rest} i) =
     let starts = is-index t (i .bracket) in
     index-turn i 0
-    (array-on (unindexed d) k nil (node t ts rest) (named d k) (name-waits d k isname (not-index k isname)) ∙ lent-indexed d k (node t ts rest) starts)
+    (array-on (unindexed d) k nil (node t ts rest) (named d k) (name-waits d k isname (not-index k isname))
+    ∙ lent-indexed d k (node t ts rest) starts)
     (omega arith) (omega arith) (λ h. absurd (true≢false h)) w
 
 name-after : {W1 W' X : List ℕ} {v : Items} {b c lo hi : ℕ} {d : Forest} {k : Token} {rest : Forest} {r : Turn} → Indexed W1 v c b r W'
@@ -327,7 +333,10 @@ module _ {W : List ℕ} {v : Items} {b : ℕ} (c : ℕ) (e : c ≡ nextIf W v le
       → NameTurned W v b r W'
   name-kept W' l r z s el er =
       rw (er, el)
-      (record { to = λ g p fine. name-alone s (g .item) p (starts-none z (next-of leftBracket c e (g .item .ahead))); within = λ g. kept-within W W' (g .item) s })
+      (record {
+        to = λ g p fine. name-alone s (g .item) p (starts-none z (next-of leftBracket c e (g .item .ahead)));
+        within = λ g. kept-within W W' (g .item) s;
+      })
 
   module _ {W1 : List ℕ} (n : c ≢ 0) (s : W1 ≡ set W (slotStart b) (withOperator (operatorWordAt W b) array)) where
     at-index : (g : AtToken W v b) → NameIndex W1 (g .X) v b c (g .lo) (g .hi) (g .d) (g .k) (g .rest)
@@ -373,7 +382,21 @@ next-index n done o mid behind below within (ended x) = absurd (n refl)
 next-index n done o mid behind below within (differs x y) = absurd (n refl)
 next-index {p = p} {l = l} n done o mid behind below within (found {a = a'} {m = m'} x op pos low tree ahead) =
     NextIndex.next
-    (record { p = p; l = l; n = a'; m = m'; done = done; grows = o; apart = omega arith; tree = tree; ahead = ahead; bracket = op; behind = behind; below = below; within = within })
+    (record {
+      p = p;
+      l = l;
+      n = a';
+      m = m';
+      done = done;
+      grows = o;
+      apart = omega arith;
+      tree = tree;
+      ahead = ahead;
+      bracket = op;
+      behind = behind;
+      below = below;
+      within = within;
+    })
 
 next-can : {W X : List ℕ} {v : Items} {a c lo hi : ℕ} {d contents rest : Forest} {q : Token} → NextIndex W X v a c lo hi d q contents rest
     → CanIndex W v c a
@@ -396,7 +419,8 @@ module _ {W : List ℕ} {v : Items} {a : ℕ} (n : a ≢ 0) where
           → Holds κ W X lo hi (walkOf v (Arrays a 0)) s rest → T κ X lo hi s rest
       go κ X lo hi s rest passes.array h =
           f X lo hi s rest
-          (grows-side n (h .sides .done) (h .sides .unread) (h .sides .agrees) (h .sides .mid) (h .turning .1) (h .sides .below) (h .sides .within) (g .small))
+          (grows-side n (h .sides .done) (h .sides .unread) (h .sides .agrees) (h .sides .mid) (h .turning .1) (h .sides .below)
+          (h .sides .within) (g .small))
 
   pub array-peek : CanTurn W (walkOf v (Arrays a 0)) → CanPeek W v
   array-peek = by-array (λ κ X lo hi s rest. CanPeek W v) go
@@ -447,7 +471,8 @@ module _ {W : List ℕ} {v : Items} {a : ℕ} (n : a ≢ 0) where
 
       array-closes : {W1 W' : List ℕ} → Rounded W a W1 → W' ≡ set W1 (v .base + v .write) a
           → (X : List ℕ) (lo hi : ℕ) (s : Indexing) (rest : Forest) → Grows W X v a lo hi s rest
-          → TurnTo arrays W' X lo hi (walkOf v (Arrays a 0)) s rest (On (walkOf (movedTo v (v .read) (v .write + 1)) (Arrays 0 0))) × Within W W' X lo hi v
+          → TurnTo arrays W' X lo hi (walkOf v (Arrays a 0)) s rest (On (walkOf (movedTo v (v .read) (v .write + 1)) (Arrays 0 0)))
+          × Within W W' X lo hi v
       unfolding waits flushed
       array-closes {W1} {W'} w s' X lo hi s rest
           (grows {d = d} {contents = contents} {q = q} {p = p} {l = l} {m = m} done o ahead mid behind agrees below within small) =
@@ -483,7 +508,8 @@ module _ {W : List ℕ} {v : Items} {a : ℕ} (n : a ≢ 0) where
           let all
           =
           by-array
-          (λ κ X lo hi s rest. TurnTo κ W' X lo hi (walkOf v (Arrays a 0)) s rest (On (walkOf (movedTo v (v .read) (v .write + 1)) (Arrays 0 0))) × Within W W' X lo hi v)
+          (λ κ X lo hi s rest. TurnTo κ W' X lo hi (walkOf v (Arrays a 0)) s rest
+          (On (walkOf (movedTo v (v .read) (v .write + 1)) (Arrays 0 0))) × Within W W' X lo hi v)
           (array-closes w s) in
           rw (er, el) (record { to = λ g. all g .0; within = λ g. all g .1 })
 
@@ -533,7 +559,8 @@ side-kept : {W W' X : List ℕ} {v : Items} {a b lo l m hi : ℕ} {t : Indexing}
     → W' ≡ set W (v .base + v .write) b → ArraySide W X (v .base) (v .write) lo l (Arrays a 0) t → RepT W X b l m k kids
     → Ahead W X (v .base) (v .read) (v .len) m hi rest → v .write < v .read → slotStart hi ≤ v .base → v .base + v .len ≤ length W
     → length W < 2 ^ 32
-    → Holds arrays W' X lo hi (walkOf (movedTo v (v .read) (v .write + 1)) (Arrays 0 0)) (takes arrays t k kids) rest × Within W W' X lo hi v
+    → Holds arrays W' X lo hi (walkOf (movedTo v (v .read) (v .write + 1)) (Arrays 0 0)) (takes arrays t k kids) rest
+    × Within W W' X lo hi v
 unfolding takes arrayLevel arrayResume
 side-kept z s (ArraySide.growing done o) tree ahead behind below within small = absurd (omega (arith, o .pos))
 side-kept {W} {W'} {X} {v} {b = b} {lo = lo} {l = l} {m = m} {hi = hi} {kids = kids} {rest = rest} {k = k} z s
@@ -561,7 +588,8 @@ module _ {W : List ℕ} {v : Items} {a b : ℕ} where
         go passes.array h tree = side-gathers n (h .sides .done) tree (omega (arith, h .sides .high, h .sides .below, h .sides .within))
 
     gathered-by : {W' : List ℕ} → Gathered W a b W' → (g : CanResume W (walkOf v (Arrays a 0)) b)
-        → Holds (g .κ) W' (g .X) (g .lo) (g .hi) (walkOf v (Arrays a 0)) (takes (g .κ) (g .t) (g .k) (g .kids)) (g .rest) × Within W W' (g .X) (g .lo) (g .hi) v
+        → Holds (g .κ) W' (g .X) (g .lo) (g .hi) (walkOf v (Arrays a 0)) (takes (g .κ) (g .t) (g .k) (g .kids)) (g .rest)
+        × Within W W' (g .X) (g .lo) (g .hi) v
     gathered-by {W'} w g = go (g .waits .sides .runs) (g .waits) (g .tree)
       where
         go : {κ : Kind} {X : List ℕ} {lo l m hi : ℕ} {t : State κ} {rest kids : Forest} {k : Token} → Runs κ (Arrays a 0)
@@ -580,7 +608,8 @@ module _ {W : List ℕ} {v : Items} {a b : ℕ} where
   -- the list takes it
   module _ (z : a ≡ 0) {W' : List ℕ} (s : W' ≡ set W (v .base + v .write) b) where
     kept-by : (g : CanResume W (walkOf v (Arrays a 0)) b)
-        → Holds (g .κ) W' (g .X) (g .lo) (g .hi) (walkOf (movedTo v (v .read) (v .write + 1)) (Arrays 0 0)) (takes (g .κ) (g .t) (g .k) (g .kids)) (g .rest) × Within W W' (g .X) (g .lo) (g .hi) v
+        → Holds (g .κ) W' (g .X) (g .lo) (g .hi) (walkOf (movedTo v (v .read) (v .write + 1)) (Arrays 0 0))
+        (takes (g .κ) (g .t) (g .k) (g .kids)) (g .rest) × Within W W' (g .X) (g .lo) (g .hi) v
     kept-by g = go (g .waits .sides .runs) (g .waits) (g .tree)
       where
         go : {κ : Kind} {X : List ℕ} {lo l m hi : ℕ} {t : State κ} {rest kids : Forest} {k : Token} → Runs κ (Arrays a 0)
@@ -592,4 +621,8 @@ module _ {W : List ℕ} {v : Items} {a b : ℕ} where
     pub resumed-kept : (l : Items) → l ≡ movedTo v (v .read) (v .write + 1) → Resumed W (walkOf v (Arrays a 0)) b (walkOf l (Arrays a 0)) W'
     resumed-kept l el =
         subst (λ (x : ℕ). Resumed W (walkOf v (Arrays a 0)) b (walkOf l (Arrays x 0)) W') (sym z)
-        (rw el (record { list = record { owner = refl; base = refl; len = refl; classes = refl }; holds = λ g. kept-by g .0; within = λ g. kept-by g .1 }))
+        (rw el (record {
+          list = record { owner = refl; base = refl; len = refl; classes = refl };
+          holds = λ g. kept-by g .0;
+          within = λ g. kept-by g .1;
+        }))

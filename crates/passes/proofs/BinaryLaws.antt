@@ -45,7 +45,9 @@ use Rattle.passes.proofs.GatherLaws.{stands, Standing}
 -- ---- the level
 
 level-node : (ops : List ℕ) (d : Forest) (k : Token) (cs rest : Forest) → isNil cs ≡ false
-    → work (binary ops) (gathered d) (node k cs rest) ≡ andThen (work (binary ops) (begins (binary ops) cs) (inReading (binary ops) cs)) (λ kids. work (binary ops) (takes (binary ops) (gathered d) k kids) rest)
+    → work (binary ops) (gathered d) (node k cs rest)
+    ≡ andThen (work (binary ops) (begins (binary ops) cs) (inReading (binary ops) cs))
+    (λ kids. work (binary ops) (takes (binary ops) (gathered d) k kids) rest)
 unfolding work begins inReading takes through binaryLevel binaryResume isNil
 level-node ops d k nil rest e = absurd (true≢false e)
 level-node ops d k (node c cs r) rest e = walk-node (binaryLevel ops) (isOneOf ops) (binary-inert ops) d k c cs r rest
@@ -140,7 +142,8 @@ module _ (ops : List ℕ) where
   operator-enters : (d : Forest) (k x : Token) (xs rest : Forest) → isOneOf ops (k .op) ≡ true → isNil d ≡ false → unfolded ops d ≡ none
       → isNil xs ≡ false
       → work (binary ops) (gathered d) (node k nil (node x xs rest))
-      ≡ andThen (work (binary ops) (begins (binary ops) xs) (inReading (binary ops) xs)) (λ kids. work (binary ops) (takes (binary ops) (waiting d k) x kids) rest)
+      ≡ andThen (work (binary ops) (begins (binary ops) xs) (inReading (binary ops) xs))
+      (λ kids. work (binary ops) (takes (binary ops) (waiting d k) x kids) rest)
   unfolding work begins inReading takes walk binaryLevel nothing binaryStep isNil andThen
   operator-enters d k x nil rest p n u f = absurd (true≢false f)
   operator-enters d k x (node c cs r) rest p n u f =
@@ -205,7 +208,8 @@ record FoldDone (W W' X : List ℕ) (v : Items) (lo m hi : ℕ) (d : Forest) (q 
 
 module _ {W X : List ℕ} {v : Items} {q c lo a m0 l m hi : ℕ} {d : Forest} {kq x : Token} {xs rest : Forest} (full : isNil d ≡ false)
     (done : BackArray W X (v .base) (v .write) lo a d) (own : RepT W X q a m0 kq nil) (right : RepT W X c l m x xs) (apart : m0 ≤ l)
-    (ahead : Ahead W X (v .base) (v .read) (v .len) m hi rest) (behind : v .write ≤ v .read) (below : slotStart hi ≤ v .base) (inside : v .base + v .len ≤ length W) where
+    (ahead : Ahead W X (v .base) (v .read) (v .len) m hi rest) (behind : v .write ≤ v .read) (below : slotStart hi ≤ v .base)
+    (inside : v .base + v .len ≤ length W) where
   can-fold : CanFold W v q c
   can-fold = go (back-last v done full)
     where
@@ -251,7 +255,8 @@ module _ {W X : List ℕ} {v : Items} {q c lo a m0 l m hi : ℕ} {d : Forest} {k
             done = subst (λ (i : ℕ). BackArray W' X (v .base) i lo m (node kq (node t ts (node x xs nil)) d)) (sym e) new;
             ahead =
                 ahead-keep W W'
-                (λ s o x y z u. other (slotStart s + o) (omega arith) ∙ two .same (slotStart s + o) (omega arith) (omega arith) (omega arith) (omega arith))
+                (λ s o x y z u. other (slotStart s + o) (omega arith)
+                ∙ two .same (slotStart s + o) (omega arith) (omega arith) (omega arith) (omega arith))
                 (λ j x y. other j (omega arith) ∙ two .same j (omega arith) (omega arith) (omega arith) (omega arith)) ahead;
             within = record {
               kept =
@@ -270,7 +275,8 @@ joined-clear P nil q x xs n h = absurd (true≢false n)
 joined-clear P (node l ls d) q x xs n h = clear-rest P l ls d h
 
 -- the list after a fold
-fold-holds : {W W' X : List ℕ} {v : Items} {lo m hi : ℕ} {d : Forest} {q x : Token} {xs rest : Forest} (ops : List ℕ) (classes : TokenClasses)
+fold-holds : {W W' X : List ℕ} {v : Items} {lo m hi : ℕ} {d : Forest} {q x : Token} {xs rest : Forest} (ops : List ℕ)
+    (classes : TokenClasses)
     → Covers (classes .0) (isOneOf ops)
     → FoldDone W W' X v lo m hi d q x xs rest → clear (isOneOf ops) (joined d q x xs) ≡ true → v .write ≤ v .read → slotStart hi ≤ v .base
     → v .base + v .len ≤ length W
@@ -294,7 +300,8 @@ module _ {W : List ℕ} {v : Items} {b : ℕ} (classes : TokenClasses) where
       → LevelSide W X (v .base) (v .write) lo l ops (Binary classes pending) t → Ahead W X (v .base) (v .read) (v .len) m hi rest
       → RepT W X b l m k kids → isNil kids ≡ false
       → v .write < v .read → slotStart hi ≤ v .base → v .base + v .len ≤ length W → length W < 2 ^ 32
-      → Holds (binary ops) W' X lo hi (walkOf (movedTo v (v .read) (v .write + 1)) (Binary classes 0)) (takes (binary ops) t k kids) rest × Within W W' X lo hi v
+      → Holds (binary ops) W' X lo hi (walkOf (movedTo v (v .read) (v .write + 1)) (Binary classes 0)) (takes (binary ops) t k kids) rest
+      × Within W W' X lo hi v
   unfolding takes binaryLevel binaryResume
   side-kept {W'} {X} {lo} {l} {m} {hi} {k = k} {kids = kids} {rest = rest} ops covers z s
       (all {d = d} fine done) ahead tree full behind below within small =
@@ -342,18 +349,21 @@ module _ {W : List ℕ} {v : Items} {b : ℕ} (classes : TokenClasses) where
 
   kept-by : {pending : ℕ} {W' : List ℕ} → pending ≡ 0 → W' ≡ set W (v .base + v .write) b
       → (g : CanResume W (walkOf v (Binary classes pending)) b)
-      → Holds (g .κ) W' (g .X) (g .lo) (g .hi) (walkOf (movedTo v (v .read) (v .write + 1)) (Binary classes 0)) (takes (g .κ) (g .t) (g .k) (g .kids)) (g .rest) × Within W W' (g .X) (g .lo) (g .hi) v
+      → Holds (g .κ) W' (g .X) (g .lo) (g .hi) (walkOf (movedTo v (v .read) (v .write + 1)) (Binary classes 0))
+      (takes (g .κ) (g .t) (g .k) (g .kids)) (g .rest) × Within W W' (g .X) (g .lo) (g .hi) v
   kept-by {pending} {W'} z s g = go (g .waits .sides .runs) (g .waits) (g .tree) (g .full)
     where
       go : {κ : Kind} {X : List ℕ} {lo l m hi : ℕ} {t : State κ} {rest kids : Forest} {k : Token} → Runs κ (Binary classes pending)
           → Waits κ W X lo l m hi (walkOf v (Binary classes pending)) t rest
           → RepT W X b l m k kids → isNil kids ≡ false
-          → Holds κ W' X lo hi (walkOf (movedTo v (v .read) (v .write + 1)) (Binary classes 0)) (takes κ t k kids) rest × Within W W' X lo hi v
+          → Holds κ W' X lo hi (walkOf (movedTo v (v .read) (v .write + 1)) (Binary classes 0)) (takes κ t k kids) rest
+          × Within W W' X lo hi v
       go (level {ops = ops} covers) h tree full =
           side-kept ops covers z s (h .sides .done) (h .sides .unread) tree full (h .framed) (h .sides .below) (h .sides .within) (g .small)
 
   folded-by : {pending : ℕ} {W' : List ℕ} → pending ≢ 0 → Folded W v pending b W' → (g : CanResume W (walkOf v (Binary classes pending)) b)
-      → Holds (g .κ) W' (g .X) (g .lo) (g .hi) (walkOf v (Binary classes 0)) (takes (g .κ) (g .t) (g .k) (g .kids)) (g .rest) × Within W W' (g .X) (g .lo) (g .hi) v
+      → Holds (g .κ) W' (g .X) (g .lo) (g .hi) (walkOf v (Binary classes 0)) (takes (g .κ) (g .t) (g .k) (g .kids)) (g .rest)
+      × Within W W' (g .X) (g .lo) (g .hi) v
   folded-by {pending} {W'} n w g = go (g .waits .sides .runs) (g .waits) (g .tree)
     where
       go : {κ : Kind} {X : List ℕ} {lo l m hi : ℕ} {t : State κ} {rest kids : Forest} {k : Token} → Runs κ (Binary classes pending)
@@ -368,7 +378,11 @@ module _ {W : List ℕ} {v : Items} {b : ℕ} (classes : TokenClasses) where
       → Resumed W (walkOf v (Binary classes pending)) b (walkOf l (Binary classes 0)) W'
   resumed-kept l z s el =
       rw el
-      (record { list = record { owner = refl; base = refl; len = refl; classes = refl }; holds = λ g. kept-by z s g .0; within = λ g. kept-by z s g .1 })
+      (record {
+        list = record { owner = refl; base = refl; len = refl; classes = refl };
+        holds = λ g. kept-by z s g .0;
+        within = λ g. kept-by z s g .1;
+      })
 
   pub resumed-folded : {pending : ℕ} {W' : List ℕ} → pending ≢ 0 → Folded W v pending b W'
       → Resumed W (walkOf v (Binary classes pending)) b (walkOf v (Binary classes 0)) W'
@@ -440,7 +454,8 @@ module _ {W : List ℕ} {v : Items} {b : ℕ} (classes : TokenClasses) (ops : Li
       → isOneOf ops (k .op) ≡ true → clear (isOneOf ops) d ≡ true → isNil d ≡ false
       → unfolded ops d ≡ none → innerAt W (wd W (v .base + v .read)) (classes .0) ≡ true → {m : ℕ} → i .m ≡ m
       → AheadTo W X (v .base) (v .read) (v .len) m hi (wd W (v .base + v .read)) rest
-      → TurnTo (binary ops) W X lo hi (walkOf v (Binary classes 0)) (gathered d) (node k nil rest) (Enter (walkOf (movedTo v (v .read + 1) (v .write)) (Binary classes b)) (wd W (v .base + v .read)))
+      → TurnTo (binary ops) W X lo hi (walkOf v (Binary classes 0)) (gathered d) (node k nil rest)
+      (Enter (walkOf (movedTo v (v .read + 1) (v .write)) (Binary classes b)) (wd W (v .base + v .read)))
   unfolding count size waits begins binaryLevel nothing
   right-enters {X} {lo} {hi} {d} {k} i p fine full clean inner em (item {a = n} {m = m'} {k = x} {cs = xs} {rest = rest} low t r) =
       let z =
@@ -471,7 +486,8 @@ module _ {W : List ℕ} {v : Items} {b : ℕ} (classes : TokenClasses) (ops : Li
       → unfolded ops d ≡ none → innerAt W (wd W (v .base + v .read)) (classes .0) ≡ false → Folded W v b (wd W (v .base + v .read)) W'
       → {m : ℕ} → i .m ≡ m
       → AheadTo W X (v .base) (v .read) (v .len) m hi (wd W (v .base + v .read)) rest
-      → TurnTo (binary ops) W' X lo hi (walkOf v (Binary classes 0)) (gathered d) (node k nil rest) (On (walkOf (movedTo v (v .read + 1) (v .write)) (Binary classes 0)))
+      → TurnTo (binary ops) W' X lo hi (walkOf v (Binary classes 0)) (gathered d) (node k nil rest)
+      (On (walkOf (movedTo v (v .read + 1) (v .write)) (Binary classes 0)))
   unfolding count size waits
   right-folds {X = X} {lo} {hi} {d} {k} i p fine full clean inner w em (item {a = n} {m = m'} {k = x} {cs = xs} {rest = rest} low t r) =
       let behind = i .behind in
@@ -480,7 +496,8 @@ module _ {W : List ℕ} {v : Items} {b : ℕ} (classes : TokenClasses) (ops : Li
       (record { mid = w .mid; two = w .two; put = w .put }) in
       goes {s' = gathered (joined d k x xs)} (record { owner = refl; base = refl; len = refl; classes = refl })
       (fold-holds ops classes covers f (joined-clear (isOneOf ops) d k x xs full fine) (omega arith) (i .below) (i .within))
-      (operator-folds ops d k x xs rest p full clean (λ h. inner-free (isOneOf ops) xs (sym (inner-tree xs (classes .0) (isOneOf ops) covers t) ∙ inner) h))
+      (operator-folds ops d k x xs rest p full clean
+      (λ h. inner-free (isOneOf ops) xs (sym (inner-tree xs (classes .0) (isOneOf ops) covers t) ∙ inner) h))
       (omega arith) (omega arith) (omega arith)
 
   right-within : {W' X : List ℕ} {lo hi : ℕ} {d : Forest} {k : Token} {rest : Forest} (i : AtItem W X v b lo hi d k nil rest)
@@ -526,7 +543,8 @@ module _ {W : List ℕ} {v : Items} {b : ℕ} (classes : TokenClasses) (ops : Li
       record {
         to = λ g p fine.
             fails (Tells.binaryAtEnd (g .item .tree .token))
-            (ap (λ (f : Forest). work (binary ops) (gathered f) (node (g .k) nil (g .rest))) (back-none (g .item .done) z) ∙ operator-first ops (g .k) (g .rest) p);
+            (ap (λ (f : Forest). work (binary ops) (gathered f) (node (g .k) nil (g .rest))) (back-none (g .item .done) z)
+            ∙ operator-first ops (g .k) (g .rest) p);
         within = λ g. same-within;
       }
 
@@ -535,7 +553,8 @@ module _ {W : List ℕ} {v : Items} {b : ℕ} (classes : TokenClasses) (ops : Li
       record {
         to = λ g p fine.
             fails (Tells.binaryAtEnd (g .item .tree .token))
-            (ap (λ (f : Forest). work (binary ops) (gathered (g .d)) (node (g .k) nil f)) (ahead-end (g .rest) (omega arith) (g .item .ahead)) ∙ operator-last ops (g .d) (g .k) p);
+            (ap (λ (f : Forest). work (binary ops) (gathered (g .d)) (node (g .k) nil f))
+            (ahead-end (g .rest) (omega arith) (g .item .ahead)) ∙ operator-last ops (g .d) (g .k) p);
         within = λ g. same-within;
       }
 
@@ -567,7 +586,8 @@ pub operate-folds : {W : List ℕ} {v : Items} {b c : ℕ} (l : Items) → CanOp
     → CanFold W l b (wd W (v .base + v .read))
 operate-folds {W} {v} l g e =
     rw e
-    (operate-fold (g .token .item) (back-full (g .token .item .done) (g .some)) refl (ahead-item (wd W (v .base + v .read)) refl (g .more) (g .token .item .ahead)))
+    (operate-fold (g .token .item) (back-full (g .token .item .done) (g .some)) refl (ahead-item (wd W (v .base + v .read)) refl (g .more)
+    (g .token .item .ahead)))
 
 module _ {W W' : List ℕ} {v : Items} {b : ℕ} {classes : TokenClasses} {r : Turn} where
   pub operated-opens : (l : Items) → innerAt W (wd W (v .base + v .read)) (classes .0) ≡ true → W' ≡ W

@@ -46,7 +46,9 @@ use Rattle.passes.proofs.GatherLaws.{Attaching, attached, item-attached
 -- ---- the level
 
 call-node : (kind : CallKind) (d : Forest) (k : Token) (cs rest : Forest) → isNil cs ≡ false
-    → work (calls kind) (gathered d) (node k cs rest) ≡ andThen (work (calls kind) (begins (calls kind) cs) (inReading (calls kind) cs)) (λ kids. work (calls kind) (takes (calls kind) (gathered d) k kids) rest)
+    → work (calls kind) (gathered d) (node k cs rest)
+    ≡ andThen (work (calls kind) (begins (calls kind) cs) (inReading (calls kind) cs))
+    (λ kids. work (calls kind) (takes (calls kind) (gathered d) k kids) rest)
 unfolding work begins inReading takes through callLevel callResume isNil
 call-node kind d k nil rest e = absurd (true≢false e)
 call-node kind d k (node c cs r) rest e = walk-node (callLevel kind) (isCall kind) (call-inert kind) d k c cs r rest
@@ -127,7 +129,8 @@ section-enters math d q k c cs r e = rw (e, callStep) refl
 -- the section is entered below the call
 call-opens : (kind : CallKind) (d : Forest) (k t c : Token) (cs r rest : Forest) → isCall kind (k .op) ≡ true → isBracket (t .op) ≡ true
     → work (calls kind) (gathered d) (node k nil (node t (node c cs r) rest))
-    ≡ andThen (work (calls kind) (begins (calls kind) (node t (node c cs r) nil)) (inReading (calls kind) (node t (node c cs r) nil))) (λ kids. work (calls kind) (takes (calls kind) (gathered d) k kids) rest)
+    ≡ andThen (work (calls kind) (begins (calls kind) (node t (node c cs r) nil)) (inReading (calls kind) (node t (node c cs r) nil)))
+    (λ kids. work (calls kind) (takes (calls kind) (gathered d) k kids) rest)
 unfolding work begins inReading takes walk callLevel nothing callStep andThen
 call-opens kind d k t c cs r rest p e =
     rw (call-waits kind d k p, walk)
@@ -135,7 +138,8 @@ call-opens kind d k t c cs r rest p e =
   where
     go : (kind : CallKind) (x : Result)
         → elim x [ fail m ↦ fail m | ok kids ↦ walk (callLevel kind) (callResume (waiting d k) t kids) rest ]
-        ≡ andThen (elim x [ fail m ↦ fail m | ok kids ↦ walk (callLevel kind) (callResume (gathered nil) t kids) nil ]) (λ kids. walk (callLevel kind) (callResume (gathered d) k kids) rest)
+        ≡ andThen (elim x [ fail m ↦ fail m | ok kids ↦ walk (callLevel kind) (callResume (gathered nil) t kids) nil ])
+        (λ kids. walk (callLevel kind) (callResume (gathered d) k kids) rest)
     go kind (fail m) = refl
     go kind (ok kids) = unfold callResume callFinish inOrder turnedOnto in refl
 
@@ -143,7 +147,8 @@ call-opens kind d k t c cs r rest p e =
 section-opens : (kind : CallKind) (d : Forest) (k t : Token) (ts rest : Forest) → isCall kind (k .op) ≡ true → isBracket (t .op) ≡ true
     → isNil ts ≡ false
     → work (calls kind) (gathered d) (node k nil (node t ts rest))
-    ≡ andThen (work (calls kind) (begins (calls kind) (node t ts nil)) (inReading (calls kind) (node t ts nil))) (λ kids. work (calls kind) (takes (calls kind) (gathered d) k kids) rest)
+    ≡ andThen (work (calls kind) (begins (calls kind) (node t ts nil)) (inReading (calls kind) (node t ts nil)))
+    (λ kids. work (calls kind) (takes (calls kind) (gathered d) k kids) rest)
 unfolding isNil
 section-opens kind d k t nil rest p e f = absurd (true≢false f)
 section-opens kind d k t (node c cs r) rest p e f = call-opens kind d k t c cs r rest p e
@@ -189,7 +194,8 @@ query-flushed d k t nil e = rw (e, callStep) refl
 query-flushed d k t (node c cs r) e = rw (e, callStep) refl
 
 query-alone : (d : Forest) (k t : Token) (ts rest : Forest) → isCall queryOrLoop (k .op) ≡ true → isBracket (t .op) ≡ false
-    → work (calls queryOrLoop) (gathered d) (node k nil (node t ts rest)) ≡ work (calls queryOrLoop) (gathered (node k nil d)) (node t ts rest)
+    → work (calls queryOrLoop) (gathered d) (node k nil (node t ts rest))
+    ≡ work (calls queryOrLoop) (gathered (node k nil d)) (node t ts rest)
 unfolding work walk callLevel onward
 query-alone d k t ts rest p e =
     walk-onward (callLevel queryOrLoop) (gathered d) k nil (node t ts rest)
@@ -260,7 +266,8 @@ module _ {kind : CallKind} {pass : Pass} (L : LeftLevel (calls kind) pass (isCal
   section-entered : {X : List ℕ} {lo hi : ℕ} {d : Forest} {k t : Token} {ts rest : Forest} → isCall kind (k .op) ≡ true
       → t .op ≡ leftParenthesis
       → shares (classesAt W' b) (classesOf pass) ≡ true → Attaching W W' X v b lo hi d k (node t ts rest)
-      → TurnTo (calls kind) W' X lo hi (walkOf v pass) (gathered d) (node k nil (node t ts rest)) (Enter (walkOf (movedTo v (v .read + 1) (v .write)) pass) b)
+      → TurnTo (calls kind) W' X lo hi (walkOf v pass) (gathered d) (node k nil (node t ts rest))
+      (Enter (walkOf (movedTo v (v .read + 1) (v .write)) pass) b)
   unfolding count size waits isNil begins callLevel nothing
   section-entered {d = d} {k = k} {t = t} {ts = ts} {rest = rest} p o h (attached i x) =
       let below = unfree-tree (isCall kind) k (node t ts nil) refl (tree-unfree (classesOf pass) (isCall kind) (L .covers) (i .tree) h) in
@@ -270,10 +277,12 @@ module _ {kind : CallKind} {pass : Pass} (L : LeftLevel (calls kind) pass (isCal
       (omega arith) (omega arith) (omega arith) (omega arith)
 
   section-done : {W1 X : List ℕ} {lo hi : ℕ} {d : Forest} {k t : Token} {ts rest : Forest}
-      → (free (isCall kind) (node t ts nil) ≡ true → work (calls kind) (gathered d) (node k nil (node t ts rest)) ≡ work (calls kind) (gathered (node k (node t ts nil) d)) rest)
+      → (free (isCall kind) (node t ts nil) ≡ true → work (calls kind) (gathered d) (node k nil (node t ts rest))
+      ≡ work (calls kind) (gathered (node k (node t ts nil) d)) rest)
       → shares (classesAt W1 b) (classesOf pass) ≡ false → W' ≡ set W1 (v .base + v .write) b
       → Attaching W W1 X v b lo hi d k (node t ts rest)
-      → TurnTo (calls kind) W' X lo hi (walkOf v pass) (gathered d) (node k nil (node t ts rest)) (On (walkOf (movedTo v (v .read + 1) (v .write + 1)) pass))
+      → TurnTo (calls kind) W' X lo hi (walkOf v pass) (gathered d) (node k nil (node t ts rest))
+      (On (walkOf (movedTo v (v .read + 1) (v .write + 1)) pass))
   unfolding count size waits isNil
   section-done {d = d} {k = k} {t = t} {ts = ts} {rest = rest} law h s (attached i x) =
       let clean = free-tree-below (isCall kind) k (node t ts nil) refl (tree-free (classesOf pass) (isCall kind) (L .covers) (i .tree) h) in
@@ -282,7 +291,8 @@ module _ {kind : CallKind} {pass : Pass} (L : LeftLevel (calls kind) pass (isCal
 
   called-to : {r : Turn} {X : List ℕ} {lo hi : ℕ} {d : Forest} {k t : Token} {ts rest : Forest} → Called W v b c pass r W'
       → AtItem W X v b lo hi d k nil (node t ts rest) → isCall kind (k .op) ≡ true → t .op ≡ leftParenthesis
-      → (free (isCall kind) (node t ts nil) ≡ true → work (calls kind) (gathered d) (node k nil (node t ts rest)) ≡ work (calls kind) (gathered (node k (node t ts nil) d)) rest)
+      → (free (isCall kind) (node t ts nil) ≡ true → work (calls kind) (gathered d) (node k nil (node t ts rest))
+      ≡ work (calls kind) (gathered (node k (node t ts nil) d)) rest)
       → TurnTo (calls kind) W' X lo hi (walkOf v pass) (gathered d) (node k nil (node t ts rest)) r
   called-to (opens a h er) i p o law = rw er (section-entered p o h (item-attached i e n a))
   called-to (stays a h s er) i p o law = rw er (section-done law h s (item-attached i e n a))
@@ -329,7 +339,8 @@ query-fails {W} {X} {v} {b} {lo} {hi = hi} {d = d} {k = k} c n leafy i p
 query-keeps : {W W' X : List ℕ} {v : Items} {b lo m hi : ℕ} {d : Forest} {k : Token} {rest : Forest} (c : ℕ) → c ≡ 0
     → W' ≡ set W (v .base + v .write) b
     → AtItem W X v b lo hi d k nil rest → isCall queryOrLoop (k .op) ≡ true → NextTo W X v m hi leftParenthesis c rest
-    → TurnTo (calls queryOrLoop) W' X lo hi (walkOf v Calls) (gathered d) (node k nil rest) (On (walkOf (movedTo v (v .read) (v .write + 1)) Calls))
+    → TurnTo (calls queryOrLoop) W' X lo hi (walkOf v Calls) (gathered d) (node k nil rest)
+    (On (walkOf (movedTo v (v .read) (v .write + 1)) Calls))
 unfolding count size waits
 query-keeps {d = d} {k = k} c z s i p (ended x) =
     goes {s' = gathered (node k nil d)} (record { owner = refl; base = refl; len = refl; classes = refl }) (item-holds query-level i s refl)
@@ -345,7 +356,10 @@ module _ {W : List ℕ} {v : Items} {b : ℕ} (c : ℕ) (e : c ≡ nextIf W v le
       → CallTurned queryOrLoop Calls W v b r W'
   query-on W' l r z s el er =
       rw (er, el)
-      (record { to = λ g p fine. query-keeps c z s (g .item) p (next-of leftParenthesis c e (g .item .ahead)); within = λ g. kept-within W W' (g .item) s })
+      (record {
+        to = λ g p fine. query-keeps c z s (g .item) p (next-of leftParenthesis c e (g .item .ahead));
+        within = λ g. kept-within W W' (g .item) s;
+      })
 
   pub query-failed : c ≢ 0 → isLeafAt W c ≡ true → CallTurned queryOrLoop Calls W v b (Fail (EmptyParameterList b c)) W
   query-failed n leafy =

@@ -92,7 +92,8 @@ ends-idle {W} {v} {tokens} e =
     record {
       to = λ g.
           at-end g (λ κ s. FinishTo κ W (g .X) (g .lo) (g .hi) v s (At (v .base) (v .len)))
-          (λ d n items. gives (nothing-folds d (sym n ∙ e)) (rw (items .count) (gathered-array (items .rep) (items .seg))) (le-refl (v .base)) (omega arith));
+          (λ d n items. gives (nothing-folds d (sym n ∙ e)) (rw (items .count) (gathered-array (items .rep) (items .seg)))
+          (le-refl (v .base)) (omega arith));
       within = λ g. same-within;
     }
 

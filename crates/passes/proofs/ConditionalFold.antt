@@ -155,7 +155,8 @@ module _ {W W' X : List ℕ} {lo l m hi base len left right : ℕ} (w : FoldedLa
             back-array-keep W W' (λ u o k1 k2 k3 k4. slots u o (omega arith) k3 (omega arith) (omega arith) (omega arith))
             (λ j k1 k2. words j k1 (omega arith)) r;
         done = ahead-cons (le-refl e) taken (set-same (w .Z) W' at q (w .stored) (omega (arith, w .attached .long)))
-            (ahead-keep W W' (λ u o k1 k2 k3 k4. slots u o k2 k3 (omega arith) (omega arith) (omega arith)) (λ j k1 k2. words j (omega arith) (omega arith)) after);
+            (ahead-keep W W' (λ u o k1 k2 k3 k4. slots u o k2 k3 (omega arith) (omega arith) (omega arith))
+            (λ j k1 k2. words j (omega arith) (omega arith)) after);
         mid = le-refl e;
         below = below;
         within = rw long within;
@@ -254,7 +255,8 @@ pair-else {W} {W'} {X} {lo} {l} {m} {hi} {base} {len} {left} {right} {L = L} lis
               back-array-keep W W' (λ u o k1 k2 k3 k4. slots u o (omega arith) k3 (omega arith) (omega arith) (omega arith))
               (λ j k1 k2. words j k1 (omega arith)) (list .unread);
           done = ahead-cons (le-refl a) taken (set-same (w .Z) W' at q (w .stored) (omega (arith, w .attached .long)))
-              (ahead-keep W W' (λ u o k1 k2 k3 k4. slots u o k2 k3 (omega arith) (omega arith) (omega arith)) (λ j k1 k2. words j (omega arith) (omega arith)) after);
+              (ahead-keep W W' (λ u o k1 k2 k3 k4. slots u o k2 k3 (omega arith) (omega arith) (omega arith))
+              (λ j k1 k2. words j (omega arith) (omega arith)) after);
           mid = omega arith;
           below = below;
           within = rw long within;

@@ -122,7 +122,15 @@ pub of-conditional : {W X : List ℕ} {lo l m hi tokens : ℕ} {v : Items} {rest
 of-conditional conditionalPass s sides small Q f =
     let side = of-count (sides .done) in
     f s
-    (record { counted = side .0; done = side .1; unread = sides .unread; mid = sides .mid; below = sides .below; within = sides .within; small = small })
+    (record {
+      counted = side .0;
+      done = side .1;
+      unread = sides .unread;
+      mid = sides .mid;
+      below = sides .below;
+      within = sides .within;
+      small = small;
+    })
 
 -- ---- the loop of `step`
 
@@ -140,7 +148,17 @@ pub record CanGather (W : List ℕ) (v : Items) (tokens : ℕ) : Type 0 where
 pub can-gather : {W : List ℕ} {v : Items} {tokens : ℕ} → CanTurn W (walkOf v (Conditional tokens)) → CanGather W v tokens
 can-gather {W} {v} {tokens} g =
     of-conditional (g .holds .sides .runs) (g .s) (g .holds .sides) (g .small) (λ κ s. CanGather W v tokens)
-    (λ d list. record { X = g .X; lo = g .lo; l = g .holds .l; m = g .holds .m; hi = g .hi; d = d; rest = g .rest; list = list; together = g .holds .turning })
+    (λ d list. record {
+      X = g .X;
+      lo = g .lo;
+      l = g .holds .l;
+      m = g .holds .m;
+      hi = g .hi;
+      d = d;
+      rest = g .rest;
+      list = list;
+      together = g .holds .turning;
+    })
 
 pub record GatherAt (W : List ℕ) (v : Items) (tokens : ℕ) (g : CanGather W v tokens) (read seen : ℕ) : Type 0 where
   pub l : ℕ
@@ -185,12 +203,14 @@ gather-start {W} v tokens h =
       within = ahead-le (h .list .unread) .1;
     }
 
-enter-item : {W : List ℕ} {v : Items} {tokens : ℕ} {g : CanGather W v tokens} {read seen a m b : ℕ} (s : GatherAt W v tokens g read seen) (k : Token) (cs rest : Forest)
+enter-item : {W : List ℕ} {v : Items} {tokens : ℕ} {g : CanGather W v tokens} {read seen a m b : ℕ} (s : GatherAt W v tokens g read seen)
+    (k : Token) (cs rest : Forest)
     → isNil cs ≡ false
     → s .m ≤ a → RepT W (g .X) b a m k cs → Ahead W (g .X) (v .base) (read + 1) (v .len) m (g .hi) rest
     → walk conditionalLevel (g .d) (g .rest) ≡ walk conditionalLevel (s .d) (node k cs rest)
     → count (node k cs rest) ≤ count (g .rest) → size (node k cs rest) + count (g .rest) ≤ size (g .rest) + count (node k cs rest)
-    → TurnTo conditional W (g .X) (g .lo) (g .hi) (walkOf v (Conditional tokens)) (g .d) (g .rest) (Enter (walkOf (movedTo v (read + 1) read) (Conditional seen)) b)
+    → TurnTo conditional W (g .X) (g .lo) (g .hi) (walkOf v (Conditional tokens)) (g .d) (g .rest)
+    (Enter (walkOf (movedTo v (read + 1) read) (Conditional seen)) b)
 unfolding work waits begins inReading takes through conditionalLevel count size isNil
 enter-item s k nil rest n low t r e c z = absurd (true≢false n)
 enter-item {W} {v} {tokens} {g} {read} {seen} {a} {m} {b} s k (node x xs y) rest n low t r e c z =
@@ -200,7 +220,15 @@ enter-item {W} {v} {tokens} {g} {read} {seen} {a} {m} {b} s k (node x xs y) rest
     enters (record { owner = refl; base = refl; len = refl; classes = refl })
     (record {
       sides = left-sides
-          (record { counted = s .list .counted; done = s .list .done; unread = r; mid = omega arith; below = s .list .below; within = s .list .within; small = s .list .small });
+          (record {
+            counted = s .list .counted;
+            done = s .list .done;
+            unread = r;
+            mid = omega arith;
+            below = s .list .below;
+            within = s .list .within;
+            small = s .list .small;
+          });
       framed = refl;
     })
     t refl (afresh refl (omega arith)) (e ∙ walk-node conditionalLevel isConditional conditional-inert (s .d) k x xs y rest) (omega arith)
@@ -280,19 +308,22 @@ module _ {W : List ℕ} {v : Items} {tokens : ℕ} {g : CanGather W v tokens} {r
 
   -- a node with tokens below it
   gather-enter : isLeafAt W (wd W (v .base + read)) ≡ false
-      → TurnTo conditional W (g .X) (g .lo) (g .hi) (walkOf v (Conditional tokens)) (g .d) (g .rest) (Enter (walkOf (movedTo v (read + 1) read) (Conditional seen)) (wd W (v .base + read)))
+      → TurnTo conditional W (g .X) (g .lo) (g .hi) (walkOf v (Conditional tokens)) (g .d) (g .rest)
+      (Enter (walkOf (movedTo v (read + 1) read) (Conditional seen)) (wd W (v .base + read)))
   gather-enter leafy = go (s .same) (s .fewer) (s .smaller) (ahead-item (wd W (v .base + read)) refl h (s .list .unread))
     where
       go : {rest : Forest} → walk conditionalLevel (g .d) (g .rest) ≡ walk conditionalLevel (s .d) rest → count rest ≤ count (g .rest)
           → size rest + count (g .rest) ≤ size (g .rest) + count rest
           → AheadTo W (g .X) (v .base) read (v .len) (s .m) (g .hi) (wd W (v .base + read)) rest
-          → TurnTo conditional W (g .X) (g .lo) (g .hi) (walkOf v (Conditional tokens)) (g .d) (g .rest) (Enter (walkOf (movedTo v (read + 1) read) (Conditional seen)) (wd W (v .base + read)))
+          → TurnTo conditional W (g .X) (g .lo) (g .hi) (walkOf v (Conditional tokens)) (g .d) (g .rest)
+          (Enter (walkOf (movedTo v (read + 1) read) (Conditional seen)) (wd W (v .base + read)))
       go e c z (item {k = k} {cs = cs} {rest = rest} low t r) = enter-item s k cs rest (sym (leaf-test cs t) ∙ leafy) low t r e c z
 
 -- at the end
 gather-over : {W : List ℕ} {v : Items} {tokens : ℕ} {g : CanGather W v tokens} {read seen : ℕ} → GatherAt W v tokens g read seen
     → v .len ≤ read
-    → TurnTo conditional W (g .X) (g .lo) (g .hi) (walkOf v (Conditional tokens)) (g .d) (g .rest) (Over (walkOf (movedTo v read read) (Conditional seen)))
+    → TurnTo conditional W (g .X) (g .lo) (g .hi) (walkOf v (Conditional tokens)) (g .d) (g .rest)
+    (Over (walkOf (movedTo v read read) (Conditional seen)))
 unfolding work waits
 gather-over {W} {v} {tokens} {g} {read} {seen} s h =
     let over = ahead-end (s .rest) h (s .list .unread) in
@@ -331,7 +362,17 @@ turned-by {W} {v} {tokens} {t} f =
       to = λ g.
           of-conditional (g .holds .sides .runs) (g .s) (g .holds .sides) (g .small)
           (λ κ s. TurnTo κ W (g .X) (g .lo) (g .hi) (walkOf v (Conditional tokens)) s (g .rest) t)
-          (λ d list. f (record { X = g .X; lo = g .lo; l = g .holds .l; m = g .holds .m; hi = g .hi; d = d; rest = g .rest; list = list; together = g .holds .turning }));
+          (λ d list. f (record {
+            X = g .X;
+            lo = g .lo;
+            l = g .holds .l;
+            m = g .holds .m;
+            hi = g .hi;
+            d = d;
+            rest = g .rest;
+            list = list;
+            together = g .holds .turning;
+          }));
       within = λ g. same-within;
     }
 

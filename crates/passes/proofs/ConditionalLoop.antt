@@ -39,7 +39,14 @@ scan-begins {W} {X} {lo} {hi} {base} {len} v h below within small = go (unread-l
         let nothing : Ahead W X base (len - 1 + 1) len c hi nil
         = record { n = 0; count = omega arith; array = record { bs = []; seg = tt; count = refl; rep = ends y } } in
         began
-        (record { unread = r; done = ahead-cons (le-refl a) t refl nothing; mid = le-refl a; below = below; within = within; small = small }) refl
+        (record {
+          unread = r;
+          done = ahead-cons (le-refl a) t refl nothing;
+          mid = le-refl a;
+          below = below;
+          within = within;
+          small = small;
+        }) refl
 
     go : {d : Forest} → LastUnread W X base len lo hi d → BeganWith W X lo hi base len d
     go (last t y r) = at t y r (last-two r (omega arith))

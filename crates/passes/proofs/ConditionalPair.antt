@@ -156,7 +156,8 @@ module _ {W W1 : List ℕ} {base len left right : ℕ} (g : CanScan W base len l
           → isToken Operator.conditional a aa ≡ true → aa ≡ nil → Q (node a aa (node b bs rest))
       leafy {a} {b} aa {bs} {rest} list t n =
           subst
-          (λ (h : Forest). RightList W (g .X) (g .lo) (g .l) (g .m) (g .hi) (scanAt base len left right) (g .R) (node a h (node b bs rest)) → isToken Operator.conditional a h ≡ true
+          (λ (h : Forest). RightList W (g .X) (g .lo) (g .l) (g .m) (g .hi) (scanAt base len left right) (g .R)
+          (node a h (node b bs rest)) → isToken Operator.conditional a h ≡ true
           → Q (node a h (node b bs rest)))
           (sym n) (λ list t. at t (fold-last w z (g .behind) (g .full) list)) list t
 

@@ -142,7 +142,8 @@ module _ {W : List ℕ} {base len left right : ℕ} (g : CanScan W base len left
           → ScanTo W' (g .X) (g .lo) (g .hi) base len (node a aa (node b bs rest)) (g .R) (left - 2) right
       leafy {a} {b} aa {bs} {rest} list t s n =
           subst
-          (λ (f : Forest). RightList W (g .X) (g .lo) (g .l) (g .m) (g .hi) (scanAt base len left right) (g .R) (node a f (node b bs rest)) → isToken Operator.conditionalElse a f ≡ true
+          (λ (f : Forest). RightList W (g .X) (g .lo) (g .l) (g .m) (g .hi) (scanAt base len left right) (g .R)
+          (node a f (node b bs rest)) → isToken Operator.conditionalElse a f ≡ true
           → ScanTo W' (g .X) (g .lo) (g .hi) base len (node a f (node b bs rest)) (g .R) (left - 2) right)
           (sym n) (λ list t. at t s (fold-last w z (g .behind) (g .full) list)) list t
 
@@ -186,7 +187,8 @@ module _ {W : List ℕ} {base len left right : ℕ} (g : CanScan W base len left
       stray {a} b {aa} bs {rest} (other h) ta r true t q = absurd (true≢false (sym t ∙ sym (token-test Operator.conditionalElse aa ta) ∙ h))
       stray {a} b {aa} bs {rest} (looked h k e) ta r true t q =
           scan-stray a aa b bs rest (g .R) t
-          (sym (starts-at Operator.conditional r (omega arith)) ∙ ap (λ (i : ℕ). isTokenAt W (wd W (base + i)) Operator.conditional) three ∙ sym e)
+          (sym (starts-at Operator.conditional r (omega arith)) ∙ ap (λ (i : ℕ). isTokenAt W (wd W (base + i)) Operator.conditional) three
+          ∙ sym e)
 
       go : {L : Forest} → LastTwo W (g .X) base left (g .lo) (g .l) L → KeptTo W' (g .X) (g .lo) (g .hi) base len left right (g .R) L
           → ScanTo W' (g .X) (g .lo) (g .hi) base len L (g .R) (left - 1) (right - 1)

@@ -45,7 +45,8 @@ module _ {S : Type 0} (L : Level S) (P : ℕ → Bool) {idle : Forest → S} (I 
   walk-node d k c cs r rest = rw (I .enters d k c cs r, walk) (back (walk L (L .start (node c cs r)) (node c cs r)))
     where
       back : (x : Result)
-          → elim x [ fail m ↦ fail m | ok kids ↦ walk L (L .resume (idle d) k kids) rest ] ≡ andThen x (λ kids. walk L (idle (node k kids d)) rest)
+          → elim x [ fail m ↦ fail m | ok kids ↦ walk L (L .resume (idle d) k kids) rest ]
+          ≡ andThen x (λ kids. walk L (idle (node k kids d)) rest)
       back (fail m) = refl
       back (ok kids) = ap (λ (s : S). walk L s rest) (I .takesBack d k kids)
 
@@ -180,7 +181,10 @@ item-attached {W} {W'} {X} {v} {b} {lo} {hi} {c} {d} {k} i e h w = go (ahead-ite
           within = omega (arith, i .within, w .long);
           small = omega (arith, i .small, w .long);
         })
-        (record { kept = λ j f o. attach-kept {lo = lo} {hi = hi} w child own (omega arith) (omega arith) (omega arith) (omega arith) j f; long = w .long })
+        (record {
+          kept = λ j f o. attach-kept {lo = lo} {hi = hi} w child own (omega arith) (omega arith) (omega arith) (omega arith) j f;
+          long = w .long;
+        })
 
 pub within-then : {W W' W'' X : List ℕ} {lo hi : ℕ} {u v : Items} → v .base ≡ u .base → v .len ≡ u .len → Within W W' X lo hi u
     → Within W' W'' X lo hi v → Within W W'' X lo hi u
@@ -210,7 +214,8 @@ sought-item v {v'} {a = a} {m = m} below within small e behind t s =
     }
 
 module _ {κ : Kind} {pass : Pass} {P : ℕ → Bool} {idle : Forest → State κ} {good : Forest → Bool} (L : LeftLevel κ pass P idle good) where
-  pub item-holds : {W W' X : List ℕ} {v : Items} {b lo hi : ℕ} {d : Forest} {k : Token} {cs rest : Forest} (i : AtItem W X v b lo hi d k cs rest)
+  pub item-holds : {W W' X : List ℕ} {v : Items} {b lo hi : ℕ} {d : Forest} {k : Token} {cs rest : Forest}
+      (i : AtItem W X v b lo hi d k cs rest)
       → W' ≡ set W (v .base + v .write) b → good (node k cs d) ≡ true
       → Holds κ W' X lo hi (walkOf (movedTo v (v .read) (v .write + 1)) pass) (idle (node k cs d)) rest
   item-holds {W} {W'} {v = v} {b = b} i e fine =
@@ -225,7 +230,8 @@ module _ {κ : Kind} {pass : Pass} {P : ℕ → Bool} {idle : Forest → State �
         turning = L .turning (movedTo v (v .read) (v .write + 1)) (omega arith);
       }
 
-  pub item-waits : {W X : List ℕ} {v : Items} {b lo hi : ℕ} {d : Forest} {k : Token} {cs rest : Forest} (i : AtItem W X v b lo hi d k cs rest)
+  pub item-waits : {W X : List ℕ} {v : Items} {b lo hi : ℕ} {d : Forest} {k : Token} {cs rest : Forest}
+      (i : AtItem W X v b lo hi d k cs rest)
       → good d ≡ true
       → Waits κ W X lo (i .a) (i .m) hi (walkOf v pass) (idle d) rest
   item-waits {v = v} i fine =
@@ -394,8 +400,11 @@ module _ {T : Saying} {W : List ℕ} {v : Items} {pass : Pass} {κ : Kind} {X : 
   turn-token {W'' = W''} {r = r} h t =
       let x =
       sought-token (g .level) v (g .fine) (g .below) (omega (arith, g .within, h .long)) (omega (arith, g .small, h .long))
-      (sought-to h) t in
-      (subst (λ (y : State κ). TurnTo κ W'' X lo hi (walkOf v pass) y rest r) (g .state) (x .0), within-then refl refl (sought-within h) (x .1))
+      (sought-to h) t in (
+        subst (λ (y : State κ). TurnTo κ W'' X lo hi (walkOf v pass) y rest r) (g .state) (x .0),
+        within-then refl refl (sought-within h)
+            (x .1),
+      )
 
 -- The level's list at every turn.
 abbrev pub Standing : Saying → List ℕ → Items → Pass → Type 0

@@ -32,7 +32,8 @@ use Rattle.passes.proofs.GatherLaws.{walk-node, walk-passed, LeftLevel,
 use Rattle.passes.proofs.GatherLaws.{within-then, Stands, stands, Standing}
 
 return-node : (d : Forest) (k : Token) (cs rest : Forest) → isNil cs ≡ false
-    → work returns (gathered d) (node k cs rest) ≡ andThen (work returns (begins returns cs) (inReading returns cs)) (λ kids. work returns (takes returns (gathered d) k kids) rest)
+    → work returns (gathered d) (node k cs rest) ≡ andThen (work returns (begins returns cs) (inReading returns cs))
+    (λ kids. work returns (takes returns (gathered d) k kids) rest)
 unfolding work begins inReading takes through returnLevel returnResume isNil
 return-node d k nil rest e = absurd (true≢false e)
 return-node d k (node c cs r) rest e = walk-node returnLevel isReturn return-inert d k c cs r rest
@@ -98,7 +99,8 @@ returned-end W v b e =
     record {
       to = λ g p fine.
           fails (Tells.unaryWithoutOperand (g .item .tree .token))
-          (ap (λ (f : Forest). work returns (gathered (g .d)) (node (g .k) nil f)) (ahead-end (g .rest) (omega arith) (g .item .ahead)) ∙ return-last (g .d) (g .k) p);
+          (ap (λ (f : Forest). work returns (gathered (g .d)) (node (g .k) nil f)) (ahead-end (g .rest) (omega arith) (g .item .ahead))
+          ∙ return-last (g .d) (g .k) p);
       within = λ g. same-within;
     }
 
@@ -106,7 +108,8 @@ module _ {W W' : List ℕ} (W'' : List ℕ) (v : Items) (b c : ℕ) (e : wd W (v
     (w : Attached W b c W') (s : W'' ≡ set W' (v .base + v .write) b) where
   return-goes : {X : List ℕ} {lo hi : ℕ} {d : Forest} {k : Token} {rest : Forest} → isReturn (k .op) ≡ true
       → Attaching W W' X v b lo hi d k rest
-      → TurnTo returns W'' X lo hi (walkOf v Returns) (gathered d) (node k nil rest) (On (walkOf (movedTo v (v .read + 1) (v .write + 1)) Returns))
+      → TurnTo returns W'' X lo hi (walkOf v Returns) (gathered d) (node k nil rest)
+      (On (walkOf (movedTo v (v .read + 1) (v .write + 1)) Returns))
   unfolding count size waits
   return-goes {d = d} {k = k} p (attached {t = t} {ts = ts} {rest = rest} i x) =
       goes {s' = gathered (node k (node t ts nil) d)} (record { owner = refl; base = refl; len = refl; classes = refl })

@@ -60,7 +60,8 @@ sought-of {W} {W'} {v} {c} {f} p e h = subst (λ (x : ℕ). Sought W v x f W') e
 -- ---- by the arms of the driver's functions
 
 -- The passes that only seek, at a turn.
-pub seeks-at : {W : List ℕ} {v : Items} (p : Pass) → OneOf (0 ∷ 1 ∷ 2 ∷ 4 ∷ 6 ∷ 8 ∷ []) (tagOf the-type p) → waitingOf p ≡ 0 → CanTurn W (walkOf v p)
+pub seeks-at : {W : List ℕ} {v : Items} (p : Pass) → OneOf (0 ∷ 1 ∷ 2 ∷ 4 ∷ 6 ∷ 8 ∷ []) (tagOf the-type p) → waitingOf p ≡ 0
+    → CanTurn W (walkOf v p)
     → Seeks p
 unfolding waitingOf
 seeks-at Calls t n g = tt

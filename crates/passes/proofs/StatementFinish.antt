@@ -199,7 +199,8 @@ module _ {W X : List ℕ} {lo hi n m a : ℕ} (l : Items) (c : ℕ) {q : Token} 
             (omega arith) (gathered-array all (place, seg));
         token =
             token-keep W W' (p + 2)
-            (λ o w. same (slotStart (p + 2) + o) (omega arith) (⊎-elim (λ e. inr (omega arith)) (λ e. inl (omega arith)) (z .apart)) (free-beside Y m a (p + 2) o (omega arith) (inl (omega arith))))
+            (λ o w. same (slotStart (p + 2) + o) (omega arith) (⊎-elim (λ e. inr (omega arith)) (λ e. inl (omega arith)) (z .apart))
+            (free-beside Y m a (p + 2) o (omega arith) (inl (omega arith))))
             (v .list full);
         first = same (l .base) (omega arith) (inr (omega arith)) (free-above Y m a (l .base) (omega arith));
         low = f .low;
@@ -269,7 +270,8 @@ KeptBeside W W' X lo hi l = ((j : ℕ) → Free X lo hi j → (j < l .base) ⊎ 
 
 module _ {W X : List ℕ} {lo hi n m a : ℕ} (l : Items) (c : ℕ) {q : Token} {done : Forest} (v : EndedAt W X (l .base) n lo m q done)
     (reached : n + c ≡ l .write)
-    (top : a ≤ hi) (full : isNil done ≡ false) (below : slotStart hi ≤ l .base) (within : l .base + l .write ≤ length W) (room : l .write ≤ l .len) where
+    (top : a ≤ hi) (full : isNil done ≡ false) (below : slotStart hi ≤ l .base) (within : l .base + l .write ≤ length W)
+    (room : l .write ≤ l .len) where
   closing-finishes : {W' : List ℕ} (d : Forest) → BackArray W X (l .base + n) c m a d → n < l .write
       → Grouped W (wd W (l .base + n - 1) + 1) (l .base + n) (l .write - n) W'
       → Finishing W' X lo hi (l .base) (n + 1) (wd W (l .base)) q (closedOn done d) × KeptBeside W W' X lo hi l
@@ -297,8 +299,11 @@ module _ {W X : List ℕ} {lo hi n m a : ℕ} (l : Items) (c : ℕ) {q : Token} 
       → Finishing W' X lo hi (l .base) r (wd W (l .base)) q (closedOn done d) × KeptBeside W W' X lo hi l
   unfolding closedOn
   closed-finishes {d = d} items (complete e) =
-      let none : d ≡ nil = back-nil (items .rep) (omega (arith, items .count)) in
-      (subst (λ (x : Forest). Finishing W X lo hi (l .base) n (wd W (l .base)) q (closedOn done x)) (sym none) (all-ended l c v reached top full below within items), (λ j f o. refl, refl))
+      let none : d ≡ nil = back-nil (items .rep) (omega (arith, items .count)) in (
+        subst (λ (x : Forest). Finishing W X lo hi (l .base) n (wd W (l .base)) q (closedOn done x)) (sym none)
+            (all-ended l c v reached top full below within items),
+        (λ j f o. refl, refl),
+      )
   closed-finishes {d = d} items (closing h g) = closing-finishes d items h g
 
 finish-count : {W X : List ℕ} {base n lo m : ℕ} {q : Token} {done : Forest} → EndedAt W X base n lo m q done → isNil done ≡ false → 0 < n

@@ -178,7 +178,8 @@ module _ (s : Split) (k : Token) (cs rest : Forest) where
   back-then (fail m) = refl
 
   pub walk-in : statementStep s k cs ≡ into s (splitOf cs)
-      → work statements s (node k cs rest) ≡ andThen (work statements (begins statements cs) (inReading statements cs)) (λ kids. work statements (takes statements s k kids) rest)
+      → work statements s (node k cs rest) ≡ andThen (work statements (begins statements cs) (inReading statements cs))
+      (λ kids. work statements (takes statements s k kids) rest)
   unfolding onward begins inReading statementLevel work
   walk-in e = walk-step ∙ ap (onward statementLevel k cs rest) e ∙ back-then (walk statementLevel (splitOf cs) cs)
 

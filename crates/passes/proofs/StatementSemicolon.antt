@@ -200,19 +200,25 @@ pub beside-slot : (X : List ℕ) (lo hi b j : ℕ) → lo ≤ b → b < hi → O
 beside-slot X lo hi b j low high out f =
     elim (decLt j (slotStart b)) [
       | yes h ↦ inl h
-      | no h ↦ elim (decLt j (slotEnd b)) [ yes h' ↦ absurd (f b (j - slotStart b) low high (omega arith) out (omega arith)) | no h' ↦ inr (omega arith) ]
+      | no h ↦ elim (decLt j (slotEnd b)) [
+        | yes h' ↦ absurd (f b (j - slotStart b) low high (omega arith) out (omega arith))
+        | no h' ↦ inr
+            (omega arith)
+      ]
     ]
 
 module _ {W W1 W' X : List ℕ} {base n write lo m a top b c : ℕ} {q k t : Token} {done ts d : Forest}
     (v : EndedAt W X base n lo m q done) (items : BackArray W X (base + n) c m a (node t ts d)) (reached : n + c ≡ write)
     (tree : RepT W X b a top k nil) (is : isSemicolon (k .op) ≡ true)
-    (made : ListMade W b n W1) (g : Grouped W1 b (base + n) (write - n) W') (below : slotStart top ≤ base) (within : base + write ≤ length W) where
+    (made : ListMade W b n W1) (g : Grouped W1 b (base + n) (write - n) W') (below : slotStart top ≤ base)
+    (within : base + write ≤ length W) where
   items-made : BackArray W1 X (base + n) (write - n) m a (node t ts d)
   items-made =
       let three = semicolon-slots is tree .0 in
       let tl = tree .low in
       open-items refl (omega arith)
-      (back-array-keep W W1 (λ s o x y z p. list-same made (slotStart s + o) (inl (omega arith))) (λ j x y. list-same made j (inr (omega arith))) items)
+      (back-array-keep W W1 (λ s o x y z p. list-same made (slotStart s + o) (inl (omega arith)))
+      (λ j x y. list-same made j (inr (omega arith))) items)
 
   -- every word but those of the semicolon's slots, of the statement's items and of its place
   ended-same : (j : ℕ) → j ≢ base + n → (j < slotStart b) ⊎ (slotEnd (b + 2) ≤ j) → Free X m a j → wd W' j ≡ wd W j
@@ -263,7 +269,8 @@ module _ {W W1 W' X : List ℕ} {base n write lo m a top b c : ℕ} {q k t : Tok
       let token : TokenAt W1 (b + 2) (bare semicolon k) = token-made {o = semicolon} w (omega arith) (tree .token) in
       let token' : TokenAt W' (b + 2) (bare semicolon k)
       = token-keep W1 W' (b + 2)
-      (λ o z. grouped-same {lo = m} {hi = top} g items-made (inr tl) (le-refl m) (omega arith) (omega arith) (omega arith) (omega arith) (slotStart (b + 2) + o) (omega arith) (inr (omega arith))
+      (λ o z. grouped-same {lo = m} {hi = top} g items-made (inr tl) (le-refl m) (omega arith) (omega arith) (omega arith) (omega arith)
+      (slotStart (b + 2) + o) (omega arith) (inr (omega arith))
       (free-beside X m a (b + 2) o (omega arith) (inr (omega arith)))) token in
       rw own (subst (λ (x : ℕ). TokenAt W' (x + 2) (bare semicolon k)) here token')
 
@@ -378,7 +385,8 @@ module _ {W W1 W' X : List ℕ} {lo hi n b : ℕ} {l l' : Items} {q : Token} {do
     (v : Stopped W X lo hi l l' n b q done d rest)
     (h : n < l' .write) (made : ListMade W b n W1) (g : Grouped W1 b (l' .base + n) (l' .write - n) W') where
   ended-turn : (f : Forest) → v .at .d ≡ f
-      → TurnTo statements W' X lo hi (walkOf l (SplitAt n)) (openOn q done d) rest (On (walkOf (movedTo l' (l' .read) (n + 1)) (SplitAt (n + 1))))
+      → TurnTo statements W' X lo hi (walkOf l (SplitAt n))
+      (openOn q done d) rest (On (walkOf (movedTo l' (l' .read) (n + 1)) (SplitAt (n + 1))))
   unfolding waits count size isNil
   ended-turn nil e = absurd (omega (arith, v .at .items .count, back-count (v .at .items .rep), v .at .reached, ap count e))
   ended-turn (node t ts f) e =
@@ -407,7 +415,8 @@ module _ {W W1 W' X : List ℕ} {lo hi n b : ℕ} {l l' : Items} {q : Token} {do
         turning = omega arith;
       })
       (passed-open q done (v .passed) ∙ walk-on (openOn q done (at .d)) (at .k) nil (at .rest) s'
-      (step-end (openOn q done (at .d)) (at .k) (at .is) ∙ ap (λ (x : Forest). endStatement (at .k) (openOn q done x)) e ∙ ends-open q done t ts f (at .k)))
+      (step-end (openOn q done (at .d)) (at .k) (at .is) ∙ ap (λ (x : Forest). endStatement (at .k) (openOn q done x)) e
+      ∙ ends-open q done t ts f (at .k)))
       (omega (arith, c .0)) (omega (arith, c .1)) (omega (arith, c .2))
 
   ended-within : (f : Forest) → v .at .d ≡ f
@@ -422,7 +431,8 @@ module _ {W W1 W' X : List ℕ} {lo hi n b : ℕ} {l l' : Items} {q : Token} {do
       let bl = back-le (at .items .rep) in let el = ended-le (at .before .rep) in let tl = at .tree .low in
       let three = semicolon-slots (at .is) (at .tree) in
       let high = three .0 in
-      let items : BackArray W X (l' .base + n) (at .c) (at .m) (at .a) (node t ts f) = subst (λ (x : Forest). BackArray W X (l' .base + n) (at .c) (at .m) (at .a) x) e (at .items) in (
+      let items : BackArray W X (l' .base + n) (at .c) (at .m) (at .a)
+      (node t ts f) = subst (λ (x : Forest). BackArray W X (l' .base + n) (at .c) (at .m) (at .a) x) e (at .items) in (
         λ j p o.
             grouped-same {lo = at .m} {hi = at .top} g
             (items-made (at .before) items (at .reached) (at .tree) (at .is) made g (omega arith) (omega arith)) (inr tl) (le-refl (at .m))

@@ -235,7 +235,8 @@ module _ {W W' X : List ℕ} {lo hi n : ℕ} {l l' : Items} (small : length W < 
             framed = before;
           })
           t full (afresh refl (le-refl a))
-          (passed-open q done passed ∙ walk-in (openOn q done d') k cs rest' (open-in q done d' k cs full ∙ enter-in (openOn q done d') k cs (ap isEntered (sym (tree-op t)) ∙ isIn)))
+          (passed-open q done passed ∙ walk-in (openOn q done d') k cs rest'
+          (open-in q done d' k cs full ∙ enter-in (openOn q done d') k cs (ap isEntered (sym (tree-op t)) ∙ isIn)))
           (omega (arith, c .0)) (omega (arith, c .1)) (omega (arith, c .2)) (omega arith)
       go {W'' = W''} (kept isOut place)
           (tree {d' = d'} {rest' = rest'} {cs = cs} {a = a} {m = hm} {k = k} moved before passed full unfree t seen) =
@@ -271,17 +272,20 @@ module _ {W W' X : List ℕ} {lo hi n : ℕ} {l l' : Items} (small : length W < 
           })
           (passed-open q done passed
           ∙ walk-on (openOn q done d') k cs rest' (openOn q done (node k cs d'))
-          (open-in q done d' k cs full ∙ enter-over (openOn q done d') k cs (ap isEntered (sym (tree-op t)) ∙ isOut) ∙ ap on (gather-open q done d' k cs)))
+          (open-in q done d' k cs full ∙ enter-over (openOn q done d') k cs (ap isEntered (sym (tree-op t)) ∙ isOut)
+          ∙ ap on (gather-open q done d' k cs)))
           (omega (arith, c .0)) (omega (arith, c .1)) (omega (arith, c .2))
 
   -- where an item that is kept goes to
   pub split-place : {κ : Kind} {s : State κ} {rest : Forest} {b : ℕ} → Sought W l 0x2 (Children l' b) W' → SplitView W X lo hi l n κ s rest
-      → (l .base ≤ l' .base + l' .write) × (l' .base + l' .write < l .base + l .len) × (l .base + l .len ≤ length W') × (slotEnd b ≤ length W')
+      → (l .base ≤ l' .base + l' .write) × (l' .base + l' .write < l .base + l .len) × (l .base + l .len ≤ length W')
+      × (slotEnd b ≤ length W')
   split-place {b = b} g (splits {q = q} {done = done} {d = d} {rest = rest} {m = m} v w e u le p t below within) =
       go (g .to (seek-split v w e u le t below within small) isSemicolon semicolon-class)
     where
       go : SoughtTo W' X l (l .base + n) m hi isSemicolon d rest (Children l' b)
-          → (l .base ≤ l' .base + l' .write) × (l' .base + l' .write < l .base + l .len) × (l .base + l .len ≤ length W') × (slotEnd b ≤ length W')
+          → (l .base ≤ l' .base + l' .write) × (l' .base + l' .write < l .base + l .len) × (l .base + l .len ≤ length W')
+          × (slotEnd b ≤ length W')
       go (tree moved before passed full unfree t seen) =
           let mv : Moved l l' = moved-same moved in
           let mb = mv .base in let ml = mv .len in let long = g .long in let al = ahead-le (seen .ahead) in let th = tree-below t in

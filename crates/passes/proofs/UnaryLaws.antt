@@ -28,7 +28,9 @@ use Rattle.passes.specs.Unary.{Moved}
 -- ---- one item
 
 pub at-tree : (k : Token) (cs d left : Forest) → isNil cs ≡ false
-    → work unaryMinusAndNot (right false d) (node k cs left) ≡ andThen (work unaryMinusAndNot (right false nil) (inReading unaryMinusAndNot cs)) (λ kids. work unaryMinusAndNot (takes unaryMinusAndNot (right false d) k kids) left)
+    → work unaryMinusAndNot (right false d) (node k cs left)
+    ≡ andThen (work unaryMinusAndNot (right false nil) (inReading unaryMinusAndNot cs))
+    (λ kids. work unaryMinusAndNot (takes unaryMinusAndNot (right false d) k kids) left)
 unfolding isNil work takes turned inReading pass passOf apply begins
 at-tree k nil d left e = absurd (true≢false e)
 at-tree k (node c cs r) d left e =
@@ -37,7 +39,8 @@ at-tree k (node c cs r) d left e =
 
 -- An item without a minus or a not stays as it is.
 kept-node : (k c : Token) (cs r d left : Forest) → unary none (node c cs r) ≡ done false (node c cs r)
-    → andThen (unaryPass (node c cs r)) (λ kids. fromRight (right false (node k kids d)) left) ≡ fromRight (right false (node k (node c cs r) d)) left
+    → andThen (unaryPass (node c cs r)) (λ kids. fromRight (right false (node k kids d)) left)
+    ≡ fromRight (right false (node k (node c cs r) d)) left
 unfolding unaryPass andThen
 kept-node k c cs r d left e = rw (e, unaryPass, andThen) refl
 
@@ -73,13 +76,15 @@ module _ (k : Token) (e : k .op ≡ Operator.negate) where
   minus-first n ns r = at-minus (node n ns r) nil
 
   module _ (n : Token) (ns r : Forest) (p : Token) (ps left : Forest) where
-    after : leftOf (node p ps left) (minusAfter (some p) k (node n ns r)) ≡ fromRight (right false (node n ns r)) (node k nil (node p ps left))
+    after : leftOf (node p ps left) (minusAfter (some p) k (node n ns r))
+        ≡ fromRight (right false (node n ns r)) (node k nil (node p ps left))
     unfolding before
     after = sym (at-minus (node n ns r) (node p ps left))
 
     -- after an operator
     pub minus-operator : beforeMinus (p .op) ≡ operator
-        → fromRight (right false (node n ns r)) (node k nil (node p ps left)) ≡ fromRight (right false (node k (node n ns nil) r)) (node p ps left)
+        → fromRight (right false (node n ns r)) (node k nil (node p ps left))
+        ≡ fromRight (right false (node k (node n ns nil) r)) (node p ps left)
     unfolding minusAfter leftOf
     minus-operator b = sym after ∙ rw (b, minusAfter, leftOf) refl
 
@@ -92,7 +97,8 @@ module _ (k : Token) (e : k .op ≡ Operator.negate) where
 
     -- after a minus, which becomes `+` at once
     pub minus-minus : beforeMinus (p .op) ≡ minus
-        → fromRight (right false (node n ns r)) (node k nil (node p ps left)) ≡ fromRight (right false (node n ns r)) (node (renamed Operator.add p) ps left)
+        → fromRight (right false (node n ns r)) (node k nil (node p ps left))
+        ≡ fromRight (right false (node n ns r)) (node (renamed Operator.add p) ps left)
     unfolding minusAfter leftOf fromRight turned
     minus-minus b = sym after ∙ rw (b, minusAfter, leftOf) refl
 

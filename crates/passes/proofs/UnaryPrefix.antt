@@ -89,7 +89,8 @@ module _ {W W' X : List ℕ} {lo l m hi a q : ℕ} {v : Items} {d rest : Forest}
                 back-array-keep W W' (λ s i x y z u. slots s i (omega arith) z (omega arith) (omega arith))
                 (λ j x y. words j x (omega arith)) (list .unread);
             done = ahead-cons (le-refl a) taken' (set-same Z W' at q (w .stored) (omega (arith, w .attached .long)))
-                (ahead-keep W W' (λ s i x y z u. slots s i y z (omega arith) (omega arith)) (λ j x y. words j (omega arith) (omega arith)) more);
+                (ahead-keep W W' (λ s i x y z u. slots s i y z (omega arith) (omega arith))
+                (λ j x y. words j (omega arith) (omega arith)) more);
             mid = low;
             below = below;
             within = rw long within;
@@ -216,17 +217,21 @@ module _ {W : List ℕ} {v : Items} {b : ℕ} (g : CanTakeToken W v b) where
 
   -- it takes the first done item
   pub prefix-turn : {W' : List ℕ} → Prefixed W (v .base + v .write) b W' → v .write < v .len
-      → ((n : Token) (ns r : Forest) → fromRight (right false (node n ns r)) (node (g .k) nil (g .rest)) ≡ fromRight (right false (node (g .k) (node n ns nil) r)) (g .rest))
-      → TurnTo unaryMinusAndNot W' (g .X) (g .lo) (g .hi) (walkOf v Unary) (right false (g .d)) (node (g .k) nil (g .rest)) (On (walkOf v Unary))
+      → ((n : Token) (ns r : Forest) → fromRight (right false (node n ns r)) (node (g .k) nil (g .rest))
+      ≡ fromRight (right false (node (g .k) (node n ns nil) r)) (g .rest))
+      → TurnTo unaryMinusAndNot W' (g .X) (g .lo) (g .hi) (walkOf v Unary) (right false (g .d)) (node (g .k) nil (g .rest))
+      (On (walkOf v Unary))
   prefix-turn {W'} w full e =
       go
-      (prefix-right (g .list) w (tree-out (g .tree)) (le-refl (g .l)) (g .tree .low) (tree-below (g .tree)) full behind (g .tree .token) (g .tree .pos))
+      (prefix-right (g .list) w (tree-out (g .tree)) (le-refl (g .l)) (g .tree .low) (tree-below (g .tree)) full behind (g .tree .token)
+      (g .tree .pos))
     where
       behind : v .read ≤ v .write
       behind = omega (arith, g .gap)
 
       go : {f : Forest} → TakenUnder W' (g .X) (g .lo) (g .l) (g .l) (g .hi) v (g .k) (g .rest) f
-          → TurnTo unaryMinusAndNot W' (g .X) (g .lo) (g .hi) (walkOf v Unary) (right false f) (node (g .k) nil (g .rest)) (On (walkOf v Unary))
+          → TurnTo unaryMinusAndNot W' (g .X) (g .lo) (g .hi) (walkOf v Unary) (right false f) (node (g .k) nil (g .rest))
+          (On (walkOf v Unary))
       go (under {n = n} {ns = ns} {r = r} list) = turn-on {read = v .read} {write = v .write} {v = v} list behind (e n ns r)
 
   pub prefix-within : {W' : List ℕ} → Prefixed W (v .base + v .write) b W' → v .write < v .len → Within W W' (g .X) (g .lo) (g .hi) v
@@ -252,21 +257,24 @@ module _ {W : List ℕ} {v : Items} {b : ℕ} (g : CanTakeToken W v b) where
 
   -- a token without an operand
   pub negate-fails : g .k .op ≡ Operator.negate → v .write ≡ v .len
-      → TurnTo unaryMinusAndNot W (g .X) (g .lo) (g .hi) (walkOf v Unary) (right false (g .d)) (node (g .k) nil (g .rest)) (Fail (NegateWithoutOperand b))
+      → TurnTo unaryMinusAndNot W (g .X) (g .lo) (g .hi) (walkOf v Unary) (right false (g .d)) (node (g .k) nil (g .rest))
+      (Fail (NegateWithoutOperand b))
   unfolding work
   negate-fails m e =
       fails (Failures.negateWithoutOperand (g .tree .token))
       (ap (λ (f : Forest). fromRight (right false f) (node (g .k) nil (g .rest))) (alone e) ∙ minus-alone (g .k) m (g .rest))
 
   pub not-fails : (g .k .op ≡ Operator.negate → ⊥) → v .write ≡ v .len
-      → TurnTo unaryMinusAndNot W (g .X) (g .lo) (g .hi) (walkOf v Unary) (right false (g .d)) (node (g .k) nil (g .rest)) (Fail (NotWithoutOperand b))
+      → TurnTo unaryMinusAndNot W (g .X) (g .lo) (g .hi) (walkOf v Unary) (right false (g .d)) (node (g .k) nil (g .rest))
+      (Fail (NotWithoutOperand b))
   unfolding work
   not-fails m e =
       fails (Failures.notWithoutOperand (g .tree .token))
       (ap (λ (f : Forest). fromRight (right false f) (node (g .k) nil (g .rest))) (alone e) ∙ not-alone (g .k) (g .prefix) m (g .rest))
 
   pub not-turn : {W' : List ℕ} → (g .k .op ≡ Operator.negate → ⊥) → Prefixed W (v .base + v .write) b W' → v .write < v .len
-      → TurnTo unaryMinusAndNot W' (g .X) (g .lo) (g .hi) (walkOf v Unary) (right false (g .d)) (node (g .k) nil (g .rest)) (On (walkOf v Unary))
+      → TurnTo unaryMinusAndNot W' (g .X) (g .lo) (g .hi) (walkOf v Unary) (right false (g .d)) (node (g .k) nil (g .rest))
+      (On (walkOf v Unary))
   not-turn m w full = prefix-turn w full (λ n ns r. not-takes (g .k) (g .prefix) m n ns r (g .rest))
 
   -- ---- a minus
@@ -274,12 +282,14 @@ module _ {W : List ℕ} {v : Items} {b : ℕ} (g : CanTakeToken W v b) where
   module _ (m : g .k .op ≡ Operator.negate) (full : v .write < v .len) where
     -- at the start
     pub first-turn : {W' : List ℕ} → Prefixed W (v .base + v .write) b W' → v .read ≡ 0
-        → TurnTo unaryMinusAndNot W' (g .X) (g .lo) (g .hi) (walkOf v Unary) (right false (g .d)) (node (g .k) nil (g .rest)) (On (walkOf v Unary))
+        → TurnTo unaryMinusAndNot W' (g .X) (g .lo) (g .hi) (walkOf v Unary) (right false (g .d)) (node (g .k) nil (g .rest))
+        (On (walkOf v Unary))
     first-turn w e =
         prefix-turn w full
         (λ n ns r.
         subst
-        (λ (f : Forest). fromRight (right false (node n ns r)) (node (g .k) nil f) ≡ fromRight (right false (node (g .k) (node n ns nil) r)) f)
+        (λ (f : Forest). fromRight (right false (node n ns r)) (node (g .k) nil f) ≡ fromRight
+        (right false (node (g .k) (node n ns nil) r)) f)
         (sym (unread-none (g .rest) (g .list .unread) e)) (minus-first (g .k) m n ns r))
 
     module _ (z : 0 < v .read) where
@@ -302,7 +312,8 @@ module _ {W : List ℕ} {v : Items} {b : ℕ} (g : CanTakeToken W v b) where
 
       pub operator-turn : {W' : List ℕ} → Prefixed W (v .base + v .write) b W'
           → beforeMinus (opAt W (wd W (v .base + (v .read - 1)))) ≡ operator
-          → TurnTo unaryMinusAndNot W' (g .X) (g .lo) (g .hi) (walkOf v Unary) (right false (g .d)) (node (g .k) nil (g .rest)) (On (walkOf v Unary))
+          → TurnTo unaryMinusAndNot W' (g .X) (g .lo) (g .hi) (walkOf v Unary) (right false (g .d)) (node (g .k) nil (g .rest))
+          (On (walkOf v Unary))
       operator-turn w e =
           prefix-turn w full
           (λ n ns r.
@@ -311,11 +322,13 @@ module _ {W : List ℕ} {v : Items} {b : ℕ} (g : CanTakeToken W v b) where
           (λ p ps left a c t h s. minus-operator (g .k) m n ns r p ps left (ap beforeMinus (sym (tree-op t)) ∙ e)))
 
       pub unknown-fails : beforeMinus (opAt W (wd W (v .base + (v .read - 1)))) ≡ unknown
-          → TurnTo unaryMinusAndNot W (g .X) (g .lo) (g .hi) (walkOf v Unary) (right false (g .d)) (node (g .k) nil (g .rest)) (Fail (UnknownOperation b (wd W (v .base + (v .read - 1)))))
+          → TurnTo unaryMinusAndNot W (g .X) (g .lo) (g .hi) (walkOf v Unary) (right false (g .d)) (node (g .k) nil (g .rest))
+          (Fail (UnknownOperation b (wd W (v .base + (v .read - 1)))))
       unfolding work
       unknown-fails e =
           with-last
-          (λ f. TurnTo unaryMinusAndNot W (g .X) (g .lo) (g .hi) (walkOf v Unary) (right false (g .d)) (node (g .k) nil f) (Fail (UnknownOperation b (wd W (v .base + (v .read - 1))))))
+          (λ f. TurnTo unaryMinusAndNot W (g .X) (g .lo) (g .hi) (walkOf v Unary) (right false (g .d)) (node (g .k) nil f)
+          (Fail (UnknownOperation b (wd W (v .base + (v .read - 1))))))
           (λ p ps left a c t h s.
           fails (Failures.unknownOperation (g .tree .token) (t .token))
           (first-done full (λ f. fromRight (right false f) (node (g .k) nil (node p ps left)) ≡ fail (unknownOperation (g .k) p ∷ []))
@@ -324,14 +337,17 @@ module _ {W : List ℕ} {v : Items} {b : ℕ} (g : CanTakeToken W v b) where
       -- after a minus, which becomes `+`
       pub minus-turn : {W' : List ℕ} → Added W (wd W (v .base + (v .read - 1))) W'
           → beforeMinus (opAt W (wd W (v .base + (v .read - 1)))) ≡ minus
-          → TurnTo unaryMinusAndNot W' (g .X) (g .lo) (g .hi) (walkOf v Unary) (right false (g .d)) (node (g .k) nil (g .rest)) (On (walkOf v Unary))
+          → TurnTo unaryMinusAndNot W' (g .X) (g .lo) (g .hi) (walkOf v Unary) (right false (g .d)) (node (g .k) nil (g .rest))
+          (On (walkOf v Unary))
       unfolding work count size waits
       minus-turn {W'} w e =
           with-last
-          (λ f. TurnTo unaryMinusAndNot W' (g .X) (g .lo) (g .hi) (walkOf v Unary) (right false (g .d)) (node (g .k) nil f) (On (walkOf v Unary)))
+          (λ f. TurnTo unaryMinusAndNot W' (g .X) (g .lo) (g .hi) (walkOf v Unary) (right false (g .d)) (node (g .k) nil f)
+          (On (walkOf v Unary)))
           (λ p ps left a c t h s.
           goes (same-list v (v .read) (v .write)) (right-holds (renamed-last p ps left t h s w) (omega (arith, g .gap)))
-          (first-done full (λ f. fromRight (right false f) (node (g .k) nil (node p ps left)) ≡ fromRight (right false f) (node (renamed Operator.add p) ps left))
+          (first-done full (λ f. fromRight (right false f) (node (g .k) nil (node p ps left)) ≡ fromRight (right false f)
+          (node (renamed Operator.add p) ps left))
           (λ n ns r. minus-minus (g .k) m n ns r p ps left (ap beforeMinus (sym (tree-op t)) ∙ e)))
           (omega arith) (omega arith) (omega arith))
         where
@@ -428,7 +444,8 @@ module _ {W : List ℕ} {v : Items} {b : ℕ} (g : CanTakeToken W v b) where
 
       added-list : {n : Token} {ns s : Forest}
           → RightList (w .W2) (g .X) (g .lo) (g .l) (b + 1) (g .hi) v (node (bare Operator.negate (g .k)) (node n ns nil) s) (g .rest)
-          → RightList W' (g .X) (g .lo) (g .l) (g .l) (g .hi) (movedTo v (v .read) (v .write - 1)) (node (renamed Operator.add (g .k)) nil (node (bare Operator.negate (g .k)) (node n ns nil) s)) (g .rest)
+          → RightList W' (g .X) (g .lo) (g .l) (g .l) (g .hi) (movedTo v (v .read) (v .write - 1))
+          (node (renamed Operator.add (g .k)) nil (node (bare Operator.negate (g .k)) (node n ns nil) s)) (g .rest)
       added-list {n} {ns} {s} list2 =
           let low = g .tree .low in
           let spare = spare-in in
@@ -439,7 +456,8 @@ module _ {W : List ℕ} {v : Items} {b : ℕ} (g : CanTakeToken W v b) where
           let room = token-room in
           let at = v .base + (v .write - 1) in
           let list3 = right-keep (w .W2) (w .W3)
-          (λ x o e h i. ⊎-elim (λ y. added-same (w .added) (slotStart x + o) (omega arith) (omega arith)) (λ y. added-same (w .added) (slotStart x + o) (omega arith) (omega arith)) e)
+          (λ x o e h i. ⊎-elim (λ y. added-same (w .added) (slotStart x + o) (omega arith) (omega arith))
+          (λ y. added-same (w .added) (slotStart x + o) (omega arith) (omega arith)) e)
           (λ j h e. added-same (w .added) j (omega arith) (omega arith)) (w .added .long) list2 in
           let long3 = w .added .long in
           let other = set-other (w .W3) W' at b (w .stored) in
@@ -456,7 +474,8 @@ module _ {W : List ℕ} {v : Items} {b : ℕ} (g : CanTakeToken W v b) where
           record {
             unread = list4 .unread;
             done = ahead-cons (le-refl (g .l)) plus4 (set-same (w .W3) W' at b (w .stored) (omega arith))
-                (subst (λ (i : ℕ). Ahead W' (g .X) (v .base) i (v .len) (b + 1) (g .hi) (node (bare Operator.negate (g .k)) (node n ns nil) s)) next (list4 .done));
+                (subst (λ (i : ℕ). Ahead W' (g .X) (v .base) i (v .len) (b + 1) (g .hi)
+                (node (bare Operator.negate (g .k)) (node n ns nil) s)) next (list4 .done));
             mid = le-refl (g .l);
             below = below;
             within = list4 .within;
@@ -464,15 +483,18 @@ module _ {W : List ℕ} {v : Items} {b : ℕ} (g : CanTakeToken W v b) where
           }
 
       pub subtract-turn : (z : 0 < v .read) → beforeMinus (opAt W (wd W (v .base + (v .read - 1)))) ≡ operand
-          → TurnTo unaryMinusAndNot W' (g .X) (g .lo) (g .hi) (walkOf v Unary) (right false (g .d)) (node (g .k) nil (g .rest)) (On (walkOf (movedTo v (v .read) (v .write - 1)) Unary))
+          → TurnTo unaryMinusAndNot W' (g .X) (g .lo) (g .hi) (walkOf v Unary) (right false (g .d)) (node (g .k) nil (g .rest))
+          (On (walkOf (movedTo v (v .read) (v .write - 1)) Unary))
       subtract-turn z e =
           let low = g .tree .low in
           go
-          (prefix-right made-list (w .prefixed) spare-out (omega arith) (le-refl (b + 1)) (omega (arith, spare-in)) full (omega (arith, g .gap))
+          (prefix-right made-list (w .prefixed) spare-out (omega arith) (le-refl (b + 1)) (omega (arith, spare-in)) full
+          (omega (arith, g .gap))
           (token-made (w .made) (omega arith) (g .tree .token)) (omega arith))
         where
           go : {f : Forest} → TakenUnder (w .W2) (g .X) (g .lo) (g .l) (b + 1) (g .hi) v (bare Operator.negate (g .k)) (g .rest) f
-              → TurnTo unaryMinusAndNot W' (g .X) (g .lo) (g .hi) (walkOf v Unary) (right false f) (node (g .k) nil (g .rest)) (On (walkOf (movedTo v (v .read) (v .write - 1)) Unary))
+              → TurnTo unaryMinusAndNot W' (g .X) (g .lo) (g .hi) (walkOf v Unary) (right false f) (node (g .k) nil (g .rest))
+              (On (walkOf (movedTo v (v .read) (v .write - 1)) Unary))
           go (under {n = n} {ns = ns} {r = s} list2) =
               turn-on {v = v} (added-list list2) (omega (arith, g .gap))
               (with-last m full z

@@ -105,12 +105,29 @@ pub of-unary : {W X : List ℕ} {lo l m hi : ℕ} {v : Items} {rest : Forest} {�
     → (Q : (κ : Kind) → State κ → Type 0) → ((d : Forest) → RightList W X lo l m hi v d rest → Q unaryMinusAndNot (right false d)) → Q κ s
 of-unary unary s sides small Q f =
     of-side (sides .done) (λ t. Q unaryMinusAndNot t)
-    (λ d a. f d (record { unread = sides .unread; done = a; mid = sides .mid; below = sides .below; within = sides .within; small = small }))
+    (λ d a. f d (record {
+      unread = sides .unread;
+      done = a;
+      mid = sides .mid;
+      below = sides .below;
+      within = sides .within;
+      small = small;
+    }))
 
 pub seek-back : {W : List ℕ} {v : Items} → CanTurn W (walkOf v Unary) → CanSeekBack W v
 seek-back {W} {v} g =
     of-unary (g .holds .sides .runs) (g .s) (g .holds .sides) (g .small) (λ κ s. CanSeekBack W v)
-    (λ d list. record { X = g .X; lo = g .lo; l = g .holds .l; m = g .holds .m; hi = g .hi; d = d; rest = g .rest; list = list; behind = g .holds .turning })
+    (λ d list. record {
+      X = g .X;
+      lo = g .lo;
+      l = g .holds .l;
+      m = g .holds .m;
+      hi = g .hi;
+      d = d;
+      rest = g .rest;
+      list = list;
+      behind = g .holds .turning;
+    })
 
 -- ---- the loop of `previous_token`
 
@@ -255,7 +272,8 @@ seek-back-none {W} {v} {g} {Z} {read} {write} s behind e =
 
 module _ {W : List ℕ} {v : Items} {Z : List ℕ} {read write : ℕ} (s : SeekingBack W v Z read write) where
   pub seek-back-in : CanSeekBack W v → 0 < read
-      → (v .base + (read - 1) < length Z) × (slotEnd (wd Z (v .base + (read - 1))) ≤ length Z) × (v .base + write < length Z + 1) × (length Z < 2 ^ 32)
+      → (v .base + (read - 1) < length Z) × (slotEnd (wd Z (v .base + (read - 1))) ≤ length Z) × (v .base + write < length Z + 1)
+      × (length Z < 2 ^ 32)
   seek-back-in g z =
       let slot = seek-back-slot (s .at g) z in
       let long = s .long in

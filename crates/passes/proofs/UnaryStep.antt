@@ -60,10 +60,30 @@ turned-by {W} {W'} {v} {t} f h =
       to = λ g.
           of-unary (g .holds .sides .runs) (g .s) (g .holds .sides) (g .small)
           (λ κ s. TurnTo κ W' (g .X) (g .lo) (g .hi) (walkOf v Unary) s (g .rest) t)
-          (λ d list. f (record { X = g .X; lo = g .lo; l = g .holds .l; m = g .holds .m; hi = g .hi; d = d; rest = g .rest; list = list; behind = g .holds .turning }));
+          (λ d list. f (record {
+            X = g .X;
+            lo = g .lo;
+            l = g .holds .l;
+            m = g .holds .m;
+            hi = g .hi;
+            d = d;
+            rest = g .rest;
+            list = list;
+            behind = g .holds .turning;
+          }));
       within = λ g.
           of-unary (g .holds .sides .runs) (g .s) (g .holds .sides) (g .small) (λ κ s. Within W W' (g .X) (g .lo) (g .hi) v)
-          (λ d list. h (record { X = g .X; lo = g .lo; l = g .holds .l; m = g .holds .m; hi = g .hi; d = d; rest = g .rest; list = list; behind = g .holds .turning }));
+          (λ d list. h (record {
+            X = g .X;
+            lo = g .lo;
+            l = g .holds .l;
+            m = g .holds .m;
+            hi = g .hi;
+            d = d;
+            rest = g .rest;
+            list = list;
+            behind = g .holds .turning;
+          }));
     }
 
 over-to : {W' X : List ℕ} {lo hi : ℕ} {v v' : Items} {d rest : Forest} → SoughtBackTo W' X lo hi v d rest (Nothing v')

@@ -83,8 +83,15 @@ module _ {W : List ℕ} {base write item : ℕ} (g : MemberAt W base write item)
   -- the slots that it reads are in the store
   pub member-in : (slotEnd (wd W (base + write - 1)) ≤ base) × (slotEnd item ≤ base)
   member-in =
-      rw previous
-      (omega (arith, tree-below (before .tree), before .high, g .tree .low, g .below, tree-below (g .tree)), omega (arith, tree-below (g .tree), g .below))
+      rw previous (
+        omega (arith, tree-below (before .tree), before .high, g .tree .low, g .below, tree-below (g .tree)),
+        omega (
+          arith,
+          tree-below
+              (g .tree),
+          g .below,
+        ),
+      )
 
   pub member-under : (o : ℕ) (W1 W2 : List ℕ) → o ≡ opAt W (wd W (base + write - 1)) → hasMembers o ≡ true
       → Attached W item (wd W (base + write - 1)) W1
@@ -283,7 +290,8 @@ module _ {W₀ : List ℕ} {base n : ℕ} {g : CanJoin W₀ base n} {W : List �
       behind = omega (arith, v .behind);
       answer = a;
       kept = kept-then W₀ W W' (g .X) (g .lo) (g .hi) base (base + n) (v .kept)
-          (kept-part W W' (g .X) (g .lo) (g .hi) (g .lo) (v .m) base (base + write + 1) base (base + n) (le-refl (g .lo)) join-high (le-refl base)
+          (kept-part W W' (g .X) (g .lo) (g .hi) (g .lo) (v .m) base (base + write + 1) base (base + n) (le-refl (g .lo)) join-high
+          (le-refl base)
           (omega (arith, v .count, v .behind)) kept);
       long = long ∙ v .long;
     },

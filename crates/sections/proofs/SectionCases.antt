@@ -89,7 +89,8 @@ is-opener n h =
     (λ e. inr (inl (eqb-true n leftBracket e)))
     (λ b. by (eqb n leftParenthesis)
     (λ e. inr (inr (eqb-true n leftParenthesis e)))
-    (λ c. absurd (true≢false (sym h ∙ ap opens (passed (eqb n leftBrace) _ _ a ∙ passed (eqb n leftBracket) _ _ b ∙ passed (eqb n leftParenthesis) _ _ c))))))
+    (λ c. absurd (true≢false (sym h ∙ ap opens (passed (eqb n leftBrace) _ _ a ∙ passed (eqb n leftBracket) _ _ b
+    ∙ passed (eqb n leftParenthesis) _ _ c))))))
   where
     by : {A : Type 0} (b : Bool) → (b ≡ true → A) → (b ≡ false → A) → A
     by true p q = p refl
@@ -103,7 +104,8 @@ pub classless : (n : ℕ) → isOpener n ≡ true → (i : ℕ) → i < 32 → i
 unfolding inClass passClasses ownClasses isQueryOrLoop isMathCall isOneOf any between
 classless n h i l =
     ⊎-elim (λ e. rw e (sym (false-at (λ i. inClass i 0) 0 32 tt i (omega arith) l)))
-    (λ f. ⊎-elim (λ e. rw e (sym (false-at (λ i. inClass i 2) 0 32 tt i (omega arith) l))) (λ e. rw e (sym (false-at (λ i. inClass i 4) 0 32 tt i (omega arith) l))) f)
+    (λ f. ⊎-elim (λ e. rw e (sym (false-at (λ i. inClass i 2) 0 32 tt i (omega arith) l)))
+    (λ e. rw e (sym (false-at (λ i. inClass i 4) 0 32 tt i (omega arith) l))) f)
     (is-opener n h)
 
 -- only accessors have children, so an opener is a leaf

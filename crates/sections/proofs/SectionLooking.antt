@@ -134,7 +134,8 @@ close-takes : {W X : List ℕ} {base marks lo l m k w item : ℕ} {s : Open} {t 
 unfolding closer
 close-takes (outer v e) n tree below apart p x y i W1 W' ep ex ey h a close room = absurd (n e)
 close-takes {W} {X} {base} {marks} {lo} {l} {m} {k} {w} {item} {t = t} {cs = cs}
-    (inner {l = l'} {m = m'} {k' = k'} {w' = w'} {v = r} {i = j} {o = o} {d = d} {s = s'} st z v e) n tree below apart p x y i W1 W' ep ex ey h
+    (inner {l = l'} {m = m'} {k' = k'} {w' = w'} {v = r} {i = j} {o = o} {d = d}
+    {s = s'} st z v e) n tree below apart p x y i W1 W' ep ex ey h
     a close room =
     let b = opener-le z in
     let c = back-le (v .done) in
@@ -190,7 +191,8 @@ pub record Went (W X : List ℕ) (base marks lo hi w i : ℕ) (a : Reached) (x :
   pub more : a .write ≤ w + 1
   pub index : a .index ≡ i
 
-pub went : {W X : List ℕ} {base marks lo hi w i : ℕ} {r : Bracket} {x : Walked} (a : Reached) → Follows W X base marks lo hi w i r x → r ≡ On a
+pub went : {W X : List ℕ} {base marks lo hi w i : ℕ} {r : Bracket} {x : Walked} (a : Reached) → Follows W X base marks lo hi w i r x → r
+    ≡ On a
     → Went W X base marks lo hi w i a x
 went {W} {X} {base} {marks} {lo} {hi} {w} {i} a (on {a = b} {t = t} st m n) e =
     let same : b ≡ a = cc in
@@ -244,7 +246,8 @@ module _ {W : List ℕ} {base marks write depth item : ℕ} (g : LookAt W base m
   -- a token that is written as it is
   pub look-places : (i : ℕ) (W' : List ℕ) → W' ≡ set W (base + write) item
       → bracket (g .k) (g .cs) i (g .s) ≡ going (placed (g .k) (g .cs) (g .s))
-      → Follows W' (g .X) base marks (g .lo) (g .m) write i (On (record { write = write + 1; depth = depth; index = i })) (bracket (g .k) (g .cs) i (g .s))
+      → Follows W' (g .X) base marks (g .lo) (g .m) write i (On (record { write = write + 1; depth = depth; index = i }))
+      (bracket (g .k) (g .cs) i (g .s))
   look-places i W' e is =
       let other = set-other W W' (base + write) item e in
       let low : (j : ℕ) → j < base + write → wd W' j ≡ wd W j = λ j h. other j (omega arith) in

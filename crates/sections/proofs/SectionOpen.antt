@@ -77,7 +77,8 @@ standing-keep W W' {base = base} {marks = marks} low array mark (inner {k' = k'}
     let c = back-le (v .done) in
     let level = x .level in
     inner (standing-keep W W' (λ j h. low j (omega arith)) (λ j a h. array j a (omega arith)) (λ j a h. mark j a (omega arith)) st)
-    (opener-keep W W' (λ j h. low j (omega arith)) (array (base + w') (omega arith) (omega arith)) (mark (marks + 2 * k') (omega arith) (omega arith))
+    (opener-keep W W' (λ j h. low j (omega arith)) (array (base + w') (omega arith) (omega arith))
+    (mark (marks + 2 * k') (omega arith) (omega arith))
     (mark (marks + 2 * k' + 1) (omega arith) (omega arith)) x)
     (written-keep W W' low (λ j a h. array j (omega arith) (omega arith)) v)
     e

@@ -110,7 +110,8 @@ pub record WalkTurn (W₀ : List ℕ) (base n : ℕ) (g : CanSection W₀ base n
   pub kept : Kept W₀ W (g .X) (g .lo) (g .hi) base (base + n + 2 * n)
   pub long : length W ≡ length W₀
 
-pub walk-turn : {W₀ : List ℕ} {base n : ℕ} {g : CanSection W₀ base n} {W : List ℕ} {read write depth index : ℕ} (rs : List ℕ) (rest : Forest)
+pub walk-turn : {W₀ : List ℕ} {base n : ℕ} {g : CanSection W₀ base n} {W : List ℕ} {read write depth index : ℕ} (rs : List ℕ)
+    (rest : Forest)
     → WalkAt W₀ base n g W read write depth index rs rest → read < n → (item : ℕ) → item ≡ wd W (base + read)
     → WalkTurn W₀ base n g W read write depth index item
 unfolding count
@@ -190,7 +191,8 @@ module _ {W₀ : List ℕ} {base n : ℕ} {g : CanSection W₀ base n} {W : List
               rep-beside W W' (g .X) (g .lo) (v .m) base (λ j x h. w .same walk-look j x (inl h) (inl (omega arith))) (g .below)
               (inr (le-refl (v .m))) (v .left);
           run = seg-keep W W' (base + (read + 1)) (v .bs)
-              (λ j x y. w .same walk-look j (free-above (g .X) (g .lo) (v .m) j (omega (arith, walk-high, g .below))) (inr (omega (arith, v .behind))) (inl (omega (arith, v .count))))
+              (λ j x y. w .same walk-look j (free-above (g .X) (g .lo) (v .m) j (omega (arith, walk-high, g .below)))
+              (inr (omega (arith, v .behind))) (inl (omega (arith, v .count))))
               (v .run);
           count = v .count;
           behind = omega (arith, f .more, v .behind);
@@ -208,8 +210,14 @@ module _ {W₀ : List ℕ} {base n : ℕ} {g : CanSection W₀ base n} {W : List
       → r ≡ Differs m after
       → Fails W' (sections 0 (outside nil) (g .f)) (Mismatched m) × Kept W₀ W' (g .X) (g .lo) (g .hi) base (base + n + 2 * n)
   walk-differs r m after W' w e =
-      let f = ended m (w .answer walk-look) after e in
-      (record { messages = f .0; is = sym (v .answer) ∙ sections-end (v .k) (v .cs) (v .rest) index (v .s) (f .0) (f .1); told = mismatched (f .2) }, turn-kept w)
+      let f = ended m (w .answer walk-look) after e in (
+        record {
+          messages = f .0;
+          is = sym (v .answer) ∙ sections-end (v .k) (v .cs) (v .rest) index (v .s) (f .0) (f .1);
+          told = mismatched (f .2);
+        },
+        turn-kept w,
+      )
 
 -- ---- the end of the list
 

@@ -144,7 +144,8 @@ module _ (d : Direction) (W O : List ℕ) (n : ℕ) (F : Forest) (long : length 
         (record {
           standing = stands-more d n _ 0 (v .done) x
               (stands-kept d n Z _ 0 (v .done)
-              (λ k b. laid-kept x Z q refl fits (startOf d n k) (start-apart d n k t (inl (omega arith)) (omega arith) (omega arith))) (v .standing))
+              (λ k b. laid-kept x Z q refl fits (startOf d n k) (start-apart d n k t (inl (omega arith)) (omega arith) (omega arith)))
+              (v .standing))
               (rw (zero-add t) (laid-node W Z (from - nodeLength) q fits));
           held = held-kept d n Z _ os (omega arith)
               (λ k a b. laid-kept x Z q refl fits (startOf d n k) (start-apart d n k t (inr (omega arith)) b (omega arith))) held;
@@ -266,11 +267,13 @@ module _ (d : Direction) (W O : List ℕ) (n : ℕ) (F : Forest) (long : length 
           free = rw (v .free, ← less) (end-back d n (n - suc (suc l)) (omega arith));
           left = refl;
           node = rw (v .read) (end-within d n (v .i) (omega (arith, v .all)));
-          unread = subst (λ (ns : List (List ℕ)). Stands d n W (suc (v .i)) ns) (append-assoc (preorder cs) (preorder rest) (unreadOf opens))
+          unread = subst (λ (ns : List (List ℕ)). Stands d n W (suc (v .i)) ns)
+              (append-assoc (preorder cs) (preorder rest) (unreadOf opens))
               (v .unread .1);
           all = omega (arith, v .all, length-append (preorder rest) (unreadOf opens), preorder-length rest);
           standing = stands-kept d n Z _ 0 (v .done)
-              (λ j b. stored-kept Z q _ _ fits (startOf d n j) (start-apart d n j (n - suc l) (inl (omega arith)) (omega arith) last)) (v .standing);
+              (λ j b. stored-kept Z q _ _ fits (startOf d n j) (start-apart d n j (n - suc l) (inl (omega arith)) (omega arith) last))
+              (v .standing);
           held = (
             v .node,
             stored-first Z q _ _ fits,
@@ -383,7 +386,8 @@ module _ (d : Direction) (W O : List ℕ) (n : ℕ) (F : Forest) (long : length 
         → toGo d (nodeLength * n) (nextEnd d (c .written)) < toGo d (nodeLength * n) (c .written)
     write-less v u = rw (v .written) (next-less (length (v .done)) (out-below v u))
 
-    pub turn-less : {Z Z' : List ℕ} {c r : Cursor} → Walking Z c → c .written ≢ endOf d n n → Turned d W Z c r Z' → wayOf d W r < wayOf d W c
+    pub turn-less : {Z Z' : List ℕ} {c r : Cursor} → Walking Z c → c .written ≢ endOf d n n → Turned d W Z c r Z'
+        → wayOf d W r < wayOf d W c
     turn-less w u (leaves e r o) = rw (r, long) (omega (arith, write-less (w .at) u))
     turn-less w u (passes e z r o) = rw (r, long) (omega (arith, write-less (w .at) u, read-less (w .trees) (w .opens) (w .at) e))
     turn-less w u (enters e s r o) = rw (r, long) (omega (arith, read-less (w .trees) (w .opens) (w .at) e))
@@ -455,7 +459,8 @@ module _ {d : Direction} {W O : List ℕ} (g : CanReorder d W O) where
   abbrev pub Walks : List ℕ → Cursor → Type 0
   Walks = Walking d W O (size tree) (seen d tree) all-words (g .room) (g .one .few) (seen-size d tree)
 
-  module _ {start last past : ℕ} (s : start ≡ firstEnd d (length W)) (l : last ≡ firstEnd (otherWay d) (length W)) (p : past ≡ nextEnd d last)
+  module _ {start last past : ℕ} (s : start ≡ firstEnd d (length W)) (l : last ≡ firstEnd (otherWay d) (length W))
+      (p : past ≡ nextEnd d last)
     where
       first-end : start ≡ endOf d (size tree) 0
       first-end = s ∙ (ap (firstEnd d) all-words ∙ end-first d (size tree))
@@ -466,7 +471,8 @@ module _ {d : Direction} {W O : List ℕ} (g : CanReorder d W O) where
       past-end : past ≡ endOf d (size tree) (size tree)
       past-end =
           let more : suc (size tree - 1) ≡ size tree = omega (arith, some-nodes) in
-          p ∙ (ap (nextEnd d) last-end ∙ (end-next d (size tree) (size tree - 1) (omega (arith, some-nodes)) ∙ ap (endOf d (size tree)) more))
+          p ∙ (ap (nextEnd d) last-end ∙ (end-next d (size tree) (size tree - 1) (omega (arith, some-nodes))
+          ∙ ap (endOf d (size tree)) more))
 
       pub last-within : (nodeLength ≤ last) × (last < 2 ^ 32)
       last-within =

@@ -193,7 +193,8 @@ forward-in n W P i [] z e l s = tt
 forward-in n W P i (x ∷ xs) z e l s =
     let here : W ≡ P ++ (x ++ (joined xs ++ z)) = e ∙ ap (λ (ws : List ℕ). P ++ ws) (append-assoc x (joined xs) z) in (
       rw (here, ← l) (node-in P x (joined xs ++ z) (s .0)),
-      forward-in n W (P ++ x) (suc i) xs z (here ∙ sym (append-assoc P x (joined xs ++ z))) (length-append P x ∙ omega (arith, s .0)) (s .1),
+      forward-in n W (P ++ x) (suc i) xs z (here ∙ sym (append-assoc P x (joined xs ++ z))) (length-append P x ∙ omega (arith, s .0))
+          (s .1),
     )
 
 -- The same from the right.
@@ -252,7 +253,8 @@ backward-out n Z i [] p l h = refl
 backward-out n Z i (x ∷ xs) p l h =
     let more : nodeLength * suc (length xs) ≡ nodeLength * length xs + nodeLength = omega arith in
     let place : nodeLength * (n - suc i) ≡ nodeLength * length xs = omega arith in
-    let here : take nodeLength (drop (nodeLength * length xs) Z) ≡ x = node-words Z (nodeLength * length xs) (omega arith) ∙ (rw place at (p .0)) in
+    let here : take nodeLength (drop (nodeLength * length xs) Z) ≡ x = node-words Z (nodeLength * length xs) (omega arith)
+    ∙ (rw place at (p .0)) in
     rw (more, take-add (nodeLength * length xs) nodeLength Z, reversed-joined x xs)
     (rw (here, backward-out n Z (suc i) xs (p .1) (omega arith) h) refl)
 

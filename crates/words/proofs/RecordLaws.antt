@@ -23,8 +23,13 @@ laid-front ws l = refl
 pub laid-after : (vs ws l : List ℕ) → laidAt (length vs) ws (inFront vs l) ≡ inFront (vs ++ ws) l
 unfolding laidAt inFront
 laid-after vs ws l =
-    rw
-    (take-append-seam vs (drop (length vs) l), drop-append-seam vs (drop (length vs) l), drop-drop (length ws) (length vs) l, length-append vs ws)
+    rw (
+      take-append-seam vs (drop (length vs) l),
+      drop-append-seam vs (drop (length vs) l),
+      drop-drop (length ws)
+          (length vs) l,
+      length-append vs ws,
+    )
     (sym (append-assoc vs ws (drop (length vs + length ws) l)))
 
 -- Nothing is laid.

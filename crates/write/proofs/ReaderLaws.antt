@@ -30,7 +30,8 @@ use Rattle.write.proofs.reader.TreeReader as T
 use Rattle.write.proofs.reader.TreeReader.Laws as T′
 
 -- A call's result that is known is stored as it is known.
-pub lands-as : {M : Type 1} {𝓤 : URA M} {H : Heap 𝓤} {A : Atoms 𝓤} {K : Type 0} {W : Given 𝓤 H A} {Γ : List (Item 𝓤)} {C : Calls 𝓤 H} {Λ : Loops 𝓤 H}
+pub lands-as : {M : Type 1} {𝓤 : URA M} {H : Heap 𝓤} {A : Atoms 𝓤} {K : Type 0} {W : Given 𝓤 H A} {Γ : List (Item 𝓤)} {C : Calls 𝓤 H}
+    {Λ : Loops 𝓤 H}
     {E : Env 𝓤 H} {d : Place} {rest : Body} {q : Post 𝓤 H} {u v : Val}
     → K → u ≡ v → Step K W Γ (lands C Λ E d v rest q) Γ (lands C Λ E d u rest q)
 lands-as {K = K} {W = W} {Γ = Γ} {C = C} {Λ = Λ} {E = E} {d = d} {rest = rest} {q = q} t e =
