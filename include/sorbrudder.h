@@ -184,8 +184,8 @@ enum sorbrudder_refusal_number {
 
 /* Reads the list of tokens whose words are `list` at a pack's declared version, under the operator set in two halves of 64 bits (operator 0
  * is the lowest bit of `used_low`; `sorbrudder_used` finds the list's own), over a source of that length. At most `limit` brackets may be
- * open at once, 1 to SORBRUDDER_MOST_NESTING. They are counted along the list, whatever the operator set: `{`, `[` and `(` open one, and any
- * of `}`, `]` and `)` closes one, matching or not, unless none is open. Within the limit a list reads as it does at any other.
+ * open at once, 1 to SORBRUDDER_MOST_NESTING. They are counted along the list, whatever the operator set: `{`, `[` and `(` open one, and
+ * any of `}`, `]` and `)` closes one, matching or not, unless none is open. Within the limit a list reads as it does at any other.
  * Done: the number of nodes; the tree's words fill the front of `tree`. Messages: their number, one or two; their words fill the front of
  * `messages`. The words after them, and the other of the two buffers, stay as they were; `work` is all zero.
  * Refused, 1 to 11, 17 and 18: every buffer is unchanged. The first of the refusals that applies is the answer, in the order 1 to 7, 17,

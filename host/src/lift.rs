@@ -309,10 +309,8 @@ impl Lifter {
         let words = if changed { written } else { words };
         if can_be_above(words, self.limit_to) {
             let given = Given::exact(words, version, self.limit_to);
-            if let Err(ReadError::TooDeep { token }) = self.work.parse(words, given, &mut self.new)
-            {
-                return Err(LiftError::of_token(words, token, self.limit_to, changed));
-            }
+            let again = self.work.parse(words, given, &mut self.new);
+            within(again, words, self.limit_to, changed)?;
         }
         Ok(LiftedWords {
             words,
@@ -348,30 +346,23 @@ impl Lifter {
             limit,
             ..given
         };
-        match self.work.parse(list, given, &mut self.new) {
-            Ok(new) if new == tree.words() => {
-                return Ok(LiftedWords {
-                    words: list,
-                    changed: false,
-                    tree,
-                });
-            }
-            // What is written has all brackets of the list, so it is too deep as well.
-            Err(ReadError::TooDeep { token }) => {
-                return Err(LiftError::of_token(list, token, limit, false));
-            }
-            _ => {}
+        let new = self.work.parse(list, given, &mut self.new);
+        if new == Ok(tree.words()) {
+            return Ok(LiftedWords {
+                words: list,
+                changed: false,
+                tree,
+            });
         }
+        // What is written has all brackets of the list, so it would be too deep as well.
+        within(new, list, limit, false)?;
         let written = self.writer.write_words(tree.words());
         let words = written.map_err(|why| not_written(why, tree))?;
         if cfg!(debug_assertions) || can_be_above(words, limit) {
             let given = Given::exact(words, to, limit);
-            match self.work.parse(words, given, &mut self.new) {
-                Err(ReadError::TooDeep { token }) => {
-                    return Err(LiftError::of_token(words, token, limit, true));
-                }
-                read => debug_assert_eq!(read.map(agreed), Ok(agreed(tree.words()))),
-            }
+            let again = self.work.parse(words, given, &mut self.new);
+            within(again, words, limit, true)?;
+            debug_assert_eq!(again.map(agreed), Ok(agreed(tree.words())));
         }
         Ok(LiftedWords {
             words,
@@ -384,6 +375,21 @@ impl Lifter {
 /// Whether a list has so many tokens that it could be above a limit; whether it is, the library says.
 fn can_be_above(list: &[u32], limit: Limit) -> bool {
     list.len() / Token::WORDS > limit.get() as usize
+}
+
+/// The error about a list whose reading under the new limit was turned back for it.
+fn within(
+    read: Result<&[u32], ReadError>,
+    list: &[u32],
+    limit: Limit,
+    is_written: bool,
+) -> Result<(), LiftError> {
+    match read {
+        Err(ReadError::TooDeep { token }) => {
+            Err(LiftError::of_token(list, token, limit, is_written))
+        }
+        _ => Ok(()),
+    }
 }
 
 /// What the readings of a written list agree on: the words without brackets that only group, and of a script's semicolons the operator and

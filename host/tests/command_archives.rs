@@ -428,8 +428,10 @@ fn lists_that_were_too_deep_for_their_own_limit_stay_behind() {
     let lifted = run_line(&folder, "lift deep -o six --to 6 --own-limit 1 --json");
     assert_eq!(lifted.status, Some(1), "{lifted:?}");
     let third = lifted.out.lines().nth(2).expect("a line");
-    let told = r#""result":"too-deep","token":3,"op":4,"operator":"(","start":5,"end":6,"reason":"own-limit","messages":[{"number":18}],"text":"too deep for its own limit of 1: token 3, `(` at 5-6""#;
+    let told = r#""result":"too-deep","token":3,"op":4,"operator":"(","start":5,"end":6,"reason":"own-limit","messages":[{"number":18}],"#;
     assert!(third.contains(told), "{third}");
+    let text = "too deep for its own limit of 1: token 3, `(` at 5-6";
+    assert!(third.contains(text), "{third}");
     let results = lifted.out.lines().map(|line| line.contains("too-deep"));
     assert_eq!(results.collect::<Vec<_>>(), [false, false, true, false]);
     assert_eq!(

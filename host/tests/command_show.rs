@@ -113,8 +113,9 @@ a * (b + (c))
         let run = run(Path::new("."), &[&[command], &words[..]].concat());
         assert_eq!((run.status, run.out.as_str()), (Some(1), explained));
         let json = shown(&[&[command, "--json"], &words[..]].concat());
-        let object = r#"{"version":6,"result":"too-deep","source":"a * (b + (c))","text":"too deep: with token 5 more brackets are open than the limit allows","token":5,"messages":[]}"#;
-        assert_eq!(json.trim_end(), object);
+        let head = r#"{"version":6,"result":"too-deep","source":"a * (b + (c))","text":"too deep: with token 5"#;
+        let rest = r#" more brackets are open than the limit allows","token":5,"messages":[]}"#;
+        assert_eq!(json.trim_end(), format!("{head}{rest}"));
     }
     let within = shown(&[
         "explain",
