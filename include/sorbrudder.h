@@ -51,7 +51,7 @@ extern "C" {
 #define SORBRUDDER_VERSION_MAJOR 0
 #define SORBRUDDER_VERSION_MINOR 1
 #define SORBRUDDER_VERSION_PATCH 0
-#define SORBRUDDER_ABI_VERSION 1
+#define SORBRUDDER_ABI_VERSION 2
 
 /* What an answer is (`sorbrudder_kind`). */
 #define SORBRUDDER_DONE 0
@@ -68,6 +68,9 @@ extern "C" {
 #define SORBRUDDER_TREE_BUFFER(n) (3 * SORBRUDDER_NODE_WORDS * (size_t)(n))
 #define SORBRUDDER_MESSAGE_BUFFER (2 * SORBRUDDER_MESSAGE_WORDS)
 #define SORBRUDDER_WORK_BUFFER(n) (64 * (size_t)(n) + 64)
+
+/* The greatest nesting limit, with which no list is too deep. */
+#define SORBRUDDER_MOST_NESTING 4096
 
 /* A list in which every tree that can be written has room, in words. */
 #define SORBRUDDER_LIST_BUFFER (SORBRUDDER_TOKEN_WORDS * SORBRUDDER_MOST_TOKENS)
@@ -173,24 +176,30 @@ enum sorbrudder_refusal_number {
     SORBRUDDER_REFUSAL_NOT_PLAIN = 13,        /* place: the number of the first such node in tree order */
     SORBRUDDER_REFUSAL_WRITTEN_TOO_LONG = 14, /* the written list has more than 4,096 tokens */
     SORBRUDDER_REFUSAL_LIST_BUFFER = 15,      /* the lent list is too short */
+    SORBRUDDER_REFUSAL_LIMIT = 17,            /* a nesting limit that is not 1 to 4,096 */
+    SORBRUDDER_REFUSAL_TOO_DEEP = 18,         /* place: the token, counted from 0, with which more brackets are open than the limit */
     SORBRUDDER_REFUSAL_NOT_A_STACK = 24,      /* words in stack order that are not one tree; place as for 12 */
     SORBRUDDER_REFUSAL_OUTPUT_BUFFER = 25     /* the lent output is shorter than the words that are put into the other order */
 };
 
 /* Reads the list of tokens whose words are `list` at a pack's declared version, under the operator set in two halves of 64 bits (operator 0
- * is the lowest bit of `used_low`; `sorbrudder_used` finds the list's own), over a source of that length.
+ * is the lowest bit of `used_low`; `sorbrudder_used` finds the list's own), over a source of that length. At most `limit` brackets may be
+ * open at once, 1 to SORBRUDDER_MOST_NESTING. They are counted along the list, whatever the operator set: `{`, `[` and `(` open one, and
+ * any of `}`, `]` and `)` closes one, matching or not, unless none is open. Within the limit a list reads as it does at any other.
  * Done: the number of nodes; the tree's words fill the front of `tree`. Messages: their number, one or two; their words fill the front of
  * `messages`. The words after them, and the other of the two buffers, stay as they were; `work` is all zero.
- * Refused, 1 to 11: every buffer is unchanged. The first of the refusals that applies is the answer. */
+ * Refused, 1 to 11, 17 and 18: every buffer is unchanged. The first of the refusals that applies is the answer, in the order 1 to 7, 17,
+ * then 8 to 11 by the list's words, and 18. */
 uint64_t sorbrudder_parse(const uint32_t *list, size_t list_words, uint32_t *tree, size_t tree_words, uint32_t *messages,
                           size_t message_words, uint32_t *work, size_t work_words, uint64_t source_length, int16_t version,
-                          uint64_t used_low, uint64_t used_high);
+                          uint64_t used_low, uint64_t used_high, uint32_t limit);
 
 /* Writes the plain tree whose words are `tree` as a list of tokens into the front of `list`; the words after it stay as they were. A tree
  * whose root is a semicolon (73) is a script: each of its statements is written with a semicolon after it, of payload 0 and the span of the
  * node that the statement holds. The closer of a bracket of the tree starts and ends where the bracket closes. Of the other nodes' words of
  * kind 7 only the kind is looked at. Added brackets have payload 0: the opener's span is from the lowest start to the highest end among the
- * spans of its operand and all below it, and its closer starts and ends at that end.
+ * spans of its operand and all below it, and its closer starts and ends at that end. With them the list may be deeper than the one that the
+ * tree was read from; reading it says whether it is within a limit.
  * Done: the number of tokens. Refused, 12 to 15: the list is unchanged. The place of 12 is 86,016 at the most. */
 uint64_t sorbrudder_write(const uint32_t *tree, size_t tree_words, uint32_t *list, size_t list_words);
 
@@ -211,7 +220,7 @@ static inline unsigned sorbrudder_kind(uint64_t answer) { return (unsigned)(answ
 /* The count of nodes, tokens or messages; of a refusal, its place. */
 static inline uint32_t sorbrudder_count(uint64_t answer) { return (uint32_t)answer; }
 
-/* Of a refusal: its number, 1-15, 24 or 25. */
+/* Of a refusal: its number, 1-15, 17, 18, 24 or 25. */
 static inline unsigned sorbrudder_refusal(uint64_t answer) { return (unsigned)(answer >> 32) & 0xff; }
 
 /* The parts of a token's or a node's words. */
@@ -241,19 +250,25 @@ static inline void sorbrudder_used(const uint32_t *list, size_t list_words, uint
     *source_length = length;
 }
 
-/* SORBRUDDER_ABI_VERSION where the linked library has this header's layout, else 0. It is found by asking the library: a list of one token
- * is read into a tree buffer of exactly the length that this header says, and refused with one of a word less. */
+/* SORBRUDDER_ABI_VERSION where the linked library has this header's layout and calls, else 0. It is found by asking the library: a list of
+ * one token is read into a tree buffer of exactly the length that this header says, and refused with one of a word less, and with the limit
+ * 0. */
 static inline unsigned sorbrudder_abi_version(void) {
     const uint32_t list[SORBRUDDER_TOKEN_WORDS] = {0x20000000u | SORBRUDDER_OP_FLOAT, 0x40000000u, 0x60000000u, 0x80000000u,
                                                    0xa0000000u};
     uint32_t tree[SORBRUDDER_TREE_BUFFER(1)], messages[SORBRUDDER_MESSAGE_BUFFER], work[SORBRUDDER_WORK_BUFFER(1)];
-    uint64_t low, high, length, longer, shorter;
+    uint64_t low, high, length, longer, shorter, without;
     sorbrudder_used(list, SORBRUDDER_TOKEN_WORDS, &low, &high, &length);
     longer = sorbrudder_parse(list, SORBRUDDER_TOKEN_WORDS, tree, SORBRUDDER_TREE_BUFFER(1), messages, SORBRUDDER_MESSAGE_BUFFER, work,
-                              SORBRUDDER_WORK_BUFFER(1), length, 6, low, high);
+                              SORBRUDDER_WORK_BUFFER(1), length, 6, low, high, 1);
     shorter = sorbrudder_parse(list, SORBRUDDER_TOKEN_WORDS, tree, SORBRUDDER_TREE_BUFFER(1) - 1, messages, SORBRUDDER_MESSAGE_BUFFER,
-                               work, SORBRUDDER_WORK_BUFFER(1), length, 6, low, high);
-    return longer == 1 && sorbrudder_refusal(shorter) == SORBRUDDER_REFUSAL_TREE_BUFFER ? SORBRUDDER_ABI_VERSION : 0;
+                               work, SORBRUDDER_WORK_BUFFER(1), length, 6, low, high, 1);
+    without = sorbrudder_parse(list, SORBRUDDER_TOKEN_WORDS, tree, SORBRUDDER_TREE_BUFFER(1), messages, SORBRUDDER_MESSAGE_BUFFER, work,
+                               SORBRUDDER_WORK_BUFFER(1), length, 6, low, high, 0);
+    return longer == 1 && sorbrudder_refusal(shorter) == SORBRUDDER_REFUSAL_TREE_BUFFER &&
+                   sorbrudder_refusal(without) == SORBRUDDER_REFUSAL_LIMIT
+               ? SORBRUDDER_ABI_VERSION
+               : 0;
 }
 
 #ifdef __cplusplus

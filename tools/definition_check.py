@@ -7,7 +7,8 @@ Takes N cases (default 3000) of at most M tokens (default 16) from the oracle's 
 definition's answer and the oracle's, both in words, into scratch crates under target/definition-check/, and has the checker compute both
 sides. The definition is the specs/ of crates/molang as it stands; nothing of this is kept in the tree. Six words of a node are the oracle's;
 where it closes, the seventh, is found from the list by a stack of brackets (card 2). A case with two openers alike that close apart is left
-out, since the oracle's answer does not say which of them a node is.
+out, since the oracle's answer does not say which of them a node is. Where a list goes above the nesting limits 1, 2 and 3 (card 8) is
+counted here.
 
 The last line is `N cases, D differences`; the exit status is 0 only where D is 0. A difference is printed with its list, the shortest first.
 A case whose answer is changed by one must be found to differ, or the run fails: a check that cannot fail says nothing.
@@ -29,6 +30,7 @@ from scratch import ROOT, crate, refused
 SCRATCH = ROOT / "target" / "definition-check"
 BATCH = 50
 OPENERS, CLOSERS = (0, 2, 4), (1, 3, 5)
+LIMITS = (1, 2, 3)
 
 HEAD = """use Prim.Native.Nat.{ℕ}
 use mathlib.Core.Path.{_≡_, refl}
@@ -38,24 +40,41 @@ use Rattle.molang.proofs.Computed.{computed}
 use Rattle.molang.proofs.Asked.{asked}
 """
 
-# The reading as the entry makes it of a call's words, and the words that it leaves.
-ASKED = """use Prim.Native.Nat.{ℕ}
-use mathlib.Core.List.{List, []}
+# Where a list goes above three limits, as one more than the token's index or 0; then the reading as the entry makes it of a call's words,
+# and the words that it leaves.
+ASKED = """use Prim.Native.Nat.{ℕ, suc}
+use mathlib.Core.List.{List, [], _∷_, _++_}
+use mathlib.Core.Option.{Option, none, some}
 use lib.IntN.{ℤ}
 use Rattle.molang.specs.Forest.{nil, node}
 use Rattle.molang.specs.Read.{Answer, tree, messages}
-use Rattle.molang.specs.Words.{treeWords}
+use Rattle.molang.specs.Words.{treeWords, tokensOf}
+use Rattle.molang.specs.Nesting.{tooDeep}
 use Rattle.molang.specs.Parse.{reading, recordWords}
 
 unfoldable pub answerWords : Answer → List ℕ
 answerWords (tree k cs) = treeWords (node k cs nil)
 answerWords (messages ms) = recordWords ms
 
+unfoldable pub above : ℕ → List ℕ → ℕ
+above limit list = elim (tooDeep limit (tokensOf list)) [ none ↦ 0 | some i ↦ suc i ]
+
 unfoldable pub asked : ℤ → ℕ → ℕ → ℕ → List ℕ → List ℕ
-unfolding answerWords
+unfolding above answerWords
 asked version source low high list =
-    answerWords
-    (reading (record { list = list; tree = []; messages = []; work = []; sourceLength = source; version = version; usedLow = low; usedHigh = high }))
+    (above 1 list ∷ above 2 list ∷ above 3 list ∷ []) ++ answerWords
+    (reading
+    (record {
+      list = list;
+      tree = [];
+      messages = [];
+      work = [];
+      sourceLength = source;
+      version = version;
+      usedLow = low;
+      usedHigh = high;
+      limit = 4096;
+    }))
 """
 
 
@@ -70,11 +89,12 @@ class Case:
     messages: list
 
     def equation(self):
-        """The two sides: a record's first word is at most 17 and a tree's has a kind, so the two never mix."""
+        """The two sides: behind the nesting a record's first word is at most 17 and a tree's has a kind, so the two never mix."""
         version = f"(pos {self.version})" if self.version >= 0 else f"(negsuc {-1 - self.version})"
         words = [word for token in self.tokens for word in token_words(token)]
         nodes = zip(self.tree, self.closes())
-        wanted = [word for node, ends in nodes for word in token_words(node[:5]) + [6 << 29 | node[5], 7 << 29 | min(ends)]]
+        wanted = [self.above(limit) for limit in LIMITS]
+        wanted += [word for node, ends in nodes for word in token_words(node[:5]) + [6 << 29 | node[5], 7 << 29 | min(ends)]]
         wanted += [number for message in self.messages for number in message]
         return f"asked {version} {self.source} {self.used[0]} {self.used[1]} {listed(words)}", listed(wanted)
 
@@ -90,6 +110,15 @@ class Case:
                 ends[opened.pop()] = token[4]
         alike = lambda node: {end for token, end in zip(self.tokens, ends) if token == node[:5]}
         return [alike(node) if node[0] in OPENERS else {node[4]} for node in self.tree]
+
+    def above(self, limit):
+        """One more than the index of the first token with which more brackets are open than the limit; 0 where there is none."""
+        opened = 0
+        for place, token in enumerate(self.tokens):
+            opened = opened + 1 if token[0] in OPENERS else max(0, opened - (token[0] in CLOSERS))
+            if opened > limit:
+                return place + 1
+        return 0
 
     def clear(self):
         return all(len(ends) == 1 for ends in self.closes())
@@ -169,6 +198,7 @@ def covered(cases):
         "payload variant 12": sum(any(t[1] == 12 for t in case.tokens) for case in cases),
         "operators": len({t[0] for case in cases for t in case.tokens}),
         "pairs of messages": sum(len(case.messages) == 2 for case in cases),
+        **{f"lists above the limit {limit}": sum(bool(case.above(limit)) for case in cases) for limit in LIMITS},
         "sections": sum(any(min(ends) != node[4] for node, ends in zip(case.tree, case.closes())) for case in cases),
     }
     lacking = [f"message {n}" for n in range(1, 18) if not numbers[n]]

@@ -4,6 +4,7 @@ use oracle::generate::alphabets::{ALPHABETS, Alphabet};
 use oracle::generate::shapes::SHAPES;
 use oracle::generate::{Mixed, Rng, brackets, damage, dress};
 use oracle::lines;
+use oracle::nesting::{MOST_NESTING, least_limit};
 use oracle::refusal::Call;
 use oracle::words::{
     Case, FULL_SET, LAST_OP, LAST_PLACE, MOST_TOKENS, TOKEN_WORDS, Token, bit, exact_set, low, word,
@@ -59,6 +60,17 @@ const fn eight(name: &'static str, ops: &'static [u8]) -> Alphabet {
     }
 }
 
+/// All brackets and nothing else.
+static BRACKETS: Alphabet = eight("brackets", &[0, 1, 2, 3, 4, 5]);
+
+/// A nesting limit: the greatest, or one that some lists are above.
+fn limit(rng: &mut Rng) -> u32 {
+    if rng.chance(70) {
+        return MOST_NESTING;
+    }
+    *rng.pick(&[1, 1, 1, 2, 2, 3, 4, 5, 8, 16, 64, 1_024, MOST_NESTING - 1])
+}
+
 /// Generated lists of at most `most` tokens, one in twelve with a spoiled call, half with more room than asked for.
 pub fn generated(seed: u64, most: usize) -> impl Iterator<Item = Call> {
     let mut rng = Rng::new(seed ^ 0x5EED);
@@ -72,14 +84,17 @@ pub fn generated(seed: u64, most: usize) -> impl Iterator<Item = Call> {
             call.messages_len += rng.below(20) as u64;
             call.work_len += rng.below(200) as u64;
         }
-        call
+        call.at_limit(limit(&mut rng))
     })
 }
 
 /// Lists of brackets of about `most` tokens: what a node says of its closer.
 pub fn bracketed(seed: u64, most: usize) -> impl Iterator<Item = Call> {
-    let mut rng = Rng::new(seed ^ 0xB4AC);
-    std::iter::from_fn(move || Some(Call::of(&brackets::case(&mut rng, most))))
+    let (mut rng, mut limits) = (Rng::new(seed ^ 0xB4AC), Rng::new(seed ^ 0xDEE9));
+    std::iter::from_fn(move || {
+        let call = Call::of(&brackets::case(&mut rng, most));
+        Some(call.at_limit(limit(&mut limits)))
+    })
 }
 
 fn exact(ops: &[u8], version: i16) -> Case {
@@ -112,6 +127,60 @@ pub fn over_scripts(most: usize) -> impl Iterator<Item = Case> {
 /// Every list of up to `most` operators over the generator's small alphabets, at versions 4, 5 and 6.
 pub fn over_alphabets(most: usize) -> impl Iterator<Item = Call> {
     over(&ALPHABETS, most)
+}
+
+/// Every list of up to `most` brackets at limits 1 to 4, under its exact used set.
+pub fn over_brackets(most: usize) -> impl Iterator<Item = Call> {
+    BRACKETS.every_list(most).flat_map(|ops| {
+        (1..=4).map(move |limit| Call::of(&exact(&ops, 3 + limit as i16)).at_limit(limit))
+    })
+}
+
+/// Every list of up to `most` brackets at limits 1 and 2 with none and with all operators in the used set.
+fn over_brackets_unused(most: usize) -> impl Iterator<Item = Call> {
+    let calls = [1, 2].map(|limit| [(0, 0), FULL_SET].map(|used| (limit, used)));
+    BRACKETS.every_list(most).flat_map(move |ops| {
+        calls.into_iter().flatten().map(move |(limit, used)| {
+            let case = exact(&ops, 6);
+            Call::of(&Case { used, ..case }).at_limit(limit)
+        })
+    })
+}
+
+/// Every shape of so many tokens under the least limit that it is within, and under the one below that.
+fn shapes_at_their_limits(len: usize) -> impl Iterator<Item = Call> {
+    SHAPES.iter().flat_map(move |shape| {
+        let case = exact(&shape.ops(len), 5);
+        let least = least_limit(&case.tokens);
+        let limits = [least, least - 1].into_iter().filter(|limit| *limit > 0);
+        limits.map(move |limit| Call::of(&case).at_limit(limit))
+    })
+}
+
+/// Openers and operands, of which some limit lets only the first few pass, with each damage to each word: a bad word is
+/// answered, wherever it stands.
+fn deep_and_damaged() -> impl Iterator<Item = Call> {
+    [1, 3].into_iter().flat_map(|limit| {
+        let deep = Call::of(&exact(&[4, 61, 2, 0, 4, 43, 1, 4, 2, 4], 6)).at_limit(limit);
+        (0..deep.list.len()).flat_map(move |place| with_damage(deep.clone(), place))
+    })
+}
+
+/// Nesting limits: every list of up to `most` brackets at limits 1 to 4, and of two fewer under used sets without and with
+/// all operators; every shape at the least limit that it is within and one below; lists that are too deep with each damage
+/// to each word; as many openers as are read, at limits beside their number.
+pub fn nesting(most: usize) -> impl Iterator<Item = Call> {
+    let openers = [MOST_TOKENS, MOST_TOKENS - 1].into_iter().flat_map(|len| {
+        let limits = [1, 2, 64, len as u32 - 1, len as u32, MOST_NESTING];
+        let call = Call::of(&exact(&[0, 2, 4].repeat(len)[..len], 6));
+        limits.map(|limit| call.clone().at_limit(limit))
+    });
+    let shapes = [MOST_TOKENS, 1_000, 100, 9];
+    over_brackets(most)
+        .chain(over_brackets_unused(most.saturating_sub(2)))
+        .chain(shapes.into_iter().flat_map(shapes_at_their_limits))
+        .chain(deep_and_damaged())
+        .chain(openers)
 }
 
 /// Every shape of so many tokens at versions 4, 5 and 6, with the exact used set and with the full one.
@@ -171,7 +240,7 @@ fn sound(tokens: usize) -> Call {
 /// What is changed of a sound call.
 type Change = Box<dyn Fn(&mut Call)>;
 
-/// Answers 1 to 7, each on both sides of its limit.
+/// Answers 1 to 7 and 17, each on both sides of its limit.
 fn at_limits() -> Vec<Change> {
     let mut changes: Vec<Change> = vec![Box::new(|_| {})];
     changes.push(Box::new(|call| call.list.push(word(1, 61))));
@@ -207,6 +276,9 @@ fn at_limits() -> Vec<Change> {
     changes.push(Box::new(|call| call.source_len = u64::MAX));
     for bit in 44..64 {
         changes.push(Box::new(move |call| call.used.1 |= 1 << bit));
+    }
+    for limit in [0, 1, MOST_NESTING, MOST_NESTING + 1, u32::MAX] {
+        changes.push(Box::new(move |call| call.limit = limit));
     }
     changes
 }
@@ -246,17 +318,19 @@ fn changed(tokens: usize) -> Vec<Call> {
     calls
 }
 
+/// A call with each damage to the word at index `place`.
+fn with_damage(call: Call, place: usize) -> impl Iterator<Item = Call> {
+    damages(&call, place).into_iter().map(move |word| {
+        let mut call = call.clone();
+        call.list[place] = word;
+        call
+    })
+}
+
 /// A sound call of so many tokens with each damage to each word at these indices.
 fn damaged(tokens: usize, places: Range<usize>) -> impl Iterator<Item = Call> {
     let sound = sound(tokens);
-    places.flat_map(move |place| {
-        let sound = sound.clone();
-        damages(&sound, place).into_iter().map(move |word| {
-            let mut call = sound.clone();
-            call.list[place] = word;
-            call
-        })
-    })
+    places.flat_map(move |place| with_damage(sound.clone(), place))
 }
 
 /// Every refusal at its limits: the whole call's for lists of several lengths, each alone and each two together; each

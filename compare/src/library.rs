@@ -2,7 +2,8 @@
 
 use crate::stack_model::Reordered;
 use crate::writer_model::Written;
-use sorbrudder_sys::{Answer, Lent};
+pub use sorbrudder_sys::Given;
+use sorbrudder_sys::{Answer, Lent, MOST_NESTING};
 
 /// What the parse entry answers.
 #[derive(Copy, Clone, Debug, PartialEq, Eq)]
@@ -13,14 +14,6 @@ pub enum Read {
     Messages(usize),
     /// An answer's number and its place.
     Refused(u32, usize),
-}
-
-/// What the parse entry is given beside its buffers.
-#[derive(Copy, Clone, Debug)]
-pub struct Given {
-    pub source_len: u64,
-    pub version: i16,
-    pub used: (u64, u64),
 }
 
 /// The parse entry.
@@ -37,7 +30,7 @@ pub fn parse(
         messages,
         work,
     };
-    match sorbrudder_sys::parse(lent, given.source_len, given.version, given.used) {
+    match sorbrudder_sys::parse(lent, given) {
         Answer::Filled(nodes) => Read::Tree(nodes),
         Answer::Messages(records) => Read::Messages(records),
         Answer::Refused(number, place) => Read::Refused(number, place),
@@ -74,7 +67,7 @@ fn reordered(answer: Answer) -> Reordered {
 /// A library that is timed.
 #[derive(Copy, Clone)]
 pub struct Library {
-    parse: fn(Lent<'_>, u64, i16, (u64, u64)) -> Answer,
+    parse: fn(Lent<'_>, Given) -> Answer,
     write: fn(&[u32], &mut [u32]) -> Answer,
     /// Words of a node: six before card 2.
     pub node_words: usize,
@@ -97,10 +90,7 @@ impl Library {
         None
     }
 
-    fn of(
-        parse: fn(Lent<'_>, u64, i16, (u64, u64)) -> Answer,
-        write: fn(&[u32], &mut [u32]) -> Answer,
-    ) -> Self {
+    fn of(parse: fn(Lent<'_>, Given) -> Answer, write: fn(&[u32], &mut [u32]) -> Answer) -> Self {
         let library = |node_words| Self {
             parse,
             write,
@@ -113,6 +103,7 @@ impl Library {
             source_len: 0,
             version: 6,
             used: (0, 0),
+            limit: MOST_NESTING,
         };
         match library(6).parse(&leaf, &mut tree, &mut [0; 16], &mut work, given) {
             Answer::Refused(3, _) => library(7),
@@ -135,7 +126,7 @@ impl Library {
             messages,
             work,
         };
-        (self.parse)(lent, given.source_len, given.version, given.used)
+        (self.parse)(lent, given)
     }
 
     /// Its write entry.

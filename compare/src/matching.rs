@@ -180,10 +180,11 @@ mod beside {
         fn list(&mut self, ops: &[u8], version: i16) -> Result<(), String> {
             self.lists += 1;
             let read = self.read(ops, version)?;
-            let numbers = match read {
-                Read::Messages(count) => self.buffers.messages(count),
+            let records = match read {
+                Read::Messages(count) => self.buffers.records(count),
                 _ => Vec::new(),
             };
+            let numbers: Vec<u32> = records.iter().map(|record| record[0]).collect();
             let matched = matched(ops);
             // Messages 4 and 5, or 6 and 5, are the bracket step's; 1 is that of no root or several.
             let sound = match numbers[..] {

@@ -31,7 +31,7 @@ impl Expected {
     }
 }
 
-/// What document 01's table and the Rust say to a call.
+/// What document 01's table with card 8's rows, and the Rust, say to a call.
 pub fn expected(call: &Call) -> Expected {
     if let Some(refused) = refusal(call) {
         return Expected::Refused(refused.number, refused.place as usize);
@@ -150,6 +150,7 @@ impl Buffers {
             source_len: call.source_len,
             version: call.version,
             used: call.used,
+            limit: call.limit,
         };
         let (tree, messages) = (self.tree.slice(), self.messages.slice());
         let answer = library::parse(&call.list, tree, messages, self.work.slice(), given);
@@ -162,10 +163,12 @@ impl Buffers {
         &self.tree.slice()[..NODE_WORDS * nodes]
     }
 
-    /// The numbers of the messages that the last call left, for an answer of so many.
-    pub fn messages(&mut self, count: usize) -> Vec<u32> {
-        let records = self.messages.slice()[..8 * count].chunks(8);
-        records.map(|record| record[0]).collect()
+    /// The records that the last call put in front of the message buffer, for an answer of so many messages.
+    pub fn records(&mut self, count: usize) -> Vec<Record> {
+        let words = self.messages.slice()[..8 * count].chunks_exact(8);
+        words
+            .map(|record| record.try_into().expect("eight words"))
+            .collect()
     }
 
     /// The tokens of a numbered case's nodes, as the library reads it: where only the Rust's kept answers are at hand.

@@ -6,6 +6,7 @@ use crate::plain_trees;
 use crate::reading::{Buffers, Expected};
 use crate::writer_model::{self, Tree, Written};
 use oracle::generate::{Mixed, Rng};
+use oracle::nesting::{MOST_NESTING, least_limit, too_deep};
 use oracle::refusal::Call;
 use oracle::words::{Case, NODE_WORDS, Token, TreeNode, bit, decode_list, decode_tree, exact_set};
 
@@ -104,8 +105,9 @@ impl Iterator for Lists {
 }
 
 /// The nodes that the parse entry makes of a case, or none where it has messages.
-fn read(buffers: &mut Buffers, case: &Case) -> Result<Option<Vec<u32>>, String> {
-    match buffers.call(&Call::of(case), &Expected::Something)? {
+fn read(buffers: &mut Buffers, case: &Case, limit: u32) -> Result<Option<Vec<u32>>, String> {
+    let call = Call::of(case).at_limit(limit);
+    match buffers.call(&call, &Expected::Something)? {
         Read::Tree(nodes) => Ok(Some(buffers.tree(nodes).to_vec())),
         _ => Ok(None),
     }
@@ -130,7 +132,7 @@ pub fn write(rng: &mut Rng, words: &[u32], room: usize) -> Result<(Written, Vec<
 
 /// Reads, writes, reads again and writes again; what became of the list, or a difference.
 pub fn reread(buffers: &mut Buffers, rng: &mut Rng, case: &Case) -> Result<Reread, String> {
-    let Some(words) = read(buffers, case)? else {
+    let Some(words) = read(buffers, case, MOST_NESTING)? else {
         return Ok(Reread::Messages);
     };
     let room = 5 * (4 * words.len() / NODE_WORDS).min(writer_model::MOST_TOKENS);
@@ -152,7 +154,7 @@ pub fn reread(buffers: &mut Buffers, rng: &mut Rng, case: &Case) -> Result<Rerea
             },
             tokens: tokens.clone(),
         };
-        let second = reads_as(buffers, &again, &compared)?;
+        let second = reads_as(buffers, rng, &again, &compared)?;
         // Lifting twice is lifting once: the same tokens in the same room.
         if write(rng, &second, list.len())? != (answer, list.clone()) {
             return Err(format!("another list after the written {again:?}"));
@@ -161,9 +163,23 @@ pub fn reread(buffers: &mut Buffers, rng: &mut Rng, case: &Case) -> Result<Rerea
     Ok(Reread::Again)
 }
 
-/// The words of the tree that a written list is read as, which agrees with the first tree.
-fn reads_as(buffers: &mut Buffers, case: &Case, first: &[TreeNode]) -> Result<Vec<u32>, String> {
-    let words = read(buffers, case)?.ok_or_else(|| format!("messages to the written {case:?}"))?;
+/// The words of the tree that a written list is read as under a limit that it is within, which agrees with the first tree.
+/// Under the limit below the least of these it is turned back.
+fn reads_as(
+    buffers: &mut Buffers,
+    rng: &mut Rng,
+    case: &Case,
+    first: &[TreeNode],
+) -> Result<Vec<u32>, String> {
+    let least = least_limit(&case.tokens);
+    let ops = case.tokens.iter().map(|token| token.op);
+    if let Some(token) = too_deep(ops, least - 1).filter(|_| least > 1) {
+        let call = Call::of(case).at_limit(least - 1);
+        buffers.call(&call, &Expected::Refused(18, token))?;
+    }
+    let limit = *rng.pick(&[least, least, MOST_NESTING]);
+    let words = read(buffers, case, limit)?;
+    let words = words.ok_or_else(|| format!("messages to the written {case:?}"))?;
     let nodes = decode_tree(&words).ok_or("the second tree's words are no tree")?;
     if Tree::of(&nodes).compared() != first {
         return Err(format!("another tree of the written {case:?}"));

@@ -1,5 +1,6 @@
 //! The smallest call that still shows a difference, found by taking tokens out and making the rest plain.
 
+use oracle::nesting::MOST_NESTING;
 use oracle::refusal::Call;
 use oracle::words::{TOKEN_WORDS, TREE_WORDS, exact_set, low, word};
 
@@ -67,6 +68,7 @@ fn plainer(mut call: Call, differs: &mut impl FnMut(&Call) -> bool) -> Call {
     for version in [4, 5, 6] {
         change(&mut call, &|call| call.version = version);
     }
+    change(&mut call, &|call| call.limit = MOST_NESTING);
     call
 }
 
@@ -79,12 +81,13 @@ pub fn shown(call: &Call) -> String {
         .map(|word| low(*word) & 0xFF)
         .collect();
     format!(
-        "operators {ops:?} at version {}, used set {:#x} {:#x}, source length {},\n\
+        "operators {ops:?} at version {}, used set {:#x} {:#x}, source length {}, limit {},\n\
          buffers of {}, {} and {} words, list words {:x?}",
         call.version,
         call.used.0,
         call.used.1,
         call.source_len,
+        call.limit,
         call.tree_len,
         call.messages_len,
         call.work_len,
@@ -105,12 +108,12 @@ mod tests {
         };
         let calls = Mixed::new(3, 40).map(|case| Call::of(&case));
         for call in calls.filter(|call| minuses(call) >= 2).take(50) {
-            let least = smallest(call, |call| minuses(call) >= 2);
+            let least = smallest(call.at_limit(9), |call| minuses(call) >= 2);
             assert_eq!(least.list.len(), 2 * TOKEN_WORDS);
             assert_eq!((least.tree_len, least.work_len), (42, 192));
             assert_eq!(
-                (least.used, least.source_len, least.version),
-                ((64, 0), 2, 6)
+                (least.used, least.source_len, least.version, least.limit),
+                ((64, 0), 2, 6, MOST_NESTING)
             );
         }
     }

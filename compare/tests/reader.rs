@@ -4,13 +4,15 @@
 
 use compare::calls;
 use compare::comparison::Comparison;
+use compare::library::Read;
 use compare::matching::Matching;
 use compare::reading::{Buffers, Expected};
 use compare::rereading::{self, Lists, Reread};
-use oracle::generate::Rng;
+use oracle::generate::{Mixed, Rng, dress};
+use oracle::nesting::{MOST_NESTING, least_limit};
 use oracle::refusal::Call;
 use oracle::vectors::{Stored, stored};
-use oracle::words::Case;
+use oracle::words::{Case, word};
 
 /// Compares all calls; the counts of trees, messages and refusals.
 fn compared(calls: impl Iterator<Item = Call>) -> (u64, u64, u64) {
@@ -28,12 +30,17 @@ fn every_kept_answer() {
     let mut buffers = Buffers::default();
     for record in stored() {
         let (call, expected) = match record {
-            Stored::Answered(case, answer) => {
+            Stored::Answered {
+                case,
+                limit,
+                answer,
+            } => {
                 let names = |numbered: &_| match buffers.names(numbered) {
                     Ok(names) => names,
                     Err(difference) => panic!("{difference}"),
                 };
-                (Call::of(&case), Expected::answered(&case, answer, names))
+                let call = Call::of(&case).at_limit(limit);
+                (call, Expected::answered(&case, answer, names))
             }
             Stored::Refused(call, refusal) => {
                 let place = refusal.place as usize;
@@ -51,6 +58,95 @@ fn every_kept_answer() {
 fn every_refusal_at_its_limits() {
     let (_, _, refused) = compared(calls::limits());
     assert!(refused > 3_000, "only {refused} calls were turned back");
+}
+
+/// How many lists of so many brackets never have more than `limit` open, counted by how many are open at the end.
+fn within(limit: usize, len: usize) -> u64 {
+    let mut lists = vec![0; limit + 1];
+    lists[0] = 1;
+    for _ in 0..len {
+        let mut longer = vec![0; limit + 1];
+        for (open, count) in lists.iter().enumerate() {
+            // Three openers and three closers.
+            if open < limit {
+                longer[open + 1] += 3 * count;
+            }
+            longer[open.saturating_sub(1)] += 3 * count;
+        }
+        lists = longer;
+    }
+    lists.iter().sum()
+}
+
+#[test]
+fn every_list_of_up_to_six_brackets_at_limits_1_to_4() {
+    let (trees, messages, refused) = compared(calls::over_brackets(6));
+    let all: u64 = (0..=6).map(|len| 4 * 6u64.pow(len)).sum();
+    let read: u64 = (0..=6)
+        .flat_map(|len| (1..=4).map(move |limit| within(limit, len)))
+        .sum();
+    assert_eq!(refused, all - read);
+    if oracle::COMPARED {
+        assert_eq!(trees + messages, read);
+    }
+}
+
+#[test]
+fn nesting_limits_whatever_the_used_set_the_shape_and_the_damage() {
+    let (_, _, refused) = compared(calls::nesting(5));
+    assert!(refused > 10_000, "{refused}");
+}
+
+#[test]
+fn a_bad_word_behind_an_excess_is_the_answer() {
+    let mut buffers = Buffers::default();
+    let deep = dress::plain(&[4, 4, 4, 61]);
+    let call = Call::of(&Case::exact(deep, 6)).at_limit(1);
+    let mut answer = |call: &Call, number, place| {
+        let wanted = Expected::Refused(number, place);
+        if let Err(difference) = buffers.call(call, &wanted) {
+            panic!("{difference}");
+        }
+    };
+    answer(&call, 18, 1);
+    for (number, place, bad) in [
+        (8, 19, word(4, 0)),
+        (9, 15, word(1, 111)),
+        (10, 15, word(1, 61 | 13 << 8)),
+        (11, 19, word(5, 1 << 16)),
+    ] {
+        let mut bad_word = call.clone();
+        bad_word.list[place] = bad;
+        answer(&bad_word, number, place);
+    }
+}
+
+#[test]
+fn within_its_limit_a_list_reads_as_at_the_greatest() {
+    let mut buffers = Buffers::default();
+    let mut nested = 0;
+    let lists = Mixed::new(9, 40).take(20_000);
+    for case in lists.chain(Lists::new(9).take(5_000)) {
+        let call = Call::of(&case);
+        let read = buffers.call(&call, &Expected::Something);
+        let Ok(read) = read else {
+            panic!("{read:?}");
+        };
+        let expected = match read {
+            Read::Tree(nodes) => Expected::Tree(buffers.tree(nodes).to_vec()),
+            Read::Messages(count) => Expected::Messages(buffers.records(count)),
+            Read::Refused(..) => unreachable!("a case is no call that is turned back"),
+        };
+        let least = least_limit(&case.tokens);
+        nested += usize::from(least > 1);
+        for limit in [least, least + 1] {
+            let limited = call.clone().at_limit(limit.min(MOST_NESTING));
+            if let Err(difference) = buffers.call(&limited, &expected) {
+                panic!("{difference}");
+            }
+        }
+    }
+    assert!(nested > 5_000, "{nested}");
 }
 
 #[test]

@@ -140,6 +140,22 @@ fn later_words_are_whole_tokens_and_128_at_the_most() {
 
 #[test]
 #[cfg_attr(not(treelist), ignore = "treelist is not built")]
+fn no_list_is_too_deep() {
+    // The program gives the greatest limit, so that 128 openers are read, and found not to be closed.
+    let program = program();
+    let openers = list(&[4; 128]);
+    let found = run(&program, &[&input(6, &openers)]);
+    assert_eq!(
+        found,
+        "messages 2\n6 127 128 128 4 5 0 0\n5 0 1 5 4 0 0 0\n"
+    );
+    let nested = [&[4; 63][..], &[61], &[5; 63]].concat();
+    let found = run(&program, &[&input(6, &list(&nested))]);
+    assert!(found.starts_with("tree 64\n4 1 0 1\n"), "{found}");
+}
+
+#[test]
+#[cfg_attr(not(treelist), ignore = "treelist is not built")]
 fn megabytes_are_read_to_their_end() {
     let program = program();
     let mut long = input(6, &vec![0; 5 * 400_000]);
@@ -241,7 +257,7 @@ fn the_kept_answers_are_printed() {
     let program = program();
     let mut compared = 0;
     for record in vectors::stored().iter().step_by(7) {
-        let Stored::Answered(case, answer) = record else {
+        let Stored::Answered { case, answer, .. } = record else {
             continue;
         };
         let end = case.tokens.iter().map(|token| token.end).max().unwrap_or(0);

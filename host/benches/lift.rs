@@ -4,7 +4,7 @@
 //!     cargo bench --bench lift [-- ROUNDS]
 
 use sorbrudder::{Lifter, Tokens, Used};
-use sorbrudder_sys::{Answer, Lent, MESSAGE_BUFFER, tree_buffer, work_buffer};
+use sorbrudder_sys::{Answer, Given, Lent, MESSAGE_BUFFER, MOST_NESTING, tree_buffer, work_buffer};
 use std::hint::black_box;
 use std::time::Instant;
 
@@ -48,7 +48,13 @@ impl Raw {
                 messages: &mut self.messages,
                 work: &mut self.work[..work_len],
             };
-            if let Answer::Filled(filled) = sorbrudder_sys::parse(lent, source_len, version, used) {
+            let given = Given {
+                source_len,
+                version,
+                used,
+                limit: MOST_NESTING,
+            };
+            if let Answer::Filled(filled) = sorbrudder_sys::parse(lent, given) {
                 *count = sorbrudder_sys::NODE_WORDS * filled;
             }
         }

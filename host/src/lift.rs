@@ -2,7 +2,9 @@
 
 use crate::layout::{self, without_brackets};
 use crate::reader::{Given, Work, lay_out};
-use crate::{LiftError, Op, Span, Token, Tokens, Tree, TreeRef, WriteError, Writer};
+use crate::{
+    LiftError, Limit, Op, ReadError, Span, Token, Tokens, Tree, TreeRef, WriteError, Writer,
+};
 use std::borrow::BorrowMut;
 
 /// A list that two versions read as the same tree.
@@ -58,8 +60,27 @@ pub struct LiftedWords<'l> {
 /// assert!(lifter.lift(&list).from(5).to(6).unwrap().changed);
 /// assert!(!lifter.lift(&list).from(4).to(5).unwrap().changed);
 /// ```
+///
+/// The engines on both sides may have nesting limits of their own, and the brackets that are added nest: a sum of n operands, which has
+/// none, is written with n - 2 pairs, one in the other. So a lifter can be told the limit of either side. It gives no list that is too deep
+/// for the new one:
+///
+/// ```
+/// use sorbrudder::{LiftError, Lifter, Limit, Tokens};
+///
+/// let mut lifter = Lifter::new().with_limit_to(Limit::new(1).unwrap());
+/// let (one, two): (Tokens, Tokens) = ("a && b || c".parse().unwrap(), "a && b || c && d || e".parse().unwrap());
+/// assert_eq!(lifter.lift(&one).from(5).to(6).unwrap().tokens.to_string(), "a && (b || c)");
+/// let why = lifter.lift(&two).from(5).to(6).unwrap_err();
+/// assert_eq!(
+///     why.to_string(),
+///     "too deep for the new limit of 1: token 3 of the list with its brackets, `(` at 5-11"
+/// );
+/// ```
 #[derive(Clone, Debug, Default)]
 pub struct Lifter {
+    limit_from: Limit,
+    limit_to: Limit,
     list: Vec<u32>,
     work: Work,
     old: Vec<u32>,
@@ -113,7 +134,8 @@ impl<L, T> Lift<L, T> {
 impl<L: BorrowMut<Lifter>> LiftFrom<L, &[Token]> {
     /// Lifts the list to this version. Where it reads another tree than the old one, or none, the list is written with brackets. That
     /// every version reads what is written as the same tree, brackets taken away, is proved of the library for every list; a build with
-    /// debug assertions reads it again and compares.
+    /// debug assertions reads it again and compares. A list that the new engine's limit turns back, as it is or as it is written, is
+    /// [`LiftError::TooDeep`].
     ///
     /// ```
     /// use sorbrudder::{Tokens, lift};
@@ -158,6 +180,36 @@ impl Lifter {
     /// ```
     pub fn new() -> Self {
         Self::default()
+    }
+
+    /// The lifter for lists of an engine with this nesting limit: one that is deeper was no tree there, and is not lifted.
+    ///
+    /// ```
+    /// use sorbrudder::{LiftError, Lifter, Limit, ReadError, Tokens};
+    ///
+    /// let mut lifter = Lifter::new().with_limit_from(Limit::new(1).unwrap());
+    /// let list: Tokens = "((a))".parse().unwrap();
+    /// let why = lifter.lift(&list).from(4).to(6).unwrap_err();
+    /// assert_eq!(why, LiftError::Read(ReadError::TooDeep { token: 1 }));
+    /// ```
+    #[must_use]
+    pub fn with_limit_from(self, limit_from: Limit) -> Self {
+        Self { limit_from, ..self }
+    }
+
+    /// The lifter to an engine with this nesting limit: no list comes out that is deeper.
+    ///
+    /// ```
+    /// use sorbrudder::{LiftError, Lifter, Limit, Tokens};
+    ///
+    /// let mut lifter = Lifter::new().with_limit_to(Limit::new(1).unwrap());
+    /// let list: Tokens = "((a))".parse().unwrap();
+    /// let why = lifter.lift(&list).from(4).to(6).unwrap_err();
+    /// assert!(matches!(why, LiftError::TooDeep { token: 1, is_written: false, .. }));
+    /// ```
+    #[must_use]
+    pub fn with_limit_to(self, limit_to: Limit) -> Self {
+        Self { limit_to, ..self }
     }
 
     /// Lifts a list of tokens, once it is told the versions.
@@ -212,7 +264,7 @@ impl Lifter {
     }
 
     /// Writes a list with all its brackets, whether or not it needs them, so that every version reads it as this one does. A list that has
-    /// them all is left as it is.
+    /// them all is left as it is. With them it may be deeper than the new limit, and is then not settled.
     ///
     /// ```
     /// use sorbrudder::{Lifter, Tokens};
@@ -248,14 +300,20 @@ impl Lifter {
         words: &'l [u32],
         version: i16,
     ) -> Result<LiftedWords<'l>, LiftError> {
-        let given = Given::exact(words, version);
+        let given = Given::exact(words, version, self.limit_from);
         let old = self.work.parse(words, given, &mut self.old);
         let tree = TreeRef::of_sound(old.map_err(LiftError::Read)?);
         let written = self.writer.write_words(tree.words());
         let written = written.map_err(|why| not_written(why, tree))?;
         let changed = !is_given(written, words);
+        let words = if changed { written } else { words };
+        if can_be_above(words, self.limit_to) {
+            let given = Given::exact(words, version, self.limit_to);
+            let again = self.work.parse(words, given, &mut self.new);
+            within(again, words, self.limit_to, changed)?;
+        }
         Ok(LiftedWords {
-            words: if changed { written } else { words },
+            words,
             changed,
             tree,
         })
@@ -279,11 +337,13 @@ impl Lifter {
         from: i16,
         to: i16,
     ) -> Result<LiftedWords<'l>, LiftError> {
-        let given = Given::exact(list, from);
+        let given = Given::exact(list, from, self.limit_from);
         let old = self.work.parse(list, given, &mut self.old);
         let tree = TreeRef::of_sound(old.map_err(LiftError::Read)?);
+        let limit = self.limit_to;
         let given = Given {
             version: to,
+            limit,
             ..given
         };
         let new = self.work.parse(list, given, &mut self.new);
@@ -294,19 +354,41 @@ impl Lifter {
                 tree,
             });
         }
+        // What is written has all brackets of the list, so it would be too deep as well.
+        within(new, list, limit, false)?;
         let written = self.writer.write_words(tree.words());
         let words = written.map_err(|why| not_written(why, tree))?;
-        debug_assert_eq!(
-            self.work
-                .parse(words, Given::exact(words, to), &mut self.new)
-                .map(agreed),
-            Ok(agreed(tree.words()))
-        );
+        if cfg!(debug_assertions) || can_be_above(words, limit) {
+            let given = Given::exact(words, to, limit);
+            let again = self.work.parse(words, given, &mut self.new);
+            within(again, words, limit, true)?;
+            debug_assert_eq!(again.map(agreed), Ok(agreed(tree.words())));
+        }
         Ok(LiftedWords {
             words,
             changed: true,
             tree,
         })
+    }
+}
+
+/// Whether a list has so many tokens that it could be above a limit; whether it is, the library says.
+fn can_be_above(list: &[u32], limit: Limit) -> bool {
+    list.len() / Token::WORDS > limit.get() as usize
+}
+
+/// The error about a list whose reading under the new limit was turned back for it.
+fn within(
+    read: Result<&[u32], ReadError>,
+    list: &[u32],
+    limit: Limit,
+    is_written: bool,
+) -> Result<(), LiftError> {
+    match read {
+        Err(ReadError::TooDeep { token }) => {
+            Err(LiftError::of_token(list, token, limit, is_written))
+        }
+        _ => Ok(()),
     }
 }
 

@@ -1,7 +1,7 @@
 //! The reader: a token list becomes a tree or messages.
 
 use crate::token::LOW;
-use crate::{Messages, Refusal, Token, Tree, TreeRef, Used};
+use crate::{Limit, Messages, Refusal, Token, Tree, TreeRef, Used};
 use sorbrudder_sys::{Answer, Lent, MESSAGE_BUFFER, tree_buffer, work_buffer};
 use std::fmt;
 
@@ -28,6 +28,7 @@ pub const MOST_TOKENS: usize = sorbrudder_sys::MOST_TOKENS;
 /// ```
 #[derive(Clone, Debug, Default)]
 pub struct Reader {
+    limit: Limit,
     list: Vec<u32>,
     tree: Vec<u32>,
     work: Work,
@@ -49,6 +50,22 @@ pub struct Reader {
 pub enum ReadError {
     /// The call was turned back; the list was not read.
     Refused(Refusal),
+    /// The list nests deeper than the reader's [`Limit`]; it was not read. Its words are sound, all of them.
+    ///
+    /// ```
+    /// use sorbrudder::{Limit, ReadError, Reader, Tokens};
+    ///
+    /// let list: Tokens = "a * (b + (c - (d)))".parse().unwrap();
+    /// let mut reader = Reader::new().with_limit(Limit::new(2).unwrap());
+    /// let why = reader.read(&list, 6).unwrap_err();
+    /// assert_eq!(why, ReadError::TooDeep { token: 8 });
+    /// assert_eq!(why.to_string(), "too deep: with token 8 more brackets are open than the limit allows");
+    /// assert_eq!(list[8].span.of("a * (b + (c - (d)))"), Some("("));
+    /// ```
+    TooDeep {
+        /// The first token, counted from 0, with which more brackets are open than the limit. It opens one.
+        token: usize,
+    },
     /// The list was read and is no tree.
     Messages(Messages),
 }
@@ -57,6 +74,10 @@ impl fmt::Display for ReadError {
     fn fmt(&self, f: &mut fmt::Formatter<'_>) -> fmt::Result {
         match self {
             Self::Refused(refusal) => refusal.fmt(f),
+            Self::TooDeep { token } => write!(
+                f,
+                "too deep: with token {token} more brackets are open than the limit allows"
+            ),
             Self::Messages(messages) => messages.fmt(f),
         }
     }
@@ -83,16 +104,18 @@ pub(crate) struct Given {
     pub version: i16,
     pub used: Used,
     pub source_len: u64,
+    pub limit: Limit,
 }
 
 impl Given {
     /// What is meant where nothing else is known: the list's own operators and its highest span end.
-    pub(crate) fn exact(list: &[u32], version: i16) -> Self {
+    pub(crate) fn exact(list: &[u32], version: i16, limit: Limit) -> Self {
         let ends = list.chunks_exact(Token::WORDS).map(|token| token[2] & LOW);
         Self {
             version,
             used: Used::exact_words(list),
             source_len: u64::from(ends.max().unwrap_or(0)),
+            limit,
         }
     }
 }
@@ -126,8 +149,13 @@ impl Work {
             messages: &mut self.messages,
             work: &mut self.work[..work_len],
         };
-        let halves = given.used.halves();
-        match sorbrudder_sys::parse(lent, given.source_len, given.version, halves) {
+        let given = sorbrudder_sys::Given {
+            source_len: given.source_len,
+            version: given.version,
+            used: given.used.halves(),
+            limit: given.limit.get(),
+        };
+        match sorbrudder_sys::parse(lent, given) {
             Answer::Filled(nodes) => Ok(&tree[..Tree::NODE_WORDS * nodes]),
             Answer::Messages(count) => {
                 let messages = Messages::from_records(&self.messages, count);
@@ -135,10 +163,11 @@ impl Work {
                     "the library's records are those of the definition, 1 to 17",
                 )))
             }
+            Answer::Refused(18, token) => Err(ReadError::TooDeep { token }),
             Answer::Refused(number, place) => {
                 let refusal = Refusal::of(number, place);
                 Err(ReadError::Refused(refusal.expect(
-                    "the buffers are long enough (3 to 5), a used set has no other bit (6)",
+                    "the buffers are long enough (3 to 5), a used set has no other bit (6), a limit is 1 to 4,096 (17)",
                 )))
             }
         }
@@ -168,6 +197,32 @@ impl Reader {
         Self::default()
     }
 
+    /// The reader for an engine with this nesting limit: a list that is deeper is [`ReadError::TooDeep`].
+    ///
+    /// ```
+    /// use sorbrudder::{Limit, ReadError, Reader, Tokens};
+    ///
+    /// let mut reader = Reader::new().with_limit(Limit::new(1).unwrap());
+    /// let (flat, deep): (Tokens, Tokens) = ("(a) + (b)".parse().unwrap(), "((a))".parse().unwrap());
+    /// assert!(reader.read(&flat, 6).is_ok());
+    /// assert_eq!(reader.read(&deep, 6), Err(ReadError::TooDeep { token: 1 }));
+    /// ```
+    #[must_use]
+    pub fn with_limit(self, limit: Limit) -> Self {
+        Self { limit, ..self }
+    }
+
+    /// The nesting limit that it reads under.
+    ///
+    /// ```
+    /// use sorbrudder::{Limit, Reader};
+    ///
+    /// assert_eq!(Reader::new().limit(), Limit::MOST);
+    /// ```
+    pub fn limit(&self) -> Limit {
+        self.limit
+    }
+
     /// Reads a list by the rules of a version, with its own operators as the used set and its highest span end as the source
     /// length: what is meant where nothing else is known.
     ///
@@ -179,15 +234,16 @@ impl Reader {
     /// ```
     pub fn read(&mut self, tokens: &[Token], version: i16) -> Result<Tree, ReadError> {
         lay_out(tokens, &mut self.list)?;
-        let given = Given::exact(&self.list, version);
+        let given = Given::exact(&self.list, version, self.limit);
         self.parse_laid_out(given)
     }
 
     /// Reads a list. The version is the one that a pack declares; below 0 and above 13 the library makes it effective as
     /// the Rust parser does. The source length is used where a message is about the whole source.
     ///
-    /// A list of more than 4,096 tokens and a source length above [`Span::LAST`](crate::Span::LAST) are turned back;
-    /// nothing else is, since a [`Token`] is always whole and a [`Used`] never too high.
+    /// A list of more than 4,096 tokens, one deeper than the reader's limit and a source length above
+    /// [`Span::LAST`](crate::Span::LAST) are turned back; nothing else is, since a [`Token`] is always whole and a [`Used`]
+    /// never too high.
     ///
     /// ```
     /// use sorbrudder::{Op, Reader, Tokens, Used};
@@ -209,6 +265,7 @@ impl Reader {
             version,
             used,
             source_len: u64::from(source_len),
+            limit: self.limit,
         })
     }
 
@@ -228,7 +285,7 @@ impl Reader {
     /// assert_eq!(tree.root().op().text(), "+");
     /// ```
     pub fn read_words(&mut self, list: &[u32], version: i16) -> Result<TreeRef<'_>, ReadError> {
-        let given = Given::exact(list, version);
+        let given = Given::exact(list, version, self.limit);
         let words = self.work.parse(list, given, &mut self.tree)?;
         Ok(TreeRef::of_sound(words))
     }
@@ -258,6 +315,7 @@ impl Reader {
             version,
             used,
             source_len,
+            limit: self.limit,
         };
         self.work.parse(list, given, &mut self.tree)
     }

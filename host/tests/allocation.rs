@@ -1,6 +1,6 @@
 //! Lifting words allocates nothing once the buffers have grown, and taking brackets away allocates a few times a tree.
 
-use sorbrudder::{Lifter, Reader, Tokens};
+use sorbrudder::{Lifter, Limit, Reader, Tokens};
 use std::alloc::{GlobalAlloc, Layout, System};
 use std::cell::Cell;
 
@@ -67,6 +67,11 @@ fn lifting_words_allocates_nothing() {
     assert_eq!(allocations(|| lift_all(&mut lifter)), 0);
     let settled = |lifter: &mut Lifter| lifter.settle_words(&lists[0], 5).is_ok();
     assert_eq!(allocations(|| settled(&mut lifter)), 0);
+    // Under a limit a written list is read again.
+    let two = Limit::new(2).expect("a limit");
+    let mut lifter = Lifter::new().with_limit_to(two);
+    assert_eq!(lift_all(&mut lifter), 4);
+    assert_eq!(allocations(|| lift_all(&mut lifter)), 0);
 }
 
 #[test]

@@ -4,8 +4,8 @@ mod common;
 
 use common::Rng;
 use sorbrudder::{
-    Lifter, MOST_TOKENS, Message, Op, ReadError, Reader, Refusal, Span, Token, Tokens, Tree, Used,
-    WriteError, Writer,
+    LiftError, Lifter, Limit, MOST_TOKENS, Message, Op, ReadError, Reader, Refusal, Span, Token,
+    Tokens, Tree, Used, WriteError, Writer,
 };
 
 /// `steps`, the middle, as many `backs`, and what comes after, of at most 4,096 tokens.
@@ -148,6 +148,90 @@ fn lists_that_are_too_long_are_turned_back() {
     );
 }
 
+fn limit(limit: usize) -> Limit {
+    Limit::new(limit as u32).expect("1 to 4,096")
+}
+
+#[test]
+fn lists_that_are_too_deep_are_turned_back() {
+    let openers: Vec<Token> = (0..MOST_TOKENS)
+        .map(|place| [Op::LEFT_BRACE, Op::LEFT_BRACKET, Op::LEFT_PARENTHESIS][place % 3])
+        .map(|op| Token::bare(op, Span::default()))
+        .collect();
+    let read = |tokens: &[Token], limit| Reader::new().with_limit(limit).read(tokens, 6);
+    for bracket in [1, 2, 64, MOST_TOKENS - 1] {
+        let too_deep = Err(ReadError::TooDeep { token: bracket });
+        assert_eq!(read(&openers, limit(bracket)), too_deep);
+        assert_eq!(read(&openers[..bracket + 1], limit(bracket)), too_deep);
+        let within = read(&openers[..bracket], limit(bracket));
+        assert!(matches!(within, Err(ReadError::Messages(_))), "{bracket}");
+    }
+    let most = read(&openers, Limit::MOST);
+    assert!(matches!(most, Err(ReadError::Messages(_))));
+    // A closer that closes none takes none, one that does not match takes one.
+    let list: Tokens = ") ( ] ( } [ a".parse().expect("the notation");
+    assert!(matches!(read(&list, limit(1)), Err(ReadError::Messages(_))));
+    // Whatever is in the used set.
+    let list: Tokens = "((a))".parse().expect("the notation");
+    let mut reader = Reader::new().with_limit(limit(1));
+    for used in [Used::EMPTY, Used::FULL, Used::exact(&list)] {
+        let words = list.words();
+        let too_deep = ReadError::TooDeep { token: 1 };
+        assert_eq!(reader.parse(&list, 6, used, 5), Err(too_deep));
+        assert_eq!(reader.parse_words(&words, 6, used, 5), Err(too_deep));
+    }
+    assert_eq!((Limit::new(0), Limit::new(4_097)), (None, None));
+    assert_eq!(Limit::new(u32::MAX), None);
+}
+
+#[test]
+fn within_its_limit_a_list_reads_as_at_the_greatest() {
+    let mut unlimited = Reader::new();
+    for seed in 0..2_000 {
+        let list = random_list(&mut Rng(seed), 40);
+        // The notation of random lists has one bracket in another at the most.
+        let read = unlimited.read(&list, 5);
+        let mut deepest = Reader::new().with_limit(limit(1));
+        assert_eq!(deepest.read(&list, 5), read);
+        assert_eq!(deepest.limit().get(), 1);
+    }
+}
+
+/// A sum of so many operands, which has no bracket.
+fn sum(operands: usize) -> Tokens {
+    let text = format!("a{}", " + b".repeat(operands - 1));
+    text.parse().expect("the notation")
+}
+
+#[test]
+fn a_settled_sum_is_as_deep_as_it_has_operands_but_two() {
+    for operands in [3, 4, 10, 300, 1_000] {
+        let list = sum(operands);
+        let depth = operands - 2;
+        let settle = |limit| Lifter::new().with_limit_to(limit).settle(&list, 6);
+        let settled = settle(limit(depth)).expect("it is within its depth");
+        assert_eq!(settled.tokens.len(), list.len() + 2 * depth);
+        if depth > 1 {
+            let Err(LiftError::TooDeep {
+                token, is_written, ..
+            }) = settle(limit(depth - 1))
+            else {
+                panic!("{operands} operands nest {depth} deep");
+            };
+            assert_eq!((token, is_written), (depth - 1, true));
+        }
+        // Both versions read it alike, so it is left alone, whatever the limit.
+        let mut lifter = Lifter::new().with_limit_to(limit(1));
+        assert!(
+            lifter
+                .lift(&list)
+                .from(4)
+                .to(6)
+                .is_ok_and(|lifted| !lifted.changed)
+        );
+    }
+}
+
 #[test]
 fn many_readers_in_parallel() {
     let lists: Vec<Tokens> = (0..400)
@@ -230,6 +314,13 @@ fn every_refusal_of_the_reader_is_mapped_or_cannot_happen() {
     assert_eq!(payload, refused(Refusal::UnknownPayload { word: 5 }));
     let other = words_with(|words| words[13] |= 1);
     assert_eq!(other, refused(Refusal::OtherBits { word: 13 }));
+    // 17: a limit is legal. 18: above, and after every word.
+    let deep: Tokens = "((a".parse().expect("the notation");
+    let mut words = deep.words();
+    words[14] = 0;
+    let mut reader = Reader::new().with_limit(Limit::new(1).expect("a limit"));
+    let bad_word = reader.read_words(&words, 6).map(|_| ());
+    assert_eq!(bad_word, refused(Refusal::WrongKind { word: 14 }));
     assert_eq!((Op::new(111), Span::new(0, 1 << 29)), (None, None));
 }
 

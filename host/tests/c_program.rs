@@ -52,6 +52,8 @@ const READ_ONE: Program = Program {
         "refused 8 0",
         "refused 3 0",
         "refused 12 27",
+        "refused 17 0",
+        "refused 18 1",
     ],
 };
 
@@ -169,6 +171,9 @@ fn enums() -> Vec<(String, u64)> {
         Refusal::OtherBits { word: 0 },
     ];
     let refusal = |refusal: Refusal| (named("REFUSAL", &variant(refusal)), refusal.number().into());
+    // No limit of the crate is refused, and a list that is too deep is an error of its own.
+    let nesting =
+        [("LIMIT", 17), ("TOO_DEEP", 18)].map(|(name, number)| (named("REFUSAL", name), number));
     let messages = messages();
     assert_eq!(messages.len(), 17);
     let messages = messages
@@ -176,6 +181,7 @@ fn enums() -> Vec<(String, u64)> {
         .map(|(name, number)| (named("MESSAGE", &name), number));
     ops.chain(payloads)
         .chain(refusals.map(refusal))
+        .chain(nesting)
         .chain(messages)
         .collect()
 }
@@ -191,6 +197,7 @@ fn sizes() -> Vec<(String, u64)> {
         ("NODE_WORDS", Tree::NODE_WORDS),
         ("MESSAGE_WORDS", sorbrudder_sys::MESSAGE_WORDS),
         ("MOST_TOKENS", sorbrudder::MOST_TOKENS),
+        ("MOST_NESTING", sorbrudder::Limit::MOST.get() as usize),
         ("MESSAGE_BUFFER", sorbrudder_sys::MESSAGE_BUFFER),
         ("LIST_BUFFER", Token::WORDS * sorbrudder::MOST_TOKENS),
         ("TREE_BUFFER(1)", sorbrudder_sys::tree_buffer(1)),
@@ -246,5 +253,36 @@ fn a_header_of_another_layout_is_found_out() {
             Some(0),
             "{words} words a node are not the library's"
         );
+    }
+}
+
+#[test]
+fn a_library_without_a_limit_is_found_out() {
+    // Such a library reads the list whatever the limit is, and knows how long a tree buffer has to be.
+    let library = "\
+#include \"sorbrudder.h\"
+
+uint64_t sorbrudder_parse(const uint32_t *list, size_t list_words, uint32_t *tree, size_t tree_words, uint32_t *messages,
+                          size_t message_words, uint32_t *work, size_t work_words, uint64_t source_length, int16_t version,
+                          uint64_t used_low, uint64_t used_high, uint32_t limit) {
+    (void)list, (void)list_words, (void)tree, (void)messages, (void)message_words, (void)work, (void)work_words;
+    (void)source_length, (void)version, (void)used_low, (void)used_high;
+    if (tree_words < SORBRUDDER_TREE_BUFFER(1)) {
+        return (uint64_t)SORBRUDDER_REFUSED << 40 | (uint64_t)SORBRUDDER_REFUSAL_TREE_BUFFER << 32;
+    }
+    return limit == 0 && KNOWS_LIMIT ? (uint64_t)SORBRUDDER_REFUSED << 40 | (uint64_t)SORBRUDDER_REFUSAL_LIMIT << 32 : 1;
+}
+
+int main(void) { return (int)sorbrudder_abi_version(); }
+";
+    let folder = Path::new(env!("CARGO_TARGET_TMPDIR"));
+    for (knows, found) in [(0, 0), (1, 2)] {
+        let name = format!("knows{knows}");
+        let source = folder.join(format!("{name}.c"));
+        let program = format!("#define KNOWS_LIMIT {knows}\n{library}");
+        std::fs::write(&source, program).expect("a file");
+        let program = compiled(&c_compiler(), &["-std=c11"], &source, &name);
+        let run = Command::new(program).status().expect("the program runs");
+        assert_eq!(run.code(), Some(found), "{name}");
     }
 }

@@ -30,7 +30,7 @@ fn check_counts_lists_and_tells_of_those_that_are_no_trees() {
     assert_eq!(checked.out, told);
     assert_eq!(
         checked.err,
-        "1 files, 7 lists: 6 trees, 1 no trees, 0 refused; 0 files not read to their end\n"
+        "1 files, 7 lists: 6 trees, 1 no trees, 0 too deep, 0 refused; 0 files not read to their end\n"
     );
     let json = run(&folder, &["check", "seven", "--json"]);
     assert_eq!(json.out.lines().count(), 7);
@@ -86,8 +86,7 @@ fn a_plain_file_is_told_of_and_the_highest_status_counts() {
     let several = run_line(&folder, "check cut missing whole");
     assert_eq!(several.status, Some(4));
     assert!(several.err.contains("missing: "), "{}", several.err);
-    let summary =
-        "3 files, 7 lists: 6 trees, 1 no trees, 0 refused; 2 files not read to their end\n";
+    let summary = "3 files, 7 lists: 6 trees, 1 no trees, 0 too deep, 0 refused; 2 files not read to their end\n";
     assert!(several.err.ends_with(summary), "{}", several.err);
     assert_eq!(run_line(&folder, "check missing").status, Some(3));
     let json = run_line(&folder, "check cut missing --json");
@@ -147,7 +146,7 @@ fn lift_carries_over_and_ends_with_1_where_lists_stay_behind() {
     let lifted = run_line(&folder, "lift seven -o six --to 6");
     assert_eq!(lifted.status, Some(1), "{lifted:?}");
     let summary = "7 lists to version 6: 3 written anew (0 of them scripts), 2 left alone (both versions read them alike), \
-                   2 stayed behind (1 no trees, 0 refused, 1 not writable)\n";
+                   2 stayed behind (1 no trees, 0 refused, 1 not writable, 0 too deep)\n";
     assert!(lifted.err.starts_with(summary), "{}", lifted.err);
     let warning = "rewrite them before the pack declares version 6";
     assert!(lifted.err.contains(warning), "{}", lifted.err);
@@ -343,6 +342,117 @@ fn lists_that_are_refused_are_carried_along() {
         (plain.status, folder.join("plain").exists()),
         (Some(3), false)
     );
+}
+
+/// Lists whose brackets nest: as they are, and as version 6 needs them.
+const DEEP: [(i16, &str); 4] = [
+    (5, "a && b || c"),
+    (5, "a && b || c && d || e"),
+    (5, "(a + (b))"),
+    (5, "a + b + c + d"),
+];
+
+#[test]
+fn check_tells_of_lists_that_are_deeper_than_a_limit() {
+    let folder = folder("check_limit");
+    write(&folder, "deep", &archive(Format::Container, &DEEP));
+    assert_eq!(run_line(&folder, "check deep").status, Some(0));
+    assert_eq!(run_line(&folder, "check deep --limit 2").status, Some(0));
+    let checked = run_line(&folder, "check deep --limit 1");
+    assert_eq!(checked.status, Some(1), "{checked:?}");
+    assert_eq!(
+        checked.out,
+        "deep list 2 (byte 320, version 5): too deep for the limit of 1: token 3, `(` at 5-6\n"
+    );
+    let summary = "1 files, 4 lists: 3 trees, 0 no trees, 1 too deep, 0 refused; 0 files not read to their end\n";
+    assert_eq!(checked.err, summary);
+    let json = run_line(&folder, "check deep --limit 1 --json");
+    let third = json.out.lines().nth(2).expect("a line");
+    let told = r#""version":5,"result":"too-deep","token":3,"op":4,"operator":"(","start":5,"end":6,"messages":[{"number":18}],"#;
+    assert!(third.contains(told), "{third}");
+    for limit in ["0", "4097", "-1", "deep", ""] {
+        let wrong = run(&folder, &["check", "deep", "--limit", limit]);
+        assert_eq!(wrong.status, Some(2), "{limit}: {wrong:?}");
+        assert!(wrong.err.contains("from 1 to 4096"), "{}", wrong.err);
+    }
+}
+
+#[test]
+fn lift_keeps_lists_that_are_too_deep_for_the_new_limit() {
+    let folder = folder("lift_limit");
+    write(&folder, "deep", &archive(Format::Container, &DEEP));
+    let lifted = run_line(&folder, "lift deep -o six --to 6 --limit 1 --report report");
+    assert_eq!(lifted.status, Some(1), "{lifted:?}");
+    let summary = "4 lists to version 6: 1 written anew (0 of them scripts), 1 left alone (both versions read them alike), \
+                   2 stayed behind (0 no trees, 0 refused, 0 not writable, 2 too deep)\n";
+    assert!(lifted.err.starts_with(summary), "{}", lifted.err);
+    let behind = "\
+deep list 1 (byte 128, version 5): stays behind: too deep for the new limit of 1: token 3 of the list with its brackets, `(` at 5-11
+deep list 2 (byte 320, version 5): stays behind: too deep for the new limit of 1: token 3, `(` at 5-6
+";
+    assert_eq!(lifted.out, behind);
+    // Nothing is lost: what stays behind is as it was, at its own version.
+    let expected = [
+        (6, "a && (b || c)"),
+        (5, "a && b || c && d || e"),
+        (5, "(a + (b))"),
+        (6, "a + b + c + d"),
+    ];
+    let bytes = std::fs::read(folder.join("six")).expect("a file");
+    assert_eq!(
+        lists(&bytes),
+        expected.map(|(version, text)| (version, text.to_string()))
+    );
+    let report = std::fs::read_to_string(folder.join("report")).expect("a report");
+    let lines: Vec<&str> = report.lines().collect();
+    let told = r#""to":6,"result":"too-deep","token":3,"op":4,"operator":"(","start":5,"end":11,"reason":"as-written","#;
+    assert!(lines[1].contains(told), "{}", lines[1]);
+    let told = r#""to":6,"result":"too-deep","token":3,"op":4,"operator":"(","start":5,"end":6,"reason":"as-given","#;
+    assert!(lines[2].contains(told), "{}", lines[2]);
+    let strict = run_line(&folder, "lift deep -o strict --to 6 --limit 1 --strict");
+    assert_eq!(strict.status, Some(1), "{strict:?}");
+    assert!(!folder.join("strict").exists());
+    // With room for both all are carried over.
+    let wide = run_line(&folder, "lift deep -o wide --to 6 --limit 2");
+    assert_eq!(wide.status, Some(0), "{wide:?}");
+    let unlimited = run_line(&folder, "lift deep -o unlimited --to 6");
+    assert_eq!(unlimited.status, Some(0), "{unlimited:?}");
+    let bytes = |name: &str| std::fs::read(folder.join(name)).expect("a file");
+    assert_eq!(bytes("wide"), bytes("unlimited"));
+}
+
+#[test]
+fn lists_that_were_too_deep_for_their_own_limit_stay_behind() {
+    let folder = folder("own_limit");
+    write(&folder, "deep", &archive(Format::Container, &DEEP));
+    let lifted = run_line(&folder, "lift deep -o six --to 6 --own-limit 1 --json");
+    assert_eq!(lifted.status, Some(1), "{lifted:?}");
+    let third = lifted.out.lines().nth(2).expect("a line");
+    let told = r#""result":"too-deep","token":3,"op":4,"operator":"(","start":5,"end":6,"reason":"own-limit","messages":[{"number":18}],"#;
+    assert!(third.contains(told), "{third}");
+    let text = "too deep for its own limit of 1: token 3, `(` at 5-6";
+    assert!(third.contains(text), "{third}");
+    let results = lifted.out.lines().map(|line| line.contains("too-deep"));
+    assert_eq!(results.collect::<Vec<_>>(), [false, false, true, false]);
+    assert_eq!(
+        run_line(&folder, "lift deep -o six --to 6 --own-limit 0").status,
+        Some(2)
+    );
+}
+
+#[test]
+fn lists_that_are_too_deep_with_all_brackets_are_not_settled() {
+    let folder = folder("settle_limit");
+    write(&folder, "deep", &archive(Format::Container, &DEEP));
+    let settled = run_line(&folder, "lift deep -o out --settle --to 6 --limit 1 --json");
+    let results = settled.out.lines().map(|line| {
+        let result = line.split("\"result\":\"").nth(1);
+        result.and_then(|rest| rest.split('"').next())
+    });
+    let results: Vec<Option<&str>> = results.collect();
+    // The sum nests two deep with all its brackets, and is left alone.
+    let expected = ["settled", "too-deep", "too-deep", "same"].map(Some);
+    assert_eq!(results, expected, "{}", settled.out);
 }
 
 #[test]

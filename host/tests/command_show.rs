@@ -101,6 +101,35 @@ version 6   no tree
 }
 
 #[test]
+fn explain_points_at_the_bracket_that_is_one_too_many() {
+    let explained = "\
+version 6   no tree
+
+a * (b + (c))
+         ^ too deep: with token 5 more brackets are open than the limit allows
+";
+    let words = ["--at", "6", "--limit", "1", "-e", "a * (b + (c))"];
+    for command in ["explain", "read"] {
+        let run = run(Path::new("."), &[&[command], &words[..]].concat());
+        assert_eq!((run.status, run.out.as_str()), (Some(1), explained));
+        let json = shown(&[&[command, "--json"], &words[..]].concat());
+        let head = r#"{"version":6,"result":"too-deep","source":"a * (b + (c))","text":"too deep: with token 5"#;
+        let rest = r#" more brackets are open than the limit allows","token":5,"messages":[]}"#;
+        assert_eq!(json.trim_end(), format!("{head}{rest}"));
+    }
+    let within = shown(&[
+        "explain",
+        "--at",
+        "6",
+        "--limit",
+        "2",
+        "-e",
+        "a * (b + (c))",
+    ]);
+    assert!(within.starts_with("It is a tree."), "{within}");
+}
+
+#[test]
 fn nodes_in_json_have_their_place() {
     let json = shown(&["read", "--at", "6", "--json", "-e", "(a) * b"]);
     let section = r#"{"op":4,"operator":"(","children":1,"start":0,"end":1,"close":3}"#;

@@ -24,7 +24,15 @@ fn a_chain_says_each_thing_once() {
     let list: Tokens = "a b".parse().expect("the notation");
     let lifted = lift(&list).from(4).to(6).expect_err("no tree");
     let refused = ReadError::from(Refusal::TooManyTokens);
-    for error in [&lifted as &dyn Error, &messages("a b"), &refused] {
+    let deep = ReadError::TooDeep { token: 7 };
+    let lifted_deep = LiftError::Read(deep);
+    for error in [
+        &lifted as &dyn Error,
+        &messages("a b"),
+        &refused,
+        &deep,
+        &lifted_deep,
+    ] {
         let texts = chain(error);
         for (place, text) in texts.iter().enumerate() {
             let below = &texts[place + 1..];

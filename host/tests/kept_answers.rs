@@ -3,25 +3,26 @@
 
 mod common;
 
-use common::{Bytes, KEPT_NODE_WORDS, vectors};
-use sorbrudder::{ReadError, Reader, Refusal, Tokens, Tree, Used};
+use common::{Bytes, KEPT_NODE_WORDS, LIMITED, USED, vectors};
+use sorbrudder::{Limit, ReadError, Reader, Refusal, Tokens, Tree, Used};
 
 /// The bits of a word below its kind.
 const LOW: u32 = (1 << 29) - 1;
 
-/// A kept call: the used set is none where it has a bit that no operator has.
+/// A kept call: the used set is none where it has a bit that no operator has, the limit where it is no legal one.
 struct Call {
     list: Vec<u32>,
     used: Option<Used>,
     source_len: u64,
     version: i16,
+    limit: Option<Limit>,
 }
 
 impl Call {
     fn next(bytes: &mut Bytes<'_>, head: u8) -> Self {
         let len = bytes.number();
         let list = bytes.words(len, 5);
-        let used = match head >> 4 {
+        let used = match (head & USED) >> 4 {
             0 => {
                 let low = bytes.number();
                 Used::from_halves(low, bytes.number())
@@ -34,6 +35,10 @@ impl Call {
             used,
             source_len: bytes.number(),
             version: i16::from_le_bytes([bytes.byte(), bytes.byte()]),
+            limit: match head & LIMITED {
+                0 => Some(Limit::MOST),
+                _ => Limit::new(bytes.number() as u32),
+            },
         }
     }
 
@@ -110,12 +115,17 @@ impl Call {
     }
 
     fn is_refused(&self, reader: &mut Reader, number: u32, place: u64) {
-        // 3 to 6 are about the buffers and the set, which are the reader's and legal.
-        if matches!(number, 3..=6) || self.used.is_none() {
+        // 3 to 6 and 17 are about the buffers, the set and the limit, which are the reader's and legal.
+        if matches!(number, 3..=6 | 17) || self.used.is_none() || self.limit.is_none() {
             return;
         }
-        let Err(ReadError::Refused(refusal)) = self.read(reader) else {
-            panic!("{:x?} was read", self.list);
+        let refusal = match self.read(reader) {
+            Err(ReadError::Refused(refusal)) => refusal,
+            Err(ReadError::TooDeep { token }) => {
+                assert_eq!((18, token as u64), (number, place));
+                return;
+            }
+            _ => panic!("{:x?} was read", self.list),
         };
         let word = match refusal {
             Refusal::WrongKind { word }
@@ -133,11 +143,13 @@ fn every_kept_answer() {
     let file = vectors();
     let mut bytes = Bytes(&file);
     let mut reader = Reader::new();
-    let mut counts = [0; 3];
+    let (mut counts, mut limited) = ([0; 3], 0);
     while !bytes.0.is_empty() {
         let head = bytes.byte();
         let call = Call::next(&mut bytes, head);
         counts[usize::from(head & 3)] += 1;
+        limited += usize::from(head & LIMITED != 0);
+        reader = reader.with_limit(call.limit.unwrap_or_default());
         match head & 3 {
             0 => {
                 let nodes = bytes.number();
@@ -157,4 +169,5 @@ fn every_kept_answer() {
         }
     }
     assert!(counts.iter().all(|count| *count > 1_000), "{counts:?}");
+    assert!(limited > 5_000, "{limited}");
 }

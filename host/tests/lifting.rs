@@ -1,7 +1,8 @@
 //! Document 01's lines through the notation, and lists lifted between versions.
 
 use sorbrudder::{
-    LiftError, Lifter, Node, Op, ReadError, Reader, Tokens, Tree, Unplain, WriteError, Writer, lift,
+    LiftError, Lifter, Limit, Node, Op, ReadError, Reader, Tokens, Tree, Unplain, WriteError,
+    Writer, lift,
 };
 
 fn read(text: &str, version: i16) -> String {
@@ -238,6 +239,95 @@ fn lists() -> impl Iterator<Item = String> {
         }
         text
     })
+}
+
+/// How many brackets are open at once at the most, and with which token first.
+fn deepest(list: &Tokens) -> (u32, usize) {
+    let (mut open, mut most) = (0u32, (0, 0));
+    for (place, token) in list.iter().enumerate() {
+        match token.op {
+            Op::LEFT_PARENTHESIS => open += 1,
+            Op::RIGHT_PARENTHESIS => open = open.saturating_sub(1),
+            _ => {}
+        }
+        if open > most.0 {
+            most = (open, place);
+        }
+    }
+    most
+}
+
+#[test]
+fn no_list_comes_out_that_is_too_deep_for_the_new_limit() {
+    let mut unlimited = Lifter::new();
+    let (mut as_given, mut as_written, mut within) = (0, 0, 0);
+    for text in lists().map(|text| text.replace("!d", "((d) + f)")) {
+        let list: Tokens = text.parse().expect("the notation");
+        let Ok(lifted) = unlimited.lift(&list).from(5).to(6) else {
+            continue;
+        };
+        let (given, written) = (deepest(&list), deepest(&lifted.tokens));
+        assert!(written.0 >= given.0, "{text} lost a bracket");
+        for number in 1..=4 {
+            let limit = Limit::new(number).expect("a limit");
+            let mut lifter = Lifter::new().with_limit_to(limit);
+            let mut reader = Reader::new().with_limit(limit);
+            match lifter.lift(&list).from(5).to(6) {
+                Ok(limited) => {
+                    assert!(limited == lifted && written.0 <= number, "{text}");
+                    assert!(reader.read(&limited.tokens, 6).is_ok(), "{text}");
+                    within += 1;
+                }
+                Err(LiftError::TooDeep {
+                    token,
+                    op,
+                    span,
+                    limit: told,
+                    is_written,
+                    ..
+                }) => {
+                    let of = if is_written { &lifted.tokens } else { &list };
+                    let deep = reader.read(of, 6);
+                    assert_eq!(deep, Err(ReadError::TooDeep { token }), "{text}");
+                    assert_eq!((op, told), (Op::LEFT_PARENTHESIS, limit));
+                    assert_eq!(span, of[token].span);
+                    assert_eq!(is_written, given.0 <= number, "{text}");
+                    as_written += usize::from(is_written);
+                    as_given += usize::from(!is_written);
+                }
+                Err(why) => panic!("{text}: {why}"),
+            }
+        }
+    }
+    let counts = [as_given, as_written, within];
+    assert!(counts.iter().all(|count| *count > 100), "{counts:?}");
+}
+
+#[test]
+fn a_list_that_was_too_deep_for_its_own_engine_is_not_lifted() {
+    let list: Tokens = "((a)) && b || c".parse().expect("the notation");
+    let limit = |number| Limit::new(number).expect("a limit");
+    let mut lifter = Lifter::new().with_limit_from(limit(1));
+    let deep = LiftError::Read(ReadError::TooDeep { token: 1 });
+    assert_eq!(lifter.lift(&list).from(5).to(6), Err(deep));
+    assert_eq!(lifter.settle(&list, 5), Err(deep));
+    let mut lifter = lifter.with_limit_from(limit(2)).with_limit_to(limit(2));
+    let lifted = lifter
+        .lift(&list)
+        .from(5)
+        .to(6)
+        .expect("within both limits");
+    assert_eq!(lifted.tokens.to_string(), "((a)) && (b || c)");
+    // Two sides, two limits.
+    let mut lifter = lifter.with_limit_to(limit(1));
+    assert!(matches!(
+        lifter.lift(&list).from(5).to(6),
+        Err(LiftError::TooDeep {
+            token: 1,
+            is_written: false,
+            ..
+        })
+    ));
 }
 
 #[test]

@@ -6,7 +6,8 @@
 //!
 //! - [`words`]: the word format of document 01, cases and answers;
 //! - [`closing`]: where each node closes, its seventh word, from the list alone (card 2);
-//! - [`refusal`]: answers 1 to 11, written from document 01's table and not from the Rust;
+//! - [`nesting`]: how deep the brackets of a list nest (card 8);
+//! - [`refusal`]: answers 1 to 11, 17 and 18, written from the documents and not from the Rust;
 //! - [`generate`]: lists from a seed;
 //! - [`lines`]: the lines of document 01's section 'Lists and their trees', and what was found;
 //! - [`vectors`]: the answers that are kept in the repository.
@@ -14,6 +15,7 @@
 pub mod closing;
 pub mod generate;
 pub mod lines;
+pub mod nesting;
 pub mod refusal;
 pub mod vectors;
 pub mod words;

@@ -1,6 +1,8 @@
-//! Where the entry turns a call back: answers 1 to 11 of document 01's table, from the top, the
-//! first failure winning. Written from the table; the Rust has no part of it.
+//! Where the entry turns a call back: answers 1 to 11 of document 01's table, and card 8's 17 after
+//! the 7 and 18 after the words, the first failure winning. Written from the documents; the Rust
+//! has no part of it.
 
+use crate::nesting::{MOST_NESTING, too_deep};
 use crate::words::{
     Case, LAST_OP, LAST_PLACE, LAST_VARIANT, MOST_TOKENS, TOKEN_WORDS, TREE_WORDS, kind,
     list_words, low,
@@ -16,6 +18,7 @@ pub struct Call {
     pub used: (u64, u64),
     pub source_len: u64,
     pub version: i16,
+    pub limit: u32,
 }
 
 /// The number of an answer and its place.
@@ -26,7 +29,8 @@ pub struct Refusal {
 }
 
 impl Call {
-    /// The call of a case, with buffers of exactly the lengths that are asked for.
+    /// The call of a case, with buffers of exactly the lengths that are asked for, and the greatest
+    /// nesting limit.
     pub fn of(case: &Case) -> Self {
         let tokens = case.tokens.len() as u64;
         Self {
@@ -37,14 +41,20 @@ impl Call {
             used: case.used,
             source_len: u64::from(case.source_len),
             version: case.version,
+            limit: MOST_NESTING,
         }
+    }
+
+    /// The same call under another nesting limit.
+    pub fn at_limit(self, limit: u32) -> Self {
+        Self { limit, ..self }
     }
 }
 
 /// The answer that turns the call back, if one does.
 pub fn refusal(call: &Call) -> Option<Refusal> {
     let tokens = (call.list.len() / TOKEN_WORDS) as u64;
-    let whole: [(u32, bool); 7] = [
+    let whole: [(u32, bool); 8] = [
         (1, !call.list.len().is_multiple_of(TOKEN_WORDS)),
         (2, tokens > MOST_TOKENS as u64),
         (3, call.tree_len < TREE_WORDS as u64 * tokens),
@@ -52,11 +62,26 @@ pub fn refusal(call: &Call) -> Option<Refusal> {
         (5, call.work_len < 64 * tokens + 64),
         (6, call.used.1 >> (LAST_OP - 63) != 0),
         (7, call.source_len > u64::from(LAST_PLACE)),
+        (17, !(1..=MOST_NESTING).contains(&call.limit)),
     ];
     if let Some(&(number, _)) = whole.iter().find(|(_, fails)| *fails) {
         return Some(Refusal { number, place: 0 });
     }
-    word_refusal(&call.list)
+    word_refusal(&call.list).or_else(|| nesting_refusal(call))
+}
+
+/// The first opener with which more brackets are open than the limit, of a list without a bad word.
+fn nesting_refusal(call: &Call) -> Option<Refusal> {
+    let ops = call
+        .list
+        .iter()
+        .step_by(TOKEN_WORDS)
+        .map(|&word| word as u8);
+    let token = too_deep(ops, call.limit)?;
+    Some(Refusal {
+        number: 18,
+        place: token as u32,
+    })
 }
 
 /// The first word that turns a list of whole tokens back.
@@ -209,6 +234,49 @@ mod tests {
             call.list[8] = word(4, 0);
         };
         assert_eq!(answer(lower_only), Some((11, 9)));
+    }
+
+    #[test]
+    fn a_limit_is_1_to_4096() {
+        for limit in [1, 2, 4095, 4096] {
+            assert_eq!(answer(|call| call.limit = limit), None, "{limit}");
+        }
+        for limit in [0, 4097, 1 << 16, u32::MAX] {
+            assert_eq!(answer(|call| call.limit = limit), Some((17, 0)), "{limit}");
+        }
+        // After the source length, before the words.
+        let longer = |call: &mut Call| (call.limit, call.source_len) = (0, 1 << 40);
+        assert_eq!(answer(longer), Some((7, 0)));
+        let bad_word = |call: &mut Call| (call.limit, call.list[0]) = (0, 0);
+        assert_eq!(answer(bad_word), Some((17, 0)));
+    }
+
+    #[test]
+    fn nesting_is_judged_by_tokens_and_after_every_word() {
+        let deep = |call: &mut Call| {
+            for token in 0..3 {
+                call.list[5 * token] = word(1, 4 | 1 << 8);
+            }
+        };
+        assert_eq!(answer(deep), None);
+        for limit in [1, 2] {
+            let at_limit = |call: &mut Call| {
+                deep(call);
+                call.limit = limit;
+            };
+            assert_eq!(answer(at_limit), Some((18, limit)));
+            // Whatever is in the used set.
+            let unused = |call: &mut Call| {
+                at_limit(call);
+                call.used = (0, 0);
+            };
+            assert_eq!(answer(unused), Some((18, limit)));
+            let bad_word = |call: &mut Call| {
+                at_limit(call);
+                call.list[14] = 0;
+            };
+            assert_eq!(answer(bad_word), Some((8, 14)));
+        }
     }
 
     #[test]

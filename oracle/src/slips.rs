@@ -45,7 +45,7 @@ fn exposed(slipped: Reader) {
     let kept = stored()
         .iter()
         .filter(
-            |stored| matches!(stored, Stored::Answered(case, answer) if slipped(case) != *answer),
+            |stored| matches!(stored, Stored::Answered { case, answer, .. } if slipped(case) != *answer),
         )
         .count();
     assert!(kept > 0, "the kept answers show nothing");

@@ -4,6 +4,7 @@ use oracle::generate::alphabets::ALPHABETS;
 use oracle::generate::damage::damaged;
 use oracle::generate::shapes::SHAPES;
 use oracle::generate::{Mixed, Rng, brackets, dress};
+use oracle::nesting::too_deep;
 use oracle::refusal::{Call, refusal};
 use oracle::words::{Case, FULL_SET, Token, decode_list, exact_set, list_words};
 use std::collections::BTreeSet;
@@ -100,18 +101,24 @@ fn the_mixed_lists_have_every_operator_payload_version_and_used_set() {
 #[test]
 fn damage_is_turned_back_where_it_was_done() {
     let mut rng = Rng::new(5);
-    let mut numbers = [0; 12];
-    let mut fields = BTreeSet::new();
+    let (mut numbers, mut fields) = ([0; 19], BTreeSet::new());
+    let mut bad_and_deep = 0;
     for case in Mixed::new(6, 10).take(6_000) {
         let (call, expected) = damaged(&mut rng, &case);
         assert_eq!(refusal(&call), Some(expected), "{call:?}");
         numbers[expected.number as usize] += 1;
         fields.insert((expected.number, expected.place % 5));
+        let ops = call.list.iter().step_by(5).map(|&word| word as u8);
+        let deep = too_deep(ops, call.limit).is_some();
+        bad_and_deep += usize::from(deep && matches!(expected.number, 8..=11));
     }
     let kinds = (0..5).map(|field| (8, field));
     let bits = [(9, 0), (10, 0), (11, 0), (11, 3), (11, 4)];
     assert!(kinds.chain(bits).all(|field| fields.contains(&field)));
-    assert!(numbers[1..].iter().all(|&count| count > 50), "{numbers:?}");
+    let numbers = [&numbers[1..12], &numbers[17..]].concat();
+    assert!(numbers.iter().all(|&count| count > 50), "{numbers:?}");
+    // A bad word of a list that nests too deep.
+    assert!(bad_and_deep > 50, "{bad_and_deep}");
 }
 
 /// How a list's brackets are: a closer that does not match, a section not closed, a closer with nothing open.

@@ -1,6 +1,7 @@
 //! The kept answers: the file decodes, each record holds together, nothing is missing.
 
 use oracle::lines::{Line, Says, findings, lines};
+use oracle::nesting::{MOST_NESTING, least_limit};
 use oracle::refusal::{Call, refusal};
 use oracle::vectors::{Stored, decode, encode, path, stored};
 use oracle::words::{
@@ -12,7 +13,7 @@ fn answered() -> Vec<(Case, Answer)> {
     stored()
         .into_iter()
         .filter_map(|stored| match stored {
-            Stored::Answered(case, answer) => Some((case, answer)),
+            Stored::Answered { case, answer, .. } => Some((case, answer)),
             Stored::Refused(..) => None,
         })
         .collect()
@@ -57,6 +58,21 @@ fn every_case_is_a_call_that_is_not_turned_back() {
 }
 
 #[test]
+fn every_third_case_is_kept_under_the_least_limit_that_it_is_within() {
+    let mut at = [0; 3];
+    for record in stored() {
+        let Stored::Answered { case, limit, .. } = record else {
+            continue;
+        };
+        assert_eq!(refusal(&Call::of(&case).at_limit(limit)), None, "{case:?}");
+        let least = least_limit(&case.tokens);
+        assert!(limit == least || limit == MOST_NESTING, "{case:?}");
+        at[least.min(3) as usize - 1] += usize::from(limit == least);
+    }
+    assert!(at.iter().all(|&count| count > 50), "{at:?}");
+}
+
+#[test]
 fn every_refused_call_has_the_answer_of_the_table() {
     let mut numbers = BTreeSet::new();
     for record in stored() {
@@ -65,7 +81,7 @@ fn every_refused_call_has_the_answer_of_the_table() {
             numbers.insert(expected.number);
         }
     }
-    assert_eq!(numbers, (1..=11).collect());
+    assert_eq!(numbers, (1..=11).chain([17, 18]).collect());
 }
 
 #[test]

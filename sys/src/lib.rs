@@ -13,6 +13,8 @@ pub const NODE_WORDS: usize = TOKEN_WORDS + 2;
 pub const MESSAGE_WORDS: usize = 8;
 /// The most tokens of a list.
 pub const MOST_TOKENS: usize = 4_096;
+/// The greatest nesting limit, with which no list is too deep.
+pub const MOST_NESTING: u32 = 4_096;
 /// The most nodes that reading makes of a token.
 pub const NODES_PER_TOKEN: usize = 3;
 /// The most nodes of a tree.
@@ -44,6 +46,7 @@ unsafe extern "C" {
         version: i16,
         used_low: u64,
         used_high: u64,
+        limit: u32,
     ) -> u64;
     fn sorbrudder_write(
         tree: *const u32,
@@ -79,6 +82,7 @@ type ParseEntry = unsafe extern "C" fn(
     i16,
     u64,
     u64,
+    u32,
 ) -> u64;
 
 /// An entry that makes words of words: the write entry, of this library or of the one before it, and export and import.
@@ -125,10 +129,23 @@ pub struct Lent<'b> {
     pub work: &'b mut [u32],
 }
 
-/// Reads a list's words: over a source of that length, at a pack's declared version, under the used set in two halves.
+/// What the parse entry is given beside what it is lent.
+#[derive(Copy, Clone, Debug)]
+pub struct Given {
+    /// The length of the source, at most 536,870,911.
+    pub source_len: u64,
+    /// A pack's declared version.
+    pub version: i16,
+    /// The used set in two halves, operator 0 being the lowest bit of the first.
+    pub used: (u64, u64),
+    /// How many brackets may be open at once, 1 to [`MOST_NESTING`].
+    pub limit: u32,
+}
+
+/// Reads a list's words.
 #[inline]
-pub fn parse(lent: Lent<'_>, source_len: u64, version: i16, used: (u64, u64)) -> Answer {
-    parse_by(sorbrudder_parse, lent, source_len, version, used)
+pub fn parse(lent: Lent<'_>, given: Given) -> Answer {
+    parse_by(sorbrudder_parse, lent, given)
 }
 
 /// Writes a tree's words as a list's.
@@ -150,13 +167,7 @@ pub fn import(stack: &[u32], output: &mut [u32]) -> Answer {
 }
 
 #[inline]
-fn parse_by(
-    entry: ParseEntry,
-    lent: Lent<'_>,
-    source_len: u64,
-    version: i16,
-    used: (u64, u64),
-) -> Answer {
+fn parse_by(entry: ParseEntry, lent: Lent<'_>, given: Given) -> Answer {
     // SAFETY: each slice is passed with its own length, the borrows keep them apart, and the entry keeps none of them.
     Answer::of(unsafe {
         entry(
@@ -168,10 +179,11 @@ fn parse_by(
             lent.messages.len(),
             lent.work.as_mut_ptr(),
             lent.work.len(),
-            source_len,
-            version,
-            used.0,
-            used.1,
+            given.source_len,
+            given.version,
+            given.used.0,
+            given.used.1,
+            given.limit,
         )
     })
 }
@@ -189,10 +201,11 @@ fn words_by(entry: WordsEntry, words: &[u32], output: &mut [u32]) -> Answer {
     })
 }
 
-/// The library before this one, as `build.rs` renamed its entries. A node may have fewer words in it.
+/// The library before this one, as `build.rs` renamed its entries. A node may have fewer words in it, and it may take no limit: the caller
+/// of a C function puts its arguments away itself, so one that is not asked for is not looked at.
 #[cfg(before)]
 pub mod before {
-    use super::{Answer, Lent};
+    use super::{Answer, Given, Lent};
 
     mod renamed {
         unsafe extern "C" {
@@ -209,6 +222,7 @@ pub mod before {
                 version: i16,
                 used_low: u64,
                 used_high: u64,
+                limit: u32,
             ) -> u64;
             pub fn sorbrudder_before_write(
                 tree: *const u32,
@@ -221,9 +235,8 @@ pub mod before {
 
     /// Reads a list's words as the library before did.
     #[inline]
-    pub fn parse(lent: Lent<'_>, source_len: u64, version: i16, used: (u64, u64)) -> Answer {
-        let entry = renamed::sorbrudder_before_parse;
-        super::parse_by(entry, lent, source_len, version, used)
+    pub fn parse(lent: Lent<'_>, given: Given) -> Answer {
+        super::parse_by(renamed::sorbrudder_before_parse, lent, given)
     }
 
     /// Writes a tree's words as the library before did.

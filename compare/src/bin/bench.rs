@@ -4,7 +4,8 @@
 //! writer over a tree of `Vec`s that checks nothing, export and import beside a plain Rust function that checks nothing
 //! either. Rounds of batches go over all workloads in turn, and the least batch counts. The last line is `least ratio R, mean
 //! ratio M, greatest growth G`, of reading. Where `SORBRUDDER_BEFORE` names the folder of another archive when this is built,
-//! that library is timed in the same rounds (docs/notes/bench.md).
+//! that library is timed in the same rounds (docs/notes/bench.md). Reading is timed under the greatest nesting limit, and long
+//! lists that nest less also under the limit 64, call by call in turn.
 //!
 //!     bench [ROUNDS]
 
@@ -26,6 +27,7 @@ mod timed {
     use compare::reordering::Way;
     use compare::stack_model::Reordered;
     use compare::workloads::{self, SAME_AS_ONE, SCRIPT, Trees, Workload};
+    use oracle::nesting::{MOST_NESTING, least_limit};
     use oracle::words::{Case, NODE_WORDS, TOKEN_WORDS, Token, list_words, low, tree_words};
     use sorbrudder_sys::Answer;
     use std::hint::black_box;
@@ -40,13 +42,17 @@ mod timed {
             self.0.iter().copied().fold(f64::INFINITY, f64::min)
         }
 
-        /// By how much the middle batch is above the least.
-        fn noise(&self) -> f64 {
+        /// The batch that one in so many is below.
+        fn low(&self, part: usize) -> Option<f64> {
             let mut sorted = self.0.clone();
             sorted.sort_by(f64::total_cmp);
-            sorted
-                .get(sorted.len() / 2)
-                .map_or(0.0, |middle| middle / self.least() - 1.0)
+            sorted.get(sorted.len() / part).copied()
+        }
+
+        /// By how much the middle batch is above the least.
+        fn noise(&self) -> f64 {
+            let middle = self.low(2);
+            middle.map_or(0.0, |middle| middle / self.least() - 1.0)
         }
 
         /// Times `repeats` runs of `run` over `tokens` tokens or nodes, after one that brings what they use into the caches again.
@@ -76,6 +82,9 @@ mod timed {
         }
     }
 
+    /// The nesting limits that are timed call by call: the greatest, and one that the brackets of a long list are counted for.
+    const LIMITS: [u32; 2] = [MOST_NESTING, 64];
+
     /// A workload with what was measured of it.
     struct Line {
         name: String,
@@ -85,6 +94,8 @@ mod timed {
         ours: Batches,
         before: Batches,
         rust: Batches,
+        /// Single calls under each of the limits.
+        limited: [Batches; 2],
     }
 
     impl Line {
@@ -96,6 +107,7 @@ mod timed {
                 ours: Batches::default(),
                 before: Batches::default(),
                 rust: Batches::default(),
+                limited: Default::default(),
             }
         }
 
@@ -115,6 +127,13 @@ mod timed {
 
         fn ratio(&self) -> f64 {
             self.rust.least() / self.ours.least()
+        }
+
+        /// How many nanoseconds a token takes more under the lower limit, where it was timed: of each the call that a fifth of them
+        /// are below, since so little does not show in the least.
+        fn for_the_limit(&self) -> Option<f64> {
+            let [greatest, lower] = &self.limited;
+            Some(lower.low(5)? - greatest.low(5)?)
         }
 
         /// How many times as long it takes as in the library before.
@@ -194,7 +213,7 @@ mod timed {
                     .into_iter()
                     .flatten()
                 {
-                    let answer = reading.read(library, call);
+                    let answer = reading.read(library, call, MOST_NESTING);
                     assert!(matches!(answer, Answer::Filled(_)), "{name}: {answer:?}");
                 }
             }
@@ -202,12 +221,13 @@ mod timed {
         }
 
         /// Reads one list into buffers of exactly the lengths that the library asks for.
-        fn read(&mut self, library: Library, call: usize) -> Answer {
+        fn read(&mut self, library: Library, call: usize, limit: u32) -> Answer {
             let (case, list) = black_box(&self.calls[call]);
             let given = Given {
                 source_len: u64::from(case.source_len),
                 version: case.version,
                 used: case.used,
+                limit,
             };
             let tokens = case.tokens.len();
             let tree = &mut self.tree[..3 * library.node_words * tokens];
@@ -224,7 +244,7 @@ mod timed {
                 let mut batches = std::mem::take(self.line.side(side));
                 batches.add(repeats, self.tokens, || {
                     for call in 0..self.calls.len() {
-                        black_box(self.read(library, call));
+                        black_box(self.read(library, call, MOST_NESTING));
                     }
                 });
                 *self.line.side(side) = batches;
@@ -235,6 +255,25 @@ mod timed {
                         black_box(oracle::grouped_if_at_hand(case));
                     }
                 });
+            }
+        }
+
+        /// Whether every list is within the lower limit.
+        fn is_within(&self) -> bool {
+            let mut cases = self.calls.iter().map(|(case, _)| case);
+            cases.all(|case| least_limit(&case.tokens) <= LIMITS[1])
+        }
+
+        /// Reads the first list under both limits in turn, each first in every other turn.
+        fn round_of_limits(&mut self) {
+            let tokens = self.calls[0].0.tokens.len();
+            for turn in 0..BATCH.div_ceil(tokens) {
+                for which in [turn % 2, (turn + 1) % 2] {
+                    let since = Instant::now();
+                    black_box(self.read(self.libraries.now, 0, LIMITS[which]));
+                    let nanoseconds = since.elapsed().as_nanos() as f64;
+                    self.line.limited[which].0.push(nanoseconds / tokens as f64);
+                }
             }
         }
     }
@@ -345,7 +384,7 @@ mod timed {
     impl Written {
         /// The first list of a workload, read and written, if its tree is plain; the list is as long as what is written.
         fn new(library: Library, reading: &mut Reading) -> Option<Self> {
-            let Answer::Filled(nodes) = reading.read(library, 0) else {
+            let Answer::Filled(nodes) = reading.read(library, 0, MOST_NESTING) else {
                 unreachable!("the reading was a tree");
             };
             let tree = reading.tree[..library.node_words * nodes].to_vec();
@@ -648,6 +687,8 @@ mod timed {
             let readings = self.short.iter_mut().chain(&mut self.many);
             let readings = readings.chain(&mut self.few);
             readings.for_each(|reading| reading.round(round));
+            let limited = self.many.iter_mut().filter(|reading| reading.is_within());
+            limited.for_each(Reading::round_of_limits);
             let writings = self.written.iter_mut().chain(&mut self.written_few);
             writings.for_each(|writing| writing.round(round));
             let reordered = self.reordered.iter_mut().chain(&mut self.reordered_few);
@@ -730,6 +771,27 @@ mod timed {
             self.read().chain(self.few.iter().map(|few| &few.line))
         }
 
+        /// Says what the count of brackets takes where a limit asks for it.
+        fn print_limited(&self) {
+            let limit = LIMITS[1];
+            let mut greatest = f64::NEG_INFINITY;
+            let mut workloads = 0;
+            for line in self.many.iter().map(|reading| &reading.line) {
+                let Some(more) = line.for_the_limit() else {
+                    continue;
+                };
+                println!(
+                    "{:28} {:5} tokens  at limit {limit} {more:5.2} ns more",
+                    line.name, line.tokens
+                );
+                greatest = more.max(greatest);
+                workloads += 1;
+            }
+            println!(
+                "reading at limit {limit}, {workloads} workloads: at most {greatest:.2} ns a token more"
+            );
+        }
+
         fn print_beside_before(&self) {
             if Library::before().is_some() {
                 print_beside("reading", self.all_read());
@@ -754,6 +816,7 @@ mod timed {
             timed.round(round);
         }
         let greatest = timed.print_reading();
+        timed.print_limited();
         timed.print_writing();
         timed.print_stack_order();
         timed.print_noise();

@@ -144,6 +144,10 @@ mod run {
         let shapes = &mut lens.into_iter().flat_map(calls::shapes);
         part("every shape, at 4, 5 and 6", shapes)?;
         part("every refusal at its limits", &mut calls::limits())?;
+        part(
+            "every list of up to 6 brackets at limits 1 to 4, and others beside their limits",
+            &mut calls::nesting(6),
+        )?;
         for part in [short_brackets, writing, reordering, expressions, scripts, short_scripts] {
             let written = part(lists as u64 / 5, seed);
             let (Ok(count) | Err((count, _))) = written;

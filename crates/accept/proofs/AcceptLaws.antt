@@ -1,5 +1,5 @@
--- The table of refusals, row by row: its rows before the words in two parts, the words token by token, what decides it of a call, and what
--- is known of a call that no row turns back. Assumes nothing.
+-- The table of refusals, row by row: its rows before the words in two parts, the words and the brackets token by token, what decides it of
+-- a call, and what is known of a call that no row turns back. Assumes nothing.
 use mathlib.Core.Path.{_≡_, refl, sym, ap, _∙_}
 use mathlib.Core.List.{List, [], _∷_, _++_}
 use mathlib.Core.Option.{Option, none, some}
@@ -9,52 +9,63 @@ use native.Mathlib.Omega.{arith}
 use lib.Dec.{eqb, leb, ltb}
 use lib.ListN.{length, drop, getD, length-replicate}
 use lib.Seq.{drop-cons, drop-length}
-use borrow.Author.Tests.{eqb-true, leb-true}
+use borrow.Author.Tests.{eqb-true, leb-true, le-leb, lt-leb}
 use types.Run.{OneOf}
 use denote.Enum.Declared.{tagOf}
 use Rattle.molang.specs.FirstFailure.{must, firstOf}
-use Rattle.molang.specs.Words.{Refusal, row, operatorField, wordFault, lowFault, variantAfter, wordsRefusal}
-use Rattle.molang.specs.Parse.{Call, mostTokens, refusal}
-use Rattle.molang.proofs.FirstFailure.{passed, last-one, in-parts, behind}
+use Rattle.molang.specs.Words.{Refusal, row, operatorField, wordFault, lowFault, variantAfter, wordsRefusal, tokenOf, tokensOf}
+use Rattle.molang.specs.Nesting.{openAfter, firstAbove, tooDeep}
+use Rattle.molang.specs.Parse.{Call, mostTokens, isLimit, refusal}
+use Rattle.molang.proofs.FirstFailure.{must-true, must-false, found, passed, last-one, after-none, in-parts, behind}
+use Rattle.molang.proofs.ListWords.{tokens-count}
 use Rattle.molang.proofs.Accepted.{call-accepted}
+use Rattle.molang.proofs.Nesting.{opens-one, short-within}
 use Rattle.ops.specs.declared.sets.OpSet.{OpSet}
-use Rattle.words.specs.Fields.{variantOf}
+use Rattle.words.specs.Fields.{operatorOf, variantOf}
 use Rattle.words.proofs.CheckLaws.{good-token, token-refused, token-passed}
 use Rattle.accept.specs.declared.Sizes.{Sizes}
 use Rattle.accept.specs.declared.Accepted.{Accepted}
 use Rattle.accept.specs.declared.Accepted.the-variants.{Tokens, Refused}
-use Rattle.accept.specs.Accepting.{Verdict, isRead, isRefused, verdictOf, verdict, callOf, lengthRefusal, lentRefusal}
+use Rattle.accept.specs.Accepting.{Verdict, isRead, isRefused, verdictOf, verdict, callOf, lengthRefusal, lentRefusal, nestingRefusal}
 use Rattle.accept.proofs.Accepted.{the-type}
+
+-- What the checks are given of a call.
+abbrev sizesOf : Call → Sizes
+sizesOf c = record { tree = length (c .tree); messages = length (c .messages); work = length (c .work); source = c .sourceLength }
+
+abbrev checkedOf : Call → Call
+checkedOf c = callOf (c .list) (sizesOf c) (record { low = c .usedLow; high = c .usedHigh }) (c .limit)
 
 -- ---- The rows
 
--- The table in three parts: by the list's length, by what is lent, by the words.
-pub table : (list : List ℕ) (sizes : Sizes) (used : OpSet)
-    → refusal (callOf list sizes used)
-    ≡ firstOf (lengthRefusal (length list) ∷ lentRefusal (length list / 5) sizes used ∷ wordsRefusal 0 operatorField 0 list ∷ [])
+-- The table in four parts: by the list's length, by what is lent, by the words, by the brackets.
+pub table : (list : List ℕ) (sizes : Sizes) (used : OpSet) (limit : ℕ)
+    → refusal (callOf list sizes used limit)
+    ≡ firstOf
+    (lengthRefusal (length list)
+    ∷ lentRefusal (length list / 5) sizes used limit
+    ∷ wordsRefusal 0 operatorField 0 list
+    ∷ nestingRefusal limit list
+    ∷ [])
 unfolding refusal lengthRefusal lentRefusal
-table list sizes used =
+table list sizes used limit =
     let n = length list / 5 in
-    let words = wordsRefusal 0 operatorField 0 list in
+    let later = wordsRefusal 0 operatorField 0 list ∷ nestingRefusal limit list ∷ [] in
     let lent =
     must (leb (21 * n) (sizes .tree)) (row 3 0)
     ∷ must (leb 16 (sizes .messages)) (row 4 0)
     ∷ must (leb (64 * n + 64) (sizes .work)) (row 5 0)
     ∷ must (ltb (used .high * 2 ^ 64 + used .low) (2 ^ 111)) (row 6 0)
     ∷ must (leb (sizes .source) 536870911) (row 7 0)
+    ∷ must (isLimit limit) (row 17 0)
     ∷ []
     in
     rw (length-replicate {A = ℕ} (sizes .tree) 0, length-replicate {A = ℕ} (sizes .messages) 0, length-replicate {A = ℕ} (sizes .work) 0)
-    (in-parts (must (eqb (length list % 5) 0) (row 1 0) ∷ must (leb n mostTokens) (row 2 0) ∷ []) (lent ++ (words ∷ []))
-    ∙ behind (lengthRefusal (length list)) (lent ++ (words ∷ [])) (firstOf lent ∷ words ∷ []) (in-parts lent (words ∷ [])))
+    (in-parts (must (eqb (length list % 5) 0) (row 1 0) ∷ must (leb n mostTokens) (row 2 0) ∷ []) (lent ++ later)
+    ∙ behind (lengthRefusal (length list)) (lent ++ later) (firstOf lent ∷ later) (in-parts lent later))
 
 -- A refusal depends on the lengths of the buffers, and not on the version.
-pub same-refusal : (c : Call)
-    → refusal
-    (callOf (c .list)
-    (record { tree = length (c .tree); messages = length (c .messages); work = length (c .work); source = c .sourceLength })
-    (record { low = c .usedLow; high = c .usedHigh }))
-    ≡ refusal c
+pub same-refusal : (c : Call) → refusal (checkedOf c) ≡ refusal c
 unfolding refusal
 same-refusal c =
     rw (
@@ -78,15 +89,22 @@ refused-first (Tokens m) n o later h e = absurd (omega arith)
 refused-first (Refused number place) n none later h e = absurd (let z : _≡_ {A = ℕ} 0 1 = cc in omega arith)
 refused-first (Refused number place) n (some r) later h e = e
 
--- The call that the checks of a list, its sizes and its used set answer.
-module _ (list : List ℕ) (sizes : Sizes) (used : OpSet) where
+-- A first row that refuses nothing leaves the answer to the later ones.
+passed-first : (m n : ℕ) (o : Option Refusal) (later : List (Option Refusal)) → isRead m ≡ verdict n o
+    → verdict n (firstOf later) ≡ verdict n (firstOf (o ∷ later))
+unfolding firstOf
+passed-first m n o later e = rw (accepted m n o e .1)
+
+-- The call that the checks of a list, its sizes, its used set and its limit answer.
+module _ (list : List ℕ) (sizes : Sizes) (used : OpSet) (limit : ℕ) where
   abbrev pub Answers : Accepted → Type 0
-  Answers x = verdictOf x ≡ verdict (length list / 5) (refusal (callOf list sizes used))
+  Answers x = verdictOf x ≡ verdict (length list / 5) (refusal (callOf list sizes used limit))
 
   pub by-length : (x : Accepted) → OneOf (1 ∷ []) (tagOf the-type x)
       → verdictOf x ≡ verdict (length list / 5) (lengthRefusal (length list)) → Answers x
   by-length x h e =
-      refused-first x (length list / 5) (lengthRefusal (length list)) _ h e ∙ ap (verdict (length list / 5)) (sym (table list sizes used))
+      refused-first x (length list / 5) (lengthRefusal (length list)) _ h e
+      ∙ ap (verdict (length list / 5)) (sym (table list sizes used limit))
 
   -- A list whose length refuses nothing.
   module _ (n : ℕ) (whole : isRead n ≡ verdict (length list / 5) (lengthRefusal (length list))) where
@@ -99,22 +117,32 @@ module _ (list : List ℕ) (sizes : Sizes) (used : OpSet) where
         let count = told .0 in
         (omega (arith, eqb-true (length list % 5) 0 (one .0)), omega (arith, leb-true (length list / 5) mostTokens (two .0)))
 
-    left : verdict n (firstOf (lentRefusal n sizes used ∷ wordsRefusal 0 operatorField 0 list ∷ []))
-        ≡ verdict (length list / 5) (refusal (callOf list sizes used))
+    left : verdict n (firstOf (lentRefusal n sizes used limit ∷ wordsRefusal 0 operatorField 0 list ∷ nestingRefusal limit list ∷ []))
+        ≡ verdict (length list / 5) (refusal (callOf list sizes used limit))
     unfolding firstOf
     left =
         let told = accepted n (length list / 5) (lengthRefusal (length list)) whole in
-        rw (told .0, table list sizes used, told .1)
+        rw (told .0, table list sizes used limit, told .1)
 
-    pub by-lent : (x : Accepted) → OneOf (1 ∷ []) (tagOf the-type x) → verdictOf x ≡ verdict n (lentRefusal n sizes used) → Answers x
-    by-lent x h e = refused-first x n (lentRefusal n sizes used) _ h e ∙ left
+    pub by-lent : (x : Accepted) → OneOf (1 ∷ []) (tagOf the-type x) → verdictOf x ≡ verdict n (lentRefusal n sizes used limit)
+        → Answers x
+    by-lent x h e = refused-first x n (lentRefusal n sizes used limit) _ h e ∙ left
 
-    pub by-words : (m : ℕ) → isRead m ≡ verdict n (lentRefusal n sizes used)
-        → (x : Accepted) → verdictOf x ≡ verdict n (wordsRefusal 0 operatorField 0 list) → Answers x
-    unfolding firstOf
-    by-words m lent x e =
-        e ∙ (ap (verdict n) (sym (last-one (wordsRefusal 0 operatorField 0 list))) ∙
-        (rw (accepted m n (lentRefusal n sizes used) lent .1) at left))
+    -- What is lent refuses nothing.
+    module _ (m : ℕ) (lent : isRead m ≡ verdict n (lentRefusal n sizes used limit)) where
+      left-words : verdict n (firstOf (wordsRefusal 0 operatorField 0 list ∷ nestingRefusal limit list ∷ []))
+          ≡ verdict (length list / 5) (refusal (callOf list sizes used limit))
+      left-words = passed-first m n (lentRefusal n sizes used limit) _ lent ∙ left
+
+      pub by-words : (x : Accepted) → OneOf (1 ∷ []) (tagOf the-type x) → verdictOf x ≡ verdict n (wordsRefusal 0 operatorField 0 list)
+          → Answers x
+      by-words x h e = refused-first x n (wordsRefusal 0 operatorField 0 list) _ h e ∙ left-words
+
+      pub by-nesting : (l : ℕ) → isRead l ≡ verdict n (wordsRefusal 0 operatorField 0 list)
+          → (x : Accepted) → verdictOf x ≡ verdict n (nestingRefusal limit list) → Answers x
+      by-nesting l words x e =
+          e ∙ (ap (verdict n) (sym (last-one (nestingRefusal limit list)))
+          ∙ (passed-first l n (wordsRefusal 0 operatorField 0 list) _ words ∙ left-words))
 
 -- ---- The words, token by token
 
@@ -172,6 +200,59 @@ module _ (list : List ℕ) where
   unfolding wordsRefusal
   all-good at e = rw (← e, drop-length list)
 
+-- ---- The brackets, token by token
+
+-- What the brackets answer from token i on, so many being open before it.
+abbrev pub deepFrom : List ℕ → ℕ → ℕ → ℕ → Option ℕ
+deepFrom list limit i depth = firstAbove limit i depth (tokensOf (drop (5 * i) list))
+
+-- The first i of n tokens are within the limit, and so many brackets are open after them.
+pub record WithinTo (list : List ℕ) (limit n i depth : ℕ) : Type 0 where
+  pub within : i ≤ n
+  pub shallow : depth ≤ i
+  pub rest : tooDeep limit (tokensOf list) ≡ deepFrom list limit i depth
+
+-- No bracket is open before the first token. No more are open than there are tokens, so a list no longer than the limit is within it.
+module _ (list : List ℕ) (limit n : ℕ) where
+  pub within-first : WithinTo list limit n 0 0
+  unfolding tooDeep
+  within-first = record { within = omega arith; shallow = omega arith; rest = refl }
+
+  pub within-short : length list ≡ 5 * n → n ≤ limit → tooDeep limit (tokensOf list) ≡ none
+  unfolding tooDeep
+  within-short long few = short-within limit 0 0 (tokensOf list) (omega (arith, tokens-count list))
+
+  pub within-last : (depth : ℕ) → length list ≡ 5 * n → WithinTo list limit n n depth → tooDeep limit (tokensOf list) ≡ none
+  unfolding firstAbove tokensOf
+  within-last depth long w = w .rest ∙ rw (← long, drop-length list)
+
+  module _ (i depth : ℕ) (w : WithinTo list limit n i depth) (long : length list ≡ 5 * n) (more : i < n) where
+    abbrev pub openHere : ℕ
+    openHere = openAfter depth (operatorOf (getD list (5 * i) 0))
+
+    -- Token i, and then those after it.
+    token-deep : deepFrom list limit i depth ≡ firstOf (must (leb openHere limit) i ∷ deepFrom list limit (i + 1) openHere ∷ [])
+    unfolding firstAbove tokensOf tokenOf operatorOf
+    token-deep =
+        let on : 5 * i + 5 ≡ 5 * (i + 1) = omega arith in
+        let later = tokensOf (drop (5 * (i + 1)) list) in
+        rw (opens list (5 * i) (omega arith), on)
+        (ap (λ (j : ℕ). firstOf (must (leb openHere limit) i ∷ firstAbove limit j openHere later ∷ [])) (sym (add-one i)))
+
+    pub within-on : openHere ≤ limit → WithinTo list limit n (i + 1) openHere
+    within-on h =
+        let most = opens-one depth (operatorOf (getD list (5 * i) 0)) in
+        let passes = must-true (leb openHere limit) i (le-leb openHere limit h) in
+        record {
+          within = omega arith;
+          shallow = omega (arith, w .shallow);
+          rest = w .rest ∙ (token-deep ∙ after-none (must (leb openHere limit) i) _ passes);
+        }
+
+    pub goes-above : limit < openHere → tooDeep limit (tokensOf list) ≡ some i
+    goes-above h =
+        w .rest ∙ (token-deep ∙ found (must (leb openHere limit) i) i _ (must-false (leb openHere limit) i (lt-leb openHere limit h)))
+
 -- ---- What acceptance gives
 
 -- A call that is read, of n tokens.
@@ -201,12 +282,7 @@ readable c e =
 
 -- What the answer of the checks says of the call: it is read, or this is its refusal.
 abbrev pub checked : Call → Verdict
-checked c =
-    verdict (length (c .list) / 5)
-    (refusal
-    (callOf (c .list)
-    (record { tree = length (c .tree); messages = length (c .messages); work = length (c .work); source = c .sourceLength })
-    (record { low = c .usedLow; high = c .usedHigh })))
+checked c = verdict (length (c .list) / 5) (refusal (checkedOf c))
 
 pub reads-call : (c : Call) (n : ℕ) → isRead n ≡ checked c → (refusal c ≡ none) × Readable c n
 reads-call c n e =

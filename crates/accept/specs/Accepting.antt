@@ -1,5 +1,5 @@
 -- What each answer of the checks says, the call that a list and the sizes beside it stand for, and the parts of the table that come before
--- the words.
+-- the words and after them.
 use Prim.Native.Nat.{ℕ, _+_, _*_, _/_, _%_, _^_}
 use mathlib.Core.List.{List, [], _∷_}
 use mathlib.Core.Option.{Option, none, some}
@@ -7,8 +7,9 @@ use lib.Dec.{eqb, leb, ltb}
 use lib.IntN.{pos}
 use lib.ListN.{replicate}
 use Rattle.molang.specs.FirstFailure.{must, firstOf}
-use Rattle.molang.specs.Words.{Refusal, row}
-use Rattle.molang.specs.Parse.{Call, mostTokens}
+use Rattle.molang.specs.Words.{Refusal, row, withNumber, tokensOf}
+use Rattle.molang.specs.Nesting.{tooDeep}
+use Rattle.molang.specs.Parse.{Call, mostTokens, isLimit}
 use Rattle.ops.specs.declared.sets.OpSet.{OpSet}
 use Rattle.accept.specs.declared.Sizes.{Sizes}
 use Rattle.accept.specs.declared.Accepted.{Accepted}
@@ -30,8 +31,8 @@ verdict n none = isRead n
 verdict n (some r) = isRefused (r .number) (r .place)
 
 -- A call with these lengths. What the lent buffers hold, and the version, decide no refusal (`same-refusal`).
-abbrev pub callOf : List ℕ → Sizes → OpSet → Call
-callOf list sizes used =
+abbrev pub callOf : List ℕ → Sizes → OpSet → ℕ → Call
+callOf list sizes used limit =
     record {
       list = list;
       tree = replicate (sizes .tree) 0;
@@ -41,19 +42,25 @@ callOf list sizes used =
       version = pos 0;
       usedLow = used .low;
       usedHigh = used .high;
+      limit = limit;
     }
 
 -- Answers 1 and 2.
 unfoldable pub lengthRefusal : ℕ → Option Refusal
 lengthRefusal words = firstOf (must (eqb (words % 5) 0) (row 1 0) ∷ must (leb (words / 5) mostTokens) (row 2 0) ∷ [])
 
--- Answers 3 to 7.
-unfoldable pub lentRefusal : ℕ → Sizes → OpSet → Option Refusal
-lentRefusal tokens sizes used =
+-- Answers 3 to 7 and 17.
+unfoldable pub lentRefusal : ℕ → Sizes → OpSet → ℕ → Option Refusal
+lentRefusal tokens sizes used limit =
     firstOf
     (must (leb (21 * tokens) (sizes .tree)) (row 3 0)
     ∷ must (leb 16 (sizes .messages)) (row 4 0)
     ∷ must (leb (64 * tokens + 64) (sizes .work)) (row 5 0)
     ∷ must (ltb (used .high * 2 ^ 64 + used .low) (2 ^ 111)) (row 6 0)
     ∷ must (leb (sizes .source) 536870911) (row 7 0)
+    ∷ must (isLimit limit) (row 17 0)
     ∷ [])
+
+-- Answer 18.
+abbrev pub nestingRefusal : ℕ → List ℕ → Option Refusal
+nestingRefusal limit list = withNumber 18 (tooDeep limit (tokensOf list))

@@ -1,5 +1,7 @@
-// Where the entry turns a call back: answers 1 to 11 of document 01's table, from the top, the first failure wins.
-// Leans on words (the check of a token) and ops (sets); specs/Accepting says which call a list and these sizes stand for.
+// Where the entry turns a call back: answers 1 to 11 of document 01's table and 17 and 18 of document 02's card 8, in the table's order;
+// the first failure wins. Leans on words (the check of a token) and ops (sets, brackets); specs/Accepting says which call a list and these
+// sizes stand for.
+use ops::open_after;
 use ops::sets::OpSet;
 use words::checks::Checked;
 use words::checks::token;
@@ -9,9 +11,9 @@ use words::tokens::TokenWords;
 ghost use mathlib.Core.Path.{_≡_};
 ghost use Prim.Native.Nat.{_*_, _/_, _≤_};
 ghost use lib.ListN.{length};
-ghost use Rattle.molang.specs.Parse.{refusal};
+ghost use Rattle.molang.specs.Parse.{isLimit, refusal};
 ghost use Rattle.molang.specs.Words.{operatorField, wordsRefusal};
-ghost use Rattle.accept.specs.Accepting.{verdictOf, verdict, callOf, lengthRefusal, lentRefusal};
+ghost use Rattle.accept.specs.Accepting.{verdictOf, verdict, callOf, lengthRefusal, lentRefusal, nestingRefusal};
 
 // Words of the tree buffer per token, and of the work buffer per token and once more.
 pub const TREE_WORDS: usize = 21;
@@ -20,6 +22,9 @@ pub const WORK_WORDS: usize = 64;
 
 // The highest start or end that a span can have.
 pub const MOST_SOURCE: u64 = 536_870_911;
+
+// The highest nesting limit: at it no list is nested too deep.
+pub const MOST_LIMIT: u32 = 4096;
 
 // The lengths of the buffers that the call lends besides the list, and of the source.
 pub struct Sizes {
@@ -49,10 +54,17 @@ fn list_length(words: usize) -> Accepted
     Accepted::Tokens(n)
 }
 
-// Answers 3 to 7, for n tokens, which are no more than `list_length` lets through.
-fn buffers(n: usize, sizes: Sizes, used: OpSet) -> Accepted
+// Whether a nesting limit is in its range.
+fn is_limit(limit: u32) -> bool
+    ensures { λ r. ⌜ r ≡ isLimit limit ⌝ }
+{
+    1 <= limit && limit <= MOST_LIMIT
+}
+
+// Answers 3 to 7 and 17, for n tokens, which are no more than `list_length` lets through.
+fn buffers(n: usize, sizes: Sizes, used: OpSet, limit: u32) -> Accepted
     requires { ⌜ n ≤ 4096 ⌝ }
-    ensures { λ r. ⌜ verdictOf r ≡ verdict n (lentRefusal n sizes used) ⌝ }
+    ensures { λ r. ⌜ verdictOf r ≡ verdict n (lentRefusal n sizes used limit) ⌝ }
 {
     if sizes.tree < TREE_WORDS * n {
         return Accepted::Refused(refusals::SHORT_TREE_BUFFER, 0);
@@ -68,6 +80,9 @@ fn buffers(n: usize, sizes: Sizes, used: OpSet) -> Accepted
     }
     if MOST_SOURCE < sizes.source {
         return Accepted::Refused(refusals::SOURCE_TOO_LONG, 0);
+    }
+    if !is_limit(limit) {
+        return Accepted::Refused(refusals::LIMIT_OUT_OF_RANGE, 0);
     }
     Accepted::Tokens(n)
 }
@@ -93,17 +108,44 @@ fn token_words(list: &[u32], n: usize) -> Accepted
     Accepted::Tokens(n)
 }
 
+// Answer 18: the brackets of n tokens against the limit. No more can be open than there are tokens, so a list no longer than the limit
+// is not looked at.
+fn nesting(list: &[u32], n: usize, limit: u32) -> Accepted
+    requires { ⌜ (length (now list) ≡ 5 * n) × (n ≤ 4096) ⌝ }
+    ensures { λ r. ⌜ verdictOf r ≡ verdict n (nestingRefusal limit (now (list .entry))) ⌝ }
+{
+    let most = limit as usize;
+    if n <= most {
+        return Accepted::Tokens(n);
+    }
+    let mut depth = 0usize;
+    let mut index = 0usize;
+    while index < n {
+        let at = fields::TOKEN_WORDS * index;
+        depth = open_after(depth, fields::operator(list[at]));
+        if most < depth {
+            return Accepted::Refused(refusals::NESTED_TOO_DEEP, index);
+        }
+        index += 1;
+    }
+    Accepted::Tokens(n)
+}
+
 // All checks, in the table's order.
-pub fn accept(list: &[u32], sizes: Sizes, used: OpSet) -> Accepted
-    ensures { λ r. ⌜ verdictOf r ≡ verdict (length (now (list .entry)) / 5) (refusal (callOf (now (list .entry)) sizes used)) ⌝ }
+pub fn accept(list: &[u32], sizes: Sizes, used: OpSet, limit: u32) -> Accepted
+    ensures { λ r. ⌜ verdictOf r ≡ verdict (length (now (list .entry)) / 5) (refusal (callOf (now (list .entry)) sizes used limit)) ⌝ }
 {
     let length = list_length(list.len());
     let Accepted::Tokens(n) = length else {
         return length;
     };
-    let lent = buffers(n, sizes, used);
+    let lent = buffers(n, sizes, used, limit);
     let Accepted::Tokens(_) = lent else {
         return lent;
     };
-    token_words(list, n)
+    let words = token_words(list, n);
+    let Accepted::Tokens(_) = words else {
+        return words;
+    };
+    nesting(list, n, limit)
 }

@@ -1,4 +1,4 @@
--- The text of each line of the table: the list or tree that it asks for, and the version. Bytes are ASCII.
+-- The text of each line of the table: the list or tree that it asks for, and the version or the limit. Bytes are ASCII.
 use Prim.Native.Nat.{ℕ, _+_, _-_, _/_, _%_}
 use Prim.Native.String.{String}
 use mathlib.Core.Bool.{true, false}
@@ -42,7 +42,7 @@ use Rattle.molang.specs.Operator.{
   return,
   comma,
 }
-use Rattle.molang.specs.Lines.{Line, anyMark, writeMark, zerosMark, repeatedMark, atMark, versionOf, marksOf, linesOf}
+use Rattle.molang.specs.Lines.{Line, anyMark, writeMark, zerosMark, repeatedMark, atMark, withinMark, versionOf, marksOf, linesOf}
 use Rattle.text.specs.Text.{ascii, decimal, numbered, space, lineEnd}
 
 -- OPERATORS. The text that a table has beside an operator, or another text where it has none.
@@ -162,6 +162,10 @@ repeatedText (n ∷ op ∷ m ∷ ms) = unknownText
 unfoldable pub readAtText : List ℕ → ℕ → List ℕ
 readAtText operators bits = listText operators ++ ascii "at " ++ versionText bits
 
+-- A list that is read with a nesting limit.
+unfoldable pub readWithinText : List ℕ → ℕ → List ℕ
+readWithinText operators limit = listText operators ++ ascii "within " ++ decimal limit
+
 -- A list that is read at 4, 5 and 6.
 unfoldable pub readAtAllText : List ℕ → List ℕ
 readAtAllText operators = listText operators ++ ascii "at 4, 5 and 6"
@@ -173,18 +177,22 @@ writingText nodes = ascii "writing " ++ treeText nodes
 -- A mark and its items, as molang's `askedOf` has them.
 unfoldable pub askedText : ℕ → List ℕ → List ℕ
 askedText mark items =
-    elim (leb atMark mark) [
-      | true ↦ readAtText items (mark - atMark)
+    elim (leb withinMark mark) [
+      | true ↦ readWithinText items (mark - withinMark)
       | false ↦
-          elim (eqb mark anyMark) [
-            | true ↦ readAtAllText items
+          elim (leb atMark mark) [
+            | true ↦ readAtText items (mark - atMark)
             | false ↦
-                elim (eqb mark writeMark) [
-                  | true ↦ writingText items
+                elim (eqb mark anyMark) [
+                  | true ↦ readAtAllText items
                   | false ↦
-                      elim (eqb mark zerosMark) [
-                        | true ↦ zerosText items
-                        | false ↦ elim (eqb mark repeatedMark) [ true ↦ repeatedText items | false ↦ unknownText ]
+                      elim (eqb mark writeMark) [
+                        | true ↦ writingText items
+                        | false ↦
+                            elim (eqb mark zerosMark) [
+                              | true ↦ zerosText items
+                              | false ↦ elim (eqb mark repeatedMark) [ true ↦ repeatedText items | false ↦ unknownText ]
+                            ]
                       ]
                 ]
           ]

@@ -2,10 +2,12 @@
 // the table's, which is the one that the theorem of molang has. It writes the text of each line and whether it is answered as it says, and
 // the totals last. The definition answers every line as it says (that theorem), and the entries answer as the definition does: this program
 // tests the compiled code. What it writes is compared with the file stdout; of the functions that run and compare, which are all private,
-// it is proved that they are safe, and of the text that it is the table's. Leans on molang (the table), parse, write and derived.
+// it is proved that they are safe, and of the text that it is the table's. Leans on molang (the table), accept, parse,
+// write and derived.
 mod said;
 
 use crate::said::table;
+use accept::MOST_LIMIT;
 use derived::used_of;
 use derived::version_of;
 use libc::STDOUT_FILENO;
@@ -16,6 +18,7 @@ use molang::lines::MESSAGE;
 use molang::lines::REFUSED;
 use molang::lines::REPEATED;
 use molang::lines::TREE;
+use molang::lines::WITHIN;
 use molang::lines::WRITE;
 use molang::lines::ZEROS;
 use parse::Answer;
@@ -242,6 +245,7 @@ fn parsed(
     messages: &mut [u32],
     work: &mut [u32],
     version: i16,
+    limit: u32,
 ) -> Answer {
     let n = list.len() / fields::TOKEN_WORDS;
     let used = used_of(list);
@@ -254,6 +258,7 @@ fn parsed(
         version,
         used.low,
         used.high,
+        limit,
     )
 }
 
@@ -261,20 +266,21 @@ fn parsed(
 fn read_with(
     list: &[u32],
     version: i16,
+    limit: u32,
     tree: &mut [u32],
     work: &mut [u32],
     answer: u32,
     items: &[u32],
 ) -> Verdict {
     let mut messages = [0u32; 16];
-    let answered = parsed(list, tree, &mut messages, work, version);
+    let answered = parsed(list, tree, &mut messages, work, version, limit);
     let told = is_read(answered, answer, items);
     let left = is_left(tree, &messages, work, answer, items);
     compared(told, left)
 }
 
-// Reads a list at a version with buffers as long as the entry asks: work of ones, and the others of zeros.
-fn read(list: &[u32], version: i16, answer: u32, items: &[u32]) -> Verdict {
+// Reads a list at a version and with a nesting limit, with buffers as long as the entry asks: work of ones, and the others of zeros.
+fn read(list: &[u32], version: i16, limit: u32, answer: u32, items: &[u32]) -> Verdict {
     let mut tree = [0u32; TREE_WORDS];
     let mut work = [1u32; WORK_WORDS];
     if LIST_WORDS < list.len() {
@@ -286,6 +292,7 @@ fn read(list: &[u32], version: i16, answer: u32, items: &[u32]) -> Verdict {
     read_with(
         list,
         version,
+        limit,
         &mut tree[..nodes],
         &mut work[..slots],
         answer,
@@ -294,10 +301,10 @@ fn read(list: &[u32], version: i16, answer: u32, items: &[u32]) -> Verdict {
 }
 
 // Reads it at each version from `first` on and before `end`, by their sixteen bits.
-fn read_at(list: &[u32], first: u32, end: u32, answer: u32, items: &[u32]) -> Verdict {
+fn read_at(list: &[u32], first: u32, end: u32, limit: u32, answer: u32, items: &[u32]) -> Verdict {
     let mut bits = first;
     while bits < end {
-        let verdict = read(list, version_of(bits % 65_536), answer, items);
+        let verdict = read(list, version_of(bits % 65_536), limit, answer, items);
         let Verdict::Same = verdict else {
             return verdict;
         };
@@ -370,6 +377,9 @@ fn list_words(mark: u32, items: &[u32]) -> usize
 fn first_version(mark: u32) -> u32
     ensures { λ r. ⌜ r ≤ 3194967295 ⌝ }
 {
+    if WITHIN <= mark {
+        return 6;
+    }
     if AT <= mark {
         return mark - AT;
     }
@@ -387,6 +397,14 @@ fn end_version(mark: u32) -> u32 {
     first_version(mark) + 1
 }
 
+// The nesting limit that a mark asks for: the highest where it names none.
+fn limit_of(mark: u32) -> u32 {
+    if WITHIN <= mark {
+        return mark - WITHIN;
+    }
+    MOST_LIMIT
+}
+
 // Makes the calls of a line, which are those of molang's specs/Lines, and compares.
 fn ask(mark: u32, asked: &[u32], answer: u32, items: &[u32]) -> Verdict {
     if mark == WRITE {
@@ -397,7 +415,8 @@ fn ask(mark: u32, asked: &[u32], answer: u32, items: &[u32]) -> Verdict {
     let words = list_words(mark, asked);
     let first = first_version(mark);
     let end = end_version(mark);
-    read_at(&list[..words], first, end, answer, items)
+    let limit = limit_of(mark);
+    read_at(&list[..words], first, end, limit, answer, items)
 }
 
 // Writes a text.

@@ -5,7 +5,7 @@ use molang::lines::LINES;
 ghost use mathlib.Core.Path.{_≡_};
 ghost use Rattle.lines.specs.Said.{tableText};
 
-const BYTES: usize = 2408;
+const BYTES: usize = 2545;
 
 // A line of text for each line of the table.
 const TEXT: [u8; BYTES] = *b"no tokens at 4, 5 and 6
@@ -122,6 +122,14 @@ writing ;/1 ;/1 array\x20
 writing =/2 variable a\x20
 writing +/2 a\x20
 writing a a\x20
+( a ) within 1
+( ( a ) ) within 1
+( a ] ( b ) within 1
+) ( a ) within 1
+) ( ( a ) ) within 1
+( ( 111 within 1
+111 within 0
+a within 4097
 ";
 
 // The table's numbers and the text of its lines.

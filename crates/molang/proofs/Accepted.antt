@@ -2,6 +2,7 @@
 -- them is not turned back.
 use Prim.Native.Nat.{ℕ, _+_, _*_, _/_, _%_, _^_, _≤_, _<_}
 use mathlib.Core.Path.{_≡_, ap, _∙_}
+use mathlib.Core.Bool.{true}
 use mathlib.Core.List.{List}
 use mathlib.Core.Option.{none}
 use native.Mathlib.Omega.{arith}
@@ -10,8 +11,9 @@ use lib.ListN.{length}
 use borrow.Author.Tests.{eqb-true, leb-true, ltb-true, eq-eqb, le-leb, lt-ltb}
 use Rattle.molang.specs.Forest.{Token}
 use Rattle.molang.specs.Words.{row, operatorField, wordsRefusal, tokensOf, listWords}
-use Rattle.molang.specs.Parse.{Call, mostTokens, refusal}
-use Rattle.molang.proofs.FirstFailure.{first-none, then-none, passed, passes, all-passed}
+use Rattle.molang.specs.Nesting.{tooDeep}
+use Rattle.molang.specs.Parse.{Call, mostTokens, isLimit, refusal}
+use Rattle.molang.proofs.FirstFailure.{first-none, then-none, passed, passes, all-passed, withNumber-none, without-number}
 use Rattle.molang.proofs.Words.{LegalTokens, words-back}
 use Rattle.molang.proofs.ListWords.{list-unrefused, listWords-length}
 
@@ -26,7 +28,9 @@ pub record Accepted (c : Call) : Type 0 where
   pub work : 64 * (length (c .list) / 5) + 64 ≤ length (c .work)
   pub used : c .usedHigh * 2 ^ 64 + c .usedLow < 2 ^ 111
   pub sourceLength : c .sourceLength ≤ 536870911
+  pub limit : isLimit (c .limit) ≡ true
   pub words : wordsRefusal 0 operatorField 0 (c .list) ≡ none
+  pub nesting : tooDeep (c .limit) (tokensOf (c .list)) ≡ none
 
 pub call-accepted : (c : Call) → refusal c ≡ none → Accepted c
 unfolding refusal
@@ -39,10 +43,12 @@ call-accepted c h =
     let five = passed (leb (64 * n + 64) (length (c .work))) (row 5 0) _ (four .1) in
     let six = passed (ltb (c .usedHigh * 2 ^ 64 + c .usedLow) (2 ^ 111)) (row 6 0) _ (five .1) in
     let seven = passed (leb (c .sourceLength) 536870911) (row 7 0) _ (six .1) in
-    let words = first-none _ _ (seven .1) .0 in
+    let limit = passed (isLimit (c .limit)) (row 17 0) _ (seven .1) in
+    let words = first-none _ _ (limit .1) in
+    let nesting = first-none _ _ (words .1) .0 in
     let whole = eqb-true (length (c .list) % 5) 0 (one .0) in
     let fits = leb-true n mostTokens (two .0) in
-    let back = words-back 0 0 (c .list) words whole in
+    let back = words-back 0 0 (c .list) (words .0) whole in
     let long = listWords-length (tokensOf (c .list)) in
     let same = ap length (back .0) in
     record {
@@ -55,10 +61,12 @@ call-accepted c h =
       work = leb-true _ _ (five .0);
       used = ltb-true _ _ (six .0);
       sourceLength = leb-true _ _ (seven .0);
-      words = words;
+      limit = limit .0;
+      words = words .0;
+      nesting = withNumber-none 18 (tooDeep (c .limit) (tokensOf (c .list))) nesting;
     }
 
--- What a call needs not to be turned back, whatever its version: n legal tokens, and room for them by the table.
+-- What a call needs not to be turned back, whatever its version: n legal tokens within its limit, and room for them by the table.
 pub record Acceptable (d : Call) (ks : List Token) : Type 0 where
   pub list : d .list ≡ listWords ks
   pub legal : LegalTokens ks
@@ -68,6 +76,8 @@ pub record Acceptable (d : Call) (ks : List Token) : Type 0 where
   pub work : 64 * length ks + 64 ≤ length (d .work)
   pub used : d .usedHigh * 2 ^ 64 + d .usedLow < 2 ^ 111
   pub sourceLength : d .sourceLength ≤ 536870911
+  pub limit : isLimit (d .limit) ≡ true
+  pub nesting : tooDeep (d .limit) (tokensOf (d .list)) ≡ none
 
 pub call-acceptable : (d : Call) (ks : List Token) → Acceptable d ks → refusal d ≡ none
 unfolding refusal
@@ -85,4 +95,6 @@ call-acceptable d ks a =
     (passes _ (row 5 0) _ (le-leb _ _ workRoom)
     (passes _ (row 6 0) _ (lt-ltb _ _ (a .used))
     (passes _ (row 7 0) _ (le-leb _ _ (a .sourceLength))
-    (then-none _ _ words all-passed)))))))
+    (passes _ (row 17 0) _ (a .limit)
+    (then-none _ _ words
+    (then-none _ _ (without-number 18 (tooDeep (d .limit) (tokensOf (d .list))) (a .nesting)) all-passed)))))))))

@@ -2,7 +2,7 @@
 -- turned back and gives a tree; with brackets taken away it has the first tree's words.
 use Prim.Native.Nat.{ℕ, _+_, _*_, _≤_}
 use mathlib.Core.Path.{_≡_, refl, ap, _∙_}
-use mathlib.Core.Bool.{false}
+use mathlib.Core.Bool.{true, false}
 use mathlib.Core.List.{List, []}
 use mathlib.Core.Option.{none}
 use lib.Dec.{eqb}
@@ -11,7 +11,8 @@ use Rattle.molang.specs.Operator
 use Rattle.molang.specs.Forest.{Token, Forest, nil, node, size}
 use Rattle.molang.specs.Read.{read, uses}
 use Rattle.molang.specs.Words.{listWords, treeWords}
-use Rattle.molang.specs.Parse.{Call, inHalves, reading, aTree, answered, treeAfter}
+use Rattle.molang.specs.Nesting.{tooDeep}
+use Rattle.molang.specs.Parse.{Call, isLimit, inHalves, reading, aTree, answered, treeAfter}
 use Rattle.molang.specs.Write.{writtenTree, takenAway, comparable}
 use Rattle.molang.specs.WriteEntry.{WriteCall, writeRefusal, tokens, writeAnswered, listAfter}
 use Rattle.molang.proofs.Words.{LegalTokens, AtEnds, tokens-back}
@@ -31,11 +32,14 @@ pub record ThreeCalls (first : Call) (write : WriteCall) (second : Call) (k : To
   -- The second call gets exactly the words written, five to a token; its used set has each operator of those tokens and no other.
   pub listHanded : second .list ≡ take (5 * length (writtenTree k cs)) (listAfter write)
   pub usedExactly : (m : ℕ) → inHalves (second .usedLow) (second .usedHigh) m ≡ uses (writtenTree k cs) m
-  -- Its buffers are long enough by the table and its source length is legal. Its version is any.
+  -- Its buffers are long enough by the table, its source length and its limit are legal, and those tokens are within the limit. Its
+  -- version is any.
   pub treeRoom : 21 * length (writtenTree k cs) ≤ length (second .tree)
   pub messageRoom : 16 ≤ length (second .messages)
   pub workRoom : 64 * length (writtenTree k cs) + 64 ≤ length (second .work)
   pub legalLength : second .sourceLength ≤ 536870911
+  pub legalLimit : isLimit (second .limit) ≡ true
+  pub withinLimit : tooDeep (second .limit) (writtenTree k cs) ≡ none
 
 -- WHAT COMES OF THEM.
 pub record SameTrees (first : Call) (write : WriteCall) (second : Call) (k : Token) (cs : Forest) : Type 0 where
@@ -74,6 +78,7 @@ three-calls first write second k cs t =
     let wrote = write-done p write treeGot (t .writes) in
     let listGot = t .listHanded ∙ wrote .front in
     let legal = tree-written-legal p in
+    let ends = tree-written-ends p (wrote .plain) in
     let acceptable : Acceptable second ks =
     record {
       list = listGot;
@@ -84,13 +89,15 @@ three-calls first write second k cs t =
       work = t .workRoom;
       used = used-few (second .usedLow) (second .usedHigh) (λ m above. t .usedExactly m ∙ uses-legal legal m above);
       sourceLength = t .legalLength;
+      limit = t .legalLimit;
+      nesting = rw (listGot, tokens-back ks legal ends) (t .withinLimit);
     }
     in
     let again = round-trip k cs (wrote .plain) (second .version) (second .sourceLength) in
     let parsed : Parsed second (again .root) (again .children) =
     record {
       accepted = call-acceptable second ks acceptable;
-      reads = reads-list second ks listGot legal (tree-written-ends p (wrote .plain)) (t .usedExactly) ∙ again .reads;
+      reads = reads-list second ks listGot legal ends (t .usedExactly) ∙ again .reads;
     }
     in
     record {

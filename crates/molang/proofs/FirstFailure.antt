@@ -55,7 +55,7 @@ module _ {A : Type 0} where
   unfolding firstOf
   found o a later e = rw e
 
-  -- One check alone, after one that does not answer.
+  -- One check alone, after one that does not answer, or before one that does not.
   pub last-one : (o : Option A) → firstOf (o ∷ []) ≡ o
   unfolding firstOf
   last-one none = refl
@@ -72,6 +72,11 @@ module _ {A : Type 0} where
   unfolding firstOf must
   one-of true a c last e first later = later refl (sym (last-one last) ∙ e)
   one-of false a c last e first later = first refl (cc)
+
+  pub before-none : (o last : Option A) → last ≡ none → firstOf (o ∷ last ∷ []) ≡ o
+  unfolding firstOf
+  before-none none last e = rw e
+  before-none (some a) last e = refl
 
   -- An answer stays where it stays of the last check.
   pub later-found : (o x y : Option A) (a : A) → (x ≡ some a → y ≡ some a) → firstOf (o ∷ x ∷ []) ≡ some a → firstOf (o ∷ y ∷ []) ≡ some a
@@ -93,6 +98,33 @@ module _ {A : Type 0} where
   behind none checks others e = e
   behind (some a) checks others e = refl
 
+-- What holds of what was found, if anything was.
+abbrev pub All : {A : Type 0} → (A → Type 0) → Option A → Type 0
+All P none = Unit {0}
+All P (some a) = P a
+
+-- What holds of each answer holds of the first.
+module _ {A : Type 0} (P : A → Type 0) where
+  pub all-first : (o : Option A) (later : List (Option A)) → All P o → All P (firstOf later) → All P (firstOf (o ∷ later))
+  unfolding firstOf
+  all-first none later x y = y
+  all-first (some a) later x y = x
+
+  pub all-last : (o : Option A) → All P o → All P (firstOf (o ∷ []))
+  all-last o x = rw (last-one o) x
+
+  pub all-must : (b : Bool) (a : A) → P a → All P (must b a)
+  unfolding must
+  all-must true a x = tt
+  all-must false a x = x
+
+  -- The later ones are asked where the first test holds.
+  pub all-unless : (b : Bool) (a : A) (later : List (Option A)) → P a → (b ≡ true → All P (firstOf later))
+      → All P (firstOf (must b a ∷ later))
+  unfolding firstOf must
+  all-unless true a later x y = y refl
+  all-unless false a later x y = x
+
 -- Nothing was found.
 pub withPlace-none : (place : ℕ) (o : Option ℕ) → withPlace place o ≡ none → o ≡ none
 withPlace-none place none e = refl
@@ -101,3 +133,6 @@ withPlace-none place (some n) e = some-none e
 pub withNumber-none : (number : ℕ) (o : Option ℕ) → withNumber number o ≡ none → o ≡ none
 withNumber-none number none e = refl
 withNumber-none number (some n) e = some-none e
+
+pub without-number : (number : ℕ) (o : Option ℕ) → o ≡ none → withNumber number o ≡ none
+without-number number o e = rw e

@@ -15,6 +15,7 @@ pub mod Binary
 pub mod Unfolded
 pub mod Conditional
 pub mod Sections
+pub mod OpenCount
 pub mod Passes
 pub mod NoMasks
 pub mod Matching
@@ -36,7 +37,10 @@ pub mod TakingAway
 pub mod RoundTrip
 pub mod ListWords
 pub mod UsedSet
+pub mod Refusals
 pub mod Accepted
+pub mod Nesting
+pub mod OpenInLimit
 pub mod HandedTree
 pub mod Entries
 pub mod Reread

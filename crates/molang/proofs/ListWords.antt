@@ -13,8 +13,9 @@ use Rattle.molang.specs.Operator
 use Rattle.molang.specs.Operator.{isBracket}
 use Rattle.molang.specs.Forest.{Token, Forest, nil, node, closedBy, unclosed, count, size}
 use Rattle.molang.specs.Read.{lowestStart, highestEnd, uses}
-use Rattle.molang.specs.Words.{word, tokenWords, nodeWordsOf, listWords, treeWords, Field, operatorField, startField, endField}
-use Rattle.molang.specs.Words.{upperField, lowerField, wordFault, lowFault, variantAfter, nextInToken, withPlace, wordsRefusal}
+use Rattle.molang.specs.Words.{word, tokenWords, nodeWordsOf, tokensOf, listWords, treeWords, Field, operatorField, startField}
+use Rattle.molang.specs.Words.{endField, upperField, lowerField, wordFault, lowFault, variantAfter, nextInToken, withPlace}
+use Rattle.molang.specs.Words.{wordsRefusal}
 use Rattle.molang.specs.Legal.{Legal, LegalTrees, noTrees, legalTree}
 use Rattle.molang.specs.Write.{spanning, openerFor, closerFor, closerOf, standsAlone, standsLeft, standsRight, operandTokens, written}
 use Rattle.molang.specs.Write.{writtenStatements, writtenTree}
@@ -80,6 +81,16 @@ pub listWords-length : (ks : List Token) → length (listWords ks) ≡ 5 * lengt
 unfolding listWords tokenWords
 listWords-length [] = refl
 listWords-length (k ∷ ks) = let i = listWords-length ks in omega arith
+
+-- No more tokens are made of words than one of five.
+pub tokens-count : (ws : List ℕ) → 5 * length (tokensOf ws) ≤ length ws
+unfolding tokensOf
+tokens-count [] = omega arith
+tokens-count (a ∷ []) = omega arith
+tokens-count (a ∷ b ∷ []) = omega arith
+tokens-count (a ∷ b ∷ c ∷ []) = omega arith
+tokens-count (a ∷ b ∷ c ∷ d ∷ []) = omega arith
+tokens-count (a ∷ b ∷ c ∷ d ∷ e ∷ ws) = omega (arith, tokens-count ws)
 
 -- No legal token has an operator above 110.
 pub uses-legal : {ks : List Token} → LegalTokens ks → (m : ℕ) → 111 ≤ m → uses ks m ≡ false

@@ -2,8 +2,8 @@
 -- and left is as the demand says. What a first reading hands on to the writer, and the writer to the second reading, can be handed on.
 use Prim.Native.Nat.{ℕ, _+_, _*_, _/_, _≤_}
 use mathlib.Core.Path.{_≡_, refl, ap, sym, _∙_}
-use mathlib.Core.Bool.{false}
-use mathlib.Core.List.{List, [], _∷_}
+use mathlib.Core.Bool.{true, false}
+use mathlib.Core.List.{List}
 use mathlib.Core.Option.{Option, none, some}
 use native.Mathlib.Omega.{arith}
 use lib.Dec.{eqb}
@@ -12,7 +12,8 @@ use Rattle.molang.specs.Operator
 use Rattle.molang.specs.Forest.{Token, Forest, nil, node, size}
 use Rattle.molang.specs.Read.{uses}
 use Rattle.molang.specs.Words.{Refusal, operatorField, wordsRefusal, tokensOf, listWords, treeWords}
-use Rattle.molang.specs.Parse.{Call, refusal, Told, aTree, someMessages, refused, told, answered, treeAfter, messagesIn}
+use Rattle.molang.specs.Nesting.{tooDeep}
+use Rattle.molang.specs.Parse.{Call, isLimit, refusal, Told, aTree, someMessages, refused, told, answered, treeAfter, messagesIn}
 use Rattle.molang.specs.Parse.{messagesAfter, workIn, workAfter}
 use Rattle.molang.specs.Write.{writtenTree, takenAway}
 use Rattle.molang.specs.WriteEntry.{treesOf, WriteCall, WriteTold, tokens, unwritten, writeRefusal, writeAnswered, listAfter}
@@ -27,16 +28,6 @@ use Rattle.molang.proofs.Bounds.{treeWords-length}
 use Rattle.molang.proofs.HandedTree.{Parsed, tree-front, tree-told, front-bracketless, front-left, tree-written-legal, writer-tells}
 use Rattle.molang.proofs.HandedTree.{tree-written-ends, write-done, tree-of-told, write-of-told}
 use Rattle.molang.proofs.Entries.{ThreeCalls, SameTrees, three-calls}
-
--- Five words make a token.
-pub tokens-count : (ws : List ℕ) → 5 * length (tokensOf ws) ≤ length ws
-unfolding tokensOf
-tokens-count [] = omega arith
-tokens-count (a ∷ []) = omega arith
-tokens-count (a ∷ b ∷ []) = omega arith
-tokens-count (a ∷ b ∷ c ∷ []) = omega arith
-tokens-count (a ∷ b ∷ c ∷ d ∷ []) = omega arith
-tokens-count (a ∷ b ∷ c ∷ d ∷ e ∷ ws) = omega (arith, tokens-count ws)
 
 -- ---- What can be handed on
 
@@ -96,6 +87,11 @@ module _ (c : Rereading) (k : Token) (cs : Forest) (p : Parsed (c .first) k cs) 
     list-got : take (5 * length (writtenTree k cs)) (listAfter (writing c k cs)) ≡ listWords (writtenTree k cs)
     list-got = write-done p (writing c k cs) tree-got writes .front
 
+    tokens-got : tokensOf (take (5 * length (writtenTree k cs)) (listAfter (writing c k cs))) ≡ writtenTree k cs
+    tokens-got =
+        let ends = tree-written-ends p (write-done p (writing c k cs) tree-got writes .plain) in
+        ap tokensOf list-got ∙ tokens-back (writtenTree k cs) (tree-written-legal p) ends
+
     -- The second reading is made.
     made : reread c ≡ afterWriting (handed c) (size (node k cs nil)) (tokens (length (writtenTree k cs)))
     unfolding reread afterFirst
@@ -103,13 +99,14 @@ module _ (c : Rereading) (k : Token) (cs : Forest) (p : Parsed (c .first) k cs) 
 
     calls : 21 * length (writtenTree k cs) ≤ length (c .again) → 64 * length (writtenTree k cs) + 64 ≤ length (c .first .work)
         → c .sourceLength ≤ 536870911
+        → isLimit (c .limit) ≡ true
+        → tooDeep (c .limit) (writtenTree k cs) ≡ none
         → ThreeCalls (c .first) (writing c k cs) (second c k cs) k cs
     unfolding handed writerCall secondCall exactCall
-    calls treeRoom workRoom legalLength =
+    calls treeRoom workRoom legalLength legalLimit withinLimit =
         let legal = tree-written-legal p in
         let ks = tokensOf (second c k cs .list) in
-        let ends = tree-written-ends p (write-done p (writing c k cs) tree-got writes .plain) in
-        let same : ks ≡ writtenTree k cs = ap tokensOf list-got ∙ tokens-back (writtenTree k cs) legal ends in
+        let same : ks ≡ writtenTree k cs = tokens-got in
         let few : (m : ℕ) → 111 ≤ m → uses ks m ≡ false = λ m above. rw same (uses-legal legal m above) in
         record {
           parsed = p;
@@ -121,6 +118,8 @@ module _ (c : Rereading) (k : Token) (cs : Forest) (p : Parsed (c .first) k cs) 
           messageRoom = rw (messages-kept p) (call-accepted (c .first) (p .accepted) .messages);
           workRoom = rw (work-long p) workRoom;
           legalLength = legalLength;
+          legalLimit = legalLimit;
+          withinLimit = withinLimit;
         }
 
     abbrev again : ThreeCalls (c .first) (writing c k cs) (second c k cs) k cs → SameTrees (c .first) (writing c k cs) (second c k cs) k cs
@@ -151,7 +150,7 @@ module _ (c : Rereading) (k : Token) (cs : Forest) (p : Parsed (c .first) k cs) 
     unfolding handed afterWriting
     read-in-all t other = rw made (front-left (again t .parsed) ∙ (again t .allWords other ∙ sym (front-left p)))
 
-    -- A second reading that is not turned back had room.
+    -- A second reading that is not turned back had room, and was within its limit.
     accepted : refusal (second c k cs) ≡ none → HasReadBack k cs (reread c)
     unfolding handed secondCall exactCall
     accepted e =
@@ -160,7 +159,8 @@ module _ (c : Rereading) (k : Token) (cs : Forest) (p : Parsed (c .first) k cs) 
         let long : length (second c k cs .list) ≡ 5 * n = ap length list-got ∙ listWords-length (writtenTree k cs) in
         let tree : 21 * (length (second c k cs .list) / 5) ≤ length (c .again) = a .tree in
         let work : 64 * (length (second c k cs .list) / 5) + 64 ≤ length (workAfter (c .first)) = a .work in
-        read-back (calls (omega arith) (omega (arith, work-long p)) (a .sourceLength))
+        let within : tooDeep (c .limit) (writtenTree k cs) ≡ none = rw tokens-got at (a .nesting) in
+        read-back (calls (omega arith) (omega (arith, work-long p)) (a .sourceLength) (a .limit) within)
 
 -- EVERY CALL ENDS IN ONE OF THREE WAYS: the first reading gives messages, one of the calls is turned back, or the tree reads back.
 pub data Ends (c : Rereading) : Type 0 where
@@ -198,7 +198,7 @@ demand-3 c =
           let p : Parsed (c .first) k cs = record { accepted = d .accepted; reads = d .reads } in
           let tells = writer-tells p (writing c k cs) (tree-got c k cs p) .writes (d .plain) (d .few) (d .listRoom) in
           let writes = write-of-told (writing c k cs) (length (writtenTree k cs)) tells in
-          read-back c k cs p writes (calls c k cs p writes (d .treeRoom) (d .workRoom) (d .legalLength));
+          read-back c k cs p writes (calls c k cs p writes (d .treeRoom) (d .workRoom) (d .legalLength) (d .legalLimit) (d .withinLimit));
       agree = λ nodes count nodesAgain h. agree nodes count nodesAgain h (ends c);
       noMessages = λ records h. never records h (ends c);
     }
@@ -228,7 +228,7 @@ demand-3-in-all c k cs d other nodes count nodesAgain h =
     let p : Parsed (c .first) k cs = record { accepted = d .accepted; reads = d .reads } in
     let tells = writer-tells p (writing c k cs) (tree-got c k cs p) .writes (d .plain) (d .few) (d .listRoom) in
     let writes = write-of-told (writing c k cs) (length (writtenTree k cs)) tells in
-    let t = calls c k cs p writes (d .treeRoom) (d .workRoom) (d .legalLength) in
+    let t = calls c k cs p writes (d .treeRoom) (d .workRoom) (d .legalLength) (d .legalLimit) (d .withinLimit) in
     let told = told-again c k cs p writes t in
     let first : size (node k cs nil) ≡ nodes = cc in
     let second : nodesOf c k cs p writes t ≡ nodesAgain = cc in

@@ -17,6 +17,7 @@ pub mod Matching
 pub mod FirstFailure
 pub mod Words
 pub mod Legal
+pub mod Nesting
 pub mod Parse
 pub mod Plain
 pub mod Write

@@ -10,7 +10,8 @@ use lib.ListN.{length, take, replicate}
 use Rattle.molang.specs.Forest.{Token}
 use Rattle.molang.specs.Read.{uses, setNumber}
 use Rattle.molang.specs.Words.{word, listWords}
-use Rattle.molang.specs.Parse.{Call, Told, aTree, someMessages, refused, answered, inFront, treeAfter, messagesAfter, workAfter}
+use Rattle.molang.specs.Parse.{Call, mostTokens, Told, aTree, someMessages, refused, answered, inFront, treeAfter, messagesAfter}
+use Rattle.molang.specs.Parse.{workAfter}
 use Rattle.molang.specs.WriteEntry.{WriteCall, WriteTold, tokens, unwritten, writeAnswered, listAfter}
 
 -- The marks, as src/lines.rt names them. A number from `anyMark` on is a mark, and the numbers after it up to the next mark are its items;
@@ -33,6 +34,10 @@ repeatedMark = 1000000003
 -- A list to be read at a version, whose 16 bits are added to the mark.
 abbrev pub atMark : ℕ
 atMark = 1100000000
+
+-- A list to be read at 6 with a nesting limit, which is added to the mark.
+abbrev pub withinMark : ℕ
+withinMark = 1200000000
 
 -- A tree is answered.
 abbrev pub treeMark : ℕ
@@ -87,8 +92,8 @@ tokensFrom i (o ∷ os) = record { op = o; variant = 0; value = 0; start = i; en
 
 -- A call for n tokens: buffers just as long as the entry asks, and a source of length n. The work buffer is of ones and the others are of
 -- zeros: a work buffer that was cleared differs from one that was left as it was.
-unfoldable pub callFor : ℕ → List ℕ → ℕ → ℤ → Call
-callFor n list used version =
+unfoldable pub callFor : ℕ → List ℕ → ℕ → ℤ → ℕ → Call
+callFor n list used version limit =
     record {
       list = list;
       tree = replicate (21 * n) 0;
@@ -98,11 +103,16 @@ callFor n list used version =
       version = version;
       usedLow = used % 2 ^ 64;
       usedHigh = used / 2 ^ 64;
+      limit = limit;
     }
 
--- The list of these operators, read at a version under its exact used set.
+-- The list of these operators, read at a version under its exact used set with a nesting limit.
+unfoldable pub limitedCall : List ℕ → ℤ → ℕ → Call
+limitedCall os version limit = callFor (length os) (listWords (tokensFrom 0 os)) (setNumber (uses (tokensFrom 0 os)) 111) version limit
+
+-- The same with the highest limit.
 unfoldable pub listCall : List ℕ → ℤ → Call
-listCall os version = callFor (length os) (listWords (tokensFrom 0 os)) (setNumber (uses (tokensFrom 0 os)) 111) version
+listCall os version = limitedCall os version mostTokens
 
 -- Where a node of the table closes: at the digit in front of its other eight, or at its own end.
 unfoldable pub closeIn : ℕ → ℕ
@@ -140,7 +150,7 @@ pub data Asked : Type 0 where
 -- So many words 0.
 unfoldable pub zerosCall : List ℕ → Asked
 zerosCall [] = unclear
-zerosCall (n ∷ []) = parse (callFor (n / 5) (replicate n 0) 0 (pos 6) ∷ [])
+zerosCall (n ∷ []) = parse (callFor (n / 5) (replicate n 0) 0 (pos 6) mostTokens ∷ [])
 zerosCall (n ∷ m ∷ ms) = unclear
 
 -- So many tokens of one operator, all at the span 0 to 0.
@@ -149,21 +159,25 @@ repeatedCall [] = unclear
 repeatedCall (n ∷ []) = unclear
 repeatedCall (n ∷ o ∷ []) =
     let k : Token = record { op = o; variant = 0; value = 0; start = 0; end = 0; close = 0 } in
-    parse (callFor n (listWords (replicate n k)) (2 ^ o) (pos 6) ∷ [])
+    parse (callFor n (listWords (replicate n k)) (2 ^ o) (pos 6) mostTokens ∷ [])
 repeatedCall (n ∷ o ∷ m ∷ ms) = unclear
 
--- A line that names no version is read at 4, 5 and 6.
+-- A line that names neither a version nor a limit is read at 4, 5 and 6.
 unfoldable pub askedOf : Marked → Asked
 askedOf m =
-    elim (leb atMark (m .mark)) [
-      | true ↦ parse (listCall (m .items) (versionOf (m .mark - atMark)) ∷ [])
+    elim (leb withinMark (m .mark)) [
+      | true ↦ parse (limitedCall (m .items) (pos 6) (m .mark - withinMark) ∷ [])
       | false ↦
-          elim (eqb (m .mark) anyMark) [
-            | true ↦ parse (listCall (m .items) (pos 4) ∷ listCall (m .items) (pos 5) ∷ listCall (m .items) (pos 6) ∷ [])
+          elim (leb atMark (m .mark)) [
+            | true ↦ parse (listCall (m .items) (versionOf (m .mark - atMark)) ∷ [])
             | false ↦
-                elim (eqb (m .mark) writeMark) [
-                  | true ↦ write (treeCall (m .items))
-                  | false ↦ elim (eqb (m .mark) zerosMark) [ true ↦ zerosCall (m .items) | false ↦ repeatedCall (m .items) ]
+                elim (eqb (m .mark) anyMark) [
+                  | true ↦ parse (listCall (m .items) (pos 4) ∷ listCall (m .items) (pos 5) ∷ listCall (m .items) (pos 6) ∷ [])
+                  | false ↦
+                      elim (eqb (m .mark) writeMark) [
+                        | true ↦ write (treeCall (m .items))
+                        | false ↦ elim (eqb (m .mark) zerosMark) [ true ↦ zerosCall (m .items) | false ↦ repeatedCall (m .items) ]
+                      ]
                 ]
           ]
     ]

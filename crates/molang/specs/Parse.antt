@@ -1,7 +1,7 @@
 -- The parse entry: what a call is given, where it is turned back (document 01, 'Where the entry turns a call back', answers 1-11 in the
--- table's order), what it answers and what it leaves in each lent buffer.
+-- table's order, and 17 and 18 of document 02's card 8), what it answers and what it leaves in each lent buffer.
 use Prim.Native.Nat.{ℕ, _+_, _*_, _/_, _%_, _^_}
-use mathlib.Core.Bool.{Bool}
+use mathlib.Core.Bool.{Bool, _&&_}
 use mathlib.Core.List.{List, [], _∷_, _++_}
 use mathlib.Core.Option.{Option, none, some}
 use lib.Dec.{eqb, leb, ltb}
@@ -11,7 +11,8 @@ use Rattle.molang.specs.Forest.{nil, node, size}
 use Rattle.molang.specs.Message.{Message, messageRecord}
 use Rattle.molang.specs.Read.{Answer, tree, messages, read}
 use Rattle.molang.specs.FirstFailure.{must, firstOf}
-use Rattle.molang.specs.Words.{Refusal, row, operatorField, wordsRefusal, tokensOf, treeWords}
+use Rattle.molang.specs.Words.{Refusal, row, withNumber, operatorField, wordsRefusal, tokensOf, treeWords}
+use Rattle.molang.specs.Nesting.{tooDeep}
 
 -- What a call is given.
 pub record Call : Type 0 where
@@ -23,6 +24,7 @@ pub record Call : Type 0 where
   pub version : ℤ
   pub usedLow : ℕ
   pub usedHigh : ℕ
+  pub limit : ℕ
 
 -- The operator's bit in the used set's two halves of 64 bits.
 unfoldable pub inHalves : ℕ → ℕ → ℕ → Bool
@@ -31,6 +33,10 @@ inHalves low high n = eqb ((high * 2 ^ 64 + low) / 2 ^ n % 2) 1
 -- The most tokens of a list.
 abbrev pub mostTokens : ℕ
 mostTokens = 4096
+
+-- A nesting limit is 1 to 4,096.
+unfoldable pub isLimit : ℕ → Bool
+isLimit limit = leb 1 limit && leb limit mostTokens
 
 -- The table, from the top; the first failure wins.
 unfoldable pub refusal : Call → Option Refusal
@@ -44,7 +50,9 @@ refusal c =
     ∷ must (leb (64 * tokens + 64) (length (c .work))) (row 5 0)
     ∷ must (ltb (c .usedHigh * 2 ^ 64 + c .usedLow) (2 ^ 111)) (row 6 0)
     ∷ must (leb (c .sourceLength) 536870911) (row 7 0)
+    ∷ must (isLimit (c .limit)) (row 17 0)
     ∷ wordsRefusal 0 operatorField 0 (c .list)
+    ∷ withNumber 18 (tooDeep (c .limit) (tokensOf (c .list)))
     ∷ [])
 
 -- The reading of a list that is not turned back.

@@ -3,7 +3,7 @@
 -- Then the demand itself.
 use Prim.Native.Nat.{ℕ, _+_, _*_, _/_, _%_, _^_, _≤_}
 use mathlib.Core.Path.{_≡_}
-use mathlib.Core.Bool.{false}
+use mathlib.Core.Bool.{true, false}
 use mathlib.Core.List.{List, []}
 use mathlib.Core.Option.{none}
 use lib.IntN.{ℤ}
@@ -11,7 +11,8 @@ use lib.ListN.{length, take}
 use Rattle.molang.specs.Forest.{Token, Forest, nil, node, size}
 use Rattle.molang.specs.Read.{tree, uses, setNumber}
 use Rattle.molang.specs.Words.{tokensOf, listWords, treeWords}
-use Rattle.molang.specs.Parse.{Call, mostTokens, refusal, reading, Told, aTree, someMessages, refused, answered, treeAfter}
+use Rattle.molang.specs.Nesting.{tooDeep}
+use Rattle.molang.specs.Parse.{Call, mostTokens, isLimit, refusal, reading, Told, aTree, someMessages, refused, answered, treeAfter}
 use Rattle.molang.specs.Parse.{messagesAfter, workAfter}
 use Rattle.molang.specs.Plain.{unplainAt}
 use Rattle.molang.specs.Write.{writtenTree, takenAway, comparable}
@@ -19,16 +20,17 @@ use Rattle.molang.specs.WriteEntry.{treesOf, WriteCall, WriteTold, token
 
 -- ---- The three calls
 
--- What the function is lent and given: the first reading's call, the list to write, and the second reading's tree buffer, source length and
--- version. Messages and work are lent once, for both readings.
+-- What the function is lent and given: the first reading's call, the list to write, and the second reading's tree buffer, source length,
+-- version and nesting limit. Messages and work are lent once, for both readings.
 pub record Rereading : Type 0 where
   pub first : Call
   pub written : List ℕ
   pub again : List ℕ
   pub sourceLength : ℕ
   pub version : ℤ
+  pub limit : ℕ
 
--- What the first reading hands on: each buffer as it is then, and the second reading's source length and version.
+-- What the first reading hands on: each buffer as it is then, and the second reading's source length, version and nesting limit.
 pub record Handed : Type 0 where
   pub tree : List ℕ
   pub written : List ℕ
@@ -37,6 +39,7 @@ pub record Handed : Type 0 where
   pub work : List ℕ
   pub sourceLength : ℕ
   pub version : ℤ
+  pub limit : ℕ
 
 -- Nobody else writes a buffer in between.
 unfoldable pub handed : Rereading → Handed
@@ -49,6 +52,7 @@ handed c =
       work = workAfter (c .first);
       sourceLength = c .sourceLength;
       version = c .version;
+      limit = c .limit;
     }
 
 -- The writer gets the tree of so many nodes as the first reading gave it.
@@ -56,8 +60,8 @@ unfoldable pub writerCall : Handed → ℕ → WriteCall
 writerCall h nodes = record { tree = take (7 * nodes) (h .tree); list = h .written }
 
 -- The call that reads a list with each operator of its tokens and no other.
-unfoldable pub exactCall : List ℕ → List ℕ → List ℕ → List ℕ → ℕ → ℤ → Call
-exactCall list again messages work sourceLength version =
+unfoldable pub exactCall : List ℕ → List ℕ → List ℕ → List ℕ → ℕ → ℤ → ℕ → Call
+exactCall list again messages work sourceLength version limit =
     let used = setNumber (uses (tokensOf list)) 111 in
     record {
       list = list;
@@ -68,12 +72,14 @@ exactCall list again messages work sourceLength version =
       version = version;
       usedLow = used % 2 ^ 64;
       usedHigh = used / 2 ^ 64;
+      limit = limit;
     }
 
 -- The second reading gets exactly the tokens written, of which there are `count`.
 unfoldable pub secondCall : Handed → ℕ → ℕ → Call
 secondCall h nodes count =
     exactCall (take (5 * count) (listAfter (writerCall h nodes))) (h .again) (h .messages) (h .work) (h .sourceLength) (h .version)
+    (h .limit)
 
 -- ---- What is told and left
 
@@ -135,8 +141,8 @@ unfoldable pub bracketless : List ℕ → List ℕ
 bracketless ws = treeWords (comparable (takenAway false (treesOf ws) nil))
 
 -- What demand 3 asks of a call: the first reading is not turned back and gives the tree k over cs, which is plain; what is written of it
--- has at most 4,096 tokens, and the lent buffers and the second source length are such as the table asks. (The first call asked for the
--- message room.)
+-- has at most 4,096 tokens and is within the second limit, and the lent buffers, the second source length and the second limit are such as
+-- the table asks. (The first call asked for the message room.)
 pub record CanReadBack (c : Rereading) (k : Token) (cs : Forest) : Type 0 where
   pub accepted : refusal (c .first) ≡ none
   pub reads : reading (c .first) ≡ tree k cs
@@ -146,6 +152,8 @@ pub record CanReadBack (c : Rereading) (k : Token) (cs : Forest) : Type 0 where
   pub treeRoom : 21 * length (writtenTree k cs) ≤ length (c .again)
   pub workRoom : 64 * length (writtenTree k cs) + 64 ≤ length (c .first .work)
   pub legalLength : c .sourceLength ≤ 536870911
+  pub legalLimit : isLimit (c .limit) ≡ true
+  pub withinLimit : tooDeep (c .limit) (writtenTree k cs) ≡ none
 
 -- What comes of it: both node counts and the token count are told, the list opens with what is written of the tree, and with brackets taken
 -- away the two trees have the same words in the same order.

@@ -5,6 +5,7 @@
 //
 // - `ANY`, operators: the list read at 4, 5 and 6 alike, and so at every version (proofs/Versions.antt). `AT + v`, operators: read at
 //   version v, 16 bits in two's complement.
+//   `WITHIN + l`, operators: read at 6 with the nesting limit l; every other list is read with the highest, 4,096.
 //   The token at place i has span i to i + 1 and payload 0; the used set is exact, the source as long as the list.
 // - `WRITE`, nodes: the tree is written, into a list with room for three tokens a node.
 // - `ZEROS`, n: a list of n words 0. `REPEATED`, n, operator: a list of n such tokens, all at the span 0 to 0. Both read at 6.
@@ -26,6 +27,8 @@ pub const ZEROS: u32 = 1_000_000_002;
 pub const REPEATED: u32 = 1_000_000_003;
 
 pub const AT: u32 = 1_100_000_000;
+
+pub const WITHIN: u32 = 1_200_000_000;
 
 pub const TREE: u32 = 2_000_000_000;
 
@@ -109,7 +112,9 @@ const RETURN: u32 = 74;
 
 const COMMA: u32 = 75;
 
-pub const COUNT: usize = 1098;
+const NO_OPERATOR: u32 = 111;
+
+pub const COUNT: usize = 1167;
 
 pub const LINES: [u32; COUNT] = [
     // * empty: message 1
@@ -1324,19 +1329,96 @@ pub const LINES: [u32; COUNT] = [
     REFUSED,
     12,
     7,
+    // `( a )` within 1: 4(a)
+    WITHIN + 1,
+    OPEN,
+    A,
+    CLOSE,
+    TREE,
+    3_004_1_00_01,
+    61_0_01_02,
+    // `( ( a ) )` within 1: refused 18 1
+    WITHIN + 1,
+    OPEN,
+    OPEN,
+    A,
+    CLOSE,
+    CLOSE,
+    REFUSED,
+    18,
+    1,
+    // `( a ] ( b )` within 1: message 4, then message 5 (a closer that does not match takes one too)
+    WITHIN + 1,
+    OPEN,
+    A,
+    CLOSE_SQUARE,
+    OPEN,
+    B,
+    CLOSE,
+    MESSAGE,
+    4_00_03,
+    1,
+    4,
+    5,
+    3,
+    2,
+    MESSAGE,
+    5_00_01,
+    5,
+    4,
+    // `) ( a )` within 1: message 1
+    WITHIN + 1,
+    CLOSE,
+    OPEN,
+    A,
+    CLOSE,
+    MESSAGE,
+    1_00_03,
+    2,
+    // `) ( ( a ) )` within 1: refused 18 2 (a closer with nothing open takes none)
+    WITHIN + 1,
+    CLOSE,
+    OPEN,
+    OPEN,
+    A,
+    CLOSE,
+    CLOSE,
+    REFUSED,
+    18,
+    2,
+    // `( ( 111` within 1: refused 9 10 (the words come first)
+    WITHIN + 1,
+    OPEN,
+    OPEN,
+    NO_OPERATOR,
+    REFUSED,
+    9,
+    10,
+    // `111` within 0: refused 17 0 (the limit comes before the words)
+    WITHIN,
+    NO_OPERATOR,
+    REFUSED,
+    17,
+    0,
+    // `a` within 4,097: refused 17 0
+    WITHIN + 4_097,
+    A,
+    REFUSED,
+    17,
+    0,
 ];
 
 // The table, with each of its lines answered by the definition as it says. A constant has no name in proofs/: what is shown of it is shown
 // of the function that hands it out.
 fn numbers() -> [u32; COUNT]
-    ensures { λ r. ⌜ Answered r × (lineCount r ≡ 114) ⌝ }
+    ensures { λ r. ⌜ Answered r × (lineCount r ≡ 122) ⌝ }
 {
     LINES
 }
 
 // The table; each of its lines also says what its calls leave in the work buffer.
 pub fn table() -> [u32; COUNT]
-    ensures { λ r. ⌜ Answered r × WorkAnswered r × (lineCount r ≡ 114) ⌝ }
+    ensures { λ r. ⌜ Answered r × WorkAnswered r × (lineCount r ≡ 122) ⌝ }
 {
     numbers()
 }

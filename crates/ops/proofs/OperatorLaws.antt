@@ -4,8 +4,8 @@ use mathlib.Core.Path.{_≡_, refl, subst}
 use mathlib.Core.Bool.{Bool, true, false, not, _&&_, _||_, Bool·beq}
 use mathlib.Core.List.{List, [], _∷_, _++_}
 use mathlib.Core.Logic.{inl, inr, ⊎-elim}
-use mathlib.Core.Option.{none}
-use Prim.Native.Nat.{ℕ, zero, suc, _+_, _<_, _≤_}
+use mathlib.Core.Option.{Option, none, some}
+use Prim.Native.Nat.{ℕ, zero, suc, _+_, _-_, _<_, _≤_}
 use native.Mathlib.Nat.{eq-or-lt-of-le}
 use native.Mathlib.Omega.{arith}
 use lib.Dec.{T, eqb}
@@ -15,7 +15,9 @@ use Rattle.molang.specs.Operator.{leftBrace, rightBrace, leftBracket, leftParen
 use Rattle.molang.specs.Operator.{lessEqual, greaterEqual, greaterThan, logicalEqual, logicalNotEqual, logicalOr, logicalAnd}
 use Rattle.molang.specs.Operator.{nullCoalescing, conditional, conditionalElse, loop, forEach, break, continue, assignment, semicolon}
 use Rattle.molang.specs.Operator.{return, comma, expressionArray, any, isOneOf, closingOf, BeforeMinus, operand, operator, minus, unknown}
-use Rattle.molang.specs.Operator.{beforeMinus}
+use Rattle.molang.specs.Operator.{isCloser, beforeMinus}
+use Rattle.molang.specs.Nesting.{openAfter}
+use Rattle.ops.specs.Operators.{raiseOf}
 
 -- The test passes at the k numbers from lo on.
 abbrev pub passes : (ℕ → Bool) → ℕ → ℕ → Bool
@@ -96,6 +98,27 @@ unfolding closingOf
 no-closer n a =
     rw (ne-eqb n leftBrace (a .0), closingOf)
     (rw (ne-eqb n leftBracket (a .1 .0), closingOf) (rw (ne-eqb n leftParenthesis (a .1 .1 .0), closingOf)))
+
+-- No operator adds more than one, and the count after it is by what it adds.
+pub raise-few : (n : ℕ) → raiseOf n ≤ 2
+unfolding raiseOf
+raise-few n = split (closingOf n) (isCloser n)
+  where
+    split : (o : Option ℕ) (b : Bool) → elim o [ some c ↦ 2 | none ↦ elim b [ true ↦ 0 | false ↦ 1 ] ] ≤ 2
+    split (some c) b = omega arith
+    split none true = omega arith
+    split none false = omega arith
+
+pub open-raised : (depth n : ℕ) → openAfter depth n ≡ depth + raiseOf n - 1
+unfolding openAfter raiseOf
+open-raised depth n = split (closingOf n) (isCloser n)
+  where
+    split : (o : Option ℕ) (b : Bool)
+        → elim o [ some c ↦ suc depth | none ↦ elim b [ true ↦ depth - 1 | false ↦ depth ] ]
+        ≡ depth + elim o [ some c ↦ 2 | none ↦ elim b [ true ↦ 0 | false ↦ 1 ] ] - 1
+    split (some c) b = omega arith
+    split none true = omega arith
+    split none false = omega arith
 
 -- What stands before a minus: the operators on a range, and an operand where a number is none of the others.
 abbrev isOperator : BeforeMinus → Bool

@@ -1,6 +1,6 @@
-// What is known of an operator by its number: its name, its classes, its closer, what it makes of a minus after it; sets of
-// operators, and the version that the rules use. Leans on nothing; follows op.rs, set.rs, version/mod.rs and the helpers
-// of the parse modules.
+// What is known of an operator by its number: its name, its classes, its closer, how many brackets are open after it, what it makes of a
+// minus after it; sets of operators, and the version that the rules use. Leans on nothing; follows op.rs, set.rs, version/mod.rs and the
+// helpers of the parse modules.
 pub mod classes;
 pub mod op;
 pub mod sets;
@@ -8,9 +8,11 @@ pub mod version;
 
 ghost use mathlib.Core.Path.{_≡_};
 ghost use mathlib.Core.Option.{Option·getD};
+ghost use Prim.Native.Nat.{_+_, _^_, _<_};
 ghost use Rattle.molang.specs.Operator.{closingOf, isCloser, hasMembers, isMathCall, beforeMinus};
 ghost use Rattle.molang.specs.Statements.{isEntered};
-ghost use Rattle.ops.specs.Operators.{isOpener, meant};
+ghost use Rattle.molang.specs.Nesting.{openAfter};
+ghost use Rattle.ops.specs.Operators.{isOpener, raiseOf, meant};
 
 // Whether op opens a section.
 pub fn is_opener(op: u32) -> bool
@@ -42,6 +44,29 @@ pub fn closer_of(op: u32) -> u32
         op::LEFT_PARENTHESIS => op::RIGHT_PARENTHESIS,
         _ => 0,
     }
+}
+
+// What op adds to the number of open brackets, and one: an opener 2, a closer 0, anything else 1. The brackets are the operators 0 to 5,
+// the openers the even ones. It is computed without a branch: brackets come in no order that a processor could foretell.
+fn raise_of(op: u32) -> usize
+    ensures { λ r. ⌜ r ≡ raiseOf op ⌝ }
+{
+    if op <= op::RIGHT_PARENTHESIS {
+        return (2 - 2 * (op % 2)) as usize;
+    }
+    1
+}
+
+// How many brackets are open after op, where so many are open before it.
+pub fn open_after(depth: usize, op: u32) -> usize
+    requires { ⌜ depth + 2 < 2 ^ 64 ⌝ }
+    ensures { λ r. ⌜ r ≡ openAfter depth op ⌝ }
+{
+    let raised = depth + raise_of(op);
+    if raised == 0 {
+        return 0;
+    }
+    raised - 1
 }
 
 // Whether a member accessor takes what stands before it as its child.

@@ -15,8 +15,8 @@ toldOf (Messages records) = someMessages records
 toldOf (Refused number place) = refused number place
 
 -- A call of the parse entry, in the order of its parameters.
-abbrev pub call : List ℕ → List ℕ → List ℕ → List ℕ → ℕ → ℤ → ℕ → ℕ → Call
-call list tree messages work sourceLength version usedLow usedHigh =
+abbrev pub call : List ℕ → List ℕ → List ℕ → List ℕ → ℕ → ℤ → ℕ → ℕ → ℕ → Call
+call list tree messages work sourceLength version usedLow usedHigh limit =
     record {
       list = list;
       tree = tree;
@@ -26,6 +26,7 @@ call list tree messages work sourceLength version usedLow usedHigh =
       version = version;
       usedLow = usedLow;
       usedHigh = usedHigh;
+      limit = limit;
     }
 
 -- THE ENTRY'S PROMISE: what the caller is told by the answer r, and what each lent buffer holds after the call.

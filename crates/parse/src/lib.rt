@@ -105,7 +105,7 @@ fn read(
     fill(work, tree, messages, n, source, grouped)
 }
 
-// The entry. The version is raw, the used set comes in two halves.
+// The entry. The version is raw, the used set comes in two halves, and no more brackets may be open than `limit`.
 pub fn parse(
     list: &[u32],
     tree: &mut [u32],
@@ -115,10 +115,11 @@ pub fn parse(
     version: i16,
     used_low: u64,
     used_high: u64,
+    limit: u32,
 ) -> Answer
     ensures { λ r. ⌜ HasParsed
         (call (now (list .entry)) (now (tree .entry)) (now (messages .entry)) (now (work .entry))
-        «source_length» version «used_low» «used_high»)
+        «source_length» version «used_low» «used_high» limit)
         r (now (tree .exit)) (now (messages .exit)) (now (work .exit)) ⌝ }
 {
     let used = OpSet {
@@ -131,7 +132,7 @@ pub fn parse(
         work: work.len(),
         source: source_length,
     };
-    let accepted = accept(list, sizes, used);
+    let accepted = accept(list, sizes, used, limit);
     match accepted {
         Accepted::Refused(number, place) => Answer::Refused(number, place),
         Accepted::Tokens(n) => {

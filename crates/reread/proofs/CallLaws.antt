@@ -36,9 +36,10 @@ module _ (list : List ℕ) (can : CanRead list) (low high : ℕ) (fits : low < 2
       (λ n. bits n ∙ own-operators n)
 
   pub exact-call : (tree messages work : List ℕ) (sourceLength : ℕ) {passed version : ℤ} → passed ≡ version
-      → call list tree messages work sourceLength passed low high ≡ exactCall list tree messages work sourceLength version
+      → (limit : ℕ)
+      → call list tree messages work sourceLength passed low high limit ≡ exactCall list tree messages work sourceLength version limit
   unfolding exactCall
-  exact-call tree messages work sourceLength v = let e = own-halves in rw (v, e .0, e .1) refl
+  exact-call tree messages work sourceLength v limit = let e = own-halves in rw (v, e .0, e .1) refl
 
 -- A promise of the parse entry about a call is one about the same call.
 pub same-call : {c d : Call} → c ≡ d → {r : Answer} {tree messages work : List ℕ} → HasParsed c r tree messages work
@@ -71,8 +72,8 @@ module _ (h : Handed) (nodes : ℕ) (list : List ℕ) (left : list ≡ listAfter
   -- What it wrote is read.
   pub has-written : (count : ℕ) → tokens count ≡ writeAnswered (writerCall h nodes)
       → (r : Outcome) {second : Answer} {again messages work : List ℕ}
-      → HasParsed (exactCall (take (5 * count) list) (h .again) (h .messages) (h .work) (h .sourceLength) (h .version)) second
-      again messages work
+      → HasParsed (exactCall (take (5 * count) list) (h .again) (h .messages) (h .work) (h .sourceLength) (h .version) (h .limit))
+      second again messages work
       → rereadOf r ≡ secondTold nodes count (toldOf second)
       → leftOf r (h .tree) list again messages work ≡ afterFirst h (aTree nodes)
   unfolding afterFirst afterWriting secondCall
@@ -83,7 +84,7 @@ module _ (h : Handed) (nodes : ℕ) (list : List ℕ) (left : list ≡ listAfter
 -- What the first call told and left is handed on, and so the three calls are made.
 pub has-reread : (c : Rereading) {first : Answer} {tree messages work : List ℕ} → HasParsed (c .first) first tree messages work
     → {passed : ℤ} → passed ≡ c .version → {l : RereadLeft}
-    → l ≡ afterFirst (handedOf tree (c .written) (c .again) messages work (c .sourceLength) passed) (toldOf first)
+    → l ≡ afterFirst (handedOf tree (c .written) (c .again) messages work (c .sourceLength) passed (c .limit)) (toldOf first)
     → HasReread c l
 unfolding reread handed
 has-reread c p v {l} e =

@@ -20,8 +20,8 @@ leftOf r tree written again messages work =
     record { told = rereadOf r; tree = tree; written = written; again = again; messages = messages; work = work }
 
 -- What `after_first` and `write_and_read` are lent and given.
-abbrev pub handedOf : List ℕ → List ℕ → List ℕ → List ℕ → List ℕ → ℕ → ℤ → Handed
-handedOf tree written again messages work sourceLength version =
+abbrev pub handedOf : List ℕ → List ℕ → List ℕ → List ℕ → List ℕ → ℕ → ℤ → ℕ → Handed
+handedOf tree written again messages work sourceLength version limit =
     record {
       tree = tree;
       written = written;
@@ -30,9 +30,10 @@ handedOf tree written again messages work sourceLength version =
       work = work;
       sourceLength = sourceLength;
       version = version;
+      limit = limit;
     }
 
 -- What `reread` is lent and given, after the first call.
-abbrev pub rereading : Call → List ℕ → List ℕ → ℕ → ℤ → Rereading
-rereading first written again sourceLength version =
-    record { first = first; written = written; again = again; sourceLength = sourceLength; version = version }
+abbrev pub rereading : Call → List ℕ → List ℕ → ℕ → ℤ → ℕ → Rereading
+rereading first written again sourceLength version limit =
+    record { first = first; written = written; again = again; sourceLength = sourceLength; version = version; limit = limit }

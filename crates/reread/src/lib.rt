@@ -40,10 +40,11 @@ fn read_exactly(
     work: &mut [u32],
     source_length: u64,
     version: i16,
+    limit: u32,
 ) -> Answer
     requires { ⌜ CanRead (now list) ⌝ }
     ensures { λ r. ⌜ HasParsed
-        (exactCall (now (list .entry)) (now (tree .entry)) (now (messages .entry)) (now (work .entry)) «source_length» version)
+        (exactCall (now (list .entry)) (now (tree .entry)) (now (messages .entry)) (now (work .entry)) «source_length» version limit)
         r (now (tree .exit)) (now (messages .exit)) (now (work .exit)) ⌝ }
 {
     let used = used_of(list);
@@ -56,6 +57,7 @@ fn read_exactly(
         version,
         used.low,
         used.high,
+        limit,
     )
 }
 
@@ -81,12 +83,13 @@ fn write_and_read(
     nodes: usize,
     source_length: u64,
     version: i16,
+    limit: u32,
 ) -> Outcome
     requires { ⌜ CanGoOn (aTree nodes) (now tree) ⌝ }
     ensures { λ r. ⌜ leftOf r (now (tree .entry)) (now (written .exit)) (now (again .exit)) (now (messages .exit)) (now (work .exit))
         ≡ afterFirst
         (handedOf (now (tree .entry)) (now (written .entry)) (now (again .entry)) (now (messages .entry)) (now (work .entry))
-        «source_length» version)
+        «source_length» version limit)
         (aTree nodes) ⌝ }
 {
     let words = fields::NODE_WORDS * nodes;
@@ -102,6 +105,7 @@ fn write_and_read(
                 work,
                 source_length,
                 version,
+                limit,
             );
             after_second(nodes, count, second)
         }
@@ -118,12 +122,13 @@ fn after_first(
     work: &mut [u32],
     source_length: u64,
     version: i16,
+    limit: u32,
 ) -> Outcome
     requires { ⌜ CanGoOn (toldOf first) (now tree) ⌝ }
     ensures { λ r. ⌜ leftOf r (now (tree .entry)) (now (written .exit)) (now (again .exit)) (now (messages .exit)) (now (work .exit))
         ≡ afterFirst
         (handedOf (now (tree .entry)) (now (written .entry)) (now (again .entry)) (now (messages .entry)) (now (work .entry))
-        «source_length» version)
+        «source_length» version limit)
         (toldOf first) ⌝ }
 {
     match first {
@@ -138,11 +143,12 @@ fn after_first(
             nodes,
             source_length,
             version,
+            limit,
         ),
     }
 }
 
-// The three calls over lent buffers. The messages and the work buffer serve both readings.
+// The three calls over lent buffers. The messages and the work buffer serve both readings; each reading has its nesting limit.
 pub fn reread(
     list: &[u32],
     tree: &mut [u32],
@@ -154,14 +160,16 @@ pub fn reread(
     version: i16,
     used_low: u64,
     used_high: u64,
+    limit: u32,
     source_length_again: u64,
     version_again: i16,
+    limit_again: u32,
 ) -> Outcome
     ensures { λ r. ⌜ HasReread
         (rereading
         (call (now (list .entry)) (now (tree .entry)) (now (messages .entry)) (now (work .entry))
-        «source_length» version «used_low» «used_high»)
-        (now (written .entry)) (now (again .entry)) «source_length_again» «version_again»)
+        «source_length» version «used_low» «used_high» limit)
+        (now (written .entry)) (now (again .entry)) «source_length_again» «version_again» «limit_again»)
         (leftOf r (now (tree .exit)) (now (written .exit)) (now (again .exit)) (now (messages .exit)) (now (work .exit))) ⌝ }
 {
     let first = parse(
@@ -173,6 +181,7 @@ pub fn reread(
         version,
         used_low,
         used_high,
+        limit,
     );
     after_first(
         first,
@@ -183,5 +192,6 @@ pub fn reread(
         work,
         source_length_again,
         version_again,
+        limit_again,
     )
 }

@@ -1,6 +1,6 @@
--- The definition one token at a time: which case of `members`, `bracket`, `closing` and `sections` it is, by what is known of the token.
--- And what is known of openers: they are leaves of a flat list, in no class.
-use Prim.Native.Nat.{ℕ, _+_, _<_}
+-- The definition one token at a time: which case of `members`, `bracket`, `openAfter`, `closing` and `sections` it is, by what is known of
+-- the token. And what is known of openers: they are leaves of a flat list, in no class.
+use Prim.Native.Nat.{ℕ, suc, _+_, _-_, _<_}
 use mathlib.Core.Path.{_≡_, refl, sym, ap, _∙_}
 use mathlib.Core.Logic.{_≢_, _⊎_, inl, inr, ⊎-elim}
 use mathlib.Core.Bool.{Bool, true, false, true≢false}
@@ -15,6 +15,7 @@ use Rattle.molang.specs.Forest.{Token, Forest, nil, node, inOrder, closedBy}
 use Rattle.molang.specs.Message.{Message, leadingMemberAccessor, closingMismatch, sectionNotClosed, fail, closer}
 use Rattle.molang.specs.Sections.{withMember, members, Open, section, placed, position, outermost, Walked, going, mismatch, closing}
 use Rattle.molang.specs.Sections.{bracket, sections}
+use Rattle.molang.specs.Nesting.{openAfter}
 use Rattle.molang.specs.Free.{flat}
 use Rattle.molang.proofs.Trees.{both, and-true-true}
 use Rattle.ops.specs.Operators.{isOpener}
@@ -141,6 +142,11 @@ pub bracket-places : (k : Token) (cs : Forest) (i : ℕ) (s : Open) → isOpener
 unfolding bracket
 bracket-places k cs i s h e =
     missed (closingOf (k .op)) (λ z. going (section k (i + 1) nil s)) _ (other-closes (k .op) h) ∙ passed (isCloser (k .op)) _ _ e
+
+-- any closer takes one of the open brackets
+pub closer-open : (depth n : ℕ) → isOpener n ≡ false → isCloser n ≡ true → openAfter depth n ≡ depth - 1
+unfolding openAfter
+closer-open depth n h e = missed (closingOf n) (λ c. suc depth) _ (other-closes n h) ∙ taken (isCloser n) _ _ e
 
 pub closing-takes : (k o : Token) (cs d : Forest) (i j : ℕ) (s : Open) → closer o ≡ k .op
     → closing k cs i (section o j d s) ≡ going (placed (closedBy k o) (inOrder d) s)

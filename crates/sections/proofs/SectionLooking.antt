@@ -13,7 +13,9 @@ use Rattle.molang.specs.Forest.{Token, Forest, nil, node, inOrder, closedBy}
 use Rattle.molang.specs.Message.{closingMismatch, sectionNotClosed, closer}
 use Rattle.molang.specs.Words.{word}
 use Rattle.molang.specs.Sections.{Open, outside, section, placed, position, outermost, Walked, going, mismatch, closing, bracket}
+use Rattle.molang.specs.Nesting.{openAfter}
 use Rattle.molang.proofs.Trees.{decided}
+use Rattle.molang.proofs.OpenCount.{bracket-depth}
 use Rattle.ops.specs.Operators.{isOpener}
 use Rattle.nodes.specs.Store.{wd, slotStart, slotEnd, closeWord, TokenAt, reserve, Seg, Out, RepF, RepT, Owned, InArray, Free}
 use Rattle.nodes.specs.Slots.{opAt, endAt}
@@ -23,7 +25,7 @@ use Rattle.nodes.proofs.Tokens.{token-closed}
 use Rattle.nodes.proofs.Store.{reserve-pos, rep-lower, rep-raise, tree-below, tree-out, back-le, back-avoid}
 use Rattle.nodes.proofs.Keeping.{free-above, free-part, tree-beside, give-kept}
 use Rattle.nodes.proofs.Trees.{tree-op, array-give, owned-tree, owned-leaf, owned-store, give-owned, give-token}
-use Rattle.sections.specs.Flat.{Opener, Standing, outer, inner, LookAt, Follows, on, ends, Closed, Named}
+use Rattle.sections.specs.Flat.{Opener, Standing, outer, inner, LookAt, Follows, on, ends, Closed, Looked, Named}
 use Rattle.levels.specs.Failures.{mismatched}
 use Rattle.levels.specs.declared.failure.Unclosed.{Unclosed}
 use Rattle.sections.specs.declared.Reached.{Reached}
@@ -97,12 +99,12 @@ innermost-op : {W X : List ℕ} {base marks l m k' w' k i : ℕ} {o : Token} (x 
 innermost-op x p ep = rw (ep, innermost-slot x) (tree-op (x .leaf))
 
 -- the closer is another one's
-pub close-differs : {W X : List ℕ} {base marks lo l m k w item : ℕ} {s : Open} {t : Token} {cs : Forest}
+pub close-differs : {W X : List ℕ} {base marks lo l m k w item depth : ℕ} {s : Open} {t : Token} {cs : Forest}
     → Standing W X base marks lo l k w s → k ≢ 0 → RepT W X item l m t cs
     → (p x y i : ℕ) (u : Unclosed) → p ≡ wd W (marks + 2 * (k - 1)) → x ≡ Option·getD (closingOf (opAt W (wd W (base + p)))) 0
     → y ≡ opAt W item → x ≢ y → Named W base marks k u
-    → Follows W X base marks lo m w i (Differs (record { opener = u .inner; start = u .start; closer = item; index = i; outer = u .outer }))
-    (closing t cs i s)
+    → Follows W X base marks lo m w i
+    (Differs (record { opener = u .inner; start = u .start; closer = item; index = i; outer = u .outer }) depth) (closing t cs i s)
 unfolding closer
 close-differs (outer v e) n tree p x y i u ep ex ey h a = absurd (n e)
 close-differs {t = t} {cs = cs} (inner {i = j} {o = o} {d = d} {s = s'} st z v e) n tree p x y i u ep ex ey h a =
@@ -159,7 +161,7 @@ close-takes {W} {X} {base} {marks} {lo} {l} {m} {k} {w} {item} {t = t} {cs = cs}
     standing-place before (taken .tree) (above (base + w') (omega arith) ∙ z .slot) in
     let is : closer o ≡ t .op = sym (ap (λ (q : ℕ). Option·getD (closingOf q) 0) (innermost-op z p ep)) ∙ sym ex ∙ h ∙ ey ∙ tree-op tree in
     let all : Standing W' X base marks lo m (k - 1) (p + 1) (placed (closedBy t o) (inOrder d) s') = rw (place, level) after in (
-      rw (closing-takes t o cs d i j s' is) (on all (standing-depth all) (fewer r place e) refl),
+      rw (closing-takes t o cs d i j s' is) (on all (fewer r place e) refl),
       λ j f. taken .same j (free-part X lo m l' m j sl (le-refl m) f),
     )
 
@@ -180,6 +182,23 @@ close-closed {W} {base} {marks} {k} {w} {item} n p x y i W1 W' ep ex ey h a clos
     takes g = close-takes (g .standing) n (g .tree) (g .below) (g .apart) p x y i W1 W' ep ex ey h a close room
 
 -- ---- `look`
+
+-- The walk goes on after a token.
+pub record Went (W X : List ℕ) (base marks lo hi w i : ℕ) (a : Reached) (x : Walked) : Type 0 where
+  pub t : Open
+  pub is : x ≡ going t
+  pub standing : Standing W X base marks lo hi (a .depth) (a .write) t
+  pub more : a .write ≤ w + 1
+  pub index : a .index ≡ i
+
+pub went : {W X : List ℕ} {base marks lo hi w i : ℕ} {r : Bracket} {x : Walked} (a : Reached) → Follows W X base marks lo hi w i r x → r
+    ≡ On a
+    → Went W X base marks lo hi w i a x
+went {W} {X} {base} {marks} {lo} {hi} {w} {i} a (on {a = b} {t = t} st m n) e =
+    let same : b ≡ a = cc in
+    subst (λ (a : Reached). Went W X base marks lo hi w i a (going t)) same
+    (record { t = t; is = refl; standing = st; more = m; index = n })
+went a (ends t) e = let z : _≡_ {A = ℕ} 0 1 = cc in absurd (omega arith)
 
 -- outside every section a closer is a leaf like any other
 bracket-lone : {W X : List ℕ} {base marks lo hi k w : ℕ} {s : Open} (t : Token) (cs : Forest) (i : ℕ) → Standing W X base marks lo hi k w s
@@ -205,6 +224,15 @@ module _ {W : List ℕ} {base marks write depth item : ℕ} (g : LookAt W base m
       subst (λ (i : ℕ). Follows W' (g .X) base marks (g .lo) (g .m) write i b (bracket (g .k) (g .cs) i (g .s)))
       (standing-position (g .standing) index i p q) f
 
+  -- where the walk goes on, as many sections stand as the definition has open
+  pub look-open : (i : ℕ) (a : Reached) (W' : List ℕ)
+      → Follows W' (g .X) base marks (g .lo) (g .m) write i (On a) (bracket (g .k) (g .cs) i (g .s))
+      → a .depth ≡ openAfter depth (opAt W item)
+  look-open i a W' f =
+      let w = went a f refl in
+      rw (standing-depth (g .standing), tree-op (g .tree))
+      (standing-depth (w .standing) ∙ bracket-depth (g .k) (g .cs) i (g .s) (w .t) (w .is))
+
   -- words that change neither a slot, nor what is written, nor a mark of a section that is open
   before-kept : (W' : List ℕ) → ((j : ℕ) → j < base + write → wd W' j ≡ wd W j)
       → ((j : ℕ) → marks ≤ j → j < marks + 2 * depth → wd W' j ≡ wd W j)
@@ -227,7 +255,7 @@ module _ {W : List ℕ} {base marks write depth item : ℕ} (g : LookAt W base m
       let all =
       standing-place (before-kept W' low (λ j a b. other j (omega arith))) (token-kept W' low)
       (set-same W W' (base + write) item e (omega arith)) in
-      rw is (on all (standing-depth all) (le-refl (write + 1)) refl)
+      rw is (on all (le-refl (write + 1)) refl)
 
   -- anything but a bracket, and a closer outside every section
   pub look-other : (o i : ℕ) → o ≡ opAt W item → isOpener o ≡ false → (isCloser o ≡ false) ⊎ (depth ≡ 0)
@@ -262,7 +290,7 @@ module _ {W : List ℕ} {base marks write depth item : ℕ} (g : LookAt W base m
       (o3 (marks + 2 * depth) (omega arith) ∙ set-same W1 W2 (marks + 2 * depth) write refl (omega arith))
       (set-same W2 W' (marks + 2 * depth + 1) (i + 1) e (omega arith)) in
       let here : Standing W' (g .X) base marks (g .lo) (g .m) (a .depth) (a .write) (section (g .k) (i + 1) nil (g .s)) = rw (ad, aw) all in
-      rw (bracket-opens (g .k) (g .cs) i (g .s) is) (on here (standing-depth here) (omega arith) ai)
+      rw (bracket-opens (g .k) (g .cs) i (g .s) is) (on here (omega arith) ai)
 
   pub look-closes : (o i : ℕ) (r : Bracket) (W' : List ℕ) → o ≡ opAt W item → isOpener o ≡ false → isCloser o ≡ true
       → Closed W base marks write depth i item r W'
@@ -270,6 +298,19 @@ module _ {W : List ℕ} {base marks write depth item : ℕ} (g : LookAt W base m
   look-closes o i r W' e h c w =
       let is : o ≡ g .k .op = e ∙ tree-op (g .tree) in
       rw (bracket-closes (g .k) (g .cs) i (g .s) (ap isOpener (sym is) ∙ h) (ap isCloser (sym is) ∙ c)) (w .answer g)
+
+-- a token after which the walk goes on
+pub looked-on : {W : List ℕ} {base marks write depth item : ℕ} → LookAt W base marks write depth item
+    → (index i : ℕ) (a : Reached) (W' : List ℕ) → (depth ≡ 0 → i ≡ write) → (depth ≢ 0 → i ≡ index + 1)
+    → ((g : LookAt W base marks write depth item)
+    → Follows W' (g .X) base marks (g .lo) (g .m) write i (On a) (bracket (g .k) (g .cs) i (g .s)))
+    → ((j : ℕ) → (j < base) ⊎ (base + write < j) → (j < marks) ⊎ (marks + 2 * depth + 2 ≤ j) → wd W' j ≡ wd W j)
+    → length W' ≡ length W
+    → Looked W base marks write depth index item (On a) W' × (a .depth ≡ openAfter depth (opAt W item))
+looked-on g index i a W' p q follows same long = (
+  record { answer = λ g. look-position g index i (On a) W' p q (follows g); same = λ g j f x y. same j x y; long = long },
+  look-open g i a W' (follows g),
+)
 
 pub position-small : (depth write index i b : ℕ) → (depth ≡ 0 → i ≡ write) → (depth ≢ 0 → i ≡ index + 1) → write + 1 < b → index + 2 < b
     → i + 1 < b

@@ -11,11 +11,12 @@ use lib.ListN.{length}
 use Rattle.molang.specs.Forest.{Token, Forest, nil, inOrder}
 use Rattle.molang.specs.Message.{sectionNotClosed, noClosingSymbol, ok, fail}
 use Rattle.molang.specs.Sections.{Open, section, placed, position, outermost, closed}
+use Rattle.molang.proofs.OpenCount.{depthOf}
 use Rattle.ops.specs.Operators.{isOpener}
 use Rattle.nodes.specs.Store.{wd, slotStart, TokenAt, RepT}
 use Rattle.nodes.proofs.Store.{tree-below, back-le, back-count}
 use Rattle.nodes.proofs.Keeping.{tree-beside}
-use Rattle.sections.specs.Flat.{unclosed, Fails, Written, Opener, Standing, outer, inner, depthOf, NamedAt, Named}
+use Rattle.sections.specs.Flat.{unclosed, Fails, Written, Opener, Standing, outer, inner, NamedAt, Named}
 use Rattle.levels.specs.Failures as failures
 use Rattle.levels.specs.declared.failure.Unclosed.{Unclosed}
 use Rattle.sections.specs.declared.Flat.the-variants.{Unclosed as Unclosing}

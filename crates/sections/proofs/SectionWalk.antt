@@ -10,7 +10,7 @@ use native.Mathlib.Nat.{le-refl, add-zero}
 use lib.ListN.{length}
 use Rattle.molang.specs.Forest.{Token, Forest, nil, node, inOrder, count}
 use Rattle.molang.specs.Message.{Message}
-use Rattle.molang.specs.Sections.{Open, outside, position, Walked, going, mismatch, sections}
+use Rattle.molang.specs.Sections.{Open, outside, position, Walked, mismatch, sections}
 use Rattle.molang.specs.Free.{flat}
 use Rattle.nodes.specs.Store.{wd, Seg, RepF, RepT, Kept}
 use Rattle.nodes.proofs.Runs.{seg-keep}
@@ -28,29 +28,15 @@ use Rattle.sections.specs.declared.Bracket.the-variants.{On, Differs}
 use Rattle.sections.proofs.SectionCases.{flat-first, sections-go, sections-end}
 use Rattle.sections.proofs.SectionWritten.{written-none, written-raise, written-array}
 use Rattle.sections.proofs.SectionOpen.{standing-written, standing-raise, standing-named, standing-unclosed, standing-outside}
+use Rattle.sections.proofs.SectionLooking.{went}
 
 -- ---- what a token leaves
 
-record Went (W X : List ℕ) (base marks lo hi w i : ℕ) (a : Reached) (x : Walked) : Type 0 where
-  t : Open
-  is : x ≡ going t
-  standing : Standing W X base marks lo hi (a .depth) (a .write) t
-  more : a .write ≤ w + 1
-  index : a .index ≡ i
-
-went : {W X : List ℕ} {base marks lo hi w i : ℕ} {r : Bracket} {x : Walked} (a : Reached) → Follows W X base marks lo hi w i r x → r ≡ On a
-    → Went W X base marks lo hi w i a x
-went {W} {X} {base} {marks} {lo} {hi} {w} {i} a (on {a = b} {t = t} st d m n) e =
-    let same : b ≡ a = cc in
-    subst (λ (a : Reached). Went W X base marks lo hi w i a (going t)) same
-    (record { t = t; is = refl; standing = st; more = m; index = n })
-went a (ends t) e = let z : _≡_ {A = ℕ} 0 1 = cc in absurd (omega arith)
-
 ended : {W X : List ℕ} {base marks lo hi w i : ℕ} {r : Bracket} {x : Walked} (m : Mismatch) → Follows W X base marks lo hi w i r x
-    → r ≡ Differs m
+    → (depth : ℕ) → r ≡ Differs m depth
     → (ms : List Message) × (x ≡ mismatch ms) × TellsMismatch W m ms
-ended m (on st d w n) e = let z : _≡_ {A = ℕ} 0 1 = cc in absurd (omega arith)
-ended {W} m (ends {m = b} {ms = ms} t) e =
+ended m (on st w n) depth e = let z : _≡_ {A = ℕ} 0 1 = cc in absurd (omega arith)
+ended {W} m (ends {m = b} {ms = ms} t) depth e =
     let same : b ≡ m = cc in
     (ms, refl, subst (λ (m : Mismatch). TellsMismatch W m ms) same t)
 
@@ -220,10 +206,11 @@ module _ {W₀ : List ℕ} {base n : ℕ} {g : CanSection W₀ base n} {W : List
         },
       )
 
-  pub walk-differs : (r : Bracket) (m : Mismatch) (W' : List ℕ) → Looked W base (base + n) write depth index item r W' → r ≡ Differs m
+  pub walk-differs : (r : Bracket) (m : Mismatch) (after : ℕ) (W' : List ℕ) → Looked W base (base + n) write depth index item r W'
+      → r ≡ Differs m after
       → Fails W' (sections 0 (outside nil) (g .f)) (Mismatched m) × Kept W₀ W' (g .X) (g .lo) (g .hi) base (base + n + 2 * n)
-  walk-differs r m W' w e =
-      let f = ended m (w .answer walk-look) e in (
+  walk-differs r m after W' w e =
+      let f = ended m (w .answer walk-look) after e in (
         record {
           messages = f .0;
           is = sym (v .answer) ∙ sections-end (v .k) (v .cs) (v .rest) index (v .s) (f .0) (f .1);

@@ -1,6 +1,6 @@
 -- What the flat passes ask and ensure. The list is an array of slots; `members` and `sections` write it again from its start, and
 -- `sections` keeps two words for each open section above it. What is ensured is the definition's answer, as it then stands in the words.
-use Prim.Native.Nat.{ℕ, suc, _+_, _*_, _-_, _^_, _≤_, _<_}
+use Prim.Native.Nat.{ℕ, _+_, _*_, _-_, _^_, _≤_, _<_}
 use mathlib.Core.Path.{_≡_}
 use mathlib.Core.Logic.{_⊎_}
 use mathlib.Core.Bool.{true}
@@ -127,11 +127,6 @@ pub data Standing (W X : List ℕ) (base marks lo : ℕ) : ℕ → ℕ → ℕ �
       → Opener W X base marks l m k' w' k o i
       → Written W X (base + (w' + 1)) m hi d v → w ≡ w' + 1 + v → Standing W X base marks lo hi k w (section o i d s)
 
--- How many sections are open.
-unfoldable pub depthOf : Open → ℕ
-depthOf (outside d) = 0
-depthOf (section o i d s) = suc (depthOf s)
-
 -- ---- one token
 
 -- There is room for one item, and for the marks of one section more.
@@ -165,13 +160,17 @@ pub record LookAt (W : List ℕ) (base marks write depth item : ℕ) : Type 0 wh
   pub apart : base + write < marks
   pub room : marks + 2 * depth + 2 ≤ length W
 
--- After the token at position i, w items being written before it: the walk goes on, and HOW MANY SECTIONS ARE OPEN is said; or it ends, and
--- the mismatch is told.
+-- How many brackets are open after the token, where the walk goes on and where a closer differs.
+abbrev pub openIn : Bracket → ℕ
+openIn (On a) = a .depth
+openIn (Differs m depth) = depth
+
+-- After the token at position i, w items being written before it: the walk goes on, or it ends, and the mismatch is told.
 pub data Follows (W X : List ℕ) (base marks lo hi w i : ℕ) : Bracket → Walked → Type 0 where
-  on : {a : Reached} {t : Open} → Standing W X base marks lo hi (a .depth) (a .write) t → a .depth ≡ depthOf t → a .write ≤ w + 1
-      → a .index ≡ i
+  on : {a : Reached} {t : Open} → Standing W X base marks lo hi (a .depth) (a .write) t → a .write ≤ w + 1 → a .index ≡ i
       → Follows W X base marks lo hi w i (On a) (going t)
-  ends : {m : Mismatch} {ms : List Message} → TellsMismatch W m ms → Follows W X base marks lo hi w i (Differs m) (mismatch ms)
+  ends : {m : Mismatch} {depth : ℕ} {ms : List Message} → TellsMismatch W m ms
+      → Follows W X base marks lo hi w i (Differs m depth) (mismatch ms)
 
 -- A closer where a section is open: no word changes but those of the list's own slots.
 pub record Closed (W : List ℕ) (base marks write depth index item : ℕ) (r : Bracket) (W' : List ℕ) : Type 0 where

@@ -15,9 +15,11 @@ ghost use mathlib.Core.Path.{_≡_};
 ghost use mathlib.Core.Logic.{_≢_};
 ghost use Prim.Native.Nat.{_+_, _*_, _-_, _^_, _≤_, _<_};
 ghost use lib.ListN.{length};
+ghost use Rattle.molang.specs.Nesting.{openAfter};
 ghost use Rattle.nodes.specs.Store.{wd};
+ghost use Rattle.nodes.specs.Slots.{opAt};
 ghost use Rattle.sections.specs.Flat.{CanJoin, Joined, MemberAt, Membered, CanSection, Sectioned, CanOpen, Opened, LookAt, Looked};
-ghost use Rattle.sections.specs.Flat.{Closed, NamedAt, Named};
+ghost use Rattle.sections.specs.Flat.{openIn, Closed, NamedAt, Named};
 ghost use Rattle.sections.specs.Matching.{LosesNothing};
 
 // What a flat pass leaves: how many items, or why it fails.
@@ -75,10 +77,10 @@ pub struct Reached {
     pub index: usize,
 }
 
-// What the walk makes of one token.
+// What the walk makes of one token: it goes on, or a closer does not match. Both say how many brackets are open after the token.
 pub enum Bracket {
     On(Reached),
-    Differs(Mismatch),
+    Differs(Mismatch, usize),
 }
 
 // The index of the next token: outside every section the number of items before it.
@@ -134,23 +136,25 @@ fn open_section(work: &mut [u32], base: usize, marks: usize, at: Reached, opener
 }
 
 // A closer in an open section: it closes the innermost one, which closes at its end and takes what was written after its opener, or
-// it differs.
+// it differs. Either way one bracket fewer is open.
 fn close_section(work: &mut [u32], base: usize, marks: usize, at: Reached, closer: u32) -> Bracket
     requires { ⌜ LookAt (now work) base marks (at .write) (at .depth) closer × (at .depth ≢ 0) × (at .index < 2 ^ 32) ⌝ }
     ensures { λ r. ⌜ Closed (now (work .entry)) base marks (at .write) (at .depth) (at .index) closer r (now (work .exit)) ⌝ }
+    ensures { λ r. ⌜ openIn r ≡ at .depth - 1 ⌝ }
 {
     let inner = at.depth - 1;
     let place = opener_at(work, marks, inner);
     let opener = work[base + place];
     if closer_of(slots::operator_of(work, opener)) != slots::operator_of(work, closer) {
         let named = still_open(work, base, marks, at.depth);
-        return Bracket::Differs(Mismatch {
+        let mismatch = Mismatch {
             opener: named.inner,
             start: named.start,
             closer,
             index: at.index as u32,
             outer: named.outer,
-        });
+        };
+        return Bracket::Differs(mismatch, inner);
     }
     let from = place + 1;
     children::give_children(work, opener, base + from, at.write - from);
@@ -163,10 +167,11 @@ fn close_section(work: &mut [u32], base: usize, marks: usize, at: Reached, close
 }
 
 // One token: an opener opens a section, a closer closes the innermost one where one is open, anything else is written.
-// How many sections are then open is in what comes back.
+// How many brackets are open after it is in what comes back, for a closer that differs too.
 fn look(work: &mut [u32], base: usize, marks: usize, at: Reached, item: u32) -> Bracket
     requires { ⌜ LookAt (now work) base marks (at .write) (at .depth) item × (at .write + 1 < 2 ^ 32) × (at .index + 2 < 2 ^ 32) ⌝ }
     ensures { λ r. ⌜ Looked (now (work .entry)) base marks (at .write) (at .depth) (at .index) item r (now (work .exit)) ⌝ }
+    ensures { λ r. ⌜ openIn r ≡ openAfter (at .depth) (opAt (now (work .entry)) item) ⌝ }
 {
     let write = at.write;
     let depth = at.depth;
@@ -228,7 +233,7 @@ pub fn sections(work: &mut [u32], base: usize, n: usize) -> Flat
                         break 'tokens Flat::Unclosed(still_open(work, base, marks, at.depth));
                     }
                 }
-                Bracket::Differs(mismatch) => {
+                Bracket::Differs(mismatch, _) => {
                     break 'tokens Flat::Mismatched(mismatch);
                 }
             }

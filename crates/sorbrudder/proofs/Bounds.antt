@@ -4,15 +4,14 @@ use mathlib.Core.Path.{_≡_, refl, ap}
 use mathlib.Core.Bool.{Bool, true, false}
 use mathlib.Core.List.{List, [], _∷_}
 use mathlib.Core.Option.{Option, none, some}
-use Prim.Native.Nat.{ℕ, suc, _+_, _*_, _/_, _%_, _≤_, _<_}
+use Prim.Native.Nat.{ℕ, suc, _+_, _*_, _≤_, _<_}
 use native.Mathlib.Omega.{arith}
 use lib.Dec.{leb}
 use lib.ListN.{length}
-use borrow.Author.Tests.{leb-true, eqb-true}
+use borrow.Author.Tests.{leb-true}
 use Rattle.molang.specs.Forest.{Token, Forest, nil, node, size}
 use Rattle.molang.specs.Read as read
-use Rattle.molang.specs.Words.{Field, operatorField, startField, endField, upperField, lowerField, countField, closeField, lowOf, lowFault}
-use Rattle.molang.specs.Words.{wordFault, variantAfter, nextInToken, Refusal, row, withPlace, withNumber, wordsRefusal}
+use Rattle.molang.specs.Words.{Refusal, row, withNumber, operatorField}
 use Rattle.molang.specs.FirstFailure.{must, firstOf}
 use Rattle.molang.specs.Parse.{Call, mostTokens, refusal, reading, told, answered}
 use Rattle.molang.specs.Plain.{plainForm, seatOf, unplain, unplainAt}
@@ -23,31 +22,12 @@ use Rattle.molang.specs.StackOrder.{ReorderCall, stackFault, outputRefusal, exp
 use Rattle.molang.specs.StackOrder.{importAnswered}
 use Rattle.molang.proofs.Accepted.{call-accepted}
 use Rattle.molang.proofs.Bounds.{read-tree, read-messages}
-use Rattle.molang.proofs.FirstFailure.{last-one}
+use Rattle.molang.proofs.FirstFailure.{All, last-one}
+use Rattle.molang.proofs.Refusals.{Within, refusal-within}
 use Rattle.molang.proofs.TreeWords.{tree-exact, tree-place}
 use Rattle.molang.proofs.StackWords.{stack-exact, stack-place}
 use Rattle.molang.proofs.StackOrder.{trees-of-tree, tree-few, stack-few}
 use Rattle.sorbrudder.specs.Numbers.{FitsTold, FitsWritten, FitsReordered}
-
--- What an option holds is at most n, or satisfies a test.
-abbrev All : {A : Type 0} → (A → Type 0) → Option A → Type 0
-All P none = Unit {0}
-All P (some a) = P a
-
--- What holds of each answer holds of the first.
-module _ {A : Type 0} (P : A → Type 0) where
-  all-first : (o : Option A) (later : List (Option A)) → All P o → All P (firstOf later) → All P (firstOf (o ∷ later))
-  unfolding firstOf
-  all-first none later x y = y
-  all-first (some a) later x y = x
-
-  all-last : (o : Option A) → All P o → All P (firstOf (o ∷ []))
-  all-last o x = rw (last-one o) x
-
-  all-must : (b : Bool) (a : A) → P a → All P (must b a)
-  unfolding must
-  all-must true a x = tt
-  all-must false a x = x
 
 -- ---- Answer 13
 
@@ -130,68 +110,11 @@ imported-fits c = split (stackFault 0 operatorField 0 (record { done = 0; begun 
 
 -- ---- THE PARSE ENTRY
 
--- A word's answer is at most 11, and its place within the list.
-abbrev Placed : ℕ → Refusal → Type 0
-Placed most r = (r .number ≤ 11) × (r .place ≤ most)
-
-abbrev Most : ℕ → Type 0
-Most n = n ≤ 11
-
-low-most : (field : Field) (v low : ℕ) → All Most (lowFault field v low)
-unfolding lowFault
-low-most operatorField v low =
-    all-first Most _ _ (all-must Most _ 9 (omega arith))
-    (all-first Most _ _ (all-must Most _ 10 (omega arith)) (all-last Most _ (all-must Most _ 11 (omega arith))))
-low-most startField v low = tt
-low-most endField v low = tt
-low-most upperField v low = all-must Most _ 11 (omega arith)
-low-most lowerField v low = all-must Most _ 11 (omega arith)
-low-most countField v low = all-must Most _ 11 (omega arith)
-low-most closeField v low = tt
-
-word-most : (field : Field) (v w : ℕ) → All Most (wordFault field v w)
-unfolding wordFault
-word-most field v w = all-first Most _ _ (all-must Most _ 8 (omega arith)) (all-last Most _ (low-most field v (lowOf w)))
-
-at-place : (o : Option ℕ) (place most : ℕ) → place ≤ most → All Most o → All (Placed most) (withPlace place o)
-at-place none place most h x = tt
-at-place (some n) place most h x = (x, h)
-
-words-placed : (i : ℕ) (field : Field) (v : ℕ) (ws : List ℕ) (most : ℕ) → i + length ws ≤ most
-    → All (Placed most) (wordsRefusal i field v ws)
-unfolding wordsRefusal
-words-placed i field v [] most h = tt
-words-placed i field v (w ∷ ws) most h =
-    all-first (Placed most) _ _ (at-place (wordFault field v w) i most (omega arith) (word-most field v w))
-    (all-last (Placed most) _ (words-placed (suc i) (nextInToken field) (variantAfter field v w) ws most (omega arith)))
-
--- A test at place 0, before others.
-must-placed : (b : Bool) (n most : ℕ) (later : List (Option Refusal)) → n ≤ 11 → (b ≡ true → All (Placed most) (firstOf later))
-    → All (Placed most) (firstOf (must b (row n 0) ∷ later))
-unfolding firstOf must
-must-placed true n most later h x = x refl
-must-placed false n most later h x = (h, omega arith)
-
-refusal-placed : (c : Call) → All (Placed 20480) (refusal c)
-unfolding refusal
-refusal-placed c =
-    must-placed _ 1 20480 _ (omega arith)
-    (λ whole. must-placed _ 2 20480 _ (omega arith)
-    (λ few. must-placed _ 3 20480 _ (omega arith)
-    (λ t. must-placed _ 4 20480 _ (omega arith)
-    (λ m. must-placed _ 5 20480 _ (omega arith)
-    (λ w. must-placed _ 6 20480 _ (omega arith)
-    (λ u. must-placed _ 7 20480 _ (omega arith)
-    (λ s.
-    all-last (Placed 20480) _
-    (words-placed 0 operatorField 0 (c .list) 20480
-    (omega (arith, eqb-true (length (c .list) % 5) 0 whole, leb-true (length (c .list) / 5) mostTokens few))))))))))
-
 pub told-fits : (c : Call) → FitsTold (answered c)
 unfolding answered told reading
-told-fits c = split (refusal c) (reading c) refl refl (refusal-placed c)
+told-fits c = split (refusal c) (reading c) refl refl (refusal-within c)
   where
-    split : (o : Option Refusal) (a : read.Answer) → refusal c ≡ o → reading c ≡ a → All (Placed 20480) o → FitsTold (told o a)
+    split : (o : Option Refusal) (a : read.Answer) → refusal c ≡ o → reading c ≡ a → All (Within 18 20480) o → FitsTold (told o a)
     split (some r) a e f x = (omega (arith, x .0), omega (arith, x .1))
     split none (read.tree k cs) e f x = omega (arith, call-accepted c e .few, read-tree _ _ _ _ k cs f)
     split none (read.messages ms) e f x = omega (arith, read-messages _ _ _ _ ms f .1)

@@ -56,10 +56,11 @@ pub extern "C" fn sorbrudder_parse(
     version: i16,
     used_low: u64,
     used_high: u64,
+    limit: u32,
 ) -> u64
     ensures { λ r. ⌜ HasParsedTo
         (parseCall (now (list .entry)) (now (tree .entry)) (now (messages .entry)) (now (work .entry))
-        «source_length» version «used_low» «used_high»)
+        «source_length» version «used_low» «used_high» limit)
         r (now (tree .exit)) (now (messages .exit)) (now (work .exit)) ⌝ }
 {
     let answer = parse(
@@ -71,6 +72,7 @@ pub extern "C" fn sorbrudder_parse(
         version,
         used_low,
         used_high,
+        limit,
     );
     parsed_number(answer)
 }

@@ -13,10 +13,12 @@ use Rattle.molang.specs.FirstFailure.{must, firstOf}
 use Rattle.molang.specs.Words.{Refusal, row, operatorField, wordsRefusal, tokensOf}
 use Rattle.molang.specs.Read.{Answer, read}
 use Rattle.molang.proofs.Bounds.{Bounded, fewNodes, fewMessages, read-bounded}
-use Rattle.molang.proofs.Reread.{tokens-count}
-use Rattle.molang.specs.Parse.{Call, Told, refused, inHalves, refusal, reading, told, answered, treeIn, treeAfter, messagesIn}
-use Rattle.molang.specs.Parse.{messagesAfter}
-use Rattle.molang.proofs.FirstFailure.{last-one, after-none}
+use Rattle.molang.proofs.ListWords.{tokens-count}
+use Rattle.molang.proofs.Nesting.{never-18}
+use Rattle.molang.specs.Nesting.{tooDeep}
+use Rattle.molang.specs.Parse.{Call, Told, refused, inHalves, mostTokens, isLimit, refusal, reading, told, answered, treeIn, treeAfter}
+use Rattle.molang.specs.Parse.{messagesIn, messagesAfter}
+use Rattle.molang.proofs.FirstFailure.{after-none, before-none, without-number}
 use Rattle.derived.specs.Derived.{named, highest}
 use Rattle.derived.proofs.WordLaws.{exact-few, highest-few}
 use Rattle.parse.specs.Answers.{call}
@@ -89,10 +91,10 @@ module _ (list tree messages : List ℕ) (ok : Readable list tree messages) (wor
     (ends : source ≡ highest operatorField 0 list) (version : ℤ) (low high : ℕ)
     (exact : (n : ℕ) → inHalves low high n ≡ named operatorField list n) where
   abbrev called : Call
-  called = call list tree messages work source version low high
+  called = call list tree messages work source version low high mostTokens
 
   pub called-refusal : refusal called ≡ wordsRefusal 0 operatorField 0 list
-  unfolding refusal must firstOf
+  unfolding refusal isLimit must firstOf
   called-refusal =
       let few : length list / 5 ≤ 128 = omega (arith, ok .few) in
       rw (
@@ -104,7 +106,8 @@ module _ (list tree messages : List ℕ) (ok : Readable list tree messages) (wor
         lt-ltb (high * 2 ^ 64 + low) (2 ^ 111) (exact-few low high list exact),
         le-leb source 536870911 (omega (arith, highest-few operatorField 0 list (omega arith))),
       )
-      (last-one (wordsRefusal 0 operatorField 0 list))
+      (before-none (wordsRefusal 0 operatorField 0 list) _
+      (without-number 18 (tooDeep mostTokens (tokensOf list)) (never-18 (tokensOf list) (omega (arith, tokens-count list, ok .few)))))
 
   pub called-reading : reading called ≡ readingOf list version
   unfolding reading readingOf

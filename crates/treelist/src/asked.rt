@@ -1,5 +1,6 @@
-// What an input asks: where the program turns it back, else a list to read. Leans on derived (used set, source length, version) and parse;
-// specs/Listing has the definition.
+// What an input asks: where the program turns it back, else a list to read. Leans on derived (used set, source length, version), accept
+// (the highest nesting limit) and parse; specs/Listing has the definition.
+use accept::MOST_LIMIT;
 use derived::highest_end;
 use derived::used_of;
 use derived::version_of;
@@ -46,7 +47,8 @@ fn asked(bytes: usize, first: u32) -> Request
     Request::List(words)
 }
 
-// Reads a list at its exact used set, its highest span end being the source length. `answer` calls it where `asked` found no fault.
+// Reads a list at its exact used set, its highest span end being the source length, however deep it is nested. `answer` calls it where
+// `asked` found no fault.
 fn read(list: &[u32], version: i16, tree: &mut [u32], messages: &mut [u32]) -> Answer
     requires { ⌜ Readable (now list) (now tree) (now messages) ⌝ }
     ensures { λ r. ⌜ toldOf r ≡ told (wordsRefusal 0 operatorField 0 (now (list .entry))) (readingOf (now (list .entry)) version) ⌝ }
@@ -67,6 +69,7 @@ fn read(list: &[u32], version: i16, tree: &mut [u32], messages: &mut [u32]) -> A
         version,
         used.low,
         used.high,
+        MOST_LIMIT,
     )
 }
 

@@ -1,5 +1,5 @@
-// The numbers of the refusals of document 01's table and of stack order, which reading a list, writing a tree, export and import can meet.
-// Leans on nothing.
+// The numbers of the refusals that reading a list, writing a tree, export and import can meet: of document 01's table, 17 and 18 of
+// document 02's card 8, 24 and 25 of its card 14. Leans on nothing.
 
 pub const LIST_NOT_WHOLE: u32 = 1;
 
@@ -30,6 +30,10 @@ pub const NOT_PLAIN: u32 = 13;
 pub const WRITTEN_TOO_LONG: u32 = 14;
 
 pub const SHORT_LIST: u32 = 15;
+
+pub const LIMIT_OUT_OF_RANGE: u32 = 17;
+
+pub const NESTED_TOO_DEEP: u32 = 18;
 
 pub const NOT_ONE_STACK: u32 = 24;
 

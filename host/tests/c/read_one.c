@@ -1,4 +1,4 @@
-/* Reads `(a + b)` at version 6, writes the tree again, and has three calls turned back. */
+/* Reads `(a + b)` at version 6, writes the tree again, and has five calls turned back. */
 #include "sorbrudder.h"
 
 #include <assert.h>
@@ -14,14 +14,18 @@ static_assert(SORBRUDDER_NODE_WORDS == SORBRUDDER_TOKEN_WORDS + 2, "a node is a 
 static_assert(SORBRUDDER_NODE_WORDS == SORBRUDDER_WORD_CLOSE + 1, "where a node closes is its last word");
 static_assert(SORBRUDDER_TREE_BUFFER(1) == 3 * SORBRUDDER_NODE_WORDS, "three nodes a token");
 
-static uint64_t read_list(const uint32_t *list, size_t words, uint32_t *tree, size_t tree_words) {
+static uint64_t read_within(const uint32_t *list, size_t words, uint32_t *tree, size_t tree_words, uint32_t limit) {
     uint32_t messages[SORBRUDDER_MESSAGE_BUFFER];
     uint32_t work[SORBRUDDER_WORK_BUFFER(TOKENS)];
     uint64_t used_low, used_high, source_length;
     sorbrudder_used(list, words, &used_low, &used_high, &source_length);
     return sorbrudder_parse(list, words, tree, tree_words, messages, SORBRUDDER_MESSAGE_BUFFER,
                             work, SORBRUDDER_WORK_BUFFER(TOKENS), source_length, 6, used_low,
-                            used_high);
+                            used_high, limit);
+}
+
+static uint64_t read_list(const uint32_t *list, size_t words, uint32_t *tree, size_t tree_words) {
+    return read_within(list, words, tree, tree_words, SORBRUDDER_MOST_NESTING);
 }
 
 /* Whether an answer is this refusal, whose number and place are printed. */
@@ -83,6 +87,16 @@ int main(void) {
         !refused(sorbrudder_write(tree, tree_words - 1, written, SORBRUDDER_LIST_BUFFER),
                  SORBRUDDER_REFUSAL_NOT_A_TREE)) {
         return 4;
+    }
+
+    /* No list is read with a limit of 0; `((` opens two brackets, its second token one more than one. */
+    const uint32_t deep[2 * SORBRUDDER_TOKEN_WORDS] = {TOKEN(SORBRUDDER_OP_LEFT_PARENTHESIS, 0, 1),
+                                                       TOKEN(SORBRUDDER_OP_LEFT_PARENTHESIS, 1, 2)};
+    if (!refused(read_within(list, LIST_WORDS, tree, SORBRUDDER_TREE_BUFFER(TOKENS), 0),
+                 SORBRUDDER_REFUSAL_LIMIT) ||
+        !refused(read_within(deep, 2 * SORBRUDDER_TOKEN_WORDS, tree, SORBRUDDER_TREE_BUFFER(2), 1),
+                 SORBRUDDER_REFUSAL_TOO_DEEP)) {
+        return 6;
     }
     return 0;
 }

@@ -56,6 +56,12 @@ pub fn vectors() -> Vec<u8> {
     std::fs::read(path).expect("vectors/vectors.bin")[12..].to_vec()
 }
 
+/// The bit of a record's first byte that says that a nesting limit is kept.
+pub const LIMITED: u8 = 1 << 6;
+
+/// The bits of it that say which used set there is; 0 where it is kept.
+pub const USED: u8 = 3 << 4;
+
 /// The words of a kept tree's node, which are those of the Rust's answer.
 pub const KEPT_NODE_WORDS: u64 = 6;
 
@@ -68,10 +74,11 @@ pub fn kept_lists() -> Vec<Vec<u32>> {
         let head = bytes.byte();
         let len = bytes.number();
         lists.push(bytes.words(len, 5));
-        // The used set where it is kept, the source length and the version.
-        let numbers = if head >> 4 == 0 { 3 } else { 1 };
+        // The used set where it is kept, the source length, the version, and the limit where it is kept.
+        let numbers = if head & USED == 0 { 3 } else { 1 };
         (0..numbers).for_each(|_| _ = bytes.number());
         (0..2).for_each(|_| _ = bytes.byte());
+        (0..u8::from(head & LIMITED != 0)).for_each(|_| _ = bytes.number());
         let rest = match head & 3 {
             0 => KEPT_NODE_WORDS * bytes.number(),
             1 => 8 * bytes.number(),

@@ -94,7 +94,9 @@ fn source(options: &Options) -> Box<dyn Iterator<Item = (Case, Answer)>> {
     let kept: Vec<_> = stored()
         .into_iter()
         .filter_map(|stored| match stored {
-            Stored::Answered(case, answer) if case.tokens.len() <= most => Some((case, answer)),
+            Stored::Answered { case, answer, .. } if case.tokens.len() <= most => {
+                Some((case, answer))
+            }
             _ => None,
         })
         .collect();
@@ -177,7 +179,7 @@ fn known(most: usize) -> Vec<(Case, Answer)> {
     let kept = stored();
     let answer = |line: Line| {
         kept.iter().find_map(|stored| match stored {
-            Stored::Answered(case, answer) if *case == line.case => {
+            Stored::Answered { case, answer, .. } if *case == line.case => {
                 Some((case.clone(), answer.clone()))
             }
             _ => None,

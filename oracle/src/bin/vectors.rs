@@ -2,6 +2,7 @@
 
 #[cfg(molangx)]
 fn main() {
+    use oracle::nesting::MOST_NESTING;
     use oracle::vectors::{SEED, Stored, encode, made, path};
 
     const HELP: &str = "vectors [SEED]\n\n\
@@ -24,11 +25,15 @@ fn main() {
         .and_then(|()| std::fs::write(&path, &bytes))
         .unwrap_or_else(|why| panic!("{}: {why}", path.display()));
 
-    let (mut trees, mut messages, mut refused) = (0, [0usize; 18], [0usize; 12]);
+    let (mut trees, mut messages, mut refused) = (0, [0usize; 18], [0usize; 19]);
+    let mut limited = 0;
     for record in &records {
+        if let Stored::Answered { limit, .. } = record {
+            limited += usize::from(*limit != MOST_NESTING);
+        }
         match record {
-            Stored::Answered(_, answer) if answer.records().is_empty() => trees += 1,
-            Stored::Answered(_, answer) => answer
+            Stored::Answered { answer, .. } if answer.records().is_empty() => trees += 1,
+            Stored::Answered { answer, .. } => answer
                 .records()
                 .iter()
                 .for_each(|record| messages[record[0] as usize] += 1),
@@ -42,7 +47,12 @@ fn main() {
     );
     println!("trees: {trees}");
     println!("messages 1 to 17: {:?}", &messages[1..]);
-    println!("turned back, answers 1 to 11: {:?}", &refused[1..]);
+    println!("read under the least limit that they are within: {limited}");
+    println!(
+        "turned back, answers 1 to 11, 17 and 18: {:?} {:?}",
+        &refused[1..12],
+        &refused[17..]
+    );
 }
 
 #[cfg(not(molangx))]

@@ -1,12 +1,36 @@
-//! Spoiled calls, each with the answer that its damage has by document 01's table. The answer
-//! comes from where the damage was done; [`crate::refusal`] is not asked.
+//! Spoiled calls, each with the answer that its damage has by document 01's table and card 8. The
+//! answer comes from where the damage was done; [`crate::refusal`] is not asked.
 
-use super::Rng;
+use super::{Rng, dress};
+use crate::nesting::MOST_NESTING;
 use crate::refusal::{Call, Refusal};
-use crate::words::{Case, LAST_PLACE, MOST_TOKENS, TOKEN_WORDS, TREE_WORDS, kind, low, word};
+use crate::words::{
+    Case, LAST_PLACE, MOST_TOKENS, TOKEN_WORDS, TREE_WORDS, kind, list_words, low, word,
+};
 
 /// What can be spoiled, by the number of its answer.
-const NUMBERS: [u32; 16] = [1, 1, 2, 3, 4, 5, 6, 7, 8, 8, 8, 9, 10, 11, 11, 11];
+const NUMBERS: [u32; 20] = [
+    1, 1, 2, 3, 4, 5, 6, 7, 17, 8, 8, 8, 9, 10, 11, 11, 11, 18, 18, 18,
+];
+
+/// What a number's check looks at, in the order of the checks: the whole call, the list's words,
+/// how deep they nest.
+#[derive(Copy, Clone, PartialEq, Eq, PartialOrd, Ord)]
+enum Part {
+    Whole,
+    Word,
+    Nesting,
+}
+
+/// When a number's check is made.
+fn turn(number: u32) -> (Part, u32) {
+    let part = match number {
+        8..=11 => Part::Word,
+        18 => Part::Nesting,
+        _ => Part::Whole,
+    };
+    (part, number)
+}
 
 /// The case's call with one or two things spoiled, and the answer to it.
 pub fn damaged(rng: &mut Rng, case: &Case) -> (Call, Refusal) {
@@ -19,20 +43,19 @@ pub fn damaged(rng: &mut Rng, case: &Case) -> (Call, Refusal) {
     if rng.chance(30) {
         numbers.push(*rng.pick(&NUMBERS));
     }
-    // A word is spoiled once, and before the list is cut or made longer.
-    numbers.sort_unstable_by(|a, b| b.cmp(a));
-    numbers.dedup_by(|a, b| (*a >= 8) == (*b >= 8));
+    // A part is spoiled once, what is checked last first: a word before the list is cut or made
+    // longer, and after what it nests was put in.
+    numbers.sort_unstable_by_key(|&number| std::cmp::Reverse(turn(number)));
+    numbers.dedup_by_key(|number| turn(*number).0);
     for number in numbers {
-        let done = if call.list.is_empty() && number >= 8 {
-            spoil_call(rng, &mut call, 4)
-        } else if number >= 8 {
-            spoil_word(rng, &mut call, number)
-        } else {
-            spoil_call(rng, &mut call, number)
+        let done = match turn(number).0 {
+            Part::Nesting => spoil_nesting(rng, &mut call),
+            Part::Word if !call.list.is_empty() => spoil_word(rng, &mut call, number),
+            Part::Word => spoil_call(rng, &mut call, 4),
+            Part::Whole => spoil_call(rng, &mut call, number),
         };
-        // Whole-call checks come before the words, so the later damage here is the earlier check.
         first = match first {
-            Some(before) if before.number < done.number => Some(before),
+            Some(before) if turn(before.number) < turn(done.number) => Some(before),
             _ => Some(done),
         };
     }
@@ -66,6 +89,10 @@ fn spoil_call(rng: &mut Rng, call: &mut Call, number: u32) -> Refusal {
         5 => call.work_len = rng.below(64 * tokens as usize + 64) as u64,
         6 => call.used.1 |= 1 << (47 + rng.below(17)),
         7 => call.source_len = u64::from(LAST_PLACE) + 1 + (rng.bits() >> (8 + rng.below(50))),
+        17 => {
+            let above = MOST_NESTING + 1 + rng.below(60_000) as u32;
+            call.limit = *rng.pick(&[0, MOST_NESTING + 1, above, u32::MAX]);
+        }
         _ => {
             call.messages_len = rng.below(16) as u64;
             return Refusal {
@@ -75,6 +102,37 @@ fn spoil_call(rng: &mut Rng, call: &mut Call, number: u32) -> Refusal {
         }
     }
     Refusal { number, place: 0 }
+}
+
+/// Puts one opener more in front of the list than the limit allows, after and among others that are
+/// closed again.
+fn spoil_nesting(rng: &mut Rng, call: &mut Call) -> Refusal {
+    const BEFORE: [&[u8]; 6] = [&[5], &[1], &[61], &[4, 5], &[2, 1], &[0, 61, 5]];
+    let mut ops = Vec::new();
+    for _ in 0..rng.below(4) {
+        ops.extend(*rng.pick(&BEFORE));
+    }
+    let limit = 1 + rng.below(4);
+    for open in 0..=limit {
+        if rng.chance(20) {
+            ops.push(61);
+        }
+        // A pair that goes up to the limit and no further.
+        if open < limit && rng.chance(30) {
+            ops.extend([4, *rng.pick(&[1, 3, 5])]);
+        }
+        ops.push(*rng.pick(&[0, 2, 4]));
+    }
+    let place = ops.len() - 1;
+    let tokens = list_words(&dress::plain(&ops));
+    call.list.splice(..0, tokens);
+    call.tree_len += (TREE_WORDS * ops.len()) as u64;
+    call.work_len += 64 * ops.len() as u64;
+    call.limit = limit as u32;
+    Refusal {
+        number: 18,
+        place: place as u32,
+    }
 }
 
 fn spoil_word(rng: &mut Rng, call: &mut Call, number: u32) -> Refusal {

@@ -6,6 +6,7 @@ use crate::generate::damage::damaged;
 use crate::generate::shapes::SHAPES;
 use crate::generate::{Mixed, Rng, case, dress, grammar, patterns, random};
 use crate::lines::{findings, lines};
+use crate::nesting::{MOST_NESTING, least_limit};
 use crate::refusal::{Call, Refusal};
 use crate::words::{Case, LAST_OP};
 
@@ -21,9 +22,15 @@ pub fn made(seed: u64) -> Vec<Stored> {
         Mixed::new(seed, 9).take(12_000).collect(),
         Mixed::new(seed + 1, 24).take(6_000).collect(),
     ];
-    let answered = cases.into_iter().flatten().map(|case| {
-        let answer = crate::answer_case(&case);
-        Stored::Answered(case, answer)
+    let cases = cases.into_iter().flatten().enumerate();
+    let answered = cases.map(|(place, case)| Stored::Answered {
+        // Every third list is given the least limit that it is within; the Rust knows of none.
+        limit: match place % 3 {
+            2 => least_limit(&case.tokens),
+            _ => MOST_NESTING,
+        },
+        answer: crate::answer_case(&case),
+        case,
     });
     answered.chain(turned_back(seed + 2)).collect()
 }
@@ -116,7 +123,8 @@ fn long(seed: u64) -> Vec<Case> {
     cases
 }
 
-/// The lines of document 01 that are turned back, and two thousand damaged calls.
+/// The lines of document 01 that are turned back, nesting limits at their ends, and two thousand
+/// damaged calls.
 fn turned_back(seed: u64) -> Vec<Stored> {
     let two_words = Call {
         list: vec![0; 2],
@@ -125,6 +133,17 @@ fn turned_back(seed: u64) -> Vec<Stored> {
     let too_long = Call::of(&plain(&SHAPES[0].ops(4097), 6));
     let refused = |call, number| Stored::Refused(call, Refusal { number, place: 0 });
     let mut records = vec![refused(two_words, 1), refused(too_long, 2)];
+    for limit in [0, 4097] {
+        records.push(refused(Call::of(&plain(&[61], 6)).at_limit(limit), 17));
+    }
+    for (openers, limit) in [(2, 1), (4096, 4095)] {
+        let call = Call::of(&plain(&vec![4; openers], 6)).at_limit(limit);
+        let refusal = Refusal {
+            number: 18,
+            place: limit,
+        };
+        records.push(Stored::Refused(call, refusal));
+    }
     let mut rng = Rng::new(seed);
     let mut too_long = 0;
     for case in Mixed::new(seed, 12).take(2_000) {

@@ -1,6 +1,6 @@
 //! The answers that are kept in the repository (`vectors/vectors.bin`).
 //!
-//! The file is the eight bytes `SORBVEC1`, the number of records as four bytes (little-endian) and
+//! The file is the eight bytes `SORBVEC2`, the number of records as four bytes (little-endian) and
 //! the records. A number is a varint: seven bits a byte, lowest first, the top bit set on all bytes
 //! but the last. A word of a list is kept as the number `word XOR (kind << 29)`, `kind` being the
 //! one that its field asks for (1 to 5 in turn); a word of a tree likewise (1 to 6 in turn: where a
@@ -8,20 +8,23 @@
 //!
 //! A record is
 //!
-//! 1. one byte: the answer in bits 0-1 (0 a tree, 1 messages, 2 turned back), and the used set in
-//!    bits 4-5 (0 as two numbers, low half first; 1 exact; 2 full);
+//! 1. one byte: the answer in bits 0-1 (0 a tree, 1 messages, 2 turned back), the used set in bits
+//!    4-5 (0 as two numbers, low half first; 1 exact; 2 full), and in bit 6 whether a nesting limit
+//!    is kept (card 8; else it is 4,096);
 //! 2. the list's length in words, and its words;
 //! 3. the used set, if bits 4-5 are 0;
 //! 4. the source length;
 //! 5. the version, two bytes in two's complement;
-//! 6. a tree: its length in nodes and its words; messages: how many, and eight numbers each; a call
+//! 6. the nesting limit, if bit 6 is set;
+//! 7. a tree: its length in nodes and its words; messages: how many, and eight numbers each; a call
 //!    that is turned back: the lengths of its tree, message and work buffer, the answer's number
 //!    and its place.
 
+use crate::nesting::MOST_NESTING;
 use crate::refusal::{Call, Refusal};
 use crate::words::{
     Answer, Case, FULL_SET, LAST_PLACE, Record, RustNode, TOKEN_WORDS, Token, decode_list,
-    exact_set, kind, list_words, low, word,
+    exact_set, kind, low, word,
 };
 
 #[cfg(molangx)]
@@ -33,7 +36,10 @@ pub use made::made;
 /// The seed of the file in the repository.
 pub const SEED: u64 = 20_261_115;
 
-const MAGIC: &[u8; 8] = b"SORBVEC1";
+const MAGIC: &[u8; 8] = b"SORBVEC2";
+
+/// The bit of a record's first byte that says that a nesting limit is kept.
+const LIMITED: u8 = 1 << 6;
 
 /// Words of a kept node: a token's and its child count.
 const KEPT_WORDS: usize = TOKEN_WORDS + 1;
@@ -41,8 +47,12 @@ const KEPT_WORDS: usize = TOKEN_WORDS + 1;
 /// A record of the file.
 #[derive(Clone, Debug, PartialEq, Eq)]
 pub enum Stored {
-    /// A list that is read, and its answer.
-    Answered(Case, Answer),
+    /// A list that is read, a nesting limit that it is within, and its answer.
+    Answered {
+        case: Case,
+        limit: u32,
+        answer: Answer,
+    },
     /// A call that is turned back.
     Refused(Call, Refusal),
 }
@@ -96,42 +106,45 @@ fn word_kind(place: usize, kinds: usize) -> u32 {
 }
 
 fn put_record(bytes: &mut Vec<u8>, record: &Stored) {
-    let (answer, list, used, source_len, version) = match record {
-        Stored::Answered(case, answer) => (
+    let (answer, call) = match record {
+        Stored::Answered {
+            case,
+            limit,
+            answer,
+        } => (
             matches!(answer, Answer::Messages(_)) as u8,
-            list_words(&case.tokens),
-            case.used,
-            u64::from(case.source_len),
-            case.version,
+            &Call::of(case).at_limit(*limit),
         ),
-        Stored::Refused(call, _) => (
-            2,
-            call.list.clone(),
-            call.used,
-            call.source_len,
-            call.version,
-        ),
+        Stored::Refused(call, _) => (2, call),
     };
-    let set = match decode_list(&list) {
+    let (list, used) = (&call.list, call.used);
+    let set = match decode_list(list) {
         Some(tokens) if exact_set(&tokens) == used => 1,
         _ if used == FULL_SET => 2,
         _ => 0,
     };
-    bytes.push(answer | set << 4);
+    let limited = call.limit != MOST_NESTING;
+    bytes.push(answer | set << 4 | if limited { LIMITED } else { 0 });
     put_number(bytes, list.len() as u64);
-    put_words(bytes, &list, TOKEN_WORDS);
+    put_words(bytes, list, TOKEN_WORDS);
     if set == 0 {
         put_number(bytes, used.0);
         put_number(bytes, used.1);
     }
-    put_number(bytes, source_len);
-    bytes.extend(version.to_le_bytes());
+    put_number(bytes, call.source_len);
+    bytes.extend(call.version.to_le_bytes());
+    if limited {
+        put_number(bytes, u64::from(call.limit));
+    }
     put_answer(bytes, record);
 }
 
 fn put_answer(bytes: &mut Vec<u8>, record: &Stored) {
     match record {
-        Stored::Answered(_, Answer::Tree(nodes)) => {
+        Stored::Answered {
+            answer: Answer::Tree(nodes),
+            ..
+        } => {
             put_number(bytes, nodes.len() as u64);
             for node in nodes {
                 let mut words = node.token.words().to_vec();
@@ -139,7 +152,10 @@ fn put_answer(bytes: &mut Vec<u8>, record: &Stored) {
                 put_words(bytes, &words, KEPT_WORDS);
             }
         }
-        Stored::Answered(_, Answer::Messages(records)) => {
+        Stored::Answered {
+            answer: Answer::Messages(records),
+            ..
+        } => {
             put_number(bytes, records.len() as u64);
             for number in records.iter().flatten() {
                 put_number(bytes, u64::from(*number));
@@ -218,7 +234,7 @@ impl<'b> Reader<'b> {
         let len = self.number()?;
         let list = self.words(len, TOKEN_WORDS)?;
         let tokens = decode_list(&list);
-        let used = match (head >> 4, &tokens) {
+        let used = match (head >> 4 & 3, &tokens) {
             (0, _) => (self.number()?, self.number()?),
             (1, Some(tokens)) => exact_set(tokens),
             (2, _) => FULL_SET,
@@ -228,6 +244,10 @@ impl<'b> Reader<'b> {
         let mut version = [0; 2];
         version.copy_from_slice(self.take(2)?);
         let version = i16::from_le_bytes(version);
+        let limit = match head & LIMITED {
+            0 => MOST_NESTING,
+            _ => self.number_32()?,
+        };
         if head & 0xF == 2 {
             let call = Call {
                 list,
@@ -237,6 +257,7 @@ impl<'b> Reader<'b> {
                 used,
                 source_len,
                 version,
+                limit,
             };
             return Ok(Stored::Refused(call, self.refusal()?));
         }
@@ -252,7 +273,12 @@ impl<'b> Reader<'b> {
             source_len,
             version,
         };
-        Ok(Stored::Answered(case, self.answer(head & 0xF)?))
+        let answer = self.answer(head & 0xF)?;
+        Ok(Stored::Answered {
+            case,
+            limit,
+            answer,
+        })
     }
 
     fn refusal(&mut self) -> Result<Refusal, Malformed> {

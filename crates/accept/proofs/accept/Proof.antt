@@ -2,7 +2,7 @@
 use mathlib.Core.Path.{sym, ap, _∙_}
 use borrow.Author.Needs.{needs}
 use Rattle.accept.specs.Accepting.{verdictOf}
-use Rattle.accept.proofs.AcceptLaws.{by-length, whole-tokens, by-lent, by-words}
+use Rattle.accept.proofs.AcceptLaws.{by-length, whole-tokens, by-lent, by-words, by-nesting}
 use Rattle.accept.proofs.accept.Statement.{statement}
 use Rattle.accept.proofs.accept.Tie as tie
 
@@ -19,13 +19,15 @@ returns : tie.Need-returns
 returns c =
     let measured = c .before .before in
     let a = measured .before .before .args in
-    by-length (a .list .now) (a .sizes) (a .used) (measured .list-length .result) (c .before .match .keys2) (measured .list-length .ensures)
+    by-length (a .list .now) (a .sizes) (a .used) (a .limit) (measured .list-length .result) (c .before .match .keys2)
+    (measured .list-length .ensures)
 
 buffers-requires : tie.Need-buffers-requires
 buffers-requires c κs =
     let measured = c .before .before .before in
     let a = measured .before .before .args in
-    whole-tokens (a .list .now) (a .sizes) (a .used) _ (sym (ap verdictOf (c .before .length .given .1)) ∙ measured .list-length .ensures) .1
+    let whole = sym (ap verdictOf (c .before .length .given .1)) ∙ measured .list-length .ensures in
+    whole-tokens (a .list .now) (a .sizes) (a .used) (a .limit) _ whole .1
 
 enum-told-2 : tie.Need-enum-told-2
 enum-told-2 c = search needs
@@ -38,23 +40,53 @@ returns-2 c =
     let lent = c .before .before in
     let measured = lent .before .before .before .before in
     let a = measured .before .before .args in
-    by-lent (a .list .now) (a .sizes) (a .used) _ (sym (ap verdictOf (lent .before .before .length .given .1)) ∙ measured .list-length .ensures)
-    (lent .buffers .result) (c .before .match2 .keys2) (lent .buffers .ensures)
+    let whole = sym (ap verdictOf (lent .before .before .length .given .1)) ∙ measured .list-length .ensures in
+    by-lent (a .list .now) (a .sizes) (a .used) (a .limit) _ whole (lent .buffers .result) (c .before .match2 .keys2)
+    (lent .buffers .ensures)
 
 token-words-requires : tie.Need-token-words-requires
 token-words-requires c κs =
     let lent = c .before .before in
     let measured = lent .before .before .before .before in
     let a = measured .before .before .args in
-    whole-tokens (a .list .now) (a .sizes) (a .used) _ (sym (ap verdictOf (lent .before .before .length .given .1)) ∙ measured .list-length .ensures) .0
+    let whole = sym (ap verdictOf (lent .before .before .length .given .1)) ∙ measured .list-length .ensures in
+    whole-tokens (a .list .now) (a .sizes) (a .used) (a .limit) _ whole .0
+
+enum-told-4 : tie.Need-enum-told-4
+enum-told-4 c = search needs
+
+enum-told-5 : tie.Need-enum-told-5
+enum-told-5 c = search needs
 
 returns-3 : tie.Need-returns-3
 returns-3 c =
-    let lent = c .before .before .before in
+    let looked = c .before .before in
+    let lent = looked .before .before .before in
     let measured = lent .before .before .before .before in
     let a = measured .before .before .args in
-    by-words (a .list .now) (a .sizes) (a .used) _ (sym (ap verdictOf (lent .before .before .length .given .1)) ∙ measured .list-length .ensures)
-    _ (sym (ap verdictOf (c .before .enum-told2 .given .1)) ∙ lent .buffers .ensures) (c .token-words .result) (c .token-words .ensures)
+    let whole = sym (ap verdictOf (lent .before .before .length .given .1)) ∙ measured .list-length .ensures in
+    let room = sym (ap verdictOf (looked .before .enum-told2 .given .1)) ∙ lent .buffers .ensures in
+    by-words (a .list .now) (a .sizes) (a .used) (a .limit) _ whole _ room (looked .token-words .result) (c .before .match3 .keys2)
+    (looked .token-words .ensures)
+
+nesting-requires : tie.Need-nesting-requires
+nesting-requires c κs =
+    let lent = c .before .before .before .before .before in
+    let measured = lent .before .before .before .before in
+    let a = measured .before .before .args in
+    let whole = sym (ap verdictOf (lent .before .before .length .given .1)) ∙ measured .list-length .ensures in
+    whole-tokens (a .list .now) (a .sizes) (a .used) (a .limit) _ whole
+
+returns-4 : tie.Need-returns-4
+returns-4 c =
+    let looked = c .before .before .before in
+    let lent = looked .before .before .before in
+    let measured = lent .before .before .before .before in
+    let a = measured .before .before .args in
+    let whole = sym (ap verdictOf (lent .before .before .length .given .1)) ∙ measured .list-length .ensures in
+    let room = sym (ap verdictOf (looked .before .enum-told2 .given .1)) ∙ lent .buffers .ensures in
+    let words = sym (ap verdictOf (c .before .enum-told4 .given .1)) ∙ looked .token-words .ensures in
+    by-nesting (a .list .now) (a .sizes) (a .used) (a .limit) _ whole _ room _ words (c .nesting .result) (c .nesting .ensures)
 
 pub accept-spec : {M : Type 1} → statement M
 accept-spec =
@@ -69,4 +101,8 @@ accept-spec =
     enum-told-3
     returns-2
     token-words-requires
-    returns-3)
+    enum-told-4
+    enum-told-5
+    returns-3
+    nesting-requires
+    returns-4)

@@ -7,6 +7,7 @@ use lib.Dec.{ltb}
 use borrow.Author.Needs.{needs}
 use borrow.Author.Tests.{le-leb, lt-leb, not-true, not-false}
 use Rattle.molang.specs.FirstFailure.{must, firstOf}
+use Rattle.molang.specs.Parse.{isLimit}
 use Rattle.accept.specs.Accepting.{lentRefusal}
 use Rattle.accept.proofs.buffers.Statement.{statement}
 use Rattle.accept.proofs.buffers.Tie as tie
@@ -77,19 +78,45 @@ returns-5 c =
       lt-leb (a .sizes .source) 536870911 (omega arith),
     )
 
+is-limit-requires : tie.Need-is-limit-requires
+is-limit-requires c κs = search needs
+
 returns-6 : tie.Need-returns-6
 unfolding lentRefusal firstOf must
 returns-6 c =
-    let a = c .before .before .before .before .before .before .before .before .before .before .args in
+    let checked = c .before in
+    let legal-set = checked .before .before .before .before in
+    let a = legal-set .before .before .before .before .before .before .before .args in
     let legal : ltb (a .used .high * 2 ^ 64 + a .used .low) (2 ^ 111) ≡ true =
-    sym (c .before .before .before .is-legal .ensures) ∙ not-false (c .before .before .before .is-legal .result) (c .before .before .if4 .left)
+    sym (legal-set .is-legal .ensures) ∙ not-false (legal-set .is-legal .result) (checked .before .before .before .if4 .left)
     in
+    let outside : isLimit (a .limit) ≡ false = sym (checked .is-limit .ensures) ∙ not-true (checked .is-limit .result) (c .if6 .taken) in
     rw (
       le-leb (21 * a .n) (a .sizes .tree) (omega arith),
       le-leb 16 (a .sizes .messages) (omega arith),
       le-leb (64 * a .n + 64) (a .sizes .work) (omega arith),
       legal,
       le-leb (a .sizes .source) 536870911 (omega arith),
+      outside,
+    )
+
+returns-7 : tie.Need-returns-7
+unfolding lentRefusal firstOf must
+returns-7 c =
+    let checked = c .before in
+    let legal-set = checked .before .before .before .before in
+    let a = legal-set .before .before .before .before .before .before .before .args in
+    let legal : ltb (a .used .high * 2 ^ 64 + a .used .low) (2 ^ 111) ≡ true =
+    sym (legal-set .is-legal .ensures) ∙ not-false (legal-set .is-legal .result) (checked .before .before .before .if4 .left)
+    in
+    let inside : isLimit (a .limit) ≡ true = sym (checked .is-limit .ensures) ∙ not-false (checked .is-limit .result) (c .if6 .left) in
+    rw (
+      le-leb (21 * a .n) (a .sizes .tree) (omega arith),
+      le-leb 16 (a .sizes .messages) (omega arith),
+      le-leb (64 * a .n + 64) (a .sizes .work) (omega arith),
+      legal,
+      le-leb (a .sizes .source) 536870911 (omega arith),
+      inside,
     )
 
 pub buffers-spec : {M : Type 1} → statement M
@@ -106,4 +133,6 @@ buffers-spec =
     is-legal-requires
     returns-4
     returns-5
-    returns-6)
+    is-limit-requires
+    returns-6
+    returns-7)

@@ -27,6 +27,9 @@ first-version-requires c κs = search needs
 end-version-requires : tie.Need-end-version-requires
 end-version-requires c κs = search needs
 
+limit-of-requires : tie.Need-limit-of-requires
+limit-of-requires c κs = search needs
+
 array-share-prefix-list : tie.Need-array-share-prefix-list
 array-share-prefix-list c = search needs
 
@@ -50,6 +53,7 @@ ask-spec =
     list-words-requires
     first-version-requires
     end-version-requires
+    limit-of-requires
     array-share-prefix-list
     slice-aggregate-read-at
     read-at-requires

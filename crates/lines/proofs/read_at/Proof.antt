@@ -5,10 +5,10 @@ use Rattle.lines.proofs.read_at.Statement.{statement}
 use Rattle.lines.proofs.read_at.Tie as tie
 
 abbrev Inv-loop : tie.InvT-loop
-Inv-loop list first end answer items bits₀ bits = Unit {0}
+Inv-loop list first end limit answer items bits₀ bits = Unit {0}
 
 abbrev μ-loop : tie.MeasureT-loop
-μ-loop list first end answer items bits₀ bits = end - bits
+μ-loop list first end limit answer items bits₀ bits = end - bits
 
 loop-holds : tie.Need-loop-holds Inv-loop μ-loop
 loop-holds c = omega arith

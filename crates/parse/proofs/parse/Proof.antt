@@ -18,7 +18,7 @@ use Rattle.parse.proofs.parse.Tie as tie
 abbrev the-call : tie.Start → Call
 the-call start =
     let a = start .args in
-    call (a .list .now) (a .tree .now) (a .messages .now) (a .work .now) (a .source-length) (a .version) (a .used-low) (a .used-high)
+    call (a .list .now) (a .tree .now) (a .messages .now) (a .work .now) (a .source-length) (a .version) (a .used-low) (a .used-high) (a .limit)
 
 -- What the checks say of a call that is read.
 is-read : (c : tie.After-accepted2) → isRead (c .accepted2 .given .0 .0) ≡ checked (the-call (c .before .before .before .before .before .before .before))

@@ -21,7 +21,8 @@ enum-known-first-3 c = search needs
 -- What is handed on; and what comes of it by the first answer, once that is known.
 abbrev given : tie.Start → Handed
 given s =
-    let a = s .args in handedOf (a .tree .now) (a .written .now) (a .again .now) (a .messages .now) (a .work .now) (a .source-length) (a .version)
+    let a = s .args in
+    handedOf (a .tree .now) (a .written .now) (a .again .now) (a .messages .now) (a .work .now) (a .source-length) (a .version) (a .limit)
 
 known : (s : tie.Start) (r : Answer) → s .args .first ≡ r → afterFirst (given s) (toldOf r) ≡ afterFirst (given s) (toldOf (s .args .first))
 known s r e = ap (λ (a : Answer). afterFirst (given s) (toldOf a)) (sym e)

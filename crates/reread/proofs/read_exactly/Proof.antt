@@ -27,7 +27,7 @@ returns c =
     let used = c .before .before .before .before .before .before .before .before .before .before .used-of in
     same-call
     (exact-call (a .list .now) (start .pre) (used .result .low) (used .result .high) (search needs) (used .ensures) (a .tree .now) (a .messages .now)
-    (a .work .now) (a .source-length) (toZ-ofZ (start .fits .version)))
+    (a .work .now) (a .source-length) (toZ-ofZ (start .fits .version)) (a .limit))
     (c .before .before .before .before .before .before .parse .ensures)
 
 pub read-exactly-spec : {M : Type 1} → statement M

@@ -17,7 +17,7 @@ parse-requires c κs = search needs
 abbrev first : tie.Start → Call
 first s =
     let a = s .args in
-    call (a .list .now) (a .tree .now) (a .messages .now) (a .work .now) (a .source-length) (a .version) (a .used-low) (a .used-high)
+    call (a .list .now) (a .tree .now) (a .messages .now) (a .work .now) (a .source-length) (a .version) (a .used-low) (a .used-high) (a .limit)
 
 -- What it told and left.
 parsed : (c : tie.After-parse)
@@ -26,7 +26,7 @@ parsed c =
     let s = c .before .before .before .before .before .before .before .before .before .before in
     let a = s .args in
     same-call
-    (ap (λ (z : ℤ). call (a .list .now) (a .tree .now) (a .messages .now) (a .work .now) (a .source-length) z (a .used-low) (a .used-high))
+    (ap (λ (z : ℤ). call (a .list .now) (a .tree .now) (a .messages .now) (a .work .now) (a .source-length) z (a .used-low) (a .used-high) (a .limit))
     (toZ-ofZ (s .fits .version)))
     (c .parse .ensures)
 
@@ -61,7 +61,7 @@ returns c =
     let at = on .before .before .before .before .before .before .before .before .before .before .before .before in
     let s = at .before .before .before .before .before .before .before .before .before .before in
     let a = s .args in
-    has-reread (rereading (first s) (a .written .now) (a .again .now) (a .source-length-again) (a .version-again)) (parsed at)
+    has-reread (rereading (first s) (a .written .now) (a .again .now) (a .source-length-again) (a .version-again) (a .limit-again)) (parsed at)
     (toZ-ofZ (s .fits .version-again))
     (on .after-first .ensures)
 

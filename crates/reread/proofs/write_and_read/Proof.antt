@@ -19,7 +19,8 @@ use Rattle.reread.proofs.write_and_read.Tie as tie
 -- What is handed on, and that the tree stands within its buffer.
 abbrev given : tie.Start → Handed
 given s =
-    let a = s .args in handedOf (a .tree .now) (a .written .now) (a .again .now) (a .messages .now) (a .work .now) (a .source-length) (a .version)
+    let a = s .args in
+    handedOf (a .tree .now) (a .written .now) (a .again .now) (a .messages .now) (a .work .now) (a .source-length) (a .version) (a .limit)
 
 tree-within : (s : tie.Start) → 7 * (s .args .nodes) ≤ length (s .args .tree .now)
 tree-within s = omega (arith, tree-room (s .pre .first) (s .args .nodes) (s .pre .says), ap length (s .pre .left))

@@ -58,8 +58,8 @@ operator-of-requires-2 c κs = let s = c .before .before .before .before .before
 still-open-requires : tie.Need-still-open-requires
 still-open-requires c κs = let s = c .before .before .before .before .before .before .before .before .before .before .before .before in let g = s .pre .0 in standing-named (g .standing) (s .pre .1) (omega (arith, g .apart, g .room)) (omega (arith, g .room))
 
-cast-t26 : tie.Need-cast-t26
-cast-t26 c = search needs
+cast-t27 : tie.Need-cast-t27
+cast-t27 c = search needs
 
 same-length : tie.Need-same-length
 same-length c = search needs
@@ -68,14 +68,17 @@ returns : tie.Need-returns
 returns c =
     let test = c .before .before .before .before in
     let o = test .before .before .before .before .before .before in
-    let s = o .before .before .before .before in
-    record {
-      answer = λ g.
-          close-differs (g .standing) (s .pre .1) (g .tree) (o .opener-at .result) _ _ (s .args .at .index) (c .before .still-open .result) (o .opener-at .ensures)
-          (looked-for (test .before .before)) (test .operator-of2 .ensures) (c .before .before .before .if1 .taken) (c .before .still-open .ensures);
-      same = λ g j f. refl;
-      long = refl;
-    }
+    let s = o .before .before .before .before in (
+      record {
+        answer = λ g.
+            close-differs (g .standing) (s .pre .1) (g .tree) (o .opener-at .result) _ _ (s .args .at .index) (c .before .still-open .result)
+            (o .opener-at .ensures) (looked-for (test .before .before)) (test .operator-of2 .ensures) (c .before .before .before .if1 .taken)
+            (c .before .still-open .ensures);
+        same = λ g j f. refl;
+        long = refl;
+      },
+      refl,
+    )
 
 -- where the opener was found, from where its closer is known to match
 abbrev found : tie.Else1 → tie.After-opener-at
@@ -114,10 +117,12 @@ returns-2 c =
     let same = given .before .before .before in
     let test = same .before in
     let o = found same in
-    let s = o .before .before .before .before in
-    close-closed (s .pre .1) (o .opener-at .result) _ _ (s .args .at .index) (given .give-children .last .0) (set .last .0)
-    (o .opener-at .ensures) (looked-for (test .before .before)) (test .operator-of2 .ensures) (same .if1 .left)
-    (given .give-children .ensures) (set .ensures) (opener-in given)
+    let s = o .before .before .before .before in (
+      close-closed (s .pre .1) (o .opener-at .result) _ _ (s .args .at .index) (given .give-children .last .0) (set .last .0)
+          (o .opener-at .ensures) (looked-for (test .before .before)) (test .operator-of2 .ensures) (same .if1 .left)
+          (given .give-children .ensures) (set .ensures) (opener-in given),
+      refl,
+    )
 
 pub close-section-spec : {M : Type 1} → statement M
 close-section-spec =
@@ -132,7 +137,7 @@ close-section-spec =
     closer-of-requires
     operator-of-requires-2
     still-open-requires
-    cast-t26
+    cast-t27
     same-length
     returns
     add-from

@@ -1,15 +1,18 @@
 -- `sections::look` meets its contract.
 use Prim.Native.Nat.{_+_, _^_, _<_}
-use mathlib.Core.Path.{_≡_, refl, sym, _∙_}
+use mathlib.Core.Path.{_≡_, refl, sym, ap, _∙_}
 use mathlib.Core.Logic.{_⊎_, inl, inr, ⊎-elim}
 use mathlib.Core.Bool.{true, false}
 use native.Mathlib.Omega.{arith}
 use borrow.Author.Needs.{needs}
 use lib.ListN.{length-set}
 use Rattle.molang.specs.Operator.{isCloser}
+use Rattle.molang.specs.Nesting.{openAfter}
 use Rattle.ops.specs.Operators.{isOpener}
 use Rattle.nodes.proofs.Runs.{set-other}
-use Rattle.sections.proofs.SectionLooking.{look-in, look-position, look-places, look-other, look-opens, look-closes, position-small, opens-same}
+use Rattle.sections.proofs.SectionCases.{closer-open}
+use Rattle.sections.proofs.SectionLooking.{look-in, look-position, look-places, look-other, look-opens, look-closes, looked-on}
+use Rattle.sections.proofs.SectionLooking.{position-small, opens-same}
 use Rattle.sections.proofs.look.Statement.{statement}
 use Rattle.sections.proofs.look.Tie as tie
 
@@ -38,14 +41,10 @@ returns c =
     let o = c .before .before .before .before .before .before .operator-of in
     let h : isOpener (o .result) ≡ true = sym (c .before .before .before .before .before .is-opener .ensures) ∙ c .before .before .before .before .if1 .taken in
     let r = c .before .before .open-section in
-    record {
-      answer = λ g.
-          look-position g (s .args .at .index) (e .result) _ (r .last .0) (e .ensures .0) (e .ensures .1)
-          (look-opens g (o .result) (e .result) (r .result) (r .last .0) (o .ensures) h (r .ensures .words) (r .ensures .more) (r .ensures .deeper) (r .ensures .at));
-      same = λ g j f x y.
-          opens-same (s .args .work .now) (r .last .0) (s .args .base) (s .args .marks) (s .args .at .write) (s .args .at .depth) (s .args .item) (e .result) (r .ensures .words) j x y;
-      long = r .kept .0;
-    }
+    looked-on (s .pre .0) (s .args .at .index) (e .result) (r .result) (r .last .0) (e .ensures .0) (e .ensures .1)
+    (λ g. look-opens g (o .result) (e .result) (r .result) (r .last .0) (o .ensures) h (r .ensures .words) (r .ensures .more) (r .ensures .deeper) (r .ensures .at))
+    (opens-same (s .args .work .now) (r .last .0) (s .args .base) (s .args .marks) (s .args .at .write) (s .args .at .depth) (s .args .item) (e .result) (r .ensures .words))
+    (r .kept .0)
 
 is-closer-requires : tie.Need-is-closer-requires
 is-closer-requires c κs = search needs
@@ -64,13 +63,17 @@ returns-2 c =
     let h : isOpener (o .result) ≡ false = sym (c .before .before .before .before .before .before .before .before .is-opener .ensures) ∙ c .before .before .before .before .before .before .before .if1 .left in
     let closes : isCloser (o .result) ≡ true = sym (c .before .before .before .before .before .before .is-closer .ensures) ∙ c .before .before .before .before .before .if2 .taken in
     let r = c .before .before .close-section in
-    record {
-      answer = λ g.
-          look-position g (s .args .at .index) (e .result) (r .result) (r .last .0) (e .ensures .0) (e .ensures .1)
-          (look-closes g (o .result) (e .result) (r .result) (r .last .0) (o .ensures) h closes (r .ensures));
-      same = λ g j f x y. r .ensures .same g j f;
-      long = r .ensures .long;
-    }
+    let w = r .ensures .0 in
+    let fewer = closer-open (s .args .at .depth) (o .result) h closes in (
+      record {
+        answer = λ g.
+            look-position g (s .args .at .index) (e .result) (r .result) (r .last .0) (e .ensures .0) (e .ensures .1)
+            (look-closes g (o .result) (e .result) (r .result) (r .last .0) (o .ensures) h closes w);
+        same = λ g j f x y. w .same g j f;
+        long = w .long;
+      },
+      r .ensures .1 ∙ sym fewer ∙ ap (openAfter (s .args .at .depth)) (o .ensures),
+    )
 
 add-work : tie.Need-add-work
 add-work c = search needs
@@ -94,13 +97,10 @@ returns-3 c =
     let o = c .before .before .before .before .operator-of in
     let h : isOpener (o .result) ≡ false = sym (c .before .before .before .is-opener .ensures) ∙ c .before .before .if1 .left in
     let other : (isCloser (o .result) ≡ false) ⊎ (s .args .at .depth ≡ 0) = ⊎-elim (λ w. inr (w .1 .left)) (λ w. inl (sym (c .before .is-closer .ensures) ∙ w .left)) (c .if2 .came) in
-    record {
-      answer = λ g.
-          look-position g (s .args .at .index) (e .result) _ _ (e .ensures .0) (e .ensures .1)
-          (look-places g (e .result) _ refl (look-other g (o .result) (e .result) (o .ensures) h other));
-      same = λ g j f x y. set-other (s .args .work .now) _ (s .args .base + s .args .at .write) (s .args .item) refl j (⊎-elim (λ w. omega arith) (λ w. omega arith) x);
-      long = simp length-set;
-    }
+    looked-on (s .pre .0) (s .args .at .index) (e .result) _ _ (e .ensures .0) (e .ensures .1)
+    (λ g. look-places g (e .result) _ refl (look-other g (o .result) (e .result) (o .ensures) h other))
+    (λ j x y. set-other (s .args .work .now) _ (s .args .base + s .args .at .write) (s .args .item) refl j (⊎-elim (λ w. omega arith) (λ w. omega arith) x))
+    (simp length-set)
 
 pub look-spec : {M : Type 1} → statement M
 look-spec =

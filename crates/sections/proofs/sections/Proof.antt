@@ -52,7 +52,7 @@ walked c g v =
     let o = c .before .before .before .before .before .before .before .before .before in
     let r = c .before .before .before .before .before .before .look in
     let given = c .before .before .looked .given in
-    walk-on (turn o g v) (r .result) (given .0 .0) (r .last .0) (r .ensures) (given .1)
+    walk-on (turn o g v) (r .result) (given .0 .0) (r .last .0) (r .ensures .0) (given .1)
 
 add-marks : tie.Need-add-marks Inv-open μ-open Inv-tokens μ-tokens
 add-marks c = omega (arith, c .before .pre .room)
@@ -149,7 +149,7 @@ same-length-3 : tie.Need-same-length-3 Inv-open μ-open Inv-tokens μ-tokens
 same-length-3 c =
     let o = c .before .before .before .before .before .before .before .before in
     let g = o .before .before .before .before .pre in
-    c .before .before .before .before .before .look .ensures .long ∙ now-at o g .2 .long
+    c .before .before .before .before .before .look .ensures .0 .long ∙ now-at o g .2 .long
 
 returns-3 : tie.Need-returns-3 Inv-open μ-open Inv-tokens μ-tokens
 returns-3 c =
@@ -159,9 +159,9 @@ returns-3 c =
     let given = c .before .looked2 .given in
     loses-nothing
     (record {
-      answer = λ g. walk-differs (turn o g (now-at o g)) (r .result) (given .0 .0) (r .last .0) (r .ensures) (given .1) .0;
-      kept = λ g. walk-differs (turn o g (now-at o g)) (r .result) (given .0 .0) (r .last .0) (r .ensures) (given .1) .1;
-      long = r .ensures .long ∙ now-at o pre .2 .long;
+      answer = λ g. walk-differs (turn o g (now-at o g)) (r .result) (given .0 .0) (given .0 .1 .0) (r .last .0) (r .ensures .0) (given .1) .0;
+      kept = λ g. walk-differs (turn o g (now-at o g)) (r .result) (given .0 .0) (given .0 .1 .0) (r .last .0) (r .ensures .0) (given .1) .1;
+      long = r .ensures .0 .long ∙ now-at o pre .2 .long;
     })
 
 pub sections-spec : {M : Type 1} → statement M

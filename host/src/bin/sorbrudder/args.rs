@@ -1,6 +1,7 @@
 //! The words after a command: options, their values, and the rest.
 
 use crate::failure::Failure;
+use sorbrudder::Limit;
 use std::ffi::{OsStr, OsString};
 use std::path::PathBuf;
 
@@ -135,6 +136,21 @@ impl Args {
         version.map_err(|_| {
             self.wrong(&format!(
                 "`{name}` takes a version from -32768 to 32767, not `{word}`"
+            ))
+        })
+    }
+
+    /// A nesting limit; the greatest where none was given.
+    pub fn limit(&self, name: &str) -> Result<Limit, Failure> {
+        let Some(value) = self.value(name) else {
+            return Ok(Limit::MOST);
+        };
+        let value = value.to_string_lossy();
+        let limit = value.trim().parse().ok().and_then(Limit::new);
+        limit.ok_or_else(|| {
+            self.wrong(&format!(
+                "`{name}` takes a nesting limit from 1 to {}, not `{value}`",
+                Limit::MOST
             ))
         })
     }

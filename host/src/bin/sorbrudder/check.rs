@@ -6,10 +6,10 @@ use crate::input::Input;
 use crate::line::{About, Line};
 use crate::paths;
 use crate::several::{self, Stdout, Teller};
-use sorbrudder::{ReadError, Reader};
+use sorbrudder::{Limit, ReadError, Reader};
 use std::path::Path;
 
-pub const OPTIONS: &[args::Option] = &[args::flag("--json")];
+pub const OPTIONS: &[args::Option] = &[args::flag("--json"), args::value("--limit")];
 
 /// What was found in a file, or in all.
 #[derive(Clone, Copy, Debug, Default)]
@@ -18,6 +18,7 @@ pub struct Found {
     pub lists: u64,
     trees: u64,
     no_trees: u64,
+    too_deep: u64,
     refused: u64,
 }
 
@@ -35,6 +36,7 @@ pub fn run(args: &Args) -> Result<Status, Failure> {
     if args.rest.is_empty() {
         return Err(args.wrong("name the files or folders to check"));
     }
+    let limit = args.limit("--limit")?;
     let files = paths::files(&args.rest)?;
     let is_json = args.has("--json");
     let mut sum = Found::default();
@@ -42,21 +44,23 @@ pub fn run(args: &Args) -> Result<Status, Failure> {
         goes_on: false,
         is_closed: false,
     };
-    let check = |file: &Path, teller: &mut Teller<Found>| check_file(file, is_json, teller);
+    let check = |file: &Path, teller: &mut Teller<Found>| check_file(file, limit, is_json, teller);
     let status = several::each(&files, is_json, &mut stdout, check, |found| {
         sum.files += 1;
         sum.lists += found.lists;
         sum.trees += found.trees;
         sum.no_trees += found.no_trees;
+        sum.too_deep += found.too_deep;
         sum.refused += found.refused;
     })?;
     let damaged = files.len() as u64 - sum.files;
     eprintln!(
-        "{} files, {} lists: {} trees, {} no trees, {} refused; {damaged} files not read to their end",
+        "{} files, {} lists: {} trees, {} no trees, {} too deep, {} refused; {damaged} files not read to their end",
         files.len(),
         sum.lists,
         sum.trees,
         sum.no_trees,
+        sum.too_deep,
         sum.refused,
     );
     let found = if sum.trees < sum.lists {
@@ -67,19 +71,25 @@ pub fn run(args: &Args) -> Result<Status, Failure> {
     Ok(status.max(found))
 }
 
-fn check_file(file: &Path, is_json: bool, teller: &mut Teller<Found>) -> Result<Found, Failure> {
+fn check_file(
+    file: &Path,
+    limit: Limit,
+    is_json: bool,
+    teller: &mut Teller<Found>,
+) -> Result<Found, Failure> {
     let mut input = Input::open(file)?;
     note_words(&input, teller);
-    let (mut found, mut reader) = (Found::default(), Reader::new());
+    let (mut found, mut reader) = (Found::default(), Reader::new().with_limit(limit));
     while let Some(list) = input.next_list()? {
         found.lists += 1;
         let line = match reader.read_words(list.words, list.version) {
             Ok(_) => Line::new("tree", None),
-            Err(why) => Line::of_read_error(&why, None),
+            Err(why) => Line::of_limited(&why, list.words, limit),
         };
         match line.result {
             "tree" => found.trees += 1,
             "no-tree" => found.no_trees += 1,
+            "too-deep" => found.too_deep += 1,
             _ => found.refused += 1,
         }
         let about = About::list(file, &list);

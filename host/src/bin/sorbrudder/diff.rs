@@ -5,7 +5,7 @@ use crate::bracketed;
 use crate::check::{is_refused, note_words};
 use crate::failure::{Failure, Status};
 use crate::input::Input;
-use crate::line::{About, Line, Place};
+use crate::line::{About, Line, Place, Which};
 use crate::paths;
 use crate::rules;
 use crate::several::{self, Stdout, Teller};
@@ -138,7 +138,7 @@ fn differing((old, from): (TreeRef<'_>, i16), (new, to): (TreeRef<'_>, i16)) -> 
         );
         line.text += &rule.map_or(String::new(), |rule| format!(": {rule}"));
         line.place = Some(Place {
-            node: one.number(),
+            which: Which::Node(one.number()),
             op: one.op(),
             span: one.span(),
         });

@@ -6,19 +6,21 @@ use crate::json::Object;
 use crate::one_list::{self, OneList};
 use crate::output;
 use crate::read::{self, NEWEST};
-use sorbrudder::{Message, ReadError, Reader, Span};
+use sorbrudder::{Message, ReadError, Reader, Span, Token};
 
 pub const OPTIONS: &[args::Option] = &[
     one_list::E,
     one_list::SOURCE,
     args::value("--at"),
+    args::value("--limit"),
     args::flag("--json"),
 ];
 
 pub fn run(args: &Args) -> Result<Status, Failure> {
     let one = OneList::of(args)?;
     let version = args.version("--at")?.or(one.version).unwrap_or(NEWEST);
-    match Reader::new().read(&one.list, version) {
+    let mut reader = Reader::new().with_limit(args.limit("--limit")?);
+    match reader.read(&one.list, version) {
         Ok(tree) if args.has("--json") => {
             let mut object = Object::new();
             object
@@ -48,6 +50,10 @@ pub fn complaint(one: &OneList, version: i16, why: &ReadError, is_json: bool) ->
         return as_json(one, version, why, &messages);
     }
     let mut text = format!("version {version}   no tree\n\n{}\n", one.source);
+    if let Some(token) = deepest(one, why) {
+        text += &format!("{} {why}\n", under(&one.source, token.span));
+        return text;
+    }
     for message in &messages {
         text += &format!("{} {message}\n", under(&one.source, message.span()));
     }
@@ -55,6 +61,14 @@ pub fn complaint(one: &OneList, version: i16, why: &ReadError, is_json: bool) ->
         text += &format!("{why}\n");
     }
     text
+}
+
+/// The token that goes above the limit, where the list is too deep.
+fn deepest(one: &OneList, why: &ReadError) -> Option<Token> {
+    match why {
+        ReadError::TooDeep { token } => one.list.get(*token).copied(),
+        _ => None,
+    }
 }
 
 /// Signs under what a span covers of a text, of at least one place.
@@ -78,19 +92,20 @@ fn as_json(one: &OneList, version: i16, why: &ReadError, messages: &[Message]) -
             .text("text", &message.to_string());
         object
     };
+    let result = match why {
+        ReadError::Messages(_) => "no-tree",
+        ReadError::TooDeep { .. } => "too-deep",
+        _ => "refused",
+    };
     let mut object = Object::new();
     object
         .number("version", version)
-        .text(
-            "result",
-            if messages.is_empty() {
-                "refused"
-            } else {
-                "no-tree"
-            },
-        )
+        .text("result", result)
         .text("source", &one.source)
-        .text("text", &why.to_string())
-        .objects("messages", messages.iter().map(message));
+        .text("text", &why.to_string());
+    if let ReadError::TooDeep { token } = why {
+        object.number("token", *token as u64);
+    }
+    object.objects("messages", messages.iter().map(message));
     object.done() + "\n"
 }

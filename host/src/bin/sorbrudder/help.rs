@@ -25,11 +25,14 @@ Exit status: 0 all well, 1 some lists differ, stayed behind or are no trees, 2 w
 ";
 
 const CHECK: &str = "\
-sorbrudder check PATH.. [--json]
+sorbrudder check PATH.. [--limit N] [--json]
 
 Reads every list of the archives at its own version, and tells of those that are no trees. Nothing is written.
 
-  --json    a line of JSON for every list: file, list, byte, version, result (tree, no-tree, refused), messages, text
+  --limit N   the nesting limit of the engine that the lists are for, 1 to 4096, which is the usual: a list in which more brackets are
+              open at once is told of, with the token that opens the first too many
+  --json      a line of JSON for every list: file, list, byte, version, result (tree, no-tree, too-deep, refused), messages, text, and
+              token, op, operator, start and end where it is too deep
 
 An archive that is cut or has a bit turned over is told of on standard error, and the status is 4. In a plain file of words, damage at a
 token's end cannot be seen, which is said once a file.
@@ -39,7 +42,7 @@ const DIFF: &str = "\
 sorbrudder diff PATH.. --to V [--json]
 
 Reads every list at its own version and at V, and tells of those that are not read alike: both readings with all their brackets, the
-first node that differs, and the rule. Nothing is written.
+first node that differs, and the rule. Nothing is written. Nesting limits are not looked at: `check --limit` and `lift --limit` do.
 
   --to V    the version to compare with
   --json    a line of JSON for every list: file, list, byte, version, to, result (same, differs, only-old, only-new, no-tree, refused),
@@ -52,12 +55,15 @@ sorbrudder lift PATH.. --in-place --to V [options]
 
 Writes the lists of IN so that version V reads each as the tree that its own version reads. A list that both read alike is left alone. A
 list that differs is written with brackets; `a - b` in it becomes `a + (- b)`, which is the same tree. A list that is no tree, or cannot
-be written, stays as it is, at its own version, and is told of; then the status is 1. What cannot be written: blocks, loops,
+be written, or is too deep, stays as it is, at its own version, and is told of; then the status is 1. What cannot be written: blocks, loops,
 arrays, members and `->`, a bracket round several parts, a `:` that is not the right side of a `?`, and a list that would have more than
-4,096 tokens with its brackets, which may happen from some 2,050 tokens on.
+4,096 tokens with its brackets, which may happen from some 2,050 tokens on. What is too deep: with `--limit N`, a list in which more than N
+brackets are open at once, as it is or with the brackets that it needs; a list can be deeper than it was when it is written.
 
   -o OUT          a file, a folder where IN is one, or - for standard output
   --to V          the version to lift to
+  --limit N       the nesting limit of the engine that is lifted to, 1 to 4096, which is the usual
+  --own-limit N   the nesting limit of the engines that the lists were written for; one that is deeper was no tree there
   --in-place      replaces the files themselves
   --backup        keeps each old file as FILE.bak, which must not be there yet
   --dry-run       writes nothing, and tells what would be done
@@ -65,20 +71,22 @@ arrays, members and `->`, a bracket round several parts, a `:` that is not the r
   --settle        writes every list that can be written with all its brackets, so that every version reads it the same
   --plain         writes plain files of words instead of containers (docs/FORMAT.md)
   --report FILE   a line of JSON for every list
-  --json          the same on standard output: file, list, byte, version, to, result (same, lifted, settled, stays, no-tree, refused),
-                  and node, op, operator, start, end and reason of what stays behind
+  --json          the same on standard output: file, list, byte, version, to, result (same, lifted, settled, stays, no-tree, too-deep,
+                  refused), and node or token, op, operator, start, end and reason of what stays behind; the reason of too-deep is
+                  as-given, as-written (the token is then one of the list with its brackets) or own-limit
 
 A file is written beside its target, brought to the disk, read back and compared, and then put in the target's place at once. Killed at
 any moment or on a full disk, the old file is whole; a file `.sorbrudder-*.tmp` may be left, and can be deleted.
 ";
 
 const READ: &str = "\
-sorbrudder read FILE#N | -e LIST [--at V] [--source TEXT] [--json]
+sorbrudder read FILE#N | -e LIST [--at V] [--limit N] [--source TEXT] [--json]
 
 Prints the tree of a list: as a line with all its brackets, and as a drawing, a node a line.
 
   -e LIST         a list in the notation: names and numbers, Molang's signs, math.sin, variable.x
   --at V          the version; else the list's own, else 13, the newest
+  --limit N       a nesting limit, 1 to 4096, which is the usual
   --source TEXT   the file with the text that the list's spans lie in
   --json          one object: version, source, bracketed, tree, nodes
 ";
@@ -91,9 +99,10 @@ each node of a part that differs. The status is 1 where the versions differ.
 ";
 
 const EXPLAIN: &str = "\
-sorbrudder explain FILE#N | -e LIST [--at V] [--source TEXT] [--json]
+sorbrudder explain FILE#N | -e LIST [--at V] [--limit N] [--source TEXT] [--json]
 
-Prints why a list is no tree, each message under what it points at. The status is 1 where it is none.
+Prints why a list is no tree, each message under what it points at; with `--limit N` also the bracket that opens one more than N. The status
+is 1 where it is none.
 ";
 
 const DRAW: &str = "\

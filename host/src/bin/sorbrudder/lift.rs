@@ -72,8 +72,15 @@ fn tell(sum: &Carried, options: &Options) {
     let (to, stayed) = (options.to, sum.stayed());
     eprintln!(
         "{} lists to version {to}: {} written anew ({} of them scripts), {} left alone (both versions read them alike), {stayed} stayed behind \
-         ({} no trees, {} refused, {} not writable)",
-        sum.lists, sum.written, sum.scripts, sum.same, sum.no_trees, sum.refused, sum.not_writable,
+         ({} no trees, {} refused, {} not writable, {} too deep)",
+        sum.lists,
+        sum.written,
+        sum.scripts,
+        sum.same,
+        sum.no_trees,
+        sum.refused,
+        sum.not_writable,
+        sum.too_deep,
     );
     if options.target == Target::Nothing {
         eprintln!("nothing was written (--dry-run)");

@@ -3,7 +3,7 @@
 use crate::failure::Failure;
 use crate::json::Object;
 use sorbrudder::archive::List;
-use sorbrudder::{LiftError, Op, ReadError, Span};
+use sorbrudder::{LiftError, Limit, Op, ReadError, Span, Token};
 use std::path::Path;
 
 /// Which list it is about.
@@ -26,12 +26,32 @@ impl<'f> About<'f> {
     }
 }
 
-/// A node that something is said of.
+/// A node of a tree or a token of a list, by its number.
+#[derive(Clone, Copy, Debug)]
+pub enum Which {
+    Node(usize),
+    Token(usize),
+}
+
+/// A node or a token that something is said of.
 #[derive(Clone, Copy, Debug)]
 pub struct Place {
-    pub node: usize,
+    pub which: Which,
     pub op: Op,
     pub span: Span,
+}
+
+impl Place {
+    /// The place of a token of a list that has no bad word.
+    fn of_token(words: &[u32], token: usize) -> Option<Self> {
+        let words = words.chunks_exact(Token::WORDS).nth(token)?;
+        let Token { op, span, .. } = Token::from_words(words.try_into().ok()?)?;
+        Some(Self {
+            which: Which::Token(token),
+            op,
+            span,
+        })
+    }
 }
 
 /// What became of a list.
@@ -49,6 +69,9 @@ pub struct Line {
     /// The numbers of messages, or the number of a refusal.
     pub numbers: Vec<u32>,
 }
+
+/// The library's number for a list that is too deep.
+const TOO_DEEP: u32 = 18;
 
 /// The line of JSON about a file that could not be read or written to its end.
 pub fn of_failure(file: &Path, failure: &Failure) -> String {
@@ -85,6 +108,7 @@ impl Line {
                 ("no-tree", numbers.collect())
             }
             ReadError::Refused(refusal) => ("refused", vec![refusal.number()]),
+            ReadError::TooDeep { .. } => ("too-deep", vec![TOO_DEEP]),
             _ => ("refused", Vec::new()),
         };
         Self {
@@ -94,9 +118,37 @@ impl Line {
         }
     }
 
-    /// The line about a list that is not lifted.
-    pub fn of_lift_error(why: &LiftError, to: i16) -> Self {
+    /// The line about a list of these words in which a token goes above a limit.
+    fn too_deep(words: &[u32], token: usize, limit: &str, to: Option<i16>) -> Self {
+        let place = Place::of_token(words, token);
+        let at = place.map_or(String::new(), |Place { op, span, .. }| {
+            format!(", `{op}` at {span}")
+        });
+        Self {
+            text: format!("too deep for {limit}: token {token}{at}"),
+            place,
+            numbers: vec![TOO_DEEP],
+            ..Self::new("too-deep", to)
+        }
+    }
+
+    /// The line about a list of these words that is no tree under a limit.
+    pub fn of_limited(why: &ReadError, words: &[u32], limit: Limit) -> Self {
+        match why {
+            ReadError::TooDeep { token } => {
+                Self::too_deep(words, *token, &format!("the limit of {limit}"), None)
+            }
+            _ => Self::of_read_error(why, None),
+        }
+    }
+
+    /// The line about a list of these words that is not lifted from engines with this limit.
+    pub fn of_lift_error(why: &LiftError, words: &[u32], limit: Limit, to: i16) -> Self {
         let mut line = match why {
+            LiftError::Read(ReadError::TooDeep { token }) => {
+                let limit = format!("its own limit of {limit}");
+                Self::too_deep(words, *token, &limit, Some(to))
+            }
             LiftError::Read(why) => Self::of_read_error(why, Some(to)),
             _ => Self {
                 text: why.to_string(),
@@ -104,6 +156,27 @@ impl Line {
             },
         };
         match why {
+            LiftError::Read(ReadError::TooDeep { .. }) => line.reason = Some("own-limit"),
+            LiftError::TooDeep {
+                token,
+                op,
+                span,
+                is_written,
+                ..
+            } => {
+                line.result = "too-deep";
+                line.numbers = vec![TOO_DEEP];
+                line.reason = Some(if *is_written {
+                    "as-written"
+                } else {
+                    "as-given"
+                });
+                line.place = Some(Place {
+                    which: Which::Token(*token),
+                    op: *op,
+                    span: *span,
+                });
+            }
             LiftError::NotPlain {
                 node,
                 op,
@@ -111,8 +184,11 @@ impl Line {
                 reason,
                 ..
             } => {
-                let (node, op, span) = (*node, *op, *span);
-                line.place = Some(Place { node, op, span });
+                line.place = Some(Place {
+                    which: Which::Node(*node),
+                    op: *op,
+                    span: *span,
+                });
                 line.reason = Some(reason.name());
             }
             LiftError::TooLong => line.reason = Some("too-long"),
@@ -148,8 +224,12 @@ impl Line {
         }
         object.text("result", self.result);
         if let Some(place) = self.place {
+            let (name, number) = match place.which {
+                Which::Node(number) => ("node", number),
+                Which::Token(number) => ("token", number),
+            };
             object
-                .number("node", place.node as u64)
+                .number(name, number as u64)
                 .number("op", place.op.number())
                 .text("operator", place.op.text())
                 .number("start", place.span.start())

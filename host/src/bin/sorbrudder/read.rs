@@ -14,6 +14,7 @@ pub const OPTIONS: &[args::Option] = &[
     one_list::E,
     one_list::SOURCE,
     args::value("--at"),
+    args::value("--limit"),
     args::flag("--json"),
 ];
 
@@ -23,7 +24,8 @@ pub const NEWEST: i16 = 13;
 pub fn run(args: &Args) -> Result<Status, Failure> {
     let one = OneList::of(args)?;
     let version = args.version("--at")?.or(one.version).unwrap_or(NEWEST);
-    match Reader::new().read(&one.list, version) {
+    let mut reader = Reader::new().with_limit(args.limit("--limit")?);
+    match reader.read(&one.list, version) {
         Ok(tree) if args.has("--json") => output::print(&as_json(&tree, &one, version)),
         Ok(tree) => output::print(&as_text(&tree, &one, version)),
         Err(why) => {

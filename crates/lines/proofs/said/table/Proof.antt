@@ -4,14 +4,14 @@ use Rattle.molang.specs.Lines.{itemsOf, marksOf, answersOf, linesOf, versionOf}
 use Rattle.text.specs.Text.{decimalIn, decimal, numbered}
 use Rattle.lines.specs.Said.{textIn, signs, operatorText, operandText, namedText, itemText, operandsAfter, itemsText, listText}
 use Rattle.lines.specs.Said.{childrenText, nodeText, treeText, integerText, versionText, zerosText, repeatedText, readAtText}
-use Rattle.lines.specs.Said.{readAtAllText, writingText, askedText, lineText, linesText, tableText}
+use Rattle.lines.specs.Said.{readWithinText, readAtAllText, writingText, askedText, lineText, linesText, tableText}
 use Rattle.lines.proofs.said.table.Statement.{statement}
 use Rattle.lines.proofs.said.table.Tie as tie
 
 returns : tie.Need-returns
 unfolding itemsOf marksOf answersOf linesOf versionOf decimalIn decimal numbered textIn signs operatorText operandText namedText itemText
     operandsAfter itemsText listText childrenText nodeText treeText integerText versionText zerosText repeatedText readAtText
-    readAtAllText writingText askedText lineText linesText tableText
+    readWithinText readAtAllText writingText askedText lineText linesText tableText
 returns c = refl
 
 pub table-spec : {M : Type 1} → statement M

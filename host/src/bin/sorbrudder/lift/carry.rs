@@ -24,6 +24,7 @@ pub struct Carried {
     pub no_trees: u64,
     pub refused: u64,
     pub not_writable: u64,
+    pub too_deep: u64,
     /// Files that were not written, since lists stayed behind.
     pub held_back: u64,
 }
@@ -31,7 +32,7 @@ pub struct Carried {
 impl Carried {
     /// How many lists keep their own version.
     pub fn stayed(&self) -> u64 {
-        self.no_trees + self.refused + self.not_writable
+        self.no_trees + self.refused + self.not_writable + self.too_deep
     }
 
     fn add(&mut self, result: &str) {
@@ -41,6 +42,7 @@ impl Carried {
             "same" => &mut self.same,
             "no-tree" => &mut self.no_trees,
             "refused" => &mut self.refused,
+            "too-deep" => &mut self.too_deep,
             _ => &mut self.not_writable,
         } += 1;
     }
@@ -53,6 +55,7 @@ impl Carried {
         self.no_trees += other.no_trees;
         self.refused += other.refused;
         self.not_writable += other.not_writable;
+        self.too_deep += other.too_deep;
         self.held_back += other.held_back;
     }
 }
@@ -143,7 +146,9 @@ fn carry_lists<W: Write>(
     };
     let mut writer = ListsWriter::new(out, options.format).map_err(failed)?;
     let (mut carried, mut digest) = (Carried::default(), Digest::new());
-    let mut lifter = Lifter::new();
+    let mut lifter = Lifter::new()
+        .with_limit_from(options.own_limit)
+        .with_limit_to(options.limit);
     while let Some(list) = input.next_list()? {
         let about = About::list(&path, &list);
         let (line, version, words) = match lift_list(&mut lifter, &list, options) {
@@ -153,7 +158,7 @@ fn carry_lists<W: Write>(
                 (told(&lifted, options), options.to, lifted.words)
             }
             Err(why) => (
-                Line::of_lift_error(&why, options.to),
+                Line::of_lift_error(&why, list.words, options.own_limit, options.to),
                 list.version,
                 list.words,
             ),
@@ -172,8 +177,8 @@ fn lift_list<'l>(
     list: &'l List<'_>,
     options: &Options,
 ) -> Result<LiftedWords<'l>, LiftError> {
-    // A list that is not plain is not settled; it can stay as it is where both versions read it alike. (Settled twice, since a borrow
-    // that is given back on one way only would last on the other too.)
+    // A list that is not plain, or too deep with all its brackets, is not settled; it can stay as it is where both versions read it
+    // alike. (Settled twice, since a borrow that is given back on one way only would last on the other too.)
     if options.settles && lifter.settle_words(list.words, list.version).is_ok() {
         return lifter.settle_words(list.words, list.version);
     }

@@ -3,12 +3,15 @@
 use crate::args::{self, Args};
 use crate::failure::Failure;
 use crate::paths::is_stream;
+use sorbrudder::Limit;
 use sorbrudder::archive::Format;
 use std::path::{Path, PathBuf};
 
 pub const OPTIONS: &[args::Option] = &[
     args::value("-o"),
     args::value("--to"),
+    args::value("--limit"),
+    args::value("--own-limit"),
     args::value("--report"),
     args::flag("--in-place"),
     args::flag("--backup"),
@@ -33,6 +36,9 @@ pub enum Target {
 #[derive(Clone, Debug)]
 pub struct Options {
     pub to: i16,
+    /// The nesting limit of the engine that is lifted to, and of those that the lists were written for.
+    pub limit: Limit,
+    pub own_limit: Limit,
     pub target: Target,
     pub format: Format,
     pub backs_up: bool,
@@ -50,6 +56,8 @@ impl Options {
         }
         Ok(Self {
             to: args.needed_version("--to")?,
+            limit: args.limit("--limit")?,
+            own_limit: args.limit("--own-limit")?,
             target,
             format: if args.has("--plain") {
                 Format::Words
