@@ -95,8 +95,8 @@ pub enum Answer {
     Filled(usize),
     /// So many message records fill the message slice's front. Only the parse entry answers this.
     Messages(usize),
-    /// A refusal's number and place; no lent word was changed. Reading is refused with 1 to 11, writing with 12 to 15, export with 12 and
-    /// 25, import with 24 and 25.
+    /// A refusal's number and place; no lent word was changed. Reading is refused with 1 to 11, 17 and 18, writing with 12 to 15, export
+    /// with 12 and 25, import with 24 and 25.
     Refused(u32, usize),
 }
 

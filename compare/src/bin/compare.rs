@@ -148,7 +148,14 @@ mod run {
             "every list of up to 6 brackets at limits 1 to 4, and others beside their limits",
             &mut calls::nesting(6),
         )?;
-        for part in [short_brackets, writing, reordering, expressions, scripts, short_scripts] {
+        for part in [
+            short_brackets,
+            writing,
+            reordering,
+            expressions,
+            scripts,
+            short_scripts,
+        ] {
             let written = part(lists as u64 / 5, seed);
             let (Ok(count) | Err((count, _))) = written;
             done += count;
