@@ -67,7 +67,8 @@ int main(void) {
     }
     sorbrudder_used(list, SORBRUDDER_TOKEN_WORDS * TOKENS, &low, &high, &length);
     answer = sorbrudder_parse(list, SORBRUDDER_TOKEN_WORDS * TOKENS, tree, SORBRUDDER_TREE_BUFFER(TOKENS), messages,
-                              SORBRUDDER_MESSAGE_BUFFER, work, SORBRUDDER_WORK_BUFFER(TOKENS), length, 6, low, high);
+                              SORBRUDDER_MESSAGE_BUFFER, work, SORBRUDDER_WORK_BUFFER(TOKENS), length, 6, low, high,
+                              SORBRUDDER_MOST_NESTING);
     if (answer != NODES) {
         return 1;
     }
