@@ -57,7 +57,7 @@ fn raise_of(op: u32) -> usize
     1
 }
 
-// How many brackets are open after op, where so many are open before it.
+// How many brackets are open after op, where so many are open before it. `accept::nesting` counts no more than the tokens that it has read.
 pub fn open_after(depth: usize, op: u32) -> usize
     requires { ⌜ depth + 2 < 2 ^ 64 ⌝ }
     ensures { λ r. ⌜ r ≡ openAfter depth op ⌝ }

@@ -113,7 +113,7 @@ fn called_after(field: Field, called: u32, w: u32) -> u32
     }
 }
 
-// How many nodes have begun, after a word.
+// How many nodes have begun, after a word. The loops over words, here and in `stackorder`, stop before more have begun than fit.
 pub fn begun_after(field: Field, begun: u32) -> u32
     requires { ⌜ begun ≤ entry.mostNodes ⌝ }
     ensures { λ r. ⌜ ((called w : ℕ) → r ≡ entry.shapeAfter (fieldOf field) w (shape called begun) .begun) ⌝ }
@@ -148,7 +148,8 @@ fn is_whole(field: Field, called: u32, begun: u32) -> bool
     }
 }
 
-// Whether the seven words from `at` on are legal, each in its field.
+// Whether the seven words from `at` on are legal, each in its field. The loops over whole nodes, here and in `stackorder`, test that
+// seven are left.
 pub fn is_node(tree: &[u32], at: usize) -> bool
     requires { ⌜ at + nodeLength ≤ length (now tree) ⌝ }
     ensures { λ r. ⌜ (r ≡ true → LegalNode (now (tree .entry)) at) ⌝ }
