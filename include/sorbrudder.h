@@ -5,7 +5,8 @@
  * not named below are 0.
  *
  *   a token, five words              kind   the other bits
- *     0  SORBRUDDER_WORD_OP          1      bits 0-7 the operator (SORBRUDDER_OP_..), bits 8-11 what it carries (SORBRUDDER_PAYLOAD_..)
+ *     0  SORBRUDDER_WORD_OP          1      bits 0-7 the lower eight and bits 12-15 the upper four bits of the operator's number
+ *                                           (SORBRUDDER_OP_.., or a host's), bits 8-11 what it carries (SORBRUDDER_PAYLOAD_..)
  *     1  SORBRUDDER_WORD_START       2      bits 0-28 where it starts in the source
  *     2  SORBRUDDER_WORD_END         3      bits 0-28 where it ends; the start may exceed the end
  *     3  SORBRUDDER_WORD_UPPER       4      bits 0-15 the upper half of the value that it carries
@@ -14,6 +15,9 @@
  *     5  SORBRUDDER_WORD_CHILDREN    6      bits 0-13 the number of its children
  *     6  SORBRUDDER_WORD_CLOSE       7      bits 0-28 where it closes: a closed section, whose span is its opener's, at the end of its
  *                                           closer, every other node at its own span's end
+ *
+ * The numbers from SORBRUDDER_FIRST_HOST to SORBRUDDER_LAST_HOST are the host's, for names of its own. Such a token is an operand: it is
+ * read as SORBRUDDER_OP_THIS would be, its number is kept in the tree, and a leaf of it can be written. No operator set has a bit for it.
  *
  * The nodes of a tree stand parent first, then its children in order, each with all that is below it. In stack order each node's seven
  * words stand after those of its children in order, so the root's come last; the words of a node are the same.
@@ -51,7 +55,7 @@ extern "C" {
 #define SORBRUDDER_VERSION_MAJOR 0
 #define SORBRUDDER_VERSION_MINOR 1
 #define SORBRUDDER_VERSION_PATCH 0
-#define SORBRUDDER_ABI_VERSION 2
+#define SORBRUDDER_ABI_VERSION 3
 
 /* What an answer is (`sorbrudder_kind`). */
 #define SORBRUDDER_DONE 0
@@ -71,6 +75,10 @@ extern "C" {
 
 /* The greatest nesting limit, with which no list is too deep. */
 #define SORBRUDDER_MOST_NESTING 4096
+
+/* The first and the last operator number that a host may give to a name of its own. */
+#define SORBRUDDER_FIRST_HOST 256
+#define SORBRUDDER_LAST_HOST 1023
 
 /* A list in which every tree that can be written has room, in words. */
 #define SORBRUDDER_LIST_BUFFER (SORBRUDDER_TOKEN_WORDS * SORBRUDDER_MOST_TOKENS)
@@ -103,7 +111,7 @@ enum sorbrudder_payload {
     SORBRUDDER_PAYLOAD_HOST_MATH = 12
 };
 
-/* The operators; `sorbrudder ops` prints them with their signs. */
+/* The operators but for the hosts' own; `sorbrudder ops` prints them with their signs. */
 enum sorbrudder_op {
     SORBRUDDER_OP_LEFT_BRACE = 0, SORBRUDDER_OP_RIGHT_BRACE = 1, SORBRUDDER_OP_LEFT_BRACKET = 2, SORBRUDDER_OP_RIGHT_BRACKET = 3,
     SORBRUDDER_OP_LEFT_PARENTHESIS = 4, SORBRUDDER_OP_RIGHT_PARENTHESIS = 5, SORBRUDDER_OP_NEGATE = 6, SORBRUDDER_OP_LOGICAL_NOT = 7,
@@ -169,9 +177,9 @@ enum sorbrudder_refusal_number {
     SORBRUDDER_REFUSAL_USED_SET = 6,          /* a bit of the set above operator 110 */
     SORBRUDDER_REFUSAL_SOURCE_TOO_LONG = 7,   /* a source above 536,870,911 */
     SORBRUDDER_REFUSAL_WRONG_KIND = 8,        /* place: the word, here and below */
-    SORBRUDDER_REFUSAL_UNKNOWN_OPERATOR = 9,  /* an operator above 110 */
+    SORBRUDDER_REFUSAL_UNKNOWN_OPERATOR = 9,  /* an operator that is neither 0 to 110 nor 256 to 1,023 */
     SORBRUDDER_REFUSAL_UNKNOWN_PAYLOAD = 10,  /* what it carries is above 12 */
-    SORBRUDDER_REFUSAL_OTHER_BITS = 11,       /* a bit that has to be 0 */
+    SORBRUDDER_REFUSAL_OTHER_BITS = 11,       /* a bit that has to be 0, of a token's first word from 16 on */
     SORBRUDDER_REFUSAL_NOT_A_TREE = 12,       /* place: the first word that cannot continue a tree, or the word count; 86,016 at the most */
     SORBRUDDER_REFUSAL_NOT_PLAIN = 13,        /* place: the number of the first such node in tree order */
     SORBRUDDER_REFUSAL_WRITTEN_TOO_LONG = 14, /* the written list has more than 4,096 tokens */
@@ -224,14 +232,24 @@ static inline uint32_t sorbrudder_count(uint64_t answer) { return (uint32_t)answ
 static inline unsigned sorbrudder_refusal(uint64_t answer) { return (unsigned)(answer >> 32) & 0xff; }
 
 /* The parts of a token's or a node's words. */
-static inline unsigned sorbrudder_op_of(const uint32_t *token) { return token[SORBRUDDER_WORD_OP] & 0xff; }
+static inline unsigned sorbrudder_op_of(const uint32_t *token) {
+    return (token[SORBRUDDER_WORD_OP] & 0xff) | (token[SORBRUDDER_WORD_OP] >> 4 & 0xf00);
+}
 static inline uint32_t sorbrudder_start_of(const uint32_t *token) { return token[SORBRUDDER_WORD_START] & 0x1fffffff; }
 static inline uint32_t sorbrudder_end_of(const uint32_t *token) { return token[SORBRUDDER_WORD_END] & 0x1fffffff; }
 static inline uint32_t sorbrudder_children_of(const uint32_t *node) { return node[SORBRUDDER_WORD_CHILDREN] & 0x3fff; }
 static inline uint32_t sorbrudder_close_of(const uint32_t *node) { return node[SORBRUDDER_WORD_CLOSE] & 0x1fffffff; }
 
+/* The first word of a token or a node of this operator, or of a host's own name, that carries this. */
+static inline uint32_t sorbrudder_op_word(unsigned op, unsigned payload) {
+    return 0x20000000u | (uint32_t)(op & 0xff) | (uint32_t)(payload & 0xf) << 8 | (uint32_t)(op >> 8 & 0xf) << 12;
+}
+
+/* Whether an operator number is a host's. */
+static inline int sorbrudder_is_host(unsigned op) { return SORBRUDDER_FIRST_HOST <= op && op <= SORBRUDDER_LAST_HOST; }
+
 /* The exact used set of a list, each operator of its tokens and no other, and its highest span end, which is its source length where
- * nothing else is known. What names no operator is passed over; the call that follows turns it back. */
+ * nothing else is known. Hosts' own names are passed over, and so is what names no operator; the call that follows turns that back. */
 static inline void sorbrudder_used(const uint32_t *list, size_t list_words, uint64_t *used_low, uint64_t *used_high,
                                    uint64_t *source_length) {
     uint64_t half[2] = {0, 0}, length = 0;
@@ -251,11 +269,11 @@ static inline void sorbrudder_used(const uint32_t *list, size_t list_words, uint
 }
 
 /* SORBRUDDER_ABI_VERSION where the linked library has this header's layout and calls, else 0. It is found by asking the library: a list of
- * one token is read into a tree buffer of exactly the length that this header says, and refused with one of a word less, and with the limit
- * 0. */
+ * one token, a host's own name, is read into a tree buffer of exactly the length that this header says, and refused with one of a word
+ * less, and with the limit 0. */
 static inline unsigned sorbrudder_abi_version(void) {
-    const uint32_t list[SORBRUDDER_TOKEN_WORDS] = {0x20000000u | SORBRUDDER_OP_FLOAT, 0x40000000u, 0x60000000u, 0x80000000u,
-                                                   0xa0000000u};
+    const uint32_t list[SORBRUDDER_TOKEN_WORDS] = {sorbrudder_op_word(SORBRUDDER_FIRST_HOST, SORBRUDDER_PAYLOAD_NONE), 0x40000000u,
+                                                   0x60000000u, 0x80000000u, 0xa0000000u};
     uint32_t tree[SORBRUDDER_TREE_BUFFER(1)], messages[SORBRUDDER_MESSAGE_BUFFER], work[SORBRUDDER_WORK_BUFFER(1)];
     uint64_t low, high, length, longer, shorter, without;
     sorbrudder_used(list, SORBRUDDER_TOKEN_WORDS, &low, &high, &length);

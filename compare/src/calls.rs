@@ -1,13 +1,15 @@
 //! The calls that the parse entry is compared over.
 
 use oracle::generate::alphabets::{ALPHABETS, Alphabet};
+use oracle::generate::hosts::Hosted;
 use oracle::generate::shapes::SHAPES;
 use oracle::generate::{Mixed, Rng, brackets, damage, dress};
 use oracle::lines;
 use oracle::nesting::{MOST_NESTING, least_limit};
 use oracle::refusal::Call;
 use oracle::words::{
-    Case, FULL_SET, LAST_OP, LAST_PLACE, MOST_TOKENS, TOKEN_WORDS, Token, bit, exact_set, low, word,
+    Case, FULL_SET, LAST_OP, LAST_PLACE, MOST_TOKENS, TOKEN_WORDS, Token, bit, exact_set, low,
+    with_number, word,
 };
 use std::ops::Range;
 
@@ -44,14 +46,30 @@ pub static SCRIPTS: [Alphabet; 3] = [
     ),
 ];
 
-const fn ended(name: &'static str, ops: &'static [u8]) -> Alphabet {
+/// Hosts whose lower eight bits are the operators that they stand beside.
+pub static HOSTS: [Alphabet; 3] = [
+    eight(
+        "hosts beside sums, minuses, brackets",
+        &[262, 265, 516, 773, 6, 9, 4, 5],
+    ),
+    eight(
+        "hosts beside conditionals, logic, calls",
+        &[315, 572, 825, 59, 60, 57, 36, 4],
+    ),
+    ended(
+        "hosts beside statements, assignments, arrays",
+        &[329, 583, 73, 71, 74, 41, 2, 3],
+    ),
+];
+
+const fn ended(name: &'static str, ops: &'static [u16]) -> Alphabet {
     Alphabet {
         ending: &[73],
         ..eight(name, ops)
     }
 }
 
-const fn eight(name: &'static str, ops: &'static [u8]) -> Alphabet {
+const fn eight(name: &'static str, ops: &'static [u16]) -> Alphabet {
     Alphabet {
         name,
         ops,
@@ -73,8 +91,17 @@ fn limit(rng: &mut Rng) -> u32 {
 
 /// Generated lists of at most `most` tokens, one in twelve with a spoiled call, half with more room than asked for.
 pub fn generated(seed: u64, most: usize) -> impl Iterator<Item = Call> {
+    called(seed, Mixed::new(seed, most))
+}
+
+/// The same of lists with hosts in any place.
+pub fn hosted(seed: u64, most: usize) -> impl Iterator<Item = Call> {
+    called(seed, Hosted::new(seed, most))
+}
+
+fn called(seed: u64, cases: impl Iterator<Item = Case>) -> impl Iterator<Item = Call> {
     let mut rng = Rng::new(seed ^ 0x5EED);
-    Mixed::new(seed, most).map(move |case| {
+    cases.map(move |case| {
         if rng.chance(8) {
             return damage::damaged(&mut rng, &case).0;
         }
@@ -97,11 +124,11 @@ pub fn bracketed(seed: u64, most: usize) -> impl Iterator<Item = Call> {
     })
 }
 
-fn exact(ops: &[u8], version: i16) -> Case {
+fn exact(ops: &[u16], version: i16) -> Case {
     Case::exact(dress::plain(ops), version)
 }
 
-fn at_each_version(ops: &[u8]) -> [Call; 3] {
+fn at_each_version(ops: &[u16]) -> [Call; 3] {
     [4, 5, 6].map(|version| Call::of(&exact(ops, version)))
 }
 
@@ -127,6 +154,11 @@ pub fn over_scripts(most: usize) -> impl Iterator<Item = Case> {
 /// Every list of up to `most` operators over the generator's small alphabets, at versions 4, 5 and 6.
 pub fn over_alphabets(most: usize) -> impl Iterator<Item = Call> {
     over(&ALPHABETS, most)
+}
+
+/// Every list of up to `most` operators over the alphabets with hosts, at versions 4, 5 and 6.
+pub fn over_hosts(most: usize) -> impl Iterator<Item = Call> {
+    over(&HOSTS, most)
 }
 
 /// Every list of up to `most` brackets at limits 1 to 4, under its exact used set.
@@ -289,7 +321,8 @@ fn damages(call: &Call, place: usize) -> Vec<u32> {
     let mut words: Vec<u32> = (0..32).map(|bit| given ^ 1 << bit).collect();
     words.extend((0..8).map(|kind| word(kind, low(given))));
     if place.is_multiple_of(TOKEN_WORDS) {
-        words.extend([110, 111, 127, 128, 255].map(|op| given & !0xFF | op));
+        let numbers = [110, 111, 127, 128, 255, 256, 262, 1_023, 1_024, 4_095];
+        words.extend(numbers.map(|op| with_number(given, op)));
         words.extend([0, 12, 13, 14, 15].map(|variant| given & !0xF00 | variant << 8));
     }
     words.extend([0, !0]);

@@ -6,6 +6,7 @@ pub mod comparison;
 #[cfg(library)]
 pub mod library;
 pub mod matching;
+pub mod numbers;
 pub mod plain_trees;
 #[cfg(library)]
 pub mod reading;

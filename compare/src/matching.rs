@@ -15,18 +15,18 @@ pub static BRACKETS: Alphabet = Alphabet {
     versions_differ: false,
 };
 
-const COMMA: u8 = 75;
+const COMMA: u16 = 75;
 
-fn is_opener(op: u8) -> bool {
+fn is_opener(op: u16) -> bool {
     matches!(op, 0 | 2 | 4)
 }
 
-fn is_closer(op: u8) -> bool {
+fn is_closer(op: u16) -> bool {
     matches!(op, 1 | 3 | 5)
 }
 
 /// Every closer met inside an open section matches the innermost, and no section is open at the end.
-pub fn matched(ops: &[u8]) -> bool {
+pub fn matched(ops: &[u16]) -> bool {
     let mut open = Vec::new();
     for &op in ops {
         if is_opener(op) {
@@ -39,7 +39,7 @@ pub fn matched(ops: &[u8]) -> bool {
 }
 
 /// How many sections are open after each token of a matched list.
-fn open_after(ops: &[u8]) -> impl Iterator<Item = usize> {
+fn open_after(ops: &[u16]) -> impl Iterator<Item = usize> {
     ops.iter().scan(0usize, |open, &op| {
         if is_opener(op) {
             *open += 1;
@@ -51,7 +51,7 @@ fn open_after(ops: &[u8]) -> impl Iterator<Item = usize> {
 }
 
 /// The places of the closers of a matched list that are met with nothing open.
-pub fn lone_closers(ops: &[u8]) -> Vec<usize> {
+pub fn lone_closers(ops: &[u16]) -> Vec<usize> {
     let before = std::iter::once(0).chain(open_after(ops));
     let met = ops.iter().zip(before).enumerate();
     met.filter(|(_, (op, open))| is_closer(**op) && *open == 0)
@@ -60,7 +60,7 @@ pub fn lone_closers(ops: &[u8]) -> Vec<usize> {
 }
 
 /// A matched list with a comma between its trees.
-pub fn with_commas(ops: &[u8]) -> Vec<u8> {
+pub fn with_commas(ops: &[u16]) -> Vec<u16> {
     let mut list = Vec::new();
     for (&op, open) in ops.iter().zip(open_after(ops)) {
         list.push(op);
@@ -89,10 +89,10 @@ fn trees(mut nodes: &[TreeNode]) -> Vec<&[TreeNode]> {
 }
 
 /// Each node, then its children, then for each opener its closer.
-fn spelled(tree: &[TreeNode]) -> Vec<u8> {
+fn spelled(tree: &[TreeNode]) -> Vec<u16> {
     let mut ops = Vec::new();
     // The nodes whose children are not all spelled, with how many are left.
-    let mut above: Vec<(u8, u32)> = Vec::new();
+    let mut above: Vec<(u16, u32)> = Vec::new();
     for node in tree {
         ops.push(node.token.op);
         above.push((node.token.op, node.children));
@@ -111,7 +111,7 @@ fn spelled(tree: &[TreeNode]) -> Vec<u8> {
 
 /// What is lost of a matched list in the trees that were made of it: a tree does not spell what stands at its place, or a
 /// closer met with nothing open is no leaf there.
-pub fn lost(ops: &[u8], nodes: &[TreeNode]) -> Option<String> {
+pub fn lost(ops: &[u16], nodes: &[TreeNode]) -> Option<String> {
     let (mut at, mut leaves) = (0, Vec::new());
     for tree in trees(nodes) {
         let spelled = spelled(tree);
@@ -165,7 +165,7 @@ mod beside {
         }
 
         /// Reads a list, beside the Rust where it is at hand. The openers are in the used set, so the bracket step runs.
-        fn read(&mut self, ops: &[u8], version: i16) -> Result<Read, String> {
+        fn read(&mut self, ops: &[u16], version: i16) -> Result<Read, String> {
             let tokens = dress::plain(ops);
             let used = exact_set(&[tokens.clone(), dress::plain(&[0, 2, 4])].concat());
             let call = Call::of(&Case {
@@ -177,7 +177,7 @@ mod beside {
         }
 
         /// Compares the answers to a list, and to its trees with commas between them, with the three sentences.
-        fn list(&mut self, ops: &[u8], version: i16) -> Result<(), String> {
+        fn list(&mut self, ops: &[u16], version: i16) -> Result<(), String> {
             self.lists += 1;
             let read = self.read(ops, version)?;
             let records = match read {
@@ -207,7 +207,7 @@ mod beside {
         }
 
         /// Compares the trees of a matched list with the sentences about them.
-        fn trees(&mut self, ops: &[u8], version: i16) -> Result<(), String> {
+        fn trees(&mut self, ops: &[u16], version: i16) -> Result<(), String> {
             let list = with_commas(ops);
             let read = self.read(&list, version)?;
             let Read::Tree(nodes) = read else {
@@ -230,7 +230,7 @@ mod tests {
     use crate::plain_trees::bare;
 
     /// The nodes of a list of trees: each operator with how many children follow.
-    fn nodes(shape: &[(u8, u32)]) -> Vec<TreeNode> {
+    fn nodes(shape: &[(u16, u32)]) -> Vec<TreeNode> {
         shape.iter().map(|&(op, kids)| bare(op, kids)).collect()
     }
 
@@ -256,7 +256,7 @@ mod tests {
         let ops = [4, 61, 2, 3, 5, 5, 61];
         let whole = [(4, 2), (61, 0), (2, 0), (5, 0), (61, 0)];
         assert_eq!(lost(&ops, &nodes(&whole)), None);
-        let slips: [&[(u8, u32)]; 5] = [
+        let slips: [&[(u16, u32)]; 5] = [
             // The lone closer is dropped, or stands in a section before it.
             &[(4, 2), (61, 0), (2, 0), (61, 0)],
             &[(4, 3), (61, 0), (2, 0), (5, 0), (61, 0)],

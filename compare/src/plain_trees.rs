@@ -1,11 +1,34 @@
 //! Trees from a seed: plain ones, plain ones with one thing changed, any shape, damaged words, and those of a given shape.
 
-use oracle::generate::Rng;
-use oracle::words::{LAST_PLACE, Token, TreeNode, low, word};
+use oracle::generate::{Rng, hosts};
+use oracle::words::{LAST_PLACE, Token, TreeNode, low, with_number, word};
 
-const LEAVES: [u8; 11] = [40, 42, 43, 44, 46, 47, 48, 49, 61, 62, 76];
-const BINARIES: [u8; 14] = [9, 20, 31, 50, 51, 52, 53, 54, 55, 56, 57, 58, 75, 75];
-const MATH_CALLS: [u8; 8] = [8, 10, 19, 21, 39, 78, 109, 110];
+const LEAVES: [u16; 11] = [40, 42, 43, 44, 46, 47, 48, 49, 61, 62, 76];
+const BINARIES: [u16; 14] = [9, 20, 31, 50, 51, 52, 53, 54, 55, 56, 57, 58, 75, 75];
+const MATH_CALLS: [u16; 8] = [8, 10, 19, 21, 39, 78, 109, 110];
+
+/// Numbers on both sides of where operators end and hosts begin and end.
+const EDGES: [u16; 6] = [110, 111, 255, 256, 1_023, 1_024];
+
+/// A leaf that is plain: one in four is a host's.
+fn leaf(rng: &mut Rng) -> u16 {
+    let op = *rng.pick(&LEAVES);
+    if rng.chance(25) {
+        hosts::number(rng, op)
+    } else {
+        op
+    }
+}
+
+/// Any operator: one in eight is a host's.
+fn any_operator(rng: &mut Rng) -> u16 {
+    let op = rng.below(111) as u16;
+    if rng.chance(12) {
+        hosts::number(rng, op)
+    } else {
+        op
+    }
+}
 
 /// Somewhere in a source, often at its ends.
 fn place(rng: &mut Rng) -> u32 {
@@ -17,7 +40,7 @@ fn place(rng: &mut Rng) -> u32 {
 }
 
 /// A token of this operator with any payload and span.
-pub fn token(rng: &mut Rng, op: u8) -> Token {
+pub fn token(rng: &mut Rng, op: u16) -> Token {
     let variant = rng.below(13) as u8;
     let (start, end) = (place(rng), place(rng));
     let value = if variant == 0 { 0 } else { rng.bits() as u32 };
@@ -31,7 +54,7 @@ pub fn token(rng: &mut Rng, op: u8) -> Token {
 }
 
 /// A node of this operator, payload 0 and span 0 to 0, that closes at 0.
-pub fn bare(op: u8, children: u32) -> TreeNode {
+pub fn bare(op: u16, children: u32) -> TreeNode {
     let token = Token {
         op,
         ..Token::default()
@@ -63,16 +86,16 @@ fn put_plain(rng: &mut Rng, nodes: &mut Vec<TreeNode>, size: usize, root: Wanted
     let mut wanted = vec![root];
     while let Some(next) = wanted.pop() {
         let grows = nodes.len() + wanted.len() < size;
-        let (op, below): (u8, &[Wanted]) = match next {
+        let (op, below): (u16, &[Wanted]) = match next {
             Statement => (73, &[Held]),
             Held if rng.chance(50) => (71, &[Operand, Operand]),
             Held if rng.chance(30) => (74, &[Operand]),
             MathBracket if !grows || rng.chance(30) => (4, &[]),
             MathBracket | QueryBracket => (4, &[Operand]),
             RightOfQuestion if rng.chance(70) => (60, &[Operand, Operand]),
-            _ if !grows => (*rng.pick(&LEAVES), &[]),
+            _ if !grows => (leaf(rng), &[]),
             _ => match rng.below(12) {
-                0 => (*rng.pick(&LEAVES), &[]),
+                0 => (leaf(rng), &[]),
                 1 => (4, &[Operand]),
                 2 => (6, &[Operand]),
                 3 => (7, &[Operand]),
@@ -133,9 +156,9 @@ pub fn disturbed(rng: &mut Rng, mut nodes: Vec<TreeNode>) -> Vec<TreeNode> {
     let node = rng.below(nodes.len());
     if rng.chance(80) {
         nodes[node].token.op = match rng.below(3) {
-            0 => rng.below(111) as u8,
+            0 => any_operator(rng),
             1 => *rng.pick(&[4, 40, 60, 75, 59, 8, 110, 71, 73, 74, 41]),
-            _ => *rng.pick(&LEAVES),
+            _ => leaf(rng),
         };
     } else {
         nodes[node].children = rng.below(4) as u32;
@@ -159,7 +182,7 @@ pub fn of_children(rng: &mut Rng, size: usize, most: usize) -> Vec<TreeNode> {
         let children = rng.below(1 + most.min(size - called));
         let children = children.max(usize::from(is_last && called < size));
         called += children;
-        let op = rng.below(111) as u8;
+        let op = any_operator(rng);
         nodes.push(TreeNode {
             token: token(rng, op),
             children: children as u32,
@@ -173,8 +196,9 @@ pub fn of_children(rng: &mut Rng, size: usize, most: usize) -> Vec<TreeNode> {
 pub fn damaged(rng: &mut Rng, mut words: Vec<u32>) -> Vec<u32> {
     for _ in 0..1 + rng.below(2) {
         let place = rng.below(words.len());
-        words[place] = match rng.below(4) {
+        words[place] = match rng.below(5) {
             0 => words[place] ^ 1 << rng.below(32),
+            4 => with_number(words[place], *rng.pick(&EDGES)),
             1 => word(rng.below(8) as u32, low(words[place])),
             2 => word(6, *rng.pick(&[0, 1, 2, 3, 12_286, 12_287, 12_288, 16_383])),
             _ => rng.bits() as u32,
@@ -190,14 +214,14 @@ pub fn damaged(rng: &mut Rng, mut words: Vec<u32>) -> Vec<u32> {
 }
 
 /// Every tree of at most `most` nodes, as its nodes' operators and child counts.
-pub fn every_tree(ops: &[u8], most: usize, mut each: impl FnMut(&[(u8, u32)])) {
+pub fn every_tree(ops: &[u16], most: usize, mut each: impl FnMut(&[(u16, u32)])) {
     /// Adds the nodes that are still called for.
     fn grow(
-        ops: &[u8],
+        ops: &[u16],
         most: usize,
         called: usize,
-        nodes: &mut Vec<(u8, u32)>,
-        each: &mut impl FnMut(&[(u8, u32)]),
+        nodes: &mut Vec<(u16, u32)>,
+        each: &mut impl FnMut(&[(u16, u32)]),
     ) {
         if called == nodes.len() {
             return each(nodes);

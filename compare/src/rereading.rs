@@ -5,6 +5,7 @@ use crate::library::{self, Read};
 use crate::plain_trees;
 use crate::reading::{Buffers, Expected};
 use crate::writer_model::{self, Tree, Written};
+use oracle::generate::hosts::Hosted;
 use oracle::generate::{Mixed, Rng};
 use oracle::nesting::{MOST_NESTING, least_limit, too_deep};
 use oracle::refusal::Call;
@@ -21,11 +22,12 @@ pub enum Reread {
     Again,
 }
 
-/// Lists whose trees are often plain: one in five generated, the others written from a plain tree and without some of its
-/// brackets, so that the versions read them differently.
+/// Lists whose trees are often plain: one in five generated, half of these with hosts; the others written from a plain tree
+/// and without some of its brackets, so that the versions read them differently.
 pub struct Lists {
     rng: Rng,
     mixed: Mixed,
+    hosted: Hosted,
     /// Whether the trees are scripts, and not expressions.
     scripts: bool,
 }
@@ -36,6 +38,7 @@ impl Lists {
         Self {
             rng: Rng::new(seed),
             mixed: Mixed::new(seed, 24),
+            hosted: Hosted::new(seed, 24),
             scripts: false,
         }
     }
@@ -86,13 +89,16 @@ impl Iterator for Lists {
     type Item = Case;
 
     fn next(&mut self) -> Option<Case> {
-        if self.rng.chance(20) {
+        if self.rng.chance(10) {
             return self.mixed.next();
+        }
+        if self.rng.chance(11) {
+            return self.hosted.next();
         }
         let tokens = self.unbracketed();
         let mut used = exact_set(&tokens);
         if self.rng.chance(5) {
-            let other = bit(self.rng.below(111) as u8);
+            let other = bit(self.rng.below(111) as u16);
             used = (used.0 ^ other.0, used.1 ^ other.1);
         }
         Some(Case {

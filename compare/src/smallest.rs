@@ -1,8 +1,9 @@
 //! The smallest call that still shows a difference, found by taking tokens out and making the rest plain.
 
+use oracle::hosts::STAND_IN;
 use oracle::nesting::MOST_NESTING;
 use oracle::refusal::Call;
-use oracle::words::{TOKEN_WORDS, TREE_WORDS, exact_set, low, word};
+use oracle::words::{TOKEN_WORDS, TREE_WORDS, exact_set, is_host, number_in, with_number, word};
 
 /// Takes out runs of tokens and makes the others plain for as long as the call still differs.
 pub fn smallest(mut call: Call, mut differs: impl FnMut(&Call) -> bool) -> Call {
@@ -48,9 +49,14 @@ fn plainer(mut call: Call, differs: &mut impl FnMut(&Call) -> bool) -> Call {
         let at = token * TOKEN_WORDS;
         let place = token as u32;
         change(&mut call, &|call| {
-            call.list[at] = word(1, low(call.list[at]) & 0xFF);
+            call.list[at] = with_number(word(1, 0), number_in(call.list[at]));
             call.list[at + 3] = word(4, 0);
             call.list[at + 4] = word(5, 0);
+        });
+        change(&mut call, &|call| {
+            if is_host(number_in(call.list[at])) {
+                call.list[at] = with_number(call.list[at], STAND_IN);
+            }
         });
         change(&mut call, &|call| {
             call.list[at + 1] = word(2, place);
@@ -74,11 +80,11 @@ fn plainer(mut call: Call, differs: &mut impl FnMut(&Call) -> bool) -> Call {
 
 /// The call as a person reads it.
 pub fn shown(call: &Call) -> String {
-    let ops: Vec<u32> = call
+    let ops: Vec<u16> = call
         .list
         .iter()
         .step_by(TOKEN_WORDS)
-        .map(|word| low(*word) & 0xFF)
+        .map(|word| number_in(*word))
         .collect();
     format!(
         "operators {ops:?} at version {}, used set {:#x} {:#x}, source length {}, limit {},\n\
@@ -104,7 +110,7 @@ mod tests {
     fn only_what_makes_the_difference_is_left() {
         let minuses = |call: &Call| {
             let first_words = call.list.iter().step_by(TOKEN_WORDS);
-            first_words.filter(|word| low(**word) & 0xFF == 6).count()
+            first_words.filter(|word| number_in(**word) == 6).count()
         };
         let calls = Mixed::new(3, 40).map(|case| Call::of(&case));
         for call in calls.filter(|call| minuses(call) >= 2).take(50) {

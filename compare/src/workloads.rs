@@ -12,7 +12,7 @@ pub struct Workload {
 }
 
 /// Makes a list of about so many operators, a random one from a seed.
-type Make = fn(usize, u64) -> Vec<u8>;
+type Make = fn(usize, u64) -> Vec<u16>;
 
 /// As many lists as have 4,096 tokens together, each from its own seed: were one short random list read over and over, the
 /// processor would learn its branches by heart, which it cannot for a long one.
@@ -26,7 +26,7 @@ fn workload(name: &'static str, make: Make, len: usize, version: i16) -> Workloa
     }
 }
 
-fn case(ops: &[u8], version: i16) -> Case {
+fn case(ops: &[u16], version: i16) -> Case {
     let mut tokens = dress::plain(ops);
     // A float or nothing: what else the Rust would spend on names is no part of reading.
     for token in tokens.iter_mut().filter(|token| token.op != 61) {
@@ -36,13 +36,13 @@ fn case(ops: &[u8], version: i16) -> Case {
 }
 
 /// `q.a * math.sin(v.b + 3) > 2 && !q.c(1, v.d) ? t.x - 4 / (c.y ?? 7) : -1`.
-const EXPRESSION: [u8; 31] = [
+const EXPRESSION: [u16; 31] = [
     40, 31, 36, 4, 43, 9, 61, 5, 53, 61, 57, 7, 40, 4, 61, 75, 43, 5, 59, 44, 6, 61, 20, 4, 42, 58,
     61, 5, 60, 6, 61,
 ];
 
 /// Statements of a typical script.
-const STATEMENTS: [&[u8]; 4] = [
+const STATEMENTS: [&[u16]; 4] = [
     &[43, 71, 43, 9, 36, 4, 40, 31, 61, 5, 73],
     &[44, 71, 40, 4, 61, 75, 43, 5, 53, 61, 59, 61, 60, 6, 61, 73],
     &[
@@ -53,7 +53,7 @@ const STATEMENTS: [&[u8]; 4] = [
     ],
 ];
 
-fn script(len: usize) -> Vec<u8> {
+fn script(len: usize) -> Vec<u16> {
     let mut rng = Rng::new(5);
     let mut ops = Vec::new();
     while ops.len() + 25 < len {
@@ -64,32 +64,32 @@ fn script(len: usize) -> Vec<u8> {
 }
 
 /// `steps` of one list, then the middle, then as many of another, of about `len` operators.
-fn nest(len: usize, step: &[u8], back: &[u8]) -> Vec<u8> {
+fn nest(len: usize, step: &[u16], back: &[u16]) -> Vec<u16> {
     let times = (len - 1) / (step.len() + back.len());
     [&step.repeat(times)[..], &[61], &back.repeat(times)].concat()
 }
 
-fn flat_sum(len: usize, _: u64) -> Vec<u8> {
+fn flat_sum(len: usize, _: u64) -> Vec<u16> {
     nest(len, &[61, 9], &[])
 }
 
-fn brackets(len: usize, _: u64) -> Vec<u8> {
+fn brackets(len: usize, _: u64) -> Vec<u16> {
     nest(len, &[4], &[5])
 }
 
-fn sums_in_brackets(len: usize, _: u64) -> Vec<u8> {
+fn sums_in_brackets(len: usize, _: u64) -> Vec<u16> {
     nest(len, &[4, 61, 9], &[5])
 }
 
-fn ladder(len: usize, _: u64) -> Vec<u8> {
+fn ladder(len: usize, _: u64) -> Vec<u16> {
     nest(len, &[61, 59, 61, 60], &[])
 }
 
-fn ladder_in_brackets(len: usize, _: u64) -> Vec<u8> {
+fn ladder_in_brackets(len: usize, _: u64) -> Vec<u16> {
     nest(len, &[61, 59, 61, 60, 4], &[5])
 }
 
-fn random_expression(len: usize, seed: u64) -> Vec<u8> {
+fn random_expression(len: usize, seed: u64) -> Vec<u16> {
     let mut rng = Rng::new(11 + seed);
     let mut ops = vec![61];
     while ops.len() + 60 < len {
@@ -102,7 +102,7 @@ fn random_expression(len: usize, seed: u64) -> Vec<u8> {
     ops
 }
 
-fn random_script(len: usize, seed: u64) -> Vec<u8> {
+fn random_script(len: usize, seed: u64) -> Vec<u16> {
     let mut rng = Rng::new(13 + seed);
     let mut ops = Vec::new();
     while ops.len() + 60 < len {
@@ -117,7 +117,7 @@ fn random_script(len: usize, seed: u64) -> Vec<u8> {
 }
 
 /// An expression that is read as a tree wherever an operand may stand.
-fn put_valid(rng: &mut Rng, ops: &mut Vec<u8>, depth: usize) {
+fn put_valid(rng: &mut Rng, ops: &mut Vec<u16>, depth: usize) {
     for operand in 0..1 + rng.below(4) {
         if operand > 0 {
             ops.push(*rng.pick(&[9, 31, 20, 6, 50, 53, 54, 56, 57, 9]));
@@ -143,7 +143,7 @@ fn put_valid(rng: &mut Rng, ops: &mut Vec<u8>, depth: usize) {
     }
 }
 
-fn put_within(rng: &mut Rng, ops: &mut Vec<u8>, before: &[u8], depth: usize, after: u8) {
+fn put_within(rng: &mut Rng, ops: &mut Vec<u16>, before: &[u16], depth: usize, after: u16) {
     ops.extend(before);
     put_valid(rng, ops, depth);
     ops.push(after);
@@ -163,7 +163,7 @@ const LONG: [(&str, Make, i16); 9] = [
 
 /// The short ones: a typical expression and a typical script.
 pub fn short() -> Vec<Workload> {
-    let one = |name, ops: &[u8]| Workload {
+    let one = |name, ops: &[u16]| Workload {
         name,
         cases: vec![case(ops, 6)],
     };
@@ -181,7 +181,7 @@ pub fn long(len: usize) -> Vec<Workload> {
 }
 
 /// Sums and products of equal depth, all in brackets: a list whose tree is plain.
-fn balanced(len: usize, _: u64) -> Vec<u8> {
+fn balanced(len: usize, _: u64) -> Vec<u16> {
     let mut ops = vec![61];
     let mut round = 0;
     while 2 * ops.len() + 3 <= len {
@@ -192,34 +192,34 @@ fn balanced(len: usize, _: u64) -> Vec<u8> {
     ops
 }
 
-fn arguments(len: usize, _: u64) -> Vec<u8> {
+fn arguments(len: usize, _: u64) -> Vec<u16> {
     [&[40, 4], &nest(len - 3, &[61, 75], &[])[..], &[5]].concat()
 }
 
 /// A ladder without brackets, of two thirds of the tokens: each step but the first is written in an added pair.
-fn paired_ladder(len: usize, seed: u64) -> Vec<u8> {
+fn paired_ladder(len: usize, seed: u64) -> Vec<u16> {
     ladder((2 * len).div_ceil(3), seed)
 }
 
 /// A sum without brackets, of half of the tokens: each sum but the last is the next one's left side, in an added pair.
-fn paired_sums(len: usize, seed: u64) -> Vec<u8> {
+fn paired_sums(len: usize, seed: u64) -> Vec<u16> {
     flat_sum(len.div_ceil(2), seed)
 }
 
 /// Statements of a bracket each, `( a ) ;`: of 4,000 tokens a thousand of them.
-fn short_statements(len: usize, _: u64) -> Vec<u8> {
+fn short_statements(len: usize, _: u64) -> Vec<u16> {
     [4, 61, 5, 73].repeat(len / 4)
 }
 
 /// The same tokens as one expression, with commas for semicolons but for the last.
-fn same_with_commas(len: usize, _: u64) -> Vec<u8> {
+fn same_with_commas(len: usize, _: u64) -> Vec<u16> {
     let mut ops = [4, 61, 5, 75].repeat(len / 4);
     ops.pop();
     ops
 }
 
 /// `v = a ;`, over and over.
-fn assignments(len: usize, _: u64) -> Vec<u8> {
+fn assignments(len: usize, _: u64) -> Vec<u16> {
     [43, 71, 61, 73].repeat(len / 4)
 }
 

@@ -1,5 +1,5 @@
 //! Plain, writing and taking away, from document 01's 'Writing a plain tree', lines 12 to 15 of its table, and cards 1,
-//! 2 and 3. Nothing here follows the library: trees are an arena of nodes, each with its parent, answer 12 asks of a prefix
+//! 2, 3 and 7. Nothing here follows the library: trees are an arena of nodes, each with its parent, answer 12 asks of a prefix
 //! of the words whether any tree goes on from it, and the extent of an operand is looked for anew at each added pair. Plain
 //! is judged twice: a node at a time by its neighbours' operators, and from the root down by card 1's sentence.
 
@@ -10,7 +10,7 @@ pub const MOST_NODES: usize = 12_288;
 pub const MOST_TOKENS: usize = 4_096;
 
 /// A script's root and statements, and what is written after each.
-pub const SEMICOLON: u8 = 73;
+pub const SEMICOLON: u16 = 73;
 
 /// What the write entry answers.
 #[derive(Copy, Clone, Debug, PartialEq, Eq)]
@@ -58,7 +58,7 @@ impl Tree {
         tree
     }
 
-    fn op(&self, node: usize) -> u8 {
+    fn op(&self, node: usize) -> u16 {
         self.tokens[node].op
     }
 
@@ -70,13 +70,13 @@ impl Tree {
         self.op(node) == SEMICOLON
     }
 
-    /// Whether the node has one of document 01's plain forms, all of them of expressions.
+    /// Whether the node has one of document 01's plain forms, all of them of expressions, or is a host's leaf.
     fn is_expression(&self, node: usize) -> bool {
         let op = self.op(node);
         let parent = self.parents[node].map(|(parent, child)| (self.op(parent), child));
         match *self.children[node] {
             [] => match op {
-                40 | 42..=44 | 46..=49 | 61 | 62 | 76 => true,
+                40 | 42..=44 | 46..=49 | 61 | 62 | 76 | 256..=1023 => true,
                 4 => parent.is_some_and(|(parent, _)| is_math_call(parent)),
                 _ => false,
             },
@@ -272,17 +272,17 @@ impl Tree {
     }
 }
 
-fn is_math_call(op: u8) -> bool {
+fn is_math_call(op: u16) -> bool {
     matches!(op, 8 | 10..=19 | 21..=30 | 32..=39 | 78..=110)
 }
 
 /// Whether the operator is a query or a math call.
-pub fn is_call(op: u8) -> bool {
+pub fn is_call(op: u16) -> bool {
     op == 40 || is_math_call(op)
 }
 
 /// A token with payload 0.
-fn spanning(op: u8, start: u32, end: u32) -> Token {
+fn spanning(op: u16, start: u32, end: u32) -> Token {
     Token {
         op,
         variant: 0,

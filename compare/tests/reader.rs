@@ -6,13 +6,16 @@ use compare::calls;
 use compare::comparison::Comparison;
 use compare::library::Read;
 use compare::matching::Matching;
+use compare::numbers::Numbers;
 use compare::reading::{Buffers, Expected};
 use compare::rereading::{self, Lists, Reread};
+use oracle::generate::hosts::Hosted;
 use oracle::generate::{Mixed, Rng, dress};
+use oracle::hosts::{STAND_IN, hostless};
 use oracle::nesting::{MOST_NESTING, least_limit};
 use oracle::refusal::Call;
 use oracle::vectors::{Stored, stored};
-use oracle::words::{Case, word};
+use oracle::words::{Case, decode_tree, is_host, tree_words, word};
 
 /// Compares all calls; the counts of trees, messages and refusals.
 fn compared(calls: impl Iterator<Item = Call>) -> (u64, u64, u64) {
@@ -112,7 +115,9 @@ fn a_bad_word_behind_an_excess_is_the_answer() {
     for (number, place, bad) in [
         (8, 19, word(4, 0)),
         (9, 15, word(1, 111)),
+        (9, 15, word(1, 1 << 14)),
         (10, 15, word(1, 61 | 13 << 8)),
+        (11, 15, word(1, 61 | 1 << 16)),
         (11, 19, word(5, 1 << 16)),
     ] {
         let mut bad_word = call.clone();
@@ -154,6 +159,69 @@ fn within_its_limit_a_list_reads_as_at_the_greatest() {
 fn generated_lists() {
     let (trees, messages, refused) = compared(calls::generated(1, 24).take(200_000));
     assert!(trees > 50_000 && messages > 50_000 && refused > 10_000);
+}
+
+#[test]
+fn every_operator_number_with_every_variant_and_every_other_bit() {
+    let mut numbers = Numbers::default();
+    if let Err(difference) = numbers.all(|| {}) {
+        panic!("{difference}");
+    }
+    assert_eq!(numbers.words, 4_096 * 16 * (8 + 13));
+    assert_eq!(numbers.good, (111 + 768) * 13);
+}
+
+#[test]
+#[cfg_attr(not(rust_source), ignore = "the Rust source is not at hand")]
+fn lists_with_hosts_in_any_place() {
+    let (trees, messages, refused) = compared(calls::hosted(11, 24).take(200_000));
+    assert!(trees > 50_000 && messages > 50_000 && refused > 10_000);
+    compared(calls::hosted(12, 300).take(5_000));
+    compared(calls::hosted(13, 4_096).take(200));
+}
+
+#[test]
+#[cfg_attr(not(rust_source), ignore = "the Rust source is not at hand")]
+fn every_list_of_up_to_five_operators_beside_hosts() {
+    let (trees, messages, _) = compared(calls::over_hosts(5));
+    let all = 3 * 3 * (1 + 8 + 64 + 512 + 4_096 + 32_768);
+    assert_eq!(trees + messages, all);
+    assert!(trees > 20_000, "{trees}");
+}
+
+/// What a call leaves: its tree or its messages.
+fn left(buffers: &mut Buffers, case: &Case) -> Expected {
+    match buffers.call(&Call::of(case), &Expected::Something) {
+        Ok(Read::Tree(nodes)) => Expected::Tree(buffers.tree(nodes).to_vec()),
+        Ok(Read::Messages(count)) => Expected::Messages(buffers.records(count)),
+        other => panic!("{other:?} to {case:?}"),
+    }
+}
+
+/// By the library alone: the words are those with 76 in the hosts' stead, but for the hosts' numbers, which stand in the tree
+/// in the order of the list.
+#[test]
+fn a_list_with_hosts_reads_as_with_76_in_their_stead() {
+    let (mut buffers, mut trees) = (Buffers::default(), 0);
+    for case in Hosted::new(14, 24).take(100_000) {
+        let without = left(&mut buffers, &hostless(&case));
+        let Expected::Tree(words) = left(&mut buffers, &case) else {
+            assert_eq!(left(&mut buffers, &case), without, "{case:?}");
+            continue;
+        };
+        trees += 1;
+        let mut nodes = decode_tree(&words).expect("a tree");
+        let mut found = Vec::new();
+        for node in nodes.iter_mut().filter(|node| is_host(node.token.op)) {
+            assert_eq!(node.children, 0, "{case:?}");
+            found.push(node.token.op);
+            node.token.op = STAND_IN;
+        }
+        assert_eq!(Expected::Tree(tree_words(&nodes)), without, "{case:?}");
+        let given = case.tokens.iter().map(|token| token.op);
+        assert!(given.filter(|&op| is_host(op)).eq(found), "{case:?}");
+    }
+    assert!(trees > 20_000, "{trees}");
 }
 
 #[test]
@@ -227,6 +295,16 @@ fn read_again(lists: impl Iterator<Item = Case>) -> usize {
 fn a_written_list_reads_as_the_same_tree_at_three_versions() {
     let again = read_again(Lists::new(5).take(60_000));
     assert!(again > 20_000, "only {again} lists were read again");
+}
+
+#[test]
+fn a_written_list_with_hosts_reads_as_the_same_tree_at_three_versions() {
+    let with_hosts = |case: &Case| case.tokens.iter().any(|token| is_host(token.op));
+    let expressions = Lists::new(15).filter(with_hosts).take(60_000);
+    let again = read_again(expressions);
+    assert!(again > 20_000, "only {again} lists were read again");
+    let again = read_again(Lists::scripts(16).filter(with_hosts).take(30_000));
+    assert!(again > 10_000, "only {again} scripts were read again");
 }
 
 #[test]

@@ -24,8 +24,8 @@ fn exported(nodes: &[TreeNode]) -> Vec<u32> {
 }
 
 /// Nodes of these operators and child counts, each with a place of its own.
-fn nodes(given: &[(u8, u32)]) -> Vec<TreeNode> {
-    let with_place = |(place, &(op, children)): (usize, &(u8, u32))| {
+fn nodes(given: &[(u16, u32)]) -> Vec<TreeNode> {
+    let with_place = |(place, &(op, children)): (usize, &(u16, u32))| {
         let mut node = bare(op, children);
         (node.token.start, node.close) = (place as u32, place as u32 + 1);
         node
@@ -56,7 +56,7 @@ fn each_nodes_words_come_after_those_of_its_children_in_order() {
 
 /// Where each node stands in stack order, by its number, its depth and the nodes below it: before it come the nodes of lower numbers
 /// that are not above it, and those below it.
-fn places(nodes: &[(u8, u32)]) -> Vec<usize> {
+fn places(nodes: &[(u16, u32)]) -> Vec<usize> {
     let end = |number: usize| {
         let (mut called, mut end) = (1, number);
         while called > 0 {
@@ -224,8 +224,10 @@ fn words_that_are_not_one_tree_fail_where_no_tree_goes_on() {
     };
     let edges = [
         (7, word(1, 111), "an operator above 110"),
+        (7, word(1, 255), "a number below the hosts"),
+        (7, word(1, 4 << 12), "a number above the hosts"),
         (7, word(1, 13 << 8 | 61), "a variant above 12"),
-        (7, word(1, 1 << 12 | 61), "another bit"),
+        (7, word(1, 1 << 16 | 61), "another bit"),
         (8, word(3, 0), "a wrong kind"),
         (10, word(4, 1), "an upper half under variant 0"),
         (11, word(5, 1), "a lower half under variant 0"),

@@ -6,6 +6,7 @@ use std::io::Write;
 use std::path::PathBuf;
 use std::process::{Command, Stdio};
 
+use oracle::hosts::has_hosts;
 use oracle::vectors::{self, Stored};
 use oracle::words::{Answer, Token, exact_set, list_words, word};
 
@@ -45,8 +46,8 @@ fn input(version: i16, list: &[u32]) -> Vec<u8> {
 }
 
 /// Tokens of these operators, the i-th at the span i to i + 1.
-fn tokens(ops: &[u8]) -> Vec<Token> {
-    let token = |(place, &op): (usize, &u8)| Token {
+fn tokens(ops: &[u16]) -> Vec<Token> {
+    let token = |(place, &op): (usize, &u16)| Token {
         op,
         variant: 0,
         value: 0,
@@ -56,7 +57,7 @@ fn tokens(ops: &[u8]) -> Vec<Token> {
     ops.iter().enumerate().map(token).collect()
 }
 
-fn list(ops: &[u8]) -> Vec<u32> {
+fn list(ops: &[u16]) -> Vec<u32> {
     list_words(&tokens(ops))
 }
 
@@ -193,8 +194,11 @@ fn each_bad_word_is_told_at_its_place() {
             0 => damages.extend([
                 (9, word(1, 111)),
                 (10, word(1, 13 << 8)),
-                (11, word(1, 61 | 1 << 12)),
+                (11, word(1, 61 | 1 << 16)),
                 (9, word(1, 255 | 15 << 8 | 1 << 28)),
+                (9, word(1, 1 << 14)),
+                (9, word(1, 61 | 1 << 15 | 1 << 16)),
+                (11, word(1, 3 << 12 | 12 << 8 | 0xFF | 1 << 28)),
             ]),
             1 | 2 => {}
             _ => damages.extend([
@@ -211,6 +215,21 @@ fn each_bad_word_is_told_at_its_place() {
             assert_eq!(run(&program, &[&input(6, &words)]), refused(number, place));
         }
     }
+}
+
+#[test]
+#[cfg_attr(not(treelist), ignore = "treelist is not built")]
+fn a_hosts_number_is_printed() {
+    let program = program();
+    let sum = list(&[256, 9, 1_023]);
+    let found = run(&program, &[&input(6, &sum)]);
+    assert_eq!(found, "tree 3\n9 2 1 2\n256 0 0 1\n1023 0 2 3\n");
+    // A number whose lower eight bits are a minus or a bracket is an operand, and no pass runs for it.
+    let difference = list(&[262, 6, 516]);
+    let found = run(&program, &[&input(6, &difference)]);
+    assert_eq!(found, "tree 4\n9 2 1 2\n262 0 0 1\n6 1 1 2\n516 0 2 3\n");
+    let found = run(&program, &[&input(6, &list(&[329, 327]))]);
+    assert_eq!(found, "messages 1\n1 0 2 2 0 0 0 0\n");
 }
 
 #[test]
@@ -255,7 +274,7 @@ fn the_version_is_read_in_twos_complement() {
 #[cfg_attr(not(treelist), ignore = "treelist is not built")]
 fn the_kept_answers_are_printed() {
     let program = program();
-    let mut compared = 0;
+    let (mut compared, mut hosted) = (0, 0);
     for record in vectors::stored().iter().step_by(7) {
         let Stored::Answered { case, answer, .. } = record else {
             continue;
@@ -268,6 +287,8 @@ fn the_kept_answers_are_printed() {
         let found = run(&program, &[&input(case.version, &list_words(&case.tokens))]);
         assert_eq!(found, text(answer), "{case:?}");
         compared += 1;
+        hosted += usize::from(has_hosts(case));
     }
     assert!(compared >= 1000, "{compared} kept answers");
+    assert!(hosted >= 200, "{hosted} of them with hosts");
 }

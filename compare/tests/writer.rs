@@ -9,7 +9,7 @@ fn float(place: u32) -> TreeNode {
     node(61, 0, place)
 }
 
-fn node(op: u8, children: u32, start: u32) -> TreeNode {
+fn node(op: u16, children: u32, start: u32) -> TreeNode {
     let mut node = bare(op, children);
     node.token.start = start;
     node.token.end = start + 1;
@@ -18,7 +18,7 @@ fn node(op: u8, children: u32, start: u32) -> TreeNode {
 }
 
 /// Operator and start of each token of a plain tree.
-fn written(nodes: &[TreeNode]) -> Vec<(u8, u32)> {
+fn written(nodes: &[TreeNode]) -> Vec<(u16, u32)> {
     let list = Tree::of(nodes).written();
     list.iter().map(|token| (token.op, token.start)).collect()
 }
@@ -28,7 +28,7 @@ fn refusal(words: &[u32]) -> Written {
 }
 
 /// Operator, start and end of each token of a plain tree.
-fn spans(nodes: &[TreeNode]) -> Vec<(u8, u32, u32)> {
+fn spans(nodes: &[TreeNode]) -> Vec<(u16, u32, u32)> {
     let list = Tree::of(nodes).written();
     let spans = list.iter();
     spans
@@ -168,14 +168,14 @@ fn a_lone_colon_is_not_plain() {
 }
 
 /// The answer to a tree of operators and child counts, all of payload 0 and span 0 to 0.
-fn answer(nodes: &[(u8, u32)]) -> Written {
+fn answer(nodes: &[(u16, u32)]) -> Written {
     let nodes: Vec<TreeNode> = nodes.iter().map(|&(op, below)| bare(op, below)).collect();
     refusal(&tree_words(&nodes))
 }
 
 #[test]
 fn answer_13_blames_a_semicolon_only_where_its_child_could_not_be() {
-    let places: [(&[(u8, u32)], usize); 17] = [
+    let places: [(&[(u16, u32)], usize); 17] = [
         // 73(a), 73(73(41),a), 73
         (&[(73, 1), (61, 0)], 0),
         (&[(73, 2), (73, 1), (41, 0), (61, 0)], 0),
@@ -267,7 +267,7 @@ fn each_statement_is_written_with_a_semicolon_of_its_childs_span() {
     assert_eq!(spans(&nodes), list);
     let written = Tree::of(&nodes).written();
     let made = written.iter().filter(|token| token.variant == 0);
-    let made: Vec<u8> = made.map(|token| token.op).collect();
+    let made: Vec<u16> = made.map(|token| token.op).collect();
     assert_eq!(made, [4, 5, 73, 4, 5, 73, 5, 73], "these have payload 0");
 }
 
@@ -286,7 +286,7 @@ fn semicolons_are_compared_by_their_operators_under_a_semicolon_alone() {
 }
 
 /// Leaves, brackets, `?`, `:`, what a statement holds, semicolons and what is never plain.
-const OF_SCRIPTS: [u8; 8] = [61, 4, 59, 60, 71, 73, 74, 41];
+const OF_SCRIPTS: [u16; 8] = [61, 4, 59, 60, 71, 73, 74, 41];
 
 #[test]
 fn small_trees_are_judged_alike_from_the_root_down_and_a_node_at_a_time() {
@@ -304,6 +304,25 @@ fn small_trees_are_judged_alike_from_the_root_down_and_a_node_at_a_time() {
         plain > 20 && scripts > 5,
         "{plain} plain, {scripts} scripts"
     );
+}
+
+#[test]
+fn a_host_is_plain_as_a_leaf_only() {
+    for host in [256, 262, 296, 1_023] {
+        assert_eq!(answer(&[(host, 0)]), Written::Tokens(1));
+        let sum = [(9, 2), (host, 0), (31, 2), (host, 0), (61, 0)];
+        assert_eq!(answer(&sum), Written::Tokens(7));
+        let statement = [(73, 1), (73, 1), (71, 2), (host, 0), (host, 0)];
+        assert_eq!(answer(&statement), Written::Tokens(4));
+        // Its lower eight bits make it no minus and no query.
+        assert_eq!(answer(&[(host, 1), (61, 0)]), Written::Refused(13, 0));
+        let call = [(7, 1), (host, 1), (4, 1), (61, 0)];
+        assert_eq!(answer(&call), Written::Refused(13, 1));
+        let over_two = [(host, 2), (61, 0), (61, 0)];
+        assert_eq!(answer(&over_two), Written::Refused(13, 0));
+        // An empty bracket is none that it calls with.
+        assert_eq!(answer(&[(host, 1), (4, 0)]), Written::Refused(13, 0));
+    }
 }
 
 #[test]
@@ -333,8 +352,10 @@ fn words_that_are_not_one_tree_fail_where_no_tree_goes_on() {
     };
     let edges = [
         (7, word(1, 111), "an operator above 110"),
+        (7, word(1, 255), "a number below the hosts"),
+        (7, word(1, 4 << 12), "a number above the hosts"),
         (7, word(1, 13 << 8 | 61), "a variant above 12"),
-        (7, word(1, 1 << 12 | 61), "another bit"),
+        (7, word(1, 1 << 16 | 61), "another bit"),
         (8, word(3, 0), "a wrong kind"),
         (10, word(4, 1), "an upper half under variant 0"),
         (11, word(5, 1), "a lower half under variant 0"),
@@ -683,8 +704,10 @@ mod library {
     #[test]
     fn every_operator_over_every_child_count_under_every_parent() {
         let mut rng = Rng::new(23);
-        for parent in 0..=110 {
-            for child in 0..=110 {
+        // Hosts too: the first and the last, and some whose lower eight bits are a form's operator.
+        let hosts = [256, 260, 262, 292, 296, 329, 571, 828, 1_023];
+        for parent in (0..=110).chain(hosts) {
+            for child in (0..=110).chain(hosts) {
                 for (above, below) in [(1, 0), (1, 1), (2, 0), (2, 1), (2, 2), (3, 0)] {
                     let mut nodes = vec![bare(parent, above)];
                     for _ in 0..above {

@@ -1,6 +1,6 @@
 //! Where things stand in a tree's words, and the walks over them that need no more than the words.
 
-use crate::token::LOW;
+use crate::token::{LOW, number_in};
 use crate::{Op, Token};
 use sorbrudder_sys::{MOST_NODES, NODE_WORDS};
 
@@ -27,7 +27,7 @@ pub(crate) fn close(node: &[u32]) -> u32 {
 
 /// The operator that a node's words name; of a tree's words it is one.
 pub(crate) fn op(node: &[u32]) -> Option<Op> {
-    Op::new(node[0] as u8)
+    Op::new(number_in(node[0]))
 }
 
 /// The nodes of a tree's words.

@@ -69,7 +69,7 @@ pub enum Message {
 
 /// The operator that an argument names.
 fn named(argument: u32) -> Option<Op> {
-    Op::new(u8::try_from(argument).ok()?)
+    Op::new(u16::try_from(argument).ok()?)
 }
 
 impl Message {

@@ -70,7 +70,7 @@ impl<'t> Node<'t> {
     /// assert_eq!(tree.root().op().text(), "+");
     /// ```
     pub fn op(self) -> Op {
-        Op::new(self.words()[0] as u8).expect(SOUND)
+        layout::op(self.words()).expect(SOUND)
     }
 
     /// What the node carries.

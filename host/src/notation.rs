@@ -244,6 +244,7 @@ pub(crate) fn printed(token: Token, letters: &mut usize) -> String {
         }
         Payload::None => match sign_of(op) {
             Some(sign) => sign.to_string(),
+            None if op.is_host() => op.to_string(),
             None if op.is_math_call() && op.text().starts_with("math.") => op.text().to_string(),
             None => op.name().to_ascii_lowercase(),
         },

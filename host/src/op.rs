@@ -1,9 +1,10 @@
 //! Operators by number and name.
 
 use std::fmt;
+use std::ops::RangeInclusive;
 use std::str::FromStr;
 
-/// One of the 111 operators of a token list: what the Rust parser calls an `ExpressionOp`.
+/// What a token of a list is: one of the 111 operators that the Rust parser calls an `ExpressionOp`, or a name of the host's own.
 ///
 /// ```
 /// use sorbrudder::Op;
@@ -13,8 +14,44 @@ use std::str::FromStr;
 /// assert_eq!(Op::new(111), None);
 /// assert_eq!(Op::ADD.to_string(), "+");
 /// ```
+///
+/// A host that has names which Molang does not gives each a number from 256 to 1,023 ([`Op::host`]). Such a name is an operand. It
+/// is read as [`Op::THIS`] would be, its number is kept in the tree, and it is written as it was read:
+///
+/// ```
+/// use sorbrudder::{Op, Reader, Span, Token, Tokens, lift};
+///
+/// // This pack's host knows `torch` as 300, and `lamp` as 301, which carries nothing either.
+/// let (torch, lamp) = (Op::host(300).unwrap(), Op::host(301).unwrap());
+/// let source = "torch && lamp || a";
+/// let span = |text: &str| {
+///     let start = source.find(text).unwrap() as u32;
+///     Span::new(start, start + text.len() as u32).unwrap()
+/// };
+/// let list: Tokens = [
+///     Token::bare(torch, span("torch")),
+///     Token::bare(Op::LOGICAL_AND, span("&&")),
+///     Token::bare(lamp, span("lamp")),
+///     Token::bare(Op::LOGICAL_OR, span("||")),
+///     Token::bare(Op::FLOAT, Span::new(17, 18).unwrap()),
+/// ]
+/// .into_iter()
+/// .collect();
+///
+/// let tree = Reader::new().read(&list, 5)?;
+/// assert_eq!(tree.to_string(), "57(300,56(301,a))");
+/// assert!(tree.root().child(0).unwrap().op().is_host());
+///
+/// // The pack is lifted: version 6 reads the written list as version 5 read the given one.
+/// let lifted = lift(&list).from(5).to(6)?;
+/// assert_eq!(lifted.tokens.shown_in(source).to_string(), "torch && (lamp || a)");
+/// assert_eq!((lifted.tokens[0].op, lifted.tokens[3].op), (torch, lamp));
+/// let again = Reader::new().read(&lifted.tokens, 6)?;
+/// assert_eq!(again.without_brackets(), tree);
+/// # Ok::<(), Box<dyn std::error::Error>>(())
+/// ```
 #[derive(Copy, Clone, PartialEq, Eq, PartialOrd, Ord, Hash)]
-pub struct Op(u8);
+pub struct Op(u16);
 
 macro_rules! operators {
     ($($number:literal $name:ident $text:literal;)*) => {
@@ -145,37 +182,77 @@ operators! {
 }
 
 impl Op {
-    /// How many operators there are.
+    /// How many operators there are, without the hosts' own names.
     ///
     /// ```
     /// assert_eq!(sorbrudder::Op::all().len(), sorbrudder::Op::COUNT);
     /// ```
     pub const COUNT: usize = 111;
 
-    /// The operator of this number, if there is one: 0 to 110.
+    /// The numbers that a host may give to names of its own.
+    ///
+    /// ```
+    /// use sorbrudder::Op;
+    ///
+    /// assert!(Op::HOSTS.contains(&300));
+    /// assert_eq!((Op::HOSTS.start(), Op::HOSTS.end()), (&256, &1_023));
+    /// ```
+    pub const HOSTS: RangeInclusive<u16> = sorbrudder_sys::FIRST_HOST..=sorbrudder_sys::LAST_HOST;
+
+    /// The operator of this number, if there is one, 0 to 110, or the host's own name, 256 to 1,023.
     ///
     /// ```
     /// use sorbrudder::Op;
     ///
     /// assert_eq!(Op::new(110), Some(Op::HOST_MATH_VOLATILE));
     /// assert_eq!(Op::new(111), None);
+    /// assert_eq!(Op::new(256), Op::host(256));
+    /// assert_eq!(Op::new(1_024), None);
     /// ```
-    pub const fn new(number: u8) -> Option<Self> {
+    pub const fn new(number: u16) -> Option<Self> {
         if (number as usize) < Self::COUNT {
+            Some(Self(number))
+        } else {
+            Self::host(number)
+        }
+    }
+
+    /// The host's own name of this number, if it may have it: 256 to 1,023.
+    ///
+    /// ```
+    /// use sorbrudder::Op;
+    ///
+    /// assert_eq!(Op::host(300).unwrap().number(), 300);
+    /// assert_eq!((Op::host(255), Op::host(1_024)), (None, None));
+    /// assert_eq!(Op::host(9), None, "an operator of Molang is no host's");
+    /// ```
+    pub const fn host(number: u16) -> Option<Self> {
+        if Self(number).is_host() {
             Some(Self(number))
         } else {
             None
         }
     }
 
-    /// Every operator, by number.
+    /// Whether it is a name of the host's own. What the name is, and what it means, only the host knows.
+    ///
+    /// ```
+    /// use sorbrudder::Op;
+    ///
+    /// assert!(Op::host(300).unwrap().is_host() && !Op::HOST_MATH.is_host());
+    /// ```
+    pub const fn is_host(self) -> bool {
+        sorbrudder_sys::FIRST_HOST <= self.0 && self.0 <= sorbrudder_sys::LAST_HOST
+    }
+
+    /// Every operator, by number, without the hosts' own names.
     ///
     /// ```
     /// let maths = sorbrudder::Op::all().filter(|op| op.is_math_call());
     /// assert_eq!(maths.count(), 62);
     /// ```
     pub fn all() -> impl ExactSizeIterator<Item = Self> + DoubleEndedIterator {
-        (0..Self::COUNT as u8).map(Self)
+        (0..Self::COUNT as u16).map(Self)
     }
 
     /// The operator's number.
@@ -183,26 +260,38 @@ impl Op {
     /// ```
     /// assert_eq!(sorbrudder::Op::FLOAT.number(), 61);
     /// ```
-    pub const fn number(self) -> u8 {
+    pub const fn number(self) -> u16 {
         self.0
     }
 
-    /// The name of the operator's constant.
+    /// The name of the operator's constant; of a host's own name `HOST`.
     ///
     /// ```
-    /// assert_eq!(sorbrudder::Op::CONDITIONAL_ELSE.name(), "CONDITIONAL_ELSE");
+    /// use sorbrudder::Op;
+    ///
+    /// assert_eq!(Op::CONDITIONAL_ELSE.name(), "CONDITIONAL_ELSE");
+    /// assert_eq!(Op::host(300).unwrap().name(), "HOST");
     /// ```
     pub const fn name(self) -> &'static str {
-        OPERATORS[self.0 as usize].0
+        match self.is_host() {
+            true => "HOST",
+            false => OPERATORS[self.0 as usize].0,
+        }
     }
 
-    /// How the operator stands in Molang; what has no sign of its own is named: `float`, `string`.
+    /// How the operator stands in Molang; what has no sign of its own is named: `float`, `string`, `host`.
     ///
     /// ```
-    /// assert_eq!(sorbrudder::Op::SIN.text(), "math.sin");
+    /// use sorbrudder::Op;
+    ///
+    /// assert_eq!(Op::SIN.text(), "math.sin");
+    /// assert_eq!(Op::host(300).unwrap().text(), "host");
     /// ```
     pub const fn text(self) -> &'static str {
-        OPERATORS[self.0 as usize].1
+        match self.is_host() {
+            true => "host",
+            false => OPERATORS[self.0 as usize].1,
+        }
     }
 
     /// Whether it is a math function that is called with brackets.
@@ -252,10 +341,10 @@ impl std::error::Error for UnknownOp {}
 ///
 /// assert_eq!(Op::try_from(9), Ok(Op::ADD));
 /// ```
-impl TryFrom<u8> for Op {
+impl TryFrom<u16> for Op {
     type Error = UnknownOp;
 
-    fn try_from(number: u8) -> Result<Self, UnknownOp> {
+    fn try_from(number: u16) -> Result<Self, UnknownOp> {
         Self::new(number).ok_or(UnknownOp)
     }
 }
@@ -263,15 +352,16 @@ impl TryFrom<u8> for Op {
 /// ```
 /// use sorbrudder::Op;
 ///
-/// assert_eq!(u8::from(Op::ADD), 9);
+/// assert_eq!(u16::from(Op::ADD), 9);
 /// ```
-impl From<Op> for u8 {
+impl From<Op> for u16 {
     fn from(op: Op) -> Self {
         op.number()
     }
 }
 
-/// By its sign, its name in Molang or the name of its constant, in capitals or not.
+/// By its sign, its name in Molang or the name of its constant, in capitals or not; or by `#` and its number, as a host's own name
+/// is printed.
 ///
 /// ```
 /// use sorbrudder::Op;
@@ -279,21 +369,36 @@ impl From<Op> for u8 {
 /// assert_eq!("+".parse(), Ok(Op::ADD));
 /// assert_eq!("math.sin".parse(), Ok(Op::SIN));
 /// assert_eq!("sin".parse(), Ok(Op::SIN));
+/// assert_eq!("#300".parse(), Ok(Op::host(300).unwrap()));
 /// assert!("sinus".parse::<Op>().is_err());
 /// ```
 impl FromStr for Op {
     type Err = UnknownOp;
 
     fn from_str(text: &str) -> Result<Self, UnknownOp> {
+        if let Some(number) = text.strip_prefix('#') {
+            return number.parse().ok().and_then(Self::new).ok_or(UnknownOp);
+        }
         let by_text = Self::all().find(|op| op.text().eq_ignore_ascii_case(text));
         let by_name = || Self::all().find(|op| op.name().eq_ignore_ascii_case(text));
         by_text.or_else(by_name).ok_or(UnknownOp)
     }
 }
 
+/// As it stands in Molang ([`Op::text`]); a host's own name as `#` and its number.
+///
+/// ```
+/// use sorbrudder::Op;
+///
+/// assert_eq!(Op::SIN.to_string(), "math.sin");
+/// assert_eq!(Op::host(300).unwrap().to_string(), "#300");
+/// ```
 impl fmt::Display for Op {
     fn fmt(&self, f: &mut fmt::Formatter<'_>) -> fmt::Result {
-        f.pad(self.text())
+        match self.is_host() {
+            true => f.pad(&format!("#{}", self.0)),
+            false => f.pad(self.text()),
+        }
     }
 }
 

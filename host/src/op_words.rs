@@ -56,7 +56,8 @@ const WORDS: [(Op, &str); 49] = [
 ];
 
 impl Op {
-    /// What the operator does, in plain words: `sum`, `not`, `if`. A math function's words are `math function`.
+    /// What the operator does, in plain words: `sum`, `not`, `if`. A math function's words are `math function`, those of a host's own
+    /// name `host value`.
     ///
     /// ```
     /// use sorbrudder::Op;
@@ -64,8 +65,12 @@ impl Op {
     /// assert_eq!(Op::ADD.words(), "sum");
     /// assert_eq!(Op::NEGATE.words(), "negative");
     /// assert_eq!(Op::SIN.words(), "math function");
+    /// assert_eq!(Op::host(300).unwrap().words(), "host value");
     /// ```
     pub fn words(self) -> &'static str {
+        if self.is_host() {
+            return "host value";
+        }
         let found = WORDS.binary_search_by_key(&self, |(op, _)| *op);
         found.map_or("math function", |place| WORDS[place].1)
     }

@@ -30,7 +30,8 @@ pub enum Refusal {
     SourceTooLong,
     /// A word is of another kind than its field asks for. Only words can have this fault.
     WrongKind { word: usize },
-    /// A word names an operator above 110. Only words can have this fault.
+    /// A word has a number that neither an operator, 0 to 110, nor a host's own name, 256 to 1,023, has. Only words can have this
+    /// fault.
     UnknownOperator { word: usize },
     /// A word has a payload variant above 12. Only words can have this fault.
     UnknownPayload { word: usize },

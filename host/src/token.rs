@@ -201,14 +201,15 @@ impl Hash for Payload {
 ///
 /// | word | top bits | the other bits |
 /// |---|---|---|
-/// | 0 | 1 | bits 0-7 the operator's number, bits 8-11 the payload's variant ([`Payload::bits`]) |
+/// | 0 | 1 | bits 0-7 and 12-15 the operator's number, lower eight and upper four bits; bits 8-11 the payload's variant |
 /// | 1 | 2 | bits 0-28 the span's start |
 /// | 2 | 3 | bits 0-28 the span's end |
 /// | 3 | 4 | bits 0-15 the upper half of the payload's value |
 /// | 4 | 5 | bits 0-15 the lower half of the payload's value |
 ///
-/// A tree's node has these and two more: one whose top bits are 6 and whose bits 0-13 are the number of its children, and one whose top
-/// bits are 7 and whose bits 0-28 are where it closes ([`Node::close`](crate::Node::close)).
+/// The variants are numbered as [`Payload::bits`] has them. A tree's node has these words and two more: one whose top bits are 6 and
+/// whose bits 0-13 are the number of its children, and one whose top bits are 7 and whose bits 0-28 are where it closes
+/// ([`Node::close`](crate::Node::close)).
 #[derive(Copy, Clone, Debug, PartialEq, Eq, Hash)]
 pub struct Token {
     /// The operator.
@@ -225,6 +226,17 @@ pub(crate) const LOW: u32 = (1 << 29) - 1;
 /// A word of this kind.
 const fn word(kind: u32, low: u32) -> u32 {
     kind << 29 | low
+}
+
+/// The number that a token's first word has for its operator, whether it is one's or not: twelve bits.
+pub(crate) const fn number_in(first: u32) -> u16 {
+    (first & 0xFF | first >> 4 & 0xF00) as u16
+}
+
+/// A number of twelve bits where a token's first word has it.
+const fn number_bits(number: u16) -> u32 {
+    let number = number as u32;
+    number & 0xFF | (number & 0xF00) << 4
 }
 
 impl Token {
@@ -261,11 +273,14 @@ impl Token {
     /// let plus = Token::bare(Op::ADD, Span::new(1, 2).unwrap());
     /// let words = [0x2000_0009, 0x4000_0001, 0x6000_0002, 0x8000_0000, 0xA000_0000];
     /// assert_eq!(plus.words(), words);
+    ///
+    /// let own = Token::bare(Op::host(0x3A5).unwrap(), Span::default());
+    /// assert_eq!(own.words()[0], 0x2000_30A5);
     /// ```
     pub const fn words(self) -> [u32; Self::WORDS] {
         let (variant, value) = self.payload.bits();
         [
-            word(1, self.op.number() as u32 | (variant as u32) << 8),
+            word(1, number_bits(self.op.number()) | (variant as u32) << 8),
             word(2, self.span.start),
             word(3, self.span.end),
             word(4, value >> 16),
@@ -281,7 +296,7 @@ impl Token {
     pub fn from_words(words: [u32; Self::WORDS]) -> Option<Self> {
         let [first, start, end, upper, lower] = words.map(|word| word & LOW);
         let token = Self {
-            op: Op::new(first as u8)?,
+            op: Op::new(number_in(first))?,
             payload: Payload::from_bits((first >> 8 & 0xF) as u8, upper << 16 | lower & 0xFFFF)?,
             span: Span::new(start, end)?,
         };

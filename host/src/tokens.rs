@@ -15,7 +15,7 @@ use std::ops::Deref;
 /// - `variable.health` is an operator before a name that is in the text only, `variable.7` one that carries the number 7; so are
 ///   `query.`, `temp.`, `context.`, `array.`, `string.`, `geometry.`, `material.` and `texture.`;
 /// - any other name, `a` or `dosed`, is an operand that carries nothing, and so is the text within `'` a string;
-/// - `#61` is an operator by its number, `#61@1:ffc00000` one with its payload's variant and bits.
+/// - `#61` is an operator by its number and `#300` a host's own name, `#61@1:ffc00000` one with its payload's variant and bits.
 ///
 /// A token's span is where it stands in the text.
 ///

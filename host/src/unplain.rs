@@ -83,9 +83,9 @@ impl fmt::Display for Unplain {
     }
 }
 
-/// A leaf that can be written: 40, 42-44, 46-49, 61, 62 or 76.
+/// A leaf that can be written: 40, 42-44, 46-49, 61, 62, 76 or a host's own name.
 fn is_plain_leaf(op: Op) -> bool {
-    matches!(op.number(), 40 | 42..=44 | 46..=49 | 61 | 62 | 76)
+    matches!(op.number(), 40 | 42..=44 | 46..=49 | 61 | 62 | 76) || op.is_host()
 }
 
 /// What is written between two operands: 9, 20, 31, 50-59 or 75.

@@ -1,5 +1,6 @@
 //! Operator sets.
 
+use crate::token::number_in;
 use crate::{Op, Token};
 use std::fmt;
 use std::ops::{BitAnd, BitOr, Sub};
@@ -15,6 +16,22 @@ use std::ops::{BitAnd, BitOr, Sub};
 /// assert_eq!(used, Used::EMPTY.with(Op::FLOAT).with(Op::ADD));
 /// # Ok::<(), sorbrudder::NotationError>(())
 /// ```
+///
+/// A host's own names are in no set, since no pass looks for them: they are passed over.
+///
+/// ```
+/// use sorbrudder::{Op, Reader, Tokens, Used};
+///
+/// let (list, torch): (Tokens, _) = ("#300 + b".parse()?, Op::host(300).unwrap());
+/// let used = Used::exact(&list);
+/// assert_eq!(used, Used::EMPTY.with(Op::FLOAT).with(Op::ADD));
+/// assert!(!used.contains(torch) && !Used::FULL.contains(torch));
+/// assert_eq!(used.with(torch), used);
+///
+/// let tree = Reader::new().parse(&list, 6, used, 8)?;
+/// assert_eq!(tree.to_string(), "9(300,a)");
+/// # Ok::<(), Box<dyn std::error::Error>>(())
+/// ```
 #[derive(Copy, Clone, Default, PartialEq, Eq, Hash)]
 pub struct Used(u128);
 
@@ -27,7 +44,7 @@ impl Used {
     /// assert!(Op::all().all(|op| !Used::EMPTY.contains(op)));
     /// ```
     pub const EMPTY: Self = Self(0);
-    /// Every operator.
+    /// Every operator, but for hosts' own names.
     ///
     /// ```
     /// use sorbrudder::{Op, Used};
@@ -36,7 +53,7 @@ impl Used {
     /// ```
     pub const FULL: Self = Self((1 << Op::COUNT) - 1);
 
-    /// Each operator of the tokens and no other: what reading a list usually wants.
+    /// Each operator of the tokens and no other, hosts' own names passed over: what reading a list usually wants.
     ///
     /// ```
     /// use sorbrudder::{Tokens, Used};
@@ -48,7 +65,7 @@ impl Used {
         tokens.iter().map(|token| token.op).collect()
     }
 
-    /// Each operator of a list's words. A first word of a token that names no operator is passed over.
+    /// Each operator of a list's words. A first word of a token that names no operator, or a host's own name, is passed over.
     ///
     /// ```
     /// use sorbrudder::{Tokens, Used};
@@ -59,7 +76,7 @@ impl Used {
     pub fn exact_words(list: &[u32]) -> Self {
         let mut set = 0;
         for token in list.chunks(Token::WORDS) {
-            set |= bit(token[0] as u8);
+            set |= bit(number_in(token[0]));
         }
         Self(set & Self::FULL.0)
     }
@@ -72,10 +89,10 @@ impl Used {
     /// assert!(Used::EMPTY.with(Op::ADD).contains(Op::ADD));
     /// ```
     pub const fn contains(self, op: Op) -> bool {
-        self.0 >> op.number() & 1 == 1
+        self.0 & bit(op.number()) != 0
     }
 
-    /// The set with this operator.
+    /// The set with this operator; with a host's own name it is the same.
     ///
     /// ```
     /// use sorbrudder::{Op, Used};
@@ -84,7 +101,7 @@ impl Used {
     /// ```
     #[must_use]
     pub const fn with(self, op: Op) -> Self {
-        Self(self.0 | 1 << op.number())
+        Self(self.0 | bit(op.number()))
     }
 
     /// The set without this operator.
@@ -96,7 +113,7 @@ impl Used {
     /// ```
     #[must_use]
     pub const fn without(self, op: Op) -> Self {
-        Self(self.0 & !(1 << op.number()))
+        Self(self.0 & !bit(op.number()))
     }
 
     /// The operators of the set, by number.
@@ -140,8 +157,8 @@ impl Used {
     }
 }
 
-/// The bit of a number that may be an operator's. Above 127 there is none.
-const fn bit(number: u8) -> u128 {
+/// The bit of a number that may be an operator's. Above 127 there is none, so hosts' own names have none.
+const fn bit(number: u16) -> u128 {
     match 1u128.checked_shl(number as u32) {
         Some(bit) => bit,
         None => 0,
@@ -183,7 +200,7 @@ impl Iterator for UsedOps {
     type Item = Op;
 
     fn next(&mut self) -> Option<Op> {
-        let op = Op::new(self.0.trailing_zeros() as u8)?;
+        let op = Op::new(self.0.trailing_zeros() as u16)?;
         self.0 &= self.0 - 1;
         Some(op)
     }

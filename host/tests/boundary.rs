@@ -310,10 +310,14 @@ fn every_refusal_of_the_reader_is_mapped_or_cannot_happen() {
     assert_eq!(kind, refused(Refusal::WrongKind { word: 6 }));
     let operator = words_with(|words| words[5] = 1 << 29 | 111);
     assert_eq!(operator, refused(Refusal::UnknownOperator { word: 5 }));
+    let above_hosts = words_with(|words| words[5] = 1 << 29 | 4 << 12);
+    assert_eq!(above_hosts, refused(Refusal::UnknownOperator { word: 5 }));
     let payload = words_with(|words| words[5] |= 13 << 8);
     assert_eq!(payload, refused(Refusal::UnknownPayload { word: 5 }));
     let other = words_with(|words| words[13] |= 1);
     assert_eq!(other, refused(Refusal::OtherBits { word: 13 }));
+    let above_number = words_with(|words| words[5] |= 1 << 16);
+    assert_eq!(above_number, refused(Refusal::OtherBits { word: 5 }));
     // 17: a limit is legal. 18: above, and after every word.
     let deep: Tokens = "((a".parse().expect("the notation");
     let mut words = deep.words();
@@ -321,7 +325,8 @@ fn every_refusal_of_the_reader_is_mapped_or_cannot_happen() {
     let mut reader = Reader::new().with_limit(Limit::new(1).expect("a limit"));
     let bad_word = reader.read_words(&words, 6).map(|_| ());
     assert_eq!(bad_word, refused(Refusal::WrongKind { word: 14 }));
-    assert_eq!((Op::new(111), Span::new(0, 1 << 29)), (None, None));
+    assert_eq!((Op::new(111), Op::new(1_024)), (None, None));
+    assert_eq!(Span::new(0, 1 << 29), None);
 }
 
 #[test]

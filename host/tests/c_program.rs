@@ -1,5 +1,5 @@
-//! C programs that include the header and link the library: one reads a list, one puts a tree into stack order and runs it there, one
-//! holds every number of the header to the crate's.
+//! C programs that include the header and link the library: one reads a list, one puts a tree into stack order and runs it there, one has
+//! names of its own, one holds every number of the header to the crate's.
 
 mod common;
 
@@ -69,6 +69,20 @@ const STACK_ORDER: Program = Program {
     ],
 };
 
+const HOST_NAMES: Program = Program {
+    name: "host_names",
+    lines: &[
+        "9 2",
+        "262 0 of the host",
+        "31 2",
+        "1023 0 of the host",
+        "61 0",
+        "tokens 7",
+        "refused 9 0",
+        "refused 11 0",
+    ],
+};
+
 impl Program {
     fn runs_in_c(&self) {
         self.runs(&c_compiler(), &["-std=c11"], self.name);
@@ -111,6 +125,16 @@ fn a_c_program_runs_a_tree_in_stack_order() {
 #[test]
 fn a_cpp_program_runs_a_tree_in_stack_order() {
     STACK_ORDER.runs_in_cpp();
+}
+
+#[test]
+fn a_c_program_has_names_of_its_own() {
+    HOST_NAMES.runs_in_c();
+}
+
+#[test]
+fn a_cpp_program_has_names_of_its_own() {
+    HOST_NAMES.runs_in_cpp();
 }
 
 /// A name of a Rust variant as the header writes it: `NotWhole` as `NOT_WHOLE`.
@@ -198,6 +222,8 @@ fn sizes() -> Vec<(String, u64)> {
         ("MESSAGE_WORDS", sorbrudder_sys::MESSAGE_WORDS),
         ("MOST_TOKENS", sorbrudder::MOST_TOKENS),
         ("MOST_NESTING", sorbrudder::Limit::MOST.get() as usize),
+        ("FIRST_HOST", usize::from(*Op::HOSTS.start())),
+        ("LAST_HOST", usize::from(*Op::HOSTS.end())),
         ("MESSAGE_BUFFER", sorbrudder_sys::MESSAGE_BUFFER),
         ("LIST_BUFFER", Token::WORDS * sorbrudder::MOST_TOKENS),
         ("TREE_BUFFER(1)", sorbrudder_sys::tree_buffer(1)),
@@ -257,29 +283,31 @@ fn a_header_of_another_layout_is_found_out() {
 }
 
 #[test]
-fn a_library_without_a_limit_is_found_out() {
-    // Such a library reads the list whatever the limit is, and knows how long a tree buffer has to be.
+fn a_library_without_a_limit_or_without_hosts_is_found_out() {
+    // Such a library knows how long a tree buffer has to be. It reads the list whatever the limit is, or has no bits from 12 on.
     let library = "\
 #include \"sorbrudder.h\"
 
 uint64_t sorbrudder_parse(const uint32_t *list, size_t list_words, uint32_t *tree, size_t tree_words, uint32_t *messages,
                           size_t message_words, uint32_t *work, size_t work_words, uint64_t source_length, int16_t version,
                           uint64_t used_low, uint64_t used_high, uint32_t limit) {
-    (void)list, (void)list_words, (void)tree, (void)messages, (void)message_words, (void)work, (void)work_words;
+    (void)list_words, (void)tree, (void)messages, (void)message_words, (void)work, (void)work_words;
     (void)source_length, (void)version, (void)used_low, (void)used_high;
-    if (tree_words < SORBRUDDER_TREE_BUFFER(1)) {
-        return (uint64_t)SORBRUDDER_REFUSED << 40 | (uint64_t)SORBRUDDER_REFUSAL_TREE_BUFFER << 32;
-    }
-    return limit == 0 && KNOWS_LIMIT ? (uint64_t)SORBRUDDER_REFUSED << 40 | (uint64_t)SORBRUDDER_REFUSAL_LIMIT << 32 : 1;
+    unsigned refusal = tree_words < SORBRUDDER_TREE_BUFFER(1) ? SORBRUDDER_REFUSAL_TREE_BUFFER
+                       : limit == 0 && KNOWS_LIMIT             ? SORBRUDDER_REFUSAL_LIMIT
+                       : (list[0] & 0xf000) && !KNOWS_HOSTS    ? SORBRUDDER_REFUSAL_OTHER_BITS
+                                                               : 0;
+    return refusal ? (uint64_t)SORBRUDDER_REFUSED << 40 | (uint64_t)refusal << 32 : 1;
 }
 
 int main(void) { return (int)sorbrudder_abi_version(); }
 ";
     let folder = Path::new(env!("CARGO_TARGET_TMPDIR"));
-    for (knows, found) in [(0, 0), (1, 2)] {
-        let name = format!("knows{knows}");
+    for (limit, hosts, found) in [(0, 0, 0), (1, 0, 0), (0, 1, 0), (1, 1, 3)] {
+        let name = format!("knows{limit}{hosts}");
         let source = folder.join(format!("{name}.c"));
-        let program = format!("#define KNOWS_LIMIT {knows}\n{library}");
+        let knows = format!("#define KNOWS_LIMIT {limit}\n#define KNOWS_HOSTS {hosts}\n");
+        let program = knows + library;
         std::fs::write(&source, program).expect("a file");
         let program = compiled(&c_compiler(), &["-std=c11"], &source, &name);
         let run = Command::new(program).status().expect("the program runs");

@@ -9,6 +9,11 @@ use sorbrudder::{Limit, ReadError, Reader, Refusal, Tokens, Tree, Used};
 /// The bits of a word below its kind.
 const LOW: u32 = (1 << 29) - 1;
 
+/// The operator's number in a token's first word.
+fn number_in(first: u32) -> u32 {
+    first & 0xFF | (first >> 12 & 0xF) << 8
+}
+
 /// A kept call: the used set is none where it has a bit that no operator has, the limit where it is no legal one.
 struct Call {
     list: Vec<u32>,
@@ -55,7 +60,7 @@ impl Call {
         let used = self.used.expect("a legal set").halves().0;
         let mut open = Vec::new();
         for (place, token) in self.list.chunks(5).enumerate() {
-            match token[0] & 0xFF {
+            match number_in(token[0]) {
                 _ if used & 0b01_0101 == 0 => break,
                 0 | 2 | 4 => open.push(place),
                 1 | 3 | 5 => {
@@ -80,7 +85,7 @@ impl Call {
         let named = reader.parse_words(&numbered, self.version, used, self.source_len);
         let named = named.expect("spans decide nothing");
         let closes = self.closes();
-        let close = |node: &[u32], named: &[u32]| match node[0] & 0xFF {
+        let close = |node: &[u32], named: &[u32]| match number_in(node[0]) {
             0 | 2 | 4 => closes[(named[1] & LOW) as usize],
             _ => node[2] & LOW,
         };

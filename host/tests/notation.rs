@@ -43,6 +43,8 @@ fn decimals_names_and_functions_are_notation() {
         ("#61@1:bf800000", "#61@1:bf800000"),
         ("return a;", "return a;"),
         ("'x' == 'y'", "string_literal == string_literal"),
+        ("#300+#1023(a)", "#300 + #1023 (a)"),
+        ("-#262 . #301@11:7", "- #262 . #301@11:7"),
     ];
     for (text, expected) in printed {
         let list = parsed(text);
@@ -59,6 +61,9 @@ fn decimals_names_and_functions_are_notation() {
     for wrong in [
         "$",
         "#111",
+        "#255",
+        "#1024",
+        "#65797",
         "#61@13:0",
         "#61@1",
         "'a",
@@ -94,7 +99,11 @@ fn lists_of_any_operators_and_payloads_come_back() {
     let mut rng = Rng(28);
     for _ in 0..100_000 {
         let token = |rng: &mut Rng| {
-            let op = Op::new(rng.below(Op::COUNT) as u8).expect("an operator");
+            let number = match rng.below(4) {
+                0 => rng.below(Op::HOSTS.len()) as u16 + Op::HOSTS.start(),
+                _ => rng.below(Op::COUNT) as u16,
+            };
+            let op = Op::new(number).expect("an operator");
             let value = match rng.below(3) {
                 0 => rng.below(10) as u32,
                 1 => (rng.below(1_000) as f32 / 8.0).to_bits(),

@@ -35,8 +35,11 @@ fn of_every_kept_list() {
 
 #[test]
 fn of_any_small_tree() {
-    let ops = [4, 6, 7, 9, 36, 40, 45, 59, 60, 61, 71, 73, 74, 75, 77]
-        .map(|op| Op::new(op).expect("one"));
+    // Three of a host: their lower eight bits are `-`, `;` and a number's.
+    let ops = [
+        4, 6, 7, 9, 36, 40, 45, 59, 60, 61, 71, 73, 74, 75, 77, 262, 585, 829,
+    ];
+    let ops = ops.map(|op| Op::new(op).expect("one"));
     let (mut rng, mut writer) = (Rng(3), Writer::new());
     let mut plain = 0;
     for _ in 0..200_000 {

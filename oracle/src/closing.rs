@@ -6,7 +6,7 @@
 use crate::words::{Case, RustNode, Token, TreeNode, has};
 
 /// Whether a token opens a section.
-fn is_opener(op: u8) -> bool {
+fn is_opener(op: u16) -> bool {
     matches!(op, 0 | 2 | 4)
 }
 
@@ -111,7 +111,7 @@ mod tests {
         use crate::lines::notation;
 
         /// Operator, end and close of each node.
-        fn shown(case: &Case) -> Vec<(u8, u32, u32)> {
+        fn shown(case: &Case) -> Vec<(u16, u32, u32)> {
             let nodes = tree(case).expect("a tree");
             let shown = nodes.iter();
             shown

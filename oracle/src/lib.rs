@@ -7,6 +7,7 @@
 //! - [`words`]: the word format of document 01, cases and answers;
 //! - [`closing`]: where each node closes, its seventh word, from the list alone (card 2);
 //! - [`nesting`]: how deep the brackets of a list nest (card 8);
+//! - [`hosts`]: lists with hosts' own names, which the Rust does not know (card 7);
 //! - [`refusal`]: answers 1 to 11, 17 and 18, written from the documents and not from the Rust;
 //! - [`generate`]: lists from a seed;
 //! - [`lines`]: the lines of document 01's section 'Lists and their trees', and what was found;
@@ -14,6 +15,7 @@
 
 pub mod closing;
 pub mod generate;
+pub mod hosts;
 pub mod lines;
 pub mod nesting;
 pub mod refusal;
@@ -63,10 +65,11 @@ pub use words::{Answer, Case, Token};
 /// Whether the Rust source was at hand when this was built.
 pub const COMPARED: bool = cfg!(molangx);
 
-/// What the Rust answers to a case. Its list has any length here: the entry's bound of 4,096 tokens is not the Rust's.
+/// What the Rust answers to a case, with 76 in the stead of hosts' own names and their numbers put back. Its list has any length
+/// here: the entry's bound of 4,096 tokens is not the Rust's.
 #[cfg(molangx)]
 pub fn answer_case(case: &Case) -> Answer {
-    compile::answer(case)
+    hosts::answered(compile::answer, case)
 }
 
 /// What the Rust answers to a case, or `None` where its source was not at hand: for crates that
@@ -82,7 +85,7 @@ pub fn answer_if_at_hand(case: &Case) -> Option<Answer> {
 }
 
 /// Builds the Rust's list of a case, groups it and drops what came of it: what is timed of the Rust. Whether it is a
-/// tree, or `None` where the source was not at hand. No token of the case has payload variant 12.
+/// tree, or `None` where the source was not at hand. No token of the case has payload variant 12, and none is a host's.
 pub fn grouped_if_at_hand(case: &Case) -> Option<bool> {
     #[cfg(molangx)]
     return Some(compile::is_tree(case));
@@ -101,6 +104,6 @@ pub fn effective_version(raw: i16) -> i16 {
 
 /// Whether the Rust, over the stand-in table, takes this operator for a math call.
 #[cfg(molangx)]
-pub fn is_math_call(op: u8) -> bool {
+pub fn is_math_call(op: u16) -> bool {
     compile::is_math_call(op)
 }

@@ -9,7 +9,7 @@ use crate::words::{Answer, Case, Record, RustNode, Token, bit};
 use std::ops::RangeInclusive;
 
 /// The signs of the notation and their operator numbers.
-const SIGNS: [(&str, u8); 28] = [
+const SIGNS: [(&str, u16); 28] = [
     ("{", 0),
     ("}", 1),
     ("[", 2),
@@ -42,7 +42,7 @@ const SIGNS: [(&str, u8); 28] = [
 
 const KEPT_VERSIONS: [i16; 12] = [i16::MIN, -1, 0, 3, 4, 5, 6, 7, 12, 13, 14, i16::MAX];
 
-const FLOAT: u8 = 61;
+const FLOAT: u16 = 61;
 const LETTERS: &str = "abcde";
 
 /// What a line says.
@@ -89,7 +89,7 @@ impl Line {
 }
 
 /// The operator number of a sign or number of the notation.
-pub fn op_of(sign: &str) -> u8 {
+pub fn op_of(sign: &str) -> u16 {
     if LETTERS.contains(sign) {
         return FLOAT;
     }
@@ -341,6 +341,41 @@ pub fn findings() -> Vec<Line> {
             "messages other than 8 and 9 do not give the host function's value",
             host_function(messages("+", [record(12, (0, 1), [9])])),
         ),
+        named(
+            "a host's own name is an operand",
+            tree("256 + a", "9(256,a)"),
+        ),
+        named(
+            "a minus after a host's own name has two sides",
+            tree("1023 - 262", "9(1023,6(262))"),
+        ),
+        named(
+            "a host whose lower eight bits are a minus joins nothing",
+            messages("a 262 b", [record(1, (0, 3), [3])]),
+        ),
+        named(
+            "a host whose lower eight bits are a bracket opens and closes nothing",
+            tree("( 260 + 261 )", "4(9(260,261))"),
+        ),
+        named(
+            "a host is called with no brackets",
+            messages("292 ( a )", [record(1, (0, 3), [2])]),
+        ),
+        named(
+            "a host takes no index",
+            messages("297 [ a ]", [record(1, (0, 3), [2])]),
+        ),
+        named(
+            "a host whose lower eight bits are a semicolon ends no statement",
+            messages("a = 329", [record(2, (2, 3), [])]),
+        ),
+        named(
+            "a statement may hold a host",
+            tree(
+                "329 = 587 ; return 842 ;",
+                "73(73(71(329,587)),73(74(842)))",
+            ),
+        ),
     ]
 }
 
@@ -356,7 +391,7 @@ fn named(story: &'static str, line: Line) -> Line {
     Line { story, ..line }
 }
 
-fn with_used(mut line: Line, ops: &[u8]) -> Line {
+fn with_used(mut line: Line, ops: &[u16]) -> Line {
     line.case.used = ops.iter().fold((0, 0), |used, &op| {
         let bit = bit(op);
         (used.0 | bit.0, used.1 | bit.1)

@@ -8,7 +8,7 @@ pub const MOST_NESTING: u32 = 4096;
 
 /// How many brackets are open after an operator: an opener adds one, any closer takes one unless
 /// none is open.
-fn open_after(open: u32, op: u8) -> u32 {
+fn open_after(open: u32, op: u16) -> u32 {
     match op {
         0 | 2 | 4 => open + 1,
         1 | 3 | 5 => open.saturating_sub(1),
@@ -17,7 +17,7 @@ fn open_after(open: u32, op: u8) -> u32 {
 }
 
 /// The first of these operators with which more brackets are open than the limit.
-pub fn too_deep(ops: impl IntoIterator<Item = u8>, limit: u32) -> Option<usize> {
+pub fn too_deep(ops: impl IntoIterator<Item = u16>, limit: u32) -> Option<usize> {
     let mut open = 0;
     ops.into_iter().position(|op| {
         open = open_after(open, op);
@@ -43,8 +43,8 @@ mod tests {
 
     /// The open count after the last operator without going along the list: openers less closers,
     /// and what the closers took with nothing open put back.
-    fn open(ops: &[u8]) -> i32 {
-        let one = |op: &u8| match op {
+    fn open(ops: &[u16]) -> i32 {
+        let one = |op: &u16| match op {
             0 | 2 | 4 => 1,
             1 | 3 | 5 => -1,
             _ => 0,

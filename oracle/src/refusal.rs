@@ -1,11 +1,11 @@
-//! Where the entry turns a call back: answers 1 to 11 of document 01's table, and card 8's 17 after
-//! the 7 and 18 after the words, the first failure winning. Written from the documents; the Rust
-//! has no part of it.
+//! Where the entry turns a call back: answers 1 to 11 of document 01's table, 9 and 11 as card 7 has
+//! them, and card 8's 17 after the 7 and 18 after the words, the first failure winning. Written from
+//! the documents; the Rust has no part of it.
 
 use crate::nesting::{MOST_NESTING, too_deep};
 use crate::words::{
-    Case, LAST_OP, LAST_PLACE, LAST_VARIANT, MOST_TOKENS, TOKEN_WORDS, TREE_WORDS, kind,
-    list_words, low,
+    Case, LAST_OP, LAST_PLACE, LAST_VARIANT, MOST_TOKENS, TOKEN_WORDS, TREE_WORDS, is_host, kind,
+    list_words, low, number_in,
 };
 
 /// What the entry is lent and given. Only the lengths of the lent buffers count.
@@ -76,7 +76,7 @@ fn nesting_refusal(call: &Call) -> Option<Refusal> {
         .list
         .iter()
         .step_by(TOKEN_WORDS)
-        .map(|&word| word as u8);
+        .map(|&word| number_in(word));
     let token = too_deep(ops, call.limit)?;
     Some(Refusal {
         number: 18,
@@ -97,13 +97,14 @@ fn word_refusal(list: &[u32]) -> Option<Refusal> {
         let other_bits = match expected {
             1 => {
                 variant = bits >> 8 & 0xF;
-                if bits & 0xFF > u32::from(LAST_OP) {
+                let op = number_in(word);
+                if op > LAST_OP && !is_host(op) {
                     return Some(Refusal { number: 9, place });
                 }
                 if variant > u32::from(LAST_VARIANT) {
                     return Some(Refusal { number: 10, place });
                 }
-                bits >> 12 != 0
+                bits >> 16 != 0
             }
             2 | 3 => false,
             _ if variant == 0 => bits != 0,
@@ -119,7 +120,7 @@ fn word_refusal(list: &[u32]) -> Option<Refusal> {
 #[cfg(test)]
 mod tests {
     use super::*;
-    use crate::words::{FULL_SET, Token, exact_set, word};
+    use crate::words::{FULL_SET, Token, exact_set, with_number, word};
 
     fn sound(tokens: usize) -> Call {
         let token = Token {
@@ -211,10 +212,10 @@ mod tests {
         assert_eq!(answer(|call| call.list[5] = word(2, !0 >> 3)), Some((8, 5)));
         assert_eq!(answer(|call| call.list[5] = word(1, !0 >> 3)), Some((9, 5)));
         assert_eq!(answer(|call| call.list[5] = word(1, 111)), Some((9, 5)));
-        let variant_13 = word(1, 110 | 13 << 8 | 1 << 12);
+        let variant_13 = word(1, 110 | 13 << 8 | 1 << 16);
         assert_eq!(answer(|call| call.list[5] = variant_13), Some((10, 5)));
-        let bit_12 = word(1, 110 | 12 << 8 | 1 << 12);
-        assert_eq!(answer(|call| call.list[5] = bit_12), Some((11, 5)));
+        let bit_16 = word(1, 110 | 12 << 8 | 1 << 16);
+        assert_eq!(answer(|call| call.list[5] = bit_16), Some((11, 5)));
         assert_eq!(
             answer(|call| call.list[8] = word(4, 1 << 16)),
             Some((11, 8))
@@ -223,6 +224,34 @@ mod tests {
             answer(|call| call.list[9] = word(5, 1 << 28)),
             Some((11, 9))
         );
+    }
+
+    #[test]
+    fn hosts_are_256_to_1023_and_no_other_number_is_above_110() {
+        for op in 0..=0xFFF {
+            let head = with_number(word(1, 12 << 8), op);
+            let legal = matches!(op, 0..=110 | 256..=1023);
+            let wanted = (!legal).then_some((9, 5));
+            assert_eq!(answer(|call| call.list[5] = head), wanted, "{op}");
+            // The number is judged before the variant, the variant before a bit from 16 on.
+            let high = head | 13 << 8 | 1 << 28;
+            let wanted = Some(if legal { (10, 5) } else { (9, 5) });
+            assert_eq!(answer(|call| call.list[5] = high), wanted, "{op}");
+        }
+    }
+
+    #[test]
+    fn a_host_opens_and_closes_nothing() {
+        // Each has the lower eight bits of a bracket.
+        for host in [256, 258, 260, 513, 515, 517, 768] {
+            let hosts = |call: &mut Call| {
+                for token in 0..3 {
+                    call.list[5 * token] = with_number(word(1, 1 << 8), host);
+                }
+                call.limit = 1;
+            };
+            assert_eq!(answer(hosts), None, "{host}");
+        }
     }
 
     #[test]

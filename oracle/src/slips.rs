@@ -3,6 +3,7 @@
 
 use crate::generate::alphabets::ONE_OF_EACH;
 use crate::generate::{Mixed, dress};
+use crate::hosts::answered;
 use crate::lines::{case_of, notation};
 use crate::vectors::{Stored, stored};
 use crate::words::{Answer, Case};
@@ -45,7 +46,7 @@ fn exposed(slipped: Reader) {
     let kept = stored()
         .iter()
         .filter(
-            |stored| matches!(stored, Stored::Answered { case, answer, .. } if slipped(case) != *answer),
+            |stored| matches!(stored, Stored::Answered { case, answer, .. } if answered(slipped, case) != *answer),
         )
         .count();
     assert!(kept > 0, "the kept answers show nothing");

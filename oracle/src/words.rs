@@ -4,6 +4,10 @@
 //! and payload variant, span start, span end, and the two halves of the payload value. A tree node
 //! is a token, a word of kind 6 with the number of its children, and a word of kind 7 with where it
 //! closes (card 2). The Rust has no such word: its nodes are [`RustNode`]s, and `closing` finds it.
+//!
+//! In the word of kind 1 bits 0-7 are the operator number's lower eight bits, bits 8-11 the payload
+//! variant, bits 12-15 the number's upper four (card 7). The Rust has no numbers for the hosts' own
+//! names; `hosts` puts 76 in their stead.
 
 /// Words of a token.
 pub const TOKEN_WORDS: usize = 5;
@@ -11,8 +15,11 @@ pub const TOKEN_WORDS: usize = 5;
 pub const NODE_WORDS: usize = 7;
 /// Words of the tree buffer for each token of the list: three nodes.
 pub const TREE_WORDS: usize = 3 * NODE_WORDS;
-/// The largest operator number.
-pub const LAST_OP: u8 = 110;
+/// The largest operator number of op.rs.
+pub const LAST_OP: u16 = 110;
+/// The smallest and the largest number that a host's own name has (card 7).
+pub const FIRST_HOST: u16 = 256;
+pub const LAST_HOST: u16 = 1023;
 /// The largest payload variant.
 pub const LAST_VARIANT: u8 = 12;
 /// The largest span bound and source length.
@@ -26,8 +33,8 @@ const LOW: u32 = (1 << KIND) - 1;
 /// A token: what a list is made of, and a node's own part.
 #[derive(Copy, Clone, Debug, Default, PartialEq, Eq, Hash)]
 pub struct Token {
-    /// Operator number of op.rs, 0 to 110.
-    pub op: u8,
+    /// Operator number of op.rs, 0 to 110, or a host's own, 256 to 1,023.
+    pub op: u16,
     /// Payload variant in the order of `Payload` in ast.rs, 0 to 12.
     pub variant: u8,
     /// Float bits, or an index into the caller's names; 0 under variant 0.
@@ -123,11 +130,27 @@ pub const fn low(word: u32) -> u32 {
     word & LOW
 }
 
+/// Whether a number is a host's own.
+pub const fn is_host(op: u16) -> bool {
+    FIRST_HOST <= op && op <= LAST_HOST
+}
+
+/// The operator number in a word of kind 1, whether it is one's or not: twelve bits.
+pub const fn number_in(word: u32) -> u16 {
+    (word & 0xFF | word >> 4 & 0xF00) as u16
+}
+
+/// A word of kind 1 with another operator number, of twelve bits.
+pub const fn with_number(word: u32, op: u16) -> u32 {
+    let (lower, upper) = (op as u32 & 0xFF, op as u32 >> 8);
+    word & !0xF0FF | lower | upper << 12
+}
+
 impl Token {
     /// The token's five words.
     pub fn words(&self) -> [u32; TOKEN_WORDS] {
         [
-            word(1, u32::from(self.op) | u32::from(self.variant) << 8),
+            with_number(word(1, u32::from(self.variant) << 8), self.op),
             word(2, self.start),
             word(3, self.end),
             word(4, self.value >> 16),
@@ -141,15 +164,15 @@ impl Token {
             return None;
         };
         let token = Self {
-            op: low(head) as u8,
+            op: number_in(head),
             variant: (low(head) >> 8 & 0xF) as u8,
             value: low(upper) << 16 | low(lower),
             start: low(start),
             end: low(end),
         };
-        let known = token.op <= LAST_OP && token.variant <= LAST_VARIANT;
-        let bare = token.variant != 0 || token.value == 0;
-        (known && bare && token.words() == words).then_some(token)
+        let known = token.op <= LAST_OP || is_host(token.op);
+        let carries = token.variant <= LAST_VARIANT && (token.variant != 0 || token.value == 0);
+        (known && carries && token.words() == words).then_some(token)
     }
 }
 
@@ -217,21 +240,22 @@ pub fn depth(nodes: &[RustNode]) -> Option<usize> {
     (deepest > 0 && awaited.is_empty()).then_some(deepest)
 }
 
-/// The bit of an operator in a used set.
-pub fn bit(op: u8) -> (u64, u64) {
+/// The bit of an operator in a used set; a host's number has none.
+pub fn bit(op: u16) -> (u64, u64) {
     match op {
         0..64 => (1 << op, 0),
-        _ => (0, 1 << (op - 64)),
+        64..=LAST_OP => (0, 1 << (op - 64)),
+        _ => (0, 0),
     }
 }
 
 /// Whether a used set has an operator.
-pub fn has(used: (u64, u64), op: u8) -> bool {
+pub fn has(used: (u64, u64), op: u16) -> bool {
     let bit = bit(op);
     used.0 & bit.0 != 0 || used.1 & bit.1 != 0
 }
 
-/// The used set with each operator of the tokens and no other.
+/// The used set with each operator of the tokens and no other; hosts are passed over.
 pub fn exact_set(tokens: &[Token]) -> (u64, u64) {
     tokens.iter().fold((0, 0), |used, token| {
         let bit = bit(token.op);
@@ -246,7 +270,7 @@ pub const FULL_SET: (u64, u64) = (u64::MAX, (1 << 47) - 1);
 mod tests {
     use super::*;
 
-    fn node(op: u8, children: u32) -> TreeNode {
+    fn node(op: u16, children: u32) -> TreeNode {
         let token = Token {
             op,
             variant: 12,
@@ -274,6 +298,22 @@ mod tests {
         assert_eq!(token.words(), words);
         assert_eq!(Token::of_words(&words), Some(token));
         assert_eq!(Token::of_words(&words[..4]), None);
+    }
+
+    #[test]
+    fn a_number_stands_in_two_parts_round_the_variant() {
+        let of = |op| node(op, 0).token.words()[0];
+        assert_eq!(of(256), 0x2000_1C00);
+        assert_eq!(of(0x3A5), 0x2000_3CA5);
+        assert_eq!(of(1023), 0x2000_3CFF);
+        for op in 0..=0xFFF {
+            let token = node(op, 0).token;
+            assert_eq!(number_in(token.words()[0]), op);
+            assert_eq!(with_number(of(61), op), of(op));
+            assert_eq!(with_number(of(op), 61), of(61));
+            let legal = matches!(op, 0..=110 | 256..=1023);
+            assert_eq!(Token::of_words(&token.words()), legal.then_some(token));
+        }
     }
 
     #[test]
@@ -309,5 +349,10 @@ mod tests {
         assert!((0..=LAST_OP).all(|op| has(FULL_SET, op) && has(bit(op), op)));
         let all: Vec<Token> = (0..=LAST_OP).map(|op| node(op, 0).token).collect();
         assert_eq!(exact_set(&all), FULL_SET);
+        let hosts: Vec<Token> = (FIRST_HOST..=LAST_HOST)
+            .map(|op| node(op, 0).token)
+            .collect();
+        assert_eq!(exact_set(&hosts), (0, 0));
+        assert!((FIRST_HOST..=LAST_HOST).all(|op| !has(FULL_SET, op)));
     }
 }

@@ -1,5 +1,6 @@
 //! The program `cases`: what it prints can be read back, and covers what its help promises.
 
+use oracle::hosts::has_hosts;
 use oracle::words::{Answer, Case, FULL_SET, RustNode, Token, exact_set};
 use std::collections::BTreeSet;
 use std::process::Command;
@@ -26,7 +27,7 @@ fn numbers<N: std::str::FromStr>(lines: &mut Lines, word: &str) -> Vec<N> {
 
 fn token(numbers: &[u32]) -> Token {
     Token {
-        op: numbers[0] as u8,
+        op: numbers[0] as u16,
         variant: numbers[1] as u8,
         value: numbers[2],
         start: numbers[3],
@@ -93,6 +94,12 @@ fn covers_what_the_help_promises(cases: &[(Case, Answer)]) {
     assert!(any(|case| case.used == (0, 0) && !case.tokens.is_empty()));
     assert!(any(|case| case.used != exact_set(&case.tokens)));
     assert!(any(|case| case.tokens.iter().any(|t| t.start > t.end)));
+    for is_tree in [true, false] {
+        let shown = |(case, answer): &(Case, Answer)| {
+            has_hosts(case) && answer.records().is_empty() == is_tree
+        };
+        assert!(cases.iter().any(shown));
+    }
 }
 
 #[test]

@@ -3,10 +3,13 @@
 use oracle::generate::alphabets::ALPHABETS;
 use oracle::generate::damage::damaged;
 use oracle::generate::shapes::SHAPES;
-use oracle::generate::{Mixed, Rng, brackets, dress};
+use oracle::generate::{Mixed, Rng, brackets, dress, hosts};
+use oracle::hosts::has_hosts;
 use oracle::nesting::too_deep;
 use oracle::refusal::{Call, refusal};
-use oracle::words::{Case, FULL_SET, Token, decode_list, exact_set, list_words};
+use oracle::words::{
+    Case, FULL_SET, Token, decode_list, exact_set, is_host, list_words, number_in,
+};
 use std::collections::BTreeSet;
 
 #[test]
@@ -99,22 +102,66 @@ fn the_mixed_lists_have_every_operator_payload_version_and_used_set() {
 }
 
 #[test]
+fn hosts_stand_in_every_place_and_in_the_stead_of_every_operator() {
+    const MOST: usize = 10;
+    let mut places = [[0; MOST]; MOST];
+    let (mut numbers, mut steads) = (BTreeSet::new(), BTreeSet::new());
+    let (mut exact, mut wider, mut all) = (0, 0, 0);
+    let mut rng = Rng::new(17);
+    for case in Mixed::new(18, MOST)
+        .filter(|case| !case.tokens.is_empty())
+        .take(40_000)
+    {
+        let hosted = hosts::put_in(&mut rng, case.clone());
+        assert_eq!(refusal(&Call::of(&hosted)), None, "{hosted:?}");
+        assert!(has_hosts(&hosted));
+        for (place, (token, before)) in hosted.tokens.iter().zip(&case.tokens).enumerate() {
+            if is_host(token.op) {
+                places[hosted.tokens.len() - 1][place] += 1;
+                numbers.insert(token.op);
+                steads.insert(before.op);
+            }
+            let same = Token {
+                op: before.op,
+                ..*token
+            };
+            assert_eq!(same, *before);
+        }
+        let set = exact_set(&hosted.tokens);
+        exact += usize::from(hosted.used == set);
+        wider += usize::from(hosted.used != set && hosted.used == case.used);
+        all += usize::from(hosted.tokens.iter().all(|token| is_host(token.op)));
+    }
+    for (last, row) in places.iter().enumerate() {
+        assert!(row[..=last].iter().all(|&count| count > 100), "{row:?}");
+    }
+    assert_eq!(numbers, (256..=1023).collect());
+    assert_eq!(steads, (0..=110).collect());
+    assert!([exact, wider, all].iter().all(|&count| count > 1_000));
+}
+
+#[test]
 fn damage_is_turned_back_where_it_was_done() {
     let mut rng = Rng::new(5);
     let (mut numbers, mut fields) = ([0; 19], BTreeSet::new());
-    let mut bad_and_deep = 0;
+    let (mut bad_and_deep, mut bad) = (0, BTreeSet::new());
     for case in Mixed::new(6, 10).take(6_000) {
         let (call, expected) = damaged(&mut rng, &case);
         assert_eq!(refusal(&call), Some(expected), "{call:?}");
         numbers[expected.number as usize] += 1;
         fields.insert((expected.number, expected.place % 5));
-        let ops = call.list.iter().step_by(5).map(|&word| word as u8);
+        if expected.number == 9 {
+            bad.insert(number_in(call.list[expected.place as usize]));
+        }
+        let ops = call.list.iter().step_by(5).map(|&word| number_in(word));
         let deep = too_deep(ops, call.limit).is_some();
         bad_and_deep += usize::from(deep && matches!(expected.number, 8..=11));
     }
     let kinds = (0..5).map(|field| (8, field));
     let bits = [(9, 0), (10, 0), (11, 0), (11, 3), (11, 4)];
     assert!(kinds.chain(bits).all(|field| fields.contains(&field)));
+    // Numbers between the operators and the hosts, and above the hosts.
+    assert!(bad.iter().any(|op| (111..256).contains(op)) && bad.iter().any(|&op| op > 1023));
     let numbers = [&numbers[1..12], &numbers[17..]].concat();
     assert!(numbers.iter().all(|&count| count > 50), "{numbers:?}");
     // A bad word of a list that nests too deep.

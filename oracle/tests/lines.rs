@@ -127,7 +127,7 @@ fn a_line_holds_at_the_version_it_names_and_is_kept_there() {
 #[test]
 fn lists_and_trees_are_written_as_document_01_writes_them() {
     let case = case_of("a ? ( 40 . ) : - b ;");
-    let ops: Vec<u8> = case.tokens.iter().map(|token| token.op).collect();
+    let ops: Vec<u16> = case.tokens.iter().map(|token| token.op).collect();
     assert_eq!(ops, [61, 59, 4, 40, 45, 5, 60, 6, 61, 73]);
     let node = |sign: &str, children| RustNode {
         token: tokens_of(sign)[0],

@@ -1,11 +1,13 @@
 //! The kept answers: the file decodes, each record holds together, nothing is missing.
 
+use oracle::hosts::operators_in;
 use oracle::lines::{Line, Says, findings, lines};
 use oracle::nesting::{MOST_NESTING, least_limit};
 use oracle::refusal::{Call, refusal};
 use oracle::vectors::{Stored, decode, encode, path, stored};
 use oracle::words::{
-    Answer, Case, FULL_SET, LAST_OP, LAST_VARIANT, decode_list, depth, exact_set, list_words,
+    Answer, Case, FIRST_HOST, FULL_SET, LAST_HOST, LAST_OP, LAST_VARIANT, decode_list, depth,
+    exact_set, is_host, list_words,
 };
 use std::collections::BTreeSet;
 
@@ -188,7 +190,10 @@ fn every_message_operator_variant_and_version_is_kept() {
         made.extend(parents.map(|node| node.token.op));
     }
     assert_eq!(numbers, (1..=17).collect());
+    let hosts = ops.split_off(&(LAST_OP + 1));
     assert_eq!(ops, (0..=LAST_OP).collect());
+    assert!(hosts.iter().all(|&op| is_host(op)) && hosts.len() > 700);
+    assert!(hosts.contains(&FIRST_HOST) && hosts.contains(&LAST_HOST));
     assert_eq!(variants, (0..=LAST_VARIANT).collect());
     for version in [i16::MIN, -1, 0, 3, 4, 5, 6, 7, 12, 13, 14, i16::MAX] {
         assert!(versions.contains(&version), "version {version}");
@@ -216,6 +221,29 @@ fn used_sets_that_are_not_exact_are_kept() {
         exact.0 & !case.used.0 != 0 || exact.1 & !case.used.1 != 0
     };
     assert!(kept(lacking) > 1_000);
+}
+
+#[test]
+fn hosts_are_kept_in_trees_and_in_lists_with_messages() {
+    let (mut trees, mut messages, mut kept) = (0, 0, 0);
+    for (case, answer) in answered() {
+        let given = case.tokens.iter().filter(|token| is_host(token.op)).count();
+        if given == 0 {
+            continue;
+        }
+        let nodes = answer.nodes().iter().filter(|node| is_host(node.token.op));
+        assert!(nodes.clone().all(|node| node.children == 0), "{case:?}");
+        if answer.records().is_empty() {
+            trees += 1;
+            kept += nodes.count();
+        } else {
+            messages += 1;
+        }
+        let named = answer.records().iter().flat_map(operators_in);
+        assert!(named.into_iter().all(|&op| op <= u32::from(LAST_OP)));
+    }
+    assert!(trees > 1_000 && messages > 1_000, "{trees}, {messages}");
+    assert!(kept > trees, "{kept} in {trees}");
 }
 
 #[test]

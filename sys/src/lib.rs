@@ -15,6 +15,10 @@ pub const MESSAGE_WORDS: usize = 8;
 pub const MOST_TOKENS: usize = 4_096;
 /// The greatest nesting limit, with which no list is too deep.
 pub const MOST_NESTING: u32 = 4_096;
+/// The first and the last operator number that a host may give to a name of its own.
+pub const FIRST_HOST: u16 = 256;
+/// See [`FIRST_HOST`].
+pub const LAST_HOST: u16 = 1_023;
 /// The most nodes that reading makes of a token.
 pub const NODES_PER_TOKEN: usize = 3;
 /// The most nodes of a tree.
@@ -136,7 +140,7 @@ pub struct Given {
     pub source_len: u64,
     /// A pack's declared version.
     pub version: i16,
-    /// The used set in two halves, operator 0 being the lowest bit of the first.
+    /// The used set in two halves, operator 0 being the lowest bit of the first; hosts' own names have none.
     pub used: (u64, u64),
     /// How many brackets may be open at once, 1 to [`MOST_NESTING`].
     pub limit: u32,

@@ -286,7 +286,7 @@ mod timed {
         children: Vec<Node>,
     }
 
-    fn bare(op: u8, start: u32, end: u32) -> Token {
+    fn bare(op: u16, start: u32, end: u32) -> Token {
         Token {
             op,
             variant: 0,

@@ -45,6 +45,7 @@ mod run {
     use compare::calls;
     use compare::comparison::Comparison;
     use compare::matching::Matching;
+    use compare::numbers::Numbers;
     use compare::plain_trees;
     use compare::reading::Buffers;
     use compare::reordering::{Way, reorder};
@@ -122,6 +123,15 @@ mod run {
         part("generated lists of up to 300 tokens", long)?;
         let longest = &mut generated(2, 4_096).take(lists / 5_000);
         part("generated lists of up to 4,096 tokens", longest)?;
+        let hosted = &mut calls::hosted(seed + 3, 24).take(lists / 5);
+        part("lists with hosts in any place of up to 24 tokens", hosted)?;
+        let hosted = &mut calls::hosted(seed + 4, 300).take(lists / 500);
+        part("lists with hosts in any place of up to 300 tokens", hosted)?;
+        let hosted = &mut calls::over_hosts(5);
+        part(
+            "every list of up to 5 over three alphabets with hosts, at 4, 5 and 6",
+            hosted,
+        )?;
         let brackets = &mut calls::bracketed(seed, 16).take(lists);
         part("lists of brackets of about 16 tokens", brackets)?;
         let brackets = &mut calls::bracketed(seed + 1, 300).take(lists / 100);
@@ -149,6 +159,7 @@ mod run {
             &mut calls::nesting(6),
         )?;
         for part in [
+            every_number,
             short_brackets,
             writing,
             reordering,
@@ -162,6 +173,17 @@ mod run {
             written.map_err(|(_, difference)| (done, difference))?;
         }
         Ok(done)
+    }
+
+    /// Has every operator number with every variant and every other bit of its word judged by all four entries.
+    fn every_number(_: u64, _: u64) -> Result<u64, (u64, String)> {
+        let mut progress =
+            Progress::new("every operator number, variant and bit of a word of kind 1");
+        let mut numbers = Numbers::default();
+        let ended = numbers.all(|| progress.one_more());
+        ended.map_err(|difference| (numbers.words, difference))?;
+        progress.end(&format!("{} of them good", numbers.good));
+        Ok(numbers.words)
     }
 
     /// Reads every short list of brackets beside the Rust and beside what is not lost in them.

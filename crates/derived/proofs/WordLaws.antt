@@ -1,24 +1,24 @@
 -- The words of a list token by token: which of the five count, what a legal list's exact set and highest end are, and their bounds.
 -- Assumes nothing.
 use mathlib.Core.Path.{_≡_, refl, sym, ap, _∙_}
-use mathlib.Core.Bool.{Bool, false, _||_}
+use mathlib.Core.Bool.{Bool, false, _||_, _&&_}
 use mathlib.Core.List.{List, [], _∷_}
 use mathlib.Core.Option.{Option, none, some}
 use Prim.Native.Nat.{ℕ, suc, _+_, _*_, _%_, _^_, _<_, _≤_, max}
 use native.Mathlib.Omega.{arith}
-use lib.Dec.{eqb}
+use lib.Dec.{eqb, leb}
 use lib.ListN.{length, drop, getD, drop-of-length-le}
 use lib.Seq.{drop-cons, drop-drop}
-use borrow.Author.Tests.{ne-eqb, leb-true}
+use borrow.Author.Tests.{ne-eqb, lt-leb, leb-true, leb-false}
 use types.Run.{OneOf}
 use denote.Enum.Declared.{tagOf}
 use Rattle.molang.specs.Forest.{leaves}
 use Rattle.molang.specs.Parse.{inHalves}
 use Rattle.molang.specs.Read.{uses, highestEnd}
-use Rattle.molang.specs.Words.{Field, operatorField, startField, endField, upperField, lowerField, countField, closeField, lowOf, lowFault}
-use Rattle.molang.specs.Words.{wordFault, variantAfter, nextInToken, wordsRefusal, tokenOf, tokensOf}
-use Rattle.molang.proofs.Words.{word-faultless, next-word}
-use Rattle.molang.proofs.FirstFailure.{passed}
+use Rattle.molang.specs.Words.{Field, operatorField, startField, endField, upperField, lowerField, countField, closeField, lowOf, numberIn}
+use Rattle.molang.specs.Words.{lowFault, wordFault, variantAfter, nextInToken, wordsRefusal, tokenOf, tokensOf}
+use Rattle.molang.proofs.Booleans.{either}
+use Rattle.molang.proofs.Words.{next-word}
 use Rattle.molang.proofs.UsedSet.{used-few}
 use Rattle.words.specs.Checks.{numberOf}
 use Rattle.words.specs.declared.checks.Word.{Word}
@@ -83,7 +83,7 @@ module _ (list : List ℕ) (i : ℕ) where
   highest-end past m = ap (highest endField m) (drop-of-length-le list past)
 
 -- A word without fault counts; another does not.
-pub names-legal : (w n : ℕ) → wordFault operatorField 0 w ≡ none → names operatorField w n ≡ eqb (lowOf w % 2 ^ 8) n
+pub names-legal : (w n : ℕ) → wordFault operatorField 0 w ≡ none → names operatorField w n ≡ (leb n 110 && eqb (numberIn (lowOf w)) n)
 unfolding names
 names-legal w n e = rw (e, names) refl
 
@@ -115,18 +115,27 @@ module _ (x : Word) (bad : OneOf (1 ∷ 2 ∷ 3 ∷ 4 ∷ []) (tagOf the-type x)
   pub end-bad : (m w : ℕ) → numberOf x ≡ wordFault endField 0 w → endAfter endField m w ≡ m
   end-bad m w = with-fault (λ o. o ≡ wordFault endField 0 w → endAfter endField m w ≡ m) (λ fault e. end-fault m w fault (sym e)) x bad
 
--- A legal operator is at most 110.
-pub operator-most : (w : ℕ) → wordFault operatorField 0 w ≡ none → lowOf w % 2 ^ 8 ≤ 110
-unfolding lowFault
-operator-most w e =
-    leb-true (lowOf w % 2 ^ 8) 110 (passed _ 9 _ (word-faultless operatorField 0 w e .1) .0)
+-- A number up to 110 is named by itself alone; one above it, a host's, names nothing.
+low-alone : (op n : ℕ) → op ≤ 110 → (leb n 110 && eqb op n) ≡ eqb op n
+low-alone op n l =
+    either (leb n 110) (λ e. rw e refl)
+    (λ e. rw (e, ne-eqb op n (λ same. omega (arith, leb-false n 110 e))) refl)
+
+pub names-low : (w n : ℕ) → wordFault operatorField 0 w ≡ none → numberIn (lowOf w) ≤ 110
+    → names operatorField w n ≡ eqb (numberIn (lowOf w)) n
+names-low w n e l = names-legal w n e ∙ low-alone (numberIn (lowOf w)) n l
+
+pub names-host : (w n : ℕ) → wordFault operatorField 0 w ≡ none → 110 < numberIn (lowOf w) → names operatorField w n ≡ false
+names-host w n e h =
+    names-legal w n e
+    ∙ either (leb n 110) (λ l. rw (l, ne-eqb (numberIn (lowOf w)) n (λ same. omega (arith, leb-true n 110 l))) refl) (λ l. rw l refl)
 
 -- THE BOUNDS: no operator above 110, no end above 29 bits.
 names-few : (w n : ℕ) → 111 ≤ n → names operatorField w n ≡ false
 names-few w n above = go (wordFault operatorField 0 w) refl
   where
     go : (o : Option ℕ) → wordFault operatorField 0 w ≡ o → names operatorField w n ≡ false
-    go none e = names-legal w n e ∙ ne-eqb (lowOf w % 2 ^ 8) n (λ same. omega (arith, operator-most w e))
+    go none e = names-legal w n e ∙ rw (lt-leb n 110 above) refl
     go (some fault) e = names-fault w n fault e
 
 pub named-few : (field : Field) (ws : List ℕ) (n : ℕ) → 111 ≤ n → named field ws n ≡ false

@@ -1,16 +1,16 @@
 -- The exact used set and the highest span end of token words (document 01, end of 'Lists and their trees'). Each word is judged by itself,
 -- at its position in its token: one that answers 8-11 counts for neither, wherever it stands and whatever stands beside it.
-use Prim.Native.Nat.{ℕ, _%_, _^_, max}
-use mathlib.Core.Bool.{Bool, false, _||_}
+use Prim.Native.Nat.{ℕ, max}
+use mathlib.Core.Bool.{Bool, false, _||_, _&&_}
 use mathlib.Core.List.{List, [], _∷_}
 use mathlib.Core.Option.{none, some}
-use lib.Dec.{eqb}
+use lib.Dec.{eqb, leb}
 use Rattle.molang.specs.Words.{Field, operatorField, startField, endField, upperField, lowerField, countField, closeField}
-use Rattle.molang.specs.Words.{lowOf, wordFault, nextInToken}
+use Rattle.molang.specs.Words.{lowOf, numberIn, wordFault, nextInToken}
 
--- The word names the operator n: it stands first in its token, is legal there, and has n.
+-- The word names the operator n: it stands first in its token, is legal there, and has n, which is no host's number.
 unfoldable pub names : Field → ℕ → ℕ → Bool
-names operatorField w n = elim (wordFault operatorField 0 w) [ some fault ↦ false | none ↦ eqb (lowOf w % 2 ^ 8) n ]
+names operatorField w n = elim (wordFault operatorField 0 w) [ some fault ↦ false | none ↦ leb n 110 && eqb (numberIn (lowOf w)) n ]
 names startField w n = false
 names endField w n = false
 names upperField w n = false

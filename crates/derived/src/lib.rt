@@ -15,7 +15,7 @@ ghost use Rattle.molang.specs.Words.{operatorField, endField};
 ghost use Rattle.molang.specs.Lines.{versionOf};
 ghost use Rattle.derived.specs.Derived.{names, named, endAfter, highest};
 
-// The set with op in it, which is the operator of a legal word.
+// The set with op in it, which is the operator of a legal word and no host's number.
 fn with(used: OpSet, op: u32) -> OpSet
     requires { ⌜ op ≤ 110 ⌝ }
     ensures { λ r. ⌜ ((n : ℕ) → inHalves (r .low) (r .high) n ≡ (inHalves (used .low) (used .high) n || eqb op n)) ⌝ }
@@ -32,7 +32,7 @@ fn with(used: OpSet, op: u32) -> OpSet
     }
 }
 
-// The set with the operator of a token's first word in it, if that word is legal.
+// The set with the operator of a token's first word in it, if that word is legal and its operator is no host's number.
 fn with_word(used: OpSet, w: u32) -> OpSet
     ensures { λ r. ⌜ ((n : ℕ) → inHalves (r .low) (r .high) n ≡ (inHalves (used .low) (used .high) n || names operatorField w n)) ⌝ }
 {
@@ -40,7 +40,11 @@ fn with_word(used: OpSet, w: u32) -> OpSet
     let Word::Good = word else {
         return used;
     };
-    with(used, fields::operator(w))
+    let op = fields::operator(w);
+    if fields::LAST_OPERATOR < op {
+        return used;
+    }
+    with(used, op)
 }
 
 // The higher of an end and that of a token's third word, if that word is legal.

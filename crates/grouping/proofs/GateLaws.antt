@@ -15,7 +15,6 @@ use Rattle.molang.specs.Work.{Kind, calls, statements, arrays, unaryMinusAndNot
 use Rattle.molang.proofs.NoMasks.{no-masks}
 use Rattle.ops.specs.Classes.{shares}
 use Rattle.nodes.specs.Store.{slotEnd, classesAt}
-use Rattle.nodes.proofs.Store.{rep-legal}
 use Rattle.nodes.proofs.Classes.{notes-meet}
 use Rattle.levels.specs.Passes.{classesOf, operators}
 use Rattle.levels.specs.declared.turns.Pass.{Pass}
@@ -49,7 +48,7 @@ gate-shut {W} {p = p} h shut =
       to = λ g.
           let v = g .list .owned in
           done (pass-free (g .κ) (g .F) (not-false (free (operators (g .κ)) (g .F))
-          (sym (notes-meet (classesOf p) (operators (g .κ)) (runs-covers (g .κ) p (g .runs)) (v .notes) (rep-legal (v .kids))) ∙ shut)))
+          (sym (notes-meet (classesOf p) (operators (g .κ)) (runs-covers (g .κ) p (g .runs)) (v .notes)) ∙ shut)))
           (g .list);
       beyond = λ g. record { kept = λ j x y. refl; long = refl };
     }

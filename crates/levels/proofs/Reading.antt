@@ -17,7 +17,7 @@ use Rattle.nodes.specs.Store.{wd, slotWords, slotStart, slotEnd, classesAt, Seg
 use Rattle.nodes.specs.Slots.{opAt, isLeafAt}
 use Rattle.nodes.specs.declared.frames.List.{List as Items}
 use Rattle.nodes.proofs.Runs.{seg-keep, segB-keep}
-use Rattle.nodes.proofs.Store.{rep-keep, rep-le, tree-below, tree-legal, tree-keep, back-le, back-raise, back-keep}
+use Rattle.nodes.proofs.Store.{rep-keep, rep-le, tree-below, tree-keep, back-le, back-raise, back-keep}
 use Rattle.nodes.proofs.Classes.{notes-meet, free-one}
 use Rattle.nodes.proofs.Trees.{leaf-test, tree-op}
 use Rattle.levels.specs.Passes.{Covers}
@@ -104,7 +104,7 @@ ahead-le v = (rep-le (v .array .rep), omega (arith, v .count))
 module _ {W X : List ℕ} {b a m : ℕ} {k : Token} {cs : Forest} (t : RepT W X b a m k cs) (c : ℕ) (P : ℕ → Bool) (e : Covers c P) where
   -- it shares a class with the pass exactly where a leaf of the pass is at or below it
   pub tree-shares : shares (classesAt W b) c ≡ not (free P (node k cs nil))
-  tree-shares = notes-meet c P e (t .noted) (tree-legal t)
+  tree-shares = notes-meet c P e (t .noted)
 
 -- it has none
 pub tree-free : {W X : List ℕ} {b a m : ℕ} {k : Token} {cs : Forest} (c : ℕ) (P : ℕ → Bool) → Covers c P → RepT W X b a m k cs

@@ -180,7 +180,7 @@ module _ {W : List ℕ} {l : Items} {c : ℕ} {Z : List ℕ} {read write : ℕ} 
   pub seek-in : CanSeek W l → read < l .len
       → (l .base + read < length Z) × (slotEnd (wd Z (l .base + read)) ≤ length Z) × (l .base + read < 2 ^ 32)
   seek-in g h =
-      let a = seek-slot (v .at g (meets c) (λ n e. refl)) h in
+      let a = seek-slot (v .at g (meets c) (λ n. refl)) h in
       let long = v .long in
       let within = g .within in
       let small = g .small in

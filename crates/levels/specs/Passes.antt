@@ -104,9 +104,9 @@ operators conditional = isConditional
 operators returns = isReturn
 operators (binary ops) = isOneOf ops
 
--- The classes c cover the operators P: an operator is in one of them where it is one of P.
+-- The classes c cover the operators P: a number is in one of them where it is one of P.
 abbrev pub Covers : ℕ → (ℕ → Bool) → Type 0
-Covers c P = (n : ℕ) → n ≤ 110 → meets c n ≡ P n
+Covers c P = (n : ℕ) → meets c n ≡ P n
 
 -- The state is one of the pass.
 pub data Runs : Kind → Pass → Type 0 where

@@ -84,10 +84,15 @@ fn next_mark(numbers: &[u32], from: usize, last: u32) -> usize
     end
 }
 
+// The word of an operator, whose number has twelve bits, with payload 0.
+fn operator_word(op: u32) -> u32 {
+    fields::OPERATOR * fields::KIND + op / 256 % 16 * 4096 + op % 256
+}
+
 // A word of a token of payload 0.
 fn token_word(field: usize, op: u32, start: u32, end: u32) -> u32 {
     match field {
-        0 => fields::operator_word(op),
+        0 => operator_word(op),
         1 => fields::start_word(start),
         2 => fields::end_word(end),
         3 => fields::upper_word(0),

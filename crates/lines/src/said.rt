@@ -5,7 +5,7 @@ use molang::lines::LINES;
 ghost use mathlib.Core.Path.{_≡_};
 ghost use Rattle.lines.specs.Said.{tableText};
 
-const BYTES: usize = 2545;
+const BYTES: usize = 2726;
 
 // A line of text for each line of the table.
 const TEXT: [u8; BYTES] = *b"no tokens at 4, 5 and 6
@@ -130,6 +130,15 @@ writing a a\x20
 ( ( 111 within 1
 111 within 0
 a within 4097
+a - 300 at 4, 5 and 6
+a 262 b at 4, 5 and 6
+300 ( a ) at 4, 5 and 6
+256 1023 at 4, 5 and 6
+a 255 at 4, 5 and 6
+a 1024 at 4, 5 and 6
+writing +/2 300 a\x20
+writing 300/1 a\x20
+writing 255\x20
 ";
 
 // The table's numbers and the text of its lines.

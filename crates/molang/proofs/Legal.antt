@@ -16,23 +16,23 @@ use Rattle.molang.specs.Parse.{mostTokens}
 use Rattle.molang.specs.WriteEntry.{treeFault, treesOf}
 use Rattle.molang.proofs.Trees.{count-size}
 use Rattle.molang.proofs.Bounds.{read-tree}
-use Rattle.molang.proofs.Words.{LegalTokens, noTokens, token, trees-back}
+use Rattle.molang.proofs.Words.{LegalTokens, noTokens, token, trees-back, operator-low}
 use Rattle.molang.proofs.TreeWords.{tree-unfaulted}
 use Rattle.molang.proofs.Every.{Every, nowhere, at, Renewable, read-every}
 
 -- A token with another operator, or with another's span and no payload, is legal.
-legal-renamed : (o : ℕ) (k : Token) → o ≤ 110 → Legal k → Legal (renamed o k)
+pub legal-renamed : (o : ℕ) (k : Token) → o ≤ 110 → Legal k → Legal (renamed o k)
 unfolding renamed
 legal-renamed o k b h =
-    record { op = b; variant = h .variant; value = h .value; no-payload = h .no-payload; start = h .start; end = h .end; close = h .close }
+    record { op = operator-low o b; variant = h .variant; value = h .value; no-payload = h .no-payload; start = h .start; end = h .end; close = h .close }
 
 pub legal-bare : (o : ℕ) (k : Token) → o ≤ 110 → Legal k → Legal (bare o k)
 unfolding bare
 legal-bare o k b h =
-    record { op = b; variant = omega arith; value = omega arith; no-payload = λ e. refl; start = h .start; end = h .end; close = h .end }
+    record { op = operator-low o b; variant = omega arith; value = omega arith; no-payload = λ e. refl; start = h .start; end = h .end; close = h .end }
 
 -- So is a section that is closed by a legal token.
-legal-closed : (k o : Token) → Legal k → Legal o → Legal (closedBy k o)
+pub legal-closed : (k o : Token) → Legal k → Legal o → Legal (closedBy k o)
 unfolding closedBy
 legal-closed k o h g =
     record {

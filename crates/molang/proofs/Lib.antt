@@ -48,3 +48,7 @@ pub mod LineLaws
 pub mod StackWords
 pub mod Places
 pub mod StackOrder
+pub mod Relabelling
+pub mod MessageNumbers
+pub mod Hosts
+pub mod OldWords

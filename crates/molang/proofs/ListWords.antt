@@ -8,21 +8,21 @@ use mathlib.Core.Option.{Option, none, some}
 use native.Mathlib.Omega.{arith}
 use lib.Dec.{eqb}
 use lib.ListN.{length}
-use borrow.Author.Tests.{ne-eqb}
+use borrow.Author.Tests.{lt-leb}
 use Rattle.molang.specs.Operator
 use Rattle.molang.specs.Operator.{isBracket}
 use Rattle.molang.specs.Forest.{Token, Forest, nil, node, closedBy, unclosed, count, size}
 use Rattle.molang.specs.Read.{lowestStart, highestEnd, uses}
 use Rattle.molang.specs.Words.{word, tokenWords, nodeWordsOf, tokensOf, listWords, treeWords, Field, operatorField, startField}
 use Rattle.molang.specs.Words.{endField, upperField, lowerField, wordFault, lowFault, variantAfter, nextInToken, withPlace}
-use Rattle.molang.specs.Words.{wordsRefusal}
+use Rattle.molang.specs.Words.{operatorBits, wordsRefusal}
 use Rattle.molang.specs.Legal.{Legal, LegalTrees, noTrees, legalTree}
 use Rattle.molang.specs.Write.{spanning, openerFor, closerFor, closerOf, standsAlone, standsLeft, standsRight, operandTokens, written}
 use Rattle.molang.specs.Write.{writtenStatements, writtenTree}
 use Rattle.molang.specs.WriteEntry.{nextInNode, Shape, shapeAfter, continues, treeFault}
 use Rattle.molang.proofs.Trees.{either}
 use Rattle.molang.proofs.FirstFailure.{first-none, passed, after-none}
-use Rattle.molang.proofs.Words.{LegalTokens, noTokens, token}
+use Rattle.molang.proofs.Words.{LegalTokens, noTokens, token, operator-low}
 use Rattle.molang.proofs.TreeWords.{tree-unfaulted}
 use Rattle.molang.proofs.Legal.{legal-bare}
 use Rattle.molang.proofs.Writing.{written-none, written-one, written-two, written-more}
@@ -50,7 +50,7 @@ token-unrefused : (k : Token) → Legal k → (i v : ℕ) (ws : List ℕ) → ((
     → wordsRefusal i operatorField v (tokenWords k ++ ws) ≡ none
 unfolding nodeWordsOf tokenWords treeWords count size variantAfter nextInNode nextInToken wordFault lowFault
 token-unrefused k h i v ws later =
-    let a = word 1 (k .variant * 2 ^ 8 + k .op) in
+    let a = word 1 (operatorBits (k .op) (k .variant)) in
     let b = word 2 (k .start) in
     let c = word 3 (k .end) in
     let d = word 4 (k .value / 2 ^ 16) in
@@ -92,11 +92,11 @@ tokens-count (a ∷ b ∷ c ∷ []) = omega arith
 tokens-count (a ∷ b ∷ c ∷ d ∷ []) = omega arith
 tokens-count (a ∷ b ∷ c ∷ d ∷ e ∷ ws) = omega (arith, tokens-count ws)
 
--- No legal token has an operator above 110.
+-- No number above 110 is in a used set: a host has no bit.
 pub uses-legal : {ks : List Token} → LegalTokens ks → (m : ℕ) → 111 ≤ m → uses ks m ≡ false
 unfolding uses
 uses-legal noTokens m h = refl
-uses-legal (token {k = k} l ls) m h = rw (ne-eqb (k .op) m (λ e. omega (arith, l .op)), uses-legal ls m h) refl
+uses-legal (token {k = k} l ls) m h = rw (lt-leb m Operator.hostMathVolatile (omega arith), uses-legal ls m h) refl
 
 -- The extent of legal trees fits its words.
 lowest-legal : {f : Forest} → LegalTrees f → (m : ℕ) → m < 2 ^ 29 → lowestStart m f < 2 ^ 29
@@ -114,7 +114,7 @@ highest-legal (legalTree {k = k} h n below after) m b = highest-legal after _ (h
 spanning-legal : (o start end : ℕ) → o ≤ 110 → start < 2 ^ 29 → end < 2 ^ 29 → Legal (spanning o start end)
 unfolding spanning
 spanning-legal o start end h s e =
-    record { op = h; variant = omega arith; value = omega arith; no-payload = λ z. refl; start = s; end = e; close = e }
+    record { op = operator-low o h; variant = omega arith; value = omega arith; no-payload = λ z. refl; start = s; end = e; close = e }
 
 -- Added brackets are legal.
 opener-legal : (k : Token) (cs : Forest) → Legal k → LegalTrees cs → Legal (openerFor k cs)

@@ -10,6 +10,8 @@ use lib.Dec.{eqb, leb, ltb}
 use lib.ListN.{length, take}
 use borrow.Author.Tests.{eqb-true, eq-eqb, leb-true, le-leb, ltb-true, lt-ltb}
 use Rattle.molang.specs.Forest.{Token}
+use Rattle.molang.specs.Operator.{isOperator}
+use Rattle.molang.specs.Words.{operatorBits, numberIn}
 use Rattle.molang.specs.Words.{word, lowOf, tokenWords, nodeWordsOf, nodeOf, Field, operatorField, startField, endField}
 use Rattle.molang.specs.Words.{upperField, lowerField, countField, closeField, fieldKind, lowFault, wordFault, variantAfter}
 use Rattle.molang.specs.Legal.{Legal}
@@ -19,7 +21,8 @@ use Rattle.molang.proofs.Trees.{decided, some-none, both, and-true-true
 use Rattle.molang.proofs.Booleans.{false-true}
 use Rattle.molang.proofs.FirstFailure.{must-true, must-none, must-some, first-none, then-none, passed, passes, all-passed}
 use Rattle.molang.proofs.FirstFailure.{must-false, found, after-none, one-of}
-use Rattle.molang.proofs.Words.{low-word, kind-word, high-part, low-bound, word-back, word-faultless, five-legal}
+use Rattle.molang.proofs.Words.{low-word, kind-word, operator-small, bits-number, bits-variant, bits-room, low-bound, word-back}
+use Rattle.molang.proofs.Words.{word-faultless, five-legal}
 use Rattle.molang.proofs.Words.{five-back, five-faultless}
 
 -- ---- The words of a legal node
@@ -39,14 +42,18 @@ half-passes v low b z =
     (λ e. must-true _ 11 (lt-ltb low 1 (omega (arith, z (eqb-true v 0 e))))) (λ e. must-true _ 11 (lt-ltb low (2 ^ 16) b))
 
 module _ (k : Token) (h : Legal k) where
-  operator-passes : (v : ℕ) → wordFault operatorField v (word 1 (k .variant * 2 ^ 8 + k .op)) ≡ none
+  operator-passes : (v : ℕ) → wordFault operatorField v (word 1 (operatorBits (k .op) (k .variant))) ≡ none
   unfolding fieldKind lowFault
   operator-passes v =
-      let low = k .variant * 2 ^ 8 + k .op in
-      let small : low % 2 ^ 8 ≤ 110 = omega arith in
-      let few : low / 2 ^ 8 % 2 ^ 4 ≤ 12 = rw (high-part (k .variant) (k .op) (omega arith)) (omega arith) in
+      let low = operatorBits (k .op) (k .variant) in
+      let small = operator-small (k .op) (h .op) in
+      let legal : isOperator (numberIn low) ≡ true =
+      rw (bits-number (k .op) (k .variant) (omega arith) (omega (arith, h .variant))) (h .op)
+      in
+      let few : low / 2 ^ 8 % 2 ^ 4 ≤ 12 = rw (bits-variant (k .op) (k .variant) (omega (arith, h .variant))) (h .variant) in
+      let room = bits-room (k .op) (k .variant) (omega arith) (omega (arith, h .variant)) in
       word-passes operatorField v low (omega arith)
-      (passes _ 9 _ (le-leb _ _ small) (passes _ 10 _ (le-leb _ _ few) (passes _ 11 [] (lt-ltb low (2 ^ 12) (omega arith)) all-passed)))
+      (passes _ 9 _ legal (passes _ 10 _ (le-leb _ _ few) (passes _ 11 [] (lt-ltb low (2 ^ 16) room) all-passed)))
 
   start-passes : (v : ℕ) → wordFault startField v (word 2 (k .start)) ≡ none
   unfolding fieldKind lowFault
@@ -72,9 +79,12 @@ module _ (k : Token) (h : Legal k) where
   unfolding fieldKind lowFault
   close-passes v = word-passes closeField v (k .close) (h .close) refl
 
-  variant-read : (v : ℕ) → variantAfter operatorField v (word 1 (k .variant * 2 ^ 8 + k .op)) ≡ k .variant
+  variant-read : (v : ℕ) → variantAfter operatorField v (word 1 (operatorBits (k .op) (k .variant))) ≡ k .variant
   unfolding variantAfter
-  variant-read v = rw (low-word 1 (k .variant * 2 ^ 8 + k .op) (omega arith), high-part (k .variant) (k .op) (omega arith)) (omega arith)
+  variant-read v =
+      let small = operator-small (k .op) (h .op) in
+      let room = bits-room (k .op) (k .variant) (omega arith) (omega (arith, h .variant)) in
+      rw (low-word 1 (operatorBits (k .op) (k .variant)) (omega arith)) (bits-variant (k .op) (k .variant) (omega (arith, h .variant)))
 
 pub count-passes : (v n : ℕ) → n < 2 ^ 14 → wordFault countField v (word 6 n) ≡ none
 unfolding fieldKind lowFault
@@ -82,7 +92,7 @@ count-passes v n b = word-passes countField v n (omega arith) (must-true _ 11 (l
 
 -- A word of zeros is legal in every field.
 zero-low : (field : Field) (v : ℕ) → lowFault field v 0 ≡ none
-unfolding lowFault firstOf must
+unfolding lowFault firstOf must isOperator numberIn
 zero-low operatorField v = refl
 zero-low startField v = refl
 zero-low endField v = refl

@@ -18,7 +18,7 @@ use Rattle.molang.specs.StackOrder.{stackWords, Stack, stackAfter, trees
 use Rattle.molang.proofs.Trees.{some-none, decided}
 use Rattle.molang.proofs.Booleans.{either}
 use Rattle.molang.proofs.FirstFailure.{must-true}
-use Rattle.molang.proofs.Words.{low-word}
+use Rattle.molang.proofs.Words.{low-word, operator-low}
 use Rattle.molang.proofs.NodeWalk.{zero-passes, count-passes, Walk, Fits, Ending, one-more, Placed, placed}
 use Rattle.molang.proofs.TreeWords as tree
 use Rattle.molang.proofs.TreeWords.{treeWalk, tree-exact}
@@ -54,7 +54,7 @@ blank = record { op = 0; variant = 0; value = 0; start = 0; end = 0; close = 0 }
 blank-legal : Legal blank
 blank-legal =
     record {
-      op = omega arith;
+      op = operator-low 0 (omega arith);
       variant = omega arith;
       value = omega arith;
       no-payload = λ e. refl;

@@ -1,20 +1,23 @@
 -- Words and what they say, both ways: legal tokens and trees are read back from their words, and legal words are those of their tokens.
 use Prim.Native.Nat.{ℕ, suc, _+_, _*_, _/_, _%_, _^_, _≤_, _<_}
 use mathlib.Core.Path.{_≡_, refl, ap, sym, _∙_}
-use mathlib.Core.Bool.{Bool, true, false}
+use mathlib.Core.Bool.{true, false}
 use mathlib.Core.List.{List, [], _∷_, _++_, append-assoc, append-nil}
 use mathlib.Core.Option.{Option, none, some}
 use native.Mathlib.Omega.{arith}
 use lib.Dec.{eqb, leb, ltb}
 use lib.ListN.{length}
-use borrow.Author.Tests.{eqb-true, eqb-false, leb-true, ltb-true}
+use borrow.Author.Tests.{eqb-true, eqb-false, leb-true, le-leb, ltb-true}
+use Rattle.molang.specs.Operator
+use Rattle.molang.specs.Operator.{between, isHost, isOperator}
 use Rattle.molang.specs.Forest.{Token, Forest, nil, node, count, closedBy, unclosed}
 use Rattle.molang.specs.Words.{word, kindOf, lowOf, tokenWords, tokenOf, nodeWordsOf, nodeOf, tokensOf, listWords, treeWords, Field}
 use Rattle.molang.specs.Words.{operatorField, startField, endField, upperField, lowerField, fieldKind, lowFault, wordFault}
-use Rattle.molang.specs.Words.{variantAfter, nextInToken, wordsRefusal}
+use Rattle.molang.specs.Words.{operatorBits, numberIn, variantAfter, nextInToken, wordsRefusal}
 use Rattle.molang.specs.Legal.{Legal, LegalTrees, noTrees, legalTree}
 use Rattle.molang.specs.WriteEntry.{firstTrees, otherTrees, treesOf}
-use Rattle.molang.proofs.Trees.{decided}
+use Rattle.molang.proofs.Booleans
+use Rattle.molang.proofs.Trees.{decided, both, and-true-true}
 use Rattle.molang.proofs.FirstFailure.{must-none, first-none, passed, withPlace-none}
 
 pub data LegalTokens : List Token → Type 0 where
@@ -34,20 +37,68 @@ pub kind-word : (kind low : ℕ) → low < 2 ^ 29 → kindOf (word kind low) ≡
 unfolding kindOf word
 kind-word kind low h = omega arith
 
-pub high-part : (high low : ℕ) → low < 2 ^ 8 → (high * 2 ^ 8 + low) / 2 ^ 8 ≡ high
-high-part high low h = omega arith
+-- The hosts' numbers are 256 to 1,023.
+pub host-within : (n : ℕ) → isHost n ≡ true → (256 ≤ n) × (n ≤ 1023)
+unfolding isHost between
+host-within n h = let e = both _ _ h in (omega (arith, leb-true _ n (e .0)), omega (arith, leb-true n _ (e .1)))
+
+pub within-host : (n : ℕ) → 256 ≤ n → n ≤ 1023 → isHost n ≡ true
+unfolding isHost between
+within-host n a b = and-true-true _ _ (le-leb _ n (omega arith)) (le-leb n _ (omega arith))
+
+-- An operator's number fits twelve bits; the operators of document 01 are such numbers.
+pub operator-small : (n : ℕ) → isOperator n ≡ true → n < 2 ^ 10
+unfolding isOperator
+operator-small n h =
+    Booleans.either (leb n Operator.hostMathVolatile) (λ t. omega (arith, leb-true n Operator.hostMathVolatile t))
+    (λ f. omega (arith, host-within n (rw f at h) .1))
+
+pub operator-low : (n : ℕ) → n ≤ 110 → isOperator n ≡ true
+unfolding isOperator
+operator-low n h = rw (le-leb n Operator.hostMathVolatile h) refl
+
+-- Bits 12-15 and bits 0-7 of such bits.
+upper-part : (q v r : ℕ) → v < 2 ^ 4 → r < 2 ^ 8 → (q * 2 ^ 12 + v * 2 ^ 8 + r) / 2 ^ 12 ≡ q
+upper-part q v r c b = omega arith
+
+lower-part : (q v r : ℕ) → r < 2 ^ 8 → (q * 2 ^ 12 + v * 2 ^ 8 + r) % 2 ^ 8 ≡ r
+lower-part q v r b = omega arith
+
+-- The number and the variant in the bits of both, and the bits of the number and the variant in them.
+pub bits-number : (n v : ℕ) → n < 2 ^ 12 → v < 2 ^ 4 → numberIn (operatorBits n v) ≡ n
+unfolding numberIn operatorBits
+bits-number n v b c =
+    rw (upper-part (n / 2 ^ 8) v (n % 2 ^ 8) c (omega arith), lower-part (n / 2 ^ 8) v (n % 2 ^ 8) (omega arith)) (omega arith)
+
+pub bits-variant : (n v : ℕ) → v < 2 ^ 4 → operatorBits n v / 2 ^ 8 % 2 ^ 4 ≡ v
+unfolding operatorBits
+bits-variant n v c = omega arith
+
+pub bits-room : (n v : ℕ) → n < 2 ^ 12 → v < 2 ^ 4 → operatorBits n v < 2 ^ 16
+unfolding operatorBits
+bits-room n v b c = omega arith
+
+bits-back : (low : ℕ) → low < 2 ^ 16 → operatorBits (numberIn low) (low / 2 ^ 8 % 2 ^ 4) ≡ low
+unfolding numberIn operatorBits
+bits-back low b =
+    let high : (low / 2 ^ 12 % 2 ^ 4 * 2 ^ 8 + low % 2 ^ 8) / 2 ^ 8 ≡ low / 2 ^ 12 = omega arith in
+    let rest : (low / 2 ^ 12 % 2 ^ 4 * 2 ^ 8 + low % 2 ^ 8) % 2 ^ 8 ≡ low % 2 ^ 8 = omega arith in
+    rw (high, rest) (omega arith)
 
 -- A token is read back from its words, closing at its own end.
 pub token-back : (k : Token) → Legal k
-    → tokenOf (word 1 (k .variant * 2 ^ 8 + k .op)) (word 2 (k .start)) (word 3 (k .end)) (word 4 (k .value / 2 ^ 16))
+    → tokenOf (word 1 (operatorBits (k .op) (k .variant))) (word 2 (k .start)) (word 3 (k .end)) (word 4 (k .value / 2 ^ 16))
     (word 5 (k .value % 2 ^ 16)) ≡ unclosed k
 unfolding tokenOf unclosed closedBy
 token-back k h =
-    let first = low-word 1 (k .variant * 2 ^ 8 + k .op) (omega arith) in
-    let op : lowOf (word 1 (k .variant * 2 ^ 8 + k .op)) % 2 ^ 8 ≡ k .op = rw first (omega arith) in
-    let variant : lowOf (word 1 (k .variant * 2 ^ 8 + k .op)) / 2 ^ 8 % 2 ^ 4 ≡ k .variant =
-    rw (first, high-part (k .variant) (k .op) (omega arith)) (omega arith)
+    let bits = operatorBits (k .op) (k .variant) in
+    let small = operator-small (k .op) (h .op) in
+    let first = low-word 1 bits (omega (arith, bits-room (k .op) (k .variant) (omega arith) (omega (arith, h .variant)))) in
+    let op : numberIn (lowOf (word 1 bits)) ≡ k .op =
+    rw first (bits-number (k .op) (k .variant) (omega arith) (omega (arith, h .variant)))
     in
+    let variant : lowOf (word 1 bits) / 2 ^ 8 % 2 ^ 4
+    ≡ k .variant = rw first (bits-variant (k .op) (k .variant) (omega (arith, h .variant))) in
     let value : lowOf (word 4 (k .value / 2 ^ 16)) % 2 ^ 16 * 2 ^ 16 + lowOf (word 5 (k .value % 2 ^ 16)) % 2 ^ 16 ≡ k .value =
     rw (low-word 4 (k .value / 2 ^ 16) (omega arith), low-word 5 (k .value % 2 ^ 16) (omega arith)) (omega arith)
     in
@@ -78,7 +129,7 @@ tokens-end (a ∷ b ∷ c ∷ d ∷ e ∷ ws) = (refl, tokens-end ws)
 
 -- A node's label is read back from its words.
 pub node-back : (k : Token) → Legal k
-    → nodeOf (word 1 (k .variant * 2 ^ 8 + k .op)) (word 2 (k .start)) (word 3 (k .end)) (word 4 (k .value / 2 ^ 16))
+    → nodeOf (word 1 (operatorBits (k .op) (k .variant))) (word 2 (k .start)) (word 3 (k .end)) (word 4 (k .value / 2 ^ 16))
     (word 5 (k .value % 2 ^ 16)) (word 7 (k .close)) ≡ k
 unfolding nodeOf unclosed closedBy
 node-back k h = rw (token-back k h, low-word 7 (k .close) (h .close)) refl
@@ -126,13 +177,14 @@ word-faultless field v w e =
     let z = passed (eqb (kindOf w) (fieldKind field)) 8 _ e in
     (eqb-true (kindOf w) (fieldKind field) (z .0), first-none _ _ (z .1) .0)
 
-operator-faultless : (v low : ℕ) → lowFault operatorField v low ≡ none → (low % 2 ^ 8 ≤ 110) × (low / 2 ^ 8 % 2 ^ 4 ≤ 12) × (low < 2 ^ 12)
+operator-faultless : (v low : ℕ) → lowFault operatorField v low ≡ none
+    → (isOperator (numberIn low) ≡ true) × (low / 2 ^ 8 % 2 ^ 4 ≤ 12) × (low < 2 ^ 16)
 unfolding lowFault
 operator-faultless v low e =
-    let x = passed (leb (low % 2 ^ 8) 110) 9 _ e in
+    let x = passed (isOperator (numberIn low)) 9 _ e in
     let y = passed (leb (low / 2 ^ 8 % 2 ^ 4) 12) 10 _ (x .1) in
-    let z = passed (ltb low (2 ^ 12)) 11 _ (y .1) in
-    (leb-true (low % 2 ^ 8) 110 (x .0), leb-true (low / 2 ^ 8 % 2 ^ 4) 12 (y .0), ltb-true low (2 ^ 12) (z .0))
+    let z = passed (ltb low (2 ^ 16)) 11 _ (y .1) in
+    (x .0, leb-true (low / 2 ^ 8 % 2 ^ 4) 12 (y .0), ltb-true low (2 ^ 16) (z .0))
 
 -- Half of a payload value, in a token of variant v.
 abbrev Half : ℕ → ℕ → Type 0
@@ -158,9 +210,9 @@ pub record FiveLegal (a b c d e : ℕ) : Type 0 where
   endKind : kindOf c ≡ 3
   upperKind : kindOf d ≡ 4
   lowerKind : kindOf e ≡ 5
-  operator : lowOf a % 2 ^ 8 ≤ 110
+  operator : isOperator (numberIn (lowOf a)) ≡ true
   variant : lowOf a / 2 ^ 8 % 2 ^ 4 ≤ 12
-  room : lowOf a < 2 ^ 12
+  room : lowOf a < 2 ^ 16
   upper : Half (lowOf a / 2 ^ 8 % 2 ^ 4) (lowOf d)
   lower : Half (lowOf a / 2 ^ 8 % 2 ^ 4) (lowOf e)
 
@@ -190,7 +242,7 @@ module _ (a b c d e : ℕ) (h : FiveLegal a b c d e) where
   pub five-back : tokenWords (tokenOf a b c d e) ≡ a ∷ b ∷ c ∷ d ∷ e ∷ []
   unfolding tokenWords tokenOf
   five-back =
-      let first : lowOf a / 2 ^ 8 % 2 ^ 4 * 2 ^ 8 + lowOf a % 2 ^ 8 ≡ lowOf a = omega (arith, h .room) in
+      let first = bits-back (lowOf a) (h .room) in
       let upper : (lowOf d % 2 ^ 16 * 2 ^ 16 + lowOf e % 2 ^ 16) / 2 ^ 16 ≡ lowOf d = omega (arith, h .upper .0) in
       let lower : (lowOf d % 2 ^ 16 * 2 ^ 16 + lowOf e % 2 ^ 16) % 2 ^ 16 ≡ lowOf e = omega (arith, h .lower .0) in
       rw (

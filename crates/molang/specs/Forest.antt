@@ -4,8 +4,8 @@
 use Prim.Native.Nat.{ℕ, suc, _+_}
 use mathlib.Core.List.{List, [], _∷_}
 
--- A token of a list, and the label of a tree's node: operator number 0-110, payload variant 0-12 and value, span start and end, and where
--- it closes (a node's seventh word): a closed section at the end of its closer, everything else at its own span end.
+-- A token of a list, and the label of a tree's node: operator number 0-110 or 256-1,023, payload variant 0-12 and value, span start and
+-- end, and where it closes (a node's seventh word): a closed section at the end of its closer, everything else at its own span end.
 pub record Token : Type 0 where
   pub op : ℕ
   pub variant : ℕ

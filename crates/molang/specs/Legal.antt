@@ -2,12 +2,14 @@
 -- contracts of the node store speak of it, and what is said of words that are one tree (StackOrder).
 use Prim.Native.Nat.{ℕ, _^_, _≤_, _<_}
 use mathlib.Core.Path.{_≡_}
+use mathlib.Core.Bool.{true}
+use Rattle.molang.specs.Operator.{isOperator}
 use Rattle.molang.specs.Forest.{Token, Forest, nil, node, count}
 
 -- Its operator, its payload variant, its value, both ends of its span and where it closes fit their words; under variant 0 the value is
 -- 0.
 pub record Legal (k : Token) : Type 0 where
-  pub op : k .op ≤ 110
+  pub op : isOperator (k .op) ≡ true
   pub variant : k .variant ≤ 12
   pub value : k .value < 2 ^ 32
   pub no-payload : k .variant ≡ 0 → k .value ≡ 0

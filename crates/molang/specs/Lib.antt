@@ -19,6 +19,7 @@ pub mod Words
 pub mod Legal
 pub mod Nesting
 pub mod Parse
+pub mod Hosts
 pub mod Plain
 pub mod Write
 pub mod WriteEntry

@@ -9,7 +9,7 @@ use lib.IntN.{ℤ, pos, negsuc}
 use lib.ListN.{length, take, replicate}
 use Rattle.molang.specs.Forest.{Token}
 use Rattle.molang.specs.Read.{uses, setNumber}
-use Rattle.molang.specs.Words.{word, listWords}
+use Rattle.molang.specs.Words.{word, operatorBits, listWords}
 use Rattle.molang.specs.Parse.{Call, mostTokens, Told, aTree, someMessages, refused, answered, inFront, treeAfter, messagesAfter}
 use Rattle.molang.specs.Parse.{workAfter}
 use Rattle.molang.specs.WriteEntry.{WriteCall, WriteTold, tokens, unwritten, writeAnswered, listAfter}
@@ -118,13 +118,13 @@ listCall os version = limitedCall os version mostTokens
 unfoldable pub closeIn : ℕ → ℕ
 closeIn n = elim (ltb n 100000000) [ true ↦ n % 100 | false ↦ n / 100000000 ]
 
--- A tree node is op_c_ss_ee in decimal digits: operator, child count (one digit), span start and end (two digits each); payload 0. A closed
--- section is z_ooo_c_ss_ee, z being the end of its closer.
+-- A tree node is op_c_ss_ee in decimal digits: operator (at most three digits), child count (one digit), span start and end (two digits
+-- each); payload 0. A closed section is z_ooo_c_ss_ee, z being the end of its closer.
 unfoldable pub nodeWords : List ℕ → List ℕ
 nodeWords [] = []
 nodeWords (n ∷ ns) =
     let m = n % 100000000 in
-    word 1 (m / 100000)
+    word 1 (operatorBits (m / 100000) 0)
     ∷ word 2 (m / 100 % 100)
     ∷ word 3 (m % 100)
     ∷ word 4 0

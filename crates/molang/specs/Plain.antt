@@ -6,7 +6,7 @@ use mathlib.Core.List.{[], _∷_}
 use mathlib.Core.Option.{Option, none, some}
 use lib.Dec.{eqb}
 use Rattle.molang.specs.Operator
-use Rattle.molang.specs.Operator.{isOneOf, between, isMathCall, isBracket}
+use Rattle.molang.specs.Operator.{isOneOf, between, isMathCall, isHost, isBracket}
 use Rattle.molang.specs.Forest.{Token, Forest, nil, node, size}
 use Rattle.molang.specs.FirstFailure.{must, firstOf}
 
@@ -51,11 +51,12 @@ seatUnder p i =
           ]
     ]
 
--- A leaf of 40, 42-44, 46-49, 61, 62 or 76.
+-- A leaf of 40, 42-44, 46-49, 61, 62, 76 or a host's number.
 unfoldable pub isPlainLeaf : ℕ → Bool
 isPlainLeaf n =
     eqb n Operator.queryFunction || between Operator.contextVariable Operator.tempVariable n
     || between Operator.stringLiteral Operator.textureVariable n || eqb n Operator.float || eqb n Operator.pi || eqb n Operator.this
+    || isHost n
 
 -- 9, 20, 31, 50-59 or 75, with two children.
 unfoldable pub isPlainBinary : ℕ → Bool

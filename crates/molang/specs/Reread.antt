@@ -59,7 +59,7 @@ handed c =
 unfoldable pub writerCall : Handed → ℕ → WriteCall
 writerCall h nodes = record { tree = take (7 * nodes) (h .tree); list = h .written }
 
--- The call that reads a list with each operator of its tokens and no other.
+-- The call that reads a list with each operator of its tokens and no other; hosts have no bit in the set.
 unfoldable pub exactCall : List ℕ → List ℕ → List ℕ → List ℕ → ℕ → ℤ → ℕ → Call
 exactCall list again messages work sourceLength version limit =
     let used = setNumber (uses (tokensOf list)) 111 in

@@ -5,6 +5,7 @@ use mathlib.Core.Bool.{Bool, true, false}
 use mathlib.Core.List.{List, [], _∷_, _++_}
 use mathlib.Core.Option.{Option, none, some}
 use lib.Dec.{eqb, leb, ltb}
+use Rattle.molang.specs.Operator.{isOperator}
 use Rattle.molang.specs.Forest.{Token, Forest, nil, node, count}
 use Rattle.molang.specs.FirstFailure.{must, firstOf}
 
@@ -20,16 +21,26 @@ kindOf w = w / 2 ^ 29
 unfoldable pub lowOf : ℕ → ℕ
 lowOf w = w % 2 ^ 29
 
+-- The low bits of a word of kind 1: bits 0-7 are the operator number's lower eight, 8-11 the payload variant, 12-15 the number's upper
+-- four (document 02, card 7).
+unfoldable pub operatorBits : ℕ → ℕ → ℕ
+operatorBits n variant = n / 2 ^ 8 * 2 ^ 12 + variant * 2 ^ 8 + n % 2 ^ 8
+
+-- The operator number in the low bits of a word of kind 1.
+unfoldable pub numberIn : ℕ → ℕ
+numberIn low = low / 2 ^ 12 % 2 ^ 4 * 2 ^ 8 + low % 2 ^ 8
+
 -- A token's five words: operator and payload variant, span start, span end, upper and lower half of the payload value.
 unfoldable pub tokenWords : Token → List ℕ
 tokenWords k =
-    word 1 (k .variant * 2 ^ 8 + k .op) ∷ word 2 (k .start) ∷ word 3 (k .end) ∷ word 4 (k .value / 2 ^ 16) ∷ word 5 (k .value % 2 ^ 16) ∷ []
+    word 1 (operatorBits (k .op) (k .variant)) ∷ word 2 (k .start) ∷ word 3 (k .end) ∷ word 4 (k .value / 2 ^ 16)
+    ∷ word 5 (k .value % 2 ^ 16) ∷ []
 
 -- The token of five words; it closes at its end.
 unfoldable pub tokenOf : ℕ → ℕ → ℕ → ℕ → ℕ → Token
 tokenOf a b c d e =
     record {
-      op = lowOf a % 2 ^ 8;
+      op = numberIn (lowOf a);
       variant = lowOf a / 2 ^ 8 % 2 ^ 4;
       value = lowOf d % 2 ^ 16 * 2 ^ 16 + lowOf e % 2 ^ 16;
       start = lowOf b;
@@ -83,7 +94,7 @@ fieldKind closeField = 7
 -- The answer to the low bits of a word of the right kind, in a token of payload variant v: 9, 10 or 11.
 unfoldable pub lowFault : Field → ℕ → ℕ → Option ℕ
 lowFault operatorField v low =
-    firstOf (must (leb (low % 2 ^ 8) 110) 9 ∷ must (leb (low / 2 ^ 8 % 2 ^ 4) 12) 10 ∷ must (ltb low (2 ^ 12)) 11 ∷ [])
+    firstOf (must (isOperator (numberIn low)) 9 ∷ must (leb (low / 2 ^ 8 % 2 ^ 4) 12) 10 ∷ must (ltb low (2 ^ 16)) 11 ∷ [])
 lowFault startField v low = none
 lowFault endField v low = none
 lowFault upperField v low = must (ltb low (elim (eqb v 0) [ true ↦ 1 | false ↦ 2 ^ 16 ])) 11

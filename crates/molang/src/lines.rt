@@ -9,8 +9,8 @@
 //   The token at place i has span i to i + 1 and payload 0; the used set is exact, the source as long as the list.
 // - `WRITE`, nodes: the tree is written, into a list with room for three tokens a node.
 // - `ZEROS`, n: a list of n words 0. `REPEATED`, n, operator: a list of n such tokens, all at the span 0 to 0. Both read at 6.
-// - `TREE`, nodes: op_c_ss_ee in decimal digits, that is operator, child count, span start, span end, parent first. A closed section is
-//   z_ooo_c_ss_ee, its closer's end z in front; every other node closes at its own end.
+// - `TREE`, nodes: op_c_ss_ee in decimal digits, that is operator (up to 999), child count, span start, span end, parent first. A closed
+//   section is z_ooo_c_ss_ee, its closer's end z in front; every other node closes at its own end.
 // - `MESSAGE`, number_ss_ee, arguments up to the last that is not 0; once for each message.
 // - `LIST`, tokens: op_ss_ee. `REFUSED`, number, place.
 //
@@ -114,7 +114,19 @@ const COMMA: u32 = 75;
 
 const NO_OPERATOR: u32 = 111;
 
-pub const COUNT: usize = 1167;
+const FIRST_HOST: u32 = 256;
+
+const HOST: u32 = 300;
+
+const LAST_HOST: u32 = 1023;
+
+const BEFORE_HOSTS: u32 = 255;
+
+const AFTER_HOSTS: u32 = 1024;
+
+const HOST_ABOVE_MINUS: u32 = 262;
+
+pub const COUNT: usize = 1228;
 
 pub const LINES: [u32; COUNT] = [
     // * empty: message 1
@@ -1406,19 +1418,89 @@ pub const LINES: [u32; COUNT] = [
     REFUSED,
     17,
     0,
+    // `a - 300`: 9(a,6(300)), as `a - this`
+    ANY,
+    A,
+    MINUS,
+    HOST,
+    TREE,
+    9_2_01_02,
+    61_0_00_01,
+    6_1_01_02,
+    300_0_02_03,
+    // `a 262 b`: message 1 (the low byte of 262 is that of a minus)
+    ANY,
+    A,
+    HOST_ABOVE_MINUS,
+    B,
+    MESSAGE,
+    1_00_03,
+    3,
+    // `300 ( a )`: message 1 (a host's name is no call)
+    ANY,
+    HOST,
+    OPEN,
+    A,
+    CLOSE,
+    MESSAGE,
+    1_00_03,
+    2,
+    // `256 1023`: message 1
+    ANY,
+    FIRST_HOST,
+    LAST_HOST,
+    MESSAGE,
+    1_00_02,
+    2,
+    // `a 255`: refused 9 5
+    ANY,
+    A,
+    BEFORE_HOSTS,
+    REFUSED,
+    9,
+    5,
+    // `a 1024`: refused 9 5
+    ANY,
+    A,
+    AFTER_HOSTS,
+    REFUSED,
+    9,
+    5,
+    // writing 9(300,a): `300 + a`
+    WRITE,
+    9_2_01_02,
+    300_0_00_01,
+    61_0_02_03,
+    LIST,
+    300_00_01,
+    9_01_02,
+    61_02_03,
+    // writing 300(a): refused 13 0
+    WRITE,
+    300_1_00_01,
+    61_0_01_02,
+    REFUSED,
+    13,
+    0,
+    // writing 255: refused 12 0
+    WRITE,
+    255_0_00_01,
+    REFUSED,
+    12,
+    0,
 ];
 
 // The table, with each of its lines answered by the definition as it says. A constant has no name in proofs/: what is shown of it is shown
 // of the function that hands it out.
 fn numbers() -> [u32; COUNT]
-    ensures { λ r. ⌜ Answered r × (lineCount r ≡ 122) ⌝ }
+    ensures { λ r. ⌜ Answered r × (lineCount r ≡ 131) ⌝ }
 {
     LINES
 }
 
 // The table; each of its lines also says what its calls leave in the work buffer.
 pub fn table() -> [u32; COUNT]
-    ensures { λ r. ⌜ Answered r × WorkAnswered r × (lineCount r ≡ 122) ⌝ }
+    ensures { λ r. ⌜ Answered r × WorkAnswered r × (lineCount r ≡ 131) ⌝ }
 {
     numbers()
 }

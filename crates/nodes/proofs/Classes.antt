@@ -1,6 +1,6 @@
 -- Noted classes: what a leaf notes, what a node notes of what it is given, and that a set of classes which is tested against a node's word
 -- is tested against every leaf below it (`notes-meet`).
-use Prim.Native.Nat.{ℕ, zero, suc, _≤_, _<_}
+use Prim.Native.Nat.{ℕ, zero, suc, _<_}
 use mathlib.Core.Path.{_≡_, refl, sym, ap, ap₂, _∙_}
 use mathlib.Core.Bool.{Bool, true, false, _||_, _&&_, not, and-true, and-comm, and-or-distrib-right, Bool·not-not as not-not}
 use mathlib.Core.List.{List}
@@ -8,8 +8,8 @@ use Rattle.molang.specs.Forest.{Token, Forest, nil, node}
 use Rattle.molang.specs.Order.{someBelow}
 use Rattle.molang.specs.Free.{free}
 use Rattle.ops.specs.Classes.{bitAt, inClass, shares, meets}
-use Rattle.ops.proofs.BitLaws.{some-same}
-use Rattle.nodes.specs.Store.{Notes, Noted, RepF, ends, more, AllLegal}
+use Rattle.ops.proofs.BitLaws.{some-same, none-below}
+use Rattle.nodes.specs.Store.{Notes, Noted, RepF, ends, more}
 use Rattle.nodes.specs.Children.{someNotes}
 
 -- ---- booleans
@@ -75,11 +75,6 @@ roots-note {W} (more {b = b} {t = t} {k = k} {f = f} a c d z p tk n ch ks r) i h
 
 -- ---- a test of classes
 
-some-none : (n : ℕ) → someBelow n (λ i. false) ≡ false
-unfolding someBelow
-some-none zero = refl
-some-none (suc n) = some-none n
-
 some-or : (n : ℕ) (f g : ℕ → Bool) → someBelow n (λ i. f i || g i) ≡ (someBelow n f || someBelow n g)
 unfolding someBelow
 some-or zero f g = refl
@@ -93,7 +88,7 @@ module _ (c : ℕ) where
 
   hits-nil : hits nil ≡ false
   unfolding hits free
-  hits-nil = some-none 32
+  hits-nil = none-below 32 (λ i. false) (λ i h. refl)
 
   hits-leaf : (k : Token) (rest : Forest) → hits (node k nil rest) ≡ (meets c (k .op) || hits rest)
   unfolding hits free meets
@@ -118,24 +113,24 @@ module _ (c : ℕ) where
       ∙ and-or-distrib-right (not (free (inClass i) (node d ds r))) (not (free (inClass i) rest)) (bitAt c i))
       ∙ some-or 32 (λ i. not (free (inClass i) (node d ds r)) && bitAt c i) (λ i. not (free (inClass i) rest) && bitAt c i)
 
-  hits-free : (P : ℕ → Bool) → ((n : ℕ) → n ≤ 110 → meets c n ≡ P n) → (f : Forest) → AllLegal f → hits f ≡ not (free P f)
+  hits-free : (P : ℕ → Bool) → ((n : ℕ) → meets c n ≡ P n) → (f : Forest) → hits f ≡ not (free P f)
   unfolding free
-  hits-free P h nil l = hits-nil
-  hits-free P h (node k nil rest) l =
+  hits-free P h nil = hits-nil
+  hits-free P h (node k nil rest) =
       hits-leaf k rest
-      ∙ ap₂ (λ (x : Bool) (y : Bool). x || y) (h (k .op) (l .0 .op) ∙ sym (not-not (P (k .op)))) (hits-free P h rest (l .2))
+      ∙ ap₂ (λ (x : Bool) (y : Bool). x || y) (h (k .op) ∙ sym (not-not (P (k .op)))) (hits-free P h rest)
       ∙ sym (not-and (not (P (k .op))) (free P rest))
-  hits-free P h (node k (node d ds r) rest) l =
+  hits-free P h (node k (node d ds r) rest) =
       hits-tree k d ds r rest
-      ∙ ap₂ (λ (x : Bool) (y : Bool). x || y) (hits-free P h (node d ds r) (l .1)) (hits-free P h rest (l .2))
+      ∙ ap₂ (λ (x : Bool) (y : Bool). x || y) (hits-free P h (node d ds r)) (hits-free P h rest)
       ∙ sym (not-and (free P (node d ds r)) (free P rest))
 
 -- A set of classes c that stands for the operators P shares a class with what a forest notes exactly where some leaf of the forest passes
 -- P.
-pub notes-meet : {w : ℕ} {f : Forest} (c : ℕ) (P : ℕ → Bool) → ((n : ℕ) → n ≤ 110 → meets c n ≡ P n) → Notes w f → AllLegal f
+pub notes-meet : {w : ℕ} {f : Forest} (c : ℕ) (P : ℕ → Bool) → ((n : ℕ) → meets c n ≡ P n) → Notes w f
     → shares w c ≡ not (free P f)
 unfolding shares hits
-notes-meet {w} {f} c P h n l =
+notes-meet {w} {f} c P h n =
     some-same 32 (λ i. bitAt w i && bitAt c i) (λ i. not (free (inClass i) f) && bitAt c i)
     (λ i e. ap (λ (x : Bool). x && bitAt c i) (n .bits i e))
-    ∙ hits-free c P h f l
+    ∙ hits-free c P h f

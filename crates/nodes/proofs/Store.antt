@@ -168,9 +168,6 @@ tree-below {t = t} {k = k} v = omega (arith, v .high, reserve-pos t k)
 pub tree-out : {W X : List ℕ} {b l m : ℕ} {t : Token} {k : Forest} → RepT W X b l m t k → Out b X
 tree-out {X = X} {b} {t = t} {k = k} v = own-out b t k X (v .out)
 
-pub tree-legal : {W X : List ℕ} {b l m : ℕ} {t : Token} {k : Forest} → RepT W X b l m t k → AllLegal (node t k nil)
-tree-legal v = (v .token .legal, rep-legal (v .kids), tt)
-
 pub tree-widen : {W X : List ℕ} {b l l' m m' : ℕ} {t : Token} {k : Forest} → l' ≤ l → m ≤ m' → RepT W X b l m t k → RepT W X b l' m' t k
 tree-widen e f v =
     record {

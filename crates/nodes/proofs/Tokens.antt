@@ -1,15 +1,17 @@
 -- A slot's five token words, said of its token: what the fields are read from, that the words say which token it is, and what becomes of
 -- the token where some of the words are written.
-use Prim.Native.Nat.{ℕ, zero, suc, _+_, _*_, _%_, _^_, _≤_, _<_}
+use Prim.Native.Nat.{ℕ, zero, suc, _+_, _*_, _/_, _%_, _^_, _≤_, _<_}
 use mathlib.Core.Path.{_≡_, refl, sym, ap, _∙_}
 use mathlib.Core.List.{List}
 use native.Mathlib.Omega.{arith}
 use native.Mathlib.Nat.{add-zero}
 use lib.ListN.{length, getD, set}
 use Rattle.molang.specs.Forest.{Token, renamed, bare, closedBy}
-use Rattle.molang.specs.Words.{word, lowOf}
+use Rattle.molang.specs.Words.{word, lowOf, operatorBits}
 use Rattle.molang.specs.Legal.{Legal}
-use Rattle.words.specs.Fields.{operatorOf, withOperator}
+use Rattle.molang.proofs.Words.{low-word, operator-small, bits-number, bits-variant, bits-room}
+use Rattle.molang.proofs.Legal.{legal-renamed, legal-bare, legal-closed}
+use Rattle.words.specs.Fields.{operatorOf, variantOf, withOperator}
 use Rattle.nodes.specs.Store.{wd, slotStart, slotEnd, closeWord, operatorWordAt, startWordAt, endWordAt, valueWordAt, closeWordAt}
 use Rattle.nodes.specs.Store.{storedWords, TokenAt}
 use Rattle.nodes.specs.Slots.{opAt, startAt, endAt, Made}
@@ -22,7 +24,7 @@ token-keep W W' b h t = record { words = λ o w. h o w ∙ t .words o w; legal =
 -- ---- the words of a token, one by one
 
 module _ {W : List ℕ} {s : ℕ} {k : Token} (t : TokenAt W s k) where
-  pub operator-word : operatorWordAt W s ≡ word 1 (k .variant * 2 ^ 8 + k .op)
+  pub operator-word : operatorWordAt W s ≡ word 1 (operatorBits (k .op) (k .variant))
   unfolding storedWords
   operator-word = rw add-zero at (t .words 0 (omega arith))
 
@@ -44,7 +46,8 @@ module _ {W : List ℕ} {s : ℕ} {k : Token} (t : TokenAt W s k) where
 
 -- five words make a token
 pub token-of-words : {W : List ℕ} {s : ℕ} {k : Token}
-    → operatorWordAt W s ≡ word 1 (k .variant * 2 ^ 8 + k .op) → startWordAt W s ≡ word 2 (k .start) → endWordAt W s ≡ word 3 (k .end)
+    → operatorWordAt W s ≡ word 1 (operatorBits (k .op) (k .variant)) → startWordAt W s ≡ word 2 (k .start)
+    → endWordAt W s ≡ word 3 (k .end)
     → valueWordAt W s ≡ k .value → closeWordAt W s ≡ word 7 (k .close) → Legal k
     → TokenAt W s k
 unfolding storedWords
@@ -60,9 +63,21 @@ token-of-words {W} {s} {k} a b c d e l = record { words = by-place; legal = l }
 
 -- ---- the fields
 
+operator-bits : {W : List ℕ} {s : ℕ} {k : Token} → TokenAt W s k → lowOf (operatorWordAt W s) ≡ operatorBits (k .op) (k .variant)
+operator-bits {k = k} t =
+    let small = operator-small (k .op) (t .legal .op) in
+    let room = bits-room (k .op) (k .variant) (omega arith) (omega (arith, t .legal .variant)) in
+    rw (operator-word t) (low-word 1 (operatorBits (k .op) (k .variant)) (omega arith))
+
 pub token-op : {W : List ℕ} {s : ℕ} {k : Token} → TokenAt W s k → opAt W s ≡ k .op
-unfolding word lowOf operatorOf
-token-op t = omega (arith, operator-word t, t .legal .op, t .legal .variant)
+unfolding operatorOf
+token-op {k = k} t =
+    let small = operator-small (k .op) (t .legal .op) in
+    rw (operator-bits t) (bits-number (k .op) (k .variant) (omega arith) (omega (arith, t .legal .variant)))
+
+pub token-variant : {W : List ℕ} {s : ℕ} {k : Token} → TokenAt W s k → variantOf (operatorWordAt W s) ≡ k .variant
+unfolding variantOf
+token-variant {k = k} t = rw (operator-bits t) (bits-variant (k .op) (k .variant) (omega (arith, t .legal .variant)))
 
 pub token-start : {W : List ℕ} {s : ℕ} {k : Token} → TokenAt W s k → startAt W s ≡ k .start
 unfolding word lowOf
@@ -72,10 +87,6 @@ pub token-end : {W : List ℕ} {s : ℕ} {k : Token} → TokenAt W s k → endAt
 unfolding word lowOf
 token-end t = omega (arith, end-word t, t .legal .end)
 
-same-operator : (v o v' o' : ℕ) → o ≤ 110 → o' ≤ 110 → word 1 (v * 2 ^ 8 + o) ≡ word 1 (v' * 2 ^ 8 + o') → (v ≡ v') × (o ≡ o')
-unfolding word
-same-operator v o v' o' a b e = omega arith
-
 same-low : (kind x y : ℕ) → word kind x ≡ word kind y → x ≡ y
 unfolding word
 same-low kind x y e = omega arith
@@ -83,59 +94,25 @@ same-low kind x y e = omega arith
 -- the words say which token it is
 pub token-unique : {W : List ℕ} {s : ℕ} {k k' : Token} → TokenAt W s k → TokenAt W s k' → k ≡ k'
 token-unique {W} {s} {k} {k'} t u =
-    let o =
-    same-operator (k .variant) (k .op) (k' .variant) (k' .op) (t .legal .op) (u .legal .op) (sym (operator-word t) ∙ operator-word u) in
+    let op = sym (token-op t) ∙ token-op u in
+    let variant = sym (token-variant t) ∙ token-variant u in
     let start = same-low 2 (k .start) (k' .start) (sym (start-word t) ∙ start-word u) in
     let end = same-low 3 (k .end) (k' .end) (sym (end-word t) ∙ end-word u) in
     let value = sym (value-word t) ∙ value-word u in
     let close = same-low 7 (k .close) (k' .close) (sym (close-word t) ∙ close-word u) in
-    λ i. record { op = o .1 i; variant = o .0 i; value = value i; start = start i; end = end i; close = close i }
+    λ i. record { op = op i; variant = variant i; value = value i; start = start i; end = end i; close = close i }
 
 -- ---- tokens that the passes make
 
-pub legal-renamed : (o : ℕ) {k : Token} → o ≤ 110 → Legal k → Legal (renamed o k)
-unfolding renamed
-legal-renamed o h l =
-    record {
-      op = h;
-      variant = l .variant;
-      value = l .value;
-      no-payload = l .no-payload;
-      start = l .start;
-      end = l .end;
-      close = l .close;
-    }
-
-pub legal-bare : (o : ℕ) {k : Token} → o ≤ 110 → Legal k → Legal (bare o k)
-unfolding bare
-legal-bare o h l =
-    record {
-      op = h;
-      variant = omega arith;
-      value = omega arith;
-      no-payload = λ e. refl;
-      start = l .start;
-      end = l .end;
-      close = l .end;
-    }
-
-pub legal-closed : {k o : Token} → Legal k → Legal o → Legal (closedBy k o)
-unfolding closedBy
-legal-closed l m =
-    record {
-      op = m .op;
-      variant = m .variant;
-      value = m .value;
-      no-payload = m .no-payload;
-      start = m .start;
-      end = m .end;
-      close = l .end;
-    }
-
 -- the operator word with another operator in it
-renamed-word : (v o p : ℕ) → o ≤ 110 → p ≤ 110 → withOperator (word 1 (v * 2 ^ 8 + o)) p ≡ word 1 (v * 2 ^ 8 + p)
-unfolding word withOperator
-renamed-word v o p a b = omega arith
+renamed-word : (n v o : ℕ) → n < 2 ^ 12 → v < 2 ^ 4 → o ≤ 110 → withOperator (word 1 (operatorBits n v)) o ≡ word 1 (operatorBits o v)
+unfolding withOperator variantOf
+renamed-word n v o b c h =
+    let room = bits-room n v b c in
+    rw (low-word 1 (operatorBits n v) (omega arith), bits-variant n v c) (replaced (operatorBits n v) v o room h)
+  where
+    replaced : (bits v o : ℕ) → bits < 2 ^ 16 → o ≤ 110 → word 1 bits / 2 ^ 16 * 2 ^ 16 + v * 2 ^ 8 + o % 2 ^ 8 ≡ word 1 (operatorBits o v)
+    replaced bits v o room h = unfold word in unfold operatorBits in omega arith
 
 -- `set_operator` renames the token
 pub token-renamed : (W W' : List ℕ) (s o : ℕ) {k : Token} → W' ≡ set W (slotStart s) (withOperator (operatorWordAt W s) o)
@@ -145,20 +122,22 @@ unfolding renamed
 token-renamed W W' s o {k} e room h t =
     let v = withOperator (operatorWordAt W s) o in
     let other = set-other W W' (slotStart s) v e in
+    let small = operator-small (k .op) (t .legal .op) in
+    let word-kept = renamed-word (k .op) (k .variant) o (omega arith) (omega (arith, t .legal .variant)) h in
     token-of-words
-    (set-same W W' (slotStart s) v e (omega arith) ∙ rw (operator-word t) (renamed-word (k .variant) (k .op) o (t .legal .op) h))
+    (set-same W W' (slotStart s) v e (omega arith) ∙ rw (operator-word t) word-kept)
     (other (slotStart s + 1) (omega arith) ∙ start-word t)
     (other (slotStart s + 2) (omega arith) ∙ end-word t)
     (other (slotStart s + 3) (omega arith) ∙ value-word t)
     (other (closeWord s) (omega arith) ∙ close-word t)
-    (legal-renamed o h (t .legal))
+    (legal-renamed o k h (t .legal))
 
 -- `set_close` closes the token at the end of another
 pub token-closed : (W W' : List ℕ) (s closer : ℕ) {k o : Token} → W' ≡ set W (closeWord s) (word 7 (endAt W closer))
     → slotEnd s ≤ length W → TokenAt W closer k
     → TokenAt W s o → TokenAt W' s (closedBy k o)
 unfolding closedBy
-token-closed W W' s closer e room u t =
+token-closed W W' s closer {k} {o} e room u t =
     let v = word 7 (endAt W closer) in
     let other = set-other W W' (closeWord s) v e in
     token-of-words
@@ -167,20 +146,20 @@ token-closed W W' s closer e room u t =
     (other (slotStart s + 2) (omega arith) ∙ end-word t)
     (other (slotStart s + 3) (omega arith) ∙ value-word t)
     (set-same W W' (closeWord s) v e (omega arith) ∙ ap (word 7) (token-end u))
-    (legal-closed (u .legal) (t .legal))
+    (legal-closed k o (u .legal) (t .legal))
 
-bare-word : (o : ℕ) → o ≤ 110 → word 1 (o % 2 ^ 8) ≡ word 1 (0 * 2 ^ 8 + o)
-unfolding word
+bare-word : (o : ℕ) → o ≤ 110 → word 1 (o % 2 ^ 8) ≡ word 1 (operatorBits o 0)
+unfolding word operatorBits
 bare-word o h = omega arith
 
 -- `make` lays down a bare token with the span of another
 pub token-made : {W W' : List ℕ} {s like o : ℕ} {k : Token} → Made W s o like W' → o ≤ 110 → TokenAt W like k → TokenAt W' s (bare o k)
 unfolding bare
-token-made {o = o} v h t =
+token-made {o = o} {k = k} v h t =
     token-of-words
     (rw add-zero at (v .words 0 (omega arith)) ∙ bare-word o h)
     (v .words 1 (omega arith) ∙ start-word t)
     (v .words 2 (omega arith) ∙ end-word t)
     (v .words 3 (omega arith))
     (v .words 4 (omega arith) ∙ ap (word 7) (token-end t))
-    (legal-bare o h (t .legal))
+    (legal-bare o k h (t .legal))

@@ -2,7 +2,7 @@
 -- Intervals of slots keep siblings apart. They cannot keep a node apart from what is below it: an operator stands between its operands, and
 -- in the tree of `return + a`, `+` over `return` over `a`, the root's slot even lies between those of its child and grandchild. So the
 -- slots of the ancestors are carried along as a list, and the slots below avoid it.
-use Prim.Native.Nat.{ℕ, _+_, _*_, _^_, _≤_, _<_}
+use Prim.Native.Nat.{ℕ, _+_, _*_, _≤_, _<_}
 use mathlib.Core.Path.{_≡_}
 use mathlib.Core.Logic.{_≢_, _⊎_}
 use mathlib.Core.Bool.{true, false, not}
@@ -11,7 +11,7 @@ use lib.Dec.{eqb}
 use lib.ListN.{length, getD}
 use Rattle.molang.specs.Operator.{negate, semicolon}
 use Rattle.molang.specs.Forest.{Token, Forest, nil, node}
-use Rattle.molang.specs.Words.{word}
+use Rattle.molang.specs.Words.{word, operatorBits}
 use Rattle.molang.specs.Legal.{Legal}
 use Rattle.molang.specs.Free.{free}
 use Rattle.ops.specs.Classes.{bitAt, inClass}
@@ -88,7 +88,7 @@ classesAt W s = wd W (classesWord s)
 -- The words of a token in the store: the payload value is one word, and the word of kind 7 says where it closes.
 unfoldable pub storedWords : Token → List ℕ
 storedWords k =
-    word 1 (k .variant * 2 ^ 8 + k .op) ∷ word 2 (k .start) ∷ word 3 (k .end) ∷ k .value ∷ word 7 (k .close) ∷ []
+    word 1 (operatorBits (k .op) (k .variant)) ∷ word 2 (k .start) ∷ word 3 (k .end) ∷ k .value ∷ word 7 (k .close) ∷ []
 
 -- Slot s holds the words of the token k.
 pub record TokenAt (W : List ℕ) (s : ℕ) (k : Token) : Type 0 where

@@ -67,7 +67,12 @@ pub bits-of : (f : ℕ → Bool) (k i : ℕ) → bitAt (setNumber f k) i ≡ (lt
 unfolding bitAt
 bits-of f k i = number-bits f k i
 
--- Two tests that agree below k.
+-- A test that fails below k, and two tests that agree below k.
+pub none-below : (k : ℕ) (f : ℕ → Bool) → ((n : ℕ) → n < k → f n ≡ false) → someBelow k f ≡ false
+unfolding someBelow
+none-below zero f e = refl
+none-below (suc k) f e = rw (e k (omega arith)) (none-below k f (λ n h. e n (omega arith)))
+
 pub some-same : (k : ℕ) (f g : ℕ → Bool) → ((i : ℕ) → i < k → f i ≡ g i) → someBelow k f ≡ someBelow k g
 unfolding someBelow
 some-same zero f g same = refl

@@ -8,12 +8,12 @@ use native.Mathlib.Nat.{le-of-suc-le-suc, not-suc-le-zero}
 use native.Mathlib.Omega.{arith}
 use lib.Dec.{T, leb, ltb, nleb→lt}
 use lib.ListN.{getD, drop, List·getD-eq-default}
-use borrow.Author.Tests.{le-leb, lt-leb, lt-ltb, le-ltb, ltb-true, ltb-false, ne-eqb}
+use borrow.Author.Tests.{le-leb, lt-leb, lt-ltb, le-ltb, leb-true, leb-false, ltb-true, ltb-false, ne-eqb}
 use Rattle.molang.specs.Operator.{any, isOneOf, isQueryOrLoop}
 use Rattle.ops.specs.Classes.{passClasses, ownClasses, inClass, bitAt, meets, upTo, classWord, classTable, entryOf, ownWord}
 use Rattle.molang.proofs.RoundTrip.Role.{no-math}
-use Rattle.ops.proofs.OperatorLaws.{agree, agree-at}
-use Rattle.ops.proofs.BitLaws.{bit-zero, bits-of}
+use Rattle.ops.proofs.OperatorLaws.{agree, agree-at, and-left, and-right}
+use Rattle.ops.proofs.BitLaws.{bit-zero, bits-of, none-below}
 
 -- ---- No class but the 25, and no operator above 110
 
@@ -25,7 +25,8 @@ neither : (a b : Bool) → T (not (a || b)) → T (not a) × T (not b)
 neither true b t = absurd t
 neither false b t = (tt, t)
 
-low-only : (os : List ℕ) → T (not (any (leb 111) os)) → (n : ℕ) → 110 < n → isOneOf os n ≡ false
+-- A test for some operators fails above all operators.
+pub low-only : (os : List ℕ) → T (not (any (leb 111) os)) → (n : ℕ) → 110 < n → isOneOf os n ≡ false
 unfolding any isOneOf
 low-only [] t n high = refl
 low-only (o ∷ os) t n high =
@@ -109,6 +110,27 @@ leaf-bits n i = rw (entry-bits n i, own-bits n i) (halves i (inClass i n))
 
 -- ---- What a constant stands for
 
--- ONE LEMMA FOR EVERY CONSTANT: `stands-for 0x100 (isOneOf (lessThan ∷ [])) tt`, under the definitions that the test computes.
-pub stands-for : (w : ℕ) (test : ℕ → Bool) → T (agree (meets w) test 111) → (n : ℕ) → n ≤ 110 → meets w n ≡ test n
-stands-for w test t n low = agree-at (meets w) test 111 t n (omega arith)
+meets-none : (w n : ℕ) → 110 < n → meets w n ≡ false
+unfolding meets
+meets-none w n high =
+    none-below 32 (λ i. bitAt w i && inClass i n) (λ i h. ap (λ (b : Bool). bitAt w i && b) (no-class i n high) ∙ and-false (bitAt w i))
+
+-- One law for every constant: what the checker computes up to 110, under the definitions that the test computes, and that the test has no
+-- number above.
+pub stands-for : (w : ℕ) (test : ℕ → Bool) → T (agree (meets w) test 111) → ((n : ℕ) → 110 < n → test n ≡ false)
+    → (n : ℕ) → meets w n ≡ test n
+stands-for w test t none-above n = go (leb n 110) refl
+  where
+    go : (b : Bool) → leb n 110 ≡ b → meets w n ≡ test n
+    go true e = agree-at (meets w) test 111 t n (omega (arith, leb-true n 110 e))
+    go false e = let high = leb-false n 110 e in meets-none w n high ∙ sym (none-above n high)
+
+-- A constant of the operators os, which it has below 111 and which are below 111.
+abbrev pub standsForOnly : ℕ → List ℕ → Bool
+standsForOnly w os = agree (meets w) (isOneOf os) 111 && not (any (leb 111) os)
+
+pub stands-for-only : (w : ℕ) (os : List ℕ) → T (standsForOnly w os) → (n : ℕ) → meets w n ≡ isOneOf os n
+stands-for-only w os t =
+    let computed = agree (meets w) (isOneOf os) 111 in
+    let low = not (any (leb 111) os) in
+    stands-for w (isOneOf os) (and-left computed low t) (low-only os (and-right computed low t))

@@ -3,22 +3,20 @@
 use mathlib.Core.Path.{_≡_}
 use mathlib.Core.Bool.{Bool, true, _&&_}
 use mathlib.Core.List.{List, [], _∷_}
-use Prim.Native.Nat.{ℕ, _≤_}
+use Prim.Native.Nat.{ℕ}
 use lib.Dec.{T}
 use Rattle.molang.specs.Operator
 use Rattle.molang.specs.Operator.{any, isOneOf, between, isMathCall, isQueryOrLoop}
 use Rattle.molang.specs.Order.{someBelow}
+use Rattle.molang.proofs.RoundTrip.Role.{no-math}
 use Rattle.ops.specs.Classes.{passClasses, ownClasses, inClass, bitAt, meets}
 use Rattle.ops.proofs.OperatorLaws.{agree, and-left, and-right}
-use Rattle.ops.proofs.ClassLaws.{stands-for}
+use Rattle.ops.proofs.ClassLaws.{stands-for, standsForOnly, stands-for-only}
 
--- A constant and its operators.
-pub record Constant : Type 0 where
-  pub word : ℕ
-  pub operators : ℕ → Bool
-
-abbrev only : ℕ → List ℕ → Constant
-only w os = record { word = w; operators = isOneOf os }
+-- A constant and its operators: some, or the math calls.
+pub data Constant : Type 0 where
+  only : ℕ → List ℕ → Constant
+  math : ℕ → Constant
 
 -- In the order of src/classes.rt, from NONE to EQUALITIES.
 abbrev pub constants : List Constant
@@ -45,7 +43,7 @@ constants =
     ∷ only 0x4_0000 (Operator.comma ∷ [])
     ∷ only 0x8_0000 (Operator.assignment ∷ [])
     ∷ only 0x10_0000 (Operator.return ∷ [])
-    ∷ record { word = 0x20_0000; operators = isMathCall }
+    ∷ math 0x20_0000
     ∷ only 0x40_0000 (Operator.add ∷ [])
     ∷ only 0x80_0000 (Operator.conditional ∷ [])
     ∷ only 0x100_0000 (Operator.conditionalElse ∷ [])
@@ -57,18 +55,23 @@ constants =
 
 abbrev all-agree : List Constant → Bool
 all-agree [] = true
-all-agree (k ∷ ks) = agree (meets (k .word)) (k .operators) 111 && all-agree ks
+all-agree (only w os ∷ ks) = standsForOnly w os && all-agree ks
+all-agree (math w ∷ ks) = agree (meets w) isMathCall 111 && all-agree ks
 
--- Each of the list, at each operator.
+-- Each of the list, at every number.
 abbrev pub Stand : List Constant → Type 0
 Stand [] = Unit {0}
-Stand (k ∷ ks) = ((n : ℕ) → n ≤ 110 → meets (k .word) n ≡ k .operators n) × Stand ks
+Stand (only w os ∷ ks) = ((n : ℕ) → meets w n ≡ isOneOf os n) × Stand ks
+Stand (math w ∷ ks) = ((n : ℕ) → meets w n ≡ isMathCall n) × Stand ks
 
 each-stands : (ks : List Constant) → T (all-agree ks) → Stand ks
 each-stands [] t = tt
-each-stands (k ∷ ks) t =
-    let here = agree (meets (k .word)) (k .operators) 111 in
-    (stands-for (k .word) (k .operators) (and-left here (all-agree ks) t), each-stands ks (and-right here (all-agree ks) t))
+each-stands (only w os ∷ ks) t =
+    let here = standsForOnly w os in
+    (stands-for-only w os (and-left here (all-agree ks) t), each-stands ks (and-right here (all-agree ks) t))
+each-stands (math w ∷ ks) t =
+    let here = agree (meets w) isMathCall 111 in
+    (stands-for w isMathCall (and-left here (all-agree ks) t) no-math, each-stands ks (and-right here (all-agree ks) t))
 
 pub constants-stand : Stand constants
 unfolding any isOneOf between isMathCall isQueryOrLoop someBelow passClasses ownClasses inClass bitAt meets

@@ -19,8 +19,8 @@ use Rattle.molang.specs.Parse.{inHalves}
 use Rattle.ops.specs.Classes.{passClasses, ownClasses, inClass, bitAt, meets}
 use Rattle.ops.specs.declared.sets.OpSet.{OpSet}
 use Rattle.ops.proofs.OperatorLaws.{agree, agree-at, and-left, and-right}
-use Rattle.ops.proofs.BitLaws.{some-same}
-use Rattle.ops.proofs.ClassLaws.{stands-for}
+use Rattle.ops.proofs.BitLaws.{some-same, none-below}
+use Rattle.ops.proofs.ClassLaws.{standsForOnly, stands-for-only}
 use Rattle.ops.proofs.SetLaws.{math-used}
 use Rattle.levels.specs.Passes.{Covers}
 use Rattle.levels.specs.declared.turns.Pass.{Pass as State}
@@ -49,11 +49,6 @@ some-or : (k : ℕ) (f g : ℕ → Bool) → someBelow k (λ n. f n || g n) ≡ 
 unfolding someBelow
 some-or zero f g = refl
 some-or (suc k) f g = ap (λ (x : Bool). (f k || g k) || x) (some-or k f g) ∙ or-swap (f k) (g k) (someBelow k f) (someBelow k g)
-
-none-below : (k : ℕ) (f : ℕ → Bool) → ((n : ℕ) → n < k → f n ≡ false) → someBelow k f ≡ false
-unfolding someBelow
-none-below zero f e = refl
-none-below (suc k) f e = rw (e k (omega arith)) (none-below k f (λ n h. e n (omega arith)))
 
 module _ (u : ℕ → Bool) where
   some-at : (o k : ℕ) → o < k → someBelow k (λ n. u n && eqb n o) ≡ u o
@@ -126,10 +121,10 @@ by : {p : Pass} {state : State} (os : List ℕ) (low high : ℕ) → Starts p st
 by {state = state} os low high s o e t =
     (s, λ set. e set ∙ (asked (usedBy set) os low high t ∙ sym (ap (λ (b : Bool). b && isUsed set (rankOf state low high)) (o set))))
 
-of-level : (os : List ℕ) (c low high : ℕ) → T (agree (meets c) (isOneOf os) 111) → T (masks os low high)
+of-level : (os : List ℕ) (c low high : ℕ) → T (standsForOnly c os) → T (masks os low high)
     → IsRank (binary os) (levelAt c low high)
 unfolding runs
-of-level os c low high t m = by os low high (level (stands-for c (isOneOf os) t)) (λ set. refl) (λ set. refl) m
+of-level os c low high t m = by os low high (level (stands-for-only c os t)) (λ set. refl) (λ set. refl) m
 
 -- ---- A table
 
@@ -192,12 +187,12 @@ front-each e =
     ))
     (next (by (Operator.semicolon ∷ []) 0 0x200 unsplitPass (λ set. refl) (λ set. refl) tt)
     (next (by (Operator.arrayVariable ∷ []) 0x200_0000_0000 0 array (λ set. refl) (λ set. refl) tt)
-    (next (by (Operator.pointer ∷ []) 0 0x100 (point (stands-for 0x8 (isOneOf (Operator.pointer ∷ [])) tt)) (λ set. refl) (λ set. refl) tt)
+    (next (by (Operator.pointer ∷ []) 0 0x100 (point (stands-for-only 0x8 (Operator.pointer ∷ []) tt)) (λ set. refl) (λ set. refl) tt)
     (next ((mathCall, λ set. sym (math-used (set .low) (set .high))))
     (next (by (Operator.negate ∷ Operator.logicalNot ∷ []) 0xc0 0 unary (λ set. refl) (λ set. refl) tt)
     (next (of-level (Operator.div ∷ []) 0x20 0x10_0000 0 tt tt)
     (next (of-level (Operator.mul ∷ []) 0x40 0x8000_0000 0 tt tt)
-    (next (by (Operator.negate ∷ Operator.add ∷ []) 0x240 0 (plus (stands-for 0x40_0000 (isOneOf (Operator.add ∷ [])) tt)) (λ set. refl)
+    (next (by (Operator.negate ∷ Operator.add ∷ []) 0x240 0 (plus (stands-for-only 0x40_0000 (Operator.add ∷ []) tt)) (λ set. refl)
     (λ set. refl) tt) e))))))))
 
 -- Below version 6 each comparison.

@@ -12,13 +12,13 @@ use borrow.Author.Tests.{eq-eqb, ne-eqb, leb-true, leb-false}
 use Rattle.molang.specs.Operator.{closingOf}
 use Rattle.molang.specs.Forest.{Token}
 use Rattle.molang.specs.Message.{Message, messageRecord, hostMathVariant, hostValue, closer, record8, about}
-use Rattle.molang.specs.Words.{word, lowOf}
+use Rattle.molang.specs.Words.{word}
 use Rattle.molang.specs.Parse.{recordWords}
 use Rattle.words.specs.Fields.{variantOf}
 use Rattle.words.specs.Records.{withFirst, withLast, wordsOf}
 use Rattle.words.specs.declared.records.Record.{Record}
 use Rattle.nodes.specs.Store.{slotStart, operatorWordAt, valueWordAt, closeWordAt, TokenAt}
-use Rattle.nodes.proofs.Tokens.{operator-word, value-word, close-word, token-op, token-start, token-end}
+use Rattle.nodes.proofs.Tokens.{value-word, close-word, token-op, token-variant, token-start, token-end}
 use Rattle.levels.specs.Failures.{Tells, leadingMemberAccessor, emptyParameterList, mathAtEnd, mathWithoutParenthesis, leadingSemicolon}
 use Rattle.levels.specs.Failures.{emptyArrayIndex, binaryAtEnd, negateWithoutOperand, notWithoutOperand, unknownOperation}
 use Rattle.levels.specs.Failures.{unaryWithoutOperand, ternaryWithoutOperands}
@@ -66,13 +66,9 @@ module _ {W : List ℕ} {s : ℕ} {k : Token} (t : TokenAt W s k) where
           absurd (omega (arith, close-word t))
       go false e = let long = leb-false (length W) (slotStart s + 4) e in omega arith
 
-  token-variant : variantOf (operatorWordAt W s) ≡ k .variant
-  unfolding variantOf lowOf word
-  token-variant = omega (arith, operator-word t, t .legal .op, t .legal .variant)
-
   host-token : hostAt W s ≡ hostValue k
   unfolding hostAt hostValue
-  host-token = λ i. elim (eqb (token-variant i) hostMathVariant) [ true ↦ value-word t i | false ↦ 0 ]
+  host-token = λ i. elim (eqb (token-variant t i) hostMathVariant) [ true ↦ value-word t i | false ↦ 0 ]
 
   pub closer-token : closerAt W s ≡ closer k
   unfolding closer

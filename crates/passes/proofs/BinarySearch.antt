@@ -164,7 +164,7 @@ tree-down {c = c} {k = k} nil rest j t sh room e f same =
     found (leaf-first t) (t .token)
     (λ ops ex. same ops ex ∙ first-own ops k rest (unfree-leaf (isOneOf ops) k (tree-unfree c (isOneOf ops) ex t sh))) (omega arith)
 tree-down {c = c} {k = k} (node d ds r) rest j t sh room e f same =
-    amid j (t .chain) (t .kids) (unfree-tree (meets c) k (node d ds r) refl (tree-unfree c (meets c) (λ n e. refl) t sh)) room e f
+    amid j (t .chain) (t .kids) (unfree-tree (meets c) k (node d ds r) refl (tree-unfree c (meets c) (λ n. refl) t sh)) room e f
     (λ ops ex. same ops ex ∙ first-down ops k d ds r rest
     (unfree-tree (isOneOf ops) k (node d ds r) refl (tree-unfree c (isOneOf ops) ex t sh)))
 
@@ -244,7 +244,7 @@ search-next {W} {c} {leaf} {s} {fuel} {target} (amid {X = X} {lo = lo} {hi = hi}
         let v : vacant X (x .m) (hi - x .m) < fuel - 1 = omega arith in
         amid (hi - x .m) (x .next) (x .after)
         (both-false (free (meets c) (node k cs nil)) (free (meets c) rest) (sym (free-split (meets c) k cs rest) ∙ sh)
-        (tree-free c (meets c) (λ n e. refl) (x .tree) h)) room j v
+        (tree-free c (meets c) (λ n. refl) (x .tree) h)) room j v
         (λ ops ex. same ops ex ∙ first-over ops k cs rest (tree-free c (isOneOf ops) ex (x .tree) h))
 
 none-unfree : {W X bs : List ℕ} {s lo hi : ℕ} {f : Forest} (c : ℕ) → Chain W s bs → RepF W X bs lo hi f → s ≡ 0 → free (meets c) f ≡ false

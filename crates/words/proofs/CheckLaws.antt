@@ -10,10 +10,11 @@ use native.Mathlib.Omega.{arith}
 use lib.Dec.{eqb, leb, ltb}
 use types.Run.{OneOf}
 use denote.Enum.Declared.{tagOf}
+use Rattle.molang.specs.Operator.{isOperator}
 use Rattle.molang.specs.Words.{kindOf, lowOf, Field, operatorField, startField, endField, upperField, lowerField, fieldKind, lowFault}
 use Rattle.molang.specs.Words.{wordFault, variantAfter, nextInToken, Refusal, row, withPlace, wordsRefusal}
 use Rattle.molang.specs.FirstFailure.{must, firstOf}
-use Rattle.molang.proofs.FirstFailure.{last-one, behind, found, later-found}
+use Rattle.molang.proofs.FirstFailure.{found, later-found}
 use Rattle.molang.proofs.Trees.{some-none}
 use Rattle.molang.proofs.Words.{next-word}
 use Rattle.molang.proofs.ListWords.{list-word}
@@ -23,14 +24,12 @@ use Rattle.words.specs.declared.checks.Word.{Word}
 use Rattle.words.specs.declared.checks.Word.the-variants.{Good, WrongKind, HighOperator, HighVariant, OtherBit}
 use Rattle.words.proofs.checks.Word.{the-type}
 
--- The four tests of a word of kind 1, by its fields.
+-- The three tests of the low bits of a word of kind 1, by its fields.
 pub operator-tests : (w : ℕ)
-    → wordFault operatorField 0 w
-    ≡ firstOf
-    (must (eqb (kindOf w) 1) 8 ∷ must (leb (operatorOf w) 110) 9 ∷ must (leb (variantOf w) 12) 10 ∷ must (ltb (lowOf w) 4096) 11 ∷ [])
-unfolding wordFault fieldKind lowFault operatorOf variantOf
-operator-tests w =
-    behind (must (eqb (kindOf w) 1) 8) (lowFault operatorField 0 (lowOf w) ∷ []) _ (last-one (lowFault operatorField 0 (lowOf w)))
+    → lowFault operatorField 0 (lowOf w)
+    ≡ firstOf (must (isOperator (operatorOf w)) 9 ∷ must (leb (variantOf w) 12) 10 ∷ must (ltb (lowOf w) 65536) 11 ∷ [])
+unfolding lowFault operatorOf variantOf
+operator-tests w = refl
 
 pub none-bad : OneOf (1 ∷ 2 ∷ 3 ∷ 4 ∷ []) 0 → ⊥
 none-bad = ⊎-elim (λ e. omega arith) (⊎-elim (λ e. omega arith) (⊎-elim (λ e. omega arith) (λ e. omega arith)))

@@ -37,20 +37,47 @@ fn below(low: u32, limit: u32) -> Word
     Word::Good
 }
 
-// A word of kind 1: operator, then payload variant, then the other bits.
+// A word of kind 1, by its low bits: operator, then payload variant, then the other bits.
+fn low_bits(w: u32) -> Word
+    ensures { λ r. ⌜ numberOf r ≡ lowFault operatorField 0 (lowOf w) ⌝ }
+{
+    if !fields::is_operator(fields::operator(w)) {
+        return Word::HighOperator;
+    }
+    if fields::LAST_VARIANT < fields::variant(w) {
+        return Word::HighVariant;
+    }
+    let low = fields::low(w);
+    below(low, 65536)
+}
+
+// The same where bits 12-28 are 0, as they are in most words: bits 0-7 are the operator, and the variant stands above it. `operator_word`
+// has looked at the bits.
+fn twelve_bits(low: u32) -> Word
+    requires { ⌜ low < 2 ^ 12 ⌝ }
+    ensures { λ r. ⌜ numberOf r ≡ lowFault operatorField 0 low ⌝ }
+{
+    if fields::LAST_OPERATOR < low % 256 {
+        return Word::HighOperator;
+    }
+    if fields::LAST_VARIANT < low / 256 {
+        return Word::HighVariant;
+    }
+    Word::Good
+}
+
+// A word of kind 1.
 pub fn operator_word(w: u32) -> Word
     ensures { λ r. ⌜ numberOf r ≡ wordFault operatorField 0 w ⌝ }
 {
     if fields::kind(w) != fields::OPERATOR {
         return Word::WrongKind;
     }
-    if fields::LAST_OPERATOR < fields::operator(w) {
-        return Word::HighOperator;
+    let low = fields::low(w);
+    if low < 4096 {
+        return twelve_bits(low);
     }
-    if fields::LAST_VARIANT < fields::variant(w) {
-        return Word::HighVariant;
-    }
-    below(fields::low(w), 4096)
+    low_bits(w)
 }
 
 // A word of kind 2, 3 or 7, all of whose bits are used.

@@ -3,6 +3,7 @@
 // Leans on nothing; specs/Fields names the fields as the definition reads them.
 ghost use mathlib.Core.Path.{_≡_};
 ghost use Prim.Native.Nat.{_/_, _%_, _^_};
+ghost use Rattle.molang.specs.Operator.{isOperator};
 ghost use Rattle.molang.specs.Words.{word, kindOf, lowOf};
 ghost use Rattle.words.specs.Fields.{operatorOf, variantOf, halfOf, valueOf, withOperator};
 
@@ -46,8 +47,12 @@ pub const RECORD_WORDS: usize = 8;
 // The most tokens that a list can have.
 pub const MOST_TOKENS: usize = 4096;
 
-// The last operator and the last payload variant.
+// The last operator of document 01, the first and the last number of a host's own name, and the last payload variant.
 pub const LAST_OPERATOR: u32 = 110;
+
+pub const FIRST_HOST: u32 = 256;
+
+pub const LAST_HOST: u32 = 1023;
 
 pub const LAST_VARIANT: u32 = 12;
 
@@ -74,10 +79,21 @@ pub fn low(w: u32) -> u32
     w % KIND
 }
 
+// The number of twelve bits: the lower eight are bits 0-7, the upper four bits 12-15.
 pub fn operator(w: u32) -> u32
     ensures { λ r. ⌜ r ≡ operatorOf w ⌝ }
 {
-    w % 256
+    w % 256 + w / 4096 % 16 * 256
+}
+
+// Whether an operator can have the number.
+pub fn is_operator(op: u32) -> bool
+    ensures { λ r. ⌜ r ≡ isOperator op ⌝ }
+{
+    if op <= LAST_OPERATOR {
+        return true;
+    }
+    FIRST_HOST <= op && op <= LAST_HOST
 }
 
 pub fn variant(w: u32) -> u32
@@ -93,18 +109,18 @@ pub fn half(w: u32) -> u32
     w % 65536
 }
 
-// A word of kind 1 for op, with payload variant 0.
+// A word of kind 1 for op, which is below 256, with payload variant 0.
 pub fn operator_word(op: u32) -> u32
     ensures { λ r. ⌜ r ≡ word 1 (op % 2 ^ 8) ⌝ }
 {
     OPERATOR * KIND + op % 256
 }
 
-// The word of kind 1 with op in place of its operator.
+// The word of kind 1 with op, which is below 256, in place of its operator.
 pub fn with_operator(w: u32, op: u32) -> u32
     ensures { λ r. ⌜ r ≡ withOperator w op ⌝ }
 {
-    w - w % 256 + op % 256
+    w - w % 65536 + w / 256 % 16 * 256 + op % 256
 }
 
 // A word of kind 2 for a span that starts at n.

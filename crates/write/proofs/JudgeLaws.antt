@@ -5,7 +5,7 @@ use mathlib.Core.Bool.{Bool, true, false, _||_, _&&_, not, true≢false, false�
 use mathlib.Core.List.{List, [], _∷_, _++_, append-nil, append-assoc}
 use mathlib.Core.Option.{Option, none, some}
 use native.Mathlib.Nat.{add-zero}
-use Rattle.molang.specs.Words.{lowOf, tokenOf, nodeOf, withNumber}
+use Rattle.molang.specs.Words.{lowOf, numberIn, tokenOf, nodeOf, withNumber}
 use Rattle.words.specs.Fields.{operatorOf}
 use native.Mathlib.Numerals.{add-one}
 use native.Mathlib.Omega.{arith}
@@ -17,7 +17,7 @@ use borrow.Author.Tests.{eqb-true, eq-eqb, ne-eqb, not-true, leb-true, leb-false
 use Rattle.molang.proofs.RoundTrip.Role.{no-math}
 use Rattle.ops.proofs.OperatorLaws.{passes-at}
 use Rattle.molang.specs.Operator
-use Rattle.molang.specs.Operator.{any, isOneOf, between, isMathCall, isBracket}
+use Rattle.molang.specs.Operator.{any, isOneOf, between, isMathCall, isHost, isBracket}
 use Rattle.molang.specs.Forest.{Token, Forest, nil, node, bare, count, size}
 use Rattle.molang.specs.Plain as plain
 use Rattle.molang.specs.Plain.{isRightOfQuestion, isUnderMathCall, isUnderSemicolon, seatUnder, seatOf, isPlainLeaf, isPlainBinary, isCall}
@@ -146,7 +146,7 @@ firstOperator nil = 0
 firstOperator (node k cs rest) = k .op
 
 first-operator : {most p : ℕ} {ws : List ℕ} → Shaped most p ws → firstOperator (treesOf ws) ≡ operatorOf (getD ws 0 0)
-unfolding firstOperator treesOf operatorOf lowOf tokenOf nodeOf
+unfolding firstOperator treesOf operatorOf lowOf numberIn tokenOf nodeOf
 first-operator noTrees = refl
 first-operator (aNode five few later) = refl
 
@@ -165,7 +165,7 @@ unfolding plainBy holdsOne isPrefix isOneOf any isCall isMathCall between
 one-by p first = refl
 
 many-by : (p : Seat) (children first : ℕ) → (children ≡ 1 → ⊥) → plainBy p Operator.semicolon children first ≡ false
-unfolding plainBy isPlainLeaf isPlainBinary isBracket between
+unfolding plainBy isPlainLeaf isHost isPlainBinary isBracket between
 many-by p zero first h = refl
 many-by p (suc zero) first h = absurd (h refl)
 many-by p (suc (suc zero)) first h = refl

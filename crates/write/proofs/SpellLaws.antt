@@ -16,7 +16,8 @@ use Rattle.write.specs.declared.plain.Seat.{Seat}
 use Rattle.write.specs.Seats.{isPaired, onlySeat, leftSeat, rightSeat}
 use Rattle.shape.specs.Shaped.{nodeLength, countIndex, closeIndex, firstFive, Shaped}
 use Rattle.shape.proofs.RowLaws.{Opened, after-trees, shaped-length, no-kids, one-kid, two-kids}
-use Rattle.molang.specs.Words.{lowOf, word, tokenWords, listWords}
+use Rattle.molang.specs.Words.{lowOf, word, operatorBits, tokenWords, listWords}
+use Rattle.molang.proofs.OldWords.{old-bits}
 use Rattle.molang.specs.Read.{lowestStart, highestEnd}
 use Rattle.molang.specs.Write.{spanning, openerFor, closerFor, closerOf, standsAlone, standsLeft, standsRight, operandTokens, written}
 use Rattle.molang.specs.WriteEntry.{firstTrees, otherTrees, treesOf}
@@ -46,7 +47,7 @@ no-closer ws e = rw (ne-eqb (operatorOf (getD ws 0 0)) 4 e, closerWords)
 
 -- The words of a section's closer, by where the section closes; and of its opener, which are those of its node.
 section-closer : (k : Token) (g : ℕ) → k .close ≡ lowOf g → tokenWords (closerOf k) ≡ pairCloser g
-unfolding tokenWords closerOf spanning
+unfolding tokenWords operatorBits closerOf spanning
 section-closer k g e = rw e
 
 section-opener : (k : Token) → tokenWords (unclosed k) ≡ tokenWords k
@@ -59,7 +60,7 @@ unfolding tokenWords spanning lowOf
 spanning-words o s t h a b =
     let starts : s % 2 ^ 29 ≡ s = omega arith in
     let ends : t % 2 ^ 29 ≡ t = omega arith in
-    rw (starts, ends, h, zero-add)
+    rw (starts, ends, h, old-bits o 0 (omega arith), zero-add)
 
 -- The words of an added pair over a tree.
 module _ (k : Token) (cs rest : Forest) (h : Fits (firstExtent (node k cs rest))) where

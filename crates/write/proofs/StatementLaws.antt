@@ -10,7 +10,7 @@ use lib.Seq.{drop-drop}
 use borrow.Author.Tests.{eqb-true}
 use Rattle.molang.specs.Operator
 use Rattle.molang.specs.Forest.{Token, Forest, nil, node, bare, count, size}
-use Rattle.molang.specs.Words.{lowOf, word, tokenWords, listWords}
+use Rattle.molang.specs.Words.{lowOf, word, operatorBits, tokenWords, listWords}
 use Rattle.molang.specs.Write.{writtenStatements}
 use Rattle.molang.specs.WriteEntry.{firstTrees, otherTrees, treesOf}
 use Rattle.molang.proofs.Trees.{both}
@@ -41,7 +41,7 @@ module _ (k : Token) (H : List ℕ) (five : tokenWords k ≡ firstFive H) where
   end-word = ap (λ (l : List ℕ). getD l 2 0) five
 
   semicolon-words : tokenWords (bare Operator.semicolon k) ≡ semicolonWords H
-  unfolding tokenWords bare
+  unfolding tokenWords operatorBits bare
   semicolon-words = rw (start-word, end-word)
 
 -- A statement that is to be written.

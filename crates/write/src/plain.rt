@@ -85,7 +85,7 @@ fn seat_below(op: u32) -> Seat
     seat_of_only(op)
 }
 
-// The leaves of document 01's plain forms: 40, 42-44, 46-49, 61, 62 or 76.
+// The leaves of the plain forms: 40, 42-44, 46-49, 61, 62, 76 or a host's number.
 fn is_plain_leaf(op: u32) -> bool
     ensures { λ r. ⌜ r ≡ plain.isPlainLeaf op ⌝ }
 {
@@ -94,6 +94,7 @@ fn is_plain_leaf(op: u32) -> bool
         op::CONTEXT_VARIABLE..=op::TEMP_VARIABLE => true,
         op::STRING_LITERAL..=op::TEXTURE_VARIABLE => true,
         op::FLOAT | op::PI | op::THIS => true,
+        fields::FIRST_HOST..=fields::LAST_HOST => true,
         _ => false,
     }
 }

@@ -1,6 +1,7 @@
 //! Prints cases with their answers as plain lines of numbers.
 
 use oracle::generate::dress;
+use oracle::hosts::has_hosts;
 use oracle::lines::{Line, findings, lines};
 use oracle::vectors::{Stored, stored};
 use oracle::words::{Answer, Case, FULL_SET, Token, exact_set};
@@ -19,8 +20,9 @@ The first cases are there for what they cover and are printed even where N is sm
 line of document 01 and every finding that is short enough, at one version; then one for each
 of the message numbers 1 to 17, for a tree at each of the versions -1, 4, 5, 6, 13, 14 and both
 ends of i16, for used sets that are full, empty, lack an operator of the list or have one more,
-for a span that runs backwards and for a value that a reader could spoil. The command fails
-where it does not find one.
+for a span that runs backwards, for a value that a reader could spoil, and for hosts' own names
+in a tree and in a list with messages. One generated case in five has such names. The command
+fails where it does not find one.
 
 A case is these lines, all numbers decimal and separated by one space:
 
@@ -84,10 +86,16 @@ fn help(status: i32) -> ! {
 fn source(options: &Options) -> Box<dyn Iterator<Item = (Case, Answer)>> {
     #[cfg(molangx)]
     if !options.stored {
-        let cases = oracle::generate::Mixed::new(options.seed, options.most);
-        return Box::new(cases.map(|case| {
-            let answer = oracle::answer_case(&case);
-            (case, answer)
+        let mut mixed = oracle::generate::Mixed::new(options.seed, options.most);
+        let mut hosted = oracle::generate::hosts::Hosted::new(options.seed, options.most);
+        return Box::new((0usize..).map(move |place| {
+            let case = if place % 5 == 4 {
+                hosted.next()
+            } else {
+                mixed.next()
+            };
+            let case = case.expect("they have no end");
+            (case.clone(), oracle::answer_case(&case))
         }));
     }
     let most = options.most;
@@ -171,6 +179,17 @@ fn wanted() -> Vec<Wanted> {
             case.tokens.iter().any(spoilt) && answer.records().is_empty()
         }),
     );
+    for (what, is_tree) in [
+        ("a tree with a host", true),
+        ("messages with a host", false),
+    ] {
+        want(
+            what.to_string(),
+            Box::new(move |case, answer| {
+                has_hosts(case) && answer.records().is_empty() == is_tree && case.tokens.len() > 2
+            }),
+        );
+    }
     wanted
 }
 

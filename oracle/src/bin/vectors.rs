@@ -2,6 +2,7 @@
 
 #[cfg(molangx)]
 fn main() {
+    use oracle::hosts::has_hosts;
     use oracle::nesting::MOST_NESTING;
     use oracle::vectors::{SEED, Stored, encode, made, path};
 
@@ -26,10 +27,11 @@ fn main() {
         .unwrap_or_else(|why| panic!("{}: {why}", path.display()));
 
     let (mut trees, mut messages, mut refused) = (0, [0usize; 18], [0usize; 19]);
-    let mut limited = 0;
+    let (mut limited, mut hosted) = (0, 0);
     for record in &records {
-        if let Stored::Answered { limit, .. } = record {
+        if let Stored::Answered { limit, case, .. } = record {
             limited += usize::from(*limit != MOST_NESTING);
+            hosted += usize::from(has_hosts(case));
         }
         match record {
             Stored::Answered { answer, .. } if answer.records().is_empty() => trees += 1,
@@ -48,6 +50,7 @@ fn main() {
     println!("trees: {trees}");
     println!("messages 1 to 17: {:?}", &messages[1..]);
     println!("read under the least limit that they are within: {limited}");
+    println!("with hosts' own names: {hosted}");
     println!(
         "turned back, answers 1 to 11, 17 and 18: {:?} {:?}",
         &refused[1..12],

@@ -3,14 +3,14 @@
 /// A few operators whose lists meet in the same passes.
 pub struct Alphabet {
     pub name: &'static str,
-    pub ops: &'static [u8],
+    pub ops: &'static [u16],
     /// What every list ends with: a semicolon where the first check would turn most lists away.
-    pub ending: &'static [u8],
+    pub ending: &'static [u16],
     /// Whether what is read depends on the version.
     pub versions_differ: bool,
 }
 
-const fn alphabet(name: &'static str, ops: &'static [u8]) -> Alphabet {
+const fn alphabet(name: &'static str, ops: &'static [u16]) -> Alphabet {
     Alphabet {
         name,
         ops,
@@ -19,14 +19,14 @@ const fn alphabet(name: &'static str, ops: &'static [u8]) -> Alphabet {
     }
 }
 
-const fn versioned(name: &'static str, ops: &'static [u8]) -> Alphabet {
+const fn versioned(name: &'static str, ops: &'static [u16]) -> Alphabet {
     Alphabet {
         versions_differ: true,
         ..alphabet(name, ops)
     }
 }
 
-const fn ended(name: &'static str, ops: &'static [u8]) -> Alphabet {
+const fn ended(name: &'static str, ops: &'static [u16]) -> Alphabet {
     Alphabet {
         ending: &[73],
         ..alphabet(name, ops)
@@ -63,12 +63,12 @@ pub static ONE_OF_EACH: Alphabet = alphabet(
 
 impl Alphabet {
     /// Every list of up to `most` operators before the ending, short ones first.
-    pub fn every_list(&'static self, most: usize) -> impl Iterator<Item = Vec<u8>> {
+    pub fn every_list(&'static self, most: usize) -> impl Iterator<Item = Vec<u16>> {
         (0..=most).flat_map(|len| self.every_list_of(len))
     }
 
     /// Every list of `len` operators before the ending.
-    pub fn every_list_of(&'static self, len: usize) -> impl Iterator<Item = Vec<u8>> {
+    pub fn every_list_of(&'static self, len: usize) -> impl Iterator<Item = Vec<u16>> {
         let count = self.ops.len().pow(len as u32);
         (0..count).map(move |number| {
             let mut left = number;

@@ -5,8 +5,8 @@
 use super::{Rng, dress};
 use crate::words::{Case, Token, bit};
 
-const OPENERS: [u8; 3] = [0, 2, 4];
-const LEAVES: [u8; 6] = [61, 61, 61, 62, 43, 41];
+const OPENERS: [u16; 3] = [0, 2, 4];
+const LEAVES: [u16; 6] = [61, 61, 61, 62, 43, 41];
 
 /// A case of about `most` tokens.
 pub fn case(rng: &mut Rng, most: usize) -> Case {
@@ -40,7 +40,7 @@ pub fn case(rng: &mut Rng, most: usize) -> Case {
 }
 
 /// Operands with operators between them; in a list of roots there is none.
-fn put_parts(rng: &mut Rng, ops: &mut Vec<u8>, room: usize) {
+fn put_parts(rng: &mut Rng, ops: &mut Vec<u16>, room: usize) {
     let parts = 1 + rng.below(room.min(3));
     for part in 0..parts {
         if part > 0 && !rng.chance(4) {
@@ -51,7 +51,7 @@ fn put_parts(rng: &mut Rng, ops: &mut Vec<u8>, room: usize) {
 }
 
 /// A leaf, or a section alone or under what takes sections.
-fn put_operand(rng: &mut Rng, ops: &mut Vec<u8>, room: usize) {
+fn put_operand(rng: &mut Rng, ops: &mut Vec<u16>, room: usize) {
     if rng.chance(8) {
         ops.push(*rng.pick(&[6, 7, 74]));
     }
@@ -84,9 +84,9 @@ fn put_operand(rng: &mut Rng, ops: &mut Vec<u8>, room: usize) {
 }
 
 /// One bracket taken out, put in or made another.
-fn spoil(rng: &mut Rng, ops: &mut Vec<u8>) {
+fn spoil(rng: &mut Rng, ops: &mut Vec<u16>) {
     let brackets: Vec<usize> = (0..ops.len()).filter(|&place| ops[place] <= 5).collect();
-    let other = rng.below(6) as u8;
+    let other = rng.below(6) as u16;
     match (rng.below(3), brackets.is_empty()) {
         (0, false) => {
             ops.remove(*rng.pick(&brackets));

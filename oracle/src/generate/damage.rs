@@ -1,11 +1,12 @@
-//! Spoiled calls, each with the answer that its damage has by document 01's table and card 8. The
-//! answer comes from where the damage was done; [`crate::refusal`] is not asked.
+//! Spoiled calls, each with the answer that its damage has by document 01's table and cards 7 and 8.
+//! The answer comes from where the damage was done; [`crate::refusal`] is not asked.
 
 use super::{Rng, dress};
 use crate::nesting::MOST_NESTING;
 use crate::refusal::{Call, Refusal};
 use crate::words::{
-    Case, LAST_PLACE, MOST_TOKENS, TOKEN_WORDS, TREE_WORDS, kind, list_words, low, word,
+    Case, FIRST_HOST, LAST_HOST, LAST_OP, LAST_PLACE, MOST_TOKENS, TOKEN_WORDS, TREE_WORDS, kind,
+    list_words, low, with_number, word,
 };
 
 /// What can be spoiled, by the number of its answer.
@@ -107,7 +108,7 @@ fn spoil_call(rng: &mut Rng, call: &mut Call, number: u32) -> Refusal {
 /// Puts one opener more in front of the list than the limit allows, after and among others that are
 /// closed again.
 fn spoil_nesting(rng: &mut Rng, call: &mut Call) -> Refusal {
-    const BEFORE: [&[u8]; 6] = [&[5], &[1], &[61], &[4, 5], &[2, 1], &[0, 61, 5]];
+    const BEFORE: [&[u16]; 6] = [&[5], &[1], &[61], &[4, 5], &[2, 1], &[0, 61, 5]];
     let mut ops = Vec::new();
     for _ in 0..rng.below(4) {
         ops.extend(*rng.pick(&BEFORE));
@@ -145,8 +146,12 @@ fn spoil_word(rng: &mut Rng, call: &mut Call, number: u32) -> Refusal {
             call.list[place] = word(other, low(call.list[place]));
         }
         9 => {
-            let op = 111 + rng.below(145) as u32;
-            call.list[place] = call.list[place] & !0xFF | op;
+            let below = usize::from(FIRST_HOST - LAST_OP - 1);
+            let op = match rng.below(2) {
+                0 => LAST_OP + 1 + rng.below(below) as u16,
+                _ => LAST_HOST + 1 + rng.below(usize::from(0xFFF - LAST_HOST)) as u16,
+            };
+            call.list[place] = with_number(call.list[place], op);
         }
         10 => {
             let variant = 13 + rng.below(3) as u32;
@@ -156,7 +161,7 @@ fn spoil_word(rng: &mut Rng, call: &mut Call, number: u32) -> Refusal {
             let variant = call.list[head] >> 8 & 0xF;
             place += *rng.pick(&[0, 3, 4]);
             let bit = match place - head {
-                0 => 12 + rng.below(17),
+                0 => 16 + rng.below(13),
                 _ if variant == 0 => rng.below(29),
                 _ => 16 + rng.below(13),
             };

@@ -42,7 +42,7 @@ pub const VALUES: [u32; 14] = [
 ];
 
 /// The payload variant that the lexer gives an operator's token.
-pub fn usual_variant(op: u8) -> u8 {
+pub fn usual_variant(op: u16) -> u8 {
     match op {
         61 => 1,
         46 => 2,
@@ -61,8 +61,8 @@ pub fn usual_variant(op: u8) -> u8 {
 }
 
 /// The usual payloads, numbered from the left, and spans one after the other.
-pub fn plain(ops: &[u8]) -> Vec<Token> {
-    let token = |(place, &op): (usize, &u8)| {
+pub fn plain(ops: &[u16]) -> Vec<Token> {
+    let token = |(place, &op): (usize, &u16)| {
         let variant = usual_variant(op);
         Token {
             op,
@@ -111,7 +111,7 @@ impl Spans {
 }
 
 /// Any payload and any span.
-pub fn wild(rng: &mut Rng, ops: &[u8]) -> Vec<Token> {
+pub fn wild(rng: &mut Rng, ops: &[u16]) -> Vec<Token> {
     let spans = *rng.pick(&[
         Spans::WithGaps,
         Spans::Backwards,
@@ -166,7 +166,7 @@ pub fn used_set(rng: &mut Rng, tokens: &[Token]) -> (u64, u64) {
             exact.and((!gone.0, !gone.1))
         }
         7 => {
-            let more = bit(rng.below(LAST_OP as usize + 1) as u8);
+            let more = bit(rng.below(LAST_OP as usize + 1) as u16);
             (exact.0 | more.0, exact.1 | more.1)
         }
         _ => exact,

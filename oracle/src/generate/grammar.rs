@@ -3,17 +3,17 @@
 use super::Rng;
 use super::random::{ATOMS, MATHS};
 
-const INFIX: [u8; 16] = [9, 6, 31, 20, 50, 51, 52, 53, 54, 55, 56, 57, 9, 31, 20, 31];
+const INFIX: [u16; 16] = [9, 6, 31, 20, 50, 51, 52, 53, 54, 55, 56, 57, 9, 31, 20, 31];
 
 /// An expression of about `size` tokens.
-pub fn expression(rng: &mut Rng, size: usize) -> Vec<u8> {
+pub fn expression(rng: &mut Rng, size: usize) -> Vec<u16> {
     let mut ops = Vec::with_capacity(size + 4);
     put_expression(rng, size, &mut ops);
     ops
 }
 
 /// Statements of about `size` tokens.
-pub fn script(rng: &mut Rng, size: usize) -> Vec<u8> {
+pub fn script(rng: &mut Rng, size: usize) -> Vec<u16> {
     let mut ops = Vec::with_capacity(size + 8);
     put_script(rng, size, &mut ops);
     ops
@@ -25,7 +25,7 @@ fn split(rng: &mut Rng, size: usize) -> (usize, usize) {
     (left, size.saturating_sub(left).max(1))
 }
 
-fn put_expression(rng: &mut Rng, size: usize, ops: &mut Vec<u8>) {
+fn put_expression(rng: &mut Rng, size: usize, ops: &mut Vec<u16>) {
     if size < 2 {
         ops.push(*rng.pick(&ATOMS));
         return;
@@ -64,12 +64,12 @@ fn put_expression(rng: &mut Rng, size: usize, ops: &mut Vec<u8>) {
 }
 
 /// A prefix operator and its operand.
-fn put_after(rng: &mut Rng, prefix: u8, size: usize, ops: &mut Vec<u8>) {
+fn put_after(rng: &mut Rng, prefix: u16, size: usize, ops: &mut Vec<u16>) {
     ops.push(prefix);
     put_expression(rng, size, ops);
 }
 
-fn put_conditional(rng: &mut Rng, size: usize, ops: &mut Vec<u8>) {
+fn put_conditional(rng: &mut Rng, size: usize, ops: &mut Vec<u16>) {
     let (condition, rest) = split(rng, size - 2);
     let (then, otherwise) = split(rng, rest);
     put_expression(rng, condition, ops);
@@ -81,7 +81,7 @@ fn put_conditional(rng: &mut Rng, size: usize, ops: &mut Vec<u8>) {
     }
 }
 
-fn put_call(rng: &mut Rng, size: usize, ops: &mut Vec<u8>) {
+fn put_call(rng: &mut Rng, size: usize, ops: &mut Vec<u16>) {
     let function = if rng.chance(50) {
         40
     } else {
@@ -101,7 +101,7 @@ fn put_call(rng: &mut Rng, size: usize, ops: &mut Vec<u8>) {
     ops.push(5);
 }
 
-fn put_script(rng: &mut Rng, size: usize, ops: &mut Vec<u8>) {
+fn put_script(rng: &mut Rng, size: usize, ops: &mut Vec<u16>) {
     let goal = ops.len() + size;
     loop {
         let left = goal.saturating_sub(ops.len()).max(2);
@@ -114,7 +114,7 @@ fn put_script(rng: &mut Rng, size: usize, ops: &mut Vec<u8>) {
     }
 }
 
-fn put_statement(rng: &mut Rng, size: usize, ops: &mut Vec<u8>) {
+fn put_statement(rng: &mut Rng, size: usize, ops: &mut Vec<u16>) {
     match rng.below(if size < 8 { 6 } else { 9 }) {
         0 | 1 => {
             ops.push(*rng.pick(&[43, 44]));
@@ -147,7 +147,7 @@ fn put_statement(rng: &mut Rng, size: usize, ops: &mut Vec<u8>) {
 }
 
 /// `loop` or `for_each`, up to its last argument but one, and what it goes over and its block.
-fn put_loop(rng: &mut Rng, head: &[u8], size: usize, ops: &mut Vec<u8>) {
+fn put_loop(rng: &mut Rng, head: &[u16], size: usize, ops: &mut Vec<u16>) {
     ops.extend(head);
     let (over, body) = split(rng, size - 6);
     put_expression(rng, over, ops);
@@ -156,7 +156,7 @@ fn put_loop(rng: &mut Rng, head: &[u8], size: usize, ops: &mut Vec<u8>) {
     ops.push(5);
 }
 
-fn put_block(rng: &mut Rng, size: usize, ops: &mut Vec<u8>) {
+fn put_block(rng: &mut Rng, size: usize, ops: &mut Vec<u16>) {
     ops.push(0);
     put_script(rng, size.saturating_sub(2), ops);
     ops.push(1);

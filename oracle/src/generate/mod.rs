@@ -2,14 +2,17 @@
 //!
 //! The parts make operator lists: [`alphabets`] every list over a few operators, [`random`] lists
 //! weighted to what goes wrong, [`grammar`] expressions and scripts, [`patterns`] every operator in
-//! a certain place, [`shapes`] flat, deep and ladder lists of a given length. [`case`] dresses one with payloads, spans, a used set, a source
-//! length and a version; [`damage`] spoils the words of a case. [`Mixed`] goes through them all. [`brackets`] makes cases of its own.
+//! a certain place, [`shapes`] flat, deep and ladder lists of a given length. [`case`] dresses one
+//! with payloads, spans, a used set, a source length and a version; [`damage`] spoils the words of a
+//! case. [`Mixed`] goes through them all. [`brackets`] makes cases of its own, and [`hosts`] puts
+//! hosts' own names into mixed ones.
 
 pub mod alphabets;
 pub mod brackets;
 pub mod damage;
 pub mod dress;
 pub mod grammar;
+pub mod hosts;
 pub mod patterns;
 pub mod random;
 pub mod shapes;
@@ -88,7 +91,7 @@ enum Kind {
 }
 
 /// An operator list of one of the kinds, of at most `most` tokens (at least 1).
-pub fn ops(rng: &mut Rng, most: usize) -> Vec<u8> {
+pub fn ops(rng: &mut Rng, most: usize) -> Vec<u16> {
     let kind = KINDS[rng.weighted(&KINDS.map(|(_, weight)| weight))].0;
     let mut len = 1 + rng.below(most);
     loop {
@@ -106,13 +109,13 @@ pub fn ops(rng: &mut Rng, most: usize) -> Vec<u8> {
 }
 
 /// An operator list of this kind, of about `len` tokens.
-fn ops_of(rng: &mut Rng, kind: Kind, len: usize) -> Vec<u8> {
+fn ops_of(rng: &mut Rng, kind: Kind, len: usize) -> Vec<u16> {
     match kind {
         Kind::Alphabet => {
             let alphabet = rng.pick(&alphabets::ALPHABETS);
             let len = rng.below(len.min(9) + 1);
             let drawn = (0..len).map(|_| *rng.pick(alphabet.ops));
-            let mut ops: Vec<u8> = drawn.collect();
+            let mut ops: Vec<u16> = drawn.collect();
             ops.extend(alphabet.ending);
             ops
         }
@@ -128,13 +131,13 @@ fn ops_of(rng: &mut Rng, kind: Kind, len: usize) -> Vec<u8> {
             random::mutated(rng, ops)
         }
         Kind::Shape => rng.pick(&shapes::SHAPES).ops(len),
-        Kind::Anything => (0..len).map(|_| rng.below(111) as u8).collect(),
+        Kind::Anything => (0..len).map(|_| rng.below(111) as u16).collect(),
     }
 }
 
 /// The case of an operator list: mostly plain payloads and spans and an exact used set, now and
 /// then any of the others.
-pub fn case(rng: &mut Rng, ops: &[u8]) -> Case {
+pub fn case(rng: &mut Rng, ops: &[u16]) -> Case {
     let tokens = if rng.chance(70) {
         dress::plain(ops)
     } else {

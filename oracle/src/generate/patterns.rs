@@ -1,10 +1,10 @@
 //! Short lists with every operator in a certain place: before a minus, before a bracket, between
 //! floats. What a reader knows of single operators stands in tables, and these show each entry.
 
-const HOLE: u8 = 255;
+const HOLE: u16 = u16::MAX;
 
 /// Lists with one hole.
-const ONE: [&[u8]; 12] = [
+const ONE: [&[u16]; 12] = [
     &[HOLE],
     &[HOLE, 6, 61],
     &[61, HOLE, 6, 61],
@@ -20,23 +20,23 @@ const ONE: [&[u8]; 12] = [
 ];
 
 /// The operators that stand between operands.
-const BETWEEN: [u8; 19] = [
+const BETWEEN: [u16; 19] = [
     6, 9, 20, 31, 50, 51, 52, 53, 54, 55, 56, 57, 58, 59, 60, 71, 72, 74, 75,
 ];
 
 /// Each list with `op` in its hole.
-pub fn around(op: u8) -> impl Iterator<Item = Vec<u8>> {
+pub fn around(op: u16) -> impl Iterator<Item = Vec<u16>> {
     ONE.iter().map(move |list| filled(list, op))
 }
 
-fn filled(list: &[u8], op: u8) -> Vec<u8> {
-    let fill = |&place: &u8| if place == HOLE { op } else { place };
+fn filled(list: &[u16], op: u16) -> Vec<u16> {
+    let fill = |&place: &u16| if place == HOLE { op } else { place };
     list.iter().map(fill).collect()
 }
 
 /// `a X b Y c` for every two operators that stand between operands, with a semicolon where an
 /// assignment asks for one.
-pub fn pairs() -> impl Iterator<Item = Vec<u8>> {
+pub fn pairs() -> impl Iterator<Item = Vec<u16>> {
     BETWEEN.iter().flat_map(|&first| {
         BETWEEN.iter().map(move |&second| {
             let mut ops = vec![61, first, 61, second, 61];

@@ -38,14 +38,14 @@ const NEXT: [(Next, usize); 13] = [
     (Next::Word, 1),
 ];
 
-pub(super) const ATOMS: [u8; 13] = [61, 61, 61, 61, 61, 43, 43, 44, 42, 46, 47, 62, 76];
-const RARE_ATOMS: [u8; 9] = [48, 49, 63, 64, 65, 66, 69, 70, 77];
-pub(super) const BINARY: [u8; 15] = [9, 31, 20, 50, 51, 52, 53, 54, 55, 56, 57, 58, 75, 71, 9];
-pub(super) const MATHS: [u8; 8] = [8, 10, 36, 30, 39, 78, 109, 110];
-const OPENERS: [u8; 6] = [4, 4, 4, 2, 0, 0];
-const CLOSERS: [u8; 3] = [5, 3, 1];
+pub(super) const ATOMS: [u16; 13] = [61, 61, 61, 61, 61, 43, 43, 44, 42, 46, 47, 62, 76];
+const RARE_ATOMS: [u16; 9] = [48, 49, 63, 64, 65, 66, 69, 70, 77];
+pub(super) const BINARY: [u16; 15] = [9, 31, 20, 50, 51, 52, 53, 54, 55, 56, 57, 58, 75, 71, 9];
+pub(super) const MATHS: [u16; 8] = [8, 10, 36, 30, 39, 78, 109, 110];
+const OPENERS: [u16; 6] = [4, 4, 4, 2, 0, 0];
+const CLOSERS: [u16; 3] = [5, 3, 1];
 
-fn atom(rng: &mut Rng) -> u8 {
+fn atom(rng: &mut Rng) -> u16 {
     if rng.chance(90) {
         *rng.pick(&ATOMS)
     } else {
@@ -55,16 +55,16 @@ fn atom(rng: &mut Rng) -> u8 {
 
 /// A list in the making, and the sections that are open in it.
 struct Open {
-    ops: Vec<u8>,
-    open: Vec<u8>,
+    ops: Vec<u16>,
+    open: Vec<u16>,
 }
 
 impl Open {
-    fn push(&mut self, op: u8) {
+    fn push(&mut self, op: u16) {
         self.ops.push(op);
     }
 
-    fn open(&mut self, opener: u8) {
+    fn open(&mut self, opener: u16) {
         self.open.push(opener);
         self.push(opener);
     }
@@ -110,7 +110,7 @@ impl Open {
     }
 
     /// An operator, mostly with a section opened after it.
-    fn with_section(&mut self, rng: &mut Rng, op: u8, opener: u8) {
+    fn with_section(&mut self, rng: &mut Rng, op: u16, opener: u16) {
         self.push(op);
         if rng.chance(80) {
             self.open(opener);
@@ -119,7 +119,7 @@ impl Open {
 }
 
 /// A list of about `len` operators.
-pub fn weighted(rng: &mut Rng, len: usize) -> Vec<u8> {
+pub fn weighted(rng: &mut Rng, len: usize) -> Vec<u16> {
     let mut weights = NEXT.map(|(_, weight)| weight);
     weights[rng.below(NEXT.len())] *= 8;
     let mut list = Open {
@@ -141,7 +141,7 @@ pub fn weighted(rng: &mut Rng, len: usize) -> Vec<u8> {
 }
 
 /// The list with one to three places changed: an operator lost, repeated, moved, replaced or new.
-pub fn mutated(rng: &mut Rng, mut ops: Vec<u8>) -> Vec<u8> {
+pub fn mutated(rng: &mut Rng, mut ops: Vec<u16>) -> Vec<u16> {
     for _ in 0..1 + rng.below(3) {
         if ops.is_empty() {
             return ops;
@@ -168,13 +168,13 @@ pub fn mutated(rng: &mut Rng, mut ops: Vec<u8>) -> Vec<u8> {
     ops
 }
 
-fn any(rng: &mut Rng) -> u8 {
+fn any(rng: &mut Rng) -> u16 {
     match rng.below(6) {
         0 => *rng.pick(&BINARY),
         1 => *rng.pick(&OPENERS),
         2 => *rng.pick(&CLOSERS),
         3 => *rng.pick(&[6, 7, 59, 60, 72, 73, 74, 45, 41, 40, 67, 36]),
         4 => atom(rng),
-        _ => rng.below(111) as u8,
+        _ => rng.below(111) as u16,
     }
 }

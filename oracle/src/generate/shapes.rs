@@ -3,13 +3,13 @@
 /// A shape that is repeated until the list has its length.
 pub struct Shape {
     pub name: &'static str,
-    before: &'static [u8],
+    before: &'static [u16],
     /// Repeated from the left.
-    step: &'static [u8],
-    middle: &'static [u8],
+    step: &'static [u16],
+    middle: &'static [u16],
     /// Repeated as often as `step`.
-    back: &'static [u8],
-    after: &'static [u8],
+    back: &'static [u16],
+    after: &'static [u16],
     /// What fills the list up to its length.
     filler: Filler,
 }
@@ -22,7 +22,7 @@ enum Filler {
     Semicolons,
 }
 
-type Ops = &'static [u8];
+type Ops = &'static [u16];
 
 /// `step`s, then `middle`: a list that does not nest.
 const fn flat(name: &'static str, step: Ops, middle: Ops) -> Shape {
@@ -116,7 +116,7 @@ pub const SHAPES: [Shape; 34] = [
 
 impl Shape {
     /// The shape's list of `len` operators; a shorter one than its smallest is cut off.
-    pub fn ops(&self, len: usize) -> Vec<u8> {
+    pub fn ops(&self, len: usize) -> Vec<u16> {
         let fixed = self.before.len() + self.middle.len() + self.after.len();
         let times = len.saturating_sub(fixed) / (self.step.len() + self.back.len());
         let shape = [

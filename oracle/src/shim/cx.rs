@@ -155,8 +155,13 @@ fn variant_and_value(payload: &Payload) -> (u8, u32) {
     }
 }
 
+/// The Rust's operator of a number.
+fn operator(number: u16) -> Option<ExpressionOp> {
+    ExpressionOp::from_ordinal(u8::try_from(number).ok()?)
+}
+
 fn leaf(token: &Token) -> Node {
-    let op = ExpressionOp::from_ordinal(token.op).expect("an operator number");
+    let op = operator(token.op).expect("an operator of the Rust's");
     Node::token(op, payload(token), Span::new(token.start, token.end))
 }
 
@@ -168,7 +173,7 @@ fn preorder(root: &Node) -> Vec<RustNode> {
         let (variant, value) = variant_and_value(&node.value);
         nodes.push(RustNode {
             token: Token {
-                op: node.op.ordinal(),
+                op: u16::from(node.op.ordinal()),
                 variant,
                 value,
                 start: node.span.start,
@@ -211,6 +216,6 @@ fn grouped(cx: &mut Cx, case: &Case) -> Option<Node> {
 }
 
 /// Whether the pass of math calls takes this operator.
-pub(crate) fn is_math_call(op: u8) -> bool {
-    ExpressionOp::from_ordinal(op).is_some_and(parse::is_math_call)
+pub(crate) fn is_math_call(op: u16) -> bool {
+    operator(op).is_some_and(parse::is_math_call)
 }

@@ -3,12 +3,13 @@
 use super::Stored;
 use crate::generate::alphabets::ALPHABETS;
 use crate::generate::damage::damaged;
+use crate::generate::hosts::Hosted;
 use crate::generate::shapes::SHAPES;
 use crate::generate::{Mixed, Rng, case, dress, grammar, patterns, random};
 use crate::lines::{findings, lines};
 use crate::nesting::{MOST_NESTING, least_limit};
 use crate::refusal::{Call, Refusal};
-use crate::words::{Case, LAST_OP};
+use crate::words::{Case, FIRST_HOST, LAST_HOST, LAST_OP, TOKEN_WORDS, word};
 
 /// The records that a seed gives.
 pub fn made(seed: u64) -> Vec<Stored> {
@@ -21,6 +22,8 @@ pub fn made(seed: u64) -> Vec<Stored> {
         long(seed),
         Mixed::new(seed, 9).take(12_000).collect(),
         Mixed::new(seed + 1, 24).take(6_000).collect(),
+        single_hosts(),
+        Hosted::new(seed + 3, 16).take(4_000).collect(),
     ];
     let cases = cases.into_iter().flatten().enumerate();
     let answered = cases.map(|(place, case)| Stored::Answered {
@@ -36,7 +39,7 @@ pub fn made(seed: u64) -> Vec<Stored> {
 }
 
 /// The list with usual payloads and spans, its exact used set and its length as source length.
-fn plain(ops: &[u8], version: i16) -> Case {
+fn plain(ops: &[u16], version: i16) -> Case {
     Case::exact(dress::plain(ops), version)
 }
 
@@ -75,6 +78,19 @@ fn single_operators() -> Vec<Case> {
     }
     for ops in patterns::pairs() {
         cases.extend((4..=6).map(|version| plain(&ops, version)));
+    }
+    cases
+}
+
+/// Hosts in the same places: for each operator one whose lower eight bits it is, of all three upper
+/// parts in turn, and the last.
+fn single_hosts() -> Vec<Case> {
+    let mut cases = Vec::new();
+    let hosts = (0..=LAST_OP).map(|op| FIRST_HOST + 256 * (op % 3) + op);
+    for host in hosts.chain([LAST_HOST]) {
+        for (place, ops) in patterns::around(host).enumerate() {
+            cases.push(plain(&ops, 4 + (place + host as usize) as i16 % 3));
+        }
     }
     cases
 }
@@ -123,8 +139,16 @@ fn long(seed: u64) -> Vec<Case> {
     cases
 }
 
-/// The lines of document 01 that are turned back, nesting limits at their ends, and two thousand
-/// damaged calls.
+/// A call of two tokens whose second has these bits in its word of kind 1.
+fn of_operator(bits: u32, number: u32) -> Stored {
+    let mut call = Call::of(&plain(&[61, 61], 6));
+    call.list[TOKEN_WORDS] = word(1, bits);
+    let place = TOKEN_WORDS as u32;
+    Stored::Refused(call, Refusal { number, place })
+}
+
+/// The lines of document 01 that are turned back, operators and nesting limits at their ends, and
+/// two and a half thousand damaged calls.
 fn turned_back(seed: u64) -> Vec<Stored> {
     let two_words = Call {
         list: vec![0; 2],
@@ -144,9 +168,22 @@ fn turned_back(seed: u64) -> Vec<Stored> {
         };
         records.push(Stored::Refused(call, refusal));
     }
+    // Numbers that are none, and 256 and 1,023 with a variant above 12 or a bit from 16 on.
+    for bits in [0x6F, 0xFF, 0x4000, 0x4101, 0xFFFF, 0x1_406F] {
+        records.push(of_operator(bits, 9));
+    }
+    for (bits, number) in [
+        (0x1D00, 10),
+        (0x3FFF, 10),
+        (0x1_1000, 11),
+        (0x1000_3CFF, 11),
+    ] {
+        records.push(of_operator(bits, number));
+    }
     let mut rng = Rng::new(seed);
     let mut too_long = 0;
-    for case in Mixed::new(seed, 12).take(2_000) {
+    let mixed = Mixed::new(seed, 12).take(2_000);
+    for case in mixed.chain(Hosted::new(seed, 12).take(500)) {
         let (call, refusal) = damaged(&mut rng, &case);
         too_long += usize::from(refusal.number == 2);
         // A list of 4,097 tokens is as large as a thousand others.

@@ -5,12 +5,14 @@
 //! but the last. A word of a list is kept as the number `word XOR (kind << 29)`, `kind` being the
 //! one that its field asks for (1 to 5 in turn); a word of a tree likewise (1 to 6 in turn: where a
 //! node closes, its seventh word, is not the Rust's and not kept; `closing` finds it from the list).
+//! Since card 7 the operator's number in a word of kind 1 has twelve bits, so lists and trees may
+//! have hosts' own names; nothing else of the format changed with that.
 //!
 //! A record is
 //!
 //! 1. one byte: the answer in bits 0-1 (0 a tree, 1 messages, 2 turned back), the used set in bits
-//!    4-5 (0 as two numbers, low half first; 1 exact; 2 full), and in bit 6 whether a nesting limit
-//!    is kept (card 8; else it is 4,096);
+//!    4-5 (0 as two numbers, low half first; 1 exact, hosts having no bit; 2 full), and in bit 6
+//!    whether a nesting limit is kept (card 8; else it is 4,096);
 //! 2. the list's length in words, and its words;
 //! 3. the used set, if bits 4-5 are 0;
 //! 4. the source length;

@@ -1,7 +1,7 @@
--- `derived::with_word` meets its contract: a word that is not legal leaves the set as it is. Assumes nothing.
+-- `derived::with_word` meets its contract: a word that is not legal and one of a host leave the set as it is. Assumes nothing.
 use Prim.Native.Nat.{ℕ}
 use mathlib.Core.Path.{_≡_, sym, ap, _∙_}
-use mathlib.Core.Bool.{Bool, _||_, or-false}
+use mathlib.Core.Bool.{Bool, false, _||_, or-false}
 use mathlib.Core.Option.{none}
 use borrow.Author.Needs.{needs}
 use lib.Dec.{eqb}
@@ -9,7 +9,7 @@ use Rattle.molang.specs.Parse.{inHalves}
 use Rattle.molang.specs.Words.{operatorField, wordFault}
 use Rattle.words.specs.Checks.{numberOf}
 use Rattle.words.specs.Fields.{operatorOf}
-use Rattle.derived.proofs.WordLaws.{names-bad, names-legal, operator-most}
+use Rattle.derived.proofs.WordLaws.{names-bad, names-low, names-host}
 use Rattle.derived.proofs.with_word.Statement.{statement}
 use Rattle.derived.proofs.with_word.Tie as tie
 
@@ -19,12 +19,15 @@ operator-word-requires c κs = search needs
 enum-told : tie.Need-enum-told
 enum-told c = search needs
 
+-- A word that names nothing leaves the set as it is.
+unchanged : (used named : Bool) → named ≡ false → used ≡ (used || named)
+unchanged used named e = sym (ap (λ (b : Bool). used || b) e ∙ or-false used)
+
 returns : tie.Need-returns
 returns c n =
     let a = c .before .before .args in
     let word = c .before .operator-word in
-    let used = inHalves (a .used .low) (a .used .high) n in
-    sym (ap (λ (b : Bool). used || b) (names-bad (word .result) (c .match .keys2) (a .w) n (word .ensures)) ∙ or-false used)
+    unchanged _ _ (names-bad (word .result) (c .match .keys2) (a .w) n (word .ensures))
 
 operator-requires : tie.Need-operator-requires
 operator-requires c κs = search needs
@@ -33,19 +36,24 @@ operator-requires c κs = search needs
 legal : (c : tie.After-enum-told) → wordFault operatorField 0 (c .before .before .before .args .w) ≡ none
 legal c = sym (sym (ap numberOf (c .enum-told .given .1)) ∙ c .before .before .operator-word .ensures)
 
-with-requires : tie.Need-with-requires
-unfolding operatorOf
-with-requires c κs =
-    let w = c .before .before .before .before .args .w in
-    rw (c .operator .ensures) (operator-most w (legal (c .before)))
-
 returns-2 : tie.Need-returns-2
 unfolding operatorOf
 returns-2 c n =
-    let a = c .before .before .before .before .before .args in
+    let told = c .before .before in
+    unchanged _ _ (names-host (told .before .before .before .args .w) n (legal told) (rw (c .before .operator .ensures) at (c .if1 .taken)))
+
+with-requires : tie.Need-with-requires
+with-requires c κs = c .if1 .left
+
+returns-3 : tie.Need-returns-3
+unfolding operatorOf
+returns-3 c n =
+    let numbered = c .before .before in
+    let a = numbered .before .before .before .before .args in
     c .with .ensures n
     ∙ ap (λ (b : Bool). inHalves (a .used .low) (a .used .high) n || b)
-    (ap (λ (op : ℕ). eqb op n) (c .before .operator .ensures) ∙ sym (names-legal (a .w) n (legal (c .before .before))))
+    (ap (λ (op : ℕ). eqb op n) (numbered .operator .ensures)
+    ∙ sym (names-low (a .w) n (legal (numbered .before)) (rw (numbered .operator .ensures) at (c .before .if1 .left))))
 
 pub with-word-spec : {M : Type 1} → statement M
-with-word-spec = tie.close (tie.spec operator-word-requires enum-told returns operator-requires with-requires returns-2)
+with-word-spec = tie.close (tie.spec operator-word-requires enum-told returns operator-requires returns-2 with-requires returns-3)

@@ -368,7 +368,8 @@ module _ (σ : ℕ → Bool) (w : Unpaired σ) where
       (operand-only (isOperand s) (isJoinedBy aComma s) (is aComma r) f l) in
       let operand : is aQuestion r ≡ false → isOperand t ≡ true =
       λ q. operand-only (isOperand t) (isJoinedBy aColon t) (is aQuestion r) q m in
-      let c = carry-amid (σ (k .op)) k (form σ x) (mid x) (form σ' x) (form σ y) (mid y) (form σ' y) (i .carried) left (turned-form σ' x) (n .carried)
+      let c = carry-amid (σ (k .op)) k (form σ x) (mid x) (form σ' x) (form σ y) (mid y) (form σ' y) (i .carried) left (turned-form σ' x)
+      (n .carried)
       (λ h. n .calm (operand-calm t (operand (folded-other (k .op) r e h)))) in
       let calm : isOther r ≡ true → Calm (amid (σ (k .op)) k (mid x) (mid y)) (amid (σ' (k .op)) k (form σ' x) (form σ' y)) = λ h.
       calm-amid (σ (k .op)) (conditionals (k .op)) k (mid x) (form σ' x) (mid y) (form σ' y) (unconditional (k .op) r e h)
@@ -392,7 +393,9 @@ module _ (σ : ℕ → Bool) (w : Unpaired σ) where
             (ap σ o ∙ w .question)
             (conditional-op (k .op) Operator.conditional o refl) (ap (λ (n : ℕ). eqb n Operator.conditional) o) c left
             (solid (ap (is aComma) (sym (is-same aQuestion r q))))
-            (n .right (rw (and-true (isJoinedBy aColon t)) at (excepted (isOperand t) (isJoinedBy aColon t) (is aQuestion r) true m (λ h. refl)))))
+            (n .right
+            (rw (and-true (isJoinedBy aColon t)) at
+            (excepted (isOperand t) (isJoinedBy aColon t) (is aQuestion r) true m (λ h. refl)))))
             (λ q. let d = calm (rw (q, not-true (is aColon r) h) refl) in
             finish-calm (amid (σ (k .op)) k (form σ x) (form σ y)) (amid (σ (k .op)) k (mid x) (mid y))
             (amid (σ' (k .op)) k (form σ' x) (form σ' y) nil) c (d .stays nil) (d .free nil ∙ none-left));

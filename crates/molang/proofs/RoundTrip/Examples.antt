@@ -1,16 +1,17 @@
 -- Computed examples. That demand 3 is not empty: a list with three different trees at 4, 5 and 6, each of which is plain and, once written,
 -- is read alike at all three. And what demand 3 alone would not notice, since it would change both of its sides: how a tree is written, and
 -- which brackets are taken away.
-use Prim.Native.Nat.{ℕ, _+_}
+use Prim.Native.Nat.{ℕ, _+_, _*_, _^_}
 use mathlib.Core.Path.{_≡_, refl, ap}
 use mathlib.Core.List.{List, [], _∷_}
 use mathlib.Core.Bool.{false}
-use mathlib.Core.Option.{Option, none}
+use mathlib.Core.Option.{Option, none, some}
 use native.Mathlib.Omega.{arith}
 use lib.IntN.{pos}
 use Rattle.molang.specs.Operator
 use Rattle.molang.specs.Forest.{Token, Forest, nil, node}
-use Rattle.molang.specs.Read.{Answer, tree, messages, read, uses}
+use Rattle.molang.specs.Read.{Answer, tree, messages, read, uses, setNumber}
+use Rattle.molang.specs.Words.{word, operatorField, wordFault}
 use Rattle.molang.specs.Plain.{unplainAt}
 use Rattle.molang.specs.Write.{written, writtenTree, takenAway, comparable}
 use Rattle.molang.proofs.Computed.{computed}
@@ -93,7 +94,8 @@ again i cs version = read (written (at Operator.conditional i) cs []) (uses (wri
 -- An added bracket over one tree, from its lowest start to its highest end.
 abbrev inPair : ℕ → ℕ → (Forest → Forest) → Forest → Forest
 inPair lowest highest inside rest =
-    node (record { op = Operator.leftParenthesis; variant = 0; value = 0; start = lowest; end = highest; close = highest }) (inside nil) rest
+    node (record { op = Operator.leftParenthesis; variant = 0; value = 0; start = lowest; end = highest; close = highest })
+    (inside nil) rest
 
 abbrev orInPair : Forest → Forest
 orInPair rest = inPair 0 5 (over Operator.logicalAnd 1 (leaf 0 (inPair 2 5 (over Operator.logicalOr 3 (leaf 2 (leaf 4 nil))) nil))) rest
@@ -121,7 +123,8 @@ thrice a more = a ∷ a ∷ a ∷ more
 
 read-alike : readings
     ≡ thrice (tree (at Operator.conditional 9) firstInPair)
-    (thrice (tree (at Operator.conditional 5) (secondInPair orInPair)) (thrice (tree (at Operator.conditional 5) (secondInPair andInPair)) []))
+    (thrice (tree (at Operator.conditional 5) (secondInPair orInPair))
+    (thrice (tree (at Operator.conditional 5) (secondInPair andInPair)) []))
 unfolding computed readings
 read-alike = refl
 
@@ -265,3 +268,65 @@ script-written = refl
 script-plain : unplainAt (at Operator.semicolon 7) script ≡ none
 unfolding computed
 script-plain = refl
+
+-- Hosts. `300 + this` and `query(1023, 256)` are plain, are written with their numbers, and are read back as they were at 4, 5 and 6; a
+-- host over something is not plain.
+abbrev hosts : Forest
+hosts = node (at 300 0) nil (node (at Operator.this 2) nil nil)
+
+abbrev hostCall : Forest
+hostCall = bracket 1 (over Operator.comma 3 (node (at 1023 2) nil (node (at 256 4) nil nil)) nil) nil
+
+hostsPlain : List (Option ℕ)
+hostsPlain = unplainAt (at Operator.add 1) hosts ∷ unplainAt (at Operator.queryFunction 0) hostCall ∷ unplainAt (at 300 1) (a nil) ∷ []
+
+hosts-plain : hostsPlain ≡ none ∷ none ∷ some 0 ∷ []
+unfolding computed hostsPlain
+hosts-plain = refl
+
+hostWritings : List (List ℕ)
+hostWritings = writes Operator.add hosts ∷ operators (written (at Operator.queryFunction 0) hostCall []) ∷ []
+
+hosts-written : hostWritings ≡
+    (300 ∷ Operator.add ∷ Operator.this ∷ [])
+    ∷ (Operator.queryFunction ∷ opener ∷ 1023 ∷ Operator.comma ∷ 256 ∷ closer ∷ [])
+    ∷ []
+unfolding computed hostWritings operators
+hosts-written = refl
+
+abbrev backAt : Token → Forest → ℕ → Answer
+backAt k cs version = let ks = writtenTree k cs in read ks (uses ks) (pos version) 5
+
+hostReadings : List Answer
+hostReadings =
+    backAt (at Operator.add 1) hosts 4 ∷ backAt (at Operator.add 1) hosts 5 ∷ backAt (at Operator.add 1) hosts 6
+    ∷ backAt (at Operator.queryFunction 0) hostCall 4 ∷ backAt (at Operator.queryFunction 0) hostCall 5
+    ∷ backAt (at Operator.queryFunction 0) hostCall 6 ∷ []
+
+hosts-alike : hostReadings ≡ thrice (tree (at Operator.add 1) hosts) (thrice (tree (at Operator.queryFunction 0) hostCall) [])
+unfolding computed hostReadings
+hosts-alike = refl
+
+-- The used sets of their second readings have no bit for a host: 9 and 76; 4, 5, 40 and 75.
+hostSets : List ℕ
+hostSets =
+    setNumber (uses (writtenTree (at Operator.add 1) hosts)) 111
+    ∷ setNumber (uses (writtenTree (at Operator.queryFunction 0) hostCall)) 111
+    ∷ []
+
+hosts-unused : hostSets ≡ (2 ^ 9 + 2 ^ 76) ∷ (2 ^ 4 + 2 ^ 5 + 2 ^ 40 + 2 ^ 75) ∷ []
+unfolding computed hostSets
+hosts-unused = refl
+
+-- Answer 9 is for every other number: 110, 256 and 1,023 are legal, 111, 255, 1,024 and 4,095 are not.
+abbrev fault : ℕ → Option ℕ
+fault low = wordFault operatorField 0 (word 1 low)
+
+hostFaults : List (Option ℕ)
+hostFaults =
+    fault 110 ∷ fault (2 ^ 12) ∷ fault (3 * 2 ^ 12 + 255)
+    ∷ fault 111 ∷ fault 255 ∷ fault (4 * 2 ^ 12) ∷ fault (15 * 2 ^ 12 + 255) ∷ []
+
+host-faults : hostFaults ≡ none ∷ none ∷ none ∷ some 9 ∷ some 9 ∷ some 9 ∷ some 9 ∷ []
+unfolding computed hostFaults
+host-faults = refl

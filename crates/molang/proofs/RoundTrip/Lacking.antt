@@ -2,8 +2,9 @@
 -- list has no leaf of it, its tokens do not use it, and it does not matter whether it is folded.
 use Prim.Native.Nat.{ℕ}
 use mathlib.Core.Path.{_≡_, refl, ap, sym, _∙_, fun-ext}
-use mathlib.Core.Bool.{Bool, true, false, _||_, _&&_, not, true≢false, false≢true, and-eq-true-iff, or-false}
+use mathlib.Core.Bool.{Bool, true, false, _||_, _&&_, not, true≢false, false≢true, and-eq-true-iff, or-false, and-false}
 use mathlib.Core.List.{List, [], _∷_}
+use lib.Dec.{leb}
 use borrow.Author.Tests.{not-true, eq-eqb, ne-eqb}
 use Rattle.molang.specs.Operator
 use Rattle.molang.specs.Forest.{Token, Forest, nil, node}
@@ -155,7 +156,10 @@ module _ (n : ℕ) (q : Role) (named : role n ≡ q) where
   unused : (k : Token) (r : Role) (ks : List Token) → role (k .op) ≡ r → is q r ≡ false → uses (k ∷ ks) n ≡ uses ks n
   unfolding uses
   unused k r ks e h =
-      rw (ne-eqb (k .op) n (λ p. true≢false (sym (eq-eqb (q .code) (q .code) refl) ∙ ap (is q) (sym named ∙ ap role (sym p) ∙ e) ∙ h))) refl
+      rw (
+        ne-eqb (k .op) n (λ p. true≢false (sym (eq-eqb (q .code) (q .code) refl) ∙ ap (is q) (sym named ∙ ap role (sym p) ∙ e) ∙ h)),
+        and-false (leb n Operator.hostMathVolatile),
+      ) refl
 
   pub lacks-uses : is q aBracket ≡ false → is q aCloser ≡ false → {s : Sort} (e : Exp s) → Lacks q e → (r : List Token)
       → uses (tokens e r) n ≡ uses r n

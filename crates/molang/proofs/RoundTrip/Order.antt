@@ -1,16 +1,16 @@
 -- All passes in their order, gated by a used set: each pass takes an expression's list on, whatever else the set has; and an expression's
 -- tokens, gated by their own operators, are read to its tree, under every order that a version can ask for. A pass says which operators it
 -- folds and when it can come; that each order is in order is computed.
-use Prim.Native.Nat.{ℕ, _<_}
+use Prim.Native.Nat.{ℕ, _<_, _≤_}
 use mathlib.Core.Path.{_≡_, refl, ap, sym, _∙_, fun-ext}
-use mathlib.Core.Bool.{Bool, true, false, _||_, _&&_, not, true≢false, false≢true, and-eq-true-iff, or-false}
+use mathlib.Core.Bool.{Bool, true, false, _||_, _&&_, not, true≢false, false≢true, and-eq-true-iff, or-false, and-false}
 use mathlib.Core.List.{List, [], _∷_}
 use native.Mathlib.Omega.{arith}
 use lib.Dec.{eqb, leb}
 use lib.ListN.{drop}
-use borrow.Author.Tests.{eqb-true, eq-eqb, ne-eqb, leb-true, leb-false, not-true, not-false}
+use borrow.Author.Tests.{eqb-true, eq-eqb, ne-eqb, leb-true, le-leb, leb-false, not-true, not-false}
 use Rattle.molang.specs.Operator
-use Rattle.molang.specs.Operator.{any, isOneOf, isBracket, isMathCall}
+use Rattle.molang.specs.Operator.{any, isOneOf, isBracket, isMathCall, isHost}
 use Rattle.molang.specs.Forest.{Token, Forest, nil, node, leaves}
 use Rattle.molang.specs.Message.{ok}
 use Rattle.molang.specs.Level.{walk, through, gathered}
@@ -22,10 +22,13 @@ use Rattle.molang.specs.Unary.{returnLevel}
 use Rattle.molang.specs.Order.{Rules, Pass, lastToken, memberAccessors, sectioning, callPass, statements, arrays, pointer, mathCalls}
 use Rattle.molang.specs.Order.{unaryMinusAndNot, addition, conditional, returns, binary, order, someBelow, runs, apply}
 use Rattle.molang.specs.Read.{rooted, grouped, uses}
+use Rattle.molang.proofs.Trees.{and-true-true}
 use Rattle.molang.proofs.Booleans.{either, never, or-first, or-second, or-neither, or-only-first}
 use Rattle.molang.proofs.Computed.{computed}
 use Rattle.molang.proofs.RoundTrip.Role.{Role, aQuery, aMathCall, aBracket, aCloser, aMinus, aNot, aLoop, another, aSemicolon}
-use Rattle.molang.proofs.RoundTrip.Role.{anAssignment, is, is-same, isUnwritten, isAmong, among, role, closer-role, role-above}
+use Rattle.molang.proofs.RoundTrip.Role.{anAssignment, is, is-same, isUnwritten, isIdle, idle-above, isAmong, allOf, among, role}
+use Rattle.molang.proofs.RoundTrip.Role.{closer-role, aLeaf}
+use Rattle.molang.proofs.RoundTrip.Role.{role-above, no-math as no-math-above}
 use Rattle.molang.proofs.RoundTrip.Role.{none-below, role-bracket, role-query, role-math, role-prefix}
 use Rattle.molang.proofs.RoundTrip.Expression.{Sort, Exp, empty, leaf, bracket, before, between, isWhole, leafRoles, prefixRoles}
 use Rattle.molang.proofs.RoundTrip.Expression.{joiningRoles, isPrefix, isJoining, tokens, ahead, amid, form, also}
@@ -53,16 +56,16 @@ folds conditional n = conditionals n
 folds returns n = returning n
 folds (binary ops) n = isOneOf ops n
 
--- Every operator that plays a role passes the test.
+-- Every operator that is more than a leaf passes the test.
 below : (ℕ → Bool) → Bool
 below test = not (someBelow 111 (λ n. not (test n)))
 
-plays-below : (n : ℕ) → is another (role n) ≡ false → n < 111
+plays-below : (n : ℕ) → isIdle (role n) ≡ false → n < 111
 plays-below n h =
     either (leb n 110) (λ e. let l = leb-true n 110 e in omega arith)
-    (λ e. absurd (true≢false (sym (ap (is another) (role-above n (leb-false n 110 e))) ∙ h)))
+    (λ e. absurd (true≢false (sym (ap isIdle (role-above n (leb-false n 110 e)) ∙ idle-above (isHost n)) ∙ h)))
 
-below-all : (test : ℕ → Bool) → below test ≡ true → (n : ℕ) → is another (role n) ≡ false → test n ≡ true
+below-all : (test : ℕ → Bool) → below test ≡ true → (n : ℕ) → isIdle (role n) ≡ false → test n ≡ true
 unfolding below
 below-all test h n p =
     not-false (test n) (none-below 111 (λ n. not (test n)) (not-true (someBelow 111 (λ n. not (test n))) h) n (plays-below n p))
@@ -159,16 +162,22 @@ Within u (bracket k _ _ x) = (u (k .op) ≡ true) × Within u x
 Within u (before k _ _ _ _ x) = (u (k .op) ≡ true) × Within u x
 Within u (between k _ _ _ _ _ x y) = (u (k .op) ≡ true) × Within u x × Within u y
 
+role-low : (n : ℕ) (r : Role) → role n ≡ r → not (isIdle r) ≡ true → n ≤ 110
+role-low n r e h = let l = plays-below n (ap isIdle e ∙ not-true (isIdle r) h) in omega arith
+
 abbrev pub Uses : (ℕ → Bool) → List Token → Type 0
 Uses u ks = (n : ℕ) → uses ks n ≡ true → u n ≡ true
 
-pub uses-first : (u : ℕ → Bool) (k : Token) (ks : List Token) → Uses u (k ∷ ks) → u (k .op) ≡ true
+pub uses-first : (u : ℕ → Bool) (k : Token) (ks : List Token) → k .op ≤ 110 → Uses u (k ∷ ks) → u (k .op) ≡ true
 unfolding uses
-uses-first u k ks h = h (k .op) (or-first (eqb (k .op) (k .op)) (uses ks (k .op)) (eq-eqb (k .op) (k .op) refl))
+uses-first u k ks low h =
+    h (k .op)
+    (or-first (leb (k .op) Operator.hostMathVolatile && eqb (k .op) (k .op)) (uses ks (k .op))
+    (and-true-true _ _ (le-leb (k .op) Operator.hostMathVolatile low) (eq-eqb (k .op) (k .op) refl)))
 
 pub uses-rest : (u : ℕ → Bool) (k : Token) (ks : List Token) → Uses u (k ∷ ks) → Uses u ks
 unfolding uses
-uses-rest u k ks h n t = h n (or-second (eqb (k .op) n) (uses ks n) t)
+uses-rest u k ks h n t = h n (or-second (leb n Operator.hostMathVolatile && eqb (k .op) n) (uses ks n) t)
 
 pub within : (u : ℕ → Bool) {s : Sort} (e : Exp s) (r : List Token) → Uses u (tokens e r) → Within u e × Uses u r
 unfolding tokens
@@ -176,18 +185,24 @@ within u empty r h = (tt, h)
 within u (leaf k _ _ _) r h = (tt, uses-rest u k r h)
 within u (bracket k e _ x) r h =
     let i = within u x (e .closer ∷ r) (uses-rest u (e .opener) _ h) in
-    ((ap u (sym (e .opens)) ∙ uses-first u (e .opener) _ h, i .0), uses-rest u (e .closer) r (i .1))
-within u (before k _ _ _ _ x) r h = let i = within u x r (uses-rest u k _ h) in ((uses-first u k _ h, i .0), i .1)
-within u (between k _ _ _ _ _ x y) r h =
-    let i = within u x (k ∷ tokens y r) h in let j = within u y r (uses-rest u k _ (i .1)) in ((uses-first u k _ (i .1), i .0, j .0), j .1)
+    let low = role-low (e .opener .op) aBracket (ap role (e .opens) ∙ e .brackets) refl in
+    ((ap u (sym (e .opens)) ∙ uses-first u (e .opener) _ low h, i .0), uses-rest u (e .closer) r (i .1))
+within u (before k q e p _ x) r h =
+    let i = within u x r (uses-rest u k _ h) in
+    ((uses-first u k _ (role-low (k .op) q e (among prefixRoles (λ r. not (isIdle r)) refl q p)) h, i .0), i .1)
+within u (between k q e p _ _ x y) r h =
+    let i = within u x (k ∷ tokens y r) h in
+    let j = within u y r (uses-rest u k _ (i .1)) in
+    ((uses-first u k _ (role-low (k .op) q e (among joiningRoles (λ r. not (isIdle r)) refl q p)) (i .1), i .0, j .0), j .1)
 
 -- A token of an expression is not foreign.
 pub skip : (n : ℕ) (k : Token) (r : Role) (ks : List Token) → isUnwritten (role n) ≡ true → role (k .op) ≡ r → not (isUnwritten r) ≡ true
     → uses (k ∷ ks) n ≡ uses ks n
 unfolding uses
 skip n k r ks h e q =
-    rw (ne-eqb (k .op) n (λ p. true≢false (sym h ∙ ap (λ (n : ℕ). isUnwritten (role n)) (sym p) ∙ ap isUnwritten e ∙ not-true
-    (isUnwritten r) q))) refl
+    let apart : k .op ≡ n
+    → ⊥ = λ p. true≢false (sym h ∙ ap (λ (n : ℕ). isUnwritten (role n)) (sym p) ∙ ap isUnwritten e ∙ not-true (isUnwritten r) q) in
+    rw (ne-eqb (k .op) n apart, and-false (leb n Operator.hostMathVolatile)) refl
 
 pub foreign : (n : ℕ) → isUnwritten (role n) ≡ true → {s : Sort} (e : Exp s) (r : List Token) → uses (tokens e r) n ≡ uses r n
 unfolding tokens
@@ -260,11 +275,14 @@ any-foreign u f (o ∷ os) h =
 pub any-on : (u : ℕ → Bool) (ops : List ℕ) (o : ℕ) → u o ≡ true → isOneOf ops o ≡ true → any u ops ≡ true
 any-on u ops o t m = either (any u ops) (λ h. h) (λ h. absurd (true≢false (sym m ∙ any-off u ops h o t)))
 
--- An operator that a test tells by its role plays one.
-plays-told : (test : ℕ → Bool) (told : Role → Bool) → ((n : ℕ) → test n ≡ told (role n)) → told another ≡ false → (n : ℕ) → test n ≡ true
-    → is another (role n) ≡ false
+-- An operator that a test tells by its role is more than a leaf.
+plays-told : (test : ℕ → Bool) (told : Role → Bool) → ((n : ℕ) → test n ≡ told (role n))
+    → allOf (λ r. not (told r)) (aLeaf ∷ another ∷ []) ≡ true
+    → (n : ℕ) → test n ≡ true
+    → isIdle (role n) ≡ false
 plays-told test told law o n h =
-    never (is another (role n)) (λ p. true≢false (sym h ∙ law n ∙ ap told (sym (is-same another (role n) p)) ∙ o))
+    never (isIdle (role n))
+    (λ p. true≢false (sym h ∙ law n ∙ not-true (told (role n)) (among (aLeaf ∷ another ∷ []) (λ r. not (told r)) o (role n) p)))
 
 pub final : (c a p : Bool) (n : ℕ) (r : Role) → role n ≡ r → (isPrefix r || isJoining r) ≡ true
     → afterAll called (laterPasses (ruled c a p)) n ≡ true
@@ -297,16 +315,16 @@ flat-binary σ ops h =
     }
 
 -- What is told of every operator, of those that a test finds.
-not-yet : (σ test : ℕ → Bool) → below (λ n. not (σ n) || not (test n)) ≡ true → (n : ℕ) → is another (role n) ≡ false → test n ≡ true
+not-yet : (σ test : ℕ → Bool) → below (λ n. not (σ n) || not (test n)) ≡ true → (n : ℕ) → isIdle (role n) ≡ false → test n ≡ true
     → σ n ≡ false
 not-yet σ test h n p t =
     not-true (σ n) (or-only-first (not (σ n)) (not (test n)) (ap not t) (below-all (λ n. not (σ n) || not (test n)) h n p))
 
-plays-call : (kind : CallKind) (n : ℕ) → calls kind n ≡ true → is another (role n) ≡ false
+plays-call : (kind : CallKind) (n : ℕ) → calls kind n ≡ true → isIdle (role n) ≡ false
 plays-call queryOrLoop = plays-told (calls queryOrLoop) (isAmong (aQuery ∷ aLoop ∷ [])) role-query refl
 plays-call math = plays-told (calls math) (is aMathCall) role-math refl
 
-plays-prefix : (n : ℕ) → prefixes n ≡ true → is another (role n) ≡ false
+plays-prefix : (n : ℕ) → prefixes n ≡ true → isIdle (role n) ≡ false
 plays-prefix = plays-told prefixes (isAmong (aMinus ∷ aNot ∷ [])) role-prefix refl
 
 uncalled : (σ : ℕ → Bool) (kind : CallKind) → below (λ n. not (σ n) || not (calls kind n || isJoining (role n))) ≡ true → Uncalled σ kind
@@ -341,12 +359,6 @@ isLifted (binary ops) = true
 
 -- u is the used set, which has no operator that no writing has.
 module _ (u : ℕ → Bool) (unknown : (n : ℕ) → isUnwritten (role n) ≡ true → u n ≡ false) where
-  plays : (n : ℕ) → u n ≡ true → is another (role n) ≡ false
-  plays n t =
-      never (is another (role n))
-      (λ h. true≢false (sym t
-      ∙ unknown n (or-second (is aLoop (role n)) (is another (role n) || false) (or-first (is another (role n)) false h))))
-
   no-query : runs u callPass ≡ false → (n : ℕ) → u n ≡ true → calls queryOrLoop n ≡ false
   unfolding computed role
   no-query h n t =
@@ -357,7 +369,10 @@ module _ (u : ℕ → Bool) (unknown : (n : ℕ) → isUnwritten (role n) ≡ tr
 
   no-math : runs u mathCalls ≡ false → (n : ℕ) → u n ≡ true → calls math n ≡ false
   unfolding runs calls
-  no-math h n t = rw t at (none-below 111 (λ n. u n && isMathCall n) h n (plays-below n (plays n t)))
+  no-math h n t =
+      either (leb n 110)
+      (λ e. rw t at (none-below 111 (λ n. u n && isMathCall n) h n (let l = leb-true n 110 e in omega arith)))
+      (λ e. no-math-above n (leb-false n 110 e))
 
   -- A pass that is left out folds nothing that the expression has.
   pub left-out : (p : Pass) → runs u p ≡ false → (n : ℕ) → u n ≡ true → folds p n ≡ false

@@ -9,11 +9,11 @@ use native.Mathlib.Omega.{arith}
 use lib.Dec.{eqb, leb, lit<}
 use borrow.Author.Tests.{eqb-true, eqb-false, ne-eqb, lt-leb, leb-true, leb-false, not-true}
 use Rattle.molang.specs.Operator
-use Rattle.molang.specs.Operator.{isOneOf, between, isMathCall, isBracket, isQueryOrLoop, closingOf, isCloser}
+use Rattle.molang.specs.Operator.{any, isOneOf, between, isMathCall, isHost, isBracket, isQueryOrLoop, closingOf, isCloser}
 use Rattle.molang.specs.Calls.{queryOrLoop, math, calls}
 use Rattle.molang.specs.Order.{someBelow}
 use Rattle.molang.specs.Plain.{isPlainLeaf, isPlainBinary, isCall}
-use Rattle.molang.proofs.Booleans.{either, or-neither}
+use Rattle.molang.proofs.Booleans.{either, or-neither, or-second}
 use Rattle.molang.proofs.Computed.{computed}
 
 pub record Role : Type 0 where
@@ -90,14 +90,14 @@ among (a ∷ rs) f h r m =
     let later : isAmong rs r ≡ true → f r ≡ true = among rs f (parts .1) r in
     either (is a r) (λ e. ap f (sym (is-same a r e)) ∙ parts .0) (λ e. later (rw e at m))
 
-orElse : Bool → Role → Role → Role
+unfoldable pub orElse : Bool → Role → Role → Role
 orElse true a b = a
 orElse false a b = b
 
 unfoldable pub role : ℕ → Role
 unfolding orElse
 role n =
-    orElse (not (leb n 110)) another
+    orElse (not (leb n 110)) (orElse (isHost n) aLeaf another)
     (orElse (isBracket n) aBracket
     (orElse (eqb n Operator.rightParenthesis) aCloser
     (orElse (eqb n Operator.negate) aMinus
@@ -129,21 +129,32 @@ beq-eq true false h = absurd (true≢false h)
 beq-eq false true h = absurd (true≢false h)
 beq-eq false false h = refl
 
--- The numbers above 110 play no role.
-pub role-above : (n : ℕ) → 110 < n → role n ≡ another
+-- Of the numbers above 110 the hosts' are leaves, and the others play no role.
+pub role-above : (n : ℕ) → 110 < n → role n ≡ orElse (isHost n) aLeaf another
 unfolding role orElse
 role-above n l = rw (lt-leb n 110 l) refl
 
--- A test is told by the role: computed for the 111 numbers, and false of all others.
-by-role : (test : ℕ → Bool) (told : Role → Bool) → someBelow 111 (λ n. not (Bool·beq (test n) (told (role n)))) ≡ false
-    → ((n : ℕ) → 110 < n → test n ≡ told another) → (n : ℕ) → test n ≡ told (role n)
-by-role test told computed-below above n =
+-- A test is told by the role: computed for the 111 numbers, and shown of all others.
+by-all-roles : (test : ℕ → Bool) (told : Role → Bool) → someBelow 111 (λ n. not (Bool·beq (test n) (told (role n)))) ≡ false
+    → ((n : ℕ) → 110 < n → test n ≡ told (orElse (isHost n) aLeaf another)) → (n : ℕ) → test n ≡ told (role n)
+by-all-roles test told computed-below above n =
     either (leb n 110)
     (λ e. beq-eq (test n) (told (role n))
     (none-below 111 (λ n. not (Bool·beq (test n) (told (role n)))) computed-below n (let l = leb-true n 110 e in omega arith)))
     (λ e. let l = leb-false n 110 e in above n l ∙ ap told (sym (role-above n l)))
 
-not-one : (o : ℕ) → o < 111 → (n : ℕ) → 110 < n → eqb n o ≡ false
+-- A test that is the same of every other number, and tells no leaf from what plays no role.
+by-role : (test : ℕ → Bool) (told : Role → Bool) → someBelow 111 (λ n. not (Bool·beq (test n) (told (role n)))) ≡ false
+    → told aLeaf ≡ told another → ((n : ℕ) → 110 < n → test n ≡ told another) → (n : ℕ) → test n ≡ told (role n)
+by-role test told computed-below same above =
+    by-all-roles test told computed-below (λ n l. above n l ∙ of-all (isHost n))
+  where
+    of-all : (b : Bool) → told another ≡ told (orElse b aLeaf another)
+    of-all true = unfold orElse in sym same
+    of-all false = unfold orElse in refl
+
+-- No number above 110 is one of the operators.
+pub not-one : (o : ℕ) → o < 111 → (n : ℕ) → 110 < n → eqb n o ≡ false
 not-one o small n l = ne-eqb n o (λ q. omega arith)
 
 not-between : (a b : ℕ) → b < 111 → (n : ℕ) → 110 < n → between a b n ≡ false
@@ -152,44 +163,44 @@ not-between a b small n l = rw (lt-leb n b (omega arith)) (and-false (leb a n))
 
 pub role-bracket : (n : ℕ) → isBracket n ≡ is aBracket (role n)
 unfolding computed role
-role-bracket = by-role isBracket (is aBracket) refl (not-one 4 (lit< tt))
+role-bracket = by-role isBracket (is aBracket) refl refl (not-one 4 (lit< tt))
 
 pub role-prefix : (n : ℕ) → isOneOf (Operator.negate ∷ Operator.logicalNot ∷ []) n ≡ isAmong (aMinus ∷ aNot ∷ []) (role n)
 unfolding computed role
 role-prefix =
-    by-role (isOneOf (Operator.negate ∷ Operator.logicalNot ∷ [])) (isAmong (aMinus ∷ aNot ∷ [])) refl
+    by-role (isOneOf (Operator.negate ∷ Operator.logicalNot ∷ [])) (isAmong (aMinus ∷ aNot ∷ [])) refl refl
     (λ n l. rw (not-one 6 (lit< tt) n l, not-one 7 (lit< tt) n l) refl)
 
 pub role-conditional : (n : ℕ)
     → isOneOf (Operator.conditional ∷ Operator.conditionalElse ∷ []) n ≡ isAmong (aQuestion ∷ aColon ∷ []) (role n)
 unfolding computed role
 role-conditional =
-    by-role (isOneOf (Operator.conditional ∷ Operator.conditionalElse ∷ [])) (isAmong (aQuestion ∷ aColon ∷ [])) refl
+    by-role (isOneOf (Operator.conditional ∷ Operator.conditionalElse ∷ [])) (isAmong (aQuestion ∷ aColon ∷ [])) refl refl
     (λ n l. rw (not-one 59 (lit< tt) n l, not-one 60 (lit< tt) n l) refl)
 
 pub role-comma : (n : ℕ) → eqb n Operator.comma ≡ is aComma (role n)
 unfolding computed role
-role-comma = by-role (λ n. eqb n Operator.comma) (is aComma) refl (not-one 75 (lit< tt))
+role-comma = by-role (λ n. eqb n Operator.comma) (is aComma) refl refl (not-one 75 (lit< tt))
 
 pub role-question : (n : ℕ) → eqb n Operator.conditional ≡ is aQuestion (role n)
 unfolding computed role
-role-question = by-role (λ n. eqb n Operator.conditional) (is aQuestion) refl (not-one 59 (lit< tt))
+role-question = by-role (λ n. eqb n Operator.conditional) (is aQuestion) refl refl (not-one 59 (lit< tt))
 
 pub role-colon : (n : ℕ) → eqb n Operator.conditionalElse ≡ is aColon (role n)
 unfolding computed role
-role-colon = by-role (λ n. eqb n Operator.conditionalElse) (is aColon) refl (not-one 60 (lit< tt))
+role-colon = by-role (λ n. eqb n Operator.conditionalElse) (is aColon) refl refl (not-one 60 (lit< tt))
 
 pub role-semicolon : (n : ℕ) → eqb n Operator.semicolon ≡ is aSemicolon (role n)
 unfolding computed role
-role-semicolon = by-role (λ n. eqb n Operator.semicolon) (is aSemicolon) refl (not-one 73 (lit< tt))
+role-semicolon = by-role (λ n. eqb n Operator.semicolon) (is aSemicolon) refl refl (not-one 73 (lit< tt))
 
 pub role-assignment : (n : ℕ) → eqb n Operator.assignment ≡ is anAssignment (role n)
 unfolding computed role
-role-assignment = by-role (λ n. eqb n Operator.assignment) (is anAssignment) refl (not-one 71 (lit< tt))
+role-assignment = by-role (λ n. eqb n Operator.assignment) (is anAssignment) refl refl (not-one 71 (lit< tt))
 
 pub role-return : (n : ℕ) → eqb n Operator.return ≡ is aReturn (role n)
 unfolding computed role
-role-return = by-role (λ n. eqb n Operator.return) (is aReturn) refl (not-one 74 (lit< tt))
+role-return = by-role (λ n. eqb n Operator.return) (is aReturn) refl refl (not-one 74 (lit< tt))
 
 -- No math call is above 110.
 pub no-math : (n : ℕ) → 110 < n → isMathCall n ≡ false
@@ -206,20 +217,20 @@ no-math n l =
 
 pub role-math : (n : ℕ) → calls math n ≡ is aMathCall (role n)
 unfolding computed role
-role-math = by-role (calls math) (is aMathCall) refl no-math
+role-math = by-role (calls math) (is aMathCall) refl refl no-math
 
 pub role-query : (n : ℕ) → calls queryOrLoop n ≡ isAmong (aQuery ∷ aLoop ∷ []) (role n)
 unfolding computed role
-role-query = by-role (calls queryOrLoop) (isAmong (aQuery ∷ aLoop ∷ [])) refl
+role-query = by-role (calls queryOrLoop) (isAmong (aQuery ∷ aLoop ∷ [])) refl refl
     (λ n l. rw (not-one 40 (lit< tt) n l, not-one 67 (lit< tt) n l, not-one 68 (lit< tt) n l) refl)
 
 pub role-call : (n : ℕ) → isCall n ≡ isAmong (aQuery ∷ aMathCall ∷ []) (role n)
 unfolding computed role
-role-call = by-role isCall (isAmong (aQuery ∷ aMathCall ∷ [])) refl (λ n l. rw (not-one 40 (lit< tt) n l) (no-math n l))
+role-call = by-role isCall (isAmong (aQuery ∷ aMathCall ∷ [])) refl refl (λ n l. rw (not-one 40 (lit< tt) n l) (no-math n l))
 
 pub role-leaf : (n : ℕ) → isPlainLeaf n ≡ isAmong (aLeaf ∷ aQuery ∷ []) (role n)
 unfolding computed role
-role-leaf = by-role isPlainLeaf (isAmong (aLeaf ∷ aQuery ∷ [])) refl
+role-leaf = by-all-roles isPlainLeaf (isAmong (aLeaf ∷ aQuery ∷ [])) refl
     (λ n l. rw (
       not-one 40 (lit< tt) n l,
       not-between 42 44 (lit< tt) n l,
@@ -228,11 +239,15 @@ role-leaf = by-role isPlainLeaf (isAmong (aLeaf ∷ aQuery ∷ [])) refl
       not-one 62
           (lit< tt) n l,
       not-one 76 (lit< tt) n l,
-    ) refl)
+    ) (of-host (isHost n)))
+  where
+    of-host : (b : Bool) → b ≡ isAmong (aLeaf ∷ aQuery ∷ []) (orElse b aLeaf another)
+    of-host true = unfold orElse in refl
+    of-host false = unfold orElse in refl
 
 pub role-binary : (n : ℕ) → isPlainBinary n ≡ isAmong (aBinary ∷ aComma ∷ aQuestion ∷ []) (role n)
 unfolding computed role
-role-binary = by-role isPlainBinary (isAmong (aBinary ∷ aComma ∷ aQuestion ∷ [])) refl
+role-binary = by-role isPlainBinary (isAmong (aBinary ∷ aComma ∷ aQuestion ∷ [])) refl refl
     (λ n l. rw (
       not-one 9 (lit< tt) n l,
       not-one 20 (lit< tt) n l,
@@ -246,7 +261,8 @@ pub role-single : (n : ℕ) → isOneOf (Operator.leftParenthesis ∷ Operator.n
     (aBracket ∷ aMinus ∷ aNot ∷ []) (role n)
 unfolding computed role
 role-single =
-    by-role (isOneOf (Operator.leftParenthesis ∷ Operator.negate ∷ Operator.logicalNot ∷ [])) (isAmong (aBracket ∷ aMinus ∷ aNot ∷ [])) refl
+    by-role (isOneOf (Operator.leftParenthesis ∷ Operator.negate ∷ Operator.logicalNot ∷ []))
+    (isAmong (aBracket ∷ aMinus ∷ aNot ∷ [])) refl refl
     (λ n l. rw (not-one 4 (lit< tt) n l, not-one 6 (lit< tt) n l, not-one 7 (lit< tt) n l) refl)
 
 -- A test that a role tells fails of every operator whose role it does not tell.
@@ -283,14 +299,33 @@ unfolding isNone
 none-of none h = refl
 none-of (some c) h = absurd (false≢true h)
 
+-- No bracket is above 110.
+no-opener : (n : ℕ) → 110 < n → closingOf n ≡ none
+unfolding closingOf
+no-opener n l = rw (not-one 0 (lit< tt) n l, closingOf) (rw (not-one 2 (lit< tt) n l) (rw (not-one 4 (lit< tt) n l) refl))
+
+no-closer : (n : ℕ) → 110 < n → isCloser n ≡ false
+unfolding isCloser isOneOf any
+no-closer n l = rw (not-one 1 (lit< tt) n l, not-one 3 (lit< tt) n l, not-one 5 (lit< tt) n l) refl
+
 pub role-text : (n : ℕ) → isAmong textRoles (role n) ≡ true → (closingOf n ≡ none) × (isCloser n ≡ false)
 unfolding computed role isNone
 role-text n h =
     let told : (not (isAmong textRoles (role n)) || (isNone (closingOf n) && not (isCloser n))) ≡ true =
-    by-role (λ n. not (isAmong textRoles (role n)) || (isNone (closingOf n) && not (isCloser n))) (λ r. true) refl
-    (λ n l. rw (role-above n l) refl) n in
+    by-role (λ n. not (isAmong textRoles (role n)) || (isNone (closingOf n) && not (isCloser n))) (λ r. true) refl refl
+    (λ n l. or-second (not (isAmong textRoles (role n))) (isNone (closingOf n) && not (isCloser n))
+    (rw (no-opener n l, no-closer n l) refl)) n in
     let both = and-eq-true-iff (isNone (closingOf n)) (not (isCloser n)) .0 (rw h at told) in
     (none-of (closingOf n) (both .0), not-true (isCloser n) (both .1))
+
+-- A leaf, or what plays no role: all that a number above 110 can be.
+abbrev pub isIdle : Role → Bool
+isIdle r = isAmong (aLeaf ∷ another ∷ []) r
+
+pub idle-above : (b : Bool) → isIdle (orElse b aLeaf another) ≡ true
+unfolding orElse
+idle-above true = refl
+idle-above false = refl
 
 -- The roles of tokens that no writing has.
 abbrev pub isUnwritten : Role → Bool

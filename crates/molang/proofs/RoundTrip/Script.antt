@@ -147,7 +147,8 @@ all-within u (x ∷ xs) r h =
 uses-semicolon : (u : ℕ → Bool) (x : Statement) (xs : List Statement) → Uses u (scriptTokens (x ∷ xs) []) → u Operator.semicolon ≡ true
 unfolding scriptTokens
 uses-semicolon u x xs h =
-    sym (ap u (x .ends)) ∙ uses-first u (x .end) (scriptTokens xs []) (within u (x .exp) (x .end ∷ scriptTokens xs []) h .1)
+    sym (ap u (x .ends))
+    ∙ uses-first u (x .end) (scriptTokens xs []) (let e = x .ends in omega arith) (within u (x .exp) (x .end ∷ scriptTokens xs []) h .1)
 
 foreign-script : (n : ℕ) → isUnwritten (role n) ≡ true → (xs : List Statement) (r : List Token) → uses (scriptTokens xs r) n ≡ uses r n
 unfolding scriptTokens

@@ -17,7 +17,7 @@ pub fn line(tree: TreeRef<'_>, source: Option<&str>) -> String {
 pub fn label(node: sorbrudder::Node<'_>, source: Option<&str>) -> String {
     let (op, token) = (node.op(), node.token());
     let text = source.and_then(|source| node.span().of(source));
-    let is_operand = matches!(op.number(), 40..=44 | 46..=49 | 61..=66 | 76 | 77);
+    let is_operand = matches!(op.number(), 40..=44 | 46..=49 | 61..=66 | 76 | 77) || op.is_host();
     match (is_operand, text) {
         (true, Some(text)) if !text.is_empty() => text.to_string(),
         (true, _) => sorbrudder::Tokens::from(vec![token]).to_string(),

@@ -115,7 +115,8 @@ without scripts, and can be printed.
 const OPS: &str = "\
 sorbrudder ops [--json]
 
-Prints the operators: number, sign or name in Molang, name in the crate, and what it does in words.
+Prints the operators: number, sign or name in Molang, name in the crate, and what it does in words. The numbers 256 to 1023 are the hosts'
+own, for names that Molang does not have; in the notation such a name is # and its number.
 ";
 
 /// Prints what there is to say of a command, or of all.

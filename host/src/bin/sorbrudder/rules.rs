@@ -5,7 +5,7 @@ use sorbrudder::Op;
 /// A rule that changes at a version: the operators that it pairs, and what it says before and after.
 struct Change {
     at: i16,
-    ops: std::ops::RangeInclusive<u8>,
+    ops: std::ops::RangeInclusive<u16>,
     text: &'static str,
 }
 

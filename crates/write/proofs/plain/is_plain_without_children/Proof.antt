@@ -1,7 +1,7 @@
 -- `write::plain::is_plain_without_children` meets its contract: an empty bracket, or a leaf. Assumes nothing.
 use mathlib.Core.Bool.{or-false}
 use borrow.Author.Tests.{ne-eqb}
-use Rattle.molang.specs.Operator.{between, isBracket}
+use Rattle.molang.specs.Operator.{between, isHost, isBracket}
 use Rattle.molang.specs.Plain.{isPlainLeaf}
 use Rattle.write.specs.Seats.{plainBy}
 use borrow.Author.Needs.{needs}
@@ -12,7 +12,7 @@ is-under-math-call-requires : tie.Need-is-under-math-call-requires
 is-under-math-call-requires c κs = search needs
 
 returns : tie.Need-returns
-unfolding plainBy isPlainLeaf isBracket between
+unfolding plainBy isPlainLeaf isHost isBracket between
 returns c = rw (c .before .if1 .taken) (c .is-under-math-call .ensures)
 
 is-plain-leaf-requires : tie.Need-is-plain-leaf-requires

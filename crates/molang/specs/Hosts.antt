@@ -1,0 +1,64 @@
+-- The hosts' operators (document 02, card 7): "A list with them reads as it would at the same used set with 76 in their stead, their number
+-- kept wherever the answer names it." Neither reading nor writing uses this file: it states that promise of the parse entry.
+use Prim.Native.Nat.{ℕ, _+_, _-_, _*_}
+use mathlib.Core.Path.{_≡_}
+use mathlib.Core.Bool.{Bool, true, false, _&&_, _||_}
+use mathlib.Core.List.{List, [], _∷_, map}
+use lib.Dec.{eqb}
+use lib.ListN.{take}
+use Rattle.molang.specs.Operator.{this, isHost}
+use Rattle.molang.specs.Forest.{Token, Forest, nil, node}
+use Rattle.molang.specs.Read.{tree}
+use Rattle.molang.specs.Words.{kindOf, lowOf, operatorBits, numberIn, tokensOf}
+use Rattle.molang.specs.Parse.{Call, refusal, reading, Told, aTree, someMessages, refused, answered, inFront, treeAfter}
+use Rattle.molang.specs.Parse.{messagesAfter, workAfter}
+
+-- A word of kind 1 whose number is a host's.
+unfoldable pub isHostWord : ℕ → Bool
+isHostWord w = eqb (kindOf w) 1 && isHost (numberIn (lowOf w))
+
+-- The word with 76 put in for a host's number, its other bits as they were; any other word as it was.
+unfoldable pub withThisWord : ℕ → ℕ
+withThisWord w = elim (isHostWord w) [ true ↦ w - operatorBits (numberIn (lowOf w)) 0 + operatorBits this 0 | false ↦ w ]
+
+-- The same call with 76 put in for each host of its list.
+unfoldable pub hostless : Call → Call
+hostless c =
+    record {
+      list = map withThisWord (c .list);
+      tree = c .tree;
+      messages = c .messages;
+      work = c .work;
+      sourceLength = c .sourceLength;
+      version = c .version;
+      usedLow = c .usedLow;
+      usedHigh = c .usedHigh;
+      limit = c .limit;
+    }
+
+-- How many words of the tree buffer are the tree's, by what the caller is told.
+unfoldable pub treeTold : Told → ℕ
+treeTold (aTree nodes) = 7 * nodes
+treeTold (someMessages records) = 0
+treeTold (refused number place) = 0
+
+-- The token is one of the list.
+pub data In (k : Token) : List Token → Type 0 where
+  first : {ks : List Token} → In k (k ∷ ks)
+  later : {l : Token} {ks : List Token} → In k ks → In k (l ∷ ks)
+
+-- Each node of the trees that has 76 or a host's number is one of the tokens, with its payload and span.
+abbrev pub KeptFrom : List Token → Forest → Type 0
+KeptFrom ks nil = Unit {0}
+KeptFrom ks (node k cs rest) = ((eqb (k .op) this || isHost (k .op)) ≡ true → In k ks) × KeptFrom ks cs × KeptFrom ks rest
+
+-- A CALL READS AS WITH 76 IN THE HOSTS' STEAD: it is turned back alike, answers alike, and leaves the same messages and work. The call with
+-- 76 leaves the same tree with 76 put in, and the rest of the tree buffer as it was. And the numbers are kept: no node with 76 or a host's
+-- number has another one than its token in the list.
+pub record ReadsAsThis (c : Call) : Type 0 where
+  pub sameRefusal : refusal (hostless c) ≡ refusal c
+  pub sameAnswer : answered (hostless c) ≡ answered c
+  pub sameMessages : messagesAfter (hostless c) ≡ messagesAfter c
+  pub sameWork : workAfter (hostless c) ≡ workAfter c
+  pub treeWithThis : treeAfter (hostless c) ≡ inFront (map withThisWord (take (treeTold (answered c)) (treeAfter c))) (c .tree)
+  pub numbersKept : (k : Token) (cs : Forest) → reading c ≡ tree k cs → KeptFrom (tokensOf (c .list)) (node k cs nil)
