@@ -73,6 +73,9 @@ extern "C" {
 #define SORBRUDDER_MESSAGE_BUFFER (2 * SORBRUDDER_MESSAGE_WORDS)
 #define SORBRUDDER_WORK_BUFFER(n) (64 * (size_t)(n) + 64)
 
+/* The rule buffer that reading n tokens with rules asks for, in bytes. */
+#define SORBRUDDER_RULE_BUFFER(n) (3 * (size_t)(n))
+
 /* The greatest nesting limit, with which no list is too deep. */
 #define SORBRUDDER_MOST_NESTING 4096
 
@@ -146,6 +149,31 @@ enum sorbrudder_op {
     SORBRUDDER_OP_HOST_MATH_VOLATILE = 110
 };
 
+/* Which rule made a node (`sorbrudder_parse_rules`): the first of the reader's passes that gave it children. */
+enum sorbrudder_rule {
+    SORBRUDDER_RULE_LEAF = 0,            /* none did */
+    SORBRUDDER_RULE_MEMBER = 1,
+    SORBRUDDER_RULE_SECTION = 2,         /* brackets of all three kinds, whatever they belong to */
+    SORBRUDDER_RULE_CALL = 3,            /* a query, `loop` or `for_each` with its brackets */
+    SORBRUDDER_RULE_SEMICOLON = 4,       /* the list of statements, and each statement */
+    SORBRUDDER_RULE_ARRAY = 5,
+    SORBRUDDER_RULE_POINTER = 6,
+    SORBRUDDER_RULE_MATH = 7,            /* a math function with its brackets */
+    SORBRUDDER_RULE_UNARY = 8,           /* `-` and `!` */
+    SORBRUDDER_RULE_DIVISION = 9,
+    SORBRUDDER_RULE_MULTIPLICATION = 10,
+    SORBRUDDER_RULE_ADDITION = 11,       /* of `a - b` too, whose minus is a node of UNARY */
+    SORBRUDDER_RULE_COMPARISON = 12,     /* below version 6 equality too */
+    SORBRUDDER_RULE_EQUALITY = 13,       /* from version 6 on */
+    SORBRUDDER_RULE_AND = 14,            /* before OR from version 6 on, after it below */
+    SORBRUDDER_RULE_OR = 15,
+    SORBRUDDER_RULE_CONDITIONAL = 16,    /* `?` and `:` */
+    SORBRUDDER_RULE_NULL_COALESCING = 17,
+    SORBRUDDER_RULE_COMMA = 18,
+    SORBRUDDER_RULE_ASSIGNMENT = 19,
+    SORBRUDDER_RULE_RETURN = 20
+};
+
 /* Why a list is no tree. */
 enum sorbrudder_message {
     SORBRUDDER_MESSAGE_MULTIPLE_ROOTS = 1,
@@ -184,6 +212,7 @@ enum sorbrudder_refusal_number {
     SORBRUDDER_REFUSAL_NOT_PLAIN = 13,        /* place: the number of the first such node in tree order */
     SORBRUDDER_REFUSAL_WRITTEN_TOO_LONG = 14, /* the written list has more than 4,096 tokens */
     SORBRUDDER_REFUSAL_LIST_BUFFER = 15,      /* the lent list is too short */
+    SORBRUDDER_REFUSAL_RULE_BUFFER = 16,      /* the rule buffer is too short */
     SORBRUDDER_REFUSAL_LIMIT = 17,            /* a nesting limit that is not 1 to 4,096 */
     SORBRUDDER_REFUSAL_TOO_DEEP = 18,         /* place: the token, counted from 0, with which more brackets are open than the limit */
     SORBRUDDER_REFUSAL_NOT_A_STACK = 24,      /* words in stack order that are not one tree; place as for 12 */
@@ -201,6 +230,16 @@ enum sorbrudder_refusal_number {
 uint64_t sorbrudder_parse(const uint32_t *list, size_t list_words, uint32_t *tree, size_t tree_words, uint32_t *messages,
                           size_t message_words, uint32_t *work, size_t work_words, uint64_t source_length, int16_t version,
                           uint64_t used_low, uint64_t used_high, uint32_t limit);
+
+/* Reads a list as `sorbrudder_parse` does, with the same answer and the same words in the same buffers, and says of a tree which rule made
+ * each node. `rules` is lent as a pointer to bytes and their number.
+ * Done: the number of nodes; their rules (SORBRUDDER_RULE_..), a byte for each node in the order of the tree, fill the front of `rules`,
+ * and the bytes after them stay as they were. Messages: every byte of `rules` stays as it was.
+ * Refused, 1 to 11 and 16 to 18: every buffer is unchanged. The refusals are in the order of `sorbrudder_parse`, with 16, a rule buffer of
+ * fewer than SORBRUDDER_RULE_BUFFER bytes for the list's tokens, after 5. */
+uint64_t sorbrudder_parse_rules(const uint32_t *list, size_t list_words, uint32_t *tree, size_t tree_words, uint32_t *messages,
+                                size_t message_words, uint32_t *work, size_t work_words, uint8_t *rules, size_t rule_bytes,
+                                uint64_t source_length, int16_t version, uint64_t used_low, uint64_t used_high, uint32_t limit);
 
 /* Writes the plain tree whose words are `tree` as a list of tokens into the front of `list`; the words after it stay as they were. A tree
  * whose root is a semicolon (73) is a script: each of its statements is written with a semicolon after it, of payload 0 and the span of the
@@ -228,7 +267,7 @@ static inline unsigned sorbrudder_kind(uint64_t answer) { return (unsigned)(answ
 /* The count of nodes, tokens or messages; of a refusal, its place. */
 static inline uint32_t sorbrudder_count(uint64_t answer) { return (uint32_t)answer; }
 
-/* Of a refusal: its number, 1-15, 17, 18, 24 or 25. */
+/* Of a refusal: its number, 1-18, 24 or 25. */
 static inline unsigned sorbrudder_refusal(uint64_t answer) { return (unsigned)(answer >> 32) & 0xff; }
 
 /* The parts of a token's or a node's words. */

@@ -8,11 +8,12 @@
 //!   operator table that is not published: a row's names are its operator number;
 //! - `version/`, the version files byte for byte, since the unpublished `engine.rs` has to stand
 //!   beside them;
-//! - `slips/`, copies of the tree and pass files with one planted slip each, for the tests.
+//! - `slips/`, copies of the tree and pass files with one planted slip each, for the tests;
+//! - `marked/`, a copy of them in which a node is marked by the pass that first gave it children.
 //!
 //! Without it nothing is written and the crate is built without the comparison, which a warning says.
-//! A folder that has some of the files and not others stops the build, and so does a slip that finds
-//! no place.
+//! A folder that has some of the files and not others stops the build, and so does a slip or a mark
+//! that finds no place.
 
 use std::fmt::Write as _;
 use std::path::{Path, PathBuf};
@@ -70,6 +71,57 @@ const SLIPS: [Slip; 4] = [
     },
 ];
 
+/// The marks: a node has one more field, 0 as it is made.
+const MARK_FIELD: [(&str, &str); 2] = [
+    (
+        "    pub(super) below: TokenClasses,\n}",
+        "    pub(super) below: TokenClasses,\n    pub(crate) rule: u8,\n}",
+    ),
+    (
+        "children: Vec::new(),\n            span,\n            below: TokenClasses::ALL,",
+        "children: Vec::new(),\n            span,\n            below: TokenClasses::ALL,\n            rule: 0,",
+    ),
+];
+
+/// Each place that runs a pass, and the pass's number by card 5: behind it the nodes are marked. Where
+/// the pointer pass fails no node is left.
+const MARKS: [(&str, u8); 24] = [
+    ("member_accessors(cx, list)?;", 1),
+    ("sections(cx, list)?;", 2),
+    (" calls(cx, list)?;", 3),
+    ("semicolons(cx, list)?;", 4),
+    ("arrays(cx, list)?;", 5),
+    ("let _ = binary(cx, list, &[Op::Pointer]);", 6),
+    ("math_functions(cx, list)?;", 7),
+    ("unary_minus_and_not(cx, list)?;", 8),
+    ("binary(cx, list, &[Op::Div])?;", 9),
+    ("binary(cx, list, &[Op::Mul])?;", 10),
+    ("binary(cx, list, &[Op::Add])?;", 11),
+    // One comparison or equality at a time below version 6, the four comparisons together from 6 on.
+    ("binary(cx, list, &[op])?;", 12),
+    ("Op::GreaterThan,\n                ],\n            )?;", 12),
+    (
+        "binary(cx, list, &[Op::LogicalEqual, Op::LogicalNotEqual])?;",
+        13,
+    ),
+    ("binary(cx, list, &[Op::LogicalAnd])?;", 14),
+    (
+        "if version <= 5 && u(Op::LogicalOr) {\n        binary(cx, list, &[Op::LogicalOr])?;",
+        15,
+    ),
+    (
+        "if version >= 6 && u(Op::LogicalOr) {\n        binary(cx, list, &[Op::LogicalOr])?;",
+        15,
+    ),
+    ("ternary(cx, list)?;", 16),
+    ("binary(cx, list, &[Op::ConditionalElse])?;", 16),
+    ("binary(cx, list, &[Op::Conditional])?;", 16),
+    ("binary(cx, list, &[Op::NullCoalescing])?;", 17),
+    ("binary(cx, list, &[Op::Comma])?;", 18),
+    ("binary(cx, list, &[Op::Assignment])?;", 19),
+    ("prefix(cx, list, Op::Return)?;", 20),
+];
+
 /// Lints that are the Rust source's own affair: most of what it offers is not called here.
 const ALLOW: &str = "#[allow(dead_code, unused, unexpected_cfgs, clippy::all)]";
 
@@ -102,6 +154,7 @@ fn main() {
         for slip in &SLIPS {
             plant(slip, &source, &crate_folder, &out);
         }
+        mark(&source, &crate_folder, &out);
     } else if missing.len() < UNCHANGED.len() {
         // Half a source is a mistake, not a source that is not at hand.
         panic!("{} has no {missing:?}", source.display());
@@ -161,19 +214,54 @@ fn copy_version(source: &Path, crate_folder: &Path, out: &Path) {
     write(&out.join("version/engine.rs"), &engine);
 }
 
-/// Copies the tree and pass files with the slip in its file and the paths moved to its module.
+/// Copies the tree and pass files with the slip in its file.
 fn plant(slip: &Slip, source: &Path, crate_folder: &Path, out: &Path) {
-    let folder = out.join("slips").join(slip.name);
-    let home = format!("crate::slips::{}::compile", slip.name);
-    for file in UNCHANGED.iter().filter(|f| f.starts_with("compile/")) {
-        let mut text = read(&source.join(file));
-        if *file == slip.file {
-            for (old, new) in slip.edits {
-                let found = text.matches(old).count();
-                assert_eq!(found, 1, "slip {}: `{old}` in {file}", slip.name);
-                text = text.replace(old, new);
-            }
+    let changed = |file: &str, text: String| match file == slip.file {
+        true => {
+            let edits = slip.edits.iter();
+            edits.fold(text, |text, (old, new)| replaced(file, text, old, new))
         }
+        false => text,
+    };
+    let home = format!("slips::{}", slip.name);
+    copy_changed(&home, changed, source, crate_folder, out);
+}
+
+/// Copies the tree and pass files with the marks.
+fn mark(source: &Path, crate_folder: &Path, out: &Path) {
+    let changed = |file: &str, text: String| match file {
+        "compile/ast.rs" => {
+            let edits = MARK_FIELD.iter();
+            edits.fold(text, |text, (old, new)| replaced(file, text, old, new))
+        }
+        "compile/parse/mod.rs" => MARKS.iter().fold(text, |text, (pass, rule)| {
+            let marked = format!("{pass} crate::marked::mark(list, {rule});");
+            replaced(file, text, pass, &marked)
+        }),
+        _ => text,
+    };
+    copy_changed("marked", changed, source, crate_folder, out);
+}
+
+/// A file's text with one place of it replaced.
+fn replaced(file: &str, text: String, old: &str, new: &str) -> String {
+    let found = text.matches(old).count();
+    assert_eq!(found, 1, "`{old}` in {file}");
+    text.replace(old, new)
+}
+
+/// Copies the tree and pass files, each changed, with the paths moved to the module `home`.
+fn copy_changed(
+    home: &str,
+    changed: impl Fn(&str, String) -> String,
+    source: &Path,
+    crate_folder: &Path,
+    out: &Path,
+) {
+    let folder = out.join(home.replace("::", "/"));
+    let home = format!("crate::{home}::compile");
+    for file in UNCHANGED.iter().filter(|f| f.starts_with("compile/")) {
+        let text = changed(file, read(&source.join(file)));
         write(&folder.join(file), &text.replace("crate::compile", &home));
     }
     let compile = module("pub(crate) ", "ast", &folder.join("compile/ast.rs"))

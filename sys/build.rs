@@ -79,8 +79,9 @@ fn link_before() {
     println!("cargo::rustc-cfg=before");
 }
 
-/// All that an archive exports; one from before card 14 has only the first two, and what it lacks is not looked for.
-const ENTRIES: [&str; 4] = ["parse", "write", "export", "import"];
+/// All that an archive exports; one from before card 14 has only the first two, one from before card 5 lacks the last, and what it lacks is
+/// not looked for.
+const ENTRIES: [&str; 5] = ["parse", "write", "export", "import", "parse_rules"];
 
 fn rename_entries(archive: &Path, renamed: &Path) {
     let done = Command::new("objcopy")

@@ -16,11 +16,13 @@ CRATES = Path(__file__).resolve().parent.parent / "crates"
 # The entries: the crate, the file of its contract and the function.
 ENTRIES = [
     ("parse", "src/lib.rt", "parse"),
+    ("rules", "src/lib.rt", "parse_ruled"),
     ("write", "src/lib.rt", "write"),
     ("reread", "src/lib.rt", "reread"),
     ("stackorder", "src/lib.rt", "export"),
     ("stackorder", "src/lib.rt", "import"),
     ("sorbrudder", "src/lib.rt", "sorbrudder_parse"),
+    ("sorbrudder", "src/ruled.rt", "sorbrudder_parse_rules"),
     ("sorbrudder", "src/lib.rt", "sorbrudder_write"),
     ("sorbrudder", "src/lib.rt", "sorbrudder_export"),
     ("sorbrudder", "src/lib.rt", "sorbrudder_import"),

@@ -34,7 +34,7 @@ look() {
 
 "$command" draw -e 'speed > 2 + (wet && cold || dark) ? slow : go' --at 5,6 -o "$folder/page.html"
 look --dump-dom >"$folder/dom.html"
-# The nodes of the page as the browser has them: version, number, whether it is marked, label.
+# The nodes of the page as the browser has them: version, number, whether it is marked, label, rule.
 nodes() {
     sed 's/<li /\n<li /g; s/<section /\n<section /g' "$folder/dom.html" | sed -n \
         -e 's/^<section id="version-\([0-9]*\)".*/version \1/p' \
@@ -45,33 +45,33 @@ nodes() {
 nodes >"$folder/nodes.txt"
 diff - "$folder/nodes.txt" <<'NODES'
 version 5
-0 - ? if
-1 - > greater than
+0 - ? if [conditional]
+1 - > greater than [comparison]
 2 - speed
-3 - + sum
+3 - + sum [addition]
 4 - 2
-5 - ( brackets
-6 * && and
+5 - ( brackets [section]
+6 * && and [AND]
 7 * wet
-8 * || or
+8 * || or [OR]
 9 * cold
 10 * dark
-11 - : then and else
+11 - : then and else [conditional]
 12 - slow
 13 - go
 version 6
-0 - ? if
-1 - > greater than
+0 - ? if [conditional]
+1 - > greater than [comparison]
 2 - speed
-3 - + sum
+3 - + sum [addition]
 4 - 2
-5 - ( brackets
-6 * || or
-7 * && and
+5 - ( brackets [section]
+6 * || or [OR]
+7 * && and [AND]
 8 * wet
 9 * cold
 10 * dark
-11 - : then and else
+11 - : then and else [conditional]
 12 - slow
 13 - go
 NODES

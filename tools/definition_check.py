@@ -9,7 +9,7 @@ sides. The definition is the specs/ of crates/molang as it stands; nothing of th
 where it closes, the seventh, is found from the list by a stack of brackets (card 2). A case with two openers alike that close apart is left
 out, since the oracle's answer does not say which of them a node is. Where a list goes above the nesting limits 1, 2 and 3 (card 8) is
 counted here. One case in five has hosts' own names (card 7), whose list the Rust read with 76 in their stead; the definition reads the list
-with their numbers.
+with their numbers. Behind a tree stand the rules of its nodes (card 5), as the Rust's passes mark them.
 
 The last line is `N cases, D differences`; the exit status is 0 only where D is 0. A difference is printed with its list, the shortest first.
 A case whose answer is changed by one must be found to differ, or the run fails: a check that cannot fail says nothing.
@@ -43,7 +43,7 @@ use Rattle.molang.proofs.Asked.{asked}
 """
 
 # Where a list goes above three limits, as one more than the token's index or 0; then the reading as the entry makes it of a call's words,
-# and the words that it leaves.
+# and the words that it leaves; then the rules of a tree.
 ASKED = """use Prim.Native.Nat.{ℕ, suc}
 use mathlib.Core.List.{List, [], _∷_, _++_}
 use mathlib.Core.Option.{Option, none, some}
@@ -52,11 +52,12 @@ use Rattle.molang.specs.Forest.{nil, node}
 use Rattle.molang.specs.Read.{Answer, tree, messages}
 use Rattle.molang.specs.Words.{treeWords, tokensOf}
 use Rattle.molang.specs.Nesting.{tooDeep}
-use Rattle.molang.specs.Parse.{reading, recordWords}
+use Rattle.molang.specs.Parse.{reading, recordWords, inHalves}
+use Rattle.molang.specs.Rules.{rulesOf}
 
-unfoldable pub answerWords : Answer → List ℕ
-answerWords (tree k cs) = treeWords (node k cs nil)
-answerWords (messages ms) = recordWords ms
+unfoldable pub answerWords : Answer → List ℕ → List ℕ
+answerWords (tree k cs) rules = treeWords (node k cs nil) ++ rules
+answerWords (messages ms) rules = recordWords ms
 
 unfoldable pub above : ℕ → List ℕ → ℕ
 above limit list = elim (tooDeep limit (tokensOf list)) [ none ↦ 0 | some i ↦ suc i ]
@@ -77,6 +78,7 @@ asked version source low high list =
       usedHigh = high;
       limit = 4096;
     }))
+    (rulesOf (tokensOf list) (inHalves low high) version)
 """
 
 
@@ -91,12 +93,14 @@ class Case:
     messages: list
 
     def equation(self):
-        """The two sides: behind the nesting a record's first word is at most 17 and a tree's has a kind, so the two never mix."""
+        """The two sides: behind the nesting a record's first word is at most 17 and a tree's has a kind, so the two never mix; nor do a
+        tree's words and the rules behind them, which have none."""
         version = f"(pos {self.version})" if self.version >= 0 else f"(negsuc {-1 - self.version})"
         words = [word for token in self.tokens for word in token_words(token)]
         nodes = zip(self.tree, self.closes())
         wanted = [self.above(limit) for limit in LIMITS]
         wanted += [word for node, ends in nodes for word in token_words(node[:5]) + [6 << 29 | node[5], 7 << 29 | min(ends)]]
+        wanted += [node[6] for node in self.tree]
         wanted += [number for message in self.messages for number in message]
         return f"asked {version} {self.source} {self.used[0]} {self.used[1]} {listed(words)}", listed(wanted)
 
@@ -193,6 +197,7 @@ def ask_oracle(options):
 def covered(cases):
     """What the cases show, as lines; it fails where something is not shown that has to be."""
     numbers = Counter(message[0] for case in cases for message in case.messages)
+    rules = Counter(node[6] for case in cases for node in case.tree)
     versions = Counter(case.version for case in cases)
     others = {
         "used sets not exact": sum(not case.exact() for case in cases),
@@ -208,6 +213,7 @@ def covered(cases):
         "sections": sum(any(min(ends) != node[4] for node, ends in zip(case.tree, case.closes())) for case in cases),
     }
     lacking = [f"message {n}" for n in range(1, 18) if not numbers[n]]
+    lacking += [f"rule {n}" for n in range(21) if not rules[n]]
     lacking += [f"version {v}" for v in (-32768, -1, 4, 5, 6, 13, 14, 32767) if not versions[v]]
     lacking += [what for what, count in others.items() if not count]
     if lacking:
@@ -215,6 +221,7 @@ def covered(cases):
     return [
         f"trees {sum(bool(case.tree) for case in cases)}",
         "messages " + ", ".join(f"{n}: {numbers[n]}" for n in range(1, 18)),
+        "rules " + ", ".join(f"{n}: {rules[n]}" for n in range(21)),
         "versions " + ", ".join(f"{v}: {versions[v]}" for v in sorted(versions) if versions[v] * 50 > len(cases)),
     ] + [f"{what} {count}" for what, count in others.items()]
 
@@ -239,7 +246,7 @@ def differing(name, cases):
 
 
 def planted(case):
-    """The check refuses a case whose first or last wanted word is off by one; the last one is where a node closes."""
+    """The check refuses a case whose first or last wanted number is off by one; the last one is the rule of a tree's last node."""
     left, right = case.equation()
     first = re.sub(r"\d+", lambda found: str(int(found[0]) + 1), right, count=1)
     last = re.sub(r"(\d+) ∷ \[\]", lambda found: f"{int(found[1]) + 1} ∷ []", right)

@@ -14,6 +14,9 @@ pub mod reading;
 pub mod reordering;
 #[cfg(library)]
 pub mod rereading;
+pub mod rule_calls;
+#[cfg(library)]
+pub mod ruling;
 pub mod smallest;
 pub mod stack_model;
 pub mod workloads;

@@ -5,7 +5,7 @@ use crate::writer_model::Written;
 pub use sorbrudder_sys::Given;
 use sorbrudder_sys::{Answer, Lent, MOST_NESTING};
 
-/// What the parse entry answers.
+/// What the parse entries answer.
 #[derive(Copy, Clone, Debug, PartialEq, Eq)]
 pub enum Read {
     /// So many nodes fill the tree buffer's front.
@@ -30,7 +30,29 @@ pub fn parse(
         messages,
         work,
     };
-    match sorbrudder_sys::parse(lent, given) {
+    read(sorbrudder_sys::parse(lent, given))
+}
+
+/// The parse entry with a rule buffer.
+pub fn parse_rules(
+    list: &[u32],
+    tree: &mut [u32],
+    messages: &mut [u32],
+    work: &mut [u32],
+    rules: &mut [u8],
+    given: Given,
+) -> Read {
+    let lent = Lent {
+        list,
+        tree,
+        messages,
+        work,
+    };
+    read(sorbrudder_sys::parse_rules(lent, rules, given))
+}
+
+fn read(answer: Answer) -> Read {
+    match answer {
         Answer::Filled(nodes) => Read::Tree(nodes),
         Answer::Messages(records) => Read::Messages(records),
         Answer::Refused(number, place) => Read::Refused(number, place),

@@ -6,6 +6,7 @@ use crate::library::{self, Given, Read};
 use oracle::closing::{closed, numbered};
 use oracle::refusal::{Call, refusal};
 use oracle::words::{Answer, Case, NODE_WORDS, Record, decode_list, low, tree_words};
+use std::fmt::LowerHex;
 
 /// What a call has to leave.
 #[derive(Clone, Debug, PartialEq, Eq)]
@@ -36,15 +37,20 @@ pub fn expected(call: &Call) -> Expected {
     if let Some(refused) = refusal(call) {
         return Expected::Refused(refused.number, refused.place as usize);
     }
-    let case = Case {
+    let case = case_of(call);
+    match oracle::answer_if_at_hand(&case) {
+        Some(answer) => Expected::answered(&case, answer, names_by_the_rust),
+        None => Expected::Something,
+    }
+}
+
+/// The case of a call that is not turned back.
+pub(crate) fn case_of(call: &Call) -> Case {
+    Case {
         tokens: decode_list(&call.list).expect("the table lets only tokens pass"),
         used: call.used,
         source_len: call.source_len as u32,
         version: call.version,
-    };
-    match oracle::answer_if_at_hand(&case) {
-        Some(answer) => Expected::answered(&case, answer, names_by_the_rust),
-        None => Expected::Something,
     }
 }
 
@@ -56,31 +62,31 @@ fn names_by_the_rust(numbered: &Case) -> Vec<u32> {
 }
 
 /// Words before and after each lent slice.
-const GUARD: usize = 16;
+pub(crate) const GUARD: usize = 16;
 /// By how much the noise is moved from call to call.
-const MOVES: usize = 1 << 10;
+pub(crate) const MOVES: usize = 1 << 10;
 
-/// A lent slice between its guards.
+/// A lent slice of words, or of bytes, between its guards.
 #[derive(Default)]
-struct Lent {
-    words: Vec<u32>,
+pub(crate) struct Lent<W> {
+    words: Vec<W>,
     len: usize,
 }
 
-impl Lent {
+impl<W: Copy + PartialEq + LowerHex> Lent<W> {
     /// A slice of `len` words filled with noise, as its guards are.
-    fn fill(&mut self, noise: &[u32], len: usize) {
+    pub(crate) fn fill(&mut self, noise: &[W], len: usize) {
         self.len = len;
         self.words.clear();
         self.words.extend_from_slice(&noise[..len + 2 * GUARD]);
     }
 
-    fn slice(&mut self) -> &mut [u32] {
+    pub(crate) fn slice(&mut self) -> &mut [W] {
         &mut self.words[GUARD..GUARD + self.len]
     }
 
     /// The index in the slice of the first word that is neither `front`'s nor as it was; before the slice it is negative.
-    fn changed(&self, noise: &[u32], front: &[u32]) -> Option<isize> {
+    fn changed(&self, noise: &[W], front: &[W]) -> Option<isize> {
         let (before, rest) = self.words.split_at(GUARD);
         let (filled, after) = rest.split_at(front.len());
         let from = GUARD + front.len();
@@ -100,7 +106,7 @@ impl Lent {
     }
 
     /// Says which word is neither `front`'s nor as it was.
-    fn judge(&self, name: &str, noise: &[u32], front: &[u32]) -> Result<(), String> {
+    pub(crate) fn judge(&self, name: &str, noise: &[W], front: &[W]) -> Result<(), String> {
         let Some(place) = self.changed(noise, front) else {
             return Ok(());
         };
@@ -109,7 +115,7 @@ impl Lent {
         let filled = filled.and_then(|place| front.get(place));
         let (is, wanted) = (self.words[at], filled.unwrap_or(&noise[at]));
         Err(format!(
-            "word {place} of the {name} buffer is {is:#x} and not {wanted:#x}"
+            "place {place} of the {name} buffer is {is:#x} and not {wanted:#x}"
         ))
     }
 }
@@ -119,9 +125,9 @@ impl Lent {
 pub struct Buffers {
     noise: Vec<u32>,
     moved: usize,
-    tree: Lent,
-    messages: Lent,
-    work: Lent,
+    tree: Lent<u32>,
+    messages: Lent<u32>,
+    work: Lent<u32>,
     zeros: Vec<u32>,
 }
 
@@ -138,6 +144,16 @@ impl Buffers {
 
     /// Makes the call; what it answers, or how what it left differs from what is expected.
     pub fn call(&mut self, call: &Call, expected: &Expected) -> Result<Read, String> {
+        self.call_by(library::parse, call, expected)
+    }
+
+    /// Makes the call of an entry that is lent the list, the tree, the messages and the work, and given the rest.
+    pub(crate) fn call_by(
+        &mut self,
+        entry: impl FnOnce(&[u32], &mut [u32], &mut [u32], &mut [u32], Given) -> Read,
+        call: &Call,
+        expected: &Expected,
+    ) -> Result<Read, String> {
         let lens = [call.tree_len, call.messages_len, call.work_len].map(|len| len as usize);
         self.stretch(*lens.iter().max().expect("there are three"));
         self.moved = (self.moved + 1) % MOVES;
@@ -153,7 +169,7 @@ impl Buffers {
             limit: call.limit,
         };
         let (tree, messages) = (self.tree.slice(), self.messages.slice());
-        let answer = library::parse(&call.list, tree, messages, self.work.slice(), given);
+        let answer = entry(&call.list, tree, messages, self.work.slice(), given);
         self.judge(answer, expected)?;
         Ok(answer)
     }

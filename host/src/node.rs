@@ -2,7 +2,7 @@
 
 use crate::layout;
 use crate::token::LOW;
-use crate::{Op, Payload, Span, Token, Tree, TreeRef};
+use crate::{Op, Payload, Rule, Span, Token, Tree, TreeRef};
 use std::fmt;
 
 /// Why a node's words are a token's.
@@ -121,6 +121,22 @@ impl<'t> Node<'t> {
     /// ```
     pub fn close(self) -> u32 {
         layout::close(self.words())
+    }
+
+    /// The rule that made the node: the first of the reader's passes that gave it children. None for a leaf, and in a tree that was not read by
+    /// [`Reader::read_with_rules`](crate::Reader::read_with_rules).
+    ///
+    /// ```
+    /// use sorbrudder::{Reader, Rule, Tokens};
+    ///
+    /// let list: Tokens = "a < b && c".parse().unwrap();
+    /// let tree = Reader::new().read_with_rules(&list, 6).unwrap();
+    /// let (root, less) = (tree.root(), tree.root().child(0).unwrap());
+    /// assert_eq!((root.rule(), less.rule()), (Some(Rule::And), Some(Rule::Comparison)));
+    /// assert_eq!(less.child(0).unwrap().rule(), None);
+    /// ```
+    pub fn rule(self) -> Option<Rule> {
+        self.tree.rule_of(self.number)
     }
 
     /// The node's token.

@@ -2,7 +2,7 @@
 
 use crate::token::LOW;
 use crate::{Limit, Messages, Refusal, Token, Tree, TreeRef, Used};
-use sorbrudder_sys::{Answer, Lent, MESSAGE_BUFFER, tree_buffer, work_buffer};
+use sorbrudder_sys::{Answer, Lent, MESSAGE_BUFFER, rule_buffer, tree_buffer, work_buffer};
 use std::fmt;
 
 /// The most tokens of a list.
@@ -31,6 +31,7 @@ pub struct Reader {
     limit: Limit,
     list: Vec<u32>,
     tree: Vec<u32>,
+    rules: Vec<u8>,
     work: Work,
 }
 
@@ -135,7 +136,36 @@ impl Work {
         given: Given,
         tree: &'t mut Vec<u32>,
     ) -> Result<&'t [u32], ReadError> {
-        let tokens = (list.len() / Token::WORDS).min(MOST_TOKENS);
+        let nodes = self.parse_by(sorbrudder_sys::parse, list, given, tree)?;
+        Ok(&tree[..Tree::NODE_WORDS * nodes])
+    }
+
+    /// Reads a list's words into a tree buffer and a rule buffer, and gives the parts of them that the tree fills.
+    fn parse_with_rules<'t>(
+        &mut self,
+        list: &[u32],
+        given: Given,
+        (tree, rules): (&'t mut Vec<u32>, &'t mut Vec<u8>),
+    ) -> Result<(&'t [u32], &'t [u8]), ReadError> {
+        let rules_len = rule_buffer(tokens_of(list));
+        if rules.len() < rules_len {
+            rules.resize(rules_len, 0);
+        }
+        let lent = &mut rules[..rules_len];
+        let entry = |words: Lent<'_>, given| sorbrudder_sys::parse_rules(words, lent, given);
+        let nodes = self.parse_by(entry, list, given, tree)?;
+        Ok((&tree[..Tree::NODE_WORDS * nodes], &rules[..nodes]))
+    }
+
+    /// Reads a list's words by an entry of the library; how many nodes the tree has.
+    fn parse_by(
+        &mut self,
+        entry: impl FnOnce(Lent<'_>, sorbrudder_sys::Given) -> Answer,
+        list: &[u32],
+        given: Given,
+        tree: &mut Vec<u32>,
+    ) -> Result<usize, ReadError> {
+        let tokens = tokens_of(list);
         let (tree_len, work_len) = (tree_buffer(tokens), work_buffer(tokens));
         if tree.len() < tree_len {
             tree.resize(tree_len, 0);
@@ -155,8 +185,8 @@ impl Work {
             used: given.used.halves(),
             limit: given.limit.get(),
         };
-        match sorbrudder_sys::parse(lent, given) {
-            Answer::Filled(nodes) => Ok(&tree[..Tree::NODE_WORDS * nodes]),
+        match entry(lent, given) {
+            Answer::Filled(nodes) => Ok(nodes),
             Answer::Messages(count) => {
                 let messages = Messages::from_records(&self.messages, count);
                 Err(ReadError::Messages(messages.expect(
@@ -167,11 +197,16 @@ impl Work {
             Answer::Refused(number, place) => {
                 let refusal = Refusal::of(number, place);
                 Err(ReadError::Refused(refusal.expect(
-                    "the buffers are long enough (3 to 5), a used set has no other bit (6), a limit is 1 to 4,096 (17)",
+                    "the buffers are long enough (3 to 5, 16), a used set has no other bit (6), a limit is 1 to 4,096 (17)",
                 )))
             }
         }
     }
+}
+
+/// How many tokens the buffers have to have room for: more than can be read are refused before.
+fn tokens_of(list: &[u32]) -> usize {
+    (list.len() / Token::WORDS).min(MOST_TOKENS)
 }
 
 /// The tokens' words, in a list that is used again. More than can be read are not laid out.
@@ -236,6 +271,32 @@ impl Reader {
         lay_out(tokens, &mut self.list)?;
         let given = Given::exact(&self.list, version, self.limit);
         self.parse_laid_out(given)
+    }
+
+    /// Reads a list as [`Reader::read`] does, and has each node of the tree say which rule made it ([`Node::rule`](crate::Node::rule)).
+    /// The tree is the same.
+    ///
+    /// ```
+    /// use sorbrudder::{Reader, Rule, Tokens};
+    ///
+    /// let list: Tokens = "a - b == c".parse().unwrap();
+    /// let mut reader = Reader::new();
+    /// let tree = reader.read_with_rules(&list, 6).unwrap();
+    /// assert_eq!(tree.to_string(), "54(9(a,6(b)),c)");
+    /// let rules: Vec<_> = tree.nodes().filter_map(|node| node.rule()).collect();
+    /// assert_eq!(rules, [Rule::Equality, Rule::Addition, Rule::Unary]);
+    /// assert_eq!(tree, reader.read(&list, 6).unwrap());
+    ///
+    /// // Below version 6 equality is one of the comparisons.
+    /// let tree = reader.read_with_rules(&list, 5).unwrap();
+    /// assert_eq!(tree.root().rule(), Some(Rule::Comparison));
+    /// ```
+    pub fn read_with_rules(&mut self, tokens: &[Token], version: i16) -> Result<Tree, ReadError> {
+        lay_out(tokens, &mut self.list)?;
+        let given = Given::exact(&self.list, version, self.limit);
+        let buffers = (&mut self.tree, &mut self.rules);
+        let (words, rules) = self.work.parse_with_rules(&self.list, given, buffers)?;
+        Ok(Tree::with_rules(words.to_vec(), rules.to_vec()))
     }
 
     /// Reads a list. The version is the one that a pack declares; below 0 and above 13 the library makes it effective as

@@ -5,7 +5,7 @@ use std::fmt;
 
 /// A call that is turned back before a list is read. Words are counted from 0.
 ///
-/// The library's other refusals cannot happen here: 3, 4 and 5 are about buffers, which the reader owns and keeps long
+/// The library's other refusals cannot happen here: 3, 4, 5 and 16 are about buffers, which the reader owns and keeps long
 /// enough, 6 is about bits that a [`Used`](crate::Used) cannot have, and 17 about numbers that are no
 /// [`Limit`](crate::Limit). 18 is [`ReadError::TooDeep`](crate::ReadError::TooDeep): such a list is sound, and too deep for
 /// the engine that it is read for. 12 to 15 are the writer's ([`WriteError`](crate::WriteError)). Of stack order 24 is a

@@ -22,10 +22,15 @@ use std::hash::{Hash, Hasher};
 ///
 /// A node is [`Tree::NODE_WORDS`] words: the five of its [`Token`]; a word whose top three bits are 6 and whose bits 0-13 are the number of
 /// its children; and a word whose top three bits are 7 and whose bits 0-28 are where it closes ([`Node::close`]).
+///
+/// Two trees are equal where their words are, whether they were read with rules
+/// ([`Reader::read_with_rules`](crate::Reader::read_with_rules)) or not.
 #[derive(Clone)]
 pub struct Tree {
     words: Vec<u32>,
     links: Vec<Link>,
+    /// As many as nodes where it was read with rules, else none.
+    rules: Vec<u8>,
     depth: usize,
 }
 
@@ -75,6 +80,11 @@ impl Tree {
 
     /// The tree of words that the library made, or that it found to be one tree.
     pub(crate) fn of_sound(words: Vec<u32>) -> Self {
+        Self::with_rules(words, Vec::new())
+    }
+
+    /// The tree of words that the library made, and the rules that it gave with them; none where it was not asked for any.
+    pub(crate) fn with_rules(words: Vec<u32>, rules: Vec<u8>) -> Self {
         let count = words.len() / Self::NODE_WORDS;
         let mut links = Vec::with_capacity(count);
         // The nodes whose children are still coming, with how many.
@@ -99,6 +109,7 @@ impl Tree {
         Self {
             words,
             links,
+            rules,
             depth,
         }
     }
@@ -190,7 +201,7 @@ impl Tree {
     /// assert_eq!(tree.view().to_string(), tree.to_string());
     /// ```
     pub fn view(&self) -> TreeRef<'_> {
-        TreeRef::linked(&self.words, &self.links)
+        TreeRef::linked(&self.words, &self.links, &self.rules)
     }
 
     /// The tree's words.
@@ -327,7 +338,7 @@ impl Tree {
     /// The tree with every bracket taken away that only groups: each with exactly one child whose parent is neither a
     /// query nor a math call. The child stands in its place.
     ///
-    /// This is what reading, writing and reading again keeps at every version.
+    /// This is what reading, writing and reading again keeps at every version. It is a tree without rules.
     ///
     /// ```
     /// use sorbrudder::{Reader, Tokens};

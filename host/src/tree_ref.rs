@@ -3,7 +3,7 @@
 use crate::layout;
 use crate::names::Letter;
 use crate::tree::judge;
-use crate::{Node, NotATree, Op, Payload, Tree};
+use crate::{Node, NotATree, Op, Payload, Rule, Tree};
 use sorbrudder_sys::Answer;
 use std::fmt;
 use std::hash::{Hash, Hasher};
@@ -35,6 +35,8 @@ pub struct TreeRef<'w> {
     words: &'w [u32],
     /// As many as nodes, or none.
     links: &'w [Link],
+    /// As many as nodes, or none.
+    rules: &'w [u8],
 }
 
 impl<'w> TreeRef<'w> {
@@ -52,11 +54,15 @@ impl<'w> TreeRef<'w> {
 
     /// The tree of words that the library made.
     pub(crate) fn of_sound(words: &'w [u32]) -> Self {
-        Self { words, links: &[] }
+        Self::linked(words, &[], &[])
     }
 
-    pub(crate) fn linked(words: &'w [u32], links: &'w [Link]) -> Self {
-        Self { words, links }
+    pub(crate) fn linked(words: &'w [u32], links: &'w [Link], rules: &'w [u8]) -> Self {
+        Self {
+            words,
+            links,
+            rules,
+        }
     }
 
     /// The tree's words.
@@ -140,7 +146,7 @@ impl<'w> TreeRef<'w> {
     /// assert_eq!(tree.to_string(), "7(a)");
     /// ```
     pub fn to_tree(self) -> Tree {
-        Tree::of_sound(self.words.to_vec())
+        Tree::with_rules(self.words.to_vec(), self.rules.to_vec())
     }
 
     /// The tree's words in stack order, each node's after those of its children, as [`Tree::to_stack`].
@@ -197,6 +203,11 @@ impl<'w> TreeRef<'w> {
             Some(link) => usize::from(link.end),
             None => layout::end_of(self.words, number),
         }
+    }
+
+    /// The rule of a node, where the tree was read with rules and the node is no leaf.
+    pub(crate) fn rule_of(self, number: usize) -> Option<Rule> {
+        Rule::new(*self.rules.get(number)?)
     }
 
     /// The number of the node above a node.

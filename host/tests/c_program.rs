@@ -1,10 +1,10 @@
-//! C programs that include the header and link the library: one reads a list, one puts a tree into stack order and runs it there, one has
-//! names of its own, one holds every number of the header to the crate's.
+//! C programs that include the header and link the library: one reads a list, one puts a tree into stack order and runs it there, one says
+//! which rule made each node, one has names of its own, one holds every number of the header to the crate's.
 
 mod common;
 
 use common::kept_lists;
-use sorbrudder::{Op, Payload, ReadError, Reader, Refusal, Token, Tree};
+use sorbrudder::{Op, Payload, ReadError, Reader, Refusal, Rule, Token, Tree};
 use std::collections::BTreeSet;
 use std::path::{Path, PathBuf};
 use std::process::Command;
@@ -69,6 +69,17 @@ const STACK_ORDER: Program = Program {
     ],
 };
 
+const RULES: Program = Program {
+    name: "rules",
+    lines: &[
+        "version 5: 57 AND 54 comparison 56 OR",
+        "version 6: 56 OR 57 AND 54 equality",
+        "refused 16 0",
+        "refused 8 0",
+        "messages 1",
+    ],
+};
+
 const HOST_NAMES: Program = Program {
     name: "host_names",
     lines: &[
@@ -125,6 +136,16 @@ fn a_c_program_runs_a_tree_in_stack_order() {
 #[test]
 fn a_cpp_program_runs_a_tree_in_stack_order() {
     STACK_ORDER.runs_in_cpp();
+}
+
+#[test]
+fn a_c_program_says_which_rule_made_each_node() {
+    RULES.runs_in_c();
+}
+
+#[test]
+fn a_cpp_program_says_which_rule_made_each_node() {
+    RULES.runs_in_cpp();
 }
 
 #[test]
@@ -195,9 +216,11 @@ fn enums() -> Vec<(String, u64)> {
         Refusal::OtherBits { word: 0 },
     ];
     let refusal = |refusal: Refusal| (named("REFUSAL", &variant(refusal)), refusal.number().into());
-    // No limit of the crate is refused, and a list that is too deep is an error of its own.
-    let nesting =
-        [("LIMIT", 17), ("TOO_DEEP", 18)].map(|(name, number)| (named("REFUSAL", name), number));
+    // No rule buffer and no limit of the crate is refused, and a list that is too deep is an error of its own.
+    let others = [("RULE_BUFFER", 16), ("LIMIT", 17), ("TOO_DEEP", 18)];
+    let others = others.map(|(name, number)| (named("REFUSAL", name), number));
+    let rules = Rule::ALL.map(|rule| (named("RULE", &variant(rule)), rule.number().into()));
+    let leaf = (named("RULE", "LEAF"), 0);
     let messages = messages();
     assert_eq!(messages.len(), 17);
     let messages = messages
@@ -205,7 +228,9 @@ fn enums() -> Vec<(String, u64)> {
         .map(|(name, number)| (named("MESSAGE", &name), number));
     ops.chain(payloads)
         .chain(refusals.map(refusal))
-        .chain(nesting)
+        .chain(others)
+        .chain(rules)
+        .chain([leaf])
         .chain(messages)
         .collect()
 }
@@ -230,6 +255,8 @@ fn sizes() -> Vec<(String, u64)> {
         ("TREE_BUFFER(4096)", sorbrudder_sys::tree_buffer(4096)),
         ("WORK_BUFFER(1)", sorbrudder_sys::work_buffer(1)),
         ("WORK_BUFFER(4096)", sorbrudder_sys::work_buffer(4096)),
+        ("RULE_BUFFER(1)", sorbrudder_sys::rule_buffer(1)),
+        ("RULE_BUFFER(4096)", sorbrudder_sys::rule_buffer(4096)),
         ("WORD_CHILDREN", Token::WORDS),
         ("WORD_CLOSE", Tree::NODE_WORDS - 1),
         ("VERSION_MAJOR", version[0]),

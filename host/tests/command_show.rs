@@ -21,22 +21,27 @@ fn drawing(list: &str) -> Vec<String> {
 }
 
 #[test]
-fn nodes_are_drawn_by_their_operators() {
+fn nodes_are_drawn_by_their_operators_and_rules() {
     assert_eq!(
         drawing("a - b"),
-        ["+ sum", "├─ a", "└─ - negative", "   └─ b"]
+        [
+            "+ sum [addition]",
+            "├─ a",
+            "└─ - negative [unary]",
+            "   └─ b"
+        ]
     );
-    assert_eq!(drawing("a - - b"), ["+ sum", "├─ a", "└─ b"]);
+    assert_eq!(drawing("a - - b"), ["+ sum [addition]", "├─ a", "└─ b"]);
     let returned = [
-        "; statement",
-        "└─ ; statement",
-        "   └─ return",
+        "; statement [semicolon]",
+        "└─ ; statement [semicolon]",
+        "   └─ return [return]",
         "      └─ a",
     ];
     assert_eq!(drawing("return a;"), returned);
     assert_eq!(
         drawing("math.sin(dosed)"),
-        ["math.sin", "└─ ( brackets", "   └─ dosed"]
+        ["math.sin [math]", "└─ ( brackets [section]", "   └─ dosed"]
     );
     let bracketed = shown(&["read", "--at", "5", "-e", "a - b && c || d"]);
     assert!(bracketed.starts_with("version 5   (a + (- b)) && (c || d)\n"));
@@ -51,16 +56,16 @@ version 4    (dosed ? hold : under) ? open : shut
 version 5    dosed ? hold : (under ? open : shut)
 version 6    dosed ? hold : (under ? open : shut)
 
-  version 4                  version 5, 6
-* ? if                     * ? if
-* ├─ ? if                  * ├─ dosed
-* │  ├─ dosed              * └─ : then and else
-* │  └─ : then and else    *    ├─ hold
-* │     ├─ hold            *    └─ ? if
-* │     └─ under           *       ├─ under
-* └─ : then and else       *       └─ : then and else
-*    ├─ open               *          ├─ open
-*    └─ shut               *          └─ shut
+  version 4                                version 5, 6
+* ? if [conditional]                     * ? if [conditional]
+* ├─ ? if [conditional]                  * ├─ dosed
+* │  ├─ dosed                            * └─ : then and else [conditional]
+* │  └─ : then and else [conditional]    *    ├─ hold
+* │     ├─ hold                          *    └─ ? if [conditional]
+* │     └─ under                         *       ├─ under
+* └─ : then and else [conditional]       *       └─ : then and else [conditional]
+*    ├─ open                             *          ├─ open
+*    └─ shut                             *          └─ shut
 
 below version 5 every `:` is paired, then every `?` from the left; from 5 on `?` and `:` belong together, nested to the right
 ";
@@ -75,6 +80,28 @@ below version 5 every `:` is paired, then every `?` from the left; from 5 on `?`
     let part = shown(&["versions", "-e", "x + (a && b || c)", "--at", "5,6"]);
     let marked = part.lines().filter(|line| line.starts_with("* ")).count();
     assert_eq!(marked, 5, "only what differs is marked: {part}");
+}
+
+#[test]
+fn versions_names_the_rule_of_each_node() {
+    let drawn = "\
+  version 4, 5                        version 6
+* && and [AND]                      * || or [OR]
+* ├─ == equal [comparison]          * ├─ && and [AND]
+* │  ├─ < less than [comparison]    * │  ├─ == equal [equality]
+* │  │  ├─ a                        * │  │  ├─ < less than [comparison]
+* │  │  └─ b                        * │  │  │  ├─ a
+* │  └─ c                           * │  │  │  └─ b
+* └─ || or [OR]                     * │  │  └─ c
+*    ├─ d                           * │  └─ d
+*    └─ e                           * └─ e
+";
+    let text = shown(&["versions", "-e", "a < b == c && d || e"]);
+    assert!(text.contains(drawn), "{text}");
+    // Versions 5 and 6 read one tree, and name a rule of it otherwise.
+    let text = shown(&["versions", "-e", "a == b ? c : d ? e : f"]);
+    assert!(text.contains("[comparison at 5; equality at 6]"), "{text}");
+    assert_eq!(text.matches("equality").count(), 1, "{text}");
 }
 
 #[test]
@@ -132,7 +159,8 @@ a * (b + (c))
 #[test]
 fn nodes_in_json_have_their_place() {
     let json = shown(&["read", "--at", "6", "--json", "-e", "(a) * b"]);
-    let section = r#"{"op":4,"operator":"(","children":1,"start":0,"end":1,"close":3}"#;
+    let section =
+        r#"{"op":4,"operator":"(","children":1,"start":0,"end":1,"close":3,"rule":"section"}"#;
     let operand = r#"{"op":61,"operator":"float","children":0,"start":1,"end":2,"close":2}"#;
     assert!(json.contains(&format!("{section},{operand}")), "{json}");
 }
@@ -168,6 +196,10 @@ fn the_page_marks_what_differs_and_needs_nothing_else() {
     );
     assert_eq!(page.matches("class=\"node differs\"").count(), 10);
     assert_eq!(page.matches("class=\"node\"").count(), 10);
+    for (rule, count) in [("AND", 2), ("OR", 2), ("comparison", 2), ("section", 2)] {
+        let made = format!("<span class=\"made\"> [{rule}]</span>");
+        assert_eq!(page.matches(&made).count(), count, "{rule}");
+    }
     for outside in ["<script", "http:", "https:", "src=", "@import", "url("] {
         assert!(!page.contains(outside), "{outside}");
     }

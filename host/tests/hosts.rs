@@ -245,9 +245,9 @@ fn archives_carry_hosts_and_the_command_shows_them() {
     let drawn = [
         "version 6   #300 + (#301 * a)",
         "",
-        "+ sum",
+        "+ sum [addition]",
         "├─ #300",
-        "└─ * product",
+        "└─ * product [multiplication]",
         "   ├─ #301",
         "   └─ a",
     ];

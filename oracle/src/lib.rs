@@ -8,7 +8,8 @@
 //! - [`closing`]: where each node closes, its seventh word, from the list alone (card 2);
 //! - [`nesting`]: how deep the brackets of a list nest (card 8);
 //! - [`hosts`]: lists with hosts' own names, which the Rust does not know (card 7);
-//! - [`refusal`]: answers 1 to 11, 17 and 18, written from the documents and not from the Rust;
+//! - [`rules`]: which rule made a node (card 5);
+//! - [`refusal`]: answers 1 to 11 and 16 to 18, written from the documents and not from the Rust;
 //! - [`generate`]: lists from a seed;
 //! - [`lines`]: the lines of document 01's section 'Lists and their trees', and what was found;
 //! - [`vectors`]: the answers that are kept in the repository.
@@ -19,6 +20,7 @@ pub mod hosts;
 pub mod lines;
 pub mod nesting;
 pub mod refusal;
+pub mod rules;
 pub mod vectors;
 pub mod words;
 
@@ -31,6 +33,8 @@ mod catalog;
 #[cfg(molangx)]
 #[path = "shim/compile.rs"]
 mod compile;
+#[cfg(molangx)]
+mod marked;
 #[cfg(molangx)]
 #[path = "shim/numeric.rs"]
 mod numeric;

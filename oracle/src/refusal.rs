@@ -1,6 +1,6 @@
 //! Where the entry turns a call back: answers 1 to 11 of document 01's table, 9 and 11 as card 7 has
-//! them, and card 8's 17 after the 7 and 18 after the words, the first failure winning. Written from
-//! the documents; the Rust has no part of it.
+//! them, and card 8's 17 after the 7 and 18 after the words, the first failure winning; with a rule
+//! buffer card 5's 16 after the 5. Written from the documents; the Rust has no part of it.
 
 use crate::nesting::{MOST_NESTING, too_deep};
 use crate::words::{
@@ -49,6 +49,35 @@ impl Call {
     pub fn at_limit(self, limit: u32) -> Self {
         Self { limit, ..self }
     }
+}
+
+/// What the entry with a rule buffer is lent and given.
+#[derive(Clone, Debug, PartialEq, Eq)]
+pub struct RuleCall {
+    pub call: Call,
+    /// Bytes of the rule buffer.
+    pub rules_len: u64,
+}
+
+/// The bytes of the rule buffer that a list of so many words is read with: three for each whole token.
+pub fn rule_bytes(list_words: usize) -> u64 {
+    3 * (list_words / TOKEN_WORDS) as u64
+}
+
+/// The answer that turns a call with a rule buffer back, if one does: 16 is looked at where 1 to 5
+/// were not answered, and before all others.
+pub fn rule_refusal(call: &RuleCall) -> Option<Refusal> {
+    let refused = refusal(&call.call);
+    if refused.is_some_and(|refused| refused.number <= 5) {
+        return refused;
+    }
+    if call.rules_len < rule_bytes(call.call.list.len()) {
+        return Some(Refusal {
+            number: 16,
+            place: 0,
+        });
+    }
+    refused
 }
 
 /// The answer that turns the call back, if one does.
@@ -306,6 +335,57 @@ mod tests {
             };
             assert_eq!(answer(bad_word), Some((8, 14)));
         }
+    }
+
+    #[test]
+    fn a_rule_buffer_has_three_bytes_a_token_and_comes_after_5() {
+        type Change = fn(&mut Call);
+        let answer = |rules_len: u64, change: Change| {
+            let mut call = sound(3);
+            change(&mut call);
+            let refused = rule_refusal(&RuleCall { call, rules_len });
+            refused.map(|refused| (refused.number, refused.place))
+        };
+        for (bytes, taken) in [(0, false), (3, false), (8, false), (9, true), (10, true)] {
+            let wanted = (!taken).then_some((16, 0));
+            assert_eq!(answer(bytes, |_| {}), wanted, "{bytes} bytes");
+        }
+        let before: [(u32, Change); 4] = [
+            (1, |call| call.list.push(0)),
+            (3, |call| call.tree_len = 0),
+            (4, |call| call.messages_len = 0),
+            (5, |call| call.work_len = 0),
+        ];
+        for (number, change) in before {
+            assert_eq!(answer(8, change), Some((number, 0)));
+            assert_eq!(answer(9, change), Some((number, 0)));
+        }
+        let after: [(u32, u32, Change); 6] = [
+            (6, 0, |call| call.used.1 = u64::MAX),
+            (7, 0, |call| call.source_len = 1 << 40),
+            (17, 0, |call| call.limit = 0),
+            (8, 14, |call| call.list[14] = 0),
+            (9, 5, |call| call.list[5] = word(1, 111)),
+            (18, 1, |call| {
+                call.list[0] = word(1, 4 | 1 << 8);
+                call.list[5] = word(1, 4 | 1 << 8);
+                call.limit = 1;
+            }),
+        ];
+        for (number, place, change) in after {
+            assert_eq!(answer(8, change), Some((16, 0)), "{number}");
+            assert_eq!(answer(9, change), Some((number, place)));
+        }
+        let none = RuleCall {
+            call: sound(0),
+            rules_len: 0,
+        };
+        assert_eq!(rule_refusal(&none), None);
+        let many = RuleCall {
+            call: sound(4097),
+            rules_len: 0,
+        };
+        assert_eq!(rule_refusal(&many).map(|refused| refused.number), Some(2));
     }
 
     #[test]

@@ -1,6 +1,7 @@
 //! The program `cases`: what it prints can be read back, and covers what its help promises.
 
 use oracle::hosts::has_hosts;
+use oracle::rules::{LAST_RULE, of_node};
 use oracle::words::{Answer, Case, FULL_SET, RustNode, Token, exact_set};
 use std::collections::BTreeSet;
 use std::process::Command;
@@ -55,9 +56,11 @@ fn read_case(lines: &mut Lines) -> (Case, Answer) {
     assert_eq!(lines.next(), Some("end"));
     let answer = match kind {
         "tree" => {
-            let node = |row: &Vec<u32>| RustNode {
-                token: token(row),
-                children: row[5],
+            let node = |row: &Vec<u32>| {
+                let (token, children, rule) = (token(row), row[5], row[6]);
+                let table = of_node(&token, children, version).map(u32::from);
+                assert_eq!(table, Some(rule), "{row:?} at {version}");
+                RustNode { token, children }
             };
             Answer::Tree(rows.iter().map(node).collect())
         }
@@ -86,6 +89,14 @@ fn covers_what_the_help_promises(cases: &[(Case, Answer)]) {
         .flat_map(|(_, answer)| answer.records().iter().map(|record| record[0]))
         .collect();
     assert_eq!(numbers, (1..=17).collect());
+    let rules: BTreeSet<u8> = cases
+        .iter()
+        .flat_map(|(case, answer)| {
+            let nodes = answer.nodes().iter();
+            nodes.filter_map(|node| of_node(&node.token, node.children, case.version))
+        })
+        .collect();
+    assert_eq!(rules, (0..=LAST_RULE).collect());
     for version in [i16::MIN, -1, 4, 5, 6, 13, 14, i16::MAX] {
         assert!(cases.iter().any(|(case, _)| case.version == version));
     }

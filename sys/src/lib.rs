@@ -36,6 +36,11 @@ pub const fn work_buffer(tokens: usize) -> usize {
     64 * tokens + 64
 }
 
+/// Bytes of the rule buffer that reading so many tokens with rules asks for.
+pub const fn rule_buffer(tokens: usize) -> usize {
+    NODES_PER_TOKEN * tokens
+}
+
 unsafe extern "C" {
     fn sorbrudder_parse(
         list: *const u32,
@@ -46,6 +51,23 @@ unsafe extern "C" {
         message_words: usize,
         work: *mut u32,
         work_words: usize,
+        source_length: u64,
+        version: i16,
+        used_low: u64,
+        used_high: u64,
+        limit: u32,
+    ) -> u64;
+    fn sorbrudder_parse_rules(
+        list: *const u32,
+        list_words: usize,
+        tree: *mut u32,
+        tree_words: usize,
+        messages: *mut u32,
+        message_words: usize,
+        work: *mut u32,
+        work_words: usize,
+        rules: *mut u8,
+        rule_bytes: usize,
         source_length: u64,
         version: i16,
         used_low: u64,
@@ -97,10 +119,10 @@ type WordsEntry = unsafe extern "C" fn(*const u32, usize, *mut u32, usize) -> u6
 pub enum Answer {
     /// So many nodes of a tree, or so many tokens of a list, fill the lent slice's front.
     Filled(usize),
-    /// So many message records fill the message slice's front. Only the parse entry answers this.
+    /// So many message records fill the message slice's front. Only the parse entries answer this.
     Messages(usize),
-    /// A refusal's number and place; no lent word was changed. Reading is refused with 1 to 11, 17 and 18, writing with 12 to 15, export
-    /// with 12 and 25, import with 24 and 25.
+    /// A refusal's number and place; no lent word was changed. Reading is refused with 1 to 11, 17 and 18, reading with rules with 16 too,
+    /// writing with 12 to 15, export with 12 and 25, import with 24 and 25.
     Refused(u32, usize),
 }
 
@@ -120,7 +142,7 @@ impl Answer {
     }
 }
 
-/// What the parse entry is lent.
+/// What the parse entries are lent.
 #[derive(Debug)]
 pub struct Lent<'b> {
     /// The list's words, [`TOKEN_WORDS`] a token.
@@ -133,7 +155,7 @@ pub struct Lent<'b> {
     pub work: &'b mut [u32],
 }
 
-/// What the parse entry is given beside what it is lent.
+/// What the parse entries are given beside what they are lent.
 #[derive(Copy, Clone, Debug)]
 pub struct Given {
     /// The length of the source, at most 536,870,911.
@@ -150,6 +172,32 @@ pub struct Given {
 #[inline]
 pub fn parse(lent: Lent<'_>, given: Given) -> Answer {
     parse_by(sorbrudder_parse, lent, given)
+}
+
+/// Reads a list's words as [`parse`] does. Of a tree the front of `rules` is filled too: a byte for each node in tree order, 0 for a leaf,
+/// else the number of the rule that first gave it children, 1 to 20. No other byte of `rules` is changed.
+#[inline]
+pub fn parse_rules(lent: Lent<'_>, rules: &mut [u8], given: Given) -> Answer {
+    // SAFETY: each slice is passed with its own length, the borrows keep them apart, and the entry keeps none of them.
+    Answer::of(unsafe {
+        sorbrudder_parse_rules(
+            lent.list.as_ptr(),
+            lent.list.len(),
+            lent.tree.as_mut_ptr(),
+            lent.tree.len(),
+            lent.messages.as_mut_ptr(),
+            lent.messages.len(),
+            lent.work.as_mut_ptr(),
+            lent.work.len(),
+            rules.as_mut_ptr(),
+            rules.len(),
+            given.source_len,
+            given.version,
+            given.used.0,
+            given.used.1,
+            given.limit,
+        )
+    })
 }
 
 /// Writes a tree's words as a list's.

@@ -5,7 +5,8 @@
 //! either. Rounds of batches go over all workloads in turn, and the least batch counts. The last line is `least ratio R, mean
 //! ratio M, greatest growth G`, of reading. Where `SORBRUDDER_BEFORE` names the folder of another archive when this is built,
 //! that library is timed in the same rounds (docs/notes/bench.md). Reading is timed under the greatest nesting limit, and long
-//! lists that nest less also under the limit 64, call by call in turn.
+//! lists that nest less also under the limit 64, call by call in turn. Call by call in turn reading is also timed with rules and
+//! without.
 //!
 //!     bench [ROUNDS]
 
@@ -29,7 +30,7 @@ mod timed {
     use compare::workloads::{self, SAME_AS_ONE, SCRIPT, Trees, Workload};
     use oracle::nesting::{MOST_NESTING, least_limit};
     use oracle::words::{Case, NODE_WORDS, TOKEN_WORDS, Token, list_words, low, tree_words};
-    use sorbrudder_sys::Answer;
+    use sorbrudder_sys::{Answer, Lent, parse_rules};
     use std::hint::black_box;
     use std::time::Instant;
 
@@ -96,6 +97,8 @@ mod timed {
         rust: Batches,
         /// Single calls under each of the limits.
         limited: [Batches; 2],
+        /// How much longer single calls with rules take than the ones beside them without, per node.
+        ruled: Batches,
     }
 
     impl Line {
@@ -108,6 +111,7 @@ mod timed {
                 before: Batches::default(),
                 rust: Batches::default(),
                 limited: Default::default(),
+                ruled: Batches::default(),
             }
         }
 
@@ -134,6 +138,11 @@ mod timed {
         fn for_the_limit(&self) -> Option<f64> {
             let [greatest, lower] = &self.limited;
             Some(lower.low(5)? - greatest.low(5)?)
+        }
+
+        /// How many nanoseconds a node takes more with rules, in the middle of the turns.
+        fn for_the_rules(&self) -> Option<f64> {
+            self.ruled.low(2)
         }
 
         /// How many times as long it takes as in the library before.
@@ -170,6 +179,7 @@ mod timed {
         tree: Vec<u32>,
         messages: Vec<u32>,
         work: Vec<u32>,
+        rules: Vec<u8>,
     }
 
     /// The library that is timed, and the one before it if there is one.
@@ -205,6 +215,7 @@ mod timed {
                 tree: vec![0; 3 * NODE_WORDS * most],
                 messages: vec![0; 16],
                 work: vec![0; 64 * most + 64],
+                rules: vec![0; 3 * most],
             };
             for call in 0..reading.calls.len() {
                 let case = &reading.calls[call].0;
@@ -223,16 +234,25 @@ mod timed {
         /// Reads one list into buffers of exactly the lengths that the library asks for.
         fn read(&mut self, library: Library, call: usize, limit: u32) -> Answer {
             let (case, list) = black_box(&self.calls[call]);
-            let given = Given {
-                source_len: u64::from(case.source_len),
-                version: case.version,
-                used: case.used,
-                limit,
-            };
+            let given = given(case, limit);
             let tokens = case.tokens.len();
             let tree = &mut self.tree[..3 * library.node_words * tokens];
             let work = &mut self.work[..64 * tokens + 64];
             library.parse(list, tree, &mut self.messages, work, given)
+        }
+
+        /// Reads the first list with rules, into such buffers.
+        fn read_with_rules(&mut self) -> Answer {
+            let (case, list) = black_box(&self.calls[0]);
+            let tokens = case.tokens.len();
+            let lent = Lent {
+                list,
+                tree: &mut self.tree[..3 * NODE_WORDS * tokens],
+                messages: &mut self.messages,
+                work: &mut self.work[..64 * tokens + 64],
+            };
+            let rules = &mut self.rules[..3 * tokens];
+            parse_rules(lent, rules, given(case, MOST_NESTING))
         }
 
         fn round(&mut self, round: usize) {
@@ -275,6 +295,36 @@ mod timed {
                     self.line.limited[which].0.push(nanoseconds / tokens as f64);
                 }
             }
+        }
+
+        /// Reads the first list without rules and with them in turn, each first in every other turn.
+        fn round_of_rules(&mut self) {
+            let Answer::Filled(nodes) = self.read_with_rules() else {
+                unreachable!("the reading was a tree");
+            };
+            let tokens = self.calls[0].0.tokens.len();
+            for turn in 0..BATCH.div_ceil(tokens) {
+                let mut took = [0.0; 2];
+                for which in [turn % 2, (turn + 1) % 2] {
+                    let since = Instant::now();
+                    black_box(match which {
+                        0 => self.read(self.libraries.now, 0, MOST_NESTING),
+                        _ => self.read_with_rules(),
+                    });
+                    took[which] = since.elapsed().as_nanos() as f64;
+                }
+                self.line.ruled.0.push((took[1] - took[0]) / nodes as f64);
+            }
+        }
+    }
+
+    /// What a case is read with beside its words.
+    fn given(case: &Case, limit: u32) -> Given {
+        Given {
+            source_len: u64::from(case.source_len),
+            version: case.version,
+            used: case.used,
+            limit,
         }
     }
 
@@ -689,6 +739,8 @@ mod timed {
             readings.for_each(|reading| reading.round(round));
             let limited = self.many.iter_mut().filter(|reading| reading.is_within());
             limited.for_each(Reading::round_of_limits);
+            let ruled = self.short.iter_mut().chain(&mut self.many);
+            ruled.for_each(Reading::round_of_rules);
             let writings = self.written.iter_mut().chain(&mut self.written_few);
             writings.for_each(|writing| writing.round(round));
             let reordered = self.reordered.iter_mut().chain(&mut self.reordered_few);
@@ -792,6 +844,22 @@ mod timed {
             );
         }
 
+        /// Says what the rules take.
+        fn print_ruled(&self) {
+            let mut greatest = f64::NEG_INFINITY;
+            for line in self.read() {
+                let Some(more) = line.for_the_rules() else {
+                    continue;
+                };
+                println!(
+                    "{:28} {:5} tokens  with rules {more:5.2} ns a node more",
+                    line.name, line.tokens
+                );
+                greatest = more.max(greatest);
+            }
+            println!("reading with rules: at most {greatest:.2} ns a node more");
+        }
+
         fn print_beside_before(&self) {
             if Library::before().is_some() {
                 print_beside("reading", self.all_read());
@@ -817,6 +885,7 @@ mod timed {
         }
         let greatest = timed.print_reading();
         timed.print_limited();
+        timed.print_ruled();
         timed.print_writing();
         timed.print_stack_order();
         timed.print_noise();

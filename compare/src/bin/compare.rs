@@ -1,6 +1,7 @@
-//! The long comparison (`make compare`): reading through the C convention beside the Rust, writing trees beside the second
-//! writer, export and import beside their model and each other, then reading, writing and reading again. The last line is `N
-//! lists, 0 differences`; a difference ends the run with a status that is not 0, after the smallest list that shows it.
+//! The long comparison (`make compare`): reading through the C convention beside the Rust, reading with rules beside the Rust whose
+//! passes mark the nodes, writing trees beside the second writer, export and import beside their model and each other, then reading,
+//! writing and reading again. The last line is `N lists, 0 differences`; a difference ends the run with a status that is not 0, after
+//! the smallest list that shows it.
 //!
 //!     compare [LISTS] [SEED]
 
@@ -50,10 +51,12 @@ mod run {
     use compare::reading::Buffers;
     use compare::reordering::{Way, reorder};
     use compare::rereading::{Lists, Reread, reread, write};
+    use compare::rule_calls;
+    use compare::ruling::Ruling;
     use compare::stack_model::{Reordered, on_deep_stack};
     use compare::writer_model::Written;
     use oracle::generate::Rng;
-    use oracle::refusal::Call;
+    use oracle::refusal::{Call, RuleCall};
     use oracle::words::{Case, tree_words};
     use std::io::{IsTerminal as _, Write as _};
     use std::time::{Duration, Instant};
@@ -158,6 +161,10 @@ mod run {
             "every list of up to 6 brackets at limits 1 to 4, and others beside their limits",
             &mut calls::nesting(6),
         )?;
+        let ruled = all_ruled(lists, seed);
+        let (Ok(count) | Err((count, _))) = ruled;
+        done += count;
+        ruled.map_err(|(_, difference)| (done, difference))?;
         for part in [
             every_number,
             short_brackets,
@@ -172,6 +179,70 @@ mod run {
             done += count;
             written.map_err(|(_, difference)| (done, difference))?;
         }
+        Ok(done)
+    }
+
+    /// Reads with rules, beside the Rust whose passes mark the nodes.
+    fn all_ruled(lists: usize, seed: u64) -> Result<u64, (u64, String)> {
+        let lens = [4_096, 4_095, 1_000, 100, 9];
+        let generated = |number, most| calls::generated(seed + number, most);
+        let ruled = |calls: Box<dyn Iterator<Item = Call>>| rule_calls::with_rules(seed, calls);
+        let parts: [(&str, Box<dyn Iterator<Item = Call>>); 9] = [
+            (
+                "generated lists of up to 24 tokens with rules",
+                Box::new(generated(10, 24).take(lists)),
+            ),
+            (
+                "generated lists of up to 300 tokens with rules",
+                Box::new(generated(11, 300).take(lists / 100)),
+            ),
+            (
+                "generated lists of up to 4,096 tokens with rules",
+                Box::new(generated(12, 4_096).take(lists / 5_000)),
+            ),
+            (
+                "lists with hosts in any place of up to 24 tokens with rules",
+                Box::new(calls::hosted(seed + 10, 24).take(lists / 5)),
+            ),
+            (
+                "lists of brackets of about 16 tokens with rules",
+                Box::new(calls::bracketed(seed + 10, 16).take(lists / 5)),
+            ),
+            (
+                "every list of up to 5 over three alphabets of 8, at 4, 5 and 6, with rules",
+                Box::new(calls::over_eights(5)),
+            ),
+            (
+                "every list of up to 5 over the generator's alphabets, at 4, 5 and 6, with rules",
+                Box::new(calls::over_alphabets(5)),
+            ),
+            (
+                "used sets that are not exact, with rules",
+                Box::new(calls::used_sets(seed + 10, 1_500)),
+            ),
+            (
+                "every shape, at 4, 5 and 6, with rules",
+                Box::new(lens.into_iter().flat_map(calls::shapes)),
+            ),
+        ];
+        let mut done = 0;
+        let mut part = |name, calls: &mut dyn Iterator<Item = RuleCall>| {
+            let read = ruling(name, calls);
+            let (Ok(count) | Err((count, _))) = read;
+            done += count;
+            read.map_err(|(_, difference)| (done, difference))
+        };
+        for (name, calls) in parts {
+            part(name, &mut ruled(calls))?;
+        }
+        part(
+            "lists that versions read otherwise, at every version, with rules",
+            &mut rule_calls::every_version(),
+        )?;
+        part(
+            "every refusal at its limits, each with rule buffers that are too short and long enough",
+            &mut rule_calls::limits(4),
+        )?;
         Ok(done)
     }
 
@@ -291,6 +362,23 @@ mod run {
         progress.end(&format!(
             "{} trees, {} with messages, {} turned back",
             tally.trees, tally.messages, tally.refused
+        ));
+        Ok(tally.calls)
+    }
+
+    fn ruling(
+        name: &'static str,
+        calls: &mut dyn Iterator<Item = RuleCall>,
+    ) -> Result<u64, (u64, String)> {
+        let mut progress = Progress::new(name);
+        let mut ruling = Ruling::default();
+        let ended = ruling.all(calls, || progress.one_more());
+        let tally = ruling.tally;
+        ended.map_err(|difference| (tally.calls, difference))?;
+        let nodes: u64 = tally.rules.iter().sum();
+        progress.end(&format!(
+            "{} trees of {nodes} nodes, {} with messages, {} turned back, {} of them for the rule buffer",
+            tally.trees, tally.messages, tally.refused, tally.short
         ));
         Ok(tally.calls)
     }

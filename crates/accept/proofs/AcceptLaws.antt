@@ -1,5 +1,5 @@
--- The table of refusals, row by row: its rows before the words in two parts, the words and the brackets token by token, what decides it of
--- a call, and what is known of a call that no row turns back. Assumes nothing.
+-- The table of refusals, row by row: its rows by lengths, by values, the words and the brackets token by token, what decides it of a call,
+-- and what is known of a call that no row turns back. Assumes nothing.
 use mathlib.Core.Path.{_≡_, refl, sym, ap, _∙_}
 use mathlib.Core.List.{List, [], _∷_, _++_}
 use mathlib.Core.Option.{Option, none, some}
@@ -15,7 +15,7 @@ use denote.Enum.Declared.{tagOf}
 use Rattle.molang.specs.FirstFailure.{must, firstOf}
 use Rattle.molang.specs.Words.{Refusal, row, operatorField, wordFault, lowFault, variantAfter, wordsRefusal, tokenOf, tokensOf}
 use Rattle.molang.specs.Nesting.{openAfter, firstAbove, tooDeep}
-use Rattle.molang.specs.Parse.{Call, mostTokens, isLimit, refusal}
+use Rattle.molang.specs.Parse.{Call, mostTokens, isLimit, lengthRows, valueRows, refusal}
 use Rattle.molang.proofs.FirstFailure.{must-true, must-false, found, passed, last-one, after-none, in-parts, behind}
 use Rattle.molang.proofs.ListWords.{tokens-count}
 use Rattle.molang.proofs.Accepted.{call-accepted}
@@ -26,11 +26,12 @@ use Rattle.words.proofs.CheckLaws.{good-token, token-refused, token-passed}
 use Rattle.accept.specs.declared.Sizes.{Sizes}
 use Rattle.accept.specs.declared.Accepted.{Accepted}
 use Rattle.accept.specs.declared.Accepted.the-variants.{Tokens, Refused}
-use Rattle.accept.specs.Accepting.{Verdict, isRead, isRefused, verdictOf, verdict, callOf, lengthRefusal, lentRefusal, nestingRefusal}
+use Rattle.accept.specs.Accepting.{Verdict, isRead, isRefused, verdictOf, verdict, callOf, lengthRefusal, valueRefusal}
+use Rattle.accept.specs.Accepting.{nestingRefusal}
 use Rattle.accept.proofs.Accepted.{the-type}
 
 -- What the checks are given of a call.
-abbrev sizesOf : Call → Sizes
+abbrev pub sizesOf : Call → Sizes
 sizesOf c = record { tree = length (c .tree); messages = length (c .messages); work = length (c .work); source = c .sourceLength }
 
 abbrev checkedOf : Call → Call
@@ -38,35 +39,40 @@ checkedOf c = callOf (c .list) (sizesOf c) (record { low = c .usedLow; high = c 
 
 -- ---- The rows
 
--- The table in four parts: by the list's length, by what is lent, by the words, by the brackets.
+-- The table in four parts: by lengths, by values, by the words, by the brackets.
 pub table : (list : List ℕ) (sizes : Sizes) (used : OpSet) (limit : ℕ)
     → refusal (callOf list sizes used limit)
     ≡ firstOf
-    (lengthRefusal (length list)
-    ∷ lentRefusal (length list / 5) sizes used limit
+    (lengthRefusal list sizes
+    ∷ valueRefusal (sizes .source) used limit
     ∷ wordsRefusal 0 operatorField 0 list
     ∷ nestingRefusal limit list
     ∷ [])
-unfolding refusal lengthRefusal lentRefusal
+unfolding refusal lengthRows valueRows valueRefusal
 table list sizes used limit =
-    let n = length list / 5 in
-    let later = wordsRefusal 0 operatorField 0 list ∷ nestingRefusal limit list ∷ [] in
-    let lent =
-    must (leb (21 * n) (sizes .tree)) (row 3 0)
-    ∷ must (leb 16 (sizes .messages)) (row 4 0)
-    ∷ must (leb (64 * n + 64) (sizes .work)) (row 5 0)
-    ∷ must (ltb (used .high * 2 ^ 64 + used .low) (2 ^ 111)) (row 6 0)
+    let values =
+    must (ltb (used .high * 2 ^ 64 + used .low) (2 ^ 111)) (row 6 0)
     ∷ must (leb (sizes .source) 536870911) (row 7 0)
     ∷ must (isLimit limit) (row 17 0)
     ∷ []
     in
-    rw (length-replicate {A = ℕ} (sizes .tree) 0, length-replicate {A = ℕ} (sizes .messages) 0, length-replicate {A = ℕ} (sizes .work) 0)
-    (in-parts (must (eqb (length list % 5) 0) (row 1 0) ∷ must (leb n mostTokens) (row 2 0) ∷ []) (lent ++ later)
-    ∙ behind (lengthRefusal (length list)) (lent ++ later) (firstOf lent ∷ later) (in-parts lent later))
+    let later = wordsRefusal 0 operatorField 0 list ∷ nestingRefusal limit list ∷ [] in
+    in-parts (lengthRows (callOf list sizes used limit)) (values ++ later)
+    ∙ behind (lengthRefusal list sizes) (values ++ later) (firstOf values ∷ later) (in-parts values later)
+
+-- Answers 1 to 5 are by the lengths of the list and the buffers.
+pub same-lengths : (c : Call) → lengthRefusal (c .list) (sizesOf c) ≡ firstOf (lengthRows c)
+unfolding lengthRows
+same-lengths c =
+    rw (
+      length-replicate {A = ℕ} (length (c .tree)) 0,
+      length-replicate {A = ℕ} (length (c .messages)) 0,
+      length-replicate {A = ℕ} (length (c .work)) 0,
+    )
 
 -- A refusal depends on the lengths of the buffers, and not on the version.
 pub same-refusal : (c : Call) → refusal (checkedOf c) ≡ refusal c
-unfolding refusal
+unfolding refusal lengthRows valueRows
 same-refusal c =
     rw (
       length-replicate {A = ℕ} (length (c .tree)) 0,
@@ -76,10 +82,17 @@ same-refusal c =
 
 -- ---- Answers
 
--- Only the answer without a refusal has a number of tokens.
+-- Only the answer without a refusal has a number of tokens, and one with a refusal has its number and place.
 pub accepted : (n m : ℕ) (o : Option Refusal) → isRead n ≡ verdict m o → (n ≡ m) × (o ≡ none)
 accepted n m none e = (cc, refl)
 accepted n m (some r) e = absurd (let z : _≡_ {A = ℕ} 0 1 = cc in omega arith)
+
+pub refused-as : (number place n : ℕ) (o : Option Refusal) → isRefused number place ≡ verdict n o → o ≡ some (row number place)
+refused-as number place n none e = absurd (let z : _≡_ {A = ℕ} 0 1 = cc in omega arith)
+refused-as number place n (some r) e =
+    let same-number : r .number ≡ number = cc in
+    let same-place : r .place ≡ place = cc in
+    λ i. some (row (same-number i) (same-place i))
 
 -- A refusal by the first row is the whole table's.
 pub refused-first : (x : Accepted) (n : ℕ) (o : Option Refusal) (later : List (Option Refusal)) → OneOf (1 ∷ []) (tagOf the-type x)
@@ -100,39 +113,40 @@ module _ (list : List ℕ) (sizes : Sizes) (used : OpSet) (limit : ℕ) where
   abbrev pub Answers : Accepted → Type 0
   Answers x = verdictOf x ≡ verdict (length list / 5) (refusal (callOf list sizes used limit))
 
-  pub by-length : (x : Accepted) → OneOf (1 ∷ []) (tagOf the-type x)
-      → verdictOf x ≡ verdict (length list / 5) (lengthRefusal (length list)) → Answers x
+  pub by-length : (x : Accepted) → OneOf (1 ∷ []) (tagOf the-type x) → verdictOf x ≡ verdict (length list / 5) (lengthRefusal list sizes)
+      → Answers x
   by-length x h e =
-      refused-first x (length list / 5) (lengthRefusal (length list)) _ h e
+      refused-first x (length list / 5) (lengthRefusal list sizes) _ h e
       ∙ ap (verdict (length list / 5)) (sym (table list sizes used limit))
 
-  -- A list whose length refuses nothing.
-  module _ (n : ℕ) (whole : isRead n ≡ verdict (length list / 5) (lengthRefusal (length list))) where
+  -- The lengths refuse nothing.
+  module _ (n : ℕ) (whole : isRead n ≡ verdict (length list / 5) (lengthRefusal list sizes)) where
     pub whole-tokens : (length list ≡ 5 * n) × (n ≤ 4096)
-    unfolding lengthRefusal
+    unfolding lengthRows
     whole-tokens =
-        let told = accepted n (length list / 5) (lengthRefusal (length list)) whole in
+        let told = accepted n (length list / 5) (lengthRefusal list sizes) whole in
         let one = passed (eqb (length list % 5) 0) (row 1 0) _ (told .1) in
         let two = passed (leb (length list / 5) mostTokens) (row 2 0) _ (one .1) in
         let count = told .0 in
         (omega (arith, eqb-true (length list % 5) 0 (one .0)), omega (arith, leb-true (length list / 5) mostTokens (two .0)))
 
-    left : verdict n (firstOf (lentRefusal n sizes used limit ∷ wordsRefusal 0 operatorField 0 list ∷ nestingRefusal limit list ∷ []))
+    left : verdict n
+        (firstOf (valueRefusal (sizes .source) used limit ∷ wordsRefusal 0 operatorField 0 list ∷ nestingRefusal limit list ∷ []))
         ≡ verdict (length list / 5) (refusal (callOf list sizes used limit))
     unfolding firstOf
     left =
-        let told = accepted n (length list / 5) (lengthRefusal (length list)) whole in
+        let told = accepted n (length list / 5) (lengthRefusal list sizes) whole in
         rw (told .0, table list sizes used limit, told .1)
 
-    pub by-lent : (x : Accepted) → OneOf (1 ∷ []) (tagOf the-type x) → verdictOf x ≡ verdict n (lentRefusal n sizes used limit)
+    pub by-values : (x : Accepted) → OneOf (1 ∷ []) (tagOf the-type x) → verdictOf x ≡ verdict n (valueRefusal (sizes .source) used limit)
         → Answers x
-    by-lent x h e = refused-first x n (lentRefusal n sizes used limit) _ h e ∙ left
+    by-values x h e = refused-first x n (valueRefusal (sizes .source) used limit) _ h e ∙ left
 
-    -- What is lent refuses nothing.
-    module _ (m : ℕ) (lent : isRead m ≡ verdict n (lentRefusal n sizes used limit)) where
+    -- The values refuse nothing.
+    module _ (m : ℕ) (legal : isRead m ≡ verdict n (valueRefusal (sizes .source) used limit)) where
       left-words : verdict n (firstOf (wordsRefusal 0 operatorField 0 list ∷ nestingRefusal limit list ∷ []))
           ≡ verdict (length list / 5) (refusal (callOf list sizes used limit))
-      left-words = passed-first m n (lentRefusal n sizes used limit) _ lent ∙ left
+      left-words = passed-first m n (valueRefusal (sizes .source) used limit) _ legal ∙ left
 
       pub by-words : (x : Accepted) → OneOf (1 ∷ []) (tagOf the-type x) → verdictOf x ≡ verdict n (wordsRefusal 0 operatorField 0 list)
           → Answers x
@@ -291,11 +305,4 @@ reads-call c n e =
     (none-refused, rw (told .0) (readable c none-refused))
 
 pub refuses-call : (c : Call) (number place : ℕ) → isRefused number place ≡ checked c → refusal c ≡ some (row number place)
-refuses-call c number place e = sym (same-refusal c) ∙ refused-as _ _ e
-  where
-    refused-as : (n : ℕ) (o : Option Refusal) → isRefused number place ≡ verdict n o → o ≡ some (row number place)
-    refused-as n none d = absurd (let z : _≡_ {A = ℕ} 0 1 = cc in omega arith)
-    refused-as n (some r) d =
-        let same-number : r .number ≡ number = cc in
-        let same-place : r .place ≡ place = cc in
-        λ i. some (row (same-number i) (same-place i))
+refuses-call c number place e = sym (same-refusal c) ∙ refused-as number place _ _ e

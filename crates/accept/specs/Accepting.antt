@@ -1,15 +1,15 @@
 -- What each answer of the checks says, the call that a list and the sizes beside it stand for, and the parts of the table that come before
 -- the words and after them.
-use Prim.Native.Nat.{ℕ, _+_, _*_, _/_, _%_, _^_}
+use Prim.Native.Nat.{ℕ, _+_, _*_, _^_}
 use mathlib.Core.List.{List, [], _∷_}
 use mathlib.Core.Option.{Option, none, some}
-use lib.Dec.{eqb, leb, ltb}
+use lib.Dec.{leb, ltb}
 use lib.IntN.{pos}
 use lib.ListN.{replicate}
 use Rattle.molang.specs.FirstFailure.{must, firstOf}
 use Rattle.molang.specs.Words.{Refusal, row, withNumber, tokensOf}
 use Rattle.molang.specs.Nesting.{tooDeep}
-use Rattle.molang.specs.Parse.{Call, mostTokens, isLimit}
+use Rattle.molang.specs.Parse.{Call, isLimit, lengthRows}
 use Rattle.ops.specs.declared.sets.OpSet.{OpSet}
 use Rattle.accept.specs.declared.Sizes.{Sizes}
 use Rattle.accept.specs.declared.Accepted.{Accepted}
@@ -45,19 +45,16 @@ callOf list sizes used limit =
       limit = limit;
     }
 
--- Answers 1 and 2.
-unfoldable pub lengthRefusal : ℕ → Option Refusal
-lengthRefusal words = firstOf (must (eqb (words % 5) 0) (row 1 0) ∷ must (leb (words / 5) mostTokens) (row 2 0) ∷ [])
+-- Answers 1 to 5. The used set and the limit have no part in them.
+abbrev pub lengthRefusal : List ℕ → Sizes → Option Refusal
+lengthRefusal list sizes = firstOf (lengthRows (callOf list sizes (record { low = 0; high = 0 }) 0))
 
--- Answers 3 to 7 and 17.
-unfoldable pub lentRefusal : ℕ → Sizes → OpSet → ℕ → Option Refusal
-lentRefusal tokens sizes used limit =
+-- Answers 6, 7 and 17.
+unfoldable pub valueRefusal : ℕ → OpSet → ℕ → Option Refusal
+valueRefusal sourceLength used limit =
     firstOf
-    (must (leb (21 * tokens) (sizes .tree)) (row 3 0)
-    ∷ must (leb 16 (sizes .messages)) (row 4 0)
-    ∷ must (leb (64 * tokens + 64) (sizes .work)) (row 5 0)
-    ∷ must (ltb (used .high * 2 ^ 64 + used .low) (2 ^ 111)) (row 6 0)
-    ∷ must (leb (sizes .source) 536870911) (row 7 0)
+    (must (ltb (used .high * 2 ^ 64 + used .low) (2 ^ 111)) (row 6 0)
+    ∷ must (leb sourceLength 536870911) (row 7 0)
     ∷ must (isLimit limit) (row 17 0)
     ∷ [])
 

@@ -13,7 +13,7 @@ ghost use Prim.Native.Nat.{_*_, _/_, _≤_};
 ghost use lib.ListN.{length};
 ghost use Rattle.molang.specs.Parse.{isLimit, refusal};
 ghost use Rattle.molang.specs.Words.{operatorField, wordsRefusal};
-ghost use Rattle.accept.specs.Accepting.{verdictOf, verdict, callOf, lengthRefusal, lentRefusal, nestingRefusal};
+ghost use Rattle.accept.specs.Accepting.{verdictOf, verdict, callOf, lengthRefusal, valueRefusal, nestingRefusal};
 
 // Words of the tree buffer per token, and of the work buffer per token and once more.
 pub const TREE_WORDS: usize = 21;
@@ -40,16 +40,26 @@ pub enum Accepted {
     Refused(u32, usize),
 }
 
-// Answers 1 and 2.
-fn list_length(words: usize) -> Accepted
-    ensures { λ r. ⌜ verdictOf r ≡ verdict (words / 5) (lengthRefusal words) ⌝ }
+// Answers 1 to 5, which lengths alone decide.
+pub fn lengths(list: &[u32], sizes: Sizes) -> Accepted
+    ensures { λ r. ⌜ verdictOf r ≡ verdict (length (now (list .entry)) / 5) (lengthRefusal (now (list .entry)) sizes) ⌝ }
 {
+    let words = list.len();
     if words % fields::TOKEN_WORDS != 0 {
         return Accepted::Refused(refusals::LIST_NOT_WHOLE, 0);
     }
     let n = words / fields::TOKEN_WORDS;
     if fields::MOST_TOKENS < n {
         return Accepted::Refused(refusals::TOO_MANY_TOKENS, 0);
+    }
+    if sizes.tree < TREE_WORDS * n {
+        return Accepted::Refused(refusals::SHORT_TREE_BUFFER, 0);
+    }
+    if sizes.messages < 2 * fields::RECORD_WORDS {
+        return Accepted::Refused(refusals::SHORT_MESSAGE_BUFFER, 0);
+    }
+    if sizes.work < WORK_WORDS * n + WORK_WORDS {
+        return Accepted::Refused(refusals::SHORT_WORK_BUFFER, 0);
     }
     Accepted::Tokens(n)
 }
@@ -61,24 +71,14 @@ fn is_limit(limit: u32) -> bool
     1 <= limit && limit <= MOST_LIMIT
 }
 
-// Answers 3 to 7 and 17, for n tokens, which are no more than `list_length` lets through.
-fn buffers(n: usize, sizes: Sizes, used: OpSet, limit: u32) -> Accepted
-    requires { ⌜ n ≤ 4096 ⌝ }
-    ensures { λ r. ⌜ verdictOf r ≡ verdict n (lentRefusal n sizes used limit) ⌝ }
+// Answers 6, 7 and 17, to a call of n tokens.
+fn values(n: usize, source: u64, used: OpSet, limit: u32) -> Accepted
+    ensures { λ r. ⌜ verdictOf r ≡ verdict n (valueRefusal «source» used limit) ⌝ }
 {
-    if sizes.tree < TREE_WORDS * n {
-        return Accepted::Refused(refusals::SHORT_TREE_BUFFER, 0);
-    }
-    if sizes.messages < 2 * fields::RECORD_WORDS {
-        return Accepted::Refused(refusals::SHORT_MESSAGE_BUFFER, 0);
-    }
-    if sizes.work < WORK_WORDS * n + WORK_WORDS {
-        return Accepted::Refused(refusals::SHORT_WORK_BUFFER, 0);
-    }
     if !used.is_legal() {
         return Accepted::Refused(refusals::USED_SET_TOO_HIGH, 0);
     }
-    if MOST_SOURCE < sizes.source {
+    if MOST_SOURCE < source {
         return Accepted::Refused(refusals::SOURCE_TOO_LONG, 0);
     }
     if !is_limit(limit) {
@@ -87,7 +87,7 @@ fn buffers(n: usize, sizes: Sizes, used: OpSet, limit: u32) -> Accepted
     Accepted::Tokens(n)
 }
 
-// Answers 8 to 11: the words of n tokens, in list order. `list_length` has counted them.
+// Answers 8 to 11: the words of n tokens, in list order. `lengths` has counted them.
 fn token_words(list: &[u32], n: usize) -> Accepted
     requires { ⌜ length (now list) ≡ 5 * n ⌝ }
     ensures { λ r. ⌜ verdictOf r ≡ verdict n (wordsRefusal 0 operatorField 0 (now (list .entry))) ⌝ }
@@ -135,13 +135,13 @@ fn nesting(list: &[u32], n: usize, limit: u32) -> Accepted
 pub fn accept(list: &[u32], sizes: Sizes, used: OpSet, limit: u32) -> Accepted
     ensures { λ r. ⌜ verdictOf r ≡ verdict (length (now (list .entry)) / 5) (refusal (callOf (now (list .entry)) sizes used limit)) ⌝ }
 {
-    let length = list_length(list.len());
+    let length = lengths(list, sizes);
     let Accepted::Tokens(n) = length else {
         return length;
     };
-    let lent = buffers(n, sizes, used, limit);
-    let Accepted::Tokens(_) = lent else {
-        return lent;
+    let value = values(n, sizes.source, used, limit);
+    let Accepted::Tokens(_) = value else {
+        return value;
     };
     let words = token_words(list, n);
     let Accepted::Tokens(_) = words else {

@@ -1,7 +1,7 @@
 -- The parse entry's table both ways: the list of a call that is not turned back is legal tokens, and a call with legal tokens and room for
--- them is not turned back.
+-- them is not turned back. What a rule buffer changes of it: nothing where the call is read.
 use Prim.Native.Nat.{ℕ, _+_, _*_, _/_, _%_, _^_, _≤_, _<_}
-use mathlib.Core.Path.{_≡_, ap, _∙_}
+use mathlib.Core.Path.{_≡_, refl, ap, sym, _∙_}
 use mathlib.Core.Bool.{true}
 use mathlib.Core.List.{List}
 use mathlib.Core.Option.{none}
@@ -12,8 +12,10 @@ use borrow.Author.Tests.{eqb-true, leb-true, ltb-true, eq-eqb, le-leb, lt-ltb}
 use Rattle.molang.specs.Forest.{Token}
 use Rattle.molang.specs.Words.{row, operatorField, wordsRefusal, tokensOf, listWords}
 use Rattle.molang.specs.Nesting.{tooDeep}
-use Rattle.molang.specs.Parse.{Call, mostTokens, isLimit, refusal}
-use Rattle.molang.proofs.FirstFailure.{first-none, then-none, passed, passes, all-passed, withNumber-none, without-number}
+use Rattle.molang.specs.Parse.{Call, mostTokens, isLimit, lengthRows, valueRows, refusal, answered, treeAfter, messagesAfter}
+use Rattle.molang.specs.Parse.{workAfter}
+use Rattle.molang.specs.Rules.{RuleCall, ruleRefusal, ruleAnswered, ruledTreeAfter, ruledMessagesAfter, ruledWorkAfter}
+use Rattle.molang.proofs.FirstFailure.{first-none, then-none, passed, passes, all-passed, in-parts, withNumber-none, without-number}
 use Rattle.molang.proofs.Words.{LegalTokens, words-back}
 use Rattle.molang.proofs.ListWords.{list-unrefused, listWords-length}
 
@@ -33,7 +35,7 @@ pub record Accepted (c : Call) : Type 0 where
   pub nesting : tooDeep (c .limit) (tokensOf (c .list)) ≡ none
 
 pub call-accepted : (c : Call) → refusal c ≡ none → Accepted c
-unfolding refusal
+unfolding refusal lengthRows valueRows
 call-accepted c h =
     let n = length (c .list) / 5 in
     let one = passed (eqb (length (c .list) % 5) 0) (row 1 0) _ h in
@@ -80,7 +82,7 @@ pub record Acceptable (d : Call) (ks : List Token) : Type 0 where
   pub nesting : tooDeep (d .limit) (tokensOf (d .list)) ≡ none
 
 pub call-acceptable : (d : Call) (ks : List Token) → Acceptable d ks → refusal d ≡ none
-unfolding refusal
+unfolding refusal lengthRows valueRows
 call-acceptable d ks a =
     let long : length (d .list) ≡ 5 * length ks = ap length (a .list) ∙ listWords-length ks in
     let words : wordsRefusal 0 operatorField 0 (d .list) ≡ none = rw (a .list) (list-unrefused (a .legal) 0 0) in
@@ -98,3 +100,25 @@ call-acceptable d ks a =
     (passes _ (row 17 0) _ (a .limit)
     (then-none _ _ words
     (then-none _ _ (without-number 18 (tooDeep (d .limit) (tokensOf (d .list))) (a .nesting)) all-passed)))))))))
+
+-- ---- With a rule buffer
+
+-- A call that is not turned back is not turned back without the buffer.
+pub rule-accepted : (c : RuleCall) → ruleRefusal c ≡ none → refusal (c .call) ≡ none
+unfolding ruleRefusal refusal
+rule-accepted c h =
+    let x = first-none _ _ (sym (in-parts (lengthRows (c .call)) _) ∙ h) in
+    in-parts (lengthRows (c .call)) (valueRows (c .call)) ∙ then-none _ _ (x .0) (first-none _ _ (x .1) .1)
+
+-- THE TREE BESIDE THE RULES is the one that is given without the buffer, and so are messages and the work buffer.
+pub record AsWithout (c : RuleCall) : Type 0 where
+  pub told : ruleAnswered c ≡ answered (c .call)
+  pub tree : ruledTreeAfter c ≡ treeAfter (c .call)
+  pub messages : ruledMessagesAfter c ≡ messagesAfter (c .call)
+  pub work : ruledWorkAfter c ≡ workAfter (c .call)
+
+pub as-without : (c : RuleCall) → ruleRefusal c ≡ none → AsWithout c
+unfolding ruleAnswered ruledTreeAfter ruledMessagesAfter ruledWorkAfter answered treeAfter messagesAfter workAfter
+as-without c h =
+    let e : ruleRefusal c ≡ refusal (c .call) = h ∙ sym (rule-accepted c h) in
+    record { told = rw e refl; tree = rw e refl; messages = rw e refl; work = rw e refl }

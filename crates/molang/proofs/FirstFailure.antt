@@ -118,6 +118,13 @@ module _ {A : Type 0} (P : A → Type 0) where
   all-must true a x = tt
   all-must false a x = x
 
+  -- One check more after the first.
+  pub all-between : (o more : Option A) (later : List (Option A)) → All P more → All P (firstOf (o ∷ later))
+      → All P (firstOf (o ∷ more ∷ later))
+  unfolding firstOf
+  all-between none more later x y = all-first more later x y
+  all-between (some a) more later x y = y
+
   -- The later ones are asked where the first test holds.
   pub all-unless : (b : Bool) (a : A) (later : List (Option A)) → P a → (b ≡ true → All P (firstOf later))
       → All P (firstOf (must b a ∷ later))

@@ -25,8 +25,8 @@ use Rattle.molang.specs.Words.{Field, operatorField, startField, endFiel
 use Rattle.molang.specs.Words.{lowFault, wordFault, variantAfter, nextInToken, Refusal, wordsRefusal}
 use Rattle.molang.specs.Legal.{Legal, LegalTrees, noTrees, legalTree}
 use Rattle.molang.specs.Nesting.{openAfter, firstAbove, tooDeep}
-use Rattle.molang.specs.Parse.{Call, refusal, reading, recordWords, aTree, someMessages, told, answered, inFront, treeIn}
-use Rattle.molang.specs.Parse.{treeAfter, messagesIn, messagesAfter, workIn, workAfter}
+use Rattle.molang.specs.Parse.{Call, lengthRows, valueRows, refusal, reading, recordWords, aTree, someMessages, told, answered}
+use Rattle.molang.specs.Parse.{inFront, treeIn, treeAfter, messagesIn, messagesAfter, workIn, workAfter}
 use Rattle.molang.specs.Hosts.{isHostWord, withThisWord, hostless, treeTold, In, first, later, KeptFrom, ReadsAsThis}
 use Rattle.molang.proofs.Booleans
 use Rattle.molang.proofs.Trees.{both, decided}
@@ -514,7 +514,7 @@ then-same none x y h = rw (h refl) refl
 then-same (some r) x y h = refl
 
 refusal-same : (c : Call) → refusal (hostless c) ≡ refusal c
-unfolding refusal hostless
+unfolding refusal lengthRows valueRows hostless
 refusal-same c =
     rw (length-map (c .list) withThisWord, words-same 0 operatorField 0 (c .list))
     (behind _ _ _ (behind _ _ _ (behind _ _ _ (behind _ _ _ (behind _ _ _ (behind _ _ _ (behind _ _ _ (behind _ _ _

@@ -52,3 +52,4 @@ pub mod Relabelling
 pub mod MessageNumbers
 pub mod Hosts
 pub mod OldWords
+pub mod OperatorRules

@@ -1,18 +1,22 @@
 -- Which refusals a call can get: what holds of every row's refusal holds of the table's, a word's answer is 8 to 11 at a word of the list,
--- and an answer 18 is at a token of it.
-use Prim.Native.Nat.{ℕ, suc, _+_, _/_, _%_, _≤_, _<_}
+-- and an answer 18 is at a token of it. With a rule buffer, and the turn of answer 16.
+use Prim.Native.Nat.{ℕ, suc, _+_, _*_, _/_, _%_, _≤_, _<_}
+use mathlib.Core.Path.{_≡_, _∙_}
 use mathlib.Core.List.{List, [], _∷_}
 use mathlib.Core.Option.{Option, none, some}
 use native.Mathlib.Omega.{arith}
+use lib.Dec.{leb}
 use lib.ListN.{length}
-use borrow.Author.Tests.{leb-true, eqb-true}
+use borrow.Author.Tests.{leb-true, lt-leb, eqb-true}
 use Rattle.molang.specs.Forest.{Token}
 use Rattle.molang.specs.Words.{Field, operatorField, startField, endField, upperField, lowerField, countField, closeField, lowOf}
 use Rattle.molang.specs.Words.{lowFault, wordFault, variantAfter, nextInToken, Refusal, row, withPlace, withNumber, wordsRefusal}
 use Rattle.molang.specs.Words.{tokensOf}
 use Rattle.molang.specs.Nesting.{openAfter, firstAbove, tooDeep}
-use Rattle.molang.specs.Parse.{Call, mostTokens, refusal}
-use Rattle.molang.proofs.FirstFailure.{All, all-first, all-last, all-must, all-unless}
+use Rattle.molang.specs.FirstFailure.{firstOf}
+use Rattle.molang.specs.Parse.{Call, mostTokens, lengthRows, valueRows, refusal}
+use Rattle.molang.specs.Rules.{RuleCall, ruleRefusal}
+use Rattle.molang.proofs.FirstFailure.{must-false, found, in-parts, All, all-first, all-last, all-must, all-between, all-unless}
 use Rattle.molang.proofs.ListWords.{tokens-count}
 
 -- ---- The rows
@@ -22,7 +26,7 @@ pub all-rows : (P : Refusal → Type 0) (c : Call) → ((n : ℕ) → n ≤ 7 �
     → (length (c .list) ≤ 20480 → All P (wordsRefusal 0 operatorField 0 (c .list)))
     → (length (c .list) ≤ 20480 → All P (withNumber 18 (tooDeep (c .limit) (tokensOf (c .list)))))
     → All P (refusal c)
-unfolding refusal
+unfolding refusal lengthRows valueRows
 all-rows P c first limit words nesting =
     all-unless P _ _ _ (first 1 (omega arith))
     (λ whole. all-unless P _ _ _ (first 2 (omega arith))
@@ -101,3 +105,24 @@ refusal-within c =
     place : (o : Option ℕ) → All (λ p. p < 20480) o → All (Within 18 20480) (withNumber 18 o)
     place none x = tt
     place (some p) x = (omega arith, omega arith)
+
+-- The same with a rule buffer, whose row has place 0.
+pub rule-refusal-within : (c : RuleCall) → All (Within 18 20480) (ruleRefusal c)
+unfolding ruleRefusal refusal
+rule-refusal-within c =
+    let P = Within 18 20480 in
+    rw (in-parts (lengthRows (c .call)))
+    (all-between P _ _ (valueRows (c .call)) (all-must P _ (row 16 0) (omega arith, omega arith))
+    (rw (in-parts (lengthRows (c .call)) (valueRows (c .call))) at (refusal-within (c .call))))
+
+-- ANSWER 16'S TURN is after 5 and before all others: the first five rows answer before it, and where they do not a short buffer does.
+pub before-sixteen : (c : RuleCall) (r : Refusal) → firstOf (lengthRows (c .call)) ≡ some r → ruleRefusal c ≡ some r
+unfolding ruleRefusal
+before-sixteen c r e = in-parts (lengthRows (c .call)) _ ∙ found (firstOf (lengthRows (c .call))) r _ e
+
+pub sixteen : (c : RuleCall) → firstOf (lengthRows (c .call)) ≡ none → length (c .rules) < 3 * (length (c .call .list) / 5)
+    → ruleRefusal c ≡ some (row 16 0)
+unfolding ruleRefusal firstOf
+sixteen c e h =
+    let short = must-false (leb (3 * (length (c .call .list) / 5)) (length (c .rules))) (row 16 0) (lt-leb _ _ h) in
+    in-parts (lengthRows (c .call)) _ ∙ (rw e (found _ (row 16 0) (valueRows (c .call)) short))

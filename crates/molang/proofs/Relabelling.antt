@@ -35,7 +35,7 @@ use Rattle.molang.specs.Order.{unaryMinusAndNot, addition, conditional, 
 use Rattle.molang.specs.Order.{runs, lastOf, endsWithSemicolon, apply}
 use Rattle.molang.specs.Read.{Answer, tree, messages, lowestStart, highestEnd, lastEnd, rooted, endsReading, grouped, read}
 use Rattle.molang.proofs.Trees.{both, either}
-use Rattle.molang.proofs.Walks.{back, onward, walk-onward}
+use Rattle.molang.proofs.Walks.{back, onward, walk-onward, afterRun}
 use Rattle.molang.proofs.Unary.{inNode, atNode}
 use Rattle.molang.proofs.Conditional.{scanned, scan-once}
 use Rattle.molang.proofs.Sections.{afterMember, afterBracket}
@@ -919,7 +919,7 @@ module _ (φ : Token → Token) (A : Unnoticed φ) where
 
   -- ---- All passes
 
-  apply-natural : (l : ℕ) (p : Pass) (f : Forest) → isQuiet p ≡ true → apply l p (relabelled φ f) ≡ resultOf φ (apply l p f)
+  pub apply-natural : (l : ℕ) (p : Pass) (f : Forest) → isQuiet p ≡ true → apply l p (relabelled φ f) ≡ resultOf φ (apply l p f)
   unfolding apply isQuiet allNamed isNamed openFor relabelled
   apply-natural l lastToken f h = ends-natural l f
   apply-natural l memberAccessors f h = members-natural nil f
@@ -936,17 +936,10 @@ module _ (φ : Token → Token) (A : Unnoticed φ) where
   apply-natural l (binary ops) f h = through-natural (binaryLevel ops) (binary-natural ops h) f
 
   module _ (l : ℕ) (u : ℕ → Bool) where
-    unfoldable afterRun : Pass → List Pass → List Message → Result → Answer
-    afterRun p ps so-far x =
-        elim x [
-          | ok g ↦ grouped l u ps so-far g
-          | fail m ↦ elim (endsReading p) [ true ↦ messages (so-far ++ m) | false ↦ grouped l u ps (so-far ++ m) nil ]
-        ]
-
     afterRun-natural : (p : Pass) (ps : List Pass) (so-far : List Message) (x : Result)
         → ((so-far : List Message) (g : Forest)
         → grouped l u ps (messagesOf φ so-far) (relabelled φ g) ≡ answerOf φ (grouped l u ps so-far g))
-        → afterRun p ps (messagesOf φ so-far) (resultOf φ x) ≡ answerOf φ (afterRun p ps so-far x)
+        → afterRun l u p ps (messagesOf φ so-far) (resultOf φ x) ≡ answerOf φ (afterRun l u p ps so-far x)
     unfolding afterRun resultOf answerOf relabelled
     afterRun-natural p ps so-far (ok g) later = later so-far g
     afterRun-natural p ps so-far (fail m) later =
@@ -960,7 +953,7 @@ module _ (φ : Token → Token) (A : Unnoticed φ) where
     grouped-natural (p ∷ ps) so-far f h =
         let e = both (isQuiet p) (allQuiet ps) h in
         pick (answerOf φ) (runs u p) _ refl
-        (ap (afterRun p ps (messagesOf φ so-far)) (apply-natural l p f (e .0))
+        (ap (afterRun l u p ps (messagesOf φ so-far)) (apply-natural l p f (e .0))
         ∙ afterRun-natural p ps so-far (apply l p f) (λ sf g. grouped-natural ps sf g (e .1)))
         (grouped-natural ps so-far f (e .1))
 

@@ -3,11 +3,13 @@
 use Prim.Native.Nat.{ℕ}
 use mathlib.Core.Path.{_≡_, refl}
 use mathlib.Core.Bool.{Bool, true, false, _||_, not, or-true, or-false}
-use mathlib.Core.List.{List}
+use mathlib.Core.List.{List, _++_}
 use lib.ListN.{length}
 use Rattle.molang.specs.Forest.{Token, Forest, nil, node}
 use Rattle.molang.specs.Message.{Message, Result, ok, fail}
 use Rattle.molang.specs.Level.{Step, stop, on, into, Level, walk, through}
+use Rattle.molang.specs.Order.{Pass}
+use Rattle.molang.specs.Read.{Answer, messages, endsReading, grouped}
 use Rattle.molang.specs.Free.{isNil}
 
 -- A pass ends in so many messages, or in a list of which Q holds.
@@ -86,3 +88,11 @@ module _ {I S : Type 0} (Good : I → Forest → Type 0) (bound : Forest → I) 
   pub through-keeps : (f : Forest) → Ends Good (bound f) (not (isNil f)) (through L f)
   unfolding through
   through-keeps f = walk-keeps (L .start f) f (bound f) (A .begins f) (not (isNil f)) (λ e. rw (e, or-true) refl)
+
+-- `grouped` after a pass that runs, by what the pass gives.
+unfoldable pub afterRun : ℕ → (ℕ → Bool) → Pass → List Pass → List Message → Result → Answer
+afterRun l u p ps so-far x =
+    elim x [
+      | ok g ↦ grouped l u ps so-far g
+      | fail m ↦ elim (endsReading p) [ true ↦ messages (so-far ++ m) | false ↦ grouped l u ps (so-far ++ m) nil ]
+    ]

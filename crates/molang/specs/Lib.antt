@@ -20,6 +20,8 @@ pub mod Legal
 pub mod Nesting
 pub mod Parse
 pub mod Hosts
+pub mod Rules
+pub mod OperatorRules
 pub mod Plain
 pub mod Write
 pub mod WriteEntry

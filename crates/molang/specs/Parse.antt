@@ -38,22 +38,30 @@ mostTokens = 4096
 unfoldable pub isLimit : ℕ → Bool
 isLimit limit = leb 1 limit && leb limit mostTokens
 
--- The table, from the top; the first failure wins.
-unfoldable pub refusal : Call → Option Refusal
-refusal c =
+-- The table's rows by lengths alone, from the top.
+unfoldable pub lengthRows : Call → List (Option Refusal)
+lengthRows c =
     let tokens = length (c .list) / 5 in
-    firstOf
-    (must (eqb (length (c .list) % 5) 0) (row 1 0)
+    must (eqb (length (c .list) % 5) 0) (row 1 0)
     ∷ must (leb tokens mostTokens) (row 2 0)
     ∷ must (leb (21 * tokens) (length (c .tree))) (row 3 0)
     ∷ must (leb 16 (length (c .messages))) (row 4 0)
     ∷ must (leb (64 * tokens + 64) (length (c .work))) (row 5 0)
-    ∷ must (ltb (c .usedHigh * 2 ^ 64 + c .usedLow) (2 ^ 111)) (row 6 0)
+    ∷ []
+
+-- Its rows after these, by what the call brings.
+unfoldable pub valueRows : Call → List (Option Refusal)
+valueRows c =
+    must (ltb (c .usedHigh * 2 ^ 64 + c .usedLow) (2 ^ 111)) (row 6 0)
     ∷ must (leb (c .sourceLength) 536870911) (row 7 0)
     ∷ must (isLimit (c .limit)) (row 17 0)
     ∷ wordsRefusal 0 operatorField 0 (c .list)
     ∷ withNumber 18 (tooDeep (c .limit) (tokensOf (c .list)))
-    ∷ [])
+    ∷ []
+
+-- The table: the first failure wins.
+unfoldable pub refusal : Call → Option Refusal
+refusal c = firstOf (lengthRows c ++ valueRows c)
 
 -- The reading of a list that is not turned back.
 unfoldable pub reading : Call → Answer

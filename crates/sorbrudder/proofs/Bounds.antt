@@ -14,16 +14,17 @@ use Rattle.molang.specs.Read as read
 use Rattle.molang.specs.Words.{Refusal, row, withNumber, operatorField}
 use Rattle.molang.specs.FirstFailure.{must, firstOf}
 use Rattle.molang.specs.Parse.{Call, mostTokens, refusal, reading, told, answered}
+use Rattle.molang.specs.Rules.{RuleCall, ruleRefusal, ruleAnswered}
 use Rattle.molang.specs.Plain.{plainForm, seatOf, unplain, unplainAt}
 use Rattle.molang.specs.Write.{writtenTree}
 use Rattle.molang.specs.WriteEntry.{treeFault, treesOf, WriteCall}
 use Rattle.molang.specs.WriteEntry.{forestRefusal, writeRefusal, writtenTokens, writeTold, writeAnswered}
 use Rattle.molang.specs.StackOrder.{ReorderCall, stackFault, outputRefusal, exportRefusal, importRefusal, reorderTold, exportAnswered}
 use Rattle.molang.specs.StackOrder.{importAnswered}
-use Rattle.molang.proofs.Accepted.{call-accepted}
+use Rattle.molang.proofs.Accepted.{call-accepted, rule-accepted}
 use Rattle.molang.proofs.Bounds.{read-tree, read-messages}
 use Rattle.molang.proofs.FirstFailure.{All, last-one}
-use Rattle.molang.proofs.Refusals.{Within, refusal-within}
+use Rattle.molang.proofs.Refusals.{Within, refusal-within, rule-refusal-within}
 use Rattle.molang.proofs.TreeWords.{tree-exact, tree-place}
 use Rattle.molang.proofs.StackWords.{stack-exact, stack-place}
 use Rattle.molang.proofs.StackOrder.{trees-of-tree, tree-few, stack-few}
@@ -110,11 +111,22 @@ imported-fits c = split (stackFault 0 operatorField 0 (record { done = 0; begun 
 
 -- ---- THE PARSE ENTRY
 
-pub told-fits : (c : Call) → FitsTold (answered c)
-unfolding answered told reading
-told-fits c = split (refusal c) (reading c) refl refl (refusal-within c)
+-- The answer to a call, by a table that turns back all that the entry's does.
+answer-fits : (c : Call) (o : Option Refusal) → (o ≡ none → refusal c ≡ none) → All (Within 18 20480) o → FitsTold (told o (reading c))
+unfolding told reading
+answer-fits c o accepted within = split o (reading c) accepted refl within
   where
-    split : (o : Option Refusal) (a : read.Answer) → refusal c ≡ o → reading c ≡ a → All (Within 18 20480) o → FitsTold (told o a)
+    split : (o : Option Refusal) (a : read.Answer) → (o ≡ none → refusal c ≡ none) → reading c ≡ a → All (Within 18 20480) o
+        → FitsTold (told o a)
     split (some r) a e f x = (omega (arith, x .0), omega (arith, x .1))
-    split none (read.tree k cs) e f x = omega (arith, call-accepted c e .few, read-tree _ _ _ _ k cs f)
+    split none (read.tree k cs) e f x = omega (arith, call-accepted c (e refl) .few, read-tree _ _ _ _ k cs f)
     split none (read.messages ms) e f x = omega (arith, read-messages _ _ _ _ ms f .1)
+
+pub told-fits : (c : Call) → FitsTold (answered c)
+unfolding answered
+told-fits c = answer-fits c (refusal c) (λ e. e) (refusal-within c)
+
+-- The same with a rule buffer.
+pub ruled-fits : (c : RuleCall) → FitsTold (ruleAnswered c)
+unfolding ruleAnswered
+ruled-fits c = answer-fits (c .call) (ruleRefusal c) (rule-accepted c) (rule-refusal-within c)

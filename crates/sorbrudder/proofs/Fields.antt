@@ -3,11 +3,12 @@ use mathlib.Core.Path.{_≡_, refl}
 use Prim.Native.Nat.{ℕ, _^_, _<_}
 use native.Mathlib.Omega.{arith}
 use Rattle.molang.specs.Parse.{Call, Told, aTree, someMessages, refused, answered}
+use Rattle.molang.specs.Rules.{RuleCall, ruleAnswered}
 use Rattle.molang.specs.WriteEntry.{WriteCall, WriteTold, tokens, unwritten, writeAnswered}
 use Rattle.molang.specs.StackOrder.{ReorderCall, ReorderTold, reordered, notReordered, exportAnswered, importAnswered}
 use Rattle.sorbrudder.specs.Numbers.{packed, kindIn, numberIn, lowIn, toldNumber, toldBack, writeNumber, writeBack, FitsTold}
 use Rattle.sorbrudder.specs.Numbers.{FitsWritten, reorderNumber, reorderBack, FitsReordered}
-use Rattle.sorbrudder.proofs.Bounds.{told-fits, written-fits, exported-fits, imported-fits}
+use Rattle.sorbrudder.proofs.Bounds.{told-fits, ruled-fits, written-fits, exported-fits, imported-fits}
 
 module _ (kind number low : ℕ) (n : number < 2 ^ 8) (l : low < 2 ^ 32) where
   pub kind-in : kindIn (packed kind number low) ≡ kind
@@ -36,6 +37,9 @@ reordered-found (notReordered n p) h = rw (kind-in 2 n p (h .0) (h .1), number-i
 -- THE NUMBER OF EVERY CALL'S ANSWER gives the answer back.
 pub told-back : (c : Call) → toldBack (toldNumber (answered c)) ≡ answered c
 told-back c = told-found (answered c) (told-fits c)
+
+pub ruled-back : (c : RuleCall) → toldBack (toldNumber (ruleAnswered c)) ≡ ruleAnswered c
+ruled-back c = told-found (ruleAnswered c) (ruled-fits c)
 
 pub written-back : (w : WriteCall) → writeBack (writeNumber (writeAnswered w)) ≡ writeAnswered w
 written-back w = written-found (writeAnswered w) (written-fits w)

@@ -1,10 +1,11 @@
 -- The entries' answers as one number, as the exports give them: bits 0-31 a count or a refusal's place, bits 32-39 a refusal's number, else
 -- 0, bits 40-47 the kind of the answer: 0 a tree, tokens or nodes in the other order, 1 messages, 2 a refusal. And the way back; and the
--- exported reader's promise.
+-- promises of the exported readers.
 use Prim.Native.Nat.{ℕ, zero, suc, _+_, _*_, _/_, _%_, _^_, _<_}
 use mathlib.Core.Path.{_≡_}
 use mathlib.Core.List.{List}
 use Rattle.molang.specs.Parse.{Call, Told, aTree, someMessages, refused, answered, treeAfter, messagesAfter, workAfter}
+use Rattle.molang.specs.Rules.{RuleCall, ruleAnswered, ruledTreeAfter, ruledMessagesAfter, ruledWorkAfter, rulesAfter}
 use Rattle.molang.specs.WriteEntry.{WriteTold, tokens, unwritten}
 use Rattle.molang.specs.StackOrder.{ReorderTold, reordered, notReordered}
 
@@ -90,3 +91,11 @@ pub record HasParsedTo (c : Call) (number : ℕ) (tree' messages' work' : List �
   pub tree : tree' ≡ treeAfter c
   pub messages : messages' ≡ messagesAfter c
   pub work : work' ≡ workAfter c
+
+-- THE SAME WITH A RULE BUFFER.
+pub record HasRuledTo (c : RuleCall) (number : ℕ) (tree' messages' work' rules' : List ℕ) : Type 0 where
+  pub told : number ≡ toldNumber (ruleAnswered c)
+  pub tree : tree' ≡ ruledTreeAfter c
+  pub messages : messages' ≡ ruledMessagesAfter c
+  pub work : work' ≡ ruledWorkAfter c
+  pub rules : rules' ≡ rulesAfter c

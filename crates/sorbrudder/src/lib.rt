@@ -1,5 +1,7 @@
-// The exports of the library, by the C convention: word slices as pointer and length, numbers as themselves, an answer as one number
-// (specs/Numbers; include/sorbrudder.h takes it apart). Leans on parse, write and stackorder.
+// The exports of the library, by the C convention: slices as pointer and length, numbers as themselves, an answer as one number
+// (specs/Numbers; include/sorbrudder.h takes it apart). Leans on parse, rules, write and stackorder.
+mod ruled;
+
 use parse::Answer;
 use parse::parse;
 use stackorder::Reordered;

@@ -3,16 +3,15 @@ use Prim.Native.Nat.{ℕ, zero, suc, _+_, _-_, _*_, _/_, _%_, _^_, _≤_, _<_}
 use mathlib.Core.Path.{_≡_, refl, ap, sym, _∙_}
 use mathlib.Core.Bool.{Bool, true, false}
 use mathlib.Core.List.{List, [], _∷_, _++_}
-use native.Mathlib.Numerals.{add-one}
 use native.Mathlib.Nat.{pow-le-pow-right}
 use native.Mathlib.Omega.{arith, pow-step}
 use lib.Dec.{leb, ltb}
-use lib.ListN.{length, take, set, getD, length-append}
-use lib.Seq.{take-suc, take-all, length-take-le}
+use lib.ListN.{length, take, length-append}
+use lib.Seq.{take-all}
 use borrow.Author.Tests.{lt-ltb, le-ltb, leb-true, leb-false}
 use Rattle.io.specs.Digits.{digits, glyph, Fewest}
 use Rattle.words.specs.Records.{laidAt}
-use Rattle.words.proofs.RecordLaws.{none-laid, laid-laid, laid-sets}
+use Rattle.words.proofs.RecordLaws.{none-laid, laid-laid}
 use Rattle.text.specs.Text.{decimalIn, decimal, numbered, Wrote}
 
 -- Nothing is laid, and a text behind a text.
@@ -26,19 +25,7 @@ wrote-then {a} {b} {c} {at} {m} {r} {s} {t} h p q =
       whole = q .whole ∙ (λ i. laidAt (p .ends i) t (p .whole i)) ∙ laid-laid at s t a h;
     }
 
--- One byte more of a text.
-pub byte-laid : (out₀ out : List ℕ) (at : ℕ) (bytes : List ℕ) (i : ℕ) → at + length bytes ≤ length out₀ → length out ≡ length out₀
-    → i < length bytes
-    → out ≡ laidAt at (take i bytes) out₀
-    → set out (at + i) (getD bytes i 0) ≡ laidAt at (take (i + 1) bytes) out₀
-byte-laid out₀ out at bytes i room long h e =
-    let byte = getD bytes i 0 in
-    let size : length (take i bytes) ≡ i = length-take-le i bytes (omega arith) in
-    laid-sets (byte ∷ []) out (at + i) (omega (arith, long))
-    ∙ ap (laidAt (at + i) (byte ∷ [])) e
-    ∙ (rw size at (laid-laid at (take i bytes) (byte ∷ []) out₀ (omega arith)))
-    ∙ ap (λ (l : List ℕ). laidAt at l out₀) (sym (ap (λ (n : ℕ). take n bytes) (add-one i) ∙ take-suc bytes i 0 h))
-
+-- All bytes of a text.
 pub wrote-all : {out₀ out : List ℕ} {at : ℕ} {bytes : List ℕ} {i : ℕ} → length bytes ≤ i → out ≡ laidAt at (take i bytes) out₀
     → Wrote out₀ at bytes (at + length bytes) out
 wrote-all {out₀} {at = at} {bytes} {i} h e = record { ends = refl; whole = e ∙ ap (λ (l : List ℕ). laidAt at l out₀) (take-all i bytes h) }

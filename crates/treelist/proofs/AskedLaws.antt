@@ -16,7 +16,7 @@ use Rattle.molang.proofs.Bounds.{Bounded, fewNodes, fewMessages, read-bounded}
 use Rattle.molang.proofs.ListWords.{tokens-count}
 use Rattle.molang.proofs.Nesting.{never-18}
 use Rattle.molang.specs.Nesting.{tooDeep}
-use Rattle.molang.specs.Parse.{Call, Told, refused, inHalves, mostTokens, isLimit, refusal, reading, told, answered, treeIn, treeAfter}
+use Rattle.molang.specs.Parse.{Call, Told, refused, inHalves, mostTokens, isLimit, lengthRows, valueRows, refusal, reading, told, answered, treeIn, treeAfter}
 use Rattle.molang.specs.Parse.{messagesIn, messagesAfter}
 use Rattle.molang.proofs.FirstFailure.{after-none, before-none, without-number}
 use Rattle.derived.specs.Derived.{named, highest}
@@ -94,7 +94,7 @@ module _ (list tree messages : List ℕ) (ok : Readable list tree messages) (wor
   called = call list tree messages work source version low high mostTokens
 
   pub called-refusal : refusal called ≡ wordsRefusal 0 operatorField 0 list
-  unfolding refusal isLimit must firstOf
+  unfolding refusal lengthRows valueRows isLimit must firstOf
   called-refusal =
       let few : length list / 5 ≤ 128 = omega (arith, ok .few) in
       rw (

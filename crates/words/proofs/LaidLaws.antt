@@ -1,11 +1,13 @@
--- Words laid down in a buffer, read again: those that were laid, and all others; and one store after them. Assumes nothing.
+-- Words laid down in a buffer, read again: those that were laid, and all others; and one store after them, also of a row word by word.
+-- Assumes nothing.
 use Prim.Native.Nat.{ℕ, zero, suc, _+_, _≤_, _<_}
 use mathlib.Core.Path.{_≡_, refl, sym, ap, _∙_}
 use mathlib.Core.Logic.{_⊎_, inl, inr}
 use mathlib.Core.List.{List, [], _∷_, _++_}
+use native.Mathlib.Numerals.{add-one}
 use native.Mathlib.Omega.{arith}
-use lib.ListN.{length, getD, set, length-set, length-append}
-use lib.Seq.{sets, length-sets, getD-set-same, getD-set-other}
+use lib.ListN.{length, take, getD, set, length-set, length-append}
+use lib.Seq.{sets, length-sets, getD-set-same, getD-set-other, take-suc, length-take-le}
 use Rattle.words.specs.Records.{laidAt}
 use Rattle.words.proofs.RecordLaws.{laid-sets}
 
@@ -51,3 +53,11 @@ pub laid-more : (ws l : List ℕ) (at v : ℕ) → at + length ws < length l
 laid-more ws l at v room =
     rw (← laid-sets ws l at (omega arith))
     (sets-more ws l at v ∙ laid-sets (ws ++ (v ∷ [])) l at (omega (arith, length-append ws (v ∷ []))))
+
+-- The next word of a row that is laid word by word.
+pub laid-next : (l₀ l : List ℕ) (at : ℕ) (ws : List ℕ) (i : ℕ) → at + length ws ≤ length l₀ → i < length ws → l ≡ laidAt at (take i ws) l₀
+    → set l (at + i) (getD ws i 0) ≡ laidAt at (take (i + 1) ws) l₀
+laid-next l₀ l at ws i room h e =
+    let long : length (take i ws) ≡ i = length-take-le i ws (omega arith) in
+    let more : take (i + 1) ws ≡ take i ws ++ (getD ws i 0 ∷ []) = ap (λ (n : ℕ). take n ws) (add-one i) ∙ take-suc ws i 0 h in
+    rw (e, more) (rw long at (laid-more (take i ws) l₀ at (getD ws i 0) (omega arith)))

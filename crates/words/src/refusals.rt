@@ -1,5 +1,5 @@
-// The numbers of the refusals that reading a list, writing a tree, export and import can meet: of document 01's table, 17 and 18 of
-// document 02's card 8, 24 and 25 of its card 14. Leans on nothing.
+// The numbers of the refusals that reading a list, writing a tree, export and import can meet: of document 01's table, 16 of document
+// 02's card 5, 17 and 18 of its card 8, 24 and 25 of its card 14. Leans on nothing.
 
 pub const LIST_NOT_WHOLE: u32 = 1;
 
@@ -30,6 +30,8 @@ pub const NOT_PLAIN: u32 = 13;
 pub const WRITTEN_TOO_LONG: u32 = 14;
 
 pub const SHORT_LIST: u32 = 15;
+
+pub const SHORT_RULE_BUFFER: u32 = 16;
 
 pub const LIMIT_OUT_OF_RANGE: u32 = 17;
 

@@ -3,6 +3,7 @@
 use oracle::generate::dress;
 use oracle::hosts::has_hosts;
 use oracle::lines::{Line, findings, lines};
+use oracle::rules::{LAST_RULE, of_tree};
 use oracle::vectors::{Stored, stored};
 use oracle::words::{Answer, Case, FULL_SET, Token, exact_set};
 use std::io::Write;
@@ -18,8 +19,8 @@ where to begin.
 
 The first cases are there for what they cover and are printed even where N is smaller: every
 line of document 01 and every finding that is short enough, at one version; then one for each
-of the message numbers 1 to 17, for a tree at each of the versions -1, 4, 5, 6, 13, 14 and both
-ends of i16, for used sets that are full, empty, lack an operator of the list or have one more,
+of the message numbers 1 to 17, for each of the rules 1 to 20 (card 5), for a tree at each of the
+versions -1, 4, 5, 6, 13, 14 and both ends of i16, for used sets that are full, empty, lack an operator of the list or have one more,
 for a span that runs backwards, for a value that a reader could spoil, and for hosts' own names
 in a tree and in a list with messages. One generated case in five has such names. The command
 fails where it does not find one.
@@ -33,12 +34,13 @@ A case is these lines, all numbers decimal and separated by one space:
     tokens COUNT
     OP VARIANT VALUE START END                 COUNT such lines
     tree COUNT                                 either
-    OP VARIANT VALUE START END CHILDREN        COUNT such lines, parent first
+    OP VARIANT VALUE START END CHILDREN RULE   COUNT such lines, parent first
     messages COUNT                             or
     NUMBER START END A1 A2 A3 A4 A5            COUNT such lines
     end
 
 PLACE counts from 0. The used set is two 64-bit halves, operator 0 being the lowest bit of LOW.
+RULE is as the Rust's passes mark the node, or by the operator where its source is not at hand.
 ";
 
 struct Options {
@@ -139,6 +141,12 @@ fn wanted() -> Vec<Wanted> {
             Box::new(move |_, answer| answer.records().iter().any(|record| record[0] == number)),
         );
     }
+    for rule in 1..=LAST_RULE {
+        want(
+            format!("rule {rule}"),
+            Box::new(move |case, answer| rules(case, answer).contains(&rule)),
+        );
+    }
     for version in [i16::MIN, -1, 4, 5, 6, 13, 14, i16::MAX] {
         want(
             format!("version {version}"),
@@ -193,6 +201,16 @@ fn wanted() -> Vec<Wanted> {
     wanted
 }
 
+/// The rules of an answer's nodes; none of messages.
+fn rules(case: &Case, answer: &Answer) -> Vec<u8> {
+    if !answer.records().is_empty() {
+        return Vec::new();
+    }
+    let nodes = answer.nodes().iter();
+    let nodes = nodes.map(|node| (&node.token, node.children));
+    of_tree(case, nodes).expect("an answer's tree has rules")
+}
+
 /// The lines of document 01 and the findings, as the kept answers have them.
 fn known(most: usize) -> Vec<(Case, Answer)> {
     let kept = stored();
@@ -228,13 +246,13 @@ fn print(out: &mut impl Write, place: usize, case: &Case, answer: &Answer) -> st
     match answer {
         Answer::Tree(nodes) => {
             writeln!(out, "tree {}", nodes.len())?;
-            for node in nodes {
+            for (node, rule) in nodes.iter().zip(rules(case, answer)) {
                 let t = node.token;
                 let (variant, value) = (t.variant, t.value);
                 let children = node.children;
                 writeln!(
                     out,
-                    "{} {variant} {value} {} {} {children}",
+                    "{} {variant} {value} {} {} {children} {rule}",
                     t.op, t.start, t.end
                 )?;
             }

@@ -1,5 +1,6 @@
 //! Reads generated lists with the Rust and says what was seen over all of them: how many answers
-//! of each kind, which messages come together, and how large and deep a tree gets.
+//! of each kind, which messages come together, how large and deep a tree gets, and how many nodes
+//! each rule made.
 
 #[cfg(molangx)]
 fn main() {
@@ -40,7 +41,8 @@ fn main() {
 
 #[cfg(molangx)]
 mod seen {
-    use oracle::words::{Case, depth};
+    use oracle::rules::{self, LAST_RULE};
+    use oracle::words::{Case, RustNode, depth};
     use std::collections::BTreeMap;
 
     #[derive(Default)]
@@ -52,6 +54,9 @@ mod seen {
         nodes: (usize, usize),
         /// The most levels beyond the number of tokens, as levels and tokens.
         levels: (usize, usize),
+        /// How many nodes each rule made, and how many of them the table gives another rule.
+        rules: [usize; LAST_RULE as usize + 1],
+        others: usize,
     }
 
     impl Seen {
@@ -73,6 +78,17 @@ mod seen {
             if self.trees == 1 || levels + self.levels.1 > self.levels.0 + tokens {
                 self.levels = (levels, tokens);
             }
+            self.count_rules(case, nodes);
+        }
+
+        fn count_rules(&mut self, case: &Case, nodes: &[RustNode]) {
+            let rules = rules::marked(case).expect("a tree with its marks");
+            assert_eq!(rules.len(), nodes.len(), "{case:?}");
+            for (node, rule) in nodes.iter().zip(rules) {
+                self.rules[usize::from(rule)] += 1;
+                let table = rules::of_node(&node.token, node.children, case.version);
+                self.others += usize::from(table != Some(rule));
+            }
         }
 
         pub fn print(&self, what: &str) {
@@ -87,6 +103,11 @@ mod seen {
             println!(
                 "  most levels: {} of {} tokens",
                 self.levels.0, self.levels.1
+            );
+            let nodes: usize = self.rules.iter().sum();
+            println!(
+                "  {nodes} nodes by rule: {:?}, {} of them other than by the table",
+                self.rules, self.others
             );
         }
     }

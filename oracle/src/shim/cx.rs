@@ -166,7 +166,7 @@ fn leaf(token: &Token) -> Node {
 }
 
 /// The nodes of a tree, parent first.
-fn preorder(root: &Node) -> Vec<RustNode> {
+pub(crate) fn preorder(root: &Node) -> Vec<RustNode> {
     let mut nodes = Vec::new();
     let mut open = vec![root];
     while let Some(node) = open.pop() {
@@ -188,6 +188,14 @@ fn preorder(root: &Node) -> Vec<RustNode> {
 
 /// What the Rust makes of a list.
 pub(crate) fn answer(case: &Case) -> Answer {
+    match root(case) {
+        Ok(root) => Answer::Tree(preorder(&root)),
+        Err(records) => Answer::Messages(records),
+    }
+}
+
+/// The root that the Rust makes of a list, or its messages.
+pub(crate) fn root(case: &Case) -> Result<Node, Vec<Record>> {
     let mut math = MathCatalog::default();
     for token in case.tokens.iter().filter(|token| token.variant == 12) {
         math.declare(token.value);
@@ -196,9 +204,9 @@ pub(crate) fn answer(case: &Case) -> Answer {
     match grouped(&mut cx, case) {
         Some(root) => {
             assert!(cx.records.is_empty(), "a tree comes without a message");
-            Answer::Tree(preorder(&root))
+            Ok(root)
         }
-        None => Answer::Messages(cx.records),
+        None => Err(cx.records),
     }
 }
 

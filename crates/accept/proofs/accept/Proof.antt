@@ -2,12 +2,12 @@
 use mathlib.Core.Path.{sym, ap, _∙_}
 use borrow.Author.Needs.{needs}
 use Rattle.accept.specs.Accepting.{verdictOf}
-use Rattle.accept.proofs.AcceptLaws.{by-length, whole-tokens, by-lent, by-words, by-nesting}
+use Rattle.accept.proofs.AcceptLaws.{by-length, whole-tokens, by-values, by-words, by-nesting}
 use Rattle.accept.proofs.accept.Statement.{statement}
 use Rattle.accept.proofs.accept.Tie as tie
 
-list-length-requires : tie.Need-list-length-requires
-list-length-requires c κs = search needs
+lengths-requires : tie.Need-lengths-requires
+lengths-requires c κs = search needs
 
 enum-known-length : tie.Need-enum-known-length
 enum-known-length c = search needs
@@ -19,15 +19,11 @@ returns : tie.Need-returns
 returns c =
     let measured = c .before .before in
     let a = measured .before .before .args in
-    by-length (a .list .now) (a .sizes) (a .used) (a .limit) (measured .list-length .result) (c .before .match .keys2)
-    (measured .list-length .ensures)
+    by-length (a .list .now) (a .sizes) (a .used) (a .limit) (measured .lengths .result) (c .before .match .keys2)
+    (measured .lengths .ensures)
 
-buffers-requires : tie.Need-buffers-requires
-buffers-requires c κs =
-    let measured = c .before .before .before in
-    let a = measured .before .before .args in
-    let whole = sym (ap verdictOf (c .before .length .given .1)) ∙ measured .list-length .ensures in
-    whole-tokens (a .list .now) (a .sizes) (a .used) (a .limit) _ whole .1
+values-requires : tie.Need-values-requires
+values-requires c κs = search needs
 
 enum-told-2 : tie.Need-enum-told-2
 enum-told-2 c = search needs
@@ -40,16 +36,16 @@ returns-2 c =
     let lent = c .before .before in
     let measured = lent .before .before .before .before in
     let a = measured .before .before .args in
-    let whole = sym (ap verdictOf (lent .before .before .length .given .1)) ∙ measured .list-length .ensures in
-    by-lent (a .list .now) (a .sizes) (a .used) (a .limit) _ whole (lent .buffers .result) (c .before .match2 .keys2)
-    (lent .buffers .ensures)
+    let whole = sym (ap verdictOf (lent .before .before .length .given .1)) ∙ measured .lengths .ensures in
+    by-values (a .list .now) (a .sizes) (a .used) (a .limit) _ whole (lent .values .result) (c .before .match2 .keys2)
+    (lent .values .ensures)
 
 token-words-requires : tie.Need-token-words-requires
 token-words-requires c κs =
     let lent = c .before .before in
     let measured = lent .before .before .before .before in
     let a = measured .before .before .args in
-    let whole = sym (ap verdictOf (lent .before .before .length .given .1)) ∙ measured .list-length .ensures in
+    let whole = sym (ap verdictOf (lent .before .before .length .given .1)) ∙ measured .lengths .ensures in
     whole-tokens (a .list .now) (a .sizes) (a .used) (a .limit) _ whole .0
 
 enum-told-4 : tie.Need-enum-told-4
@@ -64,8 +60,8 @@ returns-3 c =
     let lent = looked .before .before .before in
     let measured = lent .before .before .before .before in
     let a = measured .before .before .args in
-    let whole = sym (ap verdictOf (lent .before .before .length .given .1)) ∙ measured .list-length .ensures in
-    let room = sym (ap verdictOf (looked .before .enum-told2 .given .1)) ∙ lent .buffers .ensures in
+    let whole = sym (ap verdictOf (lent .before .before .length .given .1)) ∙ measured .lengths .ensures in
+    let room = sym (ap verdictOf (looked .before .enum-told2 .given .1)) ∙ lent .values .ensures in
     by-words (a .list .now) (a .sizes) (a .used) (a .limit) _ whole _ room (looked .token-words .result) (c .before .match3 .keys2)
     (looked .token-words .ensures)
 
@@ -74,7 +70,7 @@ nesting-requires c κs =
     let lent = c .before .before .before .before .before in
     let measured = lent .before .before .before .before in
     let a = measured .before .before .args in
-    let whole = sym (ap verdictOf (lent .before .before .length .given .1)) ∙ measured .list-length .ensures in
+    let whole = sym (ap verdictOf (lent .before .before .length .given .1)) ∙ measured .lengths .ensures in
     whole-tokens (a .list .now) (a .sizes) (a .used) (a .limit) _ whole
 
 returns-4 : tie.Need-returns-4
@@ -83,8 +79,8 @@ returns-4 c =
     let lent = looked .before .before .before in
     let measured = lent .before .before .before .before in
     let a = measured .before .before .args in
-    let whole = sym (ap verdictOf (lent .before .before .length .given .1)) ∙ measured .list-length .ensures in
-    let room = sym (ap verdictOf (looked .before .enum-told2 .given .1)) ∙ lent .buffers .ensures in
+    let whole = sym (ap verdictOf (lent .before .before .length .given .1)) ∙ measured .lengths .ensures in
+    let room = sym (ap verdictOf (looked .before .enum-told2 .given .1)) ∙ lent .values .ensures in
     let words = sym (ap verdictOf (c .before .enum-told4 .given .1)) ∙ looked .token-words .ensures in
     by-nesting (a .list .now) (a .sizes) (a .used) (a .limit) _ whole _ room _ words (c .nesting .result) (c .nesting .ensures)
 
@@ -92,11 +88,11 @@ pub accept-spec : {M : Type 1} → statement M
 accept-spec =
     tie.close
     (tie.spec
-    list-length-requires
+    lengths-requires
     enum-known-length
     enum-told
     returns
-    buffers-requires
+    values-requires
     enum-told-2
     enum-told-3
     returns-2

@@ -5,7 +5,8 @@ use native.Mathlib.Omega.{arith}
 use lib.ListN.{length, take, getD, length-set}
 use Rattle.words.specs.Records.{laidAt}
 use Rattle.words.proofs.RecordLaws.{none-laid}
-use Rattle.text.proofs.TextLaws.{byte-laid, wrote-all}
+use Rattle.words.proofs.LaidLaws.{laid-next}
+use Rattle.text.proofs.TextLaws.{wrote-all}
 use Rattle.text.proofs.put_bytes.Statement.{statement}
 use Rattle.text.proofs.put_bytes.Tie as tie
 
@@ -38,7 +39,7 @@ loop-again c =
     let a = c .before .before .before .args in
     let v = c .before .before .loop .inv in
     let i = c .before .before .loop .i in
-    (omega arith, length-set (c .before .before .loop .out) (a .at + i) (getD (a .bytes .now) i 0) ∙ v .1, byte-laid (a .out .now) (c .before .before .loop .out) (a .at) (a .bytes .now) i (c .before .before .before .pre) (v .1) (omega arith) (v .2))
+    (omega arith, length-set (c .before .before .loop .out) (a .at + i) (getD (a .bytes .now) i 0) ∙ v .1, laid-next (a .out .now) (c .before .before .loop .out) (a .at) (a .bytes .now) i (c .before .before .before .pre) (omega arith) (v .2))
 
 add-result : tie.Need-add-result Inv-loop μ-loop
 add-result c = omega arith

@@ -30,7 +30,7 @@ pub fn run(args: &Args) -> Result<Status, Failure> {
     };
     let one = OneList::of(args)?;
     let mut reader = Reader::new();
-    let read = [old, new].map(|version| (version, reader.read(&one.list, version)));
+    let read = [old, new].map(|version| (version, reader.read_with_rules(&one.list, version)));
     let page = page::html(&one.source, &read);
     if is_stream(&target) {
         return output::print(&page);

@@ -1,7 +1,7 @@
 //! A tree as lines, a node a line.
 
 use crate::bracketed::label;
-use sorbrudder::{Difference, TreeRef};
+use sorbrudder::{Difference, Rule, TreeRef};
 
 /// The levels whose branches are drawn; a deeper node's level is given as a number.
 const DEEPEST: usize = 60;
@@ -13,6 +13,21 @@ pub struct Row {
     /// The branches that lead to the node.
     pub branches: String,
     pub label: String,
+    /// The rule that made the node, where the tree was read with rules.
+    pub rule: Option<Rule>,
+}
+
+impl Row {
+    /// The line, with the rule behind what stands for the node.
+    pub fn line(&self) -> String {
+        let rule = self.rule.map_or(String::new(), |rule| named(rule.name()));
+        format!("{}{}{rule}", self.branches, self.label)
+    }
+}
+
+/// The name of a rule as it stands behind a node.
+pub fn named(rule: &str) -> String {
+    format!(" [{rule}]")
 }
 
 /// The lines of a tree.
@@ -26,6 +41,7 @@ pub fn rows(tree: TreeRef<'_>, source: &str) -> Vec<Row> {
             depth: open.len(),
             branches: branches(&open),
             label: label(node, Some(source)),
+            rule: node.rule(),
         });
         if let Some(left) = open.last_mut() {
             *left -= 1;

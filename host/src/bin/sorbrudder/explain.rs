@@ -20,7 +20,7 @@ pub fn run(args: &Args) -> Result<Status, Failure> {
     let one = OneList::of(args)?;
     let version = args.version("--at")?.or(one.version).unwrap_or(NEWEST);
     let mut reader = Reader::new().with_limit(args.limit("--limit")?);
-    match reader.read(&one.list, version) {
+    match reader.read_with_rules(&one.list, version) {
         Ok(tree) if args.has("--json") => {
             let mut object = Object::new();
             object

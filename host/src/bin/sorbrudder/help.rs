@@ -82,20 +82,21 @@ any moment or on a full disk, the old file is whole; a file `.sorbrudder-*.tmp` 
 const READ: &str = "\
 sorbrudder read FILE#N | -e LIST [--at V] [--limit N] [--source TEXT] [--json]
 
-Prints the tree of a list: as a line with all its brackets, and as a drawing, a node a line.
+Prints the tree of a list: as a line with all its brackets, and as a drawing, a node a line, with the rule that paired its operands in
+square brackets.
 
   -e LIST         a list in the notation: names and numbers, Molang's signs, math.sin, variable.x
   --at V          the version; else the list's own, else 13, the newest
   --limit N       a nesting limit, 1 to 4096, which is the usual
   --source TEXT   the file with the text that the list's spans lie in
-  --json          one object: version, source, bracketed, tree, nodes
+  --json          one object: version, source, bracketed, tree, nodes, each with its rule where it has children
 ";
 
 const VERSIONS: &str = "\
 sorbrudder versions FILE#N | -e LIST [--at 4,5,6] [--source TEXT] [--json]
 
 Prints a list as several versions read it, a line with all its brackets for each, then the trees where they differ, each once, with a * at
-each node of a part that differs. The status is 1 where the versions differ.
+each node of a part that differs, and in square brackets the rule that paired a node's operands. The status is 1 where the versions differ.
 ";
 
 const EXPLAIN: &str = "\
@@ -108,8 +109,8 @@ is 1 where it is none.
 const DRAW: &str = "\
 sorbrudder draw FILE#N | -e LIST [--at 4,6] [--source TEXT] -o PAGE.html
 
-Writes a page with the trees of two versions side by side, the parts that differ marked, and the source above them. The page is one file
-without scripts, and can be printed.
+Writes a page with the trees of two versions side by side, the parts that differ marked, each node with the rule that paired its operands,
+and the source above them. The page is one file without scripts, and can be printed.
 ";
 
 const OPS: &str = "\

@@ -23,6 +23,7 @@ section { flex: 1 1 20rem; min-width: 0; border: 1px solid var(--line); padding:
 .tree li { white-space: pre; line-height: 1.2; }
 .branches { color: gray; }
 .words { font-family: system-ui, sans-serif; font-size: .9em; }
+.made { font-family: system-ui, sans-serif; font-size: .8em; opacity: .8; }
 .differs .label { font-weight: bold; color: var(--mark); }
 .differs .label::after { content: ' *'; }
 @media print {
@@ -118,9 +119,15 @@ fn items(tree: &Tree, source: &str, marked: &[bool]) -> String {
             _ if words.is_empty() => String::new(),
             _ => format!(" {}", escaped(words)),
         };
+        let rule = row.rule.map_or(String::new(), |rule| {
+            format!(
+                "<span class=\"made\">{}</span>",
+                drawing::named(rule.name())
+            )
+        });
         format!(
             "<li class=\"{class}\" data-node=\"{}\" aria-level=\"{}\"><span class=\"branches\" aria-hidden=\"true\">{}</span>\
-             <span class=\"label\">{}{words}</span></li>\n",
+             <span class=\"label\">{}{words}</span>{rule}</li>\n",
             row.node,
             row.depth + 1,
             row.branches,

@@ -25,7 +25,7 @@ pub fn run(args: &Args) -> Result<Status, Failure> {
     let one = OneList::of(args)?;
     let version = args.version("--at")?.or(one.version).unwrap_or(NEWEST);
     let mut reader = Reader::new().with_limit(args.limit("--limit")?);
-    match reader.read(&one.list, version) {
+    match reader.read_with_rules(&one.list, version) {
         Ok(tree) if args.has("--json") => output::print(&as_json(&tree, &one, version)),
         Ok(tree) => output::print(&as_text(&tree, &one, version)),
         Err(why) => {
@@ -42,7 +42,7 @@ pub fn as_text(tree: &Tree, one: &OneList, version: i16) -> String {
         bracketed::line(tree.view(), Some(&one.source))
     );
     for row in drawing::rows(tree.view(), &one.source) {
-        text += &format!("{}{}\n", row.branches, row.label);
+        text += &format!("{}\n", row.line());
     }
     text
 }
@@ -57,6 +57,9 @@ fn as_json(tree: &Tree, one: &OneList, version: i16) -> String {
             .number("start", node.span().start())
             .number("end", node.span().end())
             .number("close", node.close());
+        if let Some(rule) = node.rule() {
+            object.text("rule", rule.name());
+        }
         object
     };
     let mut object = Object::new();

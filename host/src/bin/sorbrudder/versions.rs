@@ -8,7 +8,7 @@ use crate::json::Object;
 use crate::one_list::{self, OneList};
 use crate::output;
 use crate::rules;
-use sorbrudder::{ReadError, Reader, Tree};
+use sorbrudder::{Node, ReadError, Reader, Tree};
 
 pub const OPTIONS: &[args::Option] = &[
     one_list::E,
@@ -32,7 +32,7 @@ pub fn run(args: &Args) -> Result<Status, Failure> {
     let mut reader = Reader::new();
     let read = |version| Reading {
         version,
-        read: reader.read(&one.list, version),
+        read: reader.read_with_rules(&one.list, version),
     };
     let readings: Vec<Reading> = versions.into_iter().map(read).collect();
     let text = if args.has("--json") {
@@ -86,16 +86,18 @@ fn as_text(readings: &[Reading], source: &str) -> String {
         text += &format!("version {:<4} {}\n", reading.version, line(reading, source));
     }
     let trees = distinct(readings);
-    if let [(_, first), (_, second), ..] = &trees[..] {
+    if let [first, second, ..] = &trees[..] {
         text += "\n";
         text += &side_by_side(&trees, source);
         let ops = first
-            .differences(second)
+            .tree()
+            .differences(second.tree())
             .flat_map(|d| [d.old.op(), d.new.op()]);
-        let versions = trees.iter().flat_map(|(versions, _)| versions);
+        let versions = trees.iter().flat_map(|alike| &alike.0);
+        let versions = versions.map(|(version, _)| *version);
         let (low, high) = (versions.clone().min(), versions.max());
         if let (Some(low), Some(high)) = (low, high)
-            && let Some(rule) = rules::between(*low, *high, &ops.collect::<Vec<_>>())
+            && let Some(rule) = rules::between(low, high, &ops.collect::<Vec<_>>())
         {
             text += &format!("\n{rule}\n");
         }
@@ -103,23 +105,70 @@ fn as_text(readings: &[Reading], source: &str) -> String {
     text
 }
 
+/// Readings of one tree: the versions, and what each reads. The trees differ at the most in which rule made a node.
+struct Alike<'t>(Vec<(i16, &'t Tree)>);
+
+impl<'t> Alike<'t> {
+    fn tree(&self) -> &'t Tree {
+        self.0[0].1
+    }
+
+    /// The versions.
+    fn head(&self) -> String {
+        format!(
+            "  version {}",
+            listed(self.0.iter().map(|(version, _)| *version))
+        )
+    }
+
+    /// The rule that made a node; where the versions name it otherwise, each name with its versions.
+    fn rule(&self, node: usize) -> String {
+        let mut names: Vec<(&str, Vec<i16>)> = Vec::new();
+        for (version, tree) in &self.0 {
+            let Some(rule) = tree.node(node).and_then(Node::rule) else {
+                continue;
+            };
+            match names.iter_mut().find(|(name, _)| *name == rule.name()) {
+                Some((_, versions)) => versions.push(*version),
+                None => names.push((rule.name(), vec![*version])),
+            }
+        }
+        match &names[..] {
+            [] => String::new(),
+            [(name, _)] => drawing::named(name),
+            _ => {
+                let names = names.iter().map(|(name, versions)| {
+                    format!("{name} at {}", listed(versions.iter().copied()))
+                });
+                drawing::named(&names.collect::<Vec<_>>().join("; "))
+            }
+        }
+    }
+}
+
+/// Versions with commas between them.
+fn listed(versions: impl Iterator<Item = i16>) -> String {
+    let versions: Vec<String> = versions.map(|version| version.to_string()).collect();
+    versions.join(", ")
+}
+
 /// Each tree once, with the versions that read it.
-fn distinct(readings: &[Reading]) -> Vec<(Vec<i16>, &Tree)> {
-    let mut trees: Vec<(Vec<i16>, &Tree)> = Vec::new();
+fn distinct(readings: &[Reading]) -> Vec<Alike<'_>> {
+    let mut trees: Vec<Alike<'_>> = Vec::new();
     for reading in readings {
         let Ok(tree) = &reading.read else {
             continue;
         };
-        match trees.iter_mut().find(|(_, known)| *known == tree) {
-            Some((versions, _)) => versions.push(reading.version),
-            None => trees.push((vec![reading.version], tree)),
+        match trees.iter_mut().find(|known| known.tree() == tree) {
+            Some(known) => known.0.push((reading.version, tree)),
+            None => trees.push(Alike(vec![(reading.version, tree)])),
         }
     }
     trees
 }
 
 /// The trees beside each other, with a sign at each node of a part that differs.
-fn side_by_side(trees: &[(Vec<i16>, &Tree)], source: &str) -> String {
+fn side_by_side(trees: &[Alike<'_>], source: &str) -> String {
     let columns: Vec<Vec<(bool, String)>> = (0..trees.len())
         .map(|place| column(trees, place, source))
         .collect();
@@ -150,23 +199,22 @@ fn side_by_side(trees: &[(Vec<i16>, &Tree)], source: &str) -> String {
 }
 
 /// A column: the versions, then the tree's lines, each marked or not.
-fn column(trees: &[(Vec<i16>, &Tree)], place: usize, source: &str) -> Vec<(bool, String)> {
-    let (versions, tree) = &trees[place];
-    let other = trees[usize::from(place == 0)].1;
+fn column(trees: &[Alike<'_>], place: usize, source: &str) -> Vec<(bool, String)> {
+    let alike = &trees[place];
+    let (tree, other) = (alike.tree(), trees[usize::from(place == 0)].tree());
     let marked = drawing::marked(tree.len(), tree.differences(other), |difference| {
         difference.old
     });
-    let names: Vec<String> = versions.iter().map(i16::to_string).collect();
-    let head = (false, format!("  version {}", names.join(", ")));
     let lines = drawing::rows(tree.view(), source);
     let row = |row: Row| {
         let sign = if marked[row.node] { "* " } else { "  " };
+        let rule = alike.rule(row.node);
         (
             marked[row.node],
-            format!("{sign}{}{}", row.branches, row.label),
+            format!("{sign}{}{}{rule}", row.branches, row.label),
         )
     };
-    std::iter::once(head)
+    std::iter::once((false, alike.head()))
         .chain(lines.into_iter().map(row))
         .collect()
 }

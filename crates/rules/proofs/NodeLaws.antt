@@ -1,0 +1,194 @@
+-- Rules by operators and by words: the table's numbers as an arm of a `match` finds them, the rules of nodes in a row one by one, and that
+-- the words of legal trees give the definition's rules by operator. Assumes nothing.
+use Prim.Native.Nat.{ℕ, zero, suc, _+_, _*_, _/_, _^_, _≤_, _<_}
+use mathlib.Core.Path.{_≡_, refl, ap, sym, _∙_, subst}
+use mathlib.Core.Bool.{Bool, true, false, _&&_, _||_}
+use mathlib.Core.List.{List, [], _∷_, _++_, append-assoc, append-nil}
+use mathlib.Core.Logic.{_⊎_, inl, inr}
+use native.Mathlib.Nat.{zero-add}
+use native.Mathlib.Omega.{arith}
+use lib.Dec.{T, eqb}
+use lib.ListN.{length, getD, take, set}
+use lib.Seq.{getD-append-add, take-all}
+use borrow.Author.Tests.{eqb-true, ne-eqb}
+use types.Run.{OneOf}
+use Rattle.molang.specs.Operator.{logicalEqual, logicalNotEqual, isOneOf, isMathCall}
+use Rattle.molang.specs.Forest.{Token, Forest, nil, node, count, unclosed, closedBy}
+use Rattle.molang.specs.Words.{word, lowOf, tokenOf, tokenWords, nodeWordsOf, treeWords}
+use Rattle.molang.specs.Parse.{inFront}
+use Rattle.molang.specs.Legal.{Legal, LegalTrees, noTrees, legalTree}
+use Rattle.molang.specs.Rules.{numberBeside}
+use Rattle.molang.specs.OperatorRules.{operatorNumbers, operatorRule, operatorRules}
+use Rattle.molang.proofs.Booleans.{false-true}
+use Rattle.molang.proofs.Words.{low-word, token-back}
+use Rattle.ops.proofs.OperatorLaws.{and-left, and-right, passes, true-at, Apart, apart, none-of}
+use Rattle.words.specs.Fields.{operatorOf}
+use Rattle.words.specs.Records.{laidAt}
+use Rattle.words.proofs.RecordLaws.{none-laid, laid-front}
+use Rattle.words.proofs.LaidLaws.{laid-next}
+use Rattle.rules.specs.Nodes.{nodeRule, wordRules}
+
+-- ---- the table
+
+-- The number of each operator of a range, by one computed test.
+pub number-at : (v lo k : ℕ) → T (passes (λ n. eqb v (numberBeside n operatorNumbers)) lo k) → (n : ℕ) → lo ≤ n → n < lo + k
+    → v ≡ numberBeside n operatorNumbers
+number-at v lo k t n from to =
+    eqb-true v (numberBeside n operatorNumbers) (sym (true-at (λ n. eqb v (numberBeside n operatorNumbers)) lo k t n from to))
+
+-- What is left after arms of single numbers, the last arm first: the number is none of any arm's.
+abbrev pub Left : List (List ℕ) → ℕ → Type 0
+Left [] n = Unit {0}
+Left (arm ∷ earlier) n = Left earlier n × (OneOf arm n → ⊥)
+
+-- All numbers of these arms.
+abbrev pub keysOf : List (List ℕ) → List ℕ
+keysOf [] = []
+keysOf (arm ∷ earlier) = arm ++ keysOf earlier
+
+apart-then : (os ps : List ℕ) (n : ℕ) → Apart n os → Apart n ps → Apart n (os ++ ps)
+apart-then [] ps n a b = b
+apart-then (o ∷ os) ps n a b = (a .0, apart-then os ps n (a .1) b)
+
+pub left-apart : (arms : List (List ℕ)) (os : List ℕ) (n : ℕ) → Left arms n → Apart n os → Apart n (keysOf arms ++ os)
+left-apart [] os n l a = a
+left-apart (arm ∷ earlier) os n l a =
+    rw (append-assoc arm (keysOf earlier) os)
+    (apart-then arm (keysOf earlier ++ os) n (none-of arm n (l .1)) (left-apart earlier os n (l .0) a))
+
+-- Each number that has one beside it is of the list.
+abbrev pub among : List ℕ → List (ℕ × ℕ) → Bool
+among os [] = true
+among os (entry ∷ entries) = isOneOf os (entry .0) && among os entries
+
+-- A number apart from a list of them all has none.
+pub unlisted : (entries : List (ℕ × ℕ)) (os : List ℕ) (n : ℕ) → T (among os entries) → Apart n os → 0 ≡ numberBeside n entries
+unfolding numberBeside
+unlisted [] os n t a = refl
+unlisted (entry ∷ entries) os n t a =
+    let one = and-left (isOneOf os (entry .0)) (among os entries) t in
+    let other : entry .0 ≡ n → ⊥ = λ e. subst T (ap (isOneOf os) e ∙ sym (apart os n a)) one in
+    rw (numberBeside, ne-eqb (entry .0) n other) (unlisted entries os n (and-right (isOneOf os (entry .0)) (among os entries) t) a)
+
+-- ---- the rule of an operator
+
+-- A math call, an equality where comparisons come first, and any other operator.
+module _ (first : Bool) (n : ℕ) where
+  pub math-rule : isMathCall n ≡ true → 7 ≡ operatorRule first n
+  unfolding operatorRule
+  math-rule math = rw (operatorRule, math)
+
+  pub equality-rule : isMathCall n ≡ false → first ≡ true → (eqb n logicalEqual || eqb n logicalNotEqual) ≡ true → 13 ≡ operatorRule first n
+  unfolding operatorRule
+  equality-rule math comes equality = rw (operatorRule, math, comes, equality)
+
+  pub listed-rule : isMathCall n ≡ false → ((eqb n logicalEqual || eqb n logicalNotEqual) ≡ false) ⊎ (first ≡ false)
+      → numberBeside n operatorNumbers ≡ operatorRule first n
+  unfolding operatorRule
+  listed-rule math o = rw (operatorRule, math, either-false first (eqb n logicalEqual || eqb n logicalNotEqual) o)
+    where
+      either-false : (a b : Bool) → (b ≡ false) ⊎ (a ≡ false) → (a && b) ≡ false
+      either-false true b (inl e) = e
+      either-false true b (inr e) = false-true (sym e)
+      either-false false b o = refl
+
+-- ---- nodes in a row
+
+pub word-count : (first : Bool) (ws : List ℕ) → length (wordRules first ws) ≡ length ws / 7
+unfolding wordRules
+word-count first [] = omega arith
+word-count first (a ∷ []) = omega arith
+word-count first (a ∷ b ∷ []) = omega arith
+word-count first (a ∷ b ∷ c ∷ []) = omega arith
+word-count first (a ∷ b ∷ c ∷ d ∷ []) = omega arith
+word-count first (a ∷ b ∷ c ∷ d ∷ e ∷ []) = omega arith
+word-count first (a ∷ b ∷ c ∷ d ∷ e ∷ n ∷ []) = omega arith
+word-count first (a ∷ b ∷ c ∷ d ∷ e ∷ n ∷ g ∷ ws) = omega (arith, word-count first ws)
+
+-- The rule of node i is by its first word and its sixth.
+pub word-rule : (first : Bool) (ws : List ℕ) (i : ℕ) → i < length ws / 7
+    → getD (wordRules first ws) i 0 ≡ nodeRule first (getD ws (7 * i) 0) (getD ws (7 * i + 5) 0)
+unfolding wordRules
+word-rule first [] i h = absurd (omega arith)
+word-rule first (a ∷ []) i h = absurd (omega arith)
+word-rule first (a ∷ b ∷ []) i h = absurd (omega arith)
+word-rule first (a ∷ b ∷ c ∷ []) i h = absurd (omega arith)
+word-rule first (a ∷ b ∷ c ∷ d ∷ []) i h = absurd (omega arith)
+word-rule first (a ∷ b ∷ c ∷ d ∷ e ∷ []) i h = absurd (omega arith)
+word-rule first (a ∷ b ∷ c ∷ d ∷ e ∷ n ∷ []) i h = absurd (omega arith)
+word-rule first (a ∷ b ∷ c ∷ d ∷ e ∷ n ∷ g ∷ ws) zero h = refl
+word-rule first (a ∷ b ∷ c ∷ d ∷ e ∷ n ∷ g ∷ ws) (suc i) h =
+    let own = a ∷ b ∷ c ∷ d ∷ e ∷ n ∷ g ∷ [] in
+    let on : 7 * suc i ≡ 7 + 7 * i = omega arith in
+    let past : 7 * suc i + 5 ≡ 7 + (7 * i + 5) = omega arith in
+    rw (past, on) (word-rule first ws i (omega arith)
+    ∙ sym (λ j. nodeRule first (getD-append-add own ws (7 * i) 0 j) (getD-append-add own ws (7 * i + 5) 0 j)))
+
+-- ---- laid byte by byte
+
+-- The rule buffer with the rules of the first i nodes in front.
+abbrev pub LaidTo : Bool → List ℕ → List ℕ → ℕ → List ℕ → Type 0
+LaidTo first nodes bytes₀ i bytes = bytes ≡ laidAt 0 (take i (wordRules first nodes)) bytes₀
+
+module _ (first : Bool) (nodes bytes₀ : List ℕ) (room : length nodes / 7 ≤ length bytes₀) where
+  pub laid-none : LaidTo first nodes bytes₀ 0 bytes₀
+  laid-none = none-laid 0 bytes₀
+
+  pub laid-on : (i v : ℕ) (bytes : List ℕ) → i < length nodes / 7 → v ≡ nodeRule first (getD nodes (7 * i) 0) (getD nodes (7 * i + 5) 0)
+      → LaidTo first nodes bytes₀ i bytes
+      → LaidTo first nodes bytes₀ (i + 1) (set bytes i v)
+  laid-on i v bytes h e l =
+      let counted = word-count first nodes in
+      ap (set bytes i) (e ∙ sym (word-rule first nodes i h))
+      ∙ (rw zero-add at (laid-next bytes₀ bytes 0 (wordRules first nodes) i (omega arith) (omega arith) l))
+
+  pub laid-all : (i : ℕ) (bytes : List ℕ) → length nodes / 7 ≤ i → LaidTo first nodes bytes₀ i bytes
+      → bytes ≡ inFront (wordRules first nodes) bytes₀
+  laid-all i bytes h l =
+      let counted = word-count first nodes in
+      let ruled = wordRules first nodes in
+      l ∙ (ap (λ (ns : List ℕ). laidAt 0 ns bytes₀) (take-all i ruled (omega arith)) ∙ laid-front ruled bytes₀)
+
+-- ---- legal trees
+
+-- A node's first word has its operator.
+operator-back : (k : Token) → Legal k → (n : ℕ) → operatorOf (getD (nodeWordsOf k n) 0 0) ≡ k .op
+unfolding nodeWordsOf tokenWords operatorOf tokenOf unclosed closedBy
+operator-back k h n = ap (λ (t : Token). t .op) (token-back k h)
+
+-- The rule of a leaf and of a node with children, by their words.
+leaf-ruled : (first : Bool) (operator : ℕ) → nodeRule first operator (word 6 0) ≡ 0
+unfolding nodeRule
+leaf-ruled first operator = rw (nodeRule, low-word 6 0 (omega arith)) refl
+
+parent-ruled : (first : Bool) (k : Token) → Legal k → (n m : ℕ) → suc n < 2 ^ 14
+    → nodeRule first (getD (nodeWordsOf k m) 0 0) (word 6 (suc n)) ≡ operatorRule first (k .op)
+unfolding nodeRule
+parent-ruled first k h n m few =
+    let low = low-word 6 (suc n) (omega arith) in
+    let counted : eqb (lowOf (word 6 (suc n))) 0 ≡ false = ne-eqb (lowOf (word 6 (suc n))) 0 (λ e. omega arith) in
+    rw (nodeRule, counted) (ap (operatorRule first) (operator-back k h m))
+
+trees-ruled : (first : Bool) {f : Forest} → LegalTrees f → (z : List ℕ)
+    → wordRules first (treeWords f ++ z) ≡ operatorRules first f ++ wordRules first z
+unfolding wordRules treeWords nodeWordsOf tokenWords operatorRules count
+trees-ruled first noTrees z = refl
+trees-ruled first (legalTree {k = k} {cs = nil} {rest = rest} h n below after) z =
+    let later = trees-ruled first after z in
+    λ i. leaf-ruled first (getD (nodeWordsOf k 0) 0 0) i ∷ later i
+trees-ruled first (legalTree {k = k} {cs = node c ds more} {rest = rest} h n below after) z =
+    let cs = node c ds more in
+    let inner : wordRules first ((treeWords cs ++ treeWords rest) ++ z)
+    ≡ (operatorRules first cs ++ operatorRules first rest) ++ wordRules first z =
+    ap (wordRules first) (append-assoc (treeWords cs) (treeWords rest) z)
+    ∙ (trees-ruled first below (treeWords rest ++ z)
+    ∙ (ap (λ (rs : List ℕ). operatorRules first cs ++ rs) (trees-ruled first after z)
+    ∙ sym (append-assoc (operatorRules first cs) (operatorRules first rest) (wordRules first z))))
+    in
+    λ i. parent-ruled first k h (count more) (count cs) n i ∷ inner i
+
+-- THE RULES BY WORDS of legal trees are those by their operators.
+pub tree-ruled : (first : Bool) (f : Forest) → LegalTrees f → wordRules first (treeWords f) ≡ operatorRules first f
+unfolding wordRules
+tree-ruled first f h =
+    ap (wordRules first) (sym (append-nil (treeWords f))) ∙ (trees-ruled first h [] ∙ append-nil (operatorRules first f))
