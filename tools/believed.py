@@ -37,8 +37,12 @@ APART = {
     "Operator": "the operators' names and sets",
     "Lines": "the table of examples",
 }
-# Files of molang/specs that no entry reaches, with the statement of a theorem of molang/proofs, and the theorem.
-STATEMENTS = {"Matching": "nothing-lost", "Hosts": "hostless-same"}
+# Files of molang/specs that no entry reaches, with the statement of a theorem of molang/proofs, and whose it is.
+STATEMENTS = {
+    "Matching": "the theorem `nothing-lost` says",
+    "Hosts": "the theorem `hostless-same` says",
+    "Payloads": "the theorems `one-name`, `one-name-ruled`, `one-node` and `one-name-on` say",
+}
 
 
 def cited(line):
@@ -102,7 +106,7 @@ def main():
             rows.append((f"`molang/specs`: {module}", what, lines_of(file_of("molang", "specs", module))))
     for module, theorem in STATEMENTS.items():
         if ("molang", module) not in by_file:
-            rows.append((f"`molang/specs`: {module}", f"what the theorem `{theorem}` says", lines_of(file_of("molang", "specs", module))))
+            rows.append((f"`molang/specs`: {module}", f"what {theorem}", lines_of(file_of("molang", "specs", module))))
     for crate, module in sorted(key for key in by_file if key[0] != "molang"):
         users = ", ".join(f"`{function}`" for function in sorted(by_file[crate, module]))
         rows.append((f"`{crate}/specs`: {module}", f"what the promise of {users} cites", lines_of(file_of(crate, "specs", module))))

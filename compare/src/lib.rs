@@ -7,6 +7,10 @@ pub mod comparison;
 pub mod library;
 pub mod matching;
 pub mod numbers;
+pub mod payload_calls;
+#[cfg(library)]
+pub mod payload_pairs;
+pub mod payload_reach;
 pub mod plain_trees;
 #[cfg(library)]
 pub mod reading;

@@ -1,7 +1,7 @@
 //! The long comparison (`make compare`): reading through the C convention beside the Rust, reading with rules beside the Rust whose
 //! passes mark the nodes, writing trees beside the second writer, export and import beside their model and each other, then reading,
-//! writing and reading again. The last line is `N lists, 0 differences`; a difference ends the run with a status that is not 0, after
-//! the smallest list that shows it.
+//! writing and reading again, and all of these with one payload changed. The last line is `N lists, 0 differences`; a difference ends
+//! the run with a status that is not 0, after the smallest list that shows it.
 //!
 //!     compare [LISTS] [SEED]
 
@@ -47,6 +47,8 @@ mod run {
     use compare::comparison::Comparison;
     use compare::matching::Matching;
     use compare::numbers::Numbers;
+    use compare::payload_calls::{self, PayloadCall};
+    use compare::payload_pairs::{Library, Pairs, Tally};
     use compare::plain_trees;
     use compare::reading::Buffers;
     use compare::reordering::{Way, reorder};
@@ -173,6 +175,11 @@ mod run {
             expressions,
             scripts,
             short_scripts,
+            one_payload,
+            one_payload_of_short_lists,
+            one_payload_at_every_version,
+            one_node,
+            chains,
         ] {
             let written = part(lists as u64 / 5, seed);
             let (Ok(count) | Err((count, _))) = written;
@@ -424,5 +431,98 @@ mod run {
         let lists = progress.done + refused;
         progress.end(&format!("{refused} more trees are not plain or too long"));
         Ok(lists)
+    }
+    fn one_payload(count: u64, seed: u64) -> Result<u64, (u64, String)> {
+        let pairs = payload_calls::generated(seed).take(count as usize);
+        reaching("lists, each also with one payload changed", pairs)
+    }
+
+    fn one_payload_of_short_lists(_: u64, _: u64) -> Result<u64, (u64, String)> {
+        let name = "every list of up to 4 over two alphabets, at 4, 5 and 6 under three used sets, with each payload changed";
+        reaching(name, payload_calls::every_short_list(4))
+    }
+
+    fn one_payload_at_every_version(_: u64, seed: u64) -> Result<u64, (u64, String)> {
+        let name = "lists that versions read otherwise, at every version, each also with one payload changed";
+        reaching(name, payload_calls::every_version(seed))
+    }
+
+    /// Reads each list with and without its other payload.
+    fn reaching(
+        name: &'static str,
+        lists: impl Iterator<Item = PayloadCall>,
+    ) -> Result<u64, (u64, String)> {
+        let mut progress = Progress::new(name);
+        let mut pairs = Pairs::<Library>::default();
+        for pair in lists {
+            let reached = pairs.list(&pair);
+            reached.map_err(|difference| (progress.done, difference))?;
+            progress.one_more();
+        }
+        let done = progress.done;
+        progress.end(&reached(&pairs.tally));
+        Ok(done)
+    }
+
+    fn reached(tally: &Tally) -> String {
+        let apart: u64 = tally.messages_apart.iter().sum();
+        format!(
+            "{} trees differ in one node, {} in none; {apart} messages differ in one argument ({} of 8, {} of 9), {} in none",
+            tally.trees_apart,
+            tally.trees_equal,
+            tally.messages_apart[8],
+            tally.messages_apart[9],
+            tally.messages_equal
+        )
+    }
+
+    /// Writes `count` trees with and without another payload in one node.
+    fn one_node(count: u64, seed: u64) -> Result<u64, (u64, String)> {
+        let mut progress = Progress::new("trees written, each also with one payload changed");
+        let mut pairs = Pairs::<Library>::default();
+        for pair in payload_calls::trees(seed).take(count as usize) {
+            let reached = pairs.tree(&pair);
+            reached.map_err(|difference| (progress.done, difference))?;
+            progress.one_more();
+        }
+        let (done, tally) = (progress.done, pairs.tally);
+        progress.end(&format!(
+            "{} written lists differ in one token, {} in none; turned back alike {} with 13, {} with 14, {} with 15",
+            tally.lists_apart,
+            tally.lists_equal,
+            tally.refused[13],
+            tally.refused[14],
+            tally.refused[15]
+        ));
+        Ok(done)
+    }
+
+    /// Reads, writes and reads again `count` lists, expressions and scripts, with and without another payload in one token.
+    fn chains(count: u64, seed: u64) -> Result<u64, (u64, String)> {
+        let name = "lists read, written and read again, each also with one payload changed";
+        let mut progress = Progress::new(name);
+        let (mut pairs, mut rng) = (Pairs::<Library>::default(), Rng::new(seed ^ 0xC4A1));
+        let lists = Lists::new(seed + 20).zip(Lists::scripts(seed + 21));
+        for case in lists.flat_map(|(expression, script)| [expression, script]) {
+            if progress.done >= count {
+                break;
+            }
+            let Some(pair) = PayloadCall::any(&mut rng, Call::of(&case)) else {
+                continue;
+            };
+            let chain = pairs.chain(&mut rng, &pair);
+            if chain.map_err(|difference| (progress.done, difference))? {
+                progress.one_more();
+            }
+        }
+        let (done, tally) = (progress.done, pairs.tally);
+        progress.end(&format!(
+            "{} second trees differ in one node, {} in none; {} first readings: {}",
+            tally.again_apart,
+            tally.again_equal,
+            tally.read_pairs(),
+            reached(&tally)
+        ));
+        Ok(done)
     }
 }

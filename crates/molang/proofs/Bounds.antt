@@ -16,7 +16,8 @@ use Rattle.molang.specs.Message.{sectionNotClosed, noClosingSymbol, empt
 use Rattle.molang.specs.Message.{leadingSemicolon, emptyArrayIndex, binaryAtEnd, negateWithoutOperand, notWithoutOperand}
 use Rattle.molang.specs.Message.{unknownOperation, unaryWithoutOperand, ternaryWithoutOperands, Result, ok, fail, record8, about}
 use Rattle.molang.specs.Message.{messageRecord}
-use Rattle.molang.specs.Order.{rules, Pass, lastToken, memberAccessors, sectioning, comparisons, logic, conditionals, order, runs}
+use Rattle.molang.specs.Order.{Rules, rules, Pass, lastToken, memberAccessors, sectioning, comparisons, logic, conditionals, order}
+use Rattle.molang.specs.Order.{runs}
 use Rattle.molang.specs.Order.{lastOf, endsWithSemicolon, apply}
 use Rattle.molang.specs.Read.{Answer, tree, messages, rooted, endsReading, grouped, read}
 use Rattle.molang.specs.Words.{tokenWords, nodeWordsOf, treeWords}
@@ -50,6 +51,34 @@ pub data Bounded (n : ℕ) : Answer → Type 0 where
   fewNodes : {k : Token} {cs : Forest} → size (node k cs nil) ≤ n → Bounded n (tree k cs)
   fewMessages : {ms : List Message} → 1 ≤ length ms → length ms ≤ 2 → Bounded n (messages ms)
 
+module _ (sourceLength : ℕ) (u : ℕ → Bool) where
+  -- `grouped` after a pass that fails, and after a pass.
+  unfoldable pub afterFail : Pass → List Pass → List Message → Answer
+  afterFail p ps m = elim (endsReading p) [ true ↦ messages ([] ++ m) | false ↦ grouped sourceLength u ps ([] ++ m) nil ]
+
+  afterPass : Pass → List Pass → Result → Answer
+  unfolding afterFail
+  afterPass p ps x = elim x [ ok g ↦ grouped sourceLength u ps [] g | fail m ↦ afterFail p ps m ]
+
+  module _ (P : Answer → Type 0) (p : Pass) (ps : List Pass) (f : Forest) where
+    -- A pass runs or not; it fails with so many messages, or gives a list of which Q holds.
+    pub pass-cases : (c : ℕ) (Q : Forest → Type 0) → Outcome c Q (apply sourceLength p f) → P (grouped sourceLength u ps [] f)
+        → ((m : List Message) → apply sourceLength p f ≡ fail m → length m ≡ c → P (afterFail p ps m))
+        → ((g : Forest) → Q g → P (grouped sourceLength u ps [] g))
+        → P (grouped sourceLength u (p ∷ ps) [] f)
+    unfolding grouped afterPass afterFail
+    pass-cases c Q o unrun unable able = either P (runs u p) _ _ (passed refl o) unrun
+      where
+        passed : {x : Result} → apply sourceLength p f ≡ x → Outcome c Q x → P (afterPass p ps x)
+        passed is (failed {m = m} e) = unable m is e
+        passed is (fine {g = g} q) = able g q
+
+pub ends-outcome : (sourceLength : ℕ) (f : Forest) → Outcome 1 (λ g. g ≡ f) (endsWithSemicolon sourceLength f)
+unfolding endsWithSemicolon
+ends-outcome l f =
+    maybe (Outcome 1 (λ g. g ≡ f)) (lastOf none f) _ _
+    (λ k. either (Outcome 1 (λ g. g ≡ f)) (eqb (k .op) Operator.semicolon) _ _ (fine refl) (failed refl)) (failed refl)
+
 module _ (sourceLength : ℕ) (u : ℕ → Bool) (n : ℕ) where
   counted : (ms : List Message) → 1 ≤ length ms → length ms ≤ 2 → Bounded n (messages ms)
   counted ms a b = fewMessages a b
@@ -60,26 +89,13 @@ module _ (sourceLength : ℕ) (u : ℕ → Bool) (n : ℕ) where
   rooted-bounded (node k cs nil) h = fewNodes {k = k} {cs = cs} (omega (arith, size-weight (node k cs nil)))
   rooted-bounded (node k cs (node l ls rest)) h = counted _ (omega arith) (omega arith)
 
-  -- `grouped` after a pass that fails, and after a pass.
-  afterFail : Pass → List Pass → List Message → Answer
-  afterFail p ps m = elim (endsReading p) [ true ↦ messages ([] ++ m) | false ↦ grouped sourceLength u ps ([] ++ m) nil ]
-
-  afterPass : Pass → List Pass → Result → Answer
-  unfolding afterFail
-  afterPass p ps x = elim x [ ok g ↦ grouped sourceLength u ps [] g | fail m ↦ afterFail p ps m ]
-
-  module _ (p : Pass) (ps : List Pass) (f : Forest) where
-    -- A pass runs or not; it fails with so many messages, or gives a list of which Q holds.
-    pass-bounded : (c : ℕ) (Q : Forest → Type 0) → Outcome c Q (apply sourceLength p f) → Bounded n (grouped sourceLength u ps [] f)
-        → ((m : List Message) → length m ≡ c → Bounded n (afterFail p ps m))
-        → ((g : Forest) → Q g → Bounded n (grouped sourceLength u ps [] g))
-        → Bounded n (grouped sourceLength u (p ∷ ps) [] f)
-    unfolding grouped afterPass afterFail
-    pass-bounded c Q o unrun unable able = either (Bounded n) (runs u p) _ _ (passed o) unrun
-      where
-        passed : {x : Result} → Outcome c Q x → Bounded n (afterPass p ps x)
-        passed (failed {m = m} e) = unable m e
-        passed (fine {g = g} q) = able g q
+  pass-bounded : (p : Pass) (ps : List Pass) (f : Forest) (c : ℕ) (Q : Forest → Type 0) → Outcome c Q (apply sourceLength p f)
+      → Bounded n (grouped sourceLength u ps [] f)
+      → ((m : List Message) → length m ≡ c → Bounded n (afterFail sourceLength u p ps m))
+      → ((g : Forest) → Q g → Bounded n (grouped sourceLength u ps [] g))
+      → Bounded n (grouped sourceLength u (p ∷ ps) [] f)
+  pass-bounded p ps f c Q o unrun unable able =
+      pass-cases sourceLength u (Bounded n) p ps f c Q o unrun (λ m is e. unable m e) able
 
   grouped-bounded : (ps : List Pass) (f : Forest) → allNested ps ≡ true → weight nodeWeight f ≤ n
       → Bounded n (grouped sourceLength u ps [] f)
@@ -95,12 +111,6 @@ module _ (sourceLength : ℕ) (u : ℕ → Bool) (n : ℕ) where
       (λ g w. grouped-bounded ps g (i .1) (omega (arith, w .0)))
 
   -- The passes over the flat list come first.
-  ends-outcome : (f : Forest) → Outcome 1 (λ g. g ≡ f) (endsWithSemicolon sourceLength f)
-  unfolding endsWithSemicolon
-  ends-outcome f =
-      maybe (Outcome 1 (λ g. g ≡ f)) (lastOf none f) _ _
-      (λ k. either (Outcome 1 (λ g. g ≡ f)) (eqb (k .op) Operator.semicolon) _ _ (fine refl) (failed refl)) (failed refl)
-
   sections-bounded : (ps : List Pass) (f : Forest) → allNested ps ≡ true → flat f ≡ true → weight nodeWeight f ≤ n
       → Bounded n (grouped sourceLength u (sectioning ∷ ps) [] f)
   unfolding apply afterFail endsReading
@@ -122,7 +132,7 @@ module _ (sourceLength : ℕ) (u : ℕ → Bool) (n : ℕ) where
   unfolding apply afterFail endsReading
   flat-bounded ps ks e h =
       let later = members-bounded ps ks e h in
-      pass-bounded lastToken (memberAccessors ∷ sectioning ∷ ps) (leaves ks) 1 _ (ends-outcome (leaves ks)) later
+      pass-bounded lastToken (memberAccessors ∷ sectioning ∷ ps) (leaves ks) 1 _ (ends-outcome sourceLength (leaves ks)) later
       (λ m o. counted m (omega arith) (omega arith)) (λ g w. rw w later)
 
 nested-append : (ps qs : List Pass) → allNested ps ≡ true → allNested qs ≡ true → allNested (ps ++ qs) ≡ true
@@ -145,16 +155,25 @@ unfolding conditionals allNested isNested
 conditionals-nested true = refl
 conditionals-nested false = refl
 
+-- The order begins with the three passes over the flat list; those after them go through nested lists.
+pub order-parts : (r : Rules)
+    → (later : List Pass) × (order r ≡ lastToken ∷ memberAccessors ∷ sectioning ∷ later) × (allNested later ≡ true)
+unfolding order allNested isNested
+order-parts r = (
+  _,
+  refl,
+  nested-append (comparisons (r .comparisonsFirst)) _ (comparisons-nested (r .comparisonsFirst))
+      (nested-append (logic (r .andFirst)) _ (logic-nested (r .andFirst))
+      (nested-append (conditionals (r .pairsRight)) _ (conditionals-nested (r .pairsRight)) refl)),
+)
+
 -- THE BOUND
 pub read-bounded : (tokens : List Token) (u : ℕ → Bool) (version : ℤ) (sourceLength : ℕ)
     → Bounded (3 * length tokens) (read tokens u version sourceLength)
-unfolding read order allNested isNested
+unfolding read
 read-bounded ts u v l =
-    flat-bounded l u (3 * length ts) _ ts
-    (nested-append (comparisons (rules v .comparisonsFirst)) _ (comparisons-nested (rules v .comparisonsFirst))
-    (nested-append (logic (rules v .andFirst)) _ (logic-nested (rules v .andFirst))
-    (nested-append (conditionals (rules v .pairsRight)) _ (conditionals-nested (rules v .pairsRight)) refl)))
-    (leaves-weight ts)
+    let p = order-parts (rules v) in
+    rw (p .1) (flat-bounded l u (3 * length ts) (p .0) ts (p .2) (leaves-weight ts))
 
 pub read-tree : (tokens : List Token) (u : ℕ → Bool) (version : ℤ) (sourceLength : ℕ) (k : Token) (cs : Forest)
     → read tokens u version sourceLength ≡ tree k cs → size (node k cs nil) ≤ 3 * length tokens

@@ -46,7 +46,8 @@ unfolding writeRefusal
 whole-tree w e =
     after-none (withNumber 12 (treeFault 0 operatorField 0 (record { called = 1; begun = 0 }) (w .tree))) _ (ap (withNumber 12) e)
 
-root-legal : (k : Token) (cs : Forest) → LegalTrees (node k cs nil) → LegalTokens (writtenTree k cs)
+-- The writing of a legal tree is legal.
+pub root-legal : (k : Token) (cs : Forest) → LegalTrees (node k cs nil) → LegalTokens (writtenTree k cs)
 root-legal k cs (legalTree h n below after) = writtenTree-legal k cs h below
 
 module _ {c : Call} {k : Token} {cs : Forest} (p : Parsed c k cs) where
@@ -66,7 +67,7 @@ module _ {c : Call} {k : Token} {cs : Forest} (p : Parsed c k cs) where
   unfolding reading
   tree-back = let a = call-accepted c (p .accepted) in read-back _ _ _ _ k cs (a .legal) (a .few) (p .reads)
 
-  tree-unfaulted : treeFault 0 operatorField 0 (record { called = 1; begun = 0 }) (treeWords (node k cs nil)) ≡ none
+  pub tree-unfaulted : treeFault 0 operatorField 0 (record { called = 1; begun = 0 }) (treeWords (node k cs nil)) ≡ none
   unfolding reading
   tree-unfaulted = let a = call-accepted c (p .accepted) in read-unfaulted _ _ _ _ k cs (a .legal) (a .few) (p .reads)
 

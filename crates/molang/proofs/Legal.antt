@@ -24,12 +24,28 @@ use Rattle.molang.proofs.Every.{Every, nowhere, at, Renewable, read-eve
 pub legal-renamed : (o : ℕ) (k : Token) → o ≤ 110 → Legal k → Legal (renamed o k)
 unfolding renamed
 legal-renamed o k b h =
-    record { op = operator-low o b; variant = h .variant; value = h .value; no-payload = h .no-payload; start = h .start; end = h .end; close = h .close }
+    record {
+      op = operator-low o b;
+      variant = h .variant;
+      value = h .value;
+      no-payload = h .no-payload;
+      start = h .start;
+      end = h .end;
+      close = h .close;
+    }
 
 pub legal-bare : (o : ℕ) (k : Token) → o ≤ 110 → Legal k → Legal (bare o k)
 unfolding bare
 legal-bare o k b h =
-    record { op = operator-low o b; variant = omega arith; value = omega arith; no-payload = λ e. refl; start = h .start; end = h .end; close = h .end }
+    record {
+      op = operator-low o b;
+      variant = omega arith;
+      value = omega arith;
+      no-payload = λ e. refl;
+      start = h .start;
+      end = h .end;
+      close = h .end;
+    }
 
 -- So is a section that is closed by a legal token.
 pub legal-closed : (k o : Token) → Legal k → Legal o → Legal (closedBy k o)

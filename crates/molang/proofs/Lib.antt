@@ -53,3 +53,10 @@ pub mod MessageNumbers
 pub mod Hosts
 pub mod OldWords
 pub mod OperatorRules
+pub mod Marks
+pub mod OneName
+pub mod PayloadWords
+pub mod PayloadMessages
+pub mod PayloadWriting
+pub mod Payloads
+pub mod PayloadChain

@@ -459,7 +459,11 @@ module _ (φ : Token → Token) (A : Unnoticed φ) where
   scan-natural (node a aa nil) right = refl
   scan-natural (node a aa (node b bs left)) right =
       scan-once (φ a) (relabelled φ aa) (φ b) (relabelled φ bs) (relabelled φ left) (relabelled φ right)
-      ∙ rw (token-seen Operator.conditional refl a aa, token-seen Operator.conditionalElse refl a aa, starts-seen Operator.conditional refl left)
+      ∙ rw (
+        token-seen Operator.conditional refl a aa,
+        token-seen Operator.conditionalElse refl a aa,
+        starts-seen Operator.conditional refl left,
+      )
       (scanned-natural _ _ _ a aa b bs left right (λ r. scan-natural left r) (λ r. scan-natural (node b bs left) r))
       ∙ ap (relabelled φ) (sym (scan-once a aa b bs left right))
 

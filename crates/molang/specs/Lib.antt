@@ -27,4 +27,5 @@ pub mod Write
 pub mod WriteEntry
 pub mod Reread
 pub mod StackOrder
+pub mod Payloads
 pub mod Lines
