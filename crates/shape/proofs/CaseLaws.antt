@@ -1,16 +1,21 @@
 -- What the arm of a `match` on an enum says where it stands for several variants.
-use Prim.Native.Nat.{ℕ, _^_}
+use Prim.Native.Nat.{ℕ, _/_, _^_, _≤_, _<_}
 use mathlib.Core.Path.{_≡_, refl, ap, _∙_}
-use mathlib.Core.Bool.{Bool, true, false}
+use mathlib.Core.Bool.{Bool, true, false, _&&_, and-false}
 use mathlib.Core.List.{[], _∷_}
 use denote.Enum.Declared
 use types.Run.{OneOf, miss}
-use lib.Dec.{eqb, ltb}
-use borrow.Author.Tests.{eq-eqb}
-use Rattle.molang.specs.FirstFailure.{must}
-use Rattle.molang.specs.Words.{kindOf, lowOf, countField, fieldKind, lowFault, wordFault, variantAfter}
+use native.Mathlib.Omega.{arith}
+use lib.Dec.{eqb, leb, ltb}
+use borrow.Author.Tests.{eq-eqb, eqb-true, le-leb, lt-leb, lt-ltb, le-ltb}
+use Rattle.molang.specs.Operator.{isOperator}
+use Rattle.molang.specs.FirstFailure.{must, firstOf}
+use Rattle.molang.specs.Words.{kindOf, lowOf, operatorField, countField, fieldKind, lowFault, wordFault, variantAfter}
 use Rattle.molang.specs.WriteEntry.{Shape, shapeAfter, isWhole}
+use Rattle.molang.proofs.Booleans.{either}
 use Rattle.molang.proofs.FirstFailure.{must-true, after-none}
+use Rattle.words.proofs.CheckLaws.{operator-tests}
+use Rattle.words.specs.Fields.{operatorOf, variantOf}
 use Rattle.words.proofs.checks.Word as word
 use Rattle.words.specs.declared.checks.Word.{Word}
 use Rattle.words.specs.declared.checks.Word.the-variants.{Good, WrongKind, HighOperator, HighVariant, OtherBit}
@@ -31,6 +36,47 @@ unfolding wordFault fieldKind lowFault
 legal-count w e =
     ap isLegal (after-none (must (eqb (kindOf w) 6) 8) (must (ltb (lowOf w) (2 ^ 14)) 11) (must-true _ 8 (eq-eqb _ 6 e)))
     ∙ legal-must (ltb (lowOf w) (2 ^ 14)) 11
+
+-- A word of kind 1 is legal by its fields: kind and other bits, operator, payload variant.
+module _ (w : ℕ) where
+  four-tests : (k a b c : Bool)
+      → isLegal (firstOf (must k 8 ∷ firstOf (must a 9 ∷ must b 10 ∷ must c 11 ∷ []) ∷ [])) ≡ ((k && c) && (b && a))
+  unfolding firstOf must
+  four-tests true true true true = refl
+  four-tests true true true false = refl
+  four-tests true true false true = refl
+  four-tests true true false false = refl
+  four-tests true false true true = refl
+  four-tests true false true false = refl
+  four-tests true false false true = refl
+  four-tests true false false false = refl
+  four-tests false a b c = refl
+
+  legal-operator : isLegal (wordFault operatorField 0 w)
+      ≡ ((eqb (kindOf w) 1 && ltb (lowOf w) 65536) && (leb (variantOf w) 12 && isOperator (operatorOf w)))
+  unfolding wordFault fieldKind
+  legal-operator = rw (operator-tests w) (four-tests (eqb (kindOf w) 1) _ _ _)
+
+  pub other-kind : (w / 65536 ≡ 8192 → ⊥) → isLegal (wordFault operatorField 0 w) ≡ false
+  unfolding kindOf lowOf
+  other-kind differs =
+      legal-operator
+      ∙ either (eqb (kindOf w) 1)
+      (λ e. rw (e, le-ltb (lowOf w) 65536 (either-way (eqb-true _ _ e))) refl)
+      (λ e. rw e refl)
+    where
+      either-way : kindOf w ≡ 1 → 65536 ≤ lowOf w
+      either-way e = omega arith
+
+  pub high-variant : 12 < variantOf w → isLegal (wordFault operatorField 0 w) ≡ false
+  high-variant h = legal-operator ∙ rw (lt-leb (variantOf w) 12 h) (and-false (eqb (kindOf w) 1 && ltb (lowOf w) 65536))
+
+  pub by-number : w / 65536 ≡ 8192 → variantOf w ≤ 12 → isLegal (wordFault operatorField 0 w) ≡ isOperator (operatorOf w)
+  unfolding kindOf lowOf
+  by-number e h =
+      let kind : kindOf w ≡ 1 = omega arith in
+      let room : lowOf w < 65536 = omega arith in
+      legal-operator ∙ rw (eq-eqb _ 1 kind, lt-ltb _ 65536 room, le-leb (variantOf w) 12 h) refl
 
 pub bad-word : (w : Word) → OneOf (1 ∷ 2 ∷ 3 ∷ 4 ∷ []) (Declared.tagOf word.the-type w) → false ≡ isLegal (numberOf w)
 bad-word Good h = absurd (miss (1 ∷ 2 ∷ 3 ∷ 4 ∷ []) 0 tt h)

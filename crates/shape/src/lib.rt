@@ -67,6 +67,20 @@ fn is_good(word: Word) -> bool
     }
 }
 
+// Whether the word is of kind 1, with no bit from 16 on, a payload variant and the number of an operator. `operator_word` says besides
+// what is wrong; without that the loop over whole nodes stays short.
+fn is_operator(w: u32) -> bool
+    ensures { λ r. ⌜ r ≡ isLegal (words.wordFault words.operatorField 0 w) ⌝ }
+{
+    if w / 65_536 != 8_192 {
+        return false;
+    }
+    if fields::LAST_VARIANT < fields::variant(w) {
+        return false;
+    }
+    fields::is_operator(fields::operator(w))
+}
+
 // Whether the word is of kind 6, of which bits 0-13 are used.
 fn is_count(w: u32) -> bool
     ensures { λ r. ⌜ r ≡ isLegal (words.wordFault words.countField 0 w) ⌝ }
@@ -82,7 +96,7 @@ pub fn is_legal(field: Field, variant: u32, w: u32) -> bool
     ensures { λ r. ⌜ r ≡ isLegal (words.wordFault (fieldOf field) variant w) ⌝ }
 {
     match field {
-        Field::Operator => is_good(checks::operator_word(w)),
+        Field::Operator => is_operator(w),
         Field::Start => is_good(checks::span_word(w, fields::START)),
         Field::End => is_good(checks::span_word(w, fields::END)),
         Field::Upper => is_good(checks::half_word(w, fields::UPPER, variant)),
