@@ -2,6 +2,7 @@
 // its parent and its first child's operator. The seats of the nodes that are called for and have not come yet stand on a stack,
 // the next one on top. Of a script the root is judged first, by its children's operators, and the loop begins behind it. The words are
 // read by the reader. Leans on ops and words.
+use crate::reader::operator_at;
 use crate::reader::view_node;
 use ops::is_math_call;
 use ops::op;
@@ -278,7 +279,7 @@ fn holds_statements(tree: &[u32]) -> bool
 }
 
 // The first node from `node` on that is not plain, or the number of tokens that are written, where so many trees are called for there, the
-// first of them in the given seat and the others under a semicolon. The reader says where the next node stands. No more than 12,288 nodes
+// first of them in the given seat and the others under a semicolon. The reader says where the next node stands and what its operator is. No more than 12,288 nodes
 // wait, since a tree has no more.
 fn judge_from(tree: &[u32], first: Seat, trees: usize, begin: usize) -> Judged
     requires { ⌜ OneTree (now tree) × Begins (now tree) first trees begin ⌝ }
@@ -290,13 +291,15 @@ fn judge_from(tree: &[u32], first: Seat, trees: usize, begin: usize) -> Judged
     let mut tokens = 0usize;
     let mut node = begin;
     let mut at = fields::NODE_WORDS * begin;
+    let mut next = operator_at(tree, at);
     while at < tree.len() {
         let seen = view_node(tree, at);
-        let op = seen.op;
+        let op = next;
         let children = seen.children;
+        next = seen.next;
         top -= 1;
         let seat = waiting[top];
-        if !is_plain(seat, op, children, seen.next) {
+        if !is_plain(seat, op, children, next) {
             return Judged::Unplain(node);
         }
         node += 1;

@@ -1,5 +1,5 @@
 // A reader over the lent tree words that carries its position: where a node's first word stands. To look at the node it is taken apart, and
-// a function over the words and a number looks. `view_node` is what the writer calls. Leans on words.
+// a function over the words and a number looks. `view_node` is what the writer calls, and `operator_at` for the first node. Leans on words.
 use words::fields;
 ghost use mathlib.Core.Path.{_≡_};
 ghost use Prim.Native.Nat.{_+_, _≤_};
@@ -21,7 +21,7 @@ pub struct NodeView {
 }
 
 // The operator of the node that starts at `at`, 0 past the last.
-fn operator_at(words: &[u32], at: usize) -> u32
+pub fn operator_at(words: &[u32], at: usize) -> u32
     ensures { λ r. ⌜ r ≡ operatorAt (now (words .entry)) at ⌝ }
 {
     if at < words.len() {

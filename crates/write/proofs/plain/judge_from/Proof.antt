@@ -11,44 +11,55 @@ use Rattle.molang.specs.WriteEntry.{mostNodes}
 use Rattle.write.specs.declared.plain.Seat.the-variants.{Enclosed}
 use Rattle.write.specs.declared.reader.NodeView.{NodeView}
 use Rattle.write.specs.Seats.{plainBy}
+use Rattle.write.specs.Reading.{operatorAt}
 use Rattle.write.proofs.JudgeLaws.{Judging, Turn, few-tokens, begins-early, judging-begins, judging-room, judging-room-two, judging-refused, judging-none, judging-one, judging-two, judging-ends, falls}
 use Rattle.write.proofs.plain.judge_from.Statement.{statement}
 use Rattle.write.proofs.plain.judge_from.Tie as tie
 use Rattle.shape.specs.Shaped.{nodeLength}
 
 abbrev Inv-loop : tie.InvT-loop
-Inv-loop tree trees begin waiting₀ top₀ tokens₀ node₀ at₀ waiting top tokens node at = Judging tree waiting top tokens node at
+Inv-loop tree trees begin waiting₀ top₀ tokens₀ node₀ at₀ next₀ waiting top tokens node at next =
+    Judging tree waiting top tokens node at × (next ≡ operatorAt tree at)
 
 abbrev μ-loop : tie.MeasureT-loop
-μ-loop tree trees begin waiting₀ top₀ tokens₀ node₀ at₀ waiting top tokens node at = length tree - at
+μ-loop tree trees begin waiting₀ top₀ tokens₀ node₀ at₀ next₀ waiting top tokens node at next = length tree - at
 
 -- In a turn: the room that there is, what was read of the node, and that it is plain.
 room : (c : tie.In-loop Inv-loop μ-loop)
-    → (c .before .loop .at + nodeLength ≤ length (c .before .before .before .args .tree .now))
+    → (c .before .loop .at + nodeLength ≤ length (c .before .before .before .before .args .tree .now))
     × (1 ≤ c .before .loop .top)
     × (c .before .loop .top + c .before .loop .node ≤ mostNodes)
-room c = judging-room (c .before .before .before .pre .0) (c .before .loop .inv) (c .loop-test .taken)
+room c = judging-room (c .before .before .before .before .pre .0) (c .before .loop .inv .0) (c .loop-test .taken)
 
 turn : (c : tie.After-seat Inv-loop μ-loop)
-    → Turn (c .before .before .before .before .before .args .tree .now) (c .before .before .before .loop .waiting) (c .before .before .before .loop .top) (c .before .before .before .loop .tokens) (c .before .before .before .loop .node) (c .before .before .before .loop .at)
-    (c .before .view-node .result .op) (c .before .view-node .result .children) (c .before .view-node .result .next) (c .before .view-node .result .after)
+    → Turn (c .before .before .before .before .before .before .args .tree .now) (c .before .before .before .loop .waiting) (c .before .before .before .loop .top) (c .before .before .before .loop .tokens) (c .before .before .before .loop .node) (c .before .before .before .loop .at)
+    (c .before .before .before .loop .next) (c .before .view-node .result .children) (c .before .view-node .result .next) (c .before .view-node .result .after)
     (getD (c .before .before .before .loop .waiting) (c .before .before .before .loop .top - 1) Enclosed)
 turn c =
     let seen = c .before .view-node .ensures in
     record {
-      one = c .before .before .before .before .before .pre .0;
-      inv = c .before .before .before .loop .inv;
+      one = c .before .before .before .before .before .before .pre .0;
+      inv = c .before .before .before .loop .inv .0;
       within = c .before .before .loop-test .taken;
-      isOp = ap (λ (v : NodeView). v .op) seen;
+      isOp = c .before .before .before .loop .inv .1;
       isCount = ap (λ (v : NodeView). v .children) seen;
       isFirst = ap (λ (v : NodeView). v .next) seen;
       isAfter = ap (λ (v : NodeView). v .after) seen;
       isSeat = refl;
     }
 
+-- The next node's operator is read with this node.
+carried : (c : tie.After-seat Inv-loop μ-loop)
+    → c .before .view-node .result .next
+    ≡ operatorAt (c .before .before .before .before .before .before .args .tree .now) (c .before .view-node .result .after)
+carried c =
+    let tree = c .before .before .before .before .before .before .args .tree .now in
+    let seen = c .before .view-node .ensures in
+    ap (λ (v : NodeView). v .next) seen ∙ ap (operatorAt tree) (sym (ap (λ (v : NodeView). v .after) seen))
+
 plain : (c : tie.Else1 Inv-loop μ-loop)
     → plainBy (getD (c .before .before .before .before .before .loop .waiting) (c .before .before .before .before .before .loop .top - 1) Enclosed)
-    (c .before .before .before .view-node .result .op) (c .before .before .before .view-node .result .children) (c .before .before .before .view-node .result .next)
+    (c .before .before .before .before .before .loop .next) (c .before .before .before .view-node .result .children) (c .before .before .before .view-node .result .next)
     ≡ true
 plain c = sym (c .before .is-plain .ensures) ∙ not-false _ (c .if1 .left)
 
@@ -58,8 +69,11 @@ array-set-from-waiting c = search needs
 mul-at : tie.Need-mul-at Inv-loop μ-loop
 mul-at c = omega (arith, begins-early (c .before .pre .1))
 
+operator-at-requires : tie.Need-operator-at-requires Inv-loop μ-loop
+operator-at-requires c κs = search needs
+
 loop-holds : tie.Need-loop-holds Inv-loop μ-loop
-loop-holds c = judging-begins (c .before .pre .0) (c .before .pre .1)
+loop-holds c = (judging-begins (c .before .before .pre .0) (c .before .before .pre .1), c .operator-at .ensures)
 
 view-node-requires : tie.Need-view-node-requires Inv-loop μ-loop
 view-node-requires c κs = room c .0
@@ -90,9 +104,9 @@ add-tokens c =
     omega (
       arith,
       c .tokens-for .ensures,
-      head .loop .inv .few,
+      head .loop .inv .0 .few,
       room (c .before .before .before .before .before) .2,
-      few-tokens seat (seen .op) (seen .children),
+      few-tokens seat (head .loop .next) (seen .children),
     )
 
 seat-below-requires : tie.Need-seat-below-requires Inv-loop μ-loop
@@ -109,7 +123,10 @@ loop-less c = falls (turn (c .before .before .before .before .before))
 
 loop-again : tie.Need-loop-again Inv-loop μ-loop
 loop-again c =
-    rw (c .seat-below .ensures, c .before .before .tokens-for .ensures) (judging-one (turn (c .before .before .before .before .before)) (plain (c .before .before .before)) (c .before .if2 .taken))
+    rw (c .seat-below .ensures, c .before .before .tokens-for .ensures) (
+      judging-one (turn (c .before .before .before .before .before)) (plain (c .before .before .before)) (c .before .if2 .taken),
+      carried (c .before .before .before .before .before),
+    )
 
 seat-of-right-requires : tie.Need-seat-of-right-requires Inv-loop μ-loop
 seat-of-right-requires c κs = search needs
@@ -134,18 +151,23 @@ loop-less-2 c = falls (turn (c .before .before .before .before .before .before .
 
 loop-again-2 : tie.Need-loop-again-2 Inv-loop μ-loop
 loop-again-2 c =
-    rw (c .seat-of-left .ensures, c .before .seat-of-right .ensures, c .before .before .before .before .tokens-for .ensures)
-    (judging-two (turn (c .before .before .before .before .before .before .before)) (plain (c .before .before .before .before .before)) (c .before .before .if3 .taken))
+    rw (c .seat-of-left .ensures, c .before .seat-of-right .ensures, c .before .before .before .before .tokens-for .ensures) (
+      judging-two (turn (c .before .before .before .before .before .before .before)) (plain (c .before .before .before .before .before)) (c .before .before .if3 .taken),
+      carried (c .before .before .before .before .before .before .before),
+    )
 
 loop-less-3 : tie.Need-loop-less-3 Inv-loop μ-loop
 loop-less-3 c = falls (turn (c .before .before .before .before .before))
 
 loop-again-3 : tie.Need-loop-again-3 Inv-loop μ-loop
 loop-again-3 c =
-    rw (c .before .before .tokens-for .ensures) (judging-none (turn (c .before .before .before .before .before)) (plain (c .before .before .before)) (c .before .if2 .left) (c .if3 .left))
+    rw (c .before .before .tokens-for .ensures) (
+      judging-none (turn (c .before .before .before .before .before)) (plain (c .before .before .before)) (c .before .if2 .left) (c .if3 .left),
+      carried (c .before .before .before .before .before),
+    )
 
 returns-2 : tie.Need-returns-2 Inv-loop μ-loop
-returns-2 c = judging-ends (c .before .loop .inv) (c .loop-test .left)
+returns-2 c = judging-ends (c .before .loop .inv .0) (c .loop-test .left)
 
 pub judge-from-spec : {M : Type 1} → statement M
 judge-from-spec =
@@ -155,6 +177,7 @@ judge-from-spec =
     μ-loop
     array-set-from-waiting
     mul-at
+    operator-at-requires
     loop-holds
     view-node-requires
     sub-top
