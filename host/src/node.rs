@@ -123,8 +123,8 @@ impl<'t> Node<'t> {
         layout::close(self.words())
     }
 
-    /// The rule that made the node: the first of the reader's passes that gave it children. None for a leaf, and in a tree that was not read by
-    /// [`Reader::read_with_rules`](crate::Reader::read_with_rules).
+    /// The rule that made the node: the first of the reader's passes that gave it children. None for a leaf, and in a tree that was not
+    /// read by [`Reader::read_with_rules`](crate::Reader::read_with_rules).
     ///
     /// ```
     /// use sorbrudder::{Reader, Rule, Tokens};
