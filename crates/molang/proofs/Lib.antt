@@ -53,6 +53,7 @@ pub mod StackWords
 pub mod Places
 pub mod StackOrder
 pub mod Relabelling
+pub mod PlainRelabelled
 pub mod MessageNumbers
 pub mod Hosts
 pub mod OldWords

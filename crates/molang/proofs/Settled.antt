@@ -1,24 +1,23 @@
 -- Where a node closes that is no bracket does not matter to the writer (document 02, card 12): a tree of any seventh words is written as
 -- the same words as the tree in which all other nodes close at their own ends, and is plain where that is. Of such a tree the written list
 -- is read back from its words.
-use Prim.Native.Nat.{ℕ, suc, _+_, _≤_, min, max}
+use Prim.Native.Nat.{ℕ, _≤_, min, max}
 use mathlib.Core.Path.{_≡_, refl, ap, sym, _∙_}
 use mathlib.Core.Bool.{Bool, true, false, true≢false}
 use mathlib.Core.List.{List, [], _∷_, _++_}
-use mathlib.Core.Option.{Option, none, some}
+use mathlib.Core.Option.{none}
 use native.Mathlib.Omega.{arith}
 use lib.Dec.{eqb}
 use lib.ListN.{length}
 use borrow.Author.Tests.{eqb-true}
 use Rattle.molang.specs.Operator
 use Rattle.molang.specs.Operator.{isBracket, closingOf}
-use Rattle.molang.specs.Forest.{Token, Forest, nil, node, bare, closedBy, unclosed, count, size}
+use Rattle.molang.specs.Forest.{Token, Forest, nil, node, bare, closedBy, unclosed}
 use Rattle.molang.specs.Read.{lowestStart, highestEnd}
 use Rattle.molang.specs.Words.{tokenWords, listWords}
 use Rattle.molang.specs.Parse.{mostTokens}
 use Rattle.molang.specs.Legal.{Legal, LegalTrees, noTrees, legalTree}
-use Rattle.molang.specs.Plain.{Seat, atRoot, underSemicolon, elsewhere, rightOfQuestion, underMathCall, seatUnder, expressionForm}
-use Rattle.molang.specs.Plain.{allSemicolons, semicolonForm, plainForm, seatOf, unplain, unplainAt}
+use Rattle.molang.specs.Plain.{unplainAt}
 use Rattle.molang.specs.Write.{openerFor, closerFor, closerOf, standsAlone, standsLeft, standsRight, operandTokens, written}
 use Rattle.molang.specs.Write.{writtenStatements, writtenTree}
 use Rattle.molang.proofs.Trees.{some-none}
@@ -28,62 +27,8 @@ use Rattle.molang.proofs.Every.{Every, nowhere, at}
 use Rattle.molang.proofs.Closes.{Closes, plain-ends}
 use Rattle.molang.proofs.Writing.{written-none, written-one, written-two, written-more, writtenTree-expression, writtenTree-script}
 use Rattle.molang.proofs.ListWords.{listWords-length, writtenTree-legal}
-use Rattle.molang.proofs.Relabelling.{relabelled}
-
--- ---- Plain by the operators alone
-
-module _ (φ : Token → Token) (same : (k : Token) → φ k .op ≡ k .op) where
-  pub size-relabelled : (f : Forest) → size (relabelled φ f) ≡ size f
-  unfolding size relabelled
-  size-relabelled nil = refl
-  size-relabelled (node k cs rest) = rw (size-relabelled cs, size-relabelled rest) refl
-
-  expression-relabelled : (p : Seat) (k : Token) (cs : Forest) → expressionForm p (φ k) (relabelled φ cs) ≡ expressionForm p k cs
-  unfolding expressionForm relabelled
-  expression-relabelled p k nil = rw (same k) refl
-  expression-relabelled p k (node x xs nil) = rw (same k, same x) refl
-  expression-relabelled p k (node x xs (node y ys nil)) = rw (same k) refl
-  expression-relabelled p k (node x xs (node y ys (node z zs r))) = refl
-
-  semicolons-relabelled : (f : Forest) → allSemicolons (relabelled φ f) ≡ allSemicolons f
-  unfolding allSemicolons relabelled
-  semicolons-relabelled nil = refl
-  semicolons-relabelled (node k cs rest) = rw (same k, semicolons-relabelled rest) refl
-
-  semicolon-relabelled : (p : Seat) (cs : Forest) → semicolonForm p (relabelled φ cs) ≡ semicolonForm p cs
-  unfolding semicolonForm relabelled
-  semicolon-relabelled atRoot nil = refl
-  semicolon-relabelled atRoot (node x xs rest) = semicolons-relabelled (node x xs rest)
-  semicolon-relabelled underSemicolon nil = refl
-  semicolon-relabelled underSemicolon (node x xs nil) = rw (same x) refl
-  semicolon-relabelled underSemicolon (node x xs (node y ys r)) = refl
-  semicolon-relabelled elsewhere cs = refl
-  semicolon-relabelled rightOfQuestion cs = refl
-  semicolon-relabelled underMathCall cs = refl
-
-  plain-relabelled : (p : Seat) (k : Token) (cs : Forest) → plainForm p (φ k) (relabelled φ cs) ≡ plainForm p k cs
-  unfolding plainForm
-  plain-relabelled p k cs =
-      rw (same k, plainForm)
-      (λ i. elim (eqb (k .op) Operator.semicolon) [ true ↦ semicolon-relabelled p cs i | false ↦ expression-relabelled p k cs i ])
-
-  unplain-relabelled : (p q : Option Token) → ((i : ℕ) → seatOf q i ≡ seatOf p i) → (i n : ℕ) (f : Forest)
-      → unplain q i n (relabelled φ f) ≡ unplain p i n f
-  unfolding unplain relabelled seatOf seatUnder
-  unplain-relabelled p q s i n nil = refl
-  unplain-relabelled p q s i n (node k cs rest) =
-      rw (
-        s i,
-        plain-relabelled (seatOf p i) k cs,
-        unplain-relabelled (some k) (some (φ k)) (λ j. rw (same k) refl) 0 (suc n) cs,
-        size-relabelled cs,
-        unplain-relabelled p q s (suc i) (suc n + size cs) rest,
-      ) refl
-
-  -- WHETHER A TREE IS PLAIN, AND WHERE NOT, is told by its operators.
-  pub unplainAt-relabelled : (k : Token) (cs : Forest) → unplainAt (φ k) (relabelled φ cs) ≡ unplainAt k cs
-  unfolding unplainAt relabelled
-  unplainAt-relabelled k cs = unplain-relabelled none none (λ i. refl) 0 0 (node k cs nil)
+use Rattle.molang.proofs.Relabelling.{relabelled, rel-count}
+use Rattle.molang.proofs.PlainRelabelled.{unplainAt-relabelled}
 
 -- ---- Closing at the own end
 
@@ -271,16 +216,11 @@ settled-legal k h =
           (arith, either-close (isBracket (k .op)) (k .close) (k .end) 536870911 (omega (arith, h .close)) (omega (arith, h .end)));
     }
 
-count-settled : (f : Forest) → count (relabelled settled f) ≡ count f
-unfolding count relabelled
-count-settled nil = refl
-count-settled (node k cs rest) = ap suc (count-settled rest)
-
 legal-settled : {f : Forest} → LegalTrees f → LegalTrees (relabelled settled f)
 unfolding relabelled
 legal-settled noTrees = noTrees
 legal-settled (legalTree {k = k} {cs = cs} h n below after) =
-    legalTree {cs = relabelled settled cs} (settled-legal k h) (rw (count-settled cs) n) (legal-settled below) (legal-settled after)
+    legalTree {cs = relabelled settled cs} (settled-legal k h) (rw (rel-count settled cs) n) (legal-settled below) (legal-settled after)
 
 -- WRITTEN WORDS AS TOKENS: the words are those of what is written of a plain tree, at most 4,096 tokens that are legal and close at their
 -- own ends, as the tokens of a word list do.
