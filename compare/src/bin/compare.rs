@@ -1,7 +1,7 @@
 //! The long comparison (`make compare`): reading through the C convention beside the Rust, reading with rules beside the Rust whose
-//! passes mark the nodes, writing trees beside the second writer, export and import beside their model and each other, then reading and
-//! writing, all with every written list lifted further, and reading, writing and reading again with one payload changed. The last line
-//! is `N lists, 0 differences`; a difference ends the run with a status that is not 0, after the smallest list that shows it.
+//! passes mark the nodes, writing trees beside the second writer, export and import beside their model and each other, reading and writing,
+//! the written lists of these and of the trees lifted further, and reading, writing and reading again with one payload changed. The last
+//! line is `N lists, 0 differences`; a difference ends the run with a status that is not 0, after the smallest list that shows it.
 //!
 //!     compare [LISTS] [SEED]
 
@@ -295,8 +295,9 @@ mod run {
         }
         let done = progress.done;
         progress.end(&format!(
-            "{tokens} tokens, {refused} trees turned back; {}",
-            lifted(&lifting)
+            "{tokens} tokens, {refused} trees turned back, {} of the others close anywhere; {}",
+            lifting.tally.unsettled,
+            deep(&lifting)
         ));
         Ok(done)
     }
@@ -321,12 +322,9 @@ mod run {
         lifting.tree(&words, room)
     }
 
-    fn lifted(lifting: &Lifting<Lifts>) -> String {
-        let tally = lifting.tally;
-        format!(
-            "{} lists lifted three times more, {} of them of trees that close anywhere; {} times turned back for their depth",
-            tally.lists, tally.unsettled, tally.too_deep
-        )
+    fn deep(lifting: &Lifting<Lifts>) -> String {
+        let times = lifting.tally.too_deep;
+        format!("{times} times a written list was turned back under a limit that it is above")
     }
 
     /// Exports `count` trees of any shape and imports as many, half of them damaged, by the library and by the model.
@@ -449,7 +447,7 @@ mod run {
         let lists = progress.done + refused;
         progress.end(&format!(
             "{refused} more trees are not plain or too long; {}",
-            lifted(&lifting)
+            deep(&lifting)
         ));
         Ok(lists)
     }
