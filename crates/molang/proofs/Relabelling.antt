@@ -8,7 +8,7 @@ use mathlib.Core.Option.{Option, none, some, Option·getD}
 use native.Mathlib.Omega.{arith}
 use lib.Dec.{eqb, leb}
 use lib.IntN.{ℤ}
-use borrow.Author.Tests.{eq-eqb, ne-eqb, eqb-true, leb-true, not-true}
+use borrow.Author.Tests.{eq-eqb, ne-eqb, leb-true, not-true}
 use Rattle.molang.specs.Operator
 use Rattle.molang.specs.Operator.{any, isOneOf, isMathCall, isBracket, hasMembers, isQueryOrLoop, closingOf, isCloser, BeforeMinus}
 use Rattle.molang.specs.Operator.{operand, operator, minus, unknown, beforeMinus}
