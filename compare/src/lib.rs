@@ -5,6 +5,8 @@ pub mod calls;
 pub mod comparison;
 #[cfg(library)]
 pub mod library;
+#[cfg(library)]
+pub mod lifting_again;
 pub mod matching;
 pub mod numbers;
 pub mod payload_calls;
@@ -25,3 +27,5 @@ pub mod smallest;
 pub mod stack_model;
 pub mod workloads;
 pub mod writer_model;
+#[cfg(library)]
+pub mod writing;

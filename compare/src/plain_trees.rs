@@ -146,12 +146,17 @@ pub fn any(rng: &mut Rng, size: usize) -> Vec<TreeNode> {
     script(rng, statements, size.div_ceil(statements))
 }
 
+/// Has every node close anywhere: a writer looks at the closes of brackets alone.
+pub fn close_anywhere(rng: &mut Rng, nodes: &mut [TreeNode]) {
+    for node in nodes {
+        node.close = place(rng);
+    }
+}
+
 /// The tree with one node's operator or child count changed, as often plain as not; now and then its nodes close anywhere.
 pub fn disturbed(rng: &mut Rng, mut nodes: Vec<TreeNode>) -> Vec<TreeNode> {
     if rng.chance(30) {
-        for node in &mut nodes {
-            node.close = place(rng);
-        }
+        close_anywhere(rng, &mut nodes);
     }
     let node = rng.below(nodes.len());
     if rng.chance(80) {

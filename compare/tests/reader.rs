@@ -5,12 +5,13 @@
 use compare::calls;
 use compare::comparison::Comparison;
 use compare::library::Read;
+use compare::lifting_again::Lifting;
 use compare::matching::Matching;
 use compare::numbers::Numbers;
 use compare::reading::{Buffers, Expected};
 use compare::rereading::{self, Lists, Reread};
 use oracle::generate::hosts::Hosted;
-use oracle::generate::{Mixed, Rng, dress};
+use oracle::generate::{Mixed, dress};
 use oracle::hosts::{STAND_IN, hostless};
 use oracle::nesting::{MOST_NESTING, least_limit};
 use oracle::refusal::Call;
@@ -276,13 +277,12 @@ fn used_sets_that_are_not_exact() {
     assert!(trees > 5_000 && messages > 5_000 && refused == 0);
 }
 
-/// How many of the lists were written, read again at three versions and written again, without a difference.
+/// How many of the lists were written, and what was written lifted three times more, without a difference.
 fn read_again(lists: impl Iterator<Item = Case>) -> usize {
-    let mut buffers = Buffers::default();
-    let mut rng = Rng::new(5);
+    let mut lifting = Lifting::new(5);
     let mut again = 0;
     for case in lists {
-        match rereading::reread(&mut buffers, &mut rng, &case) {
+        match rereading::reread(&mut lifting, &case) {
             Ok(Reread::Again) => again += 1,
             Ok(_) => {}
             Err(difference) => panic!("{difference}\nof {case:?}"),

@@ -545,11 +545,11 @@ fn a_statement_that_begins_with_an_added_bracket_has_another_span_than_before() 
 #[cfg(library)]
 mod library {
     use super::*;
-    use compare::{library, rereading};
+    use compare::{library, writing};
 
     /// The library answers as the model does, and fills a list of so many words as that says.
     fn agrees_in(rng: &mut Rng, words: &[u32], room: usize) -> Written {
-        match rereading::write(rng, words, room) {
+        match writing::write(rng, words, room) {
             Ok((answer, _)) => answer,
             Err(difference) => panic!("room {room}: {difference}"),
         }

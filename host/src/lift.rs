@@ -19,7 +19,8 @@ use std::borrow::BorrowMut;
 #[derive(Clone, Debug, PartialEq, Eq)]
 #[non_exhaustive]
 pub struct Lifted {
-    /// The list. Every version reads it as the same tree, unless it did not have to change.
+    /// The list. Every version reads it as the same tree, and a further lift to whatever version leaves it as it is, unless it did not
+    /// have to change.
     pub tokens: Tokens,
     /// Whether the list had to change: the new version read the given one as another tree, or not at all.
     pub changed: bool,

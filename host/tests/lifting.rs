@@ -1,8 +1,11 @@
-//! Document 01's lines through the notation, and lists lifted between versions.
+//! Document 01's lines through the notation, and lists lifted between versions, straight and by way of others.
 
+mod common;
+
+use common::{Rng, kept_lists};
 use sorbrudder::{
-    LiftError, Lifter, Limit, Node, Op, ReadError, Reader, Tokens, Tree, Unplain, WriteError,
-    Writer, lift,
+    LiftError, Lifted, Lifter, Limit, Node, Op, ReadError, Reader, Tokens, Tree, Unplain,
+    WriteError, Writer, lift,
 };
 
 fn read(text: &str, version: i16) -> String {
@@ -130,15 +133,7 @@ fn compared(tree: &Tree) -> Vec<Vec<u32>> {
 fn a_lifted_script_is_one_tree_at_every_version() {
     let (mut reader, mut writer, mut lifter) = (Reader::new(), Writer::new(), Lifter::new());
     let mut changed = 0;
-    for (number, text) in lists().enumerate().step_by(5) {
-        let statements = [
-            "v = TEXT;",
-            "return TEXT;",
-            "TEXT;",
-            "v = (TEXT); return v;",
-        ];
-        let script = statements[number % 4].replace("TEXT", &text);
-        let script = format!("{script} w = a ? b : c ? d : e;");
+    for script in scripts().step_by(5) {
         let list: Tokens = script.parse().expect("the notation");
         for (from, to) in [(4, 5), (5, 6), (6, 4)] {
             let lifted = match lifter.lift(&list).from(from).to(to) {
@@ -238,6 +233,20 @@ fn lists() -> impl Iterator<Item = String> {
             }
         }
         text
+    })
+}
+
+/// Scripts of these lists.
+fn scripts() -> impl Iterator<Item = String> {
+    let statements = [
+        "v = TEXT;",
+        "return TEXT;",
+        "TEXT;",
+        "v = (TEXT); return v;",
+    ];
+    lists().enumerate().map(move |(number, text)| {
+        let script = statements[number % 4].replace("TEXT", &text);
+        format!("{script} w = a ? b : c ? d : e;")
     })
 }
 
@@ -366,4 +375,150 @@ fn a_lifted_list_is_one_tree_at_every_version() {
         changed > 200 && unchanged > 200,
         "{changed} changed, {unchanged} not"
     );
+}
+
+/// A studio that reads lists at its version and under its limit.
+#[derive(Copy, Clone, Debug)]
+struct Studio {
+    version: i16,
+    limit: Limit,
+}
+
+impl Studio {
+    /// Any version; one in four has a limit that some lists are above.
+    fn any(rng: &mut Rng) -> Self {
+        let limit = [1, 2, 3][rng.below(3)];
+        Self {
+            version: rng.below(12) as i16 - 2,
+            limit: match rng.below(4) {
+                0 => Limit::new(limit).expect("a limit"),
+                _ => Limit::MOST,
+            },
+        }
+    }
+
+    /// Lifts a list of this studio's to another's.
+    fn lift(self, to: Self, list: &Tokens) -> Result<Lifted, LiftError> {
+        let lifter = Lifter::new().with_limit_from(self.limit);
+        let mut lifter = lifter.with_limit_to(to.limit);
+        lifter.lift(list).from(self.version).to(to.version)
+    }
+}
+
+/// How a list comes out by way of a studio, beside how it comes out straight.
+#[derive(Copy, Clone, Debug, PartialEq, Eq)]
+enum CameOut {
+    /// It cannot be lifted to the first studio.
+    Not,
+    /// The first leaves it as it is, so the second does what is done straight.
+    LeftByTheFirst,
+    /// Both ways the same tokens.
+    Same,
+    /// The second studio reads the list as its own does, so straight it is left as it is; by way of the first it has its brackets.
+    LeftStraight,
+    /// With its brackets it is too deep for the second studio.
+    TooDeep,
+}
+
+/// Lifts a list from one studio to another and on to a third, and straight; both must be the same.
+fn by_way_of([own, way, to]: [Studio; 3], list: &Tokens) -> CameOut {
+    let straight = own.lift(to, list);
+    let Ok(first) = own.lift(way, list) else {
+        return CameOut::Not;
+    };
+    let second = way.lift(to, &first.tokens);
+    if !first.changed {
+        assert_eq!(second, straight, "{list} is left by {way:?}");
+        return CameOut::LeftByTheFirst;
+    }
+    match (straight, second) {
+        (Ok(straight), Ok(second)) => {
+            assert!(!second.changed && second.tokens == first.tokens, "{list}");
+            assert_eq!(compared(&second.tree), compared(&straight.tree), "{list}");
+            if !straight.changed {
+                assert_eq!(&straight.tokens, list);
+                return CameOut::LeftStraight;
+            }
+            assert_eq!(second.tokens, straight.tokens, "{list} by way of {way:?}");
+            CameOut::Same
+        }
+        (straight, Err(LiftError::TooDeep { token, limit, .. })) => {
+            let least = Limit::new(deepest(&first.tokens).0).expect("a limit");
+            assert!(limit < least, "{list} by way of {way:?}");
+            match straight {
+                Ok(straight) => assert!(!straight.changed, "{list}"),
+                Err(LiftError::TooDeep {
+                    token: straight,
+                    is_written,
+                    ..
+                }) => assert!(!is_written || straight == token, "{list}"),
+                Err(why) => panic!("{list}: {why}"),
+            }
+            CameOut::TooDeep
+        }
+        (straight, second) => panic!("{list}: {straight:?} and {second:?} by way of {way:?}"),
+    }
+}
+
+/// How often lists came out each way: not, left by the first studio, the same, left straight, too deep.
+fn ways(seed: u64, lists: impl Iterator<Item = Tokens>) -> [usize; 5] {
+    let mut rng = Rng(seed);
+    let mut counts = [0; 5];
+    for list in lists {
+        for _ in 0..4 {
+            let studios = [(); 3].map(|()| Studio::any(&mut rng));
+            counts[by_way_of(studios, &list) as usize] += 1;
+        }
+    }
+    counts
+}
+
+#[test]
+fn lifting_by_way_of_another_version_is_lifting_straight() {
+    let parsed = |text: String| text.parse().expect("the notation");
+    let kept = kept_lists().into_iter().filter(|list| list.len() < 5 * 300);
+    let kept = kept.filter_map(|words| Tokens::from_words(&words));
+    for (name, counts) in [
+        ("expressions", ways(1, lists().map(parsed))),
+        ("scripts", ways(2, scripts().map(parsed))),
+        ("kept lists", ways(3, kept)),
+    ] {
+        assert!(counts.iter().all(|count| *count > 20), "{name}: {counts:?}");
+    }
+}
+
+#[test]
+fn a_lifted_list_passes_through_any_number_of_studios_as_it_is() {
+    let mut rng = Rng(4);
+    let mut passed = 0;
+    for text in lists().step_by(3).chain(scripts().step_by(5)) {
+        let list: Tokens = text.parse().expect("the notation");
+        let [own, first] = [(); 2].map(|()| Studio::any(&mut rng));
+        let lifted = match own.lift(first, &list) {
+            Ok(lifted) if lifted.changed => lifted.tokens,
+            _ => continue,
+        };
+        let deep = deepest(&lifted).0;
+        let mut at = first;
+        for _ in 0..6 {
+            let next = Studio::any(&mut rng);
+            let came = at.lift(next, &lifted);
+            if deep > next.limit.get() {
+                let too_deep =
+                    matches!(came, Err(LiftError::TooDeep { limit, .. }) if limit == next.limit);
+                assert!(too_deep, "{text}");
+                continue;
+            }
+            let came = came.expect("it is within the limit");
+            assert!(!came.changed && came.tokens == lifted, "{text}");
+            // Written out with all its brackets it is the same list too.
+            let mut lifter = Lifter::new();
+            let settled = lifter.settle(&lifted, next.version);
+            let settled = settled.expect("a lifted list");
+            assert!(!settled.changed && settled.tokens == lifted, "{text}");
+            at = next;
+            passed += 1;
+        }
+    }
+    assert!(passed > 1_000, "only {passed}");
 }

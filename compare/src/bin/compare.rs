@@ -1,7 +1,7 @@
 //! The long comparison (`make compare`): reading through the C convention beside the Rust, reading with rules beside the Rust whose
-//! passes mark the nodes, writing trees beside the second writer, export and import beside their model and each other, then reading,
-//! writing and reading again, and all of these with one payload changed. The last line is `N lists, 0 differences`; a difference ends
-//! the run with a status that is not 0, after the smallest list that shows it.
+//! passes mark the nodes, writing trees beside the second writer, export and import beside their model and each other, reading and writing,
+//! the written lists of these and of the trees lifted further, and reading, writing and reading again with one payload changed. The last
+//! line is `N lists, 0 differences`; a difference ends the run with a status that is not 0, after the smallest list that shows it.
 //!
 //!     compare [LISTS] [SEED]
 
@@ -45,14 +45,14 @@ fn main() -> ExitCode {
 mod run {
     use compare::calls;
     use compare::comparison::Comparison;
+    use compare::lifting_again::{Library as Lifts, Lifting};
     use compare::matching::Matching;
     use compare::numbers::Numbers;
     use compare::payload_calls::{self, PayloadCall};
     use compare::payload_pairs::{Library, Pairs, Tally};
     use compare::plain_trees;
-    use compare::reading::Buffers;
     use compare::reordering::{Way, reorder};
-    use compare::rereading::{Lists, Reread, reread, write};
+    use compare::rereading::{Lists, Reread, reread};
     use compare::rule_calls;
     use compare::ruling::Ruling;
     use compare::stack_model::{Reordered, on_deep_stack};
@@ -277,13 +277,16 @@ mod run {
         Ok(matching.lists)
     }
 
-    /// Writes `count` trees of any spans by the library and by the second writer, most of them plain.
+    /// Writes `count` trees of any spans by the library and by the second writer, most of them plain, and lifts what is written
+    /// further.
     fn writing(count: u64, seed: u64) -> Result<u64, (u64, String)> {
-        let mut progress = Progress::new("trees written");
+        let name = "trees written, and the lists lifted three times more";
+        let mut progress = Progress::new(name);
         let mut rng = Rng::new(seed ^ 0x77EE);
+        let mut lifting = Lifting::new(seed ^ 0x77EE);
         let (mut tokens, mut refused) = (0, 0);
         while progress.done < count {
-            let (answer, _) = one_tree(&mut rng).map_err(|why| (progress.done, why))?;
+            let answer = one_tree(&mut rng, &mut lifting).map_err(|why| (progress.done, why))?;
             match answer {
                 Written::Tokens(written) => tokens += written,
                 Written::Refused(..) => refused += 1,
@@ -291,16 +294,23 @@ mod run {
             progress.one_more();
         }
         let done = progress.done;
-        progress.end(&format!("{tokens} tokens, {refused} trees turned back"));
+        progress.end(&format!(
+            "{tokens} tokens, {refused} trees turned back, {} of the others close anywhere; {}",
+            lifting.tally.unsettled,
+            deep(&lifting)
+        ));
         Ok(done)
     }
 
-    fn one_tree(rng: &mut Rng) -> Result<(Written, Vec<u32>), String> {
+    fn one_tree(rng: &mut Rng, lifting: &mut Lifting<Lifts>) -> Result<Written, String> {
         let most = if rng.chance(2) { 300 } else { 24 };
         let size = 1 + rng.below(most);
         let mut nodes = plain_trees::any(rng, size);
         if rng.chance(50) {
             nodes = plain_trees::disturbed(rng, nodes);
+        }
+        if rng.chance(30) {
+            plain_trees::close_anywhere(rng, &mut nodes);
         }
         let words = tree_words(&nodes);
         let room = 5 * rng.below(4 * nodes.len() + 1);
@@ -309,7 +319,12 @@ mod run {
         } else {
             20 * nodes.len()
         };
-        write(rng, &words, room)
+        lifting.tree(&words, room)
+    }
+
+    fn deep(lifting: &Lifting<Lifts>) -> String {
+        let times = lifting.tally.too_deep;
+        format!("{times} times a written list was turned back under a limit that it is above")
     }
 
     /// Exports `count` trees of any shape and imports as many, half of them damaged, by the library and by the model.
@@ -391,21 +406,22 @@ mod run {
     }
 
     fn expressions(count: u64, seed: u64) -> Result<u64, (u64, String)> {
-        let name = "expressions read, written and read again at three versions";
+        let name = "expressions read and written, and the lists lifted three times more";
         rereading(name, Lists::new(seed), count, seed)
     }
 
     fn scripts(count: u64, seed: u64) -> Result<u64, (u64, String)> {
-        let name = "scripts read, written and read again at three versions";
+        let name = "scripts read and written, and the lists lifted three times more";
         rereading(name, Lists::scripts(seed), count, seed)
     }
 
     fn short_scripts(_: u64, seed: u64) -> Result<u64, (u64, String)> {
-        let name = "every list of up to 7 and a semicolon over three alphabets, at 4, 5 and 6, read, written and read again";
+        let name =
+            "every list of up to 7 and a semicolon over three alphabets, at 4, 5 and 6, likewise";
         rereading(name, calls::over_scripts(7), u64::MAX, seed)
     }
 
-    /// Goes on until `count` lists were written and read again, or to the end of the lists.
+    /// Goes on until `count` lists were written and lifted further, or to the end of the lists.
     fn rereading(
         name: &'static str,
         lists: impl Iterator<Item = Case>,
@@ -413,10 +429,10 @@ mod run {
         seed: u64,
     ) -> Result<u64, (u64, String)> {
         let mut progress = Progress::new(name);
-        let (mut buffers, mut rng) = (Buffers::default(), Rng::new(seed));
+        let mut lifting = Lifting::new(seed);
         let mut refused = 0;
         for case in lists {
-            match reread(&mut buffers, &mut rng, &case) {
+            match reread(&mut lifting, &case) {
                 Ok(Reread::Again) => progress.one_more(),
                 Ok(Reread::Refused) => refused += 1,
                 Ok(Reread::Messages) => {}
@@ -429,9 +445,13 @@ mod run {
             }
         }
         let lists = progress.done + refused;
-        progress.end(&format!("{refused} more trees are not plain or too long"));
+        progress.end(&format!(
+            "{refused} more trees are not plain or too long; {}",
+            deep(&lifting)
+        ));
         Ok(lists)
     }
+
     fn one_payload(count: u64, seed: u64) -> Result<u64, (u64, String)> {
         let pairs = payload_calls::generated(seed).take(count as usize);
         reaching("lists, each also with one payload changed", pairs)

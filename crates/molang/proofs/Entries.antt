@@ -3,7 +3,7 @@
 use Prim.Native.Nat.{ℕ, _+_, _*_, _≤_}
 use mathlib.Core.Path.{_≡_, refl, ap, _∙_}
 use mathlib.Core.Bool.{true, false}
-use mathlib.Core.List.{List, []}
+use mathlib.Core.List.{List}
 use mathlib.Core.Option.{none}
 use lib.Dec.{eqb}
 use lib.ListN.{length, take}
@@ -13,6 +13,7 @@ use Rattle.molang.specs.Read.{read, uses}
 use Rattle.molang.specs.Words.{listWords, treeWords}
 use Rattle.molang.specs.Nesting.{tooDeep}
 use Rattle.molang.specs.Parse.{Call, isLimit, inHalves, reading, aTree, answered, treeAfter}
+use Rattle.molang.specs.Plain.{unplainAt}
 use Rattle.molang.specs.Write.{writtenTree, takenAway, comparable}
 use Rattle.molang.specs.WriteEntry.{WriteCall, writeRefusal, tokens, writeAnswered, listAfter}
 use Rattle.molang.proofs.Words.{LegalTokens, AtEnds, tokens-back}
@@ -59,6 +60,9 @@ pub record SameTrees (first : Call) (write : WriteCall) (second : Call) (k : Tok
       (comparable (takenAway false (node k cs nil) nil))
   pub allWords : eqb (k .op) Operator.semicolon ≡ false
       → treeWords (takenAway false (node root children nil) nil) ≡ treeWords (takenAway false (node k cs nil) nil)
+  -- The second tree is plain, and its writing is the first one's (card 12).
+  pub plainAgain : unplainAt root children ≡ none
+  pub writesAgain : writtenTree root children ≡ writtenTree k cs
 
 -- A call whose list is the words of legal tokens, and whose used set is exactly theirs, reads those tokens.
 reads-list : (d : Call) (ks : List Token) → d .list ≡ listWords ks → LegalTokens ks → AtEnds ks
@@ -67,6 +71,18 @@ reads-list : (d : Call) (ks : List Token) → d .list ≡ listWords ks → Legal
 unfolding reading
 reads-list d ks list legal ends used =
     let same : inHalves (d .usedLow) (d .usedHigh) ≡ uses ks = λ i m. used m i in rw (list, tokens-back ks legal ends, same) refl
+
+-- What was written of a plain tree is read back by a call that gets its words and exactly its operators, and is not turned back.
+pub list-read : (d : Call) (k : Token) (cs : Forest) (plain : unplainAt k cs ≡ none) → Acceptable d (writtenTree k cs)
+    → AtEnds (writtenTree k cs)
+    → ((m : ℕ) → inHalves (d .usedLow) (d .usedHigh) m ≡ uses (writtenTree k cs) m)
+    → Parsed d (round-trip k cs plain (d .version) (d .sourceLength) .root) (round-trip k cs plain (d .version) (d .sourceLength) .children)
+list-read d k cs plain a ends used =
+    record {
+      accepted = call-acceptable d (writtenTree k cs) a;
+      reads = reads-list d (writtenTree k cs) (a .list) (a .legal) ends used
+          ∙ round-trip k cs plain (d .version) (d .sourceLength) .reads;
+    }
 
 -- DEMAND 3 OVER THE ENTRIES.
 pub three-calls : (first : Call) (write : WriteCall) (second : Call) (k : Token) (cs : Forest) → ThreeCalls first write second k cs
@@ -94,12 +110,7 @@ three-calls first write second k cs t =
     }
     in
     let again = round-trip k cs (wrote .plain) (second .version) (second .sourceLength) in
-    let parsed : Parsed second (again .root) (again .children) =
-    record {
-      accepted = call-acceptable second ks acceptable;
-      reads = reads-list second ks listGot legal ends (t .usedExactly) ∙ again .reads;
-    }
-    in
+    let parsed = list-read second k cs (wrote .plain) acceptable ends (t .usedExactly) in
     record {
       treeGot = treeGot;
       told = wrote .told;
@@ -111,4 +122,6 @@ three-calls first write second k cs t =
       front = tree-front parsed;
       words = ap treeWords (again .agrees);
       allWords = λ h. ap treeWords (again .agreesInAll h);
+      plainAgain = again .plainAgain;
+      writesAgain = again .writesAgain;
     }

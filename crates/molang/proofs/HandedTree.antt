@@ -3,7 +3,7 @@
 use Prim.Native.Nat.{ℕ, _*_, _≤_, _<_}
 use mathlib.Core.Path.{_≡_, refl, ap, sym, _∙_}
 use mathlib.Core.Bool.{Bool, true, false}
-use mathlib.Core.List.{List, [], _++_}
+use mathlib.Core.List.{List, _++_}
 use mathlib.Core.Option.{Option, none, some}
 use native.Mathlib.Omega.{arith}
 use lib.Dec.{leb}
@@ -63,7 +63,7 @@ module _ {c : Call} {k : Token} {cs : Forest} (p : Parsed c k cs) where
   tree-told = rw (p .accepted, p .reads) refl
 
   -- The writer reads the tree back from these words, and does not answer 12 to them.
-  tree-back : treesOf (treeWords (node k cs nil)) ≡ node k cs nil
+  pub tree-back : treesOf (treeWords (node k cs nil)) ≡ node k cs nil
   unfolding reading
   tree-back = let a = call-accepted c (p .accepted) in read-back _ _ _ _ k cs (a .legal) (a .few) (p .reads)
 
@@ -109,16 +109,14 @@ pub record Wrote (k : Token) (cs : Forest) (w : WriteCall) : Type 0 where
   pub told : writeAnswered w ≡ tokens (length (writtenTree k cs))
   pub front : take (5 * length (writtenTree k cs)) (listAfter w) ≡ listWords (writtenTree k cs)
 
-module _ {c : Call} {k : Token} {cs : Forest} (p : Parsed c k cs) (w : WriteCall) (handed : w .tree ≡ treeWords (node k cs nil)) where
-  trees-handed : treesOf (w .tree) ≡ node k cs nil
-  trees-handed = ap treesOf handed ∙ tree-back p
-
+module _ (k : Token) (cs : Forest) (w : WriteCall) (whole : treeFault 0 operatorField 0 (record { called = 1; begun = 0 }) (w .tree) ≡ none)
+    (trees : treesOf (w .tree) ≡ node k cs nil) where
   write-refusal : writeRefusal w ≡ forestRefusal (node k cs nil) (length (w .list))
-  write-refusal = rw trees-handed at (whole-tree w (rw handed (tree-unfaulted p)))
+  write-refusal = rw trees at (whole-tree w whole)
 
-  pub writer-tells : WriterTells k cs w
+  pub tree-tells : WriterTells k cs w
   unfolding writeAnswered writeTold writtenTokens forestRefusal firstOf must
-  writer-tells =
+  tree-tells =
       let n = length (writtenTree k cs) in
       record {
         unplain = λ i e. rw (write-refusal, e) refl;
@@ -131,8 +129,27 @@ module _ {c : Call} {k : Token} {cs : Forest} (p : Parsed c k cs) (w : WriteCall
         writes = λ e few long-enough.
             let fits : leb n mostTokens ≡ true = le-leb n mostTokens few in
             let room : leb (5 * n) (length (w .list)) ≡ true = le-leb (5 * n) (length (w .list)) long-enough in
-            rw (write-refusal, e, fits, room, trees-handed) refl;
+            rw (write-refusal, e, fits, room, trees) refl;
       }
+
+  pub tree-wrote : writeRefusal w ≡ none → Wrote k cs w
+  unfolding forestRefusal writeAnswered writeTold writtenTokens listAfter listIn
+  tree-wrote e =
+      let ks = writtenTree k cs in
+      let plain = first-none _ _ (sym write-refusal ∙ e) in
+      record {
+        plain = withNumber-none 13 _ (plain .0);
+        few = leb-true _ _ (passed (leb (length ks) mostTokens) (row 14 0) _ (plain .1) .0);
+        told = rw (e, trees) refl;
+        front = rw (e, trees) (front-words (listWords ks) (w .list) (5 * length ks) (listWords-length ks));
+      }
+
+module _ {c : Call} {k : Token} {cs : Forest} (p : Parsed c k cs) (w : WriteCall) (handed : w .tree ≡ treeWords (node k cs nil)) where
+  pub writer-tells : WriterTells k cs w
+  writer-tells = tree-tells k cs w (rw handed (tree-unfaulted p)) (ap treesOf handed ∙ tree-back p)
+
+  pub write-done : writeRefusal w ≡ none → Wrote k cs w
+  write-done = tree-wrote k cs w (rw handed (tree-unfaulted p)) (ap treesOf handed ∙ tree-back p)
 
   -- So answer 12 is never given to what a parse call left.
   pub never-12 : (place : ℕ) → writeAnswered w ≡ unwritten 12 place → ⊥
@@ -151,18 +168,6 @@ module _ {c : Call} {k : Token} {cs : Forest} (p : Parsed c k cs) (w : WriteCall
       split none true true e f g =
           let told = writer-tells .writes e (leb-true n mostTokens f) (leb-true (5 * n) (length (w .list)) g) in
           let same : _≡_ {A = ℕ} 0 1 = cc in omega arith
-
-  pub write-done : writeRefusal w ≡ none → Wrote k cs w
-  unfolding forestRefusal writeAnswered writeTold writtenTokens listAfter listIn
-  write-done e =
-      let ks = writtenTree k cs in
-      let plain = first-none _ _ (sym write-refusal ∙ e) in
-      record {
-        plain = withNumber-none 13 _ (plain .0);
-        few = leb-true _ _ (passed (leb (length ks) mostTokens) (row 14 0) _ (plain .1) .0);
-        told = rw (e, trees-handed) refl;
-        front = rw (e, trees-handed) (front-words (listWords ks) (w .list) (5 * length ks) (listWords-length ks));
-      }
 
 -- A call that answers a tree of n nodes has read one.
 pub record TreeTold (c : Call) (n : ℕ) : Type 0 where

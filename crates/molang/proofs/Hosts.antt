@@ -39,7 +39,7 @@ use Rattle.molang.proofs.Accepted.{call-accepted}
 use Rattle.molang.proofs.HandedTree.{front-words}
 use Rattle.molang.proofs.Bounds.{treeWords-length}
 use Rattle.molang.proofs.Relabelling.{isNamed, allNamed, Seen, itself, asThis, oneOf-seen, closing-seen, Unnoticed}
-use Rattle.molang.proofs.Relabelling.{relabelled, messageOf, messagesOf, answerOf, tokensFor, read-natural, rel-count}
+use Rattle.molang.proofs.Relabelling.{relabelled, messageOf, messagesOf, answerOf, tokensFor, read-natural, rel-count, rel-size}
 use Rattle.molang.proofs.MessageNumbers.{NamesLow, AllLow, AnswerLow, read-low}
 
 -- ---- Tokens
@@ -163,11 +163,6 @@ uses-others (k ∷ ks) n =
     (λ t. rw (host-unused (k .op) n t) (uses-others ks n)) (λ f. rw (uses-others ks n) refl)
 
 -- ---- What is told
-
-this-size : (f : Forest) → size (relabelled withThis f) ≡ size f
-unfolding size relabelled
-this-size nil = refl
-this-size (node k cs rest) = rw (this-size cs, this-size rest) refl
 
 this-messages : (ms : List Message) → length (messagesOf withThis ms) ≡ length ms
 unfolding messagesOf
@@ -479,7 +474,7 @@ unfolding treeWords relabelled
 treeWords-this noTrees = refl
 treeWords-this (legalTree {k = k} {cs = cs} {rest = rest} h few below after) =
     rw (
-      rel-count withThis unnoticed cs,
+      rel-count withThis cs,
       nodeWords-this k (count cs) h few,
       treeWords-this below,
       treeWords-this after,
@@ -541,7 +536,7 @@ reading-kept c k cs e = numbers-kept (tokensOf (c .list)) _ (c .version) (c .sou
 -- What is told and left of a call that is not turned back, by its reading.
 told-this : (a : Answer) → told none (answerOf withThis a) ≡ told none a
 unfolding told answerOf relabelled
-told-this (tree k cs) = ap aTree (this-size (node k cs nil))
+told-this (tree k cs) = ap aTree (rel-size withThis (node k cs nil))
 told-this (messages ms) = ap someMessages (this-messages ms)
 
 messages-this : (a : Answer) (buffer : List ℕ) → AnswerLow a → messagesIn none (answerOf withThis a) buffer ≡ messagesIn none a buffer

@@ -33,6 +33,7 @@ pub mod Forests
 pub mod PlainTrees
 pub mod Writing
 pub mod Closes
+pub mod Paired
 pub mod TakingAway
 pub mod RoundTrip
 pub mod ListWords
@@ -43,12 +44,16 @@ pub mod Nesting
 pub mod OpenInLimit
 pub mod HandedTree
 pub mod Entries
+pub mod Settled
+pub mod Lifts
+pub mod LiftExamples
 pub mod Reread
 pub mod LineLaws
 pub mod StackWords
 pub mod Places
 pub mod StackOrder
 pub mod Relabelling
+pub mod PlainRelabelled
 pub mod MessageNumbers
 pub mod Hosts
 pub mod OldWords

@@ -17,7 +17,7 @@ use Rattle.molang.proofs.Trees.{both, either}
 use Rattle.molang.proofs.Words.{LegalTokens, noTokens, token, AtEnds, kind-word, operator-small, bits-room, node-back}
 use Rattle.molang.proofs.Words.{tokens-back, trees-back}
 use Rattle.molang.proofs.Bounds.{treeWords-length}
-use Rattle.molang.proofs.Relabelling.{relabelled, tokensFor}
+use Rattle.molang.proofs.Relabelling.{relabelled, tokensFor, rel-count}
 use Rattle.molang.proofs.OneName.{blank, apart, tokensApart, nodesApart}
 
 -- ---- A word without its payload
@@ -67,16 +67,6 @@ blank-list noTokens = refl
 blank-list (token {k = k} {ks = ks} h hs) =
     map-append withoutPayload (tokenWords k) (listWords ks) ∙ (rw (blank-words k h, blank-list hs) refl)
 
-pub blank-count : (f : Forest) → count (relabelled blank f) ≡ count f
-unfolding count relabelled
-blank-count nil = refl
-blank-count (node k cs rest) = ap suc (blank-count rest)
-
-pub blank-size : (f : Forest) → size (relabelled blank f) ≡ size f
-unfolding size relabelled
-blank-size nil = refl
-blank-size (node k cs rest) = omega (arith, blank-size cs, blank-size rest)
-
 blank-trees : {f : Forest} → LegalTrees f → map withoutPayload (treeWords f) ≡ treeWords (relabelled blank f)
 unfolding treeWords relabelled
 blank-trees noTrees = refl
@@ -87,7 +77,7 @@ blank-trees (legalTree {k = k} {cs = cs} {rest = rest} h n below after) =
       map-append withoutPayload (treeWords cs) (treeWords rest),
       blank-trees below,
       blank-trees after,
-      blank-count cs,
+      rel-count blank cs,
     ) refl)
 
 -- Blank tokens and trees are legal.
@@ -118,7 +108,7 @@ blank-trees-legal : {f : Forest} → LegalTrees f → LegalTrees (relabelled bla
 unfolding relabelled
 blank-trees-legal noTrees = noTrees
 blank-trees-legal (legalTree {k = k} {cs = cs} h n below after) =
-    legalTree {cs = relabelled blank cs} (blank-legal k h) (rw (blank-count cs) n) (blank-trees-legal below) (blank-trees-legal after)
+    legalTree {cs = relabelled blank cs} (blank-legal k h) (rw (rel-count blank cs) n) (blank-trees-legal below) (blank-trees-legal after)
 
 -- ---- From words to tokens and trees
 

@@ -4,72 +4,31 @@ use Prim.Native.Nat.{ℕ, suc, _+_, _≤_, min, max}
 use mathlib.Core.Path.{_≡_, refl, ap, sym, _∙_}
 use mathlib.Core.Bool.{Bool, true, false}
 use mathlib.Core.List.{List, [], _∷_}
-use mathlib.Core.Option.{Option, none, some}
+use mathlib.Core.Option.{none}
 use native.Mathlib.Omega.{arith}
 use lib.Dec.{eqb}
 use lib.ListN.{length}
 use Rattle.molang.specs.Operator
 use Rattle.molang.specs.Operator.{isBracket}
-use Rattle.molang.specs.Forest.{Token, Forest, nil, node, bare, closedBy, unclosed, size}
+use Rattle.molang.specs.Forest.{Token, Forest, nil, node, bare, closedBy, unclosed}
 use Rattle.molang.specs.Read.{lowestStart, highestEnd}
-use Rattle.molang.specs.Plain.{Seat, atRoot, underSemicolon, elsewhere, rightOfQuestion, underMathCall, seatUnder, expressionForm}
-use Rattle.molang.specs.Plain.{allSemicolons, semicolonForm, plainForm, seatOf, unplain, unplainAt}
+use Rattle.molang.specs.Plain.{unplain, unplainAt}
 use Rattle.molang.specs.Write.{openerFor, closerFor, closerOf, standsAlone, standsLeft, standsRight, operandTokens, written}
 use Rattle.molang.specs.Write.{writtenStatements, writtenTree}
 use Rattle.molang.proofs.Writing.{written-none, written-one, written-two, written-more, writtenTree-expression, writtenTree-script}
 use Rattle.molang.proofs.Relabelling.{relabelled, tokensFor}
+use Rattle.molang.proofs.PlainRelabelled.{unplainAt-relabelled}
 use Rattle.molang.proofs.OneName.{blank, apart, tokensApart, nodesApart}
-use Rattle.molang.proofs.PayloadWords.{Alike, bothNil, bothNode, blank-size, apart-itself}
+use Rattle.molang.proofs.PayloadWords.{Alike, bothNil, bothNode, apart-itself}
 
 -- ---- Plain without payloads
-
-expression-blank : (p : Seat) (k : Token) (cs : Forest) → expressionForm p (blank k) (relabelled blank cs) ≡ expressionForm p k cs
-unfolding expressionForm relabelled blank
-expression-blank p k nil = refl
-expression-blank p k (node x xs nil) = refl
-expression-blank p k (node x xs (node y ys nil)) = refl
-expression-blank p k (node x xs (node y ys (node z zs r))) = refl
-
-semicolons-blank : (f : Forest) → allSemicolons (relabelled blank f) ≡ allSemicolons f
-unfolding allSemicolons relabelled blank
-semicolons-blank nil = refl
-semicolons-blank (node k cs rest) = rw (semicolons-blank rest) refl
-
-semicolon-blank : (p : Seat) (cs : Forest) → semicolonForm p (relabelled blank cs) ≡ semicolonForm p cs
-unfolding semicolonForm relabelled blank
-semicolon-blank atRoot nil = refl
-semicolon-blank atRoot (node x xs rest) = semicolons-blank (node x xs rest)
-semicolon-blank underSemicolon nil = refl
-semicolon-blank underSemicolon (node x xs nil) = refl
-semicolon-blank underSemicolon (node x xs (node y ys r)) = refl
-semicolon-blank elsewhere cs = refl
-semicolon-blank rightOfQuestion cs = refl
-semicolon-blank underMathCall cs = refl
-
-plain-blank : (p : Seat) (k : Token) (cs : Forest) → plainForm p (blank k) (relabelled blank cs) ≡ plainForm p k cs
-unfolding plainForm blank
-plain-blank p k cs i = elim (eqb (k .op) Operator.semicolon) [ true ↦ semicolon-blank p cs i | false ↦ expression-blank p k cs i ]
-
-unplain-blank : (p q : Option Token) → ((i : ℕ) → seatOf q i ≡ seatOf p i) → (i n : ℕ) (f : Forest)
-    → unplain q i n (relabelled blank f) ≡ unplain p i n f
-unfolding unplain relabelled seatOf seatUnder blank
-unplain-blank p q s i n nil = refl
-unplain-blank p q s i n (node k cs rest) =
-    rw (
-      s i,
-      plain-blank (seatOf p i) k cs,
-      unplain-blank (some k) (some (blank k)) (λ j. refl) 0 (suc n) cs,
-      blank-size cs,
-      unplain-blank p q s (suc i) (suc n + size cs) rest,
-    ) refl
 
 -- Trees that differ in payloads only are plain alike.
 pub plain-alike : (k l : Token) (cs ds : Forest) → relabelled blank (node k cs nil) ≡ relabelled blank (node l ds nil)
     → unplainAt k cs ≡ unplainAt l ds
-unfolding unplainAt
+unfolding unplainAt relabelled blank
 plain-alike k l cs ds e =
-    sym (unplain-blank none none (λ i. refl) 0 0 (node k cs nil))
-    ∙ (ap (unplain none 0 0) e ∙ unplain-blank none none (λ i. refl) 0 0 (node l ds nil))
+    sym (unplainAt-relabelled blank (λ t. refl) k cs) ∙ (ap (unplain none 0 0) e ∙ unplainAt-relabelled blank (λ t. refl) l ds)
 
 -- ---- Writing
 

@@ -29,9 +29,9 @@ use Rattle.molang.proofs.Legal.{read-legal}
 use Rattle.molang.proofs.Bounds.{records-length}
 use Rattle.molang.proofs.Accepted.{call-accepted}
 use Rattle.molang.proofs.HandedTree.{whole-tree, root-legal}
-use Rattle.molang.proofs.Relabelling.{relabelled, messagesOf, tokensFor}
+use Rattle.molang.proofs.Relabelling.{relabelled, messagesOf, tokensFor, rel-size}
 use Rattle.molang.proofs.OneName.{blank, tokensApart, nodesApart, Near, trees, told-both, reach}
-use Rattle.molang.proofs.PayloadWords.{blank-size, without-same, list-blank, trees-blank, list-apart, trees-apart, alike, before}
+use Rattle.molang.proofs.PayloadWords.{without-same, list-blank, trees-blank, list-apart, trees-apart, alike, before}
 use Rattle.molang.proofs.PayloadWords.{list-words, trees-words}
 use Rattle.molang.proofs.PayloadMessages.{Once, tellOne, read-once, namings-kept, records-apart, records-before}
 use Rattle.molang.proofs.PayloadWriting.{plain-alike, Beside, tree-beside, beside-length}
@@ -79,7 +79,7 @@ unfolding told treeIn messagesIn rulesFor nodesTold recordsTold nodesApart
 answered-alike (trees {k = k} {l = l} {cs = cs} {ds = ds} e few) h la lb once =
     let f = node k cs nil in
     let g = node l ds nil in
-    let long : size g ≡ size f = sym (blank-size g) ∙ (ap size (sym e) ∙ blank-size f) in
+    let long : size g ≡ size f = sym (rel-size blank g) ∙ (ap size (sym e) ∙ rel-size blank f) in
     record {
       answer = ap aTree long;
       tree = λ w. front-apart w (trees-words (alike f g e) (la k cs refl) (lb l ds refl) (omega arith));

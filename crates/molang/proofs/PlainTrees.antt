@@ -1,19 +1,20 @@
 -- What `unplain` says of a list of trees that has no node that is not plain, tree by tree: a plain tree is an expression, or a script each
--- of whose statements holds one; and the seats that its nodes have.
+-- of whose statements holds one, and each of these is plain; and the seats that its nodes have.
 use Prim.Native.Nat.{ℕ, suc, _+_}
 use mathlib.Core.Path.{_≡_, refl, sym, _∙_}
-use mathlib.Core.Bool.{true, false, _&&_, true≢false, false≢true}
+use mathlib.Core.Bool.{true, false, _&&_, true≢false, false≢true, and-eq-true-iff, and-false}
 use mathlib.Core.Option.{Option, none, some}
 use lib.Dec.{eqb}
-use borrow.Author.Tests.{eqb-true, not-true}
+use borrow.Author.Tests.{eqb-true, eq-eqb, not-true}
 use Rattle.molang.specs.Operator
 use Rattle.molang.specs.Operator.{isMathCall}
 use Rattle.molang.specs.Forest.{Token, Forest, nil, node, size}
-use Rattle.molang.specs.Plain.{Seat, atRoot, underSemicolon, elsewhere, rightOfQuestion, underMathCall, isUnderSemicolon, seatUnder}
+use Rattle.molang.specs.Plain.{Seat, atRoot, underSemicolon, elsewhere, rightOfQuestion, underMathCall, isRightOfQuestion}
+use Rattle.molang.specs.Plain.{isUnderSemicolon, seatUnder}
 use Rattle.molang.specs.Plain.{expressionForm, allSemicolons, semicolonForm, plainForm, seatOf, unplain, unplainAt}
-use Rattle.molang.proofs.FirstFailure.{first-none, passed}
+use Rattle.molang.proofs.FirstFailure.{first-none, then-none, passed, passes, all-passed}
 use Rattle.molang.proofs.Booleans.{either}
-use Rattle.molang.proofs.Trees.{decided, both}
+use Rattle.molang.proofs.Trees.{decided, both, and-true-true}
 use Rattle.molang.proofs.Computed.{computed}
 
 -- The first tree's root has a plain form, and there is no other node below it or in the trees after it.
@@ -29,6 +30,29 @@ plain-parts p i n k cs rest h =
     let root = passed (plainForm (seatOf p i) k cs) n _ h in
     let trees = first-none _ _ (root .1) in
     record { here = root .0; below = trees .0; after = first-none _ _ (trees .1) .0 }
+
+-- The other way round.
+pub plain-whole : (p : Option Token) (i n : ℕ) (k : Token) (cs rest : Forest) → Plain p i n k cs rest
+    → unplain p i n (node k cs rest) ≡ none
+unfolding unplain
+plain-whole p i n k cs rest h =
+    passes (plainForm (seatOf p i) k cs) n _ (h .here) (then-none _ _ (h .below) (then-none _ _ (h .after) all-passed))
+
+pub no-trees : (p : Option Token) (i n : ℕ) → unplain p i n nil ≡ none
+unfolding unplain
+no-trees p i n = refl
+
+-- Where the numbering begins does not matter.
+pub renumbered : (p : Option Token) (i n m : ℕ) (f : Forest) → unplain p i n f ≡ none → unplain p i m f ≡ none
+renumbered p i n m nil h = no-trees p i m
+renumbered p i n m (node k cs rest) h =
+    let a = plain-parts p i n k cs rest h in
+    plain-whole p i m k cs rest
+    (record {
+      here = a .here;
+      below = renumbered (some k) 0 (suc n) (suc m) cs (a .below);
+      after = renumbered p (suc i) (suc n + size cs) (suc m + size cs) rest (a .after);
+    })
 
 -- ---- Seats
 
@@ -53,6 +77,20 @@ unfolding isUnderSemicolon
 other-seat k i h =
     seat-cases (λ s. isUnderSemicolon s ≡ false) k i (λ e. refl) (λ e. absurd (true≢false (sym e ∙ h))) (λ e. refl) refl
 
+-- A first child does not stand right of its `?`, and only a `?` has a child that does.
+pub left-place : (k : Token) → isRightOfQuestion (seatUnder k 0) ≡ false
+unfolding isRightOfQuestion
+left-place k =
+    seat-cases (λ s. isRightOfQuestion s ≡ false) k 0 (λ e. refl) (λ e. refl)
+    (λ e. absurd (false≢true (sym (and-false (eqb (k .op) Operator.conditional)) ∙ e))) refl
+
+pub right-place : (k : Token) → isRightOfQuestion (seatUnder k 1) ≡ true → eqb (k .op) Operator.conditional ≡ true
+unfolding isRightOfQuestion
+right-place k =
+    seat-cases (λ s. isRightOfQuestion s ≡ true → eqb (k .op) Operator.conditional ≡ true) k 1 (λ e h. absurd (false≢true h))
+    (λ e h. absurd (false≢true h)) (λ e h. and-eq-true-iff (eqb (k .op) Operator.conditional) (eqb 1 1) .0 e .0)
+    (λ h. absurd (false≢true h))
+
 no-statements : (k : Token) (i : ℕ) (cs : Forest) → eqb (k .op) Operator.semicolon ≡ false → semicolonForm (seatUnder k i) cs ≡ false
 unfolding semicolonForm
 no-statements k i cs h =
@@ -70,6 +108,16 @@ form-semicolon : (p : Seat) (k : Token) (cs : Forest) → eqb (k .op) Operator.s
 unfolding plainForm
 form-semicolon p k cs e h = rw (e, plainForm) at h
 
+pub other-form : (p : Seat) (k : Token) (cs : Forest) → eqb (k .op) Operator.semicolon ≡ false → expressionForm p k cs ≡ true
+    → plainForm p k cs ≡ true
+unfolding plainForm
+other-form p k cs e h = rw (e, plainForm) h
+
+pub semicolon-form : (p : Seat) (k : Token) (cs : Forest) → eqb (k .op) Operator.semicolon ≡ true → semicolonForm p cs ≡ true
+    → plainForm p k cs ≡ true
+unfolding plainForm
+semicolon-form p k cs e h = rw (e, plainForm) h
+
 -- An expression, or what a statement holds: the root is no semicolon and has a plain form, and every node below it is plain.
 pub record PlainExpression (p : Seat) (n : ℕ) (k : Token) (cs : Forest) : Type 0 where
   pub other : eqb (k .op) Operator.semicolon ≡ false
@@ -86,6 +134,15 @@ inner k i n x xs rest o u =
     let other = either (eqb (x .op) Operator.semicolon)
     (λ e. absurd (true≢false (sym (form-semicolon (seatUnder k i) x xs e (a .here)) ∙ no-statements k i xs o))) (λ e. e) in
     (record { other = other; form = form-other (seatUnder k i) x xs other (a .here); below = a .below }, a .after)
+
+-- Such an expression before trees that are plain.
+pub outer : (k : Token) (i n : ℕ) (x : Token) (xs rest : Forest) → PlainExpression (seatUnder k i) (suc n) x xs
+    → unplain (some k) (suc i) (suc n + size xs) rest ≡ none
+    → unplain (some k) i n (node x xs rest) ≡ none
+unfolding seatOf
+outer k i n x xs rest e later =
+    plain-whole (some k) i n x xs rest
+    (record { here = other-form (seatUnder k i) x xs (e .other) (e .form); below = e .below; after = later })
 
 -- Statements, each of which is a semicolon over one expression.
 pub data PlainStatements : Forest → Type 0 where
@@ -141,3 +198,41 @@ plain-tree k cs h =
         → PlainTree k cs
     statements nil e f u = absurd (false≢true (unfold semicolonForm in f))
     statements (node x xs rest) e f u = script e (statements-of k 0 1 (node x xs rest) e (unfold semicolonForm in f) u)
+
+-- Each of them is plain.
+statements-plain : (k : Token) → eqb (k .op) Operator.semicolon ≡ true → (i n : ℕ) (cs : Forest) → PlainStatements cs
+    → (allSemicolons cs ≡ true) × (unplain (some k) i n cs ≡ none)
+unfolding allSemicolons semicolonForm seatOf
+statements-plain k h i n nil ended = (refl, no-trees (some k) i n)
+statements-plain k h i n (node s (node x xs nil) rest) (statement _ m _ e held later) =
+    let semi : eqb (s .op) Operator.semicolon ≡ true = eq-eqb (s .op) Operator.semicolon e in
+    let after = statements-plain k h (suc i) (suc n + size (node x xs nil)) rest later in
+    let form : semicolonForm underSemicolon (node x xs nil) ≡ true = rw (held .other) refl in (
+      and-true-true (eqb (s .op) Operator.semicolon) (allSemicolons rest) semi (after .0),
+      plain-whole (some k) i n s (node x xs nil) rest
+          (record {
+            here = rw (semicolon-seat k i h) (semicolon-form underSemicolon s (node x xs nil) semi form);
+            below = outer s 0 (suc n) x xs nil
+                (record {
+                  other = held .other;
+                  form = rw (semicolon-seat s 0 semi) (held .form);
+                  below = renumbered (some x) 0 m (suc (suc n)) xs (held .below);
+                })
+                (no-trees (some s) 1 _);
+            after = after .1;
+          }),
+    )
+
+pub tree-plain : (k : Token) (cs : Forest) → PlainTree k cs → unplainAt k cs ≡ none
+unfolding unplainAt seatOf
+tree-plain k cs (expression e) =
+    plain-whole none 0 0 k cs nil
+    (record { here = other-form atRoot k cs (e .other) (e .form); below = e .below; after = no-trees none 1 _ })
+tree-plain k (node x xs rest) (script h s) =
+    let all = statements-plain k h 0 1 (node x xs rest) s in
+    plain-whole none 0 0 k (node x xs rest) nil
+    (record {
+      here = semicolon-form atRoot k (node x xs rest) h (unfold semicolonForm in all .0);
+      below = all .1;
+      after = no-trees none 1 _;
+    })

@@ -8,11 +8,11 @@ use mathlib.Core.Option.{Option, none, some, Option·getD}
 use native.Mathlib.Omega.{arith}
 use lib.Dec.{eqb, leb}
 use lib.IntN.{ℤ}
-use borrow.Author.Tests.{eq-eqb, ne-eqb, eqb-true, leb-true, not-true}
+use borrow.Author.Tests.{eq-eqb, ne-eqb, leb-true, not-true}
 use Rattle.molang.specs.Operator
 use Rattle.molang.specs.Operator.{any, isOneOf, isMathCall, isBracket, hasMembers, isQueryOrLoop, closingOf, isCloser, BeforeMinus}
 use Rattle.molang.specs.Operator.{operand, operator, minus, unknown, beforeMinus}
-use Rattle.molang.specs.Forest.{Token, Forest, nil, node, renamed, bare, closedBy, leaves, turnedOnto, inOrder, count}
+use Rattle.molang.specs.Forest.{Token, Forest, nil, node, renamed, bare, closedBy, leaves, turnedOnto, inOrder, count, size}
 use Rattle.molang.specs.Message.{Message, multipleRoots, complexMustEndWithSemicolon, leadingMemberAccessor, closingMismatch}
 use Rattle.molang.specs.Message.{sectionNotClosed, noClosingSymbol, emptyParameterList, mathAtEnd, mathWithoutParenthesis}
 use Rattle.molang.specs.Message.{leadingSemicolon, emptyArrayIndex, binaryAtEnd, negateWithoutOperand, notWithoutOperand}
@@ -197,6 +197,17 @@ module _ (φ : Token → Token) where
   tokensFor [] = []
   tokensFor (k ∷ ks) = φ k ∷ tokensFor ks
 
+  -- As many trees and as many nodes as before.
+  pub rel-count : (f : Forest) → count (relabelled f) ≡ count f
+  unfolding count relabelled
+  rel-count nil = refl
+  rel-count (node k cs rest) = ap suc (rel-count rest)
+
+  pub rel-size : (f : Forest) → size (relabelled f) ≡ size f
+  unfolding size relabelled
+  rel-size nil = refl
+  rel-size (node k cs rest) = rw (rel-size cs, rel-size rest) refl
+
 -- An exchange of tokens that the passes do not notice: an operator is seen as before, spans stay, and the tokens that the passes make are
 -- exchanged as what they are made of.
 pub record Unnoticed (φ : Token → Token) : Type 0 where
@@ -218,11 +229,6 @@ module _ (φ : Token → Token) (A : Unnoticed φ) where
   rel-inOrder : (d : Forest) → relabelled φ (inOrder d) ≡ inOrder (relabelled φ d)
   unfolding inOrder relabelled
   rel-inOrder d = rel-turned d nil
-
-  pub rel-count : (f : Forest) → count (relabelled φ f) ≡ count f
-  unfolding count relabelled
-  rel-count nil = refl
-  rel-count (node k cs rest) = ap suc (rel-count rest)
 
   rel-leaves : (ks : List Token) → leaves (tokensFor φ ks) ≡ relabelled φ (leaves ks)
   unfolding leaves tokensFor relabelled
@@ -775,7 +781,7 @@ module _ (φ : Token → Token) (A : Unnoticed φ) where
 
   position-natural : (i : ℕ) (s : Open) → position i (openFor s) ≡ position i s
   unfolding position openFor
-  position-natural i (outside d) = rel-count d
+  position-natural i (outside d) = rel-count φ d
   position-natural i (section o j d s) = refl
 
   outermost-natural : (o : Token) (s : Open) → outermost (φ o) (openFor s) ≡ φ (outermost o s)
@@ -918,7 +924,7 @@ module _ (φ : Token → Token) (A : Unnoticed φ) where
   rooted-natural l so-far nil = ap messages (sym (messages-append so-far (multipleRoots 0 l 0 ∷ [])))
   rooted-natural l so-far (node k cs nil) = refl
   rooted-natural l so-far (node k cs (node x xs rest)) =
-      rw (A .start k, start-natural (k .start) cs, lastEnd-natural x xs rest, rel-count (node k cs (node x xs rest)))
+      rw (A .start k, start-natural (k .start) cs, lastEnd-natural x xs rest, rel-count φ (node k cs (node x xs rest)))
       (ap messages (sym (messages-append so-far _)))
 
   -- ---- All passes

@@ -10,7 +10,6 @@ use lib.Dec.{eqb}
 use lib.ListN.{length, take, length-take, length-replicate}
 use Rattle.molang.specs.Operator
 use Rattle.molang.specs.Forest.{Token, Forest, nil, node, size}
-use Rattle.molang.specs.Read.{uses}
 use Rattle.molang.specs.Words.{Refusal, operatorField, wordsRefusal, tokensOf, listWords, treeWords}
 use Rattle.molang.specs.Nesting.{tooDeep}
 use Rattle.molang.specs.Parse.{Call, isLimit, refusal, Told, aTree, someMessages, refused, told, answered, treeAfter, messagesIn}
@@ -19,15 +18,16 @@ use Rattle.molang.specs.Write.{writtenTree, takenAway}
 use Rattle.molang.specs.WriteEntry.{treesOf, WriteCall, WriteTold, tokens, unwritten, writeRefusal, writeAnswered, listAfter}
 use Rattle.molang.specs.Reread.{bracketless, Rereading, handed, writerCall, exactCall, secondCall, twoTrees, firstMessages}
 use Rattle.molang.specs.Reread.{secondMessages, turnedBack, stopped, secondTold, afterWriting, afterFirst, reread, CanReadBack}
-use Rattle.molang.specs.Reread.{HasReadBack, Demand3}
+use Rattle.molang.specs.Reread.{LiftsTo, HasReadBack, Demand3}
 use Rattle.molang.proofs.Words.{tokens-back}
-use Rattle.molang.proofs.ListWords.{list-unrefused, listWords-length, uses-legal}
-use Rattle.molang.proofs.UsedSet.{halves-exact}
+use Rattle.molang.proofs.ListWords.{list-unrefused, listWords-length}
 use Rattle.molang.proofs.Accepted.{call-accepted}
 use Rattle.molang.proofs.Bounds.{treeWords-length}
 use Rattle.molang.proofs.HandedTree.{Parsed, tree-front, tree-told, front-bracketless, front-left, tree-written-legal, writer-tells}
 use Rattle.molang.proofs.HandedTree.{tree-written-ends, write-done, tree-of-told, write-of-told}
 use Rattle.molang.proofs.Entries.{ThreeCalls, SameTrees, three-calls}
+use Rattle.molang.proofs.Settled.{WrittenList}
+use Rattle.molang.proofs.Lifts.{exactly-used, parsed-lifts}
 
 -- ---- What can be handed on
 
@@ -92,6 +92,20 @@ module _ (c : Rereading) (k : Token) (cs : Forest) (p : Parsed (c .first) k cs) 
         let ends = tree-written-ends p (write-done p (writing c k cs) tree-got writes .plain) in
         ap tokensOf list-got ∙ tokens-back (writtenTree k cs) (tree-written-legal p) ends
 
+    -- What was written, as tokens.
+    first-list : WrittenList (listWords (writtenTree k cs))
+    first-list =
+        let wrote = write-done p (writing c k cs) tree-got writes in
+        record {
+          root = k;
+          children = cs;
+          plain = wrote .plain;
+          legal = tree-written-legal p;
+          ends = tree-written-ends p (wrote .plain);
+          few = wrote .few;
+          words = refl;
+        }
+
     -- The second reading is made.
     made : reread c ≡ afterWriting (handed c) (size (node k cs nil)) (tokens (length (writtenTree k cs)))
     unfolding reread afterFirst
@@ -104,16 +118,12 @@ module _ (c : Rereading) (k : Token) (cs : Forest) (p : Parsed (c .first) k cs) 
         → ThreeCalls (c .first) (writing c k cs) (second c k cs) k cs
     unfolding handed writerCall secondCall exactCall
     calls treeRoom workRoom legalLength legalLimit withinLimit =
-        let legal = tree-written-legal p in
-        let ks = tokensOf (second c k cs .list) in
-        let same : ks ≡ writtenTree k cs = tokens-got in
-        let few : (m : ℕ) → 111 ≤ m → uses ks m ≡ false = λ m above. rw same (uses-legal legal m above) in
         record {
           parsed = p;
           treeHanded = refl;
           writes = writes;
           listHanded = refl;
-          usedExactly = λ m. halves-exact (uses ks) few m ∙ ap (λ (l : List Token). uses l m) same;
+          usedExactly = exactly-used (second c k cs .list) (writtenTree k cs) tokens-got (tree-written-legal p);
           treeRoom = treeRoom;
           messageRoom = rw (messages-kept p) (call-accepted (c .first) (p .accepted) .messages);
           workRoom = rw (work-long p) workRoom;
@@ -134,13 +144,14 @@ module _ (c : Rereading) (k : Token) (cs : Forest) (p : Parsed (c .first) k cs) 
     told-again t = rw (made, again t .answers) refl
 
     read-back : ThreeCalls (c .first) (writing c k cs) (second c k cs) k cs → HasReadBack k cs (reread c)
-    unfolding handed afterWriting
+    unfolding handed afterWriting first-list
     read-back t =
         record {
           nodesAgain = nodesOf t;
           tells = told-again t;
           listed = rw made list-got;
           words = rw made (front-bracketless (again t .parsed) ∙ (again t .words ∙ sym (front-bracketless p)));
+          lifts = rw (made, list-got) (parsed-lifts first-list (again t .parsed) (again t .plainAgain) (again t .writesAgain));
         }
 
     -- Where the root is no semicolon, nothing is left out of the comparison.
@@ -200,6 +211,7 @@ demand-3 c =
           let writes = write-of-told (writing c k cs) (length (writtenTree k cs)) tells in
           read-back c k cs p writes (calls c k cs p writes (d .treeRoom) (d .workRoom) (d .legalLength) (d .legalLimit) (d .withinLimit));
       agree = λ nodes count nodesAgain h. agree nodes count nodesAgain h (ends c);
+      lifts = λ nodes count nodesAgain h. same-list nodes count nodesAgain h (ends c);
       noMessages = λ records h. never records h (ends c);
     }
   where
@@ -212,6 +224,16 @@ demand-3 c =
         let first : size (node k cs nil) ≡ nodes = cc in
         let again : r .nodesAgain ≡ nodesAgain = cc in
         rw (← first, ← again) (r .words)
+
+    same-list : (nodes count nodesAgain : ℕ) → reread c .told ≡ twoTrees nodes count nodesAgain → Ends c
+        → LiftsTo (take (7 * nodesAgain) (reread c .again)) (take (5 * count) (reread c .written))
+    same-list nodes count nodesAgain h (gaveMessages m e) = let z : _≡_ {A = ℕ} 0 1 = cc in absurd (omega arith)
+    same-list nodes count nodesAgain h (wasTurnedBack m n q e) = let z : _≡_ {A = ℕ} 0 1 = cc in absurd (omega arith)
+    same-list nodes count nodesAgain h (readBack k cs r) =
+        let told = r .tells in
+        let written : length (writtenTree k cs) ≡ count = cc in
+        let again : r .nodesAgain ≡ nodesAgain = cc in
+        rw (← written, ← again) (r .lifts)
 
     never : (records : ℕ) → reread c .told ≡ secondMessages records → Ends c → ⊥
     never records h (gaveMessages m e) = let z : _≡_ {A = ℕ} 0 1 = cc in omega arith

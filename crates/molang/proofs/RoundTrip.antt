@@ -16,16 +16,17 @@ use Rattle.molang.specs.Order.{rules}
 use Rattle.molang.specs.Read.{tree, rooted, read, uses}
 use Rattle.molang.specs.Words.{treeWords}
 use Rattle.molang.specs.Free.{isNil}
-use Rattle.molang.specs.Plain.{unplainAt}
+use Rattle.molang.specs.Plain.{atRoot, unplainAt}
 use Rattle.molang.specs.Write.{spanning, writtenStatements, writtenTree, takenAway, comparableToken, comparableTrees, comparable}
 use Rattle.molang.proofs.Computed.{computed}
-use Rattle.molang.proofs.PlainTrees.{PlainTree, expression, script, plain-tree}
+use Rattle.molang.proofs.PlainTrees.{PlainExpression, PlainStatements, PlainTree, expression, script, plain-tree, tree-plain}
+use Rattle.molang.proofs.Paired.{paired, written-paired, plain-paired}
 use Rattle.molang.proofs.TakingAway.{taken-kept}
 use Rattle.molang.proofs.Writing.{writtenTree-expression, writtenTree-script}
 use borrow.Author.Tests.{eqb-true}
 use Order.{reading, everything}
 use Script.{Statement, isEmpty, scriptTokens, statementTrees, reading-script}
-use Spelling.{filled-solid, SpelledRoot, root-spelled, SpelledScript, script-spelled}
+use Spelling.{root-spelled, SpelledScript, script-spelled}
 pub mod Role
 pub mod Expression
 pub mod Walk
@@ -42,7 +43,7 @@ pub mod Spelling
 pub mod Examples
 
 -- Reading the writing of the tree k over cs with exactly its operators gives a tree, which is the same once brackets are taken away: what
--- is compared of it, and where the root is no semicolon all of it.
+-- is compared of it, and where the root is no semicolon all of it. That tree is plain too, and is written as the same tokens.
 pub record ReadsBack (k : Token) (cs : Forest) (version : ℤ) (sourceLength : ℕ) : Type 0 where
   pub root : Token
   pub children : Forest
@@ -50,21 +51,26 @@ pub record ReadsBack (k : Token) (cs : Forest) (version : ℤ) (sourceLength : �
   pub agrees : comparable (takenAway false (node root children nil) nil) ≡ comparable (takenAway false (node k cs nil) nil)
   pub agreesInAll : eqb (k .op) Operator.semicolon ≡ false
       → takenAway false (node root children nil) nil ≡ takenAway false (node k cs nil) nil
+  pub plainAgain : unplainAt root children ≡ none
+  pub writesAgain : writtenTree root children ≡ writtenTree k cs
 
-expression-back : (k : Token) (cs : Forest) → eqb (k .op) Operator.semicolon ≡ false → SpelledRoot k cs → (version : ℤ) (sourceLength : ℕ)
+expression-back : (k : Token) (cs : Forest) → PlainExpression atRoot 1 k cs → (version : ℤ) (sourceLength : ℕ)
     → ReadsBack k cs version sourceLength
 unfolding read rooted
-expression-back k cs other found version len =
+expression-back k cs plain version len =
+    let found = root-spelled k cs plain in
+    let other = plain .other in
     let e = found .spelling in
-    let o = filled-solid (e .exp) (e .filled) in
-    let same = ap (λ (f : Forest). takenAway false f nil) (sym (o .becomes nil)) ∙ e .strips false nil in
+    let same = ap (λ (f : Forest). takenAway false f nil) (sym (e .becomes nil)) ∙ e .strips false nil in
     record {
-      root = o .label;
-      children = o .inside;
+      root = k;
+      children = paired k cs;
       reads = ap (λ (ks : List Token). read ks (uses ks) version len) (writtenTree-expression k cs other ∙ sym (e .spells []))
-          ∙ reading (e .exp) (found .whole) (found .assigns) (rules version) len ∙ ap (rooted len []) (o .becomes nil);
+          ∙ reading (e .exp) (found .whole) (found .assigns) (rules version) len ∙ ap (rooted len []) (e .becomes nil);
       agrees = ap comparable same;
       agreesInAll = λ h. same;
+      plainAgain = tree-plain k (paired k cs) (expression (plain-paired atRoot 1 1 k cs plain));
+      writesAgain = writtenTree-expression k (paired k cs) other ∙ written-paired k cs [] ∙ sym (writtenTree-expression k cs other);
     }
 
 -- What is compared of a script are its statements.
@@ -78,14 +84,17 @@ script-back : (k x : Token) (xs rest : Forest) → eqb (k .op) Operator.semicolo
     → (version : ℤ) (sourceLength : ℕ)
     → ReadsBack k (node x xs rest) version sourceLength
 unfolding read rooted
-script-back k x xs rest h found version len = back (found .statements) (found .full) (found .spells []) (found .strips)
+script-back k x xs rest h found version len =
+    back (found .statements) (found .full) (found .spells []) (found .plain) (found .writes []) (found .strips)
   where
     back : (ys : List Statement) → (isNil (node x xs rest) ≡ false → isEmpty ys ≡ false)
         → scriptTokens ys [] ≡ writtenStatements (node x xs rest) []
+        → PlainStatements (statementTrees everything ys)
+        → writtenStatements (statementTrees everything ys) [] ≡ writtenStatements (node x xs rest) []
         → comparableTrees (takenAway false (statementTrees everything ys) nil) ≡ comparableTrees (takenAway false (node x xs rest) nil)
         → ReadsBack k (node x xs rest) version len
-    back [] full spells strips = absurd (true≢false (unfold isEmpty isNil in full refl))
-    back (y ∷ ys) full spells strips = record {
+    back [] full spells plain writes strips = absurd (true≢false (unfold isEmpty isNil in full refl))
+    back (y ∷ ys) full spells plain writes strips = record {
       root = bare Operator.semicolon (y .end);
       children = statementTrees everything (y ∷ ys);
       reads = ap (λ (ks : List Token). read ks (uses ks) version len) (writtenTree-script k (node x xs rest) h ∙ sym spells)
@@ -94,6 +103,10 @@ script-back k x xs rest h found version len = back (found .statements) (found .f
           ∙ ap (λ (f : Forest). node (spanning Operator.semicolon 0 0) f nil) strips
           ∙ sym (script-compared k (node x xs rest) (eqb-true (k .op) Operator.semicolon h));
       agreesInAll = λ o. absurd (true≢false (sym h ∙ o));
+      plainAgain = tree-plain (bare Operator.semicolon (y .end)) (statementTrees everything (y ∷ ys))
+          (unfold bare statementTrees in script refl plain);
+      writesAgain = writtenTree-script (bare Operator.semicolon (y .end)) (statementTrees everything (y ∷ ys)) (unfold bare in refl)
+          ∙ writes ∙ sym (writtenTree-script k (node x xs rest) h);
     }
 
 -- Every plain tree reads back, wherever it came from, at every version and source length.
@@ -101,7 +114,7 @@ pub round-trip : (k : Token) (cs : Forest) → unplainAt k cs ≡ none → (vers
 round-trip k cs plain version len = split cs (plain-tree k cs plain)
   where
     split : (cs : Forest) → PlainTree k cs → ReadsBack k cs version len
-    split cs (expression e) = expression-back k cs (e .other) (root-spelled k cs e) version len
+    split cs (expression e) = expression-back k cs e version len
     split (node x xs rest) (script h s) = script-back k x xs rest h (script-spelled (node x xs rest) s) version len
 
 -- The words that are left of the two trees.

@@ -1,8 +1,9 @@
--- Writing a plain expression spells a bracketed expression: the written list is the expression's tokens, and with brackets taken away the
--- expression's tree is the tree. So does writing what a statement holds, and a script is spelled statement by statement.
+-- Writing a plain expression spells a bracketed expression: the written list is the expression's tokens, its tree is the tree with the
+-- added pairs as brackets (Paired), and with brackets taken away it is the tree. So does writing what a statement holds, and a script is
+-- spelled statement by statement.
 use Prim.Native.Nat.{ℕ, suc, _+_}
 use mathlib.Core.Path.{_≡_, refl, ap, sym, _∙_}
-use mathlib.Core.Bool.{Bool, true, false, _||_, _&&_, not, true≢false, false≢true, and-eq-true-iff, and-false, or-true}
+use mathlib.Core.Bool.{Bool, true, false, _||_, _&&_, not, true≢false, false≢true, and-eq-true-iff, or-true}
 use mathlib.Core.List.{List, [], _∷_}
 use lib.Dec.{eqb}
 use borrow.Author.Tests.{not-true, eq-eqb}
@@ -17,7 +18,9 @@ use Rattle.molang.specs.Write.{spanning, openerFor, closerFor, closerOf,
 use Rattle.molang.specs.Write.{writtenStatements, takenAway, comparableToken, comparableTrees}
 use Rattle.molang.proofs.Booleans.{either, never, or-only-first}
 use Rattle.molang.proofs.Computed.{computed}
-use Rattle.molang.proofs.PlainTrees.{seat-cases, other-seat, PlainExpression, inner, PlainStatements, ended, statement}
+use Rattle.molang.proofs.PlainTrees.{seat-cases, other-seat, left-place, right-place, PlainExpression, inner, PlainStatements}
+use Rattle.molang.proofs.PlainTrees.{ended, statement}
+use Rattle.molang.proofs.Paired.{operandTree, paired, paired-one, paired-two, written-paired, plain-paired}
 use Rattle.molang.proofs.TakingAway.{taken-later, taken-kept, taken-call, taken-bracket}
 use Rattle.molang.proofs.Writing.{written-none, written-one}
 use Rattle.molang.proofs.RoundTrip.Role.{Role, aQuery, aMathCall, aBracket, aMinus, aNot, aBinary, aComma, aQuestion, aColon}
@@ -27,7 +30,7 @@ use Rattle.molang.proofs.RoundTrip.Role.{role-binary, role-single, rule
 use Rattle.molang.proofs.RoundTrip.Expression.{Sort, nothing, atom, prefixed, bracketed, joinedBy, Pair, Exp, empty, leaf, bracket}
 use Rattle.molang.proofs.RoundTrip.Expression.{before, between, isOperand, isJoinedBy, isWhole, isHeaded, statementRoles, isHeld}
 use Rattle.molang.proofs.RoundTrip.Expression.{isFilled, isBracketed, isFilledBracket, leafRoles, prefixRoles, joiningRoles, isLeaf}
-use Rattle.molang.proofs.RoundTrip.Expression.{isPrefix, isJoining, takes, joinsLeft, joinsRight, tokens, ahead, amid, form, Solid}
+use Rattle.molang.proofs.RoundTrip.Expression.{isPrefix, isJoining, takes, joinsLeft, joinsRight, tokens, ahead, amid, form}
 use Rattle.molang.proofs.RoundTrip.Lacking.{apart, heads, headless}
 use Rattle.molang.proofs.RoundTrip.Order.{everything}
 use Rattle.molang.proofs.RoundTrip.Script.{Statement, isEmpty, scriptTokens, labelOf, label-op, statementTrees}
@@ -42,19 +45,12 @@ taken-form c (bracket k _ _ x) r R = refl
 taken-form c (before k _ _ _ _ x) r R = refl
 taken-form c (between k _ _ _ _ _ x y) r R = refl
 
-pub filled-solid : {s : Sort} (e : Exp s) → isFilled s ≡ true → Solid (form everything e)
-unfolding form ahead amid
-filled-solid empty h = absurd (false≢true h)
-filled-solid (leaf k _ _ _) h = record { label = k; inside = nil; becomes = λ r. refl }
-filled-solid (bracket k _ _ x) h = record { label = k; inside = form everything x nil; becomes = λ r. refl }
-filled-solid (before k _ _ _ _ x) h = record { label = k; inside = form everything x nil; becomes = λ r. refl }
-filled-solid (between k _ _ _ _ _ x y) h = record { label = k; inside = form everything x (form everything y nil); becomes = λ r. refl }
-
 -- The expression that a plain node at a place is spelled as.
 pub record Spelled (p : Seat) (k : Token) (cs : Forest) : Type 0 where
   pub sort : Sort
   pub exp : Exp sort
   pub spells : (r : List Token) → tokens exp r ≡ written k cs r
+  pub becomes : (r : Forest) → form everything exp r ≡ node k (paired k cs) r
   pub strips : (inCall : Bool) (R : Forest) → takenAway inCall (form everything exp nil) R ≡ takenAway inCall (node k cs nil) R
   pub filled : isFilled sort ≡ true
   pub alone : standsAlone k cs ≡ isOperand sort
@@ -71,6 +67,7 @@ record Part (joins : Sort → Bool) (b : Bool) (k : Token) (cs : Forest) : Type 
   exp : Exp sort
   fits : joins sort ≡ true
   spells : (r : List Token) → tokens exp r ≡ operandTokens b k cs (written k cs) r
+  becomes : (r : Forest) → form everything exp r ≡ operandTree b k cs (paired k cs) r
   strips : (inCall : Bool) → (not inCall || b) ≡ true → (R : Forest)
       → takenAway inCall (form everything exp nil) R ≡ takenAway inCall (node k cs nil) R
 
@@ -92,26 +89,34 @@ opener-bracket : (k : Token) (cs : Forest) → isBracket (openerFor k cs .op) �
 unfolding computed
 opener-bracket k cs = refl
 
-taken-section : (k : Token) {s : Sort} (x : Exp s) → isFilled s ≡ true → isBracket (k .op) ≡ true → (R : Forest)
-    → takenAway false (node k (form everything x nil) nil) R ≡ takenAway false (form everything x nil) R
-taken-section k x f h R = let o = filled-solid x f in rw (o .becomes nil) (taken-bracket k (o .label) (o .inside) R h)
+taken-section : (p : Seat) (k : Token) (x : Token) (xs : Forest) (y : Spelled p x xs) → isBracket (k .op) ≡ true → (R : Forest)
+    → takenAway false (node k (form everything (y .exp) nil) nil) R ≡ takenAway false (form everything (y .exp) nil) R
+taken-section p k x xs y h R = rw (y .becomes nil) (taken-bracket k x (paired x xs) R h)
 
 part : (joins : Sort → Bool) (b : Bool) (p : Seat) (k : Token) (cs : Forest) (x : Spelled p k cs) → (b ≡ true → joins (x .sort) ≡ true)
     → (b ≡ false → isHeld (x .sort) ≡ true) → (b ≡ false → joins (bracketed (x .sort)) ≡ true) → Part joins b k cs
-unfolding operandTokens form tokens closerFor openerFor spanning added-pair
-part joins true p k cs x t f j = record { sort = x .sort; exp = x .exp; fits = t refl; spells = x .spells; strips = λ c h R. x .strips c R }
+unfolding operandTokens operandTree form tokens closerFor openerFor spanning added-pair
+part joins true p k cs x t f j = record {
+  sort = x .sort;
+  exp = x .exp;
+  fits = t refl;
+  spells = x .spells;
+  becomes = x .becomes;
+  strips = λ c h R. x .strips c R;
+}
 part joins false p k cs x t f j = record {
   sort = bracketed (x .sort);
   exp = bracket (openerFor k cs) (added-pair k cs) (f refl) (x .exp);
   fits = j refl;
   spells = λ r. ap (λ (ks : List Token). openerFor k cs ∷ ks) (x .spells (closerFor k cs ∷ r));
+  becomes = λ r. ap (λ (f : Forest). node (openerFor k cs) f r) (x .becomes nil);
   strips = λ c h R. away c h R;
 }
   where
     away : (inCall : Bool) → (not inCall || false) ≡ true → (R : Forest)
         → takenAway inCall (node (openerFor k cs) (form everything (x .exp) nil) nil) R ≡ takenAway inCall (node k cs nil) R
     away true h R = absurd (false≢true h)
-    away false h R = taken-section (openerFor k cs) (x .exp) (x .filled) (opener-bracket k cs) R ∙ x .strips false R
+    away false h R = taken-section p (openerFor k cs) k cs x (opener-bracket k cs) R ∙ x .strips false R
 
 abbrev callRoles : List Role
 callRoles = aQuery ∷ aMathCall ∷ []
@@ -143,11 +148,12 @@ unlike : (a : Role) (rs : List Role) → allOf (λ r. not (is a r)) rs ≡ true 
 unlike a rs h r m = not-true (is a r) (among rs (λ r. not (is a r)) h r m)
 
 spell-leaf : (p : Seat) (k : Token) (r : Role) → role (k .op) ≡ r → isLeaf r ≡ true → Spelled p k nil
-unfolding tokens written form standsAlone
+unfolding tokens written form paired standsAlone
 spell-leaf p k r e l = record {
   sort = atom;
   exp = leaf k r e l;
   spells = λ t. sym (written-none false k t (no-bracket leafRoles refl (k .op) r e l));
+  becomes = λ t. refl;
   strips = λ c R. refl;
   filled = refl;
   alone = refl;
@@ -160,11 +166,12 @@ spell-leaf p k r e l = record {
 }
 
 spell-hollow : (p : Seat) (k : Token) → role (k .op) ≡ aBracket → isUnderMathCall p ≡ true → Spelled p k nil
-unfolding tokens written form standsAlone own-pair
+unfolding tokens written form paired standsAlone own-pair
 spell-hollow p k e m = record {
   sort = bracketed nothing;
   exp = bracket k (own-pair k e) refl empty;
   spells = λ t. sym (written-none true k t (role-bracket (k .op) ∙ ap (is aBracket) e));
+  becomes = λ t. refl;
   strips = λ c R. refl;
   filled = refl;
   alone = refl;
@@ -183,6 +190,7 @@ spell-bracket p q k x xs e y w = record {
   sort = bracketed (y .sort);
   exp = bracket k (own-pair k e) w (y .exp);
   spells = λ t. ap (λ (ks : List Token). unclosed k ∷ ks) (y .spells (closerOf k ∷ t)) ∙ sym (written-one true k x xs t b);
+  becomes = λ t. ap (λ (f : Forest). node k f t) (y .becomes nil ∙ sym (paired-one true k x xs b));
   strips = away;
   filled = refl;
   alone = b;
@@ -201,7 +209,7 @@ spell-bracket p q k x xs e y w = record {
         (node k (node x xs nil) nil) R
     away true R = taken-call k (form everything (y .exp) nil) R ∙ ap (λ (f : Forest). node k f R) (y .strips (isCall (k .op)) nil)
         ∙ sym (taken-call k (node x xs nil) R)
-    away false R = taken-section k (y .exp) (y .filled) b R ∙ y .strips false R ∙ sym (taken-bracket k x xs R b)
+    away false R = taken-section q k x xs y b R ∙ y .strips false R ∙ sym (taken-bracket k x xs R b)
 
 spell-before : (p : Seat) (k x : Token) (xs : Forest) (r : Role) → role (k .op) ≡ r → isPrefix r ≡ true
     → Part (takes r) (standsAlone x xs) x xs
@@ -214,6 +222,7 @@ spell-before p k x xs r e i y c g =
       sort = prefixed r;
       exp = before k r e i (y .fits) (y .exp);
       spells = λ t. ap (λ (ks : List Token). k ∷ ks) (y .spells t) ∙ sym (written-one false k x xs t b);
+      becomes = λ t. ap (λ (f : Forest). node k f t) (y .becomes nil ∙ sym (paired-one false k x xs b));
       strips = λ inCall R. taken-kept inCall k (form everything (y .exp) nil) R b
           ∙ ap (λ (f : Forest). node k f R) (y .strips (isCall (k .op)) c nil) ∙ sym (taken-kept inCall k (node x xs nil) R b);
       filled = refl;
@@ -239,6 +248,9 @@ spell-between p k x xs y ys r e j c g a z =
       spells =
           λ t. a .spells (k ∷ tokens (z .exp) t) ∙ ap (λ (ks : List Token). operandTokens (standsLeft k x xs) x xs (written x xs) (k ∷ ks))
           (z .spells t);
+      becomes = λ t. ap (λ (f : Forest). node k f t)
+          (ap (form everything (a .exp)) (z .becomes nil)
+          ∙ a .becomes (operandTree (standsRight k y ys) y ys (paired y ys) nil) ∙ sym (paired-two k x xs y ys));
       strips = λ inCall R. taken-kept inCall k (form everything (a .exp) (form everything (z .exp) nil)) R b
           ∙ ap (λ (f : Forest). node k f R) (rw q (taken-form false (a .exp) (form everything (z .exp) nil) nil
           ∙ a .strips false refl (takenAway false (form everything (z .exp) nil) nil)
@@ -255,23 +267,10 @@ spell-between p k x xs y ys r e j c g a z =
     }
 
 -- Where a node's children stand.
-left-place : (k : Token) → isRightOfQuestion (seatUnder k 0) ≡ false
-unfolding isRightOfQuestion
-left-place k =
-    seat-cases (λ s. isRightOfQuestion s ≡ false) k 0 (λ e. refl) (λ e. refl)
-    (λ e. absurd (false≢true (sym (and-false (eqb (k .op) Operator.conditional)) ∙ e))) refl
-
 argument-place : (k : Token) → isMathCall (k .op) ≡ false → isUnderMathCall (seatUnder k 0) ≡ false
 unfolding isUnderMathCall
 argument-place k h =
     seat-cases (λ s. isUnderMathCall s ≡ false) k 0 (λ e. absurd (true≢false (sym e ∙ h))) (λ e. refl) (λ e. refl) refl
-
-right-place : (k : Token) → isRightOfQuestion (seatUnder k 1) ≡ true → eqb (k .op) Operator.conditional ≡ true
-unfolding isRightOfQuestion
-right-place k =
-    seat-cases (λ s. isRightOfQuestion s ≡ true → eqb (k .op) Operator.conditional ≡ true) k 1 (λ e h. absurd (false≢true h))
-    (λ e h. absurd (false≢true h)) (λ e h. and-eq-true-iff (eqb (k .op) Operator.conditional) (eqb 1 1) .0 e .0)
-    (λ h. absurd (false≢true h))
 
 -- Only right of its `?` is a node's expression held by a `:`, and only in a statement by an assignment or a `return`.
 held : (k : Token) (i : ℕ) (x : Token) (xs : Forest) (y : Spelled (seatUnder k i) x xs) → eqb (k .op) Operator.semicolon ≡ false
@@ -488,6 +487,8 @@ pub record SpelledScript (cs : Forest) : Type 0 where
   pub statements : List Statement
   pub full : isNil cs ≡ false → isEmpty statements ≡ false
   pub spells : (r : List Token) → scriptTokens statements r ≡ writtenStatements cs r
+  pub plain : PlainStatements (statementTrees everything statements)
+  pub writes : (r : List Token) → writtenStatements (statementTrees everything statements) r ≡ writtenStatements cs r
   pub strips : comparableTrees (takenAway false (statementTrees everything statements) nil) ≡ comparableTrees (takenAway false cs nil)
 
 -- What is compared of a statement is what it holds.
@@ -501,7 +502,14 @@ statement-compared k cs rest e =
 
 pub script-spelled : (cs : Forest) → PlainStatements cs → SpelledScript cs
 unfolding scriptTokens writtenStatements statementTrees isNil isEmpty
-script-spelled nil ended = record { statements = []; full = λ h. absurd (true≢false h); spells = λ r. refl; strips = refl }
+script-spelled nil ended = record {
+  statements = [];
+  full = λ h. absurd (true≢false h);
+  spells = λ r. refl;
+  plain = ended;
+  writes = λ r. refl;
+  strips = refl;
+}
 script-spelled (node s (node x xs nil) rest) (statement _ n _ h e later) =
     let y = spelled underSemicolon n x xs e in
     let i = script-spelled rest later in
@@ -521,6 +529,11 @@ script-spelled (node s (node x xs nil) rest) (statement _ n _ h e later) =
       spells = λ r.
           y .spells (bare Operator.semicolon x ∷ scriptTokens (i .statements) r)
           ∙ ap (λ (ks : List Token). written x xs (bare Operator.semicolon x ∷ ks)) (i .spells r);
+      plain = rw (y .becomes nil)
+          (statement (labelOf one) n x (label-op one) (plain-paired underSemicolon n n x xs e) (i .plain));
+      writes = λ r. rw (y .becomes nil)
+          (written-paired x xs (bare Operator.semicolon x ∷ writtenStatements (statementTrees everything (i .statements)) r)
+          ∙ ap (λ (ks : List Token). written x xs (bare Operator.semicolon x ∷ ks)) (i .writes r));
       strips = statement-compared (labelOf one) (form everything (y .exp) nil) (statementTrees everything (i .statements)) (label-op one)
           ∙ (λ j. node (spanning Operator.semicolon 0 0) (comparableTrees (y .strips false nil j)) (i .strips j))
           ∙ sym (statement-compared s (node x xs nil) rest h);
