@@ -74,7 +74,10 @@ fn the_model_has_each_list_of_the_oracles_generator_in_the_cards_order() {
 
 #[test]
 #[cfg_attr(not(everylist), ignore = "everylist is not built")]
-#[cfg_attr(not(rust_source), ignore = "the Rust source is not at hand")]
+#[cfg_attr(
+    all(everylist, not(rust_source)),
+    ignore = "the Rust source is not at hand"
+)]
 fn four_alphabets_at_three_versions() {
     let program = Program::named("everylist");
     all_alike(&*WHOLE, |input| program.run(input));
@@ -110,7 +113,10 @@ fn each_list_is_printed_once_and_stands_behind_the_one_before() {
 
 #[test]
 #[cfg_attr(not(everylist), ignore = "everylist is not built")]
-#[cfg_attr(not(rust_source), ignore = "the Rust source is not at hand")]
+#[cfg_attr(
+    all(everylist, not(rust_source)),
+    ignore = "the Rust source is not at hand"
+)]
 fn the_version_is_read_in_twos_complement() {
     let program = Program::named("everylist");
     for version in [i16::MIN, -2, -1, 0, 3, 4, 12, 13, 14, i16::MAX] {
