@@ -1,15 +1,18 @@
 //! What there is to compare. With the static library at hand, which the crate `sys` finds and links, the cfg `library` is set; without
-//! it the models are built and tested alone. The cfg `rust_source` says whether the crate `oracle` finds the Rust source, and the cfg
-//! `treelist` whether that program is built; without them the tests that need them are ignored. The cfg `before` says that a second
+//! it the models are built and tested alone. The cfg `rust_source` says whether the crate `oracle` finds the Rust source, and a cfg of each
+//! program's name whether that program is built; without them the tests that need them are ignored. The cfg `before` says that a second
 //! library is linked, the one before, for `bench`.
 
 use std::env;
 use std::path::PathBuf;
 
+/// The programs that are run.
+const PROGRAMS: [&str; 2] = ["treelist", "everylist"];
+
 fn main() {
     find_library();
     find_source();
-    find_treelist();
+    PROGRAMS.into_iter().for_each(find_program);
 }
 
 /// By the rule of oracle/build.rs.
@@ -45,21 +48,21 @@ fn find_library() {
     }
 }
 
-/// At `TREELIST`, or where `rt check` writes it.
-fn find_treelist() {
-    println!("cargo::rustc-check-cfg=cfg(treelist)");
-    println!("cargo::rerun-if-env-changed=TREELIST");
-    let program = match env::var_os("TREELIST") {
+/// At the environment variable of its name in capitals, or where `rt check` writes it.
+fn find_program(name: &str) {
+    let named = name.to_uppercase();
+    println!("cargo::rustc-check-cfg=cfg({name})");
+    println!("cargo::rerun-if-env-changed={named}");
+    let program = match env::var_os(&named) {
         Some(path) => PathBuf::from(path),
-        None => PathBuf::from(env!("CARGO_MANIFEST_DIR")).join("../target/bin/treelist"),
+        None => PathBuf::from(env!("CARGO_MANIFEST_DIR"))
+            .join("../target/bin")
+            .join(name),
     };
     println!("cargo::rerun-if-changed={}", program.display());
     if program.is_file() {
-        println!("cargo::rustc-cfg=treelist");
+        println!("cargo::rustc-cfg={name}");
     } else {
-        println!(
-            "cargo::warning=no {}: treelist is not run",
-            program.display()
-        );
+        println!("cargo::warning=no {}: {name} is not run", program.display());
     }
 }

@@ -21,12 +21,15 @@ ENTRIES = [
     ("reread", "src/lib.rt", "reread"),
     ("stackorder", "src/lib.rt", "export"),
     ("stackorder", "src/lib.rt", "import"),
+    ("shortlists", "src/lib.rt", "count"),
+    ("shortlists", "src/lib.rt", "list_at"),
     ("sorbrudder", "src/lib.rt", "sorbrudder_parse"),
     ("sorbrudder", "src/ruled.rt", "sorbrudder_parse_rules"),
     ("sorbrudder", "src/lib.rt", "sorbrudder_write"),
     ("sorbrudder", "src/lib.rt", "sorbrudder_export"),
     ("sorbrudder", "src/lib.rt", "sorbrudder_import"),
     ("treelist", "src/main.rt", "listing"),
+    ("everylist", "src/step.rt", "step_at"),
 ]
 # `use Rattle.CRATE.specs.MODULE.{NAMES}`, with the part named twice within the crate itself; in code with `ghost` and `;`.
 USE = re.compile(r"(?:ghost )?use Rattle·(\w+)(?:·\w+)?\.(?:specs\.)?(specs|proofs|declared)\.([\w.]+?)(?:\.\{(.*)\})?(?: as (\w+))?;?$")

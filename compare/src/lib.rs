@@ -1,12 +1,15 @@
-//! What the library's entries answer, beside the Rust (through `oracle`) and models that were written from document 01 and the cards alone.
+//! What the library's entries answer and the programs print, beside the Rust (through `oracle`) and models that were written from document
+//! 01 and the cards alone.
 
 pub mod calls;
 #[cfg(library)]
 pub mod comparison;
+pub mod everylist;
 #[cfg(library)]
 pub mod library;
 #[cfg(library)]
 pub mod lifting_again;
+pub mod listing;
 pub mod matching;
 pub mod numbers;
 pub mod payload_calls;
@@ -14,6 +17,8 @@ pub mod payload_calls;
 pub mod payload_pairs;
 pub mod payload_reach;
 pub mod plain_trees;
+pub mod program_times;
+pub mod programs;
 #[cfg(library)]
 pub mod reading;
 #[cfg(library)]
@@ -25,6 +30,7 @@ pub mod rule_calls;
 pub mod ruling;
 pub mod smallest;
 pub mod stack_model;
+pub mod trials;
 pub mod workloads;
 pub mod writer_model;
 #[cfg(library)]

@@ -2,91 +2,23 @@
 //! that are kept in the repository. It is run where `rt check` builds it (`target/bin/treelist`), or at `TREELIST`; where it is
 //! not built, the tests are ignored.
 
-use std::io::Write;
-use std::path::PathBuf;
-use std::process::{Command, Stdio};
-
+use compare::listing::{bytes, refused, text, tokens, version_word};
+use compare::programs::Program;
 use oracle::hosts::has_hosts;
 use oracle::vectors::{self, Stored};
-use oracle::words::{Answer, Token, exact_set, list_words, word};
+use oracle::words::{exact_set, list_words, word};
 
-fn program() -> PathBuf {
-    match std::env::var_os("TREELIST") {
-        Some(path) => PathBuf::from(path),
-        None => PathBuf::from(env!("CARGO_MANIFEST_DIR")).join("../target/bin/treelist"),
-    }
-}
-
-/// What the program writes to these pieces of an input.
-fn run(program: &PathBuf, pieces: &[&[u8]]) -> String {
-    let mut child = Command::new(program)
-        .stdin(Stdio::piped())
-        .stdout(Stdio::piped())
-        .spawn()
-        .expect("the program starts");
-    let mut input = child.stdin.take().expect("its input is a pipe");
-    for piece in pieces {
-        input.write_all(piece).expect("the program reads on");
-    }
-    drop(input);
-    let done = child.wait_with_output().expect("the program ends");
-    assert!(done.status.success());
-    String::from_utf8(done.stdout).expect("it writes text")
-}
-
-fn bytes(words: &[u32]) -> Vec<u8> {
-    words.iter().flat_map(|word| word.to_le_bytes()).collect()
+fn program() -> Program {
+    Program::named("treelist")
 }
 
 /// The bytes of a version and a list.
 fn input(version: i16, list: &[u32]) -> Vec<u8> {
-    let mut words = vec![u32::from(version as u16)];
-    words.extend(list);
-    bytes(&words)
-}
-
-/// Tokens of these operators, the i-th at the span i to i + 1.
-fn tokens(ops: &[u16]) -> Vec<Token> {
-    let token = |(place, &op): (usize, &u16)| Token {
-        op,
-        variant: 0,
-        value: 0,
-        start: place as u32,
-        end: place as u32 + 1,
-    };
-    ops.iter().enumerate().map(token).collect()
+    bytes(&[&[version_word(version)], list].concat())
 }
 
 fn list(ops: &[u16]) -> Vec<u32> {
     list_words(&tokens(ops))
-}
-
-/// The text of an answer of the entry.
-fn text(answer: &Answer) -> String {
-    match answer {
-        Answer::Tree(nodes) => {
-            let mut text = format!("tree {}\n", nodes.len());
-            for node in nodes {
-                let Token { op, start, end, .. } = node.token;
-                let children = node.children;
-                text += &format!("{op} {children} {start} {end}\n");
-            }
-            text
-        }
-        Answer::Messages(records) => {
-            let mut text = format!("messages {}\n", records.len());
-            for record in records {
-                let numbers: Vec<String> = record.iter().map(u32::to_string).collect();
-                text += &numbers.join(" ");
-                text += "\n";
-            }
-            text
-        }
-    }
-}
-
-fn refused(number: u32, place: usize) -> String {
-    format!("refused {number} {place}\n")
 }
 
 #[test]
@@ -95,7 +27,7 @@ fn bytes_that_are_no_words_come_first() {
     let program = program();
     for count in [1, 2, 3, 5, 7, 25, 2563, 2565, 2567] {
         assert_eq!(
-            run(&program, &[&vec![0xFF; count]]),
+            program.run(&vec![0xFF; count]),
             refused(1, 0),
             "{count} bytes"
         );
@@ -106,17 +38,17 @@ fn bytes_that_are_no_words_come_first() {
 #[cfg_attr(not(treelist), ignore = "treelist is not built")]
 fn the_first_word_is_of_kind_0_and_has_sixteen_bits() {
     let program = program();
-    assert_eq!(run(&program, &[]), refused(8, 0));
+    assert_eq!(program.run(&[]), refused(8, 0));
     let sum = list(&[61, 9, 61]);
     for bit in 16..32 {
         let mut words = vec![6 | 1 << bit];
-        assert_eq!(run(&program, &[&bytes(&words)]), refused(8, 0), "bit {bit}");
+        assert_eq!(program.run(&bytes(&words)), refused(8, 0), "bit {bit}");
         words.extend(&sum);
-        assert_eq!(run(&program, &[&bytes(&words)]), refused(8, 0), "bit {bit}");
+        assert_eq!(program.run(&bytes(&words)), refused(8, 0), "bit {bit}");
         words.push(0);
-        assert_eq!(run(&program, &[&bytes(&words)]), refused(8, 0), "bit {bit}");
+        assert_eq!(program.run(&bytes(&words)), refused(8, 0), "bit {bit}");
         words.extend(vec![0; 10_000]);
-        assert_eq!(run(&program, &[&bytes(&words)]), refused(8, 0), "bit {bit}");
+        assert_eq!(program.run(&bytes(&words)), refused(8, 0), "bit {bit}");
     }
 }
 
@@ -125,18 +57,18 @@ fn the_first_word_is_of_kind_0_and_has_sixteen_bits() {
 fn later_words_are_whole_tokens_and_128_at_the_most() {
     let program = program();
     for count in [1, 2, 3, 4, 6, 639, 641, 644, 646, 100_001] {
-        let found = run(&program, &[&input(6, &vec![0; count])]);
+        let found = program.run(&input(6, &vec![0; count]));
         assert_eq!(found, refused(1, 0), "{count} words");
     }
     for count in [645, 650, 20_485, 500_000] {
-        let found = run(&program, &[&input(6, &vec![0; count])]);
+        let found = program.run(&input(6, &vec![0; count]));
         assert_eq!(found, refused(2, 0), "{count} words");
     }
     let most = list(&[61; 128]);
-    let found = run(&program, &[&input(6, &most)]);
+    let found = program.run(&input(6, &most));
     assert_eq!(found, "messages 1\n1 0 128 128 0 0 0 0\n");
     let more = list(&[61; 129]);
-    assert_eq!(run(&program, &[&input(6, &more)]), refused(2, 0));
+    assert_eq!(program.run(&input(6, &more)), refused(2, 0));
 }
 
 #[test]
@@ -145,13 +77,13 @@ fn no_list_is_too_deep() {
     // The program gives the greatest limit, so that 128 openers are read, and found not to be closed.
     let program = program();
     let openers = list(&[4; 128]);
-    let found = run(&program, &[&input(6, &openers)]);
+    let found = program.run(&input(6, &openers));
     assert_eq!(
         found,
         "messages 2\n6 127 128 128 4 5 0 0\n5 0 1 5 4 0 0 0\n"
     );
     let nested = [&[4; 63][..], &[61], &[5; 63]].concat();
-    let found = run(&program, &[&input(6, &list(&nested))]);
+    let found = program.run(&input(6, &list(&nested)));
     assert!(found.starts_with("tree 64\n4 1 0 1\n"), "{found}");
 }
 
@@ -160,15 +92,15 @@ fn no_list_is_too_deep() {
 fn megabytes_are_read_to_their_end() {
     let program = program();
     let mut long = input(6, &vec![0; 5 * 400_000]);
-    assert_eq!(run(&program, &[&long]), refused(2, 0));
+    assert_eq!(program.run(&long), refused(2, 0));
     long.extend([0; 4]);
-    assert_eq!(run(&program, &[&long]), refused(1, 0));
+    assert_eq!(program.run(&long), refused(1, 0));
     long.push(0);
-    assert_eq!(run(&program, &[&long]), refused(1, 0));
+    assert_eq!(program.run(&long), refused(1, 0));
     long[3] = 0x20;
-    assert_eq!(run(&program, &[&long]), refused(1, 0));
+    assert_eq!(program.run(&long), refused(1, 0));
     long.extend([0; 3]);
-    assert_eq!(run(&program, &[&long]), refused(8, 0));
+    assert_eq!(program.run(&long), refused(8, 0));
 }
 
 #[test]
@@ -177,9 +109,8 @@ fn an_input_in_pieces_is_the_same_input() {
     let program = program();
     let sum = input(6, &list(&[61, 9, 61]));
     let expected = "tree 3\n9 2 1 2\n61 0 0 1\n61 0 2 3\n";
-    let pieces: Vec<&[u8]> = sum.chunks(1).collect();
-    assert_eq!(run(&program, &[&sum]), expected);
-    assert_eq!(run(&program, &pieces), expected);
+    assert_eq!(program.run(&sum), expected);
+    assert_eq!(program.run_pieces(sum.chunks(1)), expected);
 }
 
 #[test]
@@ -209,10 +140,10 @@ fn each_bad_word_is_told_at_its_place() {
         for (number, bad) in damages {
             let mut words = good.clone();
             words[place] = bad;
-            let found = run(&program, &[&input(6, &words)]);
+            let found = program.run(&input(6, &words));
             assert_eq!(found, refused(number, place), "{bad:#x} at {place}");
             words.extend([u32::MAX; 5]);
-            assert_eq!(run(&program, &[&input(6, &words)]), refused(number, place));
+            assert_eq!(program.run(&input(6, &words)), refused(number, place));
         }
     }
 }
@@ -222,13 +153,13 @@ fn each_bad_word_is_told_at_its_place() {
 fn a_hosts_number_is_printed() {
     let program = program();
     let sum = list(&[256, 9, 1_023]);
-    let found = run(&program, &[&input(6, &sum)]);
+    let found = program.run(&input(6, &sum));
     assert_eq!(found, "tree 3\n9 2 1 2\n256 0 0 1\n1023 0 2 3\n");
     // A number whose lower eight bits are a minus or a bracket is an operand, and no pass runs for it.
     let difference = list(&[262, 6, 516]);
-    let found = run(&program, &[&input(6, &difference)]);
+    let found = program.run(&input(6, &difference));
     assert_eq!(found, "tree 4\n9 2 1 2\n262 0 0 1\n6 1 1 2\n516 0 2 3\n");
-    let found = run(&program, &[&input(6, &list(&[329, 327]))]);
+    let found = program.run(&input(6, &list(&[329, 327])));
     assert_eq!(found, "messages 1\n1 0 2 2 0 0 0 0\n");
 }
 
@@ -236,13 +167,10 @@ fn a_hosts_number_is_printed() {
 #[cfg_attr(not(treelist), ignore = "treelist is not built")]
 fn the_source_is_as_long_as_the_highest_end() {
     let program = program();
-    assert_eq!(
-        run(&program, &[&input(6, &[])]),
-        "messages 1\n1 0 0 0 0 0 0 0\n"
-    );
+    assert_eq!(program.run(&input(6, &[])), "messages 1\n1 0 0 0 0 0 0 0\n");
     let mut arrow = tokens(&[61, 72]);
     arrow[0].end = 536_870_911;
-    let found = run(&program, &[&input(6, &list_words(&arrow))]);
+    let found = program.run(&input(6, &list_words(&arrow)));
     let expected = "messages 2\n12 1 2 72 0 0 0 0\n1 0 536870911 0 0 0 0 0\n";
     assert_eq!(found, expected);
 }
@@ -255,18 +183,10 @@ fn the_version_is_read_in_twos_complement() {
     let or_first = "tree 5\n57 2 3 4\n56 2 1 2\n61 0 0 1\n61 0 2 3\n61 0 4 5\n";
     let and_first = "tree 5\n56 2 1 2\n61 0 0 1\n57 2 3 4\n61 0 2 3\n61 0 4 5\n";
     for version in [i16::MIN, -2, -1, 0, 4, 5] {
-        assert_eq!(
-            run(&program, &[&input(version, &mixed)]),
-            or_first,
-            "{version}"
-        );
+        assert_eq!(program.run(&input(version, &mixed)), or_first, "{version}");
     }
     for version in [6, 13, 14, i16::MAX] {
-        assert_eq!(
-            run(&program, &[&input(version, &mixed)]),
-            and_first,
-            "{version}"
-        );
+        assert_eq!(program.run(&input(version, &mixed)), and_first, "{version}");
     }
 }
 
@@ -284,7 +204,7 @@ fn the_kept_answers_are_printed() {
         if !exact || case.tokens.len() > 128 {
             continue;
         }
-        let found = run(&program, &[&input(case.version, &list_words(&case.tokens))]);
+        let found = program.run(&input(case.version, &list_words(&case.tokens)));
         assert_eq!(found, text(answer), "{case:?}");
         compared += 1;
         hosted += usize::from(has_hosts(case));

@@ -1,7 +1,8 @@
 //! The long comparison (`make compare`): reading through the C convention beside the Rust, reading with rules beside the Rust whose
 //! passes mark the nodes, writing trees beside the second writer, export and import beside their model and each other, reading and writing,
-//! the written lists of these and of the trees lifted further, and reading, writing and reading again with one payload changed. The last
-//! line is `N lists, 0 differences`; a difference ends the run with a status that is not 0, after the smallest list that shows it.
+//! the written lists of these and of the trees lifted further, and reading, writing and reading again with one payload changed; and what the
+//! program `everylist` prints, where it is built. The last line is `N lists, 0 differences`; a difference ends the run with a status that is
+//! not 0, after the smallest list that shows it.
 //!
 //!     compare [LISTS] [SEED]
 
@@ -45,12 +46,15 @@ fn main() -> ExitCode {
 mod run {
     use compare::calls;
     use compare::comparison::Comparison;
+    use compare::everylist::{Asked, list_text};
     use compare::lifting_again::{Library as Lifts, Lifting};
     use compare::matching::Matching;
     use compare::numbers::Numbers;
     use compare::payload_calls::{self, PayloadCall};
     use compare::payload_pairs::{Library, Pairs, Tally};
     use compare::plain_trees;
+    use compare::programs::Program;
+    use compare::reading::Buffers;
     use compare::reordering::{Way, reorder};
     use compare::rereading::{Lists, Reread, reread};
     use compare::rule_calls;
@@ -180,6 +184,7 @@ mod run {
             one_payload_at_every_version,
             one_node,
             chains,
+            every_short_list,
         ] {
             let written = part(lists as u64 / 5, seed);
             let (Ok(count) | Err((count, _))) = written;
@@ -544,5 +549,43 @@ mod run {
             reached(&tally)
         ));
         Ok(done)
+    }
+
+    /// Has `everylist` print every list of up to 6 over alphabets of 8, beside the Rust's answers.
+    fn every_short_list(_: u64, _: u64) -> Result<u64, (u64, String)> {
+        let Some(program) = Program::built("everylist", "compared") else {
+            return Ok(0);
+        };
+        let name =
+            "every list of up to 6 over six alphabets of 8, at 4, 5 and 6, printed by everylist";
+        let mut progress = Progress::new(name);
+        let mut bytes = 0;
+        for alphabet in calls::EIGHTS.iter().chain(&calls::HOSTS) {
+            for version in [4, 5, 6] {
+                let asked = Asked::new(version, 6, alphabet.ops);
+                let text = program.run(&asked.input());
+                let printed = lists_in(&asked, &text, || progress.one_more());
+                printed.map_err(|difference| (progress.done, difference))?;
+                bytes += text.len();
+            }
+        }
+        let done = progress.done;
+        progress.end(&format!("{bytes} bytes"));
+        Ok(done)
+    }
+
+    /// Takes what is printed of each list off a text, to its end.
+    fn lists_in(asked: &Asked, text: &str, mut progress: impl FnMut()) -> Result<(), String> {
+        let mut rest = text;
+        for list in asked.lists() {
+            let wanted = list_text(&list, asked.version);
+            let differs = || format!("everylist prints something else for {list:?} of {asked:?}");
+            rest = rest.strip_prefix(&wanted).ok_or_else(differs)?;
+            progress();
+        }
+        match rest {
+            "" => Ok(()),
+            _ => Err(format!("everylist prints more than the lists of {asked:?}")),
+        }
     }
 }

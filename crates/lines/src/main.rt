@@ -2,13 +2,12 @@
 // the table's, which is the one that the theorem of molang has. It writes the text of each line and whether it is answered as it says, and
 // the totals last. The definition answers every line as it says (that theorem), and the entries answer as the definition does: this program
 // tests the compiled code. What it writes is compared with the file stdout; of the functions that run and compare, which are all private,
-// it is proved that they are safe, and of the text that it is the table's. Leans on molang (the table), accept, parse,
-// write and derived.
+// it is proved that they are safe, and of the text that it is the table's. Leans on molang (the table), accept, own, parse, write and
+// derived.
 mod said;
 
 use crate::said::table;
 use accept::MOST_LIMIT;
-use derived::used_of;
 use derived::version_of;
 use libc::STDOUT_FILENO;
 use molang::lines::ANY;
@@ -21,8 +20,8 @@ use molang::lines::TREE;
 use molang::lines::WITHIN;
 use molang::lines::WRITE;
 use molang::lines::ZEROS;
+use own::read_exactly;
 use parse::Answer;
-use parse::parse;
 use words::fields;
 use words::fields::wide;
 use write::Written;
@@ -253,18 +252,7 @@ fn parsed(
     limit: u32,
 ) -> Answer {
     let n = list.len() / fields::TOKEN_WORDS;
-    let used = used_of(list);
-    parse(
-        list,
-        tree,
-        messages,
-        work,
-        n as u64,
-        version,
-        used.low,
-        used.high,
-        limit,
-    )
+    read_exactly(list, tree, messages, work, n as u64, version, limit)
 }
 
 // Reads a list with these buffers, and compares.

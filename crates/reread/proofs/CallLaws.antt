@@ -1,65 +1,52 @@
--- The calls that the functions make are the definition's: a list's own operators in two halves, and the buffers that are handed on.
+-- The calls that the functions make are the definition's: a list's own operators, and the buffers that are handed on.
 -- Assumes nothing.
-use mathlib.Core.Path.{_≡_, refl, sym, ap, _∙_}
+use mathlib.Core.Path.{_≡_, refl, sym, ap, _∙_, fun-ext}
 use mathlib.Core.List.{List}
-use Prim.Native.Nat.{ℕ, _*_, _/_, _%_, _^_, _<_, _≤_}
+use Prim.Native.Nat.{ℕ, _*_, _≤_}
 use native.Mathlib.Omega.{arith}
 use lib.IntN.{ℤ}
 use lib.ListN.{length, take, length-take}
-use Rattle.molang.specs.Read.{uses, setNumber}
+use Rattle.molang.specs.Read.{uses}
 use Rattle.molang.specs.Words.{operatorField, tokensOf}
-use Rattle.molang.specs.Parse.{Call, inHalves, aTree}
+use Rattle.molang.specs.Parse.{aTree}
 use Rattle.molang.specs.WriteEntry.{tokens, unwritten, writeAnswered, listAfter}
 use Rattle.molang.specs.Reread.{Handed, writerCall, exactCall, secondCall, Rereading, handed, RereadLeft, stopped, secondTold, afterWriting}
 use Rattle.molang.specs.Reread.{afterFirst, reread}
-use Rattle.molang.proofs.UsedSet.{exact-halves}
 use Rattle.molang.proofs.HandedTree.{unwritten-list}
 use Rattle.molang.proofs.Reread.{Readable, written-readable, demand-3}
 use Rattle.derived.specs.Derived.{named}
-use Rattle.derived.proofs.WordLaws.{named-few, legal-list}
+use Rattle.derived.proofs.WordLaws.{legal-list}
 use Rattle.parse.specs.declared.Answer.{Answer}
 use Rattle.reread.specs.declared.Outcome.{Outcome}
 use Rattle.reread.specs.declared.Outcome.the-variants.{Refused}
-use Rattle.parse.specs.Answers.{toldOf, call, HasParsed}
+use Rattle.parse.specs.Answers.{toldOf, HasParsed}
+use Rattle.own.specs.Own.{namedCall}
 use Rattle.reread.specs.Answers.{rereadOf, leftOf, handedOf}
-use Rattle.reread.specs.Promises.{CanRead, CanGoOn, HasReread}
+use Rattle.reread.specs.Promises.{CanGoOn, HasReread}
 
--- The halves of a legal list's own operators.
-module _ (list : List ℕ) (can : CanRead list) (low high : ℕ) (fits : low < 2 ^ 64)
-    (bits : (n : ℕ) → inHalves low high n ≡ named operatorField list n) where
-  own-operators : (n : ℕ) → named operatorField list n ≡ uses (tokensOf list) n
-  own-operators = legal-list 0 0 0 list (can .legal) (can .whole) .operators
-
-  own-halves : (low ≡ setNumber (uses (tokensOf list)) 111 % 2 ^ 64) × (high ≡ setNumber (uses (tokensOf list)) 111 / 2 ^ 64)
-  own-halves =
-      exact-halves low high (uses (tokensOf list)) fits (λ n above. sym (own-operators n) ∙ named-few operatorField list n above)
-      (λ n. bits n ∙ own-operators n)
-
-  pub exact-call : (tree messages work : List ℕ) (sourceLength : ℕ) {passed version : ℤ} → passed ≡ version
-      → (limit : ℕ)
-      → call list tree messages work sourceLength passed low high limit ≡ exactCall list tree messages work sourceLength version limit
-  unfolding exactCall
-  exact-call tree messages work sourceLength v limit = let e = own-halves in rw (v, e .0, e .1) refl
-
--- A promise of the parse entry about a call is one about the same call.
-pub same-call : {c d : Call} → c ≡ d → {r : Answer} {tree messages work : List ℕ} → HasParsed c r tree messages work
-    → HasParsed d r tree messages work
-same-call e p = rw e at p
+-- The words of a legal list name its tokens' operators.
+pub exact-call : (list : List ℕ) (count : ℕ) → Readable list count → (tree messages work : List ℕ) (sourceLength : ℕ) {passed version : ℤ}
+    → passed ≡ version
+    → (limit : ℕ)
+    → namedCall list tree messages work sourceLength passed limit ≡ exactCall list tree messages work sourceLength version limit
+unfolding exactCall namedCall
+exact-call list count can tree messages work sourceLength v limit =
+    let same : named operatorField list ≡ uses (tokensOf list) =
+    fun-ext (legal-list 0 0 0 list (can .legal) (omega (arith, can .long)) .operators)
+    in
+    rw (v, same) refl
 
 -- ---- THE WRITER AND THE SECOND READING
 
 -- What was written of a tree stands within the lent list, and is legal.
 module _ (h : Handed) (nodes count : ℕ) (can : CanGoOn (aTree nodes) (h .tree))
     (wrote : tokens count ≡ writeAnswered (writerCall h nodes)) where
-  written-list : Readable (take (5 * count) (listAfter (writerCall h nodes))) count
+  pub written-list : Readable (take (5 * count) (listAfter (writerCall h nodes))) count
   unfolding writerCall
   written-list = written-readable (can .first) (writerCall h nodes) nodes count (can .says) (ap (take (7 * nodes)) (can .left)) (sym wrote)
 
   pub written-room : 5 * count ≤ length (listAfter (writerCall h nodes))
   written-room = omega (arith, written-list .long, length-take (5 * count) (listAfter (writerCall h nodes)))
-
-  pub list-readable : CanRead (take (5 * count) (listAfter (writerCall h nodes)))
-  list-readable = record { legal = written-list .legal; whole = omega (arith, written-list .long) }
 
 module _ (h : Handed) (nodes : ℕ) (list : List ℕ) (left : list ≡ listAfter (writerCall h nodes)) where
   -- The writer is turned back.

@@ -1,17 +1,9 @@
 -- What the functions ask and ensure, by the definition of the three calls (molang's `Reread`).
-use Prim.Native.Nat.{ℕ, _%_}
+use Prim.Native.Nat.{ℕ}
 use mathlib.Core.Path.{_≡_}
 use mathlib.Core.List.{List}
-use mathlib.Core.Option.{none}
-use lib.ListN.{length}
-use Rattle.molang.specs.Words.{operatorField, wordsRefusal}
 use Rattle.molang.specs.Parse.{Call, Told, answered, treeAfter}
 use Rattle.molang.specs.Reread.{Rereading, RereadLeft, reread, Demand3}
-
--- `read_exactly` is given a list of legal tokens.
-pub record CanRead (list : List ℕ) : Type 0 where
-  pub legal : wordsRefusal 0 operatorField 0 list ≡ none
-  pub whole : length list % 5 ≡ 0
 
 -- `after_first` and `write_and_read` are given what some first call told, and its tree buffer as that call left it.
 pub record CanGoOn (told : Told) (tree : List ℕ) : Type 0 where

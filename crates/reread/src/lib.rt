@@ -1,6 +1,6 @@
 // Demand 3 as a function: reads a list, writes the tree it gives, and reads exactly the tokens written again, at any version and with
-// their own operators. Leans on parse, write and derived; the definition is `Reread` of molang's specs.
-use derived::used_of;
+// their own operators. Leans on parse, write and own; the definition is `Reread` of molang's specs.
+use own::read_exactly;
 use parse::Answer;
 use parse::parse;
 use words::fields;
@@ -8,10 +8,10 @@ use write::Written;
 use write::write;
 ghost use mathlib.Core.Path.{_≡_};
 ghost use Rattle.molang.specs.Parse.{aTree};
-ghost use Rattle.molang.specs.Reread.{exactCall, secondTold, afterFirst};
-ghost use Rattle.parse.specs.Answers.{toldOf, call, HasParsed};
+ghost use Rattle.molang.specs.Reread.{secondTold, afterFirst};
+ghost use Rattle.parse.specs.Answers.{toldOf, call};
 ghost use Rattle.reread.specs.Answers.{rereadOf, leftOf, handedOf, rereading};
-ghost use Rattle.reread.specs.Promises.{CanRead, CanGoOn, HasReread};
+ghost use Rattle.reread.specs.Promises.{CanGoOn, HasReread};
 
 // What the three calls come to.
 pub enum Outcome {
@@ -31,35 +31,6 @@ pub const FIRST: u32 = 1;
 pub const WRITE: u32 = 2;
 
 pub const SECOND: u32 = 3;
-
-// Reads a list with exactly its own operators. What the writer lays is a legal list.
-fn read_exactly(
-    list: &[u32],
-    tree: &mut [u32],
-    messages: &mut [u32],
-    work: &mut [u32],
-    source_length: u64,
-    version: i16,
-    limit: u32,
-) -> Answer
-    requires { ⌜ CanRead (now list) ⌝ }
-    ensures { λ r. ⌜ HasParsed
-        (exactCall (now (list .entry)) (now (tree .entry)) (now (messages .entry)) (now (work .entry)) «source_length» version limit)
-        r (now (tree .exit)) (now (messages .exit)) (now (work .exit)) ⌝ }
-{
-    let used = used_of(list);
-    parse(
-        list,
-        tree,
-        messages,
-        work,
-        source_length,
-        version,
-        used.low,
-        used.high,
-        limit,
-    )
-}
 
 // What the second reading's answer comes to, after a tree of so many nodes and a list of so many tokens.
 fn after_second(nodes: usize, count: usize, second: Answer) -> Outcome

@@ -1,30 +1,26 @@
--- Where the program turns an input back, and what a call of the entry on a list of at most 128 tokens at its exact used set comes to.
-use Prim.Native.Nat.{ℕ, _+_, _-_, _*_, _/_, _%_, _^_, _≤_, _<_}
-use mathlib.Core.Path.{_≡_, refl, ap, sym, _∙_, fun-ext}
-use mathlib.Core.Bool.{Bool, _&&_}
-use mathlib.Core.List.{List, [], _∷_}
+-- Where the program turns an input back, the list of one that it reads, and what is printed. Assumes nothing.
+use Prim.Native.Nat.{ℕ, suc, _+_, _-_, _*_, _%_, _^_, _≤_, _<_}
+use mathlib.Core.Path.{_≡_, refl, ap, sym, _∙_}
+use mathlib.Core.Bool.{_&&_}
+use mathlib.Core.List.{List, [], _∷_, _++_}
 use mathlib.Core.Option.{Option, none, some}
 use native.Mathlib.Omega.{arith}
 use lib.Dec.{eqb, leb, ltb}
 use lib.IntN.{ℤ}
 use lib.ListN.{length, take, drop, getD, replicate, length-take, length-drop}
-use borrow.Author.Tests.{eq-eqb, ne-eqb, le-leb, lt-leb, lt-ltb, le-ltb}
+use lib.Seq.{take-all, take-append-seam}
+use borrow.Author.Tests.{leb-true, eq-eqb, ne-eqb, le-leb, lt-leb, lt-ltb, le-ltb}
 use Rattle.molang.specs.FirstFailure.{must, firstOf}
-use Rattle.molang.specs.Words.{Refusal, row, operatorField, wordsRefusal, tokensOf}
-use Rattle.molang.specs.Read.{Answer, read}
-use Rattle.molang.proofs.Bounds.{Bounded, fewNodes, fewMessages, read-bounded}
-use Rattle.molang.proofs.ListWords.{tokens-count}
-use Rattle.molang.proofs.Nesting.{never-18}
-use Rattle.molang.specs.Nesting.{tooDeep}
-use Rattle.molang.specs.Parse.{Call, Told, refused, inHalves, mostTokens, isLimit, lengthRows, valueRows, refusal, reading, told, answered, treeIn, treeAfter}
-use Rattle.molang.specs.Parse.{messagesIn, messagesAfter}
-use Rattle.molang.proofs.FirstFailure.{after-none, before-none, without-number}
-use Rattle.derived.specs.Derived.{named, highest}
-use Rattle.derived.proofs.WordLaws.{exact-few, highest-few}
-use Rattle.parse.specs.Answers.{call}
+use Rattle.molang.specs.Words.{Refusal, row, operatorField, wordsRefusal}
+use Rattle.molang.specs.Read.{Answer}
+use Rattle.molang.specs.Parse.{Told, refused, told, treeIn, messagesIn}
 use Rattle.molang.specs.Lines.{versionOf}
-use Rattle.treelist.specs.Rows.{Printable, answerText}
-use Rattle.treelist.specs.Listing.{wordsIn, printed, listLength, turnedBack, Readable, readingOf, listOf, faultOf, answerOf}
+use Rattle.molang.proofs.FirstFailure.{first-none, passed, after-none, in-parts}
+use Rattle.own.specs.Own.{readingOf}
+use Rattle.listing.specs.Rows.{answerText, CanPut}
+use Rattle.listing.specs.Lists.{wordsIn, listFault, listText}
+use Rattle.listing.proofs.AnswerLaws.{text-of-front, can-put}
+use Rattle.treelist.specs.Listing.{printed, listLength, turnedBack, listOf, faultOf, answerOf}
 
 -- WHERE AN INPUT IS TURNED BACK
 pub turned-part : (bytes first : ℕ) → (bytes % 4 ≡ 0 → ⊥) → some (row 1 0) ≡ turnedBack bytes first
@@ -86,47 +82,6 @@ not-turned bytes first whole some-bytes low tokens h =
       le-leb (listLength bytes) 640 h,
     ) refl
 
--- THE CALL OF THE ENTRY. Of its checks only those of the words are left, and its used set is the list's own.
-module _ (list tree messages : List ℕ) (ok : Readable list tree messages) (work : List ℕ) (room : length work ≡ 8256) (source : ℕ)
-    (ends : source ≡ highest operatorField 0 list) (version : ℤ) (low high : ℕ)
-    (exact : (n : ℕ) → inHalves low high n ≡ named operatorField list n) where
-  abbrev called : Call
-  called = call list tree messages work source version low high mostTokens
-
-  pub called-refusal : refusal called ≡ wordsRefusal 0 operatorField 0 list
-  unfolding refusal lengthRows valueRows isLimit must firstOf
-  called-refusal =
-      let few : length list / 5 ≤ 128 = omega (arith, ok .few) in
-      rw (
-        eq-eqb (length list % 5) 0 (ok .whole),
-        le-leb (length list / 5) 4096 (omega arith),
-        le-leb (21 * (length list / 5)) (length tree) (omega (arith, ok .treeRoom)),
-        le-leb 16 (length messages) (omega (arith, ok .messageRoom)),
-        le-leb (64 * (length list / 5) + 64) (length work) (omega arith),
-        lt-ltb (high * 2 ^ 64 + low) (2 ^ 111) (exact-few low high list exact),
-        le-leb source 536870911 (omega (arith, highest-few operatorField 0 list (omega arith))),
-      )
-      (before-none (wordsRefusal 0 operatorField 0 list) _
-      (without-number 18 (tooDeep mostTokens (tokensOf list)) (never-18 (tokensOf list) (omega (arith, tokens-count list, ok .few)))))
-
-  pub called-reading : reading called ≡ readingOf list version
-  unfolding reading readingOf
-  called-reading =
-      ap (λ (u : ℕ → Bool). read (tokensOf list) u version source) (fun-ext exact)
-      ∙ ap (read (tokensOf list) (named operatorField list) version) ends
-
-  pub told-called : answered called ≡ told (wordsRefusal 0 operatorField 0 list) (readingOf list version)
-  unfolding answered
-  told-called = rw (called-refusal, called-reading) refl
-
-  pub tree-called : treeAfter called ≡ treeIn (wordsRefusal 0 operatorField 0 list) (readingOf list version) tree
-  unfolding treeAfter
-  tree-called = rw (called-refusal, called-reading) refl
-
-  pub messages-called : messagesAfter called ≡ messagesIn (wordsRefusal 0 operatorField 0 list) (readingOf list version) messages
-  unfolding messagesAfter
-  messages-called = rw (called-refusal, called-reading) refl
-
 -- THE ANSWER
 module _ (bytes : ℕ) (words : List ℕ) where
   -- An input that the program turns back.
@@ -163,20 +118,16 @@ module _ (bytes : ℕ) (words : List ℕ) where
   unfolding answerOf
   read-answer n version e v i = readingOf (same-list n e i) (v i)
 
--- What is answered has room in the text: at most three nodes to a token, and two messages.
-bounded-printable : {n : ℕ} {a : Answer} (f : Option Refusal) → Bounded n a → n ≤ 384 → Printable (told f a)
-unfolding told
-bounded-printable (some r) b h = tt
-bounded-printable none (fewNodes k) h = omega arith
-bounded-printable none (fewMessages k l) h = l
-
-pub printable : (bytes : ℕ) (words : List ℕ) → length words ≡ 641 → Printable (told (faultOf bytes words) (answerOf bytes words))
-unfolding answerOf readingOf listOf
-printable bytes words h =
+-- What is answered has room in the text and in the buffers.
+pub printable : (bytes : ℕ) (words out tree messages : List ℕ) → length words ≡ 641 → length out ≡ 32768 → length tree ≡ 2688
+    → length messages ≡ 16
+    → CanPut (told (faultOf bytes words) (answerOf bytes words)) 0 out tree messages
+unfolding answerOf listOf
+printable bytes words out tree messages size space nodes records =
     let list = listOf bytes words in
-    bounded-printable (faultOf bytes words)
-    (read-bounded (tokensOf list) (named operatorField list) (versionOf (getD words 0 0)) (highest operatorField 0 list))
-    (omega (arith, tokens-count list, length-take (listLength bytes) (drop 1 words), length-drop 1 words))
+    let few : length list ≤ 640 = omega (arith, length-take (listLength bytes) (drop 1 words), length-drop 1 words) in
+    can-put (faultOf bytes words) list (versionOf (getD words 0 0)) 0 out tree messages (omega arith) (omega arith) (omega arith)
+    (omega arith)
 
 -- What is printed, by what was read.
 pub listed : (bytes : ℕ) (front words : List ℕ) (t : Told) (tree messages : List ℕ) → words ≡ wordsIn front
@@ -190,3 +141,60 @@ listed bytes front words t tree messages e a b d =
     ∙ ap (λ (ws : List ℕ).
     answerText (told (faultOf bytes ws) (answerOf bytes ws)) (treeIn (faultOf bytes ws) (answerOf bytes ws) (replicate 2688 0))
     (messagesIn (faultOf bytes ws) (answerOf bytes ws) (replicate 16 0))) e
+
+-- THE TEXT OF A LIST. The program prints of a list what the shared `listText` says.
+
+-- What is printed of a fault, or of an answer where there is none.
+abbrev textOf : Option Refusal → Answer → List ℕ
+textOf fault answer = answerText (told fault answer) (treeIn fault answer []) (messagesIn fault answer [])
+
+-- The same of a list whose words are checked after other tests.
+abbrev textAfter : Option Refusal → List ℕ → ℤ → List ℕ
+textAfter fault list version = textOf (firstOf (fault ∷ wordsRefusal 0 operatorField 0 list ∷ [])) (readingOf list version)
+
+-- Where those tests turn it back, its words are not looked at.
+turned-alike : (fault : Option Refusal) (xs ys : List ℕ) (version : ℤ) → (fault ≡ none → xs ≡ ys)
+    → textAfter fault xs version ≡ textAfter fault ys version
+unfolding firstOf told treeIn messagesIn answerText
+turned-alike none xs ys version h = ap (λ (list : List ℕ). textAfter none list version) (h refl)
+turned-alike (some r) xs ys version h = refl
+
+module _ (first : ℕ) (list : List ℕ) (low : first < 2 ^ 16) where
+  -- The tests of a list's length.
+  abbrev lengthChecks : List (Option Refusal)
+  lengthChecks = must (eqb (length list % 5) 0) (row 1 0) ∷ must (leb (length list) 640) (row 2 0) ∷ []
+
+  -- How many bytes the version and the list have.
+  abbrev size : ℕ
+  size = 4 * suc (length list)
+
+  counted : listLength size ≡ length list
+  unfolding listLength
+  counted = omega arith
+
+  turned-list : turnedBack size first ≡ firstOf lengthChecks
+  unfolding firstOf must
+  turned-list = rw (whole-words size first (omega arith), le-leb 4 size (omega arith), lt-ltb first 65536 (omega arith), counted) refl
+
+  -- The front has the whole of a list that is not too long.
+  whole-list : (rest : List ℕ) → turnedBack size first ≡ none → listOf size (first ∷ (take 640 list ++ rest)) ≡ list
+  unfolding listOf
+  whole-list rest e =
+      let long = first-none (must (eqb (length list % 5) 0) (row 1 0)) _ (sym turned-list ∙ e) .1 in
+      let few = leb-true (length list) 640 (passed (leb (length list) 640) (row 2 0) [] long .0) in
+      rw (counted, take-all 640 list few) (take-append-seam list rest)
+
+  -- A VERSION AND A LIST, however long: where their first 641 words are the front's, what is printed is the text of the list, refused or
+  -- read.
+  pub prints-as-listed : (front rest : List ℕ) → wordsIn front ≡ first ∷ (take 640 list ++ rest)
+      → printed (4 * suc (length list)) front ≡ listText list (versionOf first)
+  unfolding printed faultOf answerOf listText listFault
+  prints-as-listed front rest e =
+      let words = first ∷ (take 640 list ++ rest) in
+      let version = versionOf first in
+      rw e
+      (text-of-front (faultOf size words) (answerOf size words) (replicate 2688 0) (replicate 16 0)
+      ∙ turned-alike (turnedBack size first) (listOf size words) list version (whole-list rest)
+      ∙ ap (λ (fault : Option Refusal). textAfter fault list version) turned-list
+      ∙ ap (λ (fault : Option Refusal). textOf fault (readingOf list version))
+      (sym (in-parts lengthChecks (wordsRefusal 0 operatorField 0 list ∷ []))))

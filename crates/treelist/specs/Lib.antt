@@ -1,3 +1,2 @@
 -- What the program prints, as definitions.
-pub mod Rows
 pub mod Listing

@@ -1,30 +1,22 @@
 -- The program `treelist` (document 01, end of 'Lists and their trees'): what it prints for an input, by the count of its bytes and its
 -- front.
-use Prim.Native.Nat.{ℕ, _+_, _-_, _*_, _/_, _%_, _^_, _≤_, _<_}
+use Prim.Native.Nat.{ℕ, _-_, _/_, _%_, _^_, _≤_, _<_}
 use mathlib.Core.Path.{_≡_}
 use mathlib.Core.Bool.{_&&_}
 use mathlib.Core.List.{List, [], _∷_}
 use mathlib.Core.Option.{Option, none, some}
 use lib.Dec.{eqb, leb, ltb}
-use lib.IntN.{ℤ}
-use lib.ListN.{length, take, drop, getD, replicate}
+use lib.ListN.{take, drop, getD, replicate}
 use Rattle.molang.specs.FirstFailure.{must, firstOf}
-use Rattle.molang.specs.Words.{Refusal, row, operatorField, wordsRefusal, tokensOf}
-use Rattle.molang.specs.Read.{Answer, read}
+use Rattle.molang.specs.Words.{Refusal, row, operatorField, wordsRefusal}
+use Rattle.molang.specs.Read.{Answer}
 use Rattle.molang.specs.Parse.{told, treeIn, messagesIn}
 use Rattle.molang.specs.Lines.{versionOf}
-use Rattle.derived.specs.Derived.{named, highest}
 use Rattle.treelist.specs.declared.asked.Request.{Request}
 use Rattle.treelist.specs.declared.asked.Request.the-variants.{List as Request·List, Refused}
-use Rattle.treelist.specs.Rows.{answerText}
-
--- The words of bytes, four to a word, the lowest first.
-unfoldable pub wordsIn : List ℕ → List ℕ
-wordsIn [] = []
-wordsIn (a ∷ []) = []
-wordsIn (a ∷ b ∷ []) = []
-wordsIn (a ∷ b ∷ c ∷ []) = []
-wordsIn (a ∷ b ∷ c ∷ d ∷ bytes) = (a + 2 ^ 8 * b + 2 ^ 16 * c + 2 ^ 24 * d) ∷ wordsIn bytes
+use Rattle.own.specs.Own.{readingOf}
+use Rattle.listing.specs.Lists.{wordsIn}
+use Rattle.listing.specs.Rows.{answerText}
 
 -- How many words an input of so many bytes has after the first.
 unfoldable pub listLength : ℕ → ℕ
@@ -45,10 +37,6 @@ turnedBack bytes first =
 abbrev pub refusalOf : Request → Option Refusal
 refusalOf (Request·List n) = none
 refusalOf (Refused number) = some (row number 0)
-
--- The reading of a list at its exact used set, its highest span end being the source length.
-unfoldable pub readingOf : List ℕ → ℤ → Answer
-readingOf list version = read (tokensOf list) (named operatorField list) version (highest operatorField 0 list)
 
 -- The list of an input whose front is these words.
 unfoldable pub listOf : ℕ → List ℕ → List ℕ
@@ -73,10 +61,3 @@ printed bytes front =
 abbrev pub Counted : Request → ℕ → ℕ → Type 0
 Counted (Request·List n) bytes first = (n ≡ listLength bytes) × (n ≤ 640) × (n % 5 ≡ 0) × (first < 2 ^ 16)
 Counted (Refused number) bytes first = Unit {0}
-
--- A list of at most 128 tokens, and buffers that are long enough for it.
-pub record Readable (list tree messages : List ℕ) : Type 0 where
-  pub few : length list ≤ 640
-  pub whole : length list % 5 ≡ 0
-  pub treeRoom : length tree ≡ 2688
-  pub messageRoom : length messages ≡ 16

@@ -1,18 +1,14 @@
-// What an input asks: where the program turns it back, else a list to read. Leans on derived (used set, source length, version), accept
-// (the highest nesting limit) and parse; specs/Listing has the definition.
-use accept::MOST_LIMIT;
-use derived::highest_end;
-use derived::used_of;
+// What an input asks: where the program turns it back, else a list to read. Leans on derived (the version) and own (the reading);
+// specs/Listing has the definition.
 use derived::version_of;
+use own::read_list;
 use parse::Answer;
-use parse::parse;
 use words::refusals;
 ghost use mathlib.Core.Path.{_≡_};
 ghost use lib.ListN.{length};
-ghost use Rattle.molang.specs.Words.{operatorField, wordsRefusal};
 ghost use Rattle.molang.specs.Parse.{told, treeIn, messagesIn};
 ghost use Rattle.parse.specs.Answers.{toldOf};
-ghost use Rattle.treelist.specs.Listing.{turnedBack, refusalOf, Counted, Readable, readingOf, faultOf, answerOf};
+ghost use Rattle.treelist.specs.Listing.{turnedBack, refusalOf, Counted, faultOf, answerOf};
 
 // The most words of a list.
 const MOST_WORDS: usize = 640;
@@ -47,32 +43,6 @@ fn asked(bytes: usize, first: u32) -> Request
     Request::List(words)
 }
 
-// Reads a list at its exact used set, its highest span end being the source length, however deep it is nested. `answer` calls it where
-// `asked` found no fault.
-fn read(list: &[u32], version: i16, tree: &mut [u32], messages: &mut [u32]) -> Answer
-    requires { ⌜ Readable (now list) (now tree) (now messages) ⌝ }
-    ensures { λ r. ⌜ toldOf r ≡ told (wordsRefusal 0 operatorField 0 (now (list .entry))) (readingOf (now (list .entry)) version) ⌝ }
-    ensures { λ _. ⌜ now (tree .exit) ≡ treeIn (wordsRefusal 0 operatorField 0 (now (list .entry)))
-        (readingOf (now (list .entry)) version) (now (tree .entry)) ⌝ }
-    ensures { λ _. ⌜ now (messages .exit) ≡ messagesIn (wordsRefusal 0 operatorField 0 (now (list .entry)))
-        (readingOf (now (list .entry)) version) (now (messages .entry)) ⌝ }
-{
-    let mut work = [0u32; 8256];
-    let used = used_of(list);
-    let source = highest_end(list);
-    parse(
-        list,
-        tree,
-        messages,
-        &mut work,
-        source as u64,
-        version,
-        used.low,
-        used.high,
-        MOST_LIMIT,
-    )
-}
-
 // The answer to an input of so many bytes, whose front is these words. A tree or messages are left in their buffers, which are of the
 // lengths that `listing` gives them.
 pub fn answer(words: &[u32], bytes: usize, tree: &mut [u32], messages: &mut [u32]) -> Answer
@@ -87,6 +57,10 @@ pub fn answer(words: &[u32], bytes: usize, tree: &mut [u32], messages: &mut [u32
     let wanted = asked(bytes, first);
     match wanted {
         Request::Refused(number) => Answer::Refused(number, 0),
-        Request::List(n) => read(&words[1..n + 1], version_of(first), tree, messages),
+        Request::List(n) => {
+            let mut work = [0u32; 8256];
+            let version = version_of(first);
+            read_list(&words[1..n + 1], tree, messages, &mut work, version)
+        }
     }
 }

@@ -1,15 +1,13 @@
 // The program `treelist` of document 01: reads the words of a version and of up to 128 tokens, and prints the tree, the messages or
-// the refusal. `main` only reads and writes; which text answers which bytes is the promise of `listing`. Leans on io, derived, text and
-// parse.
+// the refusal. `main` only reads and writes; which text answers which bytes is the promise of the function `listing`. Leans on io, own
+// (the reading), listing (the words of bytes, the text) and derived.
 mod asked;
-mod front;
-mod rows;
 
 use crate::asked::answer;
-use crate::front::words_of;
-use crate::rows::put_answer;
 use libc::STDIN_FILENO;
 use libc::STDOUT_FILENO;
+use listing::bytes::words_of;
+use listing::rows::put_answer;
 ghost use mathlib.Core.Path.{_≡_};
 ghost use Prim.Native.Nat.{_≤_};
 ghost use lib.ListN.{length};
@@ -29,11 +27,12 @@ fn listing(front: &[u8], bytes: usize, out: &mut [u8]) -> usize
     ensures { λ r. ⌜ Counts r (now (out .exit)) ⌝ }
     ensures { λ r. ⌜ Wrote (now (out .entry)) 0 (printed bytes (now (front .entry))) r (now (out .exit)) ⌝ }
 {
-    let words = words_of(front);
+    let mut words = [0u32; 641];
+    words_of(front, &mut words);
     let mut tree = [0u32; 2688];
     let mut messages = [0u32; 16];
     let answered = answer(&words, bytes, &mut tree, &mut messages);
-    put_answer(out, answered, &tree, &messages)
+    put_answer(out, 0, answered, &tree, &messages)
 }
 
 // Reads on; how many bytes came.

@@ -4,7 +4,7 @@
 ghost use mathlib.Core.Path.{_≡_};
 ghost use Prim.Native.Nat.{_/_, _%_, _^_};
 ghost use Rattle.molang.specs.Operator.{isOperator};
-ghost use Rattle.molang.specs.Words.{word, kindOf, lowOf};
+ghost use Rattle.molang.specs.Words.{word, kindOf, lowOf, operatorBits};
 ghost use Rattle.words.specs.Fields.{operatorOf, variantOf, halfOf, valueOf, withOperator};
 
 // A word is its kind times this, and what stands in bits 0-28.
@@ -114,6 +114,13 @@ pub fn operator_word(op: u32) -> u32
     ensures { λ r. ⌜ r ≡ word 1 (op % 2 ^ 8) ⌝ }
 {
     OPERATOR * KIND + op % 256
+}
+
+// A word of kind 1 for a number of up to twelve bits, a host's too, with payload variant 0.
+pub fn number_word(n: u32) -> u32
+    ensures { λ r. ⌜ r ≡ word 1 (operatorBits (n % 2 ^ 12) 0) ⌝ }
+{
+    OPERATOR * KIND + n / 256 % 16 * 4096 + n % 256
 }
 
 // The word of kind 1 with op, which is below 256, in place of its operator.

@@ -1,5 +1,5 @@
-// The numbers of the refusals that reading a list, writing a tree, export and import can meet: of document 01's table, 16 of document
-// 02's card 5, 17 and 18 of its card 8, 24 and 25 of its card 14. Leans on nothing.
+// The numbers of the refusals that reading a list, writing a tree, every short list, export and import can meet: of document 01's table,
+// 16 of document 02's card 5, 17 and 18 of its card 8, 19 and 20 of its card 9, 24 and 25 of its card 14. Leans on nothing.
 
 pub const LIST_NOT_WHOLE: u32 = 1;
 
@@ -36,6 +36,10 @@ pub const SHORT_RULE_BUFFER: u32 = 16;
 pub const LIMIT_OUT_OF_RANGE: u32 = 17;
 
 pub const NESTED_TOO_DEEP: u32 = 18;
+
+pub const NO_ALPHABET: u32 = 19;
+
+pub const NO_LIST: u32 = 20;
 
 pub const NOT_ONE_STACK: u32 = 24;
 

@@ -63,12 +63,12 @@ pub static ONE_OF_EACH: Alphabet = alphabet(
 
 impl Alphabet {
     /// Every list of up to `most` operators before the ending, short ones first.
-    pub fn every_list(&'static self, most: usize) -> impl Iterator<Item = Vec<u16>> {
+    pub fn every_list(&self, most: usize) -> impl Iterator<Item = Vec<u16>> {
         (0..=most).flat_map(|len| self.every_list_of(len))
     }
 
     /// Every list of `len` operators before the ending.
-    pub fn every_list_of(&'static self, len: usize) -> impl Iterator<Item = Vec<u16>> {
+    pub fn every_list_of(&self, len: usize) -> impl Iterator<Item = Vec<u16>> {
         let count = self.ops.len().pow(len as u32);
         (0..count).map(move |number| {
             let mut left = number;

@@ -5,7 +5,8 @@ use mir.Facts.{toZ-ofZ}
 use Rattle.molang.specs.Parse.{Call}
 use Rattle.parse.specs.Answers.{call, HasParsed}
 use Rattle.reread.specs.Answers.{rereading}
-use Rattle.reread.proofs.CallLaws.{same-call, has-reread}
+use Rattle.own.proofs.CallLaws.{same-call}
+use Rattle.reread.proofs.CallLaws.{has-reread}
 use borrow.Author.Needs.{needs}
 use Rattle.reread.proofs.reread.Statement.{statement}
 use Rattle.reread.proofs.reread.Tie as tie

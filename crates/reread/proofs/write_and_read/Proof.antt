@@ -1,17 +1,16 @@
 -- `reread::write_and_read` meets its contract: what was written is legal and is handed on as far as it goes. Assumes nothing.
-use Prim.Native.Nat.{ℕ, _*_, _≤_}
-use mathlib.Core.Path.{_≡_, sym, ap, subst, _∙_}
-use mathlib.Core.List.{List}
+use Prim.Native.Nat.{_*_, _≤_}
+use mathlib.Core.Path.{_≡_, sym, ap, _∙_}
 use native.Mathlib.Omega.{arith}
 use mir.Facts.{toZ-ofZ}
 use lib.ListN.{length, take, length-take}
 use Rattle.molang.specs.WriteEntry.{tokens, writeAnswered, listAfter}
 use Rattle.molang.specs.Reread.{Handed, writerCall}
-use Rattle.molang.proofs.Reread.{tree-room}
+use Rattle.molang.proofs.Reread.{Readable, tree-room}
 use Rattle.write.specs.Answers.{told}
 use Rattle.reread.specs.Answers.{handedOf}
-use Rattle.reread.specs.Promises.{CanRead}
-use Rattle.reread.proofs.CallLaws.{written-room, list-readable, has-unwritten, has-written}
+use Rattle.own.proofs.CallLaws.{same-call}
+use Rattle.reread.proofs.CallLaws.{exact-call, written-list, written-room, has-unwritten, has-written}
 use borrow.Author.Needs.{needs}
 use Rattle.reread.proofs.write_and_read.Statement.{statement}
 use Rattle.reread.proofs.write_and_read.Tie as tie
@@ -61,6 +60,12 @@ module _ (c : tie.After-known-told2) where
       let s = c .before .before .before .before .before .before .before .before .before .before .before .before .before in
       rw (list-left (c .before .before .before .before .before)) (written-room (given s) (s .args .nodes) (c .before .wrote2 .given .0 .0) (s .pre) wrote)
 
+  readable : Readable (take (5 * (c .before .wrote2 .given .0 .0)) (c .before .before .before .before .before .write .last .1 .0)) (c .before .wrote2 .given .0 .0)
+  readable =
+      let s = c .before .before .before .before .before .before .before .before .before .before .before .before .before in
+      let count = c .before .wrote2 .given .0 .0 in
+      rw (list-left (c .before .before .before .before .before)) (written-list (given s) (s .args .nodes) count (s .pre) wrote)
+
 mul-end : tie.Need-mul-end
 mul-end c = omega (arith, room c)
 
@@ -74,12 +79,7 @@ slice-aggregate-read-exactly c =
     omega (arith, room (c .before), length-take n list)
 
 read-exactly-requires : tie.Need-read-exactly-requires
-read-exactly-requires c κs =
-    let at = c .before .before .before .before in
-    let s = at .before .before .before .before .before .before .before .before .before .before .before .before .before in
-    let count = at .before .wrote2 .given .0 .0 in
-    subst (λ (l : List ℕ). CanRead (take (5 * count) l)) (sym (list-left (at .before .before .before .before .before)))
-    (list-readable (given s) (s .args .nodes) count (s .pre) (wrote at))
+read-exactly-requires c κs = search needs
 
 after-second-requires : tie.Need-after-second-requires
 after-second-requires c κs = search needs
@@ -112,8 +112,12 @@ returns-2 c =
     let at = c .before .before .before .before .before .before .before .before .before .before .before .before in
     let w = at .before .before .before .before .before in
     let s = w .before .before .before .before .before .before .before .before in
-    has-written (given s) (s .args .nodes) (w .write .last .1 .0) (list-left w) (at .before .wrote2 .given .0 .0) (wrote at) (c .after-second .result)
-    (rw (toZ-ofZ (s .fits .version)) at (c .before .before .before .before .before .before .before .read-exactly .ensures))
+    let h = given s in
+    let count = at .before .wrote2 .given .0 .0 in
+    let list = w .write .last .1 .0 in
+    has-written h (s .args .nodes) list (list-left w) count (wrote at) (c .after-second .result)
+    (same-call (exact-call (take (5 * count) list) count (readable at) (h .again) (h .messages) (h .work) (h .sourceLength) (toZ-ofZ (s .fits .version)) (h .limit))
+    (c .before .before .before .before .before .before .before .read-exactly .ensures))
     (c .after-second .ensures)
 
 pub write-and-read-spec : {M : Type 1} → statement M

@@ -1,11 +1,13 @@
 -- `treelist::listing` meets its contract: the words of the bytes, the answer to them, its text. Assumes nothing.
-use mathlib.Core.Path.{_≡_, sym}
-use lib.ListN.{length}
+use mathlib.Core.Path.{sym}
 use lib.Seq.{length-take-le}
 use Rattle.treelist.proofs.AskedLaws.{printable, listed}
 use borrow.Author.Needs.{needs}
 use Rattle.treelist.proofs.listing.Statement.{statement}
 use Rattle.treelist.proofs.listing.Tie as tie
+
+slice-aggregate-words-of : tie.Need-slice-aggregate-words-of
+slice-aggregate-words-of c = search needs
 
 words-of-requires : tie.Need-words-of-requires
 words-of-requires c κs = search needs
@@ -30,28 +32,31 @@ slice-aggregate-put-answer-2 c = search needs
 
 put-answer-requires : tie.Need-put-answer-requires
 put-answer-requires c κs =
-    let words = c .before .before .before .before .before .before .before .before .before .words-of .result in
-    let size : length words ≡ 641 = search needs in
-    let answered = c .before .before .before .before .before .answer .ensures .0 in
-    (search needs, rw answered (printable (c .before .before .before .before .before .before .before .before .before .before .before .before .args .bytes) words size))
+    let answer = c .before .before .before .before .before .answer in
+    let words = c .before .before .before .before .before .before .before .before .before .before .words-of .last .1 .0 in
+    let start = c .before .before .before .before .before .before .before .before .before .before .before .before .before .before in
+    rw (answer .ensures .0)
+    (printable (start .args .bytes) words (start .args .out .now) (answer .last .1 .1 .0) (answer .last .1 .1 .1 .0) (search needs) (search needs)
+    (search needs) (search needs))
 
 same-length : tie.Need-same-length
 same-length c = search needs
 
 returns : tie.Need-returns
 returns c =
-    let start = c .before .before .before .before .before .before .before .before .before .before .before .before .before .before .before in
+    let start = c .before .before .before .before .before .before .before .before .before .before .before .before .before .before .before .before .before in
+    let words = c .before .before .before .before .before .before .before .before .before .before .before .before .before .words-of in
     let answered = c .before .before .before .before .before .before .before .before .answer .ensures in
     let put = c .before .before .put-answer .ensures in (
       (put .0, sym (length-take-le _ _ (put .0))),
-      rw (listed (start .args .bytes) (start .args .front .now) (c .before .before .before .before .before .before .before .before .before .before .before .before .words-of .result) _ _ _ (c .before .before .before .before .before .before .before .before .before .before .before .before .words-of .ensures) (answered .0) (answered .1 .0)
-          (answered .1 .1)) at (put .1),
+      rw (listed (start .args .bytes) (start .args .front .now) (words .last .1 .0) _ _ _ (words .ensures) (answered .0) (answered .1 .0) (answered .1 .1)) at (put .1),
     )
 
 pub listing-spec : {M : Type 1} → statement M
 listing-spec =
     tie.close
     (tie.spec
+    slice-aggregate-words-of
     words-of-requires
     slice-aggregate-answer
     slice-aggregate-answer-2

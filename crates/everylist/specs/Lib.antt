@@ -1,0 +1,3 @@
+-- What the program prints, as definitions.
+pub mod EveryList
+pub mod Steps

@@ -1,0 +1,3 @@
+-- What the programs read and print of a list, as definitions.
+pub mod Rows
+pub mod Lists
