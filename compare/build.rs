@@ -7,7 +7,7 @@ use std::env;
 use std::path::PathBuf;
 
 /// The programs that are run.
-const PROGRAMS: [&str; 2] = ["treelist", "everylist"];
+const PROGRAMS: [&str; 3] = ["treelist", "everylist", "liftcount"];
 
 fn main() {
     find_library();

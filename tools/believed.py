@@ -30,6 +30,8 @@ ENTRIES = [
     ("sorbrudder", "src/lib.rt", "sorbrudder_import"),
     ("treelist", "src/main.rt", "listing"),
     ("everylist", "src/step.rt", "step_at"),
+    ("liftcount", "src/feed.rt", "feed"),
+    ("liftcount", "src/finish.rt", "finish"),
 ]
 # `use Rattle.CRATE.specs.MODULE.{NAMES}`, with the part named twice within the crate itself; in code with `ghost` and `;`.
 USE = re.compile(r"(?:ghost )?use Rattle·(\w+)(?:·\w+)?\.(?:specs\.)?(specs|proofs|declared)\.([\w.]+?)(?:\.\{(.*)\})?(?: as (\w+))?;?$")

@@ -7,6 +7,8 @@ pub mod comparison;
 pub mod everylist;
 #[cfg(library)]
 pub mod library;
+pub mod lift_archives;
+pub mod liftcount;
 #[cfg(library)]
 pub mod lifting_again;
 pub mod listing;

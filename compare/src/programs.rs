@@ -5,7 +5,7 @@ use std::env;
 use std::fs::{self, File};
 use std::io::Write;
 use std::path::PathBuf;
-use std::process::{self, Command, Stdio};
+use std::process::{self, Child, Command, Stdio};
 use std::thread;
 use std::time::Instant;
 
@@ -36,6 +36,13 @@ impl Program {
         Some(program)
     }
 
+    /// Starts it, with pipes.
+    pub fn spawn(&self) -> Child {
+        let mut command = Command::new(&self.path);
+        command.stdin(Stdio::piped()).stdout(Stdio::piped());
+        command.spawn().expect("the program starts")
+    }
+
     /// What it prints to an input.
     pub fn run(&self, input: &[u8]) -> String {
         self.run_pieces([input])
@@ -46,11 +53,7 @@ impl Program {
         &self,
         pieces: impl IntoIterator<Item = &'p [u8], IntoIter: Send>,
     ) -> String {
-        let mut child = Command::new(&self.path)
-            .stdin(Stdio::piped())
-            .stdout(Stdio::piped())
-            .spawn()
-            .expect("the program starts");
+        let mut child = self.spawn();
         let mut input = child.stdin.take().expect("its input is a pipe");
         let pieces = pieces.into_iter();
         // Beside the reading of its output, which would fill the pipe of a program that prints before its input has ended.

@@ -1,4 +1,5 @@
-//! The smallest call that still shows a difference, found by taking tokens out and making the rest plain.
+//! The smallest call that still shows a difference, found by taking tokens out and making the rest plain; and the smallest input of a
+//! program.
 
 use oracle::hosts::STAND_IN;
 use oracle::nesting::MOST_NESTING;
@@ -78,6 +79,24 @@ fn plainer(mut call: Call, differs: &mut impl FnMut(&Call) -> bool) -> Call {
     call
 }
 
+/// Takes out runs of bytes for as long as the input still differs.
+pub fn smallest_input(mut input: Vec<u8>, differs: impl Fn(&[u8]) -> bool) -> Vec<u8> {
+    let mut run = input.len();
+    while run > 0 {
+        let mut at = 0;
+        while at + run <= input.len() {
+            let less = [&input[..at], &input[at + run..]].concat();
+            if differs(&less) {
+                input = less;
+            } else {
+                at += run;
+            }
+        }
+        run /= 2;
+    }
+    input
+}
+
 /// The call as a person reads it.
 pub fn shown(call: &Call) -> String {
     let ops: Vec<u16> = call
@@ -105,6 +124,16 @@ pub fn shown(call: &Call) -> String {
 mod tests {
     use super::*;
     use oracle::generate::Mixed;
+
+    #[test]
+    fn only_the_bytes_that_make_the_difference_are_left() {
+        let input: Vec<u8> = (0..=255).cycle().take(10_000).collect();
+        let mut least = smallest_input(input, |input| {
+            input.contains(&7) && input.iter().filter(|byte| **byte == 200).count() > 1
+        });
+        least.sort_unstable();
+        assert_eq!(least, [7, 200, 200]);
+    }
 
     #[test]
     fn only_what_makes_the_difference_is_left() {

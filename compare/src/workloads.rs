@@ -102,6 +102,24 @@ fn random_expression(len: usize, seed: u64) -> Vec<u16> {
     ops
 }
 
+/// A random expression of exactly so many tokens.
+fn random_of(len: usize, seed: u64) -> Vec<u16> {
+    let mut rng = Rng::new(17 + seed);
+    let mut ops = vec![61];
+    while ops.len() < len {
+        let mut part = vec![*rng.pick(&[9, 31, 20, 6, 50, 57, 56, 53, 54])];
+        put_valid(&mut rng, &mut part, 2);
+        if ops.len() + part.len() <= len {
+            ops.extend(part);
+        }
+        if ops.len() + 1 == len {
+            // No part is so short.
+            ops.truncate(1);
+        }
+    }
+    ops
+}
+
 fn random_script(len: usize, seed: u64) -> Vec<u16> {
     let mut rng = Rng::new(13 + seed);
     let mut ops = Vec::new();
@@ -170,6 +188,21 @@ pub fn short() -> Vec<Workload> {
     vec![
         one("typical expression", &EXPRESSION),
         one("typical script", &script(320)),
+    ]
+}
+
+/// Lists of 31 tokens, which `liftcount` is timed over: a typical expression again and again, and random ones.
+pub fn of_31_tokens() -> Vec<Workload> {
+    let random = (0..2_048).map(|seed| case(&random_of(31, seed), 6));
+    vec![
+        Workload {
+            name: "typical expression",
+            cases: vec![case(&EXPRESSION, 6)],
+        },
+        Workload {
+            name: "random expressions",
+            cases: random.collect(),
+        },
     ]
 }
 

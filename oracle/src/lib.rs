@@ -88,6 +88,18 @@ pub fn answer_if_at_hand(case: &Case) -> Option<Answer> {
     }
 }
 
+/// The tree that the Rust makes of a case, with where each node closes, or none where it has messages; `None` where its source was not
+/// at hand.
+pub fn tree_if_at_hand(case: &Case) -> Option<Option<Vec<words::TreeNode>>> {
+    #[cfg(molangx)]
+    return Some(closing::tree(case));
+    #[cfg(not(molangx))]
+    {
+        let _ = case;
+        None
+    }
+}
+
 /// Builds the Rust's list of a case, groups it and drops what came of it: what is timed of the Rust. Whether it is a
 /// tree, or `None` where the source was not at hand. No token of the case has payload variant 12, and none is a host's.
 pub fn grouped_if_at_hand(case: &Case) -> Option<bool> {

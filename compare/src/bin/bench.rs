@@ -6,7 +6,7 @@
 //! ratio M, greatest growth G`, of reading. Where `SORBRUDDER_BEFORE` names the folder of another archive when this is built,
 //! that library is timed in the same rounds (docs/notes/bench.md). Reading is timed under the greatest nesting limit, and long
 //! lists that nest less also under the limit 64, call by call in turn. Call by call in turn reading is also timed with rules and
-//! without. The program `everylist` is timed where it is built.
+//! without. The programs `everylist` and `liftcount` are timed where they are built, the latter beside the Rust's two readings.
 //!
 //!     bench [ROUNDS]
 
@@ -891,7 +891,9 @@ mod timed {
         timed.print_stack_order();
         timed.print_noise();
         timed.print_beside_before();
-        program_times::everylist(rounds.div_ceil(8).max(1));
+        let runs = rounds.div_ceil(8).max(1);
+        program_times::everylist(runs);
+        program_times::liftcount(runs);
         let (least, mean) = ratios(timed.read());
         if oracle::COMPARED {
             println!("least ratio {least:.2}, mean ratio {mean:.2}, greatest growth {greatest:.2}");

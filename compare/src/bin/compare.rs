@@ -1,8 +1,8 @@
 //! The long comparison (`make compare`): reading through the C convention beside the Rust, reading with rules beside the Rust whose
 //! passes mark the nodes, writing trees beside the second writer, export and import beside their model and each other, reading and writing,
 //! the written lists of these and of the trees lifted further, and reading, writing and reading again with one payload changed; and what the
-//! program `everylist` prints, where it is built. The last line is `N lists, 0 differences`; a difference ends the run with a status that is
-//! not 0, after the smallest list that shows it.
+//! programs `everylist` and `liftcount` print, where they are built. The last line is `N lists, 0 differences`; a difference ends the run
+//! with a status that is not 0, after the smallest list that shows it.
 //!
 //!     compare [LISTS] [SEED]
 
@@ -47,6 +47,8 @@ mod run {
     use compare::calls;
     use compare::comparison::Comparison;
     use compare::everylist::{Asked, list_text};
+    use compare::lift_archives::Archives;
+    use compare::liftcount::{self, Counts};
     use compare::lifting_again::{Library as Lifts, Lifting};
     use compare::matching::Matching;
     use compare::numbers::Numbers;
@@ -59,6 +61,7 @@ mod run {
     use compare::rereading::{Lists, Reread, reread};
     use compare::rule_calls;
     use compare::ruling::Ruling;
+    use compare::smallest::smallest_input;
     use compare::stack_model::{Reordered, on_deep_stack};
     use compare::writer_model::Written;
     use oracle::generate::Rng;
@@ -185,6 +188,7 @@ mod run {
             one_node,
             chains,
             every_short_list,
+            lift_counts,
         ] {
             let written = part(lists as u64 / 5, seed);
             let (Ok(count) | Err((count, _))) = written;
@@ -587,5 +591,38 @@ mod run {
             "" => Ok(()),
             _ => Err(format!("everylist prints more than the lists of {asked:?}")),
         }
+    }
+
+    /// Has `liftcount` go through random archives, a tenth of `count`, beside what the Rust reads their lists as.
+    fn lift_counts(count: u64, seed: u64) -> Result<u64, (u64, String)> {
+        let Some(program) = Program::built("liftcount", "compared") else {
+            return Ok(0);
+        };
+        let mut progress = Progress::new("lists of random archives, counted by liftcount");
+        let (mut counts, mut refused, mut bytes) = (Counts::default(), 0, 0);
+        for input in Archives::new(seed).take(count as usize / 10) {
+            let differs = |input: &[u8]| program.run(input) != liftcount::printed(input);
+            if differs(&input) {
+                let input = smallest_input(input, differs);
+                let (found, wanted) = (program.run(&input), liftcount::printed(&input));
+                let difference =
+                    format!("liftcount prints {found:?} and not {wanted:?} for {input:02x?}");
+                return Err((progress.done, difference));
+            }
+            bytes += input.len();
+            match liftcount::Lists::of(&input).and_then(|lists| lists.verdicts()) {
+                Ok(verdicts) => {
+                    verdicts.iter().for_each(|_| progress.one_more());
+                    counts = counts.plus(&Counts::of(verdicts));
+                }
+                Err(_) => refused += 1,
+            }
+        }
+        let (done, archives) = (progress.done, count / 10);
+        progress.end(&format!(
+            "{archives} archives of {bytes} bytes, {refused} turned back; the same tree {}, different trees {}, a message at one version {}, at both {}",
+            counts.same, counts.different, counts.one, counts.both
+        ));
+        Ok(done)
     }
 }

@@ -1,0 +1,122 @@
+-- What a list comes to at both versions: words beside each other, one by one; the trees in two buffers; the checks before the reading.
+-- Assumes nothing.
+use Prim.Native.Nat.{ℕ, suc, _+_, _*_, _/_, _%_, _≤_, _<_}
+use mathlib.Core.Path.{_≡_, refl, ap, sym, _∙_}
+use mathlib.Core.Bool.{true, false, and-false}
+use mathlib.Core.List.{List, [], _∷_}
+use mathlib.Core.Option.{Option, none, some}
+use native.Mathlib.Numerals.{add-one}
+use native.Mathlib.Omega.{arith}
+use lib.Dec.{eqb}
+use lib.IntN.{ℤ}
+use lib.ListN.{length, take, drop, getD}
+use lib.Seq.{drop-cons, drop-length, take-at}
+use borrow.Author.Tests.{eq-eqb, ne-eqb, eqb-true, eqb-false, le-leb, lt-leb}
+use Rattle.molang.specs.FirstFailure.{must, firstOf}
+use Rattle.molang.specs.Forest.{Forest, nil, node, size}
+use Rattle.molang.specs.Words.{Refusal, operatorField, wordsRefusal, tokensOf, treeWords}
+use Rattle.molang.specs.Read.{Answer, tree, messages}
+use Rattle.molang.specs.Parse.{told, inFront, treeIn}
+use Rattle.molang.proofs.Booleans.{either}
+use Rattle.molang.proofs.Bounds.{Bounded, fewNodes, fewMessages, read-bounded, treeWords-length}
+use Rattle.molang.proofs.FirstFailure.{last-one}
+use Rattle.molang.proofs.ListWords.{tokens-count}
+use Rattle.derived.specs.Derived.{named, highest}
+use Rattle.own.specs.Own.{readingOf}
+use Rattle.liftcount.specs.declared.judge.Verdict.the-variants.{Refused, Different}
+use Rattle.liftcount.specs.Counting.{eqWords}
+use Rattle.liftcount.specs.Running.{openFault}
+use Rattle.liftcount.specs.Judging.{treesBy, verdictOn, judged, Holds, treesTold, verdictTold}
+
+-- WORDS BESIDE EACH OTHER, one by one
+module _ (xs ys : List ℕ) (i : ℕ) where
+  pub words-equal : i < length xs → i < length ys → getD xs i 0 ≡ getD ys i 0
+      → eqWords (drop i xs) (drop i ys) ≡ eqWords (drop (i + 1) xs) (drop (i + 1) ys)
+  unfolding eqWords
+  words-equal h k e =
+      rw (add-one i, drop-cons xs i 0 h, drop-cons ys i 0 k, eq-eqb (getD xs i 0) (getD ys i 0) e) refl
+
+  pub words-differ : i < length xs → i < length ys → (getD xs i 0 ≡ getD ys i 0 → ⊥) → eqWords (drop i xs) (drop i ys) ≡ false
+  unfolding eqWords
+  words-differ h k e = rw (drop-cons xs i 0 h, drop-cons ys i 0 k, ne-eqb (getD xs i 0) (getD ys i 0) e) refl
+
+  pub words-end : length xs ≡ i → length ys ≡ i → eqWords (drop i xs) (drop i ys) ≡ true
+  unfolding eqWords
+  words-end h k = rw (
+    ap (λ (n : ℕ). drop n xs) (sym h) ∙ drop-length xs,
+    ap (λ (n : ℕ). drop n ys) (sym k) ∙ drop-length ys,
+  ) refl
+
+-- Words of another count differ.
+counts-differ : (xs ys : List ℕ) → (length xs ≡ length ys → ⊥) → eqWords xs ys ≡ false
+unfolding eqWords
+counts-differ [] [] h = absurd (h refl)
+counts-differ [] (y ∷ ys) h = refl
+counts-differ (x ∷ xs) [] h = refl
+counts-differ (x ∷ xs) (y ∷ ys) h = rw (counts-differ xs ys (λ e. h (ap suc e))) (and-false (eqb x y))
+
+-- TWO TREES in front of their buffers.
+tree-front : (f : Forest) (n : ℕ) (buffer : List ℕ) → n ≡ size f → take (7 * n) (inFront (treeWords f) buffer) ≡ treeWords f
+unfolding inFront
+tree-front f n buffer e =
+    take-at (treeWords f) (drop (length (treeWords f)) buffer) (7 * n) (omega (arith, treeWords-length f, e))
+
+trees-told : (f g : Forest) (b d : List ℕ)
+    → treesTold (size f) (size g) (inFront (treeWords f) b) (inFront (treeWords g) d) ≡ treesBy (eqWords (treeWords f) (treeWords g))
+unfolding treesTold
+trees-told f g b d =
+    either (eqb (size f) (size g)) (λ e.
+    rw (e, treesTold) (rw (tree-front f (size f) b refl, tree-front g (size f) d (eqb-true (size f) (size g) e)) refl)) (λ e.
+    rw (e, treesTold)
+    (rw (counts-differ (treeWords f) (treeWords g)
+    (λ l. eqb-false (size f) (size g) e (omega (arith, l, treeWords-length f, treeWords-length g)))) refl))
+
+-- The same by the code's tests.
+module _ (n m : ℕ) (first second : List ℕ) where
+  pub trees-other : (n ≡ m → ⊥) → Different ≡ treesTold n m first second
+  unfolding treesTold
+  trees-other h = rw (ne-eqb n m h, treesTold) refl
+
+  pub trees-by : n ≡ m → treesBy (eqWords (take (7 * n) first) (take (7 * n) second)) ≡ treesTold n m first second
+  unfolding treesTold
+  trees-by h = rw (eq-eqb n m h, treesTold) refl
+
+-- What is told of two readings, and the trees in their buffers, are the verdict.
+pub verdict-told : (fault : Option Refusal) (first second : Answer) (b d : List ℕ)
+    → verdictTold (told fault first) (told fault second) (treeIn fault first b) (treeIn fault second d) ≡ judged fault first second
+unfolding told treeIn judged verdictOn
+verdict-told (some r) first second b d = refl
+verdict-told none (tree k cs) (tree l ds) b d = trees-told (node k cs nil) (node l ds nil) b d
+verdict-told none (tree k cs) (messages ms) b d = refl
+verdict-told none (messages ms) (tree l ds) b d = refl
+verdict-told none (messages ms) (messages ns) b d = refl
+
+-- A tree of at most three nodes to a token has room in its buffer.
+bounded-holds : {n : ℕ} {answer : Answer} (fault : Option Refusal) → Bounded n answer → (buffer : List ℕ) → 7 * n ≤ length buffer
+    → Holds (told fault answer) buffer
+unfolding told
+bounded-holds (some r) bound buffer h = tt
+bounded-holds none (fewNodes k) buffer h = omega arith
+bounded-holds none (fewMessages k l) buffer h = tt
+
+pub holds : (fault : Option Refusal) (list : List ℕ) (version : ℤ) (buffer : List ℕ) → 21 * (length list / 5) ≤ length buffer
+    → Holds (told fault (readingOf list version)) buffer
+unfolding readingOf
+holds fault list version buffer h =
+    bounded-holds fault (read-bounded (tokensOf list) (named operatorField list) version (highest operatorField 0 list)) buffer
+    (omega (arith, tokens-count list))
+
+-- THE CHECKS before the reading.
+module _ (words : ℕ) (list : List ℕ) where
+  pub not-whole : (words % 5 ≡ 0 → ⊥) → (first second : Answer) → Refused 1 0 ≡ judged (openFault words list) first second
+  unfolding openFault must firstOf judged
+  not-whole h first second = rw (ne-eqb (words % 5) 0 h) refl
+
+  pub too-many : words % 5 ≡ 0 → 640 < words → (first second : Answer) → Refused 2 0 ≡ judged (openFault words list) first second
+  unfolding openFault must firstOf judged
+  too-many whole h first second = rw (eq-eqb (words % 5) 0 whole, lt-leb words 640 h) refl
+
+  pub open-fault : words % 5 ≡ 0 → words ≤ 640 → openFault words list ≡ wordsRefusal 0 operatorField 0 (take words list)
+  unfolding openFault must firstOf
+  open-fault whole h =
+      rw (eq-eqb (words % 5) 0 whole, le-leb words 640 h) (last-one (wordsRefusal 0 operatorField 0 (take words list)))

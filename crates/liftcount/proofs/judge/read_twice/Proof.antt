@@ -1,0 +1,70 @@
+-- `liftcount::judge::read_twice` meets its contract: two readings, and what they come to. Assumes nothing.
+use mathlib.Core.Path.{_∙_}
+use native.Mathlib.Omega.{arith}
+use mir.Facts.{toZ-ofZ}
+use Rattle.molang.specs.Words.{operatorField, wordsRefusal}
+use Rattle.own.specs.Own.{readingOf}
+use Rattle.liftcount.specs.Judging.{judged, verdictTold}
+use Rattle.liftcount.proofs.JudgeLaws.{holds, verdict-told}
+use borrow.Author.Needs.{needs}
+use Rattle.liftcount.proofs.judge.read_twice.Statement.{statement}
+use Rattle.liftcount.proofs.judge.read_twice.Tie as tie
+
+read-list-requires : tie.Need-read-list-requires
+read-list-requires c κs = search needs
+
+read-list-requires-2 : tie.Need-read-list-requires-2
+read-list-requires-2 c κs = search needs
+
+compared-requires : tie.Need-compared-requires
+compared-requires c κs =
+    let second = c .before .before .before .before .before .before .before .before in
+    let first = second .before .before .before .before .before .before .before .before .before .before in
+    let start = first .before .before .before .before .before .before .before .before .before in
+    let list = start .args .list .now in
+    let fault = wordsRefusal 0 operatorField 0 list in
+    let one = first .read-list in
+    let two = second .read-list2 in (
+      rw (one .ensures .0) (holds fault list _ (one .last .1 .0) (omega (arith, one .kept .1 .0, start .pre .0 .treeRoom))),
+      rw (two .ensures .0) (holds fault list _ (two .last .1 .0) (omega (arith, two .kept .1 .0, start .pre .1 .treeRoom))),
+    )
+
+same-length : tie.Need-same-length
+same-length c = search needs
+
+same-length-2 : tie.Need-same-length-2
+same-length-2 c = search needs
+
+same-length-3 : tie.Need-same-length-3
+same-length-3 c = search needs
+
+same-length-4 : tie.Need-same-length-4
+same-length-4 c = search needs
+
+returns : tie.Need-returns
+returns c =
+    let again = c .before .before .before .before .before .before .before .before .before in
+    let once = again .before .before .before .before .before .before .before .before .before .before in
+    let start = once .before .before .before .before .before .before .before .before .before in
+    let a = start .args in
+    let list = a .list .now in
+    let fault = wordsRefusal 0 operatorField 0 list in
+    let first = once .read-list .ensures in
+    let second = again .read-list2 .ensures in
+    c .compared .ensures
+    ∙ (λ i. verdictTold (first .0 i) (second .0 i) (first .1 .0 i) (second .1 .0 i))
+    ∙ verdict-told fault (readingOf list _) (readingOf list _) (a .tree .now) (a .again .now)
+    ∙ (λ i. judged fault (readingOf list (toZ-ofZ (start .fits .from) i)) (readingOf list (toZ-ofZ (start .fits .to) i)))
+
+pub read-twice-spec : {M : Type 1} → statement M
+read-twice-spec =
+    tie.close
+    (tie.spec
+    read-list-requires
+    read-list-requires-2
+    compared-requires
+    same-length
+    same-length-2
+    same-length-3
+    same-length-4
+    returns)

@@ -1,0 +1,95 @@
+-- `liftcount::judge::same_words` meets its contract. The invariant: the words from `i` on are equal just where all are. Assumes nothing.
+use Prim.Native.Nat.{_-_, _≤_}
+use mathlib.Core.Path.{_≡_, refl, sym, _∙_}
+use native.Mathlib.Omega.{arith}
+use lib.ListN.{length, take, drop}
+use lib.Seq.{length-take-le, getD-take}
+use Rattle.liftcount.specs.Counting.{eqWords}
+use Rattle.liftcount.proofs.JudgeLaws.{words-equal, words-differ, words-end}
+use Rattle.liftcount.proofs.judge.same_words.Statement.{statement}
+use Rattle.liftcount.proofs.judge.same_words.Tie as tie
+
+abbrev Inv-loop : tie.InvT-loop
+Inv-loop tree again words i₀ i =
+    (i ≤ words) × (eqWords (take words tree) (take words again) ≡ eqWords (drop i (take words tree)) (drop i (take words again)))
+
+abbrev μ-loop : tie.MeasureT-loop
+μ-loop tree again words i₀ i = words - i
+
+loop-holds : tie.Need-loop-holds Inv-loop μ-loop
+loop-holds c = (omega arith, refl)
+
+mul-if1 : tie.Need-mul-if1 Inv-loop μ-loop
+mul-if1 c = omega arith
+
+shared-slice-read-if1 : tie.Need-shared-slice-read-if1 Inv-loop μ-loop
+shared-slice-read-if1 c = omega arith
+
+mul-if1-2 : tie.Need-mul-if1-2 Inv-loop μ-loop
+mul-if1-2 c = omega arith
+
+shared-slice-read-if1-2 : tie.Need-shared-slice-read-if1-2 Inv-loop μ-loop
+shared-slice-read-if1-2 c = omega arith
+
+returns : tie.Need-returns Inv-loop μ-loop
+returns c =
+    let start = c .before .before .before .before .before in
+    let tree = start .args .tree .now in
+    let again = start .args .again .now in
+    let words = start .args .words in
+    let at = c .before .before .before .before .loop in
+    let one : length (take words tree) ≡ words = length-take-le words tree (start .pre .0) in
+    let two : length (take words again) ≡ words = length-take-le words again (start .pre .1) in
+    sym
+    (at .inv .1
+    ∙ words-differ (take words tree) (take words again) (at .i) (omega arith) (omega arith)
+    (rw (getD-take words tree (at .i) 0 (omega arith), getD-take words again (at .i) 0 (omega arith)) (c .if1 .taken)))
+
+add-i : tie.Need-add-i Inv-loop μ-loop
+add-i c = omega arith
+
+loop-less : tie.Need-loop-less Inv-loop μ-loop
+loop-less c = omega arith
+
+loop-again : tie.Need-loop-again Inv-loop μ-loop
+loop-again c =
+    let start = c .before .before .before .before .before in
+    let tree = start .args .tree .now in
+    let again = start .args .again .now in
+    let words = start .args .words in
+    let at = c .before .before .before .before .loop in
+    let one : length (take words tree) ≡ words = length-take-le words tree (start .pre .0) in
+    let two : length (take words again) ≡ words = length-take-le words again (start .pre .1) in (
+      omega arith,
+      at .inv .1
+          ∙ words-equal (take words tree) (take words again) (at .i) (omega arith) (omega arith)
+          (rw (getD-take words tree (at .i) 0 (omega arith), getD-take words again (at .i) 0 (omega arith)) (c .if1 .left)),
+    )
+
+returns-2 : tie.Need-returns-2 Inv-loop μ-loop
+returns-2 c =
+    let start = c .before .before in
+    let tree = start .args .tree .now in
+    let again = start .args .again .now in
+    let words = start .args .words in
+    let at = c .before .loop in
+    let one : length (take words tree) ≡ words = length-take-le words tree (start .pre .0) in
+    let two : length (take words again) ≡ words = length-take-le words again (start .pre .1) in
+    sym (at .inv .1 ∙ words-end (take words tree) (take words again) (at .i) (omega arith) (omega arith))
+
+pub same-words-spec : {M : Type 1} → statement M
+same-words-spec =
+    tie.close
+    (tie.spec
+    Inv-loop
+    μ-loop
+    loop-holds
+    mul-if1
+    shared-slice-read-if1
+    mul-if1-2
+    shared-slice-read-if1-2
+    returns
+    add-i
+    loop-less
+    loop-again
+    returns-2)
