@@ -1,27 +1,26 @@
--- Rules by operators and by words: the table's numbers as an arm of a `match` finds them, the rules of nodes in a row one by one, and that
--- the words of legal trees give the definition's rules by operator. Assumes nothing.
-use Prim.Native.Nat.{ℕ, zero, suc, _+_, _*_, _/_, _^_, _≤_, _<_}
-use mathlib.Core.Path.{_≡_, refl, ap, sym, _∙_, subst}
-use mathlib.Core.Bool.{Bool, true, false, _&&_, _||_}
+-- Rules by operators and by words: the table that the code looks rules up in, the rules of nodes in a row one by one, and that the words of
+-- legal trees give the definition's rules by operator. Assumes nothing.
+use Prim.Native.Nat.{ℕ, zero, suc, _+_, _*_, _/_, _^_, _≤_, _<_, min}
+use mathlib.Core.Path.{_≡_, refl, ap, sym, _∙_}
+use mathlib.Core.Bool.{Bool, true, false, _&&_, and-false}
 use mathlib.Core.List.{List, [], _∷_, _++_, append-assoc, append-nil}
-use mathlib.Core.Logic.{_⊎_, inl, inr}
 use native.Mathlib.Nat.{zero-add}
 use native.Mathlib.Omega.{arith}
-use lib.Dec.{T, eqb}
+use lib.Dec.{T, eqb, leb, ltb, eqb→eq, ltb→lt}
 use lib.ListN.{length, getD, take, set}
 use lib.Seq.{getD-append-add, take-all}
-use borrow.Author.Tests.{eqb-true, ne-eqb}
-use types.Run.{OneOf}
-use Rattle.molang.specs.Operator.{logicalEqual, logicalNotEqual, isOneOf, isMathCall}
+use borrow.Author.Tests.{ne-eqb, leb-true, leb-false}
+use Rattle.molang.specs.Operator.{logicalEqual, logicalNotEqual, between, isMathCall}
 use Rattle.molang.specs.Forest.{Token, Forest, nil, node, count, unclosed, closedBy}
 use Rattle.molang.specs.Words.{word, lowOf, tokenOf, tokenWords, nodeWordsOf, treeWords}
 use Rattle.molang.specs.Parse.{inFront}
 use Rattle.molang.specs.Legal.{Legal, LegalTrees, noTrees, legalTree}
 use Rattle.molang.specs.Rules.{numberBeside}
 use Rattle.molang.specs.OperatorRules.{operatorNumbers, operatorRule, operatorRules}
-use Rattle.molang.proofs.Booleans.{false-true}
+use Rattle.molang.proofs.RoundTrip.Role.{no-math}
 use Rattle.molang.proofs.Words.{low-word, token-back}
-use Rattle.ops.proofs.OperatorLaws.{and-left, and-right, passes, true-at, Apart, apart, none-of}
+use Rattle.ops.specs.Classes.{upTo}
+use Rattle.ops.proofs.OperatorLaws.{and-left, and-right, passes, passes-at}
 use Rattle.words.specs.Fields.{operatorOf}
 use Rattle.words.specs.Records.{laidAt}
 use Rattle.words.proofs.RecordLaws.{none-laid, laid-front}
@@ -30,67 +29,55 @@ use Rattle.rules.specs.Nodes.{nodeRule, wordRules}
 
 -- ---- the table
 
--- The number of each operator of a range, by one computed test.
-pub number-at : (v lo k : ℕ) → T (passes (λ n. eqb v (numberBeside n operatorNumbers)) lo k) → (n : ℕ) → lo ≤ n → n < lo + k
-    → v ≡ numberBeside n operatorNumbers
-number-at v lo k t n from to =
-    eqb-true v (numberBeside n operatorNumbers) (sym (true-at (λ n. eqb v (numberBeside n operatorNumbers)) lo k t n from to))
+-- The rule of each number up to 111.
+abbrev table : Bool → List ℕ
+table first = upTo 112 (operatorRule first)
 
--- What is left after arms of single numbers, the last arm first: the number is none of any arm's.
-abbrev pub Left : List (List ℕ) → ℕ → Type 0
-Left [] n = Unit {0}
-Left (arm ∷ earlier) n = Left earlier n × (OneOf arm n → ⊥)
+-- It has them by one computed test.
+entry-at : (first : Bool) (n : ℕ) → n ≤ 111 → getD (table first) n 0 ≡ operatorRule first n
+unfolding upTo between isMathCall numberBeside operatorRule
+entry-at first n h =
+    eqb→eq (getD (table first) n 0) (operatorRule first n)
+    (passes-at (λ n. eqb (getD (table first) n 0) (operatorRule first n)) 0 112 (all first) n (omega arith) (omega arith))
+  where
+    all : (first : Bool) → T (passes (λ n. eqb (getD (table first) n 0) (operatorRule first n)) 0 112)
+    all true = tt
+    all false = tt
 
--- All numbers of these arms.
-abbrev pub keysOf : List (List ℕ) → List ℕ
-keysOf [] = []
-keysOf (arm ∷ earlier) = arm ++ keysOf earlier
+-- Each number that has one beside it is below k.
+abbrev below : ℕ → List (ℕ × ℕ) → Bool
+below k [] = true
+below k (entry ∷ entries) = ltb (entry .0) k && below k entries
 
-apart-then : (os ps : List ℕ) (n : ℕ) → Apart n os → Apart n ps → Apart n (os ++ ps)
-apart-then [] ps n a b = b
-apart-then (o ∷ os) ps n a b = (a .0, apart-then os ps n (a .1) b)
-
-pub left-apart : (arms : List (List ℕ)) (os : List ℕ) (n : ℕ) → Left arms n → Apart n os → Apart n (keysOf arms ++ os)
-left-apart [] os n l a = a
-left-apart (arm ∷ earlier) os n l a =
-    rw (append-assoc arm (keysOf earlier) os)
-    (apart-then arm (keysOf earlier ++ os) n (none-of arm n (l .1)) (left-apart earlier os n (l .0) a))
-
--- Each number that has one beside it is of the list.
-abbrev pub among : List ℕ → List (ℕ × ℕ) → Bool
-among os [] = true
-among os (entry ∷ entries) = isOneOf os (entry .0) && among os entries
-
--- A number apart from a list of them all has none.
-pub unlisted : (entries : List (ℕ × ℕ)) (os : List ℕ) (n : ℕ) → T (among os entries) → Apart n os → 0 ≡ numberBeside n entries
+-- Then a number from k on has none.
+unlisted : (entries : List (ℕ × ℕ)) (k n : ℕ) → T (below k entries) → k ≤ n → numberBeside n entries ≡ 0
 unfolding numberBeside
-unlisted [] os n t a = refl
-unlisted (entry ∷ entries) os n t a =
-    let one = and-left (isOneOf os (entry .0)) (among os entries) t in
-    let other : entry .0 ≡ n → ⊥ = λ e. subst T (ap (isOneOf os) e ∙ sym (apart os n a)) one in
-    rw (numberBeside, ne-eqb (entry .0) n other) (unlisted entries os n (and-right (isOneOf os (entry .0)) (among os entries) t) a)
+unlisted [] k n t h = refl
+unlisted (entry ∷ entries) k n t h =
+    let here = ltb (entry .0) k in
+    let low = ltb→lt (entry .0) k (and-left here (below k entries) t) in
+    rw (numberBeside, ne-eqb (entry .0) n (λ e. omega arith)) (unlisted entries k n (and-right here (below k entries) t) h)
 
--- ---- the rule of an operator
+-- A number above the operators has no rule.
+no-rule : (first : Bool) (n : ℕ) → 111 ≤ n → 0 ≡ operatorRule first n
+unfolding operatorRule
+no-rule first n h =
+    rw (operatorRule, no-math n h, ne-eqb n logicalEqual (λ e. omega arith), ne-eqb n logicalNotEqual (λ e. omega arith), and-false first)
+    (sym (unlisted operatorNumbers 111 n tt h))
 
--- A math call, an equality where comparisons come first, and any other operator.
-module _ (first : Bool) (n : ℕ) where
-  pub math-rule : isMathCall n ≡ true → 7 ≡ operatorRule first n
-  unfolding operatorRule
-  math-rule math = rw (operatorRule, math)
-
-  pub equality-rule : isMathCall n ≡ false → first ≡ true → (eqb n logicalEqual || eqb n logicalNotEqual) ≡ true → 13 ≡ operatorRule first n
-  unfolding operatorRule
-  equality-rule math comes equality = rw (operatorRule, math, comes, equality)
-
-  pub listed-rule : isMathCall n ≡ false → ((eqb n logicalEqual || eqb n logicalNotEqual) ≡ false) ⊎ (first ≡ false)
-      → numberBeside n operatorNumbers ≡ operatorRule first n
-  unfolding operatorRule
-  listed-rule math o = rw (operatorRule, math, either-false first (eqb n logicalEqual || eqb n logicalNotEqual) o)
-    where
-      either-false : (a b : Bool) → (b ≡ false) ⊎ (a ≡ false) → (a && b) ≡ false
-      either-false true b (inl e) = e
-      either-false true b (inr e) = false-true (sym e)
-      either-false false b o = refl
+-- So the rule of any number stands at the lesser of it and 111.
+pub rule-in : (first : Bool) (n : ℕ) → getD (table first) (min n 111) 0 ≡ operatorRule first n
+rule-in first n = go (leb n 111) refl
+  where
+    go : (b : Bool) → leb n 111 ≡ b → getD (table first) (min n 111) 0 ≡ operatorRule first n
+    go true e =
+        let low = leb-true n 111 e in
+        let own : min n 111 ≡ n = omega arith in
+        rw own (entry-at first n low)
+    go false e =
+        let high = leb-false n 111 e in
+        let last : min n 111 ≡ 111 = omega arith in
+        rw last (entry-at first 111 (omega arith) ∙ (sym (no-rule first 111 (omega arith)) ∙ no-rule first n (omega arith)))
 
 -- ---- nodes in a row
 

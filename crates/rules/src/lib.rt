@@ -43,15 +43,12 @@ fn fill(nodes: &[u32], rules: &mut [u8], comparisons_first: bool)
     requires { ⌜ length (now nodes) / 7 ≤ length (now rules) ⌝ }
     ensures { λ _. ⌜ now (rules .exit) ≡ inFront (wordRules «comparisons_first» (now (nodes .entry))) (now (rules .entry)) ⌝ }
 {
+    let table = rule::table(comparisons_first);
     let count = nodes.len() / fields::NODE_WORDS;
     let mut i = 0usize;
     while i < count {
         let at = fields::NODE_WORDS * i;
-        rules[i] = rule::of_node(
-            nodes[at],
-            nodes[at + fields::COUNT_FIELD],
-            comparisons_first,
-        );
+        rules[i] = rule::of_node(&table, nodes[at], nodes[at + fields::COUNT_FIELD]);
         i += 1;
     }
 }

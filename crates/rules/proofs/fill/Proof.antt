@@ -9,15 +9,18 @@ use Rattle.rules.proofs.fill.Statement.{statement}
 use Rattle.rules.proofs.fill.Tie as tie
 
 abbrev Inv-loop : tie.InvT-loop
-Inv-loop nodes rules₀ comparisons-first count i₀ rules i =
+Inv-loop nodes rules₀ comparisons-first table count i₀ rules i =
     (i ≤ length nodes / 7) × (length rules ≡ length rules₀) × LaidTo comparisons-first nodes rules₀ i rules
 
 abbrev μ-loop : tie.MeasureT-loop
-μ-loop nodes rules₀ comparisons-first count i₀ rules i = length nodes / 7 - i
+μ-loop nodes rules₀ comparisons-first table count i₀ rules i = length nodes / 7 - i
+
+table-requires : tie.Need-table-requires Inv-loop μ-loop
+table-requires c κs = search needs
 
 loop-holds : tie.Need-loop-holds Inv-loop μ-loop
 loop-holds c =
-    let start = c .before .before in
+    let start = c .before .before .before in
     (omega arith, refl, laid-none (start .args .comparisons-first) (start .args .nodes .now) (start .args .rules .now) (start .pre))
 
 mul-at : tie.Need-mul-at Inv-loop μ-loop
@@ -52,15 +55,16 @@ loop-less c = omega arith
 
 loop-again : tie.Need-loop-again Inv-loop μ-loop
 loop-again c =
-    let at = c .before .before .before .before in
-    let start = at .before .before .before in
+    let at = c .before .before .before .before .before in
+    let table = at .before .table in
+    let start = at .before .before .before .before in
     let a = start .args in
     let i = at .loop .i in
     let v = at .loop .inv in
     let rule = c .of-node in
     let laid =
     laid-on (a .comparisons-first) (a .nodes .now) (a .rules .now) (start .pre) i (rule .result) (at .loop .rules) (omega arith)
-    (rule .ensures) (v .2)
+    (rule .ensures (a .comparisons-first) (table .ensures)) (v .2)
     in
     (omega arith, length-set (at .loop .rules) i (rule .result) ∙ v .1, laid)
 
@@ -70,7 +74,7 @@ same-length c = c .before .loop .inv .1
 returns : tie.Need-returns Inv-loop μ-loop
 returns c =
     let at = c .before in
-    let start = at .before .before .before in
+    let start = at .before .before .before .before in
     let a = start .args in
     laid-all (a .comparisons-first) (a .nodes .now) (a .rules .now) (start .pre) (at .loop .i) (at .loop .rules) (omega arith)
     (at .loop .inv .2)
@@ -81,6 +85,7 @@ fill-spec =
     (tie.spec
     Inv-loop
     μ-loop
+    table-requires
     loop-holds
     mul-at
     mul-of-node
