@@ -194,30 +194,35 @@ fn faulty_words(trials: &mut Vec<Trial>) {
         let words = asked.words();
         for place in 0..words.len() {
             for bit in 16..32 {
-                let mut faulty = words.clone();
-                faulty[place] |= 1 << bit;
-                let what = format!("{name}, bit {bit} of word {place}");
-                trials.push(Trial::refused(what, bytes(&faulty), 8, 0));
+                // Beside the bits that the word has, and alone.
+                for fault in [words[place] | 1 << bit, 1 << bit] {
+                    let mut faulty = words.clone();
+                    faulty[place] = fault;
+                    let what = format!("{name}, {fault:#x} at {place}");
+                    trials.push(Trial::refused(what, bytes(&faulty), 8, 0));
+                }
             }
         }
     }
 }
 
-/// Words far behind those that are kept are looked at too.
+/// Words far behind those that are kept are looked at too, also where 65,536 bytes end, from the start on or behind eleven words.
 fn words_far_behind(trials: &mut Vec<Trial>) {
-    for count in [
-        10, 11, 12, 13, 16, 641, 16_383, 16_384, 16_385, 16_386, 32_768, 32_769, 40_000,
-    ] {
+    const CHUNK: usize = 16_384;
+    let ends = [CHUNK, CHUNK + 11, 2 * CHUNK, 2 * CHUNK + 11];
+    let about = ends.into_iter().flat_map(|end| [end - 1, end, end + 1]);
+    let few = [10, 11, 12, 13, 16, 641];
+    for count in few.into_iter().chain(about.clone()).chain([40_000]) {
         let mut words = vec![6, 2];
         words.resize(count, 61);
         let what = format!("{count} words");
         trials.push(Trial::refused(&what, bytes(&words), 19, 0));
         let near = [2, 10, 11, 12, count - 2, count - 1].into_iter();
-        let far = [16_382, 16_383, 16_384, 16_385, 32_767, 32_768];
-        for place in near.chain(far).filter(|place| *place < count) {
+        let places = near.chain(about.clone().filter(|_| count == 40_000));
+        for place in places.filter(|place| *place < count) {
             for fault in [1 << 16, 1 << 29, u32::MAX] {
                 let mut faulty = words.clone();
-                faulty[place] |= fault;
+                faulty[place] = fault;
                 let what = format!("{what}, {fault:#x} at {place}");
                 trials.push(Trial::refused(what, bytes(&faulty), 8, 0));
             }

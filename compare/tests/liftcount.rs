@@ -128,12 +128,12 @@ fn heads() -> Vec<Trial> {
     ] {
         for place in [0, 1] {
             for bit in 16..32 {
-                let mut faulty = words.to_vec();
-                faulty[place] |= 1 << bit;
-                refuse(
-                    format!("{name}, bit {bit} of version word {place}"),
-                    &faulty,
-                );
+                // Beside the bits that the word has, and alone.
+                for fault in [words[place] | 1 << bit, 1 << bit] {
+                    let mut faulty = words.to_vec();
+                    faulty[place] = fault;
+                    refuse(format!("{name}, version word {place} {fault:#x}"), &faulty);
+                }
             }
         }
     }
