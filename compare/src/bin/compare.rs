@@ -56,7 +56,6 @@ mod run {
     use compare::payload_pairs::{Library, Pairs, Tally};
     use compare::plain_trees;
     use compare::programs::Program;
-    use compare::reading::Buffers;
     use compare::reordering::{Way, reorder};
     use compare::rereading::{Lists, Reread, reread};
     use compare::rule_calls;
