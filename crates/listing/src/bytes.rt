@@ -11,7 +11,7 @@ pub fn word_of(a: u8, b: u8, c: u8, d: u8) -> u32
     a as u32 + 256 * (b as u32) + 65_536 * (c as u32) + 16_777_216 * (d as u32)
 }
 
-// Fills words with those of the bytes, of which a caller has four to each.
+// Fills words with those of the bytes. `treelist` and `everylist` keep four bytes to each word of theirs.
 pub fn words_of(bytes: &[u8], words: &mut [u32])
     requires { ⌜ length (now bytes) ≡ 4 * length (now words) ⌝ }
     ensures { λ _. ⌜ now (words .exit) ≡ wordsIn (now (bytes .entry)) ⌝ }
