@@ -25,7 +25,7 @@ use Rattle.held.specs.declared.Change.the-variants.{Refused}
 use Rattle.held.specs.Held.{State, Edit, Lent, heldList, edited, sliceRow, countRow, lentCall, editCall, leftBy, openRefusal}
 use Rattle.held.specs.Held.{openLeft, askLeft, commitLeft, opened, withEdit, committed, withVersion}
 use Rattle.held.specs.Answers.{outcomeOf, outcome, changes, isRefused, adoptOutcome, openSlice, HasOpened, HasAsked, HasCommitted}
-use Rattle.held.specs.Editing.{askFault, commitFault, CanEdit, Accepts, CanKeep, kept, keptSlice, counted}
+use Rattle.held.specs.Editing.{askFault, commitFault, CanEdit, Accepts, CanKeep, kept, keptTokens, counted}
 use Rattle.held.proofs.FaultLaws.{Within, ask-refused, ask-entry, commit-refused, commit-entry}
 use Rattle.held.proofs.EditLaws.{edited-tokens}
 use Rattle.held.proofs.KeepLaws.{unrefused, accepts, kept-outcome, kept-slice, slice-of}
@@ -63,7 +63,7 @@ module _ (slice list : List ℕ) (l : Lent) (version : ℤ) where
         record { words = omega (arith, tokens); room = omega (arith, tokens, a .1) }
 
     pub has-opened : {r : Change} {slice' : List ℕ} → outcomeOf r ≡ kept (toldOf answer) h
-        → slice' ≡ keptSlice (toldOf answer) (take (5 * h .tokens) list) slice
+        → slice' ≡ inFront (take (5 * keptTokens (toldOf answer) (h .tokens)) list) slice
         → HasOpened slice list l version r slice' tree' messages' work'
     unfolding openSlice opened openLeft leftBy answered treeAfter messagesAfter workAfter
     has-opened e f =
@@ -75,8 +75,9 @@ module _ (slice list : List ℕ) (l : Lent) (version : ℤ) where
         record {
           outcomes = e ∙ ((λ i. kept (read .told i) (same i)) ∙ rw o (kept-outcome (refusal c) (reading c) _));
           slice = f
-              ∙ ((λ i. keptSlice (read .told i) (take (5 * same i .tokens) list) slice)
-              ∙ rw (o, openSlice) (kept-slice (refusal c) (reading c) _ slice _ (λ n. ap (λ (w : List ℕ). inFront w slice) (whole n))));
+              ∙ ((λ i. inFront (take (5 * keptTokens (read .told i) (same i .tokens)) list) slice)
+              ∙ rw (o, openSlice)
+              (kept-slice (refusal c) (reading c) _ list slice _ (λ n. ap (λ (w : List ℕ). inFront w slice) (whole n))));
           tree = rw o (read .tree);
           messages = rw o (read .messages);
           work = rw o (read .work);
@@ -155,7 +156,7 @@ module _ (s : State) (seen : ℕ) (e : Edit) (l : Lent) where
     pub has-committed : none ≡ commitFault s seen (e .place) (e .removed) → (new : List ℕ) {new' : List ℕ}
         → (Accepts (toldOf answer) → new' ≡ inFront (edited e (heldList s)) new)
         → {r : Change} {slice' : List ℕ} → outcomeOf r ≡ kept (toldOf answer) h
-        → slice' ≡ keptSlice (toldOf answer) (take (5 * h .tokens) new') (s .slice)
+        → slice' ≡ inFront (take (5 * keptTokens (toldOf answer) (h .tokens)) new') (s .slice)
         → HasCommitted s seen e l r slice' tree' messages' work'
     unfolding committed withEdit commitLeft leftBy answered treeAfter messagesAfter workAfter
     has-committed fault new {new'} laid f g =
@@ -169,9 +170,9 @@ module _ (s : State) (seen : ℕ) (e : Edit) (l : Lent) where
         record {
           outcomes = f ∙ ((λ i. kept (read .told i) (same i)) ∙ rw o (kept-outcome (refusal c) (reading c) _));
           slice = g
-              ∙ ((λ i. keptSlice (read .told i) (take (5 * same i .tokens) new') (s .slice))
+              ∙ ((λ i. inFront (take (5 * keptTokens (read .told i) (same i .tokens)) new') (s .slice))
               ∙ rw o
-              (kept-slice (refusal c) (reading c) _ (s .slice) _ (λ n. ap (λ (w : List ℕ). inFront w (s .slice)) (front n))
+              (kept-slice (refusal c) (reading c) _ new' (s .slice) _ (λ n. ap (λ (w : List ℕ). inFront w (s .slice)) (front n))
               ∙ slice-of (refusal c) s (withEdit s e)));
           tree = rw o (read .tree);
           messages = rw o (read .messages);

@@ -1,16 +1,18 @@
 -- A list that is kept where the entry accepted it: when that is, what it comes to, and the slice after it. Assumes nothing.
-use Prim.Native.Nat.{ℕ}
+use Prim.Native.Nat.{ℕ, _*_}
 use mathlib.Core.Path.{_≡_, refl, sym, subst}
 use mathlib.Core.List.{List}
+use native.Mathlib.Omega.{arith}
 use mathlib.Core.Option.{Option, none, some}
+use lib.ListN.{take}
 use Rattle.molang.specs.Words.{Refusal}
 use Rattle.molang.specs.Read.{Answer, tree, messages}
-use Rattle.molang.specs.Parse.{Call, Told, refusal, reading, told, answered, inFront}
+use Rattle.molang.specs.Parse.{Call, Told, aTree, someMessages, refused, refusal, reading, told, answered, inFront}
 use Rattle.molang.proofs.Trees.{some-none}
 use Rattle.held.specs.declared.Held.{Held}
 use Rattle.held.specs.Held.{State}
 use Rattle.held.specs.Answers.{outcome}
-use Rattle.held.specs.Editing.{Accepts, kept, keptSlice}
+use Rattle.held.specs.Editing.{Accepts, CanKeep, kept, keptTokens}
 
 -- ---- A tree or messages are told of the calls that are not turned back, and of no others
 
@@ -43,12 +45,21 @@ kept-outcome none (messages ms) h = refl
 kept-outcome (some r) a h = refl
 
 -- The slice as it was, or the words in front of it.
-pub kept-slice : (o : Option Refusal) (a : Answer) (words slice front : List ℕ) → (o ≡ none → inFront words slice ≡ front)
-    → keptSlice (told o a) words slice ≡ (elim o as (λ o. List ℕ) [ some r ↦ slice | none ↦ front ])
-unfolding told keptSlice
-kept-slice none (tree k cs) words slice front h = h refl
-kept-slice none (messages ms) words slice front h = h refl
-kept-slice (some r) a words slice front h = refl
+pub kept-slice : (o : Option Refusal) (a : Answer) (tokens : ℕ) (list slice front : List ℕ)
+    → (o ≡ none → inFront (take (5 * tokens) list) slice ≡ front)
+    → inFront (take (5 * keptTokens (told o a) tokens) list) slice ≡ (elim o as (λ o. List ℕ) [ some r ↦ slice | none ↦ front ])
+unfolding told keptTokens inFront
+kept-slice none (tree k cs) tokens list slice front h = h refl
+kept-slice none (messages ms) tokens list slice front h = h refl
+kept-slice (some r) a tokens list slice front h = refl
+
+-- There is room for as many as are kept: for none where the list is turned back.
+pub can-keep : (t : Told) (tokens : ℕ) (slice list : List ℕ) → (Accepts t → CanKeep tokens slice list)
+    → CanKeep (keptTokens t tokens) slice list
+unfolding keptTokens
+can-keep (aTree nodes) tokens slice list h = h tt
+can-keep (someMessages records) tokens slice list h = h tt
+can-keep (refused number place) tokens slice list h = record { words = omega arith; room = omega arith }
 
 -- The slice of the state before or after.
 pub slice-of : (o : Option Refusal) (s next : State)

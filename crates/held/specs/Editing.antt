@@ -64,11 +64,11 @@ kept (aTree nodes) h = holds (aTree nodes) h
 kept (someMessages records) h = holds (someMessages records) h
 kept (refused number place) h = turnedBack number place
 
--- The slice after it.
-unfoldable pub keptSlice : Told → List ℕ → List ℕ → List ℕ
-keptSlice (aTree nodes) list slice = inFront list slice
-keptSlice (someMessages records) list slice = inFront list slice
-keptSlice (refused number place) list slice = slice
+-- How many of its tokens are kept.
+unfoldable pub keptTokens : Told → ℕ → ℕ
+keptTokens (aTree nodes) tokens = tokens
+keptTokens (someMessages records) tokens = tokens
+keptTokens (refused number place) tokens = 0
 
 -- What a commit's own rows leave of the held numbers: few tokens, as many as are removed, and a next edit count.
 pub record CanCount (h : Held) (removed : ℕ) : Type 0 where

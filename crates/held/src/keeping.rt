@@ -10,7 +10,7 @@ ghost use lib.ListN.{length, take};
 ghost use Rattle.molang.specs.Parse.{inFront};
 ghost use Rattle.parse.specs.Answers.{toldOf};
 ghost use Rattle.held.specs.Answers.{outcomeOf};
-ghost use Rattle.held.specs.Editing.{Accepts, CanKeep, CanCount, kept, keptSlice, counted};
+ghost use Rattle.held.specs.Editing.{Accepts, CanKeep, CanCount, kept, keptTokens, counted};
 
 // Lays the words of so many tokens in front of the slice. The entry accepted them.
 fn keep_words(tokens: usize, words: &mut [u32], list: &[u32])
@@ -21,23 +21,38 @@ fn keep_words(tokens: usize, words: &mut [u32], list: &[u32])
     copy_words(&list[..end], words, 0);
 }
 
+// How many of a list's tokens are kept: none where the entry turned it back.
+fn kept_tokens(answer: Answer, tokens: usize) -> usize
+    ensures { λ r. ⌜ r ≡ keptTokens (toldOf answer) tokens ⌝ }
+{
+    match answer {
+        Answer::Refused(_, _) => 0,
+        Answer::Tree(_) => tokens,
+        Answer::Messages(_) => tokens,
+    }
+}
+
+// An answer with the held numbers after it.
+fn with_held(answer: Answer, held: Held) -> Change
+    ensures { λ r. ⌜ outcomeOf r ≡ kept (toldOf answer) held ⌝ }
+{
+    match answer {
+        Answer::Refused(number, place) => Change::Refused(number, place),
+        Answer::Tree(nodes) => Change::Tree(nodes, held),
+        Answer::Messages(records) => Change::Messages(records, held),
+    }
+}
+
 // Keeps the held words of a list, unless the entry turned it back.
 pub fn keep(answer: Answer, held: Held, words: &mut [u32], list: &[u32]) -> Change
     requires { ⌜ (Accepts (toldOf answer) → CanKeep (held .tokens) (now words) (now list)) ⌝ }
     ensures { λ r. ⌜ outcomeOf r ≡ kept (toldOf answer) held ⌝ }
-    ensures { λ _. ⌜ now (words .exit) ≡ keptSlice (toldOf answer) (take (5 * held .tokens) (now (list .entry))) (now (words .entry)) ⌝ }
+    ensures { λ _. ⌜ now (words .exit)
+        ≡ inFront (take (5 * keptTokens (toldOf answer) (held .tokens)) (now (list .entry))) (now (words .entry)) ⌝ }
 {
-    match answer {
-        Answer::Refused(number, place) => Change::Refused(number, place),
-        Answer::Tree(nodes) => {
-            keep_words(held.tokens, words, list);
-            Change::Tree(nodes, held)
-        }
-        Answer::Messages(records) => {
-            keep_words(held.tokens, words, list);
-            Change::Messages(records, held)
-        }
-    }
+    let tokens = kept_tokens(answer, held.tokens);
+    keep_words(tokens, words, list);
+    with_held(answer, held)
 }
 
 // The held numbers with an edit made. None of the commit's own rows has answered.
