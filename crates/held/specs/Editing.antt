@@ -6,7 +6,7 @@ use mathlib.Core.Option.{Option, none, some}
 use lib.ListN.{length}
 use Rattle.molang.specs.FirstFailure.{firstOf}
 use Rattle.molang.specs.Words.{Refusal, row}
-use Rattle.molang.specs.Parse.{Told, aTree, someMessages, refused, inFront}
+use Rattle.molang.specs.Parse.{Told, aTree, someMessages, refused}
 use Rattle.held.specs.declared.Held.{Held}
 use Rattle.held.specs.declared.faults.Fault.{Fault}
 use Rattle.held.specs.declared.faults.Fault.the-variants.{None, Refused}

@@ -12,7 +12,7 @@ ghost use Rattle.parse.specs.Answers.{toldOf};
 ghost use Rattle.held.specs.Answers.{outcomeOf};
 ghost use Rattle.held.specs.Editing.{Accepts, CanKeep, CanCount, kept, keptTokens, counted};
 
-// Lays the words of so many tokens in front of the slice. The entry accepted them.
+// Lays the words of so many tokens in front of the slice. `keep` lays no more than the entry accepted.
 fn keep_words(tokens: usize, words: &mut [u32], list: &[u32])
     requires { ⌜ CanKeep tokens (now words) (now list) ⌝ }
     ensures { λ _. ⌜ now (words .exit) ≡ inFront (take (5 * tokens) (now (list .entry))) (now (words .entry)) ⌝ }
