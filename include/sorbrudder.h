@@ -1,5 +1,5 @@
-/* Sorbrudder by the C convention: Molang token lists read into trees, plain trees written as token lists, and trees put into stack order
- * and back.
+/* Sorbrudder by the C convention: Molang token lists read into trees, plain trees written as token lists, trees put into stack order and
+ * back, and lists held open while they are edited.
  *
  * Words. Lists, trees and messages are arrays of 32-bit words. The top three bits of a token's or a node's word are its kind; bits that are
  * not named below are 0.
@@ -32,14 +32,17 @@
  *            BINARY_AT_END, UNKNOWN_OPERATION, UNARY_WITHOUT_OPERAND, TERNARY_WITHOUT_OPERANDS: the operator. The others have none.
  *
  * Buffers are lent as a pointer to words, aligned as a uint32_t is, and their number of words. A buffer that is written overlaps no other
- * buffer of the call, and nobody else writes any of them while the call runs. A pointer is never null, not even beside a length of 0.
+ * buffer of the call, and nobody else writes any of them while the call runs. A pointer is never null, not even beside a length of 0. A
+ * number that a call can change is lent as a pointer to it, and the same holds of it.
  *
  * Threads. The functions keep nothing between calls and have no state of their own: any number of threads may call them at once, each with
  * buffers of its own. The call stack is the caller's to provide, and the proofs say nothing of it: measured, reading takes at most 2 KiB,
- * writing at most 1,000 KiB, export and import at most 1 KiB (docs/notes/host.md).
+ * writing at most 1,000 KiB, export and import at most 1 KiB; of an open list opening takes at most 2 KiB, asking and committing at most
+ * 84 KiB, since they put the new list together there, and a version change nothing worth naming (docs/notes/host.md).
  *
  * An answer is one number. Bits 0-31: the count of nodes, tokens or messages, or a refusal's place. Bits 32-39: a refusal's number, else 0.
- * Bits 40-47: 0 for a tree, in either order, or a written list, 1 for messages, 2 for a refusal. The functions below take it apart.
+ * Bits 40-47: 0 for a tree, in either order, a written list or a changed version, 1 for messages, 2 for a refusal. The functions below take
+ * it apart.
  */
 #ifndef SORBRUDDER_H
 #define SORBRUDDER_H
@@ -83,8 +86,11 @@ extern "C" {
 #define SORBRUDDER_FIRST_HOST 256
 #define SORBRUDDER_LAST_HOST 1023
 
-/* A list in which every tree that can be written has room, in words. */
+/* A list in which every tree that can be written has room, in words; the words of an open list are held in as many. */
 #define SORBRUDDER_LIST_BUFFER (SORBRUDDER_TOKEN_WORDS * SORBRUDDER_MOST_TOKENS)
+
+/* The last edit count of an open list, after which nothing more is committed and no version adopted. */
+#define SORBRUDDER_LAST_EDIT UINT32_C(4294967295)
 
 /* Which word of a token or a node is which. */
 enum sorbrudder_word {
@@ -198,7 +204,7 @@ enum sorbrudder_message {
 /* Why a call is turned back (`sorbrudder_refusal`). */
 enum sorbrudder_refusal_number {
     SORBRUDDER_REFUSAL_NOT_WHOLE = 1,         /* the list's words are no multiple of five */
-    SORBRUDDER_REFUSAL_TOO_MANY_TOKENS = 2,   /* more than 4,096 tokens */
+    SORBRUDDER_REFUSAL_TOO_MANY_TOKENS = 2,   /* more than 4,096 tokens, or held numbers that claim more */
     SORBRUDDER_REFUSAL_TREE_BUFFER = 3,       /* the tree buffer is too short */
     SORBRUDDER_REFUSAL_MESSAGE_BUFFER = 4,    /* the message buffer is too short */
     SORBRUDDER_REFUSAL_WORK_BUFFER = 5,       /* the work buffer is too short */
@@ -211,10 +217,13 @@ enum sorbrudder_refusal_number {
     SORBRUDDER_REFUSAL_NOT_A_TREE = 12,       /* place: the first word that cannot continue a tree, or the word count; 86,016 at the most */
     SORBRUDDER_REFUSAL_NOT_PLAIN = 13,        /* place: the number of the first such node in tree order */
     SORBRUDDER_REFUSAL_WRITTEN_TOO_LONG = 14, /* the written list has more than 4,096 tokens */
-    SORBRUDDER_REFUSAL_LIST_BUFFER = 15,      /* the lent list is too short */
+    SORBRUDDER_REFUSAL_LIST_BUFFER = 15,      /* the lent list is too short, or the words of an open list are fewer than 20,480 */
     SORBRUDDER_REFUSAL_RULE_BUFFER = 16,      /* the rule buffer is too short */
     SORBRUDDER_REFUSAL_LIMIT = 17,            /* a nesting limit that is not 1 to 4,096 */
     SORBRUDDER_REFUSAL_TOO_DEEP = 18,         /* place: the token, counted from 0, with which more brackets are open than the limit */
+    SORBRUDDER_REFUSAL_OTHER_EDIT_COUNT = 21, /* the open list has another edit count than the one seen; place 0, here and below */
+    SORBRUDDER_REFUSAL_PAST_THE_END = 22,     /* an edit's place, or what it removes, is past the end of the open list */
+    SORBRUDDER_REFUSAL_LAST_EDIT = 23,        /* the edit count of the open list is SORBRUDDER_LAST_EDIT */
     SORBRUDDER_REFUSAL_NOT_A_STACK = 24,      /* words in stack order that are not one tree; place as for 12 */
     SORBRUDDER_REFUSAL_OUTPUT_BUFFER = 25     /* the lent output is shorter than the words that are put into the other order */
 };
@@ -261,13 +270,53 @@ uint64_t sorbrudder_export(const uint32_t *tree, size_t tree_words, uint32_t *ou
  * words that are several trees run out, so the place of 24 is then the word count. It is 86,016 at the most. */
 uint64_t sorbrudder_import(const uint32_t *stack, size_t stack_words, uint32_t *output, size_t output_words);
 
+/* An open list is held while somebody types and the version may rise under it. Held are three numbers, `tokens`, `version` and `edits`,
+ * and the list's words in the front of `words`, a slice of at least SORBRUDDER_LIST_BUFFER words; the words after them are the caller's and
+ * stay as they were. All of it is the caller's to keep: a call gets the numbers and the slice as the last one left them. `sorbrudder_held`
+ * below has the three numbers together.
+ *
+ * An edit removes `removed` tokens from the token `place` on, counted from 0 to `tokens`, and puts in the tokens whose words are `put`. It
+ * is asked, which changes nothing held, and then committed with the edit count that was seen when it was asked. Where an accepted commit of
+ * the edit names that count, its answer and its words are those of the ask, over buffers of the same lengths and under the same limit,
+ * whatever was called in between: every change adds one to the count.
+ *
+ * The list is read at its own operator set and its highest span end, as `sorbrudder_used` finds them; the buffers and the limit are those
+ * of `sorbrudder_parse`, at the lengths that the new list asks for. A list is held, and an edit made, whether it reads as a tree or as
+ * messages. Refused, a call changes nothing: no held number, no word of the slice and none of a buffer. */
+
+/* Opens the list of tokens whose words are `list` at a version: reads it, and where it is not refused lays its words into the front of
+ * `words` and sets `tokens` to its count, `held_version` to the version and `edits` to 0.
+ * The answer is that of `sorbrudder_parse`, and so are the buffers after it. Refused, in this order: 15, then as `sorbrudder_parse` is. */
+uint64_t sorbrudder_open(const uint32_t *list, size_t list_words, uint32_t *words, size_t slice_words, size_t *tokens,
+                         int16_t *held_version, uint32_t *edits, uint32_t *tree, size_t tree_words, uint32_t *messages,
+                         size_t message_words, uint32_t *work, size_t work_words, int16_t version, uint32_t limit);
+
+/* Says what the held list would read as with an edit made: answer and buffers are those of `sorbrudder_parse` for the new list. An edit at
+ * place 0 that removes and puts in nothing reads the held list afresh. The edit count to commit with is the one that is held now.
+ * Refused, in this order: 15, 2 where more than 4,096 tokens are claimed, 22, then as `sorbrudder_parse` refuses the new list, in which the
+ * places of 8 to 11 and 18 are counted. */
+uint64_t sorbrudder_ask(size_t tokens, int16_t version, const uint32_t *words, size_t slice_words, size_t place, size_t removed,
+                        const uint32_t *put, size_t put_words, uint32_t *tree, size_t tree_words, uint32_t *messages,
+                        size_t message_words, uint32_t *work, size_t work_words, uint32_t limit);
+
+/* Makes an edit that was asked when the edit count was `seen`: answers as `sorbrudder_ask`, and where it is not refused lays the new list
+ * into the front of `words`, sets `tokens` to its count and adds one to `edits`.
+ * Refused, in this order: 15, 2, 21 where `seen` is not `edits`, 22, 23, then as `sorbrudder_parse` refuses the new list. */
+uint64_t sorbrudder_commit(size_t *tokens, int16_t version, uint32_t *edits, uint32_t seen, uint32_t *words, size_t slice_words,
+                           size_t place, size_t removed, const uint32_t *put, size_t put_words, uint32_t *tree, size_t tree_words,
+                           uint32_t *messages, size_t message_words, uint32_t *work, size_t work_words, uint32_t limit);
+
+/* Adopts the rules of the version `to` over the same words: sets `version` to it and adds one to `edits`. Nothing is read; an ask says what
+ * the list reads as now. Done: 0. Refused: 23. */
+uint64_t sorbrudder_adopt(int16_t *version, uint32_t *edits, int16_t to);
+
 /* The parts of an answer. */
 static inline unsigned sorbrudder_kind(uint64_t answer) { return (unsigned)(answer >> 40); }
 
 /* The count of nodes, tokens or messages; of a refusal, its place. */
 static inline uint32_t sorbrudder_count(uint64_t answer) { return (uint32_t)answer; }
 
-/* Of a refusal: its number, 1-18, 24 or 25. */
+/* Of a refusal: its number, 1-18 or 21-25. */
 static inline unsigned sorbrudder_refusal(uint64_t answer) { return (unsigned)(answer >> 32) & 0xff; }
 
 /* The parts of a token's or a node's words. */
@@ -305,6 +354,40 @@ static inline void sorbrudder_used(const uint32_t *list, size_t list_words, uint
     *used_low = half[0];
     *used_high = half[1];
     *source_length = length;
+}
+
+/* The held numbers of an open list together, and the four calls over them. */
+struct sorbrudder_held {
+    size_t tokens;
+    int16_t version;
+    uint32_t edits;
+};
+
+static inline uint64_t sorbrudder_held_open(struct sorbrudder_held *held, uint32_t *words, size_t slice_words, const uint32_t *list,
+                                            size_t list_words, uint32_t *tree, size_t tree_words, uint32_t *messages,
+                                            size_t message_words, uint32_t *work, size_t work_words, int16_t version, uint32_t limit) {
+    return sorbrudder_open(list, list_words, words, slice_words, &held->tokens, &held->version, &held->edits, tree, tree_words, messages,
+                           message_words, work, work_words, version, limit);
+}
+
+static inline uint64_t sorbrudder_held_ask(const struct sorbrudder_held *held, const uint32_t *words, size_t slice_words, size_t place,
+                                           size_t removed, const uint32_t *put, size_t put_words, uint32_t *tree, size_t tree_words,
+                                           uint32_t *messages, size_t message_words, uint32_t *work, size_t work_words,
+                                           uint32_t limit) {
+    return sorbrudder_ask(held->tokens, held->version, words, slice_words, place, removed, put, put_words, tree, tree_words, messages,
+                          message_words, work, work_words, limit);
+}
+
+static inline uint64_t sorbrudder_held_commit(struct sorbrudder_held *held, uint32_t seen, uint32_t *words, size_t slice_words,
+                                              size_t place, size_t removed, const uint32_t *put, size_t put_words, uint32_t *tree,
+                                              size_t tree_words, uint32_t *messages, size_t message_words, uint32_t *work,
+                                              size_t work_words, uint32_t limit) {
+    return sorbrudder_commit(&held->tokens, held->version, &held->edits, seen, words, slice_words, place, removed, put, put_words, tree,
+                             tree_words, messages, message_words, work, work_words, limit);
+}
+
+static inline uint64_t sorbrudder_held_adopt(struct sorbrudder_held *held, int16_t version) {
+    return sorbrudder_adopt(&held->version, &held->edits, version);
 }
 
 /* SORBRUDDER_ABI_VERSION where the linked library has this header's layout and calls, else 0. It is found by asking the library: a list of

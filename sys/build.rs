@@ -79,9 +79,19 @@ fn link_before() {
     println!("cargo::rustc-cfg=before");
 }
 
-/// All that an archive exports; one from before card 14 has only the first two, one from before card 5 lacks the last, and what it lacks is
-/// not looked for.
-const ENTRIES: [&str; 5] = ["parse", "write", "export", "import", "parse_rules"];
+/// All that an archive exports; one from before card 14 has only the first two, one from before card 5 lacks `parse_rules`, one from before
+/// card 11 the last four, and what it lacks is not looked for.
+const ENTRIES: [&str; 9] = [
+    "parse",
+    "write",
+    "export",
+    "import",
+    "parse_rules",
+    "open",
+    "ask",
+    "commit",
+    "adopt",
+];
 
 fn rename_entries(archive: &Path, renamed: &Path) {
     let done = Command::new("objcopy")

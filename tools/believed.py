@@ -21,6 +21,10 @@ ENTRIES = [
     ("reread", "src/lib.rt", "reread"),
     ("stackorder", "src/lib.rt", "export"),
     ("stackorder", "src/lib.rt", "import"),
+    ("held", "src/lib.rt", "open_list"),
+    ("held", "src/lib.rt", "ask_edit"),
+    ("held", "src/lib.rt", "commit_edit"),
+    ("held", "src/lib.rt", "adopt_version"),
     ("shortlists", "src/lib.rt", "count"),
     ("shortlists", "src/lib.rt", "list_at"),
     ("sorbrudder", "src/lib.rt", "sorbrudder_parse"),
@@ -28,6 +32,10 @@ ENTRIES = [
     ("sorbrudder", "src/lib.rt", "sorbrudder_write"),
     ("sorbrudder", "src/lib.rt", "sorbrudder_export"),
     ("sorbrudder", "src/lib.rt", "sorbrudder_import"),
+    ("sorbrudder", "src/holding.rt", "sorbrudder_open"),
+    ("sorbrudder", "src/holding.rt", "sorbrudder_ask"),
+    ("sorbrudder", "src/holding.rt", "sorbrudder_commit"),
+    ("sorbrudder", "src/holding.rt", "sorbrudder_adopt"),
     ("treelist", "src/main.rt", "listing"),
     ("everylist", "src/step.rt", "step_at"),
     ("liftcount", "src/feed.rt", "feed"),
@@ -42,11 +50,13 @@ APART = {
     "Operator": "the operators' names and sets",
     "Lines": "the table of examples",
 }
-# Files of molang/specs that no entry reaches, with the statement of a theorem of molang/proofs, and whose it is.
+# Files of specs/ that no entry reaches, with the statement of a theorem of the same crate's proofs/, and whose it is.
 STATEMENTS = {
-    "Matching": "the theorem `nothing-lost` says",
-    "Hosts": "the theorem `hostless-same` says",
-    "Payloads": "the theorems `one-name`, `one-name-ruled`, `one-node` and `one-name-on` say",
+    ("molang", "Matching"): "the theorem `nothing-lost` says",
+    ("molang", "Hosts"): "the theorem `hostless-same` says",
+    ("molang", "Payloads"): "the theorems `one-name`, `one-name-ruled`, `one-node` and `one-name-on` say",
+    ("held", "Histories"): "the theorems `afresh` and `as-asked` say",
+    ("held", "Runs"): "the theorems `ran-after`, `words-are`, `asked-afresh` and `committed-as-asked` say",
 }
 
 
@@ -109,9 +119,9 @@ def main():
     for module, what in APART.items():
         if ("molang", module) in by_file:
             rows.append((f"`molang/specs`: {module}", what, lines_of(file_of("molang", "specs", module))))
-    for module, theorem in STATEMENTS.items():
-        if ("molang", module) not in by_file:
-            rows.append((f"`molang/specs`: {module}", f"what {theorem}", lines_of(file_of("molang", "specs", module))))
+    for (crate, module), theorem in STATEMENTS.items():
+        if (crate, module) not in by_file:
+            rows.append((f"`{crate}/specs`: {module}", f"what {theorem}", lines_of(file_of(crate, "specs", module))))
     for crate, module in sorted(key for key in by_file if key[0] != "molang"):
         users = ", ".join(f"`{function}`" for function in sorted(by_file[crate, module]))
         rows.append((f"`{crate}/specs`: {module}", f"what the promise of {users} cites", lines_of(file_of(crate, "specs", module))))

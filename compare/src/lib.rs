@@ -1,10 +1,14 @@
 //! What the library's entries answer and the programs print, beside the Rust (through `oracle`) and models that were written from document
 //! 01 and the cards alone.
 
+#[cfg(library)]
+pub mod ask_times;
 pub mod calls;
 #[cfg(library)]
 pub mod comparison;
 pub mod everylist;
+#[cfg(library)]
+pub mod histories;
 #[cfg(library)]
 pub mod library;
 pub mod lift_archives;

@@ -51,7 +51,8 @@ pub fn parse_rules(
     read(sorbrudder_sys::parse_rules(lent, rules, given))
 }
 
-fn read(answer: Answer) -> Read {
+/// What an entry that reads answers.
+pub(crate) fn read(answer: Answer) -> Read {
     match answer {
         Answer::Filled(nodes) => Read::Tree(nodes),
         Answer::Messages(records) => Read::Messages(records),

@@ -19,9 +19,10 @@
 //! ```
 //!
 //! Real lists come as words, five a token ([`Token`] says how they are laid out), or are put together from [`Token`]s; the notation of
-//! [`Tokens`] is for examples and tests. [`archive`] reads and writes files of lists. What a list means is answered by a static library
-//! that is proved to give what a definition gives, for every list, operator set and version. This crate adds the buffers that the library
-//! asks for, types that its words cannot be wrong in, and nothing that decides an answer.
+//! [`Tokens`] is for examples and tests. [`archive`] reads and writes files of lists, and an editor holds a list open in an [`OpenList`].
+//! What a list means is answered by a static library that is proved to give what a definition gives, for every list, operator set and
+//! version. This crate adds the buffers that the library asks for, types that its words cannot be wrong in, and nothing that decides an
+//! answer.
 
 #![forbid(unsafe_code)]
 #![warn(missing_docs)]
@@ -39,6 +40,7 @@ mod node;
 mod notation;
 mod op;
 mod op_words;
+mod open_list;
 mod reader;
 mod refusal;
 mod rule;
@@ -59,6 +61,7 @@ pub use messages::Messages;
 pub use node::Node;
 pub use notation::NotationError;
 pub use op::{Op, UnknownOp};
+pub use open_list::{Asked, Edit, EditError, OpenList};
 pub use reader::{MOST_TOKENS, ReadError, Reader};
 pub use refusal::Refusal;
 pub use rule::Rule;

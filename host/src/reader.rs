@@ -2,7 +2,7 @@
 
 use crate::token::LOW;
 use crate::{Limit, Messages, Refusal, Token, Tree, TreeRef, Used};
-use sorbrudder_sys::{Answer, Lent, MESSAGE_BUFFER, rule_buffer, tree_buffer, work_buffer};
+use sorbrudder_sys::{Answer, Lent, MESSAGE_BUFFER, Room, rule_buffer, tree_buffer, work_buffer};
 use std::fmt;
 
 /// The most tokens of a list.
@@ -165,34 +165,24 @@ impl Work {
         given: Given,
         tree: &mut Vec<u32>,
     ) -> Result<usize, ReadError> {
-        let tokens = tokens_of(list);
-        let (tree_len, work_len) = (tree_buffer(tokens), work_buffer(tokens));
-        if tree.len() < tree_len {
-            tree.resize(tree_len, 0);
-        }
-        if self.work.len() < work_len {
-            self.work.resize(work_len, 0);
-        }
-        let lent = Lent {
-            list,
-            tree: &mut tree[..tree_len],
-            messages: &mut self.messages,
-            work: &mut self.work[..work_len],
-        };
-        let given = sorbrudder_sys::Given {
+        let asked = sorbrudder_sys::Given {
             source_len: given.source_len,
             version: given.version,
             used: given.used.halves(),
             limit: given.limit.get(),
         };
-        match entry(lent, given) {
+        let answer = self.lend(tokens_of(list), given.limit, tree, |room| {
+            let lent = Lent {
+                list,
+                tree: room.tree,
+                messages: room.messages,
+                work: room.work,
+            };
+            entry(lent, asked)
+        });
+        match answer {
             Answer::Filled(nodes) => Ok(nodes),
-            Answer::Messages(count) => {
-                let messages = Messages::from_records(&self.messages, count);
-                Err(ReadError::Messages(messages.expect(
-                    "the library's records are those of the definition, 1 to 17",
-                )))
-            }
+            Answer::Messages(count) => Err(ReadError::Messages(self.messages(count))),
             Answer::Refused(18, token) => Err(ReadError::TooDeep { token }),
             Answer::Refused(number, place) => {
                 let refusal = Refusal::of(number, place);
@@ -201,6 +191,35 @@ impl Work {
                 )))
             }
         }
+    }
+
+    /// Lends an entry that reads the buffers for so many tokens; its answer.
+    pub(crate) fn lend(
+        &mut self,
+        tokens: usize,
+        limit: Limit,
+        tree: &mut Vec<u32>,
+        entry: impl FnOnce(Room<'_>) -> Answer,
+    ) -> Answer {
+        let (tree_len, work_len) = (tree_buffer(tokens), work_buffer(tokens));
+        if tree.len() < tree_len {
+            tree.resize(tree_len, 0);
+        }
+        if self.work.len() < work_len {
+            self.work.resize(work_len, 0);
+        }
+        entry(Room {
+            tree: &mut tree[..tree_len],
+            messages: &mut self.messages,
+            work: &mut self.work[..work_len],
+            limit: limit.get(),
+        })
+    }
+
+    /// The messages that the last call left, which answered so many.
+    pub(crate) fn messages(&self, count: usize) -> Messages {
+        Messages::from_records(&self.messages, count)
+            .expect("the library's records are those of the definition, 1 to 17")
     }
 }
 

@@ -8,8 +8,9 @@ use std::fmt;
 /// The library's other refusals cannot happen here: 3, 4, 5 and 16 are about buffers, which the reader owns and keeps long
 /// enough, 6 is about bits that a [`Used`](crate::Used) cannot have, and 17 about numbers that are no
 /// [`Limit`](crate::Limit). 18 is [`ReadError::TooDeep`](crate::ReadError::TooDeep): such a list is sound, and too deep for
-/// the engine that it is read for. 12 to 15 are the writer's ([`WriteError`](crate::WriteError)). Of stack order 24 is a
-/// [`NotATree`](crate::NotATree), and 25, about an output that is too short, cannot happen.
+/// the engine that it is read for. 12 to 15 are the writer's ([`WriteError`](crate::WriteError)), 21 to 23 an open list's
+/// ([`EditError`](crate::EditError)). Of stack order 24 is a [`NotATree`](crate::NotATree), and 25, about an output that is too
+/// short, cannot happen.
 ///
 /// ```
 /// use sorbrudder::{ReadError, Reader, Refusal, Used};

@@ -1,5 +1,5 @@
 //! C programs that include the header and link the library: one reads a list, one puts a tree into stack order and runs it there, one says
-//! which rule made each node, one has names of its own, one holds every number of the header to the crate's.
+//! which rule made each node, one has names of its own, one holds a list open, one holds every number of the header to the crate's.
 
 mod common;
 
@@ -94,6 +94,28 @@ const HOST_NAMES: Program = Program {
     ],
 };
 
+const OPEN_LIST: Program = Program {
+    name: "open_list",
+    lines: &[
+        "open: refused 15 0, 9 tokens at 9, 9 edits",
+        "open: refused 1 0, 9 tokens at 9, 9 edits",
+        "open: done 3, 3 tokens at 5, 0 edits",
+        "ask: message 12 at 3-4, 3 tokens at 5, 0 edits",
+        "ask: refused 22 0, 3 tokens at 5, 0 edits",
+        "ask: done 5, 3 tokens at 5, 0 edits",
+        "commit: refused 21 0, 3 tokens at 5, 0 edits",
+        "commit: done 5, 5 tokens at 5, 1 edits",
+        "root 57",
+        "commit: refused 21 0, 5 tokens at 5, 1 edits",
+        "adopt: done 0, 5 tokens at 6, 2 edits",
+        "ask: done 5, 5 tokens at 6, 2 edits",
+        "root 56",
+        "adopt: refused 23 0, 5 tokens at 6, 4294967295 edits",
+        "commit: refused 23 0, 5 tokens at 6, 4294967295 edits",
+        "ask: refused 2 0, 4097 tokens at 6, 4294967295 edits",
+    ],
+};
+
 impl Program {
     fn runs_in_c(&self) {
         self.runs(&c_compiler(), &["-std=c11"], self.name);
@@ -158,6 +180,16 @@ fn a_cpp_program_has_names_of_its_own() {
     HOST_NAMES.runs_in_cpp();
 }
 
+#[test]
+fn a_c_program_holds_a_list_open() {
+    OPEN_LIST.runs_in_c();
+}
+
+#[test]
+fn a_cpp_program_holds_a_list_open() {
+    OPEN_LIST.runs_in_cpp();
+}
+
 /// A name of a Rust variant as the header writes it: `NotWhole` as `NOT_WHOLE`.
 fn snake(name: &str) -> String {
     let mut snake = String::new();
@@ -216,8 +248,16 @@ fn enums() -> Vec<(String, u64)> {
         Refusal::OtherBits { word: 0 },
     ];
     let refusal = |refusal: Refusal| (named("REFUSAL", &variant(refusal)), refusal.number().into());
-    // No rule buffer and no limit of the crate is refused, and a list that is too deep is an error of its own.
-    let others = [("RULE_BUFFER", 16), ("LIMIT", 17), ("TOO_DEEP", 18)];
+    // No rule buffer and no limit of the crate is refused; a list that is too deep, and what only an open list is refused with, are errors
+    // of their own.
+    let others = [
+        ("RULE_BUFFER", 16),
+        ("LIMIT", 17),
+        ("TOO_DEEP", 18),
+        ("OTHER_EDIT_COUNT", 21),
+        ("PAST_THE_END", 22),
+        ("LAST_EDIT", 23),
+    ];
     let others = others.map(|(name, number)| (named("REFUSAL", name), number));
     let rules = Rule::ALL.map(|rule| (named("RULE", &variant(rule)), rule.number().into()));
     let leaf = (named("RULE", "LEAF"), 0);
@@ -250,7 +290,8 @@ fn sizes() -> Vec<(String, u64)> {
         ("FIRST_HOST", usize::from(*Op::HOSTS.start())),
         ("LAST_HOST", usize::from(*Op::HOSTS.end())),
         ("MESSAGE_BUFFER", sorbrudder_sys::MESSAGE_BUFFER),
-        ("LIST_BUFFER", Token::WORDS * sorbrudder::MOST_TOKENS),
+        ("LIST_BUFFER", sorbrudder_sys::HELD_WORDS),
+        ("LAST_EDIT", u32::MAX as usize),
         ("TREE_BUFFER(1)", sorbrudder_sys::tree_buffer(1)),
         ("TREE_BUFFER(4096)", sorbrudder_sys::tree_buffer(4096)),
         ("WORK_BUFFER(1)", sorbrudder_sys::work_buffer(1)),

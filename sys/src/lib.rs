@@ -25,6 +25,8 @@ pub const NODES_PER_TOKEN: usize = 3;
 pub const MOST_NODES: usize = NODES_PER_TOKEN * MOST_TOKENS;
 /// Words of the message buffer: two records.
 pub const MESSAGE_BUFFER: usize = 2 * MESSAGE_WORDS;
+/// Words of the slice that an open list is held in.
+pub const HELD_WORDS: usize = TOKEN_WORDS * MOST_TOKENS;
 
 /// Words of the tree buffer that reading so many tokens asks for.
 pub const fn tree_buffer(tokens: usize) -> usize {
@@ -92,6 +94,60 @@ unsafe extern "C" {
         output: *mut u32,
         output_words: usize,
     ) -> u64;
+    fn sorbrudder_open(
+        list: *const u32,
+        list_words: usize,
+        words: *mut u32,
+        slice_words: usize,
+        tokens: *mut usize,
+        held_version: *mut i16,
+        edits: *mut u32,
+        tree: *mut u32,
+        tree_words: usize,
+        messages: *mut u32,
+        message_words: usize,
+        work: *mut u32,
+        work_words: usize,
+        version: i16,
+        limit: u32,
+    ) -> u64;
+    fn sorbrudder_ask(
+        tokens: usize,
+        version: i16,
+        words: *const u32,
+        slice_words: usize,
+        place: usize,
+        removed: usize,
+        put: *const u32,
+        put_words: usize,
+        tree: *mut u32,
+        tree_words: usize,
+        messages: *mut u32,
+        message_words: usize,
+        work: *mut u32,
+        work_words: usize,
+        limit: u32,
+    ) -> u64;
+    fn sorbrudder_commit(
+        tokens: *mut usize,
+        version: i16,
+        edits: *mut u32,
+        seen: u32,
+        words: *mut u32,
+        slice_words: usize,
+        place: usize,
+        removed: usize,
+        put: *const u32,
+        put_words: usize,
+        tree: *mut u32,
+        tree_words: usize,
+        messages: *mut u32,
+        message_words: usize,
+        work: *mut u32,
+        work_words: usize,
+        limit: u32,
+    ) -> u64;
+    fn sorbrudder_adopt(version: *mut i16, edits: *mut u32, to: i16) -> u64;
 }
 
 /// The parse entry, of this library or of the one before it.
@@ -117,12 +173,13 @@ type WordsEntry = unsafe extern "C" fn(*const u32, usize, *mut u32, usize) -> u6
 /// What an entry answers.
 #[derive(Copy, Clone, Debug, PartialEq, Eq)]
 pub enum Answer {
-    /// So many nodes of a tree, or so many tokens of a list, fill the lent slice's front.
+    /// So many nodes of a tree, or so many tokens of a list, fill the lent slice's front. A version change has no slice, and answers 0.
     Filled(usize),
-    /// So many message records fill the message slice's front. Only the parse entries answer this.
+    /// So many message records fill the message slice's front. Only entries that read answer this.
     Messages(usize),
     /// A refusal's number and place; no lent word was changed. Reading is refused with 1 to 11, 17 and 18, reading with rules with 16 too,
-    /// writing with 12 to 15, export with 12 and 25, import with 24 and 25.
+    /// writing with 12 to 15, export with 12 and 25, import with 24 and 25. Opening a list, asking and committing are refused as reading is
+    /// and with 15, asking with 22 too, committing with 21 to 23 too, and a version change with 23.
     Refused(u32, usize),
 }
 
@@ -164,6 +221,41 @@ pub struct Given {
     pub version: i16,
     /// The used set in two halves, operator 0 being the lowest bit of the first; hosts' own names have none.
     pub used: (u64, u64),
+    /// How many brackets may be open at once, 1 to [`MOST_NESTING`].
+    pub limit: u32,
+}
+
+/// The held numbers of an open list.
+#[derive(Copy, Clone, Debug, Default, PartialEq, Eq)]
+pub struct Held {
+    /// How many tokens the list has.
+    pub tokens: usize,
+    /// The version by whose rules it is read.
+    pub version: i16,
+    /// How many edits were committed and versions adopted since it was opened.
+    pub edits: u32,
+}
+
+/// An edit of an open list.
+#[derive(Copy, Clone, Debug)]
+pub struct Edit<'e> {
+    /// The token from which on tokens are removed, counted from 0 to the list's count.
+    pub place: usize,
+    /// How many tokens are removed.
+    pub removed: usize,
+    /// The words of the tokens that are put in.
+    pub put: &'e [u32],
+}
+
+/// What a reading of an open list is lent, and its nesting limit: all of a [`Lent`] and a [`Given`] that the open list does not have.
+#[derive(Debug)]
+pub struct Room<'b> {
+    /// Where a tree's words go, [`NODE_WORDS`] a node.
+    pub tree: &'b mut [u32],
+    /// Where the words of messages go, [`MESSAGE_WORDS`] a message.
+    pub messages: &'b mut [u32],
+    /// Words to work in; all are zero after a call that is not refused.
+    pub work: &'b mut [u32],
     /// How many brackets may be open at once, 1 to [`MOST_NESTING`].
     pub limit: u32,
 }
@@ -216,6 +308,104 @@ pub fn export(tree: &[u32], output: &mut [u32]) -> Answer {
 #[inline]
 pub fn import(stack: &[u32], output: &mut [u32]) -> Answer {
     words_by(sorbrudder_import, stack, output)
+}
+
+/// Opens a list at a version: reads it, and where that is not refused lays its words into the front of `words` and sets the held numbers.
+#[inline]
+pub fn open(
+    held: &mut Held,
+    words: &mut [u32],
+    list: &[u32],
+    version: i16,
+    room: Room<'_>,
+) -> Answer {
+    // SAFETY: each slice is passed with its own length and each number by its own field, the borrows keep them apart, and the entry keeps
+    // none of them; here and below.
+    Answer::of(unsafe {
+        sorbrudder_open(
+            list.as_ptr(),
+            list.len(),
+            words.as_mut_ptr(),
+            words.len(),
+            &raw mut held.tokens,
+            &raw mut held.version,
+            &raw mut held.edits,
+            room.tree.as_mut_ptr(),
+            room.tree.len(),
+            room.messages.as_mut_ptr(),
+            room.messages.len(),
+            room.work.as_mut_ptr(),
+            room.work.len(),
+            version,
+            room.limit,
+        )
+    })
+}
+
+/// Says what the list that is held in the front of `words` would read as with an edit made. Its edit count is not looked at.
+#[inline]
+pub fn ask(held: Held, words: &[u32], edit: Edit<'_>, room: Room<'_>) -> Answer {
+    // SAFETY: as in `open`.
+    Answer::of(unsafe {
+        sorbrudder_ask(
+            held.tokens,
+            held.version,
+            words.as_ptr(),
+            words.len(),
+            edit.place,
+            edit.removed,
+            edit.put.as_ptr(),
+            edit.put.len(),
+            room.tree.as_mut_ptr(),
+            room.tree.len(),
+            room.messages.as_mut_ptr(),
+            room.messages.len(),
+            room.work.as_mut_ptr(),
+            room.work.len(),
+            room.limit,
+        )
+    })
+}
+
+/// Makes an edit that was asked when the edit count was `seen`: answers as [`ask`], and where that is not refused lays the new list's words
+/// into the front of `words` and sets the held numbers.
+#[inline]
+pub fn commit(
+    held: &mut Held,
+    seen: u32,
+    words: &mut [u32],
+    edit: Edit<'_>,
+    room: Room<'_>,
+) -> Answer {
+    // SAFETY: as in `open`.
+    Answer::of(unsafe {
+        sorbrudder_commit(
+            &raw mut held.tokens,
+            held.version,
+            &raw mut held.edits,
+            seen,
+            words.as_mut_ptr(),
+            words.len(),
+            edit.place,
+            edit.removed,
+            edit.put.as_ptr(),
+            edit.put.len(),
+            room.tree.as_mut_ptr(),
+            room.tree.len(),
+            room.messages.as_mut_ptr(),
+            room.messages.len(),
+            room.work.as_mut_ptr(),
+            room.work.len(),
+            room.limit,
+        )
+    })
+}
+
+/// Adopts the rules of a version over the same words; nothing is read.
+#[inline]
+pub fn adopt(held: &mut Held, version: i16) -> Answer {
+    // SAFETY: as in `open`.
+    Answer::of(unsafe { sorbrudder_adopt(&raw mut held.version, &raw mut held.edits, version) })
 }
 
 #[inline]

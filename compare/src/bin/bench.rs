@@ -6,7 +6,8 @@
 //! ratio M, greatest growth G`, of reading. Where `SORBRUDDER_BEFORE` names the folder of another archive when this is built,
 //! that library is timed in the same rounds (docs/notes/bench.md). Reading is timed under the greatest nesting limit, and long
 //! lists that nest less also under the limit 64, call by call in turn. Call by call in turn reading is also timed with rules and
-//! without. The programs `everylist` and `liftcount` are timed where they are built, the latter beside the Rust's two readings.
+//! without, and asking an edit of an open list beside reading what it leads to. The programs `everylist` and `liftcount` are
+//! timed where they are built, the latter beside the Rust's two readings.
 //!
 //!     bench [ROUNDS]
 
@@ -24,6 +25,7 @@ fn main() {
 
 #[cfg(library)]
 mod timed {
+    use compare::ask_times;
     use compare::library::{Given, Library};
     use compare::program_times;
     use compare::reordering::Way;
@@ -892,6 +894,7 @@ mod timed {
         timed.print_noise();
         timed.print_beside_before();
         let runs = rounds.div_ceil(8).max(1);
+        ask_times::asking(rounds);
         program_times::everylist(runs);
         program_times::liftcount(runs);
         let (least, mean) = ratios(timed.read());

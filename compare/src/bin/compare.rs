@@ -1,8 +1,8 @@
 //! The long comparison (`make compare`): reading through the C convention beside the Rust, reading with rules beside the Rust whose
 //! passes mark the nodes, writing trees beside the second writer, export and import beside their model and each other, reading and writing,
-//! the written lists of these and of the trees lifted further, and reading, writing and reading again with one payload changed; and what the
-//! programs `everylist` and `liftcount` print, where they are built. The last line is `N lists, 0 differences`; a difference ends the run
-//! with a status that is not 0, after the smallest list that shows it.
+//! the written lists of these and of the trees lifted further, reading, writing and reading again with one payload changed, and histories
+//! of open lists; and what the programs `everylist` and `liftcount` print, where they are built. The last line is `N lists, 0 differences`;
+//! a difference ends the run with a status that is not 0, after the smallest list that shows it.
 //!
 //!     compare [LISTS] [SEED]
 
@@ -47,6 +47,7 @@ mod run {
     use compare::calls;
     use compare::comparison::Comparison;
     use compare::everylist::{Asked, list_text};
+    use compare::histories::{self, Histories};
     use compare::lift_archives::Archives;
     use compare::liftcount::{self, Counts};
     use compare::lifting_again::{Library as Lifts, Lifting};
@@ -186,6 +187,7 @@ mod run {
             one_payload_at_every_version,
             one_node,
             chains,
+            open_lists,
             every_short_list,
             lift_counts,
         ] {
@@ -550,6 +552,24 @@ mod run {
             tally.again_equal,
             tally.read_pairs(),
             reached(&tally)
+        ));
+        Ok(done)
+    }
+
+    /// Goes through histories of open lists, a tenth of `count`, beside a list that is edited by hand and what the Rust reads it as.
+    fn open_lists(count: u64, seed: u64) -> Result<u64, (u64, String)> {
+        let mut progress = Progress::new("histories of open lists");
+        let mut histories = Histories::by(histories::Library);
+        for number in 0..count / 10 {
+            let compared = histories.history((seed << 32) + number);
+            compared.map_err(|difference| (progress.done, difference))?;
+            progress.one_more();
+        }
+        let (done, tally) = (progress.done, histories.tally);
+        let refused: u64 = tally.refused.iter().sum();
+        progress.end(&format!(
+            "{} calls: {} trees, {} messages, {} versions adopted, {refused} turned back; {} commits, {} of them answered as asked; {} calls of states that were made up",
+            tally.calls, tally.trees, tally.messages, tally.adopted, tally.commits, tally.as_asked, tally.made_up
         ));
         Ok(done)
     }

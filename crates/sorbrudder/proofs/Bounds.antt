@@ -112,21 +112,29 @@ imported-fits c = split (stackFault 0 operatorField 0 (record { done = 0; begun 
 -- ---- THE PARSE ENTRY
 
 -- The answer to a call, by a table that turns back all that the entry's does.
-answer-fits : (c : Call) (o : Option Refusal) → (o ≡ none → refusal c ≡ none) → All (Within 18 20480) o → FitsTold (told o (reading c))
+pub answer-fits : (c : Call) (o : Option Refusal) → (o ≡ none → refusal c ≡ none) → All (Within 23 20480) o → FitsTold (told o (reading c))
 unfolding told reading
 answer-fits c o accepted within = split o (reading c) accepted refl within
   where
-    split : (o : Option Refusal) (a : read.Answer) → (o ≡ none → refusal c ≡ none) → reading c ≡ a → All (Within 18 20480) o
+    split : (o : Option Refusal) (a : read.Answer) → (o ≡ none → refusal c ≡ none) → reading c ≡ a → All (Within 23 20480) o
         → FitsTold (told o a)
     split (some r) a e f x = (omega (arith, x .0), omega (arith, x .1))
     split none (read.tree k cs) e f x = omega (arith, call-accepted c (e refl) .few, read-tree _ _ _ _ k cs f)
     split none (read.messages ms) e f x = omega (arith, read-messages _ _ _ _ ms f .1)
 
+-- Numbers up to 18 are among those up to 23.
+more-numbers : (o : Option Refusal) → All (Within 18 20480) o → All (Within 23 20480) o
+more-numbers none x = tt
+more-numbers (some r) x = (omega (arith, x .0), x .1)
+
+pub entry-within : (c : Call) → All (Within 23 20480) (refusal c)
+entry-within c = more-numbers (refusal c) (refusal-within c)
+
 pub told-fits : (c : Call) → FitsTold (answered c)
 unfolding answered
-told-fits c = answer-fits c (refusal c) (λ e. e) (refusal-within c)
+told-fits c = answer-fits c (refusal c) (λ e. e) (entry-within c)
 
 -- The same with a rule buffer.
 pub ruled-fits : (c : RuleCall) → FitsTold (ruleAnswered c)
 unfolding ruleAnswered
-ruled-fits c = answer-fits (c .call) (ruleRefusal c) (rule-accepted c) (rule-refusal-within c)
+ruled-fits c = answer-fits (c .call) (ruleRefusal c) (rule-accepted c) (more-numbers (ruleRefusal c) (rule-refusal-within c))

@@ -1,5 +1,6 @@
-// The numbers of the refusals that reading a list, writing a tree, every short list, export and import can meet: of document 01's table,
-// 16 of document 02's card 5, 17 and 18 of its card 8, 19 and 20 of its card 9, 24 and 25 of its card 14. Leans on nothing.
+// The numbers of the refusals that reading a list, writing a tree, every short list, an open list, export and import can meet: of document
+// 01's table, 16 of document 02's card 5, 17 and 18 of its card 8, 19 and 20 of its card 9, 21 to 23 of its card 11, 24 and 25 of its card
+// 14. Leans on nothing.
 
 pub const LIST_NOT_WHOLE: u32 = 1;
 
@@ -40,6 +41,12 @@ pub const NESTED_TOO_DEEP: u32 = 18;
 pub const NO_ALPHABET: u32 = 19;
 
 pub const NO_LIST: u32 = 20;
+
+pub const OTHER_EDIT_COUNT: u32 = 21;
+
+pub const PAST_THE_END: u32 = 22;
+
+pub const LAST_EDIT: u32 = 23;
 
 pub const NOT_ONE_STACK: u32 = 24;
 

@@ -1,0 +1,6 @@
+-- An open list, as definitions.
+pub mod Held
+pub mod Histories
+pub mod Answers
+pub mod Runs
+pub mod Editing
