@@ -1,6 +1,6 @@
 //! Which rule makes two versions read a list otherwise.
 
-use sorbrudder::Op;
+use sorbrudder::{Op, Reader, Tokens, Tree};
 
 /// A rule that changes at a version: the operators that it pairs, and what it says before and after.
 struct Change {
@@ -38,4 +38,25 @@ pub fn between(one: i16, other: i16, ops: &[Op]) -> Option<&'static str> {
     let mut at_ops =
         changes.filter(|change| ops.iter().any(|op| change.ops.contains(&op.number())));
     at_ops.next().map(|change| change.text)
+}
+
+/// The rules by which versions from one to another read a list otherwise, step by step over those at which rules change.
+pub fn over(list: &Tokens, low: i16, high: i16) -> Vec<&'static str> {
+    let changes = CHANGES.iter().map(|change| change.at);
+    let within = changes.filter(|at| (low..=high).contains(at));
+    let mut versions: Vec<i16> = within.chain([low, high]).collect();
+    versions.sort_unstable();
+    versions.dedup();
+    let mut reader = Reader::new();
+    let mut read = |version: &i16| Some((*version, reader.read(list, *version).ok()?));
+    let trees: Vec<(i16, Tree)> = versions.iter().filter_map(&mut read).collect();
+    let step = |pair: &[(i16, Tree)]| {
+        let [(old, first), (new, second)] = pair else {
+            return None;
+        };
+        let differences = first.differences(second);
+        let ops = differences.flat_map(|d| [d.old.op(), d.new.op()]);
+        between(*old, *new, &ops.collect::<Vec<_>>())
+    };
+    trees.windows(2).filter_map(step).collect()
 }

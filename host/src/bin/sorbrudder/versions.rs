@@ -41,7 +41,7 @@ pub fn run(args: &Args) -> Result<Status, Failure> {
             .map(|reading| as_json(reading, &one.source))
             .collect()
     } else {
-        as_text(&readings, &one.source)
+        as_text(&readings, &one)
     };
     output::print(&text)?;
     let is_alike = readings
@@ -80,26 +80,21 @@ fn as_json(reading: &Reading, source: &str) -> String {
     object.done() + "\n"
 }
 
-fn as_text(readings: &[Reading], source: &str) -> String {
+fn as_text(readings: &[Reading], one: &OneList) -> String {
+    let source = &one.source;
     let mut text = format!("{source}\n\n");
     for reading in readings {
         text += &format!("version {:<4} {}\n", reading.version, line(reading, source));
     }
     let trees = distinct(readings);
-    if let [first, second, ..] = &trees[..] {
+    if trees.len() > 1 {
         text += "\n";
         text += &side_by_side(&trees, source);
-        let ops = first
-            .tree()
-            .differences(second.tree())
-            .flat_map(|d| [d.old.op(), d.new.op()]);
         let versions = trees.iter().flat_map(|alike| &alike.0);
         let versions = versions.map(|(version, _)| *version);
-        let (low, high) = (versions.clone().min(), versions.max());
-        if let (Some(low), Some(high)) = (low, high)
-            && let Some(rule) = rules::between(low, high, &ops.collect::<Vec<_>>())
-        {
-            text += &format!("\n{rule}\n");
+        if let (Some(low), Some(high)) = (versions.clone().min(), versions.max()) {
+            let rules = rules::over(&one.list, low, high).into_iter();
+            text.extend(rules.map(|rule| format!("\n{rule}\n")));
         }
     }
     text

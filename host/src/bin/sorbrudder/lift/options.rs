@@ -2,7 +2,7 @@
 
 use crate::args::{self, Args};
 use crate::failure::Failure;
-use crate::paths::is_stream;
+use crate::paths::{is_stream, place_of};
 use sorbrudder::Limit;
 use sorbrudder::archive::Format;
 use std::path::{Path, PathBuf};
@@ -45,7 +45,8 @@ pub struct Options {
     pub is_strict: bool,
     pub settles: bool,
     pub is_json: bool,
-    pub reports: bool,
+    /// The report's file.
+    pub report: Option<PathBuf>,
 }
 
 impl Options {
@@ -54,6 +55,13 @@ impl Options {
         if args.has("--backup") && target != Target::InPlace {
             return Err(args.wrong("`--backup` goes with `--in-place`"));
         }
+        if args.has("--strict") && target == Target::Stdout {
+            return Err(args.wrong("`--strict` does not go with `-o -`, where a list is written before the next is read"));
+        }
+        let (to_stdout, report) = match args.path("--report") {
+            Some(report) if is_stream(&report) => (true, None),
+            report => (false, report),
+        };
         Ok(Self {
             to: args.needed_version("--to")?,
             limit: args.limit("--limit")?,
@@ -67,8 +75,8 @@ impl Options {
             backs_up: args.has("--backup"),
             is_strict: args.has("--strict"),
             settles: args.has("--settle"),
-            is_json: args.has("--json"),
-            reports: args.has("--report"),
+            is_json: args.has("--json") || to_stdout,
+            report,
         })
     }
 
@@ -116,11 +124,12 @@ fn beside(args: &Args, from: &Path, out: PathBuf) -> Result<Target, Failure> {
             false => Ok(Target::Stdout),
         };
     }
-    let places = (from.canonicalize().ok(), out.canonicalize().ok());
-    if let (Some(from), Some(out)) = &places
-        && (from == out || is_folder && out.starts_with(from))
-    {
+    let places = (place_of(from), place_of(&out));
+    if !is_stream(from) && places.0 == places.1 {
         return Err(args.wrong("input and output are the same; `--in-place` replaces the input"));
+    }
+    if is_folder && places.1.starts_with(&places.0) {
+        return Err(args.wrong("the output lies in the folder that is lifted"));
     }
     match is_folder {
         true => Ok(Target::Folder(from.to_path_buf(), out)),
