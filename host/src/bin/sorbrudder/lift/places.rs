@@ -35,7 +35,11 @@ pub fn check(args: &Args, files: &[PathBuf], options: &Options) -> Result<(), Fa
     for file in files.iter().filter(|file| !is_stream(file)) {
         let is_known = taken.places.contains_key(&place_of(file));
         // What is only read may be read twice.
-        if options.target == Target::InPlace || !is_known {
+        if is_known && options.target == Target::InPlace {
+            let file = file.display();
+            return Err(args.wrong(&format!("{file} would be lifted twice at once")));
+        }
+        if !is_known {
             taken.take(file, "which is lifted")?;
         }
     }
