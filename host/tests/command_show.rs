@@ -182,7 +182,7 @@ fn a_list_of_an_archive_is_shown_by_its_number() {
 
 #[test]
 fn every_rule_that_makes_a_difference_is_named() {
-    let folder = folder("rules");
+    let folder = folder("named_rules");
     let (pairs, and_or) = (
         "below version 5 every `:` is paired",
         "up to version 5 `||`",
