@@ -242,11 +242,18 @@ fn lift_writes_nothing_where_it_is_told_so() {
     let folder = folder("careful");
     let bytes = seven(Format::Container);
     write(&folder, "seven", &bytes);
-    let dry = run_line(&folder, "lift seven --dry-run --to 6");
-    assert!(
-        dry.status == Some(1) && dry.err.contains("nothing was written"),
-        "{dry:?}"
-    );
+    for line in [
+        "lift seven --dry-run --to 6",
+        "lift seven -o out --dry-run --to 6",
+        "lift seven --in-place --backup --dry-run --to 6",
+    ] {
+        let dry = run_line(&folder, line);
+        assert!(
+            dry.status == Some(1) && dry.err.contains("nothing was written"),
+            "{line}: {dry:?}"
+        );
+    }
+    assert!(!folder.join("seven.bak").exists());
     for line in [
         "lift seven -o out --strict --to 6",
         "lift seven --in-place --strict --to 6",
@@ -278,6 +285,7 @@ fn lift_asks_where_to_and_never_takes_its_input_for_its_output() {
     for line in [
         "lift seven -o seven --to 6",
         "lift seven -o ./../where_to/seven --to 6",
+        "lift seven -o seven --dry-run --to 6",
         "lift seven --to 6",
         "lift seven -o out --in-place --to 6",
         "lift seven -o out --backup --to 6",

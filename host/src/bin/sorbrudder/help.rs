@@ -67,7 +67,7 @@ brackets are open at once, as it is or with the brackets that it needs; a list c
   --own-limit N   the nesting limit of the engines that the lists were written for; one that is deeper was no tree there
   --in-place      replaces the files themselves
   --backup        keeps each old file as FILE.bak, which must not be there yet
-  --dry-run       writes nothing, and tells what would be done
+  --dry-run       writes no archive, and tells what would be done; it needs no `-o` and no `--in-place`
   --strict        a file in which a list stays behind is not written at all; not with `-o -`
   --settle        writes every list that can be written with all its brackets, so that every version reads it the same; a list that
                   cannot be, and that both versions read alike, is left alone and told of: another version may read it otherwise

@@ -52,7 +52,7 @@ pub struct Options {
 impl Options {
     pub fn of(args: &Args) -> Result<Self, Failure> {
         let target = target(args)?;
-        if args.has("--backup") && target != Target::InPlace {
+        if args.has("--backup") && !args.has("--in-place") {
             return Err(args.wrong("`--backup` goes with `--in-place`"));
         }
         if args.has("--strict") && target == Target::Stdout {
@@ -91,24 +91,28 @@ impl Options {
     }
 }
 
+/// Where the lists go. What would be complained of is complained of in a dry run too.
 fn target(args: &Args) -> Result<Target, Failure> {
-    let given = (
-        args.path("-o"),
-        args.has("--in-place"),
-        args.has("--dry-run"),
-    );
+    let target = named_target(args)?;
+    match args.has("--dry-run") {
+        true => Ok(Target::Nothing),
+        false => Ok(target),
+    }
+}
+
+fn named_target(args: &Args) -> Result<Target, Failure> {
     if args.rest.is_empty() {
         return Err(args.wrong("name what to lift"));
     }
-    match given {
-        (Some(_), true, _) => Err(args.wrong("`-o` and `--in-place` exclude each other")),
-        (_, _, true) => Ok(Target::Nothing),
-        (None, false, _) => Err(args.wrong("say where to: `-o OUT` or `--in-place`")),
-        (None, true, _) if args.rest.iter().any(|word| word == "-") => {
+    match (args.path("-o"), args.has("--in-place")) {
+        (Some(_), true) => Err(args.wrong("`-o` and `--in-place` exclude each other")),
+        (None, false) if args.has("--dry-run") => Ok(Target::Nothing),
+        (None, false) => Err(args.wrong("say where to: `-o OUT` or `--in-place`")),
+        (None, true) if args.rest.iter().any(|word| word == "-") => {
             Err(args.wrong("standard input is not lifted in place"))
         }
-        (None, true, _) => Ok(Target::InPlace),
-        (Some(out), false, _) => match &args.rest[..] {
+        (None, true) => Ok(Target::InPlace),
+        (Some(out), false) => match &args.rest[..] {
             [from] => beside(args, Path::new(from), out),
             _ => Err(args.wrong("with `-o`, lift one file or one folder")),
         },
