@@ -183,24 +183,29 @@ fn a_list_of_an_archive_is_shown_by_its_number() {
 #[test]
 fn every_rule_that_makes_a_difference_is_named() {
     let folder = folder("named_rules");
-    let (pairs, and_or) = (
-        "below version 5 every `:` is paired",
-        "up to version 5 `||`",
-    );
+    // Without their first letter, which is a capital on the page.
+    let rules = [
+        "elow version 5 every",
+        "p to version 5",
+        "elow version 6 the comparisons",
+    ];
     for (list, named) in [
-        ("a ? b : c ? d : e", [true, false]),
-        ("a && b || c", [false, true]),
-        ("a && b ? c : d ? e : f", [true, false]),
-        ("a && b || c ? d : e ? f : g", [true, true]),
+        ("a ? b : c ? d : e", [true, false, false]),
+        ("a && b || c", [false, true, false]),
+        ("a > b == c", [false, false, true]),
+        ("a && b > c ? d : e ? f : g", [true, false, false]),
+        ("a && b || c > d", [false, true, false]),
+        ("a > b == c && d", [false, false, true]),
+        ("a && b || c ? d : e ? f : g", [true, true, false]),
+        ("a > b == c && d || e", [false, true, true]),
+        ("a > b == c && (d || e) || f ? g : h ? i : j", [true; 3]),
     ] {
         let text = shown(&["versions", "-e", list]);
-        let found = [pairs, and_or].map(|rule| text.contains(rule));
-        assert_eq!(found, named, "{text}");
+        assert_eq!(rules.map(|rule| text.contains(rule)), named, "{text}");
         let draw = ["draw", "-e", list, "--at", "4,6", "-o", "page.html"];
         assert_eq!(run(&folder, &draw).status, Some(0));
         let page = std::fs::read_to_string(folder.join("page.html")).expect("a page");
-        let found = ["Below version 5 every", "Up to version 5"].map(|rule| page.contains(rule));
-        assert_eq!(found, named, "{page}");
+        assert_eq!(rules.map(|rule| page.contains(rule)), named, "{page}");
     }
 }
 

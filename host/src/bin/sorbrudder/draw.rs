@@ -37,7 +37,10 @@ pub fn run(args: &Args) -> Result<Status, Failure> {
     let one = OneList::of(args)?;
     let mut reader = Reader::new();
     let read = [old, new].map(|version| (version, reader.read_with_rules(&one.list, version)));
-    let rules = rules::over(&one.list, old.min(new), old.max(new));
+    let rules = match &read {
+        [(old, Ok(first)), (new, Ok(second))] => rules::all_between((*old, first), (*new, second)),
+        _ => Vec::new(),
+    };
     let page = page::html(&one.source, &read, &rules);
     if is_stream(&target) {
         return output::print(&page);

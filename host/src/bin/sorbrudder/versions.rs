@@ -41,7 +41,7 @@ pub fn run(args: &Args) -> Result<Status, Failure> {
             .map(|reading| as_json(reading, &one.source))
             .collect()
     } else {
-        as_text(&readings, &one)
+        as_text(&readings, &one.source)
     };
     output::print(&text)?;
     let is_alike = readings
@@ -80,8 +80,7 @@ fn as_json(reading: &Reading, source: &str) -> String {
     object.done() + "\n"
 }
 
-fn as_text(readings: &[Reading], one: &OneList) -> String {
-    let source = &one.source;
+fn as_text(readings: &[Reading], source: &str) -> String {
     let mut text = format!("{source}\n\n");
     for reading in readings {
         text += &format!("version {:<4} {}\n", reading.version, line(reading, source));
@@ -90,12 +89,14 @@ fn as_text(readings: &[Reading], one: &OneList) -> String {
     if trees.len() > 1 {
         text += "\n";
         text += &side_by_side(&trees, source);
-        let versions = trees.iter().flat_map(|alike| &alike.0);
-        let versions = versions.map(|(version, _)| *version);
-        if let (Some(low), Some(high)) = (versions.clone().min(), versions.max()) {
-            let rules = rules::over(&one.list, low, high).into_iter();
-            text.extend(rules.map(|rule| format!("\n{rule}\n")));
+        let pairs = trees.windows(2).flat_map(|pair| pair[0].rules_to(&pair[1]));
+        let mut rules: Vec<&str> = Vec::new();
+        for rule in pairs {
+            if !rules.contains(&rule) {
+                rules.push(rule);
+            }
         }
+        text.extend(rules.iter().map(|rule| format!("\n{rule}\n")));
     }
     text
 }
@@ -106,6 +107,13 @@ struct Alike<'t>(Vec<(i16, &'t Tree)>);
 impl<'t> Alike<'t> {
     fn tree(&self) -> &'t Tree {
         self.0[0].1
+    }
+
+    /// The rules by which the versions here and there differ.
+    fn rules_to(&self, other: &Self) -> Vec<&'static str> {
+        let last = |alike: &Self| alike.0.iter().map(|(version, _)| *version).max();
+        let (one, two) = (last(self).unwrap_or(0), last(other).unwrap_or(0));
+        rules::all_between((one, self.tree()), (two, other.tree()))
     }
 
     /// The versions.
