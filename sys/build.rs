@@ -5,8 +5,10 @@
 //! `SORBRUDDER_BEFORE` names, is linked with its entries renamed, and `DEP_SORBRUDDER_BEFORE` says so.
 
 use std::env;
+use std::fs::{self, File};
 use std::path::{Path, PathBuf};
 use std::process::Command;
+use std::time::SystemTime;
 
 const NAME: &str = "libsorbrudder.a";
 
@@ -50,15 +52,24 @@ fn own_folder() -> (PathBuf, String) {
     let target = |part: &str| env::var(format!("CARGO_CFG_TARGET_{part}")).unwrap_or_default();
     let system = format!("{}-{}", target("ARCH"), target("OS"));
     let prebuilt = root.join("prebuilt").join(&system);
-    for folder in [&built, &prebuilt] {
-        println!("cargo::rerun-if-changed={}", folder.join(NAME).display());
-    }
     let advice = format!(
         "the proved library is not built yet, and there is no prebuilt one for {system}; run `make library`, which needs `rt`"
     );
-    match built.join(NAME).is_file() || !prebuilt.join(NAME).is_file() {
-        true => (built, advice),
-        false => (prebuilt, advice),
+    if built.join(NAME).is_file() || !prebuilt.join(NAME).is_file() {
+        return (built, advice);
+    }
+    watch(&built);
+    (prebuilt, advice)
+}
+
+/// Has cargo look again where a library comes to be in a folder. A path that is not there counts as changed at each build, and so would all
+/// that is built above it: so the folder is made, and is older than this build. Where it cannot be made, no library comes to be there.
+fn watch(folder: &Path) {
+    if !folder.is_dir() && fs::create_dir_all(folder).is_ok() {
+        let _ = File::open(folder).and_then(|folder| folder.set_modified(SystemTime::UNIX_EPOCH));
+    }
+    if folder.is_dir() {
+        println!("cargo::rerun-if-changed={}", folder.display());
     }
 }
 

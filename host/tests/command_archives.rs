@@ -4,6 +4,7 @@ mod common;
 
 use common::command::{SEVEN, archive, folder, lists, run, run_line, run_with, words};
 use sorbrudder::archive::{Format, ListsWriter};
+use std::os::unix::fs::symlink;
 use std::path::Path;
 
 fn write(folder: &Path, name: &str, bytes: &[u8]) {
@@ -69,6 +70,8 @@ fn damage_is_status_4_and_nothing_is_written() {
                 run.out.len()
             );
             assert!(!folder.join("out").exists(), "{line} {name}");
+            let is_counted = run.err.contains("1 files could not be lifted");
+            assert_eq!(is_counted, line.starts_with("lift"), "{}", run.err);
         }
     }
 }
@@ -216,8 +219,13 @@ fn the_report_has_a_line_for_every_list() {
     let stays = r#""version":4,"to":6,"result":"stays","node":0,"op":60,"operator":":","start":2,"end":3,"reason":"else-without-if","#;
     let sixth = report.lines().nth(5).expect("a line");
     assert!(sixth.contains(stays), "{sixth}");
-    let json = run_line(&folder, "lift seven -o six --to 6 --json");
-    assert_eq!(json.out, report);
+    for line in [
+        "lift seven -o six --to 6 --json",
+        "lift seven -o six --to 6 --report -",
+    ] {
+        assert_eq!(run_line(&folder, line).out, report, "{line}");
+    }
+    assert!(!folder.join("-").exists());
 }
 
 /// Files that a run has left beside its targets.
@@ -234,11 +242,18 @@ fn lift_writes_nothing_where_it_is_told_so() {
     let folder = folder("careful");
     let bytes = seven(Format::Container);
     write(&folder, "seven", &bytes);
-    let dry = run_line(&folder, "lift seven --dry-run --to 6");
-    assert!(
-        dry.status == Some(1) && dry.err.contains("nothing was written"),
-        "{dry:?}"
-    );
+    for line in [
+        "lift seven --dry-run --to 6",
+        "lift seven -o out --dry-run --to 6",
+        "lift seven --in-place --backup --dry-run --to 6",
+    ] {
+        let dry = run_line(&folder, line);
+        assert!(
+            dry.status == Some(1) && dry.err.contains("nothing was written"),
+            "{line}: {dry:?}"
+        );
+    }
+    assert!(!folder.join("seven.bak").exists());
     for line in [
         "lift seven -o out --strict --to 6",
         "lift seven --in-place --strict --to 6",
@@ -270,6 +285,7 @@ fn lift_asks_where_to_and_never_takes_its_input_for_its_output() {
     for line in [
         "lift seven -o seven --to 6",
         "lift seven -o ./../where_to/seven --to 6",
+        "lift seven -o seven --dry-run --to 6",
         "lift seven --to 6",
         "lift seven -o out --in-place --to 6",
         "lift seven -o out --backup --to 6",
@@ -277,11 +293,64 @@ fn lift_asks_where_to_and_never_takes_its_input_for_its_output() {
         "lift - --in-place --to 6",
         "lift . -o deeper/.. --to 6",
         "lift . -o deeper --to 6",
+        "lift . -o deeper/new --to 6",
         "lift . -o - --to 6",
+        "lift seven -o - --strict --to 6",
     ] {
         assert_eq!(run_line(&folder, line).status, Some(2), "{line}");
     }
     assert_eq!(std::fs::read(folder.join("seven")).expect("a file"), bytes);
+}
+
+#[test]
+fn nothing_that_is_written_takes_the_place_of_what_is_read() {
+    let folder = folder("places");
+    let bytes = archive(Format::Container, &SEVEN[..3]);
+    let kept = ["in/a", "in/b", "text"];
+    kept.iter().for_each(|name| write(&folder, name, &bytes));
+    std::fs::create_dir(folder.join("linked")).expect("a folder");
+    symlink("../in/a", folder.join("linked/b")).expect("a link");
+    for line in [
+        "lift in/a -o new --to 6 --report in/a",
+        "lift in/a -o new --to 6 --report linked/b",
+        "lift in/a -o new --to 6 --report new",
+        "lift in/a -o - --to 6 --report in/a",
+        "lift in/a --dry-run --to 6 --report in/../in/a",
+        "lift in --in-place --to 6 --report in/b",
+        "lift in/a --in-place --backup --to 6 --report in/a.bak",
+        "lift in in/a --in-place --to 6",
+        "lift in -o linked --to 6",
+        "draw in/a#0 -o in/a",
+        "draw in/a#0 -o linked/b",
+        "draw in/a#0 --source text -o text",
+    ] {
+        let wrong = run_line(&folder, line);
+        assert_eq!(wrong.status, Some(2), "{line}: {wrong:?}");
+        let here = |name: &&str| std::fs::read(folder.join(name)).expect("a file") == bytes;
+        assert!(kept.iter().all(here), "{line}");
+        let new = ["new", "in/a.bak", "linked/a"].map(|name| folder.join(name).exists());
+        assert_eq!(new, [false; 3], "{line}");
+    }
+    for line in [
+        "lift in -o out --to 6 --report report",
+        "lift in/a -o out/a --to 6 --report report",
+        "draw in/a#0 -o report",
+    ] {
+        assert_eq!(run_line(&folder, line).status, Some(0), "{line}");
+    }
+}
+
+#[test]
+fn a_backup_of_a_link_is_the_old_file() {
+    let folder = folder("backup_of_link");
+    let bytes = seven(Format::Container);
+    write(&folder, "seven", &bytes);
+    symlink("seven", folder.join("link")).expect("a link");
+    let lifted = run_line(&folder, "lift link --in-place --backup --to 6");
+    assert_eq!(lifted.status, Some(1), "{lifted:?}");
+    let here = |name: &str| std::fs::read(folder.join(name)).expect("a file");
+    assert!(here("link.bak") == bytes, "the backup is the new file");
+    assert!(here("seven") != bytes && folder.join("link").is_symlink());
 }
 
 #[test]
@@ -479,6 +548,19 @@ fn settled_lists_have_all_their_brackets() {
         .map(|line| line.contains("\"settled\""))
         .collect();
     assert_eq!(results, [true, false, false, false], "{}", settled.out);
+    // The last cannot be written, so another version may read it otherwise, and it is told of; the two before are settled as they are.
+    let bracket = r#""to":6,"result":"same","node":0,"op":4,"operator":"(","start":0,"end":1,"reason":"bracket","#;
+    let told = settled.out.lines().map(|line| line.contains(bracket));
+    assert_eq!(told.collect::<Vec<_>>(), [false, false, false, true]);
+    let summary = "1 of those left alone could not be settled";
+    assert!(settled.err.contains(summary), "{}", settled.err);
+    let text = run_line(&folder, "lift lists -o out --settle --to 6");
+    let told = "left alone, not settled: cannot be written: node 0, `(` at 0-1";
+    assert!(
+        text.out.lines().count() == 1 && text.out.contains(told),
+        "{}",
+        text.out
+    );
     let bytes = std::fs::read(folder.join("out")).expect("a file");
     let texts: Vec<String> = lists(&bytes).into_iter().map(|(_, text)| text).collect();
     assert_eq!(texts, ["a + (b * c)", "a + b", "a = b;", "(a b)"]);

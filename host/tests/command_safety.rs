@@ -165,6 +165,39 @@ fn on_a_disk_that_is_full_from_any_call_on_the_file_is_whole() {
     assert!(stopped > 10, "{stopped}");
 }
 
+/// Lifts in place with a bit turned over in each write in turn, until there is no such write; how often a bit was.
+fn flipped_everywhere(folder: &Path, options: &[&str]) -> usize {
+    let (old, _) = old_and_new(folder, 2_000);
+    let library = stopper(folder);
+    for at in 1..1_000 {
+        let mut child = command();
+        child.current_dir(folder).args(IN_PLACE).args(options);
+        child
+            .env("LD_PRELOAD", &library)
+            .env("FLIP_AT", at.to_string());
+        let ran = Run::of(child.output().expect("it runs"));
+        let is_old = std::fs::read(folder.join("big")).expect("the file is there") == old;
+        assert_eq!(left_over(folder), [] as [PathBuf; 0], "write {at}");
+        if ran.status == Some(0) {
+            assert!(!is_old, "write {at}: {ran:?}");
+            return at - 1;
+        }
+        assert_eq!((ran.status, is_old), (Some(3), true), "write {at}: {ran:?}");
+        let told = "what was written reads back otherwise";
+        assert!(ran.err.contains(told), "write {at}: {ran:?}");
+    }
+    panic!("it never runs to its end");
+}
+
+#[test]
+fn what_reads_back_otherwise_replaces_nothing() {
+    let folder = folder("flipped");
+    for options in [&[][..], &["--plain"]] {
+        let flipped = flipped_everywhere(&folder, options);
+        assert!(flipped > 5, "{options:?}: {flipped}");
+    }
+}
+
 /// Runs the command by a shell, after a line of the shell's own.
 fn run_after(folder: &Path, line: &str, words: &[&str]) -> Run {
     let script = format!("{line}; exec \"$0\" \"$@\"");
@@ -200,6 +233,19 @@ fn where_the_file_cannot_grow_the_old_one_is_whole() {
     );
     assert_eq!(target.status, Some(3));
     assert!(!folder.join("other").exists());
+}
+
+#[test]
+fn what_a_killed_run_has_left_is_passed_by() {
+    let folder = folder("left");
+    let (_, new) = old_and_new(&folder, 10);
+    // The shell becomes the command, which has the shell's number then.
+    let lifted = run_after(&folder, "echo left > .sorbrudder-$$-0.tmp", &IN_PLACE);
+    assert_eq!(lifted.status, Some(0), "{lifted:?}");
+    assert!(std::fs::read(folder.join("big")).expect("the file is there") == new);
+    let left = left_over(&folder);
+    assert_eq!(left.len(), 1, "{left:?}");
+    assert_eq!(std::fs::read(&left[0]).expect("a file"), b"left\n");
 }
 
 /// Runs a shell's lines where file systems can be mounted; none where the system does not allow it, which is said.

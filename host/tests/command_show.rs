@@ -2,7 +2,7 @@
 
 mod common;
 
-use common::command::{SEVEN, archive, command, folder, run, run_line};
+use common::command::{Run, SEVEN, archive, command, folder, run, run_line};
 use sorbrudder::archive::Format;
 use std::io::Read as _;
 use std::path::Path;
@@ -181,6 +181,35 @@ fn a_list_of_an_archive_is_shown_by_its_number() {
 }
 
 #[test]
+fn every_rule_that_makes_a_difference_is_named() {
+    let folder = folder("named_rules");
+    // Without their first letter, which is a capital on the page.
+    let rules = [
+        "elow version 5 every",
+        "p to version 5",
+        "elow version 6 the comparisons",
+    ];
+    for (list, named) in [
+        ("a ? b : c ? d : e", [true, false, false]),
+        ("a && b || c", [false, true, false]),
+        ("a > b == c", [false, false, true]),
+        ("a && b > c ? d : e ? f : g", [true, false, false]),
+        ("a && b || c > d", [false, true, false]),
+        ("a > b == c && d", [false, false, true]),
+        ("a && b || c ? d : e ? f : g", [true, true, false]),
+        ("a > b == c && d || e", [false, true, true]),
+        ("a > b == c && (d || e) || f ? g : h ? i : j", [true; 3]),
+    ] {
+        let text = shown(&["versions", "-e", list]);
+        assert_eq!(rules.map(|rule| text.contains(rule)), named, "{text}");
+        let draw = ["draw", "-e", list, "--at", "4,6", "-o", "page.html"];
+        assert_eq!(run(&folder, &draw).status, Some(0));
+        let page = std::fs::read_to_string(folder.join("page.html")).expect("a page");
+        assert_eq!(rules.map(|rule| page.contains(rule)), named, "{page}");
+    }
+}
+
+#[test]
 fn the_page_marks_what_differs_and_needs_nothing_else() {
     let folder = folder("page");
     let list = "x < 3 + (a && b || c)";
@@ -279,6 +308,21 @@ fn ops_lists_every_operator() {
     assert_eq!(json.lines().nth(9), Some(sum));
 }
 
+/// Runs the command; one byte of its output is read, and then nobody reads any more.
+fn run_half_read(folder: &Path, words: &[&str]) -> Run {
+    let mut child = command();
+    child
+        .current_dir(folder)
+        .args(words)
+        .stdout(Stdio::piped())
+        .stderr(Stdio::piped());
+    let mut child = child.spawn().expect("it runs");
+    let mut out = child.stdout.take().expect("a pipe");
+    out.read_exact(&mut [0]).expect("a byte");
+    drop(out);
+    Run::of(child.wait_with_output().expect("it ends"))
+}
+
 #[test]
 fn a_closed_pipe_ends_it_quietly() {
     let folder = folder("pipe");
@@ -289,26 +333,41 @@ fn a_closed_pipe_ends_it_quietly() {
         &["check", "many"],
         &["check", "--json", "many"],
     ] {
-        let mut child = command();
-        child
-            .current_dir(&folder)
-            .args(words)
-            .stdout(Stdio::piped())
-            .stderr(Stdio::piped());
-        let mut child = child.spawn().expect("it runs");
-        // One byte is read, and then nobody reads any more.
-        let mut out = child.stdout.take().expect("a pipe");
-        out.read_exact(&mut [0]).expect("a byte");
-        drop(out);
-        let output = child.wait_with_output().expect("it ends");
-        let told = String::from_utf8_lossy(&output.stderr).into_owned();
+        let half = run_half_read(&folder, words);
         assert!(
-            !told.contains("panicked") && !told.contains("pipe"),
-            "{words:?}: {told}"
+            !half.err.contains("panicked") && !half.err.contains("pipe"),
+            "{words:?}: {half:?}"
         );
         assert!(
-            output.status.code().is_some_and(|status| status < 2),
-            "{words:?}"
+            half.status.is_some_and(|status| status < 2),
+            "{words:?}: {half:?}"
         );
     }
+    // An archive that was not read to its end is cut, which a script should know, and nobody has to be told.
+    let lifted: Vec<(i16, &str)> = vec![(5, "a && b || c"); 20_000];
+    std::fs::write(folder.join("lifted"), archive(Format::Container, &lifted)).expect("a file");
+    let half = run_half_read(&folder, &["lift", "lifted", "-o", "-", "--to", "6"]);
+    assert_eq!((half.status, half.err.as_str()), (Some(3), ""));
+}
+
+#[test]
+fn that_nobody_can_read_standard_error_changes_nothing() {
+    let folder = folder("mute");
+    std::fs::write(folder.join("seven"), archive(Format::Words, &SEVEN)).expect("a file");
+    for (line, status) in [
+        ("check seven", 1),
+        ("diff seven --to 6", 1),
+        ("lift seven -o six --to 6", 1),
+        ("lift seven -o - --to 6", 1),
+        ("check missing", 3),
+        ("lst", 2),
+    ] {
+        let full = std::fs::File::options().write(true).open("/dev/full");
+        let mut child = command();
+        child.current_dir(&folder).args(line.split(' '));
+        child.stderr(full.expect("a device that takes nothing"));
+        let ended = Run::of(child.output().expect("it runs"));
+        assert_eq!(ended.status, Some(status), "{line}: {ended:?}");
+    }
+    assert_eq!(run_line(&folder, "check six").status, Some(1));
 }

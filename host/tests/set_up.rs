@@ -241,5 +241,26 @@ fn a_wrong_folder_for_the_library_is_told_as_such() {
     let prebuilt = folder.join("prebuilt/x86_64-linux");
     std::fs::create_dir_all(&prebuilt).expect("a folder");
     std::fs::write(prebuilt.join("libsorbrudder.a"), "a library").expect("a file");
-    assert!(advice(None).contains("cargo::metadata=FOUND=true"));
+    let found = advice(None);
+    assert!(found.contains("cargo::metadata=FOUND=true"), "{found}");
+    // A path that is not there counts as changed, and everything would be built anew each time.
+    let watched = found.lines().filter_map(|line| {
+        let path = line.strip_prefix("cargo::rerun-if-changed=")?;
+        Some(folder.join("sys").join(path))
+    });
+    let watched: Vec<PathBuf> = watched.filter(|path| !path.ends_with("build.rs")).collect();
+    assert!(watched.iter().all(|path| path.exists()), "{found}");
+    // A library that is proved here later lies where it is looked for, and comes before the other.
+    let proved = folder.join("target/staticlib");
+    let is_watched = watched
+        .iter()
+        .any(|path| path.ends_with("target/staticlib"));
+    assert!(is_watched && proved.is_dir(), "{found}");
+    std::fs::write(proved.join("libsorbrudder.a"), "a library").expect("a file");
+    let found = advice(None);
+    assert!(
+        found.contains("/target/staticlib/libsorbrudder.a\n"),
+        "{found}"
+    );
+    assert!(!found.contains("/prebuilt/"), "{found}");
 }

@@ -1,5 +1,6 @@
 /* Stops a program at the Nth of its calls that change files, to be loaded before it (LD_PRELOAD). STOP_AT is N, counted from 1. The
- * program is killed there, a write half done; with STOP_FULL the call fails as on a full disk, and so do all such calls after it. */
+ * program is killed there, a write half done; with STOP_FULL the call fails as on a full disk, and so do all such calls after it. With
+ * FLIP_AT instead of STOP_AT, a bit is turned over in the Nth write, and the program is told that all went well, as by a failing disk. */
 #define _GNU_SOURCE
 #include <dlfcn.h>
 #include <errno.h>
@@ -7,10 +8,11 @@
 #include <signal.h>
 #include <stdarg.h>
 #include <stdlib.h>
+#include <string.h>
 #include <sys/stat.h>
 #include <unistd.h>
 
-static int calls;
+static int calls, writes;
 
 /* Whether this call is the one; a killed program does not come back from here. */
 static int is_stopped(void) {
@@ -26,10 +28,28 @@ static int is_stopped(void) {
     return 1;
 }
 
+typedef ssize_t writer(int, const void *, size_t);
+
+static ssize_t write_flipped(writer *real, int file, const void *bytes, size_t count) {
+    unsigned char *flipped = malloc(count);
+    if (flipped == NULL) {
+        abort();
+    }
+    memcpy(flipped, bytes, count);
+    flipped[count / 2] ^= 1;
+    ssize_t written = real(file, flipped, count);
+    free(flipped);
+    return written;
+}
+
 ssize_t write(int file, const void *bytes, size_t count) {
-    ssize_t (*real)(int, const void *, size_t) = dlsym(RTLD_NEXT, "write");
+    writer *real = dlsym(RTLD_NEXT, "write");
     /* What is told to a person is no file that could be damaged. */
     if (file > 2) {
+        const char *flip = getenv("FLIP_AT");
+        if (flip != NULL && count > 0 && __sync_add_and_fetch(&writes, 1) == atoi(flip)) {
+            return write_flipped(real, file, bytes, count);
+        }
         const char *at = getenv("STOP_AT");
         if (at != NULL && calls + 1 == atoi(at) && getenv("STOP_FULL") == NULL) {
             real(file, bytes, count / 2);

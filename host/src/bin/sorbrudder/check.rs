@@ -4,6 +4,7 @@ use crate::args::{self, Args};
 use crate::failure::{Failure, Status};
 use crate::input::Input;
 use crate::line::{About, Line};
+use crate::output;
 use crate::paths;
 use crate::several::{self, Stdout, Teller};
 use sorbrudder::{Limit, ReadError, Reader};
@@ -54,7 +55,7 @@ pub fn run(args: &Args) -> Result<Status, Failure> {
         sum.refused += found.refused;
     })?;
     let damaged = files.len() as u64 - sum.files;
-    eprintln!(
+    output::tell(&format!(
         "{} files, {} lists: {} trees, {} no trees, {} too deep, {} refused; {damaged} files not read to their end",
         files.len(),
         sum.lists,
@@ -62,7 +63,7 @@ pub fn run(args: &Args) -> Result<Status, Failure> {
         sum.no_trees,
         sum.too_deep,
         sum.refused,
-    );
+    ));
     let found = if sum.trees < sum.lists {
         Status::Found
     } else {

@@ -6,6 +6,7 @@ use crate::check::{is_refused, note_words};
 use crate::failure::{Failure, Status};
 use crate::input::Input;
 use crate::line::{About, Line, Place, Which};
+use crate::output;
 use crate::paths;
 use crate::rules;
 use crate::several::{self, Stdout, Teller};
@@ -65,10 +66,10 @@ pub fn run(args: &Args) -> Result<Status, Failure> {
     };
     let diff = |file: &Path, teller: &mut Teller<Found>| diff_file(file, to, is_json, teller);
     let status = several::each(&files, is_json, &mut stdout, diff, |found| sum.join(found))?;
-    eprintln!(
+    output::tell(&format!(
         "{} lists at version {to}: {} read alike, {} otherwise, {} trees no longer, {} trees only then, {} no trees at all, {} refused",
         sum.lists, sum.same, sum.differ, sum.only_old, sum.only_new, sum.no_trees, sum.refused,
-    );
+    ));
     let found = if sum.same < sum.lists {
         Status::Found
     } else {

@@ -5,10 +5,12 @@ use crate::failure::{Failure, Status};
 use crate::one_list::{self, OneList};
 use crate::output;
 use crate::page;
-use crate::paths::is_stream;
+use crate::paths::{is_stream, place_of};
 use crate::replace::Replacement;
+use crate::rules;
 use sorbrudder::Reader;
 use std::io::Write as _;
+use std::path::PathBuf;
 
 pub const OPTIONS: &[args::Option] = &[
     one_list::E,
@@ -28,10 +30,18 @@ pub fn run(args: &Args) -> Result<Status, Failure> {
     let [old, new] = versions[..] else {
         return Err(args.wrong("`--at` takes two versions, as in `--at 4,6`"));
     };
+    let is_drawn_from = |file: &PathBuf| place_of(file) == place_of(&target);
+    if !is_stream(&target) && one_list::files(args).iter().any(is_drawn_from) {
+        return Err(args.wrong("the page would take the place of what it is drawn from"));
+    }
     let one = OneList::of(args)?;
     let mut reader = Reader::new();
     let read = [old, new].map(|version| (version, reader.read_with_rules(&one.list, version)));
-    let page = page::html(&one.source, &read);
+    let rules = match &read {
+        [(old, Ok(first)), (new, Ok(second))] => rules::all_between((*old, first), (*new, second)),
+        _ => Vec::new(),
+    };
+    let page = page::html(&one.source, &read, &rules);
     if is_stream(&target) {
         return output::print(&page);
     }

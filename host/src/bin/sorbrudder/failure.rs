@@ -29,6 +29,8 @@ pub enum Failure {
     Damaged(String),
     /// Nobody reads the output any more.
     Closed,
+    /// Nobody reads the archive that is written any more: it is cut.
+    Cut,
 }
 
 impl Failure {
@@ -36,7 +38,7 @@ impl Failure {
         match self {
             Self::Usage(_) => Status::Usage,
             Self::Found(_) => Status::Found,
-            Self::Io(_) => Status::Io,
+            Self::Io(_) | Self::Cut => Status::Io,
             Self::Damaged(_) => Status::Damaged,
             Self::Closed => Status::Well,
         }
@@ -46,7 +48,7 @@ impl Failure {
     pub fn text(&self) -> Option<&str> {
         match self {
             Self::Usage(why) | Self::Found(why) | Self::Io(why) | Self::Damaged(why) => Some(why),
-            Self::Closed => None,
+            Self::Closed | Self::Cut => None,
         }
     }
 

@@ -18,7 +18,8 @@ sorbrudder: archives of Molang token lists, checked, compared, lifted to a versi
 
 `sorbrudder COMMAND --help` says more. Lists are numbered from 0. A folder stands for all files in it, by name, but for those whose
 names begin with a dot or end in `.bak`. `-` is standard input or output. What is told of lists goes to standard output, `--json`
-makes it a line of JSON a list (and one for a file that fails); progress and the summary go to standard error. NO_COLOR is heeded.
+makes it a line of JSON a list (and one for a file that fails); progress and the summary go to standard error. NO_COLOR is heeded. Where
+nobody reads standard output any more, a command ends without a word; of an archive that is written there with status 3, since it is cut.
 
 Exit status: 0 all well, 1 some lists differ, stayed behind or are no trees, 2 wrong arguments, 3 input or output failed,
 4 an archive is damaged.
@@ -66,17 +67,19 @@ brackets are open at once, as it is or with the brackets that it needs; a list c
   --own-limit N   the nesting limit of the engines that the lists were written for; one that is deeper was no tree there
   --in-place      replaces the files themselves
   --backup        keeps each old file as FILE.bak, which must not be there yet
-  --dry-run       writes nothing, and tells what would be done
-  --strict        a file in which a list stays behind is not written at all
-  --settle        writes every list that can be written with all its brackets, so that every version reads it the same
+  --dry-run       writes no archive, and tells what would be done; it needs no `-o` and no `--in-place`
+  --strict        a file in which a list stays behind is not written at all; not with `-o -`
+  --settle        writes every list that can be written with all its brackets, so that every version reads it the same; a list that
+                  cannot be, and that both versions read alike, is left alone and told of: another version may read it otherwise
   --plain         writes plain files of words instead of containers (docs/FORMAT.md)
-  --report FILE   a line of JSON for every list
+  --report FILE   a line of JSON for every list; `--report -` is `--json`
   --json          the same on standard output: file, list, byte, version, to, result (same, lifted, settled, stays, no-tree, too-deep,
-                  refused), and node or token, op, operator, start, end and reason of what stays behind; the reason of too-deep is
-                  as-given, as-written (the token is then one of the list with its brackets) or own-limit
+                  refused), and node or token, op, operator, start, end and reason of what stays behind or is not settled; the reason
+                  of too-deep is as-given, as-written (the token is then one of the list with its brackets) or own-limit
 
 A file is written beside its target, brought to the disk, read back and compared, and then put in the target's place at once. Killed at
-any moment or on a full disk, the old file is whole; a file `.sorbrudder-*.tmp` may be left, and can be deleted.
+any moment or on a full disk, the old file is whole; a file `.sorbrudder-*.tmp` may be left, and can be deleted. A target, a backup or a
+report that would take the place of a file that is lifted, or of another that is written, is a wrong argument, and nothing is begun.
 ";
 
 const READ: &str = "\
@@ -110,7 +113,7 @@ const DRAW: &str = "\
 sorbrudder draw FILE#N | -e LIST [--at 4,6] [--source TEXT] -o PAGE.html
 
 Writes a page with the trees of two versions side by side, the parts that differ marked, each node with the rule that paired its operands,
-and the source above them. The page is one file without scripts, and can be printed.
+and the source above them. The page is one file without scripts, and can be printed. It never takes the place of what it is drawn from.
 ";
 
 const OPS: &str = "\

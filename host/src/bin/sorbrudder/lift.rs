@@ -2,9 +2,11 @@
 
 mod carry;
 mod options;
+mod places;
 
 use crate::args::Args;
 use crate::failure::{Failure, Status};
+use crate::output;
 use crate::paths;
 use crate::replace::Replacement;
 use crate::several::{self, Sink, Stderr, Stdout, Teller};
@@ -37,6 +39,7 @@ impl Sink for Lines {
 pub fn run(args: &Args) -> Result<Status, Failure> {
     let options = Options::of(args)?;
     let files = paths::files(&args.rest)?;
+    places::check(args, &files, &options)?;
     let lines: Box<dyn Sink> = if options.target == Target::Stdout {
         Box::new(Stderr)
     } else {
@@ -46,20 +49,18 @@ pub fn run(args: &Args) -> Result<Status, Failure> {
             is_closed: false,
         })
     };
-    let report = args
-        .path("--report")
-        .map(|file| Replacement::of(&file))
-        .transpose()?;
+    let report = options.report.as_deref().map(Replacement::of).transpose()?;
     let mut lines = Lines { lines, report };
-    let mut sum = Carried::default();
+    let (mut sum, mut done) = (Carried::default(), 0);
     let lift = |file: &Path, teller: &mut Teller<Carried>| carry::carry(file, &options, teller);
     let status = several::each(&files, options.is_json, &mut lines, lift, |carried| {
-        sum.join(carried)
+        sum.join(carried);
+        done += 1;
     })?;
     if let Some(report) = lines.report {
         report.put_in_place()?;
     }
-    tell(&sum, &options);
+    tell(&sum, &options, files.len() - done);
     let found = if sum.stayed() > 0 {
         Status::Found
     } else {
@@ -68,9 +69,10 @@ pub fn run(args: &Args) -> Result<Status, Failure> {
     Ok(status.max(found))
 }
 
-fn tell(sum: &Carried, options: &Options) {
+/// The summary.
+fn tell(sum: &Carried, options: &Options, failed: usize) {
     let (to, stayed) = (options.to, sum.stayed());
-    eprintln!(
+    output::tell(&format!(
         "{} lists to version {to}: {} written anew ({} of them scripts), {} left alone (both versions read them alike), {stayed} stayed behind \
          ({} no trees, {} refused, {} not writable, {} too deep)",
         sum.lists,
@@ -81,17 +83,28 @@ fn tell(sum: &Carried, options: &Options) {
         sum.refused,
         sum.not_writable,
         sum.too_deep,
-    );
+    ));
+    if sum.unsettled > 0 {
+        output::tell(&format!(
+            "{} of those left alone could not be settled: other versions may read them otherwise",
+            sum.unsettled
+        ));
+    }
+    if failed > 0 {
+        output::tell(&format!(
+            "{failed} files could not be lifted; their lists are not counted"
+        ));
+    }
     if options.target == Target::Nothing {
-        eprintln!("nothing was written (--dry-run)");
+        output::tell("nothing was written (--dry-run)");
     } else if sum.held_back > 0 {
-        eprintln!(
+        output::tell(&format!(
             "{} files were not written, since lists stayed behind (--strict)",
             sum.held_back
-        );
+        ));
     } else if stayed > 0 {
-        eprintln!(
+        output::tell(&format!(
             "the lists that stayed behind keep their own version: rewrite them before the pack declares version {to}"
-        );
+        ));
     }
 }

@@ -77,7 +77,7 @@ const TOO_DEEP: u32 = 18;
 pub fn of_failure(file: &Path, failure: &Failure) -> String {
     let result = match failure {
         Failure::Damaged(_) => "damaged",
-        Failure::Closed => return String::new(),
+        Failure::Closed | Failure::Cut => return String::new(),
         _ => "failed",
     };
     let mut object = Object::new();

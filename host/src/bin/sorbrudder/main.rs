@@ -36,7 +36,7 @@ fn main() -> ExitCode {
     let words: Vec<OsString> = std::env::args_os().skip(1).collect();
     let status = run(&words).unwrap_or_else(|failure| {
         if let Some(text) = failure.text() {
-            eprintln!("sorbrudder: {text}");
+            output::tell(&format!("sorbrudder: {text}"));
         }
         failure.status()
     });
@@ -63,7 +63,7 @@ const COMMANDS: [Command; 8] = [
 
 fn run(words: &[OsString]) -> Result<Status, Failure> {
     let Some((first, rest)) = words.split_first() else {
-        eprint!("{}", help::ALL);
+        output::tell(help::ALL.trim_end());
         return Ok(Status::Usage);
     };
     let name = first.to_string_lossy();

@@ -4,11 +4,22 @@ use crate::args::{self, Args};
 use crate::failure::Failure;
 use crate::input::Input;
 use sorbrudder::{MOST_TOKENS, Reader, Token, Tokens};
-use std::path::Path;
+use std::ffi::OsString;
+use std::path::{Path, PathBuf};
 
 /// The options that say which list, and at which version.
 pub const E: args::Option = args::value("-e");
 pub const SOURCE: args::Option = args::value("--source");
+
+/// The files that the list and its text are taken from.
+pub fn files(args: &Args) -> Vec<PathBuf> {
+    let archive = |word: &OsString| {
+        let word = word.to_string_lossy();
+        word.rsplit_once('#').map(|(file, _)| PathBuf::from(file))
+    };
+    let archives = args.rest.iter().filter_map(archive);
+    archives.chain(args.path("--source")).collect()
+}
 
 /// A list with the text that its spans lie in.
 pub struct OneList {

@@ -18,6 +18,11 @@ pub fn print(text: &str) -> Result<Status, Failure> {
     Ok(Status::Well)
 }
 
+/// Tells a line on standard error. It is for a person: that nobody can read it changes nothing.
+pub fn tell(line: &str) {
+    let _ = io::stderr().write_all(format!("{line}\n").as_bytes());
+}
+
 /// Whether colours are wanted: on a terminal, unless NO_COLOR is set to something.
 pub fn is_coloured() -> bool {
     let refused = std::env::var_os("NO_COLOR").is_some_and(|value| !value.is_empty());

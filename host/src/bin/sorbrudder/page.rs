@@ -2,8 +2,7 @@
 
 use crate::bracketed;
 use crate::drawing;
-use crate::rules;
-use sorbrudder::{Difference, Node, Op, ReadError, Tree};
+use sorbrudder::{Difference, Node, ReadError, Tree};
 
 /// A version and what it makes of the list.
 type Reading = (i16, Result<Tree, ReadError>);
@@ -32,20 +31,19 @@ section { flex: 1 1 20rem; min-width: 0; border: 1px solid var(--line); padding:
 }
 ";
 
-/// The page.
-pub fn html(source: &str, readings: &[Reading; 2]) -> String {
+/// The page, with the rules by which the readings differ.
+pub fn html(source: &str, readings: &[Reading; 2], rules: &[&str]) -> String {
     let [(old, first), (new, second)] = readings;
     let differences: Vec<Difference<'_>> = match (first, second) {
         (Ok(first), Ok(second)) => first.differences(second).collect(),
         _ => Vec::new(),
     };
-    let ops: Vec<Op> = differences
-        .iter()
-        .flat_map(|d| [d.old.op(), d.new.op()])
-        .collect();
-    let rule = rules::between(*old, *new, &ops);
     let title = format!("Versions {old} and {new}");
     let verdict = verdict(first.is_ok() && second.is_ok(), differences.len());
+    let paragraph = |rule: &&str| {
+        let rule = with_code(&sentence(rule));
+        format!("<p class=\"rule\">{rule}</p>\n")
+    };
     let columns = [
         section(source, &readings[0], &differences, |difference| {
             difference.old
@@ -60,10 +58,7 @@ pub fn html(source: &str, readings: &[Reading; 2]) -> String {
          <title>{title}</title>\n<style>\n{STYLE}</style>\n</head>\n<body>\n<h1>{title}</h1>\n\
          <pre class=\"source\">{}</pre>\n<p class=\"verdict\">{verdict}</p>\n{}<main>\n{}</main>\n</body>\n</html>\n",
         marked_source(source, &differences),
-        rule.map_or(String::new(), |rule| format!(
-            "<p class=\"rule\">{}</p>\n",
-            with_code(&sentence(rule))
-        )),
+        rules.iter().map(paragraph).collect::<String>(),
         columns.concat(),
     )
 }

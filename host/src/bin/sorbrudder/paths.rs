@@ -9,6 +9,18 @@ pub fn is_stream(path: &Path) -> bool {
     path.as_os_str() == "-"
 }
 
+/// Where a path leads, links followed; of what is not there yet, where it would come to be.
+pub fn place_of(path: &Path) -> PathBuf {
+    if let Ok(place) = path.canonicalize() {
+        return place;
+    }
+    match (path.parent(), path.file_name()) {
+        (Some(folder), Some(name)) if folder != Path::new("") => place_of(folder).join(name),
+        (Some(_), Some(name)) => place_of(Path::new(".")).join(name),
+        _ => path.to_path_buf(),
+    }
+}
+
 /// The files of the given paths in the order in which they are given, those of a folder by name. Files whose names begin with a dot or end
 /// in `.bak` are passed over in folders.
 pub fn files(paths: &[OsString]) -> Result<Vec<PathBuf>, Failure> {

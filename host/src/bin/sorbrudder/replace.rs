@@ -29,14 +29,7 @@ impl Replacement {
                 .map_err(|why| Failure::io(target, &why))?,
             Err(_) => target.to_path_buf(),
         };
-        let number = BEGUN.fetch_add(1, Ordering::Relaxed);
-        let name = format!(".sorbrudder-{}-{number}.tmp", std::process::id());
-        let beside = folder_of(&target).join(name);
-        let file = OpenOptions::new()
-            .write(true)
-            .create_new(true)
-            .open(&beside);
-        let file = file.map_err(|why| Failure::io(&beside, &why))?;
+        let (beside, file) = begin(folder_of(&target))?;
         // From here on the file is removed where something fails.
         let begun = Self {
             target,
@@ -92,6 +85,20 @@ impl Drop for Replacement {
     }
 }
 
+/// A new file in a folder. A name that is taken is passed by: a killed run, whose number this process may have again, can have left it.
+fn begin(folder: &Path) -> Result<(PathBuf, File), Failure> {
+    loop {
+        let number = BEGUN.fetch_add(1, Ordering::Relaxed);
+        let beside = folder.join(format!(".sorbrudder-{}-{number}.tmp", std::process::id()));
+        let mut new = OpenOptions::new();
+        match new.write(true).create_new(true).open(&beside) {
+            Ok(file) => return Ok((beside, file)),
+            Err(why) if why.kind() == io::ErrorKind::AlreadyExists => {}
+            Err(why) => return Err(Failure::io(&beside, &why)),
+        }
+    }
+}
+
 fn folder_of(file: &Path) -> &Path {
     match file.parent() {
         Some(folder) if folder != Path::new("") => folder,
@@ -99,11 +106,18 @@ fn folder_of(file: &Path) -> &Path {
     }
 }
 
-/// Keeps a file under another name as well, which has to be free: `NAME.bak`.
-pub fn back_up(file: &Path) -> Result<(), Failure> {
+/// The name that a file is kept under: `NAME.bak`.
+pub fn backup_of(file: &Path) -> PathBuf {
     let mut name = file.as_os_str().to_os_string();
     name.push(".bak");
-    let backup = PathBuf::from(name);
-    let linked = std::fs::hard_link(file, &backup);
+    PathBuf::from(name)
+}
+
+/// Keeps a file under another name as well, which has to be free.
+pub fn back_up(file: &Path) -> Result<(), Failure> {
+    let backup = backup_of(file);
+    // A second name of a link would be a link too, and lead to the new file: the file itself is kept.
+    let there = file.canonicalize();
+    let linked = there.and_then(|there| std::fs::hard_link(there, &backup));
     linked.map_err(|why| Failure::Io(format!("the backup {}: {why}", backup.display())))
 }

@@ -2,6 +2,7 @@
 
 use crate::failure::{Failure, Status};
 use crate::line::of_failure;
+use crate::output::tell;
 use crate::paths::is_stream;
 use crate::progress::{PAUSE, Progress};
 use std::collections::VecDeque;
@@ -111,7 +112,7 @@ impl Sink for Stderr {
 }
 
 /// Works on each file, and adds up what comes of it. A file that fails is told of, in JSON too where that is asked for, and the others are
-/// worked on all the same.
+/// worked on all the same. A failure of which there is nothing to say ends the work.
 pub fn each<T: Send>(
     files: &[PathBuf],
     is_json: bool,
@@ -136,9 +137,10 @@ pub fn each<T: Send>(
             match finish(&told, sink, &mut progress)? {
                 Ok(done) => add(done),
                 Err(failure) => {
-                    if let Some(text) = failure.text() {
-                        eprintln!("sorbrudder: {text}");
-                    }
+                    let Some(text) = failure.text() else {
+                        return Err(failure);
+                    };
+                    tell(&format!("sorbrudder: {text}"));
                     status = status.max(failure.status());
                 }
             }
@@ -202,7 +204,7 @@ fn finish<T>(
             }
             Ok(Told::Note(text)) => {
                 progress.clear();
-                eprintln!("sorbrudder: {text}");
+                tell(&format!("sorbrudder: {text}"));
             }
             Ok(Told::Done(done)) => {
                 progress.clear();

@@ -86,21 +86,17 @@ fn as_text(readings: &[Reading], source: &str) -> String {
         text += &format!("version {:<4} {}\n", reading.version, line(reading, source));
     }
     let trees = distinct(readings);
-    if let [first, second, ..] = &trees[..] {
+    if trees.len() > 1 {
         text += "\n";
         text += &side_by_side(&trees, source);
-        let ops = first
-            .tree()
-            .differences(second.tree())
-            .flat_map(|d| [d.old.op(), d.new.op()]);
-        let versions = trees.iter().flat_map(|alike| &alike.0);
-        let versions = versions.map(|(version, _)| *version);
-        let (low, high) = (versions.clone().min(), versions.max());
-        if let (Some(low), Some(high)) = (low, high)
-            && let Some(rule) = rules::between(low, high, &ops.collect::<Vec<_>>())
-        {
-            text += &format!("\n{rule}\n");
+        let pairs = trees.windows(2).flat_map(|pair| pair[0].rules_to(&pair[1]));
+        let mut rules: Vec<&str> = Vec::new();
+        for rule in pairs {
+            if !rules.contains(&rule) {
+                rules.push(rule);
+            }
         }
+        text.extend(rules.iter().map(|rule| format!("\n{rule}\n")));
     }
     text
 }
@@ -111,6 +107,13 @@ struct Alike<'t>(Vec<(i16, &'t Tree)>);
 impl<'t> Alike<'t> {
     fn tree(&self) -> &'t Tree {
         self.0[0].1
+    }
+
+    /// The rules by which the versions here and there differ.
+    fn rules_to(&self, other: &Self) -> Vec<&'static str> {
+        let last = |alike: &Self| alike.0.iter().map(|(version, _)| *version).max();
+        let (one, two) = (last(self).unwrap_or(0), last(other).unwrap_or(0));
+        rules::all_between((one, self.tree()), (two, other.tree()))
     }
 
     /// The versions.

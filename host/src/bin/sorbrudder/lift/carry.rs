@@ -21,6 +21,8 @@ pub struct Carried {
     /// How many of those are scripts: lists of statements.
     pub scripts: u64,
     pub same: u64,
+    /// How many of those were to be settled and could not be.
+    pub unsettled: u64,
     pub no_trees: u64,
     pub refused: u64,
     pub not_writable: u64,
@@ -52,6 +54,7 @@ impl Carried {
         self.written += other.written;
         self.scripts += other.scripts;
         self.same += other.same;
+        self.unsettled += other.unsettled;
         self.no_trees += other.no_trees;
         self.refused += other.refused;
         self.not_writable += other.not_writable;
@@ -138,11 +141,12 @@ fn carry_lists<W: Write>(
     teller: &mut Teller<Carried>,
 ) -> Result<(Carried, Digest, W), Failure> {
     let path = input.path.clone();
-    let failed = |why: io::Error| {
-        Failure::Io(format!(
+    let failed = |why: io::Error| match why.kind() {
+        io::ErrorKind::BrokenPipe if options.target == Target::Stdout => Failure::Cut,
+        _ => Failure::Io(format!(
             "writing what {} is lifted to: {why}",
             path.display()
-        ))
+        )),
     };
     let mut writer = ListsWriter::new(out, options.format).map_err(failed)?;
     let (mut carried, mut digest) = (Carried::default(), Digest::new());
@@ -151,11 +155,14 @@ fn carry_lists<W: Write>(
         .with_limit_to(options.limit);
     while let Some(list) = input.next_list()? {
         let about = About::list(&path, &list);
-        let (line, version, words) = match lift_list(&mut lifter, &list, options) {
+        let unsettled = unsettled(&mut lifter, &list, options);
+        let (line, version, words) = match lift_list(&mut lifter, &list, options, unsettled) {
             Ok(lifted) => {
                 let is_script = lifted.tree.root().op() == Op::SEMICOLON;
                 carried.scripts += u64::from(lifted.changed && is_script);
-                (told(&lifted, options), options.to, lifted.words)
+                carried.unsettled += u64::from(unsettled.is_some());
+                let line = told(&lifted, &list, options, unsettled);
+                (line, options.to, lifted.words)
             }
             Err(why) => (
                 Line::of_lift_error(&why, list.words, options.own_limit, options.to),
@@ -172,14 +179,22 @@ fn carry_lists<W: Write>(
     Ok((carried, digest, out))
 }
 
+/// Why a list that is to be settled cannot be: it is not plain, or too deep with all its brackets.
+fn unsettled(lifter: &mut Lifter, list: &List<'_>, options: &Options) -> Option<LiftError> {
+    match options.settles {
+        true => lifter.settle_words(list.words, list.version).err(),
+        false => None,
+    }
+}
+
+/// The list as it is settled, or lifted. One that cannot be settled stays as it is where both versions read it alike.
 fn lift_list<'l>(
     lifter: &'l mut Lifter,
     list: &'l List<'_>,
     options: &Options,
+    unsettled: Option<LiftError>,
 ) -> Result<LiftedWords<'l>, LiftError> {
-    // A list that is not plain, or too deep with all its brackets, is not settled; it can stay as it is where both versions read it
-    // alike. (Settled twice, since a borrow that is given back on one way only would last on the other too.)
-    if options.settles && lifter.settle_words(list.words, list.version).is_ok() {
+    if options.settles && unsettled.is_none() {
         return lifter.settle_words(list.words, list.version);
     }
     lifter
@@ -188,8 +203,20 @@ fn lift_list<'l>(
         .to(options.to)
 }
 
-/// The line about a list that was lifted.
-fn told(lifted: &LiftedWords<'_>, options: &Options) -> Line {
+/// The line about a list that was lifted, or left alone.
+fn told(
+    lifted: &LiftedWords<'_>,
+    list: &List<'_>,
+    options: &Options,
+    unsettled: Option<LiftError>,
+) -> Line {
+    if let Some(why) = unsettled {
+        return Line {
+            result: "same",
+            text: format!("left alone, not settled: {why}"),
+            ..Line::of_lift_error(&why, list.words, options.own_limit, options.to)
+        };
+    }
     let result = match (lifted.changed, options.settles) {
         (true, true) => "settled",
         (true, false) => "lifted",
@@ -198,13 +225,15 @@ fn told(lifted: &LiftedWords<'_>, options: &Options) -> Line {
     Line::new(result, Some(options.to))
 }
 
-/// Tells of a list: in text only where it stays behind.
+/// Tells of a list: in text only where it stays behind, or is left alone and was to be settled.
 fn tell(line: &Line, about: About<'_>, options: &Options, teller: &mut Teller<Carried>) {
-    if options.reports {
+    if options.report.is_some() {
         teller.report(&line.as_json(about));
     }
     if options.is_json {
         teller.text(&line.as_json(about));
+    } else if line.result == "same" && !line.text.is_empty() {
+        teller.text(&line.as_text(about));
     } else if !matches!(line.result, "lifted" | "settled" | "same") {
         let stays = Line {
             text: format!("stays behind: {}", line.text),
@@ -233,6 +262,7 @@ fn read_back(written: &mut Replacement, meant: Digest, target: &Path) -> Result<
     }
     match found == meant {
         true => Ok(()),
+        false if found.lists == meant.lists => Err(failed("other lists".to_string())),
         false => Err(failed(format!("{} lists of {}", found.lists, meant.lists))),
     }
 }

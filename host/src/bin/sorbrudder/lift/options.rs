@@ -2,7 +2,7 @@
 
 use crate::args::{self, Args};
 use crate::failure::Failure;
-use crate::paths::is_stream;
+use crate::paths::{is_stream, place_of};
 use sorbrudder::Limit;
 use sorbrudder::archive::Format;
 use std::path::{Path, PathBuf};
@@ -45,15 +45,23 @@ pub struct Options {
     pub is_strict: bool,
     pub settles: bool,
     pub is_json: bool,
-    pub reports: bool,
+    /// The report's file.
+    pub report: Option<PathBuf>,
 }
 
 impl Options {
     pub fn of(args: &Args) -> Result<Self, Failure> {
         let target = target(args)?;
-        if args.has("--backup") && target != Target::InPlace {
+        if args.has("--backup") && !args.has("--in-place") {
             return Err(args.wrong("`--backup` goes with `--in-place`"));
         }
+        if args.has("--strict") && target == Target::Stdout {
+            return Err(args.wrong("`--strict` does not go with `-o -`, where a list is written before the next is read"));
+        }
+        let (to_stdout, report) = match args.path("--report") {
+            Some(report) if is_stream(&report) => (true, None),
+            report => (false, report),
+        };
         Ok(Self {
             to: args.needed_version("--to")?,
             limit: args.limit("--limit")?,
@@ -67,8 +75,8 @@ impl Options {
             backs_up: args.has("--backup"),
             is_strict: args.has("--strict"),
             settles: args.has("--settle"),
-            is_json: args.has("--json"),
-            reports: args.has("--report"),
+            is_json: args.has("--json") || to_stdout,
+            report,
         })
     }
 
@@ -83,24 +91,28 @@ impl Options {
     }
 }
 
+/// Where the lists go. What would be complained of is complained of in a dry run too.
 fn target(args: &Args) -> Result<Target, Failure> {
-    let given = (
-        args.path("-o"),
-        args.has("--in-place"),
-        args.has("--dry-run"),
-    );
+    let target = named_target(args)?;
+    match args.has("--dry-run") {
+        true => Ok(Target::Nothing),
+        false => Ok(target),
+    }
+}
+
+fn named_target(args: &Args) -> Result<Target, Failure> {
     if args.rest.is_empty() {
         return Err(args.wrong("name what to lift"));
     }
-    match given {
-        (Some(_), true, _) => Err(args.wrong("`-o` and `--in-place` exclude each other")),
-        (_, _, true) => Ok(Target::Nothing),
-        (None, false, _) => Err(args.wrong("say where to: `-o OUT` or `--in-place`")),
-        (None, true, _) if args.rest.iter().any(|word| word == "-") => {
+    match (args.path("-o"), args.has("--in-place")) {
+        (Some(_), true) => Err(args.wrong("`-o` and `--in-place` exclude each other")),
+        (None, false) if args.has("--dry-run") => Ok(Target::Nothing),
+        (None, false) => Err(args.wrong("say where to: `-o OUT` or `--in-place`")),
+        (None, true) if args.rest.iter().any(|word| word == "-") => {
             Err(args.wrong("standard input is not lifted in place"))
         }
-        (None, true, _) => Ok(Target::InPlace),
-        (Some(out), false, _) => match &args.rest[..] {
+        (None, true) => Ok(Target::InPlace),
+        (Some(out), false) => match &args.rest[..] {
             [from] => beside(args, Path::new(from), out),
             _ => Err(args.wrong("with `-o`, lift one file or one folder")),
         },
@@ -116,11 +128,12 @@ fn beside(args: &Args, from: &Path, out: PathBuf) -> Result<Target, Failure> {
             false => Ok(Target::Stdout),
         };
     }
-    let places = (from.canonicalize().ok(), out.canonicalize().ok());
-    if let (Some(from), Some(out)) = &places
-        && (from == out || is_folder && out.starts_with(from))
-    {
+    let places = (place_of(from), place_of(&out));
+    if !is_stream(from) && places.0 == places.1 {
         return Err(args.wrong("input and output are the same; `--in-place` replaces the input"));
+    }
+    if is_folder && places.1.starts_with(&places.0) {
+        return Err(args.wrong("the output lies in the folder that is lifted"));
     }
     match is_folder {
         true => Ok(Target::Folder(from.to_path_buf(), out)),
