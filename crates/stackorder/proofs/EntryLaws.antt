@@ -1,5 +1,5 @@
 -- The entries' answers: what the two judgements make of a call, and of the output that it lends. Assumes nothing.
-use Prim.Native.Nat.{ℕ, _/_, _≤_, _<_}
+use Prim.Native.Nat.{ℕ, _/_}
 use mathlib.Core.Path.{_≡_, refl, sym, ap, _∙_}
 use mathlib.Core.List.{List, [], _∷_}
 use mathlib.Core.Option.{Option, none, some}
@@ -10,7 +10,7 @@ use Rattle.molang.specs.FirstFailure.{must, firstOf}
 use Rattle.molang.specs.Words.{Refusal, operatorField, row, withNumber, treeWords}
 use Rattle.molang.specs.StackOrder.{stackWords, stackFault, outputRefusal, exportRefusal, importRefusal, reorderTold, outputIn}
 use Rattle.molang.specs.StackOrder.{exportAnswered, exportedAfter, importAnswered, importedAfter, IsOneTree}
-use Rattle.molang.proofs.StackOrder.{trees-of-tree, trees-of-stack, export-accepts, import-accepts}
+use Rattle.molang.proofs.StackOrder.{trees-of-tree, trees-of-stack, Reorderable, export-accepts, import-accepts}
 use Rattle.shape.specs.Answers.{refusalOf, treeRefusal}
 use Rattle.shape.specs.declared.Fault.{Fault}
 use Rattle.shape.specs.declared.Fault.the-variants.{Nowhere, At}
@@ -42,23 +42,36 @@ module _ (d : Direction) (W O : List ℕ) (refusal : Option Refusal) where
       let t = can .one in
       record { tells = rw e refl; output = rw (e, ← other-order d W t) (filled t) }
 
--- ---- `export`
+-- ---- `export` and `import`
+
+-- The refusal of the words first, then that of the output.
+first-told : (W O : List ℕ) (shape room refusal asked : Option Refusal) → shape ≡ asked
+    → room ≡ must (leb (length W) (length O)) (row 25 0)
+    → refusal ≡ firstOf (shape ∷ room ∷ [])
+    → refusal ≡ firstOf (asked ∷ outputRefusal (call W O) ∷ [])
+unfolding outputRefusal
+first-told W O shape room refusal asked judged short first = rw (first, judged, short) refl
+
+-- A call that nothing turns back.
+can-reorder : (d : Direction) (W O : List ℕ) → Reorderable (readIn d) (call W O) → CanReorder d W O
+can-reorder d W O r = record { one = r .oneTree; room = r .room }
+
+-- A fault under the number 12.
+numbered-12 : (fault : Fault) → withNumber 12 (placeOf fault) ≡ refusalOf fault
+numbered-12 Nowhere = refl
+numbered-12 (At place) = refl
 
 module _ (tree O : List ℕ) where
-  -- The fault of the words first, then that of the output.
   pub export-first : (fault : Fault) (shape room refusal : Option Refusal) → refusalOf fault ≡ treeRefusal tree
       → shape ≡ withNumber 12 (placeOf fault)
       → room ≡ must (leb (length tree) (length O)) (row 25 0)
       → refusal ≡ firstOf (shape ∷ room ∷ [])
       → refusal ≡ exportRefusal (call tree O)
-  unfolding exportRefusal outputRefusal
-  export-first Nowhere shape room refusal found numbered short first = rw (first, numbered, short, ← found) refl
-  export-first (At place) shape room refusal found numbered short first = rw (first, numbered, short, ← found) refl
+  unfolding exportRefusal
+  export-first fault shape room refusal found numbered = first-told tree O shape room refusal _ (numbered ∙ (numbered-12 fault ∙ found))
 
   pub can-export : (refusal : Option Refusal) → refusal ≡ exportRefusal (call tree O) → refusal ≡ none → CanReorder Forward tree O
-  can-export refusal first e =
-      let r = export-accepts (call tree O) .0 (sym first ∙ e) in
-      record { one = r .oneTree; room = r .room }
+  can-export refusal first e = can-reorder Forward tree O (export-accepts (call tree O) .0 (sym first ∙ e))
 
   pub exported : (refusal : Option Refusal) → refusal ≡ exportRefusal (call tree O)
       → (r : Reordered) (O' : List ℕ) → HasFilled Forward tree O refusal r O'
@@ -66,22 +79,18 @@ module _ (tree O : List ℕ) where
   unfolding exportAnswered exportedAfter
   exported refusal first r O' filled = rw (← first) (filled .tells, filled .output)
 
--- ---- `import`
-
 module _ (words O : List ℕ) where
-  -- The fault of the words first, then that of the output.
-  pub import-first : (fault : Option ℕ) (shape room refusal : Option Refusal) → fault ≡ stackFault 0 operatorField 0 (stack 0 0) words
-      → shape ≡ withNumber 24 fault
+  pub import-first : (fault : Fault) (shape room refusal : Option Refusal)
+      → placeOf fault ≡ stackFault 0 operatorField 0 (stack 0 0) words
+      → shape ≡ withNumber 24 (placeOf fault)
       → room ≡ must (leb (length words) (length O)) (row 25 0)
       → refusal ≡ firstOf (shape ∷ room ∷ [])
       → refusal ≡ importRefusal (call words O)
-  unfolding importRefusal outputRefusal
-  import-first fault shape room refusal found numbered short first = rw (first, numbered, short, found) refl
+  unfolding importRefusal
+  import-first fault shape room refusal found numbered = first-told words O shape room refusal _ (numbered ∙ ap (withNumber 24) found)
 
   pub can-import : (refusal : Option Refusal) → refusal ≡ importRefusal (call words O) → refusal ≡ none → CanReorder Backward words O
-  can-import refusal first e =
-      let r = import-accepts (call words O) .0 (sym first ∙ e) in
-      record { one = r .oneTree; room = r .room }
+  can-import refusal first e = can-reorder Backward words O (import-accepts (call words O) .0 (sym first ∙ e))
 
   pub imported : (refusal : Option Refusal) → refusal ≡ importRefusal (call words O)
       → (r : Reordered) (O' : List ℕ) → HasFilled Backward words O refusal r O'

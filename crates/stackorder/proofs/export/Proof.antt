@@ -13,7 +13,8 @@ abbrev the-call : tie.Start → ReorderCall
 the-call start = call (start .args .tree .now) (start .args .output .now)
 
 -- Why it is turned back, if it is.
-turned-back : (c : tie.After-first-of) → refusalIn (c .first-of .result) ≡ exportRefusal (the-call (c .before .before .before .before .before .before))
+turned-back : (c : tie.After-first-of)
+    → refusalIn (c .first-of .result) ≡ exportRefusal (the-call (c .before .before .before .before .before .before))
 turned-back c =
     let asked = c .before in
     let judged = asked .before in
@@ -47,7 +48,8 @@ returns c =
     let filled = c .before .before in
     let judged = filled .before .before in
     let a = judged .before .before .before .before .before .before .args in
-    exported (a .tree .now) (a .output .now) _ (turned-back judged) (filled .fill .result) (filled .fill .last .1 .0) (filled .fill .ensures)
+    exported (a .tree .now) (a .output .now) _ (turned-back judged) (filled .fill .result) (filled .fill .last .1 .0)
+    (filled .fill .ensures)
 
 pub export-spec : {M : Type 1} → statement M
 export-spec =

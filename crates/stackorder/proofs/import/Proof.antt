@@ -3,7 +3,6 @@ use mathlib.Core.Path.{_≡_}
 use Rattle.molang.specs.StackOrder.{ReorderCall, importRefusal}
 use Rattle.stackorder.specs.Answers.{call}
 use Rattle.stackorder.specs.Filled.{refusalIn}
-use Rattle.stackorder.specs.Faults.{placeOf}
 use Rattle.stackorder.proofs.EntryLaws.{import-first, can-import, imported}
 use borrow.Author.Needs.{needs}
 use Rattle.stackorder.proofs.import.Statement.{statement}
@@ -14,12 +13,13 @@ abbrev the-call : tie.Start → ReorderCall
 the-call start = call (start .args .words .now) (start .args .output .now)
 
 -- Why it is turned back, if it is.
-turned-back : (c : tie.After-first-of) → refusalIn (c .first-of .result) ≡ importRefusal (the-call (c .before .before .before .before .before .before))
+turned-back : (c : tie.After-first-of)
+    → refusalIn (c .first-of .result) ≡ importRefusal (the-call (c .before .before .before .before .before .before))
 turned-back c =
     let asked = c .before in
     let judged = asked .before in
     let a = judged .before .before .before .before .args in
-    import-first (a .words .now) (a .output .now) (placeOf (judged .before .stack-fault .result)) _ _ _ (judged .before .stack-fault .ensures)
+    import-first (a .words .now) (a .output .now) (judged .before .stack-fault .result) _ _ _ (judged .before .stack-fault .ensures)
     (judged .numbered .ensures) (asked .short-output .ensures) (c .first-of .ensures)
 
 stack-fault-requires : tie.Need-stack-fault-requires
@@ -48,7 +48,8 @@ returns c =
     let filled = c .before .before in
     let judged = filled .before .before in
     let a = judged .before .before .before .before .before .before .args in
-    imported (a .words .now) (a .output .now) _ (turned-back judged) (filled .fill .result) (filled .fill .last .1 .0) (filled .fill .ensures)
+    imported (a .words .now) (a .output .now) _ (turned-back judged) (filled .fill .result) (filled .fill .last .1 .0)
+    (filled .fill .ensures)
 
 pub import-spec : {M : Type 1} → statement M
 import-spec =
