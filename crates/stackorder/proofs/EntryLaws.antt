@@ -1,76 +1,99 @@
--- The entries' answers: what each of the two judgements makes of a call, and of the output that it lends. Assumes nothing.
-use Prim.Native.Nat.{ℕ, _/_, _≤_, _<_}
-use mathlib.Core.Path.{_≡_, refl, sym}
-use mathlib.Core.List.{List}
-use mathlib.Core.Option.{none, some}
+-- The entries' answers: what the two judgements make of a call, and of the output that it lends. Assumes nothing.
+use Prim.Native.Nat.{ℕ, _/_}
+use mathlib.Core.Path.{_≡_, refl, sym, ap, _∙_}
+use mathlib.Core.List.{List, [], _∷_}
+use mathlib.Core.Option.{Option, none, some}
+use lib.Dec.{leb}
 use lib.ListN.{length}
-use borrow.Author.Tests.{le-leb, lt-leb}
+use Rattle.molang.specs.Forest.{nil, node}
 use Rattle.molang.specs.FirstFailure.{must, firstOf}
-use Rattle.molang.specs.Words.{operatorField, row, treeWords}
-use Rattle.molang.specs.WriteEntry.{treeFault}
-use Rattle.molang.specs.StackOrder.{stackWords, stackFault, outputRefusal, exportRefusal, importRefusal, notReordered, reorderTold}
-use Rattle.molang.specs.StackOrder.{outputIn, exportAnswered, exportedAfter, importAnswered, importedAfter, IsOneTree}
-use Rattle.molang.proofs.FirstFailure.{last-one, withNumber-none}
-use Rattle.molang.proofs.TreeWords.{tree-exact}
-use Rattle.molang.proofs.StackWords.{stack-exact}
-use Rattle.molang.proofs.StackOrder.{trees-of-tree, trees-of-stack}
-use Rattle.shape.specs.Answers.{shape, treeRefusal}
+use Rattle.molang.specs.Words.{Refusal, operatorField, row, withNumber, treeWords}
+use Rattle.molang.specs.StackOrder.{stackWords, stackFault, outputRefusal, exportRefusal, importRefusal, reorderTold, outputIn}
+use Rattle.molang.specs.StackOrder.{exportAnswered, exportedAfter, importAnswered, importedAfter, IsOneTree}
+use Rattle.molang.proofs.StackOrder.{trees-of-tree, trees-of-stack, Reorderable, export-accepts, import-accepts}
+use Rattle.shape.specs.Answers.{refusalOf, treeRefusal}
+use Rattle.shape.specs.declared.Fault.{Fault}
+use Rattle.shape.specs.declared.Fault.the-variants.{Nowhere, At}
 use Rattle.stackorder.specs.declared.Reordered.{Reordered}
 use Rattle.stackorder.specs.declared.Reordered.the-variants.{Nodes, Refused}
 use Rattle.stackorder.specs.declared.reorder.Direction.{Direction}
 use Rattle.stackorder.specs.declared.reorder.Direction.the-variants.{Forward, Backward}
-use Rattle.stackorder.specs.Reorder.{HasReordered}
-use Rattle.stackorder.specs.Faults.{stack}
+use Rattle.stackorder.specs.Reorder.{readIn, writtenIn, CanReorder, HasReordered}
+use Rattle.stackorder.specs.Faults.{placeOf, stack}
 use Rattle.stackorder.specs.Answers.{call, told}
-use Rattle.stackorder.specs.Filled.{HasFilled}
+use Rattle.stackorder.specs.Filled.{otherOrder, HasFilled}
 
 -- ---- `fill`
 
-module _ (d : Direction) (W O : List ℕ) where
-  pub too-short : length O < length W → HasFilled d W O (Refused 25 0) O
-  unfolding outputRefusal must reorderTold outputIn
-  too-short h =
-      let e = lt-leb (length W) (length O) h in
-      record { tells = rw e refl; output = λ t. rw e refl }
+-- A tree in the order that is written is its words in the other order.
+other-order : (d : Direction) (W : List ℕ) (t : IsOneTree (readIn d) W) → writtenIn d (node (t .root) (t .children) nil) ≡ otherOrder d W
+other-order Forward W t = ap stackWords (sym (trees-of-tree t))
+other-order Backward W t = ap treeWords (sym (trees-of-stack t))
 
-  pub long-enough : length W ≤ length O → (O' : List ℕ) → HasReordered d W O O' → HasFilled d W O (Nodes (length W / 7)) O'
-  unfolding outputRefusal must reorderTold outputIn
-  long-enough h O' filled =
-      let e = le-leb (length W) (length O) h in
-      record { tells = rw e refl; output = λ t. rw e (filled t) }
+module _ (d : Direction) (W O : List ℕ) (refusal : Option Refusal) where
+  pub turned-back : (number place : ℕ) → refusal ≡ some (row number place) → HasFilled d W O refusal (Refused number place) O
+  unfolding reorderTold outputIn
+  turned-back number place e = record { tells = rw e refl; output = rw e refl }
 
--- ---- `export`
+  pub put-in-order : refusal ≡ none → CanReorder d W O → (O' : List ℕ) → HasReordered d W O O'
+      → HasFilled d W O refusal (Nodes (length W / 7)) O'
+  unfolding reorderTold outputIn
+  put-in-order e can O' filled =
+      let t = can .one in
+      record { tells = rw e refl; output = rw (e, ← other-order d W t) (filled t) }
+
+-- ---- `export` and `import`
+
+-- The refusal of the words first, then that of the output.
+first-told : (W O : List ℕ) (shape room refusal asked : Option Refusal) → shape ≡ asked
+    → room ≡ must (leb (length W) (length O)) (row 25 0)
+    → refusal ≡ firstOf (shape ∷ room ∷ [])
+    → refusal ≡ firstOf (asked ∷ outputRefusal (call W O) ∷ [])
+unfolding outputRefusal
+first-told W O shape room refusal asked judged short first = rw (first, judged, short) refl
+
+-- A call that nothing turns back.
+can-reorder : (d : Direction) (W O : List ℕ) → Reorderable (readIn d) (call W O) → CanReorder d W O
+can-reorder d W O r = record { one = r .oneTree; room = r .room }
+
+-- A fault under the number 12.
+numbered-12 : (fault : Fault) → withNumber 12 (placeOf fault) ≡ refusalOf fault
+numbered-12 Nowhere = refl
+numbered-12 (At place) = refl
 
 module _ (tree O : List ℕ) where
-  pub tree-fault : (p : ℕ) → some (row 12 p) ≡ treeRefusal tree
-      → (notReordered 12 p ≡ exportAnswered (call tree O)) × (O ≡ exportedAfter (call tree O))
-  unfolding exportAnswered exportedAfter exportRefusal firstOf reorderTold outputIn
-  tree-fault p e = (rw (← e), rw (← e))
+  pub export-first : (fault : Fault) (shape room refusal : Option Refusal) → refusalOf fault ≡ treeRefusal tree
+      → shape ≡ withNumber 12 (placeOf fault)
+      → room ≡ must (leb (length tree) (length O)) (row 25 0)
+      → refusal ≡ firstOf (shape ∷ room ∷ [])
+      → refusal ≡ exportRefusal (call tree O)
+  unfolding exportRefusal
+  export-first fault shape room refusal found numbered = first-told tree O shape room refusal _ (numbered ∙ (numbered-12 fault ∙ found))
 
-  pub tree-whole : none ≡ treeRefusal tree → IsOneTree treeWords tree
-  tree-whole e = tree-exact tree .0 (withNumber-none 12 (treeFault 0 operatorField 0 (shape 1 0) tree) (sym e))
+  pub can-export : (refusal : Option Refusal) → refusal ≡ exportRefusal (call tree O) → refusal ≡ none → CanReorder Forward tree O
+  can-export refusal first e = can-reorder Forward tree O (export-accepts (call tree O) .0 (sym first ∙ e))
 
-  pub exported : none ≡ treeRefusal tree → (r : Reordered) (O' : List ℕ) → HasFilled Forward tree O r O'
+  pub exported : (refusal : Option Refusal) → refusal ≡ exportRefusal (call tree O)
+      → (r : Reordered) (O' : List ℕ) → HasFilled Forward tree O refusal r O'
       → (told r ≡ exportAnswered (call tree O)) × (O' ≡ exportedAfter (call tree O))
-  unfolding exportAnswered exportedAfter exportRefusal firstOf
-  exported e r O' filled =
-      let t = tree-whole e in
-      rw (← e, trees-of-tree t, last-one (outputRefusal (call tree O))) (filled .tells, filled .output t)
-
--- ---- `import`
+  unfolding exportAnswered exportedAfter
+  exported refusal first r O' filled = rw (← first) (filled .tells, filled .output)
 
 module _ (words O : List ℕ) where
-  pub stack-fault : (p : ℕ) → some p ≡ stackFault 0 operatorField 0 (stack 0 0) words
-      → (notReordered 24 p ≡ importAnswered (call words O)) × (O ≡ importedAfter (call words O))
-  unfolding importAnswered importedAfter importRefusal firstOf reorderTold outputIn
-  stack-fault p e = (rw (← e), rw (← e))
+  pub import-first : (fault : Fault) (shape room refusal : Option Refusal)
+      → placeOf fault ≡ stackFault 0 operatorField 0 (stack 0 0) words
+      → shape ≡ withNumber 24 (placeOf fault)
+      → room ≡ must (leb (length words) (length O)) (row 25 0)
+      → refusal ≡ firstOf (shape ∷ room ∷ [])
+      → refusal ≡ importRefusal (call words O)
+  unfolding importRefusal
+  import-first fault shape room refusal found numbered = first-told words O shape room refusal _ (numbered ∙ ap (withNumber 24) found)
 
-  pub stack-whole : none ≡ stackFault 0 operatorField 0 (stack 0 0) words → IsOneTree stackWords words
-  stack-whole e = stack-exact words .0 (sym e)
+  pub can-import : (refusal : Option Refusal) → refusal ≡ importRefusal (call words O) → refusal ≡ none → CanReorder Backward words O
+  can-import refusal first e = can-reorder Backward words O (import-accepts (call words O) .0 (sym first ∙ e))
 
-  pub imported : none ≡ stackFault 0 operatorField 0 (stack 0 0) words → (r : Reordered) (O' : List ℕ) → HasFilled Backward words O r O'
+  pub imported : (refusal : Option Refusal) → refusal ≡ importRefusal (call words O)
+      → (r : Reordered) (O' : List ℕ) → HasFilled Backward words O refusal r O'
       → (told r ≡ importAnswered (call words O)) × (O' ≡ importedAfter (call words O))
-  unfolding importAnswered importedAfter importRefusal firstOf
-  imported e r O' filled =
-      let t = stack-whole e in
-      rw (← e, trees-of-stack t, last-one (outputRefusal (call words O))) (filled .tells, filled .output t)
+  unfolding importAnswered importedAfter
+  imported refusal first r O' filled = rw (← first) (filled .tells, filled .output)

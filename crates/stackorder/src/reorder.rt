@@ -155,7 +155,7 @@ fn turn(words: &[u32], output: &mut [u32], direction: Direction, cursor: Cursor)
 }
 
 // The walk. It begins as if a node of one child, the root, were open; whatever stands for that node never goes out.
-// `fill` has tested the output's length, and both entries that the words are one tree.
+// `fill` calls it where nothing turns the call back: the words are one tree, and the output has room for them.
 pub fn reorder(words: &[u32], output: &mut [u32], direction: Direction)
     requires { ⌜ CanReorder direction (now words) (now output) ⌝ }
     ensures { λ _. ⌜ HasReordered direction (now (words .entry)) (now (output .entry)) (now (output .exit)) ⌝ }

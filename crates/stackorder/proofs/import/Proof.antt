@@ -1,49 +1,64 @@
--- `stackorder::import` meets its contract: answer 24, or what filling the output answers. Assumes nothing.
-use mathlib.Core.Path.{_≡_, sym, ap, _∙_}
-use mathlib.Core.Option.{none}
-use Rattle.molang.specs.Words.{operatorField}
-use Rattle.molang.specs.StackOrder.{stackFault}
-use Rattle.stackorder.specs.Faults.{placeOf, stack}
-use Rattle.stackorder.proofs.EntryLaws.{stack-fault, stack-whole, imported}
+-- `stackorder::import` meets its contract: answer 24 first, then 25, or the words in the other order. Assumes nothing.
+use mathlib.Core.Path.{_≡_}
+use Rattle.molang.specs.StackOrder.{ReorderCall, importRefusal}
+use Rattle.stackorder.specs.Answers.{call}
+use Rattle.stackorder.specs.Filled.{refusalIn}
+use Rattle.stackorder.proofs.EntryLaws.{import-first, can-import, imported}
 use borrow.Author.Needs.{needs}
 use Rattle.stackorder.proofs.import.Statement.{statement}
 use Rattle.stackorder.proofs.import.Tie as tie
 
--- No fault was found.
-no-fault : (c : tie.After-enum-told) → none ≡ stackFault 0 operatorField 0 (stack 0 0) (c .before .before .before .before .before .args .words .now)
-no-fault c = ap placeOf (sym (c .enum-told .given .1)) ∙ c .before .before .stack-fault .ensures
+-- The call, by the values at entry.
+abbrev the-call : tie.Start → ReorderCall
+the-call start = call (start .args .words .now) (start .args .output .now)
+
+-- Why it is turned back, if it is.
+turned-back : (c : tie.After-first-of)
+    → refusalIn (c .first-of .result) ≡ importRefusal (the-call (c .before .before .before .before .before .before))
+turned-back c =
+    let asked = c .before in
+    let judged = asked .before in
+    let a = judged .before .before .before .before .args in
+    import-first (a .words .now) (a .output .now) (judged .before .stack-fault .result) _ _ _ (judged .before .stack-fault .ensures)
+    (judged .numbered .ensures) (asked .short-output .ensures) (c .first-of .ensures)
 
 stack-fault-requires : tie.Need-stack-fault-requires
 stack-fault-requires c κs = search needs
 
-enum-known-found : tie.Need-enum-known-found
-enum-known-found c = search needs
+numbered-requires : tie.Need-numbered-requires
+numbered-requires c κs = search needs
 
-returns : tie.Need-returns
-returns c =
-    let found = c .before in
-    let a = found .before .before .before .before .before .args in
-    stack-fault (a .words .now) (a .output .now) (found .found .given .0 .0)
-    (ap placeOf (sym (found .found .given .1)) ∙ found .before .before .stack-fault .ensures)
+short-output-requires : tie.Need-short-output-requires
+short-output-requires c κs = search needs
 
-enum-told : tie.Need-enum-told
-enum-told c = search needs
+first-of-requires : tie.Need-first-of-requires
+first-of-requires c κs = search needs
 
 fill-requires : tie.Need-fill-requires
 fill-requires c κs =
-    let a = c .before .before .before .before .before .before .args in
-    stack-whole (a .words .now) (a .output .now) (no-fault (c .before))
+    let judged = c .before in
+    let a = judged .before .before .before .before .before .before .args in
+    can-import (a .words .now) (a .output .now) _ (turned-back judged)
 
 same-length : tie.Need-same-length
 same-length c = search needs
 
-returns-2 : tie.Need-returns-2
-returns-2 c =
+returns : tie.Need-returns
+returns c =
     let filled = c .before .before in
     let judged = filled .before .before in
-    let a = judged .before .before .before .before .before .args in
-    imported (a .words .now) (a .output .now) (no-fault judged) (filled .fill .result) (filled .fill .last .1 .0) (filled .fill .ensures)
+    let a = judged .before .before .before .before .before .before .args in
+    imported (a .words .now) (a .output .now) _ (turned-back judged) (filled .fill .result) (filled .fill .last .1 .0)
+    (filled .fill .ensures)
 
 pub import-spec : {M : Type 1} → statement M
 import-spec =
-    tie.close (tie.spec stack-fault-requires enum-known-found returns enum-told fill-requires same-length returns-2)
+    tie.close
+    (tie.spec
+    stack-fault-requires
+    numbered-requires
+    short-output-requires
+    first-of-requires
+    fill-requires
+    same-length
+    returns)
