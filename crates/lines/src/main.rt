@@ -97,12 +97,22 @@ fn read_with(
     )
 }
 
+// A fresh tree and a fresh work buffer. Of what a function returns the length is known by its type, where that of an array of one value would
+// be counted word by word.
+fn fresh_tree() -> [u32; TREE_WORDS] {
+    [0u32; TREE_WORDS]
+}
+
+fn fresh_work() -> [u32; WORK_WORDS] {
+    [1u32; WORK_WORDS]
+}
+
 // Reads a list at a version and with a nesting limit, with buffers as long as the entry asks: work of ones, and the others of zeros.
 fn read(list: &[u32], version: i16, limit: u32, said: &[u32]) -> Verdict
     requires { ⌜ length (now list) ≤ 20485 ⌝ }
 {
-    let mut tree = [0u32; TREE_WORDS];
-    let mut work = [1u32; WORK_WORDS];
+    let mut tree = fresh_tree();
+    let mut work = fresh_work();
     let n = list.len() / fields::TOKEN_WORDS;
     let nodes = 21 * n;
     let slots = 64 * n + 64;
