@@ -97,8 +97,8 @@ fn read_with(
     )
 }
 
-// A fresh tree and a fresh work buffer. Of what a function returns the length is known by its type, where that of an array of one value would
-// be counted word by word.
+// A fresh tree and a fresh work buffer. The length of what a function returns is known by its type; a proof would count that of an array of
+// one value word by word.
 fn fresh_tree() -> [u32; TREE_WORDS] {
     [0u32; TREE_WORDS]
 }
