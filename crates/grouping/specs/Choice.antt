@@ -1,4 +1,4 @@
--- A pass behind its gates: it may be left out, and one whose tokens are nowhere in the list is not run, which comes to the same.
+-- A pass that may be left out. A pass whose tokens are nowhere in the list is not run, and the result is the same as if it had run.
 use mathlib.Core.Path.{_≡_}
 use mathlib.Core.List.{List}
 use Prim.Native.Nat.{ℕ}

@@ -29,7 +29,7 @@ use Rattle.grouping.specs.declared.driver.Ran.the-variants.{Done as Thro
 
 -- ---- the stack
 
--- There are words enough for what is unread: eight for each node, and for the items that are read as many as they are.
+-- There are enough words behind the list for what is unread: eight for each node, less the words that its items have in the list.
 abbrev pub Room : List ℕ → Items → Forest → Type 0
 Room W v rest = v .base + v .len + 8 * size rest ≤ length W + count rest
 
@@ -56,7 +56,7 @@ pub data Stack (κ : Kind) (classes : ℕ) (W : List ℕ) (base0 hi0 : ℕ) : Li
       → FrameOf κ classes W (w .list .owner ∷ X) lo l m hi w b t k rest
       → Stack κ classes W base0 hi0 (w .list .owner ∷ X) b l m (w .list .base + w .list .len + 6) (held t k rest ∷ S)
 
--- No pass empties a list: where r is what the list on top gives, neither it nor, in turn, what the lists below give is empty.
+-- No pass empties a list: r, which the list on top gives, is not empty, and what each list below then gives is not empty either.
 abbrev pub Full : (κ : Kind) → List (Held κ) → Result → Type 0
 Full κ [] r = Unit {0}
 Full κ (held t k rest ∷ S) r = ((f : Forest) → r ≡ ok f → isNil f ≡ false) × Full κ S (andThen r (λ kids. work κ (takes κ t k kids) rest))

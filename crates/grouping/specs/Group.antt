@@ -1,5 +1,5 @@
 -- What the passes in their order ask and ensure: the tokens stand in an array above their slots, and what is left stands for the
--- definition's answer. In between: the answer is what the passes after some give of the list that these leave.
+-- definition's answer. Between two passes the answer is what the passes that are left make of the list.
 use Prim.Native.Nat.{ℕ, _+_, _*_, _^_, _≤_, _<_}
 use mathlib.Core.Path.{_≡_}
 use mathlib.Core.Bool.{Bool, true, false}

@@ -93,8 +93,8 @@ fn run_choice(work: &mut [u32], base: usize, n: usize, choice: Choice) -> Ran
     }
 }
 
-// The passes after the flat ones, over the list of slot 0, whose m items stand from `base` on. The pointer's failure is no ordinary one:
-// it leaves the list empty, and the passes after it leave an empty list as it is.
+// The passes after the flat ones, over the list of slot 0, whose m items stand from `base` on. A failure of the
+// pointer pass is unlike the others: it leaves the list empty, and the passes after it leave an empty list as it is.
 fn levels(work: &mut [u32], base: usize, m: usize, used: OpSet, version: i16) -> Grouped
     requires { ⌜ CanLevel (now work) base m ⌝ }
     ensures { λ r. ⌜ Levelled (now (work .entry)) base m used version r (now (work .exit)) ⌝ }

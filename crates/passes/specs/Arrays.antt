@@ -30,7 +30,7 @@ Apart (c ∷ left) back = Out c back × Apart left back
 
 -- ---- `gather`
 
--- The index's children cs rise, and are none of the array's so far, ds.
+-- The slots cs of the index's children rise, and none of them is one of ds, the slots of the array's children so far.
 pub record CanGather (W : List ℕ) (array index : ℕ) : Type 0 where
   pub hi : ℕ
   pub cs : List ℕ
@@ -51,7 +51,7 @@ pub record Gathered (W : List ℕ) (array index : ℕ) (W' : List ℕ) : Type 0 
 
 -- ---- `turn_round`
 
--- cs falls, from below `top`.
+-- The numbers cs fall, and the first is below `top`.
 abbrev pub Dec : ℕ → List ℕ → Type 0
 Dec top [] = Unit {0}
 Dec top (c ∷ cs) = (c < top) × Dec c cs

@@ -27,7 +27,7 @@ leftOf W v = wd W (v .base + v .write - 1)
 
 -- ---- `fold`
 
--- There is a done item; it, q and c are slots within the words, and it is not c.
+-- There is a done item. That item, q and c are slots within the words, and the item is not c.
 pub record CanFold (W : List ℕ) (v : Items) (q c : ℕ) : Type 0 where
   pub some : 0 < v .write
   pub room : v .base + v .write ≤ length W
@@ -61,7 +61,7 @@ pub record IsFirst (W : List ℕ) (r : ℕ) (ops : List ℕ) (f : Forest) : Type
   pub first : firstLeaf ops f ≡ some t
   pub token : TokenAt W r t
 
--- r is the first leaf, at or below `top`, of the operators whose classes c are.
+-- r is the first leaf at or below `top` of the operators that the classes c cover.
 abbrev pub LeafFound : List ℕ → ℕ → ℕ → ℕ → Type 0
 LeafFound W top c r = (g : CanSearch W top c) (ops : List ℕ) → Covers c (isOneOf ops) → IsFirst W r ops (node (g .k) (g .cs) nil)
 

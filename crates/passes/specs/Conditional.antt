@@ -151,7 +151,7 @@ pub record CanFold (W : List ℕ) (base len : ℕ) : Type 0 where
   pub within : base + len ≤ length W
   pub small : length W < 2 ^ 32
 
--- From r on stands what the fold makes of them.
+-- What the fold makes of them stands from r on.
 pub record FoldedAll (W : List ℕ) (base len r : ℕ) (W' : List ℕ) : Type 0 where
   pub to : (g : CanFold W base len) → Ahead W' (g .X) base r len (g .lo) (g .hi) (definition.foldedFrom (g .d))
   pub kept : (g : CanFold W base len) → Kept W W' (g .X) (g .lo) (g .hi) base (base + len)

@@ -28,8 +28,8 @@ pub record HasSemicolon (W : List ℕ) (v : Items) (r : Bool) : Type 0 where
 
 -- ---- `end_statement`
 
--- The n items from `at` on became the children of a new statement at `slot`, with the span of the first of them, and the word at their
--- place is its.
+-- The n items from `at` on became the children of a new statement at `slot`, which has the span of the first of them and stands in the
+-- word of the first.
 pub record Grouped (W : List ℕ) (slot at n : ℕ) (W' : List ℕ) : Type 0 where
   pub made : List ℕ
   pub given : List ℕ
@@ -47,7 +47,7 @@ pub data InnerTo (W : List ℕ) (l : Items) (item : ℕ) (p : Pass) : Turn → L
 
 -- ---- `begin_list`, `semicolon`
 
--- With the first statement the list's own node is laid down, two slots behind the semicolon that ends it.
+-- The list's own node is made with the first statement, two slots behind the semicolon that ends that statement.
 pub data ListMade (W : List ℕ) (item done : ℕ) : List ℕ → Type 0 where
   there : done ≢ 0 → ListMade W item done W
   begun : {W' : List ℕ} → done ≡ 0 → Made W (item + 2) semicolon item W' → ListMade W item done W'

@@ -87,7 +87,7 @@ Seeks Returns = Unit {0}
 abbrev pub Saying : Type 1
 Saying = (κ : Kind) → (Forest → State κ) → (ℕ → Bool) → (Forest → Bool) → Type 0
 
--- That, said of the level that the pass is.
+-- The same, said of the level that the pass is.
 abbrev pub OfLevel : Saying → Pass → Type 0
 OfLevel T Calls = T (calls queryOrLoop) gathered (isCall queryOrLoop) unasked
 OfLevel T MathCalls = T (calls math) gathered (isCall math) unasked

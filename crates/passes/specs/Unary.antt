@@ -1,5 +1,5 @@
--- What the functions of the unary pass ask and ensure. The unread items stand at the front of the list's words, the last one first to be
--- read; the done ones in order at their end.
+-- What the functions of the unary pass ask and ensure. The unread items stand at the front of the list's words, and the last of them is
+-- read first. The done ones stand in order at the end of the words.
 use Rattle.words.specs.Fields.{withOperator}
 use Prim.Native.Nat.{ℕ, _+_, _-_, _^_, _≤_, _<_}
 use mathlib.Core.Path.{_≡_}
@@ -115,7 +115,7 @@ pub record Prefixed (W : List ℕ) (at q : ℕ) (W' : List ℕ) : Type 0 where
   pub attached : Attached W q (wd W at) Z
   pub stored : W' ≡ set Z at q
 
--- The slot s is of `+`, and notes so where it is a leaf.
+-- The slot s has the operator `+`. Where it is a leaf, it notes the classes of `+`.
 pub record Added (W : List ℕ) (s : ℕ) (W' : List ℕ) : Type 0 where
   pub Z : List ℕ
   pub renamed : Z ≡ set W (slotStart s) (withOperator (operatorWordAt W s) add)

@@ -17,7 +17,7 @@ ghost use Rattle.passes.specs.TokenTurns.{AtToken};
 ghost use Rattle.passes.specs.Arrays.{CanLend, Lent, CanIndex, Indexed, NameTurned, CanGather, Gathered, CanRound, Rounded};
 
 // The last child of the array so far becomes an array itself and is taken away from it, where it is a bare `array.name` that
-// the contents of the array's next index complete. It, or 0. (The array's chain starts with its last child.)
+// the contents of the array's next index complete. The result is that child, or 0. (The array's chain starts with its last child.)
 fn lend_name(work: &mut [u32], array: u32, index: u32) -> u32
     requires { ⌜ CanLend (now work) array index ⌝ }
     ensures { λ r. ⌜ Lent (now (work .entry)) array index r (now (work .exit)) ⌝ }

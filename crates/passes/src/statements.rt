@@ -71,7 +71,7 @@ fn end_statement(work: &mut [u32], slot: u32, at: usize, n: usize)
     work[at] = slot;
 }
 
-// With the first statement the list's own node is made, in the last slot of the semicolon that ends it.
+// The list's own node is made with the first statement, in the last slot of the semicolon that ends that statement.
 fn begin_list(work: &mut [u32], item: u32, done: u32)
     requires { ⌜ (slotEnd (item + 2) ≤ length (now work)) × (length (now work) < 2 ^ 32) ⌝ }
     ensures { λ _. ⌜ ListMade (now (work .entry)) item done (now (work .exit)) ⌝ }
@@ -127,8 +127,8 @@ pub fn step(work: &mut [u32], list: List, done: u32) -> Turn
     }
 }
 
-// The statement that is open at the end, where there is one, stands in the second slot of the semicolon before it. How many
-// statements there are then.
+// The statement that is open at the end, where there is one, stands in the second slot of the semicolon before it. The
+// result is how many statements there are then.
 fn end_open(work: &mut [u32], list: List, done: usize) -> usize
     requires { ⌜ CanClose (now work) list done ⌝ }
     ensures { λ r. ⌜ ClosedTo (now (work .entry)) list done r (now (work .exit)) ⌝ }

@@ -70,8 +70,8 @@ fn subtract(work: &mut [u32], list: List, item: u32) -> List
     keep_right(work, list, item)
 }
 
-// A minus with an operand after it: unary after an operator or at the start, binary after an operand; of two the right one
-// vanishes and the left one, still unread, becomes `+`.
+// A minus with an operand after it: unary after an operator or at the start, binary after an operand. Of two minuses the
+// right one is dropped, and the left one, which is still unread, becomes `+`.
 fn minus(work: &mut [u32], list: List, item: u32) -> Turn
     requires { ⌜ CanTakeMinus (now work) list item ⌝ }
     ensures { λ r. ⌜ TokenTaken (now (work .entry)) list item r (now (work .exit)) ⌝ }

@@ -1,5 +1,6 @@
 -- `advance`: the level's turn, and what the driver makes of it.
-use Rattle.grouping.proofs.AdvanceLaws.{advance-can-turn, turned-at, advance-can-descend, advance-can-close, advanced-on, advanced-fail, advanced-enter, advanced-close}
+use Rattle.grouping.proofs.AdvanceLaws.{advance-can-turn, turned-at, advance-can-descend, advance-can-close, advanced-on}
+use Rattle.grouping.proofs.AdvanceLaws.{advanced-fail, advanced-enter, advanced-close}
 use borrow.Author.Needs.{needs}
 use Rattle.grouping.proofs.driver.advance.Statement.{statement}
 use Rattle.grouping.proofs.driver.advance.Tie as tie
@@ -16,7 +17,8 @@ enum-known-stepped-2 c = search needs
 descend-requires : tie.Need-descend-requires
 descend-requires c κs =
     let step = c .before .before .before .before .before .before .step in
-    advance-can-descend (c .before .before .before .before .before .before .before .before .before .pre) _ _ (turned-at (step .result) _ (c .before .before .stepped2 .given .1) (step .ensures))
+    advance-can-descend (c .before .before .before .before .before .before .before .before .before .pre) _ _
+    (turned-at (step .result) _ (c .before .before .stepped2 .given .1) (step .ensures))
 
 enum-known-stepped-3 : tie.Need-enum-known-stepped-3
 enum-known-stepped-3 c = search needs
@@ -24,7 +26,8 @@ enum-known-stepped-3 c = search needs
 close-requires : tie.Need-close-requires
 close-requires c κs =
     let step = c .before .before .before .before .before .before .step in
-    advance-can-close (c .before .before .before .before .before .before .before .before .before .pre) _ (turned-at (step .result) _ (c .before .before .stepped3 .given .1) (step .ensures))
+    advance-can-close (c .before .before .before .before .before .before .before .before .before .pre) _
+    (turned-at (step .result) _ (c .before .before .stepped3 .given .1) (step .ensures))
 
 enum-known-stepped-4 : tie.Need-enum-known-stepped-4
 enum-known-stepped-4 c = search needs
@@ -43,7 +46,8 @@ same-length-2 c = search needs
 returns-2 : tie.Need-returns-2
 returns-2 c =
     let step = c .before .before .before .before .before .before .before .before .before .step in
-    advanced-enter (turned-at (step .result) _ (c .before .before .before .before .before .stepped2 .given .1) (step .ensures)) (c .before .before .descend .ensures)
+    advanced-enter (turned-at (step .result) _ (c .before .before .before .before .before .stepped2 .given .1) (step .ensures))
+    (c .before .before .descend .ensures)
 
 same-length-3 : tie.Need-same-length-3
 same-length-3 c = search needs
@@ -51,7 +55,8 @@ same-length-3 c = search needs
 returns-3 : tie.Need-returns-3
 returns-3 c =
     let step = c .before .before .before .before .before .before .before .before .before .step in
-    advanced-close (turned-at (step .result) _ (c .before .before .before .before .before .stepped3 .given .1) (step .ensures)) (c .before .before .close .ensures)
+    advanced-close (turned-at (step .result) _ (c .before .before .before .before .before .stepped3 .given .1) (step .ensures))
+    (c .before .before .close .ensures)
 
 same-length-4 : tie.Need-same-length-4
 same-length-4 c = search needs

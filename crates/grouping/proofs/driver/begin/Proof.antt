@@ -17,10 +17,13 @@ begun-requires : tie.Need-begun-requires
 begun-requires c κs = search needs
 
 returns : tie.Need-returns
-returns c = let s = c .before .before .before in begun-started (s .args .pass) (c .start .result) (c .before .match .keys1) (s .pre) (c .start .ensures)
+returns c =
+    let s = c .before .before .before in
+    begun-started (s .args .pass) (c .start .result) (c .before .match .keys1) (s .pre) (c .start .ensures)
 
 returns-2 : tie.Need-returns-2
-returns-2 c = begun-right (c .before .before .before .before .args .pass) (c .moved .result) (c .before .enum-told .given .1) (c .moved .ensures)
+returns-2 c =
+    begun-right (c .before .before .before .before .args .pass) (c .moved .result) (c .before .enum-told .given .1) (c .moved .ensures)
 
 returns-3 : tie.Need-returns-3
 returns-3 c = begun-as (c .before .before .before .args .pass) (c .begun .result) (c .before .match .keys3) (c .begun .ensures)

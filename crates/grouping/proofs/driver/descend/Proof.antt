@@ -14,17 +14,25 @@ push-requires : tie.Need-push-requires
 push-requires c κs = descend-can-push (c .before .before .before .before .pre)
 
 open-requires : tie.Need-open-requires
-open-requires c κs = let push = c .before .before .before .push in let s = c .before .before .before .before .before .before .before .before in
+open-requires c κs =
+    let push = c .before .before .before .push in
+    let s = c .before .before .before .before .before .before .before .before in
     subst (λ (x : ℕ). CanOpen (push .last .0) (s .args .item) x (s .args .waiting .pass)) (sym (push .ensures .past))
-    (descend-can-open (s .pre) _ (c .before .before .before .before .held .result) (c .before .before .before .before .held .ensures) (push .ensures))
+    (descend-can-open (s .pre) _ (c .before .before .before .before .held .result) (c .before .before .before .before .held .ensures)
+    (push .ensures))
 
 same-length : tie.Need-same-length
 same-length c = search needs
 
 returns : tie.Need-returns
-returns c = let push = c .before .before .before .before .before .before .push in let s = c .before .before .before .before .before .before .before .before .before .before .before in let inner = c .before .before .«open» in
-    descended (c .before .before .before .before .before .before .before .held .result) (c .before .before .before .before .before .before .before .held .ensures) (push .ensures)
-    (subst (λ (x : ℕ). Opened (push .last .0) (s .args .item) x (s .args .waiting .pass) (inner .result) (inner .last .0)) (push .ensures .past) (inner .ensures))
+returns c =
+    let push = c .before .before .before .before .before .before .push in
+    let s = c .before .before .before .before .before .before .before .before .before .before .before in
+    let inner = c .before .before .«open» in
+    descended (c .before .before .before .before .before .before .before .held .result)
+    (c .before .before .before .before .before .before .before .held .ensures) (push .ensures)
+    (subst (λ (x : ℕ). Opened (push .last .0) (s .args .item) x (s .args .waiting .pass) (inner .result) (inner .last .0))
+    (push .ensures .past) (inner .ensures))
 
 pub descend-spec : {M : Type 1} → statement M
 descend-spec = tie.close (tie.spec held-requires push-requires open-requires same-length returns)

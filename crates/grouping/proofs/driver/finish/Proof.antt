@@ -9,40 +9,60 @@ enum-known-pass : tie.Need-enum-known-pass
 enum-known-pass c = search needs
 
 finish-requires : tie.Need-finish-requires
-finish-requires c κs = let s = c .before .before .before .before .before .before in finish-at (s .args .walk .list) (s .args .walk .pass) _ (c .before .before .pass .given .1) (s .pre)
+finish-requires c κs =
+    let s = c .before .before .before .before .before .before in
+    finish-at (s .args .walk .list) (s .args .walk .pass) _ (c .before .before .pass .given .1) (s .pre)
 
 enum-told : tie.Need-enum-told
 enum-told c = search needs
 
 add-t10 : tie.Need-add-t10
-add-t10 c = let s = c .before .before .before .before .before in let e = finish-within (s .args .walk .list) (s .args .walk .pass) (s .pre) in omega arith
+add-t10 c =
+    let s = c .before .before .before .before .before in
+    let e = finish-within (s .args .walk .list) (s .args .walk .pass) (s .pre) in
+    omega arith
 
 sub-t11 : tie.Need-sub-t11
-sub-t11 c = let s = c .before .before .before .before .before .before in let e = finish-within (s .args .walk .list) (s .args .walk .pass) (s .pre) in omega arith
+sub-t11 c =
+    let s = c .before .before .before .before .before .before in
+    let e = finish-within (s .args .walk .list) (s .args .walk .pass) (s .pre) in
+    omega arith
 
 enum-known-pass-2 : tie.Need-enum-known-pass-2
 enum-known-pass-2 c = search needs
 
 finish-requires-2 : tie.Need-finish-requires-2
-finish-requires-2 c κs = let s = c .before .before .before .before .before .before in finish-at (s .args .walk .list) (s .args .walk .pass) _ (c .before .before .pass2 .given .1) (s .pre)
+finish-requires-2 c κs =
+    let s = c .before .before .before .before .before .before in
+    finish-at (s .args .walk .list) (s .args .walk .pass) _ (c .before .before .pass2 .given .1) (s .pre)
 
 same-length : tie.Need-same-length
 same-length c = search needs
 
 returns : tie.Need-returns
-returns c = let s = c .before .before .before .before .before .before .before .before .before in ends-by (s .args .walk .list) (s .args .walk .pass) _ (c .before .before .before .before .before .pass .given .1) (c .before .before .finish .ensures)
+returns c =
+    let s = c .before .before .before .before .before .before .before .before .before in
+    ends-by (s .args .walk .list) (s .args .walk .pass) _ (c .before .before .before .before .before .pass .given .1)
+    (c .before .before .finish .ensures)
 
 returns-2 : tie.Need-returns-2
-returns-2 c = let s = c .before .before .before .before .before .before in ends-by (s .args .walk .list) (s .args .walk .pass) _ (c .before .before .enum-told .given .1) (right-ends _ (s .args .walk .list))
+returns-2 c =
+    let s = c .before .before .before .before .before .before in
+    ends-by (s .args .walk .list) (s .args .walk .pass) _ (c .before .before .enum-told .given .1) (right-ends _ (s .args .walk .list))
 
 same-length-2 : tie.Need-same-length-2
 same-length-2 c = search needs
 
 returns-3 : tie.Need-returns-3
-returns-3 c = let s = c .before .before .before .before .before .before .before .before .before in ends-by (s .args .walk .list) (s .args .walk .pass) _ (c .before .before .before .before .before .pass2 .given .1) (c .before .before .finish2 .ensures)
+returns-3 c =
+    let s = c .before .before .before .before .before .before .before .before .before in
+    ends-by (s .args .walk .list) (s .args .walk .pass) _ (c .before .before .before .before .before .pass2 .given .1)
+    (c .before .before .finish2 .ensures)
 
 returns-4 : tie.Need-returns-4
-returns-4 c = let s = c .before .before .before in gathered-ends _ (s .args .walk .list) (s .args .walk .pass) (gathering-at (s .args .walk .pass) (c .match .keys4))
+returns-4 c =
+    let s = c .before .before .before in
+    gathered-ends _ (s .args .walk .list) (s .args .walk .pass) (gathering-at (s .args .walk .pass) (c .match .keys4))
 
 pub finish-spec : {M : Type 1} → statement M
 finish-spec =

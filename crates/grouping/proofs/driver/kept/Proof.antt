@@ -12,7 +12,8 @@ same-length c = search needs
 
 returns : tie.Need-returns
 returns c = let s = c .before .before .before .before .before in
-    keep-resumed _ _ (s .args .list) (c .before .before .keep .result) (s .args .pass) (s .args .item) (s .pre .0) (s .pre .1) (c .before .before .keep .ensures .0) (c .before .before .keep .ensures .1)
+    keep-resumed _ _ (s .args .list) (c .before .before .keep .result) (s .args .pass) (s .args .item) (s .pre .0) (s .pre .1)
+    (c .before .before .keep .ensures .0) (c .before .before .keep .ensures .1)
 
 pub kept-spec : {M : Type 1} → statement M
 kept-spec = tie.close (tie.spec keep-requires same-length returns)

@@ -18,21 +18,27 @@ slot : {W : List ℕ} {owner base : ℕ} {p : Pass} → CanOpen W owner base p �
 slot g = let own = g .own in let below = g .below in let room = g .room in omega arith
 
 -- the owner's chain, in the list's words
-abbrev taken : (c : tie.After-take-chain) → let a = c .before .before .before .before .before .args in CanBegin (c .take-chain .last .0) (a .owner) (a .base) (c .take-chain .result) (a .pass)
+abbrev taken : (c : tie.After-take-chain) →
+    let a = c .before .before .before .before .before .args in
+    CanBegin (c .take-chain .last .0) (a .owner) (a .base) (c .take-chain .result) (a .pass)
 taken c =
     let s = c .before .before .before .before .before in
     let a = s .args in
     record {
       before = a .work .now;
       opens = s .pre;
-      taken = subst (λ (x : ℕ). children.Taken (a .work .now) x (a .base) (c .take-chain .result) (c .take-chain .last .0)) (c .before .before .first-of .ensures) (c .take-chain .ensures);
+      taken =
+          subst (λ (x : ℕ). children.Taken (a .work .now) x (a .base) (c .take-chain .result) (c .take-chain .last .0))
+          (c .before .before .first-of .ensures) (c .take-chain .ensures);
     }
 
 first-of-requires : tie.Need-first-of-requires
 first-of-requires c κs = slot (c .before .before .pre)
 
 take-chain-requires : tie.Need-take-chain-requires
-take-chain-requires c κs = subst (λ (x : ℕ). CanTake (c .before .before .before .before .args .work .now) x (c .before .before .before .before .args .base)) (sym (c .before .first-of .ensures)) (open-can-take (c .before .before .before .before .pre))
+take-chain-requires c κs =
+    subst (λ (x : ℕ). CanTake (c .before .before .before .before .args .work .now) x (c .before .before .before .before .args .base))
+    (sym (c .before .first-of .ensures)) (open-can-take (c .before .before .before .before .pre))
 
 begin-requires : tie.Need-begin-requires
 begin-requires c κs = taken (c .before .before .before)

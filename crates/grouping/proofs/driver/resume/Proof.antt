@@ -10,7 +10,8 @@ enum-known-pass c = search needs
 resume-array-requires : tie.Need-resume-array-requires
 resume-array-requires c κs =
     let s = c .before .before .before .before .before .before in
-    resume-at (s .args .walk .list) (s .args .walk .pass) _ (array-unlent (s .args .walk .list) _ _ _ (c .before .before .pass .given .1) (s .pre)) (s .pre)
+    resume-at (s .args .walk .list) (s .args .walk .pass) _
+    (array-unlent (s .args .walk .list) _ _ _ (c .before .before .pass .given .1) (s .pre)) (s .pre)
 
 enum-told : tie.Need-enum-told
 enum-told c = search needs
@@ -24,7 +25,9 @@ enum-known-pass-2 : tie.Need-enum-known-pass-2
 enum-known-pass-2 c = search needs
 
 resume-requires : tie.Need-resume-requires
-resume-requires c κs = let s = c .before .before .before .before .before .before in resume-at (s .args .walk .list) (s .args .walk .pass) _ (c .before .before .pass2 .given .1) (s .pre)
+resume-requires c κs =
+    let s = c .before .before .before .before .before .before in
+    resume-at (s .args .walk .list) (s .args .walk .pass) _ (c .before .before .pass2 .given .1) (s .pre)
 
 kept-requires : tie.Need-kept-requires
 kept-requires c κs = let s = c .before .before .before .before in (s .pre, keeping-at (s .args .walk .pass) (c .before .match .keys4))
@@ -35,7 +38,9 @@ same-length c = search needs
 returns : tie.Need-returns
 returns c =
     let s = c .before .before .before .before .before .before .before .before .before in
-    resumed-by (s .args .walk .list) (s .args .walk .pass) _ (array-unlent (s .args .walk .list) _ _ _ (c .before .before .before .before .before .pass .given .1) (s .pre)) (c .before .before .resume-array .ensures)
+    resumed-by (s .args .walk .list) (s .args .walk .pass) _
+    (array-unlent (s .args .walk .list) _ _ _ (c .before .before .before .before .before .pass .given .1) (s .pre))
+    (c .before .before .resume-array .ensures)
 
 same-length-2 : tie.Need-same-length-2
 same-length-2 c = search needs
@@ -46,7 +51,8 @@ returns-2 c =
     let told = c .before .before .before .before .enum-told .given .1 in
     let kept = c .before .before .keep-right in
     resumed-by (s .args .walk .list) (s .args .walk .pass) _ told
-    (right-resumed _ _ (s .args .walk .list) (kept .result) (s .args .item) (resume-at (s .args .walk .list) (s .args .walk .pass) _ told (s .pre)) (kept .ensures .0) (kept .ensures .1))
+    (right-resumed _ _ (s .args .walk .list) (kept .result) (s .args .item)
+    (resume-at (s .args .walk .list) (s .args .walk .pass) _ told (s .pre)) (kept .ensures .0) (kept .ensures .1))
 
 same-length-3 : tie.Need-same-length-3
 same-length-3 c = search needs
@@ -54,7 +60,8 @@ same-length-3 c = search needs
 returns-3 : tie.Need-returns-3
 returns-3 c =
     let s = c .before .before .before .before .before .before .before .before .before in
-    resumed-by (s .args .walk .list) (s .args .walk .pass) _ (c .before .before .before .before .before .pass2 .given .1) (c .before .before .resume .ensures)
+    resumed-by (s .args .walk .list) (s .args .walk .pass) _ (c .before .before .before .before .before .pass2 .given .1)
+    (c .before .before .resume .ensures)
 
 same-length-4 : tie.Need-same-length-4
 same-length-4 c = search needs

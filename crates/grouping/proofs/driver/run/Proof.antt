@@ -1,10 +1,12 @@
--- `run`: the loop over the driver's turns. Its invariant: what is left to be done has the whole pass's result, and takes fewer turns than there is fuel.
+-- `run`: the loop over the driver's turns. Its invariant: what is left to be done has the whole pass's result, and takes fewer turns than
+-- there is fuel.
 use mathlib.Core.Path.{_≡_, refl, _∙_}
 use native.Mathlib.Omega.{arith}
 use borrow.Author.Needs.{needs}
 use lib.ListN.{length}
 use Rattle.grouping.specs.Driver.{Opened}
-use Rattle.grouping.proofs.RunLaws.{Running, run-can-begin, run-opened, run-holds, running-advances, run-again, ran-done, ran-failed, run-never}
+use Rattle.grouping.proofs.RunLaws.{Running, run-can-begin, run-opened, run-holds, running-advances, run-again, ran-done, ran-failed}
+use Rattle.grouping.proofs.RunLaws.{run-never}
 use Rattle.grouping.proofs.driver.run.Statement.{statement}
 use Rattle.grouping.proofs.driver.run.Tie as tie
 
@@ -35,17 +37,24 @@ loop-less c = omega (arith, c .before .before .before .before .before .before .b
 loop-again : tie.Need-loop-again Inv-loop μ-loop
 loop-again c =
     let loop = c .before .before .before .before .before .before .before .before .loop in
-    let advance = c .before .before .before .before .before .advance in
-    (run-again (advance .result) _ (loop .inv .0) (advance .ensures) (c .before .next .given .1) (omega (arith, c .before .before .before .before .before .before .before .loop-test .taken)) (advance .kept .0), loop .inv .1)
+    let advance = c .before .before .before .before .before .advance in (
+      run-again (advance .result) _ (loop .inv .0) (advance .ensures) (c .before .next .given .1)
+          (omega (arith, c .before .before .before .before .before .before .before .loop-test .taken)) (advance .kept .0),
+      loop .inv .1,
+    )
 
 enum-known-next-2 : tie.Need-enum-known-next-2 Inv-loop μ-loop
 enum-known-next-2 c = search needs
 
 same-length : tie.Need-same-length Inv-loop μ-loop
-same-length c = c .before .before .before .before .before .advance .kept .0 ∙ c .before .before .before .before .before .before .before .before .loop .inv .0 .long
+same-length c =
+    c .before .before .before .before .before .advance .kept .0
+    ∙ c .before .before .before .before .before .before .before .before .loop .inv .0 .long
 
 -- how the loop began
-began : (c : tie.At-loop Inv-loop μ-loop) → let s = c .before .before .before .before in Opened (s .args .work .now) 0 (s .args .base) (s .args .pass) (c .before .begin .result) (s .args .work .now)
+began : (c : tie.At-loop Inv-loop μ-loop) →
+    let s = c .before .before .before .before in
+    Opened (s .args .work .now) 0 (s .args .base) (s .args .pass) (c .before .begin .result) (s .args .work .now)
 began c = run-opened (c .before .begin .ensures) (c .before .before .before .before .pre)
 
 returns : tie.Need-returns Inv-loop μ-loop
@@ -58,7 +67,9 @@ enum-known-next-3 : tie.Need-enum-known-next-3 Inv-loop μ-loop
 enum-known-next-3 c = search needs
 
 same-length-2 : tie.Need-same-length-2 Inv-loop μ-loop
-same-length-2 c = c .before .before .before .before .before .advance .kept .0 ∙ c .before .before .before .before .before .before .before .before .loop .inv .0 .long
+same-length-2 c =
+    c .before .before .before .before .before .advance .kept .0
+    ∙ c .before .before .before .before .before .before .before .before .loop .inv .0 .long
 
 returns-2 : tie.Need-returns-2 Inv-loop μ-loop
 returns-2 c =

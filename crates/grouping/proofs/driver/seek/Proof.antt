@@ -9,7 +9,9 @@ classes-requires : tie.Need-classes-requires
 classes-requires c κs = search needs
 
 next-token-requires : tie.Need-next-token-requires
-next-token-requires c κs = let s = c .before .before .before in can-seek (standing _ (s .args .list) (s .args .pass) (s .pre .1) (s .pre .0))
+next-token-requires c κs =
+    let s = c .before .before .before in
+    can-seek (standing _ (s .args .list) (s .args .pass) (s .pre .1) (s .pre .0))
 
 enum-known-found : tie.Need-enum-known-found
 enum-known-found c = search needs
@@ -29,8 +31,12 @@ enum-known-found-3 c = search needs
 token-requires : tie.Need-token-requires
 token-requires c κs =
     let s = c .before .before .before .before .before .before .before .before .before .before in
-    let sought = sought-of (s .args .pass) (c .before .before .before .before .before .before .before .classes .ensures) (c .before .before .before .before .before .before .next-token .ensures) in
-    (token-found (standing _ (s .args .list) (s .args .pass) (s .pre .1)) (s .pre .0) sought (c .before .before .found3 .given .1), s .pre .1)
+    let sought =
+    sought-of (s .args .pass) (c .before .before .before .before .before .before .before .classes .ensures)
+    (c .before .before .before .before .before .before .next-token .ensures) in (
+      token-found (standing _ (s .args .list) (s .args .pass) (s .pre .1)) (s .pre .0) sought (c .before .before .found3 .given .1),
+      s .pre .1,
+    )
 
 same-length : tie.Need-same-length
 same-length c = search needs
@@ -38,7 +44,9 @@ same-length c = search needs
 returns : tie.Need-returns
 returns c =
     let s = c .before .before .before .before .before .before .before .before .before .before in
-    let sought = sought-of (s .args .pass) (c .before .before .before .before .before .before .before .classes .ensures) (c .before .before .before .before .before .before .next-token .ensures) in
+    let sought =
+    sought-of (s .args .pass) (c .before .before .before .before .before .before .before .classes .ensures)
+    (c .before .before .before .before .before .before .next-token .ensures) in
     turned-over (standing _ (s .args .list) (s .args .pass) (s .pre .1)) sought (c .before .before .found .given .1) (c .over .ensures)
 
 same-length-2 : tie.Need-same-length-2
@@ -47,7 +55,9 @@ same-length-2 c = search needs
 returns-2 : tie.Need-returns-2
 returns-2 c =
     let s = c .before .before .before .before .before .before .before .before .before .before in
-    let sought = sought-of (s .args .pass) (c .before .before .before .before .before .before .before .classes .ensures) (c .before .before .before .before .before .before .next-token .ensures) in
+    let sought =
+    sought-of (s .args .pass) (c .before .before .before .before .before .before .before .classes .ensures)
+    (c .before .before .before .before .before .before .next-token .ensures) in
     turned-enter (standing _ (s .args .list) (s .args .pass) (s .pre .1)) sought (c .before .before .found2 .given .1) (c .enter .ensures)
 
 same-length-3 : tie.Need-same-length-3
@@ -56,8 +66,11 @@ same-length-3 c = search needs
 returns-3 : tie.Need-returns-3
 returns-3 c =
     let s = c .before .before .before .before .before .before .before .before .before .before .before .before .before in
-    let sought = sought-of (s .args .pass) (c .before .before .before .before .before .before .before .before .before .before .classes .ensures) (c .before .before .before .before .before .before .before .before .before .next-token .ensures) in
-    turned-token (left-stands _ (s .args .list) (s .args .pass) (s .pre .1) (c .before .before .token .ensures .turned)) sought (c .before .before .before .before .before .found3 .given .1)
+    let sought =
+    sought-of (s .args .pass) (c .before .before .before .before .before .before .before .before .before .before .classes .ensures)
+    (c .before .before .before .before .before .before .before .before .before .next-token .ensures) in
+    turned-token (left-stands _ (s .args .list) (s .args .pass) (s .pre .1) (c .before .before .token .ensures .turned)) sought
+    (c .before .before .before .before .before .found3 .given .1)
 
 pub seek-spec : {M : Type 1} → statement M
 seek-spec =

@@ -24,7 +24,9 @@ returns : tie.Need-returns
 returns c =
     let w = c .before .before .before .before .before in
     let s = c .before .before .before .before .before .before .before .before in
-    let array = turn-waiting (s .args .walk .list) (s .args .walk .pass) _ (w .waiting .ensures) (c .before .before .before .before .if1 .taken) (s .pre) in
+    let array =
+    turn-waiting (s .args .walk .list) (s .args .walk .pass) _ (w .waiting .ensures) (c .before .before .before .before .if1 .taken)
+    (s .pre) in
     turned-by (s .args .walk .list) (s .args .walk .pass) _ array (c .before .before .array-on .ensures)
 
 enum-known-pass : tie.Need-enum-known-pass
@@ -68,7 +70,8 @@ same-length-2 c = search needs
 returns-2 : tie.Need-returns-2
 returns-2 c =
     let s = c .before .before .before .before .before .before .before .before .before .before .before in
-    turned-by (s .args .walk .list) (s .args .walk .pass) _ (c .before .before .before .before .before .pass .given .1) (c .before .before .step .ensures)
+    turned-by (s .args .walk .list) (s .args .walk .pass) _ (c .before .before .before .before .before .pass .given .1)
+    (c .before .before .step .ensures)
 
 same-length-3 : tie.Need-same-length-3
 same-length-3 c = search needs
@@ -76,7 +79,8 @@ same-length-3 c = search needs
 returns-3 : tie.Need-returns-3
 returns-3 c =
     let s = c .before .before .before .before .before .before .before .before .before .before in
-    turned-by (s .args .walk .list) (s .args .walk .pass) _ (c .before .before .before .before .enum-told .given .1) (c .before .before .step2 .ensures)
+    turned-by (s .args .walk .list) (s .args .walk .pass) _ (c .before .before .before .before .enum-told .given .1)
+    (c .before .before .step2 .ensures)
 
 same-length-4 : tie.Need-same-length-4
 same-length-4 c = search needs
@@ -84,7 +88,8 @@ same-length-4 c = search needs
 returns-4 : tie.Need-returns-4
 returns-4 c =
     let s = c .before .before .before .before .before .before .before .before .before .before .before in
-    turned-by (s .args .walk .list) (s .args .walk .pass) _ (c .before .before .before .before .before .pass2 .given .1) (c .before .before .step3 .ensures)
+    turned-by (s .args .walk .list) (s .args .walk .pass) _ (c .before .before .before .before .before .pass2 .given .1)
+    (c .before .before .step3 .ensures)
 
 same-length-5 : tie.Need-same-length-5
 same-length-5 c = search needs
@@ -92,7 +97,8 @@ same-length-5 c = search needs
 returns-5 : tie.Need-returns-5
 returns-5 c =
     let s = c .before .before .before .before .before .before .before .before .before .before in
-    turned-by (s .args .walk .list) (s .args .walk .pass) _ (sym (c .before .before .before .anew .ensures)) (c .before .before .seek .ensures)
+    turned-by (s .args .walk .list) (s .args .walk .pass) _ (sym (c .before .before .before .anew .ensures))
+    (c .before .before .seek .ensures)
 
 pub step-spec : {M : Type 1} → statement M
 step-spec =

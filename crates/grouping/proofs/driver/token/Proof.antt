@@ -44,13 +44,17 @@ same-length : tie.Need-same-length
 same-length c = search needs
 
 returns : tie.Need-returns
-returns c = token-by (c .before .before .before .before .before .before .before .args .pass) _ (c .before .before .before .before .enum-told .given .1) (c .before .before .call .ensures)
+returns c =
+    token-by (c .before .before .before .before .before .before .before .args .pass) _
+    (c .before .before .before .before .enum-told .given .1) (c .before .before .call .ensures)
 
 same-length-2 : tie.Need-same-length-2
 same-length-2 c = search needs
 
 returns-2 : tie.Need-returns-2
-returns-2 c = token-by (c .before .before .before .before .before .before .before .args .pass) _ (c .before .before .before .before .enum-told2 .given .1) (c .before .before .math-call .ensures)
+returns-2 c =
+    token-by (c .before .before .before .before .before .before .before .args .pass) _
+    (c .before .before .before .before .enum-told2 .given .1) (c .before .before .math-call .ensures)
 
 same-length-3 : tie.Need-same-length-3
 same-length-3 c = search needs
@@ -58,7 +62,8 @@ same-length-3 c = search needs
 returns-3 : tie.Need-returns-3
 returns-3 c =
     let s = c .before .before .before .before .before .before .before in
-    token-by (s .args .pass) _ (array-none (s .args .pass) (c .before .before .before .before .enum-told3 .given .1) (s .pre .1)) (c .before .before .array-name .ensures)
+    token-by (s .args .pass) _ (array-none (s .args .pass) (c .before .before .before .before .enum-told3 .given .1) (s .pre .1))
+    (c .before .before .array-name .ensures)
 
 same-length-4 : tie.Need-same-length-4
 same-length-4 c = search needs
@@ -66,13 +71,16 @@ same-length-4 c = search needs
 returns-4 : tie.Need-returns-4
 returns-4 c =
     let s = c .before .before .before .before .before .before .before .before in
-    token-by (s .args .pass) _ (level-idle (s .args .pass) (c .before .before .before .before .before .pass .given .1) (s .pre .1)) (c .before .before .operator .ensures)
+    token-by (s .args .pass) _ (level-idle (s .args .pass) (c .before .before .before .before .before .pass .given .1) (s .pre .1))
+    (c .before .before .operator .ensures)
 
 same-length-5 : tie.Need-same-length-5
 same-length-5 c = search needs
 
 returns-5 : tie.Need-returns-5
-returns-5 c = token-by (c .before .before .before .before .before .before .before .args .pass) _ (c .before .before .before .before .enum-told4 .given .1) (c .before .before .returned .ensures)
+returns-5 c =
+    token-by (c .before .before .before .before .before .before .before .args .pass) _
+    (c .before .before .before .before .enum-told4 .given .1) (c .before .before .returned .ensures)
 
 same-length-6 : tie.Need-same-length-6
 same-length-6 c = search needs
@@ -80,7 +88,8 @@ same-length-6 c = search needs
 returns-6 : tie.Need-returns-6
 returns-6 c =
     let kept = c .before .before .before .keep .ensures in
-    token-kept (c .before .before .before .before .before .before .before .args .pass) (c .before .before .before .before .before .match .keys6) (kept .1) (kept .0) (c .on .ensures)
+    token-kept (c .before .before .before .before .before .before .before .args .pass)
+    (c .before .before .before .before .before .match .keys6) (kept .1) (kept .0) (c .on .ensures)
 
 pub token-spec : {M : Type 1} → statement M
 token-spec =

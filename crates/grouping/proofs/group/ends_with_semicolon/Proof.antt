@@ -27,18 +27,22 @@ shared-slice-read-last : tie.Need-shared-slice-read-last
 shared-slice-read-last c = let g = c .before .before .before .before .before .pre in omega (arith, g .based, g .room, c .before .if2 .left)
 
 operator-of-requires : tie.Need-operator-of-requires
-operator-of-requires c κs = let g = c .before .before .before .before .before .pre in omega (arith, last-token g (c .before .if2 .left) .below, g .based, g .room)
+operator-of-requires c κs =
+    let g = c .before .before .before .before .before .pre in
+    omega (arith, last-token g (c .before .if2 .left) .below, g .based, g .room)
 
 returns-2 : tie.Need-returns-2
 unfolding runs
 returns-2 c =
-    last-other (sym (c .before .before .before .before .before .has-either .ensures) ∙ c .before .before .before .before .if1 .taken) (c .before .before .before .if2 .left)
+    last-other (sym (c .before .before .before .before .before .has-either .ensures) ∙ c .before .before .before .before .if1 .taken)
+    (c .before .before .before .if2 .left)
     (λ e. c .if3 .taken (c .before .operator-of .ensures ∙ e))
 
 returns-3 : tie.Need-returns-3
 unfolding runs
 returns-3 c =
-    last-semicolon (sym (c .before .before .before .before .before .has-either .ensures) ∙ c .before .before .before .before .if1 .taken) (c .before .before .before .if2 .left)
+    last-semicolon (sym (c .before .before .before .before .before .has-either .ensures) ∙ c .before .before .before .before .if1 .taken)
+    (c .before .before .before .if2 .left)
     (sym (c .before .operator-of .ensures) ∙ c .if3 .left)
 
 returns-4 : tie.Need-returns-4

@@ -29,22 +29,27 @@ returns-2 : tie.Need-returns-2
 returns-2 c =
     let x = c .before .before .before .before .before .before .before .ends-with-semicolon in
     let y = c .before .before .before .members-if-used in
-    flat-unjoined (x .result) (c .before .before .before .before .before .before .match .keys1) (x .ensures) (y .result) (fallen (y .result) (c .match2 .keys2)) (y .ensures)
+    flat-unjoined (x .result) (c .before .before .before .before .before .before .match .keys1) (x .ensures) (y .result)
+    (fallen (y .result) (c .match2 .keys2)) (y .ensures)
 
 sections-if-used-requires : tie.Need-sections-if-used-requires
 sections-if-used-requires c κs =
     let y = c .before .before .before .before .before .before .members-if-used in
-    group-sections (c .before .before .before .before .before .before .before .before .before .before .before .before .before .pre) (joined-items (y .result) (c .before .before .joined .given .1) (y .ensures))
+    group-sections (c .before .before .before .before .before .before .before .before .before .before .before .before .before .pre)
+    (joined-items (y .result) (c .before .before .joined .given .1) (y .ensures))
 
 same-length-3 : tie.Need-same-length-3
 same-length-3 c = search needs
 
 returns-3 : tie.Need-returns-3
 returns-3 c =
-    let x = c .before .before .before .before .before .before .before .before .before .before .before .before .before .ends-with-semicolon in
+    let x =
+    c .before .before .before .before .before .before .before .before .before .before .before .before .before .ends-with-semicolon in
     let y = c .before .before .before .before .before .before .before .before .before .members-if-used in
     let z = c .before .before .sections-if-used in
-    flat-sectioned (x .result) (c .before .before .before .before .before .before .before .before .before .before .before .before .match .keys1) (x .ensures) (joined-items (y .result) (c .before .before .before .before .before .joined .given .1) (y .ensures)) (z .result) (z .ensures)
+    flat-sectioned (x .result)
+    (c .before .before .before .before .before .before .before .before .before .before .before .before .match .keys1) (x .ensures)
+    (joined-items (y .result) (c .before .before .before .before .before .joined .given .1) (y .ensures)) (z .result) (z .ensures)
 
 pub flat-spec : {M : Type 1} → statement M
 flat-spec =

@@ -16,7 +16,9 @@ same-length : tie.Need-same-length
 same-length c = search needs
 
 returns : tie.Need-returns
-returns c = let x = c .before .before .before .before .before .flat in group-ends (x .result) (Fail _) _ (c .before .left .given .1) tt (x .ensures)
+returns c =
+    let x = c .before .before .before .before .before .flat in
+    group-ends (x .result) (Fail _) _ (c .before .left .given .1) tt (x .ensures)
 
 enum-known-left-2 : tie.Need-enum-known-left-2
 enum-known-left-2 c = search needs
@@ -25,7 +27,9 @@ same-length-2 : tie.Need-same-length-2
 same-length-2 c = search needs
 
 returns-2 : tie.Need-returns-2
-returns-2 c = let x = c .before .before .before .before .before .flat in group-ends (x .result) (Mismatched _) _ (c .before .left2 .given .1) tt (x .ensures)
+returns-2 c =
+    let x = c .before .before .before .before .before .flat in
+    group-ends (x .result) (Mismatched _) _ (c .before .left2 .given .1) tt (x .ensures)
 
 enum-known-left-3 : tie.Need-enum-known-left-3
 enum-known-left-3 c = search needs
@@ -34,18 +38,25 @@ same-length-3 : tie.Need-same-length-3
 same-length-3 c = search needs
 
 returns-3 : tie.Need-returns-3
-returns-3 c = let x = c .before .before .before .before .before .flat in group-ends (x .result) (Unclosed _) _ (c .before .left3 .given .1) tt (x .ensures)
+returns-3 c =
+    let x = c .before .before .before .before .before .flat in
+    group-ends (x .result) (Unclosed _) _ (c .before .left3 .given .1) tt (x .ensures)
 
 enum-known-left-4 : tie.Need-enum-known-left-4
 enum-known-left-4 c = search needs
 
 give-children-requires : tie.Need-give-children-requires
-give-children-requires c κs = let x = c .before .before .before .before .before .before .flat in group-gives (x .result) _ (c .before .before .left4 .given .1) (x .ensures) (c .before .before .before .before .before .before .before .before .before .pre)
+give-children-requires c κs =
+    let x = c .before .before .before .before .before .before .flat in
+    group-gives (x .result) _ (c .before .before .left4 .given .1) (x .ensures)
+    (c .before .before .before .before .before .before .before .before .before .pre)
 
 levels-requires : tie.Need-levels-requires
 levels-requires c κs =
     let x = c .before .before .before .before .before .before .before .before .before .before .flat in
-    group-levels (x .result) _ (c .before .before .before .before .before .before .left4 .given .1) (x .ensures) (c .before .before .before .give-children .ensures) (c .before .before .before .before .before .before .before .before .before .before .before .before .before .pre)
+    group-levels (x .result) _ (c .before .before .before .before .before .before .left4 .given .1) (x .ensures)
+    (c .before .before .before .give-children .ensures)
+    (c .before .before .before .before .before .before .before .before .before .before .before .before .before .pre)
 
 same-length-4 : tie.Need-same-length-4
 same-length-4 c = search needs
@@ -53,8 +64,13 @@ same-length-4 c = search needs
 returns-4 : tie.Need-returns-4
 returns-4 c =
     let x = c .before .before .before .before .before .before .before .before .before .before .before .before .before .flat in
-    group-done (x .result) _ (c .before .before .before .before .before .before .before .before .before .left4 .given .1) (x .ensures) (c .before .before .before .before .before .before .give-children .ensures)
-    (levelled-at (toZ-ofZ (c .before .before .before .before .before .before .before .before .before .before .before .before .before .before .before .before .fits .version)) (c .before .before .levels .ensures))
+    group-done (x .result) _ (c .before .before .before .before .before .before .before .before .before .left4 .given .1) (x .ensures)
+    (c .before .before .before .before .before .before .give-children .ensures)
+    (levelled-at
+    (toZ-ofZ
+    (c .before .before .before .before .before .before .before .before .before .before .before .before .before .before
+    .before .before .fits .version))
+    (c .before .before .levels .ensures))
 
 pub group-spec : {M : Type 1} → statement M
 group-spec =

@@ -9,13 +9,15 @@ use borrow.Author.Needs.{needs}
 use lib.ListN.{length}
 use Rattle.order.specs.Ranks.{usedBy, rulesOf, later, Ranked}
 use Rattle.grouping.specs.Group.{CanLevel}
-use Rattle.grouping.proofs.LevelLaws.{LevelAt, level-start, level-chooses, chosen-as, levelled-at, level-on, level-pointer, level-fails, level-roots}
+use Rattle.grouping.proofs.LevelLaws.{LevelAt, level-start, level-chooses, chosen-as, levelled-at, level-on, level-pointer}
+use Rattle.grouping.proofs.LevelLaws.{level-fails, level-roots}
 use Rattle.grouping.proofs.group.levels.Statement.{statement}
 use Rattle.grouping.proofs.group.levels.Tie as tie
 
 abbrev Inv-loop : tie.InvT-loop
 Inv-loop work₀ base m used version table k₀ n₀ work k n =
-    CanLevel work₀ base m × ((g : CanLevel work₀ base m) (l : ℕ) → LevelAt work₀ base m (usedBy used) (rulesOf (toZ w16 version)) g l work k n) × (k ≤ 23)
+    CanLevel work₀ base m
+    × ((g : CanLevel work₀ base m) (l : ℕ) → LevelAt work₀ base m (usedBy used) (rulesOf (toZ w16 version)) g l work k n) × (k ≤ 23)
     × (length work ≡ length work₀)
     × Ranked (later (rulesOf (toZ w16 version))) table
 
@@ -27,8 +29,13 @@ ranks-requires c κs = search needs
 
 loop-holds : tie.Need-loop-holds Inv-loop μ-loop
 loop-holds c =
-    let a = c .before .before .args in
-    (c .before .before .pre, λ g l. level-start (usedBy (a .used)) (rulesOf (toZ w16 (ofZ w16 (a .version)))) g l, omega arith, refl, c .ranks .ensures)
+    let a = c .before .before .args in (
+      c .before .before .pre,
+      λ g l. level-start (usedBy (a .used)) (rulesOf (toZ w16 (ofZ w16 (a .version)))) g l,
+      omega arith,
+      refl,
+      c .ranks .ensures,
+    )
 
 cast-rank : tie.Need-cast-rank Inv-loop μ-loop
 cast-rank c = search needs
@@ -76,7 +83,9 @@ enum-known-ran-2 : tie.Need-enum-known-ran-2 Inv-loop μ-loop
 enum-known-ran-2 c = search needs
 
 same-length : tie.Need-same-length Inv-loop μ-loop
-same-length c = c .before .before .before .before .before .before .run-choice .kept .0 ∙ c .before .before .before .before .before .before .before .before .before .before .before .loop .inv .3
+same-length c =
+    c .before .before .before .before .before .before .run-choice .kept .0
+    ∙ c .before .before .before .before .before .before .before .before .before .before .before .loop .inv .3
 
 returns : tie.Need-returns Inv-loop μ-loop
 returns c =
@@ -84,13 +93,20 @@ returns c =
     let v = t .before .loop .inv in
     let p = c .before .before .before .before .before .before .before .before .choose in
     let x = c .before .before .before .before .before .before .run-choice in
-    levelled-at (toZ-ofZ (c .before .before .before .before .before .before .before .before .before .before .before .before .before .before .fits .version)) (record {
-      to = λ g l. level-pointer (v .3) (v .1 g l) (p .result) (p .ensures _ (v .4 (t .before .loop .k))) _ (chosen-as _ _ _ (p .result) (x .result) (x .last .0) (c .before .before .ran2 .given .1) (x .ensures)) (c .if1 .taken);
+    levelled-at
+    (toZ-ofZ
+    (c .before .before .before .before .before .before .before .before .before .before .before .before .before .before .fits .version))
+    (record {
+      to =
+          λ g l. level-pointer (v .3) (v .1 g l) (p .result) (p .ensures _ (v .4 (t .before .loop .k))) _
+          (chosen-as _ _ _ (p .result) (x .result) (x .last .0) (c .before .before .ran2 .given .1) (x .ensures)) (c .if1 .taken);
       long = x .kept .0 ∙ v .3;
     })
 
 same-length-2 : tie.Need-same-length-2 Inv-loop μ-loop
-same-length-2 c = c .before .before .before .before .before .before .run-choice .kept .0 ∙ c .before .before .before .before .before .before .before .before .before .before .before .loop .inv .3
+same-length-2 c =
+    c .before .before .before .before .before .before .run-choice .kept .0
+    ∙ c .before .before .before .before .before .before .before .before .before .before .before .loop .inv .3
 
 returns-2 : tie.Need-returns-2 Inv-loop μ-loop
 returns-2 c =
@@ -98,8 +114,13 @@ returns-2 c =
     let v = t .before .loop .inv in
     let p = c .before .before .before .before .before .before .before .before .choose in
     let x = c .before .before .before .before .before .before .run-choice in
-    levelled-at (toZ-ofZ (c .before .before .before .before .before .before .before .before .before .before .before .before .before .before .fits .version)) (record {
-      to = λ g l. level-fails (v .3) (v .1 g l) (p .result) (p .ensures _ (v .4 (t .before .loop .k))) _ (chosen-as _ _ _ (p .result) (x .result) (x .last .0) (c .before .before .ran2 .given .1) (x .ensures)) (c .if1 .left);
+    levelled-at
+    (toZ-ofZ
+    (c .before .before .before .before .before .before .before .before .before .before .before .before .before .before .fits .version))
+    (record {
+      to =
+          λ g l. level-fails (v .3) (v .1 g l) (p .result) (p .ensures _ (v .4 (t .before .loop .k))) _
+          (chosen-as _ _ _ (p .result) (x .result) (x .last .0) (c .before .before .ran2 .given .1) (x .ensures)) (c .if1 .left);
       long = x .kept .0 ∙ v .3;
     })
 
@@ -109,7 +130,8 @@ same-length-3 c = c .before .loop .inv .3
 returns-3 : tie.Need-returns-3 Inv-loop μ-loop
 returns-3 c =
     let v = c .before .loop .inv in
-    levelled-at (toZ-ofZ (c .before .before .before .before .fits .version)) (record { to = λ g l. level-roots (v .1 g l) (omega (arith, v .2, c .loop-test .left)); long = v .3 })
+    levelled-at (toZ-ofZ (c .before .before .before .before .fits .version))
+    (record { to = λ g l. level-roots (v .1 g l) (omega (arith, v .2, c .loop-test .left)); long = v .3 })
 
 pub levels-spec : {M : Type 1} → statement M
 levels-spec =

@@ -18,7 +18,10 @@ same-length c = search needs
 
 returns : tie.Need-returns
 unfolding runs
-returns c = joined-used (sym (c .before .before .before .before .before .contains .ensures ∙ one-used _ _) ∙ c .before .before .before .before .if1 .taken) (c .before .before .members .ensures)
+returns c =
+    joined-used
+    (sym (c .before .before .before .before .before .contains .ensures ∙ one-used _ _) ∙ c .before .before .before .before .if1 .taken)
+    (c .before .before .members .ensures)
 
 returns-2 : tie.Need-returns-2
 unfolding runs

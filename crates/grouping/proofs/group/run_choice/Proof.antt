@@ -33,10 +33,13 @@ same-length c = search needs
 
 returns : tie.Need-returns
 returns c =
-    chosen-run (c .before .before .before .before .before .before .before .before .before .before .before .before .before .args .choice) _ (c .before .before .before .before .before .before .before .before .before .before .choice .given .1) (c .before .before .run .ensures)
+    chosen-run (c .before .before .before .before .before .before .before .before .before .before .before .before .before .args .choice) _
+    (c .before .before .before .before .before .before .before .before .before .before .choice .given .1) (c .before .before .run .ensures)
 
 returns-2 : tie.Need-returns-2
-returns-2 c = chosen-skip _ (c .before .before .before .args .base) (c .before .before .before .args .n) (c .before .before .before .args .choice) (c .enum-told .given .1)
+returns-2 c =
+    chosen-skip _ (c .before .before .before .args .base) (c .before .before .before .args .n) (c .before .before .before .args .choice)
+    (c .enum-told .given .1)
 
 same-length-2 : tie.Need-same-length-2
 same-length-2 c = search needs
@@ -45,7 +48,9 @@ returns-3 : tie.Need-returns-3
 returns-3 c =
     let s = c .before .before .before .before .before .before .before .before .before in
     let choice = c .before .before .before .before .before .before .choice in
-    let none = ap₂ shares (sym (c .before .before .before .classes-of .ensures)) (sym (c .before .before .classes .ensures)) ∙ sym (c .before .intersects .ensures) ∙ c .if1 .left in
+    let none =
+    ap₂ shares (sym (c .before .before .before .classes-of .ensures)) (sym (c .before .before .classes .ensures)) ∙ sym
+    (c .before .intersects .ensures) ∙ c .if1 .left in
     chosen-run (s .args .choice) _ (choice .given .1) (gate-shut (chosen-can-run (s .args .choice) _ (choice .given .1) (s .pre)) none)
 
 pub run-choice-spec : {M : Type 1} → statement M

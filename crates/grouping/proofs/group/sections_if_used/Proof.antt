@@ -17,7 +17,9 @@ same-length c = search needs
 
 returns : tie.Need-returns
 unfolding runs
-returns c = sectioned-used (sym (c .before .before .before .before .before .has-some .ensures) ∙ c .before .before .before .before .if1 .taken) (c .before .before .sections .ensures .0)
+returns c =
+    sectioned-used (sym (c .before .before .before .before .before .has-some .ensures) ∙ c .before .before .before .before .if1 .taken)
+    (c .before .before .sections .ensures .0)
 
 returns-2 : tie.Need-returns-2
 unfolding runs

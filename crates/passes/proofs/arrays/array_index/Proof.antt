@@ -31,7 +31,8 @@ returns-2 : tie.Need-returns-2
 returns-2 c =
     let lent = c .before .before .before .before in
     let full = lent .before .before in
-    index-opens (c .before .past .result) (sym (full .before .is-leaf .ensures) ∙ full .if1 .left) (lent .lend-name .ensures) (c .before .past .ensures) (c .enter .ensures)
+    index-opens (c .before .past .result) (sym (full .before .is-leaf .ensures) ∙ full .if1 .left) (lent .lend-name .ensures)
+    (c .before .past .ensures) (c .enter .ensures)
 
 pub array-index-spec : {M : Type 1} → statement M
 array-index-spec =

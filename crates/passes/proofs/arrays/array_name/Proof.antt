@@ -22,7 +22,8 @@ returns : tie.Need-returns
 returns c =
     let kept = c .before .before .before in
     let bare = kept .before .before in
-    name-kept (bare .before .next-if .result) (bare .before .next-if .ensures) _ (kept .keep .result) (c .on .result) (bare .if1 .taken) (kept .keep .ensures .1) (kept .keep .ensures .0) (c .on .ensures)
+    name-kept (bare .before .next-if .result) (bare .before .next-if .ensures) _ (kept .keep .result) (c .on .result) (bare .if1 .taken)
+    (kept .keep .ensures .1) (kept .keep .ensures .0) (c .on .ensures)
 
 set-operator-requires : tie.Need-set-operator-requires
 set-operator-requires c κs = token-room (c .before .before .before .before .before .pre) .0
@@ -31,7 +32,8 @@ array-index-requires : tie.Need-array-index-requires
 array-index-requires c κs =
     let renamed = c .before .before .before in
     let indexed = renamed .before .before in
-    name-can-index (indexed .before .next-if .result) (indexed .before .next-if .ensures) (indexed .if1 .left) (renamed .set-operator .ensures) (indexed .before .before .before .before .pre)
+    name-can-index (indexed .before .next-if .result) (indexed .before .next-if .ensures) (indexed .if1 .left)
+    (renamed .set-operator .ensures) (indexed .before .before .before .before .pre)
 
 same-length-2 : tie.Need-same-length-2
 same-length-2 c = search needs
@@ -41,7 +43,8 @@ returns-2 c =
     let turned = c .before .before in
     let renamed = turned .before .before .before .before in
     let indexed = renamed .before .before in
-    name-indexed (indexed .before .next-if .result) (indexed .before .next-if .ensures) (indexed .if1 .left) (renamed .set-operator .ensures) (turned .array-index .ensures)
+    name-indexed (indexed .before .next-if .result) (indexed .before .next-if .ensures) (indexed .if1 .left)
+    (renamed .set-operator .ensures) (turned .array-index .ensures)
 
 pub array-name-spec : {M : Type 1} → statement M
 array-name-spec =

@@ -22,7 +22,8 @@ returns c =
     let turned = c .before .before in
     let more = turned .before .before in
     let seen = more .before in
-    array-indexed (seen .before .before .before .pre .1) (seen .next-if .result) (seen .next-if .ensures) (more .if1 .taken) (turned .array-index .ensures)
+    array-indexed (seen .before .before .before .pre .1) (seen .next-if .result) (seen .next-if .ensures) (more .if1 .taken)
+    (turned .array-index .ensures)
 
 turn-round-requires : tie.Need-turn-round-requires
 turn-round-requires c κs = let pre = c .before .before .before .before .before .pre in array-can-round (pre .1) (pre .0)
@@ -33,7 +34,11 @@ keep-requires c κs =
     let last = rounded .before .before in
     let seen = last .before in
     let pre = seen .before .before .before .pre in
-    omega (arith, array-room (pre .1) (seen .next-if .result) (seen .next-if .ensures) (last .if1 .left) (pre .0), rounded .turn-round .ensures .long)
+    omega (
+      arith,
+      array-room (pre .1) (seen .next-if .result) (seen .next-if .ensures) (last .if1 .left) (pre .0),
+      rounded .turn-round .ensures .long,
+    )
 
 on-requires : tie.Need-on-requires
 on-requires c κs = search needs
@@ -47,7 +52,8 @@ returns-2 c =
     let rounded = kept .before .before .before .before in
     let last = rounded .before .before in
     let seen = last .before in
-    array-closed (seen .before .before .before .pre .1) (seen .next-if .result) (seen .next-if .ensures) (last .if1 .left) _ (kept .keep .result) (c .on .result) (rounded .turn-round .ensures) (kept .keep .ensures .1)
+    array-closed (seen .before .before .before .pre .1) (seen .next-if .result) (seen .next-if .ensures) (last .if1 .left) _
+    (kept .keep .result) (c .on .result) (rounded .turn-round .ensures) (kept .keep .ensures .1)
     (kept .keep .ensures .0) (c .on .ensures)
 
 pub array-on-spec : {M : Type 1} → statement M

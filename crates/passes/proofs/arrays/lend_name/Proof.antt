@@ -26,7 +26,8 @@ same-length-2 c = search needs
 returns-2 : tie.Need-returns-2
 returns-2 c =
     let child = c .before .before .before .before .before .before in
-    lent-no-name (child .first-of .result) (c .before .is-token .result) (child .first-of .ensures) (c .before .is-token .ensures) (not-true (c .before .is-token .result) (c .if2 .taken))
+    lent-no-name (child .first-of .result) (c .before .is-token .result) (child .first-of .ensures) (c .before .is-token .ensures)
+    (not-true (c .before .is-token .result) (c .if2 .taken))
 
 operator-of-requires : tie.Need-operator-of-requires
 operator-of-requires c κs = search needs
@@ -37,7 +38,8 @@ same-length-3 c = search needs
 returns-3 : tie.Need-returns-3
 returns-3 c =
     let contents = c .before .before .before .before .before .before .before in
-    lent-no-index (contents .first-of2 .result) (c .before .operator-of .result) (contents .first-of2 .ensures) (c .before .operator-of .ensures) (c .if3 .taken)
+    lent-no-index (contents .first-of2 .result) (c .before .operator-of .result) (contents .first-of2 .ensures)
+    (c .before .operator-of .ensures) (c .if3 .taken)
 
 next-of-requires : tie.Need-next-of-requires
 next-of-requires c κs = search needs
@@ -61,8 +63,11 @@ returns-4 c =
     let some = bare .before .before .before in
     let contents = some .before in
     let child = contents .before .before in
-    lent-name (child .first-of .result) (contents .first-of2 .result) (index .before .operator-of .result) (next .next-of .result) (bare .before .is-token .result) (some .if1 .left) (child .first-of .ensures)
-    (bare .before .is-token .ensures) (not-false (bare .before .is-token .result) (bare .if2 .left)) (contents .first-of2 .ensures) (index .before .operator-of .ensures) (index .if3 .left) (next .next-of .ensures) (taken .set-first .ensures) (renamed .set-operator .ensures)
+    lent-name (child .first-of .result) (contents .first-of2 .result) (index .before .operator-of .result) (next .next-of .result)
+    (bare .before .is-token .result) (some .if1 .left) (child .first-of .ensures)
+    (bare .before .is-token .ensures) (not-false (bare .before .is-token .result) (bare .if2 .left)) (contents .first-of2 .ensures)
+    (index .before .operator-of .ensures) (index .if3 .left) (next .next-of .ensures) (taken .set-first .ensures)
+    (renamed .set-operator .ensures)
 
 pub lend-name-spec : {M : Type 1} → statement M
 lend-name-spec =

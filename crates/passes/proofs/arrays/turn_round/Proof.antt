@@ -21,7 +21,8 @@ loop-holds : tie.Need-loop-holds Inv-loop μ-loop
 loop-holds c = round-start (c .first-of .ensures)
 
 next-of-requires : tie.Need-next-of-requires Inv-loop μ-loop
-next-of-requires c κs = round-in (c .before .before .loop .inv) (c .before .before .before .before .before .before .pre) (c .before .loop-test .taken)
+next-of-requires c κs =
+    round-in (c .before .before .loop .inv) (c .before .before .before .before .before .before .pre) (c .before .loop-test .taken)
 
 set-next-requires : tie.Need-set-next-requires Inv-loop μ-loop
 set-next-requires c κs =
@@ -32,7 +33,11 @@ classes-of-requires : tie.Need-classes-of-requires Inv-loop μ-loop
 classes-of-requires c κs =
     let linked = c .before .before .before in
     let turn = linked .before .before .before .before in
-    omega (arith, round-in (turn .before .loop .inv) (turn .before .before .before .before .before .pre) (turn .loop-test .taken), linked .set-next .kept .0)
+    omega (
+      arith,
+      round-in (turn .before .loop .inv) (turn .before .before .before .before .before .pre) (turn .loop-test .taken),
+      linked .set-next .kept .0,
+    )
 
 union-requires : tie.Need-union-requires Inv-loop μ-loop
 union-requires c κs = tt
@@ -41,7 +46,8 @@ loop-less : tie.Need-loop-less Inv-loop μ-loop
 loop-less c =
     let read = c .before .before .before .before .before .before .before in
     let turn = read .before .before in
-    round-less (turn .before .loop .inv) _ (turn .before .before .before .before .before .pre) (turn .loop-test .taken) (read .next-of .ensures)
+    round-less (turn .before .loop .inv) _ (turn .before .before .before .before .before .pre) (turn .loop-test .taken)
+    (read .next-of .ensures)
 
 loop-again : tie.Need-loop-again Inv-loop μ-loop
 loop-again c =
@@ -68,7 +74,13 @@ set-classes-requires : tie.Need-set-classes-requires Inv-loop μ-loop
 set-classes-requires c κs =
     let headed = c .before .before .before in
     let at = headed .before .before .before in
-    omega (arith, at .before .before .before .before .pre .own, at .before .before .before .before .pre .within, at .loop .inv .long, headed .set-first .kept .0)
+    omega (
+      arith,
+      at .before .before .before .before .pre .own,
+      at .before .before .before .before .pre .within,
+      at .loop .inv .long,
+      headed .set-first .kept .0,
+    )
 
 same-length : tie.Need-same-length Inv-loop μ-loop
 same-length c =

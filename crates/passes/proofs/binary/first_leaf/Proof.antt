@@ -29,7 +29,9 @@ intersects-requires : tie.Need-intersects-requires Inv-loop μ-loop
 intersects-requires c κs = search needs
 
 first-of-requires : tie.Need-first-of-requires Inv-loop μ-loop
-first-of-requires c κs = search-in (c .before .before .before .before .before .loop .inv (c .before .before .before .before .before .before .before .pre)) (c .before .before .before .if1 .left)
+first-of-requires c κs =
+    search-in (c .before .before .before .before .before .loop .inv (c .before .before .before .before .before .before .before .pre))
+    (c .before .before .before .if1 .left)
 
 loop-less : tie.Need-loop-less Inv-loop μ-loop
 loop-less c = omega (arith, c .before .before .before .before .before .loop-test .taken)
@@ -41,7 +43,9 @@ loop-again c = λ g.
     (shares-as (c .before .before .intersects .ensures) (c .before .before .before .classes-of .ensures) refl (c .before .if2 .taken)))
 
 next-of-requires : tie.Need-next-of-requires Inv-loop μ-loop
-next-of-requires c κs = search-in (c .before .before .before .before .before .loop .inv (c .before .before .before .before .before .before .before .pre)) (c .before .before .before .if1 .left)
+next-of-requires c κs =
+    search-in (c .before .before .before .before .before .loop .inv (c .before .before .before .before .before .before .before .pre))
+    (c .before .before .before .if1 .left)
 
 loop-less-2 : tie.Need-loop-less-2 Inv-loop μ-loop
 loop-less-2 c = omega (arith, c .before .before .before .before .before .loop-test .taken)

@@ -24,7 +24,9 @@ enter-requires : tie.Need-enter-requires
 enter-requires c κs = search needs
 
 fold-requires : tie.Need-fold-requires
-fold-requires c κs = operate-folds (c .before .before .before .before .past .result) (c .before .before .before .before .before .before .before .before .pre) (c .before .before .before .before .past .ensures)
+fold-requires c κs =
+    operate-folds (c .before .before .before .before .past .result) (c .before .before .before .before .before .before .before .before .pre)
+    (c .before .before .before .before .past .ensures)
 
 on-requires : tie.Need-on-requires
 on-requires c κs = search needs
@@ -33,13 +35,19 @@ same-length : tie.Need-same-length
 same-length c = search needs
 
 returns : tie.Need-returns
-returns c = operated-opens (c .before .before .before .before .past .result) (sym (c .before .before .is-inner .ensures) ∙ c .before .if1 .taken) refl (c .before .before .before .before .past .ensures) (c .enter .ensures)
+returns c =
+    operated-opens (c .before .before .before .before .past .result) (sym (c .before .before .is-inner .ensures) ∙ c .before .if1 .taken)
+    refl (c .before .before .before .before .past .ensures) (c .enter .ensures)
 
 same-length-2 : tie.Need-same-length-2
 same-length-2 c = search needs
 
 returns-2 : tie.Need-returns-2
-returns-2 c = operated-folds (c .before .before .before .before .before .before .before .before .past .result) (sym (c .before .before .before .before .before .before .is-inner .ensures) ∙ c .before .before .before .before .before .if1 .left) (c .before .before .before .fold .ensures) (c .before .before .before .before .before .before .before .before .past .ensures) (c .on .ensures)
+returns-2 c =
+    operated-folds (c .before .before .before .before .before .before .before .before .past .result)
+    (sym (c .before .before .before .before .before .before .is-inner .ensures) ∙ c .before .before .before .before .before .if1 .left)
+    (c .before .before .before .fold .ensures) (c .before .before .before .before .before .before .before .before .past .ensures)
+    (c .on .ensures)
 
 pub folded-spec : {M : Type 1} → statement M
 folded-spec =

@@ -27,18 +27,31 @@ slice-read-left : tie.Need-slice-read-left
 slice-read-left c = search needs
 
 classes-of-requires : tie.Need-classes-of-requires
-classes-of-requires c κs = left-room (c .before .before .before .before .before .before .before .before .pre) (c .before .before .before .before .before .if1 .left)
+classes-of-requires c κs =
+    left-room (c .before .before .before .before .before .before .before .before .pre)
+    (c .before .before .before .before .before .if1 .left)
 
 intersects-requires : tie.Need-intersects-requires
 intersects-requires c κs = search needs
 
 first-leaf-requires : tie.Need-first-leaf-requires
-first-leaf-requires c κs = can-search (c .before .before .before .before .before .before .before .before .before .before .before .before .args .classes .0) (c .before .before .before .before .before .before .before .before .before .before .before .before .pre) (c .before .before .before .before .before .before .before .before .before .if1 .left) (shares-as (c .before .before .intersects .ensures) (c .before .before .before .classes-of .ensures) refl (c .before .if3 .taken))
+first-leaf-requires c κs =
+    can-search (c .before .before .before .before .before .before .before .before .before .before .before .before .args .classes .0)
+    (c .before .before .before .before .before .before .before .before .before .before .before .before .pre)
+    (c .before .before .before .before .before .before .before .before .before .if1 .left)
+    (shares-as (c .before .before .intersects .ensures) (c .before .before .before .classes-of .ensures) refl (c .before .if3 .taken))
 
 folded-requires : tie.Need-folded-requires
 folded-requires c κs =
     let has = c .before .before .before .before .before .before .before .before .before .if1 .left in
-    record { token = c .before .before .before .before .before .before .before .before .before .before .before .before .pre; some = omega arith; more = next-room (c .before .before .before .before .before .before .before .before .before .before .before .before .pre) (c .before .before .before .before .before .before .before .if2 .left) .0; clean = (shares-as (c .before .before .intersects .ensures) (c .before .before .before .classes-of .ensures) refl (c .before .if3 .left)) }
+    record {
+      token = c .before .before .before .before .before .before .before .before .before .before .before .before .pre;
+      some = omega arith;
+      more = next-room (c .before .before .before .before .before .before .before .before .before .before .before .before .pre)
+          (c .before .before .before .before .before .before .before .if2 .left) .0;
+      clean =
+          (shares-as (c .before .before .intersects .ensures) (c .before .before .before .classes-of .ensures) refl (c .before .if3 .left));
+    }
 
 same-length : tie.Need-same-length
 same-length c = search needs
@@ -46,7 +59,14 @@ same-length c = search needs
 returns-3 : tie.Need-returns-3
 returns-3 c = λ ops covers.
     let has = c .before .before .before .before .before .before .before .before .before .before .if1 .left in
-    operator-fails (c .before .before .before .before .before .before .before .before .before .before .before .before .before .args .classes) ops covers (omega arith) (next-room (c .before .before .before .before .before .before .before .before .before .before .before .before .before .pre) (c .before .before .before .before .before .before .before .before .if2 .left) .0) (shares-as (c .before .before .before .intersects .ensures) (c .before .before .before .before .classes-of .ensures) refl (c .before .before .if3 .taken)) (c .first-leaf .ensures)
+    operator-fails
+    (c .before .before .before .before .before .before .before .before .before .before .before .before .before .args .classes) ops covers
+    (omega arith)
+    (next-room (c .before .before .before .before .before .before .before .before .before .before .before .before .before .pre)
+    (c .before .before .before .before .before .before .before .before .if2 .left) .0)
+    (shares-as (c .before .before .before .intersects .ensures) (c .before .before .before .before .classes-of .ensures) refl
+    (c .before .before .if3 .taken))
+    (c .first-leaf .ensures)
 
 same-length-2 : tie.Need-same-length-2
 same-length-2 c = search needs
@@ -54,7 +74,16 @@ same-length-2 c = search needs
 returns-4 : tie.Need-returns-4
 returns-4 c = λ ops covers.
     let has = c .before .before .before .before .before .before .before .before .before .before .before .before .if1 .left in
-    operated (c .before .before .before .before .before .before .before .before .before .before .before .before .before .before .before .args .classes) ops covers (omega arith) (next-room (c .before .before .before .before .before .before .before .before .before .before .before .before .before .before .before .pre) (c .before .before .before .before .before .before .before .before .before .before .if2 .left) .0) (shares-as (c .before .before .before .before .before .intersects .ensures) (c .before .before .before .before .before .before .classes-of .ensures) refl (c .before .before .before .before .if3 .left)) (c .before .before .folded .ensures)
+    operated
+    (c .before .before .before .before .before .before .before .before .before .before .before .before .before .before
+    .before .args .classes)
+    ops covers (omega arith)
+    (next-room
+    (c .before .before .before .before .before .before .before .before .before .before .before .before .before .before .before .pre)
+    (c .before .before .before .before .before .before .before .before .before .before .if2 .left) .0)
+    (shares-as (c .before .before .before .before .before .intersects .ensures)
+    (c .before .before .before .before .before .before .classes-of .ensures) refl (c .before .before .before .before .if3 .left))
+    (c .before .before .folded .ensures)
 
 pub operator-spec : {M : Type 1} → statement M
 operator-spec =

@@ -11,7 +11,9 @@ same-length : tie.Need-same-length
 same-length c = search needs
 
 returns : tie.Need-returns
-returns c = resumed-kept (c .before .before .before .before .before .before .args .classes) (c .before .before .keep .result) (c .before .before .before .before .if1 .taken) (c .before .before .keep .ensures .1) (c .before .before .keep .ensures .0)
+returns c =
+    resumed-kept (c .before .before .before .before .before .before .args .classes) (c .before .before .keep .result)
+    (c .before .before .before .before .if1 .taken) (c .before .before .keep .ensures .1) (c .before .before .keep .ensures .0)
 
 fold-requires : tie.Need-fold-requires
 fold-requires c κs = resume-folds (c .before .before .before .args .classes) (c .before .if1 .left) (c .before .before .before .pre)
@@ -20,7 +22,9 @@ same-length-2 : tie.Need-same-length-2
 same-length-2 c = search needs
 
 returns-2 : tie.Need-returns-2
-returns-2 c = resumed-folded (c .before .before .before .before .before .before .args .classes) (c .before .before .before .before .if1 .left) (c .before .before .fold .ensures)
+returns-2 c =
+    resumed-folded (c .before .before .before .before .before .before .args .classes) (c .before .before .before .before .if1 .left)
+    (c .before .before .fold .ensures)
 
 pub resume-spec : {M : Type 1} → statement M
 resume-spec =

@@ -20,26 +20,41 @@ same-length c = search needs
 
 returns : tie.Need-returns
 returns c =
-    query-on (c .before .before .before .before .before .before .next-if .result) (c .before .before .before .before .before .before .next-if .ensures) _ (c .before .before .before .keep .result) (c .on .result) (c .before .before .before .before .before .if1 .taken) (c .before .before .before .keep .ensures .1) (c .before .before .before .keep .ensures .0) (c .on .ensures)
+    query-on (c .before .before .before .before .before .before .next-if .result)
+    (c .before .before .before .before .before .before .next-if .ensures) _ (c .before .before .before .keep .result) (c .on .result)
+    (c .before .before .before .before .before .if1 .taken) (c .before .before .before .keep .ensures .1)
+    (c .before .before .before .keep .ensures .0) (c .on .ensures)
 
 is-leaf-requires : tie.Need-is-leaf-requires
-is-leaf-requires c κs = can-attach (can-call leftParenthesis (c .before .before .next-if .result) (c .before .before .before .before .before .pre) (c .before .before .next-if .ensures) (c .before .if1 .left)) .1
+is-leaf-requires c κs =
+    can-attach
+    (can-call leftParenthesis (c .before .before .next-if .result) (c .before .before .before .before .before .pre)
+    (c .before .before .next-if .ensures) (c .before .if1 .left)) .1
 
 same-length-2 : tie.Need-same-length-2
 same-length-2 c = search needs
 
 returns-2 : tie.Need-returns-2
-returns-2 c = query-failed (c .before .before .before .before .next-if .result) (c .before .before .before .before .next-if .ensures) (c .before .before .before .if1 .left) (sym (c .before .is-leaf .ensures) ∙ c .if2 .taken)
+returns-2 c =
+    query-failed (c .before .before .before .before .next-if .result) (c .before .before .before .before .next-if .ensures)
+    (c .before .before .before .if1 .left) (sym (c .before .is-leaf .ensures) ∙ c .if2 .taken)
 
 called-requires : tie.Need-called-requires
-called-requires c κs = can-call leftParenthesis (c .before .before .before .before .before .next-if .result) (c .before .before .before .before .before .before .before .before .pre) (c .before .before .before .before .before .next-if .ensures) (c .before .before .before .before .if1 .left)
+called-requires c κs =
+    can-call leftParenthesis (c .before .before .before .before .before .next-if .result)
+    (c .before .before .before .before .before .before .before .before .pre) (c .before .before .before .before .before .next-if .ensures)
+    (c .before .before .before .before .if1 .left)
 
 same-length-3 : tie.Need-same-length-3
 same-length-3 c = search needs
 
 returns-3 : tie.Need-returns-3
 returns-3 c =
-    query-calls (c .before .before .before .before .before .before .before .before .next-if .result) (c .before .before .before .before .before .before .before .before .next-if .ensures) (c .before .before .before .before .before .before .before .if1 .left) (sym (c .before .before .before .before .before .is-leaf .ensures) ∙ c .before .before .before .before .if2 .left) (c .before .before .called .ensures)
+    query-calls (c .before .before .before .before .before .before .before .before .next-if .result)
+    (c .before .before .before .before .before .before .before .before .next-if .ensures)
+    (c .before .before .before .before .before .before .before .if1 .left)
+    (sym (c .before .before .before .before .before .is-leaf .ensures) ∙ c .before .before .before .before .if2 .left)
+    (c .before .before .called .ensures)
 
 pub call-spec : {M : Type 1} → statement M
 call-spec =

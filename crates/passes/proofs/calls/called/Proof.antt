@@ -16,7 +16,12 @@ classes-requires : tie.Need-classes-requires
 classes-requires c κs = search needs
 
 classes-of-requires : tie.Need-classes-of-requires
-classes-of-requires c κs = omega (arith, can-attach (c .before .before .before .before .before .before .before .before .pre), c .before .before .before .before .attach .ensures .long)
+classes-of-requires c κs =
+    omega (
+      arith,
+      can-attach (c .before .before .before .before .before .before .before .before .pre),
+      c .before .before .before .before .attach .ensures .long,
+    )
 
 intersects-requires : tie.Need-intersects-requires
 intersects-requires c κs = search needs
@@ -29,11 +34,20 @@ same-length c = search needs
 
 returns : tie.Need-returns
 returns c =
-    called-opens (c .before .before .before .before .before .before .before .before .before .before .past .result) (c .before .before .before .before .before .before .before .before .attach .ensures)
-    (shares-as (c .before .before .intersects .ensures) (c .before .before .before .classes-of .ensures) (c .before .before .before .before .before .classes .ensures) (c .before .if1 .taken)) (c .before .before .before .before .before .before .before .before .before .before .past .ensures) (c .enter .ensures)
+    called-opens (c .before .before .before .before .before .before .before .before .before .before .past .result)
+    (c .before .before .before .before .before .before .before .before .attach .ensures)
+    (shares-as (c .before .before .intersects .ensures) (c .before .before .before .classes-of .ensures)
+    (c .before .before .before .before .before .classes .ensures) (c .before .if1 .taken))
+    (c .before .before .before .before .before .before .before .before .before .before .past .ensures) (c .enter .ensures)
 
 keep-requires : tie.Need-keep-requires
-keep-requires c κs = rw (c .before .before .before .before .before .before .before .before .before .before .past .ensures) (omega (arith, token-room (c .before .before .before .before .before .before .before .before .before .before .before .before .pre .token), c .before .before .before .before .before .before .before .before .attach .ensures .long))
+keep-requires c κs =
+    rw (c .before .before .before .before .before .before .before .before .before .before .past .ensures)
+    (omega (
+      arith,
+      token-room (c .before .before .before .before .before .before .before .before .before .before .before .before .pre .token),
+      c .before .before .before .before .before .before .before .before .attach .ensures .long,
+    ))
 
 on-requires : tie.Need-on-requires
 on-requires c κs = search needs
@@ -43,8 +57,16 @@ same-length-2 c = search needs
 
 returns-2 : tie.Need-returns-2
 returns-2 c =
-    called-stays (c .before .before .before .before .before .before .before .before .before .before .before .before .before .before .past .result) (c .before .before .before .keep .result) (c .before .before .before .before .before .before .before .before .before .before .before .before .attach .ensures)
-    (shares-as (c .before .before .before .before .before .before .intersects .ensures) (c .before .before .before .before .before .before .before .classes-of .ensures) (c .before .before .before .before .before .before .before .before .before .classes .ensures) (c .before .before .before .before .before .if1 .left)) (c .before .before .before .before .before .before .before .before .before .before .before .before .before .before .past .ensures) (c .before .before .before .keep .ensures .1) (c .before .before .before .keep .ensures .0) (c .on .ensures)
+    called-stays
+    (c .before .before .before .before .before .before .before .before .before .before .before .before .before .before .past .result)
+    (c .before .before .before .keep .result)
+    (c .before .before .before .before .before .before .before .before .before .before .before .before .attach .ensures)
+    (shares-as (c .before .before .before .before .before .before .intersects .ensures)
+    (c .before .before .before .before .before .before .before .classes-of .ensures)
+    (c .before .before .before .before .before .before .before .before .before .classes .ensures)
+    (c .before .before .before .before .before .if1 .left))
+    (c .before .before .before .before .before .before .before .before .before .before .before .before .before .before .past .ensures)
+    (c .before .before .before .keep .ensures .1) (c .before .before .before .keep .ensures .0) (c .on .ensures)
 
 pub called-spec : {M : Type 1} → statement M
 called-spec =

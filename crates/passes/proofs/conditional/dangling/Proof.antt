@@ -36,14 +36,16 @@ is-token-requires c κs = bounds (c .before) .1
 
 returns : tie.Need-returns Inv-loop μ-loop
 returns c =
-    dangles-if (c .before .before .before .before .loop .inv .1) (c .before .before .before .loop-test .taken) (sym (c .before .is-token .ensures) ∙ c .if1 .taken)
+    dangles-if (c .before .before .before .before .loop .inv .1) (c .before .before .before .loop-test .taken)
+    (sym (c .before .is-token .ensures) ∙ c .if1 .taken)
 
 is-token-requires-2 : tie.Need-is-token-requires-2 Inv-loop μ-loop
 is-token-requires-2 c κs = bounds (c .before .before .before) .1
 
 returns-2 : tie.Need-returns-2 Inv-loop μ-loop
 returns-2 c =
-    dangles-else (c .before .before .before .before .before .before .loop .inv .1) (c .before .before .before .before .before .loop-test .taken) (sym (c .before .is-token2 .ensures) ∙ c .if2 .taken)
+    dangles-else (c .before .before .before .before .before .before .loop .inv .1)
+    (c .before .before .before .before .before .loop-test .taken) (sym (c .before .is-token2 .ensures) ∙ c .if2 .taken)
 
 add-i : tie.Need-add-i Inv-loop μ-loop
 add-i c = let b = bounds (c .before .before .before .before .before) in omega arith
@@ -52,8 +54,13 @@ loop-less : tie.Need-loop-less Inv-loop μ-loop
 loop-less c = let h = c .before .before .before .before .before .loop-test .taken in omega arith
 
 loop-again : tie.Need-loop-again Inv-loop μ-loop
-loop-again c =
-    (c .before .before .before .before .before .before .loop .inv .0, dangle-next (c .before .before .before .before .before .before .loop .inv .1) (c .before .before .before .before .before .loop-test .taken) (sym (c .before .before .before .is-token .ensures) ∙ c .before .before .if1 .left) (sym (c .before .is-token2 .ensures) ∙ c .if2 .left))
+loop-again c = (
+  c .before .before .before .before .before .before .loop .inv .0,
+  dangle-next
+      (c .before .before .before .before .before .before .loop .inv .1) (c .before .before .before .before .before .loop-test .taken)
+      (sym (c .before .before .before .is-token .ensures) ∙ c .before .before .if1 .left)
+      (sym (c .before .is-token2 .ensures) ∙ c .if2 .left),
+)
 
 returns-3 : tie.Need-returns-3 Inv-loop μ-loop
 returns-3 c = dangles-none (c .before .loop .inv .1) (omega (arith, c .loop-test .left))

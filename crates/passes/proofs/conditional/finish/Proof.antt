@@ -12,13 +12,16 @@ fold-conditionals-requires : tie.Need-fold-conditionals-requires
 fold-conditionals-requires c κs = can-fold (c .before .before .before .pre)
 
 dangling-requires : tie.Need-dangling-requires
-dangling-requires c κs = can-dangle (can-fold (c .before .before .before .before .before .before .before .pre)) (c .before .before .before .fold-conditionals .ensures)
+dangling-requires c κs =
+    can-dangle (can-fold (c .before .before .before .before .before .before .before .pre))
+    (c .before .before .before .fold-conditionals .ensures)
 
 same-length : tie.Need-same-length
 same-length c = search needs
 
 returns-2 : tie.Need-returns-2
-returns-2 c = ends-dangling (c .before .before .before .before .before .fold-conditionals .ensures) (c .before .dangling .ensures) (c .if2 .taken)
+returns-2 c =
+    ends-dangling (c .before .before .before .before .before .fold-conditionals .ensures) (c .before .dangling .ensures) (c .if2 .taken)
 
 add-t14 : tie.Need-add-t14
 add-t14 c =
@@ -28,13 +31,19 @@ add-t14 c =
     omega (arith, c .before .before .before .before .before .fold-conditionals .ensures .to g .count)
 
 sub-t15 : tie.Need-sub-t15
-sub-t15 c = omega (arith, c .before .before .before .before .before .fold-conditionals .ensures .to (can-fold (c .before .before .before .before .before .before .before .before .before .pre)) .count)
+sub-t15 c =
+    omega (
+      arith,
+      c .before .before .before .before .before .fold-conditionals .ensures .to
+          (can-fold (c .before .before .before .before .before .before .before .before .before .pre)) .count,
+    )
 
 same-length-2 : tie.Need-same-length-2
 same-length-2 c = search needs
 
 returns-3 : tie.Need-returns-3
-returns-3 c = ends-folded (c .before .before .before .before .before .fold-conditionals .ensures) (c .before .dangling .ensures) (c .if2 .left)
+returns-3 c =
+    ends-folded (c .before .before .before .before .before .fold-conditionals .ensures) (c .before .dangling .ensures) (c .if2 .left)
 
 pub finish-spec : {M : Type 1} → statement M
 finish-spec =

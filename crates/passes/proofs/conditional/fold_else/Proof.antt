@@ -30,7 +30,8 @@ slice-read-question c = search needs
 
 is-token-requires : tie.Need-is-token-requires
 is-token-requires c κs =
-    c .before .before .before .before .before .pre .slot (c .before .before .before .before .before .args .left - 1) (omega (arith, c .before .before .before .if1 .left))
+    c .before .before .before .before .before .pre .slot (c .before .before .before .before .before .args .left - 1)
+    (omega (arith, c .before .before .before .if1 .left))
 
 add-colon : tie.Need-add-colon
 add-colon c = search needs
@@ -46,7 +47,9 @@ slice-read-colon c = search needs
 
 is-token-requires-2 : tie.Need-is-token-requires-2
 is-token-requires-2 c κs =
-    (c .before .before .before .before .before .before .before .before .before .pre .done (c .before .before .before .before .before .before .before .before .before .args .right + 1) (omega arith) (omega (arith, c .before .before .before .before .before .before .if2 .left)))
+    (c .before .before .before .before .before .before .before .before .before .pre .done
+    (c .before .before .before .before .before .before .before .before .before .args .right + 1) (omega arith)
+    (omega (arith, c .before .before .before .before .before .before .if2 .left)))
 
 add-then : tie.Need-add-then
 add-then c = search needs
@@ -70,8 +73,19 @@ slice-read-otherwise : tie.Need-slice-read-otherwise
 slice-read-otherwise c = search needs
 
 attach-two-requires : tie.Need-attach-two-requires
-attach-two-requires c κs =
-    ((c .before .before .before .before .before .before .before .before .before .before .before .before .before .before .pre .done (c .before .before .before .before .before .before .before .before .before .before .before .before .before .before .args .right + 1) (omega arith) (omega (arith, c .before .before .before .before .before .before .before .before .before .before .before .if2 .left))), (c .before .before .before .before .before .before .before .before .before .before .before .before .before .before .pre .done (c .before .before .before .before .before .before .before .before .before .before .before .before .before .before .args .right) (omega arith) (omega (arith, c .before .before .before .before .before .before .before .before .before .before .before .if2 .left))), (c .before .before .before .before .before .before .before .before .before .before .before .before .before .before .pre .done (c .before .before .before .before .before .before .before .before .before .before .before .before .before .before .args .right + 2) (omega arith) (omega (arith, c .before .before .before .before .before .before .before .before .before .before .before .if2 .left))), c .before .before .before .before .before .before .before .before .before .before .before .before .before .before .pre .apart (omega (arith, c .before .before .before .before .before .before .before .before .before .before .before .if2 .left)))
+attach-two-requires c κs = (
+  (c .before .before .before .before .before .before .before .before .before .before .before .before .before .before .pre .done
+      (c .before .before .before .before .before .before .before .before .before .before .before .before .before .before .args .right + 1)
+      (omega arith) (omega (arith, c .before .before .before .before .before .before .before .before .before .before .before .if2 .left))),
+  (c .before .before .before .before .before .before .before .before .before .before .before .before .before .before .pre .done
+      (c .before .before .before .before .before .before .before .before .before .before .before .before .before .before .args .right)
+      (omega arith) (omega (arith, c .before .before .before .before .before .before .before .before .before .before .before .if2 .left))),
+  (c .before .before .before .before .before .before .before .before .before .before .before .before .before .before .pre .done
+      (c .before .before .before .before .before .before .before .before .before .before .before .before .before .before .args .right + 2)
+      (omega arith) (omega (arith, c .before .before .before .before .before .before .before .before .before .before .before .if2 .left))),
+  c .before .before .before .before .before .before .before .before .before .before .before .before .before .before .pre .apart
+      (omega (arith, c .before .before .before .before .before .before .before .before .before .before .before .if2 .left)),
+)
 
 mul-work : tie.Need-mul-work
 mul-work c = search needs
@@ -87,21 +101,43 @@ same-length c = search needs
 
 returns-3 : tie.Need-returns-3
 returns-3 c =
-    let some : 0 < c .before .before .before .before .before .before .before .before .before .before .before .before .before .before .before .before .before .args .left = omega (arith, c .before .before .before .before .before .before .before .before .before .before .before .before .before .before .before .if1 .left) in let three : c .before .before .before .before .before .before .before .before .before .before .before .before .before .before .before .before .before .args .right + 2 < c .before .before .before .before .before .before .before .before .before .before .before .before .before .before .before .before .before .args .len = omega (arith, c .before .before .before .before .before .before .before .before .before .before .before .before .before .before .if2 .left) in pair some three (sym (c .before .before .before .before .before .before .before .before .before .before .before .is-token .ensures) ∙ c .before .before .before .before .before .before .before .before .before .before .if3 .taken) (sym (c .before .before .before .before .before .before .before .is-token2 .ensures) ∙ c .before .before .before .before .before .before .if4 .taken) (record { Z = c .before .before .attach-two .last .0; attached = c .before .before .attach-two .ensures; stored = refl })
+    let tested = c .before .before .before .before .before .before .before .before in
+    let args = tested .before .before .before .before .before .before .before .before .before .args in
+    let some : 0 < args .left =
+    omega (
+      arith,
+      c .before .before .before .before .before .before .before .before .before .before .before .before .before .before .before .if1 .left,
+    ) in
+    let three : args .right + 2 < args .len =
+    omega (
+      arith,
+      c .before .before .before .before .before .before .before .before .before .before .before .before .before .before .if2 .left,
+    ) in
+    pair some three
+    (sym (c .before .before .before .before .before .before .before .before .before .before .before .is-token .ensures)
+    ∙ c .before .before .before .before .before .before .before .before .before .before .if3 .taken)
+    (sym (c .before .before .before .before .before .before .before .is-token2 .ensures)
+    ∙ c .before .before .before .before .before .before .if4 .taken)
+    (record { Z = c .before .before .attach-two .last .0; attached = c .before .before .attach-two .ensures; stored = refl })
 
 same-length-2 : tie.Need-same-length-2
 same-length-2 c = search needs
 
 returns-4 : tie.Need-returns-4
 returns-4 c =
-    let three : c .before .before .before .before .before .before .before .before .before .before .before .args .right + 2 < c .before .before .before .before .before .before .before .before .before .before .before .args .len = omega (arith, c .before .before .before .before .before .before .before .before .if2 .left) in noElse three (sym (c .before .is-token2 .ensures) ∙ c .if4 .left)
+    let args = c .before .before .before .before .before .before .before .before .before .before .before .args in
+    let three : args .right + 2 < args .len =
+    omega (arith, c .before .before .before .before .before .before .before .before .if2 .left) in
+    noElse three (sym (c .before .is-token2 .ensures) ∙ c .if4 .left)
 
 same-length-3 : tie.Need-same-length-3
 same-length-3 c = search needs
 
 returns-5 : tie.Need-returns-5
 returns-5 c =
-    let some : 0 < c .before .before .before .before .before .before .before .args .left = omega (arith, c .before .before .before .before .before .if1 .left) in noIf some (sym (c .before .is-token .ensures) ∙ c .if3 .left)
+    let some : 0 < c .before .before .before .before .before .before .before .args .left =
+    omega (arith, c .before .before .before .before .before .if1 .left) in
+    noIf some (sym (c .before .is-token .ensures) ∙ c .if3 .left)
 
 pub fold-else-spec : {M : Type 1} → statement M
 fold-else-spec =

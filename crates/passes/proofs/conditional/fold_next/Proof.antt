@@ -23,7 +23,8 @@ same-length c = search needs
 
 returns : tie.Need-returns
 returns c =
-    next-else (c .before .before .before .before .before .before .before .before .pre .two) (c .before .before .before .before .if1 .taken) (c .before .before .before .before .before .is-else .ensures) (c .before .before .fold-last .ensures)
+    next-else (c .before .before .before .before .before .before .before .before .pre .two) (c .before .before .before .before .if1 .taken)
+    (c .before .before .before .before .before .is-else .ensures) (c .before .before .fold-last .ensures)
 
 sub-item : tie.Need-sub-item
 sub-item c = search needs
@@ -39,18 +40,24 @@ slice-read-item c = search needs
 
 is-token-requires : tie.Need-is-token-requires
 is-token-requires c κs =
-    scan-look (c .before .before .before .before .before .before .pre .scan) .slot (c .before .before .before .before .before .before .args .left - 1) (omega (arith, c .before .before .before .before .before .before .pre .two))
+    scan-look (c .before .before .before .before .before .before .pre .scan) .slot
+    (c .before .before .before .before .before .before .args .left - 1)
+    (omega (arith, c .before .before .before .before .before .before .pre .two))
 
 fold-last-requires-2 : tie.Need-fold-last-requires-2
 fold-last-requires-2 c κs =
-    scan-fold (c .before .before .before .before .before .before .before .before .before .pre .scan) (c .before .before .before .before .before .before .before .before .before .pre .two)
+    scan-fold (c .before .before .before .before .before .before .before .before .before .pre .scan)
+    (c .before .before .before .before .before .before .before .before .before .pre .two)
 
 sub-fold-else : tie.Need-sub-fold-else
 sub-fold-else c = search needs
 
 fold-else-requires : tie.Need-fold-else-requires
 fold-else-requires c κs =
-    else-can (c .before .before .before .before .before .before .before .before .before .before .before .before .before .pre .scan) (c .before .before .before .before .before .before .before .before .before .before .before .before .before .pre .two) (sym (c .before .before .before .before .before .before .is-token .ensures) ∙ c .before .before .before .before .before .if2 .taken) (c .before .before .before .fold-last2 .ensures)
+    else-can (c .before .before .before .before .before .before .before .before .before .before .before .before .before .pre .scan)
+    (c .before .before .before .before .before .before .before .before .before .before .before .before .before .pre .two)
+    (sym (c .before .before .before .before .before .before .is-token .ensures) ∙ c .before .before .before .before .before .if2 .taken)
+    (c .before .before .before .fold-last2 .ensures)
 
 sub-t28 : tie.Need-sub-t28
 sub-t28 c = search needs
@@ -60,7 +67,12 @@ same-length-2 c = search needs
 
 returns-2 : tie.Need-returns-2
 returns-2 c =
-    next-if (c .before .before .before .before .before .before .before .before .before .before .before .before .before .before .before .before .pre .two) (sym (c .before .before .before .before .before .before .before .before .before .is-token .ensures) ∙ c .before .before .before .before .before .before .before .before .if2 .taken) (c .before .before .before .before .before .before .fold-last2 .ensures) (c .before .before .fold-else .ensures)
+    next-if
+    (c .before .before .before .before .before .before .before .before .before .before .before .before .before .before
+    .before .before .pre .two)
+    (sym (c .before .before .before .before .before .before .before .before .before .is-token .ensures)
+    ∙ c .before .before .before .before .before .before .before .before .if2 .taken)
+    (c .before .before .before .before .before .before .fold-last2 .ensures) (c .before .before .fold-else .ensures)
 
 sub-work : tie.Need-sub-work
 sub-work c = search needs
@@ -85,7 +97,14 @@ same-length-3 c = search needs
 
 returns-3 : tie.Need-returns-3
 returns-3 c =
-    next-on (c .before .before .before .before .before .before .before .before .pre .two) (c .before .before .before .before .if1 .left) (c .before .before .before .before .before .is-else .ensures) (sym (c .before .is-token .ensures) ∙ c .if2 .left) refl (omega (arith, c .before .before .before .before .before .before .before .before .pre .two, c .before .before .before .before .before .before .before .before .pre .scan .behind)) (c .before .before .before .before .before .before .before .before .pre .scan .full)
+    next-on (c .before .before .before .before .before .before .before .before .pre .two) (c .before .before .before .before .if1 .left)
+    (c .before .before .before .before .before .is-else .ensures) (sym (c .before .is-token .ensures) ∙ c .if2 .left) refl
+    (omega (
+      arith,
+      c .before .before .before .before .before .before .before .before .pre .two,
+      c .before .before .before .before .before .before .before .before .pre .scan .behind,
+    ))
+    (c .before .before .before .before .before .before .before .before .pre .scan .full)
 
 pub fold-next-spec : {M : Type 1} → statement M
 fold-next-spec =

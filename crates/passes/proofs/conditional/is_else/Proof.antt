@@ -37,11 +37,14 @@ shared-slice-read-question c = search needs
 
 is-token-requires-2 : tie.Need-is-token-requires-2
 is-token-requires-2 c κs =
-    c .before .before .before .before .before .before .pre .slot (c .before .before .before .before .before .before .args .left - 3) (omega (arith, c .before .before .before .before .if1 .left))
+    c .before .before .before .before .before .before .pre .slot (c .before .before .before .before .before .before .args .left - 3)
+    (omega (arith, c .before .before .before .before .if1 .left))
 
 returns-2 : tie.Need-returns-2
 returns-2 c =
-    let many : 3 ≤ c .before .before .before .before .before .before .before .args .left = omega (arith, c .before .before .before .before .before .if1 .left) in looked many (sym (c .before .before .before .is-token .ensures) ∙ c .before .before .if2 .taken) (c .is-token2 .ensures)
+    let many : 3 ≤ c .before .before .before .before .before .before .before .args .left =
+    omega (arith, c .before .before .before .before .before .if1 .left) in
+    looked many (sym (c .before .before .before .is-token .ensures) ∙ c .before .before .if2 .taken) (c .is-token2 .ensures)
 
 returns-3 : tie.Need-returns-3
 returns-3 c = other (sym (c .before .is-token .ensures) ∙ c .if2 .left)

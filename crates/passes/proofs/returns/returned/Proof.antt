@@ -20,7 +20,9 @@ slice-read-operand : tie.Need-slice-read-operand
 slice-read-operand c = search needs
 
 attach-requires : tie.Need-attach-requires
-attach-requires c κs = let s = c .before .before .before .before .before .before in (token-room (s .pre) .0, next-room (s .pre) (c .before .before .before .if1 .left) .1)
+attach-requires c κs =
+    let s = c .before .before .before .before .before .before in
+    (token-room (s .pre) .0, next-room (s .pre) (c .before .before .before .if1 .left) .1)
 
 past-requires : tie.Need-past-requires
 past-requires c κs = search needs
@@ -43,7 +45,8 @@ returns-2 c =
     let attach = c .before .before .before .before .before .before .before .before .attach in
     let past = c .before .before .before .before .before .past in
     let keep = c .before .before .before .keep in
-    returned-turn (keep .last .0) (s .args .list) (s .args .item) _ refl (next-room (s .pre) left .0) (attach .ensures) (rw (past .ensures) at (keep .ensures .1))
+    returned-turn (keep .last .0) (s .args .list) (s .args .item) _ refl (next-room (s .pre) left .0) (attach .ensures)
+    (rw (past .ensures) at (keep .ensures .1))
     (past .result) (keep .result) (c .on .result) (past .ensures) (keep .ensures .0) (c .on .ensures)
 
 pub returned-spec : {M : Type 1} → statement M

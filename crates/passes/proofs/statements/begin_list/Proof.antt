@@ -17,7 +17,9 @@ same-length : tie.Need-same-length
 same-length c = search needs
 
 returns-2 : tie.Need-returns-2
-returns-2 c = begun (c .before .before .before .before .before .if1 .left) (rw (c .before .before .before .second-spare .ensures) at (c .before .before .make .ensures))
+returns-2 c =
+    begun (c .before .before .before .before .before .if1 .left)
+    (rw (c .before .before .before .second-spare .ensures) at (c .before .before .make .ensures))
 
 pub begin-list-spec : {M : Type 1} → statement M
 begin-list-spec =

@@ -32,7 +32,8 @@ sub-end-statement c = search needs
 end-statement-requires : tie.Need-end-statement-requires
 end-statement-requires c κs =
     let start = c .before .before .before .before .before .before .before .before .before in
-    let unended : start .args .done < start .args .list .write = omega (arith, start .pre .from, c .before .before .before .before .before .before .if1 .left) in
+    let unended : start .args .done < start .args .list .write =
+    omega (arith, start .pre .from, c .before .before .before .before .before .before .if1 .left) in
     (rw (c .before .before .spare .ensures) (start .pre .give unended), omega arith)
 
 add-result : tie.Need-add-result
@@ -44,7 +45,8 @@ same-length c = search needs
 returns-2 : tie.Need-returns-2
 returns-2 c =
     let start = c .before .before .before .before .before .before .before .before .before .before .before .before in
-    let unended : start .args .done < start .args .list .write = omega (arith, start .pre .from, c .before .before .before .before .before .before .before .before .before .if1 .left) in
+    let unended : start .args .done < start .args .list .write =
+    omega (arith, start .pre .from, c .before .before .before .before .before .before .before .before .before .if1 .left) in
     closing unended (rw (c .before .before .before .before .before .spare .ensures) at (c .before .before .end-statement .ensures))
 
 pub end-open-spec : {M : Type 1} → statement M

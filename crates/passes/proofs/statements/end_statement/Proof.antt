@@ -19,7 +19,8 @@ make-requires c κs =
     (omega (arith, start .pre .0 .own, start .pre .0 .below, start .pre .0 .room), omega (arith, start .pre .0 .below, start .pre .0 .room))
 
 give-children-requires : tie.Need-give-children-requires
-give-children-requires c κs = give-made (c .before .before .before .make .ensures) (c .before .before .before .before .before .before .before .pre .0)
+give-children-requires c κs =
+    give-made (c .before .before .before .make .ensures) (c .before .before .before .before .before .before .before .pre .0)
 
 mul-work : tie.Need-mul-work
 mul-work c = search needs
@@ -30,7 +31,8 @@ slice-write-work c = search needs
 same-length : tie.Need-same-length
 same-length c =
     let start = c .before .before .before .before .before .before .before .before .before .before in
-    set-long (c .before .before .give-children .last .0) _ (start .args .at) (start .args .slot) refl ∙ c .before .before .give-children .ensures .long ∙ c .before .before .before .before .before .before .make .ensures .long
+    set-long (c .before .before .give-children .last .0) _ (start .args .at) (start .args .slot) refl
+    ∙ c .before .before .give-children .ensures .long ∙ c .before .before .before .before .before .before .make .ensures .long
 
 returns : tie.Need-returns
 returns c = search needs

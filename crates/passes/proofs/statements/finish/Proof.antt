@@ -18,30 +18,52 @@ mul-first : tie.Need-mul-first
 mul-first c = search needs
 
 slice-read-first : tie.Need-slice-read-first
-slice-read-first c = finish-asks (c .before .before .before .before .before .before .before .pre) (rw (c .before .before .before .before .wide .ensures) at (c .before .before .before .end-open .ensures)) .inside
+slice-read-first c =
+    finish-asks (c .before .before .before .before .before .before .before .pre)
+    (rw (c .before .before .before .before .wide .ensures) at (c .before .before .before .end-open .ensures)) .inside
 
 second-spare-requires : tie.Need-second-spare-requires
-second-spare-requires c κs = finish-asks (c .before .before .before .before .before .before .before .pre) (rw (c .before .before .before .before .wide .ensures) at (c .before .before .before .end-open .ensures)) .spare
+second-spare-requires c κs =
+    finish-asks (c .before .before .before .before .before .before .before .pre)
+    (rw (c .before .before .before .before .wide .ensures) at (c .before .before .before .end-open .ensures)) .spare
 
 give-children-requires : tie.Need-give-children-requires
-give-children-requires c κs = rw (c .before .second-spare .ensures) (finish-asks (c .before .before .before .before .before .before .before .before .before .pre) (rw (c .before .before .before .before .before .before .wide .ensures) at (c .before .before .before .before .before .end-open .ensures)) .give)
+give-children-requires c κs =
+    rw (c .before .second-spare .ensures)
+    (finish-asks (c .before .before .before .before .before .before .before .before .before .pre)
+    (rw (c .before .before .before .before .before .before .wide .ensures) at
+    (c .before .before .before .before .before .end-open .ensures)) .give)
 
 mul-work : tie.Need-mul-work
 mul-work c = search needs
 
 slice-write-work : tie.Need-slice-write-work
-slice-write-work c = omega (arith, finish-asks (c .before .before .before .before .before .before .before .before .before .before .before .before .pre) (rw (c .before .before .before .before .before .before .before .before .before .wide .ensures) at (c .before .before .before .before .before .before .before .before .end-open .ensures)) .inside, c .before .before .give-children .ensures .long)
+slice-write-work c =
+    omega (
+      arith,
+      finish-asks (c .before .before .before .before .before .before .before .before .before .before .before .before .pre)
+          (rw (c .before .before .before .before .before .before .before .before .before .wide .ensures) at
+          (c .before .before .before .before .before .before .before .before .end-open .ensures)) .inside,
+      c .before .before .give-children .ensures .long,
+    )
 
 same-length : tie.Need-same-length
 same-length c =
-    set-long (c .before .before .give-children .last .0) _ (c .before .before .before .before .before .before .before .before .before .before .before .before .args .list .base) (c .before .before .before .before .second-spare .result) refl
+    set-long (c .before .before .give-children .last .0) _
+    (c .before .before .before .before .before .before .before .before .before .before .before .before .args .list .base)
+    (c .before .before .before .before .second-spare .result) refl
     ∙ c .before .before .give-children .ensures .long
-    ∙ finish-asks (c .before .before .before .before .before .before .before .before .before .before .before .before .pre) (rw (c .before .before .before .before .before .before .before .before .before .wide .ensures) at (c .before .before .before .before .before .before .before .before .end-open .ensures)) .long
+    ∙ finish-asks (c .before .before .before .before .before .before .before .before .before .before .before .before .pre)
+    (rw (c .before .before .before .before .before .before .before .before .before .wide .ensures) at
+    (c .before .before .before .before .before .before .before .before .end-open .ensures)) .long
 
 returns : tie.Need-returns
 returns c =
     let base = c .before .before .before .before .before .before .before .before .before .before .before .before .args .list .base in
-    split-ends (rw (c .before .before .before .before .before .before .before .before .before .wide .ensures) at (c .before .before .before .before .before .before .before .before .end-open .ensures)) (rw (c .before .before .before .before .second-spare .ensures) at (c .before .before .give-children .ensures))
+    split-ends
+    (rw (c .before .before .before .before .before .before .before .before .before .wide .ensures) at
+    (c .before .before .before .before .before .before .before .before .end-open .ensures))
+    (rw (c .before .before .before .before .second-spare .ensures) at (c .before .before .give-children .ensures))
     (ap (λ (x : ℕ). set (c .before .before .give-children .last .0) base x) (c .before .before .before .before .second-spare .ensures))
 
 pub finish-spec : {M : Type 1} → statement M

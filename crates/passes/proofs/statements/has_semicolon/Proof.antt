@@ -31,19 +31,25 @@ add-i c = search needs
 is-token-requires : tie.Need-is-token-requires Inv-loop μ-loop
 is-token-requires c κs =
     let start = c .before .before .before .before in
-    omega (arith, look-slot (start .pre) (c .before .before .loop .inv (start .args .list) refl refl) (c .before .loop-test .taken), start .pre .within)
+    omega (
+      arith,
+      look-slot (start .pre) (c .before .before .loop .inv (start .args .list) refl refl) (c .before .loop-test .taken),
+      start .pre .within,
+    )
 
 returns : tie.Need-returns Inv-loop μ-loop
 returns c =
     let start = c .before .before .before .before .before .before in
-    look-found (c .before .before .before .before .loop .inv (start .args .list) refl refl) (c .before .before .before .loop-test .taken) (sym (c .before .is-token .ensures) ∙ c .if1 .taken)
+    look-found (c .before .before .before .before .loop .inv (start .args .list) refl refl) (c .before .before .before .loop-test .taken)
+    (sym (c .before .is-token .ensures) ∙ c .if1 .taken)
 
 loop-less : tie.Need-loop-less Inv-loop μ-loop
 loop-less c = search needs
 
 loop-again : tie.Need-loop-again Inv-loop μ-loop
 loop-again c =
-    λ v b l. look-next (c .before .before .before .before .loop .inv v b l) (omega (arith, c .before .before .before .loop-test .taken)) (rw b (sym (c .before .is-token .ensures) ∙ c .if1 .left))
+    λ v b l. look-next (c .before .before .before .before .loop .inv v b l) (omega (arith, c .before .before .before .loop-test .taken))
+    (rw b (sym (c .before .is-token .ensures) ∙ c .if1 .left))
 
 returns-2 : tie.Need-returns-2 Inv-loop μ-loop
 returns-2 c =

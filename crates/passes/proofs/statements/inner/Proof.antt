@@ -19,7 +19,10 @@ same-length c = search needs
 
 returns : tie.Need-returns
 returns c =
-    rw (c .enter .ensures) (entered (ap isEntered (sym (c .before .before .before .operator-of .ensures)) ∙ sym (c .before .before .holds-statements .ensures) ∙ c .before .if1 .taken))
+    rw (c .enter .ensures)
+    (entered
+    (ap isEntered (sym (c .before .before .before .operator-of .ensures)) ∙ sym (c .before .before .holds-statements .ensures)
+    ∙ c .before .if1 .taken))
 
 keep-requires : tie.Need-keep-requires
 keep-requires c κs = search needs
@@ -33,7 +36,13 @@ same-length-2 c = search needs
 returns-2 : tie.Need-returns-2
 returns-2 c =
     let k = c .before .before .before .keep .ensures in
-    rw (c .on .ensures) (rw (k .0) (kept (ap isEntered (sym (c .before .before .before .before .before .before .before .operator-of .ensures)) ∙ sym (c .before .before .before .before .before .before .holds-statements .ensures) ∙ c .before .before .before .before .before .if1 .left) (k .1)))
+    rw (c .on .ensures)
+    (rw (k .0)
+    (kept
+    (ap isEntered (sym (c .before .before .before .before .before .before .before .operator-of .ensures)) ∙ sym
+    (c .before .before .before .before .before .before .holds-statements .ensures)
+    ∙ c .before .before .before .before .before .if1 .left)
+    (k .1)))
 
 pub inner-spec : {M : Type 1} → statement M
 inner-spec =

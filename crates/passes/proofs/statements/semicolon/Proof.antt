@@ -15,7 +15,9 @@ on-requires : tie.Need-on-requires
 on-requires c κs = search needs
 
 returns-2 : tie.Need-returns-2
-returns-2 c = rw (c .on .ensures) (again (c .before .before .before .if1 .left) (c .before .if2 .taken ∙ c .before .before .before .before .before .wide .ensures))
+returns-2 c =
+    rw (c .on .ensures)
+    (again (c .before .before .before .if1 .left) (c .before .if2 .taken ∙ c .before .before .before .before .before .wide .ensures))
 
 begin-list-requires : tie.Need-begin-list-requires
 begin-list-requires c κs = search needs
@@ -27,7 +29,12 @@ sub-end-statement : tie.Need-sub-end-statement
 sub-end-statement c = search needs
 
 end-statement-requires : tie.Need-end-statement-requires
-end-statement-requires c κs = can-end-give (c .before .before .before .before .before .before .before .before .before .before .before .wide .result) (c .before .before .before .before .before .before .before .before .before .before .before .wide .ensures) (c .before .before .before .before .before .before .before .if2 .left) (c .before .before .before .before .before .before .before .before .before .before .before .before .before .pre) (c .before .before .before .before .before .begin-list .ensures)
+end-statement-requires c κs =
+    can-end-give (c .before .before .before .before .before .before .before .before .before .before .before .wide .result)
+    (c .before .before .before .before .before .before .before .before .before .before .before .wide .ensures)
+    (c .before .before .before .before .before .before .before .if2 .left)
+    (c .before .before .before .before .before .before .before .before .before .before .before .before .before .pre)
+    (c .before .before .before .before .before .begin-list .ensures)
 
 add-moved : tie.Need-add-moved
 add-moved c = search needs
@@ -46,7 +53,16 @@ same-length c = search needs
 
 returns-3 : tie.Need-returns-3
 returns-3 c =
-    semicolon-ended (c .before .before .before .before .before .before .before .before .before .before .before .before .before .before .before .before .wide .result) (c .before .before .before .before .before .before .before .before .before .before .before .before .before .before .before .before .wide .ensures) (c .before .before .before .before .before .before .before .before .before .before .before .before .if2 .left) (c .before .before .before .before .before .before .before .before .before .before .before .before .before .before .before .before .before .before .pre) (c .before .before .before .before .before .before .before .before .before .before .begin-list .ensures) (c .before .before .before .before .end-statement .ensures) (c .before .moved .ensures) (c .on2 .ensures)
+    semicolon-ended
+    (c .before .before .before .before .before .before .before .before .before .before .before .before .before .before
+    .before .before .wide .result)
+    (c .before .before .before .before .before .before .before .before .before .before .before .before .before .before
+    .before .before .wide .ensures)
+    (c .before .before .before .before .before .before .before .before .before .before .before .before .if2 .left)
+    (c .before .before .before .before .before .before .before .before .before .before .before .before .before .before
+    .before .before .before .before .pre)
+    (c .before .before .before .before .before .before .before .before .before .before .begin-list .ensures)
+    (c .before .before .before .before .end-statement .ensures) (c .before .moved .ensures) (c .on2 .ensures)
 
 pub semicolon-spec : {M : Type 1} → statement M
 semicolon-spec =

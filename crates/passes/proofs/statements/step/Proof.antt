@@ -19,7 +19,8 @@ enum-known-found-2 c = search needs
 inner-requires : tie.Need-inner-requires
 inner-requires c κs =
     let f = c .before .before .found2 .given in
-    split-room (rw (f .1) at (c .before .before .before .before .before .before .next-token .ensures)) (c .before .before .before .before .before .before .before .before .before .pre)
+    split-room (rw (f .1) at (c .before .before .before .before .before .before .next-token .ensures))
+    (c .before .before .before .before .before .before .before .before .before .pre)
 
 enum-known-found-3 : tie.Need-enum-known-found-3
 enum-known-found-3 c = search needs
@@ -27,7 +28,8 @@ enum-known-found-3 c = search needs
 semicolon-requires : tie.Need-semicolon-requires
 semicolon-requires c κs =
     let f = c .before .before .found3 .given in
-    can-end (rw (f .1) at (c .before .before .before .before .before .before .next-token .ensures)) (c .before .before .before .before .before .before .before .before .before .pre)
+    can-end (rw (f .1) at (c .before .before .before .before .before .before .next-token .ensures))
+    (c .before .before .before .before .before .before .before .before .before .pre)
 
 same-length : tie.Need-same-length
 same-length c = search needs
@@ -43,7 +45,8 @@ same-length-2 c = search needs
 returns-2 : tie.Need-returns-2
 returns-2 c =
     let f = c .before .before .before .before .before .found2 .given in
-    turned-split-inner (rw (f .1) at (c .before .before .before .before .before .before .before .before .before .next-token .ensures)) (c .before .before .inner .ensures)
+    turned-split-inner (rw (f .1) at (c .before .before .before .before .before .before .before .before .before .next-token .ensures))
+    (c .before .before .inner .ensures)
 
 same-length-3 : tie.Need-same-length-3
 same-length-3 c = search needs
@@ -51,7 +54,8 @@ same-length-3 c = search needs
 returns-3 : tie.Need-returns-3
 returns-3 c =
     let f = c .before .before .before .before .before .found3 .given in
-    turned-split-semicolon (rw (f .1) at (c .before .before .before .before .before .before .before .before .before .next-token .ensures)) (c .before .before .semicolon .ensures)
+    turned-split-semicolon (rw (f .1) at (c .before .before .before .before .before .before .before .before .before .next-token .ensures))
+    (c .before .before .semicolon .ensures)
 
 pub step-spec : {M : Type 1} → statement M
 step-spec =

@@ -1,5 +1,6 @@
 -- `passes::unary::minus` meets its contract.
-use Rattle.passes.proofs.UnaryPrefix.{can-prefix, minus-subtract, read-some, what-before, previous-slot, taken-first, taken-operator, taken-operand, taken-minus, taken-unknown}
+use Rattle.passes.proofs.UnaryPrefix.{can-prefix, minus-subtract, read-some, what-before, previous-slot, taken-first, taken-operator}
+use Rattle.passes.proofs.UnaryPrefix.{taken-operand, taken-minus, taken-unknown}
 use borrow.Author.Needs.{needs}
 use Rattle.passes.proofs.unary.minus.Statement.{statement}
 use Rattle.passes.proofs.unary.minus.Tie as tie
@@ -16,7 +17,8 @@ same-length c = search needs
 
 returns : tie.Need-returns
 returns c =
-    taken-first (c .before .before .before .before .before .before .before .before .pre) (c .before .before .before .before .before .if1 .taken) (c .before .before .before .prefix .ensures) (c .on .ensures)
+    taken-first (c .before .before .before .before .before .before .before .before .pre)
+    (c .before .before .before .before .before .if1 .taken) (c .before .before .before .prefix .ensures) (c .on .ensures)
 
 sub-last : tie.Need-sub-last
 sub-last c = search needs
@@ -32,7 +34,8 @@ slice-read-previous c = search needs
 
 operator-of-requires : tie.Need-operator-of-requires
 operator-of-requires c κs =
-    previous-slot (c .before .before .before .before .before .before .before .pre) (read-some (c .before .before .before .before .if1 .left))
+    previous-slot (c .before .before .before .before .before .before .before .pre)
+    (read-some (c .before .before .before .before .if1 .left))
 
 before-minus-requires : tie.Need-before-minus-requires
 before-minus-requires c κs = search needs
@@ -42,7 +45,8 @@ enum-told c = search needs
 
 prefix-requires-2 : tie.Need-prefix-requires-2
 prefix-requires-2 c κs =
-    can-prefix (c .before .before .before .before .before .before .before .before .before .before .before .before .pre .token) (c .before .before .before .before .before .before .before .before .before .before .before .before .pre .full)
+    can-prefix (c .before .before .before .before .before .before .before .before .before .before .before .before .pre .token)
+    (c .before .before .before .before .before .before .before .before .before .before .before .before .pre .full)
 
 on-requires-2 : tie.Need-on-requires-2
 on-requires-2 c κs = search needs
@@ -62,7 +66,8 @@ enum-told-3 c = search needs
 
 to-add-requires : tie.Need-to-add-requires
 to-add-requires c κs =
-    previous-slot (c .before .before .before .before .before .before .before .before .before .before .before .before .pre) (read-some (c .before .before .before .before .before .before .before .before .before .if1 .left))
+    previous-slot (c .before .before .before .before .before .before .before .before .before .before .before .before .pre)
+    (read-some (c .before .before .before .before .before .before .before .before .before .if1 .left))
 
 on-requires-4 : tie.Need-on-requires-4
 on-requires-4 c κs = search needs
@@ -75,28 +80,49 @@ same-length-2 c = search needs
 
 returns-2 : tie.Need-returns-2
 returns-2 c =
-    taken-operator (c .before .before .before .before .before .before .before .before .before .before .before .before .before .before .before .before .pre) (read-some (c .before .before .before .before .before .before .before .before .before .before .before .before .before .if1 .left)) (what-before (c .before .before .before .before .before .before .before .before-minus .ensures) (c .before .before .before .before .before .before .before .before .operator-of .ensures) (c .before .before .before .before .before .enum-told .given .1)) (c .before .before .before .prefix2 .ensures) (c .on2 .ensures)
+    taken-operator
+    (c .before .before .before .before .before .before .before .before .before .before .before .before .before .before .before .before .pre)
+    (read-some (c .before .before .before .before .before .before .before .before .before .before .before .before .before .if1 .left))
+    (what-before (c .before .before .before .before .before .before .before .before-minus .ensures)
+    (c .before .before .before .before .before .before .before .before .operator-of .ensures)
+    (c .before .before .before .before .before .enum-told .given .1))
+    (c .before .before .before .prefix2 .ensures) (c .on2 .ensures)
 
 same-length-3 : tie.Need-same-length-3
 same-length-3 c = search needs
 
 returns-3 : tie.Need-returns-3
 returns-3 c =
-    taken-operand (c .before .before .before .before .before .before .before .before .before .before .before .before .before .before .before .before .pre) (read-some (c .before .before .before .before .before .before .before .before .before .before .before .before .before .if1 .left)) (c .before .before .before .subtract .result) (what-before (c .before .before .before .before .before .before .before .before-minus .ensures) (c .before .before .before .before .before .before .before .before .operator-of .ensures) (c .before .before .before .before .before .enum-told2 .given .1)) (c .before .before .before .subtract .ensures) (c .on3 .ensures)
+    taken-operand
+    (c .before .before .before .before .before .before .before .before .before .before .before .before .before .before .before .before .pre)
+    (read-some (c .before .before .before .before .before .before .before .before .before .before .before .before .before .if1 .left))
+    (c .before .before .before .subtract .result)
+    (what-before (c .before .before .before .before .before .before .before .before-minus .ensures)
+    (c .before .before .before .before .before .before .before .before .operator-of .ensures)
+    (c .before .before .before .before .before .enum-told2 .given .1))
+    (c .before .before .before .subtract .ensures) (c .on3 .ensures)
 
 same-length-4 : tie.Need-same-length-4
 same-length-4 c = search needs
 
 returns-4 : tie.Need-returns-4
 returns-4 c =
-    taken-minus (c .before .before .before .before .before .before .before .before .before .before .before .before .before .before .before .before .pre) (read-some (c .before .before .before .before .before .before .before .before .before .before .before .before .before .if1 .left)) (what-before (c .before .before .before .before .before .before .before .before-minus .ensures) (c .before .before .before .before .before .before .before .before .operator-of .ensures) (c .before .before .before .before .before .enum-told3 .given .1)) (c .before .before .before .to-add .ensures) (c .on4 .ensures)
+    taken-minus
+    (c .before .before .before .before .before .before .before .before .before .before .before .before .before .before .before .before .pre)
+    (read-some (c .before .before .before .before .before .before .before .before .before .before .before .before .before .if1 .left))
+    (what-before (c .before .before .before .before .before .before .before .before-minus .ensures)
+    (c .before .before .before .before .before .before .before .before .operator-of .ensures)
+    (c .before .before .before .before .before .enum-told3 .given .1))
+    (c .before .before .before .to-add .ensures) (c .on4 .ensures)
 
 same-length-5 : tie.Need-same-length-5
 same-length-5 c = search needs
 
 returns-5 : tie.Need-returns-5
 returns-5 c =
-    taken-unknown (c .before .before .before .before .before .before .before .before .before .before .before .pre) (read-some (c .before .before .before .before .before .before .before .before .if1 .left)) (what-before (c .before .before .before-minus .ensures) (c .before .before .before .operator-of .ensures) (c .enum-told4 .given .1))
+    taken-unknown (c .before .before .before .before .before .before .before .before .before .before .before .pre)
+    (read-some (c .before .before .before .before .before .before .before .before .if1 .left))
+    (what-before (c .before .before .before-minus .ensures) (c .before .before .before .operator-of .ensures) (c .enum-told4 .given .1))
 
 pub minus-spec : {M : Type 1} → statement M
 minus-spec =

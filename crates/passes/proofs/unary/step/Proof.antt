@@ -25,28 +25,34 @@ enum-known-found-3 c = search needs
 
 token-requires : tie.Need-token-requires
 token-requires c κs =
-    token-found (seek-back (c .before .before .before .before .before .before .before .before .before .pre)) (rw (c .before .before .found3 .given .1) at (c .before .before .before .before .before .before .previous-token .ensures))
+    token-found (seek-back (c .before .before .before .before .before .before .before .before .before .pre))
+    (rw (c .before .before .found3 .given .1) at (c .before .before .before .before .before .before .previous-token .ensures))
 
 same-length : tie.Need-same-length
 same-length c = search needs
 
 returns : tie.Need-returns
 returns c =
-    step-over (rw (c .before .before .found .given .1) at (c .before .before .before .before .before .before .previous-token .ensures)) (c .over .ensures)
+    step-over (rw (c .before .before .found .given .1) at (c .before .before .before .before .before .before .previous-token .ensures))
+    (c .over .ensures)
 
 same-length-2 : tie.Need-same-length-2
 same-length-2 c = search needs
 
 returns-2 : tie.Need-returns-2
 returns-2 c =
-    step-enter (rw (c .before .before .found2 .given .1) at (c .before .before .before .before .before .before .previous-token .ensures)) (c .enter .ensures)
+    step-enter (rw (c .before .before .found2 .given .1) at (c .before .before .before .before .before .before .previous-token .ensures))
+    (c .enter .ensures)
 
 same-length-3 : tie.Need-same-length-3
 same-length-3 c = search needs
 
 returns-3 : tie.Need-returns-3
 returns-3 c =
-    step-token (rw (c .before .before .before .before .before .found3 .given .1) at (c .before .before .before .before .before .before .before .before .before .previous-token .ensures)) (c .before .before .token .ensures)
+    step-token
+    (rw (c .before .before .before .before .before .found3 .given .1) at
+    (c .before .before .before .before .before .before .before .before .before .previous-token .ensures))
+    (c .before .before .token .ensures)
 
 pub step-spec : {M : Type 1} → statement M
 step-spec =

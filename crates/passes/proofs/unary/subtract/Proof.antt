@@ -12,7 +12,8 @@ make-requires c κs = search needs
 
 prefix-requires : tie.Need-prefix-requires
 prefix-requires c κs =
-    prefix-made (c .before .before .before .before .before .before .before .pre) (c .before .before .before .before .before .spare .ensures) (c .before .before .before .make .ensures)
+    prefix-made (c .before .before .before .before .before .before .before .pre) (c .before .before .before .before .before .spare .ensures)
+    (c .before .before .before .make .ensures)
 
 to-add-requires : tie.Need-to-add-requires
 to-add-requires c κs = search needs
@@ -25,7 +26,13 @@ same-length c = search needs
 
 returns : tie.Need-returns
 returns c =
-    subtracted (c .before .before .before .before .before .before .before .before .before .before .before .before .before .before .before .before .spare .ensures) (c .before .before .before .before .before .before .before .before .before .before .before .before .before .before .make .ensures) (c .before .before .before .before .before .before .before .before .before .before .prefix .ensures) (c .before .before .before .before .before .before .to-add .ensures) (c .before .before .keep-right .ensures .1) (c .before .before .keep-right .ensures .0)
+    subtracted
+    (c .before .before .before .before .before .before .before .before .before .before .before .before .before .before
+    .before .before .spare .ensures)
+    (c .before .before .before .before .before .before .before .before .before .before .before .before .before .before .make .ensures)
+    (c .before .before .before .before .before .before .before .before .before .before .prefix .ensures)
+    (c .before .before .before .before .before .before .to-add .ensures) (c .before .before .keep-right .ensures .1)
+    (c .before .before .keep-right .ensures .0)
 
 pub subtract-spec : {M : Type 1} → statement M
 subtract-spec =

@@ -19,7 +19,13 @@ same-length c = search needs
 
 returns : tie.Need-returns
 returns c =
-    added-leaf-words (c .before .before .before .before .before .before .before .before .before .before .before .before .args .work .now) (c .before .before .before .before .before .before .set-operator .last .0) (c .before .before .set-classes .last .0) (c .before .before .before .before .before .before .before .before .before .before .before .before .args .s) (c .before .before .before .before .before .before .before .before .before .before .before .before .pre) (sym (c .before .before .before .before .before .before .before .before .before .is-leaf .ensures) ∙ c .before .before .before .before .before .before .before .before .if1 .taken) (c .before .before .before .before .before .before .set-operator .ensures) (c .before .before .set-classes .ensures)
+    added-leaf-words (c .before .before .before .before .before .before .before .before .before .before .before .before .args .work .now)
+    (c .before .before .before .before .before .before .set-operator .last .0) (c .before .before .set-classes .last .0)
+    (c .before .before .before .before .before .before .before .before .before .before .before .before .args .s)
+    (c .before .before .before .before .before .before .before .before .before .before .before .before .pre)
+    (sym (c .before .before .before .before .before .before .before .before .before .is-leaf .ensures)
+    ∙ c .before .before .before .before .before .before .before .before .if1 .taken)
+    (c .before .before .before .before .before .before .set-operator .ensures) (c .before .before .set-classes .ensures)
 
 set-operator-requires-2 : tie.Need-set-operator-requires-2
 set-operator-requires-2 c κs = search needs
@@ -29,7 +35,10 @@ same-length-2 c = search needs
 
 returns-2 : tie.Need-returns-2
 returns-2 c =
-    added-inner-words (c .before .before .before .before .before .before .before .before .args .work .now) (c .before .before .set-operator2 .last .0) (c .before .before .before .before .before .before .before .before .args .s) (sym (c .before .before .before .before .before .is-leaf .ensures) ∙ c .before .before .before .before .if1 .left) (c .before .before .set-operator2 .ensures)
+    added-inner-words (c .before .before .before .before .before .before .before .before .args .work .now)
+    (c .before .before .set-operator2 .last .0) (c .before .before .before .before .before .before .before .before .args .s)
+    (sym (c .before .before .before .before .before .is-leaf .ensures) ∙ c .before .before .before .before .if1 .left)
+    (c .before .before .set-operator2 .ensures)
 
 pub to-add-spec : {M : Type 1} → statement M
 to-add-spec =

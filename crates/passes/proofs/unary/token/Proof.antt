@@ -33,7 +33,8 @@ returns-3 c =
 
 prefix-requires : tie.Need-prefix-requires
 prefix-requires c κs =
-    can-prefix (c .before .before .before .before .before .before .before .pre) (operand-some (c .before .before .before .before .before .before .before .pre) (c .before .if3 .left))
+    can-prefix (c .before .before .before .before .before .before .before .pre)
+    (operand-some (c .before .before .before .before .before .before .before .pre) (c .before .if3 .left))
 
 on-requires : tie.Need-on-requires
 on-requires c κs = search needs
@@ -43,7 +44,12 @@ same-length-4 c = search needs
 
 returns-4 : tie.Need-returns-4
 returns-4 c =
-    taken-not (λ e. c .before .before .before .before .before .before .before .if1 .left (c .before .before .before .before .before .before .before .before .operator-of .ensures ∙ e)) (operand-some (c .before .before .before .before .before .before .before .before .before .before .before .pre) (c .before .before .before .before .before .if3 .left)) (c .before .before .before .prefix .ensures) (c .on .ensures)
+    taken-not
+    (λ e. c .before .before .before .before .before .before .before .if1 .left
+    (c .before .before .before .before .before .before .before .before .operator-of .ensures ∙ e))
+    (operand-some (c .before .before .before .before .before .before .before .before .before .before .before .pre)
+    (c .before .before .before .before .before .if3 .left))
+    (c .before .before .before .prefix .ensures) (c .on .ensures)
 
 pub token-spec : {M : Type 1} → statement M
 token-spec =
