@@ -1,4 +1,4 @@
--- `derived::with_word` meets its contract: a word that is not legal and one of a host leave the set as it is. Assumes nothing.
+-- `derived::with_any` meets its contract: a word that is not legal and one of a host leave the set as it is. Assumes nothing.
 use Prim.Native.Nat.{ℕ}
 use mathlib.Core.Path.{_≡_, sym, ap, _∙_}
 use mathlib.Core.Bool.{Bool, false, _||_, or-false}
@@ -10,8 +10,8 @@ use Rattle.molang.specs.Words.{operatorField, wordFault}
 use Rattle.words.specs.Checks.{numberOf}
 use Rattle.words.specs.Fields.{operatorOf}
 use Rattle.derived.proofs.WordLaws.{names-bad, names-low, names-host}
-use Rattle.derived.proofs.with_word.Statement.{statement}
-use Rattle.derived.proofs.with_word.Tie as tie
+use Rattle.derived.proofs.with_any.Statement.{statement}
+use Rattle.derived.proofs.with_any.Tie as tie
 
 operator-word-requires : tie.Need-operator-word-requires
 operator-word-requires c κs = search needs
@@ -55,5 +55,5 @@ returns-3 c n =
     (ap (λ (op : ℕ). eqb op n) (numbered .operator .ensures)
     ∙ sym (names-low (a .w) n (legal (numbered .before)) (rw (numbered .operator .ensures) at (c .before .if1 .left))))
 
-pub with-word-spec : {M : Type 1} → statement M
-with-word-spec = tie.close (tie.spec operator-word-requires enum-told returns operator-requires returns-2 with-requires returns-3)
+pub with-any-spec : {M : Type 1} → statement M
+with-any-spec = tie.close (tie.spec operator-word-requires enum-told returns operator-requires returns-2 with-requires returns-3)
