@@ -1,6 +1,7 @@
 -- The table of refusals, row by row: its rows by lengths, by values, the words and the brackets token by token, what decides it of a call,
 -- and what is known of a call that no row turns back. Assumes nothing.
 use mathlib.Core.Path.{_≡_, refl, sym, ap, _∙_}
+use mathlib.Core.Bool.{Bool, true, false}
 use mathlib.Core.List.{List, [], _∷_, _++_}
 use mathlib.Core.Option.{Option, none, some}
 use Prim.Native.Nat.{ℕ, _+_, _*_, _/_, _%_, _^_, _≤_, _<_}
@@ -9,10 +10,13 @@ use native.Mathlib.Omega.{arith}
 use lib.Dec.{eqb, leb, ltb}
 use lib.ListN.{length, drop, getD, length-replicate}
 use lib.Seq.{drop-cons, drop-length}
-use borrow.Author.Tests.{eqb-true, leb-true, le-leb, lt-leb}
+use lib.Pow.{field, mod-mod-pow}
+use borrow.Author.Tests.{eqb-true, leb-true, le-leb, lt-leb, ltb-true, ltb-false}
 use types.Run.{OneOf}
 use denote.Enum.Declared.{tagOf}
 use Rattle.molang.specs.FirstFailure.{must, firstOf}
+use Rattle.molang.specs.Operator.{leftBrace, leftBracket, leftParenthesis, rightBrace, rightBracket, rightParenthesis, isCloser}
+use Rattle.molang.specs.Words.{lowOf, numberIn}
 use Rattle.molang.specs.Words.{Refusal, row, operatorField, wordFault, lowFault, variantAfter, wordsRefusal, tokenOf, tokensOf}
 use Rattle.molang.specs.Nesting.{openAfter, firstAbove, tooDeep}
 use Rattle.molang.specs.Parse.{Call, mostTokens, isLimit, lengthRows, valueRows, refusal}
@@ -21,6 +25,7 @@ use Rattle.molang.proofs.ListWords.{tokens-count}
 use Rattle.molang.proofs.Accepted.{call-accepted}
 use Rattle.molang.proofs.Nesting.{opens-one, short-within}
 use Rattle.ops.specs.declared.sets.OpSet.{OpSet}
+use Rattle.ops.proofs.OperatorLaws.{Apart, apart, no-closer}
 use Rattle.words.specs.Fields.{operatorOf, variantOf}
 use Rattle.words.proofs.CheckLaws.{good-token, token-refused, token-passed}
 use Rattle.accept.specs.declared.Sizes.{Sizes}
@@ -266,6 +271,39 @@ module _ (list : List ℕ) (limit n : ℕ) where
     pub goes-above : limit < openHere → tooDeep limit (tokensOf list) ≡ some i
     goes-above h =
         w .rest ∙ (token-deep ∙ found (must (leb openHere limit) i) i _ (must-false (leb openHere limit) i (lt-leb openHere limit h)))
+
+-- An operator that is no bracket leaves the count as it is.
+no-bracket : (depth n : ℕ) → 6 ≤ n → openAfter depth n ≡ depth
+unfolding openAfter isCloser
+no-bracket depth n above =
+    let openers : Apart n (leftBrace ∷ leftBracket ∷ leftParenthesis ∷ []) =
+    ((λ e. omega arith), ((λ e. omega arith), ((λ e. omega arith), tt)))
+    in
+    let closers : Apart n (rightBrace ∷ rightBracket ∷ rightParenthesis ∷ []) =
+    ((λ e. omega arith), ((λ e. omega arith), ((λ e. omega arith), tt)))
+    in
+    rw (no-closer n openers, openAfter) (rw (← apart _ n closers, openAfter))
+
+-- The operator of a word, by the word's bits.
+number-bits : (w : ℕ) → operatorOf w ≡ w / 4096 % 16 * 256 + w % 256
+unfolding lowOf operatorOf numberIn
+number-bits w =
+    let upper : lowOf w / 2 ^ 12 % 2 ^ 4 ≡ w / 2 ^ 12 % 2 ^ 4 =
+    ap (λ (m : ℕ). m % 2 ^ 4) (field w 17 12) ∙ mod-mod-pow (w / 2 ^ 12) 13 4
+    in
+    let lower : lowOf w % 2 ^ 8 ≡ w % 2 ^ 8 = mod-mod-pow w 21 8 in
+    rw (upper, lower)
+
+-- The operator's bits where they stand in a word count as the operator does.
+pub same-open : (depth w : ℕ) → openAfter depth (w % 256 + w / 4096 % 16 * 4096) ≡ openAfter depth (operatorOf w)
+same-open depth w = go (ltb 0 (w / 4096 % 16)) refl
+  where
+    go : (b : Bool) → ltb 0 (w / 4096 % 16) ≡ b → openAfter depth (w % 256 + w / 4096 % 16 * 4096) ≡ openAfter depth (operatorOf w)
+    go true e =
+        let upper = ltb-true 0 (w / 4096 % 16) e in
+        no-bracket depth (w % 256 + w / 4096 % 16 * 4096) (omega (arith, upper))
+        ∙ sym (no-bracket depth (operatorOf w) (omega (arith, upper, number-bits w)))
+    go false e = ap (openAfter depth) (omega (arith, number-bits w, ltb-false 0 (w / 4096 % 16) e))
 
 -- ---- What acceptance gives
 

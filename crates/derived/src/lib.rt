@@ -3,6 +3,7 @@
 // words count.
 use ops::sets::OpSet;
 use words::checks::Word;
+use words::checks::is_low_operator;
 use words::checks::operator_word;
 use words::checks::span_word;
 use words::fields;
@@ -32,8 +33,8 @@ fn with(used: OpSet, op: u32) -> OpSet
     }
 }
 
-// The set with the operator of a token's first word in it, if that word is legal and its operator is no host's number.
-fn with_word(used: OpSet, w: u32) -> OpSet
+// The set with the operator of a token's first word in it, if that word is legal and its operator is no host's number: of any word.
+fn with_any(used: OpSet, w: u32) -> OpSet
     ensures { λ r. ⌜ ((n : ℕ) → inHalves (r .low) (r .high) n ≡ (inHalves (used .low) (used .high) n || names operatorField w n)) ⌝ }
 {
     let word = operator_word(w);
@@ -45,6 +46,16 @@ fn with_word(used: OpSet, w: u32) -> OpSet
         return used;
     }
     with(used, op)
+}
+
+// The same, where most words go the short way: they are legal, and their operator is their low byte.
+fn with_word(used: OpSet, w: u32) -> OpSet
+    ensures { λ r. ⌜ ((n : ℕ) → inHalves (r .low) (r .high) n ≡ (inHalves (used .low) (used .high) n || names operatorField w n)) ⌝ }
+{
+    if is_low_operator(w) {
+        return with(used, w % 256);
+    }
+    with_any(used, w)
 }
 
 // The higher of an end and that of a token's third word, if that word is legal.

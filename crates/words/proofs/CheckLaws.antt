@@ -1,13 +1,16 @@
 -- The check of words in list order, one word at a time: the first bad word ends it, a good one hands it on; and the check of a list
 -- that opens with a token. Assumes nothing.
 use mathlib.Core.Path.{_≡_, refl, sym, ap, _∙_}
+use mathlib.Core.Bool.{Bool, true, false}
 use mathlib.Core.List.{List, [], _∷_, _++_}
 use mathlib.Core.Logic.{⊎-elim}
 use mathlib.Core.Option.{Option, none, some}
-use Prim.Native.Nat.{ℕ, suc, _+_}
+use Prim.Native.Nat.{ℕ, suc, _+_, _-_, _*_, _/_, _%_, _^_, _≤_, _<_}
 use native.Mathlib.Numerals.{add-one, add-two, add-three, add-four, add-five}
 use native.Mathlib.Omega.{arith}
 use lib.Dec.{eqb, leb, ltb}
+use lib.Pow.{field, mod-mod-pow}
+use borrow.Author.Tests.{eq-eqb, eqb-true, eqb-false, le-leb, lt-ltb}
 use types.Run.{OneOf}
 use denote.Enum.Declared.{tagOf}
 use Rattle.molang.specs.Operator.{isOperator}
@@ -15,11 +18,12 @@ use Rattle.molang.specs.Words.{kindOf, lowOf, Field, operatorField, startField,
 use Rattle.molang.specs.Words.{wordFault, variantAfter, nextInToken, Refusal, row, withPlace, wordsRefusal}
 use Rattle.molang.specs.FirstFailure.{must, firstOf}
 use Rattle.molang.proofs.FirstFailure.{found, later-found}
+use Rattle.molang.proofs.OldWords.{old-number, old-answer}
 use Rattle.molang.proofs.Trees.{some-none}
 use Rattle.molang.proofs.Words.{next-word}
 use Rattle.molang.proofs.ListWords.{list-word}
 use Rattle.words.specs.Fields.{operatorOf, variantOf}
-use Rattle.words.specs.Checks.{numberOf}
+use Rattle.words.specs.Checks.{numberOf, LowOperator, HalfWords}
 use Rattle.words.specs.declared.checks.Word.{Word}
 use Rattle.words.specs.declared.checks.Word.the-variants.{Good, WrongKind, HighOperator, HighVariant, OtherBit}
 use Rattle.words.proofs.checks.Word.{the-type}
@@ -145,3 +149,95 @@ token-passed i v a b c d e ws good =
     ∙ (good-word (suc (suc i)) endField (variantOf a) c (d ∷ e ∷ ws) (good .end)
     ∙ (good-word (suc i) startField (variantOf a) b (c ∷ d ∷ e ∷ ws) (good .start)
     ∙ good-word i operatorField v a (b ∷ c ∷ d ∷ e ∷ ws) (good .operator))))))
+
+-- ---- The tests of several words at once
+
+module _ (w : ℕ) (least : 2097152 ≤ w / 256) (most : w / 256 ≤ 2097164) where
+  low-kind : kindOf w ≡ 1
+  unfolding kindOf
+  low-kind = omega arith
+
+  low-few : lowOf w < 3328
+  unfolding lowOf
+  low-few = omega arith
+
+  low-byte : lowOf w % 2 ^ 8 ≡ w % 2 ^ 8
+  unfolding lowOf
+  low-byte = mod-mod-pow w 21 8
+
+  -- A word of kind 1 with nothing above its variant, which is not above 12.
+  pub low-operator : w % 256 ≤ 110 → LowOperator w
+  unfolding wordFault fieldKind firstOf must operatorOf
+  low-operator last =
+      let no-host : lowOf w / 2 ^ 12 % 2 ^ 4 ≡ 0 = omega (arith, low-few) in
+      record {
+        legal =
+            rw (
+              eq-eqb (kindOf w) 1 low-kind,
+              old-answer 0 (lowOf w) no-host,
+              le-leb (lowOf w % 256) 110 (omega (arith, low-byte)),
+              le-leb (lowOf w / 256 % 16) 12 (omega (arith, low-few)),
+              lt-ltb (lowOf w) (2 ^ 12) (omega (arith, low-few)),
+            );
+        number = old-number (lowOf w) no-host ∙ low-byte;
+        last = last;
+      }
+
+pub start-good : (v w : ℕ) → kindOf w ≡ 2 → none ≡ wordFault startField v w
+unfolding wordFault fieldKind lowFault firstOf must
+start-good v w e = rw (eq-eqb (kindOf w) 2 e)
+
+pub end-good : (v w : ℕ) → kindOf w ≡ 3 → none ≡ wordFault endField v w
+unfolding wordFault fieldKind lowFault firstOf must
+end-good v w e = rw (eq-eqb (kindOf w) 3 e)
+
+-- The low bits of a half's word: 16 of them, and none under variant 0.
+half-good : (v low : ℕ) → low < 2 ^ 16 → (v ≡ 0 → low ≡ 0) → ltb low (elim (eqb v 0) [ true ↦ 1 | false ↦ 2 ^ 16 ]) ≡ true
+half-good v low few zero = go (eqb v 0) refl
+  where
+    go : (b : Bool) → eqb v 0 ≡ b → ltb low (elim b [ true ↦ 1 | false ↦ 2 ^ 16 ]) ≡ true
+    go true e = lt-ltb low 1 (omega (arith, zero (eqb-true v 0 e)))
+    go false e = lt-ltb low (2 ^ 16) few
+
+upper-good : (v w : ℕ) → kindOf w ≡ 4 → lowOf w < 2 ^ 16 → (v ≡ 0 → lowOf w ≡ 0) → none ≡ wordFault upperField v w
+unfolding wordFault fieldKind lowFault firstOf must
+upper-good v w e few zero = rw (eq-eqb (kindOf w) 4 e, half-good v (lowOf w) few zero)
+
+lower-good : (v w : ℕ) → kindOf w ≡ 5 → lowOf w < 2 ^ 16 → (v ≡ 0 → lowOf w ≡ 0) → none ≡ wordFault lowerField v w
+unfolding wordFault fieldKind lowFault firstOf must
+lower-good v w e few zero = rw (eq-eqb (kindOf w) 5 e, half-good v (lowOf w) few zero)
+
+module _ (a d e : ℕ) (fits : d < 2 ^ 32) (above : e - e % 65536 + d / 65536 ≡ 2684387328) where
+  upper-top : d / 65536 ≡ 32768
+  upper-top = omega arith
+
+  lower-top : e / 65536 ≡ 40960
+  lower-top = omega arith
+
+  upper-kind : kindOf d ≡ 4
+  unfolding kindOf
+  upper-kind = omega (arith, upper-top)
+
+  lower-kind : kindOf e ≡ 5
+  unfolding kindOf
+  lower-kind = omega (arith, lower-top)
+
+  upper-low : lowOf d ≡ d % 65536
+  unfolding lowOf
+  upper-low = omega (arith, upper-top)
+
+  lower-low : lowOf e ≡ e % 65536
+  unfolding lowOf
+  lower-low = omega (arith, lower-top)
+
+  variant-bits : variantOf a ≡ a / 256 % 16
+  unfolding variantOf lowOf
+  variant-bits = ap (λ (m : ℕ). m % 2 ^ 4) (field a 21 8) ∙ mod-mod-pow (a / 2 ^ 8) 17 4
+
+  -- Both words of a payload value, by what stands above their halves and by the sum of the halves.
+  pub halves-good : d % 65536 + e % 65536 ≤ a / 256 % 16 * 131072 → HalfWords a d e
+  halves-good sum =
+      record {
+        upper = upper-good (variantOf a) d upper-kind (omega (arith, upper-low)) (λ z. omega (arith, upper-low, variant-bits, z));
+        lower = lower-good (variantOf a) e lower-kind (omega (arith, lower-low)) (λ z. omega (arith, lower-low, variant-bits, z));
+      }

@@ -4,13 +4,15 @@ use crate::fields;
 use crate::refusals;
 use crate::tokens::TokenWords;
 ghost use mathlib.Core.Path.{_≡_};
+ghost use mathlib.Core.Bool.{true};
 ghost use mathlib.Core.List.{[], _∷_};
-ghost use Prim.Native.Nat.{_+_, _<_, _^_};
+ghost use mathlib.Core.Option.{none};
+ghost use Prim.Native.Nat.{ℕ, _+_, _<_, _^_};
 ghost use lib.Dec.{eqb, ltb};
 ghost use Rattle.molang.specs.Words.{kindOf, lowOf, operatorField, startField, upperField, lowFault, wordFault, withPlace, wordsRefusal};
 ghost use Rattle.molang.specs.FirstFailure.{must, firstOf};
 ghost use Rattle.words.specs.Tokens.{fiveWords};
-ghost use Rattle.words.specs.Checks.{numberOf, refusalOf};
+ghost use Rattle.words.specs.Checks.{numberOf, refusalOf, LowOperator, HalfWords};
 
 // What is wrong with a word.
 pub enum Word {
@@ -116,9 +118,53 @@ pub fn judged(word: Word, place: usize) -> Checked
     }
 }
 
-// The first bad one of the five words of a token, which stand from `at` on in the list. The caller has read them out of the list, so
-// their places are numbers of words.
-pub fn token(words: TokenWords, at: usize) -> Checked
+// Whether the word is of kind 1 and legal with no bit from 12 on, so that its operator is its low byte. Every operator but a host's is so.
+pub fn is_low_operator(w: u32) -> bool
+    ensures { λ r. ⌜ (r ≡ true → LowOperator w) ⌝ }
+{
+    let above = w / 256;
+    if above < 0x20_0000 {
+        return false;
+    }
+    if 0x20_000c < above {
+        return false;
+    }
+    w % 256 <= fields::LAST_OPERATOR
+}
+
+// Whether the words are of kinds 2 and 3. Both are tested at once, here and below, so that the loop over a list has few branches.
+fn are_spans(start: u32, end: u32) -> bool
+    ensures { λ r. ⌜ (r ≡ true → (kindOf start ≡ 2) × (kindOf end ≡ 3)) ⌝ }
+{
+    start / fields::KIND + end / fields::KIND * 8 == 26
+}
+
+// Whether the words are the halves of a payload value in a token of the given first word: of kinds 4 and 5 without other bits, and under
+// variant 0 without any. The sum of two halves is below 2^17.
+fn are_halves(upper: u32, lower: u32, operator: u32) -> bool
+    ensures { λ r. ⌜ (r ≡ true → HalfWords operator upper lower) ⌝ }
+{
+    if lower - lower % 65536 + upper / 65536 != 0xa000_8000 {
+        return false;
+    }
+    upper % 65536 + lower % 65536 <= operator / 256 % 16 * 131_072
+}
+
+// Whether all words of a token are good, by tests that every good token meets but one of a host. They do not say which word is bad.
+fn is_usual(words: TokenWords) -> bool
+    ensures { λ r. ⌜ (r ≡ true → ((at : ℕ) → wordsRefusal at operatorField 0 (fiveWords words) ≡ none)) ⌝ }
+{
+    if !is_low_operator(words.operator) {
+        return false;
+    }
+    if !are_spans(words.start, words.end) {
+        return false;
+    }
+    are_halves(words.upper, words.lower, words.operator)
+}
+
+// The first bad one of the five words of a token, word by word. What it asks, `token` asks.
+fn first_bad(words: TokenWords, at: usize) -> Checked
     requires { ⌜ at + 4 < 2 ^ 64 ⌝ }
     ensures { λ r. ⌜ refusalOf r ≡ wordsRefusal at operatorField 0 (fiveWords words) ⌝ }
 {
@@ -141,4 +187,16 @@ pub fn token(words: TokenWords, at: usize) -> Checked
     };
     let five = half_word(words.lower, fields::LOWER, variant);
     judged(five, at + fields::LOWER_FIELD)
+}
+
+// The first bad one of the five words of a token, which stand from `at` on in the list. The caller has read them out of the list, so
+// their places are numbers of words.
+pub fn token(words: TokenWords, at: usize) -> Checked
+    requires { ⌜ at + 4 < 2 ^ 64 ⌝ }
+    ensures { λ r. ⌜ refusalOf r ≡ wordsRefusal at operatorField 0 (fiveWords words) ⌝ }
+{
+    if is_usual(words) {
+        return Checked::Good;
+    }
+    first_bad(words, at)
 }

@@ -6,7 +6,6 @@ use mathlib.Core.Option.{Option}
 use native.Mathlib.Omega.{arith}
 use borrow.Author.Needs.{needs}
 use Rattle.molang.specs.Words.{withNumber}
-use Rattle.molang.specs.Nesting.{openAfter}
 use Rattle.accept.specs.Accepting.{verdict}
 use Rattle.accept.proofs.AcceptLaws.{WithinTo, within-first, within-short, within-last, within-on, goes-above}
 use Rattle.accept.proofs.nesting.Statement.{statement}
@@ -30,14 +29,14 @@ loop-holds c = let a = c .before .before .args in within-first (a .list .now) (a
 mul-at : tie.Need-mul-at Inv-loop μ-loop
 mul-at c = search needs
 
-mul-operator : tie.Need-mul-operator Inv-loop μ-loop
-mul-operator c = search needs
+mul-bracket : tie.Need-mul-bracket Inv-loop μ-loop
+mul-bracket c = search needs
 
-shared-slice-read-operator : tie.Need-shared-slice-read-operator Inv-loop μ-loop
-shared-slice-read-operator c = search needs
+shared-slice-read-bracket : tie.Need-shared-slice-read-bracket Inv-loop μ-loop
+shared-slice-read-bracket c = search needs
 
-operator-requires : tie.Need-operator-requires Inv-loop μ-loop
-operator-requires c κs = search needs
+bracket-requires : tie.Need-bracket-requires Inv-loop μ-loop
+bracket-requires c κs = search needs
 
 open-after-requires : tie.Need-open-after-requires Inv-loop μ-loop
 open-after-requires c κs = search needs
@@ -46,7 +45,7 @@ returns-2 : tie.Need-returns-2 Inv-loop μ-loop
 returns-2 c =
     let at = c .before .before .before .before .before in
     let a = at .before .before .before .args in
-    let opened = c .before .open-after .ensures ∙ ap (openAfter (at .loop .depth)) (c .before .before .operator .ensures) in
+    let opened = c .before .open-after .ensures ∙ c .before .before .bracket .ensures (at .loop .depth) in
     let deep = goes-above (a .list .now) (a .limit) (a .n) (at .loop .index) (at .loop .depth) (at .loop .inv) (omega arith) (omega arith)
     (omega (arith, opened)) in
     ap (λ (o : Option ℕ). verdict (a .n) (withNumber 18 o)) (sym deep)
@@ -61,7 +60,7 @@ loop-again : tie.Need-loop-again Inv-loop μ-loop
 loop-again c =
     let at = c .before .before .before .before .before in
     let a = at .before .before .before .args in
-    let opened = c .before .open-after .ensures ∙ ap (openAfter (at .loop .depth)) (c .before .before .operator .ensures) in
+    let opened = c .before .open-after .ensures ∙ c .before .before .bracket .ensures (at .loop .depth) in
     rw opened
     (within-on (a .list .now) (a .limit) (a .n) (at .loop .index) (at .loop .depth) (at .loop .inv) (omega arith) (omega arith)
     (omega (arith, opened)))
@@ -83,9 +82,9 @@ nesting-spec =
     returns
     loop-holds
     mul-at
-    mul-operator
-    shared-slice-read-operator
-    operator-requires
+    mul-bracket
+    shared-slice-read-bracket
+    bracket-requires
     open-after-requires
     returns-2
     add-index

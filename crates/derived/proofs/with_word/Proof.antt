@@ -1,59 +1,38 @@
--- `derived::with_word` meets its contract: a word that is not legal and one of a host leave the set as it is. Assumes nothing.
-use Prim.Native.Nat.{ℕ}
+-- `derived::with_word` meets its contract: the operator of a legal word without a host's bits is its low byte. Assumes nothing.
+use Prim.Native.Nat.{ℕ, _%_, _^_}
 use mathlib.Core.Path.{_≡_, sym, ap, _∙_}
-use mathlib.Core.Bool.{Bool, false, _||_, or-false}
-use mathlib.Core.Option.{none}
+use mathlib.Core.Bool.{Bool, _||_}
 use borrow.Author.Needs.{needs}
 use lib.Dec.{eqb}
 use Rattle.molang.specs.Parse.{inHalves}
-use Rattle.molang.specs.Words.{operatorField, wordFault}
-use Rattle.words.specs.Checks.{numberOf}
+use Rattle.molang.specs.Words.{lowOf, numberIn}
 use Rattle.words.specs.Fields.{operatorOf}
-use Rattle.derived.proofs.WordLaws.{names-bad, names-low, names-host}
+use Rattle.derived.proofs.WordLaws.{names-low}
 use Rattle.derived.proofs.with_word.Statement.{statement}
 use Rattle.derived.proofs.with_word.Tie as tie
 
-operator-word-requires : tie.Need-operator-word-requires
-operator-word-requires c κs = search needs
-
-enum-told : tie.Need-enum-told
-enum-told c = search needs
-
--- A word that names nothing leaves the set as it is.
-unchanged : (used named : Bool) → named ≡ false → used ≡ (used || named)
-unchanged used named e = sym (ap (λ (b : Bool). used || b) e ∙ or-false used)
-
-returns : tie.Need-returns
-returns c n =
-    let a = c .before .before .args in
-    let word = c .before .operator-word in
-    unchanged _ _ (names-bad (word .result) (c .match .keys2) (a .w) n (word .ensures))
-
-operator-requires : tie.Need-operator-requires
-operator-requires c κs = search needs
-
--- The word is legal.
-legal : (c : tie.After-enum-told) → wordFault operatorField 0 (c .before .before .before .args .w) ≡ none
-legal c = sym (sym (ap numberOf (c .enum-told .given .1)) ∙ c .before .before .operator-word .ensures)
-
-returns-2 : tie.Need-returns-2
-unfolding operatorOf
-returns-2 c n =
-    let told = c .before .before in
-    unchanged _ _ (names-host (told .before .before .before .args .w) n (legal told) (rw (c .before .operator .ensures) at (c .if1 .taken)))
+is-low-operator-requires : tie.Need-is-low-operator-requires
+is-low-operator-requires c κs = search needs
 
 with-requires : tie.Need-with-requires
-with-requires c κs = c .if1 .left
+with-requires c κs = c .before .is-low-operator .ensures (c .if1 .taken) .last
 
-returns-3 : tie.Need-returns-3
+returns : tie.Need-returns
 unfolding operatorOf
-returns-3 c n =
-    let numbered = c .before .before in
-    let a = numbered .before .before .before .before .args in
+returns c n =
+    let told = c .before in
+    let a = told .before .before .args in
+    let word = told .before .is-low-operator .ensures (told .if1 .taken) in
+    let number : numberIn (lowOf (a .w)) ≡ a .w % 2 ^ 8 = word .number in
     c .with .ensures n
     ∙ ap (λ (b : Bool). inHalves (a .used .low) (a .used .high) n || b)
-    (ap (λ (op : ℕ). eqb op n) (numbered .operator .ensures)
-    ∙ sym (names-low (a .w) n (legal (numbered .before)) (rw (numbered .operator .ensures) at (c .before .if1 .left))))
+    (ap (λ (op : ℕ). eqb op n) (sym number) ∙ sym (names-low (a .w) n (sym (word .legal)) (rw number (word .last))))
+
+with-any-requires : tie.Need-with-any-requires
+with-any-requires c κs = search needs
+
+returns-2 : tie.Need-returns-2
+returns-2 c = c .with-any .ensures
 
 pub with-word-spec : {M : Type 1} → statement M
-with-word-spec = tie.close (tie.spec operator-word-requires enum-told returns operator-requires returns-2 with-requires returns-3)
+with-word-spec = tie.close (tie.spec is-low-operator-requires with-requires returns with-any-requires returns-2)
