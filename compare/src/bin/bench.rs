@@ -98,8 +98,8 @@ mod timed {
         ours: Batches,
         before: Batches,
         rust: Batches,
-        /// Single calls under each of the limits.
-        limited: [Batches; 2],
+        /// How much longer single calls under the lower limit take than the ones beside them under the greatest, per token.
+        limited: Batches,
         /// How much longer single calls with rules take than the ones beside them without, per node.
         ruled: Batches,
     }
@@ -113,7 +113,7 @@ mod timed {
                 ours: Batches::default(),
                 before: Batches::default(),
                 rust: Batches::default(),
-                limited: Default::default(),
+                limited: Batches::default(),
                 ruled: Batches::default(),
             }
         }
@@ -136,11 +136,9 @@ mod timed {
             self.rust.least() / self.ours.least()
         }
 
-        /// How many nanoseconds a token takes more under the lower limit, where it was timed: of each the call that a fifth of them
-        /// are below, since so little does not show in the least.
+        /// How many nanoseconds a token takes more under the lower limit, in the middle of the turns.
         fn for_the_limit(&self) -> Option<f64> {
-            let [greatest, lower] = &self.limited;
-            Some(lower.low(5)? - greatest.low(5)?)
+            self.limited.low(2)
         }
 
         /// How many nanoseconds a node takes more with rules, in the middle of the turns.
@@ -291,12 +289,10 @@ mod timed {
         fn round_of_limits(&mut self) {
             let tokens = self.calls[0].0.tokens.len();
             for turn in 0..BATCH.div_ceil(tokens) {
-                for which in [turn % 2, (turn + 1) % 2] {
-                    let since = Instant::now();
-                    black_box(self.read(self.libraries.now, 0, LIMITS[which]));
-                    let nanoseconds = since.elapsed().as_nanos() as f64;
-                    self.line.limited[which].0.push(nanoseconds / tokens as f64);
-                }
+                let more = more_in_turn(turn, |which| {
+                    self.read(self.libraries.now, 0, LIMITS[which])
+                });
+                self.line.limited.0.push(more / tokens as f64);
             }
         }
 
@@ -307,18 +303,24 @@ mod timed {
             };
             let tokens = self.calls[0].0.tokens.len();
             for turn in 0..BATCH.div_ceil(tokens) {
-                let mut took = [0.0; 2];
-                for which in [turn % 2, (turn + 1) % 2] {
-                    let since = Instant::now();
-                    black_box(match which {
-                        0 => self.read(self.libraries.now, 0, MOST_NESTING),
-                        _ => self.read_with_rules(),
-                    });
-                    took[which] = since.elapsed().as_nanos() as f64;
-                }
-                self.line.ruled.0.push((took[1] - took[0]) / nodes as f64);
+                let more = more_in_turn(turn, |which| match which {
+                    0 => self.read(self.libraries.now, 0, MOST_NESTING),
+                    _ => self.read_with_rules(),
+                });
+                self.line.ruled.0.push(more / nodes as f64);
             }
         }
+    }
+
+    /// How many nanoseconds call 1 takes more than call 0; which of them is made first changes from turn to turn.
+    fn more_in_turn(turn: usize, mut call: impl FnMut(usize) -> Answer) -> f64 {
+        let mut took = [0.0; 2];
+        for which in [turn % 2, (turn + 1) % 2] {
+            let since = Instant::now();
+            black_box(call(which));
+            took[which] = since.elapsed().as_nanos() as f64;
+        }
+        took[1] - took[0]
     }
 
     /// What a case is read with beside its words.
