@@ -322,7 +322,7 @@ impl Op {
 /// ```
 /// use sorbrudder::Op;
 ///
-/// assert_eq!(Op::try_from(111).unwrap_err().to_string(), "there is no such operator");
+/// assert_eq!(Op::try_from(111_u16).unwrap_err().to_string(), "there is no such operator");
 /// ```
 #[derive(Copy, Clone, Debug, PartialEq, Eq)]
 #[non_exhaustive]
@@ -339,13 +339,27 @@ impl std::error::Error for UnknownOp {}
 /// ```
 /// use sorbrudder::Op;
 ///
-/// assert_eq!(Op::try_from(9), Ok(Op::ADD));
+/// assert_eq!(Op::try_from(9_u16), Ok(Op::ADD));
 /// ```
 impl TryFrom<u16> for Op {
     type Error = UnknownOp;
 
     fn try_from(number: u16) -> Result<Self, UnknownOp> {
         Self::new(number).ok_or(UnknownOp)
+    }
+}
+
+/// ```
+/// use sorbrudder::Op;
+///
+/// assert_eq!(Op::try_from(9_u8), Ok(Op::ADD));
+/// assert!(Op::try_from(111_u8).is_err());
+/// ```
+impl TryFrom<u8> for Op {
+    type Error = UnknownOp;
+
+    fn try_from(number: u8) -> Result<Self, UnknownOp> {
+        Self::try_from(u16::from(number))
     }
 }
 

@@ -14,7 +14,7 @@ ghost use Rattle.held.specs.Held.{edited};
 ghost use Rattle.held.specs.Answers.{edit};
 ghost use Rattle.held.specs.Editing.{CanSplice, CanEdit, Accepts};
 
-// Lays the list with the edit made in front of `new`; how many words it has.
+// Lays the list with the edit made in front of `new`; how many words it has. `read_edited` has seen that there is room.
 fn splice(new: &mut [u32], list: &[u32], place: usize, removed: usize, put: &[u32]) -> usize
     requires { ⌜ CanSplice (now new) (now list) (edit place removed (now put)) ⌝ }
     ensures { λ r. ⌜ r ≡ length (edited (edit place removed (now (put .entry))) (now (list .entry))) ⌝ }
@@ -30,7 +30,7 @@ fn splice(new: &mut [u32], list: &[u32], place: usize, removed: usize, put: &[u3
 }
 
 // Reads the held list with an edit made, and leaves it in front of `new` where it is accepted. That the new list has whole tokens and no
-// more than 4,096 is seen first, by the lengths: a longer one has no room.
+// more than 4,096 is seen first, by the lengths: a longer one has no room. What it asks, the rows before it have seen: 2 and 22.
 pub fn read_edited(
     new: &mut [u32],
     list: &[u32],

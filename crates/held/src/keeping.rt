@@ -43,7 +43,8 @@ fn with_held(answer: Answer, held: Held) -> Change
     }
 }
 
-// Keeps the held words of a list, unless the entry turned it back.
+// Keeps the held words of a list, unless the entry turned it back. Its callers have a slice of 20,480 words, and the entry accepts no
+// more than 4,096 tokens.
 pub fn keep(answer: Answer, held: Held, words: &mut [u32], list: &[u32]) -> Change
     requires { ⌜ (Accepts (toldOf answer) → CanKeep (held .tokens) (now words) (now list)) ⌝ }
     ensures { λ r. ⌜ outcomeOf r ≡ kept (toldOf answer) held ⌝ }

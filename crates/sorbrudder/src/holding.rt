@@ -29,7 +29,8 @@ fn put_held(held: Held, tokens: &mut usize, version: &mut i16, edits: &mut u32)
     *edits = number;
 }
 
-// What an opening or a commit comes to as one number; the held numbers are put only where it is not turned back.
+// What an opening or a commit comes to as one number; the held numbers are put only where it is not turned back. Every answer of both
+// fits (proofs/HoldingLaws).
 fn changed(change: Change, tokens: &mut usize, version: &mut i16, edits: &mut u32) -> u64
     requires { ⌜ FitsTold (toldBy (outcomeOf change)) ⌝ }
     ensures { λ r. ⌜ r ≡ toldNumber (toldBy (outcomeOf change)) ⌝ }

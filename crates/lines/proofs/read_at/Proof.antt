@@ -5,19 +5,10 @@ use Rattle.lines.proofs.read_at.Statement.{statement}
 use Rattle.lines.proofs.read_at.Tie as tie
 
 abbrev Inv-loop : tie.InvT-loop
-Inv-loop list mark said limit end bits₀ bits = Unit {0}
+Inv-loop list first end limit answer items bits₀ bits = Unit {0}
 
 abbrev μ-loop : tie.MeasureT-loop
-μ-loop list mark said limit end bits₀ bits = end - bits
-
-limit-of-requires : tie.Need-limit-of-requires Inv-loop μ-loop
-limit-of-requires c κs = omega arith
-
-end-version-requires : tie.Need-end-version-requires Inv-loop μ-loop
-end-version-requires c κs = omega arith
-
-first-version-requires : tie.Need-first-version-requires Inv-loop μ-loop
-first-version-requires c κs = omega arith
+μ-loop list first end limit answer items bits₀ bits = end - bits
 
 loop-holds : tie.Need-loop-holds Inv-loop μ-loop
 loop-holds c = omega arith
@@ -52,9 +43,6 @@ read-at-spec =
     (tie.spec
     Inv-loop
     μ-loop
-    limit-of-requires
-    end-version-requires
-    first-version-requires
     loop-holds
     version-of-requires
     read-requires

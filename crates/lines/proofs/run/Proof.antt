@@ -6,11 +6,11 @@ use Rattle.lines.proofs.run.Statement.{statement}
 use Rattle.lines.proofs.run.Tie as tie
 
 abbrev Inv-loop : tie.InvT-loop
-Inv-loop numbers text place₀ from₀ count₀ others₀ place from count others =
-    (place ≤ length numbers) × (from ≤ length text) × (count ≤ place) × (others ≤ count)
+Inv-loop numbers text at₀ from₀ count₀ others₀ at from count others =
+    (at ≤ length numbers) × (from ≤ length text) × (count ≤ at) × (others ≤ count)
 
 abbrev μ-loop : tie.MeasureT-loop
-μ-loop numbers text place₀ from₀ count₀ others₀ place from count others = length numbers - place
+μ-loop numbers text at₀ from₀ count₀ others₀ at from count others = length numbers - at
 
 loop-holds : tie.Need-loop-holds Inv-loop μ-loop
 loop-holds c = omega arith
@@ -21,41 +21,23 @@ add-next-mark c = omega arith
 next-mark-requires : tie.Need-next-mark-requires Inv-loop μ-loop
 next-mark-requires c κs = omega arith
 
-next-mark-requires-2 : tie.Need-next-mark-requires-2 Inv-loop μ-loop
-next-mark-requires-2 c κs = omega arith
-
 say-line-requires : tie.Need-say-line-requires Inv-loop μ-loop
 say-line-requires c κs = omega arith
 
-mul-ask : tie.Need-mul-ask Inv-loop μ-loop
-mul-ask c = omega arith
+mul-run-line : tie.Need-mul-run-line Inv-loop μ-loop
+mul-run-line c = omega arith
 
-sub-ask : tie.Need-sub-ask Inv-loop μ-loop
-sub-ask c = omega arith
+sub-run-line : tie.Need-sub-run-line Inv-loop μ-loop
+sub-run-line c = omega arith
 
-part-ask-start : tie.Need-part-ask-start Inv-loop μ-loop
-part-ask-start c = omega arith
+part-run-line-start : tie.Need-part-run-line-start Inv-loop μ-loop
+part-run-line-start c = omega arith
 
-part-ask-end : tie.Need-part-ask-end Inv-loop μ-loop
-part-ask-end c = omega arith
+part-run-line-end : tie.Need-part-run-line-end Inv-loop μ-loop
+part-run-line-end c = omega arith
 
-mul-ask-2 : tie.Need-mul-ask-2 Inv-loop μ-loop
-mul-ask-2 c = omega arith
-
-sub-ask-2 : tie.Need-sub-ask-2 Inv-loop μ-loop
-sub-ask-2 c = omega arith
-
-part-ask-start-2 : tie.Need-part-ask-start-2 Inv-loop μ-loop
-part-ask-start-2 c = omega arith
-
-part-ask-end-2 : tie.Need-part-ask-end-2 Inv-loop μ-loop
-part-ask-end-2 c = omega arith
-
-ask-requires : tie.Need-ask-requires Inv-loop μ-loop
-ask-requires c κs = omega arith
-
-say-verdict-requires : tie.Need-say-verdict-requires Inv-loop μ-loop
-say-verdict-requires c κs = omega arith
+run-line-requires : tie.Need-run-line-requires Inv-loop μ-loop
+run-line-requires c κs = omega arith
 
 add-others : tie.Need-add-others Inv-loop μ-loop
 add-others c = omega arith
@@ -84,18 +66,12 @@ run-spec =
     loop-holds
     add-next-mark
     next-mark-requires
-    next-mark-requires-2
     say-line-requires
-    mul-ask
-    sub-ask
-    part-ask-start
-    part-ask-end
-    mul-ask-2
-    sub-ask-2
-    part-ask-start-2
-    part-ask-end-2
-    ask-requires
-    say-verdict-requires
+    mul-run-line
+    sub-run-line
+    part-run-line-start
+    part-run-line-end
+    run-line-requires
     add-others
     add-count
     loop-less

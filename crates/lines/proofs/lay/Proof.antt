@@ -1,16 +1,16 @@
--- `table::lay` meets its contract: the place lies in the words, which keep their length. Assumes nothing.
+-- `lines::lay` meets its contract: the place lies in the words, which keep their length. Assumes nothing.
 use Prim.Native.Nat.{_-_, _≤_}
 use mathlib.Core.Path.{_≡_}
 use native.Mathlib.Omega.{arith}
 use lib.ListN.{length, length-set}
-use Rattle.table.proofs.lay.Statement.{statement}
-use Rattle.table.proofs.lay.Tie as tie
+use Rattle.lines.proofs.lay.Statement.{statement}
+use Rattle.lines.proofs.lay.Tie as tie
 
 abbrev Inv-loop : tie.InvT-loop
-Inv-loop words₀ asked i₀ words i = (i ≤ length words₀) × (length words ≡ length words₀)
+Inv-loop words₀ mark items i₀ words i = (i ≤ length words₀) × (length words ≡ length words₀)
 
 abbrev μ-loop : tie.MeasureT-loop
-μ-loop words₀ asked i₀ words i = length words₀ - i
+μ-loop words₀ mark items i₀ words i = length words₀ - i
 
 loop-holds : tie.Need-loop-holds Inv-loop μ-loop
 loop-holds c = omega arith

@@ -1,21 +1,24 @@
--- `table::holds` meets its contract: the place lies in the buffer. Assumes nothing.
+-- `lines::next_mark` meets its contract: the first mark found stands behind the place. Assumes nothing.
 use Prim.Native.Nat.{_-_, _≤_}
 use native.Mathlib.Omega.{arith}
 use lib.ListN.{length}
-use Rattle.table.proofs.holds.Statement.{statement}
-use Rattle.table.proofs.holds.Tie as tie
+use Rattle.lines.proofs.next_mark.Statement.{statement}
+use Rattle.lines.proofs.next_mark.Tie as tie
 
 abbrev Inv-loop : tie.InvT-loop
-Inv-loop buffer said n rest i₀ i = i ≤ length buffer
+Inv-loop numbers from last end₀ end = (from ≤ end) × (end ≤ length numbers)
 
 abbrev μ-loop : tie.MeasureT-loop
-μ-loop buffer said n rest i₀ i = length buffer - i
+μ-loop numbers from last end₀ end = length numbers - end
 
 loop-holds : tie.Need-loop-holds Inv-loop μ-loop
 loop-holds c = omega arith
 
-word-requires : tie.Need-word-requires Inv-loop μ-loop
-word-requires c κs = omega arith
+mul-if1 : tie.Need-mul-if1 Inv-loop μ-loop
+mul-if1 c = omega arith
+
+shared-slice-read-if1 : tie.Need-shared-slice-read-if1 Inv-loop μ-loop
+shared-slice-read-if1 c = omega arith
 
 mul-if2 : tie.Need-mul-if2 Inv-loop μ-loop
 mul-if2 c = omega arith
@@ -26,8 +29,8 @@ shared-slice-read-if2 c = omega arith
 returns : tie.Need-returns Inv-loop μ-loop
 returns c = omega arith
 
-add-i : tie.Need-add-i Inv-loop μ-loop
-add-i c = omega arith
+add-end : tie.Need-add-end Inv-loop μ-loop
+add-end c = omega arith
 
 loop-less : tie.Need-loop-less Inv-loop μ-loop
 loop-less c = omega arith
@@ -38,18 +41,19 @@ loop-again c = omega arith
 returns-2 : tie.Need-returns-2 Inv-loop μ-loop
 returns-2 c = omega arith
 
-pub holds-spec : {M : Type 1} → statement M
-holds-spec =
+pub next-mark-spec : {M : Type 1} → statement M
+next-mark-spec =
     tie.close
     (tie.spec
     Inv-loop
     μ-loop
     loop-holds
-    word-requires
+    mul-if1
+    shared-slice-read-if1
     mul-if2
     shared-slice-read-if2
     returns
-    add-i
+    add-end
     loop-less
     loop-again
     returns-2)

@@ -3,7 +3,7 @@
 use molang::lines::COUNT;
 use molang::lines::LINES;
 ghost use mathlib.Core.Path.{_≡_};
-ghost use Rattle.table.specs.Said.{tableText};
+ghost use Rattle.lines.specs.Said.{tableText};
 
 const BYTES: usize = 2726;
 

@@ -1,30 +1,36 @@
--- `table::next_mark` meets its contract: the first mark found stands behind the place. Assumes nothing.
+-- `lines::say_line` meets its contract: the place lies in the text. Assumes nothing.
 use Prim.Native.Nat.{_-_, _≤_}
 use native.Mathlib.Omega.{arith}
 use lib.ListN.{length}
-use Rattle.table.proofs.next_mark.Statement.{statement}
-use Rattle.table.proofs.next_mark.Tie as tie
+use Rattle.lines.proofs.say_line.Statement.{statement}
+use Rattle.lines.proofs.say_line.Tie as tie
 
 abbrev Inv-loop : tie.InvT-loop
-Inv-loop numbers from last end₀ end = (from ≤ end) × (end ≤ length numbers)
+Inv-loop text from end₀ end = (from ≤ end) × (end ≤ length text)
 
 abbrev μ-loop : tie.MeasureT-loop
-μ-loop numbers from last end₀ end = length numbers - end
+μ-loop text from end₀ end = length text - end
 
 loop-holds : tie.Need-loop-holds Inv-loop μ-loop
 loop-holds c = omega arith
 
-mul-if1 : tie.Need-mul-if1 Inv-loop μ-loop
-mul-if1 c = omega arith
-
 shared-slice-read-if1 : tie.Need-shared-slice-read-if1 Inv-loop μ-loop
 shared-slice-read-if1 c = omega arith
 
-mul-if2 : tie.Need-mul-if2 Inv-loop μ-loop
-mul-if2 c = omega arith
+sub-say : tie.Need-sub-say Inv-loop μ-loop
+sub-say c = omega arith
 
-shared-slice-read-if2 : tie.Need-shared-slice-read-if2 Inv-loop μ-loop
-shared-slice-read-if2 c = omega arith
+part-say-start : tie.Need-part-say-start Inv-loop μ-loop
+part-say-start c = omega arith
+
+part-say-end : tie.Need-part-say-end Inv-loop μ-loop
+part-say-end c = omega arith
+
+say-requires : tie.Need-say-requires Inv-loop μ-loop
+say-requires c κs = omega arith
+
+add-result : tie.Need-add-result Inv-loop μ-loop
+add-result c = omega arith
 
 returns : tie.Need-returns Inv-loop μ-loop
 returns c = omega arith
@@ -41,17 +47,19 @@ loop-again c = omega arith
 returns-2 : tie.Need-returns-2 Inv-loop μ-loop
 returns-2 c = omega arith
 
-pub next-mark-spec : {M : Type 1} → statement M
-next-mark-spec =
+pub say-line-spec : {M : Type 1} → statement M
+say-line-spec =
     tie.close
     (tie.spec
     Inv-loop
     μ-loop
     loop-holds
-    mul-if1
     shared-slice-read-if1
-    mul-if2
-    shared-slice-read-if2
+    sub-say
+    part-say-start
+    part-say-end
+    say-requires
+    add-result
     returns
     add-end
     loop-less
