@@ -62,7 +62,7 @@ module _ {S : Type 0} (L : Level S) (P : ℕ → Bool) {idle : Forest → S} (I 
   walk-passed here = refl
   walk-passed (over {d = d} {rest = rest} {cs = cs} {k = k} h p) = walk-over d k cs rest h ∙ walk-passed p
 
--- no more trees, and no more nodes below them, are left
+-- passing over trees leaves no more trees unread, and no more nodes below them
 pub passed-count : {P : ℕ → Bool} {d rest d' rest' : Forest} → Passed P d rest d' rest'
     → (count rest' ≤ count rest) × (size rest' + count rest ≤ size rest + count rest')
 unfolding count size
@@ -291,7 +291,7 @@ module _ {κ : Kind} {pass : Pass} {P : ℕ → Bool} {idle : Forest → State �
 
 -- ---- a whole turn
 
--- A turn's list, its state said as the trees that are done; and what T says of the level.
+-- A turn's list, whose state is given by the trees that are done; and what T says of the level.
 pub record Stands (T : Saying) (W : List ℕ) (v : Items) (pass : Pass) (κ : Kind) (X : List ℕ) (lo hi : ℕ) (s : State κ) (rest : Forest)
     : Type 0 where
   pub P : ℕ → Bool

@@ -220,7 +220,7 @@ module _ {W W1 W' X : List ℕ} {base n write lo m a top b c : ℕ} {q k t : Tok
       (back-array-keep W W1 (λ s o x y z p. list-same made (slotStart s + o) (inl (omega arith)))
       (λ j x y. list-same made j (inr (omega arith))) items)
 
-  -- every word but those of the semicolon's slots, of the statement's items and of its place
+  -- every word but those of the semicolon's slots and of the statement's items, and the one that the statement stands in, is as it was
   ended-same : (j : ℕ) → j ≢ base + n → (j < slotStart b) ⊎ (slotEnd (b + 2) ≤ j) → Free X m a j → wd W' j ≡ wd W j
   ended-same j na nb f =
       let three = semicolon-slots is tree .0 in
