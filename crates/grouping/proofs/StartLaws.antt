@@ -268,7 +268,7 @@ started-classes {W} {v} {w} st g = go (w .pass) (st .holds g .sides .runs)
     go p unsplitPass = refl
     go p split = refl
 
--- ---- `begin`, by which arm it came
+-- ---- for the arms of `begin`
 
 pub begin-can-start : {W : List ℕ} {owner base len : ℕ} {p : Pass} → CanBegin W owner base len p → CanStart W (listFrom owner base len)
 begin-can-start g = open-can-start (g .taken) (g .opens)

@@ -123,7 +123,7 @@ fn levels(work: &mut [u32], base: usize, m: usize, used: OpSet, version: i16) ->
 }
 
 // All passes over n tokens that are loaded, their slots from base on, which is where the stack starts; at a version as the rules use it
-// (`ops::version::effective`).
+// (`ops::version::effective`). `parse::read` has loaded the tokens.
 pub fn group(work: &mut [u32], base: usize, n: usize, used: OpSet, version: i16) -> Grouped
     requires { ⌜ CanGroup (now work) base n ⌝ }
     ensures { λ r. ⌜ HasGrouped (now (work .entry)) base n used version r (now (work .exit)) ⌝ }

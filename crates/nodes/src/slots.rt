@@ -54,7 +54,7 @@ pub fn second_spare(s: u32) -> u32
     s + 2
 }
 
-// The first word past the slots of n tokens: the stack starts there.
+// The first word past the slots of n tokens: the stack starts there. The callers have at most 4,096 tokens.
 pub fn stack_of(n: usize) -> usize
     requires { ⌜ 24 * n + 24 < 2 ^ 64 ⌝ }
     ensures { λ r. ⌜ r ≡ 24 * n + 24 ⌝ }
