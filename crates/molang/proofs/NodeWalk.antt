@@ -211,7 +211,7 @@ lacks lowerField = 3
 lacks countField = 2
 lacks closeField = 1
 
--- A word takes up the place that it was counted for.
+-- A word is one of those that its node was counted with.
 taken : (field : Field) (i n : ℕ) → i + lacks field ≤ 7 * n → suc i + lacks (nextInNode field) ≤ 7 * (n + begins field)
 unfolding nextInNode
 taken operatorField i n h = omega arith

@@ -1,5 +1,5 @@
--- Whether a tree is plain, and where it is not, is told by its operators alone: an exchange of tokens that keeps these keeps it plain. Other
--- payloads are such an exchange (card 6), other seventh words too (card 12).
+-- Whether a tree is plain, and where it is not, depends on its operators alone: an exchange of tokens that keeps these keeps it plain.
+-- Other payloads are such an exchange (card 6), other seventh words too (card 12).
 use Prim.Native.Nat.{ℕ, suc, _+_}
 use mathlib.Core.Path.{_≡_, refl}
 use mathlib.Core.Bool.{true, false}

@@ -117,7 +117,7 @@ fn still_open(work: &[u32], base: usize, marks: usize, depth: usize) -> Unclosed
     }
 }
 
-// An opener opens a section: it is written, and its place and its index plus one are marked.
+// An opener opens a section: it is written, and the section's two words say where, and its index plus one.
 fn open_section(work: &mut [u32], base: usize, marks: usize, at: Reached, opener: u32) -> Reached
     requires { ⌜ CanOpen (now work) base marks (at .write) (at .depth) (at .index) ⌝ }
     ensures { λ r. ⌜ Opened (now (work .entry)) base marks (at .write) (at .depth) (at .index) opener r (now (work .exit)) ⌝ }
