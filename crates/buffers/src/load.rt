@@ -1,5 +1,5 @@
 // Loading: the tokens of a checked list become leaves of the node store, and their slots the flat list on the stack.
-// Leans on nodes, and on ops (the class table).
+// Leans on nodes, ops (the class table) and words.
 use nodes::slots;
 use nodes::stored::StoredWords;
 use ops::classes::class_table;

@@ -1,5 +1,6 @@
-// The passes in their fixed order (`group_tokens` in mod.rs): the flat ones over the array of the tokens, then the ranks of the order
-// one after another over the list of slot 0. Leans on sections, the driver, order (which pass stands at a rank) and nodes (chains).
+// The passes in their fixed order (`group_tokens` in mod.rs): the flat ones over the array of the tokens, then the ranks of the order one
+// after another over the list of slot 0. Leans on sections, the driver, order (which pass stands at a rank), levels (failures), nodes
+// (slots, chains) and ops (sets).
 use crate::driver::Ran;
 use crate::driver::run;
 use crate::grouped::Grouped;

@@ -1,4 +1,4 @@
-// A list that is kept where the entry accepted it, and the held numbers with an edit made. Leans on copying.
+// A list that is kept where the entry accepted it, and the held numbers with an edit made. Leans on copying, parse (the answer) and words.
 use crate::Change;
 use crate::Held;
 use crate::copying::copy_words;

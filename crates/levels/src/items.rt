@@ -1,5 +1,5 @@
 // Reading on in a list under work, from the left: items without a token of the pass move to the done ones as they are.
-// Leans on slots and frames.
+// Leans on nodes (slots, frames) and ops (classes).
 use nodes::frames::List;
 use nodes::slots;
 use ops::classes::TokenClasses;

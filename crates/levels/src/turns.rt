@@ -1,5 +1,5 @@
 // A pass with what it holds of a list, and what a level makes of that list in one turn: one enum of states for the Rust's
-// trait `Level`, its closures and its `Frame`. Leans on frames.
+// trait `Level`, its closures and its `Frame`. Leans on nodes (frames) and ops (classes).
 use crate::failure::Failure;
 use nodes::frames::Held;
 use nodes::frames::List;

@@ -1,5 +1,5 @@
-// What is printed at the end of the input. Leans on close, listing (a refusal's line), parse (its answer) and text; specs/Running has the
-// definition.
+// What is printed at the end of the input. Leans on close, listing (a refusal's line), parse (its answer), text and words; specs/Running
+// has the definition.
 use crate::close::Ending;
 use crate::close::close;
 use crate::run::Counts;

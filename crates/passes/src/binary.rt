@@ -1,6 +1,6 @@
 // The binary levels: each leaf of the level's operators takes its neighbours as children, from the left (binary.rs). `driver::token` calls
 // `operator` with the token that `next_token` stopped at, and `driver::resume` calls `resume` after an item's children.
-// Leans on levels (turns, items), on slots and chains.
+// Leans on levels (turns, items), nodes (slots, chains) and ops.
 use levels::failure::Failure;
 use levels::items;
 use levels::turns;

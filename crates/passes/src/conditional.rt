@@ -1,5 +1,5 @@
-// The conditional from version 5: nested lists first, then a scan of the list from the right (conditional.rs).
-// In the scan the unread items stand in [0, left), the done ones in [right, len). Leans on levels (turns, items), on slots and chains.
+// The conditional from version 5: nested lists first, then a scan of the list from the right (conditional.rs). In the scan the unread items
+// stand in [0, left), the done ones in [right, len). Leans on levels (turns, items), nodes (slots, chains) and ops.
 use levels::failure::Failure;
 use levels::items;
 use levels::turns;

@@ -1,4 +1,4 @@
-// `return`, from the left (unary.rs). Leans on levels (turns, items) and on chains.
+// `return`, from the left (unary.rs). Leans on levels (turns, items) and nodes (chains).
 use levels::failure::Failure;
 use levels::items;
 use levels::turns;

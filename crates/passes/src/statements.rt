@@ -1,6 +1,6 @@
 // Statements, the semicolon pass (statements.rs): a list with semicolons becomes one `;` node of its statements, each
 // gathered under a `;` node of its own. In a split list the finished statements stand in [0, done), the items of the open one
-// in [done, write). Leans on levels (turns, items), on slots and chains.
+// in [done, write). Leans on levels (turns, items), nodes (slots, chains), ops and words.
 use levels::failure::Failure;
 use levels::items;
 use levels::items::Found;

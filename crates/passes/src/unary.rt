@@ -1,5 +1,5 @@
 // The prefix operators minus and not, from the right (unary.rs).
-// Leans on levels (turns, items), on slots and chains.
+// Leans on levels (turns, items), nodes (slots, chains) and ops.
 use levels::failure::Failure;
 use levels::items;
 use levels::items::Found;

@@ -1,5 +1,5 @@
 // The bracket structure: member accessors and sections, over the array of slots that is the flat list (sections.rs).
-// Both read the array and write it again from its start, write ≤ read. Leans on slots and chains.
+// Both read the array and write it again from its start, write ≤ read. Leans on levels (failures), nodes (slots, chains), ops and words.
 use levels::failure::Failure;
 use levels::failure::Mismatch;
 use levels::failure::Unclosed;
