@@ -54,7 +54,7 @@ module _ (φ : Token → Token) (same : (k : Token) → φ k .op ≡ k .op) wher
         unplain-relabelled p q s (suc i) (suc n + size cs) rest,
       ) refl
 
-  -- WHETHER A TREE IS PLAIN, AND WHERE NOT, is told by its operators.
+  -- WHETHER A TREE IS PLAIN, AND WHERE NOT, depends on its operators alone.
   pub unplainAt-relabelled : (k : Token) (cs : Forest) → unplainAt (φ k) (relabelled φ cs) ≡ unplainAt k cs
   unfolding unplainAt relabelled
   unplainAt-relabelled k cs = unplain-relabelled none none (λ i. refl) 0 0 (node k cs nil)
