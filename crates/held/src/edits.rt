@@ -1,5 +1,5 @@
-// The held list with an edit made: its words in an array of their own, and what they read as. Leans on own (the reading), parse (its answer)
-// and words; specs/Held has the edit.
+// The held list with an edit made: its words in an array of their own, and what they read as. Leans on own (the reading), parse (its
+// answer) and words; specs/Held has the edit.
 use crate::copying::copy_words;
 use own::read_own;
 use parse::Answer;
