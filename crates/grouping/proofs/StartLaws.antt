@@ -310,7 +310,7 @@ module _ {W : List ℕ} {owner base len : ℕ} where
             (opens-moved (g .before) W owner base len v m);
       })
 
-  -- every other
+  -- every other pass
   begun-first : (p : Pass) → OneOf (0 ∷ 1 ∷ 4 ∷ 6 ∷ 7 ∷ 8 ∷ []) (tagOf the-type p)
       → Begun W owner base len p (walkOf (listFrom owner base len) (begunOf p))
   unfolding begunOf

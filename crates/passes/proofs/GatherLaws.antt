@@ -120,7 +120,7 @@ module _ {W X : List ℕ} {v : Items} {b lo hi : ℕ} {d : Forest} {k : Token} {
   pub item-bounds : (lo ≤ i .a) × (i .a ≤ b) × (b < i .m) × (i .m ≤ hi) × (v .read ≤ v .len)
   item-bounds = let le = ahead-le (i .ahead) in (back-le (i .done .rep), i .tree .low, tree-below (i .tree), le .0, le .1)
 
--- it goes to the done ones
+-- the item goes to the done ones
 module _ (W W' : List ℕ) {X : List ℕ} {v : Items} {b lo hi : ℕ} {d : Forest} {k : Token} {cs rest : Forest}
     (i : AtItem W X v b lo hi d k cs rest)
     (e : W' ≡ set W (v .base + v .write) b) where
@@ -146,7 +146,7 @@ module _ (W W' : List ℕ) {X : List ℕ} {v : Items} {b lo hi : ℕ} {d : Fores
         long = set-long W W' (v .base + v .write) b e;
       }
 
--- the next tree goes below it
+-- the next tree goes below the item
 pub data Attaching (W W' X : List ℕ) (v : Items) (b lo hi : ℕ) (d : Forest) (k : Token) : Forest → Type 0 where
   attached : {t : Token} {ts rest : Forest} → AtItem W' X (movedTo v (v .read + 1) (v .write)) b lo hi d k (node t ts nil) rest
       → Within W W' X lo hi v

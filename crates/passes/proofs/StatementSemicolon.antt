@@ -138,7 +138,7 @@ at-can-end {W} {X} {l = l} {n = n} {b = b} v =
           subst (λ (x : ℕ). CanGive W b (l .base + n) x) (omega arith) (array-give wide (omega arith) (omega arith) (omega arith));
     }
 
--- ---- none before it
+-- ---- what stands before it
 
 pub back-nil : {W X ds : List ℕ} {lo hi : ℕ} {d : Forest} → RepB W X ds lo hi d → length ds ≡ 0 → d ≡ nil
 back-nil (begins-with e) h = refl
@@ -451,7 +451,7 @@ stopped-turn v (leading h) = turn-leading v h
 stopped-turn v (again h e) = turn-again v h e
 stopped-turn v (ended h made g) = ended-turn v h made g (v .at .d) refl
 
--- what it changes
+-- what the turn changes
 stopped-within : {W W' X : List ℕ} {lo hi n b : ℕ} {l l' : Items} {q : Token} {done d rest : Forest} {r : Turn}
     → Stopped W X lo hi l l' n b q done d rest → SemicolonTo W l' b n r W'
     → ((j : ℕ) → Free X lo hi j → (j < l .base) ⊎ (l .base + l .len ≤ j) → wd W' j ≡ wd W j) × (length W' ≡ length W)
