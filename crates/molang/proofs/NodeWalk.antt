@@ -211,7 +211,7 @@ lacks lowerField = 3
 lacks countField = 2
 lacks closeField = 1
 
--- A word is one of those that its node was counted with.
+-- One word on: the words so far and those that the node still lacks are no more than seven for each node that has begun.
 taken : (field : Field) (i n : ℕ) → i + lacks field ≤ 7 * n → suc i + lacks (nextInNode field) ≤ 7 * (n + begins field)
 unfolding nextInNode
 taken operatorField i n h = omega arith
