@@ -1,5 +1,5 @@
 -- Emission. What is written so far and the words of the trees that are left, those of the current list before those that wait, are the
--- whole; each turn writes one node and puts its children and the trees after it in its place (`emit-step`).
+-- whole; each turn writes one node, and its children and the trees after it are left instead of it (`emit-step`).
 use Prim.Native.Nat.{ℕ, _+_, _*_, _-_, _^_, _≤_, _<_}
 use mathlib.Core.Path.{_≡_, refl, sym, ap, _∙_, subst}
 use mathlib.Core.Logic.{_≢_, inl}

@@ -59,8 +59,8 @@ pub record CanEmit (W : List ℕ) (first to stack : ℕ) : Type 0 where
   pub room : to + nodeLength * size trees ≤ length W
   pub few : size trees < 2 ^ 14
 
--- The trees' words stand from `to` on; r is the number of their nodes. The words below the stack are as they were. Left free are the words
--- between, where siblings waited, and those after the trees' words.
+-- The trees' words stand from `to` on; r is the number of their nodes. The words below the stack are as they were. The words between, where
+-- siblings waited, and those after the trees' words are left free.
 pub record Emitted (W : List ℕ) (first to stack r : ℕ) (W' : List ℕ) : Type 0 where
   pub count : (hi : ℕ) (f : Forest) → Linked W first hi f → r ≡ size f
   pub words : (hi : ℕ) (f : Forest) → Linked W first hi f → Seg W' to (treeWords f)

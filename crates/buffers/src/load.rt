@@ -1,5 +1,5 @@
 // Loading: the tokens of a checked list become leaves of the node store, and their slots the flat list on the stack.
-// Leans on nodes, and on ops (the class table).
+// Leans on nodes, ops (the class table) and words.
 use nodes::slots;
 use nodes::stored::StoredWords;
 use ops::classes::class_table;
@@ -20,7 +20,7 @@ fn load_token(list: &[u32], work: &mut [u32], table: &[u32; 111], i: usize, stac
     work[stack + i] = slot;
 }
 
-// The n tokens of a list.
+// Loads the n tokens of a list. `parse::read` calls it where `accept` found no fault.
 pub fn load(list: &[u32], work: &mut [u32], n: usize)
     requires { ⌜ CanLoad (now list) (now work) n ⌝ }
     ensures { λ _. ⌜ Loaded (now (list .entry)) (now (work .entry)) n (now (work .exit)) ⌝ }

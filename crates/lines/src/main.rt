@@ -2,8 +2,8 @@
 // the table's, which is the one that the theorem of molang has. It writes the text of each line and whether it is answered as it says, and
 // the totals last. The definition answers every line as it says (that theorem), and the entries answer as the definition does: this program
 // tests the compiled code. What it writes is compared with the file stdout; of the functions that run and compare, which are all private,
-// it is proved that they are safe, and of the text that it is the table's. Leans on molang (the table), accept, own, parse, write and
-// derived.
+// it is proved that they are safe, and of the text that it is the table's. Leans on molang (the table), accept, own, parse, write,
+// derived and words.
 mod said;
 
 use crate::said::table;

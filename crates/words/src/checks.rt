@@ -163,7 +163,7 @@ fn is_usual(words: TokenWords) -> bool
     are_halves(words.upper, words.lower, words.operator)
 }
 
-// The first bad one of the five words of a token, word by word. What it asks, `token` asks.
+// The first bad one of the five words of a token, word by word. `token` asks the same.
 fn first_bad(words: TokenWords, at: usize) -> Checked
     requires { ⌜ at + 4 < 2 ^ 64 ⌝ }
     ensures { λ r. ⌜ refusalOf r ≡ wordsRefusal at operatorField 0 (fiveWords words) ⌝ }

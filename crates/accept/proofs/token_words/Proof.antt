@@ -1,4 +1,5 @@
--- `accept::token_words` meets its contract: what the check of the whole list answers is answered by the words that are left. Assumes nothing.
+-- `accept::token_words` meets its contract: what the check of the whole list answers is answered by the words that are left. Assumes
+-- nothing.
 use Prim.Native.Nat.{_+_, _*_, _-_}
 use mathlib.Core.Path.{_≡_, refl, sym, ap, _∙_}
 use mathlib.Core.Option.{none}

@@ -1,4 +1,5 @@
--- `parse::parse` meets its contract: a call that the table turns back, or one that is read, after which the work buffer is cleared. Assumes nothing.
+-- `parse::parse` meets its contract: a call that the table turns back, or one that is read, after which the work buffer is cleared. Assumes
+-- nothing.
 use borrow.Author.Needs.{needs}
 use Prim.Native.Nat.{ℕ, _+_, _*_}
 use lib.ListN.{replicate, take}

@@ -1,4 +1,5 @@
--- `parse::read` meets its contract: loaded, grouped by the effective version's rules, and laid out in the caller's buffers. Assumes nothing.
+-- `parse::read` meets its contract: loaded, grouped by the effective version's rules, and laid out in the caller's buffers. Assumes
+-- nothing.
 use borrow.Author.Needs.{needs}
 use mathlib.Core.Path.{ap, _∙_}
 use mir.Facts.{toZ-ofZ}

@@ -1,4 +1,5 @@
--- `nodes::children::count_chain` meets its contract: a step of the count for the first slot, one for the second, then one at each turn of the loop.
+-- `nodes::children::count_chain` meets its contract: a step of the count for the first slot, one for the second, then one at each turn of
+-- the loop.
 use Prim.Native.Nat.{_-_, _^_, _≤_, _<_}
 use native.Mathlib.Omega.{arith}
 use lib.ListN.{length}

@@ -1,4 +1,5 @@
--- `parse::report::extent_of` meets its contract: the words of the linked trees are laid out, and the extent is read from them. Assumes nothing.
+-- `parse::report::extent_of` meets its contract: the words of the linked trees are laid out, and the extent is read from them. Assumes
+-- nothing.
 use borrow.Author.Needs.{needs}
 use native.Mathlib.Omega.{arith}
 use lib.ListN.{length-take}

@@ -15,7 +15,7 @@ Inv-loop words output₀ direction start last past cursor₀ output cursor = (g 
 abbrev μ-loop : tie.MeasureT-loop
 μ-loop words output₀ direction start last past cursor₀ output cursor = wayOf direction words cursor
 
--- Where the walk begins, and the last place.
+-- Where the first node of the walk ends, and where the last one does.
 starts : (c : tie.After-first2 Inv-loop μ-loop) → c .before .before .first .result ≡ firstEnd (c .before .before .before .before .before .args .direction) (length (c .before .before .before .before .before .args .words .now))
 starts c = c .before .before .first .ensures
 

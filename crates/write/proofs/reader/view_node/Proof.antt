@@ -1,5 +1,6 @@
--- `write::reader::view_node` meets its contract: a walk of its MIR, by hand. A reader is made at the node and looks. All that the proof knows of
--- these two calls is that each meets its contract; what `new` gives is written out as its contract says it before it is stored. Assumes nothing.
+-- `write::reader::view_node` meets its contract: a walk of its MIR, by hand. A reader is made at the node and looks. All that the proof
+-- knows of these two calls is that each meets its contract; what `new` gives is written out as its contract says it before it is stored.
+-- Assumes nothing.
 use mathlib.Core.Path.{_≡_, refl, ap}
 use Prim.Native.Nat.{ℕ, _+_, _≤_, _<_, _^_}
 use mathlib.Core.List.{List, [], _∷_}

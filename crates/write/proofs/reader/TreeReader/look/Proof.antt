@@ -1,5 +1,5 @@
--- `write::reader::TreeReader::look` meets its contract: a walk of its MIR, by hand. The reader is taken apart, and `look_at` is called on its
--- words and its position. All that the proof knows of `look_at` is that it meets its contract. Assumes nothing.
+-- `write::reader::TreeReader::look` meets its contract: a walk of its MIR, by hand. The reader is taken apart, and `look_at` is called on
+-- its words and its position. All that the proof knows of `look_at` is that it meets its contract. Assumes nothing.
 use mathlib.Core.Path.{_≡_, refl}
 use Prim.Native.Nat.{_+_, _≤_, _<_, _^_}
 use mathlib.Core.List.{[], _∷_}
