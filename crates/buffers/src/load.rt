@@ -2,8 +2,8 @@
 // Leans on nodes, ops (the class table) and words.
 use nodes::slots;
 use nodes::stored::StoredWords;
+use ops::classes::class;
 use ops::classes::class_table;
-use ops::classes::leaf_classes;
 use words::fields;
 use words::tokens::TokenWords;
 ghost use Rattle.buffers.specs.Load.{CanLoadToken, TokenLoaded, CanLoad, Loaded};
@@ -15,7 +15,7 @@ fn load_token(list: &[u32], work: &mut [u32], table: &[u32; 111], i: usize, stac
 {
     let slot = slots::slot_of(i as u32);
     let token = TokenWords::at(list, fields::TOKEN_WORDS * i);
-    let classes = leaf_classes(table, fields::operator(token.operator));
+    let classes = class(table, fields::operator_bits(token.operator));
     slots::set_leaf(work, slot, StoredWords::of(token), classes);
     work[stack + i] = slot;
 }
