@@ -31,7 +31,8 @@ returns c =
 
 -- What a turn that has a node asks, and that the words are as many as they were.
 turn : (c : tie.Else1 Inv-loop μ-loop) → let a = c .before .before .before .before .args in let w = c .before .before .loop in
-    Turn (a .work .now) (a .first) (a .to) (a .stack) (w .inv .0) (w .work) (w .s) (w .top) (w .nodes) (w .fuel) × (length (w .work) ≡ length (a .work .now))
+    Turn (a .work .now) (a .first) (a .to) (a .stack) (w .inv .0) (w .work) (w .s) (w .top) (w .nodes) (w .fuel)
+    × (length (w .work) ≡ length (a .work .now))
 turn c =
     let a = c .before .before .before .before .args in
     let v = c .before .before .loop .inv in
@@ -60,10 +61,14 @@ loop-less c = let h = c .before .before .before .before .before .before .before 
 
 loop-again : tie.Need-loop-again Inv-loop μ-loop
 loop-again c =
-    let e = c .before .before .before .before .before .before .before .before in
+    let emit-node = c .before .before .before .before .before .before in
+    let e = emit-node .before .before in
     let a = e .before .before .before .before .args in
-    let v = e .before .before .loop .inv in
-    (v .0, emit-step (a .work .now) (a .first) (a .to) (a .stack) (v .0) (v .1) (e .if1 .left) (c .before .before .before .before .before .before .emit-node .ensures) (c .before .before .node-after .ensures))
+    let v = e .before .before .loop .inv in (
+      v .0,
+      emit-step (a .work .now) (a .first) (a .to) (a .stack) (v .0) (v .1) (e .if1 .left) (emit-node .emit-node .ensures)
+          (c .before .before .node-after .ensures),
+    )
 
 same-length-2 : tie.Need-same-length-2 Inv-loop μ-loop
 same-length-2 c = c .before .loop .inv .1 .progress .long

@@ -15,13 +15,18 @@ same-length : tie.Need-same-length
 same-length c = search needs
 
 returns : tie.Need-returns
-returns c = over (c .before .before .next-of .ensures) (sym (c .before .before .before .before .first-of .ensures) ∙ c .before .if1 .taken) (c .if2 .taken)
+returns c =
+    over (c .before .before .next-of .ensures) (sym (c .before .before .before .before .first-of .ensures) ∙ c .before .if1 .taken)
+    (c .if2 .taken)
 
 same-length-2 : tie.Need-same-length-2
 same-length-2 c = search needs
 
 returns-2 : tie.Need-returns-2
-returns-2 c = finish (c .before .before .before .next-of .ensures) (sym (c .before .before .before .before .before .first-of .ensures) ∙ c .before .before .if1 .taken) (c .before .if2 .left) (c .if3 .taken)
+returns-2 c =
+    let if1 = c .before .before in
+    finish (if1 .before .next-of .ensures) (sym (if1 .before .before .before .first-of .ensures) ∙ if1 .if1 .taken) (c .before .if2 .left)
+    (c .if3 .taken)
 
 sub-waiting : tie.Need-sub-waiting
 sub-waiting c = search needs
@@ -39,13 +44,18 @@ same-length-3 : tie.Need-same-length-3
 same-length-3 c = search needs
 
 returns-3 : tie.Need-returns-3
-returns-3 c = back refl (sym (c .before .before .before .before .before .before .first-of .ensures) ∙ c .before .before .before .if1 .taken) (sym (c .before .before .before .before .next-of .ensures) ∙ c .before .before .if2 .left) (c .before .if3 .left)
+returns-3 c =
+    let if1 = c .before .before .before in
+    back refl (sym (if1 .before .before .before .first-of .ensures) ∙ if1 .if1 .taken)
+    (sym (if1 .before .next-of .ensures) ∙ c .before .before .if2 .left) (c .before .if3 .left)
 
 same-length-4 : tie.Need-same-length-4
 same-length-4 c = search needs
 
 returns-4 : tie.Need-returns-4
-returns-4 c = down (c .before .before .before .before .first-of .ensures) (c .before .if1 .left) (sym (c .before .before .next-of .ensures) ∙ c .if4 .taken)
+returns-4 c =
+    down (c .before .before .before .before .first-of .ensures) (c .before .if1 .left)
+    (sym (c .before .before .next-of .ensures) ∙ c .if4 .taken)
 
 mul-work : tie.Need-mul-work
 mul-work c = search needs
@@ -60,7 +70,8 @@ same-length-5 : tie.Need-same-length-5
 same-length-5 c = search needs
 
 returns-5 : tie.Need-returns-5
-returns-5 c = waits (c .before .before .before .before .first-of .ensures) (c .before .if1 .left) (c .before .before .next-of .ensures) (c .if4 .left)
+returns-5 c =
+    waits (c .before .before .before .before .first-of .ensures) (c .before .if1 .left) (c .before .before .next-of .ensures) (c .if4 .left)
 
 pub node-after-spec : {M : Type 1} → statement M
 node-after-spec =
