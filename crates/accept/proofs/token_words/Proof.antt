@@ -63,7 +63,8 @@ returns c =
     ap (verdict (s .before .before .args .n))
     (sym
     (s .loop .inv .rest
-    ∙ token-bad list at (omega arith) _ (sym (ap refusalOf (c .before .checked .given .1)) ∙ rw (words .at .ensures) at (token .token .ensures))))
+    ∙ token-bad list at (omega arith) _
+    (sym (ap refusalOf (c .before .checked .given .1)) ∙ rw (words .at .ensures) at (token .token .ensures))))
 
 returns-2 : tie.Need-returns-2 Inv-loop μ-loop
 returns-2 c =
