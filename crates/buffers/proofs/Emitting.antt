@@ -272,7 +272,8 @@ module _ (W : List ℕ) (first to stack : ℕ) (p : CanEmit W first to stack) wh
 
   moved : {Z : List ℕ} {s top nodes fuel next top' : ℕ} {Z' : List ℕ} {ws : List ℕ} {fs : List Forest} → top < to
       → Between Z s nodes fuel fs → Wait W (p .hi) ws fs
-      → SegB Z stack ws → top ≡ stack + length ws → Stepped Z (firstAt Z s) (nextAt Z s) stack top next top' Z' → EmitAt Z' next top' nodes fuel
+      → SegB Z stack ws → top ≡ stack + length ws → Stepped Z (firstAt Z s) (nextAt Z s) stack top next top' Z'
+      → EmitAt Z' next top' nodes fuel
   moved {ws = ws} {fs = fs} high v wait held at (over e leaf some) =
       record {
         f = v .rest;

@@ -97,8 +97,8 @@ impl TokenClasses {
     }
 }
 
-// The classes of each operator number, which a leaf of it notes: those that `class` of driver.rs gives it, one for the tokens of a pass, two
-// for `-`, none for what no pass after the sections looks for; and those of the three beside the Rust's.
+// The classes of each operator number, which a leaf of it notes: those that `class` of driver.rs gives it, one for the tokens of a pass,
+// two for `-`, none for what no pass after the sections looks for; and those of the three beside the Rust's.
 pub const CLASSES: [u32; 111] = [
     TokenClasses::NONE.0, // LEFT_BRACE
     TokenClasses::NONE.0, // RIGHT_BRACE

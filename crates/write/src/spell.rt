@@ -1,8 +1,9 @@
 // The writing of a plain tree: each operator between or before its operands, copied as it came, a section's closer where the section
 // closes, and added pairs where an operand needs them. `write_node` and `write_operand` call each other over the preorder words, the
-// remaining node count falling, and a leaf is written by neither of them but by `write_leaf`; each gives back the part of the words that its
-// tree fills, so the next operand starts right after it, and takes the tree's spans into two numbers, so that a pair knows its operand's
-// extent when the operand is written. Leans on plain (seats), ops and words.
+// remaining node count falling; a node without children is written by `write_leaf`. Each gives back the part of the words that its tree
+// fills, so the next operand starts right after it, and takes the tree's spans into two numbers, so that a pair knows its operand's extent
+// when the operand is written. The words are those of a tree that `judge` found plain, and `fill` has compared the list's length with the
+// tokens that are written of it: what the functions ask of both comes from there. Leans on plain (seats), ops and words.
 use crate::plain::Seat;
 use crate::plain::is_paired;
 use crate::plain::seat_of_left;

@@ -1,5 +1,5 @@
--- `words::checks::token` meets its contract: a token that passes all of one kind of tests is good, any other is looked at word by word. Assumes
--- nothing.
+-- `words::checks::token` meets its contract: a token that passes the tests of `is_bare` or of `is_usual` is good, any other is looked at
+-- word by word. Assumes nothing.
 use mathlib.Core.Path.{sym}
 use borrow.Author.Needs.{needs}
 use Rattle.words.proofs.checks.token.Statement.{statement}
