@@ -10,13 +10,12 @@ use native.Mathlib.Omega.{arith}
 use lib.Dec.{eqb, leb, ltb}
 use lib.ListN.{length, drop, getD, length-replicate}
 use lib.Seq.{drop-cons, drop-length}
-use lib.Pow.{field, mod-mod-pow}
 use borrow.Author.Tests.{eqb-true, leb-true, le-leb, lt-leb, ltb-true, ltb-false}
 use types.Run.{OneOf}
 use denote.Enum.Declared.{tagOf}
 use Rattle.molang.specs.FirstFailure.{must, firstOf}
 use Rattle.molang.specs.Operator.{leftBrace, leftBracket, leftParenthesis, rightBrace, rightBracket, rightParenthesis, isCloser}
-use Rattle.molang.specs.Words.{lowOf, numberIn}
+use Rattle.molang.specs.Words.{operatorBits}
 use Rattle.molang.specs.Words.{Refusal, row, operatorField, wordFault, lowFault, variantAfter, wordsRefusal, tokenOf, tokensOf}
 use Rattle.molang.specs.Nesting.{openAfter, firstAbove, tooDeep}
 use Rattle.molang.specs.Parse.{Call, mostTokens, isLimit, lengthRows, valueRows, refusal}
@@ -27,6 +26,7 @@ use Rattle.molang.proofs.Nesting.{opens-one, short-within}
 use Rattle.ops.specs.declared.sets.OpSet.{OpSet}
 use Rattle.ops.proofs.OperatorLaws.{Apart, apart, no-closer}
 use Rattle.words.specs.Fields.{operatorOf, variantOf}
+use Rattle.words.proofs.FieldLaws.{same-by-bits}
 use Rattle.words.proofs.CheckLaws.{good-token, token-refused, token-passed}
 use Rattle.accept.specs.declared.Sizes.{Sizes}
 use Rattle.accept.specs.declared.Accepted.{Accepted}
@@ -284,26 +284,9 @@ no-bracket depth n above =
     in
     rw (no-closer n openers, openAfter) (rw (← apart _ n closers, openAfter))
 
--- The operator of a word, by the word's bits.
-number-bits : (w : ℕ) → operatorOf w ≡ w / 4096 % 16 * 256 + w % 256
-unfolding lowOf operatorOf numberIn
-number-bits w =
-    let upper : lowOf w / 2 ^ 12 % 2 ^ 4 ≡ w / 2 ^ 12 % 2 ^ 4 =
-    ap (λ (m : ℕ). m % 2 ^ 4) (field w 17 12) ∙ mod-mod-pow (w / 2 ^ 12) 13 4
-    in
-    let lower : lowOf w % 2 ^ 8 ≡ w % 2 ^ 8 = mod-mod-pow w 21 8 in
-    rw (upper, lower)
-
 -- The operator's bits where they stand in a word count as the operator does.
-pub same-open : (depth w : ℕ) → openAfter depth (w % 256 + w / 4096 % 16 * 4096) ≡ openAfter depth (operatorOf w)
-same-open depth w = go (ltb 0 (w / 4096 % 16)) refl
-  where
-    go : (b : Bool) → ltb 0 (w / 4096 % 16) ≡ b → openAfter depth (w % 256 + w / 4096 % 16 * 4096) ≡ openAfter depth (operatorOf w)
-    go true e =
-        let upper = ltb-true 0 (w / 4096 % 16) e in
-        no-bracket depth (w % 256 + w / 4096 % 16 * 4096) (omega (arith, upper))
-        ∙ sym (no-bracket depth (operatorOf w) (omega (arith, upper, number-bits w)))
-    go false e = ap (openAfter depth) (omega (arith, number-bits w, ltb-false 0 (w / 4096 % 16) e))
+pub same-open : (depth w : ℕ) → openAfter depth (operatorBits (operatorOf w) 0) ≡ openAfter depth (operatorOf w)
+same-open depth w = same-by-bits (openAfter depth) depth (λ n h. no-bracket depth n (omega arith)) (operatorOf w)
 
 -- ---- What acceptance gives
 

@@ -1,1 +1,2 @@
+-- What the checks of a call find, as definitions.
 pub mod Accepting

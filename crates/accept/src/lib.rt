@@ -9,12 +9,10 @@ use words::fields;
 use words::refusals;
 use words::tokens::TokenWords;
 ghost use mathlib.Core.Path.{_≡_};
-ghost use Prim.Native.Nat.{ℕ, _*_, _/_, _≤_};
+ghost use Prim.Native.Nat.{_*_, _/_, _≤_};
 ghost use lib.ListN.{length};
-ghost use Rattle.molang.specs.Nesting.{openAfter};
 ghost use Rattle.molang.specs.Parse.{isLimit, refusal};
 ghost use Rattle.molang.specs.Words.{operatorField, wordsRefusal};
-ghost use Rattle.words.specs.Fields.{operatorOf};
 ghost use Rattle.accept.specs.Accepting.{verdictOf, verdict, callOf, lengthRefusal, valueRefusal, nestingRefusal};
 
 // Words of the tree buffer per token, and of the work buffer per token and once more.
@@ -110,14 +108,6 @@ fn token_words(list: &[u32], n: usize) -> Accepted
     Accepted::Tokens(n)
 }
 
-// The operator of a word where it is a bracket, one of 0 to 5, and of any other word a number above these: the operator's bits as they
-// stand, which one instruction takes out.
-fn bracket(w: u32) -> u32
-    ensures { λ r. ⌜ ((depth : ℕ) → openAfter depth r ≡ openAfter depth (operatorOf w)) ⌝ }
-{
-    w % 256 + w / 4096 % 16 * 4096
-}
-
 // Answer 18: the brackets of n tokens against the limit. No more can be open than there are tokens, so a list no longer than the limit
 // is not looked at.
 fn nesting(list: &[u32], n: usize, limit: u32) -> Accepted
@@ -132,7 +122,7 @@ fn nesting(list: &[u32], n: usize, limit: u32) -> Accepted
     let mut index = 0usize;
     while index < n {
         let at = fields::TOKEN_WORDS * index;
-        depth = open_after(depth, bracket(list[at]));
+        depth = open_after(depth, fields::operator_bits(list[at]));
         if most < depth {
             return Accepted::Refused(refusals::NESTED_TOO_DEEP, index);
         }

@@ -1,5 +1,5 @@
 -- Emission. What is written so far and the words of the trees that are left, those of the current list before those that wait, are the
--- whole; each turn writes one node and puts its children and the trees after it in its place (`emit-step`).
+-- whole; each turn writes one node, and its children and the trees after it are left instead of it (`emit-step`).
 use Prim.Native.Nat.{ℕ, _+_, _*_, _-_, _^_, _≤_, _<_}
 use mathlib.Core.Path.{_≡_, refl, sym, ap, _∙_, subst}
 use mathlib.Core.Logic.{_≢_, inl}
@@ -272,7 +272,8 @@ module _ (W : List ℕ) (first to stack : ℕ) (p : CanEmit W first to stack) wh
 
   moved : {Z : List ℕ} {s top nodes fuel next top' : ℕ} {Z' : List ℕ} {ws : List ℕ} {fs : List Forest} → top < to
       → Between Z s nodes fuel fs → Wait W (p .hi) ws fs
-      → SegB Z stack ws → top ≡ stack + length ws → Stepped Z s stack top next top' Z' → EmitAt Z' next top' nodes fuel
+      → SegB Z stack ws → top ≡ stack + length ws → Stepped Z (firstAt Z s) (nextAt Z s) stack top next top' Z'
+      → EmitAt Z' next top' nodes fuel
   moved {ws = ws} {fs = fs} high v wait held at (over e leaf some) =
       record {
         f = v .rest;
@@ -331,11 +332,16 @@ module _ (W : List ℕ) (first to stack : ℕ) (p : CanEmit W first to stack) wh
 
   pub emit-step : {Z Z' Z'' : List ℕ} {s top nodes fuel next top' : ℕ} → EmitAt Z s top nodes fuel → s ≢ 0
       → NodeEmitted Z s (to + nodeLength * nodes) Z'
-      → Stepped Z' s stack top next top' Z'' → EmitAt Z'' next top' (nodes + 1) (fuel - 1)
-  emit-step {Z} {Z'} {Z''} {s} v n x y =
-      let high = emit-in v n .high in
+      → Stepped Z' (firstAt Z s) (nextAt Z s) stack top next top' Z'' → EmitAt Z'' next top' (nodes + 1) (fuel - 1)
+  emit-step {Z} {Z'} {Z''} {s} {top} {nodes} {fuel} {next} {top'} v n x y =
+      let turn = emit-in v n in
+      let high = turn .high in
+      let below = turn .node .below in
+      let first : firstAt Z' s ≡ firstAt Z s = x .same (firstWord s) (inl (omega arith)) in
+      let after : nextAt Z' s ≡ nextAt Z s = x .same (nextWord s) (inl (omega arith)) in
+      let stepped : Stepped Z' (firstAt Z' s) (nextAt Z' s) stack top next top' Z'' = rw (first, after) y in
       let held = segB-keep Z Z' stack (v .ws) (λ j a b. x .same j (inl (omega (arith, v .at)))) (v .held) in
-      moved high (between (v .f) (v .current) n (v .progress) x) (v .wait) held (v .at) y
+      moved high (between (v .f) (v .current) n (v .progress) x) (v .wait) held (v .at) stepped
 
   -- ---- the end
 

@@ -1,3 +1,4 @@
+-- The laws that the proofs of several functions share, and those that crates above cite.
 pub mod Runs
 pub mod Loading
 pub mod Linking

@@ -3,7 +3,6 @@
 use Prim.Native.Nat.{ℕ, zero, suc, _+_, _*_, _/_, _%_, _^_, _≤_, _<_}
 use mathlib.Core.Path.{_≡_, refl, sym, ap, ap₂, _∙_}
 use mathlib.Core.Logic.{_≢_, _⊎_, inl, inr}
-use mathlib.Core.Bool.{_||_}
 use mathlib.Core.List.{List, [], _∷_, _++_}
 use native.Mathlib.Omega.{arith}
 use native.Mathlib.Nat.{add-zero, le-refl}
@@ -11,12 +10,13 @@ use borrow.Author.Count.{below-more}
 use lib.ListN.{length, getD, drop, set, length-set}
 use lib.Seq.{getD-drop, drop-drop}
 use Rattle.molang.specs.Forest.{Token, nil, leaves}
-use Rattle.molang.specs.Words.{word, lowOf, tokenWords, tokensOf, listWords}
+use Rattle.molang.specs.Words.{word, lowOf, operatorBits, tokenWords, tokensOf, listWords}
 use Rattle.molang.proofs.Words.{LegalTokens, noTokens, token, AtEnds, words-back, tokens-end}
 use Rattle.molang.proofs.ListWords.{listWords-length}
 use Rattle.words.specs.Fields.{operatorOf, halfOf, valueOf}
-use Rattle.ops.specs.Classes.{bitAt, inClass, classTable, entryOf, ownWord}
-use Rattle.ops.proofs.ClassLaws.{leaf-bits}
+use Rattle.ops.specs.Classes.{bitAt, inClass, classTable, entryOf}
+use Rattle.ops.proofs.ClassLaws.{entry-past, entry-bits}
+use Rattle.words.proofs.FieldLaws.{same-by-bits}
 use Rattle.words.specs.Tokens.{tokenWordsAt}
 use Rattle.nodes.specs.Store.{wd, slotWords, slotStart, slotEnd, firstWord, classesWord, classesAt, TokenAt, Seg, RepF, ends, InArray}
 use Rattle.nodes.specs.Stored.{storedOf}
@@ -32,12 +32,16 @@ use Rattle.buffers.specs.Load.{tokenSlots, LeafAt, CanLoadToken, TokenLo
 
 module _ (list W table : List ℕ) (i stack : ℕ) (p : CanLoadToken list W table i stack) where
   -- The token's words laid down at its slot, and the slot put on the stack.
-  pub token-stores : (W1 : List ℕ) (slot n op : ℕ) → slot ≡ 3 * i + 3
+  pub token-stores : (W1 : List ℕ) (slot n b : ℕ) → slot ≡ 3 * i + 3
       → Laid W slot (storedOf (tokenWordsAt list (5 * i))) n W1
-      → op ≡ operatorOf (wd list (5 * i)) → ((c : ℕ) → bitAt n c ≡ (bitAt (entryOf table op) c || bitAt (ownWord op) c))
+      → b ≡ operatorBits (operatorOf (wd list (5 * i))) 0 → n ≡ entryOf table b
       → TokenLoaded list W i stack (set W1 (stack + i) slot)
-  token-stores W1 slot n op e v eo noted =
-      let bits : (c : ℕ) → bitAt n c ≡ inClass c op = λ c. noted c ∙ rw (p .classes) (leaf-bits op c) in
+  token-stores W1 slot n b e v eb noted =
+      let op = operatorOf (wd list (5 * i)) in
+      let entry : n ≡ entryOf classTable op =
+      noted ∙ rw (p .classes, eb) (same-by-bits (entryOf classTable) 0 (λ m h. sym (entry-past classTable m (omega arith))) op)
+      in
+      let bits : (c : ℕ) → bitAt n c ≡ inClass c op = λ c. ap (λ (w : ℕ). bitAt w c) entry ∙ entry-bits op c in
       let s = 3 * i + 3 in
       let u : Laid W s (storedOf (tokenWordsAt list (5 * i))) n W1 = rw e at v in
       let W2 = set W1 (stack + i) slot in
@@ -50,7 +54,7 @@ module _ (list W table : List ℕ) (i stack : ℕ) (p : CanLoadToken list W tabl
         leaf = record {
           words = λ o h. other (slotStart s + o) (omega arith) ∙ u .words o h;
           first = other (firstWord s) (omega arith) ∙ u .first;
-          classes = λ c. ap (λ (w : ℕ). bitAt w c) mark ∙ bits c ∙ ap (λ (o : ℕ). inClass c o) eo;
+          classes = λ c. ap (λ (w : ℕ). bitAt w c) mark ∙ bits c;
         };
         slot = wd-same W1 (stack + i) slot (omega arith) ∙ e;
         same = λ j o h. other j h ∙ u .same j (apart j o);

@@ -38,14 +38,15 @@ pub record NodeEmitted (W : List ℕ) (s at : ℕ) (W' : List ℕ) : Type 0 wher
 
 -- ---- `node_after`
 
--- The node after slot s, the top after it and the words after it, those that wait standing from `stack` to `top`.
-pub data Stepped (W : List ℕ) (s stack top : ℕ) : ℕ → ℕ → List ℕ → Type 0 where
-  over : {next : ℕ} → next ≡ nextAt W s → firstAt W s ≡ 0 → next ≢ 0 → Stepped W s stack top next top W
-  finish : {next : ℕ} → next ≡ nextAt W s → firstAt W s ≡ 0 → next ≡ 0 → top ≡ stack → Stepped W s stack top next top W
-  back : {next : ℕ} → next ≡ wd W (top - 1) → firstAt W s ≡ 0 → nextAt W s ≡ 0 → top ≢ stack → Stepped W s stack top next (top - 1) W
-  down : {next : ℕ} → next ≡ firstAt W s → next ≢ 0 → nextAt W s ≡ 0 → Stepped W s stack top next top W
-  waits : {next wait : ℕ} → next ≡ firstAt W s → next ≢ 0 → wait ≡ nextAt W s → wait ≢ 0
-      → Stepped W s stack top next (top + 1) (set W top wait)
+-- The node after one with this first child and next sibling, the top after it and the words after it, those that wait standing from `stack`
+-- to `top`.
+pub data Stepped (W : List ℕ) (child sibling stack top : ℕ) : ℕ → ℕ → List ℕ → Type 0 where
+  over : {next : ℕ} → next ≡ sibling → child ≡ 0 → next ≢ 0 → Stepped W child sibling stack top next top W
+  finish : {next : ℕ} → next ≡ sibling → child ≡ 0 → next ≡ 0 → top ≡ stack → Stepped W child sibling stack top next top W
+  back : {next : ℕ} → next ≡ wd W (top - 1) → child ≡ 0 → sibling ≡ 0 → top ≢ stack → Stepped W child sibling stack top next (top - 1) W
+  down : {next : ℕ} → next ≡ child → next ≢ 0 → sibling ≡ 0 → Stepped W child sibling stack top next top W
+  waits : {next wait : ℕ} → next ≡ child → next ≢ 0 → wait ≡ sibling → wait ≢ 0
+      → Stepped W child sibling stack top next (top + 1) (set W top wait)
 
 -- ---- `emit`
 
@@ -59,8 +60,8 @@ pub record CanEmit (W : List ℕ) (first to stack : ℕ) : Type 0 where
   pub room : to + nodeLength * size trees ≤ length W
   pub few : size trees < 2 ^ 14
 
--- The trees' words stand from `to` on; r is the number of their nodes. The words below the stack are as they were. Left free are the words
--- between, where siblings waited, and those after the trees' words.
+-- The trees' words stand from `to` on; r is the number of their nodes. The words below the stack are as they were. The words between, where
+-- siblings waited, and those after the trees' words are left free.
 pub record Emitted (W : List ℕ) (first to stack r : ℕ) (W' : List ℕ) : Type 0 where
   pub count : (hi : ℕ) (f : Forest) → Linked W first hi f → r ≡ size f
   pub words : (hi : ℕ) (f : Forest) → Linked W first hi f → Seg W' to (treeWords f)

@@ -1,2 +1,3 @@
+-- What loading and emission ask and ensure, as definitions.
 pub mod Load
 pub mod Emit

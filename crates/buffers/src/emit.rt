@@ -6,7 +6,6 @@ use words::fields;
 ghost use mathlib.Core.Path.{_≡_};
 ghost use Prim.Native.Nat.{_+_, _*_, _^_, _≤_, _<_};
 ghost use lib.ListN.{length, take, drop, replicate};
-ghost use Rattle.nodes.specs.Store.{slotEnd};
 ghost use Rattle.molang.specs.Parse.{inFront};
 ghost use Rattle.buffers.specs.Emit.{CanEmitNode, NodeEmitted, Stepped, CanEmit, Emitted, CanLayOut, LaidOut};
 
@@ -26,14 +25,12 @@ fn emit_node(work: &mut [u32], s: u32, at: usize)
     token.token().lay_node(work, at, children, token.close);
 }
 
-// The node after slot s in preorder: its first child, and its next sibling waits; or its next sibling; or the last one that
-// waits. Those that wait stand in the words from `stack` up to `top`.
-fn node_after(work: &mut [u32], s: u32, stack: usize, top: usize) -> After
-    requires { ⌜ (slotEnd s ≤ length (now work)) × (stack ≤ top) × (top < length (now work)) ⌝ }
-    ensures { λ r. ⌜ Stepped (now (work .entry)) s stack top (r .next) (r .top) (now (work .exit)) ⌝ }
+// The node after one in preorder, of the node's first child and next sibling: the child, and the sibling waits; or the sibling; or the last
+// one that waits. Those that wait stand in the words from `stack` up to `top`. `emit` has counted both.
+fn node_after(work: &mut [u32], first: u32, next: u32, stack: usize, top: usize) -> After
+    requires { ⌜ (stack ≤ top) × (top < length (now work)) ⌝ }
+    ensures { λ r. ⌜ Stepped (now (work .entry)) first next stack top (r .next) (r .top) (now (work .exit)) ⌝ }
 {
-    let first = slots::first_of(work, s);
-    let next = slots::next_of(work, s);
     if first == 0 {
         if next != 0 {
             return After { next, top };
@@ -58,7 +55,9 @@ fn node_after(work: &mut [u32], s: u32, stack: usize, top: usize) -> After
 }
 
 // Writes the trees of the chain from `first` on, each parent before its children, to the words from `to` on, and gives
-// back their number of nodes. Siblings that wait stand in the words from `stack` on.
+// back their number of nodes. Siblings that wait stand in the words from `stack` on. `lay_out` and `parse`'s `extent_of` have trees of at
+// most three nodes for each token, and 64 words for each token and 64 more. A node's links are read before its words are written: the
+// compiler cannot know that they stay as they were.
 pub fn emit(work: &mut [u32], first: u32, to: usize, stack: usize) -> usize
     requires { ⌜ CanEmit (now work) first to stack ⌝ }
     ensures { λ r. ⌜ Emitted (now (work .entry)) first to stack r (now (work .exit)) ⌝ }
@@ -72,16 +71,18 @@ pub fn emit(work: &mut [u32], first: u32, to: usize, stack: usize) -> usize
         if s == 0 {
             return nodes;
         }
+        let child = slots::first_of(work, s);
+        let sibling = slots::next_of(work, s);
         emit_node(work, s, to + fields::NODE_WORDS * nodes);
         nodes += 1;
-        let after = node_after(work, s, stack, top);
+        let after = node_after(work, child, sibling, stack, top);
         s = after.next;
         top = after.top;
     }
     nodes
 }
 
-// Copies n words of the work buffer, from `from` on, to the front of the tree buffer.
+// Copies n words of the work buffer, from `from` on, to the front of the tree buffer. `lay_out` has room for them in both.
 pub fn copy_tree(work: &[u32], from: usize, tree: &mut [u32], n: usize)
     requires { ⌜ (from + n ≤ length (now work)) × (n ≤ length (now tree)) ⌝ }
     ensures { λ _. ⌜ now (tree .exit) ≡ inFront (take n (drop from (now (work .entry)))) (now (tree .entry)) ⌝ }
@@ -93,7 +94,8 @@ pub fn copy_tree(work: &[u32], from: usize, tree: &mut [u32], n: usize)
     }
 }
 
-// Where the tree words of n tokens are laid out in the work buffer: above the siblings that wait during their emission.
+// Where the tree words of n tokens are laid out in the work buffer: above the siblings that wait during their emission. The callers have
+// at most 4,096 tokens.
 pub fn tree_of(n: usize) -> usize
     requires { ⌜ 28 * n + 28 < 2 ^ 64 ⌝ }
     ensures { λ r. ⌜ r ≡ 28 * n + 28 ⌝ }
@@ -102,6 +104,7 @@ pub fn tree_of(n: usize) -> usize
 }
 
 // The words of the tree at `root`, which has no sibling after it, become the front of the tree buffer; gives back its number of nodes.
+// `parse`'s `fill_roots` calls it for the one root that the passes left, with buffers as long as the entry asks.
 pub fn lay_out(work: &mut [u32], tree: &mut [u32], root: u32, n: usize) -> usize
     requires { ⌜ CanLayOut (now work) (now tree) root n ⌝ }
     ensures { λ r. ⌜ LaidOut (now (work .entry)) (now (tree .entry)) root n r (now (work .exit)) (now (tree .exit)) ⌝ }

@@ -1,9 +1,9 @@
 // Loading: the tokens of a checked list become leaves of the node store, and their slots the flat list on the stack.
-// Leans on nodes, and on ops (the class table).
+// Leans on nodes, ops (the class table) and words.
 use nodes::slots;
 use nodes::stored::StoredWords;
+use ops::classes::class;
 use ops::classes::class_table;
-use ops::classes::leaf_classes;
 use words::fields;
 use words::tokens::TokenWords;
 ghost use Rattle.buffers.specs.Load.{CanLoadToken, TokenLoaded, CanLoad, Loaded};
@@ -15,12 +15,12 @@ fn load_token(list: &[u32], work: &mut [u32], table: &[u32; 111], i: usize, stac
 {
     let slot = slots::slot_of(i as u32);
     let token = TokenWords::at(list, fields::TOKEN_WORDS * i);
-    let classes = leaf_classes(table, fields::operator(token.operator));
+    let classes = class(table, fields::operator_bits(token.operator));
     slots::set_leaf(work, slot, StoredWords::of(token), classes);
     work[stack + i] = slot;
 }
 
-// The n tokens of a list.
+// Loads the n tokens of a list. `parse::read` calls it where `accept` found no fault.
 pub fn load(list: &[u32], work: &mut [u32], n: usize)
     requires { ⌜ CanLoad (now list) (now work) n ⌝ }
     ensures { λ _. ⌜ Loaded (now (list .entry)) (now (work .entry)) n (now (work .exit)) ⌝ }

@@ -1,1 +1,2 @@
+-- The exact used set and the highest span end of a list, as definitions.
 pub mod Derived

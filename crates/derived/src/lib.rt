@@ -99,7 +99,8 @@ pub fn highest_end(list: &[u32]) -> u32
     end
 }
 
-// The version that sixteen bits in two's complement say. Both programs have seen that no other bit is set.
+// The version that sixteen bits in two's complement say. `treelist`, `everylist` and `liftcount` have seen that no other bit is set, and
+// `lines` takes sixteen bits.
 pub fn version_of(bits: u32) -> i16
     requires { ⌜ bits < 2 ^ 16 ⌝ }
     ensures { λ r. ⌜ r ≡ versionOf bits ⌝ }

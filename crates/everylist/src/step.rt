@@ -1,5 +1,5 @@
 // The steps of the program: the text at a position, or that there is none. Leans on shortlists (the list at a position), own (its reading),
-// listing and text (its text), derived (the version) and words; specs/Steps has the definition.
+// listing and text (its text), parse (the answer), derived (the version) and words; specs/Steps has the definition.
 use crate::kept::Fault;
 use crate::kept::kept_count;
 use crate::kept::kept_fault;

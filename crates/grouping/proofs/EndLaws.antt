@@ -100,7 +100,7 @@ pub finish-within : {W : List ℕ} (v : Items) (p : Pass) → CanFinish W (walkO
     → (v .write ≤ v .len) × (v .base + v .len ≤ length W) × (length W < 2 ^ 32)
 finish-within v p g = (holds-within (g .holds) .0, g .holds .sides .within, g .small)
 
--- ---- by which arm it came
+-- ---- for the arms of `finish`
 
 pub finish-at : {W : List ℕ} (v : Items) (p q : Pass) → p ≡ q → CanFinish W (walkOf v p) → CanFinish W (walkOf v q)
 finish-at {W} v p q e g = subst (λ (x : Pass). CanFinish W (walkOf v x)) e g

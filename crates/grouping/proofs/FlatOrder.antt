@@ -1,5 +1,5 @@
--- The flat passes in the reading: each where it runs takes the definition's reading on to the next pass, or ends it; what they leave is no
--- heavier than the tokens.
+-- The flat passes in the reading: each one, where it runs, takes the definition's reading on to the next pass, or ends it. What they leave
+-- is no heavier than the tokens.
 use Prim.Native.Nat.{ℕ, suc, _+_, _*_, _-_, _≤_, _<_}
 use mathlib.Core.Path.{_≡_, refl, sym, ap, _∙_, subst}
 use mathlib.Core.Logic.{_≢_}
@@ -297,7 +297,7 @@ pub joined-items : {W W' : List ℕ} {base n m : ℕ} {used : OpSet} (r : Left) 
     → JoinedIf W base n used (Done m) W'
 joined-items {W} {W'} {base} {n} {used = used} r e w = subst (λ (x : Left). JoinedIf W base n used x W') e w
 
--- a failure of a flat pass, told of the reading
+-- the messages of a failed flat pass are the answer of the reading
 module _ (W : List ℕ) (base n l : ℕ) (u : ℕ → Bool) (ps : List Pass) where
   told-to : {r : Left} {ms : List Message} → FlatTells W r ms → FlatTo W base n l u ps (messages ms) r
   told-to (failed t) = stands.failed (tells t)

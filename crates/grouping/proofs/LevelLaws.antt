@@ -42,7 +42,7 @@ use Rattle.grouping.proofs.FlatOrder.{Fallen}
 use Rattle.grouping.proofs.Lasting.{pass-nodes}
 use Rattle.grouping.proofs.OutermostLaws.{give-outermost}
 
--- what a failure of the flat passes is to the reading
+-- what `group` gives back where a flat pass fails
 abbrev pub endOf : Flat → Grouped
 endOf (Items m) = Roots
 endOf (FlatFail f) = Failed f
@@ -64,7 +64,7 @@ starts-unlent (starts.point e) = refl
 starts-unlent (starts.plus e) = refl
 starts-unlent (starts.level e) = refl
 
--- what a rank left, by what is known of it
+-- what a rank left, as the arm of the `match` knows it
 pub chosen-as : (W : List ℕ) (base n : ℕ) (c : Choice) (x : Ran) (W' : List ℕ) {y : Ran} → x ≡ y → Chosen W base n c x W'
     → Chosen W base n c y W'
 chosen-as W base n c x W' e h = subst (λ (r : Ran). Chosen W base n c r W') e h
@@ -163,7 +163,7 @@ level-roots {u = u} {r} {g} {l} {W} {k} v e =
     subst (λ (a : Answer). StandsFor W (3 * (g .n) + 3) (g .n) l Roots a) (sym (v .answer ∙ last))
     (roots (v .list .owned) (omega (arith, size-weight (v .F), v .light)))
 
--- at the same version, as the machine reads it back
+-- the same at an equal version
 pub levelled-at : {W W' : List ℕ} {base m : ℕ} {used : OpSet} {r : Grouped} {z z' : ℤ} → z ≡ z' → Levelled W base m used z r W'
     → Levelled W base m used z' r W'
 levelled-at {W} {W'} {base} {m} {used} {r} e w = subst (λ (v : ℤ). Levelled W base m used v r W') e w

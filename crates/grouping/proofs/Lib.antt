@@ -1,3 +1,4 @@
+-- The laws that the proofs of several functions share.
 pub mod FlatOrder
 pub mod SideLaws
 pub mod StackLaws

@@ -1,5 +1,5 @@
--- An item is taken back whose children are done: it goes to the done items (`keep-resumed`), from the right before them (`right-resumed`).
--- The states that take it otherwise, an array and a binary level, have laws of their own.
+-- An item whose children are done is taken back: it goes behind the done items (`keep-resumed`), or from the right before them
+-- (`right-resumed`). The states that take it otherwise, an array and a binary level, have laws of their own.
 use Prim.Native.Nat.{ℕ, _+_, _-_, _≤_, _<_}
 use mathlib.Core.Path.{_≡_, refl, sym, ap, _∙_, subst}
 use mathlib.Core.Logic.{_≢_, ⊎-elim}
@@ -285,7 +285,7 @@ right-resumed W W' v v' item h ev ew =
           };
     })
 
--- ---- by which arm it came
+-- ---- for the arms of `resume`
 
 pub resume-at : {W : List ℕ} {item : ℕ} (v : Items) (p q : Pass) → p ≡ q → CanResume W (walkOf v p) item → CanResume W (walkOf v q) item
 resume-at {W} {item} v p q e g = subst (λ (x : Pass). CanResume W (walkOf v x) item) e g

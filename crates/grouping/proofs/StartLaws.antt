@@ -268,7 +268,7 @@ started-classes {W} {v} {w} st g = go (w .pass) (st .holds g .sides .runs)
     go p unsplitPass = refl
     go p split = refl
 
--- ---- `begin`, by which arm it came
+-- ---- for the arms of `begin`
 
 pub begin-can-start : {W : List ℕ} {owner base len : ℕ} {p : Pass} → CanBegin W owner base len p → CanStart W (listFrom owner base len)
 begin-can-start g = open-can-start (g .taken) (g .opens)
@@ -310,7 +310,7 @@ module _ {W : List ℕ} {owner base len : ℕ} where
             (opens-moved (g .before) W owner base len v m);
       })
 
-  -- every other
+  -- every other pass
   begun-first : (p : Pass) → OneOf (0 ∷ 1 ∷ 4 ∷ 6 ∷ 7 ∷ 8 ∷ []) (tagOf the-type p)
       → Begun W owner base len p (walkOf (listFrom owner base len) (begunOf p))
   unfolding begunOf

@@ -75,12 +75,12 @@ pub record Going (κ : Kind) (classes : ℕ) (W : List ℕ) (base0 hi0 : ℕ) (w
   pub some : 0 < hi0
   pub small : length W < 2 ^ 32
 
--- How many turns are left at most.
+-- How many turns the lists that wait have left at most, and one more for each of them.
 abbrev pub turnsBelow : (κ : Kind) → List (Held κ) → ℕ
 turnsBelow κ [] = 0
 turnsBelow κ (held t k rest ∷ S) = turnsLeft κ t rest + 1 + turnsBelow κ S
 
--- What is changed is the slots below hi0 and the stack.
+-- Only the slots below hi0 and the words of the stack, from base0 on, are changed.
 pub record Beyond (W W' : List ℕ) (base0 hi0 : ℕ) : Type 0 where
   pub kept : (j : ℕ) → Free [] 0 hi0 j → j < base0 → wd W' j ≡ wd W j
   pub long : length W' ≡ length W
@@ -189,7 +189,7 @@ pub record CanMove (W : List ℕ) (from n base : ℕ) : Type 0 where
   pub down : base ≤ from
   pub within : from + n ≤ length W
 
--- The n words from `from` on stand from `base` on, and what is below is as it was.
+-- The n words that stood from `from` on stand from `base` on, and the words below `base` are as they were.
 pub record Moved (W : List ℕ) (from n base : ℕ) (W' : List ℕ) : Type 0 where
   pub words : (i : ℕ) → i < n → wd W' (base + i) ≡ wd W (from + i)
   pub same : (j : ℕ) → j < base → wd W' j ≡ wd W j
@@ -253,12 +253,12 @@ pub record CanRun (W : List ℕ) (base n : ℕ) (p : Pass) : Type 0 where
   pub room : base + 8 * size F ≤ length W
   pub small : length W < 2 ^ 32
 
--- The pass ran to its end: r is the list, which is the outermost one now, or what a failure tells.
+-- The pass ran to its end: its result r is a list, which is the outermost one now, or the messages of the failure.
 pub data RanTo (W' : List ℕ) (base hi : ℕ) (r : Result) : Ran → Type 0 where
   done : {f : Forest} {n : ℕ} → r ≡ ok f → Outermost W' base n hi f → RanTo W' base hi r (Through n)
   failed : {f : Failure} {ms : List Message} → r ≡ fail ms → Tells W' f ms → RanTo W' base hi r (Failed f)
 
--- The definition's pass over the outermost list is what the run came to.
+-- The run came to the result of the definition's pass over the outermost list.
 pub record HasRun (W : List ℕ) (base n : ℕ) (p : Pass) (r : Ran) (W' : List ℕ) : Type 0 where
   pub to : (g : CanRun W base n p) → RanTo W' base (g .hi) (pass (g .κ) (g .F)) r
   pub beyond : (g : CanRun W base n p) → Beyond W W' base (g .hi)

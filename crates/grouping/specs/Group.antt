@@ -71,7 +71,7 @@ pub data EndsTo (W : List ℕ) (sourceLength : ℕ) (x : Result) (f : Forest) : 
   ended : {m : ℕ} → x ≡ ok f → EndsTo W sourceLength x f (Done m)
   unended : {q : Failure} {ms : List Message} → x ≡ fail ms → Says W sourceLength q ms → EndsTo W sourceLength x f (Fail q)
 
--- It is done where it is due.
+-- The last token is checked where that pass runs.
 pub record EndsRight (W : List ℕ) (base n : ℕ) (used : OpSet) (r : Flat) : Type 0 where
   pub to : (g : CanGroup W base n) (sourceLength : ℕ)
       → EndsTo W sourceLength

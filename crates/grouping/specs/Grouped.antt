@@ -14,7 +14,7 @@ use Rattle.levels.specs.declared.failure.Unclosed.{Unclosed}
 use Rattle.grouping.specs.declared.grouped.Grouped.{Grouped}
 use Rattle.grouping.specs.declared.grouped.Grouped.the-variants.{Roots, Failed, Mismatched, Unclosed as Unclosing, PointerFailed}
 
--- What a failure of any pass tells, the check of the last token among them, over a source of that length.
+-- The messages of a failure of any pass, the check of the last token among them, over a source of that length.
 pub data Says (W : List ℕ) (sourceLength : ℕ) : Failure → List Message → Type 0 where
   tells : {f : Failure} {ms : List Message} → Tells W f ms → Says W sourceLength f ms
   notEnded : {s : ℕ} {k : Token} → TokenAt W s k

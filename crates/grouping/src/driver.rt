@@ -232,7 +232,8 @@ fn advance(work: &mut [u32], walk: Walk, base0: usize) -> Next
 }
 
 // Runs a pass over the list of slot 0, whose n items stand from `base` on, and every list below it; the stack is free above them.
-// Each item and each list takes a turn at most, which is far less than the words of the work buffer.
+// It takes at most three turns for each node and one more, which is less than the words of the work buffer. `group::run_choice` calls it
+// with the list that the passes before it left.
 pub fn run(work: &mut [u32], base: usize, n: usize, pass: Pass) -> Ran
     requires { ⌜ CanRun (now work) base n pass ⌝ }
     ensures { λ r. ⌜ HasRun (now (work .entry)) base n pass r (now (work .exit)) ⌝ }

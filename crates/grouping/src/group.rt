@@ -1,5 +1,6 @@
-// The passes in their fixed order (`group_tokens` in mod.rs): the flat ones over the array of the tokens, then the ranks of the order
-// one after another over the list of slot 0. Leans on sections, the driver, order (which pass stands at a rank) and nodes (chains).
+// The passes in their fixed order (`group_tokens` in mod.rs): the flat ones over the array of the tokens, then the ranks of the order one
+// after another over the list of slot 0. Leans on sections, the driver, order (which pass stands at a rank), levels (failures), nodes
+// (slots, chains) and ops (sets).
 use crate::driver::Ran;
 use crate::driver::run;
 use crate::grouped::Grouped;
@@ -123,7 +124,7 @@ fn levels(work: &mut [u32], base: usize, m: usize, used: OpSet, version: i16) ->
 }
 
 // All passes over n tokens that are loaded, their slots from base on, which is where the stack starts; at a version as the rules use it
-// (`ops::version::effective`).
+// (`ops::version::effective`). `parse::read` has loaded the tokens.
 pub fn group(work: &mut [u32], base: usize, n: usize, used: OpSet, version: i16) -> Grouped
     requires { ⌜ CanGroup (now work) base n ⌝ }
     ensures { λ r. ⌜ HasGrouped (now (work .entry)) base n used version r (now (work .exit)) ⌝ }

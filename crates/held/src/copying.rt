@@ -4,7 +4,7 @@ ghost use Prim.Native.Nat.{_+_, _≤_};
 ghost use lib.ListN.{length};
 ghost use Rattle.words.specs.Records.{laidAt};
 
-// Copies words to the place `at`. The callers have room.
+// Copies words to those from `at` on. `splice` and `keep_words` have room for them.
 pub fn copy_words(from: &[u32], to: &mut [u32], at: usize)
     requires { ⌜ at + length (now from) ≤ length (now to) ⌝ }
     ensures { λ _. ⌜ now (to .exit) ≡ laidAt at (now (from .entry)) (now (to .entry)) ⌝ }

@@ -1,5 +1,5 @@
-// The held list with an edit made: its words in an array of their own, and what they read as. Leans on own (the reading); specs/Held has
-// the edit.
+// The held list with an edit made: its words in an array of their own, and what they read as. Leans on own (the reading), parse (its
+// answer) and words; specs/Held has the edit.
 use crate::copying::copy_words;
 use own::read_own;
 use parse::Answer;
@@ -30,7 +30,8 @@ fn splice(new: &mut [u32], list: &[u32], place: usize, removed: usize, put: &[u3
 }
 
 // Reads the held list with an edit made, and leaves it in front of `new` where it is accepted. That the new list has whole tokens and no
-// more than 4,096 is seen first, by the lengths: a longer one has no room. What it asks, the rows before it have seen: 2 and 22.
+// more than 4,096 is seen first, by the lengths: a longer one has no room. Rows 2 and 22 have seen that the edit lies within a list of at
+// most 4,096 tokens, and the callers lend an array for that many.
 pub fn read_edited(
     new: &mut [u32],
     list: &[u32],

@@ -1,4 +1,4 @@
-// A list that is kept where the entry accepted it, and the held numbers with an edit made. Leans on copying.
+// A list that is kept where the entry accepted it, and the held numbers with an edit made. Leans on copying, parse (the answer) and words.
 use crate::Change;
 use crate::Held;
 use crate::copying::copy_words;
@@ -56,7 +56,7 @@ pub fn keep(answer: Answer, held: Held, words: &mut [u32], list: &[u32]) -> Chan
     with_held(answer, held)
 }
 
-// The held numbers with an edit made. None of the commit's own rows has answered.
+// The held numbers with an edit made. `commit_edit` calls it where none of its own rows has answered.
 pub fn with_edit(held: Held, removed: usize, put: &[u32]) -> Held
     requires { ⌜ CanCount held removed ⌝ }
     ensures { λ r. ⌜ r ≡ counted held removed (length (now (put .entry))) ⌝ }

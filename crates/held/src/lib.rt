@@ -1,6 +1,6 @@
 // An open list (document 02, card 11): a list that is held while it is edited, the version rising under it. Three numbers by value and the
-// words in a lent slice are held; an edit is asked, which changes nothing held, or committed. Leans on own (the reading) and words;
-// specs/Held has the definition, specs/Answers the promises.
+// words in a lent slice are held; an edit is asked, which changes nothing held, or committed. Leans on own (the reading), parse (its
+// answer) and words; specs/Held has the definition, specs/Answers the promises.
 mod copying;
 mod edits;
 mod faults;

@@ -1,4 +1,4 @@
--- Laws that belong to no one function.
+-- The laws that the proofs of several functions share, and those that crates above cite.
 pub mod States
 pub mod PassClasses
 pub mod Reading

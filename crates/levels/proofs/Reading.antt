@@ -106,12 +106,12 @@ module _ {W X : List ℕ} {b a m : ℕ} {k : Token} {cs : Forest} (t : RepT W X 
   pub tree-shares : shares (classesAt W b) c ≡ not (free P (node k cs nil))
   tree-shares = notes-meet c P e (t .noted)
 
--- it has none
+-- the tree has no leaf of the pass
 pub tree-free : {W X : List ℕ} {b a m : ℕ} {k : Token} {cs : Forest} (c : ℕ) (P : ℕ → Bool) → Covers c P → RepT W X b a m k cs
     → shares (classesAt W b) c ≡ false → free P (node k cs nil) ≡ true
 tree-free {k = k} {cs = cs} c P e t h = not-false (free P (node k cs nil)) (sym (tree-shares t c P e) ∙ h)
 
--- it has one
+-- the tree has a leaf of the pass
 pub tree-unfree : {W X : List ℕ} {b a m : ℕ} {k : Token} {cs : Forest} (c : ℕ) (P : ℕ → Bool) → Covers c P → RepT W X b a m k cs
     → shares (classesAt W b) c ≡ true → free P (node k cs nil) ≡ false
 tree-unfree {k = k} {cs = cs} c P e t h = not-true (free P (node k cs nil)) (sym (tree-shares t c P e) ∙ h)
@@ -120,12 +120,12 @@ leaf-passes : (x : Bool) → (not x && true) ≡ false → x ≡ true
 leaf-passes true h = refl
 leaf-passes false h = absurd (true≢false h)
 
--- a leaf has one where it is one
+-- a leaf that is not free of P is one of P
 pub unfree-leaf : (P : ℕ → Bool) (k : Token) → free P (node k nil nil) ≡ false → P (k .op) ≡ true
 unfolding free
 unfree-leaf P k h = leaf-passes (P (k .op)) h
 
--- a node, where there is one below it
+-- below a node that is not free of P, and has children, there is a leaf of P
 pub unfree-tree : (P : ℕ → Bool) (k : Token) (cs : Forest) → isNil cs ≡ false → free P (node k cs nil) ≡ false → free P cs ≡ false
 unfolding isNil
 unfree-tree P k nil e h = absurd (true≢false e)
@@ -139,7 +139,7 @@ free-tree-below P k (node c cs r) e h = sym (free-one P k c cs r) ∙ h
 -- ---- an item goes to the done ones
 
 module _ (W W' : List ℕ) {X : List ℕ} {at n lo l a m hi b : ℕ} {d cs : Forest} {k : Token} where
-  -- the word behind them is the item's slot now, and the words of both are as they were
+  -- the word behind the done items has the item's slot, and the words of the done items and of the item's tree are as they were
   pub array-put : BackArray W X at n lo l d → RepT W X b a m k cs → l ≤ a → m ≤ hi
       → SameSlots W W' X lo hi → SameWords W W' at (at + n) → wd W' (at + n) ≡ b → BackArray W' X at (n + 1) lo hi (node k cs d)
   array-put v t low high slots words here =
@@ -231,7 +231,7 @@ next-to {W} {X} {lo} {hi} {f} l op v =
               (differs (omega (arith, ahead-le v .1)) h)
         ]
 
--- what `next_if` asks
+-- what `next_if` asks holds of a list with unread trees below the stack
 pub can-peek : {W X : List ℕ} {lo hi : ℕ} {f : Forest} (l : Items) → Ahead W X (l .base) (l .read) (l .len) lo hi f → slotStart hi ≤ l .base
     → l .base + l .len ≤ length W
     → CanPeek W l

@@ -141,7 +141,7 @@ module _ {W : List ℕ} {l : Items} {g : CanSeek W l} {P : ℕ → Bool} {Z : Li
           → SoughtTo Z (g .X) l (g .at) (g .lo) (g .hi) P (g .d) (g .rest) (Leaf (movedTo l (read + 1) write) (wd Z (l .base + read)))
       go p (item {cs = cs} low t r) = at cs (sym (leaf-test cs t) ∙ leafy) p low t r
 
-  -- it has one below it
+  -- a token of the pass is below it
   seek-tree : (c : ℕ) → Covers c P → shares (classesAt Z (wd Z (l .base + read))) c ≡ true → isLeafAt Z (wd Z (l .base + read)) ≡ false
       → SoughtTo Z (g .X) l (g .at) (g .lo) (g .hi) P (g .d) (g .rest) (Children (movedTo l (read + 1) write) (wd Z (l .base + read)))
   seek-tree c e f leafy = go (v .passed) (ahead-item (wd Z (l .base + read)) refl h (v .ahead))
@@ -154,7 +154,7 @@ module _ {W : List ℕ} {l : Items} {g : CanSeek W l} {P : ℕ → Bool} {Z : Li
           let behind = v .behind in
           tree {l' = movedTo l (read + 1) write} refl (omega arith) p full (unfree-tree P k cs full (tree-unfree c P e t f)) t (seen low r)
 
--- at the end
+-- nothing is left to read
 seek-none : {W : List ℕ} {l : Items} {g : CanSeek W l} {P : ℕ → Bool} {Z : List ℕ} {read write : ℕ} → SeekAt W l g P Z read write
     → l .len ≤ read
     → SoughtTo Z (g .X) l (g .at) (g .lo) (g .hi) P (g .d) (g .rest) (Nothing (movedTo l read write))

@@ -44,7 +44,7 @@ held-none (Binary classes pending) h = absurd (miss (0 ∷ 1 ∷ 2 ∷ 5 ∷ 8 �
 held-none (Conditional tokens) h = absurd (miss (0 ∷ 1 ∷ 2 ∷ 5 ∷ 8 ∷ []) 7 tt h)
 held-none Returns h = refl
 
--- Those with no array that waits.
+-- The states with no array that waits.
 pub waiting-none : (p : Pass) → OneOf (0 ∷ 1 ∷ 2 ∷ 3 ∷ 5 ∷ 6 ∷ 7 ∷ 8 ∷ []) (tagOf the-type p) → 0 ≡ waitingOf p
 unfolding waitingOf
 waiting-none Calls h = refl
@@ -57,7 +57,7 @@ waiting-none (Binary classes pending) h = refl
 waiting-none (Conditional tokens) h = refl
 waiting-none Returns h = refl
 
--- Those of the statement pass.
+-- The states of the statement pass.
 pub resumed-statements : (p : Pass) (h : Held) → OneOf (2 ∷ 3 ∷ []) (tagOf the-type p) → splitOr (h .first) (h .second) ≡ resumedWith p h
 unfolding resumedWith
 resumed-statements Calls h t = absurd (miss (2 ∷ 3 ∷ []) 0 tt t)
@@ -70,7 +70,7 @@ resumed-statements (Binary classes pending) h t = absurd (miss (2 ∷ 3 ∷ []) 
 resumed-statements (Conditional tokens) h t = absurd (miss (2 ∷ 3 ∷ []) 7 tt t)
 resumed-statements Returns h t = absurd (miss (2 ∷ 3 ∷ []) 8 tt t)
 
--- Those that no frame's words change, and that begin as they are.
+-- The states that no frame's words change. They begin as they are, and so do those of the statement pass.
 pub resumed-same : (p : Pass) (h : Held) → OneOf (0 ∷ 1 ∷ 5 ∷ 8 ∷ []) (tagOf the-type p) → p ≡ resumedWith p h
 unfolding resumedWith
 resumed-same Calls h t = refl

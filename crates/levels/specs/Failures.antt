@@ -31,12 +31,12 @@ pub data Tells (W : List ℕ) : Failure → List Message → Type 0 where
   unaryWithoutOperand : {s : ℕ} {k : Token} → TokenAt W s k → Tells W (UnaryWithoutOperand s) (Message.unaryWithoutOperand k ∷ [])
   ternaryWithoutOperands : {s : ℕ} {k : Token} → TokenAt W s k → Tells W (TernaryWithoutOperands s) (Message.ternaryWithoutOperands k ∷ [])
 
--- What a closer tells that is not the open section's: messages 4 and 5.
+-- The messages of a closer that is not the open section's: 4 and 5.
 pub data TellsMismatch (W : List ℕ) : Mismatch → List Message → Type 0 where
   mismatched : {m : Mismatch} {o k p : Token} → TokenAt W (m .opener) o → TokenAt W (m .closer) k → TokenAt W (m .outer) p
       → TellsMismatch W m (Message.closingMismatch o (m .start) k (m .index) ∷ Message.sectionNotClosed p ∷ [])
 
--- What a section tells that no closer ends: messages 6 and 5.
+-- The messages of a section that no closer ends: 6 and 5.
 pub data TellsUnclosed (W : List ℕ) : Unclosed → List Message → Type 0 where
   unclosed : {u : Unclosed} {o p : Token} → TokenAt W (u .inner) o → TokenAt W (u .outer) p
       → TellsUnclosed W u (Message.noClosingSymbol o (u .start) ∷ Message.sectionNotClosed p ∷ [])

@@ -52,7 +52,8 @@ innerAt W item c = elim (isLeafAt W item) [ true ↦ false | false ↦ shares (c
 
 -- ---- `next_token`
 
--- The trees of d are done: the n items before `write`. Those before them may be what a pass holds otherwise, as finished statements are.
+-- The trees of d are done: the n items before `write`. The items before these may be what a pass holds otherwise, such as finished
+-- statements.
 pub record CanSeek (W : List ℕ) (l : Items) : Type 0 where
   pub X : List ℕ
   pub lo : ℕ
@@ -84,7 +85,7 @@ pub record Seen (W' X : List ℕ) (l' : Items) (at lo m m' hi : ℕ) (d rest : F
   pub reached : at + n ≡ l' .base + l' .write
   pub ahead : Ahead W' X (l' .base) (l' .read) (l' .len) m' hi rest
 
--- It stops at the end, or past a tree at the slot b with a leaf of P at or below it, which stands in the slots from l to m.
+-- It stops at the end, or past a tree at the slot b with a leaf of P at or below it, which stands in the slots from a to m.
 pub data SoughtTo (W' X : List ℕ) (l : Items) (at lo hi : ℕ) (P : ℕ → Bool) (d rest : Forest) : Found → Type 0 where
   none : {d' : Forest} {l' : Items} → l' ≡ movedTo l (l' .read) (l' .write) → l' .write ≤ l' .read → Passed P d rest d' nil
       → Seen W' X l' at lo hi hi hi d' nil
@@ -98,7 +99,7 @@ pub data SoughtTo (W' X : List ℕ) (l : Items) (at lo hi : ℕ) (P : ℕ → Bo
       → isNil cs ≡ false → free P cs ≡ false → RepT W' X b a m k cs → Seen W' X l' at lo a m hi d' rest'
       → SoughtTo W' X l at lo hi P d rest (Children l' b)
 
--- What `next_token` found of the operators whose classes c are; all words but those of the list from `write` on are as they were.
+-- What `next_token` found of the operators that the classes c cover; all words but those of the list from `write` on are as they were.
 pub record Sought (W : List ℕ) (l : Items) (c : ℕ) (r : Found) (W' : List ℕ) : Type 0 where
   pub to : (g : CanSeek W l) (P : ℕ → Bool) → Covers c P → SoughtTo W' (g .X) l (g .at) (g .lo) (g .hi) P (g .d) (g .rest) r
   pub same : (j : ℕ) → (j < l .base + l .write) ⊎ (l .base + l .len ≤ j) → wd W' j ≡ wd W j

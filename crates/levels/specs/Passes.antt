@@ -104,7 +104,7 @@ operators conditional = isConditional
 operators returns = isReturn
 operators (binary ops) = isOneOf ops
 
--- The classes c cover the operators P: a number is in one of them where it is one of P.
+-- The classes c cover the operators P: a number is in one of the classes exactly where it is one of P.
 abbrev pub Covers : ℕ → (ℕ → Bool) → Type 0
 Covers c P = (n : ℕ) → meets c n ≡ P n
 

@@ -143,7 +143,7 @@ UnreadSide statements W X lo l m hi v rest = Ahead W X (v .base) (v .read) (v .l
 UnreadSide arrays W X lo l m hi v rest = Ahead W X (v .base) (v .read) (v .len) m hi rest
 UnreadSide unaryMinusAndNot W X lo l m hi v rest = BackArray W X (v .base) (v .read) lo l rest
 
--- What the statement pass's state says of the unread items: while no statement is finished, the semicolon whose span it has is to come.
+-- What the statement pass's state says of the unread items: while no statement is finished, the semicolon whose span q has is unread.
 abbrev pub SplitAgrees : Split → Forest → Type 0
 SplitAgrees (unsplit d) rest = Unit {0}
 SplitAgrees (after q nil) rest = splitOf rest ≡ after q nil
@@ -151,7 +151,8 @@ SplitAgrees (after q (node s k done)) rest = Unit {0}
 SplitAgrees (inside q nil s d) rest = splitOf rest ≡ after q nil
 SplitAgrees (inside q (node t k done) s d) rest = Unit {0}
 
--- What the array pass's says: an array that nothing was read for was lent to a list that begins with its index.
+-- What the array pass's state says of them: an array that waits before the list's first item was lent to the list, which begins with its
+-- index.
 abbrev pub ArrayAgrees : Items → Indexing → Forest → Type 0
 ArrayAgrees v (unindexed d) rest = Unit {0}
 ArrayAgrees v (named d q) rest = Unit {0}
@@ -191,7 +192,7 @@ AtTurn v (Binary classes pending) = (pending ≡ 0) × (v .write ≤ v .read)
 AtTurn v (Conditional tokens) = v .write ≡ v .read
 AtTurn v Returns = v .write ≤ v .read
 
--- While the children of an item are out, there is a place for the item.
+-- While the children of an item are out, a word of the list is free for the item.
 abbrev pub InFrame : Items → Pass → Type 0
 InFrame v Calls = v .write < v .read
 InFrame v MathCalls = v .write < v .read

@@ -96,7 +96,7 @@ pub record Turned (W : List ℕ) (w : Walk) (r : Turn) (W' : List ℕ) : Type 0 
   pub to : (g : CanTurn W w) → TurnTo (g .κ) W' (g .X) (g .lo) (g .hi) w (g .s) (g .rest) r
   pub within : (g : CanTurn W w) → Within W W' (g .X) (g .lo) (g .hi) (w .list)
 
--- ---- an item is taken back, its children k have become kids
+-- ---- an item whose children have become kids is taken back
 
 -- The list waits in the state t for the item, whose token is k and whose children are kids now; no name is lent.
 pub record CanResume (W : List ℕ) (w : Walk) (item : ℕ) : Type 0 where

@@ -1,5 +1,6 @@
-// Why a pass fails: a case for each message of document 01, with the slots that the message speaks of; brackets that do not
-// match, which give two messages, beside it. They are turned into records where the entry writes them. Leans on nothing.
+// Why a pass fails. `Failure` has the messages of document 01 that a pass gives alone, with the slots of the tokens that they speak of.
+// Brackets that do not match give two messages: `Mismatch` and `Unclosed`. `parse/src/report.rt` makes the records of all three.
+// Leans on nothing.
 
 pub enum Failure {
     // Complex, and the token that the list ends with.
@@ -23,7 +24,7 @@ pub enum Failure {
     TernaryWithoutOperands(u32),
 }
 
-// A closer that is not the innermost open section's: the opener and its place plus one, the closer and its place, and the
+// A closer that is not the innermost open section's: that section's opener and its index plus one, the closer and its index, and the
 // outermost opener, which is named as not closed.
 pub struct Mismatch {
     pub opener: u32,
@@ -33,7 +34,7 @@ pub struct Mismatch {
     pub outer: u32,
 }
 
-// Sections that are open at the end: the innermost opener and its place plus one, and the outermost opener.
+// Sections that are open at the end: the innermost opener and its index plus one, and the outermost opener.
 pub struct Unclosed {
     pub inner: u32,
     pub start: u32,

@@ -1,5 +1,5 @@
-// Reading on in a list under work, from the left: items that are none of the pass's move to the done ones as they are.
-// Leans on slots and frames.
+// Reading on in a list under work, from the left: items without a token of the pass move to the done ones as they are.
+// Leans on nodes (slots, frames) and ops (classes).
 use nodes::frames::List;
 use nodes::slots;
 use ops::classes::TokenClasses;
@@ -49,7 +49,8 @@ pub fn keep(work: &mut [u32], list: List, item: u32) -> List
     moved(list, list.read, list.write + 1)
 }
 
-// The next unread item if it is of op, else 0 (`next_if` of driver.rs). Each caller has the store's law for its list, here and below.
+// The next unread item if it is of op, else 0 (`next_if` of driver.rs). The call and array passes have a list whose unread items are trees
+// of the store below the stack (`can-peek` of proofs/Reading).
 pub fn next_if(work: &[u32], list: List, op: u32) -> u32
     requires { ⌜ CanPeek (now work) list ⌝ }
     ensures { λ r. ⌜ r ≡ nextIf (now (work .entry)) list op ⌝ }
@@ -65,7 +66,7 @@ pub fn next_if(work: &[u32], list: List, op: u32) -> u32
     0
 }
 
-// Whether `item` is a node with leaves of `classes` below it.
+// Whether `item` is a node with leaves of `classes` below it. `binary::folded` asks it of the next item, a tree of the store.
 pub fn is_inner(work: &[u32], item: u32, classes: TokenClasses) -> bool
     requires { ⌜ slotEnd item ≤ length (now work) ⌝ }
     ensures { λ r. ⌜ r ≡ innerAt (now (work .entry)) item (classes .0) ⌝ }
@@ -76,7 +77,8 @@ pub fn is_inner(work: &[u32], item: u32, classes: TokenClasses) -> bool
     slots::classes_of(work, item).intersects(classes)
 }
 
-// Moves items to the done ones as they are, up to the next one with a leaf of `classes` at or below it, which it reads.
+// Moves items to the done ones as they are, up to the next one with a leaf of `classes` at or below it, which it reads. The driver's `seek`
+// and `statements::step` call it with a list at a turn.
 pub fn next_token(work: &mut [u32], list: List, classes: TokenClasses) -> Found
     requires { ⌜ CanSeek (now work) list ⌝ }
     ensures { λ r. ⌜ Sought (now (work .entry)) list (classes .0) r (now (work .exit)) ⌝ }

@@ -1,5 +1,5 @@
 // A pass with what it holds of a list, and what a level makes of that list in one turn: one enum of states for the Rust's
-// trait `Level`, its closures and its `Frame`. Leans on frames.
+// trait `Level`, its closures and its `Frame`. Leans on nodes (frames) and ops (classes).
 use crate::failure::Failure;
 use nodes::frames::Held;
 use nodes::frames::List;
@@ -15,8 +15,8 @@ pub enum Pass {
     Unsplit,
     // Statements, in a list split at its semicolons: how many are done.
     Split { done: u32 },
-    // The array whose index was entered last and that may take further ones, or 0. Its children stand in a chain from the
-    // last to the first. And the array that the index's contents complete, or 0.
+    // `array` is the array whose index was entered last and that may take further ones, or 0; its children stand in a chain from the
+    // last to the first. `lent` is the array that the contents of that index complete, or 0.
     Arrays { array: u32, lent: u32 },
     Unary,
     // The level's classes, and the operator whose right side is entered, or 0.

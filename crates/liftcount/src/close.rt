@@ -50,7 +50,8 @@ fn tallied(verdict: Verdict, counts: Counts) -> Ending
     }
 }
 
-// Ends the open list, which is so many words in front of its buffer.
+// Ends the open list, which is so many words in front of its buffer. `main` lends the list's 640 words, and `feed` and `close_last` the
+// scratch.
 pub fn close(
     list: &[u32],
     words: usize,

@@ -57,7 +57,8 @@ fn feed_words(
     then
 }
 
-// A chunk of any length. The scratch is cleared once a chunk; most chunks are whole words, and none has begun before them.
+// A chunk of any length. The scratch is cleared once a chunk; most chunks are whole words, and none has begun before them. `main` lends the
+// list's 640 words.
 pub fn feed(run: Run, list: &mut [u32], chunk: &[u8]) -> Run
     requires { ⌜ length (now list) ≡ 640 ⌝ }
     ensures { λ r. ⌜ stateOf r (now (list .exit)) ≡ fed (stateOf run (now (list .entry))) (now (chunk .entry)) ⌝ }

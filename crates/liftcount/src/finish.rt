@@ -1,5 +1,5 @@
-// What is printed at the end of the input. Leans on close, listing (a refusal's line), parse (its answer) and text; specs/Running has the
-// definition.
+// What is printed at the end of the input. Leans on close, listing (a refusal's line), parse (its answer), text and words; specs/Running
+// has the definition.
 use crate::close::Ending;
 use crate::close::close;
 use crate::run::Counts;
@@ -61,7 +61,7 @@ fn ended(run: Run, list: &[u32]) -> Ending
     }
 }
 
-// Five numbers, one a line; the place behind them. `main` has room for the longest text, here and below.
+// Five numbers, one a line; the index behind them. `main` lends 128 bytes, in which the longest text has room, here and below.
 fn put_counts(out: &mut [u8], counts: Counts) -> usize
     requires { ⌜ length (now out) ≡ 128 ⌝ }
     ensures { λ r. ⌜ r ≤ length (now (out .exit)) ⌝ }
@@ -84,7 +84,7 @@ fn put_refusal(out: &mut [u8], number: u32, place: usize) -> usize
     put_answer(out, 0, Answer::Refused(number, place), &none, &none)
 }
 
-// The text of an input that came to this; how many bytes it has.
+// The text of an input that came to this; how many bytes it has. `main` lends both buffers.
 pub fn finish(run: Run, list: &[u32], out: &mut [u8]) -> usize
     requires { ⌜ (length (now list) ≡ 640) × (length (now out) ≡ 128) ⌝ }
     ensures { λ r. ⌜ Within r (now (out .exit)) ⌝ }

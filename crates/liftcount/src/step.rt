@@ -112,7 +112,7 @@ fn take_in_list(
     reopen(ending, from, to, counts)
 }
 
-// A word.
+// A word. `feed` lends the scratch and passes on the list's 640 words, here and below.
 pub fn take_word(
     run: Run,
     list: &mut [u32],

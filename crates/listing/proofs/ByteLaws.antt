@@ -8,7 +8,7 @@ use lib.ListN.{length, take, set, getD}
 use lib.Seq.{take-suc, take-suc-set, take-all}
 use Rattle.listing.specs.Lists.{wordsIn}
 
--- The word of the four bytes from a place on.
+-- The word of the four bytes from an index on.
 abbrev pub wordAt : List ℕ → ℕ → ℕ
 wordAt bytes at = getD bytes at 0 + 2 ^ 8 * getD bytes (at + 1) 0 + 2 ^ 16 * getD bytes (at + 2) 0 + 2 ^ 24 * getD bytes (at + 3) 0
 

@@ -69,7 +69,7 @@ fn put_records(out: &mut [u8], at: usize, messages: &[u32], n: usize) -> usize
     end
 }
 
-// The text of an answer; the place behind it. The programs have room for the longest text, and `read_list` promises what is told.
+// The text of an answer; the index behind it. The programs have room for the longest text, and `read_list` promises what is told.
 pub fn put_answer(
     out: &mut [u8],
     at: usize,

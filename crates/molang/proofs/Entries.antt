@@ -44,7 +44,7 @@ pub record ThreeCalls (first : Call) (write : WriteCall) (second : Call) (k : To
 
 -- WHAT COMES OF THEM.
 pub record SameTrees (first : Call) (write : WriteCall) (second : Call) (k : Token) (cs : Forest) : Type 0 where
-  -- Handed on were the first tree's words, and the words of its writing, whose token count the writer told.
+  -- The first tree's words were handed on, and the words of its writing, whose token count the writer told.
   pub treeGot : write .tree ≡ treeWords (node k cs nil)
   pub told : writeAnswered write ≡ tokens (length (writtenTree k cs))
   pub listGot : second .list ≡ listWords (writtenTree k cs)

@@ -651,7 +651,7 @@ module _ (Q : Token → Bool → Type 0) (emptied : (k : Token) → Q k false �
     apply-gives l (binary ops) f new h = binary-gives ops new f (every-so P Q kept h)
 
 module _ (Q : Token → Type 0) (N : Renewable Q) where
-  -- What is told of tokens alone needs nothing of the leaves that get children.
+  -- What is said of tokens alone needs nothing of the leaves that get children.
   abbrev Told : Token → Bool → Type 0
   Told k leaf = Q k
 

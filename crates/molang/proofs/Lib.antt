@@ -1,3 +1,4 @@
+-- What is shown of the definition.
 pub mod Computed
 pub mod Versions
 pub mod Work

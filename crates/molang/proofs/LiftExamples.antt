@@ -1,5 +1,5 @@
--- Computed examples of card 12 (document 02): two write calls whose lists come back from lifts at 4, 5 and 6, word for word, though the tree
--- has a leaf and an operator that close elsewhere and a host's leaf; and that the limit's premise is needed.
+-- Computed examples of card 12 (document 02): two write calls whose lists come back from lifts at 4, 5 and 6, word for word, though the
+-- tree has a leaf and an operator that close elsewhere and a host's leaf; and that the limit's premise is needed.
 use Prim.Native.Nat.{ℕ, _+_, _*_, _/_}
 use mathlib.Core.Path.{_≡_, refl}
 use mathlib.Core.List.{List, [], _∷_}

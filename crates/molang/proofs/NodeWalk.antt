@@ -211,7 +211,7 @@ lacks lowerField = 3
 lacks countField = 2
 lacks closeField = 1
 
--- A word takes up the place that it was counted for.
+-- One word on: the words so far and those that the node still lacks are no more than seven for each node that has begun.
 taken : (field : Field) (i n : ℕ) → i + lacks field ≤ 7 * n → suc i + lacks (nextInNode field) ≤ 7 * (n + begins field)
 unfolding nextInNode
 taken operatorField i n h = omega arith
@@ -282,7 +282,7 @@ module _ {S : Type 0} (W : Walk S) where
   one-more field s w legal fits e =
       record { words = w ∷ e .words; unfaulted = λ i v. goes i field v s w (e .words) (legal v) fits ∙ e .unfaulted _ _ }
 
-  -- Where a fault is: before the word the walk could have ended without fault, with it it cannot.
+  -- Where a fault is: before the word the walk could have ended without fault, with it, it cannot.
   pub record Placed (i : ℕ) (field : Field) (v : ℕ) (s : S) (ws : List ℕ) (p : ℕ) : Type 0 where
     pub passed : ℕ
     pub is : p ≡ i + passed

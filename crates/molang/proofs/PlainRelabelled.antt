@@ -1,5 +1,5 @@
--- Whether a tree is plain, and where it is not, is told by its operators alone: an exchange of tokens that keeps these keeps it plain. Other
--- payloads are such an exchange (card 6), other seventh words too (card 12).
+-- Whether a tree is plain, and where it is not, depends on its operators alone: an exchange of tokens that keeps these keeps it plain.
+-- Other payloads are such an exchange (card 6), other seventh words too (card 12).
 use Prim.Native.Nat.{ℕ, suc, _+_}
 use mathlib.Core.Path.{_≡_, refl}
 use mathlib.Core.Bool.{true, false}
@@ -54,7 +54,7 @@ module _ (φ : Token → Token) (same : (k : Token) → φ k .op ≡ k .op) wher
         unplain-relabelled p q s (suc i) (suc n + size cs) rest,
       ) refl
 
-  -- WHETHER A TREE IS PLAIN, AND WHERE NOT, is told by its operators.
+  -- WHETHER A TREE IS PLAIN, AND WHERE NOT, depends on its operators alone.
   pub unplainAt-relabelled : (k : Token) (cs : Forest) → unplainAt (φ k) (relabelled φ cs) ≡ unplainAt k cs
   unfolding unplainAt relabelled
   unplainAt-relabelled k cs = unplain-relabelled none none (λ i. refl) 0 0 (node k cs nil)

@@ -1,3 +1,4 @@
+-- The definition of reading, writing and stack order, and what the theorems about it speak of.
 pub mod Operator
 pub mod Forest
 pub mod Message

@@ -1,5 +1,5 @@
 -- The table of lines: what the numbers of src/lines.rt say, and that each line is answered as it says. A line asks something of an entry
--- and says what is answered. Compared are what is told and all words of the lent tree, message and work buffers, or of the lent list.
+-- and says what is answered. What is told is compared, and all words of the lent tree, message and work buffers, or of the lent list.
 use mathlib.Core.Path.{_≡_}
 use Prim.Native.Nat.{ℕ, _+_, _-_, _*_, _/_, _%_, _^_}
 use mathlib.Core.Bool.{true, false}

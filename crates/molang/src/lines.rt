@@ -6,7 +6,7 @@
 // - `ANY`, operators: the list read at 4, 5 and 6 alike, and so at every version (proofs/Versions.antt). `AT + v`, operators: read at
 //   version v, 16 bits in two's complement.
 //   `WITHIN + l`, operators: read at 6 with the nesting limit l; every other list is read with the highest, 4,096.
-//   The token at place i has span i to i + 1 and payload 0; the used set is exact, the source as long as the list.
+//   Token i has span i to i + 1 and payload 0; the used set is exact, the source as long as the list.
 // - `WRITE`, nodes: the tree is written, into a list with room for three tokens a node.
 // - `ZEROS`, n: a list of n words 0. `REPEATED`, n, operator: a list of n such tokens, all at the span 0 to 0. Both read at 6.
 // - `TREE`, nodes: op_c_ss_ee in decimal digits, that is operator (up to 999), child count, span start, span end, parent first. A closed

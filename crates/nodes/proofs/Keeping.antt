@@ -1,5 +1,5 @@
--- THE FRAME LAWS: a function that works on one list changes only the free slots of the list's interval, those of its ancestors not, and
--- words of the stack from some place on. What stands beside the interval, the ancestors' own slots and the stack below that place are as
+-- THE FRAME LAWS: a function that works on one list changes only the slots of the list's interval that are none of its ancestors', and
+-- words of the stack from some index on. What stands beside the interval, the ancestors' own slots and the stack below that index are as
 -- they were.
 use Prim.Native.Nat.{ℕ, _+_, _-_, _≤_, _<_}
 use mathlib.Core.Path.{_≡_, _∙_}

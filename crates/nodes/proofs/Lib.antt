@@ -1,4 +1,4 @@
--- Laws that belong to no one function.
+-- The laws that the proofs of several functions share, and those that crates above cite.
 pub mod Runs
 pub mod Tokens
 pub mod Store

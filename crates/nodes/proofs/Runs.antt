@@ -98,7 +98,7 @@ seg-unique W at (c ∷ cs) (d ∷ ds) e p q =
     let u : c ≡ d = sym (p .0) ∙ q .0 in
     cc
 
--- ---- a run by its places
+-- ---- a run by its indices
 
 pub seg-snoc : (W : List ℕ) (at : ℕ) (cs : List ℕ) (c : ℕ) → Seg W at cs → wd W (at + length cs) ≡ c → Seg W at (cs ++ c ∷ [])
 seg-snoc W at [] c p e = (rw add-zero at e, tt)

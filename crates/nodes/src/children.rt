@@ -1,5 +1,7 @@
 // Child lists: a chain of slots from a node's first child on. A list is taken from a chain to an array on the stack, and given back
-// from an array to a chain. A node that is given children notes the classes of all of them. Leans on the slots.
+// from an array to a chain. A node that is given children notes the classes of all of them.
+// The functions ask that the slots' words lie within the buffer, and that a chain's or an array's slots rise. The callers have this from
+// the store (specs/Store), whose trees stand in intervals of slots that rise, below the stack. Leans on the slots.
 use crate::slots::classes_of;
 use crate::slots::next_of;
 use crate::slots::set_classes;
@@ -23,7 +25,7 @@ pub fn attach(work: &mut [u32], parent: u32, child: u32)
     set_classes(work, parent, below);
 }
 
-// `left` and `right` become the children of `parent`.
+// `left` and `right` become the children of `parent`. They are two trees of the store wherever it is called, so they differ.
 pub fn attach_two(work: &mut [u32], parent: u32, left: u32, right: u32)
     requires { ⌜ (slotEnd parent ≤ length (now work)) × (slotEnd left ≤ length (now work))
         × (slotEnd right ≤ length (now work)) × (left ≢ right) ⌝ }
@@ -36,7 +38,7 @@ pub fn attach_two(work: &mut [u32], parent: u32, left: u32, right: u32)
     set_classes(work, parent, below);
 }
 
-// Copies the slots of the chain from `first` on to the words from `to` on, and gives back their number.
+// Copies the slots of the chain from `first` on to the words from `to` on, and gives back their number. `driver::open` has room for them.
 pub fn take_chain(work: &mut [u32], first: u32, to: usize) -> usize
     requires { ⌜ CanTake (now work) first to ⌝ }
     ensures { λ r. ⌜ Taken (now (work .entry)) first to r (now (work .exit)) ⌝ }
@@ -93,7 +95,7 @@ pub fn count_chain(work: &[u32], first: u32) -> u32
     n
 }
 
-// The last slot of the chain from `first` on, which is not empty.
+// The last slot of the chain from `first` on, which is not empty: `report_roots` calls it where there are several roots.
 pub fn last_of_chain(work: &[u32], first: u32) -> u32
     requires { ⌜ CanFollow (now work) first × (first ≢ 0) ⌝ }
     ensures { λ r. ⌜ IsLast (now (work .entry)) first r ⌝ }

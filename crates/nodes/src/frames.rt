@@ -33,7 +33,7 @@ pub struct Frame {
     pub held: Held,
 }
 
-// Writes the frame of a list right above it, and gives back the first word past the frame.
+// Writes the frame of a list right above it, and gives back the first word past the frame. `driver::descend` has room for it.
 pub fn push(work: &mut [u32], list: List, held: Held) -> usize
     requires { ⌜ CanPush (now work) list ⌝ }
     ensures { λ r. ⌜ Pushed (now (work .entry)) list held r (now (work .exit)) ⌝ }
@@ -48,7 +48,7 @@ pub fn push(work: &mut [u32], list: List, held: Held) -> usize
     top + 6
 }
 
-// The list whose frame ends right below `top`.
+// The list whose frame ends right below `top`. `driver::close` calls it for a list that is not the outermost, below which a frame stands.
 pub fn pop(work: &[u32], top: usize) -> Frame
     requires { ⌜ CanPop (now work) top ⌝ }
     ensures { λ r. ⌜ FrameAt (now (work .entry)) (top - 6) (r .list) (r .held) ⌝ }

@@ -3,7 +3,7 @@
 // Token i stands at slot 3(i + 1), and the two slots after it are spare for nodes that the passes make right after it.
 // The functions ask that a slot's words lie within the buffer. The callers have this from the store (specs/Store), whose slots stand
 // below the stack. A slot's number fits 32 bits: `load` has this from the 4,096 tokens at most, and the passes have it from the length
-// of the words that `parse` works in.
+// of the words that `parse` works in. Leans on stored, ops (classes) and words (fields).
 use crate::stored::CLOSE_FIELD;
 use crate::stored::StoredWords;
 use ops::classes::TokenClasses;
@@ -54,7 +54,7 @@ pub fn second_spare(s: u32) -> u32
     s + 2
 }
 
-// The first word past the slots of n tokens: the stack starts there.
+// The first word past the slots of n tokens: the stack starts there. The callers have at most 4,096 tokens.
 pub fn stack_of(n: usize) -> usize
     requires { ⌜ 24 * n + 24 < 2 ^ 64 ⌝ }
     ensures { λ r. ⌜ r ≡ 24 * n + 24 ⌝ }

@@ -1,5 +1,6 @@
 // A token as a slot holds it, five words: the operator, the span's start and end, the payload value in one word, and where it closes.
-// The value's two halves share a word, so that a slot stays of eight words. Leans on words (fields and tokens).
+// The value's two halves share a word, so that a slot stays of eight words. `slots::token_of` and `slots::set_leaf` call `at` and `lay` for
+// a slot within the buffer. Leans on words (fields and tokens).
 use words::fields;
 use words::tokens::TokenWords;
 ghost use mathlib.Core.Path.{_≡_};

@@ -1,4 +1,4 @@
--- The classes of operators: the bits of the table's entries and of an operator's own class, and the one test that says what a constant
+-- The classes of operators: the bits of the table's entries, and the one test that says what a constant
 -- of the code stands for. Assumes nothing.
 use mathlib.Core.Path.{_≡_, refl, sym, ap, _∙_}
 use mathlib.Core.Bool.{Bool, true, false, not, _&&_, _||_, and-false, or-false}
@@ -10,7 +10,7 @@ use lib.Dec.{T, leb, ltb, nleb→lt}
 use lib.ListN.{getD, drop, List·getD-eq-default}
 use borrow.Author.Tests.{le-leb, lt-leb, lt-ltb, le-ltb, leb-true, leb-false, ltb-true, ltb-false, ne-eqb}
 use Rattle.molang.specs.Operator.{any, isOneOf, isQueryOrLoop}
-use Rattle.ops.specs.Classes.{passClasses, ownClasses, inClass, bitAt, meets, upTo, classWord, classTable, entryOf, ownWord}
+use Rattle.ops.specs.Classes.{passClasses, ownClasses, inClass, bitAt, meets, upTo, classWord, classTable, entryOf}
 use Rattle.molang.proofs.RoundTrip.Role.{no-math}
 use Rattle.ops.proofs.OperatorLaws.{agree, agree-at, and-left, and-right}
 use Rattle.ops.proofs.BitLaws.{bit-zero, bits-of, none-below}
@@ -72,20 +72,6 @@ bounded k i b none = go (ltb i k) refl
     go true e = refl
     go false e = sym (none (ltb-false i k e))
 
-own-class : (i n : ℕ) → 25 ≤ i → (leb 22 i && inClass i n) ≡ false
-own-class i n high = rw (class-below i n high, le-leb 22 i (omega arith))
-
-own-bits : (n i : ℕ) → bitAt (ownWord n) i ≡ (leb 22 i && inClass i n)
-unfolding ownWord
-own-bits n i = bits-of (λ i. leb 22 i && inClass i n) 25 i ∙ bounded 25 i (leb 22 i && inClass i n) (own-class i n)
-
-halves : (i : ℕ) (b : Bool) → (ltb i 22 && b || leb 22 i && b) ≡ b
-halves i b = go (ltb i 22) refl
-  where
-    go : (t : Bool) → ltb i 22 ≡ t → (t && b || leb 22 i && b) ≡ b
-    go true e = rw (lt-leb 22 i (ltb-true i 22 e)) (or-false b)
-    go false e = rw (le-leb 22 i (ltb-false i 22 e))
-
 -- The entry of any table, by whether the number is an operator's.
 pub entry-at : (table : List ℕ) (n : ℕ) → n < 111 → getD table n 0 ≡ entryOf table n
 unfolding entryOf
@@ -95,18 +81,16 @@ pub entry-past : (table : List ℕ) (n : ℕ) → 111 ≤ n → 0 ≡ entryOf ta
 unfolding entryOf
 entry-past table n high = sym (ap (λ (t : Bool). elim t [ true ↦ getD table n 0 | false ↦ 0 ]) (le-ltb n 111 high))
 
--- An entry of the class table, and the 0 of a number that is no operator.
-entry-bits : (n i : ℕ) → bitAt (entryOf classTable n) i ≡ (ltb i 22 && inClass i n)
+-- An entry of the class table has every class that the operator is in, and a number that is no operator is in none.
+pub entry-bits : (n i : ℕ) → bitAt (entryOf classTable n) i ≡ inClass i n
 unfolding entryOf classTable classWord
 entry-bits n i = go (ltb n 111) refl
   where
-    go : (t : Bool) → ltb n 111 ≡ t → bitAt (elim t [ true ↦ getD classTable n 0 | false ↦ 0 ]) i ≡ (ltb i 22 && inClass i n)
-    go true e = rw (up-to 111 classWord n (ltb-true n 111 e)) (bits-of (λ i. inClass i n) 22 i)
-    go false e = rw (bit-zero i, no-class i n (ltb-false n 111 e), and-false (ltb i 22))
-
--- The classes of driver.rs and the own ones together: every class that the operator is in.
-pub leaf-bits : (n i : ℕ) → (bitAt (entryOf classTable n) i || bitAt (ownWord n) i) ≡ inClass i n
-leaf-bits n i = rw (entry-bits n i, own-bits n i) (halves i (inClass i n))
+    go : (t : Bool) → ltb n 111 ≡ t → bitAt (elim t [ true ↦ getD classTable n 0 | false ↦ 0 ]) i ≡ inClass i n
+    go true e =
+        rw (up-to 111 classWord n (ltb-true n 111 e))
+        (bits-of (λ i. inClass i n) 25 i ∙ bounded 25 i (inClass i n) (class-below i n))
+    go false e = rw (bit-zero i, no-class i n (ltb-false n 111 e))
 
 -- ---- What a constant stands for
 

@@ -49,6 +49,8 @@ constants =
     ∷ only 0x100_0000 (Operator.conditionalElse ∷ [])
     ∷ only 0x90 (Operator.negate ∷ Operator.logicalNot ∷ Operator.add ∷ [])
     ∷ only 0x40_0080 (Operator.negate ∷ Operator.add ∷ [])
+    ∷ only 0x81_0000 (Operator.conditional ∷ Operator.conditionalElse ∷ [])
+    ∷ only 0x101_0000 (Operator.conditional ∷ Operator.conditionalElse ∷ [])
     ∷ only 0xf00 (Operator.lessThan ∷ Operator.lessEqual ∷ Operator.greaterEqual ∷ Operator.greaterThan ∷ [])
     ∷ only 0x3000 (Operator.logicalEqual ∷ Operator.logicalNotEqual ∷ [])
     ∷ []

@@ -3,7 +3,7 @@
 use Prim.Native.Nat.{ℕ, zero, suc, _/_, _%_, _^_}
 use mathlib.Core.Bool.{Bool, true, false, _&&_}
 use mathlib.Core.List.{List, [], _∷_, _++_}
-use lib.Dec.{eqb, leb, ltb}
+use lib.Dec.{eqb, ltb}
 use lib.ListN.{getD}
 use Rattle.molang.specs.Operator
 use Rattle.molang.specs.Operator.{isOneOf, isMathCall, isQueryOrLoop}
@@ -67,9 +67,9 @@ unfoldable pub upTo : ℕ → (ℕ → ℕ) → List ℕ
 upTo zero f = []
 upTo (suc k) f = f 0 ∷ upTo k (λ i. f (suc i))
 
--- The classes of driver.rs that the operator n is in.
+-- The classes that the operator n is in.
 unfoldable pub classWord : ℕ → ℕ
-classWord n = setNumber (λ i. inClass i n) 22
+classWord n = setNumber (λ i. inClass i n) 25
 
 -- THE CLASS TABLE: those of each operator number.
 unfoldable pub classTable : List ℕ
@@ -78,7 +78,3 @@ classTable = upTo 111 classWord
 -- The entry of a table for the operator n. A number that is no operator has none.
 unfoldable pub entryOf : List ℕ → ℕ → ℕ
 entryOf table n = elim (ltb n 111) [ true ↦ getD table n 0 | false ↦ 0 ]
-
--- Those of classes 22 to 24 that the operator n is in.
-unfoldable pub ownWord : ℕ → ℕ
-ownWord n = setNumber (λ i. leb 22 i && inClass i n) 25

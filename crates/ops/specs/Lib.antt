@@ -1,2 +1,3 @@
+-- What the code's numbers say of operators and classes, as definitions.
 pub mod Classes
 pub mod Operators

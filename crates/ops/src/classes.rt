@@ -4,7 +4,7 @@ use crate::op;
 ghost use mathlib.Core.Path.{_≡_};
 ghost use mathlib.Core.Bool.{_||_};
 ghost use Prim.Native.Nat.{ℕ};
-ghost use Rattle.ops.specs.Classes.{bitAt, shares, classTable, entryOf, ownWord};
+ghost use Rattle.ops.specs.Classes.{bitAt, shares, classTable, entryOf};
 
 // A set of token classes: each constant from CALL to ONLY_CONDITIONAL_ELSE is one class, each after it several. NONE and ALL are the
 // Rust's, which notes ALL where no pass has looked yet. Here each leaf notes its own classes from the start, so no function uses ALL.
@@ -70,8 +70,12 @@ impl TokenClasses {
     // The classes of `-`: the unary pass makes some of them `+`.
     pub const MINUS: Self = Self(0x90);
 
-    // What a leaf `+` notes (`leaf_classes`).
+    // The classes of `+`, of `?` and of `:`: the one that it shares and its own.
     pub const LEAF_ADD: Self = Self(0x40_0080);
+
+    pub const LEAF_CONDITIONAL: Self = Self(0x81_0000);
+
+    pub const LEAF_CONDITIONAL_ELSE: Self = Self(0x101_0000);
 
     // The classes of the four comparisons, and of the two equalities: from version 6 each group is one level.
     pub const COMPARISONS: Self = Self(0xf00);
@@ -93,8 +97,8 @@ impl TokenClasses {
     }
 }
 
-// The classes of each operator number, as `class` of driver.rs has them: one for the tokens of a pass, two for `-`, none for
-// what no pass after the sections looks for.
+// The classes of each operator number, which a leaf of it notes: those that `class` of driver.rs gives it, one for the tokens of a pass,
+// two for `-`, none for what no pass after the sections looks for; and those of the three beside the Rust's.
 pub const CLASSES: [u32; 111] = [
     TokenClasses::NONE.0, // LEFT_BRACE
     TokenClasses::NONE.0, // RIGHT_BRACE
@@ -105,7 +109,7 @@ pub const CLASSES: [u32; 111] = [
     TokenClasses::MINUS.0, // NEGATE
     TokenClasses::UNARY.0, // LOGICAL_NOT
     TokenClasses::MATH.0, // ABS
-    TokenClasses::ADD.0, // ADD
+    TokenClasses::LEAF_ADD.0, // ADD
     TokenClasses::MATH.0, // ACOS
     TokenClasses::MATH.0, // ASIN
     TokenClasses::MATH.0, // ATAN
@@ -155,8 +159,8 @@ pub const CLASSES: [u32; 111] = [
     TokenClasses::LOGICAL_OR.0, // LOGICAL_OR
     TokenClasses::LOGICAL_AND.0, // LOGICAL_AND
     TokenClasses::NULL_COALESCING.0, // NULL_COALESCING
-    TokenClasses::CONDITIONAL.0, // CONDITIONAL
-    TokenClasses::CONDITIONAL.0, // CONDITIONAL_ELSE
+    TokenClasses::LEAF_CONDITIONAL.0, // CONDITIONAL
+    TokenClasses::LEAF_CONDITIONAL_ELSE.0, // CONDITIONAL_ELSE
     TokenClasses::NONE.0, // FLOAT
     TokenClasses::NONE.0, // PI
     TokenClasses::NONE.0, // ARRAY
@@ -216,7 +220,8 @@ pub fn class_table() -> [u32; 111]
     CLASSES
 }
 
-// The table's entry for op: the classes that driver.rs gives it, where it is the class table. A number that is no operator has none.
+// The table's entry for op: where it is the class table, every class that op is in (proofs/ClassLaws: `entry-bits`). A number that is no
+// operator has none.
 pub fn class(table: &[u32; 111], op: u32) -> TokenClasses
     ensures { λ r. ⌜ r .0 ≡ entryOf (now (table .entry)) op ⌝ }
 {
@@ -224,24 +229,4 @@ pub fn class(table: &[u32; 111], op: u32) -> TokenClasses
         return TokenClasses::NONE;
     }
     TokenClasses(table[op as usize])
-}
-
-// The class that op alone has, where its class in the table is another operator's too.
-pub fn own_class(op: u32) -> TokenClasses
-    ensures { λ r. ⌜ r .0 ≡ ownWord op ⌝ }
-{
-    match op {
-        op::ADD => TokenClasses::ONLY_ADD,
-        op::CONDITIONAL => TokenClasses::ONLY_CONDITIONAL,
-        op::CONDITIONAL_ELSE => TokenClasses::ONLY_CONDITIONAL_ELSE,
-        _ => TokenClasses::NONE,
-    }
-}
-
-// What a leaf of op notes of itself: the table's entry and its own class. By the class table that is every class that op is in
-// (proofs/ClassLaws: `leaf-bits`).
-pub fn leaf_classes(table: &[u32; 111], op: u32) -> TokenClasses
-    ensures { λ r. ⌜ ((i : ℕ) → bitAt (r .0) i ≡ (bitAt (entryOf (now (table .entry)) op) i || bitAt (ownWord op) i)) ⌝ }
-{
-    class(table, op).union(own_class(op))
 }

@@ -1,1 +1,2 @@
+-- The order of the passes by rank, as definitions.
 pub mod Ranks

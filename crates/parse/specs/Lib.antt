@@ -1,3 +1,4 @@
+-- What the parse entry and its parts ask and ensure, as definitions.
 pub mod Records
 pub mod Reports
 pub mod Answers

@@ -1,5 +1,5 @@
 // The parse entry: a list of token words becomes a tree, messages or a refusal. Checks, reading in the work buffer, and
-// filling of the caller's buffers are functions of their own. Leans on accept, grouping, levels, buffers, nodes and ops.
+// filling of the caller's buffers are functions of their own. Leans on accept, grouping, levels, buffers, nodes, ops and words.
 mod report;
 
 use accept::Accepted;

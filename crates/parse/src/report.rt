@@ -1,5 +1,5 @@
 // Message records from what a pass failed on, and from the roots that are left. A name is given as its operator number.
-// Leans on levels (failures), buffers, nodes and words; specs/Records says which record a failure has.
+// Leans on levels (failures), buffers, nodes, ops and words; specs/Records says which record a failure has.
 use buffers::emit::emit;
 use buffers::emit::tree_of;
 use levels::failure::Failure;

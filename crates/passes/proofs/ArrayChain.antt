@@ -1,6 +1,6 @@
--- A chain turned round, as the array pass gathers an index's children, which rise (`Turning`), and puts an array's in order, which fall
--- (`RoundAt`): slot by slot the next one is linked to what is turned already. The chain from s on is left, the one from `head` on is
--- turned.
+-- A chain is turned round. The array pass does so where it gathers an index's children, whose slots rise (`Turning`), and where it puts an
+-- array's children in order, whose slots fall (`RoundAt`). A turn links the next slot to what is turned already: the chain from s on is
+-- left, the one from `head` on is turned.
 use Prim.Native.Nat.{ℕ, _+_, _-_, _≤_, _<_}
 use mathlib.Core.Path.{_≡_, refl, sym, ap, ap₂, _∙_, subst}
 use mathlib.Core.Bool.{Bool, true, false, _||_, or-comm}
@@ -24,7 +24,7 @@ apart-more c lo hi [] back h i a = tt
 apart-more c lo hi (d ∷ left) back h i a =
     ((omega (arith, i .0), a .0), apart-more c (d + 1) hi left back (omega (arith, i .0)) (i .1) (a .1))
 
--- a link of a slot beside the chain
+-- a new link of a slot that is none of the chain's leaves the chain as it is
 beside-chain : (W W' : List ℕ) (c v f : ℕ) (cs : List ℕ) → W' ≡ set W (nextWord c) v → Out c cs → Chain W f cs → Chain W' f cs
 beside-chain W W' c v f [] e o p = p
 beside-chain W W' c v f (d ∷ cs) e o p =
@@ -32,7 +32,7 @@ beside-chain W W' c v f (d ∷ cs) e o p =
     let same : nextAt W d ≡ nextAt W' d = sym (set-other W W' (nextWord c) v e (nextWord d) (omega arith)) in
     (p .0, p .1, subst (λ (x : ℕ). Chain W' x cs) same (beside-chain W W' c v (nextAt W d) cs e (o .1) (p .2)))
 
--- a `first` word is no link
+-- so does a new `first` word, which is no link
 first-chain : (W W' : List ℕ) (c v f : ℕ) (cs : List ℕ) → W' ≡ set W (firstWord c) v → Chain W f cs → Chain W' f cs
 first-chain W W' c v f [] e p = p
 first-chain W W' c v f (d ∷ cs) e p =
@@ -158,7 +158,7 @@ module _ {W : List ℕ} {array index : ℕ} {Z : List ℕ} {head s : ℕ} (v : G
         long = set-long Z Z' (firstWord array) head e ∙ v .long;
       }
 
--- what is left of a chain that rises below n: nothing at its end
+-- how much of a chain that rises below n is left from the slot s on: nothing at its end
 unfoldable pub toTurn : ℕ → ℕ → ℕ
 toTurn n s = elim (eqb s 0) [ true ↦ 0 | false ↦ n - s ]
 

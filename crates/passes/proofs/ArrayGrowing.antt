@@ -53,7 +53,7 @@ apart-of : (cs ds : List ℕ) (l m : ℕ) → Inc l m cs → Dec l ds → Apart 
 apart-of [] ds l m i f = tt
 apart-of (c ∷ cs) ds l m i f = (dec-out ds l c f (i .0), apart-of cs ds (c + 1) m (i .1) (dec-raise ds l (c + 1) (omega (arith, i .0)) f))
 
--- the first slot of a chain stands below what its slots do
+-- the first slot of a chain is 0, or below the bound of the chain's slots
 back-first : {W X ds : List ℕ} {f lo hi : ℕ} {d : Forest} → Chain W f ds → RepB W X ds lo hi d → (f ≡ 0) ⊎ (f < hi)
 back-first c (begins h) = inl c
 back-first c (put r t h) = inr (omega (arith, c .0, tree-below t))

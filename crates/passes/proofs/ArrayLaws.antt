@@ -45,7 +45,7 @@ unfolding arrayStep flushed
 flush-step s k nil e = rw (e, arrayStep) refl
 flush-step s k (node c cs r) e = rw (e, arrayStep) refl
 
--- it is done
+-- a name or an array that no index follows is done
 pub flush : (s : Indexing) (rest : Forest) → startsWithIndex rest ≡ false → work arrays s rest ≡ work arrays (unindexed (flushed s)) rest
 unfolding startsWithIndex work walk arrayLevel arrayFinish flushed
 flush s nil e = refl
@@ -79,7 +79,7 @@ module _ (d : Forest) (q k : Token) (e : isIndex k ≡ true) where
   named-in nil n = absurd (true≢false n)
   named-in (node c cs r) n = rw (e, arrayStep) refl
 
-  -- a further one, where the last of the contents is no bare name that it completes, and where it is
+  -- a further index: one that completes no name, and one that completes the last of the contents, a bare name
   pub indexed-in : (contents cs : Forest) → isNil cs ≡ false → nextIndex d q contents cs ≡ into (indexed d q contents) (unindexed nil)
       → arrayStep (indexed d q contents) k cs ≡ into (indexed d q contents) (unindexed nil)
   unfolding arrayStep index isNil
@@ -92,7 +92,7 @@ module _ (d : Forest) (q k : Token) (e : isIndex k ≡ true) where
   indexed-lends l contents nil n h i = absurd (true≢false n)
   indexed-lends l contents (node c cs r) n h i = rw (e, arrayStep) (rw (h, nextIndex) (rw (i, nextIndex) refl))
 
--- a name that is lent to a list that begins with its index is an array there already
+-- a name that is lent to a list that begins with its index gives the same as the array of that name without contents
 pub lent-indexed : (d : Forest) (l : Token) (f : Forest) → startsWithIndex f ≡ true
     → work arrays (named d l) f ≡ work arrays (indexed d (renamed array l) nil) f
 unfolding startsWithIndex nextIndex isNil

@@ -1,5 +1,5 @@
--- The loop of `first_leaf`. It goes down to children or on to the next sibling; each time a slot of the interval is left behind for good,
--- as an ancestor or to the left, so that there are at least as many turns as slots (`vacant`).
+-- The loop of `first_leaf`. It goes down to children or on to the next sibling. Each turn leaves a slot of the interval behind for good, as
+-- an ancestor or to the left, and the loop has at least as many turns as there are slots left (`vacant`).
 use Prim.Native.Nat.{ℕ, zero, suc, _+_, _-_, _≤_, _<_}
 use mathlib.Core.Path.{_≡_, refl, sym, ap, _∙_, subst}
 use mathlib.Core.Logic.{_≢_}

@@ -319,7 +319,7 @@ query-called c n leafy e l i p w (differs x y) = absurd (n refl)
 query-called {d = d} {k = k} c n leafy e l i p w (found {k = t} {cs = ts} {rest = rest} x o pos low tree ahead) =
     called-to query-level e l w i p o (section-stays queryOrLoop d k t ts rest p (is-bracket t o) (sym (leaf-test ts tree) ∙ leafy))
 
--- its section is empty
+-- a query whose section is empty
 query-fails : {W X : List ℕ} {v : Items} {b lo m hi : ℕ} {d : Forest} {k : Token} {rest : Forest} (c : ℕ) → c ≢ 0 → isLeafAt W c ≡ true
     → AtItem W X v b lo hi d k nil rest → isCall queryOrLoop (k .op) ≡ true → NextTo W X v m hi leftParenthesis c rest
     → TurnTo (calls queryOrLoop) W X lo hi (walkOf v Calls) (gathered d) (node k nil rest) (Fail (EmptyParameterList b c))
@@ -335,7 +335,7 @@ query-fails {W} {X} {v} {b} {lo} {hi = hi} {d = d} {k = k} c n leafy i p
     go nil z tree = fails (Tells.emptyParameterList (i .tree .token) (tree .token)) (query-empty d k t rest p (is-bracket t o))
     go (node y ys s) z tree = absurd (true≢false (sym z))
 
--- it has none
+-- a query without a section
 query-keeps : {W W' X : List ℕ} {v : Items} {b lo m hi : ℕ} {d : Forest} {k : Token} {rest : Forest} (c : ℕ) → c ≡ 0
     → W' ≡ set W (v .base + v .write) b
     → AtItem W X v b lo hi d k nil rest → isCall queryOrLoop (k .op) ≡ true → NextTo W X v m hi leftParenthesis c rest

@@ -117,7 +117,7 @@ module _ {W' X : List ℕ} {lo hi : ℕ} (v : Items) (d : Forest) where
       (subst (λ (x : ℕ). InArray W' X (v .base + from) x lo hi (foldedFrom d)) n (a .array)) (omega arith) (omega (arith, a .count))
   none-left e (here p t) z a = absurd (omega arith)
 
-  -- the first that does is told of
+  -- the first item that dangles is the one that the failure names
   one-left : {s : ℕ} {o : Option Token} → dangling (foldedFrom d) ≡ o → DanglesAt W' o s → s ≢ 0
       → FinishTo conditional W' X lo hi v d (Failed (TernaryWithoutOperands s))
   one-left e nowhere z = absurd (z refl)

@@ -116,7 +116,7 @@ last-two {W} {X} {base} {n} {lo} {l} v z = outer (unread-last v (omega arith))
     outer : {rest : Forest} → LastUnread W X base n lo l rest → LastTwo W X base n lo l rest
     outer (last t y r) = inner t y (unread-last r (omega arith))
 
--- `fold_last`: the operator stands over both, in the place of the first done item
+-- `fold_last`: the operator stands over both, in the word of the first done item
 pub data FoldedTo (W' X : List ℕ) (lo hi base len left right : ℕ) : Forest → Forest → Type 0 where
   folded : {a b : Token} {bs left' R : Forest} {e : ℕ} → RightList W' X lo e e hi (scanAt base len (left - 2) right) (under a b bs R) left'
       → FoldedTo W' X lo hi base len left right (node a nil (node b bs left')) R

@@ -319,7 +319,7 @@ module _ {W : List ℕ} {v : Items} {tokens : ℕ} {g : CanGather W v tokens} {r
           (Enter (walkOf (movedTo v (read + 1) read) (Conditional seen)) (wd W (v .base + read)))
       go e c z (item {k = k} {cs = cs} {rest = rest} low t r) = enter-item s k cs rest (sym (leaf-test cs t) ∙ leafy) low t r e c z
 
--- at the end
+-- every item is read
 gather-over : {W : List ℕ} {v : Items} {tokens : ℕ} {g : CanGather W v tokens} {read seen : ℕ} → GatherAt W v tokens g read seen
     → v .len ≤ read
     → TurnTo conditional W (g .X) (g .lo) (g .hi) (walkOf v (Conditional tokens)) (g .d) (g .rest)

@@ -62,7 +62,7 @@ module _ {S : Type 0} (L : Level S) (P : ℕ → Bool) {idle : Forest → S} (I 
   walk-passed here = refl
   walk-passed (over {d = d} {rest = rest} {cs = cs} {k = k} h p) = walk-over d k cs rest h ∙ walk-passed p
 
--- no more trees, and no more nodes below them, are left
+-- passing over trees leaves no more trees unread, and no more nodes below them
 pub passed-count : {P : ℕ → Bool} {d rest d' rest' : Forest} → Passed P d rest d' rest'
     → (count rest' ≤ count rest) × (size rest' + count rest ≤ size rest + count rest')
 unfolding count size
@@ -120,7 +120,7 @@ module _ {W X : List ℕ} {v : Items} {b lo hi : ℕ} {d : Forest} {k : Token} {
   pub item-bounds : (lo ≤ i .a) × (i .a ≤ b) × (b < i .m) × (i .m ≤ hi) × (v .read ≤ v .len)
   item-bounds = let le = ahead-le (i .ahead) in (back-le (i .done .rep), i .tree .low, tree-below (i .tree), le .0, le .1)
 
--- it goes to the done ones
+-- the item goes to the done ones
 module _ (W W' : List ℕ) {X : List ℕ} {v : Items} {b lo hi : ℕ} {d : Forest} {k : Token} {cs rest : Forest}
     (i : AtItem W X v b lo hi d k cs rest)
     (e : W' ≡ set W (v .base + v .write) b) where
@@ -146,7 +146,7 @@ module _ (W W' : List ℕ) {X : List ℕ} {v : Items} {b lo hi : ℕ} {d : Fores
         long = set-long W W' (v .base + v .write) b e;
       }
 
--- the next tree goes below it
+-- the next tree goes below the item
 pub data Attaching (W W' X : List ℕ) (v : Items) (b lo hi : ℕ) (d : Forest) (k : Token) : Forest → Type 0 where
   attached : {t : Token} {ts rest : Forest} → AtItem W' X (movedTo v (v .read + 1) (v .write)) b lo hi d k (node t ts nil) rest
       → Within W W' X lo hi v
@@ -291,7 +291,7 @@ module _ {κ : Kind} {pass : Pass} {P : ℕ → Bool} {idle : Forest → State �
 
 -- ---- a whole turn
 
--- A turn's list, its state said as the trees that are done; and what T says of the level.
+-- A turn's list, whose state is given by the trees that are done; and what T says of the level.
 pub record Stands (T : Saying) (W : List ℕ) (v : Items) (pass : Pass) (κ : Kind) (X : List ℕ) (lo hi : ℕ) (s : State κ) (rest : Forest)
     : Type 0 where
   pub P : ℕ → Bool

@@ -93,7 +93,7 @@ return-takes : (d : Forest) (k t : Token) (ts rest : Forest) → isReturn (k .op
 unfolding work walk returnLevel returnStep
 return-takes d k t ts rest p = rw (return-step d k p, walk) refl
 
--- nothing comes after it
+-- nothing comes after the `return`
 pub returned-end : (W : List ℕ) (v : Items) (b : ℕ) → v .read ≡ v .len → ReturnTurned W v b (Fail (UnaryWithoutOperand b)) W
 returned-end W v b e =
     record {
@@ -119,7 +119,7 @@ module _ {W W' : List ℕ} (W'' : List ℕ) (v : Items) (b c : ℕ) (e : wd W (v
       → Within W W'' X lo hi v
   return-within (attached i x) = within-then refl refl x (kept-within W' W'' i s)
 
-  -- the next tree goes below it
+  -- the next tree goes below the `return`
   pub returned-on : ReturnTurned W v b (On (walkOf (movedTo v (v .read + 1) (v .write + 1)) Returns)) W''
   returned-on =
       record { to = λ g p fine. return-goes p (item-attached (g .item) e n w); within = λ g. return-within (item-attached (g .item) e n w) }

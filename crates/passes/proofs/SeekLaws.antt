@@ -1,4 +1,4 @@
--- The levels that seek their tokens from the left, by their pass: what GatherLaws says of any of them holds of each. Assumes nothing.
+-- The levels that seek their tokens from the left, by their pass: what GatherLaws says of such a level holds of each. Assumes nothing.
 use mathlib.Core.Path.{_≡_, sym, ap, _∙_, subst}
 use mathlib.Core.List.{List, [], _∷_}
 use Prim.Native.Nat.{ℕ, _+_}

@@ -39,7 +39,7 @@ use Rattle.passes.proofs.StatementSemicolon.{back-nil, beside-slot}
 
 -- ---- the finished statements beside the list's node
 
--- The last of them; with the slot of the list's node, two behind the first one p, they are trees apart from it.
+-- The last finished statement. The statements are trees apart from the slot of the list's node, which is two behind that of the first, p.
 pub record LastEnded (W X : List ℕ) (base lo l p : ℕ) (ds : List ℕ) (d : Forest) : Type 0 where
   pub last : ℕ
   pub at : wd W (base + length ds - 1) ≡ last

@@ -1,5 +1,5 @@
--- A statement's words, said of trees: the items from some place on stand under a new node in a slot of its own, with the span of the first
--- of them.
+-- What the words of a statement say of trees: the items from some word on stand under a new node in a slot of its own, with the span of the
+-- first of them.
 use Prim.Native.Nat.{ℕ, _+_, _≤_, _<_}
 use mathlib.Core.Path.{_≡_, refl, sym, _∙_, subst}
 use mathlib.Core.Logic.{_≢_, _⊎_, inl, inr, ⊎-elim}

@@ -138,7 +138,7 @@ at-can-end {W} {X} {l = l} {n = n} {b = b} v =
           subst (λ (x : ℕ). CanGive W b (l .base + n) x) (omega arith) (array-give wide (omega arith) (omega arith) (omega arith));
     }
 
--- ---- none before it
+-- ---- what stands before it
 
 pub back-nil : {W X ds : List ℕ} {lo hi : ℕ} {d : Forest} → RepB W X ds lo hi d → length ds ≡ 0 → d ≡ nil
 back-nil (begins-with e) h = refl
@@ -220,7 +220,7 @@ module _ {W W1 W' X : List ℕ} {base n write lo m a top b c : ℕ} {q k t : Tok
       (back-array-keep W W1 (λ s o x y z p. list-same made (slotStart s + o) (inl (omega arith)))
       (λ j x y. list-same made j (inr (omega arith))) items)
 
-  -- every word but those of the semicolon's slots, of the statement's items and of its place
+  -- every word but those of the semicolon's slots and of the statement's items, and the one that the statement stands in, is as it was
   ended-same : (j : ℕ) → j ≢ base + n → (j < slotStart b) ⊎ (slotEnd (b + 2) ≤ j) → Free X m a j → wd W' j ≡ wd W j
   ended-same j na nb f =
       let three = semicolon-slots is tree .0 in
@@ -451,7 +451,7 @@ stopped-turn v (leading h) = turn-leading v h
 stopped-turn v (again h e) = turn-again v h e
 stopped-turn v (ended h made g) = ended-turn v h made g (v .at .d) refl
 
--- what it changes
+-- what the turn changes
 stopped-within : {W W' X : List ℕ} {lo hi n b : ℕ} {l l' : Items} {q : Token} {done d rest : Forest} {r : Turn}
     → Stopped W X lo hi l l' n b q done d rest → SemicolonTo W l' b n r W'
     → ((j : ℕ) → Free X lo hi j → (j < l .base) ⊎ (l .base + l .len ≤ j) → wd W' j ≡ wd W j) × (length W' ≡ length W)

@@ -1,5 +1,5 @@
--- A minus or a not takes its operand: what `prefix`, `to_add` and `subtract` do to the words, said of the list's trees, and the turn that
--- each path of `token` and `minus` is.
+-- A minus or a not takes its operand: what `prefix`, `to_add` and `subtract` make of the list's trees, and the turn that each path of
+-- `token` and `minus` is.
 use Rattle.words.specs.Fields.{withOperator}
 use Prim.Native.Nat.{ℕ, _+_, _-_, _^_, _≤_, _<_}
 use mathlib.Core.Path.{_≡_, refl, sym, ap, _∙_, subst}

@@ -244,7 +244,7 @@ module _ {W : List ℕ} {v : Items} {g : CanSeekBack W v} {Z : List ℕ} {read w
           → SoughtBackTo Z (g .X) (g .lo) (g .hi) v (g .d) (g .rest) (Leaf (movedTo v (read - 1) write) (wd Z (v .base + (read - 1))))
       go m (last {ps = ps} t h r) = at ps (sym (leaf-test ps t) ∙ leafy) m h t r
 
-  -- it has one below it
+  -- a minus or a not is below it
   seek-back-tree : read ≤ write → isLeafAt Z (wd Z (v .base + (read - 1))) ≡ false
       → SoughtBackTo Z (g .X) (g .lo) (g .hi) v (g .d) (g .rest) (Children (movedTo v (read - 1) write) (wd Z (v .base + (read - 1))))
   seek-back-tree behind leafy = go (s .moved) (unread-last (s .list .unread) z)
@@ -260,7 +260,7 @@ module _ {W : List ℕ} {v : Items} {g : CanSeekBack W v} {Z : List ℕ} {read w
           let wide : RepT Z (g .X) (wd Z (v .base + (read - 1))) a (s .m) p ps = tree-widen (le-refl a) (omega arith) t in
           tree refl gap (shorter under r) (sym (leaf-test ps t) ∙ leafy) wide m
 
--- at the end
+-- nothing is unread
 seek-back-none : {W : List ℕ} {v : Items} {g : CanSeekBack W v} {Z : List ℕ} {read write : ℕ} → SeekBackAt W v g Z read write → read ≤ write
     → read ≡ 0
     → SoughtBackTo Z (g .X) (g .lo) (g .hi) v (g .d) (g .rest) (Nothing (movedTo v read write))

@@ -43,7 +43,7 @@ pub record CanGather (W : List ℕ) (array index : ℕ) : Type 0 where
   pub from : index < hi
   pub within : slotStart hi ≤ length W
 
--- They stand on the array's chain, the last first.
+-- The index's children stand on the array's chain, the last first.
 pub record Gathered (W : List ℕ) (array index : ℕ) (W' : List ℕ) : Type 0 where
   pub linked : (g : CanGather W array index) → Chain W' (firstAt W' array) (onto (g .cs) (g .ds))
   pub same : (g : CanGather W array index) (j : ℕ) → j ≢ firstWord array → OffNext (g .cs) j → wd W' j ≡ wd W j
@@ -65,7 +65,7 @@ pub record CanRound (W : List ℕ) (a : ℕ) : Type 0 where
   pub own : a < hi
   pub within : slotStart hi ≤ length W
 
--- They stand in order, and the array notes the classes of all of them.
+-- The array's children stand in order, and it notes the classes of all of them.
 pub record Rounded (W : List ℕ) (a : ℕ) (W' : List ℕ) : Type 0 where
   pub linked : (g : CanRound W a) → Chain W' (firstAt W' a) (onto (g .cs) [])
   pub classes : (g : CanRound W a) (i : ℕ) → bitAt (classesAt W' a) i ≡ someNotes W (onto (g .cs) []) i
@@ -95,7 +95,7 @@ pub record CanIndex (W : List ℕ) (v : Items) (b a : ℕ) : Type 0 where
   pub left : v .read < v .len
   pub lends : CanLend W a b
 
--- It is empty, or is entered, perhaps with a name that it completes.
+-- The index is empty, or it is entered, with the array that `lend_name` lends to its contents, if any.
 pub data Indexed (W : List ℕ) (v : Items) (b a : ℕ) (r : Turn) (W' : List ℕ) : Type 0 where
   empty : isLeafAt W b ≡ true → W' ≡ W → r ≡ Fail (EmptyArrayIndex a b) → Indexed W v b a r W'
   opens : {lent : ℕ} → isLeafAt W b ≡ false → Lent W a b lent W' → r ≡ Enter (walkOf (movedTo v (v .read + 1) (v .write)) (Arrays a lent)) b

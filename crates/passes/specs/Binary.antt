@@ -36,7 +36,7 @@ pub record CanFold (W : List ℕ) (v : Items) (q c : ℕ) : Type 0 where
   pub right : slotEnd c ≤ length W
   pub apart : leftOf W v ≢ c
 
--- The last done item and c are the children of q, which stands in the former's place.
+-- The last done item and c are the children of q, which stands in the word of that item.
 pub record Folded (W : List ℕ) (v : Items) (q c : ℕ) (W' : List ℕ) : Type 0 where
   pub mid : List ℕ
   pub two : AttachedTwo W q (leftOf W v) c mid
@@ -55,13 +55,13 @@ pub record CanSearch (W : List ℕ) (top c : ℕ) : Type 0 where
   pub within : slotStart m ≤ length W
   pub some : shares (classesAt W top) c ≡ true
 
--- r is the first leaf of the level's operators at or below `top`.
+-- r is the slot of the first leaf of f that is one of ops.
 pub record IsFirst (W : List ℕ) (r : ℕ) (ops : List ℕ) (f : Forest) : Type 0 where
   pub t : Token
   pub first : firstLeaf ops f ≡ some t
   pub token : TokenAt W r t
 
--- r is the first leaf at or below `top` of the operators that the classes c cover.
+-- r is the slot of the first leaf at or below `top` of the operators that the classes c cover.
 abbrev pub LeafFound : List ℕ → ℕ → ℕ → ℕ → Type 0
 LeafFound W top c r = (g : CanSearch W top c) (ops : List ℕ) → Covers c (isOneOf ops) → IsFirst W r ops (node (g .k) (g .cs) nil)
 

@@ -20,7 +20,7 @@ pub record CanCall (W : List ℕ) (v : Items) (b c : ℕ) : Type 0 where
   pub left : v .read < v .len
   pub next : wd W (v .base + v .read) ≡ c
 
--- The call at the slot b is entered where tokens of the pass are below it, else it is done.
+-- The call at the slot b takes the section. It is entered where tokens of the pass are below it, else it is done.
 pub data Called (W : List ℕ) (v : Items) (b c : ℕ) (pass : Pass) (r : Turn) (W' : List ℕ) : Type 0 where
   opens : Attached W b c W' → shares (classesAt W' b) (classesOf pass) ≡ true
       → r ≡ Enter (walkOf (movedTo v (v .read + 1) (v .write)) pass) b → Called W v b c pass r W'

@@ -38,7 +38,7 @@ pub record CanFoldLast (W : List ℕ) (base left right : ℕ) : Type 0 where
   pub second : slotEnd (wd W (base + right)) ≤ length W
   pub apart : wd W (base + (left - 2)) ≢ wd W (base + right)
 
--- The last unread item takes the one before it and the first done one, and stands in the latter's place.
+-- The last unread item takes the one before it and the first done one, and stands in the word of the latter.
 abbrev pub FoldedLast : List ℕ → ℕ → ℕ → ℕ → List ℕ → Type 0
 FoldedLast W base left right W' = Grouped W (wd W (base + (left - 1))) (wd W (base + (left - 2))) (wd W (base + right)) (base + right) W'
 

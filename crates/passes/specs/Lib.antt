@@ -1,3 +1,4 @@
+-- What the functions of the levels ask and ensure, as definitions.
 pub mod TokenTurns
 pub mod Calls
 pub mod Binary

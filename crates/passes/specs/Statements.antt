@@ -60,7 +60,7 @@ pub record CanEnd (W : List ℕ) (l : Items) (item done : ℕ) : Type 0 where
   pub small : length W < 2 ^ 32
   pub give : done < l .write → CanGive W item (l .base + done) (l .write - done)
 
--- It stands first, or after a semicolon, or ends a statement.
+-- The semicolon stands first, or after another, or ends a statement.
 pub data SemicolonTo (W : List ℕ) (l : Items) (item done : ℕ) : Turn → List ℕ → Type 0 where
   leading : l .write ≡ 0 → SemicolonTo W l item done (Fail (LeadingSemicolon item)) W
   again : l .write ≢ 0 → l .write ≡ done → SemicolonTo W l item done (On (walkOf l (SplitAt done))) W
@@ -78,7 +78,7 @@ pub record CanClose (W : List ℕ) (l : Items) (done : ℕ) : Type 0 where
   pub last : slotEnd (wd W (l .base + done - 1) + 2) ≤ l .base
   pub give : done < l .write → CanGive W (wd W (l .base + done - 1) + 1) (l .base + done) (l .write - done)
 
--- None is open, or the open one stands in the slot after the last finished one's.
+-- No statement is open, or the open one stands in the slot after the last finished one's.
 pub data ClosedTo (W : List ℕ) (l : Items) (done : ℕ) : ℕ → List ℕ → Type 0 where
   complete : l .write ≡ done → ClosedTo W l done done W
   closing : {W' : List ℕ} → done < l .write → Grouped W (wd W (l .base + done - 1) + 1) (l .base + done) (l .write - done) W'

@@ -35,7 +35,7 @@ pub record AtItem (W X : List ℕ) (l : Items) (b lo hi : ℕ) (d : Forest) (k :
   pub within : l .base + l .len ≤ length W
   pub small : length W < 2 ^ 32
 
--- It is a leaf.
+-- The item at the slot b is a leaf.
 pub record AtToken (W : List ℕ) (l : Items) (b : ℕ) : Type 0 where
   pub X : List ℕ
   pub lo : ℕ
@@ -87,7 +87,7 @@ Seeks Returns = Unit {0}
 abbrev pub Saying : Type 1
 Saying = (κ : Kind) → (Forest → State κ) → (ℕ → Bool) → (Forest → Bool) → Type 0
 
--- The same, said of the level that the pass is.
+-- What T says, of the level that the pass is; of a pass that seeks in another way nothing.
 abbrev pub OfLevel : Saying → Pass → Type 0
 OfLevel T Calls = T (calls queryOrLoop) gathered (isCall queryOrLoop) unasked
 OfLevel T MathCalls = T (calls math) gathered (isCall math) unasked

@@ -109,7 +109,7 @@ pub record CanPrefix (W : List ℕ) (v : Items) (q : ℕ) : Type 0 where
   pub own : slotEnd q ≤ length W
   pub operand : slotEnd (wd W (v .base + v .write)) ≤ length W
 
--- The slot in the word `at` is the only child of q, which stands in its place.
+-- The slot that stood in the word `at` is the only child of q, which stands in that word.
 pub record Prefixed (W : List ℕ) (at q : ℕ) (W' : List ℕ) : Type 0 where
   pub Z : List ℕ
   pub attached : Attached W q (wd W at) Z
@@ -124,7 +124,7 @@ pub record Added (W : List ℕ) (s : ℕ) (W' : List ℕ) : Type 0 where
   pub same : (j : ℕ) → j ≢ classesWord s → wd W' j ≡ wd Z j
   pub long : length W' ≡ length W
 
--- There is a place before the done items; the slots b, b + 1 and that of the first done item lie within the words.
+-- The word before the done items is free; the slots b, b + 1 and that of the first done item lie within the words.
 pub record CanSubtract (W : List ℕ) (v : Items) (b : ℕ) : Type 0 where
   pub room : 0 < v .write
   pub place : v .base + v .write < length W

@@ -1,5 +1,6 @@
-// Array indices: the pass that gives an array name the sections `[ ]` after it (calls.rs).
-// Leans on levels (turns, items), on slots and chains.
+// Array indices: the pass that gives an array name the sections `[ ]` after it (calls.rs). `driver::token` calls `array_name` with the
+// token that `next_token` stopped at, `driver::step` calls `array_on` where an array waits, and `driver::resume` calls `resume_array`
+// after an item's children. Leans on levels (turns, items), nodes (slots, chains) and ops.
 use levels::failure::Failure;
 use levels::items;
 use levels::turns;

@@ -1,5 +1,6 @@
-// The binary levels: each leaf of the level's operators takes its neighbours as children, from the left (binary.rs).
-// Leans on levels (turns, items), on slots and chains.
+// The binary levels: each leaf of the level's operators takes its neighbours as children, from the left (binary.rs). `driver::token` calls
+// `operator` with the token that `next_token` stopped at, and `driver::resume` calls `resume` after an item's children.
+// Leans on levels (turns, items), nodes (slots, chains) and ops.
 use levels::failure::Failure;
 use levels::items;
 use levels::turns;
@@ -18,7 +19,7 @@ ghost use Rattle.levels.specs.Turns.{CanResume, Resumed};
 ghost use Rattle.passes.specs.TokenTurns.{AtToken, LevelTurned};
 ghost use Rattle.passes.specs.Binary.{CanFold, Folded, CanSearch, LeafFound, CanOperate, Operated};
 
-// `operator` takes the last done item and `right`, done itself, as its children, and stands in the former's place.
+// `operator` takes the last done item and `right`, done itself, as its children, and stands in the word of that item.
 fn fold(work: &mut [u32], list: List, operator: u32, right: u32)
     requires { ⌜ CanFold (now work) list operator right ⌝ }
     ensures { λ _. ⌜ Folded (now (work .entry)) list operator right (now (work .exit)) ⌝ }
@@ -48,8 +49,8 @@ pub fn resume(work: &mut [u32], list: List, item: u32, classes: TokenClasses, pe
     Walk { list, pass }
 }
 
-// The first leaf of `classes` at or below slot `top`, which notes them. The second walk over a left side with an unfolded
-// operator fails there: such a leaf is the last child of an operator of the level, so the walk finds no right side for it.
+// The first leaf of `classes` at or below slot `top`, which notes one of them: `operator` has tested it. The second walk over a left side
+// with an unfolded operator fails there: such a leaf is the last child of an operator of the level, so the walk finds no right side for it.
 pub fn first_leaf(work: &[u32], top: u32, classes: TokenClasses) -> u32
     requires { ⌜ CanSearch (now work) top (classes .0) ⌝ }
     ensures { λ r. ⌜ LeafFound (now (work .entry)) top (classes .0) r ⌝ }

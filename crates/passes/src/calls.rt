@@ -1,5 +1,5 @@
-// Calls and math functions: the passes that attach a section to the token before it (calls.rs).
-// Leans on levels (turns, items), on slots and chains.
+// Calls and math functions: the passes that attach a section to the token before it (calls.rs). `driver::token` calls `call` and
+// `math_call` with the token that `next_token` stopped at. Leans on levels (turns, items), nodes (slots, chains) and ops.
 use levels::failure::Failure;
 use levels::items;
 use levels::turns;

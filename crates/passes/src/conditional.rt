@@ -1,5 +1,5 @@
-// The conditional from version 5: nested lists first, then a scan of the list from the right (conditional.rs).
-// In the scan the unread items stand in [0, left), the done ones in [right, len). Leans on levels (turns, items), on slots and chains.
+// The conditional from version 5: nested lists first, then a scan of the list from the right (conditional.rs). In the scan the unread items
+// stand in [0, left), the done ones in [right, len). Leans on levels (turns, items), nodes (slots, chains) and ops.
 use levels::failure::Failure;
 use levels::items;
 use levels::turns;
@@ -23,7 +23,7 @@ pub struct Scan {
 }
 
 // The conditional pass before the scan, up to its next node with a `?` or a `:` below it. The items stay where they are, and
-// the tokens among them are counted.
+// the tokens among them are counted. `driver::step` calls it with a list at a turn.
 pub fn step(work: &mut [u32], list: List, tokens: u32) -> Turn
     requires { ⌜ CanTurn (now work) (walkOf list (Pass.Conditional tokens)) ⌝ }
     ensures { λ r. ⌜ Turned (now (work .entry)) (walkOf list (Pass.Conditional tokens)) r (now (work .exit)) ⌝ }
@@ -49,7 +49,7 @@ pub fn step(work: &mut [u32], list: List, tokens: u32) -> Turn
     )
 }
 
-// The last unread item takes the one before it and the first done item as its children, and is done in that one's place.
+// The last unread item takes the one before it and the first done item as its children, and is done in the word of the latter.
 fn fold_last(work: &mut [u32], base: usize, left: usize, right: usize)
     requires { ⌜ CanFoldLast (now work) base left right ⌝ }
     ensures { λ _. ⌜ FoldedLast (now (work .entry)) base left right (now (work .exit)) ⌝ }
@@ -176,7 +176,7 @@ fn dangling(work: &[u32], base: usize, from: usize, len: usize) -> u32
     0
 }
 
-// The end of a list of the conditional pass.
+// The end of a list of the conditional pass. `driver::finish` calls it where every item is done.
 pub fn finish(work: &mut [u32], list: List, tokens: u32) -> Finished
     requires { ⌜ CanFinish (now work) (walkOf list (Pass.Conditional tokens)) ⌝ }
     ensures { λ r. ⌜ Ends (now (work .entry)) (walkOf list (Pass.Conditional tokens)) r (now (work .exit)) ⌝ }

@@ -1,4 +1,4 @@
-// `return`, from the left (unary.rs). Leans on levels (turns, items) and on chains.
+// `return`, from the left (unary.rs). Leans on levels (turns, items) and nodes (chains).
 use levels::failure::Failure;
 use levels::items;
 use levels::turns;
@@ -8,7 +8,7 @@ use nodes::children;
 use nodes::frames::List;
 ghost use Rattle.passes.specs.TokenTurns.{AtToken, ReturnTurned};
 
-// `return` takes the next item, as it is, as its child.
+// `return` takes the next item, as it is, as its child. `driver::token` calls it with the token that `next_token` stopped at.
 pub fn returned(work: &mut [u32], list: List, item: u32) -> Turn
     requires { ⌜ AtToken (now work) list item ⌝ }
     ensures { λ r. ⌜ ReturnTurned (now (work .entry)) list item r (now (work .exit)) ⌝ }

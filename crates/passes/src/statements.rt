@@ -1,6 +1,6 @@
 // Statements, the semicolon pass (statements.rs): a list with semicolons becomes one `;` node of its statements, each
 // gathered under a `;` node of its own. In a split list the finished statements stand in [0, done), the items of the open one
-// in [done, write). Leans on levels (turns, items), on slots and chains.
+// in [done, write). Leans on levels (turns, items), nodes (slots, chains), ops and words.
 use levels::failure::Failure;
 use levels::items;
 use levels::items::Found;
@@ -42,7 +42,7 @@ fn has_semicolon(work: &[u32], list: List) -> bool
     false
 }
 
-// The pass at the start of a list.
+// The pass at the start of a list. `driver::begin` calls it where the items stand in the list's words, all unread.
 pub fn start(work: &[u32], list: List) -> Walk
     requires { ⌜ CanStart (now work) list ⌝ }
     ensures { λ r. ⌜ Started (now (work .entry)) list r ⌝ }
@@ -60,7 +60,7 @@ pub fn start(work: &[u32], list: List) -> Walk
 }
 
 // The n items from `at` on become the children of a statement at `slot`, which has the span of the first of them and stands
-// in its place.
+// in the word of that one.
 fn end_statement(work: &mut [u32], slot: u32, at: usize, n: usize)
     requires { ⌜ CanGive (now work) slot at n × (0 < n) ⌝ }
     ensures { λ _. ⌜ Grouped (now (work .entry)) slot at n (now (work .exit)) ⌝ }
@@ -114,7 +114,7 @@ fn inner(work: &mut [u32], list: List, item: u32, pass: Pass) -> Turn
     turns::on(items::keep(work, list, item), pass)
 }
 
-// A split list up to its next semicolon or node.
+// A split list up to its next semicolon or node. `driver::step` calls it with a list at a turn.
 pub fn step(work: &mut [u32], list: List, done: u32) -> Turn
     requires { ⌜ CanTurn (now work) (walkOf list (Pass.Split done)) ⌝ }
     ensures { λ r. ⌜ Turned (now (work .entry)) (walkOf list (Pass.Split done)) r (now (work .exit)) ⌝ }
@@ -146,7 +146,7 @@ fn end_open(work: &mut [u32], list: List, done: usize) -> usize
     done + 1
 }
 
-// The end of a split list: its node takes the statements, and is the list's one item.
+// The end of a split list: its node takes the statements, and is the list's one item. `driver::finish` calls it where every item is done.
 pub fn finish(work: &mut [u32], list: List, done: u32) -> Finished
     requires { ⌜ CanFinish (now work) (walkOf list (Pass.Split done)) ⌝ }
     ensures { λ r. ⌜ Ends (now (work .entry)) (walkOf list (Pass.Split done)) r (now (work .exit)) ⌝ }

@@ -1,5 +1,5 @@
 // The prefix operators minus and not, from the right (unary.rs).
-// Leans on levels (turns, items), on slots and chains.
+// Leans on levels (turns, items), nodes (slots, chains) and ops.
 use levels::failure::Failure;
 use levels::items;
 use levels::items::Found;
@@ -22,7 +22,7 @@ ghost use Rattle.levels.specs.Turns.{CanTurn, Turned};
 ghost use Rattle.passes.specs.Unary.{CanSeekBack, SoughtBack, CanTakeToken, CanTakeMinus, TokenTaken, CanPrefix, Prefixed, Added};
 ghost use Rattle.passes.specs.Unary.{CanSubtract, Subtracted};
 
-// The list with `item` before its done items.
+// The list with `item` before its done items. Its callers have read `item`, which is not done yet, so the word before those is free.
 pub fn keep_right(work: &mut [u32], list: List, item: u32) -> List
     requires { ⌜ (0 < list .write) × (list .base + list .write < length (now work) + 1) ⌝ }
     ensures { λ r. ⌜ (r ≡ movedTo list (list .read) (list .write - 1))
@@ -34,7 +34,7 @@ pub fn keep_right(work: &mut [u32], list: List, item: u32) -> List
     items::moved(list, list.read, write)
 }
 
-// `operator` takes the first done item as its child and stands in its place.
+// `operator` takes the first done item as its child and stands in the word of that item.
 fn prefix(work: &mut [u32], list: List, operator: u32)
     requires { ⌜ CanPrefix (now work) list operator ⌝ }
     ensures { λ _. ⌜ Prefixed (now (work .entry)) (list .base + list .write) operator (now (work .exit)) ⌝ }
@@ -143,7 +143,7 @@ fn previous_token(work: &mut [u32], list: List) -> Found
     Found::Nothing(items::moved(list, read, write))
 }
 
-// The unary pass up to its next token or node, from the right.
+// The unary pass up to its next token or node, from the right. `driver::step` calls it with a list at a turn.
 pub fn step(work: &mut [u32], list: List) -> Turn
     requires { ⌜ CanTurn (now work) (walkOf list Pass.Unary) ⌝ }
     ensures { λ r. ⌜ Turned (now (work .entry)) (walkOf list Pass.Unary) r (now (work .exit)) ⌝ }

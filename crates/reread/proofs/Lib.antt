@@ -1,1 +1,2 @@
+-- The laws that the proofs of several functions share.
 pub mod CallLaws

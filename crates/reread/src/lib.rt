@@ -1,5 +1,5 @@
 // Demand 3 as a function: reads a list, writes the tree it gives, and reads exactly the tokens written again, at any version and with
-// their own operators. Leans on parse, write and own; the definition is `Reread` of molang's specs.
+// their own operators. Leans on parse, write, own and words; the definition is `Reread` of molang's specs.
 use own::read_exactly;
 use parse::Answer;
 use parse::parse;

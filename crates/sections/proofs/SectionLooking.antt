@@ -117,7 +117,8 @@ close-differs {t = t} {cs = cs} (inner {i = j} {o = o} {d = d} {s = s'} st z v e
     ∙ ap (λ (q : ℕ). mismatch (closingMismatch o q t i ∷ sectionNotClosed (outermost o s') ∷ [])) (sym (b .start)) in
     rw is (ends (mismatched (b .inner-token) (tree .token) (b .outer-token)))
 
--- The walk goes on after the opener that is written at the place p, of the k-th section; the words beside the interval are as they were.
+-- The walk goes on after the opener of the k-th section, which is written in word p of the array; the words beside the interval are as
+-- they were.
 abbrev Closes : List ℕ → List ℕ → List ℕ → ℕ → ℕ → ℕ → ℕ → ℕ → ℕ → ℕ → ℕ → Walked → Type 0
 Closes W W' X base marks lo m k w p i walked =
     Follows W' X base marks lo m w i (On (record { write = p + 1; depth = k - 1; index = i })) walked

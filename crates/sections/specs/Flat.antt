@@ -108,8 +108,8 @@ pub record Membered (W : List ℕ) (base write item r : ℕ) (W' : List ℕ) : T
 
 -- ---- the open sections
 
--- The opener o of the innermost open section is a leaf, written at the place w' of the array, with the marks k' of its place and its
--- position i. With it, k sections are open.
+-- The opener o of the innermost open section is a leaf, written in word w' of the array. The section's marks, number k', say that word and
+-- the opener's position i. With it, k sections are open.
 pub record Opener (W X : List ℕ) (base marks l m k' w' k : ℕ) (o : Token) (i : ℕ) : Type 0 where
   pub q : ℕ
   pub slot : wd W (base + w') ≡ q
@@ -136,7 +136,7 @@ pub record CanOpen (W : List ℕ) (base marks write depth index : ℕ) : Type 0 
   pub place : write < 2 ^ 32
   pub start : index + 1 < 2 ^ 32
 
--- The opener is written, and its place and its position are marked.
+-- The opener is written, and the marks say in which word of the array, and its position.
 pub record Opened (W : List ℕ) (base marks write depth index opener : ℕ) (r : Reached) (W' : List ℕ) : Type 0 where
   pub more : r .write ≡ write + 1
   pub deeper : r .depth ≡ depth + 1
@@ -187,7 +187,7 @@ pub record Looked (W : List ℕ) (base marks write depth index item : ℕ) (r : 
       → (j < marks) ⊎ (marks + 2 * depth + 2 ≤ j) → wd W' j ≡ wd W j
   pub long : length W' ≡ length W
 
--- One section at least is open, and the marks of the innermost and the outermost name places of the array.
+-- One section at least is open, and the marks of the innermost and the outermost name words within the buffer.
 pub record NamedAt (W : List ℕ) (base marks depth : ℕ) : Type 0 where
   pub some : 0 < depth
   pub within : marks + 2 * depth ≤ length W

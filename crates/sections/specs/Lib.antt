@@ -1,2 +1,3 @@
+-- What the flat passes ask and ensure, as definitions.
 pub mod Flat
 pub mod Matching

@@ -1,5 +1,5 @@
 // The bracket structure: member accessors and sections, over the array of slots that is the flat list (sections.rs).
-// Both read the array and write it again from its start, write ≤ read. Leans on slots and chains.
+// Both read the array and write it again from its start, write ≤ read. Leans on levels (failures), nodes (slots, chains), ops and words.
 use levels::failure::Failure;
 use levels::failure::Mismatch;
 use levels::failure::Unclosed;
@@ -45,7 +45,7 @@ fn member(work: &mut [u32], base: usize, write: usize, item: u32) -> usize
     write + 1
 }
 
-// The member pass over the n slots from base on. What it asks, `grouping::group` meets with the loaded tokens.
+// The member pass over the n slots from base on. `grouping::group` calls it with the loaded tokens.
 pub fn members(work: &mut [u32], base: usize, n: usize) -> Flat
     requires { ⌜ CanJoin (now work) base n ⌝ }
     ensures { λ r. ⌜ Joined (now (work .entry)) base n r (now (work .exit)) ⌝ }
@@ -117,7 +117,7 @@ fn still_open(work: &[u32], base: usize, marks: usize, depth: usize) -> Unclosed
     }
 }
 
-// An opener opens a section: it is written, and its place and its index plus one are marked.
+// An opener opens a section: it is written, and the section's two words say where, and its index plus one.
 fn open_section(work: &mut [u32], base: usize, marks: usize, at: Reached, opener: u32) -> Reached
     requires { ⌜ CanOpen (now work) base marks (at .write) (at .depth) (at .index) ⌝ }
     ensures { λ r. ⌜ Opened (now (work .entry)) base marks (at .write) (at .depth) (at .index) opener r (now (work .exit)) ⌝ }
@@ -202,7 +202,7 @@ fn look(work: &mut [u32], base: usize, marks: usize, at: Reached, item: u32) -> 
 // The section pass: a walk over the n tokens from base on, and in it over the open sections. From a token outside on, where
 // it opens a section, the tokens up to its closer are looked at. The first bracket that does not match ends both walks.
 // It is the definition's bracket step, and of a childless list nothing is lost in it.
-// What it asks, `grouping::group` meets with what the member pass leaves.
+// `grouping::group` calls it with what the member pass leaves.
 pub fn sections(work: &mut [u32], base: usize, n: usize) -> Flat
     requires { ⌜ CanSection (now work) base n ⌝ }
     ensures { λ r. ⌜ Sectioned (now (work .entry)) base n r (now (work .exit)) ⌝ }

@@ -1,4 +1,4 @@
--- The letters of an alphabet: what its tests say of the letters at their places, and the tests from a letter on, as the code's loops go.
+-- The letters of an alphabet: what its tests say of the letter at an index, and the tests from a letter on, as the code's loops go.
 -- Assumes nothing.
 use Prim.Native.Nat.{ℕ, zero, suc, _+_, _≤_, _<_}
 use mathlib.Core.Path.{_≡_, refl, ap, sym, _∙_}
@@ -35,7 +35,7 @@ alphabet letters is =
       legal = three .1;
     }
 
--- ---- A letter's place
+-- ---- A letter's index
 
 pub among-at : (letters : List ℕ) (i : ℕ) → i < length letters → among (getD letters i 0) letters ≡ true
 unfolding among
@@ -43,7 +43,7 @@ among-at [] i h = absurd (omega arith)
 among-at (a ∷ letters) zero h = or-first (eqb a a) _ (eq-eqb a a refl)
 among-at (a ∷ letters) (suc i) h = or-second (eqb (getD letters i 0) a) _ (among-at letters i (omega arith))
 
--- A letter stands at a place.
+-- A letter stands at an index.
 pub record Occurs (letters : List ℕ) (a : ℕ) : Type 0 where
   pub place : ℕ
   pub below : place < length letters
@@ -60,7 +60,7 @@ occurs a (b ∷ letters) h = by (eqb a b) refl (occurs a letters) h
         let o = later h in
         record { place = suc (o .place); below = let w = o .below in omega arith; is = o .is }
 
--- No letter stands at two places.
+-- No letter stands at two indices.
 abbrev pub Distinct : List ℕ → Type 0
 Distinct letters = (i j : ℕ) → i < length letters → j < length letters → getD letters i 0 ≡ getD letters j 0 → i ≡ j
 

@@ -108,7 +108,7 @@ five-words : (i a : ℕ) → length (listWords (tokensFrom i (a ∷ []))) ≡ 5
 unfolding listWords tokensFrom tokenWords
 five-words i a = refl
 
--- The first digit, and the place among the lists of one letter less.
+-- The first digit, and the position among the lists of one letter less.
 pub record Digit (letters : List ℕ) (m size left : ℕ) : Type 0 where
   pub some : 0 < size
   pub power : size ≡ length letters ^ m

@@ -75,7 +75,7 @@ at-before (a ∷ letters) ls (suc q) r i e hq hr =
     let same : i ≡ length (led a ls) + later = omega (arith, length-led a ls, suc-mul q (length ls)) in
     rw same (getD-append-add (led a ls) (before letters ls) later [] ∙ at-before letters ls q r later refl (omega arith) hr)
 
--- A position among lists that begin with each letter, by that letter's place and by what stands behind it.
+-- A position among lists that begin with each letter, by that letter's index and the position of what stands behind it.
 record Split (letters : List ℕ) (ls : List (List ℕ)) (i : ℕ) : Type 0 where
   pub first : ℕ
   pub rest : ℕ

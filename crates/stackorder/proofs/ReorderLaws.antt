@@ -58,7 +58,7 @@ after-length W to (o ∷ os) =
       after-length W (o .to) os,
     )
 
--- The nodes that wait, the last one first, stand in the last places that are written.
+-- The nodes that wait, the last one first, stand in the words that are written last.
 abbrev Held : Direction → ℕ → List ℕ → List Open → Type 0
 Held d n Z [] = Unit {0}
 Held d n Z (o ∷ os) =

@@ -18,7 +18,7 @@ use Rattle.stackorder.specs.declared.reorder.Direction.the-variants.{For
 use Rattle.stackorder.specs.Reorder.{otherWay, firstEnd, nextEnd, EndsIn, nodeAt}
 use Rattle.stackorder.proofs.Orders.{joined, joined-append, Sevens, fromLeft}
 
--- ---- places
+-- ---- where a node begins and ends
 
 -- Where the node of index i begins, of n nodes.
 abbrev pub startOf : Direction → ℕ → ℕ → ℕ

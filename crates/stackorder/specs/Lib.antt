@@ -1,3 +1,4 @@
+-- What export and import find, do and promise, as definitions.
 pub mod Faults
 pub mod Reorder
 pub mod Answers

@@ -68,8 +68,8 @@ childrenAt W at = lowOf (getD W (at + countIndex) 0)
 
 -- ---- a turn
 
--- What a turn asks, of so many words and an output of so many: the next node to be written, the innermost open node and the place where the
--- next one can wait are nodes of the words; if no child is left one waits, else one is unread.
+-- What a turn asks, of so many words and an output of so many: the next node to be written, the innermost open node and the node in whose
+-- words the next one can wait end within the words; if no child is left one waits, else one is unread.
 pub record CanTurn (d : Direction) (words output : ℕ) (c : Cursor) : Type 0 where
   pub room : words ≤ output
   pub few : words < 2 ^ 32

@@ -1,7 +1,7 @@
 // A tree's nodes in the other order, by one loop without recursion: preorder is read and stack order written from the left, or stack
 // order is read and preorder written from the right, which is the same walk over a tree and over its mirror image. A node is known by
 // its end, the index after its seven words. The open nodes, whose children are not all out, wait in the output's own words: the
-// innermost is in the cursor, the others stand in the places of the nodes that go out last. Leans on words.
+// innermost is in the cursor, the others stand in the words of the nodes that go out last. Leans on words.
 use words::fields;
 use words::tokens::TokenWords;
 ghost use mathlib.Core.Path.{_≡_};
@@ -18,7 +18,7 @@ pub enum Direction {
     Backward,
 }
 
-// How far the walk is: the ends of the next node to be read, of the next to be written and of the next place where an open node can
+// How far the walk is: the ends of the next node to be read, of the next to be written and of the next words in which an open node can
 // wait; the innermost open node, and how many of its children are left to be read.
 struct Cursor {
     read: usize,
@@ -74,8 +74,8 @@ fn copy(words: &[u32], from: usize, output: &mut [u32], to: usize)
     output[target + fields::CLOSE_FIELD] = close;
 }
 
-// No child is left: the innermost open node goes out, and the last one that waits is the innermost. It is read first: its place may be
-// where the other goes.
+// No child is left: the innermost open node goes out, and the last one that waits is the innermost. It is read first: it may wait
+// in the words to which the other goes.
 fn leave(words: &[u32], output: &mut [u32], direction: Direction, cursor: Cursor) -> Cursor
     requires { ⌜ CanTurn direction (length (now words)) (length (now output)) cursor ⌝ }
     requires { ⌜ cursor .left ≡ 0 ⌝ }

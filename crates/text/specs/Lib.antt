@@ -1,1 +1,2 @@
+-- Text as bytes, as definitions.
 pub mod Text

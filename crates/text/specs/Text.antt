@@ -1,4 +1,4 @@
--- Text as bytes: quoted text by its codes, numbers in decimal, and what it is to lay text into bytes at a place.
+-- Text as bytes: quoted text by its codes, numbers in decimal, and what it is to lay text into bytes from an index on.
 use Prim.Native.Nat.{ℕ, zero, suc, _+_, _/_, _%_}
 use Prim.Native.Char.{code}
 use Prim.Native.String.{String, [] as empty, _∷_ as _then_}
@@ -35,7 +35,7 @@ space = 32
 abbrev pub lineEnd : ℕ
 lineEnd = 10
 
--- A text laid into bytes at a place, with all else as it was; `end` is the place behind it.
+-- A text laid into bytes from the index `at` on, with all else as it was; `end` is the index behind it.
 pub record Wrote (before : List ℕ) (at : ℕ) (text : List ℕ) (end : ℕ) (after : List ℕ) : Type 0 where
   pub ends : end ≡ at + length text
   pub whole : after ≡ laidAt at text before

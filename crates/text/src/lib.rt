@@ -5,7 +5,8 @@ ghost use Prim.Native.Nat.{_+_, _≤_};
 ghost use lib.ListN.{length};
 ghost use Rattle.text.specs.Text.{Wrote, decimal, numbered};
 
-// Puts bytes at the place `at`; the place behind them. Each caller has room for its longest text, here and below.
+// Puts bytes from the index `at` on; the index behind them. The callers, in `listing`, `liftcount` and `everylist`, have room for their
+// longest text, here and below.
 pub fn put_bytes(out: &mut [u8], at: usize, bytes: &[u8]) -> usize
     requires { ⌜ at + length (now bytes) ≤ length (now out) ⌝ }
     ensures { λ r. ⌜ Wrote (now (out .entry)) at (now (bytes .entry)) r (now (out .exit)) ⌝ }

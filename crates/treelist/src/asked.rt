@@ -1,5 +1,5 @@
-// What an input asks: where the program turns it back, else a list to read. Leans on derived (the version) and own (the reading);
-// specs/Listing has the definition.
+// What an input asks: where the program turns it back, else a list to read. Leans on derived (the version), own (the reading),
+// parse (its answer) and words; specs/Listing has the definition.
 use derived::version_of;
 use own::read_list;
 use parse::Answer;

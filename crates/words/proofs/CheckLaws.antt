@@ -241,3 +241,10 @@ module _ (a d e : ℕ) (fits : d < 2 ^ 32) (above : e - e % 65536 + d / 65536 �
         upper = upper-good (variantOf a) d upper-kind (omega (arith, upper-low)) (λ z. omega (arith, upper-low, variant-bits, z));
         lower = lower-good (variantOf a) e lower-kind (omega (arith, lower-low)) (λ z. omega (arith, lower-low, variant-bits, z));
       }
+
+-- The words of a token of the operator n, with the payload variant 0 and no payload.
+pub bare-operator : (w : ℕ) → 536870912 ≤ w → w ≤ 536871022 → LowOperator w
+bare-operator w least most = low-operator w (omega arith) (omega arith) (omega arith)
+
+pub bare-halves : (a d e : ℕ) → d ≡ 2147483648 → e ≡ 2684354560 → HalfWords a d e
+bare-halves a d e upper lower = halves-good a d e (omega arith) (omega arith) (omega arith)

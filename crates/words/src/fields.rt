@@ -86,6 +86,14 @@ pub fn operator(w: u32) -> u32
     w % 256 + w / 4096 % 16 * 256
 }
 
+// The bits of the operator's number where they stand in the word, which one instruction takes out: the number itself, or for a host's one
+// above 4,095. A test that no number from 256 on passes, as a bracket's or a class's, may ask them in place of the number.
+pub fn operator_bits(w: u32) -> u32
+    ensures { λ r. ⌜ r ≡ operatorBits (operatorOf w) 0 ⌝ }
+{
+    w % 256 + w / 4096 % 16 * 4096
+}
+
 // Whether an operator can have the number.
 pub fn is_operator(op: u32) -> bool
     ensures { λ r. ⌜ r ≡ isOperator op ⌝ }

@@ -1,5 +1,5 @@
-// The five words of a token and the seven of a node: the one place where they are read from a buffer and laid into one.
-// Leans on the fields; specs/Tokens says which words they are.
+// The five words of a token and the seven of a node, read from a buffer and laid into one. The callers go through their words by whole
+// tokens or nodes, and have room for what they lay. Leans on the fields; specs/Tokens says which words they are.
 use crate::fields;
 ghost use mathlib.Core.Path.{_≡_};
 ghost use Prim.Native.Nat.{_+_, _≤_};

@@ -3,6 +3,7 @@ use Prim.Native.Nat.{ℕ, zero, suc}
 use mathlib.Core.Path.{_≡_, refl}
 use mathlib.Core.Bool.{true, false, or-true}
 use mathlib.Core.List.{[], _∷_}
+use borrow.Author.Tests.{eq-eqb}
 use denote.Enum.Declared
 use types.Run.{OneOf, miss}
 use Rattle.molang.specs.Operator.{isBracket}
@@ -60,10 +61,14 @@ enclosed-spared RightOfQuestion op h = absurd (miss (0 ∷ 5 ∷ []) 3 tt h)
 enclosed-spared Operand op h = absurd (miss (0 ∷ 5 ∷ []) 4 tt h)
 enclosed-spared UnderSemicolon op h = refl
 
--- No bracket is in an added pair, and no node of three children is plain.
+-- No bracket and no leaf is in an added pair, and no node of three children is plain.
 pub bracket-unpaired : (p : Seat) (op children : ℕ) → isBracket op ≡ true → isPaired p op children ≡ false
 unfolding isPaired
 bracket-unpaired p op children e = rw (e, or-true)
+
+pub leaf-unpaired : (p : Seat) (op children : ℕ) → children ≡ 0 → isPaired p op children ≡ false
+unfolding isPaired
+leaf-unpaired p op children e = rw (eq-eqb children 0 e)
 
 pub over-many : (p : Seat) (op children first : ℕ) → (children ≡ 0 → ⊥) → (children ≡ 1 → ⊥) → (children ≡ 2 → ⊥)
     → false ≡ plainBy p op children first

@@ -78,7 +78,7 @@ rowCount [] f = 0
 rowCount (p ∷ ps) nil = 0
 rowCount (p ∷ ps) (node k cs rest) = treeLength p k cs + rowCount ps rest
 
--- What is told where this seat of answer 13 is found, or so many tokens are written.
+-- What is told where this place of answer 13 is found, or so many tokens are written.
 unfoldable pub judgedBy : Option ℕ → ℕ → WriteTold
 judgedBy none count = tokens count
 judgedBy (some n) count = unwritten 13 n

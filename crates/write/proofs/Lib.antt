@@ -1,3 +1,4 @@
+-- The laws that the proofs of several functions share.
 pub mod JudgeLaws
 pub mod SpellLaws
 pub mod CaseLaws

@@ -70,10 +70,6 @@ one-left (suc zero) h a b = refl
 one-left (suc (suc zero)) h a b = absurd (a refl)
 one-left (suc (suc (suc n))) h a b = absurd (omega arith)
 
-or-not : (n : ℕ) (P : Type 0) → (n ≡ 0 → P) → ((n ≡ 0 → ⊥) → P) → P
-or-not zero P f g = f refl
-or-not (suc n) P f g = g (λ e. omega arith)
-
 -- A node that is to be written.
 module _ {W L : List ℕ} {to : ℕ} (r : Room nodeTokens W L to) where
   here : Opened 2 (suc (r .others)) W
@@ -85,6 +81,10 @@ module _ {W L : List ℕ} {to : ℕ} (r : Room nodeTokens W L to) where
   -- NO CHILDREN: the token, then a bracket's closer.
   none-room : lowOf (getD W countIndex 0) ≡ 0 → to + length (firstFive W ++ closerWords W) ≤ length L
   none-room e = rw (none-below here e .words) at (r .room)
+
+  pub none-token : lowOf (getD W countIndex 0) ≡ 0 → to + 5 ≤ length L
+  unfolding firstFive
+  none-token e = omega (arith, none-room e, length-append (firstFive W) (closerWords W))
 
   module _ (e : lowOf (getD W countIndex 0) ≡ 0) (L1 : List ℕ) (to1 : ℕ) (w1 : Puts (firstFive W) L to L1 to1) where
     pub none-closer : to1 + length (closerWords W) ≤ length L1
@@ -122,12 +122,9 @@ module _ {W L : List ℕ} {to : ℕ} (r : Room nodeTokens W L to) where
   one-room : lowOf (getD W countIndex 0) ≡ 1 → to + length (firstFive W ++ (onlyWords W ++ closerWords W)) ≤ length L
   one-room e = rw (one-below here e .words) at (r .room)
 
-  pub token-room : (lowOf (getD W countIndex 0) ≡ 2 → ⊥) → to + 5 ≤ length L
+  pub one-token : (lowOf (getD W countIndex 0) ≡ 2 → ⊥) → (lowOf (getD W countIndex 0) ≡ 0 → ⊥) → to + 5 ≤ length L
   unfolding firstFive
-  token-room a =
-      or-not (lowOf (getD W countIndex 0)) (to + 5 ≤ length L)
-      (λ e. omega (arith, none-room e, length-append (firstFive W) (closerWords W)))
-      (λ b. omega (arith, one-room (one-child a b), length-append (firstFive W) (onlyWords W ++ closerWords W)))
+  one-token a b = omega (arith, one-room (one-child a b), length-append (firstFive W) (onlyWords W ++ closerWords W))
 
   module _ (a : lowOf (getD W countIndex 0) ≡ 2 → ⊥) (b : lowOf (getD W countIndex 0) ≡ 0 → ⊥) {op : ℕ}
       (isOp : op ≡ operatorOf (getD W 0 0)) (p : Seat)

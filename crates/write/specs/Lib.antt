@@ -1,3 +1,4 @@
+-- What the write entry and its parts ask and ensure, as definitions.
 pub mod Answers
 pub mod Seats
 pub mod Reading

@@ -278,9 +278,9 @@ fn holds_statements(tree: &[u32]) -> bool
     fields::NODE_WORDS < at
 }
 
-// The first node from `node` on that is not plain, or the number of tokens that are written, where so many trees are called for there, the
-// first of them in the given seat and the others under a semicolon. The reader says where the next node stands and what its operator is. No more than 12,288 nodes
-// wait, since a tree has no more.
+// The first node from node `begin` on that is not plain, or the number of tokens that are written. So many trees are called for there: the
+// first of them in the given seat, the others under a semicolon. The reader says where the next node stands and what its operator is. No
+// more than 12,288 nodes wait, since a tree has no more. `write` has seen that the words are one tree, for this function and for `judge`.
 fn judge_from(tree: &[u32], first: Seat, trees: usize, begin: usize) -> Judged
     requires { ⌜ OneTree (now tree) × Begins (now tree) first trees begin ⌝ }
     ensures { λ r. ⌜ verdictOf r ≡ judgement (treesOf (now (tree .entry))) ⌝ }

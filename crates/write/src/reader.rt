@@ -1,5 +1,6 @@
 // A reader over the lent tree words that carries its position: where a node's first word stands. To look at the node it is taken apart, and
-// a function over the words and a number looks. `view_node` is what the writer calls, and `operator_at` for the first node. Leans on words.
+// a function over the words and a number looks. `view_node` is what the writer calls, and `operator_at` for the first node. The loops of
+// `plain` go through one tree by whole nodes, so `view_node` and `look` have seven words to look at. Leans on words.
 use words::fields;
 ghost use mathlib.Core.Path.{_≡_};
 ghost use Prim.Native.Nat.{_+_, _≤_};

@@ -1,8 +1,9 @@
 // The writing of a plain tree: each operator between or before its operands, copied as it came, a section's closer where the section
 // closes, and added pairs where an operand needs them. `write_node` and `write_operand` call each other over the preorder words, the
-// remaining node count falling; each gives back the part of the words that its tree fills, so the next operand starts right after it, and
-// takes the tree's spans into two numbers, so that a pair knows its operand's extent when the operand is written. Leans on plain (seats),
-// ops and words.
+// remaining node count falling; a node without children is written by `write_leaf`. Each gives back the part of the words that its tree
+// fills, so the next operand starts right after it, and takes the tree's spans into two numbers, so that a pair knows its operand's extent
+// when the operand is written. The words are those of a tree that `judge` found plain, and `fill` has compared the list's length with the
+// tokens that are written of it: what the functions ask of both comes from there. Leans on plain (seats), ops and words.
 use crate::plain::Seat;
 use crate::plain::is_paired;
 use crate::plain::seat_of_left;
@@ -15,11 +16,12 @@ use words::fields;
 use words::tokens::TokenWords;
 ghost use mathlib.Core.Path.{_≡_};
 ghost use Prim.Native.Nat.{_+_, _≤_};
-ghost use lib.ListN.{length};
+ghost use lib.ListN.{length, getD};
+ghost use Rattle.molang.specs.Words.{lowOf};
 ghost use Rattle.words.specs.Extents.{wider};
 ghost use Rattle.words.specs.Records.{laidAt};
 ghost use Rattle.words.specs.Tokens.{fiveWords};
-ghost use Rattle.shape.specs.Shaped.{nodeLength, firstFive};
+ghost use Rattle.shape.specs.Shaped.{nodeLength, countIndex, firstFive};
 ghost use Rattle.write.specs.Spelling.{spanningWords, closerWords, pairOpener, pairCloser, seen, seenAfter};
 ghost use Rattle.write.specs.Spelling.{nodeTokens, operandOf, filledWords, nodeWritten, operandWritten, Room};
 
@@ -98,6 +100,32 @@ fn widen(low: &mut u32, high: &mut u32, start: u32, end: u32)
     *high = wider.end;
 }
 
+// Writes the node that the words open with, which has no children, and takes its span in; gives back its words. Both callers have tested
+// that it has none. In a tree of binary operators every second node is a leaf, and each is written here without a call that goes deeper.
+fn write_leaf<'a>(
+    words: &'a [u32],
+    list: &mut [u32],
+    to: &mut usize,
+    low: &mut u32,
+    high: &mut u32,
+) -> &'a [u32]
+    requires { ⌜ Room nodeTokens (now words) (now list) (now to) × (lowOf (getD (now words) countIndex 0) ≡ 0) ⌝ }
+    ensures { λ _. ⌜ seen (now (low .exit)) (now (high .exit)) ≡ seenAfter (now (low .entry)) (now (high .entry)) (now (words .entry)) ⌝ }
+    ensures { λ r. ⌜ now r ≡ filledWords (now (words .entry)) ⌝ }
+    ensures { λ _. ⌜ now (list .exit) ≡ laidAt (now (to .entry)) (nodeWritten (now (words .entry))) (now (list .entry)) ⌝ }
+    ensures { λ _. ⌜ now (to .exit) ≡ now (to .entry) + length (nodeWritten (now (words .entry))) ⌝ }
+{
+    widen(
+        low,
+        high,
+        words[fields::START_FIELD],
+        words[fields::END_FIELD],
+    );
+    put_token(words, list, to);
+    put_closer(words, list, to);
+    &words[..fields::NODE_WORDS]
+}
+
 // Writes the tree that the words open with, and takes its spans into the extent from `low` to `high`: its own first, then those below it.
 // Gives back the words that it fills.
 pub fn write_node<'a>(
@@ -113,8 +141,11 @@ pub fn write_node<'a>(
     ensures { λ _. ⌜ now (list .exit) ≡ laidAt (now (to .entry)) (nodeWritten (now (words .entry))) (now (list .entry)) ⌝ }
     ensures { λ _. ⌜ now (to .exit) ≡ now (to .entry) + length (nodeWritten (now (words .entry))) ⌝ }
 {
-    let op = fields::operator(words[0]);
     let children = fields::low(words[fields::COUNT_FIELD]);
+    if children == 0 {
+        return write_leaf(words, list, to, low, high);
+    }
+    let op = fields::operator(words[0]);
     let below = &words[fields::NODE_WORDS..];
     widen(
         low,
@@ -130,10 +161,6 @@ pub fn write_node<'a>(
         return &words[..next + right.len()];
     }
     put_token(words, list, to);
-    if children == 0 {
-        put_closer(words, list, to);
-        return &words[..fields::NODE_WORDS];
-    }
     let only = write_operand(below, seat_of_only(op), list, to, low, high);
     put_closer(words, list, to);
     &words[..fields::NODE_WORDS + only.len()]
@@ -156,11 +183,11 @@ fn write_operand<'a>(
     ensures { λ _. ⌜ now (list .exit) ≡ laidAt (now (to .entry)) (operandWritten seat (now (words .entry))) (now (list .entry)) ⌝ }
     ensures { λ _. ⌜ now (to .exit) ≡ now (to .entry) + length (operandWritten seat (now (words .entry))) ⌝ }
 {
-    if !is_paired(
-        seat,
-        fields::operator(words[0]),
-        fields::low(words[fields::COUNT_FIELD]),
-    ) {
+    let children = fields::low(words[fields::COUNT_FIELD]);
+    if children == 0 {
+        return write_leaf(words, list, to, low, high);
+    }
+    if !is_paired(seat, fields::operator(words[0]), children) {
         return write_node(words, list, to, low, high);
     }
     let at = *to;

@@ -31,7 +31,7 @@ fn write_statement(words: &[u32], list: &mut [u32], to: &mut usize) -> usize
     fields::NODE_WORDS + written.len()
 }
 
-// Writes the statements of a script from the list's front on.
+// Writes the statements of a script from the list's front on. `fill` has seen that the list has room, and `judge` that the tree is plain.
 pub fn write_statements(tree: &[u32], list: &mut [u32])
     requires { ⌜ ScriptRoom (now tree) (now list) ⌝ }
     ensures { λ _. ⌜ now (list .exit) ≡ laidAt 0 (statementsWritten (drop nodeLength (now (tree .entry)))) (now (list .entry)) ⌝ }

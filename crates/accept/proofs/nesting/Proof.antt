@@ -1,13 +1,14 @@
--- `accept::nesting` meets its contract: what the brackets of the whole list answer is answered by the tokens that are left. Assumes
+-- `accept::nesting` meets its contract: what the operator-bitss of the whole list answer is answered by the tokens that are left. Assumes
 -- nothing.
 use Prim.Native.Nat.{ℕ, _-_}
 use mathlib.Core.Path.{_≡_, sym, ap, _∙_}
 use mathlib.Core.Option.{Option}
 use native.Mathlib.Omega.{arith}
 use borrow.Author.Needs.{needs}
+use Rattle.molang.specs.Nesting.{openAfter}
 use Rattle.molang.specs.Words.{withNumber}
 use Rattle.accept.specs.Accepting.{verdict}
-use Rattle.accept.proofs.AcceptLaws.{WithinTo, within-first, within-short, within-last, within-on, goes-above}
+use Rattle.accept.proofs.AcceptLaws.{same-open, WithinTo, within-first, within-short, within-last, within-on, goes-above}
 use Rattle.accept.proofs.nesting.Statement.{statement}
 use Rattle.accept.proofs.nesting.Tie as tie
 
@@ -29,14 +30,14 @@ loop-holds c = let a = c .before .before .args in within-first (a .list .now) (a
 mul-at : tie.Need-mul-at Inv-loop μ-loop
 mul-at c = search needs
 
-mul-bracket : tie.Need-mul-bracket Inv-loop μ-loop
-mul-bracket c = search needs
+mul-operator-bits : tie.Need-mul-operator-bits Inv-loop μ-loop
+mul-operator-bits c = search needs
 
-shared-slice-read-bracket : tie.Need-shared-slice-read-bracket Inv-loop μ-loop
-shared-slice-read-bracket c = search needs
+shared-slice-read-operator-bits : tie.Need-shared-slice-read-operator-bits Inv-loop μ-loop
+shared-slice-read-operator-bits c = search needs
 
-bracket-requires : tie.Need-bracket-requires Inv-loop μ-loop
-bracket-requires c κs = search needs
+operator-bits-requires : tie.Need-operator-bits-requires Inv-loop μ-loop
+operator-bits-requires c κs = search needs
 
 open-after-requires : tie.Need-open-after-requires Inv-loop μ-loop
 open-after-requires c κs = search needs
@@ -45,7 +46,9 @@ returns-2 : tie.Need-returns-2 Inv-loop μ-loop
 returns-2 c =
     let at = c .before .before .before .before .before in
     let a = at .before .before .before .args in
-    let opened = c .before .open-after .ensures ∙ c .before .before .bracket .ensures (at .loop .depth) in
+    let depth = at .loop .depth in
+    let bits = ap (λ (n : ℕ). openAfter depth n) (c .before .before .operator-bits .ensures) in
+    let opened = c .before .open-after .ensures ∙ (bits ∙ same-open depth _) in
     let deep = goes-above (a .list .now) (a .limit) (a .n) (at .loop .index) (at .loop .depth) (at .loop .inv) (omega arith) (omega arith)
     (omega (arith, opened)) in
     ap (λ (o : Option ℕ). verdict (a .n) (withNumber 18 o)) (sym deep)
@@ -60,7 +63,9 @@ loop-again : tie.Need-loop-again Inv-loop μ-loop
 loop-again c =
     let at = c .before .before .before .before .before in
     let a = at .before .before .before .args in
-    let opened = c .before .open-after .ensures ∙ c .before .before .bracket .ensures (at .loop .depth) in
+    let depth = at .loop .depth in
+    let bits = ap (λ (n : ℕ). openAfter depth n) (c .before .before .operator-bits .ensures) in
+    let opened = c .before .open-after .ensures ∙ (bits ∙ same-open depth _) in
     rw opened
     (within-on (a .list .now) (a .limit) (a .n) (at .loop .index) (at .loop .depth) (at .loop .inv) (omega arith) (omega arith)
     (omega (arith, opened)))
@@ -82,9 +87,9 @@ nesting-spec =
     returns
     loop-holds
     mul-at
-    mul-bracket
-    shared-slice-read-bracket
-    bracket-requires
+    mul-operator-bits
+    shared-slice-read-operator-bits
+    operator-bits-requires
     open-after-requires
     returns-2
     add-index

@@ -1,4 +1,5 @@
--- `accept::token_words` meets its contract: what the check of the whole list answers is answered by the words that are left. Assumes nothing.
+-- `accept::token_words` meets its contract: what the check of the whole list answers is answered by the words that are left. Assumes
+-- nothing.
 use Prim.Native.Nat.{_+_, _*_, _-_}
 use mathlib.Core.Path.{_≡_, refl, sym, ap, _∙_}
 use mathlib.Core.Option.{none}
@@ -62,7 +63,8 @@ returns c =
     ap (verdict (s .before .before .args .n))
     (sym
     (s .loop .inv .rest
-    ∙ token-bad list at (omega arith) _ (sym (ap refusalOf (c .before .checked .given .1)) ∙ rw (words .at .ensures) at (token .token .ensures))))
+    ∙ token-bad list at (omega arith) _
+    (sym (ap refusalOf (c .before .checked .given .1)) ∙ rw (words .at .ensures) at (token .token .ensures))))
 
 returns-2 : tie.Need-returns-2 Inv-loop μ-loop
 returns-2 c =

@@ -1,5 +1,5 @@
--- `derived::highest_end` meets its contract. The loop's invariant: the highest end of the words that are left, after what was seen so far, is
--- that of all. The measure is what is left of the words. Assumes nothing.
+-- `derived::highest_end` meets its contract. The loop's invariant: the highest end of the words that are left, after what was seen so far,
+-- is that of all. The measure is what is left of the words. Assumes nothing.
 use Prim.Native.Nat.{ℕ, _+_, _-_}
 use mathlib.Core.Path.{_≡_, sym, ap, _∙_}
 use borrow.Author.Needs.{needs}

@@ -1,14 +1,20 @@
 -- `lines::read_at` meets its contract: the versions left fall. Assumes nothing.
-use Prim.Native.Nat.{_-_}
+use Prim.Native.Nat.{_+_, _-_}
 use native.Mathlib.Omega.{arith}
 use Rattle.lines.proofs.read_at.Statement.{statement}
 use Rattle.lines.proofs.read_at.Tie as tie
 
 abbrev Inv-loop : tie.InvT-loop
-Inv-loop list first end limit answer items bits₀ bits = Unit {0}
+Inv-loop list mark said limit last bits₀ bits = Unit {0}
 
 abbrev μ-loop : tie.MeasureT-loop
-μ-loop list first end limit answer items bits₀ bits = end - bits
+μ-loop list mark said limit last bits₀ bits = last + 1 - bits
+
+limit-of-requires : tie.Need-limit-of-requires Inv-loop μ-loop
+limit-of-requires c κs = omega arith
+
+last-version-requires : tie.Need-last-version-requires Inv-loop μ-loop
+last-version-requires c κs = omega arith
 
 loop-holds : tie.Need-loop-holds Inv-loop μ-loop
 loop-holds c = omega arith
@@ -43,6 +49,8 @@ read-at-spec =
     (tie.spec
     Inv-loop
     μ-loop
+    limit-of-requires
+    last-version-requires
     loop-holds
     version-of-requires
     read-requires

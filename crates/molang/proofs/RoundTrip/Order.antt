@@ -314,7 +314,7 @@ flat-binary σ ops h =
       paired = λ m. rw m at (parts .1);
     }
 
--- What is told of every operator, of those that a test finds.
+-- Where no operator passes both tests, one that passes the second does not pass the first.
 not-yet : (σ test : ℕ → Bool) → below (λ n. not (σ n) || not (test n)) ≡ true → (n : ℕ) → isIdle (role n) ≡ false → test n ≡ true
     → σ n ≡ false
 not-yet σ test h n p t =

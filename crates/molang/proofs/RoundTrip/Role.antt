@@ -134,7 +134,7 @@ pub role-above : (n : ℕ) → 110 < n → role n ≡ orElse (isHost n) aLeaf an
 unfolding role orElse
 role-above n l = rw (lt-leb n 110 l) refl
 
--- A test is told by the role: computed for the 111 numbers, and shown of all others.
+-- The role of a number decides a test of it: computed for the 111 numbers, and shown of all others.
 by-all-roles : (test : ℕ → Bool) (told : Role → Bool) → someBelow 111 (λ n. not (Bool·beq (test n) (told (role n)))) ≡ false
     → ((n : ℕ) → 110 < n → test n ≡ told (orElse (isHost n) aLeaf another)) → (n : ℕ) → test n ≡ told (role n)
 by-all-roles test told computed-below above n =

@@ -45,7 +45,7 @@ taken-form c (bracket k _ _ x) r R = refl
 taken-form c (before k _ _ _ _ x) r R = refl
 taken-form c (between k _ _ _ _ _ x y) r R = refl
 
--- The expression that a plain node at a place is spelled as.
+-- The expression that a plain node in a seat is spelled as.
 pub record Spelled (p : Seat) (k : Token) (cs : Forest) : Type 0 where
   pub sort : Sort
   pub exp : Exp sort

@@ -46,7 +46,9 @@ returns-8 : tie.Need-returns-8
 returns-8 c = let s = c .before .before .before .before .before .before in operand-apart (s .before .args .op) (single s) (omega arith)
 
 returns-9 : tie.Need-returns-9
-returns-9 c = let s = c .before .before .before .before .before .before .before in operand-apart (s .before .args .op) (single s) (omega arith)
+returns-9 c =
+    let s = c .before .before .before .before .before .before .before in
+    operand-apart (s .before .args .op) (single s) (omega arith)
 
 returns-10 : tie.Need-returns-10
 unfolding any isOneOf beforeMinus

@@ -11,7 +11,8 @@ returns c = one-of _ (c .before .args .op) (c .match .keys1)
 
 returns-2 : tie.Need-returns-2
 unfolding isCloser
-returns-2 c = apart _ (c .before .args .op) (none-of (rightBrace ∷ rightBracket ∷ rightParenthesis ∷ []) (c .before .args .op) (c .match .rest .1))
+returns-2 c =
+    apart _ (c .before .args .op) (none-of (rightBrace ∷ rightBracket ∷ rightParenthesis ∷ []) (c .before .args .op) (c .match .rest .1))
 
 pub is-closer-spec : {M : Type 1} → statement M
 is-closer-spec = tie.close (tie.spec returns returns-2)

@@ -23,15 +23,18 @@ intersects-requires-2 c κs = search needs
 
 returns-2 : tie.Need-returns-2
 returns-2 c =
-    let s = c .before .before .before .before .before .before in
-    let told = c .before .before .before .before .before .intersects in
-    chosen-call (s .args .used) (s .args .rank) (c .before .before .enum-told .given .1) (sym (told .ensures) ∙ not-false (told .result) (c .before .before .before .before .if1 .left))
+    let test = c .before .before .before .before in
+    let s = test .before .before in
+    let told = test .before .intersects in
+    chosen-call (s .args .used) (s .args .rank) (c .before .before .enum-told .given .1)
+    (sym (told .ensures) ∙ not-false (told .result) (test .if1 .left))
     (gate-open (s .args .used) ∙ (sym (c .before .intersects2 .ensures) ∙ c .if2 .taken))
 
 returns-3 : tie.Need-returns-3
 returns-3 c =
     let s = c .before .before .before .before .before .before in
-    chosen-shut (s .args .used) (s .args .rank) (c .before .before .enum-told .given .1) (gate-open (s .args .used) ∙ (sym (c .before .intersects2 .ensures) ∙ c .if2 .left))
+    chosen-shut (s .args .used) (s .args .rank) (c .before .before .enum-told .given .1)
+    (gate-open (s .args .used) ∙ (sym (c .before .intersects2 .ensures) ∙ c .if2 .left))
 
 returns-4 : tie.Need-returns-4
 returns-4 c =

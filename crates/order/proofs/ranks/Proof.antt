@@ -19,14 +19,16 @@ is-from-5-requires c κs = search needs
 
 returns-2 : tie.Need-returns-2
 returns-2 c =
-    let s = c .before .before .before .before in
-    at-5 (s .args .version) (sym (rw (toZ-ofZ (s .fits .version)) at (c .before .before .before .is-from-6 .ensures)) ∙ c .before .before .if1 .left)
+    let test = c .before .before in
+    let s = test .before .before in
+    at-5 (s .args .version) (sym (rw (toZ-ofZ (s .fits .version)) at (test .before .is-from-6 .ensures)) ∙ test .if1 .left)
     (sym (rw (toZ-ofZ (s .fits .version)) at (c .before .is-from-5 .ensures)) ∙ c .if2 .taken)
 
 returns-3 : tie.Need-returns-3
 returns-3 c =
-    let s = c .before .before .before .before in
-    before-5 (s .args .version) (sym (rw (toZ-ofZ (s .fits .version)) at (c .before .before .before .is-from-6 .ensures)) ∙ c .before .before .if1 .left)
+    let test = c .before .before in
+    let s = test .before .before in
+    before-5 (s .args .version) (sym (rw (toZ-ofZ (s .fits .version)) at (test .before .is-from-6 .ensures)) ∙ test .if1 .left)
     (sym (rw (toZ-ofZ (s .fits .version)) at (c .before .is-from-5 .ensures)) ∙ c .if2 .left)
 
 pub ranks-spec : {M : Type 1} → statement M

@@ -19,9 +19,11 @@ same-length-2 c = search needs
 
 returns : tie.Need-returns
 returns c =
-    let start = c .before .before .before .before .before .before .before .before .before .before in
-    let first = c .before .before .before .before .before .first-of in
-    none-filled (start .pre) (first .result) (first .ensures) (c .before .before .no-roots .last .0) (c .before .before .before .before .if1 .taken) (c .before .before .no-roots .ensures)
+    let test = c .before .before .before .before in
+    let start = test .before .before .before .before .before .before in
+    let first = test .before .first-of in
+    none-filled (start .pre) (first .result) (first .ensures) (c .before .before .no-roots .last .0) (test .if1 .taken)
+    (c .before .before .no-roots .ensures)
 
 next-of-requires : tie.Need-next-of-requires
 next-of-requires c κs =
@@ -31,9 +33,11 @@ next-of-requires c κs =
 
 report-roots-requires : tie.Need-report-roots-requires
 report-roots-requires c κs =
-    let start = c .before .before .before .before .before .before .before .before .before .before .before in
-    let first = c .before .before .before .before .before .before .first-of in
-    several-room (start .pre) (first .result) (first .ensures) (c .before .before .before .before .before .if1 .left) (λ z. c .before .before .if2 .taken (c .before .before .before .next-of .ensures ∙ z))
+    let if2 = c .before .before in
+    let if1 = if2 .before .before .before in
+    let start = if1 .before .before .before .before .before .before in
+    let first = if1 .before .first-of in
+    several-room (start .pre) (first .result) (first .ensures) (if1 .if1 .left) (λ z. if2 .if2 .taken (if2 .before .next-of .ensures ∙ z))
 
 same-length-3 : tie.Need-same-length-3
 same-length-3 c = search needs
@@ -43,10 +47,13 @@ same-length-4 c = search needs
 
 returns-2 : tie.Need-returns-2
 returns-2 c =
-    let start = c .before .before .before .before .before .before .before .before .before .before .before .before .before .before .before .before in
-    let first = c .before .before .before .before .before .before .before .before .before .before .before .first-of in
+    let if2 = c .before .before .before .before .before .before .before in
+    let if1 = if2 .before .before .before in
+    let start = if1 .before .before .before .before .before .before in
+    let first = if1 .before .first-of in
     let report = c .before .before .before .before .report-roots in
-    several-filled (start .pre) (first .result) (first .ensures) (c .before .before .before .before .before .before .before .before .before .before .if1 .left) (report .last .0) (report .last .1 .0) (λ z. c .before .before .before .before .before .before .before .if2 .taken (c .before .before .before .before .before .before .before .before .next-of .ensures ∙ z)) (report .ensures)
+    several-filled (start .pre) (first .result) (first .ensures) (if1 .if1 .left) (report .last .0) (report .last .1 .0)
+    (λ z. if2 .if2 .taken (if2 .before .next-of .ensures ∙ z)) (report .ensures)
 
 lay-out-requires : tie.Need-lay-out-requires
 lay-out-requires c κs =
@@ -62,11 +69,13 @@ same-length-6 c = search needs
 
 returns-3 : tie.Need-returns-3
 returns-3 c =
-    let start = c .before .before .before .before .before .before .before .before .before .before .before .before .before .before .before .before in
-    let first = c .before .before .before .before .before .before .before .before .before .before .before .first-of in
+    let if2 = c .before .before .before .before .before .before .before in
+    let if1 = if2 .before .before .before in
+    let start = if1 .before .before .before .before .before .before in
+    let first = if1 .before .first-of in
     let laid = c .before .before .before .before .lay-out in
-    one-filled (start .pre) (first .result) (first .ensures) (c .before .before .before .before .before .before .before .before .before .before .if1 .left) (laid .result) (laid .last .0) (laid .last .1 .0) (sym (c .before .before .before .before .before .before .before .before .next-of .ensures) ∙ c .before .before .before .before .before .before .before .if2 .left)
-    (laid .ensures)
+    one-filled (start .pre) (first .result) (first .ensures) (if1 .if1 .left) (laid .result) (laid .last .0) (laid .last .1 .0)
+    (sym (if2 .before .next-of .ensures) ∙ if2 .if2 .left) (laid .ensures)
 
 pub fill-roots-spec : {M : Type 1} → statement M
 fill-roots-spec =

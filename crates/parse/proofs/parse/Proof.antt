@@ -1,4 +1,5 @@
--- `parse::parse` meets its contract: a call that the table turns back, or one that is read, after which the work buffer is cleared. Assumes nothing.
+-- `parse::parse` meets its contract: a call that the table turns back, or one that is read, after which the work buffer is cleared. Assumes
+-- nothing.
 use borrow.Author.Needs.{needs}
 use Prim.Native.Nat.{ℕ, _+_, _*_}
 use lib.ListN.{replicate, take}
@@ -18,13 +19,16 @@ use Rattle.parse.proofs.parse.Tie as tie
 abbrev the-call : tie.Start → Call
 the-call start =
     let a = start .args in
-    call (a .list .now) (a .tree .now) (a .messages .now) (a .work .now) (a .source-length) (a .version) (a .used-low) (a .used-high) (a .limit)
+    call (a .list .now) (a .tree .now) (a .messages .now) (a .work .now) (a .source-length) (a .version) (a .used-low) (a .used-high)
+    (a .limit)
 
 -- What the checks say of a call that is read.
-is-read : (c : tie.After-accepted2) → isRead (c .accepted2 .given .0 .0) ≡ checked (the-call (c .before .before .before .before .before .before .before))
+is-read : (c : tie.After-accepted2)
+    → isRead (c .accepted2 .given .0 .0) ≡ checked (the-call (c .before .before .before .before .before .before .before))
 is-read c = sym (ap verdictOf (c .accepted2 .given .1)) ∙ c .before .before .accept .ensures
 
-known : (c : tie.After-accepted2) → Readable (the-call (c .before .before .before .before .before .before .before)) (c .accepted2 .given .0 .0)
+known : (c : tie.After-accepted2)
+    → Readable (the-call (c .before .before .before .before .before .before .before)) (c .accepted2 .given .0 .0)
 known c = reads-call (the-call (c .before .before .before .before .before .before .before)) (c .accepted2 .given .0 .0) (is-read c) .1
 
 can-read : (c : tie.After-accepted2)
@@ -66,7 +70,8 @@ clear-requires c κs = search needs
 returns : tie.Need-returns
 returns c =
     let told = c .before .accepted .given in
-    refused-meets (the-call (c .before .before .before .before .before .before .before .before)) (told .0 .0) (told .0 .1 .0) (sym (ap verdictOf (told .1)) ∙ c .before .before .before .accept .ensures)
+    refused-meets (the-call (c .before .before .before .before .before .before .before .before)) (told .0 .0) (told .0 .1 .0)
+    (sym (ap verdictOf (told .1)) ∙ c .before .before .before .accept .ensures)
 
 same-length : tie.Need-same-length
 same-length c = search needs
@@ -79,14 +84,16 @@ same-length-3 c = search needs
 
 returns-2 : tie.Need-returns-2
 returns-2 c =
-    let checks = c .before .before .before .before .before .before .before .before .before .before .before .before .before .before .before in
+    let r = c .before .before .before .before .before .before .before .before .before .before in
+    let checks = r .before .before .before .before .before in
     let start = checks .before .before .before .before .before .before .before in
     let n = checks .accepted2 .given .0 .0 in
-    let r = c .before .before .before .before .before .before .before .before .before .before .read in
     let clear = c .before .before .clear in
-    let long = part-long (r .last .1 .1 .1 .0) (start .args .work .now) (64 * n + 64) (known checks .work) (r .kept .1 .1 .1 .0) in
-    read-meets (the-call start) n (r .result) (r .last .1 .0) (r .last .1 .1 .0) (clear .last .0) (is-read checks)
-    (rw (toZ-ofZ (start .fits .version)) at (r .ensures)) (clear .ensures ∙ ap (λ (j : ℕ). replicate j 0) long)
+    let long =
+    part-long (r .read .last .1 .1 .1 .0) (start .args .work .now) (64 * n + 64) (known checks .work) (r .read .kept .1 .1 .1 .0)
+    in
+    read-meets (the-call start) n (r .read .result) (r .read .last .1 .0) (r .read .last .1 .1 .0) (clear .last .0) (is-read checks)
+    (rw (toZ-ofZ (start .fits .version)) at (r .read .ensures)) (clear .ensures ∙ ap (λ (j : ℕ). replicate j 0) long)
 
 pub parse-spec : {M : Type 1} → statement M
 parse-spec =

@@ -1,4 +1,5 @@
--- `parse::read` meets its contract: loaded, grouped by the effective version's rules, and laid out in the caller's buffers. Assumes nothing.
+-- `parse::read` meets its contract: loaded, grouped by the effective version's rules, and laid out in the caller's buffers. Assumes
+-- nothing.
 use borrow.Author.Needs.{needs}
 use mathlib.Core.Path.{ap, _∙_}
 use mir.Facts.{toZ-ofZ}
@@ -27,11 +28,13 @@ group-requires c κs =
 
 fill-requires : tie.Need-fill-requires
 fill-requires c κs =
-    let start = c .before .before .before .before .before .before .before .before .before .before .before .before .before .before .before .before .before in
-    let load = c .before .before .before .before .before .before .before .before .before .before .before .load in
-    let stack = c .before .before .before .before .before .before .before .stack-of in
-    let group = c .before .before .before .before .before .group in
-    read-fill (start .pre) (load .last .1 .0) (load .ensures) (stack .result) (stack .ensures) (start .args .used) (start .args .version) (toZ w16 (ofZ w16 (c .before .before .before .before .before .before .effective .result))) (group .result) (group .last .0) (group .ensures) (start .args .source)
+    let group = c .before .before .before .before .before in
+    let load = group .before .before .before .before .before .before in
+    let start = load .before .before .before .before .before .before in
+    let stack = group .before .before .stack-of in
+    read-fill (start .pre) (load .load .last .1 .0) (load .load .ensures) (stack .result) (stack .ensures) (start .args .used)
+    (start .args .version) (toZ w16 (ofZ w16 (group .before .effective .result))) (group .group .result) (group .group .last .0)
+    (group .group .ensures) (start .args .source)
 
 same-length : tie.Need-same-length
 same-length c = search needs
@@ -44,15 +47,16 @@ same-length-3 c = search needs
 
 returns : tie.Need-returns
 returns c =
-    let start = c .before .before .before .before .before .before .before .before .before .before .before .before .before .before .before .before .before .before .before .before .before .before .before .before in
-    let load = c .before .before .before .before .before .before .before .before .before .before .before .before .before .before .before .before .before .before .load in
-    let stack = c .before .before .before .before .before .before .before .before .before .before .before .before .before .before .stack-of in
-    let version = c .before .before .before .before .before .before .before .before .before .before .before .before .before .effective in
-    let group = c .before .before .before .before .before .before .before .before .before .before .before .before .group in
-    let fill = c .before .before .before .before .before .before .fill in
-    read-done (start .pre) (load .last .1 .0) (load .ensures) (stack .result) (stack .ensures) (start .args .used) (start .args .version) (toZ w16 (ofZ w16 (version .result))) (group .result) (group .last .0) (group .ensures) (start .args .source)
-    (fill .result) (fill .last .1 .0) (fill .last .1 .1 .0)
-    (toZ-ofZ (record { sfits = version .ok }) ∙ (version .ensures ∙ ap effective (toZ-ofZ (start .fits .version)))) (fill .ensures)
+    let fill = c .before .before .before .before .before .before in
+    let group = fill .before .before .before .before .before .before in
+    let load = group .before .before .before .before .before .before in
+    let start = load .before .before .before .before .before .before in
+    let stack = group .before .before .stack-of in
+    let version = group .before .effective in
+    read-done (start .pre) (load .load .last .1 .0) (load .load .ensures) (stack .result) (stack .ensures) (start .args .used)
+    (start .args .version) (toZ w16 (ofZ w16 (version .result))) (group .group .result) (group .group .last .0) (group .group .ensures)
+    (start .args .source) (fill .fill .result) (fill .fill .last .1 .0) (fill .fill .last .1 .1 .0)
+    (toZ-ofZ (record { sfits = version .ok }) ∙ (version .ensures ∙ ap effective (toZ-ofZ (start .fits .version)))) (fill .fill .ensures)
 
 pub read-spec : {M : Type 1} → statement M
 read-spec =

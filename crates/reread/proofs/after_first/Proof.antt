@@ -55,9 +55,10 @@ same-length-4 c = search needs
 
 returns-3 : tie.Need-returns-3
 returns-3 c =
-    let at = c .before .before .before .before .before .before .before .before .before .before .before .before .before in
+    let write-and-read = c .before .before .before .before .before .before .before .before in
+    let at = write-and-read .before .before .before .before .before in
     let s = at .before .before .before .before .before .before .before .before in
-    (rw (toZ-ofZ (s .fits .version)) at (c .before .before .before .before .before .before .before .before .write-and-read .ensures)) ∙ known s _ (at .before .first3 .given .1)
+    (rw (toZ-ofZ (s .fits .version)) at (write-and-read .write-and-read .ensures)) ∙ known s _ (at .before .first3 .given .1)
 
 pub after-first-spec : {M : Type 1} → statement M
 after-first-spec =

@@ -18,17 +18,19 @@ parse-requires c κs = search needs
 abbrev first : tie.Start → Call
 first s =
     let a = s .args in
-    call (a .list .now) (a .tree .now) (a .messages .now) (a .work .now) (a .source-length) (a .version) (a .used-low) (a .used-high) (a .limit)
+    call (a .list .now) (a .tree .now) (a .messages .now) (a .work .now) (a .source-length) (a .version) (a .used-low) (a .used-high)
+    (a .limit)
 
 -- What it told and left.
 parsed : (c : tie.After-parse)
-    → HasParsed (first (c .before .before .before .before .before .before .before .before .before .before)) (c .parse .result) (c .parse .last .1 .0) (c .parse .last .1 .1 .0) (c .parse .last .1 .1 .1 .0)
+    → HasParsed (first (c .before .before .before .before .before .before .before .before .before .before)) (c .parse .result)
+    (c .parse .last .1 .0) (c .parse .last .1 .1 .0) (c .parse .last .1 .1 .1 .0)
 parsed c =
     let s = c .before .before .before .before .before .before .before .before .before .before in
     let a = s .args in
     same-call
-    (ap (λ (z : ℤ). call (a .list .now) (a .tree .now) (a .messages .now) (a .work .now) (a .source-length) z (a .used-low) (a .used-high) (a .limit))
-    (toZ-ofZ (s .fits .version)))
+    (ap (λ (z : ℤ). call (a .list .now) (a .tree .now) (a .messages .now) (a .work .now) (a .source-length) z (a .used-low) (a .used-high)
+    (a .limit)) (toZ-ofZ (s .fits .version)))
     (c .parse .ensures)
 
 after-first-requires : tie.Need-after-first-requires
@@ -62,8 +64,8 @@ returns c =
     let at = on .before .before .before .before .before .before .before .before .before .before .before .before in
     let s = at .before .before .before .before .before .before .before .before .before .before in
     let a = s .args in
-    has-reread (rereading (first s) (a .written .now) (a .again .now) (a .source-length-again) (a .version-again) (a .limit-again)) (parsed at)
-    (toZ-ofZ (s .fits .version-again))
+    has-reread (rereading (first s) (a .written .now) (a .again .now) (a .source-length-again) (a .version-again) (a .limit-again))
+    (parsed at) (toZ-ofZ (s .fits .version-again))
     (on .after-first .ensures)
 
 pub reread-spec : {M : Type 1} → statement M

@@ -29,7 +29,8 @@ mul-words c = omega (arith, tree-within (c .before .before .before .before .befo
 
 slice-aggregate-write : tie.Need-slice-aggregate-write
 slice-aggregate-write c =
-    let s = c .before .before .before .before .before .before in omega (arith, tree-within s, length-take (7 * (s .args .nodes)) (s .args .tree .now))
+    let s = c .before .before .before .before .before .before in
+    omega (arith, tree-within s, length-take (7 * (s .args .nodes)) (s .args .tree .now))
 
 write-requires : tie.Need-write-requires
 write-requires c κs = search needs
@@ -42,29 +43,38 @@ enum-known-wrote-2 c = search needs
 
 -- What the writer told and left.
 module _ (c : tie.After-write) where
-  writer-told : told (c .write .result) ≡ writeAnswered (writerCall (given (c .before .before .before .before .before .before .before .before)) (c .before .before .before .before .before .before .before .before .args .nodes))
+  writer-told :
+      let s = c .before .before .before .before .before .before .before .before in
+      told (c .write .result) ≡ writeAnswered (writerCall (given s) (s .args .nodes))
   unfolding writerCall
   writer-told = c .write .ensures .0
 
-  list-left : c .write .last .1 .0 ≡ listAfter (writerCall (given (c .before .before .before .before .before .before .before .before)) (c .before .before .before .before .before .before .before .before .args .nodes))
+  list-left :
+      let s = c .before .before .before .before .before .before .before .before in
+      c .write .last .1 .0 ≡ listAfter (writerCall (given s) (s .args .nodes))
   unfolding writerCall
   list-left = c .write .ensures .1
 
 -- It wrote so many tokens, which stand within the list.
 module _ (c : tie.After-known-told2) where
-  wrote : tokens (c .before .wrote2 .given .0 .0) ≡ writeAnswered (writerCall (given (c .before .before .before .before .before .before .before .before .before .before .before .before .before)) (c .before .before .before .before .before .before .before .before .before .before .before .before .before .args .nodes))
+  wrote :
+      let s = c .before .before .before .before .before .before .before .before .before .before .before .before .before in
+      tokens (c .before .wrote2 .given .0 .0) ≡ writeAnswered (writerCall (given s) (s .args .nodes))
   wrote = ap told (sym (c .before .wrote2 .given .1)) ∙ writer-told (c .before .before .before .before .before)
 
   room : 5 * (c .before .wrote2 .given .0 .0) ≤ length (c .before .before .before .before .before .write .last .1 .0)
   room =
-      let s = c .before .before .before .before .before .before .before .before .before .before .before .before .before in
-      rw (list-left (c .before .before .before .before .before)) (written-room (given s) (s .args .nodes) (c .before .wrote2 .given .0 .0) (s .pre) wrote)
+      let w = c .before .before .before .before .before in
+      let s = w .before .before .before .before .before .before .before .before in
+      rw (list-left w) (written-room (given s) (s .args .nodes) (c .before .wrote2 .given .0 .0) (s .pre) wrote)
 
-  readable : Readable (take (5 * (c .before .wrote2 .given .0 .0)) (c .before .before .before .before .before .write .last .1 .0)) (c .before .wrote2 .given .0 .0)
+  readable : Readable (take (5 * (c .before .wrote2 .given .0 .0)) (c .before .before .before .before .before .write .last .1 .0))
+      (c .before .wrote2 .given .0 .0)
   readable =
-      let s = c .before .before .before .before .before .before .before .before .before .before .before .before .before in
+      let w = c .before .before .before .before .before in
+      let s = w .before .before .before .before .before .before .before .before in
       let count = c .before .wrote2 .given .0 .0 in
-      rw (list-left (c .before .before .before .before .before)) (written-list (given s) (s .args .nodes) count (s .pre) wrote)
+      rw (list-left w) (written-list (given s) (s .args .nodes) count (s .pre) wrote)
 
 mul-end : tie.Need-mul-end
 mul-end c = omega (arith, room c)
@@ -109,15 +119,16 @@ same-length-5 c = search needs
 
 returns-2 : tie.Need-returns-2
 returns-2 c =
-    let at = c .before .before .before .before .before .before .before .before .before .before .before .before in
+    let exact = c .before .before .before .before .before .before .before in
+    let at = exact .before .before .before .before .before in
     let w = at .before .before .before .before .before in
     let s = w .before .before .before .before .before .before .before .before in
     let h = given s in
     let count = at .before .wrote2 .given .0 .0 in
     let list = w .write .last .1 .0 in
     has-written h (s .args .nodes) list (list-left w) count (wrote at) (c .after-second .result)
-    (same-call (exact-call (take (5 * count) list) count (readable at) (h .again) (h .messages) (h .work) (h .sourceLength) (toZ-ofZ (s .fits .version)) (h .limit))
-    (c .before .before .before .before .before .before .before .read-exactly .ensures))
+    (same-call (exact-call (take (5 * count) list) count (readable at) (h .again) (h .messages) (h .work) (h .sourceLength)
+    (toZ-ofZ (s .fits .version)) (h .limit)) (exact .read-exactly .ensures))
     (c .after-second .ensures)
 
 pub write-and-read-spec : {M : Type 1} → statement M

@@ -16,14 +16,21 @@ use Rattle.sections.proofs.close_section.Statement.{statement}
 use Rattle.sections.proofs.close_section.Tie as tie
 
 -- the innermost opener is written, its slot is in the store, and what is written after it can be given to it
-body : (c : tie.After-opener-at) → let a = c .before .before .before .before .args in let p = c .opener-at .result in let W = a .work .now in
-    (p < a .at .write) × (slotEnd (wd W (a .base + p)) ≤ a .base) × CanGive W (wd W (a .base + p)) (a .base + (p + 1)) (a .at .write - (p + 1))
+body : (c : tie.After-opener-at)
+    → let a = c .before .before .before .before .args in
+    let p = c .opener-at .result in
+    let W = a .work .now in
+    (p < a .at .write) × (slotEnd (wd W (a .base + p)) ≤ a .base)
+    × CanGive W (wd W (a .base + p)) (a .base + (p + 1)) (a .at .write - (p + 1))
 body c =
     let s = c .before .before .before .before in
     let g = s .pre .0 in
-    close-in (g .standing) (s .pre .1) (c .opener-at .result) (c .opener-at .ensures) (omega (arith, g .below, g .tree .low, tree-below (g .tree))) (omega (arith, g .apart, g .room))
+    close-in (g .standing) (s .pre .1) (c .opener-at .result) (c .opener-at .ensures)
+    (omega (arith, g .below, g .tree .low, tree-below (g .tree))) (omega (arith, g .apart, g .room))
 
-within : (c : tie.After-opener-at) → let a = c .before .before .before .before .args in a .base + c .opener-at .result < length (a .work .now)
+within : (c : tie.After-opener-at)
+    → let a = c .before .before .before .before .args in
+    a .base + c .opener-at .result < length (a .work .now)
 within c = let g = c .before .before .before .before .pre .0 in omega (arith, body c .0, g .apart, g .room)
 
 -- the closer that is looked for
@@ -53,10 +60,16 @@ closer-of-requires : tie.Need-closer-of-requires
 closer-of-requires c κs = search needs
 
 operator-of-requires-2 : tie.Need-operator-of-requires-2
-operator-of-requires-2 c κs = let s = c .before .before .before .before .before .before .before .before .before in let g = s .pre .0 in omega (arith, look-in g, g .apart, g .room)
+operator-of-requires-2 c κs =
+    let s = c .before .before .before .before .before .before .before .before .before in
+    let g = s .pre .0 in
+    omega (arith, look-in g, g .apart, g .room)
 
 still-open-requires : tie.Need-still-open-requires
-still-open-requires c κs = let s = c .before .before .before .before .before .before .before .before .before .before .before .before in let g = s .pre .0 in standing-named (g .standing) (s .pre .1) (omega (arith, g .apart, g .room)) (omega (arith, g .room))
+still-open-requires c κs =
+    let s = c .before .before .before .before .before .before .before .before .before .before .before .before in
+    let g = s .pre .0 in
+    standing-named (g .standing) (s .pre .1) (omega (arith, g .apart, g .room)) (omega (arith, g .room))
 
 cast-t27 : tie.Need-cast-t27
 cast-t27 c = search needs
@@ -71,9 +84,9 @@ returns c =
     let s = o .before .before .before .before in (
       record {
         answer = λ g.
-            close-differs (g .standing) (s .pre .1) (g .tree) (o .opener-at .result) _ _ (s .args .at .index) (c .before .still-open .result)
-            (o .opener-at .ensures) (looked-for (test .before .before)) (test .operator-of2 .ensures) (c .before .before .before .if1 .taken)
-            (c .before .still-open .ensures);
+            close-differs (g .standing) (s .pre .1) (g .tree) (o .opener-at .result) _ _ (s .args .at .index)
+            (c .before .still-open .result) (o .opener-at .ensures) (looked-for (test .before .before)) (test .operator-of2 .ensures)
+            (c .before .before .before .if1 .taken) (c .before .still-open .ensures);
         same = λ g j f. refl;
         long = refl;
       },

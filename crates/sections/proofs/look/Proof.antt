@@ -17,7 +17,11 @@ use Rattle.sections.proofs.look.Statement.{statement}
 use Rattle.sections.proofs.look.Tie as tie
 
 small : (c : tie.After-position) → c .position .result + 1 < 2 ^ 32
-small c = let s = c .before .before in let e = c .position .ensures in let a = s .args .at in position-small (a .depth) (a .write) (a .index) (c .position .result) (2 ^ 32) (e .0) (e .1) (s .pre .1) (s .pre .2)
+small c =
+    let s = c .before .before in
+    let e = c .position .ensures in
+    let a = s .args .at in
+    position-small (a .depth) (a .write) (a .index) (c .position .result) (2 ^ 32) (e .0) (e .1) (s .pre .1) (s .pre .2)
 
 position-requires : tie.Need-position-requires
 position-requires c κs = search needs
@@ -29,39 +33,50 @@ is-opener-requires : tie.Need-is-opener-requires
 is-opener-requires c κs = search needs
 
 open-section-requires : tie.Need-open-section-requires
-open-section-requires c κs = let s = c .before .before .before .before .before .before .before in let g = s .pre .0 in record { apart = g .apart; room = g .room; place = omega (arith, s .pre .1); start = small (c .before .before .before .before .before) }
+open-section-requires c κs =
+    let placed = c .before .before .before .before .before in
+    let s = placed .before .before in
+    let g = s .pre .0 in
+    record { apart = g .apart; room = g .room; place = omega (arith, s .pre .1); start = small placed }
 
 same-length : tie.Need-same-length
 same-length c = search needs
 
 returns : tie.Need-returns
 returns c =
-    let s = c .before .before .before .before .before .before .before .before .before .before in
-    let e = c .before .before .before .before .before .before .before .before .position in
-    let o = c .before .before .before .before .before .before .operator-of in
-    let h : isOpener (o .result) ≡ true = sym (c .before .before .before .before .before .is-opener .ensures) ∙ c .before .before .before .before .if1 .taken in
+    let test = c .before .before .before .before in
+    let s = test .before .before .before .before .before .before in
+    let e = test .before .before .before .before .position in
+    let o = test .before .before .operator-of in
+    let h : isOpener (o .result) ≡ true = sym (test .before .is-opener .ensures) ∙ test .if1 .taken in
     let r = c .before .before .open-section in
     looked-on (s .pre .0) (s .args .at .index) (e .result) (r .result) (r .last .0) (e .ensures .0) (e .ensures .1)
-    (λ g. look-opens g (o .result) (e .result) (r .result) (r .last .0) (o .ensures) h (r .ensures .words) (r .ensures .more) (r .ensures .deeper) (r .ensures .at))
-    (opens-same (s .args .work .now) (r .last .0) (s .args .base) (s .args .marks) (s .args .at .write) (s .args .at .depth) (s .args .item) (e .result) (r .ensures .words))
-    (r .kept .0)
+    (λ g. look-opens g (o .result) (e .result) (r .result) (r .last .0) (o .ensures) h (r .ensures .words) (r .ensures .more)
+    (r .ensures .deeper) (r .ensures .at))
+    (opens-same (s .args .work .now) (r .last .0) (s .args .base) (s .args .marks) (s .args .at .write) (s .args .at .depth) (s .args .item)
+    (e .result) (r .ensures .words)) (r .kept .0)
 
 is-closer-requires : tie.Need-is-closer-requires
 is-closer-requires c κs = search needs
 
 close-section-requires : tie.Need-close-section-requires
-close-section-requires c κs = let s = c .before .before .before .before .before .before .before .before .before .before in (s .pre .0, c .before .if3 .taken, omega (arith, small (c .before .before .before .before .before .before .before .before)))
+close-section-requires c κs =
+    let placed = c .before .before .before .before .before .before .before .before in
+    let s = placed .before .before in
+    (s .pre .0, c .before .if3 .taken, omega (arith, small placed))
 
 same-length-2 : tie.Need-same-length-2
 same-length-2 c = search needs
 
 returns-2 : tie.Need-returns-2
 returns-2 c =
-    let s = c .before .before .before .before .before .before .before .before .before .before .before .before .before in
-    let e = c .before .before .before .before .before .before .before .before .before .before .before .position in
-    let o = c .before .before .before .before .before .before .before .before .before .operator-of in
-    let h : isOpener (o .result) ≡ false = sym (c .before .before .before .before .before .before .before .before .is-opener .ensures) ∙ c .before .before .before .before .before .before .before .if1 .left in
-    let closes : isCloser (o .result) ≡ true = sym (c .before .before .before .before .before .before .is-closer .ensures) ∙ c .before .before .before .before .before .if2 .taken in
+    let if2 = c .before .before .before .before .before in
+    let if1 = if2 .before .before in
+    let s = if1 .before .before .before .before .before .before in
+    let e = if1 .before .before .before .before .position in
+    let o = if1 .before .before .operator-of in
+    let h : isOpener (o .result) ≡ false = sym (if1 .before .is-opener .ensures) ∙ if1 .if1 .left in
+    let closes : isCloser (o .result) ≡ true = sym (if2 .before .is-closer .ensures) ∙ if2 .if2 .taken in
     let r = c .before .before .close-section in
     let w = r .ensures .0 in
     let fewer = closer-open (s .args .at .depth) (o .result) h closes in (
@@ -92,15 +107,18 @@ same-length-3 c = search needs
 
 returns-3 : tie.Need-returns-3
 returns-3 c =
-    let s = c .before .before .before .before .before .before .before .before in
-    let e = c .before .before .before .before .before .before .position in
-    let o = c .before .before .before .before .operator-of in
-    let h : isOpener (o .result) ≡ false = sym (c .before .before .before .is-opener .ensures) ∙ c .before .before .if1 .left in
-    let other : (isCloser (o .result) ≡ false) ⊎ (s .args .at .depth ≡ 0) = ⊎-elim (λ w. inr (w .1 .left)) (λ w. inl (sym (c .before .is-closer .ensures) ∙ w .left)) (c .if2 .came) in
+    let test = c .before .before in
+    let s = test .before .before .before .before .before .before in
+    let e = test .before .before .before .before .position in
+    let o = test .before .before .operator-of in
+    let h : isOpener (o .result) ≡ false = sym (test .before .is-opener .ensures) ∙ test .if1 .left in
+    let other : (isCloser (o .result) ≡ false) ⊎ (s .args .at .depth ≡ 0) =
+    ⊎-elim (λ w. inr (w .1 .left)) (λ w. inl (sym (c .before .is-closer .ensures) ∙ w .left)) (c .if2 .came)
+    in
     looked-on (s .pre .0) (s .args .at .index) (e .result) _ _ (e .ensures .0) (e .ensures .1)
     (λ g. look-places g (e .result) _ refl (look-other g (o .result) (e .result) (o .ensures) h other))
-    (λ j x y. set-other (s .args .work .now) _ (s .args .base + s .args .at .write) (s .args .item) refl j (⊎-elim (λ w. omega arith) (λ w. omega arith) x))
-    (simp length-set)
+    (λ j x y. set-other (s .args .work .now) _ (s .args .base + s .args .at .write) (s .args .item) refl j
+    (⊎-elim (λ w. omega arith) (λ w. omega arith) x)) (simp length-set)
 
 pub look-spec : {M : Type 1} → statement M
 look-spec =

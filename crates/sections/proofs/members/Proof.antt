@@ -1,31 +1,43 @@
 -- `sections::members` meets its contract.
-use Prim.Native.Nat.{_+_, _-_, _≤_, _<_}
+use Prim.Native.Nat.{_+_, _-_, _*_, _^_, _≤_, _<_}
 use mathlib.Core.Path.{refl, sym, _∙_}
 use native.Mathlib.Omega.{arith}
 use lib.ListN.{length}
 use Rattle.nodes.specs.Store.{wd, slotEnd}
 use Rattle.sections.specs.Flat.{CanJoin}
-use Rattle.sections.proofs.MemberLaws.{Joining, JoinTurn, join-start, join-turn, join-in, join-leading, join-accessor, join-member, join-other, join-done}
+use Rattle.sections.proofs.MemberLaws.{Joining, JoinTurn, join-start, join-turn, join-in, join-leading, join-accessor, join-member}
+use Rattle.sections.proofs.MemberLaws.{join-other, join-done}
 use Rattle.sections.proofs.members.Statement.{statement}
 use Rattle.sections.proofs.members.Tie as tie
 
 abbrev Inv-loop : tie.InvT-loop
-Inv-loop work₀ base n read₀ write₀ work read write = CanJoin work₀ base n × ((g : CanJoin work₀ base n) → Joining work₀ base n g work read write)
+Inv-loop work₀ base n read₀ write₀ work read write =
+    CanJoin work₀ base n × ((g : CanJoin work₀ base n) → Joining work₀ base n g work read write)
 
 abbrev μ-loop : tie.MeasureT-loop
 μ-loop work₀ base n read₀ write₀ work read write = n - read
 
 -- there is a token to read
-inside : (c : tie.In-loop Inv-loop μ-loop) → let a = c .before .before .before .args in let w = c .before .loop in a .base + w .read < length (w .work)
+inside : (c : tie.In-loop Inv-loop μ-loop)
+    → let a = c .before .before .before .args in
+    let w = c .before .loop in
+    a .base + w .read < length (w .work)
 inside c = let g = c .before .loop .inv .0 in let v = c .before .loop .inv .1 g .2 in omega (arith, c .loop-test .taken, v .long, g .room)
 
 turn : (c : tie.In-loop Inv-loop μ-loop) → let a = c .before .before .before .args in let w = c .before .loop in
-    (g : CanJoin (a .work .now) (a .base) (a .n)) → JoinTurn (a .work .now) (a .base) (a .n) g (w .work) (w .read) (w .write) (wd (w .work) (a .base + w .read))
+    (g : CanJoin (a .work .now) (a .base) (a .n))
+    → JoinTurn (a .work .now) (a .base) (a .n) g (w .work) (w .read) (w .write) (wd (w .work) (a .base + w .read))
 turn c g = let v = c .before .loop .inv .1 g in join-turn (v .0) (v .1) (v .2) (c .loop-test .taken) _ refl
 
 bounds : (c : tie.In-loop Inv-loop μ-loop) → let a = c .before .before .before .args in let w = c .before .loop in
     (a .base + w .write < length (w .work)) × (slotEnd (wd (w .work) (a .base + w .read)) ≤ length (w .work))
 bounds c = join-in (turn c (c .before .loop .inv .0))
+
+-- the place in bytes where the turn writes is a number that fits
+low : (c : tie.In-loop Inv-loop μ-loop) → 4 * (c .before .before .before .args .base + c .before .loop .write) + 4 < 2 ^ 64
+low c =
+    let v = c .before .loop .inv in
+    omega (arith, bounds c .0, v .1 (v .0) .2 .long, c .before .before .before .good)
 
 loop-holds : tie.Need-loop-holds Inv-loop μ-loop
 loop-holds c = (c .before .pre, λ g. join-start g)
@@ -60,34 +72,39 @@ returns c =
 
 member-requires : tie.Need-member-requires Inv-loop μ-loop
 member-requires c κs =
-    let t = c .before .before .before .before .before .before in
-    join-accessor (turn t (t .before .loop .inv .0)) (sym (c .before .before .before .operator-of .ensures) ∙ c .before .before .if1 .taken) (c .before .if2 .left)
+    let if1 = c .before .before in
+    let t = if1 .before .before .before .before in
+    join-accessor (turn t (t .before .loop .inv .0)) (sym (if1 .before .operator-of .ensures) ∙ if1 .if1 .taken) (c .before .if2 .left)
 
 loop-less : tie.Need-loop-less Inv-loop μ-loop
-loop-less c = let t = c .before .before .before .before .before .before .before .before .before in let h = t .loop-test .taken in omega arith
+loop-less c =
+    let t = c .before .before .before .before .before .before .before .before .before in
+    let h = t .loop-test .taken in
+    omega arith
 
 loop-again : tie.Need-loop-again Inv-loop μ-loop
 loop-again c =
-    let t = c .before .before .before .before .before .before .before .before .before in
+    let if2 = c .before .before .before .before in
+    let t = if2 .before .before .before .before .before in
     let v = t .before .loop .inv in
     let m = c .before .before .member in (
       v .0,
       λ g.
-          join-member (turn t g) (sym (c .before .before .before .before .before .before .operator-of .ensures) ∙ c .before .before .before .before .before .if1 .taken)
-          (c .before .before .before .before .if2 .left) (m .result) (m .last .0) (m .ensures),
+          join-member (turn t g) (sym (if2 .before .before .operator-of .ensures) ∙ if2 .before .if1 .taken)
+          (if2 .if2 .left) (m .result) (m .last .0) (m .ensures),
     )
 
 add-work : tie.Need-add-work Inv-loop μ-loop
-add-work c = let t = c .before .before .before .before in let v = t .before .loop .inv in omega (arith, bounds t .0, v .1 (v .0) .2 .long, t .before .before .before .good)
+add-work c = omega (arith, low (c .before .before .before .before))
 
 mul-work : tie.Need-mul-work Inv-loop μ-loop
-mul-work c = let t = c .before .before .before .before in let v = t .before .loop .inv in omega (arith, bounds t .0, v .1 (v .0) .2 .long, t .before .before .before .good)
+mul-work c = omega (arith, low (c .before .before .before .before))
 
 slice-write-work : tie.Need-slice-write-work Inv-loop μ-loop
 slice-write-work c = bounds (c .before .before .before .before) .0
 
 add-write : tie.Need-add-write Inv-loop μ-loop
-add-write c = let t = c .before .before .before .before in let v = t .before .loop .inv in omega (arith, bounds t .0, v .1 (v .0) .2 .long, t .before .before .before .good)
+add-write c = omega (arith, low (c .before .before .before .before))
 
 loop-less-2 : tie.Need-loop-less-2 Inv-loop μ-loop
 loop-less-2 c = let h = c .before .before .before .before .loop-test .taken in omega arith

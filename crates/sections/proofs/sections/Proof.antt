@@ -7,7 +7,8 @@ use borrow.Author.Needs.{needs}
 use lib.ListN.{length}
 use Rattle.nodes.specs.Store.{wd}
 use Rattle.sections.specs.Flat.{CanSection}
-use Rattle.sections.proofs.SectionWalk.{Walking, WalkTurn, walk-start, walk-turn, walk-look, walk-on, walk-differs, walk-done, walk-named, walk-unclosed}
+use Rattle.sections.proofs.SectionWalk.{Walking, WalkTurn, walk-start, walk-turn, walk-look, walk-on, walk-differs, walk-done}
+use Rattle.sections.proofs.SectionWalk.{walk-named, walk-unclosed}
 use Rattle.sections.proofs.MatchingLaws.{loses-nothing}
 use Rattle.sections.proofs.sections.Statement.{statement}
 use Rattle.sections.proofs.sections.Tie as tie
@@ -23,31 +24,40 @@ abbrev μ-open : tie.MeasureT-open
 
 abbrev Inv-tokens : tie.InvT-tokens
 Inv-tokens work₀ base n marks read₀ at₀ work read at =
-    CanSection work₀ base n × (at .depth ≡ 0) × ((g : CanSection work₀ base n) → Walking work₀ base n g work read (at .write) (at .depth) (at .index))
+    CanSection work₀ base n × (at .depth ≡ 0)
+    × ((g : CanSection work₀ base n) → Walking work₀ base n g work read (at .write) (at .depth) (at .index))
 
 abbrev μ-tokens : tie.MeasureT-tokens
 μ-tokens work₀ base n marks read₀ at₀ work read at = n - read
 
 -- the walk at the inner loop's head, from the outer loop's
 now-at : (c : tie.At-open Inv-open μ-open Inv-tokens μ-tokens) → let a = c .before .before .before .before .args in let w = c .open in
-    (g : CanSection (a .work .now) (a .base) (a .n)) → Walking (a .work .now) (a .base) (a .n) g (w .work) (w .read) (w .at .write) (w .at .depth) (w .at .index)
+    (g : CanSection (a .work .now) (a .base) (a .n))
+    → Walking (a .work .now) (a .base) (a .n) g (w .work) (w .read) (w .at .write) (w .at .depth) (w .at .index)
 now-at c g = c .open .inv .2 _ g (c .before .before .tokens .inv .2 g)
 
 -- there is a token to read
-inside : (c : tie.At-open Inv-open μ-open Inv-tokens μ-tokens) → let a = c .before .before .before .before .args in let w = c .open in a .base + w .read < length (w .work)
+inside : (c : tie.At-open Inv-open μ-open Inv-tokens μ-tokens)
+    → let a = c .before .before .before .before .args in
+    let w = c .open in
+    a .base + w .read < length (w .work)
 inside c = let g = c .before .before .before .before .pre in let v = now-at c g .2 in omega (arith, c .open .inv .1, v .long, g .room)
 
 -- it is looked at
-turn : {W₀ : List ℕ} (c : tie.At-open Inv-open μ-open Inv-tokens μ-tokens) → let a = c .before .before .before .before .args in let w = c .open in
+turn : {W₀ : List ℕ} (c : tie.At-open Inv-open μ-open Inv-tokens μ-tokens)
+    → let a = c .before .before .before .before .args in
+    let w = c .open in
     (g : CanSection W₀ (a .base) (a .n)) → Walking W₀ (a .base) (a .n) g (w .work) (w .read) (w .at .write) (w .at .depth) (w .at .index)
     → WalkTurn W₀ (a .base) (a .n) g (w .work) (w .read) (w .at .write) (w .at .depth) (w .at .index) (wd (w .work) (a .base + w .read))
 turn c g v = walk-turn (v .0) (v .1) (v .2) (c .open .inv .1) _ refl
 
 -- the walk goes on
-walked : {W₀ : List ℕ} (c : tie.After-struct-known Inv-open μ-open Inv-tokens μ-tokens) → let o = c .before .before .before .before .before .before .before .before .before in
+walked : {W₀ : List ℕ} (c : tie.After-struct-known Inv-open μ-open Inv-tokens μ-tokens)
+    → let o = c .before .before .before .before .before .before .before .before .before in
     let a = o .before .before .before .before .args in let w = o .open in let after = c .before .before .looked .given .0 .0 in
     (g : CanSection W₀ (a .base) (a .n)) → Walking W₀ (a .base) (a .n) g (w .work) (w .read) (w .at .write) (w .at .depth) (w .at .index)
-    → Walking W₀ (a .base) (a .n) g (c .before .before .before .before .before .before .look .last .0) (w .read + 1) (after .write) (after .depth) (after .index)
+    → Walking W₀ (a .base) (a .n) g (c .before .before .before .before .before .before .look .last .0) (w .read + 1) (after .write)
+    (after .depth) (after .index)
 walked c g v =
     let o = c .before .before .before .before .before .before .before .before .before in
     let r = c .before .before .before .before .before .before .look in
@@ -87,10 +97,15 @@ enum-known-looked : tie.Need-enum-known-looked Inv-open μ-open Inv-tokens μ-to
 enum-known-looked c = search needs
 
 tokens-less : tie.Need-tokens-less Inv-open μ-open Inv-tokens μ-tokens
-tokens-less c = let o = c .before .before .before .before .before .before .before .before .before .before in let h = o .open .inv in omega (arith, h .0, h .1)
+tokens-less c =
+    let o = c .before .before .before .before .before .before .before .before .before .before in
+    let h = o .open .inv in
+    omega (arith, h .0, h .1)
 
 tokens-again : tie.Need-tokens-again Inv-open μ-open Inv-tokens μ-tokens
-tokens-again c = let o = c .before .before .before .before .before .before .before .before .before .before in (o .before .before .tokens .inv .0, c .if2 .taken, λ g. walked (c .before) g (now-at o g))
+tokens-again c =
+    let o = c .before .before .before .before .before .before .before .before .before .before in
+    (o .before .before .tokens .inv .0, c .if2 .taken, λ g. walked (c .before) g (now-at o g))
 
 still-open-requires : tie.Need-still-open-requires Inv-open μ-open Inv-tokens μ-tokens
 still-open-requires c κs =
@@ -100,7 +115,10 @@ still-open-requires c κs =
     walk-named (walked s g (now-at o g) .2) (c .before .before .if2 .left)
 
 open-less : tie.Need-open-less Inv-open μ-open Inv-tokens μ-tokens
-open-less c = let o = c .before .before .before .before .before .before .before .before .before .before .before in let h = o .open .inv .1 in omega arith
+open-less c =
+    let o = c .before .before .before .before .before .before .before .before .before .before .before in
+    let h = o .open .inv .1 in
+    omega arith
 
 open-again : tie.Need-open-again Inv-open μ-open Inv-tokens μ-tokens
 open-again c =
@@ -133,14 +151,15 @@ same-length-2 c =
 
 returns-2 : tie.Need-returns-2 Inv-open μ-open Inv-tokens μ-tokens
 returns-2 c =
-    let s = c .before .before .before .before in
+    let if3 = c .before .before in
+    let s = if3 .before .before in
     let o = s .before .before .before .before .before .before .before .before .before in
     let pre = o .before .before .before .before .pre in
     loses-nothing
     (record {
       answer = λ g.
           let w = walked s g (now-at o g) in
-          walk-unclosed (w .0) (w .1) (w .2) (c .before .before .if3 .taken) (c .before .before .before .if2 .left) (c .still-open .result) (c .still-open .ensures);
+          walk-unclosed (w .0) (w .1) (w .2) (if3 .if3 .taken) (if3 .before .if2 .left) (c .still-open .result) (c .still-open .ensures);
       kept = λ g. walked s g (now-at o g) .2 .kept;
       long = walked s pre (now-at o pre) .2 .long;
     })
@@ -159,8 +178,10 @@ returns-3 c =
     let given = c .before .looked2 .given in
     loses-nothing
     (record {
-      answer = λ g. walk-differs (turn o g (now-at o g)) (r .result) (given .0 .0) (given .0 .1 .0) (r .last .0) (r .ensures .0) (given .1) .0;
-      kept = λ g. walk-differs (turn o g (now-at o g)) (r .result) (given .0 .0) (given .0 .1 .0) (r .last .0) (r .ensures .0) (given .1) .1;
+      answer = λ g.
+          walk-differs (turn o g (now-at o g)) (r .result) (given .0 .0) (given .0 .1 .0) (r .last .0) (r .ensures .0) (given .1) .0;
+      kept = λ g.
+          walk-differs (turn o g (now-at o g)) (r .result) (given .0 .0) (given .0 .1 .0) (r .last .0) (r .ensures .0) (given .1) .1;
       long = r .ensures .0 .long ∙ now-at o pre .2 .long;
     })
 

@@ -23,7 +23,8 @@ begun-after-requires c κs = search needs
 returns-2 : tie.Need-returns-2
 returns-2 c =
     let a = c .before .before .before .before .args in
-    uncalled-stops (fieldOf (a .field)) (a .variant) (shape (a .called) (a .begun)) (a .w) (omega (arith, c .before .begun-after .ensures (a .called) (a .w)))
+    uncalled-stops (fieldOf (a .field)) (a .variant) (shape (a .called) (a .begun)) (a .w)
+    (omega (arith, c .before .begun-after .ensures (a .called) (a .w)))
 
 called-after-requires : tie.Need-called-after-requires
 called-after-requires c κs = search needs

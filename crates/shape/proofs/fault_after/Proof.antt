@@ -36,7 +36,8 @@ returns : tie.Need-returns Inv-loop μ-loop
 returns c =
     let h = c .before .before .before .before in
     ap (withNumber 12)
-    (seen-fault (h .loop .inv) (c .before .before .before .loop-test .taken) (sym (c .before .continues .ensures) ∙ not-true _ (c .if1 .taken)))
+    (seen-fault (h .loop .inv) (c .before .before .before .loop-test .taken)
+    (sym (c .before .continues .ensures) ∙ not-true _ (c .if1 .taken)))
 
 variant-after-requires : tie.Need-variant-after-requires Inv-loop μ-loop
 variant-after-requires c κs = search needs
@@ -45,7 +46,9 @@ called-after-requires : tie.Need-called-after-requires Inv-loop μ-loop
 called-after-requires c κs = c .before .before .before .before .before .loop .inv .few
 
 begun-after-requires : tie.Need-begun-after-requires Inv-loop μ-loop
-begun-after-requires c κs = let seen = c .before .before .before .before .before .before .loop .inv in omega (arith, seen .enough, seen .few)
+begun-after-requires c κs =
+    let seen = c .before .before .before .before .before .before .loop .inv in
+    omega (arith, seen .enough, seen .few)
 
 next-requires : tie.Need-next-requires Inv-loop μ-loop
 next-requires c κs = search needs
@@ -58,9 +61,10 @@ loop-less c = search needs
 
 loop-again : tie.Need-loop-again Inv-loop μ-loop
 loop-again c =
-    let turn = c .before .before .before .before .before in
+    let test = c .before .before .before .before in
+    let turn = test .before in
     let h = turn .before .before .before in
-    seen-more (h .loop .inv) (turn .before .before .loop-test .taken) (sym (turn .continues .ensures) ∙ not-false _ (c .before .before .before .before .if1 .left))
+    seen-more (h .loop .inv) (turn .before .before .loop-test .taken) (sym (turn .continues .ensures) ∙ not-false _ (test .if1 .left))
     (c .next .ensures) (c .before .before .before .variant-after .ensures) (c .before .before .called-after .ensures (h .loop .begun))
     (c .before .begun-after .ensures (h .loop .called) _)
 

@@ -26,7 +26,8 @@ returns-3 c =
     let measured = judged .before in
     c .is-operator .ensures
     ∙ rw (c .before .operator .ensures)
-    (sym (by-number (measured .before .before .args .w) (measured .before .if1 .left) (rw (measured .variant .ensures) at (judged .if2 .left))))
+    (sym (by-number (measured .before .before .args .w) (measured .before .if1 .left)
+    (rw (measured .variant .ensures) at (judged .if2 .left))))
 
 pub is-operator-spec : {M : Type 1} → statement M
 is-operator-spec = tie.close (tie.spec returns variant-requires returns-2 operator-requires is-operator-requires returns-3)

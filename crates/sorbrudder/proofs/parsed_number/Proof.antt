@@ -37,4 +37,5 @@ returns-3 : tie.Need-returns-3
 returns-3 c = c .refusal .ensures ∙ sym (ap (λ (r : Answer). toldNumber (toldOf r)) (c .before .before .answer3 .given .1))
 
 pub parsed-number-spec : {M : Type 1} → statement M
-parsed-number-spec = tie.close (tie.spec enum-known-answer enum-known-answer-2 add-result enum-known-answer-3 refusal-requires returns returns-2 returns-3)
+parsed-number-spec =
+    tie.close (tie.spec enum-known-answer enum-known-answer-2 add-result enum-known-answer-3 refusal-requires returns returns-2 returns-3)

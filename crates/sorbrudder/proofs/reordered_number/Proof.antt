@@ -16,10 +16,12 @@ enum-known-reordered-2 : tie.Need-enum-known-reordered-2
 enum-known-reordered-2 c = search needs
 
 refusal-requires : tie.Need-refusal-requires
-refusal-requires c κs = subst (λ (o : ReorderTold). FitsReordered o) (ap told (c .before .reordered2 .given .1)) (c .before .before .before .pre)
+refusal-requires c κs =
+    subst (λ (o : ReorderTold). FitsReordered o) (ap told (c .before .reordered2 .given .1)) (c .before .before .before .pre)
 
 returns : tie.Need-returns
-returns c = sym (ap (λ (r : Reordered). reorderNumber (told r)) (c .before .reordered .given .1) ∙ zero-add (c .before .reordered .given .0 .0))
+returns c =
+    sym (ap (λ (r : Reordered). reorderNumber (told r)) (c .before .reordered .given .1) ∙ zero-add (c .before .reordered .given .0 .0))
 
 returns-2 : tie.Need-returns-2
 returns-2 c = c .refusal .ensures ∙ sym (ap (λ (r : Reordered). reorderNumber (told r)) (c .before .before .reordered2 .given .1))

@@ -14,7 +14,8 @@ export-requires c κs = search needs
 reordered-number-requires : tie.Need-reordered-number-requires
 reordered-number-requires c κs =
     let a = c .before .before .before .before .before .before .args in
-    subst (λ (o : ReorderTold). FitsReordered o) (sym (c .before .before .export .ensures .0)) (exported-fits (call (a .tree .now) (a .output .now)))
+    subst (λ (o : ReorderTold). FitsReordered o) (sym (c .before .before .export .ensures .0))
+    (exported-fits (call (a .tree .now) (a .output .now)))
 
 same-length : tie.Need-same-length
 same-length c = search needs

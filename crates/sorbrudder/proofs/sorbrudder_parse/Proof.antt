@@ -12,7 +12,8 @@ parse-requires : tie.Need-parse-requires
 parse-requires c κs = search needs
 
 parsed-number-requires : tie.Need-parsed-number-requires
-parsed-number-requires c κs = subst (λ (o : Told). FitsTold o) (sym (c .before .before .before .before .before .before .parse .ensures .told)) (told-fits _)
+parsed-number-requires c κs =
+    subst (λ (o : Told). FitsTold o) (sym (c .before .before .before .before .before .before .parse .ensures .told)) (told-fits _)
 
 same-length : tie.Need-same-length
 same-length c = search needs
@@ -25,9 +26,15 @@ same-length-3 c = search needs
 
 returns : tie.Need-returns
 returns c =
-    let version = toZ-ofZ (c .before .before .before .before .before .before .before .before .before .before .before .before .before .before .before .fits .version) in
-    let read = rw version at (c .before .before .before .before .before .before .before .parse .ensures) in
-    record { told = c .parsed-number .ensures ∙ ap toldNumber (read .told); tree = read .tree; messages = read .messages; work = read .work }
+    let parse = c .before .before .before .before .before .before .before in
+    let version = toZ-ofZ (parse .before .before .before .before .before .before .before .before .fits .version) in
+    let read = rw version at (parse .parse .ensures) in
+    record {
+      told = c .parsed-number .ensures ∙ ap toldNumber (read .told);
+      tree = read .tree;
+      messages = read .messages;
+      work = read .work;
+    }
 
 pub sorbrudder-parse-spec : {M : Type 1} → statement M
 sorbrudder-parse-spec =

@@ -14,7 +14,8 @@ write-requires c κs = search needs
 written-number-requires : tie.Need-written-number-requires
 written-number-requires c κs =
     let a = c .before .before .before .before .before .before .args in
-    subst (λ (o : WriteTold). FitsWritten o) (sym (c .before .before .write .ensures .0)) (written-fits (call (a .tree .now) (a .list .now)))
+    subst (λ (o : WriteTold). FitsWritten o) (sym (c .before .before .write .ensures .0))
+    (written-fits (call (a .tree .now) (a .list .now)))
 
 same-length : tie.Need-same-length
 same-length c = search needs

@@ -36,10 +36,14 @@ loop-less c = omega arith
 
 loop-again : tie.Need-loop-again Inv-loop μ-loop
 loop-again c =
-    let a = c .before .before .before .args in
-    let v = c .before .before .loop .inv in
-    let i = c .before .before .loop .i in
-    (omega arith, length-set (c .before .before .loop .out) (a .at + i) (getD (a .bytes .now) i 0) ∙ v .1, laid-next (a .out .now) (c .before .before .loop .out) (a .at) (a .bytes .now) i (c .before .before .before .pre) (omega arith) (v .2))
+    let at = c .before .before in
+    let a = at .before .args in
+    let v = at .loop .inv in
+    let i = at .loop .i in (
+      omega arith,
+      length-set (at .loop .out) (a .at + i) (getD (a .bytes .now) i 0) ∙ v .1,
+      laid-next (a .out .now) (at .loop .out) (a .at) (a .bytes .now) i (at .before .pre) (omega arith) (v .2),
+    )
 
 add-result : tie.Need-add-result Inv-loop μ-loop
 add-result c = omega arith

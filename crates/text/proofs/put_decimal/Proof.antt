@@ -26,8 +26,9 @@ same-length c = search needs
 
 returns : tie.Need-returns
 returns c =
-    let d = c .before .before .before .before .before .decimal in
-    wrote-decimal (c .before .before .before .before .before .before .before .before .args .n) (d .result) (omega arith) (d .ensures .1 .0) (d .ensures .1 .1) (c .before .before .put-bytes .ensures)
+    let d = c .before .before .before .before .before in
+    wrote-decimal (d .before .before .before .args .n) (d .decimal .result) (omega arith) (d .decimal .ensures .1 .0)
+    (d .decimal .ensures .1 .1) (c .before .before .put-bytes .ensures)
 
 pub put-decimal-spec : {M : Type 1} → statement M
 put-decimal-spec =

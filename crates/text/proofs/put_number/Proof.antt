@@ -22,7 +22,9 @@ same-length c = search needs
 
 returns : tie.Need-returns
 unfolding numbered
-returns c = wrote-then (omega arith) (c .before .before .before .before .before .before .before .put-decimal .ensures) (c .before .before .put-bytes .ensures)
+returns c =
+    wrote-then (omega arith) (c .before .before .before .before .before .before .before .put-decimal .ensures)
+    (c .before .before .put-bytes .ensures)
 
 pub put-number-spec : {M : Type 1} → statement M
 put-number-spec =

@@ -32,24 +32,27 @@ slice-aggregate-put-answer-2 c = search needs
 
 put-answer-requires : tie.Need-put-answer-requires
 put-answer-requires c κs =
-    let answer = c .before .before .before .before .before .answer in
-    let words = c .before .before .before .before .before .before .before .before .before .before .words-of .last .1 .0 in
-    let start = c .before .before .before .before .before .before .before .before .before .before .before .before .before .before in
-    rw (answer .ensures .0)
-    (printable (start .args .bytes) words (start .args .out .now) (answer .last .1 .1 .0) (answer .last .1 .1 .1 .0) (search needs) (search needs)
-    (search needs) (search needs))
+    let answer = c .before .before .before .before .before in
+    let words-of = answer .before .before .before .before .before in
+    let start = words-of .before .before .before .before in
+    let words = words-of .words-of .last .1 .0 in
+    rw (answer .answer .ensures .0)
+    (printable (start .args .bytes) words (start .args .out .now) (answer .answer .last .1 .1 .0) (answer .answer .last .1 .1 .1 .0)
+    (search needs) (search needs) (search needs) (search needs))
 
 same-length : tie.Need-same-length
 same-length c = search needs
 
 returns : tie.Need-returns
 returns c =
-    let start = c .before .before .before .before .before .before .before .before .before .before .before .before .before .before .before .before .before in
-    let words = c .before .before .before .before .before .before .before .before .before .before .before .before .before .words-of in
-    let answered = c .before .before .before .before .before .before .before .before .answer .ensures in
+    let answer = c .before .before .before .before .before .before .before .before in
+    let words = answer .before .before .before .before .before in
+    let start = words .before .before .before .before in
+    let answered = answer .answer .ensures in
     let put = c .before .before .put-answer .ensures in (
       (put .0, sym (length-take-le _ _ (put .0))),
-      rw (listed (start .args .bytes) (start .args .front .now) (words .last .1 .0) _ _ _ (words .ensures) (answered .0) (answered .1 .0) (answered .1 .1)) at (put .1),
+      rw (listed (start .args .bytes) (start .args .front .now) (words .words-of .last .1 .0) _ _ _ (words .words-of .ensures) (answered .0)
+          (answered .1 .0) (answered .1 .1)) at (put .1),
     )
 
 pub listing-spec : {M : Type 1} → statement M

@@ -13,7 +13,9 @@ mul-if2 : tie.Need-mul-if2
 mul-if2 c = search needs
 
 returns-2 : tie.Need-returns-2
-returns-2 c = too-short (c .before .before .before .before .pre) (c .before .before .before .before .args .list .now) (c .before .if1 .left) (c .if2 .taken)
+returns-2 c =
+    let start = c .before .before .before .before in
+    too-short (start .pre) (start .args .list .now) (c .before .if1 .left) (c .if2 .taken)
 
 shared-slice-read-operator : tie.Need-shared-slice-read-operator
 shared-slice-read-operator c =

@@ -14,7 +14,8 @@ use Rattle.write.proofs.write.Statement.{statement}
 use Rattle.write.proofs.write.Tie as tie
 
 -- No fault was found, so the words are one tree.
-whole : (c : tie.After-enum-told) → none ≡ treeFault 0 operatorField 0 (shape 1 0) (c .before .before .before .before .before .args .tree .now)
+whole : (c : tie.After-enum-told)
+    → none ≡ treeFault 0 operatorField 0 (shape 1 0) (c .before .before .before .before .before .args .tree .now)
 whole c =
     no-fault (c .before .before .before .before .before .args .tree .now)
     (ap refusalOf (sym (c .enum-told .given .1)) ∙ c .before .before .first-fault .ensures)

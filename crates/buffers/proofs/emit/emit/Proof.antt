@@ -1,4 +1,4 @@
--- `buffers::emit::emit` meets its contract.
+-- `buffers::emit::emit` meets its contract: the loop, by the laws of Emitting. Assumes nothing.
 use mathlib.Core.Path.{_≡_}
 use native.Mathlib.Omega.{arith}
 use lib.ListN.{length}
@@ -31,39 +31,61 @@ returns c =
 
 -- What a turn that has a node asks, and that the words are as many as they were.
 turn : (c : tie.Else1 Inv-loop μ-loop) → let a = c .before .before .before .before .args in let w = c .before .before .loop in
-    Turn (a .work .now) (a .first) (a .to) (a .stack) (w .inv .0) (w .work) (w .s) (w .top) (w .nodes) (w .fuel) × (length (w .work) ≡ length (a .work .now))
+    Turn (a .work .now) (a .first) (a .to) (a .stack) (w .inv .0) (w .work) (w .s) (w .top) (w .nodes) (w .fuel)
+    × (length (w .work) ≡ length (a .work .now))
 turn c =
     let a = c .before .before .before .before .args in
     let v = c .before .before .loop .inv in
     (emit-in (a .work .now) (a .first) (a .to) (a .stack) (v .0) (v .1) (c .if1 .left), v .1 .progress .long)
 
+first-of-requires : tie.Need-first-of-requires Inv-loop μ-loop
+first-of-requires c κs = let t = turn (c .before) in omega (arith, t .0 .slot, t .0 .low, t .0 .high, t .0 .node .room, t .1)
+
+next-of-requires : tie.Need-next-of-requires Inv-loop μ-loop
+next-of-requires c κs =
+    let t = turn (c .before .before .before) in
+    omega (arith, t .0 .slot, t .0 .low, t .0 .high, t .0 .node .room, t .1)
+
 mul-emit-node : tie.Need-mul-emit-node Inv-loop μ-loop
-mul-emit-node c = let t = turn (c .before) in omega (arith, t .0 .node .room, t .1)
+mul-emit-node c = let t = turn (c .before .before .before .before .before) in omega (arith, t .0 .node .room, t .1)
 
 add-emit-node : tie.Need-add-emit-node Inv-loop μ-loop
-add-emit-node c = let t = turn (c .before) in omega (arith, t .0 .node .room, t .1)
+add-emit-node c = let t = turn (c .before .before .before .before .before) in omega (arith, t .0 .node .room, t .1)
 
 emit-node-requires : tie.Need-emit-node-requires Inv-loop μ-loop
-emit-node-requires c κs = turn (c .before) .0 .node
+emit-node-requires c κs = turn (c .before .before .before .before .before) .0 .node
 
 add-nodes : tie.Need-add-nodes Inv-loop μ-loop
-add-nodes c = let t = turn (c .before .before .before .before) in omega (arith, t .0 .node .room, t .1)
+add-nodes c =
+    let written = c .before .before in
+    let t = turn (written .before .before .before .before .before .before) in
+    omega (arith, t .0 .node .room, t .1)
 
 node-after-requires : tie.Need-node-after-requires Inv-loop μ-loop
 node-after-requires c κs =
-    let t = turn (c .before .before .before .before .before) in
-    let long = c .before .before .before .emit-node .kept .0 in
-    (omega (arith, t .0 .slot, t .0 .low, t .0 .high, t .0 .node .room, long), t .0 .low, omega (arith, t .0 .high, t .0 .node .room, long))
+    let written = c .before .before .before in
+    let t = turn (written .before .before .before .before .before .before) in
+    (t .0 .low, omega (arith, t .0 .high, t .0 .node .room, written .emit-node .kept .0))
 
 loop-less : tie.Need-loop-less Inv-loop μ-loop
-loop-less c = let h = c .before .before .before .before .before .before .before .before .before .loop-test .taken in omega arith
+loop-less c =
+    let written = c .before .before .before .before .before .before in
+    let h = written .before .before .before .before .before .before .before .loop-test .taken in
+    omega arith
 
 loop-again : tie.Need-loop-again Inv-loop μ-loop
 loop-again c =
-    let e = c .before .before .before .before .before .before .before .before in
-    let a = e .before .before .before .before .args in
-    let v = e .before .before .loop .inv in
-    (v .0, emit-step (a .work .now) (a .first) (a .to) (a .stack) (v .0) (v .1) (e .if1 .left) (c .before .before .before .before .before .before .emit-node .ensures) (c .before .before .node-after .ensures))
+    let stepped = c .before .before in
+    let written = stepped .before .before .before .before in
+    let sibling = written .before .before in
+    let child = sibling .before .before in
+    let some = child .before .before in
+    let a = some .before .before .before .before .args in
+    let v = some .before .before .loop .inv in
+    let after = rw (child .first-of .ensures, sibling .next-of .ensures) at (stepped .node-after .ensures) in (
+      v .0,
+      emit-step (a .work .now) (a .first) (a .to) (a .stack) (v .0) (v .1) (some .if1 .left) (written .emit-node .ensures) after,
+    )
 
 same-length-2 : tie.Need-same-length-2 Inv-loop μ-loop
 same-length-2 c = c .before .loop .inv .1 .progress .long
@@ -84,6 +106,8 @@ emit-spec =
     sub-fuel
     same-length
     returns
+    first-of-requires
+    next-of-requires
     mul-emit-node
     add-emit-node
     emit-node-requires

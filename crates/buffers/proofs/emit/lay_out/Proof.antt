@@ -12,7 +12,8 @@ stack-of-requires : tie.Need-stack-of-requires
 stack-of-requires c κs = search needs
 
 emit-requires : tie.Need-emit-requires
-emit-requires c κs = rw (c .before .before .tree-of .ensures, c .stack-of .ensures) (lay-room (c .before .before .before .before .before .pre))
+emit-requires c κs =
+    rw (c .before .before .tree-of .ensures, c .stack-of .ensures) (lay-room (c .before .before .before .before .before .pre))
 
 mul-copy-tree : tie.Need-mul-copy-tree
 mul-copy-tree c =
@@ -38,7 +39,8 @@ returns : tie.Need-returns
 returns c =
     let e = c .before .before .before .before .before .before .before in
     let at = e .before .before .before .tree-of .ensures in
-    lay-done (e .before .before .before .before .before .before .pre) (rw (at, e .before .stack-of .ensures) at (e .emit .ensures)) (rw at at (c .before .before .copy-tree .ensures))
+    lay-done (e .before .before .before .before .before .before .pre) (rw (at, e .before .stack-of .ensures) at (e .emit .ensures))
+    (rw at at (c .before .before .copy-tree .ensures))
 
 pub lay-out-spec : {M : Type 1} → statement M
 lay-out-spec =

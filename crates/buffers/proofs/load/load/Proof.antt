@@ -23,9 +23,11 @@ loop-holds c = let a = c .before .before .before .before .args in load-start (a 
 
 load-token-requires : tie.Need-load-token-requires Inv-loop μ-loop
 load-token-requires c κs =
-    let e = c .before .before .before .before in
+    let at = c .before .before .before in
+    let e = at .before in
     rw (e .stack-of .ensures)
-    (load-in (e .before .before .before .before .pre) (c .before .before .before .loop .inv) (c .before .before .loop-test .taken) (e .before .class-table .ensures))
+    (load-in (e .before .before .before .before .pre) (at .loop .inv) (c .before .before .loop-test .taken)
+    (e .before .class-table .ensures))
 
 add-i : tie.Need-add-i Inv-loop μ-loop
 add-i c = omega arith
@@ -36,7 +38,8 @@ loop-less c = let h = c .before .before .before .before .before .loop-test .take
 loop-again : tie.Need-loop-again Inv-loop μ-loop
 loop-again c =
     let e = c .before .before .before .before .before in
-    load-step (e .before .loop .inv) (e .loop-test .taken) (rw (e .before .before .stack-of .ensures) at (c .before .before .load-token .ensures))
+    load-step (e .before .loop .inv) (e .loop-test .taken)
+    (rw (e .before .before .stack-of .ensures) at (c .before .before .load-token .ensures))
 
 same-length : tie.Need-same-length Inv-loop μ-loop
 same-length c = c .before .loop .inv .long

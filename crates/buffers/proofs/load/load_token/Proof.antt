@@ -16,11 +16,11 @@ mul-at c = search needs
 at-requires : tie.Need-at-requires
 at-requires c κs = search needs
 
-operator-requires : tie.Need-operator-requires
-operator-requires c κs = search needs
+operator-bits-requires : tie.Need-operator-bits-requires
+operator-bits-requires c κs = search needs
 
-leaf-classes-requires : tie.Need-leaf-classes-requires
-leaf-classes-requires c κs = search needs
+class-requires : tie.Need-class-requires
+class-requires c κs = search needs
 
 of-requires : tie.Need-of-requires
 of-requires c κs = search needs
@@ -50,9 +50,9 @@ returns c =
     let start = slot .before .before .before in
     let a = start .args in
     token-stores (a .list .now) (a .work .now) (a .table .now) (a .i) (a .stack) (start .pre) (laid .set-leaf .last .0)
-    (slot .slot-of .result) (classes .leaf-classes .result .0) (classes .before .operator .result) (slot .slot-of .ensures)
+    (slot .slot-of .result) (classes .class .result .0) (classes .before .operator-bits .result) (slot .slot-of .ensures)
     (rw (stored .of .ensures, token .at .ensures) at (laid .set-leaf .ensures))
-    (rw (token .at .ensures) at (classes .before .operator .ensures)) (classes .leaf-classes .ensures)
+    (rw (token .at .ensures) at (classes .before .operator-bits .ensures)) (classes .class .ensures)
 
 pub load-token-spec : {M : Type 1} → statement M
 load-token-spec =
@@ -62,8 +62,8 @@ load-token-spec =
     slot-of-requires
     mul-at
     at-requires
-    operator-requires
-    leaf-classes-requires
+    operator-bits-requires
+    class-requires
     of-requires
     set-leaf-requires
     add-work

@@ -11,7 +11,9 @@ is-leaf-requires : tie.Need-is-leaf-requires
 is-leaf-requires c κs = search needs
 
 returns : tie.Need-returns
-returns c = inner-leaf _ (c .before .before .before .args .item) (c .before .before .before .args .classes .0) (sym (c .before .is-leaf .ensures) ∙ c .if1 .taken)
+returns c =
+    inner-leaf _ (c .before .before .before .args .item) (c .before .before .before .args .classes .0)
+    (sym (c .before .is-leaf .ensures) ∙ c .if1 .taken)
 
 classes-of-requires : tie.Need-classes-of-requires
 classes-of-requires c κs = search needs
@@ -20,8 +22,11 @@ intersects-requires : tie.Need-intersects-requires
 intersects-requires c κs = search needs
 
 returns-2 : tie.Need-returns-2
-returns-2 c = let a = c .before .before .before .before .before .args in
-    c .intersects .ensures ∙ ap (λ (x : ℕ). shares x (a .classes .0)) (c .before .classes-of .ensures) ∙ inner-node _ (a .item) (a .classes .0) (sym (c .before .before .before .is-leaf .ensures) ∙ c .before .before .if1 .left)
+returns-2 c =
+    let test = c .before .before in
+    let a = test .before .before .before .args in
+    c .intersects .ensures ∙ ap (λ (x : ℕ). shares x (a .classes .0)) (c .before .classes-of .ensures)
+    ∙ inner-node _ (a .item) (a .classes .0) (sym (test .before .is-leaf .ensures) ∙ test .if1 .left)
 
 pub is-inner-spec : {M : Type 1} → statement M
 is-inner-spec =

@@ -19,13 +19,21 @@ shared-slice-read-item : tie.Need-shared-slice-read-item
 shared-slice-read-item c = search needs
 
 operator-of-requires : tie.Need-operator-of-requires
-operator-of-requires c κs = let a = c .before .before .before .before .before .args in c .before .before .before .before .before .pre .slot (omega (arith, c .before .before .if1 .left))
+operator-of-requires c κs =
+    let a = c .before .before .before .before .before in
+    a .pre .slot (omega (arith, c .before .before .if1 .left))
 
 returns-2 : tie.Need-returns-2
-returns-2 c = let a = c .before .before .before .before .before .before .before .args in next-if-found _ (a .list) (a .op) (c .before .before .before .before .if1 .left) (sym (c .before .operator-of .ensures) ∙ c .if2 .taken)
+returns-2 c =
+    let test = c .before .before .before .before in
+    let a = test .before .before .before .args in
+    next-if-found _ (a .list) (a .op) (test .if1 .left) (sym (c .before .operator-of .ensures) ∙ c .if2 .taken)
 
 returns-3 : tie.Need-returns-3
-returns-3 c = let a = c .before .before .before .before .before .before .before .args in next-if-other _ (a .list) (a .op) (c .before .before .before .before .if1 .left) (λ e. c .if2 .left (c .before .operator-of .ensures ∙ e))
+returns-3 c =
+    let test = c .before .before .before .before in
+    let a = test .before .before .before .args in
+    next-if-other _ (a .list) (a .op) (test .if1 .left) (λ e. c .if2 .left (c .before .operator-of .ensures ∙ e))
 
 pub next-if-spec : {M : Type 1} → statement M
 next-if-spec =

@@ -58,12 +58,14 @@ loop-less c = omega arith
 
 loop-again : tie.Need-loop-again Inv-loop μ-loop
 loop-again c =
-    let l = c .before .before .before .before .before .before .loop in
-    let start = c .before .before .before .before .before .before .before .before .before in
+    let at = c .before .before .before .before .before .before in
+    let start = at .before .before .before in
+    let l = at .loop in
     let long = length-set (l .words) (l .i) (c .word-of .result) in (
       omega arith,
       omega arith,
-      words-on (start .args .bytes .now) (l .words) (l .i) (omega (arith, start .pre)) (l .inv .2) (c .word-of .result) (omega arith) (c .word-of .ensures),
+      words-on (start .args .bytes .now) (l .words) (l .i) (omega (arith, start .pre)) (l .inv .2) (c .word-of .result) (omega arith)
+          (c .word-of .ensures),
     )
 
 same-length : tie.Need-same-length Inv-loop μ-loop
@@ -71,8 +73,9 @@ same-length c = c .before .loop .inv .1
 
 returns : tie.Need-returns Inv-loop μ-loop
 returns c =
+    let start = c .before .before .before .before in
     let l = c .before .loop in
-    let start = c .before .before .before .before in words-all (start .args .bytes .now) (l .words) (l .i) (omega (arith, start .pre)) (l .inv .2) (omega arith)
+    words-all (start .args .bytes .now) (l .words) (l .i) (omega (arith, start .pre)) (l .inv .2) (omega arith)
 
 pub words-of-spec : {M : Type 1} → statement M
 words-of-spec =

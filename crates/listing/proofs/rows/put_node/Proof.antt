@@ -60,10 +60,14 @@ same-length c = search needs
 
 returns : tie.Need-returns
 returns c =
-    let start = c .before .before .before .before .before .before .before .before .before .before .before .before .before .before .before in
+    let low3 = c .before .before .before .before .before in
+    let low2 = low3 .before .before in
+    let low = low2 .before .before in
+    let start = low .before .before .before .before .before .before in
     let tree = start .args .tree .now in
     let from = start .args .from in
-    node-laid tree from (c .before .before .before .before .before .before .before .before .before .before .before .operator .ensures) (c .before .before .before .before .before .low3 .ensures) (c .before .before .before .before .before .before .before .before .before .low .ensures) (c .before .before .before .before .before .before .before .low2 .ensures) (c .before .before .put-row .ensures)
+    node-laid tree from (low .before .before .operator .ensures) (low3 .low3 .ensures) (low .low .ensures) (low2 .low2 .ensures)
+    (c .before .before .put-row .ensures)
 
 pub put-node-spec : {M : Type 1} → statement M
 put-node-spec =

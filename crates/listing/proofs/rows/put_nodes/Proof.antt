@@ -25,8 +25,9 @@ mul-put-node c = omega arith
 
 put-node-requires : tie.Need-put-node-requires Inv-loop μ-loop
 put-node-requires c κs =
-    let l = c .before .before .loop in
-    let room = node-rows-length (l .i) (c .before .before .before .before .before .args .tree .now) in (omega (arith, l .inv .2 .ends), omega arith)
+    let at = c .before .before in
+    let room = node-rows-length (at .loop .i) (at .before .before .before .args .tree .now) in
+    (omega (arith, at .loop .inv .2 .ends), omega arith)
 
 add-i : tie.Need-add-i Inv-loop μ-loop
 add-i c = omega arith
@@ -36,8 +37,9 @@ loop-less c = omega arith
 
 loop-again : tie.Need-loop-again Inv-loop μ-loop
 loop-again c =
-    let l = c .before .before .before .before .before .loop in
-    let w = c .before .before .put-node .ensures in (omega arith, omega arith, nodes-on (omega arith) (c .before .before .before .before .before .before .before .before .args .tree .now) (l .i) (l .inv .2) w)
+    let at = c .before .before .before .before .before in
+    let w = c .before .before .put-node .ensures in
+    (omega arith, omega arith, nodes-on (omega arith) (at .before .before .before .args .tree .now) (at .loop .i) (at .loop .inv .2) w)
 
 same-length : tie.Need-same-length Inv-loop μ-loop
 same-length c = c .before .loop .inv .1

@@ -40,12 +40,15 @@ part-put-row-end c = omega arith
 
 put-row-requires : tie.Need-put-row-requires Inv-loop μ-loop
 put-row-requires c κs =
-    let l = c .before .before .before .loop in
-    let messages = c .before .before .before .before .before .before .args .messages .now in
-    let i = l .i in
+    let at = c .before .before .before in
+    let messages = at .before .before .before .args .messages .now in
+    let i = at .loop .i in
     let size : 8 * i + 8 - 8 * i ≡ 8 = omega arith in
-    let eights : length (take (8 * i + 8 - 8 * i) (drop (8 * i) messages)) ≡ 8 = omega (arith, length-take (8 * i + 8 - 8 * i) (drop (8 * i) messages), length-drop (8 * i) messages) in
-    let room = record-rows-length i messages (omega arith) in (omega (arith, l .inv .2 .ends), omega arith)
+    let eights : length (take (8 * i + 8 - 8 * i) (drop (8 * i) messages)) ≡ 8 =
+    omega (arith, length-take (8 * i + 8 - 8 * i) (drop (8 * i) messages), length-drop (8 * i) messages)
+    in
+    let room = record-rows-length i messages (omega arith) in
+    (omega (arith, at .loop .inv .2 .ends), omega arith)
 
 add-i : tie.Need-add-i Inv-loop μ-loop
 add-i c = omega arith
@@ -55,10 +58,11 @@ loop-less c = omega arith
 
 loop-again : tie.Need-loop-again Inv-loop μ-loop
 loop-again c =
-    let l = c .before .before .before .before .before .before .loop in
-    let i = l .i in
+    let at = c .before .before .before .before .before .before in
+    let i = at .loop .i in
     let size : 8 * i + 8 - 8 * i ≡ 8 = omega arith in
-    let w = c .before .before .put-row .ensures in (omega arith, omega arith, records-on (omega arith) (c .before .before .before .before .before .before .before .before .before .args .messages .now) i (l .inv .2) (rw size at w))
+    let w = rw size at (c .before .before .put-row .ensures) in
+    (omega arith, omega arith, records-on (omega arith) (at .before .before .before .args .messages .now) i (at .loop .inv .2) w)
 
 same-length : tie.Need-same-length Inv-loop μ-loop
 same-length c = c .before .loop .inv .1

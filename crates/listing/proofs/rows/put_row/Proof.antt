@@ -34,7 +34,8 @@ wide-requires c κs = tt
 
 put-number-requires : tie.Need-put-number-requires Inv-loop μ-loop
 put-number-requires c κs =
-    let l = c .before .before .before .before .loop in omega (arith, l .inv .2 .ends, spaced-length (l .i) (c .before .before .before .before .before .before .before .args .numbers .now))
+    let at = c .before .before .before .before in
+    omega (arith, at .loop .inv .2 .ends, spaced-length (at .loop .i) (at .before .before .before .args .numbers .now))
 
 add-i : tie.Need-add-i Inv-loop μ-loop
 add-i c = omega arith
@@ -44,9 +45,13 @@ loop-less c = omega arith
 
 loop-again : tie.Need-loop-again Inv-loop μ-loop
 loop-again c =
-    let l = c .before .before .before .before .before .before .before .loop in
-    let w = c .before .before .put-number .ensures in
-    (omega arith, omega arith, spaced-on (omega arith) (c .before .before .before .before .before .before .before .before .before .before .args .numbers .now) (l .i) _ (c .before .before .before .wide .ensures) (l .inv .2) w)
+    let at = c .before .before .before .before .before .before .before in
+    let w = c .before .before .put-number .ensures in (
+      omega arith,
+      omega arith,
+      spaced-on (omega arith) (at .before .before .before .args .numbers .now) (at .loop .i) _ (c .before .before .before .wide .ensures)
+          (at .loop .inv .2) w,
+    )
 
 mul-wide-2 : tie.Need-mul-wide-2 Inv-loop μ-loop
 mul-wide-2 c = omega arith
@@ -59,15 +64,17 @@ wide-requires-2 c κs = tt
 
 put-number-requires-2 : tie.Need-put-number-requires-2 Inv-loop μ-loop
 put-number-requires-2 c κs =
-    let l = c .before .before .before .before .loop in omega (arith, l .inv .2 .ends, spaced-length (l .i) (c .before .before .before .before .before .before .before .args .numbers .now))
+    let at = c .before .before .before .before in
+    omega (arith, at .loop .inv .2 .ends, spaced-length (at .loop .i) (at .before .before .before .args .numbers .now))
 
 same-length : tie.Need-same-length Inv-loop μ-loop
 same-length c = omega arith
 
 returns : tie.Need-returns Inv-loop μ-loop
 returns c =
-    let l = c .before .before .before .before .before .before .before .loop in
-    row-done (omega arith) (c .before .before .before .before .before .before .before .before .before .before .args .numbers .now) (l .i) _ (omega arith) (c .before .before .before .wide2 .ensures) (l .inv .2) (c .before .before .put-number2 .ensures)
+    let at = c .before .before .before .before .before .before .before in
+    row-done (omega arith) (at .before .before .before .args .numbers .now) (at .loop .i) _ (omega arith)
+    (c .before .before .before .wide2 .ensures) (at .loop .inv .2) (c .before .before .put-number2 .ensures)
 
 pub put-row-spec : {M : Type 1} → statement M
 put-row-spec =

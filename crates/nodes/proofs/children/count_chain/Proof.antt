@@ -1,4 +1,5 @@
--- `nodes::children::count_chain` meets its contract: a step of the count for the first slot, one for the second, then one at each turn of the loop.
+-- `nodes::children::count_chain` meets its contract: a step of the count for the first slot, one for the second, then one at each turn of
+-- the loop.
 use Prim.Native.Nat.{_-_, _^_, _≤_, _<_}
 use native.Mathlib.Omega.{arith}
 use lib.ListN.{length}
@@ -14,7 +15,9 @@ abbrev μ-loop : tie.MeasureT-loop
 μ-loop work first second s₀ n₀ s n = length work - n
 
 -- the first slot is counted
-one : (c : tie.After-next-of Inv-loop μ-loop) → let a = c .before .before .before .args in Counting (a .work .now) (a .first) (c .next-of .result) 1
+one : (c : tie.After-next-of Inv-loop μ-loop)
+    → let a = c .before .before .before .args in
+    Counting (a .work .now) (a .first) (c .next-of .result) 1
 one c =
     let v = count-start (c .before .before .before .pre) in
     rw (c .next-of .ensures) (count-step (v .0) (v .1) (c .before .if1 .left))

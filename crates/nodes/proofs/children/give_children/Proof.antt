@@ -41,7 +41,9 @@ set-next-requires : tie.Need-set-next-requires Inv-loop μ-loop
 set-next-requires c κs = bounds (c .before .before) .1
 
 classes-of-requires : tie.Need-classes-of-requires Inv-loop μ-loop
-classes-of-requires c κs = let b = bounds (c .before .before .before .before .before .before) in omega (arith, c .before .before .before .set-next .kept .0)
+classes-of-requires c κs =
+    let b = bounds (c .before .before .before .before .before .before) in
+    omega (arith, c .before .before .before .set-next .kept .0)
 
 union-requires : tie.Need-union-requires Inv-loop μ-loop
 union-requires c κs = tt
@@ -69,7 +71,9 @@ set-first-requires : tie.Need-set-first-requires Inv-loop μ-loop
 set-first-requires c κs = let v = c .before .before .loop .inv .2 in omega arith
 
 set-classes-requires : tie.Need-set-classes-requires Inv-loop μ-loop
-set-classes-requires c κs = let v = c .before .before .before .before .before .before .loop .inv .2 in omega (arith, c .before .before .before .set-first .kept .0)
+set-classes-requires c κs =
+    let v = c .before .before .before .before .before .before .loop .inv .2 in
+    omega (arith, c .before .before .before .set-first .kept .0)
 
 same-length : tie.Need-same-length Inv-loop μ-loop
 same-length c =

@@ -1,4 +1,5 @@
--- `parse::report::extent_of` meets its contract: the words of the linked trees are laid out, and the extent is read from them. Assumes nothing.
+-- `parse::report::extent_of` meets its contract: the words of the linked trees are laid out, and the extent is read from them. Assumes
+-- nothing.
 use borrow.Author.Needs.{needs}
 use native.Mathlib.Omega.{arith}
 use lib.ListN.{length-take}
@@ -50,13 +51,13 @@ same-length c = search needs
 
 returns : tie.Need-returns
 returns c =
-    let start = c .before .before .before .before .before .before .before .before .before .before in
+    let emit = c .before .before .before .before .before in
+    let to = emit .before .before .before in
+    let start = to .before .before in
     let a = start .args in
-    let to = c .before .before .before .before .before .before .before .before .tree-of in
-    let stack = c .before .before .before .before .before .before .stack-of in
-    let emit = c .before .before .before .before .before .emit in
-    measured (a .work .now) (emit .last .0) (a .first) (a .n) (to .result) (stack .result) (emit .result) (c .of-tree .result) (start .pre) (to .ensures)
-    (stack .ensures) (emit .ensures) (c .of-tree .ensures)
+    let stack = emit .before .stack-of in
+    measured (a .work .now) (emit .emit .last .0) (a .first) (a .n) (to .tree-of .result) (stack .result) (emit .emit .result)
+    (c .of-tree .result) (start .pre) (to .tree-of .ensures) (stack .ensures) (emit .emit .ensures) (c .of-tree .ensures)
 
 pub extent-of-spec : {M : Type 1} → statement M
 extent-of-spec =

@@ -25,8 +25,9 @@ and-requires c κs = search needs
 
 returns : tie.Need-returns
 returns c =
-    let op = c .before .before .before .before .before .operator-of .ensures in
-    with-last (c .and .ensures) (with-first (c .before .before .before .naming .ensures) (c .before .before .before .before .spanning .ensures) refl op)
+    let naming = c .before .before .before in
+    let op = naming .before .before .operator-of .ensures in
+    with-last (c .and .ensures) (with-first (naming .naming .ensures) (naming .before .spanning .ensures) refl op)
     (closer-read (c .before .before .closer-of .ensures) op) (c .before .operator-of2 .ensures) refl
 
 pub mismatched-spec : {M : Type 1} → statement M

@@ -17,7 +17,9 @@ naming-requires : tie.Need-naming-requires
 naming-requires c κs = search needs
 
 returns : tie.Need-returns
-returns c = with-first (c .naming .ensures) (c .before .before .before .at-slot .ensures) (c .before .before .operator-of .ensures) (c .before .host-value .ensures)
+returns c =
+    with-first (c .naming .ensures) (c .before .before .before .at-slot .ensures) (c .before .before .operator-of .ensures)
+    (c .before .host-value .ensures)
 
 pub naming-math-spec : {M : Type 1} → statement M
 naming-math-spec =

@@ -19,9 +19,10 @@ same-length c = search needs
 
 returns : tie.Need-returns
 returns c =
-    let a = c .before .before .before .before .before .before .args in
-    c .before .before .put .ensures
-    ∙ ap (λ (ws : List ℕ). laidAt (a .at) ws (a .messages .now)) (ap wordsOf (c .before .before .before .new .ensures) ∙ no-roots-words (a .source))
+    let put = c .before .before in
+    let a = put .before .before .before .before .args in
+    put .put .ensures
+    ∙ ap (λ (ws : List ℕ). laidAt (a .at) ws (a .messages .now)) (ap wordsOf (put .before .new .ensures) ∙ no-roots-words (a .source))
 
 pub no-roots-spec : {M : Type 1} → statement M
 no-roots-spec = tie.close (tie.spec new-requires put-requires same-length returns)

@@ -33,7 +33,9 @@ enum-known-failure-3 : tie.Need-enum-known-failure-3
 enum-known-failure-3 c = search needs
 
 naming-requires : tie.Need-naming-requires
-naming-requires c κs = let slots = slots-at (c .before .before .before .before) (c .before .failure3 .given .1) in (slots .0, slots .1, slots .0)
+naming-requires c κs =
+    let slots = slots-at (c .before .before .before .before) (c .before .failure3 .given .1) in
+    (slots .0, slots .1, slots .0)
 
 enum-known-failure-4 : tie.Need-enum-known-failure-4
 enum-known-failure-4 c = search needs
@@ -63,7 +65,9 @@ enum-known-failure-8 : tie.Need-enum-known-failure-8
 enum-known-failure-8 c = search needs
 
 naming-requires-2 : tie.Need-naming-requires-2
-naming-requires-2 c κs = let slots = slots-at (c .before .before .before .before) (c .before .failure8 .given .1) in (slots .0, slots .0, slots .0)
+naming-requires-2 c κs =
+    let slots = slots-at (c .before .before .before .before) (c .before .failure8 .given .1) in
+    (slots .0, slots .0, slots .0)
 
 enum-known-failure-9 : tie.Need-enum-known-failure-9
 enum-known-failure-9 c = search needs
@@ -81,19 +85,25 @@ enum-known-failure-11 : tie.Need-enum-known-failure-11
 enum-known-failure-11 c = search needs
 
 naming-requires-3 : tie.Need-naming-requires-3
-naming-requires-3 c κs = let slots = slots-at (c .before .before .before .before) (c .before .failure11 .given .1) in (slots .0, slots .0, slots .1)
+naming-requires-3 c κs =
+    let slots = slots-at (c .before .before .before .before) (c .before .failure11 .given .1) in
+    (slots .0, slots .0, slots .1)
 
 enum-known-failure-12 : tie.Need-enum-known-failure-12
 enum-known-failure-12 c = search needs
 
 naming-requires-4 : tie.Need-naming-requires-4
-naming-requires-4 c κs = let slots = slots-at (c .before .before .before .before) (c .before .failure12 .given .1) in (slots .0, slots .0, slots .0)
+naming-requires-4 c κs =
+    let slots = slots-at (c .before .before .before .before) (c .before .failure12 .given .1) in
+    (slots .0, slots .0, slots .0)
 
 enum-known-failure-13 : tie.Need-enum-known-failure-13
 enum-known-failure-13 c = search needs
 
 naming-requires-5 : tie.Need-naming-requires-5
-naming-requires-5 c κs = let slots = slots-at (c .before .before .before .before) (c .before .failure13 .given .1) in (slots .0, slots .0, slots .0)
+naming-requires-5 c κs =
+    let slots = slots-at (c .before .before .before .before) (c .before .failure13 .given .1) in
+    (slots .0, slots .0, slots .0)
 
 returns : tie.Need-returns
 returns c = rw (c .before .before .failure .given .1) (c .at-slot .ensures)

@@ -15,10 +15,11 @@ same-length c = search needs
 
 returns : tie.Need-returns
 returns c =
-    let a = c .before .before .before .before .before .before .before .before .before .before .args in
-    let first = c .before .before .before .before .before .before .report in
+    let first = c .before .before .before .before .before .before in
+    let a = first .before .before .before .before .args in
     let second = c .before .before .no-roots in
-    pointer-reported (a .work .now) (a .messages .now) (first .last .1 .0) (second .last .0) (a .source) (a .failure) (first .ensures) (second .ensures)
+    pointer-reported (a .work .now) (a .messages .now) (first .report .last .1 .0) (second .last .0) (a .source) (a .failure)
+    (first .report .ensures) (second .ensures)
 
 pub report-pointer-spec : {M : Type 1} → statement M
 report-pointer-spec = tie.close (tie.spec report-requires no-roots-requires same-length returns)

@@ -1,4 +1,5 @@
--- `parse::report::report_roots` meets its contract: the first tree's extent, then the last one's, over words whose slots are the same. Assumes nothing.
+-- `parse::report::report_roots` meets its contract: the first tree's extent, then the last one's, over words whose slots are the same.
+-- Assumes nothing.
 use borrow.Author.Needs.{needs}
 use Prim.Native.Nat.{ℕ}
 use mathlib.Core.Path.{refl, ap, _∙_}
@@ -26,7 +27,8 @@ extent-of-requires-2 c κs =
     let start = c .before .before .before .before .before .before .before .before .before .before .before in
     let a = start .args in
     let first = c .before .before .before .extent-of in
-    last-measure (a .work .now) (first .last .0) (a .head) (a .n) (first .result) (first .ensures) (start .pre) (c .before .before .before .before .before .last-of-chain .ensures)
+    last-measure (a .work .now) (first .last .0) (a .head) (a .n) (first .result) (first .ensures) (start .pre)
+    (c .before .before .before .before .before .last-of-chain .ensures)
 
 new-requires : tie.Need-new-requires
 new-requires c κs = search needs
@@ -35,7 +37,10 @@ naming-requires : tie.Need-naming-requires
 naming-requires c κs = search needs
 
 put-requires : tie.Need-put-requires
-put-requires c κs = omega (arith, c .before .before .before .before .before .before .before .before .before .before .before .before .before .before .before .before .before .pre .room)
+put-requires c κs =
+    let second = c .before .before .before .before .before in
+    let start = second .before .before .before .before .before .before .before .before .before .before .before .before in
+    omega (arith, start .pre .room)
 
 same-length : tie.Need-same-length
 same-length c = search needs
@@ -45,17 +50,19 @@ same-length-2 c = search needs
 
 returns : tie.Need-returns
 returns c =
-    let start = c .before .before .before .before .before .before .before .before .before .before .before .before .before .before .before .before .before .before .before .before in
+    let put = c .before .before in
+    let new = put .before .before in
+    let first = new .before .before .before .before .before .before .before .before in
+    let number = first .before .before .before .before in
+    let start = number .before .before .before .before in
     let a = start .args in
-    let number = c .before .before .before .before .before .before .before .before .before .before .before .before .before .before .before .before .count-chain in
-    let tail = c .before .before .before .before .before .before .before .before .before .before .before .before .before .before .last-of-chain in
-    let first = c .before .before .before .before .before .before .before .before .before .before .before .before .extent-of in
-    let last = c .before .before .before .before .before .before .before .before .extent-of2 in
-    let put = c .before .before .put in
-    let words = ap wordsOf (with-first (c .before .before .before .naming .ensures) (c .before .before .before .before .new .ensures) refl refl) in
-    roots-reported (a .work .now) (first .last .0) (a .head) (a .n) (first .result) (first .ensures) (a .messages .now) (put .last .0) (last .last .0)
-    (tail .result) (number .result) (last .result) (start .pre) (number .ensures) (tail .ensures) (last .ensures)
-    (put .ensures ∙ ap (λ (ws : List ℕ). laidAt 0 ws (a .messages .now)) words)
+    let tail = first .before .before .last-of-chain in
+    let last = new .before .before .before .before .extent-of2 in
+    let words = ap wordsOf (with-first (put .before .naming .ensures) (new .new .ensures) refl refl) in
+    roots-reported (a .work .now) (first .extent-of .last .0) (a .head) (a .n) (first .extent-of .result) (first .extent-of .ensures)
+    (a .messages .now) (put .put .last .0) (last .last .0) (tail .result) (number .count-chain .result) (last .result) (start .pre)
+    (number .count-chain .ensures) (tail .ensures) (last .ensures)
+    (put .put .ensures ∙ ap (λ (ws : List ℕ). laidAt 0 ws (a .messages .now)) words)
 
 pub report-roots-spec : {M : Type 1} → statement M
 report-roots-spec =

@@ -21,13 +21,13 @@ same-length c = search needs
 
 returns : tie.Need-returns
 returns c =
-    let a = c .before .before .before .before .before .before .before .before .before .before .before .before .args in
-    let first = c .before .before .before .before .before .before .before .before .unclosed in
-    let second = c .before .before .before .not-closed in
-    let put = c .before .before .before .before .before .before .before .put in
-    let put2 = c .before .before .put2 in
-    unclosed-reported (a .work .now) (a .messages .now) (put .last .0) (put2 .last .0) (a .u) (first .result) (second .result) (put .ensures) (first .ensures)
-    (put2 .ensures) (second .ensures)
+    let put2 = c .before .before in
+    let put = put2 .before .before .before .before .before in
+    let a = put .before .before .before .before .before .args in
+    let first = put .before .unclosed in
+    let second = put2 .before .not-closed in
+    unclosed-reported (a .work .now) (a .messages .now) (put .put .last .0) (put2 .put2 .last .0) (a .u) (first .result) (second .result)
+    (put .put .ensures) (first .ensures) (put2 .put2 .ensures) (second .ensures)
 
 pub report-unclosed-spec : {M : Type 1} → statement M
 report-unclosed-spec =

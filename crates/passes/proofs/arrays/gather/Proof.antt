@@ -1,3 +1,4 @@
+-- `gather`: its loop turns the chain of the index's children onto the array's (ArrayChain).
 use native.Mathlib.Omega.{arith}
 use lib.ListN.{length}
 use Rattle.passes.proofs.ArrayChain.{Gathering, gather-start, gather-in, gather-step, gather-done, toTurn, gather-falls}

@@ -1,4 +1,4 @@
--- `turn_round`: the loop's laws are ArrayChain'.
+-- `turn_round`: its loop turns the array's chain round (ArrayChain).
 use native.Mathlib.Omega.{arith}
 use Prim.Native.Nat.{ℕ}
 use mathlib.Core.Path.{ap, _∙_}

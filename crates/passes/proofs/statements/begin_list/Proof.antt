@@ -1,3 +1,4 @@
+-- `begin_list`: the list's node is there already, or is made.
 use native.Mathlib.Omega.{arith}
 use Rattle.passes.specs.Statements.{there, begun}
 use borrow.Author.Needs.{needs}

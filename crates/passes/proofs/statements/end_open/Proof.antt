@@ -1,3 +1,4 @@
+-- `end_open`: no statement is open, or the open one is ended in the spare slot after the last finished one's.
 use Prim.Native.Nat.{_<_}
 use native.Mathlib.Omega.{arith}
 use Rattle.passes.specs.Statements.{complete, closing}

@@ -1,3 +1,4 @@
+-- `end_statement`: a new node takes the items and stands in the word of the first of them.
 use mathlib.Core.Path.{refl, _∙_}
 use native.Mathlib.Omega.{arith}
 use Rattle.nodes.proofs.Runs.{set-long}

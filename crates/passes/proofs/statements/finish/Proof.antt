@@ -1,3 +1,4 @@
+-- `finish`: the open statement is ended, and the list's node takes all statements (StatementFinish).
 use Prim.Native.Nat.{ℕ}
 use mathlib.Core.Path.{refl, ap, _∙_}
 use native.Mathlib.Omega.{arith}

@@ -1,3 +1,4 @@
+-- `has_semicolon`: no item before i is a semicolon, whatever forest the list is (StatementLaws).
 use Prim.Native.Nat.{_-_}
 use mathlib.Core.Path.{_≡_, refl, sym, _∙_}
 use native.Mathlib.Omega.{arith}

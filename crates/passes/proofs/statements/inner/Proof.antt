@@ -1,3 +1,4 @@
+-- `inner`: the node is entered, or kept as it is.
 use mathlib.Core.Path.{sym, ap, _∙_}
 use Rattle.molang.specs.Statements.{isEntered}
 use Rattle.passes.specs.Statements.{entered, kept}

@@ -1,3 +1,4 @@
+-- `semicolon`: it stands first, or after another, or ends the open statement (StatementSemicolon).
 use mathlib.Core.Path.{_∙_}
 use Rattle.passes.specs.Statements.{leading, again}
 use Rattle.passes.proofs.StatementSemicolon.{can-end-give, semicolon-ended}

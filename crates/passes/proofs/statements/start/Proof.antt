@@ -1,3 +1,4 @@
+-- `start`: the list is split where it has a semicolon (StatementLaws).
 use Rattle.passes.proofs.StatementLaws.{started-split, started-unsplit}
 use borrow.Author.Needs.{needs}
 use Rattle.passes.proofs.statements.start.Statement.{statement}

@@ -1,3 +1,4 @@
+-- `step`: what `next_token` stops at is the end, a node (StatementSplit) or a semicolon (StatementSemicolon).
 use Rattle.passes.proofs.StatementSemicolon.{can-end, turned-split-semicolon}
 use Rattle.passes.proofs.StatementSplit.{split-view, split-seek, turned-split-over, turned-split-inner, split-room}
 use borrow.Author.Needs.{needs}

@@ -52,7 +52,7 @@ next c =
     laying-digit list (c .before .before .find-length .result .length) _ (at .size) (at .left) (at .words) (at .i) (at .inv)
     (alphabet list (start .pre .alphabet) .some) (c .loop-test .taken)
 
--- It is a place in the alphabet.
+-- It is an index of the alphabet.
 first : (c : tie.After-take-digit Inv-loop μ-loop)
     → c .take-digit .result .first < length (c .before .before .before .before .before .args .alphabet .now)
 first c = rw (c .take-digit .ensures .0) (next (c .before) .first)

@@ -63,14 +63,16 @@ same-length c = search needs
 
 returns : tie.Need-returns
 returns c =
-    let start = c .before .before .before .before .before .before .before .before .before in
+    let at = c .before .before .before .before .before .before in
+    let start = at .before .before .before in
     let a = start .args in
     let W = a .words .now in
     let from = a .from - nodeLength in
     let to = a .to - nodeLength in
     let k = fiveWords (tokenWordsAt W from) in
-    rw (c .before .before .lay .ensures, c .before .before .before .before .before .before .at .ensures)
-    (ap (λ (l : List ℕ). set l (to + 6) (getD W (from + 6) 0)) (laid-more k (a .output .now) to (getD W (from + 5) 0) (omega (arith, start .pre)))
+    rw (c .before .before .lay .ensures, at .at .ensures)
+    (ap (λ (l : List ℕ). set l (to + 6) (getD W (from + 6) 0))
+    (laid-more k (a .output .now) to (getD W (from + 5) 0) (omega (arith, start .pre)))
     ∙ laid-more (k ++ (getD W (from + 5) 0 ∷ [])) (a .output .now) to (getD W (from + 6) 0) (omega (arith, start .pre)))
 
 pub copy-spec : {M : Type 1} → statement M

@@ -14,7 +14,9 @@ mul-wide : tie.Need-mul-wide
 mul-wide c = let start = c .before .before .before in omega (arith, start .pre .0 .waits (start .pre .1), c .next .ensures)
 
 slice-read-wide : tie.Need-slice-read-wide
-slice-read-wide c = let start = c .before .before .before .before in omega (arith, start .pre .0 .waits (start .pre .1), c .before .next .ensures)
+slice-read-wide c =
+    let start = c .before .before .before .before in
+    omega (arith, start .pre .0 .waits (start .pre .1), c .before .next .ensures)
 
 wide-requires : tie.Need-wide-requires
 wide-requires c κs = search needs
@@ -23,10 +25,14 @@ add-left : tie.Need-add-left
 add-left c = search needs
 
 mul-left : tie.Need-mul-left
-mul-left c = let start = c .before .before .before .before .before in omega (arith, start .pre .0 .waits (start .pre .1), c .before .before .next .ensures)
+mul-left c =
+    let start = c .before .before .before .before .before in
+    omega (arith, start .pre .0 .waits (start .pre .1), c .before .before .next .ensures)
 
 slice-read-left : tie.Need-slice-read-left
-slice-read-left c = let start = c .before .before .before .before .before .before in omega (arith, start .pre .0 .waits (start .pre .1), c .before .before .before .next .ensures)
+slice-read-left c =
+    let start = c .before .before .before .before .before .before in
+    omega (arith, start .pre .0 .waits (start .pre .1), c .before .before .before .next .ensures)
 
 copy-requires : tie.Need-copy-requires
 copy-requires c κs = search needs

@@ -15,12 +15,18 @@ Inv-loop words output₀ direction start last past cursor₀ output cursor = (g 
 abbrev μ-loop : tie.MeasureT-loop
 μ-loop words output₀ direction start last past cursor₀ output cursor = wayOf direction words cursor
 
--- Where the walk begins, and the last place.
-starts : (c : tie.After-first2 Inv-loop μ-loop) → c .before .before .first .result ≡ firstEnd (c .before .before .before .before .before .args .direction) (length (c .before .before .before .before .before .args .words .now))
+-- Where the first node of the walk ends, and where the last one does.
+starts : (c : tie.After-first2 Inv-loop μ-loop) →
+    let a = c .before .before .before .before .before .args in
+    c .before .before .first .result ≡ firstEnd (a .direction) (length (a .words .now))
 starts c = c .before .before .first .ensures
 
-lasts : (c : tie.After-first2 Inv-loop μ-loop) → c .first2 .result ≡ firstEnd (otherWay (c .before .before .before .before .before .args .direction)) (length (c .before .before .before .before .before .args .words .now))
-lasts c = c .first2 .ensures ∙ ap (λ (d : Direction). firstEnd d (length (c .before .before .before .before .before .args .words .now))) (c .before .turned .ensures)
+lasts : (c : tie.After-first2 Inv-loop μ-loop) →
+    let a = c .before .before .before .before .before .args in
+    c .first2 .result ≡ firstEnd (otherWay (a .direction)) (length (a .words .now))
+lasts c =
+    let a = c .before .before .before .before .before .args in
+    c .first2 .ensures ∙ ap (λ (d : Direction). firstEnd d (length (a .words .now))) (c .before .turned .ensures)
 
 first-requires : tie.Need-first-requires Inv-loop μ-loop
 first-requires c κs = search needs
@@ -48,14 +54,15 @@ loop-less c =
     let turned = c .before .before in
     let at = turned .before .before .before .before in
     let g = at .before .before .before .before .before .before .before .pre in
-    less g (starts (at .before .before)) (lasts (at .before .before)) (at .before .next .ensures) (at .loop .inv g) (turned .before .before .if1 .taken) (turned .turn .ensures)
+    less g (starts (at .before .before)) (lasts (at .before .before)) (at .before .next .ensures) (at .loop .inv g)
+    (turned .before .before .if1 .taken) (turned .turn .ensures)
 
 loop-again : tie.Need-loop-again Inv-loop μ-loop
 loop-again c =
     let turned = c .before .before in
     let at = turned .before .before .before .before in
-    λ g. again g (starts (at .before .before)) (lasts (at .before .before)) (at .before .next .ensures) (at .loop .inv g) (turned .before .before .if1 .taken)
-    (turned .turn .ensures)
+    λ g. again g (starts (at .before .before)) (lasts (at .before .before)) (at .before .next .ensures) (at .loop .inv g)
+    (turned .before .before .if1 .taken) (turned .turn .ensures)
 
 same-length : tie.Need-same-length Inv-loop μ-loop
 same-length c = let at = c .before .before in at .loop .inv (at .before .before .before .before .before .before .before .pre) .at .same-long
@@ -63,9 +70,10 @@ same-length c = let at = c .before .before in at .loop .inv (at .before .before 
 returns : tie.Need-returns Inv-loop μ-loop
 returns c =
     let at = c .before .before in
-    let room = at .before .before .before .before .before .before .before .pre .room in
+    let start = at .before .before .before .before .before .before .before in
+    let room = start .pre .room in
     λ t.
-    let g : CanReorder (at .before .before .before .before .before .before .before .args .direction) (at .before .before .before .before .before .before .before .args .words .now) (at .before .before .before .before .before .before .before .args .output .now) = record { one = t; room = room } in
+    let g : CanReorder (start .args .direction) (start .args .words .now) (start .args .output .now) = record { one = t; room = room } in
     ends g (starts (at .before .before)) (lasts (at .before .before)) (at .before .next .ensures) (at .loop .inv g) (c .if1 .left)
 
 pub reorder-spec : {M : Type 1} → statement M

@@ -25,7 +25,9 @@ mul-low : tie.Need-mul-low
 mul-low c = let start = c .before .before .before .before .before in omega (arith, start .pre .unread (c .before .if1 .left))
 
 shared-slice-read-low : tie.Need-shared-slice-read-low
-shared-slice-read-low c = let start = c .before .before .before .before .before .before in omega (arith, start .pre .unread (c .before .before .if1 .left))
+shared-slice-read-low c =
+    let start = c .before .before .before .before .before .before in
+    omega (arith, start .pre .unread (c .before .before .if1 .left))
 
 low-requires : tie.Need-low-requires
 low-requires c κs = search needs
@@ -40,7 +42,8 @@ returns-2 : tie.Need-returns-2
 returns-2 c =
     let passed = c .before .before in
     let counted = passed .before .before .before in
-    passes (counted .before .before .before .if1 .left) (sym (counted .low .ensures) ∙ passed .before .before .if2 .taken) (passed .pass .ensures .0) (passed .pass .ensures .1)
+    passes (counted .before .before .before .if1 .left) (sym (counted .low .ensures) ∙ passed .before .before .if2 .taken)
+    (passed .pass .ensures .0) (passed .pass .ensures .1)
 
 enter-requires : tie.Need-enter-requires
 enter-requires c κs = search needs
@@ -52,8 +55,8 @@ returns-3 : tie.Need-returns-3
 returns-3 c =
     let entered = c .before .before in
     let counted = entered .before .before .before in
-    enters (counted .before .before .before .if1 .left) (λ e. entered .before .before .if2 .left (counted .low .ensures ∙ e)) (rw (counted .low .ensures) at (entered .enter .ensures .0))
-    (entered .enter .ensures .1)
+    enters (counted .before .before .before .if1 .left) (λ e. entered .before .before .if2 .left (counted .low .ensures ∙ e))
+    (rw (counted .low .ensures) at (entered .enter .ensures .0)) (entered .enter .ensures .1)
 
 pub turn-spec : {M : Type 1} → statement M
 turn-spec =

@@ -64,7 +64,9 @@ read-list-requires c κs =
     let n = count at in
     let words = start at .args .words .now in
     let fit = counts at in
-    let whole : length (take (n + 1 - 1) (drop 1 words)) ≡ n = omega (arith, fit, length-take (n + 1 - 1) (drop 1 words), length-drop 1 words) in
+    let whole : length (take (n + 1 - 1) (drop 1 words)) ≡ n =
+    omega (arith, fit, length-take (n + 1 - 1) (drop 1 words), length-drop 1 words)
+    in
     record {
       few = omega (arith, fit);
       whole = rw whole (fit .2);
@@ -90,13 +92,17 @@ same-length-2 c = search needs
 
 returns-2 : tie.Need-returns-2
 returns-2 c =
-    let version = c .before .before .before .before .before .before .before .before .before .before .version-of in
-    let at = c .before .before .before .before .before .before .before .before .before .before .before in
+    let read-list = c .before .before .before .before .before in
+    let at = read-list .before .before .before .before .before .before in
+    let version = read-list .before .before .before .before .before .version-of in
     let bytes = start at .args .bytes in
     let words = start at .args .words .now in
     let fault = read-fault bytes words (count at) (goes at) (counts at .0) in
-    let answered = read-answer bytes words (count at) (toZ w16 (ofZ w16 (version .result))) (counts at .0) (toZ-ofZ {w = w16} {z = version .result} (record { sfits = version .ok }) ∙ version .ensures) in
-    let read = c .before .before .before .before .before .read-list .ensures in
+    let answered =
+    read-answer bytes words (count at) (toZ w16 (ofZ w16 (version .result))) (counts at .0)
+    (toZ-ofZ {w = w16} {z = version .result} (record { sfits = version .ok }) ∙ version .ensures)
+    in
+    let read = read-list .read-list .ensures in
     (rw (fault, answered) at (read .0), (rw (fault, answered) at (read .1 .0), rw (fault, answered) at (read .1 .1)))
 
 pub answer-spec : {M : Type 1} → statement M

@@ -24,8 +24,9 @@ sub-words c = search needs
 returns-4 : tie.Need-returns-4
 unfolding listLength
 returns-4 c =
-    let a = c .before .before .before .before .args in
-    (turned-words (a .bytes) (a .first) (c .before .before .before .if1 .left) (c .before .before .if2 .left) (omega arith) (c .if4 .taken), tt)
+    let if2 = c .before .before in
+    let a = if2 .before .before .args in
+    (turned-words (a .bytes) (a .first) (if2 .before .if1 .left) (if2 .if2 .left) (omega arith) (c .if4 .taken), tt)
 
 returns-5 : tie.Need-returns-5
 unfolding listLength

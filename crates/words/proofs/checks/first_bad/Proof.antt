@@ -8,7 +8,8 @@ use Rattle.molang.specs.Words.{operatorField, startField, endField, upperField,
 use Rattle.words.specs.Fields.{variantOf}
 use Rattle.words.specs.Checks.{numberOf}
 use Rattle.words.specs.Tokens.{fiveWords}
-use Rattle.words.proofs.CheckLaws.{first-bad, last-word, start-tests, end-tests, upper-tests, lower-tests, after-first, after-start, after-end, after-upper}
+use Rattle.words.proofs.CheckLaws.{first-bad, last-word, start-tests, end-tests, upper-tests, lower-tests, after-first, after-start}
+use Rattle.words.proofs.CheckLaws.{after-end, after-upper}
 use Rattle.words.proofs.checks.first_bad.Statement.{statement}
 use Rattle.words.proofs.checks.first_bad.Tie as tie
 
@@ -19,7 +20,8 @@ whole s = wordsRefusal (s .args .at) operatorField 0 (fiveWords (s .args .words)
 -- What is left to answer after one, two, three and four good words.
 first-good : (c : tie.After-enum-told)
     → let a = c .before .before .before .args in
-    wordsRefusal (a .at + 1) startField (variantOf (a .words .operator)) (a .words .start ∷ a .words .end ∷ a .words .upper ∷ a .words .lower ∷ []) ≡ whole (c .before .before .before)
+    wordsRefusal (a .at + 1) startField (variantOf (a .words .operator))
+    (a .words .start ∷ a .words .end ∷ a .words .upper ∷ a .words .lower ∷ []) ≡ whole (c .before .before .before)
 first-good c =
     let a = c .before .before .before .args in
     after-first (a .at) (a .words .operator) (a .words .start) (a .words .end) (a .words .upper) (a .words .lower)
@@ -31,8 +33,9 @@ second-good : (c : tie.After-enum-told2)
     ≡ whole (c .before .before .before .before .before .before)
 second-good c =
     let a = c .before .before .before .before .before .before .args in
-    after-start (a .at) (a .words .operator) (a .words .start) (a .words .end) (a .words .upper) (a .words .lower) (variantOf (a .words .operator))
-    (sym (ap numberOf (c .enum-told2 .given .1)) ∙ (c .before .before .span-word .ensures ∙ start-tests (variantOf (a .words .operator)) (a .words .start)))
+    after-start (a .at) (a .words .operator) (a .words .start) (a .words .end) (a .words .upper) (a .words .lower)
+    (variantOf (a .words .operator)) (sym (ap numberOf (c .enum-told2 .given .1))
+    ∙ (c .before .before .span-word .ensures ∙ start-tests (variantOf (a .words .operator)) (a .words .start)))
     ∙ first-good (c .before .before .before)
 
 third-good : (c : tie.After-enum-told3)
@@ -41,8 +44,9 @@ third-good : (c : tie.After-enum-told3)
     ≡ whole (c .before .before .before .before .before .before .before .before .before)
 third-good c =
     let a = c .before .before .before .before .before .before .before .before .before .args in
-    after-end (a .at) (a .words .operator) (a .words .start) (a .words .end) (a .words .upper) (a .words .lower) (variantOf (a .words .operator))
-    (sym (ap numberOf (c .enum-told3 .given .1)) ∙ (c .before .before .span-word2 .ensures ∙ end-tests (variantOf (a .words .operator)) (a .words .end)))
+    after-end (a .at) (a .words .operator) (a .words .start) (a .words .end) (a .words .upper) (a .words .lower)
+    (variantOf (a .words .operator)) (sym (ap numberOf (c .enum-told3 .given .1))
+    ∙ (c .before .before .span-word2 .ensures ∙ end-tests (variantOf (a .words .operator)) (a .words .end)))
     ∙ second-good (c .before .before .before)
 
 operator-word-requires : tie.Need-operator-word-requires
@@ -59,8 +63,8 @@ returns c =
     let a = c .before .before .before .args in
     let one = c .before .before .operator-word in
     c .judged .ensures
-    ∙ first-bad (a .at) operatorField 0 (a .words .operator) (a .words .start ∷ a .words .end ∷ a .words .upper ∷ a .words .lower ∷ []) (one .result)
-    (c .before .match .keys2) (one .ensures)
+    ∙ first-bad (a .at) operatorField 0 (a .words .operator) (a .words .start ∷ a .words .end ∷ a .words .upper ∷ a .words .lower ∷ [])
+    (one .result) (c .before .match .keys2) (one .ensures)
 
 span-word-requires : tie.Need-span-word-requires
 span-word-requires c κs = search needs
@@ -80,8 +84,8 @@ returns-2 c =
     let v = variantOf (a .words .operator) in
     let two = c .before .before .span-word in
     c .judged2 .ensures
-    ∙ (first-bad (a .at + 1) startField v (a .words .start) (a .words .end ∷ a .words .upper ∷ a .words .lower ∷ []) (two .result) (c .before .match2 .keys2)
-    (two .ensures ∙ start-tests v (a .words .start))
+    ∙ (first-bad (a .at + 1) startField v (a .words .start) (a .words .end ∷ a .words .upper ∷ a .words .lower ∷ []) (two .result)
+    (c .before .match2 .keys2) (two .ensures ∙ start-tests v (a .words .start))
     ∙ first-good (c .before .before .before))
 
 span-word-requires-2 : tie.Need-span-word-requires-2
@@ -142,15 +146,16 @@ judged-requires-5 c κs = search needs
 
 returns-5 : tie.Need-returns-5
 returns-5 c =
-    let a = c .before .before .before .before .before .before .before .before .before .before .before .before .before .before .before .args in
-    let v = c .before .before .before .before .before .variant in
-    let four = c .before .before .before .before .half-word in
+    let four = c .before .before .before .before in
+    let a = four .before .before .before .before .before .before .before .before .before .before .before .args in
+    let v = four .before .variant in
     let five = c .before .half-word2 in
     c .judged5 .ensures
-    ∙ (last-word (a .at + 4) lowerField (v .result) (a .words .lower) (five .result) (five .ensures ∙ lower-tests (v .result) (a .words .lower))
+    ∙ (last-word (a .at + 4) lowerField (v .result) (a .words .lower) (five .result)
+    (five .ensures ∙ lower-tests (v .result) (a .words .lower))
     ∙ (after-upper (a .at) (a .words .operator) (a .words .start) (a .words .end) (a .words .upper) (a .words .lower) (v .result)
-    (sym (ap numberOf (c .before .before .enum-told4 .given .1)) ∙ (four .ensures ∙ upper-tests (v .result) (a .words .upper)))
-    ∙ rw (v .ensures) (third-good (c .before .before .before .before .before .before))))
+    (sym (ap numberOf (c .before .before .enum-told4 .given .1)) ∙ (four .half-word .ensures ∙ upper-tests (v .result) (a .words .upper)))
+    ∙ rw (v .ensures) (third-good (four .before .before))))
 
 pub first-bad-spec : {M : Type 1} → statement M
 first-bad-spec = tie.close (tie.spec

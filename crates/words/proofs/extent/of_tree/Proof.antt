@@ -38,7 +38,8 @@ step-at : (W : List ℕ) (at t : ℕ) (e : Extent) → at + 7 ≤ length W
     → extentWith (wider e (getD W (at + 1) 0) (getD W (at + 2) 0)) (firstTrees (t + lowOf (getD W (at + 5) 0)) (treesOf (drop (at + 7) W)))
     ≡ extentWith e (firstTrees (suc t) (treesOf (drop at W)))
 step-at W at t e h =
-    rw (getD-drop at W 1 0, getD-drop at W 2 0, getD-drop at W 5 0, drop-drop 7 at W) at (extent-step (drop at W) t e (omega (arith, length-drop at W)))
+    rw (getD-drop at W 1 0, getD-drop at W 2 0, getD-drop at W 5 0, drop-drop 7 at W) at
+    (extent-step (drop at W) t e (omega (arith, length-drop at W)))
 
 sub-t6 : tie.Need-sub-t6 Inv-loop μ-loop
 sub-t6 c = search needs
@@ -107,11 +108,13 @@ loop-less c = omega arith
 loop-again : tie.Need-loop-again Inv-loop μ-loop
 unfolding lowOf
 loop-again c =
-    let l = c .before .before .before .before .before .before .before .loop in
-    let W = c .before .before .before .before .before .before .before .before .before .args .words .now in
+    let at = c .before .before .before .before .before .before .before in
+    let l = at .loop in
+    let W = at .before .before .args .words .now in
     let some : suc (l .trees - 1) ≡ l .trees = omega arith in (
       rw (c .before .before .widened .ensures, c .low .ensures)
-          (step-at W (l .at) (l .trees - 1) (l .seen) (omega arith) ∙ ap (λ (t : ℕ). extentWith (l .seen) (firstTrees t (treesOf (drop (l .at) W)))) some ∙ l .inv .0),
+          (step-at W (l .at) (l .trees - 1) (l .seen) (omega arith)
+          ∙ ap (λ (t : ℕ). extentWith (l .seen) (firstTrees t (treesOf (drop (l .at) W)))) some ∙ l .inv .0),
       omega arith,
       omega (arith, c .low .ensures, l .inv .2),
     )
@@ -121,7 +124,8 @@ returns-2 c =
     let l = c .before .loop in
     let W = c .before .before .before .args .words .now in
     let none : l .trees ≡ 0 = omega arith in
-    sym (none-called (l .seen) (treesOf (drop (l .at) W))) ∙ ap (λ (t : ℕ). extentWith (l .seen) (firstTrees t (treesOf (drop (l .at) W)))) (sym none) ∙ l .inv .0
+    sym (none-called (l .seen) (treesOf (drop (l .at) W)))
+    ∙ ap (λ (t : ℕ). extentWith (l .seen) (firstTrees t (treesOf (drop (l .at) W)))) (sym none) ∙ l .inv .0
 
 pub of-tree-spec : {M : Type 1} → statement M
 of-tree-spec =

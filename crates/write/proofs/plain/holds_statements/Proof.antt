@@ -25,7 +25,8 @@ returns : tie.Need-returns Inv-loop μ-loop
 returns c =
     let view = c .before .before .before in
     let head = view .before .before in
-    holding-refused (head .before .before .pre) (head .loop .inv) (view .before .loop-test .taken) (view .view-node .ensures) (c .before .before .if1 .taken) (c .if2 .taken)
+    holding-refused (head .before .before .pre) (head .loop .inv) (view .before .loop-test .taken) (view .view-node .ensures)
+    (c .before .before .if1 .taken) (c .if2 .taken)
 
 loop-less : tie.Need-loop-less Inv-loop μ-loop
 loop-less c =
@@ -37,7 +38,8 @@ loop-again : tie.Need-loop-again Inv-loop μ-loop
 loop-again c =
     let view = c .before .before .before in
     let head = view .before .before in
-    holding-child (head .before .before .pre) (head .loop .inv) (view .before .loop-test .taken) (view .view-node .ensures) (c .before .before .if1 .taken) (c .if2 .left)
+    holding-child (head .before .before .pre) (head .loop .inv) (view .before .loop-test .taken) (view .view-node .ensures)
+    (c .before .before .if1 .taken) (c .if2 .left)
 
 sub-due : tie.Need-sub-due Inv-loop μ-loop
 sub-due c = search needs
@@ -46,7 +48,9 @@ add-due : tie.Need-add-due Inv-loop μ-loop
 add-due c =
     let view = c .before in
     let head = view .before .before in
-    let few = holding-few (head .before .before .pre) (head .loop .inv) (view .before .loop-test .taken) (view .view-node .ensures) (c .if1 .left) in
+    let few =
+    holding-few (head .before .before .pre) (head .loop .inv) (view .before .loop-test .taken) (view .view-node .ensures) (c .if1 .left)
+    in
     omega (arith, few)
 
 loop-less-2 : tie.Need-loop-less-2 Inv-loop μ-loop

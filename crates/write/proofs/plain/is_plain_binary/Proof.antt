@@ -30,7 +30,8 @@ unfolding isPlainBinary between
 returns-4 c =
     let n = c .before .before .before .args .op in
     let a = none-of (9 ∷ 20 ∷ 31 ∷ 75 ∷ []) n (c .before .before .match .rest .1) in
-    rw (ne-eqb n 9 (a .0), ne-eqb n 20 (a .1 .0), ne-eqb n 31 (a .1 .1 .0), ne-eqb n 75 (a .1 .1 .1 .0), lt-leb n 59 (omega arith)) (simp and-false)
+    rw (ne-eqb n 9 (a .0), ne-eqb n 20 (a .1 .0), ne-eqb n 31 (a .1 .1 .0), ne-eqb n 75 (a .1 .1 .1 .0), lt-leb n 59 (omega arith))
+    (simp and-false)
 
 pub is-plain-binary-spec : {M : Type 1} → statement M
 is-plain-binary-spec = tie.close (tie.spec returns returns-2 returns-3 returns-4)

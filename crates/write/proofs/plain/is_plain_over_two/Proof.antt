@@ -27,7 +27,8 @@ is-plain-binary-requires c κs = search needs
 
 returns-3 : tie.Need-returns-3
 unfolding plainBy
-returns-3 c = rw (ne-eqb _ 60 (c .before .before .if1 .left), ne-eqb _ 71 (c .before .if2 .left), or-false, or-false) (c .is-plain-binary .ensures)
+returns-3 c =
+    rw (ne-eqb _ 60 (c .before .before .if1 .left), ne-eqb _ 71 (c .before .if2 .left), or-false, or-false) (c .is-plain-binary .ensures)
 
 pub is-plain-over-two-spec : {M : Type 1} → statement M
 is-plain-over-two-spec =

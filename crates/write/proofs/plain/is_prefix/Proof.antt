@@ -9,11 +9,15 @@ use Rattle.write.proofs.plain.is_prefix.Tie as tie
 
 returns : tie.Need-returns
 unfolding isPrefix isOneOf any
-returns c = let n = c .before .before .args .op in rw (ne-eqb n 4 (c .before .match .rest .1), ne-eqb n 6 (λ e. omega arith), ne-eqb n 7 (λ e. omega arith))
+returns c =
+    let n = c .before .before .args .op in
+    rw (ne-eqb n 4 (c .before .match .rest .1), ne-eqb n 6 (λ e. omega arith), ne-eqb n 7 (λ e. omega arith))
 
 returns-2 : tie.Need-returns-2
 unfolding isPrefix isOneOf any
-returns-2 c = let n = c .before .before .before .args .op in rw (ne-eqb n 4 (λ e. omega arith), ne-eqb n 6 (λ e. omega arith), ne-eqb n 7 (λ e. omega arith))
+returns-2 c =
+    let n = c .before .before .before .args .op in
+    rw (ne-eqb n 4 (λ e. omega arith), ne-eqb n 6 (λ e. omega arith), ne-eqb n 7 (λ e. omega arith))
 
 returns-3 : tie.Need-returns-3
 unfolding isPrefix isOneOf any

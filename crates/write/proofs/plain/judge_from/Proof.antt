@@ -12,7 +12,8 @@ use Rattle.write.specs.declared.plain.Seat.the-variants.{Enclosed}
 use Rattle.write.specs.declared.reader.NodeView.{NodeView}
 use Rattle.write.specs.Seats.{plainBy}
 use Rattle.write.specs.Reading.{operatorAt}
-use Rattle.write.proofs.JudgeLaws.{Judging, Turn, few-tokens, begins-early, judging-begins, judging-room, judging-room-two, judging-refused, judging-none, judging-one, judging-two, judging-ends, falls}
+use Rattle.write.proofs.JudgeLaws.{Judging, Turn, few-tokens, begins-early, judging-begins, judging-room, judging-room-two}
+use Rattle.write.proofs.JudgeLaws.{judging-refused, judging-none, judging-one, judging-two, judging-ends, falls}
 use Rattle.write.proofs.plain.judge_from.Statement.{statement}
 use Rattle.write.proofs.plain.judge_from.Tie as tie
 use Rattle.shape.specs.Shaped.{nodeLength}
@@ -31,10 +32,12 @@ room : (c : tie.In-loop Inv-loop μ-loop)
     × (c .before .loop .top + c .before .loop .node ≤ mostNodes)
 room c = judging-room (c .before .before .before .before .pre .0) (c .before .loop .inv .0) (c .loop-test .taken)
 
-turn : (c : tie.After-seat Inv-loop μ-loop)
-    → Turn (c .before .before .before .before .before .before .args .tree .now) (c .before .before .before .loop .waiting) (c .before .before .before .loop .top) (c .before .before .before .loop .tokens) (c .before .before .before .loop .node) (c .before .before .before .loop .at)
-    (c .before .before .before .loop .next) (c .before .view-node .result .children) (c .before .view-node .result .next) (c .before .view-node .result .after)
-    (getD (c .before .before .before .loop .waiting) (c .before .before .before .loop .top - 1) Enclosed)
+turn : (c : tie.After-seat Inv-loop μ-loop) →
+    let head = c .before .before .before in
+    let l = head .loop in
+    let seen = c .before .view-node .result in
+    Turn (head .before .before .before .args .tree .now) (l .waiting) (l .top) (l .tokens) (l .node) (l .at) (l .next)
+    (seen .children) (seen .next) (seen .after) (getD (l .waiting) (l .top - 1) Enclosed)
 turn c =
     let seen = c .before .view-node .ensures in
     record {
@@ -57,10 +60,10 @@ carried c =
     let seen = c .before .view-node .ensures in
     ap (λ (v : NodeView). v .next) seen ∙ ap (operatorAt tree) (sym (ap (λ (v : NodeView). v .after) seen))
 
-plain : (c : tie.Else1 Inv-loop μ-loop)
-    → plainBy (getD (c .before .before .before .before .before .loop .waiting) (c .before .before .before .before .before .loop .top - 1) Enclosed)
-    (c .before .before .before .before .before .loop .next) (c .before .before .before .view-node .result .children) (c .before .before .before .view-node .result .next)
-    ≡ true
+plain : (c : tie.Else1 Inv-loop μ-loop) →
+    let l = c .before .before .before .before .before .loop in
+    let seen = c .before .before .before .view-node .result in
+    plainBy (getD (l .waiting) (l .top - 1) Enclosed) (l .next) (seen .children) (seen .next) ≡ true
 plain c = sym (c .before .is-plain .ensures) ∙ not-false _ (c .if1 .left)
 
 array-set-from-waiting : tie.Need-array-set-from-waiting Inv-loop μ-loop
@@ -141,7 +144,8 @@ add-waiting : tie.Need-add-waiting Inv-loop μ-loop
 add-waiting c = omega (arith, room (c .before .before .before .before .before .before .before .before .before) .2)
 
 array-set-from-waiting-4 : tie.Need-array-set-from-waiting-4 Inv-loop μ-loop
-array-set-from-waiting-4 c = judging-room-two (turn (c .before .before .before .before .before .before .before)) (c .before .before .if3 .taken)
+array-set-from-waiting-4 c =
+    judging-room-two (turn (c .before .before .before .before .before .before .before)) (c .before .before .if3 .taken)
 
 add-top-2 : tie.Need-add-top-2 Inv-loop μ-loop
 add-top-2 c = omega (arith, room (c .before .before .before .before .before .before .before .before .before) .2)
@@ -151,9 +155,11 @@ loop-less-2 c = falls (turn (c .before .before .before .before .before .before .
 
 loop-again-2 : tie.Need-loop-again-2 Inv-loop μ-loop
 loop-again-2 c =
-    rw (c .seat-of-left .ensures, c .before .seat-of-right .ensures, c .before .before .before .before .tokens-for .ensures) (
-      judging-two (turn (c .before .before .before .before .before .before .before)) (plain (c .before .before .before .before .before)) (c .before .before .if3 .taken),
-      carried (c .before .before .before .before .before .before .before),
+    let test = c .before .before in
+    let judged = test .before .before .before in
+    rw (c .seat-of-left .ensures, c .before .seat-of-right .ensures, test .before .before .tokens-for .ensures) (
+      judging-two (turn (judged .before .before)) (plain judged) (test .if3 .taken),
+      carried (judged .before .before),
     )
 
 loop-less-3 : tie.Need-loop-less-3 Inv-loop μ-loop
@@ -161,9 +167,10 @@ loop-less-3 c = falls (turn (c .before .before .before .before .before))
 
 loop-again-3 : tie.Need-loop-again-3 Inv-loop μ-loop
 loop-again-3 c =
+    let judged = c .before .before .before in
     rw (c .before .before .tokens-for .ensures) (
-      judging-none (turn (c .before .before .before .before .before)) (plain (c .before .before .before)) (c .before .if2 .left) (c .if3 .left),
-      carried (c .before .before .before .before .before),
+      judging-none (turn (judged .before .before)) (plain judged) (c .before .if2 .left) (c .if3 .left),
+      carried (judged .before .before),
     )
 
 returns-2 : tie.Need-returns-2 Inv-loop μ-loop

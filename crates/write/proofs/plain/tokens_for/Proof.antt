@@ -10,7 +10,9 @@ use Rattle.write.proofs.plain.tokens_for.Tie as tie
 
 returns : tie.Need-returns
 unfolding tokensFor isBracket
-returns c = let a = c .before .args in rw (bracket-unpaired (a .seat) (a .op) (a .children) (eq-eqb (a .op) 4 (c .if1 .taken)), eq-eqb (a .op) 4 (c .if1 .taken))
+returns c =
+    let a = c .before .args in
+    rw (bracket-unpaired (a .seat) (a .op) (a .children) (eq-eqb (a .op) 4 (c .if1 .taken)), eq-eqb (a .op) 4 (c .if1 .taken))
 
 is-paired-requires : tie.Need-is-paired-requires
 is-paired-requires c κs = search needs

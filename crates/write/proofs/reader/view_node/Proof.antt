@@ -1,5 +1,6 @@
--- `write::reader::view_node` meets its contract: a walk of its MIR, by hand. A reader is made at the node and looks. All that the proof knows of
--- these two calls is that each meets its contract; what `new` gives is written out as its contract says it before it is stored. Assumes nothing.
+-- `write::reader::view_node` meets its contract: a walk of its MIR, by hand. A reader is made at the node and looks. All that the proof
+-- knows of these two calls is that each meets its contract; what `new` gives is written out as its contract says it before it is stored.
+-- Assumes nothing.
 use mathlib.Core.Path.{_≡_, refl, ap}
 use Prim.Native.Nat.{ℕ, _+_, _≤_, _<_, _^_}
 use mathlib.Core.List.{List, [], _∷_}
@@ -15,8 +16,10 @@ use prog.Wp.{Heap, Calls, Loops, WpFn, Tables}
 use ghost.Atoms.{Atoms, sem}
 use contract.Monad.{Fun, fact}
 use contract.Running.{givenOf, tables, tablesOf}
-use types.Kit.{Given, ‵, raw, _⊛_, ⋆, some, later, _$_, _∵_, !, qed, by, move, use1, use2, rewrite, split, join, pick, fsplit, fjoin, suffices, frame, await, done}
-use types.Run.{look, init, forget, stop, from, load, and-then, no-more, land, returns, enter, alloc1, alloc0, params1, pass1, pass0, free1, free0}
+use types.Kit.{Given, ‵, raw, _⊛_, ⋆, some, later, _$_, _∵_, !, qed, by, move, use1, use2, rewrite, split, join, pick, fsplit, fjoin}
+use types.Kit.{suffices, frame, await, done}
+use types.Run.{look, init, forget, stop, from, load, and-then, no-more, land, returns, enter, alloc1, alloc0, params1, pass1, pass0, free1}
+use types.Run.{free0}
 use sound.WpLaws.{FmC, fmOf, WpFn-mono}
 use denote.RattleType.{owns}
 use denote.Laws.{Is, shows}
@@ -32,7 +35,8 @@ use denote.Triple.Call.{calls-at}
 use denote.Triple.Entry.{Vals, onEntry}
 use denote.Triple.Spec.{Meets, tripleOf}
 use denote.Triple.Table.{entered, cited}
-use denote.Triple.Walked.{says, needs, Stays, stay-none, stay-none-slice, walkOf, goes-none, goes-none-slice, Walks, ends-at, walked, walk-meets}
+use denote.Triple.Walked.{says, needs, Stays, stay-none, stay-none-slice, walkOf, goes-none, goes-none-slice, Walks, ends-at, walked}
+use denote.Triple.Walked.{walk-meets}
 use denote.Exit.{yes}
 use denote.Triple.Clauses.{ensured, lasts}
 use Rattle.write.specs.Reading.{readerAt, viewAt}
@@ -68,7 +72,8 @@ module _ {M : Type 1} (𝓤 : URA M) (H : Heap 𝓤) (A : Atoms 𝓤) (mem : Mem
   abbrev Look : Contract 𝓤
   Look = tripleOf 𝓤 H A looking.signature (looking.spec 𝓤 H A mem run)
 
-module _ {M : Type 1} (𝓤 : URA M) (H : Heap 𝓤) (A : Atoms 𝓤) (W : Given 𝓤 H A) (mem : Memory → SProp 𝓤) (run : Routine → Fun 𝓤) (κ : Lft) (q : Share) (s : RefT (List ℕ)) (n : ℕ) (fits : n < 2 ^ 64) (room : n + nodeLength ≤ length (now s)) where
+module _ {M : Type 1} (𝓤 : URA M) (H : Heap 𝓤) (A : Atoms 𝓤) (W : Given 𝓤 H A) (mem : Memory → SProp 𝓤) (run : Routine → Fun 𝓤)
+    (κ : Lft) (q : Share) (s : RefT (List ℕ)) (n : ℕ) (fits : n < 2 ^ 64) (room : n + nodeLength ≤ length (now s)) where
   -- The machine values passed.
   abbrev v : Val
   v = sliceVal (s .ptr) (length (s .now))
@@ -89,13 +94,21 @@ module _ {M : Type 1} (𝓤 : URA M) (H : Heap 𝓤) (A : Atoms 𝓤) (W : Given
   abbrev to-new : New 𝓤 H A mem run .Ghost
   to-new = (((κ, tt), (q, tt), tt, (s, (n, tt)), at), tt)
 
-  goes-new : ent 𝓤 (onEntry 𝓤 H A view.signature (κ, tt) (q, tt) (s, (n, tt)) at) (sep 𝓤 (New 𝓤 H A mem run .pre to-new) (sem 𝓤 H A OwnWords))
+  abbrev Entry : SProp 𝓤
+  Entry = onEntry 𝓤 H A view.signature (κ, tt) (q, tt) (s, (n, tt)) at
+
+  goes-new : ent 𝓤 Entry (sep 𝓤 (New 𝓤 H A mem run .pre to-new) (sem 𝓤 H A OwnWords))
   goes-new =
       qed W ((‵ (flft κ q) ⊛ ‵ ftrue) ∷ ‵ (owns (ShrSlice (named 0) κ u32 ∷ usize ∷ []) (s, (n, tt)) at) ∷ []) ∵
       move ! (1 ∷ []) $ fsplit ! $ use1 W (‵ OwnWords ⊛ ‵ OwnWords) (shr-slice-copy 𝓤 H A W (named 0) κ u32 .twice s (v ∷ [])) $ split ! $
-      move ! (0 ∷ 2 ∷ []) $ fjoin ! $ move ! (2 ∷ 0 ∷ []) $ use2 W (raw (New 𝓤 H A mem run .pre to-new)) (qed W ((‵ (flft κ q) ⊛ ‵ ftrue) ∷ ‵ (owns (ShrSlice (named 0) κ u32 ∷ usize ∷ []) (s, (n, tt)) at) ∷ []) ∵ join ! $ frame ! $ done !) $ frame ! $ done !
+      move ! (0 ∷ 2 ∷ []) $ fjoin ! $ move ! (2 ∷ 0 ∷ []) $ use2 W (raw (New 𝓤 H A mem run .pre to-new))
+      (qed W ((‵ (flft κ q) ⊛ ‵ ftrue) ∷ ‵ (owns (ShrSlice (named 0) κ u32 ∷ usize ∷ []) (s, (n, tt)) at) ∷ []) ∵ join ! $ frame ! $
+      done !) $ frame ! $ done !
 
-  new-said : (r : TreeReader) → ent 𝓤 (ensured 𝓤 H A new.ended (new.clauses 𝓤 H A mem run) (κ, tt) (s, (n, tt)) tt r) (fact 𝓤 (r ≡ readerAt s n))
+  abbrev NewEnsured : TreeReader → SProp 𝓤
+  NewEnsured = ensured 𝓤 H A new.ended (new.clauses 𝓤 H A mem run) (κ, tt) (s, (n, tt)) tt
+
+  new-said : (r : TreeReader) → ent 𝓤 (NewEnsured r) (fact 𝓤 (r ≡ readerAt s n))
   new-said r = exE 𝓤 _ (λ ws. snd∗ 𝓤 (sem 𝓤 H A (lasts new.ended (κ, tt) (s, (n, tt)) ws)) (fact 𝓤 (r ≡ readerAt s n)))
 
   -- The call of `look`.
@@ -103,58 +116,82 @@ module _ {M : Type 1} (𝓤 : URA M) (H : Heap 𝓤) (A : Atoms 𝓤) (W : Given
   to-look = (((κ, tt), (q, tt), tt, (readerAt s n, tt), (T′.lowered (readerAt s n) ∷ [], tt)), tt)
 
   goes-look : ent 𝓤 (⋆ 𝓤 H A (‵ (Own κ (readerAt s n)) ∷ (‵ (flft κ q) ⊛ ‵ ftrue) ∷ [])) (Look 𝓤 H A mem run .pre to-look)
-  goes-look = qed W (‵ (Own κ (readerAt s n)) ∷ (‵ (flft κ q) ⊛ ‵ ftrue) ∷ []) ∵ says ! room $ nothing ! $ move ! (1 ∷ 0 ∷ []) $ fjoin ! $ move ! (1 ∷ 0 ∷ []) $ frame ! $ done !
+  goes-look =
+      qed W (‵ (Own κ (readerAt s n)) ∷ (‵ (flft κ q) ⊛ ‵ ftrue) ∷ []) ∵
+      says ! room $ nothing ! $ move ! (1 ∷ 0 ∷ []) $ fjoin ! $ move ! (1 ∷ 0 ∷ []) $ frame ! $ done !
 
-  look-said : (t : NodeView) → ent 𝓤 (ensured 𝓤 H A looking.ended (looking.clauses 𝓤 H A mem run) (κ, tt) (readerAt s n, tt) tt t) (fact 𝓤 (t ≡ seen))
+  abbrev LookEnsured : NodeView → SProp 𝓤
+  LookEnsured = ensured 𝓤 H A looking.ended (looking.clauses 𝓤 H A mem run) (κ, tt) (readerAt s n, tt) tt
+
+  look-said : (t : NodeView) → ent 𝓤 (LookEnsured t) (fact 𝓤 (t ≡ seen))
   look-said t = exE 𝓤 _ (λ ws. snd∗ 𝓤 (sem 𝓤 H A (lasts looking.ended (κ, tt) (readerAt s n, tt) ws)) (fact 𝓤 (t ≡ seen)))
 
   -- The machine value of the reader, once its value is known.
   reader : (d : TreeReader) (u : Val) → Is (Row (κ, tt)) d (u ∷ []) → u ≡ T′.lowered d
   reader d u is = ap only (LL.tells (T.the-type (namedLft 1 0 tt (κ, tt))) (T′.the-laws (namedLft 1 0 tt (κ, tt))) d (u ∷ []) is)
 
-  exits : (t : NodeView) (u : Val) → t ≡ seen → ent 𝓤 (⋆ 𝓤 H A (‵ (N.the-row .own t (u ∷ [])) ∷ (‵ (flft κ q) ⊛ ‵ ftrue) ∷ ‵ OwnWords ∷ [])) (Post u)
+  exits : (t : NodeView) (u : Val) → t ≡ seen
+      → ent 𝓤 (⋆ 𝓤 H A (‵ (N.the-row .own t (u ∷ [])) ∷ (‵ (flft κ q) ⊛ ‵ ftrue) ∷ ‵ OwnWords ∷ [])) (Post u)
   exits t u e =
       qed W (‵ (N.the-row .own t (u ∷ [])) ∷ (‵ (flft κ q) ⊛ ‵ ftrue) ∷ ‵ OwnWords ∷ []) ∵
-      suffices ! _ (ends-at 𝓤 H A view.ended stayed (view.clauses 𝓤 H A mem run) W (((κ, tt), (q, tt), tt, (s, (n, tt)), at), tt) u t (tt, (tt, tt)) (tt, (tt, tt))) $ says ! e $
-      move ! (1 ∷ []) $ frame ! $ nothing ! $ owned ! usize (Is usize) (uint-makes 𝓤 H A W w64) n _ (refl, fits) $ fjoin ! $ move ! (2 ∷ 0 ∷ []) $ fjoin ! $ frame ! $ done !
+      suffices ! _
+      (ends-at 𝓤 H A view.ended stayed (view.clauses 𝓤 H A mem run) W (((κ, tt), (q, tt), tt, (s, (n, tt)), at), tt) u t (tt, (tt, tt))
+      (tt, (tt, tt))) $ says ! e $
+      move ! (1 ∷ []) $ frame ! $ nothing ! $ owned ! usize (Is usize) (uint-makes 𝓤 H A W w64) n _ (refl, fits) $ fjoin ! $
+      move ! (2 ∷ 0 ∷ []) $ fjoin ! $ frame ! $ done !
 
-  module _ (C : Calls 𝓤 H) (Λ : Loops 𝓤 H) (fm : FmC 𝓤 H (W .laws) C) (known-new : Triple 𝓤 (C #new) (New 𝓤 H A mem run)) (known-look : Triple 𝓤 (C #look) (Look 𝓤 H A mem run)) where
-    walk : Is (ShrSlice (named 0) κ u32) s (v ∷ []) → ent 𝓤 (onEntry 𝓤 H A view.signature (κ, tt) (q, tt) (s, (n, tt)) at) (WpFn 𝓤 H C Λ code.function (v ∷ vint w64 n ∷ []) Post)
+  module _ (C : Calls 𝓤 H) (Λ : Loops 𝓤 H) (fm : FmC 𝓤 H (W .laws) C) (known-new : Triple 𝓤 (C #new) (New 𝓤 H A mem run))
+      (known-look : Triple 𝓤 (C #look) (Look 𝓤 H A mem run)) where
+    walk : Is (ShrSlice (named 0) κ u32) s (v ∷ []) → ent 𝓤 Entry (WpFn 𝓤 H C Λ code.function (v ∷ vint w64 n ∷ []) Post)
     walk p =
         let words : WT v = shr-slice-lawful 𝓤 H A W (named 0) κ u32 .typed s (v ∷ []) p .0 .1 in
-        qed W (raw (onEntry 𝓤 H A view.signature (κ, tt) (q, tt) (s, (n, tt)) at) ∷ []) ∵ enter ! C Λ code.function (v ∷ vint w64 n ∷ []) _ $
+        qed W (raw Entry ∷ []) ∵ enter ! C Λ code.function (v ∷ vint w64 n ∷ []) _ $
         alloc1 ! (λ l₀. alloc1 ! (λ l₁. alloc1 ! (λ l₂. alloc1 ! (λ l₃. alloc0 ! $ params1 ! $
         pass1 ! (init ! 4 refl (tt, words)) $ pass1 ! (init ! 2 refl (tt, record { fits = fits })) $ pass0 ! $
         -- `new`: [asked; what the words own; _3; …]
         move ! (8 ∷ []) $ use1 W (raw (New 𝓤 H A mem run .pre to-new) ⊛ ‵ OwnWords) goes-new $ split ! $
-        calls-at ! fm (New 𝓤 H A mem run) known-new to-new (and-then ! (load ! (from ! (stop !)) (look ! 6 refl)) (and-then ! (load ! (from ! (stop !)) (look ! 4 refl)) (no-more !))) (λ u.
-        use1 W (later (some (λ (r : TreeReader). ((‵ (flft κ q) ⊛ ‵ ftrue) ⊛ ‵ (Row (κ, tt) .own r (u ∷ []))) ⊛ raw (ensured 𝓤 H A new.ended (new.clauses 𝓤 H A mem run) (κ, tt) (s, (n, tt)) tt r)))) (id⊢ 𝓤 _) $ await ! tt $ pick ! (λ r.
-        split ! $ move ! (1 ∷ []) $ use1 W (raw (fact 𝓤 (r ≡ readerAt s n))) (new-said r) $ heard ! (r ≡ readerAt s n) (λ e. split ! $ move ! (1 ∷ []) $
-        rewrite ! 0 (λ (d : TreeReader). ‵ (Row (κ, tt) .own d (u ∷ []))) e refl $ peeks ! (Row (κ, tt)) (Is (Row (κ, tt))) (shows 𝓤 H A (Row (κ, tt))) (readerAt s n) (u ∷ []) (λ is.
-        rewrite ! 0 (λ (w : Val). ‵ (Row (κ, tt) .own (readerAt s n) (w ∷ []))) (reader (readerAt s n) u is) refl $ lands-as ! (reader (readerAt s n) u is) $
+        calls-at ! fm (New 𝓤 H A mem run) known-new to-new
+        (and-then ! (load ! (from ! (stop !)) (look ! 6 refl)) (and-then ! (load ! (from ! (stop !)) (look ! 4 refl)) (no-more !))) (λ u.
+        use1 W (later (some (λ (r : TreeReader). ((‵ (flft κ q) ⊛ ‵ ftrue) ⊛ ‵ (Row (κ, tt) .own r (u ∷ []))) ⊛ raw (NewEnsured r))))
+        (id⊢ 𝓤 _) $ await ! tt $ pick ! (λ r.
+        split ! $ move ! (1 ∷ []) $ use1 W (raw (fact 𝓤 (r ≡ readerAt s n))) (new-said r) $ heard ! (r ≡ readerAt s n) (λ e.
+        split ! $ move ! (1 ∷ []) $ rewrite ! 0 (λ (d : TreeReader). ‵ (Row (κ, tt) .own d (u ∷ []))) e refl $
+        peeks ! (Row (κ, tt)) (Is (Row (κ, tt))) (shows 𝓤 H A (Row (κ, tt))) (readerAt s n) (u ∷ []) (λ is.
+        rewrite ! 0 (λ (w : Val). ‵ (Row (κ, tt) .own (readerAt s n) (w ∷ []))) (reader (readerAt s n) u is) refl $
+        lands-as ! (reader (readerAt s n) u is) $
         -- [what the reader owns; the token; what the words own; _3; …]
         land ! (from ! (stop !)) (init ! 3 refl (tt, (words, (record { fits = fits }, tt)))) $
         -- `look`: [asked; what the words own; _3; …]
         use2 W (raw (Look 𝓤 H A mem run .pre to-look)) goes-look $
         calls-at ! fm (Look 𝓤 H A mem run) known-look to-look (and-then ! (load ! (from ! (stop !)) (look ! 2 refl)) (no-more !)) (λ u₁.
-        use1 W (later (some (λ (t : NodeView). ((‵ (flft κ q) ⊛ ‵ ftrue) ⊛ ‵ (N.the-row .own t (u₁ ∷ []))) ⊛ raw (ensured 𝓤 H A looking.ended (looking.clauses 𝓤 H A mem run) (κ, tt) (readerAt s n, tt) tt t)))) (id⊢ 𝓤 _) $ await ! tt $ pick ! (λ t.
+        use1 W (later (some (λ (t : NodeView). ((‵ (flft κ q) ⊛ ‵ ftrue) ⊛ ‵ (N.the-row .own t (u₁ ∷ []))) ⊛ raw (LookEnsured t))))
+        (id⊢ 𝓤 _) $ await ! tt $ pick ! (λ t.
         split ! $ move ! (1 ∷ []) $ use1 W (raw (fact 𝓤 (t ≡ seen))) (look-said t) $ heard ! (t ≡ seen) (λ e₁. split ! $ move ! (1 ∷ []) $
         -- [the result; the token; what the words own; _3; …; _2; …; _1; …; room for _0; …]
         peeks ! N.the-row (Is N.the-row) (shows 𝓤 H A N.the-row) t (u₁ ∷ []) (λ is₁.
         land ! (from ! (stop !)) (init ! 9 refl (LL.lawful N.the-type N′.the-laws 𝓤 H A W .typed t _ is₁ .0)) $
         returns ! (look ! 9 refl) $ forget ! 3 refl $ forget ! 5 refl $ forget ! 7 refl $ forget ! 9 refl $
-        move ! (9 ∷ 10 ∷ []) $ free1 ! $ move ! (7 ∷ 8 ∷ []) $ free1 ! $ move ! (5 ∷ 6 ∷ []) $ free1 ! $ move ! (3 ∷ 4 ∷ []) $ free1 ! $ free0 ! $ by ! (exits t u₁ e₁)))))))))))))
+        move ! (9 ∷ 10 ∷ []) $ free1 ! $ move ! (7 ∷ 8 ∷ []) $ free1 ! $ move ! (5 ∷ 6 ∷ []) $ free1 ! $ move ! (3 ∷ 4 ∷ []) $ free1 ! $
+        free0 ! $ by ! (exits t u₁ e₁)))))))))))))
 
 module _ {M : Type 1} (𝓤 : URA M) (H : Heap 𝓤) (A : Atoms 𝓤) (W : Given 𝓤 H A) (mem : Memory → SProp 𝓤) (run : Routine → Fun 𝓤) where
-  view-walks : (C : Calls 𝓤 H) (Λ : Loops 𝓤 H) → FmC 𝓤 H (W .laws) C → Triple 𝓤 (C #new) (New 𝓤 H A mem run) → Triple 𝓤 (C #look) (Look 𝓤 H A mem run)
+  view-walks : (C : Calls 𝓤 H) (Λ : Loops 𝓤 H) → FmC 𝓤 H (W .laws) C
+      → Triple 𝓤 (C #new) (New 𝓤 H A mem run) → Triple 𝓤 (C #look) (Look 𝓤 H A mem run)
       → Walks 𝓤 H A view.ended stayed (WpFn 𝓤 H C Λ code.function) (view.clauses 𝓤 H A mem run)
-  view-walks C Λ fm known-new known-look = walked 𝓤 H A view.ended stayed (view.clauses 𝓤 H A mem run) (WpFn 𝓤 H C Λ code.function) (λ κs. (slice-vals, (uint-vals w64, tt))) (λ κs. (shr-slice-tells (named 0) (κs .0) u32, (uint-tells w64, tt)))
-      (λ κs qs bounds a g are. needs 𝓤 _ _ (λ room. walk 𝓤 H A W mem run (κs .0) (qs .0) (a .0) (a .1 .0) (are .1 .0 .1) room C Λ fm known-new known-look (are .0)))
+  view-walks C Λ fm known-new known-look =
+      walked 𝓤 H A view.ended stayed (view.clauses 𝓤 H A mem run) (WpFn 𝓤 H C Λ code.function) (λ κs. (slice-vals, (uint-vals w64, tt)))
+      (λ κs. (shr-slice-tells (named 0) (κs .0) u32, (uint-tells w64, tt)))
+      (λ κs qs bounds a g are. needs 𝓤 _ _ (λ room.
+      walk 𝓤 H A W mem run (κs .0) (qs .0) (a .0) (a .1 .0) (are .1 .0 .1) room C Λ fm known-new known-look (are .0)))
 
-view-meets : {M : Type 1} (𝓤 : URA M) (H : Heap 𝓤) (A : Atoms 𝓤) (W : Given 𝓤 H A) (mem : Memory → SProp 𝓤) (run : Routine → Fun 𝓤) (𝓣 : Tables 𝓤 H)
+view-meets : {M : Type 1} (𝓤 : URA M) (H : Heap 𝓤) (A : Atoms 𝓤) (W : Given 𝓤 H A) (mem : Memory → SProp 𝓤)
+    (run : Routine → Fun 𝓤) (𝓣 : Tables 𝓤 H)
     → Triple 𝓤 (𝓣 .C #new) (New 𝓤 H A mem run) → Triple 𝓤 (𝓣 .C #look) (Look 𝓤 H A mem run)
     → Meets 𝓤 H A view.signature (WpFn 𝓤 H (𝓣 .C) (𝓣 .Λ) code.function) (view.spec 𝓤 H A mem run)
-view-meets 𝓤 H A W mem run 𝓣 known-new known-look = walk-meets 𝓤 H A view.ended stayed W (goes-none-slice 𝓤 H A W 1 (0 ∷ []) tt (plain (λ _. u32)) yes, (goes-none 𝓤 H A W 1 (λ _. usize) yes (λ κs x f. refl), tt)) (view.clauses 𝓤 H A mem run) (WpFn 𝓤 H (𝓣 .C) (𝓣 .Λ) code.function) (WpFn-mono 𝓤 H (W .laws) 𝓣 code.function)
+view-meets 𝓤 H A W mem run 𝓣 known-new known-look =
+    walk-meets 𝓤 H A view.ended stayed W
+    (goes-none-slice 𝓤 H A W 1 (0 ∷ []) tt (plain (λ _. u32)) yes, (goes-none 𝓤 H A W 1 (λ _. usize) yes (λ κs x f. refl), tt))
+    (view.clauses 𝓤 H A mem run) (WpFn 𝓤 H (𝓣 .C) (𝓣 .Λ) code.function) (WpFn-mono 𝓤 H (W .laws) 𝓣 code.function)
     (view-walks 𝓤 H A W mem run (𝓣 .C) (𝓣 .Λ) (fmOf 𝓤 H (W .laws) 𝓣) known-new known-look)
 
 pub view-node-spec : {M : Type 1} → stated.statement M
@@ -163,5 +200,7 @@ view-node-spec 𝓤 H 𝓜 𝓖 𝓡 =
     entered 𝓤 H (tripleOf 𝓤 H (𝓖 .A) view.signature (view.spec 𝓤 H (𝓖 .A) (𝓜 .mem) (𝓡 .run)))
     (tables 𝓤 H 𝓜 𝓡 code.env .C) (tables 𝓤 H 𝓜 𝓡 code.env .Λ) #view-node code.function (code.unfolded 𝓤 H 𝓜 𝓡)
     (view-meets 𝓤 H (𝓖 .A) (givenOf 𝓤 H 𝓜 𝓖) (𝓜 .mem) (𝓡 .run) (tablesOf 𝓤 H 𝓜 (tables 𝓤 H 𝓜 𝓡 code.env))
-    (cited 𝓤 H (New 𝓤 H (𝓖 .A) (𝓜 .mem) (𝓡 .run)) 𝓜 𝓡 code.env #new new-def.routine code.calls-write·reader·TreeReader·new (new-thm.met 𝓤 H 𝓜 𝓖 𝓡))
-    (cited 𝓤 H (Look 𝓤 H (𝓖 .A) (𝓜 .mem) (𝓡 .run)) 𝓜 𝓡 code.env #look look-def.routine code.calls-write·reader·TreeReader·look (look-thm.met 𝓤 H 𝓜 𝓖 𝓡)))
+    (cited 𝓤 H (New 𝓤 H (𝓖 .A) (𝓜 .mem) (𝓡 .run)) 𝓜 𝓡 code.env #new new-def.routine code.calls-write·reader·TreeReader·new
+    (new-thm.met 𝓤 H 𝓜 𝓖 𝓡))
+    (cited 𝓤 H (Look 𝓤 H (𝓖 .A) (𝓜 .mem) (𝓡 .run)) 𝓜 𝓡 code.env #look look-def.routine code.calls-write·reader·TreeReader·look
+    (look-thm.met 𝓤 H 𝓜 𝓖 𝓡)))

@@ -4,7 +4,8 @@ use Prim.Native.Nat.{_-_}
 use native.Mathlib.Omega.{arith}
 use borrow.Author.Needs.{needs}
 use lib.ListN.{length}
-use Rattle.write.proofs.StatementLaws.{Stating, stating-begins, stating-ends, stating-room, stating-within, stating-falls, stating-on}
+use Rattle.write.proofs.StatementLaws.{Stating, stating-begins, stating-ends, stating-room, stating-within, stating-falls}
+use Rattle.write.proofs.StatementLaws.{stating-on}
 use Rattle.write.proofs.statements.write_statements.Statement.{statement}
 use Rattle.write.proofs.statements.write_statements.Tie as tie
 

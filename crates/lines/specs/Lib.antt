@@ -1,2 +1,0 @@
--- The text of a line, as a definition.
-pub mod Said

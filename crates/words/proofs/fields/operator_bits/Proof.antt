@@ -1,0 +1,21 @@
+-- `words::fields::operator_bits` meets its contract: the number's upper four bits stay above the payload variant's. Assumes nothing.
+use Prim.Native.Nat.{ℕ, _+_, _*_, _%_, _/_}
+use native.Mathlib.Omega.{arith}
+use borrow.Author.Needs.{needs}
+use Rattle.molang.specs.Words.{operatorBits}
+use Rattle.words.proofs.FieldLaws.{number-bits}
+use Rattle.words.proofs.fields.operator_bits.Statement.{statement}
+use Rattle.words.proofs.fields.operator_bits.Tie as tie
+
+mul-result : tie.Need-mul-result
+mul-result c = search needs
+
+add-result : tie.Need-add-result
+add-result c = search needs
+
+returns : tie.Need-returns
+unfolding operatorBits
+returns c = omega (arith, number-bits (c .args .w))
+
+pub operator-bits-spec : {M : Type 1} → statement M
+operator-bits-spec = tie.close (tie.spec mul-result add-result returns)
