@@ -2,16 +2,20 @@
 -- the token where some of the words are written.
 use Prim.Native.Nat.{ℕ, zero, suc, _+_, _*_, _/_, _%_, _^_, _≤_, _<_}
 use mathlib.Core.Path.{_≡_, refl, sym, ap, _∙_}
+use mathlib.Core.Bool.{false}
 use mathlib.Core.List.{List}
 use native.Mathlib.Omega.{arith}
 use native.Mathlib.Nat.{add-zero}
+use lib.Dec.{eqb}
 use lib.ListN.{length, getD, set}
+use borrow.Author.Tests.{eq-eqb, ne-eqb, eqb-true}
 use Rattle.molang.specs.Forest.{Token, renamed, bare, closedBy}
 use Rattle.molang.specs.Words.{word, lowOf, operatorBits}
 use Rattle.molang.specs.Legal.{Legal}
 use Rattle.molang.proofs.Words.{low-word, operator-small, bits-number, bits-variant, bits-room}
 use Rattle.molang.proofs.Legal.{legal-renamed, legal-bare, legal-closed}
 use Rattle.words.specs.Fields.{operatorOf, variantOf, withOperator}
+use Rattle.words.proofs.FieldLaws.{same-by-bits}
 use Rattle.nodes.specs.Store.{wd, slotStart, slotEnd, closeWord, operatorWordAt, startWordAt, endWordAt, valueWordAt, closeWordAt}
 use Rattle.nodes.specs.Store.{storedWords, TokenAt}
 use Rattle.nodes.specs.Slots.{opAt, startAt, endAt, Made}
@@ -163,3 +167,13 @@ token-made {o = o} {k = k} v h t =
     (v .words 3 (omega arith))
     (v .words 4 (omega arith) ∙ ap (word 7) (token-end t))
     (legal-bare o k h (t .legal))
+
+-- The bits of an operator's number as they stand tell it from an operator below 256, as the number does.
+pub told-by-bits : (n op : ℕ) → op < 2 ^ 8 → eqb (operatorBits n 0) op ≡ eqb n op
+told-by-bits n op low = same-by-bits (λ m. eqb m op) false (λ m h. ne-eqb m op (λ e. omega arith)) n
+
+pub from-bits : (n op : ℕ) → op < 2 ^ 8 → operatorBits n 0 ≡ op → n ≡ op
+from-bits n op low e = eqb-true n op (sym (told-by-bits n op low) ∙ eq-eqb (operatorBits n 0) op e)
+
+pub to-bits : (n op : ℕ) → op < 2 ^ 8 → n ≡ op → operatorBits n 0 ≡ op
+to-bits n op low e = eqb-true (operatorBits n 0) op (told-by-bits n op low ∙ eq-eqb n op e)

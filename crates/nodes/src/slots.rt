@@ -12,7 +12,7 @@ ghost use mathlib.Core.Path.{_≡_};
 ghost use Prim.Native.Nat.{_+_, _*_, _^_, _≤_, _<_};
 ghost use lib.ListN.{length, set};
 ghost use Rattle.words.specs.Fields.{withOperator};
-ghost use Rattle.molang.specs.Words.{word};
+ghost use Rattle.molang.specs.Words.{word, operatorBits};
 ghost use Rattle.nodes.specs.Store.{slotStart, slotEnd, closeWord, firstWord, nextWord, classesWord, operatorWordAt};
 ghost use Rattle.nodes.specs.Store.{firstAt, nextAt, classesAt};
 ghost use Rattle.nodes.specs.Stored.{storedAt};
@@ -132,6 +132,14 @@ pub fn operator_of(work: &[u32], s: u32) -> u32
     fields::operator(work[SLOT_WORDS * (s as usize)])
 }
 
+// The operator's bits as they stand in its word: what `fields::operator_bits` gives.
+pub fn operator_bits_of(work: &[u32], s: u32) -> u32
+    requires { ⌜ slotEnd s ≤ length (now work) ⌝ }
+    ensures { λ r. ⌜ r ≡ operatorBits (opAt (now (work .entry)) s) 0 ⌝ }
+{
+    fields::operator_bits(work[SLOT_WORDS * (s as usize)])
+}
+
 pub fn start_of(work: &[u32], s: u32) -> u32
     requires { ⌜ slotEnd s ≤ length (now work) ⌝ }
     ensures { λ r. ⌜ r ≡ startAt (now (work .entry)) s ⌝ }
@@ -153,13 +161,16 @@ pub fn is_leaf(work: &[u32], s: u32) -> bool
     first_of(work, s) == 0
 }
 
-// Whether slot s is a leaf of op.
+// Whether slot s is a leaf of op. Every caller names an operator below 256, which the bits as they stand tell from all others.
 pub fn is_token(work: &[u32], s: u32, op: u32) -> bool
     requires { ⌜ slotEnd s ≤ length (now work) ⌝ }
     ensures { λ r. ⌜ r ≡ isTokenAt (now (work .entry)) s op ⌝ }
 {
     if first_of(work, s) != 0 {
         return false;
+    }
+    if op < fields::FIRST_HOST {
+        return operator_bits_of(work, s) == op;
     }
     operator_of(work, s) == op
 }

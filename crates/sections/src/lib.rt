@@ -55,7 +55,7 @@ pub fn members(work: &mut [u32], base: usize, n: usize) -> Flat
     while read < n {
         let item = work[base + read];
         read += 1;
-        if slots::operator_of(work, item) == op::MEMBER_ACCESSOR {
+        if slots::operator_bits_of(work, item) == op::MEMBER_ACCESSOR {
             if write == 0 {
                 return Flat::Fail(Failure::LeadingMemberAccessor(item));
             }
@@ -181,7 +181,7 @@ fn look(work: &mut [u32], base: usize, marks: usize, at: Reached, item: u32) -> 
         depth,
         index,
     };
-    let operator = slots::operator_of(work, item);
+    let operator = slots::operator_bits_of(work, item);
     if is_opener(operator) {
         return Bracket::On(open_section(work, base, marks, here, item));
     }

@@ -1,5 +1,5 @@
 -- `sections::look` meets its contract.
-use Prim.Native.Nat.{_+_, _^_, _<_}
+use Prim.Native.Nat.{ℕ, _+_, _^_, _≤_, _<_}
 use mathlib.Core.Path.{_≡_, refl, sym, ap, _∙_}
 use mathlib.Core.Logic.{_⊎_, inl, inr, ⊎-elim}
 use mathlib.Core.Bool.{true, false}
@@ -7,14 +7,32 @@ use native.Mathlib.Omega.{arith}
 use borrow.Author.Needs.{needs}
 use lib.ListN.{length-set}
 use Rattle.molang.specs.Operator.{isCloser}
-use Rattle.molang.specs.Nesting.{openAfter}
+use Rattle.molang.specs.Words.{operatorBits}
 use Rattle.ops.specs.Operators.{isOpener}
+use Rattle.ops.proofs.OperatorLaws.{apart, no-closer}
+use Rattle.words.proofs.FieldLaws.{same-by-bits}
+use Rattle.nodes.specs.Slots.{opAt}
 use Rattle.nodes.proofs.Runs.{set-other}
 use Rattle.sections.proofs.SectionCases.{closer-open}
 use Rattle.sections.proofs.SectionLooking.{look-in, look-position, look-places, look-other, look-opens, look-closes, looked-on}
 use Rattle.sections.proofs.SectionLooking.{position-small, opens-same}
 use Rattle.sections.proofs.look.Statement.{statement}
 use Rattle.sections.proofs.look.Tie as tie
+
+-- No number above the brackets opens or closes, so the operator's bits as they stand do as the operator does.
+no-opener : (n : ℕ) → 6 ≤ n → isOpener n ≡ false
+unfolding isOpener
+no-opener n above = rw (no-closer n ((λ e. omega arith), ((λ e. omega arith), ((λ e. omega arith), tt))), isOpener)
+
+no-end : (n : ℕ) → 6 ≤ n → isCloser n ≡ false
+unfolding isCloser
+no-end n above = sym (apart _ n ((λ e. omega arith), ((λ e. omega arith), ((λ e. omega arith), tt))))
+
+opens-by-bits : (n b : ℕ) → b ≡ operatorBits n 0 → isOpener n ≡ isOpener b
+opens-by-bits n b e = sym (same-by-bits isOpener false (λ m h. no-opener m (omega arith)) n) ∙ ap isOpener (sym e)
+
+closes-by-bits : (n b : ℕ) → b ≡ operatorBits n 0 → isCloser n ≡ isCloser b
+closes-by-bits n b e = sym (same-by-bits isCloser false (λ m h. no-end m (omega arith)) n) ∙ ap isCloser (sym e)
 
 small : (c : tie.After-position) → c .position .result + 1 < 2 ^ 32
 small c =
@@ -26,8 +44,8 @@ small c =
 position-requires : tie.Need-position-requires
 position-requires c κs = search needs
 
-operator-of-requires : tie.Need-operator-of-requires
-operator-of-requires c κs = let g = c .before .before .before .pre .0 in omega (arith, look-in g, g .apart, g .room)
+operator-bits-of-requires : tie.Need-operator-bits-of-requires
+operator-bits-of-requires c κs = let g = c .before .before .before .pre .0 in omega (arith, look-in g, g .apart, g .room)
 
 is-opener-requires : tie.Need-is-opener-requires
 is-opener-requires c κs = search needs
@@ -47,11 +65,12 @@ returns c =
     let test = c .before .before .before .before in
     let s = test .before .before .before .before .before .before in
     let e = test .before .before .before .before .position in
-    let o = test .before .before .operator-of in
-    let h : isOpener (o .result) ≡ true = sym (test .before .is-opener .ensures) ∙ test .if1 .taken in
+    let o = opAt (s .args .work .now) (s .args .item) in
+    let bits = test .before .before .operator-bits-of in
+    let h : isOpener o ≡ true = opens-by-bits o (bits .result) (bits .ensures) ∙ (sym (test .before .is-opener .ensures) ∙ test .if1 .taken) in
     let r = c .before .before .open-section in
     looked-on (s .pre .0) (s .args .at .index) (e .result) (r .result) (r .last .0) (e .ensures .0) (e .ensures .1)
-    (λ g. look-opens g (o .result) (e .result) (r .result) (r .last .0) (o .ensures) h (r .ensures .words) (r .ensures .more)
+    (λ g. look-opens g o (e .result) (r .result) (r .last .0) refl h (r .ensures .words) (r .ensures .more)
     (r .ensures .deeper) (r .ensures .at))
     (opens-same (s .args .work .now) (r .last .0) (s .args .base) (s .args .marks) (s .args .at .write) (s .args .at .depth) (s .args .item)
     (e .result) (r .ensures .words)) (r .kept .0)
@@ -74,20 +93,23 @@ returns-2 c =
     let if1 = if2 .before .before in
     let s = if1 .before .before .before .before .before .before in
     let e = if1 .before .before .before .before .position in
-    let o = if1 .before .before .operator-of in
-    let h : isOpener (o .result) ≡ false = sym (if1 .before .is-opener .ensures) ∙ if1 .if1 .left in
-    let closes : isCloser (o .result) ≡ true = sym (if2 .before .is-closer .ensures) ∙ if2 .if2 .taken in
+    let o = opAt (s .args .work .now) (s .args .item) in
+    let bits = if1 .before .before .operator-bits-of in
+    let h : isOpener o ≡ false = opens-by-bits o (bits .result) (bits .ensures) ∙ (sym (if1 .before .is-opener .ensures) ∙ if1 .if1 .left) in
+    let closes : isCloser o ≡ true =
+    closes-by-bits o (bits .result) (bits .ensures) ∙ (sym (if2 .before .is-closer .ensures) ∙ if2 .if2 .taken)
+    in
     let r = c .before .before .close-section in
     let w = r .ensures .0 in
-    let fewer = closer-open (s .args .at .depth) (o .result) h closes in (
+    let fewer = closer-open (s .args .at .depth) o h closes in (
       record {
         answer = λ g.
             look-position g (s .args .at .index) (e .result) (r .result) (r .last .0) (e .ensures .0) (e .ensures .1)
-            (look-closes g (o .result) (e .result) (r .result) (r .last .0) (o .ensures) h closes w);
+            (look-closes g o (e .result) (r .result) (r .last .0) refl h closes w);
         same = λ g j f x y. w .same g j f;
         long = w .long;
       },
-      r .ensures .1 ∙ sym fewer ∙ ap (openAfter (s .args .at .depth)) (o .ensures),
+      r .ensures .1 ∙ sym fewer,
     )
 
 add-work : tie.Need-add-work
@@ -110,13 +132,15 @@ returns-3 c =
     let test = c .before .before in
     let s = test .before .before .before .before .before .before in
     let e = test .before .before .before .before .position in
-    let o = test .before .before .operator-of in
-    let h : isOpener (o .result) ≡ false = sym (test .before .is-opener .ensures) ∙ test .if1 .left in
-    let other : (isCloser (o .result) ≡ false) ⊎ (s .args .at .depth ≡ 0) =
-    ⊎-elim (λ w. inr (w .1 .left)) (λ w. inl (sym (c .before .is-closer .ensures) ∙ w .left)) (c .if2 .came)
+    let o = opAt (s .args .work .now) (s .args .item) in
+    let bits = test .before .before .operator-bits-of in
+    let h : isOpener o ≡ false = opens-by-bits o (bits .result) (bits .ensures) ∙ (sym (test .before .is-opener .ensures) ∙ test .if1 .left) in
+    let ends = closes-by-bits o (bits .result) (bits .ensures) in
+    let other : (isCloser o ≡ false) ⊎ (s .args .at .depth ≡ 0) =
+    ⊎-elim (λ w. inr (w .1 .left)) (λ w. inl (ends ∙ (sym (c .before .is-closer .ensures) ∙ w .left))) (c .if2 .came)
     in
     looked-on (s .pre .0) (s .args .at .index) (e .result) _ _ (e .ensures .0) (e .ensures .1)
-    (λ g. look-places g (e .result) _ refl (look-other g (o .result) (e .result) (o .ensures) h other))
+    (λ g. look-places g (e .result) _ refl (look-other g o (e .result) refl h other))
     (λ j x y. set-other (s .args .work .now) _ (s .args .base + s .args .at .write) (s .args .item) refl j
     (⊎-elim (λ w. omega arith) (λ w. omega arith) x)) (simp length-set)
 
@@ -125,7 +149,7 @@ look-spec =
     tie.close
     (tie.spec
     position-requires
-    operator-of-requires
+    operator-bits-of-requires
     is-opener-requires
     open-section-requires
     same-length

@@ -4,6 +4,7 @@ use mathlib.Core.Path.{refl, sym, _∙_}
 use native.Mathlib.Omega.{arith}
 use lib.ListN.{length}
 use Rattle.nodes.specs.Store.{wd, slotEnd}
+use Rattle.nodes.proofs.Tokens.{from-bits, to-bits}
 use Rattle.sections.specs.Flat.{CanJoin}
 use Rattle.sections.proofs.MemberLaws.{Joining, JoinTurn, join-start, join-turn, join-in, join-leading, join-accessor, join-member}
 use Rattle.sections.proofs.MemberLaws.{join-other, join-done}
@@ -54,8 +55,8 @@ slice-read-item c = inside (c .before)
 add-read : tie.Need-add-read Inv-loop μ-loop
 add-read c = let b = inside (c .before) in omega arith
 
-operator-of-requires : tie.Need-operator-of-requires Inv-loop μ-loop
-operator-of-requires c κs = bounds (c .before .before) .1
+operator-bits-of-requires : tie.Need-operator-bits-of-requires Inv-loop μ-loop
+operator-bits-of-requires c κs = bounds (c .before .before) .1
 
 same-length : tie.Need-same-length Inv-loop μ-loop
 same-length c = let v = c .before .before .before .before .before .before .loop .inv in v .1 (v .0) .2 .long
@@ -65,7 +66,7 @@ returns c =
     let t = c .before .before .before .before .before in
     let v = t .before .loop .inv in
     record {
-      answer = λ g. join-leading (turn t g) (sym (c .before .before .operator-of .ensures) ∙ c .before .if1 .taken) (c .if2 .taken);
+      answer = λ g. join-leading (turn t g) (from-bits _ 45 (omega arith) (sym (c .before .before .operator-bits-of .ensures) ∙ c .before .if1 .taken)) (c .if2 .taken);
       kept = λ g. v .1 g .2 .kept;
       long = v .1 (v .0) .2 .long;
     }
@@ -74,7 +75,7 @@ member-requires : tie.Need-member-requires Inv-loop μ-loop
 member-requires c κs =
     let if1 = c .before .before in
     let t = if1 .before .before .before .before in
-    join-accessor (turn t (t .before .loop .inv .0)) (sym (if1 .before .operator-of .ensures) ∙ if1 .if1 .taken) (c .before .if2 .left)
+    join-accessor (turn t (t .before .loop .inv .0)) (from-bits _ 45 (omega arith) (sym (if1 .before .operator-bits-of .ensures) ∙ if1 .if1 .taken)) (c .before .if2 .left)
 
 loop-less : tie.Need-loop-less Inv-loop μ-loop
 loop-less c =
@@ -90,7 +91,7 @@ loop-again c =
     let m = c .before .before .member in (
       v .0,
       λ g.
-          join-member (turn t g) (sym (if2 .before .before .operator-of .ensures) ∙ if2 .before .if1 .taken)
+          join-member (turn t g) (from-bits _ 45 (omega arith) (sym (if2 .before .before .operator-bits-of .ensures) ∙ if2 .before .if1 .taken))
           (if2 .if2 .left) (m .result) (m .last .0) (m .ensures),
     )
 
@@ -112,7 +113,7 @@ loop-less-2 c = let h = c .before .before .before .before .loop-test .taken in o
 loop-again-2 : tie.Need-loop-again-2 Inv-loop μ-loop
 loop-again-2 c =
     let t = c .before .before .before .before in
-    (t .before .loop .inv .0, λ g. join-other (turn t g) (λ e. c .if1 .left (c .before .operator-of .ensures ∙ e)) _ refl)
+    (t .before .loop .inv .0, λ g. join-other (turn t g) (λ e. c .if1 .left (c .before .operator-bits-of .ensures ∙ to-bits _ 45 (omega arith) e)) _ refl)
 
 same-length-2 : tie.Need-same-length-2 Inv-loop μ-loop
 same-length-2 c = let v = c .before .loop .inv in v .1 (v .0) .2 .long
@@ -137,7 +138,7 @@ members-spec =
     mul-item
     slice-read-item
     add-read
-    operator-of-requires
+    operator-bits-of-requires
     same-length
     returns
     member-requires

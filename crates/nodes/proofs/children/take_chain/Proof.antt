@@ -1,7 +1,8 @@
--- `nodes::children::take_chain` meets its contract.
-use Prim.Native.Nat.{_-_, _≤_, _<_}
+-- `nodes::children::take_chain` meets its contract: a turn of the loop is a step for each of two slots, or for the last one. Assumes
+-- nothing.
+use Prim.Native.Nat.{_+_, _-_, _≤_, _<_}
 use native.Mathlib.Omega.{arith}
-use lib.ListN.{length, length-set}
+use lib.ListN.{length, set, length-set}
 use Rattle.nodes.specs.Store.{slotEnd}
 use Rattle.nodes.proofs.Taking.{Taking, take-start, take-in, take-step, take-done}
 use Rattle.nodes.proofs.children.take_chain.Statement.{statement}
@@ -16,11 +17,28 @@ abbrev μ-loop : tie.MeasureT-loop
 loop-holds : tie.Need-loop-holds Inv-loop μ-loop
 loop-holds c = take-start (c .before .pre)
 
+-- The slot is in the store, and there is room for it.
 bounds : (c : tie.In-loop Inv-loop μ-loop)
     → let w = c .before .loop in
     let to = c .before .before .before .args .to in
     (slotEnd (w .s) ≤ to) × (to ≤ w .i) × (w .i < length (w .work))
 bounds c = let v = c .before .loop .inv in take-in (v .1) (v .2) (c .loop-test .taken)
+
+-- It is taken.
+one : (c : tie.After-next-of Inv-loop μ-loop)
+    → let w = c .before .before .before .loop in
+    let a = c .before .before .before .before .before .args in
+    Taking (a .work .now) (a .first) (a .to) (set (w .work) (w .i) (w .s)) (c .next-of .result) (w .i + 1)
+one c =
+    let v = c .before .before .before .loop .inv in
+    rw (c .next-of .ensures) (take-step (v .1) (v .2) (c .before .before .loop-test .taken))
+
+-- The slot after it is in the store, and there is room for it.
+more : (c : tie.Else1 Inv-loop μ-loop)
+    → let w = c .before .before .before .before .loop in
+    let a = c .before .before .before .before .before .before .args in
+    (slotEnd (c .before .next-of .result) ≤ a .to) × (a .to ≤ w .i + 1) × (w .i + 1 < length (set (w .work) (w .i) (w .s)))
+more c = let v = one (c .before) in take-in (v .1) (v .2) (c .if1 .left)
 
 mul-work : tie.Need-mul-work Inv-loop μ-loop
 mul-work c = let b = bounds c in omega arith
@@ -34,22 +52,44 @@ add-i c = let b = bounds c in omega arith
 next-of-requires : tie.Need-next-of-requires Inv-loop μ-loop
 next-of-requires c κs = let b = bounds (c .before) in simp length-set (omega arith)
 
+sub-result : tie.Need-sub-result Inv-loop μ-loop
+sub-result c = omega (arith, one (c .before) .2 .at)
+
+same-length : tie.Need-same-length Inv-loop μ-loop
+same-length c = one (c .before) .2 .long
+
+returns : tie.Need-returns Inv-loop μ-loop
+returns c = let v = one (c .before) in take-done (v .1) (v .2) (c .if1 .taken)
+
+mul-work-2 : tie.Need-mul-work-2 Inv-loop μ-loop
+mul-work-2 c = let b = more c in omega (arith, one (c .before) .2 .long)
+
+slice-write-work-2 : tie.Need-slice-write-work-2 Inv-loop μ-loop
+slice-write-work-2 c = more c .2
+
+add-i-2 : tie.Need-add-i-2 Inv-loop μ-loop
+add-i-2 c = let b = more c in omega (arith, one (c .before) .2 .long)
+
+next-of-requires-2 : tie.Need-next-of-requires-2 Inv-loop μ-loop
+next-of-requires-2 c κs = let b = more (c .before) in simp length-set (omega (arith, one (c .before .before) .2 .long))
+
 loop-less : tie.Need-loop-less Inv-loop μ-loop
-loop-less c = let b = bounds (c .before .before) in omega arith
+loop-less c = let b = bounds (c .before .before .before .before .before) in omega arith
 
 loop-again : tie.Need-loop-again Inv-loop μ-loop
 loop-again c =
-    let v = c .before .before .before .loop .inv in
-    rw (c .next-of .ensures) (take-step (v .1) (v .2) (c .before .before .loop-test .taken))
+    let test = c .before .before in
+    let v = one (test .before) in
+    rw (c .next-of2 .ensures) (take-step (v .1) (v .2) (test .if1 .left))
 
-sub-result : tie.Need-sub-result Inv-loop μ-loop
-sub-result c = omega (arith, c .before .loop .inv .2 .at)
+sub-result-2 : tie.Need-sub-result-2 Inv-loop μ-loop
+sub-result-2 c = omega (arith, c .before .loop .inv .2 .at)
 
-same-length : tie.Need-same-length Inv-loop μ-loop
-same-length c = c .before .loop .inv .2 .long
+same-length-2 : tie.Need-same-length-2 Inv-loop μ-loop
+same-length-2 c = c .before .loop .inv .2 .long
 
-returns : tie.Need-returns Inv-loop μ-loop
-returns c = let v = c .before .loop .inv in take-done (v .1) (v .2) (c .loop-test .left)
+returns-2 : tie.Need-returns-2 Inv-loop μ-loop
+returns-2 c = let v = c .before .loop .inv in take-done (v .1) (v .2) (c .loop-test .left)
 
 pub take-chain-spec : {M : Type 1} → statement M
 take-chain-spec =
@@ -62,8 +102,15 @@ take-chain-spec =
     slice-write-work
     add-i
     next-of-requires
-    loop-less
-    loop-again
     sub-result
     same-length
-    returns)
+    returns
+    mul-work-2
+    slice-write-work-2
+    add-i-2
+    next-of-requires-2
+    loop-less
+    loop-again
+    sub-result-2
+    same-length-2
+    returns-2)
