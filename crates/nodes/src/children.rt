@@ -39,8 +39,8 @@ pub fn attach_two(work: &mut [u32], parent: u32, left: u32, right: u32)
 }
 
 // Copies the slots of the chain from `first` on to the words from `to` on, and gives back their number. `driver::open` has room for them.
-// Most chains have one or two: a turn takes two, so that the first and the second are taken at two places of the code, as `count_chain` reads
-// them.
+// Most chains have one or two: a turn takes two, so that the first and the second are taken at two places of the code, as `count_chain`
+// reads them.
 pub fn take_chain(work: &mut [u32], first: u32, to: usize) -> usize
     requires { ⌜ CanTake (now work) first to ⌝ }
     ensures { λ r. ⌜ Taken (now (work .entry)) first to r (now (work .exit)) ⌝ }

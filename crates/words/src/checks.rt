@@ -150,8 +150,8 @@ fn are_halves(upper: u32, lower: u32, operator: u32) -> bool
     upper % 65536 + lower % 65536 <= operator / 256 % 16 * 131_072
 }
 
-// Whether all words of a token are good, by tests that every good token of document 01's operators meets that carries nothing: each of its
-// words but the span's two is as good as known then, which is what most tokens of a list are.
+// Whether all words of a token are good, by tests that a good token meets where it carries nothing and its operator is document 01's. Most
+// tokens are so, and nothing is open of such a token but the operator's number and the span.
 fn is_bare(words: TokenWords) -> bool
     ensures { λ r. ⌜ (r ≡ true → ((at : ℕ) → wordsRefusal at operatorField 0 (fiveWords words) ≡ none)) ⌝ }
 {

@@ -67,7 +67,8 @@ returns c =
     let e = test .before .before .before .before .position in
     let o = opAt (s .args .work .now) (s .args .item) in
     let bits = test .before .before .operator-bits-of in
-    let h : isOpener o ≡ true = opens-by-bits o (bits .result) (bits .ensures) ∙ (sym (test .before .is-opener .ensures) ∙ test .if1 .taken) in
+    let same = opens-by-bits o (bits .result) (bits .ensures) in
+    let h : isOpener o ≡ true = same ∙ (sym (test .before .is-opener .ensures) ∙ test .if1 .taken) in
     let r = c .before .before .open-section in
     looked-on (s .pre .0) (s .args .at .index) (e .result) (r .result) (r .last .0) (e .ensures .0) (e .ensures .1)
     (λ g. look-opens g o (e .result) (r .result) (r .last .0) refl h (r .ensures .words) (r .ensures .more)
@@ -95,7 +96,8 @@ returns-2 c =
     let e = if1 .before .before .before .before .position in
     let o = opAt (s .args .work .now) (s .args .item) in
     let bits = if1 .before .before .operator-bits-of in
-    let h : isOpener o ≡ false = opens-by-bits o (bits .result) (bits .ensures) ∙ (sym (if1 .before .is-opener .ensures) ∙ if1 .if1 .left) in
+    let same = opens-by-bits o (bits .result) (bits .ensures) in
+    let h : isOpener o ≡ false = same ∙ (sym (if1 .before .is-opener .ensures) ∙ if1 .if1 .left) in
     let closes : isCloser o ≡ true =
     closes-by-bits o (bits .result) (bits .ensures) ∙ (sym (if2 .before .is-closer .ensures) ∙ if2 .if2 .taken)
     in
@@ -134,7 +136,8 @@ returns-3 c =
     let e = test .before .before .before .before .position in
     let o = opAt (s .args .work .now) (s .args .item) in
     let bits = test .before .before .operator-bits-of in
-    let h : isOpener o ≡ false = opens-by-bits o (bits .result) (bits .ensures) ∙ (sym (test .before .is-opener .ensures) ∙ test .if1 .left) in
+    let same = opens-by-bits o (bits .result) (bits .ensures) in
+    let h : isOpener o ≡ false = same ∙ (sym (test .before .is-opener .ensures) ∙ test .if1 .left) in
     let ends = closes-by-bits o (bits .result) (bits .ensures) in
     let other : (isCloser o ≡ false) ⊎ (s .args .at .depth ≡ 0) =
     ⊎-elim (λ w. inr (w .1 .left)) (λ w. inl (ends ∙ (sym (c .before .is-closer .ensures) ∙ w .left))) (c .if2 .came)

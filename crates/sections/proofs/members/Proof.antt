@@ -65,8 +65,9 @@ returns : tie.Need-returns Inv-loop μ-loop
 returns c =
     let t = c .before .before .before .before .before in
     let v = t .before .loop .inv in
+    let accessor = from-bits _ 45 (omega arith) (sym (c .before .before .operator-bits-of .ensures) ∙ c .before .if1 .taken) in
     record {
-      answer = λ g. join-leading (turn t g) (from-bits _ 45 (omega arith) (sym (c .before .before .operator-bits-of .ensures) ∙ c .before .if1 .taken)) (c .if2 .taken);
+      answer = λ g. join-leading (turn t g) accessor (c .if2 .taken);
       kept = λ g. v .1 g .2 .kept;
       long = v .1 (v .0) .2 .long;
     }
@@ -75,7 +76,8 @@ member-requires : tie.Need-member-requires Inv-loop μ-loop
 member-requires c κs =
     let if1 = c .before .before in
     let t = if1 .before .before .before .before in
-    join-accessor (turn t (t .before .loop .inv .0)) (from-bits _ 45 (omega arith) (sym (if1 .before .operator-bits-of .ensures) ∙ if1 .if1 .taken)) (c .before .if2 .left)
+    let accessor = from-bits _ 45 (omega arith) (sym (if1 .before .operator-bits-of .ensures) ∙ if1 .if1 .taken) in
+    join-accessor (turn t (t .before .loop .inv .0)) accessor (c .before .if2 .left)
 
 loop-less : tie.Need-loop-less Inv-loop μ-loop
 loop-less c =
@@ -88,11 +90,10 @@ loop-again c =
     let if2 = c .before .before .before .before in
     let t = if2 .before .before .before .before .before in
     let v = t .before .loop .inv in
-    let m = c .before .before .member in (
+    let m = c .before .before .member in
+    let accessor = from-bits _ 45 (omega arith) (sym (if2 .before .before .operator-bits-of .ensures) ∙ if2 .before .if1 .taken) in (
       v .0,
-      λ g.
-          join-member (turn t g) (from-bits _ 45 (omega arith) (sym (if2 .before .before .operator-bits-of .ensures) ∙ if2 .before .if1 .taken))
-          (if2 .if2 .left) (m .result) (m .last .0) (m .ensures),
+      λ g. join-member (turn t g) accessor (if2 .if2 .left) (m .result) (m .last .0) (m .ensures),
     )
 
 add-work : tie.Need-add-work Inv-loop μ-loop
@@ -113,7 +114,8 @@ loop-less-2 c = let h = c .before .before .before .before .loop-test .taken in o
 loop-again-2 : tie.Need-loop-again-2 Inv-loop μ-loop
 loop-again-2 c =
     let t = c .before .before .before .before in
-    (t .before .loop .inv .0, λ g. join-other (turn t g) (λ e. c .if1 .left (c .before .operator-bits-of .ensures ∙ to-bits _ 45 (omega arith) e)) _ refl)
+    let bits = c .before .operator-bits-of .ensures in
+    (t .before .loop .inv .0, λ g. join-other (turn t g) (λ e. c .if1 .left (bits ∙ to-bits _ 45 (omega arith) e)) _ refl)
 
 same-length-2 : tie.Need-same-length-2 Inv-loop μ-loop
 same-length-2 c = let v = c .before .loop .inv in v .1 (v .0) .2 .long
