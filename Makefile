@@ -22,7 +22,8 @@ help:
 	@echo 'make browser    looks at a drawing in a headless Chromium, and takes a screenshot'
 	@echo 'make test       the gate: everything from nothing, which takes long; removes target/ first'
 	@echo 'make compare    compares the library and the programs with the Rust parser (LISTS=5000000 SEED=1)'
-	@echo 'make bench      times reading, writing, stack order, lifting and the programs (SORBRUDDER_BEFORE=folder of an archive to time beside)'
+	@echo 'make bench      times reading, writing, stack order, lifting and the programs' \
+	    '(SORBRUDDER_BEFORE=folder of an archive to time beside)'
 	@echo 'make edits      tries the must-fail edits that the gate leaves out, hours'
 	@echo 'make believed   prints what must be believed, with its lines'
 	@echo 'make prebuilt   fills prebuilt/ with the library as it is proved here'

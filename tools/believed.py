@@ -5,7 +5,7 @@
 
 It starts from the contract of each public entry and follows the definitions that it cites, file by file, to those that they lean on. Files
 of code, laws and proofs are not among them: the checker holds those to the contracts. It fails where a promise reaches a file of proofs/.
-Theorems about the definition that no entry's promise cites have their statements listed too.
+Of theorems that no entry's promise cites, those of `STATEMENTS`, the definitions that they are stated by are listed too.
 """
 
 import re
@@ -41,7 +41,8 @@ ENTRIES = [
     ("liftcount", "src/feed.rt", "feed"),
     ("liftcount", "src/finish.rt", "finish"),
 ]
-# `use Rattle.CRATE.specs.MODULE.{NAMES}`, with the part named twice within the crate itself; in code with `ghost` and `;`.
+# `use Rattle.CRATE.specs.MODULE.{NAMES}`, with the part named twice within the crate itself; in code with `ghost` and `;`. On one line:
+# `lines_in` joins those that the layout has over several.
 USE = re.compile(r"(?:ghost )?use Rattle·(\w+)(?:·\w+)?\.(?:specs\.)?(specs|proofs|declared)\.([\w.]+?)(?:\.\{(.*)\})?(?: as (\w+))?;?$")
 # Files of molang/specs that are apart from the rules, and what they are.
 APART = {
@@ -50,6 +51,8 @@ APART = {
     "Operator": "the operators' names and sets",
     "Lines": "the table of examples",
 }
+# A `use` whose names stand over several lines.
+LONG_USE = re.compile(r"^((?:ghost )?use [^\n{]*\{)\n([^}]*)\}", re.MULTILINE)
 # Files of specs/ that no entry reaches, with the statement of a theorem of the same crate's proofs/, and whose it is.
 STATEMENTS = {
     ("molang", "Matching"): "the theorem `nothing-lost` says",
@@ -57,7 +60,18 @@ STATEMENTS = {
     ("molang", "Payloads"): "the theorems `one-name`, `one-name-ruled`, `one-node` and `one-name-on` say",
     ("held", "Histories"): "the theorems `afresh` and `as-asked` say",
     ("held", "Runs"): "the theorems `ran-after`, `words-are`, `asked-afresh` and `committed-as-asked` say",
+    ("molang", "Free"): "the theorem `no-masks` says",
+    ("molang", "Work"): "the theorem `no-frames` says",
 }
+# Definitions of a theorem's own file in proofs/ that its statement names.
+BESIDE = {
+    ("molang", "NoFrames"): (["unaryOn", "step", "Run"], "the theorem `no-frames` says"),
+}
+
+
+def lines_in(path):
+    """The lines of a file, each `use` on one."""
+    return LONG_USE.sub(lambda use: use[1] + " ".join(use[2].split()) + "}", path.read_text()).splitlines()
 
 
 def cited(line):
@@ -75,7 +89,7 @@ def file_of(crate, part, module):
 
 def contract(crate, file, function):
     """The clauses of a function, and the `use` lines whose names stand in them."""
-    lines = (CRATES / crate / file).read_text().splitlines()
+    lines = lines_in(CRATES / crate / file)
     start = next(i for i, line in enumerate(lines) if re.match(rf"(pub )?(extern \"C\" )?fn {function}\b", line))
     end = next(i for i in range(start, len(lines)) if lines[i] == "{")
     first = next((i for i in range(start, end) if re.match(r"\s+(ensures|requires)\b", lines[i])), None)
@@ -96,13 +110,27 @@ def closure(uses):
         if (crate, module) in seen:
             continue
         seen.append((crate, module))
-        todo += [c[:3] for c in map(cited, file_of(crate, "specs", module).read_text().splitlines()) if c]
+        todo += [c[:3] for c in map(cited, lines_in(file_of(crate, "specs", module))) if c]
     return seen
 
 
-def lines_of(path):
-    kept = [line.strip() for line in path.read_text().splitlines()]
+def count_of(lines):
+    kept = [line.strip() for line in lines]
     return sum(bool(line) and not line.startswith(("--", "use ")) for line in kept)
+
+
+def lines_of(path):
+    return count_of(lines_in(path))
+
+
+def definition(path, name):
+    """The lines of one definition: those from its name on, up to the next comment or blank line at the margin."""
+    lines = lines_in(path)
+    start = next((i for i, line in enumerate(lines) if re.match(rf"(?:\w+ )*{re.escape(name)} ", line)), None)
+    if start is None:
+        sys.exit(f"believed: {path.name} has no {name}")
+    end = next((i for i in range(start, len(lines)) if not lines[i] or lines[i].startswith("--")), len(lines))
+    return lines[start:end]
 
 
 def main():
@@ -122,6 +150,9 @@ def main():
     for (crate, module), theorem in STATEMENTS.items():
         if (crate, module) not in by_file:
             rows.append((f"`{crate}/specs`: {module}", f"what {theorem}", lines_of(file_of(crate, "specs", module))))
+    for (crate, module), (names, theorem) in BESIDE.items():
+        said = [line for name in names for line in definition(file_of(crate, "proofs", module), name)]
+        rows.append((f"`{crate}/proofs`: {', '.join(f'`{name}`' for name in names)} of {module}", f"what {theorem}", count_of(said)))
     for crate, module in sorted(key for key in by_file if key[0] != "molang"):
         users = ", ".join(f"`{function}`" for function in sorted(by_file[crate, module]))
         rows.append((f"`{crate}/specs`: {module}", f"what the promise of {users} cites", lines_of(file_of(crate, "specs", module))))
