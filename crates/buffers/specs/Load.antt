@@ -52,7 +52,8 @@ pub record CanLoad (list W : List ℕ) (n : ℕ) : Type 0 where
   pub few : n ≤ mostTokens
   pub room : 64 * n + 64 ≤ length W
 
--- The list's tokens stand as leaves, in three slots each from slot 3 on. Slots 0 to 2 are as they were.
+-- The list's tokens stand as leaves, in three slots each from slot 3 on. Slots 0 to 2 are as they were. The next siblings of the tokens'
+-- slots, the two slots after each of them, and the words after the n of the stack are left free.
 pub record Loaded (list W : List ℕ) (n : ℕ) (W' : List ℕ) : Type 0 where
   pub seg : Seg W' (24 * n + 24) (tokenSlots 0 n)
   pub rep : RepF W' (0 ∷ []) (tokenSlots 0 n) 3 (3 * n + 3) (leaves (tokensOf list))

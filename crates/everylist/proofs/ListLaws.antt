@@ -86,7 +86,7 @@ all-legal alphabet [] legal are = refl
 all-legal alphabet (a ∷ letters) legal are =
     let parts = both (among a alphabet) _ are in
     let o = occurs a alphabet (parts .0) in
-    let first = legal-at alphabet legal (o .place) (o .below) in
+    let first = legal-at alphabet legal (o .index) (o .below) in
     and-true-true (isOperator a) _ (rw (o .is) at first) (all-legal alphabet letters legal (parts .1))
 
 -- WHAT `list_at` TELLS

@@ -267,7 +267,7 @@ group-sections {n = n} {used = used} g w =
       hi = 3 * n + 3;
       f = a .forest;
       array = a .array;
-      plain = joined-light (runs (usedBy used) memberAccessors) (g .tokens) (a .forest) (a .is) .1;
+      isFlat = joined-light (runs (usedBy used) memberAccessors) (g .tokens) (a .forest) (a .is) .1;
       below = omega (arith, g .based);
       room = omega (arith, g .based, g .room, a .fewer, w .long);
       small = omega (arith, g .few, a .fewer);

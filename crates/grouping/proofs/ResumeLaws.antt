@@ -216,7 +216,7 @@ keep-resumed W W' v v' p item h keeping ev ew =
 -- ---- from the right
 
 module _ (W W' X : List ℕ) (lo l m hi item : ℕ) (v : Items) (k : Token) (kids rest : Forest) (tree : RepT W X item l m k kids)
-    (low : lo ≤ l) (mid : l ≤ m) (high : m ≤ hi) (below : slotStart hi ≤ v .base) (some-place : v .read < v .write)
+    (low : lo ≤ l) (mid : l ≤ m) (high : m ≤ hi) (below : slotStart hi ≤ v .base) (gap : v .read < v .write)
     (ew : W' ≡ set W (v .base + (v .write - 1)) item) (room : v .base + (v .write - 1) < length W) where
   put-before : (κ : Kind) (t : State κ) → Runs κ Unary → DoneSide κ W X lo l m hi (walkOf v Unary) t → UnreadSide κ W X lo l m hi v rest
       → v .base + v .len ≤ length W'

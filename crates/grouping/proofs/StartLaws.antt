@@ -212,9 +212,9 @@ module _ (W W' : List ℕ) (owner base len : ℕ) where
   pub opens-moved : (v : Items) → v ≡ movedTo (listFrom owner base len) len len → Opens W W' owner base len Unary (walkOf v Unary)
   opens-moved v e = subst (λ (x : Items). Opens W W' owner base len Unary (walkOf x Unary)) (sym e) opens-unary
 
-  pub opens-plain : (w : Walk) → Started W' (listFrom owner base len) w → Opens W W' owner base len Unsplit w
+  pub opens-unsplit : (w : Walk) → Started W' (listFrom owner base len) w → Opens W W' owner base len Unsplit w
   unfolding inReading can-start
-  opens-plain w st κ X lo n hi cs u unsplitPass (afresh e low) v below within small same =
+  opens-unsplit w st κ X lo n hi cs u unsplitPass (afresh e low) v below within small same =
       st .holds (can-start W' (owner ∷ X) owner base len lo n hi cs v low below within small)
 
   pub opens-split : (done : ℕ) (w : Walk) → Started W' (listFrom owner base len) w → Opens W W' owner base len (Split done) w
@@ -290,7 +290,7 @@ module _ {W : List ℕ} {owner base len : ℕ} where
       → Begun W owner base len p w
   begun-started Calls w t g st = absurd (miss (2 ∷ 3 ∷ []) 0 tt t)
   begun-started MathCalls w t g st = absurd (miss (2 ∷ 3 ∷ []) 1 tt t)
-  begun-started Unsplit w t g st = started-by Unsplit w g st refl (λ before. opens-plain before W owner base len w st)
+  begun-started Unsplit w t g st = started-by Unsplit w g st refl (λ before. opens-unsplit before W owner base len w st)
   begun-started (Split done) w t g st = started-by (Split done) w g st refl (λ before. opens-split before W owner base len done w st)
   begun-started (Arrays a b) w t g st = absurd (miss (2 ∷ 3 ∷ []) 4 tt t)
   begun-started Unary w t g st = absurd (miss (2 ∷ 3 ∷ []) 5 tt t)

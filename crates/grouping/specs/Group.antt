@@ -37,7 +37,8 @@ pub record CanGroup (W : List ℕ) (base n : ℕ) : Type 0 where
   pub few : n ≤ 4096
   pub small : length W < 2 ^ 32
 
--- What is left stands for the definition's reading of those tokens, whatever the length of the source.
+-- What is left stands for the definition's reading of those tokens, whatever the length of the source. All other words of the work buffer
+-- are left free: the entry clears it.
 pub record HasGrouped (W : List ℕ) (base n : ℕ) (used : OpSet) (version : ℤ) (r : Grouped) (W' : List ℕ) : Type 0 where
   pub to : (g : CanGroup W base n) (sourceLength : ℕ)
       → StandsFor W' (3 * n + 3) n sourceLength r
@@ -77,19 +78,20 @@ pub record EndsRight (W : List ℕ) (base n : ℕ) (used : OpSet) (r : Flat) : T
       → EndsTo W sourceLength
       (ifRun (runs (usedBy used) lastToken) (endsWithSemicolon sourceLength) (leaves (g .tokens))) (leaves (g .tokens)) r
 
--- The members are joined where that pass runs.
+-- The members are joined where that pass runs. All words but those of the answer are left free.
 pub record JoinedIf (W : List ℕ) (base n : ℕ) (used : OpSet) (r : Flat) (W' : List ℕ) : Type 0 where
   pub answer : (g : CanJoin W base n)
       → Answers W' (g .X) base (g .lo) (g .hi) n (ifRun (runs (usedBy used) memberAccessors) (members nil) (leaves (g .ks))) r
   pub long : length W' ≡ length W
 
--- The sections are made where that pass runs.
+-- The sections are made where that pass runs. All words but those of the answer are left free.
 pub record SectionedIf (W : List ℕ) (base n : ℕ) (used : OpSet) (r : Flat) (W' : List ℕ) : Type 0 where
   pub answer : (g : CanSection W base n)
       → Answers W' (g .X) base (g .lo) (g .hi) n (ifRun (runs (usedBy used) sectioning) (sections 0 (outside nil)) (g .f)) r
   pub long : length W' ≡ length W
 
--- The three flat passes have run, and any passes ps come after them.
+-- The three flat passes have run, and any passes ps come after them. All words but those of the list, or of what the failure names, are
+-- left free.
 pub record Flattened (W : List ℕ) (base n : ℕ) (used : OpSet) (r : Flat) (W' : List ℕ) : Type 0 where
   pub to : (g : CanGroup W base n) (sourceLength : ℕ) (ps : List Pass)
       → FlatTo W' base n sourceLength (usedBy used) ps
@@ -108,7 +110,7 @@ pub record CanLevel (W : List ℕ) (base m : ℕ) : Type 0 where
   pub room : 64 * n + 64 ≤ length W
   pub small : length W < 2 ^ 32
 
--- What is left stands for what the passes after the sections make of that list.
+-- What is left stands for what the passes after the sections make of that list. All other words are left free.
 pub record Levelled (W : List ℕ) (base m : ℕ) (used : OpSet) (version : ℤ) (r : Grouped) (W' : List ℕ) : Type 0 where
   pub to : (g : CanLevel W base m) (sourceLength : ℕ)
       → StandsFor W' (3 * (g .n) + 3) (g .n) sourceLength r

@@ -21,6 +21,18 @@ ghost use Rattle.liftcount.specs.Steps.{atStage, afterWord, openedAfter}
 // A version word is below this.
 const PAST_VERSIONS: u32 = 65_536;
 
+// What is held after a whole word.
+fn after_word(stage: Stage, counts: Counts) -> Run
+    ensures { λ r. ⌜ ((list : List ℕ) → stateOf r list ≡ afterWord (atStage stage counts list)) ⌝ }
+{
+    Run {
+        held: 0,
+        partial: 0,
+        stage,
+        counts,
+    }
+}
+
 // Where the first word leads.
 fn after_first(w: u32) -> Stage
     ensures { λ r. ⌜ ((counts : Counts) (list : List ℕ) → atStage r counts list ≡ wordTaken Stage.First counts list w) ⌝ }
@@ -57,15 +69,11 @@ fn store(from: i16, to: i16, words: usize, counts: Counts, list: &mut [u32], w: 
     ensures { λ r. ⌜ stateOf r (now (list .exit)) ≡ afterWord (wordTaken (Stage.InList from to words) counts (now (list .entry)) w) ⌝ }
 {
     let n = one_more(words as u64) as usize;
+    let run = after_word(Stage::InList(from, to, n), counts);
     if words < list.len() {
         list[words] = w;
     }
-    Run {
-        held: 0,
-        partial: 0,
-        stage: Stage::InList(from, to, n),
-        counts,
-    }
+    run
 }
 
 // How the next list opens, once the one before it has ended.
@@ -73,18 +81,8 @@ fn reopen(ending: Ending, from: i16, to: i16, counts: Counts) -> Run
     ensures { λ r. ⌜ ((list : List ℕ) → stateOf r list ≡ afterWord (openedAfter ending from to counts list)) ⌝ }
 {
     match ending {
-        Ending::Refused(number, place) => Run {
-            held: 0,
-            partial: 0,
-            stage: Stage::Refused(number, place),
-            counts,
-        },
-        Ending::Counted(next) => Run {
-            held: 0,
-            partial: 0,
-            stage: Stage::InList(from, to, 0),
-            counts: next,
-        },
+        Ending::Refused(number, place) => after_word(Stage::Refused(number, place), counts),
+        Ending::Counted(next) => after_word(Stage::InList(from, to, 0), next),
     }
 }
 
@@ -129,24 +127,9 @@ pub fn take_word(
     let stage = run.stage;
     let counts = run.counts;
     match stage {
-        Stage::First => Run {
-            held: 0,
-            partial: 0,
-            stage: after_first(w),
-            counts,
-        },
-        Stage::Second(from) => Run {
-            held: 0,
-            partial: 0,
-            stage: after_second(from, w),
-            counts,
-        },
-        Stage::Opener(from, to) => Run {
-            held: 0,
-            partial: 0,
-            stage: after_third(from, to, w),
-            counts,
-        },
+        Stage::First => after_word(after_first(w), counts),
+        Stage::Second(from) => after_word(after_second(from, w), counts),
+        Stage::Opener(from, to) => after_word(after_third(from, to, w), counts),
         Stage::InList(from, to, words) => {
             take_in_list(
                 from,
@@ -161,12 +144,7 @@ pub fn take_word(
                 work,
             )
         }
-        Stage::Refused(number, place) => Run {
-            held: 0,
-            partial: 0,
-            stage: Stage::Refused(number, place),
-            counts,
-        },
+        Stage::Refused(number, place) => after_word(Stage::Refused(number, place), counts),
     }
 }
 

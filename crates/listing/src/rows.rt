@@ -32,9 +32,9 @@ fn put_node(out: &mut [u8], at: usize, tree: &[u32], from: usize) -> usize
     ensures { λ r. ⌜ Wrote (now (out .entry)) at (row (nodeNumbers (now (tree .entry)) from)) r (now (out .exit)) ⌝ }
 {
     let operator = fields::operator(tree[from]);
-    let start = fields::low(tree[from + 1]);
-    let end = fields::low(tree[from + 2]);
-    let children = fields::low(tree[from + 5]);
+    let start = fields::low(tree[from + fields::START_FIELD]);
+    let end = fields::low(tree[from + fields::END_FIELD]);
+    let children = fields::low(tree[from + fields::COUNT_FIELD]);
     let numbers = [operator, children, start, end];
     put_row(out, at, &numbers)
 }

@@ -110,7 +110,7 @@ rule-accepted c h =
     let x = first-none _ _ (sym (in-parts (lengthRows (c .call)) _) ∙ h) in
     in-parts (lengthRows (c .call)) (valueRows (c .call)) ∙ then-none _ _ (x .0) (first-none _ _ (x .1) .1)
 
--- THE TREE BESIDE THE RULES is the one that is given without the buffer, and so are messages and the work buffer.
+-- THE TREE BESIDE THE RULES is the one that is given without the buffer; messages and work buffer are those given without it.
 pub record AsWithout (c : RuleCall) : Type 0 where
   pub told : ruleAnswered c ≡ answered (c .call)
   pub tree : ruledTreeAfter c ≡ treeAfter (c .call)

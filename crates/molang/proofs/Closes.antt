@@ -1,5 +1,5 @@
--- Where nodes close (card 2): in the tree of a reading every node that is no opener closes at its own end. So do all tokens that are
--- written of a plain tree, as the tokens of a word list must.
+-- Where nodes close (card 2): in the tree of a reading every node that is no opener closes at its own end. All tokens that
+-- are written of a plain tree close at their own ends, as the tokens of a word list must.
 use Prim.Native.Nat.{ℕ, suc, _+_}
 use mathlib.Core.Path.{_≡_, refl, ap, sym, _∙_}
 use mathlib.Core.Bool.{Bool, true, false, false≢true, true≢false}

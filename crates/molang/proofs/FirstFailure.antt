@@ -126,11 +126,11 @@ module _ {A : Type 0} (P : A → Type 0) where
   all-between (some a) more later x y = y
 
   -- The later ones are asked where the first test holds.
-  pub all-unless : (b : Bool) (a : A) (later : List (Option A)) → P a → (b ≡ true → All P (firstOf later))
+  pub all-must-then : (b : Bool) (a : A) (later : List (Option A)) → P a → (b ≡ true → All P (firstOf later))
       → All P (firstOf (must b a ∷ later))
   unfolding firstOf must
-  all-unless true a later x y = y refl
-  all-unless false a later x y = x
+  all-must-then true a later x y = y refl
+  all-must-then false a later x y = x
 
 -- Nothing was found.
 pub withPlace-none : (place : ℕ) (o : Option ℕ) → withPlace place o ≡ none → o ≡ none

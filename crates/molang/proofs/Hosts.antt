@@ -354,7 +354,7 @@ operator-fault v w =
     rw (x .kind, one, x .number, x .variant, operator-same (numberIn (lowOf w)), room-same _ _ (x .above)) refl)
     (λ f. ap (wordFault operatorField v) (kind-unhosted w (kindOf w) refl f))
 
--- Where no operator is expected, a host's word is of the wrong kind, and so is 76's.
+-- Where no operator is expected, a host's word and 76's are of the wrong kind.
 other-fault : (field : Field) (v w : ℕ) → eqb 1 (fieldKind field) ≡ false → wordFault field v (withThisWord w) ≡ wordFault field v w
 other-fault field v w d =
     Booleans.either (isHostWord w)

@@ -47,7 +47,7 @@ legal-bare o k b h =
       close = h .end;
     }
 
--- So is a section that is closed by a legal token.
+-- A section that is closed by a legal token is legal.
 pub legal-closed : (k o : Token) → Legal k → Legal o → Legal (closedBy k o)
 unfolding closedBy
 legal-closed k o h g =
@@ -93,7 +93,7 @@ pub read-back : (tokens : List Token) (u : ℕ → Bool) (version : ℤ) (source
     → treesOf (treeWords (node k cs nil)) ≡ node k cs nil
 read-back ts u v l k cs h b e = trees-back (node k cs nil) (read-legal ts u v l k cs h b e)
 
--- Nor does it answer 12 to it.
+-- The writer does not answer 12 to it.
 pub read-unfaulted : (tokens : List Token) (u : ℕ → Bool) (version : ℤ) (sourceLength : ℕ) (k : Token) (cs : Forest) → LegalTokens tokens
     → length tokens ≤ mostTokens → read tokens u version sourceLength ≡ Answer.tree k cs
     → treeFault 0 operatorField 0 (record { called = 1; begun = 0 }) (treeWords (node k cs nil)) ≡ none

@@ -20,7 +20,7 @@ use Rattle.molang.proofs.FirstFailure.{first-none, withNumber-none}
 use Rattle.molang.proofs.Words.{LegalTokens, tokens-back}
 use Rattle.molang.proofs.ListWords.{listWords-length, uses-legal}
 use Rattle.molang.proofs.UsedSet.{used-few, halves-exact}
-use Rattle.molang.proofs.TreeWords.{tree-exact}
+use Rattle.molang.proofs.TreeWords.{tree-fault-none}
 use Rattle.molang.proofs.StackOrder.{trees-of-tree}
 use Rattle.molang.proofs.Accepted.{Acceptable}
 use Rattle.molang.proofs.HandedTree.{Parsed, tree-front, tree-told, tree-back, tree-unfaulted, tree-tells, tree-wrote, write-of-told}
@@ -42,7 +42,7 @@ tree-words ws k cs whole trees plain few list room =
     let tells = tree-tells k cs w whole trees .writes plain few room in
     rw tells (ap some (tree-wrote k cs w whole trees (write-of-told w (length (writtenTree k cs)) tells) .front))
 
--- So are those that a reading left.
+-- The words of a plain tree that a reading left are written into any list with room.
 parsed-words : {d : Call} {k : Token} {cs : Forest} → Parsed d k cs → unplainAt k cs ≡ none → length (writtenTree k cs) ≤ mostTokens
     → (list : List ℕ) → 5 * length (writtenTree k cs) ≤ length list
     → wordsOf (take (7 * size (node k cs nil)) (treeAfter d)) list ≡ some (listWords (writtenTree k cs))
@@ -120,7 +120,7 @@ unfolding writeRefusal
 written-lifts w count told =
     let writes = write-of-told w count told in
     let whole = withNumber-none 12 _ (first-none _ _ writes .0) in
-    let t : IsOneTree treeWords (w .tree) = tree-exact (w .tree) .0 whole in
+    let t : IsOneTree treeWords (w .tree) = tree-fault-none (w .tree) .0 whole in
     let k = t .root in
     let cs = t .children in
     let trees = trees-of-tree t in

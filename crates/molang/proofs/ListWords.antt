@@ -27,7 +27,7 @@ use Rattle.molang.proofs.TreeWords.{tree-unfaulted}
 use Rattle.molang.proofs.Legal.{legal-bare}
 use Rattle.molang.proofs.Writing.{written-none, written-one, written-two, written-more}
 
--- A word of a tree that has no fault has none itself, nor have the words after it.
+-- Where the words of a tree have no fault, the first of them has none, and those after it have none.
 tree-word : (i : ℕ) (field : Field) (v : ℕ) (s : Shape) (w : ℕ) (ws : List ℕ) → treeFault i field v s (w ∷ ws) ≡ none
     → (wordFault field v w ≡ none) × (treeFault (suc i) (nextInNode field) (variantAfter field v w) (shapeAfter field w s) ws ≡ none)
 unfolding treeFault continues
@@ -128,7 +128,7 @@ unfolding closerFor
 closer-legal k cs h below =
     let end = highest-legal below (k .end) (h .end) in spanning-legal Operator.rightParenthesis _ _ (omega arith) end end
 
--- So are the two tokens of a section.
+-- The two tokens of a section are legal.
 unclosed-legal : (k : Token) → Legal k → Legal (unclosed k)
 unfolding unclosed closedBy
 unclosed-legal k h =
@@ -176,7 +176,7 @@ written-legal k (node x xs (node y ys nil)) h (legalTree hx n hxs (legalTree hy 
     (token h (operand-legal (standsRight k y ys) y ys (written y ys) hy hys (written-legal y ys hy hys) r l)))
 written-legal k (node x xs (node y ys (node z zs more))) h below r l = rw (written-more k x xs y ys z zs more r) (token h l)
 
--- So is that of statements, with their semicolons, and that of a tree.
+-- The writing of statements, with their semicolons, is legal, and that of a tree.
 statements-legal : (cs : Forest) → LegalTrees cs → LegalTokens (writtenStatements cs [])
 unfolding writtenStatements
 statements-legal nil noTrees = noTokens

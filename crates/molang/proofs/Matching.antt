@@ -305,13 +305,13 @@ same-ok e = cc
 -- The step over the first tokens gives f; what comes of the others after them.
 record Halfway (f : Forest) (ys : List Token) (answer : Result) : Type 0 where
   done : Forest
-  place : ℕ
+  index : ℕ
   trees : inOrder done ≡ f
-  on : answer ≡ sections place (outside done) (leaves ys)
+  on : answer ≡ sections index (outside done) (leaves ys)
 
 halfway-end : (f : Forest) (i : ℕ) (s : Open) (ys : List Token) → closed s ≡ ok f → Halfway f ys (sections i s (leaves ys))
 unfolding closed
-halfway-end f i (outside d) ys h = record { done = d; place = i; trees = same-ok h; on = refl }
+halfway-end f i (outside d) ys h = record { done = d; index = i; trees = same-ok h; on = refl }
 halfway-end f i (section o j d s) ys h = absurd (failed-ok h)
 
 halfway-after : (i : ℕ) (f : Forest) (xs ys : List Token) (x : Walked)
@@ -347,7 +347,7 @@ unfolding followedBy
 closer-kept xs ys k f g c hf hg =
     let w = halfway f 0 (outside nil) xs (k ∷ ys) hf in
     kept-after k (w .done) f g (w .trees) (sections-beyond (node k nil (w .done)) (leaves ys) 0 _ (outside nil) _ outer)
-    (sym (w .on ∙ step (w .done) (w .place)) ∙ hg)
+    (sym (w .on ∙ step (w .done) (w .index)) ∙ hg)
   where
     step : (d : Forest) (i : ℕ)
         → sections i (outside d) (leaves (k ∷ ys)) ≡ sections (position i (outside d)) (outside (node k nil d)) (leaves ys)

@@ -318,7 +318,7 @@ module _ (first : Bool) where
       apply-gives (Given (ruleOf p) n) (emptied (ruleOf p) n) (Marked m) (λ k leaf q. before (marked-higher m n (omega arith) k leaf q))
       0 p f (renews m p h) e
 
-  -- So does each of the passes, m being the bound before the first.
+  -- Each of the passes is quiet and fits, m being the bound before the first.
   unfoldable allFit : ℕ → List Pass → Bool
   allFit m [] = true
   allFit m (p ∷ ps) = isQuiet p && (fits m p && allFit (boundAfter m p) ps)
@@ -471,7 +471,7 @@ small-append m [] ys g h i = h i
 small-append m (x ∷ xs) ys g h zero = g 0
 small-append m (x ∷ xs) ys g h (suc i) = small-append m xs ys (λ j. g (suc j)) h i
 
--- Nor is a node's: it is a byte.
+-- No node's number is above 20: it is a byte.
 pub rule-small : (first : Bool) (f : Forest) (i : ℕ) → getD (operatorRules first f) i 0 ≤ 20
 unfolding operatorRules
 rule-small first nil i = omega arith

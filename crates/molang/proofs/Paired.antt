@@ -15,7 +15,7 @@ use Rattle.molang.specs.Write.{spanning, openerFor, closerFor, closerOf,
 use Rattle.molang.proofs.Booleans.{never, or-first, or-neither}
 use Rattle.molang.proofs.Computed.{computed}
 use Rattle.molang.proofs.Trees.{both, and-true-true}
-use Rattle.molang.proofs.PlainTrees.{no-trees, other-seat, left-place, right-place, PlainExpression, inner, outer}
+use Rattle.molang.proofs.PlainTrees.{no-trees, other-seat, left-seat, right-seat, PlainExpression, inner, outer}
 use Rattle.molang.proofs.Writing.{written-one, written-two}
 
 -- An operand before the trees r, the node k over cs, which is read over ds: as it is, or in an added bracket.
@@ -257,7 +257,7 @@ two-form p false false k x xs ds y ys es h = h
 
 -- A left operand stands right of no `?`; a right one that gets a pair is not the `:` of its `?`.
 left-colon : (k x : Token) → (eqb (x .op) Operator.conditionalElse && isRightOfQuestion (seatUnder k 0)) ≡ false
-left-colon k x = rw (left-place k) (and-false (eqb (x .op) Operator.conditionalElse))
+left-colon k x = rw (left-seat k) (and-false (eqb (x .op) Operator.conditionalElse))
 
 right-colon : (k x : Token) (xs : Forest) → standsRight k x xs ≡ false
     → (eqb (x .op) Operator.conditionalElse && isRightOfQuestion (seatUnder k 1)) ≡ false
@@ -266,7 +266,7 @@ right-colon k x xs h =
     let other = or-neither (standsAlone x xs) _ h .1 in
     never (eqb (x .op) Operator.conditionalElse && isRightOfQuestion (seatUnder k 1))
     (λ t. let e = both (eqb (x .op) Operator.conditionalElse) (isRightOfQuestion (seatUnder k 1)) t in
-    true≢false (sym (and-true-true (eqb (k .op) Operator.conditional) _ (right-place k (e .1)) (e .0)) ∙ other))
+    true≢false (sym (and-true-true (eqb (k .op) Operator.conditional) _ (right-seat k (e .1)) (e .0)) ∙ other))
 
 not-alone : (k : Token) (cs : Forest) (b : Bool) → (standsAlone k cs || b) ≡ false → standsAlone k (paired k cs) ≡ false
 not-alone k cs b h = alone-again k cs ∙ or-neither (standsAlone k cs) b h .0

@@ -32,7 +32,7 @@ take-apart {width} {items} (onePayload at h p) =
     let cut : (item : List ℕ) → length item ≡ width
     → take (width * items) (p .front ++ (item ++ p .behind)) ≡ p .front ++ (item ++ take (width * rest) (p .behind)) =
     λ item n.
-    let many : width * items ≡ length (p .front) + (length item + width * rest) = omega (arith, p .place) in
+    let many : width * items ≡ length (p .front) + (length item + width * rest) = omega (arith, p .index) in
     ap (λ (m : ℕ). take m (p .front ++ (item ++ p .behind))) many
     ∙ (take-append-add (p .front) (item ++ p .behind) (length item + width * rest)
     ∙ ap (λ (l : List ℕ). p .front ++ l) (take-append-add item (p .behind) (width * rest)))
@@ -45,7 +45,7 @@ take-apart {width} {items} (onePayload at h p) =
       behind = take (width * rest) (p .behind);
       first = ap (take (width * items)) (p .first) ∙ cut (p .item) (p .wide);
       second = ap (take (width * items)) (p .second) ∙ cut (p .other) (other-wide p);
-      place = p .place;
+      index = p .index;
       wide = p .wide;
       alike = p .alike;
     })

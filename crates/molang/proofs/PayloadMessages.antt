@@ -198,7 +198,7 @@ record-in-front front n (oneArgument at h a p) =
       behind = p .behind;
       first = ap (λ (l : List ℕ). front ++ l) (p .first) ∙ sym (append-assoc front (p .front) (p .word ∷ p .behind));
       second = ap (λ (l : List ℕ). front ++ l) (p .second) ∙ sym (append-assoc front (p .front) (p .other ∷ p .behind));
-      place = omega (arith, length-append front (p .front), p .place);
+      index = omega (arith, length-append front (p .front), p .index);
     })
 
 pub records-before : {records : ℕ} {xs ys : List ℕ} (rest : List ℕ) → ArgumentApart records xs ys
@@ -213,7 +213,7 @@ records-before rest (oneArgument at h a p) =
       behind = p .behind ++ rest;
       first = ap (λ (l : List ℕ). l ++ rest) (p .first) ∙ append-assoc (p .front) (p .word ∷ p .behind) rest;
       second = ap (λ (l : List ℕ). l ++ rest) (p .second) ∙ append-assoc (p .front) (p .other ∷ p .behind) rest;
-      place = p .place;
+      index = p .index;
     })
 
 of-more-records : {records more : ℕ} {xs ys : List ℕ} → records ≤ more → ArgumentApart records xs ys → ArgumentApart more xs ys
@@ -254,7 +254,7 @@ module _ (φ ψ : Token → Token) (same : (k : Token) → blank (φ k) ≡ blan
         behind = 0 ∷ 0 ∷ 0 ∷ [];
         first = refl;
         second = rw (starts k, ends k, ops k) refl;
-        place = refl;
+        index = refl;
       })
 
   record-told : (m : Message) → RecordTold m

@@ -188,7 +188,7 @@ reads-apart : {width items : ℕ} {xs ys : List ℕ} (R : List ℕ → List Toke
     → tokensApart (R xs) (R ys) ≤ 1
 reads-apart {xs} R takes (equalWords e) = rw e (omega (arith, list-itself (R xs)))
 reads-apart {width} R takes (onePayload at h p) =
-    rw (p .first, p .second) (item-apart width R takes at (p .front) (p .item) (p .other) (p .behind) (p .place) (p .wide) (other-wide p))
+    rw (p .first, p .second) (item-apart width R takes at (p .front) (p .item) (p .other) (p .behind) (p .index) (p .wide) (other-wide p))
 
 -- Five words are a token.
 token-takes : Takes 5 tokensOf
@@ -335,7 +335,7 @@ module _ {width : ℕ} where
         behind = p .behind;
         first = ap (λ (l : List ℕ). front ++ l) (p .first) ∙ sym (append-assoc front (p .front) (p .item ++ p .behind));
         second = ap (λ (l : List ℕ). front ++ l) (p .second) ∙ sym (append-assoc front (p .front) (p .other ++ p .behind));
-        place = omega (arith, p .place, mul-add width m at);
+        index = omega (arith, p .index, mul-add width m at);
         wide = p .wide;
         alike = p .alike;
       })
@@ -352,7 +352,7 @@ module _ {width : ℕ} where
         behind = p .behind ++ rest;
         first = ap (λ (l : List ℕ). l ++ rest) (p .first) ∙ regroup (p .item);
         second = ap (λ (l : List ℕ). l ++ rest) (p .second) ∙ regroup (p .other);
-        place = p .place;
+        index = p .index;
         wide = p .wide;
         alike = p .alike;
       })
@@ -376,7 +376,7 @@ module _ {width : ℕ} where
         behind = rest;
         first = refl;
         second = refl;
-        place = sym (mul-zero width);
+        index = sym (mul-zero width);
         wide = n;
         alike = e;
       })

@@ -24,7 +24,7 @@ use Rattle.molang.specs.WriteEntry.{writeAnswered, listIn, listAfter}
 use Rattle.molang.specs.Payloads.{withList, nodesTold, recordsTold, Reach, ruledWithList, RuleReach, withTree, tokensTold, WriteReach}
 use Rattle.molang.proofs.FirstFailure.{first-none, then-none, in-parts}
 use Rattle.molang.proofs.Words.{LegalTokens, words-back, tokens-end, trees-back}
-use Rattle.molang.proofs.TreeWords.{tree-exact}
+use Rattle.molang.proofs.TreeWords.{tree-fault-none}
 use Rattle.molang.proofs.Legal.{read-legal}
 use Rattle.molang.proofs.Bounds.{records-length}
 use Rattle.molang.proofs.Accepted.{call-accepted}
@@ -258,8 +258,8 @@ pub one-node : {items : ℕ} (c : WriteCall) (other : List ℕ)
     → WriteReach c (withTree c other)
 unfolding writeAnswered listAfter forestRefusal withTree nodesApart relabelled
 one-node c other h g p =
-    let t = tree-exact (c .tree) .0 h in
-    let u = tree-exact other .0 g in
+    let t = tree-fault-none (c .tree) .0 h in
+    let u = tree-fault-none other .0 g in
     let k = t .root in
     let cs = t .children in
     let l = u .root in

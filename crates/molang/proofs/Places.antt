@@ -21,9 +21,9 @@ use Rattle.molang.proofs.FirstFailure.{must-true}
 use Rattle.molang.proofs.Words.{low-word, operator-low}
 use Rattle.molang.proofs.NodeWalk.{zero-passes, count-passes, Walk, Fits, Ending, one-more, Placed, placed}
 use Rattle.molang.proofs.TreeWords as tree
-use Rattle.molang.proofs.TreeWords.{treeWalk, tree-exact}
+use Rattle.molang.proofs.TreeWords.{treeWalk, tree-fault-none}
 use Rattle.molang.proofs.StackWords as stack
-use Rattle.molang.proofs.StackWords.{done-one, stackWalk, least-one, stack-exact}
+use Rattle.molang.proofs.StackWords.{done-one, stackWalk, least-one, stack-fault-none}
 
 -- The words before p begin a tree in the order of `inWords`, and those up to the word at p do not.
 pub record FirstWrong (inWords : Forest → List ℕ) (ws : List ℕ) (p : ℕ) : Type 0 where
@@ -32,19 +32,19 @@ pub record FirstWrong (inWords : Forest → List ℕ) (ws : List ℕ) (p : ℕ) 
   pub goesOn : IsOneTree inWords (take p ws ++ rest)
   pub stops : p < length ws → (us : List ℕ) → IsOneTree inWords (take (suc p) ws ++ us) → ⊥
 
--- A walk that is exact stops at the first word that is wrong.
+-- A walk that finds no fault in the words of one tree, and a fault in all others, stops at the first word that is wrong.
 first-wrong : {S : Type 0} (W : Walk S) (s : S) (inWords : Forest → List ℕ)
     → ((ws : List ℕ) → (W .fault 0 operatorField 0 s ws ≡ none) ↔ IsOneTree inWords ws)
     → (ws : List ℕ) (p : ℕ)
     → Placed W 0 operatorField 0 s ws p
     → FirstWrong inWords ws p
-first-wrong W s inWords exact ws p x =
+first-wrong W s inWords decides ws p x =
     let same : x .passed ≡ p = omega (arith, x .is) in
     record {
       within = omega arith;
       rest = x .rest;
-      goesOn = exact (take p ws ++ x .rest) .0 (rw same at (x .going));
-      stops = λ h us t. some-none (sym (rw same at (x .stops (omega arith) us)) ∙ exact (take (suc p) ws ++ us) .1 t);
+      goesOn = decides (take p ws ++ x .rest) .0 (rw same at (x .going));
+      stops = λ h us t. some-none (sym (rw same at (x .stops (omega arith) us)) ∙ decides (take (suc p) ws ++ us) .1 t);
     }
 
 -- A token of zeros.
@@ -71,7 +71,7 @@ zero-before W field s = one-more W field s (word (fieldKind field) 0) (zero-pass
 
 -- ---- Answer 12: leaves are put where nodes are called for
 
--- No more nodes are called for than fit, nor have more begun.
+-- At most as many nodes have begun as are called for, and at most as many are called for as fit.
 abbrev Called : Shape → Type 0
 Called s = (s .begun ≤ s .called) × (s .called ≤ mostNodes)
 
@@ -131,11 +131,11 @@ tree-keeps : (field : Field) (w : ℕ) (s : Shape) → Called s → Fits treeWal
 tree-keeps field w s g fits = (treeWalk .few field w s (fits .0), fits .1)
 
 -- ANSWER 12'S PLACE.
-pub tree-place-exact : (ws : List ℕ) (p : ℕ) → treeFault 0 operatorField 0 (record { called = 1; begun = 0 }) ws ≡ some p
+pub tree-place-first : (ws : List ℕ) (p : ℕ) → treeFault 0 operatorField 0 (record { called = 1; begun = 0 }) ws ≡ some p
     → FirstWrong treeWords ws p
-tree-place-exact ws p e =
+tree-place-first ws p e =
     let start : Shape = record { called = 1; begun = 0 } in
-    first-wrong treeWalk start treeWords tree-exact ws p
+    first-wrong treeWalk start treeWords tree-fault-none ws p
     (placed treeWalk (λ field. Called) tree-ending tree-keeps ws 0 operatorField 0 start p (omega arith, omega arith) e)
 
 -- ---- Answer 24: a node takes all trees that are done
@@ -231,9 +231,9 @@ stack-keeps countField w s g fits =
 stack-keeps closeField w s g fits = g
 
 -- ANSWER 24'S PLACE.
-pub stack-place-exact : (ws : List ℕ) (p : ℕ) → stackFault 0 operatorField 0 (record { done = 0; begun = 0 }) ws ≡ some p
+pub stack-place-first : (ws : List ℕ) (p : ℕ) → stackFault 0 operatorField 0 (record { done = 0; begun = 0 }) ws ≡ some p
     → FirstWrong stackWords ws p
-stack-place-exact ws p e =
+stack-place-first ws p e =
     let start : Stack = record { done = 0; begun = 0 } in
-    first-wrong stackWalk start stackWords stack-exact ws p
+    first-wrong stackWalk start stackWords stack-fault-none ws p
     (placed stackWalk Going stack-ending stack-keeps ws 0 operatorField 0 start p (omega arith, omega arith, λ z. omega arith) e)

@@ -78,15 +78,15 @@ other-seat k i h =
     seat-cases (λ s. isUnderSemicolon s ≡ false) k i (λ e. refl) (λ e. absurd (true≢false (sym e ∙ h))) (λ e. refl) refl
 
 -- A first child does not stand right of its `?`, and only a `?` has a child that does.
-pub left-place : (k : Token) → isRightOfQuestion (seatUnder k 0) ≡ false
+pub left-seat : (k : Token) → isRightOfQuestion (seatUnder k 0) ≡ false
 unfolding isRightOfQuestion
-left-place k =
+left-seat k =
     seat-cases (λ s. isRightOfQuestion s ≡ false) k 0 (λ e. refl) (λ e. refl)
     (λ e. absurd (false≢true (sym (and-false (eqb (k .op) Operator.conditional)) ∙ e))) refl
 
-pub right-place : (k : Token) → isRightOfQuestion (seatUnder k 1) ≡ true → eqb (k .op) Operator.conditional ≡ true
+pub right-seat : (k : Token) → isRightOfQuestion (seatUnder k 1) ≡ true → eqb (k .op) Operator.conditional ≡ true
 unfolding isRightOfQuestion
-right-place k =
+right-seat k =
     seat-cases (λ s. isRightOfQuestion s ≡ true → eqb (k .op) Operator.conditional ≡ true) k 1 (λ e h. absurd (false≢true h))
     (λ e h. absurd (false≢true h)) (λ e h. and-eq-true-iff (eqb (k .op) Operator.conditional) (eqb 1 1) .0 e .0)
     (λ h. absurd (false≢true h))

@@ -16,7 +16,7 @@ use Rattle.molang.specs.Nesting.{openAfter, firstAbove, tooDeep}
 use Rattle.molang.specs.FirstFailure.{firstOf}
 use Rattle.molang.specs.Parse.{Call, mostTokens, lengthRows, valueRows, refusal}
 use Rattle.molang.specs.Rules.{RuleCall, ruleRefusal}
-use Rattle.molang.proofs.FirstFailure.{must-false, found, in-parts, All, all-first, all-last, all-must, all-between, all-unless}
+use Rattle.molang.proofs.FirstFailure.{must-false, found, in-parts, All, all-first, all-last, all-must, all-between, all-must-then}
 use Rattle.molang.proofs.ListWords.{tokens-count}
 
 -- ---- The rows
@@ -28,18 +28,18 @@ pub all-rows : (P : Refusal → Type 0) (c : Call) → ((n : ℕ) → n ≤ 7 �
     → All P (refusal c)
 unfolding refusal lengthRows valueRows
 all-rows P c first limit words nesting =
-    all-unless P _ _ _ (first 1 (omega arith))
-    (λ whole. all-unless P _ _ _ (first 2 (omega arith))
+    all-must-then P _ _ _ (first 1 (omega arith))
+    (λ whole. all-must-then P _ _ _ (first 2 (omega arith))
     (λ few.
     let short : length (c .list) ≤ 20480 =
     omega (arith, eqb-true (length (c .list) % 5) 0 whole, leb-true (length (c .list) / 5) mostTokens few)
     in
-    all-unless P _ _ _ (first 3 (omega arith))
-    (λ t. all-unless P _ _ _ (first 4 (omega arith))
-    (λ m. all-unless P _ _ _ (first 5 (omega arith))
-    (λ w. all-unless P _ _ _ (first 6 (omega arith))
-    (λ u. all-unless P _ _ _ (first 7 (omega arith))
-    (λ s. all-unless P _ _ _ limit (λ l. all-first P _ _ (words short) (all-last P _ (nesting short))))))))))
+    all-must-then P _ _ _ (first 3 (omega arith))
+    (λ t. all-must-then P _ _ _ (first 4 (omega arith))
+    (λ m. all-must-then P _ _ _ (first 5 (omega arith))
+    (λ w. all-must-then P _ _ _ (first 6 (omega arith))
+    (λ u. all-must-then P _ _ _ (first 7 (omega arith))
+    (λ s. all-must-then P _ _ _ limit (λ l. all-first P _ _ (words short) (all-last P _ (nesting short))))))))))
 
 -- ---- The words
 

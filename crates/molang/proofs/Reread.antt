@@ -38,7 +38,7 @@ tree-room c nodes h =
     let tree = node (t .root) (t .children) nil in
     omega (arith, t .nodes, treeWords-length tree, ap length (tree-front (t .parsed)), length-take (7 * size tree) (treeAfter c))
 
--- So do the tokens that are written of it, and their words are legal.
+-- Words of so many tokens, five each, which are legal: the words written of that tree are such (`written-readable`).
 pub record Readable (ws : List ℕ) (count : ℕ) : Type 0 where
   pub long : length ws ≡ 5 * count
   pub legal : wordsRefusal 0 operatorField 0 ws ≡ none

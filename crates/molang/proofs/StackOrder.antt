@@ -23,8 +23,8 @@ use Rattle.molang.proofs.Words.{low-word, node-back, first-beside, othe
 use Rattle.molang.proofs.Bounds.{treeWords-length}
 use Rattle.molang.proofs.Forests.{inOrder-turned, reversed-count}
 use Rattle.molang.proofs.Rows.{turnedOnto-beside}
-use Rattle.molang.proofs.TreeWords.{tree-exact}
-use Rattle.molang.proofs.StackWords.{words-after, stack-exact}
+use Rattle.molang.proofs.TreeWords.{tree-fault-none}
+use Rattle.molang.proofs.StackWords.{words-after, stack-fault-none}
 use Rattle.molang.proofs.HandedTree.{front-words}
 
 -- ---- Trees are read back
@@ -99,24 +99,24 @@ pub record Reorderable (inWords : Forest → List ℕ) (c : ReorderCall) : Type 
 accepts : (inWords : Forest → List ℕ) (c : ReorderCall) (number : ℕ) (fault : Option ℕ) → (fault ≡ none) ↔ IsOneTree inWords (c .words)
     → (firstOf (withNumber number fault ∷ outputRefusal c ∷ []) ≡ none) ↔ Reorderable inWords c
 unfolding outputRefusal
-accepts inWords c number fault exact = (
+accepts inWords c number fault decides = (
   λ h.
       let x = first-none (withNumber number fault) _ h in
       let y = passed (leb (length (c .words)) (length (c .output))) _ [] (x .1) in
-      record { oneTree = exact .0 (withNumber-none number fault (x .0)); room = leb-true _ _ (y .0) },
+      record { oneTree = decides .0 (withNumber-none number fault (x .0)); room = leb-true _ _ (y .0) },
   λ r.
-      then-none _ _ (ap (withNumber number) (exact .1 (r .oneTree))) (passes _ _ [] (le-leb _ _ (r .room)) all-passed),
+      then-none _ _ (ap (withNumber number) (decides .1 (r .oneTree))) (passes _ _ [] (le-leb _ _ (r .room)) all-passed),
 )
 
 -- EXPORT ACCEPTS EXACTLY the calls whose words are one tree and whose output is not shorter.
 pub export-accepts : (c : ReorderCall) → (exportRefusal c ≡ none) ↔ Reorderable treeWords c
 unfolding exportRefusal
-export-accepts c = accepts treeWords c 12 _ (tree-exact (c .words))
+export-accepts c = accepts treeWords c 12 _ (tree-fault-none (c .words))
 
--- So does import, of words in stack order.
+-- IMPORT ACCEPTS EXACTLY the calls whose words are one tree in stack order and whose output is not shorter.
 pub import-accepts : (c : ReorderCall) → (importRefusal c ≡ none) ↔ Reorderable stackWords c
 unfolding importRefusal
-import-accepts c = accepts stackWords c 24 _ (stack-exact (c .words))
+import-accepts c = accepts stackWords c 24 _ (stack-fault-none (c .words))
 
 -- What an accepted call tells and leaves.
 module _ (c : ReorderCall) where

@@ -1,4 +1,4 @@
--- ANSWER 24 IS EXACT: it is given to no words of a legal tree of at most 12,288 nodes in stack order, and to all other words. Its place is
+-- ANSWER 24 IS GIVEN to no words of a legal tree of at most 12,288 nodes in stack order, and to all other words. Its place is
 -- at most 86,016.
 use Prim.Native.Nat.{ℕ, suc, _+_, _-_, _^_, _≤_, _<_}
 use mathlib.Core.Path.{_≡_, refl, ap, sym, _∙_}
@@ -234,9 +234,9 @@ gathered-tree =
     later all (gathered-node a b c d e n g ws all s r (counted .0) t) (operator .1))
 
 -- ANSWER 24 IS GIVEN TO EXACTLY THE WORDS THAT ARE NOT ONE TREE of at most 12,288 nodes in stack order.
-pub stack-exact : (ws : List ℕ) → (stackFault 0 operatorField 0 (record { done = 0; begun = 0 }) ws ≡ none) ↔ IsOneTree stackWords ws
+pub stack-fault-none : (ws : List ℕ) → (stackFault 0 operatorField 0 (record { done = 0; begun = 0 }) ws ≡ none) ↔ IsOneTree stackWords ws
 unfolding inOrder turnedOnto stackWords count size
-stack-exact ws = (
+stack-fault-none ws = (
   λ h.
       gathered-tree 0 0 (record { done = 0; begun = 0 }) ws h ws
       (record { forest = nil; legal = noTrees; counted = refl; sized = refl; words = refl }) (omega arith),

@@ -30,7 +30,7 @@ pub taken-later : (c : Bool) (k : Token) (cs r R : Forest) → takenAway c (node
 unfolding takenAway
 taken-later c k cs r R = refl
 
--- A node that is no bracket stays, and so does a bracket under a call.
+-- A node that is no bracket stays, and a bracket under a call stays.
 pub taken-kept : (c : Bool) (k : Token) (cs R : Forest) → isBracket (k .op) ≡ false
     → takenAway c (node k cs nil) R ≡ node k (takenAway (isCall (k .op)) cs nil) R
 unfolding takenAway

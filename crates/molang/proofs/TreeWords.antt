@@ -1,4 +1,4 @@
--- ANSWER 12 IS EXACT: it is given to no words of a legal tree of at most 12,288 nodes, and to all other words.
+-- ANSWER 12 IS GIVEN to no words of a legal tree of at most 12,288 nodes, and to all other words.
 use Prim.Native.Nat.{ℕ, suc, _+_, _-_, _^_, _≤_, _<_}
 use mathlib.Core.Path.{_≡_, refl, ap, _∙_}
 use mathlib.Core.Bool.{true, false, _&&_}
@@ -187,8 +187,8 @@ unfaulted-trees =
     (later (omega arith) (omega arith)) (omega arith) (omega arith) (omega arith))
 
 -- ANSWER 12 IS GIVEN TO EXACTLY THE WORDS THAT ARE NOT ONE TREE of at most 12,288 nodes.
-pub tree-exact : (ws : List ℕ) → (treeFault 0 operatorField 0 (record { called = 1; begun = 0 }) ws ≡ none) ↔ IsOneTree treeWords ws
-tree-exact ws = (
+pub tree-fault-none : (ws : List ℕ) → (treeFault 0 operatorField 0 (record { called = 1; begun = 0 }) ws ≡ none) ↔ IsOneTree treeWords ws
+tree-fault-none ws = (
   λ h.
       let t = unfaulted-trees 0 0 (record { called = 1; begun = 0 }) ws h (omega arith) (omega arith) in
       one-tree treeWords ws (t .forest) (t .legal) (t .counted) (t .few) (t .words),

@@ -33,7 +33,7 @@ pub record PayloadAt (width at : ℕ) (xs ys : List ℕ) : Type 0 where
   pub behind : List ℕ
   pub first : xs ≡ front ++ (item ++ behind)
   pub second : ys ≡ front ++ (other ++ behind)
-  pub place : length front ≡ width * at
+  pub index : length front ≡ width * at
   pub wide : length item ≡ width
   pub alike : map withoutPayload other ≡ map withoutPayload item
 
@@ -50,7 +50,7 @@ pub record WordAt (at : ℕ) (xs ys : List ℕ) : Type 0 where
   pub behind : List ℕ
   pub first : xs ≡ front ++ (word ∷ behind)
   pub second : ys ≡ front ++ (other ∷ behind)
-  pub place : length front ≡ at
+  pub index : length front ≡ at
 
 -- RECORDS APART IN ONE ARGUMENT AT MOST: all words are equal, or one word differs, in one of the first `records` records of eight words and
 -- there among the five arguments, which stand after number, span start and span end.

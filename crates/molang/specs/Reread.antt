@@ -189,7 +189,7 @@ EachCanLift list [] = Unit {0}
 EachCanLift list (l ∷ ls) = CanLift list l × EachCanLift list ls
 
 -- THE SAME LIST, WHICHEVER WAY: the tree's words are written as the list, into any list with room; a lift of the list, at whatever version,
--- gives it again, word for word; and so do any number of lifts.
+-- gives it again, word for word; and any number of lifts give it.
 pub record LiftsTo (tree list : List ℕ) : Type 0 where
   pub writes : (written : List ℕ) → length list ≤ length written → wordsOf tree written ≡ some list
   pub again : (l : Lift) → CanLift list l → lifted l list ≡ some list

@@ -55,15 +55,15 @@ pub token-of-words : {W : List ℕ} {s : ℕ} {k : Token}
     → valueWordAt W s ≡ k .value → closeWordAt W s ≡ word 7 (k .close) → Legal k
     → TokenAt W s k
 unfolding storedWords
-token-of-words {W} {s} {k} a b c d e l = record { words = by-place; legal = l }
+token-of-words {W} {s} {k} a b c d e l = record { words = by-index; legal = l }
   where
-    by-place : (i : ℕ) → i < 5 → wd W (slotStart s + i) ≡ getD (storedWords k) i 0
-    by-place zero h = rw add-zero a
-    by-place (suc zero) h = b
-    by-place (suc (suc zero)) h = c
-    by-place (suc (suc (suc zero))) h = d
-    by-place (suc (suc (suc (suc zero)))) h = e
-    by-place (suc (suc (suc (suc (suc i))))) h = absurd (omega arith)
+    by-index : (i : ℕ) → i < 5 → wd W (slotStart s + i) ≡ getD (storedWords k) i 0
+    by-index zero h = rw add-zero a
+    by-index (suc zero) h = b
+    by-index (suc (suc zero)) h = c
+    by-index (suc (suc (suc zero))) h = d
+    by-index (suc (suc (suc (suc zero)))) h = e
+    by-index (suc (suc (suc (suc (suc i))))) h = absurd (omega arith)
 
 -- ---- the fields
 

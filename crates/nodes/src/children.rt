@@ -1,7 +1,7 @@
 // Child lists: a chain of slots from a node's first child on. A list is taken from a chain to an array on the stack, and given back
 // from an array to a chain. A node that is given children notes the classes of all of them.
 // The functions ask that the slots' words lie within the buffer, and that a chain's or an array's slots rise. The callers have this from
-// the store (specs/Store), whose trees stand in intervals of slots that rise, below the stack. Leans on the slots.
+// the store (specs/Store), whose trees stand in intervals of slots that rise, below the stack. Leans on the slots and ops.
 use crate::slots::classes_of;
 use crate::slots::next_of;
 use crate::slots::set_classes;

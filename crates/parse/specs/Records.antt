@@ -1,5 +1,5 @@
--- The records of the failures, by the words of the slots that they name. The laws of proofs/ReportLaws say which messages' records these
--- are.
+-- The records of the failures, by the words of the slots that they name. The laws of proofs/RecordLaws say which messages' records these
+-- are, those of proofs/ReportLaws that they are what stands in the message buffer.
 use Prim.Native.Nat.{ℕ, _≤_}
 use mathlib.Core.Bool.{true, false}
 use mathlib.Core.List.{List}

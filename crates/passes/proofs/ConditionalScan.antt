@@ -106,7 +106,7 @@ module _ {W : List ℕ} {base len left right : ℕ} (g : CanScan W base len left
       record {
         two = z;
         behind = behind;
-        place = omega arith;
+        within = omega arith;
         own = omega arith;
         first = omega arith;
         second = omega arith;

@@ -33,7 +33,8 @@ use Rattle.levels.proofs.Reading.{ahead-le}
 use Rattle.levels.proofs.Ended.{FirstEnded, ended-first}
 use Rattle.passes.specs.Statements.{Grouped, CanClose, ClosedTo, complete, closing}
 use Rattle.passes.proofs.StatementLaws.{earliest, openOn}
-use Rattle.passes.proofs.StatementGroup.{in-order, order-first, TurnedFirst, grouped-tree, grouped-same, grouped-place, grouped-long}
+use Rattle.passes.proofs.StatementGroup.{in-order, order-first, TurnedFirst}
+use Rattle.passes.proofs.StatementGroup.{grouped-tree, grouped-same, grouped-stored, grouped-long}
 use Rattle.passes.proofs.StatementSplit.{Pending, SplitView, splits, split-view, open-items}
 use Rattle.passes.proofs.StatementSemicolon.{back-nil, beside-slot}
 
@@ -186,17 +187,17 @@ module _ {W X : List ℕ} {lo hi n m a : ℕ} (l : Items) (c : ℕ) {q : Token} 
       (λ s o x y w u e. same (slotStart s + o) (omega arith) (inl (omega arith)) (free-beside Y m a s o w (inl (omega arith)))) (z .back) in
       let seg : SegB W' (l .base) (v .ds)
       = segB-keep W W' (l .base) (v .ds) (λ j x y. same j (omega arith) (inr (omega arith)) (free-above Y m a j (omega arith))) (v .seg) in
-      let place : wd W' (l .base + length (v .ds)) ≡ b
+      let stored : wd W' (l .base + length (v .ds)) ≡ b
       =
       ap (λ (x : ℕ). wd W' (l .base + x)) (sym cnt)
-      ∙ grouped-place {lo = b} {hi = hi} g own (inl (omega arith)) (omega arith) top (le-refl b) (omega arith) (omega arith)
+      ∙ grouped-stored {lo = b} {hi = hi} g own (inl (omega arith)) (omega arith) top (le-refl b) (omega arith) (omega arith)
       (omega arith) in
       let all : RepB W' Y (b ∷ v .ds) lo hi (node (bare semicolon (earliest t d)) (inOrder (node t ts d)) done) =
       put back tree (le-refl hi) in
       record {
         array =
             subst (λ (x : ℕ). InArray W' Y (l .base) x lo hi (inOrder (node (bare semicolon (earliest t d)) (inOrder (node t ts d)) done)))
-            (omega arith) (gathered-array all (place, seg));
+            (omega arith) (gathered-array all (stored, seg));
         token =
             token-keep W W' (p + 2)
             (λ o w. same (slotStart (p + 2) + o) (omega arith) (⊎-elim (λ e. inr (omega arith)) (λ e. inl (omega arith)) (z .apart))

@@ -70,7 +70,7 @@ module _ {W W' X : List ℕ} {b at n m l lo hi : ℕ} {k : Token} {cs d : Forest
       let made : RepT V2 X b lo hi (bare semicolon (earliest k d)) (node (earliest k d) (f .cs) (f .rest)) =
       owned-tree token pos out above below owned in
       subst (λ (x : Forest). RepT W' X b lo hi (bare semicolon (earliest k d)) x) (sym (f .is))
-      (tree-keep V2 W' (λ s o x y z p e. set-other V2 W' at b (g .place) (slotStart s + o) (omega arith)) made)
+      (tree-keep V2 W' (λ s o x y z p e. set-other V2 W' at b (g .stored) (slotStart s + o) (omega arith)) made)
 
   -- the words that stay
   pub grouped-same : (j : ℕ) → j ≢ at → (j < slotStart b) ⊎ (slotEnd b ≤ j) → Free X m l j → wd W' j ≡ wd W j
@@ -81,13 +81,13 @@ module _ {W W' X : List ℕ} {b at n m l lo hi : ℕ} {k : Token} {cs d : Forest
       let V2 = g .given in
       let mk = g .make in
       let sg : Seg V1 at bs = seg-keep W V1 at bs (λ j x y. mk .same j (inr (omega arith))) (ar .seg) in
-      set-other V2 W' at b (g .place) j na
+      set-other V2 W' at b (g .stored) j na
       ∙ g .give .same bs sg (sym (ar .count)) j (⊎-elim (λ h. omega arith) (λ h. omega arith) nb)
       (⊎-elim (λ h. omega arith) (λ h. omega arith) nb) (roots-off j (ar .rep) f)
       ∙ mk .same j nb
 
-  pub grouped-place : at < length W → wd W' at ≡ b
-  grouped-place h = set-same (g .given) W' at b (g .place) (omega (arith, g .give .long, g .make .long))
+  pub grouped-stored : at < length W → wd W' at ≡ b
+  grouped-stored h = set-same (g .given) W' at b (g .stored) (omega (arith, g .give .long, g .make .long))
 
 pub grouped-long : {W W' : List ℕ} {b at n : ℕ} → Grouped W b at n W' → length W' ≡ length W
-grouped-long {W} {W'} {b} {at} g = set-long (g .given) W' at b (g .place) ∙ g .give .long ∙ g .make .long
+grouped-long {W} {W'} {b} {at} g = set-long (g .given) W' at b (g .stored) ∙ g .give .long ∙ g .make .long

@@ -267,11 +267,11 @@ passed-split (over {rest = r} {cs = cs} {k = k} f p) = split-past k cs r f ∙ p
 
 -- ---- a list begins
 
-plain-holds : {W X : List ℕ} {lo hi m m' : ℕ} {l : Items} {d rest : Forest} → BackArray W X (l .base) (l .write) lo m d
+unsplit-holds : {W X : List ℕ} {lo hi m m' : ℕ} {l : Items} {d rest : Forest} → BackArray W X (l .base) (l .write) lo m d
     → Ahead W X (l .base) (l .read) (l .len) m' hi rest → m ≤ m'
     → l .write ≤ l .read → slotStart hi ≤ l .base → l .base + l .len ≤ length W
     → Holds statements W X lo hi (walkOf l Unsplit) (unsplit d) rest
-plain-holds {m = m} {m' = m'} b u e t below within =
+unsplit-holds {m = m} {m' = m'} b u e t below within =
     record {
       l = m;
       m = m';
@@ -349,7 +349,7 @@ module _ {W : List ℕ} {v : Items} where
         holds = λ g.
             let e = split-clear (g .f) (not-false (clear isSemicolon (g .f)) (sym (h .answer g))) in
             subst (λ (s : Split). Holds statements W (g .X) (g .lo) (g .hi) (walkOf v Unsplit) s (g .f)) (sym e)
-            (plain-holds (start-none g) (start-ahead g) (le-refl (g .lo)) (omega (arith, g .unwritten)) (g .below) (g .within));
+            (unsplit-holds (start-none g) (start-ahead g) (le-refl (g .lo)) (omega (arith, g .unwritten)) (g .below) (g .within));
       }
 
 -- ---- one list, further on

@@ -42,7 +42,7 @@ use Rattle.levels.proofs.Ended.{ended-le, ended-at-keep}
 use Rattle.passes.specs.Statements.{Grouped, ListMade, there, begun, CanEnd, SemicolonTo, leading, again, ended}
 use Rattle.passes.proofs.StatementLaws.{semicolon-class, step-end, walk-on, walk-stop, earliest, openOn, passed-counts, passed-open}
 use Rattle.passes.proofs.StatementLaws.{Moved, moved-same, same-list}
-use Rattle.passes.proofs.StatementGroup.{in-order, grouped-tree, grouped-same, grouped-place, grouped-long}
+use Rattle.passes.proofs.StatementGroup.{in-order, grouped-tree, grouped-same, grouped-stored, grouped-long}
 use Rattle.passes.proofs.StatementSplit.{ended-rebase, Pending, pending-passed, SplitView, splits, split-view, seek-split}
 use Rattle.passes.proofs.StatementSplit.{split-sides, open-items}
 
@@ -246,12 +246,12 @@ module _ {W W1 W' X : List ℕ} {base n write lo m a top b c : ℕ} {q k t : Tok
       ended-at-keep W W' (λ s o x y z p. ended-same (slotStart s + o) (omega arith) (inl (omega arith)) (free-beside X m a s o z (inl y)))
       (λ j x y. ended-same j (omega arith) (inr (omega arith)) (free-above X m a j (omega arith))) v
 
-  place-made : n < write → wd W' (base + n) ≡ b
-  place-made h =
+  ended-stored : n < write → wd W' (base + n) ≡ b
+  ended-stored h =
       let three = semicolon-slots is tree .0 in
       let tl = tree .low in
       let ml = back-le (items .rep) in
-      grouped-place {lo = m} {hi = top} g items-made (inr tl) (le-refl m) (omega arith) (omega arith) (omega arith) (omega arith)
+      grouped-stored {lo = m} {hi = top} g items-made (inr tl) (le-refl m) (omega arith) (omega arith) (omega arith) (omega arith)
       (omega (arith, list-long made))
 
   -- the list's own node
@@ -263,7 +263,7 @@ module _ {W W1 W' X : List ℕ} {base n write lo m a top b c : ℕ} {q k t : Tok
       let three = semicolon-slots is tree .0 in
       let tl = tree .low in
       let ml = back-le (items .rep) in
-      let here : b ≡ wd W' base = sym (place-made h) ∙ ap (wd W') (omega arith) in
+      let here : b ≡ wd W' base = sym (ended-stored h) ∙ ap (wd W') (omega arith) in
       let none : done ≡ nil = ended-nil (v .rep) (sym (v .count) ∙ e) in
       let own : q ≡ bare semicolon k = after-token (sym (p (ap isNil none)) ∙ split-here k rest is) in
       let token : TokenAt W1 (b + 2) (bare semicolon k) = token-made {o = semicolon} w (omega arith) (tree .token) in
@@ -281,7 +281,7 @@ module _ {W W1 W' X : List ℕ} {base n write lo m a top b c : ℕ} {q k t : Tok
       let before = ended-before in
       record {
         ds = b ∷ before .ds;
-        seg = (ap (λ (x : ℕ). wd W' (base + x)) (sym (before .count)) ∙ place-made h, before .seg);
+        seg = (ap (λ (x : ℕ). wd W' (base + x)) (sym (before .count)) ∙ ended-stored h, before .seg);
         count = omega (arith, before .count);
         rep = statement (before .rep) ended-tree (three .1) (three .0);
         list = λ e. list-token rest h p (list-cases made);

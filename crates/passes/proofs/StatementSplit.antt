@@ -238,14 +238,14 @@ module _ {W W' X : List ℕ} {lo hi n : ℕ} {l l' : Items} (small : length W < 
           (passed-open q done passed ∙ walk-in (openOn q done d') k cs rest'
           (open-in q done d' k cs full ∙ enter-in (openOn q done d') k cs (ap isEntered (sym (tree-op t)) ∙ isIn)))
           (omega (arith, c .0)) (omega (arith, c .1)) (omega (arith, c .2)) (omega arith)
-      go {W'' = W''} (kept isOut place)
+      go {W'' = W''} (kept isOut stored)
           (tree {d' = d'} {rest' = rest'} {cs = cs} {a = a} {m = hm} {k = k} moved before passed full unfree t seen) =
           let mv : Moved l l' = moved-same moved in
           let mb = mv .base in let ml = mv .len in let long = g .long in
           let bl = back-le (w .rep) in let al = ahead-le u in
           let al' = ahead-le (seen .ahead) in let tl = t .low in let th = tree-below t in
           let c = passed-counts passed in
-          let other = set-other W' W'' (l' .base + l' .write) b place in
+          let other = set-other W' W'' (l' .base + l' .write) b stored in
           let ended =
           ended-at-keep W W' (λ s o x y z w. g .same (slotStart s + o) (inl (omega arith))) (λ j x y. g .same j (inl (omega arith))) v in
           let ended' =
@@ -255,7 +255,7 @@ module _ {W W' X : List ℕ} {lo hi n : ℕ} {l l' : Items} (small : length W < 
           =
           array-put W' W'' (seen .done) t (le-refl a) (le-refl hm) (λ s o x y z w. other (slotStart s + o) (omega arith))
           (λ j x y. other j (omega (arith, seen .reached)))
-          (ap (wd W'') (seen .reached) ∙ set-same W' W'' (l' .base + l' .write) b place (omega arith)) in
+          (ap (wd W'') (seen .reached) ∙ set-same W' W'' (l' .base + l' .write) b stored (omega arith)) in
           let on-list = movedTo l' (l' .read) (l' .write + 1) in
           goes {w' = walkOf on-list (SplitAt n)} {s' = openOn q done (node k cs d')}
           (same-list (SplitAt n) (SplitAt n) refl (record { owner = mv .owner; base = mb; len = ml }))
@@ -267,7 +267,7 @@ module _ {W W' X : List ℕ} {lo hi n : ℕ} {l l' : Items} (small : length W < 
                 (open-items (ap (λ (x : ℕ). x + n) (sym mb)) refl items) (omega (arith, seen .reached))
                 (ahead-keep W' W'' (λ s o x y z w. other (slotStart s + o) (omega arith)) (λ j x y. other j (omega arith)) (seen .ahead))
                 (le-refl hm) (pending-tree q done k cs rest' full (pending-passed q done passed p)) (omega arith)
-                (omega (arith, set-long W' W'' (l' .base + l' .write) b place));
+                (omega (arith, set-long W' W'' (l' .base + l' .write) b stored));
             turning = omega arith;
           })
           (passed-open q done passed
@@ -277,10 +277,10 @@ module _ {W W' X : List ℕ} {lo hi n : ℕ} {l l' : Items} (small : length W < 
           (omega (arith, c .0)) (omega (arith, c .1)) (omega (arith, c .2))
 
   -- where an item that is kept goes to
-  pub split-place : {κ : Kind} {s : State κ} {rest : Forest} {b : ℕ} → Sought W l 0x2 (Children l' b) W' → SplitView W X lo hi l n κ s rest
+  pub split-index : {κ : Kind} {s : State κ} {rest : Forest} {b : ℕ} → Sought W l 0x2 (Children l' b) W' → SplitView W X lo hi l n κ s rest
       → (l .base ≤ l' .base + l' .write) × (l' .base + l' .write < l .base + l .len) × (l .base + l .len ≤ length W')
       × (slotEnd b ≤ length W')
-  split-place {b = b} g (splits {q = q} {done = done} {d = d} {rest = rest} {m = m} v w e u le p t below within) =
+  split-index {b = b} g (splits {q = q} {done = done} {d = d} {rest = rest} {m = m} v w e u le p t below within) =
       go (g .to (seek-split v w e u le t below within small) isSemicolon semicolon-class)
     where
       go : SoughtTo W' X l (l .base + n) m hi isSemicolon d rest (Children l' b)
@@ -297,7 +297,7 @@ module _ {W W' : List ℕ} {l l' : Items} {n : ℕ} where
 
   pub split-room : {b : ℕ} → Sought W l 0x2 (Children l' b) W' → CanTurn W (walkOf l (SplitAt n))
       → (slotEnd b ≤ length W') × (l' .base + l' .write < length W')
-  split-room g h = let p = split-place (h .small) g (split-view (h .holds)) in (p .3, omega (arith, p .1, p .2))
+  split-room g h = let p = split-index (h .small) g (split-view (h .holds)) in (p .3, omega (arith, p .1, p .2))
 
   inner-within : {X : List ℕ} {lo hi b : ℕ} {r : Turn} {W'' : List ℕ} → Sought W l 0x2 (Children l' b) W'
       → InnerTo W' l' b (SplitAt n) r W''
@@ -317,5 +317,5 @@ module _ {W W' : List ℕ} {l l' : Items} {n : ℕ} where
   turned-split-inner g i =
       record {
         to = λ h. split-inner (h .small) g i (split-view (h .holds));
-        within = λ h. let p = split-place (h .small) g (split-view (h .holds)) in inner-within g i (p .0) (p .1);
+        within = λ h. let p = split-index (h .small) g (split-view (h .holds)) in inner-within g i (p .0) (p .1);
       }

@@ -213,7 +213,7 @@ module _ {W : List ℕ} {v : Items} {b : ℕ} (g : CanTakeToken W v b) where
       let own = token-slot in
       let first = done-slot full in
       let room = token-room in
-      record { place = omega arith; own = omega arith; operand = omega arith }
+      record { within = omega arith; own = omega arith; operand = omega arith }
 
   -- it takes the first done item
   pub prefix-turn : {W' : List ℕ} → Prefixed W (v .base + v .write) b W' → v .write < v .len
@@ -411,7 +411,7 @@ module _ {W : List ℕ} {v : Items} {b : ℕ} (g : CanTakeToken W v b) where
         let below = g .list .below in
         let first = done-slot full in
         let room = token-room in
-        record { room = omega (arith, g .gap); place = omega arith; own = omega arith; operand = omega arith; small = g .list .small }
+        record { room = omega (arith, g .gap); within = omega arith; own = omega arith; operand = omega arith; small = g .list .small }
 
     module _ {W' : List ℕ} {r : Items} (w : Subtracted W v b r W') where
       made-list : RightList (w .W1) (g .X) (g .lo) (g .l) (g .m) (g .hi) v (g .d) (g .rest)
@@ -553,11 +553,11 @@ added-inner-words W W' s leafy ew =
 pub prefix-made : {W W1 : List ℕ} {v : Items} {b q : ℕ} → CanSubtract W v b → q ≡ b + 1 → Made W q Operator.negate b W1 → CanPrefix W1 v q
 prefix-made {W} {W1} {v} {b} {q} g e made =
     let own = g .own in
-    let place = g .place in
+    let within = g .within in
     let operand = g .operand in
     let long = made .long in
     let same : wd W1 (v .base + v .write) ≡ wd W (v .base + v .write) = made .same (v .base + v .write) (inr (omega arith)) in
-    record { place = omega arith; own = omega arith; operand = omega arith }
+    record { within = omega arith; own = omega arith; operand = omega arith }
 
 pub subtracted : {W W' W1 W2 W3 : List ℕ} {v r : Items} {b q : ℕ} → q ≡ b + 1 → Made W q Operator.negate b W1
     → Prefixed W1 (v .base + v .write) q W2 → Added W2 b W3

@@ -39,9 +39,9 @@ last-of : {W X ds : List ℕ} {base n lo l : ℕ} {rest : Forest} → RepB W X d
     → LastUnread W X base n lo l rest
 last-of (begins h) g c z = absurd (omega arith)
 last-of {W} {X} {base = base} {n} (put {b = b} {ds = ds} {l = a} {m = m} {t = t} {k = k} r v h) g c z =
-    let places : length ds ≡ n - 1 = omega arith in
-    let here : b ≡ wd W (base + (n - 1)) = sym (rw places at (g .0)) in
-    last (subst (λ (x : ℕ). RepT W X x a m t k) here v) h (record { ds = ds; seg = g .1; count = sym places; rep = r })
+    let others : length ds ≡ n - 1 = omega arith in
+    let here : b ≡ wd W (base + (n - 1)) = sym (rw others at (g .0)) in
+    last (subst (λ (x : ℕ). RepT W X x a m t k) here v) h (record { ds = ds; seg = g .1; count = sym others; rep = r })
 
 pub unread-last : {W X : List ℕ} {base n lo l : ℕ} {rest : Forest} → BackArray W X base n lo l rest → 0 < n
     → LastUnread W X base n lo l rest

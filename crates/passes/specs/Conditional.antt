@@ -32,7 +32,7 @@ pub record Grouped (W : List ℕ) (q b c at : ℕ) (W' : List ℕ) : Type 0 wher
 pub record CanFoldLast (W : List ℕ) (base left right : ℕ) : Type 0 where
   pub two : 2 ≤ left
   pub behind : left ≤ right
-  pub place : base + right < length W
+  pub within : base + right < length W
   pub own : slotEnd (wd W (base + (left - 1))) ≤ length W
   pub first : slotEnd (wd W (base + (left - 2))) ≤ length W
   pub second : slotEnd (wd W (base + right)) ≤ length W

@@ -35,7 +35,7 @@ pub record Grouped (W : List ℕ) (slot at n : ℕ) (W' : List ℕ) : Type 0 whe
   pub given : List ℕ
   pub make : Made W slot semicolon (wd W at) made
   pub give : Given made slot at n given
-  pub place : W' ≡ set given at slot
+  pub stored : W' ≡ set given at slot
 
 -- ---- `inner`
 

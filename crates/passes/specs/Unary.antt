@@ -105,7 +105,7 @@ pub record TokenTaken (W : List ℕ) (v : Items) (b : ℕ) (r : Turn) (W' : List
 
 -- The slot q and the first done item are slots within the words.
 pub record CanPrefix (W : List ℕ) (v : Items) (q : ℕ) : Type 0 where
-  pub place : v .base + v .write < length W
+  pub within : v .base + v .write < length W
   pub own : slotEnd q ≤ length W
   pub operand : slotEnd (wd W (v .base + v .write)) ≤ length W
 
@@ -127,7 +127,7 @@ pub record Added (W : List ℕ) (s : ℕ) (W' : List ℕ) : Type 0 where
 -- The word before the done items is free; the slots b, b + 1 and that of the first done item lie within the words.
 pub record CanSubtract (W : List ℕ) (v : Items) (b : ℕ) : Type 0 where
   pub room : 0 < v .write
-  pub place : v .base + v .write < length W
+  pub within : v .base + v .write < length W
   pub own : slotEnd (b + 1) ≤ v .base
   pub operand : slotEnd (wd W (v .base + v .write)) ≤ length W
   pub small : length W < 2 ^ 32

@@ -183,7 +183,7 @@ pub fn table(comparisons_first: bool) -> [u8; 112]
 }
 
 // Where the rule of op stands in the table: what is no operator's number shares the last entry.
-fn place_of(op: u32) -> usize
+fn index_of(op: u32) -> usize
     ensures { λ r. ⌜ r ≡ min op 111 ⌝ }
 {
     if op < op::COUNT {
@@ -197,7 +197,7 @@ fn place_of(op: u32) -> usize
 pub fn of_node(table: &[u8; 112], operator: u32, count: u32) -> u8
     ensures { λ r. ⌜ ((first : Bool) → now (table .entry) ≡ upTo 112 (operatorRule first) → r ≡ nodeRule first operator count) ⌝ }
 {
-    let rule = table[place_of(fields::operator(operator))];
+    let rule = table[index_of(fields::operator(operator))];
     if fields::low(count) == 0 {
         return LEAF;
     }

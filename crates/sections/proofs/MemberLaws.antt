@@ -74,11 +74,11 @@ module _ {W : List ℕ} {base write item : ℕ} (g : MemberAt W base write item)
   before : Last W (g .X) base (g .lo) (g .l) (g .written .ds) (g .d)
   before = last base (g .written .done) (g .written .run) (omega (arith, g .written .wrote, g .some))
 
-  place : base + write - 1 ≡ base + length (before .rs)
-  place = omega (arith, before .count, g .written .wrote)
+  index : base + write - 1 ≡ base + length (before .rs)
+  index = omega (arith, before .count, g .written .wrote)
 
   previous : wd W (base + write - 1) ≡ before .b
-  previous = rw place (before .word)
+  previous = rw index (before .word)
 
   -- the slots that it reads are in the store
   pub member-in : (slotEnd (wd W (base + write - 1)) ≤ base) × (slotEnd item ≤ base)
@@ -125,7 +125,7 @@ module _ {W : List ℕ} {base write item : ℕ} (g : MemberAt W base write item)
                 (back-beside W W1 (g .X) (v .l) (g .m) base (λ j f x. kept1 j f) (omega arith) (inl (le-refl (v .l))) (v .before)))
                 (tree-beside W1 W2 [] 0 0 base (λ j f x. low2 j x) below (inr (omega arith)) tree1) (le-refl (g .m));
             run = (
-              ap (λ (i : ℕ). wd W2 i) (sym place) ∙ set-same W1 W2 (base + write - 1) item e (omega (arith, w .long)),
+              ap (λ (i : ℕ). wd W2 i) (sym index) ∙ set-same W1 W2 (base + write - 1) item e (omega (arith, w .long)),
               segB-keep W W2 base (v .rs) (λ j x y. other j (omega arith) ∙ above j x) (v .run),
             );
             wrote = omega arith;

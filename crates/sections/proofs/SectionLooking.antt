@@ -34,8 +34,8 @@ use Rattle.sections.specs.declared.Bracket.the-variants.{On, Differs}
 use Rattle.sections.proofs.SectionCases.{missed, other-closes, classless, opener-leaf, bracket-opens, bracket-closes, bracket-places}
 use Rattle.sections.proofs.SectionCases.{closing-takes, closing-differs}
 use Rattle.sections.proofs.SectionWritten.{written-array}
-use Rattle.sections.proofs.SectionOpen.{standing-le, standing-depth, standing-position, standing-keep, standing-place, standing-open}
-use Rattle.sections.proofs.SectionOpen.{opener-le, innermost-place, innermost-slot, names}
+use Rattle.sections.proofs.SectionOpen.{standing-le, standing-depth, standing-position, standing-keep, standing-placed}
+use Rattle.sections.proofs.SectionOpen.{standing-open, opener-le, innermost-word, innermost-slot, names}
 
 -- ---- `close_section`
 
@@ -89,7 +89,7 @@ close-in {w = w} (inner {w' = w'} {v = r} st x v e) n p ep below room =
     let b = opener-le x in
     let c = back-le (v .done) in
     let count : w - (w' + 1) ≡ r = omega arith in
-    rw (ep ∙ innermost-place x, x .slot, count)
+    rw (ep ∙ innermost-word x, x .slot, count)
     (omega arith, omega arith, array-give (written-array v) (omega arith) (omega arith) (omega arith))
 
 -- the opener's token
@@ -141,12 +141,12 @@ close-takes {W} {X} {base} {marks} {lo} {l} {m} {k} {w} {item} {t = t} {cs = cs}
     let b = opener-le z in
     let c = back-le (v .done) in
     let tl = tree .low in let th = tree-below tree in let sl = standing-le st in
-    let place : p ≡ w' = ep ∙ innermost-place z in
+    let index : p ≡ w' = ep ∙ innermost-word z in
     let count : w - (w' + 1) ≡ r = omega arith in
     let level : k - 1 ≡ k' = omega (arith, z .level) in
-    let given : Given W (z .q) (base + (w' + 1)) r W1 = rw (place, z .slot, count) at a in
-    let closed : W' ≡ set W1 (closeWord (z .q)) (word 7 (endAt W1 item)) = rw (place, z .slot) at close in
-    let inside : slotEnd (z .q) ≤ length W1 = rw (place, z .slot) at room in
+    let given : Given W (z .q) (base + (w' + 1)) r W1 = rw (index, z .slot, count) at a in
+    let closed : W' ≡ set W1 (closeWord (z .q)) (word 7 (endAt W1 item)) = rw (index, z .slot) at close in
+    let inside : slotEnd (z .q) ≤ length W1 = rw (index, z .slot) at room in
     let array : InArray W (z .q ∷ X) (base + (w' + 1)) r m' l (inOrder d)
     =
     written-array
@@ -159,10 +159,10 @@ close-takes {W} {X} {base} {marks} {lo} {l} {m} {k} {w} {item} {t = t} {cs = cs}
     let before : Standing W' X base marks lo l' k' w' s' =
     standing-keep W W' low (λ j h h'. above j h) (λ j h h'. above j (omega arith)) st in
     let after : Standing W' X base marks lo m k' (w' + 1) (placed (closedBy t o) (inOrder d) s') =
-    standing-place before (taken .tree) (above (base + w') (omega arith) ∙ z .slot) in
+    standing-placed before (taken .tree) (above (base + w') (omega arith) ∙ z .slot) in
     let is : closer o ≡ t .op = sym (ap (λ (q : ℕ). Option·getD (closingOf q) 0) (innermost-op z p ep)) ∙ sym ex ∙ h ∙ ey ∙ tree-op tree in
-    let all : Standing W' X base marks lo m (k - 1) (p + 1) (placed (closedBy t o) (inOrder d) s') = rw (place, level) after in (
-      rw (closing-takes t o cs d i j s' is) (on all (fewer r place e) refl),
+    let all : Standing W' X base marks lo m (k - 1) (p + 1) (placed (closedBy t o) (inOrder d) s') = rw (index, level) after in (
+      rw (closing-takes t o cs d i j s' is) (on all (fewer r index e) refl),
       λ j f. taken .same j (free-part X lo m l' m j sl (le-refl m) f),
     )
 
@@ -254,7 +254,7 @@ module _ {W : List ℕ} {base marks write depth item : ℕ} (g : LookAt W base m
       let low : (j : ℕ) → j < base + write → wd W' j ≡ wd W j = λ j h. other j (omega arith) in
       let apart = g .apart in let room = g .room in
       let all =
-      standing-place (before-kept W' low (λ j a b. other j (omega arith))) (token-kept W' low)
+      standing-placed (before-kept W' low (λ j a b. other j (omega arith))) (token-kept W' low)
       (set-same W W' (base + write) item e (omega arith)) in
       rw is (on all (le-refl (write + 1)) refl)
 
@@ -283,7 +283,7 @@ module _ {W : List ℕ} {base marks write depth item : ℕ} (g : LookAt W base m
       let o3 = set-other W2 W' (marks + 2 * depth + 1) (i + 1) e in
       let apart = g .apart in let room = g .room in
       let low : (j : ℕ) → j < base + write → wd W' j ≡ wd W j = λ j h. o3 j (omega arith) ∙ o2 j (omega arith) ∙ o1 j (omega arith) in
-      let none = opener-leaf (g .k) (g .cs) (g .plain) is in
+      let none = opener-leaf (g .k) (g .cs) (g .isFlat) is in
       let leaf : RepT W' (g .X) item (g .l) (g .m) (g .k) nil = rw none at (token-kept W' low) in
       let all : Standing W' (g .X) base marks (g .lo) (g .m) (depth + 1) (write + 1) (section (g .k) (i + 1) nil (g .s))
       = standing-open (before-kept W' low (λ j a b. o3 j (omega arith) ∙ o2 j (omega arith) ∙ o1 j (omega arith))) leaf is

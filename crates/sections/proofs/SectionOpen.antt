@@ -57,14 +57,14 @@ opener-keep : (W W' : List ℕ) {X : List ℕ} {base marks l m k' w' k i : ℕ} 
     → wd W' (base + w') ≡ wd W (base + w')
     → wd W' (marks + 2 * k') ≡ wd W (marks + 2 * k') → wd W' (marks + 2 * k' + 1) ≡ wd W (marks + 2 * k' + 1)
     → Opener W X base marks l m k' w' k o i → Opener W' X base marks l m k' w' k o i
-opener-keep W W' {m = m} low slot place start x =
+opener-keep W W' {m = m} low slot word start x =
     record {
       q = x .q;
       slot = slot ∙ x .slot;
       leaf = tree-beside W W' [] 0 0 (slotStart m) (λ j f h. low j h) (le-refl (slotStart m)) (inr (omega arith)) (x .leaf);
       opens = x .opens;
       level = x .level;
-      place = place ∙ x .place;
+      word = word ∙ x .word;
       start = start ∙ x .start;
     }
 
@@ -91,12 +91,12 @@ standing-raise h (inner st x v e) = inner st x (written-raise h v) e
 
 -- ---- one tree more, one section more
 
-pub standing-place : {W X : List ℕ} {base marks lo l m k w q : ℕ} {s : Open} {t : Token} {cs : Forest} → Standing W X base marks lo l k w s
+pub standing-placed : {W X : List ℕ} {base marks lo l m k w q : ℕ} {s : Open} {t : Token} {cs : Forest} → Standing W X base marks lo l k w s
     → RepT W X q l m t cs
     → wd W (base + w) ≡ q → Standing W X base marks lo m k (w + 1) (placed t cs s)
 unfolding placed
-standing-place (outer v e) t h = outer (written-put v t h) e
-standing-place {base = base} {w = w} (inner {w' = w'} {v = n} st x v e) t h =
+standing-placed (outer v e) t h = outer (written-put v t h) e
+standing-placed {base = base} {w = w} (inner {w' = w'} {v = n} st x v e) t h =
     let at : base + (w' + 1) + n ≡ base + w = omega arith in
     let more : w + 1 ≡ w' + 1 + (n + 1) = omega arith in
     inner st x (written-put v t (rw at h)) more
@@ -105,9 +105,9 @@ pub standing-open : {W X : List ℕ} {base marks lo l m k w q i : ℕ} {s : Open
     → RepT W X q l m o nil → isOpener (o .op) ≡ true
     → wd W (base + w) ≡ q → wd W (marks + 2 * k) ≡ w → wd W (marks + 2 * k + 1) ≡ i
     → Standing W X base marks lo m (k + 1) (w + 1) (section o i nil s)
-standing-open {m = m} {k = k} {w = w} {q = q} st t opens slot place start =
+standing-open {m = m} {k = k} {w = w} {q = q} st t opens slot word start =
     let more : w + 1 ≡ w + 1 + 0 = omega arith in
-    inner {k = k + 1} st (record { q = q; slot = slot; leaf = t; opens = opens; level = refl; place = place; start = start })
+    inner {k = k + 1} st (record { q = q; slot = slot; leaf = t; opens = opens; level = refl; word = word; start = start })
     (written-none m) more
 
 -- ---- what the marks name
@@ -116,14 +116,14 @@ module _ {W X : List ℕ} {base marks l m k' w' k i : ℕ} {o : Token} (x : Open
   last : k - 1 ≡ k'
   last = omega (arith, x .level)
 
-  pub innermost-place : wd W (marks + 2 * (k - 1)) ≡ w'
-  innermost-place = rw last (x .place)
+  pub innermost-word : wd W (marks + 2 * (k - 1)) ≡ w'
+  innermost-word = rw last (x .word)
 
   pub innermost-start : wd W (marks + 2 * (k - 1) + 1) ≡ i
   innermost-start = rw last (x .start)
 
   pub innermost-slot : wd W (base + wd W (marks + 2 * (k - 1))) ≡ x .q
-  innermost-slot = rw innermost-place (x .slot)
+  innermost-slot = rw innermost-word (x .slot)
 
 record Outermost (W : List ℕ) (base marks w : ℕ) (t : Token) : Type 0 where
   inside : wd W (marks + 2 * 0) < w
@@ -134,7 +134,7 @@ outermost-of : {W X : List ℕ} {base marks lo l m k' w' k w i : ℕ} {s : Open}
     → Outermost W base marks w (outermost o s)
 unfolding outermost
 outermost-of {W} {marks = marks} {w' = w'} (outer v e) x h =
-    let first : wd W (marks + 2 * 0) ≡ w' = ap (λ (n : ℕ). wd W (marks + 2 * n)) (sym e) ∙ x .place in
+    let first : wd W (marks + 2 * 0) ≡ w' = ap (λ (n : ℕ). wd W (marks + 2 * n)) (sym e) ∙ x .word in
     record { inside = omega arith; token = rw (first, x .slot) (x .leaf .token) }
 outermost-of {w' = w'} (inner {w' = u} st y v e) x h =
     let below : u < w' = omega arith in
@@ -150,7 +150,7 @@ standing-named {w = w} (inner {w' = w'} st x v e) n room within =
     record {
       some = omega arith;
       within = within;
-      innermost = omega (arith, innermost-place x);
+      innermost = omega (arith, innermost-word x);
       outermost = omega (arith, outermost-of st x h .inside);
     }
 

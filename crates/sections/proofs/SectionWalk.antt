@@ -60,7 +60,7 @@ pub record WalkAt (W₀ : List ℕ) (base n : ℕ) (g : CanSection W₀ base n) 
   pub count : read + length rs ≡ n
   pub behind : write ≤ read
   pub near : index ≤ read
-  pub plain : flat rest ≡ true
+  pub isFlat : flat rest ≡ true
   pub answer : sections index s rest ≡ sections 0 (outside nil) (g .f)
   pub kept : Kept W₀ W (g .X) (g .lo) (g .hi) base (base + n + 2 * n)
   pub long : length W ≡ length W₀
@@ -81,7 +81,7 @@ walk-start {W} {base} {n} g = (
     count = omega (arith, g .array .count);
     behind = omega arith;
     near = omega arith;
-    plain = g .plain;
+    isFlat = g .isFlat;
     answer = refl;
     kept = λ j f o. refl;
     long = refl;
@@ -99,7 +99,7 @@ pub record WalkTurn (W₀ : List ℕ) (base n : ℕ) (g : CanSection W₀ base n
   pub rest : Forest
   pub standing : Standing W (g .X) base (base + n) (g .lo) l depth write s
   pub tree : RepT W (g .X) item l m k cs
-  pub plain : flat (node k cs nil) ≡ true
+  pub isFlat : flat (node k cs nil) ≡ true
   pub left : RepF W (g .X) bs m (g .hi) rest
   pub after : flat rest ≡ true
   pub run : Seg W (base + (read + 1)) bs
@@ -121,7 +121,7 @@ walk-turn {W₀} {base} {n} {g} {W} {read} (b ∷ bs) (node k cs rest) v h item 
     let f = tree-first (v .left) in
     let is : item ≡ b = e ∙ v .run .0 in
     let next : base + (read + 1) ≡ base + read + 1 = omega arith in
-    let plain = flat-first k cs rest (v .plain) in
+    let both = flat-first k cs rest (v .isFlat) in
     record {
       l = f .l;
       m = f .m;
@@ -132,9 +132,9 @@ walk-turn {W₀} {base} {n} {g} {W} {read} (b ∷ bs) (node k cs rest) v h item 
       rest = rest;
       standing = standing-raise (f .low) (v .standing);
       tree = rw is (f .tree);
-      plain = plain .0;
+      isFlat = both .0;
       left = f .rest;
-      after = plain .1;
+      after = both .1;
       run = rw next (v .run .1);
       count = omega (arith, v .count);
       behind = v .behind;
@@ -161,7 +161,7 @@ module _ {W₀ : List ℕ} {base n : ℕ} {g : CanSection W₀ base n} {W : List
         cs = v .cs;
         standing = v .standing;
         tree = v .tree;
-        plain = v .plain;
+        isFlat = v .isFlat;
         below = omega (arith, walk-high, g .below);
         apart = omega (arith, v .behind, v .count);
         room = omega (arith, walk-high, g .room, v .long, v .behind, v .count);
@@ -197,7 +197,7 @@ module _ {W₀ : List ℕ} {base n : ℕ} {g : CanSection W₀ base n} {W : List
           count = v .count;
           behind = omega (arith, f .more, v .behind);
           near = omega (arith, f .index);
-          plain = v .after;
+          isFlat = v .after;
           answer =
               ap (λ (i : ℕ). sections i (f .t) (v .rest)) (f .index)
               ∙ (sym (sections-go (v .k) (v .cs) (v .rest) index (v .s) (f .t) (f .is)) ∙ v .answer);

@@ -116,7 +116,7 @@ pub record Opener (W X : List ℕ) (base marks l m k' w' k : ℕ) (o : Token) (i
   pub leaf : RepT W X q l m o nil
   pub opens : isOpener (o .op) ≡ true
   pub level : k ≡ k' + 1
-  pub place : wd W (marks + 2 * k') ≡ w'
+  pub word : wd W (marks + 2 * k') ≡ w'
   pub start : wd W (marks + 2 * k' + 1) ≡ i
 
 -- What has been read stands in the w words from `base` on: the trees outside every section, then each open section's opener and its
@@ -133,7 +133,7 @@ pub data Standing (W X : List ℕ) (base marks lo : ℕ) : ℕ → ℕ → ℕ �
 pub record CanOpen (W : List ℕ) (base marks write depth index : ℕ) : Type 0 where
   pub apart : base + write < marks
   pub room : marks + 2 * depth + 2 ≤ length W
-  pub place : write < 2 ^ 32
+  pub word : write < 2 ^ 32
   pub start : index + 1 < 2 ^ 32
 
 -- The opener is written, and the marks say in which word of the array, and its position.
@@ -155,7 +155,7 @@ pub record LookAt (W : List ℕ) (base marks write depth item : ℕ) : Type 0 wh
   pub cs : Forest
   pub standing : Standing W X base marks lo l depth write s
   pub tree : RepT W X item l m k cs
-  pub plain : flat (node k cs nil) ≡ true
+  pub isFlat : flat (node k cs nil) ≡ true
   pub below : slotStart m ≤ base
   pub apart : base + write < marks
   pub room : marks + 2 * depth + 2 ≤ length W
@@ -203,14 +203,14 @@ pub record Named (W : List ℕ) (base marks depth : ℕ) (u : Unclosed) : Type 0
 -- ---- `sections`
 
 -- A flat list, in which only accessors have children, stands in the n words from `base` on, which lie above all its slots; after them there
--- is room for two words for each section. Places and positions fit a word.
+-- is room for two words for each section. Indices and positions fit a word.
 pub record CanSection (W : List ℕ) (base n : ℕ) : Type 0 where
   pub X : List ℕ
   pub lo : ℕ
   pub hi : ℕ
   pub f : Forest
   pub array : InArray W X base n lo hi f
-  pub plain : flat f ≡ true
+  pub isFlat : flat f ≡ true
   pub below : slotStart hi ≤ base
   pub room : base + n + 2 * n ≤ length W
   pub small : n + 2 < 2 ^ 32

@@ -143,8 +143,8 @@ fn close_section(work: &mut [u32], base: usize, marks: usize, at: Reached, close
     ensures { λ r. ⌜ openIn r ≡ at .depth - 1 ⌝ }
 {
     let inner = at.depth - 1;
-    let place = opener_at(work, marks, inner);
-    let opener = work[base + place];
+    let innermost = opener_at(work, marks, inner);
+    let opener = work[base + innermost];
     if closer_of(slots::operator_of(work, opener)) != slots::operator_of(work, closer) {
         let named = still_open(work, base, marks, at.depth);
         let mismatch = Mismatch {
@@ -156,7 +156,7 @@ fn close_section(work: &mut [u32], base: usize, marks: usize, at: Reached, close
         };
         return Bracket::Differs(mismatch, inner);
     }
-    let from = place + 1;
+    let from = innermost + 1;
     children::give_children(work, opener, base + from, at.write - from);
     slots::set_close(work, opener, closer);
     Bracket::On(Reached {

@@ -11,7 +11,8 @@ use Rattle.molang.specs.WriteEntry.{firstTrees, otherTrees, treesOf}
 use Rattle.molang.proofs.Words.{beside}
 use Rattle.words.specs.Fields.{operatorOf}
 use Rattle.words.proofs.TreeLaws.{none-first}
-use Rattle.shape.specs.Shaped.{nodeLength, countIndex, closeIndex, firstFive, Shaped, noTrees, aNode}
+use Rattle.words.specs.Tokens.{nodeLength}
+use Rattle.shape.specs.Shaped.{countIndex, closeIndex, firstFive, Shaped, noTrees, aNode}
 
 -- The first trees and the others are the row.
 pub beside-split : (n : ℕ) (f : Forest) → beside (firstTrees n f) (otherTrees n f) ≡ f

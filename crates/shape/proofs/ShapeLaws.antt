@@ -20,7 +20,8 @@ use Rattle.molang.proofs.Words.{word-faultless, five-faultless, five-back}
 use borrow.Author.Tests.{ltb-true}
 use Rattle.shape.specs.Answers.{isLegal, shape}
 use Rattle.shape.specs.Seen.{Seen, NextNode}
-use Rattle.shape.specs.Shaped.{nodeLength, countIndex, Shaped, noTrees, aNode, mostChildren, OneTree}
+use Rattle.words.specs.Tokens.{nodeLength}
+use Rattle.shape.specs.Shaped.{countIndex, Shaped, noTrees, aNode, mostChildren, OneTree}
 
 -- A word that continues a tree.
 record Continues (field : Field) (v : ℕ) (s : Shape) (w : ℕ) : Type 0 where

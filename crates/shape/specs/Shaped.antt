@@ -5,16 +5,13 @@ use mathlib.Core.List.{List, [], _∷_}
 use lib.ListN.{length, getD}
 use Rattle.molang.specs.Words.{lowOf, tokenWords, tokenOf}
 use Rattle.molang.specs.WriteEntry.{mostNodes}
+use Rattle.words.specs.Tokens.{nodeLength}
 
--- A node is seven words.
-abbrev pub nodeLength : ℕ
-nodeLength = 7
-
--- Its child count is the last but one of them.
+-- The child count is the last but one of a node's words.
 abbrev pub countIndex : ℕ
 countIndex = 5
 
--- Where it closes is the last.
+-- Where the node closes is the last.
 abbrev pub closeIndex : ℕ
 closeIndex = 6
 

@@ -13,7 +13,7 @@ ghost use Rattle.molang.specs.WriteEntry as entry;
 ghost use Rattle.words.specs.Checks.{numberOf};
 ghost use Rattle.shape.specs.Answers.{fieldOf, refusalOf, treeRefusal, isLegal, shape};
 ghost use Rattle.shape.specs.Seen.{Seen, LegalNode, NextNode};
-ghost use Rattle.shape.specs.Shaped.{nodeLength};
+ghost use Rattle.words.specs.Tokens.{nodeLength};
 
 // The most nodes of a tree.
 pub const MOST_NODES: u32 = 12_288;

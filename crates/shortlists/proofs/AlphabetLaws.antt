@@ -45,9 +45,9 @@ among-at (a ∷ letters) (suc i) h = or-second (eqb (getD letters i 0) a) _ (amo
 
 -- A letter stands at an index.
 pub record Occurs (letters : List ℕ) (a : ℕ) : Type 0 where
-  pub place : ℕ
-  pub below : place < length letters
-  pub is : getD letters place 0 ≡ a
+  pub index : ℕ
+  pub below : index < length letters
+  pub is : getD letters index 0 ≡ a
 
 pub occurs : (a : ℕ) (letters : List ℕ) → among a letters ≡ true → Occurs letters a
 unfolding among
@@ -55,10 +55,10 @@ occurs a [] h = absurd (false≢true h)
 occurs a (b ∷ letters) h = by (eqb a b) refl (occurs a letters) h
   where
     by : (t : Bool) → eqb a b ≡ t → (among a letters ≡ true → Occurs letters a) → (t || among a letters) ≡ true → Occurs (b ∷ letters) a
-    by true e later h = record { place = 0; below = omega arith; is = sym (eqb-true a b e) }
+    by true e later h = record { index = 0; below = omega arith; is = sym (eqb-true a b e) }
     by false e later h =
         let o = later h in
-        record { place = suc (o .place); below = let w = o .below in omega arith; is = o .is }
+        record { index = suc (o .index); below = let w = o .below in omega arith; is = o .is }
 
 -- No letter stands at two indices.
 abbrev pub Distinct : List ℕ → Type 0

@@ -270,7 +270,7 @@ once-listed letters n is i j hi hj e =
 module _ (letters : List ℕ) where
   stands-before : (a : ℕ) (l : List ℕ) (ls : List (List ℕ)) → Occurs letters a → Stands ls l → Stands (before letters ls) (a ∷ l)
   stands-before a l ls o s =
-      let q = o .place in
+      let q = o .index in
       let r = s .position in
       let n = length ls in
       let room : q * n + n ≤ length letters * n = omega (arith, suc-mul q n, mul-le-mul-right n (o .below)) in

@@ -1,5 +1,5 @@
--- Every list of an alphabet's operator numbers up to a length (document 02, card 9): short ones first, then by the letters' places from the
--- left; the tokens of the list at a position; and where a generator turns a call back.
+-- Every list of an alphabet's operator numbers up to a length (document 02, card 9): short ones first, then by the letters' indices from
+-- the left; the tokens of the list at a position; and where a generator turns a call back.
 use Prim.Native.Nat.{ℕ, zero, suc, _+_, _^_, _<_}
 use mathlib.Core.Path.{_≡_}
 use mathlib.Core.Bool.{Bool, true, false, not, _&&_, _||_}

@@ -25,8 +25,8 @@ use Rattle.molang.proofs.Accepted.{call-accepted, rule-accepted}
 use Rattle.molang.proofs.Bounds.{read-tree, read-messages}
 use Rattle.molang.proofs.FirstFailure.{All, last-one}
 use Rattle.molang.proofs.Refusals.{Within, refusal-within, rule-refusal-within}
-use Rattle.molang.proofs.TreeWords.{tree-exact, tree-place}
-use Rattle.molang.proofs.StackWords.{stack-exact, stack-place}
+use Rattle.molang.proofs.TreeWords.{tree-fault-none, tree-place}
+use Rattle.molang.proofs.StackWords.{stack-fault-none, stack-place}
 use Rattle.molang.proofs.StackOrder.{trees-of-tree, tree-few, stack-few}
 use Rattle.sorbrudder.specs.Numbers.{FitsTold, FitsWritten, FitsReordered}
 
@@ -76,7 +76,7 @@ written-fits w = split (treeFault 0 operatorField 0 (record { called = 1; begun 
         → FitsWritten (writeTold (firstOf (withNumber 12 o ∷ later ∷ [])) (treesOf (w .tree)))
     split (some p) e = (omega arith, omega (arith, tree-place (w .tree) p e))
     split none e =
-        let t = tree-exact (w .tree) .0 e in
+        let t = tree-fault-none (w .tree) .0 e in
         rw (last-one later)
         (forest-fits (treesOf (w .tree)) (length (w .list)) (omega (arith, ap size (trees-of-tree t), t .few)))
 
@@ -98,7 +98,7 @@ exported-fits c = split (treeFault 0 operatorField 0 (record { called = 1; begun
     split : (o : Option ℕ) → treeFault 0 operatorField 0 (record { called = 1; begun = 0 }) (c .words) ≡ o
         → FitsReordered (reorderTold (firstOf (withNumber 12 o ∷ outputRefusal c ∷ [])) (c .words))
     split (some p) e = (omega arith, omega (arith, tree-place (c .words) p e))
-    split none e = rw (last-one (outputRefusal c)) (output-fits c (tree-few (tree-exact (c .words) .0 e)))
+    split none e = rw (last-one (outputRefusal c)) (output-fits c (tree-few (tree-fault-none (c .words) .0 e)))
 
 pub imported-fits : (c : ReorderCall) → FitsReordered (importAnswered c)
 unfolding importAnswered importRefusal firstOf reorderTold
@@ -107,7 +107,7 @@ imported-fits c = split (stackFault 0 operatorField 0 (record { done = 0; begun 
     split : (o : Option ℕ) → stackFault 0 operatorField 0 (record { done = 0; begun = 0 }) (c .words) ≡ o
         → FitsReordered (reorderTold (firstOf (withNumber 24 o ∷ outputRefusal c ∷ [])) (c .words))
     split (some p) e = (omega arith, omega (arith, stack-place (c .words) p e))
-    split none e = rw (last-one (outputRefusal c)) (output-fits c (stack-few (stack-exact (c .words) .0 e)))
+    split none e = rw (last-one (outputRefusal c)) (output-fits c (stack-few (stack-fault-none (c .words) .0 e)))
 
 -- ---- THE PARSE ENTRY
 

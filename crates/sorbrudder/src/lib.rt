@@ -15,8 +15,8 @@ ghost use Prim.Native.Nat.{_<_, _^_};
 ghost use Rattle.molang.specs.WriteEntry.{writeAnswered, listAfter};
 ghost use Rattle.molang.specs.StackOrder.{exportAnswered, exportedAfter, importAnswered, importedAfter};
 ghost use Rattle.parse.specs.Answers.{toldOf, call as parseCall};
-ghost use Rattle.write.specs.Answers.{told, call};
-ghost use Rattle.stackorder.specs.Answers.{told as toldReordered, call as reorderCall};
+ghost use Rattle.write.specs.Answers.{toldOf as writtenTold, call};
+ghost use Rattle.stackorder.specs.Answers.{toldOf as reorderedTold, call as reorderCall};
 ghost use Rattle.sorbrudder.specs.Numbers.{packed, toldNumber, writeNumber, reorderNumber, FitsTold, FitsWritten};
 ghost use Rattle.sorbrudder.specs.Numbers.{FitsReordered, HasParsedTo};
 
@@ -82,8 +82,8 @@ pub extern "C" fn sorbrudder_parse(
 
 // The write entry's answer as one number.
 fn written_number(written: Written) -> u64
-    requires { ⌜ FitsWritten (told written) ⌝ }
-    ensures { λ r. ⌜ r ≡ writeNumber (told written) ⌝ }
+    requires { ⌜ FitsWritten (writtenTold written) ⌝ }
+    ensures { λ r. ⌜ r ≡ writeNumber (writtenTold written) ⌝ }
 {
     match written {
         Written::Tokens(count) => count as u64,
@@ -103,8 +103,8 @@ pub extern "C" fn sorbrudder_write(tree: &[u32], list: &mut [u32]) -> u64
 
 // The answer of export and import as one number.
 fn reordered_number(reordered: Reordered) -> u64
-    requires { ⌜ FitsReordered (toldReordered reordered) ⌝ }
-    ensures { λ r. ⌜ r ≡ reorderNumber (toldReordered reordered) ⌝ }
+    requires { ⌜ FitsReordered (reorderedTold reordered) ⌝ }
+    ensures { λ r. ⌜ r ≡ reorderNumber (reorderedTold reordered) ⌝ }
 {
     match reordered {
         Reordered::Nodes(count) => count as u64,

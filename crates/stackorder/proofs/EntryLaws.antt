@@ -20,7 +20,7 @@ use Rattle.stackorder.specs.declared.reorder.Direction.{Direction}
 use Rattle.stackorder.specs.declared.reorder.Direction.the-variants.{Forward, Backward}
 use Rattle.stackorder.specs.Reorder.{readIn, writtenIn, CanReorder, HasReordered}
 use Rattle.stackorder.specs.Faults.{placeOf, stack}
-use Rattle.stackorder.specs.Answers.{call, told}
+use Rattle.stackorder.specs.Answers.{call, toldOf}
 use Rattle.stackorder.specs.Filled.{otherOrder, HasFilled}
 
 -- ---- `fill`
@@ -75,7 +75,7 @@ module _ (tree O : List ℕ) where
 
   pub exported : (refusal : Option Refusal) → refusal ≡ exportRefusal (call tree O)
       → (r : Reordered) (O' : List ℕ) → HasFilled Forward tree O refusal r O'
-      → (told r ≡ exportAnswered (call tree O)) × (O' ≡ exportedAfter (call tree O))
+      → (toldOf r ≡ exportAnswered (call tree O)) × (O' ≡ exportedAfter (call tree O))
   unfolding exportAnswered exportedAfter
   exported refusal first r O' filled = rw (← first) (filled .tells, filled .output)
 
@@ -94,6 +94,6 @@ module _ (words O : List ℕ) where
 
   pub imported : (refusal : Option Refusal) → refusal ≡ importRefusal (call words O)
       → (r : Reordered) (O' : List ℕ) → HasFilled Backward words O refusal r O'
-      → (told r ≡ importAnswered (call words O)) × (O' ≡ importedAfter (call words O))
+      → (toldOf r ≡ importAnswered (call words O)) × (O' ≡ importedAfter (call words O))
   unfolding importAnswered importedAfter
   imported refusal first r O' filled = rw (← first) (filled .tells, filled .output)

@@ -23,7 +23,8 @@ use Rattle.shape.specs.declared.Field as the-fields
 use Rattle.shape.specs.declared.Field.the-variants.{Operator, Start, End, Upper, Lower, Count, Close}
 use Rattle.shape.proofs.Field as field
 use Rattle.shape.specs.Answers.{fieldOf, isLegal, shape}
-use Rattle.shape.specs.Shaped.{nodeLength, countIndex}
+use Rattle.words.specs.Tokens.{nodeLength}
+use Rattle.shape.specs.Shaped.{countIndex}
 use Rattle.shape.proofs.ShapeLaws.{legal-none, continued-by, stopped-by, failed-by}
 use Rattle.stackorder.specs.Faults.{stack, uncounted, Stacked, NextStacked}
 

@@ -138,9 +138,9 @@ module _ (d : Direction) (W O : List ℕ) (n : ℕ) (F : Forest) (long : length 
         let t = length (v .done) in
         let q = startOf d n t in
         let x = nodeAt W (from - nodeLength) in
-        let place : c .written - nodeLength ≡ q = omega (arith, v .written, end-start d n t (omega arith)) in
+        let index : c .written - nodeLength ≡ q = omega (arith, v .written, end-start d n t (omega arith)) in
         let fits : q + nodeLength ≤ length Z = omega (arith, start-within d n t (omega arith), v .same-long) in
-        rw place
+        rw index
         (record {
           standing = stands-more d n _ 0 (v .done) x
               (stands-kept d n Z _ 0 (v .done)
@@ -184,15 +184,15 @@ module _ (d : Direction) (W O : List ℕ) (n : ℕ) (F : Forest) (long : length 
         let row = length-append (preorder (o .trees)) (unreadOf os) in
         let below = preorder-length (o .trees) in
         let out = put-out v (c .node) os (omega arith) (v .held .3) in
-        let place = popped-start o os v in
-        let to : getD Z (nextEnd d (c .free) - nodeLength) 0 ≡ o .to = rw place (v .held .1) in
+        let index = popped-start o os v in
+        let to : getD Z (nextEnd d (c .free) - nodeLength) 0 ≡ o .to = rw index (v .held .1) in
         record {
           done = v .done ++ x ∷ [];
           i = v .i;
           read = v .read;
           written = written-next v x (omega arith);
           free = popped o os v;
-          left = rw place (v .held .2);
+          left = rw index (v .held .2);
           node = rw to (v .held .0);
           unread = v .unread;
           all = omega (arith, v .all);
@@ -253,12 +253,12 @@ module _ (d : Direction) (W O : List ℕ) (n : ℕ) (F : Forest) (long : length 
         let below = count-size cs in
         let q = startOf d n (n - suc l) in
         let last : n - suc l < n = omega (arith, v .inside) in
-        let place : c .free - nodeLength ≡ q = omega (arith, v .free, end-start d n (n - suc l) last) in
+        let index : c .free - nodeLength ≡ q = omega (arith, v .free, end-start d n (n - suc l) last) in
         let fits : q + nodeLength ≤ length Z = omega (arith, start-within d n (n - suc l) last, v .same-long) in
         let less : suc (n - suc (suc l)) ≡ n - suc l = omega arith in
         let own : nodeAt W (c .read - nodeLength) ≡ nodeWordsOf k (count cs) = rw (read-start v (omega (arith, v .all))) (v .unread .0) in
         let after = stackOrder rest ++ comesAfter W (c .node) opens in
-        rw place
+        rw index
         (record {
           done = v .done;
           i = suc (v .i);

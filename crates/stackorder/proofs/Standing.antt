@@ -106,16 +106,16 @@ module _ (ws Z : List ℕ) (q : ℕ) (seven : length ws ≡ nodeLength) (room : 
 
 pub laid-node : (W Z : List ℕ) (p q : ℕ) → q + nodeLength ≤ length Z → nodeAt (laidAt q (nodeAt W p) Z) q ≡ nodeAt W p
 laid-node W Z p q room =
-    let in-place = laid-in (nodeAt W p) Z q room in
-    let first : getD (laidAt q (nodeAt W p) Z) q 0 ≡ getD W p 0 = rw add-zero at (in-place 0 (omega arith)) in
+    let laid-word = laid-in (nodeAt W p) Z q room in
+    let first : getD (laidAt q (nodeAt W p) Z) q 0 ≡ getD W p 0 = rw add-zero at (laid-word 0 (omega arith)) in
     rw (
       first,
-      in-place 1 (omega arith),
-      in-place 2 (omega arith),
-      in-place 3 (omega arith),
-      in-place 4 (omega arith),
-      in-place 5 (omega arith),
-      in-place 6 (omega arith),
+      laid-word 1 (omega arith),
+      laid-word 2 (omega arith),
+      laid-word 3 (omega arith),
+      laid-word 4 (omega arith),
+      laid-word 5 (omega arith),
+      laid-word 6 (omega arith),
     ) refl
 
 -- Two words that are stored at q.
@@ -213,8 +213,8 @@ backward-in n W i [] z e l s = tt
 backward-in n W i (x ∷ xs) z e l s =
     let P = joined (reverse xs) in
     let here : W ≡ P ++ (x ++ z) = e ∙ (ap (λ (ws : List ℕ). ws ++ z) (reversed-joined x xs) ∙ append-assoc P x z) in
-    let place : nodeLength * (n - suc i) ≡ length P = omega (arith, reversed-length xs (s .1)) in
-    (rw (place, here) (node-in P x z (s .0)), backward-in n W (suc i) xs (x ++ z) here (omega arith) (s .1))
+    let index : nodeLength * (n - suc i) ≡ length P = omega (arith, reversed-length xs (s .1)) in
+    (rw (index, here) (node-in P x z (s .0)), backward-in n W (suc i) xs (x ++ z) here (omega arith) (s .1))
 
 -- A row stands in its words.
 pub stands-in : (d : Direction) (n : ℕ) (W : List ℕ) (xs : List (List ℕ)) → W ≡ joined (fromLeft d xs) → length xs ≡ n → Sevens xs
@@ -252,9 +252,9 @@ backward-out : (n : ℕ) (Z : List ℕ) (i : ℕ) (xs : List (List ℕ)) → Sta
 backward-out n Z i [] p l h = refl
 backward-out n Z i (x ∷ xs) p l h =
     let more : nodeLength * suc (length xs) ≡ nodeLength * length xs + nodeLength = omega arith in
-    let place : nodeLength * (n - suc i) ≡ nodeLength * length xs = omega arith in
+    let index : nodeLength * (n - suc i) ≡ nodeLength * length xs = omega arith in
     let here : take nodeLength (drop (nodeLength * length xs) Z) ≡ x = node-words Z (nodeLength * length xs) (omega arith)
-    ∙ (rw place at (p .0)) in
+    ∙ (rw index at (p .0)) in
     rw (more, take-add (nodeLength * length xs) nodeLength Z, reversed-joined x xs)
     (rw (here, backward-out n Z (suc i) xs (p .1) (omega arith) h) refl)
 

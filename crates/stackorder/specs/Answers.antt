@@ -6,9 +6,9 @@ use Rattle.stackorder.specs.declared.Reordered.{Reordered}
 use Rattle.stackorder.specs.declared.Reordered.the-variants.{Nodes, Refused}
 
 -- The answer of either entry.
-abbrev pub told : Reordered → ReorderTold
-told (Nodes count) = reordered count
-told (Refused number place) = notReordered number place
+abbrev pub toldOf : Reordered → ReorderTold
+toldOf (Nodes count) = reordered count
+toldOf (Refused number place) = notReordered number place
 
 -- A call of either entry.
 abbrev pub call : List ℕ → List ℕ → ReorderCall

@@ -13,7 +13,7 @@ use Rattle.stackorder.specs.declared.refusal.Refusal.{Refusal}
 use Rattle.stackorder.specs.declared.refusal.Refusal.the-variants.{None, Told}
 use Rattle.stackorder.specs.declared.reorder.Direction.{Direction}
 use Rattle.stackorder.specs.declared.reorder.Direction.the-variants.{Forward, Backward}
-use Rattle.stackorder.specs.Answers.{told}
+use Rattle.stackorder.specs.Answers.{toldOf}
 
 -- The refusal, if there is one.
 abbrev pub refusalIn : Refusal → Option words.Refusal
@@ -27,5 +27,5 @@ otherOrder Backward W = words.treeWords (stackTrees nil W)
 
 -- The refusal is told and the output is as it was, or the node count is told and the output's front is the words in the other order.
 pub record HasFilled (d : Direction) (W O : List ℕ) (refusal : Option words.Refusal) (r : Reordered) (O' : List ℕ) : Type 0 where
-  pub tells : told r ≡ reorderTold refusal W
+  pub tells : toldOf r ≡ reorderTold refusal W
   pub output : O' ≡ outputIn refusal (otherOrder d W) O

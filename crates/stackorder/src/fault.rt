@@ -18,7 +18,7 @@ ghost use Rattle.molang.specs.Words.{operatorField};
 ghost use Rattle.molang.specs.WriteEntry.{mostNodes};
 ghost use Rattle.molang.specs.StackOrder.{stackAfter, treesAsked, leastNodes, stackContinues, isOneStack, stackFault};
 ghost use Rattle.shape.specs.Answers.{fieldOf};
-ghost use Rattle.shape.specs.Shaped.{nodeLength};
+ghost use Rattle.words.specs.Tokens.{nodeLength};
 ghost use Rattle.stackorder.specs.Faults.{placeOf, stack, Stacked, NextStacked};
 
 // The whole nodes before `at`: how many trees they have done, and how many nodes have begun.

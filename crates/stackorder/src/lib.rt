@@ -18,7 +18,7 @@ ghost use mathlib.Core.Path.{_≡_};
 ghost use mathlib.Core.Option.{none};
 ghost use Rattle.molang.specs.StackOrder.{exportAnswered, exportedAfter, importAnswered, importedAfter};
 ghost use Rattle.stackorder.specs.Reorder.{CanReorder};
-ghost use Rattle.stackorder.specs.Answers.{told, call};
+ghost use Rattle.stackorder.specs.Answers.{toldOf, call};
 ghost use Rattle.stackorder.specs.Filled.{refusalIn, HasFilled};
 
 // What a call is answered: the number of nodes that were put into the other order, or a refusal's number and place.
@@ -41,7 +41,7 @@ fn fill(words: &[u32], output: &mut [u32], direction: Direction, refusal: Refusa
 
 // A tree's words in stack order.
 pub fn export(tree: &[u32], output: &mut [u32]) -> Reordered
-    ensures { λ r. ⌜ told r ≡ exportAnswered (call (now (tree .entry)) (now (output .entry))) ⌝ }
+    ensures { λ r. ⌜ toldOf r ≡ exportAnswered (call (now (tree .entry)) (now (output .entry))) ⌝ }
     ensures { λ _. ⌜ now (output .exit) ≡ exportedAfter (call (now (tree .entry)) (now (output .entry))) ⌝ }
 {
     let not_a_tree = numbered(refusals::NOT_ONE_TREE, first_fault(tree));
@@ -52,7 +52,7 @@ pub fn export(tree: &[u32], output: &mut [u32]) -> Reordered
 
 // A tree's words of words in stack order.
 pub fn import(words: &[u32], output: &mut [u32]) -> Reordered
-    ensures { λ r. ⌜ told r ≡ importAnswered (call (now (words .entry)) (now (output .entry))) ⌝ }
+    ensures { λ r. ⌜ toldOf r ≡ importAnswered (call (now (words .entry)) (now (output .entry))) ⌝ }
     ensures { λ _. ⌜ now (output .exit) ≡ importedAfter (call (now (words .entry)) (now (output .entry))) ⌝ }
 {
     let not_a_stack = numbered(refusals::NOT_ONE_STACK, stack_fault(words));

@@ -81,7 +81,7 @@ pub lower-tests : (v w : ℕ) → firstOf {A = ℕ} (must (eqb (kindOf w) 5) 8 �
 unfolding wordFault fieldKind lowFault
 lower-tests v w = refl
 
--- A token's words, each one good up to the next place.
+-- A token's words, each one good up to the next.
 module _ (at a b c d e : ℕ) where
   pub after-first : none ≡ wordFault operatorField 0 a
       → wordsRefusal (at + 1) startField (variantOf a) (b ∷ c ∷ d ∷ e ∷ []) ≡ wordsRefusal at operatorField 0 (a ∷ b ∷ c ∷ d ∷ e ∷ [])

@@ -31,7 +31,8 @@ use Rattle.write.specs.declared.plain.Seat.the-variants.{Enclosed, Under
 use Rattle.shape.specs.Answers.{shape, treeRefusal}
 use Rattle.write.specs.Answers.{call, judgement, filling, filled}
 use Rattle.write.specs.Seats.{formSeat}
-use Rattle.shape.specs.Shaped.{nodeLength, countIndex, Shaped, noTrees, aNode, mostChildren, OneTree}
+use Rattle.words.specs.Tokens.{nodeLength}
+use Rattle.shape.specs.Shaped.{countIndex, Shaped, noTrees, aNode, mostChildren, OneTree}
 use Rattle.write.specs.Spelling.{nodeTokens, nodeWritten, Room, Writable}
 use Rattle.write.specs.Reading.{operatorAt}
 use Rattle.write.specs.Scripts.{eachHoldsOne, statementsWritten, ScriptRoom}

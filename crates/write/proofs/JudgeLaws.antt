@@ -37,7 +37,8 @@ use Rattle.write.specs.declared.plain.Seat.the-variants.{UnderSemicolon}
 use Rattle.molang.specs.WriteEntry.{mostNodes, treesOf, writtenTokens, WriteTold, tokens, unwritten, writeTold}
 use Rattle.shape.proofs.RowLaws.{Opened, opened, shaped-room, shaped-length}
 use Rattle.write.specs.Answers.{judgement}
-use Rattle.shape.specs.Shaped.{nodeLength, countIndex, Shaped, noTrees, aNode, mostChildren, OneTree}
+use Rattle.words.specs.Tokens.{nodeLength}
+use Rattle.shape.specs.Shaped.{countIndex, Shaped, noTrees, aNode, mostChildren, OneTree}
 use Rattle.write.specs.Reading.{operatorAt}
 use Rattle.write.specs.Seats.{formSeat, onlySeat, belowSeat, leftSeat, rightSeat, isPrefix, holdsOne, plainBy, isSpared, isPaired}
 use Rattle.write.specs.Seats.{ifTrue, tokensFor}

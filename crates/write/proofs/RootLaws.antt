@@ -17,7 +17,8 @@ use Rattle.molang.specs.Words.{lowOf}
 use Rattle.molang.specs.WriteEntry.{otherTrees, treesOf}
 use Rattle.molang.proofs.Words.{beside, other-beside}
 use Rattle.words.specs.Fields.{operatorOf}
-use Rattle.shape.specs.Shaped.{nodeLength, countIndex, Shaped, mostChildren, OneTree}
+use Rattle.words.specs.Tokens.{nodeLength}
+use Rattle.shape.specs.Shaped.{countIndex, Shaped, mostChildren, OneTree}
 use Rattle.shape.proofs.RowLaws.{Opened, opened, shaped-room, shaped-count, shaped-length, no-kids}
 use Rattle.write.specs.declared.reader.NodeView.{NodeView}
 use Rattle.write.specs.Reading.{viewAt}

@@ -14,7 +14,7 @@ use Rattle.write.proofs.JudgeLaws.{unpaired-only, unpaired-bracket, unp
 use Rattle.molang.proofs.Words.{beside}
 use Rattle.write.specs.declared.plain.Seat.{Seat}
 use Rattle.write.specs.Seats.{isPaired, onlySeat, leftSeat, rightSeat}
-use Rattle.shape.specs.Shaped.{nodeLength, countIndex, closeIndex, firstFive, Shaped}
+use Rattle.shape.specs.Shaped.{countIndex, closeIndex, firstFive, Shaped}
 use Rattle.shape.proofs.RowLaws.{Opened, after-trees, shaped-length, no-kids, one-kid, two-kids}
 use Rattle.molang.specs.Words.{lowOf, word, operatorBits, tokenWords, listWords}
 use Rattle.molang.proofs.OldWords.{old-bits}
@@ -26,7 +26,7 @@ use Rattle.words.specs.Extents.{wider, extentWith, firstExtent}
 use Rattle.words.specs.Fields.{operatorOf}
 use Rattle.words.specs.declared.extent.Extent.{Extent}
 use Rattle.words.proofs.TreeLaws.{Fits, first-fits, in-one, extent-step}
-use Rattle.words.specs.Tokens.{fiveWords}
+use Rattle.words.specs.Tokens.{fiveWords, nodeLength}
 use Rattle.write.specs.Spelling.{spanningWords, pairOpener, pairCloser, closerWords, seenWith}
 use Rattle.write.specs.Spelling.{firstSize, nodeTokens, operandOf, nodeWritten, operandWritten}
 

@@ -17,9 +17,9 @@ use Rattle.molang.proofs.Trees.{both}
 use Rattle.molang.proofs.Words.{beside}
 use Rattle.molang.proofs.Writing.{written-before}
 use Rattle.words.specs.Records.{laidAt}
-use Rattle.words.specs.Tokens.{tokenWordsAt, bareWords, fiveWords}
+use Rattle.words.specs.Tokens.{tokenWordsAt, bareWords, fiveWords, nodeLength}
 use Rattle.words.proofs.RecordLaws.{none-laid, laid-laid}
-use Rattle.shape.specs.Shaped.{nodeLength, countIndex, firstFive, Shaped}
+use Rattle.shape.specs.Shaped.{countIndex, firstFive, Shaped}
 use Rattle.shape.proofs.RowLaws.{Opened, opened, shaped-room, after-trees, OneKid, one-kid}
 use Rattle.write.specs.Spelling.{firstSize, nodeTokens, nodeWritten, Room}
 use Rattle.write.specs.Scripts.{eachHoldsOne, statementTokens, statementWritten, statementsWritten, StatementRoom, ScriptRoom}

@@ -16,7 +16,8 @@ use Rattle.words.proofs.RecordLaws.{laid-length, laid-laid, laid-before}
 use Rattle.words.proofs.TreeLaws.{from-nothing, extent-taken}
 use Rattle.write.specs.declared.plain.Seat.{Seat}
 use Rattle.write.specs.Seats.{isPaired, onlySeat, leftSeat, rightSeat}
-use Rattle.shape.specs.Shaped.{nodeLength, countIndex, firstFive, Shaped}
+use Rattle.words.specs.Tokens.{nodeLength}
+use Rattle.shape.specs.Shaped.{countIndex, firstFive, Shaped}
 use Rattle.write.specs.Spelling.{pairOpener, pairCloser, closerWords, seen, seenWith}
 use Rattle.write.specs.Spelling.{firstSize, nodeTokens, operandOf, filledWords, nodeWritten, operandWritten}
 use Rattle.write.specs.Spelling.{Room}

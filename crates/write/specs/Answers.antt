@@ -12,9 +12,9 @@ use Rattle.write.specs.declared.plain.Judged.{Judged}
 use Rattle.write.specs.declared.plain.Judged.the-variants.{Plain, Unplain}
 
 -- The write entry's answer.
-abbrev pub told : Written → WriteTold
-told (Tokens count) = tokens count
-told (Refused number place) = unwritten number place
+abbrev pub toldOf : Written → WriteTold
+toldOf (Tokens count) = tokens count
+toldOf (Refused number place) = unwritten number place
 
 -- What each case of `Judged` says: the token count, or answer 13 with its place.
 abbrev pub verdictOf : Judged → WriteTold

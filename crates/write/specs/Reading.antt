@@ -7,7 +7,8 @@ use Rattle.molang.specs.Words.{lowOf}
 use Rattle.words.specs.Fields.{operatorOf}
 use Rattle.write.specs.declared.reader.TreeReader.{TreeReader}
 use Rattle.write.specs.declared.reader.NodeView.{NodeView}
-use Rattle.shape.specs.Shaped.{nodeLength, countIndex}
+use Rattle.words.specs.Tokens.{nodeLength}
+use Rattle.shape.specs.Shaped.{countIndex}
 
 -- The operator of the node that starts at a word; a word past the last reads as 0.
 abbrev pub operatorAt : List ℕ → ℕ → ℕ

@@ -14,7 +14,8 @@ use Rattle.molang.specs.WriteEntry.{firstTrees, treesOf}
 use Rattle.write.specs.declared.plain.Seat.{Seat}
 use Rattle.write.specs.declared.plain.Seat.the-variants.{Enclosed, UnderSemicolon}
 use Rattle.write.specs.Reading.{operatorAt}
-use Rattle.shape.specs.Shaped.{nodeLength, countIndex, Shaped}
+use Rattle.words.specs.Tokens.{nodeLength}
+use Rattle.shape.specs.Shaped.{countIndex, Shaped}
 
 -- The first tree's root has the children of a script's.
 unfoldable pub holdsStatements : Forest → Bool

@@ -10,7 +10,7 @@ use Rattle.molang.specs.Operator.{isBracket}
 use Rattle.molang.specs.Words.{word, lowOf, listWords}
 use Rattle.words.specs.Extents.{extentWith}
 use Rattle.words.specs.Fields.{operatorOf}
-use Rattle.words.specs.Tokens.{fiveWords}
+use Rattle.words.specs.Tokens.{fiveWords, nodeLength}
 use Rattle.words.specs.declared.extent.Extent.{Extent}
 use Rattle.words.specs.declared.tokens.TokenWords.{TokenWords}
 use Rattle.molang.specs.Write.{written, operandTokens}
@@ -18,7 +18,7 @@ use Rattle.molang.specs.WriteEntry.{firstTrees, treesOf, tokens}
 use Rattle.write.specs.declared.plain.Seat.{Seat}
 use Rattle.write.specs.Answers.{judgement}
 use Rattle.write.specs.Seats.{isPaired}
-use Rattle.shape.specs.Shaped.{nodeLength, closeIndex, Shaped, OneTree}
+use Rattle.shape.specs.Shaped.{closeIndex, Shaped, OneTree}
 
 -- The words of a token of op over a span, with payload 0.
 abbrev pub spanningWords : ℕ → ℕ → ℕ → TokenWords

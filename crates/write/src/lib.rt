@@ -18,7 +18,7 @@ use words::fields;
 use words::refusals;
 ghost use mathlib.Core.Path.{_≡_};
 ghost use Rattle.molang.specs.WriteEntry.{writeAnswered, listAfter, treesOf};
-ghost use Rattle.write.specs.Answers.{told, filling, filled, call};
+ghost use Rattle.write.specs.Answers.{toldOf, filling, filled, call};
 ghost use Rattle.write.specs.Spelling.{Writable};
 
 // What a call is answered: the number of tokens that were written, or a refusal's number and place.
@@ -31,7 +31,7 @@ pub enum Written {
 // expression.
 fn fill(tree: &[u32], list: &mut [u32], tokens: usize) -> Written
     requires { ⌜ Writable (now tree) tokens ⌝ }
-    ensures { λ r. ⌜ told r ≡ filling (treesOf (now (tree .entry))) (now (list .entry)) ⌝ }
+    ensures { λ r. ⌜ toldOf r ≡ filling (treesOf (now (tree .entry))) (now (list .entry)) ⌝ }
     ensures { λ _. ⌜ now (list .exit) ≡ filled (treesOf (now (tree .entry))) (now (list .entry)) ⌝ }
 {
     if fields::MOST_TOKENS < tokens {
@@ -53,7 +53,7 @@ fn fill(tree: &[u32], list: &mut [u32], tokens: usize) -> Written
 
 // The entry.
 pub fn write(tree: &[u32], list: &mut [u32]) -> Written
-    ensures { λ r. ⌜ told r ≡ writeAnswered (call (now (tree .entry)) (now (list .entry))) ⌝ }
+    ensures { λ r. ⌜ toldOf r ≡ writeAnswered (call (now (tree .entry)) (now (list .entry))) ⌝ }
     ensures { λ _. ⌜ now (list .exit) ≡ listAfter (call (now (tree .entry)) (now (list .entry))) ⌝ }
 {
     let found = first_fault(tree);

@@ -6,7 +6,7 @@ ghost use mathlib.Core.Path.{_≡_};
 ghost use Prim.Native.Nat.{_+_, _≤_};
 ghost use lib.ListN.{length};
 ghost use Rattle.write.specs.Reading.{operatorAt, readerAt, viewAt};
-ghost use Rattle.shape.specs.Shaped.{nodeLength};
+ghost use Rattle.words.specs.Tokens.{nodeLength};
 
 pub struct TreeReader<'a> {
     words: &'a [u32],

@@ -20,8 +20,8 @@ ghost use lib.ListN.{length, getD};
 ghost use Rattle.molang.specs.Words.{lowOf};
 ghost use Rattle.words.specs.Extents.{wider};
 ghost use Rattle.words.specs.Records.{laidAt};
-ghost use Rattle.words.specs.Tokens.{fiveWords};
-ghost use Rattle.shape.specs.Shaped.{nodeLength, countIndex, firstFive};
+ghost use Rattle.words.specs.Tokens.{fiveWords, nodeLength};
+ghost use Rattle.shape.specs.Shaped.{countIndex, firstFive};
 ghost use Rattle.write.specs.Spelling.{spanningWords, closerWords, pairOpener, pairCloser, seen, seenAfter};
 ghost use Rattle.write.specs.Spelling.{nodeTokens, operandOf, filledWords, nodeWritten, operandWritten, Room};
 

@@ -11,7 +11,7 @@ ghost use Prim.Native.Nat.{_+_, _*_};
 ghost use lib.ListN.{length, drop};
 ghost use Rattle.molang.specs.WriteEntry.{treesOf};
 ghost use Rattle.words.specs.Records.{laidAt};
-ghost use Rattle.shape.specs.Shaped.{nodeLength};
+ghost use Rattle.words.specs.Tokens.{nodeLength};
 ghost use Rattle.write.specs.Spelling.{firstSize};
 ghost use Rattle.write.specs.Scripts.{statementWritten, statementsWritten, StatementRoom, ScriptRoom};
 

@@ -61,7 +61,7 @@ three-trees : trees ≡ tree (at Operator.conditional 9) pairedLeft ∷ tree (at
 unfolding computed trees
 three-trees = refl
 
--- They differ: in the root's place, and in the operator of the condition.
+-- They differ: in where the root starts, and in the operator of the condition.
 rootStart : Answer → ℕ
 rootStart (tree k cs) = k .start
 rootStart (messages ms) = 0

@@ -138,7 +138,7 @@ module _ (P : ℕ → Bool) (q : Role) (law : (n : ℕ) → P n ≡ is q (role n
       free-amid (σ (k .op)) k (form σ x) (form σ y) (law (k .op) ∙ ap (is q) e ∙ l .0) (lacks-free b σ x (l .1))
       (lacks-free b σ y (l .2)) r
 
-  -- So it is folded or not, it is the same.
+  -- Folded or not, the expression is the same.
   pub lacks-same : (σ : ℕ → Bool) {s : Sort} (e : Exp s) → Lacks q e → (r : Forest) → form (also σ P) e r ≡ form σ e r
   unfolding form also
   lacks-same σ empty l r = refl

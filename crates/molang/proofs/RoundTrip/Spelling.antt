@@ -1,6 +1,6 @@
 -- Writing a plain expression spells a bracketed expression: the written list is the expression's tokens, its tree is the tree with the
--- added pairs as brackets (Paired), and with brackets taken away it is the tree. So does writing what a statement holds, and a script is
--- spelled statement by statement.
+-- added pairs as brackets (Paired), and with brackets taken away it is the tree. Writing what a statement holds spells one too, and a
+-- script is spelled statement by statement.
 use Prim.Native.Nat.{ℕ, suc, _+_}
 use mathlib.Core.Path.{_≡_, refl, ap, sym, _∙_}
 use mathlib.Core.Bool.{Bool, true, false, _||_, _&&_, not, true≢false, false≢true, and-eq-true-iff, or-true}
@@ -18,7 +18,7 @@ use Rattle.molang.specs.Write.{spanning, openerFor, closerFor, closerOf,
 use Rattle.molang.specs.Write.{writtenStatements, takenAway, comparableToken, comparableTrees}
 use Rattle.molang.proofs.Booleans.{either, never, or-only-first}
 use Rattle.molang.proofs.Computed.{computed}
-use Rattle.molang.proofs.PlainTrees.{seat-cases, other-seat, left-place, right-place, PlainExpression, inner, PlainStatements}
+use Rattle.molang.proofs.PlainTrees.{seat-cases, other-seat, left-seat, right-seat, PlainExpression, inner, PlainStatements}
 use Rattle.molang.proofs.PlainTrees.{ended, statement}
 use Rattle.molang.proofs.Paired.{operandTree, paired, paired-one, paired-two, written-paired, plain-paired}
 use Rattle.molang.proofs.TakingAway.{taken-later, taken-kept, taken-call, taken-bracket}
@@ -56,7 +56,7 @@ pub record Spelled (p : Seat) (k : Token) (cs : Forest) : Type 0 where
   pub alone : standsAlone k cs ≡ isOperand sort
   pub comma : eqb (k .op) Operator.comma ≡ isJoinedBy aComma sort
   pub colon : eqb (k .op) Operator.conditionalElse ≡ isJoinedBy aColon sort
-  pub placed : isJoinedBy aColon sort ≡ true → isRightOfQuestion p ≡ true
+  pub seated : isJoinedBy aColon sort ≡ true → isRightOfQuestion p ≡ true
   pub stated : isHeaded statementRoles sort ≡ true → isUnderSemicolon p ≡ true
   pub bracketing : isBracket (k .op) ≡ isBracketed sort
   pub full : isBracketed sort ≡ true → isUnderMathCall p ≡ false → isFilledBracket sort ≡ true
@@ -159,7 +159,7 @@ spell-leaf p k r e l = record {
   alone = refl;
   comma = no-comma leafRoles refl (k .op) r e l;
   colon = no-colon leafRoles refl (k .op) r e l;
-  placed = λ h. absurd (false≢true h);
+  seated = λ h. absurd (false≢true h);
   stated = λ h. absurd (false≢true h);
   bracketing = no-bracket leafRoles refl (k .op) r e l;
   full = λ h n. absurd (false≢true h);
@@ -177,7 +177,7 @@ spell-hollow p k e m = record {
   alone = refl;
   comma = role-comma (k .op) ∙ ap (is aComma) e;
   colon = role-colon (k .op) ∙ ap (is aColon) e;
-  placed = λ h. absurd (false≢true h);
+  seated = λ h. absurd (false≢true h);
   stated = λ h. absurd (false≢true h);
   bracketing = role-bracket (k .op) ∙ ap (is aBracket) e;
   full = λ h n. absurd (true≢false (sym m ∙ n));
@@ -196,7 +196,7 @@ spell-bracket p q k x xs e y w = record {
   alone = b;
   comma = role-comma (k .op) ∙ ap (is aComma) e;
   colon = role-colon (k .op) ∙ ap (is aColon) e;
-  placed = λ h. absurd (false≢true h);
+  seated = λ h. absurd (false≢true h);
   stated = λ h. absurd (false≢true h);
   bracketing = b;
   full = λ h n. y .filled;
@@ -229,7 +229,7 @@ spell-before p k x xs r e i y c g =
       alone = b;
       comma = no-comma prefixRoles refl (k .op) r e i;
       colon = no-colon prefixRoles refl (k .op) r e i;
-      placed = λ h. absurd (false≢true h);
+      seated = λ h. absurd (false≢true h);
       stated = g;
       bracketing = b;
       full = λ h n. absurd (false≢true h);
@@ -260,16 +260,16 @@ spell-between p k x xs y ys r e j c g a z =
       alone = b;
       comma = role-comma (k .op) ∙ ap (is aComma) e;
       colon = role-colon (k .op) ∙ ap (is aColon) e;
-      placed = c;
+      seated = c;
       stated = g;
       bracketing = b;
       full = λ h n. absurd (false≢true h);
     }
 
 -- Where a node's children stand.
-argument-place : (k : Token) → isMathCall (k .op) ≡ false → isUnderMathCall (seatUnder k 0) ≡ false
+argument-seat : (k : Token) → isMathCall (k .op) ≡ false → isUnderMathCall (seatUnder k 0) ≡ false
 unfolding isUnderMathCall
-argument-place k h =
+argument-seat k h =
     seat-cases (λ s. isUnderMathCall s ≡ false) k 0 (λ e. absurd (true≢false (sym e ∙ h))) (λ e. refl) (λ e. refl) refl
 
 -- Only right of its `?` is a node's expression held by a `:`, and only in a statement by an assignment or a `return`.
@@ -281,7 +281,7 @@ held k i x xs y o c =
 
 held-left : (k x : Token) (xs : Forest) (y : Spelled (seatUnder k 0) x xs) → eqb (k .op) Operator.semicolon ≡ false
     → isHeld (y .sort) ≡ true
-held-left k x xs y o = held k 0 x xs y o (never (isJoinedBy aColon (y .sort)) (λ h. true≢false (sym (y .placed h) ∙ left-place k)))
+held-left k x xs y o = held k 0 x xs y o (never (isJoinedBy aColon (y .sort)) (λ h. true≢false (sym (y .seated h) ∙ left-seat k)))
 
 role-is : (a : Role) (n : ℕ) (b : Bool) → b ≡ is a (role n) → b ≡ true → role n ≡ a
 role-is a n b law h = sym (is-same a (role n) (sym law ∙ h))
@@ -343,7 +343,7 @@ spell-call p k x xs h b o y =
     let bracketed : isBracketed (y .sort) ≡ true = sym (y .bracketing) ∙ b in
     let alone : standsAlone x xs ≡ true = y .alone ∙ bracketed-operand (y .sort) bracketed in
     let fits : takes r (y .sort) ≡ true = call-takes r (y .sort) bracketed
-    (λ q. y .full bracketed (argument-place k (role-math (k .op) ∙ ap (is aMathCall) (sym (is-same aQuery r q))))) in
+    (λ q. y .full bracketed (argument-seat k (role-math (k .op) ∙ ap (is aMathCall) (sym (is-same aQuery r q))))) in
     let called : isAmong callRoles r ≡ true = sym (role-call (k .op)) ∙ h in
     spell-before p k x xs r refl (among callRoles isPrefix refl r called)
     (part (takes r) (standsAlone x xs) (seatUnder k 0) x xs y (λ t. fits) (λ t. held-left k x xs y o)
@@ -374,7 +374,7 @@ right-part k x xs o y =
     (λ h. rw (role-question (k .op), y .colon) at (joins-excepted (standsAlone x xs) (eqb (k .op) Operator.conditional)
     (eqb (x .op) Operator.conditionalElse) (isOperand (y .sort)) h (y .alone)))
     (λ h. held k 1 x xs y o (never (isJoinedBy aColon (y .sort))
-    (λ c. true≢false (sym (rw (right-place k (y .placed c), y .colon ∙ c) (or-true (standsAlone x xs))) ∙ h)))) (λ h. refl)
+    (λ c. true≢false (sym (rw (right-seat k (y .seated c), y .colon ∙ c) (or-true (standsAlone x xs))) ∙ h)))) (λ h. refl)
 
 spell-two : (p : Seat) (k x : Token) (xs : Forest) (y : Token) (ys : Forest) → eqb (k .op) Operator.semicolon ≡ false
     → expressionForm p k (node x xs (node y ys nil)) ≡ true
@@ -477,7 +477,7 @@ root-spelled k cs h =
     let e = spelled atRoot 1 k cs h in
     record {
       spelling = e;
-      whole = ap not (never (isJoinedBy aColon (e .sort)) (λ c. false≢true (e .placed c)));
+      whole = ap not (never (isJoinedBy aColon (e .sort)) (λ c. false≢true (e .seated c)));
       assigns = headless statementRoles anAssignment (e .sort) refl
           (never (isHeaded statementRoles (e .sort)) (λ c. false≢true (e .stated c)));
     }
@@ -517,7 +517,7 @@ script-spelled (node s (node x xs nil) rest) (statement _ n _ h e later) =
     record {
       sort = y .sort;
       exp = y .exp;
-      whole = ap not (never (isJoinedBy aColon (y .sort)) (λ c. unfold isRightOfQuestion in false≢true (y .placed c)));
+      whole = ap not (never (isJoinedBy aColon (y .sort)) (λ c. unfold isRightOfQuestion in false≢true (y .seated c)));
       filled = y .filled;
       end = bare Operator.semicolon x;
       ends = unfold bare in refl;

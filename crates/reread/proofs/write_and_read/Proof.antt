@@ -7,7 +7,7 @@ use lib.ListN.{length, take, length-take}
 use Rattle.molang.specs.WriteEntry.{tokens, writeAnswered, listAfter}
 use Rattle.molang.specs.Reread.{Handed, writerCall}
 use Rattle.molang.proofs.Reread.{Readable, tree-room}
-use Rattle.write.specs.Answers.{told}
+use Rattle.write.specs.Answers.{toldOf}
 use Rattle.reread.specs.Answers.{handedOf}
 use Rattle.own.proofs.CallLaws.{same-call}
 use Rattle.reread.proofs.CallLaws.{exact-call, written-list, written-room, has-unwritten, has-written}
@@ -45,7 +45,7 @@ enum-known-wrote-2 c = search needs
 module _ (c : tie.After-write) where
   writer-told :
       let s = c .before .before .before .before .before .before .before .before in
-      told (c .write .result) ≡ writeAnswered (writerCall (given s) (s .args .nodes))
+      toldOf (c .write .result) ≡ writeAnswered (writerCall (given s) (s .args .nodes))
   unfolding writerCall
   writer-told = c .write .ensures .0
 
@@ -60,7 +60,7 @@ module _ (c : tie.After-known-told2) where
   wrote :
       let s = c .before .before .before .before .before .before .before .before .before .before .before .before .before in
       tokens (c .before .wrote2 .given .0 .0) ≡ writeAnswered (writerCall (given s) (s .args .nodes))
-  wrote = ap told (sym (c .before .wrote2 .given .1)) ∙ writer-told (c .before .before .before .before .before)
+  wrote = ap toldOf (sym (c .before .wrote2 .given .1)) ∙ writer-told (c .before .before .before .before .before)
 
   room : 5 * (c .before .wrote2 .given .0 .0) ≤ length (c .before .before .before .before .before .write .last .1 .0)
   room =
@@ -103,7 +103,7 @@ returns c =
     let s = w .before .before .before .before .before .before .before .before in
     let back = c .before .wrote .given in
     has-unwritten (given s) (s .args .nodes) (w .write .last .1 .0) (list-left w) (back .0 .0) (back .0 .1 .0)
-    (ap told (sym (back .1)) ∙ writer-told w)
+    (ap toldOf (sym (back .1)) ∙ writer-told w)
 
 same-length-2 : tie.Need-same-length-2
 same-length-2 c = search needs

@@ -55,7 +55,7 @@ open-section-requires c κs =
     let placed = c .before .before .before .before .before in
     let s = placed .before .before in
     let g = s .pre .0 in
-    record { apart = g .apart; room = g .room; place = omega (arith, s .pre .1); start = small placed }
+    record { apart = g .apart; room = g .room; word = omega (arith, s .pre .1); start = small placed }
 
 same-length : tie.Need-same-length
 same-length c = search needs

@@ -34,7 +34,7 @@ bounds : (c : tie.In-loop Inv-loop μ-loop) → let a = c .before .before .befor
     (a .base + w .write < length (w .work)) × (slotEnd (wd (w .work) (a .base + w .read)) ≤ length (w .work))
 bounds c = join-in (turn c (c .before .loop .inv .0))
 
--- the place in bytes where the turn writes is a number that fits
+-- the index in bytes at which the turn writes is a number that fits
 low : (c : tie.In-loop Inv-loop μ-loop) → 4 * (c .before .before .before .args .base + c .before .loop .write) + 4 < 2 ^ 64
 low c =
     let v = c .before .loop .inv in

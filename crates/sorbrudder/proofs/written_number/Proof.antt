@@ -3,7 +3,7 @@ use mathlib.Core.Path.{sym, ap, subst, _∙_}
 use native.Mathlib.Nat.{zero-add}
 use borrow.Author.Needs.{needs}
 use Rattle.molang.specs.WriteEntry.{WriteTold}
-use Rattle.write.specs.Answers.{told}
+use Rattle.write.specs.Answers.{toldOf}
 use Rattle.write.specs.declared.Written.{Written}
 use Rattle.sorbrudder.specs.Numbers.{writeNumber, FitsWritten}
 use Rattle.sorbrudder.proofs.written_number.Statement.{statement}
@@ -16,13 +16,14 @@ enum-known-written-2 : tie.Need-enum-known-written-2
 enum-known-written-2 c = search needs
 
 refusal-requires : tie.Need-refusal-requires
-refusal-requires c κs = subst (λ (o : WriteTold). FitsWritten o) (ap told (c .before .written2 .given .1)) (c .before .before .before .pre)
+refusal-requires c κs =
+    subst (λ (o : WriteTold). FitsWritten o) (ap toldOf (c .before .written2 .given .1)) (c .before .before .before .pre)
 
 returns : tie.Need-returns
-returns c = sym (ap (λ (r : Written). writeNumber (told r)) (c .before .written .given .1) ∙ zero-add (c .before .written .given .0 .0))
+returns c = sym (ap (λ (r : Written). writeNumber (toldOf r)) (c .before .written .given .1) ∙ zero-add (c .before .written .given .0 .0))
 
 returns-2 : tie.Need-returns-2
-returns-2 c = c .refusal .ensures ∙ sym (ap (λ (r : Written). writeNumber (told r)) (c .before .before .written2 .given .1))
+returns-2 c = c .refusal .ensures ∙ sym (ap (λ (r : Written). writeNumber (toldOf r)) (c .before .before .written2 .given .1))
 
 pub written-number-spec : {M : Type 1} → statement M
 written-number-spec = tie.close (tie.spec enum-known-written enum-known-written-2 refusal-requires returns returns-2)

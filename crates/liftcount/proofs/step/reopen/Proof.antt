@@ -1,5 +1,4 @@
 -- `liftcount::step::reopen` meets its contract, case by case. Assumes nothing.
-use mathlib.Core.Path.{refl}
 use mir.Facts.{toZ-ofZ}
 use borrow.Author.Needs.{needs}
 use Rattle.liftcount.proofs.step.reopen.Statement.{statement}
@@ -8,16 +7,23 @@ use Rattle.liftcount.proofs.step.reopen.Tie as tie
 enum-known-ending : tie.Need-enum-known-ending
 enum-known-ending c = search needs
 
+after-word-requires : tie.Need-after-word-requires
+after-word-requires c κs = search needs
+
 enum-known-ending-2 : tie.Need-enum-known-ending-2
 enum-known-ending-2 c = search needs
 
+after-word-requires-2 : tie.Need-after-word-requires-2
+after-word-requires-2 c κs = search needs
+
 returns : tie.Need-returns
-returns c list = rw (c .before .ending .given .1) refl
+returns c list = rw (c .before .before .ending .given .1) (c .after-word .ensures list)
 
 returns-2 : tie.Need-returns-2
 returns-2 c list =
-    let start = c .before .before .before in
-    rw (c .before .ending2 .given .1, toZ-ofZ (start .fits .from), toZ-ofZ (start .fits .to)) refl
+    let matched = c .before .before in
+    let start = matched .before .before in
+    rw (matched .ending2 .given .1) (rw (toZ-ofZ (start .fits .from), toZ-ofZ (start .fits .to)) at (c .after-word2 .ensures list))
 
 pub reopen-spec : {M : Type 1} → statement M
-reopen-spec = tie.close (tie.spec enum-known-ending enum-known-ending-2 returns returns-2)
+reopen-spec = tie.close (tie.spec enum-known-ending after-word-requires enum-known-ending-2 after-word-requires-2 returns returns-2)

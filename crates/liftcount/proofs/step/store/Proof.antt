@@ -1,5 +1,5 @@
 -- `liftcount::step::store` meets its contract. Assumes nothing.
-use mathlib.Core.Path.{ap}
+use mathlib.Core.Path.{ap, _∙_}
 use mir.Facts.{toZ-ofZ}
 use Rattle.liftcount.specs.Steps.{afterWord}
 use Rattle.liftcount.proofs.StepLaws.{keeps, passes}
@@ -9,6 +9,9 @@ use Rattle.liftcount.proofs.step.store.Tie as tie
 
 one-more-requires : tie.Need-one-more-requires
 one-more-requires c κs = search needs
+
+after-word-requires : tie.Need-after-word-requires
+after-word-requires c κs = search needs
 
 mul-list : tie.Need-mul-list
 mul-list c = search needs
@@ -21,18 +24,22 @@ same-length c = search needs
 
 returns : tie.Need-returns
 returns c =
-    let start = c .before .before .before in
+    let counted = c .before .before in
+    let start = counted .before .before in
     let a = start .args in
-    rw (toZ-ofZ (start .fits .from), toZ-ofZ (start .fits .to), c .before .one-more .ensures)
+    c .before .after-word .ensures _
+    ∙ rw (toZ-ofZ (start .fits .from), toZ-ofZ (start .fits .to), counted .one-more .ensures)
     (ap afterWord (keeps (a .counts) (a .list .now) (a .w) (a .from) (a .to) (a .words) (start .pre)))
 
 returns-2 : tie.Need-returns-2
 returns-2 c =
-    let start = c .before .before .before in
+    let counted = c .before .before in
+    let start = counted .before .before in
     let a = start .args in
-    rw (toZ-ofZ (start .fits .from), toZ-ofZ (start .fits .to), c .before .one-more .ensures)
+    c .before .after-word .ensures _
+    ∙ rw (toZ-ofZ (start .fits .from), toZ-ofZ (start .fits .to), counted .one-more .ensures)
     (ap afterWord (passes (a .counts) (a .list .now) (a .w) (a .from) (a .to) (a .words) (c .if1 .left) (start .pre)))
 
 pub store-spec : {M : Type 1} → statement M
 store-spec =
-    tie.close (tie.spec one-more-requires mul-list slice-write-list same-length returns returns-2)
+    tie.close (tie.spec one-more-requires after-word-requires mul-list slice-write-list same-length returns returns-2)

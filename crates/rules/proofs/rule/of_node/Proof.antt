@@ -15,8 +15,8 @@ use Rattle.rules.proofs.rule.of_node.Tie as tie
 operator-requires : tie.Need-operator-requires
 operator-requires c κs = search needs
 
-place-of-requires : tie.Need-place-of-requires
-place-of-requires c κs = search needs
+index-of-requires : tie.Need-index-of-requires
+index-of-requires c κs = search needs
 
 element-copy-out-rule : tie.Need-element-copy-out-rule
 element-copy-out-rule c = search needs
@@ -41,8 +41,8 @@ returns-2 c first h =
     ne-eqb (lowOf (a .count)) 0 (λ e. c .if1 .left (counted .low .ensures ∙ e))
     in
     rw (nodeRule, parent)
-    ((λ i. getD (h i) (looked .place-of .ensures i) 0)
+    ((λ i. getD (h i) (looked .index-of .ensures i) 0)
     ∙ (rule-in first _ ∙ ap (operatorRule first) (looked .before .operator .ensures)))
 
 pub of-node-spec : {M : Type 1} → statement M
-of-node-spec = tie.close (tie.spec operator-requires place-of-requires element-copy-out-rule low-requires returns returns-2)
+of-node-spec = tie.close (tie.spec operator-requires index-of-requires element-copy-out-rule low-requires returns returns-2)

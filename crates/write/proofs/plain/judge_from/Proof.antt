@@ -16,7 +16,7 @@ use Rattle.write.proofs.JudgeLaws.{Judging, Turn, few-tokens, begins-ea
 use Rattle.write.proofs.JudgeLaws.{judging-refused, judging-none, judging-one, judging-two, judging-ends, falls}
 use Rattle.write.proofs.plain.judge_from.Statement.{statement}
 use Rattle.write.proofs.plain.judge_from.Tie as tie
-use Rattle.shape.specs.Shaped.{nodeLength}
+use Rattle.words.specs.Tokens.{nodeLength}
 
 abbrev Inv-loop : tie.InvT-loop
 Inv-loop tree trees begin waiting₀ top₀ tokens₀ node₀ at₀ next₀ waiting top tokens node at next =

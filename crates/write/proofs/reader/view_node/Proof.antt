@@ -59,7 +59,7 @@ use Rattle.write.proofs.reader.view_node.Key.{name as #view-node}
 use Rattle.write.proofs.reader.view_node as view
 use Rattle.write.proofs.reader.view_node.Statement as stated
 use Rattle.write.proofs.reader.view_node.Code as code
-use Rattle.shape.specs.Shaped.{nodeLength}
+use Rattle.words.specs.Tokens.{nodeLength}
 
 abbrev stayed : Stays (view.ended .signature .params) (view.ended .kept)
 stayed = (stay-none-slice (0 ∷ []) tt (plain (λ _. u32)) yes, (stay-none (λ _. usize) yes, tt))

@@ -35,7 +35,7 @@ use Rattle.write.proofs.StepLaws.{one-token, one-only, one-closer, one-
 use Rattle.write.proofs.StepLaws.{two-left, two-token, two-next, two-right, two-end, two-spans, two-length, two-writes}
 use Rattle.write.proofs.StepLaws.{operand-long, alone-room, alone-writes, open-room, inner-room, close-room}
 use Rattle.write.proofs.StepLaws.{pair-spans, pair-length, pair-writes}
-use Rattle.shape.specs.Shaped.{nodeLength}
+use Rattle.words.specs.Tokens.{nodeLength}
 use Rattle.write.specs.Spelling.{seen}
 
 abbrev μ-write-node : Measures 5 write-node-kinds.ps ℕ

@@ -3,7 +3,7 @@
 use native.Mathlib.Omega.{arith}
 use mathlib.Core.Path.{sym}
 use lib.Seq.{length-take-le}
-use Rattle.shape.specs.Shaped.{nodeLength}
+use Rattle.words.specs.Tokens.{nodeLength}
 use Rattle.write.specs.Spelling.{seen}
 use Rattle.write.proofs.StepLaws.{node-long, none-token, none-closer, none-spans, none-length, none-writes}
 use borrow.Author.Needs.{needs}
