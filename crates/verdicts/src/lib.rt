@@ -25,7 +25,7 @@ ghost use Prim.Native.Nat.{_≤_};
 ghost use lib.ListN.{length, replicate};
 ghost use Rattle.molang.specs.Lines.{versionOf};
 ghost use Rattle.parse.specs.Answers.{toldOf};
-ghost use Rattle.write.specs.Answers.{told as writtenTold, call as writeCall};
+ghost use Rattle.write.specs.Answers.{toldOf as writtenTold, call as writeCall};
 ghost use Rattle.table.specs.Answers.{isLeft};
 ghost use Rattle.verdicts.specs.Verdicts.{verdict, isRead, isWritten, lentCall, listCall, treeCall, readVerdict, writeVerdict};
 ghost use Rattle.verdicts.specs.Verdicts.{atVersions, wordsVerdict, lineVerdict};
