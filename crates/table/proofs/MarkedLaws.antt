@@ -44,7 +44,7 @@ pub has-mark : (marked : List ℕ) (m : ℕ) → m ≡ getD marked 0 0 → 1 ≤
 has-mark [] m e h = absurd (omega arith)
 has-mark (n ∷ ns) m e h = omega arith
 
--- ---- Nodes. Their numbers and places fit into words.
+-- ---- Nodes. Their numbers, starts and ends fit into words.
 
 low-small : (n : ℕ) → n < 2 ^ 29 → lowOf n ≡ n
 unfolding lowOf

@@ -23,7 +23,7 @@ unmarked last (n ∷ ns) = elim (isMark last n) [ true ↦ 0 | false ↦ 1 + unm
 abbrev pub most : ℕ
 most = 4294967295
 
--- WORDS. A token of payload 0: its words hold twelve bits of its number and 29 of a place.
+-- WORDS. A token of payload 0: its words hold twelve bits of its number and 29 of a start or an end.
 abbrev pub bare : ℕ → ℕ → ℕ → Token
 bare op start end = record { op = op % 2 ^ 12; variant = 0; value = 0; start = lowOf start; end = lowOf end; close = lowOf end }
 
@@ -52,9 +52,9 @@ messageWord said i =
 unfoldable pub writtenWord : ℕ → ℕ → ℕ
 writtenWord item field = tokenWord (item / 10000) (item / 100 % 100) (item % 100) field
 
--- A word of the token at a place of a list that is given by its operators.
+-- A word of the i-th token of a list that is given by its operators.
 unfoldable pub operatorWord : ℕ → ℕ → ℕ → ℕ
-operatorWord op place field = tokenWord op (place % 2 ^ 16) (place % 2 ^ 16 + 1) field
+operatorWord op i field = tokenWord op (i % 2 ^ 16) (i % 2 ^ 16 + 1) field
 
 -- The number that a table has beside a mark, or another where it has none.
 unfoldable pub besideMark : List (ℕ × ℕ) → ℕ → ℕ → ℕ

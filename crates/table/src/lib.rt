@@ -1,6 +1,8 @@
 // The table of molang's lines for a program that runs it: the words that a line asks with, laid into a buffer, and whether a buffer holds
 // those that it answers with; and the text of each line (the module `said`). A mark and its items are one slice, the mark first. Leans on
 // molang (the table), words and text; specs/Marked says which words they are.
+pub mod answers;
+pub mod asked;
 pub mod said;
 
 use molang::lines::ANY;
@@ -23,12 +25,12 @@ ghost use Rattle.table.specs.Marked.{firstWords, fitting, saidCount, sai
 // Above every mark.
 pub const MOST: u32 = 0xffff_ffff;
 
-// The number at a place, and 0 where there is none.
-pub fn at(numbers: &[u32], place: usize) -> u32
-    ensures { λ r. ⌜ r ≡ getD (now (numbers .entry)) place 0 ⌝ }
+// The number at an index, and 0 where there is none.
+pub fn at(numbers: &[u32], index: usize) -> u32
+    ensures { λ r. ⌜ r ≡ getD (now (numbers .entry)) index 0 ⌝ }
 {
-    if place < numbers.len() {
-        return numbers[place];
+    if index < numbers.len() {
+        return numbers[index];
     }
     0u32
 }
@@ -124,7 +126,7 @@ fn record_word(i: usize, said: &[u32]) -> u32
 fn word(marked: &[u32], i: usize) -> u32
     ensures { λ r. ⌜ r ≡ markedWord (now (marked .entry)) i ⌝ }
 {
-    let place = i / fields::TOKEN_WORDS;
+    let token = i / fields::TOKEN_WORDS;
     let field = i % fields::TOKEN_WORDS;
     match at(marked, 0) {
         WRITE | TREE => node_word(
@@ -133,14 +135,14 @@ fn word(marked: &[u32], i: usize) -> u32
         ),
         MESSAGE => record_word(i, marked),
         LIST => {
-            let item = at(marked, place + 1);
+            let item = at(marked, token + 1);
             token_word(field, item / 10_000, item / 100 % 100, item % 100)
         }
         ZEROS => 0,
         REPEATED => token_word(field, at(marked, 2), 0, 0),
         _ => {
-            let start = (place % 65_536) as u32;
-            token_word(field, at(marked, place + 1), start, start + 1)
+            let start = (token % 65_536) as u32;
+            token_word(field, at(marked, token + 1), start, start + 1)
         }
     }
 }

@@ -183,11 +183,11 @@ module _ (w : ℕ) (least : 2097152 ≤ w / 256) (most : w / 256 ≤ 2097164) wh
         last = last;
       }
 
-pub start-good : (v w : ℕ) → kindOf w ≡ 2 → none ≡ wordFault startField v w
+start-good : (v w : ℕ) → kindOf w ≡ 2 → none ≡ wordFault startField v w
 unfolding wordFault fieldKind lowFault firstOf must
 start-good v w e = rw (eq-eqb (kindOf w) 2 e)
 
-pub end-good : (v w : ℕ) → kindOf w ≡ 3 → none ≡ wordFault endField v w
+end-good : (v w : ℕ) → kindOf w ≡ 3 → none ≡ wordFault endField v w
 unfolding wordFault fieldKind lowFault firstOf must
 end-good v w e = rw (eq-eqb (kindOf w) 3 e)
 
@@ -248,3 +248,17 @@ bare-operator w least most = low-operator w (omega arith) (omega arith) (omega a
 
 pub bare-halves : (a d e : ℕ) → d ≡ 2147483648 → e ≡ 2684354560 → HalfWords a d e
 bare-halves a d e upper lower = halves-good a d e (omega arith) (omega arith) (omega arith)
+
+-- Where these tests hold the words of a token are legal.
+pub tests-passed : (i a b c d e : ℕ) → LowOperator a → (kindOf b ≡ 2) × (kindOf c ≡ 3) → HalfWords a d e
+    → wordsRefusal i operatorField 0 (a ∷ b ∷ c ∷ d ∷ e ∷ []) ≡ none
+unfolding wordsRefusal
+tests-passed i a b c d e first spans halves =
+    token-passed i 0 a b c d e []
+    (record {
+      operator = first .legal;
+      start = start-good (variantOf a) b (spans .0);
+      end = end-good (variantOf a) c (spans .1);
+      upper = halves .upper;
+      lower = halves .lower;
+    })

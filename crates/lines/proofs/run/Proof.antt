@@ -6,11 +6,11 @@ use Rattle.lines.proofs.run.Statement.{statement}
 use Rattle.lines.proofs.run.Tie as tie
 
 abbrev Inv-loop : tie.InvT-loop
-Inv-loop numbers text place₀ from₀ count₀ others₀ place from count others =
-    (place ≤ length numbers) × (from ≤ length text) × (count ≤ place) × (others ≤ count)
+Inv-loop numbers text start₀ from₀ count₀ others₀ start from count others =
+    (start ≤ length numbers) × (from ≤ length text) × (count ≤ start) × (others ≤ count)
 
 abbrev μ-loop : tie.MeasureT-loop
-μ-loop numbers text place₀ from₀ count₀ others₀ place from count others = length numbers - place
+μ-loop numbers text start₀ from₀ count₀ others₀ start from count others = length numbers - start
 
 loop-holds : tie.Need-loop-holds Inv-loop μ-loop
 loop-holds c = omega arith

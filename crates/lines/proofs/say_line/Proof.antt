@@ -1,4 +1,4 @@
--- `lines::say_line` meets its contract: the place lies in the text. Assumes nothing.
+-- `lines::say_line` meets its contract: the index lies in the text. Assumes nothing.
 use Prim.Native.Nat.{_-_, _≤_}
 use native.Mathlib.Omega.{arith}
 use lib.ListN.{length}

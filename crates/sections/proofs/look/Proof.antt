@@ -34,6 +34,23 @@ opens-by-bits n b e = sym (same-by-bits isOpener false (λ m h. no-opener m (ome
 closes-by-bits : (n b : ℕ) → b ≡ operatorBits n 0 → isCloser n ≡ isCloser b
 closes-by-bits n b e = sym (same-by-bits isCloser false (λ m h. no-end m (omega arith)) n) ∙ ap isCloser (sym e)
 
+-- What the two tests of the bits say of the operator.
+opening : (c : tie.After-is-opener)
+    → isOpener (opAt (c .before .before .before .before .before .args .work .now) (c .before .before .before .before .before .args .item))
+    ≡ c .is-opener .result
+opening c =
+    let bits = c .before .operator-bits-of in
+    opens-by-bits _ (bits .result) (bits .ensures) ∙ sym (c .is-opener .ensures)
+
+closing : (c : tie.After-is-closer)
+    → isCloser
+    (opAt (c .before .before .before .before .before .before .before .args .work .now)
+    (c .before .before .before .before .before .before .before .args .item))
+    ≡ c .is-closer .result
+closing c =
+    let bits = c .before .before .before .operator-bits-of in
+    closes-by-bits _ (bits .result) (bits .ensures) ∙ sym (c .is-closer .ensures)
+
 small : (c : tie.After-position) → c .position .result + 1 < 2 ^ 32
 small c =
     let s = c .before .before in
@@ -66,9 +83,7 @@ returns c =
     let s = test .before .before .before .before .before .before in
     let e = test .before .before .before .before .position in
     let o = opAt (s .args .work .now) (s .args .item) in
-    let bits = test .before .before .operator-bits-of in
-    let same = opens-by-bits o (bits .result) (bits .ensures) in
-    let h : isOpener o ≡ true = same ∙ (sym (test .before .is-opener .ensures) ∙ test .if1 .taken) in
+    let h : isOpener o ≡ true = opening (test .before) ∙ test .if1 .taken in
     let r = c .before .before .open-section in
     looked-on (s .pre .0) (s .args .at .index) (e .result) (r .result) (r .last .0) (e .ensures .0) (e .ensures .1)
     (λ g. look-opens g o (e .result) (r .result) (r .last .0) refl h (r .ensures .words) (r .ensures .more)
@@ -95,12 +110,8 @@ returns-2 c =
     let s = if1 .before .before .before .before .before .before in
     let e = if1 .before .before .before .before .position in
     let o = opAt (s .args .work .now) (s .args .item) in
-    let bits = if1 .before .before .operator-bits-of in
-    let same = opens-by-bits o (bits .result) (bits .ensures) in
-    let h : isOpener o ≡ false = same ∙ (sym (if1 .before .is-opener .ensures) ∙ if1 .if1 .left) in
-    let closes : isCloser o ≡ true =
-    closes-by-bits o (bits .result) (bits .ensures) ∙ (sym (if2 .before .is-closer .ensures) ∙ if2 .if2 .taken)
-    in
+    let h : isOpener o ≡ false = opening (if1 .before) ∙ if1 .if1 .left in
+    let closes : isCloser o ≡ true = closing (if2 .before) ∙ if2 .if2 .taken in
     let r = c .before .before .close-section in
     let w = r .ensures .0 in
     let fewer = closer-open (s .args .at .depth) o h closes in (
@@ -135,12 +146,9 @@ returns-3 c =
     let s = test .before .before .before .before .before .before in
     let e = test .before .before .before .before .position in
     let o = opAt (s .args .work .now) (s .args .item) in
-    let bits = test .before .before .operator-bits-of in
-    let same = opens-by-bits o (bits .result) (bits .ensures) in
-    let h : isOpener o ≡ false = same ∙ (sym (test .before .is-opener .ensures) ∙ test .if1 .left) in
-    let ends = closes-by-bits o (bits .result) (bits .ensures) in
+    let h : isOpener o ≡ false = opening (test .before) ∙ test .if1 .left in
     let other : (isCloser o ≡ false) ⊎ (s .args .at .depth ≡ 0) =
-    ⊎-elim (λ w. inr (w .1 .left)) (λ w. inl (ends ∙ (sym (c .before .is-closer .ensures) ∙ w .left))) (c .if2 .came)
+    ⊎-elim (λ w. inr (w .1 .left)) (λ w. inl (closing (c .before) ∙ w .left)) (c .if2 .came)
     in
     looked-on (s .pre .0) (s .args .at .index) (e .result) _ _ (e .ensures .0) (e .ensures .1)
     (λ g. look-places g (e .result) _ refl (look-other g o (e .result) refl h other))

@@ -1,11 +1,7 @@
 -- `words::checks::is_bare` meets its contract: the tests leave one word for each field but the span's. Assumes nothing.
-use mathlib.Core.Path.{sym}
-use mathlib.Core.List.{[]}
 use mathlib.Core.Bool.{false≢true}
 use borrow.Author.Needs.{needs}
-use Rattle.molang.specs.Words.{wordsRefusal}
-use Rattle.words.specs.Fields.{variantOf}
-use Rattle.words.proofs.CheckLaws.{token-passed, start-good, end-good, bare-operator, bare-halves}
+use Rattle.words.proofs.CheckLaws.{bare-operator, bare-halves, tests-passed}
 use Rattle.words.proofs.checks.is_bare.Statement.{statement}
 use Rattle.words.proofs.checks.is_bare.Tie as tie
 
@@ -25,7 +21,6 @@ are-spans-requires : tie.Need-are-spans-requires
 are-spans-requires c κs = search needs
 
 returns-5 : tie.Need-returns-5
-unfolding wordsRefusal
 returns-5 c =
     let lower = c .before in
     let upper = lower .before .before in
@@ -34,15 +29,7 @@ returns-5 c =
     let k = least .before .before .args .words in
     let first = bare-operator (k .operator) (search needs) (search needs) in
     let halves = bare-halves (k .operator) (k .upper) (k .lower) (upper .if3 .left) (lower .if4 .left) in
-    λ e at. let spans = c .are-spans .ensures e in
-    token-passed at 0 (k .operator) (k .start) (k .end) (k .upper) (k .lower) []
-    (record {
-      operator = first .legal;
-      start = start-good (variantOf (k .operator)) (k .start) (spans .0);
-      end = end-good (variantOf (k .operator)) (k .end) (spans .1);
-      upper = halves .upper;
-      lower = halves .lower;
-    })
+    λ e at. tests-passed at (k .operator) (k .start) (k .end) (k .upper) (k .lower) first (c .are-spans .ensures e) halves
 
 pub is-bare-spec : {M : Type 1} → statement M
 is-bare-spec = tie.close (tie.spec returns returns-2 returns-3 returns-4 are-spans-requires returns-5)
