@@ -1,6 +1,6 @@
 #!/usr/bin/env bash
-# The gate, called by `make test`: sees that every must-fail edit applies, proves every crate from nothing, runs the Rust tests and checks
-# the layout.
+# The gate, called by `make test`: sees that every must-fail edit applies and every public function has two, proves every crate from
+# nothing, runs the Rust tests and checks the layout.
 # Its last line is 'N passed, M failed'; the exit status is 0 only where M is 0.
 set -u
 cd "$(dirname "$0")/.." || exit 1
@@ -79,6 +79,11 @@ rust_tests() {
 
 # An edit that no longer applies is no wrong program, and those of edits/ are not tried here.
 step "every must-fail edit applies" tools/edits-apply.sh
+if command -v python3 >/dev/null; then
+    step "every public function has two wrong programs" tools/wrong_programs.py
+else
+    echo "gate: there is no python3: the wrong programs of the public functions were not counted"
+fi
 
 prove
 
