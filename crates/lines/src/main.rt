@@ -5,11 +5,10 @@
 // verdicts (whether a line is answered as it says) and molang (the marks).
 use libc::STDOUT_FILENO;
 use molang::lines::TREE;
-use table::MOST;
 use table::next_mark;
 use table::said::table;
 use verdicts::Verdict;
-use verdicts::ask;
+use verdicts::run_line;
 ghost use Prim.Native.Nat.{_≤_};
 ghost use lib.ListN.{length};
 
@@ -36,15 +35,6 @@ fn say_verdict(verdict: Verdict) -> u64
             1
         }
     }
-}
-
-// Runs one line: a mark that asks and its items, and the marks that answer and theirs. `run` gives no empty line.
-fn run_line(line: &[u32]) -> u64
-    requires { ⌜ 1 ≤ length (now line) ⌝ }
-    ensures { λ r. ⌜ r ≤ 1 ⌝ }
-{
-    let middle = next_mark(line, 1, MOST);
-    say_verdict(ask(&line[0..middle], &line[middle..]))
 }
 
 // Writes the line of text that starts at `from`; where the next one starts. `run` gives the index that it gave before.
@@ -79,7 +69,7 @@ fn run(numbers: &[u32], text: &[u8]) {
     while start < numbers.len() {
         let end = next_mark(numbers, start + 1, TREE);
         from = say_line(text, from);
-        others += run_line(&numbers[start..end]);
+        others += say_verdict(run_line(&numbers[start..end]));
         count += 1;
         start = end;
     }

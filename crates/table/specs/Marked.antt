@@ -39,7 +39,7 @@ nodeWord node field = getD (nodeWords (node ∷ [])) field 0
 unfoldable pub recordWord : List ℕ → ℕ → ℕ
 recordWord message field = getD (recordOf (drop 1 message)) field 0
 
--- Where the second of two messages starts.
+-- Where the second mark stands, or the end of the numbers: where the second of two messages starts.
 unfoldable pub secondAt : List ℕ → ℕ
 secondAt said = 1 + unmarked most (drop 1 said)
 

@@ -1,5 +1,5 @@
--- The verdict on a call by what it told and left, on a call with fresh buffers, and on the calls at one version after another. Assumes
--- nothing.
+-- The verdict on a call by what it told and left, on a call with fresh buffers, on the parts of a line, and on the calls at one version
+-- after another. Assumes nothing.
 use Prim.Native.Nat.{ℕ, zero, suc, _+_, _-_, _*_, _/_, _≤_}
 use mathlib.Core.Path.{_≡_, refl, sym, ap, _∙_}
 use mathlib.Core.Bool.{Bool}
@@ -9,7 +9,8 @@ use native.Mathlib.Omega.{arith}
 use types.Run.{OneOf, miss}
 use denote.Enum.Declared.{tagOf}
 use lib.IntN.{ℤ}
-use lib.ListN.{length, take, replicate}
+use lib.ListN.{length, take, drop, replicate, length-drop}
+use lib.Seq.{take-all}
 use Rattle.molang.specs.Parse.{Call, Told, answered, treeAfter, messagesAfter, workAfter}
 use Rattle.molang.specs.WriteEntry.{WriteCall, WriteTold, writeAnswered, listAfter}
 use Rattle.molang.specs.Lines.{listMark, callFor, versionOf}
@@ -17,13 +18,13 @@ use Rattle.own.specs.Own.{namedCall}
 use Rattle.parse.specs.Answers.{toldOf, HasParsed}
 use Rattle.parse.specs.declared.Answer.{Answer as Told'}
 use Rattle.write.specs.Answers.{call}
-use Rattle.table.specs.Marked.{markedCount, firstWords, fitting}
+use Rattle.table.specs.Marked.{unmarked, secondAt, markedCount, firstWords, fitting}
 use Rattle.table.specs.Answers.{holding, isLeft}
 use Rattle.verdicts.specs.declared.Verdict.{Verdict}
 use Rattle.verdicts.specs.declared.Verdict.the-variants.{Same, Answer, Words}
 use Rattle.verdicts.proofs.Verdict.{the-type}
 use Rattle.verdicts.specs.Verdicts.{verdict, isRead, readVerdict, isWritten, writeVerdict, lentCall, listCall, treeCall, firstFound}
-use Rattle.verdicts.specs.Verdicts.{askedWords, fromVersion}
+use Rattle.verdicts.specs.Verdicts.{askedWords, fromVersion, askedVerdict, lineVerdict}
 
 -- ---- What a call told and left
 
@@ -68,6 +69,19 @@ pub asked-words : (words laid asked : List ℕ) (n : ℕ) → length words ≡ 2
     → n ≡ fitting (length words) (markedCount asked) → take (n - 0) laid ≡ askedWords asked
 unfolding askedWords
 asked-words words laid asked n long is fits = rw (sub-zero n, is, fits, long) refl
+
+-- ---- A line and its two parts
+
+pub no-line : (line : List ℕ) → length line ≡ 0 → askedVerdict line line ≡ lineVerdict line
+unfolding lineVerdict secondAt unmarked
+no-line [] h = refl
+no-line (n ∷ ns) h = absurd (omega arith)
+
+pub line-parts : (line : List ℕ) (middle : ℕ) → middle ≡ secondAt line → middle ≤ length line
+    → askedVerdict (take (middle - 0) line) (take (length line - middle) (drop middle line)) ≡ lineVerdict line
+unfolding lineVerdict
+line-parts line middle is h =
+    rw (sub-zero middle, take-all (length line - middle) (drop middle line) (omega (arith, length-drop middle line)), is) refl
 
 -- ---- One version after another
 

@@ -5,7 +5,7 @@ use mathlib.Core.Bool.{Bool, true, false}
 use mathlib.Core.List.{List}
 use lib.Dec.{eqb}
 use lib.IntN.{ℤ}
-use lib.ListN.{length, take, getD, replicate}
+use lib.ListN.{length, take, drop, getD, replicate}
 use Rattle.molang.specs.Words.{operatorField}
 use Rattle.molang.specs.Read.{setNumber}
 use Rattle.molang.specs.Parse.{Call, Told, aTree, someMessages, refused, answered, treeAfter, messagesAfter, workAfter}
@@ -13,7 +13,7 @@ use Rattle.molang.specs.WriteEntry.{WriteCall, WriteTold, tokens, unwritten, wr
 use Rattle.molang.specs.Lines.{writeMark, treeMark, messageMark, listMark, callFor, versionOf}
 use Rattle.derived.specs.Derived.{named}
 use Rattle.own.specs.Own.{namedCall}
-use Rattle.table.specs.Marked.{markedCount, firstWords, fitting}
+use Rattle.table.specs.Marked.{secondAt, markedCount, firstWords, fitting}
 use Rattle.table.specs.Asked.{firstVersion, lastVersion, limitOf}
 use Rattle.table.specs.Answers.{isCount, isRefusal, holding, isLeft}
 use Rattle.verdicts.specs.declared.Verdict.{Verdict}
@@ -79,6 +79,10 @@ wordsVerdict words mark said =
 unfoldable pub askedWords : List ℕ → List ℕ
 askedWords asked = take (fitting 20485 (markedCount asked)) (firstWords 20485 asked)
 
--- Whether the definition answers what a line asks as the line says.
-unfoldable pub lineVerdict : List ℕ → List ℕ → Verdict
-lineVerdict asked said = wordsVerdict (askedWords asked) (getD asked 0 0) said
+-- Whether the definition answers what a mark with its items asks as these numbers say.
+unfoldable pub askedVerdict : List ℕ → List ℕ → Verdict
+askedVerdict asked said = wordsVerdict (askedWords asked) (getD asked 0 0) said
+
+-- Whether the definition answers a line as it says: the mark that asks, and the marks that answer.
+unfoldable pub lineVerdict : List ℕ → Verdict
+lineVerdict line = askedVerdict (take (secondAt line) line) (drop (secondAt line) line)

@@ -1,5 +1,5 @@
-// Whether the calls that a line asks for are answered as it says. `ask` makes them, with fresh buffers just as long as the entries ask, and
-// compares what they tell and leave with the line. Leans on table (what a line asks and says), own (reading), write and derived;
+// Whether a line is answered as it says. `run_line` makes the calls that it asks for, with fresh buffers just as long as the entries ask,
+// and compares what they tell and leave with the line. Leans on table (what a line asks and says), own (reading), write and derived;
 // specs/Verdicts says of a line whether the definition answers it so.
 use derived::version_of;
 use molang::lines::LIST;
@@ -8,6 +8,7 @@ use molang::lines::TREE;
 use molang::lines::WRITE;
 use own::read_exactly;
 use parse::Answer;
+use table::MOST;
 use table::answers::is_count;
 use table::answers::is_left;
 use table::answers::is_refusal;
@@ -17,6 +18,7 @@ use table::asked::limit_of;
 use table::at;
 use table::holds;
 use table::lay;
+use table::next_mark;
 use words::fields;
 use write::Written;
 use write::write;
@@ -28,7 +30,7 @@ ghost use Rattle.parse.specs.Answers.{toldOf};
 ghost use Rattle.write.specs.Answers.{toldOf as writtenTold, call as writeCall};
 ghost use Rattle.table.specs.Answers.{isLeft};
 ghost use Rattle.verdicts.specs.Verdicts.{verdict, isRead, isWritten, lentCall, listCall, treeCall, readVerdict, writeVerdict};
-ghost use Rattle.verdicts.specs.Verdicts.{atVersions, wordsVerdict, lineVerdict};
+ghost use Rattle.verdicts.specs.Verdicts.{atVersions, wordsVerdict, askedVerdict, lineVerdict};
 
 // The words of a list of 4,097 tokens, which are one more than the entry reads, and of a tree and of a work buffer for it. A list for a
 // tree of as many words has room in the tree's.
@@ -195,11 +197,23 @@ fn call(words: &[u32], mark: u32, said: &[u32]) -> Verdict
     read_at(words, mark, said)
 }
 
-// Makes the calls of a line, which are those of molang's specs/Lines, and compares.
-pub fn ask(asked: &[u32], said: &[u32]) -> Verdict
-    ensures { λ r. ⌜ r ≡ lineVerdict (now (asked .entry)) (now (said .entry)) ⌝ }
+// Makes the calls that a mark with its items asks for, and compares.
+fn ask(asked: &[u32], said: &[u32]) -> Verdict
+    ensures { λ r. ⌜ r ≡ askedVerdict (now (asked .entry)) (now (said .entry)) ⌝ }
 {
     let mut words = fresh_list();
     let n = lay(&mut words, asked);
     call(&words[0..n], at(asked, 0), said)
+}
+
+// Makes the calls of a line, which are those of molang's specs/Lines, and compares. A line is a mark that asks and its items, and the marks
+// that answer and theirs.
+pub fn run_line(line: &[u32]) -> Verdict
+    ensures { λ r. ⌜ r ≡ lineVerdict (now (line .entry)) ⌝ }
+{
+    if line.len() == 0 {
+        return ask(line, line);
+    }
+    let middle = next_mark(line, 1, MOST);
+    ask(&line[0..middle], &line[middle..])
 }

@@ -39,6 +39,9 @@ part-run-line-end c = omega arith
 run-line-requires : tie.Need-run-line-requires Inv-loop μ-loop
 run-line-requires c κs = omega arith
 
+say-verdict-requires : tie.Need-say-verdict-requires Inv-loop μ-loop
+say-verdict-requires c κs = omega arith
+
 add-others : tie.Need-add-others Inv-loop μ-loop
 add-others c = omega arith
 
@@ -72,6 +75,7 @@ run-spec =
     part-run-line-start
     part-run-line-end
     run-line-requires
+    say-verdict-requires
     add-others
     add-count
     loop-less

@@ -2,7 +2,7 @@
 use mathlib.Core.Path.{_≡_, refl, _∙_}
 use native.Mathlib.Omega.{arith}
 use borrow.Author.Needs.{needs}
-use Rattle.verdicts.specs.Verdicts.{lineVerdict}
+use Rattle.verdicts.specs.Verdicts.{askedVerdict}
 use Rattle.verdicts.proofs.VerdictLaws.{asked-words}
 use Rattle.verdicts.proofs.ask.Statement.{statement}
 use Rattle.verdicts.proofs.ask.Tie as tie
@@ -32,7 +32,7 @@ call-requires : tie.Need-call-requires
 call-requires c κs = search needs
 
 returns : tie.Need-returns
-unfolding lineVerdict
+unfolding askedVerdict
 returns c =
     let read = c .before in
     let laid = read .before .before .before .before in
