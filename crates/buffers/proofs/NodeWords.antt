@@ -1,7 +1,7 @@
 -- The seven words of a node: that they stand where `emit_node` laid them, and that they are the definition's, by its token and its child
 -- count.
 use Prim.Native.Nat.{ℕ, _%_, _^_, _<_}
-use mathlib.Core.Path.{_≡_, refl, ap}
+use mathlib.Core.Path.{_≡_, refl}
 use mathlib.Core.List.{List}
 use native.Mathlib.Omega.{arith}
 use lib.ListN.{length}

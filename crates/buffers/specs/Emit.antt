@@ -9,7 +9,7 @@ use Rattle.molang.specs.Forest.{Forest, size}
 use Rattle.molang.specs.Words.{treeWords}
 use Rattle.molang.specs.Parse.{mostTokens, inFront}
 use Rattle.words.specs.Tokens.{nodeLength, nodeWords}
-use Rattle.nodes.specs.Store.{wd, slotStart, slotEnd, closeWordAt, firstAt, nextAt, Chain, Seg, RepF}
+use Rattle.nodes.specs.Store.{wd, slotStart, slotEnd, closeWordAt, firstAt, Chain, Seg, RepF}
 use Rattle.nodes.specs.Stored.{storedAt, tokenOfStored}
 use Rattle.nodes.specs.Children.{CanFollow}
 

@@ -2,18 +2,13 @@
 use Prim.Native.Nat.{ℕ, _+_, _*_, _≤_, zero-le}
 use mathlib.Core.Path.{_≡_, refl, sym, ap, _∙_, subst}
 use mathlib.Core.Bool.{Bool, true, false, not, true≢false}
-use mathlib.Core.List.{List, [], _∷_}
 use native.Mathlib.Omega.{arith}
 use Rattle.molang.specs.Operator.{semicolon, add, negate, array, arrayVariable}
-use Rattle.molang.specs.Forest.{Token, Forest, nil, node, renamed, count, size, turnedOnto, inOrder}
-use Rattle.molang.specs.Message.{Message, Result, ok, fail}
+use Rattle.molang.specs.Forest.{Token, Forest, nil, node, renamed}
+use Rattle.molang.specs.Message.{Result, ok}
 use Rattle.molang.specs.Level.{Step, walk, through}
 use Rattle.molang.specs.Calls.{Indexing, named, indexed, flushed, isIndex, startsWithIndex, emptyIndex, nextIndex, index, arrayStep}
-use Rattle.molang.specs.Calls.{arrayLevel, callLevel}
-use Rattle.molang.specs.Statements.{statementLevel}
-use Rattle.molang.specs.Unary.{returnLevel}
-use Rattle.molang.specs.Binary.{binaryLevel}
-use Rattle.molang.specs.Conditional.{conditionalLevel}
+use Rattle.molang.specs.Calls.{arrayLevel}
 use Rattle.molang.specs.Order.{apply}
 use Rattle.molang.specs.Free.{isNil}
 use Rattle.molang.specs.Weight.{Weighing, weight, nodesOf, nodeWeight}

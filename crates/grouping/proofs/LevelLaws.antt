@@ -1,6 +1,6 @@
 -- The loop over the ranks (`levels`): what the ranks that are left make of the list of slot 0 is the definition's answer at every turn, and
 -- the list is never heavier than three nodes for each token, so that each pass has room to run.
-use Prim.Native.Nat.{ℕ, _+_, _*_, _≤_, _<_}
+use Prim.Native.Nat.{ℕ, _+_, _*_, _≤_}
 use mathlib.Core.Path.{_≡_, refl, sym, ap, _∙_, subst, subst₂}
 use mathlib.Core.Logic.{_≢_}
 use mathlib.Core.Bool.{Bool}
@@ -15,7 +15,6 @@ use Rattle.molang.specs.Weight.{weight, nodeWeight}
 use Rattle.molang.specs.Work.{pass}
 use Rattle.molang.proofs.Bounds.{size-weight}
 use Rattle.ops.specs.declared.sets.OpSet.{OpSet}
-use Rattle.nodes.specs.Store.{InArray}
 use Rattle.nodes.specs.Children.{CanGive, Given}
 use Rattle.nodes.proofs.Trees.{array-give}
 use Rattle.levels.specs.Turns.{lentOf}

@@ -1,6 +1,6 @@
 -- The pass states of the code and the passes of the definition: which state is of which pass, what a frame keeps of a state, and the tokens
 -- that a pass works on.
-use Prim.Native.Nat.{ℕ, _≤_}
+use Prim.Native.Nat.{ℕ}
 use mathlib.Core.Path.{_≡_}
 use mathlib.Core.Bool.{Bool, true, false}
 use mathlib.Core.List.{List}

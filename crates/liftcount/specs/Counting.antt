@@ -1,6 +1,6 @@
 -- What a version lift would do (document 02, card 10): which lists an input has, what each comes to at the two versions, and WHAT IS
 -- PRINTED for an input.
-use Prim.Native.Nat.{ℕ, zero, suc, _%_, _^_}
+use Prim.Native.Nat.{ℕ, suc, _%_, _^_}
 use mathlib.Core.Bool.{Bool, true, false, not, _&&_}
 use mathlib.Core.List.{List, [], _∷_, _++_}
 use mathlib.Core.Option.{Option, none, some}

@@ -1,6 +1,6 @@
 -- The parse entry's table both ways: the list of a call that is not turned back is legal tokens, and a call with legal tokens and room for
 -- them is not turned back. What a rule buffer changes of it: nothing where the call is read.
-use Prim.Native.Nat.{ℕ, _+_, _*_, _/_, _%_, _^_, _≤_, _<_}
+use Prim.Native.Nat.{_+_, _*_, _/_, _%_, _^_, _≤_, _<_}
 use mathlib.Core.Path.{_≡_, refl, ap, sym, _∙_}
 use mathlib.Core.Bool.{true}
 use mathlib.Core.List.{List}

@@ -23,7 +23,7 @@ use Rattle.molang.specs.Statements.{statementStep, statementResume, stat
 use Rattle.molang.specs.Unary.{Unary, done, undone, minusAfter, notBefore, unaryLeaf, turned, unaryNode, unary, unaryPass, returnStep}
 use Rattle.molang.specs.Unary.{returnResume, returnFinish, returnLevel}
 use Rattle.molang.specs.Binary.{unfolded, joined, operatorAfter, binaryStep, binaryResume, binaryFinish, binaryLevel}
-use Rattle.molang.specs.Conditional.{isToken, startsWith, under, pairElse, scan, foldedFrom, dangling, undangled, conditionalStep}
+use Rattle.molang.specs.Conditional.{isToken, under, pairElse, scan, foldedFrom, dangling, undangled, conditionalStep}
 use Rattle.molang.specs.Conditional.{conditionalFinish, conditionalLevel}
 use Rattle.molang.specs.Order.{rules, Pass, lastToken, memberAccessors, sectioning, callPass, statements, arrays, pointer, mathCalls}
 use Rattle.molang.specs.Order.{unaryMinusAndNot, addition, conditional, returns, binary, order, runs, lastOf, endsWithSemicolon}

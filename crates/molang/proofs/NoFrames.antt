@@ -13,7 +13,7 @@ use Rattle.molang.specs.Message.{Message, Result, ok, fail}
 use Rattle.molang.specs.Level.{Step, stop, on, into, Level, walk}
 use Rattle.molang.specs.Calls.{callLevel, arrayLevel}
 use Rattle.molang.specs.Statements.{statementLevel}
-use Rattle.molang.specs.Unary.{Unary, done, undone, unaryLeaf, turned, unaryPass, returnLevel}
+use Rattle.molang.specs.Unary.{Unary, done, undone, unaryLeaf, turned, returnLevel}
 use Rattle.molang.specs.Binary.{binaryLevel}
 use Rattle.molang.specs.Conditional.{conditionalLevel}
 use Rattle.molang.specs.Order.{apply}

@@ -1,6 +1,6 @@
 -- HOW FAR ONE NAME CAN REACH (document 02, card 6), of the entries' definitions: from a list to the tree and the messages, with a rule
 -- buffer too, and from a tree to the written list. What the records say is in `specs/Payloads`.
-use Prim.Native.Nat.{ℕ, suc, _-_, _*_, _%_, _≤_}
+use Prim.Native.Nat.{ℕ, suc, _*_, _%_, _≤_}
 use mathlib.Core.Path.{_≡_, refl, ap, sym, _∙_}
 use mathlib.Core.List.{List, [], _∷_}
 use mathlib.Core.Option.{Option, none, some}

@@ -1,6 +1,6 @@
 -- Tokens and trees that words can hold. The definitions of reading and writing do not use this: the laws of the word formats and the
 -- contracts of the node store speak of it, and what is said of words that are one tree (StackOrder).
-use Prim.Native.Nat.{ℕ, _^_, _≤_, _<_}
+use Prim.Native.Nat.{_^_, _≤_, _<_}
 use mathlib.Core.Path.{_≡_}
 use mathlib.Core.Bool.{true}
 use Rattle.molang.specs.Operator.{isOperator}

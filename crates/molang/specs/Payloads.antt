@@ -1,7 +1,7 @@
 -- How far one name can reach (document 02, card 6): what it is for words to differ in one payload at most, for message records to differ in
 -- one argument at most, and for calls to be told and left alike but for that. No function is bound by this: it is shown of the entries'
 -- definitions, in `proofs/Payloads`.
-use Prim.Native.Nat.{ℕ, _+_, _-_, _*_, _/_, _%_, _^_, _≤_, _<_}
+use Prim.Native.Nat.{ℕ, _-_, _*_, _/_, _%_, _^_, _≤_, _<_}
 use mathlib.Core.Path.{_≡_}
 use mathlib.Core.Bool.{true, false, _||_}
 use mathlib.Core.List.{List, _∷_, _++_, map}

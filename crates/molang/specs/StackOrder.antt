@@ -1,6 +1,6 @@
 -- Stack order (document 02, card 14): a tree's words with each node's seven after those of its children, in order. Export gives that order,
 -- import takes it. Where either is turned back (answers 12 and 24, then 25), what it answers and what it leaves in the lent output.
-use Prim.Native.Nat.{ℕ, suc, _+_, _-_, _/_, _≤_}
+use Prim.Native.Nat.{ℕ, suc, _-_, _/_, _≤_}
 use mathlib.Core.Path.{_≡_}
 use mathlib.Core.Bool.{Bool, true, false, _&&_}
 use mathlib.Core.List.{List, [], _∷_, _++_}

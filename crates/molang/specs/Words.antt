@@ -1,7 +1,7 @@
 -- The word formats of document 01, 'The entry and its words': tokens of five words, tree nodes of seven (card 2), which words are legal,
 -- and answers 8-11.
 use Prim.Native.Nat.{ℕ, _+_, _*_, _/_, _%_, _^_, suc}
-use mathlib.Core.Bool.{Bool, true, false}
+use mathlib.Core.Bool.{true, false}
 use mathlib.Core.List.{List, [], _∷_, _++_}
 use mathlib.Core.Option.{Option, none, some}
 use lib.Dec.{eqb, leb, ltb}

@@ -1,7 +1,7 @@
 -- The write entry: what a call is given, where it is turned back (document 01, 'Where the entry turns a call back', answers 12-15), what it
 -- answers and what it leaves in the lent list.
 use Prim.Native.Nat.{ℕ, zero, suc, _+_, _*_}
-use mathlib.Core.Bool.{Bool, true, false, _&&_}
+use mathlib.Core.Bool.{Bool, false, _&&_}
 use mathlib.Core.List.{List, [], _∷_}
 use mathlib.Core.Option.{Option, none, some}
 use lib.Dec.{eqb, leb}

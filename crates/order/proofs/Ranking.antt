@@ -3,12 +3,12 @@
 use mathlib.Core.Path.{_≡_, refl, sym, ap, ap₂, _∙_, subst}
 use mathlib.Core.Bool.{Bool, true, false, _&&_, _||_, and-false, true≢false}
 use mathlib.Core.List.{List, [], _∷_}
-use Prim.Native.Nat.{ℕ, zero, suc, _<_, _≤_}
+use Prim.Native.Nat.{ℕ, zero, suc, _<_}
 use native.Mathlib.Omega.{arith}
-use lib.Dec.{T, eqb, ltb, leb}
+use lib.Dec.{T, eqb, ltb}
 use lib.IntN.{ℤ, pos, negsuc}
-use lib.ListN.{getD, drop}
-use borrow.Author.Tests.{eqb-true, eqb-false, eq-eqb, ne-eqb, ltb-true, leb-true, le-leb}
+use lib.ListN.{getD}
+use borrow.Author.Tests.{eqb-true, eqb-false, ne-eqb, ltb-true, leb-true, le-leb}
 use types.Run.{OneOf, miss}
 use denote.Enum.Declared.{tagOf}
 use Rattle.molang.specs.Operator
@@ -22,7 +22,6 @@ use Rattle.ops.proofs.OperatorLaws.{agree, agree-at, and-left, and-right}
 use Rattle.ops.proofs.BitLaws.{some-same, none-below}
 use Rattle.ops.proofs.ClassLaws.{standsForOnly, stands-for-only}
 use Rattle.ops.proofs.SetLaws.{math-used}
-use Rattle.levels.specs.Passes.{Covers}
 use Rattle.levels.specs.declared.turns.Pass.{Pass as State}
 use Rattle.levels.specs.declared.turns.Pass.the-variants.{Calls, MathCalls, Unsplit, Split, Arrays, Unary, Binary, Conditional, Returns}
 use Rattle.levels.proofs.turns.Pass.{the-type}

@@ -10,8 +10,8 @@ use borrow.Author.Tests.{eq-eqb, ne-eqb}
 use Rattle.molang.specs.Operator
 use Rattle.molang.specs.Operator.{operand, operator, minus, unknown, beforeMinus}
 use Rattle.molang.specs.Forest.{Token, Forest, nil, node, renamed, bare, count, size}
-use Rattle.molang.specs.Message.{Result, ok, fail, negateWithoutOperand, notWithoutOperand, unknownOperation}
-use Rattle.molang.specs.Unary.{Unary, done, undone, minusAfter, notBefore, unaryLeaf, turned, unaryNode, unary, unaryPass}
+use Rattle.molang.specs.Message.{Result, fail, negateWithoutOperand, notWithoutOperand, unknownOperation}
+use Rattle.molang.specs.Unary.{Unary, done, minusAfter, notBefore, unaryLeaf, turned, unary, unaryPass}
 use Rattle.molang.specs.Order.{apply}
 use Rattle.molang.specs.Free.{free, isNil, isPrefix}
 use Rattle.molang.specs.Work.{right, before, fromRight, work, begins, inReading, takes, passOf, pass, unaryMinusAndNot, andThen}

@@ -3,7 +3,7 @@
 use Prim.Native.Nat.{ℕ, _*_, _/_, _≤_, _<_}
 use mathlib.Core.Path.{_≡_, refl, ap, sym, _∙_, subst}
 use mathlib.Core.Bool.{Bool, true, false}
-use mathlib.Core.List.{List, [], _∷_, _++_}
+use mathlib.Core.List.{List, [], _∷_}
 use mathlib.Core.Logic.{inl, inr}
 use mathlib.Core.Option.{Option, none, some}
 use native.Mathlib.Omega.{arith}
@@ -17,19 +17,18 @@ use Rattle.molang.specs.FirstFailure.{must, firstOf}
 use Rattle.molang.specs.Forest.{Token, Forest, nil, node, size}
 use Rattle.molang.specs.Order.{effective, isFrom, rules}
 use Rattle.molang.specs.Read as read
-use Rattle.molang.specs.Words.{Refusal, row, tokensOf, treeWords}
+use Rattle.molang.specs.Words.{Refusal, row, tokensOf}
 use Rattle.molang.specs.Parse.{Call, Told, aTree, someMessages, refused, lengthRows, valueRows, refusal, reading, told, answered, inHalves}
 use Rattle.molang.specs.Parse.{inFront, treeIn, treeAfter, messagesIn, messagesAfter, workIn, workAfter}
 use Rattle.molang.specs.Rules.{rulesOf, RuleCall, ruleRefusal, ruleAnswered, ruledTreeAfter, ruledMessagesAfter, ruledWorkAfter, rulesFor}
 use Rattle.molang.specs.Rules.{rulesAfter}
-use Rattle.molang.specs.OperatorRules.{operatorRules}
 use Rattle.molang.proofs.FirstFailure.{first-none, passed, found, after-none, in-parts}
 use Rattle.molang.proofs.Accepted.{call-accepted}
 use Rattle.molang.proofs.Bounds.{read-tree}
 use Rattle.molang.proofs.Legal.{read-legal}
 use Rattle.molang.proofs.ListWords.{tokens-count}
 use Rattle.molang.proofs.OperatorRules.{rules-by-operator}
-use Rattle.molang.proofs.HandedTree.{Parsed, tree-front, TreeTold, tree-of-told}
+use Rattle.molang.proofs.HandedTree.{Parsed, tree-front, tree-of-told}
 use Rattle.accept.specs.declared.Sizes.{Sizes}
 use Rattle.accept.specs.Accepting.{isRead, isRefused, verdict, lengthRefusal}
 use Rattle.accept.proofs.AcceptLaws.{sizesOf, same-lengths, accepted, refused-as}

@@ -13,7 +13,7 @@ use lib.ListN.{length, take, drop, getD, set, replicate, length-append, length-d
 use lib.Seq.{take-all, drop-cons, append-snoc, set-at, getD-take, getD-drop}
 use borrow.Author.Tests.{lt-ltb, le-ltb, eq-eqb, ne-eqb}
 use Rattle.molang.specs.Words.{word, lowOf, tokenWords}
-use Rattle.molang.specs.Lines.{anyMark, writeMark, treeMark, closeIn, nodeWords, recordOf}
+use Rattle.molang.specs.Lines.{writeMark, treeMark, closeIn, nodeWords, recordOf}
 use Rattle.table.specs.Marked.{isMark, unmarked, bare, tokenWord, nodeWord, recordWord, secondAt, messageWord, operatorWord}
 use Rattle.table.specs.Marked.{besideMark, wordsBy, markedWord, countsBy, markedCount, firstWords, fitting, saidCount}
 use Rattle.table.specs.Marked.{saidWord, holdsFrom}

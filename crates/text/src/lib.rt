@@ -1,6 +1,5 @@
 // Text laid into a lent buffer of bytes, a part behind the other: bytes as they are, and numbers in decimal. All bytes but those of the
 // text stay as they were. Leans on io (digits) and on words (what it is to be laid); specs/Text has the definitions.
-ghost use mathlib.Core.Path.{_≡_};
 ghost use Prim.Native.Nat.{_+_, _≤_};
 ghost use lib.ListN.{length};
 ghost use Rattle.text.specs.Text.{Wrote, decimal, numbered};

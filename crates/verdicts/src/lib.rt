@@ -25,7 +25,6 @@ use write::write;
 ghost use mathlib.Core.Path.{_≡_};
 ghost use Prim.Native.Nat.{_≤_};
 ghost use lib.ListN.{length, replicate};
-ghost use Rattle.molang.specs.Lines.{versionOf};
 ghost use Rattle.parse.specs.Answers.{toldOf};
 ghost use Rattle.write.specs.Answers.{toldOf as writtenTold, call as writeCall};
 ghost use Rattle.table.specs.Answers.{isLeft};

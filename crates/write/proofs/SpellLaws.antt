@@ -8,7 +8,7 @@ use native.Mathlib.Omega.{arith}
 use lib.ListN.{length, drop, getD}
 use lib.Seq.{drop-drop}
 use borrow.Author.Tests.{eq-eqb, ne-eqb, eqb-true, eqb-false}
-use Rattle.molang.specs.Forest.{Token, Forest, nil, node, bare, closedBy, unclosed, count, size}
+use Rattle.molang.specs.Forest.{Token, Forest, nil, node, closedBy, unclosed, count, size}
 use Rattle.molang.specs.Operator.{isBracket}
 use Rattle.write.proofs.JudgeLaws.{unpaired-only, unpaired-bracket, unpaired-left, unpaired-right}
 use Rattle.molang.proofs.Words.{beside}
@@ -16,10 +16,10 @@ use Rattle.write.specs.declared.plain.Seat.{Seat}
 use Rattle.write.specs.Seats.{isPaired, onlySeat, leftSeat, rightSeat}
 use Rattle.shape.specs.Shaped.{countIndex, closeIndex, firstFive, Shaped}
 use Rattle.shape.proofs.RowLaws.{Opened, after-trees, shaped-length, no-kids, one-kid, two-kids}
-use Rattle.molang.specs.Words.{lowOf, word, operatorBits, tokenWords, listWords}
+use Rattle.molang.specs.Words.{lowOf, operatorBits, tokenWords, listWords}
 use Rattle.molang.proofs.OldWords.{old-bits}
 use Rattle.molang.specs.Read.{lowestStart, highestEnd}
-use Rattle.molang.specs.Write.{spanning, openerFor, closerFor, closerOf, standsAlone, standsLeft, standsRight, operandTokens, written}
+use Rattle.molang.specs.Write.{spanning, openerFor, closerFor, closerOf, standsLeft, standsRight, operandTokens, written}
 use Rattle.molang.specs.WriteEntry.{firstTrees, otherTrees, treesOf}
 use Rattle.molang.proofs.Writing.{written-none, written-one, written-two, operand-before, written-before}
 use Rattle.words.specs.Extents.{wider, extentWith, firstExtent}

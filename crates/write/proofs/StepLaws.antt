@@ -6,7 +6,7 @@ use mathlib.Core.List.{List, _++_, append-assoc}
 use native.Mathlib.Omega.{arith}
 use lib.ListN.{length, take, drop, getD, length-append, length-drop}
 use lib.Seq.{take-all, length-take-le}
-use Rattle.molang.specs.Words.{lowOf, listWords}
+use Rattle.molang.specs.Words.{lowOf}
 use Rattle.molang.specs.WriteEntry.{treesOf}
 use Rattle.words.specs.Fields.{operatorOf}
 use Rattle.words.specs.Records.{laidAt}

@@ -1,7 +1,7 @@
 -- The words that writing lays into the list, and the part of the tree words that a tree fills.
 use Prim.Native.Nat.{ℕ, suc, _+_, _*_, _%_, _^_, _≤_}
 use mathlib.Core.Path.{_≡_}
-use mathlib.Core.List.{List, [], _∷_}
+use mathlib.Core.List.{List, []}
 use mathlib.Core.Bool.{true, false, not}
 use lib.ListN.{length, take, getD}
 use Rattle.molang.specs.Forest.{Token, Forest, nil, node, count, size}

@@ -2,7 +2,7 @@
 -- list has no leaf of it, its tokens do not use it, and it does not matter whether it is folded.
 use Prim.Native.Nat.{ℕ}
 use mathlib.Core.Path.{_≡_, refl, ap, sym, _∙_, fun-ext}
-use mathlib.Core.Bool.{Bool, true, false, _||_, _&&_, not, true≢false, false≢true, and-eq-true-iff, or-false, and-false}
+use mathlib.Core.Bool.{Bool, true, false, _||_, not, true≢false, false≢true, and-eq-true-iff, or-false, and-false}
 use mathlib.Core.List.{List, [], _∷_}
 use lib.Dec.{leb}
 use borrow.Author.Tests.{not-true, eq-eqb, ne-eqb}

@@ -26,7 +26,7 @@ use Rattle.molang.proofs.Trees.{and-true-true}
 use Rattle.molang.proofs.Booleans.{either, never, or-first, or-second, or-neither, or-only-first}
 use Rattle.molang.proofs.Computed.{computed}
 use Rattle.molang.proofs.RoundTrip.Role.{Role, aQuery, aMathCall, aBracket, aCloser, aMinus, aNot, aLoop, another, aSemicolon}
-use Rattle.molang.proofs.RoundTrip.Role.{anAssignment, is, is-same, isUnwritten, isIdle, idle-above, isAmong, allOf, among, role}
+use Rattle.molang.proofs.RoundTrip.Role.{anAssignment, is, isUnwritten, isIdle, idle-above, isAmong, allOf, among, role}
 use Rattle.molang.proofs.RoundTrip.Role.{closer-role, aLeaf}
 use Rattle.molang.proofs.RoundTrip.Role.{role-above, no-math as no-math-above}
 use Rattle.molang.proofs.RoundTrip.Role.{none-below, role-bracket, role-query, role-math, role-prefix}

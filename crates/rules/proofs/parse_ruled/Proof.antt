@@ -1,6 +1,6 @@
 -- `rules::parse_ruled` meets its contract: a call that answers 1 to 5 or 16 turn back, or one that is read as without the buffer, and whose
 -- nodes are numbered. Assumes nothing.
-use mathlib.Core.Path.{_≡_, sym, ap, _∙_}
+use mathlib.Core.Path.{sym, ap, _∙_}
 use mir.Facts.{toZ-ofZ}
 use borrow.Author.Needs.{needs}
 use Rattle.molang.specs.Rules.{RuleCall}

@@ -1,5 +1,5 @@
 -- `table::node_word` meets its contract: where the node closes, its count, and the words of its token. Assumes nothing.
-use mathlib.Core.Path.{_≡_, _∙_}
+use mathlib.Core.Path.{_∙_}
 use native.Mathlib.Omega.{arith}
 use borrow.Author.Needs.{needs}
 use Rattle.table.proofs.MarkedLaws.{node-close, node-count, node-token}

@@ -1,6 +1,5 @@
 -- `table::token_word` meets its contract: each word of a token, by its field. Assumes nothing.
-use Prim.Native.Nat.{ℕ}
-use mathlib.Core.Path.{_≡_, sym, subst}
+use mathlib.Core.Path.{_≡_}
 use native.Mathlib.Omega.{arith}
 use borrow.Author.Needs.{needs}
 use Rattle.molang.specs.Words.{tokenWords}

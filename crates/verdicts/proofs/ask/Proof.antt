@@ -1,5 +1,4 @@
 -- `verdicts::ask` meets its contract: the words that were laid, and the mark. Assumes nothing.
-use mathlib.Core.Path.{_≡_, refl, _∙_}
 use native.Mathlib.Omega.{arith}
 use borrow.Author.Needs.{needs}
 use Rattle.verdicts.specs.Verdicts.{askedVerdict}

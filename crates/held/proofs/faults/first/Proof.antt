@@ -1,6 +1,5 @@
 -- `held::faults::first` meets its contract, case by case. Assumes nothing.
 use mathlib.Core.Path.{sym, ap}
-use mathlib.Core.List.{[]}
 use borrow.Author.Needs.{needs}
 use Rattle.molang.proofs.FirstFailure.{found, after-none}
 use Rattle.held.specs.Editing.{faultOf}

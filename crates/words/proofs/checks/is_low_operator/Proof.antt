@@ -1,6 +1,5 @@
 -- `words::checks::is_low_operator` meets its contract, test by test. Assumes nothing.
 use mathlib.Core.Bool.{false≢true}
-use borrow.Author.Needs.{needs}
 use borrow.Author.Tests.{leb-true}
 use Rattle.words.proofs.CheckLaws.{low-operator}
 use Rattle.words.proofs.checks.is_low_operator.Statement.{statement}

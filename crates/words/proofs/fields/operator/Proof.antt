@@ -1,5 +1,4 @@
 -- `words::fields::operator` meets its contract: the bits below the kind hold both parts. Assumes nothing.
-use Prim.Native.Nat.{ℕ, _+_, _*_, _%_, _/_}
 use native.Mathlib.Omega.{arith}
 use borrow.Author.Needs.{needs}
 use Rattle.words.proofs.FieldLaws.{number-bits}

@@ -1,5 +1,4 @@
 -- `words::fields::operator_bits` meets its contract: the number's upper four bits stay above the payload variant's. Assumes nothing.
-use Prim.Native.Nat.{ℕ, _+_, _*_, _%_, _/_}
 use native.Mathlib.Omega.{arith}
 use borrow.Author.Needs.{needs}
 use Rattle.molang.specs.Words.{operatorBits}
