@@ -3,6 +3,7 @@
 use Prim.Native.Nat.{ℕ, zero, suc, _+_, _-_, _*_, _/_, _≤_}
 use mathlib.Core.Path.{_≡_, refl, sym, ap, _∙_}
 use mathlib.Core.List.{List, [], _∷_}
+use mathlib.Core.Option.{Option, none}
 use native.Mathlib.Nat.{sub-zero}
 use native.Mathlib.Omega.{arith}
 use types.Run.{OneOf, miss}
@@ -13,6 +14,8 @@ use lib.Seq.{take-all}
 use Rattle.molang.specs.Parse.{Call, Told, answered, treeAfter, messagesAfter, workAfter}
 use Rattle.molang.specs.WriteEntry.{WriteCall, WriteTold, writeAnswered, listAfter}
 use Rattle.molang.specs.Lines.{listMark, callFor, versionOf}
+use Rattle.molang.specs.FirstFailure.{firstOf}
+use Rattle.molang.proofs.FirstFailure.{after-none}
 use Rattle.own.specs.Own.{namedCall}
 use Rattle.parse.specs.Answers.{toldOf, HasParsed}
 use Rattle.parse.specs.declared.Answer.{Answer as Told'}
@@ -22,8 +25,8 @@ use Rattle.table.specs.Answers.{holding, isLeft}
 use Rattle.verdicts.specs.declared.Verdict.{Verdict}
 use Rattle.verdicts.specs.declared.Verdict.the-variants.{Same, Answer, Words}
 use Rattle.verdicts.proofs.Verdict.{the-type}
-use Rattle.verdicts.specs.Verdicts.{verdict, isRead, readVerdict, isWritten, writeVerdict, lentCall, listCall, treeCall, firstFound}
-use Rattle.verdicts.specs.Verdicts.{askedWords, fromVersion, askedVerdict, lineVerdict}
+use Rattle.verdicts.specs.Verdicts.{verdict, isRead, readVerdict, isWritten, writeVerdict, lentCall, listCall, treeCall}
+use Rattle.verdicts.specs.Verdicts.{Difference, verdictOf, askedWords, fromVersion, askedVerdict, lineVerdict}
 
 -- ---- What a call told and left
 
@@ -85,34 +88,34 @@ line-parts line middle is h =
 -- ---- One version after another
 
 -- What is found first stands.
-found : (v later : Verdict) → OneOf (1 ∷ 2 ∷ []) (tagOf the-type v) → v ≡ firstFound v later
-unfolding firstFound
+found : (v : Verdict) (later : Option Difference) → OneOf (1 ∷ 2 ∷ []) (tagOf the-type v)
+    → verdictOf v ≡ firstOf (verdictOf v ∷ later ∷ [])
+unfolding firstOf
 found Same later o = absurd (miss (1 ∷ 2 ∷ []) 0 tt o)
 found Answer later o = refl
 found Words later o = refl
 
 module _ (list : List ℕ) (limit : ℕ) (said : List ℕ) (bits last : ℕ) where
-  abbrev from : ℕ → ℕ → Verdict
+  abbrev from : ℕ → ℕ → Option Difference
   from n b = fromVersion n b list limit said
 
   -- The version at which it is read, and those after it.
   turn : bits ≤ last
-      → from (last + 1 - bits) bits ≡ firstFound (readVerdict (listCall list (versionOf bits) limit) said) (from (last - bits) (bits + 1))
+      → from (last + 1 - bits) bits ≡ firstOf (readVerdict (listCall list (versionOf bits) limit) said ∷ from (last - bits) (bits + 1) ∷ [])
   unfolding fromVersion
   turn h = let e : last + 1 - bits ≡ suc (last - bits) = omega arith in rw e refl
 
-  module _ (h : bits ≤ last) (v : Verdict) (is : v ≡ readVerdict (listCall list (versionOf bits) limit) said) where
+  module _ (h : bits ≤ last) (v : Verdict) (is : verdictOf v ≡ readVerdict (listCall list (versionOf bits) limit) said) where
     pub found-same : v ≡ Same → from (last + 1 - bits) bits ≡ from (last + 1 - (bits + 1)) (bits + 1)
-    unfolding firstFound
     found-same e =
         let n : last + 1 - (bits + 1) ≡ last - bits = omega arith in
-        rw n (turn h ∙ rw (← is, e) refl)
+        rw n (turn h ∙ after-none _ (from (last - bits) (bits + 1)) (sym is ∙ ap verdictOf e))
 
-    pub found-other : OneOf (1 ∷ 2 ∷ []) (tagOf the-type v) → v ≡ from (last + 1 - bits) bits
+    pub found-other : OneOf (1 ∷ 2 ∷ []) (tagOf the-type v) → verdictOf v ≡ from (last + 1 - bits) bits
     found-other o =
         let later = from (last - bits) (bits + 1) in
-        found v later o ∙ (ap (λ (x : Verdict). firstFound x later) is ∙ sym (turn h))
+        found v later o ∙ (ap (λ (x : Option Difference). firstOf (x ∷ later ∷ [])) is ∙ sym (turn h))
 
-  pub none-left : last + 1 ≤ bits → Same ≡ from (last + 1 - bits) bits
+  pub none-left : last + 1 ≤ bits → none ≡ from (last + 1 - bits) bits
   unfolding fromVersion
   none-left h = let e : last + 1 - bits ≡ 0 = omega arith in rw e refl
