@@ -19,7 +19,6 @@ use Rattle.molang.specs.Lines.{
   marksOf,
   linesOf,
   askedOf,
-  wantedOf,
   parsedBy,
   workLeft,
   comparedCalls,
