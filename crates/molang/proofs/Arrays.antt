@@ -1,21 +1,15 @@
 -- The array pass: what it leaves as it is, and that it raises no weight.
 use Prim.Native.Nat.{ℕ, _+_, _≤_}
-use mathlib.Core.Path.{_≡_, refl}
-use mathlib.Core.Bool.{Bool, true, false, not}
+use mathlib.Core.{Path.{_≡_, refl}, Bool.{Bool, true, false, not}}
 use native.Mathlib.Omega.{arith}
 use lib.Dec.{eqb}
 use borrow.Author.Tests.{not-true}
 use Rattle.molang.specs.Operator
-use Rattle.molang.specs.Forest.{Token, Forest, nil, node, renamed, turnedOnto}
-use Rattle.molang.specs.Message.{ok}
-use Rattle.molang.specs.Level.{Step, on, into, through}
+use Rattle.molang.specs.{Forest.{Token, Forest, nil, node, renamed, turnedOnto}, Message.{ok}, Level.{Step, on, into, through}}
 use Rattle.molang.specs.Calls.{Indexing, unindexed, named, indexed, flushed, isIndex, startsWithIndex, emptyIndex, nextIndex, index}
-use Rattle.molang.specs.Calls.{arrayStep, arrayResume, arrayFinish, arrayLevel}
-use Rattle.molang.specs.Free.{free, isNil, isArrayName}
+use Rattle.molang.specs.{Calls.{arrayStep, arrayResume, arrayFinish, arrayLevel}, Free.{free, isNil, isArrayName}}
 use Rattle.molang.specs.Weight.{Weighing, weight}
-use Rattle.molang.proofs.Trees.{either}
-use Rattle.molang.proofs.Inert.{Inert, through-free}
-use Rattle.molang.proofs.Walks.{Onward, stops, goes, enters}
+use Rattle.molang.proofs.{Trees.{either}, Inert.{Inert, through-free}, Walks.{Onward, stops, goes, enters}}
 use Rattle.molang.proofs.Weight.{Within, Ending, Light, isNil-turned-full, weight-inner, weight-turned, weight-gathered, turned-fine}
 
 keep-unindexed : (i : Bool) (d : Forest) (k : Token) → isIndex k ≡ i → isArrayName (k .op) ≡ false

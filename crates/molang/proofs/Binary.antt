@@ -1,19 +1,12 @@
 -- The binary levels: what they leave as it is, and that they raise no weight. (Unfolded has the second walk.)
 use Prim.Native.Nat.{ℕ, _+_, _≤_}
-use mathlib.Core.Path.{_≡_, refl}
-use mathlib.Core.Bool.{true, false}
-use mathlib.Core.List.{List}
+use mathlib.Core.{Path.{_≡_, refl}, Bool.{true, false}, List.{List}}
 use native.Mathlib.Omega.{arith}
-use Rattle.molang.specs.Operator.{isOneOf}
-use Rattle.molang.specs.Forest.{Token, Forest, nil, node}
-use Rattle.molang.specs.Message.{ok}
+use Rattle.molang.specs.{Operator.{isOneOf}, Forest.{Token, Forest, nil, node}, Message.{ok}}
 use Rattle.molang.specs.Level.{Step, into, through, Gathered, gathered, waiting, nothing}
 use Rattle.molang.specs.Binary.{unfolded, joined, operatorAfter, binaryStep, binaryResume, binaryFinish, binaryLevel}
-use Rattle.molang.specs.Free.{free, isNil}
-use Rattle.molang.specs.Weight.{Weighing, weight}
-use Rattle.molang.proofs.Trees.{either, maybe}
-use Rattle.molang.proofs.Inert.{Inert, through-free}
-use Rattle.molang.proofs.Walks.{failed, stops, goes}
+use Rattle.molang.specs.{Free.{free, isNil}, Weight.{Weighing, weight}}
+use Rattle.molang.proofs.{Trees.{either, maybe}, Inert.{Inert, through-free}, Walks.{failed, stops, goes}}
 use Rattle.molang.proofs.Weight.{Ending, Light, weight-inner, weight-tree, turned-fine}
 use Rattle.molang.proofs.Gathering.{shown, GatheredFits, gatheredFull, Gathers, gathers-into, gathers-node}
 

@@ -1,18 +1,12 @@
 -- The call passes: what they leave as it is, and that they raise no weight.
 use Prim.Native.Nat.{ℕ, _+_, _≤_}
-use mathlib.Core.Path.{_≡_, refl}
-use mathlib.Core.Bool.{true}
+use mathlib.Core.{Path.{_≡_, refl}, Bool.{true}}
 use native.Mathlib.Omega.{arith}
-use Rattle.molang.specs.Operator.{isBracket}
-use Rattle.molang.specs.Forest.{Token, Forest, nil, node}
-use Rattle.molang.specs.Message.{ok}
+use Rattle.molang.specs.{Operator.{isBracket}, Forest.{Token, Forest, nil, node}, Message.{ok}}
 use Rattle.molang.specs.Level.{Step, into, through, Gathered, gathered, waiting, nothing}
 use Rattle.molang.specs.Calls.{CallKind, queryOrLoop, math, calls, callLeaf, callStep, callResume, callFinish, callLevel}
-use Rattle.molang.specs.Free.{free, isNil}
-use Rattle.molang.specs.Weight.{Weighing, weight}
-use Rattle.molang.proofs.Trees.{either}
-use Rattle.molang.proofs.Inert.{Inert, through-free}
-use Rattle.molang.proofs.Walks.{failed, stops, goes}
+use Rattle.molang.specs.{Free.{free, isNil}, Weight.{Weighing, weight}}
+use Rattle.molang.proofs.{Trees.{either}, Inert.{Inert, through-free}, Walks.{failed, stops, goes}}
 use Rattle.molang.proofs.Weight.{Ending, Light, weight-inner, turned-fine}
 use Rattle.molang.proofs.Gathering.{shown, GatheredFits, gatheredFull, Gathers, gathers-into, gathers-node}
 

@@ -1,23 +1,16 @@
 -- The conditional pass (document 01's ternary fold): what it leaves as it is, and that it raises no weight.
 use Prim.Native.Nat.{ℕ, _+_, _≤_}
-use mathlib.Core.Path.{_≡_, refl}
-use mathlib.Core.Bool.{Bool, true, false, not}
-use mathlib.Core.Option.{none}
+use mathlib.Core.{Path.{_≡_, refl}, Bool.{Bool, true, false, not}, Option.{none}}
 use native.Mathlib.Omega.{arith}
 use lib.Dec.{eqb}
 use borrow.Author.Tests.{not-true}
 use Rattle.molang.specs.Operator
-use Rattle.molang.specs.Forest.{Token, Forest, nil, node, turnedOnto, inOrder}
-use Rattle.molang.specs.Message.{ok}
-use Rattle.molang.specs.Level.{through}
+use Rattle.molang.specs.{Forest.{Token, Forest, nil, node, turnedOnto, inOrder}, Message.{ok}, Level.{through}}
 use Rattle.molang.specs.Conditional.{isToken, startsWith, under, pairElse, scan, foldedFrom, dangling, undangled, conditionalStep}
-use Rattle.molang.specs.Conditional.{conditionalFinish, conditionalLevel}
-use Rattle.molang.specs.Free.{free, clear, isNil, isConditional}
+use Rattle.molang.specs.{Conditional.{conditionalFinish, conditionalLevel}, Free.{free, clear, isNil, isConditional}}
 use Rattle.molang.specs.Weight.{Weighing, weight}
-use Rattle.molang.proofs.Trees.{decided, maybe, clear-leaf, clear-rest, clear-turned}
-use Rattle.molang.proofs.Booleans.{or-neither}
-use Rattle.molang.proofs.Inert.{Inert, through-free}
-use Rattle.molang.proofs.Walks.{failed, fine, Onward, goes, enters}
+use Rattle.molang.proofs.{Trees.{decided, maybe, clear-leaf, clear-rest, clear-turned}, Booleans.{or-neither}}
+use Rattle.molang.proofs.{Inert.{Inert, through-free}, Walks.{failed, fine, Onward, goes, enters}}
 use Rattle.molang.proofs.Weight.{Within, Ending, Light, weight-inner, weight-tree}
 
 -- A list without `?` and `:` is only turned round.

@@ -2,12 +2,8 @@
 -- another operator or another's span, and the leaves that get children. So the tree of a legal list is legal (Legal), and a node's rule is
 -- its operator's (OperatorRules).
 use Prim.Native.Nat.{ℕ, _+_}
-use mathlib.Core.Path.{_≡_, refl, ap, _∙_}
-use mathlib.Core.Bool.{Bool, true, false, false≢true}
-use mathlib.Core.List.{List, [], _∷_, _++_}
-use mathlib.Core.Option.{Option, none, some}
-use lib.Dec.{eqb}
-use lib.IntN.{ℤ}
+use mathlib.Core.{Path.{_≡_, refl, ap, _∙_}, Bool.{Bool, true, false, false≢true}, List.{List, [], _∷_, _++_}, Option.{Option, none, some}}
+use lib.{Dec.{eqb}, IntN.{ℤ}}
 use borrow.Author.Tests.{eqb-true}
 use Rattle.molang.specs.Operator
 use Rattle.molang.specs.Operator.{isOneOf, isBracket, hasMembers, closingOf, isCloser, beforeMinus}
@@ -28,15 +24,11 @@ use Rattle.molang.specs.Conditional.{isToken, under, pairElse, scan, fol
 use Rattle.molang.specs.Conditional.{conditionalFinish, conditionalLevel}
 use Rattle.molang.specs.Order.{rules, Pass, lastToken, memberAccessors, sectioning, callPass, statements, arrays, pointer, mathCalls}
 use Rattle.molang.specs.Order.{unaryMinusAndNot, addition, conditional, returns, binary, order, runs, lastOf, endsWithSemicolon}
-use Rattle.molang.specs.Order.{apply}
-use Rattle.molang.specs.Read.{Answer, tree, messages, rooted, endsReading, grouped, read}
+use Rattle.molang.specs.{Order.{apply}, Read.{Answer, tree, messages, rooted, endsReading, grouped, read}}
 use Rattle.molang.specs.Free.{isNil, isPrefix, isConditional, isReturn}
-use Rattle.molang.proofs.Trees.{decided, either, maybe}
-use Rattle.molang.proofs.Booleans.{or-first, or-second}
-use Rattle.molang.proofs.Walks.{back, onward, walk-onward, afterRun}
-use Rattle.molang.proofs.Unary.{beforeCases, before-is-minus, inNode, atNode}
-use Rattle.molang.proofs.Conditional.{scanned, scan-once}
-use Rattle.molang.proofs.Sections.{afterMember, afterBracket}
+use Rattle.molang.proofs.{Trees.{decided, either, maybe}, Booleans.{or-first, or-second}}
+use Rattle.molang.proofs.{Walks.{back, onward, walk-onward, afterRun}, Unary.{beforeCases, before-is-minus, inNode, atNode}}
+use Rattle.molang.proofs.{Conditional.{scanned, scan-once}, Sections.{afterMember, afterBracket}}
 
 -- Every node of the trees is Q, by its token and by whether it is a leaf.
 pub data EveryNode (Q : Token → Bool → Type 0) : Forest → Type 0 where

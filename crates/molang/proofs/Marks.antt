@@ -1,13 +1,9 @@
 -- No pass multiplies a payload: where tokens are counted by a mark that a new token has only with an old one's payload, the marks never
 -- grow.
 use Prim.Native.Nat.{ℕ, _+_, _≤_}
-use mathlib.Core.Path.{_≡_, refl}
-use mathlib.Core.Bool.{Bool, true, false, false≢true}
-use mathlib.Core.List.{List, [], _∷_, _++_}
-use mathlib.Core.Option.{Option, none, some}
+use mathlib.Core.{Path.{_≡_, refl}, Bool.{Bool, true, false, false≢true}, List.{List, [], _∷_, _++_}, Option.{Option, none, some}}
 use native.Mathlib.Omega.{arith}
-use lib.Dec.{eqb}
-use lib.IntN.{ℤ}
+use lib.{Dec.{eqb}, IntN.{ℤ}}
 use Rattle.molang.specs.Operator
 use Rattle.molang.specs.Operator.{isOneOf, isBracket, hasMembers, closingOf, isCloser, beforeMinus}
 use Rattle.molang.specs.Forest.{Token, Forest, nil, node, renamed, bare, closedBy, leaves, turnedOnto, inOrder}
@@ -27,12 +23,9 @@ use Rattle.molang.specs.Conditional.{isToken, under, pairElse, scan, fol
 use Rattle.molang.specs.Conditional.{conditionalFinish, conditionalLevel}
 use Rattle.molang.specs.Order.{rules, Pass, lastToken, memberAccessors, sectioning, callPass, statements, arrays, pointer, mathCalls}
 use Rattle.molang.specs.Order.{unaryMinusAndNot, addition, conditional, returns, binary, order, runs, lastOf, endsWithSemicolon}
-use Rattle.molang.specs.Order.{apply}
-use Rattle.molang.specs.Read.{Answer, tree, messages, rooted, endsReading, grouped, read}
-use Rattle.molang.proofs.Trees.{decided, either, maybe}
-use Rattle.molang.proofs.Walks.{back, onward, walk-onward, afterRun}
-use Rattle.molang.proofs.Unary.{beforeCases, inNode, atNode}
-use Rattle.molang.proofs.Conditional.{scanned, scan-once}
+use Rattle.molang.specs.{Order.{apply}, Read.{Answer, tree, messages, rooted, endsReading, grouped, read}}
+use Rattle.molang.proofs.{Trees.{decided, either, maybe}, Walks.{back, onward, walk-onward, afterRun}}
+use Rattle.molang.proofs.{Unary.{beforeCases, inNode, atNode}, Conditional.{scanned, scan-once}}
 use Rattle.molang.proofs.Sections.{afterMember, afterBracket}
 
 -- How many marks a token has; a new token has those of the one whose payload it keeps, and none without a payload.

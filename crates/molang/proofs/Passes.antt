@@ -1,37 +1,23 @@
 -- What holds of every pass after the sections: it raises no weight, makes no new leaves (so that a note of the classes below a node stays
 -- true for the rest of the reading), and leaves the empty list empty (so that the pointer's failure leads to exactly two messages).
 use Prim.Native.Nat.{ℕ, _+_, _*_, _≤_, zero-le}
-use mathlib.Core.Path.{_≡_, refl, ap}
-use mathlib.Core.Bool.{Bool, true, false, _&&_, not}
-use mathlib.Core.List.{List, [], _∷_, _++_}
+use mathlib.Core.{Path.{_≡_, refl, ap}, Bool.{Bool, true, false, _&&_, not}, List.{List, [], _∷_, _++_}}
 use native.Mathlib.Omega.{arith}
 use Rattle.molang.specs.Operator
-use Rattle.molang.specs.Forest.{Forest, nil, node, turnedOnto, inOrder}
-use Rattle.molang.specs.Message.{Message, multipleRoots, Result, ok, fail}
+use Rattle.molang.specs.{Forest.{Forest, nil, node, turnedOnto, inOrder}, Message.{Message, multipleRoots, Result, ok, fail}}
 use Rattle.molang.specs.Level.{walk, through, nothing}
 use Rattle.molang.specs.Calls.{queryOrLoop, math, callFinish, callLevel, flushed, arrayFinish, arrayLevel}
-use Rattle.molang.specs.Statements.{splitOf, statementFinish, statementLevel}
-use Rattle.molang.specs.Unary.{unary, unaryPass, returnFinish, returnLevel}
+use Rattle.molang.specs.{Statements.{splitOf, statementFinish, statementLevel}, Unary.{unary, unaryPass, returnFinish, returnLevel}}
 use Rattle.molang.specs.Binary.{binaryFinish, binaryLevel}
 use Rattle.molang.specs.Conditional.{foldedFrom, dangling, undangled, conditionalFinish, conditionalLevel}
 use Rattle.molang.specs.Order.{Pass, lastToken, memberAccessors, sectioning, callPass, statements, arrays, pointer, mathCalls}
 use Rattle.molang.specs.Order.{unaryMinusAndNot, addition, conditional, returns, binary, runs, apply}
-use Rattle.molang.specs.Read.{messages, rooted, endsReading, grouped}
-use Rattle.molang.specs.Free.{free, isNil}
-use Rattle.molang.specs.Weight.{Weighing, weight}
-use Rattle.molang.specs.Work as kinds
+use Rattle.molang.specs.{Read.{messages, rooted, endsReading, grouped}, Free.{free, isNil}, Weight.{Weighing, weight}}
 use Rattle.molang.specs.Work.{Kind, passOf}
-use Rattle.molang.proofs.Trees.{decided, both, and-true-true, free-leaf, free-tree}
-use Rattle.molang.proofs.Booleans.{false-true}
-use Rattle.molang.proofs.Walks.{failed, fine}
-use Rattle.molang.proofs.Weight.{Ending, through-light}
-use Rattle.molang.proofs.Calls.{call-light}
-use Rattle.molang.proofs.Arrays.{array-light}
-use Rattle.molang.proofs.Statements.{statement-light}
-use Rattle.molang.proofs.Unary.{unaryPass-light}
-use Rattle.molang.proofs.Return.{return-light}
-use Rattle.molang.proofs.Binary.{binary-light}
-use Rattle.molang.proofs.Conditional.{conditional-light}
+use Rattle.molang.specs.Work as kinds
+use Rattle.molang.proofs.{Trees.{decided, both, and-true-true, free-leaf, free-tree}, Booleans.{false-true}, Walks.{failed, fine}}
+use Rattle.molang.proofs.{Weight.{Ending, through-light}, Calls.{call-light}, Arrays.{array-light}, Statements.{statement-light}}
+use Rattle.molang.proofs.{Unary.{unaryPass-light}, Return.{return-light}, Binary.{binary-light}, Conditional.{conditional-light}}
 
 -- The passes that go through every nested list.
 unfoldable pub isNested : Pass → Bool

@@ -1,19 +1,13 @@
 -- `return`: what it leaves as it is, and that it raises no weight.
 use Prim.Native.Nat.{ℕ}
-use mathlib.Core.Path.{_≡_, refl}
-use mathlib.Core.Bool.{true}
+use mathlib.Core.{Path.{_≡_, refl}, Bool.{true}}
 use native.Mathlib.Omega.{arith}
 use lib.Dec.{eqb}
 use Rattle.molang.specs.Operator
-use Rattle.molang.specs.Forest.{Token, Forest, nil, node}
-use Rattle.molang.specs.Message.{ok}
-use Rattle.molang.specs.Level.{through, Gathered, gathered, waiting, nothing}
-use Rattle.molang.specs.Unary.{returnStep, returnResume, returnFinish, returnLevel}
-use Rattle.molang.specs.Free.{free, isNil, isReturn}
+use Rattle.molang.specs.{Forest.{Token, Forest, nil, node}, Message.{ok}, Level.{through, Gathered, gathered, waiting, nothing}}
+use Rattle.molang.specs.{Unary.{returnStep, returnResume, returnFinish, returnLevel}, Free.{free, isNil, isReturn}}
 use Rattle.molang.specs.Weight.{Weighing, weight}
-use Rattle.molang.proofs.Trees.{either}
-use Rattle.molang.proofs.Inert.{Inert, through-free}
-use Rattle.molang.proofs.Walks.{failed, goes}
+use Rattle.molang.proofs.{Trees.{either}, Inert.{Inert, through-free}, Walks.{failed, goes}}
 use Rattle.molang.proofs.Weight.{Ending, Light, weight-tree, turned-fine}
 use Rattle.molang.proofs.Gathering.{shown, GatheredFits, gatheredFull, Gathers, gathers-node}
 

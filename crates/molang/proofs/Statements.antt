@@ -1,20 +1,15 @@
 -- The semicolon pass: what it leaves as it is, and that it raises no weight where a semicolon weighs as much as three nodes.
 use Prim.Native.Nat.{ℕ, _+_, _*_, _≤_}
-use mathlib.Core.Path.{_≡_, refl, ap}
-use mathlib.Core.Bool.{Bool, true, false, not, true≢false}
+use mathlib.Core.{Path.{_≡_, refl, ap}, Bool.{Bool, true, false, not, true≢false}}
 use native.Mathlib.Omega.{arith}
 use lib.Dec.{eqb}
 use borrow.Author.Tests.{eqb-true}
 use Rattle.molang.specs.Operator
-use Rattle.molang.specs.Forest.{Token, Forest, nil, node, bare, inOrder}
-use Rattle.molang.specs.Message.{ok}
-use Rattle.molang.specs.Level.{Step, into, through}
+use Rattle.molang.specs.{Forest.{Token, Forest, nil, node, bare, inOrder}, Message.{ok}, Level.{Step, into, through}}
 use Rattle.molang.specs.Statements.{Split, unsplit, after, inside, splitOf, isEntered, gather, endStatement, enterSplit}
 use Rattle.molang.specs.Statements.{statementStep, statementResume, statementFinish, statementLevel}
-use Rattle.molang.specs.Free.{free, clear, isNil, isSemicolon}
-use Rattle.molang.specs.Weight.{Weighing, weight}
-use Rattle.molang.proofs.Trees.{decided, either, clear-leaf}
-use Rattle.molang.proofs.Inert.{Inert, through-free}
+use Rattle.molang.specs.{Free.{free, clear, isNil, isSemicolon}, Weight.{Weighing, weight}}
+use Rattle.molang.proofs.{Trees.{decided, either, clear-leaf}, Inert.{Inert, through-free}}
 use Rattle.molang.proofs.Walks.{fine, Onward, stops, goes, enters}
 use Rattle.molang.proofs.Weight.{Within, Ending, Light, weight-inner, weight-tree, weight-gathered, turned-fine}
 

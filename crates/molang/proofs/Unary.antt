@@ -1,24 +1,16 @@
 -- The unary pass, from the right: what it leaves as it is, and that it raises no weight where a minus weighs as much as a plus and a node,
 -- since a minus after an operand becomes both.
 use Prim.Native.Nat.{ℕ, _+_, _≤_}
-use mathlib.Core.Path.{_≡_, refl, ap}
-use mathlib.Core.Bool.{Bool, true, false, not}
-use mathlib.Core.List.{List, [], _∷_}
-use mathlib.Core.Option.{Option, none, some}
+use mathlib.Core.{Path.{_≡_, refl, ap}, Bool.{Bool, true, false, not}, List.{List, [], _∷_}, Option.{Option, none, some}}
 use native.Mathlib.Omega.{arith}
-use lib.Dec.{eqb}
-use lib.ListN.{length}
+use lib.{Dec.{eqb}, ListN.{length}}
 use borrow.Author.Tests.{eqb-true}
 use Rattle.molang.specs.Operator
 use Rattle.molang.specs.Operator.{isOneOf, BeforeMinus, operand, operator, minus, unknown, beforeMinus}
-use Rattle.molang.specs.Forest.{Token, Forest, nil, node, renamed, bare}
-use Rattle.molang.specs.Message.{Message, ok, fail}
+use Rattle.molang.specs.{Forest.{Token, Forest, nil, node, renamed, bare}, Message.{Message, ok, fail}}
 use Rattle.molang.specs.Unary.{Unary, done, undone, minusAfter, notBefore, unaryLeaf, turned, unaryNode, unary, unaryPass}
-use Rattle.molang.specs.Free.{free, isNil, isPrefix}
-use Rattle.molang.specs.Weight.{Weighing, weight}
-use Rattle.molang.proofs.Trees.{decided, either, free-leaf, free-tree}
-use Rattle.molang.proofs.Booleans.{false-true, or-neither}
-use Rattle.molang.proofs.Walks.{failed, fine}
+use Rattle.molang.specs.{Free.{free, isNil, isPrefix}, Weight.{Weighing, weight}}
+use Rattle.molang.proofs.{Trees.{decided, either, free-leaf, free-tree}, Booleans.{false-true, or-neither}, Walks.{failed, fine}}
 use Rattle.molang.proofs.Weight.{Ending, weight-inner, weight-tree}
 
 pub unary-free : (p : Option Token) (f : Forest) → free isPrefix f ≡ true → unary p f ≡ done false f

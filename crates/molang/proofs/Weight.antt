@@ -2,15 +2,11 @@
 -- weighed by what a token may become it bounds the nodes of a tree (Bounds). One induction over the levels from the left, an instance for
 -- each; the unary pass, members and sections have their own.
 use Prim.Native.Nat.{ℕ, _+_, _≤_}
-use mathlib.Core.Path.{_≡_, refl}
-use mathlib.Core.Bool.{Bool, false, not, true≢false}
+use mathlib.Core.{Path.{_≡_, refl}, Bool.{Bool, false, not, true≢false}}
 use native.Mathlib.Omega.{arith}
 use borrow.Author.Tests.{not-true}
-use Rattle.molang.specs.Forest.{Token, Forest, nil, node, turnedOnto, inOrder}
-use Rattle.molang.specs.Message.{Result, ok}
-use Rattle.molang.specs.Level.{Level, through}
-use Rattle.molang.specs.Free.{isNil}
-use Rattle.molang.specs.Weight.{Weighing, weight}
+use Rattle.molang.specs.{Forest.{Token, Forest, nil, node, turnedOnto, inOrder}, Message.{Result, ok}, Level.{Level, through}}
+use Rattle.molang.specs.{Free.{isNil}, Weight.{Weighing, weight}}
 use Rattle.molang.proofs.Walks.{fine, Ends, Keeps, through-keeps}
 
 abbrev pub Within : Weighing → ℕ → Forest → Type 0
