@@ -3,6 +3,7 @@ pub mod JudgeLaws
 pub mod SpellLaws
 pub mod CaseLaws
 pub mod StepLaws
+pub mod SpineLaws
 pub mod ReaderLaws
 pub mod EntryLaws
 pub mod RootLaws

@@ -15,15 +15,15 @@ use Rattle.words.specs.declared.extent.Extent.{Extent}
 use Rattle.words.proofs.RecordLaws.{laid-length, laid-laid, laid-before}
 use Rattle.words.proofs.TreeLaws.{from-nothing, extent-taken}
 use Rattle.write.specs.declared.plain.Seat.{Seat}
-use Rattle.write.specs.Seats.{isPaired, onlySeat, leftSeat, rightSeat}
+use Rattle.write.specs.Seats.{isPaired}
 use Rattle.words.specs.Tokens.{nodeLength}
 use Rattle.shape.specs.Shaped.{countIndex, firstFive, Shaped}
 use Rattle.write.specs.Spelling.{pairOpener, pairCloser, closerWords, seen, seenWith}
 use Rattle.write.specs.Spelling.{firstSize, nodeTokens, operandOf, filledWords, nodeWritten, operandWritten}
 use Rattle.write.specs.Spelling.{Room}
 use Rattle.shape.proofs.RowLaws.{Opened, opened, shaped-room}
-use Rattle.write.proofs.SpellLaws.{first-within, none-below, OneBelow, one-below, onlyWords, TwoBelow, two-below, leftWords}
-use Rattle.write.proofs.SpellLaws.{leftSize, rightPart, rightWords, paired-words, unpaired-words}
+use Rattle.write.proofs.SpellLaws.{first-within, none-below}
+use Rattle.write.proofs.SpellLaws.{paired-words, unpaired-words}
 
 -- The part from a word on.
 abbrev pub tail : ℕ → List ℕ → List ℕ
@@ -65,7 +65,7 @@ pub part-length : {most p : ℕ} {W l : List ℕ} → Shaped most p W → l ≡ 
 part-length {W = W} s e = rw e (length-take-le (nodeLength * firstSize (treesOf W)) W (first-within s))
 
 -- One of three numbers.
-one-left : (n : ℕ) → n ≤ 2 → (n ≡ 2 → ⊥) → (n ≡ 0 → ⊥) → n ≡ 1
+pub one-left : (n : ℕ) → n ≤ 2 → (n ≡ 2 → ⊥) → (n ≡ 0 → ⊥) → n ≡ 1
 one-left zero h a b = absurd (b refl)
 one-left (suc zero) h a b = refl
 one-left (suc (suc zero)) h a b = absurd (a refl)
@@ -107,192 +107,6 @@ module _ {W L : List ℕ} {to : ℕ} (r : Room nodeTokens W L to) where
   module _ (e e1 : Extent) (own : e1 ≡ wider e (getD W 1 0) (getD W 2 0)) where
     pub none-spans : lowOf (getD W countIndex 0) ≡ 0 → e1 ≡ seenWith e W
     none-spans z = own ∙ none-below here z .spans e
-
-    pub one-spans : (lowOf (getD W countIndex 0) ≡ 2 → ⊥) → (lowOf (getD W countIndex 0) ≡ 0 → ⊥) → (e2 : Extent)
-        → e2 ≡ seenWith e1 (tail nodeLength W)
-        → e2 ≡ seenWith e W
-    one-spans a b e2 w2 =
-        w2
-        ∙ rw (own, tail-part nodeLength W)
-        (one-below here (one-left (lowOf (getD W countIndex 0)) (here .few) a b) .spans e)
-
-  -- ONE CHILD: the token, the child, then a bracket's closer.
-  one-child : (lowOf (getD W countIndex 0) ≡ 2 → ⊥) → (lowOf (getD W countIndex 0) ≡ 0 → ⊥) → lowOf (getD W countIndex 0) ≡ 1
-  one-child a b = one-left (lowOf (getD W countIndex 0)) (here .few) a b
-
-  one-room : lowOf (getD W countIndex 0) ≡ 1 → to + length (firstFive W ++ (onlyWords W ++ closerWords W)) ≤ length L
-  one-room e = rw (one-below here e .words) at (r .room)
-
-  pub one-token : (lowOf (getD W countIndex 0) ≡ 2 → ⊥) → (lowOf (getD W countIndex 0) ≡ 0 → ⊥) → to + 5 ≤ length L
-  unfolding firstFive
-  one-token a b = omega (arith, one-room (one-child a b), length-append (firstFive W) (onlyWords W ++ closerWords W))
-
-  module _ (a : lowOf (getD W countIndex 0) ≡ 2 → ⊥) (b : lowOf (getD W countIndex 0) ≡ 0 → ⊥) {op : ℕ}
-      (isOp : op ≡ operatorOf (getD W 0 0)) (p : Seat)
-      (isSeat : p ≡ onlySeat op) (L1 : List ℕ) (to1 : ℕ) (w1 : Puts (firstFive W) L to L1 to1) where
-    one : OneBelow (r .others) W
-    one = one-below here (one-child a b)
-
-    one-words : operandWritten p (tail nodeLength W) ≡ onlyWords W
-    one-words = rw (isSeat, isOp, tail-part)
-
-    pub one-only : Room (operandOf p) (tail nodeLength W) L1 to1
-    one-only =
-        let all = one-room (one-child a b) in
-        let front = length-append (firstFive W) (onlyWords W ++ closerWords W) in
-        let back = length-append (onlyWords W) (closerWords W) in
-        let put = puts-length to (firstFive W) L (omega arith) w1 in
-        record {
-          others = r .others;
-          shaped = rw (tail-part nodeLength W) (one .shaped);
-          room = rw one-words (omega (arith, w1 .1));
-        }
-
-    module _ (l L2 : List ℕ) (to2 : ℕ)
-        (w2 : Writes (operandWritten p (tail nodeLength W)) (tail nodeLength W) L1 to1 l L2 to2) where
-      one-puts : Puts (firstFive W ++ onlyWords W) L to L2 to2
-      one-puts =
-          let all = one-room (one-child a b) in
-          let front = length-append (firstFive W) (onlyWords W ++ closerWords W) in
-          let back = length-append (onlyWords W) (closerWords W) in
-          let two = length-append (firstFive W) (onlyWords W) in
-          puts-more to (firstFive W) (onlyWords W) L (omega arith) w1 (rw one-words at (w2 .1))
-
-      pub one-closer : to2 + length (closerWords W) ≤ length L2
-      one-closer =
-          let all = one-room (one-child a b) in
-          let front = length-append (firstFive W) (onlyWords W ++ closerWords W) in
-          let back = length-append (onlyWords W) (closerWords W) in
-          let two = length-append (firstFive W) (onlyWords W) in
-          omega (arith, one-puts .1, puts-length to (firstFive W ++ onlyWords W) L (omega arith) one-puts)
-
-      one-part : nodeLength + length l ≡ nodeLength * firstSize (treesOf W)
-      one-part =
-          let s : Shaped 2 (suc (r .others)) (tail nodeLength W) = rw (tail-part nodeLength W) (one .shaped) in
-          let same : nodeLength * firstSize (treesOf (tail nodeLength W)) ≡ nodeLength * firstSize (treesOf (drop nodeLength W)) =
-          rw (tail-part nodeLength W)
-          in
-          omega (arith, part-length s (w2 .0), one .fills)
-
-      pub one-end : nodeLength + length l ≤ length W
-      one-end = omega (arith, one-part, first-within (r .shaped))
-
-      module _ (L3 : List ℕ) (to3 : ℕ) (w3 : Puts (closerWords W) L2 to2 L3 to3) where
-        one-all : Puts (firstFive W ++ (onlyWords W ++ closerWords W)) L to L3 to3
-        one-all =
-            rw (← append-assoc (firstFive W) (onlyWords W) (closerWords W))
-            (puts-more to (firstFive W ++ onlyWords W) (closerWords W) L
-            (rw (append-assoc (firstFive W) (onlyWords W) (closerWords W)) (one-room (one-child a b))) one-puts w3)
-
-        pub one-length : length L3 ≡ length L
-        one-length = puts-length to (firstFive W ++ (onlyWords W ++ closerWords W)) L (one-room (one-child a b)) one-all
-
-        pub one-writes : Writes (nodeWritten W) W L to (take (nodeLength + length l) W) L3 to3
-        one-writes = rw (one .words, ← one-part) (refl, one-all)
-
-  -- TWO CHILDREN: the left one, the token, the right one.
-  module _ (e : lowOf (getD W countIndex 0) ≡ 2) {op : ℕ} (isOp : op ≡ operatorOf (getD W 0 0)) (p : Seat) (isSeat : p ≡ leftSeat op) where
-    two : TwoBelow (r .others) W
-    two = two-below here e
-
-    left-words : operandWritten p (tail nodeLength W) ≡ leftWords W
-    left-words = rw (isSeat, isOp, tail-part)
-
-    two-room : to + length (leftWords W ++ (firstFive W ++ rightWords W)) ≤ length L
-    two-room = rw (two .words) at (r .room)
-
-    pub two-left : Room (operandOf p) (tail nodeLength W) L to
-    two-left =
-        let front = length-append (leftWords W) (firstFive W ++ rightWords W) in
-        record {
-          others = suc (r .others);
-          shaped = rw (tail-part nodeLength W) (two .left);
-          room = rw left-words (omega (arith, two-room));
-        }
-
-    module _ (l L1 : List ℕ) (to1 : ℕ)
-        (w1 : Writes (operandWritten p (tail nodeLength W)) (tail nodeLength W) L to l L1 to1) where
-      left-puts : Puts (leftWords W) L to L1 to1
-      left-puts = rw left-words at (w1 .1)
-
-      left-list : length L1 ≡ length L
-      left-list =
-          let front = length-append (leftWords W) (firstFive W ++ rightWords W) in
-          puts-length to (leftWords W) L (omega (arith, two-room)) left-puts
-
-      pub two-token : to1 + 5 ≤ length L1
-      unfolding firstFive
-      two-token =
-          let front = length-append (leftWords W) (firstFive W ++ rightWords W) in
-          let back = length-append (firstFive W) (rightWords W) in
-          omega (arith, two-room, left-list, left-puts .1)
-
-      left-part : length l ≡ leftSize W
-      left-part =
-          let s : Shaped 2 (suc (suc (r .others))) (tail nodeLength W) = rw (tail-part nodeLength W) (two .left) in
-          let same : nodeLength * firstSize (treesOf (tail nodeLength W)) ≡ leftSize W = rw (tail-part nodeLength W) in
-          omega (arith, part-length s (w1 .0))
-
-      pub two-next : nodeLength + length l ≤ length W
-      two-next = omega (arith, left-part, two .fills, first-within (r .shaped))
-
-      module _ (L2 : List ℕ) (to2 : ℕ) (w2 : Puts (firstFive W) L1 to1 L2 to2) (q : Seat) (isRight : q ≡ rightSeat op) where
-        token-puts : Puts (leftWords W ++ firstFive W) L to L2 to2
-        token-puts =
-            let front = length-append (leftWords W) (firstFive W ++ rightWords W) in
-            let back = length-append (firstFive W) (rightWords W) in
-            let both = length-append (leftWords W) (firstFive W) in
-            puts-more to (leftWords W) (firstFive W) L (omega (arith, two-room)) left-puts w2
-
-        there : tail (nodeLength + length l) W ≡ rightPart W
-        there = tail-part (nodeLength + length l) W ∙ ap (λ (n : ℕ). drop (nodeLength + n) W) left-part
-
-        right-words : operandWritten q (tail (nodeLength + length l) W) ≡ rightWords W
-        right-words = rw (isRight, isOp, there)
-
-        pub two-right : Room (operandOf q) (tail (nodeLength + length l) W) L2 to2
-        two-right =
-            let front = length-append (leftWords W) (firstFive W ++ rightWords W) in
-            let back = length-append (firstFive W) (rightWords W) in
-            let both = length-append (leftWords W) (firstFive W) in
-            let list = puts-length to (leftWords W ++ firstFive W) L (omega (arith, two-room)) token-puts in
-            record {
-              others = r .others;
-              shaped = rw there (two .right);
-              room = rw right-words (omega (arith, two-room, token-puts .1));
-            }
-
-        module _ (m L3 : List ℕ) (to3 : ℕ)
-            (w3 : Writes (operandWritten q (tail (nodeLength + length l) W))
-            (tail (nodeLength + length l) W) L2 to2 m L3 to3) where
-          two-all : Puts (leftWords W ++ (firstFive W ++ rightWords W)) L to L3 to3
-          two-all =
-              rw (← append-assoc (leftWords W) (firstFive W) (rightWords W))
-              (puts-more to (leftWords W ++ firstFive W) (rightWords W) L
-              (rw (append-assoc (leftWords W) (firstFive W) (rightWords W)) two-room) token-puts (rw right-words at (w3 .1)))
-
-          two-part : nodeLength + length l + length m ≡ nodeLength * firstSize (treesOf W)
-          two-part =
-              let s : Shaped 2 (suc (r .others)) (tail (nodeLength + length l) W) = rw there (two .right) in
-              let same : nodeLength * firstSize (treesOf (tail (nodeLength + length l) W))
-              ≡ nodeLength * firstSize (treesOf (rightPart W)) =
-              rw there
-              in
-              omega (arith, part-length s (w3 .0), left-part, two .fills)
-
-          pub two-end : nodeLength + length l + length m ≤ length W
-          two-end = omega (arith, two-part, first-within (r .shaped))
-
-          pub two-spans : (e e1 e2 e3 : Extent) → e1 ≡ wider e (getD W 1 0) (getD W 2 0) → e2 ≡ seenWith e1 (tail nodeLength W)
-              → e3 ≡ seenWith e2 (tail (nodeLength + length l) W)
-              → e3 ≡ seenWith e W
-          two-spans e e1 e2 e3 own first second = second ∙ rw (first, own, there, tail-part nodeLength W) (two .spans e)
-
-          pub two-length : length L3 ≡ length L
-          two-length = puts-length to (leftWords W ++ (firstFive W ++ rightWords W)) L two-room two-all
-
-          pub two-writes : Writes (nodeWritten W) W L to (take (nodeLength + length l + length m) W) L3 to3
-          two-writes = rw (two .words, ← two-part) (refl, two-all)
 
 -- An operand that is to be written in its seat.
 module _ {W L : List ℕ} {to : ℕ} (p : Seat) (r : Room (operandOf p) W L to) where

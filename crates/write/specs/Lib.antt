@@ -4,3 +4,4 @@ pub mod Seats
 pub mod Reading
 pub mod Spelling
 pub mod Scripts
+pub mod Spine

@@ -1,13 +1,13 @@
 // The writing of a plain tree: each operator between or before its operands, copied as it came, a section's closer where the section
 // closes, and added pairs where an operand needs them. `write_node` and `write_operand` call each other over the preorder words, the
-// remaining node count falling; a node without children is written by `write_leaf`. Each gives back the part of the words that its tree
-// fills, so the next operand starts right after it, and takes the tree's spans into two numbers, so that a pair knows its operand's extent
-// when the operand is written. The words are those of a tree that `judge` found plain, and `fill` has compared the list's length with the
-// tokens that are written of it: what the functions ask of both comes from there. Leans on plain (seats), ops and words.
+// remaining node count falling; a node without children is written by `write_leaf`. A node's first child, that one's first child and so on
+// stand in a row in the words: `write_node` goes down the row to the leaf and writes it from there up, and calls `write_operand` for each
+// right operand on the way that is no leaf, so no other operand takes call stack. Each gives back the part of the words that its tree fills,
+// so the next operand starts right after it, and takes the tree's spans into two numbers, so that a pair knows its operand's extent when the
+// operand is written. The words are those of a tree that `judge` found plain, and `fill` has compared the list's length with the tokens that
+// are written of it: what the functions ask of both comes from there. Leans on plain (seats), ops and words.
 use crate::plain::Seat;
 use crate::plain::is_paired;
-use crate::plain::seat_of_left;
-use crate::plain::seat_of_only;
 use crate::plain::seat_of_right;
 use ops::op;
 use words::extent::Extent;
@@ -15,6 +15,7 @@ use words::extent::widened;
 use words::fields;
 use words::tokens::TokenWords;
 ghost use mathlib.Core.Path.{_≡_};
+ghost use mathlib.Core.Bool.{true};
 ghost use Prim.Native.Nat.{_+_, _≤_};
 ghost use lib.ListN.{length, getD};
 ghost use Rattle.molang.specs.Words.{lowOf};
@@ -24,6 +25,9 @@ ghost use Rattle.words.specs.Tokens.{fiveWords, nodeLength};
 ghost use Rattle.shape.specs.Shaped.{countIndex, firstFive};
 ghost use Rattle.write.specs.Spelling.{spanningWords, closerWords, pairOpener, pairCloser, seen, seenAfter};
 ghost use Rattle.write.specs.Spelling.{nodeTokens, operandOf, filledWords, nodeWritten, operandWritten, Room};
+ghost use Rattle.write.specs.Reading.{childrenAt};
+ghost use Rattle.write.specs.Seats.{isPaired, ifTrue};
+ghost use Rattle.write.specs.Spine.{firstSeat, hasPair, frontOf, frontAt, withPair, Opens, Spine};
 
 // The greatest start that a word holds. The extent of nothing goes from it to 0, and every span widens that.
 pub const LAST_START: u32 = fields::KIND - 1;
@@ -126,8 +130,111 @@ fn write_leaf<'a>(
     &words[..fields::NODE_WORDS]
 }
 
-// Writes the tree that the words open with, and takes its spans into the extent from `low` to `high`: its own first, then those below it.
-// Gives back the words that it fills.
+// Whether the first child of a node of op over so many children gets an added pair: a child of operator `first` over `below` children.
+fn is_first_paired(op: u32, children: u32, first: u32, below: u32) -> bool
+    ensures { λ r. ⌜ r ≡ isPaired (firstSeat op children) first below ⌝ }
+{
+    if below == 0 {
+        return false;
+    }
+    if first == op::LEFT_PARENTHESIS {
+        return false;
+    }
+    if children == 2 {
+        if op == op::COMMA {
+            return first != op::COMMA;
+        }
+        return true;
+    }
+    op != op::LEFT_PARENTHESIS
+}
+
+// Whether the first child of the node at `at` gets an added pair. The child stands behind the node.
+fn has_pair(words: &[u32], at: usize) -> bool
+    requires { ⌜ at + nodeLength + nodeLength ≤ length (now words) ⌝ }
+    ensures { λ r. ⌜ r ≡ hasPair (now (words .entry)) at ⌝ }
+{
+    let first = at + fields::NODE_WORDS;
+    is_first_paired(
+        fields::operator(words[at]),
+        fields::low(words[at + fields::COUNT_FIELD]),
+        fields::operator(words[first]),
+        fields::low(words[first + fields::COUNT_FIELD]),
+    )
+}
+
+// The words of the list that a node of so many children puts before those of its first child: its token, if it has one child, and the
+// opener of an added pair.
+fn front_of(children: u32, paired: bool) -> usize
+    ensures { λ r. ⌜ r ≡ frontOf children paired ⌝ }
+{
+    if children == 1 {
+        if paired {
+            return 10;
+        }
+        return 5;
+    }
+    if paired {
+        return 5;
+    }
+    0
+}
+
+// Those of the node at `at`.
+fn front_at(words: &[u32], at: usize) -> usize
+    requires { ⌜ at + nodeLength + nodeLength ≤ length (now words) ⌝ }
+    ensures { λ r. ⌜ r ≡ frontAt (now (words .entry)) at ⌝ }
+{
+    let children = fields::low(words[at + fields::COUNT_FIELD]);
+    front_of(children, has_pair(words, at))
+}
+
+// Where the first children end: the leaf's place in the words, and how many words of the list stand before those of the leaf.
+pub struct Descent {
+    node: usize,
+    front: usize,
+}
+
+// Goes down the first children, which stand in a row.
+fn descend(words: &[u32]) -> Descent
+    requires { ⌜ Opens (now words) ⌝ }
+    ensures { λ r. ⌜ Spine (now (words .entry)) (r .node) (r .front) × (childrenAt (now (words .entry)) (r .node) ≡ 0) ⌝ }
+{
+    let mut node = 0usize;
+    let mut front = 0usize;
+    let mut children = fields::low(words[fields::COUNT_FIELD]);
+    while children != 0 {
+        front += front_at(words, node);
+        node += fields::NODE_WORDS;
+        children = fields::low(words[node + fields::COUNT_FIELD]);
+    }
+    Descent { node, front }
+}
+
+// Adds the pair of the first child of the node at `node`, if it gets one. The child is written, and its words begin at `at`.
+fn pair_first(
+    words: &[u32],
+    node: usize,
+    start: u32,
+    end: u32,
+    at: usize,
+    list: &mut [u32],
+    to: &mut usize,
+)
+    requires { ⌜ node + nodeLength + nodeLength ≤ length (now words) ⌝ }
+    requires { ⌜ (hasPair (now words) node ≡ true → (5 ≤ at) × (at ≤ length (now list)) × (now to + 5 ≤ length (now list))) ⌝ }
+    ensures { λ _. ⌜ now (list .exit) ≡ withPair (hasPair (now (words .entry)) node) start end at (now (to .entry)) (now (list .entry)) ⌝ }
+    ensures { λ _. ⌜ now (to .exit) ≡ now (to .entry) + ifTrue (hasPair (now (words .entry)) node) 5 ⌝ }
+{
+    if has_pair(words, node) {
+        let opener = at - fields::TOKEN_WORDS;
+        put_pair(start, end, opener, list, to);
+    }
+}
+
+// Writes the tree that the words open with, and takes its spans into the extent from `low` to `high`. The first children are gone down to
+// the leaf, and written from there up: a node's first child is written, and its words begin at `place`, when the node's turn comes. Gives
+// back the words that it fills.
 pub fn write_node<'a>(
     words: &'a [u32],
     list: &mut [u32],
@@ -141,29 +248,55 @@ pub fn write_node<'a>(
     ensures { λ _. ⌜ now (list .exit) ≡ laidAt (now (to .entry)) (nodeWritten (now (words .entry))) (now (list .entry)) ⌝ }
     ensures { λ _. ⌜ now (to .exit) ≡ now (to .entry) + length (nodeWritten (now (words .entry))) ⌝ }
 {
-    let children = fields::low(words[fields::COUNT_FIELD]);
-    if children == 0 {
-        return write_leaf(words, list, to, low, high);
+    let mut start = LAST_START;
+    let mut stop = 0u32;
+    let from = *to;
+    let end = descend(words);
+    let mut node = end.node;
+    let mut place = from + end.front;
+    let mut after = place;
+    let leaf = write_leaf(&words[node..], list, &mut after, &mut start, &mut stop);
+    let mut next = node + leaf.len();
+    let outer_low = *low;
+    let outer_high = *high;
+    while 0 < node {
+        node -= fields::NODE_WORDS;
+        pair_first(words, node, start, stop, place, list, &mut after);
+        place -= front_at(words, node);
+        let own = &words[node..];
+        widen(
+            &mut start,
+            &mut stop,
+            own[fields::START_FIELD],
+            own[fields::END_FIELD],
+        );
+        if fields::low(own[fields::COUNT_FIELD]) == 2 {
+            put_token(own, list, &mut after);
+            let below = &words[next..];
+            if fields::low(below[fields::COUNT_FIELD]) == 0 {
+                let right = write_leaf(below, list, &mut after, &mut start, &mut stop);
+                next += right.len();
+                continue;
+            }
+            let seat = seat_of_right(fields::operator(own[0]));
+            *to = after;
+            *low = start;
+            *high = stop;
+            let right = write_operand(below, seat, list, to, low, high);
+            after = *to;
+            start = *low;
+            stop = *high;
+            next += right.len();
+            continue;
+        }
+        TokenWords::at(own, 0).lay(list, place);
+        put_closer(own, list, &mut after);
     }
-    let op = fields::operator(words[0]);
-    let below = &words[fields::NODE_WORDS..];
-    widen(
-        low,
-        high,
-        words[fields::START_FIELD],
-        words[fields::END_FIELD],
-    );
-    if children == 2 {
-        let left = write_operand(below, seat_of_left(op), list, to, low, high);
-        put_token(words, list, to);
-        let next = fields::NODE_WORDS + left.len();
-        let right = write_operand(&words[next..], seat_of_right(op), list, to, low, high);
-        return &words[..next + right.len()];
-    }
-    put_token(words, list, to);
-    let only = write_operand(below, seat_of_only(op), list, to, low, high);
-    put_closer(words, list, to);
-    &words[..fields::NODE_WORDS + only.len()]
+    *to = after;
+    *low = outer_low;
+    *high = outer_high;
+    widen(low, high, start, stop);
+    &words[..next]
 }
 
 // Writes the tree that the words open with as an operand in its seat, and takes its spans in; gives back the words that it fills. An added

@@ -1,20 +1,24 @@
 -- The proof of the cycle of calls {write_node, write_operand}: writing a node and writing an operand. Both fall by the remaining node
 -- count: a node's operand has a node less, and an operand's node as many. Each answer is one of StepLaws, handed what the calls on the way
 -- gave. Assumes nothing.
-use Prim.Native.Nat.{ℕ, _+_, _*_, _≤_, _<_}
-use mathlib.Core.Path.{sym, _∙_}
+use Prim.Native.Nat.{ℕ, _+_, _-_, _*_, _≤_, _<_}
+use mathlib.Core.Path.{_≡_, refl, ap, sym, _∙_}
 use native.Mathlib.Omega.{arith}
 use borrow.Author.Needs.{needs}
 use borrow.Author.Tests.{not-true, not-false}
 use borrow.Fn.Kinds.{In}
 use borrow.Fn.PlainCycle.{Measures, is, falls, and}
-use lib.ListN.{length}
+use lib.ListN.{length, drop, getD}
+use mathlib.Core.List.{List}
 use lib.Seq.{length-take-le}
 use Rattle.words.proofs.fields.low.Reads as low-reads
 use Rattle.words.proofs.fields.operator.Reads as operator-reads
+use Rattle.words.proofs.tokens.TokenWords.at.Reads as at-reads
+use Rattle.words.proofs.tokens.TokenWords.lay.Reads as lay-reads
+use Rattle.write.proofs.spell.descend.Reads as descend-reads
+use Rattle.write.proofs.spell.front_at.Reads as front-at-reads
+use Rattle.write.proofs.spell.pair_first.Reads as pair-first-reads
 use Rattle.write.proofs.plain.is_paired.Reads as is-paired-reads
-use Rattle.write.proofs.plain.seat_of_left.Reads as seat-of-left-reads
-use Rattle.write.proofs.plain.seat_of_only.Reads as seat-of-only-reads
 use Rattle.write.proofs.plain.seat_of_right.Reads as seat-of-right-reads
 use Rattle.write.proofs.spell.put_closer.Reads as put-closer-reads
 use Rattle.write.proofs.spell.put_pair.Reads as put-pair-reads
@@ -30,9 +34,19 @@ use Rattle.write.proofs.spell.+write_node+write_operand.Lts-write_opera
 use Rattle.write.proofs.spell.+write_node+write_operand.{statement}
 use Rattle.write.proofs.spell.+write_node+write_operand.Tie.{close}
 use Rattle.write.proofs.CaseLaws.{leaf-unpaired}
-use Rattle.write.proofs.StepLaws.{tail, nodesLeft, fewer-nodes, node-long}
-use Rattle.write.proofs.StepLaws.{one-token, one-only, one-closer, one-end, one-spans, one-length, one-writes}
-use Rattle.write.proofs.StepLaws.{two-left, two-token, two-next, two-right, two-end, two-spans, two-length, two-writes}
+use Rattle.write.proofs.StepLaws.{tail-part, nodesLeft}
+use Rattle.molang.specs.Words.{lowOf}
+use Rattle.words.specs.Fields.{operatorOf}
+use Rattle.shape.specs.Shaped.{countIndex}
+use Rattle.write.specs.Seats.{rightSeat}
+use Rattle.write.specs.Spelling.{nodeWritten}
+use Rattle.write.specs.Spine.{Opens, theRoot}
+use Rattle.write.proofs.SpineLaws.{Climbing, room-opens, leaf-within, leaf-place}
+use Rattle.write.proofs.SpineLaws.{leaf-room, leaf-ends, climbing-begins, climbing-length}
+use Rattle.write.proofs.SpineLaws.{up-within, up-longer, up-front, own-long, count-here, operator-in, placed, pair-asked}
+use Rattle.write.proofs.SpineLaws.{token-room, closer-room, climbed-one, between-room}
+use Rattle.write.proofs.SpineLaws.{next-within, right-fewer, right-room, next-ends}
+use Rattle.write.proofs.SpineLaws.{climbed-two, climbed-within, climbed-writes, climbed-spans}
 use Rattle.write.proofs.StepLaws.{operand-long, alone-room, alone-writes, open-room, inner-room, close-room}
 use Rattle.write.proofs.StepLaws.{pair-spans, pair-length, pair-writes}
 use Rattle.words.specs.Tokens.{nodeLength}
@@ -60,24 +74,30 @@ write-operand-below t = and 5 write-operand-kinds.ps (falls 5 write-operand-kind
 -- What the calls of each ask and give.
 abbrev node-calls : ℕ → write-node-lts.Claims
 node-calls t = (
-  low-reads.Asked,
-  low-reads.Learnt,
+  descend-reads.Asked,
+  descend-reads.Learnt,
   write-leaf-reads.Asked,
   write-leaf-reads.Learnt,
-  operator-reads.Asked,
-  operator-reads.Learnt,
+  pair-first-reads.Asked,
+  pair-first-reads.Learnt,
+  front-at-reads.Asked,
+  front-at-reads.Learnt,
   widen-reads.Asked,
   widen-reads.Learnt,
-  seat-of-left-reads.Asked,
-  seat-of-left-reads.Learnt,
-  write-operand-below t,
-  write-operand.Post,
+  low-reads.Asked,
+  low-reads.Learnt,
   put-token-reads.Asked,
   put-token-reads.Learnt,
+  operator-reads.Asked,
+  operator-reads.Learnt,
   seat-of-right-reads.Asked,
   seat-of-right-reads.Learnt,
-  seat-of-only-reads.Asked,
-  seat-of-only-reads.Learnt,
+  write-operand-below t,
+  write-operand.Post,
+  at-reads.Asked,
+  at-reads.Learnt,
+  lay-reads.Asked,
+  lay-reads.Learnt,
   put-closer-reads.Asked,
   put-closer-reads.Learnt,
 )
@@ -100,392 +120,719 @@ operand-calls t = (
   widen-reads.Learnt,
 )
 
--- Where an operand ends, within the words.
-left-ends : (t : ℕ) (c : write-node-lts.After-write-operand (node-calls t) (write-node-at t) write-node.Post)
-    → nodeLength + length (c .write-operand .result .now)
-    ≤ length
-    (c .before .before .before .before .before .before .before .before .before .before .before .before .before .before .before .before
-    .before .before .before .before .args .words .now)
-left-ends t c =
-    let first = c in
-    let left = first .before .before .before .before .before in
-    let two = left .before in
-    let op = two .before .before .before .before .before .before .before in
-    let count = op .before .before .before in
-    let start = count .before .before .before .before in
-    two-next (start .pre .1) (sym (count .low .ensures) ∙ two .if2 .taken) (op .operator .ensures) (left .seat-of-left .result)
-    (left .seat-of-left .ensures) (first .write-operand .result .now) (first .write-operand .last .1 .1 .0)
-    (first .write-operand .last .1 .1 .1 .0) (first .write-operand .ensures .1)
+-- THE LOOP'S INVARIANT: what held of any list when the climb began holds of it now, further up.
+abbrev write-node-Inv-loop : write-node-lts.InvT-loop
+write-node-Inv-loop words list₀ to₀ low₀ high₀ start₀ stop₀ from node₀ place₀ after₀ next₀ outer-low outer-high list to low high start
+    stop node
+    place after next =
+    (L : List ℕ) → from + length (nodeWritten words) ≤ length L → Climbing words L from node₀ place₀ next₀ list₀ after₀ start₀ stop₀
+    → Climbing words L from node place next list after start stop
 
-right-ends : (t : ℕ) (c : write-node-lts.After-write-operand2 (node-calls t) (write-node-at t) write-node.Post)
-    → nodeLength
-    + length (c .before .before .before .before .before .before .before .before .before .before .before
-    .before .before .before .write-operand .result .now)
-    + length (c .write-operand2 .result .now)
-    ≤ length
-    (c .before .before .before .before .before .before .before .before .before .before .before .before .before .before .before .before
-    .before .before .before .before .before .before .before .before .before .before .before .before .before .before .before .before
+abbrev write-node-μ-loop : write-node-lts.MeasureT-loop
+write-node-μ-loop words list₀ to₀ low₀ high₀ start₀ stop₀ from node₀ place₀ after₀ next₀ outer-low outer-high list to low high start stop
+    node
+    place after next =
+    node
+
+-- IN A TURN: the words open with a tree, the list has room for it, and what was climbed so far.
+turn-opens : (t : ℕ) (c : write-node-lts.In-loop (node-calls t) (write-node-at t) write-node.Post write-node-Inv-loop write-node-μ-loop)
+    → Opens (c .before .before .before .before .before .before .before .before .before .before .before .before .before .before .before
     .before .before .args .words .now)
-right-ends t c =
-    let second = c in
-    let right = second .before .before .before .before .before in
-    let token = right .before .before .before .before in
-    let first = token .before .before .before .before .before in
-    let left = first .before .before .before .before .before in
-    let two = left .before in
-    let op = two .before .before .before .before .before .before .before in
-    let count = op .before .before .before in
-    let start = count .before .before .before .before in
-    two-end (start .pre .1) (sym (count .low .ensures) ∙ two .if2 .taken) (op .operator .ensures) (left .seat-of-left .result)
-    (left .seat-of-left .ensures) (first .write-operand .result .now) (first .write-operand .last .1 .1 .0)
-    (first .write-operand .last .1 .1 .1 .0) (first .write-operand .ensures .1) (token .put-token .last .1 .0)
-    (token .put-token .last .1 .1 .0) (token .put-token .ensures) (right .seat-of-right .result) (right .seat-of-right .ensures)
-    (second .write-operand2 .result .now) (second .write-operand2 .last .1 .1 .0) (second .write-operand2 .last .1 .1 .1 .0)
-    (second .write-operand2 .ensures .1)
+turn-opens t c = room-opens (c .before .before .before .before .before .before .before .before .before .before .before .before .before
+    .before .before .before .before .pre .1) theRoot
 
-only-ends : (t : ℕ) (c : write-node-lts.After-write-operand3 (node-calls t) (write-node-at t) write-node.Post)
-    → nodeLength + length (c .write-operand3 .result .now)
-    ≤ length
-    (c .before .before .before .before .before .before .before .before .before .before .before .before .before .before .before .before
-    .before .before .before .before .before .before .before .before .before .args .words .now)
-only-ends t c =
-    let child = c in
-    let only = child .before .before .before .before .before in
-    let opener = only .before .before .before in
-    let one = opener .before .before .before in
-    let op = one .before .before .before .before .before .before .before in
-    let some = op .before .before in
-    let count = some .before in
-    let start = count .before .before .before .before in
-    one-end (start .pre .1) (λ e. one .if2 .left (count .low .ensures ∙ e)) (λ e. some .if1 .left (count .low .ensures ∙ e))
-    (op .operator .ensures) (only .seat-of-only .result) (only .seat-of-only .ensures) (opener .put-token2 .last .1 .0)
-    (opener .put-token2 .last .1 .1 .0) (opener .put-token2 .ensures) (child .write-operand3 .result .now)
-    (child .write-operand3 .last .1 .1 .0) (child .write-operand3 .last .1 .1 .1 .0) (child .write-operand3 .ensures .1)
+turn-fits : (t : ℕ) (c : write-node-lts.In-loop (node-calls t) (write-node-at t) write-node.Post write-node-Inv-loop write-node-μ-loop) →
+    let start = c .before .before .before .before .before .before .before .before .before .before .before .before .before .before .before
+    .before .before in
+    start .args .to .now + length (nodeWritten (start .args .words .now)) ≤ length (start .args .list .now)
+turn-fits t c = c .before .before .before .before .before .before .before .before .before .before .before .before .before .before .before
+    .before .before .pre .1 .room
 
-write-node-shared-slice-read-low : (t : ℕ) → write-node-lts.Need-shared-slice-read-low (node-calls t) (write-node-at t) write-node.Post
-write-node-shared-slice-read-low t c =
-    let start = c .before .before .before in
-    omega (arith, node-long (start .pre .1))
+climbed : (t : ℕ) (c : write-node-lts.In-loop (node-calls t) (write-node-at t) write-node.Post write-node-Inv-loop write-node-μ-loop) →
+    let start = c .before .before .before .before .before .before .before .before .before .before .before .before .before .before .before
+    .before .before in
+    let l = c .before .loop in
+    Climbing (start .args .words .now) (start .args .list .now) (start .args .to .now) (l .node) (l .place) (l .next) (l .list)
+    (l .after) (l .start) (l .stop)
+climbed t c =
+    let entry = c .before .before .before .before in
+    let start = entry .before .before .before .before .before .before .before .before .before .before .before .before .before in
+    let down = entry .before .before .before .before .before .before .before .before .before .descend in
+    let leaf = entry .before .before .write-leaf in
+    c .before .loop .inv (start .args .list .now) (start .pre .1 .room)
+    (climbing-begins (start .pre .1) (down .ensures .0) (leaf .result .now) (leaf .last .1 .0) (leaf .last .1 .1 .0)
+    (leaf .last .1 .1 .1 .0) (leaf .last .1 .1 .1 .1 .0) (leaf .ensures .1) (leaf .ensures .0))
 
-write-node-low-requires : (t : ℕ) → write-node-lts.Need-low-requires (node-calls t) (write-node-at t) write-node.Post
-write-node-low-requires t c κs = search needs
+ended : (t : ℕ) (c : write-node-lts.After-loop (node-calls t) (write-node-at t) write-node.Post write-node-Inv-loop write-node-μ-loop) →
+    let start = c .before .before .before .before .before .before .before .before .before .before .before .before .before .before .before
+    .before .before in
+    let l = c .before .loop in
+    Climbing (start .args .words .now) (start .args .list .now) (start .args .to .now) (l .node) (l .place) (l .next) (l .list)
+    (l .after) (l .start) (l .stop)
+ended t c =
+    let entry = c .before .before .before .before in
+    let start = entry .before .before .before .before .before .before .before .before .before .before .before .before .before in
+    let down = entry .before .before .before .before .before .before .before .before .before .descend in
+    let leaf = entry .before .before .write-leaf in
+    c .before .loop .inv (start .args .list .now) (start .pre .1 .room)
+    (climbing-begins (start .pre .1) (down .ensures .0) (leaf .result .now) (leaf .last .1 .0) (leaf .last .1 .1 .0)
+    (leaf .last .1 .1 .1 .0) (leaf .last .1 .1 .1 .1 .0) (leaf .ensures .1) (leaf .ensures .0))
+
+write-node-descend-requires : (t : ℕ) → write-node-lts.Need-descend-requires (node-calls t) (write-node-at t) write-node.Post
+    write-node-Inv-loop write-node-μ-loop
+write-node-descend-requires t c κs = room-opens (c .before .before .before .pre .1) theRoot
+
+write-node-add-place : (t : ℕ) → write-node-lts.Need-add-place (node-calls t) (write-node-at t) write-node.Post write-node-Inv-loop
+    write-node-μ-loop
+write-node-add-place t c =
+    let start = c .before .before .before .before .before in
+    omega (arith, start .good .1 .0 .0, leaf-place (start .pre .1) (c .before .descend .ensures .0))
+
+write-node-mul-write-leaf : (t : ℕ) → write-node-lts.Need-mul-write-leaf (node-calls t) (write-node-at t) write-node.Post
+    write-node-Inv-loop write-node-μ-loop
+write-node-mul-write-leaf t c =
+    let start = c .before .before .before .before .before in
+    omega (arith, start .good .0 .1, leaf-within (start .pre .1) (c .before .descend .ensures .0))
+
+write-node-sub-write-leaf : (t : ℕ) → write-node-lts.Need-sub-write-leaf (node-calls t) (write-node-at t) write-node.Post
+    write-node-Inv-loop write-node-μ-loop
+write-node-sub-write-leaf t c =
+    let start = c .before .before .before .before .before in
+    omega (arith, leaf-within (start .pre .1) (c .before .descend .ensures .0))
+
+write-node-part-write-leaf-start : (t : ℕ) → write-node-lts.Need-part-write-leaf-start (node-calls t) (write-node-at t) write-node.Post
+    write-node-Inv-loop write-node-μ-loop
+write-node-part-write-leaf-start t c =
+    let start = c .before .before .before .before .before in
+    omega (arith, leaf-within (start .pre .1) (c .before .descend .ensures .0))
+
+write-node-part-write-leaf-end : (t : ℕ) → write-node-lts.Need-part-write-leaf-end (node-calls t) (write-node-at t) write-node.Post
+    write-node-Inv-loop write-node-μ-loop
+write-node-part-write-leaf-end t c = omega arith
 
 write-node-write-leaf-requires : (t : ℕ) → write-node-lts.Need-write-leaf-requires (node-calls t) (write-node-at t) write-node.Post
+    write-node-Inv-loop write-node-μ-loop
 write-node-write-leaf-requires t c κs =
-    let none = c .before .before .before .before in
-    let count = none .before in
-    let start = count .before .before .before .before in
-    (start .pre .1, sym (count .low .ensures) ∙ none .if1 .taken)
+    let start = c .before .before .before .before .before .before .before .before .before .before in
+    let down = c .before .before .before .before .before .before .descend in
+    leaf-room (start .pre .1) (down .ensures .0) (down .ensures .1)
 
-write-node-same-length : (t : ℕ) → write-node-lts.Need-same-length (node-calls t) (write-node-at t) write-node.Post
-write-node-same-length t c =
-    let leaf = c .before .before in
-    leaf .write-leaf .kept .1 .0
+write-node-add-next : (t : ℕ) → write-node-lts.Need-add-next (node-calls t) (write-node-at t) write-node.Post write-node-Inv-loop
+    write-node-μ-loop
+write-node-add-next t c =
+    let start = c .before .before .before .before .before .before .before .before .before .before .before .before .before in
+    let down = c .before .before .before .before .before .before .before .before .before .descend in
+    omega (
+      arith,
+      start .good .0 .0,
+      leaf-ends (start .pre .1) (down .ensures .0) (c .before .before .write-leaf .result .now) (c .before
+          .before .write-leaf .ensures .1 .0),
+    )
 
-write-node-returns : (t : ℕ) → write-node-lts.Need-returns (node-calls t) (write-node-at t) write-node.Post
-write-node-returns t c =
-    let leaf = c .before .before in
-    leaf .write-leaf .ensures
+write-node-loop-holds : (t : ℕ) → write-node-lts.Need-loop-holds (node-calls t) (write-node-at t) write-node.Post write-node-Inv-loop
+    write-node-μ-loop
+write-node-loop-holds t c = λ L fits begun. begun
 
-write-node-shared-slice-read-operator : (t : ℕ)
-    → write-node-lts.Need-shared-slice-read-operator (node-calls t) (write-node-at t) write-node.Post
-write-node-shared-slice-read-operator t c =
-    let start = c .before .before .before .before .before .before in
-    omega (arith, node-long (start .pre .1))
+write-node-sub-node : (t : ℕ) → write-node-lts.Need-sub-node (node-calls t) (write-node-at t) write-node.Post write-node-Inv-loop
+    write-node-μ-loop
+write-node-sub-node t c =
+    let turn = c in
+    let o = turn-opens t turn in
+    let f = turn-fits t turn in
+    let k = climbed t turn in
+    let h = turn .loop-test .taken in
+    up-within o f k h
 
-write-node-operator-requires : (t : ℕ) → write-node-lts.Need-operator-requires (node-calls t) (write-node-at t) write-node.Post
-write-node-operator-requires t c κs = search needs
+write-node-pair-first-requires : (t : ℕ) → write-node-lts.Need-pair-first-requires (node-calls t) (write-node-at t) write-node.Post
+    write-node-Inv-loop write-node-μ-loop
+write-node-pair-first-requires t c κs =
+    let turn = c .before .before in
+    let o = turn-opens t turn in
+    let f = turn-fits t turn in
+    let k = climbed t turn in
+    let h = turn .loop-test .taken in
+    (up-longer o f k h, pair-asked o f k h)
 
-write-node-sub-below : (t : ℕ) → write-node-lts.Need-sub-below (node-calls t) (write-node-at t) write-node.Post
-write-node-sub-below t c =
-    let start = c .before .before .before .before .before .before .before in
-    node-long (start .pre .1)
+write-node-front-at-requires : (t : ℕ) → write-node-lts.Need-front-at-requires (node-calls t) (write-node-at t) write-node.Post
+    write-node-Inv-loop write-node-μ-loop
+write-node-front-at-requires t c κs =
+    let turn = c .before .before .before .before .before in
+    let o = turn-opens t turn in
+    let f = turn-fits t turn in
+    let k = climbed t turn in
+    let h = turn .loop-test .taken in
+    up-longer o f k h
 
-write-node-part-below-start : (t : ℕ) → write-node-lts.Need-part-below-start (node-calls t) (write-node-at t) write-node.Post
-write-node-part-below-start t c =
-    let start = c .before .before .before .before .before .before .before in
-    node-long (start .pre .1)
+write-node-sub-place : (t : ℕ) → write-node-lts.Need-sub-place (node-calls t) (write-node-at t) write-node.Post write-node-Inv-loop
+    write-node-μ-loop
+write-node-sub-place t c =
+    let turn = c .before .before .before .before .before .before in
+    let o = turn-opens t turn in
+    let f = turn-fits t turn in
+    let k = climbed t turn in
+    let h = turn .loop-test .taken in
+    omega (arith, c .front-at .ensures, up-front o f k h)
 
-write-node-part-below-end : (t : ℕ) → write-node-lts.Need-part-below-end (node-calls t) (write-node-at t) write-node.Post
-write-node-part-below-end t c = omega arith
+write-node-mul-own : (t : ℕ) → write-node-lts.Need-mul-own (node-calls t) (write-node-at t) write-node.Post write-node-Inv-loop
+    write-node-μ-loop
+write-node-mul-own t c =
+    let turn = c .before .before .before .before .before .before in
+    let o = turn-opens t turn in
+    let f = turn-fits t turn in
+    let k = climbed t turn in
+    let h = turn .loop-test .taken in
+    omega (
+      arith,
+      turn .before .before .before .before .before .before .before .before .before .before .before .before .before .before
+          .before .before .before .good .0 .1,
+      up-longer o f k h,
+    )
 
-write-node-shared-slice-read-widen : (t : ℕ) → write-node-lts.Need-shared-slice-read-widen (node-calls t) (write-node-at t) write-node.Post
+write-node-sub-own : (t : ℕ) → write-node-lts.Need-sub-own (node-calls t) (write-node-at t) write-node.Post write-node-Inv-loop
+    write-node-μ-loop
+write-node-sub-own t c =
+    let turn = c .before .before .before .before .before .before in
+    let o = turn-opens t turn in
+    let f = turn-fits t turn in
+    let k = climbed t turn in
+    let h = turn .loop-test .taken in
+    omega (arith, up-longer o f k h)
+
+write-node-part-own-start : (t : ℕ) → write-node-lts.Need-part-own-start (node-calls t) (write-node-at t) write-node.Post
+    write-node-Inv-loop write-node-μ-loop
+write-node-part-own-start t c =
+    let turn = c .before .before .before .before .before .before in
+    let o = turn-opens t turn in
+    let f = turn-fits t turn in
+    let k = climbed t turn in
+    let h = turn .loop-test .taken in
+    omega (arith, up-longer o f k h)
+
+write-node-part-own-end : (t : ℕ) → write-node-lts.Need-part-own-end (node-calls t) (write-node-at t) write-node.Post write-node-Inv-loop
+    write-node-μ-loop
+write-node-part-own-end t c = omega arith
+
+write-node-shared-slice-read-widen : (t : ℕ) → write-node-lts.Need-shared-slice-read-widen (node-calls t) (write-node-at t)
+    write-node.Post write-node-Inv-loop write-node-μ-loop
 write-node-shared-slice-read-widen t c =
-    let start = c .before .before .before .before .before .before .before .before .before .before .before in
-    omega (arith, node-long (start .pre .1))
+    let turn = c .before .before .before .before .before .before .before .before .before .before in
+    let o = turn-opens t turn in
+    let f = turn-fits t turn in
+    let k = climbed t turn in
+    let h = turn .loop-test .taken in
+    omega (arith, own-long o f k h)
 
-write-node-shared-slice-read-widen-2 : (t : ℕ)
-    → write-node-lts.Need-shared-slice-read-widen-2 (node-calls t) (write-node-at t) write-node.Post
+write-node-shared-slice-read-widen-2 : (t : ℕ) → write-node-lts.Need-shared-slice-read-widen-2 (node-calls t) (write-node-at t)
+    write-node.Post write-node-Inv-loop write-node-μ-loop
 write-node-shared-slice-read-widen-2 t c =
-    let start = c .before .before .before .before .before .before .before .before .before .before .before .before in
-    omega (arith, node-long (start .pre .1))
+    let turn = c .before .before .before .before .before .before .before .before .before .before .before in
+    let o = turn-opens t turn in
+    let f = turn-fits t turn in
+    let k = climbed t turn in
+    let h = turn .loop-test .taken in
+    omega (arith, own-long o f k h)
 
 write-node-widen-requires : (t : ℕ) → write-node-lts.Need-widen-requires (node-calls t) (write-node-at t) write-node.Post
+    write-node-Inv-loop write-node-μ-loop
 write-node-widen-requires t c κs = search needs
 
-write-node-seat-of-left-requires : (t : ℕ) → write-node-lts.Need-seat-of-left-requires (node-calls t) (write-node-at t) write-node.Post
-write-node-seat-of-left-requires t c κs = search needs
+write-node-shared-slice-read-low : (t : ℕ) → write-node-lts.Need-shared-slice-read-low (node-calls t) (write-node-at t) write-node.Post
+    write-node-Inv-loop write-node-μ-loop
+write-node-shared-slice-read-low t c =
+    let turn = c .before .before .before .before .before .before .before .before .before .before .before .before .before in
+    let o = turn-opens t turn in
+    let f = turn-fits t turn in
+    let k = climbed t turn in
+    let h = turn .loop-test .taken in
+    omega (arith, own-long o f k h)
 
-write-node-write-operand-requires : (t : ℕ) → write-node-lts.Need-write-operand-requires (node-calls t) (write-node-at t) write-node.Post
-write-node-write-operand-requires t c κs =
-    let left = c .before .before .before .before in
-    let two = left .before in
-    let op = two .before .before .before .before .before .before .before in
-    let count = op .before .before .before in
-    let start = count .before .before .before .before in
-    let words = start .args .words .now in
-    let fewer = fewer-nodes nodeLength words (omega arith) (node-long (start .pre .1)) in
-    let less : 2 * nodesLeft (tail nodeLength words) + 1 < t = omega (arith, start .pre .0, fewer) in
-    let room =
-    two-left (start .pre .1) (sym (count .low .ensures) ∙ two .if2 .taken) (op .operator .ensures) (left .seat-of-left .result)
-    (left .seat-of-left .ensures)
-    in
-    (less, room)
+write-node-low-requires : (t : ℕ) → write-node-lts.Need-low-requires (node-calls t) (write-node-at t) write-node.Post write-node-Inv-loop
+    write-node-μ-loop
+write-node-low-requires t c κs = search needs
 
 write-node-put-token-requires : (t : ℕ) → write-node-lts.Need-put-token-requires (node-calls t) (write-node-at t) write-node.Post
+    write-node-Inv-loop write-node-μ-loop
 write-node-put-token-requires t c κs =
-    let first = c .before .before .before .before in
-    let left = first .before .before .before .before .before in
-    let two = left .before in
-    let op = two .before .before .before .before .before .before .before in
-    let count = op .before .before .before in
-    let start = count .before .before .before .before in
-    let room =
-    two-token (start .pre .1) (sym (count .low .ensures) ∙ two .if2 .taken) (op .operator .ensures) (left .seat-of-left .result)
-    (left .seat-of-left .ensures) (first .write-operand .result .now) (first .write-operand .last .1 .1 .0)
-    (first .write-operand .last .1 .1 .1 .0) (first .write-operand .ensures .1)
-    in
-    (omega (arith, node-long (start .pre .1)), room)
+    let turn = c .before .before .before .before .before .before .before .before .before .before .before .before .before .before .before
+    .before .before in
+    let o = turn-opens t turn in
+    let f = turn-fits t turn in
+    let k = climbed t turn in
+    let h = turn .loop-test .taken in
+    let W = turn .before .before .before .before .before .before .before .before .before .before .before .before .before .before .before
+    .before .before .args .words .now in
+    let n = turn .before .loop .node - nodeLength in
+    let pair = c .before .before .before .before .before .before .before .before .before .before .before .before .before .before
+    .pair-first in
+    let two = sym (count-here n W) ∙ (sym (c .before .before .before .low .ensures) ∙ c .before .before .if1 .taken) in (
+      omega (arith, own-long o f k h),
+      between-room o f k h (pair .last .1 .1 .1 .1 .1 .0) (pair .last .1 .1 .1 .1 .1 .1 .0) (pair .ensures
+          .0) (pair .ensures .1) two,
+    )
 
-write-node-add-next : (t : ℕ) → write-node-lts.Need-add-next (node-calls t) (write-node-at t) write-node.Post
-write-node-add-next t c =
-    let start = c .before .before .before .before .before .before .before .before .before .before .before .before .before .before .before
-    .before .before .before .before .before .before .before .before .before .before .before .before in
-    omega (arith, start .good .0 .0, left-ends t (c .before .before .before .before .before .before .before))
+write-node-mul-below : (t : ℕ) → write-node-lts.Need-mul-below (node-calls t) (write-node-at t) write-node.Post write-node-Inv-loop
+    write-node-μ-loop
+write-node-mul-below t c =
+    let turn = c .before .before .before .before .before .before .before .before .before .before .before .before .before .before .before
+    .before .before .before .before .before in
+    let o = turn-opens t turn in
+    let f = turn-fits t turn in
+    let k = climbed t turn in
+    let h = turn .loop-test .taken in
+    let W = turn .before .before .before .before .before .before .before .before .before .before .before .before .before .before .before
+    .before .before .args .words .now in
+    let n = turn .before .loop .node - nodeLength in
+    let pair = c .before .before .before .before .before .before .before .before .before .before .before .before .before .before .before
+    .before .before .pair-first in
+    let two = sym (count-here n W) ∙ (sym (c .before .before .before .before .before .before .low .ensures) ∙ c .before .before .before
+    .before .before .if1 .taken) in
+    omega (
+      arith,
+      turn .before .before .before .before .before .before .before .before .before .before .before .before .before .before
+          .before .before .before .good .0 .1,
+      next-within o f k h (pair .last .1 .1 .1 .1 .1 .0) (pair .last .1 .1 .1 .1 .1 .1 .0) (pair
+          .ensures .0) (pair .ensures .1) two,
+    )
 
-write-node-mul-write-operand : (t : ℕ) → write-node-lts.Need-mul-write-operand (node-calls t) (write-node-at t) write-node.Post
-write-node-mul-write-operand t c =
-    let start = c .before .before .before .before .before .before .before .before .before .before .before .before .before .before .before
-    .before .before .before .before .before .before .before .before .before .before .before .before in
-    omega (arith, start .good .0 .1, left-ends t (c .before .before .before .before .before .before .before))
+write-node-sub-below : (t : ℕ) → write-node-lts.Need-sub-below (node-calls t) (write-node-at t) write-node.Post write-node-Inv-loop
+    write-node-μ-loop
+write-node-sub-below t c =
+    let turn = c .before .before .before .before .before .before .before .before .before .before .before .before .before .before .before
+    .before .before .before .before .before in
+    let o = turn-opens t turn in
+    let f = turn-fits t turn in
+    let k = climbed t turn in
+    let h = turn .loop-test .taken in
+    let W = turn .before .before .before .before .before .before .before .before .before .before .before .before .before .before .before
+    .before .before .args .words .now in
+    let n = turn .before .loop .node - nodeLength in
+    let pair = c .before .before .before .before .before .before .before .before .before .before .before .before .before .before .before
+    .before .before .pair-first in
+    let two = sym (count-here n W) ∙ (sym (c .before .before .before .before .before .before .low .ensures) ∙ c .before .before .before
+    .before .before .if1 .taken) in
+    next-within o f k h (pair .last .1 .1 .1 .1 .1 .0) (pair .last .1 .1 .1 .1 .1 .1 .0) (pair .ensures .0) (pair .ensures .1) two
 
-write-node-sub-write-operand : (t : ℕ) → write-node-lts.Need-sub-write-operand (node-calls t) (write-node-at t) write-node.Post
-write-node-sub-write-operand t c =
-    left-ends t (c .before .before .before .before .before .before .before)
+write-node-part-below-start : (t : ℕ) → write-node-lts.Need-part-below-start (node-calls t) (write-node-at t) write-node.Post
+    write-node-Inv-loop write-node-μ-loop
+write-node-part-below-start t c =
+    let turn = c .before .before .before .before .before .before .before .before .before .before .before .before .before .before .before
+    .before .before .before .before .before in
+    let o = turn-opens t turn in
+    let f = turn-fits t turn in
+    let k = climbed t turn in
+    let h = turn .loop-test .taken in
+    let W = turn .before .before .before .before .before .before .before .before .before .before .before .before .before .before .before
+    .before .before .args .words .now in
+    let n = turn .before .loop .node - nodeLength in
+    let pair = c .before .before .before .before .before .before .before .before .before .before .before .before .before .before .before
+    .before .before .pair-first in
+    let two = sym (count-here n W) ∙ (sym (c .before .before .before .before .before .before .low .ensures) ∙ c .before .before .before
+    .before .before .if1 .taken) in
+    next-within o f k h (pair .last .1 .1 .1 .1 .1 .0) (pair .last .1 .1 .1 .1 .1 .1 .0) (pair .ensures .0) (pair .ensures .1) two
 
-write-node-part-write-operand-start : (t : ℕ)
-    → write-node-lts.Need-part-write-operand-start (node-calls t) (write-node-at t) write-node.Post
-write-node-part-write-operand-start t c =
-    left-ends t (c .before .before .before .before .before .before .before)
+write-node-part-below-end : (t : ℕ) → write-node-lts.Need-part-below-end (node-calls t) (write-node-at t) write-node.Post
+    write-node-Inv-loop write-node-μ-loop
+write-node-part-below-end t c = omega arith
 
-write-node-part-write-operand-end : (t : ℕ) → write-node-lts.Need-part-write-operand-end (node-calls t) (write-node-at t) write-node.Post
-write-node-part-write-operand-end t c = omega arith
+write-node-shared-slice-read-low-2 : (t : ℕ) → write-node-lts.Need-shared-slice-read-low-2 (node-calls t) (write-node-at t)
+    write-node.Post write-node-Inv-loop write-node-μ-loop
+write-node-shared-slice-read-low-2 t c =
+    let turn = c .before .before .before .before .before .before .before .before .before .before .before .before .before .before .before
+    .before .before .before .before .before .before .before in
+    let o = turn-opens t turn in
+    let f = turn-fits t turn in
+    let k = climbed t turn in
+    let h = turn .loop-test .taken in
+    let W = turn .before .before .before .before .before .before .before .before .before .before .before .before .before .before .before
+    .before .before .args .words .now in
+    let n = turn .before .loop .node - nodeLength in
+    let pair = c .before .before .before .before .before .before .before .before .before .before .before .before .before .before .before
+    .before .before .before .before .pair-first in
+    let two = sym (count-here n W) ∙ (sym (c .before .before .before .before .before .before .before .before .low .ensures) ∙ c .before
+    .before .before .before .before .before .before .if1 .taken) in
+    let token = c .before .before .before .before .put-token in
+    let q = rightSeat (operatorOf (getD (drop n W) 0 0)) in
+    let room = right-room o f k h (pair .last .1 .1 .1 .1 .1 .0) (pair .last .1 .1 .1 .1 .1 .1 .0) (pair .ensures .0) (pair .ensures .1)
+    two (token .last .1 .0) (token .last .1 .1 .0) (rw (tail-part n W) at (token .ensures)) q refl in
+    omega (arith, operand-long q room)
+
+write-node-low-requires-2 : (t : ℕ) → write-node-lts.Need-low-requires-2 (node-calls t) (write-node-at t) write-node.Post
+    write-node-Inv-loop write-node-μ-loop
+write-node-low-requires-2 t c κs = search needs
+
+write-node-write-leaf-requires-2 : (t : ℕ) → write-node-lts.Need-write-leaf-requires-2 (node-calls t) (write-node-at t) write-node.Post
+    write-node-Inv-loop write-node-μ-loop
+write-node-write-leaf-requires-2 t c κs =
+    let turn = c .before .before .before .before .before .before .before .before .before .before .before .before .before .before .before
+    .before .before .before .before .before .before .before .before .before .before .before .before .before in
+    let o = turn-opens t turn in
+    let f = turn-fits t turn in
+    let k = climbed t turn in
+    let h = turn .loop-test .taken in
+    let W = turn .before .before .before .before .before .before .before .before .before .before .before .before .before .before .before
+    .before .before .args .words .now in
+    let n = turn .before .loop .node - nodeLength in
+    let pair = c .before .before .before .before .before .before .before .before .before .before .before .before .before .before .before
+    .before .before .before .before .before .before .before .before .before .before .pair-first in
+    let two = sym (count-here n W) ∙ (sym (c .before .before .before .before .before .before .before .before .before .before .before
+    .before .before .before .low .ensures) ∙ c .before .before .before .before .before .before .before .before .before .before .before
+    .before .before .if1 .taken) in
+    let token = c .before .before .before .before .before .before .before .before .before .before .put-token in
+    let q = rightSeat (operatorOf (getD (drop n W) 0 0)) in
+    let room = right-room o f k h (pair .last .1 .1 .1 .1 .1 .0) (pair .last .1 .1 .1 .1 .1 .1 .0) (pair .ensures .0) (pair .ensures .1)
+    two (token .last .1 .0) (token .last .1 .1 .0) (rw (tail-part n W) at (token .ensures)) q refl in
+    let none = sym (c .before .before .before .before .before .low2 .ensures) ∙ c .before .before .before .before .if2 .taken in
+    let alone = leaf-unpaired q _ _ none in
+    (alone-room q room alone, none)
+
+write-node-add-next-2 : (t : ℕ) → write-node-lts.Need-add-next-2 (node-calls t) (write-node-at t) write-node.Post write-node-Inv-loop
+    write-node-μ-loop
+write-node-add-next-2 t c =
+    let turn = c .before .before .before .before .before .before .before .before .before .before .before .before .before .before .before
+    .before .before .before .before .before .before .before .before .before .before .before .before .before .before .before .before in
+    let o = turn-opens t turn in
+    let f = turn-fits t turn in
+    let k = climbed t turn in
+    let h = turn .loop-test .taken in
+    let W = turn .before .before .before .before .before .before .before .before .before .before .before .before .before .before .before
+    .before .before .args .words .now in
+    let n = turn .before .loop .node - nodeLength in
+    let pair = c .before .before .before .before .before .before .before .before .before .before .before .before .before .before .before
+    .before .before .before .before .before .before .before .before .before .before .before .before .before .pair-first in
+    let two = sym (count-here n W) ∙ (sym (c .before .before .before .before .before .before .before .before .before .before .before
+    .before .before .before .before .before .before .low .ensures) ∙ c .before .before .before .before .before .before .before .before
+    .before .before .before .before .before .before .before .before .if1 .taken) in
+    let token = c .before .before .before .before .before .before .before .before .before .before .before .before .before .put-token in
+    let q = rightSeat (operatorOf (getD (drop n W) 0 0)) in
+    let room = right-room o f k h (pair .last .1 .1 .1 .1 .1 .0) (pair .last .1 .1 .1 .1 .1 .1 .0) (pair .ensures .0) (pair .ensures .1)
+    two (token .last .1 .0) (token .last .1 .1 .0) (rw (tail-part n W) at (token .ensures)) q refl in
+    let none = sym (c .before .before .before .before .before .before .before .before .low2 .ensures) ∙ c .before .before .before .before
+    .before .before .before .if2 .taken in
+    let alone = leaf-unpaired q _ _ none in
+    let written = c .before .before .write-leaf2 in
+    omega (
+      arith,
+      turn .before .before .before .before .before .before .before .before .before .before .before .before .before .before
+          .before .before .before .good .0 .0,
+      next-ends o f k h (pair .last .1 .1 .1 .1 .1 .0) (pair .last .1 .1 .1 .1 .1 .1 .0) (pair .ensures
+          .0) (pair .ensures .1) two (token .last .1 .0) (token .last .1 .1 .0) (rw (tail-part n W) at (token .ensures)) q refl (written .result
+          .now) (written .last .1 .0) (written .last .1 .1 .0) (alone-writes q room alone (written .result .now) (written .last .1 .0) (written
+          .last .1 .1 .0) (written .ensures .1)),
+    )
+
+write-node-loop-less : (t : ℕ) → write-node-lts.Need-loop-less (node-calls t) (write-node-at t) write-node.Post write-node-Inv-loop
+    write-node-μ-loop
+write-node-loop-less t c =
+    let turn = c .before .before .before .before .before .before .before .before .before .before .before .before .before .before .before
+    .before .before .before .before .before .before .before .before .before .before .before .before .before .before .before .before in
+    let o = turn-opens t turn in
+    let f = turn-fits t turn in
+    let k = climbed t turn in
+    let h = turn .loop-test .taken in
+    omega (arith, up-within o f k h)
+
+write-node-loop-again : (t : ℕ) → write-node-lts.Need-loop-again (node-calls t) (write-node-at t) write-node.Post write-node-Inv-loop
+    write-node-μ-loop
+write-node-loop-again t c =
+    let turn = c .before .before .before .before .before .before .before .before .before .before .before .before .before .before .before
+    .before .before .before .before .before .before .before .before .before .before .before .before .before .before .before .before in
+    let o = turn-opens t turn in
+    let f = turn-fits t turn in
+    let k = climbed t turn in
+    let h = turn .loop-test .taken in
+    let W = turn .before .before .before .before .before .before .before .before .before .before .before .before .before .before .before
+    .before .before .args .words .now in
+    let n = turn .before .loop .node - nodeLength in
+    let pair = c .before .before .before .before .before .before .before .before .before .before .before .before .before .before .before
+    .before .before .before .before .before .before .before .before .before .before .before .before .before .pair-first in
+    let front = c .before .before .before .before .before .before .before .before .before .before .before .before .before .before .before
+    .before .before .before .before .before .before .before .before .before .before .front-at in
+    let own = c .before .before .before .before .before .before .before .before .before .before .before .before .before .before .before
+    .before .before .before .before .widen in
+    let two = sym (count-here n W) ∙ (sym (c .before .before .before .before .before .before .before .before .before .before .before
+    .before .before .before .before .before .before .low .ensures) ∙ c .before .before .before .before .before .before .before .before
+    .before .before .before .before .before .before .before .before .if1 .taken) in
+    let token = c .before .before .before .before .before .before .before .before .before .before .before .before .before .put-token in
+    let q = rightSeat (operatorOf (getD (drop n W) 0 0)) in
+    let room = right-room o f k h (pair .last .1 .1 .1 .1 .1 .0) (pair .last .1 .1 .1 .1 .1 .1 .0) (pair .ensures .0) (pair .ensures .1)
+    two (token .last .1 .0) (token .last .1 .1 .0) (rw (tail-part n W) at (token .ensures)) q refl in
+    let none = sym (c .before .before .before .before .before .before .before .before .low2 .ensures) ∙ c .before .before .before .before
+    .before .before .before .if2 .taken in
+    let alone = leaf-unpaired q _ _ none in
+    let written = c .before .before .write-leaf2 in
+    λ L fits begun. rw (front .ensures)
+    (climbed-two o fits (turn .before .loop .inv L fits begun) h (pair .last .1 .1 .1 .1 .1 .0) (pair .last .1 .1 .1 .1 .1 .1 .0) (pair
+    .ensures .0) (pair .ensures .1) two (token .last .1 .0) (token .last .1 .1 .0) (rw (tail-part n W) at (token .ensures)) q refl
+    (written .result .now) (written .last .1 .0) (written .last .1 .1 .0) (alone-writes q room alone (written .result .now) (written .last
+    .1 .0) (written .last .1 .1 .0) (written .ensures .1)) (own .last .0) (own .last .1 .0) (written .last .1 .1 .1 .0) (written .last .1
+    .1 .1 .1 .0) (rw (tail-part n W) at (own .ensures)) (written .ensures .0))
+
+write-node-shared-slice-read-operator : (t : ℕ) → write-node-lts.Need-shared-slice-read-operator (node-calls t) (write-node-at t)
+    write-node.Post write-node-Inv-loop write-node-μ-loop
+write-node-shared-slice-read-operator t c =
+    let turn = c .before .before .before .before .before .before .before .before .before .before .before .before .before .before .before
+    .before .before .before .before .before .before .before .before .before .before in
+    let o = turn-opens t turn in
+    let f = turn-fits t turn in
+    let k = climbed t turn in
+    let h = turn .loop-test .taken in
+    omega (arith, own-long o f k h)
+
+write-node-operator-requires : (t : ℕ) → write-node-lts.Need-operator-requires (node-calls t) (write-node-at t) write-node.Post
+    write-node-Inv-loop write-node-μ-loop
+write-node-operator-requires t c κs = search needs
 
 write-node-seat-of-right-requires : (t : ℕ) → write-node-lts.Need-seat-of-right-requires (node-calls t) (write-node-at t) write-node.Post
+    write-node-Inv-loop write-node-μ-loop
 write-node-seat-of-right-requires t c κs = search needs
 
-write-node-write-operand-requires-2 : (t : ℕ)
-    → write-node-lts.Need-write-operand-requires-2 (node-calls t) (write-node-at t) write-node.Post
-write-node-write-operand-requires-2 t c κs =
-    let right = c .before .before .before .before in
-    let token = right .before .before .before .before in
-    let first = token .before .before .before .before .before in
-    let left = first .before .before .before .before .before in
-    let two = left .before in
-    let op = two .before .before .before .before .before .before .before in
-    let count = op .before .before .before in
-    let start = count .before .before .before .before in
-    let words = start .args .words .now in
-    let next = nodeLength + length (first .write-operand .result .now) in
-    let fewer = fewer-nodes next words (omega arith) (node-long (start .pre .1)) in
-    let less : 2 * nodesLeft (tail next words) + 1 < t = omega (arith, start .pre .0, fewer) in
-    let room =
-    two-right (start .pre .1) (sym (count .low .ensures) ∙ two .if2 .taken) (op .operator .ensures) (left .seat-of-left .result)
-    (left .seat-of-left .ensures) (first .write-operand .result .now) (first .write-operand .last .1 .1 .0)
-    (first .write-operand .last .1 .1 .1 .0) (first .write-operand .ensures .1) (token .put-token .last .1 .0)
-    (token .put-token .last .1 .1 .0) (token .put-token .ensures) (right .seat-of-right .result) (right .seat-of-right .ensures)
-    in
-    (less, room)
+write-node-write-operand-requires : (t : ℕ) → write-node-lts.Need-write-operand-requires (node-calls t) (write-node-at t) write-node.Post
+    write-node-Inv-loop write-node-μ-loop
+write-node-write-operand-requires t c κs =
+    let turn = c .before .before .before .before .before .before .before .before .before .before .before .before .before .before .before
+    .before .before .before .before .before .before .before .before .before .before .before .before .before .before .before .before in
+    let o = turn-opens t turn in
+    let f = turn-fits t turn in
+    let k = climbed t turn in
+    let h = turn .loop-test .taken in
+    let W = turn .before .before .before .before .before .before .before .before .before .before .before .before .before .before .before
+    .before .before .args .words .now in
+    let n = turn .before .loop .node - nodeLength in
+    let pair = c .before .before .before .before .before .before .before .before .before .before .before .before .before .before .before
+    .before .before .before .before .before .before .before .before .before .before .before .before .before .pair-first in
+    let two = sym (count-here n W) ∙ (sym (c .before .before .before .before .before .before .before .before .before .before .before
+    .before .before .before .before .before .before .low .ensures) ∙ c .before .before .before .before .before .before .before .before
+    .before .before .before .before .before .before .before .before .if1 .taken) in
+    let token = c .before .before .before .before .before .before .before .before .before .before .before .before .before .put-token in
+    let seat = c .before .before .before .before .seat-of-right in
+    let right = seat .ensures ∙ ap rightSeat (c .before .before .before .before .before .operator .ensures ∙ operator-in n W) in (
+      omega (
+        arith,
+        turn .before .before .before .before .before .before .before .before .before .before .before .before .before .before
+            .before .before .before .pre .0,
+        right-fewer o f k h (pair .last .1 .1 .1 .1 .1 .0) (pair .last .1 .1 .1 .1 .1 .1 .0) (pair .ensures
+            .0) (pair .ensures .1) two,
+      ),
+      right-room o f k h (pair .last .1 .1 .1 .1 .1 .0) (pair .last .1 .1 .1 .1 .1 .1 .0) (pair .ensures .0)
+          (pair .ensures .1) two (token .last .1 .0) (token .last .1 .1 .0) (rw (tail-part n W) at (token .ensures)) (seat .result) right,
+    )
 
-write-node-add-result : (t : ℕ) → write-node-lts.Need-add-result (node-calls t) (write-node-at t) write-node.Post
-write-node-add-result t c =
-    let start = c .before .before .before .before .before .before .before .before .before .before .before .before .before .before .before
+write-node-add-next-3 : (t : ℕ) → write-node-lts.Need-add-next-3 (node-calls t) (write-node-at t) write-node.Post write-node-Inv-loop
+    write-node-μ-loop
+write-node-add-next-3 t c =
+    let turn = c .before .before .before .before .before .before .before .before .before .before .before .before .before .before .before
     .before .before .before .before .before .before .before .before .before .before .before .before .before .before .before .before
-    .before .before .before .before .before in
-    omega (arith, start .good .0 .0, right-ends t (c .before .before))
-
-write-node-slice-aggregate-result : (t : ℕ) → write-node-lts.Need-slice-aggregate-result (node-calls t) (write-node-at t) write-node.Post
-write-node-slice-aggregate-result t c =
-    let second = c .before .before .before in
-    let first = second .before .before .before .before .before .before .before .before .before .before .before .before .before .before in
-    let start = first .before .before .before .before .before .before .before .before .before .before .before .before .before .before
     .before .before .before .before .before .before in
-    let both = nodeLength + length (first .write-operand .result .now) + length (second .write-operand2 .result .now) in
-    sym (length-take-le both (start .args .words .now) (right-ends t (c .before .before .before)))
+    let o = turn-opens t turn in
+    let f = turn-fits t turn in
+    let k = climbed t turn in
+    let h = turn .loop-test .taken in
+    let W = turn .before .before .before .before .before .before .before .before .before .before .before .before .before .before .before
+    .before .before .args .words .now in
+    let n = turn .before .loop .node - nodeLength in
+    let pair = c .before .before .before .before .before .before .before .before .before .before .before .before .before .before .before
+    .before .before .before .before .before .before .before .before .before .before .before .before .before .before .before .before
+    .before .before .before .pair-first in
+    let two = sym (count-here n W) ∙ (sym (c .before .before .before .before .before .before .before .before .before .before .before
+    .before .before .before .before .before .before .before .before .before .before .before .before .low .ensures) ∙ c .before .before
+    .before .before .before .before .before .before .before .before .before .before .before .before .before .before .before .before
+    .before .before .before .before .if1 .taken) in
+    let token = c .before .before .before .before .before .before .before .before .before .before .before .before .before .before .before
+    .before .before .before .before .put-token in
+    let seat = c .before .before .before .before .before .before .before .before .before .before .seat-of-right in
+    let right = seat .ensures ∙ ap rightSeat (c .before .before .before .before .before .before .before .before .before .before .before
+    .operator .ensures ∙ operator-in n W) in
+    let written = c .before .before .before .before .before .write-operand in
+    omega (
+      arith,
+      turn .before .before .before .before .before .before .before .before .before .before .before .before .before .before
+          .before .before .before .good .0 .0,
+      next-ends o f k h (pair .last .1 .1 .1 .1 .1 .0) (pair .last .1 .1 .1 .1 .1 .1 .0) (pair .ensures
+          .0) (pair .ensures .1) two (token .last .1 .0) (token .last .1 .1 .0) (rw (tail-part n W) at (token .ensures)) (seat .result) right
+          (written .result .now) (written .last .1 .1 .0) (written .last .1 .1 .1 .0) (written .ensures .1),
+    )
 
-write-node-same-length-2 : (t : ℕ) → write-node-lts.Need-same-length-2 (node-calls t) (write-node-at t) write-node.Post
-write-node-same-length-2 t c =
-    let second = c .before .before .before in
-    let right = second .before .before .before .before .before in
-    let token = right .before .before .before .before in
-    let first = token .before .before .before .before .before in
-    let left = first .before .before .before .before .before in
-    let two = left .before in
-    let op = two .before .before .before .before .before .before .before in
-    let count = op .before .before .before in
-    let start = count .before .before .before .before in
-    two-length (start .pre .1) (sym (count .low .ensures) ∙ two .if2 .taken) (op .operator .ensures) (left .seat-of-left .result)
-    (left .seat-of-left .ensures) (first .write-operand .result .now) (first .write-operand .last .1 .1 .0)
-    (first .write-operand .last .1 .1 .1 .0) (first .write-operand .ensures .1) (token .put-token .last .1 .0)
-    (token .put-token .last .1 .1 .0) (token .put-token .ensures) (right .seat-of-right .result) (right .seat-of-right .ensures)
-    (second .write-operand2 .result .now) (second .write-operand2 .last .1 .1 .0) (second .write-operand2 .last .1 .1 .1 .0)
-    (second .write-operand2 .ensures .1)
+write-node-loop-less-2 : (t : ℕ) → write-node-lts.Need-loop-less-2 (node-calls t) (write-node-at t) write-node.Post write-node-Inv-loop
+    write-node-μ-loop
+write-node-loop-less-2 t c =
+    let turn = c .before .before .before .before .before .before .before .before .before .before .before .before .before .before .before
+    .before .before .before .before .before .before .before .before .before .before .before .before .before .before .before .before
+    .before .before .before .before .before .before in
+    let o = turn-opens t turn in
+    let f = turn-fits t turn in
+    let k = climbed t turn in
+    let h = turn .loop-test .taken in
+    omega (arith, up-within o f k h)
 
-write-node-returns-2 : (t : ℕ) → write-node-lts.Need-returns-2 (node-calls t) (write-node-at t) write-node.Post
-write-node-returns-2 t c =
-    let second = c .before .before .before in
-    let right = second .before .before .before .before .before in
-    let token = right .before .before .before .before in
-    let first = token .before .before .before .before .before in
-    let left = first .before .before .before .before .before in
-    let two = left .before in
-    let own = two .before in
-    let op = own .before .before .before .before .before .before in
-    let count = op .before .before .before in
-    let start = count .before .before .before .before in
-    let first-seen = seen (first .write-operand .last .1 .1 .1 .1 .0) (first .write-operand .last .1 .1 .1 .1 .1 .0) in
-    let second-seen = seen (second .write-operand2 .last .1 .1 .1 .1 .0) (second .write-operand2 .last .1 .1 .1 .1 .1 .0) in
-    let spans =
-    two-spans (start .pre .1) (sym (count .low .ensures) ∙ two .if2 .taken) (op .operator .ensures) (left .seat-of-left .result)
-    (left .seat-of-left .ensures) (first .write-operand .result .now) (first .write-operand .last .1 .1 .0)
-    (first .write-operand .last .1 .1 .1 .0) (first .write-operand .ensures .1) (token .put-token .last .1 .0)
-    (token .put-token .last .1 .1 .0) (token .put-token .ensures) (right .seat-of-right .result) (right .seat-of-right .ensures)
-    (second .write-operand2 .result .now) (second .write-operand2 .last .1 .1 .0) (second .write-operand2 .last .1 .1 .1 .0)
-    (second .write-operand2 .ensures .1) (seen (start .args .low .now) (start .args .high .now))
-    (seen (own .widen .last .0) (own .widen .last .1 .0)) first-seen second-seen (own .widen .ensures) (first .write-operand .ensures .0)
-    (second .write-operand2 .ensures .0)
-    in
-    let writes =
-    two-writes (start .pre .1) (sym (count .low .ensures) ∙ two .if2 .taken) (op .operator .ensures) (left .seat-of-left .result)
-    (left .seat-of-left .ensures) (first .write-operand .result .now) (first .write-operand .last .1 .1 .0)
-    (first .write-operand .last .1 .1 .1 .0) (first .write-operand .ensures .1) (token .put-token .last .1 .0)
-    (token .put-token .last .1 .1 .0) (token .put-token .ensures) (right .seat-of-right .result) (right .seat-of-right .ensures)
-    (second .write-operand2 .result .now) (second .write-operand2 .last .1 .1 .0) (second .write-operand2 .last .1 .1 .1 .0)
-    (second .write-operand2 .ensures .1)
-    in
-    (spans, writes)
+write-node-loop-again-2 : (t : ℕ) → write-node-lts.Need-loop-again-2 (node-calls t) (write-node-at t) write-node.Post write-node-Inv-loop
+    write-node-μ-loop
+write-node-loop-again-2 t c =
+    let turn = c .before .before .before .before .before .before .before .before .before .before .before .before .before .before .before
+    .before .before .before .before .before .before .before .before .before .before .before .before .before .before .before .before
+    .before .before .before .before .before .before in
+    let o = turn-opens t turn in
+    let f = turn-fits t turn in
+    let k = climbed t turn in
+    let h = turn .loop-test .taken in
+    let W = turn .before .before .before .before .before .before .before .before .before .before .before .before .before .before .before
+    .before .before .args .words .now in
+    let n = turn .before .loop .node - nodeLength in
+    let pair = c .before .before .before .before .before .before .before .before .before .before .before .before .before .before .before
+    .before .before .before .before .before .before .before .before .before .before .before .before .before .before .before .before
+    .before .before .before .pair-first in
+    let front = c .before .before .before .before .before .before .before .before .before .before .before .before .before .before .before
+    .before .before .before .before .before .before .before .before .before .before .before .before .before .before .before .before
+    .front-at in
+    let own = c .before .before .before .before .before .before .before .before .before .before .before .before .before .before .before
+    .before .before .before .before .before .before .before .before .before .before .widen in
+    let two = sym (count-here n W) ∙ (sym (c .before .before .before .before .before .before .before .before .before .before .before
+    .before .before .before .before .before .before .before .before .before .before .before .before .low .ensures) ∙ c .before .before
+    .before .before .before .before .before .before .before .before .before .before .before .before .before .before .before .before
+    .before .before .before .before .if1 .taken) in
+    let token = c .before .before .before .before .before .before .before .before .before .before .before .before .before .before .before
+    .before .before .before .before .put-token in
+    let seat = c .before .before .before .before .before .before .before .before .before .before .seat-of-right in
+    let right = seat .ensures ∙ ap rightSeat (c .before .before .before .before .before .before .before .before .before .before .before
+    .operator .ensures ∙ operator-in n W) in
+    let written = c .before .before .before .before .before .write-operand in
+    λ L fits begun. rw (front .ensures)
+    (climbed-two o fits (turn .before .loop .inv L fits begun) h (pair .last .1 .1 .1 .1 .1 .0) (pair .last .1 .1 .1 .1 .1 .1 .0) (pair
+    .ensures .0) (pair .ensures .1) two (token .last .1 .0) (token .last .1 .1 .0) (rw (tail-part n W) at (token .ensures)) (seat .result)
+    right (written .result .now) (written .last .1 .1 .0) (written .last .1 .1 .1 .0) (written .ensures .1) (own .last .0) (own .last .1
+    .0) (written .last .1 .1 .1 .1 .0) (written .last .1 .1 .1 .1 .1 .0) (rw (tail-part n W) at (own .ensures)) (written .ensures .0))
 
-write-node-put-token-requires-2 : (t : ℕ) → write-node-lts.Need-put-token-requires-2 (node-calls t) (write-node-at t) write-node.Post
-write-node-put-token-requires-2 t c κs =
-    let one = c .before .before in
-    let some = one .before .before .before .before .before .before .before .before .before in
-    let count = some .before in
-    let start = count .before .before .before .before in
-    let room =
-    one-token (start .pre .1) (λ e. one .if2 .left (count .low .ensures ∙ e)) (λ e. some .if1 .left (count .low .ensures ∙ e))
-    in
-    (omega (arith, node-long (start .pre .1)), room)
+write-node-at-requires : (t : ℕ) → write-node-lts.Need-at-requires (node-calls t) (write-node-at t) write-node.Post write-node-Inv-loop
+    write-node-μ-loop
+write-node-at-requires t c κs =
+    let turn = c .before .before .before .before .before .before .before .before .before .before .before .before .before .before .before in
+    let o = turn-opens t turn in
+    let f = turn-fits t turn in
+    let k = climbed t turn in
+    let h = turn .loop-test .taken in
+    omega (arith, own-long o f k h)
 
-write-node-seat-of-only-requires : (t : ℕ) → write-node-lts.Need-seat-of-only-requires (node-calls t) (write-node-at t) write-node.Post
-write-node-seat-of-only-requires t c κs = search needs
-
-write-node-write-operand-requires-3 : (t : ℕ)
-    → write-node-lts.Need-write-operand-requires-3 (node-calls t) (write-node-at t) write-node.Post
-write-node-write-operand-requires-3 t c κs =
-    let only = c .before .before .before .before in
-    let opener = only .before .before .before in
-    let one = opener .before .before .before in
-    let op = one .before .before .before .before .before .before .before in
-    let some = op .before .before in
-    let count = some .before in
-    let start = count .before .before .before .before in
-    let words = start .args .words .now in
-    let fewer = fewer-nodes nodeLength words (omega arith) (node-long (start .pre .1)) in
-    let less : 2 * nodesLeft (tail nodeLength words) + 1 < t = omega (arith, start .pre .0, fewer) in
-    let room =
-    one-only (start .pre .1) (λ e. one .if2 .left (count .low .ensures ∙ e)) (λ e. some .if1 .left (count .low .ensures ∙ e))
-    (op .operator .ensures) (only .seat-of-only .result) (only .seat-of-only .ensures) (opener .put-token2 .last .1 .0)
-    (opener .put-token2 .last .1 .1 .0) (opener .put-token2 .ensures)
-    in
-    (less, room)
+write-node-lay-requires : (t : ℕ) → write-node-lts.Need-lay-requires (node-calls t) (write-node-at t) write-node.Post write-node-Inv-loop
+    write-node-μ-loop
+write-node-lay-requires t c κs =
+    let turn = c .before .before .before .before .before .before .before .before .before .before .before .before .before .before .before
+    .before .before in
+    let o = turn-opens t turn in
+    let f = turn-fits t turn in
+    let k = climbed t turn in
+    let h = turn .loop-test .taken in
+    let W = turn .before .before .before .before .before .before .before .before .before .before .before .before .before .before .before
+    .before .before .args .words .now in
+    let n = turn .before .loop .node - nodeLength in
+    let pair = c .before .before .before .before .before .before .before .before .before .before .before .before .before .before
+    .pair-first in
+    let front = c .before .before .before .before .before .before .before .before .before .before .before .front-at in
+    let one : lowOf (getD (drop n W) countIndex 0) ≡ 2 → ⊥ = λ e. c .before .before .if1 .left (c .before .before .before .low .ensures ∙
+    (count-here n W ∙ e)) in
+    rw (front .ensures) (token-room o f k h (pair .last .1 .1 .1 .1 .1 .0) (pair .last .1 .1 .1 .1 .1 .1 .0) (pair .ensures .0) (pair
+    .ensures .1) one)
 
 write-node-put-closer-requires : (t : ℕ) → write-node-lts.Need-put-closer-requires (node-calls t) (write-node-at t) write-node.Post
+    write-node-Inv-loop write-node-μ-loop
 write-node-put-closer-requires t c κs =
-    let child = c .before .before .before .before in
-    let only = child .before .before .before .before .before in
-    let opener = only .before .before .before in
-    let one = opener .before .before .before in
-    let op = one .before .before .before .before .before .before .before in
-    let some = op .before .before in
-    let count = some .before in
-    let start = count .before .before .before .before in
-    let room =
-    one-closer (start .pre .1) (λ e. one .if2 .left (count .low .ensures ∙ e)) (λ e. some .if1 .left (count .low .ensures ∙ e))
-    (op .operator .ensures) (only .seat-of-only .result) (only .seat-of-only .ensures) (opener .put-token2 .last .1 .0)
-    (opener .put-token2 .last .1 .1 .0) (opener .put-token2 .ensures) (child .write-operand3 .result .now)
-    (child .write-operand3 .last .1 .1 .0) (child .write-operand3 .last .1 .1 .1 .0) (child .write-operand3 .ensures .1)
-    in
-    (node-long (start .pre .1), room)
+    let turn = c .before .before .before .before .before .before .before .before .before .before .before .before .before .before .before
+    .before .before .before .before .before .before .before in
+    let o = turn-opens t turn in
+    let f = turn-fits t turn in
+    let k = climbed t turn in
+    let h = turn .loop-test .taken in
+    let W = turn .before .before .before .before .before .before .before .before .before .before .before .before .before .before .before
+    .before .before .args .words .now in
+    let n = turn .before .loop .node - nodeLength in
+    let pair = c .before .before .before .before .before .before .before .before .before .before .before .before .before .before .before
+    .before .before .before .before .pair-first in
+    let front = c .before .before .before .before .before .before .before .before .before .before .before .before .before .before .before
+    .before .front-at in
+    let one : lowOf (getD (drop n W) countIndex 0) ≡ 2 → ⊥ = λ e. c .before .before .before .before .before .before .before .if1 .left (c
+    .before .before .before .before .before .before .before .before .low .ensures ∙ (count-here n W ∙ e)) in
+    let laid = c .before .before .before .before .lay in
+    let put = placed n W (turn .before .loop .place) (front .result) (pair .last .1 .1 .1 .1 .1 .0) (c .before .before .before .before
+    .before .before .at .ensures) (front .ensures) (laid .ensures) in (
+      own-long o f k h,
+      rw (tail-part n W) (closer-room o f k h (pair .last .1 .1 .1 .1 .1 .0) (pair .last .1 .1 .1 .1 .1 .1 .0) (pair
+          .ensures .0) (pair .ensures .1) one (laid .last .1 .0) put),
+    )
 
-write-node-add-result-2 : (t : ℕ) → write-node-lts.Need-add-result-2 (node-calls t) (write-node-at t) write-node.Post
-write-node-add-result-2 t c =
-    let start = c .before .before .before .before .before .before .before .before .before .before .before .before .before .before .before
-    .before .before .before .before .before .before .before .before .before .before .before .before .before .before .before .before
-    .before in
-    omega (arith, start .good .0 .0, only-ends t (c .before .before .before .before .before .before .before))
+write-node-loop-less-3 : (t : ℕ) → write-node-lts.Need-loop-less-3 (node-calls t) (write-node-at t) write-node.Post write-node-Inv-loop
+    write-node-μ-loop
+write-node-loop-less-3 t c =
+    let turn = c .before .before .before .before .before .before .before .before .before .before .before .before .before .before .before
+    .before .before .before .before .before .before .before .before .before .before in
+    let o = turn-opens t turn in
+    let f = turn-fits t turn in
+    let k = climbed t turn in
+    let h = turn .loop-test .taken in
+    omega (arith, up-within o f k h)
 
-write-node-slice-aggregate-result-2 : (t : ℕ)
-    → write-node-lts.Need-slice-aggregate-result-2 (node-calls t) (write-node-at t) write-node.Post
-write-node-slice-aggregate-result-2 t c =
-    let child = c .before .before .before .before .before .before .before .before in
-    let start = child .before .before .before .before .before .before .before .before .before .before .before .before .before .before
-    .before .before .before .before .before .before .before .before .before .before .before in
-    let all = nodeLength + length (child .write-operand3 .result .now) in
-    sym (length-take-le all (start .args .words .now) (only-ends t (c .before .before .before .before .before .before .before .before)))
+write-node-loop-again-3 : (t : ℕ) → write-node-lts.Need-loop-again-3 (node-calls t) (write-node-at t) write-node.Post write-node-Inv-loop
+    write-node-μ-loop
+write-node-loop-again-3 t c =
+    let turn = c .before .before .before .before .before .before .before .before .before .before .before .before .before .before .before
+    .before .before .before .before .before .before .before .before .before .before in
+    let o = turn-opens t turn in
+    let f = turn-fits t turn in
+    let k = climbed t turn in
+    let h = turn .loop-test .taken in
+    let W = turn .before .before .before .before .before .before .before .before .before .before .before .before .before .before .before
+    .before .before .args .words .now in
+    let n = turn .before .loop .node - nodeLength in
+    let pair = c .before .before .before .before .before .before .before .before .before .before .before .before .before .before .before
+    .before .before .before .before .before .before .before .pair-first in
+    let front = c .before .before .before .before .before .before .before .before .before .before .before .before .before .before .before
+    .before .before .before .before .front-at in
+    let own = c .before .before .before .before .before .before .before .before .before .before .before .before .before .widen in
+    let one : lowOf (getD (drop n W) countIndex 0) ≡ 2 → ⊥ = λ e. c .before .before .before .before .before .before .before .before
+    .before .before .if1 .left (c .before .before .before .before .before .before .before .before .before .before .before .low .ensures ∙
+    (count-here n W ∙ e)) in
+    let laid = c .before .before .before .before .before .before .before .lay in
+    let put = placed n W (turn .before .loop .place) (front .result) (pair .last .1 .1 .1 .1 .1 .0) (c .before .before .before .before
+    .before .before .before .before .before .at .ensures) (front .ensures) (laid .ensures) in
+    let closer = c .before .before .put-closer in
+    λ L fits begun. rw (front .ensures)
+    (climbed-one o fits (turn .before .loop .inv L fits begun) h (pair .last .1 .1 .1 .1 .1 .0) (pair .last .1 .1 .1 .1 .1 .1 .0) (pair
+    .ensures .0) (pair .ensures .1) one (laid .last .1 .0) put (closer .last .1 .0) (closer .last .1 .1 .0) (rw (tail-part n W) at (closer
+    .ensures)) (own .last .0) (own .last .1 .0) (rw (tail-part n W) at (own .ensures)))
 
-write-node-same-length-3 : (t : ℕ) → write-node-lts.Need-same-length-3 (node-calls t) (write-node-at t) write-node.Post
-write-node-same-length-3 t c =
-    let closer = c .before .before .before in
-    let child = closer .before .before .before .before .before in
-    let only = child .before .before .before .before .before in
-    let opener = only .before .before .before in
-    let one = opener .before .before .before in
-    let op = one .before .before .before .before .before .before .before in
-    let some = op .before .before in
-    let count = some .before in
-    let start = count .before .before .before .before in
-    one-length (start .pre .1) (λ e. one .if2 .left (count .low .ensures ∙ e)) (λ e. some .if1 .left (count .low .ensures ∙ e))
-    (op .operator .ensures) (only .seat-of-only .result) (only .seat-of-only .ensures) (opener .put-token2 .last .1 .0)
-    (opener .put-token2 .last .1 .1 .0) (opener .put-token2 .ensures) (child .write-operand3 .result .now)
-    (child .write-operand3 .last .1 .1 .0) (child .write-operand3 .last .1 .1 .1 .0) (child .write-operand3 .ensures .1)
-    (closer .put-closer .last .1 .0) (closer .put-closer .last .1 .1 .0) (closer .put-closer .ensures)
+write-node-widen-requires-2 : (t : ℕ) → write-node-lts.Need-widen-requires-2 (node-calls t) (write-node-at t) write-node.Post
+    write-node-Inv-loop write-node-μ-loop
+write-node-widen-requires-2 t c κs = search needs
 
-write-node-returns-3 : (t : ℕ) → write-node-lts.Need-returns-3 (node-calls t) (write-node-at t) write-node.Post
-write-node-returns-3 t c =
-    let closer = c .before .before .before in
-    let child = closer .before .before .before .before .before in
-    let only = child .before .before .before .before .before in
-    let opener = only .before .before .before in
-    let one = opener .before .before .before in
-    let own = one .before in
-    let op = own .before .before .before .before .before .before in
-    let some = op .before .before in
-    let count = some .before in
-    let start = count .before .before .before .before in
-    let child-seen = seen (child .write-operand3 .last .1 .1 .1 .1 .0) (child .write-operand3 .last .1 .1 .1 .1 .1 .0) in
-    let spans =
-    one-spans (start .pre .1) (seen (start .args .low .now) (start .args .high .now))
-    (seen (own .widen .last .0) (own .widen .last .1 .0)) (own .widen .ensures) (λ e. one .if2 .left (count .low .ensures ∙ e))
-    (λ e. some .if1 .left (count .low .ensures ∙ e)) child-seen (child .write-operand3 .ensures .0)
-    in
-    let writes =
-    one-writes (start .pre .1) (λ e. one .if2 .left (count .low .ensures ∙ e)) (λ e. some .if1 .left (count .low .ensures ∙ e))
-    (op .operator .ensures) (only .seat-of-only .result) (only .seat-of-only .ensures) (opener .put-token2 .last .1 .0)
-    (opener .put-token2 .last .1 .1 .0) (opener .put-token2 .ensures) (child .write-operand3 .result .now)
-    (child .write-operand3 .last .1 .1 .0) (child .write-operand3 .last .1 .1 .1 .0) (child .write-operand3 .ensures .1)
-    (closer .put-closer .last .1 .0) (closer .put-closer .last .1 .1 .0) (closer .put-closer .ensures)
-    in
-    (spans, writes)
+write-node-slice-aggregate-result : (t : ℕ) → write-node-lts.Need-slice-aggregate-result (node-calls t) (write-node-at t) write-node.Post
+    write-node-Inv-loop write-node-μ-loop
+write-node-slice-aggregate-result t c =
+    let end = c .before .before .before .before in
+    let start = end .before .before .before .before .before .before .before .before .before .before .before .before .before .before
+    .before .before .before in
+    let k = ended t end in
+    let h : 0 < end .before .loop .node → ⊥ = λ e. absurd (omega (arith, e, end .loop-test .left)) in
+    sym (length-take-le (end .before .loop .next) (start .args .words .now) (climbed-within (start .pre .1) k h))
+
+write-node-same-length : (t : ℕ) → write-node-lts.Need-same-length (node-calls t) (write-node-at t) write-node.Post write-node-Inv-loop
+    write-node-μ-loop
+write-node-same-length t c =
+    let end = c .before .before .before .before in
+    let start = end .before .before .before .before .before .before .before .before .before .before .before .before .before .before
+    .before .before .before in
+    let k = ended t end in
+    let h : 0 < end .before .loop .node → ⊥ = λ e. absurd (omega (arith, e, end .loop-test .left)) in
+    climbing-length (room-opens (start .pre .1) theRoot) (start .pre .1 .room) k
+
+write-node-returns : (t : ℕ) → write-node-lts.Need-returns (node-calls t) (write-node-at t) write-node.Post write-node-Inv-loop
+    write-node-μ-loop
+write-node-returns t c =
+    let end = c .before .before .before .before in
+    let start = end .before .before .before .before .before .before .before .before .before .before .before .before .before .before
+    .before .before .before in
+    let k = ended t end in
+    let h : 0 < end .before .loop .node → ⊥ = λ e. absurd (omega (arith, e, end .loop-test .left)) in (
+      climbed-spans (start .pre .1) k h (seen (start .args .low .now) (start .args .high .now))
+          (seen (c .before .widen2 .last .0) (c .before .widen2 .last .1 .0)) (c .before .widen2 .ensures),
+      climbed-writes (start .pre .1) k h,
+    )
 
 write-operand-shared-slice-read-low : (t : ℕ)
     → write-operand-lts.Need-shared-slice-read-low (operand-calls t) (write-operand-at t) write-operand.Post
@@ -667,21 +1014,24 @@ pub +write-node+write-operand-spec : {M : Type 1} → statement M
 +write-node+write-operand-spec =
     close μ-write-node μ-write-operand
     (λ t.
-    write-node-lts.spec (node-calls t) (write-node-at t) write-node.Post (write-node-shared-slice-read-low t) (write-node-low-requires t)
-    (write-node-write-leaf-requires t) (write-node-same-length t) (write-node-returns t) (write-node-shared-slice-read-operator t)
-    (write-node-operator-requires t) (write-node-sub-below t) (write-node-part-below-start t) (write-node-part-below-end t)
+    write-node-lts.spec (node-calls t) (write-node-at t) write-node.Post write-node-Inv-loop write-node-μ-loop
+    (write-node-descend-requires t) (write-node-add-place t) (write-node-mul-write-leaf t) (write-node-sub-write-leaf t)
+    (write-node-part-write-leaf-start t) (write-node-part-write-leaf-end t) (write-node-write-leaf-requires t) (write-node-add-next t)
+    (write-node-loop-holds t) (write-node-sub-node t) (write-node-pair-first-requires t) (write-node-front-at-requires t)
+    (write-node-sub-place t) (write-node-mul-own t) (write-node-sub-own t) (write-node-part-own-start t) (write-node-part-own-end t)
     (write-node-shared-slice-read-widen t) (write-node-shared-slice-read-widen-2 t) (write-node-widen-requires t)
-    (write-node-seat-of-left-requires t) (write-node-write-operand-requires t) (write-node-put-token-requires t) (write-node-add-next t)
-    (write-node-mul-write-operand t) (write-node-sub-write-operand t) (write-node-part-write-operand-start t)
-    (write-node-part-write-operand-end t) (write-node-seat-of-right-requires t) (write-node-write-operand-requires-2 t)
-    (write-node-add-result t) (write-node-slice-aggregate-result t) (write-node-same-length-2 t) (write-node-returns-2 t)
-    (write-node-put-token-requires-2 t) (write-node-seat-of-only-requires t) (write-node-write-operand-requires-3 t)
-    (write-node-put-closer-requires t) (write-node-add-result-2 t) (write-node-slice-aggregate-result-2 t) (write-node-same-length-3 t)
-    (write-node-returns-3 t))
+    (write-node-shared-slice-read-low t) (write-node-low-requires t) (write-node-put-token-requires t) (write-node-mul-below t)
+    (write-node-sub-below t) (write-node-part-below-start t) (write-node-part-below-end t) (write-node-shared-slice-read-low-2 t)
+    (write-node-low-requires-2 t) (write-node-write-leaf-requires-2 t) (write-node-add-next-2 t) (write-node-loop-less t)
+    (write-node-loop-again t) (write-node-shared-slice-read-operator t) (write-node-operator-requires t)
+    (write-node-seat-of-right-requires t) (write-node-write-operand-requires t) (write-node-add-next-3 t) (write-node-loop-less-2 t)
+    (write-node-loop-again-2 t) (write-node-at-requires t) (write-node-lay-requires t) (write-node-put-closer-requires t)
+    (write-node-loop-less-3 t) (write-node-loop-again-3 t) (write-node-widen-requires-2 t) (write-node-slice-aggregate-result t)
+    (write-node-same-length t) (write-node-returns t))
     (λ t.
-    write-operand-lts.spec (operand-calls t) (write-operand-at t) write-operand.Post (write-operand-shared-slice-read-low t)
-    (write-operand-low-requires t) (write-operand-write-leaf-requires t) (write-operand-same-length t) (write-operand-returns t)
-    (write-operand-shared-slice-read-operator t) (write-operand-operator-requires t) (write-operand-is-paired-requires t)
-    (write-operand-write-node-requires t) (write-operand-same-length-2 t) (write-operand-returns-2 t) (write-operand-add-to t)
-    (write-operand-write-node-requires-2 t) (write-operand-put-pair-requires t) (write-operand-widen-requires t)
-    (write-operand-same-length-3 t) (write-operand-returns-3 t))
+    write-operand-lts.spec (operand-calls t) (write-operand-at t) write-operand.Post
+    (write-operand-shared-slice-read-low t) (write-operand-low-requires t) (write-operand-write-leaf-requires t)
+    (write-operand-same-length t) (write-operand-returns t) (write-operand-shared-slice-read-operator t)
+    (write-operand-operator-requires t) (write-operand-is-paired-requires t) (write-operand-write-node-requires t)
+    (write-operand-same-length-2 t) (write-operand-returns-2 t) (write-operand-add-to t) (write-operand-write-node-requires-2 t)
+    (write-operand-put-pair-requires t) (write-operand-widen-requires t) (write-operand-same-length-3 t) (write-operand-returns-3 t))
