@@ -102,6 +102,11 @@ if [ ! -f "$source/src/compile/parse/mod.rs" ]; then
 fi
 
 step "layout of the Rattle and antt files" rt fmt --check
+if command -v python3 >/dev/null; then
+    step "short proofs stand in the list of needs" tools/shrink.py --check
+else
+    echo "gate: there is no python3: whether proofs could be shorter was not looked at"
+fi
 for crate in oracle oracle/thiserror sys compare host; do
     step "layout of $crate" cargo fmt --manifest-path "$crate/Cargo.toml" --check
 done

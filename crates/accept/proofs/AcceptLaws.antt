@@ -1,35 +1,23 @@
 -- The table of refusals, row by row: its rows by lengths, by values, the words and the brackets token by token, what decides it of a call,
 -- and what is known of a call that no row turns back. Assumes nothing.
-use mathlib.Core.Path.{_≡_, refl, sym, ap, _∙_}
-use mathlib.Core.List.{List, [], _∷_, _++_}
-use mathlib.Core.Option.{Option, none, some}
+use mathlib.Core.{Path.{_≡_, refl, sym, ap, _∙_}, List.{List, [], _∷_, _++_}, Option.{Option, none, some}}
 use Prim.Native.Nat.{ℕ, _+_, _*_, _/_, _%_, _^_, _≤_, _<_}
-use native.Mathlib.Numerals.{add-one}
-use native.Mathlib.Omega.{arith}
-use lib.Dec.{eqb, leb, ltb}
-use lib.ListN.{length, drop, getD, length-replicate}
-use lib.Seq.{drop-cons, drop-length}
+use native.Mathlib.{Numerals.{add-one}, Omega.{arith}}
+use lib.{Dec.{eqb, leb, ltb}, ListN.{length, drop, getD, length-replicate}, Seq.{drop-cons, drop-length}}
 use borrow.Author.Tests.{eqb-true, leb-true, le-leb, lt-leb}
 use types.Run.{OneOf}
 use denote.Enum.Declared.{tagOf}
 use Rattle.molang.specs.FirstFailure.{must, firstOf}
 use Rattle.molang.specs.Operator.{leftBrace, leftBracket, leftParenthesis, rightBrace, rightBracket, rightParenthesis, isCloser}
-use Rattle.molang.specs.Words.{operatorBits}
-use Rattle.molang.specs.Words.{Refusal, row, operatorField, wordFault, lowFault, variantAfter, wordsRefusal, tokenOf, tokensOf}
-use Rattle.molang.specs.Nesting.{openAfter, firstAbove, tooDeep}
+use Rattle.molang.specs.Words.{operatorBits, Refusal, row, operatorField, wordFault, lowFault, variantAfter, wordsRefusal, tokenOf}
+use Rattle.molang.specs.{Words.{tokensOf}, Nesting.{openAfter, firstAbove, tooDeep}}
 use Rattle.molang.specs.Parse.{Call, mostTokens, isLimit, lengthRows, valueRows, refusal}
 use Rattle.molang.proofs.FirstFailure.{must-true, must-false, found, passed, last-one, after-none, in-parts, behind}
-use Rattle.molang.proofs.ListWords.{tokens-count}
-use Rattle.molang.proofs.Accepted.{call-accepted}
-use Rattle.molang.proofs.Nesting.{opens-one, short-within}
-use Rattle.ops.specs.declared.sets.OpSet.{OpSet}
-use Rattle.ops.proofs.OperatorLaws.{Apart, apart, no-closer}
+use Rattle.molang.proofs.{ListWords.{tokens-count}, Accepted.{call-accepted}, Nesting.{opens-one, short-within}}
+use Rattle.ops.{specs.declared.sets.OpSet.{OpSet}, proofs.OperatorLaws.{Apart, apart, no-closer}}
 use Rattle.words.specs.Fields.{operatorOf, variantOf}
-use Rattle.words.proofs.FieldLaws.{same-by-bits}
-use Rattle.words.proofs.CheckLaws.{good-token, token-refused, token-passed}
-use Rattle.accept.specs.declared.Sizes.{Sizes}
-use Rattle.accept.specs.declared.Accepted.{Accepted}
-use Rattle.accept.specs.declared.Accepted.the-variants.{Tokens, Refused}
+use Rattle.words.proofs.{FieldLaws.{same-by-bits}, CheckLaws.{good-token, token-refused, token-passed}}
+use Rattle.accept.specs.{declared.Sizes.{Sizes}, declared.Accepted.{Accepted}, declared.Accepted.the-variants.{Tokens, Refused}}
 use Rattle.accept.specs.Accepting.{Verdict, isRead, isRefused, verdictOf, verdict, callOf, lengthRefusal, valueRefusal}
 use Rattle.accept.specs.Accepting.{nestingRefusal}
 use Rattle.accept.proofs.Accepted.{the-type}

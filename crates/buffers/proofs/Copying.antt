@@ -1,15 +1,9 @@
 -- Copying a run of words to the front of a buffer, a word a turn; and laying a tree out: the words that emission leaves, copied.
 use Prim.Native.Nat.{ℕ, zero, suc, _+_, _*_, _≤_, _<_}
-use mathlib.Core.Path.{_≡_, refl, ap, _∙_}
-use mathlib.Core.List.{List, [], _∷_, _++_}
-use native.Mathlib.Omega.{arith}
-use native.Mathlib.Numerals.{add-one}
-use lib.ListN.{length, getD, take, drop, set, length-drop}
-use lib.Seq.{getD-drop, length-take-le}
-use Rattle.molang.specs.Forest.{Forest}
-use Rattle.molang.specs.Words.{treeWords}
-use Rattle.molang.specs.Parse.{inFront}
-use Rattle.molang.proofs.Bounds.{treeWords-length}
+use mathlib.Core.{Path.{_≡_, refl, ap, _∙_}, List.{List, [], _∷_, _++_}}
+use native.Mathlib.{Omega.{arith}, Numerals.{add-one}}
+use lib.{ListN.{length, getD, take, drop, set, length-drop}, Seq.{getD-drop, length-take-le}}
+use Rattle.molang.{specs.Forest.{Forest}, specs.Words.{treeWords}, specs.Parse.{inFront}, proofs.Bounds.{treeWords-length}}
 use Rattle.words.specs.Tokens.{nodeLength}
 use Rattle.buffers.specs.Emit.{Linked, CanEmit, Emitted, CanLayOut, LaidOut}
 use Rattle.buffers.proofs.Runs.{seg-part}

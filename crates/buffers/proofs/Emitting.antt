@@ -1,23 +1,16 @@
 -- Emission. What is written so far and the words of the trees that are left, those of the current list before those that wait, are the
 -- whole; each turn writes one node, and its children and the trees after it are left instead of it (`emit-step`).
 use Prim.Native.Nat.{ℕ, _+_, _*_, _-_, _^_, _≤_, _<_}
-use mathlib.Core.Path.{_≡_, refl, sym, ap, _∙_, subst}
-use mathlib.Core.Logic.{_≢_, inl}
-use mathlib.Core.List.{List, [], _∷_, _++_, append-assoc, append-nil}
+use mathlib.Core.{Path.{_≡_, refl, sym, ap, _∙_, subst}, Logic.{_≢_, inl}, List.{List, [], _∷_, _++_, append-assoc, append-nil}}
 use native.Mathlib.Omega.{arith}
 use lib.ListN.{length, set, length-set, length-append}
-use Rattle.molang.specs.Forest.{Forest, nil, node, count, size}
-use Rattle.molang.specs.Words.{nodeWordsOf, treeWords}
-use Rattle.molang.proofs.Trees.{count-size}
+use Rattle.molang.{specs.Forest.{Forest, nil, node, count, size}, specs.Words.{nodeWordsOf, treeWords}, proofs.Trees.{count-size}}
 use Rattle.words.specs.Tokens.{nodeLength, nodeWords}
 use Rattle.nodes.specs.Store.{wd, slotStart, slotEnd, firstWord, nextWord, closeWordAt, firstAt, nextAt, TokenAt, Chain, Seg, SegB}
 use Rattle.nodes.specs.Stored.{storedAt, tokenOfStored}
-use Rattle.nodes.proofs.Runs.{wd-same, wd-other, seg-keep, segB-keep}
-use Rattle.nodes.proofs.Tokens.{token-keep}
-use Rattle.nodes.proofs.Store.{rep-count}
+use Rattle.nodes.proofs.{Runs.{wd-same, wd-other, seg-keep, segB-keep}, Tokens.{token-keep}, Store.{rep-count}}
 use Rattle.buffers.specs.Emit.{Linked, CanEmitNode, NodeEmitted, Stepped, over, finish, back, down, waits, CanEmit, Emitted}
-use Rattle.buffers.proofs.Runs.{seg-append}
-use Rattle.buffers.proofs.NodeWords.{node-words, node-long}
+use Rattle.buffers.proofs.{Runs.{seg-append}, NodeWords.{node-words, node-long}}
 use Rattle.buffers.proofs.Linking.{linked-nil, linked-unique, linked-none, linked-open, linked-chain, linked-follow}
 
 -- ---- trees that are left

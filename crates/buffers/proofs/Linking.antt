@@ -1,17 +1,13 @@
 -- Linked trees: which trees are linked from a slot on is said by the words; how a linked list is opened at its first node; and where linked
 -- trees come from.
 use Prim.Native.Nat.{ℕ, _≤_, _<_}
-use mathlib.Core.Path.{_≡_, refl, subst}
-use mathlib.Core.List.{List, [], _∷_}
-use native.Mathlib.Omega.{arith}
-use native.Mathlib.Nat.{le-refl}
+use mathlib.Core.{Path.{_≡_, refl, subst}, List.{List, [], _∷_}}
+use native.Mathlib.{Omega.{arith}, Nat.{le-refl}}
 use lib.ListN.{length}
 use Rattle.molang.specs.Forest.{Token, Forest, nil, node}
 use Rattle.nodes.specs.Store.{wd, slotStart, nextWord, firstAt, nextAt, TokenAt, Chain, RepF, ends, more, RepT, Owned}
-use Rattle.nodes.specs.Children.{CanFollow}
-use Rattle.nodes.proofs.Runs.{chain-unique, chain-keep}
-use Rattle.nodes.proofs.Store.{reserve-pos, roots-above, rep-le, rep-raise, rep-unique, tree-more}
-use Rattle.nodes.proofs.Trees.{first-none}
+use Rattle.nodes.{specs.Children.{CanFollow}, proofs.Runs.{chain-unique, chain-keep}}
+use Rattle.nodes.{proofs.Store.{reserve-pos, roots-above, rep-le, rep-raise, rep-unique, tree-more}, proofs.Trees.{first-none}}
 use Rattle.buffers.specs.Emit.{Linked}
 
 pub linked-unique : {W : List ℕ} {first hi hi' : ℕ} {f g : Forest} → Linked W first hi f → Linked W first hi' g → f ≡ g

@@ -1,31 +1,17 @@
 -- Loading: what one token's stores leave, the loop over the tokens, and THE LOADED LIST (`load-done`): leaves in three slots each are the
 -- forest of the list's tokens, since a list without fault is the words of its tokens.
 use Prim.Native.Nat.{ℕ, zero, suc, _+_, _*_, _/_, _%_, _^_, _≤_, _<_}
-use mathlib.Core.Path.{_≡_, refl, sym, ap, ap₂, _∙_}
-use mathlib.Core.Logic.{_≢_, _⊎_, inl, inr}
-use mathlib.Core.List.{List, [], _∷_, _++_}
-use native.Mathlib.Omega.{arith}
-use native.Mathlib.Nat.{add-zero, le-refl}
+use mathlib.Core.{Path.{_≡_, refl, sym, ap, ap₂, _∙_}, Logic.{_≢_, _⊎_, inl, inr}, List.{List, [], _∷_, _++_}}
+use native.Mathlib.{Omega.{arith}, Nat.{add-zero, le-refl}}
 use borrow.Author.Count.{below-more}
-use lib.ListN.{length, getD, drop, set, length-set}
-use lib.Seq.{getD-drop, drop-drop}
-use Rattle.molang.specs.Forest.{Token, nil, leaves}
-use Rattle.molang.specs.Words.{word, lowOf, operatorBits, tokenWords, tokensOf, listWords}
-use Rattle.molang.proofs.Words.{LegalTokens, noTokens, token, AtEnds, words-back, tokens-end}
-use Rattle.molang.proofs.ListWords.{listWords-length}
-use Rattle.words.specs.Fields.{operatorOf, halfOf, valueOf}
-use Rattle.ops.specs.Classes.{bitAt, inClass, classTable, entryOf}
-use Rattle.ops.proofs.ClassLaws.{entry-past, entry-bits}
-use Rattle.words.proofs.FieldLaws.{same-by-bits}
-use Rattle.words.specs.Tokens.{tokenWordsAt}
+use lib.{ListN.{length, getD, drop, set, length-set}, Seq.{getD-drop, drop-drop}}
+use Rattle.molang.specs.{Forest.{Token, nil, leaves}, Words.{word, lowOf, operatorBits, tokenWords, tokensOf, listWords}}
+use Rattle.molang.proofs.{Words.{LegalTokens, noTokens, token, AtEnds, words-back, tokens-end}, ListWords.{listWords-length}}
+use Rattle.words.{specs.Fields.{operatorOf, halfOf, valueOf}, proofs.FieldLaws.{same-by-bits}, specs.Tokens.{tokenWordsAt}}
+use Rattle.ops.{specs.Classes.{bitAt, inClass, classTable, entryOf}, proofs.ClassLaws.{entry-past, entry-bits}}
 use Rattle.nodes.specs.Store.{wd, slotWords, slotStart, slotEnd, firstWord, classesWord, classesAt, TokenAt, Seg, RepF, ends, InArray}
-use Rattle.nodes.specs.Stored.{storedOf}
-use Rattle.nodes.specs.Slots.{Laid}
-use Rattle.nodes.proofs.Runs.{wd-same, wd-other}
-use Rattle.nodes.proofs.Tokens.{token-of-words, token-op}
-use Rattle.nodes.proofs.Classes.{notes-leaf}
-use Rattle.nodes.proofs.Store.{reserve-most, tree-more}
-use Rattle.nodes.proofs.Trees.{leaf-tree}
+use Rattle.nodes.{specs.Stored.{storedOf}, specs.Slots.{Laid}, proofs.Runs.{wd-same, wd-other}, proofs.Tokens.{token-of-words, token-op}}
+use Rattle.nodes.{proofs.Classes.{notes-leaf}, proofs.Store.{reserve-most, tree-more}, proofs.Trees.{leaf-tree}}
 use Rattle.buffers.specs.Load.{tokenSlots, LeafAt, CanLoadToken, TokenLoaded, CanLoad, Loaded}
 
 -- ---- one token

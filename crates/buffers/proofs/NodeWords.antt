@@ -1,18 +1,12 @@
 -- The seven words of a node: that they stand where `emit_node` laid them, and that they are the definition's, by its token and its child
 -- count.
 use Prim.Native.Nat.{ℕ, _%_, _^_, _<_}
-use mathlib.Core.Path.{_≡_, refl}
-use mathlib.Core.List.{List}
+use mathlib.Core.{Path.{_≡_, refl}, List.{List}}
 use native.Mathlib.Omega.{arith}
 use lib.ListN.{length}
-use Rattle.molang.specs.Forest.{Token}
-use Rattle.molang.specs.Words.{tokenWords, nodeWordsOf}
-use Rattle.words.specs.Records.{laidAt}
-use Rattle.words.specs.Tokens.{nodeLength, nodeWords}
-use Rattle.words.proofs.LaidLaws.{laid-long, laid-in, laid-out}
-use Rattle.nodes.specs.Store.{slotStart, closeWordAt, firstAt, TokenAt, Seg}
-use Rattle.nodes.specs.Stored.{storedAt, tokenOfStored}
-use Rattle.nodes.specs.Children.{Counted}
+use Rattle.molang.specs.{Forest.{Token}, Words.{tokenWords, nodeWordsOf}}
+use Rattle.words.{specs.Records.{laidAt}, specs.Tokens.{nodeLength, nodeWords}, proofs.LaidLaws.{laid-long, laid-in, laid-out}}
+use Rattle.nodes.specs.{Store.{slotStart, closeWordAt, firstAt, TokenAt, Seg}, Stored.{storedAt, tokenOfStored}, Children.{Counted}}
 use Rattle.nodes.proofs.Tokens.{operator-word, start-word, end-word, value-word, close-word}
 use Rattle.buffers.specs.Emit.{CanEmitNode, NodeEmitted}
 use Rattle.buffers.proofs.Runs.{seg-of-words}

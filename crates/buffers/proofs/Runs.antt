@@ -1,11 +1,8 @@
 -- Runs of words: how they are put together, and that a run is a part of the list.
 use Prim.Native.Nat.{ℕ, zero, suc, _+_, _≤_, _<_}
-use mathlib.Core.Path.{_≡_, refl}
-use mathlib.Core.List.{List, [], _∷_, _++_}
-use native.Mathlib.Omega.{arith}
-use native.Mathlib.Nat.{add-zero}
-use lib.ListN.{length, getD, take, drop}
-use lib.Seq.{drop-cons}
+use mathlib.Core.{Path.{_≡_, refl}, List.{List, [], _∷_, _++_}}
+use native.Mathlib.{Omega.{arith}, Nat.{add-zero}}
+use lib.{ListN.{length, getD, take, drop}, Seq.{drop-cons}}
 use Rattle.nodes.specs.Store.{wd, Seg}
 
 pub seg-append : (W : List ℕ) (at : ℕ) (cs ds : List ℕ) → Seg W at cs → Seg W (at + length cs) ds → Seg W at (cs ++ ds)

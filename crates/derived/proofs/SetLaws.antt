@@ -1,17 +1,11 @@
 -- A set of operators in two halves: the empty one, and one with another operator in it. Assumes nothing.
-use mathlib.Core.Path.{_≡_, refl, sym, ap, _∙_}
-use mathlib.Core.Bool.{Bool, true, false, _||_, or-false}
+use mathlib.Core.{Path.{_≡_, refl, sym, ap, _∙_}, Bool.{Bool, true, false, _||_, or-false}}
 use Prim.Native.Nat.{ℕ, zero, suc, _-_, _*_, _/_, _%_, _^_, _<_, _≤_}
-use native.Mathlib.Nat.{pow-suc, zero-div, one-mul}
-use native.Mathlib.Omega.{arith}
-use lib.Bits.{bitOr, or-lt}
-use lib.Dec.{eqb, ltb, lit<, eqb·suc-zero, eqb·zero-suc, eqb·suc-suc}
-use lib.Pow.{pow-lt, shl-exact}
+use native.Mathlib.{Nat.{pow-suc, zero-div, one-mul}, Omega.{arith}}
+use lib.{Bits.{bitOr, or-lt}, Dec.{eqb, ltb, lit<, eqb·suc-zero, eqb·zero-suc, eqb·suc-suc}, Pow.{pow-lt, shl-exact}}
 use borrow.Author.Tests.{ltb-true, ltb-false, eqb-true, eqb-false, eq-eqb, ne-eqb}
 use Rattle.molang.specs.Parse.{inHalves}
-use Rattle.ops.specs.Classes.{bitAt}
-use Rattle.ops.proofs.BitLaws.{bit-low, bit-up, bit-zero, bit-or}
-use Rattle.ops.proofs.SetLaws.{in-low, in-high}
+use Rattle.ops.{specs.Classes.{bitAt}, proofs.BitLaws.{bit-low, bit-up, bit-zero, bit-or}, proofs.SetLaws.{in-low, in-high}}
 
 -- Nothing is in the empty set.
 pub in-none : (n : ℕ) → inHalves 0 0 n ≡ false

@@ -3,9 +3,7 @@ use Prim.Native.Nat.{ℕ, zero, suc, _-_, _≤_, _<_}
 use mathlib.Core.Path.{_≡_, refl, ap}
 use native.Mathlib.Omega.{arith}
 use lib.IntN.{pos, negsuc, _-ℤ_}
-use mir.Syntax.{w16}
-use mir.Val.{toZ, SFits}
-use mir.Facts.{toZ-pos}
+use mir.{Syntax.{w16}, Val.{toZ, SFits}, Facts.{toZ-pos}}
 use borrow.Author.Tests.{lt-ltb, le-ltb}
 use Rattle.molang.specs.Lines.{versionOf}
 

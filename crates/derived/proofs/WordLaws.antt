@@ -1,30 +1,19 @@
 -- The words of a list token by token: which of the five count, what a legal list's exact set and highest end are, and their bounds.
 -- Assumes nothing.
-use mathlib.Core.Path.{_≡_, refl, sym, ap, _∙_}
-use mathlib.Core.Bool.{Bool, false, _||_, _&&_}
-use mathlib.Core.List.{List, [], _∷_}
-use mathlib.Core.Option.{Option, none, some}
+use mathlib.Core.{Path.{_≡_, refl, sym, ap, _∙_}, Bool.{Bool, false, _||_, _&&_}, List.{List, [], _∷_}, Option.{Option, none, some}}
 use Prim.Native.Nat.{ℕ, suc, _+_, _*_, _%_, _^_, _<_, _≤_, max}
 use native.Mathlib.Omega.{arith}
-use lib.Dec.{eqb, leb}
-use lib.ListN.{length, drop, getD, drop-of-length-le}
-use lib.Seq.{drop-cons, drop-drop}
+use lib.{Dec.{eqb, leb}, ListN.{length, drop, getD, drop-of-length-le}, Seq.{drop-cons, drop-drop}}
 use borrow.Author.Tests.{ne-eqb, lt-leb, leb-true, leb-false}
 use types.Run.{OneOf}
 use denote.Enum.Declared.{tagOf}
-use Rattle.molang.specs.Forest.{leaves}
-use Rattle.molang.specs.Parse.{inHalves}
-use Rattle.molang.specs.Read.{uses, highestEnd}
+use Rattle.molang.specs.{Forest.{leaves}, Parse.{inHalves}, Read.{uses, highestEnd}}
 use Rattle.molang.specs.Words.{Field, operatorField, startField, endField, upperField, lowerField, countField, closeField, lowOf, numberIn}
 use Rattle.molang.specs.Words.{lowFault, wordFault, variantAfter, nextInToken, wordsRefusal, tokenOf, tokensOf}
-use Rattle.molang.proofs.Booleans.{either}
-use Rattle.molang.proofs.Words.{next-word}
-use Rattle.molang.proofs.UsedSet.{used-few}
-use Rattle.words.specs.Checks.{numberOf}
-use Rattle.words.specs.declared.checks.Word.{Word}
+use Rattle.molang.proofs.{Booleans.{either}, Words.{next-word}, UsedSet.{used-few}}
+use Rattle.words.specs.{Checks.{numberOf}, declared.checks.Word.{Word}}
 use Rattle.words.specs.declared.checks.Word.the-variants.{Good, WrongKind, HighOperator, HighVariant, OtherBit}
-use Rattle.words.proofs.CheckLaws.{none-bad}
-use Rattle.words.proofs.checks.Word.{the-type}
+use Rattle.words.proofs.{CheckLaws.{none-bad}, checks.Word.{the-type}}
 use Rattle.derived.specs.Derived.{names, named, endAfter, highest}
 
 -- The words after a token's first name nothing, and those after its third have no end.

@@ -1,16 +1,12 @@
 -- The line `list`, letter by letter: what is laid of it, and how long it is.
 use Prim.Native.Nat.{ℕ, zero, suc, _+_, _*_, _≤_}
-use mathlib.Core.Path.{_≡_, refl, ap, sym, _∙_}
-use mathlib.Core.List.{List, [], _∷_, _++_, append-assoc, append-nil}
-use native.Mathlib.Numerals.{add-one}
-use native.Mathlib.Omega.{arith}
+use mathlib.Core.{Path.{_≡_, refl, ap, sym, _∙_}, List.{List, [], _∷_, _++_, append-assoc, append-nil}}
+use native.Mathlib.{Numerals.{add-one}, Omega.{arith}}
 use lib.ListN.{length, getD, length-append}
 use Rattle.words.specs.Fields.{operatorOf}
-use Rattle.text.specs.Text.{ascii, decimal, space, lineEnd, Wrote}
-use Rattle.text.proofs.TextLaws.{wrote-then, decimal-length}
+use Rattle.text.{specs.Text.{ascii, decimal, space, lineEnd, Wrote}, proofs.TextLaws.{wrote-then, decimal-length}}
 use Rattle.listing.proofs.RowLaws.{three}
-use Rattle.everylist.specs.EveryList.{spacedOut, headText}
-use Rattle.everylist.specs.Steps.{lettersIn}
+use Rattle.everylist.specs.{EveryList.{spacedOut, headText}, Steps.{lettersIn}}
 
 spaced-append : (ms ns : List ℕ) → spacedOut (ms ++ ns) ≡ spacedOut ms ++ spacedOut ns
 unfolding spacedOut

@@ -1,23 +1,13 @@
 -- Where an input is turned back by what is kept of it, test by test, and what one that is not turned back keeps to.
 use Prim.Native.Nat.{ℕ, zero, suc, _-_, _/_, _%_, _^_, _≤_, _<_, min}
-use mathlib.Core.Path.{_≡_, refl, ap, sym, _∙_}
-use mathlib.Core.Bool.{Bool, true, false, _&&_}
-use mathlib.Core.List.{List, [], _∷_}
-use mathlib.Core.Option.{Option, none, some}
+use mathlib.Core.{Path.{_≡_, refl, ap, sym, _∙_}, Bool.{Bool, true, false, _&&_}, List.{List, [], _∷_}, Option.{Option, none, some}}
 use native.Mathlib.Omega.{arith}
-use lib.Dec.{eqb, leb}
-use lib.ListN.{length, take, drop, getD}
-use lib.Seq.{take-all, take-nil}
+use lib.{Dec.{eqb, leb}, ListN.{length, take, drop, getD}, Seq.{take-all, take-nil}}
 use borrow.Author.Tests.{eq-eqb, ne-eqb, le-leb, lt-leb, eqb-true, leb-true, leb-false, ltb-true}
-use Rattle.molang.specs.FirstFailure.{must, firstOf}
-use Rattle.molang.specs.Words.{Refusal, row}
-use Rattle.molang.proofs.Booleans.{either}
-use Rattle.molang.proofs.FirstFailure.{passed, last-one}
-use Rattle.molang.proofs.Trees.{both}
-use Rattle.shortlists.specs.ShortLists.{upTo, isAlphabet, countRefusal}
-use Rattle.shortlists.specs.Answers.{refused, told, countTold}
-use Rattle.everylist.specs.EveryList.{isNumber, allNumbers}
-use Rattle.everylist.specs.Steps.{kept, keptWords, keptFault}
+use Rattle.molang.specs.{FirstFailure.{must, firstOf}, Words.{Refusal, row}}
+use Rattle.molang.proofs.{Booleans.{either}, FirstFailure.{passed, last-one}, Trees.{both}}
+use Rattle.shortlists.specs.{ShortLists.{upTo, isAlphabet, countRefusal}, Answers.{refused, told, countTold}}
+use Rattle.everylist.specs.{EveryList.{isNumber, allNumbers}, Steps.{kept, keptWords, keptFault}}
 
 -- PARTS OF ELEVEN WORDS. The code takes no more than there are.
 front-least : (m : ℕ) (words : List ℕ) → length words ≡ 11 → take (min m 11) words ≡ take m words

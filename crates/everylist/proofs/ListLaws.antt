@@ -1,37 +1,22 @@
 -- The list at a position by its words: its letters are the operators of its tokens, and its text is the definition's.
 use Prim.Native.Nat.{ℕ, zero, suc, _+_, _*_, _≤_, _<_}
-use mathlib.Core.Path.{_≡_, refl, ap, sym, _∙_}
-use mathlib.Core.Bool.{Bool, true, false}
-use mathlib.Core.List.{List, [], _∷_, _++_}
-use mathlib.Core.Option.{Option, none, some}
+use mathlib.Core.{Path.{_≡_, refl, ap, sym, _∙_}, Bool.{Bool, true, false}, List.{List, [], _∷_, _++_}, Option.{Option, none, some}}
 use native.Mathlib.Omega.{arith}
-use lib.Dec.{ltb}
-use lib.IntN.{ℤ}
-use lib.ListN.{length, take, drop, getD, replicate}
-use lib.Seq.{length-take-le, take-at, take-suc, take-length}
+use lib.{Dec.{ltb}, IntN.{ℤ}, ListN.{length, take, drop, getD, replicate}, Seq.{length-take-le, take-at, take-suc, take-length}}
 use borrow.Author.Tests.{ltb-true, ltb-false}
-use Rattle.molang.specs.FirstFailure.{must, firstOf}
-use Rattle.molang.specs.Lines.{tokensFrom}
-use Rattle.molang.specs.Operator.{isOperator}
-use Rattle.molang.specs.Parse as Parse
-use Rattle.molang.specs.Parse.{inFront, treeIn, messagesIn}
+use Rattle.molang.specs.{FirstFailure.{must, firstOf}, Lines.{tokensFrom}, Operator.{isOperator}, Parse.{inFront, treeIn, messagesIn}}
 use Rattle.molang.specs.Words.{Refusal, row, word, operatorBits, tokenWords, listWords, operatorField, wordsRefusal}
-use Rattle.molang.proofs.FirstFailure.{first-none, must-none, last-one}
-use Rattle.molang.proofs.ListWords.{listWords-length}
-use Rattle.molang.proofs.Trees.{both, and-true-true}
+use Rattle.molang.proofs.{FirstFailure.{first-none, must-none, last-one}, ListWords.{listWords-length}, Trees.{both, and-true-true}}
 use Rattle.molang.proofs.Words.{low-word, bits-number, bits-room, operator-small}
+use Rattle.molang.specs.Parse as Parse
 use Rattle.words.specs.Fields.{operatorOf}
-use Rattle.text.specs.Text.{Wrote}
-use Rattle.text.proofs.TextLaws.{wrote-then}
+use Rattle.text.{specs.Text.{Wrote}, proofs.TextLaws.{wrote-then}}
 use Rattle.own.specs.Own.{readingOf}
-use Rattle.listing.specs.Rows.{answerText}
-use Rattle.listing.specs.Lists.{listText}
-use Rattle.listing.proofs.AnswerLaws.{list-text}
+use Rattle.listing.{specs.Rows.{answerText}, specs.Lists.{listText}, proofs.AnswerLaws.{list-text}}
 use Rattle.shortlists.specs.ShortLists.{upTo, among, areLetters, eachLegal, countRefusal, listRefusal, listAt}
 use Rattle.shortlists.specs.Answers.{Told, found, refused, told, listTold, tokensGiven, wordsAt}
 use Rattle.shortlists.proofs.AlphabetLaws.{alphabet, occurs, legal-at}
-use Rattle.everylist.specs.EveryList.{headText, shortText}
-use Rattle.everylist.specs.Steps.{lettersIn, wordsText}
+use Rattle.everylist.specs.{EveryList.{headText, shortText}, Steps.{lettersIn, wordsText}}
 
 -- THE WORDS OF A LIST of letters
 tokens-length : (i : ℕ) (letters : List ℕ) → length (tokensFrom i letters) ≡ length letters

@@ -1,12 +1,8 @@
 -- Words that are numbers of sixteen bits, one by one and in chunks of whole words.
 use Prim.Native.Nat.{ℕ, _+_, _%_, _≤_, _<_}
-use mathlib.Core.Path.{_≡_, refl, ap, sym, _∙_}
-use mathlib.Core.Bool.{true, false, _&&_, and-assoc}
-use mathlib.Core.List.{List, [], _∷_, _++_}
-use native.Mathlib.Numerals.{add-one}
-use native.Mathlib.Omega.{arith}
-use lib.ListN.{length, drop, getD, drop-of-length-le}
-use lib.Seq.{drop-cons}
+use mathlib.Core.{Path.{_≡_, refl, ap, sym, _∙_}, Bool.{true, false, _&&_, and-assoc}, List.{List, [], _∷_, _++_}}
+use native.Mathlib.{Numerals.{add-one}, Omega.{arith}}
+use lib.{ListN.{length, drop, getD, drop-of-length-le}, Seq.{drop-cons}}
 use borrow.Author.Tests.{lt-ltb, le-ltb}
 use Rattle.listing.specs.Lists.{wordsIn}
 use Rattle.everylist.specs.EveryList.{isNumber, allNumbers}

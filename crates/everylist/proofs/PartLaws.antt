@@ -1,10 +1,8 @@
 -- The words of bytes in parts: how many there are, those behind whole words, and those of the front and of the rest.
 use Prim.Native.Nat.{ℕ, zero, suc, _*_, _/_, _%_}
-use mathlib.Core.Path.{_≡_, refl}
-use mathlib.Core.List.{List, [], _∷_, _++_}
+use mathlib.Core.{Path.{_≡_, refl}, List.{List, [], _∷_, _++_}}
 use native.Mathlib.Omega.{arith}
-use lib.ListN.{length, take, drop}
-use lib.Seq.{take-nil, drop-nil}
+use lib.{ListN.{length, take, drop}, Seq.{take-nil, drop-nil}}
 use Rattle.listing.specs.Lists.{wordsIn}
 
 pub words-count : (bytes : List ℕ) → length (wordsIn bytes) ≡ length bytes / 4

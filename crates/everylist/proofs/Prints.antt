@@ -1,31 +1,21 @@
 -- WHAT ALL STEPS PRINT: one after another, up to the end, they are the whole text of what is kept of an input (`steps-print`), and that is
 -- the definition's text of the input's bytes (`kept-prints`). Assumes nothing.
 use Prim.Native.Nat.{ℕ, zero, suc, _+_, _-_, _/_, _%_, _≤_, _<_}
-use mathlib.Core.Path.{_≡_, refl, ap, sym, _∙_}
-use mathlib.Core.Bool.{false, _&&_, and-false}
-use mathlib.Core.List.{List, [], _++_, append-nil}
+use mathlib.Core.{Path.{_≡_, refl, ap, sym, _∙_}, Bool.{false, _&&_, and-false}, List.{List, [], _++_, append-nil}}
 use mathlib.Core.Option.{Option, none, some}
-use native.Mathlib.Nat.{pow-le-pow-left}
-use native.Mathlib.Numerals.{add-one}
-use native.Mathlib.Omega.{arith}
+use native.Mathlib.{Nat.{pow-le-pow-left}, Numerals.{add-one}, Omega.{arith}}
 use lib.Dec.{eqb, leb, ltb}
-use lib.ListN.{length, take, drop, getD, replicate, length-take, length-drop, take-append-drop}
-use lib.ListN.{drop-of-length-le, List·getD-append}
+use lib.ListN.{length, take, drop, getD, replicate, length-take, length-drop, take-append-drop, drop-of-length-le, List·getD-append}
 use lib.Seq.{take-all, take-at, take-take, take-append-le, drop-cons, getD-take}
 use borrow.Author.Tests.{eqb-true, eqb-false, eq-eqb, ne-eqb, le-leb, lt-leb, le-ltb, leb-true, leb-false, ltb-true, ltb-false}
-use Rattle.molang.specs.FirstFailure.{must, firstOf}
-use Rattle.molang.specs.Lines.{versionOf}
-use Rattle.molang.specs.Words.{Refusal}
-use Rattle.molang.proofs.Booleans.{either}
-use Rattle.molang.proofs.Trees.{both}
+use Rattle.molang.specs.{FirstFailure.{must, firstOf}, Lines.{versionOf}, Words.{Refusal}}
+use Rattle.molang.proofs.{Booleans.{either}, Trees.{both}}
 use Rattle.listing.specs.Lists.{wordsIn}
 use Rattle.shortlists.specs.ShortLists.{upTo, powers, isAlphabet, countRefusal}
-use Rattle.shortlists.proofs.AlphabetLaws.{alphabet}
-use Rattle.shortlists.proofs.ShortLists.{counts}
+use Rattle.shortlists.proofs.{AlphabetLaws.{alphabet}, ShortLists.{counts}}
 use Rattle.everylist.specs.EveryList.{allNumbers, inputFault, shortText, shortTexts, refusalLine, printed}
 use Rattle.everylist.specs.Steps.{Kept, keptOf, keptWords, keptFault, keptLists, textBy, textAt, textsFrom, keptText}
-use Rattle.everylist.proofs.PartLaws.{words-count, words-append, words-take, words-drop}
-use Rattle.everylist.proofs.NumberLaws.{numbers-append}
+use Rattle.everylist.proofs.{PartLaws.{words-count, words-append, words-take, words-drop}, NumberLaws.{numbers-append}}
 use Rattle.everylist.proofs.KeptLaws.{two-tests, unturned}
 
 -- ---- One step after another

@@ -1,28 +1,17 @@
 -- What a step lays, by the case: the refusal's line, the text of a list, or nothing.
 use Prim.Native.Nat.{ℕ, _/_, _≤_}
-use mathlib.Core.Path.{_≡_, refl, sym, subst}
-use mathlib.Core.Bool.{Bool, true}
-use mathlib.Core.List.{List, []}
-use mathlib.Core.Option.{Option, none, some}
+use mathlib.Core.{Path.{_≡_, refl, sym, subst}, Bool.{Bool, true}, List.{List, []}, Option.{Option, none, some}}
 use native.Mathlib.Omega.{arith}
-use lib.IntN.{ℤ}
-use lib.ListN.{length, take, drop, getD, replicate}
+use lib.{IntN.{ℤ}, ListN.{length, take, drop, getD, replicate}}
 use borrow.Author.Tests.{eq-eqb, ne-eqb, lt-ltb, le-ltb, le-leb}
-use Rattle.molang.specs.FirstFailure.{must, firstOf}
-use Rattle.molang.specs.Lines.{versionOf}
-use Rattle.molang.specs.Parse.{refused}
-use Rattle.molang.specs.Words.{row}
+use Rattle.molang.specs.{FirstFailure.{must, firstOf}, Lines.{versionOf}, Parse.{refused}, Words.{row}}
 use Rattle.listing.specs.Rows.{answerText}
-use Rattle.shortlists.specs.ShortLists.{upTo, countRefusal}
+use Rattle.shortlists.{specs.ShortLists.{upTo, countRefusal}, proofs.AlphabetLaws.{alphabet}, proofs.ShortLists.{only}}
 use Rattle.shortlists.specs.Answers as Answers
-use Rattle.shortlists.proofs.AlphabetLaws.{alphabet}
-use Rattle.shortlists.proofs.ShortLists.{only}
 use Rattle.everylist.specs.EveryList.{refusalLine}
 use Rattle.everylist.specs.Steps.{Kept, kept, keptWords, keptLists, keptFault, textBy, textAt, Stepped, wordsText}
-use Rattle.everylist.specs.declared.step.Step.{Step}
-use Rattle.everylist.specs.declared.step.Step.the-variants.{Text}
-use Rattle.everylist.proofs.KeptLaws.{Unturned}
-use Rattle.everylist.proofs.ListLaws.{past-last, at-position, all-legal, words-text}
+use Rattle.everylist.specs.{declared.step.Step.{Step}, declared.step.Step.the-variants.{Text}}
+use Rattle.everylist.proofs.{KeptLaws.{Unturned}, ListLaws.{past-last, at-position, all-legal, words-text}}
 
 -- A step by an equal text; and one that lays a text, which has room, at a position that has one.
 pub stepped : {o p : Option (List ℕ)} (a b : List ℕ) (r : Step) → o ≡ p → Stepped p a r b → Stepped o a r b

@@ -1,27 +1,17 @@
 -- One turn of the driver (`advance`): the level goes on with its list, an item is entered, the list ends, or the pass fails. The result of
 -- the whole pass stays what it was.
 use Prim.Native.Nat.{ℕ, _+_, _≤_, _<_}
-use mathlib.Core.Path.{_≡_, sym, ap, _∙_, subst, subst₂}
-use mathlib.Core.Logic.{inl}
-use mathlib.Core.List.{List, _∷_}
-use native.Mathlib.Omega.{arith}
-use native.Mathlib.Nat.{le-refl}
-use Rattle.molang.specs.Forest.{Forest, count, size}
-use Rattle.molang.specs.Message.{Result}
-use Rattle.molang.specs.Work.{Kind, State, work, unwound}
-use Rattle.molang.proofs.Trees.{count-size}
-use Rattle.molang.proofs.Work.{reading-size, unwound-fail}
-use Rattle.nodes.specs.Store.{wd, slotStart, RepT, Free}
-use Rattle.nodes.proofs.Keeping.{free-own, free-inner}
+use mathlib.Core.{Path.{_≡_, sym, ap, _∙_, subst, subst₂}, Logic.{inl}, List.{List, _∷_}}
+use native.Mathlib.{Omega.{arith}, Nat.{le-refl}}
+use Rattle.molang.specs.{Forest.{Forest, count, size}, Message.{Result}, Work.{Kind, State, work, unwound}}
+use Rattle.molang.proofs.{Trees.{count-size}, Work.{reading-size, unwound-fail}}
+use Rattle.nodes.{specs.Store.{wd, slotStart, RepT, Free}, proofs.Keeping.{free-own, free-inner}}
 use Rattle.levels.specs.Sides.{Holds, Waits}
 use Rattle.levels.specs.Turns.{SameList, Within, CanTurn, turnsLeft, Begins, TurnTo, goes, enters, ends, fails, Turned}
-use Rattle.levels.specs.declared.failure.Failure.{Failure}
-use Rattle.levels.specs.declared.turns.Walk.{Walk}
-use Rattle.levels.specs.declared.turns.Turn.{Turn}
+use Rattle.levels.specs.{declared.failure.Failure.{Failure}, declared.turns.Walk.{Walk}, declared.turns.Turn.{Turn}}
 use Rattle.levels.specs.declared.turns.Turn.the-variants.{On, Enter, Over, Fail}
 use Rattle.grouping.specs.Driver.{Room, Stack, Full, Going, turnsBelow, Beyond, NextTo, CanDescend, Descended, CanClose, Closed}
-use Rattle.grouping.specs.Driver.{CanAdvance, Advanced}
-use Rattle.grouping.specs.declared.driver.Next.{Next}
+use Rattle.grouping.specs.{Driver.{CanAdvance, Advanced}, declared.driver.Next.{Next}}
 use Rattle.grouping.specs.declared.driver.Next.the-variants.{On as Onward, Fail as Stopped}
 use Rattle.grouping.proofs.StackLaws.{Bounds, stack-bounds, stack-keep, top-beyond, beyond-then}
 

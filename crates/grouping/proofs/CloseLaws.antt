@@ -1,43 +1,26 @@
 -- The end of a list (`close`): its items become its owner's children, and the list that waits for the owner takes it back; the end of the
 -- outermost list is the end of the pass.
 use Prim.Native.Nat.{ℕ, _+_, _-_, _≤_, _<_}
-use mathlib.Core.Path.{_≡_, refl, sym, ap, _∙_, subst, subst₂}
-use mathlib.Core.Logic.{_≢_, inl}
-use mathlib.Core.Bool.{false, true≢false}
-use mathlib.Core.List.{List, _∷_}
-use native.Mathlib.Omega.{arith}
-use native.Mathlib.Nat.{le-refl}
+use mathlib.Core.{Path.{_≡_, refl, sym, ap, _∙_, subst, subst₂}, Logic.{_≢_, inl}, Bool.{false, true≢false}, List.{List, _∷_}}
+use native.Mathlib.{Omega.{arith}, Nat.{le-refl}}
 use lib.ListN.{length}
-use Rattle.molang.specs.Forest.{Token, Forest, nil, node, count}
-use Rattle.molang.specs.Message.{Result, ok}
-use Rattle.molang.specs.Calls.{unindexed, named, indexed, arrayLevel, arrayResume}
-use Rattle.molang.specs.Free.{isNil}
+use Rattle.molang.{specs.Forest.{Token, Forest, nil, node, count}, specs.Message.{Result, ok}}
+use Rattle.molang.{specs.Calls.{unindexed, named, indexed, arrayLevel, arrayResume}, specs.Free.{isNil}}
 use Rattle.molang.specs.Work.{Kind, calls, statements, arrays, unaryMinusAndNot, conditional, returns, binary, State, work, takes, andThen}
-use Rattle.molang.specs.Work.{Held, held, unwound}
-use Rattle.molang.proofs.Work.{unwound-fail}
+use Rattle.molang.{specs.Work.{Held, held, unwound}, proofs.Work.{unwound-fail}}
 use Rattle.ops.specs.declared.classes.TokenClasses.{TokenClasses}
-use Rattle.nodes.specs.Store.{wd, slotStart, TokenAt, Out, RepT, Owned, InArray, Free}
-use Rattle.nodes.specs.Children.{CanGive, Given}
-use Rattle.nodes.specs.Frames.{FrameAt, CanPop}
-use Rattle.nodes.specs.declared.frames.List.{List as Items}
-use Rattle.nodes.specs.declared.frames.Frame.{Frame}
-use Rattle.nodes.proofs.Runs.{off-word}
-use Rattle.nodes.proofs.Trees.{array-give, array-owned, owned-tree}
-use Rattle.nodes.proofs.Keeping.{free-own, free-inner, give-kept}
+use Rattle.nodes.specs.{Store.{wd, slotStart, TokenAt, Out, RepT, Owned, InArray, Free}, Children.{CanGive, Given}}
+use Rattle.nodes.specs.{Frames.{FrameAt, CanPop}, declared.frames.List.{List as Items}, declared.frames.Frame.{Frame}}
+use Rattle.nodes.proofs.{Runs.{off-word}, Trees.{array-give, array-owned, owned-tree}, Keeping.{free-own, free-inner, give-kept}}
 use Rattle.levels.specs.Passes.{walkOf, classesOf, heldOf, resumedWith, Runs, call, mathCall, unsplitPass, split, array, unary, level}
-use Rattle.levels.specs.Passes.{conditionalPass, returnPass, waits}
-use Rattle.levels.specs.Sides.{Holds}
+use Rattle.levels.specs.{Passes.{conditionalPass, returnPass, waits}, Sides.{Holds}}
 use Rattle.levels.specs.Turns.{Within, lentOf, CanResume, Resumed, CanFinish, FinishTo, gives, fails, Ends}
-use Rattle.levels.specs.declared.failure.Failure.{Failure}
-use Rattle.levels.specs.declared.turns.Pass.{Pass}
-use Rattle.levels.specs.declared.turns.Pass.the-variants.{Arrays, Binary}
-use Rattle.levels.specs.declared.turns.Walk.{Walk}
-use Rattle.levels.specs.declared.turns.Finished.{Finished}
+use Rattle.levels.specs.{declared.failure.Failure.{Failure}, declared.turns.Pass.{Pass}, declared.turns.Pass.the-variants.{Arrays, Binary}}
+use Rattle.levels.specs.{declared.turns.Walk.{Walk}, declared.turns.Finished.{Finished}}
 use Rattle.levels.specs.declared.turns.Finished.the-variants.{At, Fail as Failed}
 use Rattle.levels.proofs.States.{split-none, split-some}
 use Rattle.grouping.specs.Driver.{FrameOf, Stack, bottom, over, Full, Going, turnsBelow, Beyond, CanMove, Moved, NextTo, CanClose}
-use Rattle.grouping.specs.Driver.{Closed}
-use Rattle.grouping.specs.declared.driver.Next.the-variants.{On, Done, Fail}
+use Rattle.grouping.specs.{Driver.{Closed}, declared.driver.Next.the-variants.{On, Done, Fail}}
 use Rattle.grouping.proofs.StackLaws.{Bounds, stack-bounds, stack-keep, top-beyond, beyond-then}
 use Rattle.grouping.proofs.OutermostLaws.{give-outermost, move-outermost}
 

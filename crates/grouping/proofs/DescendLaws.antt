@@ -1,36 +1,22 @@
 -- A list waits in a frame while the children of its item are opened (`descend`).
 use Prim.Native.Nat.{ℕ, _+_, _<_}
-use mathlib.Core.Path.{_≡_, refl, sym, ap, _∙_, subst, subst₂}
-use mathlib.Core.Logic.{inl}
-use mathlib.Core.Bool.{false, true≢false}
-use mathlib.Core.List.{List, _∷_}
+use mathlib.Core.{Path.{_≡_, refl, sym, ap, _∙_, subst, subst₂}, Logic.{inl}, Bool.{false, true≢false}, List.{List, _∷_}}
 use native.Mathlib.Omega.{arith}
 use lib.ListN.{length}
-use Rattle.molang.specs.Forest.{Token, Forest, nil, node, count}
-use Rattle.molang.specs.Message.{ok}
-use Rattle.molang.specs.Free.{isNil}
-use Rattle.molang.specs.Work.{Kind, State, work, inReading, held}
-use Rattle.molang.proofs.Trees.{count-size}
-use Rattle.molang.proofs.Work.{reading-size, reading-count}
-use Rattle.nodes.specs.Store.{wd, slotWords, slotStart, RepT, Owned}
-use Rattle.nodes.specs.Frames.{CanPush, Pushed}
-use Rattle.nodes.specs.declared.frames.List.{List as Items}
+use Rattle.molang.specs.{Forest.{Token, Forest, nil, node, count}, Message.{ok}, Free.{isNil}, Work.{Kind, State, work, inReading, held}}
+use Rattle.molang.proofs.{Trees.{count-size}, Work.{reading-size, reading-count}}
+use Rattle.nodes.specs.{Store.{wd, slotWords, slotStart, RepT, Owned}, Frames.{CanPush, Pushed}, declared.frames.List.{List as Items}}
 use Rattle.nodes.specs.declared.frames.Held.{Held as Words}
-use Rattle.nodes.proofs.Store.{tree-below, tree-out, tree-keep}
-use Rattle.nodes.proofs.Tokens.{token-keep}
-use Rattle.nodes.proofs.Trees.{tree-owned}
+use Rattle.nodes.proofs.{Store.{tree-below, tree-out, tree-keep}, Tokens.{token-keep}, Trees.{tree-owned}}
 use Rattle.levels.specs.Passes.{walkOf, classesOf, heldOf, Runs, call, mathCall, unsplitPass, split, array, unary, level, conditionalPass}
-use Rattle.levels.specs.Passes.{returnPass}
-use Rattle.levels.specs.Sides.{ArraySide, DoneSide, InFrame, Holds, Waits}
-use Rattle.levels.specs.Turns.{lentOf, Begins, afresh, lent}
+use Rattle.levels.specs.{Passes.{returnPass}, Sides.{ArraySide, DoneSide, InFrame, Holds, Waits}, Turns.{lentOf, Begins, afresh, lent}}
 use Rattle.levels.specs.declared.turns.Pass.{Pass}
 use Rattle.levels.specs.declared.turns.Pass.the-variants.{Calls, MathCalls, Unsplit, Split, Arrays, Unary, Binary, Conditional, Returns}
 use Rattle.levels.specs.declared.turns.Walk.{Walk}
 use Rattle.grouping.specs.Driver.{FrameOf, Stack, over, Going, Beyond, CanOpen, Opened, CanDescend, Descended}
 use Rattle.grouping.proofs.SideLaws.{open-array-keep}
 use Rattle.grouping.proofs.StackLaws.{waits-keep, waits-within, stack-bounds, stack-within, stack-keep, top-beyond}
-use Rattle.grouping.proofs.StartLaws.{begins-low}
-use Rattle.grouping.proofs.Lasting.{begun-full, lent-full}
+use Rattle.grouping.proofs.{StartLaws.{begins-low}, Lasting.{begun-full, lent-full}}
 
 -- ---- the state in a frame
 

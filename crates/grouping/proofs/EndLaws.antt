@@ -1,33 +1,21 @@
 -- The end of a list whose items are all done: the done trees are what the pass gives, in order.
 use Prim.Native.Nat.{ℕ, _+_, _-_, _^_, _≤_, _<_}
-use mathlib.Core.Path.{_≡_, refl, sym, subst}
-use mathlib.Core.List.{List, [], _∷_}
-use native.Mathlib.Omega.{arith}
-use native.Mathlib.Nat.{le-refl}
+use mathlib.Core.{Path.{_≡_, refl, sym, subst}, List.{List, [], _∷_}}
+use native.Mathlib.{Omega.{arith}, Nat.{le-refl}}
 use lib.ListN.{length}
 use types.Run.{OneOf, miss}
 use denote.Enum.Declared.{tagOf}
-use Rattle.molang.specs.Forest.{Forest, inOrder}
-use Rattle.molang.specs.Level.{walk}
-use Rattle.molang.specs.Calls.{callLevel, callFinish, arrayLevel, arrayFinish, flushed}
-use Rattle.molang.specs.Statements.{statementLevel, statementFinish}
-use Rattle.molang.specs.Unary.{returnLevel, returnFinish}
-use Rattle.molang.specs.Binary.{binaryLevel, binaryFinish}
-use Rattle.molang.specs.Work.{Kind, State, work, fromRight}
-use Rattle.nodes.specs.Store.{InArray}
-use Rattle.nodes.specs.declared.frames.List.{List as Items}
-use Rattle.nodes.proofs.Store.{back-raise, rep-lower}
-use Rattle.nodes.proofs.Trees.{gathered-array}
-use Rattle.levels.specs.Passes.{walkOf, Runs, call, mathCall, unsplitPass, array, unary, level, returnPass, waits}
-use Rattle.levels.specs.Items.{BackArray}
+use Rattle.molang.specs.{Forest.{Forest, inOrder}, Level.{walk}, Calls.{callLevel, callFinish, arrayLevel, arrayFinish, flushed}}
+use Rattle.molang.specs.{Statements.{statementLevel, statementFinish}, Unary.{returnLevel, returnFinish}}
+use Rattle.molang.specs.{Binary.{binaryLevel, binaryFinish}, Work.{Kind, State, work, fromRight}}
+use Rattle.nodes.specs.{Store.{InArray}, declared.frames.List.{List as Items}}
+use Rattle.nodes.proofs.{Store.{back-raise, rep-lower}, Trees.{gathered-array}}
+use Rattle.levels.specs.{Passes.{walkOf, Runs, call, mathCall, unsplitPass, array, unary, level, returnPass, waits}, Items.{BackArray}}
 use Rattle.levels.specs.Sides.{GatherSide, LevelSide, StatementSide, ArraySide, RightSide, DoneSide, AtTurn}
-use Rattle.levels.specs.Turns.{CanFinish, FinishTo, gives, Ends}
-use Rattle.levels.specs.declared.turns.Pass.{Pass}
+use Rattle.levels.specs.{Turns.{CanFinish, FinishTo, gives, Ends}, declared.turns.Pass.{Pass}}
 use Rattle.levels.specs.declared.turns.Pass.the-variants.{Calls, MathCalls, Unsplit, Split, Arrays, Unary, Binary, Conditional, Returns}
-use Rattle.levels.specs.declared.turns.Finished.{Finished}
-use Rattle.levels.specs.declared.turns.Finished.the-variants.{At}
-use Rattle.levels.proofs.Reading.{same-within}
-use Rattle.levels.proofs.turns.Pass.{the-type}
+use Rattle.levels.specs.{declared.turns.Finished.{Finished}, declared.turns.Finished.the-variants.{At}}
+use Rattle.levels.proofs.{Reading.{same-within}, turns.Pass.{the-type}}
 use Rattle.grouping.proofs.StackLaws.{holds-within}
 
 -- The passes that give the done trees from the left as they are.

@@ -1,48 +1,33 @@
 -- The flat passes in the reading: each one, where it runs, takes the definition's reading on to the next pass, or ends it. What they leave
 -- is no heavier than the tokens.
 use Prim.Native.Nat.{ℕ, suc, _+_, _*_, _-_, _≤_, _<_}
-use mathlib.Core.Path.{_≡_, refl, sym, ap, _∙_, subst}
-use mathlib.Core.Logic.{_≢_}
-use mathlib.Core.Bool.{Bool, true, false}
-use mathlib.Core.List.{List, [], _∷_}
+use mathlib.Core.{Path.{_≡_, refl, sym, ap, _∙_, subst}, Logic.{_≢_}, Bool.{Bool, true, false}, List.{List, [], _∷_}}
 use mathlib.Core.Option.{Option, none, some}
-use native.Mathlib.Omega.{arith}
-use native.Mathlib.Nat.{le-refl}
-use lib.Dec.{eqb}
-use lib.ListN.{length}
+use native.Mathlib.{Omega.{arith}, Nat.{le-refl}}
+use lib.{Dec.{eqb}, ListN.{length}}
 use borrow.Author.Tests.{eq-eqb, ne-eqb}
 use denote.Enum.Declared.{tagOf}
 use types.Run.{OneOf, miss}
 use Rattle.molang.specs.Operator
-use Rattle.molang.specs.Forest.{Token, Forest, nil, leaves, count}
-use Rattle.molang.specs.Message.{Message, complexMustEndWithSemicolon, Result, ok, fail}
+use Rattle.molang.specs.{Forest.{Token, Forest, nil, leaves, count}, Message.{Message, complexMustEndWithSemicolon, Result, ok, fail}}
 use Rattle.molang.specs.Sections.{members, outside, sections}
 use Rattle.molang.specs.Order.{Pass, lastToken, memberAccessors, sectioning, runs, lastOf, endsWithSemicolon, apply}
-use Rattle.molang.specs.Read.{Answer, messages, endsReading, grouped}
-use Rattle.molang.specs.Free.{flat}
-use Rattle.molang.specs.Weight.{weight, nodeWeight}
-use Rattle.molang.proofs.Walks.{failed, fine}
-use Rattle.molang.proofs.Sections.{Flat, Sectioned, leaves-flat, members-light, sections-light}
+use Rattle.molang.specs.{Read.{Answer, messages, endsReading, grouped}, Free.{flat}, Weight.{weight, nodeWeight}}
+use Rattle.molang.proofs.{Walks.{failed, fine}, Sections.{Flat, Sectioned, leaves-flat, members-light, sections-light}}
 use Rattle.molang.proofs.Bounds.{leaves-weight}
 use Rattle.ops.specs.declared.sets.OpSet.{OpSet}
-use Rattle.nodes.specs.Store.{wd, TokenAt, Seg, RepF, ends, more}
-use Rattle.nodes.specs.Slots.{opAt}
-use Rattle.nodes.proofs.Store.{reserve-pos, rep-count}
-use Rattle.nodes.proofs.Tokens.{token-op}
-use Rattle.grouping.specs.Grouped.{tells, notEnded, withoutTokens, StandsFor}
+use Rattle.nodes.specs.{Store.{wd, TokenAt, Seg, RepF, ends, more}, Slots.{opAt}}
+use Rattle.nodes.proofs.{Store.{reserve-pos, rep-count}, Tokens.{token-op}}
+use Rattle.grouping.specs.{Grouped.{tells, notEnded, withoutTokens, StandsFor}, declared.grouped.Grouped.the-variants.{Failed}}
+use Rattle.grouping.specs.Group.{CanGroup, FlatTo, ifRun, EndsTo, ended, unended, EndsRight, JoinedIf, SectionedIf, Flattened}
 use Rattle.grouping.specs.Grouped as stands
 use Rattle.levels.specs.declared.failure.Failure.the-variants.{ComplexMustEndWithSemicolon, ComplexWithoutTokens}
-use Rattle.grouping.specs.declared.grouped.Grouped.the-variants.{Failed}
-use Rattle.order.specs.Ranks.{usedBy}
-use Rattle.order.proofs.Folding.{failed as failing, next, run-first, skip-first}
-use Rattle.sections.specs.Flat.{FlatTells, failed, mismatched, unclosed, Answers, CanJoin, Joined, CanSection}
-use Rattle.sections.specs.Flat as pass
-use Rattle.grouping.specs.Group.{CanGroup, FlatTo, ifRun, EndsTo, ended, unended, EndsRight, JoinedIf, SectionedIf, Flattened}
-use Rattle.sections.specs.declared.Flat.{Flat as Left}
-use Rattle.sections.specs.declared.Flat.the-variants.{Done, Fail, Mismatched, Unclosed as Unclosing}
-use Rattle.sections.proofs.Flat.{the-type}
 use Rattle.levels.proofs.Reading.{when-true, when-false}
-use Rattle.sections.proofs.SectionCases.{found}
+use Rattle.order.{specs.Ranks.{usedBy}, proofs.Folding.{failed as failing, next, run-first, skip-first}}
+use Rattle.sections.specs.Flat.{FlatTells, failed, mismatched, unclosed, Answers, CanJoin, Joined, CanSection}
+use Rattle.sections.specs.{declared.Flat.{Flat as Left}, declared.Flat.the-variants.{Done, Fail, Mismatched, Unclosed as Unclosing}}
+use Rattle.sections.proofs.{Flat.{the-type}, SectionCases.{found}}
+use Rattle.sections.specs.Flat as pass
 
 -- ---- one pass of the reading
 

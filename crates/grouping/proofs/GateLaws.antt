@@ -1,29 +1,18 @@
 -- A pass leaves a list as it is where none of its tokens stands in it, and slot 0 notes whether one does: such a pass need not run.
 use Prim.Native.Nat.{ℕ, _≤_}
-use mathlib.Core.Path.{_≡_, refl, sym, _∙_, subst}
-use mathlib.Core.Bool.{true, false}
-use mathlib.Core.List.{List}
+use mathlib.Core.{Path.{_≡_, refl, sym, _∙_, subst}, Bool.{true, false}, List.{List}}
 use native.Mathlib.Omega.{arith}
 use lib.ListN.{length}
 use borrow.Author.Tests.{not-false}
-use Rattle.molang.specs.Forest.{Forest}
-use Rattle.molang.specs.Message.{ok}
-use Rattle.molang.specs.Calls.{queryOrLoop, math}
-use Rattle.molang.specs.Order
-use Rattle.molang.specs.Free.{free, operatorsOf, worksOn}
+use Rattle.molang.specs.{Forest.{Forest}, Message.{ok}, Calls.{queryOrLoop, math}, Free.{free, operatorsOf, worksOn}}
 use Rattle.molang.specs.Work.{Kind, calls, statements, arrays, unaryMinusAndNot, conditional, returns, binary, passOf, pass}
 use Rattle.molang.proofs.NoMasks.{no-masks}
+use Rattle.molang.specs.Order
 use Rattle.ops.specs.Classes.{shares}
-use Rattle.nodes.specs.Store.{slotEnd, classesAt}
-use Rattle.nodes.proofs.Classes.{notes-meet}
-use Rattle.levels.specs.Passes.{classesOf, operators}
-use Rattle.levels.specs.declared.turns.Pass.{Pass}
-use Rattle.levels.proofs.PassClasses.{runs-covers}
-use Rattle.order.specs.declared.Choice.{Choice}
-use Rattle.order.specs.declared.Choice.the-variants.{Run, Skip}
-use Rattle.grouping.specs.Driver.{CanRun, done, HasRun}
-use Rattle.grouping.specs.Choice.{CanChoose, Chosen}
-use Rattle.grouping.specs.declared.driver.Ran.{Ran}
+use Rattle.nodes.{specs.Store.{slotEnd, classesAt}, proofs.Classes.{notes-meet}}
+use Rattle.levels.{specs.Passes.{classesOf, operators}, specs.declared.turns.Pass.{Pass}, proofs.PassClasses.{runs-covers}}
+use Rattle.order.specs.{declared.Choice.{Choice}, declared.Choice.the-variants.{Run, Skip}}
+use Rattle.grouping.specs.{Driver.{CanRun, done, HasRun}, Choice.{CanChoose, Chosen}, declared.driver.Ran.{Ran}}
 use Rattle.grouping.specs.declared.driver.Ran.the-variants.{Done}
 
 -- 'No masks' for the passes that go through nested lists.

@@ -1,22 +1,13 @@
 -- No pass raises a weight (`pass-light`) or empties a list (`begun-full`).
 use Prim.Native.Nat.{ℕ, _+_, _*_, _≤_, zero-le}
-use mathlib.Core.Path.{_≡_, refl, sym, ap, _∙_, subst}
-use mathlib.Core.Bool.{Bool, true, false, not, true≢false}
+use mathlib.Core.{Path.{_≡_, refl, sym, ap, _∙_, subst}, Bool.{Bool, true, false, not, true≢false}}
 use native.Mathlib.Omega.{arith}
-use Rattle.molang.specs.Operator.{semicolon, add, negate, array, arrayVariable}
-use Rattle.molang.specs.Forest.{Token, Forest, nil, node, renamed}
-use Rattle.molang.specs.Message.{Result, ok}
-use Rattle.molang.specs.Level.{Step, walk, through}
+use Rattle.molang.specs.{Operator.{semicolon, add, negate, array, arrayVariable}, Forest.{Token, Forest, nil, node, renamed}}
+use Rattle.molang.specs.{Message.{Result, ok}, Level.{Step, walk, through}}
 use Rattle.molang.specs.Calls.{Indexing, named, indexed, flushed, isIndex, startsWithIndex, emptyIndex, nextIndex, index, arrayStep}
-use Rattle.molang.specs.Calls.{arrayLevel}
-use Rattle.molang.specs.Order.{apply}
-use Rattle.molang.specs.Free.{isNil}
-use Rattle.molang.specs.Weight.{Weighing, weight, nodesOf, nodeWeight}
+use Rattle.molang.specs.{Calls.{arrayLevel}, Order.{apply}, Free.{isNil}, Weight.{Weighing, weight, nodesOf, nodeWeight}}
 use Rattle.molang.specs.Work.{Kind, arrays, work, begins, inReading, passOf, pass}
-use Rattle.molang.proofs.Walks.{failed, fine, onward, walk-onward}
-use Rattle.molang.proofs.Weight.{Ending}
-use Rattle.molang.proofs.Passes.{kind-nested, apply-light}
-use Rattle.molang.proofs.Work.{pass-begins}
+use Rattle.molang.proofs.{Walks.{failed, fine, onward, walk-onward}, Weight.{Ending}, Passes.{kind-nested, apply-light}, Work.{pass-begins}}
 
 -- ---- no pass raises a weight, or empties a list
 

@@ -1,45 +1,27 @@
 -- The loop over the ranks (`levels`): what the ranks that are left make of the list of slot 0 is the definition's answer at every turn, and
 -- the list is never heavier than three nodes for each token, so that each pass has room to run.
 use Prim.Native.Nat.{ℕ, _+_, _*_, _≤_}
-use mathlib.Core.Path.{_≡_, refl, sym, ap, _∙_, subst, subst₂}
-use mathlib.Core.Logic.{_≢_}
-use mathlib.Core.Bool.{Bool}
-use mathlib.Core.List.{List, [], _∷_}
+use mathlib.Core.{Path.{_≡_, refl, sym, ap, _∙_, subst, subst₂}, Logic.{_≢_}, Bool.{Bool}, List.{List, [], _∷_}}
 use native.Mathlib.Omega.{arith}
-use lib.IntN.{ℤ}
-use lib.ListN.{length, drop}
-use Rattle.molang.specs.Forest.{Forest, leaves}
-use Rattle.molang.specs.Order.{Rules, Pass, order, lastToken, memberAccessors, sectioning}
-use Rattle.molang.specs.Read.{Answer, grouped}
-use Rattle.molang.specs.Weight.{weight, nodeWeight}
-use Rattle.molang.specs.Work.{pass}
-use Rattle.molang.proofs.Bounds.{size-weight}
+use lib.{IntN.{ℤ}, ListN.{length, drop}}
+use Rattle.molang.{specs.Forest.{Forest, leaves}, specs.Order.{Rules, Pass, order, lastToken, memberAccessors, sectioning}}
+use Rattle.molang.{specs.Read.{Answer, grouped}, specs.Weight.{weight, nodeWeight}, specs.Work.{pass}, proofs.Bounds.{size-weight}}
 use Rattle.ops.specs.declared.sets.OpSet.{OpSet}
-use Rattle.nodes.specs.Children.{CanGive, Given}
-use Rattle.nodes.proofs.Trees.{array-give}
-use Rattle.levels.specs.Turns.{lentOf}
-use Rattle.grouping.specs.Grouped.{tells, StandsFor, roots, failed, pointerFailed}
-use Rattle.levels.specs.declared.failure.Failure.{Failure}
-use Rattle.grouping.specs.declared.grouped.Grouped.{Grouped}
+use Rattle.nodes.{specs.Children.{CanGive, Given}, proofs.Trees.{array-give}}
+use Rattle.levels.specs.{Turns.{lentOf}, declared.failure.Failure.{Failure}, declared.turns.Pass.{Pass as State}}
+use Rattle.grouping.specs.{Grouped.{tells, StandsFor, roots, failed, pointerFailed}, declared.grouped.Grouped.{Grouped}}
 use Rattle.grouping.specs.declared.grouped.Grouped.the-variants.{Roots, Failed, Mismatched, Unclosed, PointerFailed}
-use Rattle.levels.specs.declared.turns.Pass.{Pass as State}
-use Rattle.order.specs.Ranks.{usedBy, rulesOf, later, Starts, Chosen as Picked}
-use Rattle.order.specs.Ranks as starts
-use Rattle.order.specs.declared.Choice.{Choice}
-use Rattle.order.specs.declared.Choice.the-variants.{Run, Skip}
-use Rattle.order.proofs.Folding.{grouped-last, grouped-skip, RankRuns, rank-runs}
-use Rattle.grouping.specs.Driver.{Outermost, CanRun, RanTo, done}
-use Rattle.grouping.specs.Driver as driver
-use Rattle.grouping.specs.Choice.{CanChoose, Chosen}
-use Rattle.grouping.specs.Group.{CanGroup, HasGrouped, Listed, Flattened, CanLevel, Levelled}
-use Rattle.grouping.specs.declared.driver.Ran.{Ran}
+use Rattle.grouping.specs.{Driver.{Outermost, CanRun, RanTo, done}, Choice.{CanChoose, Chosen}}
+use Rattle.grouping.specs.{Group.{CanGroup, HasGrouped, Listed, Flattened, CanLevel, Levelled}, declared.driver.Ran.{Ran}}
 use Rattle.grouping.specs.declared.driver.Ran.the-variants.{Done, Fail}
+use Rattle.order.{specs.Ranks.{usedBy, rulesOf, later, Starts, Chosen as Picked}, specs.declared.Choice.{Choice}}
+use Rattle.order.{specs.declared.Choice.the-variants.{Run, Skip}, proofs.Folding.{grouped-last, grouped-skip, RankRuns, rank-runs}}
+use Rattle.order.specs.Ranks as starts
+use Rattle.grouping.specs.Driver as driver
 use Rattle.sections.specs.declared.Flat.{Flat}
 use Rattle.sections.specs.declared.Flat.the-variants.{Done as Items, Fail as FlatFail, Mismatched as FlatMismatched}
 use Rattle.sections.specs.declared.Flat.the-variants.{Unclosed as FlatUnclosed}
-use Rattle.grouping.proofs.FlatOrder.{Fallen}
-use Rattle.grouping.proofs.Lasting.{pass-nodes}
-use Rattle.grouping.proofs.OutermostLaws.{give-outermost}
+use Rattle.grouping.proofs.{FlatOrder.{Fallen}, Lasting.{pass-nodes}, OutermostLaws.{give-outermost}}
 
 -- what `group` gives back where a flat pass fails
 abbrev pub endOf : Flat → Grouped

@@ -1,20 +1,13 @@
 -- The outermost list between two passes: given to slot 0 it still stands where it stood, it can be moved down, and the next pass may take
 -- it from there.
 use Prim.Native.Nat.{ℕ, _+_, _≤_, _<_}
-use mathlib.Core.Path.{_≡_, refl, sym, ap, _∙_, subst}
-use mathlib.Core.Logic.{_⊎_, inl, inr, ⊎-elim}
-use mathlib.Core.Bool.{Bool, true, false}
-use mathlib.Core.List.{List, [], _∷_}
-use native.Mathlib.Omega.{arith}
-use native.Mathlib.Nat.{add-zero}
-use lib.Dec.{eqb}
-use lib.ListN.{length, set, length-set}
+use mathlib.Core.{Path.{_≡_, refl, sym, ap, _∙_, subst}, Logic.{_⊎_, inl, inr, ⊎-elim}, Bool.{Bool, true, false}, List.{List, [], _∷_}}
+use native.Mathlib.{Omega.{arith}, Nat.{add-zero}}
+use lib.{Dec.{eqb}, ListN.{length, set, length-set}}
 use borrow.Author.Tests.{eqb-true, eqb-false}
 use Rattle.molang.specs.Forest.{Forest}
-use Rattle.nodes.specs.Store.{wd, firstField, classesField, slotStart, nextWord, firstAt, Seg, InArray}
-use Rattle.nodes.specs.Children.{Taken, Given}
-use Rattle.nodes.proofs.Runs.{wd-same, wd-other, off-above, seg-keep, chain-unique}
-use Rattle.nodes.proofs.Store.{rep-lower, rep-keep, links-keep, roots-above}
+use Rattle.nodes.specs.{Store.{wd, firstField, classesField, slotStart, nextWord, firstAt, Seg, InArray}, Children.{Taken, Given}}
+use Rattle.nodes.proofs.{Runs.{wd-same, wd-other, off-above, seg-keep, chain-unique}, Store.{rep-lower, rep-keep, links-keep, roots-above}}
 use Rattle.nodes.proofs.Trees.{array-owned}
 use Rattle.grouping.specs.Driver.{Outermost, CanMove, Moved}
 

@@ -1,42 +1,26 @@
 -- An item whose children are done is taken back: it goes behind the done items (`keep-resumed`), or from the right before them
 -- (`right-resumed`). The states that take it otherwise, an array and a binary level, have laws of their own.
 use Prim.Native.Nat.{ℕ, _+_, _-_, _≤_, _<_}
-use mathlib.Core.Path.{_≡_, refl, sym, ap, _∙_, subst}
-use mathlib.Core.Logic.{_≢_, ⊎-elim}
-use mathlib.Core.Bool.{Bool, false, true≢false}
-use mathlib.Core.List.{List, [], _∷_}
+use mathlib.Core.{Path.{_≡_, refl, sym, ap, _∙_, subst}, Logic.{_≢_, ⊎-elim}, Bool.{Bool, false, true≢false}, List.{List, [], _∷_}}
 use mathlib.Core.Option.{none, some}
-use native.Mathlib.Omega.{arith}
-use native.Mathlib.Nat.{le-refl}
+use native.Mathlib.{Omega.{arith}, Nat.{le-refl}}
 use lib.ListN.{length, set}
 use types.Run.{OneOf, miss}
 use denote.Enum.Declared.{tagOf}
-use Rattle.molang.specs.Operator.{semicolon}
-use Rattle.molang.specs.Forest.{Token, Forest, nil, node, bare}
-use Rattle.molang.specs.Level.{Gathered, gathered}
-use Rattle.molang.specs.Calls.{callLevel, callResume}
-use Rattle.molang.specs.Statements.{Split, unsplit, after, inside, gather, statementResume, statementLevel}
-use Rattle.molang.specs.Unary.{returnLevel, returnResume, turned}
-use Rattle.molang.specs.Conditional.{conditionalLevel}
-use Rattle.molang.specs.Order.{lastOf}
-use Rattle.molang.specs.Free.{isNil, isConditional}
-use Rattle.molang.specs.Work.{Kind, State, takes}
+use Rattle.molang.specs.{Operator.{semicolon}, Forest.{Token, Forest, nil, node, bare}, Level.{Gathered, gathered}}
+use Rattle.molang.specs.{Calls.{callLevel, callResume}, Statements.{Split, unsplit, after, inside, gather, statementResume, statementLevel}}
+use Rattle.molang.specs.{Unary.{returnLevel, returnResume, turned}, Conditional.{conditionalLevel}, Order.{lastOf}}
+use Rattle.molang.specs.{Free.{isNil, isConditional}, Work.{Kind, State, takes}}
 use Rattle.molang.proofs.Trees.{some-none}
-use Rattle.nodes.specs.Store.{wd, slotStart, Seg, RepT, RepB, InArray}
-use Rattle.nodes.specs.declared.frames.List.{List as Items}
-use Rattle.nodes.proofs.Runs.{set-same, set-other, set-long}
-use Rattle.nodes.proofs.Store.{tree-below, tree-keep, tree-more, back-le}
+use Rattle.nodes.specs.{Store.{wd, slotStart, Seg, RepT, RepB, InArray}, declared.frames.List.{List as Items}}
+use Rattle.nodes.proofs.{Runs.{set-same, set-other, set-long}, Store.{tree-below, tree-keep, tree-more, back-le}}
 use Rattle.levels.specs.Passes.{walkOf, movedTo, Runs, call, mathCall, unsplitPass, split, unary, conditionalPass, returnPass}
 use Rattle.levels.specs.Items.{BackArray, Ahead}
 use Rattle.levels.specs.Sides.{GatherSide, ConditionalSide, tokensIn, EndedAt, StatementSide, RightSide, SplitAgrees, DoneSide, UnreadSide}
-use Rattle.levels.specs.Sides.{Agrees, AtTurn, InFrame, Holds}
-use Rattle.levels.specs.Turns.{CanResume, Resumed}
-use Rattle.levels.specs.declared.turns.Pass.{Pass}
+use Rattle.levels.specs.{Sides.{Agrees, AtTurn, InFrame, Holds}, Turns.{CanResume, Resumed}, declared.turns.Pass.{Pass}}
 use Rattle.levels.specs.declared.turns.Pass.the-variants.{Calls, MathCalls, Unsplit, Split as SplitAt, Arrays, Unary, Binary, Conditional}
-use Rattle.levels.specs.declared.turns.Pass.the-variants.{Returns}
-use Rattle.levels.specs.declared.turns.Walk.{Walk}
-use Rattle.levels.proofs.Reading.{SameSlots, back-array-keep, array-keep, ahead-keep, array-put}
-use Rattle.levels.proofs.Ended.{ended-le, ended-at-keep}
+use Rattle.levels.specs.{declared.turns.Pass.the-variants.{Returns}, declared.turns.Walk.{Walk}}
+use Rattle.levels.proofs.{Reading.{SameSlots, back-array-keep, array-keep, ahead-keep, array-put}, Ended.{ended-le, ended-at-keep}}
 use Rattle.levels.proofs.turns.Pass.{the-type}
 use Rattle.grouping.specs.Driver.{Keeping}
 use Rattle.grouping.proofs.StackLaws.{waits-within}

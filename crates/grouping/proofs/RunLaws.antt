@@ -1,32 +1,20 @@
 -- The driver's loop (`run`): the result of what is left to be done is that of the whole pass at every turn, and there are fewer turns left
 -- than words.
 use Prim.Native.Nat.{ℕ, _+_, _≤_, _<_}
-use mathlib.Core.Path.{_≡_, refl, sym, _∙_, subst, subst₂}
-use mathlib.Core.Logic.{inl}
-use mathlib.Core.List.{List, [], _∷_}
-use native.Mathlib.Omega.{arith}
-use native.Mathlib.Nat.{le-refl}
+use mathlib.Core.{Path.{_≡_, refl, sym, _∙_, subst, subst₂}, Logic.{inl}, List.{List, [], _∷_}}
+use native.Mathlib.{Omega.{arith}, Nat.{le-refl}}
 use lib.ListN.{length}
-use Rattle.molang.specs.Forest.{Forest, count}
-use Rattle.molang.specs.Message.{Result}
-use Rattle.molang.specs.Calls.{arrayLevel}
+use Rattle.molang.specs.{Forest.{Forest, count}, Message.{Result}, Calls.{arrayLevel}}
 use Rattle.molang.specs.Work.{Kind, calls, statements, arrays, unaryMinusAndNot, conditional, returns, binary, State, work, begins}
 use Rattle.molang.specs.Work.{inReading, pass, Held, unwound}
-use Rattle.molang.proofs.Trees.{count-size}
-use Rattle.molang.proofs.Work.{pass-begins, reading-size, reading-count}
-use Rattle.levels.specs.Passes.{classesOf, waits}
-use Rattle.levels.specs.Sides.{Holds}
-use Rattle.levels.specs.Turns.{turnsLeft, afresh}
-use Rattle.levels.specs.declared.failure.Failure.{Failure}
-use Rattle.levels.specs.declared.turns.Pass.{Pass}
-use Rattle.levels.specs.declared.turns.Walk.{Walk}
+use Rattle.molang.proofs.{Trees.{count-size}, Work.{pass-begins, reading-size, reading-count}}
+use Rattle.levels.specs.{Passes.{classesOf, waits}, Sides.{Holds}, Turns.{turnsLeft, afresh}, declared.failure.Failure.{Failure}}
+use Rattle.levels.specs.{declared.turns.Pass.{Pass}, declared.turns.Walk.{Walk}}
 use Rattle.grouping.specs.Driver.{Stack, bottom, Going, turnsBelow, Beyond, CanOpen, Opened, CanBegin, Begun, NextTo, CanAdvance}
-use Rattle.grouping.specs.Driver.{Advanced, CanRun, RanTo, done, failed, HasRun}
-use Rattle.grouping.specs.declared.driver.Next.{Next}
+use Rattle.grouping.specs.{Driver.{Advanced, CanRun, RanTo, done, failed, HasRun}, declared.driver.Next.{Next}}
 use Rattle.grouping.specs.declared.driver.Next.the-variants.{On, Done, Fail}
 use Rattle.grouping.specs.declared.driver.Ran.the-variants.{Done as Through, Fail as Failed}
-use Rattle.grouping.proofs.StackLaws.{beyond-then}
-use Rattle.grouping.proofs.OutermostLaws.{outermost-taken}
+use Rattle.grouping.proofs.{StackLaws.{beyond-then}, OutermostLaws.{outermost-taken}}
 
 -- ---- the outermost list begins
 

@@ -1,25 +1,17 @@
 -- What a change of words leaves of a list under work (`sides-keep`): where the slots of its done and its unread side and the list's own
 -- words are as they were, it is as it was, whatever its pass.
 use Prim.Native.Nat.{ℕ, _+_, _≤_, _<_}
-use mathlib.Core.Path.{_≡_}
-use mathlib.Core.List.{List}
+use mathlib.Core.{Path.{_≡_}, List.{List}}
 use native.Mathlib.Omega.{arith}
 use lib.ListN.{length}
-use Rattle.molang.specs.Forest.{Token, Forest}
-use Rattle.molang.specs.Level.{Gathered}
-use Rattle.molang.specs.Calls.{Indexing}
-use Rattle.molang.specs.Statements.{Split}
+use Rattle.molang.specs.{Forest.{Token, Forest}, Level.{Gathered}, Calls.{Indexing}, Statements.{Split}}
 use Rattle.molang.specs.Work.{Kind, calls, statements, arrays, unaryMinusAndNot, conditional, returns, binary, Right, State}
 use Rattle.nodes.specs.Store.{wd, slotWords, firstField, nextField, slotStart, firstAt, nextAt, Chain, Out, RepB, begins, put}
 use Rattle.nodes.specs.declared.frames.List.{List as Items}
-use Rattle.nodes.proofs.Tokens.{token-keep}
-use Rattle.nodes.proofs.Store.{tree-below, tree-out, tree-keep, back-le, back-keep}
+use Rattle.nodes.proofs.{Tokens.{token-keep}, Store.{tree-below, tree-out, tree-keep, back-le, back-keep}}
 use Rattle.levels.specs.Sides.{GatherSide, LevelSide, ConditionalSide, OpenAt, StatementSide, OpenArray, ArraySide, RightSide, DoneSide}
-use Rattle.levels.specs.Sides.{UnreadSide, Sides}
-use Rattle.levels.specs.declared.turns.Pass.{Pass}
-use Rattle.levels.specs.declared.turns.Walk.{Walk}
-use Rattle.levels.proofs.Reading.{SameSlots, SameWords, back-array-keep, array-keep, ahead-keep}
-use Rattle.levels.proofs.Ended.{ended-le, ended-at-keep}
+use Rattle.levels.specs.{Sides.{UnreadSide, Sides}, declared.turns.Pass.{Pass}, declared.turns.Walk.{Walk}}
+use Rattle.levels.proofs.{Reading.{SameSlots, SameWords, back-array-keep, array-keep, ahead-keep}, Ended.{ended-le, ended-at-keep}}
 
 module _ (W W' : List ℕ) where
   -- ---- a chain from the last child on

@@ -1,23 +1,15 @@
 -- THE FRAME RULE (`stack-keep`): what the list on top does changes the slots of its own interval, its owner's links, and words from its
 -- base on. The lists that wait below it are as they were.
 use Prim.Native.Nat.{ℕ, _+_, _≤_, _<_}
-use mathlib.Core.Path.{_≡_, _∙_}
-use mathlib.Core.Logic.{_⊎_, inl, inr}
-use mathlib.Core.List.{List, []}
-use native.Mathlib.Omega.{arith}
-use native.Mathlib.Nat.{le-refl}
+use mathlib.Core.{Path.{_≡_, _∙_}, Logic.{_⊎_, inl, inr}, List.{List, []}}
+use native.Mathlib.{Omega.{arith}, Nat.{le-refl}}
 use lib.ListN.{length}
-use Rattle.molang.specs.Forest.{Token, Forest}
-use Rattle.molang.specs.Work.{Kind, State, Held}
-use Rattle.nodes.specs.Store.{wd, slotWords, slotStart, Out, Free}
-use Rattle.nodes.specs.declared.frames.List.{List as Items}
-use Rattle.nodes.proofs.Tokens.{token-keep}
-use Rattle.nodes.proofs.Keeping.{free-above, free-beside, free-own, free-inner}
+use Rattle.molang.specs.{Forest.{Token, Forest}, Work.{Kind, State, Held}}
+use Rattle.nodes.specs.{Store.{wd, slotWords, slotStart, Out, Free}, declared.frames.List.{List as Items}}
+use Rattle.nodes.proofs.{Tokens.{token-keep}, Keeping.{free-above, free-beside, free-own, free-inner}}
 use Rattle.levels.specs.Passes.{walkOf, Runs, call, mathCall, unsplitPass, split, array, unary, level, conditionalPass, returnPass}
-use Rattle.levels.specs.Sides.{RightSide, DoneSide, UnreadSide, AtTurn, InFrame, Holds, Waits}
-use Rattle.levels.specs.declared.turns.Pass.{Pass}
-use Rattle.levels.specs.declared.turns.Walk.{Walk}
-use Rattle.levels.proofs.Reading.{ahead-le, SameSlots, SameWords}
+use Rattle.levels.{specs.Sides.{RightSide, DoneSide, UnreadSide, AtTurn, InFrame, Holds, Waits}, specs.declared.turns.Pass.{Pass}}
+use Rattle.levels.{specs.declared.turns.Walk.{Walk}, proofs.Reading.{ahead-le, SameSlots, SameWords}}
 use Rattle.grouping.specs.Driver.{FrameOf, Stack, bottom, over, Beyond}
 use Rattle.grouping.proofs.SideLaws.{sides-keep}
 

@@ -1,37 +1,23 @@
 -- How a list begins (`open`): its owner's children stand in its words, all unread, and the pass's state is that of its beginning; or, where
 -- an array was lent to it, that array waits.
 use Prim.Native.Nat.{ℕ, _+_, _^_, _≤_, _<_}
-use mathlib.Core.Path.{_≡_, refl, sym, ap, _∙_, subst}
-use mathlib.Core.Logic.{_⊎_, inl, inr}
-use mathlib.Core.Bool.{true}
-use mathlib.Core.List.{List, [], _∷_}
-use native.Mathlib.Omega.{arith}
-use native.Mathlib.Nat.{add-zero, le-refl}
+use mathlib.Core.{Path.{_≡_, refl, sym, ap, _∙_, subst}, Logic.{_⊎_, inl, inr}, Bool.{true}, List.{List, [], _∷_}}
+use native.Mathlib.{Omega.{arith}, Nat.{add-zero, le-refl}}
 use lib.ListN.{length}
 use types.Run.{OneOf, miss}
 use denote.Enum.Declared.{tagOf}
-use Rattle.molang.specs.Forest.{Token, Forest, nil, inOrder, count}
-use Rattle.molang.specs.Level.{gathered, nothing}
-use Rattle.molang.specs.Calls.{queryOrLoop, math, callLevel, arrayLevel, unindexed, indexed, startsWithIndex}
-use Rattle.molang.specs.Unary.{returnLevel}
-use Rattle.molang.specs.Binary.{binaryLevel}
-use Rattle.molang.specs.Conditional.{conditionalLevel}
-use Rattle.molang.specs.Free.{clear}
+use Rattle.molang.specs.{Forest.{Token, Forest, nil, inOrder, count}, Level.{gathered, nothing}}
+use Rattle.molang.specs.{Calls.{queryOrLoop, math, callLevel, arrayLevel, unindexed, indexed, startsWithIndex}, Unary.{returnLevel}}
+use Rattle.molang.specs.{Binary.{binaryLevel}, Conditional.{conditionalLevel}, Free.{clear}}
 use Rattle.molang.specs.Work.{Kind, calls, statements, arrays, unaryMinusAndNot, conditional, returns, binary, State, begins, inReading}
 use Rattle.ops.specs.declared.classes.TokenClasses.{TokenClasses}
-use Rattle.nodes.specs.Store.{wd, slotStart, firstAt, onto, ends, RepB, InArray}
-use Rattle.nodes.specs.Children.{CanTake, Taken}
+use Rattle.nodes.specs.{Store.{wd, slotStart, firstAt, onto, ends, RepB, InArray}, Children.{CanTake, Taken}}
 use Rattle.nodes.specs.declared.frames.List.{List as Items}
-use Rattle.nodes.proofs.Runs.{segB-back, length-onto}
-use Rattle.nodes.proofs.Store.{rep-le, rep-lower, rep-count, onto-back}
-use Rattle.nodes.proofs.Trees.{can-take, take-array}
+use Rattle.nodes.proofs.{Runs.{segB-back, length-onto}, Store.{rep-le, rep-lower, rep-count, onto-back}, Trees.{can-take, take-array}}
 use Rattle.levels.specs.Passes.{walkOf, movedTo, classesOf, begunOf, Runs, call, mathCall, unsplitPass, split, array, unary, level}
-use Rattle.levels.specs.Passes.{conditionalPass, returnPass}
-use Rattle.levels.specs.Items.{BackArray, Ahead}
+use Rattle.levels.specs.{Passes.{conditionalPass, returnPass}, Items.{BackArray, Ahead}}
 use Rattle.levels.specs.Sides.{GatherSide, LevelSide, ConditionalSide, tokensIn, OpenArray, ArraySide, RightSide, DoneSide, UnreadSide}
-use Rattle.levels.specs.Sides.{Agrees, AtTurn, Holds}
-use Rattle.levels.specs.Turns.{Begins, afresh, lent, CanStart, Started}
-use Rattle.levels.specs.declared.turns.Pass.{Pass}
+use Rattle.levels.specs.{Sides.{Agrees, AtTurn, Holds}, Turns.{Begins, afresh, lent, CanStart, Started}, declared.turns.Pass.{Pass}}
 use Rattle.levels.specs.declared.turns.Pass.the-variants.{Calls, MathCalls, Unsplit, Split, Arrays, Unary, Binary, Conditional, Returns}
 use Rattle.levels.specs.declared.turns.Walk.{Walk}
 use Rattle.levels.proofs.turns.Pass.{the-type}

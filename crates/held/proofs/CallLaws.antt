@@ -1,33 +1,20 @@
 -- The four functions' promises: of calls that their own rows turn back, and of those that the entry answers. Assumes nothing.
 use Prim.Native.Nat.{ℕ, suc, _+_, _*_, _-_, _/_, _%_, _≤_, _<_}
-use mathlib.Core.Path.{_≡_, refl, ap, _∙_}
-use mathlib.Core.List.{List}
-use mathlib.Core.Option.{none, some}
-use native.Mathlib.Numerals.{add-one}
-use native.Mathlib.Omega.{arith}
-use lib.IntN.{ℤ}
-use lib.ListN.{length, take}
-use lib.Seq.{length-take-le, take-all}
+use mathlib.Core.{Path.{_≡_, refl, ap, _∙_}, List.{List}, Option.{none, some}}
+use native.Mathlib.{Numerals.{add-one}, Omega.{arith}}
+use lib.{IntN.{ℤ}, ListN.{length, take}, Seq.{length-take-le, take-all}}
 use borrow.Author.Tests.{le-leb, lt-leb}
-use Rattle.molang.specs.FirstFailure.{must, firstOf}
-use Rattle.molang.specs.Words.{row}
+use Rattle.molang.specs.{FirstFailure.{must, firstOf}, Words.{row}}
 use Rattle.molang.specs.Parse.{refusal, reading, told, answered, inFront, treeIn, treeAfter, messagesIn, messagesAfter, workIn, workAfter}
-use Rattle.molang.proofs.Accepted.{call-accepted}
-use Rattle.molang.proofs.FirstFailure.{last-one}
-use Rattle.molang.proofs.HandedTree.{front-words}
-use Rattle.parse.specs.declared.Answer.{Answer}
-use Rattle.parse.specs.declared.Answer.the-variants.{Refused as Turned}
-use Rattle.parse.specs.Answers.{toldOf, HasParsed}
+use Rattle.molang.proofs.{Accepted.{call-accepted}, FirstFailure.{last-one}, HandedTree.{front-words}}
+use Rattle.parse.specs.{declared.Answer.{Answer}, declared.Answer.the-variants.{Refused as Turned}, Answers.{toldOf, HasParsed}}
 use Rattle.own.specs.Own.{namedCall, ownCall}
-use Rattle.held.specs.declared.Held.{Held}
-use Rattle.held.specs.declared.Change.{Change}
-use Rattle.held.specs.declared.Change.the-variants.{Refused}
+use Rattle.held.specs.{declared.Held.{Held}, declared.Change.{Change}, declared.Change.the-variants.{Refused}}
 use Rattle.held.specs.Held.{State, Edit, Lent, heldList, edited, sliceRow, countRow, lentCall, editCall, leftBy, openRefusal}
 use Rattle.held.specs.Held.{openLeft, askLeft, commitLeft, opened, withEdit, committed, withVersion}
 use Rattle.held.specs.Answers.{outcomeOf, outcome, changes, isRefused, adoptOutcome, openSlice, HasOpened, HasAsked, HasCommitted}
 use Rattle.held.specs.Editing.{askFault, commitFault, CanEdit, Accepts, CanKeep, kept, keptTokens, counted}
-use Rattle.held.proofs.FaultLaws.{Within, ask-refused, ask-entry, commit-refused, commit-entry}
-use Rattle.held.proofs.EditLaws.{edited-tokens}
+use Rattle.held.proofs.{FaultLaws.{Within, ask-refused, ask-entry, commit-refused, commit-entry}, EditLaws.{edited-tokens}}
 use Rattle.held.proofs.KeepLaws.{unrefused, accepts, kept-outcome, kept-slice, slice-of}
 
 -- ---- An opening

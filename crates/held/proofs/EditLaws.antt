@@ -1,25 +1,17 @@
 -- The list with an edit made: how long it is, that three copies lay it, and where the entry turns it back by its length alone. Assumes
 -- nothing.
 use Prim.Native.Nat.{ℕ, _+_, _*_, _-_, _/_, _%_, _≤_, _<_}
-use mathlib.Core.Path.{_≡_, refl, ap, sym, _∙_}
-use mathlib.Core.List.{List, _++_, append-assoc}
-use mathlib.Core.Option.{some}
+use mathlib.Core.{Path.{_≡_, refl, ap, sym, _∙_}, List.{List, _++_, append-assoc}, Option.{some}}
 use native.Mathlib.Omega.{arith}
-use lib.IntN.{ℤ}
-use lib.ListN.{length, take, drop, length-append, length-drop}
-use lib.Seq.{length-take-le, take-all}
+use lib.{IntN.{ℤ}, ListN.{length, take, drop, length-append, length-drop}, Seq.{length-take-le, take-all}}
 use borrow.Author.Tests.{eq-eqb, ne-eqb, lt-leb}
-use Rattle.molang.specs.FirstFailure.{must, firstOf}
-use Rattle.molang.specs.Words.{row}
+use Rattle.molang.specs.{FirstFailure.{must, firstOf}, Words.{row}}
 use Rattle.molang.specs.Parse.{Call, inFront, lengthRows, refusal, told, answered, treeIn, treeAfter, messagesIn, messagesAfter, workIn}
 use Rattle.molang.specs.Parse.{workAfter}
-use Rattle.words.specs.Records.{laidAt}
-use Rattle.words.proofs.RecordLaws.{laid-front, laid-laid}
-use Rattle.parse.specs.declared.Answer.the-variants.{Refused}
-use Rattle.parse.specs.Answers.{HasParsed}
+use Rattle.words.{specs.Records.{laidAt}, proofs.RecordLaws.{laid-front, laid-laid}}
+use Rattle.parse.specs.{declared.Answer.the-variants.{Refused}, Answers.{HasParsed}}
 use Rattle.own.specs.Own.{namedCall, ownCall}
-use Rattle.held.specs.Held.{Edit, edited}
-use Rattle.held.specs.Editing.{CanSplice, CanEdit}
+use Rattle.held.specs.{Held.{Edit, edited}, Editing.{CanSplice, CanEdit}}
 
 -- Three rows of words, laid one behind the other in front of a buffer.
 laid-three : (xs ys zs buffer : List ℕ) (second third : ℕ) → second ≡ length xs → third ≡ second + length ys

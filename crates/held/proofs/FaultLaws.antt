@@ -1,16 +1,11 @@
 -- Where an ask or a commit is turned back before the new list is looked at, row by row; what an edit has that these rows let through; and
 -- that the definition's rows are these and then the entry's. Assumes nothing.
 use Prim.Native.Nat.{ℕ, _-_, _≤_, _<_}
-use mathlib.Core.Path.{_≡_, refl, ap, sym, _∙_}
-use mathlib.Core.List.{List, [], _∷_}
-use mathlib.Core.Option.{Option, none, some}
+use mathlib.Core.{Path.{_≡_, refl, ap, sym, _∙_}, List.{List, [], _∷_}, Option.{Option, none, some}}
 use lib.ListN.{length}
 use borrow.Author.Tests.{leb-true, ltb-true, le-leb, lt-leb, lt-ltb, le-ltb, eq-eqb, ne-eqb}
-use Rattle.molang.specs.FirstFailure.{must, firstOf}
-use Rattle.molang.specs.Words.{Refusal, row}
-use Rattle.molang.specs.Parse.{refusal}
-use Rattle.molang.proofs.FirstFailure.{must-none, first-none, then-none, found, last-one, after-none, in-parts, behind}
-use Rattle.molang.proofs.Trees.{both}
+use Rattle.molang.specs.{FirstFailure.{must, firstOf}, Words.{Refusal, row}, Parse.{refusal}}
+use Rattle.molang.proofs.{FirstFailure.{must-none, first-none, then-none, found, last-one, after-none, in-parts, behind}, Trees.{both}}
 use Rattle.held.specs.declared.Held.{Held}
 use Rattle.held.specs.Held.{State, Edit, Lent, sliceRow, claimRow, seenRow, editRow, countRow, editCall, askRefusal, commitRefusal}
 use Rattle.held.specs.Editing.{claimFault, editFault, askFault, commitFault}

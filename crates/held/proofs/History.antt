@@ -1,30 +1,20 @@
 -- After any sequence of calls from an accepted opening on: the held words are the opened ones with the accepted edits made in order, an ask
 -- that changes nothing is answered as reading them afresh, and an accepted commit answers as the edit was asked. Assumes nothing.
 use Prim.Native.Nat.{ℕ, suc, _*_, _-_, _/_, _%_, _≤_}
-use mathlib.Core.Path.{_≡_, refl, ap, sym, _∙_}
-use mathlib.Core.List.{List, [], _∷_, _++_}
-use mathlib.Core.Option.{Option, none, some}
+use mathlib.Core.{Path.{_≡_, refl, ap, sym, _∙_}, List.{List, [], _∷_, _++_}, Option.{Option, none, some}}
 use native.Mathlib.Omega.{arith}
-use lib.IntN.{ℤ}
-use lib.ListN.{length, take, drop, length-append, length-drop}
-use lib.Seq.{take-append-seam}
+use lib.{IntN.{ℤ}, ListN.{length, take, drop, length-append, length-drop}, Seq.{take-append-seam}}
 use borrow.Author.Tests.{eqb-true, leb-true, le-leb}
-use Rattle.molang.specs.FirstFailure.{must, firstOf}
-use Rattle.molang.specs.Forest.{nil, node, size}
-use Rattle.molang.specs.Words.{Refusal, treeWords}
-use Rattle.molang.specs.Read.{Answer, tree, messages}
-use Rattle.molang.specs.Parse.{Call, aTree, someMessages, lengthRows, valueRows, refusal, reading, recordWords, told}
-use Rattle.molang.specs.Parse.{inFront, treeIn, messagesIn}
-use Rattle.molang.proofs.Accepted.{call-accepted}
-use Rattle.molang.proofs.Bounds.{records-length, treeWords-length}
-use Rattle.molang.proofs.FirstFailure.{must-none, first-none, then-none, last-one}
-use Rattle.molang.proofs.HandedTree.{front-words}
+use Rattle.molang.specs.{FirstFailure.{must, firstOf}, Forest.{nil, node, size}, Words.{Refusal, treeWords}, Read.{Answer, tree, messages}}
+use Rattle.molang.specs.Parse.{Call, aTree, someMessages, lengthRows, valueRows, refusal, reading, recordWords, told, inFront, treeIn}
+use Rattle.molang.specs.Parse.{messagesIn}
+use Rattle.molang.proofs.{Accepted.{call-accepted}, Bounds.{records-length, treeWords-length}}
+use Rattle.molang.proofs.{FirstFailure.{must-none, first-none, then-none, last-one}, HandedTree.{front-words}}
 use Rattle.own.specs.Own.{namedCall, ownCall}
 use Rattle.held.specs.declared.Held.{Held}
 use Rattle.held.specs.Held.{State, Edit, Lent, heldList, edited, sliceRow, claimRow, seenRow, editRow, countRow, lentCall, editCall}
 use Rattle.held.specs.Held.{leftBy, openRefusal, askRefusal, commitRefusal, askLeft, commitLeft, opened, withEdit, committed}
-use Rattle.held.specs.Held.{withVersion, adopted}
-use Rattle.held.specs.Held.{Act, asks, commits, adopts, stepped, after, editsMade, versionSet}
+use Rattle.held.specs.Held.{withVersion, adopted, Act, asks, commits, adopts, stepped, after, editsMade, versionSet}
 use Rattle.held.specs.Histories.{nothing, SameLent, AsAsked}
 
 -- What holds of a state from the opening on: its tokens are few, and its slice has room.

@@ -1,18 +1,12 @@
 -- A list that is kept where the entry accepted it: when that is, what it comes to, and the slice after it. Assumes nothing.
 use Prim.Native.Nat.{ℕ, _*_}
-use mathlib.Core.Path.{_≡_, refl, sym, subst}
-use mathlib.Core.List.{List}
+use mathlib.Core.{Path.{_≡_, refl, sym, subst}, List.{List}, Option.{Option, none, some}}
 use native.Mathlib.Omega.{arith}
-use mathlib.Core.Option.{Option, none, some}
 use lib.ListN.{take}
-use Rattle.molang.specs.Words.{Refusal}
-use Rattle.molang.specs.Read.{Answer, tree, messages}
+use Rattle.molang.specs.{Words.{Refusal}, Read.{Answer, tree, messages}}
 use Rattle.molang.specs.Parse.{Call, Told, aTree, someMessages, refused, refusal, reading, told, answered, inFront}
 use Rattle.molang.proofs.Trees.{some-none}
-use Rattle.held.specs.declared.Held.{Held}
-use Rattle.held.specs.Held.{State}
-use Rattle.held.specs.Answers.{outcome}
-use Rattle.held.specs.Editing.{Accepts, CanKeep, kept, keptTokens}
+use Rattle.held.specs.{declared.Held.{Held}, Held.{State}, Answers.{outcome}, Editing.{Accepts, CanKeep, kept, keptTokens}}
 
 -- ---- A tree or messages are told of the calls that are not turned back, and of no others
 

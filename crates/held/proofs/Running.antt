@@ -1,24 +1,15 @@
 -- The functions take the steps of a history: by their promises alone, calls one after another from an accepted opening on hold the words,
 -- answer afresh and answer as asked. Assumes nothing.
 use Prim.Native.Nat.{ℕ, _*_}
-use mathlib.Core.Path.{_≡_, refl, ap, sym, subst, _∙_}
-use mathlib.Core.List.{List}
-use mathlib.Core.Option.{Option, none, some}
+use mathlib.Core.{Path.{_≡_, refl, ap, sym, subst, _∙_}, List.{List}, Option.{Option, none, some}}
 use native.Mathlib.Omega.{arith}
-use lib.IntN.{ℤ}
-use lib.ListN.{take}
-use Rattle.molang.specs.Words.{Refusal}
-use Rattle.molang.specs.Read.{Answer}
-use Rattle.molang.specs.Parse.{Told, reading, told, answered, treeAfter, messagesAfter, workAfter}
-use Rattle.parse.specs.declared.Answer.{Answer as Answered}
-use Rattle.parse.specs.Answers.{toldOf, HasParsed}
-use Rattle.held.specs.declared.Held.{Held}
-use Rattle.held.specs.declared.Change.{Change}
-use Rattle.held.specs.declared.Adopted.{Adopted}
+use lib.{IntN.{ℤ}, ListN.{take}}
+use Rattle.molang.specs.{Words.{Refusal}, Read.{Answer}, Parse.{Told, reading, told, answered, treeAfter, messagesAfter, workAfter}}
+use Rattle.parse.specs.{declared.Answer.{Answer as Answered}, Answers.{toldOf, HasParsed}}
+use Rattle.held.specs.{declared.Held.{Held}, declared.Change.{Change}, declared.Adopted.{Adopted}}
 use Rattle.held.specs.Held.{State, Edit, Lent, Act, heldList, lentCall, leftBy, openRefusal, commitRefusal, openLeft, askLeft}
 use Rattle.held.specs.Held.{commitLeft, countRow, editCall, opened, withEdit, committed, withVersion, adopted, commits, adopts}
-use Rattle.held.specs.Held.{stepped, after, editsMade, versionSet}
-use Rattle.held.specs.Histories.{nothing, SameLent, AsAsked}
+use Rattle.held.specs.{Held.{stepped, after, editsMade, versionSet}, Histories.{nothing, SameLent, AsAsked}}
 use Rattle.held.specs.Answers.{holds, outcome, outcomeOf, adoptOf, adoptOutcome, state, openSlice, HasOpened, HasAsked, HasCommitted}
 use Rattle.held.specs.Runs.{toldBy, left, heldBy, heldByAdopting, Ran, ends, thenAsks, thenCommits, thenAdopts}
 use Rattle.held.proofs.History.{words-held, afresh, as-asked}

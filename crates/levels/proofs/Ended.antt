@@ -1,16 +1,10 @@
 -- Finished statements of a list that is split at its semicolons: where the first stands, and what a change of words leaves of them.
 use Prim.Native.Nat.{ℕ, _+_, _≤_, _<_}
-use mathlib.Core.Path.{_≡_, refl, sym, ap, _∙_, subst}
-use mathlib.Core.Bool.{false, true≢false}
-use mathlib.Core.List.{List}
+use mathlib.Core.{Path.{_≡_, refl, sym, ap, _∙_, subst}, Bool.{false, true≢false}, List.{List}}
 use native.Mathlib.Omega.{arith}
 use lib.ListN.{length}
-use Rattle.molang.specs.Forest.{Token, Forest}
-use Rattle.molang.specs.Free.{isNil}
-use Rattle.nodes.specs.Store.{wd, TokenAt, SegB, OutFrom}
-use Rattle.nodes.proofs.Runs.{segB-keep}
-use Rattle.nodes.proofs.Tokens.{token-keep}
-use Rattle.nodes.proofs.Store.{tree-keep}
+use Rattle.molang.specs.{Forest.{Token, Forest}, Free.{isNil}}
+use Rattle.nodes.{specs.Store.{wd, TokenAt, SegB, OutFrom}, proofs.Runs.{segB-keep}, proofs.Tokens.{token-keep}, proofs.Store.{tree-keep}}
 use Rattle.levels.specs.Sides.{EndedAt, Ended, nothing, statement}
 use Rattle.levels.proofs.Reading.{SameSlots, SameWords}
 

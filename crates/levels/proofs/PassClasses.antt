@@ -1,19 +1,13 @@
 -- The classes of each pass are those of its operators.
-use mathlib.Core.Path.{refl}
-use mathlib.Core.List.{[], _∷_}
+use mathlib.Core.{Path.{refl}, List.{[], _∷_}}
 use lib.Dec.{lit<}
 use Rattle.molang.specs.Operator
-use Rattle.molang.specs.Operator.{isOneOf, any, isMathCall, isQueryOrLoop, between}
-use Rattle.molang.specs.Calls.{queryOrLoop, math, calls as isCall}
-use Rattle.molang.specs.Order.{someBelow}
-use Rattle.molang.specs.Free.{isArrayName, isSemicolon, isPrefix, isConditional, isReturn}
-use Rattle.molang.specs.Work.{Kind}
+use Rattle.molang.specs.{Operator.{isOneOf, any, isMathCall, isQueryOrLoop, between}, Calls.{queryOrLoop, math, calls as isCall}}
+use Rattle.molang.specs.{Order.{someBelow}, Free.{isArrayName, isSemicolon, isPrefix, isConditional, isReturn}, Work.{Kind}}
 use Rattle.molang.proofs.RoundTrip.Role.{not-one, no-math}
-use Rattle.ops.specs.Classes.{meets, inClass, passClasses, ownClasses, bitAt}
-use Rattle.ops.proofs.ClassLaws.{low-only, stands-for}
+use Rattle.ops.{specs.Classes.{meets, inClass, passClasses, ownClasses, bitAt}, proofs.ClassLaws.{low-only, stands-for}}
 use Rattle.levels.specs.Passes.{classesOf, operators, Covers, Runs, call, mathCall, unsplitPass, split, array, unary, level}
-use Rattle.levels.specs.Passes.{conditionalPass, returnPass}
-use Rattle.levels.specs.declared.turns.Pass.{Pass}
+use Rattle.levels.specs.{Passes.{conditionalPass, returnPass}, declared.turns.Pass.{Pass}}
 
 pub runs-covers : (κ : Kind) (p : Pass) → Runs κ p → Covers (classesOf p) (operators κ)
 unfolding operators isCall isSemicolon isArrayName isPrefix isConditional isReturn meets inClass passClasses ownClasses bitAt someBelow

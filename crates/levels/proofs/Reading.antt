@@ -1,28 +1,18 @@
 -- Lists under work, read from the left: the next unread item as a tree, what the tests of an item say, an item that goes to the done ones,
 -- and what a change of words leaves of either side.
 use Prim.Native.Nat.{ℕ, _+_, _≤_, _<_}
-use mathlib.Core.Path.{_≡_, refl, sym, ap, _∙_, subst, subst₂}
-use mathlib.Core.Logic.{_≢_}
-use mathlib.Core.Bool.{Bool, true, false, not, _&&_, true≢false}
+use mathlib.Core.{Path.{_≡_, refl, sym, ap, _∙_, subst, subst₂}, Logic.{_≢_}, Bool.{Bool, true, false, not, _&&_, true≢false}}
 use mathlib.Core.List.{List, _∷_}
-use native.Mathlib.Omega.{arith}
-use native.Mathlib.Decide.{ℕ-discrete}
-use lib.ListN.{length}
-use lib.Dec.{eqb}
+use native.Mathlib.{Omega.{arith}, Decide.{ℕ-discrete}}
+use lib.{ListN.{length}, Dec.{eqb}}
 use borrow.Author.Tests.{eq-eqb, ne-eqb, not-true, not-false}
-use Rattle.molang.specs.Forest.{Token, Forest, nil, node}
-use Rattle.molang.specs.Free.{free, isNil}
+use Rattle.molang.specs.{Forest.{Token, Forest, nil, node}, Free.{free, isNil}}
 use Rattle.ops.specs.Classes.{shares}
 use Rattle.nodes.specs.Store.{wd, slotWords, slotStart, slotEnd, classesAt, Seg, Out, RepF, ends, more, RepT, put, InArray}
-use Rattle.nodes.specs.Slots.{opAt, isLeafAt}
-use Rattle.nodes.specs.declared.frames.List.{List as Items}
-use Rattle.nodes.proofs.Runs.{seg-keep, segB-keep}
-use Rattle.nodes.proofs.Store.{rep-keep, rep-le, tree-below, tree-keep, back-le, back-raise, back-keep}
-use Rattle.nodes.proofs.Classes.{notes-meet, free-one}
-use Rattle.nodes.proofs.Trees.{leaf-test, tree-op}
-use Rattle.levels.specs.Passes.{Covers}
-use Rattle.levels.specs.Items.{BackArray, Ahead, CanPeek, nextIf, innerAt}
-use Rattle.levels.specs.Turns.{Within}
+use Rattle.nodes.specs.{Slots.{opAt, isLeafAt}, declared.frames.List.{List as Items}}
+use Rattle.nodes.proofs.{Runs.{seg-keep, segB-keep}, Store.{rep-keep, rep-le, tree-below, tree-keep, back-le, back-raise, back-keep}}
+use Rattle.nodes.proofs.{Classes.{notes-meet, free-one}, Trees.{leaf-test, tree-op}}
+use Rattle.levels.specs.{Passes.{Covers}, Items.{BackArray, Ahead, CanPeek, nextIf, innerAt}, Turns.{Within}}
 
 -- ---- a change of words
 

@@ -1,21 +1,13 @@
 -- The loop of `next_token`: what holds at its test, a turn that passes over an item, and where it stops.
 use Prim.Native.Nat.{ℕ, _+_, _^_, _≤_, _<_}
-use mathlib.Core.Path.{_≡_, refl, sym, _∙_, subst}
-use mathlib.Core.Logic.{_⊎_, ⊎-elim}
-use mathlib.Core.Bool.{Bool, true, false, true≢false}
-use mathlib.Core.List.{List, []}
-use native.Mathlib.Omega.{arith}
-use native.Mathlib.Nat.{le-refl}
+use mathlib.Core.{Path.{_≡_, refl, sym, _∙_, subst}, Logic.{_⊎_, ⊎-elim}, Bool.{Bool, true, false, true≢false}, List.{List, []}}
+use native.Mathlib.{Omega.{arith}, Nat.{le-refl}}
 use lib.ListN.{length, set}
-use Rattle.molang.specs.Forest.{Token, Forest, nil, node}
-use Rattle.molang.specs.Free.{free, isNil}
+use Rattle.molang.specs.{Forest.{Token, Forest, nil, node}, Free.{free, isNil}}
 use Rattle.ops.specs.Classes.{shares, meets}
-use Rattle.nodes.specs.Store.{wd, slotWords, slotStart, slotEnd, classesAt, ends, RepT}
-use Rattle.nodes.specs.Slots.{isLeafAt}
+use Rattle.nodes.specs.{Store.{wd, slotWords, slotStart, slotEnd, classesAt, ends, RepT}, Slots.{isLeafAt}}
 use Rattle.nodes.specs.declared.frames.List.{List as Items}
-use Rattle.nodes.proofs.Runs.{set-same, set-other, set-long}
-use Rattle.nodes.proofs.Store.{tree-below, back-raise}
-use Rattle.nodes.proofs.Trees.{leaf-test}
+use Rattle.nodes.proofs.{Runs.{set-same, set-other, set-long}, Store.{tree-below, back-raise}, Trees.{leaf-test}}
 use Rattle.levels.specs.Passes.{movedTo, Covers}
 use Rattle.levels.specs.Items.{BackArray, Ahead, CanSeek, Passed, here, over, Seen, SoughtTo, none, leaf, tree, Sought}
 use Rattle.levels.specs.declared.items.Found.the-variants.{Nothing, Children, Token as Leaf}

@@ -1,16 +1,12 @@
 -- The states of a pass and the words of a frame: what is read back is what was kept.
 use Prim.Native.Nat.{ℕ}
-use mathlib.Core.Path.{_≡_, refl, sym, ap}
-use mathlib.Core.Logic.{_≢_}
-use mathlib.Core.Bool.{Bool, true, false, true≢false}
-use mathlib.Core.List.{[], _∷_}
+use mathlib.Core.{Path.{_≡_, refl, sym, ap}, Logic.{_≢_}, Bool.{Bool, true, false, true≢false}, List.{[], _∷_}}
 use types.Run.{OneOf, miss}
 use denote.Enum.Declared.{tagOf}
 use lib.Dec.{eqb}
 use borrow.Author.Tests.{eq-eqb, ne-eqb}
 use Rattle.nodes.specs.declared.frames.Held.{Held}
-use Rattle.levels.specs.Passes.{heldWords, heldOf, splitOr, resumedWith, waitingOf, begunOf}
-use Rattle.levels.specs.declared.turns.Pass.{Pass}
+use Rattle.levels.specs.{Passes.{heldWords, heldOf, splitOr, resumedWith, waitingOf, begunOf}, declared.turns.Pass.{Pass}}
 use Rattle.levels.specs.declared.turns.Pass.the-variants.{Calls, MathCalls, Unsplit, Split, Arrays, Unary, Binary, Conditional}
 use Rattle.levels.specs.declared.turns.Pass.the-variants.{Returns}
 use Rattle.levels.proofs.turns.Pass.{the-type}

@@ -1,23 +1,15 @@
 -- The counts: the last four add up to the first, and lists counted one by one come to the counts over all of them, since no count of fewer
 -- than 2 ^ 64 lists stops short.
 use Prim.Native.Nat.{ℕ, suc, _+_, _^_, _≤_, _<_}
-use mathlib.Core.Path.{_≡_, refl, _∙_}
-use mathlib.Core.Bool.{Bool, true, false, not}
-use mathlib.Core.List.{List, [], _∷_}
-use native.Mathlib.Nat.{add-zero}
-use native.Mathlib.Omega.{arith}
-use lib.Dec.{ltb}
-use lib.IntN.{ℤ}
-use lib.ListN.{length}
+use mathlib.Core.{Path.{_≡_, refl, _∙_}, Bool.{Bool, true, false, not}, List.{List, [], _∷_}}
+use native.Mathlib.{Nat.{add-zero}, Omega.{arith}}
+use lib.{Dec.{ltb}, IntN.{ℤ}, ListN.{length}}
 use borrow.Author.Tests.{lt-ltb}
-use Rattle.molang.specs.Forest.{nil, node}
-use Rattle.molang.specs.Words.{treeWords}
-use Rattle.molang.specs.Read.{Answer, tree, messages}
+use Rattle.molang.specs.{Forest.{nil, node}, Words.{treeWords}, Read.{Answer, tree, messages}}
 use Rattle.own.specs.Own.{readingOf}
 use Rattle.liftcount.specs.declared.run.Counts.{Counts}
 use Rattle.liftcount.specs.Counting.{eqWords, areSame, areDifferent, oneHasMessages, bothHaveMessages, sameTree, differentTrees}
-use Rattle.liftcount.specs.Counting.{messageAtOne, messageAtBoth, howMany}
-use Rattle.liftcount.specs.Running.{more, moreIf, counted}
+use Rattle.liftcount.specs.{Counting.{messageAtOne, messageAtBoth, howMany}, Running.{more, moreIf, counted}}
 
 -- One where a test holds.
 abbrev oneIf : Bool → ℕ

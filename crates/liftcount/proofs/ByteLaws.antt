@@ -1,10 +1,8 @@
 -- The run over bytes: four of them are a word, and chunks fed one after the other are the input fed at once.
 use Prim.Native.Nat.{ℕ, _+_, _*_, _/_, _^_, _<_}
-use mathlib.Core.Path.{_≡_, refl, ap, sym, subst, _∙_}
-use mathlib.Core.List.{List, [], _∷_, _++_, flatten, foldl}
+use mathlib.Core.{Path.{_≡_, refl, ap, sym, subst, _∙_}, List.{List, [], _∷_, _++_, flatten, foldl}}
 use native.Mathlib.Omega.{arith}
-use Rattle.liftcount.specs.Running.{Progress, wordTaken, State, byteTaken, fed}
-use Rattle.liftcount.specs.Steps.{afterWord}
+use Rattle.liftcount.specs.{Running.{Progress, wordTaken, State, byteTaken, fed}, Steps.{afterWord}}
 
 -- The progress with a word more.
 abbrev pub withWord : Progress → ℕ → Progress

@@ -1,19 +1,12 @@
 -- The end of a list: the counts after it. Assumes nothing.
 use Prim.Native.Nat.{ℕ}
-use mathlib.Core.Path.{_≡_, refl}
-use mathlib.Core.Bool.{Bool, true, false, not}
-use mathlib.Core.List.{List}
-use mathlib.Core.Option.{Option, none, some}
+use mathlib.Core.{Path.{_≡_, refl}, Bool.{Bool, true, false, not}, List.{List}, Option.{Option, none, some}}
 use lib.IntN.{ℤ}
-use Rattle.molang.specs.Forest.{nil, node}
-use Rattle.molang.specs.Words.{Refusal, treeWords}
-use Rattle.molang.specs.Read.{Answer, tree, messages}
+use Rattle.molang.specs.{Forest.{nil, node}, Words.{Refusal, treeWords}, Read.{Answer, tree, messages}}
 use Rattle.own.specs.Own.{readingOf}
-use Rattle.liftcount.specs.declared.run.Counts.{Counts}
-use Rattle.liftcount.specs.declared.close.Ending.the-variants.{Counted}
-use Rattle.liftcount.specs.Counting.{eqWords, areSame, areDifferent, oneHasMessages, bothHaveMessages}
-use Rattle.liftcount.specs.Counting.{sameTree, differentTrees, messageAtOne, messageAtBoth}
-use Rattle.liftcount.specs.Running.{more, moreIf, counted}
+use Rattle.liftcount.specs.{declared.run.Counts.{Counts}, declared.close.Ending.the-variants.{Counted}}
+use Rattle.liftcount.specs.Counting.{eqWords, areSame, areDifferent, oneHasMessages, bothHaveMessages, sameTree, differentTrees}
+use Rattle.liftcount.specs.{Counting.{messageAtOne, messageAtBoth}, Running.{more, moreIf, counted}}
 use Rattle.liftcount.specs.Judging.{treesBy, verdictOn, judged, talliedBy, endedBy}
 
 -- The counts by the four tests of two answers.

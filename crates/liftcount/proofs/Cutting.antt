@@ -1,27 +1,18 @@
 -- The run over whole words against the lists that the words are cut into. The run goes from their front and the cut from their end: the
 -- words before the first opener of the rest belong to the list that is open.
 use Prim.Native.Nat.{ℕ, suc, _+_, _%_, _^_, _≤_, _<_}
-use mathlib.Core.Path.{_≡_, refl, ap, sym, _∙_}
-use mathlib.Core.Bool.{Bool, true, false}
-use mathlib.Core.List.{List, [], _∷_, _++_, append-nil}
+use mathlib.Core.{Path.{_≡_, refl, ap, sym, _∙_}, Bool.{Bool, true, false}, List.{List, [], _∷_, _++_, append-nil}}
 use mathlib.Core.Option.{Option, none, some}
-use native.Mathlib.Numerals.{add-one}
-use native.Mathlib.Omega.{arith}
-use lib.Dec.{eqb, leb}
-use lib.IntN.{ℤ}
-use lib.ListN.{length, take, set, length-append, length-set}
-use lib.Seq.{take-suc-set, append-snoc}
+use native.Mathlib.{Numerals.{add-one}, Omega.{arith}}
+use lib.{Dec.{eqb, leb}, IntN.{ℤ}, ListN.{length, take, set, length-append, length-set}, Seq.{take-suc-set, append-snoc}}
 use borrow.Author.Tests.{leb-true}
-use Rattle.molang.specs.FirstFailure.{must, firstOf}
-use Rattle.molang.specs.Words.{Refusal, row, operatorField, wordsRefusal}
+use Rattle.molang.specs.{FirstFailure.{must, firstOf}, Words.{Refusal, row, operatorField, wordsRefusal}}
 use Rattle.molang.proofs.FirstFailure.{passed, after-none, behind}
 use Rattle.listing.specs.Lists.{listFault}
-use Rattle.liftcount.specs.declared.run.Stage.the-variants.{InList, Refused}
-use Rattle.liftcount.specs.declared.run.Counts.{Counts}
+use Rattle.liftcount.specs.{declared.run.Stage.the-variants.{InList, Refused}, declared.run.Counts.{Counts}}
 use Rattle.liftcount.specs.Counting.{opens, cut, firstFault, refusalLine}
 use Rattle.liftcount.specs.Running.{Progress, counted, openFault, reopened, wordTaken, linesOf, progressText}
-use Rattle.liftcount.proofs.ByteLaws.{withWord}
-use Rattle.liftcount.proofs.Adding.{more-is, countedAll}
+use Rattle.liftcount.proofs.{ByteLaws.{withWord}, Adding.{more-is, countedAll}}
 
 -- Words taken one after the other.
 unfoldable pub wordsTaken : Progress → List ℕ → Progress

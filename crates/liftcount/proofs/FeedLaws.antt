@@ -1,15 +1,10 @@
 -- Bytes of a chunk, one by one and four at a time. Assumes nothing.
 use Prim.Native.Nat.{ℕ, suc, _+_, _-_, _^_, _≤_, _<_}
-use mathlib.Core.Path.{_≡_, refl, ap, sym, _∙_}
-use mathlib.Core.List.{List, _∷_}
-use native.Mathlib.Numerals.{add-one}
-use native.Mathlib.Omega.{arith}
-use lib.ListN.{length, take, drop, getD}
-use lib.Seq.{drop-cons, drop-length, take-add, take-length}
+use mathlib.Core.{Path.{_≡_, refl, ap, sym, _∙_}, List.{List, _∷_}}
+use native.Mathlib.{Numerals.{add-one}, Omega.{arith}}
+use lib.{ListN.{length, take, drop, getD}, Seq.{drop-cons, drop-length, take-add, take-length}}
 use Rattle.listing.proofs.ByteLaws.{wordAt}
-use Rattle.liftcount.specs.Running.{State, wordTaken, byteTaken, fed}
-use Rattle.liftcount.specs.Judging.{Scratch}
-use Rattle.liftcount.specs.Steps.{afterWord}
+use Rattle.liftcount.specs.{Running.{State, wordTaken, byteTaken, fed}, Judging.{Scratch}, Steps.{afterWord}}
 use Rattle.liftcount.proofs.ByteLaws.{fed-four, fed-append}
 
 module _ (s : State) (bytes : List ℕ) (at : ℕ) where

@@ -1,18 +1,11 @@
 -- What is printed at the end of the input, by how the code ends. Assumes nothing.
 use Prim.Native.Nat.{ℕ}
-use mathlib.Core.Path.{_≡_, refl, sym, ap}
-use mathlib.Core.List.{List}
-use mathlib.Core.Option.{Option, none, some}
-use lib.IntN.{ℤ}
-use lib.ListN.{take}
+use mathlib.Core.{Path.{_≡_, refl, sym, ap}, List.{List}, Option.{Option, none, some}}
+use lib.{IntN.{ℤ}, ListN.{take}}
 use borrow.Author.Tests.{eq-eqb, ne-eqb}
 use Rattle.molang.specs.Words.{Refusal}
-use Rattle.liftcount.specs.declared.run.Stage.{Stage}
-use Rattle.liftcount.specs.declared.run.Stage.the-variants.{InList}
-use Rattle.liftcount.specs.declared.run.Counts.{Counts}
-use Rattle.liftcount.specs.Counting.{refusalLine}
-use Rattle.liftcount.specs.Running.{State, openFault, counted, progressText, endText}
-use Rattle.liftcount.specs.Judging.{endedBy}
+use Rattle.liftcount.specs.{declared.run.Stage.{Stage}, declared.run.Stage.the-variants.{InList}, declared.run.Counts.{Counts}}
+use Rattle.liftcount.specs.{Counting.{refusalLine}, Running.{State, openFault, counted, progressText, endText}, Judging.{endedBy}}
 use Rattle.liftcount.specs.Steps.{endingText}
 
 -- Bytes of a word that is not whole.

@@ -1,31 +1,18 @@
 -- What a list comes to at both versions: words beside each other, one by one; the trees in two buffers; the checks before the reading.
 -- Assumes nothing.
 use Prim.Native.Nat.{ℕ, suc, _+_, _*_, _/_, _%_, _≤_, _<_}
-use mathlib.Core.Path.{_≡_, refl, ap, sym, _∙_}
-use mathlib.Core.Bool.{true, false, and-false}
-use mathlib.Core.List.{List, [], _∷_}
-use mathlib.Core.Option.{Option, none, some}
-use native.Mathlib.Numerals.{add-one}
-use native.Mathlib.Omega.{arith}
-use lib.Dec.{eqb}
-use lib.IntN.{ℤ}
-use lib.ListN.{length, take, drop, getD}
-use lib.Seq.{drop-cons, drop-length, take-at}
+use mathlib.Core.{Path.{_≡_, refl, ap, sym, _∙_}, Bool.{true, false, and-false}, List.{List, [], _∷_}, Option.{Option, none, some}}
+use native.Mathlib.{Numerals.{add-one}, Omega.{arith}}
+use lib.{Dec.{eqb}, IntN.{ℤ}, ListN.{length, take, drop, getD}, Seq.{drop-cons, drop-length, take-at}}
 use borrow.Author.Tests.{eq-eqb, ne-eqb, eqb-true, eqb-false, le-leb, lt-leb}
-use Rattle.molang.specs.FirstFailure.{must, firstOf}
-use Rattle.molang.specs.Forest.{Forest, nil, node, size}
-use Rattle.molang.specs.Words.{Refusal, operatorField, wordsRefusal, tokensOf, treeWords}
-use Rattle.molang.specs.Read.{Answer, tree, messages}
+use Rattle.molang.specs.{FirstFailure.{must, firstOf}, Forest.{Forest, nil, node, size}}
+use Rattle.molang.specs.{Words.{Refusal, operatorField, wordsRefusal, tokensOf, treeWords}, Read.{Answer, tree, messages}}
 use Rattle.molang.specs.Parse.{told, inFront, treeIn}
-use Rattle.molang.proofs.Booleans.{either}
-use Rattle.molang.proofs.Bounds.{Bounded, fewNodes, fewMessages, read-bounded, treeWords-length}
-use Rattle.molang.proofs.FirstFailure.{last-one}
-use Rattle.molang.proofs.ListWords.{tokens-count}
+use Rattle.molang.proofs.{Booleans.{either}, Bounds.{Bounded, fewNodes, fewMessages, read-bounded, treeWords-length}}
+use Rattle.molang.proofs.{FirstFailure.{last-one}, ListWords.{tokens-count}}
 use Rattle.derived.specs.Derived.{named, highest}
 use Rattle.own.specs.Own.{readingOf}
-use Rattle.liftcount.specs.declared.judge.Verdict.the-variants.{Refused, Different}
-use Rattle.liftcount.specs.Counting.{eqWords}
-use Rattle.liftcount.specs.Running.{openFault}
+use Rattle.liftcount.specs.{declared.judge.Verdict.the-variants.{Refused, Different}, Counting.{eqWords}, Running.{openFault}}
 use Rattle.liftcount.specs.Judging.{treesBy, verdictOn, judged, Holds, treesTold, verdictTold}
 
 -- WORDS BESIDE EACH OTHER, one by one

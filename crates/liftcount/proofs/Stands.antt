@@ -1,29 +1,19 @@
 -- That the text stands for the whole input: what the run prints at the end of an input is what is printed for it, whatever the chunks that
 -- it came in.
 use Prim.Native.Nat.{ℕ, suc, _+_, _*_, _%_, _^_, _≤_, _<_}
-use mathlib.Core.Path.{_≡_, refl, ap, sym, _∙_}
-use mathlib.Core.Bool.{Bool, true, false}
-use mathlib.Core.List.{List, [], _∷_, flatten, foldl}
+use mathlib.Core.{Path.{_≡_, refl, ap, sym, _∙_}, Bool.{Bool, true, false}, List.{List, [], _∷_, flatten, foldl}}
 use mathlib.Core.Option.{Option, none, some}
-use native.Mathlib.Nat.{zero-add}
-use native.Mathlib.Omega.{arith}
-use lib.Dec.{eqb}
-use lib.IntN.{ℤ}
-use lib.ListN.{length, getD}
-use Rattle.molang.specs.FirstFailure.{must, firstOf}
-use Rattle.molang.specs.Words.{Refusal, row}
-use Rattle.molang.specs.Lines.{versionOf}
+use native.Mathlib.{Nat.{zero-add}, Omega.{arith}}
+use lib.{Dec.{eqb}, IntN.{ℤ}, ListN.{length, getD}}
+use Rattle.molang.specs.{FirstFailure.{must, firstOf}, Words.{Refusal, row}, Lines.{versionOf}}
 use Rattle.molang.proofs.FirstFailure.{after-none}
 use Rattle.listing.specs.Lists.{wordsIn}
-use Rattle.liftcount.specs.declared.run.Stage.{Stage}
-use Rattle.liftcount.specs.declared.run.Stage.the-variants.{First, Second, Opener, InList, Refused}
+use Rattle.liftcount.specs.{declared.run.Stage.{Stage}, declared.run.Stage.the-variants.{First, Second, Opener, InList, Refused}}
 use Rattle.liftcount.specs.declared.run.Counts.{Counts}
 use Rattle.liftcount.specs.Counting.{opens, Cut, cut, listsIn, isVersion, begins, firstFault, inputFault, countText, refusalLine}
 use Rattle.liftcount.specs.Counting.{printed}
-use Rattle.liftcount.specs.Running.{Progress, wordTaken, byteTaken, fed, started, linesOf, progressText, endText}
-use Rattle.liftcount.specs.Steps.{afterWord}
-use Rattle.liftcount.proofs.ByteLaws.{withWord, fed-four, fed-chunks}
-use Rattle.liftcount.proofs.Adding.{countedAll, counted-all}
+use Rattle.liftcount.specs.{Running.{Progress, wordTaken, byteTaken, fed, started, linesOf, progressText, endText}, Steps.{afterWord}}
+use Rattle.liftcount.proofs.{ByteLaws.{withWord, fed-four, fed-chunks}, Adding.{countedAll, counted-all}}
 use Rattle.liftcount.proofs.Cutting.{wordsTaken, textOf, refused-stays, cut-opened, cut-few, lineOr, outcome, run-on}
 
 -- BYTES AND WORDS: what is printed after words, which bytes of a word that is not whole are answered before.

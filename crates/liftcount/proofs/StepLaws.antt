@@ -1,20 +1,12 @@
 -- A word and a byte of the input, by the tests of the code. Assumes nothing.
 use Prim.Native.Nat.{ℕ, _+_, _*_, _/_, _≤_, _<_}
-use mathlib.Core.Path.{_≡_, refl, ap, sym, _∙_}
-use mathlib.Core.List.{List}
-use mathlib.Core.Option.{Option, none, some}
-use lib.IntN.{ℤ}
-use lib.ListN.{length, take, set}
-use lib.Seq.{set-out}
+use mathlib.Core.{Path.{_≡_, refl, ap, sym, _∙_}, List.{List}, Option.{Option, none, some}}
+use lib.{IntN.{ℤ}, ListN.{length, take, set}, Seq.{set-out}}
 use borrow.Author.Tests.{eq-eqb, ne-eqb, lt-ltb, le-ltb}
-use Rattle.molang.specs.Words.{Refusal, kindOf}
-use Rattle.molang.specs.Lines.{versionOf}
-use Rattle.liftcount.specs.declared.run.Stage.the-variants.{First, Second, Opener, InList, Refused}
-use Rattle.liftcount.specs.declared.run.Counts.{Counts}
-use Rattle.liftcount.specs.Counting.{opens, isVersion}
-use Rattle.liftcount.specs.Running.{State, more, openFault, counted, reopened, wordTaken, byteTaken}
-use Rattle.liftcount.specs.Judging.{endedBy}
-use Rattle.liftcount.specs.Steps.{atStage, afterWord, openedAfter}
+use Rattle.molang.specs.{Words.{Refusal, kindOf}, Lines.{versionOf}}
+use Rattle.liftcount.specs.{declared.run.Stage.the-variants.{First, Second, Opener, InList, Refused}, declared.run.Counts.{Counts}}
+use Rattle.liftcount.specs.{Counting.{opens, isVersion}, Running.{State, more, openFault, counted, reopened, wordTaken, byteTaken}}
+use Rattle.liftcount.specs.{Judging.{endedBy}, Steps.{atStage, afterWord, openedAfter}}
 
 module _ (counts : Counts) (list : List ℕ) (w : ℕ) where
   -- THE FIRST THREE WORDS

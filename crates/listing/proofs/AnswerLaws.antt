@@ -1,26 +1,18 @@
 -- The text of an answer: it depends on the buffers' fronts only, it is the text of a list that is read, and it has room where the longest
 -- has. Assumes nothing.
 use Prim.Native.Nat.{ℕ, zero, suc, _+_, _*_, _/_, _%_, _≤_}
-use mathlib.Core.Path.{_≡_, refl, sym}
-use mathlib.Core.List.{List, [], _++_}
-use mathlib.Core.Option.{Option, none, some}
+use mathlib.Core.{Path.{_≡_, refl, sym}, List.{List, [], _++_}, Option.{Option, none, some}}
 use native.Mathlib.Omega.{arith}
-use lib.IntN.{ℤ}
-use lib.ListN.{length, drop, length-drop, List·getD-append}
-use lib.Seq.{take-append-le, drop-append-le}
+use lib.{IntN.{ℤ}, ListN.{length, drop, length-drop, List·getD-append}, Seq.{take-append-le, drop-append-le}}
 use borrow.Author.Tests.{eq-eqb, le-leb}
-use Rattle.molang.specs.FirstFailure.{must, firstOf}
-use Rattle.molang.specs.Forest.{nil, node, size}
-use Rattle.molang.specs.Words.{Refusal, operatorField, wordsRefusal, tokensOf, treeWords}
-use Rattle.molang.specs.Read.{Answer, tree, messages}
+use Rattle.molang.specs.{FirstFailure.{must, firstOf}, Forest.{nil, node, size}}
+use Rattle.molang.specs.{Words.{Refusal, operatorField, wordsRefusal, tokensOf, treeWords}, Read.{Answer, tree, messages}}
 use Rattle.molang.specs.Parse.{recordWords, told, inFront, treeIn, messagesIn}
-use Rattle.molang.proofs.Bounds.{Bounded, fewNodes, fewMessages, read-bounded, records-length, treeWords-length}
-use Rattle.molang.proofs.FirstFailure.{last-one}
+use Rattle.molang.proofs.{Bounds.{Bounded, fewNodes, fewMessages, read-bounded, records-length, treeWords-length}, FirstFailure.{last-one}}
 use Rattle.molang.proofs.ListWords.{tokens-count}
 use Rattle.derived.specs.Derived.{named, highest}
-use Rattle.listing.specs.Rows.{nodeNumbers, nodeRows, recordRows, answerText, CanPut}
+use Rattle.listing.specs.{Rows.{nodeNumbers, nodeRows, recordRows, answerText, CanPut}, Lists.{listFault, listText}}
 use Rattle.own.specs.Own.{readingOf}
-use Rattle.listing.specs.Lists.{listFault, listText}
 
 -- THE FRONT of a buffer has all that is printed of it.
 module _ (front rest : List ℕ) where

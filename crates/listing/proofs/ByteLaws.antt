@@ -1,11 +1,8 @@
 -- The words of bytes, one by one.
 use Prim.Native.Nat.{ℕ, zero, suc, _+_, _*_, _^_, _≤_, _<_}
-use mathlib.Core.Path.{_≡_, refl, ap, sym, _∙_}
-use mathlib.Core.List.{List, [], _∷_, _++_}
-use native.Mathlib.Numerals.{add-one}
-use native.Mathlib.Omega.{arith}
-use lib.ListN.{length, take, set, getD}
-use lib.Seq.{take-suc, take-suc-set, take-all}
+use mathlib.Core.{Path.{_≡_, refl, ap, sym, _∙_}, List.{List, [], _∷_, _++_}}
+use native.Mathlib.{Numerals.{add-one}, Omega.{arith}}
+use lib.{ListN.{length, take, set, getD}, Seq.{take-suc, take-suc-set, take-all}}
 use Rattle.listing.specs.Lists.{wordsIn}
 
 -- The word of the four bytes from an index on.

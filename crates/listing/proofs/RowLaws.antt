@@ -1,14 +1,11 @@
 -- The lines of an answer, one behind the other, and how long they are.
 use Prim.Native.Nat.{ℕ, zero, suc, _+_, _-_, _*_, _≤_}
-use mathlib.Core.Path.{_≡_, ap}
-use mathlib.Core.List.{List, [], _∷_, _++_}
-use native.Mathlib.Numerals.{add-one}
-use native.Mathlib.Omega.{arith}
+use mathlib.Core.{Path.{_≡_, ap}, List.{List, [], _∷_, _++_}}
+use native.Mathlib.{Numerals.{add-one}, Omega.{arith}}
 use lib.ListN.{length, take, drop, getD, length-append, length-take, length-drop}
 use Rattle.molang.specs.Words.{lowOf}
 use Rattle.words.specs.Fields.{operatorOf}
-use Rattle.text.specs.Text.{numbered, lineEnd, space, Wrote}
-use Rattle.text.proofs.TextLaws.{wrote-then, numbered-length}
+use Rattle.text.{specs.Text.{numbered, lineEnd, space, Wrote}, proofs.TextLaws.{wrote-then, numbered-length}}
 use Rattle.listing.specs.Rows.{spaced, row, nodeNumbers, nodeRows, recordRows}
 
 -- LENGTHS

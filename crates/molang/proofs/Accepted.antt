@@ -1,23 +1,16 @@
 -- The parse entry's table both ways: the list of a call that is not turned back is legal tokens, and a call with legal tokens and room for
 -- them is not turned back. What a rule buffer changes of it: nothing where the call is read.
 use Prim.Native.Nat.{_+_, _*_, _/_, _%_, _^_, _≤_, _<_}
-use mathlib.Core.Path.{_≡_, refl, ap, sym, _∙_}
-use mathlib.Core.Bool.{true}
-use mathlib.Core.List.{List}
-use mathlib.Core.Option.{none}
+use mathlib.Core.{Path.{_≡_, refl, ap, sym, _∙_}, Bool.{true}, List.{List}, Option.{none}}
 use native.Mathlib.Omega.{arith}
-use lib.Dec.{eqb, leb, ltb}
-use lib.ListN.{length}
+use lib.{Dec.{eqb, leb, ltb}, ListN.{length}}
 use borrow.Author.Tests.{eqb-true, leb-true, ltb-true, eq-eqb, le-leb, lt-ltb}
-use Rattle.molang.specs.Forest.{Token}
-use Rattle.molang.specs.Words.{row, operatorField, wordsRefusal, tokensOf, listWords}
-use Rattle.molang.specs.Nesting.{tooDeep}
+use Rattle.molang.specs.{Forest.{Token}, Words.{row, operatorField, wordsRefusal, tokensOf, listWords}, Nesting.{tooDeep}}
 use Rattle.molang.specs.Parse.{Call, mostTokens, isLimit, lengthRows, valueRows, refusal, answered, treeAfter, messagesAfter}
 use Rattle.molang.specs.Parse.{workAfter}
 use Rattle.molang.specs.Rules.{RuleCall, ruleRefusal, ruleAnswered, ruledTreeAfter, ruledMessagesAfter, ruledWorkAfter}
 use Rattle.molang.proofs.FirstFailure.{first-none, then-none, passed, passes, all-passed, in-parts, withNumber-none, without-number}
-use Rattle.molang.proofs.Words.{LegalTokens, words-back}
-use Rattle.molang.proofs.ListWords.{list-unrefused, listWords-length}
+use Rattle.molang.proofs.{Words.{LegalTokens, words-back}, ListWords.{list-unrefused, listWords-length}}
 
 -- WHAT AN ACCEPTED CALL'S LIST IS, at most 4,096 legal tokens, and what else it brings, row by row.
 pub record Accepted (c : Call) : Type 0 where

@@ -1,14 +1,9 @@
 -- What reading can give at most: three nodes for each token, and one or two messages. A leaf `;` may become three nodes and a leaf `-` two,
 -- so by that weight the bound follows from what each pass keeps.
 use Prim.Native.Nat.{ℕ, _+_, _*_, _≤_}
-use mathlib.Core.Path.{_≡_, refl}
-use mathlib.Core.Bool.{Bool, true, false}
-use mathlib.Core.List.{List, [], _∷_, _++_}
-use mathlib.Core.Option.{none}
+use mathlib.Core.{Path.{_≡_, refl}, Bool.{Bool, true, false}, List.{List, [], _∷_, _++_}, Option.{none}}
 use native.Mathlib.Omega.{arith}
-use lib.Dec.{eqb}
-use lib.IntN.{ℤ}
-use lib.ListN.{length, length-append}
+use lib.{Dec.{eqb}, IntN.{ℤ}, ListN.{length, length-append}}
 use Rattle.molang.specs.Operator
 use Rattle.molang.specs.Forest.{Token, Forest, nil, node, leaves, size}
 use Rattle.molang.specs.Message.{Message, multipleRoots, complexMustEndWithSemicolon, leadingMemberAccessor, closingMismatch}
@@ -17,15 +12,11 @@ use Rattle.molang.specs.Message.{leadingSemicolon, emptyArrayIndex, bina
 use Rattle.molang.specs.Message.{unknownOperation, unaryWithoutOperand, ternaryWithoutOperands, Result, ok, fail, record8, about}
 use Rattle.molang.specs.Message.{messageRecord}
 use Rattle.molang.specs.Order.{Rules, rules, Pass, lastToken, memberAccessors, sectioning, comparisons, logic, conditionals, order}
-use Rattle.molang.specs.Order.{runs}
-use Rattle.molang.specs.Order.{lastOf, endsWithSemicolon, apply}
+use Rattle.molang.specs.Order.{runs, lastOf, endsWithSemicolon, apply}
 use Rattle.molang.specs.Read.{Answer, tree, messages, rooted, endsReading, grouped, read}
-use Rattle.molang.specs.Words.{tokenWords, nodeWordsOf, treeWords}
-use Rattle.molang.specs.Parse.{recordWords}
-use Rattle.molang.specs.Free.{flat}
+use Rattle.molang.specs.{Words.{tokenWords, nodeWordsOf, treeWords}, Parse.{recordWords}, Free.{flat}}
 use Rattle.molang.specs.Weight.{weight, nodesOf, nodes-some, nodeWeight}
-use Rattle.molang.proofs.Trees.{either, maybe, both}
-use Rattle.molang.proofs.Walks.{Outcome, failed, fine}
+use Rattle.molang.proofs.{Trees.{either, maybe, both}, Walks.{Outcome, failed, fine}}
 use Rattle.molang.proofs.Sections.{leaves-flat, members-light, sections-light}
 use Rattle.molang.proofs.Passes.{isNested, apply-light, allNested, grouped-nil}
 

@@ -1,26 +1,19 @@
 -- Where nodes close (card 2): in the tree of a reading every node that is no opener closes at its own end. All tokens that
 -- are written of a plain tree close at their own ends, as the tokens of a word list must.
 use Prim.Native.Nat.{ℕ, suc, _+_}
-use mathlib.Core.Path.{_≡_, refl, ap, sym, _∙_}
-use mathlib.Core.Bool.{Bool, true, false, false≢true, true≢false}
-use mathlib.Core.List.{List, [], _∷_}
+use mathlib.Core.{Path.{_≡_, refl, ap, sym, _∙_}, Bool.{Bool, true, false, false≢true, true≢false}, List.{List, [], _∷_}}
 use mathlib.Core.Option.{none, Option·getD}
-use lib.Dec.{eqb}
-use lib.IntN.{ℤ}
+use lib.{Dec.{eqb}, IntN.{ℤ}}
 use borrow.Author.Tests.{eqb-true}
 use Rattle.molang.specs.Operator
 use Rattle.molang.specs.Operator.{closingOf, isCloser, isBracket, isOneOf}
-use Rattle.molang.specs.Forest.{Token, Forest, nil, node, renamed, bare, closedBy, unclosed, leaves, size}
-use Rattle.molang.specs.Message.{closer}
-use Rattle.molang.specs.Read.{Answer, read}
-use Rattle.molang.specs.Plain.{Seat, seatUnder, isPlainLeaf, isPlainBinary, isCall, expressionForm, unplainAt}
+use Rattle.molang.specs.{Forest.{Token, Forest, nil, node, renamed, bare, closedBy, unclosed, leaves, size}, Message.{closer}}
+use Rattle.molang.specs.{Read.{Answer, read}, Plain.{Seat, seatUnder, isPlainLeaf, isPlainBinary, isCall, expressionForm, unplainAt}}
 use Rattle.molang.specs.Write.{spanning, openerFor, closerFor, closerOf, standsAlone, standsLeft, standsRight, operandTokens, written}
 use Rattle.molang.specs.Write.{writtenStatements, writtenTree}
 use Rattle.molang.proofs.Computed.{computed}
 use Rattle.molang.proofs.PlainTrees.{PlainExpression, PlainStatements, ended, statement, PlainTree, expression, script, inner}
-use Rattle.molang.proofs.PlainTrees.{plain-tree}
-use Rattle.molang.proofs.Words.{AtEnds}
-use Rattle.molang.proofs.Every.{Every, nowhere, at, Renewable, read-every}
+use Rattle.molang.proofs.{PlainTrees.{plain-tree}, Words.{AtEnds}, Every.{Every, nowhere, at, Renewable, read-every}}
 use Rattle.molang.proofs.Writing.{written-none, written-one, written-two, writtenTree-expression, writtenTree-script}
 
 -- A node that is no opener closes at its own end.

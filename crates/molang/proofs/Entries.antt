@@ -1,24 +1,14 @@
 -- DEMAND 3 OVER THE ENTRIES' DEFINITIONS: three calls, each of which gets what the one before left in its buffer. The second reading is not
 -- turned back and gives a tree; with brackets taken away it has the first tree's words.
 use Prim.Native.Nat.{ℕ, _+_, _*_, _≤_}
-use mathlib.Core.Path.{_≡_, refl, ap, _∙_}
-use mathlib.Core.Bool.{true, false}
-use mathlib.Core.List.{List}
-use mathlib.Core.Option.{none}
-use lib.Dec.{eqb}
-use lib.ListN.{length, take}
+use mathlib.Core.{Path.{_≡_, refl, ap, _∙_}, Bool.{true, false}, List.{List}, Option.{none}}
+use lib.{Dec.{eqb}, ListN.{length, take}}
 use Rattle.molang.specs.Operator
-use Rattle.molang.specs.Forest.{Token, Forest, nil, node, size}
-use Rattle.molang.specs.Read.{read, uses}
-use Rattle.molang.specs.Words.{listWords, treeWords}
-use Rattle.molang.specs.Nesting.{tooDeep}
-use Rattle.molang.specs.Parse.{Call, isLimit, inHalves, reading, aTree, answered, treeAfter}
-use Rattle.molang.specs.Plain.{unplainAt}
+use Rattle.molang.specs.{Forest.{Token, Forest, nil, node, size}, Read.{read, uses}, Words.{listWords, treeWords}, Nesting.{tooDeep}}
+use Rattle.molang.specs.{Parse.{Call, isLimit, inHalves, reading, aTree, answered, treeAfter}, Plain.{unplainAt}}
 use Rattle.molang.specs.Write.{writtenTree, takenAway, comparable}
 use Rattle.molang.specs.WriteEntry.{WriteCall, writeRefusal, tokens, writeAnswered, listAfter}
-use Rattle.molang.proofs.Words.{LegalTokens, AtEnds, tokens-back}
-use Rattle.molang.proofs.ListWords.{uses-legal}
-use Rattle.molang.proofs.UsedSet.{used-few}
+use Rattle.molang.proofs.{Words.{LegalTokens, AtEnds, tokens-back}, ListWords.{uses-legal}, UsedSet.{used-few}}
 use Rattle.molang.proofs.Accepted.{Acceptable, call-acceptable}
 use Rattle.molang.proofs.HandedTree.{Parsed, tree-front, tree-told, tree-written-legal, tree-written-ends, write-done}
 use Rattle.molang.proofs.RoundTrip.{round-trip}

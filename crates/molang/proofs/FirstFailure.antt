@@ -1,11 +1,7 @@
 -- Laws of 'first failure wins': when no check answers, and checks in parts.
-use mathlib.Core.Path.{_≡_, refl, sym, _∙_}
-use mathlib.Core.Bool.{Bool, true, false}
-use mathlib.Core.List.{List, [], _∷_, _++_}
-use mathlib.Core.Option.{Option, none, some}
+use mathlib.Core.{Path.{_≡_, refl, sym, _∙_}, Bool.{Bool, true, false}, List.{List, [], _∷_, _++_}, Option.{Option, none, some}}
 use Prim.Native.Nat.{ℕ}
-use Rattle.molang.specs.FirstFailure.{must, firstOf}
-use Rattle.molang.specs.Words.{withPlace, withNumber}
+use Rattle.molang.specs.{FirstFailure.{must, firstOf}, Words.{withPlace, withNumber}}
 use Rattle.molang.proofs.Trees.{some-none}
 
 module _ {A : Type 0} where

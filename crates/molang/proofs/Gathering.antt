@@ -1,14 +1,10 @@
 -- What the levels that gather trees share (calls, binary levels, return): the weight of their state, and what children that come back make.
 use Prim.Native.Nat.{ℕ, _+_, _≤_}
-use mathlib.Core.Path.{_≡_, refl}
-use mathlib.Core.Bool.{Bool, false, not}
+use mathlib.Core.{Path.{_≡_, refl}, Bool.{Bool, false, not}}
 use native.Mathlib.Omega.{arith}
-use Rattle.molang.specs.Forest.{Token, Forest, nil, node}
-use Rattle.molang.specs.Level.{Step, into, Level, Gathered, gathered, waiting}
-use Rattle.molang.specs.Free.{isNil}
+use Rattle.molang.specs.{Forest.{Token, Forest, nil, node}, Level.{Step, into, Level, Gathered, gathered, waiting}, Free.{isNil}}
 use Rattle.molang.specs.Weight.{Weighing, weight}
-use Rattle.molang.proofs.Walks.{Onward, enters}
-use Rattle.molang.proofs.Weight.{Within, weight-inner}
+use Rattle.molang.proofs.{Walks.{Onward, enters}, Weight.{Within, weight-inner}}
 
 -- What a gathering level has so far, a token that waits among it.
 unfoldable pub shown : Gathered → Forest

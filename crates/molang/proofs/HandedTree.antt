@@ -1,32 +1,20 @@
 -- Between a first reading and the writer: the words of the tree that a parse call leaves in front of its tree buffer, and what the write
 -- entry makes of them.
 use Prim.Native.Nat.{ℕ, _*_, _≤_, _<_}
-use mathlib.Core.Path.{_≡_, refl, ap, sym, _∙_}
-use mathlib.Core.Bool.{Bool, true, false}
-use mathlib.Core.List.{List, _++_}
-use mathlib.Core.Option.{Option, none, some}
+use mathlib.Core.{Path.{_≡_, refl, ap, sym, _∙_}, Bool.{Bool, true, false}, List.{List, _++_}, Option.{Option, none, some}}
 use native.Mathlib.Omega.{arith}
-use lib.Dec.{leb}
-use lib.ListN.{length, take, drop}
-use lib.Seq.{take-append-seam}
+use lib.{Dec.{leb}, ListN.{length, take, drop}, Seq.{take-append-seam}}
 use borrow.Author.Tests.{leb-true, leb-false, le-leb, lt-leb}
-use Rattle.molang.specs.Forest.{Token, Forest, nil, node, size}
-use Rattle.molang.specs.Read.{Answer, tree, messages}
-use Rattle.molang.specs.Words.{Refusal, row, withNumber, operatorField, listWords, treeWords}
-use Rattle.molang.specs.Legal.{LegalTrees, legalTree}
+use Rattle.molang.specs.{Forest.{Token, Forest, nil, node, size}, Read.{Answer, tree, messages}}
+use Rattle.molang.specs.{Words.{Refusal, row, withNumber, operatorField, listWords, treeWords}, Legal.{LegalTrees, legalTree}}
 use Rattle.molang.specs.Parse.{Call, mostTokens, refusal, reading, aTree, told, answered, inFront, treeIn, treeAfter}
-use Rattle.molang.specs.FirstFailure.{must, firstOf}
-use Rattle.molang.specs.Reread.{bracketless}
-use Rattle.molang.specs.Plain.{unplainAt}
+use Rattle.molang.specs.{FirstFailure.{must, firstOf}, Reread.{bracketless}, Plain.{unplainAt}}
 use Rattle.molang.specs.Write.{writtenTree, takenAway, comparable}
 use Rattle.molang.specs.WriteEntry.{treeFault, treesOf, WriteCall, forestRefusal, writeRefusal, writtenTokens, tokens, unwritten}
 use Rattle.molang.specs.WriteEntry.{writeTold, writeAnswered, listIn, listAfter}
-use Rattle.molang.proofs.FirstFailure.{first-none, passed, withNumber-none, after-none}
-use Rattle.molang.proofs.Bounds.{treeWords-length}
-use Rattle.molang.proofs.Words.{LegalTokens, AtEnds, tokens-end}
-use Rattle.molang.proofs.Legal.{read-legal, read-back, read-unfaulted}
-use Rattle.molang.proofs.ListWords.{listWords-length, writtenTree-legal}
-use Rattle.molang.proofs.Accepted.{call-accepted}
+use Rattle.molang.proofs.{FirstFailure.{first-none, passed, withNumber-none, after-none}, Bounds.{treeWords-length}}
+use Rattle.molang.proofs.{Words.{LegalTokens, AtEnds, tokens-end}, Legal.{read-legal, read-back, read-unfaulted}}
+use Rattle.molang.proofs.{ListWords.{listWords-length, writtenTree-legal}, Accepted.{call-accepted}}
 use Rattle.molang.proofs.Closes.{read-closes, plain-ends}
 
 -- A parse call that is not turned back and reads the tree k over cs.

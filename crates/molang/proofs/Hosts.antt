@@ -1,14 +1,10 @@
 -- A list with hosts reads as it does with 76 in their stead, their numbers kept in the tree (specs/Hosts): first reading and what its
 -- answer tells, then the words, then the parse entry.
 use Prim.Native.Nat.{ℕ, suc, _+_, _-_, _*_, _/_, _%_, _^_, _≤_, _<_}
-use mathlib.Core.Path.{_≡_, refl, ap, _∙_, sym}
-use mathlib.Core.Bool.{Bool, true, false, _&&_, _||_, true≢false, or-true, and-false}
-use mathlib.Core.List.{List, [], _∷_, _++_, map, map-append}
-use mathlib.Core.Option.{Option, none, some, Option·getD}
+use mathlib.Core.{Path.{_≡_, refl, ap, _∙_, sym}, Bool.{Bool, true, false, _&&_, _||_, true≢false, or-true, and-false}}
+use mathlib.Core.{List.{List, [], _∷_, _++_, map, map-append}, Option.{Option, none, some, Option·getD}}
 use native.Mathlib.Omega.{arith}
-use lib.Dec.{eqb, leb, ltb}
-use lib.IntN.{ℤ}
-use lib.ListN.{length, take, length-map}
+use lib.{Dec.{eqb, leb, ltb}, IntN.{ℤ}, ListN.{length, take, length-map}}
 use borrow.Author.Tests.{eqb-true, ne-eqb, leb-true, lt-ltb, le-ltb, ltb-true, ltb-false}
 use Rattle.molang.specs.Operator
 use Rattle.molang.specs.Operator.{between, isHost, isOperator, isOneOf, any, closingOf, isCloser}
@@ -17,29 +13,21 @@ use Rattle.molang.specs.Message.{Message, multipleRoots, complexMustEndW
 use Rattle.molang.specs.Message.{sectionNotClosed, noClosingSymbol, emptyParameterList, mathAtEnd, mathWithoutParenthesis}
 use Rattle.molang.specs.Message.{leadingSemicolon, emptyArrayIndex, binaryAtEnd, negateWithoutOperand, notWithoutOperand}
 use Rattle.molang.specs.Message.{unknownOperation, unaryWithoutOperand, ternaryWithoutOperands, hostValue, closer, about}
-use Rattle.molang.specs.Message.{messageRecord}
-use Rattle.molang.specs.Read.{Answer, tree, messages, read, uses}
-use Rattle.molang.specs.FirstFailure.{must, firstOf}
+use Rattle.molang.specs.{Message.{messageRecord}, Read.{Answer, tree, messages, read, uses}, FirstFailure.{must, firstOf}}
 use Rattle.molang.specs.Words.{word, kindOf, lowOf, operatorBits, numberIn, tokenWords, tokenOf, tokensOf, nodeWordsOf, treeWords}
 use Rattle.molang.specs.Words.{Field, operatorField, startField, endField, upperField, lowerField, countField, closeField, fieldKind}
 use Rattle.molang.specs.Words.{lowFault, wordFault, variantAfter, nextInToken, Refusal, wordsRefusal}
-use Rattle.molang.specs.Legal.{Legal, LegalTrees, noTrees, legalTree}
-use Rattle.molang.specs.Nesting.{openAfter, firstAbove, tooDeep}
+use Rattle.molang.specs.{Legal.{Legal, LegalTrees, noTrees, legalTree}, Nesting.{openAfter, firstAbove, tooDeep}}
 use Rattle.molang.specs.Parse.{Call, lengthRows, valueRows, refusal, reading, recordWords, aTree, someMessages, told, answered}
 use Rattle.molang.specs.Parse.{inFront, treeIn, treeAfter, messagesIn, messagesAfter, workIn, workAfter}
 use Rattle.molang.specs.Hosts.{isHostWord, withThisWord, hostless, treeTold, In, first, later, KeptFrom, ReadsAsThis}
 use Rattle.molang.proofs.Booleans
-use Rattle.molang.proofs.Trees.{both, decided}
-use Rattle.molang.proofs.FirstFailure.{behind}
-use Rattle.molang.proofs.Words.{word-back, kind-word, low-word, bits-number, bits-room, host-within, operator-small}
-use Rattle.molang.proofs.Words.{word-faultless, next-word}
-use Rattle.molang.proofs.Every.{Every, nowhere, at, Renewable, read-every}
-use Rattle.molang.proofs.Legal.{read-legal}
-use Rattle.molang.proofs.Accepted.{call-accepted}
-use Rattle.molang.proofs.HandedTree.{front-words}
-use Rattle.molang.proofs.Bounds.{treeWords-length}
-use Rattle.molang.proofs.Relabelling.{isNamed, allNamed, Seen, itself, asThis, oneOf-seen, closing-seen, Unnoticed}
-use Rattle.molang.proofs.Relabelling.{relabelled, messageOf, messagesOf, answerOf, tokensFor, read-natural, rel-count, rel-size}
+use Rattle.molang.proofs.{Trees.{both, decided}, FirstFailure.{behind}}
+use Rattle.molang.proofs.Words.{word-back, kind-word, low-word, bits-number, bits-room, host-within, operator-small, word-faultless}
+use Rattle.molang.proofs.{Words.{next-word}, Every.{Every, nowhere, at, Renewable, read-every}, Legal.{read-legal}}
+use Rattle.molang.proofs.{Accepted.{call-accepted}, HandedTree.{front-words}, Bounds.{treeWords-length}}
+use Rattle.molang.proofs.Relabelling.{isNamed, allNamed, Seen, itself, asThis, oneOf-seen, closing-seen, Unnoticed, relabelled}
+use Rattle.molang.proofs.Relabelling.{messageOf, messagesOf, answerOf, tokensFor, read-natural, rel-count, rel-size}
 use Rattle.molang.proofs.MessageNumbers.{NamesLow, AllLow, AnswerLow, read-low}
 
 -- ---- Tokens

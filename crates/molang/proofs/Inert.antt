@@ -1,11 +1,8 @@
 -- What 'no masks' (NoMasks) needs of a level from the left, said once: a level that passes over what is none of its tokens leaves a forest
 -- as it is where none of its tokens stands as a leaf. Each level is an instance, in the file of its name.
 use Prim.Native.Nat.{ℕ}
-use mathlib.Core.Path.{_≡_, refl}
-use mathlib.Core.Bool.{Bool, true, false}
-use Rattle.molang.specs.Forest.{Token, Forest, nil, node, turnedOnto, inOrder}
-use Rattle.molang.specs.Message.{ok}
-use Rattle.molang.specs.Level.{on, into, Level, walk, through}
+use mathlib.Core.{Path.{_≡_, refl}, Bool.{Bool, true, false}}
+use Rattle.molang.specs.{Forest.{Token, Forest, nil, node, turnedOnto, inOrder}, Message.{ok}, Level.{on, into, Level, walk, through}}
 use Rattle.molang.specs.Free.{free, clear}
 use Rattle.molang.proofs.Trees.{free-leaf, free-tree, leaf-clear, free-clear}
 

@@ -1,24 +1,14 @@
 -- A legal list gives a legal tree, which is read back from its words: what stands between a first reading and the writer.
 use Prim.Native.Nat.{ℕ, _^_, _≤_, _<_}
-use mathlib.Core.Path.{_≡_, refl}
-use mathlib.Core.Bool.{Bool}
-use mathlib.Core.List.{List}
-use mathlib.Core.Option.{none}
+use mathlib.Core.{Path.{_≡_, refl}, Bool.{Bool}, List.{List}, Option.{none}}
 use native.Mathlib.Omega.{arith}
-use lib.IntN.{ℤ}
-use lib.ListN.{length}
+use lib.{IntN.{ℤ}, ListN.{length}}
 use Rattle.molang.specs.Operator
-use Rattle.molang.specs.Forest.{Token, Forest, nil, node, renamed, bare, closedBy, leaves, size}
-use Rattle.molang.specs.Read.{Answer, read}
-use Rattle.molang.specs.Words.{treeWords, operatorField}
-use Rattle.molang.specs.Legal.{Legal, LegalTrees, noTrees, legalTree}
-use Rattle.molang.specs.Parse.{mostTokens}
+use Rattle.molang.specs.{Forest.{Token, Forest, nil, node, renamed, bare, closedBy, leaves, size}, Read.{Answer, read}}
+use Rattle.molang.specs.{Words.{treeWords, operatorField}, Legal.{Legal, LegalTrees, noTrees, legalTree}, Parse.{mostTokens}}
 use Rattle.molang.specs.WriteEntry.{treeFault, treesOf}
-use Rattle.molang.proofs.Trees.{count-size}
-use Rattle.molang.proofs.Bounds.{read-tree}
-use Rattle.molang.proofs.Words.{LegalTokens, noTokens, token, trees-back, operator-low}
-use Rattle.molang.proofs.TreeWords.{tree-unfaulted}
-use Rattle.molang.proofs.Every.{Every, nowhere, at, Renewable, read-every}
+use Rattle.molang.proofs.{Trees.{count-size}, Bounds.{read-tree}, Words.{LegalTokens, noTokens, token, trees-back, operator-low}}
+use Rattle.molang.proofs.{TreeWords.{tree-unfaulted}, Every.{Every, nowhere, at, Renewable, read-every}}
 
 -- A token with another operator, or with another's span and no payload, is legal.
 pub legal-renamed : (o : ℕ) (k : Token) → o ≤ 110 → Legal k → Legal (renamed o k)

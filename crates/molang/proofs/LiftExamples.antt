@@ -1,15 +1,10 @@
 -- Computed examples of card 12 (document 02): two write calls whose lists come back from lifts at 4, 5 and 6, word for word, though the
 -- tree has a leaf and an operator that close elsewhere and a host's leaf; and that the limit's premise is needed.
 use Prim.Native.Nat.{ℕ, _+_, _*_, _/_}
-use mathlib.Core.Path.{_≡_, refl}
-use mathlib.Core.List.{List, [], _∷_}
-use mathlib.Core.Option.{Option, none, some}
-use lib.IntN.{pos}
-use lib.ListN.{length, replicate}
+use mathlib.Core.{Path.{_≡_, refl}, List.{List, [], _∷_}, Option.{Option, none, some}}
+use lib.{IntN.{pos}, ListN.{length, replicate}}
 use Rattle.molang.specs.Operator
-use Rattle.molang.specs.Forest.{Forest, nil, node}
-use Rattle.molang.specs.Words.{tokensOf, treeWords}
-use Rattle.molang.specs.Reread.{Lift, wordsOf, lifted, byWayOf}
+use Rattle.molang.specs.{Forest.{Forest, nil, node}, Words.{tokensOf, treeWords}, Reread.{Lift, wordsOf, lifted, byWayOf}}
 use Rattle.molang.proofs.Computed.{computed}
 
 -- The node of an operator at a position, that closes somewhere, before others.

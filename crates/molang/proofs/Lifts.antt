@@ -1,32 +1,20 @@
 -- BY WAY OF A THIRD VERSION (document 02, card 12): a list that was written is read and written again as it was, at every version, and so
 -- it comes out of any number of lifts as it went in. This holds of every call that is written, wherever its tree came from.
 use Prim.Native.Nat.{ℕ, _*_, _/_, _%_, _^_, _≤_}
-use mathlib.Core.Path.{_≡_, refl, ap, sym, _∙_}
-use mathlib.Core.Bool.{false}
-use mathlib.Core.List.{List, [], _∷_, _++_}
-use mathlib.Core.Option.{none, some}
+use mathlib.Core.{Path.{_≡_, refl, ap, sym, _∙_}, Bool.{false}, List.{List, [], _∷_, _++_}, Option.{none, some}}
 use native.Mathlib.Omega.{arith}
 use lib.ListN.{length, take}
-use Rattle.molang.specs.Forest.{Token, Forest, nil, node, size}
-use Rattle.molang.specs.Read.{uses, setNumber}
-use Rattle.molang.specs.Words.{operatorField, tokensOf, listWords, treeWords}
-use Rattle.molang.specs.Parse.{Call, mostTokens, inHalves, treeAfter}
-use Rattle.molang.specs.Plain.{unplainAt}
-use Rattle.molang.specs.Write.{writtenTree}
+use Rattle.molang.specs.{Forest.{Token, Forest, nil, node, size}, Read.{uses, setNumber}}
+use Rattle.molang.specs.{Words.{operatorField, tokensOf, listWords, treeWords}, Parse.{Call, mostTokens, inHalves, treeAfter}}
+use Rattle.molang.specs.{Plain.{unplainAt}, Write.{writtenTree}}
 use Rattle.molang.specs.WriteEntry.{treeFault, treesOf, WriteCall, writeRefusal, tokens, writeAnswered, listAfter}
 use Rattle.molang.specs.StackOrder.{IsOneTree}
 use Rattle.molang.specs.Reread.{exactCall, Lift, wordsWritten, wordsOf, liftedBy, lifted, byWayOf, CanLift, EachCanLift, LiftsTo}
-use Rattle.molang.proofs.FirstFailure.{first-none, withNumber-none}
-use Rattle.molang.proofs.Words.{LegalTokens, tokens-back}
-use Rattle.molang.proofs.ListWords.{listWords-length, uses-legal}
-use Rattle.molang.proofs.UsedSet.{used-few, halves-exact}
-use Rattle.molang.proofs.TreeWords.{tree-fault-none}
-use Rattle.molang.proofs.StackOrder.{trees-of-tree}
-use Rattle.molang.proofs.Accepted.{Acceptable}
+use Rattle.molang.proofs.{FirstFailure.{first-none, withNumber-none}, Words.{LegalTokens, tokens-back}}
+use Rattle.molang.proofs.{ListWords.{listWords-length, uses-legal}, UsedSet.{used-few, halves-exact}, TreeWords.{tree-fault-none}}
+use Rattle.molang.proofs.{StackOrder.{trees-of-tree}, Accepted.{Acceptable}}
 use Rattle.molang.proofs.HandedTree.{Parsed, tree-front, tree-told, tree-back, tree-unfaulted, tree-tells, tree-wrote, write-of-told}
-use Rattle.molang.proofs.Entries.{list-read}
-use Rattle.molang.proofs.RoundTrip.{round-trip}
-use Rattle.molang.proofs.Settled.{WrittenList, written-list}
+use Rattle.molang.proofs.{Entries.{list-read}, RoundTrip.{round-trip}, Settled.{WrittenList, written-list}}
 
 -- ---- Writing a tree's words
 

@@ -1,10 +1,7 @@
 -- The table of lines: where the definition answers a line's calls as the line says, it leaves the work buffer as the line says.
 use Prim.Native.Nat.{ℕ}
-use mathlib.Core.Path.{_≡_, refl, ap, sym, _∙_}
-use mathlib.Core.List.{List, [], _∷_, _++_}
-use mathlib.Core.Option.{Option, none, some}
-use Rattle.molang.specs.Words.{Refusal}
-use Rattle.molang.specs.Read.{Answer, tree, messages}
+use mathlib.Core.{Path.{_≡_, refl, ap, sym, _∙_}, List.{List, [], _∷_, _++_}, Option.{Option, none, some}}
+use Rattle.molang.specs.{Words.{Refusal}, Read.{Answer, tree, messages}}
 use Rattle.molang.specs.Parse.{Call, told, refusal, reading, answered, treeAfter, messagesAfter, workIn, workAfter}
 use Rattle.molang.specs.Lines.{
   Marked,

@@ -1,30 +1,20 @@
 -- The words of legal tokens answer none of 8-11, and what is written of a legal tree is legal: what stands between the writer and a second
 -- reading.
 use Prim.Native.Nat.{ℕ, suc, _*_, _/_, _%_, _^_, _≤_, _<_, min, max}
-use mathlib.Core.Path.{_≡_, refl, ap, _∙_}
-use mathlib.Core.Bool.{Bool, true, false, false≢true}
-use mathlib.Core.List.{List, [], _∷_, _++_}
-use mathlib.Core.Option.{Option, none, some}
+use mathlib.Core.{Path.{_≡_, refl, ap, _∙_}, Bool.{Bool, true, false, false≢true}, List.{List, [], _∷_, _++_}, Option.{Option, none, some}}
 use native.Mathlib.Omega.{arith}
-use lib.Dec.{eqb}
-use lib.ListN.{length}
+use lib.{Dec.{eqb}, ListN.{length}}
 use borrow.Author.Tests.{lt-leb}
 use Rattle.molang.specs.Operator
-use Rattle.molang.specs.Operator.{isBracket}
-use Rattle.molang.specs.Forest.{Token, Forest, nil, node, closedBy, unclosed, count, size}
+use Rattle.molang.specs.{Operator.{isBracket}, Forest.{Token, Forest, nil, node, closedBy, unclosed, count, size}}
 use Rattle.molang.specs.Read.{lowestStart, highestEnd, uses}
 use Rattle.molang.specs.Words.{word, tokenWords, nodeWordsOf, tokensOf, listWords, treeWords, Field, operatorField, startField}
 use Rattle.molang.specs.Words.{endField, upperField, lowerField, wordFault, lowFault, variantAfter, nextInToken, withPlace}
-use Rattle.molang.specs.Words.{operatorBits, wordsRefusal}
-use Rattle.molang.specs.Legal.{Legal, LegalTrees, noTrees, legalTree}
+use Rattle.molang.specs.{Words.{operatorBits, wordsRefusal}, Legal.{Legal, LegalTrees, noTrees, legalTree}}
 use Rattle.molang.specs.Write.{spanning, openerFor, closerFor, closerOf, standsAlone, standsLeft, standsRight, operandTokens, written}
-use Rattle.molang.specs.Write.{writtenStatements, writtenTree}
-use Rattle.molang.specs.WriteEntry.{nextInNode, Shape, shapeAfter, continues, treeFault}
-use Rattle.molang.proofs.Trees.{either}
-use Rattle.molang.proofs.FirstFailure.{first-none, passed, after-none}
-use Rattle.molang.proofs.Words.{LegalTokens, noTokens, token, operator-low}
-use Rattle.molang.proofs.TreeWords.{tree-unfaulted}
-use Rattle.molang.proofs.Legal.{legal-bare}
+use Rattle.molang.specs.{Write.{writtenStatements, writtenTree}, WriteEntry.{nextInNode, Shape, shapeAfter, continues, treeFault}}
+use Rattle.molang.proofs.{Trees.{either}, FirstFailure.{first-none, passed, after-none}}
+use Rattle.molang.proofs.{Words.{LegalTokens, noTokens, token, operator-low}, TreeWords.{tree-unfaulted}, Legal.{legal-bare}}
 use Rattle.molang.proofs.Writing.{written-none, written-one, written-two, written-more}
 
 -- Where the words of a tree have no fault, the first of them has none, and those after it have none.

@@ -3,9 +3,7 @@
 -- with nothing open is a leaf between the trees of what stands before it and of what stands after it (`closer-kept`). The last as a law of
 -- the one step, whatever follows, is `lone-closer`.
 use Prim.Native.Nat.{ℕ, _+_}
-use mathlib.Core.Path.{_≡_, refl, ap, sym, _∙_, subst}
-use mathlib.Core.Bool.{Bool, true, false, _&&_, true≢false, false≢true}
-use mathlib.Core.List.{List, [], _∷_, _++_}
+use mathlib.Core.{Path.{_≡_, refl, ap, sym, _∙_, subst}, Bool.{Bool, true, false, _&&_, true≢false, false≢true}, List.{List, [], _∷_, _++_}}
 use mathlib.Core.Option.{Option, none, some}
 use lib.Dec.{eqb}
 use native.Mathlib.Omega.{arith}
@@ -16,11 +14,8 @@ use Rattle.molang.specs.Forest.{Token, Forest, nil, node, closedBy, leav
 use Rattle.molang.specs.Message.{Message, Result, ok, fail, closer}
 use Rattle.molang.specs.Sections.{Open, outside, section, placed, position, Walked, going, mismatch, closing, bracket, closed}
 use Rattle.molang.specs.Sections.{sections}
-use Rattle.molang.specs.Matching.{noneOpen, matched, succeeds, operatorsIn, withCloser, spelled, followedBy, LeafBetween}
-use Rattle.molang.specs.Matching.{NothingLost}
-use Rattle.molang.proofs.Trees.{decided}
-use Rattle.molang.proofs.Forests.{turned-followed, inOrder-followed, inOrder-more}
-use Rattle.molang.proofs.Sections.{afterBracket}
+use Rattle.molang.specs.Matching.{noneOpen, matched, succeeds, operatorsIn, withCloser, spelled, followedBy, LeafBetween, NothingLost}
+use Rattle.molang.proofs.{Trees.{decided}, Forests.{turned-followed, inOrder-followed, inOrder-more}, Sections.{afterBracket}}
 
 -- ---- one token, by its kind: an opener, a closer, anything else
 

@@ -1,12 +1,9 @@
 -- No message names a number above all operators: what a record names is the operator of a token that a test has named.
 use Prim.Native.Nat.{ℕ, _+_, _≤_, _<_}
-use mathlib.Core.Path.{_≡_, refl, sym, _∙_}
-use mathlib.Core.Bool.{Bool, true, false, _||_, true≢false}
-use mathlib.Core.List.{List, [], _∷_, _++_}
+use mathlib.Core.{Path.{_≡_, refl, sym, _∙_}, Bool.{Bool, true, false, _||_, true≢false}, List.{List, [], _∷_, _++_}}
 use mathlib.Core.Option.{Option, none, some}
 use native.Mathlib.Omega.{arith}
-use lib.Dec.{eqb, leb}
-use lib.IntN.{ℤ}
+use lib.{Dec.{eqb, leb}, IntN.{ℤ}}
 use borrow.Author.Tests.{eqb-true, leb-true, leb-false}
 use Rattle.molang.specs.Operator
 use Rattle.molang.specs.Operator.{any, isOneOf, isMathCall, isQueryOrLoop, isBracket, closingOf, isCloser, unknown, beforeMinus}
@@ -21,20 +18,17 @@ use Rattle.molang.specs.Sections.{closing, bracket, closed, sections}
 use Rattle.molang.specs.Calls.{CallKind, queryOrLoop, math, calls, callLeaf, callStep, callResume, callFinish, callLevel, Indexing}
 use Rattle.molang.specs.Calls.{unindexed, named, indexed, isIndex, startsWithIndex, emptyIndex, nextIndex, index, arrayStep}
 use Rattle.molang.specs.Calls.{arrayFinish, arrayLevel}
-use Rattle.molang.specs.Statements.{Split, unsplit, after, inside, isEntered, endStatement, enterSplit}
-use Rattle.molang.specs.Statements.{statementStep, statementFinish, statementLevel}
+use Rattle.molang.specs.Statements.{Split, unsplit, after, inside, isEntered, endStatement, enterSplit, statementStep}
+use Rattle.molang.specs.Statements.{statementFinish, statementLevel}
 use Rattle.molang.specs.Unary.{Unary, done, undone, minusAfter, notBefore, unaryLeaf, turned, unaryNode, unary, unaryPass, returnStep}
 use Rattle.molang.specs.Unary.{returnResume, returnFinish, returnLevel}
 use Rattle.molang.specs.Binary.{firstLeaf, unfolded, operatorAfter, binaryStep, binaryResume, binaryFinish, binaryLevel}
 use Rattle.molang.specs.Conditional.{isToken, foldedFrom, dangling, undangled, conditionalStep, conditionalFinish, conditionalLevel}
 use Rattle.molang.specs.Order.{rules, Pass, lastToken, memberAccessors, sectioning, callPass, statements, arrays, pointer, mathCalls}
 use Rattle.molang.specs.Order.{unaryMinusAndNot, addition, conditional, returns, binary, order, runs, lastOf, endsWithSemicolon}
-use Rattle.molang.specs.Order.{apply}
-use Rattle.molang.specs.Read.{Answer, tree, messages, rooted, endsReading, grouped, read}
+use Rattle.molang.specs.{Order.{apply}, Read.{Answer, tree, messages, rooted, endsReading, grouped, read}}
 use Rattle.molang.proofs.Booleans
-use Rattle.molang.proofs.Trees.{decided, either, maybe, both}
-use Rattle.molang.proofs.FirstFailure.{All}
-use Rattle.molang.proofs.Walks.{back, onward, walk-onward}
+use Rattle.molang.proofs.{Trees.{decided, either, maybe, both}, FirstFailure.{All}, Walks.{back, onward, walk-onward}}
 use Rattle.molang.proofs.Unary.{beforeCases, inNode, atNode}
 use Rattle.molang.proofs.Relabelling.{isNamed, allNamed, named-low, asThis, oneOf-seen, math-seen, closing-seen, before-seen}
 use Rattle.molang.proofs.Relabelling.{isQuiet, allQuiet, order-quiet}

@@ -1,25 +1,15 @@
 -- Laws of the nesting limit (document 02, card 8): a list no longer than the limit is within it, so at 4,096 answer 18 cannot be; answer
 -- 18's place is that of an opener; and two calls that differ in the limit alone and are both read answer and leave the same.
 use Prim.Native.Nat.{ℕ, suc, _+_, _≤_}
-use mathlib.Core.Path.{_≡_, refl, sym, ap, _∙_}
-use mathlib.Core.Bool.{Bool, true, false}
-use mathlib.Core.List.{List, [], _∷_, _++_}
-use mathlib.Core.Option.{Option, none, some}
+use mathlib.Core.{Path.{_≡_, refl, sym, ap, _∙_}, Bool.{Bool, true, false}, List.{List, [], _∷_, _++_}, Option.{Option, none, some}}
 use native.Mathlib.Omega.{arith}
-use lib.Dec.{leb}
-use lib.ListN.{length}
+use lib.{Dec.{leb}, ListN.{length}}
 use borrow.Author.Tests.{leb-true, leb-false, le-leb}
-use Rattle.molang.specs.Operator.{closingOf, isCloser}
-use Rattle.molang.specs.Forest.{Token}
-use Rattle.molang.specs.Read.{Answer, tree, messages}
-use Rattle.molang.specs.FirstFailure.{must, firstOf}
-use Rattle.molang.specs.Words.{Refusal, operatorField, wordsRefusal, tokensOf}
-use Rattle.molang.specs.Nesting.{openAfter, firstAbove, tooDeep}
+use Rattle.molang.specs.{Operator.{closingOf, isCloser}, Forest.{Token}, Read.{Answer, tree, messages}, FirstFailure.{must, firstOf}}
+use Rattle.molang.specs.{Words.{Refusal, operatorField, wordsRefusal, tokensOf}, Nesting.{openAfter, firstAbove, tooDeep}}
 use Rattle.molang.specs.Parse.{Call, mostTokens, refusal, reading, refused, told, answered, treeAfter, messagesAfter, workAfter}
-use Rattle.molang.proofs.Trees.{either, maybe, some-none}
-use Rattle.molang.proofs.FirstFailure.{All, then-none, passes, all-passed, last-one}
-use Rattle.molang.proofs.ListWords.{tokens-count}
-use Rattle.molang.proofs.Refusals.{all-rows, Within, words-within}
+use Rattle.molang.proofs.{Trees.{either, maybe, some-none}, FirstFailure.{All, then-none, passes, all-passed, last-one}}
+use Rattle.molang.proofs.{ListWords.{tokens-count}, Refusals.{all-rows, Within, words-within}}
 
 -- ---- The shortcut
 

@@ -3,20 +3,12 @@
 -- takes it from there again when the children are done (`Run`). The definition's pass recurses into the children instead. `no-frames` says
 -- that such a run comes to what the definition's pass gives, and to nothing else.
 use Prim.Native.Nat.{ℕ, zero, suc, _≤_}
-use mathlib.Core.Path.{_≡_, refl, sym, ap, _∙_, subst}
-use mathlib.Core.Bool.{false}
-use mathlib.Core.List.{List, [], _∷_}
-use native.Mathlib.Omega.{arith}
-use native.Mathlib.Nat.{le-refl}
-use Rattle.molang.specs.Forest.{Token, Forest, nil, node, size}
-use Rattle.molang.specs.Message.{Message, Result, ok, fail}
-use Rattle.molang.specs.Level.{Step, stop, on, into, Level, walk}
-use Rattle.molang.specs.Calls.{callLevel, arrayLevel}
-use Rattle.molang.specs.Statements.{statementLevel}
-use Rattle.molang.specs.Unary.{Unary, done, undone, unaryLeaf, turned, returnLevel}
-use Rattle.molang.specs.Binary.{binaryLevel}
-use Rattle.molang.specs.Conditional.{conditionalLevel}
-use Rattle.molang.specs.Order.{apply}
+use mathlib.Core.{Path.{_≡_, refl, sym, ap, _∙_, subst}, Bool.{false}, List.{List, [], _∷_}}
+use native.Mathlib.{Omega.{arith}, Nat.{le-refl}}
+use Rattle.molang.specs.{Forest.{Token, Forest, nil, node, size}, Message.{Message, Result, ok, fail}}
+use Rattle.molang.specs.{Level.{Step, stop, on, into, Level, walk}, Calls.{callLevel, arrayLevel}, Statements.{statementLevel}}
+use Rattle.molang.specs.{Unary.{Unary, done, undone, unaryLeaf, turned, returnLevel}, Binary.{binaryLevel}}
+use Rattle.molang.specs.{Conditional.{conditionalLevel}, Order.{apply}}
 use Rattle.molang.specs.Work.{Kind, calls, statements, arrays, unaryMinusAndNot, conditional, returns, binary, Right, right, State}
 use Rattle.molang.specs.Work.{before, fromRight, work, begins, inReading, takes, passOf, pass, andThen, Held, held, unwound}
 use Rattle.molang.proofs.Walks.{back, onward, walk-onward}

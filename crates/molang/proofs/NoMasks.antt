@@ -2,30 +2,18 @@
 -- A reader with class masks does not run a pass, and does not enter a list, where no leaf has a class of the pass. `no-masks` says that the
 -- pass would have left that list as it is. The law of each level stands in the file of its name; those of the flat passes are here.
 use Prim.Native.Nat.{ℕ}
-use mathlib.Core.Path.{_≡_, refl}
-use mathlib.Core.Bool.{true, false, false≢true}
-use mathlib.Core.List.{[], _∷_}
-use mathlib.Core.Option.{none}
+use mathlib.Core.{Path.{_≡_, refl}, Bool.{true, false, false≢true}, List.{[], _∷_}, Option.{none}}
 use lib.Dec.{eqb}
 use Rattle.molang.specs.Operator
-use Rattle.molang.specs.Operator.{any, isOneOf, closingOf, isCloser}
-use Rattle.molang.specs.Forest.{Token, Forest, nil, node, turnedOnto, inOrder}
-use Rattle.molang.specs.Message.{ok}
-use Rattle.molang.specs.Sections.{members, outside, placed, position, going, closing, bracket, closed, sections}
+use Rattle.molang.specs.{Operator.{any, isOneOf, closingOf, isCloser}, Forest.{Token, Forest, nil, node, turnedOnto, inOrder}}
+use Rattle.molang.specs.{Message.{ok}, Sections.{members, outside, placed, position, going, closing, bracket, closed, sections}}
 use Rattle.molang.specs.Calls.{queryOrLoop, math}
 use Rattle.molang.specs.Order.{Pass, lastToken, memberAccessors, sectioning, callPass, statements, arrays, pointer, mathCalls}
 use Rattle.molang.specs.Order.{unaryMinusAndNot, addition, conditional, returns, binary, apply}
 use Rattle.molang.specs.Free.{free, tokensOnly, flat, operatorsOf, worksOn}
-use Rattle.molang.proofs.Trees.{either, both, free-leaf, free-tree}
-use Rattle.molang.proofs.Booleans.{or-neither}
-use Rattle.molang.proofs.Calls.{call-free}
-use Rattle.molang.proofs.Arrays.{array-free}
-use Rattle.molang.proofs.Statements.{statement-free}
-use Rattle.molang.proofs.Unary.{unaryPass-free}
-use Rattle.molang.proofs.Return.{return-free}
-use Rattle.molang.proofs.Binary.{binary-free}
-use Rattle.molang.proofs.Conditional.{conditional-free}
-use Rattle.molang.proofs.Sections.{member-unopened}
+use Rattle.molang.proofs.{Trees.{either, both, free-leaf, free-tree}, Booleans.{or-neither}, Calls.{call-free}, Arrays.{array-free}}
+use Rattle.molang.proofs.{Statements.{statement-free}, Unary.{unaryPass-free}, Return.{return-free}, Binary.{binary-free}}
+use Rattle.molang.proofs.{Conditional.{conditional-free}, Sections.{member-unopened}}
 
 members-free : (d f : Forest) → tokensOnly f ≡ true → free (operatorsOf memberAccessors) f ≡ true → members d f ≡ ok (turnedOnto d f)
 unfolding members tokensOnly operatorsOf isOneOf any turnedOnto inOrder

@@ -1,29 +1,19 @@
 -- A walk along the words of nodes that stops at the first word which cannot stand there: what answers 12 and 24 have in common. Seven legal
 -- words are passed as a node, and seven that were passed are the words of one.
 use Prim.Native.Nat.{ℕ, suc, _+_, _*_, _/_, _%_, _^_, _≤_, _<_}
-use mathlib.Core.Path.{_≡_, refl, ap, sym, _∙_}
-use mathlib.Core.Bool.{Bool, true, false, _&&_}
-use mathlib.Core.List.{List, [], _∷_, _++_}
-use mathlib.Core.Option.{Option, none, some}
+use mathlib.Core.{Path.{_≡_, refl, ap, sym, _∙_}, Bool.{Bool, true, false, _&&_}, List.{List, [], _∷_, _++_}, Option.{Option, none, some}}
 use native.Mathlib.Omega.{arith}
-use lib.Dec.{eqb, leb, ltb}
-use lib.ListN.{length, take}
+use lib.{Dec.{eqb, leb, ltb}, ListN.{length, take}}
 use borrow.Author.Tests.{eqb-true, eq-eqb, leb-true, le-leb, ltb-true, lt-ltb}
-use Rattle.molang.specs.Forest.{Token}
-use Rattle.molang.specs.Operator.{isOperator}
-use Rattle.molang.specs.Words.{operatorBits, numberIn}
-use Rattle.molang.specs.Words.{word, lowOf, tokenWords, nodeWordsOf, nodeOf, Field, operatorField, startField, endField}
-use Rattle.molang.specs.Words.{upperField, lowerField, countField, closeField, fieldKind, lowFault, wordFault, variantAfter}
-use Rattle.molang.specs.Legal.{Legal}
-use Rattle.molang.specs.FirstFailure.{must, firstOf}
-use Rattle.molang.specs.WriteEntry.{mostNodes, nextInNode}
-use Rattle.molang.proofs.Trees.{decided, some-none, both, and-true-true}
-use Rattle.molang.proofs.Booleans.{false-true}
+use Rattle.molang.specs.{Forest.{Token}, Operator.{isOperator}}
+use Rattle.molang.specs.Words.{operatorBits, numberIn, word, lowOf, tokenWords, nodeWordsOf, nodeOf, Field, operatorField, startField}
+use Rattle.molang.specs.Words.{endField, upperField, lowerField, countField, closeField, fieldKind, lowFault, wordFault, variantAfter}
+use Rattle.molang.specs.{Legal.{Legal}, FirstFailure.{must, firstOf}, WriteEntry.{mostNodes, nextInNode}}
+use Rattle.molang.proofs.{Trees.{decided, some-none, both, and-true-true}, Booleans.{false-true}}
 use Rattle.molang.proofs.FirstFailure.{must-true, must-none, must-some, first-none, then-none, passed, passes, all-passed}
 use Rattle.molang.proofs.FirstFailure.{must-false, found, after-none, one-of}
 use Rattle.molang.proofs.Words.{low-word, kind-word, operator-small, bits-number, bits-variant, bits-room, low-bound, word-back}
-use Rattle.molang.proofs.Words.{word-faultless, five-legal}
-use Rattle.molang.proofs.Words.{five-back, five-faultless}
+use Rattle.molang.proofs.Words.{word-faultless, five-legal, five-back, five-faultless}
 
 -- ---- The words of a legal node
 

@@ -1,15 +1,11 @@
 -- What card 7 leaves as it was: a word of kind 1 whose bits 12-15 are 0 has its operator in bits 0-7 and is answered by the tests that
 -- stood before hosts had numbers, its token is the one that it was, and a token whose number is below 256 has the words that it had.
 use Prim.Native.Nat.{ℕ, _+_, _*_, _/_, _%_, _^_, _<_}
-use mathlib.Core.Path.{_≡_, refl}
-use mathlib.Core.Bool.{or-false}
-use mathlib.Core.List.{[], _∷_}
+use mathlib.Core.{Path.{_≡_, refl}, Bool.{or-false}, List.{[], _∷_}}
 use native.Mathlib.Omega.{arith}
 use lib.Dec.{leb, ltb}
 use borrow.Author.Tests.{ltb-true, ltb-false, lt-ltb, le-ltb, lt-leb}
-use Rattle.molang.specs.Operator.{between, isHost, isOperator}
-use Rattle.molang.specs.Forest.{Token}
-use Rattle.molang.specs.FirstFailure.{must, firstOf}
+use Rattle.molang.specs.{Operator.{between, isHost, isOperator}, Forest.{Token}, FirstFailure.{must, firstOf}}
 use Rattle.molang.specs.Words.{word, lowOf, operatorBits, numberIn, tokenWords, tokenOf, operatorField, lowFault}
 use Rattle.molang.proofs.Booleans.{either}
 

@@ -1,14 +1,10 @@
 -- How far one name can reach: the trees of two lists that differ in payloads only differ in payloads only, and in no more nodes than the
 -- lists in tokens. Both lists are read as one list of numbered tokens is, with their payloads put in.
 use Prim.Native.Nat.{ℕ, zero, suc, _+_, _≤_}
-use mathlib.Core.Path.{_≡_, refl, ap, sym, _∙_}
-use mathlib.Core.Bool.{Bool, true, false, _&&_}
-use mathlib.Core.List.{List, [], _∷_}
+use mathlib.Core.{Path.{_≡_, refl, ap, sym, _∙_}, Bool.{Bool, true, false, _&&_}, List.{List, [], _∷_}}
 use native.Mathlib.Omega.{arith}
-use lib.Dec.{eqb}
-use lib.IntN.{ℤ}
-use Rattle.molang.specs.Forest.{Token, Forest, nil, node, renamed, bare, closedBy, leaves}
-use Rattle.molang.specs.Message.{Message}
+use lib.{Dec.{eqb}, IntN.{ℤ}}
+use Rattle.molang.specs.{Forest.{Token, Forest, nil, node, renamed, bare, closedBy, leaves}, Message.{Message}}
 use Rattle.molang.specs.Read.{Answer, tree, messages, read}
 use Rattle.molang.proofs.Relabelling.{Unnoticed, itself, relabelled, messagesOf, answerOf, tokensFor, read-natural}
 use Rattle.molang.proofs.Marks.{Marking, marks, ReadMarked, told, grown, read-marked}

@@ -1,15 +1,10 @@
 -- The count of open brackets is the definition's: for as long as the section walk goes on, as many sections are open as `openAfter` says.
 use Prim.Native.Nat.{ℕ, suc, _+_, _-_}
-use mathlib.Core.Path.{_≡_, refl, subst}
-use mathlib.Core.Bool.{Bool, true, false}
-use mathlib.Core.Option.{Option, none, some}
+use mathlib.Core.{Path.{_≡_, refl, subst}, Bool.{Bool, true, false}, Option.{Option, none, some}}
 use native.Mathlib.Omega.{arith}
 use lib.Dec.{eqb}
-use Rattle.molang.specs.Operator.{closingOf, isCloser}
-use Rattle.molang.specs.Forest.{Token, Forest, nil, inOrder, closedBy}
-use Rattle.molang.specs.Message.{closer}
-use Rattle.molang.specs.Sections.{Open, outside, section, placed, Walked, going, mismatch, closing, bracket}
-use Rattle.molang.specs.Nesting.{openAfter}
+use Rattle.molang.specs.{Operator.{closingOf, isCloser}, Forest.{Token, Forest, nil, inOrder, closedBy}, Message.{closer}}
+use Rattle.molang.specs.{Sections.{Open, outside, section, placed, Walked, going, mismatch, closing, bracket}, Nesting.{openAfter}}
 use Rattle.molang.proofs.Trees.{either}
 
 -- How many sections are open.

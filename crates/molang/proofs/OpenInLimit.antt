@@ -1,27 +1,17 @@
 -- What the limit is for: while the section pass walks over a list that is read, it has never more sections open than the limit. Joining
 -- member accessors before it takes no bracket from the list.
 use Prim.Native.Nat.{ℕ, suc, _≤_}
-use mathlib.Core.Path.{_≡_, refl, sym, ap, subst, _∙_}
-use mathlib.Core.Bool.{true}
-use mathlib.Core.List.{List, [], _∷_, _++_, append-assoc}
-use mathlib.Core.Option.{Option, none}
+use mathlib.Core.{Path.{_≡_, refl, sym, ap, subst, _∙_}, Bool.{true}, List.{List, [], _∷_, _++_, append-assoc}, Option.{Option, none}}
 use native.Mathlib.Omega.{arith}
 use lib.Dec.{eqb, leb}
 use borrow.Author.Tests.{eqb-true, leb-true}
 use Rattle.molang.specs.Operator.{queryFunction, contextVariable, entityVariable, tempVariable, memberAccessor, any, isOneOf}
-use Rattle.molang.specs.Operator.{hasMembers, closingOf, isCloser}
-use Rattle.molang.specs.Forest.{Token, Forest, nil, node, leaves, turnedOnto, inOrder}
+use Rattle.molang.specs.{Operator.{hasMembers, closingOf, isCloser}, Forest.{Token, Forest, nil, node, leaves, turnedOnto, inOrder}}
 use Rattle.molang.specs.Message.{Message, leadingMemberAccessor, Result, ok, fail}
-use Rattle.molang.specs.Sections.{withMember, members, Open, outside, position, going, bracket}
-use Rattle.molang.specs.Words.{tokensOf}
-use Rattle.molang.specs.Nesting.{openAfter, firstAbove, tooDeep}
-use Rattle.molang.specs.Parse.{Call, refusal}
-use Rattle.molang.proofs.Trees.{decided}
-use Rattle.molang.proofs.Booleans.{either as test, false-true}
-use Rattle.molang.proofs.Sections.{afterMember}
-use Rattle.molang.proofs.FirstFailure.{first-none, passed}
-use Rattle.molang.proofs.OpenCount.{depthOf, bracket-depth}
-use Rattle.molang.proofs.Accepted.{call-accepted}
+use Rattle.molang.specs.{Sections.{withMember, members, Open, outside, position, going, bracket}, Words.{tokensOf}}
+use Rattle.molang.specs.{Nesting.{openAfter, firstAbove, tooDeep}, Parse.{Call, refusal}}
+use Rattle.molang.proofs.{Trees.{decided}, Booleans.{either as test, false-true}, Sections.{afterMember}}
+use Rattle.molang.proofs.{FirstFailure.{first-none, passed}, OpenCount.{depthOf, bracket-depth}, Accepted.{call-accepted}}
 
 -- ---- What is within the limit
 

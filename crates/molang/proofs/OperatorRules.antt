@@ -1,35 +1,26 @@
 -- A node's rule is its operator's (card 5). A pass makes of the copy what it makes of the list, and gives children to operators of its own
 -- number only; so between the passes every node with children has its operator's number, and a leaf none or its operator's.
 use Prim.Native.Nat.{ℕ, zero, suc, _+_, _≤_, _<_, max}
-use mathlib.Core.Path.{_≡_, refl, ap, sym, _∙_}
-use mathlib.Core.Bool.{Bool, true, false, _&&_, _||_}
-use mathlib.Core.List.{List, [], _∷_, _++_}
+use mathlib.Core.{Path.{_≡_, refl, ap, sym, _∙_}, Bool.{Bool, true, false, _&&_, _||_}, List.{List, [], _∷_, _++_}}
 use mathlib.Core.Option.{Option, none, some, Option·getD}
 use native.Mathlib.Omega.{arith}
-use lib.Dec.{eqb, leb}
-use lib.IntN.{ℤ}
-use lib.ListN.{length, getD, length-append}
+use lib.{Dec.{eqb, leb}, IntN.{ℤ}, ListN.{length, getD, length-append}}
 use borrow.Author.Tests.{eqb-true, leb-true, eq-eqb, ne-eqb}
 use Rattle.molang.specs.Operator
 use Rattle.molang.specs.Operator.{any, isOneOf, between, isMathCall, isQueryOrLoop, closingOf, isCloser}
 use Rattle.molang.specs.Forest.{Token, Forest, nil, node, renamed, bare, closedBy, leaves, size}
-use Rattle.molang.specs.Message.{Message, complexMustEndWithSemicolon, Result, ok, fail, closer}
-use Rattle.molang.specs.Calls.{math, calls}
-use Rattle.molang.specs.Order.{rules, Pass, lastToken, memberAccessors, sectioning, callPass, statements, arrays, pointer}
-use Rattle.molang.specs.Order.{mathCalls, unaryMinusAndNot, addition, conditional, returns, binary, comparisons, logic, conditionals}
-use Rattle.molang.specs.Order.{order, runs, lastOf, endsWithSemicolon, apply}
-use Rattle.molang.specs.Read.{tree, messages, rooted, endsReading, grouped, read}
+use Rattle.molang.specs.{Message.{Message, complexMustEndWithSemicolon, Result, ok, fail, closer}, Calls.{math, calls}}
+use Rattle.molang.specs.Order.{rules, Pass, lastToken, memberAccessors, sectioning, callPass, statements, arrays, pointer, mathCalls}
+use Rattle.molang.specs.Order.{unaryMinusAndNot, addition, conditional, returns, binary, comparisons, logic, conditionals, order}
+use Rattle.molang.specs.{Order.{runs, lastOf, endsWithSemicolon, apply}, Read.{tree, messages, rooted, endsReading, grouped, read}}
 use Rattle.molang.specs.Free.{isNil, isPrefix, isConditional, isReturn}
 use Rattle.molang.specs.Rules.{numberBeside, binaryRule, ruleOf, withRuleNumber, unruled, withRule, ruled, ruling, rulesIn, copied}
-use Rattle.molang.specs.Rules.{rulesOf}
-use Rattle.molang.specs.OperatorRules.{operatorNumbers, operatorRule, operatorRules}
-use Rattle.molang.proofs.Trees.{decided, both}
-use Rattle.molang.proofs.Booleans
-use Rattle.molang.proofs.Booleans.{false-true, or-first}
-use Rattle.molang.proofs.Walks.{afterRun}
+use Rattle.molang.specs.{Rules.{rulesOf}, OperatorRules.{operatorNumbers, operatorRule, operatorRules}}
+use Rattle.molang.proofs.{Trees.{decided, both}, Booleans.{false-true, or-first}, Walks.{afterRun}}
 use Rattle.molang.proofs.Relabelling.{Unnoticed, itself, relabelled, resultOf, isNamed, allNamed, isQuiet, apply-natural}
 use Rattle.molang.proofs.Every.{EveryNode, nowhere, at, every-so, Gives, nothing-given, gives, Grows, Renewable, Renews, apply-gives}
 use Rattle.molang.proofs.Every.{grouped-every}
+use Rattle.molang.proofs.Booleans
 
 -- ---- The copy is read as the list is
 

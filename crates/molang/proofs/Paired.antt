@@ -2,19 +2,14 @@
 -- adds a pair. It is written as the same tokens, since a bracket gets no pair, an added bracket has its operand's extent and closes at that
 -- extent's end; and it is plain.
 use Prim.Native.Nat.{ℕ, suc, _+_}
-use mathlib.Core.Path.{_≡_, refl, ap, sym, _∙_}
-use mathlib.Core.Bool.{Bool, true, false, _||_, _&&_, true≢false, false≢true, and-false}
-use mathlib.Core.List.{List, [], _∷_}
-use mathlib.Core.Option.{none, some}
+use mathlib.Core.{Path.{_≡_, refl, ap, sym, _∙_}, Bool.{Bool, true, false, _||_, _&&_, true≢false, false≢true, and-false}}
+use mathlib.Core.{List.{List, [], _∷_}, Option.{none, some}}
 use lib.Dec.{eqb}
 use Rattle.molang.specs.Operator
-use Rattle.molang.specs.Operator.{isOneOf, isBracket}
-use Rattle.molang.specs.Forest.{Token, Forest, nil, node, size, closedBy, unclosed}
+use Rattle.molang.specs.{Operator.{isOneOf, isBracket}, Forest.{Token, Forest, nil, node, size, closedBy, unclosed}}
 use Rattle.molang.specs.Plain.{Seat, isRightOfQuestion, isUnderSemicolon, seatUnder, isPlainBinary, isCall, expressionForm, unplain}
 use Rattle.molang.specs.Write.{spanning, openerFor, closerFor, closerOf, standsAlone, standsLeft, standsRight, operandTokens, written}
-use Rattle.molang.proofs.Booleans.{never, or-first, or-neither}
-use Rattle.molang.proofs.Computed.{computed}
-use Rattle.molang.proofs.Trees.{both, and-true-true}
+use Rattle.molang.proofs.{Booleans.{never, or-first, or-neither}, Computed.{computed}, Trees.{both, and-true-true}}
 use Rattle.molang.proofs.PlainTrees.{no-trees, other-seat, left-seat, right-seat, PlainExpression, inner, outer}
 use Rattle.molang.proofs.Writing.{written-one, written-two}
 

@@ -1,22 +1,16 @@
 -- How far one name can reach by way of a tree and a written list: the three calls of demand 3, each of which gets what the one before left.
 use Prim.Native.Nat.{ℕ, suc, _+_, _-_, _*_, _%_}
-use native.Mathlib.Nat.{mul-add, mul-suc}
-use mathlib.Core.Path.{_≡_, refl, ap, _∙_}
-use mathlib.Core.List.{List, _++_}
-use mathlib.Core.Option.{none}
-use native.Mathlib.Omega.{arith}
-use lib.ListN.{length, take}
-use lib.Seq.{take-append-add}
-use Rattle.molang.specs.Words.{operatorField}
-use Rattle.molang.specs.Parse.{Call, refusal, Told, aTree, someMessages, refused, answered, treeAfter}
+use native.Mathlib.{Nat.{mul-add, mul-suc}, Omega.{arith}}
+use mathlib.Core.{Path.{_≡_, refl, ap, _∙_}, List.{List, _++_}, Option.{none}}
+use lib.{ListN.{length, take}, Seq.{take-append-add}}
+use Rattle.molang.specs.{Words.{operatorField}, Parse.{Call, refusal, Told, aTree, someMessages, refused, answered, treeAfter}}
 use Rattle.molang.specs.WriteEntry.{treeFault, WriteTold, tokens, unwritten, writeAnswered, listAfter}
 use Rattle.molang.specs.Reread.{Rereading, Handed, handed, writerCall, exactCall, secondCall, RereadTold, firstMessages, turnedBack}
 use Rattle.molang.specs.Reread.{stopped, secondTold, afterWriting, afterFirst, reread}
-use Rattle.molang.specs.Payloads.{PayloadApart, equalWords, onePayload, ArgumentApart, equalRecords, oneArgument, withList}
-use Rattle.molang.specs.Payloads.{nodesTold, recordsTold, Reach, withTree, tokensTold, WriteReach, rereadWithList, firstNodes}
-use Rattle.molang.specs.Payloads.{tokensBetween, nodesAgainTold, recordsRereadTold, RereadReach}
-use Rattle.molang.proofs.HandedTree.{tree-front, tree-unfaulted, tree-of-told}
-use Rattle.molang.proofs.PayloadWords.{other-wide}
+use Rattle.molang.specs.Payloads.{PayloadApart, equalWords, onePayload, ArgumentApart, equalRecords, oneArgument, withList, nodesTold}
+use Rattle.molang.specs.Payloads.{recordsTold, Reach, withTree, tokensTold, WriteReach, rereadWithList, firstNodes, tokensBetween}
+use Rattle.molang.specs.Payloads.{nodesAgainTold, recordsRereadTold, RereadReach}
+use Rattle.molang.proofs.{HandedTree.{tree-front, tree-unfaulted, tree-of-told}, PayloadWords.{other-wide}}
 use Rattle.molang.proofs.Reread.{Readable, written-readable}
 use Rattle.molang.proofs.Payloads.{two-lists, uses-same, legal-words-reach, one-name, one-node}
 

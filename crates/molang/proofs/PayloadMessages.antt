@@ -1,15 +1,10 @@
 -- Messages 8 and 9 alone tell a payload, and no reading gives two of them; so the records of two readings that differ in payloads only
 -- differ in one argument at most.
 use Prim.Native.Nat.{ℕ, zero, suc, _+_, _≤_}
-use mathlib.Core.Path.{_≡_, refl, ap, sym, _∙_}
-use mathlib.Core.Bool.{Bool, true}
-use mathlib.Core.List.{List, [], _∷_, _++_, append-assoc}
+use mathlib.Core.{Path.{_≡_, refl, ap, sym, _∙_}, Bool.{Bool, true}, List.{List, [], _∷_, _++_, append-assoc}}
 use native.Mathlib.Omega.{arith}
-use lib.Dec.{eqb}
-use lib.IntN.{ℤ}
-use lib.ListN.{length, length-append}
-use Rattle.molang.specs.Operator.{closingOf, isCloser}
-use Rattle.molang.specs.Forest.{Token, Forest, nil, node, leaves}
+use lib.{Dec.{eqb}, IntN.{ℤ}, ListN.{length, length-append}}
+use Rattle.molang.specs.{Operator.{closingOf, isCloser}, Forest.{Token, Forest, nil, node, leaves}}
 use Rattle.molang.specs.Message.{Message, multipleRoots, complexMustEndWithSemicolon, leadingMemberAccessor, closingMismatch}
 use Rattle.molang.specs.Message.{sectionNotClosed, noClosingSymbol, emptyParameterList, mathAtEnd, mathWithoutParenthesis}
 use Rattle.molang.specs.Message.{leadingSemicolon, emptyArrayIndex, binaryAtEnd, negateWithoutOperand, notWithoutOperand}
@@ -17,17 +12,12 @@ use Rattle.molang.specs.Message.{unknownOperation, unaryWithoutOperand, 
 use Rattle.molang.specs.Message.{record8, about, messageRecord}
 use Rattle.molang.specs.Sections.{Open, outside, section, position, Walked, going, mismatch, closing, bracket, closed, sections}
 use Rattle.molang.specs.Order.{rules, Pass, lastToken, memberAccessors, sectioning, apply}
-use Rattle.molang.specs.Read.{Answer, tree, messages, rooted, endsReading, grouped, read}
-use Rattle.molang.specs.Parse.{recordWords}
-use Rattle.molang.specs.Free.{flat}
-use Rattle.molang.specs.Weight.{weight, nodesOf, nodeWeight}
-use Rattle.molang.specs.Payloads.{ArgumentApart, equalRecords, oneArgument}
-use Rattle.molang.proofs.Trees.{either, maybe, both}
-use Rattle.molang.proofs.Sections.{leaves-flat, members-light, sections-light, afterBracket}
+use Rattle.molang.specs.{Read.{Answer, tree, messages, rooted, endsReading, grouped, read}, Parse.{recordWords}, Free.{flat}}
+use Rattle.molang.specs.{Weight.{weight, nodesOf, nodeWeight}, Payloads.{ArgumentApart, equalRecords, oneArgument}}
+use Rattle.molang.proofs.{Trees.{either, maybe, both}, Sections.{leaves-flat, members-light, sections-light, afterBracket}}
 use Rattle.molang.proofs.Passes.{isNested, apply-light, allNested, grouped-nil}
 use Rattle.molang.proofs.Bounds.{afterFail, pass-cases, ends-outcome, order-parts, record-length}
-use Rattle.molang.proofs.Relabelling.{messageOf, messagesOf}
-use Rattle.molang.proofs.OneName.{blank}
+use Rattle.molang.proofs.{Relabelling.{messageOf, messagesOf}, OneName.{blank}}
 
 -- ---- Which messages tell a payload
 

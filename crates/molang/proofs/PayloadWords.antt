@@ -1,23 +1,17 @@
 -- Words apart in one payload at most: those of legal tokens that differ in one payload at most, and of legal trees that do, both ways.
 use Prim.Native.Nat.{ℕ, zero, suc, _+_, _*_, _/_, _%_, _^_, _≤_, _<_}
-use mathlib.Core.Path.{_≡_, refl, ap, sym, _∙_}
-use mathlib.Core.Bool.{Bool, true, false, _||_, _&&_}
+use mathlib.Core.{Path.{_≡_, refl, ap, sym, _∙_}, Bool.{Bool, true, false, _||_, _&&_}}
 use mathlib.Core.List.{List, [], _∷_, _++_, append-assoc, append-nil, map}
-use native.Mathlib.Nat.{mul-zero, mul-suc, mul-add}
-use native.Mathlib.Omega.{arith}
-use lib.Dec.{eqb}
-use lib.ListN.{length, take, drop, length-append, length-map, length-take, length-drop, take-append-drop}
+use native.Mathlib.{Nat.{mul-zero, mul-suc, mul-add}, Omega.{arith}}
+use lib.{Dec.{eqb}, ListN.{length, take, drop, length-append, length-map, length-take, length-drop, take-append-drop}}
 use borrow.Author.Tests.{eqb-true, eq-eqb}
 use Rattle.molang.specs.Forest.{Token, Forest, nil, node, count, size}
 use Rattle.molang.specs.Words.{word, operatorBits, tokenWords, tokenOf, nodeWordsOf, nodeOf, tokensOf, listWords, treeWords}
-use Rattle.molang.specs.Legal.{Legal, LegalTrees, noTrees, legalTree}
-use Rattle.molang.specs.WriteEntry.{treesOf}
+use Rattle.molang.specs.{Legal.{Legal, LegalTrees, noTrees, legalTree}, WriteEntry.{treesOf}}
 use Rattle.molang.specs.Payloads.{withoutPayload, PayloadAt, PayloadApart, equalWords, onePayload}
 use Rattle.molang.proofs.Trees.{both, either}
-use Rattle.molang.proofs.Words.{LegalTokens, noTokens, token, AtEnds, kind-word, operator-small, bits-room, node-back}
-use Rattle.molang.proofs.Words.{tokens-back, trees-back}
-use Rattle.molang.proofs.Bounds.{treeWords-length}
-use Rattle.molang.proofs.Relabelling.{relabelled, tokensFor, rel-count}
+use Rattle.molang.proofs.Words.{LegalTokens, noTokens, token, AtEnds, kind-word, operator-small, bits-room, node-back, tokens-back}
+use Rattle.molang.proofs.{Words.{trees-back}, Bounds.{treeWords-length}, Relabelling.{relabelled, tokensFor, rel-count}}
 use Rattle.molang.proofs.OneName.{blank, apart, tokensApart, nodesApart}
 
 -- ---- A word without its payload

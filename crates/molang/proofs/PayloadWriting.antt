@@ -1,25 +1,17 @@
 -- Writing and payloads: trees that differ in payloads only are plain alike and are written as lists that do, and these in no more tokens
 -- than the trees in nodes. Each node's token is put in once; brackets, closers and semicolons that are put in have none.
 use Prim.Native.Nat.{ℕ, suc, _+_, _≤_, min, max}
-use mathlib.Core.Path.{_≡_, refl, ap, sym, _∙_}
-use mathlib.Core.Bool.{Bool, true, false}
-use mathlib.Core.List.{List, [], _∷_}
-use mathlib.Core.Option.{none}
+use mathlib.Core.{Path.{_≡_, refl, ap, sym, _∙_}, Bool.{Bool, true, false}, List.{List, [], _∷_}, Option.{none}}
 use native.Mathlib.Omega.{arith}
-use lib.Dec.{eqb}
-use lib.ListN.{length}
+use lib.{Dec.{eqb}, ListN.{length}}
 use Rattle.molang.specs.Operator
-use Rattle.molang.specs.Operator.{isBracket}
-use Rattle.molang.specs.Forest.{Token, Forest, nil, node, bare, closedBy, unclosed}
-use Rattle.molang.specs.Read.{lowestStart, highestEnd}
-use Rattle.molang.specs.Plain.{unplain, unplainAt}
+use Rattle.molang.specs.{Operator.{isBracket}, Forest.{Token, Forest, nil, node, bare, closedBy, unclosed}}
+use Rattle.molang.specs.{Read.{lowestStart, highestEnd}, Plain.{unplain, unplainAt}}
 use Rattle.molang.specs.Write.{openerFor, closerFor, closerOf, standsAlone, standsLeft, standsRight, operandTokens, written}
 use Rattle.molang.specs.Write.{writtenStatements, writtenTree}
 use Rattle.molang.proofs.Writing.{written-none, written-one, written-two, written-more, writtenTree-expression, writtenTree-script}
-use Rattle.molang.proofs.Relabelling.{relabelled, tokensFor}
-use Rattle.molang.proofs.PlainRelabelled.{unplainAt-relabelled}
-use Rattle.molang.proofs.OneName.{blank, apart, tokensApart, nodesApart}
-use Rattle.molang.proofs.PayloadWords.{Alike, bothNil, bothNode, apart-itself}
+use Rattle.molang.proofs.{Relabelling.{relabelled, tokensFor}, PlainRelabelled.{unplainAt-relabelled}}
+use Rattle.molang.proofs.{OneName.{blank, apart, tokensApart, nodesApart}, PayloadWords.{Alike, bothNil, bothNode, apart-itself}}
 
 -- ---- Plain without payloads
 

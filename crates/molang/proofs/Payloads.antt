@@ -1,38 +1,26 @@
 -- HOW FAR ONE NAME CAN REACH (document 02, card 6), of the entries' definitions: from a list to the tree and the messages, with a rule
 -- buffer too, and from a tree to the written list. What the records say is in `specs/Payloads`.
 use Prim.Native.Nat.{ℕ, suc, _*_, _%_, _≤_}
-use mathlib.Core.Path.{_≡_, refl, ap, sym, _∙_}
-use mathlib.Core.List.{List, [], _∷_}
-use mathlib.Core.Option.{Option, none, some}
+use mathlib.Core.{Path.{_≡_, refl, ap, sym, _∙_}, List.{List, [], _∷_}, Option.{Option, none, some}}
 use native.Mathlib.Omega.{arith}
 use lib.ListN.{length, drop, length-map}
-use Rattle.molang.specs.Forest.{Token, Forest, nil, node, size}
-use Rattle.molang.specs.Message.{Message}
-use Rattle.molang.specs.Read.{Answer, tree, messages, uses}
-use Rattle.molang.specs.Words.{Refusal, operatorField, wordsRefusal, tokensOf}
-use Rattle.molang.specs.Legal.{LegalTrees}
-use Rattle.molang.specs.Nesting.{firstAbove, tooDeep}
-use Rattle.molang.specs.Parse.{Call, lengthRows, valueRows, refusal, reading, recordWords, aTree, someMessages}
-use Rattle.molang.specs.Parse.{told, answered, inFront, treeIn, treeAfter, messagesIn, messagesAfter, workAfter}
+use Rattle.molang.specs.{Forest.{Token, Forest, nil, node, size}, Message.{Message}, Read.{Answer, tree, messages, uses}}
+use Rattle.molang.specs.{Words.{Refusal, operatorField, wordsRefusal, tokensOf}, Legal.{LegalTrees}, Nesting.{firstAbove, tooDeep}}
+use Rattle.molang.specs.Parse.{Call, lengthRows, valueRows, refusal, reading, recordWords, aTree, someMessages, told, answered}
+use Rattle.molang.specs.Parse.{inFront, treeIn, treeAfter, messagesIn, messagesAfter, workAfter}
 use Rattle.molang.specs.Rules.{withRuleNumber, unruled, copied, rulesOf, RuleCall, ruleRefusal, ruleAnswered, ruledTreeAfter}
-use Rattle.molang.specs.Rules.{ruledMessagesAfter}
-use Rattle.molang.specs.Rules.{ruledWorkAfter, rulesFor, rulesAfter}
-use Rattle.molang.specs.Payloads.{withoutPayload, PayloadApart, equalWords, ArgumentApart, equalRecords}
+use Rattle.molang.specs.Rules.{ruledMessagesAfter, ruledWorkAfter, rulesFor, rulesAfter}
+use Rattle.molang.specs.Payloads.{withoutPayload, PayloadApart, equalWords, ArgumentApart, equalRecords, withList, nodesTold}
+use Rattle.molang.specs.Payloads.{recordsTold, Reach, ruledWithList, RuleReach, withTree, tokensTold, WriteReach}
 use Rattle.molang.specs.Write.{writtenTree}
 use Rattle.molang.specs.WriteEntry.{treeFault, treesOf, WriteCall, forestRefusal, writeRefusal, writtenTokens, tokens, writeTold}
 use Rattle.molang.specs.WriteEntry.{writeAnswered, listIn, listAfter}
-use Rattle.molang.specs.Payloads.{withList, nodesTold, recordsTold, Reach, ruledWithList, RuleReach, withTree, tokensTold, WriteReach}
-use Rattle.molang.proofs.FirstFailure.{first-none, then-none, in-parts}
-use Rattle.molang.proofs.Words.{LegalTokens, words-back, tokens-end, trees-back}
-use Rattle.molang.proofs.TreeWords.{tree-fault-none}
-use Rattle.molang.proofs.Legal.{read-legal}
-use Rattle.molang.proofs.Bounds.{records-length}
-use Rattle.molang.proofs.Accepted.{call-accepted}
-use Rattle.molang.proofs.HandedTree.{whole-tree, root-legal}
-use Rattle.molang.proofs.Relabelling.{relabelled, messagesOf, tokensFor, rel-size}
+use Rattle.molang.proofs.{FirstFailure.{first-none, then-none, in-parts}, Words.{LegalTokens, words-back, tokens-end, trees-back}}
+use Rattle.molang.proofs.{TreeWords.{tree-fault-none}, Legal.{read-legal}, Bounds.{records-length}, Accepted.{call-accepted}}
+use Rattle.molang.proofs.{HandedTree.{whole-tree, root-legal}, Relabelling.{relabelled, messagesOf, tokensFor, rel-size}}
 use Rattle.molang.proofs.OneName.{blank, tokensApart, nodesApart, Near, trees, told-both, reach}
-use Rattle.molang.proofs.PayloadWords.{without-same, list-blank, trees-blank, list-apart, trees-apart, alike, before}
-use Rattle.molang.proofs.PayloadWords.{list-words, trees-words}
+use Rattle.molang.proofs.PayloadWords.{without-same, list-blank, trees-blank, list-apart, trees-apart, alike, before, list-words}
+use Rattle.molang.proofs.PayloadWords.{trees-words}
 use Rattle.molang.proofs.PayloadMessages.{Once, tellOne, read-once, namings-kept, records-apart, records-before}
 use Rattle.molang.proofs.PayloadWriting.{plain-alike, Beside, tree-beside, beside-length}
 

@@ -1,29 +1,20 @@
 -- THE PLACE OF ANSWERS 12 AND 24 is the first word that cannot continue a tree: the words before it begin one of at most 12,288 nodes, and
 -- with it they begin none. Where no word is wrong the words run out, and the place is their count.
 use Prim.Native.Nat.{ℕ, zero, suc, _+_, _-_, _≤_, _<_}
-use mathlib.Core.Path.{_≡_, refl, sym, _∙_}
-use mathlib.Core.List.{List, [], _++_}
-use mathlib.Core.Logic.{_↔_}
-use mathlib.Core.Option.{none, some}
+use mathlib.Core.{Path.{_≡_, refl, sym, _∙_}, List.{List, [], _++_}, Logic.{_↔_}, Option.{none, some}}
 use native.Mathlib.Omega.{arith}
-use lib.Dec.{eqb, leb}
-use lib.ListN.{length, take}
+use lib.{Dec.{eqb, leb}, ListN.{length, take}}
 use borrow.Author.Tests.{eqb-true, eqb-false, eq-eqb, leb-true}
 use Rattle.molang.specs.Forest.{Token, Forest}
 use Rattle.molang.specs.Words.{word, lowOf, nodeWordsOf, treeWords, Field, operatorField, startField, endField, upperField}
-use Rattle.molang.specs.Words.{lowerField, countField, closeField, fieldKind}
-use Rattle.molang.specs.Legal.{Legal}
+use Rattle.molang.specs.{Words.{lowerField, countField, closeField, fieldKind}, Legal.{Legal}}
 use Rattle.molang.specs.WriteEntry.{mostNodes, nextInNode, Shape, shapeAfter, isWhole, treeFault}
 use Rattle.molang.specs.StackOrder.{stackWords, Stack, stackAfter, treesAsked, leastNodes, stackFault, IsOneTree}
-use Rattle.molang.proofs.Trees.{some-none, decided}
-use Rattle.molang.proofs.Booleans.{either}
-use Rattle.molang.proofs.FirstFailure.{must-true}
-use Rattle.molang.proofs.Words.{low-word, operator-low}
+use Rattle.molang.proofs.{Trees.{some-none, decided}, Booleans.{either}, FirstFailure.{must-true}, Words.{low-word, operator-low}}
 use Rattle.molang.proofs.NodeWalk.{zero-passes, count-passes, Walk, Fits, Ending, one-more, Placed, placed}
+use Rattle.molang.proofs.{TreeWords.{treeWalk, tree-fault-none}, StackWords.{done-one, stackWalk, least-one, stack-fault-none}}
 use Rattle.molang.proofs.TreeWords as tree
-use Rattle.molang.proofs.TreeWords.{treeWalk, tree-fault-none}
 use Rattle.molang.proofs.StackWords as stack
-use Rattle.molang.proofs.StackWords.{done-one, stackWalk, least-one, stack-fault-none}
 
 -- The words before p begin a tree in the order of `inWords`, and those up to the word at p do not.
 pub record FirstWrong (inWords : Forest → List ℕ) (ws : List ℕ) (p : ℕ) : Type 0 where

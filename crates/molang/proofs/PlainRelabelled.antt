@@ -1,9 +1,7 @@
 -- Whether a tree is plain, and where it is not, depends on its operators alone: an exchange of tokens that keeps these keeps it plain.
 -- Other payloads are such an exchange (card 6), other seventh words too (card 12).
 use Prim.Native.Nat.{ℕ, suc, _+_}
-use mathlib.Core.Path.{_≡_, refl}
-use mathlib.Core.Bool.{true, false}
-use mathlib.Core.Option.{Option, none, some}
+use mathlib.Core.{Path.{_≡_, refl}, Bool.{true, false}, Option.{Option, none, some}}
 use lib.Dec.{eqb}
 use Rattle.molang.specs.Operator
 use Rattle.molang.specs.Forest.{Token, Forest, nil, node, size}

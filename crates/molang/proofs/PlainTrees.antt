@@ -1,21 +1,17 @@
 -- What `unplain` says of a list of trees that has no node that is not plain, tree by tree: a plain tree is an expression, or a script each
 -- of whose statements holds one, and each of these is plain; and the seats that its nodes have.
 use Prim.Native.Nat.{ℕ, suc, _+_}
-use mathlib.Core.Path.{_≡_, refl, sym, _∙_}
-use mathlib.Core.Bool.{true, false, _&&_, true≢false, false≢true, and-eq-true-iff, and-false}
+use mathlib.Core.{Path.{_≡_, refl, sym, _∙_}, Bool.{true, false, _&&_, true≢false, false≢true, and-eq-true-iff, and-false}}
 use mathlib.Core.Option.{Option, none, some}
 use lib.Dec.{eqb}
 use borrow.Author.Tests.{eqb-true, eq-eqb, not-true}
 use Rattle.molang.specs.Operator
-use Rattle.molang.specs.Operator.{isMathCall}
-use Rattle.molang.specs.Forest.{Token, Forest, nil, node, size}
+use Rattle.molang.specs.{Operator.{isMathCall}, Forest.{Token, Forest, nil, node, size}}
 use Rattle.molang.specs.Plain.{Seat, atRoot, underSemicolon, elsewhere, rightOfQuestion, underMathCall, isRightOfQuestion}
-use Rattle.molang.specs.Plain.{isUnderSemicolon, seatUnder}
-use Rattle.molang.specs.Plain.{expressionForm, allSemicolons, semicolonForm, plainForm, seatOf, unplain, unplainAt}
-use Rattle.molang.proofs.FirstFailure.{first-none, then-none, passed, passes, all-passed}
-use Rattle.molang.proofs.Booleans.{either}
-use Rattle.molang.proofs.Trees.{decided, both, and-true-true}
-use Rattle.molang.proofs.Computed.{computed}
+use Rattle.molang.specs.Plain.{isUnderSemicolon, seatUnder, expressionForm, allSemicolons, semicolonForm, plainForm, seatOf, unplain}
+use Rattle.molang.specs.Plain.{unplainAt}
+use Rattle.molang.proofs.{FirstFailure.{first-none, then-none, passed, passes, all-passed}, Booleans.{either}}
+use Rattle.molang.proofs.{Trees.{decided, both, and-true-true}, Computed.{computed}}
 
 -- The first tree's root has a plain form, and there is no other node below it or in the trees after it.
 pub record Plain (p : Option Token) (i n : ℕ) (k : Token) (cs rest : Forest) : Type 0 where

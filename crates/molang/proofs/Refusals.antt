@@ -1,21 +1,15 @@
 -- Which refusals a call can get: what holds of every row's refusal holds of the table's, a word's answer is 8 to 11 at a word of the list,
 -- and an answer 18 is at a token of it. With a rule buffer, and the turn of answer 16.
 use Prim.Native.Nat.{ℕ, suc, _+_, _*_, _/_, _%_, _≤_, _<_}
-use mathlib.Core.Path.{_≡_, _∙_}
-use mathlib.Core.List.{List, [], _∷_}
-use mathlib.Core.Option.{Option, none, some}
+use mathlib.Core.{Path.{_≡_, _∙_}, List.{List, [], _∷_}, Option.{Option, none, some}}
 use native.Mathlib.Omega.{arith}
-use lib.Dec.{leb}
-use lib.ListN.{length}
+use lib.{Dec.{leb}, ListN.{length}}
 use borrow.Author.Tests.{leb-true, lt-leb, eqb-true}
 use Rattle.molang.specs.Forest.{Token}
 use Rattle.molang.specs.Words.{Field, operatorField, startField, endField, upperField, lowerField, countField, closeField, lowOf}
 use Rattle.molang.specs.Words.{lowFault, wordFault, variantAfter, nextInToken, Refusal, row, withPlace, withNumber, wordsRefusal}
-use Rattle.molang.specs.Words.{tokensOf}
-use Rattle.molang.specs.Nesting.{openAfter, firstAbove, tooDeep}
-use Rattle.molang.specs.FirstFailure.{firstOf}
-use Rattle.molang.specs.Parse.{Call, mostTokens, lengthRows, valueRows, refusal}
-use Rattle.molang.specs.Rules.{RuleCall, ruleRefusal}
+use Rattle.molang.specs.{Words.{tokensOf}, Nesting.{openAfter, firstAbove, tooDeep}, FirstFailure.{firstOf}}
+use Rattle.molang.specs.{Parse.{Call, mostTokens, lengthRows, valueRows, refusal}, Rules.{RuleCall, ruleRefusal}}
 use Rattle.molang.proofs.FirstFailure.{must-false, found, in-parts, All, all-first, all-last, all-must, all-between, all-must-then}
 use Rattle.molang.proofs.ListWords.{tokens-count}
 

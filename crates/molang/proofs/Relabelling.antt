@@ -1,13 +1,10 @@
 -- Reading commutes with relabelling: tokens may be exchanged for others that the passes cannot tell from them, with other payloads or a
 -- host's number for 76; the answer is the same with the same tokens exchanged in it.
 use Prim.Native.Nat.{ℕ, suc, _+_, _≤_, _<_, min, max}
-use mathlib.Core.Path.{_≡_, refl, ap, sym, _∙_}
-use mathlib.Core.Bool.{Bool, true, false, _||_, _&&_, not, true≢false, false≢true}
-use mathlib.Core.List.{List, [], _∷_, _++_}
-use mathlib.Core.Option.{Option, none, some, Option·getD}
+use mathlib.Core.{Path.{_≡_, refl, ap, sym, _∙_}, Bool.{Bool, true, false, _||_, _&&_, not, true≢false, false≢true}}
+use mathlib.Core.{List.{List, [], _∷_, _++_}, Option.{Option, none, some, Option·getD}}
 use native.Mathlib.Omega.{arith}
-use lib.Dec.{eqb, leb}
-use lib.IntN.{ℤ}
+use lib.{Dec.{eqb, leb}, IntN.{ℤ}}
 use borrow.Author.Tests.{eq-eqb, ne-eqb, leb-true, not-true}
 use Rattle.molang.specs.Operator
 use Rattle.molang.specs.Operator.{any, isOneOf, isMathCall, isBracket, hasMembers, isQueryOrLoop, closingOf, isCloser, BeforeMinus}
@@ -34,12 +31,8 @@ use Rattle.molang.specs.Order.{rules, Pass, lastToken, memberAccessors, 
 use Rattle.molang.specs.Order.{unaryMinusAndNot, addition, conditional, returns, binary, comparisons, logic, conditionals, order}
 use Rattle.molang.specs.Order.{runs, lastOf, endsWithSemicolon, apply}
 use Rattle.molang.specs.Read.{Answer, tree, messages, lowestStart, highestEnd, lastEnd, rooted, endsReading, grouped, read}
-use Rattle.molang.proofs.Trees.{both, either}
-use Rattle.molang.proofs.Walks.{back, onward, walk-onward, afterRun}
-use Rattle.molang.proofs.Unary.{inNode, atNode}
-use Rattle.molang.proofs.Conditional.{scanned, scan-once}
-use Rattle.molang.proofs.Sections.{afterMember, afterBracket}
-use Rattle.molang.proofs.RoundTrip.Role.{no-math}
+use Rattle.molang.proofs.{Trees.{both, either}, Walks.{back, onward, walk-onward, afterRun}, Unary.{inNode, atNode}}
+use Rattle.molang.proofs.{Conditional.{scanned, scan-once}, Sections.{afterMember, afterBracket}, RoundTrip.Role.{no-math}}
 
 -- ---- What the passes can see of an operator's number
 

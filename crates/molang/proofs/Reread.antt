@@ -1,33 +1,23 @@
 -- DEMAND 3 OF THE FUNCTION THAT MAKES THE THREE CALLS (`specs/Reread`): its calls are three calls as `Entries` has them, so what is told
 -- and left is as the demand says. What a first reading hands on to the writer, and the writer to the second reading, can be handed on.
 use Prim.Native.Nat.{ℕ, _+_, _*_, _/_, _≤_}
-use mathlib.Core.Path.{_≡_, refl, ap, sym, _∙_}
-use mathlib.Core.Bool.{true, false}
-use mathlib.Core.List.{List}
-use mathlib.Core.Option.{Option, none, some}
+use mathlib.Core.{Path.{_≡_, refl, ap, sym, _∙_}, Bool.{true, false}, List.{List}, Option.{Option, none, some}}
 use native.Mathlib.Omega.{arith}
-use lib.Dec.{eqb}
-use lib.ListN.{length, take, length-take, length-replicate}
+use lib.{Dec.{eqb}, ListN.{length, take, length-take, length-replicate}}
 use Rattle.molang.specs.Operator
 use Rattle.molang.specs.Forest.{Token, Forest, nil, node, size}
-use Rattle.molang.specs.Words.{Refusal, operatorField, wordsRefusal, tokensOf, listWords, treeWords}
-use Rattle.molang.specs.Nesting.{tooDeep}
+use Rattle.molang.specs.{Words.{Refusal, operatorField, wordsRefusal, tokensOf, listWords, treeWords}, Nesting.{tooDeep}}
 use Rattle.molang.specs.Parse.{Call, isLimit, refusal, Told, aTree, someMessages, refused, told, answered, treeAfter, messagesIn}
-use Rattle.molang.specs.Parse.{messagesAfter, workIn, workAfter}
-use Rattle.molang.specs.Write.{writtenTree, takenAway}
+use Rattle.molang.specs.{Parse.{messagesAfter, workIn, workAfter}, Write.{writtenTree, takenAway}}
 use Rattle.molang.specs.WriteEntry.{treesOf, WriteCall, WriteTold, tokens, unwritten, writeRefusal, writeAnswered, listAfter}
 use Rattle.molang.specs.Reread.{bracketless, Rereading, handed, writerCall, exactCall, secondCall, twoTrees, firstMessages}
 use Rattle.molang.specs.Reread.{secondMessages, turnedBack, stopped, secondTold, afterWriting, afterFirst, reread, CanReadBack}
 use Rattle.molang.specs.Reread.{LiftsTo, HasReadBack, Demand3}
-use Rattle.molang.proofs.Words.{tokens-back}
-use Rattle.molang.proofs.ListWords.{list-unrefused, listWords-length}
-use Rattle.molang.proofs.Accepted.{call-accepted}
+use Rattle.molang.proofs.{Words.{tokens-back}, ListWords.{list-unrefused, listWords-length}, Accepted.{call-accepted}}
 use Rattle.molang.proofs.Bounds.{treeWords-length}
 use Rattle.molang.proofs.HandedTree.{Parsed, tree-front, tree-told, front-bracketless, front-left, tree-written-legal, writer-tells}
 use Rattle.molang.proofs.HandedTree.{tree-written-ends, write-done, tree-of-told, write-of-told}
-use Rattle.molang.proofs.Entries.{ThreeCalls, SameTrees, three-calls}
-use Rattle.molang.proofs.Settled.{WrittenList}
-use Rattle.molang.proofs.Lifts.{exactly-used, parsed-lifts}
+use Rattle.molang.proofs.{Entries.{ThreeCalls, SameTrees, three-calls}, Settled.{WrittenList}, Lifts.{exactly-used, parsed-lifts}}
 
 -- ---- What can be handed on
 

@@ -3,25 +3,15 @@
 -- pass takes the expression's list to one in which its operators are folded too (Sections, Calls, Unary, Binary, Conditional, Return), and
 -- the passes come in an order that folds all of them, whatever the version (Order), in each statement of a script too (Script).
 use Prim.Native.Nat.{ℕ}
-use mathlib.Core.Path.{_≡_, refl, ap, sym, _∙_}
-use mathlib.Core.List.{List, [], _∷_}
-use mathlib.Core.Bool.{true, false, true≢false}
-use mathlib.Core.Option.{none}
-use lib.Dec.{eqb}
-use lib.IntN.{ℤ}
+use mathlib.Core.{Path.{_≡_, refl, ap, sym, _∙_}, List.{List, [], _∷_}, Bool.{true, false, true≢false}, Option.{none}}
+use lib.{Dec.{eqb}, IntN.{ℤ}}
 use Rattle.molang.specs.Operator
-use Rattle.molang.specs.Operator.{isBracket}
-use Rattle.molang.specs.Forest.{Token, Forest, nil, node, bare}
-use Rattle.molang.specs.Order.{rules}
-use Rattle.molang.specs.Read.{tree, rooted, read, uses}
-use Rattle.molang.specs.Words.{treeWords}
-use Rattle.molang.specs.Free.{isNil}
-use Rattle.molang.specs.Plain.{atRoot, unplainAt}
+use Rattle.molang.specs.{Operator.{isBracket}, Forest.{Token, Forest, nil, node, bare}, Order.{rules}}
+use Rattle.molang.specs.{Read.{tree, rooted, read, uses}, Words.{treeWords}, Free.{isNil}, Plain.{atRoot, unplainAt}}
 use Rattle.molang.specs.Write.{spanning, writtenStatements, writtenTree, takenAway, comparableToken, comparableTrees, comparable}
 use Rattle.molang.proofs.Computed.{computed}
 use Rattle.molang.proofs.PlainTrees.{PlainExpression, PlainStatements, PlainTree, expression, script, plain-tree, tree-plain}
-use Rattle.molang.proofs.Paired.{paired, written-paired, plain-paired}
-use Rattle.molang.proofs.TakingAway.{taken-kept}
+use Rattle.molang.proofs.{Paired.{paired, written-paired, plain-paired}, TakingAway.{taken-kept}}
 use Rattle.molang.proofs.Writing.{writtenTree-expression, writtenTree-script}
 use borrow.Author.Tests.{eqb-true}
 use Order.{reading, everything}

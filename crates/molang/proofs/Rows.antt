@@ -1,12 +1,9 @@
 -- A list of trees in two parts: taking the first so many trees off it, what its parts keep, and turning it round.
 use Prim.Native.Nat.{ℕ, zero, suc, _+_, _≤_}
-use mathlib.Core.Path.{_≡_, refl, ap}
-use mathlib.Core.List.{List}
+use mathlib.Core.{Path.{_≡_, refl, ap}, List.{List}}
 use native.Mathlib.Omega.{arith}
-use Rattle.molang.specs.Forest.{Forest, nil, node, turnedOnto, inOrder, count, size}
-use Rattle.molang.specs.Legal.{LegalTrees, noTrees, legalTree}
-use Rattle.molang.specs.WriteEntry.{mostNodes}
-use Rattle.molang.specs.StackOrder.{IsOneTree}
+use Rattle.molang.specs.{Forest.{Forest, nil, node, turnedOnto, inOrder, count, size}, Legal.{LegalTrees, noTrees, legalTree}}
+use Rattle.molang.specs.{WriteEntry.{mostNodes}, StackOrder.{IsOneTree}}
 use Rattle.molang.proofs.Words.{beside}
 
 -- The first n trees, and the others.

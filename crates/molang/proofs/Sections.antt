@@ -1,23 +1,16 @@
 -- Members and sections raise no weight of a flat list: one in which only member accessors have children, so that every bracket is a leaf.
 use Prim.Native.Nat.{ℕ, _+_, _≤_}
-use mathlib.Core.Path.{_≡_, refl}
-use mathlib.Core.Bool.{true, false}
-use mathlib.Core.List.{List, [], _∷_}
-use mathlib.Core.Option.{Option, none, some}
+use mathlib.Core.{Path.{_≡_, refl}, Bool.{true, false}, List.{List, [], _∷_}, Option.{Option, none, some}}
 use native.Mathlib.Omega.{arith}
-use lib.Dec.{eqb}
-use lib.ListN.{length}
+use lib.{Dec.{eqb}, ListN.{length}}
 use borrow.Author.Tests.{eqb-true}
 use Rattle.molang.specs.Operator
 use Rattle.molang.specs.Operator.{hasMembers, closingOf, isCloser}
 use Rattle.molang.specs.Forest.{Token, Forest, nil, node, closedBy, leaves, turnedOnto, inOrder}
 use Rattle.molang.specs.Message.{Message, Result, fail, closer}
 use Rattle.molang.specs.Sections.{withMember, members, Open, outside, section, placed, position, Walked, going, mismatch, closing}
-use Rattle.molang.specs.Sections.{bracket, closed, sections}
-use Rattle.molang.specs.Free.{flat}
-use Rattle.molang.specs.Weight.{Weighing, weight}
-use Rattle.molang.proofs.Trees.{decided, either, maybe, both, and-true-true}
-use Rattle.molang.proofs.Walks.{Outcome, failed, fine}
+use Rattle.molang.specs.{Sections.{bracket, closed, sections}, Free.{flat}, Weight.{Weighing, weight}}
+use Rattle.molang.proofs.{Trees.{decided, either, maybe, both, and-true-true}, Walks.{Outcome, failed, fine}}
 use Rattle.molang.proofs.Weight.{weight-tree, weight-inOrder}
 
 pub leaves-flat : (ks : List Token) → flat (leaves ks) ≡ true

@@ -2,32 +2,20 @@
 -- the same words as the tree in which all other nodes close at their own ends, and is plain where that is. Of such a tree the written list
 -- is read back from its words.
 use Prim.Native.Nat.{ℕ, _≤_, min, max}
-use mathlib.Core.Path.{_≡_, refl, ap, sym, _∙_}
-use mathlib.Core.Bool.{Bool, true, false, true≢false}
-use mathlib.Core.List.{List, [], _∷_, _++_}
-use mathlib.Core.Option.{none}
+use mathlib.Core.{Path.{_≡_, refl, ap, sym, _∙_}, Bool.{Bool, true, false, true≢false}, List.{List, [], _∷_, _++_}, Option.{none}}
 use native.Mathlib.Omega.{arith}
-use lib.Dec.{eqb}
-use lib.ListN.{length}
+use lib.{Dec.{eqb}, ListN.{length}}
 use borrow.Author.Tests.{eqb-true}
 use Rattle.molang.specs.Operator
-use Rattle.molang.specs.Operator.{isBracket, closingOf}
-use Rattle.molang.specs.Forest.{Token, Forest, nil, node, bare, closedBy, unclosed}
-use Rattle.molang.specs.Read.{lowestStart, highestEnd}
-use Rattle.molang.specs.Words.{tokenWords, listWords}
-use Rattle.molang.specs.Parse.{mostTokens}
-use Rattle.molang.specs.Legal.{Legal, LegalTrees, noTrees, legalTree}
-use Rattle.molang.specs.Plain.{unplainAt}
+use Rattle.molang.specs.{Operator.{isBracket, closingOf}, Forest.{Token, Forest, nil, node, bare, closedBy, unclosed}}
+use Rattle.molang.specs.{Read.{lowestStart, highestEnd}, Words.{tokenWords, listWords}, Parse.{mostTokens}}
+use Rattle.molang.specs.{Legal.{Legal, LegalTrees, noTrees, legalTree}, Plain.{unplainAt}}
 use Rattle.molang.specs.Write.{openerFor, closerFor, closerOf, standsAlone, standsLeft, standsRight, operandTokens, written}
 use Rattle.molang.specs.Write.{writtenStatements, writtenTree}
-use Rattle.molang.proofs.Trees.{some-none}
-use Rattle.molang.proofs.Computed.{computed}
-use Rattle.molang.proofs.Words.{LegalTokens, AtEnds}
-use Rattle.molang.proofs.Every.{Every, nowhere, at}
+use Rattle.molang.proofs.{Trees.{some-none}, Computed.{computed}, Words.{LegalTokens, AtEnds}, Every.{Every, nowhere, at}}
 use Rattle.molang.proofs.Closes.{Closes, plain-ends}
 use Rattle.molang.proofs.Writing.{written-none, written-one, written-two, written-more, writtenTree-expression, writtenTree-script}
-use Rattle.molang.proofs.ListWords.{listWords-length, writtenTree-legal}
-use Rattle.molang.proofs.Relabelling.{relabelled, rel-count}
+use Rattle.molang.proofs.{ListWords.{listWords-length, writtenTree-legal}, Relabelling.{relabelled, rel-count}}
 use Rattle.molang.proofs.PlainRelabelled.{unplainAt-relabelled}
 
 -- ---- Closing at the own end

@@ -1,31 +1,20 @@
 -- EXPORT AND IMPORT UNDO EACH OTHER: trees are read back from stack order, both entries accept exactly the words of one tree that the
 -- output has room for, and either gives back what the other was given.
 use Prim.Native.Nat.{ℕ, _*_, _/_, _^_, _≤_, _<_}
-use mathlib.Core.Path.{_≡_, refl, ap, sym, _∙_}
-use mathlib.Core.List.{List, [], _∷_, _++_, append-nil}
-use mathlib.Core.Logic.{_↔_}
-use mathlib.Core.Option.{Option, none}
+use mathlib.Core.{Path.{_≡_, refl, ap, sym, _∙_}, List.{List, [], _∷_, _++_, append-nil}, Logic.{_↔_}, Option.{Option, none}}
 use native.Mathlib.Omega.{arith}
-use lib.Dec.{leb}
-use lib.ListN.{length, take, length-append}
+use lib.{Dec.{leb}, ListN.{length, take, length-append}}
 use borrow.Author.Tests.{leb-true, le-leb}
 use Rattle.molang.specs.Forest.{Token, Forest, nil, node, turnedOnto, inOrder, count, size}
-use Rattle.molang.specs.Words.{tokenWords, nodeWordsOf, treeWords, withNumber}
-use Rattle.molang.specs.Legal.{Legal, LegalTrees, noTrees, legalTree}
-use Rattle.molang.specs.FirstFailure.{firstOf}
-use Rattle.molang.specs.Parse.{inFront}
-use Rattle.molang.specs.WriteEntry.{firstTrees, otherTrees, treesOf}
+use Rattle.molang.specs.{Words.{tokenWords, nodeWordsOf, treeWords, withNumber}, Legal.{Legal, LegalTrees, noTrees, legalTree}}
+use Rattle.molang.specs.{FirstFailure.{firstOf}, Parse.{inFront}, WriteEntry.{firstTrees, otherTrees, treesOf}}
 use Rattle.molang.specs.StackOrder.{stackWords, stackTrees, ReorderCall, outputRefusal, exportRefusal, importRefusal, reordered}
 use Rattle.molang.specs.StackOrder.{reorderTold, outputIn, exportAnswered, exportedAfter, importAnswered, importedAfter, IsOneTree}
 use Rattle.molang.specs.StackOrder.{handedOn, Undone}
 use Rattle.molang.proofs.FirstFailure.{first-none, then-none, passed, passes, all-passed, withNumber-none}
-use Rattle.molang.proofs.Words.{low-word, node-back, first-beside, other-beside, trees-back}
-use Rattle.molang.proofs.Bounds.{treeWords-length}
-use Rattle.molang.proofs.Forests.{inOrder-turned, reversed-count}
-use Rattle.molang.proofs.Rows.{turnedOnto-beside}
-use Rattle.molang.proofs.TreeWords.{tree-fault-none}
-use Rattle.molang.proofs.StackWords.{words-after, stack-fault-none}
-use Rattle.molang.proofs.HandedTree.{front-words}
+use Rattle.molang.proofs.{Words.{low-word, node-back, first-beside, other-beside, trees-back}, Bounds.{treeWords-length}}
+use Rattle.molang.proofs.{Forests.{inOrder-turned, reversed-count}, Rows.{turnedOnto-beside}, TreeWords.{tree-fault-none}}
+use Rattle.molang.proofs.{StackWords.{words-after, stack-fault-none}, HandedTree.{front-words}}
 
 -- ---- Trees are read back
 

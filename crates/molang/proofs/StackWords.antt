@@ -1,26 +1,19 @@
 -- ANSWER 24 IS GIVEN to no words of a legal tree of at most 12,288 nodes in stack order, and to all other words. Its place is
 -- at most 86,016.
 use Prim.Native.Nat.{ℕ, suc, _+_, _-_, _^_, _≤_, _<_}
-use mathlib.Core.Path.{_≡_, refl, ap, sym, _∙_}
-use mathlib.Core.Bool.{true, false, _&&_}
-use mathlib.Core.List.{List, [], _∷_, _++_, append-assoc, append-nil}
-use mathlib.Core.Logic.{_↔_}
-use mathlib.Core.Option.{none, some}
+use mathlib.Core.{Path.{_≡_, refl, ap, sym, _∙_}, Bool.{true, false, _&&_}, List.{List, [], _∷_, _++_, append-assoc, append-nil}}
+use mathlib.Core.{Logic.{_↔_}, Option.{none, some}}
 use native.Mathlib.Omega.{arith}
 use lib.Dec.{leb}
 use borrow.Author.Tests.{eqb-true, le-leb}
 use Rattle.molang.specs.Forest.{Token, Forest, nil, node, turnedOnto, inOrder, count, size}
 use Rattle.molang.specs.Words.{lowOf, nodeOf, tokenWords, nodeWordsOf, Field, operatorField, startField, endField, upperField}
 use Rattle.molang.specs.Words.{lowerField, countField, closeField, wordFault, variantAfter}
-use Rattle.molang.specs.Legal.{Legal, LegalTrees, noTrees, legalTree}
-use Rattle.molang.specs.FirstFailure.{must, firstOf}
+use Rattle.molang.specs.{Legal.{Legal, LegalTrees, noTrees, legalTree}, FirstFailure.{must, firstOf}}
 use Rattle.molang.specs.WriteEntry.{mostNodes, nextInNode}
 use Rattle.molang.specs.StackOrder.{stackWords, Stack, stackAfter, treesAsked, leastNodes, stackContinues, isOneStack, stackFault}
 use Rattle.molang.specs.StackOrder.{IsOneTree}
-use Rattle.molang.proofs.Trees.{either}
-use Rattle.molang.proofs.Booleans.{false-true}
-use Rattle.molang.proofs.FirstFailure.{must-true}
-use Rattle.molang.proofs.Forests.{reversed-count, reversed-size}
+use Rattle.molang.proofs.{Trees.{either}, Booleans.{false-true}, FirstFailure.{must-true}, Forests.{reversed-count, reversed-size}}
 use Rattle.molang.proofs.Words.{low-word, beside}
 use Rattle.molang.proofs.Rows.{parted, count-beside, size-beside, legal-beside, legal-inOrder, turnedOnto-beside, one-tree}
 use Rattle.molang.proofs.NodeWalk.{Between, begins, Walk, place, node-goes, NodeRead, along}

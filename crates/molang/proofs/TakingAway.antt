@@ -1,17 +1,14 @@
 -- Laws of taking brackets away: what stays of a node, tree by tree; that taking away twice is taking away once; and that of a plain
 -- expression everything that is left is compared.
 use Prim.Native.Nat.{ℕ, suc, _+_}
-use mathlib.Core.Path.{_≡_, refl, ap, sym, _∙_}
-use mathlib.Core.Bool.{Bool, true, false, _&&_, not, true≢false, false≢true, and-eq-true-iff, and-false}
+use mathlib.Core.{Path.{_≡_, refl, ap, sym, _∙_}, Bool.{Bool, true, false, _&&_, not, true≢false, false≢true, and-eq-true-iff, and-false}}
 use mathlib.Core.Option.{none}
 use native.Mathlib.Omega.{arith}
 use lib.Dec.{eqb}
 use borrow.Author.Tests.{ne-eqb}
 use Rattle.molang.specs.Operator
-use Rattle.molang.specs.Operator.{isBracket}
-use Rattle.molang.specs.Forest.{Token, Forest, nil, node, count}
-use Rattle.molang.specs.Plain.{Seat, atRoot, seatUnder, isCall, unplainAt}
-use Rattle.molang.specs.Write.{isSingle, takenAway, comparable}
+use Rattle.molang.specs.{Operator.{isBracket}, Forest.{Token, Forest, nil, node, count}}
+use Rattle.molang.specs.{Plain.{Seat, atRoot, seatUnder, isCall, unplainAt}, Write.{isSingle, takenAway, comparable}}
 use Rattle.molang.proofs.PlainTrees.{PlainExpression, inner, PlainTree, expression, script, plain-tree}
 
 taken-by : (taken c : Bool) (k : Token) (cs rest r : Forest) → (isBracket (k .op) && isSingle cs && not c) ≡ taken

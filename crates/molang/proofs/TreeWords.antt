@@ -1,9 +1,6 @@
 -- ANSWER 12 IS GIVEN to no words of a legal tree of at most 12,288 nodes, and to all other words.
 use Prim.Native.Nat.{ℕ, suc, _+_, _-_, _^_, _≤_, _<_}
-use mathlib.Core.Path.{_≡_, refl, ap, _∙_}
-use mathlib.Core.Bool.{true, false, _&&_}
-use mathlib.Core.List.{List, [], _∷_, _++_, append-assoc, append-nil}
-use mathlib.Core.Logic.{_↔_}
+use mathlib.Core.{Path.{_≡_, refl, ap, _∙_}, Bool.{true, false, _&&_}, List.{List, [], _∷_, _++_, append-assoc, append-nil}, Logic.{_↔_}}
 use mathlib.Core.Option.{none, some}
 use native.Mathlib.Omega.{arith}
 use lib.Dec.{leb}
@@ -11,14 +8,9 @@ use borrow.Author.Tests.{eqb-true, eq-eqb}
 use Rattle.molang.specs.Forest.{Token, Forest, nil, node, count, size}
 use Rattle.molang.specs.Words.{lowOf, nodeOf, tokenWords, nodeWordsOf, treeWords, Field, operatorField, startField, endField}
 use Rattle.molang.specs.Words.{upperField, lowerField, countField, closeField, wordFault, variantAfter}
-use Rattle.molang.specs.Legal.{Legal, LegalTrees, noTrees, legalTree}
-use Rattle.molang.specs.FirstFailure.{must, firstOf}
-use Rattle.molang.specs.WriteEntry.{mostNodes, nextInNode, Shape, shapeAfter, continues, isWhole, treeFault}
-use Rattle.molang.specs.StackOrder.{IsOneTree}
-use Rattle.molang.proofs.Trees.{count-size}
-use Rattle.molang.proofs.Booleans.{false-true}
-use Rattle.molang.proofs.FirstFailure.{must-true}
-use Rattle.molang.proofs.Words.{low-word, beside}
+use Rattle.molang.specs.{Legal.{Legal, LegalTrees, noTrees, legalTree}, FirstFailure.{must, firstOf}}
+use Rattle.molang.specs.{WriteEntry.{mostNodes, nextInNode, Shape, shapeAfter, continues, isWhole, treeFault}, StackOrder.{IsOneTree}}
+use Rattle.molang.proofs.{Trees.{count-size}, Booleans.{false-true}, FirstFailure.{must-true}, Words.{low-word, beside}}
 use Rattle.molang.proofs.Rows.{parted, count-beside, size-beside, legal-beside, one-tree}
 use Rattle.molang.proofs.NodeWalk.{Between, begins, Walk, place, node-goes, NodeRead, along}
 

@@ -1,12 +1,9 @@
 -- Facts that the laws of the passes share: cases on a test, which leaves stand in a forest, and what turning a gathered list round keeps.
 use Prim.Native.Nat.{ℕ, _≤_}
-use mathlib.Core.Path.{_≡_, refl}
-use mathlib.Core.Bool.{Bool, true, false, _&&_, not, and-eq-true-iff, true≢false}
-use mathlib.Core.Option.{Option, none, some}
+use mathlib.Core.{Path.{_≡_, refl}, Bool.{Bool, true, false, _&&_, not, and-eq-true-iff, true≢false}, Option.{Option, none, some}}
 use native.Mathlib.Omega.{arith}
 use borrow.Author.Tests.{not-true}
-use Rattle.molang.specs.Forest.{Token, Forest, nil, node, turnedOnto, count, size}
-use Rattle.molang.specs.Free.{isNil, free, clear}
+use Rattle.molang.specs.{Forest.{Token, Forest, nil, node, turnedOnto, count, size}, Free.{isNil, free, clear}}
 
 -- What holds of both cases of a test holds of the test's outcome.
 pub decided : {A : Type 0} (Q : A → Type 0) (b : Bool) (x y : A) → (b ≡ true → Q x) → (b ≡ false → Q y)

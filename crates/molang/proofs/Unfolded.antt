@@ -2,21 +2,17 @@
 -- they are shown to be the same: after a level its operator leaves stand only as last child of its operator nodes, and a walk over such a
 -- list ends in message 12 at the first of them, or changes nothing.
 use Prim.Native.Nat.{ℕ}
-use mathlib.Core.Path.{_≡_, refl, ap, _∙_}
-use mathlib.Core.Bool.{Bool, true, false, not, true≢false, false≢true, or-true}
-use mathlib.Core.List.{List, [], _∷_}
+use mathlib.Core.{Path.{_≡_, refl, ap, _∙_}, Bool.{Bool, true, false, not, true≢false, false≢true, or-true}, List.{List, [], _∷_}}
 use mathlib.Core.Option.{Option, none, some}
 use borrow.Author.Tests.{not-true}
-use Rattle.molang.specs.Operator.{isOneOf}
-use Rattle.molang.specs.Forest.{Token, Forest, nil, node, turnedOnto, inOrder}
+use Rattle.molang.specs.{Operator.{isOneOf}, Forest.{Token, Forest, nil, node, turnedOnto, inOrder}}
 use Rattle.molang.specs.Message.{binaryAtEnd, Result, ok, fail}
 use Rattle.molang.specs.Level.{Step, stop, on, into, Level, walk, through, Gathered, gathered, waiting, nothing}
 use Rattle.molang.specs.Binary.{firstLeaf, unfolded, joined, operatorAfter, binaryStep, binaryResume, binaryFinish, binaryLevel}
 use Rattle.molang.specs.Free.{free, isNil}
 use Rattle.molang.proofs.Trees.{decided, maybe, some-none, and-true-true, free-leaf, free-tree}
 use Rattle.molang.proofs.Walks.{failed, fine, Ends, Onward, stops, goes, enters, Keeps, back, onward, walk-keeps}
-use Rattle.molang.proofs.Weight.{isNil-inOrder}
-use Rattle.molang.proofs.Binary.{full-joined}
+use Rattle.molang.proofs.{Weight.{isNil-inOrder}, Binary.{full-joined}}
 
 first-of-two : {A : Type 0} (o x : Option A) → _≡_ {A = Option A} (elim o [ some t ↦ some t | none ↦ x ]) none → (o ≡ none) × (x ≡ none)
 first-of-two none x h = (refl, h)

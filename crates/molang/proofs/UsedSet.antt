@@ -1,15 +1,11 @@
 -- Used sets by their bits: one without operators above 110 is a number below 2 ^ 111, which the entry does not turn back; and two halves
 -- with exactly a set's operators are the halves of its number.
 use Prim.Native.Nat.{ℕ, zero, suc, _+_, _*_, _/_, _%_, _^_, _≤_, _<_}
-use mathlib.Core.Path.{_≡_, refl, ap, sym, _∙_, fun-ext}
-use mathlib.Core.Bool.{Bool, true, false, _&&_, false≢true}
-use native.Mathlib.Nat.{div-one, pow-suc}
-use native.Mathlib.Omega.{arith}
-use lib.Dec.{eqb, ltb, leb·zero, leb·suc-zero, leb·suc-suc, eqb·zero-suc, eqb·suc-zero, eqb·suc-suc}
-use lib.Pow.{shr-shr, shr-le, split}
+use mathlib.Core.{Path.{_≡_, refl, ap, sym, _∙_, fun-ext}, Bool.{Bool, true, false, _&&_, false≢true}}
+use native.Mathlib.{Nat.{div-one, pow-suc}, Omega.{arith}}
+use lib.{Dec.{eqb, ltb, leb·zero, leb·suc-zero, leb·suc-suc, eqb·zero-suc, eqb·suc-zero, eqb·suc-suc}, Pow.{shr-shr, shr-le, split}}
 use borrow.Author.Tests.{eqb-false, eq-eqb, ne-eqb, leb-false}
-use Rattle.molang.specs.Read.{setNumber}
-use Rattle.molang.specs.Parse.{inHalves}
+use Rattle.molang.specs.{Read.{setNumber}, Parse.{inHalves}}
 
 -- A number without bits is 0; n is at least the number.
 no-bits : (n q : ℕ) → q ≤ n → ((j : ℕ) → q / 2 ^ j % 2 ≡ 0) → q ≡ 0

@@ -1,14 +1,9 @@
 -- Every version reads as 4, 5 or 6 does, so that a line of the table which is answered alike at these three is answered so at all.
 use Prim.Native.Nat.{ℕ, _≤_, min}
 use native.Mathlib.Omega.{arith}
-use mathlib.Core.Path.{_≡_, refl}
-use mathlib.Core.Bool.{Bool, true, false}
-use mathlib.Core.List.{List}
-use lib.Dec.{T, leb, leb→le, le→leb}
-use lib.IntN.{ℤ, pos, negsuc}
-use Rattle.molang.specs.Forest.{Token}
-use Rattle.molang.specs.Order.{effective, isFrom, Rules, rules}
-use Rattle.molang.specs.Read.{read}
+use mathlib.Core.{Path.{_≡_, refl}, Bool.{Bool, true, false}, List.{List}}
+use lib.{Dec.{T, leb, leb→le, le→leb}, IntN.{ℤ, pos, negsuc}}
+use Rattle.molang.specs.{Forest.{Token}, Order.{effective, isFrom, Rules, rules}, Read.{read}}
 
 -- The one of 4, 5 and 6 that a version reads as.
 abbrev pub readsAs : ℤ → ℤ

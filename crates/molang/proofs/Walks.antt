@@ -1,16 +1,11 @@
 -- One induction over the levels from the left. What a level says of its states, of each step and of its end holds of the whole walk: the
 -- list that it gives is good, in a sense that may depend on a bound, and a list with something in it is not left empty.
 use Prim.Native.Nat.{ℕ}
-use mathlib.Core.Path.{_≡_, refl}
-use mathlib.Core.Bool.{Bool, true, false, _||_, not, or-true, or-false}
-use mathlib.Core.List.{List, _++_}
+use mathlib.Core.{Path.{_≡_, refl}, Bool.{Bool, true, false, _||_, not, or-true, or-false}, List.{List, _++_}}
 use lib.ListN.{length}
-use Rattle.molang.specs.Forest.{Token, Forest, nil, node}
-use Rattle.molang.specs.Message.{Message, Result, ok, fail}
-use Rattle.molang.specs.Level.{Step, stop, on, into, Level, walk, through}
-use Rattle.molang.specs.Order.{Pass}
-use Rattle.molang.specs.Read.{Answer, messages, endsReading, grouped}
-use Rattle.molang.specs.Free.{isNil}
+use Rattle.molang.specs.{Forest.{Token, Forest, nil, node}, Message.{Message, Result, ok, fail}}
+use Rattle.molang.specs.{Level.{Step, stop, on, into, Level, walk, through}, Order.{Pass}}
+use Rattle.molang.specs.{Read.{Answer, messages, endsReading, grouped}, Free.{isNil}}
 
 -- A pass ends in so many messages, or in a list of which Q holds.
 pub data Outcome (count : ℕ) (Q : Forest → Type 0) : Result → Type 0 where

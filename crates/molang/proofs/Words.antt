@@ -1,24 +1,17 @@
 -- Words and what they say, both ways: legal tokens and trees are read back from their words, and legal words are those of their tokens.
 use Prim.Native.Nat.{ℕ, suc, _+_, _*_, _/_, _%_, _^_, _≤_, _<_}
-use mathlib.Core.Path.{_≡_, refl, ap, sym, _∙_}
-use mathlib.Core.Bool.{true, false}
-use mathlib.Core.List.{List, [], _∷_, _++_, append-assoc, append-nil}
-use mathlib.Core.Option.{none}
+use mathlib.Core.{Path.{_≡_, refl, ap, sym, _∙_}, Bool.{true, false}, List.{List, [], _∷_, _++_, append-assoc, append-nil}, Option.{none}}
 use native.Mathlib.Omega.{arith}
-use lib.Dec.{eqb, leb, ltb}
-use lib.ListN.{length}
+use lib.{Dec.{eqb, leb, ltb}, ListN.{length}}
 use borrow.Author.Tests.{eqb-true, eqb-false, leb-true, le-leb, ltb-true}
 use Rattle.molang.specs.Operator
-use Rattle.molang.specs.Operator.{between, isHost, isOperator}
-use Rattle.molang.specs.Forest.{Token, Forest, nil, node, count, closedBy, unclosed}
+use Rattle.molang.specs.{Operator.{between, isHost, isOperator}, Forest.{Token, Forest, nil, node, count, closedBy, unclosed}}
 use Rattle.molang.specs.Words.{word, kindOf, lowOf, tokenWords, tokenOf, nodeWordsOf, nodeOf, tokensOf, listWords, treeWords, Field}
 use Rattle.molang.specs.Words.{operatorField, startField, endField, upperField, lowerField, fieldKind, lowFault, wordFault}
 use Rattle.molang.specs.Words.{operatorBits, numberIn, variantAfter, nextInToken, wordsRefusal}
-use Rattle.molang.specs.Legal.{Legal, LegalTrees, noTrees, legalTree}
-use Rattle.molang.specs.WriteEntry.{firstTrees, otherTrees, treesOf}
+use Rattle.molang.specs.{Legal.{Legal, LegalTrees, noTrees, legalTree}, WriteEntry.{firstTrees, otherTrees, treesOf}}
 use Rattle.molang.proofs.Booleans
-use Rattle.molang.proofs.Trees.{decided, both, and-true-true}
-use Rattle.molang.proofs.FirstFailure.{must-none, first-none, passed, withPlace-none}
+use Rattle.molang.proofs.{Trees.{decided, both, and-true-true}, FirstFailure.{must-none, first-none, passed, withPlace-none}}
 
 pub data LegalTokens : List Token → Type 0 where
   noTokens : LegalTokens []

@@ -1,14 +1,8 @@
 -- Laws of what is left of a pass: at its beginning it is the whole pass (`pass-begins`), a list has the same nodes in reading order
 -- (`reading-size`), and a failure goes through every list that waits (`unwound-fail`).
-use mathlib.Core.Path.{_≡_, refl, ap, sym, _∙_}
-use mathlib.Core.Bool.{Bool, false}
-use mathlib.Core.List.{List, [], _∷_}
-use mathlib.Core.Option.{none, some}
-use Rattle.molang.specs.Forest.{Token, Forest, nil, node, turnedOnto, inOrder, count, size}
-use Rattle.molang.specs.Message.{Message, Result, ok, fail}
-use Rattle.molang.specs.Level.{through}
-use Rattle.molang.specs.Calls.{queryOrLoop, math}
-use Rattle.molang.specs.Order.{apply}
+use mathlib.Core.{Path.{_≡_, refl, ap, sym, _∙_}, Bool.{Bool, false}, List.{List, [], _∷_}, Option.{none, some}}
+use Rattle.molang.specs.{Forest.{Token, Forest, nil, node, turnedOnto, inOrder, count, size}, Message.{Message, Result, ok, fail}}
+use Rattle.molang.specs.{Level.{through}, Calls.{queryOrLoop, math}, Order.{apply}}
 use Rattle.molang.specs.Unary.{Unary, done, undone, unaryLeaf, unary, unaryPass, unaryNode, turned}
 use Rattle.molang.specs.Work.{Kind, calls, statements, arrays, unaryMinusAndNot, conditional, returns, binary, right, before}
 use Rattle.molang.specs.Work.{fromRight, work, begins, inReading, passOf, pass, andThen, Held, held, unwound}

@@ -1,16 +1,12 @@
 -- Laws of writing: what is written before tokens, and that each token of the tree is put in once, with nothing added but brackets and the
 -- statements' semicolons.
 use Prim.Native.Nat.{ℕ, suc, _+_}
-use mathlib.Core.Path.{_≡_, refl, ap, sym, _∙_}
-use mathlib.Core.Bool.{Bool, true, false, true≢false, false≢true}
-use mathlib.Core.List.{List, [], _∷_, _++_, append-assoc}
-use mathlib.Core.Option.{none}
+use mathlib.Core.{Path.{_≡_, refl, ap, sym, _∙_}, Bool.{Bool, true, false, true≢false, false≢true}}
+use mathlib.Core.{List.{List, [], _∷_, _++_, append-assoc}, Option.{none}}
 use native.Mathlib.Omega.{arith}
-use lib.Dec.{eqb}
-use lib.ListN.{length, length-append}
+use lib.{Dec.{eqb}, ListN.{length, length-append}}
 use Rattle.molang.specs.Operator
-use Rattle.molang.specs.Operator.{isBracket}
-use Rattle.molang.specs.Forest.{Token, Forest, nil, node, size, bare, unclosed}
+use Rattle.molang.specs.{Operator.{isBracket}, Forest.{Token, Forest, nil, node, size, bare, unclosed}}
 use Rattle.molang.specs.Plain.{Seat, atRoot, underSemicolon, seatUnder, expressionForm, unplainAt}
 use Rattle.molang.specs.Write.{openerFor, closerFor, closerOf, standsAlone, standsLeft, standsRight, operandTokens, written}
 use Rattle.molang.specs.Write.{writtenStatements, writtenTree}

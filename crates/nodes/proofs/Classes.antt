@@ -2,15 +2,10 @@
 -- is tested against every leaf below it (`notes-meet`).
 use Prim.Native.Nat.{ℕ, zero, suc, _<_}
 use mathlib.Core.Path.{_≡_, refl, sym, ap, ap₂, _∙_}
-use mathlib.Core.Bool.{Bool, true, false, _||_, _&&_, not, and-true, and-comm, and-or-distrib-right, Bool·not-not as not-not}
-use mathlib.Core.List.{List}
-use Rattle.molang.specs.Forest.{Token, Forest, nil, node}
-use Rattle.molang.specs.Order.{someBelow}
-use Rattle.molang.specs.Free.{free}
-use Rattle.ops.specs.Classes.{bitAt, inClass, shares, meets}
-use Rattle.ops.proofs.BitLaws.{some-same, none-below}
-use Rattle.nodes.specs.Store.{Notes, Noted, RepF, ends, more}
-use Rattle.nodes.specs.Children.{someNotes}
+use mathlib.Core.{Bool.{Bool, true, false, _||_, _&&_, not, and-true, and-comm, and-or-distrib-right, Bool·not-not as not-not}, List.{List}}
+use Rattle.molang.specs.{Forest.{Token, Forest, nil, node}, Order.{someBelow}, Free.{free}}
+use Rattle.ops.{specs.Classes.{bitAt, inClass, shares, meets}, proofs.BitLaws.{some-same, none-below}}
+use Rattle.nodes.specs.{Store.{Notes, Noted, RepF, ends, more}, Children.{someNotes}}
 
 -- ---- booleans
 

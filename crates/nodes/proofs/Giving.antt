@@ -1,16 +1,12 @@
 -- The loop of `give_children`: the run is linked from its last slot to its first, and the classes of what is linked are gathered.
 use Prim.Native.Nat.{ℕ, _+_, _-_, _≤_, _<_}
-use mathlib.Core.Path.{_≡_, refl, sym, ap, ap₂, _∙_, subst}
-use mathlib.Core.Logic.{_≢_}
-use mathlib.Core.Bool.{Bool, _||_, or-comm}
+use mathlib.Core.{Path.{_≡_, refl, sym, ap, ap₂, _∙_, subst}, Logic.{_≢_}, Bool.{Bool, _||_, or-comm}}
 use mathlib.Core.List.{List, [], _∷_, _++_, append-nil}
 use native.Mathlib.Omega.{arith}
 use lib.ListN.{length, set}
-use Rattle.ops.specs.Classes.{bitAt}
-use Rattle.ops.proofs.BitLaws.{bit-zero}
+use Rattle.ops.{specs.Classes.{bitAt}, proofs.BitLaws.{bit-zero}}
 use Rattle.nodes.specs.Store.{wd, classesField, slotStart, slotEnd, firstWord, nextWord, classesWord, firstAt, nextAt, classesAt}
-use Rattle.nodes.specs.Store.{Chain, Seg, Inc, OffNext, onto}
-use Rattle.nodes.specs.Children.{CanGive, Given, someNotes}
+use Rattle.nodes.specs.{Store.{Chain, Seg, Inc, OffNext, onto}, Children.{CanGive, Given, someNotes}}
 use Rattle.nodes.proofs.Runs.{set-same, set-other, set-long, inc-le, off-above, off-word, chain-keep, seg-onto, inc-onto, seg-unique}
 
 -- the slots of `left`, the last first, are not linked yet, and those of `done` are

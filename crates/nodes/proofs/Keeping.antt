@@ -2,18 +2,13 @@
 -- words of the stack from some index on. What stands beside the interval, the ancestors' own slots and the stack below that index are as
 -- they were.
 use Prim.Native.Nat.{ℕ, _+_, _-_, _≤_, _<_}
-use mathlib.Core.Path.{_≡_, _∙_}
-use mathlib.Core.Logic.{_⊎_, inl, inr, ⊎-elim}
-use mathlib.Core.List.{List, _∷_}
-use native.Mathlib.Omega.{arith}
-use native.Mathlib.Decide.{decLt}
+use mathlib.Core.{Path.{_≡_, _∙_}, Logic.{_⊎_, inl, inr, ⊎-elim}, List.{List, _∷_}}
+use native.Mathlib.{Omega.{arith}, Decide.{decLt}}
 use lib.ListN.{length}
 use Rattle.molang.specs.Forest.{Token, Forest}
 use Rattle.nodes.specs.declared.stored.StoredWords.{StoredWords}
 use Rattle.nodes.specs.Store.{wd, slotWords, firstField, nextField, classesField, slotStart, slotEnd, Seg, Out, OffNext, RepF, ends}
-use Rattle.nodes.specs.Store.{more, RepT, RepB, Free, Kept}
-use Rattle.nodes.specs.Slots.{Laid}
-use Rattle.nodes.specs.Children.{Given}
+use Rattle.nodes.specs.{Store.{more, RepT, RepB, Free, Kept}, Slots.{Laid}, Children.{Given}}
 use Rattle.nodes.proofs.Store.{reserve-pos, own-out, rep-le, rep-keep, tree-keep, back-keep}
 
 -- ---- words that are none of the free slots

@@ -1,12 +1,8 @@
 -- Chains of slots and runs of words: what a change of words leaves of them, and how they go on from one another.
 use Prim.Native.Nat.{ℕ, suc, _+_, _≤_, _<_}
-use mathlib.Core.Path.{_≡_, refl, sym, _∙_, subst}
-use mathlib.Core.Logic.{_≢_}
-use mathlib.Core.List.{List, [], _∷_, _++_}
-use native.Mathlib.Omega.{arith}
-use native.Mathlib.Nat.{add-zero}
-use lib.ListN.{length, set, length-set}
-use lib.Seq.{getD-set-same, getD-set-other}
+use mathlib.Core.{Path.{_≡_, refl, sym, _∙_, subst}, Logic.{_≢_}, List.{List, [], _∷_, _++_}}
+use native.Mathlib.{Omega.{arith}, Nat.{add-zero}}
+use lib.{ListN.{length, set, length-set}, Seq.{getD-set-same, getD-set-other}}
 use Rattle.nodes.specs.Store.{wd, slotWords, nextField, slotStart, nextAt, Chain, Seg, SegB, Inc, Out, OffNext, onto}
 
 pub wd-same : (W : List ℕ) (i v : ℕ) → i < length W → wd (set W i v) i ≡ v

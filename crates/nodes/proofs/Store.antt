@@ -1,23 +1,16 @@
 -- Forests in the work buffer: where their roots stand, how intervals widen, and THE AGREEMENT LAW (`rep-keep`, `tree-keep`, `back-keep`):
 -- words that agree on the slots of the interval, those of the ancestors and the roots' `next` words aside, keep a forest as it is.
 use Prim.Native.Nat.{ℕ, suc, _+_, _≤_, _<_}
-use mathlib.Core.Path.{_≡_, refl, ap, _∙_, subst}
-use mathlib.Core.Logic.{_≢_, _⊎_, inl, inr, ⊎-elim}
-use mathlib.Core.Bool.{true, false}
-use mathlib.Core.List.{List, _∷_}
-use native.Mathlib.Omega.{arith}
-use native.Mathlib.Nat.{le-refl}
-use lib.Dec.{eqb}
+use mathlib.Core.{Path.{_≡_, refl, ap, _∙_, subst}, Logic.{_≢_, _⊎_, inl, inr, ⊎-elim}, Bool.{true, false}, List.{List, _∷_}}
+use native.Mathlib.{Omega.{arith}, Nat.{le-refl}}
+use lib.{Dec.{eqb}, ListN.{length}}
 use borrow.Author.Tests.{eqb-true}
-use lib.ListN.{length}
-use Rattle.molang.specs.Operator.{negate, semicolon}
-use Rattle.molang.specs.Forest.{Token, Forest, nil, node, turnedOnto, count}
+use Rattle.molang.specs.{Operator.{negate, semicolon}, Forest.{Token, Forest, nil, node, turnedOnto, count}}
 use Rattle.molang.proofs.Trees.{decided, either}
 use Rattle.ops.specs.Classes.{bitAt}
 use Rattle.nodes.specs.Store.{wd, slotWords, firstField, nextField, classesField, slotStart, firstAt, nextAt, Notes, reserve, Chain}
 use Rattle.nodes.specs.Store.{Inc, Out, OutFrom, onto, RepF, ends, more, RepT, RepB, begins, put, AllLegal, Agree}
-use Rattle.nodes.proofs.Runs.{inc-le, inc-lower, out-below, chain-unique}
-use Rattle.nodes.proofs.Tokens.{token-keep, token-unique}
+use Rattle.nodes.proofs.{Runs.{inc-le, inc-lower, out-below, chain-unique}, Tokens.{token-keep, token-unique}}
 
 -- every node keeps its own slot
 pub reserve-pos : (t : Token) (k : Forest) → 0 < reserve t k

@@ -1,24 +1,14 @@
 -- Straight-line code, store by store: the words that `set_leaf`, `attach`, `attach_two` and `push` leave. Each list is the one before
 -- with one store, or with words laid into it.
 use Prim.Native.Nat.{ℕ, zero, suc, _+_, _≤_, _<_}
-use mathlib.Core.Path.{_≡_, refl, ap, ap₂, _∙_}
-use mathlib.Core.Logic.{_≢_}
-use mathlib.Core.Bool.{_||_}
-use mathlib.Core.List.{List, [], _∷_, _++_}
-use native.Mathlib.Omega.{arith}
-use native.Mathlib.Nat.{add-zero}
+use mathlib.Core.{Path.{_≡_, refl, ap, ap₂, _∙_}, Logic.{_≢_}, Bool.{_||_}, List.{List, [], _∷_, _++_}}
+use native.Mathlib.{Omega.{arith}, Nat.{add-zero}}
 use lib.ListN.{length, getD, set}
-use Rattle.words.specs.Records.{laidAt}
-use Rattle.words.proofs.LaidLaws.{laid-long, laid-in, laid-out, laid-more}
+use Rattle.words.{specs.Records.{laidAt}, proofs.LaidLaws.{laid-long, laid-in, laid-out, laid-more}}
 use Rattle.ops.specs.Classes.{bitAt}
 use Rattle.nodes.specs.Store.{wd, firstField, nextField, classesField, slotStart, slotEnd, firstWord, nextWord, classesWord}
-use Rattle.nodes.specs.Store.{classesAt}
-use Rattle.nodes.specs.Stored.{storedList}
-use Rattle.nodes.specs.Slots.{Laid}
-use Rattle.nodes.specs.Children.{Attached, AttachedTwo}
-use Rattle.nodes.specs.Frames.{Pushed}
-use Rattle.nodes.specs.declared.stored.StoredWords.{StoredWords}
-use Rattle.nodes.specs.declared.frames.List.{List as WorkList}
+use Rattle.nodes.specs.{Store.{classesAt}, Stored.{storedList}, Slots.{Laid}, Children.{Attached, AttachedTwo}, Frames.{Pushed}}
+use Rattle.nodes.specs.{declared.stored.StoredWords.{StoredWords}, declared.frames.List.{List as WorkList}}
 use Rattle.nodes.specs.declared.frames.Held.{Held}
 use Rattle.nodes.proofs.Runs.{set-same, set-other, set-long}
 

@@ -2,9 +2,7 @@
 -- holds at its test (an `..At` record over the part that is passed and the part that is left), its start, what a turn asks, a turn, and the
 -- end.
 use Prim.Native.Nat.{ℕ, _+_, _-_, _≤_, _<_}
-use mathlib.Core.Path.{_≡_, refl, sym, ap, _∙_, subst}
-use mathlib.Core.Logic.{_≢_, _⊎_, inl, inr}
-use mathlib.Core.List.{List, [], _∷_, _++_, append-assoc, append-nil}
+use mathlib.Core.{Path.{_≡_, refl, sym, ap, _∙_, subst}, Logic.{_≢_, _⊎_, inl, inr}, List.{List, [], _∷_, _++_, append-assoc, append-nil}}
 use native.Mathlib.Omega.{arith}
 use lib.ListN.{length, set, length-set, length-append}
 use Rattle.nodes.specs.Store.{wd, slotStart, slotEnd, nextWord, nextAt, Chain, Seg, Inc}

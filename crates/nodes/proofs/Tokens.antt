@@ -1,24 +1,16 @@
 -- A slot's five token words, said of its token: what the fields are read from, that the words say which token it is, and what becomes of
 -- the token where some of the words are written.
 use Prim.Native.Nat.{ℕ, zero, suc, _+_, _*_, _/_, _%_, _^_, _≤_, _<_}
-use mathlib.Core.Path.{_≡_, sym, ap, _∙_}
-use mathlib.Core.Bool.{false}
-use mathlib.Core.List.{List}
-use native.Mathlib.Omega.{arith}
-use native.Mathlib.Nat.{add-zero}
-use lib.Dec.{eqb}
-use lib.ListN.{length, getD, set}
+use mathlib.Core.{Path.{_≡_, sym, ap, _∙_}, Bool.{false}, List.{List}}
+use native.Mathlib.{Omega.{arith}, Nat.{add-zero}}
+use lib.{Dec.{eqb}, ListN.{length, getD, set}}
 use borrow.Author.Tests.{eq-eqb, ne-eqb, eqb-true}
-use Rattle.molang.specs.Forest.{Token, renamed, bare, closedBy}
-use Rattle.molang.specs.Words.{word, lowOf, operatorBits}
-use Rattle.molang.specs.Legal.{Legal}
+use Rattle.molang.specs.{Forest.{Token, renamed, bare, closedBy}, Words.{word, lowOf, operatorBits}, Legal.{Legal}}
 use Rattle.molang.proofs.Words.{low-word, operator-small, bits-number, bits-variant, bits-room}
 use Rattle.molang.proofs.Legal.{legal-renamed, legal-bare, legal-closed}
-use Rattle.words.specs.Fields.{operatorOf, variantOf, withOperator}
-use Rattle.words.proofs.FieldLaws.{same-by-bits}
+use Rattle.words.{specs.Fields.{operatorOf, variantOf, withOperator}, proofs.FieldLaws.{same-by-bits}}
 use Rattle.nodes.specs.Store.{wd, slotStart, slotEnd, closeWord, operatorWordAt, startWordAt, endWordAt, valueWordAt, closeWordAt}
-use Rattle.nodes.specs.Store.{storedWords, TokenAt}
-use Rattle.nodes.specs.Slots.{opAt, startAt, endAt, Made}
+use Rattle.nodes.specs.{Store.{storedWords, TokenAt}, Slots.{opAt, startAt, endAt, Made}}
 use Rattle.nodes.proofs.Runs.{set-same, set-other}
 
 pub token-keep : (W W' : List ℕ) (b : ℕ) {k : Token} → ((o : ℕ) → o < 5 → wd W' (slotStart b + o) ≡ wd W (slotStart b + o)) → TokenAt W b k

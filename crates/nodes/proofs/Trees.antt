@@ -1,28 +1,19 @@
 -- What the functions do to the words, said of trees: a leaf laid down, a tree put under a node, two trees, a whole list given to its owner
 -- or taken from it; and what the tests of a slot say of its tree.
 use Prim.Native.Nat.{ℕ, _+_, _≤_, _<_}
-use mathlib.Core.Path.{_≡_, sym, _∙_, subst}
-use mathlib.Core.Logic.{_≢_, _⊎_, inl, inr, ⊎-elim}
-use mathlib.Core.Bool.{false}
-use mathlib.Core.List.{List, [], _∷_}
-use native.Mathlib.Omega.{arith}
-use native.Mathlib.Nat.{le-refl}
+use mathlib.Core.{Path.{_≡_, sym, _∙_, subst}, Logic.{_≢_, _⊎_, inl, inr, ⊎-elim}, Bool.{false}, List.{List, [], _∷_}}
+use native.Mathlib.{Omega.{arith}, Nat.{le-refl}}
 use borrow.Author.Tests.{eq-eqb, ne-eqb}
 use lib.ListN.{length, set}
-use Rattle.molang.specs.Forest.{Token, Forest, nil, node, inOrder, count}
-use Rattle.molang.specs.Conditional.{isToken}
-use Rattle.molang.specs.Free.{free, isNil}
+use Rattle.molang.specs.{Forest.{Token, Forest, nil, node, inOrder, count}, Conditional.{isToken}, Free.{free, isNil}}
 use Rattle.ops.specs.Classes.{inClass}
 use Rattle.nodes.specs.Store.{wd, firstField, nextField, classesField, slotStart, firstWord, nextWord, classesWord, firstAt}
-use Rattle.nodes.specs.Store.{classesAt, TokenAt, Noted, reserve, Chain}
-use Rattle.nodes.specs.Store.{Seg, SegB, Out, OutFrom, onto, RepF, ends, more, RepT, Owned, RepB, InArray, Free}
-use Rattle.nodes.specs.Slots.{opAt, isLeafAt, isTokenAt}
+use Rattle.nodes.specs.Store.{classesAt, TokenAt, Noted, reserve, Chain, Seg, SegB, Out, OutFrom, onto, RepF, ends, more, RepT, Owned}
+use Rattle.nodes.specs.{Store.{RepB, InArray, Free}, Slots.{opAt, isLeafAt, isTokenAt}}
 use Rattle.nodes.specs.Children.{Attached, AttachedTwo, CanTake, Taken, CanGive, Given}
-use Rattle.nodes.proofs.Runs.{set-other, chain-keep, off-word, off-out, segB-onto, length-onto}
-use Rattle.nodes.proofs.Tokens.{token-keep, token-op}
+use Rattle.nodes.proofs.{Runs.{set-other, chain-keep, off-word, off-out, segB-onto, length-onto}, Tokens.{token-keep, token-op}}
 use Rattle.nodes.proofs.Store.{reserve-pos, roots-above, rep-keep, rep-count, tree-more, tree-below, tree-out, tree-keep, tree-avoid}
-use Rattle.nodes.proofs.Store.{back-onto}
-use Rattle.nodes.proofs.Classes.{notes-leaf, notes-over, notes-below, notes-more, roots-note}
+use Rattle.nodes.proofs.{Store.{back-onto}, Classes.{notes-leaf, notes-over, notes-below, notes-more, roots-note}}
 
 -- ---- one slot and its interval
 

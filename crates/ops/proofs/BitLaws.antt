@@ -1,19 +1,11 @@
 -- The bits of a number: of `&`, of `|`, of a number that is given by its bits; that a number is not 0 where it has a bit; and
 -- `someBelow`, by which the definition says that two sets share something. Assumes nothing.
-use mathlib.Core.Path.{_≡_, refl, sym, ap, ap₂, _∙_}
-use mathlib.Core.Bool.{Bool, true, false, not, _&&_, _||_}
+use mathlib.Core.{Path.{_≡_, refl, sym, ap, ap₂, _∙_}, Bool.{Bool, true, false, not, _&&_, _||_}}
 use Prim.Native.Nat.{ℕ, zero, suc, _+_, _*_, _/_, _%_, _^_, _<_, min, max}
-use native.Mathlib.Nat.{div-one, zero-div, pow-suc, div-lt-iff-lt-mul}
-use native.Mathlib.Numerals.{one-add}
-use native.Mathlib.Omega.{arith}
-use lib.Arith.{digits-mod}
-use lib.Dec.{eqb, ltb, eqb·suc-zero, lit<}
-use lib.Pow.{shr-shr}
-use lib.Bits.{bitAnd, bitOr, and-shr, or-shr, and-step, or-step}
+use native.Mathlib.{Nat.{div-one, zero-div, pow-suc, div-lt-iff-lt-mul}, Numerals.{one-add}, Omega.{arith}}
+use lib.{Arith.{digits-mod}, Dec.{eqb, ltb, eqb·suc-zero, lit<}, Pow.{shr-shr}, Bits.{bitAnd, bitOr, and-shr, or-shr, and-step, or-step}}
 use borrow.Author.Tests.{ne-eqb}
-use Rattle.molang.specs.Order.{someBelow}
-use Rattle.molang.specs.Read.{setNumber}
-use Rattle.molang.proofs.UsedSet.{number-bits}
+use Rattle.molang.{specs.Order.{someBelow}, specs.Read.{setNumber}, proofs.UsedSet.{number-bits}}
 use Rattle.ops.specs.Classes.{bitAt}
 
 pub bit-low : (w : ℕ) → bitAt w 0 ≡ eqb (w % 2) 1

@@ -1,19 +1,13 @@
 -- The classes of operators: the bits of the table's entries, and the one test that says what a constant
 -- of the code stands for. Assumes nothing.
-use mathlib.Core.Path.{_≡_, refl, sym, ap, _∙_}
-use mathlib.Core.Bool.{Bool, true, false, not, _&&_, _||_, and-false}
-use mathlib.Core.List.{List, [], _∷_, _++_}
+use mathlib.Core.{Path.{_≡_, refl, sym, ap, _∙_}, Bool.{Bool, true, false, not, _&&_, _||_, and-false}, List.{List, [], _∷_, _++_}}
 use Prim.Native.Nat.{ℕ, zero, suc, _<_, _≤_}
-use native.Mathlib.Nat.{le-of-suc-le-suc, not-suc-le-zero}
-use native.Mathlib.Omega.{arith}
-use lib.Dec.{T, leb, ltb, nleb→lt}
-use lib.ListN.{getD, drop, List·getD-eq-default}
+use native.Mathlib.{Nat.{le-of-suc-le-suc, not-suc-le-zero}, Omega.{arith}}
+use lib.{Dec.{T, leb, ltb, nleb→lt}, ListN.{getD, drop, List·getD-eq-default}}
 use borrow.Author.Tests.{lt-ltb, le-ltb, leb-true, leb-false, ltb-true, ltb-false, ne-eqb}
-use Rattle.molang.specs.Operator.{any, isOneOf, isQueryOrLoop}
+use Rattle.molang.{specs.Operator.{any, isOneOf, isQueryOrLoop}, proofs.RoundTrip.Role.{no-math}}
 use Rattle.ops.specs.Classes.{passClasses, ownClasses, inClass, bitAt, meets, upTo, classWord, classTable, entryOf}
-use Rattle.molang.proofs.RoundTrip.Role.{no-math}
-use Rattle.ops.proofs.OperatorLaws.{agree, agree-at, and-left, and-right}
-use Rattle.ops.proofs.BitLaws.{bit-zero, bits-of, none-below}
+use Rattle.ops.proofs.{OperatorLaws.{agree, agree-at, and-left, and-right}, BitLaws.{bit-zero, bits-of, none-below}}
 
 -- ---- No class but the 25, and no operator above 110
 

@@ -1,17 +1,13 @@
 -- What each constant of `TokenClasses` stands for: a leaf is in one of its classes where its operator is one of the pass's that the
 -- constant belongs to. One test over every operator number, which antt computes. Assumes nothing.
-use mathlib.Core.Path.{_≡_}
-use mathlib.Core.Bool.{Bool, true, _&&_}
-use mathlib.Core.List.{List, [], _∷_}
+use mathlib.Core.{Path.{_≡_}, Bool.{Bool, true, _&&_}, List.{List, [], _∷_}}
 use Prim.Native.Nat.{ℕ}
 use lib.Dec.{T}
 use Rattle.molang.specs.Operator
-use Rattle.molang.specs.Operator.{any, isOneOf, between, isMathCall, isQueryOrLoop}
-use Rattle.molang.specs.Order.{someBelow}
+use Rattle.molang.specs.{Operator.{any, isOneOf, between, isMathCall, isQueryOrLoop}, Order.{someBelow}}
 use Rattle.molang.proofs.RoundTrip.Role.{no-math}
 use Rattle.ops.specs.Classes.{passClasses, ownClasses, inClass, bitAt, meets}
-use Rattle.ops.proofs.OperatorLaws.{agree, and-left, and-right}
-use Rattle.ops.proofs.ClassLaws.{stands-for, standsForOnly, stands-for-only}
+use Rattle.ops.proofs.{OperatorLaws.{agree, and-left, and-right}, ClassLaws.{stands-for, standsForOnly, stands-for-only}}
 
 -- A constant and its operators: some, or the math calls.
 pub data Constant : Type 0 where

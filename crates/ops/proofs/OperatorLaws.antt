@@ -1,13 +1,9 @@
 -- What an arm of a `match` on an operator shows: what a function gives at each number of the arm's range, by one test that antt
 -- computes, and that a number apart from each of a list is none of them. Assumes nothing.
-use mathlib.Core.Path.{_≡_, refl, subst}
-use mathlib.Core.Bool.{Bool, true, false, not, _&&_, _||_, Bool·beq}
-use mathlib.Core.List.{List, [], _∷_, _++_}
-use mathlib.Core.Logic.{inl, inr, ⊎-elim}
-use mathlib.Core.Option.{Option, none, some}
+use mathlib.Core.{Path.{_≡_, refl, subst}, Bool.{Bool, true, false, not, _&&_, _||_, Bool·beq}, List.{List, [], _∷_, _++_}}
+use mathlib.Core.{Logic.{inl, inr, ⊎-elim}, Option.{Option, none, some}}
 use Prim.Native.Nat.{ℕ, zero, suc, _+_, _-_, _<_, _≤_}
-use native.Mathlib.Nat.{eq-or-lt-of-le}
-use native.Mathlib.Omega.{arith}
+use native.Mathlib.{Nat.{eq-or-lt-of-le}, Omega.{arith}}
 use lib.Dec.{T, eqb}
 use types.Run.{OneOf}
 use borrow.Author.Tests.{eq-eqb, ne-eqb}
@@ -15,8 +11,7 @@ use Rattle.molang.specs.Operator.{leftBrace, rightBrace, leftBracket, leftParen
 use Rattle.molang.specs.Operator.{lessEqual, greaterEqual, greaterThan, logicalEqual, logicalNotEqual, logicalOr, logicalAnd}
 use Rattle.molang.specs.Operator.{nullCoalescing, conditional, conditionalElse, loop, forEach, break, continue, assignment, semicolon}
 use Rattle.molang.specs.Operator.{return, comma, expressionArray, any, isOneOf, closingOf, BeforeMinus, operand, operator, minus, unknown}
-use Rattle.molang.specs.Operator.{isCloser, beforeMinus}
-use Rattle.molang.specs.Nesting.{openAfter}
+use Rattle.molang.specs.{Operator.{isCloser, beforeMinus}, Nesting.{openAfter}}
 use Rattle.ops.specs.Operators.{raiseOf}
 
 -- The test passes at the k numbers from lo on.

@@ -1,21 +1,12 @@
 -- Sets of operators in two halves of 64 bits: the bits of each half in the whole, and the math calls. Assumes nothing.
-use mathlib.Core.Path.{_≡_, refl, sym, ap, _∙_}
-use mathlib.Core.List.{[], _∷_}
-use mathlib.Core.Bool.{Bool, true, false, not, _&&_, _||_, and-false, or-false}
+use mathlib.Core.{Path.{_≡_, refl, sym, ap, _∙_}, List.{[], _∷_}, Bool.{Bool, true, false, not, _&&_, _||_, and-false, or-false}}
 use Prim.Native.Nat.{ℕ, _+_, _-_, _*_, _/_, _%_, _^_, _<_, _≤_}
-use native.Mathlib.Nat.{div-eq-of-lt, lt-of-lt-of-le, lt-of-le-of-lt}
-use native.Mathlib.Omega.{arith}
-use lib.Arith.{digits-lt}
-use lib.Dec.{eqb, ltb}
-use lib.Pow.{pow-mono, shr-shr, high, low, field, mod-mod-pow}
-use lib.Bits.{bitAnd, and-le-l, and-block}
+use native.Mathlib.{Nat.{div-eq-of-lt, lt-of-lt-of-le, lt-of-le-of-lt}, Omega.{arith}}
+use lib.{Arith.{digits-lt}, Dec.{eqb, ltb}, Pow.{pow-mono, shr-shr, high, low, field, mod-mod-pow}, Bits.{bitAnd, and-le-l, and-block}}
 use borrow.Author.Tests.{lt-ltb, le-ltb, ltb-true, ltb-false, eqb-true, eqb-false, ne-eqb}
-use Rattle.molang.specs.Operator.{any, isMathCall, between}
-use Rattle.molang.specs.Order.{someBelow}
-use Rattle.molang.specs.Parse.{inHalves}
+use Rattle.molang.specs.{Operator.{any, isMathCall, between}, Order.{someBelow}, Parse.{inHalves}}
 use Rattle.ops.specs.Classes.{bitAt}
-use Rattle.ops.proofs.OperatorLaws.{agree-at}
-use Rattle.ops.proofs.BitLaws.{nonzero, some-same, bit-and}
+use Rattle.ops.proofs.{OperatorLaws.{agree-at}, BitLaws.{nonzero, some-same, bit-and}}
 
 module _ (l h : ℕ) (small : l < 2 ^ 64) where
   -- The bits below the high half's are the low half's.

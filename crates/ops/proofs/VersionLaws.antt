@@ -1,12 +1,9 @@
 -- Versions, which are signed: what the code's comparisons with a literal say of the definition's `effective` and `isFrom`.
 -- Assumes nothing.
-use mathlib.Core.Path.{_≡_, refl, sym, ap}
-use mathlib.Core.Bool.{true, false, true≢false}
+use mathlib.Core.{Path.{_≡_, refl, sym, ap}, Bool.{true, false, true≢false}}
 use Prim.Native.Nat.{ℕ}
-use native.Mathlib.Nat.{not-suc-le-zero}
-use native.Mathlib.Omega.{arith}
-use lib.IntN.{ℤ, pos, negsuc}
-use lib.Signed.{ltZ, leZ}
+use native.Mathlib.{Nat.{not-suc-le-zero}, Omega.{arith}}
+use lib.{IntN.{ℤ, pos, negsuc}, Signed.{ltZ, leZ}}
 use borrow.Author.Tests.{ltb-true, ltb-false}
 use Rattle.molang.specs.Order.{effective, isFrom}
 

@@ -1,27 +1,18 @@
 -- The reading by ranks, as a loop over them folds it: at each rank nothing is chosen and nothing happens, or the state that was chosen is
 -- of a pass whose result decides how the reading goes on. Assumes nothing.
-use mathlib.Core.Path.{_≡_, refl, sym, ap, _∙_}
-use mathlib.Core.Bool.{Bool, true, false, _&&_, _||_}
-use mathlib.Core.List.{List, [], _∷_, _++_}
+use mathlib.Core.{Path.{_≡_, refl, sym, ap, _∙_}, Bool.{Bool, true, false, _&&_, _||_}, List.{List, [], _∷_, _++_}}
 use Prim.Native.Nat.{ℕ, zero, suc, _+_}
-use native.Mathlib.Numerals.{add-one}
-use native.Mathlib.Omega.{arith}
-use lib.Dec.{eqb}
-use lib.ListN.{drop}
+use native.Mathlib.{Numerals.{add-one}, Omega.{arith}}
+use lib.{Dec.{eqb}, ListN.{drop}}
 use borrow.Author.Tests.{ne-eqb}
 use Rattle.molang.specs.Operator
-use Rattle.molang.specs.Forest.{Forest, nil}
-use Rattle.molang.specs.Message.{Message, multipleRoots, Result, ok, fail}
-use Rattle.molang.specs.Calls.{queryOrLoop, math}
+use Rattle.molang.specs.{Forest.{Forest, nil}, Message.{Message, multipleRoots, Result, ok, fail}, Calls.{queryOrLoop, math}}
 use Rattle.molang.specs.Order.{Rules, Pass, comparisons, logic, conditionals, order, runs, apply}
-use Rattle.molang.specs.Read.{Answer, messages, endsReading, grouped, rooted}
-use Rattle.molang.specs.Work.{Kind, passOf, pass}
+use Rattle.molang.specs.{Read.{Answer, messages, endsReading, grouped, rooted}, Work.{Kind, passOf, pass}}
+use Rattle.molang.proofs.{Trees.{both as both-true}, Passes.{isNested, allNested, grouped-nil}}
 use Rattle.molang.specs.Work as kinds
-use Rattle.molang.proofs.Trees.{both as both-true}
-use Rattle.molang.proofs.Passes.{isNested, allNested, grouped-nil}
-use Rattle.levels.specs.Passes.{Runs}
+use Rattle.levels.specs.{Passes.{Runs}, declared.turns.Pass.{Pass as State}}
 use Rattle.levels.specs.Passes as levels
-use Rattle.levels.specs.declared.turns.Pass.{Pass as State}
 use Rattle.order.specs.declared.Choice.the-variants.{Run, Skip}
 use Rattle.order.specs.Ranks.{later, Starts, call, unsplitPass, array, mathCall, unary, conditionalPass, returnPass, point, plus}
 use Rattle.order.specs.Ranks.{level, Chosen, over, unused, used}

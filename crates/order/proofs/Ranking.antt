@@ -1,33 +1,24 @@
 -- The tables of ranks are the definition's order: one law for a rank that runs by some of its operators, whose test antt computes, and each
 -- table rank by rank. Assumes nothing.
-use mathlib.Core.Path.{_≡_, refl, sym, ap, ap₂, _∙_, subst}
-use mathlib.Core.Bool.{Bool, true, false, _&&_, _||_, and-false, true≢false}
+use mathlib.Core.{Path.{_≡_, refl, sym, ap, ap₂, _∙_, subst}, Bool.{Bool, true, false, _&&_, _||_, and-false, true≢false}}
 use mathlib.Core.List.{List, [], _∷_}
 use Prim.Native.Nat.{ℕ, zero, suc, _<_}
 use native.Mathlib.Omega.{arith}
-use lib.Dec.{T, eqb, ltb}
-use lib.IntN.{ℤ, pos, negsuc}
-use lib.ListN.{getD}
+use lib.{Dec.{T, eqb, ltb}, IntN.{ℤ, pos, negsuc}, ListN.{getD}}
 use borrow.Author.Tests.{eqb-true, eqb-false, ne-eqb, ltb-true, leb-true, le-leb}
 use types.Run.{OneOf, miss}
 use denote.Enum.Declared.{tagOf}
 use Rattle.molang.specs.Operator
 use Rattle.molang.specs.Operator.{any, isOneOf, between, isMathCall, isQueryOrLoop}
 use Rattle.molang.specs.Order.{Rules, isFrom, Pass, callPass, statements, arrays, pointer, mathCalls, unaryMinusAndNot, addition}
-use Rattle.molang.specs.Order.{conditional, returns, binary, comparisons, logic, conditionals, order, someBelow, runs}
-use Rattle.molang.specs.Parse.{inHalves}
-use Rattle.ops.specs.Classes.{passClasses, ownClasses, inClass, bitAt, meets}
-use Rattle.ops.specs.declared.sets.OpSet.{OpSet}
-use Rattle.ops.proofs.OperatorLaws.{agree, agree-at, and-left, and-right}
-use Rattle.ops.proofs.BitLaws.{some-same, none-below}
-use Rattle.ops.proofs.ClassLaws.{standsForOnly, stands-for-only}
-use Rattle.ops.proofs.SetLaws.{math-used}
+use Rattle.molang.specs.{Order.{conditional, returns, binary, comparisons, logic, conditionals, order, someBelow, runs}, Parse.{inHalves}}
+use Rattle.ops.specs.{Classes.{passClasses, ownClasses, inClass, bitAt, meets}, declared.sets.OpSet.{OpSet}}
+use Rattle.ops.proofs.{OperatorLaws.{agree, agree-at, and-left, and-right}, BitLaws.{some-same, none-below}}
+use Rattle.ops.proofs.{ClassLaws.{standsForOnly, stands-for-only}, SetLaws.{math-used}}
 use Rattle.levels.specs.declared.turns.Pass.{Pass as State}
 use Rattle.levels.specs.declared.turns.Pass.the-variants.{Calls, MathCalls, Unsplit, Split, Arrays, Unary, Binary, Conditional, Returns}
 use Rattle.levels.proofs.turns.Pass.{the-type}
-use Rattle.order.specs.declared.Choice.{Choice}
-use Rattle.order.specs.declared.Choice.the-variants.{Run, Skip}
-use Rattle.order.specs.declared.Rank.{Rank}
+use Rattle.order.specs.{declared.Choice.{Choice}, declared.Choice.the-variants.{Run, Skip}, declared.Rank.{Rank}}
 use Rattle.order.specs.Ranks.{usedBy, rulesOf, later, Starts, call, unsplitPass, array, mathCall, unary, conditionalPass, returnPass}
 use Rattle.order.specs.Ranks.{point, plus, level, callGate, isOpen, isUsed, AtRank, past, first, unranked, Ranked, Chosen, over}
 use Rattle.order.specs.Ranks.{unused, used}

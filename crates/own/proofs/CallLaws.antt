@@ -1,27 +1,17 @@
 -- The call of the entry on a list at its own used set: its halves are those of the set's number; and where the list has at most 128 tokens
 -- and the buffers are long enough, only its words can turn it back. Assumes nothing.
 use Prim.Native.Nat.{ℕ, _+_, _*_, _/_, _%_, _^_, _≤_, _<_}
-use mathlib.Core.Path.{_≡_, refl, ap, fun-ext}
-use mathlib.Core.Bool.{Bool}
-use mathlib.Core.List.{List}
+use mathlib.Core.{Path.{_≡_, refl, ap, fun-ext}, Bool.{Bool}, List.{List}}
 use native.Mathlib.Omega.{arith}
-use lib.IntN.{ℤ}
-use lib.ListN.{length}
+use lib.{IntN.{ℤ}, ListN.{length}}
 use borrow.Author.Tests.{eq-eqb, le-leb, lt-ltb}
-use Rattle.molang.specs.FirstFailure.{must, firstOf}
-use Rattle.molang.specs.Words.{operatorField, wordsRefusal, tokensOf}
-use Rattle.molang.specs.Read.{read}
-use Rattle.molang.specs.Nesting.{tooDeep}
-use Rattle.molang.specs.Parse.{Call, inHalves, mostTokens, isLimit, lengthRows, valueRows, refusal, reading, told, answered}
-use Rattle.molang.specs.Parse.{treeIn, treeAfter, messagesIn, messagesAfter}
-use Rattle.molang.proofs.UsedSet.{exact-halves, halves-exact}
-use Rattle.molang.proofs.ListWords.{tokens-count}
-use Rattle.molang.proofs.Nesting.{never-18}
+use Rattle.molang.specs.{FirstFailure.{must, firstOf}, Words.{operatorField, wordsRefusal, tokensOf}, Read.{read}, Nesting.{tooDeep}}
+use Rattle.molang.specs.Parse.{Call, inHalves, mostTokens, isLimit, lengthRows, valueRows, refusal, reading, told, answered, treeIn}
+use Rattle.molang.specs.Parse.{treeAfter, messagesIn, messagesAfter}
+use Rattle.molang.proofs.{UsedSet.{exact-halves, halves-exact}, ListWords.{tokens-count}, Nesting.{never-18}}
 use Rattle.molang.proofs.FirstFailure.{before-none, without-number}
-use Rattle.derived.specs.Derived.{named, highest}
-use Rattle.derived.proofs.WordLaws.{named-few, exact-few, highest-few}
-use Rattle.parse.specs.declared.Answer.{Answer}
-use Rattle.parse.specs.Answers.{call, HasParsed}
+use Rattle.derived.{specs.Derived.{named, highest}, proofs.WordLaws.{named-few, exact-few, highest-few}}
+use Rattle.parse.specs.{declared.Answer.{Answer}, Answers.{call, HasParsed}}
 use Rattle.own.specs.Own.{namedCall, ownCall, readingOf, Readable}
 
 -- A promise of the parse entry about a call is one about the same call.

@@ -1,31 +1,20 @@
 -- The entry: what is loaded can be grouped, what was grouped is the definition's reading, and the four equations of a call that is read or
 -- turned back.
 use Prim.Native.Nat.{ℕ, _+_, _*_, _≤_}
-use mathlib.Core.Path.{_≡_, ap, _∙_, subst}
-use mathlib.Core.List.{List, [], _++_}
+use mathlib.Core.{Path.{_≡_, ap, _∙_, subst}, List.{List, [], _++_}}
 use native.Mathlib.Omega.{arith}
-use lib.IntN.{ℤ}
-use lib.ListN.{length, replicate, take, drop, length-append, length-drop}
-use lib.Seq.{length-take-le}
-use Rattle.molang.specs.Forest.{leaves}
-use Rattle.molang.specs.Order as Order
-use Rattle.molang.specs.Order.{rules}
-use Rattle.molang.specs.Read as Reading
-use Rattle.molang.specs.Read.{read}
-use Rattle.molang.specs.Words.{tokensOf}
+use lib.{IntN.{ℤ}, ListN.{length, replicate, take, drop, length-append, length-drop}, Seq.{length-take-le}}
+use Rattle.molang.specs.{Forest.{leaves}, Order.{rules}, Read.{read}, Words.{tokensOf}}
 use Rattle.molang.specs.Parse.{Call, reading, told, answered, treeIn, treeAfter, messagesIn, messagesAfter, workIn, workAfter}
+use Rattle.molang.specs.Order as Order
+use Rattle.molang.specs.Read as Reading
 use Rattle.ops.specs.declared.sets.OpSet.{OpSet}
 use Rattle.order.specs.Ranks.{usedBy, rulesOf}
-use Rattle.accept.specs.Accepting.{isRead, isRefused}
-use Rattle.accept.proofs.AcceptLaws.{checked, reads-call, refuses-call}
-use Rattle.buffers.specs.Load.{CanLoad, Loaded}
-use Rattle.buffers.proofs.Loading.{loaded-array}
-use Rattle.grouping.specs.declared.grouped.Grouped.{Grouped}
-use Rattle.parse.specs.declared.Answer.{Answer}
-use Rattle.parse.specs.declared.Answer.the-variants.{Refused as Turned}
-use Rattle.parse.specs.Answers.{HasParsed}
+use Rattle.accept.{specs.Accepting.{isRead, isRefused}, proofs.AcceptLaws.{checked, reads-call, refuses-call}}
+use Rattle.buffers.{specs.Load.{CanLoad, Loaded}, proofs.Loading.{loaded-array}}
+use Rattle.grouping.specs.{declared.grouped.Grouped.{Grouped}, Group.{CanGroup, HasGrouped}}
+use Rattle.parse.specs.{declared.Answer.{Answer}, declared.Answer.the-variants.{Refused as Turned}, Answers.{HasParsed}}
 use Rattle.parse.specs.Fills.{FilledAs, CanFill, Filled, CanRead, HasRead}
-use Rattle.grouping.specs.Group.{CanGroup, HasGrouped}
 
 -- ---- `read`
 

@@ -1,33 +1,21 @@
 -- Filling the caller's buffers: roots by their number, and each failure, are what the definition's answer says of the buffers.
 use Prim.Native.Nat.{ℕ, _+_, _*_, _≤_}
-use mathlib.Core.Path.{_≡_, refl, sym, ap, _∙_, subst}
-use mathlib.Core.Logic.{_≢_}
-use mathlib.Core.List.{List, [], _∷_, _++_}
+use mathlib.Core.{Path.{_≡_, refl, sym, ap, _∙_, subst}, Logic.{_≢_}, List.{List, [], _∷_, _++_}}
 use native.Mathlib.Omega.{arith}
 use lib.ListN.{length, length-append}
-use Rattle.molang.specs.Forest.{Token, Forest, nil, node, count, size}
-use Rattle.molang.specs.Message.{messageRecord, multipleRoots}
-use Rattle.molang.specs.Read as reading
-use Rattle.molang.specs.Read.{rooted}
+use Rattle.molang.specs.{Forest.{Token, Forest, nil, node, count, size}, Message.{messageRecord, multipleRoots}, Read.{rooted}}
 use Rattle.molang.specs.Parse.{inFront, told, treeIn, messagesIn}
-use Rattle.words.specs.Records.{laidAt}
-use Rattle.words.proofs.RecordLaws.{laid-front}
+use Rattle.molang.specs.Read as reading
+use Rattle.words.{specs.Records.{laidAt}, proofs.RecordLaws.{laid-front}}
 use Rattle.nodes.specs.Store.{slotEnd, firstAt, nextAt}
-use Rattle.buffers.specs.Emit.{Linked, CanLayOut, LaidOut}
-use Rattle.buffers.proofs.Linking.{owned-linked, linked-nil, linked-none, linked-open}
+use Rattle.buffers.{specs.Emit.{Linked, CanLayOut, LaidOut}, proofs.Linking.{owned-linked, linked-nil, linked-none, linked-open}}
 use Rattle.levels.specs.Failures as failures
-use Rattle.grouping.specs.Grouped.{StandsFor, roots, failed, mismatched, unclosed, pointerFailed}
-use Rattle.levels.specs.declared.failure.Failure.{Failure}
-use Rattle.levels.specs.declared.failure.Mismatch.{Mismatch}
-use Rattle.levels.specs.declared.failure.Unclosed.{Unclosed}
-use Rattle.grouping.specs.declared.grouped.Grouped.{Grouped}
+use Rattle.grouping.specs.{Grouped.{StandsFor, roots, failed, mismatched, unclosed, pointerFailed}, declared.grouped.Grouped.{Grouped}}
 use Rattle.grouping.specs.declared.grouped.Grouped.the-variants.{Roots, Failed, Mismatched, Unclosed as Unclosing, PointerFailed}
-use Rattle.parse.specs.declared.Answer.{Answer}
-use Rattle.parse.specs.declared.Answer.the-variants.{Tree, Messages}
-use Rattle.parse.specs.Reports.{CanReport, Reported, CanReportTwo, CanReportRoots, RootsReported}
-use Rattle.parse.specs.Fills.{FilledAs, CanFill, Filled}
-use Rattle.parse.proofs.RecordLaws.{says-one, tells-one}
-use Rattle.parse.proofs.ReportLaws.{one-record}
+use Rattle.levels.specs.{declared.failure.Failure.{Failure}, declared.failure.Mismatch.{Mismatch}, declared.failure.Unclosed.{Unclosed}}
+use Rattle.parse.specs.{declared.Answer.{Answer}, declared.Answer.the-variants.{Tree, Messages}}
+use Rattle.parse.specs.{Reports.{CanReport, Reported, CanReportTwo, CanReportRoots, RootsReported}, Fills.{FilledAs, CanFill, Filled}}
+use Rattle.parse.proofs.{RecordLaws.{says-one, tells-one}, ReportLaws.{one-record}}
 
 -- ---- the roots
 

@@ -1,29 +1,20 @@
 -- The records of the failures: put together argument by argument, and which messages' records they are, since a slot's words give its token
 -- back.
 use Prim.Native.Nat.{ℕ, _+_, _%_, _≤_}
-use mathlib.Core.Path.{_≡_, refl, sym, ap, _∙_, subst}
-use mathlib.Core.Bool.{Bool, true, false}
-use mathlib.Core.List.{List}
-use mathlib.Core.Option.{Option·getD}
+use mathlib.Core.{Path.{_≡_, refl, sym, ap, _∙_, subst}, Bool.{Bool, true, false}, List.{List}, Option.{Option·getD}}
 use native.Mathlib.Omega.{arith}
-use lib.Dec.{eqb, leb}
-use lib.ListN.{length, List·getD-eq-default}
+use lib.{Dec.{eqb, leb}, ListN.{length, List·getD-eq-default}}
 use borrow.Author.Tests.{eq-eqb, ne-eqb, leb-true, leb-false}
-use Rattle.molang.specs.Operator.{closingOf}
-use Rattle.molang.specs.Forest.{Token}
-use Rattle.molang.specs.Message.{Message, messageRecord, hostMathVariant, hostValue, closer, record8, about}
-use Rattle.molang.specs.Words.{word}
+use Rattle.molang.specs.{Operator.{closingOf}, Forest.{Token}}
+use Rattle.molang.specs.{Message.{Message, messageRecord, hostMathVariant, hostValue, closer, record8, about}, Words.{word}}
 use Rattle.molang.specs.Parse.{recordWords}
-use Rattle.words.specs.Fields.{variantOf}
-use Rattle.words.specs.Records.{withFirst, withLast, wordsOf}
-use Rattle.words.specs.declared.records.Record.{Record}
+use Rattle.words.specs.{Fields.{variantOf}, Records.{withFirst, withLast, wordsOf}, declared.records.Record.{Record}}
 use Rattle.nodes.specs.Store.{slotStart, operatorWordAt, valueWordAt, closeWordAt, TokenAt}
 use Rattle.nodes.proofs.Tokens.{value-word, close-word, token-op, token-variant, token-start, token-end}
 use Rattle.levels.specs.Failures.{Tells, leadingMemberAccessor, emptyParameterList, mathAtEnd, mathWithoutParenthesis, leadingSemicolon}
 use Rattle.levels.specs.Failures.{emptyArrayIndex, binaryAtEnd, negateWithoutOperand, notWithoutOperand, unknownOperation}
-use Rattle.levels.specs.Failures.{unaryWithoutOperand, ternaryWithoutOperands}
+use Rattle.levels.specs.{Failures.{unaryWithoutOperand, ternaryWithoutOperands}, declared.failure.Failure.{Failure}}
 use Rattle.grouping.specs.Grouped.{Says, tells, notEnded, withoutTokens}
-use Rattle.levels.specs.declared.failure.Failure.{Failure}
 use Rattle.parse.specs.Records.{Within, hostAt, closerAt, Named, recordFor}
 
 -- ---- records argument by argument

@@ -1,30 +1,21 @@
 -- What the reports leave in the message buffer: one record in its front, or two, which are those of the messages that what the passes left
 -- stands for.
 use Prim.Native.Nat.{ℕ, _%_, _≤_}
-use mathlib.Core.Path.{_≡_, refl, sym, ap, _∙_}
-use mathlib.Core.List.{List, [], _∷_, _++_, append-assoc, append-nil}
-use mathlib.Core.Option.{none}
+use mathlib.Core.{Path.{_≡_, refl, sym, ap, _∙_}, List.{List, [], _∷_, _++_, append-assoc, append-nil}, Option.{none}}
 use native.Mathlib.Omega.{arith}
 use lib.ListN.{length}
 use Rattle.molang.specs.Forest.{Token}
 use Rattle.molang.specs.Message.{Message, messageRecord, multipleRoots, closingMismatch, sectionNotClosed, noClosingSymbol, closer, record8}
-use Rattle.molang.specs.Message.{about}
-use Rattle.molang.specs.Read.{Answer, messages}
-use Rattle.molang.specs.Parse.{recordWords, inFront, messagesIn}
+use Rattle.molang.specs.{Message.{about}, Read.{Answer, messages}, Parse.{recordWords, inFront, messagesIn}}
 use Rattle.molang.proofs.Bounds.{record-length, records-length}
-use Rattle.words.specs.Records.{unnamed, wordsOf, laidAt}
-use Rattle.words.specs.declared.records.Record.{Record}
+use Rattle.words.specs.{Records.{unnamed, wordsOf, laidAt}, declared.records.Record.{Record}}
 use Rattle.words.proofs.RecordLaws.{laid-front, laid-after}
-use Rattle.nodes.specs.Store.{TokenAt}
-use Rattle.nodes.proofs.Tokens.{token-op, token-start, token-end}
+use Rattle.nodes.{specs.Store.{TokenAt}, proofs.Tokens.{token-op, token-start, token-end}}
 use Rattle.levels.specs.Failures as failures
 use Rattle.grouping.specs.Grouped.{tells, StandsFor, failed, mismatched, unclosed, pointerFailed}
-use Rattle.levels.specs.declared.failure.Failure.{Failure}
-use Rattle.levels.specs.declared.failure.Mismatch.{Mismatch}
-use Rattle.levels.specs.declared.failure.Unclosed.{Unclosed}
 use Rattle.grouping.specs.declared.grouped.Grouped.the-variants.{Failed, Mismatched, Unclosed as Unclosing, PointerFailed}
-use Rattle.parse.specs.Records.{Within, openRecord, mismatchRecord, unclosedRecord, Named, recordFor}
-use Rattle.parse.specs.Reports.{CanReport, Reported}
+use Rattle.levels.specs.{declared.failure.Failure.{Failure}, declared.failure.Mismatch.{Mismatch}, declared.failure.Unclosed.{Unclosed}}
+use Rattle.parse.specs.{Records.{Within, openRecord, mismatchRecord, unclosedRecord, Named, recordFor}, Reports.{CanReport, Reported}}
 use Rattle.parse.proofs.RecordLaws.{slot-within, closer-token, says-slots, says-words, tells-one}
 
 -- ---- words in front

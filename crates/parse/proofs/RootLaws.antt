@@ -1,31 +1,18 @@
 -- The roots: the extent of the first of linked trees over their words, and of the last, which is linked by itself.
 use Prim.Native.Nat.{ℕ, _+_, _*_, _-_, _^_, _≤_, _<_}
-use mathlib.Core.Path.{_≡_, refl, sym, ap, _∙_}
-use mathlib.Core.List.{List, [], _∷_}
-use mathlib.Core.Option.{none}
+use mathlib.Core.{Path.{_≡_, refl, sym, ap, _∙_}, List.{List, [], _∷_}, Option.{none}}
 use native.Mathlib.Omega.{arith}
 use lib.ListN.{length, take, drop}
-use Rattle.molang.specs.Forest.{Token, Forest, nil, node, count, size}
-use Rattle.molang.specs.Message.{messageRecord, record8}
-use Rattle.molang.specs.Read.{lowestStart, highestEnd, lastEnd, rooted}
-use Rattle.molang.specs.Words.{treeWords}
-use Rattle.molang.specs.Legal.{LegalTrees, noTrees, legalTree}
-use Rattle.molang.specs.WriteEntry.{treesOf}
-use Rattle.molang.specs.Parse.{recordWords, messagesIn}
-use Rattle.molang.proofs.Trees.{count-size}
-use Rattle.molang.proofs.Words.{trees-back}
-use Rattle.molang.proofs.Bounds.{treeWords-length}
-use Rattle.words.specs.Records.{unnamed, withFirst, wordsOf, laidAt}
-use Rattle.words.specs.Extents.{firstExtent}
-use Rattle.words.specs.Tokens.{nodeLength}
-use Rattle.words.specs.declared.extent.Extent.{Extent}
-use Rattle.words.proofs.RecordLaws.{laid-front}
-use Rattle.nodes.specs.Store.{slotStart, nextAt, Chain, RepF, AllLegal}
-use Rattle.nodes.specs.Children.{CanFollow, Counted, IsLast, lastFrom}
+use Rattle.molang.specs.{Forest.{Token, Forest, nil, node, count, size}, Message.{messageRecord, record8}}
+use Rattle.molang.specs.{Read.{lowestStart, highestEnd, lastEnd, rooted}, Words.{treeWords}, Legal.{LegalTrees, noTrees, legalTree}}
+use Rattle.molang.specs.{WriteEntry.{treesOf}, Parse.{recordWords, messagesIn}}
+use Rattle.molang.proofs.{Trees.{count-size}, Words.{trees-back}, Bounds.{treeWords-length}}
+use Rattle.words.{specs.Records.{unnamed, withFirst, wordsOf, laidAt}, specs.Extents.{firstExtent}, specs.Tokens.{nodeLength}}
+use Rattle.words.{specs.declared.extent.Extent.{Extent}, proofs.RecordLaws.{laid-front}}
+use Rattle.nodes.specs.{Store.{slotStart, nextAt, Chain, RepF, AllLegal}, Children.{CanFollow, Counted, IsLast, lastFrom}}
 use Rattle.nodes.proofs.Store.{rep-legal, rep-keep, rep-le, rep-count, tree-first}
 use Rattle.buffers.specs.Emit.{Linked, CanEmit, Emitted}
-use Rattle.buffers.proofs.Runs.{seg-part}
-use Rattle.buffers.proofs.Linking.{tree-linked, linked-chain, linked-follow, linked-none}
+use Rattle.buffers.proofs.{Runs.{seg-part}, Linking.{tree-linked, linked-chain, linked-follow, linked-none}}
 use Rattle.parse.specs.Reports.{CanMeasure, Measured, CanReportRoots, RootsReported}
 
 -- ---- the extent of the first tree

@@ -2,22 +2,16 @@
 -- array's children in order, whose slots fall (`RoundAt`). A turn links the next slot to what is turned already: the chain from s on is
 -- left, the one from `head` on is turned.
 use Prim.Native.Nat.{ℕ, _+_, _-_, _≤_, _<_}
-use mathlib.Core.Path.{_≡_, refl, sym, ap, ap₂, _∙_, subst}
-use mathlib.Core.Bool.{Bool, true, false, _||_, or-comm}
-use mathlib.Core.Logic.{_≢_, _⊎_, inl, inr}
-use lib.Dec.{eqb}
-use borrow.Author.Tests.{eq-eqb, ne-eqb}
+use mathlib.Core.{Path.{_≡_, refl, sym, ap, ap₂, _∙_, subst}, Bool.{Bool, true, false, _||_, or-comm}, Logic.{_≢_, _⊎_, inl, inr}}
 use mathlib.Core.List.{List, [], _∷_}
-use native.Mathlib.Omega.{arith}
-use native.Mathlib.Nat.{le-refl}
-use lib.ListN.{length, set}
+use lib.{Dec.{eqb}, ListN.{length, set}}
+use borrow.Author.Tests.{eq-eqb, ne-eqb}
+use native.Mathlib.{Omega.{arith}, Nat.{le-refl}}
 use Rattle.nodes.specs.Store.{wd, classesField, slotStart, slotEnd, firstWord, nextWord, classesWord, firstAt, nextAt, classesAt, Chain}
-use Rattle.nodes.specs.Store.{Inc, Out, OffNext, onto}
-use Rattle.ops.specs.Classes.{bitAt}
-use Rattle.ops.proofs.BitLaws.{bit-zero}
-use Rattle.nodes.specs.Children.{someNotes}
-use Rattle.passes.specs.Arrays.{Apart, CanGather, Gathered, Dec, CanRound, Rounded}
+use Rattle.nodes.specs.{Store.{Inc, Out, OffNext, onto}, Children.{someNotes}}
 use Rattle.nodes.proofs.Runs.{set-same, set-other, set-long, inc-le, inc-lower, out-below, off-word, chain-keep}
+use Rattle.ops.{specs.Classes.{bitAt}, proofs.BitLaws.{bit-zero}}
+use Rattle.passes.specs.Arrays.{Apart, CanGather, Gathered, Dec, CanRound, Rounded}
 
 apart-more : (c lo hi : ℕ) (left back : List ℕ) → c < lo → Inc lo hi left → Apart left back → Apart left (c ∷ back)
 apart-more c lo hi [] back h i a = tt

@@ -1,40 +1,25 @@
 -- An array under work, from what the functions do to the words (specs/Arrays) to what it is of trees: it begins as a bare name, takes the
 -- children of an index, lends its last child to an index that completes it, and is closed with its children in order.
 use Prim.Native.Nat.{ℕ, _+_, _≤_, _<_}
-use mathlib.Core.Path.{_≡_, refl, sym, ap, _∙_, subst}
-use mathlib.Core.Logic.{_≢_, _⊎_, inl, inr, ⊎-elim}
-use mathlib.Core.Bool.{Bool, true, false, true≢false}
+use mathlib.Core.{Path.{_≡_, refl, sym, ap, _∙_, subst}, Logic.{_≢_, _⊎_, inl, inr, ⊎-elim}, Bool.{Bool, true, false, true≢false}}
 use mathlib.Core.List.{List, [], _∷_}
-use native.Mathlib.Omega.{arith}
-use native.Mathlib.Nat.{le-refl}
+use native.Mathlib.{Omega.{arith}, Nat.{le-refl}}
 use borrow.Author.Tests.{eq-eqb, ne-eqb, eqb-true}
-use lib.Dec.{eqb}
-use lib.ListN.{length, set}
+use lib.{Dec.{eqb}, ListN.{length, set}}
 use Rattle.molang.specs.Operator.{leftBracket, arrayVariable, array, isOneOf, any, isMathCall, isQueryOrLoop, between}
-use Rattle.molang.specs.Forest.{Token, Forest, nil, node, renamed, inOrder, turnedOnto}
-use Rattle.molang.specs.Level.{into}
-use Rattle.molang.specs.Conditional.{isToken}
-use Rattle.molang.specs.Calls.{unindexed, indexed, isIndex, startsWithIndex, nextIndex}
-use Rattle.molang.specs.Free.{isNil}
-use Rattle.ops.specs.Classes.{inClass, passClasses, ownClasses}
-use Rattle.ops.proofs.OperatorLaws.{false-at}
+use Rattle.molang.specs.{Forest.{Token, Forest, nil, node, renamed, inOrder, turnedOnto}, Level.{into}, Conditional.{isToken}}
+use Rattle.molang.specs.{Calls.{unindexed, indexed, isIndex, startsWithIndex, nextIndex}, Free.{isNil}}
+use Rattle.ops.{specs.Classes.{inClass, passClasses, ownClasses}, proofs.OperatorLaws.{false-at}}
 use Rattle.words.specs.Fields.{withOperator}
 use Rattle.nodes.specs.Store.{wd, slotWords, firstField, classesField, slotStart, slotEnd, firstWord, nextWord, operatorWordAt, firstAt}
 use Rattle.nodes.specs.Store.{nextAt, TokenAt, reserve, Chain, Inc, Out, OutFrom, onto, RepF, ends, more, RepT, Owned, RepB, begins, put}
-use Rattle.nodes.specs.Store.{Free}
-use Rattle.nodes.specs.Slots.{opAt, isLeafAt, isTokenAt}
-use Rattle.nodes.specs.declared.frames.List.{List as Items}
+use Rattle.nodes.specs.{Store.{Free}, Slots.{opAt, isLeafAt, isTokenAt}, declared.frames.List.{List as Items}}
 use Rattle.nodes.proofs.Runs.{set-same, set-other, set-long, inc-le, out-below, out-above, off-above, off-word, off-out}
 use Rattle.nodes.proofs.Tokens.{token-keep, token-op, token-renamed}
 use Rattle.nodes.proofs.Store.{reserve-other, roots-inc, roots-above, rep-lower, rep-avoid, rep-keep, tree-below, tree-out, back-le}
-use Rattle.nodes.proofs.Store.{back-keep, back-onto, onto-back}
-use Rattle.nodes.proofs.Classes.{roots-note}
-use Rattle.nodes.proofs.Keeping.{free-inner, roots-off}
+use Rattle.nodes.proofs.{Store.{back-keep, back-onto, onto-back}, Classes.{roots-note}, Keeping.{free-inner, roots-off}}
 use Rattle.nodes.proofs.Trees.{one-out, leaf-first, owned-tree, owned-leaf, token-test}
-use Rattle.levels.specs.Passes.{walkOf, movedTo}
-use Rattle.levels.specs.Sides.{OpenArray}
-use Rattle.levels.specs.declared.turns.Pass.the-variants.{Arrays}
-use Rattle.levels.specs.declared.turns.Turn.{Turn}
+use Rattle.levels.specs.{Passes.{walkOf, movedTo}, Sides.{OpenArray}, declared.turns.Pass.the-variants.{Arrays}, declared.turns.Turn.{Turn}}
 use Rattle.levels.specs.declared.turns.Turn.the-variants.{Enter}
 use Rattle.passes.specs.Arrays.{Apart, CanGather, Gathered, Dec, CanRound, Rounded, CanLend, Lent, nothing, name, Indexed, opens}
 use Rattle.passes.proofs.ArrayChain.{dec-out}

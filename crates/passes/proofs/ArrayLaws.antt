@@ -1,16 +1,10 @@
 -- The array pass as laws: what it makes of a name, of its next index and of a bare name at the end of an array's contents.
-use mathlib.Core.Path.{_≡_, refl, sym, ap, _∙_}
-use mathlib.Core.Bool.{Bool, true, false, true≢false}
-use mathlib.Core.List.{List, [], _∷_}
-use Rattle.molang.specs.Operator.{array}
-use Rattle.molang.specs.Forest.{Token, Forest, nil, node, renamed}
-use Rattle.molang.specs.Message.{Message, emptyArrayIndex, Result, ok, fail}
-use Rattle.molang.specs.Level.{on, into, stop, walk}
+use mathlib.Core.{Path.{_≡_, refl, sym, ap, _∙_}, Bool.{Bool, true, false, true≢false}, List.{List, [], _∷_}}
+use Rattle.molang.{specs.Operator.{array}, specs.Forest.{Token, Forest, nil, node, renamed}}
+use Rattle.molang.{specs.Message.{Message, emptyArrayIndex, Result, ok, fail}, specs.Level.{on, into, stop, walk}}
 use Rattle.molang.specs.Calls.{Indexing, unindexed, named, indexed, flushed, isIndex, startsWithIndex, emptyIndex, nextIndex, index}
-use Rattle.molang.specs.Calls.{arrayStep, arrayFinish, arrayLevel}
-use Rattle.molang.specs.Free.{isNil, isArrayName}
-use Rattle.molang.specs.Work.{arrays, work, inReading, takes, andThen}
-use Rattle.molang.proofs.Walks.{onward, back, walk-onward}
+use Rattle.molang.{specs.Calls.{arrayStep, arrayFinish, arrayLevel}, specs.Free.{isNil, isArrayName}}
+use Rattle.molang.{specs.Work.{arrays, work, inReading, takes, andThen}, proofs.Walks.{onward, back, walk-onward}}
 
 -- ---- one step of the walk
 

@@ -1,38 +1,24 @@
 -- The array pass's turns: a name without an index, a name or an array with its next index, an array that takes no further one; and an item
 -- that is taken back, by the list or by the array whose index it is.
 use Prim.Native.Nat.{ℕ, _+_, _^_, _≤_, _<_}
-use mathlib.Core.Path.{_≡_, refl, sym, ap, _∙_, subst}
-use mathlib.Core.Logic.{_≢_, _⊎_, inl, inr, ⊎-elim}
-use mathlib.Core.Bool.{true, false, true≢false}
-use mathlib.Core.List.{List}
-use native.Mathlib.Omega.{arith}
-use native.Mathlib.Nat.{le-refl}
+use mathlib.Core.{Path.{_≡_, refl, sym, ap, _∙_, subst}, Logic.{_≢_, _⊎_, inl, inr, ⊎-elim}, Bool.{true, false, true≢false}, List.{List}}
+use native.Mathlib.{Omega.{arith}, Nat.{le-refl}}
 use borrow.Author.Tests.{eq-eqb, ne-eqb, eqb-true}
 use lib.ListN.{length, set}
-use Rattle.molang.specs.Operator.{leftBracket, arrayVariable, array}
-use Rattle.molang.specs.Forest.{Token, Forest, nil, node, renamed, inOrder, count, size}
-use Rattle.molang.specs.Message.{Result}
-use Rattle.molang.specs.Level.{through}
+use Rattle.molang.specs.{Operator.{leftBracket, arrayVariable, array}, Forest.{Token, Forest, nil, node, renamed, inOrder, count, size}}
+use Rattle.molang.specs.{Message.{Result}, Level.{through}}
 use Rattle.molang.specs.Calls.{Indexing, unindexed, named, indexed, flushed, isIndex, startsWithIndex, arrayStep, arrayResume, arrayLevel}
-use Rattle.molang.specs.Free.{isNil, isArrayName}
-use Rattle.molang.specs.Work.{Kind, arrays, State, work, begins, inReading, takes, andThen}
+use Rattle.molang.specs.{Free.{isNil, isArrayName}, Work.{Kind, arrays, State, work, begins, inReading, takes, andThen}}
 use Rattle.molang.proofs.Arrays.{array-inert}
 use Rattle.words.specs.Fields.{withOperator}
-use Rattle.nodes.specs.Store.{wd, slotWords, firstField, slotStart, operatorWordAt, RepT}
-use Rattle.nodes.specs.declared.frames.List.{List as Items}
-use Rattle.nodes.proofs.Runs.{set-other, set-long}
-use Rattle.nodes.proofs.Store.{tree-below, tree-out, tree-keep, tree-widen, back-le}
-use Rattle.nodes.proofs.Trees.{leaf-test}
+use Rattle.nodes.specs.{Store.{wd, slotWords, firstField, slotStart, operatorWordAt, RepT}, declared.frames.List.{List as Items}}
+use Rattle.nodes.proofs.{Runs.{set-other, set-long}, Store.{tree-below, tree-out, tree-keep, tree-widen, back-le}, Trees.{leaf-test}}
 use Rattle.levels.specs.Passes as passes
-use Rattle.levels.specs.Passes.{walkOf, movedTo, operators, Runs, waits}
-use Rattle.levels.specs.Items.{BackArray, Ahead, CanPeek, nextIf}
+use Rattle.levels.specs.{Passes.{walkOf, movedTo, operators, Runs, waits}, Items.{BackArray, Ahead, CanPeek, nextIf}}
 use Rattle.levels.specs.Sides.{OpenArray, ArraySide, ArrayAgrees, Holds, Waits}
-use Rattle.levels.specs.Turns.{Within, CanTurn, Turned, TurnTo, goes, enters, fails, afresh, lent, CanResume, Resumed}
-use Rattle.levels.specs.Failures.{Tells}
-use Rattle.levels.specs.declared.failure.Failure.the-variants.{EmptyArrayIndex}
-use Rattle.levels.specs.declared.turns.Pass.the-variants.{Arrays}
-use Rattle.levels.specs.declared.turns.Turn.{Turn}
-use Rattle.levels.specs.declared.turns.Turn.the-variants.{On, Enter, Fail}
+use Rattle.levels.specs.{Turns.{Within, CanTurn, Turned, TurnTo, goes, enters, fails, afresh, lent, CanResume, Resumed}, Failures.{Tells}}
+use Rattle.levels.specs.{declared.failure.Failure.the-variants.{EmptyArrayIndex}, declared.turns.Pass.the-variants.{Arrays}}
+use Rattle.levels.specs.{declared.turns.Turn.{Turn}, declared.turns.Turn.the-variants.{On, Enter, Fail}}
 use Rattle.levels.proofs.Reading.{back-array-keep, ahead-keep, ahead-le, can-peek, NextTo, ended, differs, found, same-within}
 use Rattle.levels.proofs.PassClasses.{runs-covers}
 use Rattle.passes.specs.TokenTurns.{AtItem, AtToken, unasked, Saying}
@@ -42,8 +28,7 @@ use Rattle.passes.proofs.ArrayLaws.{lent-indexed, flush}
 use Rattle.passes.proofs.ArrayGrowing.{name-open, can-gather, gathered-open, gathered-slot, gathered-word, gathered-kept, can-round}
 use Rattle.passes.proofs.ArrayGrowing.{rounded-tree, rounded-slot, rounded-word, rounded-kept, can-lend, LentTo, none, some, lent-to}
 use Rattle.passes.proofs.GatherLaws.{walk-node, walk-passed, LeftLevel, item-bounds, item-holds, kept-within, within-then, Stands}
-use Rattle.passes.proofs.GatherLaws.{stands, Standing}
-use Rattle.passes.proofs.CallLaws.{next-of}
+use Rattle.passes.proofs.{GatherLaws.{stands, Standing}, CallLaws.{next-of}}
 
 -- ---- the level, where no array waits
 

@@ -1,42 +1,27 @@
 -- The binary levels: an operator takes the last done tree and the next one as its children.
 use Prim.Native.Nat.{ℕ, _+_, _-_, _^_, _≤_, _<_}
-use mathlib.Core.Path.{_≡_, refl, sym, ap, _∙_, subst}
-use mathlib.Core.Logic.{_≢_, inl, inr, ⊎-elim}
-use mathlib.Core.Bool.{Bool, true, false, not, true≢false}
-use mathlib.Core.List.{List, [], _∷_}
-use mathlib.Core.Option.{Option, none, some}
-use native.Mathlib.Omega.{arith}
-use native.Mathlib.Nat.{le-refl}
+use mathlib.Core.{Path.{_≡_, refl, sym, ap, _∙_, subst}, Logic.{_≢_, inl, inr, ⊎-elim}, Bool.{Bool, true, false, not, true≢false}}
+use mathlib.Core.{List.{List, [], _∷_}, Option.{Option, none, some}}
+use native.Mathlib.{Omega.{arith}, Nat.{le-refl}}
 use lib.ListN.{length, set}
-use Rattle.molang.specs.Operator.{isOneOf}
-use Rattle.molang.specs.Forest.{Token, Forest, nil, node, count, size}
-use Rattle.molang.specs.Message.{binaryAtEnd, Result, ok, fail}
+use Rattle.molang.specs.{Operator.{isOneOf}, Forest.{Token, Forest, nil, node, count, size}, Message.{binaryAtEnd, Result, ok, fail}}
 use Rattle.molang.specs.Level.{on, walk, through, Gathered, gathered, waiting, nothing}
 use Rattle.molang.specs.Binary.{firstLeaf, unfolded, joined, operatorAfter, binaryStep, binaryResume, binaryFinish, binaryLevel}
-use Rattle.molang.specs.Free.{free, clear, isNil}
-use Rattle.molang.specs.Work.{Kind, binary, State, work, begins, inReading, takes, andThen}
-use Rattle.molang.proofs.Trees.{some-none, free-leaf, leaf-clear, clear-leaf, clear-rest, clear-tree}
-use Rattle.molang.proofs.Binary.{binary-inert, binary-free}
+use Rattle.molang.specs.{Free.{free, clear, isNil}, Work.{Kind, binary, State, work, begins, inReading, takes, andThen}}
+use Rattle.molang.proofs.{Trees.{some-none, free-leaf, leaf-clear, clear-leaf, clear-rest, clear-tree}, Binary.{binary-inert, binary-free}}
 use Rattle.molang.proofs.Unfolded.{free-firstLeaf}
-use Rattle.ops.specs.Classes.{shares}
-use Rattle.ops.specs.declared.classes.TokenClasses.{TokenClasses}
+use Rattle.ops.specs.{Classes.{shares}, declared.classes.TokenClasses.{TokenClasses}}
 use Rattle.nodes.specs.Store.{wd, slotStart, slotEnd, classesAt, SegB, RepT, RepB, begins as starts, put}
-use Rattle.nodes.specs.declared.frames.List.{List as Items}
-use Rattle.nodes.proofs.Runs.{set-same, set-other, set-long}
-use Rattle.nodes.proofs.Store.{tree-below, tree-out, back-le}
-use Rattle.nodes.proofs.Trees.{tree-under, attach-two-trees, attach-two-kept}
-use Rattle.levels.specs.Passes.{walkOf, movedTo, Covers, Runs, level, waits}
-use Rattle.levels.specs.Items.{BackArray, Ahead, Passed, here, over, innerAt}
+use Rattle.nodes.{specs.declared.frames.List.{List as Items}, proofs.Runs.{set-same, set-other, set-long}}
+use Rattle.nodes.{proofs.Store.{tree-below, tree-out, back-le}, proofs.Trees.{tree-under, attach-two-trees, attach-two-kept}}
+use Rattle.levels.specs.{Passes.{walkOf, movedTo, Covers, Runs, level, waits}, Items.{BackArray, Ahead, Passed, here, over, innerAt}}
 use Rattle.levels.specs.Sides.{LevelSide, all, operator, Holds, Waits}
-use Rattle.levels.specs.Turns.{CanResume, Resumed, Within, afresh, TurnTo, goes, enters, fails}
-use Rattle.levels.specs.Failures
-use Rattle.levels.specs.Failures.{Tells}
-use Rattle.levels.specs.declared.failure.Failure.the-variants.{BinaryAtEnd}
-use Rattle.levels.specs.declared.turns.Pass.the-variants.{Binary}
-use Rattle.levels.specs.declared.turns.Turn.{Turn}
-use Rattle.levels.specs.declared.turns.Turn.the-variants.{On, Enter, Fail}
+use Rattle.levels.specs.{Turns.{CanResume, Resumed, Within, afresh, TurnTo, goes, enters, fails}, Failures.{Tells}}
+use Rattle.levels.specs.{declared.failure.Failure.the-variants.{BinaryAtEnd}, declared.turns.Pass.the-variants.{Binary}}
+use Rattle.levels.specs.{declared.turns.Turn.{Turn}, declared.turns.Turn.the-variants.{On, Enter, Fail}}
 use Rattle.levels.proofs.Reading.{back-array-keep, ahead-keep, ahead-le, ahead-end, array-put, AheadTo, item, ahead-item, inner-tree}
 use Rattle.levels.proofs.Reading.{tree-free, free-tree-below, same-within}
+use Rattle.levels.specs.Failures
 use Rattle.passes.specs.TokenTurns.{AtItem, AtToken, LevelTurned, Saying}
 use Rattle.passes.specs.Binary.{leftOf, CanFold, Folded, CanSearch, LeafFound, CanOperate, Operated, opens, folds}
 use Rattle.passes.proofs.GatherLaws.{next-room, walk-node, walk-passed, LeftLevel, item-bounds, item-holds, kept-within, Stands}

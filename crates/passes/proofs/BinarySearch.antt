@@ -1,29 +1,17 @@
 -- The loop of `first_leaf`. It goes down to children or on to the next sibling. Each turn leaves a slot of the interval behind for good, as
 -- an ancestor or to the left, and the loop has at least as many turns as there are slots left (`vacant`).
 use Prim.Native.Nat.{ℕ, zero, suc, _+_, _-_, _≤_, _<_}
-use mathlib.Core.Path.{_≡_, refl, sym, ap, _∙_, subst}
-use mathlib.Core.Logic.{_≢_}
-use mathlib.Core.Bool.{Bool, true, false, _&&_, true≢false}
-use mathlib.Core.List.{List, [], _∷_}
+use mathlib.Core.{Path.{_≡_, refl, sym, ap, _∙_, subst}, Logic.{_≢_}, Bool.{Bool, true, false, _&&_, true≢false}, List.{List, [], _∷_}}
 use mathlib.Core.Option.{Option, none, some}
-use native.Mathlib.Omega.{arith}
-use native.Mathlib.Decide.{ℕ-discrete}
-use lib.Dec.{eqb}
+use native.Mathlib.{Omega.{arith}, Decide.{ℕ-discrete}}
+use lib.{Dec.{eqb}, ListN.{length}}
 use borrow.Author.Tests.{eq-eqb, ne-eqb}
-use lib.ListN.{length}
-use Rattle.molang.specs.Operator.{isOneOf}
-use Rattle.molang.specs.Forest.{Token, Forest, nil, node}
-use Rattle.molang.specs.Binary.{firstLeaf}
-use Rattle.molang.specs.Free.{free, isNil}
-use Rattle.molang.proofs.Trees.{free-leaf, free-tree}
-use Rattle.molang.proofs.Unfolded.{free-firstLeaf, firstLeaf-free}
+use Rattle.molang.specs.{Operator.{isOneOf}, Forest.{Token, Forest, nil, node}, Binary.{firstLeaf}, Free.{free, isNil}}
+use Rattle.molang.proofs.{Trees.{free-leaf, free-tree}, Unfolded.{free-firstLeaf, firstLeaf-free}}
 use Rattle.ops.specs.Classes.{shares, meets}
 use Rattle.nodes.specs.Store.{slotStart, slotEnd, firstAt, nextAt, classesAt, TokenAt, Chain, Out, RepF, ends, more, RepT}
-use Rattle.nodes.proofs.Store.{reserve-pos, tree-below, tree-out, rep-le}
-use Rattle.nodes.proofs.Classes.{free-split}
-use Rattle.nodes.proofs.Trees.{leaf-first}
-use Rattle.levels.specs.Passes.{Covers}
-use Rattle.levels.proofs.Reading.{tree-free, tree-unfree, unfree-leaf, unfree-tree}
+use Rattle.nodes.proofs.{Store.{reserve-pos, tree-below, tree-out, rep-le}, Classes.{free-split}, Trees.{leaf-first}}
+use Rattle.levels.{specs.Passes.{Covers}, proofs.Reading.{tree-free, tree-unfree, unfree-leaf, unfree-tree}}
 use Rattle.passes.specs.Binary.{CanSearch, IsFirst}
 
 -- ---- the slots of an interval that are none of X

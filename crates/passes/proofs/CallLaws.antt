@@ -1,45 +1,28 @@
 -- Calls and math calls: a call takes the section right after it, and is entered where tokens of the pass are below.
 use Prim.Native.Nat.{ℕ, _+_, _^_, _≤_, _<_}
-use mathlib.Core.Path.{_≡_, refl, sym, ap, _∙_, subst}
-use mathlib.Core.Logic.{_≢_}
-use mathlib.Core.Bool.{Bool, true, false, true≢false}
-use mathlib.Core.List.{List, [], _∷_}
-use native.Mathlib.Omega.{arith}
-use native.Mathlib.Nat.{le-refl}
-use lib.ListN.{length, set}
-use lib.Dec.{eqb}
+use mathlib.Core.{Path.{_≡_, refl, sym, ap, _∙_, subst}, Logic.{_≢_}, Bool.{Bool, true, false, true≢false}, List.{List, [], _∷_}}
+use native.Mathlib.{Omega.{arith}, Nat.{le-refl}}
+use lib.{ListN.{length, set}, Dec.{eqb}}
 use borrow.Author.Tests.{eq-eqb, ne-eqb, eqb-false}
 use Rattle.molang.specs.Operator.{leftParenthesis, isBracket, isOneOf, any as anyOf, isMathCall, isQueryOrLoop, between}
 use Rattle.molang.specs.Forest.{Token, Forest, nil, node, turnedOnto, inOrder, count, size}
 use Rattle.molang.specs.Message.{mathAtEnd, mathWithoutParenthesis, emptyParameterList, Result, ok, fail}
 use Rattle.molang.specs.Level.{on, into, walk, through, Gathered, gathered, waiting, nothing}
 use Rattle.molang.specs.Calls.{CallKind, queryOrLoop, math, calls as isCall, callLeaf, callStep, callResume, callFinish, callLevel}
-use Rattle.molang.specs.Free.{free, isNil}
-use Rattle.molang.specs.Work.{Kind, calls, State, work, begins, inReading, takes, andThen}
-use Rattle.molang.proofs.Calls.{call-inert, call-free}
-use Rattle.molang.proofs.Walks.{onward, walk-onward}
+use Rattle.molang.specs.{Free.{free, isNil}, Work.{Kind, calls, State, work, begins, inReading, takes, andThen}}
+use Rattle.molang.proofs.{Calls.{call-inert, call-free}, Walks.{onward, walk-onward}}
 use Rattle.ops.specs.Classes.{shares}
-use Rattle.nodes.specs.Store.{wd, slotStart, slotEnd, classesAt, RepT}
-use Rattle.nodes.specs.Children.{Attached}
-use Rattle.nodes.specs.Slots.{opAt, isLeafAt}
-use Rattle.nodes.specs.declared.frames.List.{List as Items}
-use Rattle.nodes.proofs.Trees.{leaf-test}
-use Rattle.levels.specs.Passes.{walkOf, movedTo, classesOf, operators, Runs, call, mathCall, waits}
-use Rattle.levels.specs.Items.{Ahead, CanPeek, nextIf}
-use Rattle.levels.specs.Sides.{GatherSide, all, Holds, AtTurn, InFrame}
-use Rattle.levels.specs.Turns.{Within, lentOf, afresh, TurnTo, goes, enters, fails}
-use Rattle.levels.specs.Failures
-use Rattle.levels.specs.Failures.{Tells}
-use Rattle.levels.specs.declared.failure.Failure.the-variants.{EmptyParameterList, MathAtEnd, MathWithoutParenthesis}
-use Rattle.levels.specs.declared.turns.Pass.{Pass}
-use Rattle.levels.specs.declared.turns.Pass.the-variants.{Calls, MathCalls}
-use Rattle.levels.specs.declared.turns.Turn.{Turn}
+use Rattle.nodes.{specs.Store.{wd, slotStart, slotEnd, classesAt, RepT}, specs.Children.{Attached}, specs.Slots.{opAt, isLeafAt}}
+use Rattle.nodes.{specs.declared.frames.List.{List as Items}, proofs.Trees.{leaf-test}}
+use Rattle.levels.specs.{Passes.{walkOf, movedTo, classesOf, operators, Runs, call, mathCall, waits}, Items.{Ahead, CanPeek, nextIf}}
+use Rattle.levels.specs.{Sides.{GatherSide, all, Holds, AtTurn, InFrame}, Turns.{Within, lentOf, afresh, TurnTo, goes, enters, fails}}
+use Rattle.levels.specs.{Failures.{Tells}, declared.failure.Failure.the-variants.{EmptyParameterList, MathAtEnd, MathWithoutParenthesis}}
+use Rattle.levels.specs.{declared.turns.Pass.{Pass}, declared.turns.Pass.the-variants.{Calls, MathCalls}, declared.turns.Turn.{Turn}}
 use Rattle.levels.specs.declared.turns.Turn.the-variants.{On, Enter, Fail}
 use Rattle.levels.proofs.Reading.{can-peek, unfree-leaf, tree-free, tree-unfree, unfree-tree, free-tree-below, NextTo, ended, differs}
-use Rattle.levels.proofs.Reading.{found, next-to, same-within}
-use Rattle.levels.proofs.PassClasses.{runs-covers}
-use Rattle.passes.specs.TokenTurns.{AtItem, AtToken, unasked, CallTurned, Saying}
-use Rattle.passes.specs.Calls.{CanCall, Called, opens, stays}
+use Rattle.levels.proofs.{Reading.{found, next-to, same-within}, PassClasses.{runs-covers}}
+use Rattle.levels.specs.Failures
+use Rattle.passes.specs.{TokenTurns.{AtItem, AtToken, unasked, CallTurned, Saying}, Calls.{CanCall, Called, opens, stays}}
 use Rattle.passes.proofs.GatherLaws.{token-room, next-room, walk-node, walk-passed, LeftLevel, item-holds, item-waits, kept-within}
 use Rattle.passes.proofs.GatherLaws.{Attaching, attached, item-attached, within-then, Stands, stands, Standing}
 

@@ -1,20 +1,12 @@
 -- The loop of `dangling`: the first `?` or `:` that nothing is under.
 use Prim.Native.Nat.{ℕ, _+_, _^_, _≤_, _<_}
-use mathlib.Core.Path.{_≡_, refl, sym, ap, _∙_}
-use mathlib.Core.Bool.{true, false, or-true}
-use mathlib.Core.List.{List}
-use mathlib.Core.Option.{some}
+use mathlib.Core.{Path.{_≡_, refl, sym, ap, _∙_}, Bool.{true, false, or-true}, List.{List}, Option.{some}}
 use native.Mathlib.Omega.{arith}
 use lib.ListN.{length}
 use Rattle.molang.specs.Operator
-use Rattle.molang.specs.Forest.{Token, Forest, node}
-use Rattle.molang.specs.Conditional.{isToken, dangling}
-use Rattle.nodes.specs.Store.{wd, slotEnd}
-use Rattle.nodes.specs.Slots.{isTokenAt}
-use Rattle.nodes.proofs.Store.{tree-below}
-use Rattle.nodes.proofs.Trees.{token-test}
-use Rattle.levels.specs.Items.{Ahead}
-use Rattle.levels.proofs.Reading.{AheadTo, item, ahead-item, ahead-end, ahead-le}
+use Rattle.molang.specs.{Forest.{Token, Forest, node}, Conditional.{isToken, dangling}}
+use Rattle.nodes.{specs.Store.{wd, slotEnd}, specs.Slots.{isTokenAt}, proofs.Store.{tree-below}, proofs.Trees.{token-test}}
+use Rattle.levels.{specs.Items.{Ahead}, proofs.Reading.{AheadTo, item, ahead-item, ahead-end, ahead-le}}
 use Rattle.passes.specs.Conditional.{CanDangle, DanglesAt, nowhere, here, Dangles}
 
 module _ (k : Token) (cs rest : Forest) where

@@ -1,29 +1,15 @@
 -- The end of a list of the conditional pass: nothing to fold; or what the fold leaves, in which a `?` or a `:` may be without operands.
 use Prim.Native.Nat.{ℕ, _+_, _-_}
-use mathlib.Core.Path.{_≡_, refl, sym, _∙_, subst}
-use mathlib.Core.Logic.{_≢_}
-use mathlib.Core.List.{List, _∷_, []}
-use mathlib.Core.Option.{Option, some}
-use native.Mathlib.Omega.{arith}
-use native.Mathlib.Nat.{le-refl}
-use Rattle.molang.specs.Forest.{Token, Forest, nil, count}
-use Rattle.molang.specs.Message.{fail, ternaryWithoutOperands}
-use Rattle.molang.specs.Level.{walk}
-use Rattle.molang.specs.Conditional.{foldedFrom, dangling, undangled, conditionalFinish, conditionalLevel}
-use Rattle.molang.specs.Free.{isConditional}
-use Rattle.molang.specs.Work.{Kind, State, conditional, work}
-use Rattle.molang.proofs.Conditional.{undangled-calm}
-use Rattle.nodes.specs.Store.{InArray, Kept}
-use Rattle.nodes.specs.declared.frames.List.{List as Items}
-use Rattle.nodes.proofs.Store.{back-raise, rep-count}
-use Rattle.nodes.proofs.Trees.{gathered-array}
-use Rattle.levels.specs.Passes.{walkOf}
-use Rattle.levels.specs.Items.{BackArray, Ahead}
-use Rattle.levels.specs.Sides.{tokensIn}
-use Rattle.levels.specs.Failures.{Tells}
+use mathlib.Core.{Path.{_≡_, refl, sym, _∙_, subst}, Logic.{_≢_}, List.{List, _∷_, []}, Option.{Option, some}}
+use native.Mathlib.{Omega.{arith}, Nat.{le-refl}}
+use Rattle.molang.{specs.Forest.{Token, Forest, nil, count}, specs.Message.{fail, ternaryWithoutOperands}, specs.Level.{walk}}
+use Rattle.molang.{specs.Conditional.{foldedFrom, dangling, undangled, conditionalFinish, conditionalLevel}, specs.Free.{isConditional}}
+use Rattle.molang.{specs.Work.{Kind, State, conditional, work}, proofs.Conditional.{undangled-calm}}
+use Rattle.nodes.specs.{Store.{InArray, Kept}, declared.frames.List.{List as Items}}
+use Rattle.nodes.proofs.{Store.{back-raise, rep-count}, Trees.{gathered-array}}
+use Rattle.levels.specs.{Passes.{walkOf}, Items.{BackArray, Ahead}, Sides.{tokensIn}, Failures.{Tells}}
 use Rattle.levels.specs.Turns.{Within, CanFinish, FinishTo, gives, fails, Ends}
-use Rattle.levels.specs.declared.failure.Failure.the-variants.{TernaryWithoutOperands}
-use Rattle.levels.specs.declared.turns.Pass.the-variants.{Conditional}
+use Rattle.levels.specs.{declared.failure.Failure.the-variants.{TernaryWithoutOperands}, declared.turns.Pass.the-variants.{Conditional}}
 use Rattle.levels.specs.declared.turns.Finished.the-variants.{At, Fail as Failed}
 use Rattle.levels.proofs.Reading.{ahead-le, same-within}
 use Rattle.passes.specs.Conditional.{CanDangle, DanglesAt, nowhere, here, Dangles, CanFold, FoldedAll}

@@ -1,26 +1,18 @@
 -- The conditional's fold: one step of the scan as an equation, and what a fold of two trees under an operator between them does to the
 -- words.
 use Prim.Native.Nat.{ℕ, _+_, _-_, _≤_, _<_}
-use mathlib.Core.Path.{_≡_, refl, _∙_, subst}
-use mathlib.Core.Logic.{_≢_, inl, inr}
-use mathlib.Core.Bool.{true, false}
-use mathlib.Core.List.{List}
-use native.Mathlib.Omega.{arith}
-use native.Mathlib.Nat.{le-refl}
+use mathlib.Core.{Path.{_≡_, refl, _∙_, subst}, Logic.{_≢_, inl, inr}, Bool.{true, false}, List.{List}}
+use native.Mathlib.{Omega.{arith}, Nat.{le-refl}}
 use borrow.Author.Tests.{eqb-true, ne-eqb}
 use lib.ListN.{length, set}
 use Rattle.molang.specs.Operator
-use Rattle.molang.specs.Forest.{Token, Forest, nil, node}
-use Rattle.molang.specs.Conditional.{isToken, startsWith, under, pairElse, scan}
+use Rattle.molang.specs.{Forest.{Token, Forest, nil, node}, Conditional.{isToken, startsWith, under, pairElse, scan}}
 use Rattle.molang.proofs.Conditional.{scanned, scan-once}
 use Rattle.nodes.specs.Store.{wd, slotWords, slotStart, firstWord, nextWord, classesWord, TokenAt, Out, RepT, Free}
-use Rattle.nodes.proofs.Runs.{set-same, set-other, set-long}
-use Rattle.nodes.proofs.Store.{tree-below, tree-out, tree-keep, tree-widen}
+use Rattle.nodes.proofs.{Runs.{set-same, set-other, set-long}, Store.{tree-below, tree-out, tree-keep, tree-widen}}
 use Rattle.nodes.proofs.Trees.{tree-under, attach-two-trees, attach-two-kept}
-use Rattle.levels.specs.Items.{BackArray, Ahead}
-use Rattle.levels.proofs.Reading.{AheadTo, item, ahead-item, ahead-keep, ahead-le, back-array-keep}
-use Rattle.passes.specs.Unary.{RightList}
-use Rattle.passes.specs.Conditional.{scanAt, Grouped, FoldedLast}
+use Rattle.levels.{specs.Items.{BackArray, Ahead}, proofs.Reading.{AheadTo, item, ahead-item, ahead-keep, ahead-le, back-array-keep}}
+use Rattle.passes.specs.{Unary.{RightList}, Conditional.{scanAt, Grouped, FoldedLast}}
 use Rattle.passes.proofs.UnaryRight.{LastUnread, last, unread-last, ahead-cons}
 
 -- ---- one step of the scan

@@ -1,34 +1,20 @@
 -- The conditional pass before its fold: an item goes to the gathered ones as it is, or is entered; a list without a `?` and a `:` is left
 -- as it is. The loop of `step`.
 use Prim.Native.Nat.{ℕ, suc, _+_, _-_, _^_, _≤_, _<_}
-use mathlib.Core.Path.{_≡_, refl, sym, ap, _∙_, subst}
-use mathlib.Core.Bool.{Bool, true, false, true≢false}
-use mathlib.Core.List.{List}
-use native.Mathlib.Omega.{arith}
-use native.Mathlib.Nat.{le-refl}
+use mathlib.Core.{Path.{_≡_, refl, sym, ap, _∙_, subst}, Bool.{Bool, true, false, true≢false}, List.{List}}
+use native.Mathlib.{Omega.{arith}, Nat.{le-refl}}
 use lib.ListN.{length}
-use Rattle.molang.specs.Forest.{Token, Forest, nil, node, inOrder, count, size}
-use Rattle.molang.specs.Message.{ok}
-use Rattle.molang.specs.Level.{walk, through}
-use Rattle.molang.specs.Conditional.{conditionalStep, conditionalLevel}
-use Rattle.molang.specs.Free.{free, clear, isNil, isConditional}
+use Rattle.molang.specs.{Forest.{Token, Forest, nil, node, inOrder, count, size}, Message.{ok}, Level.{walk, through}}
+use Rattle.molang.specs.{Conditional.{conditionalStep, conditionalLevel}, Free.{free, clear, isNil, isConditional}}
 use Rattle.molang.specs.Work.{Kind, State, conditional, work, begins, inReading, takes}
-use Rattle.molang.proofs.Trees.{free-leaf, decided, leaf-clear}
-use Rattle.molang.proofs.Conditional.{conditional-inert}
+use Rattle.molang.proofs.{Trees.{free-leaf, decided, leaf-clear}, Conditional.{conditional-inert}}
 use Rattle.ops.specs.Classes.{shares}
-use Rattle.nodes.specs.Store.{wd, slotStart, slotEnd, classesAt, RepT}
-use Rattle.nodes.specs.Slots.{isLeafAt}
-use Rattle.nodes.specs.declared.frames.List.{List as Items}
-use Rattle.nodes.proofs.Store.{tree-below, back-le, back-count}
-use Rattle.nodes.proofs.Trees.{leaf-test}
-use Rattle.levels.specs.Passes.{walkOf, movedTo, operators, Covers, Runs, conditionalPass, waits}
-use Rattle.levels.specs.Items.{BackArray, Ahead}
-use Rattle.levels.specs.Sides.{tokensIn, ConditionalSide, all, Sides}
-use Rattle.levels.specs.Turns.{CanTurn, afresh, TurnTo, enters, ends, Turned}
-use Rattle.levels.specs.declared.turns.Pass.the-variants.{Conditional}
-use Rattle.levels.specs.declared.turns.Turn.{Turn}
-use Rattle.levels.specs.declared.turns.Turn.the-variants.{Enter, Over}
-use Rattle.levels.proofs.PassClasses.{runs-covers}
+use Rattle.nodes.specs.{Store.{wd, slotStart, slotEnd, classesAt, RepT}, Slots.{isLeafAt}, declared.frames.List.{List as Items}}
+use Rattle.nodes.proofs.{Store.{tree-below, back-le, back-count}, Trees.{leaf-test}}
+use Rattle.levels.{specs.Passes.{walkOf, movedTo, operators, Covers, Runs, conditionalPass, waits}, specs.Items.{BackArray, Ahead}}
+use Rattle.levels.{specs.Sides.{tokensIn, ConditionalSide, all, Sides}, specs.Turns.{CanTurn, afresh, TurnTo, enters, ends, Turned}}
+use Rattle.levels.{specs.declared.turns.Pass.the-variants.{Conditional}, specs.declared.turns.Turn.{Turn}}
+use Rattle.levels.{specs.declared.turns.Turn.the-variants.{Enter, Over}, proofs.PassClasses.{runs-covers}}
 use Rattle.levels.proofs.Reading.{AheadTo, item, ahead-item, ahead-end, ahead-le, array-put, tree-free, tree-unfree, unfree-leaf}
 use Rattle.levels.proofs.Reading.{same-within}
 use Rattle.passes.proofs.GatherLaws.{walk-node, walk-over}

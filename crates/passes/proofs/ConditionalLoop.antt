@@ -1,22 +1,14 @@
 -- The loop of `fold_conditionals`: how the scan begins, that each step keeps what it leads to, and where it ends. Leans on ConditionalFold
 -- for an item that stays as it is, and on UnaryRight for the unread items.
 use Prim.Native.Nat.{ℕ, _+_, _-_, _^_, _≤_, _<_}
-use mathlib.Core.Path.{_≡_, refl, sym, ap, _∙_, subst}
-use mathlib.Core.Logic.{⊎-elim}
-use mathlib.Core.List.{List, []}
-use native.Mathlib.Omega.{arith}
-use native.Mathlib.Nat.{le-refl}
+use mathlib.Core.{Path.{_≡_, refl, sym, ap, _∙_, subst}, Logic.{⊎-elim}, List.{List, []}}
+use native.Mathlib.{Omega.{arith}, Nat.{le-refl}}
 use lib.ListN.{length, set}
-use Rattle.molang.specs.Forest.{Token, Forest, nil, node, turnedOnto, inOrder, count}
-use Rattle.molang.specs.Conditional.{scan, foldedFrom}
+use Rattle.molang.specs.{Forest.{Token, Forest, nil, node, turnedOnto, inOrder, count}, Conditional.{scan, foldedFrom}}
 use Rattle.nodes.specs.Store.{wd, slotStart, RepT, ends, Kept}
-use Rattle.nodes.proofs.Runs.{set-other, set-long}
-use Rattle.nodes.proofs.Store.{rep-lower, back-le, back-count}
-use Rattle.nodes.proofs.Trees.{gathered-array}
-use Rattle.nodes.proofs.Keeping.{kept-then}
+use Rattle.nodes.proofs.{Runs.{set-other, set-long}, Store.{rep-lower, back-le, back-count}, Trees.{gathered-array}, Keeping.{kept-then}}
 use Rattle.levels.specs.Items.{BackArray, Ahead}
-use Rattle.passes.specs.Unary.{RightList}
-use Rattle.passes.specs.Conditional.{scanAt, CanScan, ScanTo, CanFoldNext, FoldedNext, CanFold, FoldedAll}
+use Rattle.passes.specs.{Unary.{RightList}, Conditional.{scanAt, CanScan, ScanTo, CanFoldNext, FoldedNext, CanFold, FoldedAll}}
 use Rattle.passes.specs.declared.conditional.Scan.{Scan}
 use Rattle.passes.proofs.UnaryRight.{LastUnread, last, unread-last, unread-none, ahead-cons}
 use Rattle.passes.proofs.ConditionalFold.{LastTwo, two, last-two, KeptTo, kept, keep-last}

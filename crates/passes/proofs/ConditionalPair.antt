@@ -1,20 +1,13 @@
 -- A folded `?` in the scan: `fold_else` after `fold_last`.
 use Prim.Native.Nat.{ℕ, _+_, _-_, _≤_, _<_}
-use mathlib.Core.Path.{_≡_, refl, sym, ap, _∙_, subst}
-use mathlib.Core.Logic.{_≢_, ⊎-elim}
-use mathlib.Core.Bool.{Bool, true, false, true≢false}
-use mathlib.Core.List.{List}
+use mathlib.Core.{Path.{_≡_, refl, sym, ap, _∙_, subst}, Logic.{_≢_, ⊎-elim}, Bool.{Bool, true, false, true≢false}, List.{List}}
 use native.Mathlib.Omega.{arith}
 use lib.ListN.{length}
 use Rattle.molang.specs.Operator
-use Rattle.molang.specs.Forest.{Token, Forest, nil, node, count}
-use Rattle.molang.specs.Conditional.{isToken, startsWith, under, pairElse, scan}
-use Rattle.nodes.specs.Store.{wd, RepT, Kept}
-use Rattle.nodes.specs.Slots.{isTokenAt}
-use Rattle.nodes.proofs.Store.{rep-count, tree-below, tree-out, back-le}
-use Rattle.nodes.proofs.Trees.{token-test}
-use Rattle.levels.specs.Items.{Ahead}
-use Rattle.levels.proofs.Reading.{AheadTo, item, ahead-item, ahead-le}
+use Rattle.molang.specs.{Forest.{Token, Forest, nil, node, count}, Conditional.{isToken, startsWith, under, pairElse, scan}}
+use Rattle.nodes.specs.{Store.{wd, RepT, Kept}, Slots.{isTokenAt}}
+use Rattle.nodes.proofs.{Store.{rep-count, tree-below, tree-out, back-le}, Trees.{token-test}}
+use Rattle.levels.{specs.Items.{Ahead}, proofs.Reading.{AheadTo, item, ahead-item, ahead-le}}
 use Rattle.passes.specs.Unary.{RightList}
 use Rattle.passes.specs.Conditional.{scanAt, Grouped, FoldedLast, CanFoldElse, ElseFolded, start, short, noIf, noElse, pair, CanScan}
 use Rattle.passes.specs.Conditional.{ScanTo, FoldedNext}

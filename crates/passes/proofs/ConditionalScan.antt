@@ -1,23 +1,13 @@
 -- One step of the scan on the list's trees: what each path of `fold_next` leads to.
 use Prim.Native.Nat.{ℕ, zero, suc, _+_, _-_, _≤_, _<_}
-use mathlib.Core.Path.{_≡_, refl, sym, ap, _∙_, subst}
-use mathlib.Core.Logic.{⊎-elim}
-use mathlib.Core.Bool.{Bool, true, false, true≢false}
-use mathlib.Core.List.{List}
-use native.Mathlib.Omega.{arith}
-use native.Mathlib.Nat.{le-refl}
-use native.Mathlib.Decide.{ℕ-discrete}
+use mathlib.Core.{Path.{_≡_, refl, sym, ap, _∙_, subst}, Logic.{⊎-elim}, Bool.{Bool, true, false, true≢false}, List.{List}}
+use native.Mathlib.{Omega.{arith}, Nat.{le-refl}, Decide.{ℕ-discrete}}
 use lib.ListN.{length, set}
 use Rattle.molang.specs.Operator
-use Rattle.molang.specs.Forest.{Token, Forest, nil, node}
-use Rattle.molang.specs.Conditional.{isToken, startsWith, under, scan}
-use Rattle.nodes.specs.Store.{wd, Seg, SegB, RepT, RepF, ends, more, RepB, begins, put, Kept}
-use Rattle.nodes.specs.Slots.{isTokenAt}
-use Rattle.nodes.proofs.Runs.{set-other, set-long}
-use Rattle.nodes.proofs.Store.{reserve-pos, rep-le, tree-below, tree-out, back-le}
-use Rattle.nodes.proofs.Trees.{token-test}
-use Rattle.levels.specs.Items.{BackArray, Ahead}
-use Rattle.levels.proofs.Reading.{AheadTo, item, ahead-item, ahead-le}
+use Rattle.molang.specs.{Forest.{Token, Forest, nil, node}, Conditional.{isToken, startsWith, under, scan}}
+use Rattle.nodes.specs.{Store.{wd, Seg, SegB, RepT, RepF, ends, more, RepB, begins, put, Kept}, Slots.{isTokenAt}}
+use Rattle.nodes.proofs.{Runs.{set-other, set-long}, Store.{reserve-pos, rep-le, tree-below, tree-out, back-le}, Trees.{token-test}}
+use Rattle.levels.{specs.Items.{BackArray, Ahead}, proofs.Reading.{AheadTo, item, ahead-item, ahead-le}}
 use Rattle.passes.specs.Unary.{RightList}
 use Rattle.passes.specs.Conditional.{scanAt, CanFoldLast, FoldedLast, CanLook, IsElse, few, other, looked, CanScan, ScanTo}
 use Rattle.passes.specs.Conditional.{FoldedNext}

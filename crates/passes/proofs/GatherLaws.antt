@@ -2,35 +2,21 @@
 -- without a token of the level, which changes nothing of the level's result; then it ends, enters a node, or comes to a token, whose turn
 -- is the level's own.
 use Prim.Native.Nat.{ℕ, _+_, _^_, _≤_, _<_}
-use mathlib.Core.Path.{_≡_, refl, sym, ap, _∙_, subst}
-use mathlib.Core.Logic.{_≢_, inl, inr, ⊎-elim}
-use mathlib.Core.Bool.{Bool, true, false}
-use mathlib.Core.List.{List}
-use native.Mathlib.Omega.{arith}
-use native.Mathlib.Nat.{le-refl}
+use mathlib.Core.{Path.{_≡_, refl, sym, ap, _∙_, subst}, Logic.{_≢_, inl, inr, ⊎-elim}, Bool.{Bool, true, false}, List.{List}}
+use native.Mathlib.{Omega.{arith}, Nat.{le-refl}}
 use lib.ListN.{length, set}
-use Rattle.molang.specs.Forest.{Token, Forest, nil, node, count, size}
-use Rattle.molang.specs.Message.{Result, ok, fail}
-use Rattle.molang.specs.Level.{Level, walk, through}
-use Rattle.molang.specs.Free.{free, isNil}
-use Rattle.molang.specs.Work.{Kind, State, work, begins, inReading, takes, andThen}
-use Rattle.molang.proofs.Trees.{count-size, free-leaf, free-tree}
-use Rattle.molang.proofs.Inert.{Inert, through-free}
-use Rattle.nodes.specs.Store.{wd, slotStart, slotEnd, RepT}
-use Rattle.nodes.specs.Children.{Attached}
-use Rattle.nodes.specs.declared.frames.List.{List as Items}
-use Rattle.nodes.proofs.Runs.{set-same, set-other, set-long}
-use Rattle.nodes.proofs.Store.{tree-below, tree-out, back-le, back-raise}
+use Rattle.molang.specs.{Forest.{Token, Forest, nil, node, count, size}, Message.{Result, ok, fail}, Level.{Level, walk, through}}
+use Rattle.molang.specs.{Free.{free, isNil}, Work.{Kind, State, work, begins, inReading, takes, andThen}}
+use Rattle.molang.proofs.{Trees.{count-size, free-leaf, free-tree}, Inert.{Inert, through-free}}
+use Rattle.nodes.specs.{Store.{wd, slotStart, slotEnd, RepT}, Children.{Attached}, declared.frames.List.{List as Items}}
+use Rattle.nodes.proofs.{Runs.{set-same, set-other, set-long}, Store.{tree-below, tree-out, back-le, back-raise}}
 use Rattle.nodes.proofs.Trees.{tree-under, attach-tree, attach-kept}
 use Rattle.levels.specs.Passes.{walkOf, movedTo, classesOf, Covers, waits}
 use Rattle.levels.specs.Items.{BackArray, Ahead, CanSeek, Passed, here, over, Seen, SoughtTo, none, leaf, tree, Sought}
 use Rattle.levels.specs.Sides.{Sides, Holds, Waits, AtTurn, InFrame}
 use Rattle.levels.specs.Turns.{SameList, Within, CanTurn, lentOf, afresh, TurnTo, goes, enters, ends, fails, Turned}
-use Rattle.levels.specs.declared.items.Found.{Found}
-use Rattle.levels.specs.declared.items.Found.the-variants.{Nothing, Children, Token as Leaf}
-use Rattle.levels.specs.declared.turns.Pass.{Pass}
-use Rattle.levels.specs.declared.turns.Walk.{Walk}
-use Rattle.levels.specs.declared.turns.Turn.{Turn}
+use Rattle.levels.specs.{declared.items.Found.{Found}, declared.items.Found.the-variants.{Nothing, Children, Token as Leaf}}
+use Rattle.levels.specs.{declared.turns.Pass.{Pass}, declared.turns.Walk.{Walk}, declared.turns.Turn.{Turn}}
 use Rattle.levels.specs.declared.turns.Turn.the-variants.{Enter, Over}
 use Rattle.levels.proofs.Reading.{can-peek, back-array-keep, AheadTo, item, ahead-item, ahead-keep, ahead-le, array-put}
 use Rattle.passes.specs.TokenTurns.{AtItem, AtToken, TokenTurned, Saying}

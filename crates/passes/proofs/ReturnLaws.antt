@@ -1,32 +1,19 @@
 -- `return`: it takes the next tree, as it is, as its child.
 use Prim.Native.Nat.{ℕ, _+_, _≤_, _<_}
-use mathlib.Core.Path.{_≡_, refl, ap, _∙_}
-use mathlib.Core.Bool.{true, false, true≢false}
-use mathlib.Core.List.{List, [], _∷_}
+use mathlib.Core.{Path.{_≡_, refl, ap, _∙_}, Bool.{true, false, true≢false}, List.{List, [], _∷_}}
 use native.Mathlib.Omega.{arith}
 use lib.ListN.{length, set}
-use Rattle.molang.specs.Forest.{Token, Forest, nil, node, count, size}
-use Rattle.molang.specs.Message.{unaryWithoutOperand, fail}
+use Rattle.molang.{specs.Forest.{Token, Forest, nil, node, count, size}, specs.Message.{unaryWithoutOperand, fail}}
 use Rattle.molang.specs.Level.{on, walk, through, Gathered, gathered, waiting, nothing}
-use Rattle.molang.specs.Unary.{returnStep, returnResume, returnFinish, returnLevel}
-use Rattle.molang.specs.Free.{isNil, isReturn}
-use Rattle.molang.specs.Work.{Kind, returns, State, work, begins, inReading, takes, andThen}
-use Rattle.molang.proofs.Return.{return-inert}
-use Rattle.nodes.specs.declared.frames.List.{List as Items}
-use Rattle.levels.specs.Passes.{walkOf, movedTo, operators, Runs, returnPass, waits}
-use Rattle.levels.specs.Items.{Ahead}
-use Rattle.levels.specs.Sides.{GatherSide, all, Holds}
-use Rattle.levels.specs.Turns.{Within, TurnTo, goes, fails}
-use Rattle.levels.specs.declared.turns.Pass.the-variants.{Returns}
-use Rattle.levels.specs.declared.turns.Turn.{Turn}
-use Rattle.levels.specs.declared.turns.Turn.the-variants.{On, Fail}
-use Rattle.levels.specs.declared.failure.Failure.the-variants.{UnaryWithoutOperand}
-use Rattle.levels.specs.Failures
+use Rattle.molang.{specs.Unary.{returnStep, returnResume, returnFinish, returnLevel}, specs.Free.{isNil, isReturn}}
+use Rattle.molang.{specs.Work.{Kind, returns, State, work, begins, inReading, takes, andThen}, proofs.Return.{return-inert}}
+use Rattle.nodes.specs.{declared.frames.List.{List as Items}, Store.{wd, slotStart}, Children.{Attached}}
+use Rattle.levels.specs.{Passes.{walkOf, movedTo, operators, Runs, returnPass, waits}, Items.{Ahead}, Sides.{GatherSide, all, Holds}}
+use Rattle.levels.specs.{Turns.{Within, TurnTo, goes, fails}, declared.turns.Pass.the-variants.{Returns}, declared.turns.Turn.{Turn}}
+use Rattle.levels.specs.{declared.turns.Turn.the-variants.{On, Fail}, declared.failure.Failure.the-variants.{UnaryWithoutOperand}}
 use Rattle.levels.specs.Failures.{Tells}
-use Rattle.levels.proofs.Reading.{ahead-end, same-within}
-use Rattle.levels.proofs.PassClasses.{runs-covers}
-use Rattle.nodes.specs.Store.{wd, slotStart}
-use Rattle.nodes.specs.Children.{Attached}
+use Rattle.levels.proofs.{Reading.{ahead-end, same-within}, PassClasses.{runs-covers}}
+use Rattle.levels.specs.Failures
 use Rattle.passes.specs.TokenTurns.{unasked, ReturnTurned, Saying}
 use Rattle.passes.proofs.GatherLaws.{walk-node, walk-passed, LeftLevel, item-holds, kept-within, Attaching, attached, item-attached}
 use Rattle.passes.proofs.GatherLaws.{within-then, Stands, stands, Standing}

@@ -1,27 +1,18 @@
 -- The levels that seek their tokens from the left, by their pass: what GatherLaws says of such a level holds of each. Assumes nothing.
-use mathlib.Core.Path.{_≡_, sym, ap, _∙_, subst}
-use mathlib.Core.List.{List, [], _∷_}
+use mathlib.Core.{Path.{_≡_, sym, ap, _∙_, subst}, List.{List, [], _∷_}}
 use Prim.Native.Nat.{ℕ, _+_}
 use types.Run.{OneOf, miss}
 use denote.Enum.Declared.{tagOf}
 use lib.ListN.{set}
 use Rattle.ops.specs.declared.classes.TokenClasses.{TokenClasses}
 use Rattle.nodes.specs.declared.frames.List.{List as Items}
-use Rattle.levels.specs.Passes.{walkOf, movedTo, classesOf, waitingOf}
-use Rattle.levels.specs.Items.{Sought}
-use Rattle.levels.specs.Turns.{CanTurn}
-use Rattle.levels.specs.declared.items.Found.{Found}
-use Rattle.levels.specs.declared.turns.Turn.{Turn}
-use Rattle.levels.specs.declared.turns.Turn.the-variants.{On}
-use Rattle.levels.specs.declared.turns.Pass.{Pass}
+use Rattle.levels.specs.{Passes.{walkOf, movedTo, classesOf, waitingOf}, Items.{Sought}, Turns.{CanTurn}, declared.items.Found.{Found}}
+use Rattle.levels.specs.{declared.turns.Turn.{Turn}, declared.turns.Turn.the-variants.{On}, declared.turns.Pass.{Pass}}
 use Rattle.levels.specs.declared.turns.Pass.the-variants.{Calls, MathCalls, Unsplit, Split, Arrays, Unary, Binary, Conditional, Returns}
 use Rattle.levels.proofs.turns.Pass.{the-type}
 use Rattle.passes.specs.TokenTurns.{TokenTurned, Seeks, Saying, OfLevel, TokenOf}
-use Rattle.passes.proofs.GatherLaws.{Nothing-told, Standing}
-use Rattle.passes.proofs.CallLaws.{query-stands, math-stands}
-use Rattle.passes.proofs.StatementLaws.{unsplit-stands, unsplit-kept}
-use Rattle.passes.proofs.ArrayTurns.{array-stands}
-use Rattle.passes.proofs.BinaryLaws.{level-stands}
+use Rattle.passes.proofs.{GatherLaws.{Nothing-told, Standing}, CallLaws.{query-stands, math-stands}}
+use Rattle.passes.proofs.{StatementLaws.{unsplit-stands, unsplit-kept}, ArrayTurns.{array-stands}, BinaryLaws.{level-stands}}
 use Rattle.passes.proofs.ReturnLaws.{return-stands}
 
 module _ {T : Saying} (W : List ℕ) (v : Items) where

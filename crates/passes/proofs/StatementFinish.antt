@@ -1,41 +1,24 @@
 -- The end of a split list: the statement that is open takes its items, and the list's node all statements.
 use Prim.Native.Nat.{ℕ, _+_, _-_, _^_, _≤_, _<_}
-use mathlib.Core.Path.{_≡_, refl, sym, ap, _∙_, subst}
-use mathlib.Core.Logic.{_≢_, _⊎_, inl, inr, ⊎-elim}
-use mathlib.Core.Bool.{false, true≢false}
-use mathlib.Core.List.{List, [], _∷_}
-use native.Mathlib.Omega.{arith}
-use native.Mathlib.Nat.{le-refl}
+use mathlib.Core.{Path.{_≡_, refl, sym, ap, _∙_, subst}, Logic.{_≢_, _⊎_, inl, inr, ⊎-elim}, Bool.{false, true≢false}, List.{List, [], _∷_}}
+use native.Mathlib.{Omega.{arith}, Nat.{le-refl}}
 use lib.ListN.{length, set}
-use Rattle.molang.specs.Operator.{semicolon}
-use Rattle.molang.specs.Forest.{Token, Forest, nil, node, bare, inOrder, count}
-use Rattle.molang.specs.Message.{ok}
-use Rattle.molang.specs.Level.{walk}
-use Rattle.molang.specs.Statements.{unsplit, after, inside, splitOf, statementFinish, statementLevel}
-use Rattle.molang.specs.Free.{isNil}
+use Rattle.molang.specs.{Operator.{semicolon}, Forest.{Token, Forest, nil, node, bare, inOrder, count}, Message.{ok}, Level.{walk}}
+use Rattle.molang.specs.{Statements.{unsplit, after, inside, splitOf, statementFinish, statementLevel}, Free.{isNil}}
 use Rattle.molang.specs.Work.{Kind, statements, State, work}
 use Rattle.nodes.specs.Store.{wd, slotStart, slotEnd, TokenAt, SegB, OutFrom, ends as ends-at, RepT, RepB, begins as begins-with, put}
-use Rattle.nodes.specs.Store.{InArray, Owned, Free}
-use Rattle.nodes.specs.Children.{CanGive, Given}
-use Rattle.nodes.specs.declared.frames.List.{List as Items}
-use Rattle.nodes.proofs.Runs.{segB-keep, set-same, set-other, set-long}
-use Rattle.nodes.proofs.Tokens.{token-keep}
+use Rattle.nodes.specs.{Store.{InArray, Owned, Free}, Children.{CanGive, Given}, declared.frames.List.{List as Items}}
+use Rattle.nodes.proofs.{Runs.{segB-keep, set-same, set-other, set-long}, Tokens.{token-keep}}
 use Rattle.nodes.proofs.Store.{rep-raise, tree-more, tree-keep, back-le, back-raise, back-avoid, back-keep, back-count}
 use Rattle.nodes.proofs.Keeping.{free-beside, free-above, free-part, give-kept}
 use Rattle.nodes.proofs.Trees.{tree-under, array-give, gathered-array, give-owned, give-token, owned-tree}
-use Rattle.levels.specs.Passes.{walkOf}
-use Rattle.levels.specs.Items.{BackArray}
-use Rattle.levels.specs.Sides.{EndedAt, Ended, nothing, statement}
-use Rattle.levels.specs.Turns.{Within, CanFinish, FinishTo, gives, Ends}
-use Rattle.levels.specs.declared.turns.Pass.the-variants.{Split as SplitAt}
-use Rattle.levels.specs.declared.turns.Finished.the-variants.{At}
-use Rattle.levels.proofs.Reading.{ahead-le}
-use Rattle.levels.proofs.Ended.{FirstEnded, ended-first}
+use Rattle.levels.{specs.Passes.{walkOf}, specs.Items.{BackArray}, specs.Sides.{EndedAt, Ended, nothing, statement}}
+use Rattle.levels.{specs.Turns.{Within, CanFinish, FinishTo, gives, Ends}, specs.declared.turns.Pass.the-variants.{Split as SplitAt}}
+use Rattle.levels.{specs.declared.turns.Finished.the-variants.{At}, proofs.Reading.{ahead-le}, proofs.Ended.{FirstEnded, ended-first}}
 use Rattle.passes.specs.Statements.{Grouped, CanClose, ClosedTo, complete, closing}
 use Rattle.passes.proofs.StatementLaws.{earliest, openOn}
-use Rattle.passes.proofs.StatementGroup.{in-order, order-first, TurnedFirst}
-use Rattle.passes.proofs.StatementGroup.{grouped-tree, grouped-same, grouped-stored, grouped-long}
-use Rattle.passes.proofs.StatementSplit.{Pending, SplitView, splits, split-view, open-items}
+use Rattle.passes.proofs.StatementGroup.{in-order, order-first, TurnedFirst, grouped-tree, grouped-same, grouped-stored}
+use Rattle.passes.proofs.{StatementGroup.{grouped-long}, StatementSplit.{Pending, SplitView, splits, split-view, open-items}}
 use Rattle.passes.proofs.StatementSemicolon.{back-nil, beside-slot}
 
 -- ---- the finished statements beside the list's node

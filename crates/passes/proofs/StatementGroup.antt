@@ -1,18 +1,13 @@
 -- What the words of a statement say of trees: the items from some word on stand under a new node in a slot of its own, with the span of the
 -- first of them.
 use Prim.Native.Nat.{ℕ, _+_, _≤_, _<_}
-use mathlib.Core.Path.{_≡_, refl, sym, _∙_, subst}
-use mathlib.Core.Logic.{_≢_, _⊎_, inl, inr, ⊎-elim}
-use mathlib.Core.List.{List, _∷_}
+use mathlib.Core.{Path.{_≡_, refl, sym, _∙_, subst}, Logic.{_≢_, _⊎_, inl, inr, ⊎-elim}, List.{List, _∷_}}
 use native.Mathlib.Omega.{arith}
 use lib.ListN.{length}
-use Rattle.molang.specs.Operator.{semicolon}
-use Rattle.molang.specs.Forest.{Token, Forest, nil, node, bare, inOrder, turnedOnto}
+use Rattle.molang.specs.{Operator.{semicolon}, Forest.{Token, Forest, nil, node, bare, inOrder, turnedOnto}}
 use Rattle.nodes.specs.Store.{wd, slotStart, slotEnd, TokenAt, Seg, Out, RepF, more, RepT, Owned, InArray, Free}
-use Rattle.nodes.proofs.Runs.{seg-keep, set-same, set-other, set-long}
-use Rattle.nodes.proofs.Tokens.{token-made}
-use Rattle.nodes.proofs.Store.{rep-keep, rep-avoid, rep-raise, rep-lower, tree-keep}
-use Rattle.nodes.proofs.Keeping.{roots-off}
+use Rattle.nodes.proofs.{Runs.{seg-keep, set-same, set-other, set-long}, Tokens.{token-made}}
+use Rattle.nodes.proofs.{Store.{rep-keep, rep-avoid, rep-raise, rep-lower, tree-keep}, Keeping.{roots-off}}
 use Rattle.nodes.proofs.Trees.{give-owned, give-token, owned-tree, gathered-array}
 use Rattle.levels.specs.Items.{BackArray}
 use Rattle.passes.specs.Statements.{Grouped}

@@ -1,50 +1,29 @@
 -- The statement pass as laws: which semicolons a list has, what the trees between them change, and what a finished statement's words say of
 -- trees.
 use Prim.Native.Nat.{ℕ, _+_, _≤_, _<_}
-use mathlib.Core.Path.{_≡_, refl, sym, ap, _∙_, subst}
-use mathlib.Core.Logic.{inl, inr, ⊎-elim}
-use mathlib.Core.Bool.{Bool, true, false, not, true≢false}
-use mathlib.Core.List.{List, [], _∷_}
-use mathlib.Core.Option.{none, some}
-use native.Mathlib.Omega.{arith}
-use native.Mathlib.Nat.{le-refl}
-use lib.Dec.{eqb}
-use lib.ListN.{length, set}
+use mathlib.Core.{Path.{_≡_, refl, sym, ap, _∙_, subst}, Logic.{inl, inr, ⊎-elim}, Bool.{Bool, true, false, not, true≢false}}
+use mathlib.Core.{List.{List, [], _∷_}, Option.{none, some}}
+use native.Mathlib.{Omega.{arith}, Nat.{le-refl}}
+use lib.{Dec.{eqb}, ListN.{length, set}}
 use borrow.Author.Tests.{not-true, not-false}
-use Rattle.molang.specs.Operator.{semicolon}
-use Rattle.molang.specs.Forest.{Token, Forest, nil, node, bare, count, size}
-use Rattle.molang.specs.Message.{Message, Result, ok, fail}
-use Rattle.molang.specs.Level.{on, into, stop, walk, through}
-use Rattle.molang.specs.Conditional.{isToken}
-use Rattle.molang.specs.Order.{lastOf}
+use Rattle.molang.specs.{Operator.{semicolon}, Forest.{Token, Forest, nil, node, bare, count, size}, Message.{Message, Result, ok, fail}}
+use Rattle.molang.specs.{Level.{on, into, stop, walk, through}, Conditional.{isToken}, Order.{lastOf}}
 use Rattle.molang.specs.Statements.{Split, unsplit, after, inside, splitOf, isEntered, gather, endStatement, enterSplit, statementStep}
-use Rattle.molang.specs.Statements.{statementResume, statementLevel}
-use Rattle.molang.specs.Free.{free, clear, isNil, isSemicolon}
+use Rattle.molang.specs.{Statements.{statementResume, statementLevel}, Free.{free, clear, isNil, isSemicolon}}
 use Rattle.molang.specs.Work.{Kind, statements, State, work, begins, inReading, takes, andThen}
-use Rattle.molang.proofs.Trees.{some-none, free-leaf, free-tree}
-use Rattle.molang.proofs.Statements.{split-clear, statement-free}
+use Rattle.molang.proofs.{Trees.{some-none, free-leaf, free-tree}, Statements.{split-clear, statement-free}}
 use Rattle.molang.proofs.Walks.{onward, back, walk-onward}
-use Rattle.nodes.specs.Store.{wd, slotStart, slotEnd, InArray, begins as begins-with, Seg, Inc}
-use Rattle.nodes.specs.Slots.{isTokenAt, Laid}
-use Rattle.nodes.specs.declared.stored.StoredWords.{StoredWords}
-use Rattle.nodes.specs.declared.frames.List.{List as Items}
-use Rattle.nodes.proofs.Runs.{inc-le, seg-keep}
-use Rattle.nodes.proofs.Store.{tree-below, back-le}
-use Rattle.nodes.proofs.Trees.{token-test}
+use Rattle.nodes.specs.{Store.{wd, slotStart, slotEnd, InArray, begins as begins-with, Seg, Inc}, Slots.{isTokenAt, Laid}}
+use Rattle.nodes.specs.{declared.stored.StoredWords.{StoredWords}, declared.frames.List.{List as Items}, Children.{CanGive}}
+use Rattle.nodes.proofs.{Runs.{inc-le, seg-keep}, Store.{tree-below, back-le}, Trees.{token-test}}
 use Rattle.levels.specs.Passes.{walkOf, movedTo, classesOf, operators, Covers, Runs, unsplitPass, split, waits}
 use Rattle.levels.specs.Items.{BackArray, Ahead, Passed, here, over, tree, Sought}
-use Rattle.levels.specs.Sides.{StatementSide, whole, closed, EndedAt, nothing, Holds}
-use Rattle.nodes.specs.Children.{CanGive}
-use Rattle.levels.specs.Turns.{SameList, Within, goes, CanStart, Started}
-use Rattle.levels.specs.declared.items.Found.{Found}
-use Rattle.levels.specs.declared.turns.Pass.{Pass}
-use Rattle.levels.specs.declared.turns.Pass.the-variants.{Unsplit, Split as SplitAt}
-use Rattle.levels.specs.declared.turns.Turn.{Turn}
+use Rattle.levels.specs.{Sides.{StatementSide, whole, closed, EndedAt, nothing, Holds}, Turns.{SameList, Within, goes, CanStart, Started}}
+use Rattle.levels.specs.{declared.items.Found.{Found}, declared.turns.Pass.{Pass}}
+use Rattle.levels.specs.{declared.turns.Pass.the-variants.{Unsplit, Split as SplitAt}, declared.turns.Turn.{Turn}}
 use Rattle.levels.specs.declared.turns.Turn.the-variants.{On}
-use Rattle.passes.specs.Statements.{HasSemicolon}
-use Rattle.levels.proofs.PassClasses.{runs-covers}
-use Rattle.levels.proofs.Reading.{AheadTo, item, ahead-item, ahead-end, ahead-le}
-use Rattle.passes.specs.TokenTurns.{unasked, TokenTurned, Saying}
+use Rattle.levels.proofs.{PassClasses.{runs-covers}, Reading.{AheadTo, item, ahead-item, ahead-end, ahead-le}}
+use Rattle.passes.specs.{Statements.{HasSemicolon}, TokenTurns.{unasked, TokenTurned, Saying}}
 use Rattle.passes.proofs.GatherLaws.{LeftLevel, item-holds, kept-within, Stands, stands, Standing}
 
 -- ---- which semicolons a list has

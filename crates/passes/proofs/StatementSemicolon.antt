@@ -1,44 +1,25 @@
 -- A semicolon of a split list: it stands first, or after another, or ends the open statement, which then stands in its slot.
 use Prim.Native.Nat.{ℕ, _+_, _-_, _^_, _≤_, _<_}
-use mathlib.Core.Path.{_≡_, refl, sym, ap, _∙_, subst}
-use mathlib.Core.Logic.{_≢_, _⊎_, inl, inr, ⊎-elim}
-use mathlib.Core.Bool.{true, false, true≢false}
+use mathlib.Core.{Path.{_≡_, refl, sym, ap, _∙_, subst}, Logic.{_≢_, _⊎_, inl, inr, ⊎-elim}, Bool.{true, false, true≢false}}
 use mathlib.Core.List.{List, [], _∷_}
-use native.Mathlib.Omega.{arith}
-use native.Mathlib.Nat.{le-refl}
-use native.Mathlib.Decide.{decLt}
+use native.Mathlib.{Omega.{arith}, Nat.{le-refl}, Decide.{decLt}}
 use borrow.Author.Tests.{eqb-true}
 use lib.ListN.{length}
-use Rattle.molang.specs.Operator.{semicolon}
-use Rattle.molang.specs.Forest.{Token, Forest, nil, node, bare, inOrder, count, size}
-use Rattle.molang.specs.Message
-use Rattle.molang.specs.Message.{Message}
-use Rattle.molang.specs.Level.{on, stop}
-use Rattle.molang.specs.Statements.{after, splitOf, endStatement}
-use Rattle.molang.specs.Free.{isNil, isSemicolon}
+use Rattle.molang.specs.{Operator.{semicolon}, Forest.{Token, Forest, nil, node, bare, inOrder, count, size}, Message.{Message}}
+use Rattle.molang.specs.{Level.{on, stop}, Statements.{after, splitOf, endStatement}, Free.{isNil, isSemicolon}}
 use Rattle.molang.specs.Work.{Kind, statements, State}
+use Rattle.molang.specs.Message
 use Rattle.nodes.specs.Store.{wd, slotStart, slotEnd, TokenAt, Out, OutFrom, RepT, RepB, begins as begins-with, put, InArray, Free}
-use Rattle.nodes.specs.declared.stored.StoredWords.{StoredWords}
-use Rattle.nodes.specs.Slots.{Laid, Made}
-use Rattle.nodes.specs.Children.{CanGive}
-use Rattle.nodes.specs.declared.frames.List.{List as Items}
-use Rattle.nodes.proofs.Runs.{seg-keep}
-use Rattle.nodes.proofs.Tokens.{token-keep, token-made}
+use Rattle.nodes.{specs.declared.stored.StoredWords.{StoredWords}, specs.Slots.{Laid, Made}, specs.Children.{CanGive}}
+use Rattle.nodes.{specs.declared.frames.List.{List as Items}, proofs.Runs.{seg-keep}, proofs.Tokens.{token-keep, token-made}}
 use Rattle.nodes.proofs.Store.{reserve-semicolon, rep-raise, tree-below, tree-out, back-le, back-count}
-use Rattle.nodes.proofs.Keeping.{free-beside, free-above, free-part, laid-kept}
-use Rattle.nodes.proofs.Trees.{array-give}
-use Rattle.levels.specs.Passes.{walkOf, movedTo, waits}
-use Rattle.levels.specs.Items.{BackArray, Ahead, Passed, SoughtTo, leaf, Sought}
-use Rattle.levels.specs.Sides.{EndedAt, Ended, nothing, statement}
-use Rattle.levels.specs.Failures.{leadingSemicolon}
-use Rattle.levels.specs.Turns.{Within, CanTurn, TurnTo, goes, fails, Turned}
-use Rattle.levels.specs.declared.failure.Failure.the-variants.{LeadingSemicolon}
-use Rattle.levels.specs.declared.items.Found.the-variants.{Token as Leaf}
-use Rattle.levels.specs.declared.turns.Pass.the-variants.{Split as SplitAt}
-use Rattle.levels.specs.declared.turns.Turn.{Turn}
-use Rattle.levels.specs.declared.turns.Turn.the-variants.{On, Fail}
-use Rattle.levels.proofs.Reading.{ahead-le, ahead-keep, back-array-keep}
-use Rattle.levels.proofs.Ended.{ended-le, ended-at-keep}
+use Rattle.nodes.{proofs.Keeping.{free-beside, free-above, free-part, laid-kept}, proofs.Trees.{array-give}}
+use Rattle.levels.specs.{Passes.{walkOf, movedTo, waits}, Items.{BackArray, Ahead, Passed, SoughtTo, leaf, Sought}}
+use Rattle.levels.specs.{Sides.{EndedAt, Ended, nothing, statement}, Failures.{leadingSemicolon}}
+use Rattle.levels.specs.{Turns.{Within, CanTurn, TurnTo, goes, fails, Turned}, declared.failure.Failure.the-variants.{LeadingSemicolon}}
+use Rattle.levels.specs.{declared.items.Found.the-variants.{Token as Leaf}, declared.turns.Pass.the-variants.{Split as SplitAt}}
+use Rattle.levels.specs.{declared.turns.Turn.{Turn}, declared.turns.Turn.the-variants.{On, Fail}}
+use Rattle.levels.proofs.{Reading.{ahead-le, ahead-keep, back-array-keep}, Ended.{ended-le, ended-at-keep}}
 use Rattle.passes.specs.Statements.{Grouped, ListMade, there, begun, CanEnd, SemicolonTo, leading, again, ended}
 use Rattle.passes.proofs.StatementLaws.{semicolon-class, step-end, walk-on, walk-stop, earliest, openOn, passed-counts, passed-open}
 use Rattle.passes.proofs.StatementLaws.{Moved, moved-same, same-list}

@@ -1,35 +1,21 @@
 -- A list split at its semicolons: its finished statements and the trees of the open one, as one view of the pass's two states; and its
 -- turns.
 use Prim.Native.Nat.{ℕ, _+_, _^_, _≤_, _<_}
-use mathlib.Core.Path.{_≡_, refl, sym, ap, _∙_, subst}
-use mathlib.Core.Logic.{inl, inr, ⊎-elim}
-use mathlib.Core.Bool.{true, false, true≢false}
-use mathlib.Core.List.{List, []}
-use native.Mathlib.Omega.{arith}
-use native.Mathlib.Nat.{le-refl}
+use mathlib.Core.{Path.{_≡_, refl, sym, ap, _∙_, subst}, Logic.{inl, inr, ⊎-elim}, Bool.{true, false, true≢false}, List.{List, []}}
+use native.Mathlib.{Omega.{arith}, Nat.{le-refl}}
 use lib.ListN.{length}
-use Rattle.molang.specs.Forest.{Token, Forest, nil, node, count, size}
-use Rattle.molang.specs.Level.{on}
-use Rattle.molang.specs.Statements.{Split, after, inside, splitOf, isEntered, enterSplit, statementStep}
-use Rattle.molang.specs.Order.{lastOf}
-use Rattle.molang.specs.Free.{isNil, isSemicolon}
-use Rattle.molang.specs.Work.{Kind, statements, State, begins}
-use Rattle.nodes.specs.Store.{wd, slotStart, slotEnd, begins as begins-with}
-use Rattle.nodes.specs.declared.frames.List.{List as Items}
-use Rattle.nodes.proofs.Runs.{set-same, set-other, set-long}
-use Rattle.nodes.proofs.Store.{tree-below, back-le, back-raise, back-count}
-use Rattle.nodes.proofs.Trees.{tree-op}
+use Rattle.molang.specs.{Forest.{Token, Forest, nil, node, count, size}, Level.{on}}
+use Rattle.molang.specs.{Statements.{Split, after, inside, splitOf, isEntered, enterSplit, statementStep}, Order.{lastOf}}
+use Rattle.molang.specs.{Free.{isNil, isSemicolon}, Work.{Kind, statements, State, begins}}
+use Rattle.nodes.specs.{Store.{wd, slotStart, slotEnd, begins as begins-with}, declared.frames.List.{List as Items}}
+use Rattle.nodes.proofs.{Runs.{set-same, set-other, set-long}, Store.{tree-below, back-le, back-raise, back-count}, Trees.{tree-op}}
 use Rattle.levels.specs.Passes.{walkOf, movedTo, Runs, split, waits}
 use Rattle.levels.specs.Items.{BackArray, Ahead, CanSeek, Passed, SoughtTo, none as found-none, tree, Sought}
 use Rattle.levels.specs.Sides.{StatementSide, closed, current, EndedAt, Ended, nothing, statement, DoneSide, UnreadSide, SplitAgrees}
-use Rattle.levels.specs.Sides.{Agrees, Sides, Holds}
-use Rattle.levels.specs.Turns.{Within, CanTurn, TurnTo, goes, enters, ends, Turned, afresh}
-use Rattle.levels.specs.declared.items.Found.the-variants.{Nothing, Children}
-use Rattle.levels.specs.declared.turns.Pass.the-variants.{Split as SplitAt}
-use Rattle.levels.specs.declared.turns.Turn.{Turn}
-use Rattle.levels.specs.declared.turns.Turn.the-variants.{Over}
-use Rattle.levels.proofs.Reading.{ahead-le, ahead-keep, array-put}
-use Rattle.levels.proofs.Ended.{ended-le, ended-at-keep}
+use Rattle.levels.specs.{Sides.{Agrees, Sides, Holds}, Turns.{Within, CanTurn, TurnTo, goes, enters, ends, Turned, afresh}}
+use Rattle.levels.specs.{declared.items.Found.the-variants.{Nothing, Children}, declared.turns.Pass.the-variants.{Split as SplitAt}}
+use Rattle.levels.specs.{declared.turns.Turn.{Turn}, declared.turns.Turn.the-variants.{Over}}
+use Rattle.levels.proofs.{Reading.{ahead-le, ahead-keep, array-put}, Ended.{ended-le, ended-at-keep}}
 use Rattle.passes.specs.Statements.{InnerTo, entered, kept}
 use Rattle.passes.proofs.StatementLaws.{semicolon-class, enter-in, enter-over, walk-on, walk-in, earliest, openOn, gather-open}
 use Rattle.passes.proofs.StatementLaws.{last-earliest, open-inside, passed-counts, passed-open, passed-split, Moved, moved-same}

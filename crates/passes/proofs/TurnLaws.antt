@@ -1,12 +1,8 @@
 -- A turn by the state of the pass: between two turns no name is lent.
 use Prim.Native.Nat.{ℕ}
-use mathlib.Core.Path.{_≡_, refl, sym, ap, _∙_, subst}
-use mathlib.Core.Logic.{_≢_}
-use mathlib.Core.List.{List}
+use mathlib.Core.{Path.{_≡_, refl, sym, ap, _∙_, subst}, Logic.{_≢_}, List.{List}}
 use Rattle.nodes.specs.declared.frames.List.{List as Items}
-use Rattle.levels.specs.Passes.{walkOf, waitingOf}
-use Rattle.levels.specs.Turns.{CanTurn, Turned}
-use Rattle.levels.specs.declared.turns.Pass.{Pass}
+use Rattle.levels.specs.{Passes.{walkOf, waitingOf}, Turns.{CanTurn, Turned}, declared.turns.Pass.{Pass}}
 use Rattle.levels.specs.declared.turns.Pass.the-variants.{Calls, MathCalls, Unsplit, Split, Arrays, Unary, Binary, Conditional, Returns}
 use Rattle.levels.specs.declared.turns.Turn.{Turn}
 

@@ -1,9 +1,6 @@
 -- The unary pass from the right, as an equation between what is left of it before and after each step of the code: an item without a prefix
 -- operator is passed over, a node is entered, and a minus or a not takes the next done tree, by what stands before it.
-use mathlib.Core.Path.{_≡_, refl, sym, ap, _∙_}
-use mathlib.Core.Bool.{Bool, true, false, _||_, true≢false}
-use mathlib.Core.List.{[], _∷_}
-use mathlib.Core.Option.{Option, none, some}
+use mathlib.Core.{Path.{_≡_, refl, sym, ap, _∙_}, Bool.{Bool, true, false, _||_, true≢false}, List.{[], _∷_}, Option.{Option, none, some}}
 use native.Mathlib.Omega.{arith}
 use lib.Dec.{eqb}
 use borrow.Author.Tests.{eq-eqb, ne-eqb}
@@ -11,17 +8,13 @@ use Rattle.molang.specs.Operator
 use Rattle.molang.specs.Operator.{operand, operator, minus, unknown, beforeMinus}
 use Rattle.molang.specs.Forest.{Token, Forest, nil, node, renamed, bare, count, size}
 use Rattle.molang.specs.Message.{Result, fail, negateWithoutOperand, notWithoutOperand, unknownOperation}
-use Rattle.molang.specs.Unary.{Unary, done, minusAfter, notBefore, unaryLeaf, turned, unary, unaryPass}
-use Rattle.molang.specs.Order.{apply}
+use Rattle.molang.specs.{Unary.{Unary, done, minusAfter, notBefore, unaryLeaf, turned, unary, unaryPass}, Order.{apply}}
 use Rattle.molang.specs.Free.{free, isNil, isPrefix}
 use Rattle.molang.specs.Work.{right, before, fromRight, work, begins, inReading, takes, passOf, pass, unaryMinusAndNot, andThen}
-use Rattle.molang.proofs.Trees.{free-leaf, free-tree}
-use Rattle.molang.proofs.Booleans.{or-neither}
-use Rattle.molang.proofs.Unary.{unary-free}
+use Rattle.molang.proofs.{Trees.{free-leaf, free-tree}, Booleans.{or-neither}, Unary.{unary-free}}
 use Rattle.molang.proofs.Work.{leftOf, pass-begins, at-leaf, at-node}
 use Rattle.levels.specs.Passes as passes
-use Rattle.levels.specs.Passes.{operators, Covers}
-use Rattle.levels.specs.declared.turns.Pass.the-variants.{Unary as UnaryPass}
+use Rattle.levels.specs.{Passes.{operators, Covers}, declared.turns.Pass.the-variants.{Unary as UnaryPass}}
 use Rattle.levels.proofs.PassClasses.{runs-covers}
 use Rattle.passes.specs.Unary.{Moved}
 

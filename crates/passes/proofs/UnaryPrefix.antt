@@ -2,47 +2,33 @@
 -- `token` and `minus` is.
 use Rattle.words.specs.Fields.{withOperator}
 use Prim.Native.Nat.{ℕ, _+_, _-_, _^_, _≤_, _<_}
-use mathlib.Core.Path.{_≡_, refl, sym, ap, _∙_, subst}
-use mathlib.Core.Logic.{_≢_, _⊎_, inl, inr, ⊎-elim}
-use mathlib.Core.Bool.{true, false, true≢false}
+use mathlib.Core.{Path.{_≡_, refl, sym, ap, _∙_, subst}, Logic.{_≢_, _⊎_, inl, inr, ⊎-elim}, Bool.{true, false, true≢false}}
 use mathlib.Core.List.{List, [], _∷_}
-use native.Mathlib.Omega.{arith}
-use native.Mathlib.Nat.{le-refl}
+use native.Mathlib.{Omega.{arith}, Nat.{le-refl}}
 use lib.ListN.{length, set}
 use borrow.Author.Tests.{eq-eqb}
 use Rattle.molang.specs.Operator
 use Rattle.molang.specs.Operator.{operand, operator, minus, unknown, beforeMinus, any, isOneOf, isQueryOrLoop, isMathCall}
 use Rattle.molang.specs.Forest.{Token, Forest, nil, node, renamed, bare, count, size}
-use Rattle.molang.specs.Message.{fail, negateWithoutOperand, notWithoutOperand, unknownOperation}
-use Rattle.molang.specs.Free.{isNil}
+use Rattle.molang.specs.{Message.{fail, negateWithoutOperand, notWithoutOperand, unknownOperation}, Free.{isNil}}
 use Rattle.molang.specs.Work.{right, unaryMinusAndNot, work, fromRight}
-use Rattle.ops.specs.Classes.{passClasses, ownClasses, inClass, bitAt}
-use Rattle.ops.specs.Operators.{meant}
-use Rattle.ops.specs.declared.BeforeMinus.{BeforeMinus as Before}
+use Rattle.ops.specs.{Classes.{passClasses, ownClasses, inClass, bitAt}, Operators.{meant}, declared.BeforeMinus.{BeforeMinus as Before}}
 use Rattle.ops.proofs.OperatorLaws.{agree-at}
 use Rattle.nodes.specs.Store.{wd, slotWords, nextField, classesField, slotStart, slotEnd, firstWord, classesWord, operatorWordAt, firstAt}
-use Rattle.nodes.specs.Store.{TokenAt, reserve, Out, RepT, Free}
-use Rattle.nodes.specs.Slots.{opAt, isLeafAt, Made}
-use Rattle.nodes.specs.declared.frames.List.{List as Items}
-use Rattle.nodes.proofs.Runs.{set-same, set-other, set-long}
-use Rattle.nodes.proofs.Tokens.{token-keep, token-renamed, token-made}
+use Rattle.nodes.specs.{Store.{TokenAt, reserve, Out, RepT, Free}, Slots.{opAt, isLeafAt, Made}, declared.frames.List.{List as Items}}
+use Rattle.nodes.proofs.{Runs.{set-same, set-other, set-long}, Tokens.{token-keep, token-renamed, token-made}}
 use Rattle.nodes.proofs.Store.{reserve-minus, noted-keep, tree-below, tree-out, tree-keep, back-le, rep-keep, links-keep}
 use Rattle.nodes.proofs.Classes.{notes-leaf, notes-over, notes-below}
 use Rattle.nodes.proofs.Trees.{one-out, tree-under, leaf-tree, leaf-first, attach-tree, attach-kept, leaf-test, tree-op}
 use Rattle.nodes.proofs.Keeping.{laid-kept}
-use Rattle.levels.specs.Passes.{walkOf, movedTo, waits}
-use Rattle.levels.specs.Items.{BackArray, Ahead}
-use Rattle.levels.specs.Failures
-use Rattle.levels.specs.Turns.{SameList, Within, TurnTo, goes, fails}
+use Rattle.levels.specs.{Passes.{walkOf, movedTo, waits}, Items.{BackArray, Ahead}, Turns.{SameList, Within, TurnTo, goes, fails}}
 use Rattle.levels.specs.declared.failure.Failure.the-variants.{NegateWithoutOperand, NotWithoutOperand, UnknownOperation}
-use Rattle.levels.specs.declared.turns.Pass.the-variants.{Unary}
-use Rattle.levels.specs.declared.turns.Turn.{Turn}
-use Rattle.levels.specs.declared.turns.Turn.the-variants.{On, Fail}
+use Rattle.levels.specs.{declared.turns.Pass.the-variants.{Unary}, declared.turns.Turn.{Turn}, declared.turns.Turn.the-variants.{On, Fail}}
 use Rattle.levels.proofs.Reading.{AheadTo, item, ahead-item, ahead-end, array-put, back-array-keep, ahead-keep, ahead-le, same-within}
+use Rattle.levels.specs.Failures
 use Rattle.passes.specs.Unary.{RightList, CanTakeToken, CanTakeMinus, TokenTaken, CanPrefix, Prefixed, Added, CanSubtract, Subtracted}
 use Rattle.passes.proofs.UnaryLaws.{minus-alone, minus-first, minus-operator, minus-operand, minus-minus, minus-unknown, not-alone}
-use Rattle.passes.proofs.UnaryLaws.{not-takes}
-use Rattle.passes.proofs.UnaryRight.{LastUnread, last, unread-last, unread-none, ahead-cons, right-holds}
+use Rattle.passes.proofs.{UnaryLaws.{not-takes}, UnaryRight.{LastUnread, last, unread-last, unread-none, ahead-cons, right-holds}}
 
 -- ---- `prefix`
 

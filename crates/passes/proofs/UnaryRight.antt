@@ -1,28 +1,17 @@
 -- A list of the unary pass in its words: the last unread item, an item put before the done ones, a list that the pass holds at a turn, and
 -- the loop of `previous_token`.
 use Prim.Native.Nat.{ℕ, _+_, _-_, _^_, _≤_, _<_}
-use mathlib.Core.Path.{_≡_, refl, sym, ap, _∙_, subst}
-use mathlib.Core.Logic.{_⊎_, ⊎-elim}
-use mathlib.Core.Bool.{Bool, true, false, true≢false}
-use mathlib.Core.List.{List, _∷_}
-use native.Mathlib.Omega.{arith}
-use native.Mathlib.Nat.{le-refl}
+use mathlib.Core.{Path.{_≡_, refl, sym, ap, _∙_, subst}, Logic.{_⊎_, ⊎-elim}, Bool.{Bool, true, false, true≢false}, List.{List, _∷_}}
+use native.Mathlib.{Omega.{arith}, Nat.{le-refl}}
 use lib.ListN.{length, set}
-use Rattle.molang.specs.Forest.{Token, Forest, nil, node, count}
-use Rattle.molang.specs.Free.{isNil, isPrefix}
+use Rattle.molang.specs.{Forest.{Token, Forest, nil, node, count}, Free.{isNil, isPrefix}}
 use Rattle.molang.specs.Work.{Kind, State, Right, right, unaryMinusAndNot}
 use Rattle.ops.specs.Classes.{shares}
-use Rattle.nodes.specs.Store.{wd, slotWords, slotStart, slotEnd, classesAt, SegB, RepT, RepB, begins, put}
-use Rattle.nodes.specs.Slots.{isLeafAt}
-use Rattle.nodes.specs.declared.frames.List.{List as Items}
-use Rattle.nodes.proofs.Runs.{set-same, set-other, set-long}
-use Rattle.nodes.proofs.Store.{tree-more, tree-below, tree-widen, tree-keep, back-le}
-use Rattle.nodes.proofs.Trees.{leaf-test}
-use Rattle.levels.specs.Passes.{walkOf, movedTo, Runs, unary}
-use Rattle.levels.specs.Items.{BackArray, Ahead}
-use Rattle.levels.specs.Sides.{RightSide, all, Sides, Holds}
-use Rattle.levels.specs.Turns.{CanTurn}
-use Rattle.levels.specs.declared.items.Found.the-variants.{Nothing, Children, Token as Leaf}
+use Rattle.nodes.{specs.Store.{wd, slotWords, slotStart, slotEnd, classesAt, SegB, RepT, RepB, begins, put}, specs.Slots.{isLeafAt}}
+use Rattle.nodes.{specs.declared.frames.List.{List as Items}, proofs.Runs.{set-same, set-other, set-long}}
+use Rattle.nodes.{proofs.Store.{tree-more, tree-below, tree-widen, tree-keep, back-le}, proofs.Trees.{leaf-test}}
+use Rattle.levels.specs.{Passes.{walkOf, movedTo, Runs, unary}, Items.{BackArray, Ahead}, Sides.{RightSide, all, Sides, Holds}}
+use Rattle.levels.specs.{Turns.{CanTurn}, declared.items.Found.the-variants.{Nothing, Children, Token as Leaf}}
 use Rattle.levels.specs.declared.turns.Pass.the-variants.{Unary}
 use Rattle.levels.proofs.Reading.{back-array-keep, ahead-keep, ahead-le, tree-free, tree-unfree, unfree-leaf}
 use Rattle.passes.specs.Unary.{RightList, CanSeekBack, Moved, SoughtBackTo, none, leaf, tree, SoughtBack}

@@ -1,23 +1,14 @@
 -- The unary pass's turn: the items that `previous_token` passes over, and then the end, a node that is entered, or a token.
 use Prim.Native.Nat.{ℕ}
-use mathlib.Core.Path.{_≡_, refl, ap, _∙_}
-use mathlib.Core.Bool.{false}
-use mathlib.Core.List.{List}
-use native.Mathlib.Omega.{arith}
-use native.Mathlib.Nat.{le-refl}
-use Rattle.molang.specs.Forest.{Forest, count, size}
-use Rattle.molang.specs.Work.{right, unaryMinusAndNot, work, begins}
+use mathlib.Core.{Path.{_≡_, refl, ap, _∙_}, Bool.{false}, List.{List}}
+use native.Mathlib.{Omega.{arith}, Nat.{le-refl}}
+use Rattle.molang.specs.{Forest.{Forest, count, size}, Work.{right, unaryMinusAndNot, work, begins}}
 use Rattle.nodes.specs.declared.frames.List.{List as Items}
-use Rattle.levels.specs.Passes.{walkOf, movedTo, waits}
-use Rattle.levels.specs.Turns.{SameList, Within, afresh, TurnTo, goes, enters, ends, fails, Turned}
-use Rattle.levels.specs.declared.items.Found.the-variants.{Nothing, Children, Token as Leaf}
-use Rattle.levels.specs.declared.turns.Pass.the-variants.{Unary}
-use Rattle.levels.specs.declared.turns.Walk.{Walk}
-use Rattle.levels.specs.declared.turns.Turn.{Turn}
-use Rattle.levels.specs.declared.turns.Turn.the-variants.{Enter, Over}
+use Rattle.levels.specs.{Passes.{walkOf, movedTo, waits}, Turns.{SameList, Within, afresh, TurnTo, goes, enters, ends, fails, Turned}}
+use Rattle.levels.specs.{declared.items.Found.the-variants.{Nothing, Children, Token as Leaf}, declared.turns.Pass.the-variants.{Unary}}
+use Rattle.levels.specs.{declared.turns.Walk.{Walk}, declared.turns.Turn.{Turn}, declared.turns.Turn.the-variants.{Enter, Over}}
 use Rattle.passes.specs.Unary.{CanSeekBack, Moved, SoughtBackTo, none, leaf, tree, SoughtBack, CanTakeToken, TokenTaken}
-use Rattle.passes.proofs.UnaryLaws.{at-tree}
-use Rattle.passes.proofs.UnaryRight.{right-sides, right-holds, of-unary}
+use Rattle.passes.proofs.{UnaryLaws.{at-tree}, UnaryRight.{right-sides, right-holds, of-unary}}
 
 moved-same : (v v' : Items) → v' ≡ movedTo v (v' .read) (v' .write) → SameList (walkOf v Unary) (walkOf v' Unary)
 moved-same v v' e =

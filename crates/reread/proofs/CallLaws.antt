@@ -1,28 +1,19 @@
 -- The calls that the functions make are the definition's: a list's own operators, and the buffers that are handed on.
 -- Assumes nothing.
-use mathlib.Core.Path.{_≡_, refl, sym, ap, _∙_, fun-ext}
-use mathlib.Core.List.{List}
+use mathlib.Core.{Path.{_≡_, refl, sym, ap, _∙_, fun-ext}, List.{List}}
 use Prim.Native.Nat.{ℕ, _*_, _≤_}
 use native.Mathlib.Omega.{arith}
-use lib.IntN.{ℤ}
-use lib.ListN.{length, take, length-take}
-use Rattle.molang.specs.Read.{uses}
-use Rattle.molang.specs.Words.{operatorField, tokensOf}
-use Rattle.molang.specs.Parse.{aTree}
+use lib.{IntN.{ℤ}, ListN.{length, take, length-take}}
+use Rattle.molang.specs.{Read.{uses}, Words.{operatorField, tokensOf}, Parse.{aTree}}
 use Rattle.molang.specs.WriteEntry.{tokens, unwritten, writeAnswered, listAfter}
 use Rattle.molang.specs.Reread.{Handed, writerCall, exactCall, secondCall, Rereading, handed, RereadLeft, stopped, secondTold, afterWriting}
 use Rattle.molang.specs.Reread.{afterFirst, reread}
-use Rattle.molang.proofs.HandedTree.{unwritten-list}
-use Rattle.molang.proofs.Reread.{Readable, written-readable, demand-3}
-use Rattle.derived.specs.Derived.{named}
-use Rattle.derived.proofs.WordLaws.{legal-list}
-use Rattle.parse.specs.declared.Answer.{Answer}
-use Rattle.reread.specs.declared.Outcome.{Outcome}
-use Rattle.reread.specs.declared.Outcome.the-variants.{Refused}
-use Rattle.parse.specs.Answers.{toldOf, HasParsed}
-use Rattle.own.specs.Own.{namedCall}
-use Rattle.reread.specs.Answers.{rereadOf, leftOf, handedOf}
+use Rattle.molang.proofs.{HandedTree.{unwritten-list}, Reread.{Readable, written-readable, demand-3}}
+use Rattle.derived.{specs.Derived.{named}, proofs.WordLaws.{legal-list}}
+use Rattle.parse.specs.{declared.Answer.{Answer}, Answers.{toldOf, HasParsed}}
+use Rattle.reread.specs.{declared.Outcome.{Outcome}, declared.Outcome.the-variants.{Refused}, Answers.{rereadOf, leftOf, handedOf}}
 use Rattle.reread.specs.Promises.{CanGoOn, HasReread}
+use Rattle.own.specs.Own.{namedCall}
 
 -- The words of a legal list name its tokens' operators.
 pub exact-call : (list : List ℕ) (count : ℕ) → Readable list count → (tree messages work : List ℕ) (sourceLength : ℕ) {passed version : ℤ}

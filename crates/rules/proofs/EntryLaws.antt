@@ -1,44 +1,27 @@
 -- The entry with a rule buffer: its table is answers 1 to 5 and 16 before the other rows, a call that these let through is answered as
 -- without the buffer, and the bytes are the definition's rules. Assumes nothing.
 use Prim.Native.Nat.{ℕ, _*_, _/_, _≤_, _<_}
-use mathlib.Core.Path.{_≡_, refl, ap, sym, _∙_, subst}
-use mathlib.Core.Bool.{Bool, true, false}
-use mathlib.Core.List.{List, [], _∷_}
-use mathlib.Core.Logic.{inl, inr}
+use mathlib.Core.{Path.{_≡_, refl, ap, sym, _∙_, subst}, Bool.{Bool, true, false}, List.{List, [], _∷_}, Logic.{inl, inr}}
 use mathlib.Core.Option.{Option, none, some}
 use native.Mathlib.Omega.{arith}
-use lib.Dec.{leb}
-use lib.IntN.{ℤ}
-use lib.ListN.{length, take}
+use lib.{Dec.{leb}, IntN.{ℤ}, ListN.{length, take}}
 use borrow.Author.Tests.{leb-true, le-leb, lt-leb}
 use types.Run.{OneOf}
 use denote.Enum.Declared.{tagOf}
-use Rattle.molang.specs.FirstFailure.{must, firstOf}
-use Rattle.molang.specs.Forest.{Token, Forest, nil, node, size}
-use Rattle.molang.specs.Order.{effective, isFrom, rules}
-use Rattle.molang.specs.Read as read
-use Rattle.molang.specs.Words.{Refusal, row, tokensOf}
+use Rattle.molang.{specs.FirstFailure.{must, firstOf}, specs.Forest.{Token, Forest, nil, node, size}}
+use Rattle.molang.{specs.Order.{effective, isFrom, rules}, specs.Words.{Refusal, row, tokensOf}}
 use Rattle.molang.specs.Parse.{Call, Told, aTree, someMessages, refused, lengthRows, valueRows, refusal, reading, told, answered, inHalves}
 use Rattle.molang.specs.Parse.{inFront, treeIn, treeAfter, messagesIn, messagesAfter, workIn, workAfter}
 use Rattle.molang.specs.Rules.{rulesOf, RuleCall, ruleRefusal, ruleAnswered, ruledTreeAfter, ruledMessagesAfter, ruledWorkAfter, rulesFor}
-use Rattle.molang.specs.Rules.{rulesAfter}
-use Rattle.molang.proofs.FirstFailure.{first-none, passed, found, after-none, in-parts}
-use Rattle.molang.proofs.Accepted.{call-accepted}
-use Rattle.molang.proofs.Bounds.{read-tree}
-use Rattle.molang.proofs.Legal.{read-legal}
-use Rattle.molang.proofs.ListWords.{tokens-count}
-use Rattle.molang.proofs.OperatorRules.{rules-by-operator}
-use Rattle.molang.proofs.HandedTree.{Parsed, tree-front, tree-of-told}
-use Rattle.accept.specs.declared.Sizes.{Sizes}
-use Rattle.accept.specs.Accepting.{isRead, isRefused, verdict, lengthRefusal}
+use Rattle.molang.{specs.Rules.{rulesAfter}, proofs.FirstFailure.{first-none, passed, found, after-none, in-parts}}
+use Rattle.molang.{proofs.Accepted.{call-accepted}, proofs.Bounds.{read-tree}, proofs.Legal.{read-legal}, proofs.ListWords.{tokens-count}}
+use Rattle.molang.{proofs.OperatorRules.{rules-by-operator}, proofs.HandedTree.{Parsed, tree-front, tree-of-told}}
+use Rattle.molang.specs.Read as read
+use Rattle.accept.specs.{declared.Sizes.{Sizes}, Accepting.{isRead, isRefused, verdict, lengthRefusal}}
 use Rattle.accept.proofs.AcceptLaws.{sizesOf, same-lengths, accepted, refused-as}
-use Rattle.parse.specs.declared.Answer.{Answer}
-use Rattle.parse.specs.declared.Answer.the-variants.{Tree, Messages, Refused}
-use Rattle.parse.specs.Answers.{toldOf, HasParsed}
+use Rattle.parse.specs.{declared.Answer.{Answer}, declared.Answer.the-variants.{Tree, Messages, Refused}, Answers.{toldOf, HasParsed}}
 use Rattle.parse.proofs.Answer.{the-type}
-use Rattle.rules.specs.Nodes.{wordRules}
-use Rattle.rules.specs.Numbering.{roomRefusal, CanNumber, numbered}
-use Rattle.rules.specs.Answers.{HasRuled}
+use Rattle.rules.specs.{Nodes.{wordRules}, Numbering.{roomRefusal, CanNumber, numbered}, Answers.{HasRuled}}
 use Rattle.rules.proofs.NodeLaws.{tree-ruled}
 
 -- ---- the table

@@ -1,30 +1,19 @@
 -- Rules by operators and by words: the table that the code looks rules up in, the rules of nodes in a row one by one, and that the words of
 -- legal trees give the definition's rules by operator. Assumes nothing.
 use Prim.Native.Nat.{ℕ, zero, suc, _+_, _*_, _/_, _^_, _≤_, _<_, min}
-use mathlib.Core.Path.{_≡_, refl, ap, sym, _∙_}
-use mathlib.Core.Bool.{Bool, true, false, _&&_, and-false}
+use mathlib.Core.{Path.{_≡_, refl, ap, sym, _∙_}, Bool.{Bool, true, false, _&&_, and-false}}
 use mathlib.Core.List.{List, [], _∷_, _++_, append-assoc, append-nil}
-use native.Mathlib.Nat.{zero-add}
-use native.Mathlib.Omega.{arith}
-use lib.Dec.{T, eqb, leb, ltb, eqb→eq, ltb→lt}
-use lib.ListN.{length, getD, take, set}
-use lib.Seq.{getD-append-add, take-all}
+use native.Mathlib.{Nat.{zero-add}, Omega.{arith}}
+use lib.{Dec.{T, eqb, leb, ltb, eqb→eq, ltb→lt}, ListN.{length, getD, take, set}, Seq.{getD-append-add, take-all}}
 use borrow.Author.Tests.{ne-eqb, leb-true, leb-false}
 use Rattle.molang.specs.Operator.{logicalEqual, logicalNotEqual, between, isMathCall}
 use Rattle.molang.specs.Forest.{Token, Forest, nil, node, count, unclosed, closedBy}
-use Rattle.molang.specs.Words.{word, lowOf, tokenOf, tokenWords, nodeWordsOf, treeWords}
-use Rattle.molang.specs.Parse.{inFront}
-use Rattle.molang.specs.Legal.{Legal, LegalTrees, noTrees, legalTree}
-use Rattle.molang.specs.Rules.{numberBeside}
+use Rattle.molang.specs.{Words.{word, lowOf, tokenOf, tokenWords, nodeWordsOf, treeWords}, Parse.{inFront}}
+use Rattle.molang.specs.{Legal.{Legal, LegalTrees, noTrees, legalTree}, Rules.{numberBeside}}
 use Rattle.molang.specs.OperatorRules.{operatorNumbers, operatorRule, operatorRules}
-use Rattle.molang.proofs.RoundTrip.Role.{no-math}
-use Rattle.molang.proofs.Words.{low-word, token-back}
-use Rattle.ops.specs.Classes.{upTo}
-use Rattle.ops.proofs.OperatorLaws.{and-left, and-right, passes, passes-at}
-use Rattle.words.specs.Fields.{operatorOf}
-use Rattle.words.specs.Records.{laidAt}
-use Rattle.words.proofs.RecordLaws.{none-laid, laid-front}
-use Rattle.words.proofs.LaidLaws.{laid-next}
+use Rattle.molang.proofs.{RoundTrip.Role.{no-math}, Words.{low-word, token-back}}
+use Rattle.ops.{specs.Classes.{upTo}, proofs.OperatorLaws.{and-left, and-right, passes, passes-at}}
+use Rattle.words.{specs.Fields.{operatorOf}, specs.Records.{laidAt}, proofs.RecordLaws.{none-laid, laid-front}, proofs.LaidLaws.{laid-next}}
 use Rattle.rules.specs.Nodes.{nodeRule, wordRules}
 
 -- ---- the table

@@ -1,16 +1,10 @@
 -- What `sections` leaves is the definition's answer, and the bracket step of the definition loses nothing of a childless list; so neither
 -- does the function.
 use Prim.Native.Nat.{ℕ}
-use mathlib.Core.Path.{_≡_, refl, sym, _∙_, subst}
-use mathlib.Core.List.{List, []}
-use Rattle.molang.specs.Forest.{Token, Forest, nil, leaves}
-use Rattle.molang.specs.Message.{Result}
-use Rattle.molang.specs.Sections.{outside, sections}
-use Rattle.molang.specs.Matching.{matched, succeeds, NothingLost}
-use Rattle.molang.proofs.Matching.{nothing-lost}
-use Rattle.sections.specs.Flat.{Answers, CanSection, Sectioned}
-use Rattle.sections.specs.Matching.{isDone, StandsWhole, LosesNothing}
-use Rattle.sections.specs.declared.Flat.{Flat}
+use mathlib.Core.{Path.{_≡_, refl, sym, _∙_, subst}, List.{List, []}}
+use Rattle.molang.{specs.Forest.{Token, Forest, nil, leaves}, specs.Message.{Result}, specs.Sections.{outside, sections}}
+use Rattle.molang.{specs.Matching.{matched, succeeds, NothingLost}, proofs.Matching.{nothing-lost}}
+use Rattle.sections.specs.{Flat.{Answers, CanSection, Sectioned}, Matching.{isDone, StandsWhole, LosesNothing}, declared.Flat.{Flat}}
 use Rattle.sections.specs.declared.Flat.the-variants.{Done, Fail, Mismatched, Unclosed as Unclosing}
 
 -- A list is left where the answer is one.

@@ -2,31 +2,22 @@
 -- done, the last first, stand in the array's front, the tokens not read yet in its end, and the definition's answer from there on is that
 -- of the whole list.
 use Prim.Native.Nat.{ℕ, _+_, _-_, _≤_, _<_}
-use mathlib.Core.Path.{_≡_, refl, sym, ap, _∙_}
-use mathlib.Core.Logic.{_≢_, inl, inr, ⊎-elim}
-use mathlib.Core.Bool.{true, false}
-use mathlib.Core.List.{List, [], _∷_}
-use mathlib.Core.Option.{some}
-use native.Mathlib.Omega.{arith}
-use native.Mathlib.Nat.{le-refl, add-zero}
+use mathlib.Core.{Path.{_≡_, refl, sym, ap, _∙_}, Logic.{_≢_, inl, inr, ⊎-elim}, Bool.{true, false}, List.{List, [], _∷_}, Option.{some}}
+use native.Mathlib.{Omega.{arith}, Nat.{le-refl, add-zero}}
 use lib.ListN.{length, set}
-use Rattle.molang.specs.Operator.{memberAccessor, hasMembers}
-use Rattle.molang.specs.Forest.{Token, Forest, nil, node, leaves, inOrder, count}
-use Rattle.molang.specs.Message.{leadingMemberAccessor}
-use Rattle.molang.specs.Sections.{withMember, members}
-use Rattle.nodes.specs.Store.{wd, slotEnd, Seg, SegB, RepF, RepT, RepB, begins, put, Free, Kept}
-use Rattle.nodes.specs.Slots.{opAt}
-use Rattle.nodes.specs.Children.{Attached}
+use Rattle.molang.specs.{Operator.{memberAccessor, hasMembers}, Forest.{Token, Forest, nil, node, leaves, inOrder, count}}
+use Rattle.molang.specs.{Message.{leadingMemberAccessor}, Sections.{withMember, members}}
+use Rattle.nodes.specs.{Store.{wd, slotEnd, Seg, SegB, RepF, RepT, RepB, begins, put, Free, Kept}, Slots.{opAt}, Children.{Attached}}
 use Rattle.nodes.proofs.Runs.{set-same, set-other, set-long, seg-keep, segB-keep}
 use Rattle.nodes.proofs.Store.{rep-le, rep-count, tree-first, tree-below, tree-out, back-le, back-count}
 use Rattle.nodes.proofs.Keeping.{free-above, free-part, kept-then, kept-part, rep-beside, tree-beside, back-beside}
 use Rattle.nodes.proofs.Trees.{tree-under, tree-op, attach-tree, attach-kept}
 use Rattle.sections.specs.Flat.{failed, Stands, Fails, CanJoin, MemberAt, Written, WithMember, Membered}
+use Rattle.sections.specs.declared.Flat.the-variants.{Fail}
 use Rattle.sections.proofs.SectionWritten.{written-none, written-raise, written-more, store-kept, written-array}
 use Rattle.sections.proofs.SectionCases.{members-other, members-joined, members-leading, joined-under, joined-after}
 use Rattle.levels.specs.Failures as failures
 use Rattle.levels.specs.declared.failure.Failure.the-variants.{LeadingMemberAccessor}
-use Rattle.sections.specs.declared.Flat.the-variants.{Fail}
 
 -- ---- what is written
 

@@ -1,26 +1,17 @@
 -- The definition one token at a time: which case of `members`, `bracket`, `openAfter`, `closing` and `sections` it is, by what is known of
 -- the token. And what is known of openers: they are leaves of a flat list, in no class.
 use Prim.Native.Nat.{ℕ, suc, _+_, _-_, _<_}
-use mathlib.Core.Path.{_≡_, refl, sym, ap, _∙_}
-use mathlib.Core.Logic.{_≢_, _⊎_, inl, inr, ⊎-elim}
-use mathlib.Core.Bool.{Bool, true, false, true≢false}
-use mathlib.Core.List.{List, [], _∷_}
-use mathlib.Core.Option.{Option, none, some}
+use mathlib.Core.{Path.{_≡_, refl, sym, ap, _∙_}, Logic.{_≢_, _⊎_, inl, inr, ⊎-elim}, Bool.{Bool, true, false, true≢false}}
+use mathlib.Core.{List.{List, [], _∷_}, Option.{Option, none, some}}
 use native.Mathlib.Omega.{arith}
 use lib.Dec.{eqb}
 use borrow.Author.Tests.{eq-eqb, ne-eqb, eqb-true}
 use Rattle.molang.specs.Operator.{memberAccessor, leftBrace, leftBracket, leftParenthesis, any, isOneOf, between, isMathCall, isQueryOrLoop}
-use Rattle.molang.specs.Operator.{hasMembers, closingOf, isCloser}
-use Rattle.molang.specs.Forest.{Token, Forest, nil, node, inOrder, closedBy}
+use Rattle.molang.{specs.Operator.{hasMembers, closingOf, isCloser}, specs.Forest.{Token, Forest, nil, node, inOrder, closedBy}}
 use Rattle.molang.specs.Message.{Message, leadingMemberAccessor, closingMismatch, sectionNotClosed, fail, closer}
 use Rattle.molang.specs.Sections.{withMember, members, Open, section, placed, position, outermost, Walked, going, mismatch, closing}
-use Rattle.molang.specs.Sections.{bracket, sections}
-use Rattle.molang.specs.Nesting.{openAfter}
-use Rattle.molang.specs.Free.{flat}
-use Rattle.molang.proofs.Trees.{both, and-true-true}
-use Rattle.ops.specs.Operators.{isOpener}
-use Rattle.ops.specs.Classes.{passClasses, ownClasses, inClass}
-use Rattle.ops.proofs.OperatorLaws.{false-at}
+use Rattle.molang.{specs.Sections.{bracket, sections}, specs.Nesting.{openAfter}, specs.Free.{flat}, proofs.Trees.{both, and-true-true}}
+use Rattle.ops.{specs.Operators.{isOpener}, specs.Classes.{passClasses, ownClasses, inClass}, proofs.OperatorLaws.{false-at}}
 use Rattle.levels.proofs.Reading.{when-true as taken, when-false as passed}
 
 -- a value that is there

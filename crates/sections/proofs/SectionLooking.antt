@@ -1,39 +1,24 @@
 -- One token of the section walk: `close_section` and `look`, against the definition's `closing` and `bracket`.
 use Prim.Native.Nat.{ℕ, zero, suc, _+_, _*_, _-_, _≤_, _<_}
-use mathlib.Core.Path.{_≡_, refl, sym, ap, _∙_, subst}
-use mathlib.Core.Logic.{_≢_, _⊎_, inl, inr, ⊎-elim}
-use mathlib.Core.Bool.{true, false}
-use mathlib.Core.List.{List, [], _∷_}
+use mathlib.Core.{Path.{_≡_, refl, sym, ap, _∙_, subst}, Logic.{_≢_, _⊎_, inl, inr, ⊎-elim}, Bool.{true, false}, List.{List, [], _∷_}}
 use mathlib.Core.Option.{none, Option·getD}
-use native.Mathlib.Omega.{arith}
-use native.Mathlib.Nat.{le-refl}
+use native.Mathlib.{Omega.{arith}, Nat.{le-refl}}
 use lib.ListN.{length, set}
-use Rattle.molang.specs.Operator.{closingOf, isCloser}
-use Rattle.molang.specs.Forest.{Token, Forest, nil, node, inOrder, closedBy}
-use Rattle.molang.specs.Message.{closingMismatch, sectionNotClosed, closer}
-use Rattle.molang.specs.Words.{word}
+use Rattle.molang.{specs.Operator.{closingOf, isCloser}, specs.Forest.{Token, Forest, nil, node, inOrder, closedBy}}
+use Rattle.molang.{specs.Message.{closingMismatch, sectionNotClosed, closer}, specs.Words.{word}}
 use Rattle.molang.specs.Sections.{Open, outside, section, placed, position, outermost, Walked, going, mismatch, closing, bracket}
-use Rattle.molang.specs.Nesting.{openAfter}
-use Rattle.molang.proofs.Trees.{decided}
-use Rattle.molang.proofs.OpenCount.{bracket-depth}
+use Rattle.molang.{specs.Nesting.{openAfter}, proofs.Trees.{decided}, proofs.OpenCount.{bracket-depth}}
 use Rattle.ops.specs.Operators.{isOpener}
 use Rattle.nodes.specs.Store.{wd, slotStart, slotEnd, closeWord, TokenAt, reserve, Seg, Out, RepF, RepT, Owned, InArray, Free}
-use Rattle.nodes.specs.Slots.{opAt, endAt}
-use Rattle.nodes.specs.Children.{CanGive, Given}
-use Rattle.nodes.proofs.Runs.{set-same, set-other, set-long}
-use Rattle.nodes.proofs.Tokens.{token-closed}
-use Rattle.nodes.proofs.Store.{reserve-pos, rep-lower, rep-raise, tree-below, tree-out, back-le, back-avoid}
+use Rattle.nodes.{specs.Slots.{opAt, endAt}, specs.Children.{CanGive, Given}, proofs.Runs.{set-same, set-other, set-long}}
+use Rattle.nodes.{proofs.Tokens.{token-closed}, proofs.Store.{reserve-pos, rep-lower, rep-raise, tree-below, tree-out, back-le, back-avoid}}
 use Rattle.nodes.proofs.Keeping.{free-above, free-part, tree-beside, give-kept}
 use Rattle.nodes.proofs.Trees.{tree-op, array-give, owned-tree, owned-leaf, owned-store, give-owned, give-token}
 use Rattle.sections.specs.Flat.{Opener, Standing, outer, inner, LookAt, Follows, on, ends, Closed, Looked, Named}
-use Rattle.levels.specs.Failures.{mismatched}
-use Rattle.levels.specs.declared.failure.Unclosed.{Unclosed}
-use Rattle.sections.specs.declared.Reached.{Reached}
-use Rattle.sections.specs.declared.Bracket.{Bracket}
-use Rattle.sections.specs.declared.Bracket.the-variants.{On, Differs}
+use Rattle.sections.specs.{declared.Reached.{Reached}, declared.Bracket.{Bracket}, declared.Bracket.the-variants.{On, Differs}}
+use Rattle.levels.specs.{Failures.{mismatched}, declared.failure.Unclosed.{Unclosed}}
 use Rattle.sections.proofs.SectionCases.{missed, other-closes, classless, opener-leaf, bracket-opens, bracket-closes, bracket-places}
-use Rattle.sections.proofs.SectionCases.{closing-takes, closing-differs}
-use Rattle.sections.proofs.SectionWritten.{written-array}
+use Rattle.sections.proofs.{SectionCases.{closing-takes, closing-differs}, SectionWritten.{written-array}}
 use Rattle.sections.proofs.SectionOpen.{standing-le, standing-depth, standing-position, standing-keep, standing-placed}
 use Rattle.sections.proofs.SectionOpen.{standing-open, opener-le, innermost-word, innermost-slot, names}
 

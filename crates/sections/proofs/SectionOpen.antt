@@ -1,25 +1,17 @@
 -- The open sections in the words: what a change elsewhere keeps, one tree more in the innermost, one section more, and what the marks of
 -- the innermost and the outermost name.
 use Prim.Native.Nat.{ℕ, _+_, _*_, _-_, _≤_, _<_}
-use mathlib.Core.Path.{_≡_, refl, sym, ap, _∙_}
-use mathlib.Core.Logic.{_≢_, inr}
-use mathlib.Core.Bool.{true}
-use mathlib.Core.List.{List, [], _∷_}
-use native.Mathlib.Omega.{arith}
-use native.Mathlib.Nat.{le-refl}
+use mathlib.Core.{Path.{_≡_, refl, sym, ap, _∙_}, Logic.{_≢_, inr}, Bool.{true}, List.{List, [], _∷_}}
+use native.Mathlib.{Omega.{arith}, Nat.{le-refl}}
 use lib.ListN.{length}
-use Rattle.molang.specs.Forest.{Token, Forest, nil, inOrder}
-use Rattle.molang.specs.Message.{sectionNotClosed, noClosingSymbol, ok, fail}
-use Rattle.molang.specs.Sections.{Open, section, placed, position, outermost, closed}
-use Rattle.molang.proofs.OpenCount.{depthOf}
+use Rattle.molang.{specs.Forest.{Token, Forest, nil, inOrder}, specs.Message.{sectionNotClosed, noClosingSymbol, ok, fail}}
+use Rattle.molang.{specs.Sections.{Open, section, placed, position, outermost, closed}, proofs.OpenCount.{depthOf}}
 use Rattle.ops.specs.Operators.{isOpener}
-use Rattle.nodes.specs.Store.{wd, slotStart, TokenAt, RepT}
-use Rattle.nodes.proofs.Store.{tree-below, back-le, back-count}
-use Rattle.nodes.proofs.Keeping.{tree-beside}
+use Rattle.nodes.{specs.Store.{wd, slotStart, TokenAt, RepT}, proofs.Store.{tree-below, back-le, back-count}, proofs.Keeping.{tree-beside}}
 use Rattle.sections.specs.Flat.{unclosed, Fails, Written, Opener, Standing, outer, inner, NamedAt, Named}
+use Rattle.sections.specs.declared.Flat.the-variants.{Unclosed as Unclosing}
 use Rattle.levels.specs.Failures as failures
 use Rattle.levels.specs.declared.failure.Unclosed.{Unclosed}
-use Rattle.sections.specs.declared.Flat.the-variants.{Unclosed as Unclosing}
 use Rattle.sections.proofs.SectionWritten.{written-none, written-raise, written-keep, written-put}
 
 -- ---- numbers

@@ -1,30 +1,17 @@
 -- The section walk: its two loops have one invariant, the outer one with no section open. What is read stands as the definition's open
 -- sections, what is not read yet in the array's end, and the definition's answer from there on is that of the whole list.
 use Prim.Native.Nat.{ℕ, _+_, _*_, _≤_, _<_}
-use mathlib.Core.Path.{_≡_, refl, sym, ap, _∙_, subst}
-use mathlib.Core.Logic.{_≢_, inl, inr, ⊎-elim}
-use mathlib.Core.Bool.{true}
-use mathlib.Core.List.{List, [], _∷_}
-use native.Mathlib.Omega.{arith}
-use native.Mathlib.Nat.{le-refl, add-zero}
+use mathlib.Core.{Path.{_≡_, refl, sym, ap, _∙_, subst}, Logic.{_≢_, inl, inr, ⊎-elim}, Bool.{true}, List.{List, [], _∷_}}
+use native.Mathlib.{Omega.{arith}, Nat.{le-refl, add-zero}}
 use lib.ListN.{length}
-use Rattle.molang.specs.Forest.{Token, Forest, nil, node, inOrder, count}
-use Rattle.molang.specs.Message.{Message}
-use Rattle.molang.specs.Sections.{Open, outside, position, Walked, mismatch, sections}
-use Rattle.molang.specs.Free.{flat}
-use Rattle.nodes.specs.Store.{wd, Seg, RepF, RepT, Kept}
-use Rattle.nodes.proofs.Runs.{seg-keep}
-use Rattle.nodes.proofs.Store.{rep-le, rep-count, tree-first, back-count}
+use Rattle.molang.specs.{Forest.{Token, Forest, nil, node, inOrder, count}, Message.{Message}}
+use Rattle.molang.specs.{Sections.{Open, outside, position, Walked, mismatch, sections}, Free.{flat}}
+use Rattle.nodes.{specs.Store.{wd, Seg, RepF, RepT, Kept}, proofs.Runs.{seg-keep}, proofs.Store.{rep-le, rep-count, tree-first, back-count}}
 use Rattle.nodes.proofs.Keeping.{free-above, free-part, kept-then, rep-beside}
 use Rattle.sections.specs.Flat.{mismatched, Stands, Fails, Standing, outer, inner, LookAt, Follows, on, ends, Looked, NamedAt, Named}
-use Rattle.sections.specs.Flat.{CanSection}
-use Rattle.levels.specs.Failures.{TellsMismatch}
-use Rattle.levels.specs.declared.failure.Mismatch.{Mismatch}
-use Rattle.levels.specs.declared.failure.Unclosed.{Unclosed}
-use Rattle.sections.specs.declared.Flat.the-variants.{Mismatched, Unclosed as Unclosing}
-use Rattle.sections.specs.declared.Reached.{Reached}
-use Rattle.sections.specs.declared.Bracket.{Bracket}
-use Rattle.sections.specs.declared.Bracket.the-variants.{On, Differs}
+use Rattle.sections.specs.{Flat.{CanSection}, declared.Flat.the-variants.{Mismatched, Unclosed as Unclosing}}
+use Rattle.sections.specs.{declared.Reached.{Reached}, declared.Bracket.{Bracket}, declared.Bracket.the-variants.{On, Differs}}
+use Rattle.levels.specs.{Failures.{TellsMismatch}, declared.failure.Mismatch.{Mismatch}, declared.failure.Unclosed.{Unclosed}}
 use Rattle.sections.proofs.SectionCases.{flat-first, sections-go, sections-end}
 use Rattle.sections.proofs.SectionWritten.{written-none, written-raise, written-array}
 use Rattle.sections.proofs.SectionOpen.{standing-written, standing-raise, standing-named, standing-unclosed, standing-outside}

@@ -1,17 +1,11 @@
 -- Trees that are written one after the other: the last first in the words, each in an interval of its own.
 use Prim.Native.Nat.{ℕ, _+_, _≤_, _<_}
-use mathlib.Core.Path.{_≡_, refl}
-use mathlib.Core.Logic.{inr, ⊎-elim}
-use mathlib.Core.List.{List, [], _∷_}
-use native.Mathlib.Omega.{arith}
-use native.Mathlib.Nat.{le-refl}
+use mathlib.Core.{Path.{_≡_, refl}, Logic.{inr, ⊎-elim}, List.{List, [], _∷_}}
+use native.Mathlib.{Omega.{arith}, Nat.{le-refl}}
 use lib.ListN.{length, set}
 use Rattle.molang.specs.Forest.{Token, Forest, nil, node, inOrder}
-use Rattle.nodes.specs.Store.{wd, slotStart, RepT, begins, put, InArray, Kept}
-use Rattle.nodes.proofs.Runs.{set-same, set-other, segB-keep}
-use Rattle.nodes.proofs.Store.{tree-below, back-raise}
-use Rattle.nodes.proofs.Keeping.{tree-beside, back-beside}
-use Rattle.nodes.proofs.Trees.{gathered-array}
+use Rattle.nodes.{specs.Store.{wd, slotStart, RepT, begins, put, InArray, Kept}, proofs.Runs.{set-same, set-other, segB-keep}}
+use Rattle.nodes.{proofs.Store.{tree-below, back-raise}, proofs.Keeping.{tree-beside, back-beside}, proofs.Trees.{gathered-array}}
 use Rattle.sections.specs.Flat.{Written}
 
 pub written-none : {W X : List ℕ} {base : ℕ} (lo : ℕ) → Written W X base lo lo nil 0

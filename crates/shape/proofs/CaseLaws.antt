@@ -1,29 +1,20 @@
 -- What the arm of a `match` on an enum says where it stands for several variants.
 use Prim.Native.Nat.{ℕ, _/_, _^_, _≤_, _<_}
-use mathlib.Core.Path.{_≡_, refl, ap, _∙_}
-use mathlib.Core.Bool.{Bool, true, false, _&&_, and-false}
-use mathlib.Core.List.{[], _∷_}
+use mathlib.Core.{Path.{_≡_, refl, ap, _∙_}, Bool.{Bool, true, false, _&&_, and-false}, List.{[], _∷_}}
 use denote.Enum.Declared
 use types.Run.{OneOf, miss}
 use native.Mathlib.Omega.{arith}
 use lib.Dec.{eqb, leb, ltb}
 use borrow.Author.Tests.{eq-eqb, eqb-true, le-leb, lt-leb, lt-ltb, le-ltb}
-use Rattle.molang.specs.Operator.{isOperator}
-use Rattle.molang.specs.FirstFailure.{must, firstOf}
+use Rattle.molang.{specs.Operator.{isOperator}, specs.FirstFailure.{must, firstOf}}
 use Rattle.molang.specs.Words.{kindOf, lowOf, operatorField, countField, fieldKind, lowFault, wordFault, variantAfter}
-use Rattle.molang.specs.WriteEntry.{Shape, shapeAfter, isWhole}
-use Rattle.molang.proofs.Booleans.{either}
-use Rattle.molang.proofs.FirstFailure.{must-true, after-none}
-use Rattle.words.proofs.CheckLaws.{operator-tests}
-use Rattle.words.specs.Fields.{operatorOf, variantOf}
+use Rattle.molang.{specs.WriteEntry.{Shape, shapeAfter, isWhole}, proofs.Booleans.{either}, proofs.FirstFailure.{must-true, after-none}}
+use Rattle.words.{proofs.CheckLaws.{operator-tests}, specs.Fields.{operatorOf, variantOf}, specs.declared.checks.Word.{Word}}
+use Rattle.words.{specs.declared.checks.Word.the-variants.{Good, WrongKind, HighOperator, HighVariant, OtherBit}, specs.Checks.{numberOf}}
 use Rattle.words.proofs.checks.Word as word
-use Rattle.words.specs.declared.checks.Word.{Word}
-use Rattle.words.specs.declared.checks.Word.the-variants.{Good, WrongKind, HighOperator, HighVariant, OtherBit}
-use Rattle.words.specs.Checks.{numberOf}
-use Rattle.shape.specs.declared.Field.{Field}
-use Rattle.shape.specs.declared.Field.the-variants.{Operator, Start, End, Upper, Lower, Count, Close}
-use Rattle.shape.proofs.Field as field
+use Rattle.shape.specs.{declared.Field.{Field}, declared.Field.the-variants.{Operator, Start, End, Upper, Lower, Count, Close}}
 use Rattle.shape.specs.Answers.{fieldOf, isLegal}
+use Rattle.shape.proofs.Field as field
 
 legal-must : (b : Bool) (n : ℕ) → isLegal (must b n) ≡ b
 unfolding must

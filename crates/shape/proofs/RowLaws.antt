@@ -1,17 +1,11 @@
 -- A row of trees in words: how many trees and nodes it is, and what stands after its first trees.
 use Prim.Native.Nat.{ℕ, zero, suc, _+_, _-_, _*_, _≤_, _<_}
-use mathlib.Core.Path.{_≡_, refl, ap, sym}
-use mathlib.Core.List.{List}
-use native.Mathlib.Nat.{zero-add, suc-add}
-use native.Mathlib.Omega.{arith}
+use mathlib.Core.{Path.{_≡_, refl, ap, sym}, List.{List}}
+use native.Mathlib.{Nat.{zero-add, suc-add}, Omega.{arith}}
 use lib.ListN.{length, getD, drop}
-use Rattle.molang.specs.Forest.{Token, Forest, nil, node, count, size}
-use Rattle.molang.specs.Words.{lowOf, tokenOf, nodeOf, tokenWords}
-use Rattle.molang.specs.WriteEntry.{firstTrees, otherTrees, treesOf}
-use Rattle.molang.proofs.Words.{beside}
-use Rattle.words.specs.Fields.{operatorOf}
-use Rattle.words.proofs.TreeLaws.{none-first}
-use Rattle.words.specs.Tokens.{nodeLength}
+use Rattle.molang.{specs.Forest.{Token, Forest, nil, node, count, size}, specs.Words.{lowOf, tokenOf, nodeOf, tokenWords}}
+use Rattle.molang.{specs.WriteEntry.{firstTrees, otherTrees, treesOf}, proofs.Words.{beside}}
+use Rattle.words.{specs.Fields.{operatorOf}, proofs.TreeLaws.{none-first}, specs.Tokens.{nodeLength}}
 use Rattle.shape.specs.Shaped.{countIndex, closeIndex, firstFive, Shaped, noTrees, aNode}
 
 -- The first trees and the others are the row.

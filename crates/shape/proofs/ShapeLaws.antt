@@ -1,27 +1,17 @@
 -- Answer 12 and what it leaves: words without fault are one tree in its layout; and what is known of a row of trees by its words.
 use Prim.Native.Nat.{ℕ, suc, _+_, _-_, _*_, _^_, _≤_, _<_}
-use mathlib.Core.Path.{_≡_, refl, sym, _∙_}
-use mathlib.Core.Bool.{Bool, true, false, _&&_, true≢false}
-use mathlib.Core.List.{List, [], _∷_}
-use mathlib.Core.Option.{Option, none, some}
-use native.Mathlib.Numerals.{add-one}
-use native.Mathlib.Omega.{arith}
-use lib.Dec.{leb}
-use lib.ListN.{length, getD, drop, drop-of-length-le}
-use lib.Seq.{drop-cons}
-use borrow.Author.Tests.{eqb-true, leb-true, le-leb, lt-leb}
+use mathlib.Core.{Path.{_≡_, refl, sym, _∙_}, Bool.{Bool, true, false, _&&_, true≢false}, List.{List, [], _∷_}, Option.{Option, none, some}}
+use native.Mathlib.{Numerals.{add-one}, Omega.{arith}}
+use lib.{Dec.{leb}, ListN.{length, getD, drop, drop-of-length-le}, Seq.{drop-cons}}
+use borrow.Author.Tests.{eqb-true, leb-true, le-leb, lt-leb, ltb-true}
 use Rattle.molang.specs.Words.{Field, operatorField, startField, endField, upperField, lowerField, countField, closeField, wordFault}
-use Rattle.molang.specs.Words.{lowFault, variantAfter, lowOf, tokenWords, tokenOf}
-use Rattle.molang.specs.FirstFailure.{must}
-use Rattle.molang.proofs.FirstFailure.{must-none, must-true, must-false, first-none, passed, found, after-none}
+use Rattle.molang.specs.{Words.{lowFault, variantAfter, lowOf, tokenWords, tokenOf}, FirstFailure.{must}}
 use Rattle.molang.specs.WriteEntry.{mostNodes, nextInNode, Shape, shapeAfter, continues, isWhole, treeFault}
-use Rattle.molang.proofs.Trees.{both}
+use Rattle.molang.proofs.{FirstFailure.{must-none, must-true, must-false, first-none, passed, found, after-none}, Trees.{both}}
 use Rattle.molang.proofs.Words.{word-faultless, five-faultless, five-back}
-use borrow.Author.Tests.{ltb-true}
-use Rattle.shape.specs.Answers.{isLegal, shape}
-use Rattle.shape.specs.Seen.{Seen, NextNode}
-use Rattle.words.specs.Tokens.{nodeLength}
+use Rattle.shape.specs.{Answers.{isLegal, shape}, Seen.{Seen, NextNode}}
 use Rattle.shape.specs.Shaped.{countIndex, Shaped, noTrees, aNode, mostChildren, OneTree}
+use Rattle.words.specs.Tokens.{nodeLength}
 
 -- A word that continues a tree.
 record Continues (field : Field) (v : ℕ) (s : Shape) (w : ℕ) : Type 0 where

@@ -1,18 +1,11 @@
 -- The letters of an alphabet: what its tests say of the letter at an index, and the tests from a letter on, as the code's loops go.
 -- Assumes nothing.
 use Prim.Native.Nat.{ℕ, zero, suc, _+_, _≤_, _<_}
-use mathlib.Core.Path.{_≡_, refl, ap, sym, _∙_}
-use mathlib.Core.Bool.{Bool, true, false, not, _||_, true≢false, false≢true}
-use mathlib.Core.List.{List, [], _∷_}
-use native.Mathlib.Numerals.{add-one}
-use native.Mathlib.Omega.{arith}
-use lib.Dec.{eqb, leb}
-use lib.ListN.{length, getD, drop, drop-of-length-le}
-use lib.Seq.{drop-cons}
+use mathlib.Core.{Path.{_≡_, refl, ap, sym, _∙_}, Bool.{Bool, true, false, not, _||_, true≢false, false≢true}, List.{List, [], _∷_}}
+use native.Mathlib.{Numerals.{add-one}, Omega.{arith}}
+use lib.{Dec.{eqb, leb}, ListN.{length, getD, drop, drop-of-length-le}, Seq.{drop-cons}}
 use borrow.Author.Tests.{leb-true, eqb-true, eq-eqb, ne-eqb, not-true}
-use Rattle.molang.specs.Operator.{isOperator}
-use Rattle.molang.proofs.Booleans.{or-first, or-second}
-use Rattle.molang.proofs.Trees.{both}
+use Rattle.molang.{specs.Operator.{isOperator}, proofs.Booleans.{or-first, or-second}, proofs.Trees.{both}}
 use Rattle.shortlists.specs.ShortLists.{among, different, eachLegal, isAlphabet}
 
 -- What an alphabet is, test by test.

@@ -1,27 +1,16 @@
 -- The list at a position, digit by digit: powers and their sums within bounds, the length of the list, and its letters from the left.
 -- Assumes nothing.
 use Prim.Native.Nat.{ℕ, zero, suc, _+_, _*_, _^_, _/_, _%_, _-_, _≤_, _<_}
-use mathlib.Core.Path.{_≡_, refl, ap, sym, _∙_}
-use mathlib.Core.Bool.{true}
-use mathlib.Core.List.{List, [], _∷_, _++_}
+use mathlib.Core.{Path.{_≡_, refl, ap, sym, _∙_}, Bool.{true}, List.{List, [], _∷_, _++_}}
 use native.Mathlib.Omega.{arith}
-use native.Mathlib.Nat.{pow-zero, pow-suc, pow-le-pow-left, pow-le-pow-right, one-le-pow, le-trans, mul-comm, mul-div-cancel}
-use native.Mathlib.Nat.{div-add-mod', mod-lt, div-lt-iff-lt-mul}
-use native.Mathlib.Numerals.{add-one}
-use lib.Dec.{ltb}
-use lib.ListN.{length, getD}
+use native.Mathlib.Nat.{pow-zero, pow-suc, pow-le-pow-left, pow-le-pow-right, one-le-pow, le-trans, mul-comm, mul-div-cancel, div-add-mod'}
+use native.Mathlib.{Nat.{mod-lt, div-lt-iff-lt-mul}, Numerals.{add-one}}
+use lib.{Dec.{ltb}, ListN.{length, getD}}
 use borrow.Author.Tests.{ltb-true, ltb-false}
-use Rattle.molang.specs.Operator.{isOperator}
-use Rattle.molang.specs.Lines.{tokensFrom}
-use Rattle.molang.specs.Parse.{inFront}
-use Rattle.molang.specs.Words.{word, lowOf, operatorBits, tokenWords, listWords}
-use Rattle.molang.proofs.Booleans.{either}
-use Rattle.molang.proofs.Words.{operator-small}
-use Rattle.words.specs.Records.{laidAt}
-use Rattle.words.proofs.RecordLaws.{laid-front, laid-length, laid-laid, none-laid}
-use Rattle.shortlists.specs.declared.digits.Standing.{Standing}
-use Rattle.shortlists.specs.Digits.{Found}
-use Rattle.shortlists.specs.ShortLists.{ofLength, powers, listAt}
+use Rattle.molang.{specs.Operator.{isOperator}, specs.Lines.{tokensFrom}, specs.Parse.{inFront}}
+use Rattle.molang.{specs.Words.{word, lowOf, operatorBits, tokenWords, listWords}, proofs.Booleans.{either}, proofs.Words.{operator-small}}
+use Rattle.words.{specs.Records.{laidAt}, proofs.RecordLaws.{laid-front, laid-length, laid-laid, none-laid}}
+use Rattle.shortlists.specs.{declared.digits.Standing.{Standing}, Digits.{Found}, ShortLists.{ofLength, powers, listAt}}
 use Rattle.shortlists.proofs.ShortLists.{length-of, at-before, at-length, length-at}
 
 -- ---- Powers

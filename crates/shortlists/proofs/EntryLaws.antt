@@ -1,16 +1,10 @@
 -- What the entries tell, case by case: where each turns a call back, and the list where it does not. Assumes nothing.
 use Prim.Native.Nat.{ℕ, _≤_, _<_}
-use mathlib.Core.Path.{_≡_, refl}
-use mathlib.Core.Bool.{true, false}
-use mathlib.Core.List.{List, [], _∷_}
-use mathlib.Core.Option.{Option, none, some}
+use mathlib.Core.{Path.{_≡_, refl}, Bool.{true, false}, List.{List, [], _∷_}, Option.{Option, none, some}}
 use native.Mathlib.Omega.{arith}
-use lib.Dec.{leb}
-use lib.ListN.{length, replicate}
+use lib.{Dec.{leb}, ListN.{length, replicate}}
 use borrow.Author.Tests.{leb-true, le-leb, lt-leb, lt-ltb, le-ltb}
-use Rattle.molang.specs.FirstFailure.{must, firstOf}
-use Rattle.molang.specs.Parse.{inFront}
-use Rattle.molang.specs.Words.{Refusal, row, listWords}
+use Rattle.molang.specs.{FirstFailure.{must, firstOf}, Parse.{inFront}, Words.{Refusal, row, listWords}}
 use Rattle.molang.proofs.FirstFailure.{passed}
 use Rattle.shortlists.specs.ShortLists.{upTo, isAlphabet, countRefusal, listRefusal, listAt}
 use Rattle.shortlists.specs.Answers.{found, refused, told, countTold, listTold, tokensGiven, wordsAt}

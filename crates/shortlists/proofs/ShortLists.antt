@@ -2,20 +2,13 @@
 -- (`only`), that each occurs one time (`once`), that short ones come first (`shorter-first`), and that a list stands at the same position
 -- whatever the length (`longer`). Assumes nothing.
 use Prim.Native.Nat.{ℕ, zero, suc, _+_, _*_, _^_, _/_, _%_, _-_, _≤_, _<_}
-use mathlib.Core.Path.{_≡_, refl, ap, sym, _∙_}
-use mathlib.Core.Bool.{Bool, true, false}
-use mathlib.Core.List.{List, [], _∷_, _++_}
+use mathlib.Core.{Path.{_≡_, refl, ap, sym, _∙_}, Bool.{Bool, true, false}, List.{List, [], _∷_, _++_}}
 use native.Mathlib.Omega.{arith}
 use native.Mathlib.Nat.{add-zero, add-suc, suc-mul, zero-mul, mul-zero, mul-comm, mul-le-mul-right, pow-zero, pow-suc}
 use native.Mathlib.Nat.{div-add-mod', mod-lt, div-lt-iff-lt-mul}
-use lib.Dec.{leb, ltb}
-use lib.ListN.{length, getD, length-append, List·getD-append}
-use lib.Seq.{getD-append-add}
+use lib.{Dec.{leb, ltb}, ListN.{length, getD, length-append, List·getD-append}, Seq.{getD-append-add}}
 use borrow.Author.Tests.{leb-true, leb-false, ltb-true, ltb-false}
-use Rattle.molang.specs.Forest.{Token}
-use Rattle.molang.specs.Lines.{tokensFrom}
-use Rattle.molang.proofs.Booleans.{either}
-use Rattle.molang.proofs.Trees.{both}
+use Rattle.molang.{specs.Forest.{Token}, specs.Lines.{tokensFrom}, proofs.Booleans.{either}, proofs.Trees.{both}}
 use Rattle.shortlists.specs.ShortLists.{led, before, ofLength, upTo, powers, among, areLetters, Stands, isAlphabet, listAt}
 use Rattle.shortlists.proofs.AlphabetLaws.{Distinct, alphabet, apart, among-at, Occurs, occurs}
 

@@ -1,33 +1,20 @@
 -- The values of every answer fit its number's fields: counts and places stay below 2 ^ 32, refusals' numbers below 2 ^ 8. The places of
 -- answers 12 and 24 are at most 86,016; answer 13's is a node of the tree. Assumes nothing.
-use mathlib.Core.Path.{_≡_, refl, ap}
-use mathlib.Core.Bool.{Bool, true, false}
-use mathlib.Core.List.{[], _∷_}
-use mathlib.Core.Option.{Option, none, some}
+use mathlib.Core.{Path.{_≡_, refl, ap}, Bool.{Bool, true, false}, List.{[], _∷_}, Option.{Option, none, some}}
 use Prim.Native.Nat.{ℕ, suc, _+_, _*_, _≤_, _<_}
 use native.Mathlib.Omega.{arith}
-use lib.Dec.{leb}
-use lib.ListN.{length}
+use lib.{Dec.{leb}, ListN.{length}}
 use borrow.Author.Tests.{leb-true}
-use Rattle.molang.specs.Forest.{Token, Forest, nil, node, size}
-use Rattle.molang.specs.Read as read
-use Rattle.molang.specs.Words.{Refusal, row, withNumber, operatorField}
-use Rattle.molang.specs.FirstFailure.{must, firstOf}
-use Rattle.molang.specs.Parse.{Call, mostTokens, refusal, reading, told, answered}
-use Rattle.molang.specs.Rules.{RuleCall, ruleRefusal, ruleAnswered}
-use Rattle.molang.specs.Plain.{plainForm, seatOf, unplain, unplainAt}
-use Rattle.molang.specs.Write.{writtenTree}
-use Rattle.molang.specs.WriteEntry.{treeFault, treesOf, WriteCall}
-use Rattle.molang.specs.WriteEntry.{forestRefusal, writeRefusal, writtenTokens, writeTold, writeAnswered}
+use Rattle.molang.specs.{Forest.{Token, Forest, nil, node, size}, Words.{Refusal, row, withNumber, operatorField}}
+use Rattle.molang.specs.{FirstFailure.{must, firstOf}, Parse.{Call, mostTokens, refusal, reading, told, answered}}
+use Rattle.molang.specs.{Rules.{RuleCall, ruleRefusal, ruleAnswered}, Plain.{plainForm, seatOf, unplain, unplainAt}, Write.{writtenTree}}
+use Rattle.molang.specs.WriteEntry.{treeFault, treesOf, WriteCall, forestRefusal, writeRefusal, writtenTokens, writeTold, writeAnswered}
 use Rattle.molang.specs.StackOrder.{ReorderCall, stackFault, outputRefusal, exportRefusal, importRefusal, reorderTold, exportAnswered}
 use Rattle.molang.specs.StackOrder.{importAnswered}
-use Rattle.molang.proofs.Accepted.{call-accepted, rule-accepted}
-use Rattle.molang.proofs.Bounds.{read-tree, read-messages}
-use Rattle.molang.proofs.FirstFailure.{All, last-one}
-use Rattle.molang.proofs.Refusals.{Within, refusal-within, rule-refusal-within}
-use Rattle.molang.proofs.TreeWords.{tree-fault-none, tree-place}
-use Rattle.molang.proofs.StackWords.{stack-fault-none, stack-place}
-use Rattle.molang.proofs.StackOrder.{trees-of-tree, tree-few, stack-few}
+use Rattle.molang.proofs.{Accepted.{call-accepted, rule-accepted}, Bounds.{read-tree, read-messages}, FirstFailure.{All, last-one}}
+use Rattle.molang.proofs.{Refusals.{Within, refusal-within, rule-refusal-within}, TreeWords.{tree-fault-none, tree-place}}
+use Rattle.molang.proofs.{StackWords.{stack-fault-none, stack-place}, StackOrder.{trees-of-tree, tree-few, stack-few}}
+use Rattle.molang.specs.Read as read
 use Rattle.sorbrudder.specs.Numbers.{FitsTold, FitsWritten, FitsReordered}
 
 -- ---- Answer 13

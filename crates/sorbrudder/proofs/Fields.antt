@@ -2,8 +2,7 @@
 use mathlib.Core.Path.{_≡_, refl}
 use Prim.Native.Nat.{ℕ, _^_, _<_}
 use native.Mathlib.Omega.{arith}
-use Rattle.molang.specs.Parse.{Call, Told, aTree, someMessages, refused, answered}
-use Rattle.molang.specs.Rules.{RuleCall, ruleAnswered}
+use Rattle.molang.specs.{Parse.{Call, Told, aTree, someMessages, refused, answered}, Rules.{RuleCall, ruleAnswered}}
 use Rattle.molang.specs.WriteEntry.{WriteCall, WriteTold, tokens, unwritten, writeAnswered}
 use Rattle.molang.specs.StackOrder.{ReorderCall, ReorderTold, reordered, notReordered, exportAnswered, importAnswered}
 use Rattle.sorbrudder.specs.Numbers.{packed, kindIn, numberIn, lowIn, toldNumber, toldBack, writeNumber, writeBack, FitsTold}

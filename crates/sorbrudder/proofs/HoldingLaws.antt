@@ -1,28 +1,18 @@
 -- The exports of an open list: the values of their answers fit its number's fields, and what held promises is what they promise. Assumes
 -- nothing.
 use Prim.Native.Nat.{ℕ, _^_, _<_}
-use mathlib.Core.Path.{_≡_, refl, ap, sym, _∙_}
-use mathlib.Core.Bool.{Bool, true, false}
-use mathlib.Core.List.{List}
-use mathlib.Core.Option.{Option, none, some}
+use mathlib.Core.{Path.{_≡_, refl, ap, sym, _∙_}, Bool.{Bool, true, false}, List.{List}, Option.{Option, none, some}}
 use native.Mathlib.Omega.{arith}
-use lib.Dec.{ltb}
-use lib.IntN.{ℤ}
-use Rattle.molang.specs.FirstFailure.{must}
-use Rattle.molang.specs.Words.{Refusal, row}
-use Rattle.molang.specs.Parse.{Told, refusal}
-use Rattle.molang.proofs.FirstFailure.{first-none, last-one, all-first, all-last, all-must}
-use Rattle.molang.proofs.Refusals.{Within}
-use Rattle.parse.specs.declared.Answer.{Answer}
-use Rattle.parse.specs.Answers.{toldOf}
-use Rattle.held.specs.declared.Held.{Held}
-use Rattle.held.specs.declared.Change.{Change}
+use lib.{Dec.{ltb}, IntN.{ℤ}}
+use Rattle.molang.specs.{FirstFailure.{must}, Words.{Refusal, row}, Parse.{Told, refusal}}
+use Rattle.molang.proofs.{FirstFailure.{first-none, last-one, all-first, all-last, all-must}, Refusals.{Within}}
+use Rattle.parse.specs.{declared.Answer.{Answer}, Answers.{toldOf}}
+use Rattle.held.{specs.declared.Held.{Held}, specs.declared.Change.{Change}}
 use Rattle.held.specs.Held.{State, Edit, Lent, heldList, sliceRow, claimRow, seenRow, editRow, countRow, lentCall, editCall, leftBy}
 use Rattle.held.specs.Held.{openRefusal, askRefusal, commitRefusal, openLeft, askLeft, commitLeft, withEdit, committed, stepped}
 use Rattle.held.specs.Held.{withVersion, adopted}
 use Rattle.held.specs.Answers.{outcome, outcomeOf, changes, isRefused, adoptOutcome, state, HasOpened, HasAsked, HasCommitted}
-use Rattle.held.specs.Runs.{toldBy, heldBy}
-use Rattle.held.proofs.Running.{open-told, commit-told, commit-steps}
+use Rattle.held.{specs.Runs.{toldBy, heldBy}, proofs.Running.{open-told, commit-told, commit-steps}}
 use Rattle.sorbrudder.specs.Numbers.{packed, toldNumber, FitsTold}
 use Rattle.sorbrudder.specs.Holding.{heldOf, openHeld, adoptNumber, HasOpenedTo, HasAskedTo, HasCommittedTo, HasAdoptedTo}
 use Rattle.sorbrudder.proofs.Bounds.{answer-fits, entry-within}

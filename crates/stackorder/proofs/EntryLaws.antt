@@ -1,26 +1,15 @@
 -- The entries' answers: what the two judgements make of a call, and of the output that it lends. Assumes nothing.
 use Prim.Native.Nat.{ℕ, _/_}
-use mathlib.Core.Path.{_≡_, refl, sym, ap, _∙_}
-use mathlib.Core.List.{List, [], _∷_}
-use mathlib.Core.Option.{Option, none, some}
-use lib.Dec.{leb}
-use lib.ListN.{length}
-use Rattle.molang.specs.Forest.{nil, node}
-use Rattle.molang.specs.FirstFailure.{must, firstOf}
-use Rattle.molang.specs.Words.{Refusal, operatorField, row, withNumber, treeWords}
+use mathlib.Core.{Path.{_≡_, refl, sym, ap, _∙_}, List.{List, [], _∷_}, Option.{Option, none, some}}
+use lib.{Dec.{leb}, ListN.{length}}
+use Rattle.molang.specs.{Forest.{nil, node}, FirstFailure.{must, firstOf}, Words.{Refusal, operatorField, row, withNumber, treeWords}}
 use Rattle.molang.specs.StackOrder.{stackWords, stackFault, outputRefusal, exportRefusal, importRefusal, reorderTold, outputIn}
 use Rattle.molang.specs.StackOrder.{exportAnswered, exportedAfter, importAnswered, importedAfter, IsOneTree}
 use Rattle.molang.proofs.StackOrder.{trees-of-tree, trees-of-stack, Reorderable, export-accepts, import-accepts}
-use Rattle.shape.specs.Answers.{refusalOf, treeRefusal}
-use Rattle.shape.specs.declared.Fault.{Fault}
-use Rattle.shape.specs.declared.Fault.the-variants.{Nowhere, At}
-use Rattle.stackorder.specs.declared.Reordered.{Reordered}
-use Rattle.stackorder.specs.declared.Reordered.the-variants.{Nodes, Refused}
-use Rattle.stackorder.specs.declared.reorder.Direction.{Direction}
-use Rattle.stackorder.specs.declared.reorder.Direction.the-variants.{Forward, Backward}
-use Rattle.stackorder.specs.Reorder.{readIn, writtenIn, CanReorder, HasReordered}
-use Rattle.stackorder.specs.Faults.{placeOf, stack}
-use Rattle.stackorder.specs.Answers.{call, toldOf}
+use Rattle.shape.specs.{Answers.{refusalOf, treeRefusal}, declared.Fault.{Fault}, declared.Fault.the-variants.{Nowhere, At}}
+use Rattle.stackorder.specs.{declared.Reordered.{Reordered}, declared.Reordered.the-variants.{Nodes, Refused}}
+use Rattle.stackorder.specs.{declared.reorder.Direction.{Direction}, declared.reorder.Direction.the-variants.{Forward, Backward}}
+use Rattle.stackorder.specs.{Reorder.{readIn, writtenIn, CanReorder, HasReordered}, Faults.{placeOf, stack}, Answers.{call, toldOf}}
 use Rattle.stackorder.specs.Filled.{otherOrder, HasFilled}
 
 -- ---- `fill`

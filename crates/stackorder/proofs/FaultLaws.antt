@@ -1,31 +1,22 @@
 -- Answer 24: the tests of a word and what it changes, by its field, and the fault of the words where the loops over them stand.
 use Prim.Native.Nat.{ℕ, suc, _+_, _≤_, _<_}
-use mathlib.Core.Path.{_≡_, refl, sym, _∙_}
-use mathlib.Core.Bool.{Bool, true, false, _&&_}
-use mathlib.Core.List.{List, [], _∷_}
-use mathlib.Core.Option.{none, some}
-use native.Mathlib.Numerals.{add-one}
-use native.Mathlib.Omega.{arith}
+use mathlib.Core.{Path.{_≡_, refl, sym, _∙_}, Bool.{Bool, true, false, _&&_}, List.{List, [], _∷_}, Option.{none, some}}
+use native.Mathlib.{Numerals.{add-one}, Omega.{arith}}
 use denote.Enum.Declared
 use types.Run.{OneOf, miss}
-use lib.Dec.{leb}
-use lib.ListN.{length, getD, drop, drop-of-length-le}
-use lib.Seq.{drop-cons}
+use lib.{Dec.{leb}, ListN.{length, getD, drop, drop-of-length-le}, Seq.{drop-cons}}
 use borrow.Author.Tests.{leb-true, le-leb, lt-leb}
 use Rattle.molang.specs.FirstFailure.{must}
-use Rattle.molang.specs.Words.{Field, operatorField, startField, endField, upperField, lowerField, countField, closeField}
-use Rattle.molang.specs.Words.{wordFault, lowFault, variantAfter}
-use Rattle.molang.specs.WriteEntry.{mostNodes, nextInNode, shapeAfter}
+use Rattle.molang.specs.Words.{Field, operatorField, startField, endField, upperField, lowerField, countField, closeField, wordFault}
+use Rattle.molang.specs.{Words.{lowFault, variantAfter}, WriteEntry.{mostNodes, nextInNode, shapeAfter}}
 use Rattle.molang.specs.StackOrder.{Stack, stackAfter, treesAsked, leastNodes, stackContinues, isOneStack, stackFault}
-use Rattle.molang.proofs.FirstFailure.{must-true, must-false, found, after-none}
-use Rattle.molang.proofs.Trees.{both}
+use Rattle.molang.proofs.{FirstFailure.{must-true, must-false, found, after-none}, Trees.{both}}
 use Rattle.shape.specs.declared.Field as the-fields
-use Rattle.shape.specs.declared.Field.the-variants.{Operator, Start, End, Upper, Lower, Count, Close}
-use Rattle.shape.proofs.Field as field
-use Rattle.shape.specs.Answers.{fieldOf, isLegal, shape}
-use Rattle.words.specs.Tokens.{nodeLength}
+use Rattle.shape.specs.{declared.Field.the-variants.{Operator, Start, End, Upper, Lower, Count, Close}, Answers.{fieldOf, isLegal, shape}}
 use Rattle.shape.specs.Shaped.{countIndex}
 use Rattle.shape.proofs.ShapeLaws.{legal-none, continued-by, stopped-by, failed-by}
+use Rattle.shape.proofs.Field as field
+use Rattle.words.specs.Tokens.{nodeLength}
 use Rattle.stackorder.specs.Faults.{stack, uncounted, Stacked, NextStacked}
 
 -- ---- By the field

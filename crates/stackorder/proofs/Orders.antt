@@ -5,12 +5,9 @@ use mathlib.Core.Path.{_≡_, refl, ap, sym, _∙_}
 use mathlib.Core.List.{List, [], _∷_, _++_, append-assoc, append-nil, reverse, reverse-cons, reverse-append, reverse-reverse}
 use native.Mathlib.Omega.{arith}
 use lib.ListN.{length, length-append, length-reverse}
-use Rattle.molang.specs.Forest.{Forest, nil, node, count, size}
-use Rattle.molang.specs.Words.{tokenWords, nodeWordsOf, treeWords}
-use Rattle.molang.specs.StackOrder.{stackWords}
+use Rattle.molang.specs.{Forest.{Forest, nil, node, count, size}, Words.{tokenWords, nodeWordsOf, treeWords}, StackOrder.{stackWords}}
 use Rattle.words.specs.Tokens.{nodeLength}
-use Rattle.stackorder.specs.declared.reorder.Direction.{Direction}
-use Rattle.stackorder.specs.declared.reorder.Direction.the-variants.{Forward, Backward}
+use Rattle.stackorder.specs.{declared.reorder.Direction.{Direction}, declared.reorder.Direction.the-variants.{Forward, Backward}}
 use Rattle.stackorder.specs.Reorder.{readIn, writtenIn}
 
 -- ---- rows of nodes

@@ -2,23 +2,14 @@
 -- one node to what is out, or from the unread trees to the open nodes (`turn-again`). So much is left to be read and written, and each turn
 -- leaves less (`turn-less`). Assumes nothing.
 use Prim.Native.Nat.{ℕ, suc, _+_, _*_, _-_, _^_, _≤_, _<_}
-use mathlib.Core.Path.{_≡_, refl, ap, sym, _∙_, subst}
-use mathlib.Core.Logic.{_≢_, inl, inr}
-use mathlib.Core.List.{List, [], _∷_, _++_, append-assoc, append-nil}
-use native.Mathlib.Omega.{arith}
-use native.Mathlib.Nat.{add-zero, zero-add}
+use mathlib.Core.{Path.{_≡_, refl, ap, sym, _∙_, subst}, Logic.{_≢_, inl, inr}, List.{List, [], _∷_, _++_, append-assoc, append-nil}}
+use native.Mathlib.{Omega.{arith}, Nat.{add-zero, zero-add}}
 use lib.ListN.{length, getD, length-append}
-use Rattle.molang.specs.Forest.{Token, Forest, nil, node, count, size}
-use Rattle.molang.specs.Words.{lowOf, tokenWords, nodeWordsOf}
-use Rattle.molang.specs.WriteEntry.{mostNodes}
+use Rattle.molang.specs.{Forest.{Token, Forest, nil, node, count, size}, Words.{lowOf, tokenWords, nodeWordsOf}, WriteEntry.{mostNodes}}
 use Rattle.molang.specs.Parse.{inFront}
-use Rattle.molang.proofs.Trees.{count-size}
-use Rattle.molang.proofs.Bounds.{treeWords-length}
-use Rattle.molang.proofs.StackOrder.{stackWords-length}
-use Rattle.molang.proofs.Words.{low-word}
+use Rattle.molang.proofs.{Trees.{count-size}, Bounds.{treeWords-length}, StackOrder.{stackWords-length}, Words.{low-word}}
 use Rattle.words.specs.Tokens.{nodeLength}
-use Rattle.stackorder.specs.declared.reorder.Direction.{Direction}
-use Rattle.stackorder.specs.declared.reorder.Direction.the-variants.{Forward, Backward}
+use Rattle.stackorder.specs.{declared.reorder.Direction.{Direction}, declared.reorder.Direction.the-variants.{Forward, Backward}}
 use Rattle.stackorder.specs.declared.reorder.Cursor.{Cursor}
 use Rattle.stackorder.specs.Reorder.{readIn, writtenIn, CanReorder, firstEnd, nextEnd, otherWay, EndsIn, nodeAt, childrenAt, CanTurn}
 use Rattle.stackorder.specs.Reorder.{copied, onLeaving, onPassing, onEntering, waiting, Turned, leaves, passes, enters}

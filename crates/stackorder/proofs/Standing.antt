@@ -1,20 +1,14 @@
 -- Nodes in words, counted in the walk's direction: where the node of an index stands, what a turn's stores leave of the others, and that a
 -- row of nodes stands in the words that it is joined to. Assumes nothing.
 use Prim.Native.Nat.{ℕ, suc, _+_, _*_, _-_, _≤_, _<_}
-use mathlib.Core.Path.{_≡_, refl, ap, sym, _∙_}
-use mathlib.Core.Logic.{_⊎_, inl, inr}
+use mathlib.Core.{Path.{_≡_, refl, ap, sym, _∙_}, Logic.{_⊎_, inl, inr}}
 use mathlib.Core.List.{List, [], _∷_, _++_, append-assoc, append-nil, reverse, reverse-cons}
-use native.Mathlib.Omega.{arith}
-use native.Mathlib.Nat.{add-zero}
-use native.Mathlib.Numerals.{towards-suc}
+use native.Mathlib.{Omega.{arith}, Nat.{add-zero}, Numerals.{towards-suc}}
 use lib.ListN.{length, getD, set, take, drop, length-append, length-set, length-drop, take-append-drop}
 use lib.Seq.{getD-append-add, drop-cons, take-add, drop-drop, getD-set-same, getD-set-other, getD-drop, length-take-le, ext-getD}
 use Rattle.molang.specs.Parse.{inFront}
-use Rattle.words.specs.Records.{laidAt}
-use Rattle.words.specs.Tokens.{nodeLength}
-use Rattle.words.proofs.LaidLaws.{laid-long, laid-in, laid-out}
-use Rattle.stackorder.specs.declared.reorder.Direction.{Direction}
-use Rattle.stackorder.specs.declared.reorder.Direction.the-variants.{Forward, Backward}
+use Rattle.words.{specs.Records.{laidAt}, specs.Tokens.{nodeLength}, proofs.LaidLaws.{laid-long, laid-in, laid-out}}
+use Rattle.stackorder.specs.{declared.reorder.Direction.{Direction}, declared.reorder.Direction.the-variants.{Forward, Backward}}
 use Rattle.stackorder.specs.Reorder.{otherWay, firstEnd, nextEnd, EndsIn, nodeAt}
 use Rattle.stackorder.proofs.Orders.{joined, joined-append, Sevens, fromLeft}
 

@@ -1,19 +1,12 @@
 -- The numbers of the table as the code reads them: where the next mark stands, the words that a node, a message and a mark stand for, and
 -- those words in a buffer. Assumes nothing.
 use Prim.Native.Nat.{ℕ, zero, suc, _+_, _-_, _*_, _/_, _%_, _^_, _≤_, _<_}
-use mathlib.Core.Path.{_≡_, refl, sym, ap, _∙_}
-use mathlib.Core.Bool.{Bool, true, false}
-use mathlib.Core.Logic.{_⊎_, inl, inr}
-use mathlib.Core.List.{List, [], _∷_, _++_, append-nil}
-use native.Mathlib.Nat.{sub-zero}
-use native.Mathlib.Numerals.{add-one}
-use native.Mathlib.Omega.{arith}
-use lib.Dec.{leb, ltb}
-use lib.ListN.{length, take, drop, getD, set, replicate, length-append, length-drop, drop-of-length-le}
+use mathlib.Core.{Path.{_≡_, refl, sym, ap, _∙_}, Bool.{Bool, true, false}, Logic.{_⊎_, inl, inr}, List.{List, [], _∷_, _++_, append-nil}}
+use native.Mathlib.{Nat.{sub-zero}, Numerals.{add-one}, Omega.{arith}}
+use lib.{Dec.{leb, ltb}, ListN.{length, take, drop, getD, set, replicate, length-append, length-drop, drop-of-length-le}}
 use lib.Seq.{take-all, drop-cons, append-snoc, set-at, getD-take, getD-drop}
 use borrow.Author.Tests.{lt-ltb, le-ltb, eq-eqb, ne-eqb}
-use Rattle.molang.specs.Words.{word, lowOf, tokenWords}
-use Rattle.molang.specs.Lines.{writeMark, treeMark, closeIn, nodeWords, recordOf}
+use Rattle.molang.specs.{Words.{word, lowOf, tokenWords}, Lines.{writeMark, treeMark, closeIn, nodeWords, recordOf}}
 use Rattle.table.specs.Marked.{isMark, unmarked, bare, tokenWord, nodeWord, recordWord, secondAt, messageWord, operatorWord}
 use Rattle.table.specs.Marked.{besideMark, wordsBy, markedWord, countsBy, markedCount, firstWords, fitting, saidCount}
 use Rattle.table.specs.Marked.{saidWord, holdsFrom}

@@ -1,17 +1,11 @@
 -- Texts laid one behind the other, and how long they are; the decimal digits that io writes are the definition's.
 use Prim.Native.Nat.{ℕ, zero, suc, _+_, _-_, _*_, _/_, _%_, _^_, _≤_, _<_}
-use mathlib.Core.Path.{_≡_, refl, ap, sym, _∙_}
-use mathlib.Core.Bool.{Bool, true, false}
-use mathlib.Core.List.{List, [], _∷_, _++_}
-use native.Mathlib.Nat.{pow-le-pow-right}
-use native.Mathlib.Omega.{arith, pow-step}
-use lib.Dec.{leb, ltb}
-use lib.ListN.{length, take, length-append}
-use lib.Seq.{take-all}
+use mathlib.Core.{Path.{_≡_, refl, ap, sym, _∙_}, Bool.{Bool, true, false}, List.{List, [], _∷_, _++_}}
+use native.Mathlib.{Nat.{pow-le-pow-right}, Omega.{arith, pow-step}}
+use lib.{Dec.{leb, ltb}, ListN.{length, take, length-append}, Seq.{take-all}}
 use borrow.Author.Tests.{lt-ltb, le-ltb, leb-true, leb-false}
 use Rattle.io.specs.Digits.{digits, glyph, Fewest}
-use Rattle.words.specs.Records.{laidAt}
-use Rattle.words.proofs.RecordLaws.{none-laid, laid-laid}
+use Rattle.words.{specs.Records.{laidAt}, proofs.RecordLaws.{none-laid, laid-laid}}
 use Rattle.text.specs.Text.{decimalIn, decimal, numbered, Wrote}
 
 -- Nothing is laid, and a text behind a text.

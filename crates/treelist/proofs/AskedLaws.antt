@@ -1,25 +1,15 @@
 -- Where the program turns an input back, the list of one that it reads, and what is printed. Assumes nothing.
 use Prim.Native.Nat.{ℕ, suc, _+_, _-_, _*_, _%_, _^_, _≤_, _<_}
-use mathlib.Core.Path.{_≡_, refl, ap, sym, _∙_}
-use mathlib.Core.Bool.{_&&_}
-use mathlib.Core.List.{List, [], _∷_, _++_}
-use mathlib.Core.Option.{Option, none, some}
+use mathlib.Core.{Path.{_≡_, refl, ap, sym, _∙_}, Bool.{_&&_}, List.{List, [], _∷_, _++_}, Option.{Option, none, some}}
 use native.Mathlib.Omega.{arith}
-use lib.Dec.{eqb, leb, ltb}
-use lib.IntN.{ℤ}
-use lib.ListN.{length, take, drop, getD, replicate, length-take, length-drop}
+use lib.{Dec.{eqb, leb, ltb}, IntN.{ℤ}, ListN.{length, take, drop, getD, replicate, length-take, length-drop}}
 use lib.Seq.{take-all, take-append-seam}
 use borrow.Author.Tests.{leb-true, eq-eqb, ne-eqb, le-leb, lt-leb, lt-ltb, le-ltb}
-use Rattle.molang.specs.FirstFailure.{must, firstOf}
-use Rattle.molang.specs.Words.{Refusal, row, operatorField, wordsRefusal}
-use Rattle.molang.specs.Read.{Answer}
-use Rattle.molang.specs.Parse.{Told, refused, told, treeIn, messagesIn}
-use Rattle.molang.specs.Lines.{versionOf}
+use Rattle.molang.specs.{FirstFailure.{must, firstOf}, Words.{Refusal, row, operatorField, wordsRefusal}, Read.{Answer}}
+use Rattle.molang.specs.{Parse.{Told, refused, told, treeIn, messagesIn}, Lines.{versionOf}}
 use Rattle.molang.proofs.FirstFailure.{first-none, passed, after-none, in-parts}
 use Rattle.own.specs.Own.{readingOf}
-use Rattle.listing.specs.Rows.{answerText, CanPut}
-use Rattle.listing.specs.Lists.{wordsIn, listFault, listText}
-use Rattle.listing.proofs.AnswerLaws.{text-of-front, can-put}
+use Rattle.listing.{specs.Rows.{answerText, CanPut}, specs.Lists.{wordsIn, listFault, listText}, proofs.AnswerLaws.{text-of-front, can-put}}
 use Rattle.treelist.specs.Listing.{printed, listLength, turnedBack, listOf, faultOf, answerOf}
 
 -- WHERE AN INPUT IS TURNED BACK

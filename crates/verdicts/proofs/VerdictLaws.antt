@@ -1,32 +1,22 @@
 -- The verdict on a call by what it told and left, on a call with fresh buffers, on the parts of a line, and on the calls at one version
 -- after another. Assumes nothing.
 use Prim.Native.Nat.{ℕ, zero, suc, _+_, _-_, _*_, _/_, _≤_}
-use mathlib.Core.Path.{_≡_, refl, sym, ap, _∙_}
-use mathlib.Core.List.{List, [], _∷_}
-use mathlib.Core.Option.{Option, none}
-use native.Mathlib.Nat.{sub-zero}
-use native.Mathlib.Omega.{arith}
+use mathlib.Core.{Path.{_≡_, refl, sym, ap, _∙_}, List.{List, [], _∷_}, Option.{Option, none}}
+use native.Mathlib.{Nat.{sub-zero}, Omega.{arith}}
 use types.Run.{OneOf, miss}
 use denote.Enum.Declared.{tagOf}
-use lib.IntN.{ℤ}
-use lib.ListN.{length, take, drop, replicate, length-drop}
-use lib.Seq.{take-all}
+use lib.{IntN.{ℤ}, ListN.{length, take, drop, replicate, length-drop}, Seq.{take-all}}
 use Rattle.molang.specs.Parse.{Call, Told, answered, treeAfter, messagesAfter, workAfter}
-use Rattle.molang.specs.WriteEntry.{WriteCall, WriteTold, writeAnswered, listAfter}
-use Rattle.molang.specs.Lines.{listMark, callFor, versionOf}
-use Rattle.molang.specs.FirstFailure.{firstOf}
-use Rattle.molang.proofs.FirstFailure.{after-none}
+use Rattle.molang.{specs.WriteEntry.{WriteCall, WriteTold, writeAnswered, listAfter}, specs.Lines.{listMark, callFor, versionOf}}
+use Rattle.molang.{specs.FirstFailure.{firstOf}, proofs.FirstFailure.{after-none}}
 use Rattle.own.specs.Own.{namedCall}
-use Rattle.parse.specs.Answers.{toldOf, HasParsed}
-use Rattle.parse.specs.declared.Answer.{Answer as Told'}
+use Rattle.parse.specs.{Answers.{toldOf, HasParsed}, declared.Answer.{Answer as Told'}}
 use Rattle.write.specs.Answers.{call}
-use Rattle.table.specs.Marked.{unmarked, secondAt, markedCount, firstWords, fitting}
-use Rattle.table.specs.Answers.{holding, isLeft}
-use Rattle.verdicts.specs.declared.Verdict.{Verdict}
-use Rattle.verdicts.specs.declared.Verdict.the-variants.{Same, Answer, Words}
+use Rattle.table.specs.{Marked.{unmarked, secondAt, markedCount, firstWords, fitting}, Answers.{holding, isLeft}}
+use Rattle.verdicts.specs.{declared.Verdict.{Verdict}, declared.Verdict.the-variants.{Same, Answer, Words}}
+use Rattle.verdicts.specs.Verdicts.{verdict, isRead, readVerdict, isWritten, writeVerdict, lentCall, listCall, treeCall, Difference}
+use Rattle.verdicts.specs.Verdicts.{verdictOf, askedWords, fromVersion, askedVerdict, lineVerdict}
 use Rattle.verdicts.proofs.Verdict.{the-type}
-use Rattle.verdicts.specs.Verdicts.{verdict, isRead, readVerdict, isWritten, writeVerdict, lentCall, listCall, treeCall}
-use Rattle.verdicts.specs.Verdicts.{Difference, verdictOf, askedWords, fromVersion, askedVerdict, lineVerdict}
 
 -- ---- What a call told and left
 

@@ -1,30 +1,18 @@
 -- The check of words in list order, one word at a time: the first bad word ends it, a good one hands it on; and the check of a list
 -- that opens with a token. Assumes nothing.
-use mathlib.Core.Path.{_≡_, refl, sym, ap, _∙_}
-use mathlib.Core.Bool.{Bool, true, false}
-use mathlib.Core.List.{List, [], _∷_, _++_}
-use mathlib.Core.Logic.{⊎-elim}
-use mathlib.Core.Option.{none, some}
+use mathlib.Core.{Path.{_≡_, refl, sym, ap, _∙_}, Bool.{Bool, true, false}, List.{List, [], _∷_, _++_}, Logic.{⊎-elim}, Option.{none, some}}
 use Prim.Native.Nat.{ℕ, suc, _+_, _-_, _*_, _/_, _%_, _^_, _≤_, _<_}
-use native.Mathlib.Numerals.{add-one, add-two, add-three, add-four, add-five}
-use native.Mathlib.Omega.{arith}
-use lib.Dec.{eqb, leb, ltb}
-use lib.Pow.{field, mod-mod-pow}
+use native.Mathlib.{Numerals.{add-one, add-two, add-three, add-four, add-five}, Omega.{arith}}
+use lib.{Dec.{eqb, leb, ltb}, Pow.{field, mod-mod-pow}}
 use borrow.Author.Tests.{eq-eqb, eqb-true, le-leb, lt-ltb}
 use types.Run.{OneOf}
 use denote.Enum.Declared.{tagOf}
 use Rattle.molang.specs.Operator.{isOperator}
 use Rattle.molang.specs.Words.{kindOf, lowOf, Field, operatorField, startField, endField, upperField, lowerField, fieldKind, lowFault}
-use Rattle.molang.specs.Words.{wordFault, variantAfter, nextInToken, Refusal, row, withPlace, wordsRefusal}
-use Rattle.molang.specs.FirstFailure.{must, firstOf}
-use Rattle.molang.proofs.FirstFailure.{found, later-found}
-use Rattle.molang.proofs.OldWords.{old-number, old-answer}
-use Rattle.molang.proofs.Trees.{some-none}
-use Rattle.molang.proofs.Words.{next-word}
+use Rattle.molang.specs.{Words.{wordFault, variantAfter, nextInToken, Refusal, row, withPlace, wordsRefusal}, FirstFailure.{must, firstOf}}
+use Rattle.molang.proofs.{FirstFailure.{found, later-found}, OldWords.{old-number, old-answer}, Trees.{some-none}, Words.{next-word}}
 use Rattle.molang.proofs.ListWords.{list-word}
-use Rattle.words.specs.Fields.{operatorOf, variantOf}
-use Rattle.words.specs.Checks.{numberOf, LowOperator, HalfWords}
-use Rattle.words.specs.declared.checks.Word.{Word}
+use Rattle.words.specs.{Fields.{operatorOf, variantOf}, Checks.{numberOf, LowOperator, HalfWords}, declared.checks.Word.{Word}}
 use Rattle.words.specs.declared.checks.Word.the-variants.{Good, WrongKind, HighOperator, HighVariant, OtherBit}
 use Rattle.words.proofs.checks.Word.{the-type}
 

@@ -1,10 +1,8 @@
 -- The operator's number in a word: by the word's bits, and by those bits where they stand. Assumes nothing.
 use Prim.Native.Nat.{ℕ, _+_, _*_, _/_, _%_, _^_, _≤_}
-use mathlib.Core.Path.{_≡_, refl, sym, ap, _∙_}
-use mathlib.Core.Bool.{Bool, true, false}
+use mathlib.Core.{Path.{_≡_, refl, sym, ap, _∙_}, Bool.{Bool, true, false}}
 use native.Mathlib.Omega.{arith}
-use lib.Dec.{ltb}
-use lib.Pow.{field, mod-mod-pow}
+use lib.{Dec.{ltb}, Pow.{field, mod-mod-pow}}
 use borrow.Author.Tests.{ltb-true, ltb-false}
 use Rattle.molang.specs.Words.{lowOf, numberIn, operatorBits}
 use Rattle.words.specs.Fields.{operatorOf}

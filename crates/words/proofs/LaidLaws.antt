@@ -1,11 +1,8 @@
 -- Words laid down in a buffer, read again: those that were laid, and all others; and one store after them, also of a row word by word.
 -- Assumes nothing.
 use Prim.Native.Nat.{ℕ, zero, suc, _+_, _≤_, _<_}
-use mathlib.Core.Path.{_≡_, refl, ap, _∙_}
-use mathlib.Core.Logic.{_⊎_, inl, inr}
-use mathlib.Core.List.{List, [], _∷_, _++_}
-use native.Mathlib.Numerals.{add-one}
-use native.Mathlib.Omega.{arith}
+use mathlib.Core.{Path.{_≡_, refl, ap, _∙_}, Logic.{_⊎_, inl, inr}, List.{List, [], _∷_, _++_}}
+use native.Mathlib.{Numerals.{add-one}, Omega.{arith}}
 use lib.ListN.{length, take, getD, set, length-set, length-append}
 use lib.Seq.{sets, length-sets, getD-set-same, getD-set-other, take-suc, length-take-le}
 use Rattle.words.specs.Records.{laidAt}

@@ -1,10 +1,8 @@
 -- Numbers laid down in a buffer: by stores one after another, in front, and behind others that were; how long the buffer is after.
 -- Assumes nothing.
-use mathlib.Core.Path.{_≡_, refl, ap, sym, _∙_}
-use mathlib.Core.List.{List, [], _++_, append-assoc}
+use mathlib.Core.{Path.{_≡_, refl, ap, sym, _∙_}, List.{List, [], _++_, append-assoc}}
 use Prim.Native.Nat.{ℕ, _+_, _≤_}
-use native.Mathlib.Nat.{add-assoc}
-use native.Mathlib.Omega.{arith}
+use native.Mathlib.{Nat.{add-assoc}, Omega.{arith}}
 use lib.ListN.{length, take, drop, length-append, length-drop, take-append-drop}
 use lib.Seq.{sets, sets-eq, drop-drop, length-take-le, take-at, drop-at, take-append-le, take-take, take-append-seam, drop-append-seam}
 use Rattle.molang.specs.Parse.{inFront}

@@ -1,20 +1,13 @@
 -- Trees of words: the words' first node and what stands after it, and the extents of a node's children and of its siblings in one go.
 -- Assumes nothing.
-use mathlib.Core.Path.{_≡_, refl, sym, ap, ap₂, subst, _∙_}
-use mathlib.Core.List.{List, [], _∷_}
+use mathlib.Core.{Path.{_≡_, refl, sym, ap, ap₂, subst, _∙_}, List.{List, [], _∷_}, Bool.{Bool, true, false}}
 use Prim.Native.Nat.{ℕ, zero, suc, _+_, _<_, _≤_, _-_, _%_, _^_, min, max}
-use native.Mathlib.Nat.{add-zero, add-suc}
-use native.Mathlib.Omega.{arith}
-use mathlib.Core.Bool.{Bool, true, false}
-use lib.Dec.{ltb}
-use lib.ListN.{length, getD, drop}
+use native.Mathlib.{Nat.{add-zero, add-suc}, Omega.{arith}}
+use lib.{Dec.{ltb}, ListN.{length, getD, drop}}
 use borrow.Author.Tests.{ltb-true, ltb-false}
-use Rattle.molang.specs.Forest.{Token, Forest, nil, node}
-use Rattle.molang.specs.Read.{lowestStart, highestEnd}
-use Rattle.molang.specs.Words.{lowOf, tokenOf, nodeOf}
+use Rattle.molang.specs.{Forest.{Token, Forest, nil, node}, Read.{lowestStart, highestEnd}, Words.{lowOf, tokenOf, nodeOf}}
 use Rattle.molang.specs.WriteEntry.{firstTrees, otherTrees, treesOf}
-use Rattle.words.specs.Extents.{wider, extentWith, firstExtent}
-use Rattle.words.specs.declared.extent.Extent.{Extent}
+use Rattle.words.specs.{Extents.{wider, extentWith, firstExtent}, declared.extent.Extent.{Extent}}
 
 -- ---- The first node of words
 

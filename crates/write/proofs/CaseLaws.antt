@@ -1,18 +1,14 @@
 -- What the arm of a `match` on an enum says where it stands for several variants.
 use Prim.Native.Nat.{ℕ, zero, suc}
-use mathlib.Core.Path.{_≡_, refl}
-use mathlib.Core.Bool.{true, false, or-true}
-use mathlib.Core.List.{[], _∷_}
+use mathlib.Core.{Path.{_≡_, refl}, Bool.{true, false, or-true}, List.{[], _∷_}}
 use borrow.Author.Tests.{eq-eqb}
 use denote.Enum.Declared
 use types.Run.{OneOf, miss}
-use Rattle.molang.specs.Operator.{isBracket}
-use Rattle.molang.specs.Plain.{isUnderMathCall, isRightOfQuestion, isUnderSemicolon}
+use Rattle.molang.specs.{Operator.{isBracket}, Plain.{isUnderMathCall, isRightOfQuestion, isUnderSemicolon}}
 use Rattle.write.specs.declared.plain.Seat.{Seat}
 use Rattle.write.specs.declared.plain.Seat.the-variants.{Enclosed, UnderMathCall, LeftOfComma, RightOfQuestion, Operand}
-use Rattle.write.specs.declared.plain.Seat.the-variants.{UnderSemicolon}
+use Rattle.write.specs.{declared.plain.Seat.the-variants.{UnderSemicolon}, Seats.{formSeat, plainBy, isSpared, isPaired}}
 use Rattle.write.proofs.plain.Seat as seat
-use Rattle.write.specs.Seats.{formSeat, plainBy, isSpared, isPaired}
 
 -- The seats that say nothing of a form, or spare no pair.
 pub not-under-math : (p : Seat) → OneOf (0 ∷ 2 ∷ 3 ∷ 4 ∷ 5 ∷ []) (Declared.tagOf seat.the-type p) → false ≡ isUnderMathCall (formSeat p)

@@ -1,45 +1,28 @@
 -- The entry's answers: what each of the three judgements makes of a call, and of the list that it lends.
 use Prim.Native.Nat.{ℕ, suc, _+_, _*_, _≤_, _<_}
-use mathlib.Core.Path.{_≡_, refl, ap, sym, _∙_}
-use mathlib.Core.Bool.{true, false, true≢false}
-use mathlib.Core.List.{List, [], _∷_, _++_}
-use mathlib.Core.Option.{Option, none, some}
+use mathlib.Core.{Path.{_≡_, refl, ap, sym, _∙_}, Bool.{true, false, true≢false}, List.{List, [], _∷_, _++_}, Option.{Option, none, some}}
 use native.Mathlib.Omega.{arith}
-use lib.Dec.{eqb, leb}
-use lib.ListN.{length, length-append, drop, getD, replicate, length-replicate}
+use lib.{Dec.{eqb, leb}, ListN.{length, length-append, drop, getD, replicate, length-replicate}}
 use borrow.Author.Tests.{le-leb, lt-leb, eq-eqb, ne-eqb}
-use Rattle.molang.specs.Forest.{Token, Forest, nil, node, count, size}
-use Rattle.molang.specs.Operator
-use Rattle.molang.specs.Plain as plain
-use Rattle.molang.specs.Plain.{seatOf, semicolonForm, plainForm, unplain, unplainAt}
-use Rattle.molang.specs.FirstFailure.{must, firstOf}
-use Rattle.molang.specs.Words.{operatorField, lowOf, nodeOf, listWords, row}
-use Rattle.molang.specs.Parse.{mostTokens}
+use Rattle.molang.specs.{Forest.{Token, Forest, nil, node, count, size}, Plain.{seatOf, semicolonForm, plainForm, unplain, unplainAt}}
+use Rattle.molang.specs.{FirstFailure.{must, firstOf}, Words.{operatorField, lowOf, nodeOf, listWords, row}, Parse.{mostTokens}}
 use Rattle.molang.specs.Write.{writtenStatements, writtenTree}
 use Rattle.molang.specs.WriteEntry.{treeFault, firstTrees, otherTrees, treesOf, forestRefusal, writeRefusal, writtenTokens, unwritten}
 use Rattle.molang.specs.WriteEntry.{tokens, writeTold, writeAnswered, listIn, listAfter}
-use Rattle.molang.proofs.FirstFailure.{passed, withNumber-none}
-use Rattle.molang.proofs.HandedTree.{whole-tree}
-use Rattle.molang.proofs.ListWords.{listWords-length}
+use Rattle.molang.proofs.{FirstFailure.{passed, withNumber-none}, HandedTree.{whole-tree}, ListWords.{listWords-length}}
 use Rattle.molang.proofs.PlainTrees.{PlainStatements, ended, statement, PlainTree, expression, script, plain-parts, plain-tree}
-use Rattle.molang.proofs.Words.{beside}
-use Rattle.molang.proofs.Writing.{writtenTree-expression, writtenTree-script}
-use Rattle.words.specs.Records.{laidAt}
-use Rattle.words.proofs.RecordLaws.{laid-front}
-use Rattle.write.specs.declared.plain.Seat.{Seat}
-use Rattle.write.specs.declared.plain.Seat.the-variants.{Enclosed, UnderSemicolon}
-use Rattle.shape.specs.Answers.{shape, treeRefusal}
-use Rattle.write.specs.Answers.{call, judgement, filling, filled}
-use Rattle.write.specs.Seats.{formSeat}
-use Rattle.words.specs.Tokens.{nodeLength}
-use Rattle.shape.specs.Shaped.{countIndex, Shaped, noTrees, aNode, mostChildren, OneTree}
-use Rattle.write.specs.Spelling.{nodeTokens, nodeWritten, Room, Writable}
-use Rattle.write.specs.Reading.{operatorAt}
+use Rattle.molang.proofs.{Words.{beside}, Writing.{writtenTree-expression, writtenTree-script}}
+use Rattle.molang.specs.Operator
+use Rattle.molang.specs.Plain as plain
+use Rattle.words.{specs.Records.{laidAt}, proofs.RecordLaws.{laid-front}, specs.Tokens.{nodeLength}}
+use Rattle.write.specs.{declared.plain.Seat.{Seat}, declared.plain.Seat.the-variants.{Enclosed, UnderSemicolon}}
+use Rattle.write.specs.{Answers.{call, judgement, filling, filled}, Seats.{formSeat}}
+use Rattle.write.specs.{Spelling.{nodeTokens, nodeWritten, Room, Writable}, Reading.{operatorAt}}
 use Rattle.write.specs.Scripts.{eachHoldsOne, statementsWritten, ScriptRoom}
+use Rattle.shape.specs.{Answers.{shape, treeRefusal}, Shaped.{countIndex, Shaped, noTrees, aNode, mostChildren, OneTree}}
 use Rattle.shape.proofs.RowLaws.{Opened, opened, shaped-room, shaped-count, count-first, beside-split}
 use Rattle.write.proofs.JudgeLaws.{rowUnplain, judgedBy, judgement-by, Stand, on-none, on-one, on-two, row-beside, plain-by}
-use Rattle.write.proofs.JudgeLaws.{plain-at-most, firstOperator, root-form, semicolon-form, script-row}
-use Rattle.write.proofs.RootLaws.{children-row}
+use Rattle.write.proofs.{JudgeLaws.{plain-at-most, firstOperator, root-form, semicolon-form, script-row}, RootLaws.{children-row}}
 
 -- What a judgement says.
 plain-says : (o : Option ℕ) (m n : ℕ) → tokens n ≡ judgedBy o m → (o ≡ none) × (n ≡ m)

@@ -2,47 +2,35 @@
 use Prim.Native.Nat.{ℕ, zero, suc, _+_, _-_, _*_, _≤_, _<_}
 use mathlib.Core.Path.{_≡_, refl, ap, sym, _∙_}
 use mathlib.Core.Bool.{Bool, true, false, _||_, _&&_, not, true≢false, false≢true, or-true, or-false, and-true, and-false, Bool·not-not}
-use mathlib.Core.List.{List, [], _∷_, _++_, append-nil, append-assoc}
-use mathlib.Core.Option.{Option, none, some}
-use native.Mathlib.Nat.{add-zero}
+use mathlib.Core.{List.{List, [], _∷_, _++_, append-nil, append-assoc}, Option.{Option, none, some}}
+use native.Mathlib.{Nat.{add-zero}, Numerals.{add-one}, Omega.{arith}}
 use Rattle.molang.specs.Words.{lowOf, numberIn, tokenOf, nodeOf, withNumber}
-use Rattle.words.specs.Fields.{operatorOf}
-use native.Mathlib.Numerals.{add-one}
-use native.Mathlib.Omega.{arith}
-use lib.Dec.{T, eqb, leb}
-use lib.ListN.{length, length-append, getD, drop, drop-of-length-le, length-drop, set, length-set, replicate, length-replicate}
-use lib.ListN.{getD-replicate}
-use lib.Seq.{getD-set-same, getD-set-other, getD-drop, drop-drop}
-use borrow.Author.Tests.{eqb-true, eq-eqb, ne-eqb, not-true, leb-true, leb-false}
-use Rattle.molang.proofs.RoundTrip.Role.{no-math}
-use Rattle.ops.proofs.OperatorLaws.{passes-at}
-use Rattle.molang.specs.Operator
 use Rattle.molang.specs.Operator.{any, isOneOf, between, isMathCall, isHost, isBracket}
 use Rattle.molang.specs.Forest.{Token, Forest, nil, node, bare, count, size}
-use Rattle.molang.specs.Plain as plain
 use Rattle.molang.specs.Plain.{isRightOfQuestion, isUnderMathCall, isUnderSemicolon, seatUnder, seatOf, isPlainLeaf, isPlainBinary, isCall}
-use Rattle.molang.specs.Plain.{expressionForm, allSemicolons, semicolonForm, plainForm, unplain, unplainAt}
-use Rattle.molang.specs.FirstFailure.{must, firstOf}
+use Rattle.molang.specs.{Plain.{expressionForm, allSemicolons, semicolonForm, plainForm, unplain, unplainAt}, FirstFailure.{must, firstOf}}
 use Rattle.molang.specs.Write.{closerFor, closerOf, standsAlone, standsLeft, standsRight, operandTokens, written, writtenStatements}
-use Rattle.molang.proofs.FirstFailure.{after-none, last-one, in-parts, behind}
-use Rattle.molang.proofs.Words.{beside}
+use Rattle.molang.specs.WriteEntry.{mostNodes, treesOf, writtenTokens, WriteTold, tokens, unwritten, writeTold}
+use Rattle.molang.proofs.{RoundTrip.Role.{no-math}, FirstFailure.{after-none, last-one, in-parts, behind}, Words.{beside}}
 use Rattle.molang.proofs.Writing.{written-none, written-one, written-two, operand-length, written-length, written-before}
-use Rattle.molang.proofs.Writing.{writtenTree-expression, writtenTree-script}
-use Rattle.molang.proofs.PlainTrees.{semicolon-seat, other-seat}
-use Rattle.molang.proofs.Booleans as booleans
+use Rattle.molang.proofs.{Writing.{writtenTree-expression, writtenTree-script}, PlainTrees.{semicolon-seat, other-seat}}
 use Rattle.molang.proofs.Trees.{decided, either, both}
+use Rattle.words.specs.{Fields.{operatorOf}, Tokens.{nodeLength}}
+use lib.Dec.{T, eqb, leb}
+use lib.ListN.{length, length-append, getD, drop, drop-of-length-le, length-drop, set, length-set, replicate, length-replicate}
+use lib.{ListN.{getD-replicate}, Seq.{getD-set-same, getD-set-other, getD-drop, drop-drop}}
+use borrow.Author.Tests.{eqb-true, eq-eqb, ne-eqb, not-true, leb-true, leb-false}
+use Rattle.ops.proofs.OperatorLaws.{passes-at}
+use Rattle.molang.specs.Operator
+use Rattle.molang.specs.Plain as plain
+use Rattle.molang.proofs.Booleans as booleans
 use Rattle.write.specs.declared.plain.Seat.{Seat}
 use Rattle.write.specs.declared.plain.Seat.the-variants.{Enclosed, UnderMathCall, LeftOfComma, RightOfQuestion, Operand}
-use Rattle.write.specs.declared.plain.Seat.the-variants.{UnderSemicolon}
-use Rattle.molang.specs.WriteEntry.{mostNodes, treesOf, writtenTokens, WriteTold, tokens, unwritten, writeTold}
-use Rattle.shape.proofs.RowLaws.{Opened, opened, shaped-room, shaped-length}
-use Rattle.write.specs.Answers.{judgement}
-use Rattle.words.specs.Tokens.{nodeLength}
-use Rattle.shape.specs.Shaped.{countIndex, Shaped, noTrees, aNode, mostChildren, OneTree}
-use Rattle.write.specs.Reading.{operatorAt}
+use Rattle.write.specs.{declared.plain.Seat.the-variants.{UnderSemicolon}, Answers.{judgement}, Reading.{operatorAt}}
 use Rattle.write.specs.Seats.{formSeat, onlySeat, belowSeat, leftSeat, rightSeat, isPrefix, holdsOne, plainBy, isSpared, isPaired}
-use Rattle.write.specs.Seats.{ifTrue, tokensFor}
-use Rattle.write.specs.Scripts.{holdsStatements, Begins, anExpression, aScript}
+use Rattle.write.specs.{Seats.{ifTrue, tokensFor}, Scripts.{holdsStatements, Begins, anExpression, aScript}}
+use Rattle.shape.proofs.RowLaws.{Opened, opened, shaped-room, shaped-length}
+use Rattle.shape.specs.Shaped.{countIndex, Shaped, noTrees, aNode, mostChildren, OneTree}
 
 -- The number of the first node that is not plain in a row of trees at these seats, numbered from n.
 unfoldable pub rowUnplain : List Seat → ℕ → Forest → Option ℕ

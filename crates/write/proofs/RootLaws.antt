@@ -1,28 +1,17 @@
 -- The root of a script: what the loop over its children keeps.
 use Prim.Native.Nat.{ℕ, zero, suc, _+_, _-_, _*_, _≤_, _<_}
-use mathlib.Core.Path.{_≡_, refl, ap, sym, _∙_}
-use mathlib.Core.Bool.{true, false}
-use mathlib.Core.List.{List, []}
-use native.Mathlib.Omega.{arith}
-use native.Mathlib.Nat.{add-zero, add-suc}
-use lib.Dec.{eqb, ltb}
-use lib.ListN.{length, getD, drop, drop-of-length-le, length-drop}
-use lib.Seq.{getD-drop, drop-drop}
+use mathlib.Core.{Path.{_≡_, refl, ap, sym, _∙_}, Bool.{true, false}, List.{List, []}}
+use native.Mathlib.{Omega.{arith}, Nat.{add-zero, add-suc}}
+use lib.{Dec.{eqb, ltb}, ListN.{length, getD, drop, drop-of-length-le, length-drop}, Seq.{getD-drop, drop-drop}}
 use borrow.Author.Tests.{eq-eqb, ne-eqb, lt-ltb, le-ltb}
 use Rattle.molang.specs.Operator
-use Rattle.molang.specs.Forest.{Forest, nil, node, count, size}
+use Rattle.molang.{specs.Forest.{Forest, nil, node, count, size}, specs.Plain.{allSemicolons, semicolonForm}, specs.Words.{lowOf}}
+use Rattle.molang.{specs.WriteEntry.{otherTrees, treesOf}, proofs.Words.{beside, other-beside}}
 use Rattle.molang.specs.Plain as plain
-use Rattle.molang.specs.Plain.{allSemicolons, semicolonForm}
-use Rattle.molang.specs.Words.{lowOf}
-use Rattle.molang.specs.WriteEntry.{otherTrees, treesOf}
-use Rattle.molang.proofs.Words.{beside, other-beside}
-use Rattle.words.specs.Fields.{operatorOf}
-use Rattle.words.specs.Tokens.{nodeLength}
+use Rattle.words.specs.{Fields.{operatorOf}, Tokens.{nodeLength}}
 use Rattle.shape.specs.Shaped.{countIndex, Shaped, mostChildren, OneTree}
 use Rattle.shape.proofs.RowLaws.{Opened, opened, shaped-room, shaped-count, shaped-length, no-kids}
-use Rattle.write.specs.declared.reader.NodeView.{NodeView}
-use Rattle.write.specs.Reading.{viewAt}
-use Rattle.write.specs.Scripts.{holdsStatements}
+use Rattle.write.specs.{declared.reader.NodeView.{NodeView}, Reading.{viewAt}, Scripts.{holdsStatements}}
 
 -- The children of a lone root are the row behind it.
 beside-nil : (f : Forest) → beside f nil ≡ f

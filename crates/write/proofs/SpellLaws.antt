@@ -1,34 +1,22 @@
 -- The writing in words: words laid into the list one after the other, and the tokens of a node as those of its operands.
 use Prim.Native.Nat.{ℕ, suc, _+_, _*_, _%_, _^_, _≤_, _<_}
-use native.Mathlib.Nat.{zero-add}
-use mathlib.Core.Path.{_≡_, refl, ap, sym, _∙_}
-use mathlib.Core.Bool.{Bool, true, false, not}
-use mathlib.Core.List.{List, [], _∷_, _++_, append-assoc, append-nil}
-use native.Mathlib.Omega.{arith}
-use lib.ListN.{length, drop, getD}
-use lib.Seq.{drop-drop}
+use native.Mathlib.{Nat.{zero-add}, Omega.{arith}}
+use mathlib.Core.{Path.{_≡_, refl, ap, sym, _∙_}, Bool.{Bool, true, false, not}, List.{List, [], _∷_, _++_, append-assoc, append-nil}}
+use lib.{ListN.{length, drop, getD}, Seq.{drop-drop}}
 use borrow.Author.Tests.{eq-eqb, ne-eqb, eqb-true, eqb-false}
-use Rattle.molang.specs.Forest.{Token, Forest, nil, node, closedBy, unclosed, count, size}
-use Rattle.molang.specs.Operator.{isBracket}
+use Rattle.molang.{specs.Forest.{Token, Forest, nil, node, closedBy, unclosed, count, size}, specs.Operator.{isBracket}}
+use Rattle.molang.{specs.Words.{lowOf, operatorBits, tokenWords, listWords}, specs.Read.{lowestStart, highestEnd}}
+use Rattle.molang.specs.Write.{spanning, openerFor, closerFor, closerOf, standsLeft, standsRight, operandTokens, written}
+use Rattle.molang.{specs.WriteEntry.{firstTrees, otherTrees, treesOf}, proofs.Words.{beside}, proofs.OldWords.{old-bits}}
+use Rattle.molang.proofs.Writing.{written-none, written-one, written-two, operand-before, written-before}
 use Rattle.write.proofs.JudgeLaws.{unpaired-only, unpaired-bracket, unpaired-left, unpaired-right}
-use Rattle.molang.proofs.Words.{beside}
-use Rattle.write.specs.declared.plain.Seat.{Seat}
-use Rattle.write.specs.Seats.{isPaired, onlySeat, leftSeat, rightSeat}
+use Rattle.write.specs.{declared.plain.Seat.{Seat}, Seats.{isPaired, onlySeat, leftSeat, rightSeat}}
+use Rattle.write.specs.Spelling.{spanningWords, pairOpener, pairCloser, closerWords, seenWith, firstSize, nodeTokens, operandOf}
+use Rattle.write.specs.Spelling.{nodeWritten, operandWritten}
 use Rattle.shape.specs.Shaped.{countIndex, closeIndex, firstFive, Shaped}
 use Rattle.shape.proofs.RowLaws.{Opened, after-trees, shaped-length, no-kids, one-kid, two-kids}
-use Rattle.molang.specs.Words.{lowOf, operatorBits, tokenWords, listWords}
-use Rattle.molang.proofs.OldWords.{old-bits}
-use Rattle.molang.specs.Read.{lowestStart, highestEnd}
-use Rattle.molang.specs.Write.{spanning, openerFor, closerFor, closerOf, standsLeft, standsRight, operandTokens, written}
-use Rattle.molang.specs.WriteEntry.{firstTrees, otherTrees, treesOf}
-use Rattle.molang.proofs.Writing.{written-none, written-one, written-two, operand-before, written-before}
-use Rattle.words.specs.Extents.{wider, extentWith, firstExtent}
-use Rattle.words.specs.Fields.{operatorOf}
-use Rattle.words.specs.declared.extent.Extent.{Extent}
-use Rattle.words.proofs.TreeLaws.{Fits, first-fits, in-one, extent-step}
-use Rattle.words.specs.Tokens.{fiveWords, nodeLength}
-use Rattle.write.specs.Spelling.{spanningWords, pairOpener, pairCloser, closerWords, seenWith}
-use Rattle.write.specs.Spelling.{firstSize, nodeTokens, operandOf, nodeWritten, operandWritten}
+use Rattle.words.{specs.Extents.{wider, extentWith, firstExtent}, specs.Fields.{operatorOf}, specs.declared.extent.Extent.{Extent}}
+use Rattle.words.{proofs.TreeLaws.{Fits, first-fits, in-one, extent-step}, specs.Tokens.{fiveWords, nodeLength}}
 
 -- The words of a list of tokens.
 pub list-words-append : (xs ys : List Token) → listWords (xs ++ ys) ≡ listWords xs ++ listWords ys

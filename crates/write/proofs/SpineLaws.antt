@@ -1,38 +1,24 @@
 -- The first children of a tree, one below the other: where they stand, and what is written of them from the last one up.
 use Prim.Native.Nat.{ℕ, zero, suc, _+_, _-_, _*_, _%_, _^_, _≤_, _<_, min, max}
-use mathlib.Core.Path.{_≡_, refl, ap, ap₂, sym, _∙_}
-use mathlib.Core.Bool.{Bool, true, false, not}
-use mathlib.Core.List.{List, _++_, append-assoc}
-use native.Mathlib.Omega.{arith}
-use native.Mathlib.Nat.{add-zero}
-use lib.Dec.{eqb}
-use lib.ListN.{length, take, drop, getD, length-drop, length-append}
-use lib.Seq.{getD-drop, drop-drop}
-use Rattle.molang.specs.Words.{lowOf}
-use Rattle.words.specs.Tokens.{tokenWordsAt, fiveWords, nodeLength}
-use Rattle.words.specs.declared.tokens.TokenWords.{TokenWords}
-use Rattle.molang.specs.WriteEntry.{treesOf}
-use Rattle.words.specs.Fields.{operatorOf}
-use Rattle.words.specs.Extents.{wider, firstExtent}
-use Rattle.words.specs.declared.extent.Extent.{Extent}
-use Rattle.words.proofs.TreeLaws.{Fits, from-nothing, first-fits, extent-taken}
-use Rattle.shape.specs.Shaped.{countIndex, firstFive, Shaped}
+use mathlib.Core.{Path.{_≡_, refl, ap, ap₂, sym, _∙_}, Bool.{Bool, true, false, not}, List.{List, _++_, append-assoc}}
+use native.Mathlib.{Omega.{arith}, Nat.{add-zero}}
+use lib.{Dec.{eqb}, ListN.{length, take, drop, getD, length-drop, length-append}, Seq.{getD-drop, drop-drop}}
+use Rattle.molang.specs.{Words.{lowOf}, WriteEntry.{treesOf}, Operator.{isBracket, isMathCall}}
+use Rattle.words.specs.{Tokens.{tokenWordsAt, fiveWords, nodeLength}, declared.tokens.TokenWords.{TokenWords}, Fields.{operatorOf}}
+use Rattle.words.specs.{Extents.{wider, firstExtent}, declared.extent.Extent.{Extent}, Records.{laidAt}}
+use Rattle.words.proofs.{TreeLaws.{Fits, from-nothing, first-fits, extent-taken}, RecordLaws.{laid-before}}
+use Rattle.shape.{specs.Shaped.{countIndex, firstFive, Shaped}, proofs.RowLaws.{Opened, opened, shaped-room}}
 use Rattle.write.specs.declared.plain.Seat.{Seat}
 use Rattle.write.specs.Spelling.{pairOpener, pairCloser, closerWords, seen, seenWith, firstSize, nodeWritten, operandWritten}
-use Rattle.write.specs.Spelling.{nodeTokens, operandOf, filledWords, Room}
-use Rattle.words.specs.Records.{laidAt}
-use Rattle.write.proofs.StepLaws.{Puts, Writes, puts-more, puts-length, pair-writes, part-length, tail, tail-part}
-use Rattle.write.proofs.StepLaws.{one-left, nodesLeft, fewer-nodes}
-use Rattle.shape.proofs.RowLaws.{Opened, opened, shaped-room}
-use Rattle.write.specs.Reading.{operatorAt, childrenAt}
-use Rattle.molang.specs.Operator.{isBracket, isMathCall}
+use Rattle.write.specs.{Spelling.{nodeTokens, operandOf, filledWords, Room}, Reading.{operatorAt, childrenAt}}
 use Rattle.write.specs.declared.plain.Seat.the-variants.{Enclosed, UnderMathCall, LeftOfComma, Operand}
 use Rattle.write.specs.Seats.{isPaired, isSpared, ifTrue, leftSeat, rightSeat, onlySeat}
-use borrow.Author.Tests.{eq-eqb, ne-eqb}
 use Rattle.write.specs.Spine.{firstSeat, hasPair, frontOf, frontAt, withPair, Opens, Spine, theRoot, firstChild}
+use Rattle.write.proofs.StepLaws.{Puts, Writes, puts-more, puts-length, pair-writes, part-length, tail, tail-part}
+use Rattle.write.proofs.StepLaws.{one-left, nodesLeft, fewer-nodes}
 use Rattle.write.proofs.SpellLaws.{OneBelow, one-below, TwoBelow, two-below, onlyWords, leftWords, leftSize, rightPart, rightWords}
 use Rattle.write.proofs.SpellLaws.{paired-words, unpaired-words, first-within}
-use Rattle.words.proofs.RecordLaws.{laid-before}
+use borrow.Author.Tests.{eq-eqb, ne-eqb}
 
 -- The seat of the first child, by the number of children.
 pub first-of-two : (op n : ℕ) → n ≡ 2 → firstSeat op n ≡ leftSeat op

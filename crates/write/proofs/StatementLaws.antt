@@ -1,26 +1,16 @@
 -- The steps of writing a script: a statement's words, and the statements one after the other.
 use Prim.Native.Nat.{ℕ, suc, _+_, _-_, _*_, _≤_, _<_}
-use mathlib.Core.Path.{_≡_, refl, ap, sym, _∙_}
-use mathlib.Core.Bool.{true, _&&_}
-use mathlib.Core.List.{List, [], _∷_, _++_}
+use mathlib.Core.{Path.{_≡_, refl, ap, sym, _∙_}, Bool.{true, _&&_}, List.{List, [], _∷_, _++_}}
 use native.Mathlib.Omega.{arith}
-use lib.Dec.{eqb}
-use lib.ListN.{length, drop, getD, length-append, length-drop, drop-of-length-le}
-use lib.Seq.{drop-drop}
+use lib.{Dec.{eqb}, ListN.{length, drop, getD, length-append, length-drop, drop-of-length-le}, Seq.{drop-drop}}
 use borrow.Author.Tests.{eqb-true}
 use Rattle.molang.specs.Operator
-use Rattle.molang.specs.Forest.{Token, Forest, nil, node, bare, count, size}
-use Rattle.molang.specs.Words.{lowOf, word, operatorBits, tokenWords, listWords}
-use Rattle.molang.specs.Write.{writtenStatements}
-use Rattle.molang.specs.WriteEntry.{firstTrees, otherTrees, treesOf}
-use Rattle.molang.proofs.Trees.{both}
-use Rattle.molang.proofs.Words.{beside}
-use Rattle.molang.proofs.Writing.{written-before}
-use Rattle.words.specs.Records.{laidAt}
-use Rattle.words.specs.Tokens.{tokenWordsAt, bareWords, fiveWords, nodeLength}
+use Rattle.molang.specs.{Forest.{Token, Forest, nil, node, bare, count, size}, Words.{lowOf, word, operatorBits, tokenWords, listWords}}
+use Rattle.molang.specs.{Write.{writtenStatements}, WriteEntry.{firstTrees, otherTrees, treesOf}}
+use Rattle.molang.proofs.{Trees.{both}, Words.{beside}, Writing.{written-before}}
+use Rattle.words.specs.{Records.{laidAt}, Tokens.{tokenWordsAt, bareWords, fiveWords, nodeLength}}
 use Rattle.words.proofs.RecordLaws.{none-laid, laid-laid}
-use Rattle.shape.specs.Shaped.{countIndex, firstFive, Shaped}
-use Rattle.shape.proofs.RowLaws.{Opened, opened, shaped-room, after-trees, OneKid, one-kid}
+use Rattle.shape.{specs.Shaped.{countIndex, firstFive, Shaped}, proofs.RowLaws.{Opened, opened, shaped-room, after-trees, OneKid, one-kid}}
 use Rattle.write.specs.Spelling.{firstSize, nodeTokens, nodeWritten, Room}
 use Rattle.write.specs.Scripts.{eachHoldsOne, statementTokens, statementWritten, statementsWritten, StatementRoom, ScriptRoom}
 use Rattle.write.proofs.JudgeLaws.{statements-split}

@@ -1,29 +1,17 @@
 -- The steps of writing a node or an operand: before each call there is room, and after the last one all is written.
 use Prim.Native.Nat.{ℕ, zero, suc, _+_, _-_, _*_, _^_, _≤_, _/_, _<_}
-use mathlib.Core.Path.{_≡_, refl, ap, _∙_}
-use mathlib.Core.Bool.{true, false}
-use mathlib.Core.List.{List, _++_, append-assoc}
+use mathlib.Core.{Path.{_≡_, refl, ap, _∙_}, Bool.{true, false}, List.{List, _++_, append-assoc}}
 use native.Mathlib.Omega.{arith}
-use lib.ListN.{length, take, drop, getD, length-append, length-drop}
-use lib.Seq.{take-all, length-take-le}
-use Rattle.molang.specs.Words.{lowOf}
-use Rattle.molang.specs.WriteEntry.{treesOf}
-use Rattle.words.specs.Fields.{operatorOf}
-use Rattle.words.specs.Records.{laidAt}
-use Rattle.words.specs.Extents.{wider, firstExtent}
-use Rattle.words.specs.declared.extent.Extent.{Extent}
-use Rattle.words.proofs.RecordLaws.{laid-length, laid-laid, laid-before}
-use Rattle.words.proofs.TreeLaws.{from-nothing, extent-taken}
-use Rattle.write.specs.declared.plain.Seat.{Seat}
-use Rattle.write.specs.Seats.{isPaired}
+use lib.{ListN.{length, take, drop, getD, length-append, length-drop}, Seq.{take-all, length-take-le}}
+use Rattle.molang.specs.{Words.{lowOf}, WriteEntry.{treesOf}}
+use Rattle.words.specs.{Fields.{operatorOf}, Records.{laidAt}, Extents.{wider, firstExtent}, declared.extent.Extent.{Extent}}
 use Rattle.words.specs.Tokens.{nodeLength}
-use Rattle.shape.specs.Shaped.{countIndex, firstFive, Shaped}
-use Rattle.write.specs.Spelling.{pairOpener, pairCloser, closerWords, seen, seenWith}
-use Rattle.write.specs.Spelling.{firstSize, nodeTokens, operandOf, filledWords, nodeWritten, operandWritten}
-use Rattle.write.specs.Spelling.{Room}
-use Rattle.shape.proofs.RowLaws.{Opened, opened, shaped-room}
-use Rattle.write.proofs.SpellLaws.{first-within, none-below}
-use Rattle.write.proofs.SpellLaws.{paired-words, unpaired-words}
+use Rattle.words.proofs.{RecordLaws.{laid-length, laid-laid, laid-before}, TreeLaws.{from-nothing, extent-taken}}
+use Rattle.write.specs.{declared.plain.Seat.{Seat}, Seats.{isPaired}}
+use Rattle.write.specs.Spelling.{pairOpener, pairCloser, closerWords, seen, seenWith, firstSize, nodeTokens, operandOf, filledWords}
+use Rattle.write.specs.Spelling.{nodeWritten, operandWritten, Room}
+use Rattle.shape.{specs.Shaped.{countIndex, firstFive, Shaped}, proofs.RowLaws.{Opened, opened, shaped-room}}
+use Rattle.write.proofs.SpellLaws.{first-within, none-below, paired-words, unpaired-words}
 
 -- The part from a word on.
 abbrev pub tail : ℕ → List ℕ → List ℕ

@@ -2,18 +2,8 @@
 use mathlib.Core.Path.{sym, ap, _∙_}
 use borrow.Author.Needs.{needs}
 use Rattle.accept.specs.Accepting.{verdictOf}
-use Rattle.accept.proofs.AcceptLaws.{by-length, whole-tokens, by-values, by-words, by-nesting}
-use Rattle.accept.proofs.accept.Statement.{statement}
+use Rattle.accept.proofs.{AcceptLaws.{by-length, whole-tokens, by-values, by-words, by-nesting}, accept.Statement.{statement}}
 use Rattle.accept.proofs.accept.Tie as tie
-
-lengths-requires : tie.Need-lengths-requires
-lengths-requires c κs = search needs
-
-enum-known-length : tie.Need-enum-known-length
-enum-known-length c = search needs
-
-enum-told : tie.Need-enum-told
-enum-told c = search needs
 
 returns : tie.Need-returns
 returns c =
@@ -21,15 +11,6 @@ returns c =
     let a = measured .before .before .args in
     by-length (a .list .now) (a .sizes) (a .used) (a .limit) (measured .lengths .result) (c .before .match .keys2)
     (measured .lengths .ensures)
-
-values-requires : tie.Need-values-requires
-values-requires c κs = search needs
-
-enum-told-2 : tie.Need-enum-told-2
-enum-told-2 c = search needs
-
-enum-told-3 : tie.Need-enum-told-3
-enum-told-3 c = search needs
 
 returns-2 : tie.Need-returns-2
 returns-2 c =
@@ -47,12 +28,6 @@ token-words-requires c κs =
     let a = measured .before .before .args in
     let whole = sym (ap verdictOf (lent .before .before .length .given .1)) ∙ measured .lengths .ensures in
     whole-tokens (a .list .now) (a .sizes) (a .used) (a .limit) _ whole .0
-
-enum-told-4 : tie.Need-enum-told-4
-enum-told-4 c = search needs
-
-enum-told-5 : tie.Need-enum-told-5
-enum-told-5 c = search needs
 
 returns-3 : tie.Need-returns-3
 returns-3 c =
@@ -87,18 +62,5 @@ returns-4 c =
 pub accept-spec : {M : Type 1} → statement M
 accept-spec =
     tie.close
-    (tie.spec
-    lengths-requires
-    enum-known-length
-    enum-told
-    returns
-    values-requires
-    enum-told-2
-    enum-told-3
-    returns-2
-    token-words-requires
-    enum-told-4
-    enum-told-5
-    returns-3
-    nesting-requires
-    returns-4)
+    (tie.spec (λ c κs. search needs) (λ c. search needs) (λ c. search needs) returns (λ c κs. search needs) (λ c. search needs)
+    (λ c. search needs) returns-2 token-words-requires (λ c. search needs) (λ c. search needs) returns-3 nesting-requires returns-4)

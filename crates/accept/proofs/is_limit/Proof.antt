@@ -5,13 +5,8 @@ use Rattle.molang.specs.Parse.{isLimit}
 use Rattle.accept.proofs.is_limit.Statement.{statement}
 use Rattle.accept.proofs.is_limit.Tie as tie
 
-returns : tie.Need-returns
-unfolding isLimit
-returns c = rw (le-leb 1 (c .before .args .limit) (omega arith))
-
-returns-2 : tie.Need-returns-2
-unfolding isLimit
-returns-2 c = rw (lt-leb 1 (c .before .args .limit) (omega arith))
-
 pub is-limit-spec : {M : Type 1} → statement M
-is-limit-spec = tie.close (tie.spec returns returns-2)
+is-limit-spec =
+    tie.close
+    (tie.spec (λ c. unfold isLimit in rw (le-leb 1 (c .before .args .limit) (omega arith)))
+    (λ c. unfold isLimit in rw (lt-leb 1 (c .before .args .limit) (omega arith))))

@@ -1,12 +1,10 @@
 -- `accept::nesting` meets its contract: what the operator-bitss of the whole list answer is answered by the tokens that are left. Assumes
 -- nothing.
 use Prim.Native.Nat.{ℕ, _-_}
-use mathlib.Core.Path.{_≡_, sym, ap, _∙_}
-use mathlib.Core.Option.{Option}
+use mathlib.Core.{Path.{_≡_, sym, ap, _∙_}, Option.{Option}}
 use native.Mathlib.Omega.{arith}
 use borrow.Author.Needs.{needs}
-use Rattle.molang.specs.Nesting.{openAfter}
-use Rattle.molang.specs.Words.{withNumber}
+use Rattle.molang.specs.{Nesting.{openAfter}, Words.{withNumber}}
 use Rattle.accept.specs.Accepting.{verdict}
 use Rattle.accept.proofs.AcceptLaws.{same-open, WithinTo, within-first, within-short, within-last, within-on, goes-above}
 use Rattle.accept.proofs.nesting.Statement.{statement}
@@ -27,21 +25,6 @@ returns c =
 loop-holds : tie.Need-loop-holds Inv-loop μ-loop
 loop-holds c = let a = c .before .before .args in within-first (a .list .now) (a .limit) (a .n)
 
-mul-at : tie.Need-mul-at Inv-loop μ-loop
-mul-at c = search needs
-
-mul-operator-bits : tie.Need-mul-operator-bits Inv-loop μ-loop
-mul-operator-bits c = search needs
-
-shared-slice-read-operator-bits : tie.Need-shared-slice-read-operator-bits Inv-loop μ-loop
-shared-slice-read-operator-bits c = search needs
-
-operator-bits-requires : tie.Need-operator-bits-requires Inv-loop μ-loop
-operator-bits-requires c κs = search needs
-
-open-after-requires : tie.Need-open-after-requires Inv-loop μ-loop
-open-after-requires c κs = search needs
-
 returns-2 : tie.Need-returns-2 Inv-loop μ-loop
 returns-2 c =
     let at = c .before .before .before .before .before in
@@ -52,12 +35,6 @@ returns-2 c =
     let deep = goes-above (a .list .now) (a .limit) (a .n) (at .loop .index) (at .loop .depth) (at .loop .inv) (omega arith) (omega arith)
     (omega (arith, opened)) in
     ap (λ (o : Option ℕ). verdict (a .n) (withNumber 18 o)) (sym deep)
-
-add-index : tie.Need-add-index Inv-loop μ-loop
-add-index c = search needs
-
-loop-less : tie.Need-loop-less Inv-loop μ-loop
-loop-less c = search needs
 
 loop-again : tie.Need-loop-again Inv-loop μ-loop
 loop-again c =
@@ -81,18 +58,5 @@ returns-3 c =
 pub nesting-spec : {M : Type 1} → statement M
 nesting-spec =
     tie.close
-    (tie.spec
-    Inv-loop
-    μ-loop
-    returns
-    loop-holds
-    mul-at
-    mul-operator-bits
-    shared-slice-read-operator-bits
-    operator-bits-requires
-    open-after-requires
-    returns-2
-    add-index
-    loop-less
-    loop-again
-    returns-3)
+    (tie.spec Inv-loop μ-loop returns loop-holds (λ c. search needs) (λ c. search needs) (λ c. search needs) (λ c κs. search needs)
+    (λ c κs. search needs) returns-2 (λ c. search needs) (λ c. search needs) loop-again returns-3)

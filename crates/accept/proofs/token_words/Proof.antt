@@ -1,14 +1,12 @@
 -- `accept::token_words` meets its contract: what the check of the whole list answers is answered by the words that are left. Assumes
 -- nothing.
 use Prim.Native.Nat.{_+_, _*_, _-_}
-use mathlib.Core.Path.{_≡_, refl, sym, ap, _∙_}
-use mathlib.Core.Option.{none}
+use mathlib.Core.{Path.{_≡_, refl, sym, ap, _∙_}, Option.{none}}
 use native.Mathlib.Omega.{arith}
 use Rattle.words.specs.Checks.{refusalOf}
 use Rattle.accept.specs.Accepting.{verdict}
 use borrow.Author.Needs.{needs}
-use Rattle.accept.proofs.AcceptLaws.{PassedTo, checkFrom, token-good, token-bad, all-good}
-use Rattle.accept.proofs.token_words.Statement.{statement}
+use Rattle.accept.proofs.{AcceptLaws.{PassedTo, checkFrom, token-good, token-bad, all-good}, token_words.Statement.{statement}}
 use Rattle.accept.proofs.token_words.Tie as tie
 
 abbrev Inv-loop : tie.InvT-loop
@@ -16,27 +14,6 @@ Inv-loop list n i₀ i = PassedTo list n i
 
 abbrev μ-loop : tie.MeasureT-loop
 μ-loop list n i₀ i = n - i
-
-loop-holds : tie.Need-loop-holds Inv-loop μ-loop
-loop-holds c = record { within = omega arith; rest = refl }
-
-mul-at : tie.Need-mul-at Inv-loop μ-loop
-mul-at c = search needs
-
-at-requires : tie.Need-at-requires Inv-loop μ-loop
-at-requires c κs = search needs
-
-add-i : tie.Need-add-i Inv-loop μ-loop
-add-i c = search needs
-
-token-requires : tie.Need-token-requires Inv-loop μ-loop
-token-requires c κs = search needs
-
-enum-told : tie.Need-enum-told Inv-loop μ-loop
-enum-told c = search needs
-
-loop-less : tie.Need-loop-less Inv-loop μ-loop
-loop-less c = search needs
 
 loop-again : tie.Need-loop-again Inv-loop μ-loop
 loop-again c =
@@ -49,9 +26,6 @@ loop-again c =
     let on : at + 5 ≡ 5 * (s .loop .i + 1) = omega arith in
     let passed = token-good list at (omega arith) (good ∙ rw (words .at .ensures) at (token .token .ensures)) in
     record { within = omega arith; rest = s .loop .inv .rest ∙ (passed ∙ ap (checkFrom list) on) }
-
-enum-known-checked : tie.Need-enum-known-checked Inv-loop μ-loop
-enum-known-checked c = search needs
 
 returns : tie.Need-returns Inv-loop μ-loop
 returns c =
@@ -74,17 +48,5 @@ returns-2 c =
 pub token-words-spec : {M : Type 1} → statement M
 token-words-spec =
     tie.close
-    (tie.spec
-    Inv-loop
-    μ-loop
-    loop-holds
-    mul-at
-    at-requires
-    add-i
-    token-requires
-    enum-told
-    loop-less
-    loop-again
-    enum-known-checked
-    returns
-    returns-2)
+    (tie.spec Inv-loop μ-loop (λ c. record { within = omega arith; rest = refl }) (λ c. search needs) (λ c κs. search needs)
+    (λ c. search needs) (λ c κs. search needs) (λ c. search needs) (λ c. search needs) loop-again (λ c. search needs) returns returns-2)

@@ -1,19 +1,13 @@
 -- `accept::values` meets its contract: the rows in the table's order. Assumes nothing.
-use mathlib.Core.Path.{_≡_, sym, _∙_}
-use mathlib.Core.Bool.{true, false}
+use mathlib.Core.{Path.{_≡_, sym, _∙_}, Bool.{true, false}}
 use Prim.Native.Nat.{_+_, _*_, _^_}
 use native.Mathlib.Omega.{arith}
 use lib.Dec.{ltb}
-use borrow.Author.Needs.{needs}
-use borrow.Author.Tests.{le-leb, lt-leb, not-true, not-false}
-use Rattle.molang.specs.FirstFailure.{must, firstOf}
-use Rattle.molang.specs.Parse.{isLimit}
+use borrow.Author.{Needs.{needs}, Tests.{le-leb, lt-leb, not-true, not-false}}
+use Rattle.molang.specs.{FirstFailure.{must, firstOf}, Parse.{isLimit}}
 use Rattle.accept.specs.Accepting.{valueRefusal}
 use Rattle.accept.proofs.values.Statement.{statement}
 use Rattle.accept.proofs.values.Tie as tie
-
-is-legal-requires : tie.Need-is-legal-requires
-is-legal-requires c κs = search needs
 
 returns : tie.Need-returns
 unfolding valueRefusal firstOf must
@@ -34,9 +28,6 @@ returns-2 c =
     let a = c .before .before .before .args in
     rw (legal-set (c .before), lt-leb (a .source) 536870911 (omega arith))
 
-is-limit-requires : tie.Need-is-limit-requires
-is-limit-requires c κs = search needs
-
 returns-3 : tie.Need-returns-3
 unfolding valueRefusal firstOf must
 returns-3 c =
@@ -56,4 +47,4 @@ returns-4 c =
     rw (legal-set legal, le-leb (a .source) 536870911 (omega arith), inside)
 
 pub values-spec : {M : Type 1} → statement M
-values-spec = tie.close (tie.spec is-legal-requires returns returns-2 is-limit-requires returns-3 returns-4)
+values-spec = tie.close (tie.spec (λ c κs. search needs) returns returns-2 (λ c κs. search needs) returns-3 returns-4)

@@ -6,8 +6,7 @@ use borrow.Author.Needs.{needs}
 use lib.ListN.{length, drop}
 use Rattle.molang.specs.Words.{operatorField, endField}
 use Rattle.derived.specs.Derived.{highest}
-use Rattle.derived.proofs.WordLaws.{from-third, highest-on, highest-end}
-use Rattle.derived.proofs.highest_end.Statement.{statement}
+use Rattle.derived.proofs.{WordLaws.{from-third, highest-on, highest-end}, highest_end.Statement.{statement}}
 use Rattle.derived.proofs.highest_end.Tie as tie
 
 abbrev Inv-loop : tie.InvT-loop
@@ -15,24 +14,6 @@ Inv-loop list end₀ i₀ end i = highest endField end (drop i list) ≡ highest
 
 abbrev μ-loop : tie.MeasureT-loop
 μ-loop list end₀ i₀ end i = length list - i
-
-loop-holds : tie.Need-loop-holds Inv-loop μ-loop
-loop-holds c = from-third 0 (c .before .args .list .now)
-
-mul-higher : tie.Need-mul-higher Inv-loop μ-loop
-mul-higher c = search needs
-
-shared-slice-read-higher : tie.Need-shared-slice-read-higher Inv-loop μ-loop
-shared-slice-read-higher c = search needs
-
-higher-requires : tie.Need-higher-requires Inv-loop μ-loop
-higher-requires c κs = search needs
-
-add-i : tie.Need-add-i Inv-loop μ-loop
-add-i c = search needs
-
-loop-less : tie.Need-loop-less Inv-loop μ-loop
-loop-less c = search needs
 
 loop-again : tie.Need-loop-again Inv-loop μ-loop
 loop-again c =
@@ -49,4 +30,5 @@ returns c =
 pub highest-end-spec : {M : Type 1} → statement M
 highest-end-spec =
     tie.close
-    (tie.spec Inv-loop μ-loop loop-holds mul-higher shared-slice-read-higher higher-requires add-i loop-less loop-again returns)
+    (tie.spec Inv-loop μ-loop (λ c. from-third 0 (c .before .args .list .now)) (λ c. search needs) (λ c. search needs)
+    (λ c κs. search needs) (λ c. search needs) (λ c. search needs) loop-again returns)

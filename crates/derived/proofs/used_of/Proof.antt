@@ -1,16 +1,12 @@
 -- `derived::used_of` meets its contract. The loop's invariant: the operators seen so far and those of the words that are left are those of
 -- all. The measure is what is left of the words. Assumes nothing.
 use Prim.Native.Nat.{ℕ, _+_, _-_}
-use mathlib.Core.Path.{_≡_, sym, ap, _∙_}
-use mathlib.Core.Bool.{Bool, _||_, or-false, or-assoc}
+use mathlib.Core.{Path.{_≡_, sym, ap, _∙_}, Bool.{Bool, _||_, or-false, or-assoc}}
 use borrow.Author.Needs.{needs}
 use lib.ListN.{length, drop}
-use Rattle.molang.specs.Parse.{inHalves}
-use Rattle.molang.specs.Words.{operatorField}
+use Rattle.molang.specs.{Parse.{inHalves}, Words.{operatorField}}
 use Rattle.derived.specs.Derived.{named}
-use Rattle.derived.proofs.SetLaws.{in-none}
-use Rattle.derived.proofs.WordLaws.{named-on, named-end}
-use Rattle.derived.proofs.used_of.Statement.{statement}
+use Rattle.derived.proofs.{SetLaws.{in-none}, WordLaws.{named-on, named-end}, used_of.Statement.{statement}}
 use Rattle.derived.proofs.used_of.Tie as tie
 
 abbrev Inv-loop : tie.InvT-loop
@@ -22,21 +18,6 @@ abbrev μ-loop : tie.MeasureT-loop
 
 loop-holds : tie.Need-loop-holds Inv-loop μ-loop
 loop-holds c n = ap (λ (b : Bool). b || named operatorField (c .before .args .list .now) n) (in-none n)
-
-mul-with-word : tie.Need-mul-with-word Inv-loop μ-loop
-mul-with-word c = search needs
-
-shared-slice-read-with-word : tie.Need-shared-slice-read-with-word Inv-loop μ-loop
-shared-slice-read-with-word c = search needs
-
-with-word-requires : tie.Need-with-word-requires Inv-loop μ-loop
-with-word-requires c κs = search needs
-
-add-i : tie.Need-add-i Inv-loop μ-loop
-add-i c = search needs
-
-loop-less : tie.Need-loop-less Inv-loop μ-loop
-loop-less c = search needs
 
 loop-again : tie.Need-loop-again Inv-loop μ-loop
 loop-again c n =
@@ -56,4 +37,5 @@ returns c n =
 pub used-of-spec : {M : Type 1} → statement M
 used-of-spec =
     tie.close
-    (tie.spec Inv-loop μ-loop loop-holds mul-with-word shared-slice-read-with-word with-word-requires add-i loop-less loop-again returns)
+    (tie.spec Inv-loop μ-loop loop-holds (λ c. search needs) (λ c. search needs) (λ c κs. search needs) (λ c. search needs)
+    (λ c. search needs) loop-again returns)

@@ -3,26 +3,12 @@ use Prim.Native.Nat.{_-_}
 use mathlib.Core.Path.{_∙_}
 use native.Mathlib.Omega.{arith}
 use borrow.Author.Needs.{needs}
-use mir.Syntax.{w16}
-use mir.Facts.{toZ-pos, toZ-ofZ}
-use Rattle.derived.proofs.VersionLaws.{version-low, version-high, below-value, below-fits}
-use Rattle.derived.proofs.version_of.Statement.{statement}
+use mir.{Syntax.{w16}, Facts.{toZ-pos, toZ-ofZ}}
+use Rattle.derived.proofs.{VersionLaws.{version-low, version-high, below-value, below-fits}, version_of.Statement.{statement}}
 use Rattle.derived.proofs.version_of.Tie as tie
-
-cast-result : tie.Need-cast-result
-cast-result c = search needs
 
 returns : tie.Need-returns
 returns c = toZ-pos w16 (omega arith) ∙ version-low (c .before .args .bits) (omega arith)
-
-sub-below : tie.Need-sub-below
-sub-below c = search needs
-
-cast-below : tie.Need-cast-below
-cast-below c = search needs
-
-sub-result : tie.Need-sub-result
-sub-result c = below-fits (65535 - c .before .args .bits) (omega arith)
 
 returns-2 : tie.Need-returns-2
 returns-2 c =
@@ -31,4 +17,7 @@ returns-2 c =
     toZ-ofZ (below-fits k (omega arith)) ∙ below-value k (omega arith) ∙ version-high bits (omega arith)
 
 pub version-of-spec : {M : Type 1} → statement M
-version-of-spec = tie.close (tie.spec cast-result returns sub-below cast-below sub-result returns-2)
+version-of-spec =
+    tie.close
+    (tie.spec (λ c. search needs) returns (λ c. search needs) (λ c. search needs)
+    (λ c. below-fits (65535 - c .before .args .bits) (omega arith)) returns-2)

@@ -2,23 +2,13 @@
 use Prim.Native.Nat.{_-_, _<_}
 use native.Mathlib.Omega.{arith}
 use borrow.Author.Needs.{needs}
-use Rattle.derived.proofs.SetLaws.{one-bit, with-low, with-high}
-use Rattle.derived.proofs.with.Statement.{statement}
+use Rattle.derived.proofs.{SetLaws.{one-bit, with-low, with-high}, with.Statement.{statement}}
 use Rattle.derived.proofs.with.Tie as tie
-
-shl-t5 : tie.Need-shl-t5
-shl-t5 c = search needs
 
 returns : tie.Need-returns
 returns c n =
     let a = c .before .before .args in
     rw (one-bit (a .op) (search needs)) (with-low (a .used .low) (a .used .high) (a .op) (search needs) (search needs) n)
-
-cast-t8 : tie.Need-cast-t8
-cast-t8 c = search needs
-
-shl-t9 : tie.Need-shl-t9
-shl-t9 c = search needs
 
 returns-2 : tie.Need-returns-2
 returns-2 c n =
@@ -27,4 +17,4 @@ returns-2 c n =
     rw (one-bit (a .op - 64) below) (with-high (a .used .low) (a .used .high) (a .op) (search needs) (search needs) n)
 
 pub with-spec : {M : Type 1} → statement M
-with-spec = tie.close (tie.spec shl-t5 returns cast-t8 shl-t9 returns-2)
+with-spec = tie.close (tie.spec (λ c. search needs) returns (λ c. search needs) (λ c. search needs) returns-2)

@@ -1,23 +1,12 @@
 -- `derived::with_any` meets its contract: a word that is not legal and one of a host leave the set as it is. Assumes nothing.
 use Prim.Native.Nat.{ℕ}
-use mathlib.Core.Path.{_≡_, sym, ap, _∙_}
-use mathlib.Core.Bool.{Bool, false, _||_, or-false}
-use mathlib.Core.Option.{none}
+use mathlib.Core.{Path.{_≡_, sym, ap, _∙_}, Bool.{Bool, false, _||_, or-false}, Option.{none}}
 use borrow.Author.Needs.{needs}
 use lib.Dec.{eqb}
-use Rattle.molang.specs.Parse.{inHalves}
-use Rattle.molang.specs.Words.{operatorField, wordFault}
-use Rattle.words.specs.Checks.{numberOf}
-use Rattle.words.specs.Fields.{operatorOf}
-use Rattle.derived.proofs.WordLaws.{names-bad, names-low, names-host}
-use Rattle.derived.proofs.with_any.Statement.{statement}
+use Rattle.molang.specs.{Parse.{inHalves}, Words.{operatorField, wordFault}}
+use Rattle.words.specs.{Checks.{numberOf}, Fields.{operatorOf}}
+use Rattle.derived.proofs.{WordLaws.{names-bad, names-low, names-host}, with_any.Statement.{statement}}
 use Rattle.derived.proofs.with_any.Tie as tie
-
-operator-word-requires : tie.Need-operator-word-requires
-operator-word-requires c κs = search needs
-
-enum-told : tie.Need-enum-told
-enum-told c = search needs
 
 -- A word that names nothing leaves the set as it is.
 unchanged : (used named : Bool) → named ≡ false → used ≡ (used || named)
@@ -29,9 +18,6 @@ returns c n =
     let word = c .before .operator-word in
     unchanged _ _ (names-bad (word .result) (c .match .keys2) (a .w) n (word .ensures))
 
-operator-requires : tie.Need-operator-requires
-operator-requires c κs = search needs
-
 -- The word is legal.
 legal : (c : tie.After-enum-told) → wordFault operatorField 0 (c .before .before .before .args .w) ≡ none
 legal c = sym (sym (ap numberOf (c .enum-told .given .1)) ∙ c .before .before .operator-word .ensures)
@@ -41,9 +27,6 @@ unfolding operatorOf
 returns-2 c n =
     let told = c .before .before in
     unchanged _ _ (names-host (told .before .before .before .args .w) n (legal told) (rw (c .before .operator .ensures) at (c .if1 .taken)))
-
-with-requires : tie.Need-with-requires
-with-requires c κs = c .if1 .left
 
 returns-3 : tie.Need-returns-3
 unfolding operatorOf
@@ -56,4 +39,6 @@ returns-3 c n =
     ∙ sym (names-low (a .w) n (legal (numbered .before)) (rw (numbered .operator .ensures) at (c .before .if1 .left))))
 
 pub with-any-spec : {M : Type 1} → statement M
-with-any-spec = tie.close (tie.spec operator-word-requires enum-told returns operator-requires returns-2 with-requires returns-3)
+with-any-spec =
+    tie.close
+    (tie.spec (λ c κs. search needs) (λ c. search needs) returns (λ c κs. search needs) returns-2 (λ c κs. c .if1 .left) returns-3)

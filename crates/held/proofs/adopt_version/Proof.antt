@@ -1,30 +1,17 @@
 -- `held::adopt_version` meets its contract: there is a next count, or there is none. Assumes nothing.
-use mathlib.Core.Path.{_≡_, sym, ap, _∙_}
-use mathlib.Core.Option.{none}
+use mathlib.Core.{Path.{_≡_, sym, ap, _∙_}, Option.{none}}
 use native.Mathlib.Omega.{arith}
 use mir.Facts.{toZ-ofZ}
 use borrow.Author.Needs.{needs}
-use Rattle.held.specs.Held.{countRow}
-use Rattle.held.specs.Editing.{faultOf}
-use Rattle.held.proofs.FaultLaws.{next-count}
-use Rattle.held.proofs.CallLaws.{adopt-turned, has-adopted}
-use Rattle.held.proofs.adopt_version.Statement.{statement}
+use Rattle.held.specs.{Held.{countRow}, Editing.{faultOf}}
+use Rattle.held.proofs.{FaultLaws.{next-count}, CallLaws.{adopt-turned, has-adopted}, adopt_version.Statement.{statement}}
 use Rattle.held.proofs.adopt_version.Tie as tie
-
-count-fault-requires : tie.Need-count-fault-requires
-count-fault-requires c κs = search needs
-
-enum-known-fault : tie.Need-enum-known-fault
-enum-known-fault c = search needs
 
 returns : tie.Need-returns
 returns c =
     let faulted = c .before .before .before in
     let a = faulted .before .args in
     adopt-turned (a .held) (a .version) _ (ap faultOf (sym (c .before .fault .given .1)) ∙ faulted .count-fault .ensures)
-
-enum-told : tie.Need-enum-told
-enum-told c = search needs
 
 -- There is a next count.
 no-fault : (c : tie.After-enum-told) → none ≡ countRow (c .before .before .before .args .held)
@@ -39,4 +26,4 @@ returns-2 c =
     has-adopted (start .args .held) (start .args .version) (no-fault (c .before)) (toZ-ofZ (start .fits .version))
 
 pub adopt-version-spec : {M : Type 1} → statement M
-adopt-version-spec = tie.close (tie.spec count-fault-requires enum-known-fault returns enum-told add-t5 returns-2)
+adopt-version-spec = tie.close (tie.spec (λ c κs. search needs) (λ c. search needs) returns (λ c. search needs) add-t5 returns-2)

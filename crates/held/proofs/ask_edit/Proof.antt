@@ -1,20 +1,14 @@
 -- `held::ask_edit` meets its contract: a refusal of its own rows, or the new list as the entry answers it. Assumes nothing.
 use Prim.Native.Nat.{ℕ}
-use mathlib.Core.Path.{_≡_, sym, ap, _∙_}
-use mathlib.Core.Option.{none}
+use mathlib.Core.{Path.{_≡_, sym, ap, _∙_}, Option.{none}}
 use native.Mathlib.Omega.{arith}
-use mir.Syntax.{w16}
-use mir.Val.{ofZ, toZ}
-use lib.ListN.{length-replicate}
-use lib.Seq.{length-take-le}
+use mir.{Syntax.{w16}, Val.{ofZ, toZ}}
+use lib.{ListN.{length-replicate}, Seq.{length-take-le}}
 use borrow.Author.Needs.{needs}
 use Rattle.parse.specs.Answers.{HasParsed}
-use Rattle.held.specs.Held.{State, Edit, Lent, heldList, lentCall, editCall}
-use Rattle.held.specs.Answers.{state, edit, lent}
+use Rattle.held.specs.{Held.{State, Edit, Lent, heldList, lentCall, editCall}, Answers.{state, edit, lent}}
 use Rattle.held.specs.Editing.{faultOf, askFault}
-use Rattle.held.proofs.FaultLaws.{Within, ask-within}
-use Rattle.held.proofs.CallLaws.{can-edit, ask-turned, has-asked}
-use Rattle.held.proofs.ask_edit.Statement.{statement}
+use Rattle.held.proofs.{FaultLaws.{Within, ask-within}, CallLaws.{can-edit, ask-turned, has-asked}, ask_edit.Statement.{statement}}
 use Rattle.held.proofs.ask_edit.Tie as tie
 
 -- The state, the edit and what the reading is lent, by the values at entry.
@@ -27,21 +21,12 @@ the-edit start = edit (start .args .place) (start .args .removed) (start .args .
 abbrev the-lent : tie.Start → Lent
 the-lent start = let a = start .args in lent (a .tree .now) (a .messages .now) (a .work .now) (a .limit)
 
-ask-fault-requires : tie.Need-ask-fault-requires
-ask-fault-requires c κs = search needs
-
-enum-known-fault : tie.Need-enum-known-fault
-enum-known-fault c = search needs
-
 returns : tie.Need-returns
 returns c =
     let faulted = c .before .before .before in
     let start = faulted .before .before .before .before .before .before in
     ask-turned (the-state start) (the-edit start) (the-lent start) _
     (ap faultOf (sym (c .before .fault .given .1)) ∙ faulted .ask-fault .ensures)
-
-enum-told : tie.Need-enum-told
-enum-told c = search needs
 
 -- The values at entry, from where no row has answered and from where the new list was read.
 abbrev entry : tie.After-enum-told → tie.Start
@@ -61,12 +46,6 @@ within : (c : tie.After-enum-told)
     Within (the-state start) (start .args .place) (start .args .removed)
 within c = let a = entry c .args in ask-within (the-state (entry c)) (a .place) (a .removed) (no-fault c)
 
-mul-end : tie.Need-mul-end
-mul-end c = omega (arith, within (c .before) .few)
-
-slice-aggregate-read-edited : tie.Need-slice-aggregate-read-edited
-slice-aggregate-read-edited c = search needs
-
 slice-aggregate-read-edited-2 : tie.Need-slice-aggregate-read-edited-2
 slice-aggregate-read-edited-2 c =
     let w = within (c .before .before .before) in sym (length-take-le _ _ (omega (arith, w .room, w .few)))
@@ -76,15 +55,6 @@ unfolding heldList
 read-edited-requires c κs =
     let told = c .before .before .before .before .before .before .before in
     can-edit (the-state (entry told)) (the-edit (entry told)) (within told) (length-replicate {A = ℕ} 20480 0)
-
-same-length : tie.Need-same-length
-same-length c = search needs
-
-same-length-2 : tie.Need-same-length-2
-same-length-2 c = search needs
-
-same-length-3 : tie.Need-same-length-3
-same-length-3 c = search needs
 
 -- What the reading of the new list promises.
 version-is : (c : tie.After-struct-told)
@@ -108,16 +78,6 @@ returns-2 c =
 pub ask-edit-spec : {M : Type 1} → statement M
 ask-edit-spec =
     tie.close
-    (tie.spec
-    ask-fault-requires
-    enum-known-fault
-    returns
-    enum-told
-    mul-end
-    slice-aggregate-read-edited
-    slice-aggregate-read-edited-2
-    read-edited-requires
-    same-length
-    same-length-2
-    same-length-3
+    (tie.spec (λ c κs. search needs) (λ c. search needs) returns (λ c. search needs) (λ c. omega (arith, within (c .before) .few))
+    (λ c. search needs) slice-aggregate-read-edited-2 read-edited-requires (λ c. search needs) (λ c. search needs) (λ c. search needs)
     returns-2)

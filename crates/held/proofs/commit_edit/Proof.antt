@@ -1,19 +1,14 @@
 -- `held::commit_edit` meets its contract: a refusal of its own rows, or the new list, kept as the entry answers it. Assumes nothing.
 use Prim.Native.Nat.{ℕ, _<_}
-use mathlib.Core.Path.{_≡_, sym, ap, _∙_}
-use mathlib.Core.Option.{none}
+use mathlib.Core.{Path.{_≡_, sym, ap, _∙_}, Option.{none}}
 use native.Mathlib.Omega.{arith}
-use mir.Syntax.{w16}
-use mir.Val.{ofZ, toZ}
-use lib.ListN.{length-replicate}
-use lib.Seq.{length-take-le}
+use mir.{Syntax.{w16}, Val.{ofZ, toZ}}
+use lib.{ListN.{length-replicate}, Seq.{length-take-le}}
 use borrow.Author.Needs.{needs}
 use Rattle.parse.specs.Answers.{HasParsed}
-use Rattle.held.specs.Held.{State, Edit, Lent, heldList, lentCall, editCall, withEdit}
-use Rattle.held.specs.Answers.{state, edit, lent}
+use Rattle.held.specs.{Held.{State, Edit, Lent, heldList, lentCall, editCall, withEdit}, Answers.{state, edit, lent}}
 use Rattle.held.specs.Editing.{faultOf, commitFault}
-use Rattle.held.proofs.FaultLaws.{Within, commit-within}
-use Rattle.held.proofs.CallLaws.{can-edit, next-held, commit-turned, commit-keep, has-committed}
+use Rattle.held.proofs.{FaultLaws.{Within, commit-within}, CallLaws.{can-edit, next-held, commit-turned, commit-keep, has-committed}}
 use Rattle.held.proofs.commit_edit.Statement.{statement}
 use Rattle.held.proofs.commit_edit.Tie as tie
 
@@ -27,24 +22,12 @@ the-edit start = edit (start .args .place) (start .args .removed) (start .args .
 abbrev the-lent : tie.Start → Lent
 the-lent start = let a = start .args in lent (a .tree .now) (a .messages .now) (a .work .now) (a .limit)
 
-commit-fault-requires : tie.Need-commit-fault-requires
-commit-fault-requires c κs = search needs
-
-enum-known-fault : tie.Need-enum-known-fault
-enum-known-fault c = search needs
-
-same-length : tie.Need-same-length
-same-length c = search needs
-
 returns : tie.Need-returns
 returns c =
     let faulted = c .before .before .before in
     let start = faulted .before .before .before .before .before .before .before in
     commit-turned (the-state start) (start .args .seen) (the-edit start) (the-lent start) _
     (ap faultOf (sym (c .before .fault .given .1)) ∙ faulted .commit-fault .ensures)
-
-enum-told : tie.Need-enum-told
-enum-told c = search needs
 
 -- The values at entry, from where no row has answered and from where the new list was read.
 abbrev entry : tie.After-enum-told → tie.Start
@@ -64,12 +47,6 @@ within : (c : tie.After-enum-told)
     Within (the-state start) (start .args .place) (start .args .removed) × (start .args .held .edits < 4294967295)
 within c =
     let a = entry c .args in commit-within (the-state (entry c)) (a .seen) (a .place) (a .removed) (no-fault c)
-
-mul-end : tie.Need-mul-end
-mul-end c = omega (arith, within (c .before) .0 .few)
-
-slice-aggregate-read-edited : tie.Need-slice-aggregate-read-edited
-slice-aggregate-read-edited c = search needs
 
 slice-reshare-prefix-read-edited : tie.Need-slice-reshare-prefix-read-edited
 slice-reshare-prefix-read-edited c = let w = within (c .before .before) .0 in omega (arith, w .room, w .few)
@@ -113,27 +90,12 @@ next c =
     let start = entry (told (read c)) in
     c .with-edit .ensures ∙ next-held (the-state start) (the-edit start) (within (told (read c)) .0)
 
-slice-aggregate-keep : tie.Need-slice-aggregate-keep
-slice-aggregate-keep c = search needs
-
 keep-requires : tie.Need-keep-requires
 keep-requires c κs =
     let counts = c .before .before in
     let start = entry (told (read counts)) in
     commit-keep (the-state start) (start .args .seen) (the-edit start) (the-lent start) (reads (read counts)) (next counts)
     (within (told (read counts)) .0 .room) (read counts .read-edited .kept .0 ∙ length-replicate {A = ℕ} 20480 0)
-
-same-length-2 : tie.Need-same-length-2
-same-length-2 c = search needs
-
-same-length-3 : tie.Need-same-length-3
-same-length-3 c = search needs
-
-same-length-4 : tie.Need-same-length-4
-same-length-4 c = search needs
-
-same-length-5 : tie.Need-same-length-5
-same-length-5 c = search needs
 
 returns-2 : tie.Need-returns-2
 unfolding heldList
@@ -147,22 +109,7 @@ returns-2 c =
 pub commit-edit-spec : {M : Type 1} → statement M
 commit-edit-spec =
     tie.close
-    (tie.spec
-    commit-fault-requires
-    enum-known-fault
-    same-length
-    returns
-    enum-told
-    mul-end
-    slice-aggregate-read-edited
-    slice-reshare-prefix-read-edited
-    slice-aggregate-read-edited-2
-    read-edited-requires
-    with-edit-requires
-    slice-aggregate-keep
-    keep-requires
-    same-length-2
-    same-length-3
-    same-length-4
-    same-length-5
-    returns-2)
+    (tie.spec (λ c κs. search needs) (λ c. search needs) (λ c. search needs) returns (λ c. search needs)
+    (λ c. omega (arith, within (c .before) .0 .few)) (λ c. search needs) slice-reshare-prefix-read-edited slice-aggregate-read-edited-2
+    read-edited-requires with-edit-requires (λ c. search needs) keep-requires (λ c. search needs) (λ c. search needs) (λ c. search needs)
+    (λ c. search needs) returns-2)

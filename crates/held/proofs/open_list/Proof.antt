@@ -1,18 +1,12 @@
 -- `held::open_list` meets its contract: a slice that is too short, or a list that is kept as the entry answers it. Assumes nothing.
 use Prim.Native.Nat.{_/_}
 use mathlib.Core.Path.{_≡_, ap}
-use mir.Syntax.{w16}
-use mir.Val.{ofZ, toZ}
-use mir.Facts.{toZ-ofZ}
-use lib.IntN.{ℤ}
-use lib.ListN.{length}
+use mir.{Syntax.{w16}, Val.{ofZ, toZ}, Facts.{toZ-ofZ}}
+use lib.{IntN.{ℤ}, ListN.{length}}
 use borrow.Author.Needs.{needs}
 use Rattle.parse.specs.Answers.{HasParsed}
-use Rattle.held.specs.declared.Held.{Held}
-use Rattle.held.specs.Held.{Lent, lentCall, opened}
-use Rattle.held.specs.Answers.{lent}
-use Rattle.held.proofs.CallLaws.{open-short, open-keep, has-opened}
-use Rattle.held.proofs.open_list.Statement.{statement}
+use Rattle.held.specs.{declared.Held.{Held}, Held.{Lent, lentCall, opened}, Answers.{lent}}
+use Rattle.held.proofs.{CallLaws.{open-short, open-keep, has-opened}, open_list.Statement.{statement}}
 use Rattle.held.proofs.open_list.Tie as tie
 
 -- What the reading is lent.
@@ -24,9 +18,6 @@ returns c =
     let start = c .before .before .before .before .before .before in
     let a = start .args in
     open-short (a .words .now) (a .list .now) (the-lent start) (a .version) (c .if1 .taken)
-
-read-own-requires : tie.Need-read-own-requires
-read-own-requires c κs = search needs
 
 -- What the reading promises.
 reads : (c : tie.After-read-own)
@@ -55,18 +46,6 @@ keep-requires c κs =
     let a = start .args in
     open-keep (a .words .now) (a .list .now) (the-lent start) (a .version) (room .if1 .left) (reads read) (held-is start)
 
-same-length : tie.Need-same-length
-same-length c = search needs
-
-same-length-2 : tie.Need-same-length-2
-same-length-2 c = search needs
-
-same-length-3 : tie.Need-same-length-3
-same-length-3 c = search needs
-
-same-length-4 : tie.Need-same-length-4
-same-length-4 c = search needs
-
 returns-2 : tie.Need-returns-2
 returns-2 c =
     let kept = c .before .before in
@@ -80,12 +59,5 @@ returns-2 c =
 pub open-list-spec : {M : Type 1} → statement M
 open-list-spec =
     tie.close
-    (tie.spec
-    returns
-    read-own-requires
-    keep-requires
-    same-length
-    same-length-2
-    same-length-3
-    same-length-4
+    (tie.spec returns (λ c κs. search needs) keep-requires (λ c. search needs) (λ c. search needs) (λ c. search needs) (λ c. search needs)
     returns-2)

@@ -4,9 +4,5 @@ use Rattle.liftcount.specs.Running.{started}
 use Rattle.liftcount.proofs.start.Statement.{statement}
 use Rattle.liftcount.proofs.start.Tie as tie
 
-returns : tie.Need-returns
-unfolding started
-returns c list = refl
-
 pub start-spec : {M : Type 1} → statement M
-start-spec = tie.close (tie.spec returns)
+start-spec = tie.close (tie.spec (λ c list. unfold started in refl))

@@ -1,17 +1,12 @@
 -- A binary level takes an expression's list to the list in which its operators are folded too.
 use Prim.Native.Nat.{ℕ}
-use mathlib.Core.Path.{_≡_, refl, ap, sym, _∙_}
-use mathlib.Core.Bool.{Bool, true, false, _||_, _&&_, not, true≢false, false≢true, and-eq-true-iff}
-use mathlib.Core.List.{List}
-use mathlib.Core.Option.{none}
+use mathlib.Core.{Path.{_≡_, refl, ap, sym, _∙_}, Bool.{Bool, true, false, _||_, _&&_, not, true≢false, false≢true, and-eq-true-iff}}
+use mathlib.Core.{List.{List}, Option.{none}}
 use Rattle.molang.specs.Operator
-use Rattle.molang.specs.Operator.{isOneOf}
-use Rattle.molang.specs.Forest.{Token, Forest, nil, node, turnedOnto, inOrder}
-use Rattle.molang.specs.Message.{ok}
+use Rattle.molang.specs.{Operator.{isOneOf}, Forest.{Token, Forest, nil, node, turnedOnto, inOrder}, Message.{ok}}
 use Rattle.molang.specs.Level.{Level, walk, Gathered, gathered, waiting}
 use Rattle.molang.specs.Binary.{firstLeaf, unfolded, joined, operatorAfter, binaryStep, binaryResume, binaryFinish, binaryLevel}
-use Rattle.molang.proofs.Booleans.{never, or-second}
-use Rattle.molang.proofs.Forests.{Turns}
+use Rattle.molang.proofs.{Booleans.{never, or-second}, Forests.{Turns}}
 use Rattle.molang.proofs.RoundTrip.Role.{Role, aBracket, aComma, aQuestion, aColon, is, among, role, op-of-comma, op-of-question}
 use Rattle.molang.proofs.RoundTrip.Role.{op-of-colon}
 use Rattle.molang.proofs.RoundTrip.Expression.{Sort, Pair, Exp, empty, leaf, bracket, before, between, isOperand, isJoinedBy}

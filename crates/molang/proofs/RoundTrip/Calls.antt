@@ -1,17 +1,13 @@
 -- The call pass and the math call pass take an expression's list to the list in which their calls hold their brackets.
 use Prim.Native.Nat.{ℕ}
-use mathlib.Core.Path.{_≡_, refl, ap, sym, _∙_}
-use mathlib.Core.Bool.{Bool, true, false, _||_, _&&_, not, true≢false, false≢true, and-eq-true-iff}
+use mathlib.Core.{Path.{_≡_, refl, ap, sym, _∙_}, Bool.{Bool, true, false, _||_, _&&_, not, true≢false, false≢true, and-eq-true-iff}}
 use mathlib.Core.List.{[], _∷_}
 use native.Mathlib.Omega.{arith}
 use borrow.Author.Tests.{not-true}
-use Rattle.molang.specs.Operator.{isBracket}
-use Rattle.molang.specs.Forest.{Token, Forest, nil, node, turnedOnto, inOrder}
-use Rattle.molang.specs.Message.{ok}
+use Rattle.molang.specs.{Operator.{isBracket}, Forest.{Token, Forest, nil, node, turnedOnto, inOrder}, Message.{ok}}
 use Rattle.molang.specs.Level.{Level, walk, Gathered, gathered, waiting}
 use Rattle.molang.specs.Calls.{CallKind, queryOrLoop, math, calls, callLeaf, callStep, callResume, callFinish, callLevel}
-use Rattle.molang.proofs.Booleans.{either, or-only-first}
-use Rattle.molang.proofs.Forests.{Turns}
+use Rattle.molang.proofs.{Booleans.{either, or-only-first}, Forests.{Turns}}
 use Rattle.molang.proofs.RoundTrip.Role.{Role, aBracket, aQuery, aLoop, aMathCall, is, isAmong, among, role, role-bracket, role-math}
 use Rattle.molang.proofs.RoundTrip.Role.{role-query, ruled-out}
 use Rattle.molang.proofs.RoundTrip.Expression.{Sort, nothing, atom, prefixed, bracketed, joinedBy, Exp, empty, leaf, bracket, before}

@@ -1,20 +1,14 @@
 -- The conditional pass from version 5 takes an expression's list to the list in which its conditionals are folded.
 use Prim.Native.Nat.{ℕ}
-use mathlib.Core.Path.{_≡_, refl, ap, sym, _∙_}
-use mathlib.Core.Bool.{Bool, true, false, _||_, not, true≢false, false≢true, and-eq-true-iff, and-true}
-use mathlib.Core.List.{[], _∷_}
-use mathlib.Core.Option.{none, some, Option·some-ne-none}
+use mathlib.Core.{Path.{_≡_, refl, ap, sym, _∙_}, Bool.{Bool, true, false, _||_, not, true≢false, false≢true, and-eq-true-iff, and-true}}
+use mathlib.Core.{List.{[], _∷_}, Option.{none, some, Option·some-ne-none}}
 use lib.Dec.{eqb}
 use borrow.Author.Tests.{not-true}
 use Rattle.molang.specs.Operator
-use Rattle.molang.specs.Operator.{any, isOneOf}
-use Rattle.molang.specs.Forest.{Token, Forest, nil, node, turnedOnto, inOrder}
-use Rattle.molang.specs.Message.{ok}
-use Rattle.molang.specs.Level.{walk}
+use Rattle.molang.specs.{Operator.{any, isOneOf}, Forest.{Token, Forest, nil, node, turnedOnto, inOrder}, Message.{ok}, Level.{walk}}
 use Rattle.molang.specs.Conditional.{isToken, startsWith, under, scan, foldedFrom, dangling, undangled, conditionalStep}
 use Rattle.molang.specs.Conditional.{conditionalFinish, conditionalLevel}
-use Rattle.molang.proofs.Booleans.{either, never}
-use Rattle.molang.proofs.Conditional.{scanned, scan-once, undangled-calm}
+use Rattle.molang.proofs.{Booleans.{either, never}, Conditional.{scanned, scan-once, undangled-calm}}
 use Rattle.molang.proofs.Forests.{Turns, inOrder-turned}
 use Rattle.molang.proofs.RoundTrip.Role.{Role, aBracket, aComma, aQuestion, aColon, is, is-same, isAmong, among, role}
 use Rattle.molang.proofs.RoundTrip.Role.{role-conditional, role-question, role-colon, op-of-question, op-of-colon}

@@ -2,17 +2,12 @@
 -- is read alike at all three. And what demand 3 alone would not notice, since it would change both of its sides: how a tree is written, and
 -- which brackets are taken away.
 use Prim.Native.Nat.{ℕ, _+_, _*_, _^_}
-use mathlib.Core.Path.{_≡_, refl, ap}
-use mathlib.Core.List.{List, [], _∷_}
-use mathlib.Core.Bool.{false}
-use mathlib.Core.Option.{Option, none, some}
+use mathlib.Core.{Path.{_≡_, refl, ap}, List.{List, [], _∷_}, Bool.{false}, Option.{Option, none, some}}
 use native.Mathlib.Omega.{arith}
 use lib.IntN.{pos}
 use Rattle.molang.specs.Operator
-use Rattle.molang.specs.Forest.{Token, Forest, nil, node}
-use Rattle.molang.specs.Read.{Answer, tree, messages, read, uses, setNumber}
-use Rattle.molang.specs.Words.{word, operatorField, wordFault}
-use Rattle.molang.specs.Plain.{unplainAt}
+use Rattle.molang.specs.{Forest.{Token, Forest, nil, node}, Read.{Answer, tree, messages, read, uses, setNumber}}
+use Rattle.molang.specs.{Words.{word, operatorField, wordFault}, Plain.{unplainAt}}
 use Rattle.molang.specs.Write.{written, writtenTree, takenAway, comparable}
 use Rattle.molang.proofs.Computed.{computed}
 

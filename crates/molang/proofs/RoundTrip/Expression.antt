@@ -2,9 +2,7 @@
 -- comma, the `:` right of its `?`). An assignment and a `return`, which a statement may hold, are such expressions too, but stand in
 -- no other. Writing a plain tree spells such expressions (Spelling), each pass of reading folds some of their operators.
 use Prim.Native.Nat.{ℕ}
-use mathlib.Core.Path.{_≡_, refl, ap, sym, _∙_}
-use mathlib.Core.Bool.{Bool, true, false, _||_, _&&_, not, false≢true, and-false}
-use mathlib.Core.List.{List, [], _∷_}
+use mathlib.Core.{Path.{_≡_, refl, ap, sym, _∙_}, Bool.{Bool, true, false, _||_, _&&_, not, false≢true, and-false}, List.{List, [], _∷_}}
 use Rattle.molang.specs.Operator
 use Rattle.molang.specs.Forest.{Token, Forest, nil, node, closedBy, turnedOnto}
 use Rattle.molang.proofs.Forests.{Turns}

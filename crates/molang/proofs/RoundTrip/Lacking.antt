@@ -2,14 +2,11 @@
 -- list has no leaf of it, its tokens do not use it, and it does not matter whether it is folded.
 use Prim.Native.Nat.{ℕ}
 use mathlib.Core.Path.{_≡_, refl, ap, sym, _∙_, fun-ext}
-use mathlib.Core.Bool.{Bool, true, false, _||_, not, true≢false, false≢true, and-eq-true-iff, or-false, and-false}
-use mathlib.Core.List.{List, [], _∷_}
+use mathlib.Core.{Bool.{Bool, true, false, _||_, not, true≢false, false≢true, and-eq-true-iff, or-false, and-false}, List.{List, [], _∷_}}
 use lib.Dec.{leb}
 use borrow.Author.Tests.{not-true, eq-eqb, ne-eqb}
 use Rattle.molang.specs.Operator
-use Rattle.molang.specs.Forest.{Token, Forest, nil, node}
-use Rattle.molang.specs.Read.{uses}
-use Rattle.molang.specs.Free.{free}
+use Rattle.molang.specs.{Forest.{Token, Forest, nil, node}, Read.{uses}, Free.{free}}
 use Rattle.molang.proofs.Booleans.{never, or-neither}
 use Rattle.molang.proofs.RoundTrip.Role.{Role, aBracket, aCloser, aComma, aColon, aSemicolon, is, is-same, isAmong, allOf, among}
 use Rattle.molang.proofs.RoundTrip.Role.{role, closer-role}

@@ -6,39 +6,28 @@ use mathlib.Core.Path.{_≡_, refl, ap, sym, _∙_, fun-ext}
 use mathlib.Core.Bool.{Bool, true, false, _||_, _&&_, not, true≢false, false≢true, and-eq-true-iff, or-false, and-false}
 use mathlib.Core.List.{List, [], _∷_}
 use native.Mathlib.Omega.{arith}
-use lib.Dec.{eqb, leb}
-use lib.ListN.{drop}
+use lib.{Dec.{eqb, leb}, ListN.{drop}}
 use borrow.Author.Tests.{eqb-true, eq-eqb, ne-eqb, leb-true, le-leb, leb-false, not-true, not-false}
 use Rattle.molang.specs.Operator
-use Rattle.molang.specs.Operator.{any, isOneOf, isBracket, isMathCall, isHost}
-use Rattle.molang.specs.Forest.{Token, Forest, nil, node, leaves}
-use Rattle.molang.specs.Message.{ok}
-use Rattle.molang.specs.Level.{walk, through, gathered}
-use Rattle.molang.specs.Level as Levels
-use Rattle.molang.specs.Calls.{CallKind, queryOrLoop, math, calls, callLevel}
-use Rattle.molang.specs.Binary.{binaryLevel}
-use Rattle.molang.specs.Conditional.{conditionalLevel}
-use Rattle.molang.specs.Unary.{returnLevel}
+use Rattle.molang.specs.{Operator.{any, isOneOf, isBracket, isMathCall, isHost}, Forest.{Token, Forest, nil, node, leaves}}
+use Rattle.molang.specs.{Message.{ok}, Level.{walk, through, gathered}, Calls.{CallKind, queryOrLoop, math, calls, callLevel}}
+use Rattle.molang.specs.{Binary.{binaryLevel}, Conditional.{conditionalLevel}, Unary.{returnLevel}}
 use Rattle.molang.specs.Order.{Rules, Pass, lastToken, memberAccessors, sectioning, callPass, statements, arrays, pointer, mathCalls}
 use Rattle.molang.specs.Order.{unaryMinusAndNot, addition, conditional, returns, binary, order, someBelow, runs, apply}
 use Rattle.molang.specs.Read.{rooted, grouped, uses}
-use Rattle.molang.proofs.Trees.{and-true-true}
-use Rattle.molang.proofs.Booleans.{either, never, or-first, or-second, or-neither, or-only-first}
+use Rattle.molang.specs.Level as Levels
+use Rattle.molang.proofs.{Trees.{and-true-true}, Booleans.{either, never, or-first, or-second, or-neither, or-only-first}}
 use Rattle.molang.proofs.Computed.{computed}
 use Rattle.molang.proofs.RoundTrip.Role.{Role, aQuery, aMathCall, aBracket, aCloser, aMinus, aNot, aLoop, another, aSemicolon}
-use Rattle.molang.proofs.RoundTrip.Role.{anAssignment, is, isUnwritten, isIdle, idle-above, isAmong, allOf, among, role}
-use Rattle.molang.proofs.RoundTrip.Role.{closer-role, aLeaf}
-use Rattle.molang.proofs.RoundTrip.Role.{role-above, no-math as no-math-above}
-use Rattle.molang.proofs.RoundTrip.Role.{none-below, role-bracket, role-query, role-math, role-prefix}
+use Rattle.molang.proofs.RoundTrip.Role.{anAssignment, is, isUnwritten, isIdle, idle-above, isAmong, allOf, among, role, closer-role}
+use Rattle.molang.proofs.RoundTrip.Role.{aLeaf, role-above, no-math as no-math-above, none-below, role-bracket, role-query}
+use Rattle.molang.proofs.RoundTrip.Role.{role-math, role-prefix}
 use Rattle.molang.proofs.RoundTrip.Expression.{Sort, Exp, empty, leaf, bracket, before, between, isWhole, leafRoles, prefixRoles}
 use Rattle.molang.proofs.RoundTrip.Expression.{joiningRoles, isPrefix, isJoining, tokens, ahead, amid, form, also}
 use Rattle.molang.proofs.RoundTrip.Lacking.{heads, lacking, no-semicolon, lacks-uses}
-use Rattle.molang.proofs.RoundTrip.Sections.{nothingYet, Reads, reads, whole-reads}
-use Rattle.molang.proofs.RoundTrip.Calls.{Uncalled, call-pass}
-use Rattle.molang.proofs.RoundTrip.Unary.{prefixes, unary-pass}
-use Rattle.molang.proofs.RoundTrip.Binary.{Ready, binary-pass}
-use Rattle.molang.proofs.RoundTrip.Conditional.{conditionals, conditional-pass}
-use Rattle.molang.proofs.RoundTrip.Return.{returning, return-pass}
+use Rattle.molang.proofs.{RoundTrip.Sections.{nothingYet, Reads, reads, whole-reads}, RoundTrip.Calls.{Uncalled, call-pass}}
+use Rattle.molang.proofs.{RoundTrip.Unary.{prefixes, unary-pass}, RoundTrip.Binary.{Ready, binary-pass}}
+use Rattle.molang.proofs.{RoundTrip.Conditional.{conditionals, conditional-pass}, RoundTrip.Return.{returning, return-pass}}
 
 -- The operators that a pass folds.
 unfoldable pub folds : Pass → ℕ → Bool

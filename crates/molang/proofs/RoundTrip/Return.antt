@@ -1,22 +1,15 @@
 -- The return pass takes the list of what a statement holds to the list in which a `return` at its top holds its operand. Below it no
 -- `return` stands, so it does not matter that the pass takes the operand as it is.
 use Prim.Native.Nat.{ℕ}
-use mathlib.Core.Path.{_≡_, refl, ap, sym, _∙_}
-use mathlib.Core.Bool.{Bool, true, false, _||_, true≢false, false≢true, or-false}
-use mathlib.Core.List.{[], _∷_}
+use mathlib.Core.{Path.{_≡_, refl, ap, sym, _∙_}, Bool.{Bool, true, false, _||_, true≢false, false≢true, or-false}, List.{[], _∷_}}
 use lib.Dec.{eqb}
 use borrow.Author.Tests.{eqb-true}
 use Rattle.molang.specs.Operator
-use Rattle.molang.specs.Operator.{any, isOneOf}
-use Rattle.molang.specs.Forest.{Token, Forest, nil, node, inOrder, turnedOnto}
-use Rattle.molang.specs.Message.{ok}
-use Rattle.molang.specs.Level.{walk, through, gathered, waiting}
-use Rattle.molang.specs.Level as Levels
-use Rattle.molang.specs.Unary.{returnStep, returnFinish, returnLevel}
+use Rattle.molang.specs.{Operator.{any, isOneOf}, Forest.{Token, Forest, nil, node, inOrder, turnedOnto}, Message.{ok}}
+use Rattle.molang.specs.{Level.{walk, through, gathered, waiting}, Unary.{returnStep, returnFinish, returnLevel}}
 use Rattle.molang.specs.Free.{isReturn, free}
-use Rattle.molang.proofs.Booleans.{either}
-use Rattle.molang.proofs.Return.{return-free}
-use Rattle.molang.proofs.RoundTrip.Role.{Role, aReturn, is, role, role-return}
+use Rattle.molang.specs.Level as Levels
+use Rattle.molang.proofs.{Booleans.{either}, Return.{return-free}, RoundTrip.Role.{Role, aReturn, is, role, role-return}}
 use Rattle.molang.proofs.RoundTrip.Expression.{Sort, Exp, empty, leaf, bracket, before, between, joiningRoles, isPrefix, takes}
 use Rattle.molang.proofs.RoundTrip.Expression.{ahead, form, also, Solid, operand-solid, takes-operand}
 use Rattle.molang.proofs.RoundTrip.Lacking.{Lacks, apart, operand-headless, lacking, lacks-free, lacks-same}

@@ -3,18 +3,14 @@
 use Prim.Native.Nat.{ℕ, zero, suc, _<_}
 use mathlib.Core.Path.{_≡_, refl, ap, sym, _∙_}
 use mathlib.Core.Bool.{Bool, true, false, _||_, _&&_, not, Bool·beq, true≢false, false≢true, and-eq-true-iff, and-false}
-use mathlib.Core.List.{List, [], _∷_}
-use mathlib.Core.Option.{Option, none, some}
+use mathlib.Core.{List.{List, [], _∷_}, Option.{Option, none, some}}
 use native.Mathlib.Omega.{arith}
 use lib.Dec.{eqb, leb, lit<}
 use borrow.Author.Tests.{eqb-true, eqb-false, ne-eqb, lt-leb, leb-true, leb-false, not-true}
 use Rattle.molang.specs.Operator
 use Rattle.molang.specs.Operator.{any, isOneOf, between, isMathCall, isHost, isBracket, isQueryOrLoop, closingOf, isCloser}
-use Rattle.molang.specs.Calls.{queryOrLoop, math, calls}
-use Rattle.molang.specs.Order.{someBelow}
-use Rattle.molang.specs.Plain.{isPlainLeaf, isPlainBinary, isCall}
-use Rattle.molang.proofs.Booleans.{either, or-neither, or-second}
-use Rattle.molang.proofs.Computed.{computed}
+use Rattle.molang.specs.{Calls.{queryOrLoop, math, calls}, Order.{someBelow}, Plain.{isPlainLeaf, isPlainBinary, isCall}}
+use Rattle.molang.proofs.{Booleans.{either, or-neither, or-second}, Computed.{computed}}
 
 pub record Role : Type 0 where
   pub code : ℕ

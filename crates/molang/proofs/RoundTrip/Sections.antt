@@ -1,14 +1,11 @@
 -- The section pass takes an expression's tokens to the list in which its brackets hold their contents and nothing is folded yet.
 use Prim.Native.Nat.{ℕ, _+_}
-use mathlib.Core.Path.{_≡_, refl, ap, sym, _∙_}
-use mathlib.Core.Bool.{Bool, true, false}
-use mathlib.Core.List.{List, [], _∷_}
+use mathlib.Core.{Path.{_≡_, refl, ap, sym, _∙_}, Bool.{Bool, true, false}, List.{List, [], _∷_}}
 use lib.Dec.{eqb}
 use borrow.Author.Tests.{eqb-true}
 use Rattle.molang.specs.Operator
 use Rattle.molang.specs.Operator.{any, isOneOf, isBracket, closingOf, isCloser}
-use Rattle.molang.specs.Forest.{Token, Forest, nil, node, closedBy, leaves, turnedOnto, inOrder}
-use Rattle.molang.specs.Message.{ok, closer}
+use Rattle.molang.specs.{Forest.{Token, Forest, nil, node, closedBy, leaves, turnedOnto, inOrder}, Message.{ok, closer}}
 use Rattle.molang.specs.Sections.{Open, outside, section, placed, position, closing, closed, sections}
 use Rattle.molang.specs.Sections as Definition
 use Rattle.molang.proofs.Forests.{Turns, inOrder-turned}

@@ -3,26 +3,20 @@
 -- script is spelled statement by statement.
 use Prim.Native.Nat.{ℕ, suc, _+_}
 use mathlib.Core.Path.{_≡_, refl, ap, sym, _∙_}
-use mathlib.Core.Bool.{Bool, true, false, _||_, _&&_, not, true≢false, false≢true, and-eq-true-iff, or-true}
-use mathlib.Core.List.{List, [], _∷_}
+use mathlib.Core.{Bool.{Bool, true, false, _||_, _&&_, not, true≢false, false≢true, and-eq-true-iff, or-true}, List.{List, [], _∷_}}
 use lib.Dec.{eqb}
 use borrow.Author.Tests.{not-true, eq-eqb}
 use Rattle.molang.specs.Operator
-use Rattle.molang.specs.Operator.{isOneOf, isMathCall, isBracket}
-use Rattle.molang.specs.Forest.{Token, Forest, nil, node, size, bare, closedBy, unclosed}
-use Rattle.molang.specs.Calls.{calls}
-use Rattle.molang.specs.Free.{isNil}
+use Rattle.molang.specs.{Operator.{isOneOf, isMathCall, isBracket}, Forest.{Token, Forest, nil, node, size, bare, closedBy, unclosed}}
+use Rattle.molang.specs.{Calls.{calls}, Free.{isNil}}
 use Rattle.molang.specs.Plain.{Seat, atRoot, underSemicolon, isRightOfQuestion, isUnderMathCall, isUnderSemicolon, seatUnder}
 use Rattle.molang.specs.Plain.{isPlainLeaf, isPlainBinary, isCall, expressionForm}
 use Rattle.molang.specs.Write.{spanning, openerFor, closerFor, closerOf, standsAlone, standsLeft, standsRight, operandTokens, written}
 use Rattle.molang.specs.Write.{writtenStatements, takenAway, comparableToken, comparableTrees}
-use Rattle.molang.proofs.Booleans.{either, never, or-only-first}
-use Rattle.molang.proofs.Computed.{computed}
-use Rattle.molang.proofs.PlainTrees.{seat-cases, other-seat, left-seat, right-seat, PlainExpression, inner, PlainStatements}
-use Rattle.molang.proofs.PlainTrees.{ended, statement}
-use Rattle.molang.proofs.Paired.{operandTree, paired, paired-one, paired-two, written-paired, plain-paired}
-use Rattle.molang.proofs.TakingAway.{taken-later, taken-kept, taken-call, taken-bracket}
-use Rattle.molang.proofs.Writing.{written-none, written-one}
+use Rattle.molang.proofs.{Booleans.{either, never, or-only-first}, Computed.{computed}}
+use Rattle.molang.proofs.PlainTrees.{seat-cases, other-seat, left-seat, right-seat, PlainExpression, inner, PlainStatements, ended}
+use Rattle.molang.proofs.{PlainTrees.{statement}, Paired.{operandTree, paired, paired-one, paired-two, written-paired, plain-paired}}
+use Rattle.molang.proofs.{TakingAway.{taken-later, taken-kept, taken-call, taken-bracket}, Writing.{written-none, written-one}}
 use Rattle.molang.proofs.RoundTrip.Role.{Role, aQuery, aMathCall, aBracket, aMinus, aNot, aBinary, aComma, aQuestion, aColon}
 use Rattle.molang.proofs.RoundTrip.Role.{anAssignment, aReturn, is, is-same, isAmong, allOf, among, role, role-bracket, role-comma}
 use Rattle.molang.proofs.RoundTrip.Role.{role-question, role-colon, role-assignment, role-return, role-math, role-call, role-leaf}
@@ -31,8 +25,7 @@ use Rattle.molang.proofs.RoundTrip.Expression.{Sort, nothing, atom, pre
 use Rattle.molang.proofs.RoundTrip.Expression.{before, between, isOperand, isJoinedBy, isWhole, isHeaded, statementRoles, isHeld}
 use Rattle.molang.proofs.RoundTrip.Expression.{isFilled, isBracketed, isFilledBracket, leafRoles, prefixRoles, joiningRoles, isLeaf}
 use Rattle.molang.proofs.RoundTrip.Expression.{isPrefix, isJoining, takes, joinsLeft, joinsRight, tokens, ahead, amid, form}
-use Rattle.molang.proofs.RoundTrip.Lacking.{apart, heads, headless}
-use Rattle.molang.proofs.RoundTrip.Order.{everything}
+use Rattle.molang.proofs.{RoundTrip.Lacking.{apart, heads, headless}, RoundTrip.Order.{everything}}
 use Rattle.molang.proofs.RoundTrip.Script.{Statement, isEmpty, scriptTokens, labelOf, label-op, statementTrees}
 
 -- Taking away goes through a list tree by tree.

@@ -1,14 +1,10 @@
 -- The pass of unary minus and not, from the right, takes an expression's list to the list in which both hold their operands.
 use Prim.Native.Nat.{ℕ}
-use mathlib.Core.Path.{_≡_, refl, ap, sym, _∙_}
-use mathlib.Core.Bool.{Bool, true, false, _||_, not, true≢false, false≢true}
-use mathlib.Core.List.{List, [], _∷_}
+use mathlib.Core.{Path.{_≡_, refl, ap, sym, _∙_}, Bool.{Bool, true, false, _||_, not, true≢false, false≢true}, List.{List, [], _∷_}}
 use mathlib.Core.Option.{Option, none, some}
 use lib.Dec.{eqb}
 use Rattle.molang.specs.Operator
-use Rattle.molang.specs.Operator.{any, isOneOf}
-use Rattle.molang.specs.Forest.{Token, Forest, nil, node}
-use Rattle.molang.specs.Message.{ok}
+use Rattle.molang.specs.{Operator.{any, isOneOf}, Forest.{Token, Forest, nil, node}, Message.{ok}}
 use Rattle.molang.specs.Unary.{done, minusAfter, notBefore, unaryLeaf, turned, unaryNode, unary, unaryPass}
 use Rattle.molang.proofs.RoundTrip.Role.{Role, aBracket, aMinus, aNot, isAmong, allOf, role, role-prefix, ruled-out}
 use Rattle.molang.proofs.RoundTrip.Expression.{Sort, nothing, atom, prefixed, bracketed, joinedBy, Exp, empty, leaf, bracket, before}

@@ -1,10 +1,7 @@
 -- What the proofs of the passes from the left share: one step of a level, and the parts of a list that a level carries over one after
 -- another.
-use mathlib.Core.Path.{_≡_, refl, ap, sym, _∙_}
-use mathlib.Core.Bool.{Bool, true}
-use Rattle.molang.specs.Forest.{Token, Forest, nil, node, turnedOnto, inOrder}
-use Rattle.molang.specs.Message.{ok}
-use Rattle.molang.specs.Level.{on, into, Level, walk}
+use mathlib.Core.{Path.{_≡_, refl, ap, sym, _∙_}, Bool.{Bool, true}}
+use Rattle.molang.specs.{Forest.{Token, Forest, nil, node, turnedOnto, inOrder}, Message.{ok}, Level.{on, into, Level, walk}}
 use Rattle.molang.proofs.Forests.{Turns, inOrder-turned}
 
 module _ {S : Type 0} (L : Level S) where

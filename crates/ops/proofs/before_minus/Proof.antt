@@ -1,10 +1,8 @@
 -- `ops::before_minus` meets its contract: the numbers of each arm, by range or one by one. Assumes nothing.
-use mathlib.Core.Logic.{⊎-elim}
-use mathlib.Core.List.{[], _∷_}
+use mathlib.Core.{Logic.{⊎-elim}, List.{[], _∷_}}
 use native.Mathlib.Omega.{arith}
 use Rattle.molang.specs.Operator.{add, div, mul, continue, expressionArray, any, isOneOf, beforeMinus}
-use Rattle.ops.proofs.OperatorLaws.{Single, none-of, operator-at, operand-apart}
-use Rattle.ops.proofs.before_minus.Statement.{statement}
+use Rattle.ops.proofs.{OperatorLaws.{Single, none-of, operator-at, operand-apart}, before_minus.Statement.{statement}}
 use Rattle.ops.proofs.before_minus.Tie as tie
 
 -- What is left after the arms of single numbers.
@@ -15,14 +13,6 @@ single c =
     let unknown = none-of (continue ∷ expressionArray ∷ []) op (r .0 .0 .0 .1) in
     let arithmetic = none-of (add ∷ div ∷ mul ∷ []) op (r .0 .1) in
     ((r .0 .0 .0 .0 .1, unknown), (r .0 .0 .1, arithmetic), (r .1, tt))
-
-returns : tie.Need-returns
-unfolding any isOneOf beforeMinus
-returns c = rw (c .match .keys1)
-
-returns-2 : tie.Need-returns-2
-unfolding any isOneOf beforeMinus
-returns-2 c = ⊎-elim (λ e. rw e) (λ e. rw e) (c .match .keys2)
 
 returns-3 : tie.Need-returns-3
 unfolding any isOneOf beforeMinus
@@ -50,17 +40,9 @@ returns-9 c =
     let s = c .before .before .before .before .before .before .before in
     operand-apart (s .before .args .op) (single s) (omega arith)
 
-returns-10 : tie.Need-returns-10
-unfolding any isOneOf beforeMinus
-returns-10 c = rw (c .match .keys5)
-
 returns-11 : tie.Need-returns-11
 unfolding any isOneOf beforeMinus
 returns-11 c = operator-at 73 3 tt (c .before .before .before .before .before .before .before .before .args .op) (omega arith) (omega arith)
-
-returns-12 : tie.Need-returns-12
-unfolding any isOneOf beforeMinus
-returns-12 c = rw (c .match .keys3)
 
 returns-13 : tie.Need-returns-13
 unfolding any isOneOf beforeMinus
@@ -69,17 +51,7 @@ returns-13 c = operator-at 0 2 tt (c .before .before .args .op) (omega arith) (o
 pub before-minus-spec : {M : Type 1} → statement M
 before-minus-spec =
     tie.close
-    (tie.spec
-    returns
-    returns-2
-    returns-3
-    returns-4
-    returns-5
-    returns-6
-    returns-7
-    returns-8
-    returns-9
-    returns-10
-    returns-11
-    returns-12
-    returns-13)
+    (tie.spec (λ c. unfold any isOneOf beforeMinus in rw (c .match .keys1))
+    (λ c. unfold any isOneOf beforeMinus in ⊎-elim (λ e. rw e) (λ e. rw e) (c .match .keys2)) returns-3 returns-4 returns-5 returns-6
+    returns-7 returns-8 returns-9 (λ c. unfold any isOneOf beforeMinus in rw (c .match .keys5)) returns-11
+    (λ c. unfold any isOneOf beforeMinus in rw (c .match .keys3)) returns-13)

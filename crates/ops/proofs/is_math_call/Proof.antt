@@ -2,15 +2,9 @@
 use mathlib.Core.Path.{sym}
 use native.Mathlib.Omega.{arith}
 use borrow.Author.Tests.{ne-eqb, lt-leb}
-use Rattle.molang.specs.Operator.{between, isMathCall}
-use Rattle.molang.proofs.RoundTrip.Role.{no-math}
-use Rattle.ops.proofs.OperatorLaws.{true-at, false-at}
-use Rattle.ops.proofs.is_math_call.Statement.{statement}
+use Rattle.molang.{specs.Operator.{between, isMathCall}, proofs.RoundTrip.Role.{no-math}}
+use Rattle.ops.proofs.{OperatorLaws.{true-at, false-at}, is_math_call.Statement.{statement}}
 use Rattle.ops.proofs.is_math_call.Tie as tie
-
-returns : tie.Need-returns
-unfolding between isMathCall
-returns c = rw (c .match .keys1)
 
 returns-2 : tie.Need-returns-2
 unfolding between isMathCall
@@ -71,4 +65,6 @@ returns-10 c = sym (no-math (c .before .before .before .before .before .before .
 
 pub is-math-call-spec : {M : Type 1} → statement M
 is-math-call-spec =
-    tie.close (tie.spec returns returns-2 returns-3 returns-4 returns-5 returns-6 returns-7 returns-8 returns-9 returns-10)
+    tie.close
+    (tie.spec (λ c. unfold between isMathCall in rw (c .match .keys1)) returns-2 returns-3 returns-4 returns-5 returns-6 returns-7
+    returns-8 returns-9 returns-10)

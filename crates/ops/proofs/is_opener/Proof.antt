@@ -1,10 +1,8 @@
 -- `ops::is_opener` meets its contract: one of the three openers, or none of them. Assumes nothing.
-use mathlib.Core.List.{[], _∷_}
-use mathlib.Core.Logic.{⊎-elim}
+use mathlib.Core.{List.{[], _∷_}, Logic.{⊎-elim}}
 use Rattle.molang.specs.Operator.{leftBrace, leftBracket, leftParenthesis, closingOf}
 use Rattle.ops.specs.Operators.{isOpener}
-use Rattle.ops.proofs.OperatorLaws.{none-of, no-closer}
-use Rattle.ops.proofs.is_opener.Statement.{statement}
+use Rattle.ops.proofs.{OperatorLaws.{none-of, no-closer}, is_opener.Statement.{statement}}
 use Rattle.ops.proofs.is_opener.Tie as tie
 
 returns : tie.Need-returns

@@ -1,25 +1,13 @@
 -- `ops::raise_of` meets its contract: the brackets are computed, and any other number is none of them. Assumes nothing.
 use Prim.Native.Nat.{ℕ, _*_, _-_, _%_}
-use mathlib.Core.Path.{sym}
-use mathlib.Core.List.{[], _∷_}
+use mathlib.Core.{Path.{sym}, List.{[], _∷_}}
 use native.Mathlib.Omega.{arith}
 use lib.Dec.{eqb}
-use borrow.Author.Needs.{needs}
-use borrow.Author.Tests.{eqb-true}
+use borrow.Author.{Needs.{needs}, Tests.{eqb-true}}
 use Rattle.molang.specs.Operator.{any, isOneOf, closingOf, isCloser, rightBrace, rightBracket, rightParenthesis}
 use Rattle.ops.specs.Operators.{raiseOf}
-use Rattle.ops.proofs.OperatorLaws.{true-at, Apart, apart, no-closer}
-use Rattle.ops.proofs.raise_of.Statement.{statement}
+use Rattle.ops.proofs.{OperatorLaws.{true-at, Apart, apart, no-closer}, raise_of.Statement.{statement}}
 use Rattle.ops.proofs.raise_of.Tie as tie
-
-mul-result : tie.Need-mul-result
-mul-result c = search needs
-
-sub-result : tie.Need-sub-result
-sub-result c = search needs
-
-cast-result : tie.Need-cast-result
-cast-result c = search needs
 
 returns : tie.Need-returns
 unfolding raiseOf closingOf isCloser isOneOf any
@@ -38,4 +26,4 @@ returns-2 c =
     rw (no-closer op ((λ e. omega arith), ((λ e. omega arith), ((λ e. omega arith), tt))), raiseOf) (rw (← apart _ op closers, raiseOf))
 
 pub raise-of-spec : {M : Type 1} → statement M
-raise-of-spec = tie.close (tie.spec mul-result sub-result cast-result returns returns-2)
+raise-of-spec = tie.close (tie.spec (λ c. search needs) (λ c. search needs) (λ c. search needs) returns returns-2)

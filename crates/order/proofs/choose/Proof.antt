@@ -1,25 +1,15 @@
 -- `order::choose` meets its contract. Assumes nothing.
 use mathlib.Core.Path.{sym, _∙_}
-use borrow.Author.Tests.{not-true, not-false}
-use borrow.Author.Needs.{needs}
+use borrow.Author.{Tests.{not-true, not-false}, Needs.{needs}}
 use Rattle.order.proofs.Ranking.{chosen-run, chosen-unused, chosen-call, chosen-shut, gate-open, open-other}
 use Rattle.order.proofs.choose.Statement.{statement}
 use Rattle.order.proofs.choose.Tie as tie
-
-intersects-requires : tie.Need-intersects-requires
-intersects-requires c κs = search needs
 
 returns : tie.Need-returns
 returns c =
     let s = c .before .before in
     let told = c .before .intersects in
     chosen-unused (s .args .used) (s .args .rank) (sym (told .ensures) ∙ not-true (told .result) (c .if1 .taken))
-
-enum-told : tie.Need-enum-told
-enum-told c = search needs
-
-intersects-requires-2 : tie.Need-intersects-requires-2
-intersects-requires-2 c κs = search needs
 
 returns-2 : tie.Need-returns-2
 returns-2 c =
@@ -44,13 +34,4 @@ returns-4 c =
     (open-other (s .args .used) (s .args .rank .pass) (c .match .keys2))
 
 pub choose-spec : {M : Type 1} → statement M
-choose-spec =
-    tie.close
-    (tie.spec
-    intersects-requires
-    returns
-    enum-told
-    intersects-requires-2
-    returns-2
-    returns-3
-    returns-4)
+choose-spec = tie.close (tie.spec (λ c κs. search needs) returns (λ c. search needs) (λ c κs. search needs) returns-2 returns-3 returns-4)

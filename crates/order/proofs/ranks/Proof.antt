@@ -2,20 +2,13 @@
 use mathlib.Core.Path.{sym, _∙_}
 use mir.Facts.{toZ-ofZ}
 use borrow.Author.Needs.{needs}
-use Rattle.order.proofs.Ranking.{before-5, at-5, from-6}
-use Rattle.order.proofs.ranks.Statement.{statement}
+use Rattle.order.proofs.{Ranking.{before-5, at-5, from-6}, ranks.Statement.{statement}}
 use Rattle.order.proofs.ranks.Tie as tie
-
-is-from-6-requires : tie.Need-is-from-6-requires
-is-from-6-requires c κs = search needs
 
 returns : tie.Need-returns
 returns c =
     let s = c .before .before in
     from-6 (s .args .version) (sym (rw (toZ-ofZ (s .fits .version)) at (c .before .is-from-6 .ensures)) ∙ c .if1 .taken)
-
-is-from-5-requires : tie.Need-is-from-5-requires
-is-from-5-requires c κs = search needs
 
 returns-2 : tie.Need-returns-2
 returns-2 c =
@@ -32,4 +25,4 @@ returns-3 c =
     (sym (rw (toZ-ofZ (s .fits .version)) at (c .before .is-from-5 .ensures)) ∙ c .if2 .left)
 
 pub ranks-spec : {M : Type 1} → statement M
-ranks-spec = tie.close (tie.spec is-from-6-requires returns is-from-5-requires returns-2 returns-3)
+ranks-spec = tie.close (tie.spec (λ c κs. search needs) returns (λ c κs. search needs) returns-2 returns-3)

@@ -1,24 +1,8 @@
 -- `own::read_exactly` meets its contract: the call's two halves are the operators that the list's words name. Assumes nothing.
 use borrow.Author.Needs.{needs}
 use mir.Facts.{toZ-ofZ}
-use Rattle.own.proofs.CallLaws.{same-call, named-call}
-use Rattle.own.proofs.read_exactly.Statement.{statement}
+use Rattle.own.proofs.{CallLaws.{same-call, named-call}, read_exactly.Statement.{statement}}
 use Rattle.own.proofs.read_exactly.Tie as tie
-
-used-of-requires : tie.Need-used-of-requires
-used-of-requires c κs = search needs
-
-parse-requires : tie.Need-parse-requires
-parse-requires c κs = search needs
-
-same-length : tie.Need-same-length
-same-length c = search needs
-
-same-length-2 : tie.Need-same-length-2
-same-length-2 c = search needs
-
-same-length-3 : tie.Need-same-length-3
-same-length-3 c = search needs
 
 returns : tie.Need-returns
 returns c =
@@ -33,4 +17,4 @@ returns c =
 pub read-exactly-spec : {M : Type 1} → statement M
 read-exactly-spec =
     tie.close
-    (tie.spec used-of-requires parse-requires same-length same-length-2 same-length-3 returns)
+    (tie.spec (λ c κs. search needs) (λ c κs. search needs) (λ c. search needs) (λ c. search needs) (λ c. search needs) returns)

@@ -2,21 +2,8 @@
 use mathlib.Core.Path.{_∙_}
 use borrow.Author.Needs.{needs}
 use mir.Facts.{toZ-ofZ}
-use Rattle.own.proofs.CallLaws.{told-own, tree-own, messages-own}
-use Rattle.own.proofs.read_list.Statement.{statement}
+use Rattle.own.proofs.{CallLaws.{told-own, tree-own, messages-own}, read_list.Statement.{statement}}
 use Rattle.own.proofs.read_list.Tie as tie
-
-read-own-requires : tie.Need-read-own-requires
-read-own-requires c κs = search needs
-
-same-length : tie.Need-same-length
-same-length c = search needs
-
-same-length-2 : tie.Need-same-length-2
-same-length-2 c = search needs
-
-same-length-3 : tie.Need-same-length-3
-same-length-3 c = search needs
 
 returns : tie.Need-returns
 returns c =
@@ -35,4 +22,4 @@ returns c =
     )
 
 pub read-list-spec : {M : Type 1} → statement M
-read-list-spec = tie.close (tie.spec read-own-requires same-length same-length-2 same-length-3 returns)
+read-list-spec = tie.close (tie.spec (λ c κs. search needs) (λ c. search needs) (λ c. search needs) (λ c. search needs) returns)

@@ -1,27 +1,8 @@
 -- `own::read_own` meets its contract: the source length is the highest of the list's ends. Assumes nothing.
 use borrow.Author.Needs.{needs}
 use mir.Facts.{toZ-ofZ}
-use Rattle.own.proofs.CallLaws.{same-call, own-call}
-use Rattle.own.proofs.read_own.Statement.{statement}
+use Rattle.own.proofs.{CallLaws.{same-call, own-call}, read_own.Statement.{statement}}
 use Rattle.own.proofs.read_own.Tie as tie
-
-highest-end-requires : tie.Need-highest-end-requires
-highest-end-requires c κs = search needs
-
-cast-read-exactly : tie.Need-cast-read-exactly
-cast-read-exactly c = search needs
-
-read-exactly-requires : tie.Need-read-exactly-requires
-read-exactly-requires c κs = search needs
-
-same-length : tie.Need-same-length
-same-length c = search needs
-
-same-length-2 : tie.Need-same-length-2
-same-length-2 c = search needs
-
-same-length-3 : tie.Need-same-length-3
-same-length-3 c = search needs
 
 returns : tie.Need-returns
 returns c =
@@ -35,4 +16,5 @@ returns c =
 pub read-own-spec : {M : Type 1} → statement M
 read-own-spec =
     tie.close
-    (tie.spec highest-end-requires cast-read-exactly read-exactly-requires same-length same-length-2 same-length-3 returns)
+    (tie.spec (λ c κs. search needs) (λ c. search needs) (λ c κs. search needs) (λ c. search needs) (λ c. search needs) (λ c. search needs)
+    returns)

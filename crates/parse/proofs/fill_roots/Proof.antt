@@ -5,18 +5,6 @@ use Rattle.parse.proofs.FillLaws.{none-filled, root-within, several-roo
 use Rattle.parse.proofs.fill_roots.Statement.{statement}
 use Rattle.parse.proofs.fill_roots.Tie as tie
 
-first-of-requires : tie.Need-first-of-requires
-first-of-requires c κs = search needs
-
-no-roots-requires : tie.Need-no-roots-requires
-no-roots-requires c κs = search needs
-
-same-length : tie.Need-same-length
-same-length c = search needs
-
-same-length-2 : tie.Need-same-length-2
-same-length-2 c = search needs
-
 returns : tie.Need-returns
 returns c =
     let test = c .before .before .before .before in
@@ -39,12 +27,6 @@ report-roots-requires c κs =
     let first = if1 .before .first-of in
     several-room (start .pre) (first .result) (first .ensures) (if1 .if1 .left) (λ z. if2 .if2 .taken (if2 .before .next-of .ensures ∙ z))
 
-same-length-3 : tie.Need-same-length-3
-same-length-3 c = search needs
-
-same-length-4 : tie.Need-same-length-4
-same-length-4 c = search needs
-
 returns-2 : tie.Need-returns-2
 returns-2 c =
     let if2 = c .before .before .before .before .before .before .before in
@@ -61,12 +43,6 @@ lay-out-requires c κs =
     let first = c .before .before .before .before .before .before .first-of in
     one-room (start .pre) (first .result) (first .ensures) (c .before .before .before .before .before .if1 .left)
 
-same-length-5 : tie.Need-same-length-5
-same-length-5 c = search needs
-
-same-length-6 : tie.Need-same-length-6
-same-length-6 c = search needs
-
 returns-3 : tie.Need-returns-3
 returns-3 c =
     let if2 = c .before .before .before .before .before .before .before in
@@ -80,18 +56,6 @@ returns-3 c =
 pub fill-roots-spec : {M : Type 1} → statement M
 fill-roots-spec =
     tie.close
-    (tie.spec
-    first-of-requires
-    no-roots-requires
-    same-length
-    same-length-2
-    returns
-    next-of-requires
-    report-roots-requires
-    same-length-3
-    same-length-4
-    returns-2
-    lay-out-requires
-    same-length-5
-    same-length-6
+    (tie.spec (λ c κs. search needs) (λ c κs. search needs) (λ c. search needs) (λ c. search needs) returns next-of-requires
+    report-roots-requires (λ c. search needs) (λ c. search needs) returns-2 lay-out-requires (λ c. search needs) (λ c. search needs)
     returns-3)

@@ -7,12 +7,9 @@ use mir.Facts.{toZ-ofZ}
 use mathlib.Core.Path.{_≡_, sym, ap, _∙_}
 use native.Mathlib.Omega.{arith}
 use Rattle.molang.specs.Parse.{Call}
-use Rattle.accept.specs.Accepting.{isRead, verdictOf}
-use Rattle.accept.proofs.AcceptLaws.{Readable, checked, reads-call}
-use Rattle.parse.specs.Answers.{call}
-use Rattle.parse.specs.Fills.{CanRead}
-use Rattle.parse.proofs.EntryLaws.{refused-meets, read-meets, call-reads, part-long}
-use Rattle.parse.proofs.parse.Statement.{statement}
+use Rattle.accept.{specs.Accepting.{isRead, verdictOf}, proofs.AcceptLaws.{Readable, checked, reads-call}}
+use Rattle.parse.specs.{Answers.{call}, Fills.{CanRead}}
+use Rattle.parse.proofs.{EntryLaws.{refused-meets, read-meets, call-reads, part-long}, parse.Statement.{statement}}
 use Rattle.parse.proofs.parse.Tie as tie
 
 -- The call, by the values at entry.
@@ -37,50 +34,11 @@ can-read : (c : tie.After-accepted2)
     CanRead (k .list) (take (64 * n + 64) (k .work)) (k .tree) (k .messages) n
 can-read c = call-reads (the-call (c .before .before .before .before .before .before .before)) (c .accepted2 .given .0 .0) (is-read c)
 
-accept-requires : tie.Need-accept-requires
-accept-requires c κs = search needs
-
-enum-known-accepted : tie.Need-enum-known-accepted
-enum-known-accepted c = search needs
-
-enum-known-accepted-2 : tie.Need-enum-known-accepted-2
-enum-known-accepted-2 c = search needs
-
-cast-source : tie.Need-cast-source
-cast-source c = omega (arith, known (c .before) .source)
-
-mul-end : tie.Need-mul-end
-mul-end c = omega (arith, known (c .before) .tokens)
-
-add-end : tie.Need-add-end
-add-end c = omega (arith, known (c .before) .tokens)
-
-slice-relend-prefix-part : tie.Need-slice-relend-prefix-part
-slice-relend-prefix-part c = known (c .before) .work
-
-slice-aggregate-part : tie.Need-slice-aggregate-part
-slice-aggregate-part c = sym (can-read (c .before .before) .words)
-
-read-requires : tie.Need-read-requires
-read-requires c κs = can-read (c .before .before .before .before)
-
-clear-requires : tie.Need-clear-requires
-clear-requires c κs = search needs
-
 returns : tie.Need-returns
 returns c =
     let told = c .before .accepted .given in
     refused-meets (the-call (c .before .before .before .before .before .before .before .before)) (told .0 .0) (told .0 .1 .0)
     (sym (ap verdictOf (told .1)) ∙ c .before .before .before .accept .ensures)
-
-same-length : tie.Need-same-length
-same-length c = search needs
-
-same-length-2 : tie.Need-same-length-2
-same-length-2 c = search needs
-
-same-length-3 : tie.Need-same-length-3
-same-length-3 c = search needs
 
 returns-2 : tie.Need-returns-2
 returns-2 c =
@@ -98,19 +56,7 @@ returns-2 c =
 pub parse-spec : {M : Type 1} → statement M
 parse-spec =
     tie.close
-    (tie.spec
-    accept-requires
-    enum-known-accepted
-    enum-known-accepted-2
-    cast-source
-    mul-end
-    add-end
-    slice-relend-prefix-part
-    slice-aggregate-part
-    read-requires
-    clear-requires
-    returns
-    same-length
-    same-length-2
-    same-length-3
-    returns-2)
+    (tie.spec (λ c κs. search needs) (λ c. search needs) (λ c. search needs) (λ c. omega (arith, known (c .before) .source))
+    (λ c. omega (arith, known (c .before) .tokens)) (λ c. omega (arith, known (c .before) .tokens)) (λ c. known (c .before) .work)
+    (λ c. sym (can-read (c .before .before) .words)) (λ c κs. can-read (c .before .before .before .before)) (λ c κs. search needs) returns
+    (λ c. search needs) (λ c. search needs) (λ c. search needs) returns-2)

@@ -2,22 +2,10 @@
 -- nothing.
 use borrow.Author.Needs.{needs}
 use mathlib.Core.Path.{ap, _∙_}
-use mir.Facts.{toZ-ofZ}
-use mir.Syntax.{w16}
-use mir.Val.{toZ, ofZ}
+use mir.{Facts.{toZ-ofZ}, Syntax.{w16}, Val.{toZ, ofZ}}
 use Rattle.molang.specs.Order.{effective}
-use Rattle.parse.proofs.EntryLaws.{read-load, read-group, read-fill, read-done}
-use Rattle.parse.proofs.read.Statement.{statement}
+use Rattle.parse.proofs.{EntryLaws.{read-load, read-group, read-fill, read-done}, read.Statement.{statement}}
 use Rattle.parse.proofs.read.Tie as tie
-
-load-requires : tie.Need-load-requires
-load-requires c κs = read-load (c .before .before .before .before .before .pre)
-
-stack-of-requires : tie.Need-stack-of-requires
-stack-of-requires c κs = search needs
-
-effective-requires : tie.Need-effective-requires
-effective-requires c κs = search needs
 
 group-requires : tie.Need-group-requires
 group-requires c κs =
@@ -36,15 +24,6 @@ fill-requires c κs =
     (start .args .version) (toZ w16 (ofZ w16 (group .before .effective .result))) (group .group .result) (group .group .last .0)
     (group .group .ensures) (start .args .source)
 
-same-length : tie.Need-same-length
-same-length c = search needs
-
-same-length-2 : tie.Need-same-length-2
-same-length-2 c = search needs
-
-same-length-3 : tie.Need-same-length-3
-same-length-3 c = search needs
-
 returns : tie.Need-returns
 returns c =
     let fill = c .before .before .before .before .before .before in
@@ -61,13 +40,5 @@ returns c =
 pub read-spec : {M : Type 1} → statement M
 read-spec =
     tie.close
-    (tie.spec
-    load-requires
-    stack-of-requires
-    effective-requires
-    group-requires
-    fill-requires
-    same-length
-    same-length-2
-    same-length-3
-    returns)
+    (tie.spec (λ c κs. read-load (c .before .before .before .before .before .pre)) (λ c κs. search needs) (λ c κs. search needs)
+    group-requires fill-requires (λ c. search needs) (λ c. search needs) (λ c. search needs) returns)

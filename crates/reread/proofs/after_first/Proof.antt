@@ -2,21 +2,11 @@
 use mathlib.Core.Path.{_≡_, sym, ap, _∙_}
 use mir.Facts.{toZ-ofZ}
 use Rattle.molang.specs.Reread.{Handed, stopped, afterFirst}
-use Rattle.parse.specs.declared.Answer.{Answer}
-use Rattle.parse.specs.Answers.{toldOf}
+use Rattle.parse.specs.{declared.Answer.{Answer}, Answers.{toldOf}}
 use Rattle.reread.specs.Answers.{handedOf}
 use borrow.Author.Needs.{needs}
 use Rattle.reread.proofs.after_first.Statement.{statement}
 use Rattle.reread.proofs.after_first.Tie as tie
-
-enum-known-first : tie.Need-enum-known-first
-enum-known-first c = search needs
-
-enum-known-first-2 : tie.Need-enum-known-first-2
-enum-known-first-2 c = search needs
-
-enum-known-first-3 : tie.Need-enum-known-first-3
-enum-known-first-3 c = search needs
 
 -- What is handed on; and what comes of it by the first answer, once that is known.
 abbrev given : tie.Start → Handed
@@ -41,18 +31,6 @@ returns-2 : tie.Need-returns-2
 unfolding afterFirst stopped
 returns-2 c = known (c .before .before .before .before .before .before .before .before) _ (c .before .first2 .given .1)
 
-same-length : tie.Need-same-length
-same-length c = search needs
-
-same-length-2 : tie.Need-same-length-2
-same-length-2 c = search needs
-
-same-length-3 : tie.Need-same-length-3
-same-length-3 c = search needs
-
-same-length-4 : tie.Need-same-length-4
-same-length-4 c = search needs
-
 returns-3 : tie.Need-returns-3
 returns-3 c =
     let write-and-read = c .before .before .before .before .before .before .before .before in
@@ -63,15 +41,5 @@ returns-3 c =
 pub after-first-spec : {M : Type 1} → statement M
 after-first-spec =
     tie.close
-    (tie.spec
-    enum-known-first
-    enum-known-first-2
-    enum-known-first-3
-    write-and-read-requires
-    returns
-    returns-2
-    same-length
-    same-length-2
-    same-length-3
-    same-length-4
-    returns-3)
+    (tie.spec (λ c. search needs) (λ c. search needs) (λ c. search needs) write-and-read-requires returns returns-2 (λ c. search needs)
+    (λ c. search needs) (λ c. search needs) (λ c. search needs) returns-3)

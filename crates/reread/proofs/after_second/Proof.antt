@@ -2,19 +2,9 @@
 use mathlib.Core.Path.{sym, ap}
 use borrow.Author.Needs.{needs}
 use Rattle.molang.specs.Reread.{secondTold}
-use Rattle.parse.specs.declared.Answer.{Answer}
-use Rattle.parse.specs.Answers.{toldOf}
+use Rattle.parse.specs.{declared.Answer.{Answer}, Answers.{toldOf}}
 use Rattle.reread.proofs.after_second.Statement.{statement}
 use Rattle.reread.proofs.after_second.Tie as tie
-
-enum-known-second : tie.Need-enum-known-second
-enum-known-second c = search needs
-
-enum-known-second-2 : tie.Need-enum-known-second-2
-enum-known-second-2 c = search needs
-
-enum-known-second-3 : tie.Need-enum-known-second-3
-enum-known-second-3 c = search needs
 
 returns : tie.Need-returns
 unfolding secondTold
@@ -35,5 +25,4 @@ returns-3 c =
     sym (ap (λ (r : Answer). secondTold (a .nodes) (a .count) (toldOf r)) (c .before .second3 .given .1))
 
 pub after-second-spec : {M : Type 1} → statement M
-after-second-spec =
-    tie.close (tie.spec enum-known-second enum-known-second-2 enum-known-second-3 returns returns-2 returns-3)
+after-second-spec = tie.close (tie.spec (λ c. search needs) (λ c. search needs) (λ c. search needs) returns returns-2 returns-3)

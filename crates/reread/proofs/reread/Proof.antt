@@ -6,13 +6,9 @@ use Rattle.molang.specs.Parse.{Call}
 use Rattle.parse.specs.Answers.{call, HasParsed}
 use Rattle.reread.specs.Answers.{rereading}
 use Rattle.own.proofs.CallLaws.{same-call}
-use Rattle.reread.proofs.CallLaws.{has-reread}
+use Rattle.reread.proofs.{CallLaws.{has-reread}, reread.Statement.{statement}}
 use borrow.Author.Needs.{needs}
-use Rattle.reread.proofs.reread.Statement.{statement}
 use Rattle.reread.proofs.reread.Tie as tie
-
-parse-requires : tie.Need-parse-requires
-parse-requires c κs = search needs
 
 -- The first call.
 abbrev first : tie.Start → Call
@@ -43,21 +39,6 @@ after-first-requires c κs =
       left = p .tree;
     }
 
-same-length : tie.Need-same-length
-same-length c = search needs
-
-same-length-2 : tie.Need-same-length-2
-same-length-2 c = search needs
-
-same-length-3 : tie.Need-same-length-3
-same-length-3 c = search needs
-
-same-length-4 : tie.Need-same-length-4
-same-length-4 c = search needs
-
-same-length-5 : tie.Need-same-length-5
-same-length-5 c = search needs
-
 returns : tie.Need-returns
 returns c =
     let on = c .before .before .before .before .before .before .before .before in
@@ -71,12 +52,5 @@ returns c =
 pub reread-spec : {M : Type 1} → statement M
 reread-spec =
     tie.close
-    (tie.spec
-    parse-requires
-    after-first-requires
-    same-length
-    same-length-2
-    same-length-3
-    same-length-4
-    same-length-5
-    returns)
+    (tie.spec (λ c κs. search needs) after-first-requires (λ c. search needs) (λ c. search needs) (λ c. search needs) (λ c. search needs)
+    (λ c. search needs) returns)

@@ -4,15 +4,14 @@ use mathlib.Core.Path.{_≡_, sym, ap, _∙_}
 use native.Mathlib.Omega.{arith}
 use mir.Facts.{toZ-ofZ}
 use lib.ListN.{length, take, length-take}
-use Rattle.molang.specs.WriteEntry.{tokens, writeAnswered, listAfter}
-use Rattle.molang.specs.Reread.{Handed, writerCall}
+use Rattle.molang.specs.{WriteEntry.{tokens, writeAnswered, listAfter}, Reread.{Handed, writerCall}}
 use Rattle.molang.proofs.Reread.{Readable, tree-room}
 use Rattle.write.specs.Answers.{toldOf}
 use Rattle.reread.specs.Answers.{handedOf}
 use Rattle.own.proofs.CallLaws.{same-call}
 use Rattle.reread.proofs.CallLaws.{exact-call, written-list, written-room, has-unwritten, has-written}
-use borrow.Author.Needs.{needs}
 use Rattle.reread.proofs.write_and_read.Statement.{statement}
+use borrow.Author.Needs.{needs}
 use Rattle.reread.proofs.write_and_read.Tie as tie
 
 -- What is handed on, and that the tree stands within its buffer.
@@ -31,15 +30,6 @@ slice-aggregate-write : tie.Need-slice-aggregate-write
 slice-aggregate-write c =
     let s = c .before .before .before .before .before .before in
     omega (arith, tree-within s, length-take (7 * (s .args .nodes)) (s .args .tree .now))
-
-write-requires : tie.Need-write-requires
-write-requires c κs = search needs
-
-enum-known-wrote : tie.Need-enum-known-wrote
-enum-known-wrote c = search needs
-
-enum-known-wrote-2 : tie.Need-enum-known-wrote-2
-enum-known-wrote-2 c = search needs
 
 -- What the writer told and left.
 module _ (c : tie.After-write) where
@@ -76,26 +66,11 @@ module _ (c : tie.After-known-told2) where
       let count = c .before .wrote2 .given .0 .0 in
       rw (list-left w) (written-list (given s) (s .args .nodes) count (s .pre) wrote)
 
-mul-end : tie.Need-mul-end
-mul-end c = omega (arith, room c)
-
-slice-reshare-prefix-read-exactly : tie.Need-slice-reshare-prefix-read-exactly
-slice-reshare-prefix-read-exactly c = room c
-
 slice-aggregate-read-exactly : tie.Need-slice-aggregate-read-exactly
 slice-aggregate-read-exactly c =
     let n = 5 * (c .before .before .wrote2 .given .0 .0) in
     let list = c .before .before .before .before .before .before .write .last .1 .0 in
     omega (arith, room (c .before), length-take n list)
-
-read-exactly-requires : tie.Need-read-exactly-requires
-read-exactly-requires c κs = search needs
-
-after-second-requires : tie.Need-after-second-requires
-after-second-requires c κs = search needs
-
-same-length : tie.Need-same-length
-same-length c = search needs
 
 returns : tie.Need-returns
 returns c =
@@ -104,18 +79,6 @@ returns c =
     let back = c .before .wrote .given in
     has-unwritten (given s) (s .args .nodes) (w .write .last .1 .0) (list-left w) (back .0 .0) (back .0 .1 .0)
     (ap toldOf (sym (back .1)) ∙ writer-told w)
-
-same-length-2 : tie.Need-same-length-2
-same-length-2 c = search needs
-
-same-length-3 : tie.Need-same-length-3
-same-length-3 c = search needs
-
-same-length-4 : tie.Need-same-length-4
-same-length-4 c = search needs
-
-same-length-5 : tie.Need-same-length-5
-same-length-5 c = search needs
 
 returns-2 : tie.Need-returns-2
 returns-2 c =
@@ -134,21 +97,6 @@ returns-2 c =
 pub write-and-read-spec : {M : Type 1} → statement M
 write-and-read-spec =
     tie.close
-    (tie.spec
-    mul-words
-    slice-aggregate-write
-    write-requires
-    enum-known-wrote
-    enum-known-wrote-2
-    mul-end
-    slice-reshare-prefix-read-exactly
-    slice-aggregate-read-exactly
-    read-exactly-requires
-    after-second-requires
-    same-length
-    returns
-    same-length-2
-    same-length-3
-    same-length-4
-    same-length-5
-    returns-2)
+    (tie.spec mul-words slice-aggregate-write (λ c κs. search needs) (λ c. search needs) (λ c. search needs) (λ c. omega (arith, room c))
+    (λ c. room c) slice-aggregate-read-exactly (λ c κs. search needs) (λ c κs. search needs) (λ c. search needs) returns
+    (λ c. search needs) (λ c. search needs) (λ c. search needs) (λ c. search needs) returns-2)

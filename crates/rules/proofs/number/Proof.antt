@@ -1,21 +1,15 @@
 -- `rules::number` meets its contract: a tree's nodes are numbered, and nothing else is. Assumes nothing.
 use Prim.Native.Nat.{_*_}
 use mathlib.Core.Path.{sym, ap, _∙_}
-use mir.Syntax.{w16}
-use mir.Val.{ofZ, toZ}
-use mir.Facts.{toZ-ofZ}
+use mir.{Syntax.{w16}, Val.{ofZ, toZ}, Facts.{toZ-ofZ}}
 use native.Mathlib.Omega.{arith}
 use lib.Seq.{length-take-le}
 use borrow.Author.Needs.{needs}
 use Rattle.molang.specs.Order.{effective}
 use Rattle.parse.specs.declared.Answer.the-variants.{Tree}
 use Rattle.rules.specs.Numbering.{CanNumber}
-use Rattle.rules.proofs.EntryLaws.{tree-numbers, tree-numbered, unnumbered}
-use Rattle.rules.proofs.number.Statement.{statement}
+use Rattle.rules.proofs.{EntryLaws.{tree-numbers, tree-numbered, unnumbered}, number.Statement.{statement}}
 use Rattle.rules.proofs.number.Tie as tie
-
-enum-known-answer : tie.Need-enum-known-answer
-enum-known-answer c = search needs
 
 -- There is room for the tree's words and its nodes' bytes.
 room : (c : tie.After-known-told)
@@ -26,18 +20,6 @@ room c =
     let a = start .args in
     tree-numbers (a .answer) _ (a .tree .now) (a .rules .now) (c .before .answer .given .1) (start .pre)
 
-mul-end : tie.Need-mul-end
-mul-end c = omega (arith, room c .0)
-
-slice-aggregate-fill : tie.Need-slice-aggregate-fill
-slice-aggregate-fill c = sym (length-take-le _ _ (room (c .before) .0))
-
-effective-requires : tie.Need-effective-requires
-effective-requires c κs = search needs
-
-is-from-6-requires : tie.Need-is-from-6-requires
-is-from-6-requires c κs = search needs
-
 fill-requires : tie.Need-fill-requires
 fill-requires c κs =
     let known = c .before .before .before .before in
@@ -45,9 +27,6 @@ fill-requires c κs =
     let h = room known in
     let long = length-take-le (7 * known .before .answer .given .0 .0) (a .tree .now) (h .0) in
     omega (arith, h .1)
-
-same-length : tie.Need-same-length
-same-length c = search needs
 
 returns : tie.Need-returns
 returns c =
@@ -69,13 +48,5 @@ returns-2 c =
 pub number-spec : {M : Type 1} → statement M
 number-spec =
     tie.close
-    (tie.spec
-    enum-known-answer
-    mul-end
-    slice-aggregate-fill
-    effective-requires
-    is-from-6-requires
-    fill-requires
-    same-length
-    returns
-    returns-2)
+    (tie.spec (λ c. search needs) (λ c. omega (arith, room c .0)) (λ c. sym (length-take-le _ _ (room (c .before) .0)))
+    (λ c κs. search needs) (λ c κs. search needs) fill-requires (λ c. search needs) returns returns-2)

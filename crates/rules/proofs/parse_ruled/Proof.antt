@@ -18,24 +18,12 @@ the-call start =
     call (a .list .now) (a .tree .now) (a .messages .now) (a .work .now) (a .rules .now) (a .source-length) (a .version) (a .used-low)
     (a .used-high) (a .limit)
 
-room-requires : tie.Need-room-requires
-room-requires c κs = search needs
-
-enum-known-checked : tie.Need-enum-known-checked
-enum-known-checked c = search needs
-
 returns : tie.Need-returns
 returns c =
     let told = c .before .checked .given in
     let start = c .before .before .before .before .before .before .before .before .before in
     refused-meets (the-call start) (told .0 .0) (told .0 .1 .0)
     (room-refuses (the-call start) _ (told .0 .0) (told .0 .1 .0) (sym (ap verdictOf (told .1)) ∙ c .before .before .before .room .ensures))
-
-enum-told : tie.Need-enum-told
-enum-told c = search needs
-
-parse-requires : tie.Need-parse-requires
-parse-requires c κs = search needs
 
 -- A call that is read.
 passes : (c : tie.After-enum-told) → LetThrough (the-call (c .before .before .before .before .before .before .before .before))
@@ -59,18 +47,6 @@ number-requires c κs =
     can-number (the-call start) (read .parse .result) (read .parse .last .1 .0) (read .parse .last .1 .1 .0) (read .parse .last .1 .1 .1 .0)
     (passes let-through) (parsed read) (read .parse .kept .1 .0)
 
-same-length : tie.Need-same-length
-same-length c = search needs
-
-same-length-2 : tie.Need-same-length-2
-same-length-2 c = search needs
-
-same-length-3 : tie.Need-same-length-3
-same-length-3 c = search needs
-
-same-length-4 : tie.Need-same-length-4
-same-length-4 c = search needs
-
 returns-2 : tie.Need-returns-2
 returns-2 c =
     let numbers = c .before .before in
@@ -84,15 +60,5 @@ returns-2 c =
 pub parse-ruled-spec : {M : Type 1} → statement M
 parse-ruled-spec =
     tie.close
-    (tie.spec
-    room-requires
-    enum-known-checked
-    returns
-    enum-told
-    parse-requires
-    number-requires
-    same-length
-    same-length-2
-    same-length-3
-    same-length-4
-    returns-2)
+    (tie.spec (λ c κs. search needs) (λ c. search needs) returns (λ c. search needs) (λ c κs. search needs) number-requires
+    (λ c. search needs) (λ c. search needs) (λ c. search needs) (λ c. search needs) returns-2)

@@ -4,21 +4,10 @@ use mathlib.Core.Path.{_≡_, sym, ap, _∙_}
 use native.Mathlib.Omega.{arith}
 use lib.ListN.{length}
 use borrow.Author.Needs.{needs}
-use Rattle.accept.specs.Accepting.{isRead, verdictOf, verdict, lengthRefusal}
-use Rattle.accept.proofs.AcceptLaws.{refused-first, whole-tokens}
+use Rattle.accept.{specs.Accepting.{isRead, verdictOf, verdict, lengthRefusal}, proofs.AcceptLaws.{refused-first, whole-tokens}}
 use Rattle.rules.specs.Numbering.{roomRefusal}
-use Rattle.rules.proofs.EntryLaws.{room-short, room-fits}
-use Rattle.rules.proofs.room.Statement.{statement}
+use Rattle.rules.proofs.{EntryLaws.{room-short, room-fits}, room.Statement.{statement}}
 use Rattle.rules.proofs.room.Tie as tie
-
-lengths-requires : tie.Need-lengths-requires
-lengths-requires c κs = search needs
-
-enum-known-length : tie.Need-enum-known-length
-enum-known-length c = search needs
-
-enum-told : tie.Need-enum-told
-enum-told c = search needs
 
 returns : tie.Need-returns
 unfolding roomRefusal
@@ -50,4 +39,4 @@ returns-3 c =
     room-fits (a .list .now) (a .sizes) (a .bytes) _ (whole (c .before)) (omega arith)
 
 pub room-spec : {M : Type 1} → statement M
-room-spec = tie.close (tie.spec lengths-requires enum-known-length enum-told returns mul-if1 returns-2 returns-3)
+room-spec = tie.close (tie.spec (λ c κs. search needs) (λ c. search needs) (λ c. search needs) returns mul-if1 returns-2 returns-3)

@@ -1,17 +1,12 @@
 -- `sections::close_section` meets its contract.
 use Prim.Native.Nat.{ℕ, _+_, _-_, _≤_, _<_}
-use mathlib.Core.Path.{_≡_, refl, ap, _∙_}
-use mathlib.Core.Option.{Option·getD}
+use mathlib.Core.{Path.{_≡_, refl, ap, _∙_}, Option.{Option·getD}}
 use native.Mathlib.Omega.{arith}
 use borrow.Author.Needs.{needs}
 use lib.ListN.{length}
 use Rattle.molang.specs.Operator.{closingOf}
-use Rattle.nodes.specs.Store.{wd, slotEnd}
-use Rattle.nodes.specs.Slots.{opAt}
-use Rattle.nodes.specs.Children.{CanGive}
-use Rattle.nodes.proofs.Store.{tree-below}
-use Rattle.sections.proofs.SectionOpen.{standing-named}
-use Rattle.sections.proofs.SectionLooking.{close-in, close-differs, close-closed, look-in}
+use Rattle.nodes.{specs.Store.{wd, slotEnd}, specs.Slots.{opAt}, specs.Children.{CanGive}, proofs.Store.{tree-below}}
+use Rattle.sections.proofs.{SectionOpen.{standing-named}, SectionLooking.{close-in, close-differs, close-closed, look-in}}
 use Rattle.sections.proofs.close_section.Statement.{statement}
 use Rattle.sections.proofs.close_section.Tie as tie
 
@@ -38,26 +33,8 @@ looked-for : (c : tie.After-closer-of) → let o = c .before .before .before .be
     c .closer-of .result ≡ Option·getD (closingOf (opAt (a .work .now) (wd (a .work .now) (a .base + o .opener-at .result)))) 0
 looked-for c = c .closer-of .ensures ∙ ap (λ (n : ℕ). Option·getD (closingOf n) 0) (c .before .operator-of .ensures)
 
-sub-inner : tie.Need-sub-inner
-sub-inner c = search needs
-
-opener-at-requires : tie.Need-opener-at-requires
-opener-at-requires c κs = search needs
-
-add-opener : tie.Need-add-opener
-add-opener c = omega (arith, within c)
-
-mul-opener : tie.Need-mul-opener
-mul-opener c = omega (arith, within c)
-
-slice-read-opener : tie.Need-slice-read-opener
-slice-read-opener c = within (c .before)
-
 operator-of-requires : tie.Need-operator-of-requires
 operator-of-requires c κs = let o = c .before .before in omega (arith, body o .1, within o)
-
-closer-of-requires : tie.Need-closer-of-requires
-closer-of-requires c κs = search needs
 
 operator-of-requires-2 : tie.Need-operator-of-requires-2
 operator-of-requires-2 c κs =
@@ -70,12 +47,6 @@ still-open-requires c κs =
     let s = c .before .before .before .before .before .before .before .before .before .before .before .before in
     let g = s .pre .0 in
     standing-named (g .standing) (s .pre .1) (omega (arith, g .apart, g .room)) (omega (arith, g .room))
-
-cast-t27 : tie.Need-cast-t27
-cast-t27 c = search needs
-
-same-length : tie.Need-same-length
-same-length c = search needs
 
 returns : tie.Need-returns
 returns c =
@@ -97,18 +68,6 @@ returns c =
 abbrev found : tie.Else1 → tie.After-opener-at
 found c = c .before .before .before .before .before .before .before
 
-add-from : tie.Need-add-from
-add-from c = omega (arith, within (found c))
-
-add-give-children : tie.Need-add-give-children
-add-give-children c = omega (arith, within (found (c .before)))
-
-sub-give-children : tie.Need-sub-give-children
-sub-give-children c = omega (arith, body (found (c .before .before)) .0)
-
-give-children-requires : tie.Need-give-children-requires
-give-children-requires c κs = body (found (c .before .before)) .2
-
 -- the opener's slot lies within the words that have its children
 opener-in : (c : tie.After-give-children) → let o = found (c .before .before .before) in let a = o .before .before .before .before .args in
     slotEnd (wd (a .work .now) (a .base + o .opener-at .result)) ≤ length (c .give-children .last .0)
@@ -119,9 +78,6 @@ set-close-requires c κs =
     let given = c .before .before .before in
     let g = found (given .before .before .before) .before .before .before .before .pre .0 in
     (opener-in given, omega (arith, look-in g, g .apart, g .room, given .give-children .ensures .long))
-
-same-length-2 : tie.Need-same-length-2
-same-length-2 c = search needs
 
 returns-2 : tie.Need-returns-2
 returns-2 c =
@@ -140,23 +96,8 @@ returns-2 c =
 pub close-section-spec : {M : Type 1} → statement M
 close-section-spec =
     tie.close
-    (tie.spec
-    sub-inner
-    opener-at-requires
-    add-opener
-    mul-opener
-    slice-read-opener
-    operator-of-requires
-    closer-of-requires
-    operator-of-requires-2
-    still-open-requires
-    cast-t27
-    same-length
-    returns
-    add-from
-    add-give-children
-    sub-give-children
-    give-children-requires
-    set-close-requires
-    same-length-2
-    returns-2)
+    (tie.spec (λ c. search needs) (λ c κs. search needs) (λ c. omega (arith, within c)) (λ c. omega (arith, within c))
+    (λ c. within (c .before)) operator-of-requires (λ c κs. search needs) operator-of-requires-2 still-open-requires (λ c. search needs)
+    (λ c. search needs) returns (λ c. omega (arith, within (found c))) (λ c. omega (arith, within (found (c .before))))
+    (λ c. omega (arith, body (found (c .before .before)) .0)) (λ c κs. body (found (c .before .before)) .2) set-close-requires
+    (λ c. search needs) returns-2)

@@ -1,22 +1,16 @@
 -- `sections::look` meets its contract.
 use Prim.Native.Nat.{ℕ, _+_, _^_, _≤_, _<_}
-use mathlib.Core.Path.{_≡_, refl, sym, ap, _∙_}
-use mathlib.Core.Logic.{_⊎_, inl, inr, ⊎-elim}
-use mathlib.Core.Bool.{true, false}
+use mathlib.Core.{Path.{_≡_, refl, sym, ap, _∙_}, Logic.{_⊎_, inl, inr, ⊎-elim}, Bool.{true, false}}
 use native.Mathlib.Omega.{arith}
 use borrow.Author.Needs.{needs}
 use lib.ListN.{length-set}
-use Rattle.molang.specs.Operator.{isCloser}
-use Rattle.molang.specs.Words.{operatorBits}
-use Rattle.ops.specs.Operators.{isOpener}
-use Rattle.ops.proofs.OperatorLaws.{apart, no-closer}
+use Rattle.molang.specs.{Operator.{isCloser}, Words.{operatorBits}}
+use Rattle.ops.{specs.Operators.{isOpener}, proofs.OperatorLaws.{apart, no-closer}}
 use Rattle.words.proofs.FieldLaws.{same-by-bits}
-use Rattle.nodes.specs.Slots.{opAt}
-use Rattle.nodes.proofs.Runs.{set-other}
+use Rattle.nodes.{specs.Slots.{opAt}, proofs.Runs.{set-other}}
 use Rattle.sections.proofs.SectionCases.{closer-open}
 use Rattle.sections.proofs.SectionLooking.{look-in, look-position, look-places, look-other, look-opens, look-closes, looked-on}
-use Rattle.sections.proofs.SectionLooking.{position-small, opens-same}
-use Rattle.sections.proofs.look.Statement.{statement}
+use Rattle.sections.proofs.{SectionLooking.{position-small, opens-same}, look.Statement.{statement}}
 use Rattle.sections.proofs.look.Tie as tie
 
 -- No number above the brackets opens or closes, so the operator's bits as they stand do as the operator does.
@@ -58,14 +52,8 @@ small c =
     let a = s .args .at in
     position-small (a .depth) (a .write) (a .index) (c .position .result) (2 ^ 32) (e .0) (e .1) (s .pre .1) (s .pre .2)
 
-position-requires : tie.Need-position-requires
-position-requires c κs = search needs
-
 operator-bits-of-requires : tie.Need-operator-bits-of-requires
 operator-bits-of-requires c κs = let g = c .before .before .before .pre .0 in omega (arith, look-in g, g .apart, g .room)
-
-is-opener-requires : tie.Need-is-opener-requires
-is-opener-requires c κs = search needs
 
 open-section-requires : tie.Need-open-section-requires
 open-section-requires c κs =
@@ -73,9 +61,6 @@ open-section-requires c κs =
     let s = placed .before .before in
     let g = s .pre .0 in
     record { apart = g .apart; room = g .room; word = omega (arith, s .pre .1); start = small placed }
-
-same-length : tie.Need-same-length
-same-length c = search needs
 
 returns : tie.Need-returns
 returns c =
@@ -91,17 +76,11 @@ returns c =
     (opens-same (s .args .work .now) (r .last .0) (s .args .base) (s .args .marks) (s .args .at .write) (s .args .at .depth) (s .args .item)
     (e .result) (r .ensures .words)) (r .kept .0)
 
-is-closer-requires : tie.Need-is-closer-requires
-is-closer-requires c κs = search needs
-
 close-section-requires : tie.Need-close-section-requires
 close-section-requires c κs =
     let placed = c .before .before .before .before .before .before .before .before in
     let s = placed .before .before in
     (s .pre .0, c .before .if3 .taken, omega (arith, small placed))
-
-same-length-2 : tie.Need-same-length-2
-same-length-2 c = search needs
 
 returns-2 : tie.Need-returns-2
 returns-2 c =
@@ -125,21 +104,6 @@ returns-2 c =
       r .ensures .1 ∙ sym fewer,
     )
 
-add-work : tie.Need-add-work
-add-work c = search needs
-
-mul-work : tie.Need-mul-work
-mul-work c = search needs
-
-slice-write-work : tie.Need-slice-write-work
-slice-write-work c = search needs
-
-add-written : tie.Need-add-written
-add-written c = search needs
-
-same-length-3 : tie.Need-same-length-3
-same-length-3 c = search needs
-
 returns-3 : tie.Need-returns-3
 returns-3 c =
     let test = c .before .before in
@@ -158,20 +122,6 @@ returns-3 c =
 pub look-spec : {M : Type 1} → statement M
 look-spec =
     tie.close
-    (tie.spec
-    position-requires
-    operator-bits-of-requires
-    is-opener-requires
-    open-section-requires
-    same-length
-    returns
-    is-closer-requires
-    close-section-requires
-    same-length-2
-    returns-2
-    add-work
-    mul-work
-    slice-write-work
-    add-written
-    same-length-3
-    returns-3)
+    (tie.spec (λ c κs. search needs) operator-bits-of-requires (λ c κs. search needs) open-section-requires (λ c. search needs) returns
+    (λ c κs. search needs) close-section-requires (λ c. search needs) returns-2 (λ c. search needs) (λ c. search needs) (λ c. search needs)
+    (λ c. search needs) (λ c. search needs) returns-3)

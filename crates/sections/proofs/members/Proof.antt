@@ -3,12 +3,10 @@ use Prim.Native.Nat.{_+_, _-_, _*_, _^_, _≤_, _<_}
 use mathlib.Core.Path.{refl, sym, _∙_}
 use native.Mathlib.Omega.{arith}
 use lib.ListN.{length}
-use Rattle.nodes.specs.Store.{wd, slotEnd}
-use Rattle.nodes.proofs.Tokens.{from-bits, to-bits}
+use Rattle.nodes.{specs.Store.{wd, slotEnd}, proofs.Tokens.{from-bits, to-bits}}
 use Rattle.sections.specs.Flat.{CanJoin}
 use Rattle.sections.proofs.MemberLaws.{Joining, JoinTurn, join-start, join-turn, join-in, join-leading, join-accessor, join-member}
-use Rattle.sections.proofs.MemberLaws.{join-other, join-done}
-use Rattle.sections.proofs.members.Statement.{statement}
+use Rattle.sections.proofs.{MemberLaws.{join-other, join-done}, members.Statement.{statement}}
 use Rattle.sections.proofs.members.Tie as tie
 
 abbrev Inv-loop : tie.InvT-loop
@@ -39,24 +37,6 @@ low : (c : tie.In-loop Inv-loop μ-loop) → 4 * (c .before .before .before .arg
 low c =
     let v = c .before .loop .inv in
     omega (arith, bounds c .0, v .1 (v .0) .2 .long, c .before .before .before .good)
-
-loop-holds : tie.Need-loop-holds Inv-loop μ-loop
-loop-holds c = (c .before .pre, λ g. join-start g)
-
-add-item : tie.Need-add-item Inv-loop μ-loop
-add-item c = let b = inside c in omega arith
-
-mul-item : tie.Need-mul-item Inv-loop μ-loop
-mul-item c = let b = inside c in omega arith
-
-slice-read-item : tie.Need-slice-read-item Inv-loop μ-loop
-slice-read-item c = inside (c .before)
-
-add-read : tie.Need-add-read Inv-loop μ-loop
-add-read c = let b = inside (c .before) in omega arith
-
-operator-bits-of-requires : tie.Need-operator-bits-of-requires Inv-loop μ-loop
-operator-bits-of-requires c κs = bounds (c .before .before) .1
 
 same-length : tie.Need-same-length Inv-loop μ-loop
 same-length c = let v = c .before .before .before .before .before .before .loop .inv in v .1 (v .0) .2 .long
@@ -96,18 +76,6 @@ loop-again c =
       λ g. join-member (turn t g) accessor (if2 .if2 .left) (m .result) (m .last .0) (m .ensures),
     )
 
-add-work : tie.Need-add-work Inv-loop μ-loop
-add-work c = omega (arith, low (c .before .before .before .before))
-
-mul-work : tie.Need-mul-work Inv-loop μ-loop
-mul-work c = omega (arith, low (c .before .before .before .before))
-
-slice-write-work : tie.Need-slice-write-work Inv-loop μ-loop
-slice-write-work c = bounds (c .before .before .before .before) .0
-
-add-write : tie.Need-add-write Inv-loop μ-loop
-add-write c = omega (arith, low (c .before .before .before .before))
-
 loop-less-2 : tie.Need-loop-less-2 Inv-loop μ-loop
 loop-less-2 c = let h = c .before .before .before .before .loop-test .taken in omega arith
 
@@ -116,9 +84,6 @@ loop-again-2 c =
     let t = c .before .before .before .before in
     let bits = c .before .operator-bits-of .ensures in
     (t .before .loop .inv .0, λ g. join-other (turn t g) (λ e. c .if1 .left (bits ∙ to-bits _ 45 (omega arith) e)) _ refl)
-
-same-length-2 : tie.Need-same-length-2 Inv-loop μ-loop
-same-length-2 c = let v = c .before .loop .inv in v .1 (v .0) .2 .long
 
 returns-2 : tie.Need-returns-2 Inv-loop μ-loop
 returns-2 c =
@@ -132,25 +97,9 @@ returns-2 c =
 pub members-spec : {M : Type 1} → statement M
 members-spec =
     tie.close
-    (tie.spec
-    Inv-loop
-    μ-loop
-    loop-holds
-    add-item
-    mul-item
-    slice-read-item
-    add-read
-    operator-bits-of-requires
-    same-length
-    returns
-    member-requires
-    loop-less
-    loop-again
-    add-work
-    mul-work
-    slice-write-work
-    add-write
-    loop-less-2
-    loop-again-2
-    same-length-2
-    returns-2)
+    (tie.spec Inv-loop μ-loop (λ c. (c .before .pre, λ g. join-start g)) (λ c. let b = inside c in omega arith)
+    (λ c. let b = inside c in omega arith) (λ c. inside (c .before)) (λ c. let b = inside (c .before) in omega arith)
+    (λ c κs. bounds (c .before .before) .1) same-length returns member-requires loop-less loop-again
+    (λ c. omega (arith, low (c .before .before .before .before))) (λ c. omega (arith, low (c .before .before .before .before)))
+    (λ c. bounds (c .before .before .before .before) .0) (λ c. omega (arith, low (c .before .before .before .before))) loop-less-2
+    loop-again-2 (λ c. let v = c .before .loop .inv in v .1 (v .0) .2 .long) returns-2)

@@ -1,16 +1,13 @@
 -- `sections::sections` meets its contract.
 use Prim.Native.Nat.{ℕ, _+_, _-_, _≤_, _<_}
-use mathlib.Core.Path.{_≡_, refl, _∙_}
-use mathlib.Core.List.{List}
+use mathlib.Core.{Path.{_≡_, refl, _∙_}, List.{List}}
 use native.Mathlib.Omega.{arith}
 use borrow.Author.Needs.{needs}
 use lib.ListN.{length}
 use Rattle.nodes.specs.Store.{wd}
 use Rattle.sections.specs.Flat.{CanSection}
 use Rattle.sections.proofs.SectionWalk.{Walking, WalkTurn, walk-start, walk-turn, walk-look, walk-on, walk-differs, walk-done}
-use Rattle.sections.proofs.SectionWalk.{walk-named, walk-unclosed}
-use Rattle.sections.proofs.MatchingLaws.{loses-nothing}
-use Rattle.sections.proofs.sections.Statement.{statement}
+use Rattle.sections.proofs.{SectionWalk.{walk-named, walk-unclosed}, MatchingLaws.{loses-nothing}, sections.Statement.{statement}}
 use Rattle.sections.proofs.sections.Tie as tie
 
 abbrev Inv-open : tie.InvT-open
@@ -64,27 +61,6 @@ walked c g v =
     let given = c .before .before .looked .given in
     walk-on (turn o g v) (r .result) (given .0 .0) (r .last .0) (r .ensures .0) (given .1)
 
-add-marks : tie.Need-add-marks Inv-open μ-open Inv-tokens μ-tokens
-add-marks c = omega (arith, c .before .pre .room)
-
-tokens-holds : tie.Need-tokens-holds Inv-open μ-open Inv-tokens μ-tokens
-tokens-holds c = (c .before .pre, refl, λ g. walk-start g)
-
-open-holds : tie.Need-open-holds Inv-open μ-open Inv-tokens μ-tokens
-open-holds c = (omega arith, c .if1 .left, λ W₀ g v. v)
-
-add-item : tie.Need-add-item Inv-open μ-open Inv-tokens μ-tokens
-add-item c = omega (arith, inside c)
-
-mul-item : tie.Need-mul-item Inv-open μ-open Inv-tokens μ-tokens
-mul-item c = omega (arith, inside c)
-
-slice-read-item : tie.Need-slice-read-item Inv-open μ-open Inv-tokens μ-tokens
-slice-read-item c = inside (c .before)
-
-add-read : tie.Need-add-read Inv-open μ-open Inv-tokens μ-tokens
-add-read c = omega (arith, inside (c .before))
-
 look-requires : tie.Need-look-requires Inv-open μ-open Inv-tokens μ-tokens
 look-requires c κs =
     let o = c .before .before in
@@ -92,9 +68,6 @@ look-requires c κs =
     let v = now-at o g in
     let t = turn o g v in
     (walk-look t, omega (arith, t .behind, t .count, g .small), omega (arith, t .near, t .count, g .small))
-
-enum-known-looked : tie.Need-enum-known-looked Inv-open μ-open Inv-tokens μ-tokens
-enum-known-looked c = search needs
 
 tokens-less : tie.Need-tokens-less Inv-open μ-open Inv-tokens μ-tokens
 tokens-less c =
@@ -125,12 +98,6 @@ open-again c =
     let s = c .before .before in
     let h = s .before .before .before .before .before .before .before .before .before .open .inv in
     (omega (arith, h .0), c .if3 .left, λ W₀ g v. walked s g (h .2 W₀ g v))
-
-enum-known-looked-2 : tie.Need-enum-known-looked-2 Inv-open μ-open Inv-tokens μ-tokens
-enum-known-looked-2 c = search needs
-
-same-length : tie.Need-same-length Inv-open μ-open Inv-tokens μ-tokens
-same-length c = let v = c .before .tokens .inv in v .2 (v .0) .2 .long
 
 returns : tie.Need-returns Inv-open μ-open Inv-tokens μ-tokens
 returns c =
@@ -188,29 +155,8 @@ returns-3 c =
 pub sections-spec : {M : Type 1} → statement M
 sections-spec =
     tie.close
-    (tie.spec
-    Inv-open
-    μ-open
-    Inv-tokens
-    μ-tokens
-    add-marks
-    tokens-holds
-    open-holds
-    add-item
-    mul-item
-    slice-read-item
-    add-read
-    look-requires
-    enum-known-looked
-    tokens-less
-    tokens-again
-    still-open-requires
-    open-less
-    open-again
-    enum-known-looked-2
-    same-length
-    returns
-    same-length-2
-    returns-2
-    same-length-3
-    returns-3)
+    (tie.spec Inv-open μ-open Inv-tokens μ-tokens (λ c. omega (arith, c .before .pre .room))
+    (λ c. (c .before .pre, refl, λ g. walk-start g)) (λ c. (omega arith, c .if1 .left, λ W₀ g v. v)) (λ c. omega (arith, inside c))
+    (λ c. omega (arith, inside c)) (λ c. inside (c .before)) (λ c. omega (arith, inside (c .before))) look-requires (λ c. search needs)
+    tokens-less tokens-again still-open-requires open-less open-again (λ c. search needs)
+    (λ c. let v = c .before .tokens .inv in v .2 (v .0) .2 .long) returns same-length-2 returns-2 same-length-3 returns-3)

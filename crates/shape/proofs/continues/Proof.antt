@@ -1,15 +1,10 @@
 -- `shape::continues` meets its contract: by the word itself, then by the nodes that are called for. Assumes nothing.
 use mathlib.Core.Path.{sym, _∙_}
 use native.Mathlib.Omega.{arith}
-use borrow.Author.Tests.{not-true, not-false}
+use borrow.Author.{Tests.{not-true, not-false}, Needs.{needs}}
 use Rattle.shape.specs.Answers.{fieldOf, shape}
-use Rattle.shape.proofs.ShapeLaws.{illegal-stops, uncalled-stops, continues-if}
-use borrow.Author.Needs.{needs}
-use Rattle.shape.proofs.continues.Statement.{statement}
+use Rattle.shape.proofs.{ShapeLaws.{illegal-stops, uncalled-stops, continues-if}, continues.Statement.{statement}}
 use Rattle.shape.proofs.continues.Tie as tie
-
-is-legal-requires : tie.Need-is-legal-requires
-is-legal-requires c κs = search needs
 
 returns : tie.Need-returns
 returns c =
@@ -17,17 +12,11 @@ returns c =
     illegal-stops (fieldOf (a .field)) (a .variant) (shape (a .called) (a .begun)) (a .w)
     (sym (c .before .is-legal .ensures) ∙ not-true _ (c .if1 .taken))
 
-begun-after-requires : tie.Need-begun-after-requires
-begun-after-requires c κs = search needs
-
 returns-2 : tie.Need-returns-2
 returns-2 c =
     let a = c .before .before .before .before .args in
     uncalled-stops (fieldOf (a .field)) (a .variant) (shape (a .called) (a .begun)) (a .w)
     (omega (arith, c .before .begun-after .ensures (a .called) (a .w)))
-
-called-after-requires : tie.Need-called-after-requires
-called-after-requires c κs = search needs
 
 returns-3 : tie.Need-returns-3
 returns-3 c =
@@ -38,12 +27,4 @@ returns-3 c =
     (omega (arith, c .before .before .begun-after .ensures (a .called) (a .w))))
 
 pub continues-spec : {M : Type 1} → statement M
-continues-spec =
-    tie.close
-    (tie.spec
-    is-legal-requires
-    returns
-    begun-after-requires
-    returns-2
-    called-after-requires
-    returns-3)
+continues-spec = tie.close (tie.spec (λ c κs. search needs) returns (λ c κs. search needs) returns-2 (λ c κs. search needs) returns-3)

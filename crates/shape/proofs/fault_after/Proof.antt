@@ -3,14 +3,11 @@
 use Prim.Native.Nat.{_-_}
 use mathlib.Core.Path.{sym, ap, _∙_}
 use native.Mathlib.Omega.{arith}
-use borrow.Author.Needs.{needs}
-use borrow.Author.Tests.{not-true, not-false}
+use borrow.Author.{Needs.{needs}, Tests.{not-true, not-false}}
 use lib.ListN.{length}
 use Rattle.molang.specs.Words.{withNumber}
-use Rattle.shape.specs.Answers.{fieldOf}
-use Rattle.shape.specs.Seen.{Seen}
-use Rattle.shape.proofs.ShapeLaws.{seen-fault, seen-more, seen-none, seen-end}
-use Rattle.shape.proofs.fault_after.Statement.{statement}
+use Rattle.shape.specs.{Answers.{fieldOf}, Seen.{Seen}}
+use Rattle.shape.proofs.{ShapeLaws.{seen-fault, seen-more, seen-none, seen-end}, fault_after.Statement.{statement}}
 use Rattle.shape.proofs.fault_after.Tie as tie
 
 abbrev Inv-loop : tie.InvT-loop
@@ -19,15 +16,6 @@ Inv-loop tree field₀ variant₀ called₀ begun₀ i₀ field variant called b
 
 abbrev μ-loop : tie.MeasureT-loop
 μ-loop tree field₀ variant₀ called₀ begun₀ i₀ field variant called begun i = length tree - i
-
-loop-holds : tie.Need-loop-holds Inv-loop μ-loop
-loop-holds c = c .before .pre
-
-mul-w : tie.Need-mul-w Inv-loop μ-loop
-mul-w c = search needs
-
-shared-slice-read-w : tie.Need-shared-slice-read-w Inv-loop μ-loop
-shared-slice-read-w c = search needs
 
 continues-requires : tie.Need-continues-requires Inv-loop μ-loop
 continues-requires c κs = (c .before .before .loop .inv .enough, c .before .before .loop .inv .few)
@@ -39,25 +27,10 @@ returns c =
     (seen-fault (h .loop .inv) (c .before .before .before .loop-test .taken)
     (sym (c .before .continues .ensures) ∙ not-true _ (c .if1 .taken)))
 
-variant-after-requires : tie.Need-variant-after-requires Inv-loop μ-loop
-variant-after-requires c κs = search needs
-
-called-after-requires : tie.Need-called-after-requires Inv-loop μ-loop
-called-after-requires c κs = c .before .before .before .before .before .loop .inv .few
-
 begun-after-requires : tie.Need-begun-after-requires Inv-loop μ-loop
 begun-after-requires c κs =
     let seen = c .before .before .before .before .before .before .loop .inv in
     omega (arith, seen .enough, seen .few)
-
-next-requires : tie.Need-next-requires Inv-loop μ-loop
-next-requires c κs = search needs
-
-add-i : tie.Need-add-i Inv-loop μ-loop
-add-i c = search needs
-
-loop-less : tie.Need-loop-less Inv-loop μ-loop
-loop-less c = search needs
 
 loop-again : tie.Need-loop-again Inv-loop μ-loop
 loop-again c =
@@ -67,9 +40,6 @@ loop-again c =
     seen-more (h .loop .inv) (turn .before .before .loop-test .taken) (sym (turn .continues .ensures) ∙ not-false _ (test .if1 .left))
     (c .next .ensures) (c .before .before .before .variant-after .ensures) (c .before .before .called-after .ensures (h .loop .begun))
     (c .before .begun-after .ensures (h .loop .called) _)
-
-is-whole-requires : tie.Need-is-whole-requires Inv-loop μ-loop
-is-whole-requires c κs = search needs
 
 returns-2 : tie.Need-returns-2 Inv-loop μ-loop
 returns-2 c =
@@ -84,21 +54,6 @@ returns-3 c =
 pub fault-after-spec : {M : Type 1} → statement M
 fault-after-spec =
     tie.close
-    (tie.spec
-    Inv-loop
-    μ-loop
-    loop-holds
-    mul-w
-    shared-slice-read-w
-    continues-requires
-    returns
-    variant-after-requires
-    called-after-requires
-    begun-after-requires
-    next-requires
-    add-i
-    loop-less
-    loop-again
-    is-whole-requires
-    returns-2
-    returns-3)
+    (tie.spec Inv-loop μ-loop (λ c. c .before .pre) (λ c. search needs) (λ c. search needs) continues-requires returns
+    (λ c κs. search needs) (λ c κs. c .before .before .before .before .before .loop .inv .few) begun-after-requires (λ c κs. search needs)
+    (λ c. search needs) (λ c. search needs) loop-again (λ c κs. search needs) returns-2 returns-3)

@@ -3,14 +3,5 @@ use borrow.Author.Needs.{needs}
 use Rattle.shape.proofs.first_fault.Statement.{statement}
 use Rattle.shape.proofs.first_fault.Tie as tie
 
-whole-nodes-requires : tie.Need-whole-nodes-requires
-whole-nodes-requires c κs = search needs
-
-fault-after-requires : tie.Need-fault-after-requires
-fault-after-requires c κs = c .whole-nodes .ensures
-
-returns : tie.Need-returns
-returns c = c .fault-after .ensures
-
 pub first-fault-spec : {M : Type 1} → statement M
-first-fault-spec = tie.close (tie.spec whole-nodes-requires fault-after-requires returns)
+first-fault-spec = tie.close (tie.spec (λ c κs. search needs) (λ c κs. c .whole-nodes .ensures) (λ c. c .fault-after .ensures))

@@ -2,37 +2,10 @@
 use Prim.Native.Nat.{_+_}
 use mathlib.Core.Bool.{false≢true}
 use native.Mathlib.Omega.{arith}
-use borrow.Author.Tests.{not-false, leb-true}
-use Rattle.molang.specs.Words.{lowOf}
-use Rattle.molang.specs.WriteEntry.{mostNodes}
-use borrow.Author.Needs.{needs}
+use borrow.Author.{Tests.{not-false, leb-true}, Needs.{needs}}
+use Rattle.molang.specs.{Words.{lowOf}, WriteEntry.{mostNodes}}
 use Rattle.shape.proofs.node_continues.Statement.{statement}
 use Rattle.shape.proofs.node_continues.Tie as tie
-
-returns : tie.Need-returns
-returns c = λ e. absurd (false≢true e)
-
-is-node-requires : tie.Need-is-node-requires
-is-node-requires c κs = search needs
-
-returns-2 : tie.Need-returns-2
-returns-2 c = λ e. absurd (false≢true e)
-
-add-low : tie.Need-add-low
-add-low c = search needs
-
-mul-low : tie.Need-mul-low
-mul-low c = search needs
-
-shared-slice-read-low : tie.Need-shared-slice-read-low
-shared-slice-read-low c = search needs
-
-low-requires : tie.Need-low-requires
-low-requires c κs = search needs
-
-add-result : tie.Need-add-result
-unfolding lowOf
-add-result c = omega (arith, c .low .ensures)
 
 returns-3 : tie.Need-returns-3
 returns-3 c =
@@ -46,13 +19,5 @@ returns-3 c =
 pub node-continues-spec : {M : Type 1} → statement M
 node-continues-spec =
     tie.close
-    (tie.spec
-    returns
-    is-node-requires
-    returns-2
-    add-low
-    mul-low
-    shared-slice-read-low
-    low-requires
-    add-result
-    returns-3)
+    (tie.spec (λ c. λ e. absurd (false≢true e)) (λ c κs. search needs) (λ c. λ e. absurd (false≢true e)) (λ c. search needs)
+    (λ c. search needs) (λ c. search needs) (λ c κs. search needs) (λ c. unfold lowOf in omega (arith, c .low .ensures)) returns-3)

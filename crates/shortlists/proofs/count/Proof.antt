@@ -1,18 +1,10 @@
 -- `shortlists::count` meets its contract: the alphabet first, then the length, then the powers of its letters' number. Assumes nothing.
-use mathlib.Core.Path.{_≡_, ap, sym, _∙_}
-use mathlib.Core.Bool.{true}
-use borrow.Author.Needs.{needs}
-use borrow.Author.Tests.{not-true, not-false}
-use Rattle.shortlists.specs.Answers.{found}
-use Rattle.shortlists.specs.ShortLists.{isAlphabet}
-use Rattle.shortlists.proofs.AlphabetLaws.{alphabet}
-use Rattle.shortlists.proofs.EntryLaws.{no-alphabet, too-long, counted}
-use Rattle.shortlists.proofs.ShortLists.{counts}
+use mathlib.Core.{Path.{_≡_, ap, sym, _∙_}, Bool.{true}}
+use borrow.Author.{Needs.{needs}, Tests.{not-true, not-false}}
+use Rattle.shortlists.specs.{Answers.{found}, ShortLists.{isAlphabet}}
+use Rattle.shortlists.proofs.{AlphabetLaws.{alphabet}, EntryLaws.{no-alphabet, too-long, counted}, ShortLists.{counts}}
 use Rattle.shortlists.proofs.count.Statement.{statement}
 use Rattle.shortlists.proofs.count.Tie as tie
-
-is-alphabet-requires : tie.Need-is-alphabet-requires
-is-alphabet-requires c κs = search needs
 
 returns : tie.Need-returns
 returns c =
@@ -39,4 +31,4 @@ returns-3 c =
     ∙ counted list (a .length) (judged (c .before .before)) (c .before .if2 .left)
 
 pub count-spec : {M : Type 1} → statement M
-count-spec = tie.close (tie.spec is-alphabet-requires returns returns-2 total-requires returns-3)
+count-spec = tie.close (tie.spec (λ c κs. search needs) returns returns-2 total-requires returns-3)

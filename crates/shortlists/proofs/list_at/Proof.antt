@@ -5,19 +5,9 @@ use native.Mathlib.Omega.{arith}
 use borrow.Author.Needs.{needs}
 use lib.ListN.{length}
 use Rattle.shortlists.specs.ShortLists.{upTo}
-use Rattle.shortlists.proofs.EntryLaws.{Counts, counts-told, refused-too, past, listed}
-use Rattle.shortlists.proofs.ShortLists.{still-below}
+use Rattle.shortlists.proofs.{EntryLaws.{Counts, counts-told, refused-too, past, listed}, ShortLists.{still-below}}
 use Rattle.shortlists.proofs.list_at.Statement.{statement}
 use Rattle.shortlists.proofs.list_at.Tie as tie
-
-count-requires : tie.Need-count-requires
-count-requires c κs = search needs
-
-enum-known-counted : tie.Need-enum-known-counted
-enum-known-counted c = search needs
-
-enum-known-counted-2 : tie.Need-enum-known-counted-2
-enum-known-counted-2 c = search needs
 
 -- What the count says.
 says : (c : tie.After-counted2)
@@ -67,4 +57,5 @@ returns-3 c =
 
 pub list-at-spec : {M : Type 1} → statement M
 list-at-spec =
-    tie.close (tie.spec count-requires enum-known-counted enum-known-counted-2 returns list-of-requires returns-2 returns-3)
+    tie.close
+    (tie.spec (λ c κs. search needs) (λ c. search needs) (λ c. search needs) returns list-of-requires returns-2 returns-3)

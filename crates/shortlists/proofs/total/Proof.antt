@@ -2,8 +2,7 @@
 -- The measure is what is left of the lengths. Assumes nothing.
 use Prim.Native.Nat.{suc, _+_, _*_, _-_, _^_, _≤_}
 use mathlib.Core.Path.{_≡_, sym}
-use native.Mathlib.Nat.{pow-zero}
-use native.Mathlib.Omega.{arith}
+use native.Mathlib.{Nat.{pow-zero}, Omega.{arith}}
 use borrow.Author.Needs.{needs}
 use Rattle.shortlists.specs.ShortLists.{powers}
 use Rattle.shortlists.proofs.DigitLaws.{powers-few, power-next, power-next-few, powers-one, powers-next}
@@ -26,21 +25,12 @@ next c =
     let at = c .before .loop in
     power-next-few (c .before .before .args .letters) (at .i) (at .size) (at .inv .1) (given .few) (omega (arith, given .short))
 
-mul-size : tie.Need-mul-size Inv-loop μ-loop
-mul-size c = omega (arith, next c)
-
 add-all : tie.Need-add-all Inv-loop μ-loop
 add-all c =
     let start = c .before .before in
     let at = c .before .loop in
     let few = powers-few (start .args .letters) (at .i + 1) (start .pre .few) (omega (arith, start .pre .short)) in
     omega (arith, next c, at .inv .2)
-
-add-i : tie.Need-add-i Inv-loop μ-loop
-add-i c = search needs
-
-loop-less : tie.Need-loop-less Inv-loop μ-loop
-loop-less c = search needs
 
 loop-again : tie.Need-loop-again Inv-loop μ-loop
 loop-again c =
@@ -56,4 +46,6 @@ returns c =
     rw last at (at .inv .2)
 
 pub total-spec : {M : Type 1} → statement M
-total-spec = tie.close (tie.spec Inv-loop μ-loop loop-holds mul-size add-all add-i loop-less loop-again returns)
+total-spec =
+    tie.close
+    (tie.spec Inv-loop μ-loop loop-holds (λ c. omega (arith, next c)) add-all (λ c. search needs) (λ c. search needs) loop-again returns)

@@ -1,28 +1,17 @@
 -- `sorbrudder::parsed_number` meets its contract, case by case. Assumes nothing.
 use mathlib.Core.Path.{sym, ap, subst, _∙_}
-use native.Mathlib.Nat.{zero-add}
-use native.Mathlib.Omega.{arith}
+use native.Mathlib.{Nat.{zero-add}, Omega.{arith}}
 use borrow.Author.Needs.{needs}
 use Rattle.molang.specs.Parse.{Told}
-use Rattle.parse.specs.Answers.{toldOf}
-use Rattle.parse.specs.declared.Answer.{Answer}
+use Rattle.parse.specs.{Answers.{toldOf}, declared.Answer.{Answer}}
 use Rattle.sorbrudder.specs.Numbers.{toldNumber, FitsTold}
 use Rattle.sorbrudder.proofs.parsed_number.Statement.{statement}
 use Rattle.sorbrudder.proofs.parsed_number.Tie as tie
-
-enum-known-answer : tie.Need-enum-known-answer
-enum-known-answer c = search needs
-
-enum-known-answer-2 : tie.Need-enum-known-answer-2
-enum-known-answer-2 c = search needs
 
 add-result : tie.Need-add-result
 add-result c =
     let fits = subst (λ (o : Told). FitsTold o) (ap toldOf (c .before .answer2 .given .1)) (c .before .before .before .pre) in
     omega arith
-
-enum-known-answer-3 : tie.Need-enum-known-answer-3
-enum-known-answer-3 c = search needs
 
 refusal-requires : tie.Need-refusal-requires
 refusal-requires c κs = subst (λ (o : Told). FitsTold o) (ap toldOf (c .before .answer3 .given .1)) (c .before .before .before .pre)
@@ -38,4 +27,5 @@ returns-3 c = c .refusal .ensures ∙ sym (ap (λ (r : Answer). toldNumber (told
 
 pub parsed-number-spec : {M : Type 1} → statement M
 parsed-number-spec =
-    tie.close (tie.spec enum-known-answer enum-known-answer-2 add-result enum-known-answer-3 refusal-requires returns returns-2 returns-3)
+    tie.close
+    (tie.spec (λ c. search needs) (λ c. search needs) add-result (λ c. search needs) refusal-requires returns returns-2 returns-3)

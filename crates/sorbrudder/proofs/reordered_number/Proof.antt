@@ -3,17 +3,10 @@ use mathlib.Core.Path.{sym, ap, subst, _∙_}
 use native.Mathlib.Nat.{zero-add}
 use borrow.Author.Needs.{needs}
 use Rattle.molang.specs.StackOrder.{ReorderTold}
-use Rattle.stackorder.specs.Answers.{toldOf}
-use Rattle.stackorder.specs.declared.Reordered.{Reordered}
+use Rattle.stackorder.specs.{Answers.{toldOf}, declared.Reordered.{Reordered}}
 use Rattle.sorbrudder.specs.Numbers.{reorderNumber, FitsReordered}
 use Rattle.sorbrudder.proofs.reordered_number.Statement.{statement}
 use Rattle.sorbrudder.proofs.reordered_number.Tie as tie
-
-enum-known-reordered : tie.Need-enum-known-reordered
-enum-known-reordered c = search needs
-
-enum-known-reordered-2 : tie.Need-enum-known-reordered-2
-enum-known-reordered-2 c = search needs
 
 refusal-requires : tie.Need-refusal-requires
 refusal-requires c κs =
@@ -27,4 +20,4 @@ returns-2 : tie.Need-returns-2
 returns-2 c = c .refusal .ensures ∙ sym (ap (λ (r : Reordered). reorderNumber (toldOf r)) (c .before .before .reordered2 .given .1))
 
 pub reordered-number-spec : {M : Type 1} → statement M
-reordered-number-spec = tie.close (tie.spec enum-known-reordered enum-known-reordered-2 refusal-requires returns returns-2)
+reordered-number-spec = tie.close (tie.spec (λ c. search needs) (λ c. search needs) refusal-requires returns returns-2)

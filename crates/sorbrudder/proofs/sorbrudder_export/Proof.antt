@@ -4,12 +4,8 @@ use borrow.Author.Needs.{needs}
 use Rattle.molang.specs.StackOrder.{ReorderTold}
 use Rattle.stackorder.specs.Answers.{call}
 use Rattle.sorbrudder.specs.Numbers.{reorderNumber, FitsReordered}
-use Rattle.sorbrudder.proofs.Bounds.{exported-fits}
-use Rattle.sorbrudder.proofs.sorbrudder_export.Statement.{statement}
+use Rattle.sorbrudder.proofs.{Bounds.{exported-fits}, sorbrudder_export.Statement.{statement}}
 use Rattle.sorbrudder.proofs.sorbrudder_export.Tie as tie
-
-export-requires : tie.Need-export-requires
-export-requires c κs = search needs
 
 reordered-number-requires : tie.Need-reordered-number-requires
 reordered-number-requires c κs =
@@ -17,13 +13,10 @@ reordered-number-requires c κs =
     subst (λ (o : ReorderTold). FitsReordered o) (sym (c .before .before .export .ensures .0))
     (exported-fits (call (a .tree .now) (a .output .now)))
 
-same-length : tie.Need-same-length
-same-length c = search needs
-
 returns : tie.Need-returns
 returns c =
     let done = c .before .before .before .export .ensures in
     (c .reordered-number .ensures ∙ ap reorderNumber (done .0), done .1)
 
 pub sorbrudder-export-spec : {M : Type 1} → statement M
-sorbrudder-export-spec = tie.close (tie.spec export-requires reordered-number-requires same-length returns)
+sorbrudder-export-spec = tie.close (tie.spec (λ c κs. search needs) reordered-number-requires (λ c. search needs) returns)

@@ -4,25 +4,12 @@ use mir.Facts.{toZ-ofZ}
 use borrow.Author.Needs.{needs}
 use Rattle.molang.specs.Parse.{Told}
 use Rattle.sorbrudder.specs.Numbers.{toldNumber, FitsTold}
-use Rattle.sorbrudder.proofs.Bounds.{told-fits}
-use Rattle.sorbrudder.proofs.sorbrudder_parse.Statement.{statement}
+use Rattle.sorbrudder.proofs.{Bounds.{told-fits}, sorbrudder_parse.Statement.{statement}}
 use Rattle.sorbrudder.proofs.sorbrudder_parse.Tie as tie
-
-parse-requires : tie.Need-parse-requires
-parse-requires c κs = search needs
 
 parsed-number-requires : tie.Need-parsed-number-requires
 parsed-number-requires c κs =
     subst (λ (o : Told). FitsTold o) (sym (c .before .before .before .before .before .before .parse .ensures .told)) (told-fits _)
-
-same-length : tie.Need-same-length
-same-length c = search needs
-
-same-length-2 : tie.Need-same-length-2
-same-length-2 c = search needs
-
-same-length-3 : tie.Need-same-length-3
-same-length-3 c = search needs
 
 returns : tie.Need-returns
 returns c =
@@ -38,4 +25,5 @@ returns c =
 
 pub sorbrudder-parse-spec : {M : Type 1} → statement M
 sorbrudder-parse-spec =
-    tie.close (tie.spec parse-requires parsed-number-requires same-length same-length-2 same-length-3 returns)
+    tie.close
+    (tie.spec (λ c κs. search needs) parsed-number-requires (λ c. search needs) (λ c. search needs) (λ c. search needs) returns)

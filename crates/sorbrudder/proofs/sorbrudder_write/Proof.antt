@@ -4,12 +4,8 @@ use borrow.Author.Needs.{needs}
 use Rattle.molang.specs.WriteEntry.{WriteTold}
 use Rattle.write.specs.Answers.{call}
 use Rattle.sorbrudder.specs.Numbers.{writeNumber, FitsWritten}
-use Rattle.sorbrudder.proofs.Bounds.{written-fits}
-use Rattle.sorbrudder.proofs.sorbrudder_write.Statement.{statement}
+use Rattle.sorbrudder.proofs.{Bounds.{written-fits}, sorbrudder_write.Statement.{statement}}
 use Rattle.sorbrudder.proofs.sorbrudder_write.Tie as tie
-
-write-requires : tie.Need-write-requires
-write-requires c κs = search needs
 
 written-number-requires : tie.Need-written-number-requires
 written-number-requires c κs =
@@ -17,13 +13,10 @@ written-number-requires c κs =
     subst (λ (o : WriteTold). FitsWritten o) (sym (c .before .before .write .ensures .0))
     (written-fits (call (a .tree .now) (a .list .now)))
 
-same-length : tie.Need-same-length
-same-length c = search needs
-
 returns : tie.Need-returns
 returns c =
     let wrote = c .before .before .before .write .ensures in
     (c .written-number .ensures ∙ ap writeNumber (wrote .0), wrote .1)
 
 pub sorbrudder-write-spec : {M : Type 1} → statement M
-sorbrudder-write-spec = tie.close (tie.spec write-requires written-number-requires same-length returns)
+sorbrudder-write-spec = tie.close (tie.spec (λ c κs. search needs) written-number-requires (λ c. search needs) returns)

@@ -3,17 +3,10 @@ use mathlib.Core.Path.{sym, ap, subst, _∙_}
 use native.Mathlib.Nat.{zero-add}
 use borrow.Author.Needs.{needs}
 use Rattle.molang.specs.WriteEntry.{WriteTold}
-use Rattle.write.specs.Answers.{toldOf}
-use Rattle.write.specs.declared.Written.{Written}
+use Rattle.write.specs.{Answers.{toldOf}, declared.Written.{Written}}
 use Rattle.sorbrudder.specs.Numbers.{writeNumber, FitsWritten}
 use Rattle.sorbrudder.proofs.written_number.Statement.{statement}
 use Rattle.sorbrudder.proofs.written_number.Tie as tie
-
-enum-known-written : tie.Need-enum-known-written
-enum-known-written c = search needs
-
-enum-known-written-2 : tie.Need-enum-known-written-2
-enum-known-written-2 c = search needs
 
 refusal-requires : tie.Need-refusal-requires
 refusal-requires c κs =
@@ -26,4 +19,4 @@ returns-2 : tie.Need-returns-2
 returns-2 c = c .refusal .ensures ∙ sym (ap (λ (r : Written). writeNumber (toldOf r)) (c .before .before .written2 .given .1))
 
 pub written-number-spec : {M : Type 1} → statement M
-written-number-spec = tie.close (tie.spec enum-known-written enum-known-written-2 refusal-requires returns returns-2)
+written-number-spec = tie.close (tie.spec (λ c. search needs) (λ c. search needs) refusal-requires returns returns-2)

@@ -1,18 +1,13 @@
 -- `stackorder::fill` meets its contract: the refusal, or the walk over words that can be reordered. Assumes nothing.
-use mathlib.Core.Path.{_≡_, ap}
-use mathlib.Core.Option.{none}
+use mathlib.Core.{Path.{_≡_, ap}, Option.{none}}
 use Rattle.stackorder.specs.Filled.{refusalIn}
-use Rattle.stackorder.proofs.EntryLaws.{turned-back, put-in-order}
+use Rattle.stackorder.proofs.{EntryLaws.{turned-back, put-in-order}, fill.Statement.{statement}}
 use borrow.Author.Needs.{needs}
-use Rattle.stackorder.proofs.fill.Statement.{statement}
 use Rattle.stackorder.proofs.fill.Tie as tie
 
 -- The call is not turned back.
 no-refusal : (c : tie.After-enum-told) → refusalIn (c .before .before .before .before .args .refusal) ≡ none
 no-refusal c = ap refusalIn (c .enum-told .given .1)
-
-enum-known-refusal : tie.Need-enum-known-refusal
-enum-known-refusal c = search needs
 
 returns : tie.Need-returns
 returns c =
@@ -21,14 +16,8 @@ returns c =
     turned-back (a .direction) (a .words .now) (a .output .now) (refusalIn (a .refusal)) (told .refusal .given .0 .0)
     (told .refusal .given .0 .1 .0) (ap refusalIn (told .refusal .given .1))
 
-enum-told : tie.Need-enum-told
-enum-told c = search needs
-
 reorder-requires : tie.Need-reorder-requires
 reorder-requires c κs = c .before .before .before .before .before .pre (no-refusal (c .before))
-
-same-length : tie.Need-same-length
-same-length c = search needs
 
 returns-2 : tie.Need-returns-2
 returns-2 c =
@@ -41,4 +30,4 @@ returns-2 c =
     (walked .reorder .last .1 .0) (walked .reorder .ensures)
 
 pub fill-spec : {M : Type 1} → statement M
-fill-spec = tie.close (tie.spec enum-known-refusal returns enum-told reorder-requires same-length returns-2)
+fill-spec = tie.close (tie.spec (λ c. search needs) returns (λ c. search needs) reorder-requires (λ c. search needs) returns-2)

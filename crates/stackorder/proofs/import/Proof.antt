@@ -1,11 +1,9 @@
 -- `stackorder::import` meets its contract: answer 24 first, then 25, or the words in the other order. Assumes nothing.
 use mathlib.Core.Path.{_≡_}
 use Rattle.molang.specs.StackOrder.{ReorderCall, importRefusal}
-use Rattle.stackorder.specs.Answers.{call}
-use Rattle.stackorder.specs.Filled.{refusalIn}
-use Rattle.stackorder.proofs.EntryLaws.{import-first, can-import, imported}
+use Rattle.stackorder.specs.{Answers.{call}, Filled.{refusalIn}}
+use Rattle.stackorder.proofs.{EntryLaws.{import-first, can-import, imported}, import.Statement.{statement}}
 use borrow.Author.Needs.{needs}
-use Rattle.stackorder.proofs.import.Statement.{statement}
 use Rattle.stackorder.proofs.import.Tie as tie
 
 -- The call, by the values at entry.
@@ -22,26 +20,11 @@ turned-back c =
     import-first (a .words .now) (a .output .now) (judged .before .stack-fault .result) _ _ _ (judged .before .stack-fault .ensures)
     (judged .numbered .ensures) (asked .short-output .ensures) (c .first-of .ensures)
 
-stack-fault-requires : tie.Need-stack-fault-requires
-stack-fault-requires c κs = search needs
-
-numbered-requires : tie.Need-numbered-requires
-numbered-requires c κs = search needs
-
-short-output-requires : tie.Need-short-output-requires
-short-output-requires c κs = search needs
-
-first-of-requires : tie.Need-first-of-requires
-first-of-requires c κs = search needs
-
 fill-requires : tie.Need-fill-requires
 fill-requires c κs =
     let judged = c .before in
     let a = judged .before .before .before .before .before .before .args in
     can-import (a .words .now) (a .output .now) _ (turned-back judged)
-
-same-length : tie.Need-same-length
-same-length c = search needs
 
 returns : tie.Need-returns
 returns c =
@@ -54,11 +37,5 @@ returns c =
 pub import-spec : {M : Type 1} → statement M
 import-spec =
     tie.close
-    (tie.spec
-    stack-fault-requires
-    numbered-requires
-    short-output-requires
-    first-of-requires
-    fill-requires
-    same-length
+    (tie.spec (λ c κs. search needs) (λ c κs. search needs) (λ c κs. search needs) (λ c κs. search needs) fill-requires (λ c. search needs)
     returns)

@@ -3,24 +3,8 @@ use mathlib.Core.Path.{_∙_}
 use native.Mathlib.Omega.{arith}
 use borrow.Author.Needs.{needs}
 use Rattle.molang.specs.Lines.{recordOf}
-use Rattle.table.proofs.MarkedLaws.{record-read, record-argument}
-use Rattle.table.proofs.field_word.Statement.{statement}
+use Rattle.table.proofs.{MarkedLaws.{record-read, record-argument}, field_word.Statement.{statement}}
 use Rattle.table.proofs.field_word.Tie as tie
-
-at-requires : tie.Need-at-requires
-at-requires c κs = search needs
-
-at-requires-2 : tie.Need-at-requires-2
-at-requires-2 c κs = search needs
-
-at-requires-3 : tie.Need-at-requires-3
-at-requires-3 c κs = search needs
-
-sub-at : tie.Need-sub-at
-sub-at c = omega arith
-
-at-requires-4 : tie.Need-at-requires-4
-at-requires-4 c κs = search needs
 
 returns : tie.Need-returns
 unfolding recordOf
@@ -42,4 +26,6 @@ returns-4 c = c .at4 .ensures ∙ record-argument (c .before .before .before .ar
 
 pub field-word-spec : {M : Type 1} → statement M
 field-word-spec =
-    tie.close (tie.spec at-requires at-requires-2 at-requires-3 sub-at at-requires-4 returns returns-2 returns-3 returns-4)
+    tie.close
+    (tie.spec (λ c κs. search needs) (λ c κs. search needs) (λ c κs. search needs) (λ c. omega arith) (λ c κs. search needs) returns
+    returns-2 returns-3 returns-4)

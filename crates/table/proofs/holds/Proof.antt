@@ -4,11 +4,9 @@ use Prim.Native.Nat.{ℕ, _-_, _≤_}
 use mathlib.Core.Path.{_≡_, sym, ap, _∙_}
 use native.Mathlib.Omega.{arith}
 use borrow.Author.Needs.{needs}
-use lib.Dec.{leb}
-use lib.ListN.{length, drop}
+use lib.{Dec.{leb}, ListN.{length, drop}}
 use Rattle.table.specs.Marked.{saidCount, holdsFrom}
-use Rattle.table.proofs.MarkedLaws.{word-same, word-other, word-none}
-use Rattle.table.proofs.holds.Statement.{statement}
+use Rattle.table.proofs.{MarkedLaws.{word-same, word-other, word-none}, holds.Statement.{statement}}
 use Rattle.table.proofs.holds.Tie as tie
 
 abbrev Inv-loop : tie.InvT-loop
@@ -18,22 +16,10 @@ Inv-loop buffer mark said rest n i₀ i =
 abbrev μ-loop : tie.MeasureT-loop
 μ-loop buffer mark said rest n i₀ i = length buffer - i
 
-said-count-requires : tie.Need-said-count-requires Inv-loop μ-loop
-said-count-requires c κs = search needs
-
 loop-holds : tie.Need-loop-holds Inv-loop μ-loop
 loop-holds c =
     let a = c .before .before .before .args in
     (omega arith, ap (λ (n : ℕ). holdsFrom 0 (a .said .now) n (a .rest) (a .buffer .now)) (c .said-count .ensures))
-
-mul-if1 : tie.Need-mul-if1 Inv-loop μ-loop
-mul-if1 c = omega arith
-
-shared-slice-read-if1 : tie.Need-shared-slice-read-if1 Inv-loop μ-loop
-shared-slice-read-if1 c = omega arith
-
-said-word-requires : tie.Need-said-word-requires Inv-loop μ-loop
-said-word-requires c κs = search needs
 
 returns : tie.Need-returns Inv-loop μ-loop
 returns c =
@@ -43,12 +29,6 @@ returns c =
     (word-other (a .said .now) _ (a .rest) (a .buffer .now) (at .loop .i) (omega arith)
     (λ e. c .if1 .taken (e ∙ sym (c .before .said-word .ensures))))
     ∙ at .loop .inv .1
-
-add-i : tie.Need-add-i Inv-loop μ-loop
-add-i c = omega arith
-
-loop-less : tie.Need-loop-less Inv-loop μ-loop
-loop-less c = omega arith
 
 loop-again : tie.Need-loop-again Inv-loop μ-loop
 loop-again c =
@@ -68,16 +48,5 @@ returns-2 c =
 pub holds-spec : {M : Type 1} → statement M
 holds-spec =
     tie.close
-    (tie.spec
-    Inv-loop
-    μ-loop
-    said-count-requires
-    loop-holds
-    mul-if1
-    shared-slice-read-if1
-    said-word-requires
-    returns
-    add-i
-    loop-less
-    loop-again
-    returns-2)
+    (tie.spec Inv-loop μ-loop (λ c κs. search needs) loop-holds (λ c. omega arith) (λ c. omega arith) (λ c κs. search needs) returns
+    (λ c. omega arith) (λ c. omega arith) loop-again returns-2)

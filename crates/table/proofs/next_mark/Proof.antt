@@ -5,8 +5,7 @@ use mathlib.Core.Path.{_≡_, refl, sym, _∙_}
 use native.Mathlib.Omega.{arith}
 use lib.ListN.{length, drop}
 use Rattle.table.specs.Marked.{unmarked}
-use Rattle.table.proofs.MarkedLaws.{mark-here, mark-later, no-number}
-use Rattle.table.proofs.next_mark.Statement.{statement}
+use Rattle.table.proofs.{MarkedLaws.{mark-here, mark-later, no-number}, next_mark.Statement.{statement}}
 use Rattle.table.proofs.next_mark.Tie as tie
 
 abbrev Inv-loop : tie.InvT-loop
@@ -16,18 +15,6 @@ Inv-loop numbers from last end₀ end =
 abbrev μ-loop : tie.MeasureT-loop
 μ-loop numbers from last end₀ end = length numbers - end
 
-loop-holds : tie.Need-loop-holds Inv-loop μ-loop
-loop-holds c = (refl, omega arith)
-
-mul-is-mark : tie.Need-mul-is-mark Inv-loop μ-loop
-mul-is-mark c = omega arith
-
-shared-slice-read-is-mark : tie.Need-shared-slice-read-is-mark Inv-loop μ-loop
-shared-slice-read-is-mark c = omega arith
-
-is-mark-requires : tie.Need-is-mark-requires Inv-loop μ-loop
-is-mark-requires c κs = tt
-
 returns : tie.Need-returns Inv-loop μ-loop
 returns c =
     let at = c .before .before .before .before in
@@ -36,12 +23,6 @@ returns c =
       sym (mark-here (a .last) (a .numbers .now) (at .loop .end) (c .before .before .before .loop-test .taken) is) ∙ at .loop .inv .0,
       at .loop .inv .1,
     )
-
-add-end : tie.Need-add-end Inv-loop μ-loop
-add-end c = omega arith
-
-loop-less : tie.Need-loop-less Inv-loop μ-loop
-loop-less c = omega arith
 
 loop-again : tie.Need-loop-again Inv-loop μ-loop
 loop-again c =
@@ -61,15 +42,5 @@ returns-2 c =
 pub next-mark-spec : {M : Type 1} → statement M
 next-mark-spec =
     tie.close
-    (tie.spec
-    Inv-loop
-    μ-loop
-    loop-holds
-    mul-is-mark
-    shared-slice-read-is-mark
-    is-mark-requires
-    returns
-    add-end
-    loop-less
-    loop-again
-    returns-2)
+    (tie.spec Inv-loop μ-loop (λ c. (refl, omega arith)) (λ c. omega arith) (λ c. omega arith) (λ c κs. tt) returns (λ c. omega arith)
+    (λ c. omega arith) loop-again returns-2)

@@ -2,15 +2,8 @@
 use mathlib.Core.Path.{_∙_}
 use native.Mathlib.Omega.{arith}
 use borrow.Author.Needs.{needs}
-use Rattle.table.proofs.MarkedLaws.{node-close, node-count, node-token}
-use Rattle.table.proofs.node_word.Statement.{statement}
+use Rattle.table.proofs.{MarkedLaws.{node-close, node-count, node-token}, node_word.Statement.{statement}}
 use Rattle.table.proofs.node_word.Tie as tie
-
-close-of-requires : tie.Need-close-of-requires
-close-of-requires c κs = search needs
-
-close-word-requires : tie.Need-close-word-requires
-close-word-requires c κs = search needs
 
 returns : tie.Need-returns
 returns c =
@@ -18,14 +11,8 @@ returns c =
     rw (c .before .before .if1 .taken)
     (node-close (start .args .node) _ (c .before .close-of .result) (omega arith) (c .before .close-of .ensures) (c .close-word .ensures))
 
-children-word-requires : tie.Need-children-word-requires
-children-word-requires c κs = search needs
-
 returns-2 : tie.Need-returns-2
 returns-2 c = rw (c .before .if2 .taken) (node-count (c .before .before .before .args .node) _ (c .children-word .ensures))
-
-token-word-requires : tie.Need-token-word-requires
-token-word-requires c κs = omega arith
 
 returns-3 : tie.Need-returns-3
 returns-3 c =
@@ -34,4 +21,5 @@ returns-3 c =
 
 pub node-word-spec : {M : Type 1} → statement M
 node-word-spec =
-    tie.close (tie.spec close-of-requires close-word-requires returns children-word-requires returns-2 token-word-requires returns-3)
+    tie.close
+    (tie.spec (λ c κs. search needs) (λ c κs. search needs) returns (λ c κs. search needs) returns-2 (λ c κs. omega arith) returns-3)

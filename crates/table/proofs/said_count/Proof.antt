@@ -1,15 +1,8 @@
 -- `table::said_count` meets its contract: the line has this mark, or another. Assumes nothing.
 use mathlib.Core.Path.{_∙_}
 use borrow.Author.Needs.{needs}
-use Rattle.table.proofs.MarkedLaws.{own-mark, not-own-mark}
-use Rattle.table.proofs.said_count.Statement.{statement}
+use Rattle.table.proofs.{MarkedLaws.{own-mark, not-own-mark}, said_count.Statement.{statement}}
 use Rattle.table.proofs.said_count.Tie as tie
-
-at-requires : tie.Need-at-requires
-at-requires c κs = search needs
-
-word-count-requires : tie.Need-word-count-requires
-word-count-requires c κs = search needs
 
 returns : tie.Need-returns
 returns c =
@@ -23,4 +16,4 @@ returns-2 c =
     not-own-mark (a .mark) _ (a .said .now) (c .before .at .ensures) (c .if1 .left)
 
 pub said-count-spec : {M : Type 1} → statement M
-said-count-spec = tie.close (tie.spec at-requires word-count-requires returns returns-2)
+said-count-spec = tie.close (tie.spec (λ c κs. search needs) (λ c κs. search needs) returns returns-2)

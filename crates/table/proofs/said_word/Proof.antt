@@ -1,12 +1,8 @@
 -- `table::said_word` meets its contract: a word that the line says, or one after them. Assumes nothing.
 use mathlib.Core.Path.{_∙_}
 use borrow.Author.Needs.{needs}
-use Rattle.table.proofs.MarkedLaws.{word-said, word-after}
-use Rattle.table.proofs.said_word.Statement.{statement}
+use Rattle.table.proofs.{MarkedLaws.{word-said, word-after}, said_word.Statement.{statement}}
 use Rattle.table.proofs.said_word.Tie as tie
-
-word-requires : tie.Need-word-requires
-word-requires c κs = search needs
 
 returns : tie.Need-returns
 returns c =
@@ -19,4 +15,4 @@ returns-2 c =
     word-after (a .said .now) (a .n) (a .rest) (a .i) (c .if1 .left)
 
 pub said-word-spec : {M : Type 1} → statement M
-said-word-spec = tie.close (tie.spec word-requires returns returns-2)
+said-word-spec = tie.close (tie.spec (λ c κs. search needs) returns returns-2)

@@ -1,58 +1,14 @@
 -- `table::word` meets its contract: the word of each mark. Assumes nothing.
-use mathlib.Core.Path.{_∙_}
-use mathlib.Core.Logic.{inl, inr}
+use mathlib.Core.{Path.{_∙_}, Logic.{inl, inr}}
 use native.Mathlib.Omega.{arith}
 use borrow.Author.Needs.{needs}
 use Rattle.molang.specs.Lines.{messageMark, listMark, zerosMark, repeatedMark}
 use Rattle.table.specs.Marked.{besideMark, wordsBy, operatorWord, writtenWord}
-use Rattle.table.proofs.MarkedLaws.{Apart, has-mark, by-mark, node-mark, other-mark}
-use Rattle.table.proofs.word.Statement.{statement}
+use Rattle.table.proofs.{MarkedLaws.{Apart, has-mark, by-mark, node-mark, other-mark}, word.Statement.{statement}}
 use Rattle.table.proofs.word.Tie as tie
-
-at-requires : tie.Need-at-requires
-at-requires c κs = search needs
-
-add-at : tie.Need-add-at
-add-at c = omega arith
-
-at-requires-2 : tie.Need-at-requires-2
-at-requires-2 c κs = search needs
-
-node-word-requires : tie.Need-node-word-requires
-node-word-requires c κs = omega arith
 
 record-word-requires : tie.Need-record-word-requires
 record-word-requires c κs = has-mark (c .before .before .before .args .marked .now) _ (c .before .at .ensures) (omega arith)
-
-add-at-2 : tie.Need-add-at-2
-add-at-2 c = omega arith
-
-at-requires-3 : tie.Need-at-requires-3
-at-requires-3 c κs = search needs
-
-token-word-requires : tie.Need-token-word-requires
-token-word-requires c κs = omega arith
-
-at-requires-4 : tie.Need-at-requires-4
-at-requires-4 c κs = search needs
-
-token-word-requires-2 : tie.Need-token-word-requires-2
-token-word-requires-2 c κs = omega arith
-
-cast-start : tie.Need-cast-start
-cast-start c = omega arith
-
-add-at-3 : tie.Need-add-at-3
-add-at-3 c = omega arith
-
-at-requires-5 : tie.Need-at-requires-5
-at-requires-5 c κs = search needs
-
-add-token-word : tie.Need-add-token-word
-add-token-word c = omega arith
-
-token-word-requires-3 : tie.Need-token-word-requires-3
-token-word-requires-3 c κs = omega arith
 
 returns : tie.Need-returns
 returns c =
@@ -105,25 +61,7 @@ returns-6 c =
 pub word-spec : {M : Type 1} → statement M
 word-spec =
     tie.close
-    (tie.spec
-    at-requires
-    add-at
-    at-requires-2
-    node-word-requires
-    record-word-requires
-    add-at-2
-    at-requires-3
-    token-word-requires
-    at-requires-4
-    token-word-requires-2
-    cast-start
-    add-at-3
-    at-requires-5
-    add-token-word
-    token-word-requires-3
-    returns
-    returns-2
-    returns-3
-    returns-4
-    returns-5
+    (tie.spec (λ c κs. search needs) (λ c. omega arith) (λ c κs. search needs) (λ c κs. omega arith) record-word-requires
+    (λ c. omega arith) (λ c κs. search needs) (λ c κs. omega arith) (λ c κs. search needs) (λ c κs. omega arith) (λ c. omega arith)
+    (λ c. omega arith) (λ c κs. search needs) (λ c. omega arith) (λ c κs. omega arith) returns returns-2 returns-3 returns-4 returns-5
     returns-6)

@@ -1,38 +1,12 @@
 -- `table::word_count` meets its contract: the count of each mark. Assumes nothing.
 use Prim.Native.Nat.{ℕ, _*_}
-use mathlib.Core.Path.{ap, _∙_}
-use mathlib.Core.Logic.{inl, inr}
+use mathlib.Core.{Path.{ap, _∙_}, Logic.{inl, inr}}
 use native.Mathlib.Omega.{arith}
 use borrow.Author.Needs.{needs}
 use Rattle.molang.specs.Lines.{zerosMark, repeatedMark, messageMark, refusedMark}
 use Rattle.table.specs.Marked.{besideMark, countsBy}
-use Rattle.table.proofs.MarkedLaws.{Apart, count-mark, count-nodes, count-other}
-use Rattle.table.proofs.word_count.Statement.{statement}
+use Rattle.table.proofs.{MarkedLaws.{Apart, count-mark, count-nodes, count-other}, word_count.Statement.{statement}}
 use Rattle.table.proofs.word_count.Tie as tie
-
-at-requires : tie.Need-at-requires
-at-requires c κs = search needs
-
-wide-requires : tie.Need-wide-requires
-wide-requires c κs = search needs
-
-items-requires : tie.Need-items-requires
-items-requires c κs = search needs
-
-at-requires-2 : tie.Need-at-requires-2
-at-requires-2 c κs = search needs
-
-mul-result : tie.Need-mul-result
-mul-result c = omega arith
-
-mul-result-2 : tie.Need-mul-result-2
-mul-result-2 c = omega arith
-
-mul-result-3 : tie.Need-mul-result-3
-mul-result-3 c = omega arith
-
-mul-result-4 : tie.Need-mul-result-4
-mul-result-4 c = omega arith
 
 returns : tie.Need-returns
 unfolding besideMark countsBy
@@ -82,18 +56,5 @@ returns-6 c =
 pub word-count-spec : {M : Type 1} → statement M
 word-count-spec =
     tie.close
-    (tie.spec
-    at-requires
-    wide-requires
-    items-requires
-    at-requires-2
-    mul-result
-    mul-result-2
-    mul-result-3
-    mul-result-4
-    returns
-    returns-2
-    returns-3
-    returns-4
-    returns-5
-    returns-6)
+    (tie.spec (λ c κs. search needs) (λ c κs. search needs) (λ c κs. search needs) (λ c κs. search needs) (λ c. omega arith)
+    (λ c. omega arith) (λ c. omega arith) (λ c. omega arith) returns returns-2 returns-3 returns-4 returns-5 returns-6)

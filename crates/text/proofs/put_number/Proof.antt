@@ -2,23 +2,13 @@
 use native.Mathlib.Omega.{arith}
 use borrow.Author.Needs.{needs}
 use Rattle.text.specs.Text.{numbered}
-use Rattle.text.proofs.TextLaws.{decimal-length, wrote-then}
-use Rattle.text.proofs.put_number.Statement.{statement}
+use Rattle.text.proofs.{TextLaws.{decimal-length, wrote-then}, put_number.Statement.{statement}}
 use Rattle.text.proofs.put_number.Tie as tie
-
-put-decimal-requires : tie.Need-put-decimal-requires
-put-decimal-requires c κs = search needs
-
-slice-aggregate-put-bytes : tie.Need-slice-aggregate-put-bytes
-slice-aggregate-put-bytes c = search needs
 
 put-bytes-requires : tie.Need-put-bytes-requires
 put-bytes-requires c κs =
     let w = c .before .before .before .before .put-decimal .ensures in
     omega (arith, w .ends, decimal-length (c .before .before .before .before .before .before .before .args .n))
-
-same-length : tie.Need-same-length
-same-length c = search needs
 
 returns : tie.Need-returns
 unfolding numbered
@@ -27,11 +17,4 @@ returns c =
     (c .before .before .put-bytes .ensures)
 
 pub put-number-spec : {M : Type 1} → statement M
-put-number-spec =
-    tie.close
-    (tie.spec
-    put-decimal-requires
-    slice-aggregate-put-bytes
-    put-bytes-requires
-    same-length
-    returns)
+put-number-spec = tie.close (tie.spec (λ c κs. search needs) (λ c. search needs) put-bytes-requires (λ c. search needs) returns)

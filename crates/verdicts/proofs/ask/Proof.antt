@@ -2,33 +2,8 @@
 use native.Mathlib.Omega.{arith}
 use borrow.Author.Needs.{needs}
 use Rattle.verdicts.specs.Verdicts.{askedVerdict}
-use Rattle.verdicts.proofs.VerdictLaws.{asked-words}
-use Rattle.verdicts.proofs.ask.Statement.{statement}
+use Rattle.verdicts.proofs.{VerdictLaws.{asked-words}, ask.Statement.{statement}}
 use Rattle.verdicts.proofs.ask.Tie as tie
-
-fresh-list-requires : tie.Need-fresh-list-requires
-fresh-list-requires c κs = search needs
-
-slice-aggregate-lay : tie.Need-slice-aggregate-lay
-slice-aggregate-lay c = search needs
-
-lay-requires : tie.Need-lay-requires
-lay-requires c κs = search needs
-
-sub-call : tie.Need-sub-call
-sub-call c = search needs
-
-part-call-start : tie.Need-part-call-start
-part-call-start c = search needs
-
-part-call-end : tie.Need-part-call-end
-part-call-end c = search needs
-
-at-requires : tie.Need-at-requires
-at-requires c κs = search needs
-
-call-requires : tie.Need-call-requires
-call-requires c κs = search needs
 
 returns : tie.Need-returns
 unfolding askedVerdict
@@ -43,13 +18,5 @@ returns c =
 pub ask-spec : {M : Type 1} → statement M
 ask-spec =
     tie.close
-    (tie.spec
-    fresh-list-requires
-    slice-aggregate-lay
-    lay-requires
-    sub-call
-    part-call-start
-    part-call-end
-    at-requires
-    call-requires
-    returns)
+    (tie.spec (λ c κs. search needs) (λ c. search needs) (λ c κs. search needs) (λ c. search needs) (λ c. search needs) (λ c. search needs)
+    (λ c κs. search needs) (λ c κs. search needs) returns)

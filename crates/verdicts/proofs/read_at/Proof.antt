@@ -3,12 +3,10 @@ use Prim.Native.Nat.{_+_, _-_}
 use mathlib.Core.Path.{_≡_, refl, sym, _∙_}
 use native.Mathlib.Omega.{arith}
 use borrow.Author.Needs.{needs}
-use mir.Syntax.{w16}
-use mir.Facts.{toZ-ofZ}
+use mir.{Syntax.{w16}, Facts.{toZ-ofZ}}
 use Rattle.molang.specs.Lines.{versionOf}
 use Rattle.verdicts.specs.Verdicts.{verdictOf, readVerdict, listCall, fromVersion, atVersions}
-use Rattle.verdicts.proofs.VerdictLaws.{found-same, found-other, none-left}
-use Rattle.verdicts.proofs.read_at.Statement.{statement}
+use Rattle.verdicts.proofs.{VerdictLaws.{found-same, found-other, none-left}, read_at.Statement.{statement}}
 use Rattle.verdicts.proofs.read_at.Tie as tie
 
 abbrev Inv-loop : tie.InvT-loop
@@ -31,28 +29,10 @@ turned c =
     let version = c .before .version-of in
     rw (toZ-ofZ {w = w16} {z = version .result} (record { sfits = version .ok }), version .ensures) at (c .read .ensures)
 
-limit-of-requires : tie.Need-limit-of-requires Inv-loop μ-loop
-limit-of-requires c κs = search needs
-
-last-version-requires : tie.Need-last-version-requires Inv-loop μ-loop
-last-version-requires c κs = search needs
-
-first-version-requires : tie.Need-first-version-requires Inv-loop μ-loop
-first-version-requires c κs = search needs
-
 loop-holds : tie.Need-loop-holds Inv-loop μ-loop
 unfolding atVersions
 loop-holds c =
     rw (c .first-version .ensures, c .before .last-version .ensures .0, c .before .before .limit-of .ensures) refl
-
-version-of-requires : tie.Need-version-of-requires Inv-loop μ-loop
-version-of-requires c κs = omega arith
-
-read-requires : tie.Need-read-requires Inv-loop μ-loop
-read-requires c κs = omega arith
-
-enum-told : tie.Need-enum-told Inv-loop μ-loop
-enum-told c = search needs
 
 returns : tie.Need-returns Inv-loop μ-loop
 returns c =
@@ -61,12 +41,6 @@ returns c =
     let a = at .before .before .before .before .before .before .args in
     found-other (a .list .now) _ (a .said .now) (at .loop .bits) _ (omega arith) (read .read .result) (turned read) (c .match .keys2)
     ∙ at .loop .inv
-
-add-bits : tie.Need-add-bits Inv-loop μ-loop
-add-bits c = omega arith
-
-loop-less : tie.Need-loop-less Inv-loop μ-loop
-loop-less c = omega arith
 
 loop-again : tie.Need-loop-again Inv-loop μ-loop
 loop-again c =
@@ -86,18 +60,5 @@ returns-2 c =
 pub read-at-spec : {M : Type 1} → statement M
 read-at-spec =
     tie.close
-    (tie.spec
-    Inv-loop
-    μ-loop
-    limit-of-requires
-    last-version-requires
-    first-version-requires
-    loop-holds
-    version-of-requires
-    read-requires
-    enum-told
-    returns
-    add-bits
-    loop-less
-    loop-again
-    returns-2)
+    (tie.spec Inv-loop μ-loop (λ c κs. search needs) (λ c κs. search needs) (λ c κs. search needs) loop-holds (λ c κs. omega arith)
+    (λ c κs. omega arith) (λ c. search needs) returns (λ c. omega arith) (λ c. omega arith) loop-again returns-2)

@@ -4,27 +4,8 @@ use mathlib.Core.Path.{_∙_}
 use native.Mathlib.Omega.{arith}
 use borrow.Author.Needs.{needs}
 use lib.ListN.{length}
-use Rattle.verdicts.proofs.VerdictLaws.{part, write-fresh}
-use Rattle.verdicts.proofs.write_tree.Statement.{statement}
+use Rattle.verdicts.proofs.{VerdictLaws.{part, write-fresh}, write_tree.Statement.{statement}}
 use Rattle.verdicts.proofs.write_tree.Tie as tie
-
-fresh-tree-requires : tie.Need-fresh-tree-requires
-fresh-tree-requires c κs = search needs
-
-mul-room : tie.Need-mul-room
-mul-room c = search needs
-
-sub-write-with : tie.Need-sub-write-with
-sub-write-with c = search needs
-
-part-list-start : tie.Need-part-list-start
-part-list-start c = search needs
-
-part-list-end : tie.Need-part-list-end
-part-list-end c = search needs
-
-write-with-requires : tie.Need-write-with-requires
-write-with-requires c κs = search needs
 
 returns : tie.Need-returns
 returns c =
@@ -37,11 +18,5 @@ returns c =
 pub write-tree-spec : {M : Type 1} → statement M
 write-tree-spec =
     tie.close
-    (tie.spec
-    fresh-tree-requires
-    mul-room
-    sub-write-with
-    part-list-start
-    part-list-end
-    write-with-requires
+    (tie.spec (λ c κs. search needs) (λ c. search needs) (λ c. search needs) (λ c. search needs) (λ c. search needs) (λ c κs. search needs)
     returns)

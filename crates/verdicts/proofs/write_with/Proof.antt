@@ -1,24 +1,8 @@
 -- `verdicts::write_with` meets its contract: what the writing told and left is the definition's. Assumes nothing.
 use mathlib.Core.Path.{_∙_}
 use borrow.Author.Needs.{needs}
-use Rattle.verdicts.proofs.VerdictLaws.{write-judged}
-use Rattle.verdicts.proofs.write_with.Statement.{statement}
+use Rattle.verdicts.proofs.{VerdictLaws.{write-judged}, write_with.Statement.{statement}}
 use Rattle.verdicts.proofs.write_with.Tie as tie
-
-write-requires : tie.Need-write-requires
-write-requires c κs = search needs
-
-is-written-requires : tie.Need-is-written-requires
-is-written-requires c κs = search needs
-
-holds-requires : tie.Need-holds-requires
-holds-requires c κs = search needs
-
-compared-requires : tie.Need-compared-requires
-compared-requires c κs = search needs
-
-same-length : tie.Need-same-length
-same-length c = search needs
 
 returns : tie.Need-returns
 returns c =
@@ -31,4 +15,4 @@ returns c =
 pub write-with-spec : {M : Type 1} → statement M
 write-with-spec =
     tie.close
-    (tie.spec write-requires is-written-requires holds-requires compared-requires same-length returns)
+    (tie.spec (λ c κs. search needs) (λ c κs. search needs) (λ c κs. search needs) (λ c κs. search needs) (λ c. search needs) returns)

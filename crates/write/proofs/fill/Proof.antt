@@ -2,15 +2,12 @@
 use mathlib.Core.Path.{sym, _∙_}
 use native.Mathlib.Omega.{arith}
 use Rattle.write.proofs.EntryLaws.{root-long, too-many, too-short, script-room, script-filled, expression-room, expression-filled}
-use borrow.Author.Needs.{needs}
 use Rattle.write.proofs.fill.Statement.{statement}
+use borrow.Author.Needs.{needs}
 use Rattle.write.proofs.fill.Tie as tie
 
 returns : tie.Need-returns
 returns c = too-many (c .before .before .before .pre) (c .before .before .before .args .list .now) (c .if1 .taken)
-
-mul-if2 : tie.Need-mul-if2
-mul-if2 c = search needs
 
 returns-2 : tie.Need-returns-2
 returns-2 c =
@@ -22,9 +19,6 @@ shared-slice-read-operator c =
     let start = c .before .before .before .before .before in
     omega (arith, root-long (start .pre) (start .args .list .now))
 
-operator-requires : tie.Need-operator-requires
-operator-requires c κs = search needs
-
 write-statements-requires : tie.Need-write-statements-requires
 write-statements-requires c κs =
     let read = c .before .before in
@@ -32,9 +26,6 @@ write-statements-requires c κs =
     let start = fits .before .before .before .before in
     script-room (start .pre) (start .args .list .now) (fits .before .if1 .left) (fits .if2 .left)
     (sym (read .operator .ensures) ∙ c .before .if3 .taken)
-
-same-length : tie.Need-same-length
-same-length c = search needs
 
 returns-3 : tie.Need-returns-3
 returns-3 c =
@@ -55,9 +46,6 @@ write-node-requires c κs =
     expression-room (start .pre) (start .args .list .now) (fits .before .if1 .left) (fits .if2 .left)
     (λ e. other .if3 .left (read .operator .ensures ∙ e))
 
-same-length-2 : tie.Need-same-length-2
-same-length-2 c = search needs
-
 returns-4 : tie.Need-returns-4
 returns-4 c =
     let node = c .before .before in
@@ -71,15 +59,5 @@ returns-4 c =
 pub fill-spec : {M : Type 1} → statement M
 fill-spec =
     tie.close
-    (tie.spec
-    returns
-    mul-if2
-    returns-2
-    shared-slice-read-operator
-    operator-requires
-    write-statements-requires
-    same-length
-    returns-3
-    write-node-requires
-    same-length-2
-    returns-4)
+    (tie.spec returns (λ c. search needs) returns-2 shared-slice-read-operator (λ c κs. search needs) write-statements-requires
+    (λ c. search needs) returns-3 write-node-requires (λ c. search needs) returns-4)

@@ -1,16 +1,12 @@
 -- `write::write` meets its contract: answer 12, answer 13, or what filling the list answers; each is the first that holds in the
 -- table's order. Assumes nothing.
-use mathlib.Core.Path.{_≡_, sym, ap, _∙_}
-use mathlib.Core.Option.{none}
-use Rattle.molang.specs.Words.{operatorField}
-use Rattle.molang.specs.WriteEntry.{treeFault}
+use mathlib.Core.{Path.{_≡_, sym, ap, _∙_}, Option.{none}}
+use Rattle.molang.specs.{Words.{operatorField}, WriteEntry.{treeFault}}
 use Rattle.write.specs.Answers.{verdictOf}
-use Rattle.shape.specs.Answers.{refusalOf, shape}
-use Rattle.shape.specs.Shaped.{OneTree}
-use Rattle.shape.proofs.ShapeLaws.{one-tree}
+use Rattle.shape.{specs.Answers.{refusalOf, shape}, specs.Shaped.{OneTree}, proofs.ShapeLaws.{one-tree}}
 use Rattle.write.proofs.EntryLaws.{fault-answer, no-fault, tree-answer, unplain-answer, plain-writable}
-use borrow.Author.Needs.{needs}
 use Rattle.write.proofs.write.Statement.{statement}
+use borrow.Author.Needs.{needs}
 use Rattle.write.proofs.write.Tie as tie
 
 -- No fault was found, so the words are one tree.
@@ -23,29 +19,11 @@ whole c =
 one : (c : tie.After-enum-told) → OneTree (c .before .before .before .before .before .args .tree .now)
 one c = one-tree (c .before .before .before .before .before .args .tree .now) (sym (whole c))
 
-first-fault-requires : tie.Need-first-fault-requires
-first-fault-requires c κs = search needs
-
-enum-known-found : tie.Need-enum-known-found
-enum-known-found c = search needs
-
 returns : tie.Need-returns
 returns c =
     let a = c .before .before .before .before .before .before .args in
     fault-answer (a .tree .now) (a .list .now) (c .before .found .given .0 .0)
     (ap refusalOf (sym (c .before .found .given .1)) ∙ c .before .before .before .first-fault .ensures)
-
-enum-told : tie.Need-enum-told
-enum-told c = search needs
-
-judge-requires : tie.Need-judge-requires
-judge-requires c κs = one c
-
-enum-known-judged : tie.Need-enum-known-judged
-enum-known-judged c = search needs
-
-enum-known-judged-2 : tie.Need-enum-known-judged-2
-enum-known-judged-2 c = search needs
 
 fill-requires : tie.Need-fill-requires
 fill-requires c κs =
@@ -61,9 +39,6 @@ returns-2 c =
     unplain-answer (w .before .before .before .before .before .args .list .now) (whole w) (one w) (judged .0 .0)
     (sym (ap verdictOf (judged .1)) ∙ c .before .before .before .judge .ensures)
 
-same-length : tie.Need-same-length
-same-length c = search needs
-
 returns-3 : tie.Need-returns-3
 returns-3 c =
     let w = c .before .before .before .before .before .before .before .before in
@@ -75,15 +50,5 @@ returns-3 c =
 pub write-spec : {M : Type 1} → statement M
 write-spec =
     tie.close
-    (tie.spec
-    first-fault-requires
-    enum-known-found
-    returns
-    enum-told
-    judge-requires
-    enum-known-judged
-    enum-known-judged-2
-    fill-requires
-    returns-2
-    same-length
-    returns-3)
+    (tie.spec (λ c κs. search needs) (λ c. search needs) returns (λ c. search needs) (λ c κs. one c) (λ c. search needs)
+    (λ c. search needs) fill-requires returns-2 (λ c. search needs) returns-3)

@@ -1,11 +1,9 @@
 -- `buffers::emit::clear` meets its contract.
 use Prim.Native.Nat.{ℕ, _-_, _≤_}
-use mathlib.Core.Path.{_≡_, refl, ap, _∙_}
-use mathlib.Core.List.{List, _++_, append-nil}
+use mathlib.Core.{Path.{_≡_, refl, ap, _∙_}, List.{List, _++_, append-nil}}
 use native.Mathlib.Omega.{arith}
 use borrow.Author.Fill.{fill-none, fill-more}
-use lib.ListN.{length, drop, set, replicate, length-set}
-use lib.Seq.{drop-length}
+use lib.{ListN.{length, drop, set, replicate, length-set}, Seq.{drop-length}}
 use Rattle.buffers.proofs.emit.clear.Statement.{statement}
 use Rattle.buffers.proofs.emit.clear.Tie as tie
 
@@ -15,30 +13,12 @@ Inv-loop work₀ i₀ work i = (work ≡ replicate i 0 ++ drop i work₀) × (i 
 abbrev μ-loop : tie.MeasureT-loop
 μ-loop work₀ i₀ work i = length work₀ - i
 
-loop-holds : tie.Need-loop-holds Inv-loop μ-loop
-loop-holds c = (fill-none (c .args .work .now) 0, omega arith, refl)
-
-mul-work : tie.Need-mul-work Inv-loop μ-loop
-mul-work c = omega arith
-
-slice-write-work : tie.Need-slice-write-work Inv-loop μ-loop
-slice-write-work c = omega arith
-
-add-i : tie.Need-add-i Inv-loop μ-loop
-add-i c = omega arith
-
-loop-less : tie.Need-loop-less Inv-loop μ-loop
-loop-less c = omega arith
-
 loop-again : tie.Need-loop-again Inv-loop μ-loop
 loop-again c =
     let v = c .before .loop .inv in
     let i = c .before .loop .i in
     let W = c .before .before .args .work .now in
     (ap (λ (l : List ℕ). set l i 0) (v .0) ∙ fill-more i 0 W (omega arith), omega arith, simp length-set (v .2))
-
-same-length : tie.Need-same-length Inv-loop μ-loop
-same-length c = c .before .loop .inv .2
 
 returns : tie.Need-returns Inv-loop μ-loop
 returns c =
@@ -51,14 +31,5 @@ returns c =
 pub clear-spec : {M : Type 1} → statement M
 clear-spec =
     tie.close
-    (tie.spec
-    Inv-loop
-    μ-loop
-    loop-holds
-    mul-work
-    slice-write-work
-    add-i
-    loop-less
-    loop-again
-    same-length
-    returns)
+    (tie.spec Inv-loop μ-loop (λ c. (fill-none (c .args .work .now) 0, omega arith, refl)) (λ c. omega arith) (λ c. omega arith)
+    (λ c. omega arith) (λ c. omega arith) loop-again (λ c. c .before .loop .inv .2) returns)

@@ -1,11 +1,9 @@
 -- `buffers::emit::copy_tree` meets its contract.
 use Prim.Native.Nat.{ℕ, _+_, _-_, _≤_}
-use mathlib.Core.Path.{_≡_, refl, ap, _∙_}
-use mathlib.Core.List.{List, _++_}
+use mathlib.Core.{Path.{_≡_, refl, ap, _∙_}, List.{List, _++_}}
 use native.Mathlib.Omega.{arith}
 use lib.ListN.{length, getD, take, drop, set, length-set}
-use Rattle.buffers.proofs.Copying.{copy-step, copy-done}
-use Rattle.buffers.proofs.emit.copy_tree.Statement.{statement}
+use Rattle.buffers.proofs.{Copying.{copy-step, copy-done}, emit.copy_tree.Statement.{statement}}
 use Rattle.buffers.proofs.emit.copy_tree.Tie as tie
 
 abbrev Inv-loop : tie.InvT-loop
@@ -13,30 +11,6 @@ Inv-loop work from tree₀ n i₀ tree i = (tree ≡ take i (drop from work) ++ 
 
 abbrev μ-loop : tie.MeasureT-loop
 μ-loop work from tree₀ n i₀ tree i = n - i
-
-loop-holds : tie.Need-loop-holds Inv-loop μ-loop
-loop-holds c = (refl, omega arith, refl)
-
-add-tree : tie.Need-add-tree Inv-loop μ-loop
-add-tree c = omega arith
-
-mul-tree : tie.Need-mul-tree Inv-loop μ-loop
-mul-tree c = omega arith
-
-shared-slice-read-tree : tie.Need-shared-slice-read-tree Inv-loop μ-loop
-shared-slice-read-tree c = omega arith
-
-mul-tree-2 : tie.Need-mul-tree-2 Inv-loop μ-loop
-mul-tree-2 c = omega arith
-
-slice-write-tree : tie.Need-slice-write-tree Inv-loop μ-loop
-slice-write-tree c = omega arith
-
-add-i : tie.Need-add-i Inv-loop μ-loop
-add-i c = omega arith
-
-loop-less : tie.Need-loop-less Inv-loop μ-loop
-loop-less c = omega arith
 
 loop-again : tie.Need-loop-again Inv-loop μ-loop
 loop-again c =
@@ -50,9 +24,6 @@ loop-again c =
       simp length-set (v .2),
     )
 
-same-length : tie.Need-same-length Inv-loop μ-loop
-same-length c = c .before .loop .inv .2
-
 returns : tie.Need-returns Inv-loop μ-loop
 returns c =
     let v = c .before .loop .inv in
@@ -63,17 +34,5 @@ returns c =
 pub copy-tree-spec : {M : Type 1} → statement M
 copy-tree-spec =
     tie.close
-    (tie.spec
-    Inv-loop
-    μ-loop
-    loop-holds
-    add-tree
-    mul-tree
-    shared-slice-read-tree
-    mul-tree-2
-    slice-write-tree
-    add-i
-    loop-less
-    loop-again
-    same-length
-    returns)
+    (tie.spec Inv-loop μ-loop (λ c. (refl, omega arith, refl)) (λ c. omega arith) (λ c. omega arith) (λ c. omega arith) (λ c. omega arith)
+    (λ c. omega arith) (λ c. omega arith) (λ c. omega arith) loop-again (λ c. c .before .loop .inv .2) returns)

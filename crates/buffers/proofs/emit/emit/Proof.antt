@@ -17,12 +17,6 @@ abbrev μ-loop : tie.MeasureT-loop
 loop-holds : tie.Need-loop-holds Inv-loop μ-loop
 loop-holds c = let a = c .before .args in (c .before .pre, emit-start (a .work .now) (a .first) (a .to) (a .stack) (c .before .pre))
 
-sub-fuel : tie.Need-sub-fuel Inv-loop μ-loop
-sub-fuel c = omega arith
-
-same-length : tie.Need-same-length Inv-loop μ-loop
-same-length c = c .before .before .loop .inv .1 .progress .long
-
 returns : tie.Need-returns Inv-loop μ-loop
 returns c =
     let a = c .before .before .before .before .args in
@@ -51,9 +45,6 @@ mul-emit-node c = let t = turn (c .before .before .before .before .before) in om
 
 add-emit-node : tie.Need-add-emit-node Inv-loop μ-loop
 add-emit-node c = let t = turn (c .before .before .before .before .before) in omega (arith, t .0 .node .room, t .1)
-
-emit-node-requires : tie.Need-emit-node-requires Inv-loop μ-loop
-emit-node-requires c κs = turn (c .before .before .before .before .before) .0 .node
 
 add-nodes : tie.Need-add-nodes Inv-loop μ-loop
 add-nodes c =
@@ -87,9 +78,6 @@ loop-again c =
       emit-step (a .work .now) (a .first) (a .to) (a .stack) (v .0) (v .1) (some .if1 .left) (written .emit-node .ensures) after,
     )
 
-same-length-2 : tie.Need-same-length-2 Inv-loop μ-loop
-same-length-2 c = c .before .loop .inv .1 .progress .long
-
 returns-2 : tie.Need-returns-2 Inv-loop μ-loop
 returns-2 c =
     let a = c .before .before .before .args in
@@ -99,21 +87,6 @@ returns-2 c =
 pub emit-spec : {M : Type 1} → statement M
 emit-spec =
     tie.close
-    (tie.spec
-    Inv-loop
-    μ-loop
-    loop-holds
-    sub-fuel
-    same-length
-    returns
-    first-of-requires
-    next-of-requires
-    mul-emit-node
-    add-emit-node
-    emit-node-requires
-    add-nodes
-    node-after-requires
-    loop-less
-    loop-again
-    same-length-2
-    returns-2)
+    (tie.spec Inv-loop μ-loop loop-holds (λ c. omega arith) (λ c. c .before .before .loop .inv .1 .progress .long) returns
+    first-of-requires next-of-requires mul-emit-node add-emit-node (λ c κs. turn (c .before .before .before .before .before) .0 .node)
+    add-nodes node-after-requires loop-less loop-again (λ c. c .before .loop .inv .1 .progress .long) returns-2)

@@ -2,8 +2,7 @@
 use Prim.Native.Nat.{_-_}
 use native.Mathlib.Omega.{arith}
 use borrow.Author.Needs.{needs}
-use Rattle.buffers.proofs.Loading.{LoadAt, load-start, load-in, load-step, load-done}
-use Rattle.buffers.proofs.load.load.Statement.{statement}
+use Rattle.buffers.proofs.{Loading.{LoadAt, load-start, load-in, load-step, load-done}, load.load.Statement.{statement}}
 use Rattle.buffers.proofs.load.load.Tie as tie
 
 abbrev Inv-loop : tie.InvT-loop
@@ -11,12 +10,6 @@ Inv-loop list work₀ n table stack i₀ work i = LoadAt list work₀ n work i
 
 abbrev μ-loop : tie.MeasureT-loop
 μ-loop list work₀ n table stack i₀ work i = n - i
-
-class-table-requires : tie.Need-class-table-requires Inv-loop μ-loop
-class-table-requires c κs = search needs
-
-stack-of-requires : tie.Need-stack-of-requires Inv-loop μ-loop
-stack-of-requires c κs = search needs
 
 loop-holds : tie.Need-loop-holds Inv-loop μ-loop
 loop-holds c = let a = c .before .before .before .before .args in load-start (a .list .now) (a .work .now) (a .n)
@@ -29,9 +22,6 @@ load-token-requires c κs =
     (load-in (e .before .before .before .before .pre) (at .loop .inv) (c .before .before .loop-test .taken)
     (e .before .class-table .ensures))
 
-add-i : tie.Need-add-i Inv-loop μ-loop
-add-i c = omega arith
-
 loop-less : tie.Need-loop-less Inv-loop μ-loop
 loop-less c = let h = c .before .before .before .before .before .loop-test .taken in omega arith
 
@@ -41,24 +31,11 @@ loop-again c =
     load-step (e .before .loop .inv) (e .loop-test .taken)
     (rw (e .before .before .stack-of .ensures) at (c .before .before .load-token .ensures))
 
-same-length : tie.Need-same-length Inv-loop μ-loop
-same-length c = c .before .loop .inv .long
-
 returns : tie.Need-returns Inv-loop μ-loop
 returns c = load-done (c .before .before .before .before .before .before .pre) (c .before .loop .inv) (c .loop-test .left)
 
 pub load-spec : {M : Type 1} → statement M
 load-spec =
     tie.close
-    (tie.spec
-    Inv-loop
-    μ-loop
-    class-table-requires
-    stack-of-requires
-    loop-holds
-    load-token-requires
-    add-i
-    loop-less
-    loop-again
-    same-length
-    returns)
+    (tie.spec Inv-loop μ-loop (λ c κs. search needs) (λ c κs. search needs) loop-holds load-token-requires (λ c. omega arith) loop-less
+    loop-again (λ c. c .before .loop .inv .long) returns)

@@ -3,11 +3,9 @@ use Prim.Native.Nat.{_-_, _/_, _≤_}
 use mathlib.Core.Path.{_≡_, refl, sym, _∙_}
 use native.Mathlib.Omega.{arith}
 use lib.ListN.{length, drop}
-use Rattle.listing.specs.Lists.{wordsIn}
-use Rattle.listing.proofs.ByteLaws.{words-at}
+use Rattle.listing.{specs.Lists.{wordsIn}, proofs.ByteLaws.{words-at}}
 use Rattle.everylist.specs.EveryList.{allNumbers}
-use Rattle.everylist.proofs.PartLaws.{words-count}
-use Rattle.everylist.proofs.NumberLaws.{number-on, number-off, numbers-all}
+use Rattle.everylist.proofs.{PartLaws.{words-count}, NumberLaws.{number-on, number-off, numbers-all}}
 use Rattle.everylist.proofs.kept.fine_words.Statement.{statement}
 use Rattle.everylist.proofs.kept.fine_words.Tie as tie
 
@@ -17,36 +15,6 @@ Inv-loop chunk n i₀ i = (i ≤ n) × (n ≡ length chunk / 4) × (allNumbers (
 abbrev μ-loop : tie.MeasureT-loop
 μ-loop chunk n i₀ i = n - i
 
-loop-holds : tie.Need-loop-holds Inv-loop μ-loop
-loop-holds c = (omega arith, refl, refl)
-
-mul-at : tie.Need-mul-at Inv-loop μ-loop
-mul-at c = omega arith
-
-shared-slice-read-word-of : tie.Need-shared-slice-read-word-of Inv-loop μ-loop
-shared-slice-read-word-of c = omega arith
-
-add-word-of : tie.Need-add-word-of Inv-loop μ-loop
-add-word-of c = omega arith
-
-shared-slice-read-word-of-2 : tie.Need-shared-slice-read-word-of-2 Inv-loop μ-loop
-shared-slice-read-word-of-2 c = omega arith
-
-add-word-of-2 : tie.Need-add-word-of-2 Inv-loop μ-loop
-add-word-of-2 c = omega arith
-
-shared-slice-read-word-of-3 : tie.Need-shared-slice-read-word-of-3 Inv-loop μ-loop
-shared-slice-read-word-of-3 c = omega arith
-
-add-word-of-3 : tie.Need-add-word-of-3 Inv-loop μ-loop
-add-word-of-3 c = omega arith
-
-shared-slice-read-word-of-4 : tie.Need-shared-slice-read-word-of-4 Inv-loop μ-loop
-shared-slice-read-word-of-4 c = omega arith
-
-word-of-requires : tie.Need-word-of-requires Inv-loop μ-loop
-word-of-requires c κs = tt
-
 returns : tie.Need-returns Inv-loop μ-loop
 returns c =
     let at = c .before .before .before .before .before .before .before in
@@ -54,12 +22,6 @@ returns c =
     let word = c .before .word-of in
     number-off (wordsIn chunk) (at .loop .i) (at .loop .inv .2) (word .result)
     (word .ensures ∙ sym (words-at (at .loop .i) chunk (omega arith))) (omega (arith, words-count chunk)) (omega arith)
-
-add-i : tie.Need-add-i Inv-loop μ-loop
-add-i c = omega arith
-
-loop-less : tie.Need-loop-less Inv-loop μ-loop
-loop-less c = omega arith
 
 loop-again : tie.Need-loop-again Inv-loop μ-loop
 loop-again c =
@@ -81,21 +43,6 @@ returns-2 c =
 pub fine-words-spec : {M : Type 1} → statement M
 fine-words-spec =
     tie.close
-    (tie.spec
-    Inv-loop
-    μ-loop
-    loop-holds
-    mul-at
-    shared-slice-read-word-of
-    add-word-of
-    shared-slice-read-word-of-2
-    add-word-of-2
-    shared-slice-read-word-of-3
-    add-word-of-3
-    shared-slice-read-word-of-4
-    word-of-requires
-    returns
-    add-i
-    loop-less
-    loop-again
-    returns-2)
+    (tie.spec Inv-loop μ-loop (λ c. (omega arith, refl, refl)) (λ c. omega arith) (λ c. omega arith) (λ c. omega arith) (λ c. omega arith)
+    (λ c. omega arith) (λ c. omega arith) (λ c. omega arith) (λ c. omega arith) (λ c κs. tt) returns (λ c. omega arith) (λ c. omega arith)
+    loop-again returns-2)

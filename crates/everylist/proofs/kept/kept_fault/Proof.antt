@@ -1,18 +1,13 @@
 -- `everylist::kept::kept_fault` meets its contract: the tests in the definition's order. Assumes nothing.
 use Prim.Native.Nat.{_-_, _/_}
-use mathlib.Core.Path.{_≡_, ap, sym, _∙_}
-use mathlib.Core.Option.{Option, none, some}
+use mathlib.Core.{Path.{_≡_, ap, sym, _∙_}, Option.{Option, none, some}}
 use native.Mathlib.Omega.{arith}
 use lib.ListN.{take, drop, length-take}
-use borrow.Author.Tests.{not-true, not-false}
+use borrow.Author.{Tests.{not-true, not-false}, Needs.{needs}}
 use Rattle.molang.specs.Words.{Refusal, row}
-use Rattle.shortlists.specs.ShortLists.{countRefusal}
-use Rattle.shortlists.specs.Answers.{countedOf}
-use Rattle.shortlists.proofs.EntryLaws.{counts-told}
-use Rattle.everylist.specs.EveryList.{allNumbers}
-use Rattle.everylist.specs.Steps.{kept, keptFault}
+use Rattle.shortlists.{specs.ShortLists.{countRefusal}, specs.Answers.{countedOf}, proofs.EntryLaws.{counts-told}}
+use Rattle.everylist.specs.{EveryList.{allNumbers}, Steps.{kept, keptFault}}
 use Rattle.everylist.proofs.KeptLaws.{front-same, letters-same, not-whole, too-short, no-number, not-fine, counted-so, count-refused}
-use borrow.Author.Needs.{needs}
 use Rattle.everylist.proofs.kept.kept_fault.Statement.{statement}
 use Rattle.everylist.proofs.kept.kept_fault.Tie as tie
 
@@ -24,17 +19,11 @@ returns-2 : tie.Need-returns-2
 returns-2 c =
     let a = c .before .before .before .args in too-short (a .bytes) (a .words .now) (a .fine) (c .before .if1 .left) (omega arith)
 
-kept-count-requires : tie.Need-kept-count-requires
-kept-count-requires c κs = search needs
-
 slice-aggregate-all-numbers : tie.Need-slice-aggregate-all-numbers
 slice-aggregate-all-numbers c =
     let counted = c .before in
     let words = counted .before .before .before .before .args .words .now in
     omega (arith, length-take (counted .kept-count .result) words, counted .kept-count .ensures)
-
-all-numbers-requires : tie.Need-all-numbers-requires
-all-numbers-requires c κs = search needs
 
 -- The function's start, from where the words were looked at.
 abbrev start : tie.After-all-numbers → tie.Start
@@ -60,30 +49,6 @@ returns-4 c =
     let a = start (c .before .before) .args in
     not-fine (a .bytes) (a .words .now) (a .fine) (tested .before .if1 .left) (omega arith)
     (sym (looked (c .before .before)) ∙ not-false _ (c .before .if3 .left)) (not-true _ (c .if4 .taken))
-
-shared-slice-read-wide : tie.Need-shared-slice-read-wide
-shared-slice-read-wide c = search needs
-
-wide-requires : tie.Need-wide-requires
-wide-requires c κs = search needs
-
-sub-count : tie.Need-sub-count
-sub-count c = search needs
-
-part-count-start : tie.Need-part-count-start
-part-count-start c = search needs
-
-part-count-end : tie.Need-part-count-end
-part-count-end c = search needs
-
-count-requires : tie.Need-count-requires
-count-requires c κs = search needs
-
-enum-known-counted : tie.Need-enum-known-counted
-enum-known-counted c = search needs
-
-enum-told : tie.Need-enum-told
-enum-told c = search needs
 
 -- The place where the words were looked at, from the answer of `count`.
 abbrev seen : tie.After-count → tie.After-all-numbers
@@ -120,21 +85,6 @@ returns-6 c =
 pub kept-fault-spec : {M : Type 1} → statement M
 kept-fault-spec =
     tie.close
-    (tie.spec
-    returns
-    returns-2
-    kept-count-requires
-    slice-aggregate-all-numbers
-    all-numbers-requires
-    returns-3
-    returns-4
-    shared-slice-read-wide
-    wide-requires
-    sub-count
-    part-count-start
-    part-count-end
-    count-requires
-    enum-known-counted
-    enum-told
-    returns-5
-    returns-6)
+    (tie.spec returns returns-2 (λ c κs. search needs) slice-aggregate-all-numbers (λ c κs. search needs) returns-3 returns-4
+    (λ c. search needs) (λ c κs. search needs) (λ c. search needs) (λ c. search needs) (λ c. search needs) (λ c κs. search needs)
+    (λ c. search needs) (λ c. search needs) returns-5 returns-6)

@@ -4,12 +4,9 @@ use mathlib.Core.Path.{_≡_, refl, _∙_}
 use native.Mathlib.Omega.{arith}
 use lib.ListN.{length}
 use borrow.Author.Needs.{needs}
-use Rattle.text.specs.Text.{Wrote}
-use Rattle.text.proofs.TextLaws.{wrote-none}
-use Rattle.everylist.specs.EveryList.{spacedOut}
-use Rattle.everylist.specs.Steps.{lettersIn}
-use Rattle.everylist.proofs.HeadLaws.{letters-room, letters-on, head-done}
-use Rattle.everylist.proofs.step.put_head.Statement.{statement}
+use Rattle.text.{specs.Text.{Wrote}, proofs.TextLaws.{wrote-none}}
+use Rattle.everylist.specs.{EveryList.{spacedOut}, Steps.{lettersIn}}
+use Rattle.everylist.proofs.{HeadLaws.{letters-room, letters-on, head-done}, step.put_head.Statement.{statement}}
 use Rattle.everylist.proofs.step.put_head.Tie as tie
 
 abbrev Inv-loop : tie.InvT-loop
@@ -19,43 +16,12 @@ Inv-loop out₀ list tokens end₀ i₀ t8 out end i =
 abbrev μ-loop : tie.MeasureT-loop
 μ-loop out₀ list tokens end₀ i₀ t8 out end i = tokens - i
 
-slice-aggregate-put-bytes : tie.Need-slice-aggregate-put-bytes Inv-loop μ-loop
-slice-aggregate-put-bytes c = search needs
-
-put-bytes-requires : tie.Need-put-bytes-requires Inv-loop μ-loop
-put-bytes-requires c κs = search needs
-
-loop-holds : tie.Need-loop-holds Inv-loop μ-loop
-unfolding lettersIn spacedOut
-loop-holds c = (omega arith, refl, wrote-none _ _)
-
-mul-operator : tie.Need-mul-operator Inv-loop μ-loop
-mul-operator c = omega arith
-
-mul-operator-2 : tie.Need-mul-operator-2 Inv-loop μ-loop
-mul-operator-2 c = omega arith
-
-shared-slice-read-operator : tie.Need-shared-slice-read-operator Inv-loop μ-loop
-shared-slice-read-operator c = omega arith
-
-operator-requires : tie.Need-operator-requires Inv-loop μ-loop
-operator-requires c κs = search needs
-
-wide-requires : tie.Need-wide-requires Inv-loop μ-loop
-wide-requires c κs = search needs
-
 put-spaced-requires : tie.Need-put-spaced-requires Inv-loop μ-loop
 put-spaced-requires c κs =
     let at = c .before .before .before .before .before in
     let named = at .before .before .before in
     let list = named .before .before .before .before .before .args .list .now in
     omega (arith, at .loop .inv .2 .ends, named .put-bytes .ensures .ends, letters-room (at .loop .i) list)
-
-add-i : tie.Need-add-i Inv-loop μ-loop
-add-i c = omega arith
-
-loop-less : tie.Need-loop-less Inv-loop μ-loop
-loop-less c = omega arith
 
 loop-again : tie.Need-loop-again Inv-loop μ-loop
 loop-again c =
@@ -70,18 +36,12 @@ loop-again c =
       letters-on room list (at .loop .i) _ operator (at .loop .inv .2) (put .put-spaced .ensures),
     )
 
-slice-aggregate-put-bytes-2 : tie.Need-slice-aggregate-put-bytes-2 Inv-loop μ-loop
-slice-aggregate-put-bytes-2 c = search needs
-
 put-bytes-requires-2 : tie.Need-put-bytes-requires-2 Inv-loop μ-loop
 put-bytes-requires-2 c κs =
     let at = c .before .before .before in
     let named = at .before .before .before in
     let list = named .before .before .before .before .before .args .list .now in
     omega (arith, at .loop .inv .2 .ends, named .put-bytes .ensures .ends, letters-room (at .loop .i) list)
-
-same-length : tie.Need-same-length Inv-loop μ-loop
-same-length c = search needs
 
 returns : tie.Need-returns Inv-loop μ-loop
 returns c =
@@ -93,22 +53,7 @@ returns c =
 pub put-head-spec : {M : Type 1} → statement M
 put-head-spec =
     tie.close
-    (tie.spec
-    Inv-loop
-    μ-loop
-    slice-aggregate-put-bytes
-    put-bytes-requires
-    loop-holds
-    mul-operator
-    mul-operator-2
-    shared-slice-read-operator
-    operator-requires
-    wide-requires
-    put-spaced-requires
-    add-i
-    loop-less
-    loop-again
-    slice-aggregate-put-bytes-2
-    put-bytes-requires-2
-    same-length
-    returns)
+    (tie.spec Inv-loop μ-loop (λ c. search needs) (λ c κs. search needs)
+    (λ c. unfold lettersIn spacedOut in (omega arith, refl, wrote-none _ _)) (λ c. omega arith) (λ c. omega arith) (λ c. omega arith)
+    (λ c κs. search needs) (λ c κs. search needs) put-spaced-requires (λ c. omega arith) (λ c. omega arith) loop-again (λ c. search needs)
+    put-bytes-requires-2 (λ c. search needs) returns)

@@ -1,28 +1,14 @@
 -- `everylist::step::put_list` meets its contract: the text of the list at the position, or that there is none. Assumes nothing.
 use Prim.Native.Nat.{ℕ, _/_}
-use mathlib.Core.Path.{_≡_, refl, ap, sym, _∙_}
-use mathlib.Core.Bool.{true}
-use mathlib.Core.List.{List}
+use mathlib.Core.{Path.{_≡_, refl, ap, sym, _∙_}, Bool.{true}, List.{List}}
 use native.Mathlib.Omega.{arith}
 use lib.ListN.{take, drop, getD}
-use mir.Syntax.{w16}
-use mir.Val.{toZ, ofZ}
-use mir.Facts.{toZ-ofZ}
+use mir.{Syntax.{w16}, Val.{toZ, ofZ}, Facts.{toZ-ofZ}}
 use Rattle.shortlists.specs.Answers.{listedOf, listTold, wordsAt}
 use Rattle.everylist.proofs.KeptLaws.{Unturned, unturned, letters-same, version-bits}
-use Rattle.everylist.proofs.StepLaws.{stepped, none-there, few-tokens, text-there}
+use Rattle.everylist.proofs.{StepLaws.{stepped, none-there, few-tokens, text-there}, step.put_list.Statement.{statement}}
 use borrow.Author.Needs.{needs}
-use Rattle.everylist.proofs.step.put_list.Statement.{statement}
 use Rattle.everylist.proofs.step.put_list.Tie as tie
-
-kept-count-requires : tie.Need-kept-count-requires
-kept-count-requires c κs = search needs
-
-shared-slice-read-wide : tie.Need-shared-slice-read-wide
-shared-slice-read-wide c = search needs
-
-wide-requires : tie.Need-wide-requires
-wide-requires c κs = search needs
 
 -- The input is not turned back.
 ok : (c : tie.Start) → Unturned (c .args .bytes) (c .args .words .now) true
@@ -37,18 +23,6 @@ part-list-at-start : tie.Need-part-list-at-start
 part-list-at-start c =
     let start = c .before .before .before .before .before in
     omega (arith, ok start .enough, c .before .before .kept-count .ensures)
-
-part-list-at-end : tie.Need-part-list-at-end
-part-list-at-end c = search needs
-
-list-at-requires : tie.Need-list-at-requires
-list-at-requires c κs = search needs
-
-enum-known-listed : tie.Need-enum-known-listed
-enum-known-listed c = search needs
-
-enum-told : tie.Need-enum-told
-enum-told c = search needs
 
 -- The function's start, from the answer of `list_at`; the letters are the input's.
 abbrev begun : tie.After-list-at → tie.Start
@@ -76,18 +50,12 @@ returns c =
     (none-there (start .args .bytes) (start .args .words .now) (ok start) (start .args .position) (c .enum-told .given .0 .0)
     (ap listedOf (sym (c .enum-told .given .1)) ∙ asked (c .before .before) .0)) refl
 
-shared-slice-read-version-of : tie.Need-shared-slice-read-version-of
-shared-slice-read-version-of c = search needs
-
 version-of-requires : tie.Need-version-of-requires
 version-of-requires c κs =
     let start = c .before .before .before .before .before .before .before .before .before .before .before .before in
     let a = start .args in
     let version = version-bits (a .bytes / 4) (a .words .now) (ok start .numbers) (omega (arith, ok start .enough)) (omega arith) in
     let most = ok start .short in omega arith
-
-slice-aggregate-put-text : tie.Need-slice-aggregate-put-text
-slice-aggregate-put-text c = search needs
 
 put-text-requires : tie.Need-put-text-requires
 put-text-requires c κs =
@@ -98,9 +66,6 @@ put-text-requires c κs =
       few-tokens (start .args .bytes) (start .args .words .now) (ok start) (start .args .position) (listed .0 .0)
           (ap listedOf (sym (listed .1)) ∙ asked (c .before .before .before .before .before .before .before .before) .0),
     )
-
-same-length : tie.Need-same-length
-same-length c = search needs
 
 returns-2 : tie.Need-returns-2
 returns-2 c =
@@ -117,20 +82,6 @@ returns-2 c =
 pub put-list-spec : {M : Type 1} → statement M
 put-list-spec =
     tie.close
-    (tie.spec
-    kept-count-requires
-    shared-slice-read-wide
-    wide-requires
-    sub-list-at
-    part-list-at-start
-    part-list-at-end
-    list-at-requires
-    enum-known-listed
-    enum-told
-    returns
-    shared-slice-read-version-of
-    version-of-requires
-    slice-aggregate-put-text
-    put-text-requires
-    same-length
-    returns-2)
+    (tie.spec (λ c κs. search needs) (λ c. search needs) (λ c κs. search needs) sub-list-at part-list-at-start (λ c. search needs)
+    (λ c κs. search needs) (λ c. search needs) (λ c. search needs) returns (λ c. search needs) version-of-requires (λ c. search needs)
+    put-text-requires (λ c. search needs) returns-2)

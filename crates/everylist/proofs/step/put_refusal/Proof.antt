@@ -1,31 +1,16 @@
 -- `everylist::step::put_refusal` meets its contract: the line at the first position alone. Assumes nothing.
-use mathlib.Core.Path.{refl}
-use mathlib.Core.Bool.{true}
-use mathlib.Core.List.{[]}
+use mathlib.Core.{Path.{refl}, Bool.{true}, List.{[]}}
 use native.Mathlib.Omega.{arith}
 use lib.ListN.{replicate}
 use Rattle.everylist.specs.Steps.{kept}
-use Rattle.everylist.proofs.StepLaws.{stepped, refused-first, refused-later}
+use Rattle.everylist.proofs.{StepLaws.{stepped, refused-first, refused-later}, step.put_refusal.Statement.{statement}}
 use borrow.Author.Needs.{needs}
-use Rattle.everylist.proofs.step.put_refusal.Statement.{statement}
 use Rattle.everylist.proofs.step.put_refusal.Tie as tie
 
 returns : tie.Need-returns
 returns c =
     let a = c .before .before .args in
     stepped (a .out .now) (a .out .now) _ (refused-later (a .number) (a .position) (kept 0 [] true) (λ first. omega arith)) refl
-
-slice-aggregate-put-answer : tie.Need-slice-aggregate-put-answer
-slice-aggregate-put-answer c = search needs
-
-slice-aggregate-put-answer-2 : tie.Need-slice-aggregate-put-answer-2
-slice-aggregate-put-answer-2 c = search needs
-
-put-answer-requires : tie.Need-put-answer-requires
-put-answer-requires c κs = search needs
-
-same-length : tie.Need-same-length
-same-length c = search needs
 
 returns-2 : tie.Need-returns-2
 returns-2 c =
@@ -36,12 +21,4 @@ returns-2 c =
     (refused-first (a .number) (a .position) (kept 0 [] true) (replicate 1 0) (replicate 1 0) (omega arith)) put
 
 pub put-refusal-spec : {M : Type 1} → statement M
-put-refusal-spec =
-    tie.close
-    (tie.spec
-    returns
-    slice-aggregate-put-answer
-    slice-aggregate-put-answer-2
-    put-answer-requires
-    same-length
-    returns-2)
+put-refusal-spec = tie.close (tie.spec returns (λ c. search needs) (λ c. search needs) (λ c κs. search needs) (λ c. search needs) returns-2)

@@ -6,30 +6,13 @@ use lib.ListN.{length, take, length-take, replicate}
 use mir.Facts.{toZ-ofZ}
 use Rattle.molang.specs.Words.{operatorField, wordsRefusal}
 use Rattle.listing.proofs.AnswerLaws.{can-put}
-use Rattle.everylist.proofs.HeadLaws.{head-length}
-use Rattle.everylist.proofs.ListLaws.{text-laid}
+use Rattle.everylist.proofs.{HeadLaws.{head-length}, ListLaws.{text-laid}, step.put_text.Statement.{statement}}
 use borrow.Author.Needs.{needs}
-use Rattle.everylist.proofs.step.put_text.Statement.{statement}
 use Rattle.everylist.proofs.step.put_text.Tie as tie
-
-put-head-requires : tie.Need-put-head-requires
-put-head-requires c κs = search needs
-
-mul-words : tie.Need-mul-words
-mul-words c = search needs
 
 slice-aggregate-read-list : tie.Need-slice-aggregate-read-list
 slice-aggregate-read-list c =
     let a = c .before .before .before .before .before .before .before .args in omega (arith, length-take (5 * a .tokens) (a .list .now))
-
-slice-aggregate-read-list-2 : tie.Need-slice-aggregate-read-list-2
-slice-aggregate-read-list-2 c = search needs
-
-slice-aggregate-read-list-3 : tie.Need-slice-aggregate-read-list-3
-slice-aggregate-read-list-3 c = search needs
-
-slice-aggregate-read-list-4 : tie.Need-slice-aggregate-read-list-4
-slice-aggregate-read-list-4 c = search needs
 
 read-list-requires : tie.Need-read-list-requires
 read-list-requires c κs =
@@ -43,12 +26,6 @@ read-list-requires c κs =
       workRoom = omega arith;
     }
 
-slice-aggregate-put-answer : tie.Need-slice-aggregate-put-answer
-slice-aggregate-put-answer c = search needs
-
-slice-aggregate-put-answer-2 : tie.Need-slice-aggregate-put-answer-2
-slice-aggregate-put-answer-2 c = search needs
-
 put-answer-requires : tie.Need-put-answer-requires
 put-answer-requires c κs =
     let read = c .before .before .before .before .before .before in
@@ -61,9 +38,6 @@ put-answer-requires c κs =
     rw (read .read-list .ensures .0)
     (can-put (wordsRefusal 0 operatorField 0 list) list _ (headed .put-head .result) _ _ _ (omega arith) (omega arith) (omega arith)
     (omega arith))
-
-same-length : tie.Need-same-length
-same-length c = search needs
 
 returns : tie.Need-returns
 returns c =
@@ -81,16 +55,5 @@ returns c =
 pub put-text-spec : {M : Type 1} → statement M
 put-text-spec =
     tie.close
-    (tie.spec
-    put-head-requires
-    mul-words
-    slice-aggregate-read-list
-    slice-aggregate-read-list-2
-    slice-aggregate-read-list-3
-    slice-aggregate-read-list-4
-    read-list-requires
-    slice-aggregate-put-answer
-    slice-aggregate-put-answer-2
-    put-answer-requires
-    same-length
-    returns)
+    (tie.spec (λ c κs. search needs) (λ c. search needs) slice-aggregate-read-list (λ c. search needs) (λ c. search needs)
+    (λ c. search needs) read-list-requires (λ c. search needs) (λ c. search needs) put-answer-requires (λ c. search needs) returns)

@@ -1,20 +1,7 @@
 -- `begin`: the pass begins as StartLaws says, arm by arm.
-use Rattle.grouping.proofs.StartLaws.{begin-can-start, begun-started, begun-right, begun-as}
+use Rattle.grouping.proofs.{StartLaws.{begin-can-start, begun-started, begun-right, begun-as}, driver.begin.Statement.{statement}}
 use borrow.Author.Needs.{needs}
-use Rattle.grouping.proofs.driver.begin.Statement.{statement}
 use Rattle.grouping.proofs.driver.begin.Tie as tie
-
-start-requires : tie.Need-start-requires
-start-requires c κs = begin-can-start (c .before .before .pre)
-
-enum-told : tie.Need-enum-told
-enum-told c = search needs
-
-moved-requires : tie.Need-moved-requires
-moved-requires c κs = search needs
-
-begun-requires : tie.Need-begun-requires
-begun-requires c κs = search needs
 
 returns : tie.Need-returns
 returns c =
@@ -31,4 +18,5 @@ returns-3 c = begun-as (c .before .before .before .args .pass) (c .begun .result
 pub begin-spec : {M : Type 1} → statement M
 begin-spec =
     tie.close
-    (tie.spec start-requires enum-told moved-requires begun-requires returns returns-2 returns-3)
+    (tie.spec (λ c κs. begin-can-start (c .before .before .pre)) (λ c. search needs) (λ c κs. search needs) (λ c κs. search needs) returns
+    returns-2 returns-3)

@@ -1,19 +1,9 @@
 -- `close`: the list's end, its owner's children, and the list below it, if any.
 use mathlib.Core.Path.{_∙_}
 use Rattle.grouping.proofs.CloseLaws.{close-can-finish, closed-failed, close-can-give, close-can-move, close-can-pop}
-use Rattle.grouping.proofs.CloseLaws.{close-can-resume, ended-at, closed-done, closed-on}
+use Rattle.grouping.proofs.{CloseLaws.{close-can-resume, ended-at, closed-done, closed-on}, driver.close.Statement.{statement}}
 use borrow.Author.Needs.{needs}
-use Rattle.grouping.proofs.driver.close.Statement.{statement}
 use Rattle.grouping.proofs.driver.close.Tie as tie
-
-finish-requires : tie.Need-finish-requires
-finish-requires c κs = close-can-finish (c .before .before .pre)
-
-enum-known-finished : tie.Need-enum-known-finished
-enum-known-finished c = search needs
-
-enum-known-finished-2 : tie.Need-enum-known-finished-2
-enum-known-finished-2 c = search needs
 
 give-children-requires : tie.Need-give-children-requires
 give-children-requires c κs =
@@ -50,9 +40,6 @@ pop-requires c κs =
     close-can-pop (gave .before .before .before .before .before .before .before .before .before .before .before .pre) ended
     (gave .give-children .ensures) (c .before .if1 .left)
 
-resumed-requires : tie.Need-resumed-requires
-resumed-requires c κs = search needs
-
 resume-requires : tie.Need-resume-requires
 resume-requires c κs =
     let gave = c .before .before .before .before .before .before .before .before in
@@ -63,9 +50,6 @@ resume-requires c κs =
     close-can-resume (gave .before .before .before .before .before .before .before .before .before .before .before .pre) ended
     (gave .give-children .ensures) (c .before .before .before .before .before .if1 .left) (pop .result) (resumed .result) (pop .ensures)
     (resumed .ensures)
-
-same-length-2 : tie.Need-same-length-2
-same-length-2 c = search needs
 
 returns-2 : tie.Need-returns-2
 returns-2 c =
@@ -91,18 +75,6 @@ returns-3 c =
 pub close-spec : {M : Type 1} → statement M
 close-spec =
     tie.close
-    (tie.spec
-    finish-requires
-    enum-known-finished
-    enum-known-finished-2
-    give-children-requires
-    move-down-requires
-    same-length
-    returns
-    pop-requires
-    resumed-requires
-    resume-requires
-    same-length-2
-    returns-2
-    same-length-3
+    (tie.spec (λ c κs. close-can-finish (c .before .before .pre)) (λ c. search needs) (λ c. search needs) give-children-requires
+    move-down-requires same-length returns pop-requires (λ c κs. search needs) resume-requires (λ c. search needs) returns-2 same-length-3
     returns-3)

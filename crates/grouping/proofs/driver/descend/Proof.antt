@@ -2,16 +2,9 @@
 use Prim.Native.Nat.{ℕ}
 use mathlib.Core.Path.{sym, subst}
 use Rattle.grouping.specs.Driver.{CanOpen, Opened}
-use Rattle.grouping.proofs.DescendLaws.{descend-can-push, descend-can-open, descended}
+use Rattle.grouping.proofs.{DescendLaws.{descend-can-push, descend-can-open, descended}, driver.descend.Statement.{statement}}
 use borrow.Author.Needs.{needs}
-use Rattle.grouping.proofs.driver.descend.Statement.{statement}
 use Rattle.grouping.proofs.driver.descend.Tie as tie
-
-held-requires : tie.Need-held-requires
-held-requires c κs = search needs
-
-push-requires : tie.Need-push-requires
-push-requires c κs = descend-can-push (c .before .before .before .before .pre)
 
 open-requires : tie.Need-open-requires
 open-requires c κs =
@@ -20,9 +13,6 @@ open-requires c κs =
     subst (λ (x : ℕ). CanOpen (push .last .0) (s .args .item) x (s .args .waiting .pass)) (sym (push .ensures .past))
     (descend-can-open (s .pre) _ (c .before .before .before .before .held .result) (c .before .before .before .before .held .ensures)
     (push .ensures))
-
-same-length : tie.Need-same-length
-same-length c = search needs
 
 returns : tie.Need-returns
 returns c =
@@ -35,4 +25,7 @@ returns c =
     (push .ensures .past) (inner .ensures))
 
 pub descend-spec : {M : Type 1} → statement M
-descend-spec = tie.close (tie.spec held-requires push-requires open-requires same-length returns)
+descend-spec =
+    tie.close
+    (tie.spec (λ c κs. search needs) (λ c κs. descend-can-push (c .before .before .before .before .pre)) open-requires (λ c. search needs)
+    returns)

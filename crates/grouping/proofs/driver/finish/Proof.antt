@@ -1,20 +1,14 @@
 -- `finish`, arm by arm: the done trees as they stand, or what the level makes of them.
 use native.Mathlib.Omega.{arith}
 use Rattle.grouping.proofs.EndLaws.{gathered-ends, gathering-at, right-ends, finish-within, finish-at, ends-by}
-use borrow.Author.Needs.{needs}
 use Rattle.grouping.proofs.driver.finish.Statement.{statement}
+use borrow.Author.Needs.{needs}
 use Rattle.grouping.proofs.driver.finish.Tie as tie
-
-enum-known-pass : tie.Need-enum-known-pass
-enum-known-pass c = search needs
 
 finish-requires : tie.Need-finish-requires
 finish-requires c κs =
     let s = c .before .before .before .before .before .before in
     finish-at (s .args .walk .list) (s .args .walk .pass) _ (c .before .before .pass .given .1) (s .pre)
-
-enum-told : tie.Need-enum-told
-enum-told c = search needs
 
 add-t10 : tie.Need-add-t10
 add-t10 c =
@@ -28,16 +22,10 @@ sub-t11 c =
     let e = finish-within (s .args .walk .list) (s .args .walk .pass) (s .pre) in
     omega arith
 
-enum-known-pass-2 : tie.Need-enum-known-pass-2
-enum-known-pass-2 c = search needs
-
 finish-requires-2 : tie.Need-finish-requires-2
 finish-requires-2 c κs =
     let s = c .before .before .before .before .before .before in
     finish-at (s .args .walk .list) (s .args .walk .pass) _ (c .before .before .pass2 .given .1) (s .pre)
-
-same-length : tie.Need-same-length
-same-length c = search needs
 
 returns : tie.Need-returns
 returns c =
@@ -49,9 +37,6 @@ returns-2 : tie.Need-returns-2
 returns-2 c =
     let s = c .before .before .before .before .before .before in
     ends-by (s .args .walk .list) (s .args .walk .pass) _ (c .before .before .enum-told .given .1) (right-ends _ (s .args .walk .list))
-
-same-length-2 : tie.Need-same-length-2
-same-length-2 c = search needs
 
 returns-3 : tie.Need-returns-3
 returns-3 c =
@@ -67,17 +52,5 @@ returns-4 c =
 pub finish-spec : {M : Type 1} → statement M
 finish-spec =
     tie.close
-    (tie.spec
-    enum-known-pass
-    finish-requires
-    enum-told
-    add-t10
-    sub-t11
-    enum-known-pass-2
-    finish-requires-2
-    same-length
-    returns
-    returns-2
-    same-length-2
-    returns-3
-    returns-4)
+    (tie.spec (λ c. search needs) finish-requires (λ c. search needs) add-t10 sub-t11 (λ c. search needs) finish-requires-2
+    (λ c. search needs) returns returns-2 (λ c. search needs) returns-3 returns-4)

@@ -1,14 +1,10 @@
 -- `kept`: the item goes to the done ones.
-use Rattle.grouping.proofs.ResumeLaws.{keep-room, keep-resumed}
+use Rattle.grouping.proofs.{ResumeLaws.{keep-room, keep-resumed}, driver.kept.Statement.{statement}}
 use borrow.Author.Needs.{needs}
-use Rattle.grouping.proofs.driver.kept.Statement.{statement}
 use Rattle.grouping.proofs.driver.kept.Tie as tie
 
 keep-requires : tie.Need-keep-requires
 keep-requires c κs = let s = c .before .before in keep-room (s .args .list) (s .args .pass) (s .pre .0) (s .pre .1)
-
-same-length : tie.Need-same-length
-same-length c = search needs
 
 returns : tie.Need-returns
 returns c = let s = c .before .before .before .before .before in
@@ -16,4 +12,4 @@ returns c = let s = c .before .before .before .before .before in
     (c .before .before .keep .ensures .0) (c .before .before .keep .ensures .1)
 
 pub kept-spec : {M : Type 1} → statement M
-kept-spec = tie.close (tie.spec keep-requires same-length returns)
+kept-spec = tie.close (tie.spec keep-requires (λ c. search needs) returns)

@@ -1,8 +1,7 @@
 -- `move_down`: the items before i stand in their new words, those from i on in their old ones still.
 use Prim.Native.Nat.{_-_}
 use native.Mathlib.Omega.{arith}
-use Rattle.grouping.proofs.OutermostLaws.{Moving, move-begins, move-on, move-ends}
-use Rattle.grouping.proofs.driver.move_down.Statement.{statement}
+use Rattle.grouping.proofs.{OutermostLaws.{Moving, move-begins, move-on, move-ends}, driver.move_down.Statement.{statement}}
 use Rattle.grouping.proofs.driver.move_down.Tie as tie
 
 abbrev Inv-loop : tie.InvT-loop
@@ -10,9 +9,6 @@ Inv-loop work₀ from n base i₀ work i = Moving work₀ from n base work i
 
 abbrev μ-loop : tie.MeasureT-loop
 μ-loop work₀ from n base i₀ work i = n - i
-
-loop-holds : tie.Need-loop-holds Inv-loop μ-loop
-loop-holds c = move-begins (c .pre)
 
 add-work : tie.Need-add-work Inv-loop μ-loop
 add-work c =
@@ -58,27 +54,11 @@ loop-again : tie.Need-loop-again Inv-loop μ-loop
 loop-again c =
     move-on (c .before .before .loop .inv) (c .before .loop-test .taken)
 
-same-length : tie.Need-same-length Inv-loop μ-loop
-same-length c = c .before .loop .inv .long
-
 returns : tie.Need-returns Inv-loop μ-loop
 returns c = move-ends (c .before .loop .inv) (omega (arith, c .loop-test .left))
 
 pub move-down-spec : {M : Type 1} → statement M
 move-down-spec =
     tie.close
-    (tie.spec
-    Inv-loop
-    μ-loop
-    loop-holds
-    add-work
-    mul-work
-    slice-read-work
-    add-work-2
-    mul-work-2
-    slice-write-work
-    add-i
-    loop-less
-    loop-again
-    same-length
-    returns)
+    (tie.spec Inv-loop μ-loop (λ c. move-begins (c .pre)) add-work mul-work slice-read-work add-work-2 mul-work-2 slice-write-work add-i
+    loop-less loop-again (λ c. c .before .loop .inv .long) returns)

@@ -1,11 +1,8 @@
 -- `resume`, arm by arm: the item goes to the done ones, or the level takes it.
 use Rattle.grouping.proofs.ResumeLaws.{right-room, right-resumed, resume-at, resumed-by, array-unlent, keeping-at}
-use borrow.Author.Needs.{needs}
 use Rattle.grouping.proofs.driver.resume.Statement.{statement}
+use borrow.Author.Needs.{needs}
 use Rattle.grouping.proofs.driver.resume.Tie as tie
-
-enum-known-pass : tie.Need-enum-known-pass
-enum-known-pass c = search needs
 
 resume-array-requires : tie.Need-resume-array-requires
 resume-array-requires c κs =
@@ -13,16 +10,10 @@ resume-array-requires c κs =
     resume-at (s .args .walk .list) (s .args .walk .pass) _
     (array-unlent (s .args .walk .list) _ _ _ (c .before .before .pass .given .1) (s .pre)) (s .pre)
 
-enum-told : tie.Need-enum-told
-enum-told c = search needs
-
 keep-right-requires : tie.Need-keep-right-requires
 keep-right-requires c κs =
     let s = c .before .before .before .before .before in
     right-room (s .args .walk .list) (resume-at (s .args .walk .list) (s .args .walk .pass) _ (c .before .enum-told .given .1) (s .pre))
-
-enum-known-pass-2 : tie.Need-enum-known-pass-2
-enum-known-pass-2 c = search needs
 
 resume-requires : tie.Need-resume-requires
 resume-requires c κs =
@@ -32,18 +23,12 @@ resume-requires c κs =
 kept-requires : tie.Need-kept-requires
 kept-requires c κs = let s = c .before .before .before .before in (s .pre, keeping-at (s .args .walk .pass) (c .before .match .keys4))
 
-same-length : tie.Need-same-length
-same-length c = search needs
-
 returns : tie.Need-returns
 returns c =
     let s = c .before .before .before .before .before .before .before .before .before in
     resumed-by (s .args .walk .list) (s .args .walk .pass) _
     (array-unlent (s .args .walk .list) _ _ _ (c .before .before .before .before .before .pass .given .1) (s .pre))
     (c .before .before .resume-array .ensures)
-
-same-length-2 : tie.Need-same-length-2
-same-length-2 c = search needs
 
 returns-2 : tie.Need-returns-2
 returns-2 c =
@@ -54,37 +39,15 @@ returns-2 c =
     (right-resumed _ _ (s .args .walk .list) (kept .result) (s .args .item)
     (resume-at (s .args .walk .list) (s .args .walk .pass) _ told (s .pre)) (kept .ensures .0) (kept .ensures .1))
 
-same-length-3 : tie.Need-same-length-3
-same-length-3 c = search needs
-
 returns-3 : tie.Need-returns-3
 returns-3 c =
     let s = c .before .before .before .before .before .before .before .before .before in
     resumed-by (s .args .walk .list) (s .args .walk .pass) _ (c .before .before .before .before .before .pass2 .given .1)
     (c .before .before .resume .ensures)
 
-same-length-4 : tie.Need-same-length-4
-same-length-4 c = search needs
-
-returns-4 : tie.Need-returns-4
-returns-4 c = search needs
-
 pub resume-spec : {M : Type 1} → statement M
 resume-spec =
     tie.close
-    (tie.spec
-    enum-known-pass
-    resume-array-requires
-    enum-told
-    keep-right-requires
-    enum-known-pass-2
-    resume-requires
-    kept-requires
-    same-length
-    returns
-    same-length-2
-    returns-2
-    same-length-3
-    returns-3
-    same-length-4
-    returns-4)
+    (tie.spec (λ c. search needs) resume-array-requires (λ c. search needs) keep-right-requires (λ c. search needs) resume-requires
+    kept-requires (λ c. search needs) returns (λ c. search needs) returns-2 (λ c. search needs) returns-3 (λ c. search needs)
+    (λ c. search needs))

@@ -6,8 +6,7 @@ use borrow.Author.Needs.{needs}
 use lib.ListN.{length}
 use Rattle.grouping.specs.Driver.{Opened}
 use Rattle.grouping.proofs.RunLaws.{Running, run-can-begin, run-opened, run-holds, running-advances, run-again, ran-done, ran-failed}
-use Rattle.grouping.proofs.RunLaws.{run-never}
-use Rattle.grouping.proofs.driver.run.Statement.{statement}
+use Rattle.grouping.proofs.{RunLaws.{run-never}, driver.run.Statement.{statement}}
 use Rattle.grouping.proofs.driver.run.Tie as tie
 
 abbrev Inv-loop : tie.InvT-loop
@@ -16,20 +15,8 @@ Inv-loop work₀ base n walk₀ fuel₀ work walk fuel = Running work₀ walk₀
 abbrev μ-loop : tie.MeasureT-loop
 μ-loop work₀ base n walk₀ fuel₀ work walk fuel = fuel
 
-begin-requires : tie.Need-begin-requires Inv-loop μ-loop
-begin-requires c κs = run-can-begin (c .before .before .pre)
-
 loop-holds : tie.Need-loop-holds Inv-loop μ-loop
 loop-holds c = let s = c .before .before .before in (run-holds (run-opened (c .begin .ensures) (s .pre)) (s .pre), refl)
-
-sub-fuel : tie.Need-sub-fuel Inv-loop μ-loop
-sub-fuel c = omega arith
-
-advance-requires : tie.Need-advance-requires Inv-loop μ-loop
-advance-requires c κs = running-advances (c .before .before .loop .inv .0)
-
-enum-known-next : tie.Need-enum-known-next Inv-loop μ-loop
-enum-known-next c = search needs
 
 loop-less : tie.Need-loop-less Inv-loop μ-loop
 loop-less c = omega (arith, c .before .before .before .before .before .before .before .loop-test .taken)
@@ -42,9 +29,6 @@ loop-again c =
           (omega (arith, c .before .before .before .before .before .before .before .loop-test .taken)) (advance .kept .0),
       loop .inv .1,
     )
-
-enum-known-next-2 : tie.Need-enum-known-next-2 Inv-loop μ-loop
-enum-known-next-2 c = search needs
 
 same-length : tie.Need-same-length Inv-loop μ-loop
 same-length c =
@@ -63,9 +47,6 @@ returns c =
     let advance = c .before .before .before .before .before .advance in
     ran-done (began l) (l .loop .inv .0) (advance .result) (advance .ensures) _ (c .before .next2 .given .1)
 
-enum-known-next-3 : tie.Need-enum-known-next-3 Inv-loop μ-loop
-enum-known-next-3 c = search needs
-
 same-length-2 : tie.Need-same-length-2 Inv-loop μ-loop
 same-length-2 c =
     c .before .before .before .before .before .advance .kept .0
@@ -77,30 +58,12 @@ returns-2 c =
     let advance = c .before .before .before .before .before .advance in
     ran-failed (began l) (l .loop .inv .0) (advance .result) (advance .ensures) _ (c .before .next3 .given .1)
 
-same-length-3 : tie.Need-same-length-3 Inv-loop μ-loop
-same-length-3 c = c .before .loop .inv .0 .long
-
 returns-3 : tie.Need-returns-3 Inv-loop μ-loop
 returns-3 c = absurd (run-never (c .before .loop .inv .0) (c .loop-test .left))
 
 pub run-spec : {M : Type 1} → statement M
 run-spec =
     tie.close
-    (tie.spec
-    Inv-loop
-    μ-loop
-    begin-requires
-    loop-holds
-    sub-fuel
-    advance-requires
-    enum-known-next
-    loop-less
-    loop-again
-    enum-known-next-2
-    same-length
-    returns
-    enum-known-next-3
-    same-length-2
-    returns-2
-    same-length-3
-    returns-3)
+    (tie.spec Inv-loop μ-loop (λ c κs. run-can-begin (c .before .before .pre)) loop-holds (λ c. omega arith)
+    (λ c κs. running-advances (c .before .before .loop .inv .0)) (λ c. search needs) loop-less loop-again (λ c. search needs) same-length
+    returns (λ c. search needs) same-length-2 returns-2 (λ c. c .before .loop .inv .0 .long) returns-3)

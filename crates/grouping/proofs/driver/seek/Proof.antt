@@ -5,28 +5,10 @@ use borrow.Author.Needs.{needs}
 use Rattle.grouping.proofs.driver.seek.Statement.{statement}
 use Rattle.grouping.proofs.driver.seek.Tie as tie
 
-classes-requires : tie.Need-classes-requires
-classes-requires c κs = search needs
-
 next-token-requires : tie.Need-next-token-requires
 next-token-requires c κs =
     let s = c .before .before .before in
     can-seek (standing _ (s .args .list) (s .args .pass) (s .pre .1) (s .pre .0))
-
-enum-known-found : tie.Need-enum-known-found
-enum-known-found c = search needs
-
-over-requires : tie.Need-over-requires
-over-requires c κs = search needs
-
-enum-known-found-2 : tie.Need-enum-known-found-2
-enum-known-found-2 c = search needs
-
-enter-requires : tie.Need-enter-requires
-enter-requires c κs = search needs
-
-enum-known-found-3 : tie.Need-enum-known-found-3
-enum-known-found-3 c = search needs
 
 token-requires : tie.Need-token-requires
 token-requires c κs =
@@ -38,9 +20,6 @@ token-requires c κs =
       s .pre .1,
     )
 
-same-length : tie.Need-same-length
-same-length c = search needs
-
 returns : tie.Need-returns
 returns c =
     let s = c .before .before .before .before .before .before .before .before .before .before in
@@ -49,9 +28,6 @@ returns c =
     (c .before .before .before .before .before .before .next-token .ensures) in
     turned-over (standing _ (s .args .list) (s .args .pass) (s .pre .1)) sought (c .before .before .found .given .1) (c .over .ensures)
 
-same-length-2 : tie.Need-same-length-2
-same-length-2 c = search needs
-
 returns-2 : tie.Need-returns-2
 returns-2 c =
     let s = c .before .before .before .before .before .before .before .before .before .before in
@@ -59,9 +35,6 @@ returns-2 c =
     sought-of (s .args .pass) (c .before .before .before .before .before .before .before .classes .ensures)
     (c .before .before .before .before .before .before .next-token .ensures) in
     turned-enter (standing _ (s .args .list) (s .args .pass) (s .pre .1)) sought (c .before .before .found2 .given .1) (c .enter .ensures)
-
-same-length-3 : tie.Need-same-length-3
-same-length-3 c = search needs
 
 returns-3 : tie.Need-returns-3
 returns-3 c =
@@ -75,18 +48,6 @@ returns-3 c =
 pub seek-spec : {M : Type 1} → statement M
 seek-spec =
     tie.close
-    (tie.spec
-    classes-requires
-    next-token-requires
-    enum-known-found
-    over-requires
-    enum-known-found-2
-    enter-requires
-    enum-known-found-3
-    token-requires
-    same-length
-    returns
-    same-length-2
-    returns-2
-    same-length-3
+    (tie.spec (λ c κs. search needs) next-token-requires (λ c. search needs) (λ c κs. search needs) (λ c. search needs)
+    (λ c κs. search needs) (λ c. search needs) token-requires (λ c. search needs) returns (λ c. search needs) returns-2 (λ c. search needs)
     returns-3)

@@ -1,14 +1,9 @@
 -- `step`, arm by arm: the level's turn.
 use mathlib.Core.Path.{sym, subst, _∙_}
 use borrow.Author.Needs.{needs}
-use Rattle.passes.specs.TokenTurns.{Seeks}
-use Rattle.passes.proofs.TurnLaws.{turn-at, turned-by, turn-waiting}
-use Rattle.passes.proofs.SeekLaws.{seeks-at}
+use Rattle.passes.{specs.TokenTurns.{Seeks}, proofs.TurnLaws.{turn-at, turned-by, turn-waiting}, proofs.SeekLaws.{seeks-at}}
 use Rattle.grouping.proofs.driver.step.Statement.{statement}
 use Rattle.grouping.proofs.driver.step.Tie as tie
-
-waiting-requires : tie.Need-waiting-requires
-waiting-requires c κs = search needs
 
 array-on-requires : tie.Need-array-on-requires
 array-on-requires c κs =
@@ -16,9 +11,6 @@ array-on-requires c κs =
     let s = c .before .before .before .before .before in
     let array = turn-waiting (s .args .walk .list) (s .args .walk .pass) _ (w .waiting .ensures) (c .before .if1 .taken) (s .pre) in
     (turn-at (s .args .walk .list) (s .args .walk .pass) _ array (s .pre), c .before .if1 .taken)
-
-same-length : tie.Need-same-length
-same-length c = search needs
 
 returns : tie.Need-returns
 returns c =
@@ -29,32 +21,20 @@ returns c =
     (s .pre) in
     turned-by (s .args .walk .list) (s .args .walk .pass) _ array (c .before .before .array-on .ensures)
 
-enum-known-pass : tie.Need-enum-known-pass
-enum-known-pass c = search needs
-
 step-requires : tie.Need-step-requires
 step-requires c κs =
     let s = c .before .before .before .before .before .before .before .before in
     turn-at (s .args .walk .list) (s .args .walk .pass) _ (c .before .before .pass .given .1) (s .pre)
-
-enum-told : tie.Need-enum-told
-enum-told c = search needs
 
 step-requires-2 : tie.Need-step-requires-2
 step-requires-2 c κs =
     let s = c .before .before .before .before .before .before .before in
     turn-at (s .args .walk .list) (s .args .walk .pass) _ (c .before .enum-told .given .1) (s .pre)
 
-enum-known-pass-2 : tie.Need-enum-known-pass-2
-enum-known-pass-2 c = search needs
-
 step-requires-3 : tie.Need-step-requires-3
 step-requires-3 c κs =
     let s = c .before .before .before .before .before .before .before .before in
     turn-at (s .args .walk .list) (s .args .walk .pass) _ (c .before .before .pass2 .given .1) (s .pre)
-
-anew-requires : tie.Need-anew-requires
-anew-requires c κs = search needs
 
 seek-requires : tie.Need-seek-requires
 seek-requires c κs =
@@ -64,17 +44,11 @@ seek-requires c κs =
     let seeks = seeks-at (s .args .walk .pass) (c .before .before .match .keys4) none (s .pre) in
     (turn-at (s .args .walk .list) (s .args .walk .pass) _ same (s .pre), subst Seeks same seeks)
 
-same-length-2 : tie.Need-same-length-2
-same-length-2 c = search needs
-
 returns-2 : tie.Need-returns-2
 returns-2 c =
     let s = c .before .before .before .before .before .before .before .before .before .before .before in
     turned-by (s .args .walk .list) (s .args .walk .pass) _ (c .before .before .before .before .before .pass .given .1)
     (c .before .before .step .ensures)
-
-same-length-3 : tie.Need-same-length-3
-same-length-3 c = search needs
 
 returns-3 : tie.Need-returns-3
 returns-3 c =
@@ -82,17 +56,11 @@ returns-3 c =
     turned-by (s .args .walk .list) (s .args .walk .pass) _ (c .before .before .before .before .enum-told .given .1)
     (c .before .before .step2 .ensures)
 
-same-length-4 : tie.Need-same-length-4
-same-length-4 c = search needs
-
 returns-4 : tie.Need-returns-4
 returns-4 c =
     let s = c .before .before .before .before .before .before .before .before .before .before .before in
     turned-by (s .args .walk .list) (s .args .walk .pass) _ (c .before .before .before .before .before .pass2 .given .1)
     (c .before .before .step3 .ensures)
-
-same-length-5 : tie.Need-same-length-5
-same-length-5 c = search needs
 
 returns-5 : tie.Need-returns-5
 returns-5 c =
@@ -103,24 +71,6 @@ returns-5 c =
 pub step-spec : {M : Type 1} → statement M
 step-spec =
     tie.close
-    (tie.spec
-    waiting-requires
-    array-on-requires
-    same-length
-    returns
-    enum-known-pass
-    step-requires
-    enum-told
-    step-requires-2
-    enum-known-pass-2
-    step-requires-3
-    anew-requires
-    seek-requires
-    same-length-2
-    returns-2
-    same-length-3
-    returns-3
-    same-length-4
-    returns-4
-    same-length-5
-    returns-5)
+    (tie.spec (λ c κs. search needs) array-on-requires (λ c. search needs) returns (λ c. search needs) step-requires (λ c. search needs)
+    step-requires-2 (λ c. search needs) step-requires-3 (λ c κs. search needs) seek-requires (λ c. search needs) returns-2
+    (λ c. search needs) returns-3 (λ c. search needs) returns-4 (λ c. search needs) returns-5)

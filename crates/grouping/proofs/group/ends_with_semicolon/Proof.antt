@@ -3,12 +3,9 @@ use mathlib.Core.Path.{sym, _∙_}
 use native.Mathlib.Omega.{arith}
 use Rattle.molang.specs.Order.{runs}
 use Rattle.grouping.proofs.FlatOrder.{last-token, last-unused, last-missing, last-semicolon, last-other}
-use borrow.Author.Needs.{needs}
 use Rattle.grouping.proofs.group.ends_with_semicolon.Statement.{statement}
+use borrow.Author.Needs.{needs}
 use Rattle.grouping.proofs.group.ends_with_semicolon.Tie as tie
-
-has-either-requires : tie.Need-has-either-requires
-has-either-requires c κs = search needs
 
 returns : tie.Need-returns
 unfolding runs
@@ -16,9 +13,6 @@ returns c = last-missing (sym (c .before .before .has-either .ensures) ∙ c .be
 
 add-last : tie.Need-add-last
 add-last c = let g = c .before .before .before .before .pre in omega (arith, g .based, g .room, g .small)
-
-sub-last : tie.Need-sub-last
-sub-last c = omega (arith, c .if2 .left)
 
 mul-last : tie.Need-mul-last
 mul-last c = let g = c .before .before .before .before .pre in omega (arith, g .based, g .room, g .small)
@@ -52,14 +46,5 @@ returns-4 c = last-unused (sym (c .before .has-either .ensures) ∙ c .if1 .left
 pub ends-with-semicolon-spec : {M : Type 1} → statement M
 ends-with-semicolon-spec =
     tie.close
-    (tie.spec
-    has-either-requires
-    returns
-    add-last
-    sub-last
-    mul-last
-    shared-slice-read-last
-    operator-of-requires
-    returns-2
-    returns-3
-    returns-4)
+    (tie.spec (λ c κs. search needs) returns add-last (λ c. omega (arith, c .if2 .left)) mul-last shared-slice-read-last
+    operator-of-requires returns-2 returns-3 returns-4)

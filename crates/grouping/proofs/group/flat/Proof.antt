@@ -4,26 +4,11 @@ use Rattle.grouping.proofs.FlatOrder.{group-joins, group-sections, fall
 use Rattle.grouping.proofs.group.flat.Statement.{statement}
 use Rattle.grouping.proofs.group.flat.Tie as tie
 
-ends-with-semicolon-requires : tie.Need-ends-with-semicolon-requires
-ends-with-semicolon-requires c κs = search needs
-
-enum-told : tie.Need-enum-told
-enum-told c = search needs
-
-same-length : tie.Need-same-length
-same-length c = search needs
-
 returns : tie.Need-returns
 returns c = let x = c .before .ends-with-semicolon in flat-unended (x .result) (fallen (x .result) (c .match .keys2)) (x .ensures)
 
 members-if-used-requires : tie.Need-members-if-used-requires
 members-if-used-requires c κs = group-joins (c .before .before .before .before .before .before .pre)
-
-enum-known-joined : tie.Need-enum-known-joined
-enum-known-joined c = search needs
-
-same-length-2 : tie.Need-same-length-2
-same-length-2 c = search needs
 
 returns-2 : tie.Need-returns-2
 returns-2 c =
@@ -38,9 +23,6 @@ sections-if-used-requires c κs =
     group-sections (c .before .before .before .before .before .before .before .before .before .before .before .before .before .pre)
     (joined-items (y .result) (c .before .before .joined .given .1) (y .ensures))
 
-same-length-3 : tie.Need-same-length-3
-same-length-3 c = search needs
-
 returns-3 : tie.Need-returns-3
 returns-3 c =
     let x =
@@ -54,15 +36,5 @@ returns-3 c =
 pub flat-spec : {M : Type 1} → statement M
 flat-spec =
     tie.close
-    (tie.spec
-    ends-with-semicolon-requires
-    enum-told
-    same-length
-    returns
-    members-if-used-requires
-    enum-known-joined
-    same-length-2
-    returns-2
-    sections-if-used-requires
-    same-length-3
-    returns-3)
+    (tie.spec (λ c κs. search needs) (λ c. search needs) (λ c. search needs) returns members-if-used-requires (λ c. search needs)
+    (λ c. search needs) returns-2 sections-if-used-requires (λ c. search needs) returns-3)

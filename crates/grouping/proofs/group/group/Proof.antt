@@ -6,44 +6,20 @@ use Rattle.grouping.proofs.LevelLaws.{levelled-at, group-ends, group-gi
 use Rattle.grouping.proofs.group.group.Statement.{statement}
 use Rattle.grouping.proofs.group.group.Tie as tie
 
-flat-requires : tie.Need-flat-requires
-flat-requires c κs = search needs
-
-enum-known-left : tie.Need-enum-known-left
-enum-known-left c = search needs
-
-same-length : tie.Need-same-length
-same-length c = search needs
-
 returns : tie.Need-returns
 returns c =
     let x = c .before .before .before .before .before .flat in
     group-ends (x .result) (Fail _) _ (c .before .left .given .1) tt (x .ensures)
-
-enum-known-left-2 : tie.Need-enum-known-left-2
-enum-known-left-2 c = search needs
-
-same-length-2 : tie.Need-same-length-2
-same-length-2 c = search needs
 
 returns-2 : tie.Need-returns-2
 returns-2 c =
     let x = c .before .before .before .before .before .flat in
     group-ends (x .result) (Mismatched _) _ (c .before .left2 .given .1) tt (x .ensures)
 
-enum-known-left-3 : tie.Need-enum-known-left-3
-enum-known-left-3 c = search needs
-
-same-length-3 : tie.Need-same-length-3
-same-length-3 c = search needs
-
 returns-3 : tie.Need-returns-3
 returns-3 c =
     let x = c .before .before .before .before .before .flat in
     group-ends (x .result) (Unclosed _) _ (c .before .left3 .given .1) tt (x .ensures)
-
-enum-known-left-4 : tie.Need-enum-known-left-4
-enum-known-left-4 c = search needs
 
 give-children-requires : tie.Need-give-children-requires
 give-children-requires c κs =
@@ -57,9 +33,6 @@ levels-requires c κs =
     group-levels (x .result) _ (c .before .before .before .before .before .before .left4 .given .1) (x .ensures)
     (c .before .before .before .give-children .ensures)
     (c .before .before .before .before .before .before .before .before .before .before .before .before .before .pre)
-
-same-length-4 : tie.Need-same-length-4
-same-length-4 c = search needs
 
 returns-4 : tie.Need-returns-4
 returns-4 c =
@@ -75,19 +48,5 @@ returns-4 c =
 pub group-spec : {M : Type 1} → statement M
 group-spec =
     tie.close
-    (tie.spec
-    flat-requires
-    enum-known-left
-    enum-known-left-2
-    enum-known-left-3
-    enum-known-left-4
-    give-children-requires
-    levels-requires
-    same-length
-    returns
-    same-length-2
-    returns-2
-    same-length-3
-    returns-3
-    same-length-4
-    returns-4)
+    (tie.spec (λ c κs. search needs) (λ c. search needs) (λ c. search needs) (λ c. search needs) (λ c. search needs) give-children-requires
+    levels-requires (λ c. search needs) returns (λ c. search needs) returns-2 (λ c. search needs) returns-3 (λ c. search needs) returns-4)

@@ -2,16 +2,13 @@
 use Prim.Native.Nat.{ℕ, _-_, _≤_}
 use mathlib.Core.Path.{_≡_, refl, _∙_}
 use native.Mathlib.Omega.{arith}
-use mir.Facts.{toZ-ofZ}
-use mir.Syntax.{w16}
-use mir.Val.{toZ, ofZ}
+use mir.{Facts.{toZ-ofZ}, Syntax.{w16}, Val.{toZ, ofZ}}
 use borrow.Author.Needs.{needs}
 use lib.ListN.{length}
 use Rattle.order.specs.Ranks.{usedBy, rulesOf, later, Ranked}
 use Rattle.grouping.specs.Group.{CanLevel}
 use Rattle.grouping.proofs.LevelLaws.{LevelAt, level-start, level-chooses, chosen-as, levelled-at, level-on, level-pointer}
-use Rattle.grouping.proofs.LevelLaws.{level-fails, level-roots}
-use Rattle.grouping.proofs.group.levels.Statement.{statement}
+use Rattle.grouping.proofs.{LevelLaws.{level-fails, level-roots}, group.levels.Statement.{statement}}
 use Rattle.grouping.proofs.group.levels.Tie as tie
 
 abbrev Inv-loop : tie.InvT-loop
@@ -24,9 +21,6 @@ Inv-loop work₀ base m used version table k₀ n₀ work k n =
 abbrev μ-loop : tie.MeasureT-loop
 μ-loop work₀ base m used version table k₀ n₀ work k n = 23 - k
 
-ranks-requires : tie.Need-ranks-requires Inv-loop μ-loop
-ranks-requires c κs = search needs
-
 loop-holds : tie.Need-loop-holds Inv-loop μ-loop
 loop-holds c =
     let a = c .before .before .args in (
@@ -37,27 +31,12 @@ loop-holds c =
       c .ranks .ensures,
     )
 
-cast-rank : tie.Need-cast-rank Inv-loop μ-loop
-cast-rank c = search needs
-
-mul-rank : tie.Need-mul-rank Inv-loop μ-loop
-mul-rank c = search needs
-
-array-copy-out-rank : tie.Need-array-copy-out-rank Inv-loop μ-loop
-array-copy-out-rank c = search needs
-
-choose-requires : tie.Need-choose-requires Inv-loop μ-loop
-choose-requires c κs = search needs
-
 run-choice-requires : tie.Need-run-choice-requires Inv-loop μ-loop
 run-choice-requires c κs =
     let t = c .before .before .before in
     let v = t .before .loop .inv in
     let p = c .before .choose in
     level-chooses (v .3) (v .1 (v .0) 0) (p .result) (p .ensures _ (v .4 (t .before .loop .k)))
-
-enum-known-ran : tie.Need-enum-known-ran Inv-loop μ-loop
-enum-known-ran c = search needs
 
 add-k : tie.Need-add-k Inv-loop μ-loop
 add-k c = let h = c .before .before .before .before .before .before .before .before .before .loop-test .taken in omega arith
@@ -78,9 +57,6 @@ loop-again c =
       x .kept .0 ∙ v .3,
       v .4,
     )
-
-enum-known-ran-2 : tie.Need-enum-known-ran-2 Inv-loop μ-loop
-enum-known-ran-2 c = search needs
 
 same-length : tie.Need-same-length Inv-loop μ-loop
 same-length c =
@@ -124,9 +100,6 @@ returns-2 c =
       long = x .kept .0 ∙ v .3;
     })
 
-same-length-3 : tie.Need-same-length-3 Inv-loop μ-loop
-same-length-3 c = c .before .loop .inv .3
-
 returns-3 : tie.Need-returns-3 Inv-loop μ-loop
 returns-3 c =
     let v = c .before .loop .inv in
@@ -136,24 +109,6 @@ returns-3 c =
 pub levels-spec : {M : Type 1} → statement M
 levels-spec =
     tie.close
-    (tie.spec
-    Inv-loop
-    μ-loop
-    ranks-requires
-    loop-holds
-    cast-rank
-    mul-rank
-    array-copy-out-rank
-    choose-requires
-    run-choice-requires
-    enum-known-ran
-    add-k
-    loop-less
-    loop-again
-    enum-known-ran-2
-    same-length
-    returns
-    same-length-2
-    returns-2
-    same-length-3
-    returns-3)
+    (tie.spec Inv-loop μ-loop (λ c κs. search needs) loop-holds (λ c. search needs) (λ c. search needs) (λ c. search needs)
+    (λ c κs. search needs) run-choice-requires (λ c. search needs) add-k loop-less loop-again (λ c. search needs) same-length returns
+    same-length-2 returns-2 (λ c. c .before .loop .inv .3) returns-3)

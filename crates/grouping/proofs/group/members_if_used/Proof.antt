@@ -2,19 +2,9 @@
 use mathlib.Core.Path.{sym, _∙_}
 use Rattle.molang.specs.Order.{runs}
 use Rattle.ops.proofs.SetLaws.{one-used}
-use Rattle.grouping.proofs.FlatOrder.{joined-used, joined-unused}
+use Rattle.grouping.proofs.{FlatOrder.{joined-used, joined-unused}, group.members_if_used.Statement.{statement}}
 use borrow.Author.Needs.{needs}
-use Rattle.grouping.proofs.group.members_if_used.Statement.{statement}
 use Rattle.grouping.proofs.group.members_if_used.Tie as tie
-
-contains-requires : tie.Need-contains-requires
-contains-requires c κs = search needs
-
-members-requires : tie.Need-members-requires
-members-requires c κs = search needs
-
-same-length : tie.Need-same-length
-same-length c = search needs
 
 returns : tie.Need-returns
 unfolding runs
@@ -28,5 +18,4 @@ unfolding runs
 returns-2 c = joined-unused (sym (c .before .contains .ensures ∙ one-used _ _) ∙ c .if1 .left)
 
 pub members-if-used-spec : {M : Type 1} → statement M
-members-if-used-spec =
-    tie.close (tie.spec contains-requires members-requires same-length returns returns-2)
+members-if-used-spec = tie.close (tie.spec (λ c κs. search needs) (λ c κs. search needs) (λ c. search needs) returns returns-2)

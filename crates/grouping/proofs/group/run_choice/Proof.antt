@@ -2,34 +2,19 @@
 use mathlib.Core.Path.{sym, ap₂, _∙_}
 use Rattle.ops.specs.Classes.{shares}
 use Rattle.grouping.proofs.GateLaws.{chosen-can-run, chosen-run, chosen-skip, root-within, gate-shut}
-use borrow.Author.Needs.{needs}
 use Rattle.grouping.proofs.group.run_choice.Statement.{statement}
+use borrow.Author.Needs.{needs}
 use Rattle.grouping.proofs.group.run_choice.Tie as tie
-
-enum-told : tie.Need-enum-told
-enum-told c = search needs
-
-enum-known-choice : tie.Need-enum-known-choice
-enum-known-choice c = search needs
 
 classes-of-requires : tie.Need-classes-of-requires
 classes-of-requires c κs =
     let s = c .before .before .before .before .before in
     root-within (chosen-can-run (s .args .choice) _ (c .before .before .choice .given .1) (s .pre))
 
-classes-requires : tie.Need-classes-requires
-classes-requires c κs = search needs
-
-intersects-requires : tie.Need-intersects-requires
-intersects-requires c κs = search needs
-
 run-requires : tie.Need-run-requires
 run-requires c κs =
     let s = c .before .before .before .before .before .before .before .before .before .before in
     chosen-can-run (s .args .choice) _ (c .before .before .before .before .before .before .before .choice .given .1) (s .pre)
-
-same-length : tie.Need-same-length
-same-length c = search needs
 
 returns : tie.Need-returns
 returns c =
@@ -40,9 +25,6 @@ returns-2 : tie.Need-returns-2
 returns-2 c =
     chosen-skip _ (c .before .before .before .args .base) (c .before .before .before .args .n) (c .before .before .before .args .choice)
     (c .enum-told .given .1)
-
-same-length-2 : tie.Need-same-length-2
-same-length-2 c = search needs
 
 returns-3 : tie.Need-returns-3
 returns-3 c =
@@ -56,15 +38,5 @@ returns-3 c =
 pub run-choice-spec : {M : Type 1} → statement M
 run-choice-spec =
     tie.close
-    (tie.spec
-    enum-told
-    enum-known-choice
-    classes-of-requires
-    classes-requires
-    intersects-requires
-    run-requires
-    same-length
-    returns
-    returns-2
-    same-length-2
-    returns-3)
+    (tie.spec (λ c. search needs) (λ c. search needs) classes-of-requires (λ c κs. search needs) (λ c κs. search needs) run-requires
+    (λ c. search needs) returns returns-2 (λ c. search needs) returns-3)

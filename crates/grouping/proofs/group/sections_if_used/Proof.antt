@@ -1,19 +1,9 @@
 -- `group::sections_if_used` meets its contract.
 use mathlib.Core.Path.{sym, _∙_}
 use Rattle.molang.specs.Order.{runs}
-use Rattle.grouping.proofs.FlatOrder.{sectioned-used, sectioned-unused}
+use Rattle.grouping.proofs.{FlatOrder.{sectioned-used, sectioned-unused}, group.sections_if_used.Statement.{statement}}
 use borrow.Author.Needs.{needs}
-use Rattle.grouping.proofs.group.sections_if_used.Statement.{statement}
 use Rattle.grouping.proofs.group.sections_if_used.Tie as tie
-
-has-some-requires : tie.Need-has-some-requires
-has-some-requires c κs = search needs
-
-sections-requires : tie.Need-sections-requires
-sections-requires c κs = search needs
-
-same-length : tie.Need-same-length
-same-length c = search needs
 
 returns : tie.Need-returns
 unfolding runs
@@ -26,5 +16,4 @@ unfolding runs
 returns-2 c = sectioned-unused (sym (c .before .has-some .ensures) ∙ c .if1 .left)
 
 pub sections-if-used-spec : {M : Type 1} → statement M
-sections-if-used-spec =
-    tie.close (tie.spec has-some-requires sections-requires same-length returns returns-2)
+sections-if-used-spec = tie.close (tie.spec (λ c κs. search needs) (λ c κs. search needs) (λ c. search needs) returns returns-2)

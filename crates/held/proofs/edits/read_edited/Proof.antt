@@ -4,15 +4,11 @@ use Prim.Native.Nat.{_≤_}
 use mathlib.Core.Path.{_≡_, sym, ap, _∙_}
 use native.Mathlib.Omega.{arith}
 use mir.Facts.{toZ-ofZ}
-use lib.ListN.{length, take}
-use lib.Seq.{length-take-le}
+use lib.{ListN.{length, take}, Seq.{length-take-le}}
 use borrow.Author.Needs.{needs}
 use Rattle.molang.proofs.HandedTree.{front-words}
-use Rattle.held.specs.Held.{Edit, edited}
-use Rattle.held.specs.Answers.{edit}
-use Rattle.held.specs.Editing.{CanSplice}
-use Rattle.held.proofs.EditLaws.{can-splice, not-whole, too-many}
-use Rattle.held.proofs.edits.read_edited.Statement.{statement}
+use Rattle.held.specs.{Held.{Edit, edited}, Answers.{edit}, Editing.{CanSplice}}
+use Rattle.held.proofs.{EditLaws.{can-splice, not-whole, too-many}, edits.read_edited.Statement.{statement}}
 use Rattle.held.proofs.edits.read_edited.Tie as tie
 
 -- The edit, by the values at entry.
@@ -52,9 +48,6 @@ room c =
     let a = start .args in
     can-splice (the-edit start) (a .new .now) (a .list .now) (start .pre) (c .before .if1 .left) (c .if2 .left)
 
-splice-requires : tie.Need-splice-requires
-splice-requires c κs = room (c .before)
-
 -- The new list stands in front of the array.
 within : (c : tie.After-splice) → c .splice .result ≤ length (c .splice .last .0)
 within c = omega (arith, c .splice .kept .0, c .splice .ensures .0, room (c .before .before) .room)
@@ -65,26 +58,8 @@ laid : (c : tie.After-splice)
 laid c =
     ap (take (c .splice .result)) (c .splice .ensures .1) ∙ front-words _ _ (c .splice .result) (sym (c .splice .ensures .0))
 
-slice-reshare-prefix-read-own : tie.Need-slice-reshare-prefix-read-own
-slice-reshare-prefix-read-own c = within (c .before .before)
-
 slice-aggregate-read-own : tie.Need-slice-aggregate-read-own
 slice-aggregate-read-own c = sym (length-take-le _ _ (within (c .before .before .before)))
-
-read-own-requires : tie.Need-read-own-requires
-read-own-requires c κs = search needs
-
-same-length : tie.Need-same-length
-same-length c = search needs
-
-same-length-2 : tie.Need-same-length-2
-same-length-2 c = search needs
-
-same-length-3 : tie.Need-same-length-3
-same-length-3 c = search needs
-
-same-length-4 : tie.Need-same-length-4
-same-length-4 c = search needs
 
 returns-3 : tie.Need-returns-3
 returns-3 c =
@@ -96,17 +71,5 @@ returns-3 c =
 pub read-edited-spec : {M : Type 1} → statement M
 read-edited-spec =
     tie.close
-    (tie.spec
-    returns
-    sub-kept
-    sub-if2
-    returns-2
-    splice-requires
-    slice-reshare-prefix-read-own
-    slice-aggregate-read-own
-    read-own-requires
-    same-length
-    same-length-2
-    same-length-3
-    same-length-4
-    returns-3)
+    (tie.spec returns sub-kept sub-if2 returns-2 (λ c κs. room (c .before)) (λ c. within (c .before .before)) slice-aggregate-read-own
+    (λ c κs. search needs) (λ c. search needs) (λ c. search needs) (λ c. search needs) (λ c. search needs) returns-3)

@@ -2,13 +2,10 @@
 use Prim.Native.Nat.{_+_, _*_, _-_, _≤_}
 use mathlib.Core.Path.{_≡_, sym}
 use native.Mathlib.Omega.{arith}
-use lib.ListN.{length, drop, length-drop, length-take}
-use lib.Seq.{length-take-le}
+use lib.{ListN.{length, drop, length-drop, length-take}, Seq.{length-take-le}}
 use borrow.Author.Needs.{needs}
-use Rattle.held.specs.Held.{Edit, edited}
-use Rattle.held.specs.Answers.{edit}
-use Rattle.held.proofs.EditLaws.{edited-length, edited-laid}
-use Rattle.held.proofs.edits.splice.Statement.{statement}
+use Rattle.held.specs.{Held.{Edit, edited}, Answers.{edit}}
+use Rattle.held.proofs.{EditLaws.{edited-length, edited-laid}, edits.splice.Statement.{statement}}
 use Rattle.held.proofs.edits.splice.Tie as tie
 
 -- The edit, by the values at entry; and room for what comes of it.
@@ -23,15 +20,6 @@ long start = edited-length (the-edit start) (start .args .list .now) (start .pre
 
 front : (start : tie.Start) → 5 * start .args .place ≤ length (start .args .list .now)
 front start = omega (arith, start .pre .within)
-
-mul-front : tie.Need-mul-front
-mul-front c = search needs
-
-add-back : tie.Need-add-back
-add-back c = search needs
-
-mul-back : tie.Need-mul-back
-mul-back c = search needs
 
 add-behind : tie.Need-add-behind
 add-behind c = let start = c .before .before .before in omega (arith, long start, start .pre .room)
@@ -51,18 +39,6 @@ copy-words-requires-2 c κs =
     let start = first .before .before .before .before .before .before in
     omega (arith, first .copy-words .kept .1 .0, long start, start .pre .room)
 
-mul-copy-words : tie.Need-mul-copy-words
-mul-copy-words c = search needs
-
-sub-copy-words : tie.Need-sub-copy-words
-sub-copy-words c = search needs
-
-part-copy-words-start : tie.Need-part-copy-words-start
-part-copy-words-start c = search needs
-
-part-copy-words-end : tie.Need-part-copy-words-end
-part-copy-words-end c = search needs
-
 copy-words-requires-3 : tie.Need-copy-words-requires-3
 copy-words-requires-3 c κs =
     let second = c .before .before .before .before in
@@ -80,17 +56,11 @@ copy-words-requires-3 c κs =
       length-drop back (a .list .now),
     )
 
-sub-result : tie.Need-sub-result
-sub-result c = search needs
-
 add-result : tie.Need-add-result
 add-result c =
     let second = c .before .before .before .before .before .before .before in
     let start = second .before .before .before .before .before .before .before .before .before .before in
     omega (arith, long start, start .pre .room)
-
-same-length : tie.Need-same-length
-same-length c = search needs
 
 returns : tie.Need-returns
 returns c =
@@ -107,20 +77,6 @@ returns c =
 pub splice-spec : {M : Type 1} → statement M
 splice-spec =
     tie.close
-    (tie.spec
-    mul-front
-    add-back
-    mul-back
-    add-behind
-    slice-aggregate-copy-words
-    copy-words-requires
-    copy-words-requires-2
-    mul-copy-words
-    sub-copy-words
-    part-copy-words-start
-    part-copy-words-end
-    copy-words-requires-3
-    sub-result
-    add-result
-    same-length
-    returns)
+    (tie.spec (λ c. search needs) (λ c. search needs) (λ c. search needs) add-behind slice-aggregate-copy-words copy-words-requires
+    copy-words-requires-2 (λ c. search needs) (λ c. search needs) (λ c. search needs) (λ c. search needs) copy-words-requires-3
+    (λ c. search needs) add-result (λ c. search needs) returns)

@@ -1,18 +1,8 @@
 -- `held::faults::ask_fault` meets its contract. Assumes nothing.
 use borrow.Author.Needs.{needs}
 use Rattle.held.specs.Answers.{state}
-use Rattle.held.proofs.FaultLaws.{ask-first}
-use Rattle.held.proofs.faults.ask_fault.Statement.{statement}
+use Rattle.held.proofs.{FaultLaws.{ask-first}, faults.ask_fault.Statement.{statement}}
 use Rattle.held.proofs.faults.ask_fault.Tie as tie
-
-claim-fault-requires : tie.Need-claim-fault-requires
-claim-fault-requires c κs = search needs
-
-edit-fault-requires : tie.Need-edit-fault-requires
-edit-fault-requires c κs = search needs
-
-first-requires : tie.Need-first-requires
-first-requires c κs = search needs
 
 returns : tie.Need-returns
 returns c =
@@ -23,4 +13,4 @@ returns c =
     (c .first .ensures)
 
 pub ask-fault-spec : {M : Type 1} → statement M
-ask-fault-spec = tie.close (tie.spec claim-fault-requires edit-fault-requires first-requires returns)
+ask-fault-spec = tie.close (tie.spec (λ c κs. search needs) (λ c κs. search needs) (λ c κs. search needs) returns)

@@ -1,31 +1,8 @@
 -- `held::faults::commit_fault` meets its contract. Assumes nothing.
 use borrow.Author.Needs.{needs}
-use Rattle.held.specs.Held.{seenRow}
-use Rattle.held.specs.Answers.{state}
-use Rattle.held.proofs.FaultLaws.{commit-first}
-use Rattle.held.proofs.faults.commit_fault.Statement.{statement}
+use Rattle.held.specs.{Held.{seenRow}, Answers.{state}}
+use Rattle.held.proofs.{FaultLaws.{commit-first}, faults.commit_fault.Statement.{statement}}
 use Rattle.held.proofs.faults.commit_fault.Tie as tie
-
-claim-fault-requires : tie.Need-claim-fault-requires
-claim-fault-requires c κs = search needs
-
-seen-fault-requires : tie.Need-seen-fault-requires
-seen-fault-requires c κs = search needs
-
-edit-fault-requires : tie.Need-edit-fault-requires
-edit-fault-requires c κs = search needs
-
-count-fault-requires : tie.Need-count-fault-requires
-count-fault-requires c κs = search needs
-
-first-requires : tie.Need-first-requires
-first-requires c κs = search needs
-
-first-requires-2 : tie.Need-first-requires-2
-first-requires-2 c κs = search needs
-
-first-requires-3 : tie.Need-first-requires-3
-first-requires-3 c κs = search needs
 
 returns : tie.Need-returns
 unfolding seenRow
@@ -44,12 +21,5 @@ returns c =
 pub commit-fault-spec : {M : Type 1} → statement M
 commit-fault-spec =
     tie.close
-    (tie.spec
-    claim-fault-requires
-    seen-fault-requires
-    edit-fault-requires
-    count-fault-requires
-    first-requires
-    first-requires-2
-    first-requires-3
-    returns)
+    (tie.spec (λ c κs. search needs) (λ c κs. search needs) (λ c κs. search needs) (λ c κs. search needs) (λ c κs. search needs)
+    (λ c κs. search needs) (λ c κs. search needs) returns)

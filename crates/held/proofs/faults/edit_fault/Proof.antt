@@ -1,6 +1,5 @@
 -- `held::faults::edit_fault` meets its contract: a row for each test. Assumes nothing.
-use Rattle.held.proofs.FaultLaws.{place-past, removal-past, edit-right}
-use Rattle.held.proofs.faults.edit_fault.Statement.{statement}
+use Rattle.held.proofs.{FaultLaws.{place-past, removal-past, edit-right}, faults.edit_fault.Statement.{statement}}
 use Rattle.held.proofs.faults.edit_fault.Tie as tie
 
 returns : tie.Need-returns

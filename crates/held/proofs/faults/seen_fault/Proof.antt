@@ -1,8 +1,7 @@
 -- `held::faults::seen_fault` meets its contract. Assumes nothing.
 use mathlib.Core.List.{[]}
 use Rattle.held.specs.Answers.{state}
-use Rattle.held.proofs.FaultLaws.{seen-other, seen-right}
-use Rattle.held.proofs.faults.seen_fault.Statement.{statement}
+use Rattle.held.proofs.{FaultLaws.{seen-other, seen-right}, faults.seen_fault.Statement.{statement}}
 use Rattle.held.proofs.faults.seen_fault.Tie as tie
 
 returns : tie.Need-returns

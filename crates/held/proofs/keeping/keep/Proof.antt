@@ -7,12 +7,8 @@ use borrow.Author.Needs.{needs}
 use Rattle.molang.specs.Parse.{inFront}
 use Rattle.parse.specs.Answers.{toldOf}
 use Rattle.held.specs.Editing.{CanKeep}
-use Rattle.held.proofs.KeepLaws.{can-keep}
-use Rattle.held.proofs.keeping.keep.Statement.{statement}
+use Rattle.held.proofs.{KeepLaws.{can-keep}, keeping.keep.Statement.{statement}}
 use Rattle.held.proofs.keeping.keep.Tie as tie
-
-kept-tokens-requires : tie.Need-kept-tokens-requires
-kept-tokens-requires c κs = search needs
 
 keep-words-requires : tie.Need-keep-words-requires
 keep-words-requires c κs =
@@ -21,12 +17,6 @@ keep-words-requires c κs =
     let a = start .args in
     subst (λ (n : ℕ). CanKeep n (a .words .now) (a .list .now)) (sym (counted .kept-tokens .ensures))
     (can-keep (toldOf (a .answer)) (a .held .tokens) (a .words .now) (a .list .now) (start .pre))
-
-with-held-requires : tie.Need-with-held-requires
-with-held-requires c κs = search needs
-
-same-length : tie.Need-same-length
-same-length c = search needs
 
 returns : tie.Need-returns
 returns c =
@@ -39,4 +29,4 @@ returns c =
     )
 
 pub keep-spec : {M : Type 1} → statement M
-keep-spec = tie.close (tie.spec kept-tokens-requires keep-words-requires with-held-requires same-length returns)
+keep-spec = tie.close (tie.spec (λ c κs. search needs) keep-words-requires (λ c κs. search needs) (λ c. search needs) returns)

@@ -8,9 +8,6 @@ use Rattle.words.proofs.RecordLaws.{laid-front}
 use Rattle.held.proofs.keeping.keep_words.Statement.{statement}
 use Rattle.held.proofs.keeping.keep_words.Tie as tie
 
-mul-end : tie.Need-mul-end
-mul-end c = search needs
-
 slice-aggregate-copy-words : tie.Need-slice-aggregate-copy-words
 slice-aggregate-copy-words c = sym (length-take-le _ _ (c .before .before .before .pre .words))
 
@@ -20,11 +17,8 @@ copy-words-requires c κs =
     let a = start .args in
     omega (arith, length-take-le (5 * a .tokens) (a .list .now) (start .pre .words), start .pre .room)
 
-same-length : tie.Need-same-length
-same-length c = search needs
-
-returns : tie.Need-returns
-returns c = c .before .before .copy-words .ensures ∙ laid-front _ _
-
 pub keep-words-spec : {M : Type 1} → statement M
-keep-words-spec = tie.close (tie.spec mul-end slice-aggregate-copy-words copy-words-requires same-length returns)
+keep-words-spec =
+    tie.close
+    (tie.spec (λ c. search needs) slice-aggregate-copy-words copy-words-requires (λ c. search needs)
+    (λ c. c .before .before .copy-words .ensures ∙ laid-front _ _))

@@ -2,22 +2,12 @@
 use Prim.Native.Nat.{_+_, _-_, _/_}
 use mathlib.Core.Path.{_≡_}
 use native.Mathlib.Numerals.{add-one}
-use mir.Syntax.{w16}
-use mir.Val.{ofZ, toZ}
+use mir.{Syntax.{w16}, Val.{ofZ, toZ}}
 use lib.ListN.{length}
 use borrow.Author.Needs.{needs}
 use Rattle.held.specs.Editing.{counted}
 use Rattle.held.proofs.keeping.with_edit.Statement.{statement}
 use Rattle.held.proofs.keeping.with_edit.Tie as tie
-
-sub-t4 : tie.Need-sub-t4
-sub-t4 c = search needs
-
-add-t7 : tie.Need-add-t7
-add-t7 c = search needs
-
-add-t8 : tie.Need-add-t8
-add-t8 c = search needs
 
 version-is : (c : tie.After-struct-told)
     → let held = c .before .before .before .args .held in
@@ -35,4 +25,4 @@ returns c =
     })
 
 pub with-edit-spec : {M : Type 1} → statement M
-with-edit-spec = tie.close (tie.spec sub-t4 add-t7 add-t8 returns)
+with-edit-spec = tie.close (tie.spec (λ c. search needs) (λ c. search needs) (λ c. search needs) returns)

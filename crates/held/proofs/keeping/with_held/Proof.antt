@@ -1,8 +1,7 @@
 -- `held::keeping::with_held` meets its contract, case by case. Assumes nothing.
 use mathlib.Core.Path.{_≡_, sym, ap}
 use borrow.Author.Needs.{needs}
-use Rattle.parse.specs.declared.Answer.{Answer}
-use Rattle.parse.specs.Answers.{toldOf}
+use Rattle.parse.specs.{declared.Answer.{Answer}, Answers.{toldOf}}
 use Rattle.held.specs.Editing.{kept}
 use Rattle.held.proofs.keeping.with_held.Statement.{statement}
 use Rattle.held.proofs.keeping.with_held.Tie as tie
@@ -11,15 +10,6 @@ use Rattle.held.proofs.keeping.with_held.Tie as tie
 known : (s : tie.Start) {r : Answer} → s .args .answer ≡ r
     → kept (toldOf r) (s .args .held) ≡ kept (toldOf (s .args .answer)) (s .args .held)
 known s e = ap (λ (a : Answer). kept (toldOf a) (s .args .held)) (sym e)
-
-enum-known-answer : tie.Need-enum-known-answer
-enum-known-answer c = search needs
-
-enum-known-answer-2 : tie.Need-enum-known-answer-2
-enum-known-answer-2 c = search needs
-
-enum-known-answer-3 : tie.Need-enum-known-answer-3
-enum-known-answer-3 c = search needs
 
 returns : tie.Need-returns
 unfolding kept
@@ -34,5 +24,4 @@ unfolding kept
 returns-3 c = known (c .before .before .before) (c .before .answer3 .given .1)
 
 pub with-held-spec : {M : Type 1} → statement M
-with-held-spec =
-    tie.close (tie.spec enum-known-answer enum-known-answer-2 enum-known-answer-3 returns returns-2 returns-3)
+with-held-spec = tie.close (tie.spec (λ c. search needs) (λ c. search needs) (λ c. search needs) returns returns-2 returns-3)

@@ -1,25 +1,15 @@
 -- `is_inner`: a leaf is not, and a node is by the classes that it notes.
 use Prim.Native.Nat.{ℕ}
 use Rattle.ops.specs.Classes.{shares}
-use Rattle.levels.proofs.Reading.{inner-leaf, inner-node}
+use Rattle.levels.proofs.{Reading.{inner-leaf, inner-node}, items.is_inner.Statement.{statement}}
 use mathlib.Core.Path.{sym, ap, _∙_}
 use borrow.Author.Needs.{needs}
-use Rattle.levels.proofs.items.is_inner.Statement.{statement}
 use Rattle.levels.proofs.items.is_inner.Tie as tie
-
-is-leaf-requires : tie.Need-is-leaf-requires
-is-leaf-requires c κs = search needs
 
 returns : tie.Need-returns
 returns c =
     inner-leaf _ (c .before .before .before .args .item) (c .before .before .before .args .classes .0)
     (sym (c .before .is-leaf .ensures) ∙ c .if1 .taken)
-
-classes-of-requires : tie.Need-classes-of-requires
-classes-of-requires c κs = search needs
-
-intersects-requires : tie.Need-intersects-requires
-intersects-requires c κs = search needs
 
 returns-2 : tie.Need-returns-2
 returns-2 c =
@@ -29,5 +19,4 @@ returns-2 c =
     ∙ inner-node _ (a .item) (a .classes .0) (sym (test .before .is-leaf .ensures) ∙ test .if1 .left)
 
 pub is-inner-spec : {M : Type 1} → statement M
-is-inner-spec =
-    tie.close (tie.spec is-leaf-requires returns classes-of-requires intersects-requires returns-2)
+is-inner-spec = tie.close (tie.spec (λ c κs. search needs) returns (λ c κs. search needs) (λ c κs. search needs) returns-2)

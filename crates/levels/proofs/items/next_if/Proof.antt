@@ -1,22 +1,12 @@
 -- `next_if`, by the item's operator word.
 use native.Mathlib.Omega.{arith}
-use Rattle.levels.proofs.Reading.{next-if-end, next-if-found, next-if-other}
+use Rattle.levels.proofs.{Reading.{next-if-end, next-if-found, next-if-other}, items.next_if.Statement.{statement}}
 use mathlib.Core.Path.{sym, _∙_}
 use borrow.Author.Needs.{needs}
-use Rattle.levels.proofs.items.next_if.Statement.{statement}
 use Rattle.levels.proofs.items.next_if.Tie as tie
 
 returns : tie.Need-returns
 returns c = let a = c .before .before .before .args in next-if-end _ (a .list) (a .op) (c .if1 .taken)
-
-add-at : tie.Need-add-at
-add-at c = search needs
-
-mul-item : tie.Need-mul-item
-mul-item c = search needs
-
-shared-slice-read-item : tie.Need-shared-slice-read-item
-shared-slice-read-item c = search needs
 
 operator-of-requires : tie.Need-operator-of-requires
 operator-of-requires c κs =
@@ -38,11 +28,4 @@ returns-3 c =
 pub next-if-spec : {M : Type 1} → statement M
 next-if-spec =
     tie.close
-    (tie.spec
-    returns
-    add-at
-    mul-item
-    shared-slice-read-item
-    operator-of-requires
-    returns-2
-    returns-3)
+    (tie.spec returns (λ c. search needs) (λ c. search needs) (λ c. search needs) operator-of-requires returns-2 returns-3)

@@ -1,12 +1,10 @@
 -- `next_token`: its loop passes over an item, or stops at one (Seeking).
-use Prim.Native.Nat.{ℕ, _+_, _^_, _≤_, _<_}
-use mathlib.Core.Path.{refl, sym, ap, _∙_}
+use Prim.Native.Nat.{ℕ, _+_, _^_, _≤_, _<_, _-_}
+use mathlib.Core.Path.{refl, sym, ap, _∙_, _≡_}
 use native.Mathlib.Omega.{arith}
 use lib.ListN.{length}
 use Rattle.nodes.specs.Store.{wd, slotEnd, classesAt}
 use Rattle.ops.specs.Classes.{shares}
-use Prim.Native.Nat.{_-_}
-use mathlib.Core.Path.{_≡_}
 use Rattle.levels.proofs.Seeking.{Seeking, seek-start, seek-in, seek-turn, sought-leaf, sought-tree, sought-none}
 use Rattle.levels.proofs.items.next_token.Statement.{statement}
 use Rattle.levels.proofs.items.next_token.Tie as tie
@@ -44,26 +42,11 @@ asked c =
     let a = c .before .before .before .before .before .before .before .args in
     c .intersects .ensures ∙ ap (λ (x : ℕ). shares x (a .classes .0)) (c .before .classes-of .ensures)
 
-add-item : tie.Need-add-item Inv-loop μ-loop
-add-item c = omega (arith, reading (c .before) (c .loop-test .taken))
-
-mul-item : tie.Need-mul-item Inv-loop μ-loop
-mul-item c = omega (arith, reading (c .before) (c .loop-test .taken))
-
-slice-read-item : tie.Need-slice-read-item Inv-loop μ-loop
-slice-read-item c = reading (c .before .before) (c .before .loop-test .taken) .0
-
 add-read : tie.Need-add-read Inv-loop μ-loop
 add-read c = omega (arith, reading (c .before .before) (c .before .loop-test .taken))
 
 classes-of-requires : tie.Need-classes-of-requires Inv-loop μ-loop
 classes-of-requires c κs = reading (c .before .before .before) (c .before .before .loop-test .taken) .1
-
-intersects-requires : tie.Need-intersects-requires Inv-loop μ-loop
-intersects-requires c κs = tt
-
-moved-requires : tie.Need-moved-requires Inv-loop μ-loop
-moved-requires c κs = tt
 
 is-leaf-requires : tie.Need-is-leaf-requires Inv-loop μ-loop
 is-leaf-requires c κs =
@@ -98,9 +81,6 @@ add-work c = omega (arith, written (c .before .before .before .before .before))
 mul-work : tie.Need-mul-work Inv-loop μ-loop
 mul-work c = omega (arith, written (c .before .before .before .before .before))
 
-slice-write-work : tie.Need-slice-write-work Inv-loop μ-loop
-slice-write-work c = written (c .before .before .before .before .before) .0
-
 add-write : tie.Need-add-write Inv-loop μ-loop
 add-write c = omega (arith, written (c .before .before .before .before .before))
 
@@ -116,40 +96,14 @@ loop-again c =
       refl,
     )
 
-moved-requires-2 : tie.Need-moved-requires-2 Inv-loop μ-loop
-moved-requires-2 c κs = tt
-
-same-length-3 : tie.Need-same-length-3 Inv-loop μ-loop
-same-length-3 c = c .before .before .loop .inv .0 .long
-
 returns-3 : tie.Need-returns-3 Inv-loop μ-loop
 returns-3 c = sought-none (c .before .before .loop .inv .0) (c .before .loop-test .left) (c .moved2 .result) (c .moved2 .ensures)
 
 pub next-token-spec : {M : Type 1} → statement M
 next-token-spec =
     tie.close
-    (tie.spec
-    Inv-loop
-    μ-loop
-    loop-holds
-    add-item
-    mul-item
-    slice-read-item
-    add-read
-    classes-of-requires
-    intersects-requires
-    moved-requires
-    is-leaf-requires
-    same-length
-    returns
-    same-length-2
-    returns-2
-    add-work
-    mul-work
-    slice-write-work
-    add-write
-    loop-less
-    loop-again
-    moved-requires-2
-    same-length-3
-    returns-3)
+    (tie.spec Inv-loop μ-loop loop-holds (λ c. omega (arith, reading (c .before) (c .loop-test .taken)))
+    (λ c. omega (arith, reading (c .before) (c .loop-test .taken))) (λ c. reading (c .before .before) (c .before .loop-test .taken) .0)
+    add-read classes-of-requires (λ c κs. tt) (λ c κs. tt) is-leaf-requires same-length returns same-length-2 returns-2 add-work mul-work
+    (λ c. written (c .before .before .before .before .before) .0) add-write loop-less loop-again (λ c κs. tt)
+    (λ c. c .before .before .loop .inv .0 .long) returns-3)

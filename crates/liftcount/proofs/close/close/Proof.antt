@@ -2,31 +2,10 @@
 use mathlib.Core.Path.{ap, _∙_}
 use lib.ListN.{take}
 use mir.Facts.{toZ-ofZ}
-use Rattle.liftcount.specs.declared.judge.Verdict.{Verdict}
-use Rattle.liftcount.specs.Running.{openFault}
-use Rattle.liftcount.specs.Judging.{talliedBy}
-use Rattle.liftcount.proofs.CloseLaws.{tallied-ends}
+use Rattle.liftcount.specs.{declared.judge.Verdict.{Verdict}, Running.{openFault}, Judging.{talliedBy}}
+use Rattle.liftcount.proofs.{CloseLaws.{tallied-ends}, close.close.Statement.{statement}}
 use borrow.Author.Needs.{needs}
-use Rattle.liftcount.proofs.close.close.Statement.{statement}
 use Rattle.liftcount.proofs.close.close.Tie as tie
-
-judge-requires : tie.Need-judge-requires
-judge-requires c κs = search needs
-
-tallied-requires : tie.Need-tallied-requires
-tallied-requires c κs = search needs
-
-same-length : tie.Need-same-length
-same-length c = search needs
-
-same-length-2 : tie.Need-same-length-2
-same-length-2 c = search needs
-
-same-length-3 : tie.Need-same-length-3
-same-length-3 c = search needs
-
-same-length-4 : tie.Need-same-length-4
-same-length-4 c = search needs
 
 returns : tie.Need-returns
 returns c =
@@ -41,11 +20,5 @@ returns c =
 pub close-spec : {M : Type 1} → statement M
 close-spec =
     tie.close
-    (tie.spec
-    judge-requires
-    tallied-requires
-    same-length
-    same-length-2
-    same-length-3
-    same-length-4
+    (tie.spec (λ c κs. search needs) (λ c κs. search needs) (λ c. search needs) (λ c. search needs) (λ c. search needs) (λ c. search needs)
     returns)

@@ -1,13 +1,9 @@
 -- `liftcount::close::one_more` meets its contract. Assumes nothing.
 use mathlib.Core.Path.{refl}
-use borrow.Author.Needs.{needs}
-use borrow.Author.Tests.{lt-ltb, le-ltb}
+use borrow.Author.{Needs.{needs}, Tests.{lt-ltb, le-ltb}}
 use Rattle.liftcount.specs.Running.{more}
 use Rattle.liftcount.proofs.close.one_more.Statement.{statement}
 use Rattle.liftcount.proofs.close.one_more.Tie as tie
-
-add-result : tie.Need-add-result
-add-result c = search needs
 
 returns : tie.Need-returns
 unfolding more
@@ -18,4 +14,4 @@ unfolding more
 returns-2 c = rw (le-ltb (c .before .args .n) 18446744073709551615 (c .if1 .left), more) refl
 
 pub one-more-spec : {M : Type 1} → statement M
-one-more-spec = tie.close (tie.spec add-result returns returns-2)
+one-more-spec = tie.close (tie.spec (λ c. search needs) returns returns-2)

@@ -4,39 +4,6 @@ use borrow.Author.Needs.{needs}
 use Rattle.liftcount.proofs.close.tallied.Statement.{statement}
 use Rattle.liftcount.proofs.close.tallied.Tie as tie
 
-one-more-requires : tie.Need-one-more-requires
-one-more-requires c κs = search needs
-
-enum-known-verdict : tie.Need-enum-known-verdict
-enum-known-verdict c = search needs
-
-enum-told : tie.Need-enum-told
-enum-told c = search needs
-
-one-more-requires-2 : tie.Need-one-more-requires-2
-one-more-requires-2 c κs = search needs
-
-enum-told-2 : tie.Need-enum-told-2
-enum-told-2 c = search needs
-
-one-more-requires-3 : tie.Need-one-more-requires-3
-one-more-requires-3 c κs = search needs
-
-enum-told-3 : tie.Need-enum-told-3
-enum-told-3 c = search needs
-
-one-more-requires-4 : tie.Need-one-more-requires-4
-one-more-requires-4 c κs = search needs
-
-enum-told-4 : tie.Need-enum-told-4
-enum-told-4 c = search needs
-
-one-more-requires-5 : tie.Need-one-more-requires-5
-one-more-requires-5 c κs = search needs
-
-returns : tie.Need-returns
-returns c = rw (c .before .verdict .given .1) refl
-
 returns-2 : tie.Need-returns-2
 returns-2 c = rw (c .before .enum-told .given .1, c .before .before .before .one-more .ensures, c .one-more2 .ensures) refl
 
@@ -52,19 +19,6 @@ returns-5 c = rw (c .before .enum-told4 .given .1, c .before .before .before .on
 pub tallied-spec : {M : Type 1} → statement M
 tallied-spec =
     tie.close
-    (tie.spec
-    one-more-requires
-    enum-known-verdict
-    enum-told
-    one-more-requires-2
-    enum-told-2
-    one-more-requires-3
-    enum-told-3
-    one-more-requires-4
-    enum-told-4
-    one-more-requires-5
-    returns
-    returns-2
-    returns-3
-    returns-4
-    returns-5)
+    (tie.spec (λ c κs. search needs) (λ c. search needs) (λ c. search needs) (λ c κs. search needs) (λ c. search needs)
+    (λ c κs. search needs) (λ c. search needs) (λ c κs. search needs) (λ c. search needs) (λ c κs. search needs)
+    (λ c. rw (c .before .verdict .given .1) refl) returns-2 returns-3 returns-4 returns-5)

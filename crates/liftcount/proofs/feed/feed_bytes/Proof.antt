@@ -4,10 +4,8 @@ use mathlib.Core.Path.{_≡_, refl, ap, sym, _∙_}
 use native.Mathlib.Omega.{arith}
 use borrow.Author.Needs.{needs}
 use lib.ListN.{length, drop}
-use Rattle.liftcount.specs.Running.{State, stateOf, fed}
-use Rattle.liftcount.specs.Judging.{Scratch}
-use Rattle.liftcount.proofs.FeedLaws.{byte-on, fed-end, scratch-kept}
-use Rattle.liftcount.proofs.feed.feed_bytes.Statement.{statement}
+use Rattle.liftcount.specs.{Running.{State, stateOf, fed}, Judging.{Scratch}}
+use Rattle.liftcount.proofs.{FeedLaws.{byte-on, fed-end, scratch-kept}, feed.feed_bytes.Statement.{statement}}
 use Rattle.liftcount.proofs.feed.feed_bytes.Tie as tie
 
 abbrev Inv-loop : tie.InvT-loop
@@ -25,9 +23,6 @@ loop-holds c =
     let start = c .before .before .before .before .before .before in
     (omega arith, start .pre .0, start .pre .1, refl)
 
-shared-slice-read-take-byte : tie.Need-shared-slice-read-take-byte Inv-loop μ-loop
-shared-slice-read-take-byte c = omega arith
-
 take-byte-requires : tie.Need-take-byte-requires Inv-loop μ-loop
 take-byte-requires c κs =
     let at = c .before .before .before .before .before .before .before .loop in
@@ -38,9 +33,6 @@ add-i c =
     let took = c .before .before .before .before .before .before .before .before .before .before in
     let turn = took .before .before .before .before .before .before .before in
     omega (arith, turn .loop-test .taken, turn .before .before .before .before .before .before .before .before)
-
-loop-less : tie.Need-loop-less Inv-loop μ-loop
-loop-less c = omega arith
 
 loop-again : tie.Need-loop-again Inv-loop μ-loop
 loop-again c =
@@ -58,21 +50,6 @@ loop-again c =
           ∙ at .inv .3,
     )
 
-same-length : tie.Need-same-length Inv-loop μ-loop
-same-length c = search needs
-
-same-length-2 : tie.Need-same-length-2 Inv-loop μ-loop
-same-length-2 c = search needs
-
-same-length-3 : tie.Need-same-length-3 Inv-loop μ-loop
-same-length-3 c = search needs
-
-same-length-4 : tie.Need-same-length-4 Inv-loop μ-loop
-same-length-4 c = search needs
-
-same-length-5 : tie.Need-same-length-5 Inv-loop μ-loop
-same-length-5 c = search needs
-
 returns : tie.Need-returns Inv-loop μ-loop
 returns c =
     let at = c .before .loop in
@@ -82,18 +59,5 @@ returns c =
 pub feed-bytes-spec : {M : Type 1} → statement M
 feed-bytes-spec =
     tie.close
-    (tie.spec
-    Inv-loop
-    μ-loop
-    loop-holds
-    shared-slice-read-take-byte
-    take-byte-requires
-    add-i
-    loop-less
-    loop-again
-    same-length
-    same-length-2
-    same-length-3
-    same-length-4
-    same-length-5
-    returns)
+    (tie.spec Inv-loop μ-loop loop-holds (λ c. omega arith) take-byte-requires add-i (λ c. omega arith) loop-again (λ c. search needs)
+    (λ c. search needs) (λ c. search needs) (λ c. search needs) (λ c. search needs) returns)

@@ -5,11 +5,8 @@ use mathlib.Core.Path.{_≡_, refl, ap, sym, _∙_}
 use native.Mathlib.Omega.{arith}
 use borrow.Author.Needs.{needs}
 use lib.ListN.{length, drop}
-use Rattle.liftcount.specs.Running.{State, stateOf, wordTaken, fed}
-use Rattle.liftcount.specs.Judging.{Scratch}
-use Rattle.liftcount.specs.Steps.{afterWord}
-use Rattle.liftcount.proofs.FeedLaws.{word-on, fed-end, scratch-kept}
-use Rattle.liftcount.proofs.feed.feed_words.Statement.{statement}
+use Rattle.liftcount.specs.{Running.{State, stateOf, wordTaken, fed}, Judging.{Scratch}, Steps.{afterWord}}
+use Rattle.liftcount.proofs.{FeedLaws.{word-on, fed-end, scratch-kept}, feed.feed_words.Statement.{statement}}
 use Rattle.liftcount.proofs.feed.feed_words.Tie as tie
 
 abbrev Inv-loop : tie.InvT-loop
@@ -30,33 +27,6 @@ loop-holds c =
     let start = c .before .before .before .before .before .before in
     (omega arith, refl, start .pre .0 .0, search needs, start .pre .1 .0, start .pre .1 .1, refl)
 
-sub-loop : tie.Need-sub-loop Inv-loop μ-loop
-sub-loop c = omega arith
-
-shared-slice-read-word-of : tie.Need-shared-slice-read-word-of Inv-loop μ-loop
-shared-slice-read-word-of c = omega arith
-
-add-word-of : tie.Need-add-word-of Inv-loop μ-loop
-add-word-of c = omega arith
-
-shared-slice-read-word-of-2 : tie.Need-shared-slice-read-word-of-2 Inv-loop μ-loop
-shared-slice-read-word-of-2 c = omega arith
-
-add-word-of-2 : tie.Need-add-word-of-2 Inv-loop μ-loop
-add-word-of-2 c = omega arith
-
-shared-slice-read-word-of-3 : tie.Need-shared-slice-read-word-of-3 Inv-loop μ-loop
-shared-slice-read-word-of-3 c = omega arith
-
-add-word-of-3 : tie.Need-add-word-of-3 Inv-loop μ-loop
-add-word-of-3 c = omega arith
-
-shared-slice-read-word-of-4 : tie.Need-shared-slice-read-word-of-4 Inv-loop μ-loop
-shared-slice-read-word-of-4 c = omega arith
-
-word-of-requires : tie.Need-word-of-requires Inv-loop μ-loop
-word-of-requires c κs = search needs
-
 take-word-requires : tie.Need-take-word-requires Inv-loop μ-loop
 take-word-requires c κs =
     let at = c .before .before .before .before .before .before .before .before .before .before .before .loop in
@@ -67,9 +37,6 @@ add-at c =
     let took = c .before .before .before .before .before .before .before .before .before .before in
     let turn = took .before .before .before .before .before .before .before .before .before .before .before in
     omega (arith, turn .loop-test .taken, turn .before .before .before .before .before .before .before .before)
-
-loop-less : tie.Need-loop-less Inv-loop μ-loop
-loop-less c = omega arith
 
 loop-again : tie.Need-loop-again Inv-loop μ-loop
 loop-again c =
@@ -94,21 +61,6 @@ loop-again c =
           ∙ at .inv .6,
     )
 
-same-length : tie.Need-same-length Inv-loop μ-loop
-same-length c = search needs
-
-same-length-2 : tie.Need-same-length-2 Inv-loop μ-loop
-same-length-2 c = search needs
-
-same-length-3 : tie.Need-same-length-3 Inv-loop μ-loop
-same-length-3 c = search needs
-
-same-length-4 : tie.Need-same-length-4 Inv-loop μ-loop
-same-length-4 c = search needs
-
-same-length-5 : tie.Need-same-length-5 Inv-loop μ-loop
-same-length-5 c = search needs
-
 returns : tie.Need-returns Inv-loop μ-loop
 returns c =
     let start = c .before .before .before .before .before .before .before .before in
@@ -118,26 +70,6 @@ returns c =
 pub feed-words-spec : {M : Type 1} → statement M
 feed-words-spec =
     tie.close
-    (tie.spec
-    Inv-loop
-    μ-loop
-    loop-holds
-    sub-loop
-    shared-slice-read-word-of
-    add-word-of
-    shared-slice-read-word-of-2
-    add-word-of-2
-    shared-slice-read-word-of-3
-    add-word-of-3
-    shared-slice-read-word-of-4
-    word-of-requires
-    take-word-requires
-    add-at
-    loop-less
-    loop-again
-    same-length
-    same-length-2
-    same-length-3
-    same-length-4
-    same-length-5
-    returns)
+    (tie.spec Inv-loop μ-loop loop-holds (λ c. omega arith) (λ c. omega arith) (λ c. omega arith) (λ c. omega arith) (λ c. omega arith)
+    (λ c. omega arith) (λ c. omega arith) (λ c. omega arith) (λ c κs. search needs) take-word-requires add-at (λ c. omega arith) loop-again
+    (λ c. search needs) (λ c. search needs) (λ c. search needs) (λ c. search needs) (λ c. search needs) returns)

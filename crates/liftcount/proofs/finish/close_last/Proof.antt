@@ -4,21 +4,6 @@ use borrow.Author.Needs.{needs}
 use Rattle.liftcount.proofs.finish.close_last.Statement.{statement}
 use Rattle.liftcount.proofs.finish.close_last.Tie as tie
 
-slice-aggregate-close : tie.Need-slice-aggregate-close
-slice-aggregate-close c = search needs
-
-slice-aggregate-close-2 : tie.Need-slice-aggregate-close-2
-slice-aggregate-close-2 c = search needs
-
-slice-aggregate-close-3 : tie.Need-slice-aggregate-close-3
-slice-aggregate-close-3 c = search needs
-
-slice-aggregate-close-4 : tie.Need-slice-aggregate-close-4
-slice-aggregate-close-4 c = search needs
-
-close-requires : tie.Need-close-requires
-close-requires c κs = search needs
-
 returns : tie.Need-returns
 returns c =
     let closed = c .before .before .before .before in
@@ -28,10 +13,4 @@ returns c =
 pub close-last-spec : {M : Type 1} → statement M
 close-last-spec =
     tie.close
-    (tie.spec
-    slice-aggregate-close
-    slice-aggregate-close-2
-    slice-aggregate-close-3
-    slice-aggregate-close-4
-    close-requires
-    returns)
+    (tie.spec (λ c. search needs) (λ c. search needs) (λ c. search needs) (λ c. search needs) (λ c κs. search needs) returns)

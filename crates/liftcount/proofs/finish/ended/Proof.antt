@@ -1,36 +1,16 @@
 -- `liftcount::finish::ended` meets its contract, stage by stage. Assumes nothing.
 use mathlib.Core.Path.{ap, _∙_}
 use mir.Facts.{toZ-ofZ}
-use Rattle.liftcount.specs.declared.run.Stage.the-variants.{First, Second, Opener, InList, Refused}
-use Rattle.liftcount.specs.Running.{stateOf, progressText}
+use Rattle.liftcount.specs.{declared.run.Stage.the-variants.{First, Second, Opener, InList, Refused}, Running.{stateOf, progressText}}
 use Rattle.liftcount.specs.Steps.{endingText}
-use Rattle.liftcount.proofs.FinishLaws.{part-text, whole-text, closed-text}
+use Rattle.liftcount.proofs.{FinishLaws.{part-text, whole-text, closed-text}, finish.ended.Statement.{statement}}
 use borrow.Author.Needs.{needs}
-use Rattle.liftcount.proofs.finish.ended.Statement.{statement}
 use Rattle.liftcount.proofs.finish.ended.Tie as tie
 
 returns : tie.Need-returns
 returns c =
     let a = c .before .before .args in
     part-text (stateOf (a .run) (a .list .now)) (c .if1 .taken)
-
-enum-told : tie.Need-enum-told
-enum-told c = search needs
-
-enum-told-2 : tie.Need-enum-told-2
-enum-told-2 c = search needs
-
-enum-told-3 : tie.Need-enum-told-3
-enum-told-3 c = search needs
-
-enum-known-stage : tie.Need-enum-known-stage
-enum-known-stage c = search needs
-
-close-last-requires : tie.Need-close-last-requires
-close-last-requires c κs = search needs
-
-enum-known-stage-2 : tie.Need-enum-known-stage-2
-enum-known-stage-2 c = search needs
 
 returns-2 : tie.Need-returns-2
 unfolding progressText
@@ -76,16 +56,5 @@ returns-6 c =
 pub ended-spec : {M : Type 1} → statement M
 ended-spec =
     tie.close
-    (tie.spec
-    returns
-    enum-told
-    enum-told-2
-    enum-told-3
-    enum-known-stage
-    close-last-requires
-    enum-known-stage-2
-    returns-2
-    returns-3
-    returns-4
-    returns-5
-    returns-6)
+    (tie.spec returns (λ c. search needs) (λ c. search needs) (λ c. search needs) (λ c. search needs) (λ c κs. search needs)
+    (λ c. search needs) returns-2 returns-3 returns-4 returns-5 returns-6)

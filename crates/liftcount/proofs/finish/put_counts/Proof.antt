@@ -3,14 +3,10 @@ use Prim.Native.Nat.{_≤_}
 use native.Mathlib.Omega.{arith}
 use lib.ListN.{length}
 use Rattle.text.proofs.TextLaws.{wrote-then, numbered-length}
-use Rattle.liftcount.specs.Counting.{countLines}
-use Rattle.liftcount.specs.Running.{linesOf}
+use Rattle.liftcount.specs.{Counting.{countLines}, Running.{linesOf}}
 use borrow.Author.Needs.{needs}
 use Rattle.liftcount.proofs.finish.put_counts.Statement.{statement}
 use Rattle.liftcount.proofs.finish.put_counts.Tie as tie
-
-put-number-requires : tie.Need-put-number-requires
-put-number-requires c κs = search needs
 
 put-number-requires-2 : tie.Need-put-number-requires-2
 put-number-requires-2 c κs =
@@ -84,9 +80,6 @@ put-number-requires-5 c κs =
       numbered-length (counts .one) 10,
     )
 
-same-length : tie.Need-same-length
-same-length c = search needs
-
 returns : tie.Need-returns
 unfolding linesOf countLines
 returns c =
@@ -126,11 +119,5 @@ returns c =
 pub put-counts-spec : {M : Type 1} → statement M
 put-counts-spec =
     tie.close
-    (tie.spec
-    put-number-requires
-    put-number-requires-2
-    put-number-requires-3
-    put-number-requires-4
-    put-number-requires-5
-    same-length
-    returns)
+    (tie.spec (λ c κs. search needs) put-number-requires-2 put-number-requires-3 put-number-requires-4 put-number-requires-5
+    (λ c. search needs) returns)

@@ -2,22 +2,15 @@
 use mathlib.Core.Path.{refl, ap, sym, _∙_}
 use native.Mathlib.Omega.{arith}
 use Rattle.liftcount.specs.Judging.{treesBy}
-use Rattle.liftcount.proofs.JudgeLaws.{trees-other, trees-by}
+use Rattle.liftcount.proofs.{JudgeLaws.{trees-other, trees-by}, judge.after_tree.Statement.{statement}}
 use borrow.Author.Needs.{needs}
-use Rattle.liftcount.proofs.judge.after_tree.Statement.{statement}
 use Rattle.liftcount.proofs.judge.after_tree.Tie as tie
-
-enum-known-second : tie.Need-enum-known-second
-enum-known-second c = search needs
 
 returns : tie.Need-returns
 returns c =
     let start = c .before .before .before .before .before .before in
     let second = c .before .before .second .given in
     rw (second .1) (trees-other (start .args .n) (second .0 .0) (start .args .tree .now) (start .args .again .now) (c .if1 .taken))
-
-mul-same-words : tie.Need-mul-same-words
-mul-same-words c = search needs
 
 same-words-requires : tie.Need-same-words-requires
 same-words-requires c κs =
@@ -33,12 +26,6 @@ returns-2 c =
     (ap treesBy (sym (c .if2 .taken) ∙ c .before .same-words .ensures)
     ∙ trees-by (start .args .n) (second .0 .0) (start .args .tree .now) (start .args .again .now) (c .before .before .if1 .left))
 
-enum-told : tie.Need-enum-told
-enum-told c = search needs
-
-enum-known-second-2 : tie.Need-enum-known-second-2
-enum-known-second-2 c = search needs
-
 returns-3 : tie.Need-returns-3
 returns-3 c =
     let start = c .before .before .before .before .before .before .before .before in
@@ -47,23 +34,8 @@ returns-3 c =
     (ap treesBy (sym (c .if2 .left) ∙ c .before .same-words .ensures)
     ∙ trees-by (start .args .n) (second .0 .0) (start .args .tree .now) (start .args .again .now) (c .before .before .if1 .left))
 
-returns-4 : tie.Need-returns-4
-returns-4 c = search needs
-
-returns-5 : tie.Need-returns-5
-returns-5 c = rw (c .before .second2 .given .1) refl
-
 pub after-tree-spec : {M : Type 1} → statement M
 after-tree-spec =
     tie.close
-    (tie.spec
-    enum-known-second
-    returns
-    mul-same-words
-    same-words-requires
-    returns-2
-    enum-told
-    enum-known-second-2
-    returns-3
-    returns-4
-    returns-5)
+    (tie.spec (λ c. search needs) returns (λ c. search needs) same-words-requires returns-2 (λ c. search needs) (λ c. search needs)
+    returns-3 (λ c. search needs) (λ c. rw (c .before .second2 .given .1) refl))

@@ -4,9 +4,8 @@ use mathlib.Core.Path.{sym}
 use native.Mathlib.Omega.{arith}
 use lib.Seq.{length-take-le}
 use mir.Facts.{toZ-ofZ}
-use Rattle.liftcount.proofs.JudgeLaws.{not-whole, too-many, open-fault}
+use Rattle.liftcount.proofs.{JudgeLaws.{not-whole, too-many, open-fault}, judge.judge.Statement.{statement}}
 use borrow.Author.Needs.{needs}
-use Rattle.liftcount.proofs.judge.judge.Statement.{statement}
 use Rattle.liftcount.proofs.judge.judge.Tie as tie
 
 returns : tie.Need-returns
@@ -19,19 +18,10 @@ returns-2 c =
     let a = c .before .before .before .before .before .before .before .args in
     too-many (a .words) (a .list .now) (c .before .if1 .left) (c .if2 .taken) _ _
 
-mul-room : tie.Need-mul-room
-mul-room c = search needs
-
-add-room : tie.Need-add-room
-add-room c = search needs
-
 slice-aggregate-read-twice : tie.Need-slice-aggregate-read-twice
 slice-aggregate-read-twice c =
     let few = c .before in
     sym (length-take-le _ _ (omega (arith, few .before .before .before .before .before .before .before .pre .0, few .if2 .left)))
-
-slice-relend-prefix-read-twice : tie.Need-slice-relend-prefix-read-twice
-slice-relend-prefix-read-twice c = search needs
 
 slice-aggregate-read-twice-2 : tie.Need-slice-aggregate-read-twice-2
 slice-aggregate-read-twice-2 c =
@@ -62,18 +52,6 @@ read-twice-requires c κs =
       },
     )
 
-same-length : tie.Need-same-length
-same-length c = search needs
-
-same-length-2 : tie.Need-same-length-2
-same-length-2 c = search needs
-
-same-length-3 : tie.Need-same-length-3
-same-length-3 c = search needs
-
-same-length-4 : tie.Need-same-length-4
-same-length-4 c = search needs
-
 returns-3 : tie.Need-returns-3
 returns-3 c =
     let twice = c .before .before .before .before .before .before .before .before in
@@ -86,17 +64,6 @@ returns-3 c =
 pub judge-spec : {M : Type 1} → statement M
 judge-spec =
     tie.close
-    (tie.spec
-    returns
-    returns-2
-    mul-room
-    add-room
-    slice-aggregate-read-twice
-    slice-relend-prefix-read-twice
-    slice-aggregate-read-twice-2
-    read-twice-requires
-    same-length
-    same-length-2
-    same-length-3
-    same-length-4
+    (tie.spec returns returns-2 (λ c. search needs) (λ c. search needs) slice-aggregate-read-twice (λ c. search needs)
+    slice-aggregate-read-twice-2 read-twice-requires (λ c. search needs) (λ c. search needs) (λ c. search needs) (λ c. search needs)
     returns-3)

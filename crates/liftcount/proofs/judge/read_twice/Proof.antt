@@ -5,16 +5,9 @@ use mir.Facts.{toZ-ofZ}
 use Rattle.molang.specs.Words.{operatorField, wordsRefusal}
 use Rattle.own.specs.Own.{readingOf}
 use Rattle.liftcount.specs.Judging.{judged, verdictTold}
-use Rattle.liftcount.proofs.JudgeLaws.{holds, verdict-told}
+use Rattle.liftcount.proofs.{JudgeLaws.{holds, verdict-told}, judge.read_twice.Statement.{statement}}
 use borrow.Author.Needs.{needs}
-use Rattle.liftcount.proofs.judge.read_twice.Statement.{statement}
 use Rattle.liftcount.proofs.judge.read_twice.Tie as tie
-
-read-list-requires : tie.Need-read-list-requires
-read-list-requires c κs = search needs
-
-read-list-requires-2 : tie.Need-read-list-requires-2
-read-list-requires-2 c κs = search needs
 
 compared-requires : tie.Need-compared-requires
 compared-requires c κs =
@@ -28,18 +21,6 @@ compared-requires c κs =
       rw (one .ensures .0) (holds fault list _ (one .last .1 .0) (omega (arith, one .kept .1 .0, start .pre .0 .treeRoom))),
       rw (two .ensures .0) (holds fault list _ (two .last .1 .0) (omega (arith, two .kept .1 .0, start .pre .1 .treeRoom))),
     )
-
-same-length : tie.Need-same-length
-same-length c = search needs
-
-same-length-2 : tie.Need-same-length-2
-same-length-2 c = search needs
-
-same-length-3 : tie.Need-same-length-3
-same-length-3 c = search needs
-
-same-length-4 : tie.Need-same-length-4
-same-length-4 c = search needs
 
 returns : tie.Need-returns
 returns c =
@@ -59,12 +40,5 @@ returns c =
 pub read-twice-spec : {M : Type 1} → statement M
 read-twice-spec =
     tie.close
-    (tie.spec
-    read-list-requires
-    read-list-requires-2
-    compared-requires
-    same-length
-    same-length-2
-    same-length-3
-    same-length-4
-    returns)
+    (tie.spec (λ c κs. search needs) (λ c κs. search needs) compared-requires (λ c. search needs) (λ c. search needs) (λ c. search needs)
+    (λ c. search needs) returns)

@@ -2,11 +2,9 @@
 use Prim.Native.Nat.{_-_, _≤_}
 use mathlib.Core.Path.{_≡_, refl, sym, _∙_}
 use native.Mathlib.Omega.{arith}
-use lib.ListN.{length, take, drop}
-use lib.Seq.{length-take-le, getD-take}
+use lib.{ListN.{length, take, drop}, Seq.{length-take-le, getD-take}}
 use Rattle.liftcount.specs.Counting.{eqWords}
-use Rattle.liftcount.proofs.JudgeLaws.{words-equal, words-differ, words-end}
-use Rattle.liftcount.proofs.judge.same_words.Statement.{statement}
+use Rattle.liftcount.proofs.{JudgeLaws.{words-equal, words-differ, words-end}, judge.same_words.Statement.{statement}}
 use Rattle.liftcount.proofs.judge.same_words.Tie as tie
 
 abbrev Inv-loop : tie.InvT-loop
@@ -15,21 +13,6 @@ Inv-loop tree again words i₀ i =
 
 abbrev μ-loop : tie.MeasureT-loop
 μ-loop tree again words i₀ i = words - i
-
-loop-holds : tie.Need-loop-holds Inv-loop μ-loop
-loop-holds c = (omega arith, refl)
-
-mul-if1 : tie.Need-mul-if1 Inv-loop μ-loop
-mul-if1 c = omega arith
-
-shared-slice-read-if1 : tie.Need-shared-slice-read-if1 Inv-loop μ-loop
-shared-slice-read-if1 c = omega arith
-
-mul-if1-2 : tie.Need-mul-if1-2 Inv-loop μ-loop
-mul-if1-2 c = omega arith
-
-shared-slice-read-if1-2 : tie.Need-shared-slice-read-if1-2 Inv-loop μ-loop
-shared-slice-read-if1-2 c = omega arith
 
 returns : tie.Need-returns Inv-loop μ-loop
 returns c =
@@ -44,12 +27,6 @@ returns c =
     (at .inv .1
     ∙ words-differ (take words tree) (take words again) (at .i) (omega arith) (omega arith)
     (rw (getD-take words tree (at .i) 0 (omega arith), getD-take words again (at .i) 0 (omega arith)) (c .if1 .taken)))
-
-add-i : tie.Need-add-i Inv-loop μ-loop
-add-i c = omega arith
-
-loop-less : tie.Need-loop-less Inv-loop μ-loop
-loop-less c = omega arith
 
 loop-again : tie.Need-loop-again Inv-loop μ-loop
 loop-again c =
@@ -80,16 +57,5 @@ returns-2 c =
 pub same-words-spec : {M : Type 1} → statement M
 same-words-spec =
     tie.close
-    (tie.spec
-    Inv-loop
-    μ-loop
-    loop-holds
-    mul-if1
-    shared-slice-read-if1
-    mul-if1-2
-    shared-slice-read-if1-2
-    returns
-    add-i
-    loop-less
-    loop-again
-    returns-2)
+    (tie.spec Inv-loop μ-loop (λ c. (omega arith, refl)) (λ c. omega arith) (λ c. omega arith) (λ c. omega arith) (λ c. omega arith)
+    returns (λ c. omega arith) (λ c. omega arith) loop-again returns-2)

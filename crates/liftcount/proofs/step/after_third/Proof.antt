@@ -1,13 +1,9 @@
 -- `liftcount::step::after_third` meets its contract. Assumes nothing.
 use mathlib.Core.Path.{sym, _∙_}
 use mir.Facts.{toZ-ofZ}
-use Rattle.liftcount.proofs.StepLaws.{third-opens, third-fault}
+use Rattle.liftcount.proofs.{StepLaws.{third-opens, third-fault}, step.after_third.Statement.{statement}}
 use borrow.Author.Needs.{needs}
-use Rattle.liftcount.proofs.step.after_third.Statement.{statement}
 use Rattle.liftcount.proofs.step.after_third.Tie as tie
-
-kind-requires : tie.Need-kind-requires
-kind-requires c κs = search needs
 
 returns : tie.Need-returns
 returns c counts list =
@@ -21,4 +17,4 @@ returns-2 c counts list =
     third-fault counts list (start .args .w) (start .args .from) (start .args .to) (λ e. c .if1 .left (c .before .kind .ensures ∙ e))
 
 pub after-third-spec : {M : Type 1} → statement M
-after-third-spec = tie.close (tie.spec kind-requires returns returns-2)
+after-third-spec = tie.close (tie.spec (λ c κs. search needs) returns returns-2)

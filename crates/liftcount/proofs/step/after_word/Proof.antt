@@ -3,8 +3,5 @@ use mathlib.Core.Path.{refl}
 use Rattle.liftcount.proofs.step.after_word.Statement.{statement}
 use Rattle.liftcount.proofs.step.after_word.Tie as tie
 
-returns : tie.Need-returns
-returns c list = refl
-
 pub after-word-spec : {M : Type 1} → statement M
-after-word-spec = tie.close (tie.spec returns)
+after-word-spec = tie.close (tie.spec (λ c list. refl))

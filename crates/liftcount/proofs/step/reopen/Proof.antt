@@ -4,18 +4,6 @@ use borrow.Author.Needs.{needs}
 use Rattle.liftcount.proofs.step.reopen.Statement.{statement}
 use Rattle.liftcount.proofs.step.reopen.Tie as tie
 
-enum-known-ending : tie.Need-enum-known-ending
-enum-known-ending c = search needs
-
-after-word-requires : tie.Need-after-word-requires
-after-word-requires c κs = search needs
-
-enum-known-ending-2 : tie.Need-enum-known-ending-2
-enum-known-ending-2 c = search needs
-
-after-word-requires-2 : tie.Need-after-word-requires-2
-after-word-requires-2 c κs = search needs
-
 returns : tie.Need-returns
 returns c list = rw (c .before .before .ending .given .1) (c .after-word .ensures list)
 
@@ -26,4 +14,4 @@ returns-2 c list =
     rw (matched .ending2 .given .1) (rw (toZ-ofZ (start .fits .from), toZ-ofZ (start .fits .to)) at (c .after-word2 .ensures list))
 
 pub reopen-spec : {M : Type 1} → statement M
-reopen-spec = tie.close (tie.spec enum-known-ending after-word-requires enum-known-ending-2 after-word-requires-2 returns returns-2)
+reopen-spec = tie.close (tie.spec (λ c. search needs) (λ c κs. search needs) (λ c. search needs) (λ c κs. search needs) returns returns-2)

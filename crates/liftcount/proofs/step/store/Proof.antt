@@ -2,25 +2,9 @@
 use mathlib.Core.Path.{ap, _∙_}
 use mir.Facts.{toZ-ofZ}
 use Rattle.liftcount.specs.Steps.{afterWord}
-use Rattle.liftcount.proofs.StepLaws.{keeps, passes}
+use Rattle.liftcount.proofs.{StepLaws.{keeps, passes}, step.store.Statement.{statement}}
 use borrow.Author.Needs.{needs}
-use Rattle.liftcount.proofs.step.store.Statement.{statement}
 use Rattle.liftcount.proofs.step.store.Tie as tie
-
-one-more-requires : tie.Need-one-more-requires
-one-more-requires c κs = search needs
-
-after-word-requires : tie.Need-after-word-requires
-after-word-requires c κs = search needs
-
-mul-list : tie.Need-mul-list
-mul-list c = search needs
-
-slice-write-list : tie.Need-slice-write-list
-slice-write-list c = search needs
-
-same-length : tie.Need-same-length
-same-length c = search needs
 
 returns : tie.Need-returns
 returns c =
@@ -42,4 +26,5 @@ returns-2 c =
 
 pub store-spec : {M : Type 1} → statement M
 store-spec =
-    tie.close (tie.spec one-more-requires after-word-requires mul-list slice-write-list same-length returns returns-2)
+    tie.close
+    (tie.spec (λ c κs. search needs) (λ c κs. search needs) (λ c. search needs) (λ c. search needs) (λ c. search needs) returns returns-2)

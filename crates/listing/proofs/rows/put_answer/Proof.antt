@@ -2,16 +2,9 @@
 use native.Mathlib.Omega.{arith}
 use Rattle.listing.specs.Rows.{answerText}
 use Rattle.text.proofs.TextLaws.{numbered-length}
-use Rattle.listing.proofs.RowLaws.{node-rows-length, record-rows-length, three}
+use Rattle.listing.proofs.{RowLaws.{node-rows-length, record-rows-length, three}, rows.put_answer.Statement.{statement}}
 use borrow.Author.Needs.{needs}
-use Rattle.listing.proofs.rows.put_answer.Statement.{statement}
 use Rattle.listing.proofs.rows.put_answer.Tie as tie
-
-enum-known-answered : tie.Need-enum-known-answered
-enum-known-answered c = search needs
-
-slice-aggregate-put-bytes : tie.Need-slice-aggregate-put-bytes
-slice-aggregate-put-bytes c = search needs
 
 put-bytes-requires : tie.Need-put-bytes-requires
 put-bytes-requires c κs =
@@ -36,12 +29,6 @@ put-nodes-requires c κs =
       room .1,
     )
 
-enum-known-answered-2 : tie.Need-enum-known-answered-2
-enum-known-answered-2 c = search needs
-
-slice-aggregate-put-bytes-2 : tie.Need-slice-aggregate-put-bytes-2
-slice-aggregate-put-bytes-2 c = search needs
-
 put-bytes-requires-2 : tie.Need-put-bytes-requires-2
 put-bytes-requires-2 c κs =
     let answered = c .before .before .before in
@@ -65,20 +52,11 @@ put-records-requires c κs =
       room .1,
     )
 
-enum-known-answered-3 : tie.Need-enum-known-answered-3
-enum-known-answered-3 c = search needs
-
-slice-aggregate-put-bytes-3 : tie.Need-slice-aggregate-put-bytes-3
-slice-aggregate-put-bytes-3 c = search needs
-
 put-bytes-requires-3 : tie.Need-put-bytes-requires-3
 put-bytes-requires-3 c κs =
     let answered = c .before .before .before in
     let room = rw (answered .answered3 .given .1) at (answered .before .before .before .before .before .pre) in
     omega arith
-
-wide-requires : tie.Need-wide-requires
-wide-requires c κs = search needs
 
 put-number-requires-3 : tie.Need-put-number-requires-3
 put-number-requires-3 c κs =
@@ -101,9 +79,6 @@ put-number-requires-4 c κs =
       first .put-number3 .ensures .ends,
       numbered-length (first .before .wide .result) 32,
     )
-
-same-length : tie.Need-same-length
-same-length c = search needs
 
 returns : tie.Need-returns
 unfolding answerText
@@ -133,9 +108,6 @@ returns c =
       three (omega arith) (name .ensures) (count .ensures) (rows .ensures),
     )
 
-same-length-2 : tie.Need-same-length-2
-same-length-2 c = search needs
-
 returns-2 : tie.Need-returns-2
 unfolding answerText
 returns-2 c =
@@ -163,9 +135,6 @@ returns-2 c =
       ),
       three (omega arith) (name .ensures) (count .ensures) (rows .ensures),
     )
-
-same-length-3 : tie.Need-same-length-3
-same-length-3 c = search needs
 
 returns-3 : tie.Need-returns-3
 unfolding answerText
@@ -198,26 +167,7 @@ returns-3 c =
 pub put-answer-spec : {M : Type 1} → statement M
 put-answer-spec =
     tie.close
-    (tie.spec
-    enum-known-answered
-    slice-aggregate-put-bytes
-    put-bytes-requires
-    put-number-requires
-    put-nodes-requires
-    enum-known-answered-2
-    slice-aggregate-put-bytes-2
-    put-bytes-requires-2
-    put-number-requires-2
-    put-records-requires
-    enum-known-answered-3
-    slice-aggregate-put-bytes-3
-    put-bytes-requires-3
-    wide-requires
-    put-number-requires-3
-    put-number-requires-4
-    same-length
-    returns
-    same-length-2
-    returns-2
-    same-length-3
-    returns-3)
+    (tie.spec (λ c. search needs) (λ c. search needs) put-bytes-requires put-number-requires put-nodes-requires (λ c. search needs)
+    (λ c. search needs) put-bytes-requires-2 put-number-requires-2 put-records-requires (λ c. search needs) (λ c. search needs)
+    put-bytes-requires-3 (λ c κs. search needs) put-number-requires-3 put-number-requires-4 (λ c. search needs) returns (λ c. search needs)
+    returns-2 (λ c. search needs) returns-3)

@@ -3,11 +3,9 @@ use Prim.Native.Nat.{_-_, _≤_}
 use mathlib.Core.Path.{_≡_, refl}
 use native.Mathlib.Omega.{arith}
 use lib.ListN.{length}
-use Rattle.text.specs.Text.{Wrote}
+use Rattle.text.{specs.Text.{Wrote}, proofs.TextLaws.{wrote-none}}
 use Rattle.listing.specs.Rows.{nodeRows}
-use Rattle.text.proofs.TextLaws.{wrote-none}
-use Rattle.listing.proofs.RowLaws.{node-rows-length, nodes-on}
-use Rattle.listing.proofs.rows.put_nodes.Statement.{statement}
+use Rattle.listing.proofs.{RowLaws.{node-rows-length, nodes-on}, rows.put_nodes.Statement.{statement}}
 use Rattle.listing.proofs.rows.put_nodes.Tie as tie
 
 abbrev Inv-loop : tie.InvT-loop
@@ -16,33 +14,17 @@ Inv-loop out₀ at tree n end₀ i₀ out end i = (i ≤ n) × (length out ≡ l
 abbrev μ-loop : tie.MeasureT-loop
 μ-loop out₀ at tree n end₀ i₀ out end i = n - i
 
-loop-holds : tie.Need-loop-holds Inv-loop μ-loop
-unfolding nodeRows
-loop-holds c = (omega arith, refl, wrote-none _ _)
-
-mul-put-node : tie.Need-mul-put-node Inv-loop μ-loop
-mul-put-node c = omega arith
-
 put-node-requires : tie.Need-put-node-requires Inv-loop μ-loop
 put-node-requires c κs =
     let at = c .before .before in
     let room = node-rows-length (at .loop .i) (at .before .before .before .args .tree .now) in
     (omega (arith, at .loop .inv .2 .ends), omega arith)
 
-add-i : tie.Need-add-i Inv-loop μ-loop
-add-i c = omega arith
-
-loop-less : tie.Need-loop-less Inv-loop μ-loop
-loop-less c = omega arith
-
 loop-again : tie.Need-loop-again Inv-loop μ-loop
 loop-again c =
     let at = c .before .before .before .before .before in
     let w = c .before .before .put-node .ensures in
     (omega arith, omega arith, nodes-on (omega arith) (at .before .before .before .args .tree .now) (at .loop .i) (at .loop .inv .2) w)
-
-same-length : tie.Need-same-length Inv-loop μ-loop
-same-length c = c .before .loop .inv .1
 
 returns : tie.Need-returns Inv-loop μ-loop
 returns c =
@@ -52,14 +34,5 @@ returns c =
 pub put-nodes-spec : {M : Type 1} → statement M
 put-nodes-spec =
     tie.close
-    (tie.spec
-    Inv-loop
-    μ-loop
-    loop-holds
-    mul-put-node
-    put-node-requires
-    add-i
-    loop-less
-    loop-again
-    same-length
-    returns)
+    (tie.spec Inv-loop μ-loop (λ c. unfold nodeRows in (omega arith, refl, wrote-none _ _)) (λ c. omega arith) put-node-requires
+    (λ c. omega arith) (λ c. omega arith) loop-again (λ c. c .before .loop .inv .1) returns)

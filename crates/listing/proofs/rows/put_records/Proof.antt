@@ -3,11 +3,9 @@ use Prim.Native.Nat.{_+_, _-_, _*_, _≤_}
 use mathlib.Core.Path.{_≡_, refl}
 use native.Mathlib.Omega.{arith}
 use lib.ListN.{length, take, drop, length-take, length-drop}
-use Rattle.text.specs.Text.{Wrote}
+use Rattle.text.{specs.Text.{Wrote}, proofs.TextLaws.{wrote-none}}
 use Rattle.listing.specs.Rows.{recordRows}
-use Rattle.text.proofs.TextLaws.{wrote-none}
-use Rattle.listing.proofs.RowLaws.{record-rows-length, records-on}
-use Rattle.listing.proofs.rows.put_records.Statement.{statement}
+use Rattle.listing.proofs.{RowLaws.{record-rows-length, records-on}, rows.put_records.Statement.{statement}}
 use Rattle.listing.proofs.rows.put_records.Tie as tie
 
 abbrev Inv-loop : tie.InvT-loop
@@ -15,28 +13,6 @@ Inv-loop out₀ at messages n end₀ i₀ out end i = (i ≤ n) × (length out �
 
 abbrev μ-loop : tie.MeasureT-loop
 μ-loop out₀ at messages n end₀ i₀ out end i = n - i
-
-loop-holds : tie.Need-loop-holds Inv-loop μ-loop
-unfolding recordRows
-loop-holds c = (omega arith, refl, wrote-none _ _)
-
-mul-from : tie.Need-mul-from Inv-loop μ-loop
-mul-from c = omega arith
-
-add-to : tie.Need-add-to Inv-loop μ-loop
-add-to c = omega arith
-
-mul-put-row : tie.Need-mul-put-row Inv-loop μ-loop
-mul-put-row c = omega arith
-
-sub-put-row : tie.Need-sub-put-row Inv-loop μ-loop
-sub-put-row c = omega arith
-
-part-put-row-start : tie.Need-part-put-row-start Inv-loop μ-loop
-part-put-row-start c = omega arith
-
-part-put-row-end : tie.Need-part-put-row-end Inv-loop μ-loop
-part-put-row-end c = omega arith
 
 put-row-requires : tie.Need-put-row-requires Inv-loop μ-loop
 put-row-requires c κs =
@@ -50,12 +26,6 @@ put-row-requires c κs =
     let room = record-rows-length i messages (omega arith) in
     (omega (arith, at .loop .inv .2 .ends), omega arith)
 
-add-i : tie.Need-add-i Inv-loop μ-loop
-add-i c = omega arith
-
-loop-less : tie.Need-loop-less Inv-loop μ-loop
-loop-less c = omega arith
-
 loop-again : tie.Need-loop-again Inv-loop μ-loop
 loop-again c =
     let at = c .before .before .before .before .before .before in
@@ -63,9 +33,6 @@ loop-again c =
     let size : 8 * i + 8 - 8 * i ≡ 8 = omega arith in
     let w = rw size at (c .before .before .put-row .ensures) in
     (omega arith, omega arith, records-on (omega arith) (at .before .before .before .args .messages .now) i (at .loop .inv .2) w)
-
-same-length : tie.Need-same-length Inv-loop μ-loop
-same-length c = c .before .loop .inv .1
 
 returns : tie.Need-returns Inv-loop μ-loop
 returns c =
@@ -75,19 +42,6 @@ returns c =
 pub put-records-spec : {M : Type 1} → statement M
 put-records-spec =
     tie.close
-    (tie.spec
-    Inv-loop
-    μ-loop
-    loop-holds
-    mul-from
-    add-to
-    mul-put-row
-    sub-put-row
-    part-put-row-start
-    part-put-row-end
-    put-row-requires
-    add-i
-    loop-less
-    loop-again
-    same-length
-    returns)
+    (tie.spec Inv-loop μ-loop (λ c. unfold recordRows in (omega arith, refl, wrote-none _ _)) (λ c. omega arith) (λ c. omega arith)
+    (λ c. omega arith) (λ c. omega arith) (λ c. omega arith) (λ c. omega arith) put-row-requires (λ c. omega arith) (λ c. omega arith)
+    loop-again (λ c. c .before .loop .inv .1) returns)

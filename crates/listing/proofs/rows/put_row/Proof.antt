@@ -3,11 +3,9 @@ use Prim.Native.Nat.{_-_, _≤_}
 use mathlib.Core.Path.{_≡_, refl}
 use native.Mathlib.Omega.{arith}
 use lib.ListN.{length}
-use Rattle.text.specs.Text.{Wrote}
+use Rattle.text.{specs.Text.{Wrote}, proofs.TextLaws.{wrote-none}}
 use Rattle.listing.specs.Rows.{spaced}
-use Rattle.text.proofs.TextLaws.{wrote-none}
-use Rattle.listing.proofs.RowLaws.{spaced-length, spaced-on, row-done}
-use Rattle.listing.proofs.rows.put_row.Statement.{statement}
+use Rattle.listing.proofs.{RowLaws.{spaced-length, spaced-on, row-done}, rows.put_row.Statement.{statement}}
 use Rattle.listing.proofs.rows.put_row.Tie as tie
 
 abbrev Inv-loop : tie.InvT-loop
@@ -16,32 +14,10 @@ Inv-loop out₀ at numbers last end₀ i₀ out end i = (i ≤ last) × (length 
 abbrev μ-loop : tie.MeasureT-loop
 μ-loop out₀ at numbers last end₀ i₀ out end i = last - i
 
-sub-last : tie.Need-sub-last Inv-loop μ-loop
-sub-last c = omega arith
-
-loop-holds : tie.Need-loop-holds Inv-loop μ-loop
-unfolding spaced
-loop-holds c = (omega arith, refl, wrote-none _ _)
-
-mul-wide : tie.Need-mul-wide Inv-loop μ-loop
-mul-wide c = omega arith
-
-shared-slice-read-wide : tie.Need-shared-slice-read-wide Inv-loop μ-loop
-shared-slice-read-wide c = omega arith
-
-wide-requires : tie.Need-wide-requires Inv-loop μ-loop
-wide-requires c κs = tt
-
 put-number-requires : tie.Need-put-number-requires Inv-loop μ-loop
 put-number-requires c κs =
     let at = c .before .before .before .before in
     omega (arith, at .loop .inv .2 .ends, spaced-length (at .loop .i) (at .before .before .before .args .numbers .now))
-
-add-i : tie.Need-add-i Inv-loop μ-loop
-add-i c = omega arith
-
-loop-less : tie.Need-loop-less Inv-loop μ-loop
-loop-less c = omega arith
 
 loop-again : tie.Need-loop-again Inv-loop μ-loop
 loop-again c =
@@ -53,22 +29,10 @@ loop-again c =
           (at .loop .inv .2) w,
     )
 
-mul-wide-2 : tie.Need-mul-wide-2 Inv-loop μ-loop
-mul-wide-2 c = omega arith
-
-shared-slice-read-wide-2 : tie.Need-shared-slice-read-wide-2 Inv-loop μ-loop
-shared-slice-read-wide-2 c = omega arith
-
-wide-requires-2 : tie.Need-wide-requires-2 Inv-loop μ-loop
-wide-requires-2 c κs = tt
-
 put-number-requires-2 : tie.Need-put-number-requires-2 Inv-loop μ-loop
 put-number-requires-2 c κs =
     let at = c .before .before .before .before in
     omega (arith, at .loop .inv .2 .ends, spaced-length (at .loop .i) (at .before .before .before .args .numbers .now))
-
-same-length : tie.Need-same-length Inv-loop μ-loop
-same-length c = omega arith
 
 returns : tie.Need-returns Inv-loop μ-loop
 returns c =
@@ -79,21 +43,6 @@ returns c =
 pub put-row-spec : {M : Type 1} → statement M
 put-row-spec =
     tie.close
-    (tie.spec
-    Inv-loop
-    μ-loop
-    sub-last
-    loop-holds
-    mul-wide
-    shared-slice-read-wide
-    wide-requires
-    put-number-requires
-    add-i
-    loop-less
-    loop-again
-    mul-wide-2
-    shared-slice-read-wide-2
-    wide-requires-2
-    put-number-requires-2
-    same-length
-    returns)
+    (tie.spec Inv-loop μ-loop (λ c. omega arith) (λ c. unfold spaced in (omega arith, refl, wrote-none _ _)) (λ c. omega arith)
+    (λ c. omega arith) (λ c κs. tt) put-number-requires (λ c. omega arith) (λ c. omega arith) loop-again (λ c. omega arith)
+    (λ c. omega arith) (λ c κs. tt) put-number-requires-2 (λ c. omega arith) returns)

@@ -1,23 +1,7 @@
 -- `nodes::children::attach` meets its contract.
-use Rattle.nodes.proofs.Stores.{attach-words}
+use Rattle.nodes.proofs.{Stores.{attach-words}, children.attach.Statement.{statement}}
 use borrow.Author.Needs.{needs}
-use Rattle.nodes.proofs.children.attach.Statement.{statement}
 use Rattle.nodes.proofs.children.attach.Tie as tie
-
-set-first-requires : tie.Need-set-first-requires
-set-first-requires c κs = search needs
-
-set-next-requires : tie.Need-set-next-requires
-set-next-requires c κs = search needs
-
-classes-of-requires : tie.Need-classes-of-requires
-classes-of-requires c κs = search needs
-
-set-classes-requires : tie.Need-set-classes-requires
-set-classes-requires c κs = search needs
-
-same-length : tie.Need-same-length
-same-length c = search needs
 
 returns : tie.Need-returns
 returns c =
@@ -44,10 +28,4 @@ returns c =
 pub attach-spec : {M : Type 1} → statement M
 attach-spec =
     tie.close
-    (tie.spec
-    set-first-requires
-    set-next-requires
-    classes-of-requires
-    set-classes-requires
-    same-length
-    returns)
+    (tie.spec (λ c κs. search needs) (λ c κs. search needs) (λ c κs. search needs) (λ c κs. search needs) (λ c. search needs) returns)

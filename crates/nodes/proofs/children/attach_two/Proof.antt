@@ -1,32 +1,7 @@
 -- `nodes::children::attach_two` meets its contract.
-use Rattle.nodes.proofs.Stores.{attach-two-words}
+use Rattle.nodes.proofs.{Stores.{attach-two-words}, children.attach_two.Statement.{statement}}
 use borrow.Author.Needs.{needs}
-use Rattle.nodes.proofs.children.attach_two.Statement.{statement}
 use Rattle.nodes.proofs.children.attach_two.Tie as tie
-
-set-first-requires : tie.Need-set-first-requires
-set-first-requires c κs = search needs
-
-set-next-requires : tie.Need-set-next-requires
-set-next-requires c κs = search needs
-
-set-next-requires-2 : tie.Need-set-next-requires-2
-set-next-requires-2 c κs = search needs
-
-classes-of-requires : tie.Need-classes-of-requires
-classes-of-requires c κs = search needs
-
-classes-of-requires-2 : tie.Need-classes-of-requires-2
-classes-of-requires-2 c κs = search needs
-
-union-requires : tie.Need-union-requires
-union-requires c κs = search needs
-
-set-classes-requires : tie.Need-set-classes-requires
-set-classes-requires c κs = search needs
-
-same-length : tie.Need-same-length
-same-length c = search needs
 
 returns : tie.Need-returns
 returns c =
@@ -65,13 +40,5 @@ returns c =
 pub attach-two-spec : {M : Type 1} → statement M
 attach-two-spec =
     tie.close
-    (tie.spec
-    set-first-requires
-    set-next-requires
-    set-next-requires-2
-    classes-of-requires
-    classes-of-requires-2
-    union-requires
-    set-classes-requires
-    same-length
-    returns)
+    (tie.spec (λ c κs. search needs) (λ c κs. search needs) (λ c κs. search needs) (λ c κs. search needs) (λ c κs. search needs)
+    (λ c κs. search needs) (λ c κs. search needs) (λ c. search needs) returns)

@@ -44,15 +44,6 @@ bounds : (c : tie.In-loop Inv-loop μ-loop)
     (slotEnd (w .s) ≤ length (c .before .before .before .before .before .before .before .args .work .now)) × (w .n < w .s)
 bounds c = let v = c .before .loop .inv .0 in count-in (v .0) (v .1) (c .loop-test .taken)
 
-add-n : tie.Need-add-n Inv-loop μ-loop
-add-n c = let b = bounds c in omega arith
-
-next-of-requires-3 : tie.Need-next-of-requires-3 Inv-loop μ-loop
-next-of-requires-3 c κs = bounds c .0
-
-loop-less : tie.Need-loop-less Inv-loop μ-loop
-loop-less c = let b = bounds (c .before) in omega arith
-
 loop-again : tie.Need-loop-again Inv-loop μ-loop
 loop-again c =
     let v = c .before .before .loop .inv .0 in
@@ -64,16 +55,5 @@ returns-3 c = let v = c .before .loop .inv .0 in count-done (v .0) (v .1) (c .lo
 pub count-chain-spec : {M : Type 1} → statement M
 count-chain-spec =
     tie.close
-    (tie.spec
-    Inv-loop
-    μ-loop
-    returns
-    next-of-requires
-    returns-2
-    next-of-requires-2
-    loop-holds
-    add-n
-    next-of-requires-3
-    loop-less
-    loop-again
-    returns-3)
+    (tie.spec Inv-loop μ-loop returns next-of-requires returns-2 next-of-requires-2 loop-holds (λ c. let b = bounds c in omega arith)
+    (λ c κs. bounds c .0) (λ c. let b = bounds (c .before) in omega arith) loop-again returns-3)

@@ -1,13 +1,11 @@
 -- `nodes::children::give_children` meets its contract.
 use Prim.Native.Nat.{ℕ, _+_, _-_, _≤_, _<_}
-use mathlib.Core.Path.{refl, ap, _∙_}
-use mathlib.Core.Bool.{_||_}
+use mathlib.Core.{Path.{refl, ap, _∙_}, Bool.{_||_}}
 use native.Mathlib.Omega.{arith}
 use lib.ListN.{length}
 use Rattle.ops.specs.Classes.{bitAt}
 use Rattle.nodes.specs.Store.{wd, slotEnd}
-use Rattle.nodes.proofs.Giving.{Giving, give-start, give-in, give-step, give-done}
-use Rattle.nodes.proofs.children.give_children.Statement.{statement}
+use Rattle.nodes.proofs.{Giving.{Giving, give-start, give-in, give-step, give-done}, children.give_children.Statement.{statement}}
 use Rattle.nodes.proofs.children.give_children.Tie as tie
 
 abbrev Inv-loop : tie.InvT-loop
@@ -16,37 +14,16 @@ Inv-loop work₀ parent from n i₀ head₀ below₀ work i head below = Giving 
 abbrev μ-loop : tie.MeasureT-loop
 μ-loop work₀ parent from n i₀ head₀ below₀ work i head below = i
 
-loop-holds : tie.Need-loop-holds Inv-loop μ-loop
-loop-holds c = give-start (c .before .pre)
-
-sub-i : tie.Need-sub-i Inv-loop μ-loop
-sub-i c = omega arith
-
 bounds : (c : tie.In-loop Inv-loop μ-loop)
     → let w = c .before .loop in
     let at = c .before .before .before .args .from + (w .i - 1) in
     (at < length (w .work)) × (slotEnd (wd (w .work) at) ≤ length (w .work))
 bounds c = let v = c .before .loop .inv in give-in (v .0) (v .2) (c .loop-test .taken)
 
-add-s : tie.Need-add-s Inv-loop μ-loop
-add-s c = let b = bounds c in omega arith
-
-mul-s : tie.Need-mul-s Inv-loop μ-loop
-mul-s c = let b = bounds c in omega arith
-
-slice-read-s : tie.Need-slice-read-s Inv-loop μ-loop
-slice-read-s c = bounds (c .before) .0
-
-set-next-requires : tie.Need-set-next-requires Inv-loop μ-loop
-set-next-requires c κs = bounds (c .before .before) .1
-
 classes-of-requires : tie.Need-classes-of-requires Inv-loop μ-loop
 classes-of-requires c κs =
     let b = bounds (c .before .before .before .before .before .before) in
     omega (arith, c .before .before .before .set-next .kept .0)
-
-union-requires : tie.Need-union-requires Inv-loop μ-loop
-union-requires c κs = tt
 
 loop-less : tie.Need-loop-less Inv-loop μ-loop
 loop-less c = let turn = c .before .before .before .before .before .before .before .before in omega (arith, turn .loop-test .taken)
@@ -66,9 +43,6 @@ loop-again c =
     refl
     (linked .set-next .ensures)
     (λ b. c .union .ensures b ∙ ap (λ (w : ℕ). bitAt (turn .before .loop .below .0) b || bitAt w b) (c .before .classes-of .ensures))
-
-set-first-requires : tie.Need-set-first-requires Inv-loop μ-loop
-set-first-requires c κs = let v = c .before .before .loop .inv .2 in omega arith
 
 set-classes-requires : tie.Need-set-classes-requires Inv-loop μ-loop
 set-classes-requires c κs =
@@ -98,20 +72,7 @@ returns c =
 pub give-children-spec : {M : Type 1} → statement M
 give-children-spec =
     tie.close
-    (tie.spec
-    Inv-loop
-    μ-loop
-    loop-holds
-    sub-i
-    add-s
-    mul-s
-    slice-read-s
-    set-next-requires
-    classes-of-requires
-    union-requires
-    loop-less
-    loop-again
-    set-first-requires
-    set-classes-requires
-    same-length
+    (tie.spec Inv-loop μ-loop (λ c. give-start (c .before .pre)) (λ c. omega arith) (λ c. let b = bounds c in omega arith)
+    (λ c. let b = bounds c in omega arith) (λ c. bounds (c .before) .0) (λ c κs. bounds (c .before .before) .1) classes-of-requires
+    (λ c κs. tt) loop-less loop-again (λ c κs. let v = c .before .before .loop .inv .2 in omega arith) set-classes-requires same-length
     returns)

@@ -13,9 +13,6 @@ Inv-loop work first last₀ s₀ last s = Lasting work first last s
 abbrev μ-loop : tie.MeasureT-loop
 μ-loop work first last₀ s₀ last s = length work - last
 
-next-of-requires : tie.Need-next-of-requires Inv-loop μ-loop
-next-of-requires c κs = last-first (c .before .pre .0) (c .before .pre .1)
-
 loop-holds : tie.Need-loop-holds Inv-loop μ-loop
 loop-holds c = rw (c .next-of .ensures) (last-start (c .before .before .pre .0) (c .before .before .pre .1))
 
@@ -23,12 +20,6 @@ bounds : (c : tie.In-loop Inv-loop μ-loop)
     → let w = c .before .loop in
     (slotEnd (w .s) ≤ length (c .before .before .before .before .args .work .now)) × (w .last < w .s)
 bounds c = let v = c .before .loop .inv in last-in (v .0) (v .1) (c .loop-test .taken)
-
-next-of-requires-2 : tie.Need-next-of-requires-2 Inv-loop μ-loop
-next-of-requires-2 c κs = bounds c .0
-
-loop-less : tie.Need-loop-less Inv-loop μ-loop
-loop-less c = let b = bounds (c .before) in omega arith
 
 loop-again : tie.Need-loop-again Inv-loop μ-loop
 loop-again c =
@@ -41,12 +32,5 @@ returns c = let v = c .before .loop .inv in last-done (v .0) (v .1) (c .loop-tes
 pub last-of-chain-spec : {M : Type 1} → statement M
 last-of-chain-spec =
     tie.close
-    (tie.spec
-    Inv-loop
-    μ-loop
-    next-of-requires
-    loop-holds
-    next-of-requires-2
-    loop-less
-    loop-again
-    returns)
+    (tie.spec Inv-loop μ-loop (λ c κs. last-first (c .before .pre .0) (c .before .pre .1)) loop-holds (λ c κs. bounds c .0)
+    (λ c. let b = bounds (c .before) in omega arith) loop-again returns)

@@ -4,8 +4,7 @@ use Prim.Native.Nat.{_+_, _-_, _≤_, _<_}
 use native.Mathlib.Omega.{arith}
 use lib.ListN.{length, set, length-set}
 use Rattle.nodes.specs.Store.{slotEnd}
-use Rattle.nodes.proofs.Taking.{Taking, take-start, take-in, take-step, take-done}
-use Rattle.nodes.proofs.children.take_chain.Statement.{statement}
+use Rattle.nodes.proofs.{Taking.{Taking, take-start, take-in, take-step, take-done}, children.take_chain.Statement.{statement}}
 use Rattle.nodes.proofs.children.take_chain.Tie as tie
 
 abbrev Inv-loop : tie.InvT-loop
@@ -13,9 +12,6 @@ Inv-loop work₀ first to s₀ i₀ work s i = Taking work₀ first to work s i
 
 abbrev μ-loop : tie.MeasureT-loop
 μ-loop work₀ first to s₀ i₀ work s i = length work₀ - i
-
-loop-holds : tie.Need-loop-holds Inv-loop μ-loop
-loop-holds c = take-start (c .before .pre)
 
 -- The slot is in the store, and there is room for it.
 bounds : (c : tie.In-loop Inv-loop μ-loop)
@@ -40,35 +36,8 @@ more : (c : tie.Else1 Inv-loop μ-loop)
     (slotEnd (c .before .next-of .result) ≤ a .to) × (a .to ≤ w .i + 1) × (w .i + 1 < length (set (w .work) (w .i) (w .s)))
 more c = let v = one (c .before) in take-in (v .1) (v .2) (c .if1 .left)
 
-mul-work : tie.Need-mul-work Inv-loop μ-loop
-mul-work c = let b = bounds c in omega arith
-
-slice-write-work : tie.Need-slice-write-work Inv-loop μ-loop
-slice-write-work c = bounds c .2
-
-add-i : tie.Need-add-i Inv-loop μ-loop
-add-i c = let b = bounds c in omega arith
-
-next-of-requires : tie.Need-next-of-requires Inv-loop μ-loop
-next-of-requires c κs = let b = bounds (c .before) in simp length-set (omega arith)
-
-sub-result : tie.Need-sub-result Inv-loop μ-loop
-sub-result c = omega (arith, one (c .before) .2 .at)
-
-same-length : tie.Need-same-length Inv-loop μ-loop
-same-length c = one (c .before) .2 .long
-
 returns : tie.Need-returns Inv-loop μ-loop
 returns c = let v = one (c .before) in take-done (v .1) (v .2) (c .if1 .taken)
-
-mul-work-2 : tie.Need-mul-work-2 Inv-loop μ-loop
-mul-work-2 c = let b = more c in omega (arith, one (c .before) .2 .long)
-
-slice-write-work-2 : tie.Need-slice-write-work-2 Inv-loop μ-loop
-slice-write-work-2 c = more c .2
-
-add-i-2 : tie.Need-add-i-2 Inv-loop μ-loop
-add-i-2 c = let b = more c in omega (arith, one (c .before) .2 .long)
 
 next-of-requires-2 : tie.Need-next-of-requires-2 Inv-loop μ-loop
 next-of-requires-2 c κs = let b = more (c .before) in simp length-set (omega (arith, one (c .before .before) .2 .long))
@@ -82,35 +51,15 @@ loop-again c =
     let v = one (test .before) in
     rw (c .next-of2 .ensures) (take-step (v .1) (v .2) (test .if1 .left))
 
-sub-result-2 : tie.Need-sub-result-2 Inv-loop μ-loop
-sub-result-2 c = omega (arith, c .before .loop .inv .2 .at)
-
-same-length-2 : tie.Need-same-length-2 Inv-loop μ-loop
-same-length-2 c = c .before .loop .inv .2 .long
-
 returns-2 : tie.Need-returns-2 Inv-loop μ-loop
 returns-2 c = let v = c .before .loop .inv in take-done (v .1) (v .2) (c .loop-test .left)
 
 pub take-chain-spec : {M : Type 1} → statement M
 take-chain-spec =
     tie.close
-    (tie.spec
-    Inv-loop
-    μ-loop
-    loop-holds
-    mul-work
-    slice-write-work
-    add-i
-    next-of-requires
-    sub-result
-    same-length
-    returns
-    mul-work-2
-    slice-write-work-2
-    add-i-2
-    next-of-requires-2
-    loop-less
-    loop-again
-    sub-result-2
-    same-length-2
-    returns-2)
+    (tie.spec Inv-loop μ-loop (λ c. take-start (c .before .pre)) (λ c. let b = bounds c in omega arith) (λ c. bounds c .2)
+    (λ c. let b = bounds c in omega arith) (λ c κs. let b = bounds (c .before) in simp length-set (omega arith))
+    (λ c. omega (arith, one (c .before) .2 .at)) (λ c. one (c .before) .2 .long) returns
+    (λ c. let b = more c in omega (arith, one (c .before) .2 .long)) (λ c. more c .2)
+    (λ c. let b = more c in omega (arith, one (c .before) .2 .long)) next-of-requires-2 loop-less loop-again
+    (λ c. omega (arith, c .before .loop .inv .2 .at)) (λ c. c .before .loop .inv .2 .long) returns-2)

@@ -1,9 +1,6 @@
 -- `ops::version::effective` meets its contract: a negative version, one above the latest, and any other. Assumes nothing.
-use mir.Facts.{toZ-ofZ}
-use mir.Syntax.{w16}
-use mir.Val.{toZ, ofZ}
-use Rattle.ops.proofs.VersionLaws.{invalid, latest, kept}
-use Rattle.ops.proofs.version.effective.Statement.{statement}
+use mir.{Facts.{toZ-ofZ}, Syntax.{w16}, Val.{toZ, ofZ}}
+use Rattle.ops.proofs.{VersionLaws.{invalid, latest, kept}, version.effective.Statement.{statement}}
 use Rattle.ops.proofs.version.effective.Tie as tie
 
 returns : tie.Need-returns

@@ -3,15 +3,8 @@
 use borrow.Author.Needs.{needs}
 use native.Mathlib.Omega.{arith}
 use lib.ListN.{length-take}
-use Rattle.parse.proofs.RootLaws.{measure-emit, measure-few, measured}
-use Rattle.parse.proofs.report.extent_of.Statement.{statement}
+use Rattle.parse.proofs.{RootLaws.{measure-emit, measure-few, measured}, report.extent_of.Statement.{statement}}
 use Rattle.parse.proofs.report.extent_of.Tie as tie
-
-tree-of-requires : tie.Need-tree-of-requires
-tree-of-requires c κs = search needs
-
-stack-of-requires : tie.Need-stack-of-requires
-stack-of-requires c κs = search needs
 
 emit-requires : tie.Need-emit-requires
 emit-requires c κs = rw (c .before .before .tree-of .ensures, c .stack-of .ensures) (measure-emit (c .before .before .before .before .pre))
@@ -26,15 +19,6 @@ add-end c =
     let p = c .before .before .before .before .before .before .before .pre in
     omega (arith, measure-few p (c .before .before .emit .ensures), p .few, c .before .before .before .before .before .tree-of .ensures)
 
-mul-of-tree : tie.Need-mul-of-tree
-mul-of-tree c = search needs
-
-sub-of-tree : tie.Need-sub-of-tree
-sub-of-tree c = search needs
-
-part-of-tree-start : tie.Need-part-of-tree-start
-part-of-tree-start c = search needs
-
 part-of-tree-end : tie.Need-part-of-tree-end
 part-of-tree-end c =
     let p = c .before .before .before .before .before .before .before .before .pre in
@@ -45,9 +29,6 @@ of-tree-requires : tie.Need-of-tree-requires
 of-tree-requires c κs =
     let p = c .before .before .before .before .before .before .before .before .before .pre in
     simp length-take (omega (arith, measure-few p (c .before .before .before .before .emit .ensures), p .few))
-
-same-length : tie.Need-same-length
-same-length c = search needs
 
 returns : tie.Need-returns
 returns c =
@@ -62,16 +43,5 @@ returns c =
 pub extent-of-spec : {M : Type 1} → statement M
 extent-of-spec =
     tie.close
-    (tie.spec
-    tree-of-requires
-    stack-of-requires
-    emit-requires
-    mul-end
-    add-end
-    mul-of-tree
-    sub-of-tree
-    part-of-tree-start
-    part-of-tree-end
-    of-tree-requires
-    same-length
-    returns)
+    (tie.spec (λ c κs. search needs) (λ c κs. search needs) emit-requires mul-end add-end (λ c. search needs) (λ c. search needs)
+    (λ c. search needs) part-of-tree-end of-tree-requires (λ c. search needs) returns)

@@ -1,15 +1,8 @@
 -- `parse::report::host_value` meets its contract. Assumes nothing.
 use mathlib.Core.Path.{ap}
 use borrow.Author.Needs.{needs}
-use Rattle.parse.proofs.RecordLaws.{no-host, a-host}
-use Rattle.parse.proofs.report.host_value.Statement.{statement}
+use Rattle.parse.proofs.{RecordLaws.{no-host, a-host}, report.host_value.Statement.{statement}}
 use Rattle.parse.proofs.report.host_value.Tie as tie
-
-token-of-requires : tie.Need-token-of-requires
-token-of-requires c κs = search needs
-
-variant-requires : tie.Need-variant-requires
-variant-requires c κs = search needs
 
 returns : tie.Need-returns
 returns c =
@@ -28,4 +21,4 @@ returns-2 c =
     (ap (λ k. k .value) (token .token-of .ensures))
 
 pub host-value-spec : {M : Type 1} → statement M
-host-value-spec = tie.close (tie.spec token-of-requires variant-requires returns returns-2)
+host-value-spec = tie.close (tie.spec (λ c κs. search needs) (λ c κs. search needs) returns returns-2)

@@ -3,102 +3,56 @@ use mathlib.Core.Path.{_≡_}
 use borrow.Author.Needs.{needs}
 use Rattle.levels.specs.declared.failure.Failure.{Failure}
 use Rattle.parse.specs.Records.{Named}
-use Rattle.parse.proofs.RecordLaws.{named-at}
-use Rattle.parse.proofs.report.record_of.Statement.{statement}
+use Rattle.parse.proofs.{RecordLaws.{named-at}, report.record_of.Statement.{statement}}
 use Rattle.parse.proofs.report.record_of.Tie as tie
 
 -- The slots of the variant that the failure is.
 slots-at : (start : tie.Start) {g : Failure} → start .args .failure ≡ g → Named (start .args .work .now) g
 slots-at start e = named-at (start .args .work .now) e (start .pre)
 
-enum-known-failure : tie.Need-enum-known-failure
-enum-known-failure c = search needs
-
 at-slot-requires : tie.Need-at-slot-requires
 at-slot-requires c κs = slots-at (c .before .before .before .before) (c .before .failure .given .1) .0
 
-enum-told : tie.Need-enum-told
-enum-told c = search needs
-
-new-requires : tie.Need-new-requires
-new-requires c κs = search needs
-
-enum-known-failure-2 : tie.Need-enum-known-failure-2
-enum-known-failure-2 c = search needs
-
 at-slot-requires-2 : tie.Need-at-slot-requires-2
 at-slot-requires-2 c κs = slots-at (c .before .before .before .before) (c .before .failure2 .given .1) .0
-
-enum-known-failure-3 : tie.Need-enum-known-failure-3
-enum-known-failure-3 c = search needs
 
 naming-requires : tie.Need-naming-requires
 naming-requires c κs =
     let slots = slots-at (c .before .before .before .before) (c .before .failure3 .given .1) in
     (slots .0, slots .1, slots .0)
 
-enum-known-failure-4 : tie.Need-enum-known-failure-4
-enum-known-failure-4 c = search needs
-
 naming-math-requires : tie.Need-naming-math-requires
 naming-math-requires c κs = slots-at (c .before .before .before .before) (c .before .failure4 .given .1) .0
-
-enum-known-failure-5 : tie.Need-enum-known-failure-5
-enum-known-failure-5 c = search needs
 
 naming-math-requires-2 : tie.Need-naming-math-requires-2
 naming-math-requires-2 c κs = slots-at (c .before .before .before .before) (c .before .failure5 .given .1) .0
 
-enum-known-failure-6 : tie.Need-enum-known-failure-6
-enum-known-failure-6 c = search needs
-
 at-slot-requires-3 : tie.Need-at-slot-requires-3
 at-slot-requires-3 c κs = slots-at (c .before .before .before .before) (c .before .failure6 .given .1) .0
 
-enum-known-failure-7 : tie.Need-enum-known-failure-7
-enum-known-failure-7 c = search needs
-
 spanning-requires : tie.Need-spanning-requires
 spanning-requires c κs = slots-at (c .before .before .before .before) (c .before .failure7 .given .1)
-
-enum-known-failure-8 : tie.Need-enum-known-failure-8
-enum-known-failure-8 c = search needs
 
 naming-requires-2 : tie.Need-naming-requires-2
 naming-requires-2 c κs =
     let slots = slots-at (c .before .before .before .before) (c .before .failure8 .given .1) in
     (slots .0, slots .0, slots .0)
 
-enum-known-failure-9 : tie.Need-enum-known-failure-9
-enum-known-failure-9 c = search needs
-
 at-slot-requires-4 : tie.Need-at-slot-requires-4
 at-slot-requires-4 c κs = slots-at (c .before .before .before .before) (c .before .failure9 .given .1) .0
 
-enum-known-failure-10 : tie.Need-enum-known-failure-10
-enum-known-failure-10 c = search needs
-
 at-slot-requires-5 : tie.Need-at-slot-requires-5
 at-slot-requires-5 c κs = slots-at (c .before .before .before .before) (c .before .failure10 .given .1) .0
-
-enum-known-failure-11 : tie.Need-enum-known-failure-11
-enum-known-failure-11 c = search needs
 
 naming-requires-3 : tie.Need-naming-requires-3
 naming-requires-3 c κs =
     let slots = slots-at (c .before .before .before .before) (c .before .failure11 .given .1) in
     (slots .0, slots .0, slots .1)
 
-enum-known-failure-12 : tie.Need-enum-known-failure-12
-enum-known-failure-12 c = search needs
-
 naming-requires-4 : tie.Need-naming-requires-4
 naming-requires-4 c κs =
     let slots = slots-at (c .before .before .before .before) (c .before .failure12 .given .1) in
     (slots .0, slots .0, slots .0)
-
-enum-known-failure-13 : tie.Need-enum-known-failure-13
-enum-known-failure-13 c = search needs
 
 naming-requires-5 : tie.Need-naming-requires-5
 naming-requires-5 c κs =
@@ -107,9 +61,6 @@ naming-requires-5 c κs =
 
 returns : tie.Need-returns
 returns c = rw (c .before .before .failure .given .1) (c .at-slot .ensures)
-
-returns-2 : tie.Need-returns-2
-returns-2 c = rw (c .before .enum-told .given .1) (c .new .ensures)
 
 returns-3 : tie.Need-returns-3
 returns-3 c = rw (c .before .before .failure2 .given .1) (c .at-slot2 .ensures)
@@ -150,46 +101,9 @@ returns-14 c = rw (c .before .before .failure13 .given .1) (c .naming5 .ensures)
 pub record-of-spec : {M : Type 1} → statement M
 record-of-spec =
     tie.close
-    (tie.spec
-    enum-known-failure
-    at-slot-requires
-    enum-told
-    new-requires
-    enum-known-failure-2
-    at-slot-requires-2
-    enum-known-failure-3
-    naming-requires
-    enum-known-failure-4
-    naming-math-requires
-    enum-known-failure-5
-    naming-math-requires-2
-    enum-known-failure-6
-    at-slot-requires-3
-    enum-known-failure-7
-    spanning-requires
-    enum-known-failure-8
-    naming-requires-2
-    enum-known-failure-9
-    at-slot-requires-4
-    enum-known-failure-10
-    at-slot-requires-5
-    enum-known-failure-11
-    naming-requires-3
-    enum-known-failure-12
-    naming-requires-4
-    enum-known-failure-13
-    naming-requires-5
-    returns
-    returns-2
-    returns-3
-    returns-4
-    returns-5
-    returns-6
-    returns-7
-    returns-8
-    returns-9
-    returns-10
-    returns-11
-    returns-12
-    returns-13
-    returns-14)
+    (tie.spec (λ c. search needs) at-slot-requires (λ c. search needs) (λ c κs. search needs) (λ c. search needs) at-slot-requires-2
+    (λ c. search needs) naming-requires (λ c. search needs) naming-math-requires (λ c. search needs) naming-math-requires-2
+    (λ c. search needs) at-slot-requires-3 (λ c. search needs) spanning-requires (λ c. search needs) naming-requires-2 (λ c. search needs)
+    at-slot-requires-4 (λ c. search needs) at-slot-requires-5 (λ c. search needs) naming-requires-3 (λ c. search needs) naming-requires-4
+    (λ c. search needs) naming-requires-5 returns (λ c. rw (c .before .enum-told .given .1) (c .new .ensures)) returns-3 returns-4
+    returns-5 returns-6 returns-7 returns-8 returns-9 returns-10 returns-11 returns-12 returns-13 returns-14)

@@ -1,23 +1,13 @@
 -- `parse::report::report_mismatch` meets its contract: two records, one after the other. Assumes nothing.
 use borrow.Author.Needs.{needs}
-use Rattle.parse.proofs.ReportLaws.{mismatch-slots, mismatch-reported}
-use Rattle.parse.proofs.report.report_mismatch.Statement.{statement}
+use Rattle.parse.proofs.{ReportLaws.{mismatch-slots, mismatch-reported}, report.report_mismatch.Statement.{statement}}
 use Rattle.parse.proofs.report.report_mismatch.Tie as tie
 
 mismatched-requires : tie.Need-mismatched-requires
 mismatched-requires c κs = let p = mismatch-slots (c .before .before .before .pre .can) in (p .0, p .1)
 
-put-requires : tie.Need-put-requires
-put-requires c κs = search needs
-
 not-closed-requires : tie.Need-not-closed-requires
 not-closed-requires c κs = mismatch-slots (c .before .before .before .before .before .before .before .before .pre .can) .2
-
-put-requires-2 : tie.Need-put-requires-2
-put-requires-2 c κs = search needs
-
-same-length : tie.Need-same-length
-same-length c = search needs
 
 returns : tie.Need-returns
 returns c =
@@ -32,10 +22,4 @@ returns c =
 pub report-mismatch-spec : {M : Type 1} → statement M
 report-mismatch-spec =
     tie.close
-    (tie.spec
-    mismatched-requires
-    put-requires
-    not-closed-requires
-    put-requires-2
-    same-length
-    returns)
+    (tie.spec mismatched-requires (λ c κs. search needs) not-closed-requires (λ c κs. search needs) (λ c. search needs) returns)

@@ -1,17 +1,7 @@
 -- `parse::report::report_pointer` meets its contract: the failure's record, then message 1. Assumes nothing.
 use borrow.Author.Needs.{needs}
-use Rattle.parse.proofs.ReportLaws.{pointer-fails, pointer-reported}
-use Rattle.parse.proofs.report.report_pointer.Statement.{statement}
+use Rattle.parse.proofs.{ReportLaws.{pointer-fails, pointer-reported}, report.report_pointer.Statement.{statement}}
 use Rattle.parse.proofs.report.report_pointer.Tie as tie
-
-report-requires : tie.Need-report-requires
-report-requires c κs = pointer-fails (c .before .before .before .pre)
-
-no-roots-requires : tie.Need-no-roots-requires
-no-roots-requires c κs = search needs
-
-same-length : tie.Need-same-length
-same-length c = search needs
 
 returns : tie.Need-returns
 returns c =
@@ -22,4 +12,6 @@ returns c =
     (first .report .ensures) (second .ensures)
 
 pub report-pointer-spec : {M : Type 1} → statement M
-report-pointer-spec = tie.close (tie.spec report-requires no-roots-requires same-length returns)
+report-pointer-spec =
+    tie.close
+    (tie.spec (λ c κs. pointer-fails (c .before .before .before .pre)) (λ c κs. search needs) (λ c. search needs) returns)

@@ -2,25 +2,17 @@
 -- Assumes nothing.
 use borrow.Author.Needs.{needs}
 use Prim.Native.Nat.{ℕ}
-use mathlib.Core.Path.{refl, ap, _∙_}
-use mathlib.Core.List.{List}
+use mathlib.Core.{Path.{refl, ap, _∙_}, List.{List}}
 use native.Mathlib.Omega.{arith}
 use Rattle.words.specs.Records.{wordsOf, laidAt}
-use Rattle.parse.proofs.RecordLaws.{with-first}
-use Rattle.parse.proofs.RootLaws.{roots-follow, roots-some, last-measure, roots-reported}
+use Rattle.parse.proofs.{RecordLaws.{with-first}, RootLaws.{roots-follow, roots-some, last-measure, roots-reported}}
 use Rattle.parse.proofs.report.report_roots.Statement.{statement}
 use Rattle.parse.proofs.report.report_roots.Tie as tie
-
-count-chain-requires : tie.Need-count-chain-requires
-count-chain-requires c κs = roots-follow (c .before .before .before .pre)
 
 last-of-chain-requires : tie.Need-last-of-chain-requires
 last-of-chain-requires c κs =
     let p = c .before .before .before .before .before .pre in
     (roots-follow p, roots-some p)
-
-extent-of-requires : tie.Need-extent-of-requires
-extent-of-requires c κs = search needs
 
 extent-of-requires-2 : tie.Need-extent-of-requires-2
 extent-of-requires-2 c κs =
@@ -30,23 +22,11 @@ extent-of-requires-2 c κs =
     last-measure (a .work .now) (first .last .0) (a .head) (a .n) (first .result) (first .ensures) (start .pre)
     (c .before .before .before .before .before .last-of-chain .ensures)
 
-new-requires : tie.Need-new-requires
-new-requires c κs = search needs
-
-naming-requires : tie.Need-naming-requires
-naming-requires c κs = search needs
-
 put-requires : tie.Need-put-requires
 put-requires c κs =
     let second = c .before .before .before .before .before in
     let start = second .before .before .before .before .before .before .before .before .before .before .before .before in
     omega (arith, start .pre .room)
-
-same-length : tie.Need-same-length
-same-length c = search needs
-
-same-length-2 : tie.Need-same-length-2
-same-length-2 c = search needs
 
 returns : tie.Need-returns
 returns c =
@@ -67,14 +47,5 @@ returns c =
 pub report-roots-spec : {M : Type 1} → statement M
 report-roots-spec =
     tie.close
-    (tie.spec
-    count-chain-requires
-    last-of-chain-requires
-    extent-of-requires
-    extent-of-requires-2
-    new-requires
-    naming-requires
-    put-requires
-    same-length
-    same-length-2
-    returns)
+    (tie.spec (λ c κs. roots-follow (c .before .before .before .pre)) last-of-chain-requires (λ c κs. search needs) extent-of-requires-2
+    (λ c κs. search needs) (λ c κs. search needs) put-requires (λ c. search needs) (λ c. search needs) returns)

@@ -1,23 +1,10 @@
 -- `parse::report::report_unclosed` meets its contract: two records, one after the other. Assumes nothing.
 use borrow.Author.Needs.{needs}
-use Rattle.parse.proofs.ReportLaws.{unclosed-slots, unclosed-reported}
-use Rattle.parse.proofs.report.report_unclosed.Statement.{statement}
+use Rattle.parse.proofs.{ReportLaws.{unclosed-slots, unclosed-reported}, report.report_unclosed.Statement.{statement}}
 use Rattle.parse.proofs.report.report_unclosed.Tie as tie
-
-unclosed-requires : tie.Need-unclosed-requires
-unclosed-requires c κs = unclosed-slots (c .before .before .before .pre .can) .0
-
-put-requires : tie.Need-put-requires
-put-requires c κs = search needs
 
 not-closed-requires : tie.Need-not-closed-requires
 not-closed-requires c κs = unclosed-slots (c .before .before .before .before .before .before .before .before .pre .can) .1
-
-put-requires-2 : tie.Need-put-requires-2
-put-requires-2 c κs = search needs
-
-same-length : tie.Need-same-length
-same-length c = search needs
 
 returns : tie.Need-returns
 returns c =
@@ -32,10 +19,5 @@ returns c =
 pub report-unclosed-spec : {M : Type 1} → statement M
 report-unclosed-spec =
     tie.close
-    (tie.spec
-    unclosed-requires
-    put-requires
-    not-closed-requires
-    put-requires-2
-    same-length
-    returns)
+    (tie.spec (λ c κs. unclosed-slots (c .before .before .before .pre .can) .0) (λ c κs. search needs) not-closed-requires
+    (λ c κs. search needs) (λ c. search needs) returns)

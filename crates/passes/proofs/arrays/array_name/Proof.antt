@@ -1,22 +1,8 @@
 -- `array_name`: the name stays as it is, or is an array with its first index (ArrayTurns).
 use borrow.Author.Needs.{needs}
-use Rattle.passes.proofs.GatherLaws.{token-room}
-use Rattle.passes.proofs.CallLaws.{can-next}
-use Rattle.passes.proofs.ArrayTurns.{name-kept, name-can-index, name-indexed}
+use Rattle.passes.proofs.{GatherLaws.{token-room}, CallLaws.{can-next}, ArrayTurns.{name-kept, name-can-index, name-indexed}}
 use Rattle.passes.proofs.arrays.array_name.Statement.{statement}
 use Rattle.passes.proofs.arrays.array_name.Tie as tie
-
-next-if-requires : tie.Need-next-if-requires
-next-if-requires c κs = can-next (c .before .before .pre)
-
-keep-requires : tie.Need-keep-requires
-keep-requires c κs = search needs
-
-on-requires : tie.Need-on-requires
-on-requires c κs = search needs
-
-same-length : tie.Need-same-length
-same-length c = search needs
 
 returns : tie.Need-returns
 returns c =
@@ -35,9 +21,6 @@ array-index-requires c κs =
     name-can-index (indexed .before .next-if .result) (indexed .before .next-if .ensures) (indexed .if1 .left)
     (renamed .set-operator .ensures) (indexed .before .before .before .before .pre)
 
-same-length-2 : tie.Need-same-length-2
-same-length-2 c = search needs
-
 returns-2 : tie.Need-returns-2
 returns-2 c =
     let turned = c .before .before in
@@ -49,13 +32,5 @@ returns-2 c =
 pub array-name-spec : {M : Type 1} → statement M
 array-name-spec =
     tie.close
-    (tie.spec
-    next-if-requires
-    keep-requires
-    on-requires
-    same-length
-    returns
-    set-operator-requires
-    array-index-requires
-    same-length-2
-    returns-2)
+    (tie.spec (λ c κs. can-next (c .before .before .pre)) (λ c κs. search needs) (λ c κs. search needs) (λ c. search needs) returns
+    set-operator-requires array-index-requires (λ c. search needs) returns-2)

@@ -14,9 +14,6 @@ array-index-requires c κs =
     let pre = seen .before .before .before .pre in
     array-can-index (pre .1) (seen .next-if .result) (seen .next-if .ensures) (c .before .if1 .taken) (pre .0)
 
-same-length : tie.Need-same-length
-same-length c = search needs
-
 returns : tie.Need-returns
 returns c =
     let turned = c .before .before in
@@ -40,12 +37,6 @@ keep-requires c κs =
       rounded .turn-round .ensures .long,
     )
 
-on-requires : tie.Need-on-requires
-on-requires c κs = search needs
-
-same-length-2 : tie.Need-same-length-2
-same-length-2 c = search needs
-
 returns-2 : tie.Need-returns-2
 returns-2 c =
     let kept = c .before .before .before in
@@ -59,13 +50,5 @@ returns-2 c =
 pub array-on-spec : {M : Type 1} → statement M
 array-on-spec =
     tie.close
-    (tie.spec
-    next-if-requires
-    array-index-requires
-    same-length
-    returns
-    turn-round-requires
-    keep-requires
-    on-requires
-    same-length-2
-    returns-2)
+    (tie.spec next-if-requires array-index-requires (λ c. search needs) returns turn-round-requires keep-requires (λ c κs. search needs)
+    (λ c. search needs) returns-2)

@@ -1,27 +1,11 @@
 -- `lend_name`: the array's last child, its name and the index's contents are looked at (ArrayGrowing).
-use borrow.Author.Needs.{needs}
-use borrow.Author.Tests.{not-true, not-false}
+use borrow.Author.{Needs.{needs}, Tests.{not-true, not-false}}
 use Rattle.passes.proofs.ArrayGrowing.{lent-no-child, lent-no-name, lent-no-index, lent-name}
 use Rattle.passes.proofs.arrays.lend_name.Statement.{statement}
 use Rattle.passes.proofs.arrays.lend_name.Tie as tie
 
-first-of-requires : tie.Need-first-of-requires
-first-of-requires c κs = search needs
-
-first-of-requires-2 : tie.Need-first-of-requires-2
-first-of-requires-2 c κs = search needs
-
-same-length : tie.Need-same-length
-same-length c = search needs
-
 returns : tie.Need-returns
 returns c = let child = c .before .before .before in lent-no-child (child .first-of .result) (child .first-of .ensures) (c .if1 .taken)
-
-is-token-requires : tie.Need-is-token-requires
-is-token-requires c κs = search needs
-
-same-length-2 : tie.Need-same-length-2
-same-length-2 c = search needs
 
 returns-2 : tie.Need-returns-2
 returns-2 c =
@@ -29,29 +13,11 @@ returns-2 c =
     lent-no-name (child .first-of .result) (c .before .is-token .result) (child .first-of .ensures) (c .before .is-token .ensures)
     (not-true (c .before .is-token .result) (c .if2 .taken))
 
-operator-of-requires : tie.Need-operator-of-requires
-operator-of-requires c κs = search needs
-
-same-length-3 : tie.Need-same-length-3
-same-length-3 c = search needs
-
 returns-3 : tie.Need-returns-3
 returns-3 c =
     let contents = c .before .before .before .before .before .before .before in
     lent-no-index (contents .first-of2 .result) (c .before .operator-of .result) (contents .first-of2 .ensures)
     (c .before .operator-of .ensures) (c .if3 .taken)
-
-next-of-requires : tie.Need-next-of-requires
-next-of-requires c κs = search needs
-
-set-first-requires : tie.Need-set-first-requires
-set-first-requires c κs = search needs
-
-set-operator-requires : tie.Need-set-operator-requires
-set-operator-requires c κs = search needs
-
-same-length-4 : tie.Need-same-length-4
-same-length-4 c = search needs
 
 returns-4 : tie.Need-returns-4
 returns-4 c =
@@ -72,19 +38,6 @@ returns-4 c =
 pub lend-name-spec : {M : Type 1} → statement M
 lend-name-spec =
     tie.close
-    (tie.spec
-    first-of-requires
-    first-of-requires-2
-    same-length
-    returns
-    is-token-requires
-    same-length-2
-    returns-2
-    operator-of-requires
-    same-length-3
-    returns-3
-    next-of-requires
-    set-first-requires
-    set-operator-requires
-    same-length-4
-    returns-4)
+    (tie.spec (λ c κs. search needs) (λ c κs. search needs) (λ c. search needs) returns (λ c κs. search needs) (λ c. search needs)
+    returns-2 (λ c κs. search needs) (λ c. search needs) returns-3 (λ c κs. search needs) (λ c κs. search needs) (λ c κs. search needs)
+    (λ c. search needs) returns-4)

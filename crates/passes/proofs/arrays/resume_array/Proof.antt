@@ -4,12 +4,6 @@ use Rattle.passes.proofs.ArrayTurns.{resume-room, resume-gathers, resum
 use Rattle.passes.proofs.arrays.resume_array.Statement.{statement}
 use Rattle.passes.proofs.arrays.resume_array.Tie as tie
 
-keep-requires : tie.Need-keep-requires
-keep-requires c κs = resume-room (c .before .before .before .pre)
-
-same-length : tie.Need-same-length
-same-length c = search needs
-
 returns : tie.Need-returns
 returns c =
     let kept = c .before .before in
@@ -18,12 +12,11 @@ returns c =
 gather-requires : tie.Need-gather-requires
 gather-requires c κs = resume-gathers (c .before .if1 .left) (c .before .before .before .pre)
 
-same-length-2 : tie.Need-same-length-2
-same-length-2 c = search needs
-
 returns-2 : tie.Need-returns-2
 returns-2 c = let taken = c .before .before in resumed-gathered (taken .before .before .if1 .left) (taken .gather .ensures)
 
 pub resume-array-spec : {M : Type 1} → statement M
 resume-array-spec =
-    tie.close (tie.spec keep-requires same-length returns gather-requires same-length-2 returns-2)
+    tie.close
+    (tie.spec (λ c κs. resume-room (c .before .before .before .pre)) (λ c. search needs) returns gather-requires (λ c. search needs)
+    returns-2)

@@ -1,8 +1,7 @@
 -- `turn_round`: its loop turns the array's chain round (ArrayChain).
 use native.Mathlib.Omega.{arith}
 use Prim.Native.Nat.{ℕ}
-use mathlib.Core.Path.{ap, _∙_}
-use mathlib.Core.Bool.{_||_}
+use mathlib.Core.{Path.{ap, _∙_}, Bool.{_||_}}
 use Rattle.ops.specs.Classes.{bitAt}
 use Rattle.passes.proofs.ArrayChain.{Rounding, round-start, round-in, round-less, round-step, round-done}
 use Rattle.passes.proofs.arrays.turn_round.Statement.{statement}
@@ -16,9 +15,6 @@ abbrev μ-loop : tie.MeasureT-loop
 
 first-of-requires : tie.Need-first-of-requires Inv-loop μ-loop
 first-of-requires c κs = omega (arith, c .before .before .pre .own, c .before .before .pre .within)
-
-loop-holds : tie.Need-loop-holds Inv-loop μ-loop
-loop-holds c = round-start (c .first-of .ensures)
 
 next-of-requires : tie.Need-next-of-requires Inv-loop μ-loop
 next-of-requires c κs =
@@ -38,9 +34,6 @@ classes-of-requires c κs =
       round-in (turn .before .loop .inv) (turn .before .before .before .before .before .pre) (turn .loop-test .taken),
       linked .set-next .kept .0,
     )
-
-union-requires : tie.Need-union-requires Inv-loop μ-loop
-union-requires c κs = tt
 
 loop-less : tie.Need-loop-less Inv-loop μ-loop
 loop-less c =
@@ -99,18 +92,5 @@ returns c =
 pub turn-round-spec : {M : Type 1} → statement M
 turn-round-spec =
     tie.close
-    (tie.spec
-    Inv-loop
-    μ-loop
-    first-of-requires
-    loop-holds
-    next-of-requires
-    set-next-requires
-    classes-of-requires
-    union-requires
-    loop-less
-    loop-again
-    set-first-requires
-    set-classes-requires
-    same-length
-    returns)
+    (tie.spec Inv-loop μ-loop first-of-requires (λ c. round-start (c .first-of .ensures)) next-of-requires set-next-requires
+    classes-of-requires (λ c κs. tt) loop-less loop-again set-first-requires set-classes-requires same-length returns)

@@ -16,17 +16,11 @@ abbrev μ-loop : tie.MeasureT-loop
 loop-holds : tie.Need-loop-holds Inv-loop μ-loop
 loop-holds c = search-start _ (c .before .args .top) (c .before .args .classes .0)
 
-sub-fuel : tie.Need-sub-fuel Inv-loop μ-loop
-sub-fuel c = omega arith
-
 returns : tie.Need-returns Inv-loop μ-loop
 returns c = λ g ops covers. search-done (c .before .before .loop .inv g) (c .if1 .taken) ops covers
 
 classes-of-requires : tie.Need-classes-of-requires Inv-loop μ-loop
 classes-of-requires c κs = search-in (c .before .before .loop .inv (c .before .before .before .before .pre)) (c .if1 .left)
-
-intersects-requires : tie.Need-intersects-requires Inv-loop μ-loop
-intersects-requires c κs = search needs
 
 first-of-requires : tie.Need-first-of-requires Inv-loop μ-loop
 first-of-requires c κs =
@@ -62,18 +56,5 @@ returns-2 c = λ g ops covers. absurd (omega (arith, search-left (c .before .loo
 pub first-leaf-spec : {M : Type 1} → statement M
 first-leaf-spec =
     tie.close
-    (tie.spec
-    Inv-loop
-    μ-loop
-    loop-holds
-    sub-fuel
-    returns
-    classes-of-requires
-    intersects-requires
-    first-of-requires
-    loop-less
-    loop-again
-    next-of-requires
-    loop-less-2
-    loop-again-2
-    returns-2)
+    (tie.spec Inv-loop μ-loop loop-holds (λ c. omega arith) returns classes-of-requires (λ c κs. search needs) first-of-requires loop-less
+    loop-again next-of-requires loop-less-2 loop-again-2 returns-2)

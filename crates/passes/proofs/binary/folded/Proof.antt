@@ -5,42 +5,18 @@ use Rattle.passes.proofs.BinaryLaws.{operate-room, operate-folds, opera
 use Rattle.passes.proofs.binary.folded.Statement.{statement}
 use Rattle.passes.proofs.binary.folded.Tie as tie
 
-add-at : tie.Need-add-at
-add-at c = search needs
-
-mul-right : tie.Need-mul-right
-mul-right c = search needs
-
-slice-read-right : tie.Need-slice-read-right
-slice-read-right c = search needs
-
-past-requires : tie.Need-past-requires
-past-requires c κs = search needs
-
 is-inner-requires : tie.Need-is-inner-requires
 is-inner-requires c κs = operate-room (c .before .before .before .before .before .pre) .0
-
-enter-requires : tie.Need-enter-requires
-enter-requires c κs = search needs
 
 fold-requires : tie.Need-fold-requires
 fold-requires c κs =
     operate-folds (c .before .before .before .before .past .result) (c .before .before .before .before .before .before .before .before .pre)
     (c .before .before .before .before .past .ensures)
 
-on-requires : tie.Need-on-requires
-on-requires c κs = search needs
-
-same-length : tie.Need-same-length
-same-length c = search needs
-
 returns : tie.Need-returns
 returns c =
     operated-opens (c .before .before .before .before .past .result) (sym (c .before .before .is-inner .ensures) ∙ c .before .if1 .taken)
     refl (c .before .before .before .before .past .ensures) (c .enter .ensures)
-
-same-length-2 : tie.Need-same-length-2
-same-length-2 c = search needs
 
 returns-2 : tie.Need-returns-2
 returns-2 c =
@@ -52,16 +28,5 @@ returns-2 c =
 pub folded-spec : {M : Type 1} → statement M
 folded-spec =
     tie.close
-    (tie.spec
-    add-at
-    mul-right
-    slice-read-right
-    past-requires
-    is-inner-requires
-    enter-requires
-    fold-requires
-    on-requires
-    same-length
-    returns
-    same-length-2
-    returns-2)
+    (tie.spec (λ c. search needs) (λ c. search needs) (λ c. search needs) (λ c κs. search needs) is-inner-requires (λ c κs. search needs)
+    fold-requires (λ c κs. search needs) (λ c. search needs) returns (λ c. search needs) returns-2)

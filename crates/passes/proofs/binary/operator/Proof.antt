@@ -2,8 +2,7 @@
 use native.Mathlib.Omega.{arith}
 use mathlib.Core.Path.{refl}
 use borrow.Author.Needs.{needs}
-use Rattle.passes.proofs.GatherLaws.{next-room}
-use Rattle.passes.proofs.CallLaws.{shares-as}
+use Rattle.passes.proofs.{GatherLaws.{next-room}, CallLaws.{shares-as}}
 use Rattle.passes.proofs.BinaryLaws.{left-room, can-search, operator-begins, operator-ends, operator-fails, operated}
 use Rattle.passes.proofs.binary.operator.Statement.{statement}
 use Rattle.passes.proofs.binary.operator.Tie as tie
@@ -14,25 +13,10 @@ returns c = λ ops covers. operator-begins (c .before .before .before .args .cla
 returns-2 : tie.Need-returns-2
 returns-2 c = λ ops covers. operator-ends (c .before .before .before .before .before .args .classes) ops covers (c .if2 .taken)
 
-add-at : tie.Need-add-at
-add-at c = search needs
-
-sub-at : tie.Need-sub-at
-sub-at c = search needs
-
-mul-left : tie.Need-mul-left
-mul-left c = search needs
-
-slice-read-left : tie.Need-slice-read-left
-slice-read-left c = search needs
-
 classes-of-requires : tie.Need-classes-of-requires
 classes-of-requires c κs =
     left-room (c .before .before .before .before .before .before .before .before .pre)
     (c .before .before .before .before .before .if1 .left)
-
-intersects-requires : tie.Need-intersects-requires
-intersects-requires c κs = search needs
 
 first-leaf-requires : tie.Need-first-leaf-requires
 first-leaf-requires c κs =
@@ -53,9 +37,6 @@ folded-requires c κs =
           (shares-as (c .before .before .intersects .ensures) (c .before .before .before .classes-of .ensures) refl (c .before .if3 .left));
     }
 
-same-length : tie.Need-same-length
-same-length c = search needs
-
 returns-3 : tie.Need-returns-3
 returns-3 c = λ ops covers.
     let has = c .before .before .before .before .before .before .before .before .before .before .if1 .left in
@@ -67,9 +48,6 @@ returns-3 c = λ ops covers.
     (shares-as (c .before .before .before .intersects .ensures) (c .before .before .before .before .classes-of .ensures) refl
     (c .before .before .if3 .taken))
     (c .first-leaf .ensures)
-
-same-length-2 : tie.Need-same-length-2
-same-length-2 c = search needs
 
 returns-4 : tie.Need-returns-4
 returns-4 c = λ ops covers.
@@ -88,18 +66,5 @@ returns-4 c = λ ops covers.
 pub operator-spec : {M : Type 1} → statement M
 operator-spec =
     tie.close
-    (tie.spec
-    returns
-    returns-2
-    add-at
-    sub-at
-    mul-left
-    slice-read-left
-    classes-of-requires
-    intersects-requires
-    first-leaf-requires
-    folded-requires
-    same-length
-    returns-3
-    same-length-2
-    returns-4)
+    (tie.spec returns returns-2 (λ c. search needs) (λ c. search needs) (λ c. search needs) (λ c. search needs) classes-of-requires
+    (λ c κs. search needs) first-leaf-requires folded-requires (λ c. search needs) returns-3 (λ c. search needs) returns-4)

@@ -6,18 +6,6 @@ use Rattle.passes.proofs.CallLaws.{can-attach, can-next, can-call, quer
 use Rattle.passes.proofs.calls.call.Statement.{statement}
 use Rattle.passes.proofs.calls.call.Tie as tie
 
-next-if-requires : tie.Need-next-if-requires
-next-if-requires c κs = can-next (c .before .before .pre)
-
-keep-requires : tie.Need-keep-requires
-keep-requires c κs = search needs
-
-on-requires : tie.Need-on-requires
-on-requires c κs = search needs
-
-same-length : tie.Need-same-length
-same-length c = search needs
-
 returns : tie.Need-returns
 returns c =
     query-on (c .before .before .before .before .before .before .next-if .result)
@@ -31,9 +19,6 @@ is-leaf-requires c κs =
     (can-call leftParenthesis (c .before .before .next-if .result) (c .before .before .before .before .before .pre)
     (c .before .before .next-if .ensures) (c .before .if1 .left)) .1
 
-same-length-2 : tie.Need-same-length-2
-same-length-2 c = search needs
-
 returns-2 : tie.Need-returns-2
 returns-2 c =
     query-failed (c .before .before .before .before .next-if .result) (c .before .before .before .before .next-if .ensures)
@@ -44,9 +29,6 @@ called-requires c κs =
     can-call leftParenthesis (c .before .before .before .before .before .next-if .result)
     (c .before .before .before .before .before .before .before .before .pre) (c .before .before .before .before .before .next-if .ensures)
     (c .before .before .before .before .if1 .left)
-
-same-length-3 : tie.Need-same-length-3
-same-length-3 c = search needs
 
 returns-3 : tie.Need-returns-3
 returns-3 c =
@@ -59,15 +41,5 @@ returns-3 c =
 pub call-spec : {M : Type 1} → statement M
 call-spec =
     tie.close
-    (tie.spec
-    next-if-requires
-    keep-requires
-    on-requires
-    same-length
-    returns
-    is-leaf-requires
-    same-length-2
-    returns-2
-    called-requires
-    same-length-3
-    returns-3)
+    (tie.spec (λ c κs. can-next (c .before .before .pre)) (λ c κs. search needs) (λ c κs. search needs) (λ c. search needs) returns
+    is-leaf-requires (λ c. search needs) returns-2 called-requires (λ c. search needs) returns-3)

@@ -1,19 +1,9 @@
 -- `called`: the call is entered, or done (CallLaws).
 use native.Mathlib.Omega.{arith}
 use borrow.Author.Needs.{needs}
-use Rattle.passes.proofs.GatherLaws.{token-room}
-use Rattle.passes.proofs.CallLaws.{can-attach, shares-as, called-opens, called-stays}
+use Rattle.passes.proofs.{GatherLaws.{token-room}, CallLaws.{can-attach, shares-as, called-opens, called-stays}}
 use Rattle.passes.proofs.calls.called.Statement.{statement}
 use Rattle.passes.proofs.calls.called.Tie as tie
-
-past-requires : tie.Need-past-requires
-past-requires c κs = search needs
-
-attach-requires : tie.Need-attach-requires
-attach-requires c κs = can-attach (c .before .before .before .pre)
-
-classes-requires : tie.Need-classes-requires
-classes-requires c κs = search needs
 
 classes-of-requires : tie.Need-classes-of-requires
 classes-of-requires c κs =
@@ -22,15 +12,6 @@ classes-of-requires c κs =
       can-attach (c .before .before .before .before .before .before .before .before .pre),
       c .before .before .before .before .attach .ensures .long,
     )
-
-intersects-requires : tie.Need-intersects-requires
-intersects-requires c κs = search needs
-
-enter-requires : tie.Need-enter-requires
-enter-requires c κs = search needs
-
-same-length : tie.Need-same-length
-same-length c = search needs
 
 returns : tie.Need-returns
 returns c =
@@ -49,12 +30,6 @@ keep-requires c κs =
       c .before .before .before .before .before .before .before .before .attach .ensures .long,
     ))
 
-on-requires : tie.Need-on-requires
-on-requires c κs = search needs
-
-same-length-2 : tie.Need-same-length-2
-same-length-2 c = search needs
-
 returns-2 : tie.Need-returns-2
 returns-2 c =
     called-stays
@@ -71,16 +46,6 @@ returns-2 c =
 pub called-spec : {M : Type 1} → statement M
 called-spec =
     tie.close
-    (tie.spec
-    past-requires
-    attach-requires
-    classes-requires
-    classes-of-requires
-    intersects-requires
-    enter-requires
-    same-length
-    returns
-    keep-requires
-    on-requires
-    same-length-2
+    (tie.spec (λ c κs. search needs) (λ c κs. can-attach (c .before .before .before .pre)) (λ c κs. search needs) classes-of-requires
+    (λ c κs. search needs) (λ c κs. search needs) (λ c. search needs) returns keep-requires (λ c κs. search needs) (λ c. search needs)
     returns-2)

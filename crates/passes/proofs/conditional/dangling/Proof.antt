@@ -15,32 +15,14 @@ Inv-loop work base from len i₀ i = CanDangle work base from len × Dangling wo
 abbrev μ-loop : tie.MeasureT-loop
 μ-loop work base from len i₀ i = len - i
 
-loop-holds : tie.Need-loop-holds Inv-loop μ-loop
-loop-holds c = (c .before .pre, dangle-start)
-
 bounds : (c : tie.In-loop Inv-loop μ-loop) → let a = c .before .before .before .args in let at = a .base + c .before .loop .i in
     (at < length (a .work .now)) × (slotEnd (wd (a .work .now) at) ≤ length (a .work .now)) × (length (a .work .now) < 2 ^ 32)
 bounds c = let v = c .before .loop .inv in dangle-in (v .1) (v .0) (c .loop-test .taken)
-
-add-item : tie.Need-add-item Inv-loop μ-loop
-add-item c = let b = bounds c in omega arith
-
-mul-item : tie.Need-mul-item Inv-loop μ-loop
-mul-item c = let b = bounds c in omega arith
-
-shared-slice-read-item : tie.Need-shared-slice-read-item Inv-loop μ-loop
-shared-slice-read-item c = bounds (c .before) .0
-
-is-token-requires : tie.Need-is-token-requires Inv-loop μ-loop
-is-token-requires c κs = bounds (c .before) .1
 
 returns : tie.Need-returns Inv-loop μ-loop
 returns c =
     dangles-if (c .before .before .before .before .loop .inv .1) (c .before .before .before .loop-test .taken)
     (sym (c .before .is-token .ensures) ∙ c .if1 .taken)
-
-is-token-requires-2 : tie.Need-is-token-requires-2 Inv-loop μ-loop
-is-token-requires-2 c κs = bounds (c .before .before .before) .1
 
 returns-2 : tie.Need-returns-2 Inv-loop μ-loop
 returns-2 c =
@@ -68,18 +50,6 @@ returns-3 c = dangles-none (c .before .loop .inv .1) (omega (arith, c .loop-test
 pub dangling-spec : {M : Type 1} → statement M
 dangling-spec =
     tie.close
-    (tie.spec
-    Inv-loop
-    μ-loop
-    loop-holds
-    add-item
-    mul-item
-    shared-slice-read-item
-    is-token-requires
-    returns
-    is-token-requires-2
-    returns-2
-    add-i
-    loop-less
-    loop-again
-    returns-3)
+    (tie.spec Inv-loop μ-loop (λ c. (c .before .pre, dangle-start)) (λ c. let b = bounds c in omega arith)
+    (λ c. let b = bounds c in omega arith) (λ c. bounds (c .before) .0) (λ c κs. bounds (c .before) .1) returns
+    (λ c κs. bounds (c .before .before .before) .1) returns-2 add-i loop-less loop-again returns-3)

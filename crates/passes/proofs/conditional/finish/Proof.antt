@@ -5,19 +5,10 @@ use Rattle.passes.proofs.ConditionalEnd.{can-fold, can-dangle, ends-idl
 use Rattle.passes.proofs.conditional.finish.Statement.{statement}
 use Rattle.passes.proofs.conditional.finish.Tie as tie
 
-returns : tie.Need-returns
-returns c = ends-idle (c .if1 .taken)
-
-fold-conditionals-requires : tie.Need-fold-conditionals-requires
-fold-conditionals-requires c κs = can-fold (c .before .before .before .pre)
-
 dangling-requires : tie.Need-dangling-requires
 dangling-requires c κs =
     can-dangle (can-fold (c .before .before .before .before .before .before .before .pre))
     (c .before .before .before .fold-conditionals .ensures)
-
-same-length : tie.Need-same-length
-same-length c = search needs
 
 returns-2 : tie.Need-returns-2
 returns-2 c =
@@ -38,9 +29,6 @@ sub-t15 c =
           (can-fold (c .before .before .before .before .before .before .before .before .before .pre)) .count,
     )
 
-same-length-2 : tie.Need-same-length-2
-same-length-2 c = search needs
-
 returns-3 : tie.Need-returns-3
 returns-3 c =
     ends-folded (c .before .before .before .before .before .fold-conditionals .ensures) (c .before .dangling .ensures) (c .if2 .left)
@@ -48,13 +36,5 @@ returns-3 c =
 pub finish-spec : {M : Type 1} → statement M
 finish-spec =
     tie.close
-    (tie.spec
-    returns
-    fold-conditionals-requires
-    dangling-requires
-    same-length
-    returns-2
-    add-t14
-    sub-t15
-    same-length-2
-    returns-3)
+    (tie.spec (λ c. ends-idle (c .if1 .taken)) (λ c κs. can-fold (c .before .before .before .pre)) dangling-requires (λ c. search needs)
+    returns-2 add-t14 sub-t15 (λ c. search needs) returns-3)

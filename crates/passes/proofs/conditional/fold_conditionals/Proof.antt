@@ -14,30 +14,15 @@ Inv-loop work₀ base len left₀ right₀ work left right = CanFold work₀ bas
 abbrev μ-loop : tie.MeasureT-loop
 μ-loop work₀ base len left₀ right₀ work left right = left
 
-returns : tie.Need-returns Inv-loop μ-loop
-returns c = folded-few (c .if1 .taken)
-
-sub-left : tie.Need-sub-left Inv-loop μ-loop
-sub-left c = omega (arith, c .if1 .left)
-
-sub-right : tie.Need-sub-right Inv-loop μ-loop
-sub-right c = omega (arith, c .if1 .left)
-
 loop-holds : tie.Need-loop-holds Inv-loop μ-loop
 loop-holds c = (c .before .before .pre, scan-start (omega (arith, c .if1 .left)))
 
 fold-next-requires : tie.Need-fold-next-requires Inv-loop μ-loop
 fold-next-requires c κs = let v = c .before .before .loop .inv in next-can (v .1) (v .0) (c .before .loop-test .taken)
 
-loop-less : tie.Need-loop-less Inv-loop μ-loop
-loop-less c = c .before .before .fold-next .ensures .less
-
 loop-again : tie.Need-loop-again Inv-loop μ-loop
 loop-again c =
     let v = c .before .before .before .before .before .loop .inv in (v .0, scan-next (v .1) (c .before .before .fold-next .ensures))
-
-same-length : tie.Need-same-length Inv-loop μ-loop
-same-length c = c .before .before .loop .inv .1 .long
 
 returns-2 : tie.Need-returns-2 Inv-loop μ-loop
 returns-2 c = folded-none (c .before .before .loop .inv .1) (c .if2 .taken)
@@ -50,27 +35,6 @@ bounds c =
     let r = scan-in (v .1) (v .0) in
     (omega (arith, c .before .loop-test .left, c .if2 .left), r .0, r .1, r .2, r .3)
 
-mul-first : tie.Need-mul-first Inv-loop μ-loop
-mul-first c = let b = bounds c in omega arith
-
-slice-read-first : tie.Need-slice-read-first Inv-loop μ-loop
-slice-read-first c = let b = bounds (c .before) in omega arith
-
-sub-work : tie.Need-sub-work Inv-loop μ-loop
-sub-work c = let b = bounds (c .before) in omega arith
-
-add-work : tie.Need-add-work Inv-loop μ-loop
-add-work c = let b = bounds (c .before) in omega arith
-
-mul-work : tie.Need-mul-work Inv-loop μ-loop
-mul-work c = let b = bounds (c .before) in omega arith
-
-slice-write-work : tie.Need-slice-write-work Inv-loop μ-loop
-slice-write-work c = let b = bounds (c .before) in omega arith
-
-sub-result : tie.Need-sub-result Inv-loop μ-loop
-sub-result c = let b = bounds (c .before) in omega arith
-
 same-length-2 : tie.Need-same-length-2 Inv-loop μ-loop
 same-length-2 c = folded-one (c .before .before .before .loop .inv .1) (bounds (c .before) .0) refl .long
 
@@ -80,24 +44,9 @@ returns-3 c = folded-one (c .before .before .before .loop .inv .1) (bounds (c .b
 pub fold-conditionals-spec : {M : Type 1} → statement M
 fold-conditionals-spec =
     tie.close
-    (tie.spec
-    Inv-loop
-    μ-loop
-    returns
-    sub-left
-    sub-right
-    loop-holds
-    fold-next-requires
-    loop-less
-    loop-again
-    same-length
-    returns-2
-    mul-first
-    slice-read-first
-    sub-work
-    add-work
-    mul-work
-    slice-write-work
-    sub-result
-    same-length-2
-    returns-3)
+    (tie.spec Inv-loop μ-loop (λ c. folded-few (c .if1 .taken)) (λ c. omega (arith, c .if1 .left)) (λ c. omega (arith, c .if1 .left))
+    loop-holds fold-next-requires (λ c. c .before .before .fold-next .ensures .less) loop-again
+    (λ c. c .before .before .loop .inv .1 .long) returns-2 (λ c. let b = bounds c in omega arith)
+    (λ c. let b = bounds (c .before) in omega arith) (λ c. let b = bounds (c .before) in omega arith)
+    (λ c. let b = bounds (c .before) in omega arith) (λ c. let b = bounds (c .before) in omega arith)
+    (λ c. let b = bounds (c .before) in omega arith) (λ c. let b = bounds (c .before) in omega arith) same-length-2 returns-3)

@@ -7,33 +7,9 @@ use borrow.Author.Needs.{needs}
 use Rattle.passes.proofs.conditional.is_else.Statement.{statement}
 use Rattle.passes.proofs.conditional.is_else.Tie as tie
 
-returns : tie.Need-returns
-returns c = few (c .if1 .taken)
-
-sub-colon : tie.Need-sub-colon
-sub-colon c = search needs
-
-add-colon : tie.Need-add-colon
-add-colon c = search needs
-
-mul-colon : tie.Need-mul-colon
-mul-colon c = search needs
-
-shared-slice-read-colon : tie.Need-shared-slice-read-colon
-shared-slice-read-colon c = search needs
-
 is-token-requires : tie.Need-is-token-requires
 is-token-requires c κs =
     c .before .before .before .pre .slot (c .before .before .before .args .left - 1) (omega (arith, c .before .if1 .left))
-
-add-question : tie.Need-add-question
-add-question c = search needs
-
-mul-question : tie.Need-mul-question
-mul-question c = search needs
-
-shared-slice-read-question : tie.Need-shared-slice-read-question
-shared-slice-read-question c = search needs
 
 is-token-requires-2 : tie.Need-is-token-requires-2
 is-token-requires-2 c κs =
@@ -46,22 +22,9 @@ returns-2 c =
     omega (arith, c .before .before .before .before .before .if1 .left) in
     looked many (sym (c .before .before .before .is-token .ensures) ∙ c .before .before .if2 .taken) (c .is-token2 .ensures)
 
-returns-3 : tie.Need-returns-3
-returns-3 c = other (sym (c .before .is-token .ensures) ∙ c .if2 .left)
-
 pub is-else-spec : {M : Type 1} → statement M
 is-else-spec =
     tie.close
-    (tie.spec
-    returns
-    sub-colon
-    add-colon
-    mul-colon
-    shared-slice-read-colon
-    is-token-requires
-    add-question
-    mul-question
-    shared-slice-read-question
-    is-token-requires-2
-    returns-2
-    returns-3)
+    (tie.spec (λ c. few (c .if1 .taken)) (λ c. search needs) (λ c. search needs) (λ c. search needs) (λ c. search needs) is-token-requires
+    (λ c. search needs) (λ c. search needs) (λ c. search needs) is-token-requires-2 returns-2
+    (λ c. other (sym (c .before .is-token .ensures) ∙ c .if2 .left)))

@@ -6,8 +6,7 @@ use lib.ListN.{length}
 use borrow.Author.Tests.{not-true, not-false}
 use Rattle.nodes.specs.Store.{wd, slotEnd}
 use Rattle.passes.proofs.ConditionalLaws.{CanGather, can-gather, Gathering, gather-start, gather-in, gather-passes, gather-counts}
-use Rattle.passes.proofs.ConditionalLaws.{conditional-test, step-enter, step-over}
-use Rattle.passes.proofs.conditional.step.Statement.{statement}
+use Rattle.passes.proofs.{ConditionalLaws.{conditional-test, step-enter, step-over}, conditional.step.Statement.{statement}}
 use Rattle.passes.proofs.conditional.step.Tie as tie
 
 abbrev Inv-loop : tie.InvT-loop
@@ -25,38 +24,8 @@ bounds : (c : tie.In-loop Inv-loop μ-loop) → let w = c .before .loop in let a
     × (length (a .work .now) < 2 ^ 32)
 bounds c = let v = c .before .loop .inv in gather-in (v .1) (v .0) (c .loop-test .taken)
 
-add-item : tie.Need-add-item Inv-loop μ-loop
-add-item c = let b = bounds c in omega arith
-
-mul-item : tie.Need-mul-item Inv-loop μ-loop
-mul-item c = let b = bounds c in omega arith
-
-slice-read-item : tie.Need-slice-read-item Inv-loop μ-loop
-slice-read-item c = bounds (c .before) .0
-
-add-read : tie.Need-add-read Inv-loop μ-loop
-add-read c = let b = bounds (c .before) in omega arith
-
-classes-of-requires : tie.Need-classes-of-requires Inv-loop μ-loop
-classes-of-requires c κs = bounds (c .before .before) .1
-
-intersects-requires : tie.Need-intersects-requires Inv-loop μ-loop
-intersects-requires c κs = tt
-
 is-leaf-requires : tie.Need-is-leaf-requires Inv-loop μ-loop
 is-leaf-requires c κs = bounds (c .before .before .before .before .before .before) .1
-
-sub-moved : tie.Need-sub-moved Inv-loop μ-loop
-sub-moved c = omega arith
-
-moved-requires : tie.Need-moved-requires Inv-loop μ-loop
-moved-requires c κs = tt
-
-enter-requires : tie.Need-enter-requires Inv-loop μ-loop
-enter-requires c κs = tt
-
-same-length : tie.Need-same-length Inv-loop μ-loop
-same-length c = refl
 
 returns : tie.Need-returns Inv-loop μ-loop
 returns c =
@@ -99,12 +68,6 @@ loop-again-2 c = (
       (conditional-test (c .before .before .classes-of .ensures) (c .before .intersects .ensures) ∙ c .if1 .left),
 )
 
-moved-requires-2 : tie.Need-moved-requires-2 Inv-loop μ-loop
-moved-requires-2 c κs = tt
-
-over-requires : tie.Need-over-requires Inv-loop μ-loop
-over-requires c κs = tt
-
 returns-2 : tie.Need-returns-2 Inv-loop μ-loop
 returns-2 c =
     step-over (c .before .before .before .loop .inv .1) (omega (arith, c .before .before .loop-test .left)) (c .before .moved2 .result)
@@ -113,27 +76,7 @@ returns-2 c =
 pub step-spec : {M : Type 1} → statement M
 step-spec =
     tie.close
-    (tie.spec
-    Inv-loop
-    μ-loop
-    loop-holds
-    add-item
-    mul-item
-    slice-read-item
-    add-read
-    classes-of-requires
-    intersects-requires
-    is-leaf-requires
-    sub-moved
-    moved-requires
-    enter-requires
-    same-length
-    returns
-    add-seen
-    loop-less
-    loop-again
-    loop-less-2
-    loop-again-2
-    moved-requires-2
-    over-requires
-    returns-2)
+    (tie.spec Inv-loop μ-loop loop-holds (λ c. let b = bounds c in omega arith) (λ c. let b = bounds c in omega arith)
+    (λ c. bounds (c .before) .0) (λ c. let b = bounds (c .before) in omega arith) (λ c κs. bounds (c .before .before) .1) (λ c κs. tt)
+    is-leaf-requires (λ c. omega arith) (λ c κs. tt) (λ c κs. tt) (λ c. refl) returns add-seen loop-less loop-again loop-less-2
+    loop-again-2 (λ c κs. tt) (λ c κs. tt) returns-2)

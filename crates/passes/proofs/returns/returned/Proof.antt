@@ -2,41 +2,22 @@
 use native.Mathlib.Omega.{arith}
 use mathlib.Core.Path.{refl}
 use borrow.Author.Needs.{needs}
-use Rattle.passes.proofs.GatherLaws.{token-room, next-room}
-use Rattle.passes.proofs.ReturnLaws.{returned-end, returned-turn}
+use Rattle.passes.proofs.{GatherLaws.{token-room, next-room}, ReturnLaws.{returned-end, returned-turn}}
 use Rattle.passes.proofs.returns.returned.Statement.{statement}
 use Rattle.passes.proofs.returns.returned.Tie as tie
 
 returns : tie.Need-returns
 returns c = let a = c .before .before .before .args in returned-end _ (a .list) (a .item) (c .if1 .taken)
 
-add-at : tie.Need-add-at
-add-at c = search needs
-
-mul-operand : tie.Need-mul-operand
-mul-operand c = search needs
-
-slice-read-operand : tie.Need-slice-read-operand
-slice-read-operand c = search needs
-
 attach-requires : tie.Need-attach-requires
 attach-requires c κs =
     let s = c .before .before .before .before .before .before in
     (token-room (s .pre) .0, next-room (s .pre) (c .before .before .before .if1 .left) .1)
 
-past-requires : tie.Need-past-requires
-past-requires c κs = search needs
-
 keep-requires : tie.Need-keep-requires
 keep-requires c κs =
     let s = c .before .before .before .before .before .before .before .before .before .before .before in
     rw (c .before .past .ensures) (omega (arith, token-room (s .pre), c .before .before .before .before .attach .ensures .long))
-
-on-requires : tie.Need-on-requires
-on-requires c κs = search needs
-
-same-length : tie.Need-same-length
-same-length c = search needs
 
 returns-2 : tie.Need-returns-2
 returns-2 c =
@@ -52,14 +33,5 @@ returns-2 c =
 pub returned-spec : {M : Type 1} → statement M
 returned-spec =
     tie.close
-    (tie.spec
-    returns
-    add-at
-    mul-operand
-    slice-read-operand
-    attach-requires
-    past-requires
-    keep-requires
-    on-requires
-    same-length
-    returns-2)
+    (tie.spec returns (λ c. search needs) (λ c. search needs) (λ c. search needs) attach-requires (λ c κs. search needs) keep-requires
+    (λ c κs. search needs) (λ c. search needs) returns-2)

@@ -5,17 +5,8 @@ use borrow.Author.Needs.{needs}
 use Rattle.passes.proofs.statements.begin_list.Statement.{statement}
 use Rattle.passes.proofs.statements.begin_list.Tie as tie
 
-returns : tie.Need-returns
-returns c = there (c .if1 .taken)
-
 second-spare-requires : tie.Need-second-spare-requires
 second-spare-requires c κs = omega (arith, c .before .before .before .pre .0, c .before .before .before .pre .1)
-
-make-requires : tie.Need-make-requires
-make-requires c κs = search needs
-
-same-length : tie.Need-same-length
-same-length c = search needs
 
 returns-2 : tie.Need-returns-2
 returns-2 c =
@@ -24,4 +15,5 @@ returns-2 c =
 
 pub begin-list-spec : {M : Type 1} → statement M
 begin-list-spec =
-    tie.close (tie.spec returns second-spare-requires make-requires same-length returns-2)
+    tie.close
+    (tie.spec (λ c. there (c .if1 .taken)) second-spare-requires (λ c κs. search needs) (λ c. search needs) returns-2)

@@ -4,19 +4,12 @@ use mathlib.Core.Path.{refl, ap, _∙_}
 use native.Mathlib.Omega.{arith}
 use lib.ListN.{set}
 use Rattle.nodes.proofs.Runs.{set-long}
-use Rattle.passes.proofs.StatementFinish.{finish-closes, finish-asks, split-ends}
+use Rattle.passes.proofs.{StatementFinish.{finish-closes, finish-asks, split-ends}, statements.finish.Statement.{statement}}
 use borrow.Author.Needs.{needs}
-use Rattle.passes.proofs.statements.finish.Statement.{statement}
 use Rattle.passes.proofs.statements.finish.Tie as tie
-
-wide-requires : tie.Need-wide-requires
-wide-requires c κs = search needs
 
 end-open-requires : tie.Need-end-open-requires
 end-open-requires c κs = rw (c .wide .ensures) (finish-closes (c .before .before .before .pre))
-
-mul-first : tie.Need-mul-first
-mul-first c = search needs
 
 slice-read-first : tie.Need-slice-read-first
 slice-read-first c =
@@ -34,9 +27,6 @@ give-children-requires c κs =
     (finish-asks (c .before .before .before .before .before .before .before .before .before .pre)
     (rw (c .before .before .before .before .before .before .wide .ensures) at
     (c .before .before .before .before .before .end-open .ensures)) .give)
-
-mul-work : tie.Need-mul-work
-mul-work c = search needs
 
 slice-write-work : tie.Need-slice-write-work
 slice-write-work c =
@@ -70,14 +60,5 @@ returns c =
 pub finish-spec : {M : Type 1} → statement M
 finish-spec =
     tie.close
-    (tie.spec
-    wide-requires
-    end-open-requires
-    mul-first
-    slice-read-first
-    second-spare-requires
-    give-children-requires
-    mul-work
-    slice-write-work
-    same-length
-    returns)
+    (tie.spec (λ c κs. search needs) end-open-requires (λ c. search needs) slice-read-first second-spare-requires give-children-requires
+    (λ c. search needs) slice-write-work same-length returns)

@@ -14,20 +14,8 @@ Inv-loop work base len i₀ i = (v : Items) → v .base ≡ base → v .len ≡ 
 abbrev μ-loop : tie.MeasureT-loop
 μ-loop work base len i₀ i = len - i
 
-loop-holds : tie.Need-loop-holds Inv-loop μ-loop
-loop-holds c = λ v b l. look-start
-
-add-item : tie.Need-add-item Inv-loop μ-loop
-add-item c = search needs
-
-mul-item : tie.Need-mul-item Inv-loop μ-loop
-mul-item c = search needs
-
 shared-slice-read-item : tie.Need-shared-slice-read-item Inv-loop μ-loop
 shared-slice-read-item c = omega (arith, c .before .loop-test .taken, c .before .before .before .before .pre .within)
-
-add-i : tie.Need-add-i Inv-loop μ-loop
-add-i c = search needs
 
 is-token-requires : tie.Need-is-token-requires Inv-loop μ-loop
 is-token-requires c κs =
@@ -44,9 +32,6 @@ returns c =
     look-found (c .before .before .before .before .loop .inv (start .args .list) refl refl) (c .before .before .before .loop-test .taken)
     (sym (c .before .is-token .ensures) ∙ c .if1 .taken)
 
-loop-less : tie.Need-loop-less Inv-loop μ-loop
-loop-less c = search needs
-
 loop-again : tie.Need-loop-again Inv-loop μ-loop
 loop-again c =
     λ v b l. look-next (c .before .before .before .before .loop .inv v b l) (omega (arith, c .before .before .before .loop-test .taken))
@@ -60,16 +45,5 @@ returns-2 c =
 pub has-semicolon-spec : {M : Type 1} → statement M
 has-semicolon-spec =
     tie.close
-    (tie.spec
-    Inv-loop
-    μ-loop
-    loop-holds
-    add-item
-    mul-item
-    shared-slice-read-item
-    add-i
-    is-token-requires
-    returns
-    loop-less
-    loop-again
-    returns-2)
+    (tie.spec Inv-loop μ-loop (λ c. λ v b l. look-start) (λ c. search needs) (λ c. search needs) shared-slice-read-item (λ c. search needs)
+    is-token-requires returns (λ c. search needs) loop-again returns-2)

@@ -6,8 +6,7 @@ use lib.ListN.{length}
 use Rattle.nodes.specs.Store.{wd, slotEnd}
 use Rattle.passes.specs.Unary.{CanSeekBack}
 use Rattle.passes.proofs.UnaryRight.{SeekingBack, unary-test, seek-back-start, seek-back-in, seek-back-turn, sought-back-leaf}
-use Rattle.passes.proofs.UnaryRight.{sought-back-tree, sought-back-none}
-use Rattle.passes.proofs.unary.previous_token.Statement.{statement}
+use Rattle.passes.proofs.{UnaryRight.{sought-back-tree, sought-back-none}, unary.previous_token.Statement.{statement}}
 use Rattle.passes.proofs.unary.previous_token.Tie as tie
 
 abbrev Inv-loop : tie.InvT-loop
@@ -24,27 +23,6 @@ bounds : (c : tie.In-loop Inv-loop μ-loop) → let w = c .before .loop in let b
     (base + (w .read - 1) < length (w .work)) × (slotEnd (wd (w .work) (base + (w .read - 1))) ≤ length (w .work))
     × (base + w .write < length (w .work) + 1) × (length (w .work) < 2 ^ 32)
 bounds c = let v = c .before .loop .inv in seek-back-in (v .2) (v .0) (c .loop-test .taken)
-
-sub-read : tie.Need-sub-read Inv-loop μ-loop
-sub-read c = omega arith
-
-add-item : tie.Need-add-item Inv-loop μ-loop
-add-item c = let b = bounds c in omega arith
-
-mul-item : tie.Need-mul-item Inv-loop μ-loop
-mul-item c = let b = bounds c in omega arith
-
-slice-read-item : tie.Need-slice-read-item Inv-loop μ-loop
-slice-read-item c = bounds (c .before) .0
-
-classes-of-requires : tie.Need-classes-of-requires Inv-loop μ-loop
-classes-of-requires c κs = bounds (c .before .before) .1
-
-intersects-requires : tie.Need-intersects-requires Inv-loop μ-loop
-intersects-requires c κs = tt
-
-moved-requires : tie.Need-moved-requires Inv-loop μ-loop
-moved-requires c κs = tt
 
 is-leaf-requires : tie.Need-is-leaf-requires Inv-loop μ-loop
 is-leaf-requires c κs = bounds (c .before .before .before .before .before .before .before) .1
@@ -104,12 +82,6 @@ loop-again c = (
       (unary-test (c .before .before .classes-of .ensures) (c .before .intersects .ensures) ∙ c .if1 .left) refl,
 )
 
-moved-requires-2 : tie.Need-moved-requires-2 Inv-loop μ-loop
-moved-requires-2 c κs = tt
-
-same-length-3 : tie.Need-same-length-3 Inv-loop μ-loop
-same-length-3 c = c .before .before .loop .inv .2 .long
-
 returns-3 : tie.Need-returns-3 Inv-loop μ-loop
 returns-3 c =
     sought-back-none (c .before .before .loop .inv .2) (omega (arith, c .before .loop-test .left)) (c .moved2 .result) (c .moved2 .ensures)
@@ -117,28 +89,7 @@ returns-3 c =
 pub previous-token-spec : {M : Type 1} → statement M
 previous-token-spec =
     tie.close
-    (tie.spec
-    Inv-loop
-    μ-loop
-    loop-holds
-    sub-read
-    add-item
-    mul-item
-    slice-read-item
-    classes-of-requires
-    intersects-requires
-    moved-requires
-    is-leaf-requires
-    same-length
-    returns
-    same-length-2
-    returns-2
-    sub-write
-    add-work
-    mul-work
-    slice-write-work
-    loop-less
-    loop-again
-    moved-requires-2
-    same-length-3
-    returns-3)
+    (tie.spec Inv-loop μ-loop loop-holds (λ c. omega arith) (λ c. let b = bounds c in omega arith) (λ c. let b = bounds c in omega arith)
+    (λ c. bounds (c .before) .0) (λ c κs. bounds (c .before .before) .1) (λ c κs. tt) (λ c κs. tt) is-leaf-requires same-length returns
+    same-length-2 returns-2 sub-write add-work mul-work slice-write-work loop-less loop-again (λ c κs. tt)
+    (λ c. c .before .before .loop .inv .2 .long) returns-3)

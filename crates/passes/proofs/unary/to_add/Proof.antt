@@ -1,21 +1,8 @@
 -- `passes::unary::to_add` meets its contract.
 use mathlib.Core.Path.{sym, _∙_}
-use Rattle.passes.proofs.UnaryPrefix.{added-leaf-words, added-inner-words}
+use Rattle.passes.proofs.{UnaryPrefix.{added-leaf-words, added-inner-words}, unary.to_add.Statement.{statement}}
 use borrow.Author.Needs.{needs}
-use Rattle.passes.proofs.unary.to_add.Statement.{statement}
 use Rattle.passes.proofs.unary.to_add.Tie as tie
-
-is-leaf-requires : tie.Need-is-leaf-requires
-is-leaf-requires c κs = search needs
-
-set-operator-requires : tie.Need-set-operator-requires
-set-operator-requires c κs = search needs
-
-set-classes-requires : tie.Need-set-classes-requires
-set-classes-requires c κs = search needs
-
-same-length : tie.Need-same-length
-same-length c = search needs
 
 returns : tie.Need-returns
 returns c =
@@ -27,12 +14,6 @@ returns c =
     ∙ c .before .before .before .before .before .before .before .before .if1 .taken)
     (c .before .before .before .before .before .before .set-operator .ensures) (c .before .before .set-classes .ensures)
 
-set-operator-requires-2 : tie.Need-set-operator-requires-2
-set-operator-requires-2 c κs = search needs
-
-same-length-2 : tie.Need-same-length-2
-same-length-2 c = search needs
-
 returns-2 : tie.Need-returns-2
 returns-2 c =
     added-inner-words (c .before .before .before .before .before .before .before .before .args .work .now)
@@ -43,12 +24,5 @@ returns-2 c =
 pub to-add-spec : {M : Type 1} → statement M
 to-add-spec =
     tie.close
-    (tie.spec
-    is-leaf-requires
-    set-operator-requires
-    set-classes-requires
-    same-length
-    returns
-    set-operator-requires-2
-    same-length-2
-    returns-2)
+    (tie.spec (λ c κs. search needs) (λ c κs. search needs) (λ c κs. search needs) (λ c. search needs) returns (λ c κs. search needs)
+    (λ c. search needs) returns-2)

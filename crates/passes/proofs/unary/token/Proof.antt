@@ -1,31 +1,13 @@
 -- `passes::unary::token` meets its contract.
 use mathlib.Core.Path.{sym, _∙_}
 use Rattle.passes.proofs.UnaryPrefix.{token-within, can-prefix, operand-some, taken-negate-alone, taken-not-alone, taken-not}
-use borrow.Author.Needs.{needs}
 use Rattle.passes.proofs.unary.token.Statement.{statement}
+use borrow.Author.Needs.{needs}
 use Rattle.passes.proofs.unary.token.Tie as tie
-
-operator-of-requires : tie.Need-operator-of-requires
-operator-of-requires c κs = token-within (c .before .before .pre)
-
-same-length : tie.Need-same-length
-same-length c = search needs
 
 returns : tie.Need-returns
 returns c =
     taken-negate-alone (sym (c .before .before .before .operator-of .ensures) ∙ c .before .before .if1 .taken) (c .if2 .taken)
-
-minus-requires : tie.Need-minus-requires
-minus-requires c κs = search needs
-
-same-length-2 : tie.Need-same-length-2
-same-length-2 c = search needs
-
-returns-2 : tie.Need-returns-2
-returns-2 c = search needs
-
-same-length-3 : tie.Need-same-length-3
-same-length-3 c = search needs
 
 returns-3 : tie.Need-returns-3
 returns-3 c =
@@ -35,12 +17,6 @@ prefix-requires : tie.Need-prefix-requires
 prefix-requires c κs =
     can-prefix (c .before .before .before .before .before .before .before .pre)
     (operand-some (c .before .before .before .before .before .before .before .pre) (c .before .if3 .left))
-
-on-requires : tie.Need-on-requires
-on-requires c κs = search needs
-
-same-length-4 : tie.Need-same-length-4
-same-length-4 c = search needs
 
 returns-4 : tie.Need-returns-4
 returns-4 c =
@@ -54,16 +30,5 @@ returns-4 c =
 pub token-spec : {M : Type 1} → statement M
 token-spec =
     tie.close
-    (tie.spec
-    operator-of-requires
-    same-length
-    returns
-    minus-requires
-    same-length-2
-    returns-2
-    same-length-3
-    returns-3
-    prefix-requires
-    on-requires
-    same-length-4
-    returns-4)
+    (tie.spec (λ c κs. token-within (c .before .before .pre)) (λ c. search needs) returns (λ c κs. search needs) (λ c. search needs)
+    (λ c. search needs) (λ c. search needs) returns-3 prefix-requires (λ c κs. search needs) (λ c. search needs) returns-4)

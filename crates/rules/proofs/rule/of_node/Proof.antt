@@ -1,28 +1,11 @@
 -- `rules::rule::of_node` meets its contract: a leaf, or a node with children, whose rule the table has. Assumes nothing.
-use mathlib.Core.Path.{_≡_, sym, ap, _∙_}
-use mathlib.Core.Bool.{false}
-use lib.Dec.{eqb}
-use lib.ListN.{getD}
-use borrow.Author.Needs.{needs}
-use borrow.Author.Tests.{eq-eqb, ne-eqb}
-use Rattle.molang.specs.Words.{lowOf}
-use Rattle.molang.specs.OperatorRules.{operatorRule}
+use mathlib.Core.{Path.{_≡_, sym, ap, _∙_}, Bool.{false}}
+use lib.{Dec.{eqb}, ListN.{getD}}
+use borrow.Author.{Needs.{needs}, Tests.{eq-eqb, ne-eqb}}
+use Rattle.molang.specs.{Words.{lowOf}, OperatorRules.{operatorRule}}
 use Rattle.rules.specs.Nodes.{nodeRule}
-use Rattle.rules.proofs.NodeLaws.{rule-in}
-use Rattle.rules.proofs.rule.of_node.Statement.{statement}
+use Rattle.rules.proofs.{NodeLaws.{rule-in}, rule.of_node.Statement.{statement}}
 use Rattle.rules.proofs.rule.of_node.Tie as tie
-
-operator-requires : tie.Need-operator-requires
-operator-requires c κs = search needs
-
-index-of-requires : tie.Need-index-of-requires
-index-of-requires c κs = search needs
-
-element-copy-out-rule : tie.Need-element-copy-out-rule
-element-copy-out-rule c = search needs
-
-low-requires : tie.Need-low-requires
-low-requires c κs = search needs
 
 returns : tie.Need-returns
 unfolding nodeRule
@@ -45,4 +28,6 @@ returns-2 c first h =
     ∙ (rule-in first _ ∙ ap (operatorRule first) (looked .before .operator .ensures)))
 
 pub of-node-spec : {M : Type 1} → statement M
-of-node-spec = tie.close (tie.spec operator-requires index-of-requires element-copy-out-rule low-requires returns returns-2)
+of-node-spec =
+    tie.close
+    (tie.spec (λ c κs. search needs) (λ c κs. search needs) (λ c. search needs) (λ c κs. search needs) returns returns-2)

@@ -15,12 +15,6 @@ Inv-loop alphabet i₀ i = different (drop i alphabet) ≡ different alphabet
 abbrev μ-loop : tie.MeasureT-loop
 μ-loop alphabet i₀ i = length alphabet - i
 
-loop-holds : tie.Need-loop-holds Inv-loop μ-loop
-loop-holds c = refl
-
-occurs-again-requires : tie.Need-occurs-again-requires Inv-loop μ-loop
-occurs-again-requires c κs = search needs
-
 returns : tie.Need-returns Inv-loop μ-loop
 returns c =
     let at = c .before .before .before in
@@ -28,12 +22,6 @@ returns c =
     sym
     (sym (at .loop .inv)
     ∙ different-here list (at .loop .i) (c .before .before .loop-test .taken) (sym (c .before .occurs-again .ensures) ∙ c .if1 .taken))
-
-add-i : tie.Need-add-i Inv-loop μ-loop
-add-i c = search needs
-
-loop-less : tie.Need-loop-less Inv-loop μ-loop
-loop-less c = search needs
 
 loop-again : tie.Need-loop-again Inv-loop μ-loop
 loop-again c =
@@ -48,4 +36,6 @@ returns-2 c =
     sym (sym (at .loop .inv) ∙ different-none (at .before .before .args .alphabet .now) (at .loop .i) (c .loop-test .left))
 
 pub all-different-spec : {M : Type 1} → statement M
-all-different-spec = tie.close (tie.spec Inv-loop μ-loop loop-holds occurs-again-requires returns add-i loop-less loop-again returns-2)
+all-different-spec =
+    tie.close
+    (tie.spec Inv-loop μ-loop (λ c. refl) (λ c κs. search needs) returns (λ c. search needs) (λ c. search needs) loop-again returns-2)

@@ -2,12 +2,10 @@
 -- measure is what is left of them. Assumes nothing.
 use Prim.Native.Nat.{_-_}
 use mathlib.Core.Path.{_≡_, refl, sym, _∙_}
-use borrow.Author.Needs.{needs}
-use borrow.Author.Tests.{not-true, not-false}
+use borrow.Author.{Needs.{needs}, Tests.{not-true, not-false}}
 use lib.ListN.{length, drop}
 use Rattle.shortlists.specs.ShortLists.{eachLegal}
-use Rattle.shortlists.proofs.AlphabetLaws.{legal-here, legal-later, legal-none}
-use Rattle.shortlists.proofs.alphabet.all_legal.Statement.{statement}
+use Rattle.shortlists.proofs.{AlphabetLaws.{legal-here, legal-later, legal-none}, alphabet.all_legal.Statement.{statement}}
 use Rattle.shortlists.proofs.alphabet.all_legal.Tie as tie
 
 abbrev Inv-loop : tie.InvT-loop
@@ -16,30 +14,12 @@ Inv-loop alphabet i₀ i = eachLegal (drop i alphabet) ≡ eachLegal alphabet
 abbrev μ-loop : tie.MeasureT-loop
 μ-loop alphabet i₀ i = length alphabet - i
 
-loop-holds : tie.Need-loop-holds Inv-loop μ-loop
-loop-holds c = refl
-
-mul-is-operator : tie.Need-mul-is-operator Inv-loop μ-loop
-mul-is-operator c = search needs
-
-shared-slice-read-is-operator : tie.Need-shared-slice-read-is-operator Inv-loop μ-loop
-shared-slice-read-is-operator c = search needs
-
-is-operator-requires : tie.Need-is-operator-requires Inv-loop μ-loop
-is-operator-requires c κs = search needs
-
 returns : tie.Need-returns Inv-loop μ-loop
 returns c =
     let at = c .before .before .before .before in
     let list = at .before .before .args .alphabet .now in
     let illegal = sym (c .before .is-operator .ensures) ∙ not-true _ (c .if1 .taken) in
     sym (sym (at .loop .inv) ∙ legal-here list (at .loop .i) (c .before .before .before .loop-test .taken) illegal)
-
-add-i : tie.Need-add-i Inv-loop μ-loop
-add-i c = search needs
-
-loop-less : tie.Need-loop-less Inv-loop μ-loop
-loop-less c = search needs
 
 loop-again : tie.Need-loop-again Inv-loop μ-loop
 loop-again c =
@@ -56,5 +36,5 @@ returns-2 c =
 pub all-legal-spec : {M : Type 1} → statement M
 all-legal-spec =
     tie.close
-    (tie.spec Inv-loop μ-loop loop-holds mul-is-operator shared-slice-read-is-operator is-operator-requires returns add-i loop-less
-    loop-again returns-2)
+    (tie.spec Inv-loop μ-loop (λ c. refl) (λ c. search needs) (λ c. search needs) (λ c κs. search needs) returns (λ c. search needs)
+    (λ c. search needs) loop-again returns-2)

@@ -1,8 +1,7 @@
 -- `shortlists::alphabet::is_alphabet` meets its contract: the definition's tests, in its order. Assumes nothing.
 use mathlib.Core.Path.{refl, sym, _∙_}
 use native.Mathlib.Omega.{arith}
-use borrow.Author.Needs.{needs}
-use borrow.Author.Tests.{le-leb, lt-leb, not-true, not-false}
+use borrow.Author.{Needs.{needs}, Tests.{le-leb, lt-leb, not-true, not-false}}
 use lib.ListN.{length}
 use Rattle.shortlists.specs.ShortLists.{isAlphabet}
 use Rattle.shortlists.proofs.alphabet.is_alphabet.Statement.{statement}
@@ -18,17 +17,11 @@ returns-2 c =
     let n = length (c .before .before .before .args .alphabet .now) in
     rw (le-leb 1 n (omega arith), lt-leb n 8 (omega arith)) refl
 
-all-different-requires : tie.Need-all-different-requires
-all-different-requires c κs = search needs
-
 returns-3 : tie.Need-returns-3
 unfolding isAlphabet
 returns-3 c =
     let n = length (c .before .before .before .before .before .args .alphabet .now) in
     rw (le-leb 1 n (omega arith), le-leb n 8 (omega arith), sym (c .before .all-different .ensures) ∙ not-true _ (c .if3 .taken)) refl
-
-all-legal-requires : tie.Need-all-legal-requires
-all-legal-requires c κs = search needs
 
 returns-4 : tie.Need-returns-4
 unfolding isAlphabet
@@ -43,4 +36,4 @@ returns-4 c =
     (c .all-legal .ensures)
 
 pub is-alphabet-spec : {M : Type 1} → statement M
-is-alphabet-spec = tie.close (tie.spec returns returns-2 all-different-requires returns-3 all-legal-requires returns-4)
+is-alphabet-spec = tie.close (tie.spec returns returns-2 (λ c κs. search needs) returns-3 (λ c κs. search needs) returns-4)

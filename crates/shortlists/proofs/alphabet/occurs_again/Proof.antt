@@ -5,8 +5,7 @@ use mathlib.Core.Path.{_≡_, refl, sym, _∙_}
 use borrow.Author.Needs.{needs}
 use lib.ListN.{length, drop, getD}
 use Rattle.shortlists.specs.ShortLists.{among}
-use Rattle.shortlists.proofs.AlphabetLaws.{among-here, among-later, among-none}
-use Rattle.shortlists.proofs.alphabet.occurs_again.Statement.{statement}
+use Rattle.shortlists.proofs.{AlphabetLaws.{among-here, among-later, among-none}, alphabet.occurs_again.Statement.{statement}}
 use Rattle.shortlists.proofs.alphabet.occurs_again.Tie as tie
 
 abbrev Inv-loop : tie.InvT-loop
@@ -15,36 +14,12 @@ Inv-loop alphabet at letter i₀ i = among letter (drop i alphabet) ≡ among le
 abbrev μ-loop : tie.MeasureT-loop
 μ-loop alphabet at letter i₀ i = length alphabet - i
 
-mul-letter : tie.Need-mul-letter Inv-loop μ-loop
-mul-letter c = search needs
-
-shared-slice-read-letter : tie.Need-shared-slice-read-letter Inv-loop μ-loop
-shared-slice-read-letter c = search needs
-
-add-i : tie.Need-add-i Inv-loop μ-loop
-add-i c = search needs
-
-loop-holds : tie.Need-loop-holds Inv-loop μ-loop
-loop-holds c = refl
-
-mul-if1 : tie.Need-mul-if1 Inv-loop μ-loop
-mul-if1 c = search needs
-
-shared-slice-read-if1 : tie.Need-shared-slice-read-if1 Inv-loop μ-loop
-shared-slice-read-if1 c = search needs
-
 returns : tie.Need-returns Inv-loop μ-loop
 returns c =
     let at = c .before .before .before in
     let a = at .before .before .args in
     let list = a .alphabet .now in
     sym (sym (at .loop .inv) ∙ among-here list (at .loop .i) (c .before .before .loop-test .taken) (getD list (a .at) 0) (c .if1 .taken))
-
-add-i-2 : tie.Need-add-i-2 Inv-loop μ-loop
-add-i-2 c = search needs
-
-loop-less : tie.Need-loop-less Inv-loop μ-loop
-loop-less c = search needs
 
 loop-again : tie.Need-loop-again Inv-loop μ-loop
 loop-again c =
@@ -63,5 +38,5 @@ returns-2 c =
 pub occurs-again-spec : {M : Type 1} → statement M
 occurs-again-spec =
     tie.close
-    (tie.spec Inv-loop μ-loop mul-letter shared-slice-read-letter add-i loop-holds mul-if1 shared-slice-read-if1 returns add-i-2 loop-less
-    loop-again returns-2)
+    (tie.spec Inv-loop μ-loop (λ c. search needs) (λ c. search needs) (λ c. search needs) (λ c. refl) (λ c. search needs)
+    (λ c. search needs) returns (λ c. search needs) (λ c. search needs) loop-again returns-2)

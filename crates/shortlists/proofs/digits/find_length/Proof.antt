@@ -2,8 +2,7 @@
 -- position, and `left` of the others do. The measure is what is left. Assumes nothing.
 use Prim.Native.Nat.{_+_, _-_, _^_, _<_, _≤_}
 use mathlib.Core.Path.{_≡_, sym}
-use native.Mathlib.Nat.{pow-zero, one-le-pow}
-use native.Mathlib.Omega.{arith}
+use native.Mathlib.{Nat.{pow-zero, one-le-pow}, Omega.{arith}}
 use borrow.Author.Needs.{needs}
 use Rattle.shortlists.specs.ShortLists.{powers}
 use Rattle.shortlists.proofs.DigitLaws.{power-next, power-next-few, powers-next, powers-none, longer-still}
@@ -40,9 +39,6 @@ mul-size c =
     let at = c .before .loop in
     omega (arith, power-next-few k (at .length) (at .size) (at .inv .1) (c .before .before .pre .few) (short c))
 
-add-length : tie.Need-add-length Inv-loop μ-loop
-add-length c = search needs
-
 loop-less : tie.Need-loop-less Inv-loop μ-loop
 loop-less c =
     let at = c .before .loop in
@@ -59,4 +55,4 @@ returns c =
     record { short = at .inv .0; size = at .inv .1; left = c .loop-test .left; whole = at .inv .2 }
 
 pub find-length-spec : {M : Type 1} → statement M
-find-length-spec = tie.close (tie.spec Inv-loop μ-loop loop-holds mul-size add-length loop-less loop-again returns)
+find-length-spec = tie.close (tie.spec Inv-loop μ-loop loop-holds mul-size (λ c. search needs) loop-less loop-again returns)

@@ -1,21 +1,15 @@
 -- `shortlists::digits::list_of` meets its contract. The loop's invariant: the letters that are to come, laid behind those that are laid,
 -- give the whole list. The measure is what is left of its letters. Assumes nothing.
 use Prim.Native.Nat.{ℕ, _+_, _*_, _-_, _/_, _<_}
-use mathlib.Core.Path.{refl, ap, sym, _∙_}
-use mathlib.Core.List.{List}
+use mathlib.Core.{Path.{refl, ap, sym, _∙_}, List.{List}}
 use native.Mathlib.Omega.{arith}
 use lib.ListN.{length, replicate}
-use Rattle.molang.specs.Forest.{Token}
-use Rattle.molang.specs.Parse.{inFront}
-use Rattle.molang.specs.Words.{listWords}
+use Rattle.molang.specs.{Forest.{Token}, Parse.{inFront}, Words.{listWords}}
 use Rattle.words.specs.Records.{laidAt}
-use Rattle.shortlists.specs.Answers.{found}
-use Rattle.shortlists.specs.ShortLists.{listAt}
+use Rattle.shortlists.specs.{Answers.{found}, ShortLists.{listAt}}
 use Rattle.shortlists.proofs.AlphabetLaws.{alphabet, legal-at}
-use Rattle.shortlists.proofs.DigitLaws.{listed-at, listed-length, Digit}
-use Rattle.shortlists.proofs.DigitLaws.{Laying, laying-first, laying-digit, laying-next, laying-last}
-use Rattle.shortlists.proofs.ShortLists.{counts}
-use Rattle.shortlists.proofs.digits.list_of.Statement.{statement}
+use Rattle.shortlists.proofs.DigitLaws.{listed-at, listed-length, Digit, Laying, laying-first, laying-digit, laying-next}
+use Rattle.shortlists.proofs.{DigitLaws.{laying-last}, ShortLists.{counts}, digits.list_of.Statement.{statement}}
 use Rattle.shortlists.proofs.digits.list_of.Tie as tie
 
 abbrev Inv-loop : tie.InvT-loop
@@ -64,18 +58,6 @@ short c = omega (arith, c .before .before .find-length .ensures .short)
 div-size : tie.Need-div-size Inv-loop μ-loop
 div-size c = alphabet (c .before .before .before .before .args .alphabet .now) (c .before .before .before .before .pre .alphabet) .some
 
-take-digit-requires : tie.Need-take-digit-requires Inv-loop μ-loop
-take-digit-requires c κs = next c .some
-
-mul-token-of : tie.Need-mul-token-of Inv-loop μ-loop
-mul-token-of c = omega (arith, first c)
-
-shared-slice-read-token-of : tie.Need-shared-slice-read-token-of Inv-loop μ-loop
-shared-slice-read-token-of c = first (c .before)
-
-cast-token-of : tie.Need-cast-token-of Inv-loop μ-loop
-cast-token-of c = omega (arith, short (c .before .before))
-
 token-of-requires : tie.Need-token-of-requires Inv-loop μ-loop
 token-of-requires c κs =
     let start = c .before .before .before .before .before .before in
@@ -87,17 +69,11 @@ token-of-requires c κs =
 slice-aggregate-lay : tie.Need-slice-aggregate-lay Inv-loop μ-loop
 slice-aggregate-lay c = sym (c .before .before .before .before .before .loop .inv .room)
 
-mul-lay : tie.Need-mul-lay Inv-loop μ-loop
-mul-lay c = omega (arith, short (c .before .before .before .before))
-
 lay-requires : tie.Need-lay-requires Inv-loop μ-loop
 lay-requires c κs = omega (arith, short (c .before .before .before .before), c .before .before .before .before .before .loop .inv .room)
 
 add-i : tie.Need-add-i Inv-loop μ-loop
 add-i c = omega (arith, short (c .before .before .before .before .before .before))
-
-loop-less : tie.Need-loop-less Inv-loop μ-loop
-loop-less c = omega arith
 
 loop-again : tie.Need-loop-again Inv-loop μ-loop
 loop-again c =
@@ -126,21 +102,6 @@ returns c =
 pub list-of-spec : {M : Type 1} → statement M
 list-of-spec =
     tie.close
-    (tie.spec
-    Inv-loop
-    μ-loop
-    find-length-requires
-    loop-holds
-    div-size
-    take-digit-requires
-    mul-token-of
-    shared-slice-read-token-of
-    cast-token-of
-    token-of-requires
-    slice-aggregate-lay
-    mul-lay
-    lay-requires
-    add-i
-    loop-less
-    loop-again
-    returns)
+    (tie.spec Inv-loop μ-loop find-length-requires loop-holds div-size (λ c κs. next c .some) (λ c. omega (arith, first c))
+    (λ c. first (c .before)) (λ c. omega (arith, short (c .before .before))) token-of-requires slice-aggregate-lay
+    (λ c. omega (arith, short (c .before .before .before .before))) lay-requires add-i (λ c. omega arith) loop-again returns)

@@ -1,14 +1,9 @@
 -- `sorbrudder::holding::changed` meets its contract, case by case. Assumes nothing.
 use mathlib.Core.Path.{_≡_, sym, ap, subst, _∙_}
-use native.Mathlib.Nat.{zero-add}
-use native.Mathlib.Omega.{arith}
+use native.Mathlib.{Nat.{zero-add}, Omega.{arith}}
 use borrow.Author.Needs.{needs}
-use Rattle.held.specs.declared.Held.{Held}
-use Rattle.held.specs.declared.Change.{Change}
-use Rattle.held.specs.Answers.{outcomeOf}
-use Rattle.held.specs.Runs.{toldBy, heldBy}
-use Rattle.sorbrudder.specs.Numbers.{toldNumber, FitsTold}
-use Rattle.sorbrudder.specs.Holding.{heldOf}
+use Rattle.held.specs.{declared.Held.{Held}, declared.Change.{Change}, Answers.{outcomeOf}, Runs.{toldBy, heldBy}}
+use Rattle.sorbrudder.specs.{Numbers.{toldNumber, FitsTold}, Holding.{heldOf}}
 use Rattle.sorbrudder.proofs.holding.changed.Statement.{statement}
 use Rattle.sorbrudder.proofs.holding.changed.Tie as tie
 
@@ -26,23 +21,8 @@ module _ (s : tie.Start) {r : Change} (e : s .args .change ≡ r) where
   held : heldBy (outcomeOf r) before ≡ heldBy (outcomeOf (s .args .change)) before
   held = ap (λ (x : Change). heldBy (outcomeOf x) before) (sym e)
 
-enum-known-change : tie.Need-enum-known-change
-enum-known-change c = search needs
-
 refusal-requires : tie.Need-refusal-requires
 refusal-requires c κs = fits (c .before .before .before) (c .before .change .given .1)
-
-enum-known-change-2 : tie.Need-enum-known-change-2
-enum-known-change-2 c = search needs
-
-put-held-requires : tie.Need-put-held-requires
-put-held-requires c κs = search needs
-
-enum-known-change-3 : tie.Need-enum-known-change-3
-enum-known-change-3 c = search needs
-
-put-held-requires-2 : tie.Need-put-held-requires-2
-put-held-requires-2 c κs = search needs
 
 add-result : tie.Need-add-result
 add-result c =
@@ -73,14 +53,5 @@ returns-3 c =
 pub changed-spec : {M : Type 1} → statement M
 changed-spec =
     tie.close
-    (tie.spec
-    enum-known-change
-    refusal-requires
-    enum-known-change-2
-    put-held-requires
-    enum-known-change-3
-    put-held-requires-2
-    add-result
-    returns
-    returns-2
-    returns-3)
+    (tie.spec (λ c. search needs) refusal-requires (λ c. search needs) (λ c κs. search needs) (λ c. search needs) (λ c κs. search needs)
+    add-result returns returns-2 returns-3)

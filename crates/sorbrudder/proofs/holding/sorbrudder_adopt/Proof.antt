@@ -1,23 +1,12 @@
 -- `sorbrudder::holding::sorbrudder_adopt` meets its contract: what `adopt_version` promises, with the answer's number. Assumes nothing.
 use mathlib.Core.Path.{_≡_, sym, ap, _∙_}
 use native.Mathlib.Omega.{arith}
-use mir.Syntax.{w16}
-use mir.Val.{ofZ, toZ}
-use mir.Facts.{toZ-ofZ}
+use mir.{Syntax.{w16}, Val.{ofZ, toZ}, Facts.{toZ-ofZ}}
 use borrow.Author.Needs.{needs}
-use Rattle.held.specs.declared.Held.{Held}
-use Rattle.held.specs.Held.{countRow, withVersion}
-use Rattle.held.specs.Answers.{adoptOf, adoptOutcome}
+use Rattle.held.specs.{declared.Held.{Held}, Held.{countRow, withVersion}, Answers.{adoptOf, adoptOutcome}}
 use Rattle.sorbrudder.specs.Holding.{heldOf}
-use Rattle.sorbrudder.proofs.HoldingLaws.{adopt-fits, adopt-refused, adopt-made}
-use Rattle.sorbrudder.proofs.holding.sorbrudder_adopt.Statement.{statement}
+use Rattle.sorbrudder.proofs.{HoldingLaws.{adopt-fits, adopt-refused, adopt-made}, holding.sorbrudder_adopt.Statement.{statement}}
 use Rattle.sorbrudder.proofs.holding.sorbrudder_adopt.Tie as tie
-
-adopt-version-requires : tie.Need-adopt-version-requires
-adopt-version-requires c κs = search needs
-
-enum-known-adopted : tie.Need-enum-known-adopted
-enum-known-adopted c = search needs
 
 -- What `adopt_version` promises.
 abbrev entry : tie.After-adopt-version → tie.Start
@@ -40,9 +29,6 @@ refusal-requires : tie.Need-refusal-requires
 refusal-requires c κs =
     let made = c .before .before .before in
     (adopt-fits _ _ _ (ap adoptOf (sym (c .before .adopted .given .1)) ∙ adopts made), omega arith)
-
-enum-known-adopted-2 : tie.Need-enum-known-adopted-2
-enum-known-adopted-2 c = search needs
 
 returns : tie.Need-returns
 returns c =
@@ -67,4 +53,5 @@ returns-2 c =
 
 pub sorbrudder-adopt-spec : {M : Type 1} → statement M
 sorbrudder-adopt-spec =
-    tie.close (tie.spec adopt-version-requires enum-known-adopted refusal-requires enum-known-adopted-2 returns returns-2)
+    tie.close
+    (tie.spec (λ c κs. search needs) (λ c. search needs) refusal-requires (λ c. search needs) returns returns-2)

@@ -3,12 +3,9 @@ use mathlib.Core.Path.{sym, subst}
 use mir.Facts.{toZ-ofZ}
 use borrow.Author.Needs.{needs}
 use Rattle.molang.specs.Parse.{Told}
-use Rattle.held.specs.Held.{Edit, Lent}
-use Rattle.held.specs.Answers.{lent, edit, state, HasAsked}
-use Rattle.sorbrudder.specs.Numbers.{FitsTold}
-use Rattle.sorbrudder.specs.Holding.{heldOf}
-use Rattle.sorbrudder.proofs.HoldingLaws.{ask-fits, asked-to}
-use Rattle.sorbrudder.proofs.holding.sorbrudder_ask.Statement.{statement}
+use Rattle.held.specs.{Held.{Edit, Lent}, Answers.{lent, edit, state, HasAsked}}
+use Rattle.sorbrudder.specs.{Numbers.{FitsTold}, Holding.{heldOf}}
+use Rattle.sorbrudder.proofs.{HoldingLaws.{ask-fits, asked-to}, holding.sorbrudder_ask.Statement.{statement}}
 use Rattle.sorbrudder.proofs.holding.sorbrudder_ask.Tie as tie
 
 abbrev entry : tie.After-ask-edit → tie.Start
@@ -28,22 +25,10 @@ asks : (c : tie.After-ask-edit)
     (c .ask-edit .result) (last .0) (last .1 .0) (last .1 .1 .0)
 asks c = rw (toZ-ofZ (entry c .fits .version)) at (c .ask-edit .ensures)
 
-ask-edit-requires : tie.Need-ask-edit-requires
-ask-edit-requires c κs = search needs
-
 parsed-number-requires : tie.Need-parsed-number-requires
 parsed-number-requires c κs =
     let asked = c .before .before .before .before .before .before in
     subst (λ (o : Told). FitsTold o) (sym (asks asked .told)) (ask-fits _ _ _)
-
-same-length : tie.Need-same-length
-same-length c = search needs
-
-same-length-2 : tie.Need-same-length-2
-same-length-2 c = search needs
-
-same-length-3 : tie.Need-same-length-3
-same-length-3 c = search needs
 
 returns : tie.Need-returns
 returns c =
@@ -54,4 +39,5 @@ returns c =
 
 pub sorbrudder-ask-spec : {M : Type 1} → statement M
 sorbrudder-ask-spec =
-    tie.close (tie.spec ask-edit-requires parsed-number-requires same-length same-length-2 same-length-3 returns)
+    tie.close
+    (tie.spec (λ c κs. search needs) parsed-number-requires (λ c. search needs) (λ c. search needs) (λ c. search needs) returns)

@@ -3,13 +3,9 @@ use mathlib.Core.Path.{sym, subst}
 use mir.Facts.{toZ-ofZ}
 use borrow.Author.Needs.{needs}
 use Rattle.molang.specs.Parse.{Told}
-use Rattle.held.specs.Held.{State, Edit, Lent}
-use Rattle.held.specs.Answers.{lent, edit, state, HasCommitted}
-use Rattle.held.proofs.Running.{commit-told}
-use Rattle.sorbrudder.specs.Numbers.{FitsTold}
-use Rattle.sorbrudder.specs.Holding.{heldOf}
-use Rattle.sorbrudder.proofs.HoldingLaws.{commit-fits, committed-to}
-use Rattle.sorbrudder.proofs.holding.sorbrudder_commit.Statement.{statement}
+use Rattle.held.{specs.Held.{State, Edit, Lent}, specs.Answers.{lent, edit, state, HasCommitted}, proofs.Running.{commit-told}}
+use Rattle.sorbrudder.specs.{Numbers.{FitsTold}, Holding.{heldOf}}
+use Rattle.sorbrudder.proofs.{HoldingLaws.{commit-fits, committed-to}, holding.sorbrudder_commit.Statement.{statement}}
 use Rattle.sorbrudder.proofs.holding.sorbrudder_commit.Tie as tie
 
 abbrev entry : tie.After-commit-edit → tie.Start
@@ -32,25 +28,10 @@ commits : (c : tie.After-commit-edit)
     (last .1 .1 .1 .1 .0) (last .1 .1 .1 .1 .1 .0) (last .1 .1 .1 .1 .1 .1 .0)
 commits c = rw (toZ-ofZ (entry c .fits .version)) at (c .commit-edit .ensures)
 
-commit-edit-requires : tie.Need-commit-edit-requires
-commit-edit-requires c κs = search needs
-
 changed-requires : tie.Need-changed-requires
 changed-requires c κs =
     let committed = c .before .before .before .before .before .before .before .before .before .before .before in
     subst (λ (o : Told). FitsTold o) (sym (commit-told (commits committed))) (commit-fits _ _ _ _)
-
-same-length : tie.Need-same-length
-same-length c = search needs
-
-same-length-2 : tie.Need-same-length-2
-same-length-2 c = search needs
-
-same-length-3 : tie.Need-same-length-3
-same-length-3 c = search needs
-
-same-length-4 : tie.Need-same-length-4
-same-length-4 c = search needs
 
 returns : tie.Need-returns
 returns c =
@@ -60,11 +41,5 @@ returns c =
 pub sorbrudder-commit-spec : {M : Type 1} → statement M
 sorbrudder-commit-spec =
     tie.close
-    (tie.spec
-    commit-edit-requires
-    changed-requires
-    same-length
-    same-length-2
-    same-length-3
-    same-length-4
+    (tie.spec (λ c κs. search needs) changed-requires (λ c. search needs) (λ c. search needs) (λ c. search needs) (λ c. search needs)
     returns)

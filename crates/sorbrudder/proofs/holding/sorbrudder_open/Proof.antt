@@ -3,12 +3,9 @@ use mathlib.Core.Path.{sym, subst}
 use mir.Facts.{toZ-ofZ}
 use borrow.Author.Needs.{needs}
 use Rattle.molang.specs.Parse.{Told}
-use Rattle.held.specs.Held.{Lent}
-use Rattle.held.specs.Answers.{lent, HasOpened}
-use Rattle.held.proofs.Running.{open-told}
+use Rattle.held.{specs.Held.{Lent}, specs.Answers.{lent, HasOpened}, proofs.Running.{open-told}}
 use Rattle.sorbrudder.specs.Numbers.{FitsTold}
-use Rattle.sorbrudder.proofs.HoldingLaws.{open-fits, opened-to}
-use Rattle.sorbrudder.proofs.holding.sorbrudder_open.Statement.{statement}
+use Rattle.sorbrudder.proofs.{HoldingLaws.{open-fits, opened-to}, holding.sorbrudder_open.Statement.{statement}}
 use Rattle.sorbrudder.proofs.holding.sorbrudder_open.Tie as tie
 
 abbrev entry : tie.After-open-list → tie.Start
@@ -24,25 +21,10 @@ opens : (c : tie.After-open-list)
     (c .open-list .last .1 .1 .0) (c .open-list .last .1 .1 .1 .0) (c .open-list .last .1 .1 .1 .1 .0)
 opens c = rw (toZ-ofZ (entry c .fits .version)) at (c .open-list .ensures)
 
-open-list-requires : tie.Need-open-list-requires
-open-list-requires c κs = search needs
-
 changed-requires : tie.Need-changed-requires
 changed-requires c κs =
     let opened = c .before .before .before .before .before .before .before .before .before .before .before in
     subst (λ (o : Told). FitsTold o) (sym (open-told (opens opened))) (open-fits _ _ _ _)
-
-same-length : tie.Need-same-length
-same-length c = search needs
-
-same-length-2 : tie.Need-same-length-2
-same-length-2 c = search needs
-
-same-length-3 : tie.Need-same-length-3
-same-length-3 c = search needs
-
-same-length-4 : tie.Need-same-length-4
-same-length-4 c = search needs
 
 returns : tie.Need-returns
 returns c =
@@ -52,11 +34,5 @@ returns c =
 pub sorbrudder-open-spec : {M : Type 1} → statement M
 sorbrudder-open-spec =
     tie.close
-    (tie.spec
-    open-list-requires
-    changed-requires
-    same-length
-    same-length-2
-    same-length-3
-    same-length-4
+    (tie.spec (λ c κs. search needs) changed-requires (λ c. search needs) (λ c. search needs) (λ c. search needs) (λ c. search needs)
     returns)

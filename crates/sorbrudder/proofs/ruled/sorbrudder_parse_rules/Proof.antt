@@ -4,29 +4,13 @@ use mir.Facts.{toZ-ofZ}
 use borrow.Author.Needs.{needs}
 use Rattle.molang.specs.Parse.{Told}
 use Rattle.sorbrudder.specs.Numbers.{toldNumber, FitsTold}
-use Rattle.sorbrudder.proofs.Bounds.{ruled-fits}
-use Rattle.sorbrudder.proofs.ruled.sorbrudder_parse_rules.Statement.{statement}
+use Rattle.sorbrudder.proofs.{Bounds.{ruled-fits}, ruled.sorbrudder_parse_rules.Statement.{statement}}
 use Rattle.sorbrudder.proofs.ruled.sorbrudder_parse_rules.Tie as tie
-
-parse-ruled-requires : tie.Need-parse-ruled-requires
-parse-ruled-requires c κs = search needs
 
 parsed-number-requires : tie.Need-parsed-number-requires
 parsed-number-requires c κs =
     let read = c .before .before .before .before .before .before .before .before in
     subst (λ (o : Told). FitsTold o) (sym (read .parse-ruled .ensures .told)) (ruled-fits _)
-
-same-length : tie.Need-same-length
-same-length c = search needs
-
-same-length-2 : tie.Need-same-length-2
-same-length-2 c = search needs
-
-same-length-3 : tie.Need-same-length-3
-same-length-3 c = search needs
-
-same-length-4 : tie.Need-same-length-4
-same-length-4 c = search needs
 
 returns : tie.Need-returns
 returns c =
@@ -44,4 +28,5 @@ returns c =
 pub sorbrudder-parse-rules-spec : {M : Type 1} → statement M
 sorbrudder-parse-rules-spec =
     tie.close
-    (tie.spec parse-ruled-requires parsed-number-requires same-length same-length-2 same-length-3 same-length-4 returns)
+    (tie.spec (λ c κs. search needs) parsed-number-requires (λ c. search needs) (λ c. search needs) (λ c. search needs) (λ c. search needs)
+    returns)

@@ -2,16 +2,12 @@
 -- the words has at least. Assumes nothing.
 use mathlib.Core.Path.{sym, _∙_}
 use native.Mathlib.Omega.{arith}
-use borrow.Author.Tests.{not-true, not-false}
+use borrow.Author.{Tests.{not-true, not-false}, Needs.{needs}}
 use Rattle.shape.specs.Answers.{fieldOf}
 use Rattle.stackorder.specs.Faults.{stack}
 use Rattle.stackorder.proofs.FaultLaws.{begun-alike, begun-within, illegal-stops, undone-stops, continues-if}
-use borrow.Author.Needs.{needs}
 use Rattle.stackorder.proofs.fault.continues.Statement.{statement}
 use Rattle.stackorder.proofs.fault.continues.Tie as tie
-
-is-legal-requires : tie.Need-is-legal-requires
-is-legal-requires c κs = search needs
 
 returns : tie.Need-returns
 returns c =
@@ -19,19 +15,10 @@ returns c =
     illegal-stops (fieldOf (a .field)) (a .variant) (stack (a .done) (a .begun)) (a .w)
     (sym (c .before .is-legal .ensures) ∙ not-true _ (c .if1 .taken))
 
-trees-asked-requires : tie.Need-trees-asked-requires
-trees-asked-requires c κs = search needs
-
 returns-2 : tie.Need-returns-2
 returns-2 c =
     let a = c .before .before .before .before .args in
     undone-stops (fieldOf (a .field)) (a .variant) (stack (a .done) (a .begun)) (a .w) (omega (arith, c .before .trees-asked .ensures))
-
-done-after-requires : tie.Need-done-after-requires
-done-after-requires c κs = search needs
-
-begun-after-requires : tie.Need-begun-after-requires
-begun-after-requires c κs = search needs
 
 least-nodes-requires : tie.Need-least-nodes-requires
 least-nodes-requires c κs =
@@ -54,12 +41,5 @@ returns-3 c =
 pub continues-spec : {M : Type 1} → statement M
 continues-spec =
     tie.close
-    (tie.spec
-    is-legal-requires
-    returns
-    trees-asked-requires
-    returns-2
-    done-after-requires
-    begun-after-requires
-    least-nodes-requires
-    returns-3)
+    (tie.spec (λ c κs. search needs) returns (λ c κs. search needs) returns-2 (λ c κs. search needs) (λ c κs. search needs)
+    least-nodes-requires returns-3)

@@ -3,8 +3,7 @@
 use Prim.Native.Nat.{_-_}
 use mathlib.Core.Path.{sym, _∙_}
 use native.Mathlib.Omega.{arith}
-use borrow.Author.Needs.{needs}
-use borrow.Author.Tests.{not-true, not-false}
+use borrow.Author.{Needs.{needs}, Tests.{not-true, not-false}}
 use lib.ListN.{length, getD}
 use Rattle.shape.specs.Answers.{fieldOf}
 use Rattle.stackorder.specs.Faults.{Stacked, stack}
@@ -18,15 +17,6 @@ Inv-loop words field₀ variant₀ done₀ begun₀ i₀ field variant done begu
 abbrev μ-loop : tie.MeasureT-loop
 μ-loop words field₀ variant₀ done₀ begun₀ i₀ field variant done begun i = length words - i
 
-loop-holds : tie.Need-loop-holds Inv-loop μ-loop
-loop-holds c = c .before .pre
-
-mul-w : tie.Need-mul-w Inv-loop μ-loop
-mul-w c = search needs
-
-shared-slice-read-w : tie.Need-shared-slice-read-w Inv-loop μ-loop
-shared-slice-read-w c = search needs
-
 continues-requires : tie.Need-continues-requires Inv-loop μ-loop
 continues-requires c κs = let inv = c .before .before .loop .inv in (omega (arith, inv .enough), inv .few)
 
@@ -35,9 +25,6 @@ returns c =
     let h = c .before .before .before .before in
     stacked-fault (h .loop .inv) (c .before .before .before .loop-test .taken)
     (sym (c .before .continues .ensures) ∙ not-true _ (c .if1 .taken))
-
-variant-after-requires : tie.Need-variant-after-requires Inv-loop μ-loop
-variant-after-requires c κs = search needs
 
 done-after-requires : tie.Need-done-after-requires Inv-loop μ-loop
 done-after-requires c κs =
@@ -52,15 +39,6 @@ done-after-requires c κs =
 begun-after-requires : tie.Need-begun-after-requires Inv-loop μ-loop
 begun-after-requires c κs = c .before .before .before .before .before .before .loop .inv .few
 
-next-requires : tie.Need-next-requires Inv-loop μ-loop
-next-requires c κs = search needs
-
-add-i : tie.Need-add-i Inv-loop μ-loop
-add-i c = search needs
-
-loop-less : tie.Need-loop-less Inv-loop μ-loop
-loop-less c = search needs
-
 loop-again : tie.Need-loop-again Inv-loop μ-loop
 loop-again c =
     let turn = c .before .before .before .before .before in
@@ -70,9 +48,6 @@ loop-again c =
     (sym (turn .continues .ensures) ∙ not-false _ (c .before .before .before .before .if1 .left))
     (c .next .ensures) (c .before .before .before .variant-after .ensures) (c .before .before .done-after .ensures (h .loop .begun))
     (c .before .begun-after .ensures 0 w ∙ begun-alike (fieldOf (h .loop .field)) w 0 (stack (h .loop .done) (h .loop .begun)))
-
-is-one-requires : tie.Need-is-one-requires Inv-loop μ-loop
-is-one-requires c κs = search needs
 
 returns-2 : tie.Need-returns-2 Inv-loop μ-loop
 returns-2 c =
@@ -87,21 +62,6 @@ returns-3 c =
 pub fault-after-spec : {M : Type 1} → statement M
 fault-after-spec =
     tie.close
-    (tie.spec
-    Inv-loop
-    μ-loop
-    loop-holds
-    mul-w
-    shared-slice-read-w
-    continues-requires
-    returns
-    variant-after-requires
-    done-after-requires
-    begun-after-requires
-    next-requires
-    add-i
-    loop-less
-    loop-again
-    is-one-requires
-    returns-2
-    returns-3)
+    (tie.spec Inv-loop μ-loop (λ c. c .before .pre) (λ c. search needs) (λ c. search needs) continues-requires returns
+    (λ c κs. search needs) done-after-requires begun-after-requires (λ c κs. search needs) (λ c. search needs) (λ c. search needs)
+    loop-again (λ c κs. search needs) returns-2 returns-3)

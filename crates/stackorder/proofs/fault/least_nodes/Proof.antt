@@ -4,19 +4,12 @@ use Prim.Native.Nat.{_<_}
 use native.Mathlib.Omega.{arith}
 use Rattle.shape.specs.Answers.{fieldOf}
 use Rattle.stackorder.specs.Faults.{stack}
-use Rattle.stackorder.proofs.FaultLaws.{least-of-one, least-of-many, least-begun}
+use Rattle.stackorder.proofs.{FaultLaws.{least-of-one, least-of-many, least-begun}, fault.least_nodes.Statement.{statement}}
 use borrow.Author.Needs.{needs}
-use Rattle.stackorder.proofs.fault.least_nodes.Statement.{statement}
 use Rattle.stackorder.proofs.fault.least_nodes.Tie as tie
 
 returns : tie.Need-returns
 returns c = let a = c .before .args in least-of-one (fieldOf (a .field)) (stack (a .done) (a .begun)) (omega (arith, c .if1 .taken))
-
-enum-told : tie.Need-enum-told
-enum-told c = search needs
-
-add-result : tie.Need-add-result
-add-result c = search needs
 
 returns-2 : tie.Need-returns-2
 returns-2 c =
@@ -28,4 +21,4 @@ returns-3 : tie.Need-returns-3
 returns-3 c = let a = c .before .before .args in least-begun (a .field) (stack (a .done) (a .begun)) (c .match .keys2)
 
 pub least-nodes-spec : {M : Type 1} → statement M
-least-nodes-spec = tie.close (tie.spec returns enum-told add-result returns-2 returns-3)
+least-nodes-spec = tie.close (tie.spec returns (λ c. search needs) (λ c. search needs) returns-2 returns-3)

@@ -2,34 +2,9 @@
 -- done. Assumes nothing.
 use mathlib.Core.Bool.{false≢true}
 use native.Mathlib.Omega.{arith}
-use borrow.Author.Tests.{not-false, leb-true}
-use borrow.Author.Needs.{needs}
+use borrow.Author.{Tests.{not-false, leb-true}, Needs.{needs}}
 use Rattle.stackorder.proofs.fault.node_continues.Statement.{statement}
 use Rattle.stackorder.proofs.fault.node_continues.Tie as tie
-
-sub-if1 : tie.Need-sub-if1
-sub-if1 c = search needs
-
-returns : tie.Need-returns
-returns c = λ e. absurd (false≢true e)
-
-is-node-requires : tie.Need-is-node-requires
-is-node-requires c κs = search needs
-
-returns-2 : tie.Need-returns-2
-returns-2 c = λ e. absurd (false≢true e)
-
-add-low : tie.Need-add-low
-add-low c = search needs
-
-mul-low : tie.Need-mul-low
-mul-low c = search needs
-
-shared-slice-read-low : tie.Need-shared-slice-read-low
-shared-slice-read-low c = search needs
-
-low-requires : tie.Need-low-requires
-low-requires c κs = search needs
 
 returns-3 : tie.Need-returns-3
 returns-3 c =
@@ -43,13 +18,5 @@ returns-3 c =
 pub node-continues-spec : {M : Type 1} → statement M
 node-continues-spec =
     tie.close
-    (tie.spec
-    sub-if1
-    returns
-    is-node-requires
-    returns-2
-    add-low
-    mul-low
-    shared-slice-read-low
-    low-requires
-    returns-3)
+    (tie.spec (λ c. search needs) (λ c. λ e. absurd (false≢true e)) (λ c κs. search needs) (λ c. λ e. absurd (false≢true e))
+    (λ c. search needs) (λ c. search needs) (λ c. search needs) (λ c κs. search needs) returns-3)

@@ -2,14 +2,11 @@
 -- the fault of all. The measure is what is left of the words. Assumes nothing.
 use Prim.Native.Nat.{_-_}
 use native.Mathlib.Omega.{arith}
-use borrow.Author.Needs.{needs}
-use borrow.Author.Tests.{not-false}
+use borrow.Author.{Needs.{needs}, Tests.{not-false}}
 use lib.ListN.{length}
-use Rattle.molang.specs.Words.{operatorField}
-use Rattle.molang.specs.StackOrder.{stackAfter}
+use Rattle.molang.specs.{Words.{operatorField}, StackOrder.{stackAfter}}
 use Rattle.stackorder.specs.Faults.{Stacked}
-use Rattle.stackorder.proofs.FaultLaws.{stacked-start, stacked-node}
-use Rattle.stackorder.proofs.fault.whole_nodes.Statement.{statement}
+use Rattle.stackorder.proofs.{FaultLaws.{stacked-start, stacked-node}, fault.whole_nodes.Statement.{statement}}
 use Rattle.stackorder.proofs.fault.whole_nodes.Tie as tie
 
 abbrev Inv-loop : tie.InvT-loop
@@ -17,30 +14,6 @@ Inv-loop words done₀ begun₀ at₀ done begun at = Stacked words operatorFiel
 
 abbrev μ-loop : tie.MeasureT-loop
 μ-loop words done₀ begun₀ at₀ done begun at = length words - at
-
-loop-holds : tie.Need-loop-holds Inv-loop μ-loop
-loop-holds c = stacked-start (c .before .args .words .now)
-
-sub-loop : tie.Need-sub-loop Inv-loop μ-loop
-sub-loop c = omega (arith, c .loop .inv .within)
-
-node-continues-requires : tie.Need-node-continues-requires Inv-loop μ-loop
-node-continues-requires c κs = omega (arith, c .before .loop .inv .within)
-
-returns : tie.Need-returns Inv-loop μ-loop
-returns c = c .before .before .before .loop .inv
-
-add-low : tie.Need-add-low Inv-loop μ-loop
-add-low c = search needs
-
-mul-low : tie.Need-mul-low Inv-loop μ-loop
-mul-low c = search needs
-
-shared-slice-read-low : tie.Need-shared-slice-read-low Inv-loop μ-loop
-shared-slice-read-low c = search needs
-
-low-requires : tie.Need-low-requires Inv-loop μ-loop
-low-requires c κs = search needs
 
 sub-done : tie.Need-sub-done Inv-loop μ-loop
 sub-done c =
@@ -53,12 +26,6 @@ add-done c = let inv = c .before .before .before .before .before .loop .inv in o
 add-begun : tie.Need-add-begun Inv-loop μ-loop
 add-begun c = omega (arith, c .before .before .before .before .before .loop .inv .few)
 
-add-at : tie.Need-add-at Inv-loop μ-loop
-add-at c = search needs
-
-loop-less : tie.Need-loop-less Inv-loop μ-loop
-loop-less c = search needs
-
 loop-again : tie.Need-loop-again Inv-loop μ-loop
 unfolding stackAfter
 loop-again c =
@@ -68,27 +35,10 @@ loop-again c =
     (judged .node-continues .ensures (not-false _ (c .before .before .if1 .left)))
     (omega (arith, c .low .ensures))
 
-returns-2 : tie.Need-returns-2 Inv-loop μ-loop
-returns-2 c = c .before .loop .inv
-
 pub whole-nodes-spec : {M : Type 1} → statement M
 whole-nodes-spec =
     tie.close
-    (tie.spec
-    Inv-loop
-    μ-loop
-    loop-holds
-    sub-loop
-    node-continues-requires
-    returns
-    add-low
-    mul-low
-    shared-slice-read-low
-    low-requires
-    sub-done
-    add-done
-    add-begun
-    add-at
-    loop-less
-    loop-again
-    returns-2)
+    (tie.spec Inv-loop μ-loop (λ c. stacked-start (c .before .args .words .now)) (λ c. omega (arith, c .loop .inv .within))
+    (λ c κs. omega (arith, c .before .loop .inv .within)) (λ c. c .before .before .before .loop .inv) (λ c. search needs)
+    (λ c. search needs) (λ c. search needs) (λ c κs. search needs) sub-done add-done add-begun (λ c. search needs) (λ c. search needs)
+    loop-again (λ c. c .before .loop .inv))

@@ -6,17 +6,8 @@ use Rattle.stackorder.specs.Filled.{refusalIn}
 use Rattle.stackorder.proofs.refusal.first_of.Statement.{statement}
 use Rattle.stackorder.proofs.refusal.first_of.Tie as tie
 
-enum-known-a : tie.Need-enum-known-a
-enum-known-a c = search needs
-
-enum-told : tie.Need-enum-told
-enum-told c = search needs
-
-returns : tie.Need-returns
-returns c = sym (found _ _ _ (ap refusalIn (c .before .a .given .1)))
-
-returns-2 : tie.Need-returns-2
-returns-2 c = sym (after-none _ _ (ap refusalIn (c .enum-told .given .1)))
-
 pub first-of-spec : {M : Type 1} → statement M
-first-of-spec = tie.close (tie.spec enum-known-a enum-told returns returns-2)
+first-of-spec =
+    tie.close
+    (tie.spec (λ c. search needs) (λ c. search needs) (λ c. sym (found _ _ _ (ap refusalIn (c .before .a .given .1))))
+    (λ c. sym (after-none _ _ (ap refusalIn (c .enum-told .given .1)))))

@@ -7,12 +7,6 @@ use Rattle.stackorder.specs.Faults.{placeOf}
 use Rattle.stackorder.proofs.refusal.numbered.Statement.{statement}
 use Rattle.stackorder.proofs.refusal.numbered.Tie as tie
 
-enum-known-fault : tie.Need-enum-known-fault
-enum-known-fault c = search needs
-
-enum-told : tie.Need-enum-told
-enum-told c = search needs
-
 returns : tie.Need-returns
 returns c = ap (λ (f : Fault). withNumber (c .before .before .before .args .number) (placeOf f)) (sym (c .before .fault .given .1))
 
@@ -20,4 +14,4 @@ returns-2 : tie.Need-returns-2
 returns-2 c = ap (λ (f : Fault). withNumber (c .before .before .args .number) (placeOf f)) (sym (c .enum-told .given .1))
 
 pub numbered-spec : {M : Type 1} → statement M
-numbered-spec = tie.close (tie.spec enum-known-fault enum-told returns returns-2)
+numbered-spec = tie.close (tie.spec (λ c. search needs) (λ c. search needs) returns returns-2)

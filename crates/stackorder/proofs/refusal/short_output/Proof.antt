@@ -5,11 +5,7 @@ use Rattle.molang.proofs.FirstFailure.{must-true, must-false}
 use Rattle.stackorder.proofs.refusal.short_output.Statement.{statement}
 use Rattle.stackorder.proofs.refusal.short_output.Tie as tie
 
-returns : tie.Need-returns
-returns c = sym (must-false _ _ (lt-leb _ _ (c .if1 .taken)))
-
-returns-2 : tie.Need-returns-2
-returns-2 c = sym (must-true _ _ (le-leb _ _ (c .if1 .left)))
-
 pub short-output-spec : {M : Type 1} → statement M
-short-output-spec = tie.close (tie.spec returns returns-2)
+short-output-spec =
+    tie.close
+    (tie.spec (λ c. sym (must-false _ _ (lt-leb _ _ (c .if1 .taken)))) (λ c. sym (must-true _ _ (le-leb _ _ (c .if1 .left)))))

@@ -4,9 +4,6 @@ use borrow.Author.Needs.{needs}
 use Rattle.stackorder.proofs.reorder.leave.Statement.{statement}
 use Rattle.stackorder.proofs.reorder.leave.Tie as tie
 
-next-requires : tie.Need-next-requires
-next-requires c κs = search needs
-
 sub-at : tie.Need-sub-at
 sub-at c = let start = c .before .before .before in omega (arith, start .pre .0 .waits (start .pre .1), c .next .ensures)
 
@@ -18,12 +15,6 @@ slice-read-wide c =
     let start = c .before .before .before .before in
     omega (arith, start .pre .0 .waits (start .pre .1), c .before .next .ensures)
 
-wide-requires : tie.Need-wide-requires
-wide-requires c κs = search needs
-
-add-left : tie.Need-add-left
-add-left c = search needs
-
 mul-left : tie.Need-mul-left
 mul-left c =
     let start = c .before .before .before .before .before in
@@ -34,15 +25,6 @@ slice-read-left c =
     let start = c .before .before .before .before .before .before in
     omega (arith, start .pre .0 .waits (start .pre .1), c .before .before .before .next .ensures)
 
-copy-requires : tie.Need-copy-requires
-copy-requires c κs = search needs
-
-next-requires-2 : tie.Need-next-requires-2
-next-requires-2 c κs = search needs
-
-same-length : tie.Need-same-length
-same-length c = search needs
-
 returns : tie.Need-returns
 returns c =
     let copied = c .before .before .before in
@@ -52,16 +34,5 @@ returns c =
 pub leave-spec : {M : Type 1} → statement M
 leave-spec =
     tie.close
-    (tie.spec
-    next-requires
-    sub-at
-    mul-wide
-    slice-read-wide
-    wide-requires
-    add-left
-    mul-left
-    slice-read-left
-    copy-requires
-    next-requires-2
-    same-length
-    returns)
+    (tie.spec (λ c κs. search needs) sub-at mul-wide slice-read-wide (λ c κs. search needs) (λ c. search needs) mul-left slice-read-left
+    (λ c κs. search needs) (λ c κs. search needs) (λ c. search needs) returns)

@@ -10,18 +10,8 @@ copy-requires c κs = let start = c .before .before .before in let read = start 
 next-requires : tie.Need-next-requires
 next-requires c κs = let start = c .before .before .before .before .before .before in omega (arith, start .pre .0 .unread (start .pre .1))
 
-next-requires-2 : tie.Need-next-requires-2
-next-requires-2 c κs = search needs
-
-sub-t10 : tie.Need-sub-t10
-sub-t10 c = search needs
-
-same-length : tie.Need-same-length
-same-length c = search needs
-
 returns : tie.Need-returns
 returns c = (rw (c .before .next2 .ensures, c .before .before .next .ensures), c .before .before .before .before .before .copy .ensures)
 
 pub pass-spec : {M : Type 1} → statement M
-pass-spec =
-    tie.close (tie.spec copy-requires next-requires next-requires-2 sub-t10 same-length returns)
+pass-spec = tie.close (tie.spec copy-requires next-requires (λ c κs. search needs) (λ c. search needs) (λ c. search needs) returns)

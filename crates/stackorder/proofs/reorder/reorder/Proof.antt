@@ -3,8 +3,7 @@
 use mathlib.Core.Path.{_≡_, refl, ap, _∙_}
 use borrow.Author.Needs.{needs}
 use lib.ListN.{length}
-use Rattle.stackorder.specs.declared.reorder.Direction.{Direction}
-use Rattle.stackorder.specs.Reorder.{CanReorder, otherWay, firstEnd}
+use Rattle.stackorder.specs.{declared.reorder.Direction.{Direction}, Reorder.{CanReorder, otherWay, firstEnd}}
 use Rattle.stackorder.proofs.ReorderLaws.{Walks, wayOf, last-within, begins, can, again, less, ends}
 use Rattle.stackorder.proofs.reorder.reorder.Statement.{statement}
 use Rattle.stackorder.proofs.reorder.reorder.Tie as tie
@@ -27,15 +26,6 @@ lasts : (c : tie.After-first2 Inv-loop μ-loop) →
 lasts c =
     let a = c .before .before .before .before .before .args in
     c .first2 .ensures ∙ ap (λ (d : Direction). firstEnd d (length (a .words .now))) (c .before .turned .ensures)
-
-first-requires : tie.Need-first-requires Inv-loop μ-loop
-first-requires c κs = search needs
-
-turned-requires : tie.Need-turned-requires Inv-loop μ-loop
-turned-requires c κs = search needs
-
-first-requires-2 : tie.Need-first-requires-2 Inv-loop μ-loop
-first-requires-2 c κs = search needs
 
 next-requires : tie.Need-next-requires Inv-loop μ-loop
 next-requires c κs = last-within (c .before .before .before .before .before .pre) (starts c) (lasts c) refl
@@ -79,16 +69,5 @@ returns c =
 pub reorder-spec : {M : Type 1} → statement M
 reorder-spec =
     tie.close
-    (tie.spec
-    Inv-loop
-    μ-loop
-    first-requires
-    turned-requires
-    first-requires-2
-    next-requires
-    loop-holds
-    turn-requires
-    loop-less
-    loop-again
-    same-length
-    returns)
+    (tie.spec Inv-loop μ-loop (λ c κs. search needs) (λ c κs. search needs) (λ c κs. search needs) next-requires loop-holds turn-requires
+    loop-less loop-again same-length returns)

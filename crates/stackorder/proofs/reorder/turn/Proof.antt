@@ -6,20 +6,11 @@ use borrow.Author.Needs.{needs}
 use Rattle.stackorder.proofs.reorder.turn.Statement.{statement}
 use Rattle.stackorder.proofs.reorder.turn.Tie as tie
 
-leave-requires : tie.Need-leave-requires
-leave-requires c κs = search needs
-
-same-length : tie.Need-same-length
-same-length c = search needs
-
 returns : tie.Need-returns
 returns c = let left = c .before .before in leaves (left .before .before .if1 .taken) (left .leave .ensures .0) (left .leave .ensures .1)
 
 sub-at : tie.Need-sub-at
 sub-at c = let start = c .before .before .before .before .before in omega (arith, start .pre .unread (c .before .if1 .left))
-
-add-low : tie.Need-add-low
-add-low c = search needs
 
 mul-low : tie.Need-mul-low
 mul-low c = let start = c .before .before .before .before .before in omega (arith, start .pre .unread (c .before .if1 .left))
@@ -29,27 +20,12 @@ shared-slice-read-low c =
     let start = c .before .before .before .before .before .before in
     omega (arith, start .pre .unread (c .before .before .if1 .left))
 
-low-requires : tie.Need-low-requires
-low-requires c κs = search needs
-
-pass-requires : tie.Need-pass-requires
-pass-requires c κs = search needs
-
-same-length-2 : tie.Need-same-length-2
-same-length-2 c = search needs
-
 returns-2 : tie.Need-returns-2
 returns-2 c =
     let passed = c .before .before in
     let counted = passed .before .before .before in
     passes (counted .before .before .before .if1 .left) (sym (counted .low .ensures) ∙ passed .before .before .if2 .taken)
     (passed .pass .ensures .0) (passed .pass .ensures .1)
-
-enter-requires : tie.Need-enter-requires
-enter-requires c κs = search needs
-
-same-length-3 : tie.Need-same-length-3
-same-length-3 c = search needs
 
 returns-3 : tie.Need-returns-3
 returns-3 c =
@@ -61,18 +37,5 @@ returns-3 c =
 pub turn-spec : {M : Type 1} → statement M
 turn-spec =
     tie.close
-    (tie.spec
-    leave-requires
-    same-length
-    returns
-    sub-at
-    add-low
-    mul-low
-    shared-slice-read-low
-    low-requires
-    pass-requires
-    same-length-2
-    returns-2
-    enter-requires
-    same-length-3
-    returns-3)
+    (tie.spec (λ c κs. search needs) (λ c. search needs) returns sub-at (λ c. search needs) mul-low shared-slice-read-low
+    (λ c κs. search needs) (λ c κs. search needs) (λ c. search needs) returns-2 (λ c κs. search needs) (λ c. search needs) returns-3)

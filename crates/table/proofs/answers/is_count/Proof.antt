@@ -1,17 +1,10 @@
 -- `table::answers::is_count` meets its contract: the mark is the line's, or another. Assumes nothing.
 use mathlib.Core.Path.{ap}
-use borrow.Author.Needs.{needs}
-use borrow.Author.Tests.{eq-eqb, ne-eqb}
+use borrow.Author.{Needs.{needs}, Tests.{eq-eqb, ne-eqb}}
 use lib.Dec.{eqb}
 use Rattle.table.specs.Answers.{isCount}
 use Rattle.table.proofs.answers.is_count.Statement.{statement}
 use Rattle.table.proofs.answers.is_count.Tie as tie
-
-at-requires : tie.Need-at-requires
-at-requires c κs = search needs
-
-count-requires : tie.Need-count-requires
-count-requires c κs = search needs
 
 returns : tie.Need-returns
 unfolding isCount
@@ -27,4 +20,4 @@ returns-2 c =
     rw (isCount, ← read .at .ensures, ne-eqb (read .before .before .args .mark) (read .at .result) (c .if1 .left))
 
 pub is-count-spec : {M : Type 1} → statement M
-is-count-spec = tie.close (tie.spec at-requires count-requires returns returns-2)
+is-count-spec = tie.close (tie.spec (λ c κs. search needs) (λ c κs. search needs) returns returns-2)

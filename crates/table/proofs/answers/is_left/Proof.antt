@@ -1,19 +1,12 @@
 -- `table::answers::is_left` meets its contract: the three buffers, or the first that is another. Assumes nothing.
-use borrow.Author.Needs.{needs}
-use borrow.Author.Tests.{not-true, not-false}
+use borrow.Author.{Needs.{needs}, Tests.{not-true, not-false}}
 use Rattle.table.specs.Answers.{isLeft}
 use Rattle.table.proofs.answers.is_left.Statement.{statement}
 use Rattle.table.proofs.answers.is_left.Tie as tie
 
-holds-requires : tie.Need-holds-requires
-holds-requires c κs = search needs
-
 returns : tie.Need-returns
 unfolding isLeft
 returns c = rw (isLeft, ← c .before .holds .ensures, not-true (c .before .holds .result) (c .if1 .taken))
-
-holds-requires-2 : tie.Need-holds-requires-2
-holds-requires-2 c κs = search needs
 
 returns-2 : tie.Need-returns-2
 unfolding isLeft
@@ -27,12 +20,6 @@ returns-2 c =
       ← messages .holds2 .ensures,
       not-true (messages .holds2 .result) (c .if2 .taken),
     )
-
-kept-word-requires : tie.Need-kept-word-requires
-kept-word-requires c κs = search needs
-
-holds-requires-3 : tie.Need-holds-requires-3
-holds-requires-3 c κs = search needs
 
 returns-3 : tie.Need-returns-3
 unfolding isLeft
@@ -52,4 +39,4 @@ returns-3 c =
 pub is-left-spec : {M : Type 1} → statement M
 is-left-spec =
     tie.close
-    (tie.spec holds-requires returns holds-requires-2 returns-2 kept-word-requires holds-requires-3 returns-3)
+    (tie.spec (λ c κs. search needs) returns (λ c κs. search needs) returns-2 (λ c κs. search needs) (λ c κs. search needs) returns-3)

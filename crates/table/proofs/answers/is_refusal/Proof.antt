@@ -1,28 +1,15 @@
 -- `table::answers::is_refusal` meets its contract: the mark, the number and the place, or the first that fails. Assumes nothing.
 use mathlib.Core.Path.{ap, _∙_}
-use borrow.Author.Needs.{needs}
-use borrow.Author.Tests.{eq-eqb, ne-eqb}
+use borrow.Author.{Needs.{needs}, Tests.{eq-eqb, ne-eqb}}
 use lib.Dec.{eqb}
 use Rattle.molang.specs.Lines.{refusedMark}
 use Rattle.table.specs.Answers.{isRefusal}
 use Rattle.table.proofs.answers.is_refusal.Statement.{statement}
 use Rattle.table.proofs.answers.is_refusal.Tie as tie
 
-at-requires : tie.Need-at-requires
-at-requires c κs = search needs
-
 returns : tie.Need-returns
 unfolding isRefusal
 returns c = rw (isRefusal, ← c .before .at .ensures, ne-eqb (c .before .at .result) refusedMark (c .if1 .taken))
-
-at-requires-2 : tie.Need-at-requires-2
-at-requires-2 c κs = search needs
-
-at-requires-3 : tie.Need-at-requires-3
-at-requires-3 c κs = search needs
-
-wide-requires : tie.Need-wide-requires
-wide-requires c κs = search needs
 
 returns-2 : tie.Need-returns-2
 unfolding isRefusal
@@ -54,4 +41,5 @@ returns-3 c =
 
 pub is-refusal-spec : {M : Type 1} → statement M
 is-refusal-spec =
-    tie.close (tie.spec at-requires returns at-requires-2 at-requires-3 wide-requires returns-2 returns-3)
+    tie.close
+    (tie.spec (λ c κs. search needs) returns (λ c κs. search needs) (λ c κs. search needs) (λ c κs. search needs) returns-2 returns-3)

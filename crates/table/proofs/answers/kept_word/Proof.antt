@@ -1,13 +1,9 @@
 -- `table::answers::kept_word` meets its contract: the mark of a refusal, and any other. Assumes nothing.
-use borrow.Author.Needs.{needs}
-use borrow.Author.Tests.{eq-eqb, ne-eqb}
+use borrow.Author.{Needs.{needs}, Tests.{eq-eqb, ne-eqb}}
 use Rattle.molang.specs.Lines.{refusedMark}
 use Rattle.table.specs.Answers.{kept}
 use Rattle.table.proofs.answers.kept_word.Statement.{statement}
 use Rattle.table.proofs.answers.kept_word.Tie as tie
-
-at-requires : tie.Need-at-requires
-at-requires c κs = search needs
 
 returns : tie.Need-returns
 unfolding kept
@@ -18,4 +14,4 @@ unfolding kept
 returns-2 c = rw (kept, ← c .before .at .ensures, ne-eqb (c .before .at .result) refusedMark (c .if1 .left))
 
 pub kept-word-spec : {M : Type 1} → statement M
-kept-word-spec = tie.close (tie.spec at-requires returns returns-2)
+kept-word-spec = tie.close (tie.spec (λ c κs. search needs) returns returns-2)

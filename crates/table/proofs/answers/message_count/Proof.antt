@@ -1,14 +1,9 @@
 -- `table::answers::message_count` meets its contract: a mark stands after the first, or none does. Assumes nothing.
-use borrow.Author.Needs.{needs}
-use borrow.Author.Tests.{lt-ltb, le-ltb}
+use borrow.Author.{Needs.{needs}, Tests.{lt-ltb, le-ltb}}
 use lib.ListN.{length}
-use Rattle.table.specs.Marked.{secondAt}
-use Rattle.table.specs.Answers.{messageCount}
+use Rattle.table.specs.{Marked.{secondAt}, Answers.{messageCount}}
 use Rattle.table.proofs.answers.message_count.Statement.{statement}
 use Rattle.table.proofs.answers.message_count.Tie as tie
-
-next-mark-requires : tie.Need-next-mark-requires
-next-mark-requires c κs = search needs
 
 returns : tie.Need-returns
 unfolding messageCount secondAt
@@ -23,4 +18,4 @@ returns-2 c =
     rw (messageCount, secondAt, ← c .before .next-mark .ensures .0, le-ltb (c .before .next-mark .result) (length said) (c .if1 .left))
 
 pub message-count-spec : {M : Type 1} → statement M
-message-count-spec = tie.close (tie.spec next-mark-requires returns returns-2)
+message-count-spec = tie.close (tie.spec (λ c κs. search needs) returns returns-2)

@@ -18,9 +18,6 @@ returns-3 c =
     let a = c .before .before .before .args in
     (turned-first (a .bytes) (a .first) (c .before .before .if1 .left) (c .before .if2 .left) (omega arith), tt)
 
-sub-words : tie.Need-sub-words
-sub-words c = search needs
-
 returns-4 : tie.Need-returns-4
 unfolding listLength
 returns-4 c =
@@ -47,4 +44,4 @@ returns-6 c =
     )
 
 pub asked-spec : {M : Type 1} → statement M
-asked-spec = tie.close (tie.spec returns returns-2 returns-3 sub-words returns-4 returns-5 returns-6)
+asked-spec = tie.close (tie.spec returns returns-2 returns-3 (λ c. search needs) returns-4 returns-5 returns-6)

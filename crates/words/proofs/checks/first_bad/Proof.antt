@@ -1,16 +1,11 @@
 -- `words::checks::first_bad` meets its contract: each word is good or ends the check at its place. Assumes nothing.
-use mathlib.Core.Path.{_≡_, sym, ap, _∙_}
-use mathlib.Core.List.{[], _∷_}
-use mathlib.Core.Option.{Option}
+use mathlib.Core.{Path.{_≡_, sym, ap, _∙_}, List.{[], _∷_}, Option.{Option}}
 use Prim.Native.Nat.{_+_}
 use borrow.Author.Needs.{needs}
 use Rattle.molang.specs.Words.{operatorField, startField, endField, upperField, lowerField, Refusal, wordsRefusal}
-use Rattle.words.specs.Fields.{variantOf}
-use Rattle.words.specs.Checks.{numberOf}
-use Rattle.words.specs.Tokens.{fiveWords}
+use Rattle.words.specs.{Fields.{variantOf}, Checks.{numberOf}, Tokens.{fiveWords}}
 use Rattle.words.proofs.CheckLaws.{first-bad, last-word, start-tests, end-tests, upper-tests, lower-tests, after-first, after-start}
-use Rattle.words.proofs.CheckLaws.{after-end, after-upper}
-use Rattle.words.proofs.checks.first_bad.Statement.{statement}
+use Rattle.words.proofs.{CheckLaws.{after-end, after-upper}, checks.first_bad.Statement.{statement}}
 use Rattle.words.proofs.checks.first_bad.Tie as tie
 
 -- The answer to the whole token.
@@ -49,15 +44,6 @@ third-good c =
     ∙ (c .before .before .span-word2 .ensures ∙ end-tests (variantOf (a .words .operator)) (a .words .end)))
     ∙ second-good (c .before .before .before)
 
-operator-word-requires : tie.Need-operator-word-requires
-operator-word-requires c κs = search needs
-
-enum-told : tie.Need-enum-told
-enum-told c = search needs
-
-judged-requires : tie.Need-judged-requires
-judged-requires c κs = search needs
-
 returns : tie.Need-returns
 returns c =
     let a = c .before .before .before .args in
@@ -65,18 +51,6 @@ returns c =
     c .judged .ensures
     ∙ first-bad (a .at) operatorField 0 (a .words .operator) (a .words .start ∷ a .words .end ∷ a .words .upper ∷ a .words .lower ∷ [])
     (one .result) (c .before .match .keys2) (one .ensures)
-
-span-word-requires : tie.Need-span-word-requires
-span-word-requires c κs = search needs
-
-enum-told-2 : tie.Need-enum-told-2
-enum-told-2 c = search needs
-
-add-judged : tie.Need-add-judged
-add-judged c = search needs
-
-judged-requires-2 : tie.Need-judged-requires-2
-judged-requires-2 c κs = search needs
 
 returns-2 : tie.Need-returns-2
 returns-2 c =
@@ -88,18 +62,6 @@ returns-2 c =
     (c .before .match2 .keys2) (two .ensures ∙ start-tests v (a .words .start))
     ∙ first-good (c .before .before .before))
 
-span-word-requires-2 : tie.Need-span-word-requires-2
-span-word-requires-2 c κs = search needs
-
-enum-told-3 : tie.Need-enum-told-3
-enum-told-3 c = search needs
-
-add-judged-2 : tie.Need-add-judged-2
-add-judged-2 c = search needs
-
-judged-requires-3 : tie.Need-judged-requires-3
-judged-requires-3 c κs = search needs
-
 returns-3 : tie.Need-returns-3
 returns-3 c =
     let a = c .before .before .before .before .before .before .before .before .before .args in
@@ -110,21 +72,6 @@ returns-3 c =
     (three .ensures ∙ end-tests v (a .words .end))
     ∙ second-good (c .before .before .before))
 
-variant-requires : tie.Need-variant-requires
-variant-requires c κs = search needs
-
-half-word-requires : tie.Need-half-word-requires
-half-word-requires c κs = search needs
-
-enum-told-4 : tie.Need-enum-told-4
-enum-told-4 c = search needs
-
-add-judged-3 : tie.Need-add-judged-3
-add-judged-3 c = search needs
-
-judged-requires-4 : tie.Need-judged-requires-4
-judged-requires-4 c κs = search needs
-
 returns-4 : tie.Need-returns-4
 returns-4 c =
     let a = c .before .before .before .before .before .before .before .before .before .before .before .before .before .args in
@@ -134,15 +81,6 @@ returns-4 c =
     ∙ (first-bad (a .at + 3) upperField (v .result) (a .words .upper) (a .words .lower ∷ []) (four .result) (c .before .match4 .keys2)
     (four .ensures ∙ upper-tests (v .result) (a .words .upper))
     ∙ rw (v .ensures) (third-good (c .before .before .before .before)))
-
-half-word-requires-2 : tie.Need-half-word-requires-2
-half-word-requires-2 c κs = search needs
-
-add-judged-4 : tie.Need-add-judged-4
-add-judged-4 c = search needs
-
-judged-requires-5 : tie.Need-judged-requires-5
-judged-requires-5 c κs = search needs
 
 returns-5 : tie.Need-returns-5
 returns-5 c =
@@ -158,28 +96,9 @@ returns-5 c =
     ∙ rw (v .ensures) (third-good (four .before .before))))
 
 pub first-bad-spec : {M : Type 1} → statement M
-first-bad-spec = tie.close (tie.spec
-    operator-word-requires
-    enum-told
-    judged-requires
-    returns
-    span-word-requires
-    enum-told-2
-    add-judged
-    judged-requires-2
-    returns-2
-    span-word-requires-2
-    enum-told-3
-    add-judged-2
-    judged-requires-3
-    returns-3
-    variant-requires
-    half-word-requires
-    enum-told-4
-    add-judged-3
-    judged-requires-4
-    returns-4
-    half-word-requires-2
-    add-judged-4
-    judged-requires-5
-    returns-5)
+first-bad-spec =
+    tie.close
+    (tie.spec (λ c κs. search needs) (λ c. search needs) (λ c κs. search needs) returns (λ c κs. search needs) (λ c. search needs)
+    (λ c. search needs) (λ c κs. search needs) returns-2 (λ c κs. search needs) (λ c. search needs) (λ c. search needs)
+    (λ c κs. search needs) returns-3 (λ c κs. search needs) (λ c κs. search needs) (λ c. search needs) (λ c. search needs)
+    (λ c κs. search needs) returns-4 (λ c κs. search needs) (λ c. search needs) (λ c κs. search needs) returns-5)

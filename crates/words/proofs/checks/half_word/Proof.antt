@@ -1,25 +1,13 @@
 -- `words::checks::half_word` meets its contract: kind first, then the low bits, by the payload variant. Assumes nothing.
 use mathlib.Core.Path.{sym, _∙_}
-use borrow.Author.Needs.{needs}
-use borrow.Author.Tests.{eq-eqb, ne-eqb}
-use Rattle.molang.specs.FirstFailure.{must, firstOf}
-use Rattle.molang.specs.Words.{lowFault}
-use Rattle.molang.proofs.FirstFailure.{last-one}
+use borrow.Author.{Needs.{needs}, Tests.{eq-eqb, ne-eqb}}
+use Rattle.molang.{specs.FirstFailure.{must, firstOf}, specs.Words.{lowFault}, proofs.FirstFailure.{last-one}}
 use Rattle.words.proofs.checks.half_word.Statement.{statement}
 use Rattle.words.proofs.checks.half_word.Tie as tie
-
-kind-requires : tie.Need-kind-requires
-kind-requires c κs = search needs
 
 returns : tie.Need-returns
 unfolding firstOf must
 returns c = rw (← c .before .kind .ensures, ne-eqb (c .before .kind .result) (c .before .before .args .kind) (c .if1 .taken))
-
-low-requires : tie.Need-low-requires
-low-requires c κs = search needs
-
-below-requires : tie.Need-below-requires
-below-requires c κs = search needs
 
 returns-2 : tie.Need-returns-2
 unfolding firstOf must lowFault
@@ -30,12 +18,6 @@ returns-2 c =
     ∙ rw
     (← k .ensures, eq-eqb (k .result) (a .kind) (c .before .before .before .if1 .left), ← c .before .low .ensures, lowFault)
     (rw (eq-eqb (a .variant) 0 (c .before .before .if2 .taken)) (sym (last-one _)))
-
-low-requires-2 : tie.Need-low-requires-2
-low-requires-2 c κs = search needs
-
-below-requires-2 : tie.Need-below-requires-2
-below-requires-2 c κs = search needs
 
 returns-3 : tie.Need-returns-3
 unfolding firstOf must lowFault
@@ -48,4 +30,7 @@ returns-3 c =
     (rw (ne-eqb (a .variant) 0 (c .before .before .if2 .left)) (sym (last-one _)))
 
 pub half-word-spec : {M : Type 1} → statement M
-half-word-spec = tie.close (tie.spec kind-requires returns low-requires below-requires returns-2 low-requires-2 below-requires-2 returns-3)
+half-word-spec =
+    tie.close
+    (tie.spec (λ c κs. search needs) returns (λ c κs. search needs) (λ c κs. search needs) returns-2 (λ c κs. search needs)
+    (λ c κs. search needs) returns-3)

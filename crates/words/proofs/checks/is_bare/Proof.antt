@@ -1,24 +1,8 @@
 -- `words::checks::is_bare` meets its contract: the tests leave one word for each field but the span's. Assumes nothing.
 use mathlib.Core.Bool.{false≢true}
 use borrow.Author.Needs.{needs}
-use Rattle.words.proofs.CheckLaws.{bare-operator, bare-halves, tests-passed}
-use Rattle.words.proofs.checks.is_bare.Statement.{statement}
+use Rattle.words.proofs.{CheckLaws.{bare-operator, bare-halves, tests-passed}, checks.is_bare.Statement.{statement}}
 use Rattle.words.proofs.checks.is_bare.Tie as tie
-
-returns : tie.Need-returns
-returns c = λ e. absurd (false≢true e)
-
-returns-2 : tie.Need-returns-2
-returns-2 c = λ e. absurd (false≢true e)
-
-returns-3 : tie.Need-returns-3
-returns-3 c = λ e. absurd (false≢true e)
-
-returns-4 : tie.Need-returns-4
-returns-4 c = λ e. absurd (false≢true e)
-
-are-spans-requires : tie.Need-are-spans-requires
-are-spans-requires c κs = search needs
 
 returns-5 : tie.Need-returns-5
 returns-5 c =
@@ -32,4 +16,7 @@ returns-5 c =
     λ e at. tests-passed at (k .operator) (k .start) (k .end) (k .upper) (k .lower) first (c .are-spans .ensures e) halves
 
 pub is-bare-spec : {M : Type 1} → statement M
-is-bare-spec = tie.close (tie.spec returns returns-2 returns-3 returns-4 are-spans-requires returns-5)
+is-bare-spec =
+    tie.close
+    (tie.spec (λ c. λ e. absurd (false≢true e)) (λ c. λ e. absurd (false≢true e)) (λ c. λ e. absurd (false≢true e))
+    (λ c. λ e. absurd (false≢true e)) (λ c κs. search needs) returns-5)

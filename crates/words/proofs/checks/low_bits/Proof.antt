@@ -1,18 +1,9 @@
 -- `words::checks::low_bits` meets its contract: operator, payload variant, other bits, in this order. Assumes nothing.
 use mathlib.Core.Path.{sym, _∙_}
-use borrow.Author.Needs.{needs}
-use borrow.Author.Tests.{le-leb, lt-leb, not-true, not-false}
-use Rattle.molang.specs.FirstFailure.{must, firstOf}
-use Rattle.molang.proofs.FirstFailure.{last-one}
-use Rattle.words.proofs.CheckLaws.{operator-tests}
-use Rattle.words.proofs.checks.low_bits.Statement.{statement}
+use borrow.Author.{Needs.{needs}, Tests.{le-leb, lt-leb, not-true, not-false}}
+use Rattle.molang.{specs.FirstFailure.{must, firstOf}, proofs.FirstFailure.{last-one}}
+use Rattle.words.proofs.{CheckLaws.{operator-tests}, checks.low_bits.Statement.{statement}}
 use Rattle.words.proofs.checks.low_bits.Tie as tie
-
-operator-requires : tie.Need-operator-requires
-operator-requires c κs = search needs
-
-is-operator-requires : tie.Need-is-operator-requires
-is-operator-requires c κs = search needs
 
 returns : tie.Need-returns
 unfolding firstOf must
@@ -23,9 +14,6 @@ returns c =
       ← numbered .operator .ensures,
       sym (c .before .is-operator .ensures) ∙ not-true _ (c .if1 .taken),
     )
-
-variant-requires : tie.Need-variant-requires
-variant-requires c κs = search needs
 
 returns-2 : tie.Need-returns-2
 unfolding firstOf must
@@ -38,12 +26,6 @@ returns-2 c =
       ← c .before .variant .ensures,
       lt-leb (c .before .variant .result) 12 (c .if2 .taken),
     )
-
-low-requires : tie.Need-low-requires
-low-requires c κs = search needs
-
-below-requires : tie.Need-below-requires
-below-requires c κs = search needs
 
 returns-3 : tie.Need-returns-3
 unfolding firstOf must
@@ -63,4 +45,5 @@ returns-3 c =
 pub low-bits-spec : {M : Type 1} → statement M
 low-bits-spec =
     tie.close
-    (tie.spec operator-requires is-operator-requires returns variant-requires returns-2 low-requires below-requires returns-3)
+    (tie.spec (λ c κs. search needs) (λ c κs. search needs) returns (λ c κs. search needs) returns-2 (λ c κs. search needs)
+    (λ c κs. search needs) returns-3)

@@ -1,13 +1,8 @@
 -- `words::checks::span_word` meets its contract: one test. Assumes nothing.
-use borrow.Author.Needs.{needs}
-use borrow.Author.Tests.{eq-eqb, ne-eqb}
-use Rattle.molang.specs.FirstFailure.{must, firstOf}
-use Rattle.molang.specs.Words.{lowFault}
+use borrow.Author.{Needs.{needs}, Tests.{eq-eqb, ne-eqb}}
+use Rattle.molang.specs.{FirstFailure.{must, firstOf}, Words.{lowFault}}
 use Rattle.words.proofs.checks.span_word.Statement.{statement}
 use Rattle.words.proofs.checks.span_word.Tie as tie
-
-kind-requires : tie.Need-kind-requires
-kind-requires c κs = search needs
 
 returns : tie.Need-returns
 unfolding firstOf must
@@ -18,4 +13,4 @@ unfolding firstOf must lowFault
 returns-2 c = rw (← c .before .kind .ensures, eq-eqb (c .before .kind .result) (c .before .before .args .kind) (c .if1 .left))
 
 pub span-word-spec : {M : Type 1} → statement M
-span-word-spec = tie.close (tie.spec kind-requires returns returns-2)
+span-word-spec = tie.close (tie.spec (λ c κs. search needs) returns returns-2)

@@ -2,8 +2,7 @@
 use Prim.Native.Nat.{_/_, _%_, _^_}
 use native.Mathlib.Omega.{arith}
 use borrow.Author.Tests.{le-leb, lt-leb, lt-ltb}
-use Rattle.molang.specs.FirstFailure.{must, firstOf}
-use Rattle.molang.proofs.OldWords.{old-answer}
+use Rattle.molang.{specs.FirstFailure.{must, firstOf}, proofs.OldWords.{old-answer}}
 use Rattle.words.proofs.checks.twelve_bits.Statement.{statement}
 use Rattle.words.proofs.checks.twelve_bits.Tie as tie
 

@@ -1,19 +1,13 @@
 -- `words::extent::of_tree` meets its contract: what was seen, with the trees that are still called for, has the first tree's extent.
 -- Assumes nothing.
 use Prim.Native.Nat.{ℕ, suc, _+_, _*_, _-_, _^_, _≤_, _<_}
-use mathlib.Core.Path.{_≡_, refl, sym, ap, _∙_}
-use mathlib.Core.List.{List}
+use mathlib.Core.{Path.{_≡_, refl, sym, ap, _∙_}, List.{List}}
 use native.Mathlib.Omega.{arith}
 use borrow.Author.Needs.{needs}
-use lib.ListN.{length, getD, drop, length-drop}
-use lib.Seq.{getD-drop, drop-drop}
-use Rattle.molang.specs.Words.{lowOf}
-use Rattle.molang.specs.Read.{lowestStart, highestEnd}
-use Rattle.molang.specs.WriteEntry.{firstTrees, treesOf}
-use Rattle.words.specs.Extents.{wider, extentWith, firstExtent}
-use Rattle.words.specs.declared.extent.Extent.{Extent}
-use Rattle.words.proofs.TreeLaws.{no-tree, none-first, extent-step, from-nothing}
-use Rattle.words.proofs.extent.of_tree.Statement.{statement}
+use lib.{ListN.{length, getD, drop, length-drop}, Seq.{getD-drop, drop-drop}}
+use Rattle.molang.specs.{Words.{lowOf}, Read.{lowestStart, highestEnd}, WriteEntry.{firstTrees, treesOf}}
+use Rattle.words.specs.{Extents.{wider, extentWith, firstExtent}, declared.extent.Extent.{Extent}}
+use Rattle.words.proofs.{TreeLaws.{no-tree, none-first, extent-step, from-nothing}, extent.of_tree.Statement.{statement}}
 use Rattle.words.proofs.extent.of_tree.Tie as tie
 
 abbrev Inv-loop : tie.InvT-loop
@@ -41,14 +35,8 @@ step-at W at t e h =
     rw (getD-drop at W 1 0, getD-drop at W 2 0, getD-drop at W 5 0, drop-drop 7 at W) at
     (extent-step (drop at W) t e (omega (arith, length-drop at W)))
 
-sub-t6 : tie.Need-sub-t6 Inv-loop μ-loop
-sub-t6 c = search needs
-
 loop-holds : tie.Need-loop-holds Inv-loop μ-loop
 loop-holds c = (from-nothing (c .before .args .words .now), omega arith, omega arith)
-
-sub-if1 : tie.Need-sub-if1 Inv-loop μ-loop
-sub-if1 c = omega arith
 
 returns : tie.Need-returns Inv-loop μ-loop
 returns c =
@@ -56,54 +44,9 @@ returns c =
     let W = c .before .before .before .before .args .words .now in
     sym (none-left (l .seen) (l .trees) (drop (l .at) W) (omega (arith, length-drop (l .at) W))) ∙ l .inv .0
 
-add-widened : tie.Need-add-widened Inv-loop μ-loop
-add-widened c = omega arith
-
-mul-widened : tie.Need-mul-widened Inv-loop μ-loop
-mul-widened c = omega arith
-
-shared-slice-read-widened : tie.Need-shared-slice-read-widened Inv-loop μ-loop
-shared-slice-read-widened c = omega arith
-
-add-widened-2 : tie.Need-add-widened-2 Inv-loop μ-loop
-add-widened-2 c = omega arith
-
-mul-widened-2 : tie.Need-mul-widened-2 Inv-loop μ-loop
-mul-widened-2 c = omega arith
-
-shared-slice-read-widened-2 : tie.Need-shared-slice-read-widened-2 Inv-loop μ-loop
-shared-slice-read-widened-2 c = omega arith
-
-widened-requires : tie.Need-widened-requires Inv-loop μ-loop
-widened-requires c κs = search needs
-
-add-low : tie.Need-add-low Inv-loop μ-loop
-add-low c = omega arith
-
-mul-low : tie.Need-mul-low Inv-loop μ-loop
-mul-low c = omega arith
-
-shared-slice-read-low : tie.Need-shared-slice-read-low Inv-loop μ-loop
-shared-slice-read-low c = omega arith
-
-low-requires : tie.Need-low-requires Inv-loop μ-loop
-low-requires c κs = search needs
-
-cast-below : tie.Need-cast-below Inv-loop μ-loop
-cast-below c = search needs
-
-sub-trees : tie.Need-sub-trees Inv-loop μ-loop
-sub-trees c = omega arith
-
 add-trees : tie.Need-add-trees Inv-loop μ-loop
 unfolding lowOf
 add-trees c = omega (arith, c .low .ensures, c .before .before .before .before .before .before .before .loop .inv .2)
-
-add-at : tie.Need-add-at Inv-loop μ-loop
-add-at c = omega arith
-
-loop-less : tie.Need-loop-less Inv-loop μ-loop
-loop-less c = omega arith
 
 loop-again : tie.Need-loop-again Inv-loop μ-loop
 unfolding lowOf
@@ -130,28 +73,7 @@ returns-2 c =
 pub of-tree-spec : {M : Type 1} → statement M
 of-tree-spec =
     tie.close
-    (tie.spec
-    Inv-loop
-    μ-loop
-    sub-t6
-    loop-holds
-    sub-if1
-    returns
-    add-widened
-    mul-widened
-    shared-slice-read-widened
-    add-widened-2
-    mul-widened-2
-    shared-slice-read-widened-2
-    widened-requires
-    add-low
-    mul-low
-    shared-slice-read-low
-    low-requires
-    cast-below
-    sub-trees
-    add-trees
-    add-at
-    loop-less
-    loop-again
-    returns-2)
+    (tie.spec Inv-loop μ-loop (λ c. search needs) loop-holds (λ c. omega arith) returns (λ c. omega arith) (λ c. omega arith)
+    (λ c. omega arith) (λ c. omega arith) (λ c. omega arith) (λ c. omega arith) (λ c κs. search needs) (λ c. omega arith)
+    (λ c. omega arith) (λ c. omega arith) (λ c κs. search needs) (λ c. search needs) (λ c. omega arith) add-trees (λ c. omega arith)
+    (λ c. omega arith) loop-again returns-2)

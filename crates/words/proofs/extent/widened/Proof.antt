@@ -2,22 +2,9 @@
 use mathlib.Core.Path.{ap, ap₂, _∙_}
 use Prim.Native.Nat.{ℕ, min, max}
 use borrow.Author.Needs.{needs}
-use Rattle.words.specs.Extents.{wider}
-use Rattle.words.specs.declared.extent.Extent.{Extent}
+use Rattle.words.specs.{Extents.{wider}, declared.extent.Extent.{Extent}}
 use Rattle.words.proofs.extent.widened.Statement.{statement}
 use Rattle.words.proofs.extent.widened.Tie as tie
-
-low-requires : tie.Need-low-requires
-low-requires c κs = search needs
-
-lesser-requires : tie.Need-lesser-requires
-lesser-requires c κs = search needs
-
-low-requires-2 : tie.Need-low-requires-2
-low-requires-2 c κs = search needs
-
-greater-requires : tie.Need-greater-requires
-greater-requires c κs = search needs
 
 returns : tie.Need-returns
 unfolding wider
@@ -29,4 +16,4 @@ returns c =
     (c .greater .ensures ∙ ap (max (seen .end)) (c .before .low2 .ensures))
 
 pub widened-spec : {M : Type 1} → statement M
-widened-spec = tie.close (tie.spec low-requires lesser-requires low-requires-2 greater-requires returns)
+widened-spec = tie.close (tie.spec (λ c κs. search needs) (λ c κs. search needs) (λ c κs. search needs) (λ c κs. search needs) returns)

@@ -5,15 +5,5 @@ use Rattle.molang.specs.Words.{word, lowOf}
 use Rattle.words.proofs.fields.close_word.Statement.{statement}
 use Rattle.words.proofs.fields.close_word.Tie as tie
 
-mul-result : tie.Need-mul-result
-mul-result c = search needs
-
-add-result : tie.Need-add-result
-add-result c = search needs
-
-returns : tie.Need-returns
-unfolding word lowOf
-returns c = refl
-
 pub close-word-spec : {M : Type 1} → statement M
-close-word-spec = tie.close (tie.spec mul-result add-result returns)
+close-word-spec = tie.close (tie.spec (λ c. search needs) (λ c. search needs) (λ c. unfold word lowOf in refl))

@@ -6,9 +6,5 @@ use Rattle.words.specs.Fields.{halfOf}
 use Rattle.words.proofs.fields.half.Statement.{statement}
 use Rattle.words.proofs.fields.half.Tie as tie
 
-returns : tie.Need-returns
-unfolding lowOf halfOf
-returns c = sym (mod-mod-pow (c .args .w) 13 16)
-
 pub half-spec : {M : Type 1} → statement M
-half-spec = tie.close (tie.spec returns)
+half-spec = tie.close (tie.spec (λ c. unfold lowOf halfOf in sym (mod-mod-pow (c .args .w) 13 16)))

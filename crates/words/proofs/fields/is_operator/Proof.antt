@@ -4,10 +4,6 @@ use Rattle.molang.specs.Operator.{between, isHost, isOperator}
 use Rattle.words.proofs.fields.is_operator.Statement.{statement}
 use Rattle.words.proofs.fields.is_operator.Tie as tie
 
-returns : tie.Need-returns
-unfolding isOperator
-returns c = rw (le-leb (c .before .args .op) 110 (c .if1 .taken))
-
 returns-2 : tie.Need-returns-2
 unfolding isOperator isHost between
 returns-2 c =
@@ -21,4 +17,6 @@ returns-3 c =
     rw (lt-leb op 110 (c .before .if1 .left), lt-leb 256 op (c .if2 .left))
 
 pub is-operator-spec : {M : Type 1} → statement M
-is-operator-spec = tie.close (tie.spec returns returns-2 returns-3)
+is-operator-spec =
+    tie.close
+    (tie.spec (λ c. unfold isOperator in rw (le-leb (c .before .args .op) 110 (c .if1 .taken))) returns-2 returns-3)

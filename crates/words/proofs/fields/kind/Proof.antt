@@ -4,9 +4,5 @@ use Rattle.molang.specs.Words.{kindOf}
 use Rattle.words.proofs.fields.kind.Statement.{statement}
 use Rattle.words.proofs.fields.kind.Tie as tie
 
-returns : tie.Need-returns
-unfolding kindOf
-returns c = refl
-
 pub kind-spec : {M : Type 1} → statement M
-kind-spec = tie.close (tie.spec returns)
+kind-spec = tie.close (tie.spec (λ c. unfold kindOf in refl))

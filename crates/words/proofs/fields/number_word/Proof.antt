@@ -8,18 +8,6 @@ use Rattle.molang.specs.Words.{word, operatorBits}
 use Rattle.words.proofs.fields.number_word.Statement.{statement}
 use Rattle.words.proofs.fields.number_word.Tie as tie
 
-mul-result : tie.Need-mul-result
-mul-result c = search needs
-
-mul-result-2 : tie.Need-mul-result-2
-mul-result-2 c = search needs
-
-add-result : tie.Need-add-result
-add-result c = search needs
-
-add-result-2 : tie.Need-add-result-2
-add-result-2 c = search needs
-
 returns : tie.Need-returns
 unfolding word operatorBits
 returns c =
@@ -29,4 +17,4 @@ returns c =
     rw (upper, lower) (omega arith)
 
 pub number-word-spec : {M : Type 1} → statement M
-number-word-spec = tie.close (tie.spec mul-result mul-result-2 add-result add-result-2 returns)
+number-word-spec = tie.close (tie.spec (λ c. search needs) (λ c. search needs) (λ c. search needs) (λ c. search needs) returns)

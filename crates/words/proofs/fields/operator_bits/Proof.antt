@@ -2,19 +2,10 @@
 use native.Mathlib.Omega.{arith}
 use borrow.Author.Needs.{needs}
 use Rattle.molang.specs.Words.{operatorBits}
-use Rattle.words.proofs.FieldLaws.{number-bits}
-use Rattle.words.proofs.fields.operator_bits.Statement.{statement}
+use Rattle.words.proofs.{FieldLaws.{number-bits}, fields.operator_bits.Statement.{statement}}
 use Rattle.words.proofs.fields.operator_bits.Tie as tie
 
-mul-result : tie.Need-mul-result
-mul-result c = search needs
-
-add-result : tie.Need-add-result
-add-result c = search needs
-
-returns : tie.Need-returns
-unfolding operatorBits
-returns c = omega (arith, number-bits (c .args .w))
-
 pub operator-bits-spec : {M : Type 1} → statement M
-operator-bits-spec = tie.close (tie.spec mul-result add-result returns)
+operator-bits-spec =
+    tie.close
+    (tie.spec (λ c. search needs) (λ c. search needs) (λ c. unfold operatorBits in omega (arith, number-bits (c .args .w))))

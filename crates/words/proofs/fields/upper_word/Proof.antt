@@ -5,15 +5,5 @@ use Rattle.molang.specs.Words.{word}
 use Rattle.words.proofs.fields.upper_word.Statement.{statement}
 use Rattle.words.proofs.fields.upper_word.Tie as tie
 
-mul-result : tie.Need-mul-result
-mul-result c = search needs
-
-add-result : tie.Need-add-result
-add-result c = search needs
-
-returns : tie.Need-returns
-unfolding word
-returns c = refl
-
 pub upper-word-spec : {M : Type 1} → statement M
-upper-word-spec = tie.close (tie.spec mul-result add-result returns)
+upper-word-spec = tie.close (tie.spec (λ c. search needs) (λ c. search needs) (λ c. unfold word in refl))

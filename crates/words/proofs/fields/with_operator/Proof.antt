@@ -9,18 +9,6 @@ use Rattle.words.specs.Fields.{variantOf, withOperator}
 use Rattle.words.proofs.fields.with_operator.Statement.{statement}
 use Rattle.words.proofs.fields.with_operator.Tie as tie
 
-sub-result : tie.Need-sub-result
-sub-result c = search needs
-
-mul-result : tie.Need-mul-result
-mul-result c = search needs
-
-add-result : tie.Need-add-result
-add-result c = search needs
-
-add-result-2 : tie.Need-add-result-2
-add-result-2 c = search needs
-
 returns : tie.Need-returns
 unfolding withOperator variantOf lowOf
 returns c =
@@ -29,4 +17,4 @@ returns c =
     rw kept (omega arith)
 
 pub with-operator-spec : {M : Type 1} → statement M
-with-operator-spec = tie.close (tie.spec sub-result mul-result add-result add-result-2 returns)
+with-operator-spec = tie.close (tie.spec (λ c. search needs) (λ c. search needs) (λ c. search needs) (λ c. search needs) returns)

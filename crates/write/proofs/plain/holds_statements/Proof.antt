@@ -4,9 +4,8 @@ use Prim.Native.Nat.{_-_}
 use native.Mathlib.Omega.{arith}
 use borrow.Author.Needs.{needs}
 use lib.ListN.{length}
-use Rattle.write.proofs.RootLaws.{Holding, holding-begins, holding-room, holding-few, holding-falls, holding-refused}
-use Rattle.write.proofs.RootLaws.{holding-child, holding-below, holding-ends}
-use Rattle.write.proofs.plain.holds_statements.Statement.{statement}
+use Rattle.write.proofs.RootLaws.{Holding, holding-begins, holding-room, holding-few, holding-falls, holding-refused, holding-child}
+use Rattle.write.proofs.{RootLaws.{holding-below, holding-ends}, plain.holds_statements.Statement.{statement}}
 use Rattle.write.proofs.plain.holds_statements.Tie as tie
 
 abbrev Inv-loop : tie.InvT-loop
@@ -14,9 +13,6 @@ Inv-loop tree due₀ at₀ due at = Holding tree due at
 
 abbrev μ-loop : tie.MeasureT-loop
 μ-loop tree due₀ at₀ due at = length tree - at
-
-loop-holds : tie.Need-loop-holds Inv-loop μ-loop
-loop-holds c = holding-begins (c .before .pre)
 
 view-node-requires : tie.Need-view-node-requires Inv-loop μ-loop
 view-node-requires c κs = holding-room (c .before .before .before .pre) (c .before .loop .inv) (c .loop-test .taken)
@@ -40,9 +36,6 @@ loop-again c =
     let head = view .before .before in
     holding-child (head .before .before .pre) (head .loop .inv) (view .before .loop-test .taken) (view .view-node .ensures)
     (c .before .before .if1 .taken) (c .if2 .left)
-
-sub-due : tie.Need-sub-due Inv-loop μ-loop
-sub-due c = search needs
 
 add-due : tie.Need-add-due Inv-loop μ-loop
 add-due c =
@@ -71,16 +64,5 @@ returns-2 c = holding-ends (c .before .before .before .pre) (c .before .loop .in
 pub holds-statements-spec : {M : Type 1} → statement M
 holds-statements-spec =
     tie.close
-    (tie.spec
-    Inv-loop
-    μ-loop
-    loop-holds
-    view-node-requires
-    returns
-    loop-less
-    loop-again
-    sub-due
-    add-due
-    loop-less-2
-    loop-again-2
-    returns-2)
+    (tie.spec Inv-loop μ-loop (λ c. holding-begins (c .before .pre)) view-node-requires returns loop-less loop-again (λ c. search needs)
+    add-due loop-less-2 loop-again-2 returns-2)

@@ -1,20 +1,12 @@
 -- `write::plain::is_call` meets its contract: a query, or a math call. Assumes nothing.
-use borrow.Author.Tests.{eq-eqb, ne-eqb}
+use borrow.Author.{Tests.{eq-eqb, ne-eqb}, Needs.{needs}}
 use Rattle.molang.specs.Plain.{isCall}
-use borrow.Author.Needs.{needs}
 use Rattle.write.proofs.plain.is_call.Statement.{statement}
 use Rattle.write.proofs.plain.is_call.Tie as tie
-
-is-math-call-requires : tie.Need-is-math-call-requires
-is-math-call-requires c κs = search needs
-
-returns : tie.Need-returns
-unfolding isCall
-returns c = rw (eq-eqb _ 40 (c .if1 .taken))
 
 returns-2 : tie.Need-returns-2
 unfolding isCall
 returns-2 c = rw (ne-eqb _ 40 (c .before .if1 .left)) (c .is-math-call .ensures)
 
 pub is-call-spec : {M : Type 1} → statement M
-is-call-spec = tie.close (tie.spec is-math-call-requires returns returns-2)
+is-call-spec = tie.close (tie.spec (λ c κs. search needs) (λ c. unfold isCall in rw (eq-eqb _ 40 (c .if1 .taken))) returns-2)

@@ -1,30 +1,14 @@
 -- `write::plain::is_paired` meets its contract: by the node, then by its seat. Assumes nothing.
 use mathlib.Core.Bool.{or-true}
-use borrow.Author.Tests.{eq-eqb, ne-eqb}
+use borrow.Author.{Tests.{eq-eqb, ne-eqb}, Needs.{needs}}
 use Rattle.molang.specs.Operator.{isBracket}
 use Rattle.write.specs.Seats.{isPaired}
-use Rattle.write.proofs.CaseLaws.{operand-unspared, enclosed-spared}
-use borrow.Author.Needs.{needs}
-use Rattle.write.proofs.plain.is_paired.Statement.{statement}
+use Rattle.write.proofs.{CaseLaws.{operand-unspared, enclosed-spared}, plain.is_paired.Statement.{statement}}
 use Rattle.write.proofs.plain.is_paired.Tie as tie
-
-returns : tie.Need-returns
-unfolding isPaired isBracket
-returns c = rw (eq-eqb _ 0 (c .if1 .taken))
 
 returns-2 : tie.Need-returns-2
 unfolding isPaired isBracket
 returns-2 c = rw (ne-eqb _ 0 (c .before .if1 .left), eq-eqb _ 4 (c .if2 .taken))
-
-enum-told : tie.Need-enum-told
-enum-told c = search needs
-
-enum-told-2 : tie.Need-enum-told-2
-enum-told-2 c = search needs
-
-returns-3 : tie.Need-returns-3
-unfolding isPaired isBracket
-returns-3 c = rw (enclosed-spared _ _ (c .match .keys1), or-true, or-true)
 
 returns-4 : tie.Need-returns-4
 unfolding isPaired isBracket
@@ -39,4 +23,7 @@ unfolding isPaired isBracket
 returns-6 c = rw (operand-unspared _ _ (c .match .keys4), ne-eqb _ 0 (c .before .before .if1 .left), ne-eqb _ 4 (c .before .if2 .left))
 
 pub is-paired-spec : {M : Type 1} → statement M
-is-paired-spec = tie.close (tie.spec returns returns-2 enum-told enum-told-2 returns-3 returns-4 returns-5 returns-6)
+is-paired-spec =
+    tie.close
+    (tie.spec (λ c. unfold isPaired isBracket in rw (eq-eqb _ 0 (c .if1 .taken))) returns-2 (λ c. search needs) (λ c. search needs)
+    (λ c. unfold isPaired isBracket in rw (enclosed-spared _ _ (c .match .keys1), or-true, or-true)) returns-4 returns-5 returns-6)

@@ -1,11 +1,8 @@
 -- `write::plain::is_plain_binary` meets its contract: the numbers of each arm, and those between them. Assumes nothing.
-use mathlib.Core.Bool.{and-false}
-use mathlib.Core.List.{[], _∷_}
-use mathlib.Core.Logic.{⊎-elim}
+use mathlib.Core.{Bool.{and-false}, List.{[], _∷_}, Logic.{⊎-elim}}
 use native.Mathlib.Omega.{arith}
 use borrow.Author.Tests.{ne-eqb, lt-leb}
-use Rattle.molang.specs.Operator.{between}
-use Rattle.molang.specs.Plain.{isPlainBinary}
+use Rattle.molang.specs.{Operator.{between}, Plain.{isPlainBinary}}
 use Rattle.ops.proofs.OperatorLaws.{true-at, none-of}
 use Rattle.write.proofs.plain.is_plain_binary.Statement.{statement}
 use Rattle.write.proofs.plain.is_plain_binary.Tie as tie

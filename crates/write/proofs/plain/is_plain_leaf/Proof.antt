@@ -2,15 +2,10 @@
 use mathlib.Core.Bool.{and-false, or-true}
 use native.Mathlib.Omega.{arith}
 use borrow.Author.Tests.{ne-eqb, le-leb, lt-leb}
-use Rattle.molang.specs.Operator.{between, isHost}
-use Rattle.molang.specs.Plain.{isPlainLeaf}
+use Rattle.molang.specs.{Operator.{between, isHost}, Plain.{isPlainLeaf}}
 use Rattle.ops.proofs.OperatorLaws.{true-at, false-at}
 use Rattle.write.proofs.plain.is_plain_leaf.Statement.{statement}
 use Rattle.write.proofs.plain.is_plain_leaf.Tie as tie
-
-returns : tie.Need-returns
-unfolding isPlainLeaf between
-returns c = rw (c .match .keys1)
 
 returns-2 : tie.Need-returns-2
 unfolding isPlainLeaf between
@@ -77,10 +72,6 @@ returns-9 c =
       lt-leb n 1023 (omega arith),
     ) (simp and-false)
 
-returns-10 : tie.Need-returns-10
-unfolding isPlainLeaf between
-returns-10 c = rw (c .match .keys2)
-
 returns-11 : tie.Need-returns-11
 unfolding isPlainLeaf between
 returns-11 c = true-at isPlainLeaf 61 2 tt (c .before .before .before .before .before .before .before .args .op) (omega arith) (omega arith)
@@ -88,15 +79,5 @@ returns-11 c = true-at isPlainLeaf 61 2 tt (c .before .before .before .before .b
 pub is-plain-leaf-spec : {M : Type 1} → statement M
 is-plain-leaf-spec =
     tie.close
-    (tie.spec
-    returns
-    returns-2
-    returns-3
-    returns-4
-    returns-5
-    returns-6
-    returns-7
-    returns-8
-    returns-9
-    returns-10
-    returns-11)
+    (tie.spec (λ c. unfold isPlainLeaf between in rw (c .match .keys1)) returns-2 returns-3 returns-4 returns-5 returns-6 returns-7
+    returns-8 returns-9 (λ c. unfold isPlainLeaf between in rw (c .match .keys2)) returns-11)

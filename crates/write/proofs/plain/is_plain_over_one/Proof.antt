@@ -1,29 +1,10 @@
 -- `write::plain::is_plain_over_one` meets its contract: by the operator, then by the first child. Assumes nothing.
-use mathlib.Core.Path.{sym, _∙_}
-use mathlib.Core.Bool.{or-false}
-use borrow.Author.Tests.{ne-eqb}
-use Rattle.molang.specs.Operator.{any, isOneOf, between, isMathCall}
-use Rattle.molang.specs.Plain.{isCall, isUnderSemicolon}
+use mathlib.Core.{Path.{sym, _∙_}, Bool.{or-false}}
+use borrow.Author.{Tests.{ne-eqb}, Needs.{needs}}
+use Rattle.molang.specs.{Operator.{any, isOneOf, between, isMathCall}, Plain.{isCall, isUnderSemicolon}}
 use Rattle.write.specs.Seats.{isPrefix, holdsOne, plainBy}
-use borrow.Author.Needs.{needs}
 use Rattle.write.proofs.plain.is_plain_over_one.Statement.{statement}
 use Rattle.write.proofs.plain.is_plain_over_one.Tie as tie
-
-is-prefix-requires : tie.Need-is-prefix-requires
-is-prefix-requires c κs = search needs
-
-returns : tie.Need-returns
-unfolding plainBy
-returns c = rw (sym (c .before .is-prefix .ensures) ∙ c .if1 .taken)
-
-is-under-semicolon-requires : tie.Need-is-under-semicolon-requires
-is-under-semicolon-requires c κs = search needs
-
-is-statement-requires : tie.Need-is-statement-requires
-is-statement-requires c κs = search needs
-
-is-call-over-requires : tie.Need-is-call-over-requires
-is-call-over-requires c κs = search needs
 
 returns-2 : tie.Need-returns-2
 unfolding plainBy isPrefix isOneOf any isCall isMathCall between holdsOne isUnderSemicolon
@@ -44,12 +25,5 @@ returns-4 c =
 pub is-plain-over-one-spec : {M : Type 1} → statement M
 is-plain-over-one-spec =
     tie.close
-    (tie.spec
-    is-prefix-requires
-    returns
-    is-under-semicolon-requires
-    is-statement-requires
-    is-call-over-requires
-    returns-2
-    returns-3
-    returns-4)
+    (tie.spec (λ c κs. search needs) (λ c. unfold plainBy in rw (sym (c .before .is-prefix .ensures) ∙ c .if1 .taken))
+    (λ c κs. search needs) (λ c κs. search needs) (λ c κs. search needs) returns-2 returns-3 returns-4)

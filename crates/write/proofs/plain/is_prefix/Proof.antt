@@ -19,13 +19,9 @@ returns-2 c =
     let n = c .before .before .before .args .op in
     rw (ne-eqb n 4 (λ e. omega arith), ne-eqb n 6 (λ e. omega arith), ne-eqb n 7 (λ e. omega arith))
 
-returns-3 : tie.Need-returns-3
-unfolding isPrefix isOneOf any
-returns-3 c = rw (c .match .keys1)
-
 returns-4 : tie.Need-returns-4
 unfolding isPrefix isOneOf any
 returns-4 c = true-at isPrefix 6 2 tt (c .before .before .before .args .op) (omega arith) (omega arith)
 
 pub is-prefix-spec : {M : Type 1} → statement M
-is-prefix-spec = tie.close (tie.spec returns returns-2 returns-3 returns-4)
+is-prefix-spec = tie.close (tie.spec returns returns-2 (λ c. unfold isPrefix isOneOf any in rw (c .match .keys1)) returns-4)

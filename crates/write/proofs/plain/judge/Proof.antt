@@ -2,30 +2,16 @@
 -- Assumes nothing.
 use mathlib.Core.Path.{sym, _∙_}
 use native.Mathlib.Omega.{arith}
-use borrow.Author.Needs.{needs}
-use borrow.Author.Tests.{not-true, not-false}
+use borrow.Author.{Needs.{needs}, Tests.{not-true, not-false}}
 use Rattle.write.specs.Scripts.{anExpression, aScript}
 use Rattle.shape.proofs.RowLaws.{shaped-room}
-use Rattle.write.proofs.JudgeLaws.{root-refused}
-use Rattle.write.proofs.plain.judge.Statement.{statement}
+use Rattle.write.proofs.{JudgeLaws.{root-refused}, plain.judge.Statement.{statement}}
 use Rattle.write.proofs.plain.judge.Tie as tie
-
-shared-slice-read-operator : tie.Need-shared-slice-read-operator
-shared-slice-read-operator c = omega (arith, shaped-room (c .before .before .pre .shaped))
-
-operator-requires : tie.Need-operator-requires
-operator-requires c κs = search needs
 
 judge-from-requires : tie.Need-judge-from-requires
 judge-from-requires c κs =
     let read = c .before in
     (read .before .before .before .pre, anExpression (λ e. c .if1 .taken (read .operator .ensures ∙ e)))
-
-returns : tie.Need-returns
-returns c = c .judge-from .ensures
-
-holds-statements-requires : tie.Need-holds-statements-requires
-holds-statements-requires c κs = c .before .before .before .before .pre
 
 returns-2 : tie.Need-returns-2
 returns-2 c =
@@ -36,12 +22,6 @@ returns-2 c =
 shared-slice-read-low : tie.Need-shared-slice-read-low
 shared-slice-read-low c = omega (arith, shaped-room (c .before .before .before .before .before .before .before .pre .shaped))
 
-low-requires : tie.Need-low-requires
-low-requires c κs = search needs
-
-cast-statements : tie.Need-cast-statements
-cast-statements c = search needs
-
 judge-from-requires-2 : tie.Need-judge-from-requires-2
 judge-from-requires-2 c κs =
     let held = c .before .before .before in
@@ -51,21 +31,9 @@ judge-from-requires-2 c κs =
           (sym (held .holds-statements .ensures) ∙ not-false _ (c .before .before .if2 .left))),
     )
 
-returns-3 : tie.Need-returns-3
-returns-3 c = c .judge-from2 .ensures
-
 pub judge-spec : {M : Type 1} → statement M
 judge-spec =
     tie.close
-    (tie.spec
-    shared-slice-read-operator
-    operator-requires
-    judge-from-requires
-    returns
-    holds-statements-requires
-    returns-2
-    shared-slice-read-low
-    low-requires
-    cast-statements
-    judge-from-requires-2
-    returns-3)
+    (tie.spec (λ c. omega (arith, shaped-room (c .before .before .pre .shaped))) (λ c κs. search needs) judge-from-requires
+    (λ c. c .judge-from .ensures) (λ c κs. c .before .before .before .before .pre) returns-2 shared-slice-read-low (λ c κs. search needs)
+    (λ c. search needs) judge-from-requires-2 (λ c. c .judge-from2 .ensures))

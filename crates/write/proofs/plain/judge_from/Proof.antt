@@ -1,16 +1,12 @@
 -- `write::plain::judge_from` meets its contract. The loop's invariant is `Judging`; the measure is the words that are left. Assumes
 -- nothing.
 use Prim.Native.Nat.{_+_, _-_, _≤_}
-use mathlib.Core.Path.{_≡_, refl, ap, sym, _∙_}
-use mathlib.Core.Bool.{true}
+use mathlib.Core.{Path.{_≡_, refl, ap, sym, _∙_}, Bool.{true}}
 use native.Mathlib.Omega.{arith}
-use borrow.Author.Needs.{needs}
-use borrow.Author.Tests.{not-true, not-false}
+use borrow.Author.{Needs.{needs}, Tests.{not-true, not-false}}
 use lib.ListN.{length, getD}
 use Rattle.molang.specs.WriteEntry.{mostNodes}
-use Rattle.write.specs.declared.plain.Seat.the-variants.{Enclosed}
-use Rattle.write.specs.declared.reader.NodeView.{NodeView}
-use Rattle.write.specs.Seats.{plainBy}
+use Rattle.write.specs.{declared.plain.Seat.the-variants.{Enclosed}, declared.reader.NodeView.{NodeView}, Seats.{plainBy}}
 use Rattle.write.specs.Reading.{operatorAt}
 use Rattle.write.proofs.JudgeLaws.{Judging, Turn, few-tokens, begins-early, judging-begins, judging-room, judging-room-two}
 use Rattle.write.proofs.JudgeLaws.{judging-refused, judging-none, judging-one, judging-two, judging-ends, falls}
@@ -66,38 +62,11 @@ plain : (c : tie.Else1 Inv-loop μ-loop) →
     plainBy (getD (l .waiting) (l .top - 1) Enclosed) (l .next) (seen .children) (seen .next) ≡ true
 plain c = sym (c .before .is-plain .ensures) ∙ not-false _ (c .if1 .left)
 
-array-set-from-waiting : tie.Need-array-set-from-waiting Inv-loop μ-loop
-array-set-from-waiting c = search needs
-
-mul-at : tie.Need-mul-at Inv-loop μ-loop
-mul-at c = omega (arith, begins-early (c .before .pre .1))
-
-operator-at-requires : tie.Need-operator-at-requires Inv-loop μ-loop
-operator-at-requires c κs = search needs
-
 loop-holds : tie.Need-loop-holds Inv-loop μ-loop
 loop-holds c = (judging-begins (c .before .before .pre .0) (c .before .before .pre .1), c .operator-at .ensures)
 
-view-node-requires : tie.Need-view-node-requires Inv-loop μ-loop
-view-node-requires c κs = room c .0
-
-sub-top : tie.Need-sub-top Inv-loop μ-loop
-sub-top c = room (c .before) .1
-
-array-copy-out-seat : tie.Need-array-copy-out-seat Inv-loop μ-loop
-array-copy-out-seat c = omega (arith, room (c .before) .2)
-
-is-plain-requires : tie.Need-is-plain-requires Inv-loop μ-loop
-is-plain-requires c κs = search needs
-
 returns : tie.Need-returns Inv-loop μ-loop
 returns c = judging-refused (turn (c .before .before)) (sym (c .before .is-plain .ensures) ∙ not-true _ (c .if1 .taken))
-
-add-node : tie.Need-add-node Inv-loop μ-loop
-add-node c = search needs
-
-tokens-for-requires : tie.Need-tokens-for-requires Inv-loop μ-loop
-tokens-for-requires c κs = search needs
 
 add-tokens : tie.Need-add-tokens Inv-loop μ-loop
 add-tokens c =
@@ -112,17 +81,11 @@ add-tokens c =
       few-tokens seat (head .loop .next) (seen .children),
     )
 
-seat-below-requires : tie.Need-seat-below-requires Inv-loop μ-loop
-seat-below-requires c κs = search needs
-
 array-set-from-waiting-2 : tie.Need-array-set-from-waiting-2 Inv-loop μ-loop
 array-set-from-waiting-2 c = omega (arith, room (c .before .before .before .before .before .before .before) .2)
 
 add-top : tie.Need-add-top Inv-loop μ-loop
 add-top c = omega (arith, room (c .before .before .before .before .before .before .before) .2)
-
-loop-less : tie.Need-loop-less Inv-loop μ-loop
-loop-less c = falls (turn (c .before .before .before .before .before))
 
 loop-again : tie.Need-loop-again Inv-loop μ-loop
 loop-again c =
@@ -131,14 +94,8 @@ loop-again c =
       carried (c .before .before .before .before .before),
     )
 
-seat-of-right-requires : tie.Need-seat-of-right-requires Inv-loop μ-loop
-seat-of-right-requires c κs = search needs
-
 array-set-from-waiting-3 : tie.Need-array-set-from-waiting-3 Inv-loop μ-loop
 array-set-from-waiting-3 c = omega (arith, room (c .before .before .before .before .before .before .before .before) .2)
-
-seat-of-left-requires : tie.Need-seat-of-left-requires Inv-loop μ-loop
-seat-of-left-requires c κs = search needs
 
 add-waiting : tie.Need-add-waiting Inv-loop μ-loop
 add-waiting c = omega (arith, room (c .before .before .before .before .before .before .before .before .before) .2)
@@ -162,9 +119,6 @@ loop-again-2 c =
       carried (judged .before .before),
     )
 
-loop-less-3 : tie.Need-loop-less-3 Inv-loop μ-loop
-loop-less-3 c = falls (turn (c .before .before .before .before .before))
-
 loop-again-3 : tie.Need-loop-again-3 Inv-loop μ-loop
 loop-again-3 c =
     let judged = c .before .before .before in
@@ -173,40 +127,13 @@ loop-again-3 c =
       carried (judged .before .before),
     )
 
-returns-2 : tie.Need-returns-2 Inv-loop μ-loop
-returns-2 c = judging-ends (c .before .loop .inv .0) (c .loop-test .left)
-
 pub judge-from-spec : {M : Type 1} → statement M
 judge-from-spec =
     tie.close
-    (tie.spec
-    Inv-loop
-    μ-loop
-    array-set-from-waiting
-    mul-at
-    operator-at-requires
-    loop-holds
-    view-node-requires
-    sub-top
-    array-copy-out-seat
-    is-plain-requires
-    returns
-    add-node
-    tokens-for-requires
-    add-tokens
-    seat-below-requires
-    array-set-from-waiting-2
-    add-top
-    loop-less
-    loop-again
-    seat-of-right-requires
-    array-set-from-waiting-3
-    seat-of-left-requires
-    add-waiting
-    array-set-from-waiting-4
-    add-top-2
-    loop-less-2
-    loop-again-2
-    loop-less-3
-    loop-again-3
-    returns-2)
+    (tie.spec Inv-loop μ-loop (λ c. search needs) (λ c. omega (arith, begins-early (c .before .pre .1))) (λ c κs. search needs) loop-holds
+    (λ c κs. room c .0) (λ c. room (c .before) .1) (λ c. omega (arith, room (c .before) .2)) (λ c κs. search needs) returns
+    (λ c. search needs) (λ c κs. search needs) add-tokens (λ c κs. search needs) array-set-from-waiting-2 add-top
+    (λ c. falls (turn (c .before .before .before .before .before))) loop-again (λ c κs. search needs) array-set-from-waiting-3
+    (λ c κs. search needs) add-waiting array-set-from-waiting-4 add-top-2 loop-less-2 loop-again-2
+    (λ c. falls (turn (c .before .before .before .before .before))) loop-again-3
+    (λ c. judging-ends (c .before .loop .inv .0) (c .loop-test .left)))

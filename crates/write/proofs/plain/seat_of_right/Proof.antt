@@ -4,13 +4,8 @@ use Rattle.write.specs.Seats.{rightSeat}
 use Rattle.write.proofs.plain.seat_of_right.Statement.{statement}
 use Rattle.write.proofs.plain.seat_of_right.Tie as tie
 
-returns : tie.Need-returns
-unfolding rightSeat
-returns c = rw (eq-eqb _ 59 (c .if1 .taken), rightSeat)
-
-returns-2 : tie.Need-returns-2
-unfolding rightSeat
-returns-2 c = rw (ne-eqb _ 59 (c .if1 .left), rightSeat)
-
 pub seat-of-right-spec : {M : Type 1} → statement M
-seat-of-right-spec = tie.close (tie.spec returns returns-2)
+seat-of-right-spec =
+    tie.close
+    (tie.spec (λ c. unfold rightSeat in rw (eq-eqb _ 59 (c .if1 .taken), rightSeat))
+    (λ c. unfold rightSeat in rw (ne-eqb _ 59 (c .if1 .left), rightSeat)))

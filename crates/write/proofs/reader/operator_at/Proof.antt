@@ -6,23 +6,9 @@ use borrow.Author.Needs.{needs}
 use Rattle.write.proofs.reader.operator_at.Statement.{statement}
 use Rattle.write.proofs.reader.operator_at.Tie as tie
 
-mul-operator : tie.Need-mul-operator
-mul-operator c = search needs
-
-shared-slice-read-operator : tie.Need-shared-slice-read-operator
-shared-slice-read-operator c = search needs
-
-operator-requires : tie.Need-operator-requires
-operator-requires c κs = search needs
-
-returns : tie.Need-returns
-returns c = search needs
-
 returns-2 : tie.Need-returns-2
 unfolding operatorOf lowOf numberIn
 returns-2 c = rw (List·getD-eq-default (c .before .before .args .words .now) 0 (c .if1 .left))
 
 pub operator-at-spec : {M : Type 1} → statement M
-operator-at-spec =
-    tie.close
-    (tie.spec mul-operator shared-slice-read-operator operator-requires returns returns-2)
+operator-at-spec = tie.close (tie.spec (λ c. search needs) (λ c. search needs) (λ c κs. search needs) (λ c. search needs) returns-2)

@@ -2,15 +2,10 @@
 -- count: a node's operand has a node less, and an operand's node as many. Each answer is one of StepLaws, handed what the calls on the way
 -- gave. Assumes nothing.
 use Prim.Native.Nat.{ℕ, _+_, _-_, _*_, _≤_, _<_}
-use mathlib.Core.Path.{_≡_, refl, ap, sym, _∙_}
+use mathlib.Core.{Path.{_≡_, refl, ap, sym, _∙_}, List.{List}}
 use native.Mathlib.Omega.{arith}
-use borrow.Author.Needs.{needs}
-use borrow.Author.Tests.{not-true, not-false}
-use borrow.Fn.Kinds.{In}
-use borrow.Fn.PlainCycle.{Measures, is, falls, and}
-use lib.ListN.{length, drop, getD}
-use mathlib.Core.List.{List}
-use lib.Seq.{length-take-le}
+use borrow.{Author.Needs.{needs}, Author.Tests.{not-true, not-false}, Fn.Kinds.{In}, Fn.PlainCycle.{Measures, is, falls, and}}
+use lib.{ListN.{length, drop, getD}, Seq.{length-take-le}}
 use Rattle.words.proofs.fields.low.Reads as low-reads
 use Rattle.words.proofs.fields.operator.Reads as operator-reads
 use Rattle.words.proofs.tokens.TokenWords.at.Reads as at-reads
@@ -31,26 +26,18 @@ use Rattle.write.proofs.spell.+write_node+write_operand.Lts-write_node 
 use Rattle.write.proofs.spell.write_operand.Reads as write-operand
 use Rattle.write.proofs.spell.write_operand.Kinds as write-operand-kinds
 use Rattle.write.proofs.spell.+write_node+write_operand.Lts-write_operand as write-operand-lts
-use Rattle.write.proofs.spell.+write_node+write_operand.{statement}
-use Rattle.write.proofs.spell.+write_node+write_operand.Tie.{close}
+use Rattle.write.proofs.{spell.+write_node+write_operand.{statement}, spell.+write_node+write_operand.Tie.{close}}
 use Rattle.write.proofs.CaseLaws.{leaf-unpaired}
-use Rattle.write.proofs.StepLaws.{tail-part, nodesLeft}
-use Rattle.molang.specs.Words.{lowOf}
-use Rattle.words.specs.Fields.{operatorOf}
-use Rattle.shape.specs.Shaped.{countIndex}
-use Rattle.write.specs.Seats.{rightSeat}
-use Rattle.write.specs.Spelling.{nodeWritten}
-use Rattle.write.specs.Spine.{Opens, theRoot}
-use Rattle.write.proofs.SpineLaws.{Climbing, room-opens, leaf-within, leaf-place}
-use Rattle.write.proofs.SpineLaws.{leaf-room, leaf-ends, climbing-begins, climbing-length}
-use Rattle.write.proofs.SpineLaws.{up-within, up-longer, up-front, own-long, count-here, operator-in, placed, pair-asked}
-use Rattle.write.proofs.SpineLaws.{token-room, closer-room, climbed-one, between-room}
-use Rattle.write.proofs.SpineLaws.{next-within, right-fewer, right-room, next-ends}
-use Rattle.write.proofs.SpineLaws.{climbed-two, climbed-within, climbed-writes, climbed-spans}
-use Rattle.write.proofs.StepLaws.{operand-long, alone-room, alone-writes, open-room, inner-room, close-room}
+use Rattle.write.proofs.StepLaws.{tail-part, nodesLeft, operand-long, alone-room, alone-writes, open-room, inner-room, close-room}
 use Rattle.write.proofs.StepLaws.{pair-spans, pair-length, pair-writes}
-use Rattle.words.specs.Tokens.{nodeLength}
-use Rattle.write.specs.Spelling.{seen}
+use Rattle.write.proofs.SpineLaws.{Climbing, room-opens, leaf-within, leaf-place, leaf-room, leaf-ends, climbing-begins}
+use Rattle.write.proofs.SpineLaws.{climbing-length, up-within, up-longer, up-front, own-long, count-here, operator-in, placed}
+use Rattle.write.proofs.SpineLaws.{pair-asked, token-room, closer-room, climbed-one, between-room, next-within, right-fewer}
+use Rattle.write.proofs.SpineLaws.{right-room, next-ends, climbed-two, climbed-within, climbed-writes, climbed-spans}
+use Rattle.molang.specs.Words.{lowOf}
+use Rattle.words.specs.{Fields.{operatorOf}, Tokens.{nodeLength}}
+use Rattle.shape.specs.Shaped.{countIndex}
+use Rattle.write.specs.{Seats.{rightSeat}, Spelling.{nodeWritten, seen}, Spine.{Opens, theRoot}}
 
 abbrev μ-write-node : Measures 5 write-node-kinds.ps ℕ
 μ-write-node κs a = 2 * nodesLeft (a .0 .now)

@@ -5,8 +5,7 @@ use mathlib.Core.Path.{_≡_, sym, _∙_}
 use native.Mathlib.Omega.{arith}
 use borrow.Author.Needs.{needs}
 use lib.ListN.{length}
-use Rattle.write.specs.Reading.{childrenAt}
-use Rattle.write.specs.Spine.{hasPair, Spine, theRoot, firstChild}
+use Rattle.write.specs.{Reading.{childrenAt}, Spine.{hasPair, Spine, theRoot, firstChild}}
 use Rattle.write.proofs.SpineLaws.{opens-with, spine-long, spine-longer, spine-front, front-few}
 use Rattle.write.proofs.spell.descend.Statement.{statement}
 use Rattle.write.proofs.spell.descend.Tie as tie
@@ -16,15 +15,6 @@ Inv-loop words node₀ front₀ children₀ node front children = Spine words no
 
 abbrev μ-loop : tie.MeasureT-loop
 μ-loop words node₀ front₀ children₀ node front children = length words - node
-
-shared-slice-read-low : tie.Need-shared-slice-read-low Inv-loop μ-loop
-shared-slice-read-low c = omega (arith, opens-with (c .before .before .pre) .long)
-
-low-requires : tie.Need-low-requires Inv-loop μ-loop
-low-requires c κs = search needs
-
-loop-holds : tie.Need-loop-holds Inv-loop μ-loop
-loop-holds c = (theRoot, c .low .ensures)
 
 front-at-requires : tie.Need-front-at-requires Inv-loop μ-loop
 front-at-requires c κs =
@@ -66,9 +56,6 @@ shared-slice-read-low-2 c =
     in
     omega (arith, longer)
 
-low-requires-2 : tie.Need-low-requires-2 Inv-loop μ-loop
-low-requires-2 c κs = search needs
-
 loop-less : tie.Need-loop-less Inv-loop μ-loop
 loop-less c =
     let turn = c .before .before .before in
@@ -88,19 +75,6 @@ returns c = (c .before .loop .inv .0, sym (c .before .loop .inv .1) ∙ c .loop-
 pub descend-spec : {M : Type 1} → statement M
 descend-spec =
     tie.close
-    (tie.spec
-    Inv-loop
-    μ-loop
-    shared-slice-read-low
-    low-requires
-    loop-holds
-    front-at-requires
-    add-front
-    add-node
-    add-low
-    mul-low
-    shared-slice-read-low-2
-    low-requires-2
-    loop-less
-    loop-again
-    returns)
+    (tie.spec Inv-loop μ-loop (λ c. omega (arith, opens-with (c .before .before .pre) .long)) (λ c κs. search needs)
+    (λ c. (theRoot, c .low .ensures)) front-at-requires add-front add-node add-low mul-low shared-slice-read-low-2 (λ c κs. search needs)
+    loop-less loop-again returns)

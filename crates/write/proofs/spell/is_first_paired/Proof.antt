@@ -6,13 +6,6 @@ use Rattle.write.proofs.SpineLaws.{first-of-two, first-of-one, first-pa
 use Rattle.write.proofs.spell.is_first_paired.Statement.{statement}
 use Rattle.write.proofs.spell.is_first_paired.Tie as tie
 
-returns : tie.Need-returns
-returns c = rw (leaf-unpaired _ _ _ (c .if1 .taken))
-
-returns-2 : tie.Need-returns-2
-unfolding isBracket
-returns-2 c = rw (bracket-unpaired _ _ _ (eq-eqb _ 4 (c .if2 .taken)))
-
 returns-3 : tie.Need-returns-3
 returns-3 c =
     rw (
@@ -38,4 +31,7 @@ returns-5 c =
     )
 
 pub is-first-paired-spec : {M : Type 1} → statement M
-is-first-paired-spec = tie.close (tie.spec returns returns-2 returns-3 returns-4 returns-5)
+is-first-paired-spec =
+    tie.close
+    (tie.spec (λ c. rw (leaf-unpaired _ _ _ (c .if1 .taken)))
+    (λ c. unfold isBracket in rw (bracket-unpaired _ _ _ (eq-eqb _ 4 (c .if2 .taken)))) returns-3 returns-4 returns-5)

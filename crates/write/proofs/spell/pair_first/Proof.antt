@@ -5,9 +5,6 @@ use borrow.Author.Needs.{needs}
 use Rattle.write.proofs.spell.pair_first.Statement.{statement}
 use Rattle.write.proofs.spell.pair_first.Tie as tie
 
-has-pair-requires : tie.Need-has-pair-requires
-has-pair-requires c κs = search needs
-
 sub-opener : tie.Need-sub-opener
 sub-opener c = c .before .before .before .before .pre .1 (sym (c .before .has-pair .ensures) ∙ c .if1 .taken) .0
 
@@ -16,9 +13,6 @@ put-pair-requires c κs =
     let paired = c .before .before in
     let room = paired .before .before .before .before .pre .1 (sym (paired .before .has-pair .ensures) ∙ paired .if1 .taken) in
     (omega (arith, room .0, room .1), room .2)
-
-same-length : tie.Need-same-length
-same-length c = search needs
 
 returns : tie.Need-returns
 returns c =
@@ -29,4 +23,4 @@ returns-2 : tie.Need-returns-2
 returns-2 c = rw (sym (c .before .has-pair .ensures) ∙ c .if1 .left) (refl, omega arith)
 
 pub pair-first-spec : {M : Type 1} → statement M
-pair-first-spec = tie.close (tie.spec has-pair-requires sub-opener put-pair-requires same-length returns returns-2)
+pair-first-spec = tie.close (tie.spec (λ c κs. search needs) sub-opener put-pair-requires (λ c. search needs) returns returns-2)

@@ -1,25 +1,11 @@
 -- `write::spell::put_closer` meets its contract: a bracket has a closer, no other node has. Assumes nothing.
 use mathlib.Core.Path.{sym, ap, _∙_}
-use native.Mathlib.Nat.{add-zero}
-use native.Mathlib.Omega.{arith}
+use native.Mathlib.{Nat.{add-zero}, Omega.{arith}}
 use lib.ListN.{length}
 use Rattle.words.proofs.RecordLaws.{none-laid}
-use Rattle.write.proofs.SpellLaws.{bracket-closer, no-closer}
+use Rattle.write.proofs.{SpellLaws.{bracket-closer, no-closer}, spell.put_closer.Statement.{statement}}
 use borrow.Author.Needs.{needs}
-use Rattle.write.proofs.spell.put_closer.Statement.{statement}
 use Rattle.write.proofs.spell.put_closer.Tie as tie
-
-shared-slice-read-operator : tie.Need-shared-slice-read-operator
-shared-slice-read-operator c = search needs
-
-operator-requires : tie.Need-operator-requires
-operator-requires c κs = search needs
-
-shared-slice-read-close : tie.Need-shared-slice-read-close
-shared-slice-read-close c = search needs
-
-spanning-requires : tie.Need-spanning-requires
-spanning-requires c κs = search needs
 
 put-requires : tie.Need-put-requires
 put-requires c κs =
@@ -27,9 +13,6 @@ put-requires c κs =
     let start = taken .before .before .before .before .before in
     let closer = bracket-closer (start .args .words .now) (sym (taken .before .operator .ensures) ∙ taken .if1 .taken) in
     omega (arith, start .pre .1, ap length closer)
-
-same-length : tie.Need-same-length
-same-length c = search needs
 
 returns : tie.Need-returns
 returns c =
@@ -48,12 +31,5 @@ returns-2 c =
 pub put-closer-spec : {M : Type 1} → statement M
 put-closer-spec =
     tie.close
-    (tie.spec
-    shared-slice-read-operator
-    operator-requires
-    shared-slice-read-close
-    spanning-requires
-    put-requires
-    same-length
-    returns
-    returns-2)
+    (tie.spec (λ c. search needs) (λ c κs. search needs) (λ c. search needs) (λ c κs. search needs) put-requires (λ c. search needs)
+    returns returns-2)

@@ -4,15 +4,6 @@ use borrow.Author.Needs.{needs}
 use Rattle.write.proofs.spell.put_token.Statement.{statement}
 use Rattle.write.proofs.spell.put_token.Tie as tie
 
-at-requires : tie.Need-at-requires
-at-requires c κs = search needs
-
-put-requires : tie.Need-put-requires
-put-requires c κs = search needs
-
-same-length : tie.Need-same-length
-same-length c = search needs
-
 returns : tie.Need-returns
 unfolding firstFive
 returns c =
@@ -20,4 +11,4 @@ returns c =
     (rw (put .before .at .ensures) at (put .put .ensures .0), put .put .ensures .1)
 
 pub put-token-spec : {M : Type 1} → statement M
-put-token-spec = tie.close (tie.spec at-requires put-requires same-length returns)
+put-token-spec = tie.close (tie.spec (λ c κs. search needs) (λ c κs. search needs) (λ c. search needs) returns)

@@ -6,8 +6,8 @@ use lib.Seq.{length-take-le}
 use Rattle.words.specs.Tokens.{nodeLength}
 use Rattle.write.specs.Spelling.{seen}
 use Rattle.write.proofs.StepLaws.{node-long, none-token, none-closer, none-spans, none-length, none-writes}
-use borrow.Author.Needs.{needs}
 use Rattle.write.proofs.spell.write_leaf.Statement.{statement}
+use borrow.Author.Needs.{needs}
 use Rattle.write.proofs.spell.write_leaf.Tie as tie
 
 shared-slice-read-widen : tie.Need-shared-slice-read-widen
@@ -19,9 +19,6 @@ shared-slice-read-widen-2 : tie.Need-shared-slice-read-widen-2
 shared-slice-read-widen-2 c =
     let start = c .before .before .before .before .before .before in
     omega (arith, node-long (start .pre .0))
-
-widen-requires : tie.Need-widen-requires
-widen-requires c κs = search needs
 
 put-token-requires : tie.Need-put-token-requires
 put-token-requires c κs =
@@ -74,12 +71,5 @@ returns c =
 pub write-leaf-spec : {M : Type 1} → statement M
 write-leaf-spec =
     tie.close
-    (tie.spec
-    shared-slice-read-widen
-    shared-slice-read-widen-2
-    widen-requires
-    put-token-requires
-    put-closer-requires
-    slice-aggregate-result
-    same-length
-    returns)
+    (tie.spec shared-slice-read-widen shared-slice-read-widen-2 (λ c κs. search needs) put-token-requires put-closer-requires
+    slice-aggregate-result same-length returns)

@@ -1,28 +1,15 @@
 -- `write::statements::write_statement` meets its contract: what the statement holds, then its semicolon. Assumes nothing.
 use native.Mathlib.Omega.{arith}
 use borrow.Author.Needs.{needs}
-use Rattle.write.proofs.StatementLaws.{statement-long, held-room, semicolon-long, semicolon-room, statement-within}
-use Rattle.write.proofs.StatementLaws.{statement-list, statement-writes}
-use Rattle.write.proofs.statements.write_statement.Statement.{statement}
+use Rattle.write.proofs.StatementLaws.{statement-long, held-room, semicolon-long, semicolon-room, statement-within, statement-list}
+use Rattle.write.proofs.{StatementLaws.{statement-writes}, statements.write_statement.Statement.{statement}}
 use Rattle.write.proofs.statements.write_statement.Tie as tie
-
-sub-held : tie.Need-sub-held
-sub-held c = statement-long (c .before .before .pre)
-
-part-held-start : tie.Need-part-held-start
-part-held-start c = statement-long (c .before .before .pre)
-
-part-held-end : tie.Need-part-held-end
-part-held-end c = omega arith
 
 write-node-requires : tie.Need-write-node-requires
 write-node-requires c κs = held-room (c .before .before .before .before .before .before .before .pre)
 
 at-requires : tie.Need-at-requires
 at-requires c κs = semicolon-long (c .before .before .before .before .before .before .before .before .before .before .before .before .pre)
-
-bare-requires : tie.Need-bare-requires
-bare-requires c κs = search needs
 
 put-requires : tie.Need-put-requires
 put-requires c κs =
@@ -54,14 +41,5 @@ returns c =
 pub write-statement-spec : {M : Type 1} → statement M
 write-statement-spec =
     tie.close
-    (tie.spec
-    sub-held
-    part-held-start
-    part-held-end
-    write-node-requires
-    at-requires
-    bare-requires
-    put-requires
-    add-result
-    same-length
-    returns)
+    (tie.spec (λ c. statement-long (c .before .before .pre)) (λ c. statement-long (c .before .before .pre)) (λ c. omega arith)
+    write-node-requires at-requires (λ c κs. search needs) put-requires add-result same-length returns)

@@ -1,22 +1,9 @@
 -- `resumed`, arm by arm.
 use mathlib.Core.Path.{_∙_}
 use Rattle.levels.specs.Passes.{resumedWith}
-use Rattle.levels.proofs.States.{resumed-as, resumed-statements, resumed-same}
+use Rattle.levels.proofs.{States.{resumed-as, resumed-statements, resumed-same}, turns.Pass.resumed.Statement.{statement}}
 use borrow.Author.Needs.{needs}
-use Rattle.levels.proofs.turns.Pass.resumed.Statement.{statement}
 use Rattle.levels.proofs.turns.Pass.resumed.Tie as tie
-
-statements-requires : tie.Need-statements-requires
-statements-requires c κs = search needs
-
-enum-told : tie.Need-enum-told
-enum-told c = search needs
-
-enum-known-self : tie.Need-enum-known-self
-enum-known-self c = search needs
-
-enum-told-2 : tie.Need-enum-told-2
-enum-told-2 c = search needs
 
 returns : tie.Need-returns
 returns c =
@@ -41,13 +28,5 @@ returns-5 c = resumed-same (c .before .args .self) (c .before .args .held) (c .m
 pub resumed-spec : {M : Type 1} → statement M
 resumed-spec =
     tie.close
-    (tie.spec
-    statements-requires
-    enum-told
-    enum-known-self
-    enum-told-2
-    returns
-    returns-2
-    returns-3
-    returns-4
+    (tie.spec (λ c κs. search needs) (λ c. search needs) (λ c. search needs) (λ c. search needs) returns returns-2 returns-3 returns-4
     returns-5)

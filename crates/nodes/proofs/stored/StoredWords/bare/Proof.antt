@@ -3,14 +3,8 @@ use borrow.Author.Needs.{needs}
 use Rattle.nodes.proofs.stored.StoredWords.bare.Statement.{statement}
 use Rattle.nodes.proofs.stored.StoredWords.bare.Tie as tie
 
-operator-word-requires : tie.Need-operator-word-requires
-operator-word-requires c κs = search needs
-
-close-word-requires : tie.Need-close-word-requires
-close-word-requires c κs = search needs
-
 returns : tie.Need-returns
 returns c = rw (c .before .operator-word .ensures, c .close-word .ensures)
 
 pub bare-spec : {M : Type 1} → statement M
-bare-spec = tie.close (tie.spec operator-word-requires close-word-requires returns)
+bare-spec = tie.close (tie.spec (λ c κs. search needs) (λ c κs. search needs) returns)

@@ -1,6 +1,5 @@
 -- `ops::classes::TokenClasses::union` meets its contract: a bit of `|` is a bit of either. Assumes nothing.
-use Rattle.ops.proofs.BitLaws.{bit-or}
-use Rattle.ops.proofs.classes.TokenClasses.union.Statement.{statement}
+use Rattle.ops.proofs.{BitLaws.{bit-or}, classes.TokenClasses.union.Statement.{statement}}
 use Rattle.ops.proofs.classes.TokenClasses.union.Tie as tie
 
 returns : tie.Need-returns

@@ -1,18 +1,9 @@
 -- `ops::sets::OpSet::has_either` meets its contract. Assumes nothing.
-use mathlib.Core.Path.{_∙_}
-use mathlib.Core.List.{[], _∷_}
-use Rattle.molang.specs.Operator.{any}
-use Rattle.molang.specs.Parse.{inHalves}
-use Rattle.ops.proofs.SetLaws.{or-first, or-second, one-used}
+use mathlib.Core.{Path.{_∙_}, List.{[], _∷_}}
+use Rattle.molang.specs.{Operator.{any}, Parse.{inHalves}}
+use Rattle.ops.proofs.{SetLaws.{or-first, or-second, one-used}, sets.OpSet.has_either.Statement.{statement}}
 use borrow.Author.Needs.{needs}
-use Rattle.ops.proofs.sets.OpSet.has_either.Statement.{statement}
 use Rattle.ops.proofs.sets.OpSet.has_either.Tie as tie
-
-contains-requires : tie.Need-contains-requires
-contains-requires c κs = search needs
-
-contains-requires-2 : tie.Need-contains-requires-2
-contains-requires-2 c κs = search needs
 
 returns : tie.Need-returns
 unfolding any
@@ -30,4 +21,4 @@ returns-2 c =
     (c .before .before .contains .ensures) (c .contains2 .ensures ∙ one-used u (a .b))
 
 pub has-either-spec : {M : Type 1} → statement M
-has-either-spec = tie.close (tie.spec contains-requires contains-requires-2 returns returns-2)
+has-either-spec = tie.close (tie.spec (λ c κs. search needs) (λ c κs. search needs) returns returns-2)

@@ -1,17 +1,9 @@
 -- `ops::sets::OpSet::has_some` meets its contract. Assumes nothing.
 use mathlib.Core.List.{[], _∷_}
-use Rattle.molang.specs.Operator.{any}
-use Rattle.molang.specs.Parse.{inHalves}
-use Rattle.ops.proofs.SetLaws.{or-first, or-second}
+use Rattle.molang.specs.{Operator.{any}, Parse.{inHalves}}
+use Rattle.ops.proofs.{SetLaws.{or-first, or-second}, sets.OpSet.has_some.Statement.{statement}}
 use borrow.Author.Needs.{needs}
-use Rattle.ops.proofs.sets.OpSet.has_some.Statement.{statement}
 use Rattle.ops.proofs.sets.OpSet.has_some.Tie as tie
-
-contains-requires : tie.Need-contains-requires
-contains-requires c κs = search needs
-
-has-either-requires : tie.Need-has-either-requires
-has-either-requires c κs = search needs
 
 returns : tie.Need-returns
 unfolding any
@@ -29,4 +21,4 @@ returns-2 c =
     (c .before .before .contains .ensures) (c .has-either .ensures)
 
 pub has-some-spec : {M : Type 1} → statement M
-has-some-spec = tie.close (tie.spec contains-requires has-either-requires returns returns-2)
+has-some-spec = tie.close (tie.spec (λ c κs. search needs) (λ c κs. search needs) returns returns-2)

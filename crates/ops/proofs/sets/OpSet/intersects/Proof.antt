@@ -1,9 +1,7 @@
 -- `ops::sets::OpSet::intersects` meets its contract: the low halves share an operator, or else the high halves tell. Assumes nothing.
 use lib.Bits.{bitAnd}
-use borrow.Author.Needs.{needs}
-use borrow.Author.Tests.{ne-eqb}
-use Rattle.ops.proofs.SetLaws.{common}
-use Rattle.ops.proofs.sets.OpSet.intersects.Statement.{statement}
+use borrow.Author.{Needs.{needs}, Tests.{ne-eqb}}
+use Rattle.ops.proofs.{SetLaws.{common}, sets.OpSet.intersects.Statement.{statement}}
 use Rattle.ops.proofs.sets.OpSet.intersects.Tie as tie
 
 returns : tie.Need-returns

@@ -1,7 +1,6 @@
 -- `ops::sets::OpSet::is_legal` meets its contract: the bits above operator 110 are in the high half. Assumes nothing.
 use borrow.Author.Needs.{needs}
-use Rattle.ops.proofs.SetLaws.{legal}
-use Rattle.ops.proofs.sets.OpSet.is_legal.Statement.{statement}
+use Rattle.ops.proofs.{SetLaws.{legal}, sets.OpSet.is_legal.Statement.{statement}}
 use Rattle.ops.proofs.sets.OpSet.is_legal.Tie as tie
 
 returns : tie.Need-returns
