@@ -111,6 +111,49 @@ fn deep_trees_are_written_and_lifted_on_128_kib_of_stack() {
     });
 }
 
+/// Trees that take the most call stack of their kind, each written as at most 4,096 tokens: a part again and again, an end, and
+/// the right operands that are still missing.
+fn deepest_trees() -> Vec<Tree> {
+    let bare = |op| Token::bare(op, Span::default());
+    let leaf = (bare(Op::FLOAT), 0);
+    let node = |op, children| (bare(op), children);
+    let (bracket, minus) = (node(Op::LEFT_PARENTHESIS, 1), node(Op::NEGATE, 1));
+    let (sum, comma) = (node(Op::ADD, 2), node(Op::COMMA, 2));
+    let (ask, or) = (node(Op::CONDITIONAL, 2), node(Op::CONDITIONAL_ELSE, 2));
+    let sine = node(Op::try_from(36u8).expect("a math call"), 1);
+    let rows = [
+        // What is repeated, how often, what stands at the end, and how many leaves come after it.
+        (vec![sine, bracket], 1_365, vec![leaf], 0),
+        (vec![minus, bracket], 1_365, vec![leaf], 0),
+        (vec![bracket], 2_047, vec![leaf], 0),
+        (vec![comma], 2_047, vec![leaf], 2_047),
+        (vec![bracket, sum, leaf], 1_023, vec![leaf], 0),
+        (vec![ask, leaf, or, leaf], 682, vec![leaf], 0),
+        (vec![ask, leaf, or, leaf, bracket], 682, vec![leaf], 0),
+        (vec![ask, leaf, or, leaf], 682, vec![minus, leaf], 0),
+        (vec![sum, leaf], 1_023, vec![leaf], 0),
+        (vec![sum], 1_023, vec![leaf], 1_023),
+    ];
+    let tree = |(part, times, end, after): (Vec<_>, usize, Vec<_>, usize)| {
+        Tree::from_nodes([part.repeat(times), end, vec![leaf; after]].concat()).expect("one tree")
+    };
+    rows.into_iter().map(tree).collect()
+}
+
+#[test]
+fn the_deepest_trees_are_written_by_the_library_on_264_kib_of_stack() {
+    let mut list = vec![0; 5 * MOST_TOKENS];
+    on_stack(264, || {
+        for tree in deepest_trees() {
+            let answer = sorbrudder_sys::write(tree.words(), &mut list);
+            let sorbrudder_sys::Answer::Filled(tokens) = answer else {
+                panic!("{answer:?} for {} nodes", tree.len());
+            };
+            assert!(tokens >= MOST_TOKENS - 5, "{tokens} tokens");
+        }
+    });
+}
+
 #[test]
 fn the_largest_trees_are_put_into_stack_order_and_back_on_64_kib_of_stack() {
     let bare = |op| Token::bare(op, Span::default());
