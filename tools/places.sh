@@ -10,6 +10,8 @@ out=$(mktemp -d)
 trap 'rm -rf "$out"' EXIT
 rt dev "$1" --generated "$out" >"$out/said" 2>&1 || true
 file="$out/Rattle·$1·proofs/proofs/$2/Lts.antt"
+# A function of a cycle of calls has its places in the cycle's folder, which is named after all its functions.
+[ -f "$file" ] || file=$(find "$out" -path "*/$(dirname "$2")/+*/Lts-$(basename "$2").antt")
 [ -f "$file" ] || { tail -n 5 "$out/said" >&2; echo "places: $1 has no places for $2" >&2; exit 1; }
 awk '
     # The fields that a place adds stand in the record of its name and `·own` before it.

@@ -13,7 +13,7 @@ use Rattle.write.specs.Spelling.{pairOpener, pairCloser, closerWords, se
 use Rattle.write.specs.{Spelling.{nodeTokens, operandOf, filledWords, Room}, Reading.{operatorAt, childrenAt}}
 use Rattle.write.specs.declared.plain.Seat.the-variants.{Enclosed, UnderMathCall, LeftOfComma, Operand}
 use Rattle.write.specs.Seats.{isPaired, isSpared, ifTrue, leftSeat, rightSeat, onlySeat}
-use Rattle.write.specs.Spine.{firstSeat, hasPair, frontOf, frontAt, withPair, Opens, Spine, theRoot, firstChild}
+use Rattle.write.specs.Spine.{firstSeat, hasPair, frontOf, frontAt, withPair, spanTaken, Opens, Spine, theRoot, firstChild}
 use Rattle.write.proofs.StepLaws.{Puts, Writes, puts-more, puts-length, pair-writes, part-length, tail, tail-part}
 use Rattle.write.proofs.StepLaws.{one-left, nodesLeft, fewer-nodes}
 use Rattle.write.proofs.SpellLaws.{OneBelow, one-below, TwoBelow, two-below, onlyWords, leftWords, leftSize, rightPart, rightWords}
@@ -281,396 +281,390 @@ module _ {W L : List ℕ} {from node place next : ℕ} {list : List ℕ} {to low
   pub climbing-length : length list ≡ length L
   climbing-length = puts-length place (nodeWritten (drop node W)) L climbing-room (c .puts)
 
-  module _ (h : 0 < node) where
-    up : Up W node (c .front)
-    up = spine-up (c .spine) h
+-- A turn of the loop: the tree that was come to is not the root.
+pub record Turn (W L : List ℕ) (from node place next : ℕ) (list : List ℕ) (to low high : ℕ) : Type 0 where
+  pub opens : Opens W
+  pub fits : from + length (nodeWritten W) ≤ length L
+  pub climbed : Climbing W L from node place next list to low high
+  pub below : 0 < node
 
-    pub up-within : nodeLength ≤ node
-    up-within = omega (arith, up .isNode)
+module _ {W L : List ℕ} {from node place next : ℕ} {list : List ℕ} {to low high : ℕ}
+    (v : Turn W L from node place next list to low high) where
+  up : Up W node (v .climbed .front)
+  up = spine-up (v .climbed .spine) (v .below)
 
-    pub up-longer : node - nodeLength + nodeLength + nodeLength ≤ length W
-    up-longer = spine-longer s (up .spine) (up .some)
+  pub up-within : nodeLength ≤ node
+  up-within = omega (arith, up .isNode)
 
-    pub up-opens : Opens (drop (node - nodeLength) W)
-    up-opens = spine-opens s (up .spine)
+  pub up-longer : node - nodeLength + nodeLength + nodeLength ≤ length W
+  up-longer = spine-longer (v .opens) (up .spine) (up .some)
 
-    pub own-long : nodeLength ≤ length (tail (node - nodeLength) W)
-    own-long = rw (tail-part (node - nodeLength) W) (opens-with up-opens .long)
+  pub up-opens : Opens (drop (node - nodeLength) W)
+  up-opens = spine-opens (v .opens) (up .spine)
 
-    up-some : lowOf (getD (drop (node - nodeLength) W) countIndex 0) ≡ 0 → ⊥
-    up-some e = up .some (sym (children-here W (node - nodeLength)) ∙ e)
+  pub own-long : nodeLength ≤ length (tail (node - nodeLength) W)
+  own-long = rw (tail-part (node - nodeLength) W) (opens-with up-opens .long)
 
-    child-words : drop node W ≡ drop nodeLength (drop (node - nodeLength) W)
-    child-words = ap (λ (n : ℕ). drop n W) (sym (up .isNode)) ∙ sym (drop-drop nodeLength (node - nodeLength) W)
+  up-some : lowOf (getD (drop (node - nodeLength) W) countIndex 0) ≡ 0 → ⊥
+  up-some e = up .some (sym (children-here W (node - nodeLength)) ∙ e)
 
-    pub up-front : frontAt W (node - nodeLength) ≤ place
-    up-front = omega (arith, c .isPlace, up .isFront)
+  child-words : drop node W ≡ drop nodeLength (drop (node - nodeLength) W)
+  child-words = ap (λ (n : ℕ). drop n W) (sym (up .isNode)) ∙ sym (drop-drop nodeLength (node - nodeLength) W)
 
-    up-place : place - frontAt W (node - nodeLength) ≡ from + up .above
-    unfolding up
-    up-place = omega (arith, c .isPlace, up .isFront)
+  pub up-front : frontAt W (node - nodeLength) ≤ place
+  up-front = omega (arith, v .climbed .isPlace, up .isFront)
 
-    -- The room of the node above.
-    pub up-room : place - frontAt W (node - nodeLength) + length (nodeWritten (drop (node - nodeLength) W)) ≤ length L
-    up-room = omega (arith, up-place, spine-room s (up .spine))
+  up-place : place - frontAt W (node - nodeLength) ≡ from + up .above
+  unfolding up
+  up-place = omega (arith, v .climbed .isPlace, up .isFront)
 
-    -- Where the words of the first child begin with its pair, and the room that they have.
-    begins : ℕ
-    begins = place - ifTrue (hasPair W (node - nodeLength)) 5
+  -- The room of the node above.
+  pub up-room : place - frontAt W (node - nodeLength) + length (nodeWritten (drop (node - nodeLength) W)) ≤ length L
+  up-room = omega (arith, up-place, spine-room (v .opens) (up .spine), v .fits)
 
-    front-parts : frontAt W (node - nodeLength)
-        ≡ ifTrue (eqb (childrenAt W (node - nodeLength)) 1) 5 + ifTrue (hasPair W (node - nodeLength)) 5
-    unfolding frontOf
-    front-parts = refl
+  -- Where the words of the first child begin with its pair, and the room that they have.
+  begins : ℕ
+  begins = place - ifTrue (hasPair W (node - nodeLength)) 5
 
-    pub pair-within : ifTrue (hasPair W (node - nodeLength)) 5 ≤ place
-    pair-within = omega (arith, up-front, front-parts)
+  front-parts : frontAt W (node - nodeLength)
+      ≡ ifTrue (eqb (childrenAt W (node - nodeLength)) 1) 5 + ifTrue (hasPair W (node - nodeLength)) 5
+  unfolding frontOf
+  front-parts = refl
 
-    begins-behind : begins ≡ place - frontAt W (node - nodeLength) + ifTrue (eqb (childrenAt W (node - nodeLength)) 1) 5
-    unfolding begins
-    begins-behind = omega (arith, up-front, front-parts)
+  pub pair-within : ifTrue (hasPair W (node - nodeLength)) 5 ≤ place
+  pair-within = omega (arith, up-front, front-parts)
 
-    operand-fits : begins + length (operandWritten (seatIn (drop (node - nodeLength) W)) (drop nodeLength (drop (node - nodeLength) W)))
-        ≤ length L
-    unfolding firstFive
-    operand-fits = go (few-children up-opens up-some)
-      where
-        go : Few (lowOf (getD (drop (node - nodeLength) W) countIndex 0))
-            → begins + length (operandWritten (seatIn (drop (node - nodeLength) W)) (drop nodeLength (drop (node - nodeLength) W))) ≤
-            length L
-        go (one e) =
-            let X = drop (node - nodeLength) W in
-            let is = first-of-one (operatorOf (getD X 0 0)) (lowOf (getD X countIndex 0)) (λ h. absurd (omega (arith, e, h))) in
-            let same : length (operandWritten (seatIn X) (drop nodeLength X)) ≡ length (onlyWords X) = rw is refl in
-            let all : length (nodeWritten X) ≡ length (firstFive X ++ (onlyWords X ++ closerWords X)) =
-            rw (one-below (opens-with up-opens) e .words) refl
-            in
-            let own : ifTrue (eqb (childrenAt W (node - nodeLength)) 1) 5 ≡ 5 =
-            rw (eq-eqb (childrenAt W (node - nodeLength)) 1 (sym (children-here W (node - nodeLength)) ∙ e)) refl
-            in
-            omega (
-              arith,
-              begins-behind,
-              own,
-              up-room,
-              same,
-              all,
-              length-append (firstFive X) (onlyWords X ++ closerWords X),
-              length-append (onlyWords X) (closerWords X),
-            )
-        go (two e) =
-            let X = drop (node - nodeLength) W in
-            let is = first-of-two (operatorOf (getD X 0 0)) (lowOf (getD X countIndex 0)) e in
-            let same : length (operandWritten (seatIn X) (drop nodeLength X)) ≡ length (leftWords X) = rw is refl in
-            let all : length (nodeWritten X) ≡ length (leftWords X ++ (firstFive X ++ rightWords X)) =
-            rw (two-below (opens-with up-opens) e .words) refl
-            in
-            let two-here : childrenAt W (node - nodeLength) ≡ 2 = sym (children-here W (node - nodeLength)) ∙ e in
-            let own : ifTrue (eqb (childrenAt W (node - nodeLength)) 1) 5 ≡ 0 =
-            rw (ne-eqb (childrenAt W (node - nodeLength)) 1 (λ h. absurd (omega (arith, two-here, h)))) refl
-            in
-            omega (arith, begins-behind, own, up-room, same, all, length-append (leftWords X) (firstFive X ++ rightWords X))
+  begins-behind : begins ≡ place - frontAt W (node - nodeLength) + ifTrue (eqb (childrenAt W (node - nodeLength)) 1) 5
+  unfolding begins
+  begins-behind = omega (arith, up-front, front-parts)
 
-    first-here : Opens (drop nodeLength (drop (node - nodeLength) W))
-    first-here = first-opens up-opens up-some
-
-    operand-room : Room (operandOf (seatIn (drop (node - nodeLength) W))) (drop nodeLength (drop (node - nodeLength) W)) L begins
-    operand-room = record { others = first-here .others; shaped = first-here .shaped; room = operand-fits }
-
-    child-put : Puts (nodeWritten (drop nodeLength (drop (node - nodeLength) W))) L place list to
-    child-put = rw child-words at (c .puts)
-
-    child-spans : seen low high ≡ seenWith nothing (drop nodeLength (drop (node - nodeLength) W))
-    child-spans = rw child-words at (c .spans)
-
-    -- What the pair of the first child asks.
-    pub pair-asked : hasPair W (node - nodeLength) ≡ true → (5 ≤ place) × (place ≤ length list) × (to + 5 ≤ length list)
-    unfolding begins
-    pair-asked e =
-        let X = drop nodeLength (drop (node - nodeLength) W) in
-        let opener = pairOpener (firstExtent (treesOf X) .start) (firstExtent (treesOf X) .end) in
-        let closer = pairCloser (firstExtent (treesOf X) .end) in
-        let all : length (operandWritten (seatIn (drop (node - nodeLength) W)) X) ≡ length (opener ++ (nodeWritten X ++ closer)) =
-        rw (paired-words (opens-with first-here) (seatIn (drop (node - nodeLength) W)) (sym (pair-here W (node - nodeLength)) ∙ e)) refl
-        in
-        let five : ifTrue (hasPair W (node - nodeLength)) 5 ≡ 5 = rw e refl in
-        let front = length-append opener (nodeWritten X ++ closer) in
-        let back = length-append (nodeWritten X) closer in (
-          omega (arith, five, pair-within),
-          omega (arith, climbing-length, climbing-room),
-          omega (arith, five, pair-within, operand-fits, all, front, back, climbing-length, child-put .1),
-        )
-
-    module _ (list1 : List ℕ) (to1 : ℕ) (laid1 : list1 ≡ withPair (hasPair W (node - nodeLength)) low high place to list)
-        (on1 : to1 ≡ to + ifTrue (hasPair W (node - nodeLength)) 5) where
-      pair-put : Puts (operandWritten (seatIn (drop (node - nodeLength) W)) (drop nodeLength (drop (node - nodeLength) W))) L begins list1
-          to1
-      unfolding begins
-      pair-put =
-          let there : place - ifTrue (hasPair W (node - nodeLength)) 5 + ifTrue (hasPair W (node - nodeLength)) 5 ≡ place =
-          omega (arith, pair-within)
+  operand-fits : begins + length (operandWritten (seatIn (drop (node - nodeLength) W)) (drop nodeLength (drop (node - nodeLength) W)))
+      ≤ length L
+  unfolding firstFive
+  operand-fits = go (few-children up-opens up-some)
+    where
+      go : Few (lowOf (getD (drop (node - nodeLength) W) countIndex 0))
+          → begins + length (operandWritten (seatIn (drop (node - nodeLength) W)) (drop nodeLength (drop (node - nodeLength) W))) ≤
+          length L
+      go (one e) =
+          let X = drop (node - nodeLength) W in
+          let is = first-of-one (operatorOf (getD X 0 0)) (lowOf (getD X countIndex 0)) (λ h. absurd (omega (arith, e, h))) in
+          let same : length (operandWritten (seatIn X) (drop nodeLength X)) ≡ length (onlyWords X) = rw is refl in
+          let all : length (nodeWritten X) ≡ length (firstFive X ++ (onlyWords X ++ closerWords X)) =
+          rw (one-below (opens-with up-opens) e .words) refl
           in
-          paired-step {list = list} {to = to} {low = low} {high = high} (seatIn (drop (node - nodeLength) W)) operand-room (hasPair W
-          (node - nodeLength)) (sym (pair-here W (node - nodeLength)))
-          (rw there child-put) child-spans (rw there laid1) on1
+          let own : ifTrue (eqb (childrenAt W (node - nodeLength)) 1) 5 ≡ 5 =
+          rw (eq-eqb (childrenAt W (node - nodeLength)) 1 (sym (children-here W (node - nodeLength)) ∙ e)) refl
+          in
+          omega (
+            arith,
+            begins-behind,
+            own,
+            up-room,
+            same,
+            all,
+            length-append (firstFive X) (onlyWords X ++ closerWords X),
+            length-append (onlyWords X) (closerWords X),
+          )
+      go (two e) =
+          let X = drop (node - nodeLength) W in
+          let is = first-of-two (operatorOf (getD X 0 0)) (lowOf (getD X countIndex 0)) e in
+          let same : length (operandWritten (seatIn X) (drop nodeLength X)) ≡ length (leftWords X) = rw is refl in
+          let all : length (nodeWritten X) ≡ length (leftWords X ++ (firstFive X ++ rightWords X)) =
+          rw (two-below (opens-with up-opens) e .words) refl
+          in
+          let two-here : childrenAt W (node - nodeLength) ≡ 2 = sym (children-here W (node - nodeLength)) ∙ e in
+          let own : ifTrue (eqb (childrenAt W (node - nodeLength)) 1) 5 ≡ 0 =
+          rw (ne-eqb (childrenAt W (node - nodeLength)) 1 (λ h. absurd (omega (arith, two-here, h)))) refl
+          in
+          omega (arith, begins-behind, own, up-room, same, all, length-append (leftWords X) (firstFive X ++ rightWords X))
 
-      pub pair-list : length list1 ≡ length L
-      pair-list =
-          puts-length begins (operandWritten (seatIn (drop (node - nodeLength) W)) (drop nodeLength (drop (node - nodeLength) W))) L
-          operand-fits
-          pair-put
+  first-here : Opens (drop nodeLength (drop (node - nodeLength) W))
+  first-here = first-opens up-opens up-some
 
-      -- ONE CHILD: the token before it, a bracket's closer behind.
-      module _ (a : lowOf (getD (drop (node - nodeLength) W) countIndex 0) ≡ 2 → ⊥) where
-        is-one : lowOf (getD (drop (node - nodeLength) W) countIndex 0) ≡ 1
-        is-one = one-left (lowOf (getD (drop (node - nodeLength) W) countIndex 0)) (opens-with up-opens .few) a up-some
+  operand-room : Room (operandOf (seatIn (drop (node - nodeLength) W))) (drop nodeLength (drop (node - nodeLength) W)) L begins
+  operand-room = record { others = first-here .others; shaped = first-here .shaped; room = operand-fits }
 
-        below-one : OneBelow (up-opens .others) (drop (node - nodeLength) W)
-        below-one = one-below (opens-with up-opens) is-one
+  child-put : Puts (nodeWritten (drop nodeLength (drop (node - nodeLength) W))) L place list to
+  child-put = rw child-words at (v .climbed .puts)
 
-        begins-one : begins ≡ place - frontAt W (node - nodeLength) + 5
-        begins-one =
-            begins-behind
-            ∙ ap (λ (b : Bool). place - frontAt W (node - nodeLength) + ifTrue b 5)
-            (eq-eqb (childrenAt W (node - nodeLength)) 1 (sym (children-here W (node - nodeLength)) ∙ is-one))
+  child-spans : seen low high ≡ seenWith nothing (drop nodeLength (drop (node - nodeLength) W))
+  child-spans = rw child-words at (v .climbed .spans)
 
-        only-put : Puts (onlyWords (drop (node - nodeLength) W)) L (place - frontAt W (node - nodeLength) + 5) list1 to1
-        only-put =
+  -- What the pair of the first child asks.
+  pub pair-asked : hasPair W (node - nodeLength) ≡ true → (5 ≤ place) × (place ≤ length list) × (to + 5 ≤ length list)
+  unfolding begins
+  pair-asked e =
+      let X = drop nodeLength (drop (node - nodeLength) W) in
+      let opener = pairOpener (firstExtent (treesOf X) .start) (firstExtent (treesOf X) .end) in
+      let closer = pairCloser (firstExtent (treesOf X) .end) in
+      let all : length (operandWritten (seatIn (drop (node - nodeLength) W)) X) ≡ length (opener ++ (nodeWritten X ++ closer)) =
+      rw (paired-words (opens-with first-here) (seatIn (drop (node - nodeLength) W)) (sym (pair-here W (node - nodeLength)) ∙ e)) refl
+      in
+      let five : ifTrue (hasPair W (node - nodeLength)) 5 ≡ 5 = rw e refl in
+      let front = length-append opener (nodeWritten X ++ closer) in
+      let back = length-append (nodeWritten X) closer in (
+        omega (arith, five, pair-within),
+        omega (arith, climbing-length (v .opens) (v .fits) (v .climbed), climbing-room (v .opens) (v .fits) (v .climbed)),
+        omega (arith, five, pair-within, operand-fits, all, front, back, climbing-length (v .opens) (v .fits) (v .climbed), child-put .1),
+      )
+
+  module _ {list1 : List ℕ} {to1 : ℕ} (laid1 : list1 ≡ withPair (hasPair W (node - nodeLength)) low high place to list)
+      (on1 : to1 ≡ to + ifTrue (hasPair W (node - nodeLength)) 5) where
+    pair-put : Puts (operandWritten (seatIn (drop (node - nodeLength) W)) (drop nodeLength (drop (node - nodeLength) W))) L begins list1
+        to1
+    unfolding begins
+    pair-put =
+        let there : place - ifTrue (hasPair W (node - nodeLength)) 5 + ifTrue (hasPair W (node - nodeLength)) 5 ≡ place =
+        omega (arith, pair-within)
+        in
+        paired-step {list = list} {to = to} {low = low} {high = high} (seatIn (drop (node - nodeLength) W)) operand-room (hasPair W
+        (node - nodeLength)) (sym (pair-here W (node - nodeLength)))
+        (rw there child-put) child-spans (rw there laid1) on1
+
+    pub pair-list : length list1 ≡ length L
+    pair-list =
+        puts-length begins (operandWritten (seatIn (drop (node - nodeLength) W)) (drop nodeLength (drop (node - nodeLength) W))) L
+        operand-fits
+        pair-put
+
+    -- ONE CHILD: the token before it, a bracket's closer behind.
+    module _ (a : lowOf (getD (drop (node - nodeLength) W) countIndex 0) ≡ 2 → ⊥) where
+      is-one : lowOf (getD (drop (node - nodeLength) W) countIndex 0) ≡ 1
+      is-one = one-left (lowOf (getD (drop (node - nodeLength) W) countIndex 0)) (opens-with up-opens .few) a up-some
+
+      below-one : OneBelow (up-opens .others) (drop (node - nodeLength) W)
+      below-one = one-below (opens-with up-opens) is-one
+
+      begins-one : begins ≡ place - frontAt W (node - nodeLength) + 5
+      begins-one =
+          begins-behind
+          ∙ ap (λ (b : Bool). place - frontAt W (node - nodeLength) + ifTrue b 5)
+          (eq-eqb (childrenAt W (node - nodeLength)) 1 (sym (children-here W (node - nodeLength)) ∙ is-one))
+
+      only-put : Puts (onlyWords (drop (node - nodeLength) W)) L (place - frontAt W (node - nodeLength) + 5) list1 to1
+      only-put =
+          let X = drop (node - nodeLength) W in
+          rw (first-of-one (operatorOf (getD X 0 0)) (lowOf (getD X countIndex 0)) a, begins-one) at pair-put
+
+      one-fits : place - frontAt W (node - nodeLength)
+          + length (firstFive (drop (node - nodeLength) W)
+          ++ (onlyWords (drop (node - nodeLength) W) ++ closerWords (drop (node - nodeLength) W)))
+          ≤ length L
+      one-fits = rw (below-one .words) at up-room
+
+      pub token-room : place - frontAt W (node - nodeLength) + 5 ≤ length list1
+      unfolding firstFive
+      token-room =
+          let X = drop (node - nodeLength) W in
+          omega (arith, pair-list, one-fits, length-append (firstFive X) (onlyWords X ++ closerWords X))
+
+      -- The token before the child's words.
+      token-put : Puts (firstFive (drop (node - nodeLength) W) ++ onlyWords (drop (node - nodeLength) W)) L
+          (place - frontAt W (node - nodeLength))
+          (laidAt (place - frontAt W (node - nodeLength)) (firstFive (drop (node - nodeLength) W)) list1)
+          to1
+      unfolding firstFive
+      token-put =
+          let X = drop (node - nodeLength) W in
+          let q = place - frontAt W (node - nodeLength) in (
+            ap (laidAt q (firstFive X)) (only-put .0)
+                ∙ laid-before q (firstFive X) (onlyWords X) L (omega (arith, token-room, pair-list)),
+            omega (arith, only-put .1, length-append (firstFive X) (onlyWords X)),
+          )
+
+      pub closer-room : to1 + length (closerWords (drop (node - nodeLength) W)) ≤ length list1
+      unfolding firstFive
+      closer-room =
+          let X = drop (node - nodeLength) W in
+          omega (
+            arith,
+            pair-list,
+            one-fits,
+            only-put .1,
+            length-append (firstFive X) (onlyWords X ++ closerWords X),
+            length-append (onlyWords X) (closerWords X),
+          )
+
+      module _ {list3 : List ℕ} {to3 : ℕ}
+          (w3 : Puts (closerWords (drop (node - nodeLength) W))
+          (laidAt (place - frontAt W (node - nodeLength)) (firstFive (drop (node - nodeLength) W)) list1) to1 list3 to3) where
+        node-put : Puts (nodeWritten (drop (node - nodeLength) W)) L (place - frontAt W (node - nodeLength)) list3 to3
+        node-put =
             let X = drop (node - nodeLength) W in
-            rw (first-of-one (operatorOf (getD X 0 0)) (lowOf (getD X countIndex 0)) a, begins-one) at pair-put
+            let q = place - frontAt W (node - nodeLength) in
+            rw (below-one .words, ← append-assoc (firstFive X) (onlyWords X) (closerWords X))
+            (puts-more q (firstFive X ++ onlyWords X) (closerWords X) L
+            (rw (append-assoc (firstFive X) (onlyWords X) (closerWords X)) one-fits) token-put w3)
 
-        one-fits : place - frontAt W (node - nodeLength)
-            + length (firstFive (drop (node - nodeLength) W)
-            ++ (onlyWords (drop (node - nodeLength) W) ++ closerWords (drop (node - nodeLength) W)))
-            ≤ length L
-        one-fits = rw (below-one .words) at up-room
-
-        pub token-room : place - frontAt W (node - nodeLength) + 5 ≤ length list1
-        unfolding firstFive
-        token-room =
+        pub climbed-one : {low1 high1 : ℕ} → seen low1 high1 ≡ spanTaken (seen low high) (drop (node - nodeLength) W)
+            → Climbing W L from (node - nodeLength) (place - frontAt W (node - nodeLength)) next list3 to3 low1 high1
+        climbed-one own =
             let X = drop (node - nodeLength) W in
-            omega (arith, pair-list, one-fits, length-append (firstFive X) (onlyWords X ++ closerWords X))
-
-        module _ (list2 : List ℕ)
-            (laid2 : list2 ≡ laidAt (place - frontAt W (node - nodeLength)) (firstFive (drop (node - nodeLength) W)) list1) where
-          token-put : Puts (firstFive (drop (node - nodeLength) W) ++ onlyWords (drop (node - nodeLength) W)) L
-              (place - frontAt W (node - nodeLength)) list2 to1
-          unfolding firstFive
-          token-put =
-              let X = drop (node - nodeLength) W in
-              let q = place - frontAt W (node - nodeLength) in (
-                laid2
-                    ∙ (ap (laidAt q (firstFive X)) (only-put .0)
-                    ∙ laid-before q (firstFive X) (onlyWords X) L (omega (arith, token-room, pair-list))),
-                omega (arith, only-put .1, length-append (firstFive X) (onlyWords X)),
-              )
-
-          two-of-three : place - frontAt W (node - nodeLength)
-              + length (firstFive (drop (node - nodeLength) W) ++ onlyWords (drop (node - nodeLength) W))
-              + length (closerWords (drop (node - nodeLength) W))
-              ≤ length L
-          two-of-three =
-              let X = drop (node - nodeLength) W in
-              omega (
-                arith,
-                one-fits,
-                length-append (firstFive X) (onlyWords X ++ closerWords X),
-                length-append (onlyWords X) (closerWords X),
-                length-append (firstFive X) (onlyWords X),
-              )
-
-          pub closer-room : to1 + length (closerWords (drop (node - nodeLength) W)) ≤ length list2
-          closer-room =
-              let X = drop (node - nodeLength) W in
-              let q = place - frontAt W (node - nodeLength) in
-              omega (
-                arith,
-                two-of-three,
-                token-put .1,
-                puts-length q (firstFive X ++ onlyWords X) L (omega (arith, two-of-three)) token-put,
-              )
-
-          module _ (list3 : List ℕ) (to3 : ℕ) (w3 : Puts (closerWords (drop (node - nodeLength) W)) list2 to1 list3 to3) where
-            node-put : Puts (nodeWritten (drop (node - nodeLength) W)) L (place - frontAt W (node - nodeLength)) list3 to3
-            node-put =
-                let X = drop (node - nodeLength) W in
-                let q = place - frontAt W (node - nodeLength) in
-                rw (below-one .words, ← append-assoc (firstFive X) (onlyWords X) (closerWords X))
-                (puts-more q (firstFive X ++ onlyWords X) (closerWords X) L
-                (omega (arith, two-of-three, length-append (firstFive X ++ onlyWords X) (closerWords X))) token-put w3)
-
-            pub climbed-one : (low1 high1 : ℕ)
-                → seen low1 high1
-                ≡ wider (seen low high) (getD (drop (node - nodeLength) W) 1 0) (getD (drop (node - nodeLength) W) 2 0)
-                → Climbing W L from (node - nodeLength) (place - frontAt W (node - nodeLength)) next list3 to3 low1 high1
-            climbed-one low1 high1 own =
-                let X = drop (node - nodeLength) W in
-                let same : nodeLength * firstSize (treesOf (drop node W)) ≡ nodeLength * firstSize (treesOf (drop nodeLength X)) = rw
-                child-words refl
-                in
-                record {
-                  front = up .above;
-                  spine = up .spine;
-                  isPlace = up-place;
-                  puts = node-put;
-                  isNext = omega (arith, c .isNext, same, below-one .fills, up .isNode);
-                  spans =
-                      own
-                      ∙ (ap (λ (e : Extent). wider e (getD X 1 0) (getD X 2 0)) child-spans
-                      ∙ (taken-after (drop nodeLength X) (getD X 1 0) (getD X 2 0) (opens-with first-here .long) ∙ below-one .spans
-                      nothing));
-                }
-
-      -- TWO CHILDREN: the token behind the left one, then the right one.
-      module _ (a : lowOf (getD (drop (node - nodeLength) W) countIndex 0) ≡ 2) where
-        below-two : TwoBelow (up-opens .others) (drop (node - nodeLength) W)
-        below-two = two-below (opens-with up-opens) a
-
-        begins-two : begins ≡ place - frontAt W (node - nodeLength)
-        begins-two =
-            let two-here : childrenAt W (node - nodeLength) ≡ 2 = sym (children-here W (node - nodeLength)) ∙ a in
-            let none : ifTrue (eqb (childrenAt W (node - nodeLength)) 1) 5 ≡ 0 =
-            rw (ne-eqb (childrenAt W (node - nodeLength)) 1 (λ h. absurd (omega (arith, two-here, h)))) refl
+            let same : nodeLength * firstSize (treesOf (drop node W)) ≡ nodeLength * firstSize (treesOf (drop nodeLength X)) = rw
+            child-words refl
             in
-            omega (arith, begins-behind, none)
+            record {
+              front = up .above;
+              spine = up .spine;
+              isPlace = up-place;
+              puts = node-put;
+              isNext = omega (arith, v .climbed .isNext, same, below-one .fills, up .isNode);
+              spans =
+                  own
+                  ∙ (ap (λ (e : Extent). wider e (getD X 1 0) (getD X 2 0)) child-spans
+                  ∙ (taken-after (drop nodeLength X) (getD X 1 0) (getD X 2 0) (opens-with first-here .long) ∙ below-one .spans
+                  nothing));
+            }
 
-        left-put : Puts (leftWords (drop (node - nodeLength) W)) L (place - frontAt W (node - nodeLength)) list1 to1
-        left-put =
-            let X = drop (node - nodeLength) W in
-            rw (first-of-two (operatorOf (getD X 0 0)) (lowOf (getD X countIndex 0)) a, begins-two) at pair-put
+    -- TWO CHILDREN: the token behind the left one, then the right one.
+    module _ (a : lowOf (getD (drop (node - nodeLength) W) countIndex 0) ≡ 2) where
+      below-two : TwoBelow (up-opens .others) (drop (node - nodeLength) W)
+      below-two = two-below (opens-with up-opens) a
 
-        two-fits : place - frontAt W (node - nodeLength)
-            + length (leftWords (drop (node - nodeLength) W)
-            ++ (firstFive (drop (node - nodeLength) W) ++ rightWords (drop (node - nodeLength) W)))
+      begins-two : begins ≡ place - frontAt W (node - nodeLength)
+      begins-two =
+          let two-here : childrenAt W (node - nodeLength) ≡ 2 = sym (children-here W (node - nodeLength)) ∙ a in
+          let none : ifTrue (eqb (childrenAt W (node - nodeLength)) 1) 5 ≡ 0 =
+          rw (ne-eqb (childrenAt W (node - nodeLength)) 1 (λ h. absurd (omega (arith, two-here, h)))) refl
+          in
+          omega (arith, begins-behind, none)
+
+      left-put : Puts (leftWords (drop (node - nodeLength) W)) L (place - frontAt W (node - nodeLength)) list1 to1
+      left-put =
+          let X = drop (node - nodeLength) W in
+          rw (first-of-two (operatorOf (getD X 0 0)) (lowOf (getD X countIndex 0)) a, begins-two) at pair-put
+
+      two-fits : place - frontAt W (node - nodeLength)
+          + length (leftWords (drop (node - nodeLength) W)
+          ++ (firstFive (drop (node - nodeLength) W) ++ rightWords (drop (node - nodeLength) W)))
+          ≤ length L
+      two-fits = rw (below-two .words) at up-room
+
+      pub between-room : to1 + 5 ≤ length list1
+      unfolding firstFive
+      between-room =
+          let X = drop (node - nodeLength) W in
+          omega (
+            arith,
+            pair-list,
+            two-fits,
+            left-put .1,
+            length-append (leftWords X) (firstFive X ++ rightWords X),
+            length-append (firstFive X) (rightWords X),
+          )
+
+      is-next : next ≡ node - nodeLength + (nodeLength + leftSize (drop (node - nodeLength) W))
+      is-next =
+          let X = drop (node - nodeLength) W in
+          let same : nodeLength * firstSize (treesOf (drop node W)) ≡ leftSize X = rw child-words refl in
+          omega (arith, v .climbed .isNext, same, up .isNode)
+
+      there : tail next W ≡ rightPart (drop (node - nodeLength) W)
+      there =
+          let X = drop (node - nodeLength) W in
+          tail-part next W
+          ∙ (ap (λ (n : ℕ). drop n W) is-next ∙ sym (drop-drop (nodeLength + leftSize X) (node - nodeLength) W))
+
+      pub next-within : next ≤ length W
+      next-within =
+          let X = drop (node - nodeLength) W in
+          omega (
+            arith,
+            is-next,
+            below-two .fills,
+            first-within (up-opens .shaped),
+            length-drop (node - nodeLength) W,
+            opens-with up-opens .long,
+          )
+
+      pub right-fewer : nodesLeft (tail next W) < nodesLeft W
+      right-fewer = fewer-nodes next W (omega (arith, is-next)) (opens-with (v .opens) .long)
+
+      module _ {list2 : List ℕ} {to2 : ℕ} (w2 : Puts (firstFive (drop (node - nodeLength) W)) list1 to1 list2 to2) {q : Seat}
+          (isRight : q ≡ rightSeat (operatorOf (getD (drop (node - nodeLength) W) 0 0))) where
+        both-fit : place - frontAt W (node - nodeLength)
+            + length (leftWords (drop (node - nodeLength) W) ++ firstFive (drop (node - nodeLength) W))
+            + length (rightWords (drop (node - nodeLength) W))
             ≤ length L
-        two-fits = rw (below-two .words) at up-room
-
-        pub between-room : to1 + 5 ≤ length list1
-        unfolding firstFive
-        between-room =
+        both-fit =
             let X = drop (node - nodeLength) W in
             omega (
               arith,
-              pair-list,
               two-fits,
-              left-put .1,
               length-append (leftWords X) (firstFive X ++ rightWords X),
               length-append (firstFive X) (rightWords X),
+              length-append (leftWords X) (firstFive X),
             )
 
-        is-next : next ≡ node - nodeLength + (nodeLength + leftSize (drop (node - nodeLength) W))
-        is-next =
+        both-put : Puts (leftWords (drop (node - nodeLength) W) ++ firstFive (drop (node - nodeLength) W)) L
+            (place - frontAt W (node - nodeLength)) list2 to2
+        both-put =
             let X = drop (node - nodeLength) W in
-            let same : nodeLength * firstSize (treesOf (drop node W)) ≡ leftSize X = rw child-words refl in
-            omega (arith, c .isNext, same, up .isNode)
+            puts-more (place - frontAt W (node - nodeLength)) (leftWords X) (firstFive X) L (omega (arith, both-fit)) left-put w2
 
-        there : tail next W ≡ rightPart (drop (node - nodeLength) W)
-        there =
+        right-words : operandWritten q (tail next W) ≡ rightWords (drop (node - nodeLength) W)
+        right-words = rw (isRight, there)
+
+        pub right-room : Room (operandOf q) (tail next W) list2 to2
+        right-room =
             let X = drop (node - nodeLength) W in
-            tail-part next W
-            ∙ (ap (λ (n : ℕ). drop n W) is-next ∙ sym (drop-drop (nodeLength + leftSize X) (node - nodeLength) W))
+            let list = puts-length (place - frontAt W (node - nodeLength)) (leftWords X ++ firstFive X) L (omega (arith, both-fit))
+            both-put in
+            record {
+              others = up-opens .others;
+              shaped = rw there (below-two .right);
+              room = rw right-words (omega (arith, both-fit, both-put .1, list));
+            }
 
-        pub next-within : next ≤ length W
-        next-within =
-            let X = drop (node - nodeLength) W in
-            omega (
-              arith,
-              is-next,
-              below-two .fills,
-              first-within (up-opens .shaped),
-              length-drop (node - nodeLength) W,
-              opens-with up-opens .long,
-            )
-
-        pub right-fewer : nodesLeft (tail next W) < nodesLeft W
-        right-fewer = fewer-nodes next W (omega (arith, is-next)) (opens-with s .long)
-
-        module _ (list2 : List ℕ) (to2 : ℕ) (w2 : Puts (firstFive (drop (node - nodeLength) W)) list1 to1 list2 to2) (q : Seat)
-            (isRight : q ≡ rightSeat (operatorOf (getD (drop (node - nodeLength) W) 0 0))) where
-          both-fit : place - frontAt W (node - nodeLength)
-              + length (leftWords (drop (node - nodeLength) W) ++ firstFive (drop (node - nodeLength) W))
-              + length (rightWords (drop (node - nodeLength) W))
-              ≤ length L
-          both-fit =
+        module _ {m list3 : List ℕ} {to3 : ℕ} (w3 : Writes (operandWritten q (tail next W)) (tail next W) list2 to2 m list3 to3) where
+          right-part : length m ≡ nodeLength * firstSize (treesOf (rightPart (drop (node - nodeLength) W)))
+          right-part =
               let X = drop (node - nodeLength) W in
+              let shape : Shaped 2 (suc (up-opens .others)) (tail next W) = rw there (below-two .right) in
+              let same : nodeLength * firstSize (treesOf (tail next W)) ≡ nodeLength * firstSize (treesOf (rightPart X)) = rw there refl
+              in
+              omega (arith, part-length shape (w3 .0), same)
+
+          pub next-ends : next + length m ≤ length W
+          next-ends =
               omega (
                 arith,
-                two-fits,
-                length-append (leftWords X) (firstFive X ++ rightWords X),
-                length-append (firstFive X) (rightWords X),
-                length-append (leftWords X) (firstFive X),
+                is-next,
+                right-part,
+                below-two .fills,
+                first-within (up-opens .shaped),
+                length-drop (node - nodeLength) W,
+                opens-with up-opens .long,
               )
 
-          both-put : Puts (leftWords (drop (node - nodeLength) W) ++ firstFive (drop (node - nodeLength) W)) L
-              (place - frontAt W (node - nodeLength)) list2 to2
-          both-put =
+          pub climbed-two : {low1 high1 low2 high2 : ℕ} → seen low1 high1 ≡ spanTaken (seen low high) (drop (node - nodeLength) W)
+              → seen low2 high2 ≡ seenWith (seen low1 high1) (tail next W)
+              → Climbing W L from (node - nodeLength) (place - frontAt W (node - nodeLength)) (next + length m) list3 to3 low2 high2
+          climbed-two own right =
               let X = drop (node - nodeLength) W in
-              puts-more (place - frontAt W (node - nodeLength)) (leftWords X) (firstFive X) L (omega (arith, both-fit)) left-put w2
-
-          right-words : operandWritten q (tail next W) ≡ rightWords (drop (node - nodeLength) W)
-          right-words = rw (isRight, there)
-
-          pub right-room : Room (operandOf q) (tail next W) list2 to2
-          right-room =
-              let X = drop (node - nodeLength) W in
-              let list = puts-length (place - frontAt W (node - nodeLength)) (leftWords X ++ firstFive X) L (omega (arith, both-fit))
-              both-put in
+              let q1 = place - frontAt W (node - nodeLength) in
+              let first =
+              own
+              ∙ (ap (λ (e : Extent). wider e (getD X 1 0) (getD X 2 0)) child-spans
+              ∙ taken-after (drop nodeLength X) (getD X 1 0) (getD X 2 0) (opens-with first-here .long))
+              in
               record {
-                others = up-opens .others;
-                shaped = rw there (below-two .right);
-                room = rw right-words (omega (arith, both-fit, both-put .1, list));
+                front = up .above;
+                spine = up .spine;
+                isPlace = up-place;
+                puts =
+                    rw (below-two .words, ← append-assoc (leftWords X) (firstFive X) (rightWords X))
+                    (puts-more q1 (leftWords X ++ firstFive X) (rightWords X) L
+                    (omega (arith, both-fit, length-append (leftWords X ++ firstFive X) (rightWords X))) both-put
+                    (rw right-words at (w3 .1)));
+                isNext = omega (arith, is-next, right-part, below-two .fills);
+                spans =
+                    right
+                    ∙ (ap (λ (e : Extent). seenWith e (tail next W)) first
+                    ∙ (ap (λ (Y : List ℕ). seenWith (seenWith (wider nothing (getD X 1 0) (getD X 2 0)) (drop nodeLength X)) Y) there
+                    ∙ below-two .spans nothing));
               }
-
-          module _ (m list3 : List ℕ) (to3 : ℕ) (w3 : Writes (operandWritten q (tail next W)) (tail next W) list2 to2 m list3 to3) where
-            right-part : length m ≡ nodeLength * firstSize (treesOf (rightPart (drop (node - nodeLength) W)))
-            right-part =
-                let X = drop (node - nodeLength) W in
-                let shape : Shaped 2 (suc (up-opens .others)) (tail next W) = rw there (below-two .right) in
-                let same : nodeLength * firstSize (treesOf (tail next W)) ≡ nodeLength * firstSize (treesOf (rightPart X)) = rw there refl
-                in
-                omega (arith, part-length shape (w3 .0), same)
-
-            pub next-ends : next + length m ≤ length W
-            next-ends =
-                omega (
-                  arith,
-                  is-next,
-                  right-part,
-                  below-two .fills,
-                  first-within (up-opens .shaped),
-                  length-drop (node - nodeLength) W,
-                  opens-with up-opens .long,
-                )
-
-            pub climbed-two : (low1 high1 low2 high2 : ℕ)
-                → seen low1 high1
-                ≡ wider (seen low high) (getD (drop (node - nodeLength) W) 1 0) (getD (drop (node - nodeLength) W) 2 0)
-                → seen low2 high2 ≡ seenWith (seen low1 high1) (tail next W)
-                → Climbing W L from (node - nodeLength) (place - frontAt W (node - nodeLength)) (next + length m) list3 to3 low2 high2
-            climbed-two low1 high1 low2 high2 own right =
-                let X = drop (node - nodeLength) W in
-                let q1 = place - frontAt W (node - nodeLength) in
-                let first =
-                own
-                ∙ (ap (λ (e : Extent). wider e (getD X 1 0) (getD X 2 0)) child-spans
-                ∙ taken-after (drop nodeLength X) (getD X 1 0) (getD X 2 0) (opens-with first-here .long))
-                in
-                record {
-                  front = up .above;
-                  spine = up .spine;
-                  isPlace = up-place;
-                  puts =
-                      rw (below-two .words, ← append-assoc (leftWords X) (firstFive X) (rightWords X))
-                      (puts-more q1 (leftWords X ++ firstFive X) (rightWords X) L
-                      (omega (arith, both-fit, length-append (leftWords X ++ firstFive X) (rightWords X))) both-put
-                      (rw right-words at (w3 .1)));
-                  isNext = omega (arith, is-next, right-part, below-two .fills);
-                  spans =
-                      right
-                      ∙ (ap (λ (e : Extent). seenWith e (tail next W)) first
-                      ∙ (ap (λ (Y : List ℕ). seenWith (seenWith (wider nothing (getD X 1 0) (getD X 2 0)) (drop nodeLength X)) Y) there
-                      ∙ below-two .spans nothing));
-                }
 
 -- What is read of the part of the words from a node on.
 pub count-here : (n : ℕ) (W : List ℕ) → lowOf (getD (tail n W) countIndex 0) ≡ lowOf (getD (drop n W) countIndex 0)
@@ -678,13 +672,6 @@ count-here n W = ap (λ (l : List ℕ). lowOf (getD l countIndex 0)) (tail-part 
 
 pub operator-in : (n : ℕ) (W : List ℕ) → operatorOf (getD (tail n W) 0 0) ≡ operatorOf (getD (drop n W) 0 0)
 operator-in n W = ap (λ (l : List ℕ). operatorOf (getD l 0 0)) (tail-part n W)
-
-pub placed : (n : ℕ) (W : List ℕ) (place r : ℕ) (l : List ℕ) {self : TokenWords} {l1 : List ℕ} → self ≡ tokenWordsAt (tail n W) 0 → r ≡
-    frontAt W n
-    → l1 ≡ laidAt (place - r) (fiveWords self) l
-    → l1 ≡ laidAt (place - frontAt W n) (firstFive (drop n W)) l
-unfolding firstFive
-placed n W place r l token front e = rw (token, front, tail-part n W) at e
 
 -- At the leaf the climb begins: there is room for it, and when it is written it is the tree that was come to.
 module _ {W L : List ℕ} {from node front : ℕ} (r : Room nodeTokens W L from) (t : Spine W node front) where

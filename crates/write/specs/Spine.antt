@@ -4,12 +4,15 @@ use mathlib.Core.Path.{_≡_}
 use mathlib.Core.Bool.{Bool, true, false}
 use mathlib.Core.List.{List}
 use lib.Dec.{eqb}
+use lib.ListN.{getD}
 use Rattle.write.specs.declared.plain.Seat.{Seat}
 use Rattle.write.specs.Reading.{operatorAt, childrenAt}
 use Rattle.write.specs.Seats.{isPaired, onlySeat, leftSeat, ifTrue}
 use Rattle.words.specs.Tokens.{nodeLength}
 use Rattle.shape.specs.Shaped.{Shaped}
 use Rattle.words.specs.Records.{laidAt}
+use Rattle.words.specs.Extents.{wider}
+use Rattle.words.specs.declared.extent.Extent.{Extent}
 use Rattle.write.specs.Spelling.{pairOpener, pairCloser}
 
 -- The seat of the first child of an operator over so many children.
@@ -35,6 +38,10 @@ frontAt words at = frontOf (childrenAt words at) (hasPair words at)
 abbrev pub withPair : Bool → ℕ → ℕ → ℕ → ℕ → List ℕ → List ℕ
 withPair true start end at to list = laidAt to (pairCloser end) (laidAt (at - 5) (pairOpener start end) list)
 withPair false start end at to list = list
+
+-- An extent with the span of the node that words open with taken in.
+abbrev pub spanTaken : Extent → List ℕ → Extent
+spanTaken e words = wider e (getD words 1 0) (getD words 2 0)
 
 -- The words open with a tree of at most two children a node.
 pub record Opens (words : List ℕ) : Type 0 where

@@ -44,7 +44,7 @@ pub enum Judged {
 }
 
 // The seat of the one child of op.
-pub fn seat_of_only(op: u32) -> Seat
+fn seat_of_only(op: u32) -> Seat
     ensures { λ r. ⌜ r ≡ onlySeat op ⌝ }
 {
     if op == op::LEFT_PARENTHESIS {
@@ -57,7 +57,7 @@ pub fn seat_of_only(op: u32) -> Seat
 }
 
 // The seat of the first of two children of op.
-pub fn seat_of_left(op: u32) -> Seat
+fn seat_of_left(op: u32) -> Seat
     ensures { λ r. ⌜ r ≡ leftSeat op ⌝ }
 {
     if op == op::COMMA {

@@ -16,8 +16,8 @@ use words::fields;
 use words::tokens::TokenWords;
 ghost use mathlib.Core.Path.{_≡_};
 ghost use mathlib.Core.Bool.{true};
-ghost use Prim.Native.Nat.{_+_, _≤_};
-ghost use lib.ListN.{length, getD};
+ghost use Prim.Native.Nat.{_+_, _-_, _≤_};
+ghost use lib.ListN.{length, drop, getD};
 ghost use Rattle.molang.specs.Words.{lowOf};
 ghost use Rattle.words.specs.Extents.{wider};
 ghost use Rattle.words.specs.Records.{laidAt};
@@ -27,7 +27,7 @@ ghost use Rattle.write.specs.Spelling.{spanningWords, closerWords, pairO
 ghost use Rattle.write.specs.Spelling.{nodeTokens, operandOf, filledWords, nodeWritten, operandWritten, Room};
 ghost use Rattle.write.specs.Reading.{childrenAt};
 ghost use Rattle.write.specs.Seats.{isPaired, ifTrue};
-ghost use Rattle.write.specs.Spine.{firstSeat, hasPair, frontOf, frontAt, withPair, Opens, Spine};
+ghost use Rattle.write.specs.Spine.{firstSeat, hasPair, frontOf, frontAt, withPair, spanTaken, Opens, Spine};
 
 // The greatest start that a word holds. The extent of nothing goes from it to 0, and every span widens that.
 pub const LAST_START: u32 = fields::KIND - 1;
@@ -102,6 +102,15 @@ fn widen(low: &mut u32, high: &mut u32, start: u32, end: u32)
     );
     *low = wider.start;
     *high = wider.end;
+}
+
+// Puts into `low` and `high` the extent from `least` to `most` with a span taken in.
+fn set_widened(low: &mut u32, high: &mut u32, least: u32, most: u32, start: u32, end: u32)
+    ensures { λ _. ⌜ seen (now (low .exit)) (now (high .exit)) ≡ wider (seen least most) start end ⌝ }
+{
+    *low = least;
+    *high = most;
+    widen(low, high, start, end);
 }
 
 // Writes the node that the words open with, which has no children, and takes its span in; gives back its words. Both callers have tested
@@ -211,7 +220,8 @@ fn descend(words: &[u32]) -> Descent
     Descent { node, front }
 }
 
-// Adds the pair of the first child of the node at `node`, if it gets one. The child is written, and its words begin at `at`.
+// Adds the pair of the first child of the node at `node`, if it gets one, and says whether it does. The child is written, and its words
+// begin at `at`.
 fn pair_first(
     words: &[u32],
     node: usize,
@@ -220,16 +230,62 @@ fn pair_first(
     at: usize,
     list: &mut [u32],
     to: &mut usize,
-)
+) -> bool
     requires { ⌜ node + nodeLength + nodeLength ≤ length (now words) ⌝ }
     requires { ⌜ (hasPair (now words) node ≡ true → (5 ≤ at) × (at ≤ length (now list)) × (now to + 5 ≤ length (now list))) ⌝ }
+    ensures { λ r. ⌜ r ≡ hasPair (now (words .entry)) node ⌝ }
     ensures { λ _. ⌜ now (list .exit) ≡ withPair (hasPair (now (words .entry)) node) start end at (now (to .entry)) (now (list .entry)) ⌝ }
     ensures { λ _. ⌜ now (to .exit) ≡ now (to .entry) + ifTrue (hasPair (now (words .entry)) node) 5 ⌝ }
 {
-    if has_pair(words, node) {
+    let paired = has_pair(words, node);
+    if paired {
         let opener = at - fields::TOKEN_WORDS;
         put_pair(start, end, opener, list, to);
     }
+    paired
+}
+
+// Comes up to the node at `node`. Its first child is written, from `place` on, and has the extent from `low` to `high`: the child gets its
+// pair, if it gets one, and the node's own span is taken in. Gives back where the node's words begin.
+fn rise(
+    words: &[u32],
+    node: usize,
+    place: usize,
+    list: &mut [u32],
+    to: &mut usize,
+    low: &mut u32,
+    high: &mut u32,
+) -> usize
+    requires { ⌜ (node + nodeLength + nodeLength ≤ length (now words)) × (frontAt (now words) node ≤ place) ⌝ }
+    requires { ⌜ (hasPair (now words) node ≡ true → (5 ≤ place) × (place ≤ length (now list)) × (now to + 5 ≤ length (now list))) ⌝ }
+    ensures { λ r. ⌜ r ≡ place - frontAt (now (words .entry)) node ⌝ }
+    ensures { λ _. ⌜ seen (now (low .exit)) (now (high .exit)) ≡ spanTaken (seen (now (low .entry)) (now (high .entry))) (drop node (now (words .entry))) ⌝ }
+    ensures { λ _. ⌜ now (list .exit) ≡ withPair (hasPair (now (words .entry)) node) (now (low .entry)) (now (high .entry)) place (now (to .entry)) (now (list .entry)) ⌝ }
+    ensures { λ _. ⌜ now (to .exit) ≡ now (to .entry) + ifTrue (hasPair (now (words .entry)) node) 5 ⌝ }
+{
+    let start = *low;
+    let end = *high;
+    let paired = pair_first(words, node, start, end, place, list, to);
+    widen(
+        low,
+        high,
+        words[node + fields::START_FIELD],
+        words[node + fields::END_FIELD],
+    );
+    let children = fields::low(words[node + fields::COUNT_FIELD]);
+    place - front_of(children, paired)
+}
+
+// Puts the token of the node that the words open with, which has one child, before the child's words, at `place`, and a bracket's closer
+// behind them.
+fn put_round(words: &[u32], place: usize, list: &mut [u32], to: &mut usize)
+    requires { ⌜ (nodeLength ≤ length (now words)) × (place + 5 ≤ length (now list)) ⌝ }
+    requires { ⌜ now to + length (closerWords (now words)) ≤ length (now list) ⌝ }
+    ensures { λ _. ⌜ now (list .exit) ≡ laidAt (now (to .entry)) (closerWords (now (words .entry))) (laidAt place (firstFive (now (words .entry))) (now (list .entry))) ⌝ }
+    ensures { λ _. ⌜ now (to .exit) ≡ now (to .entry) + length (closerWords (now (words .entry))) ⌝ }
+{
+    TokenWords::at(words, 0).lay(list, place);
+    put_closer(words, list, to);
 }
 
 // Writes the tree that the words open with, and takes its spans into the extent from `low` to `high`. The first children are gone down to
@@ -250,10 +306,9 @@ pub fn write_node<'a>(
 {
     let mut start = LAST_START;
     let mut stop = 0u32;
-    let from = *to;
     let end = descend(words);
     let mut node = end.node;
-    let mut place = from + end.front;
+    let mut place = *to + end.front;
     let mut after = place;
     let leaf = write_leaf(&words[node..], list, &mut after, &mut start, &mut stop);
     let mut next = node + leaf.len();
@@ -261,41 +316,31 @@ pub fn write_node<'a>(
     let outer_high = *high;
     while 0 < node {
         node -= fields::NODE_WORDS;
-        pair_first(words, node, start, stop, place, list, &mut after);
-        place -= front_at(words, node);
+        place = rise(words, node, place, list, &mut after, &mut start, &mut stop);
         let own = &words[node..];
-        widen(
-            &mut start,
-            &mut stop,
-            own[fields::START_FIELD],
-            own[fields::END_FIELD],
-        );
-        if fields::low(own[fields::COUNT_FIELD]) == 2 {
-            put_token(own, list, &mut after);
-            let below = &words[next..];
-            if fields::low(below[fields::COUNT_FIELD]) == 0 {
-                let right = write_leaf(below, list, &mut after, &mut start, &mut stop);
-                next += right.len();
-                continue;
-            }
-            let seat = seat_of_right(fields::operator(own[0]));
-            *to = after;
-            *low = start;
-            *high = stop;
-            let right = write_operand(below, seat, list, to, low, high);
-            after = *to;
-            start = *low;
-            stop = *high;
+        if fields::low(own[fields::COUNT_FIELD]) != 2 {
+            put_round(own, place, list, &mut after);
+            continue;
+        }
+        put_token(own, list, &mut after);
+        let below = &words[next..];
+        if fields::low(below[fields::COUNT_FIELD]) == 0 {
+            let right = write_leaf(below, list, &mut after, &mut start, &mut stop);
             next += right.len();
             continue;
         }
-        TokenWords::at(own, 0).lay(list, place);
-        put_closer(own, list, &mut after);
+        let seat = seat_of_right(fields::operator(own[0]));
+        *to = after;
+        *low = start;
+        *high = stop;
+        let right = write_operand(below, seat, list, to, low, high);
+        after = *to;
+        start = *low;
+        stop = *high;
+        next += right.len();
     }
     *to = after;
-    *low = outer_low;
-    *high = outer_high;
-    widen(low, high, start, stop);
+    set_widened(low, high, outer_low, outer_high, start, stop);
     &words[..next]
 }
 
@@ -333,8 +378,6 @@ fn write_operand<'a>(
     let start = *low;
     let end = *high;
     put_pair(start, end, at, list, to);
-    *low = outer_low;
-    *high = outer_high;
-    widen(low, high, start, end);
+    set_widened(low, high, outer_low, outer_high, start, end);
     operand
 }

@@ -17,10 +17,11 @@ put-pair-requires c κs =
 returns : tie.Need-returns
 returns c =
     let paired = c .before .before .before .before .before in
-    rw (sym (paired .before .has-pair .ensures) ∙ paired .if1 .taken) (c .before .before .put-pair .ensures)
+    let has = sym (paired .before .has-pair .ensures) ∙ paired .if1 .taken in
+    (paired .before .has-pair .ensures, rw has (c .before .before .put-pair .ensures))
 
 returns-2 : tie.Need-returns-2
-returns-2 c = rw (sym (c .before .has-pair .ensures) ∙ c .if1 .left) (refl, omega arith)
+returns-2 c = (c .before .has-pair .ensures, rw (sym (c .before .has-pair .ensures) ∙ c .if1 .left) (refl, omega arith))
 
 pub pair-first-spec : {M : Type 1} → statement M
 pair-first-spec = tie.close (tie.spec (λ c κs. search needs) sub-opener put-pair-requires (λ c. search needs) returns returns-2)
