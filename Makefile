@@ -25,7 +25,7 @@ help:
 	@echo 'make bench      times reading, writing, stack order, lifting and the programs' \
 	    '(SORBRUDDER_BEFORE=folder of an archive to time beside)'
 	@echo 'make edits      tries the must-fail edits that the gate leaves out, hours'
-	@echo 'make believed   prints what must be believed, with its lines'
+	@echo 'make believed   writes docs/BELIEVED.md, what must be believed, with its lines'
 	@echo 'make prebuilt   fills prebuilt/ with the library as it is proved here'
 
 test:
@@ -35,7 +35,7 @@ test:
 edits:
 	@tools/more-edits.sh
 
-# What a reader of the promises must believe, with its lines: README.md's table.
+# What a reader of the promises must believe, with its lines: docs/BELIEVED.md.
 believed:
 	@tools/believed.py
 

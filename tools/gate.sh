@@ -81,8 +81,9 @@ rust_tests() {
 step "every must-fail edit applies" tools/edits-apply.sh
 if command -v python3 >/dev/null; then
     step "every public function has two wrong programs" tools/wrong_programs.py
+    step "the page of what must be believed is as it would be written" tools/believed.py --check
 else
-    echo "gate: there is no python3: the wrong programs of the public functions were not counted"
+    echo "gate: there is no python3: the wrong programs of the public functions and what must be believed were not counted"
 fi
 
 prove
