@@ -77,7 +77,7 @@ impl fmt::Display for Span {
     }
 }
 
-/// What a token carries. The numbers are indices into names that are the caller's own, or a hash.
+/// What a token carries. The numbers are the caller's own: indices into its names, or what stands for a string.
 ///
 /// Two payloads are equal where their bits are, so a float that is no number equals itself.
 ///
@@ -94,7 +94,7 @@ pub enum Payload {
     None,
     /// A number literal.
     Float(f32),
-    /// A string literal's hash.
+    /// What stands for a string literal: an index, or 32 bits of its hash.
     Hash(u32),
     /// The name of a `context.` variable.
     Context(u32),
