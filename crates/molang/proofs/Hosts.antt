@@ -20,15 +20,17 @@ use Rattle.molang.specs.Words.{lowFault, wordFault, variantAfter, nextIn
 use Rattle.molang.specs.{Legal.{Legal, LegalTrees, noTrees, legalTree}, Nesting.{openAfter, firstAbove, tooDeep}}
 use Rattle.molang.specs.Parse.{Call, lengthRows, valueRows, refusal, reading, recordWords, aTree, someMessages, told, answered}
 use Rattle.molang.specs.Parse.{inFront, treeIn, treeAfter, messagesIn, messagesAfter, workIn, workAfter}
-use Rattle.molang.specs.Hosts.{isHostWord, withThisWord, hostless, treeTold, In, first, later, KeptFrom, ReadsAsThis}
+use Rattle.molang.specs.Hosts.{isHostWord, withThisWord, hostless, treeTold, isThisOrHost, hostBefore, hostTokens, hostNodes}
+use Rattle.molang.specs.{Hosts.{ReadsAsThis, WritesHosts}, Write.{spanning}, WriteEntry.{WriteCall, writeRefusal, writtenTokens}}
 use Rattle.molang.proofs.Booleans
-use Rattle.molang.proofs.{Trees.{both, decided}, FirstFailure.{behind}}
+use Rattle.molang.proofs.{Trees.{both, decided}, FirstFailure.{behind, first-none, withNumber-none}}
 use Rattle.molang.proofs.Words.{word-back, kind-word, low-word, bits-number, bits-room, host-within, operator-small, word-faultless}
-use Rattle.molang.proofs.{Words.{next-word}, Every.{Every, nowhere, at, Renewable, read-every}, Legal.{read-legal}}
-use Rattle.molang.proofs.{Accepted.{call-accepted}, HandedTree.{front-words}, Bounds.{treeWords-length}}
+use Rattle.molang.proofs.{Words.{next-word}, HostOrder.{read-hosts, written-hosts}, Legal.{read-legal}}
+use Rattle.molang.proofs.{Accepted.{call-accepted}, HandedTree.{front-words, tree-wrote, write-of-told}, Bounds.{treeWords-length}}
 use Rattle.molang.proofs.Relabelling.{isNamed, allNamed, Seen, itself, asThis, oneOf-seen, closing-seen, Unnoticed, relabelled}
 use Rattle.molang.proofs.Relabelling.{messageOf, messagesOf, answerOf, tokensFor, read-natural, rel-count, rel-size}
 use Rattle.molang.proofs.MessageNumbers.{NamesLow, AllLow, AnswerLow, read-low}
+use Rattle.molang.proofs.{TreeWords.{tree-fault-none}, StackOrder.{trees-of-tree}}
 
 -- ---- Tokens
 
@@ -81,56 +83,11 @@ pub reads-as-this : (tokens : List Token) (u : ℕ → Bool) (version : ℤ) (so
     → read (tokensFor withThis tokens) u version sourceLength ≡ answerOf withThis (read tokens u version sourceLength)
 reads-as-this = read-natural withThis unnoticed
 
--- ---- The numbers are kept
-
--- A token with 76 or a host's number is one of the list.
-abbrev Known : List Token → Token → Type 0
-Known ks k = (eqb (k .op) Operator.this || isHost (k .op)) ≡ true → In k ks
-
--- The tokens that the passes make have other numbers.
-other-number : (ks : List Token) (k : Token) → (eqb (k .op) Operator.this || isHost (k .op)) ≡ false → Known ks k
-other-number ks k e h = absurd (true≢false (sym h ∙ e))
-
 -- 76 stands for both.
 this-for : (n : ℕ) → (eqb n Operator.this || isHost n) ≡ true → asOperator n ≡ Operator.this
 this-for n h =
     Booleans.either (isHost n) (λ t. host-as n t)
     (λ f. other-as n f ∙ eqb-true n Operator.this (Booleans.or-only-first (eqb n Operator.this) (isHost n) f h))
-
--- An opener has neither.
-opener-known : (ks : List Token) (k o : Token) → closer o ≡ k .op → isCloser (k .op) ≡ true → Known ks (closedBy k o)
-unfolding closedBy closer isCloser closingOf isOneOf any
-opener-known ks k o same closes h =
-    let e : closingOf (o .op) ≡ none = sym (closing-seen (this-seen (o .op))) ∙ ap closingOf (this-for (o .op) h) in
-    let zero : k .op ≡ 0 = sym same ∙ ap (λ (c : Option ℕ). Option·getD c 0) e in
-    absurd (true≢false (sym closes ∙ ap isCloser zero))
-
-known-new : (ks : List Token) → Renewable (Known ks)
-unfolding renamed bare isHost between
-known-new ks =
-    record {
-      plus = λ k m h. other-number ks (renamed Operator.add k) refl;
-      array = λ k m h. other-number ks (renamed Operator.array k) refl;
-      statement = λ k h. other-number ks (bare Operator.semicolon k) refl;
-      minus = λ k h. other-number ks (bare Operator.negate k) refl;
-      section = λ k o same closes h g. opener-known ks k o same closes;
-    }
-
--- The tokens of a list are known in it, also behind others.
-known-leaves : (ks all : List Token) → ((k : Token) → In k ks → In k all) → Every (Known all) (leaves ks)
-unfolding leaves
-known-leaves [] all h = nowhere
-known-leaves (k ∷ ks) all h = at (λ e. h k first) nowhere (known-leaves ks all (λ l i. h l (later i)))
-
-kept-from : (ks : List Token) {f : Forest} → Every (Known ks) f → KeptFrom ks f
-kept-from ks nowhere = tt
-kept-from ks (at h below after) = (h, kept-from ks below, kept-from ks after)
-
--- EACH NODE WITH 76 OR A HOST'S NUMBER IS A TOKEN OF THE LIST.
-pub numbers-kept : (tokens : List Token) (u : ℕ → Bool) (version : ℤ) (sourceLength : ℕ) (k : Token) (cs : Forest)
-    → read tokens u version sourceLength ≡ tree k cs → KeptFrom tokens (node k cs nil)
-numbers-kept ts u v l k cs e =
-    kept-from ts (read-every (Known ts) (known-new ts) ts u v l k cs (known-leaves ts ts (λ k i. i)) e)
 
 -- ---- The used set
 
@@ -517,9 +474,9 @@ reading-legal : (c : Call) (k : Token) (cs : Forest) → refusal c ≡ none → 
 unfolding reading
 reading-legal c k cs e f = let a = call-accepted c e in read-legal _ _ _ _ k cs (a .legal) (a .few) f
 
-reading-kept : (c : Call) (k : Token) (cs : Forest) → reading c ≡ tree k cs → KeptFrom (tokensOf (c .list)) (node k cs nil)
+reading-kept : (c : Call) (k : Token) (cs : Forest) → reading c ≡ tree k cs → hostNodes (node k cs nil) [] ≡ hostTokens (tokensOf (c .list))
 unfolding reading
-reading-kept c k cs e = numbers-kept (tokensOf (c .list)) _ (c .version) (c .sourceLength) k cs e
+reading-kept c k cs e = read-hosts (tokensOf (c .list)) _ (c .version) (c .sourceLength) k cs e
 
 -- What is told and left of a call that is not turned back, by its reading.
 told-this : (a : Answer) → told none (answerOf withThis a) ≡ told none a
@@ -567,3 +524,47 @@ hostless-same c = by (refusal c) refl
           treeWithThis = rw (read, e, reads) (tree-this (reading c) (c .tree) (λ k cs f. reading-legal c k cs e f));
           numbersKept = reading-kept c;
         }
+
+-- ---- The write entry
+
+-- EVERY WRITTEN LIST HAS 76 AND THE HOSTS IN THE TREE'S ORDER.
+pub hosts-written : (w : WriteCall) → WritesHosts w
+unfolding writeRefusal writtenTokens
+hosts-written w count h =
+    let accepted = write-of-told w count h in
+    let whole = withNumber-none 12 _ (first-none _ _ accepted .0) in
+    let t = tree-fault-none (w .tree) .0 whole in
+    let trees = trees-of-tree t in
+    rw trees (written-hosts (t .root) (t .children) (tree-wrote (t .root) (t .children) w whole trees accepted .plain))
+
+-- `300 + this * 301`, all in one place: its tree has the three in the list's order, and the tree with the two hosts exchanged has not.
+one-place : ℕ → Token
+unfolding spanning
+one-place o = spanning o 0 1
+
+threeIn : ℕ → ℕ → Forest
+unfolding one-place
+threeIn first last =
+    node (one-place Operator.add)
+    (node (one-place first) nil
+    (node (one-place Operator.mul) (node (one-place Operator.this) nil (node (one-place last) nil nil)) nil)) nil
+
+three-kept : hostNodes (threeIn 300 301) [] ≡ hostTokens
+    (one-place 300 ∷ one-place Operator.add ∷ one-place Operator.this ∷ one-place Operator.mul ∷ one-place 301 ∷ [])
+unfolding threeIn hostNodes hostTokens hostBefore isThisOrHost isHost between
+three-kept = refl
+
+three-are : hostNodes (threeIn 300 301) [] ≡ one-place 300 ∷ one-place Operator.this ∷ one-place 301 ∷ []
+unfolding threeIn hostNodes hostBefore isThisOrHost isHost between
+three-are = refl
+
+exchanged-not : hostNodes (threeIn 301 300) [] ≡ hostNodes (threeIn 300 301) [] → ⊥
+unfolding threeIn hostNodes hostBefore isThisOrHost isHost between spanning one-place
+exchanged-not h =
+    let tokens : _≡_ {A = List Token} (one-place 301 ∷ one-place Operator.this ∷ one-place 300 ∷ [])
+    (one-place 300 ∷ one-place Operator.this ∷ one-place 301 ∷ []) = h in
+    let same : _≡_ {A = ℕ} 301 300 = ap headOp tokens in omega arith
+  where
+    headOp : List Token → ℕ
+    headOp [] = 0
+    headOp (k ∷ ks) = k .op
