@@ -1,5 +1,5 @@
 -- The hosts' operators (document 02, card 7): "A list with them reads as it would at the same used set with 76 in their stead, their number
--- kept wherever the answer names it." Neither reading nor writing uses this file: it states that promise of the parse entry.
+-- kept wherever the answer names it." Neither reading nor writing uses this file: it states that promise of both reading entries.
 use Prim.Native.Nat.{ℕ, _+_, _-_, _*_}
 use mathlib.Core.Path.{_≡_}
 use mathlib.Core.Bool.{Bool, true, false, _&&_, _||_}
@@ -10,8 +10,8 @@ use Rattle.molang.specs.Operator.{this, isHost}
 use Rattle.molang.specs.Forest.{Token, Forest, nil, node}
 use Rattle.molang.specs.Read.{tree}
 use Rattle.molang.specs.Words.{kindOf, lowOf, operatorBits, numberIn, tokensOf}
-use Rattle.molang.specs.Parse.{Call, refusal, reading, Told, aTree, someMessages, refused, answered, inFront, treeAfter}
-use Rattle.molang.specs.Parse.{messagesAfter, workAfter}
+use Rattle.molang.specs.Parse.{Call, reading, Told, aTree, someMessages, refused, inFront}
+use Rattle.molang.specs.Left.{Left}
 use Rattle.molang.specs.WriteEntry.{treesOf, WriteCall, writtenTokens, tokens, writeAnswered}
 
 -- A word of kind 1 whose number is a host's.
@@ -61,15 +61,17 @@ unfoldable pub hostNodes : Forest → List Token → List Token
 hostNodes nil r = r
 hostNodes (node k cs rest) r = hostBefore k (hostNodes cs (hostNodes rest r))
 
--- A CALL READS AS WITH 76 IN THE HOSTS' STEAD: it is turned back alike, answers alike, and leaves the same messages and work. The call with
--- 76 leaves the same tree with 76 put in, and the rest of the tree buffer as it was. And the numbers are kept: the nodes with 76 and with
--- hosts' numbers, in tree order, are the tokens with these numbers, in list order.
-pub record ReadsAsThis (c : Call) : Type 0 where
-  pub sameRefusal : refusal (hostless c) ≡ refusal c
-  pub sameAnswer : answered (hostless c) ≡ answered c
-  pub sameMessages : messagesAfter (hostless c) ≡ messagesAfter c
-  pub sameWork : workAfter (hostless c) ≡ workAfter c
-  pub treeWithThis : treeAfter (hostless c) ≡ inFront (map withThisWord (take (treeTold (answered c)) (treeAfter c))) (c .tree)
+-- A CALL READS AS WITH 76 IN THE HOSTS' STEAD, by what the call c comes to, and what it comes to with 76: it is turned back alike, answers
+-- alike, and leaves the same messages, work and rule bytes. The call with 76 leaves the same tree with 76 put in, and the rest of the tree
+-- buffer as it was. And the numbers are kept: the nodes with 76 and with hosts' numbers, in tree order, are the tokens with these numbers,
+-- in list order.
+pub record ReadsAsThis (c : Call) (here there : Left) : Type 0 where
+  pub sameRefusal : there .turned ≡ here .turned
+  pub sameAnswer : there .told ≡ here .told
+  pub sameMessages : there .messages ≡ here .messages
+  pub sameWork : there .work ≡ here .work
+  pub sameRules : there .rules ≡ here .rules
+  pub treeWithThis : there .tree ≡ inFront (map withThisWord (take (treeTold (here .told)) (here .tree))) (c .tree)
   pub numbersKept : (k : Token) (cs : Forest) → reading c ≡ tree k cs → hostNodes (node k cs nil) [] ≡ hostTokens (tokensOf (c .list))
 
 -- THE WRITTEN LIST KEEPS THEM: if a call of the writer answers a token count, the written tokens with 76 and with hosts' numbers, in list
