@@ -56,10 +56,10 @@ LONG_USE = re.compile(r"^((?:ghost )?use [^\n{]*\{)\n([^}]*)\}", re.MULTILINE)
 # Files of specs/ that no entry reaches, with the statement of a theorem of the same crate's proofs/, and whose it is.
 STATEMENTS = {
     ("molang", "Matching"): "the theorem `nothing-lost` says",
-    ("molang", "Left"): "the theorems `hostless-same` and `limit-only` say",
+    ("molang", "Left"): "the theorems `hostless-same`, `limit-only` and `one-name-free` say",
     ("molang", "Hosts"): "the theorems `hostless-same` and `hosts-written` say",
     ("molang", "Limits"): "the theorem `limit-only` says",
-    ("molang", "Payloads"): "the theorems `one-name`, `one-name-ruled`, `one-node` and `one-name-on` say",
+    ("molang", "Payloads"): "the theorems `one-name`, `one-name-ruled`, `one-node`, `one-name-on`, `one-name-free` and `one-node-free` say",
     ("held", "Histories"): "the theorems `afresh` and `as-asked` say",
     ("held", "Runs"): "the theorems `ran-after`, `words-are`, `asked-afresh` and `committed-as-asked` say",
     ("molang", "Free"): "the theorem `no-masks` says",
