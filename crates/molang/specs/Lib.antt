@@ -20,8 +20,10 @@ pub mod Words
 pub mod Legal
 pub mod Nesting
 pub mod Parse
-pub mod Hosts
 pub mod Rules
+pub mod Left
+pub mod Hosts
+pub mod Limits
 pub mod OperatorRules
 pub mod Plain
 pub mod Write
