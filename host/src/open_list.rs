@@ -5,13 +5,15 @@ use crate::token::Token;
 use crate::{Limit, MOST_TOKENS, Messages, Refusal, Tokens, Tree};
 use sorbrudder_sys::{Answer, HELD_WORDS, Held, Room};
 use std::fmt;
+use std::sync::atomic::{AtomicU64, Ordering};
 
 /// A list that an editor holds open while somebody types and the pack's version may rise under it. It owns its words and the buffers that
 /// it is read in.
 ///
 /// An edit is asked first: the answer says what the list would read as, and nothing held changes. What was asked is then committed. Every
-/// commit and every version change adds one to the list's edit count, and [`Asked`] knows the count at which it was asked, so an edit that
-/// was asked of another state of the list is turned back; where it is not, the list reads as was asked.
+/// commit and every version change adds one to the list's edit count, and [`Asked`] knows the count at which it was asked and the list that
+/// it was asked of, so an edit that was asked of another state of the list, or of another list, is turned back; where it is not, the list
+/// reads as was asked. A clone is another list.
 ///
 /// ```
 /// use sorbrudder::{Edit, EditError, OpenList, Tokens};
@@ -45,14 +47,50 @@ use std::fmt;
 /// ```
 ///
 /// Asking and committing take at most 84 KiB of stack in the library, opening 2 KiB, whatever the list.
-#[derive(Clone)]
 pub struct OpenList {
+    opening: Opening,
     held: Held,
     /// As many as the longest list has; those of the held list stand in front.
     words: Vec<u32>,
     limit: Limit,
     tree: Vec<u32>,
     work: Work,
+}
+
+/// Which list it is: no two open lists of a program have the same.
+#[derive(Copy, Clone, Debug, PartialEq, Eq)]
+struct Opening(u64);
+
+impl Opening {
+    fn next() -> Self {
+        // A program that opens a list each nanosecond comes round after five hundred years.
+        static NEXT: AtomicU64 = AtomicU64::new(0);
+        Self(NEXT.fetch_add(1, Ordering::Relaxed))
+    }
+}
+
+/// Another list with the same words: what was asked of the one is not committed to the other, since each goes its own way from here.
+///
+/// ```
+/// use sorbrudder::{Edit, EditError, OpenList, Tokens};
+///
+/// let list: Tokens = "a + b".parse().unwrap();
+/// let mut open = OpenList::open(&list, 6).unwrap();
+/// let asked = open.ask(Edit::remove(1, 2)).unwrap();
+/// assert_eq!(open.clone().commit(&asked), Err(EditError::OtherList));
+/// open.commit(&asked).unwrap();
+/// ```
+impl Clone for OpenList {
+    fn clone(&self) -> Self {
+        Self {
+            opening: Opening::next(),
+            held: self.held,
+            words: self.words.clone(),
+            limit: self.limit,
+            tree: self.tree.clone(),
+            work: self.work.clone(),
+        }
+    }
 }
 
 /// An edit of an open list.
@@ -119,7 +157,7 @@ impl Edit {
 
 /// An edit that was asked of an open list, with what the list would read as and the edit count at which that is so.
 ///
-/// It is committed to the list that was asked; of several asks at one edit count any one can be.
+/// It is committed to the list that was asked, and to no other; of several asks at one edit count any one can be.
 ///
 /// ```
 /// use sorbrudder::{Edit, OpenList, Tokens};
@@ -133,6 +171,7 @@ impl Edit {
 /// ```
 #[derive(Clone, Debug, PartialEq, Eq)]
 pub struct Asked {
+    opening: Opening,
     edit: Edit,
     seen: u32,
     reading: Result<Tree, Messages>,
@@ -205,6 +244,8 @@ pub enum EditError {
         /// The first token of that list, counted from 0, with which more brackets are open than the limit. It opens one.
         token: usize,
     },
+    /// The edit was asked of another open list; of a clone too. Told before all others.
+    OtherList,
     /// The list has another edit count than the one at which the edit was asked: something else was committed, or a version adopted.
     OtherEditCount {
         /// The edit count at which the edit was asked.
@@ -226,6 +267,7 @@ impl fmt::Display for EditError {
                 f,
                 "too deep: with token {token} more brackets are open than the limit allows"
             ),
+            Self::OtherList => write!(f, "the edit was asked of another list"),
             Self::OtherEditCount { seen, edits } => write!(
                 f,
                 "the list changed after the edit was asked: its edit count was {seen} and is {edits}"
@@ -266,6 +308,7 @@ impl OpenList {
     /// ```
     pub fn open_within(limit: Limit, tokens: &[Token], version: i16) -> Result<Self, EditError> {
         let mut open = Self {
+            opening: Opening::next(),
             held: Held::default(),
             words: vec![0; HELD_WORDS],
             limit,
@@ -390,13 +433,14 @@ impl OpenList {
         let seen = self.held.edits;
         self.accepted(answer, seen)?;
         Ok(Asked {
+            opening: self.opening,
             edit,
             seen,
             reading: self.reading(answer),
         })
     }
 
-    /// Makes an edit that was asked, unless the list has changed since.
+    /// Makes an edit that was asked of this list, unless the list has changed since.
     ///
     /// ```
     /// use sorbrudder::{Edit, OpenList, Tokens};
@@ -410,6 +454,9 @@ impl OpenList {
     /// assert!(open.commit(&asked).is_err());
     /// ```
     pub fn commit(&mut self, asked: &Asked) -> Result<(), EditError> {
+        if asked.opening != self.opening {
+            return Err(EditError::OtherList);
+        }
         let (edit, seen) = (&asked.edit, asked.seen);
         let put = edit.put.words();
         let answer = self.lend(self.tokens_with(edit), |held, words, room| {
