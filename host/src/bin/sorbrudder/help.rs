@@ -19,7 +19,8 @@ sorbrudder: archives of Molang token lists, checked, compared, lifted to a versi
 `sorbrudder COMMAND --help` says more. Lists are numbered from 0. A folder stands for all files in it, by name, but for those whose
 names begin with a dot or end in `.bak`. `-` is standard input or output. What is told of lists goes to standard output, `--json`
 makes it a line of JSON a list (and one for a file that fails); progress and the summary go to standard error. NO_COLOR is heeded. Where
-nobody reads standard output any more, a command ends without a word; of an archive that is written there with status 3, since it is cut.
+nobody reads standard output any more, a command goes on, and its status speaks of all lists; of an archive that is written there it ends
+with status 3, since it is cut.
 
 Exit status: 0 all well, 1 some lists differ, stayed behind or are no trees, 2 wrong arguments, 3 input or output failed,
 4 an archive is damaged.
@@ -105,8 +106,10 @@ each node of a part that differs, and in square brackets the rule that paired a 
 const EXPLAIN: &str = "\
 sorbrudder explain FILE#N | -e LIST [--at V] [--limit N] [--source TEXT] [--json]
 
-Prints why a list is no tree, each message under what it points at; with `--limit N` also the bracket that opens one more than N. The status
-is 1 where it is none.
+Prints why a list is no tree, each message with the line that it is about and signs under what it points at; with `--limit N` also the
+bracket that opens one more than N. Of a text of several lines, and of a file after `--source`, each message has its place,
+FILE:LINE:COLUMN, both from 1, the column in characters, the line and the one before it, and of what goes over several lines the first and
+the last. The status is 1 where the list is no tree.
 ";
 
 const DRAW: &str = "\

@@ -8,6 +8,8 @@ mod check;
 mod diff;
 mod draw;
 mod drawing;
+mod escape;
+mod excerpt;
 mod explain;
 mod failure;
 mod help;
@@ -26,6 +28,7 @@ mod replace;
 mod rules;
 mod several;
 mod versions;
+mod width;
 
 use args::Args;
 use failure::{Failure, Status};

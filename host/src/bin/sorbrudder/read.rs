@@ -3,6 +3,7 @@
 use crate::args::{self, Args};
 use crate::bracketed;
 use crate::drawing;
+use crate::escape;
 use crate::explain;
 use crate::failure::{Failure, Status};
 use crate::json::Object;
@@ -37,12 +38,10 @@ pub fn run(args: &Args) -> Result<Status, Failure> {
 
 /// The bracketed line and the drawing.
 pub fn as_text(tree: &Tree, one: &OneList, version: i16) -> String {
-    let mut text = format!(
-        "version {version}   {}\n\n",
-        bracketed::line(tree.view(), Some(&one.source))
-    );
+    let line = bracketed::line(tree.view(), Some(&one.source));
+    let mut text = format!("version {version}   {}\n\n", escape::line(&line));
     for row in drawing::rows(tree.view(), &one.source) {
-        text += &format!("{}\n", row.line());
+        text += &format!("{}\n", escape::line(&row.line()));
     }
     text
 }
