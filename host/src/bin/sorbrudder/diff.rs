@@ -60,8 +60,9 @@ pub fn run(args: &Args) -> Result<Status, Failure> {
     let files = paths::files(&args.rest)?;
     let is_json = args.has("--json");
     let mut sum = Found::default();
+    // Where nobody reads the lines to their end, the lists are read all the same: the status speaks of all of them.
     let mut stdout = Stdout {
-        goes_on: false,
+        goes_on: true,
         is_closed: false,
     };
     let diff = |file: &Path, teller: &mut Teller<Found>| diff_file(file, to, is_json, teller);

@@ -92,9 +92,9 @@ impl Sink for Stdout {
         if self.is_closed {
             return Ok(());
         }
-        match crate::output::print(text) {
+        match crate::output::write(text) {
             Err(Failure::Closed) if self.goes_on => self.is_closed = true,
-            other => _ = other?,
+            other => other?,
         }
         Ok(())
     }
