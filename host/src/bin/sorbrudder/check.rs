@@ -1,6 +1,6 @@
 //! `sorbrudder check`: reads archives and says what is in them.
 
-use crate::args::{self, Args};
+use crate::args::Args;
 use crate::escape;
 use crate::failure::{Failure, Status};
 use crate::input::Input;
@@ -10,8 +10,6 @@ use crate::paths;
 use crate::several::{self, Stdout, Teller};
 use sorbrudder::{Limit, ReadError, Reader};
 use std::path::Path;
-
-pub const OPTIONS: &[args::Option] = &[args::flag("--json"), args::value("--limit")];
 
 /// What was found in a file, or in all.
 #[derive(Clone, Copy, Debug, Default)]

@@ -1,6 +1,6 @@
 //! `sorbrudder diff`: which lists another version reads otherwise, where, and by which rule. It writes nothing.
 
-use crate::args::{self, Args};
+use crate::args::Args;
 use crate::bracketed;
 use crate::check::{is_refused, note_words};
 use crate::failure::{Failure, Status};
@@ -13,8 +13,6 @@ use crate::several::{self, Stdout, Teller};
 use sorbrudder::archive::List;
 use sorbrudder::{Op, ReadError, Reader, TreeRef};
 use std::path::Path;
-
-pub const OPTIONS: &[args::Option] = &[args::flag("--json"), args::value("--to")];
 
 /// What was found, by the words of the results.
 #[derive(Clone, Copy, Debug, Default)]

@@ -1,20 +1,12 @@
 //! `sorbrudder explain`: why a list is no tree, each message under the tokens that it points at.
 
-use crate::args::{self, Args};
+use crate::args::Args;
 use crate::failure::{Failure, Status};
 use crate::json::Object;
-use crate::one_list::{self, OneList};
+use crate::one_list::OneList;
 use crate::output;
 use crate::read::{self, NEWEST};
 use sorbrudder::{Message, ReadError, Reader, Span, Token};
-
-pub const OPTIONS: &[args::Option] = &[
-    one_list::E,
-    one_list::SOURCE,
-    args::value("--at"),
-    args::value("--limit"),
-    args::flag("--json"),
-];
 
 pub fn run(args: &Args) -> Result<Status, Failure> {
     let one = OneList::of(args)?;

@@ -1,6 +1,6 @@
 //! The one list that a command shows: written after `-e`, or a list of an archive as `FILE#N`.
 
-use crate::args::{self, Args};
+use crate::args::Args;
 use crate::escape;
 use crate::excerpt::Excerpt;
 use crate::failure::Failure;
@@ -11,10 +11,6 @@ use std::borrow::Cow;
 use std::ffi::{OsStr, OsString};
 use std::os::unix::ffi::OsStrExt as _;
 use std::path::PathBuf;
-
-/// The options that say which list, and at which version.
-pub const E: args::Option = args::value("-e");
-pub const SOURCE: args::Option = args::value("--source");
 
 /// The file and the number of `FILE#N`.
 fn split(word: &OsStr) -> Option<(PathBuf, &str)> {

@@ -1,23 +1,15 @@
 //! `sorbrudder read`: the tree of one list.
 
-use crate::args::{self, Args};
+use crate::args::Args;
 use crate::bracketed;
 use crate::drawing;
 use crate::escape;
 use crate::explain;
 use crate::failure::{Failure, Status};
 use crate::json::Object;
-use crate::one_list::{self, OneList};
+use crate::one_list::OneList;
 use crate::output;
 use sorbrudder::{Node, Reader, Tree};
-
-pub const OPTIONS: &[args::Option] = &[
-    one_list::E,
-    one_list::SOURCE,
-    args::value("--at"),
-    args::value("--limit"),
-    args::flag("--json"),
-];
 
 /// The newest version whose rules are known; what is read at where nothing is said.
 pub const NEWEST: i16 = 13;

@@ -1,23 +1,16 @@
 //! `sorbrudder versions`: one list as several versions read it, and the trees where they differ.
 
-use crate::args::{self, Args};
+use crate::args::Args;
 use crate::bracketed;
 use crate::drawing::{self, Row};
 use crate::escape;
 use crate::failure::{Failure, Status};
 use crate::json::Object;
-use crate::one_list::{self, OneList};
+use crate::one_list::OneList;
 use crate::output;
 use crate::rules;
 use crate::width;
 use sorbrudder::{Node, ReadError, Reader, Tree};
-
-pub const OPTIONS: &[args::Option] = &[
-    one_list::E,
-    one_list::SOURCE,
-    args::value("--at"),
-    args::flag("--json"),
-];
 
 /// The versions that the rules change at, and the one before.
 const USUAL: [i16; 3] = [4, 5, 6];
