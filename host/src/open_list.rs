@@ -2,7 +2,7 @@
 
 use crate::reader::Work;
 use crate::token::Token;
-use crate::{Limit, MOST_TOKENS, Messages, Refusal, Tokens, Tree};
+use crate::{Limit, MOST_TOKENS, Messages, Node, Refusal, Tokens, Tree, changes};
 use sorbrudder_sys::{Answer, HELD_WORDS, Held, Room};
 use std::fmt;
 use std::sync::atomic::{AtomicU64, Ordering};
@@ -131,6 +131,48 @@ impl Edit {
         }
     }
 
+    /// The edit of what somebody typed: it removes tokens of a list and puts in others, whose spans lie in the new text, and moves the
+    /// spans of all later tokens by `grown`, by how many bytes the text became longer (or shorter, below 0). It is one edit, so the list
+    /// never reads as if half of it were done.
+    ///
+    /// Where a later token's span would leave what a [`Span`](crate::Span) can be, it is [`EditError::SpanOutOfReach`], and where the list
+    /// has no such tokens [`EditError::PastTheEnd`].
+    ///
+    /// ```
+    /// use sorbrudder::{Edit, OpenList, Tokens};
+    ///
+    /// let (before, after): (Tokens, Tokens) = ("a + b * c".parse().unwrap(), "a + !x * c".parse().unwrap());
+    /// let mut open = OpenList::open(&before, 6).unwrap();
+    ///
+    /// // `b` becomes `!x`: one token goes, two come, and what stands behind them moves by a byte.
+    /// let edit = Edit::typed(&open.tokens(), 2, 1, &after[2..4], 1).unwrap();
+    /// let asked = open.ask(edit).unwrap();
+    /// open.commit(&asked).unwrap();
+    /// assert_eq!((open.tokens(), open.edits()), (after, 1));
+    /// ```
+    pub fn typed(
+        list: &[Token],
+        place: usize,
+        removed: usize,
+        put: impl Into<Tokens>,
+        grown: i64,
+    ) -> Result<Self, EditError> {
+        let later = place.checked_add(removed).ok_or(EditError::PastTheEnd)?;
+        let behind = list.get(later..).ok_or(EditError::PastTheEnd)?;
+        let mut put = put.into().into_vec();
+        for (number, token) in behind.iter().enumerate() {
+            let span = token.span.moved(grown);
+            let token = Token {
+                span: span.ok_or(EditError::SpanOutOfReach {
+                    token: later + number,
+                })?,
+                ..*token
+            };
+            put.push(token);
+        }
+        Ok(Self::replace(place, list.len() - place, put))
+    }
+
     /// The edit that puts in tokens and removes none.
     ///
     /// ```
@@ -255,6 +297,11 @@ pub enum EditError {
     },
     /// The edit's place, or what it removes, is past the list's end.
     PastTheEnd,
+    /// A later token's span would leave what a span can be ([`Edit::typed`]).
+    SpanOutOfReach {
+        /// The token, counted from 0 in the list before the edit.
+        token: usize,
+    },
     /// The list's edit count is 4,294,967,295: nothing more is committed and no version adopted.
     LastEdit,
 }
@@ -273,6 +320,9 @@ impl fmt::Display for EditError {
                 "the list changed after the edit was asked: its edit count was {seen} and is {edits}"
             ),
             Self::PastTheEnd => write!(f, "the edit is past the list's end"),
+            Self::SpanOutOfReach { token } => {
+                write!(f, "the span of token {token} would be moved out of reach")
+            }
             Self::LastEdit => write!(f, "the list's edit count has no next one"),
         }
     }
@@ -463,6 +513,55 @@ impl OpenList {
             sorbrudder_sys::commit(held, seen, words, edit_of(edit, &put), room)
         });
         self.accepted(answer, seen)
+    }
+
+    /// The nodes of what was asked that the list as it is does not read so: those of tokens that are new, and those that are paired
+    /// otherwise, with another parent or other children, or that close elsewhere. It is what an editor has to draw anew; what is not among
+    /// them stands in the tree as before, at the same place or moved with the text ([`Edit::typed`]).
+    ///
+    /// None are given where the list would be no tree, and all where it is none now. [`Tree::differences`] compares two trees from the
+    /// root on, and where two nodes differ goes no deeper; this compares every node by itself.
+    ///
+    /// ```
+    /// use sorbrudder::{Edit, OpenList, Tokens};
+    ///
+    /// // `d * e` becomes `d + e`: the `+` is new, and stands above all; what was under the `*` hangs elsewhere. `d` is still the operand
+    /// // of its sign, and the brackets with what is in them, and their product with `c`, are as they were.
+    /// let (before, after): (Tokens, Tokens) = ("(a + b) * c - d * e".parse()?, "(a + b) * c - d + e".parse()?);
+    /// let mut open = OpenList::open(&before, 6)?;
+    /// let asked = open.ask(Edit::replace(9, 1, &after[9..10]))?;
+    /// let changed = open.changes(&asked)?;
+    /// let parts = changed.iter().map(|node| node.span().of("(a + b) * c - d + e").unwrap());
+    /// assert_eq!(parts.collect::<Vec<_>>(), ["+", "-", "-", "e"]);
+    /// # Ok::<(), Box<dyn std::error::Error>>(())
+    /// ```
+    pub fn changes<'a>(&mut self, asked: &'a Asked) -> Result<Vec<Node<'a>>, EditError> {
+        self.is_of_now(asked)?;
+        let Ok(new) = &asked.reading else {
+            return Ok(Vec::new());
+        };
+        let Ok(old) = self.read() else {
+            return Ok(new.nodes().collect());
+        };
+        let (before, edit) = (self.tokens(), &asked.edit);
+        let mut after = before.to_vec();
+        after.splice(
+            edit.place..edit.place + edit.removed,
+            edit.put.iter().copied(),
+        );
+        Ok(changes::between((&before, &old), (&after, new)))
+    }
+
+    /// Whether an edit was asked of this list as it is now.
+    fn is_of_now(&self, asked: &Asked) -> Result<(), EditError> {
+        if asked.opening != self.opening {
+            return Err(EditError::OtherList);
+        }
+        let (seen, edits) = (asked.seen, self.held.edits);
+        match seen == edits {
+            true => Ok(()),
+            false => Err(EditError::OtherEditCount { seen, edits }),
+        }
     }
 
     /// Adopts the rules of a version. Nothing is read: [`OpenList::read`] says what the list is now.
