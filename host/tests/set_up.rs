@@ -364,10 +364,8 @@ fn the_prebuilt_programs_run_without_rt() {
     assert!(!run("treelist", &words(&[5])).is_empty());
 }
 
-/// The build script of `sys`, run by hand with a folder that has no library.
-#[test]
-fn a_wrong_folder_for_the_library_is_told_as_such() {
-    let folder = folder("build_script");
+/// The build script of `sys`, compiled to be run by hand, as if the crate lay in a folder.
+fn build_script(folder: &Path) -> PathBuf {
     let script = folder.join("build");
     std::fs::create_dir(folder.join("sys")).expect("a folder");
     let sys = root().join("sys");
@@ -381,6 +379,90 @@ fn a_wrong_folder_for_the_library_is_told_as_such() {
         .output()
         .expect("a compiler");
     assert!(compiled.status.success(), "{}", told(&compiled));
+    script
+}
+
+/// What an archive is told to be, of which there is no knowing what its entries take.
+#[test]
+fn another_archive_is_called_by_its_own_signature_or_refused() {
+    let folder = folder("build_before");
+    let script = build_script(&folder);
+    let system = format!("{}-{}", std::env::consts::ARCH, std::env::consts::OS);
+    let archive = root().join("prebuilt").join(system).join("libsorbrudder.a");
+    if !archive.is_file() || found("objcopy").is_none() {
+        return;
+    }
+    let before = |name: &str, hidden: &[&str], header: Option<&str>| {
+        let other = folder.join(name);
+        std::fs::create_dir(&other).expect("a folder");
+        if name != "none" {
+            let mut copy = Command::new("objcopy");
+            copy.args(
+                hidden
+                    .iter()
+                    .map(|entry| format!("--redefine-sym=sorbrudder_{entry}=no_{entry}")),
+            );
+            copy.arg(&archive).arg(other.join("libsorbrudder.a"));
+            assert!(copy.status().expect("it runs").success());
+        }
+        if let Some(header) = header {
+            std::fs::write(other.join("sorbrudder.h"), header).expect("a file");
+        }
+        let mut run = Command::new(&script);
+        run.env("SORBRUDDER_BEFORE", &other).env("OUT_DIR", &folder);
+        run.env("CARGO_CFG_TARGET_ARCH", "x86_64")
+            .env("CARGO_CFG_TARGET_OS", "linux");
+        let run = run.output().expect("it runs");
+        let (is_linked, told) = (run.status.success(), told(&run));
+        let cfgs = told
+            .lines()
+            .filter_map(|line| line.strip_prefix("cargo::rustc-cfg="));
+        assert_eq!(is_linked, cfgs.clone().any(|cfg| cfg == "before"), "{told}");
+        let is_limited = !cfgs.clone().any(|cfg| cfg == "before_without_limit");
+        (is_linked, is_linked && is_limited, told)
+    };
+    // One that has the entry with rules came after the limit; of an older one its header says it.
+    let header = std::fs::read_to_string(root().join("include/sorbrudder.h")).expect("a file");
+    let without = header.replace(", uint32_t limit);", ");");
+    for (name, hidden, header, linked, limited) in [
+        ("now", &[][..], None, true, true),
+        ("now_with_header", &[], Some(without.as_str()), true, true),
+        (
+            "old_limited",
+            &["parse_rules"],
+            Some(header.as_str()),
+            true,
+            true,
+        ),
+        ("old", &["parse_rules"], Some(without.as_str()), true, false),
+        ("unknown", &["parse_rules"], None, false, false),
+        (
+            "strange",
+            &["parse_rules"],
+            Some("nothing is declared"),
+            false,
+            false,
+        ),
+        ("no_write", &["write"], None, false, false),
+        ("none", &[], None, false, false),
+    ] {
+        let (is_linked, is_limited, told) = before(name, hidden, header);
+        assert_eq!((is_linked, is_limited), (linked, limited), "{name}: {told}");
+        let why = match name {
+            "unknown" | "strange" => "not called by another signature than its own",
+            "no_write" => "exports no sorbrudder_write",
+            "none" => "there is no libsorbrudder.a",
+            _ => "",
+        };
+        assert!(told.contains(why), "{name}: {told}");
+    }
+}
+
+/// The build script of `sys` with a folder that has no library.
+#[test]
+fn a_wrong_folder_for_the_library_is_told_as_such() {
+    let folder = folder("build_script");
+    let script = build_script(&folder);
     let advice = |library: Option<&str>| {
         let mut run = Command::new(&script);
         run.env("CARGO_CFG_TARGET_ARCH", "x86_64")
