@@ -90,7 +90,7 @@ prove
 
 # The library that the Rust crates link. Where it is not built, the host crate does not build either, and its tests count as failed.
 step "the static library" rt staticlib sorbrudder
-step "the prebuilt library is the one that is proved here" tools/prebuilt.sh --check
+step "the prebuilt library and programs are those that are proved here" tools/prebuilt.sh --check
 for crate in oracle compare host; do
     rust_tests "$crate"
 done

@@ -61,6 +61,20 @@ impl Span {
         self.end
     }
 
+    /// The span moved by so many bytes, unless it would leave what a span can be.
+    ///
+    /// ```
+    /// use sorbrudder::Span;
+    ///
+    /// let span = Span::new(3, 7).unwrap();
+    /// assert_eq!((span.moved(2), span.moved(-3)), (Span::new(5, 9), Span::new(0, 4)));
+    /// assert_eq!((span.moved(-4), span.moved(i64::MAX)), (None, None));
+    /// ```
+    pub fn moved(self, by: i64) -> Option<Self> {
+        let place = |byte: u32| i64::from(byte).checked_add(by)?.try_into().ok();
+        Self::new(place(self.start)?, place(self.end)?)
+    }
+
     /// What stands there in a text, if the span lies in it.
     ///
     /// ```

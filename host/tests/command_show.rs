@@ -343,6 +343,18 @@ fn a_closed_pipe_ends_it_quietly() {
             "{words:?}: {half:?}"
         );
     }
+    // What was found is still in the status, whatever is read of it; no command calls bad lists all well.
+    for (words, status) in [
+        (&["check", "many"][..], 1),
+        (&["check", "--json", "many"], 1),
+        (&["diff", "many", "--to", "5"], 1),
+        (&["diff", "--json", "many", "--to", "5"], 1),
+        (&["check", "--json", "many", "missing"], 3),
+        (&["ops"], 0),
+    ] {
+        let half = run_half_read(&folder, words);
+        assert_eq!(half.status, Some(status), "{words:?}: {half:?}");
+    }
     // An archive that was not read to its end is cut, which a script should know, and nobody has to be told.
     let lifted: Vec<(i16, &str)> = vec![(5, "a && b || c"); 20_000];
     std::fs::write(folder.join("lifted"), archive(Format::Container, &lifted)).expect("a file");

@@ -1,6 +1,7 @@
 //! `sorbrudder check`: reads archives and says what is in them.
 
-use crate::args::{self, Args};
+use crate::args::Args;
+use crate::escape;
 use crate::failure::{Failure, Status};
 use crate::input::Input;
 use crate::line::{About, Line};
@@ -9,8 +10,6 @@ use crate::paths;
 use crate::several::{self, Stdout, Teller};
 use sorbrudder::{Limit, ReadError, Reader};
 use std::path::Path;
-
-pub const OPTIONS: &[args::Option] = &[args::flag("--json"), args::value("--limit")];
 
 /// What was found in a file, or in all.
 #[derive(Clone, Copy, Debug, Default)]
@@ -26,7 +25,7 @@ pub struct Found {
 /// Says once a file that damage at a token's end would not be seen in it.
 pub fn note_words<T>(input: &Input, teller: &mut Teller<T>) {
     if input.is_words() {
-        let file = input.path.display();
+        let file = escape::path(&input.path);
         teller.note(format!(
             "{file}: a plain file of words; that it was cut at a token's end could not be seen"
         ));
@@ -41,8 +40,9 @@ pub fn run(args: &Args) -> Result<Status, Failure> {
     let files = paths::files(&args.rest)?;
     let is_json = args.has("--json");
     let mut sum = Found::default();
+    // Where nobody reads the lines to their end, the lists are read all the same: the status speaks of all of them.
     let mut stdout = Stdout {
-        goes_on: false,
+        goes_on: true,
         is_closed: false,
     };
     let check = |file: &Path, teller: &mut Teller<Found>| check_file(file, limit, is_json, teller);

@@ -1,6 +1,6 @@
 //! `sorbrudder diff`: which lists another version reads otherwise, where, and by which rule. It writes nothing.
 
-use crate::args::{self, Args};
+use crate::args::Args;
 use crate::bracketed;
 use crate::check::{is_refused, note_words};
 use crate::failure::{Failure, Status};
@@ -13,8 +13,6 @@ use crate::several::{self, Stdout, Teller};
 use sorbrudder::archive::List;
 use sorbrudder::{ReadError, Reader, Rule, Tokens, Tree};
 use std::path::Path;
-
-pub const OPTIONS: &[args::Option] = &[args::flag("--json"), args::value("--to")];
 
 /// What was found, by the words of the results.
 #[derive(Clone, Copy, Debug, Default)]
@@ -60,8 +58,9 @@ pub fn run(args: &Args) -> Result<Status, Failure> {
     let files = paths::files(&args.rest)?;
     let is_json = args.has("--json");
     let mut sum = Found::default();
+    // Where nobody reads the lines to their end, the lists are read all the same: the status speaks of all of them.
     let mut stdout = Stdout {
-        goes_on: false,
+        goes_on: true,
         is_closed: false,
     };
     let diff = |file: &Path, teller: &mut Teller<Found>| diff_file(file, to, is_json, teller);

@@ -1,6 +1,6 @@
 //! `sorbrudder draw`: two readings of a list as a page for a browser.
 
-use crate::args::{self, Args};
+use crate::args::Args;
 use crate::failure::{Failure, Status};
 use crate::one_list::{self, OneList};
 use crate::output;
@@ -11,13 +11,6 @@ use crate::rules;
 use sorbrudder::Reader;
 use std::io::Write as _;
 use std::path::PathBuf;
-
-pub const OPTIONS: &[args::Option] = &[
-    one_list::E,
-    one_list::SOURCE,
-    args::value("--at"),
-    args::value("-o"),
-];
 
 /// What is drawn where nothing is said.
 const USUAL: [i16; 2] = [4, 6];

@@ -11,7 +11,6 @@ use crate::paths;
 use crate::replace::Replacement;
 use crate::several::{self, Sink, Stderr, Stdout, Teller};
 use carry::Carried;
-pub use options::OPTIONS;
 use options::{Options, Target};
 use std::io::Write as _;
 use std::path::Path;

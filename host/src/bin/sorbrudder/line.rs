@@ -1,5 +1,6 @@
 //! What is told of one list: a line of text, or a line of JSON.
 
+use crate::escape;
 use crate::failure::Failure;
 use crate::json::Object;
 use sorbrudder::archive::List;
@@ -205,7 +206,7 @@ impl Line {
             byte,
             version,
         } = about;
-        let file = file.display();
+        let file = escape::path(file);
         format!(
             "{file} list {number} (byte {byte}, version {version}): {}\n",
             self.text

@@ -2,7 +2,7 @@
 
 use crate::failure::{Failure, Status};
 use crate::line::of_failure;
-use crate::output::tell;
+use crate::output::{complain, tell};
 use crate::paths::is_stream;
 use crate::progress::{PAUSE, Progress};
 use std::collections::VecDeque;
@@ -92,9 +92,9 @@ impl Sink for Stdout {
         if self.is_closed {
             return Ok(());
         }
-        match crate::output::print(text) {
+        match crate::output::write(text) {
             Err(Failure::Closed) if self.goes_on => self.is_closed = true,
-            other => _ = other?,
+            other => other?,
         }
         Ok(())
     }
@@ -140,7 +140,7 @@ pub fn each<T: Send>(
                     let Some(text) = failure.text() else {
                         return Err(failure);
                     };
-                    tell(&format!("sorbrudder: {text}"));
+                    complain(&format!("sorbrudder: {text}"));
                     status = status.max(failure.status());
                 }
             }

@@ -1,26 +1,11 @@
 //! What `sorbrudder lift` is told.
 
-use crate::args::{self, Args};
+use crate::args::Args;
 use crate::failure::Failure;
 use crate::paths::{is_stream, place_of};
 use sorbrudder::Limit;
 use sorbrudder::archive::Format;
 use std::path::{Path, PathBuf};
-
-pub const OPTIONS: &[args::Option] = &[
-    args::value("-o"),
-    args::value("--to"),
-    args::value("--limit"),
-    args::value("--own-limit"),
-    args::value("--report"),
-    args::flag("--in-place"),
-    args::flag("--backup"),
-    args::flag("--dry-run"),
-    args::flag("--strict"),
-    args::flag("--settle"),
-    args::flag("--plain"),
-    args::flag("--json"),
-];
 
 /// Where lifted lists go.
 #[derive(Clone, Debug, PartialEq, Eq)]
