@@ -57,6 +57,7 @@ LONG_USE = re.compile(r"^((?:ghost )?use [^\n{]*\{)\n([^}]*)\}", re.MULTILINE)
 STATEMENTS = {
     ("molang", "Matching"): "the theorem `nothing-lost` says",
     ("molang", "Hosts"): "the theorem `hostless-same` says",
+    ("molang", "Grammar"): "the theorems `text-reads`, `one-reading`, `text-answered` and `same-at-all` say",
     ("molang", "Payloads"): "the theorems `one-name`, `one-name-ruled`, `one-node` and `one-name-on` say",
     ("held", "Histories"): "the theorems `afresh` and `as-asked` say",
     ("held", "Runs"): "the theorems `ran-after`, `words-are`, `asked-afresh` and `committed-as-asked` say",
