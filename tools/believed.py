@@ -61,6 +61,7 @@ QUESTIONS = [
                 ("Entries", "three-calls"),
                 ("Reread", "demand-3"),
                 ("Lifts", "written-lifts straight"),
+                ("Grammar", "text-reads one-reading text-answered same-at-all"),
                 ("NoMasks", "no-masks"),
                 ("NoFrames", "no-frames"),
                 ("Unfolded", "through-again"),
@@ -104,7 +105,7 @@ there. A line counts if it is not blank, no comment and no `use`. Each row has a
 MIDDLE = """
 `reading` is the promise of `parse` (demands 1 and 2), `with writing` that of `write` too, `with demand 3` that of `reread`, which makes the
 three calls of demand 3. The programs are `treelist`, `everylist` and `liftcount`. `every theorem` adds the statements that no promise has:
-demand 3 and card 12 of the definitions, no masks, no frames, the limit, hosts, one name's reach, nothing lost in the brackets, stack order
+demand 3 and card 12 of the definitions, the grammar, no masks, no frames, the limit, hosts, one name's reach, nothing lost in the brackets, stack order
 and its places, open lists.
 
 ## By file
