@@ -50,6 +50,7 @@ APART = {
     "Legal": "what a word can hold of a token",
     "Operator": "the operators' names and sets",
     "Lines": "the table of examples",
+    "Lift": "the lift of a list from one engine to another, and what is shown of it",
 }
 # A `use` whose names stand over several lines.
 LONG_USE = re.compile(r"^((?:ghost )?use [^\n{]*\{)\n([^}]*)\}", re.MULTILINE)
