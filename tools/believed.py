@@ -19,6 +19,7 @@ ENTRIES = [
     ("rules", "src/lib.rt", "parse_ruled"),
     ("write", "src/lib.rt", "write"),
     ("reread", "src/lib.rt", "reread"),
+    ("lift", "src/lib.rt", "lift"),
     ("stackorder", "src/lib.rt", "export"),
     ("stackorder", "src/lib.rt", "import"),
     ("held", "src/lib.rt", "open_list"),
