@@ -29,6 +29,7 @@ QUESTIONS = [
         "all entries and programs",
         [
             (FUNCTION, "rules", "src/lib.rt", "parse_ruled"),
+            (FUNCTION, "lift", "src/lib.rt", "lift"),
             (FUNCTION, "stackorder", "src/lib.rt", "export"),
             (FUNCTION, "stackorder", "src/lib.rt", "import"),
             (FUNCTION, "held", "src/lib.rt", "open_list"),
@@ -61,6 +62,7 @@ QUESTIONS = [
                 ("Entries", "three-calls"),
                 ("Reread", "demand-3"),
                 ("Lifts", "written-lifts straight"),
+                ("Lift", "lift-reads comes-same comes-out lifted-again stays-on any-engines going-straight behind-for reason-behind"),
                 ("Grammar", "text-reads one-reading text-answered same-at-all"),
                 ("NoMasks", "no-masks"),
                 ("NoFrames", "no-frames"),

@@ -30,6 +30,7 @@ pub mod Plain
 pub mod Write
 pub mod WriteEntry
 pub mod Reread
+pub mod Lift
 pub mod StackOrder
 pub mod Payloads
 pub mod Lines

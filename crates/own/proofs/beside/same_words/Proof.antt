@@ -1,11 +1,11 @@
--- `liftcount::judge::same_words` meets its contract. The invariant: the words from `i` on are equal just where all are. Assumes nothing.
+-- `own::beside::same_words` meets its contract. The invariant: the words from `i` on are equal just where all are. Assumes nothing.
 use Prim.Native.Nat.{_-_, _≤_}
 use mathlib.Core.Path.{_≡_, refl, sym, _∙_}
 use native.Mathlib.Omega.{arith}
 use lib.{ListN.{length, take, drop}, Seq.{length-take-le, getD-take}}
-use Rattle.liftcount.specs.Counting.{eqWords}
-use Rattle.liftcount.proofs.{JudgeLaws.{words-equal, words-differ, words-end}, judge.same_words.Statement.{statement}}
-use Rattle.liftcount.proofs.judge.same_words.Tie as tie
+use Rattle.molang.specs.Lift.{eqWords}
+use Rattle.own.proofs.{BesideLaws.{words-equal, words-differ, words-end}, beside.same_words.Statement.{statement}}
+use Rattle.own.proofs.beside.same_words.Tie as tie
 
 abbrev Inv-loop : tie.InvT-loop
 Inv-loop tree again words i₀ i =
