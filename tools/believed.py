@@ -62,6 +62,7 @@ STATEMENTS = {
     ("molang", "Payloads"): "the theorems `one-name`, `one-name-ruled`, `one-node`, `one-name-on`, `one-name-free` and `one-node-free` say",
     ("held", "Histories"): "the theorems `afresh` and `as-asked` say",
     ("held", "Runs"): "the theorems `ran-after`, `words-are`, `asked-afresh` and `committed-as-asked` say",
+    ("sorbrudder", "Exports"): "the theorem `from-opening` says",
     ("molang", "Free"): "the theorem `no-masks` says",
     ("molang", "Work"): "the theorem `no-frames` says",
 }
