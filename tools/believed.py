@@ -36,10 +36,18 @@ ENTRIES = [
     ("sorbrudder", "src/holding.rt", "sorbrudder_ask"),
     ("sorbrudder", "src/holding.rt", "sorbrudder_commit"),
     ("sorbrudder", "src/holding.rt", "sorbrudder_adopt"),
+    ("streams", "src/lib.rt", "fill"),
+    ("treelist", "src/main.rt", "count_rest"),
     ("treelist", "src/main.rt", "listing"),
+    ("treelist", "src/main.rt", "hand"),
+    ("everylist", "src/read.rt", "read_rest"),
     ("everylist", "src/step.rt", "step_at"),
+    ("everylist", "src/main.rt", "hand"),
+    ("everylist", "src/main.rt", "print"),
+    ("liftcount", "src/main.rt", "read_input"),
     ("liftcount", "src/feed.rt", "feed"),
     ("liftcount", "src/finish.rt", "finish"),
+    ("liftcount", "src/main.rt", "hand"),
 ]
 # `use Rattle.CRATE.specs.MODULE.{NAMES}`, with the part named twice within the crate itself; in code with `ghost` and `;`. On one line:
 # `lines_in` joins those that the layout has over several.
@@ -154,7 +162,7 @@ def main():
         said = [line for name in names for line in definition(file_of(crate, "proofs", module), name)]
         rows.append((f"`{crate}/proofs`: {', '.join(f'`{name}`' for name in names)} of {module}", f"what {theorem}", count_of(said)))
     for crate, module in sorted(key for key in by_file if key[0] != "molang"):
-        users = ", ".join(f"`{function}`" for function in sorted(by_file[crate, module]))
+        users = ", ".join(f"`{function}`" for function in sorted(set(by_file[crate, module])))
         rows.append((f"`{crate}/specs`: {module}", f"what the promise of {users} cites", lines_of(file_of(crate, "specs", module))))
     for (crate, function), said in clauses.items():
         rows.append((f"`{crate}/src`: `{function}`", "its contract", len(said)))
