@@ -47,10 +47,18 @@ QUESTIONS = [
             (FUNCTION, "sorbrudder", "src/holding.rt", "sorbrudder_ask"),
             (FUNCTION, "sorbrudder", "src/holding.rt", "sorbrudder_commit"),
             (FUNCTION, "sorbrudder", "src/holding.rt", "sorbrudder_adopt"),
+            (FUNCTION, "streams", "src/lib.rt", "fill"),
+            (FUNCTION, "treelist", "src/main.rt", "count_rest"),
             (FUNCTION, "treelist", "src/main.rt", "listing"),
+            (FUNCTION, "treelist", "src/main.rt", "hand"),
+            (FUNCTION, "everylist", "src/read.rt", "read_rest"),
             (FUNCTION, "everylist", "src/step.rt", "step_at"),
+            (FUNCTION, "everylist", "src/main.rt", "hand"),
+            (FUNCTION, "everylist", "src/main.rt", "print"),
+            (FUNCTION, "liftcount", "src/main.rt", "read_input"),
             (FUNCTION, "liftcount", "src/feed.rt", "feed"),
             (FUNCTION, "liftcount", "src/finish.rt", "finish"),
+            (FUNCTION, "liftcount", "src/main.rt", "hand"),
         ],
     ),
     (
@@ -88,7 +96,8 @@ QUESTIONS = [
                 ("Running", "ran-after words-are asked-afresh committed-as-asked"),
             ]
             for name in names.split()
-        ],
+        ]
+        + [(THEOREM, "sorbrudder", "proofs/Exporting", "from-opening")],
     ),
 ]
 
@@ -113,12 +122,22 @@ and its places, open lists.
 ## By file
 """
 TAIL = """
-`lines`, `verdicts` and `table` have no row: they test the compiled code, and the text that the program prints is compared.
+`lines`, `verdicts` and `table` have no row: they test the compiled code, and the text that the program prints is compared. So the locals
+of `lines::run` (`start`, `from`, `count`, `others`) are held by no promise but to be in range.
+
+Of `treelist`, `everylist` and `liftcount` every local is held from the bytes that lie in a buffer after a read to the bytes that are handed
+to `write`: what came, what is kept of it, what is printed for it. Not held, and to be believed: that `read` puts the bytes of the input
+there, each once and in order, as many as it answers, and 0 or -1 only if the input has ended or the read failed; that a chunk before the
+last is not passed by, since the promises speak of 'some bytes' there (`RestRead`, `Reached`: one call, `read_on`, in one loop of each
+program), and so `treelist`'s count of the bytes behind its front; that `write` passes on what it is handed; which line is written to
+standard error.
+
+`rules-by-operator` is not among the theorems: it is a step of the proof of `parse_ruled`, whose promise says which rule a node has.
 
 ## What is believed besides
 
-- The kit: the checker and its logic, the compiler, LLVM and the linker, and what it assumes of the C library's functions. A program's
-  contract cannot say what is read or written; the two functions of the C library that read and write are believed.
+- The kit: the checker and its logic, the compiler, LLVM and the linker, and what it assumes of the C library's functions. No contract can
+  say what is read or written.
 - `include/sorbrudder.h` and the declarations of `sys/`, which say how the library is called.
 - The host crate and the command. They are tested, not proved.
 - `prebuilt/`: the gate compares it byte for byte with what it proves and builds.
