@@ -5,14 +5,14 @@
 -- has three views, each as small as the passes that it serves (Shape, Prefixed, Ranked; Views says that they are of one list); a pass takes
 -- a
 -- form of a view to the next one; the rules give what each view asks (Kept, Keeping, Treed).
-use Prim.Native.Nat.{ℕ, suc}
+use Prim.Native.Nat.{ℕ}
 use mathlib.Core.{Path.{_≡_, refl, ap, sym, _∙_, subst}, Bool.{Bool, true, false, _&&_, false≢true, and-eq-true-iff}, List.{List, [], _∷_}}
 use mathlib.Core.Option.{Option, none, some}
 use lib.{Dec.{eqb, leb}, IntN.{ℤ, pos, negsuc}}
 use Rattle.molang.specs.Operator
-use Rattle.molang.specs.{Operator.{any}, Forest.{Token, Forest, nil, node, bare, renamed, closedBy, leaves, size}, Message.{ok}}
+use Rattle.molang.specs.{Forest.{Token, Forest, nil, node, bare, renamed, closedBy, leaves, size}, Message.{ok}}
 use Rattle.molang.specs.Order.{Rules, rules, isFrom, effective, lastToken, lastOf, endsWithSemicolon, runs, apply}
-use Rattle.molang.specs.{Read.{Answer, tree, rooted, grouped, read, uses}, Words.{tokensOf, treeWords}}
+use Rattle.molang.specs.{Read.{Answer, tree, rooted, grouped, read}, Words.{tokensOf, treeWords}}
 use Rattle.molang.specs.Parse.{Call, inHalves, refusal, reading, told, aTree, answered, inFront, treeIn, treeAfter}
 use Rattle.molang.specs.Grammar.{Text, tokens, tokensBefore, outline, Sort, isList, isText, wellFormed, signed, listed, trees, endsIn}
 use Rattle.molang.specs.Grammar.{Serves, unpaired, sameAtAll}

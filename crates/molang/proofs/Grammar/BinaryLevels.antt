@@ -1,15 +1,15 @@
 -- THE BINARY LEVELS: the level of rank j takes the list in which all operators of higher ranks are folded to the one in which those of rank
 -- j
 -- are folded too, for every ranked expression.
-use Prim.Native.Nat.{ℕ, zero, suc, _<_, _≤_}
-use mathlib.Core.{Path.{_≡_, refl, ap, sym, _∙_}, Bool.{Bool, true, false, _||_, true≢false, false≢true}, List.{List}, Option.{none}}
+use Prim.Native.Nat.{ℕ, suc, _<_}
+use mathlib.Core.{Path.{_≡_, refl, ap, sym, _∙_}, Bool.{Bool, true, false, false≢true}, List.{List}, Option.{none}}
 use native.Mathlib.Omega.{arith}
 use lib.Dec.{eqb, leb}
-use borrow.Author.Tests.{eqb-true, eqb-false, eq-eqb, ne-eqb, leb-true, leb-false, le-leb, lt-leb}
+use borrow.Author.Tests.{eqb-true, eq-eqb, ne-eqb, leb-true, leb-false}
 use Rattle.molang.specs.{Operator.{isOneOf}, Forest.{Token, Forest, nil, node, turnedOnto, inOrder}, Message.{ok}}
 use Rattle.molang.specs.Level.{Level, walk, Gathered, gathered, waiting}
 use Rattle.molang.specs.Binary.{firstLeaf, unfolded, joined, operatorAfter, binaryStep, binaryResume, binaryFinish, binaryLevel}
-use Rattle.molang.proofs.{Booleans.{either, never}, Forests.{Turns}}
+use Rattle.molang.proofs.{Forests.{Turns}}
 use Rattle.molang.proofs.RoundTrip.Walk.{walk-on, walk-into, Gathers, Carries, Passes, carry-both, carry-node, carry-token}
 use Rattle.molang.proofs.RoundTrip.Walk.{carry-whole}
 use Rattle.molang.proofs.Grammar.Ranked.{Exp, leaf, over, beside, between, choice, chosen, isTight, Ranked, amid, form}

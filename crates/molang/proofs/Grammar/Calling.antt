@@ -1,21 +1,21 @@
 -- QUERIES AND LOOPS: the call pass gives each of them the bracket after it.
 use Prim.Native.Nat.{ℕ}
-use mathlib.Core.{Path.{_≡_, refl, ap, sym, _∙_}, Bool.{Bool, true, false, _||_, _&&_, true≢false, false≢true}, List.{List, [], _∷_}}
+use mathlib.Core.{Path.{_≡_, refl, ap, sym, _∙_}, Bool.{Bool, true, false, _&&_, true≢false, false≢true}, List.{List, [], _∷_}}
 use mathlib.Core.{Option.{Option, none, some}, Logic.{_⊎_, inl, inr}}
 use lib.Dec.{eqb}
 use borrow.Author.Tests.{eqb-true}
 use Rattle.molang.specs.Operator
-use Rattle.molang.specs.Operator.{any, isOneOf, isQueryOrLoop, isMathCall, isBracket, closingOf, isCloser}
-use Rattle.molang.specs.{Forest.{Token, Forest, nil, node, closedBy, turnedOnto, inOrder}, Message.{Result, ok}}
-use Rattle.molang.specs.Level.{Level, Step, on, into, walk, Gathered, gathered, waiting}
-use Rattle.molang.specs.Calls.{CallKind, queryOrLoop, math, calls, callLeaf, callStep, callResume, callFinish, callLevel}
-use Rattle.molang.proofs.{Booleans.{either}, Forests.{Turns, inOrder-turned}, RoundTrip.Walk.{walk-on, walk-into, Gathers}}
+use Rattle.molang.specs.Operator.{any, isOneOf, isQueryOrLoop, isMathCall, isBracket, closingOf}
+use Rattle.molang.specs.{Forest.{Token, Forest, nil, node, closedBy, turnedOnto, inOrder}, Message.{ok}}
+use Rattle.molang.specs.Level.{Level, on, into, walk, Gathered, gathered, waiting}
+use Rattle.molang.specs.Calls.{queryOrLoop, calls, callLeaf, callStep, callResume, callFinish, callLevel}
+use Rattle.molang.proofs.{Booleans.{either}, Forests.{Turns, inOrder-turned}, RoundTrip.Walk.{walk-on, walk-into}}
 use Rattle.molang.proofs.RoundTrip.Calls.{gathers as call-gathers, ends as call-ends}
 use Rattle.molang.proofs.Grammar.Shape.{Shape, token, beside, chain, section, query, mathCall, mathEmpty, index, pointer, script}
-use Rattle.molang.proofs.Grammar.Shape.{statement, last, blank, row, grown, chained, within, ahead, indexed, amid, listed, ended}
-use Rattle.molang.proofs.Grammar.Shape.{skipped, topOf, firstOf, form, sectioned, called, endsBare, opens, Plain, Accessors, Curly}
-use Rattle.molang.proofs.{Grammar.Shape.{Round, Square, Shaped}, Grammar.ShapeForms.{turned-form, grown-one, insideOf}}
-use Rattle.molang.proofs.{Grammar.Members.{apart}, Grammar.Chains.{Kept, kept-inside}, Grammar.Sectioning.{top-number}}
+use Rattle.molang.proofs.Grammar.Shape.{statement, last, blank, grown, chained, within, ahead, indexed, amid, listed, ended}
+use Rattle.molang.proofs.Grammar.Shape.{skipped, topOf, form, sectioned, called, endsBare, opens, Plain, Accessors, Curly}
+use Rattle.molang.proofs.{Grammar.Shape.{Round, Shaped}, Grammar.ShapeForms.{turned-form, grown-one, insideOf}}
+use Rattle.molang.proofs.{Grammar.Members.{apart}, Grammar.Chains.{kept-inside}, Grammar.Sectioning.{top-number}}
 
 abbrev L : Level Gathered
 L = callLevel queryOrLoop

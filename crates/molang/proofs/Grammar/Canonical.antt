@@ -1,9 +1,9 @@
 -- CANONICAL TEXTS: the side conditions under which a text reads to its tree, and the tree.
 use Prim.Native.Nat.{ℕ}
-use mathlib.Core.{Path.{_≡_}, Bool.{Bool, true, false}, Option.{none}}
+use mathlib.Core.{Path.{_≡_}, Bool.{true, false}, Option.{none}}
 use lib.Dec.{eqb, leb}
 use Rattle.molang.specs.Operator
-use Rattle.molang.specs.{Forest.{Token, Forest, nil, node}, Order.{Rules}, Grammar.{Text}}
+use Rattle.molang.specs.{Forest.{Forest}, Order.{Rules}, Grammar.{Text}}
 use Rattle.molang.proofs.{Grammar.Shape.{Shaped, Stated, isList}, Grammar.Ranked.{Ranked}, Grammar.Prefixed.{Fits}}
 use Rattle.molang.proofs.{Grammar.Returned.{returned, Returning}, Grammar.Ranks.{rank, pairing}}
 use Rattle.molang.proofs.Grammar.Views.{shape, points, prefixed, ranked}

@@ -1,5 +1,5 @@
 -- A base with its accessors, as every level that gathers leaves it.
-use mathlib.Core.{Path.{_≡_, refl, ap, sym, _∙_}, List.{List, [], _∷_}}
+use mathlib.Core.{Path.{_≡_, ap, _∙_}, List.{List, [], _∷_}}
 use Rattle.molang.specs.{Forest.{Token, Forest, nil, node, turnedOnto, inOrder}, Message.{ok}, Level.{Level, walk}}
 use Rattle.molang.proofs.{RoundTrip.Walk.{walk-into, Gathers}, Grammar.ShapeForms.{insideOf}}
 

@@ -1,29 +1,27 @@
 -- A. CANONICAL TEXTS READ TO THEIR TREES: with every used set that has their operators, under the rules of every version.
-use Prim.Native.Nat.{ℕ, suc, _<_, _≤_}
+use Prim.Native.Nat.{ℕ, _≤_}
 use mathlib.Core.Path.{_≡_, refl, ap, sym, _∙_}
-use mathlib.Core.{Bool.{Bool, true, false, _&&_, _||_, not, true≢false, false≢true, or-false, and-eq-true-iff}, List.{List, [], _∷_, _++_}}
+use mathlib.Core.{Bool.{Bool, true, false, _&&_, _||_, not, true≢false, false≢true, or-false, and-eq-true-iff}, List.{List, [], _∷_}}
 use mathlib.Core.Logic.{_⊎_, inl, inr}
 use native.Mathlib.Omega.{arith}
 use lib.Dec.{eqb, leb}
-use borrow.Author.Tests.{not-true, eqb-true, eq-eqb, ne-eqb, leb-true, leb-false, le-leb}
+use borrow.Author.Tests.{not-true, eqb-true, eq-eqb, leb-true, leb-false, le-leb}
 use Rattle.molang.specs.Operator
-use Rattle.molang.specs.Operator.{any, isOneOf, isMathCall, isQueryOrLoop}
-use Rattle.molang.specs.{Forest.{Token, Forest, nil, node, bare, renamed, closedBy, leaves}, Message.{ok}}
-use Rattle.molang.specs.Calls.{queryOrLoop, math, calls}
-use Rattle.molang.specs.Free.{free, tokensOnly, flat, isSemicolon, isArrayName, isPrefix, isReturn, operatorsOf, worksOn}
-use Rattle.molang.specs.Order.{Rules, Pass, lastToken, memberAccessors, sectioning, callPass, statements, arrays, pointer, mathCalls}
-use Rattle.molang.specs.{Order.{unaryMinusAndNot, returns, order, someBelow, runs, apply}, Read.{rooted, grouped, uses}}
-use Rattle.molang.specs.Grammar.{Text, tokens}
+use Rattle.molang.specs.{Operator.{any, isOneOf, isMathCall, isQueryOrLoop}, Forest.{Token, Forest, nil, node, closedBy, leaves}}
+use Rattle.molang.specs.{Message.{ok}, Calls.{calls}}
+use Rattle.molang.specs.Free.{free, tokensOnly, flat, isSemicolon, isArrayName, isPrefix, operatorsOf, worksOn}
+use Rattle.molang.specs.Order.{Rules, lastToken, memberAccessors, sectioning, callPass, statements, arrays, pointer, mathCalls}
+use Rattle.molang.specs.{Order.{unaryMinusAndNot, returns, order, runs, apply}, Read.{rooted, grouped, uses}, Grammar.{Text, tokens}}
 use Rattle.molang.specs.Order as Orders
 use Rattle.molang.proofs.{Booleans.{either, never, or-neither, or-first, or-second}, NoMasks.{no-masks}}
 use Rattle.molang.proofs.RoundTrip.Role.{none-below, no-math}
 use Rattle.molang.proofs.Grammar.Shape.{Shape, token, beside, chain, section, query, mathCall, mathEmpty, index, script, statement}
 use Rattle.molang.proofs.Grammar.Shape.{last, blank, Stage, row, grown, chained, within, ahead, indexed, amid, listed, ended}
-use Rattle.molang.proofs.Grammar.Shape.{skipped, topOf, insideOf, firstOf, form, raw, joined, sectioned, called, stated, arrayed}
-use Rattle.molang.proofs.{Grammar.Shape.{pointed, counted, Accessors, Curly, Round, Square, Shaped}, Grammar.Views.{shape, ranked}}
-use Rattle.molang.proofs.{Grammar.Canonical.{Canonical, trees}, Grammar.Used.{Each, EachIn, EachOf, IsUsed, UsedToken}}
+use Rattle.molang.proofs.Grammar.Shape.{skipped, topOf, insideOf, form, raw, joined, sectioned, called, stated, arrayed}
+use Rattle.molang.proofs.{Grammar.Shape.{pointed, counted, Accessors, Shaped}, Grammar.Views.{shape, ranked}}
+use Rattle.molang.proofs.{Grammar.Canonical.{Canonical, trees}, Grammar.Used.{Each, EachIn, EachOf, UsedToken}}
 use Rattle.molang.proofs.{Grammar.ShapeForms.{grown-one}, Grammar.Sectioning.{top-number}, Grammar.FreeForms.{free-form}}
-use Rattle.molang.proofs.{Grammar.Ranked.{Exp, Ranked}, Grammar.Returned.{isReturnLeaf, Returnless, Once, Returning, returned}}
+use Rattle.molang.proofs.{Grammar.Ranked.{Exp}, Grammar.Returned.{isReturnLeaf, Returnless, Once, Returning}}
 use Rattle.molang.proofs.Grammar.Ranks.{Kind, plain, plus, ternary, operatorsIn, passOf, kindOf, kindsOf, levels, rank, pairing}
 use Rattle.molang.proofs.{Grammar.Gating.{map, each-map, in-shape, in-ranked}, Grammar.Returning.{same}}
 use Rattle.molang.proofs.{Grammar.TextForms.{raw-tokens}, Grammar.Levels.{ruled, Lacks, Gated}}

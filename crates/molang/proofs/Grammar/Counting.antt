@@ -1,20 +1,18 @@
 -- MATH CALLS: the pass takes the list in which pointers hold their operands to the one in which math calls hold their brackets.
 use Prim.Native.Nat.{ℕ}
-use mathlib.Core.{Path.{_≡_, refl, ap, sym, _∙_}, Bool.{Bool, true, false, _||_, _&&_, true≢false, false≢true}, List.{List, [], _∷_}}
-use mathlib.Core.Logic.{_⊎_, inl, inr}
+use mathlib.Core.{Path.{_≡_, refl, ap, sym, _∙_}, Bool.{Bool, true, false, true≢false}, List.{List, [], _∷_}, Logic.{_⊎_, inl, inr}}
 use lib.Dec.{eqb}
-use borrow.Author.Tests.{eqb-true}
 use Rattle.molang.specs.Operator
 use Rattle.molang.specs.Operator.{any, isOneOf, isQueryOrLoop, isMathCall, isBracket}
-use Rattle.molang.specs.{Forest.{Token, Forest, nil, node, bare, renamed, closedBy, turnedOnto, inOrder}, Message.{Result, ok}}
+use Rattle.molang.specs.{Forest.{Token, Forest, nil, node, bare, renamed, closedBy, turnedOnto}, Message.{ok}}
 use Rattle.molang.specs.Level.{Level, walk, through, Gathered, gathered, waiting, nothing}
-use Rattle.molang.specs.Calls.{math, calls, callLeaf, callStep, callResume, callFinish, callLevel}
-use Rattle.molang.proofs.{Booleans.{either}, Forests.{Turns, inOrder-turned}}
-use Rattle.molang.proofs.RoundTrip.Walk.{walk-on, walk-into, Gathers, Carries, Passes, carry-both, carry-node, carry-token}
+use Rattle.molang.specs.Calls.{math, calls, callLeaf, callStep, callResume, callLevel}
+use Rattle.molang.proofs.{Booleans.{either}, Forests.{Turns}}
+use Rattle.molang.proofs.RoundTrip.Walk.{walk-on, walk-into, Carries, Passes, carry-both, carry-node}
 use Rattle.molang.proofs.{RoundTrip.Walk.{carry-whole}, RoundTrip.Calls.{gathers as call-gathers, ends as call-ends}}
 use Rattle.molang.proofs.Grammar.Shape.{Shape, token, beside, chain, section, query, mathCall, mathEmpty, index, pointer, script}
-use Rattle.molang.proofs.Grammar.Shape.{statement, last, blank, row, grown, chained, within, ahead, indexed, amid, listed, ended}
-use Rattle.molang.proofs.Grammar.Shape.{skipped, topOf, firstOf, form, pointed, counted, Plain, Accessors, Curly, Round, Square}
+use Rattle.molang.proofs.Grammar.Shape.{statement, last, blank, grown, chained, within, ahead, indexed, amid, listed, ended}
+use Rattle.molang.proofs.Grammar.Shape.{skipped, topOf, firstOf, form, pointed, counted, Plain, Accessors, Curly, Round}
 use Rattle.molang.proofs.{Grammar.Shape.{Shaped}, Grammar.ShapeForms.{turned-form, grown-one, insideOf}, Grammar.Members.{apart}}
 use Rattle.molang.proofs.{Grammar.Chains.{kept-inside}, Grammar.Sectioning.{top-number}}
 

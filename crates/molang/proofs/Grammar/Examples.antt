@@ -1,11 +1,11 @@
 -- Computed examples: every way to build a text, at 4, 5 and 6; texts that are none; and trees that only the rules of the passes explain.
 use Prim.Native.Nat.{ℕ, suc}
-use mathlib.Core.{Path.{_≡_, refl}, Bool.{Bool, true, false, _&&_}, List.{List, [], _∷_}, Option.{none}}
+use mathlib.Core.{Path.{_≡_, refl}, Bool.{Bool, true, false}, List.{List, [], _∷_}, Option.{none}}
 use lib.IntN.{pos}
 use Rattle.molang.specs.Operator
-use Rattle.molang.specs.{Forest.{Token, Forest, nil, node, bare, renamed, closedBy}, Order.{rules}, Read.{tree, read, uses}}
+use Rattle.molang.specs.{Forest.{Token, nil, node}, Order.{rules}, Read.{tree, read, uses}}
 use Rattle.molang.specs.Grammar.{Text, operand, member, section, query, mathCall, mathEmpty, index, arrow, prefix, returned, between}
-use Rattle.molang.specs.Grammar.{minus, minuses, choice, chosen, script, line, lines, final, tokens, wellFormed, trees, sameAtAll}
+use Rattle.molang.specs.Grammar.{minus, minuses, choice, chosen, script, line, lines, final, wellFormed, trees, sameAtAll}
 use Rattle.molang.proofs.Computed.{computed}
 
 -- The n-th token of a list, one byte long.

@@ -1,6 +1,6 @@
 -- A list in which no token passes a test has no leaf that does, at any stage.
-use Prim.Native.Nat.{ℕ, _≤_}
-use mathlib.Core.{Path.{_≡_, refl, ap, sym, _∙_}, Bool.{Bool, true, false, _&&_, not, true≢false, false≢true}, List.{List, [], _∷_}}
+use Prim.Native.Nat.{ℕ}
+use mathlib.Core.{Path.{_≡_, refl, ap}, Bool.{Bool, true, false, _&&_, not, false≢true}, List.{List, [], _∷_}}
 use Rattle.molang.specs.Operator
 use Rattle.molang.specs.{Forest.{Token, Forest, nil, node, bare, renamed, closedBy}, Free.{free}}
 use Rattle.molang.proofs.Grammar.Shape.{Shape, token, beside, chain, section, query, mathCall, mathEmpty, index, pointer, script}

@@ -1,21 +1,12 @@
 -- A PASS THAT DOES NOT RUN under a used set with all operators of a text has nothing to do in it.
-use Prim.Native.Nat.{ℕ, suc, _<_, _≤_}
-use mathlib.Core.Path.{_≡_, refl, ap, sym, _∙_, subst}
-use mathlib.Core.{Bool.{Bool, true, false, _&&_, _||_, not, true≢false, false≢true, or-false, and-eq-true-iff}, List.{List, [], _∷_, _++_}}
-use mathlib.Core.Logic.{_⊎_, inl, inr}
-use native.Mathlib.Omega.{arith}
-use lib.Dec.{eqb, leb}
-use borrow.Author.Tests.{eqb-true, eq-eqb, ne-eqb, leb-true, le-leb}
+use Prim.Native.Nat.{ℕ}
+use mathlib.Core.{Path.{subst}, List.{List, [], _∷_}}
 use Rattle.molang.specs.Operator
-use Rattle.molang.specs.Operator.{any, isOneOf, isMathCall, isQueryOrLoop}
-use Rattle.molang.specs.{Forest.{Token, Forest, nil, node, bare, renamed, closedBy}, Message.{ok}, Read.{uses}}
-use Rattle.molang.specs.Grammar.{Text, tokensBefore, tokens}
-use Rattle.molang.proofs.Booleans.{either, or-neither, or-first, or-second}
+use Rattle.molang.specs.{Forest.{Token, renamed, closedBy}, Grammar.{Text, tokensBefore, tokens}}
 use Rattle.molang.proofs.Grammar.Shape.{Shape, token, beside, chain, section, query, mathCall, mathEmpty, index, pointer, script}
-use Rattle.molang.proofs.Grammar.Shape.{statement, last, blank, Stage, chained, within, ahead, indexed, amid, listed, ended, skipped}
-use Rattle.molang.proofs.{Grammar.Shape.{firstOf, form, sectioned, called, Curly, Round, Square, Shaped}, Grammar.Ranked.{Exp}}
+use Rattle.molang.proofs.{Grammar.Shape.{statement, last, blank}, Grammar.Ranked.{Exp}}
 use Rattle.molang.proofs.{Grammar.Views.{blanks, shape, over, negated, ranked}, Grammar.Canonical.{Arrows}}
-use Rattle.molang.proofs.Grammar.Used.{Each, EachIn, EachOf, IsUsed, UsedToken}
+use Rattle.molang.proofs.Grammar.Used.{Each, EachIn, EachOf}
 use Rattle.molang.proofs.Grammar.Ranked as Ranks
 use Rattle.molang.specs.Grammar as Texts
 

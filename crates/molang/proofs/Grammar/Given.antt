@@ -1,33 +1,20 @@
 -- THE RULES GIVE WHAT EACH VIEW ASKS: a text that keeps them is canonical.
-use Prim.Native.Nat.{ℕ, suc, _<_, _≤_}
-use mathlib.Core.Path.{_≡_, refl, ap, sym, _∙_}
-use mathlib.Core.{Bool.{Bool, true, false, _&&_, _||_, not, true≢false, false≢true, and-eq-true-iff, and-false}, List.{List, [], _∷_}}
-use mathlib.Core.{Option.{Option, none, some}, Logic.{_⊎_, inl, inr}}
-use native.Mathlib.Omega.{arith}
+use Prim.Native.Nat.{ℕ}
+use mathlib.Core.{Path.{_≡_, refl, ap, sym, _∙_}, Bool.{Bool, true, false, _&&_, true≢false, false≢true, and-eq-true-iff, and-false}}
+use mathlib.Core.{List.{List, [], _∷_}, Logic.{_⊎_, inl, inr}}
 use lib.Dec.{eqb, leb}
-use borrow.Author.Tests.{not-true, eqb-true, eq-eqb, ne-eqb, le-leb, leb-true}
+use borrow.Author.Tests.{not-true, eq-eqb}
 use Rattle.molang.specs.Operator
-use Rattle.molang.specs.Operator.{any, isOneOf, isMathCall, isQueryOrLoop, beforeMinus}
-use Rattle.molang.specs.{Forest.{Token, Forest, nil, node, bare, renamed, closedBy}, Read.{uses}, Order.{Rules}}
-use Rattle.molang.specs.Statements.{isEntered}
-use Rattle.molang.specs.Grammar.{Text, operand, member, section, query, mathCall, mathEmpty, index, arrow, prefix, returned, between}
-use Rattle.molang.specs.Grammar.{minus, minuses, choice, chosen, script, line, lines, final, tokens, tokensBefore, strength, outline}
-use Rattle.molang.specs.Grammar.{Sort, aStatement, aScript, aLine, someLines, aLast, several, isStatement, isLine, areRest, topOf}
-use Rattle.molang.specs.Grammar.{beginsWith, lacks, isOperand, isText}
+use Rattle.molang.specs.{Operator.{any, isOneOf, isMathCall, isQueryOrLoop, beforeMinus}, Forest.{Token}, Read.{uses}}
+use Rattle.molang.specs.Grammar.{Text, section, query, mathCall, mathEmpty, index, script, tokens, Sort, aStatement, aScript, aLine}
+use Rattle.molang.specs.Grammar.{someLines, aLast, several, isStatement, isLine, areRest, lacks, isOperand}
 use Rattle.molang.specs.Grammar as Grammar
-use Rattle.molang.proofs.{Computed.{computed}, Booleans.{either, never, or-neither}}
-use Rattle.molang.proofs.Grammar.Shape.{Shape, Plain, Accessors, Curly, Round, Square, Shaped, Stated, isItem, isList}
-use Rattle.molang.proofs.Grammar.Shape.{isOneExpression, endsBare, opens, areEnded, areLines, startsStatement, hasSemicolon}
-use Rattle.molang.proofs.{Grammar.Shape.{semicolonOf}, Grammar.Ranked.{Exp, isTight, isClosed, Ranked}}
-use Rattle.molang.proofs.{Grammar.Ranks.{rank, pairing}, Grammar.Returned.{isReturnLeaf, Returnless, Once, Returning}}
-use Rattle.molang.proofs.Grammar.Prefixed.{lastOf, Unary}
-use Rattle.molang.proofs.Grammar.Views.{shape, points, ranked, prefixed, over, negated, blanks, holds, calling}
-use Rattle.molang.proofs.{Grammar.Signed.{Unsigned, Signed}, Grammar.Signs.{Chained, signed-fits, negated-tight, negated-ranked}}
-use Rattle.molang.proofs.{Grammar.Sectioning.{top-number}, Grammar.Canonical.{arrowRank, Arrows, Canonical}}
-use Rattle.molang.proofs.{Grammar.Used.{Each, EachIn, EachOf}, Grammar.Gating.{in-shape, in-ranked}, Grammar.Levels.{ruled}}
-use Rattle.molang.proofs.Grammar.Numbers.{apart, none-of, infixes, plainly, unsigned, unpointed, height, rank-level, rank-pointer}
-use Rattle.molang.proofs.Grammar.Numbers.{rank-negate, rank-not, rank-math, unranked, Infix, subset, subset-law, plus-infix}
-use Rattle.molang.proofs.{Grammar.Numbers.{Question, a-question}, Grammar.Kept.{All, Prefix, Beside, Minus, Kept}}
+use Rattle.molang.proofs.{Computed.{computed}, Booleans.{or-neither}}
+use Rattle.molang.proofs.Grammar.Shape.{Shape, Plain, Curly, Round, Shaped, Stated, isItem, isList, isOneExpression, endsBare, opens}
+use Rattle.molang.proofs.{Grammar.Shape.{areEnded, areLines, startsStatement, hasSemicolon, semicolonOf}, Grammar.Views.{blanks}}
+use Rattle.molang.proofs.{Grammar.Signed.{Unsigned}, Grammar.Canonical.{arrowRank}, Grammar.Used.{Each, EachIn}}
+use Rattle.molang.proofs.Grammar.Numbers.{apart, none-of, infixes, plainly, unsigned, unpointed, subset, subset-law}
+use Rattle.molang.proofs.Grammar.Kept.{All}
 use Rattle.molang.proofs.Grammar.Shape as Shapes
 use Rattle.molang.proofs.Grammar.Ranked as Ranks
 use Rattle.molang.proofs.Grammar.Prefixed as Prefixed

@@ -1,23 +1,22 @@
 -- ARRAYS with one index: the pass takes the list of statements to the one in which arrays hold the contents of their indices.
 use Prim.Native.Nat.{ℕ}
-use mathlib.Core.{Path.{_≡_, refl, ap, sym, _∙_}, Bool.{Bool, true, false, _||_, _&&_, not, true≢false, false≢true, and-eq-true-iff}}
+use mathlib.Core.{Path.{_≡_, refl, ap, sym, _∙_}, Bool.{Bool, true, false, _&&_, true≢false, false≢true, and-eq-true-iff}}
 use mathlib.Core.{List.{List, [], _∷_}, Option.{Option, none, some}, Logic.{_⊎_, inl, inr}}
 use lib.Dec.{eqb}
 use borrow.Author.Tests.{eqb-true}
 use Rattle.molang.specs.Operator
 use Rattle.molang.specs.Operator.{any, isOneOf, isMathCall, hasMembers}
-use Rattle.molang.specs.{Forest.{Token, Forest, nil, node, bare, renamed, closedBy, turnedOnto, inOrder}, Message.{Result, ok}}
-use Rattle.molang.specs.{Level.{Level, Step, on, into, walk, through}, Free.{free, isArrayName}}
+use Rattle.molang.specs.{Forest.{Token, Forest, nil, node, bare, renamed, closedBy, turnedOnto, inOrder}, Message.{ok}}
+use Rattle.molang.specs.{Level.{Level, walk, through}, Free.{free, isArrayName}}
 use Rattle.molang.specs.Calls.{Indexing, unindexed, named, indexed as holding, flushed, isIndex, index as indexStep, arrayStep}
 use Rattle.molang.specs.Calls.{arrayResume, arrayFinish, arrayLevel}
 use Rattle.molang.proofs.{Arrays.{array-free}, Booleans.{either}, Forests.{Turns, inOrder-turned}}
 use Rattle.molang.proofs.RoundTrip.Walk.{walk-on, walk-into}
 use Rattle.molang.proofs.Grammar.Shape.{Shape, token, beside, chain, section, query, mathCall, mathEmpty, index, pointer, script}
-use Rattle.molang.proofs.Grammar.Shape.{statement, last, blank, row, grown, chained, within, ahead, indexed, amid, listed, ended}
-use Rattle.molang.proofs.Grammar.Shape.{skipped, topOf, firstOf, form, stated, arrayed, isOneExpression, isItem, isList, areLines}
-use Rattle.molang.proofs.Grammar.Shape.{startsStatement, hasSemicolon, Stated, Plain, Accessors, Curly, Round, Square, Shaped}
-use Rattle.molang.proofs.{Grammar.ShapeForms.{turned-form, turned-nothing, grown-one, insideOf}, Grammar.Members.{apart}}
-use Rattle.molang.proofs.{Grammar.Sectioning.{top-number}, Grammar.Calling.{Filled}}
+use Rattle.molang.proofs.Grammar.Shape.{statement, last, blank, grown, chained, within, ahead, indexed, amid, listed, ended, skipped}
+use Rattle.molang.proofs.Grammar.Shape.{topOf, firstOf, form, stated, arrayed, isOneExpression, isItem, isList, Stated, Plain}
+use Rattle.molang.proofs.{Grammar.Shape.{Accessors, Curly, Round, Shaped}, Grammar.ShapeForms.{turned-form, grown-one, insideOf}}
+use Rattle.molang.proofs.{Grammar.Members.{apart}, Grammar.Sectioning.{top-number}, Grammar.Calling.{Filled}}
 
 abbrev L : Level Indexing
 L = arrayLevel

@@ -1,34 +1,29 @@
 -- THE RULES GIVE WHAT EACH VIEW ASKS: a text that keeps them is canonical.
 use Prim.Native.Nat.{ℕ, suc, _<_, _≤_}
-use mathlib.Core.{Path.{_≡_, refl, ap, sym, _∙_, subst}, Bool.{Bool, true, false, _&&_, _||_, not, true≢false, false≢true}}
+use mathlib.Core.{Path.{_≡_, refl, ap, sym, _∙_, subst}, Bool.{Bool, true, false, _&&_, true≢false, false≢true}}
 use mathlib.Core.{List.{List, [], _∷_}, Option.{Option, none, some}, Logic.{_⊎_, inl, inr}}
 use native.Mathlib.Omega.{arith}
-use lib.Dec.{eqb, leb}
-use borrow.Author.Tests.{eqb-true, eq-eqb, le-leb}
+use lib.Dec.{eqb}
+use borrow.Author.Tests.{eq-eqb, le-leb}
 use Rattle.molang.specs.Operator
-use Rattle.molang.specs.{Operator.{isOneOf, isMathCall, beforeMinus}, Forest.{Token, bare, renamed, closedBy}, Order.{Rules}}
+use Rattle.molang.specs.{Operator.{isOneOf, beforeMinus}, Forest.{Token, bare, renamed, closedBy}, Order.{Rules}}
 use Rattle.molang.specs.Statements.{isEntered}
 use Rattle.molang.specs.Grammar.{Text, operand, member, section, query, mathCall, mathEmpty, index, arrow, prefix, returned, between}
 use Rattle.molang.specs.Grammar.{minus, minuses, choice, chosen, script, line, lines, final, tokens, strength, outline, Sort}
 use Rattle.molang.specs.Grammar.{aStatement, aScript, aLine, someLines, aLast, isStatement, isLine, areRest, beginsWith, lacks}
 use Rattle.molang.specs.Grammar as Grammar
 use Rattle.molang.proofs.{Computed.{computed}, Booleans.{either}}
-use Rattle.molang.proofs.Grammar.Shape.{Shape, Accessors, Shaped, Stated, isItem, isList, isOneExpression, endsBare, opens, areEnded}
-use Rattle.molang.proofs.Grammar.Shape.{areLines, startsStatement, hasSemicolon, semicolonOf}
-use Rattle.molang.proofs.{Grammar.Ranked.{Exp, isTight, isClosed, Ranked}, Grammar.Ranks.{rank, pairing}}
-use Rattle.molang.proofs.{Grammar.Returned.{isReturnLeaf, Returnless, Once, Returning}, Grammar.Prefixed.{lastOf, isOperand, Unary}}
-use Rattle.molang.proofs.Grammar.Views.{shape, points, ranked, prefixed, over, negated, blanks, holds, calling}
-use Rattle.molang.proofs.{Grammar.Signed.{Unsigned, Signed}, Grammar.Signs.{Chained, signed-fits, negated-tight, negated-ranked}}
-use Rattle.molang.proofs.{Grammar.Sectioning.{top-number}, Grammar.Canonical.{arrowRank, Arrows, Canonical}}
-use Rattle.molang.proofs.{Grammar.Used.{Each, EachIn, EachOf}, Grammar.Gating.{in-shape, in-ranked}, Grammar.Complete.{returnless}}
-use Rattle.molang.proofs.Grammar.Levels.{ruled}
-use Rattle.molang.proofs.Grammar.Numbers.{infixes, height, rank-pointer, rank-math, rank-negate, rank-not, none-unranked, unranked}
-use Rattle.molang.proofs.{Grammar.Numbers.{Infix, plus-infix, Question, a-question}, Grammar.Kept.{All, Prefix, Beside, Minus, Kept}}
-use Rattle.molang.proofs.Grammar.Given.{Lone, an-operand, a-query, Joins, one-join, an-infix-join, infix-unary, infix-unsigned}
-use Rattle.molang.proofs.Grammar.Given.{infix-silent, Labels, round-label, section-label, math-label, operand-label, query-label}
-use Rattle.molang.proofs.Grammar.Given.{and-both, Line, Lines, Sorted, one-line, last-line, blank-line, lines-sorted, script-sorted}
-use Rattle.molang.proofs.Grammar.Given.{statement-sorted, list-sorted, bare-sorted, one-expression, joins, lacking, shaped-blanks}
-use Rattle.molang.proofs.Grammar.Given.{stated-blanks, joined-shapes}
+use Rattle.molang.proofs.Grammar.Shape.{Accessors, Shaped, Stated, isItem, isList, isOneExpression, endsBare, opens}
+use Rattle.molang.proofs.{Grammar.Ranked.{Exp, isTight, Ranked}, Grammar.Ranks.{rank}, Grammar.Prefixed.{lastOf, isOperand, Unary}}
+use Rattle.molang.proofs.{Grammar.Views.{shape, points, prefixed, over, holds, calling}, Grammar.Signed.{Unsigned, Signed}}
+use Rattle.molang.proofs.{Grammar.Signs.{Chained}, Grammar.Sectioning.{top-number}, Grammar.Canonical.{arrowRank, Arrows}}
+use Rattle.molang.proofs.{Grammar.Gating.{in-shape}, Grammar.Levels.{ruled}}
+use Rattle.molang.proofs.Grammar.Numbers.{height, rank-pointer, rank-math, rank-negate, rank-not, plus-infix, a-question}
+use Rattle.molang.proofs.Grammar.Kept.{Prefix, Beside, Minus, Kept}
+use Rattle.molang.proofs.Grammar.Given.{an-operand, a-query, Joins, one-join, an-infix-join, infix-unary, infix-unsigned}
+use Rattle.molang.proofs.Grammar.Given.{round-label, section-label, math-label, query-label, and-both, Sorted, one-line, last-line}
+use Rattle.molang.proofs.Grammar.Given.{blank-line, lines-sorted, script-sorted, statement-sorted, list-sorted, bare-sorted}
+use Rattle.molang.proofs.Grammar.Given.{one-expression, joins, lacking, shaped-blanks, stated-blanks, joined-shapes}
 use Rattle.molang.proofs.Grammar.Shape as Shapes
 use Rattle.molang.proofs.Grammar.Ranked as Ranks
 

@@ -1,6 +1,6 @@
 -- WHAT THE RULES SAY OF A TEXT, as facts: `isText` taken apart, once, for the proofs.
 use Prim.Native.Nat.{ℕ, suc, _<_, _≤_}
-use mathlib.Core.{Path.{_≡_, refl, ap, sym, _∙_}, Bool.{Bool, true, false, _&&_, _||_, not, true≢false, false≢true, and-eq-true-iff}}
+use mathlib.Core.{Path.{_≡_, refl, ap, _∙_}, Bool.{Bool, true, false, _&&_, _||_, not, false≢true, and-eq-true-iff}}
 use mathlib.Core.{List.{List, [], _∷_}, Logic.{_⊎_, inl, inr}}
 use native.Mathlib.Omega.{arith}
 use lib.Dec.{eqb, leb}

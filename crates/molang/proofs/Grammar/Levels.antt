@@ -1,18 +1,17 @@
 -- ALL LEVELS from the first binary one on, under the rules of every version: they take the list of a ranked expression in which nothing is
 -- folded to the one in which everything is.
-use Prim.Native.Nat.{ℕ, suc, zero, _<_, _≤_}
-use mathlib.Core.Path.{_≡_, refl, ap, sym, _∙_, fun-ext}
-use mathlib.Core.{Bool.{Bool, true, false, _||_, _&&_, not, true≢false, false≢true, and-eq-true-iff, or-false}, List.{List, [], _∷_, _++_}}
+use Prim.Native.Nat.{ℕ, suc, _≤_}
+use mathlib.Core.Path.{_≡_, refl, ap, sym, _∙_}
+use mathlib.Core.{Bool.{Bool, true, false, _&&_, not, true≢false, false≢true, and-eq-true-iff}, List.{List, [], _∷_, _++_}}
 use native.Mathlib.Omega.{arith}
 use lib.{Dec.{eqb, leb}, ListN.{length}}
 use borrow.Author.Tests.{eqb-true, eqb-false, eq-eqb, ne-eqb, leb-true, leb-false, le-leb, lt-leb, not-true}
 use Rattle.molang.specs.Operator
-use Rattle.molang.specs.{Operator.{any, isOneOf}, Forest.{Token, Forest, nil, node}, Message.{Message, Result, ok}}
-use Rattle.molang.specs.{Level.{walk, through, gathered, nothing}, Binary.{binaryLevel}, Conditional.{conditionalLevel}}
-use Rattle.molang.specs.{Order.{Rules, Pass, binary, addition, conditional, returns, order, runs, apply}, Read.{grouped}}
+use Rattle.molang.specs.{Operator.{any, isOneOf}, Forest.{Token, Forest, nil, node}, Message.{ok}}
+use Rattle.molang.specs.{Level.{walk, through, nothing}, Binary.{binaryLevel}, Conditional.{conditionalLevel}}
+use Rattle.molang.specs.{Order.{Rules, Pass, conditional, order, runs, apply}, Read.{grouped}}
 use Rattle.molang.specs.Order as Orders
-use Rattle.molang.proofs.Booleans.{either, or-neither}
-use Rattle.molang.proofs.Grammar.Ranked.{Exp, leaf, over, beside, between, choice, chosen, Ranked, amid, form}
+use Rattle.molang.proofs.{Booleans.{either}, Grammar.Ranked.{Exp, leaf, over, beside, between, choice, chosen, Ranked, amid, form}}
 use Rattle.molang.proofs.Grammar.Ranks.{Kind, plain, plus, ternary, operatorsIn, passOf, passesOf, kindOf, kindsOf, levels, rankIn}
 use Rattle.molang.proofs.{Grammar.Ranks.{rank, pairing}, Grammar.BinaryLevels.{OfRank, binary-level}}
 use Rattle.molang.proofs.Grammar.Ternary as Ternaries

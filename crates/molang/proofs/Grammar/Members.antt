@@ -1,17 +1,16 @@
 -- THE MEMBER ACCESSORS: the pass takes the tokens of a shape to the list in which accessors are over their bases.
 use Prim.Native.Nat.{ℕ}
-use mathlib.Core.{Path.{_≡_, refl, ap, sym, _∙_}, Bool.{Bool, true, false, _||_, true≢false}, List.{List, [], _∷_}, Option.{none, some}}
-use mathlib.Core.Logic.{_⊎_, inl, inr}
+use mathlib.Core.{Path.{_≡_, refl, ap, sym, _∙_}, Bool.{Bool, true, false, true≢false}, List.{List, [], _∷_}, Logic.{_⊎_, inl, inr}}
 use borrow.Author.Tests.{eqb-true}
 use Rattle.molang.proofs.{Booleans.{either}, Forests.{Turns, inOrder-turned}}
 use Rattle.molang.proofs.Grammar.Shape.{Shape, token, beside, chain, section, query, mathCall, mathEmpty, index, pointer, script}
 use Rattle.molang.proofs.Grammar.Shape.{statement, last, blank, row, grown, chained, within, ahead, indexed, amid, listed, ended}
-use Rattle.molang.proofs.Grammar.Shape.{skipped, topOf, firstOf, form, raw, joined, Plain, Accessors, Curly, Round, Square, Shaped}
+use Rattle.molang.proofs.Grammar.Shape.{skipped, form, raw, joined, Plain, Accessors, Curly, Round, Shaped}
 use Rattle.molang.proofs.Grammar.ShapeForms.{turned-form, turned-nothing}
 use lib.Dec.{eqb}
 use Rattle.molang.specs.Operator
-use Rattle.molang.specs.Operator.{any, isOneOf, isQueryOrLoop, isMathCall, closingOf, isCloser, hasMembers, between}
-use Rattle.molang.specs.{Forest.{Token, Forest, nil, node, turnedOnto, inOrder}, Message.{ok}, Sections.{members, withMember}}
+use Rattle.molang.specs.Operator.{any, isOneOf, isMathCall, hasMembers, between}
+use Rattle.molang.specs.{Forest.{Token, Forest, nil, node, turnedOnto}, Message.{ok}, Sections.{members, withMember}}
 
 abbrev Reads : (Forest → Forest) → (Forest → Forest) → Type 0
 Reads F G = (d r : Forest) → members d (F r) ≡ members (turnedOnto (G nil) d) r

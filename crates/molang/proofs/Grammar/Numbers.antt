@@ -1,8 +1,7 @@
 -- WHAT THE OPERATORS OF A TEXT'S TOKENS ARE NOT, by computing it once for each test; and the ranks of the grammar are those of the levels.
-use Prim.Native.Nat.{ℕ, zero, suc, _<_, _≤_}
+use Prim.Native.Nat.{ℕ, suc, _<_, _≤_}
 use mathlib.Core.Path.{_≡_, refl, ap, sym, _∙_}
 use mathlib.Core.{Bool.{Bool, true, false, _&&_, _||_, not, true≢false, false≢true, and-eq-true-iff, or-false}, List.{List, [], _∷_, _++_}}
-use mathlib.Core.Option.{none}
 use native.Mathlib.Omega.{arith}
 use lib.{Dec.{eqb, leb, lit<}, ListN.{length}}
 use borrow.Author.Tests.{not-true, eqb-true, eq-eqb, leb-true, leb-false}
@@ -10,13 +9,13 @@ use Rattle.molang.specs.Operator
 use Rattle.molang.specs.{Operator.{any, isOneOf, isMathCall, closingOf, isCloser}, Forest.{Token}}
 use Rattle.molang.specs.Free.{isReturn, isConditional, operatorsOf}
 use Rattle.molang.specs.Order.{Rules, Pass, lastToken, memberAccessors, sectioning, callPass, statements, arrays, pointer, mathCalls}
-use Rattle.molang.specs.{Order.{unaryMinusAndNot, returns, order, someBelow}, Grammar.{isOperand, isInfix}}
+use Rattle.molang.specs.{Order.{unaryMinusAndNot, returns, order, someBelow}, Grammar.{isInfix}}
 use Rattle.molang.specs.Order as Orders
 use Rattle.molang.specs.Grammar as Grammar
 use Rattle.molang.proofs.{Computed.{computed}, Booleans.{either, never, or-neither}, RoundTrip.Role.{none-below, no-math}}
 use Rattle.molang.proofs.{Grammar.Shape.{Plain}, Grammar.Signed.{Unsigned}, Grammar.Canonical.{arrowRank}}
 use Rattle.molang.proofs.Grammar.Ranks.{Kind, plain, plus, ternary, operatorsIn, passOf, passesOf, kindOf, kindsOf, levels, rankIn}
-use Rattle.molang.proofs.{Grammar.Ranks.{rank, pairing}, Grammar.Levels.{ruled, Good, good-levels}, Grammar.Reading.{in-order}}
+use Rattle.molang.proofs.{Grammar.Ranks.{rank, pairing}, Grammar.Levels.{ruled, good-levels}, Grammar.Reading.{in-order}}
 
 -- A number that passes a test is none that does not.
 pub apart : (P : ℕ → Bool) (n m : ℕ) → P n ≡ true → P m ≡ false → eqb n m ≡ false

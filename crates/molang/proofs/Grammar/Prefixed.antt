@@ -1,10 +1,9 @@
 -- What the lists of a well-formed text look like before and after the pass of the prefix operators: operands, prefix operators before
 -- them, operators between them. A minus after an operand is a plus over the minus of what follows; the second of two after an operand
 -- vanishes.
-use Prim.Native.Nat.{ℕ}
 use mathlib.Core.{Path.{_≡_}, Bool.{Bool, true, false}, Option.{Option, none, some}, Logic.{_⊎_}}
 use lib.Dec.{eqb}
-use Rattle.molang.specs.Operator.{negate, logicalNot, add, operand, operator, BeforeMinus, beforeMinus}
+use Rattle.molang.specs.Operator.{negate, logicalNot, add, operand, operator, beforeMinus}
 use Rattle.molang.specs.{Forest.{Token, Forest, nil, node, renamed, bare}, Unary.{done, unary}}
 
 -- An item with its children before and after the pass; a prefix; an operator between two lists; a minus between them; two of them; two

@@ -2,13 +2,12 @@
 -- minus
 -- is a plus.
 use Prim.Native.Nat.{ℕ}
-use mathlib.Core.{Path.{_≡_, refl, ap, sym, _∙_}, Bool.{Bool, true, false, true≢false, false≢true}, Option.{Option, none, some}}
-use mathlib.Core.Logic.{_⊎_, inl, inr}
+use mathlib.Core.{Path.{_≡_, refl, ap, sym, _∙_}, Bool.{true, false, false≢true}, Option.{Option, none, some}, Logic.{_⊎_, inl, inr}}
 use lib.Dec.{eqb}
 use borrow.Author.Tests.{eqb-true}
 use Rattle.molang.specs.Operator.{negate, logicalNot, add, operand, operator, minus as aMinus, BeforeMinus, beforeMinus}
 use Rattle.molang.specs.{Forest.{Token, Forest, nil, node, renamed, bare}, Message.{ok}}
-use Rattle.molang.specs.Unary.{done, undone, unary, minusAfter, notBefore, unaryLeaf, unaryNode, turned, unaryPass}
+use Rattle.molang.specs.Unary.{done, unary, minusAfter, notBefore, unaryLeaf, unaryNode, turned, unaryPass}
 use Rattle.molang.proofs.Grammar.Prefixed.{Text, item, prefix, between, minus, minuses, beside, raw, negated, read, lastOf}
 use Rattle.molang.proofs.Grammar.Prefixed.{isOperand, Unary, Item, Fits}
 

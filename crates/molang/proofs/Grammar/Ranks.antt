@@ -1,7 +1,7 @@
 -- The levels of the versioned order from the first binary one on, and the rank that each operator has by them: what binds tighter has the
 -- higher one.
 use Prim.Native.Nat.{ℕ, suc}
-use mathlib.Core.{Bool.{Bool, true, false}, List.{List, [], _∷_}}
+use mathlib.Core.{Bool.{true, false}, List.{List, [], _∷_}}
 use lib.ListN.{length}
 use Rattle.molang.specs.Operator
 use Rattle.molang.specs.Operator.{isOneOf}

@@ -1,28 +1,25 @@
 -- CANONICAL TEXTS READ TO THEIR TREES, under the rules of every version, with every used set that has their operators.
-use Prim.Native.Nat.{ℕ, suc, _<_, _≤_}
-use mathlib.Core.{Path.{_≡_, refl, ap, sym, _∙_, fun-ext}, Bool.{Bool, true, false, true≢false, false≢true, or-false}}
-use mathlib.Core.{List.{List, [], _∷_, _++_}, Option.{none}}
+use Prim.Native.Nat.{ℕ, suc}
+use mathlib.Core.{Path.{_≡_, refl, ap, sym, _∙_, fun-ext}, Bool.{Bool, true, false, or-false}, List.{List, [], _∷_, _++_}}
 use native.Mathlib.Omega.{arith}
 use lib.{Dec.{eqb, leb}, ListN.{length}}
-use borrow.Author.Tests.{eqb-true, lt-leb}
+use borrow.Author.Tests.{lt-leb}
 use Rattle.molang.specs.Operator
-use Rattle.molang.specs.{Operator.{any, isOneOf}, Forest.{Token, Forest, nil, node, leaves}, Message.{Result, ok}}
-use Rattle.molang.specs.{Level.{walk, through, gathered, nothing}, Calls.{queryOrLoop, math, callLevel}, Binary.{binaryLevel}}
-use Rattle.molang.specs.Free.{free, operatorsOf, worksOn}
+use Rattle.molang.specs.{Operator.{any, isOneOf}, Forest.{Forest, nil, leaves}, Message.{ok}}
+use Rattle.molang.specs.{Level.{walk, through, gathered, nothing}, Calls.{callLevel}, Binary.{binaryLevel}}
 use Rattle.molang.specs.Order.{Rules, Pass, lastToken, memberAccessors, sectioning, callPass, statements, arrays, pointer, mathCalls}
-use Rattle.molang.specs.{Order.{unaryMinusAndNot, returns, order, runs, apply, endsWithSemicolon}, Unary.{unaryPass}}
+use Rattle.molang.specs.{Order.{unaryMinusAndNot, returns, order, runs, apply}, Unary.{unaryPass}}
 use Rattle.molang.specs.{Read.{rooted, grouped}, Grammar.{Text, tokens}}
 use Rattle.molang.specs.Order as Orders
 use Rattle.molang.proofs.Grammar.Ranks as Ranking
-use Rattle.molang.proofs.{NoMasks.{no-masks}, Grammar.Shape.{raw, joined, sectioned, called, stated, arrayed, pointed, counted}}
-use Rattle.molang.proofs.{Grammar.Ranked.{Exp}, Grammar.Returned.{returned}}
-use Rattle.molang.proofs.Grammar.Ranks.{Kind, kindOf, kindsOf, levels, operatorsIn, passOf, passesOf, rankIn, rank, pairing}
+use Rattle.molang.proofs.{Grammar.Shape.{raw, joined, sectioned, called, stated, arrayed, pointed, counted}}
+use Rattle.molang.proofs.Grammar.Ranks.{kindOf, kindsOf, levels, passOf, passesOf, rankIn, rank, pairing}
 use Rattle.molang.proofs.{Grammar.Views.{shape, points, prefixed, ranked}, Grammar.Canonical.{arrowRank, Canonical, trees}}
 use Rattle.molang.proofs.{Grammar.Members.{member-pass}, Grammar.Sectioning.{section-pass}, Grammar.Calling.{query-pass}}
 use Rattle.molang.proofs.{Grammar.Stating.{statement-pass}, Grammar.Indexing.{array-pass}, Grammar.Counting.{math-pass}}
 use Rattle.molang.proofs.{Grammar.Prefixes.{prefix-pass}, Grammar.BinaryLevels.{OfRank, binary-level}}
 use Rattle.molang.proofs.Grammar.Returning.{return-pass}
-use Rattle.molang.proofs.Grammar.Levels.{ruled, good-levels, placed-levels, rank-bound, Gated, level-passes, above}
+use Rattle.molang.proofs.Grammar.Levels.{ruled, good-levels, placed-levels, rank-bound, Gated, level-passes}
 use Rattle.molang.proofs.Grammar.TextForms.{raw-tokens, form-points, counted-raw, nothingYet, read-ranked}
 use Rattle.molang.proofs.Grammar.Shape as Shapes
 use Rattle.molang.proofs.Grammar.Ranked as Ranks

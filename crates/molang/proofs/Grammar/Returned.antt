@@ -4,7 +4,7 @@ use mathlib.Core.{Path.{_≡_}, Bool.{Bool, true, false}}
 use lib.Dec.{eqb}
 use Rattle.molang.specs.Operator
 use Rattle.molang.specs.Forest.{Token, Forest, nil, node}
-use Rattle.molang.proofs.Grammar.Ranked.{Exp, leaf, over, beside, between, choice, chosen, isTight, amid, form}
+use Rattle.molang.proofs.Grammar.Ranked.{Exp, leaf, over, beside, between, choice, chosen, isTight, amid}
 
 -- A `return` token.
 unfoldable pub isReturnLeaf : Exp → Bool

@@ -1,16 +1,13 @@
 -- THE RETURN PASS: a `return` takes what follows it.
-use Prim.Native.Nat.{ℕ, suc, _<_}
-use mathlib.Core.{Path.{_≡_, refl, ap, sym, _∙_}, Bool.{Bool, true, false, true≢false, false≢true}, List.{List, [], _∷_}}
-use native.Mathlib.Omega.{arith}
+use Prim.Native.Nat.{ℕ}
+use mathlib.Core.{Path.{_≡_, refl, ap, sym, _∙_}, Bool.{Bool, true, false, false≢true}}
 use lib.Dec.{eqb, leb}
-use borrow.Author.Tests.{le-leb}
 use Rattle.molang.specs.Operator
 use Rattle.molang.specs.{Forest.{Token, Forest, nil, node, turnedOnto, inOrder}, Message.{ok}}
 use Rattle.molang.specs.Level.{Level, walk, through, Gathered, gathered, waiting, nothing}
 use Rattle.molang.specs.Unary.{returnStep, returnResume, returnFinish, returnLevel}
 use Rattle.molang.proofs.Forests.{Turns}
-use Rattle.molang.proofs.RoundTrip.Walk.{walk-on, walk-into, Gathers, Carries, Passes, carry-both, carry-node, carry-token}
-use Rattle.molang.proofs.RoundTrip.Walk.{carry-whole}
+use Rattle.molang.proofs.RoundTrip.Walk.{walk-on, Gathers, Carries, Passes, carry-both, carry-node, carry-token, carry-whole}
 use Rattle.molang.proofs.Grammar.Ranked.{Exp, leaf, over, beside, between, choice, chosen, isTight, Ranked, amid, form}
 use Rattle.molang.proofs.Grammar.Returned.{isReturnLeaf, labelOf, returning, returned, Returnless, Once, Returning}
 

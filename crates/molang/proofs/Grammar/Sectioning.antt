@@ -1,18 +1,17 @@
 -- THE SECTIONS: the pass takes the list in which accessors are over their bases to the one in which sections hold their contents and close
 -- where their closers end.
 use Prim.Native.Nat.{ℕ, _+_}
-use mathlib.Core.{Path.{_≡_, refl, ap, sym, _∙_}, Bool.{Bool, true, false, _||_, true≢false}, List.{List, [], _∷_}}
-use mathlib.Core.{Option.{Option, none, some}, Logic.{_⊎_, inl, inr}}
+use mathlib.Core.{Path.{_≡_, refl, ap, sym, _∙_}, Bool.{true, false}, List.{List, [], _∷_}, Option.{none, some}, Logic.{_⊎_, inl, inr}}
 use lib.Dec.{eqb}
-use borrow.Author.Tests.{eqb-true, eq-eqb}
+use borrow.Author.Tests.{eq-eqb}
 use Rattle.molang.specs.Operator
-use Rattle.molang.specs.Operator.{any, isOneOf, isQueryOrLoop, isMathCall, closingOf, isCloser, between}
+use Rattle.molang.specs.Operator.{any, isOneOf, isMathCall, closingOf, isCloser, between}
 use Rattle.molang.specs.{Forest.{Token, Forest, nil, node, closedBy, turnedOnto, inOrder}, Message.{ok, closer}}
 use Rattle.molang.specs.Sections.{Open, outside, section as anOpen, placed, position, closing, closed, bracket, sections}
-use Rattle.molang.proofs.{Booleans.{either}, Forests.{Turns, inOrder-turned}, RoundTrip.Sections.{over, over-nil}}
+use Rattle.molang.proofs.{Forests.{Turns, inOrder-turned}, RoundTrip.Sections.{over, over-nil}}
 use Rattle.molang.proofs.Grammar.Shape.{Shape, token, beside, chain, section, query, mathCall, mathEmpty, index, pointer, script}
-use Rattle.molang.proofs.Grammar.Shape.{statement, last, blank, row, grown, chained, within, ahead, indexed, amid, listed, ended}
-use Rattle.molang.proofs.Grammar.Shape.{skipped, topOf, firstOf, form, joined, sectioned, Plain, Accessors, Curly, Round, Square}
+use Rattle.molang.proofs.Grammar.Shape.{statement, last, blank, grown, chained, within, ahead, indexed, amid, listed, ended}
+use Rattle.molang.proofs.Grammar.Shape.{skipped, topOf, form, joined, sectioned, Plain, Accessors, Curly, Round, Square}
 use Rattle.molang.proofs.{Grammar.Shape.{Shaped}, Grammar.ShapeForms.{turned-form, grown-one, insideOf}, Grammar.Members.{apart}}
 
 abbrev Reads : (Forest → Forest) → (Forest → Forest) → Type 0

@@ -1,7 +1,6 @@
 -- What the list of a well-formed text looks like up to the math calls: everything that a pass before the prefix operators folds, and
 -- tokens side by side. A stage says which of these passes have been made.
-use Prim.Native.Nat.{ℕ}
-use mathlib.Core.{Path.{_≡_}, Bool.{Bool, true, false, _&&_, _||_}, List.{List, [], _∷_}, Option.{Option, none, some}, Logic.{_⊎_}}
+use mathlib.Core.{Path.{_≡_}, Bool.{Bool, true, false, _&&_, _||_}, List.{List, [], _∷_}, Option.{none}, Logic.{_⊎_}}
 use lib.Dec.{eqb}
 use Rattle.molang.specs.Operator
 use Rattle.molang.specs.Operator.{isMathCall, isQueryOrLoop, isCloser, closingOf, hasMembers}

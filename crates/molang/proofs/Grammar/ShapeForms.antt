@@ -1,7 +1,6 @@
 -- What holds of the forms of a shape: turned round they are turned part by part.
-use Prim.Native.Nat.{ℕ}
 use mathlib.Core.{Path.{_≡_, refl, ap, sym, _∙_}, Bool.{Bool, true, false}, List.{List, [], _∷_}}
-use Rattle.molang.specs.Forest.{Token, Forest, nil, node, turnedOnto, inOrder}
+use Rattle.molang.specs.Forest.{Token, Forest, nil, node, turnedOnto}
 use Rattle.molang.proofs.Forests.{Turns}
 use Rattle.molang.proofs.Grammar.Shape.{Shape, token, beside, chain, section, query, mathCall, mathEmpty, index, pointer, script}
 use Rattle.molang.proofs.Grammar.Shape.{statement, last, blank, Stage, row, grown, chained, within, ahead, indexed, amid, listed}

@@ -1,9 +1,8 @@
 -- What the pass of the prefix operators asks of a text, said of the text itself: where minuses are prefixes, and where they stand between
 -- operands. p is the label of the item before the text in its list.
-use mathlib.Core.{Path.{_≡_}, Bool.{Bool, true, false}, List.{List, [], _∷_}, Option.{Option, none, some}, Logic.{_⊎_}}
+use mathlib.Core.{Path.{_≡_}, Bool.{true, false}, Option.{Option, none, some}, Logic.{_⊎_}}
 use lib.Dec.{eqb}
-use Rattle.molang.specs.Operator.{negate, logicalNot, operand, beforeMinus}
-use Rattle.molang.specs.{Forest.{Token, Forest, nil, node, bare, renamed, closedBy}, Grammar.{Text}}
+use Rattle.molang.specs.{Operator.{negate, logicalNot, operand, beforeMinus}, Forest.{Token}, Grammar.{Text}}
 use Rattle.molang.specs.Operator
 use Rattle.molang.proofs.{Grammar.Prefixed.{lastOf, isOperand, Unary}, Grammar.Views.{prefixed}}
 use Rattle.molang.specs.Grammar as Texts

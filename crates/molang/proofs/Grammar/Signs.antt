@@ -1,16 +1,14 @@
 -- A text whose minuses stand right fits the pass of the prefix operators; and what a binary minus makes of its right operand keeps what is
 -- asked of expressions.
 use Prim.Native.Nat.{ℕ, suc}
-use mathlib.Core.{Path.{_≡_, refl, ap, sym, _∙_}, Bool.{Bool, true, false, _&&_, _||_, not, false≢true}, List.{List, [], _∷_}}
-use mathlib.Core.Option.{Option, none, some}
-use lib.Dec.{eqb, leb}
+use mathlib.Core.{Path.{_≡_, refl, ap, _∙_}, Bool.{false}, List.{List, [], _∷_}, Option.{Option, none, some}}
+use lib.Dec.{eqb}
 use Rattle.molang.specs.{Operator.{negate, logicalNot}, Forest.{Token, Forest, nil, node, bare, renamed, closedBy}}
 use Rattle.molang.specs.{Unary.{done, unary}, Grammar.{Text}}
 use Rattle.molang.specs.Operator
 use Rattle.molang.proofs.Grammar.Shape.{Accessors, topOf, insideOf, firstOf, semicolonOf}
-use Rattle.molang.proofs.Grammar.Ranked.{Exp, isTight, isClosed, Ranked}
-use Rattle.molang.proofs.Grammar.Returned.{isReturnLeaf, Returnless, Once, Returning}
-use Rattle.molang.proofs.{Grammar.Prefixed.{raw, read, lastOf, Item, Fits}, Grammar.Views.{shape, prefixed, holds, calling, negated}}
+use Rattle.molang.proofs.{Grammar.Ranked.{Exp, isTight, isClosed, Ranked}, Grammar.Returned.{Returnless}}
+use Rattle.molang.proofs.{Grammar.Prefixed.{raw, read, lastOf, Fits}, Grammar.Views.{shape, prefixed, holds, calling, negated}}
 use Rattle.molang.proofs.{Grammar.Signed.{Unsigned, Signed}, Grammar.Prefixes.{list-reads, an-item}, Grammar.Sectioning.{top-number}}
 use Rattle.molang.proofs.Grammar.Ranked as Ranks
 use Rattle.molang.proofs.Grammar.Prefixed as Prefixes

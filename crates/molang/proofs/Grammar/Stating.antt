@@ -1,23 +1,21 @@
 -- STATEMENTS: the pass takes the list in which queries and loops have their brackets to the one in which every list with semicolons is a
 -- node over its statements.
 use Prim.Native.Nat.{ℕ}
-use mathlib.Core.{Path.{_≡_, refl, ap, sym, _∙_}, Bool.{Bool, true, false, _||_, _&&_, not, true≢false, false≢true, and-eq-true-iff}}
-use mathlib.Core.{List.{List, [], _∷_}, Option.{Option, none, some}, Logic.{_⊎_, inl, inr}}
+use mathlib.Core.{Path.{_≡_, refl, ap, sym, _∙_}, Bool.{Bool, true, false, _||_, _&&_, true≢false, false≢true, and-eq-true-iff}}
+use mathlib.Core.{List.{List, [], _∷_}, Logic.{_⊎_, inl, inr}}
 use lib.Dec.{eqb}
-use borrow.Author.Tests.{eqb-true}
 use Rattle.molang.specs.Operator
-use Rattle.molang.specs.Operator.{any, isOneOf, isQueryOrLoop, isMathCall}
-use Rattle.molang.specs.{Forest.{Token, Forest, nil, node, bare, closedBy, turnedOnto, inOrder}, Message.{Result, ok}}
-use Rattle.molang.specs.Level.{Level, Step, on, into, walk, through}
+use Rattle.molang.specs.{Operator.{any, isOneOf, isMathCall}, Forest.{Token, Forest, nil, node, bare, closedBy, turnedOnto, inOrder}}
+use Rattle.molang.specs.{Message.{ok}, Level.{Level, on, into, walk, through}}
 use Rattle.molang.specs.Statements.{Split, unsplit, after, inside, splitOf, isEntered, gather, endStatement, enterSplit}
 use Rattle.molang.specs.{Statements.{statementStep, statementResume, statementFinish, statementLevel}, Free.{free, isSemicolon}}
-use Rattle.molang.proofs.{Statements.{statement-free}, Booleans.{either, or-second, or-only-first}, Forests.{Turns, inOrder-turned}}
+use Rattle.molang.proofs.{Statements.{statement-free}, Booleans.{or-second}, Forests.{inOrder-turned}}
 use Rattle.molang.proofs.RoundTrip.Walk.{walk-on, walk-into}
 use Rattle.molang.proofs.Grammar.Shape.{Shape, token, beside, chain, section, query, mathCall, mathEmpty, index, pointer, script}
-use Rattle.molang.proofs.Grammar.Shape.{statement, last, blank, row, grown, chained, within, ahead, indexed, amid, listed, ended}
+use Rattle.molang.proofs.Grammar.Shape.{statement, last, blank, grown, chained, within, ahead, indexed, amid, listed, ended}
 use Rattle.molang.proofs.Grammar.Shape.{skipped, topOf, firstOf, form, called, stated, isOneExpression, isItem, areEnded, areLines}
 use Rattle.molang.proofs.Grammar.Shape.{startsStatement, isList, semicolonOf, hasSemicolon, Stated, Plain, Accessors, Curly, Round}
-use Rattle.molang.proofs.{Grammar.Shape.{Square, Shaped}, Grammar.ShapeForms.{turned-form, grown-one, insideOf}}
+use Rattle.molang.proofs.{Grammar.Shape.{Shaped}, Grammar.ShapeForms.{turned-form, grown-one, insideOf}}
 use Rattle.molang.proofs.{Grammar.Members.{apart}, Grammar.Sectioning.{top-number}}
 
 abbrev L : Level Split

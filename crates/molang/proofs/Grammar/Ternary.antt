@@ -1,21 +1,19 @@
 -- THE CONDITIONAL FROM 5: the ternary fold takes the list of a ranked expression in which everything tighter is folded to the one in which
 -- its
 -- conditionals are folded too: ladders, `?` without `:`, and conditionals between a `?` and its `:`.
-use Prim.Native.Nat.{ℕ, zero, suc, _<_, _≤_}
+use Prim.Native.Nat.{ℕ, suc, _<_}
 use mathlib.Core.{Path.{_≡_, refl, ap, sym, _∙_}, Bool.{Bool, true, false, _||_, _&&_, not, true≢false, false≢true, and-false}}
 use mathlib.Core.Option.{none}
 use native.Mathlib.Omega.{arith}
 use lib.Dec.{eqb, leb}
-use borrow.Author.Tests.{eqb-true, eqb-false, eq-eqb, ne-eqb, leb-true, leb-false, le-leb, lt-leb}
+use borrow.Author.Tests.{eqb-true, eq-eqb, ne-eqb, leb-true, leb-false, le-leb, lt-leb}
 use Rattle.molang.specs.Operator
-use Rattle.molang.specs.{Forest.{Token, Forest, nil, node, turnedOnto, inOrder}, Message.{ok}, Level.{walk}}
+use Rattle.molang.specs.{Forest.{Token, Forest, nil, node, turnedOnto}, Message.{ok}, Level.{walk}}
 use Rattle.molang.specs.Conditional.{isToken, startsWith, under, pairElse, scan, foldedFrom, dangling, undangled, conditionalStep}
 use Rattle.molang.specs.Conditional.{conditionalFinish, conditionalLevel}
-use Rattle.molang.proofs.{Booleans.{either, never}, Forests.{Turns, inOrder-turned}}
-use Rattle.molang.proofs.Conditional.{scanned, scan-once, undangled-calm}
-use Rattle.molang.proofs.RoundTrip.Walk.{walk-on, walk-into, Gathers, Carries, Passes, carry-both, carry-node, carry-token}
+use Rattle.molang.proofs.{Forests.{Turns}, Conditional.{scanned, scan-once, undangled-calm}}
+use Rattle.molang.proofs.RoundTrip.Walk.{Gathers, Carries, Passes, carry-both, carry-node, carry-token}
 use Rattle.molang.proofs.Grammar.Ranked.{Exp, leaf, over, beside, between, choice, chosen, isTight, isClosed, Ranked, amid, form}
-use Rattle.molang.proofs.Grammar.BinaryLevels.{turned-form}
 
 -- A tree that is no `?` and no `:` token.
 abbrev Plain : Token → Forest → Type 0

@@ -1,15 +1,14 @@
 -- The views of a text are of one list: its tokens are the raw form of its shape, and the pointer's level finds and leaves its shape at the
 -- stages before and after it.
-use Prim.Native.Nat.{ℕ, suc}
+use Prim.Native.Nat.{ℕ}
 use mathlib.Core.{Path.{_≡_, refl, ap, sym, _∙_}, Bool.{Bool, true, false}, List.{List, [], _∷_}}
-use lib.Dec.{eqb, leb}
 use Rattle.molang.specs.Operator
 use Rattle.molang.specs.Forest.{Token, Forest, nil, node, bare, renamed, closedBy, leaves}
 use Rattle.molang.specs.Grammar.{Text, operand, member, section, query, mathCall, mathEmpty, index, arrow, prefix, returned, between}
 use Rattle.molang.specs.Grammar.{minus, minuses, choice, chosen, script, line, lines, final, tokensBefore, tokens}
 use Rattle.molang.proofs.Grammar.Shape as Shapes
-use Rattle.molang.proofs.Grammar.Shape.{Shape, row, grown, chained, within, ahead, indexed, amid, listed, ended, skipped, topOf}
-use Rattle.molang.proofs.{Grammar.Shape.{insideOf, raw, arrayed, pointed, counted}, Grammar.Ranked.{Exp}, Grammar.Prefixed.{read}}
+use Rattle.molang.proofs.Grammar.Shape.{Shape, row, grown, chained, within, ahead, indexed, amid, listed, ended, skipped}
+use Rattle.molang.proofs.{Grammar.Shape.{raw, counted}, Grammar.Ranked.{Exp}, Grammar.Prefixed.{read}}
 use Rattle.molang.proofs.Grammar.Views.{blanks, shape, over, points, negated, ranked, holds, calling, prefixed}
 use Rattle.molang.proofs.{Grammar.Canonical.{Arrows}, Grammar.ShapeForms.{grown-one}}
 use Rattle.molang.proofs.Grammar.Ranked as Ranks

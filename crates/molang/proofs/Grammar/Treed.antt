@@ -2,28 +2,26 @@
 -- that
 -- the passes leave are the text's.
 use Prim.Native.Nat.{ℕ, suc, _<_, _≤_}
-use mathlib.Core.{Path.{_≡_, refl, ap, sym, _∙_}, Bool.{Bool, true, false, _&&_, true≢false, false≢true, and-eq-true-iff}}
-use mathlib.Core.{List.{List, [], _∷_}, Option.{Option, none, some}, Logic.{_⊎_, inl, inr}}
+use mathlib.Core.{Path.{_≡_, refl, ap, sym, _∙_}, Bool.{Bool, true, false, true≢false, false≢true, and-eq-true-iff}}
+use mathlib.Core.{List.{List, [], _∷_}, Option.{Option, none, some}, Logic.{inl, inr}}
 use native.Mathlib.Omega.{arith}
 use lib.Dec.{eqb, leb}
 use borrow.Author.Tests.{eq-eqb, le-leb}
 use Rattle.molang.specs.Operator
 use Rattle.molang.specs.{Forest.{Token, Forest, nil, node, bare, renamed, closedBy}, Order.{Rules}}
 use Rattle.molang.specs.Grammar.{Text, operand, member, section, query, mathCall, mathEmpty, index, arrow, prefix, returned, between}
-use Rattle.molang.specs.Grammar.{minus, minuses, choice, chosen, script, line, lines, final, tokens, strength, outline, Sort}
-use Rattle.molang.specs.Grammar.{aStatement, aScript, aLine, someLines, aLast, wellFormed, isText, topOf, insideOf, signed, listed}
-use Rattle.molang.specs.Grammar.{trees, lacks}
+use Rattle.molang.specs.Grammar.{minus, minuses, choice, chosen, script, line, lines, final, strength, outline, Sort, aStatement}
+use Rattle.molang.specs.Grammar.{aScript, aLine, someLines, aLast, wellFormed, isText, topOf, insideOf, signed, listed, trees}
 use Rattle.molang.specs.Grammar as Grammar
 use Rattle.molang.proofs.{Computed.{computed}, Grammar.Shape.{Shape, Accessors, firstOf, semicolonOf, isList}}
 use Rattle.molang.proofs.{Grammar.Ranked.{Exp, isTight, isClosed, Ranked, amid}, Grammar.Ranks.{rank, pairing}}
 use Rattle.molang.proofs.Grammar.Returned.{isReturnLeaf, labelOf, returning, Returnless, Once, Returning}
 use Rattle.molang.proofs.Grammar.Views.{shape, ranked, over, negated, blanks}
 use Rattle.molang.proofs.{Grammar.Signs.{signed-fits, negated-tight, negated-ranked}, Grammar.Canonical.{Canonical}}
-use Rattle.molang.proofs.{Grammar.Used.{EachOf}, Grammar.Gating.{in-ranked}, Grammar.Complete.{returnless}, Grammar.Levels.{ruled}}
-use Rattle.molang.proofs.Grammar.Numbers.{infixes, height, none-unranked, Infix, plus-infix, Question, a-question}
-use Rattle.molang.proofs.Grammar.Kept.{Prefix, Kept, kept}
+use Rattle.molang.proofs.{Grammar.Gating.{in-ranked}, Grammar.Complete.{returnless}, Grammar.Levels.{ruled}}
+use Rattle.molang.proofs.{Grammar.Numbers.{infixes, none-unranked, Infix, plus-infix, a-question}, Grammar.Kept.{Prefix, Kept, kept}}
 use Rattle.molang.proofs.Grammar.Given.{infix-silent, Labels, round-label, section-label, math-label, operand-label, query-label}
-use Rattle.molang.proofs.Grammar.Given.{Sorted, Line, Lines, lacking}
+use Rattle.molang.proofs.Grammar.Given.{Sorted, lacking}
 use Rattle.molang.proofs.Grammar.Keeping.{sorted, shaped, list-of, stated, arrows, chained, over-tight, over-ranked, tight, signs}
 use Rattle.molang.proofs.Grammar.Shape as Shapes
 use Rattle.molang.proofs.Grammar.Ranked as Ranks

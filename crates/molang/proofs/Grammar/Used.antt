@@ -1,6 +1,6 @@
 -- Something holds of every token of a text, of its shape, of every operator of an expression.
 use Prim.Native.Nat.{ℕ, _≤_}
-use mathlib.Core.{Path.{_≡_}, Bool.{Bool, true, false}, List.{List, [], _∷_}}
+use mathlib.Core.{Path.{_≡_}, Bool.{Bool, true}, List.{List, [], _∷_}}
 use Rattle.molang.specs.Forest.{Token}
 use Rattle.molang.proofs.Grammar.Shape.{Shape, token, beside, chain, section, query, mathCall, mathEmpty, index, pointer, script}
 use Rattle.molang.proofs.{Grammar.Shape.{statement, last, blank}, Grammar.Ranked.{Exp}}

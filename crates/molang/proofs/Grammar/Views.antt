@@ -1,10 +1,9 @@
 -- THREE VIEWS OF A TEXT, each of which the theorem of some passes speaks of: its shape (up to the math calls), its list of operands and
 -- operators (the prefix operators), its ranked expression (the pointer's level, and all levels from
 -- the first binary one on). Which stage a list is at is the form that is taken of a view.
-use Prim.Native.Nat.{ℕ}
 use mathlib.Core.List.{List, [], _∷_}
 use Rattle.molang.specs.Operator
-use Rattle.molang.specs.Forest.{Token, Forest, nil, node, bare, renamed, closedBy}
+use Rattle.molang.specs.Forest.{Token, nil, node, bare, renamed, closedBy}
 use Rattle.molang.specs.Grammar.{Text, operand, member, section, query, mathCall, mathEmpty, index, arrow, prefix, returned, between}
 use Rattle.molang.specs.Grammar.{minus, minuses, choice, chosen, script, line, lines, final, topOf, insideOf}
 use Rattle.molang.proofs.Grammar.Shape as Shapes
