@@ -115,6 +115,8 @@ cargo clippy --version >/dev/null 2>&1 || clippy=
 for crate in sys host; do
     step "documentation of $crate" env RUSTDOCFLAGS="-D warnings" \
         cargo doc --manifest-path "$crate/Cargo.toml" --offline --no-deps --quiet
+done
+for crate in oracle sys compare host; do
     [ -z "$clippy" ] ||
         step "clippy on $crate" cargo clippy --manifest-path "$crate/Cargo.toml" --release --offline --all-targets --quiet -- -D warnings
 done
