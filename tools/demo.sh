@@ -20,6 +20,7 @@ try() {
 }
 
 try versions -e 'dosed ? hold : under ? open : shut'
+try explain -e "$(printf 'armed\n&& (ready\n   || calm]')"
 try check in
 try diff in --to 6
 try lift in -o lifted --to 6
