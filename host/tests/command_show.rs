@@ -122,7 +122,8 @@ version 6   no tree
     let json = shown(&["explain", "--json", "--at", "6", "-e", "a b"]);
     let head = r#"{"version":6,"result":"no-tree","source":"a b","#;
     let text = "2 parts are left that no operator joins";
-    let message = format!(r#"{{"number":1,"start":0,"end":3,"text":"{text}"}}"#);
+    let message =
+        format!(r#"{{"number":1,"start":0,"end":3,"line":1,"column":1,"text":"{text}"}}"#);
     let object = format!(r#"{head}"text":"{text} (at 0-3)","messages":[{message}]}}"#);
     assert_eq!(json.trim_end(), object);
 }

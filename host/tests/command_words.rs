@@ -128,6 +128,10 @@ fn a_slip_is_told_with_what_may_be_meant() {
             "ops --color sometimes",
             "ops: `--color` takes one of auto, always, never, not `sometimes`; ",
         ),
+        (
+            "--vrsion",
+            "help: there is no option `--vrsion` (did you mean `--version`?); ",
+        ),
         ("--color", "help: `--color` lacks its value; "),
     ] {
         let wrong = run_line(Path::new("."), line);
@@ -140,6 +144,11 @@ fn a_slip_is_told_with_what_may_be_meant() {
 #[test]
 fn the_version_is_told_before_and_after_a_command() {
     let told = format!("sorbrudder {}\n", env!("CARGO_PKG_VERSION"));
+    let help = run_line(Path::new("."), "help --help");
+    assert_eq!(
+        (help.status, help.out),
+        (Some(0), run_line(Path::new("."), "--help").out)
+    );
     for line in [
         "--version",
         "-V",

@@ -280,7 +280,7 @@ pub const COMMANDS: &[Command] = &[
             SOURCE,
             args::flag(
                 "--json",
-                "one object: version, result, source, text, messages with number, start, end and text",
+                "one object: version, result, source, text, messages with number, start, end, line, column and text",
             ),
         ],
         notes: &[],

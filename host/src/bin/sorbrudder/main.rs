@@ -62,7 +62,11 @@ fn run(words: &[OsString]) -> Result<Status, Failure> {
     };
     let name = first.to_string_lossy();
     if name == "help" {
-        return help::print(rest.first().map(|word| word.to_string_lossy()).as_deref());
+        let mut names = rest.iter().filter(|word| !args::is_option(word));
+        return help::print(names.next().map(|word| word.to_string_lossy()).as_deref());
+    }
+    if args::is_option(first) {
+        return run_alone(std::slice::from_ref(first));
     }
     let Some(command) = commands::named(&name) else {
         return Err(help::unknown(&name));
