@@ -77,9 +77,12 @@ brackets are open at once, as it is or with the brackets that it needs; a list c
                   refused), and node or token, op, operator, start, end and reason of what stays behind or is not settled; the reason
                   of too-deep is as-given, as-written (the token is then one of the list with its brackets) or own-limit
 
-A file is written beside its target, brought to the disk, read back and compared, and then put in the target's place at once. Killed at
-any moment or on a full disk, the old file is whole; a file `.sorbrudder-*.tmp` may be left, and can be deleted. A target, a backup or a
-report that would take the place of a file that is lifted, or of another that is written, is a wrong argument, and nothing is begun.
+A file is written beside its target, brought to the disk, read back and compared, and then put in the target's place at once, with its
+owner, rights and attributes. Killed at any moment or on a full disk, the old file is whole; a file `.sorbrudder-*.tmp` that is left is
+removed by the next run that writes to the folder. Of two runs on one file in place the second ends with 3, or works on what the first left;
+what another program writes meanwhile stays, and the status is 3. A file with several names (hard links) is not replaced. A target, a
+backup or a report that would take the place of a file that is lifted, or of another that is written, is a wrong argument, and nothing is
+begun.
 ";
 
 const READ: &str = "\

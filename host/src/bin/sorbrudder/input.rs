@@ -30,11 +30,16 @@ pub struct Input {
 
 impl Input {
     pub fn open(path: &Path) -> Result<Self, Failure> {
-        let from: Box<dyn Read + Send> = if is_stream(path) {
-            Box::new(io::stdin())
-        } else {
-            Box::new(File::open(path).map_err(|why| Failure::io(path, &why))?)
-        };
+        if is_stream(path) {
+            return Self::of(path, io::stdin());
+        }
+        let file = File::open(path).map_err(|why| Failure::io(path, &why))?;
+        Self::of(path, file)
+    }
+
+    /// The lists that are read from here, under this name.
+    pub fn of(path: &Path, from: impl Read + Send + 'static) -> Result<Self, Failure> {
+        let from: Box<dyn Read + Send> = Box::new(from);
         let lists = Lists::new(Counted(from)).map_err(|why| Failure::archive(path, &why))?;
         Ok(Self {
             path: path.to_path_buf(),

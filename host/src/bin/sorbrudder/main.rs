@@ -1,6 +1,6 @@
 //! The command `sorbrudder`: checks, compares, lifts, shows and draws archives of Molang token lists. `sorbrudder --help` says how.
 
-#![forbid(unsafe_code)]
+#![deny(unsafe_code)]
 
 mod args;
 mod bracketed;
@@ -15,6 +15,7 @@ mod input;
 mod json;
 mod lift;
 mod line;
+mod lock;
 mod one_list;
 mod ops;
 mod output;
@@ -25,6 +26,8 @@ mod read;
 mod replace;
 mod rules;
 mod several;
+#[allow(unsafe_code)]
+mod system;
 mod versions;
 
 use args::Args;

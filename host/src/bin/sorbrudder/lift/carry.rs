@@ -5,13 +5,13 @@ use crate::check::note_words;
 use crate::failure::Failure;
 use crate::input::Input;
 use crate::line::{About, Line};
+use crate::lock::Held;
 use crate::replace::{self, Replacement};
 use crate::several::Teller;
 use sorbrudder::archive::{List, Lists, ListsWriter};
 use sorbrudder::{LiftError, LiftedWords, Lifter, Op};
 use std::io::{self, BufWriter, Write};
 use std::path::Path;
-use std::time::SystemTime;
 
 /// What became of lists.
 #[derive(Clone, Copy, Debug, Default)]
@@ -94,7 +94,14 @@ pub fn carry(
     options: &Options,
     teller: &mut Teller<Carried>,
 ) -> Result<Carried, Failure> {
-    let mut input = Input::open(file)?;
+    let held = match options.target {
+        Target::InPlace => Some(Held::of(file)?),
+        _ => None,
+    };
+    let mut input = match &held {
+        Some(held) => Input::of(file, held.file().map_err(|why| Failure::io(file, &why))?)?,
+        None => Input::open(file)?,
+    };
     note_words(&input, teller);
     let Some(target) = options.target_of(file) else {
         let out: Box<dyn Write> = match options.target {
@@ -104,7 +111,6 @@ pub fn carry(
         let (carried, _, _) = carry_lists(&mut input, options, out, teller)?;
         return Ok(carried);
     };
-    let before = last_change(file);
     if let (Target::Folder(..), Some(folder)) = (&options.target, target.parent()) {
         std::fs::create_dir_all(folder).map_err(|why| Failure::io(folder, &why))?;
     }
@@ -116,21 +122,17 @@ pub fn carry(
         carried.held_back = 1;
         return Ok(carried);
     }
-    if options.target == Target::InPlace && last_change(file) != before {
-        let why = "it was changed while it was lifted; nothing was written";
-        return Err(Failure::Io(format!("{}: {why}", file.display())));
+    if let Some(held) = &held {
+        replacement.check(held.seen())?;
     }
     if options.backs_up {
         replace::back_up(file)?;
     }
-    replacement.put_in_place()?;
+    match held {
+        Some(held) => replacement.put_in_place_of(held.seen())?,
+        None => replacement.put_in_place()?,
+    }
     Ok(carried)
-}
-
-/// When a file was changed last, and its length.
-fn last_change(file: &Path) -> Option<(SystemTime, u64)> {
-    let file = std::fs::metadata(file).ok()?;
-    Some((file.modified().ok()?, file.len()))
 }
 
 /// Lifts every list, writes it, and tells of it.
