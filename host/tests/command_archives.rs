@@ -576,10 +576,13 @@ fn words_and_containers_carry_the_same_lists() {
         assert_eq!(run(&folder, &words).status, Some(1));
         std::fs::read(folder.join(to)).expect("a file")
     };
-    let (a, b) = (lift("words", "a", &[]), lift("container", "b", &[]));
+    let (a, b) = (
+        lift("words", "a", &["--container"]),
+        lift("container", "b", &[]),
+    );
     assert_eq!(a, b);
     let (c, d) = (
-        lift("words", "c", &["--plain"]),
+        lift("words", "c", &[]),
         lift("container", "d", &["--plain"]),
     );
     assert_eq!(c, d);
@@ -591,7 +594,7 @@ fn words_and_containers_carry_the_same_lists() {
         &["lift", "-", "-o", "-", "--to", "6"],
         &seven(Format::Words),
     );
-    assert_eq!((streamed.status, &bytes), (Some(1), &a));
+    assert_eq!((streamed.status, &bytes), (Some(1), &c));
     assert!(
         streamed.err.contains("stays behind"),
         "the lines are on standard error"

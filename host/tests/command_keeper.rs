@@ -2,7 +2,7 @@
 
 mod common;
 
-use common::command::{Run, archive, command, folder, lists, run, run_line};
+use common::command::{Run, SEVEN, archive, command, folder, lists, run, run_line, run_with};
 use sorbrudder::archive::Format;
 use std::ffi::{CString, c_char, c_int, c_void};
 use std::os::unix::ffi::OsStrExt as _;
@@ -284,4 +284,104 @@ fn a_link_is_told_of_by_its_own_name() {
         ran.err.starts_with("sorbrudder: link: it has 2 names"),
         "{ran:?}"
     );
+}
+
+#[test]
+fn a_file_whose_lists_all_stay_is_not_touched() {
+    let folder = folder("untouched");
+    for format in [Format::Container, Format::Words] {
+        let file = folder.join("file");
+        std::fs::write(&file, archive(format, &SEVEN)).expect("a file");
+        let lifted = run(&folder, &LIFT);
+        assert_eq!(lifted.status, Some(1), "{lifted:?}");
+        assert!(!lifted.err.contains("left as they are"), "{lifted:?}");
+        let before = file.metadata().expect("a file");
+        let again = run_line(&folder, "lift file --in-place --backup --to 6");
+        assert_eq!(again.status, Some(1), "{again:?}");
+        let told = "1 files were left as they are, since all their lists stay\n";
+        assert!(again.err.contains(told), "{again:?}");
+        let now = file.metadata().expect("a file");
+        assert_eq!(now.ino(), before.ino());
+        assert_eq!(
+            now.modified().expect("a time"),
+            before.modified().expect("a time")
+        );
+        assert!(!folder.join("file.bak").exists());
+        let left = std::fs::read_dir(&folder).expect("a folder").count();
+        assert_eq!(left, 1);
+    }
+}
+
+#[test]
+fn a_file_stays_plain_or_a_container_unless_it_is_asked_for() {
+    let folder = folder("stays_plain");
+    let plain = archive(Format::Words, &SEVEN);
+    let container = archive(Format::Container, &SEVEN);
+    let is_container = |bytes: &[u8]| bytes.starts_with(b"\x89SBR");
+    let changes = "a plain file of words becomes a container";
+    let back = "a container becomes a plain file of words";
+    for (old, option, told) in [
+        (&plain, None, None),
+        (&plain, Some("--plain"), None),
+        (&plain, Some("--container"), Some(changes)),
+        (&container, None, None),
+        (&container, Some("--container"), None),
+        (&container, Some("--plain"), Some(back)),
+    ] {
+        std::fs::write(folder.join("file"), old).expect("a file");
+        let ran = run(&folder, &[&LIFT[..], option.as_slice()].concat());
+        let now = std::fs::read(folder.join("file")).expect("a file");
+        let is_other = is_container(&now) != is_container(old);
+        assert_eq!(is_other, told.is_some(), "{option:?}: {ran:?}");
+        for change in [changes, back] {
+            let told = told == Some(change);
+            assert_eq!(ran.err.contains(change), told, "{option:?}: {ran:?}");
+        }
+        // A file in which nothing but the format changes is written too.
+        let other = if is_container(&now) {
+            "--plain"
+        } else {
+            "--container"
+        };
+        let turned = run(&folder, &[&LIFT[..], &[other]].concat());
+        let turned_now = std::fs::read(folder.join("file")).expect("a file");
+        assert_ne!(is_container(&turned_now), is_container(&now), "{turned:?}");
+        assert_eq!(lists(&turned_now), lists(&now));
+    }
+    let both = run_line(&folder, "lift file --in-place --to 6 --plain --container");
+    assert_eq!(both.status, Some(2), "{both:?}");
+}
+
+#[test]
+fn no_plain_file_is_written_that_check_calls_damaged() {
+    let folder = folder("empty_plain");
+    std::fs::write(folder.join("file"), archive(Format::Container, &[])).expect("a file");
+    let zeros = vec![(0, ""); 16];
+    std::fs::write(folder.join("zeros"), archive(Format::Container, &zeros)).expect("a file");
+    for name in ["file", "zeros"] {
+        assert_ne!(run(&folder, &["check", name]).status, Some(4));
+        let plain = run(
+            &folder,
+            &["lift", name, "-o", "out", "--plain", "--to", "6"],
+        );
+        // At version 6 the lists are no zeros any more.
+        let is_written = name == "zeros" && plain.status != Some(3);
+        assert_eq!(folder.join("out").exists(), is_written, "{plain:?}");
+        if is_written {
+            assert_ne!(run_line(&folder, "check out").status, Some(4));
+        }
+    }
+    let plain = run_line(&folder, "lift file -o plain --plain --to 6");
+    assert_eq!(plain.status, Some(3), "{plain:?}");
+    let told = "a plain file of words has at least one list";
+    assert!(plain.err.contains(told), "{plain:?}");
+    let empty = archive(Format::Container, &[]);
+    let words = ["lift", "-", "-o", "-", "--plain", "--to", "6"];
+    let (streamed, bytes) = run_with(&folder, &words, &empty);
+    assert_eq!((streamed.status, bytes.len()), (Some(3), 0));
+    assert_eq!(
+        run_line(&folder, "lift file -o again --to 6").status,
+        Some(0)
+    );
+    assert_eq!(run_line(&folder, "check again").status, Some(0));
 }

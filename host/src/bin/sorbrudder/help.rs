@@ -65,13 +65,14 @@ brackets are open at once, as it is or with the brackets that it needs; a list c
   --to V          the version to lift to
   --limit N       the nesting limit of the engine that is lifted to, 1 to 4096, which is the usual
   --own-limit N   the nesting limit of the engines that the lists were written for; one that is deeper was no tree there
-  --in-place      replaces the files themselves
+  --in-place      replaces the files themselves, but for those in which every list stays as it is
   --backup        keeps each old file as FILE.bak, which must not be there yet
   --dry-run       writes no archive, and tells what would be done; it needs no `-o` and no `--in-place`
   --strict        a file in which a list stays behind is not written at all; not with `-o -`
   --settle        writes every list that can be written with all its brackets, so that every version reads it the same; a list that
                   cannot be, and that both versions read alike, is left alone and told of: another version may read it otherwise
-  --plain         writes plain files of words instead of containers (docs/FORMAT.md)
+  --plain         writes plain files of words (docs/FORMAT.md); else a file stays what it is
+  --container     writes containers
   --report FILE   a line of JSON for every list; `--report -` is `--json`
   --json          the same on standard output: file, list, byte, version, to, result (same, lifted, settled, stays, no-tree, too-deep,
                   refused), and node or token, op, operator, start, end and reason of what stays behind or is not settled; the reason

@@ -47,8 +47,12 @@ impl Input {
         })
     }
 
+    pub fn format(&self) -> Format {
+        self.lists.format()
+    }
+
     pub fn is_words(&self) -> bool {
-        self.lists.format() == Format::Words
+        self.format() == Format::Words
     }
 
     pub fn next_list(&mut self) -> Result<Option<List<'_>>, Failure> {

@@ -95,6 +95,12 @@ fn tell(sum: &Carried, options: &Options, failed: usize) {
             "{failed} files could not be lifted; their lists are not counted"
         ));
     }
+    if sum.untouched > 0 {
+        output::tell(&format!(
+            "{} files were left as they are, since all their lists stay",
+            sum.untouched
+        ));
+    }
     if options.target == Target::Nothing {
         output::tell("nothing was written (--dry-run)");
     } else if sum.held_back > 0 {

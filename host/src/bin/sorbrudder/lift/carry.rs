@@ -8,7 +8,7 @@ use crate::line::{About, Line};
 use crate::lock::Held;
 use crate::replace::{self, Replacement};
 use crate::several::Teller;
-use sorbrudder::archive::{List, Lists, ListsWriter};
+use sorbrudder::archive::{Format, List, Lists, ListsWriter};
 use sorbrudder::{LiftError, LiftedWords, Lifter, Op};
 use std::io::{self, BufWriter, Write};
 use std::path::Path;
@@ -29,6 +29,8 @@ pub struct Carried {
     pub too_deep: u64,
     /// Files that were not written, since lists stayed behind.
     pub held_back: u64,
+    /// Files that were not touched, since all their lists stay as they are.
+    pub untouched: u64,
 }
 
 impl Carried {
@@ -60,6 +62,7 @@ impl Carried {
         self.not_writable += other.not_writable;
         self.too_deep += other.too_deep;
         self.held_back += other.held_back;
+        self.untouched += other.untouched;
     }
 }
 
@@ -108,20 +111,23 @@ pub fn carry(
             Target::Stdout => Box::new(BufWriter::with_capacity(1 << 16, io::stdout())),
             _ => Box::new(io::sink()),
         };
-        let (carried, _, _) = carry_lists(&mut input, options, out, teller)?;
-        return Ok(carried);
+        return Ok(carry_lists(&mut input, options, out, teller)?.carried);
     };
     if let (Target::Folder(..), Some(folder)) = (&options.target, target.parent()) {
         std::fs::create_dir_all(folder).map_err(|why| Failure::io(folder, &why))?;
     }
     let replacement = Replacement::of(&target)?;
-    let (mut carried, digest, mut replacement) =
-        carry_lists(&mut input, options, replacement, teller)?;
-    read_back(&mut replacement, digest, &target)?;
+    let written = carry_lists(&mut input, options, replacement, teller)?;
+    let (mut carried, mut replacement) = (written.carried, written.out);
     if options.is_strict && carried.stayed() > 0 {
         carried.held_back = 1;
         return Ok(carried);
     }
+    if held.is_some() && !written.is_changed {
+        carried.untouched = 1;
+        return Ok(carried);
+    }
+    read_back(&mut replacement, written.digest, &target)?;
     if let Some(held) = &held {
         replacement.check(held.seen())?;
     }
@@ -135,14 +141,41 @@ pub fn carry(
     Ok(carried)
 }
 
+/// What was written.
+struct Written<W> {
+    carried: Carried,
+    digest: Digest,
+    /// Whether it is another file than the one that was read.
+    is_changed: bool,
+    out: W,
+}
+
+/// The format to write, which is said where it is another than the file's.
+fn format(input: &Input, options: &Options, teller: &mut Teller<Carried>) -> Format {
+    let (from, file) = (input.format(), input.path.display());
+    let format = options.format.unwrap_or(from);
+    match (from, format) {
+        (Format::Words, Format::Container) => teller.note(format!(
+            "{file}: a plain file of words becomes a container (--container)"
+        )),
+        (Format::Container, Format::Words) => teller.note(format!(
+            "{file}: a container becomes a plain file of words (--plain)"
+        )),
+        _ => {}
+    }
+    format
+}
+
 /// Lifts every list, writes it, and tells of it.
 fn carry_lists<W: Write>(
     input: &mut Input,
     options: &Options,
     out: W,
     teller: &mut Teller<Carried>,
-) -> Result<(Carried, Digest, W), Failure> {
+) -> Result<Written<W>, Failure> {
     let path = input.path.clone();
+    let format = format(input, options, teller);
+    let mut is_changed = format != input.format();
     let failed = |why: io::Error| match why.kind() {
         io::ErrorKind::BrokenPipe if options.target == Target::Stdout => Failure::Cut,
         _ => Failure::Io(format!(
@@ -150,7 +183,7 @@ fn carry_lists<W: Write>(
             path.display()
         )),
     };
-    let mut writer = ListsWriter::new(out, options.format).map_err(failed)?;
+    let mut writer = ListsWriter::new(out, format).map_err(failed)?;
     let (mut carried, mut digest) = (Carried::default(), Digest::new());
     let mut lifter = Lifter::new()
         .with_limit_from(options.own_limit)
@@ -174,11 +207,17 @@ fn carry_lists<W: Write>(
         };
         writer.write(version, words).map_err(failed)?;
         digest.add(version, words);
+        is_changed |= version != list.version || words != list.words;
         carried.add(line.result);
         tell(&line, about, options, teller);
     }
     let (out, _) = writer.finish().map_err(failed)?;
-    Ok((carried, digest, out))
+    Ok(Written {
+        carried,
+        digest,
+        is_changed,
+        out,
+    })
 }
 
 /// Why a list that is to be settled cannot be: it is not plain, or too deep with all its brackets.
@@ -254,9 +293,6 @@ fn read_back(written: &mut Replacement, meant: Digest, target: &Path) -> Result<
             target.display()
         ))
     };
-    if meant.lists == 0 && file.metadata().is_ok_and(|file| file.len() == 0) {
-        return Ok(());
-    }
     let mut lists = Lists::new(file).map_err(|why| failed(why.to_string()))?;
     let mut found = Digest::new();
     while let Some(list) = lists.next_list().map_err(|why| failed(why.to_string()))? {

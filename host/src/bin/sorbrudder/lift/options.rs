@@ -19,6 +19,7 @@ pub const OPTIONS: &[args::Option] = &[
     args::flag("--strict"),
     args::flag("--settle"),
     args::flag("--plain"),
+    args::flag("--container"),
     args::flag("--json"),
 ];
 
@@ -40,7 +41,8 @@ pub struct Options {
     pub limit: Limit,
     pub own_limit: Limit,
     pub target: Target,
-    pub format: Format,
+    /// How files are written; as each is where nothing is said.
+    pub format: Option<Format>,
     pub backs_up: bool,
     pub is_strict: bool,
     pub settles: bool,
@@ -67,11 +69,7 @@ impl Options {
             limit: args.limit("--limit")?,
             own_limit: args.limit("--own-limit")?,
             target,
-            format: if args.has("--plain") {
-                Format::Words
-            } else {
-                Format::Container
-            },
+            format: format(args)?,
             backs_up: args.has("--backup"),
             is_strict: args.has("--strict"),
             settles: args.has("--settle"),
@@ -88,6 +86,15 @@ impl Options {
             Target::File(target) => Some(target.clone()),
             Target::Folder(from, to) => Some(to.join(file.strip_prefix(from).unwrap_or(file))),
         }
+    }
+}
+
+fn format(args: &Args) -> Result<Option<Format>, Failure> {
+    match (args.has("--plain"), args.has("--container")) {
+        (true, true) => Err(args.wrong("`--plain` and `--container` exclude each other")),
+        (true, false) => Ok(Some(Format::Words)),
+        (false, true) => Ok(Some(Format::Container)),
+        (false, false) => Ok(None),
     }
 }
 
