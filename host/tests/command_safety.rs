@@ -392,6 +392,7 @@ fn memory_does_not_grow_with_the_file() {
         ],
         &["check", "many", "--json"],
         &["diff", "many", "many", "--to", "6", "--json"],
+        &["diff", "many", "--to", "6", "--json", "-j", "4"],
     ];
     for words in runs {
         let mut child = command();

@@ -28,6 +28,9 @@ pub const fn value(name: &'static str) -> Option {
     }
 }
 
+/// The most threads that can be asked for.
+const MOST_JOBS: usize = 1_024;
+
 /// What a command was given.
 #[derive(Debug)]
 pub struct Args {
@@ -153,6 +156,17 @@ impl Args {
                 Limit::MOST
             ))
         })
+    }
+
+    /// How many threads are to work: as many as `-j` says, else as the machine has.
+    pub fn jobs(&self) -> Result<usize, Failure> {
+        let Some(value) = self.value("-j") else {
+            return Ok(std::thread::available_parallelism().map_or(1, usize::from));
+        };
+        let value = value.to_string_lossy();
+        let jobs = value.trim().parse().ok();
+        jobs.filter(|jobs| (1..=MOST_JOBS).contains(jobs))
+            .ok_or_else(|| self.wrong(&format!("`-j` takes 1 to {MOST_JOBS}, not `{value}`")))
     }
 
     /// A version that has to be given.

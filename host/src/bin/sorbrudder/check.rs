@@ -2,15 +2,20 @@
 
 use crate::args::{self, Args};
 use crate::failure::{Failure, Status};
-use crate::input::Input;
+use crate::helpers::{Helpers, Task};
+use crate::input::{Batch, Input};
 use crate::line::{About, Line};
 use crate::output;
 use crate::paths;
-use crate::several::{self, Stdout, Teller};
+use crate::several::{self, How, Stdout, Teller};
 use sorbrudder::{Limit, ReadError, Reader};
 use std::path::Path;
 
-pub const OPTIONS: &[args::Option] = &[args::flag("--json"), args::value("--limit")];
+pub const OPTIONS: &[args::Option] = &[
+    args::flag("--json"),
+    args::value("--limit"),
+    args::value("-j"),
+];
 
 /// What was found in a file, or in all.
 #[derive(Clone, Copy, Debug, Default)]
@@ -23,6 +28,16 @@ pub struct Found {
     refused: u64,
 }
 
+impl Found {
+    fn join(&mut self, other: Self) {
+        self.lists += other.lists;
+        self.trees += other.trees;
+        self.no_trees += other.no_trees;
+        self.too_deep += other.too_deep;
+        self.refused += other.refused;
+    }
+}
+
 /// Says once a file that damage at a token's end would not be seen in it.
 pub fn note_words<T>(input: &Input, teller: &mut Teller<T>) {
     if input.is_words() {
@@ -33,26 +48,66 @@ pub fn note_words<T>(input: &Input, teller: &mut Teller<T>) {
     }
 }
 
+/// Reads lists at their own versions.
+struct Check {
+    limit: Limit,
+    is_json: bool,
+}
+
+impl Task for Check {
+    type State = Reader;
+    type Done = (Found, String);
+
+    fn state(&self) -> Reader {
+        Reader::new().with_limit(self.limit)
+    }
+
+    fn work(&self, reader: &mut Reader, file: &Path, batch: &Batch) -> (Found, String) {
+        let (mut found, mut text) = (Found::default(), String::new());
+        for list in batch.lists() {
+            found.lists += 1;
+            let line = match reader.read_words(list.words, list.version) {
+                Ok(_) => Line::new("tree", None),
+                Err(why) => Line::of_limited(&why, list.words, self.limit),
+            };
+            match line.result {
+                "tree" => found.trees += 1,
+                "no-tree" => found.no_trees += 1,
+                "too-deep" => found.too_deep += 1,
+                _ => found.refused += 1,
+            }
+            let about = About::list(file, list);
+            if self.is_json {
+                text += &line.as_json(about);
+            } else if line.result != "tree" {
+                text += &line.as_text(about);
+            }
+        }
+        (found, text)
+    }
+}
+
 pub fn run(args: &Args) -> Result<Status, Failure> {
     if args.rest.is_empty() {
         return Err(args.wrong("name the files or folders to check"));
     }
-    let limit = args.limit("--limit")?;
+    let (limit, is_json) = (args.limit("--limit")?, args.has("--json"));
+    let task = &Check { limit, is_json };
+    let jobs = args.jobs()?;
     let files = paths::files(&args.rest)?;
-    let is_json = args.has("--json");
     let mut sum = Found::default();
     let mut stdout = Stdout {
         goes_on: false,
         is_closed: false,
     };
-    let check = |file: &Path, teller: &mut Teller<Found>| check_file(file, limit, is_json, teller);
-    let status = several::each(&files, is_json, &mut stdout, check, |found| {
+    let how = How {
+        task,
+        jobs,
+        is_json,
+    };
+    let status = several::each(&how, &files, &mut stdout, check_file, |found: Found| {
         sum.files += 1;
-        sum.lists += found.lists;
-        sum.trees += found.trees;
-        sum.no_trees += found.no_trees;
-        sum.too_deep += found.too_deep;
-        sum.refused += found.refused;
+        sum.join(found);
     })?;
     let damaged = files.len() as u64 - sum.files;
     output::tell(&format!(
@@ -74,36 +129,18 @@ pub fn run(args: &Args) -> Result<Status, Failure> {
 
 fn check_file(
     file: &Path,
-    limit: Limit,
-    is_json: bool,
     teller: &mut Teller<Found>,
+    helpers: &Helpers<'_, Check>,
 ) -> Result<Found, Failure> {
     let mut input = Input::open(file)?;
     note_words(&input, teller);
-    let (mut found, mut reader) = (Found::default(), Reader::new().with_limit(limit));
-    while let Some(list) = input.next_list()? {
-        found.lists += 1;
-        let line = match reader.read_words(list.words, list.version) {
-            Ok(_) => Line::new("tree", None),
-            Err(why) => Line::of_limited(&why, list.words, limit),
-        };
-        match line.result {
-            "tree" => found.trees += 1,
-            "no-tree" => found.no_trees += 1,
-            "too-deep" => found.too_deep += 1,
-            _ => found.refused += 1,
-        }
-        let about = About::list(file, &list);
-        if is_json {
-            teller.text(&line.as_json(about));
-        } else if line.result != "tree" {
-            teller.text(&line.as_text(about));
-        }
-        if teller.is_closed() {
-            return Err(Failure::Closed);
-        }
-    }
-    Ok(found)
+    let mut sum = Found::default();
+    helpers.each(&mut input, |(found, text)| {
+        sum.join(found);
+        teller.text(&text);
+        teller.open()
+    })?;
+    Ok(sum)
 }
 
 /// Whether a list was turned back and not read.

@@ -4,17 +4,18 @@ use crate::args::{self, Args};
 use crate::bracketed;
 use crate::check::{is_refused, note_words};
 use crate::failure::{Failure, Status};
-use crate::input::Input;
+use crate::helpers::{Helpers, Task};
+use crate::input::{Batch, Input, Listed};
 use crate::line::{About, Line, Place, Which};
 use crate::output;
 use crate::paths;
 use crate::rules;
-use crate::several::{self, Stdout, Teller};
-use sorbrudder::archive::List;
+use crate::several::{self, How, Stdout, Teller};
 use sorbrudder::{Op, ReadError, Reader, TreeRef};
 use std::path::Path;
 
-pub const OPTIONS: &[args::Option] = &[args::flag("--json"), args::value("--to")];
+pub const OPTIONS: &[args::Option] =
+    &[args::flag("--json"), args::value("--to"), args::value("-j")];
 
 /// What was found, by the words of the results.
 #[derive(Clone, Copy, Debug, Default)]
@@ -52,20 +53,62 @@ impl Found {
     }
 }
 
+/// Compares how lists are read at their own versions and at another.
+struct Diff {
+    to: i16,
+    is_json: bool,
+}
+
+impl Task for Diff {
+    type State = (Reader, Reader);
+    type Done = (Found, String);
+
+    fn state(&self) -> (Reader, Reader) {
+        (Reader::new(), Reader::new())
+    }
+
+    fn work(
+        &self,
+        (old, new): &mut (Reader, Reader),
+        file: &Path,
+        batch: &Batch,
+    ) -> (Found, String) {
+        let (mut found, mut text) = (Found::default(), String::new());
+        for list in batch.lists() {
+            let line = compare(old, new, list, self.to);
+            found.add(line.result);
+            let about = About::list(file, list);
+            if self.is_json {
+                text += &line.as_json(about);
+            } else if line.result != "same" {
+                text += &line.as_text(about);
+            }
+        }
+        (found, text)
+    }
+}
+
 pub fn run(args: &Args) -> Result<Status, Failure> {
     if args.rest.is_empty() {
         return Err(args.wrong("name the files or folders to compare"));
     }
-    let to = args.needed_version("--to")?;
+    let (to, is_json) = (args.needed_version("--to")?, args.has("--json"));
+    let task = &Diff { to, is_json };
+    let jobs = args.jobs()?;
     let files = paths::files(&args.rest)?;
-    let is_json = args.has("--json");
     let mut sum = Found::default();
     let mut stdout = Stdout {
         goes_on: false,
         is_closed: false,
     };
-    let diff = |file: &Path, teller: &mut Teller<Found>| diff_file(file, to, is_json, teller);
-    let status = several::each(&files, is_json, &mut stdout, diff, |found| sum.join(found))?;
+    let how = How {
+        task,
+        jobs,
+        is_json,
+    };
+    let status = several::each(&how, &files, &mut stdout, diff_file, |found| {
+        sum.join(found);
+    })?;
     output::tell(&format!(
         "{} lists at version {to}: {} read alike, {} otherwise, {} trees no longer, {} trees only then, {} no trees at all, {} refused",
         sum.lists, sum.same, sum.differ, sum.only_old, sum.only_new, sum.no_trees, sum.refused,
@@ -80,31 +123,21 @@ pub fn run(args: &Args) -> Result<Status, Failure> {
 
 fn diff_file(
     file: &Path,
-    to: i16,
-    is_json: bool,
     teller: &mut Teller<Found>,
+    helpers: &Helpers<'_, Diff>,
 ) -> Result<Found, Failure> {
     let mut input = Input::open(file)?;
     note_words(&input, teller);
-    let (mut old, mut new) = (Reader::new(), Reader::new());
-    let mut found = Found::default();
-    while let Some(list) = input.next_list()? {
-        let line = compare(&mut old, &mut new, &list, to);
-        found.add(line.result);
-        let about = About::list(file, &list);
-        if is_json {
-            teller.text(&line.as_json(about));
-        } else if line.result != "same" {
-            teller.text(&line.as_text(about));
-        }
-        if teller.is_closed() {
-            return Err(Failure::Closed);
-        }
-    }
-    Ok(found)
+    let mut sum = Found::default();
+    helpers.each(&mut input, |(found, text)| {
+        sum.join(found);
+        teller.text(&text);
+        teller.open()
+    })?;
+    Ok(sum)
 }
 
-fn compare(old: &mut Reader, new: &mut Reader, list: &List<'_>, to: i16) -> Line {
+fn compare(old: &mut Reader, new: &mut Reader, list: Listed<'_>, to: i16) -> Line {
     let from = list.version;
     let read = (
         old.read_words(list.words, from),

@@ -26,12 +26,13 @@ Exit status: 0 all well, 1 some lists differ, stayed behind or are no trees, 2 w
 ";
 
 const CHECK: &str = "\
-sorbrudder check PATH.. [--limit N] [--json]
+sorbrudder check PATH.. [--limit N] [-j N] [--json]
 
 Reads every list of the archives at its own version, and tells of those that are no trees. Nothing is written.
 
   --limit N   the nesting limit of the engine that the lists are for, 1 to 4096, which is the usual: a list in which more brackets are
               open at once is told of, with the token that opens the first too many
+  -j N        how many threads work, else as many as the machine has; what is told is the same
   --json      a line of JSON for every list: file, list, byte, version, result (tree, no-tree, too-deep, refused), messages, text, and
               token, op, operator, start and end where it is too deep
 
@@ -40,12 +41,13 @@ token's end cannot be seen, which is said once a file.
 ";
 
 const DIFF: &str = "\
-sorbrudder diff PATH.. --to V [--json]
+sorbrudder diff PATH.. --to V [-j N] [--json]
 
 Reads every list at its own version and at V, and tells of those that are not read alike: both readings with all their brackets, the
 first node that differs, and the rule. Nothing is written. Nesting limits are not looked at: `check --limit` and `lift --limit` do.
 
   --to V    the version to compare with
+  -j N      how many threads work, else as many as the machine has; what is told is the same
   --json    a line of JSON for every list: file, list, byte, version, to, result (same, differs, only-old, only-new, no-tree, refused),
             and node, op, operator, start, end and reason of the first difference
 ";
@@ -73,6 +75,7 @@ brackets are open at once, as it is or with the brackets that it needs; a list c
                   cannot be, and that both versions read alike, is left alone and told of: another version may read it otherwise
   --plain         writes plain files of words (docs/FORMAT.md); else a file stays what it is
   --container     writes containers
+  -j N            how many threads work, else as many as the machine has; what is written and told is the same
   --report FILE   a line of JSON for every list; `--report -` is `--json`
   --json          the same on standard output: file, list, byte, version, to, result (same, lifted, settled, stays, no-tree, too-deep,
                   refused), and node or token, op, operator, start, end and reason of what stays behind or is not settled; the reason

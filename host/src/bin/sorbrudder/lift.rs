@@ -6,10 +6,11 @@ mod places;
 
 use crate::args::Args;
 use crate::failure::{Failure, Status};
+use crate::helpers::Helpers;
 use crate::output;
 use crate::paths;
 use crate::replace::Replacement;
-use crate::several::{self, Sink, Stderr, Stdout, Teller};
+use crate::several::{self, How, Sink, Stderr, Stdout, Teller};
 use carry::Carried;
 pub use options::OPTIONS;
 use options::{Options, Target};
@@ -52,8 +53,15 @@ pub fn run(args: &Args) -> Result<Status, Failure> {
     let report = options.report.as_deref().map(Replacement::of).transpose()?;
     let mut lines = Lines { lines, report };
     let (mut sum, mut done) = (Carried::default(), 0);
-    let lift = |file: &Path, teller: &mut Teller<Carried>| carry::carry(file, &options, teller);
-    let status = several::each(&files, options.is_json, &mut lines, lift, |carried| {
+    let how = How {
+        task: &options,
+        jobs: args.jobs()?,
+        is_json: options.is_json,
+    };
+    let lift = |file: &Path, teller: &mut Teller<Carried>, helpers: &Helpers<'_, Options>| {
+        carry::carry(file, &options, teller, helpers)
+    };
+    let status = several::each(&how, &files, &mut lines, lift, |carried| {
         sum.join(carried);
         done += 1;
     })?;

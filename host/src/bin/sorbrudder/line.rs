@@ -1,8 +1,8 @@
 //! What is told of one list: a line of text, or a line of JSON.
 
 use crate::failure::Failure;
+use crate::input::Listed;
 use crate::json::Object;
-use sorbrudder::archive::List;
 use sorbrudder::{LiftError, Limit, Op, ReadError, Span, Token};
 use std::path::Path;
 
@@ -16,7 +16,7 @@ pub struct About<'f> {
 }
 
 impl<'f> About<'f> {
-    pub fn list(file: &'f Path, list: &List<'_>) -> Self {
+    pub fn list(file: &'f Path, list: Listed<'_>) -> Self {
         Self {
             file,
             number: list.number,

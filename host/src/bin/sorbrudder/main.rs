@@ -11,6 +11,7 @@ mod drawing;
 mod explain;
 mod failure;
 mod help;
+mod helpers;
 mod input;
 mod json;
 mod lift;

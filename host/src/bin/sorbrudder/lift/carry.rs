@@ -3,12 +3,13 @@
 use super::options::{Options, Target};
 use crate::check::note_words;
 use crate::failure::Failure;
-use crate::input::Input;
+use crate::helpers::{Helpers, Task};
+use crate::input::{Batch, Input, Listed};
 use crate::line::{About, Line};
 use crate::lock::Held;
 use crate::replace::{self, Replacement};
 use crate::several::Teller;
-use sorbrudder::archive::{Format, List, Lists, ListsWriter};
+use sorbrudder::archive::{Format, Lists, ListsWriter};
 use sorbrudder::{LiftError, LiftedWords, Lifter, Op};
 use std::io::{self, BufWriter, Write};
 use std::path::Path;
@@ -96,6 +97,7 @@ pub fn carry(
     file: &Path,
     options: &Options,
     teller: &mut Teller<Carried>,
+    helpers: &Helpers<'_, Options>,
 ) -> Result<Carried, Failure> {
     let held = match options.target {
         Target::InPlace => Some(Held::of(file)?),
@@ -111,13 +113,13 @@ pub fn carry(
             Target::Stdout => Box::new(BufWriter::with_capacity(1 << 16, io::stdout())),
             _ => Box::new(io::sink()),
         };
-        return Ok(carry_lists(&mut input, options, out, teller)?.carried);
+        return Ok(carry_lists(&mut input, options, out, teller, helpers)?.carried);
     };
     if let (Target::Folder(..), Some(folder)) = (&options.target, target.parent()) {
         std::fs::create_dir_all(folder).map_err(|why| Failure::io(folder, &why))?;
     }
     let replacement = Replacement::of(&target)?;
-    let written = carry_lists(&mut input, options, replacement, teller)?;
+    let written = carry_lists(&mut input, options, replacement, teller, helpers)?;
     let (mut carried, mut replacement) = (written.carried, written.out);
     if options.is_strict && carried.stayed() > 0 {
         carried.held_back = 1;
@@ -166,12 +168,64 @@ fn format(input: &Input, options: &Options, teller: &mut Teller<Carried>) -> For
     format
 }
 
+/// What comes of a batch of lists.
+#[derive(Default)]
+pub struct Lifted {
+    carried: Carried,
+    lists: Batch,
+    is_changed: bool,
+    text: String,
+    report: String,
+}
+
+impl Task for Options {
+    type State = Lifter;
+    type Done = Lifted;
+
+    fn state(&self) -> Lifter {
+        Lifter::new()
+            .with_limit_from(self.own_limit)
+            .with_limit_to(self.limit)
+    }
+
+    fn work(&self, lifter: &mut Lifter, file: &Path, batch: &Batch) -> Lifted {
+        let mut done = Lifted::default();
+        for list in batch.lists() {
+            let unsettled = unsettled(lifter, list, self);
+            let (line, version, words) = match lift_list(lifter, list, self, unsettled) {
+                Ok(lifted) => {
+                    let is_script = lifted.tree.root().op() == Op::SEMICOLON;
+                    done.carried.scripts += u64::from(lifted.changed && is_script);
+                    done.carried.unsettled += u64::from(unsettled.is_some());
+                    let line = told(&lifted, list, self, unsettled);
+                    (line, self.to, lifted.words)
+                }
+                Err(why) => (
+                    Line::of_lift_error(&why, list.words, self.own_limit, self.to),
+                    list.version,
+                    list.words,
+                ),
+            };
+            done.is_changed |= version != list.version || words != list.words;
+            done.lists.push(Listed {
+                version,
+                words,
+                ..list
+            });
+            done.carried.add(line.result);
+            tell(&line, About::list(file, list), self, &mut done);
+        }
+        done
+    }
+}
+
 /// Lifts every list, writes it, and tells of it.
 fn carry_lists<W: Write>(
     input: &mut Input,
     options: &Options,
     out: W,
     teller: &mut Teller<Carried>,
+    helpers: &Helpers<'_, Options>,
 ) -> Result<Written<W>, Failure> {
     let path = input.path.clone();
     let format = format(input, options, teller);
@@ -185,32 +239,17 @@ fn carry_lists<W: Write>(
     };
     let mut writer = ListsWriter::new(out, format).map_err(failed)?;
     let (mut carried, mut digest) = (Carried::default(), Digest::new());
-    let mut lifter = Lifter::new()
-        .with_limit_from(options.own_limit)
-        .with_limit_to(options.limit);
-    while let Some(list) = input.next_list()? {
-        let about = About::list(&path, &list);
-        let unsettled = unsettled(&mut lifter, &list, options);
-        let (line, version, words) = match lift_list(&mut lifter, &list, options, unsettled) {
-            Ok(lifted) => {
-                let is_script = lifted.tree.root().op() == Op::SEMICOLON;
-                carried.scripts += u64::from(lifted.changed && is_script);
-                carried.unsettled += u64::from(unsettled.is_some());
-                let line = told(&lifted, &list, options, unsettled);
-                (line, options.to, lifted.words)
-            }
-            Err(why) => (
-                Line::of_lift_error(&why, list.words, options.own_limit, options.to),
-                list.version,
-                list.words,
-            ),
-        };
-        writer.write(version, words).map_err(failed)?;
-        digest.add(version, words);
-        is_changed |= version != list.version || words != list.words;
-        carried.add(line.result);
-        tell(&line, about, options, teller);
-    }
+    helpers.each(input, |done| {
+        for list in done.lists.lists() {
+            writer.write(list.version, list.words).map_err(failed)?;
+            digest.add(list.version, list.words);
+        }
+        is_changed |= done.is_changed;
+        carried.join(done.carried);
+        teller.report(&done.report);
+        teller.text(&done.text);
+        Ok(())
+    })?;
     let (out, _) = writer.finish().map_err(failed)?;
     Ok(Written {
         carried,
@@ -221,7 +260,7 @@ fn carry_lists<W: Write>(
 }
 
 /// Why a list that is to be settled cannot be: it is not plain, or too deep with all its brackets.
-fn unsettled(lifter: &mut Lifter, list: &List<'_>, options: &Options) -> Option<LiftError> {
+fn unsettled(lifter: &mut Lifter, list: Listed<'_>, options: &Options) -> Option<LiftError> {
     match options.settles {
         true => lifter.settle_words(list.words, list.version).err(),
         false => None,
@@ -231,7 +270,7 @@ fn unsettled(lifter: &mut Lifter, list: &List<'_>, options: &Options) -> Option<
 /// The list as it is settled, or lifted. One that cannot be settled stays as it is where both versions read it alike.
 fn lift_list<'l>(
     lifter: &'l mut Lifter,
-    list: &'l List<'_>,
+    list: Listed<'l>,
     options: &Options,
     unsettled: Option<LiftError>,
 ) -> Result<LiftedWords<'l>, LiftError> {
@@ -247,7 +286,7 @@ fn lift_list<'l>(
 /// The line about a list that was lifted, or left alone.
 fn told(
     lifted: &LiftedWords<'_>,
-    list: &List<'_>,
+    list: Listed<'_>,
     options: &Options,
     unsettled: Option<LiftError>,
 ) -> Line {
@@ -267,20 +306,20 @@ fn told(
 }
 
 /// Tells of a list: in text only where it stays behind, or is left alone and was to be settled.
-fn tell(line: &Line, about: About<'_>, options: &Options, teller: &mut Teller<Carried>) {
+fn tell(line: &Line, about: About<'_>, options: &Options, done: &mut Lifted) {
     if options.report.is_some() {
-        teller.report(&line.as_json(about));
+        done.report += &line.as_json(about);
     }
     if options.is_json {
-        teller.text(&line.as_json(about));
+        done.text += &line.as_json(about);
     } else if line.result == "same" && !line.text.is_empty() {
-        teller.text(&line.as_text(about));
+        done.text += &line.as_text(about);
     } else if !matches!(line.result, "lifted" | "settled" | "same") {
         let stays = Line {
             text: format!("stays behind: {}", line.text),
             ..line.clone()
         };
-        teller.text(&stays.as_text(about));
+        done.text += &stays.as_text(about);
     }
 }
 

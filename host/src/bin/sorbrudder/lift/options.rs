@@ -21,6 +21,7 @@ pub const OPTIONS: &[args::Option] = &[
     args::flag("--plain"),
     args::flag("--container"),
     args::flag("--json"),
+    args::value("-j"),
 ];
 
 /// Where lifted lists go.
