@@ -93,6 +93,9 @@ impl<R: Read> Lists<R> {
                 lists.begin(word)?;
             }
             Next::Word(word) if version_of(word).is_some() => lists.opened = Some((word, 0)),
+            Next::Part if MAGIC[0].to_le_bytes().starts_with(lists.words.part()) => {
+                return Err(lists.damaged(Damage::Cut, 0));
+            }
             Next::Word(_) | Next::Part => return Err(lists.damaged(Damage::NoArchive, 0)),
             Next::End => return Err(lists.damaged(Damage::Empty, 0)),
         }

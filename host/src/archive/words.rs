@@ -40,6 +40,11 @@ impl<R: Read> Words<R> {
         self.before + self.at as u64
     }
 
+    /// The bytes that are left where they are fewer than a word's.
+    pub(super) fn part(&self) -> &[u8] {
+        &self.bytes[self.at..self.len]
+    }
+
     #[inline]
     pub(super) fn next(&mut self) -> io::Result<Next> {
         if self.len - self.at < 4 {

@@ -112,6 +112,12 @@ impl Args {
         given.map(|(_, value)| value.as_os_str())
     }
 
+    /// All values that were given, in their order.
+    pub fn values<'a>(&'a self, name: &'a str) -> impl Iterator<Item = &'a OsStr> {
+        let given = self.options.iter().filter(move |(given, _)| *given == name);
+        given.map(|(_, value)| value.as_os_str())
+    }
+
     pub fn path(&self, name: &str) -> std::option::Option<PathBuf> {
         self.value(name).map(PathBuf::from)
     }

@@ -15,6 +15,7 @@ pub const OPTIONS: &[args::Option] = &[
     args::flag("--json"),
     args::value("--limit"),
     args::value("-j"),
+    args::value("--glob"),
 ];
 
 /// What was found in a file, or in all.
@@ -94,7 +95,7 @@ pub fn run(args: &Args) -> Result<Status, Failure> {
     let (limit, is_json) = (args.limit("--limit")?, args.has("--json"));
     let task = &Check { limit, is_json };
     let jobs = args.jobs()?;
-    let files = paths::files(&args.rest)?;
+    let found = paths::find(args)?;
     let mut sum = Found::default();
     let mut stdout = Stdout {
         goes_on: false,
@@ -105,20 +106,27 @@ pub fn run(args: &Args) -> Result<Status, Failure> {
         jobs,
         is_json,
     };
-    let status = several::each(&how, &files, &mut stdout, check_file, |found: Found| {
-        sum.files += 1;
-        sum.join(found);
-    })?;
-    let damaged = files.len() as u64 - sum.files;
+    let status = several::each(
+        &how,
+        &found.files,
+        &mut stdout,
+        check_file,
+        |found: Found| {
+            sum.files += 1;
+            sum.join(found);
+        },
+    )?;
+    let damaged = found.files.len() as u64 - sum.files;
     output::tell(&format!(
         "{} files, {} lists: {} trees, {} no trees, {} too deep, {} refused; {damaged} files not read to their end",
-        files.len(),
+        found.files.len(),
         sum.lists,
         sum.trees,
         sum.no_trees,
         sum.too_deep,
         sum.refused,
     ));
+    found.tell();
     let found = if sum.trees < sum.lists {
         Status::Found
     } else {

@@ -14,8 +14,12 @@ use crate::several::{self, How, Stdout, Teller};
 use sorbrudder::{Op, ReadError, Reader, TreeRef};
 use std::path::Path;
 
-pub const OPTIONS: &[args::Option] =
-    &[args::flag("--json"), args::value("--to"), args::value("-j")];
+pub const OPTIONS: &[args::Option] = &[
+    args::flag("--json"),
+    args::value("--to"),
+    args::value("-j"),
+    args::value("--glob"),
+];
 
 /// What was found, by the words of the results.
 #[derive(Clone, Copy, Debug, Default)]
@@ -95,7 +99,7 @@ pub fn run(args: &Args) -> Result<Status, Failure> {
     let (to, is_json) = (args.needed_version("--to")?, args.has("--json"));
     let task = &Diff { to, is_json };
     let jobs = args.jobs()?;
-    let files = paths::files(&args.rest)?;
+    let found = paths::find(args)?;
     let mut sum = Found::default();
     let mut stdout = Stdout {
         goes_on: false,
@@ -106,13 +110,14 @@ pub fn run(args: &Args) -> Result<Status, Failure> {
         jobs,
         is_json,
     };
-    let status = several::each(&how, &files, &mut stdout, diff_file, |found| {
+    let status = several::each(&how, &found.files, &mut stdout, diff_file, |found| {
         sum.join(found);
     })?;
     output::tell(&format!(
         "{} lists at version {to}: {} read alike, {} otherwise, {} trees no longer, {} trees only then, {} no trees at all, {} refused",
         sum.lists, sum.same, sum.differ, sum.only_old, sum.only_new, sum.no_trees, sum.refused,
     ));
+    found.tell();
     let found = if sum.same < sum.lists {
         Status::Found
     } else {

@@ -16,8 +16,10 @@ sorbrudder: archives of Molang token lists, checked, compared, lifted to a versi
   sorbrudder draw FILE#N --at 4,6 -o PAGE  two trees side by side as a page for a browser
   sorbrudder ops                           the operators
 
-`sorbrudder COMMAND --help` says more. Lists are numbered from 0. A folder stands for all files in it, by name, but for those whose
-names begin with a dot or end in `.bak`. `-` is standard input or output. What is told of lists goes to standard output, `--json`
+`sorbrudder COMMAND --help` says more. Lists are numbered from 0. A folder stands for all archives in it, by name, but for those whose
+names begin with a dot or end in `.bak`; files that are no archives are skipped and counted, and a folder without an archive is a wrong
+argument. `--glob PATTERN`, of the names of a folder's files or, with a /, of their paths in it, says which are meant (*, ?, [a-z], **, and !
+before a pattern of what is left out); it can be given several times. `-` is standard input or output. What is told of lists goes to standard output, `--json`
 makes it a line of JSON a list (and one for a file that fails); progress and the summary go to standard error. NO_COLOR is heeded. Where
 nobody reads standard output any more, a command ends without a word; of an archive that is written there with status 3, since it is cut.
 
@@ -26,7 +28,7 @@ Exit status: 0 all well, 1 some lists differ, stayed behind or are no trees, 2 w
 ";
 
 const CHECK: &str = "\
-sorbrudder check PATH.. [--limit N] [-j N] [--json]
+sorbrudder check PATH.. [--limit N] [--glob PATTERN] [-j N] [--json]
 
 Reads every list of the archives at its own version, and tells of those that are no trees. Nothing is written.
 
@@ -41,7 +43,7 @@ token's end cannot be seen, which is said once a file.
 ";
 
 const DIFF: &str = "\
-sorbrudder diff PATH.. --to V [-j N] [--json]
+sorbrudder diff PATH.. --to V [--glob PATTERN] [-j N] [--json]
 
 Reads every list at its own version and at V, and tells of those that are not read alike: both readings with all their brackets, the
 first node that differs, and the rule. Nothing is written. Nesting limits are not looked at: `check --limit` and `lift --limit` do.

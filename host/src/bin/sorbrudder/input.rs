@@ -1,7 +1,7 @@
 //! An archive that is read, from a file or from standard input.
 
 use crate::failure::Failure;
-use crate::paths::is_stream;
+use crate::paths::{is_dangling, is_stream};
 use sorbrudder::archive::{Format, List, Lists};
 use std::fs::File;
 use std::io::{self, Read};
@@ -92,7 +92,13 @@ impl Input {
         if is_stream(path) {
             return Self::of(path, io::stdin());
         }
-        let file = File::open(path).map_err(|why| Failure::io(path, &why))?;
+        let file = File::open(path).map_err(|why| match is_dangling(path) {
+            true => Failure::Io(format!(
+                "{}: a link that leads nowhere: {why}",
+                path.display()
+            )),
+            false => Failure::io(path, &why),
+        })?;
         Self::of(path, file)
     }
 

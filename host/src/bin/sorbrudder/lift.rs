@@ -39,8 +39,9 @@ impl Sink for Lines {
 
 pub fn run(args: &Args) -> Result<Status, Failure> {
     let options = Options::of(args)?;
-    let files = paths::files(&args.rest)?;
-    places::check(args, &files, &options)?;
+    let found = paths::find(args)?;
+    let files = &found.files;
+    places::check(args, files, &options)?;
     let lines: Box<dyn Sink> = if options.target == Target::Stdout {
         Box::new(Stderr)
     } else {
@@ -61,7 +62,7 @@ pub fn run(args: &Args) -> Result<Status, Failure> {
     let lift = |file: &Path, teller: &mut Teller<Carried>, helpers: &Helpers<'_, Options>| {
         carry::carry(file, &options, teller, helpers)
     };
-    let status = several::each(&how, &files, &mut lines, lift, |carried| {
+    let status = several::each(&how, files, &mut lines, lift, |carried| {
         sum.join(carried);
         done += 1;
     })?;
@@ -69,6 +70,7 @@ pub fn run(args: &Args) -> Result<Status, Failure> {
         report.put_in_place()?;
     }
     tell(&sum, &options, files.len() - done);
+    found.tell();
     let found = if sum.stayed() > 0 {
         Status::Found
     } else {

@@ -10,6 +10,7 @@ mod draw;
 mod drawing;
 mod explain;
 mod failure;
+mod glob;
 mod help;
 mod helpers;
 mod input;

@@ -22,6 +22,7 @@ pub const OPTIONS: &[args::Option] = &[
     args::flag("--container"),
     args::flag("--json"),
     args::value("-j"),
+    args::value("--glob"),
 ];
 
 /// Where lifted lists go.
