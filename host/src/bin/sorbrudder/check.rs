@@ -7,7 +7,8 @@ use crate::input::{Batch, Input};
 use crate::line::{About, Line};
 use crate::output;
 use crate::paths;
-use crate::several::{self, How, Stdout, Teller};
+use crate::several::{self, How, Sink as _, Stdout, Teller};
+use crate::summary;
 use sorbrudder::{Limit, ReadError, Reader};
 use std::path::Path;
 
@@ -127,12 +128,24 @@ pub fn run(args: &Args) -> Result<Status, Failure> {
         sum.refused,
     ));
     found.tell();
-    let found = if sum.trees < sum.lists {
+    let is_found = sum.trees < sum.lists;
+    let status = status.max(if is_found {
         Status::Found
     } else {
         Status::Well
-    };
-    Ok(status.max(found))
+    });
+    if is_json {
+        let counts = [
+            ("lists", sum.lists),
+            ("trees", sum.trees),
+            ("no_trees", sum.no_trees),
+            ("too_deep", sum.too_deep),
+            ("refused", sum.refused),
+        ];
+        let files = [found.files.len() as u64, damaged, found.skipped];
+        stdout.text(&summary::record("check", None, files, &counts, status))?;
+    }
+    Ok(status)
 }
 
 fn check_file(

@@ -10,7 +10,8 @@ use crate::line::{About, Line, Place, Which};
 use crate::output;
 use crate::paths;
 use crate::rules;
-use crate::several::{self, How, Stdout, Teller};
+use crate::several::{self, How, Sink as _, Stdout, Teller};
+use crate::summary;
 use sorbrudder::{Op, ReadError, Reader, TreeRef};
 use std::path::Path;
 
@@ -100,7 +101,7 @@ pub fn run(args: &Args) -> Result<Status, Failure> {
     let task = &Diff { to, is_json };
     let jobs = args.jobs()?;
     let found = paths::find(args)?;
-    let mut sum = Found::default();
+    let (mut sum, mut read) = (Found::default(), 0);
     let mut stdout = Stdout {
         goes_on: false,
         is_closed: false,
@@ -111,6 +112,7 @@ pub fn run(args: &Args) -> Result<Status, Failure> {
         is_json,
     };
     let status = several::each(&how, &found.files, &mut stdout, diff_file, |found| {
+        read += 1;
         sum.join(found);
     })?;
     output::tell(&format!(
@@ -118,12 +120,27 @@ pub fn run(args: &Args) -> Result<Status, Failure> {
         sum.lists, sum.same, sum.differ, sum.only_old, sum.only_new, sum.no_trees, sum.refused,
     ));
     found.tell();
-    let found = if sum.same < sum.lists {
+    let is_found = sum.same < sum.lists;
+    let status = status.max(if is_found {
         Status::Found
     } else {
         Status::Well
-    };
-    Ok(status.max(found))
+    });
+    if is_json {
+        let counts = [
+            ("lists", sum.lists),
+            ("same", sum.same),
+            ("differ", sum.differ),
+            ("only_old", sum.only_old),
+            ("only_new", sum.only_new),
+            ("no_trees", sum.no_trees),
+            ("refused", sum.refused),
+        ];
+        let failed = found.files.len() as u64 - read;
+        let files = [found.files.len() as u64, failed, found.skipped];
+        stdout.text(&summary::record("diff", Some(to), files, &counts, status))?;
+    }
+    Ok(status)
 }
 
 fn diff_file(
@@ -142,7 +159,8 @@ fn diff_file(
     Ok(sum)
 }
 
-fn compare(old: &mut Reader, new: &mut Reader, list: Listed<'_>, to: i16) -> Line {
+/// The line about a list as its own version and another read it.
+pub fn compare(old: &mut Reader, new: &mut Reader, list: Listed<'_>, to: i16) -> Line {
     let from = list.version;
     let read = (
         old.read_words(list.words, from),
@@ -181,8 +199,9 @@ fn differing((old, from): (TreeRef<'_>, i16), (new, to): (TreeRef<'_>, i16)) -> 
             op: one.op(),
             span: one.span(),
         });
-        line.reason = rule;
+        line.rule = rule;
     }
+    line.readings = lines.map(Some);
     line
 }
 
@@ -197,10 +216,15 @@ fn one_sided(
     let rule = rules::between(at, none_at, &ops);
     let read = bracketed::line(tree, None);
     let because = rule.map_or(String::new(), |rule| format!(": {rule}"));
+    let text = format!("{at} reads {read}, {none_at} no tree ({why}){because}");
     Line {
         result,
-        text: format!("{at} reads {read}, {none_at} no tree ({why}){because}"),
-        reason: rule,
+        text,
+        rule,
+        readings: match result {
+            "only-old" => [Some(read), None],
+            _ => [None, Some(read)],
+        },
         ..Line::of_read_error(why, Some(to))
     }
 }

@@ -20,7 +20,8 @@ sorbrudder: archives of Molang token lists, checked, compared, lifted to a versi
 names begin with a dot or end in `.bak`; files that are no archives are skipped and counted, and a folder without an archive is a wrong
 argument. `--glob PATTERN`, of the names of a folder's files or, with a /, of their paths in it, says which are meant (*, ?, [a-z], **, and !
 before a pattern of what is left out); it can be given several times. `-` is standard input or output. What is told of lists goes to standard output, `--json`
-makes it a line of JSON a list (and one for a file that fails); progress and the summary go to standard error. NO_COLOR is heeded. Where
+makes it a line of JSON a list (and one for a file that fails, and a summary); a file's name that is not UTF-8 is there with its bytes in
+hexadecimal (file_bytes). Progress and the summary go to standard error. NO_COLOR is heeded. Where
 nobody reads standard output any more, a command ends without a word; of an archive that is written there with status 3, since it is cut.
 
 Exit status: 0 all well, 1 some lists differ, stayed behind or are no trees, 2 wrong arguments, 3 input or output failed,
@@ -35,8 +36,9 @@ Reads every list of the archives at its own version, and tells of those that are
   --limit N   the nesting limit of the engine that the lists are for, 1 to 4096, which is the usual: a list in which more brackets are
               open at once is told of, with the token that opens the first too many
   -j N        how many threads work, else as many as the machine has; what is told is the same
-  --json      a line of JSON for every list: file, list, byte, version, result (tree, no-tree, too-deep, refused), messages, text, and
-              token, op, operator, start and end where it is too deep
+  --json      a line of JSON for every list: file, list, byte, version, result (tree, no-tree, too-deep, refused), messages with number,
+              start, end and text, and token, op, operator, start and end where it is too deep; at the end a record with the result
+              summary and the counts
 
 An archive that is cut or has a bit turned over is told of on standard error, and the status is 4. In a plain file of words, damage at a
 token's end cannot be seen, which is said once a file.
@@ -51,7 +53,8 @@ first node that differs, and the rule. Nothing is written. Nesting limits are no
   --to V    the version to compare with
   -j N      how many threads work, else as many as the machine has; what is told is the same
   --json    a line of JSON for every list: file, list, byte, version, to, result (same, differs, only-old, only-new, no-tree, refused),
-            and node, op, operator, start, end and reason of the first difference
+            both readings (own_reading, to_reading), the rule, messages, and node, op, operator, start and end of the first
+            difference; at the end a record with the result summary and the counts
 ";
 
 const LIFT: &str = "\
@@ -72,6 +75,7 @@ brackets are open at once, as it is or with the brackets that it needs; a list c
   --in-place      replaces the files themselves, but for those in which every list stays as it is
   --backup        keeps each old file as FILE.bak, which must not be there yet
   --dry-run       writes no archive, and tells what would be done; it needs no `-o` and no `--in-place`
+  --diff          shows each list that is written anew, as it was and as it is; with `--dry-run`, as it would be
   --strict        a file in which a list stays behind is not written at all; not with `-o -`
   --settle        writes every list that can be written with all its brackets, so that every version reads it the same; a list that
                   cannot be, and that both versions read alike, is left alone and told of: another version may read it otherwise
@@ -81,7 +85,9 @@ brackets are open at once, as it is or with the brackets that it needs; a list c
   --report FILE   a line of JSON for every list; `--report -` is `--json`
   --json          the same on standard output: file, list, byte, version, to, result (same, lifted, settled, stays, no-tree, too-deep,
                   refused), and node or token, op, operator, start, end and reason of what stays behind or is not settled; the reason
-                  of too-deep is as-given, as-written (the token is then one of the list with its brackets) or own-limit
+                  of too-deep is as-given, as-written (the token is then one of the list with its brackets) or own-limit. Of a list
+                  that is written anew both readings (own_reading, to_reading), the rule, list_before and list_after. At the end a
+                  record with the result summary and the counts, which `sorbrudder sum` adds up
 
 A file is written beside its target, brought to the disk, read back and compared, and then put in the target's place at once, with its
 owner, rights and attributes. Killed at any moment or on a full disk, the old file is whole; a file `.sorbrudder-*.tmp` that is left is

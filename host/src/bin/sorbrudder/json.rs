@@ -1,6 +1,7 @@
 //! Objects of JSON on a line each.
 
 use std::fmt::Write as _;
+use std::path::Path;
 
 /// An object that fields are added to.
 #[derive(Clone, Debug)]
@@ -22,6 +23,17 @@ impl Object {
     pub fn text(&mut self, name: &str, value: &str) -> &mut Self {
         self.name(name);
         quote(&mut self.0, value);
+        self
+    }
+
+    /// A file's name. One that is not UTF-8 is there as near as a text comes to it, and its bytes in hexadecimal beside.
+    pub fn file(&mut self, file: &Path) -> &mut Self {
+        self.text("file", &file.to_string_lossy());
+        if file.to_str().is_none() {
+            let bytes = file.as_os_str().as_encoded_bytes().iter();
+            let bytes: String = bytes.map(|byte| format!("{byte:02x}")).collect();
+            self.text("file_bytes", &bytes);
+        }
         self
     }
 

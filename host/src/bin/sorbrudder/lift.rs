@@ -11,6 +11,7 @@ use crate::output;
 use crate::paths;
 use crate::replace::Replacement;
 use crate::several::{self, How, Sink, Stderr, Stdout, Teller};
+use crate::summary;
 use carry::Carried;
 pub use options::OPTIONS;
 use options::{Options, Target};
@@ -66,17 +67,25 @@ pub fn run(args: &Args) -> Result<Status, Failure> {
         sum.join(carried);
         done += 1;
     })?;
+    let is_found = sum.stayed() > 0;
+    let status = status.max(if is_found {
+        Status::Found
+    } else {
+        Status::Well
+    });
+    let failed = (files.len() - done) as u64;
+    let counted = [files.len() as u64, failed, found.skipped];
+    let record = summary::record("lift", Some(options.to), counted, &sum.counts(), status);
+    if options.is_json {
+        lines.text(&record)?;
+    }
+    lines.report(&record)?;
     if let Some(report) = lines.report {
         report.put_in_place()?;
     }
     tell(&sum, &options, files.len() - done);
     found.tell();
-    let found = if sum.stayed() > 0 {
-        Status::Found
-    } else {
-        Status::Well
-    };
-    Ok(status.max(found))
+    Ok(status)
 }
 
 /// The summary.

@@ -28,6 +28,7 @@ mod read;
 mod replace;
 mod rules;
 mod several;
+mod summary;
 #[allow(unsafe_code)]
 mod system;
 mod versions;

@@ -1,7 +1,9 @@
 //! One archive carried over to a version.
 
 use super::options::{Options, Target};
+use crate::bracketed;
 use crate::check::note_words;
+use crate::diff;
 use crate::failure::Failure;
 use crate::helpers::{Helpers, Task};
 use crate::input::{Batch, Input, Listed};
@@ -10,7 +12,7 @@ use crate::lock::Held;
 use crate::replace::{self, Replacement};
 use crate::several::Teller;
 use sorbrudder::archive::{Format, Lists, ListsWriter};
-use sorbrudder::{LiftError, LiftedWords, Lifter, Op};
+use sorbrudder::{LiftError, LiftedWords, Lifter, Op, Reader, Tokens};
 use std::io::{self, BufWriter, Write};
 use std::path::Path;
 
@@ -50,6 +52,23 @@ impl Carried {
             "too-deep" => &mut self.too_deep,
             _ => &mut self.not_writable,
         } += 1;
+    }
+
+    /// The counts by their names in the summary's record.
+    pub fn counts(&self) -> [(&'static str, u64); 11] {
+        [
+            ("lists", self.lists),
+            ("written", self.written),
+            ("scripts", self.scripts),
+            ("same", self.same),
+            ("unsettled", self.unsettled),
+            ("no_trees", self.no_trees),
+            ("refused", self.refused),
+            ("not_writable", self.not_writable),
+            ("too_deep", self.too_deep),
+            ("held_back", self.held_back),
+            ("untouched", self.untouched),
+        ]
     }
 
     pub fn join(&mut self, other: Self) {
@@ -178,17 +197,33 @@ pub struct Lifted {
     report: String,
 }
 
+/// What a thread lifts with, and reads with where both readings are told.
+pub struct Tools {
+    lifter: Lifter,
+    readers: Option<(Reader, Reader)>,
+}
+
+impl Options {
+    /// Whether each list that is written anew is told of with all that there is to say.
+    fn tells_all(&self) -> bool {
+        self.is_json || self.shows || self.report.is_some()
+    }
+}
+
 impl Task for Options {
-    type State = Lifter;
+    type State = Tools;
     type Done = Lifted;
 
-    fn state(&self) -> Lifter {
-        Lifter::new()
+    fn state(&self) -> Tools {
+        let lifter = Lifter::new()
             .with_limit_from(self.own_limit)
-            .with_limit_to(self.limit)
+            .with_limit_to(self.limit);
+        let readers = self.tells_all().then(|| (Reader::new(), Reader::new()));
+        Tools { lifter, readers }
     }
 
-    fn work(&self, lifter: &mut Lifter, file: &Path, batch: &Batch) -> Lifted {
+    fn work(&self, tools: &mut Tools, file: &Path, batch: &Batch) -> Lifted {
+        let Tools { lifter, readers } = tools;
         let mut done = Lifted::default();
         for list in batch.lists() {
             let unsettled = unsettled(lifter, list, self);
@@ -198,6 +233,10 @@ impl Task for Options {
                     done.carried.scripts += u64::from(lifted.changed && is_script);
                     done.carried.unsettled += u64::from(unsettled.is_some());
                     let line = told(&lifted, list, self, unsettled);
+                    let line = match readers {
+                        Some(readers) if lifted.changed => with_all(line, &lifted, list, readers),
+                        _ => line,
+                    };
                     (line, self.to, lifted.words)
                 }
                 Err(why) => (
@@ -305,13 +344,52 @@ fn told(
     Line::new(result, Some(options.to))
 }
 
-/// Tells of a list: in text only where it stays behind, or is left alone and was to be settled.
+/// The line about a list that is written anew, with both readings of the old list, the rule, and both lists.
+fn with_all(
+    line: Line,
+    lifted: &LiftedWords<'_>,
+    list: Listed<'_>,
+    (old, new): &mut (Reader, Reader),
+) -> Line {
+    let to = line.to.unwrap_or(list.version);
+    let compared = diff::compare(old, new, list, to);
+    let readings = match compared.result {
+        // It is settled: both versions read it as this.
+        "same" => [0, 1].map(|_| Some(bracketed::line(lifted.tree, None))),
+        _ => compared.readings,
+    };
+    let text = |words: &[u32]| Tokens::from_words(words).map(|list| list.to_string());
+    let lists = text(list.words).zip(text(lifted.words));
+    Line {
+        result: line.result,
+        readings,
+        lists: lists.map(|(before, after)| [before, after]),
+        ..compared
+    }
+}
+
+/// A list as it was and as it is, a line each.
+fn shown([before, after]: &[String; 2], is_coloured: bool) -> String {
+    match is_coloured {
+        true => format!("\x1b[31m- {before}\x1b[0m\n\x1b[32m+ {after}\x1b[0m\n"),
+        false => format!("- {before}\n+ {after}\n"),
+    }
+}
+
+/// Tells of a list: in text only where it stays behind, or is left alone and was to be settled, or is to be shown.
 fn tell(line: &Line, about: About<'_>, options: &Options, done: &mut Lifted) {
     if options.report.is_some() {
         done.report += &line.as_json(about);
     }
     if options.is_json {
         done.text += &line.as_json(about);
+    } else if let (true, Some(lists)) = (options.shows, &line.lists) {
+        let head = Line {
+            text: format!("{} to version {}", line.result, options.to),
+            ..line.clone()
+        };
+        done.text += &head.as_text(about);
+        done.text += &shown(lists, options.is_coloured);
     } else if line.result == "same" && !line.text.is_empty() {
         done.text += &line.as_text(about);
     } else if !matches!(line.result, "lifted" | "settled" | "same") {

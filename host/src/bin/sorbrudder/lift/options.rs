@@ -2,6 +2,7 @@
 
 use crate::args::{self, Args};
 use crate::failure::Failure;
+use crate::output::is_coloured;
 use crate::paths::{is_stream, place_of};
 use sorbrudder::Limit;
 use sorbrudder::archive::Format;
@@ -16,6 +17,7 @@ pub const OPTIONS: &[args::Option] = &[
     args::flag("--in-place"),
     args::flag("--backup"),
     args::flag("--dry-run"),
+    args::flag("--diff"),
     args::flag("--strict"),
     args::flag("--settle"),
     args::flag("--plain"),
@@ -49,6 +51,9 @@ pub struct Options {
     pub is_strict: bool,
     pub settles: bool,
     pub is_json: bool,
+    /// Whether each list that is written anew is shown as it was and as it is, and whether in colour.
+    pub shows: bool,
+    pub is_coloured: bool,
     /// The report's file.
     pub report: Option<PathBuf>,
 }
@@ -76,6 +81,8 @@ impl Options {
             is_strict: args.has("--strict"),
             settles: args.has("--settle"),
             is_json: args.has("--json") || to_stdout,
+            shows: args.has("--diff"),
+            is_coloured: is_coloured(),
             report,
         })
     }
