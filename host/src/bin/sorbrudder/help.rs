@@ -10,6 +10,8 @@ sorbrudder: archives of Molang token lists, checked, compared, lifted to a versi
   sorbrudder diff PATH.. --to V            which lists version V reads otherwise, at which node, by which rule; writes nothing
   sorbrudder lift IN -o OUT --to V         carries the lists over to version V, so that it reads each as its own version does
   sorbrudder lift PATH.. --in-place --to V
+  sorbrudder cat PATH..                    the lists as text, a line each, or as lines of JSON
+  sorbrudder pack IN -o OUT                an archive of lists that are written so
   sorbrudder read FILE#N                   the tree of list N of an archive; -e 'a && b || c' instead of FILE#N takes a list
   sorbrudder versions FILE#N               the list as versions 4, 5 and 6 read it, and the trees where they differ
   sorbrudder explain FILE#N                why a list is no tree
@@ -97,6 +99,28 @@ backup or a report that would take the place of a file that is lifted, or of ano
 begun.
 ";
 
+const CAT: &str = "\
+sorbrudder cat PATH.. [--glob PATTERN] [-j N] [--json]
+
+Writes the lists of archives down, a line each: the version, a tab, the list in the notation, and, where the spans of its tokens are not
+those that they have in this text, a tab and the spans. Words that are no tokens are a $ and the words in hexadecimal. `sorbrudder pack`
+makes the same archive of it again.
+
+  -j N      how many threads work, else as many as the machine has; what is written is the same
+  --json    a line of JSON for every list: file, list, version, text (where it is tokens) and words
+";
+
+const PACK: &str = "\
+sorbrudder pack IN.. -o OUT [--plain]
+
+Makes an archive of lists that are written down as `sorbrudder cat` does it, a line each, as text or as JSON, or by hand: a version, a blank
+and a list in the notation. Empty lines and lines that begin with # are passed over. An object of JSON needs a version, and words or a text.
+A line that is none of these ends it with 4, and nothing is written.
+
+  -o OUT     the archive, or - for standard output
+  --plain    a plain file of words instead of a container (docs/FORMAT.md)
+";
+
 const READ: &str = "\
 sorbrudder read FILE#N | -e LIST [--at V] [--limit N] [--source TEXT] [--json]
 
@@ -145,6 +169,8 @@ pub fn print(command: Option<&str>) -> Result<Status, Failure> {
         Some("check") => CHECK,
         Some("diff") => DIFF,
         Some("lift") => LIFT,
+        Some("cat") => CAT,
+        Some("pack") => PACK,
         Some("read") => READ,
         Some("versions") => VERSIONS,
         Some("explain") => EXPLAIN,

@@ -43,6 +43,17 @@ impl Object {
         self
     }
 
+    pub fn numbers(&mut self, name: &str, values: &[u32]) -> &mut Self {
+        self.name(name);
+        self.0.push('[');
+        for (place, value) in values.iter().enumerate() {
+            let before = if place > 0 { "," } else { "" };
+            let _ = write!(self.0, "{before}{value}");
+        }
+        self.0.push(']');
+        self
+    }
+
     pub fn objects(&mut self, name: &str, values: impl IntoIterator<Item = Self>) -> &mut Self {
         self.name(name);
         self.0.push('[');

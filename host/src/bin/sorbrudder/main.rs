@@ -4,6 +4,7 @@
 
 mod args;
 mod bracketed;
+mod cat;
 mod check;
 mod diff;
 mod draw;
@@ -21,7 +22,9 @@ mod lock;
 mod one_list;
 mod ops;
 mod output;
+mod pack;
 mod page;
+mod parse;
 mod paths;
 mod progress;
 mod read;
@@ -32,6 +35,7 @@ mod summary;
 #[allow(unsafe_code)]
 mod system;
 mod versions;
+mod written;
 
 use args::Args;
 use failure::{Failure, Status};
@@ -56,10 +60,12 @@ type Command = (
     fn(&Args) -> Result<Status, Failure>,
 );
 
-const COMMANDS: [Command; 8] = [
+const COMMANDS: [Command; 10] = [
     ("check", check::OPTIONS, check::run),
     ("diff", diff::OPTIONS, diff::run),
     ("lift", lift::OPTIONS, lift::run),
+    ("cat", cat::OPTIONS, cat::run),
+    ("pack", pack::OPTIONS, pack::run),
     ("read", read::OPTIONS, read::run),
     ("versions", versions::OPTIONS, versions::run),
     ("explain", explain::OPTIONS, explain::run),

@@ -11,7 +11,8 @@ use crate::line::{About, Line};
 use crate::lock::Held;
 use crate::replace::{self, Replacement};
 use crate::several::Teller;
-use sorbrudder::archive::{Format, Lists, ListsWriter};
+use crate::written::{Digest, read_back};
+use sorbrudder::archive::{Format, ListsWriter};
 use sorbrudder::{LiftError, LiftedWords, Lifter, Op, Reader, Tokens};
 use std::io::{self, BufWriter, Write};
 use std::path::Path;
@@ -83,31 +84,6 @@ impl Carried {
         self.too_deep += other.too_deep;
         self.held_back += other.held_back;
         self.untouched += other.untouched;
-    }
-}
-
-/// A number over lists: equal for equal lists in the same order.
-#[derive(Clone, Copy, Debug, PartialEq, Eq)]
-struct Digest {
-    lists: u64,
-    mixed: u64,
-}
-
-impl Digest {
-    fn new() -> Self {
-        Self {
-            lists: 0,
-            mixed: 0xCBF2_9CE4_8422_2325,
-        }
-    }
-
-    fn add(&mut self, version: i16, words: &[u32]) {
-        self.lists += 1;
-        let mut mix =
-            |number: u64| self.mixed = (self.mixed ^ number).wrapping_mul(0x100_0000_01B3);
-        mix(version as u64);
-        mix(words.len() as u64);
-        words.iter().for_each(|word| mix(u64::from(*word)));
     }
 }
 
@@ -398,26 +374,5 @@ fn tell(line: &Line, about: About<'_>, options: &Options, done: &mut Lifted) {
             ..line.clone()
         };
         done.text += &stays.as_text(about);
-    }
-}
-
-/// Reads what was written, and compares it with what was meant, before anything is replaced by it.
-fn read_back(written: &mut Replacement, meant: Digest, target: &Path) -> Result<(), Failure> {
-    let file = written.synced()?;
-    let failed = |why| {
-        Failure::Io(format!(
-            "{}: what was written reads back otherwise: {why}",
-            target.display()
-        ))
-    };
-    let mut lists = Lists::new(file).map_err(|why| failed(why.to_string()))?;
-    let mut found = Digest::new();
-    while let Some(list) = lists.next_list().map_err(|why| failed(why.to_string()))? {
-        found.add(list.version, list.words);
-    }
-    match found == meant {
-        true => Ok(()),
-        false if found.lists == meant.lists => Err(failed("other lists".to_string())),
-        false => Err(failed(format!("{} lists of {}", found.lists, meant.lists))),
     }
 }
