@@ -150,6 +150,12 @@ impl<R: Read> Lists<R> {
     /// assert_eq!(versions, [6, 4]);
     /// ```
     pub fn next_list(&mut self) -> Result<Option<List<'_>>, ArchiveError> {
+        let read = self.step()?;
+        Ok(read.map(|read| self.last(read)))
+    }
+
+    /// Reads the next list, and gives its version and its byte.
+    pub(super) fn step(&mut self) -> Result<Option<(i16, u64)>, ArchiveError> {
         if self.ended {
             return Ok(None);
         }
@@ -157,18 +163,28 @@ impl<R: Read> Lists<R> {
             Format::Words => self.next_of_words(),
             Format::Container => self.next_of_container(),
         };
-        let Some((version, byte)) = read.inspect_err(|_| self.ended = true)? else {
-            self.ended = true;
-            return Ok(None);
-        };
-        let number = self.totals.lists;
-        self.totals.add(&self.list);
-        Ok(Some(List {
-            number,
+        let read = read.inspect_err(|_| self.ended = true)?;
+        match read {
+            Some(_) => self.totals.add(&self.list),
+            None => self.ended = true,
+        }
+        Ok(read)
+    }
+
+    /// The list that was read last, of this version and at this byte.
+    pub(super) fn last(&self, (version, byte): (i16, u64)) -> List<'_> {
+        List {
+            number: self.totals.lists - 1,
             byte,
             version,
             words: &self.list,
-        }))
+        }
+    }
+
+    /// Passes by all that is left; how long the stream is.
+    pub(super) fn skip(&mut self) -> std::io::Result<u64> {
+        while let Next::Word(_) = self.words.next()? {}
+        Ok(self.words.byte() + self.words.part().len() as u64)
     }
 
     fn damaged(&self, damage: Damage, byte: u64) -> ArchiveError {

@@ -6,7 +6,8 @@ use crate::helpers::{Helpers, Task};
 use crate::input::{Batch, Input};
 use crate::line::{About, Line};
 use crate::output;
-use crate::paths;
+use crate::paths::{self, is_stream};
+use crate::salvage;
 use crate::several::{self, How, Sink as _, Stdout, Teller};
 use crate::summary;
 use sorbrudder::{Limit, ReadError, Reader};
@@ -156,12 +157,20 @@ fn check_file(
     let mut input = Input::open(file)?;
     note_words(&input, teller);
     let mut sum = Found::default();
-    helpers.each(&mut input, |(found, text)| {
+    let read = helpers.each(&mut input, |(found, text)| {
         sum.join(found);
         teller.text(&text);
         teller.open()
-    })?;
-    Ok(sum)
+    });
+    match read {
+        Ok(()) => Ok(sum),
+        // Behind the damage a container goes on.
+        Err(Failure::Damaged(why)) if !is_stream(file) => {
+            let told = salvage::told_of(file).map(|told| format!("; {told}"));
+            Err(Failure::Damaged(why + &told.unwrap_or_default()))
+        }
+        Err(why) => Err(why),
+    }
 }
 
 /// Whether a list was turned back and not read.

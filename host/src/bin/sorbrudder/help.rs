@@ -12,6 +12,8 @@ sorbrudder: archives of Molang token lists, checked, compared, lifted to a versi
   sorbrudder lift PATH.. --in-place --to V
   sorbrudder cat PATH..                    the lists as text, a line each, or as lines of JSON
   sorbrudder pack IN -o OUT                an archive of lists that are written so
+  sorbrudder salvage IN -o OUT             what is whole of a damaged archive
+  sorbrudder sum REPORT..                  adds up the reports of several runs
   sorbrudder read FILE#N                   the tree of list N of an archive; -e 'a && b || c' instead of FILE#N takes a list
   sorbrudder versions FILE#N               the list as versions 4, 5 and 6 read it, and the trees where they differ
   sorbrudder explain FILE#N                why a list is no tree
@@ -42,7 +44,8 @@ Reads every list of the archives at its own version, and tells of those that are
               start, end and text, and token, op, operator, start and end where it is too deep; at the end a record with the result
               summary and the counts
 
-An archive that is cut or has a bit turned over is told of on standard error, and the status is 4. In a plain file of words, damage at a
+An archive that is cut or has a bit turned over is told of on standard error, with how much of it is whole (`sorbrudder salvage` writes it),
+and the status is 4. In a plain file of words, damage at a
 token's end cannot be seen, which is said once a file.
 ";
 
@@ -121,6 +124,26 @@ A line that is none of these ends it with 4, and nothing is written.
   --plain    a plain file of words instead of a container (docs/FORMAT.md)
 ";
 
+const SALVAGE: &str = "\
+sorbrudder salvage IN -o OUT [--json]
+
+Writes what is whole of a damaged archive, and tells which bytes are lost. In a container each list has its length and its checksum, so it
+goes on behind the damage; of a plain file of words what is before the damage is whole (docs/FORMAT.md). OUT has the format of IN. The status
+is 0 where nothing is lost, 1 where something is and OUT has the rest, and 4 where no list is whole, and nothing is written.
+
+  -o OUT    the archive that is written, or - for standard output; never IN itself
+  --json    a line of JSON for each place where bytes are lost: file, result (lost), start, end
+";
+
+const SUM: &str = "\
+sorbrudder sum REPORT.. [--json]
+
+Adds up the summaries of several runs of one command, of shards or of several hosts (docs/SHARDS.md): what `--report` has written, or the
+lines of `--json`. A report that does not end with its summary was cut, and the status is 4. Else it is the highest of the runs.
+
+  --json    the record that one run over everything would have ended with, and how many runs it was; it can be added up again
+";
+
 const READ: &str = "\
 sorbrudder read FILE#N | -e LIST [--at V] [--limit N] [--source TEXT] [--json]
 
@@ -171,6 +194,8 @@ pub fn print(command: Option<&str>) -> Result<Status, Failure> {
         Some("lift") => LIFT,
         Some("cat") => CAT,
         Some("pack") => PACK,
+        Some("salvage") => SALVAGE,
+        Some("sum") => SUM,
         Some("read") => READ,
         Some("versions") => VERSIONS,
         Some("explain") => EXPLAIN,

@@ -30,7 +30,9 @@ mod progress;
 mod read;
 mod replace;
 mod rules;
+mod salvage;
 mod several;
+mod sum;
 mod summary;
 #[allow(unsafe_code)]
 mod system;
@@ -60,12 +62,14 @@ type Command = (
     fn(&Args) -> Result<Status, Failure>,
 );
 
-const COMMANDS: [Command; 10] = [
+const COMMANDS: [Command; 12] = [
     ("check", check::OPTIONS, check::run),
     ("diff", diff::OPTIONS, diff::run),
     ("lift", lift::OPTIONS, lift::run),
     ("cat", cat::OPTIONS, cat::run),
     ("pack", pack::OPTIONS, pack::run),
+    ("salvage", salvage::OPTIONS, salvage::run),
+    ("sum", sum::OPTIONS, sum::run),
     ("read", read::OPTIONS, read::run),
     ("versions", versions::OPTIONS, versions::run),
     ("explain", explain::OPTIONS, explain::run),
