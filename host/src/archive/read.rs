@@ -270,11 +270,10 @@ impl<R: Read> Lists<R> {
         }
         let mut sum = Checksum::of(&[opener, len]);
         self.list.clear();
-        for _ in 0..len {
-            let word = self.word()?;
-            sum.add(word);
-            self.list.push(word);
+        if !self.words.take(len as usize, &mut self.list)? {
+            return Err(self.damaged(Damage::Cut, self.words.byte()));
         }
+        sum.add_all(&self.list);
         if self.word()? != sum.value() {
             return Err(self.damaged(Damage::Checksum, byte));
         }

@@ -60,6 +60,25 @@ impl<R: Read> Words<R> {
         }
     }
 
+    /// Takes so many words; whether there are as many.
+    pub(super) fn take(&mut self, count: usize, to: &mut Vec<u32>) -> io::Result<bool> {
+        let mut left = count;
+        while left > 0 {
+            if self.len - self.at < 4 {
+                self.fill()?;
+            }
+            let (words, _) = self.bytes[self.at..self.len].as_chunks();
+            let words = &words[..words.len().min(left)];
+            if words.is_empty() {
+                return Ok(false);
+            }
+            to.extend(words.iter().map(|word| u32::from_le_bytes(*word)));
+            self.at += 4 * words.len();
+            left -= words.len();
+        }
+        Ok(true)
+    }
+
     /// Reads on until there is a word, or no byte more.
     fn fill(&mut self) -> io::Result<()> {
         self.bytes.copy_within(self.at..self.len, 0);

@@ -116,7 +116,7 @@ impl<W: Write> ListsWriter<W> {
             Format::Container => {
                 let head = [opener, words.len() as u32];
                 let mut sum = Checksum::of(&head);
-                words.iter().for_each(|word| sum.add(*word));
+                sum.add_all(words);
                 self.sums.add(sum.value());
                 self.put(&head)?;
                 self.put(words)?;

@@ -87,12 +87,13 @@ impl<'t, T: Task> Helpers<'t, T> {
         't: 's,
         T::Done: 's,
     {
-        let depth = jobs + 2;
+        let depth = 3 * jobs + 2;
         if jobs < 2 {
             let to = None;
             return Ok(Self { task, to, depth });
         }
-        let (to, from) = sync_channel::<Job<T::Done>>(jobs - 1);
+        // Enough waits that no helper is idle while a file's thread reads, writes, or works on a batch itself.
+        let (to, from) = sync_channel::<Job<T::Done>>(2 * jobs);
         let from = Arc::new(Mutex::new(from));
         for _ in 1..jobs {
             let from = Arc::clone(&from);

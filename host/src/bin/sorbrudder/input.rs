@@ -48,8 +48,8 @@ struct Head {
 }
 
 /// How many lists and words make a batch.
-const MOST_LISTS: usize = 512;
-const MOST_WORDS: usize = 1 << 14;
+const MOST_LISTS: usize = 256;
+const MOST_WORDS: usize = 1 << 13;
 
 impl Batch {
     pub fn is_empty(&self) -> bool {

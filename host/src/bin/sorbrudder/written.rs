@@ -22,11 +22,16 @@ impl Digest {
 
     pub fn add(&mut self, version: i16, words: &[u32]) {
         self.lists += 1;
-        let mut mix =
-            |number: u64| self.mixed = (self.mixed ^ number).wrapping_mul(0x100_0000_01B3);
+        let mut mix = |number: u64| {
+            self.mixed = (self.mixed.rotate_left(23) ^ number).wrapping_mul(0x9E37_79B9_7F4A_7C15)
+        };
         mix(version as u64);
         mix(words.len() as u64);
-        words.iter().for_each(|word| mix(u64::from(*word)));
+        let (pairs, rest) = words.as_chunks();
+        for [first, second] in pairs {
+            mix(u64::from(*first) << 32 | u64::from(*second));
+        }
+        rest.iter().for_each(|word| mix(u64::from(*word)));
     }
 }
 
