@@ -23,7 +23,12 @@ try versions -e 'dosed ? hold : under ? open : shut'
 try explain -e "$(printf 'armed\n&& (ready\n   || calm]')"
 try check in
 try diff in --to 6
+try lift in --dry-run --diff --to 6
 try lift in -o lifted --to 6
+try cat lifted/gates.lists
+head -c 300 lifted/gates.lists > cut.lists
+try check cut.lists
+try salvage cut.lists -o saved.lists
 try lift in -o settled --settle --to 6
 try diff settled --to 4
 try draw in/gates.lists#0 --at 4,5 -o gate.html

@@ -25,11 +25,13 @@
 mod checksum;
 mod error;
 mod read;
+mod salvage;
 mod words;
 mod write;
 
 pub use error::{ArchiveError, Damage};
 pub use read::{List, Lists};
+pub use salvage::{Piece, Salvage};
 pub use write::{ListsWriter, Totals};
 
 /// How a file holds its lists.

@@ -1,9 +1,10 @@
 //! The command `sorbrudder`: checks, compares, lifts, shows and draws archives of Molang token lists. `sorbrudder --help` says how.
 
-#![forbid(unsafe_code)]
+#![deny(unsafe_code)]
 
 mod args;
 mod bracketed;
+mod cat;
 mod check;
 mod commands;
 mod completions;
@@ -14,25 +15,36 @@ mod escape;
 mod excerpt;
 mod explain;
 mod failure;
+mod glob;
 mod help;
+mod helpers;
 mod input;
 mod json;
 mod lift;
 mod line;
+mod lock;
 mod man;
 mod nearest;
 mod one_list;
 mod ops;
 mod output;
+mod pack;
 mod page;
+mod parse;
 mod paths;
 mod progress;
 mod read;
 mod replace;
 mod rules;
+mod salvage;
 mod several;
+mod sum;
+mod summary;
+#[allow(unsafe_code)]
+mod system;
 mod versions;
 mod width;
+mod written;
 
 use args::Args;
 use failure::{Failure, Status};
