@@ -112,8 +112,11 @@ is 1 where it is none.
 const DRAW: &str = "\
 sorbrudder draw FILE#N | -e LIST [--at 4,6] [--source TEXT] -o PAGE.html
 
-Writes a page with the trees of two versions side by side, the parts that differ marked, each node with the rule that paired its operands,
-and the source above them. The page is one file without scripts, and can be printed. It never takes the place of what it is drawn from.
+Writes a page with the trees of two versions side by side, each node with the rule that paired its operands. The source stands above them
+with what each version pairs drawn under it as brackets. The operators that are paired otherwise have the number and the colour of their
+part, in the source, in the trees and before the sentences on it; the place of a message is marked where a version reads no tree. A node
+under the pointer, in focus or clicked shows its piece of the source, and a token its nodes. The page is one file that needs nothing from
+elsewhere, says all without its script, and can be printed. It never takes the place of what it is drawn from.
 ";
 
 const OPS: &str = "\

@@ -18,7 +18,7 @@ mod line;
 mod one_list;
 mod ops;
 mod output;
-mod page;
+mod pages;
 mod paths;
 mod progress;
 mod read;
