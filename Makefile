@@ -15,7 +15,7 @@ endif
 
 help:
 	@echo 'make command    builds the command host/target/release/sorbrudder'
-	@echo 'make demo       writes sample archives to target/sample, and checks, compares, lifts and draws them'
+	@echo 'make demo       writes sample archives to target/sample, and checks, compares, lifts, draws and reports on them'
 	@echo 'make install    installs the command, the library, its header and its pkg-config file (PREFIX=/usr/local DESTDIR=)'
 	@echo 'make library    proves the library and builds it, where something changed; without rt the prebuilt one is used'
 	@echo 'make host       runs the tests of the host crate'

@@ -8,6 +8,8 @@ import base64
 import fcntl
 import json
 import os
+import select
+import struct
 import subprocess
 import sys
 import tempfile
@@ -42,6 +44,8 @@ class Browser:
 
     def answer(self):
         while b"\0" not in self.waiting:
+            if not select.select([self.come], [], [], 60)[0]:
+                raise SystemExit("browser.py: the browser says nothing")
             more = os.read(self.come.fileno(), 1 << 20)
             if not more:
                 raise SystemExit("browser.py: the browser ended")
@@ -65,7 +69,7 @@ class Browser:
             return message["result"]
 
     def close(self):
-        self.call("Browser.close")
+        self.process.terminate()
         self.process.wait(timeout=20)
 
 
@@ -90,8 +94,8 @@ class Page:
         features = [{"name": "prefers-color-scheme", "value": scheme}]
         self.call("Emulation.setEmulatedMedia", media=media, features=features)
 
-    def open(self, path):
-        """Opens a file; the seconds until it is loaded."""
+    def open(self, path, has_scripts=True):
+        """Opens a file; the seconds until it is loaded and drawn."""
         begun = time.time()
         self.browser.events.clear()
         self.call("Page.navigate", url=f"file://{path}")
@@ -100,7 +104,8 @@ class Page:
             if "Page.loadEventFired" in events:
                 break
             self.browser.events.append(self.browser.answer())
-        self.run("new Promise(done => requestAnimationFrame(() => requestAnimationFrame(done)))")
+        if has_scripts:
+            self.run("new Promise(done => requestAnimationFrame(() => requestAnimationFrame(done)))")
         return time.time() - begun
 
     def run(self, script):
@@ -136,6 +141,9 @@ class Page:
         more = {"text": text or ("\r" if key == "Enter" else "")}
         self.call("Input.dispatchKeyEvent", type="keyDown", key=key, code=key, windowsVirtualKeyCode=code, **more)
         self.call("Input.dispatchKeyEvent", type="keyUp", key=key, code=key, windowsVirtualKeyCode=code)
+
+    def scripts(self, are_on):
+        self.call("Emulation.setScriptExecutionDisabled", value=not are_on)
 
     def type(self, text):
         self.call("Input.insertText", text=text)
@@ -204,8 +212,8 @@ CONTRAST = """(() => {
 })()"""
 
 
-def contrast(page, name, scheme):
-    page.media(scheme=scheme)
+def contrast(page, name, scheme, media=""):
+    page.media(media, scheme)
     ratio, text = page.run(CONTRAST)
     if ratio < 4.5:
         expect(f"{name}: the contrast of {text!r}", round(ratio, 2), "4.5 or more")
@@ -222,10 +230,14 @@ def looks(page, name, folder):
     page.size(360, 740, mobile=True)
     expect(f"{name}: its width on a phone", page.run("document.documentElement.scrollWidth"), 360)
     page.shot(f"{folder}/{name}-phone.png")
-    page.size(1100, 900)
-    page.media(media="print", scheme="dark")
+    # The width of a sheet of A4 within usual margins.
+    page.size(718, 1000)
+    contrast(page, f"{name}, on paper", "dark", "print")
     expect(f"{name}: the ground on paper", page.run(back), "rgb(255, 255, 255)")
+    expect(f"{name}: its width on paper", page.run("document.documentElement.scrollWidth"), 718)
+    page.shot(f"{folder}/{name}-paper.png")
     page.media()
+    page.size(1100, 900)
     expect(f"{name}: it is printed", page.print(f"{folder}/{name}.pdf")[:5], b"%PDF-")
     expect(f"{name}: complaints and requests", page.complaints(), [])
 
@@ -348,7 +360,137 @@ def messages(page, command, folder):
     page.open(path)
     said = "[...document.querySelectorAll('.token.said')].map(token => token.textContent).join(' ')"
     expect("the place of a message", page.run(said), "( a + b ]")
+    badges = """[...document.querySelectorAll('.bar.said .badge')].filter(badge => {
+      const box = badge.getBoundingClientRect(), top = document.elementFromPoint(box.left + box.width / 2, box.top + box.height / 2);
+      return top === badge; }).map(badge => badge.textContent).join(' ')"""
+    expect("the numbers of the messages under the source", page.run(badges), "1 2 1 2")
     looks(page, "none", folder)
+
+
+# The operators of the lists below, by their signs, as the command numbers them.
+def numbers(command):
+    lines = subprocess.run([command, "ops", "--json"], check=True, capture_output=True, text=True).stdout.splitlines()
+    return {operator["operator"]: operator["op"] for operator in map(json.loads, lines)}
+
+
+def archive(path, lists, operators):
+    """A plain file of words: each list its version, and then tokens, a number being a variable of that number."""
+    words = []
+    for version, tokens in lists:
+        words.append(version)
+        for token in tokens.split():
+            is_variable = token.isdigit()
+            op = operators["variable."] | 4 << 8 if is_variable else operators[token]
+            value = int(token) if is_variable else 0
+            words += [0x20000000 | op, 0x40000000, 0x60000000, 0x80000000 | value >> 16, 0xA0000000 | value & 0xFFFF]
+    with open(path, "wb") as file:
+        file.write(struct.pack(f"<{len(words)}I", *words))
+
+
+SHOWN = "[...document.querySelectorAll('.entry')].filter(entry => entry.getClientRects().length).map(entry => entry.id).join(' ')"
+OPEN = "[...document.querySelectorAll('.entry[open]')].map(entry => entry.id).join(' ')"
+
+
+def report(page, command, folder):
+    """The page of an archive."""
+    path = f"{folder}/report.html"
+    some = [(4, "1 ? 2 : 3 ? 4 : 5"), (5, "1 && 2 || 3"), (5, "7 > 8 == 9"), (4, "1 && 2 || 3 ? 4 : 5 ? 6 : 7"), (4, "1 : 2"), (4, "1 + 2")]
+    archive(f"{folder}/some.words", some, numbers(command))
+    subprocess.run([command, "report", "some.words", "--to", "6", "-o", path], cwd=folder, stderr=subprocess.DEVNULL)
+    page.open(path)
+    titles = "[...document.querySelectorAll('.group h2')].map(title => title.firstChild.textContent.trim())"
+    groups = ["Nested conditionals", "AND and OR", "Comparisons and equality", "Several of these rules", "Trees no longer"]
+    expect("the groups", page.run(titles), groups)
+    expect("the contents", page.run("[...document.querySelectorAll('nav a')].map(link => link.textContent)"), groups)
+    expect("the lists that are shown", page.run(SHOWN), "d0 d1 d2 d3 d4")
+    expect("nothing is open", page.run(OPEN), "")
+    page.click("document.querySelector('#d3 summary')")
+    expect("a click opens a list", page.run(OPEN), "d3")
+    marks = "[...document.querySelectorAll('#d3 mark')].map(mark => mark.textContent).join(' ')"
+    expect("the marks of a list", page.run(marks), "&&2 ||2 ?1 :1 ?1")
+    tell = "[...document.querySelectorAll('#d3 dd')].map(text => text.textContent)"
+    old = "(variable.1 && (variable.2 || variable.3) ? variable.4 : variable.5) ? variable.6 : variable.7"
+    new = "(variable.1 && variable.2) || variable.3 ? variable.4 : (variable.5 ? variable.6 : variable.7)"
+    expect("its readings", page.run(tell)[1:3], [old, new])
+    page.shot(f"{folder}/report-open.png")
+    search(page)
+    page.run("document.querySelectorAll('.entry').forEach(entry => { entry.open = true; })")
+    looks(page, "report", folder)
+    without_script(page, path)
+
+
+def search(page):
+    """The search, and the page by its keys alone."""
+    wait = "new Promise(done => setTimeout(done, 300))"
+    page.run("document.activeElement.blur()")
+    page.key("/", "/")
+    expect("/ leads to the search", page.run("document.activeElement.type"), "search")
+    page.type("variable.7 >  VARIABLE.8")
+    page.run(wait)
+    expect("what is found", page.run(SHOWN), "d2")
+    expect("how many", page.run("document.querySelector('output').textContent"), "1 of 5")
+    expect("groups without a list are not shown", page.run("document.querySelectorAll('.group:not([hidden])').length"), 1)
+    page.key("ArrowDown")
+    expect("an arrow leads to the first list", page.run("document.activeElement.parentElement.id"), "d2")
+    page.key("Enter")
+    expect("Enter opens it", page.run(OPEN), "d2 d3")
+    page.key("ArrowUp")
+    page.key("Escape")
+    page.run(wait)
+    expect("Escape shows all again", page.run(SHOWN), "d0 d1 d2 d3 d4")
+    page.key("ArrowDown")
+    page.key("ArrowDown")
+    expect("arrows lead from list to list", page.run("document.activeElement.parentElement.id"), "d1")
+    page.click("document.querySelector('nav a[href=\"#only-old\"]')")
+    expect("the contents lead to a group", page.run("location.hash"), "#only-old")
+    page.click("document.querySelector('.close')")
+    expect("all are closed", page.run(OPEN), "")
+
+
+def without_script(page, path):
+    """All lists are there without the script."""
+    page.scripts(False)
+    page.open(path, has_scripts=False)
+    expect("without a script: the lists", page.run(SHOWN), "d0 d1 d2 d3 d4")
+    expect("without a script: no search", page.run("document.querySelector('.search').getClientRects().length"), 0)
+    page.click("document.querySelector('#d1 summary')")
+    expect("without a script: a click opens a list", page.run(OPEN), "d1")
+    page.scripts(True)
+
+
+def many(page, command, folder):
+    """Ten thousand differences."""
+    path = f"{folder}/many.html"
+    kinds = [(4, "{0} ? {1} : {2} ? 4 : 5"), (5, "{0} && {1} || {2} && 3 || 4"), (5, "{0} > {1} == {2}")]
+    made = [(kinds[i % 3][0], kinds[i % 3][1].format(i, i + 1, i + 2)) for i in range(10_000)]
+    archive(f"{folder}/many.words", made, numbers(command))
+    begun = time.time()
+    subprocess.run([command, "report", "many.words", "--to", "6", "-o", path], cwd=folder, stderr=subprocess.DEVNULL)
+    wrote = time.time() - begun
+    loaded = page.open(path)
+    expect("ten thousand lists", page.run("document.querySelectorAll('.entry').length"), 10_000)
+    timed = """(async () => {
+      const begun = performance.now(), box = document.querySelector('input');
+      box.value = 'variable.9998 '; box.dispatchEvent(new Event('input'));
+      await new Promise(done => setTimeout(done, 100));
+      await new Promise(done => requestAnimationFrame(() => setTimeout(done)));
+      return performance.now() - begun - 100; })()"""
+    searched = page.run(timed) / 1000
+    expect("what is found of ten thousand", page.run("document.querySelector('output').textContent"), "3 of 10000")
+    again = page.run(timed.replace("variable.9998 ", "")) / 1000
+    opening = """(async () => { const begun = performance.now(); document.querySelector('.open').click();
+      await new Promise(done => requestAnimationFrame(() => setTimeout(done))); return performance.now() - begun; })()"""
+    opened = page.run(opening) / 1000
+    page.click("document.querySelector('nav a[href=\"#comparison\"]')")
+    place = page.run("document.querySelector('#comparison').getBoundingClientRect().top")
+    expect("the contents lead to the last group of ten thousand", 0 <= place < 300, True)
+    size = os.path.getsize(path) / 1e6
+    print(f"ten thousand differences: {size:.1f} MB written in {wrote:.1f} s, loaded in {loaded:.1f} s, ", end="")
+    print(f"searched in {searched:.2f} s and again in {again:.2f} s, all opened in {opened:.2f} s")
+    # Many times what a machine takes that does nothing else: a page that is not usable any more takes longer still.
+    for what, took, most in [("load", loaded, 60), ("search", searched, 10), ("search again", again, 10), ("open all", opened, 30)]:
+        if took > most:
+            expect(f"seconds to {what} ten thousand lists", took, f"{most} at the most")
 
 
 def main():
@@ -358,6 +500,8 @@ def main():
         try:
             page = Page(browser)
             draw(page, command, folder)
+            report(page, command, folder)
+            many(page, command, folder)
         finally:
             browser.close()
     if FAILED:

@@ -2,7 +2,7 @@
 
 mod common;
 
-use common::command::{archive, folder, run};
+use common::command::{archive, folder, run, run_line};
 use sorbrudder::archive::Format;
 use std::path::Path;
 
@@ -222,4 +222,192 @@ fn a_list_of_an_archive_is_drawn_as_it_stands_in_its_source() {
     );
     // A line of the source is a line of the figure.
     assert_eq!(page.matches("<div class=\"cells\">").count(), 2);
+}
+
+/// Lists of all groups at version 6.
+const EIGHT: [(i16, &str); 8] = [
+    (4, "a ? b : c ? d : e"),
+    (5, "x && y || z"),
+    (4, "x && y || z"),
+    (5, "a > b == c"),
+    (4, "a > b == c ? d : e ? f : g"),
+    (4, "a : b"),
+    (4, "a + b * c"),
+    (6, "a + ( b"),
+];
+
+/// The page on these lists at version 6.
+fn reported(name: &str, lists: &[(i16, &str)], more: &[&str]) -> String {
+    let folder = folder(name);
+    std::fs::write(folder.join("lists"), archive(Format::Container, lists)).expect("a file");
+    let words = ["report", "lists", "--to", "6", "-o", "page.html"];
+    let report = run(&folder, &[&words[..], more].concat());
+    assert_eq!(report.status, Some(1), "{report:?}");
+    std::fs::read_to_string(folder.join("page.html")).expect("a page")
+}
+
+/// The entries of a group of a report, as a person reads them.
+fn entries(page: &str, group: &str) -> Vec<String> {
+    let section = page
+        .split("<section class=\"group\" id=\"")
+        .find(|part| part.starts_with(group));
+    let section = section.expect("the group");
+    let section = section.split("</section>").next().unwrap_or_default();
+    let entries = section.split("<details class=\"entry\" id=\"").skip(1);
+    let entry = |entry: &str| {
+        let entry = entry.split_once('>').expect("an element").1;
+        let entry = entry.replace("<dt>", "| ").replace("</dt>", ": ");
+        let entry = text(&entry);
+        entry.split_whitespace().collect::<Vec<_>>().join(" ")
+    };
+    entries.map(entry).collect()
+}
+
+#[test]
+fn a_report_groups_the_lists_by_the_rule_that_changes_them() {
+    let page = reported("report_groups", &EIGHT, &[]);
+    assert_eq!(
+        entries(&page, "conditional"),
+        [
+            "lists#0 a ? b : c ? d : e | source: a ?1 b :1 c ?1 d : e | version 4: (a ? b : c) ? d : e | version 6: a ? b : (c ? d : e) \
+          | lifted: (a ? b : c) ? d : e"
+        ]
+    );
+    let and_or = entries(&page, "and-or");
+    assert_eq!(and_or.len(), 2);
+    let first = "lists#1 a && b || c | source: a &&1 b ||1 c | version 5: a && (b || c) | version 6: (a && b) || c | lifted: a && (b || c)";
+    assert_eq!(and_or[0], first);
+    assert_eq!(entries(&page, "comparison").len(), 1);
+    let several = entries(&page, "several");
+    assert!(
+        several[0].ends_with("| by: nested conditionals; comparisons and equality"),
+        "{several:?}"
+    );
+    let no_longer = entries(&page, "only-old");
+    let why = "| version 6: no tree: : lacks what belongs to it, at : | lifted: stays behind: it cannot be written: :,";
+    assert!(no_longer[0].contains(why), "{no_longer:?}");
+    assert!(page.contains(
+        "<li>Each of the versions 4, 5 pairs <code>||</code> before <code>&amp;&amp;</code>.</li>"
+    ));
+    assert_it_needs_nothing_else(&page);
+}
+
+#[test]
+fn a_report_counts_and_has_a_table_of_contents() {
+    let page = reported("report_counts", &EIGHT, &[]);
+    for (name, count) in [
+        ("files", 1),
+        ("lists", 8),
+        ("read alike", 1),
+        ("read otherwise", 5),
+        ("trees no longer", 1),
+        ("trees only now", 0),
+        ("no trees at all", 1),
+        ("refused", 0),
+        ("of those that change: lifted", 5),
+        ("of those that change: stay behind", 1),
+    ] {
+        let row = format!("<tr><th scope=\"row\">{name}</th><td>{count}</td></tr>");
+        assert!(page.contains(&row), "{row}");
+    }
+    let contents = page
+        .split("<nav")
+        .nth(1)
+        .and_then(|nav| nav.split("</nav>").next());
+    let contents = text(
+        contents
+            .expect("a table of contents")
+            .split_once('>')
+            .expect("an element")
+            .1,
+    );
+    let lines: Vec<&str> = contents.lines().filter(|line| !line.is_empty()).collect();
+    let groups = [
+        "Nested conditionals (1)",
+        "AND and OR (2)",
+        "Comparisons and equality (1)",
+    ];
+    assert_eq!(
+        lines,
+        [
+            &["Contents"],
+            &groups[..],
+            &["Several of these rules (1)", "Trees no longer (1)"]
+        ]
+        .concat()
+    );
+    for name in ["conditional", "and-or", "comparison", "several", "only-old"] {
+        assert!(
+            page.contains(&format!("href=\"#{name}\"")) && page.contains(&format!("id=\"{name}\""))
+        );
+    }
+}
+
+#[test]
+fn a_report_shows_as_many_as_it_is_told_and_counts_all() {
+    let many: Vec<(i16, &str)> = vec![(5, "x && y || z"); 3_000];
+    let page = reported("report_most", &many, &["--most", "20"]);
+    assert_eq!(entries(&page, "and-or").len(), 20);
+    assert!(page.contains("AND and OR <span class=\"count\">3,000</span>"));
+    assert!(text(&page).contains("The first 20 are shown"), "{page}");
+    let page = reported("report_all", &many, &[]);
+    assert_eq!(entries(&page, "and-or").len(), 3_000);
+    let long = ["a"; 1_000].join(" && b || ");
+    let page = reported("report_long", &[(5, &long)], &[]);
+    assert!(
+        text(&page).contains("200 tokens of 3997") && page.len() < 100_000,
+        "{}",
+        page.len()
+    );
+}
+
+#[test]
+fn a_report_takes_the_place_of_nothing_that_it_is_about() {
+    let folder = folder("report_place");
+    std::fs::create_dir_all(folder.join("in")).expect("a folder");
+    let alike = archive(Format::Container, &[(5, "a + b")]);
+    std::fs::write(folder.join("in/a"), &alike).expect("a file");
+    for line in [
+        "report in/a --to 6 -o in/a",
+        "report in --to 6 -o in/page.html",
+        "report in --to 6 -o in/../in/b",
+    ] {
+        let wrong = run_line(&folder, line);
+        assert_eq!(wrong.status, Some(2), "{line}: {wrong:?}");
+        assert_eq!(
+            std::fs::read_dir(folder.join("in"))
+                .expect("a folder")
+                .count(),
+            1
+        );
+    }
+    let well = run_line(&folder, "report in --to 6 -o page.html");
+    assert_eq!(well.status, Some(0), "{well:?}");
+    let page = std::fs::read_to_string(folder.join("page.html")).expect("a page");
+    assert!(page.contains("No list is read otherwise."));
+    let streamed = run_line(&folder, "report in --to 6 -o -");
+    assert_eq!(streamed.out, page);
+    assert_eq!(std::fs::read(folder.join("in/a")).expect("a file"), alike);
+}
+
+#[test]
+fn what_a_report_could_not_read_is_on_the_page() {
+    let folder = folder("report_damage");
+    let mut cut = archive(Format::Container, &[(5, "x && y || z"), (5, "a + b")]);
+    cut.truncate(cut.len() - 30);
+    std::fs::write(folder.join("cut<b>"), cut).expect("a file");
+    let report = run_line(&folder, "report cut<b> missing --to 6 -o page.html");
+    assert_eq!(report.status, Some(4), "{report:?}");
+    let page = std::fs::read_to_string(folder.join("page.html")).expect("a page");
+    assert_eq!(
+        entries(&page, "and-or").len(),
+        1,
+        "lists before the damage are there"
+    );
+    assert!(
+        page.contains("<p class=\"failure\">Not read to its end: cut&lt;b&gt;: "),
+        "{page}"
+    );
+    assert_eq!(page.matches("class=\"failure\"").count(), 2);
+    assert!(!page.contains("cut<b>"));
 }

@@ -220,7 +220,7 @@ fn help_is_help() {
     }
     let all = run("--help").out;
     for command in [
-        "check", "diff", "lift", "read", "versions", "explain", "draw", "ops",
+        "check", "diff", "lift", "read", "versions", "explain", "draw", "report", "ops",
     ] {
         let help = run(&format!("{command} --help"));
         assert!(
@@ -246,6 +246,10 @@ fn wrong_words_are_told() {
         "read",
         "draw -e a",
         "draw -e a --at 4 -o x",
+        "report x --to 6",
+        "report x -o y",
+        "report --to 6 -o y",
+        "report x --to 6 -o y --most many",
         "ops x",
     ] {
         let wrong = run_line(Path::new("."), line);

@@ -14,6 +14,7 @@ sorbrudder: archives of Molang token lists, checked, compared, lifted to a versi
   sorbrudder versions FILE#N               the list as versions 4, 5 and 6 read it, and the trees where they differ
   sorbrudder explain FILE#N                why a list is no tree
   sorbrudder draw FILE#N --at 4,6 -o PAGE  two trees side by side as a page for a browser
+  sorbrudder report PATH.. --to V -o PAGE  all lists that version V reads otherwise as one page, grouped by the rule
   sorbrudder ops                           the operators
 
 `sorbrudder COMMAND --help` says more. Lists are numbered from 0. A folder stands for all files in it, by name, but for those whose
@@ -119,6 +120,20 @@ under the pointer, in focus or clicked shows its piece of the source, and a toke
 elsewhere, says all without its script, and can be printed. It never takes the place of what it is drawn from.
 ";
 
+const REPORT: &str = "\
+sorbrudder report PATH.. --to V -o PAGE.html [--most N]
+
+Writes one page on all lists of the archives that version V reads otherwise than their own: how many, and each with its text, both readings
+with brackets round what is paired otherwise, and the list as `lift` writes it, or why it stays behind. The lists stand in groups by the
+rule that changes them: nested conditionals, AND and OR, comparisons and equality. The page is one file that needs nothing from elsewhere.
+It has a table of contents and a search (/ leads to it, arrows from list to list); without its script it has all lists, and each can be
+opened. What is open is printed in full. The status is that of `diff`: 1 where not all lists are read alike.
+
+  --to V     the version to compare with
+  -o PAGE    the page, or - for standard output; not a file or in a folder that it is about
+  --most N   at most so many lists of each group, 10,000 being the usual; all are counted
+";
+
 const OPS: &str = "\
 sorbrudder ops [--json]
 
@@ -137,6 +152,7 @@ pub fn print(command: Option<&str>) -> Result<Status, Failure> {
         Some("versions") => VERSIONS,
         Some("explain") => EXPLAIN,
         Some("draw") => DRAW,
+        Some("report") => REPORT,
         Some("ops") => OPS,
         Some(other) => {
             let why = format!("there is no command `{other}`; `sorbrudder --help` lists them");

@@ -23,6 +23,7 @@ mod paths;
 mod progress;
 mod read;
 mod replace;
+mod report;
 mod rules;
 mod several;
 mod versions;
@@ -50,7 +51,7 @@ type Command = (
     fn(&Args) -> Result<Status, Failure>,
 );
 
-const COMMANDS: [Command; 8] = [
+const COMMANDS: [Command; 9] = [
     ("check", check::OPTIONS, check::run),
     ("diff", diff::OPTIONS, diff::run),
     ("lift", lift::OPTIONS, lift::run),
@@ -58,6 +59,7 @@ const COMMANDS: [Command; 8] = [
     ("versions", versions::OPTIONS, versions::run),
     ("explain", explain::OPTIONS, explain::run),
     ("draw", draw::OPTIONS, draw::run),
+    ("report", report::OPTIONS, report::run),
     ("ops", ops::OPTIONS, ops::run),
 ];
 

@@ -1,6 +1,6 @@
 //! A list and what two versions make of it.
 
-use crate::pages::html::{self, added, escaped, hue, with_code};
+use crate::pages::html::{self, added, badge, escaped, hue, with_code};
 use crate::pages::pairing::{Mark, Pairing, Part};
 use crate::pages::text::{Text, numbered};
 use sorbrudder::{Op, ReadError, Reader, Tokens, Tree};
@@ -71,6 +71,23 @@ impl Compared {
         parts
     }
 
+    /// Some tokens as they stand in the source, those that are paired otherwise with the numbers of their parts.
+    pub fn source(&self, tokens: Range<usize>) -> String {
+        let parts = self.parts_of_tokens();
+        let mut html = String::new();
+        for token in tokens.clone() {
+            let text = escaped(self.text.token(token));
+            html += &match parts[token] {
+                Some(part) => format!("<mark style=\"{}\">{text}{}</mark>", hue(part), badge(part)),
+                None => text,
+            };
+            if token + 1 < tokens.end {
+                html += &escaped(self.text.gap(token));
+            }
+        }
+        html
+    }
+
     /// Some tokens with brackets round what a reading pairs otherwise than the other: in one part, or in all.
     pub fn bracketed(
         &self,
@@ -81,7 +98,10 @@ impl Compared {
         let mut before = vec![String::new(); self.text.len()];
         let mut after = before.clone();
         let marks = self.with_brackets(reading);
-        for mark in marks.filter(|mark| only.is_none() || mark.part == only) {
+        // A bracket whose other end is not shown would stand for nothing.
+        let is_shown =
+            |mark: &&Mark| tokens.start <= mark.tokens.start && mark.tokens.end <= tokens.end;
+        for mark in marks.filter(|mark| is_shown(mark) && (only.is_none() || mark.part == only)) {
             let style = mark.part.map(hue).unwrap_or_default();
             // Nodes come from above, so the brackets of a later one stand within those of an earlier one.
             before[mark.tokens.start] += &added("(", &style);

@@ -38,10 +38,10 @@ pub fn html(compared: &Compared) -> String {
         for token in line.clone() {
             let is_said = said.iter().any(|tokens| tokens.contains(&token));
             html += &cell(compared, token, parts[token], is_said);
-            let gap = if token + 1 < line.end {
-                compared.text.gap(token)
-            } else {
-                ""
+            // At the end of a line a space stands for whatever breaks it.
+            let gap = match compared.text.gap(token) {
+                gap if token + 1 < line.end || gap.is_empty() => gap,
+                _ => " ",
             };
             let _ = write!(html, "<span class=\"gap\">{}</span>", escaped(gap));
         }

@@ -5,16 +5,25 @@ use crate::pages::text::Piece;
 /// The colours and type of every page.
 const STYLE: &str = include_str!("common.css");
 
-/// A page of this title, style, body and script. Its policy lets nothing be fetched.
+/// A page of this title, style, body and script.
 pub fn document(title: &str, style: &str, body: &str, script: &str) -> String {
+    let (head, tail) = around(title, style, script);
+    head + body + &tail
+}
+
+/// What stands before and after the body of such a page. Its policy lets nothing be fetched.
+pub fn around(title: &str, style: &str, script: &str) -> (String, String) {
     let title = escaped(title);
-    format!(
+    let head = format!(
         "<!DOCTYPE html>\n<html lang=\"en\">\n<head>\n<meta charset=\"utf-8\">\n\
          <meta name=\"viewport\" content=\"width=device-width, initial-scale=1\">\n\
          <meta http-equiv=\"Content-Security-Policy\" \
          content=\"default-src 'none'; style-src 'unsafe-inline'; script-src 'unsafe-inline'\">\n\
-         <title>{title}</title>\n<style>\n{STYLE}{style}</style>\n</head>\n<body>\n{body}\
-         <script>\n{script}</script>\n</body>\n</html>\n"
+         <title>{title}</title>\n<style>\n{STYLE}{style}</style>\n</head>\n<body>\n"
+    );
+    (
+        head,
+        format!("<script>\n{script}</script>\n</body>\n</html>\n"),
     )
 }
 

@@ -6,6 +6,7 @@ mod draw_page;
 mod figure;
 mod html;
 pub mod pairing;
+pub mod report;
 pub mod text;
 
 pub use draw_page::html as draw;
