@@ -493,6 +493,21 @@ def many(page, command, folder):
             expect(f"seconds to {what} ten thousand lists", took, f"{most} at the most")
 
 
+def long(page, command, folder):
+    """The page of a list of several lines and many parts."""
+    path = f"{folder}/long.html"
+    part = "(number_%d && second || third) * (fourth ? 5 : sixth ? seventh : 8)"
+    source = " + ".join(part % number for number in range(12))
+    subprocess.run([command, "draw", "-e", source, "--at", "4,6", "-o", path], check=True)
+    page.open(path)
+    expect("the sentences of many parts", page.run("document.querySelectorAll('.part').length"), 24)
+    colours = "new Set([...document.querySelectorAll('.part .badge:first-child')].map(b => getComputedStyle(b).backgroundColor)).size"
+    expect("the colours of many parts", page.run(colours), 24)
+    wide = "[...document.querySelectorAll('.cells')].every(line => line.scrollWidth <= document.querySelector('.figure').clientWidth)"
+    expect("the figure fits its frame on a desk", page.run(wide), True)
+    looks(page, "long", folder)
+
+
 def main():
     program, command, folder = sys.argv[1:]
     with tempfile.TemporaryDirectory(ignore_cleanup_errors=True) as profile:
@@ -500,6 +515,7 @@ def main():
         try:
             page = Page(browser)
             draw(page, command, folder)
+            long(page, command, folder)
             report(page, command, folder)
             many(page, command, folder)
         finally:

@@ -286,6 +286,10 @@ fn a_report_groups_the_lists_by_the_rule_that_changes_them() {
     let no_longer = entries(&page, "only-old");
     let why = "| version 6: no tree: : lacks what belongs to it, at : | lifted: stays behind: it cannot be written: :,";
     assert!(no_longer[0].contains(why), "{no_longer:?}");
+    assert!(
+        page.contains("<code>a <u class=\"said\">:</u> b</code>"),
+        "{page}"
+    );
     assert!(page.contains(
         "<li>Each of the versions 4, 5 pairs <code>||</code> before <code>&amp;&amp;</code>.</li>"
     ));
@@ -410,4 +414,33 @@ fn what_a_report_could_not_read_is_on_the_page() {
     );
     assert_eq!(page.matches("class=\"failure\"").count(), 2);
     assert!(!page.contains("cut<b>"));
+}
+
+#[test]
+fn the_contents_of_a_report_lead_to_the_files_of_a_group() {
+    let folder = folder("report_files");
+    std::fs::create_dir_all(folder.join("in")).expect("a folder");
+    for name in ["one", "two & more"] {
+        let lists = [(5, "x && y || z"), (5, "a + b"), (5, "y && x || z")];
+        std::fs::write(folder.join("in").join(name), archive(Format::Words, &lists))
+            .expect("a file");
+    }
+    let report = run_line(&folder, "report in --to 6 -o page.html");
+    assert_eq!(report.status, Some(1), "{report:?}");
+    let page = std::fs::read_to_string(folder.join("page.html")).expect("a page");
+    for (id, place, file) in [
+        ("d0", "in/one#0", "in/one"),
+        ("d2", "in/two &amp; more#0", "in/two &amp; more"),
+    ] {
+        assert!(
+            page.contains(&format!("<li><a href=\"#{id}\">{file}</a> (2)</li>")),
+            "{page}"
+        );
+        assert!(
+            page.contains(&format!(
+                "id=\"{id}\"><summary><span class=\"where\">{place}</span>"
+            )),
+            "{page}"
+        );
+    }
 }

@@ -71,14 +71,20 @@ impl Compared {
         parts
     }
 
-    /// Some tokens as they stand in the source, those that are paired otherwise with the numbers of their parts.
+    /// Some tokens as they stand in the source, those that are paired otherwise with the numbers of their parts, and those that a message
+    /// points at marked too.
     pub fn source(&self, tokens: Range<usize>) -> String {
         let parts = self.parts_of_tokens();
+        let said = self.readings.iter().flat_map(|reading| self.said(reading));
+        let said: Vec<Range<usize>> = said.map(|said| said.tokens).collect();
         let mut html = String::new();
         for token in tokens.clone() {
             let text = escaped(self.text.token(token));
             html += &match parts[token] {
                 Some(part) => format!("<mark style=\"{}\">{text}{}</mark>", hue(part), badge(part)),
+                None if said.iter().any(|said| said.contains(&token)) => {
+                    format!("<u class=\"said\">{text}</u>")
+                }
                 None => text,
             };
             if token + 1 < tokens.end {

@@ -8,6 +8,9 @@ use std::ops::Range;
 /// How many signs a line of the figure has at the most, unless a token is longer.
 const WIDEST: usize = 90;
 
+/// How many signs the number of a part takes the place of.
+const BADGE: usize = 3;
+
 /// How many brackets are drawn below each other.
 const DEEPEST: usize = 12;
 
@@ -33,7 +36,7 @@ pub fn html(compared: &Compared) -> String {
     let mut html = String::from(
         "<div class=\"figure\" tabindex=\"0\" role=\"group\" aria-label=\"The source, and under it what each version pairs\">\n",
     );
-    for line in lines(compared) {
+    for line in lines(compared, &parts) {
         html += "<div class=\"cells\"><span class=\"version\"></span>";
         for token in line.clone() {
             let is_said = said.iter().any(|tokens| tokens.contains(&token));
@@ -83,11 +86,12 @@ fn meets(one: &Range<usize>, other: &Range<usize>) -> bool {
 }
 
 /// The lines of the figure: a line of the source, or a part of one that is not too wide.
-fn lines(compared: &Compared) -> Vec<Range<usize>> {
+fn lines(compared: &Compared, parts: &[Option<usize>]) -> Vec<Range<usize>> {
     let text = &compared.text;
     let (mut lines, mut start, mut width) = (Vec::new(), 0, 0);
-    for token in 0..text.len() {
-        let own = text.token(token).chars().count();
+    for (token, part) in parts.iter().enumerate() {
+        let badge = part.map_or(0, |_| BADGE);
+        let own = text.token(token).chars().count() + badge;
         let breaks = token > start && (width + own > WIDEST || text.gap(token - 1).contains('\n'));
         if breaks {
             lines.push(start..token);
