@@ -4,7 +4,7 @@
 use crate::args::{self, Args, Value};
 use crate::failure::{Failure, Status};
 use crate::{
-    cat, check, completions, diff, draw, explain, lift, man, ops, pack, read, salvage, sum,
+    cat, check, completions, diff, draw, explain, lift, man, ops, pack, read, report, salvage, sum,
     versions,
 };
 
@@ -414,9 +414,12 @@ pub const COMMANDS: &[Command] = &[
         usage: &["FILE#N -o PAGE", "-e LIST -o PAGE"],
         line: "two trees side by side as a page for a browser",
         about: &[
-            "Writes a page with the trees of two versions side by side, the parts that differ marked, each node with the rule that paired \
-             its operands, and the source above them. The page is one file without scripts, and can be printed. It never takes the place \
-             of what it is drawn from.",
+            "Writes a page with the trees of two versions side by side, each node with the rule that paired its operands. The source stands \
+             above them with what each version pairs drawn under it as brackets. The operators that are paired otherwise have the number \
+             and the colour of their part, in the source, in the trees and before the sentences on it; the place of a message is marked \
+             where a version reads no tree. A node under the pointer, in focus or clicked shows its piece of the source, and a token its \
+             nodes. The page is one file that needs nothing from elsewhere, says all without its script, and can be printed. It never takes \
+             the place of what it is drawn from.",
         ],
         options: &[
             E,
@@ -431,6 +434,36 @@ pub const COMMANDS: &[Command] = &[
         notes: &[],
         takes: Takes::List,
         run: draw::run,
+    },
+    Command {
+        name: "report",
+        usage: &["PATH.. --to V -o PAGE"],
+        line: "all lists that version V reads otherwise as one page, grouped by the rule",
+        about: &[
+            "Writes one page on all lists of the archives that version V reads otherwise than their own: how many, and each with its text, \
+             both readings with brackets round what is paired otherwise, and the list as `lift` writes it, or why it stays behind. The \
+             lists stand in groups by the rule that changes them: nested conditionals, AND and OR, comparisons and equality.",
+            "The page is one file that needs nothing from elsewhere. It has a table of contents and a search (/ leads to it, arrows from \
+             list to list); without its script it has all lists, and each can be opened. What is open is printed in full. The status is \
+             that of `diff`: 1 where not all lists are read alike.",
+        ],
+        options: &[
+            TO_COMPARE,
+            args::with(
+                "-o",
+                Value::File("PAGE"),
+                "the page, or - for standard output; not a file or in a folder that it is about",
+            ),
+            args::value(
+                "--most",
+                "N",
+                "at most so many lists of each group, 10,000 being the usual; all are counted",
+            ),
+            GLOB,
+        ],
+        notes: &[],
+        takes: Takes::Files,
+        run: report::run,
     },
     Command {
         name: "ops",
