@@ -32,7 +32,7 @@ mod write;
 pub use error::{ArchiveError, Damage};
 pub use read::{List, Lists};
 pub use salvage::{Piece, Salvage};
-pub use write::{ListsWriter, Totals};
+pub use write::{Encoded, ListsWriter, Totals};
 
 /// How a file holds its lists.
 ///

@@ -114,15 +114,35 @@ impl<W: Write> ListsWriter<W> {
                 self.put(words)
             }
             Format::Container => {
-                let head = [opener, words.len() as u32];
-                let mut sum = Checksum::of(&head);
-                sum.add_all(words);
-                self.sums.add(sum.value());
-                self.put(&head)?;
-                self.put(words)?;
-                self.put(&[sum.value()])
+                self.bytes.clear();
+                let sum = encode(&mut self.bytes, opener, words);
+                self.sums.add(sum);
+                self.to.write_all(&self.bytes)
             }
         }
+    }
+
+    /// Writes lists that were put together apart. Only a container takes them.
+    ///
+    /// ```
+    /// use sorbrudder::archive::{Encoded, Format, ListsWriter};
+    ///
+    /// let mut lists = Encoded::default();
+    /// lists.add(6, &[1 << 29]).unwrap();
+    /// let mut writer = ListsWriter::new(Vec::new(), Format::Container).unwrap();
+    /// writer.append(&lists).unwrap();
+    /// let mut other = ListsWriter::new(Vec::new(), Format::Container).unwrap();
+    /// other.write(6, &[1 << 29]).unwrap();
+    /// assert_eq!(writer.finish().unwrap(), other.finish().unwrap());
+    /// ```
+    pub fn append(&mut self, lists: &Encoded) -> io::Result<()> {
+        if self.format == Format::Words {
+            return Err(wrong("only a container takes lists with their checksums"));
+        }
+        self.totals.lists += lists.totals.lists;
+        self.totals.words += lists.totals.words;
+        self.sums.add_all(&lists.sums);
+        self.to.write_all(&lists.bytes)
     }
 
     /// Writes the end, and gives the stream back, flushed, with how much was written.
@@ -164,6 +184,63 @@ impl<W: Write> ListsWriter<W> {
             .extend(words.iter().flat_map(|word| word.to_le_bytes()));
         self.to.write_all(&self.bytes)
     }
+}
+
+/// Lists as they stand in a container, put together apart from it, so that several threads can.
+///
+/// ```
+/// use sorbrudder::archive::Encoded;
+///
+/// let mut lists = Encoded::default();
+/// lists.add(6, &[]).unwrap();
+/// assert_eq!(lists.totals().lists, 1);
+/// ```
+#[derive(Clone, Debug, Default)]
+pub struct Encoded {
+    bytes: Vec<u8>,
+    /// The lists' checksums.
+    sums: Vec<u32>,
+    totals: Totals,
+}
+
+impl Encoded {
+    /// Adds a list. One of more than [`MOST_WORDS`] words is an error.
+    ///
+    /// ```
+    /// use sorbrudder::archive::{Encoded, MOST_WORDS};
+    ///
+    /// assert!(Encoded::default().add(6, &vec![0; MOST_WORDS + 1]).is_err());
+    /// ```
+    pub fn add(&mut self, version: i16, words: &[u32]) -> io::Result<()> {
+        if words.len() > MOST_WORDS {
+            return Err(wrong("the words cannot be one list of this format"));
+        }
+        let sum = encode(&mut self.bytes, version_word(version), words);
+        self.sums.push(sum);
+        self.totals.add(words);
+        Ok(())
+    }
+
+    /// How many lists and words were added.
+    ///
+    /// ```
+    /// assert_eq!(sorbrudder::archive::Encoded::default().totals().lists, 0);
+    /// ```
+    pub fn totals(&self) -> Totals {
+        self.totals
+    }
+}
+
+/// Puts a list behind bytes as a container has it, and gives its checksum.
+fn encode(bytes: &mut Vec<u8>, opener: u32, words: &[u32]) -> u32 {
+    let head = [opener, words.len() as u32];
+    let mut sum = Checksum::of(&head);
+    sum.add_all(words);
+    let mut put = |words: &[u32]| bytes.extend(words.iter().flat_map(|word| word.to_le_bytes()));
+    put(&head);
+    put(words);
+    put(&[sum.value()]);
+    sum.value()
 }
 
 fn wrong(why: &'static str) -> io::Error {

@@ -34,6 +34,8 @@ pub struct Listed<'w> {
 /// Lists that are kept together.
 #[derive(Debug, Default)]
 pub struct Batch {
+    /// The format of the archive that they are from.
+    pub format: Option<Format>,
     heads: Vec<Head>,
     words: Vec<u32>,
 }
@@ -122,6 +124,7 @@ impl Input {
 
     /// Fills a batch; whether there may be more.
     pub fn fill(&mut self, batch: &mut Batch) -> Result<bool, Failure> {
+        batch.format = Some(self.format());
         while !batch.is_full() {
             let Some(list) = self.next_list()? else {
                 return Ok(false);

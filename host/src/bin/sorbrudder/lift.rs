@@ -33,7 +33,7 @@ impl Sink for Lines {
             return Ok(());
         };
         let written = report.write_all(text.as_bytes());
-        written.map_err(|why| Failure::Io(format!("the report: {why}")))
+        written.map_err(|why| report.failed(&why))
     }
 }
 

@@ -62,7 +62,8 @@ impl Replacement {
         Ok(begun)
     }
 
-    fn failed(&self, why: &io::Error) -> Failure {
+    /// A failure to write, told of the target.
+    pub fn failed(&self, why: &io::Error) -> Failure {
         Failure::io(&self.named, why)
     }
 

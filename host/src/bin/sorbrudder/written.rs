@@ -21,18 +21,27 @@ impl Digest {
     }
 
     pub fn add(&mut self, version: i16, words: &[u32]) {
-        self.lists += 1;
-        let mut mix = |number: u64| {
-            self.mixed = (self.mixed.rotate_left(23) ^ number).wrapping_mul(0x9E37_79B9_7F4A_7C15)
-        };
-        mix(version as u64);
-        mix(words.len() as u64);
-        let (pairs, rest) = words.as_chunks();
-        for [first, second] in pairs {
-            mix(u64::from(*first) << 32 | u64::from(*second));
-        }
-        rest.iter().for_each(|word| mix(u64::from(*word)));
+        self.add_list(Self::of_list(version, words));
     }
+
+    /// Adds a list by its own number.
+    pub fn add_list(&mut self, list: u64) {
+        self.lists += 1;
+        self.mixed = mixed(self.mixed, list);
+    }
+
+    /// The number of a list by itself.
+    pub fn of_list(version: i16, words: &[u32]) -> u64 {
+        let (pairs, rest) = words.as_chunks();
+        let pair = |[first, second]: &[u32; 2]| u64::from(*first) << 32 | u64::from(*second);
+        let all = mixed(version as u64, words.len() as u64);
+        let all = pairs.iter().map(pair).fold(all, mixed);
+        rest.iter().map(|word| u64::from(*word)).fold(all, mixed)
+    }
+}
+
+fn mixed(before: u64, number: u64) -> u64 {
+    (before.rotate_left(23) ^ number).wrapping_mul(0x9E37_79B9_7F4A_7C15)
 }
 
 /// Reads what was written, and compares it with what was meant, before anything is replaced by it.

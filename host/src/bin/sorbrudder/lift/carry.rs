@@ -12,7 +12,7 @@ use crate::lock::Held;
 use crate::replace::{self, Replacement};
 use crate::several::Teller;
 use crate::written::{Digest, read_back};
-use sorbrudder::archive::{Format, ListsWriter};
+use sorbrudder::archive::{Encoded, Format, ListsWriter};
 use sorbrudder::{LiftError, LiftedWords, Lifter, Op, Reader, Tokens};
 use std::io::{self, BufWriter, Write};
 use std::path::Path;
@@ -167,7 +167,12 @@ fn format(input: &Input, options: &Options, teller: &mut Teller<Carried>) -> For
 #[derive(Default)]
 pub struct Lifted {
     carried: Carried,
+    /// The lists as they are written to a container, or to a plain file.
+    encoded: Encoded,
     lists: Batch,
+    failed: Option<io::Error>,
+    /// The digests of the lists.
+    digests: Vec<u64>,
     is_changed: bool,
     text: String,
     report: String,
@@ -201,6 +206,7 @@ impl Task for Options {
     fn work(&self, tools: &mut Tools, file: &Path, batch: &Batch) -> Lifted {
         let Tools { lifter, readers } = tools;
         let mut done = Lifted::default();
+        let is_plain = self.format.or(batch.format) == Some(Format::Words);
         for list in batch.lists() {
             let unsettled = unsettled(lifter, list, self);
             let (line, version, words) = match lift_list(lifter, list, self, unsettled) {
@@ -222,11 +228,16 @@ impl Task for Options {
                 ),
             };
             done.is_changed |= version != list.version || words != list.words;
-            done.lists.push(Listed {
-                version,
-                words,
-                ..list
-            });
+            done.digests.push(Digest::of_list(version, words));
+            if is_plain {
+                done.lists.push(Listed {
+                    version,
+                    words,
+                    ..list
+                });
+            } else if let Err(why) = done.encoded.add(version, words) {
+                done.failed = Some(why);
+            }
             done.carried.add(line.result);
             tell(&line, About::list(file, list), self, &mut done);
         }
@@ -255,10 +266,18 @@ fn carry_lists<W: Write>(
     let mut writer = ListsWriter::new(out, format).map_err(failed)?;
     let (mut carried, mut digest) = (Carried::default(), Digest::new());
     helpers.each(input, |done| {
-        for list in done.lists.lists() {
-            writer.write(list.version, list.words).map_err(failed)?;
-            digest.add(list.version, list.words);
+        if let Some(why) = done.failed {
+            return Err(failed(why));
         }
+        match format {
+            Format::Container => writer.append(&done.encoded).map_err(failed)?,
+            Format::Words => {
+                for list in done.lists.lists() {
+                    writer.write(list.version, list.words).map_err(failed)?;
+                }
+            }
+        }
+        done.digests.iter().for_each(|list| digest.add_list(*list));
         is_changed |= done.is_changed;
         carried.join(done.carried);
         teller.report(&done.report);
