@@ -94,7 +94,7 @@ for crate in oracle compare host; do
     rust_tests "$crate"
 done
 
-step "the drawing in a browser" tools/browser.sh --if-there
+step "the pages in a browser" tools/browser.sh --if-there
 
 source=${MOLANGX_SRC:-../shared/docs/src}
 if [ ! -f "$source/src/compile/parse/mod.rs" ]; then
