@@ -12,7 +12,7 @@ use crate::paths;
 use crate::rules;
 use crate::several::{self, How, Sink as _, Stdout, Teller};
 use crate::summary;
-use sorbrudder::{Op, ReadError, Reader, TreeRef};
+use sorbrudder::{ReadError, Reader, Rule, Tokens, Tree};
 use std::path::Path;
 
 /// What was found, by the words of the results.
@@ -162,25 +162,37 @@ pub fn compare(old: &mut Reader, new: &mut Reader, list: Listed<'_>, to: i16) ->
     );
     match read {
         (Ok(old), Ok(new)) if old == new => Line::new("same", Some(to)),
-        (Ok(old), Ok(new)) => differing((old, from), (new, to)),
-        (Ok(tree), Err(why)) => one_sided("only-old", (tree, from), (&why, to), to),
-        (Err(why), Ok(tree)) => one_sided("only-new", (tree, to), (&why, from), to),
         (Err(why), Err(_)) if is_refused(&why) || from == to => Line::of_read_error(&why, Some(to)),
         (Err(why), Err(_)) => Line {
             text: format!("no tree at {from} and at {to}: {why}"),
             ..Line::of_read_error(&why, Some(to))
         },
+        _ => otherwise(old, list, to),
+    }
+}
+
+/// A list that is read otherwise is read again, so that the library says by which rules.
+fn otherwise(reader: &mut Reader, list: Listed<'_>, to: i16) -> Line {
+    let from = list.version;
+    let tokens = Tokens::from_words(list.words).unwrap_or_default();
+    let read = [from, to].map(|version| reader.read_with_rules(&tokens, version));
+    match read {
+        [Ok(old), Ok(new)] => differing((&old, from), (&new, to)),
+        [Ok(tree), Err(why)] => one_sided("only-old", (&tree, from), (&why, to), to),
+        [Err(why), Ok(tree)] => one_sided("only-new", (&tree, to), (&why, from), to),
+        [Err(why), Err(_)] => Line::of_read_error(&why, Some(to)),
     }
 }
 
 /// Two trees: the highest node that differs, and the rule.
-fn differing((old, from): (TreeRef<'_>, i16), (new, to): (TreeRef<'_>, i16)) -> Line {
+fn differing((old, from): (&Tree, i16), (new, to): (&Tree, i16)) -> Line {
     let mut line = Line::new("differs", Some(to));
-    let lines = [old, new].map(|tree| bracketed::line(tree, None));
+    let lines = [old, new].map(|tree| bracketed::line(tree.view(), None));
     line.text = format!("{from} reads {}, {to} reads {}", lines[0], lines[1]);
     if let Some(first) = old.differences(new).next() {
         let (one, other) = (first.old, first.new);
-        let rule = rules::between(from, to, &[one.op(), other.op()]);
+        let made: Vec<Rule> = [one, other].iter().filter_map(|node| node.rule()).collect();
+        let rule = rules::between(from, to, &made);
         line.text += &format!(
             "; from node {}, `{}` at {}, on",
             one.number(),
@@ -202,13 +214,13 @@ fn differing((old, from): (TreeRef<'_>, i16), (new, to): (TreeRef<'_>, i16)) -> 
 /// A tree at one version only.
 fn one_sided(
     result: &'static str,
-    (tree, at): (TreeRef<'_>, i16),
+    (tree, at): (&Tree, i16),
     (why, none_at): (&ReadError, i16),
     to: i16,
 ) -> Line {
-    let ops: Vec<Op> = tree.nodes().map(|node| node.op()).collect();
-    let rule = rules::between(at, none_at, &ops);
-    let read = bracketed::line(tree, None);
+    let made: Vec<Rule> = tree.nodes().filter_map(|node| node.rule()).collect();
+    let rule = rules::between(at, none_at, &made);
+    let read = bracketed::line(tree.view(), None);
     let because = rule.map_or(String::new(), |rule| format!(": {rule}"));
     let text = format!("{at} reads {read}, {none_at} no tree ({why}){because}");
     Line {
